@@ -1,0 +1,43 @@
+-- The words of a line and the lines of a text, without where they lie in memory.
+use Rattle.std.specs.Prelude.{ℕ, ℤ, List, map}
+use Rattle.occ_text.specs.declared.token.Key.{Key}
+use Rattle.occ_text.specs.declared.token.Sym.{Sym}
+use Rattle.occ_text.specs.declared.token.Token.{Token}
+use Rattle.occ_text.specs.declared.token.Token.TheVariants as tokens
+use Rattle.occ_text.specs.declared.token.Line.{Line}
+
+-- what a literal stands for
+pub data Lit : Type 0 where
+  number : ℤ → Lit
+  byte : ℕ → Lit
+  text : List ℕ → Lit
+
+-- a word: a reserved word, a name, a literal or a symbol
+pub data Word : Type 0 where
+  key : Key → Word
+  name : List ℕ → Word
+  lit : Lit → Word
+  mark : Sym → Word
+
+-- a logical line: its number, its level and its words
+pub data Row : Type 0 where
+  row : (number level : ℕ) → List Word → Row
+
+-- the word that a token stands for
+abbrev pub word : Token → Word
+word (tokens.Key k) = key k
+word (tokens.Name v) = name v.items
+word (tokens.Number n) = lit (number n)
+word (tokens.Byte b) = lit (byte b)
+word (tokens.Str v) = lit (text v.items)
+word (tokens.Sym s) = mark s
+
+abbrev pub words : List Token → List Word
+words = map word
+
+-- the logical line that a line of the code stands for
+abbrev pub row_of : Line → Row
+row_of l = row l.number l.level (words l.words.items)
+
+abbrev pub rows : List Line → List Row
+rows = map row_of
