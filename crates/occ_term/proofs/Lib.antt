@@ -1,0 +1,4 @@
+pub mod Programs
+pub mod Going
+pub mod Priority
+pub mod TurnSteps

@@ -1,0 +1,219 @@
+-- Evaluation that sets cells: storing, declarations, replicators; what IF, CASE and ALT select; which arm of an ALT is taken.
+use Rattle.std.specs.Prelude.{Bool, List, None, Option, Some, [], false, if◌then◌else◌, int_le, length, nat_abs, nat_eq, nat_le, pos, replicate, slice_get, suc, true, zero, ℕ, ℤ, ◌%◌, ◌&&◌, ◌++◌, ◌+ℤ◌, ◌+◌, ◌||◌, ◌∷◌}
+use Rattle.occ_term.specs.Messages.{Int, Range, Count, Fault, fault, Part, One, Many, Counted, Message}
+use Rattle.occ_term.specs.Terms.{Expression, Constant, Item, OfOne, Target, Into, IntoCounted, Declaration, Clearing, Naming, Replicator, replicator, Term, Arms, no_arms, skip_arm, input_arm, declared_arms, each_arm, Reception, Plain, Tagged, Variants, no_variants, or_variant, Choices, no_choices, or_choice, declared_choices, each_choice, Options, no_options, or_option, or_else}
+use Rattle.occ_term.specs.Values.{Store, store_with, Evaluated, Value, Fails, after, checked, holds, int_eq, Span, first_of, count_of, value_of, span_of, part_of, parts_of}
+
+-- What was set before a fault stays set.
+pub data Outcome (X : Type 0) : Type 0 where
+  Gives : (result : X) (store : Store) → Outcome X
+  Faults : (fault : Fault) (store : Store) → Outcome X
+
+abbrev pub then_in : {X Y : Type 0} → Outcome X → (X → Store → Outcome Y) → Outcome Y
+then_in (Gives x s) f = f x s
+then_in (Faults e s) f = Faults e s
+
+-- an evaluation that sets nothing
+abbrev pub in_store : {X : Type 0} → Evaluated X → Store → Outcome X
+in_store (Value x) s = Gives x s
+in_store (Fails e) s = Faults e s
+
+-- no result but the store
+pub data Nothing : Type 0 where
+  nothing : Nothing
+
+-- ---- storing
+
+-- values into cells in a row
+abbrev pub store_from : ℕ → List ℤ → Store → Store
+store_from first [] s = s
+store_from first (v ∷ vs) s = store_from (first + 1) vs (store_with s first v)
+
+abbrev pub values_in : Part → List ℤ
+values_in (One type v) = v ∷ []
+values_in (Many type vs) = vs
+values_in (Counted type vs) = vs
+
+-- a target whose subscripts are evaluated
+pub data Spot : Type 0 where
+  At : (cells : Span) → Spot
+  AtCounted : (line : ℕ) (count array : Span) → Spot
+
+abbrev pub spot_of : Target → Store → Evaluated Spot
+spot_of (Into p) s = after (span_of p s) (λ at. Value (At at))
+spot_of (IntoCounted line n a) s = after (span_of n s) (λ count. after (span_of a s) (λ array. Value (AtCounted line count array)))
+
+abbrev pub spots_of : List Target → Store → Evaluated (List Spot)
+spots_of [] s = Value []
+spots_of (t ∷ ts) s = after (spot_of t s) (λ at. after (spots_of ts s) (λ ats. Value (at ∷ ats)))
+
+-- A counted message that is longer than the array is a fault; components past the count keep their values.
+abbrev pub store_part : Spot → Part → Store → Outcome Nothing
+store_part (At cells) p s = Gives nothing (store_from (first_of cells) (values_in p) s)
+store_part (AtCounted line count array) p s =
+    if nat_le (length (values_in p)) (count_of array)
+    then Gives nothing (store_from (first_of array) (values_in p) (store_with s (first_of count) (pos (length (values_in p)))))
+    else Faults (fault Range line) s
+
+-- from left to right
+abbrev pub store_parts : List Spot → List Part → Store → Outcome Nothing
+store_parts [] ps s = Gives nothing s
+store_parts (at ∷ ats) [] s = Gives nothing s
+store_parts (at ∷ ats) (p ∷ ps) s = then_in (store_part at p s) (λ x s'. store_parts ats ps s')
+
+-- the subscripts of all targets, then the stores
+abbrev pub store_into : List Target → List Part → Store → Outcome Nothing
+store_into targets ps s = then_in (in_store (spots_of targets s) s) (λ ats s'. store_parts ats ps s')
+
+-- all right sides first
+abbrev pub assigned : List Target → List Item → Store → Outcome Nothing
+assigned targets values s = then_in (in_store (parts_of values s) s) (λ ps s'. store_into targets ps s')
+
+-- ---- declarations and replicators
+
+abbrev pub declared : Declaration → Store → Outcome Nothing
+declared (Clearing first count) s = Gives nothing (store_from first (replicate count (pos 0)) s)
+declared (Naming first value) s = then_in (in_store (part_of value s) s) (λ p s'. Gives nothing (store_from first (values_in p) s'))
+
+abbrev pub all_declared : List Declaration → Store → Outcome Nothing
+all_declared [] s = Gives nothing s
+all_declared (d ∷ ds) s = then_in (declared d s) (λ x s'. all_declared ds s')
+
+-- base and how many values: none is negative, and the last is an INT
+pub data Indices : Type 0 where
+  indices : (base : ℤ) (count : ℕ) → Indices
+
+abbrev pub indices_of : Replicator → Store → Evaluated Indices
+indices_of (replicator line index base count) s =
+    after (value_of base s) (λ b. after (value_of count s) (λ n. checked (int_le (pos 0) n && int_le (b +ℤ n) (pos 2147483648)) (indices b (nat_abs n)) Count line))
+
+abbrev pub index_of : Replicator → ℕ
+index_of (replicator line index base count) = index
+
+-- ---- IF: the first true condition
+
+-- `None` where none is true
+abbrev pub or_next : Outcome (Option Term) → (Store → Outcome (Option Term)) → Outcome (Option Term)
+or_next (Gives None s) others = others s
+or_next (Gives (Some t) s) others = Gives (Some t) s
+or_next (Faults e s) others = Faults e s
+
+-- the index set to base, base + 1 and so on, until one selects
+abbrev pub first_over : (Store → Outcome (Option Term)) → ℕ → ℤ → ℕ → Store → Outcome (Option Term)
+first_over select index v zero s = Gives None s
+first_over select index v (suc n) s = or_next (select (store_with s index v)) (λ s'. first_over select index (v +ℤ pos 1) n s')
+
+abbrev pub choice_over : (Store → Outcome (Option Term)) → ℕ → Indices → Store → Outcome (Option Term)
+choice_over select index (indices base count) s = first_over select index base count s
+
+abbrev pub choice_of : Choices → Store → Outcome (Option Term)
+choice_of no_choices s = Gives None s
+choice_of (or_choice test body others) s = then_in (in_store (value_of test s) s) (λ v s'. if holds v then Gives (Some body) s' else choice_of others s')
+choice_of (declared_choices d within others) s = or_next (then_in (declared d s) (λ x s'. choice_of within s')) (λ s'. choice_of others s')
+choice_of (each_choice over within others) s =
+    or_next (then_in (in_store (indices_of over s) s) (λ is s'. choice_over (choice_of within) (index_of over) is s')) (λ s'. choice_of others s')
+
+-- ---- CASE: the option with the selector's value, else ELSE
+
+pub data Selected : Type 0 where
+  selected : (declarations : List Declaration) (body : Term) → Selected
+
+abbrev pub is_among : ℤ → List ℤ → Bool
+is_among v [] = false
+is_among v (c ∷ cs) = int_eq v c || is_among v cs
+
+abbrev pub matching : ℤ → Options → Option Selected
+matching v no_options = None
+matching v (or_option constants ds body others) = if is_among v constants then Some (selected ds body) else matching v others
+matching v (or_else ds body others) = matching v others
+
+abbrev pub else_of : Options → Option Selected
+else_of no_options = None
+else_of (or_option constants ds body others) = else_of others
+else_of (or_else ds body others) = Some (selected ds body)
+
+abbrev pub either : Option Selected → Option Selected → Option Selected
+either None other = other
+either (Some x) other = Some x
+
+abbrev pub enters : Option Selected → Store → Outcome (Option Term)
+enters None s = Gives None s
+enters (Some (selected ds body)) s = then_in (all_declared ds s) (λ x s'. Gives (Some body) s')
+
+-- the body, its declarations set
+abbrev pub option_of : Expression → Options → Store → Outcome (Option Term)
+option_of e options s = then_in (in_store (value_of e s) s) (λ v s'. enters (either (matching v options) (else_of options)) s')
+
+-- ---- a message taken
+
+abbrev pub variant_taken : ℕ → List Part → Variants → Store → Outcome (Option Term)
+variant_taken tag ps no_variants s = Gives None s
+variant_taken tag ps (or_variant t ds targets body others) s =
+    if nat_eq tag t
+    then then_in (all_declared ds s) (λ x s'. then_in (store_into targets ps s') (λ y s''. Gives (Some body) s''))
+    else variant_taken tag ps others s
+
+abbrev pub tag_taken : Option ℕ → List Part → Variants → Store → Outcome (Option Term)
+tag_taken None ps vs s = Gives None s
+tag_taken (Some tag) ps vs s = variant_taken tag ps vs s
+
+-- `None` for a tag that is not listed
+abbrev pub taken : Reception → Message → Store → Outcome (Option Term)
+taken (Plain targets body) m s = then_in (store_into targets m.items s) (λ x s'. Gives (Some body) s')
+taken (Tagged vs) m s = tag_taken m.tag m.items vs s
+
+-- ---- ALT: the enabled arms at the stop
+
+-- an arm with a true Boolean, its channel, and the indices and declarations that its rest sets again
+pub data Enabled : Type 0 where
+  SkipArm : (again : List Declaration) (body : Term) → Enabled
+  InputArm : (again : List Declaration) (channel : ℕ) (list : Reception) → Enabled
+
+abbrev pub and_arm : Enabled → Outcome (List Enabled) → Outcome (List Enabled)
+and_arm a (Gives arms s) = Gives (a ∷ arms) s
+and_arm a (Faults e s) = Faults e s
+
+abbrev pub and_arms : Outcome (List Enabled) → (Store → Outcome (List Enabled)) → Outcome (List Enabled)
+and_arms first others = then_in first (λ arms s. then_in (others s) (λ arms' s'. Gives (arms ++ arms') s'))
+
+abbrev pub set_to : ℕ → ℤ → Declaration
+set_to index v = Naming index (OfOne Int (Constant v))
+
+-- the arms within, for the index set to base, base + 1 and so on
+abbrev pub each_over : (List Declaration → Store → Outcome (List Enabled)) → ℕ → ℤ → ℕ → List Declaration → Store → Outcome (List Enabled)
+each_over within index v zero ds s = Gives [] s
+each_over within index v (suc n) ds s =
+    and_arms (within (ds ++ set_to index v ∷ []) (store_with s index v)) (λ s'. each_over within index (v +ℤ pos 1) n ds s')
+
+abbrev pub arms_over : (List Declaration → Store → Outcome (List Enabled)) → ℕ → Indices → List Declaration → Store → Outcome (List Enabled)
+arms_over within index (indices base count) ds s = each_over within index base count ds s
+
+-- In textual order; `ds` are the indices and declarations round these arms. The channel's subscript only where the Boolean is true.
+abbrev pub enabled : Arms → List Declaration → Store → Outcome (List Enabled)
+enabled no_arms ds s = Gives [] s
+enabled (skip_arm test body others) ds s =
+    then_in (in_store (value_of test s) s) (λ v s'. if holds v then and_arm (SkipArm ds body) (enabled others ds s') else enabled others ds s')
+enabled (input_arm test channel list others) ds s =
+    then_in (in_store (value_of test s) s) (λ v s'.
+    if holds v
+    then then_in (in_store (span_of channel s') s') (λ c s''. and_arm (InputArm ds (first_of c) list) (enabled others ds s''))
+    else enabled others ds s')
+enabled (declared_arms d within others) ds s =
+    and_arms (then_in (declared d s) (λ x s'. enabled within (ds ++ d ∷ []) s')) (λ s'. enabled others ds s')
+enabled (each_arm over within others) ds s =
+    and_arms (then_in (in_store (indices_of over s) s) (λ is s'. arms_over (enabled within) (index_of over) is ds s')) (λ s'. enabled others ds s')
+
+-- ---- ALT: the arm that is taken
+
+-- ready: SKIP, or an offer stands on the channel
+abbrev pub is_ready : (ℕ → Bool) → Enabled → Bool
+is_ready offers (SkipArm again body) = true
+is_ready offers (InputArm again c list) = offers c
+
+abbrev pub ready_arms : (ℕ → Bool) → List Enabled → List Enabled
+ready_arms offers [] = []
+ready_arms offers (a ∷ arms) = if is_ready offers a then a ∷ ready_arms offers arms else ready_arms offers arms
+
+-- the rule: the first ready one with priority, else the one with the number `pick` modulo the ready ones
+abbrev pub chosen : Bool → ℕ → (ℕ → Bool) → List Enabled → Option Enabled
+chosen pri pick offers arms = slice_get (ready_arms offers arms) (if pri then 0 else pick % length (ready_arms offers arms))

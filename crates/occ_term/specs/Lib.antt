@@ -1,0 +1,13 @@
+pub mod Messages
+pub mod Terms
+pub mod Values
+pub mod Choosing
+pub mod Steps
+pub mod Turns
+pub mod System
+pub mod Runs
+pub mod StepRuns
+pub mod Uses
+pub mod Typing
+pub mod Sizes
+pub mod Examples

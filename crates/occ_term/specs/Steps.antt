@@ -1,0 +1,175 @@
+-- What is left of a process, and its private steps: a constructor for each row of the chapters on processes.
+use Rattle.std.specs.Prelude.{Bool, List, None, Option, Some, [], false, if◌then◌else◌, pos, suc, true, zero, ℕ, ℤ, ◌+ℤ◌, ◌∷◌, ◌≡◌}
+use Rattle.occ_term.specs.Messages.{Fault, Message, message}
+use Rattle.occ_term.specs.Terms.{Expression, Place, Item, Target, Declaration, Clearing, Naming, Replicator, Term, Skip, Stop, Assign, Input, Output, VariantInput, Seq, Par, Alt, If, Case, While, Each, Clear, Local, Terms, no_terms, then_term, Branches, no_branches, and_branch, Arms, Reception, Plain, Tagged, Variants, Choices, Options}
+use Rattle.occ_term.specs.Values.{Store, store_with, Evaluated, Value, Fails, after, holds, first_of, value_of, span_of, parts_of}
+use Rattle.occ_term.specs.Choosing.{Outcome, Gives, Faults, then_in, in_store, nothing, assigned, declared, all_declared, Indices, indices, indices_of, index_of, choice_of, option_of, taken, Enabled, enabled}
+
+-- a loop: its test, or the index, its next value and how many values are left
+pub data Loop : Type 0 where
+  WhileLoop : (test : Expression) (body : Term) → Loop
+  EachLoop : (index : ℕ) (next : ℤ) (count : ℕ) (body : Term) → Loop
+
+-- the part being done: a term, or a mark of the model
+pub data Doing : Type 0 where
+  Do : (term : Term) → Doing
+  Turning : (loop : Loop) → Doing
+  Again : (loop : Loop) → Doing
+  Offering : (channel : ℕ) (offered : Message) → Doing
+  Awaiting : (channel : ℕ) (list : Reception) → Doing
+  Choosing : (pri : Bool) (arms : List Enabled) → Doing
+  Taking : (again : List Declaration) (list : Reception) (received : Message) → Doing
+  Forking : (branches : Branches) → Doing
+  Halted : Doing
+  Faulted : (fault : Fault) → Doing
+  Done : Doing
+
+-- what comes after it: the rest of a sequence, or a loop whose body is being done
+pub data Context : Type 0 where
+  Then : (others : Terms) → Context
+  Within : (loop : Loop) → Context
+
+-- what is left of a process, with the contexts innermost first
+pub data Left : Type 0 where
+  left : (doing : Doing) (contexts : List Context) → Left
+
+-- ---- what a process stands at
+
+pub data Status : Type 0 where
+  Runs : Status
+  Loops : Status
+  Offers : (channel : ℕ) (offered : Message) → Status
+  Awaits : (channel : ℕ) → Status
+  Chooses : (pri : Bool) (arms : List Enabled) → Status
+  Forks : (branches : Branches) → Status
+  Stands : Status
+  FailsBy : (fault : Fault) → Status
+  HasEnded : Status
+
+abbrev pub status_of : Doing → Status
+status_of (Do t) = Runs
+status_of (Turning l) = Runs
+status_of (Again l) = Loops
+status_of (Offering c m) = Offers c m
+status_of (Awaiting c list) = Awaits c
+status_of (Choosing pri arms) = Chooses pri arms
+status_of (Taking again list m) = Runs
+status_of (Forking bs) = Forks bs
+status_of Halted = Stands
+status_of (Faulted e) = FailsBy e
+status_of Done = HasEnded
+
+abbrev pub status : Left → Status
+status (left d k) = status_of d
+
+-- not at a stop; at the stop of a loop; at the end
+abbrev pub is_running : Status → Bool
+is_running Runs = true
+is_running Loops = false
+is_running (Offers c m) = false
+is_running (Awaits c) = false
+is_running (Chooses pri arms) = false
+is_running (Forks bs) = false
+is_running Stands = false
+is_running (FailsBy e) = false
+is_running HasEnded = false
+
+abbrev pub is_looping : Status → Bool
+is_looping Runs = false
+is_looping Loops = true
+is_looping (Offers c m) = false
+is_looping (Awaits c) = false
+is_looping (Chooses pri arms) = false
+is_looping (Forks bs) = false
+is_looping Stands = false
+is_looping (FailsBy e) = false
+is_looping HasEnded = false
+
+abbrev pub is_ended : Status → Bool
+is_ended Runs = false
+is_ended Loops = false
+is_ended (Offers c m) = false
+is_ended (Awaits c) = false
+is_ended (Chooses pri arms) = false
+is_ended (Forks bs) = false
+is_ended Stands = false
+is_ended (FailsBy e) = false
+is_ended HasEnded = true
+
+-- ---- what terms do in a store
+
+abbrev pub offer_of : Place → Option ℕ → List Item → Store → Evaluated Doing
+offer_of channel tag items s = after (span_of channel s) (λ c. after (parts_of items s) (λ ps. Value (Offering (first_of c) (message tag ps))))
+
+abbrev pub await_of : Place → Reception → Store → Evaluated Doing
+await_of channel list s = after (span_of channel s) (λ c. Value (Awaiting (first_of c) list))
+
+-- with no arm enabled it behaves like STOP
+abbrev pub choosing : Bool → List Enabled → Doing
+choosing pri [] = Do Stop
+choosing pri (a ∷ arms) = Choosing pri (a ∷ arms)
+
+abbrev pub or_stop : Option Term → Term
+or_stop None = Stop
+or_stop (Some t) = t
+
+abbrev pub each_loop : Term → ℕ → Indices → Loop
+each_loop body index (indices base count) = EachLoop index base count body
+
+-- one more turn: the body, and the loop that it is done within
+pub data Turned : Type 0 where
+  turned : (body : Term) (loop : Loop) → Turned
+
+abbrev pub turn_of : Loop → Store → Outcome (Option Turned)
+turn_of (WhileLoop test body) s = then_in (in_store (value_of test s) s) (λ v s'. Gives (if holds v then Some (turned body (WhileLoop test body)) else None) s')
+turn_of (EachLoop index v zero body) s = Gives None s
+turn_of (EachLoop index v (suc n) body) s = Gives (Some (turned body (EachLoop index (v +ℤ pos 1) n body))) (store_with s index v)
+
+-- the received message, after the indices and declarations of an ALT's arm are set again
+abbrev pub received_by : List Declaration → Reception → Message → Store → Outcome (Option Term)
+received_by again list m s = then_in (all_declared again s) (λ x s'. taken list m s')
+
+-- ---- private steps
+
+-- an evaluation that faults, with what was set before
+pub data FaultsIn : Doing → Store → Fault → Store → Type 0 where
+  in_assign : {s s' : Store} {e : Fault} {ts : List Target} {vs : List Item} → assigned ts vs s ≡ Faults e s' → FaultsIn (Do (Assign ts vs)) s e s'
+  in_local : {s s' : Store} {e : Fault} {c : ℕ} {v : Item} → declared (Naming c v) s ≡ Faults e s' → FaultsIn (Do (Local c v)) s e s'
+  in_output : {s : Store} {e : Fault} {c : Place} {tag : Option ℕ} {is : List Item} → offer_of c tag is s ≡ Fails e → FaultsIn (Do (Output c tag is)) s e s
+  in_input : {s : Store} {e : Fault} {c : Place} {ts : List Target} → await_of c (Plain ts Skip) s ≡ Fails e → FaultsIn (Do (Input c ts)) s e s
+  in_variant : {s : Store} {e : Fault} {c : Place} {vs : Variants} → await_of c (Tagged vs) s ≡ Fails e → FaultsIn (Do (VariantInput c vs)) s e s
+  in_alt : {s s' : Store} {e : Fault} {pri : Bool} {arms : Arms} → enabled arms [] s ≡ Faults e s' → FaultsIn (Do (Alt pri arms)) s e s'
+  in_take : {s s' : Store} {e : Fault} {ds : List Declaration} {list : Reception} {m : Message} → received_by ds list m s ≡ Faults e s' → FaultsIn (Taking ds list m) s e s'
+  in_if : {s s' : Store} {e : Fault} {cs : Choices} → choice_of cs s ≡ Faults e s' → FaultsIn (Do (If cs)) s e s'
+  in_case : {s s' : Store} {e : Fault} {x : Expression} {os : Options} → option_of x os s ≡ Faults e s' → FaultsIn (Do (Case x os)) s e s'
+  in_each : {s : Store} {e : Fault} {r : Replicator} {b : Term} → indices_of r s ≡ Fails e → FaultsIn (Do (Each r b)) s e s
+  in_loop : {s s' : Store} {e : Fault} {l : Loop} → turn_of l s ≡ Faults e s' → FaultsIn (Turning l) s e s'
+
+pub data Step : Left → Store → Left → Store → Type 0 where
+  -- Skip, as all that is left
+  ends : {s : Store} → Step (left (Do Skip) []) s (left Done []) s
+  stop : {s : Store} {k : List Context} → Step (left (Do Stop) k) s (left Halted k) s
+  assign : {s s' : Store} {k : List Context} {ts : List Target} {vs : List Item} → assigned ts vs s ≡ Gives nothing s' → Step (left (Do (Assign ts vs)) k) s (left (Do Skip) k) s'
+  clear : {s s' : Store} {k : List Context} {c n : ℕ} → declared (Clearing c n) s ≡ Gives nothing s' → Step (left (Do (Clear c n)) k) s (left (Do Skip) k) s'
+  local : {s s' : Store} {k : List Context} {c : ℕ} {v : Item} → declared (Naming c v) s ≡ Gives nothing s' → Step (left (Do (Local c v)) k) s (left (Do Skip) k) s'
+  output : {s : Store} {k : List Context} {d : Doing} {c : Place} {tag : Option ℕ} {is : List Item} → offer_of c tag is s ≡ Value d → Step (left (Do (Output c tag is)) k) s (left d k) s
+  input : {s : Store} {k : List Context} {d : Doing} {c : Place} {ts : List Target} → await_of c (Plain ts Skip) s ≡ Value d → Step (left (Do (Input c ts)) k) s (left d k) s
+  variant : {s : Store} {k : List Context} {d : Doing} {c : Place} {vs : Variants} → await_of c (Tagged vs) s ≡ Value d → Step (left (Do (VariantInput c vs)) k) s (left d k) s
+  alt : {s s' : Store} {k : List Context} {pri : Bool} {arms : Arms} {open_arms : List Enabled} → enabled arms [] s ≡ Gives open_arms s' → Step (left (Do (Alt pri arms)) k) s (left (choosing pri open_arms) k) s'
+  take_in : {s s' : Store} {k : List Context} {ds : List Declaration} {list : Reception} {m : Message} {t : Option Term} → received_by ds list m s ≡ Gives t s' → Step (left (Taking ds list m) k) s (left (Do (or_stop t)) k) s'
+  seq_empty : {s : Store} {k : List Context} → Step (left (Do (Seq no_terms)) k) s (left (Do Skip) k) s
+  seq : {s : Store} {k : List Context} {t : Term} {ts : Terms} → Step (left (Do (Seq (then_term t ts))) k) s (left (Do t) (Then ts ∷ k)) s
+  -- a first part Skip is dropped
+  drops : {s : Store} {k : List Context} {ts : Terms} → Step (left (Do Skip) (Then ts ∷ k)) s (left (Do (Seq ts)) k) s
+  par_empty : {s : Store} {k : List Context} → Step (left (Do (Par no_branches)) k) s (left (Do Skip) k) s
+  par : {s : Store} {k : List Context} {n : ℕ} {b : Term} {bs : Branches} → Step (left (Do (Par (and_branch n b bs))) k) s (left (Forking (and_branch n b bs)) k) s
+  if_step : {s s' : Store} {k : List Context} {cs : Choices} {t : Option Term} → choice_of cs s ≡ Gives t s' → Step (left (Do (If cs)) k) s (left (Do (or_stop t)) k) s'
+  case : {s s' : Store} {k : List Context} {x : Expression} {os : Options} {t : Option Term} → option_of x os s ≡ Gives t s' → Step (left (Do (Case x os)) k) s (left (Do (or_stop t)) k) s'
+  while : {s : Store} {k : List Context} {e : Expression} {b : Term} → Step (left (Do (While e b)) k) s (left (Turning (WhileLoop e b)) k) s
+  each : {s : Store} {k : List Context} {r : Replicator} {b : Term} {is : Indices} → indices_of r s ≡ Value is → Step (left (Do (Each r b)) k) s (left (Turning (each_loop b (index_of r) is)) k) s
+  turns : {s s' : Store} {k : List Context} {l l' : Loop} {b : Term} → turn_of l s ≡ Gives (Some (turned b l')) s' → Step (left (Turning l) k) s (left (Do b) (Within l' ∷ k)) s'
+  leaves : {s s' : Store} {k : List Context} {l : Loop} → turn_of l s ≡ Gives None s' → Step (left (Turning l) k) s (left (Do Skip) k) s'
+  -- the end of the body: the loop stands again
+  body_ends : {s : Store} {k : List Context} {l : Loop} → Step (left (Do Skip) (Within l ∷ k)) s (left (Again l) k) s
+  again : {s : Store} {k : List Context} {l : Loop} → Step (left (Again l) k) s (left (Turning l) k) s
+  faults : {s s' : Store} {k : List Context} {d : Doing} {e : Fault} → FaultsIn d s e s' → Step (left d k) s (left (Faulted e) k) s'
