@@ -2,3 +2,5 @@ pub mod Programs
 pub mod Going
 pub mod Priority
 pub mod TurnSteps
+pub mod TermRows
+pub mod Outputs

@@ -9,5 +9,10 @@ pub mod Runs
 pub mod StepRuns
 pub mod Uses
 pub mod Typing
+pub mod TermTyping
+pub mod Frames
+pub mod View
+pub mod Unfolding
+pub mod Refusals
 pub mod Sizes
 pub mod Examples

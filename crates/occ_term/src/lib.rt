@@ -4,12 +4,22 @@
 #![tactic(auto)]
 
 pub mod fault;
+pub mod frame;
 pub mod laws;
 pub mod message;
+pub mod names;
 pub mod primitive;
 pub mod protocol;
+pub mod term;
+pub mod unfolded;
+pub mod usage;
 
 pub use fault::{Fault, FaultKind};
+pub use frame::Frame;
 pub use message::{Message, Part};
+pub use names::{Cell, Channel};
 pub use primitive::{Prim, Primitive};
 pub use protocol::{PartType, Protocol, Tag};
+pub use term::{ByteOutput, Term};
+pub use unfolded::Unfolded;
+pub use usage::{Checked, Refused, UsageFault, check_usage};

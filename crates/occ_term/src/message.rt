@@ -81,7 +81,8 @@ impl Message {
     }
 }
 
-fn same_values(values: &[i64], others: &[i64]) -> bool
+/// Whether both hold the same values.
+pub(crate) fn same_values(values: &[i64], others: &[i64]) -> bool
     ensures { IsTrue result ↔ (values.now ≡ others.now) }
 {
     values == others

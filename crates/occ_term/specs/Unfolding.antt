@@ -1,0 +1,40 @@
+-- An unfolded program: its term, its cells and its channels, each with its declared name.
+use Rattle.std.specs.Prelude.{List, [], codes, get_or, map, slice_get, ℕ, ◌++◌, ◌∷◌, ◌≡◌}
+use Rattle.occ_term.specs.Messages.{Byte, Int, Simple}
+use Rattle.occ_term.specs.Terms as T
+use Rattle.occ_term.specs.Uses as Uses
+use Rattle.occ_term.specs.TermTyping.{Declared, TermHas}
+use Rattle.occ_term.specs.View.{term_of}
+use Rattle.occ_term.specs.declared.term.Term.{Term}
+use Rattle.occ_term.specs.declared.names.Cell.{Cell}
+use Rattle.occ_term.specs.declared.names.Channel.{Channel}
+
+pub record Unfolding : Type 0 where
+  pub term : Term
+  pub cells : List Cell
+  pub channels : List Channel
+
+-- the term as the definitions have it
+abbrev pub meaning : Unfolding → T.Term
+meaning u = term_of u.term
+
+abbrev pub declared : Unfolding → Declared
+declared u = record { types = λ c. get_or (map (λ x. x.primitive) u.cells) c Int; protocols = λ c. slice_get (map (λ x. x.protocol) u.channels) c }
+
+-- a channel of bytes
+abbrev pub byte_channel : List ℕ → Channel
+byte_channel name = record { name = name; protocol = Simple Byte [] }
+
+-- channel 0 is the keyboard, 1 the screen, 2 the error channel
+abbrev pub first_channels : List Channel
+first_channels = byte_channel (codes "keyboard") ∷ byte_channel (codes "screen") ∷ byte_channel (codes "error") ∷ []
+
+-- every expression, target and item has the type of its place, and the first three channels are there
+pub record IsTyped (u : Unfolding) : Type 0 where
+  pub others : List Channel
+  pub begins : u.channels ≡ first_channels ++ others
+  pub typed : TermHas (declared u) (meaning u)
+
+-- the usage rules hold of its term
+abbrev pub Lawful : Unfolding → Type 0
+Lawful u = Uses.Lawful (meaning u)
