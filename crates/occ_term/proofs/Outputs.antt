@@ -49,11 +49,11 @@ none_in-next ts i t lt is before now =
 -- ---- what makes a program without PAR lawful
 
 -- no variable is used and nothing is input
-abbrev Quiet : Uses → Type 0
+abbrev pub Quiet : Uses → Type 0
 Quiet u = (c : ℕ) → (u.reads c ≡ false) × (u.writes c ≡ false) × (u.ins c ≡ false)
 
 mutual
-  quiet : (t : Term) → Quiet (uses_of (term_of t))
+  pub quiet : (t : Term) → Quiet (uses_of (term_of t))
   quiet Skip c = (refl, refl, refl)
   quiet Stop c = (refl, refl, refl)
   quiet (Seq' shape row) c = quiet_row row c

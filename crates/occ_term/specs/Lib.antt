@@ -15,4 +15,5 @@ pub mod View
 pub mod Unfolding
 pub mod Refusals
 pub mod Sizes
+pub mod Processes
 pub mod Examples

@@ -1,9 +1,10 @@
 -- An unfolded program: its term, its cells and its channels, each with its declared name.
-use Rattle.std.specs.Prelude.{List, [], codes, get_or, map, slice_get, ℕ, ◌++◌, ◌∷◌, ◌≡◌}
+use Rattle.std.specs.Prelude.{List, [], codes, get_or, map, slice_get, ℕ, ◌++◌, ◌+◌, ◌∷◌, ◌≡◌, ⊤}
 use Rattle.occ_term.specs.Messages.{Byte, Int, Simple}
 use Rattle.occ_term.specs.Terms as T
 use Rattle.occ_term.specs.Uses as Uses
 use Rattle.occ_term.specs.TermTyping.{Declared, TermHas}
+use Rattle.occ_term.specs.Processes.{Numbered, processes_of}
 use Rattle.occ_term.specs.View.{term_of}
 use Rattle.occ_term.specs.declared.term.Term.{Term}
 use Rattle.occ_term.specs.declared.names.Cell.{Cell}
@@ -29,11 +30,18 @@ byte_channel name = record { name = name; protocol = Simple Byte [] }
 abbrev pub first_channels : List Channel
 first_channels = byte_channel (codes "keyboard") ∷ byte_channel (codes "screen") ∷ byte_channel (codes "error") ∷ []
 
--- every expression, target and item has the type of its place, and the first three channels are there
-pub record IsTyped (u : Unfolding) : Type 0 where
+-- processes numbered from n on
+abbrev pub NumberedFrom : ℕ → List Numbered → Type 0
+NumberedFrom n [] = ⊤
+NumberedFrom n (p ∷ ps) = (p.number ≡ n) × NumberedFrom (n + 1) ps
+
+-- Every expression, target and item has the type of its place; the first three channels are there;
+-- processes have their numbers in the order in which they begin in the term.
+pub record IsWellFormed (u : Unfolding) : Type 0 where
   pub others : List Channel
   pub begins : u.channels ≡ first_channels ++ others
   pub typed : TermHas (declared u) (meaning u)
+  pub numbers : NumberedFrom 0 (processes_of (meaning u))
 
 -- the usage rules hold of its term
 abbrev pub Lawful : Unfolding → Type 0

@@ -1,8 +1,11 @@
 //! What is declared: cells and channels, with their names.
 
+ghost use Rattle.std.specs.Prelude.{◌≡◌, IfOk};
+
 use crate::primitive::Primitive;
 use crate::protocol::Protocol;
 use sqlite_items::Items;
+use std::alloc::{AllocError, Global};
 
 /// A cell: a variable, or one component of an array.
 #[derive(Debug, Drop)]
@@ -20,4 +23,16 @@ pub struct Channel {
     pub name: Items<u8>,
     /// What its messages look like.
     pub protocol: Protocol,
+}
+
+impl Channel {
+    /// A copy. The error is a refused growth.
+    pub fn copy(&self, alloc: Global) -> Result<Channel, AllocError>
+        ensures { IfOk result (λ c. c ≡ self.now) }
+    {
+        Ok(Channel {
+            name: Items::from_slice(alloc, self.name.as_slice())?,
+            protocol: self.protocol.copy(alloc)?,
+        })
+    }
 }

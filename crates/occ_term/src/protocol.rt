@@ -1,7 +1,10 @@
 //! Protocols: what the messages of a channel look like.
 
+ghost use Rattle.std.specs.Prelude.{◌≡◌, IfOk};
+
 use crate::primitive::Primitive;
 use sqlite_items::Items;
+use std::alloc::{AllocError, Global};
 
 /// The type of one part of a message.
 #[derive(Debug, Drop)]
@@ -34,4 +37,77 @@ pub enum Protocol {
     Sequential(Items<PartType>),
     /// One of these tags, numbered from 0 in their order, and then its parts.
     Variant(Items<Tag>),
+}
+
+impl PartType {
+    /// A copy. The error is a refused growth.
+    pub fn copy(&self, alloc: Global) -> Result<PartType, AllocError>
+        ensures { IfOk result (λ t. t ≡ self.now) }
+    {
+        match self {
+            PartType::One(primitive) => Ok(PartType::One(*primitive)),
+            PartType::Many(sizes, primitive) => {
+                let sizes = Items::from_slice(alloc, sizes.as_slice())?;
+                Ok(PartType::Many(sizes, *primitive))
+            }
+            PartType::Counted(count, primitive) => Ok(PartType::Counted(*count, *primitive)),
+        }
+    }
+}
+
+impl Tag {
+    /// A copy. The error is a refused growth.
+    pub fn copy(&self, alloc: Global) -> Result<Tag, AllocError>
+        ensures { IfOk result (λ t. t ≡ self.now) }
+    {
+        Ok(Tag {
+            name: Items::from_slice(alloc, self.name.as_slice())?,
+            parts: copy_parts(alloc, self.parts.as_slice())?,
+        })
+    }
+}
+
+impl Protocol {
+    /// A copy. The error is a refused growth.
+    pub fn copy(&self, alloc: Global) -> Result<Protocol, AllocError>
+        ensures { IfOk result (λ p. p ≡ self.now) }
+    {
+        match self {
+            Protocol::Simple(primitive, sizes) => {
+                let sizes = Items::from_slice(alloc, sizes.as_slice())?;
+                Ok(Protocol::Simple(*primitive, sizes))
+            }
+            Protocol::CountedArray(count, primitive) => {
+                Ok(Protocol::CountedArray(*count, *primitive))
+            }
+            Protocol::Sequential(parts) => {
+                let parts = copy_parts(alloc, parts.as_slice())?;
+                Ok(Protocol::Sequential(parts))
+            }
+            Protocol::Variant(tags) => {
+                let tags = copy_tags(alloc, tags.as_slice())?;
+                Ok(Protocol::Variant(tags))
+            }
+        }
+    }
+}
+
+fn copy_parts(alloc: Global, parts: &[PartType]) -> Result<Items<PartType>, AllocError>
+    ensures { IfOk result (λ copies. copies ≡ parts.now) }
+{
+    let mut copies = Items::new(alloc);
+    for part in parts {
+        copies.push(part.copy(alloc)?)?;
+    }
+    Ok(copies)
+}
+
+fn copy_tags(alloc: Global, tags: &[Tag]) -> Result<Items<Tag>, AllocError>
+    ensures { IfOk result (λ copies. copies ≡ tags.now) }
+{
+    let mut copies = Items::new(alloc);
+    for tag in tags {
+        copies.push(tag.copy(alloc)?)?;
+    }
+    Ok(copies)
 }

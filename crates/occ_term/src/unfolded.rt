@@ -1,6 +1,6 @@
 //! Unfolded programs.
 ghost use Rattle.std.specs.Prelude.{◌≡◌};
-ghost use Rattle.occ_term.specs.Unfolding.{IsTyped};
+ghost use Rattle.occ_term.specs.Unfolding.{IsWellFormed};
 
 use crate::names::{Cell, Channel};
 use crate::term::Term;
@@ -8,8 +8,9 @@ use std::marker::Model;
 
 /// An unfolded program: one term, with the cells and the channels that it names.
 ///
-/// Each expression, target and item has the type of its place, and channels 0, 1 and 2 are the
-/// keyboard, the screen and the error channel: no other value of this type can be made.
+/// Each expression, target and item has the type of its place, channels 0, 1 and 2 are the keyboard,
+/// the screen and the error channel, and processes are numbered in the order in which they begin:
+/// no other value of this type can be made.
 #[derive(Drop)]
 pub struct Unfolded {
     term: Term,
@@ -20,7 +21,7 @@ pub struct Unfolded {
 impl Model for Unfolded {
     ghost use Rattle.std.specs.Coded.{codes};
     ghost use Rattle.occ_term.specs.contracts.term.Term as terms;
-    ghost use Rattle.occ_term.specs.Unfolding.{Unfolding, IsTyped};
+    ghost use Rattle.occ_term.specs.Unfolding.{Unfolding, IsWellFormed};
 
     ghost Value = { Unfolding };
 
@@ -28,13 +29,13 @@ impl Model for Unfolded {
 
     ghost view = { λ u. record { term = u.term; cells = u.cells.items; channels = u.channels.items } };
 
-    ghost invariant = { λ u. IsTyped (record { term = u.term; cells = u.cells.items; channels = u.channels.items }) };
+    ghost invariant = { λ u. IsWellFormed (record { term = u.term; cells = u.cells.items; channels = u.channels.items }) };
 }
 
 impl Unfolded {
-    /// A program of these parts, where they are typed.
+    /// A program of these parts.
     pub fn new(term: Term, cells: Vec<Cell>, channels: Vec<Channel>) -> Unfolded
-        requires { IsTyped (record { term = term; cells = cells.items; channels = channels.items }) }
+        requires { IsWellFormed (record { term = term; cells = cells.items; channels = channels.items }) }
         ensures { result ≡ record { term = term; cells = cells.items; channels = channels.items } }
     {
         Unfolded {
@@ -66,8 +67,8 @@ impl Unfolded {
     }
 
     /// What every unfolded program keeps.
-    pub fn typed(&self)
-        ensures { IsTyped self.now }
+    pub fn well_formed(&self)
+        ensures { IsWellFormed self.now }
     {
         let _term = &self.term;
     }

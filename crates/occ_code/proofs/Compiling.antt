@@ -1,0 +1,51 @@
+-- The compiled form of an early term keeps what `Code` promises.
+use Rattle.std.proofs.Common.{◌≡◌, ◌++◌, ◌∷◌, [], List, ◌∙◌, refl, sym, ap, subst, arith}
+use Rattle.std.specs.Prelude.{◌||◌}
+use Rattle.occ_term.specs.Terms.{Term, Terms}
+use Rattle.occ_term.specs.Uses.{uses_of}
+use Rattle.occ_term.specs.Unfolding.{Unfolding, declared, meaning}
+use Rattle.occ_term.specs.Processes.{branches_in, branches_in_terms, processes_of, numbered}
+use Rattle.occ_term.specs.declared.names.Channel.{Channel}
+use Rattle.occ_term.proofs.Outputs.{quiet}
+use Rattle.occ_code.specs.Machine.{FlatCode}
+use Rattle.occ_code.specs.Emitted.{flat_body, IsTooLong}
+use Rattle.occ_code.specs.Alike.{DoesAs}
+use Rattle.occ_code.specs.Compiled.{AllDo, IsCompiledFrom, CodeRefuses}
+use Rattle.occ_code.proofs.Early.{EarlyTerm, early_skip, early_stop, early_output, early_seq, EarlyTerms, early_none, early_then, early_of}
+use Rattle.occ_code.specs.declared.code.CodeFault.{CodeFault}
+use Rattle.occ_code.specs.declared.code.CodeFault.TheVariants.{TooLarge, Memory}
+use Rattle.occ_code.proofs.Lengths.{body_length}
+use Rattle.occ_code.proofs.Turns.{body_alike}
+
+mutual
+  no_branches_in : {t : Term} → EarlyTerm t → branches_in t ≡ []
+  no_branches_in early_skip = refl
+  no_branches_in early_stop = refl
+  no_branches_in (early_output line c type v) = refl
+  no_branches_in (early_seq es) = none_in_terms es
+
+  none_in_terms : {ts : Terms} → EarlyTerms ts → branches_in_terms ts ≡ []
+  none_in_terms early_none = refl
+  none_in_terms (early_then {t = t} {ts = ts} e es) = ap (λ l. l ++ branches_in_terms ts) (no_branches_in e) ∙ none_in_terms es
+
+does_as : (u : Unfolding) → DoesAs (declared u) (flat_body (meaning u)) (meaning u)
+does_as u =
+    record {
+      cells = record { rising = tt; members = λ n. sym (ap (λ b. b || (uses_of (meaning u)).writes n) (quiet u.term n).0 ∙ (quiet u.term n).1) };
+      writes = record { rising = tt; members = λ n. sym (quiet u.term n).1 };
+      alike = λ n first bound h. body_alike (declared u) (early_of u.term) n first h;
+    }
+
+pub compiled_from : (u : Unfolding) → IsCompiledFrom u (record { bodies = flat_body (meaning u) ∷ []; channels = u.channels })
+compiled_from u =
+    let one : processes_of (meaning u) ≡ numbered 0 (meaning u) ∷ [] = ap (λ l. numbered 0 (meaning u) ∷ l) (no_branches_in (early_of u.term)) in
+    record { channels = refl; bodies = subst (λ ps. AllDo (declared u) 0 (flat_body (meaning u) ∷ []) ps) (sym one) (refl, does_as u, tt) }
+
+pub compiled_as : (u : Unfolding) (bodies : List FlatCode) (channels : List Channel) → bodies ≡ flat_body (meaning u) ∷ [] → channels ≡ u.channels → IsCompiledFrom u (record { bodies = bodies; channels = channels })
+compiled_as u bodies channels e h =
+    let with_bodies = subst (λ bs. IsCompiledFrom u (record { bodies = bs; channels = u.channels })) (sym e) (compiled_from u) in
+    subst (λ cs. IsCompiledFrom u (record { bodies = bodies; channels = cs })) (sym h) with_bodies
+
+pub refused_as : (u : Unfolding) (fault : CodeFault) → IsTooLong fault (meaning u) → CodeRefuses fault u
+refused_as u TooLarge h = let g = body_length (early_of u.term) in omega (arith, h, g)
+refused_as u Memory h = tt

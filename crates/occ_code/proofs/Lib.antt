@@ -1,0 +1,6 @@
+mod Places
+mod Early
+mod Turns
+mod Lengths
+mod Rows
+mod Compiling

@@ -1,0 +1,41 @@
+-- Compiled programs: a body for each process, which does what the process's term does.
+use Rattle.std.specs.Prelude.{List, [], ℕ, ◌*◌, ◌+◌, ◌<◌, ⊤, ◌∷◌, ◌≡◌}
+use Rattle.occ_term.specs.Unfolding.{Unfolding, IsWellFormed, Lawful, declared, meaning}
+use Rattle.occ_term.specs.Processes.{Numbered, processes_of}
+use Rattle.occ_term.specs.TermTyping.{Declared}
+use Rattle.occ_term.specs.Sizes.{size_of}
+use Rattle.occ_term.specs.declared.names.Channel.{Channel}
+use Rattle.occ_code.specs.Machine.{FlatCode}
+use Rattle.occ_code.specs.Alike.{DoesAs}
+use Rattle.occ_code.specs.Emitted.{most_instructions}
+use Rattle.occ_code.specs.declared.code.CodeFault.{CodeFault}
+use Rattle.occ_code.specs.declared.code.CodeFault.TheVariants.{TooLarge, Memory}
+
+-- the code of a program: a body for each process number, and the channels
+pub record Program : Type 0 where
+  pub bodies : List FlatCode
+  pub channels : List Channel
+
+-- the body at each place does what the process with that number does
+abbrev pub AllDo : Declared → ℕ → List FlatCode → List Numbered → Type 0
+AllDo d n [] [] = ⊤
+AllDo d n [] (p ∷ ps) = ⊥
+AllDo d n (b ∷ bs) [] = ⊥
+AllDo d n (b ∷ bs) (p ∷ ps) = (p.number ≡ n) × DoesAs d b p.term × AllDo d (n + 1) bs ps
+
+-- compiled from this source
+pub record IsCompiledFrom (u : Unfolding) (p : Program) : Type 0 where
+  pub channels : p.channels ≡ u.channels
+  pub bodies : AllDo (declared u) 0 p.bodies (processes_of (meaning u))
+
+-- compiled from some source that is well-formed and keeps the usage rules
+pub record IsCompiled (p : Program) : Type 0 where
+  pub source : Unfolding
+  pub well_formed : IsWellFormed source
+  pub lawful : Lawful source
+  pub compiled : IsCompiledFrom source p
+
+-- want of memory says nothing; the other refusal, that 32 instructions for each node are more than a program may have
+abbrev pub CodeRefuses : CodeFault → Unfolding → Type 0
+CodeRefuses TooLarge u = most_instructions < 32 * (size_of (meaning u)).nodes
+CodeRefuses Memory u = ⊤

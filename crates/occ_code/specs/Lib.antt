@@ -1,0 +1,4 @@
+pub mod Machine
+pub mod Alike
+pub mod Emitted
+pub mod Compiled
