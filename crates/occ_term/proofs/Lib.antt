@@ -4,3 +4,4 @@ pub mod Priority
 pub mod TurnSteps
 pub mod TermRows
 pub mod Outputs
+pub mod FirstRuns

@@ -17,3 +17,4 @@ pub mod Refusals
 pub mod Sizes
 pub mod Processes
 pub mod Examples
+pub mod FirstRows
