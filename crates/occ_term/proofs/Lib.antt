@@ -5,3 +5,5 @@ pub mod TurnSteps
 pub mod TermRows
 pub mod Outputs
 pub mod FirstRuns
+pub mod OneResult
+pub mod LawfulTerms

@@ -18,3 +18,5 @@ pub mod Sizes
 pub mod Processes
 pub mod Examples
 pub mod FirstRows
+pub mod OneResult
+pub mod LimitRows

@@ -1,0 +1,34 @@
+-- Terms that keep the usage rules.
+use Rattle.std.proofs.Common.{arith}
+use Rattle.std.specs.Prelude.{true}
+use Rattle.occ_term.specs.Terms.{Par}
+use Rattle.occ_term.specs.Uses.{Lawful}
+use Rattle.occ_term.specs.Examples.{beside_each_other, sets, three, writes_a}
+use Rattle.occ_term.specs.LimitRows.{Accepts}
+
+lawful_a : Lawful writes_a
+lawful_a = record {
+  branches = tt;
+  beside_keyboard = record { first_writes = λ c x y. cc; second_writes = λ c x y. cc; inputs = λ c x y. cc; outputs = λ c x y. grind arith };
+  beside_screen = record { first_writes = λ c x y. cc; second_writes = λ c x y. cc; inputs = λ c x y. cc; outputs = λ c x y. cc };
+  beside_error = record { first_writes = λ c x y. cc; second_writes = λ c x y. cc; inputs = λ c x y. cc; outputs = λ c x y. cc };
+}
+
+lawful_three : Lawful (Par (three true))
+lawful_three = record {
+  branches = (tt, (record { first_writes = λ c x y. grind arith; second_writes = λ c x y. grind arith; inputs = λ c x y. grind arith; outputs = λ c x y. grind arith }, (record { first_writes = λ c x y. grind arith; second_writes = λ c x y. grind arith; inputs = λ c x y. grind arith; outputs = λ c x y. grind arith }, tt)), (tt, (record { first_writes = λ c x y. grind arith; second_writes = λ c x y. grind arith; inputs = λ c x y. grind arith; outputs = λ c x y. grind arith }, tt), ((tt, (((tt, (tt, tt)), (tt, tt)), tt)), tt, tt)));
+  beside_keyboard = record { first_writes = λ c x y. grind arith; second_writes = λ c x y. grind arith; inputs = λ c x y. grind arith; outputs = λ c x y. grind arith };
+  beside_screen = record { first_writes = λ c x y. grind arith; second_writes = λ c x y. grind arith; inputs = λ c x y. grind arith; outputs = λ c x y. grind arith };
+  beside_error = record { first_writes = λ c x y. grind arith; second_writes = λ c x y. grind arith; inputs = λ c x y. grind arith; outputs = λ c x y. grind arith };
+}
+
+two_cells : Lawful (beside_each_other (sets 0) (sets 1))
+two_cells = record {
+  branches = (tt, (record { first_writes = λ c x y. grind arith; second_writes = λ c x y. grind arith; inputs = λ c x y. cc; outputs = λ c x y. cc }, tt), (tt, tt, tt));
+  beside_keyboard = record { first_writes = λ c x y. cc; second_writes = λ c x y. cc; inputs = λ c x y. cc; outputs = λ c x y. cc };
+  beside_screen = record { first_writes = λ c x y. cc; second_writes = λ c x y. cc; inputs = λ c x y. cc; outputs = λ c x y. cc };
+  beside_error = record { first_writes = λ c x y. cc; second_writes = λ c x y. cc; inputs = λ c x y. cc; outputs = λ c x y. cc };
+}
+
+pub accepts : Accepts
+accepts = (lawful_a, two_cells, lawful_three)
