@@ -1,11 +1,12 @@
 -- The runs of the simplest programs.
+use Rattle.occ_term.proofs.Meetings.{unmet}
 use Rattle.std.proofs.Common.{List, [], inl, refl}
 use Rattle.occ_term.specs.Values.{Store}
 use Rattle.occ_term.specs.Steps.{Context, Do, Halted, Left, Step, left, drops, ends, faults, output, seq, seq_empty, stop}
 use Rattle.occ_term.specs.Turns.{more, none, single_turn, stops}
 use Rattle.occ_term.specs.System.{change_below, change_here, meets, no_processes, offer_ends, passes_skip, process, process_sends, screen_receives, system, system_turn, turn_here}
 use Rattle.occ_term.specs.System.{alone as by_itself}
-use Rattle.occ_term.specs.Runs.{StepOf, branch_step, by_end, by_standing, goes, goes_on, meeting_step, meets_none, meets_one, over, own_step, private_step, skip_step}
+use Rattle.occ_term.specs.Runs.{StepOf, branch_step, by_end, by_standing, goes, goes_on, meeting_step, meets_one, over, own_step, private_step, skip_step}
 use Rattle.occ_term.specs.FirstRows.{EmptySequence, LetterEnds, LetterGoesOn, NoTurn, StopStops, TwoLetters}
 use Rattle.occ_term.proofs.Going.{going}
 
@@ -24,7 +25,7 @@ letter_ends = (
   _,
   goes (system_turn refl (turn_here by_itself (stops (single_turn none (output refl) refl) (inl refl))))
       (meets_one refl (inl refl) (meets (process_sends (change_here offer_ends)) (screen_receives refl)))
-      (goes (system_turn refl (turn_here by_itself (stops (single_turn none ends refl) (inl refl)))) meets_none
+      (goes (system_turn refl (turn_here by_itself (stops (single_turn none ends refl) (inl refl)))) (unmet refl)
       over),
   by_end refl refl,
   λ names. refl,
@@ -45,7 +46,7 @@ still (skip_step (passes_skip (change_below x))) = elim x [ ]
 pub stop_stops : StopStops
 stop_stops = (
   _,
-  goes (system_turn refl (turn_here by_itself (stops (single_turn none stop refl) (inl refl)))) meets_none over,
+  goes (system_turn refl (turn_here by_itself (stops (single_turn none stop refl) (inl refl)))) (unmet refl) over,
   by_standing refl refl still,
   λ names. refl,
 )
@@ -57,7 +58,7 @@ two_letters = (
       (meets_one refl (inl refl) (meets (process_sends (change_here offer_ends)) (screen_receives refl)))
       (goes (system_turn refl (turn_here by_itself (stops (single_turn (more drops refl (more seq refl none)) (output refl) refl) (inl refl))))
       (meets_one refl (inl refl) (meets (process_sends (change_here offer_ends)) (screen_receives refl)))
-      (goes (system_turn refl (turn_here by_itself (stops (single_turn (more drops refl (more seq_empty refl none)) ends refl) (inl refl)))) meets_none
+      (goes (system_turn refl (turn_here by_itself (stops (single_turn (more drops refl (more seq_empty refl none)) ends refl) (inl refl)))) (unmet refl)
       over)),
   by_end refl refl,
   λ names. refl,
@@ -66,7 +67,7 @@ two_letters = (
 pub empty_sequence : EmptySequence
 empty_sequence = (
   _,
-  goes (system_turn refl (turn_here by_itself (stops (single_turn (more seq_empty refl none) ends refl) (inl refl)))) meets_none over,
+  goes (system_turn refl (turn_here by_itself (stops (single_turn (more seq_empty refl none) ends refl) (inl refl)))) (unmet refl) over,
   by_end refl refl,
   λ names. refl,
 )

@@ -7,3 +7,4 @@ pub mod Outputs
 pub mod FirstRuns
 pub mod OneResult
 pub mod LawfulTerms
+pub mod Meetings

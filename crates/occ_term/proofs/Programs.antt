@@ -1,4 +1,5 @@
 -- The runs of the small programs.
+use Rattle.occ_term.proofs.Meetings.{unmet}
 use Rattle.occ_term.specs.System.{SystemTurn, Halt, StopMode, joined}
 use Rattle.occ_term.specs.Runs.{EndsBy, FaultEnds}
 use Rattle.occ_term.specs.Examples.{FaultHalts, after_divides, Joins, one_ended}
@@ -11,7 +12,7 @@ use Rattle.std.proofs.Common.{ℕ, refl, inl, inr, [], pos, true, false, List}
 use Rattle.occ_term.specs.Steps.{Halted, Left, Step, Context, left, output, ends, faults, in_assign, alt, stop, par, seq, clear, drops, take_in, seq_empty, while, turns, body_ends, again, Faulted}
 use Rattle.occ_term.specs.Turns.{none, more, single_turn, stops, passes}
 use Rattle.occ_term.specs.System.{System, End, Sends, PassesSkip, alone, turn_here, system_turn, change_here, offer_ends, process_sends, screen_receives, process_receives, change_below, change_first, change_later, arm_gets, passes_skip, turn_below, turn_first, turn_later, meets}
-use Rattle.occ_term.specs.Runs.{over, goes, meets_none, meets_one, by_end, by_fault, by_standing, StepOf, private_step, meeting_step, skip_step, own_step, join_step, branch_step, first_can, later_can}
+use Rattle.occ_term.specs.Runs.{over, goes, meets_one, by_end, by_fault, by_standing, StepOf, private_step, meeting_step, skip_step, own_step, join_step, branch_step, first_can, later_can}
 use Rattle.occ_term.specs.Examples.{WritesA, Divides, Halts, after_stop, RunsTo, ThreeRun, LongTurns, StopsBoth, Unlawful, second_first}
 use Rattle.occ_term.specs.Values.{Store}
 use Rattle.occ_term.specs.Messages.{Fault, Message}
@@ -20,16 +21,16 @@ pub writes_a : WritesA
 writes_a = (
   goes (system_turn refl (turn_here alone (stops (single_turn none (output refl) refl) (inl refl))))
       (meets_one refl (inl refl) (meets (process_sends (change_here offer_ends)) (screen_receives refl)))
-      (goes (system_turn refl (turn_here alone (stops (single_turn none ends refl) (inl refl)))) meets_none over),
+      (goes (system_turn refl (turn_here alone (stops (single_turn none ends refl) (inl refl)))) (unmet refl) over),
   by_end refl refl,
   λ names. refl,
 )
 
 pub divides : Divides
 divides = (
-  goes (system_turn refl (turn_here alone (stops (single_turn none (faults (in_assign refl)) refl) (inl refl)))) meets_none over,
+  goes (system_turn refl (turn_here alone (stops (single_turn none (faults (in_assign refl)) refl) (inl refl)))) (unmet refl) over,
   by_fault refl refl,
-  goes (system_turn tt (turn_here alone (stops (single_turn none (faults (in_assign refl)) refl) (inl refl)))) meets_none over,
+  goes (system_turn tt (turn_here alone (stops (single_turn none (faults (in_assign refl)) refl) (inl refl)))) (unmet refl) over,
 )
 
 halted_is_still : {k : List Context} {s s' : Store} {b : Left} → Step (left Halted k) s b s' → ⊥
@@ -51,7 +52,7 @@ still (skip_step x) = no_choice x
 
 pub halts : Halts
 halts = (
-  goes (system_turn refl (turn_here alone (stops (single_turn (more (alt refl) refl none) stop refl) (inl refl)))) meets_none over,
+  goes (system_turn refl (turn_here alone (stops (single_turn (more (alt refl) refl none) stop refl) (inl refl)))) (unmet refl) over,
   by_standing refl refl still,
 )
 
@@ -59,39 +60,39 @@ halts = (
 pub with_priority : RunsTo true 1 3 (pos 1)
 with_priority = (
   _,
-  (goes (system_turn refl (turn_here alone (stops (single_turn none par refl) (inl refl)))) meets_none
-      (goes (system_turn refl (turn_below (turn_first (turn_here alone (stops (single_turn none (output refl) refl) (inl refl)))))) meets_none
-      (goes (system_turn refl (turn_below (turn_later (turn_first (turn_here alone (stops (single_turn none (output refl) refl) (inl refl))))))) meets_none
+  (goes (system_turn refl (turn_here alone (stops (single_turn none par refl) (inl refl)))) (unmet refl)
+      (goes (system_turn refl (turn_below (turn_first (turn_here alone (stops (single_turn none (output refl) refl) (inl refl)))))) (unmet refl)
+      (goes (system_turn refl (turn_below (turn_later (turn_first (turn_here alone (stops (single_turn none (output refl) refl) (inl refl))))))) (unmet refl)
       (goes (system_turn refl (turn_below (turn_later (turn_later (turn_first (turn_here alone (stops (single_turn (more seq refl (more (clear refl) refl (more drops refl (more seq refl (more seq refl none))))) (alt refl) refl) (inl refl)))))))) (meets_one refl (inr refl) (meets (process_sends (change_below (change_first (change_here offer_ends)))) (process_receives (change_below (change_later (change_later (change_first (change_here (arm_gets 1 refl)))))))))
-      (goes (system_turn refl (turn_below (turn_first (turn_here alone (stops (single_turn none ends refl) (inl refl)))))) meets_none
+      (goes (system_turn refl (turn_below (turn_first (turn_here alone (stops (single_turn none ends refl) (inl refl)))))) (unmet refl)
       (goes (system_turn refl (turn_below (turn_later (turn_later (turn_first (turn_here alone (stops (single_turn (more (take_in refl) refl (more drops refl (more seq refl none))) (output refl) refl) (inl refl)))))))) (meets_one refl (inl refl) (meets (process_sends (change_below (change_later (change_later (change_first (change_here offer_ends)))))) (screen_receives refl)))
-      (goes (system_turn refl (turn_below (turn_later (turn_later (turn_first (turn_here alone (stops (single_turn (more drops refl (more seq_empty refl (more drops refl (more seq_empty refl none)))) ends refl) (inl refl)))))))) meets_none
+      (goes (system_turn refl (turn_below (turn_later (turn_later (turn_first (turn_here alone (stops (single_turn (more drops refl (more seq_empty refl (more drops refl (more seq_empty refl none)))) ends refl) (inl refl)))))))) (unmet refl)
       over))))))),
 )
 
 pub takes_first : RunsTo false 1 3 (pos 1)
 takes_first = (
   _,
-  (goes (system_turn refl (turn_here alone (stops (single_turn none par refl) (inl refl)))) meets_none
-      (goes (system_turn refl (turn_below (turn_first (turn_here alone (stops (single_turn none (output refl) refl) (inl refl)))))) meets_none
-      (goes (system_turn refl (turn_below (turn_later (turn_first (turn_here alone (stops (single_turn none (output refl) refl) (inl refl))))))) meets_none
+  (goes (system_turn refl (turn_here alone (stops (single_turn none par refl) (inl refl)))) (unmet refl)
+      (goes (system_turn refl (turn_below (turn_first (turn_here alone (stops (single_turn none (output refl) refl) (inl refl)))))) (unmet refl)
+      (goes (system_turn refl (turn_below (turn_later (turn_first (turn_here alone (stops (single_turn none (output refl) refl) (inl refl))))))) (unmet refl)
       (goes (system_turn refl (turn_below (turn_later (turn_later (turn_first (turn_here alone (stops (single_turn (more seq refl (more (clear refl) refl (more drops refl (more seq refl (more seq refl none))))) (alt refl) refl) (inl refl)))))))) (meets_one refl (inr refl) (meets (process_sends (change_below (change_first (change_here offer_ends)))) (process_receives (change_below (change_later (change_later (change_first (change_here (arm_gets 0 refl)))))))))
-      (goes (system_turn refl (turn_below (turn_first (turn_here alone (stops (single_turn none ends refl) (inl refl)))))) meets_none
+      (goes (system_turn refl (turn_below (turn_first (turn_here alone (stops (single_turn none ends refl) (inl refl)))))) (unmet refl)
       (goes (system_turn refl (turn_below (turn_later (turn_later (turn_first (turn_here alone (stops (single_turn (more (take_in refl) refl (more drops refl (more seq refl none))) (output refl) refl) (inl refl)))))))) (meets_one refl (inl refl) (meets (process_sends (change_below (change_later (change_later (change_first (change_here offer_ends)))))) (screen_receives refl)))
-      (goes (system_turn refl (turn_below (turn_later (turn_later (turn_first (turn_here alone (stops (single_turn (more drops refl (more seq_empty refl (more drops refl (more seq_empty refl none)))) ends refl) (inl refl)))))))) meets_none
+      (goes (system_turn refl (turn_below (turn_later (turn_later (turn_first (turn_here alone (stops (single_turn (more drops refl (more seq_empty refl (more drops refl (more seq_empty refl none)))) ends refl) (inl refl)))))))) (unmet refl)
       over))))))),
 )
 
 pub takes_second : RunsTo false 2 4 (pos 2)
 takes_second = (
   _,
-  (goes (system_turn refl (turn_here alone (stops (single_turn none par refl) (inl refl)))) meets_none
-      (goes (system_turn refl (turn_below (turn_first (turn_here alone (stops (single_turn none (output refl) refl) (inl refl)))))) meets_none
-      (goes (system_turn refl (turn_below (turn_later (turn_first (turn_here alone (stops (single_turn none (output refl) refl) (inl refl))))))) meets_none
+  (goes (system_turn refl (turn_here alone (stops (single_turn none par refl) (inl refl)))) (unmet refl)
+      (goes (system_turn refl (turn_below (turn_first (turn_here alone (stops (single_turn none (output refl) refl) (inl refl)))))) (unmet refl)
+      (goes (system_turn refl (turn_below (turn_later (turn_first (turn_here alone (stops (single_turn none (output refl) refl) (inl refl))))))) (unmet refl)
       (goes (system_turn refl (turn_below (turn_later (turn_later (turn_first (turn_here alone (stops (single_turn (more seq refl (more (clear refl) refl (more drops refl (more seq refl (more seq refl none))))) (alt refl) refl) (inl refl)))))))) (meets_one refl (inr refl) (meets (process_sends (change_below (change_later (change_first (change_here offer_ends))))) (process_receives (change_below (change_later (change_later (change_first (change_here (arm_gets 1 refl)))))))))
-      (goes (system_turn refl (turn_below (turn_later (turn_first (turn_here alone (stops (single_turn none ends refl) (inl refl))))))) meets_none
+      (goes (system_turn refl (turn_below (turn_later (turn_first (turn_here alone (stops (single_turn none ends refl) (inl refl))))))) (unmet refl)
       (goes (system_turn refl (turn_below (turn_later (turn_later (turn_first (turn_here alone (stops (single_turn (more (take_in refl) refl (more drops refl (more seq refl none))) (output refl) refl) (inl refl)))))))) (meets_one refl (inl refl) (meets (process_sends (change_below (change_later (change_later (change_first (change_here offer_ends)))))) (screen_receives refl)))
-      (goes (system_turn refl (turn_below (turn_later (turn_later (turn_first (turn_here alone (stops (single_turn (more drops refl (more seq_empty refl (more drops refl (more seq_empty refl none)))) ends refl) (inl refl)))))))) meets_none
+      (goes (system_turn refl (turn_below (turn_later (turn_later (turn_first (turn_here alone (stops (single_turn (more drops refl (more seq_empty refl (more drops refl (more seq_empty refl none)))) ends refl) (inl refl)))))))) (unmet refl)
       over))))))),
 )
 
@@ -105,7 +106,7 @@ long_turns =
     (passes (single_turn (more again refl (more (turns refl) refl none)) body_ends refl) refl
     (passes (single_turn (more again refl (more (turns refl) refl none)) body_ends refl) refl
     (stops (single_turn (more again refl (more (turns refl) refl none)) body_ends refl) (inl refl)))))))
-    meets_none over
+    (unmet refl) over
 
 faulted_is_still : {e : Fault} {k : List Context} {s s' : Store} {b : Left} → Step (left (Faulted e) k) s b s' → ⊥
 faulted_is_still (faults f) = elim f [ ]
@@ -130,9 +131,9 @@ both_still (skip_step (passes_skip (change_below (change_later (change_later x))
 
 pub stops_both : StopsBoth
 stops_both = (
-  goes (system_turn tt (turn_here alone (stops (single_turn none par refl) (inl refl)))) meets_none
-      (goes (system_turn tt (turn_below (turn_later (turn_first (turn_here alone (stops (single_turn none (faults (in_assign refl)) refl) (inl refl))))))) meets_none
-      (goes (system_turn tt (turn_below (turn_first (turn_here alone (stops (single_turn none (faults (in_assign refl)) refl) (inl refl)))))) meets_none
+  goes (system_turn tt (turn_here alone (stops (single_turn none par refl) (inl refl)))) (unmet refl)
+      (goes (system_turn tt (turn_below (turn_later (turn_first (turn_here alone (stops (single_turn none (faults (in_assign refl)) refl) (inl refl))))))) (unmet refl)
+      (goes (system_turn tt (turn_below (turn_first (turn_here alone (stops (single_turn none (faults (in_assign refl)) refl) (inl refl)))))) (unmet refl)
       over)),
   by_standing tt refl both_still,
 )
@@ -148,9 +149,9 @@ unlawful = (
 pub three_turns : ThreeTurns
 three_turns = (
   _,
-  goes (system_turn refl (turn_here alone (stops (single_turn (more (each refl) refl (more (turns refl) refl none)) body_ends refl) (inl refl)))) meets_none
-      (goes (system_turn refl (turn_here alone (stops (single_turn (more again refl (more (turns refl) refl none)) body_ends refl) (inl refl)))) meets_none
-      (goes (system_turn refl (turn_here alone (stops (single_turn (more again refl (more (leaves refl) refl none)) ends refl) (inl refl)))) meets_none
+  goes (system_turn refl (turn_here alone (stops (single_turn (more (each refl) refl (more (turns refl) refl none)) body_ends refl) (inl refl)))) (unmet refl)
+      (goes (system_turn refl (turn_here alone (stops (single_turn (more again refl (more (turns refl) refl none)) body_ends refl) (inl refl)))) (unmet refl)
+      (goes (system_turn refl (turn_here alone (stops (single_turn (more again refl (more (leaves refl) refl none)) ends refl) (inl refl)))) (unmet refl)
       over)),
   by_end refl refl,
 )
@@ -158,8 +159,8 @@ three_turns = (
 pub later_offer : LaterOffer
 later_offer = (
   _,
-  goes (system_turn refl (turn_here alone (stops (single_turn none par refl) (inl refl)))) meets_none
-      (goes (system_turn refl (turn_below (turn_later (turn_later (turn_first (turn_here alone (stops (single_turn (more seq refl (more (clear refl) refl (more drops refl (more seq refl (more seq refl none))))) (alt refl) refl) (inl refl)))))))) meets_none
+  goes (system_turn refl (turn_here alone (stops (single_turn none par refl) (inl refl)))) (unmet refl)
+      (goes (system_turn refl (turn_below (turn_later (turn_later (turn_first (turn_here alone (stops (single_turn (more seq refl (more (clear refl) refl (more drops refl (more seq refl (more seq refl none))))) (alt refl) refl) (inl refl)))))))) (unmet refl)
       (goes (system_turn refl (turn_below (turn_later (turn_first (turn_here alone (stops (single_turn none (output refl) refl) (inl refl)))))))
       (meets_one refl (inl refl) (meets (process_sends (change_below (change_later (change_first (change_here offer_ends))))) (process_receives (change_below (change_later (change_later (change_first (change_here (arm_gets 1 refl)))))))))
       over)),
@@ -182,14 +183,14 @@ no_join b (system_turn h (turn_below (turn_later (turn_later x)))) = elim x [ ]
 
 pub joins : Joins
 joins = (
-  goes (system_turn refl (turn_here alone (stops (single_turn none par refl) (inl refl)))) meets_none
-      (goes (system_turn refl (turn_below (turn_first (turn_here alone (stops (single_turn none ends refl) (inl refl)))))) meets_none
+  goes (system_turn refl (turn_here alone (stops (single_turn none par refl) (inl refl)))) (unmet refl)
+      (goes (system_turn refl (turn_below (turn_first (turn_here alone (stops (single_turn none ends refl) (inl refl)))))) (unmet refl)
       over),
   no_join,
   (
     _,
-    goes (system_turn refl (turn_below (turn_later (turn_first (turn_here alone (stops (single_turn none ends refl) (inl refl))))))) meets_none
-        (goes (system_turn refl (turn_here (joined (refl, (refl, tt))) (stops (single_turn none ends refl) (inl refl)))) meets_none
+    goes (system_turn refl (turn_below (turn_later (turn_first (turn_here alone (stops (single_turn none ends refl) (inl refl))))))) (unmet refl)
+        (goes (system_turn refl (turn_here (joined (refl, (refl, tt))) (stops (single_turn none ends refl) (inl refl)))) (unmet refl)
         over),
     by_end refl refl,
   ),

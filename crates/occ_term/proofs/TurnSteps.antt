@@ -80,6 +80,6 @@ chain_run {errors = errors} {kb = kb} {xs = xs} {c = c} noted h (first {b = b} {
 
 pub turns_are_steps : TurnsAreSteps
 turns_are_steps errors quantum a b [] over = stays
-turns_are_steps errors quantum a b (event n None ∷ es) (goes (system_turn {noted = noted} h t) meets_none r) = chain_run noted h (turn_in t) (turns_are_steps errors quantum _ b es r)
+turns_are_steps errors quantum a b (event n None ∷ es) (goes (system_turn {noted = noted} h t) (meets_none g) r) = chain_run noted h (turn_in t) (turns_are_steps errors quantum _ b es r)
 turns_are_steps errors quantum a b (event n (Some x) ∷ es) (goes (system_turn {noted = noted} h t) (meets_one g w m) r) = chain_run noted h (turn_in t) (steps {x = Some x} (meeting g m) (turns_are_steps errors quantum _ b es r))
 turns_are_steps errors quantum a b (event n None ∷ es) (goes (system_turn {noted = noted} h t) (meets_skip g m) r) = chain_run noted h (turn_in t) (steps {x = None} (skipping g m) (turns_are_steps errors quantum _ b es r))

@@ -205,15 +205,24 @@ enabled (each_arm over within others) ds s =
 
 -- ---- ALT: the arm that is taken
 
--- ready: SKIP, or an offer stands on the channel
-abbrev pub is_ready : (ℕ → Bool) → Enabled → Bool
-is_ready offers (SkipArm again body) = true
-is_ready offers (InputArm again c list) = offers c
+-- The rule is one for all arms that wait for a channel, or for none, which is SKIP.
 
-abbrev pub ready_arms : (ℕ → Bool) → List Enabled → List Enabled
-ready_arms offers [] = []
-ready_arms offers (a ∷ arms) = if is_ready offers a then a ∷ ready_arms offers arms else ready_arms offers arms
+-- ready: SKIP, or an offer stands on the channel
+abbrev pub is_ready_on : (ℕ → Bool) → Option ℕ → Bool
+is_ready_on offers None = true
+is_ready_on offers (Some c) = offers c
+
+abbrev pub ready_among : {A : Type 0} → (A → Option ℕ) → (ℕ → Bool) → List A → List A
+ready_among channel offers [] = []
+ready_among channel offers (a ∷ arms) = if is_ready_on offers (channel a) then a ∷ ready_among channel offers arms else ready_among channel offers arms
 
 -- the rule: the first ready one with priority, else the one with the number `pick` modulo the ready ones
+abbrev pub chosen_of : {A : Type 0} → (A → Option ℕ) → Bool → ℕ → (ℕ → Bool) → List A → Option A
+chosen_of channel pri pick offers arms = slice_get (ready_among channel offers arms) (if pri then 0 else pick % length (ready_among channel offers arms))
+
+abbrev pub waits_for : Enabled → Option ℕ
+waits_for (SkipArm again body) = None
+waits_for (InputArm again c list) = Some c
+
 abbrev pub chosen : Bool → ℕ → (ℕ → Bool) → List Enabled → Option Enabled
-chosen pri pick offers arms = slice_get (ready_arms offers arms) (if pri then 0 else pick % length (ready_arms offers arms))
+chosen pri pick offers arms = chosen_of waits_for pri pick offers arms

@@ -3,7 +3,7 @@ use Rattle.std.specs.Prelude.{Bool, IsFalse, IsTrue, List, None, Option, Some, [
 use Rattle.occ_term.specs.Messages.{Primitive, Byte, Int, Arith, Range, Convert, Shift, Count, Fault, fault, One, Counted, Message, message, PartType, OneOf, Tag, CountedArray, Variant, Fits}
 use Rattle.occ_term.specs.Terms.{Operator, Plus, Divide, Remainder, PlusModulo, MinusModulo, TimesModulo, BitXor, ShiftLeft, ShiftRight, After, Equal, BitNot, Expression, Constant, Cell, Binary, Unary, And, Conversion, Place, place, no_subscripts, then_subscript, Array, Cells, OfOne, OfMany, OfCounted, Target, Into, IntoCounted, Naming, replicator, Term, Skip, Stop, Assign, Input, Output, Seq, Par, Alt, While, Each, Clear, Terms, no_terms, then_term, Branches, no_branches, and_branch, Arms, no_arms, input_arm, declared_arms, each_arm, Reception, Plain, Tagged, no_variants, or_variant, Choices, no_choices, or_choice, each_choice, Options, no_options, or_option, or_else}
 use Rattle.occ_term.specs.Values.{Store, store_with, Evaluated, Value, Fails, span, value_of, span_of, part_of}
-use Rattle.occ_term.specs.Choosing.{Outcome, Gives, Faults, assigned, indices, indices_of, choice_of, option_of, taken, Enabled, SkipArm, InputArm, set_to, enabled, is_ready, chosen}
+use Rattle.occ_term.specs.Choosing.{Outcome, Gives, Faults, assigned, indices, indices_of, choice_of, option_of, taken, Enabled, SkipArm, InputArm, set_to, enabled, is_ready_on, waits_for, chosen, chosen_of}
 use Rattle.occ_term.specs.Steps.{Loop, WhileLoop, Doing, Do, Again, Forking, Halted, Faulted, Done, Context, Left, left, status_of, is_running, is_looping, Step}
 use Rattle.occ_term.specs.Turns.{Steps}
 use Rattle.occ_term.specs.System.{Process, process, no_processes, and_process, System, system, start, Halt, StopMode, SystemTurn, OfProcess, Screen, offers, Communication, communication}
@@ -281,12 +281,15 @@ SequencePerforms = (t : Term) (ts : Terms) (s s' s'' : Store) → Performs t s s
 
 -- ---- the rule of ready arms: with priority none that is textually earlier is ready
 
-abbrev pub IsFirstReady : (ℕ → Bool) → Enabled → List Enabled → Type 0
-IsFirstReady offers a [] = ⊥
-IsFirstReady offers a (x ∷ xs) = (IsTrue (is_ready offers x) × (x ≡ a)) ⊎ (IsFalse (is_ready offers x) × IsFirstReady offers a xs)
+module _ {A : Type 0} (channel : A → Option ℕ) (offers : ℕ → Bool) (a : A) where
+  abbrev pub IsFirstReady : List A → Type 0
+  IsFirstReady [] = ⊥
+  IsFirstReady (x ∷ xs) = (IsTrue (is_ready_on offers (channel x)) × (x ≡ a)) ⊎ (IsFalse (is_ready_on offers (channel x)) × IsFirstReady xs)
 
-abbrev pub PriorityTakesFirst : Type 0
-PriorityTakesFirst = (pick : ℕ) (offers : ℕ → Bool) (arms : List Enabled) (a : Enabled) → chosen true pick offers arms ≡ Some a → IsFirstReady offers a arms
+-- of any arms with channels
+abbrev pub PriorityTakesFirst : {A : Type 0} → (A → Option ℕ) → Type 0
+PriorityTakesFirst {A = A} channel =
+    (pick : ℕ) (offers : ℕ → Bool) (arms : List A) (a : A) → chosen_of channel true pick offers arms ≡ Some a → IsFirstReady channel offers a arms
 
 -- where a fault ends the system no turn follows it; where it stops its process alone it is no ending
 abbrev pub FaultHalts : Type 0

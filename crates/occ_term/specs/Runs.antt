@@ -10,9 +10,14 @@ use Rattle.occ_term.specs.System.{Process, process, Processes, no_processes, and
 abbrev pub TakesPart : ℕ → Communication → Type 0
 TakesPart n (communication c x y m) = (x ≡ OfProcess n) ⊎ (y ≡ OfProcess n)
 
--- after a turn of a process, at most one communication or choice of SKIP with it
+-- a communication in which the process takes part is possible, or a choice of SKIP by it
+pub data Meeting (n : ℕ) (a : System) : Type 0 where
+  by_message : {x : Communication} {b : System} → TakesPart n x → Meets a x b → Meeting n a
+  by_skip : {b : System} → PassesSkip n a b → Meeting n a
+
+-- After a turn of a process: one communication or choice of SKIP with it where one is possible, and else none.
 pub data MeetsAtMost (errors : Errors) (n : ℕ) : System → Option Communication → System → Type 0 where
-  meets_none : {a : System} → MeetsAtMost errors n a None a
+  meets_none : {a : System} → (MayGo errors (noted_in a) → Meeting n a → ⊥) → MeetsAtMost errors n a None a
   meets_one : {a b : System} {x : Communication} → MayGo errors (noted_in a) → TakesPart n x → Meets a x b → MeetsAtMost errors n a (Some x) b
   meets_skip : {a b : System} → MayGo errors (noted_in a) → PassesSkip n a b → MeetsAtMost errors n a None b
 

@@ -1,6 +1,7 @@
 //! Laws of the definitions, and small programs whose runs check them. Each function's contract is the law; its body does nothing.
 
 ghost use Rattle.occ_term.specs.StepRuns.{TurnsAreSteps};
+ghost use Rattle.occ_term.specs.Choosing.{waits_for};
 ghost use Rattle.occ_term.specs.Examples.{ArmRows, AssignRows, ChoiceRows, ChosenRows, Divides, FaultHalts, GoingHasStep, Halts, Joins, LaterOffer, LongTurns, MessageRows, PlaceRows, PriorityTakesFirst, SequencePerforms, StopsBoth, ThreeRun, ThreeTurns, Unlawful, UseRows, ValueRows, WritesA};
 
 /// Operators and conversions at their limits.
@@ -75,7 +76,7 @@ pub fn sequence_performs()
 
 /// PRI ALT never passes over an earlier arm that is ready.
 pub fn priority_takes_first()
-    ensures { PriorityTakesFirst }
+    ensures { PriorityTakesFirst waits_for }
 {}
 
 /// A turn that passes the stops of a loop.

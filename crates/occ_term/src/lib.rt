@@ -4,8 +4,8 @@
 #![tactic(auto)]
 
 pub mod fault;
-pub mod frame;
 pub mod first_rows;
+pub mod frame;
 pub mod laws;
 pub mod limit_rows;
 pub mod message;
