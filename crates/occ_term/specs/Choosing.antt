@@ -1,5 +1,5 @@
 -- Evaluation that sets cells: storing, declarations, replicators; what IF, CASE and ALT select; which arm of an ALT is taken.
-use Rattle.std.specs.Prelude.{Bool, List, None, Option, Some, [], false, if◌then◌else◌, int_le, length, nat_abs, nat_eq, nat_le, pos, replicate, slice_get, suc, true, zero, ℕ, ℤ, ◌%◌, ◌&&◌, ◌++◌, ◌+ℤ◌, ◌+◌, ◌||◌, ◌∷◌}
+use Rattle.std.specs.Prelude.{Bool, List, None, Option, Some, [], false, if◌then◌else◌, int_le, length, nat_abs, nat_eq, nat_le, pos, replicate, slice_get, suc, take, true, zero, ℕ, ℤ, ◌%◌, ◌&&◌, ◌++◌, ◌+ℤ◌, ◌+◌, ◌||◌, ◌∷◌}
 use Rattle.occ_term.specs.Messages.{Int, Range, Count, Fault, fault, Part, One, Many, Counted, Message}
 use Rattle.occ_term.specs.Terms.{Expression, Constant, Item, OfOne, Target, Into, IntoCounted, Declaration, Clearing, Naming, Replicator, replicator, Term, Arms, no_arms, skip_arm, input_arm, declared_arms, each_arm, Reception, Plain, Tagged, Variants, no_variants, or_variant, Choices, no_choices, or_choice, declared_choices, each_choice, Options, no_options, or_option, or_else}
 use Rattle.occ_term.specs.Values.{Store, store_with, Evaluated, Value, Fails, after, checked, holds, int_eq, Span, first_of, count_of, value_of, span_of, part_of, parts_of}
@@ -29,6 +29,10 @@ abbrev pub store_from : ℕ → List ℤ → Store → Store
 store_from first [] s = s
 store_from first (v ∷ vs) s = store_from (first + 1) vs (store_with s first v)
 
+-- no more than there are cells
+abbrev pub store_in : Span → List ℤ → Store → Store
+store_in cells vs s = store_from (first_of cells) (take (count_of cells) vs) s
+
 abbrev pub values_in : Part → List ℤ
 values_in (One type v) = v ∷ []
 values_in (Many type vs) = vs
@@ -49,10 +53,10 @@ spots_of (t ∷ ts) s = after (spot_of t s) (λ at. after (spots_of ts s) (λ at
 
 -- A counted message that is longer than the array is a fault; components past the count keep their values.
 abbrev pub store_part : Spot → Part → Store → Outcome Nothing
-store_part (At cells) p s = Gives nothing (store_from (first_of cells) (values_in p) s)
+store_part (At cells) p s = Gives nothing (store_in cells (values_in p) s)
 store_part (AtCounted line count array) p s =
     if nat_le (length (values_in p)) (count_of array)
-    then Gives nothing (store_from (first_of array) (values_in p) (store_with s (first_of count) (pos (length (values_in p)))))
+    then Gives nothing (store_in array (values_in p) (store_in count (pos (length (values_in p)) ∷ []) s))
     else Faults (fault Range line) s
 
 -- from left to right

@@ -1,9 +1,9 @@
 -- Rows that check the definitions by computing, and small programs.
 use Rattle.std.specs.Prelude.{Bool, IsFalse, IsTrue, List, None, Option, Some, [], false, nat_eq, neg_ℤ, pos, true, ℕ, ℤ, ◌+ℤ◌, ◌||◌, ◌∷◌, ◌≡◌, ◌⊎◌}
 use Rattle.occ_term.specs.Messages.{Primitive, Byte, Int, Arith, Range, Convert, Shift, Count, Fault, fault, One, Counted, Message, message, PartType, OneOf, Tag, CountedArray, Variant, Fits}
-use Rattle.occ_term.specs.Terms.{Operator, Plus, Divide, Remainder, PlusModulo, MinusModulo, TimesModulo, BitXor, ShiftLeft, ShiftRight, After, Equal, BitNot, Expression, Constant, Cell, Binary, Unary, And, Conversion, Place, place, no_subscripts, then_subscript, Array, Cells, OfOne, OfMany, OfCounted, Target, Into, IntoCounted, Naming, replicator, Term, Skip, Stop, Assign, Input, Output, Seq, Par, Alt, While, Each, Clear, Terms, no_terms, then_term, Branches, no_branches, and_branch, Arms, no_arms, input_arm, declared_arms, each_arm, Reception, Plain, Tagged, no_variants, or_variant, Choices, no_choices, or_choice, each_choice, Options, no_options, or_option, or_else}
+use Rattle.occ_term.specs.Terms.{Operator, Plus, Divide, Remainder, PlusModulo, MinusModulo, TimesModulo, BitXor, ShiftLeft, ShiftRight, After, Equal, BitNot, Expression, Constant, Cell, Binary, Unary, And, Conversion, Place, place, no_subscripts, then_subscript, Array, Cells, Text, Item, OfOne, OfMany, OfCounted, Target, Into, IntoCounted, Naming, Replicator, replicator, Term, Skip, Stop, Assign, Input, Output, Seq, Par, Alt, If, While, Each, Clear, Local, Terms, no_terms, then_term, Branches, no_branches, and_branch, Arms, no_arms, input_arm, declared_arms, each_arm, Reception, Plain, Tagged, no_variants, or_variant, Choices, no_choices, or_choice, each_choice, Options, no_options, or_option, or_else}
 use Rattle.occ_term.specs.Values.{Store, store_with, Evaluated, Value, Fails, span, value_of, span_of, part_of}
-use Rattle.occ_term.specs.Choosing.{Outcome, Gives, Faults, assigned, indices, indices_of, choice_of, option_of, taken, Enabled, SkipArm, InputArm, set_to, enabled, is_ready_on, waits_for, chosen, chosen_of}
+use Rattle.occ_term.specs.Choosing.{Outcome, Gives, Faults, assigned, declared, indices, indices_of, choice_of, option_of, taken, Enabled, SkipArm, InputArm, set_to, enabled, is_ready_on, waits_for, chosen, chosen_of}
 use Rattle.occ_term.specs.Steps.{Loop, WhileLoop, Doing, Do, Again, Forking, Halted, Faulted, Done, Context, Left, left, status_of, is_running, is_looping, Step}
 use Rattle.occ_term.specs.Turns.{Steps}
 use Rattle.occ_term.specs.System.{Process, process, no_processes, and_process, System, system, start, Halt, StopMode, SystemTurn, OfProcess, Screen, offers, Communication, communication}
@@ -153,11 +153,16 @@ MessageRows =
     × Fits (CountedArray Int Byte) (bytes (pos 8 ∷ []))
     × Fits (Variant (tag_of 100 (OneOf Int ∷ []) ∷ tag_of 113 [] ∷ [])) (message (Some 1) [])
 
--- a, b := b, a, and v[i], v[j] := 1, 2 with i = j: the right-hand value stays
+abbrev pub three_bytes : Item
+three_bytes = OfMany Byte (Text (pos 7 ∷ pos 8 ∷ pos 9 ∷ []))
+
+-- a, b := b, a, and v[i], v[j] := 1, 2 with i = j: the right-hand value stays; no value goes past the last cell of a target
 abbrev pub AssignRows : Type 0
 AssignRows =
     (cell_in 1 (assigned (Into (place 1 0 [] no_subscripts) ∷ Into (place 1 1 [] no_subscripts) ∷ []) (OfOne Int (Cell 1) ∷ OfOne Int (Cell 0) ∷ []) (store_with zeros 0 (pos 5))) ≡ pos 5)
     × (cell_in 4 (assigned (Into (place 1 4 (2 ∷ []) (then_subscript (Cell 0) no_subscripts)) ∷ Into (place 1 4 (2 ∷ []) (then_subscript (Cell 1) no_subscripts)) ∷ []) (OfOne Int (number (pos 1)) ∷ OfOne Int (number (pos 2)) ∷ []) zeros) ≡ pos 2)
+    × (cell_in 1 (assigned (Into (place 1 0 (2 ∷ []) no_subscripts) ∷ []) (three_bytes ∷ []) zeros) ≡ pos 8)
+    × (cell_in 2 (assigned (Into (place 1 0 (2 ∷ []) no_subscripts) ∷ []) (three_bytes ∷ []) zeros) ≡ pos 0)
 
 -- ---- use: PAR a[0] := a[1] beside a[i] := 2, for [2][2]INT a
 
@@ -166,6 +171,15 @@ row_of e = place 4 0 (2 ∷ 2 ∷ []) (then_subscript e no_subscripts)
 
 abbrev pub copies_row : Term
 copies_row = Assign (Into (row_of (number (pos 0))) ∷ []) (OfMany Int (Cells (row_of (number (pos 1)))) ∷ [])
+
+abbrev pub two_of_three : Item
+two_of_three = OfCounted Byte 1 (number (pos 2)) (Text (pos 7 ∷ pos 8 ∷ pos 9 ∷ []))
+
+abbrev pub two_values : Replicator
+two_values = replicator 1 0 (number (pos 0)) (number (pos 2))
+
+abbrev pub single : ℕ → ℕ → Place
+single line first = place line first [] no_subscripts
 
 abbrev pub UseRows : Type 0
 UseRows =
@@ -179,11 +193,16 @@ UseRows =
     × ((size_of copies_row).depth ≡ 3)
     × ((size_of (Seq (then_term (Clear 0 4) (then_term (Each (replicator 2 4 (number (pos 0)) (number (pos 2))) Skip) no_terms)))).cells ≡ 5)
     × (cells_of_item (OfMany Int (Cells (row_of (number (pos 1))))) ≡ 2)
+    × ((uses_of (Local 5 two_of_three)).writes 7 ≡ true)
+    × ((uses_of (Local 5 two_of_three)).writes 8 ≡ false)
+    × (cell_in 6 (declared (Naming 5 two_of_three) zeros) ≡ pos 8)
+    × (cell_in 7 (declared (Naming 5 two_of_three) zeros) ≡ pos 0)
+    × ((size_of (Each two_values Skip)).nodes ≡ 5)
+    × ((size_of (If (each_choice two_values no_choices no_choices))).nodes ≡ 4)
+    × ((size_of (Alt false (each_arm two_values no_arms no_arms))).depth ≡ 3)
+    × ((size_of (Input (single 1 3) count_and_two)).nodes ≡ 2)
 
 -- ---- a program: screen ! 'A'
-
-abbrev pub single : ℕ → ℕ → Place
-single line first = place line first [] no_subscripts
 
 abbrev pub letter_a : Message
 letter_a = message None (One Byte (pos 65) ∷ [])

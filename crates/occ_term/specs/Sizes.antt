@@ -1,5 +1,7 @@
 -- How many nodes a term has, how far they stand within one another, and how many cells it declares.
--- Nodes are the terms, expressions, targets, choices, arms, options and variants; a declaration is a term.
+-- A node is each term, of which each declaration is one; each expression, of which a whole array is one, also where it is named
+-- or output; each target, of which `count::array` is one; each choice, arm, option and variant; each constant of an option; and
+-- each replicator. Subscripts are expressions. What a replicator replicates stands within it.
 -- Cells are the components of declared variables and of named values, and each index.
 use Rattle.std.specs.Prelude.{List, [], max, ℕ, ℤ, ◌+◌, ◌∷◌}
 use Rattle.occ_term.specs.Terms.{Expression, Constant, Cell, Component, Letter, Binary, Unary, And, Or, Conversion, Place, place, Subscripts, no_subscripts, then_subscript, Array, Cells, Text, Item, OfOne, OfMany, OfCounted, Target, Into, IntoCounted, Declaration, Clearing, Naming, Replicator, replicator, Term, Skip, Stop, Assign, Input, Output, VariantInput, Seq, Par, Alt, If, Case, While, Each, Clear, Local, Terms, no_terms, then_term, Branches, no_branches, and_branch, Arms, no_arms, skip_arm, input_arm, declared_arms, each_arm, Reception, Plain, Tagged, Variants, no_variants, or_variant, Choices, no_choices, or_choice, declared_choices, each_choice, Options, no_options, or_option, or_else}
@@ -56,10 +58,10 @@ abbrev pub size_of_items : List Item → Size
 size_of_items [] = no_size
 size_of_items (i ∷ is) = beside (size_of_item i) (size_of_items is)
 
--- `count::array` is two targets
+-- `count::array` is one target round its two places
 abbrev pub size_of_target : Target → Size
 size_of_target (Into p) = node (size_of_place p)
-size_of_target (IntoCounted line n a) = beside (node (size_of_place n)) (node (size_of_place a))
+size_of_target (IntoCounted line n a) = node (beside (size_of_place n) (size_of_place a))
 
 abbrev pub size_of_targets : List Target → Size
 size_of_targets [] = no_size
@@ -73,8 +75,9 @@ abbrev pub size_of_declarations : List Declaration → Size
 size_of_declarations [] = no_size
 size_of_declarations (d ∷ ds) = beside (size_of_declaration d) (size_of_declarations ds)
 
-abbrev pub size_of_replicator : Replicator → Size
-size_of_replicator (replicator line index base count) = beside (cells 1) (beside (size_of_expression base) (size_of_expression count))
+-- with what it replicates
+abbrev pub size_of_replicator : Replicator → Size → Size
+size_of_replicator (replicator line index base count) within = node (beside (cells 1) (beside (size_of_expression base) (beside (size_of_expression count) within)))
 
 abbrev pub size_of_constants : List ℤ → Size
 size_of_constants [] = no_size
@@ -94,7 +97,7 @@ abbrev mutual
   size_of (If cs) = node (size_of_choices cs)
   size_of (Case e os) = node (beside (size_of_expression e) (size_of_options os))
   size_of (While e b) = node (beside (size_of_expression e) (size_of b))
-  size_of (Each r b) = node (beside (size_of_replicator r) (size_of b))
+  size_of (Each r b) = node (size_of_replicator r (size_of b))
   size_of (Clear first count) = size_of_declaration (Clearing first count)
   size_of (Local first value) = size_of_declaration (Naming first value)
 
@@ -106,13 +109,12 @@ abbrev mutual
   size_of_branches no_branches = no_size
   size_of_branches (and_branch n t bs) = beside (size_of t) (size_of_branches bs)
 
-  -- an arm or choice under a replicator stands within it, and the replicator is one more
   pub size_of_arms : Arms → Size
   size_of_arms no_arms = no_size
   size_of_arms (skip_arm e t arms) = beside (node (beside (size_of_expression e) (size_of t))) (size_of_arms arms)
   size_of_arms (input_arm e c list arms) = beside (node (beside (size_of_expression e) (beside (size_of_place c) (size_of_reception list)))) (size_of_arms arms)
   size_of_arms (declared_arms d arms others) = beside (size_of_declaration d) (beside (size_of_arms arms) (size_of_arms others))
-  size_of_arms (each_arm r arms others) = beside (node (beside (size_of_replicator r) (size_of_arms arms))) (size_of_arms others)
+  size_of_arms (each_arm r arms others) = beside (size_of_replicator r (size_of_arms arms)) (size_of_arms others)
 
   pub size_of_reception : Reception → Size
   size_of_reception (Plain ts t) = beside (size_of_targets ts) (size_of t)
@@ -126,9 +128,8 @@ abbrev mutual
   size_of_choices no_choices = no_size
   size_of_choices (or_choice e t cs) = beside (node (beside (size_of_expression e) (size_of t))) (size_of_choices cs)
   size_of_choices (declared_choices d cs others) = beside (size_of_declaration d) (beside (size_of_choices cs) (size_of_choices others))
-  size_of_choices (each_choice r cs others) = beside (node (beside (size_of_replicator r) (size_of_choices cs))) (size_of_choices others)
+  size_of_choices (each_choice r cs others) = beside (size_of_replicator r (size_of_choices cs)) (size_of_choices others)
 
-  -- the constants of an option are expressions
   pub size_of_options : Options → Size
   size_of_options no_options = no_size
   size_of_options (or_option constants ds t os) = beside (node (beside (size_of_constants constants) (beside (size_of_declarations ds) (size_of t)))) (size_of_options os)

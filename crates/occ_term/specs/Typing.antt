@@ -1,8 +1,8 @@
 -- The types of expressions, items and targets, over the types of the cells.
-use Rattle.std.specs.Prelude.{Bool, IsTrue, List, [], false, length, true, ℕ, ℤ, ◌∷◌, ◌≡◌}
+use Rattle.std.specs.Prelude.{Bool, IsTrue, List, [], false, length, true, ℕ, ◌∷◌, ◌≡◌}
 use Rattle.occ_term.specs.Messages.{Primitive, Boolean, Byte, Int, is_of, PartType, OneOf, ManyOf, CountedOf, product, AllOf}
 use Rattle.occ_term.specs.Terms.{Operator, Plus, Minus, Times, Divide, Remainder, PlusModulo, MinusModulo, TimesModulo, BitAnd, BitOr, BitXor, ShiftLeft, ShiftRight, After, Equal, Unequal, Less, Greater, AtMost, AtLeast, Negate, BitNot, Not, Expression, Constant, Cell, Component, Letter, Binary, Unary, And, Or, Conversion, Place, place, Subscripts, no_subscripts, then_subscript, Array, Cells, Text, Item, OfOne, OfMany, OfCounted, Target, Into, IntoCounted}
-use Rattle.occ_term.specs.Values.{Store, Value, Span, span, value_of, TypedOn}
+use Rattle.occ_term.specs.Values.{Span, span}
 use Rattle.occ_term.specs.Uses.{numbers_in}
 
 abbrev pub is_number : Primitive → Bool
@@ -124,7 +124,7 @@ abbrev mutual
   HasType types (Or a b) t = (t ≡ Boolean) × HasType types a Boolean × HasType types b Boolean
   HasType types (Conversion to line a) t = (t ≡ to) × (from : Primitive) × HasType types a from
 
-  -- a place of that component type whose sizes, after its subscripts, are these; no size is 0
+  -- a place of that component type whose sizes, after its subscripts, are these
   pub PlaceHas : (ℕ → Primitive) → Place → Primitive → List ℕ → Type 0
   PlaceHas types (place line first sizes subs) t rest = CellsHave types (span first (product sizes)) t × SubscriptsLeave types subs sizes rest
 
@@ -156,7 +156,3 @@ TargetHas types (Into p) (CountedOf count type) = ⊥
 TargetHas types (IntoCounted line n a) (OneOf type) = ⊥
 TargetHas types (IntoCounted line n a) (ManyOf sizes type) = ⊥
 TargetHas types (IntoCounted line n a) (CountedOf count type) = PlaceHas types n count [] × ((size : ℕ) × PlaceHas types a type (size ∷ []))
-
--- what the definitions promise of typed expressions (stated here, and not yet proved)
-abbrev pub TypedValues : Type 0
-TypedValues = (types : ℕ → Primitive) (s : Store) (e : Expression) (t : Primitive) (v : ℤ) → TypedOn (λ c. true) types s → HasType types e t → value_of e s ≡ Value v → IsTrue (is_of t v)

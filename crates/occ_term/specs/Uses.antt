@@ -136,11 +136,15 @@ components no_subscripts sizes = product sizes
 components (then_subscript e es) [] = 1
 components (then_subscript e es) (n ∷ ns) = components es ns
 
+abbrev pub components_of : Array → ℕ
+components_of (Cells (place line first sizes subs)) = components subs sizes
+components_of (Text bytes) = length bytes
+
+-- the cells of a named value: of a counted one as many as its array has
 abbrev pub cells_of_item : Item → ℕ
 cells_of_item (OfOne type e) = 1
-cells_of_item (OfMany type (Cells (place line first sizes subs))) = components subs sizes
-cells_of_item (OfMany type (Text bytes)) = length bytes
-cells_of_item (OfCounted type line n a) = 0
+cells_of_item (OfMany type a) = components_of a
+cells_of_item (OfCounted type line n a) = components_of a
 
 abbrev pub uses_of_declaration : Declaration → Uses
 uses_of_declaration (Clearing first count) = writing (numbers_in (span first count))
