@@ -4,7 +4,7 @@ use Rattle.occ_term.specs.Messages.{Fault}
 use Rattle.occ_term.specs.Terms.{Skip, Stop, Assign, Input, Output, VariantInput, Seq, Par, Alt, If, Case, While, Each, Clear, Local, no_terms, then_term, no_branches, and_branch, Term, Target, Item, Place, Variants, Arms, Replicator, Naming, Plain, Tagged}
 use Rattle.occ_term.specs.Values.{Store, Evaluated, Value, Fails}
 use Rattle.occ_term.specs.Choosing.{Outcome, Gives, Faults, Nothing, nothing, assigned, declared, choice_of, option_of, enabled, Enabled, Indices, indices_of, index_of}
-use Rattle.occ_term.specs.Steps.{Loop, WhileLoop, Doing, Do, Turning, Again, Offering, Awaiting, Choosing, Taking, Forking, Halted, Faulted, Done, Context, Then, Within, Left, left, offer_of, await_of, choosing, or_stop, each_loop, Turned, turned, turn_of, received_by, in_assign, in_local, in_output, in_input, in_variant, in_alt, in_take, in_if, in_case, in_each, in_loop, Step, ends, stop, assign, clear, local, output, input, variant, alt, take_in, seq_empty, seq, drops, par_empty, par, if_step, case, while, each, turns, leaves, body_ends, again, faults}
+use Rattle.occ_term.specs.Steps.{Loop, WhileLoop, Doing, Do, Turning, Again, Offering, Awaiting, Choosing, Taking, Forking, Halted, Faulted, Done, Context, Then, Within, Left, left, offer_of, await_of, choosing, or_stop, each_loop, Turned, turned, turn_of, taken_by, in_assign, in_local, in_output, in_input, in_variant, in_alt, in_take, in_if, in_case, in_each, in_loop, Step, ends, stop, assign, clear, local, output, input, variant, alt, take_in, seq_empty, seq, drops, par_empty, par, if_step, case, while, each, turns, leaves, body_ends, again, faults}
 use Rattle.occ_term.specs.Examples.{IsGoing}
 
 abbrev Next : Doing → List Context → Store → Type 0
@@ -79,7 +79,7 @@ going (Again l) k s h = (left (Turning l) k, s, again)
 going (Offering c m) k s h = cc
 going (Awaiting c list) k s h = cc
 going (Choosing pri arms) k s h = cc
-going (Taking ds list m) k s h = takes k s (Taking ds list m) (received_by ds list m s) (λ t s' q. take_in q) (λ e s' q. faults (in_take q))
+going (Taking xs what) k s h = takes k s (Taking xs what) (taken_by xs what s) (λ t s' q. take_in q) (λ e s' q. faults (in_take q))
 going (Forking bs) k s h = cc
 going Halted k s h = cc
 going (Faulted e) k s h = cc

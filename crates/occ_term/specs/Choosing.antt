@@ -1,7 +1,7 @@
 -- Evaluation that sets cells: storing, declarations, replicators; what IF, CASE and ALT select; which arm of an ALT is taken.
 use Rattle.std.specs.Prelude.{Bool, List, None, Option, Some, [], false, if◌then◌else◌, int_le, length, nat_abs, nat_eq, nat_le, pos, replicate, slice_get, suc, take, true, zero, ℕ, ℤ, ◌%◌, ◌&&◌, ◌++◌, ◌+ℤ◌, ◌+◌, ◌||◌, ◌∷◌}
-use Rattle.occ_term.specs.Messages.{Int, Range, Count, Fault, fault, Part, One, Many, Counted, Message}
-use Rattle.occ_term.specs.Terms.{Expression, Constant, Item, OfOne, Target, Into, IntoCounted, Declaration, Clearing, Naming, Replicator, replicator, Term, Arms, no_arms, skip_arm, input_arm, declared_arms, each_arm, Reception, Plain, Tagged, Variants, no_variants, or_variant, Choices, no_choices, or_choice, declared_choices, each_choice, Options, no_options, or_option, or_else}
+use Rattle.occ_term.specs.Messages.{Range, Count, Fault, fault, Part, One, Many, Counted, Message}
+use Rattle.occ_term.specs.Terms.{Expression, Item, Target, Into, IntoCounted, Declaration, Clearing, Naming, Replicator, replicator, Term, Arms, no_arms, skip_arm, input_arm, declared_arms, each_arm, Reception, Plain, Tagged, Variants, no_variants, or_variant, Choices, no_choices, or_choice, declared_choices, each_choice, Options, no_options, or_option, or_else}
 use Rattle.occ_term.specs.Values.{Store, store_with, Evaluated, Value, Fails, after, checked, holds, int_eq, Span, first_of, count_of, value_of, span_of, part_of, parts_of}
 
 -- What was set before a fault stays set.
@@ -168,10 +168,24 @@ taken (Tagged vs) m s = tag_taken m.tag m.items vs s
 
 -- ---- ALT: the enabled arms at the stop
 
--- an arm with a true Boolean, its channel, and the indices and declarations that its rest sets again
+-- what the rest of an arm sets again: an index of a replicator round it, or a declaration
+pub data Setting : Type 0 where
+  IndexTo : (cell : ℕ) (value : ℤ) → Setting
+  DeclaredAgain : (declaration : Declaration) → Setting
+
+abbrev pub set_one : Setting → Store → Outcome Nothing
+set_one (IndexTo cell v) s = Gives nothing (store_with s cell v)
+set_one (DeclaredAgain d) s = declared d s
+
+-- from the outermost
+abbrev pub set_again : List Setting → Store → Outcome Nothing
+set_again [] s = Gives nothing s
+set_again (x ∷ xs) s = then_in (set_one x s) (λ y s'. set_again xs s')
+
+-- an arm with a true Boolean, its channel, and what its rest sets again
 pub data Enabled : Type 0 where
-  SkipArm : (again : List Declaration) (body : Term) → Enabled
-  InputArm : (again : List Declaration) (channel : ℕ) (list : Reception) → Enabled
+  SkipArm : (again : List Setting) (body : Term) → Enabled
+  InputArm : (again : List Setting) (channel : ℕ) (list : Reception) → Enabled
 
 abbrev pub and_arm : Enabled → Outcome (List Enabled) → Outcome (List Enabled)
 and_arm a (Gives arms s) = Gives (a ∷ arms) s
@@ -180,20 +194,17 @@ and_arm a (Faults e s) = Faults e s
 abbrev pub and_arms : Outcome (List Enabled) → (Store → Outcome (List Enabled)) → Outcome (List Enabled)
 and_arms first others = then_in first (λ arms s. then_in (others s) (λ arms' s'. Gives (arms ++ arms') s'))
 
-abbrev pub set_to : ℕ → ℤ → Declaration
-set_to index v = Naming index (OfOne Int (Constant v))
-
 -- the arms within, for the index set to base, base + 1 and so on
-abbrev pub each_over : (List Declaration → Store → Outcome (List Enabled)) → ℕ → ℤ → ℕ → List Declaration → Store → Outcome (List Enabled)
+abbrev pub each_over : (List Setting → Store → Outcome (List Enabled)) → ℕ → ℤ → ℕ → List Setting → Store → Outcome (List Enabled)
 each_over within index v zero ds s = Gives [] s
 each_over within index v (suc n) ds s =
-    and_arms (within (ds ++ set_to index v ∷ []) (store_with s index v)) (λ s'. each_over within index (v +ℤ pos 1) n ds s')
+    and_arms (within (ds ++ IndexTo index v ∷ []) (store_with s index v)) (λ s'. each_over within index (v +ℤ pos 1) n ds s')
 
-abbrev pub arms_over : (List Declaration → Store → Outcome (List Enabled)) → ℕ → Indices → List Declaration → Store → Outcome (List Enabled)
+abbrev pub arms_over : (List Setting → Store → Outcome (List Enabled)) → ℕ → Indices → List Setting → Store → Outcome (List Enabled)
 arms_over within index (indices base count) ds s = each_over within index base count ds s
 
--- In textual order; `ds` are the indices and declarations round these arms. The channel's subscript only where the Boolean is true.
-abbrev pub enabled : Arms → List Declaration → Store → Outcome (List Enabled)
+-- In textual order; `ds` are the settings of what stands round these arms. The channel's subscript only where the Boolean is true.
+abbrev pub enabled : Arms → List Setting → Store → Outcome (List Enabled)
 enabled no_arms ds s = Gives [] s
 enabled (skip_arm test body others) ds s =
     then_in (in_store (value_of test s) s) (λ v s'. if holds v then and_arm (SkipArm ds body) (enabled others ds s') else enabled others ds s')
@@ -203,7 +214,7 @@ enabled (input_arm test channel list others) ds s =
     then then_in (in_store (span_of channel s') s') (λ c s''. and_arm (InputArm ds (first_of c) list) (enabled others ds s''))
     else enabled others ds s')
 enabled (declared_arms d within others) ds s =
-    and_arms (then_in (declared d s) (λ x s'. enabled within (ds ++ d ∷ []) s')) (λ s'. enabled others ds s')
+    and_arms (then_in (declared d s) (λ x s'. enabled within (ds ++ DeclaredAgain d ∷ []) s')) (λ s'. enabled others ds s')
 enabled (each_arm over within others) ds s =
     and_arms (then_in (in_store (indices_of over s) s) (λ is s'. arms_over (enabled within) (index_of over) is ds s')) (λ s'. enabled others ds s')
 

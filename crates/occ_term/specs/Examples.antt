@@ -3,7 +3,7 @@ use Rattle.std.specs.Prelude.{Bool, IsFalse, IsTrue, List, None, Option, Some, [
 use Rattle.occ_term.specs.Messages.{Primitive, Byte, Int, Arith, Range, Convert, Shift, Count, Fault, fault, One, Counted, Message, message, PartType, OneOf, Tag, CountedArray, Variant, Fits}
 use Rattle.occ_term.specs.Terms.{Operator, Plus, Divide, Remainder, PlusModulo, MinusModulo, TimesModulo, BitXor, ShiftLeft, ShiftRight, After, Equal, BitNot, Expression, Constant, Cell, Binary, Unary, And, Conversion, Place, place, no_subscripts, then_subscript, Array, Cells, Text, Item, OfOne, OfMany, OfCounted, Target, Into, IntoCounted, Naming, Replicator, replicator, Term, Skip, Stop, Assign, Input, Output, Seq, Par, Alt, If, While, Each, Clear, Local, Terms, no_terms, then_term, Branches, no_branches, and_branch, Arms, no_arms, input_arm, declared_arms, each_arm, Reception, Plain, Tagged, no_variants, or_variant, Choices, no_choices, or_choice, each_choice, Options, no_options, or_option, or_else}
 use Rattle.occ_term.specs.Values.{Store, store_with, Evaluated, Value, Fails, span, value_of, span_of, part_of}
-use Rattle.occ_term.specs.Choosing.{Outcome, Gives, Faults, assigned, declared, indices, indices_of, choice_of, option_of, taken, Enabled, SkipArm, InputArm, set_to, enabled, is_ready_on, waits_for, chosen, chosen_of}
+use Rattle.occ_term.specs.Choosing.{Outcome, Gives, Faults, assigned, declared, indices, indices_of, choice_of, option_of, taken, Enabled, IndexTo, SkipArm, InputArm, enabled, is_ready_on, waits_for, chosen, chosen_of}
 use Rattle.occ_term.specs.Steps.{Loop, WhileLoop, Doing, Do, Again, Forking, Halted, Faulted, Done, Context, Left, left, status_of, is_running, is_looping, Step}
 use Rattle.occ_term.specs.Turns.{Steps}
 use Rattle.occ_term.specs.System.{Process, process, no_processes, and_process, System, system, start, Halt, StopMode, SystemTurn, OfProcess, Screen, offers, Communication, communication}
@@ -106,7 +106,7 @@ fault_in (Faults e s) = Some e
 abbrev pub ArmRows : Type 0
 ArmRows =
     (enabled closed_arms [] zeros ≡ Gives [] (store_with zeros 7 (pos 9)))
-    × (arms_in (enabled copied_arms [] zeros) ≡ InputArm (set_to 0 (pos 0) ∷ []) 3 (Plain [] Skip) ∷ InputArm (set_to 0 (pos 1) ∷ []) 4 (Plain [] Skip) ∷ [])
+    × (arms_in (enabled copied_arms [] zeros) ≡ InputArm (IndexTo 0 (pos 0) ∷ []) 3 (Plain [] Skip) ∷ InputArm (IndexTo 0 (pos 1) ∷ []) 4 (Plain [] Skip) ∷ [])
     × (cell_in 0 (enabled copied_arms [] zeros) ≡ pos 1)
 
 -- IF i = 0 FOR 3, with the choice i = 2; the index stays where it was found

@@ -1,14 +1,19 @@
 -- What is left of a process, and its private steps: a constructor for each row of the chapters on processes.
 use Rattle.std.specs.Prelude.{Bool, List, None, Option, Some, [], false, if◌then◌else◌, pos, suc, true, zero, ℕ, ℤ, ◌+ℤ◌, ◌∷◌, ◌≡◌}
 use Rattle.occ_term.specs.Messages.{Fault, Message, message}
-use Rattle.occ_term.specs.Terms.{Expression, Place, Item, Target, Declaration, Clearing, Naming, Replicator, Term, Skip, Stop, Assign, Input, Output, VariantInput, Seq, Par, Alt, If, Case, While, Each, Clear, Local, Terms, no_terms, then_term, Branches, no_branches, and_branch, Arms, Reception, Plain, Tagged, Variants, Choices, Options}
+use Rattle.occ_term.specs.Terms.{Expression, Place, Item, Target, Clearing, Naming, Replicator, Term, Skip, Stop, Assign, Input, Output, VariantInput, Seq, Par, Alt, If, Case, While, Each, Clear, Local, Terms, no_terms, then_term, Branches, no_branches, and_branch, Arms, Reception, Plain, Tagged, Variants, Choices, Options}
 use Rattle.occ_term.specs.Values.{Store, store_with, Evaluated, Value, Fails, after, holds, first_of, value_of, span_of, parts_of}
-use Rattle.occ_term.specs.Choosing.{Outcome, Gives, Faults, then_in, in_store, nothing, assigned, declared, all_declared, Indices, indices, indices_of, index_of, choice_of, option_of, taken, Enabled, enabled}
+use Rattle.occ_term.specs.Choosing.{Outcome, Gives, Faults, then_in, in_store, nothing, assigned, declared, Indices, indices, indices_of, index_of, choice_of, option_of, taken, Setting, set_again, Enabled, enabled}
 
 -- a loop: its test, or the index, its next value and how many values are left
 pub data Loop : Type 0 where
   WhileLoop : (test : Expression) (body : Term) → Loop
   EachLoop : (index : ℕ) (next : ℤ) (count : ℕ) (body : Term) → Loop
+
+-- what was taken: an arm with SKIP, or a message by a list
+pub data Taken : Type 0 where
+  SkipTaken : (body : Term) → Taken
+  MessageTaken : (list : Reception) (received : Message) → Taken
 
 -- the part being done: a term, or a mark of the model
 pub data Doing : Type 0 where
@@ -18,7 +23,7 @@ pub data Doing : Type 0 where
   Offering : (channel : ℕ) (offered : Message) → Doing
   Awaiting : (channel : ℕ) (list : Reception) → Doing
   Choosing : (pri : Bool) (arms : List Enabled) → Doing
-  Taking : (again : List Declaration) (list : Reception) (received : Message) → Doing
+  Taking : (again : List Setting) (what : Taken) → Doing
   Forking : (branches : Branches) → Doing
   Halted : Doing
   Faulted : (fault : Fault) → Doing
@@ -53,7 +58,7 @@ status_of (Again l) = Loops
 status_of (Offering c m) = Offers c m
 status_of (Awaiting c list) = Awaits c
 status_of (Choosing pri arms) = Chooses pri arms
-status_of (Taking again list m) = Runs
+status_of (Taking again what) = Runs
 status_of (Forking bs) = Forks bs
 status_of Halted = Stands
 status_of (Faulted e) = FailsBy e
@@ -125,9 +130,13 @@ turn_of (WhileLoop test body) s = then_in (in_store (value_of test s) s) (λ v s
 turn_of (EachLoop index v zero body) s = Gives None s
 turn_of (EachLoop index v (suc n) body) s = Gives (Some (turned body (EachLoop index (v +ℤ pos 1) n body))) (store_with s index v)
 
--- the received message, after the indices and declarations of an ALT's arm are set again
-abbrev pub received_by : List Declaration → Reception → Message → Store → Outcome (Option Term)
-received_by again list m s = then_in (all_declared again s) (λ x s'. taken list m s')
+abbrev pub after_taken : Taken → Store → Outcome (Option Term)
+after_taken (SkipTaken body) s = Gives (Some body) s
+after_taken (MessageTaken list m) s = taken list m s
+
+-- after the settings of an ALT's arm
+abbrev pub taken_by : List Setting → Taken → Store → Outcome (Option Term)
+taken_by again what s = then_in (set_again again s) (λ x s'. after_taken what s')
 
 -- ---- private steps
 
@@ -139,7 +148,7 @@ pub data FaultsIn : Doing → Store → Fault → Store → Type 0 where
   in_input : {s : Store} {e : Fault} {c : Place} {ts : List Target} → await_of c (Plain ts Skip) s ≡ Fails e → FaultsIn (Do (Input c ts)) s e s
   in_variant : {s : Store} {e : Fault} {c : Place} {vs : Variants} → await_of c (Tagged vs) s ≡ Fails e → FaultsIn (Do (VariantInput c vs)) s e s
   in_alt : {s s' : Store} {e : Fault} {pri : Bool} {arms : Arms} → enabled arms [] s ≡ Faults e s' → FaultsIn (Do (Alt pri arms)) s e s'
-  in_take : {s s' : Store} {e : Fault} {ds : List Declaration} {list : Reception} {m : Message} → received_by ds list m s ≡ Faults e s' → FaultsIn (Taking ds list m) s e s'
+  in_take : {s s' : Store} {e : Fault} {again : List Setting} {what : Taken} → taken_by again what s ≡ Faults e s' → FaultsIn (Taking again what) s e s'
   in_if : {s s' : Store} {e : Fault} {cs : Choices} → choice_of cs s ≡ Faults e s' → FaultsIn (Do (If cs)) s e s'
   in_case : {s s' : Store} {e : Fault} {x : Expression} {os : Options} → option_of x os s ≡ Faults e s' → FaultsIn (Do (Case x os)) s e s'
   in_each : {s : Store} {e : Fault} {r : Replicator} {b : Term} → indices_of r s ≡ Fails e → FaultsIn (Do (Each r b)) s e s
@@ -156,7 +165,7 @@ pub data Step : Left → Store → Left → Store → Type 0 where
   input : {s : Store} {k : List Context} {d : Doing} {c : Place} {ts : List Target} → await_of c (Plain ts Skip) s ≡ Value d → Step (left (Do (Input c ts)) k) s (left d k) s
   variant : {s : Store} {k : List Context} {d : Doing} {c : Place} {vs : Variants} → await_of c (Tagged vs) s ≡ Value d → Step (left (Do (VariantInput c vs)) k) s (left d k) s
   alt : {s s' : Store} {k : List Context} {pri : Bool} {arms : Arms} {open_arms : List Enabled} → enabled arms [] s ≡ Gives open_arms s' → Step (left (Do (Alt pri arms)) k) s (left (choosing pri open_arms) k) s'
-  take_in : {s s' : Store} {k : List Context} {ds : List Declaration} {list : Reception} {m : Message} {t : Option Term} → received_by ds list m s ≡ Gives t s' → Step (left (Taking ds list m) k) s (left (Do (or_stop t)) k) s'
+  take_in : {s s' : Store} {k : List Context} {again : List Setting} {what : Taken} {t : Option Term} → taken_by again what s ≡ Gives t s' → Step (left (Taking again what) k) s (left (Do (or_stop t)) k) s'
   seq_empty : {s : Store} {k : List Context} → Step (left (Do (Seq no_terms)) k) s (left (Do Skip) k) s
   seq : {s : Store} {k : List Context} {t : Term} {ts : Terms} → Step (left (Do (Seq (then_term t ts))) k) s (left (Do t) (Then ts ∷ k)) s
   -- a first part Skip is dropped

@@ -1,10 +1,10 @@
 -- The system: the keyboard, the main tree of processes, the screen and the error sink, over one store.
 use Rattle.std.specs.Prelude.{Bool, IsTrue, List, None, Some, [], false, nat_eq, pos, ℕ, ⊤, ◌++◌, ◌||◌, ◌∷◌, ◌≡◌}
 use Rattle.occ_term.specs.Messages.{Byte, Fault, One, Message, message}
-use Rattle.occ_term.specs.Terms.{Declaration, Term, Skip, Seq, Branches, no_branches, and_branch, Reception, declared_before}
+use Rattle.occ_term.specs.Terms.{Term, Skip, Branches, no_branches, and_branch, Reception}
 use Rattle.occ_term.specs.Values.{Store}
-use Rattle.occ_term.specs.Choosing.{Enabled, SkipArm, InputArm, chosen}
-use Rattle.occ_term.specs.Steps.{Do, Offering, Awaiting, Choosing, Taking, Forking, Context, Left, left, Status, Runs, Loops, Offers, Awaits, Chooses, Forks, Stands, FailsBy, HasEnded, status, is_ended}
+use Rattle.occ_term.specs.Choosing.{Setting, Enabled, SkipArm, InputArm, chosen}
+use Rattle.occ_term.specs.Steps.{SkipTaken, MessageTaken, Do, Offering, Awaiting, Choosing, Taking, Forking, Context, Left, left, Status, Runs, Loops, Offers, Awaits, Chooses, Forks, Stands, FailsBy, HasEnded, status, is_ended}
 use Rattle.occ_term.specs.Turns.{Turn}
 
 -- a process has its number, what is left of it, and its live branches
@@ -140,12 +140,12 @@ pub data GivesOn (c : ℕ) (m : Message) : Left → Left → Type 0 where
 
 -- an input has the message, or an ALT whose rule chooses an arm with that channel
 pub data GetsOn (standing : ℕ → Bool) (c : ℕ) (m : Message) : Left → Left → Type 0 where
-  input_gets : {k : List Context} {list : Reception} → GetsOn standing c m (left (Awaiting c list) k) (left (Taking [] list m) k)
-  arm_gets : {k : List Context} {pri : Bool} {arms : List Enabled} {ds : List Declaration} {list : Reception} → (pick : ℕ) → chosen pri pick standing arms ≡ Some (InputArm ds c list) → GetsOn standing c m (left (Choosing pri arms) k) (left (Taking ds list m) k)
+  input_gets : {k : List Context} {list : Reception} → GetsOn standing c m (left (Awaiting c list) k) (left (Taking [] (MessageTaken list m)) k)
+  arm_gets : {k : List Context} {pri : Bool} {arms : List Enabled} {again : List Setting} {list : Reception} → (pick : ℕ) → chosen pri pick standing arms ≡ Some (InputArm again c list) → GetsOn standing c m (left (Choosing pri arms) k) (left (Taking again (MessageTaken list m)) k)
 
 -- an ALT whose rule chooses an arm with SKIP
 pub data PassesBy (standing : ℕ → Bool) : Left → Left → Type 0 where
-  arm_skips : {k : List Context} {pri : Bool} {arms : List Enabled} {ds : List Declaration} {body : Term} → (pick : ℕ) → chosen pri pick standing arms ≡ Some (SkipArm ds body) → PassesBy standing (left (Choosing pri arms) k) (left (Do (Seq (declared_before ds body))) k)
+  arm_skips : {k : List Context} {pri : Bool} {arms : List Enabled} {again : List Setting} {body : Term} → (pick : ℕ) → chosen pri pick standing arms ≡ Some (SkipArm again body) → PassesBy standing (left (Choosing pri arms) k) (left (Taking again (SkipTaken body)) k)
 
 pub data Sends (c : ℕ) (m : Message) : End → System → System → Type 0 where
   process_sends : {n : ℕ} {kb : List ℕ} {p p' : Process} {s : Store} {noted : List Fault} → ChangeIn (GivesOn c m) n p p' → Sends c m (OfProcess n) (system kb p s noted) (system kb p' s noted)

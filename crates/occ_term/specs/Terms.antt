@@ -132,12 +132,3 @@ mutual
     no_options : Options
     or_option : (constants : List ℤ) (declarations : List Declaration) (body : Term) (others : Options) → Options
     or_else : (declarations : List Declaration) (body : Term) (others : Options) → Options
-
--- declarations as the terms that they are before a process
-abbrev pub declares : Declaration → Term
-declares (Clearing first count) = Clear first count
-declares (Naming first value) = Local first value
-
-abbrev pub declared_before : List Declaration → Term → Terms
-declared_before [] body = then_term body no_terms
-declared_before (d ∷ ds) body = then_term (declares d) (declared_before ds body)
