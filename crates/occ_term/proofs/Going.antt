@@ -3,8 +3,9 @@ use Rattle.std.proofs.Common.{◌≡◌, ℕ, Bool, List, [], ◌∷◌, refl, S
 use Rattle.occ_term.specs.Messages.{Fault}
 use Rattle.occ_term.specs.Terms.{Skip, Stop, Assign, Input, Output, VariantInput, Seq, Par, Alt, If, Case, While, Each, Clear, Local, no_terms, then_term, no_branches, and_branch, Term, Target, Item, Place, Variants, Arms, Replicator, Naming, Plain, Tagged}
 use Rattle.occ_term.specs.Values.{Store, Evaluated, Value, Fails}
-use Rattle.occ_term.specs.Choosing.{Outcome, Gives, Faults, Nothing, nothing, assigned, declared, choice_of, option_of, enabled, Enabled, Indices, indices_of, index_of}
-use Rattle.occ_term.specs.Steps.{Loop, WhileLoop, Doing, Do, Turning, Again, Offering, Awaiting, Choosing, Taking, Forking, Halted, Faulted, Done, Context, Then, Within, Left, left, offer_of, await_of, choosing, or_stop, each_loop, Turned, turned, turn_of, taken_by, in_assign, in_local, in_output, in_input, in_variant, in_alt, in_take, in_if, in_case, in_each, in_loop, Step, ends, stop, assign, clear, local, output, input, variant, alt, take_in, seq_empty, seq, drops, par_empty, par, if_step, case, while, each, turns, leaves, body_ends, again, faults}
+use Rattle.occ_term.specs.Storing.{Outcome, Gives, Faults, Nothing, nothing, assigned, declared, Indices, indices_of, index_of}
+use Rattle.occ_term.specs.Selecting.{choice_of, option_of, enabled, Enabled}
+use Rattle.occ_term.specs.Steps.{Loop, WhileLoop, Doing, Do, Passing, Again, Offering, Awaiting, Choosing, Taking, Forking, Halted, Faulted, Done, Context, Then, Within, Left, left, offer_of, await_of, choosing, or_stop, each_loop, Pass, pass, pass_of, taken_by, in_assign, in_local, in_output, in_input, in_variant, in_alt, in_take, in_if, in_case, in_each, in_loop, Step, ends, stop, assign, clear, local, output, input, variant, alt, take_in, seq_empty, seq, drops, par_empty, par, if_step, case, while, each, passes_again, leaves, body_ends, again, faults}
 use Rattle.occ_term.specs.Examples.{IsGoing}
 
 abbrev Next : Doing → List Context → Store → Type 0
@@ -40,11 +41,11 @@ module _ (k : List Context) (s : Store) where
   takes d (Faults e s') f g = (left (Faulted e) k, s', g e s' refl)
 
   begins : (r : Replicator) (b : Term) (is : Evaluated Indices) → indices_of r s ≡ is → Next (Do (Each r b)) k s
-  begins r b (Value is) q = (left (Turning (each_loop b (index_of r) is)) k, s, each q)
+  begins r b (Value is) q = (left (Passing (each_loop b (index_of r) is)) k, s, each q)
   begins r b (Fails e) q = (left (Faulted e) k, s, faults (in_each q))
 
-  loops : (l : Loop) (r : Outcome (Option Turned)) → turn_of l s ≡ r → Next (Turning l) k s
-  loops l (Gives (Some (turned b l')) s') q = (left (Do b) (Within l' ∷ k), s', turns q)
+  loops : (l : Loop) (r : Outcome (Option Pass)) → pass_of l s ≡ r → Next (Passing l) k s
+  loops l (Gives (Some (pass b l')) s') q = (left (Do b) (Within l' ∷ k), s', passes_again q)
   loops l (Gives None s') q = (left (Do Skip) k, s', leaves q)
   loops l (Faults e s') q = (left (Faulted e) k, s', faults (in_loop q))
 
@@ -67,15 +68,15 @@ does (Par (and_branch n b bs)) k s = (left (Forking (and_branch n b bs)) k, s, p
 does (Alt pri arms) k s = alts k s pri arms (enabled arms [] s) refl
 does (If cs) k s = takes k s (Do (If cs)) (choice_of cs s) (λ t s' q. if_step q) (λ e s' q. faults (in_if q))
 does (Case x os) k s = takes k s (Do (Case x os)) (option_of x os s) (λ t s' q. case q) (λ e s' q. faults (in_case q))
-does (While e b) k s = (left (Turning (WhileLoop e b)) k, s, while)
+does (While e b) k s = (left (Passing (WhileLoop e b)) k, s, while)
 does (Each r b) k s = begins k s r b (indices_of r s) refl
 does (Clear c n) k s = (left (Do Skip) k, _, clear refl)
 does (Local c v) k s = names k s c v (declared (Naming c v) s) refl
 
 pub going : (d : Doing) (k : List Context) (s : Store) → IsGoing d → Next d k s
 going (Do t) k s h = does t k s
-going (Turning l) k s h = loops k s l (turn_of l s) refl
-going (Again l) k s h = (left (Turning l) k, s, again)
+going (Passing l) k s h = loops k s l (pass_of l s) refl
+going (Again l) k s h = (left (Passing l) k, s, again)
 going (Offering c m) k s h = cc
 going (Awaiting c list) k s h = cc
 going (Choosing pri arms) k s h = cc

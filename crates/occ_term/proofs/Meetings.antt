@@ -3,8 +3,8 @@ use Rattle.std.proofs.Common.{ℕ, zero, suc, Bool, true, false, List, [], ◌�
 use Rattle.std.proofs.lemmas.Bool.{eq-eqb}
 use Rattle.std.specs.Prelude.{nat_eq, slice_get, if◌then◌else◌, ◌&&◌, ◌||◌}
 use Rattle.occ_term.specs.Messages.{Message}
-use Rattle.occ_term.specs.Choosing.{Enabled, SkipArm, InputArm, is_ready_on, ready_among, waits_for}
-use Rattle.occ_term.specs.Steps.{Left, Status, Runs, Loops, Offers, Awaits, Chooses, Forks, Stands, FailsBy, HasEnded, status}
+use Rattle.occ_term.specs.Selecting.{Enabled, SkipArm, InputArm, is_ready_on, ready_among, waits_for}
+use Rattle.occ_term.specs.Steps.{Left, Status, Runs, Loops, Offers, Awaits, Chooses, Forks, IsHalted, FailsBy, HasEnded, status}
 use Rattle.occ_term.specs.System.{Process, process, Processes, no_processes, and_process, System, system, Errors, End, OfProcess, has_byte, ChangeIn, change_here, change_below, ChangeAmong, change_first, change_later, offers, offers_in, offers_among, GivesOn, offer_ends, GetsOn, input_gets, arm_gets, PassesBy, arm_skips, Sends, process_sends, keyboard_sends, Receives, process_receives, screen_receives, error_receives, Communication, Meets, meets, passes_skip}
 use Rattle.occ_term.specs.Runs.{TakesPart, Meeting, by_message, by_skip, MeetsAtMost, meets_none}
 
@@ -26,7 +26,7 @@ awaits_at (Offers d m) c = false
 awaits_at (Awaits d) c = nat_eq d c
 awaits_at (Chooses pri arms) c = any_of (waits_on c) arms
 awaits_at (Forks bs) c = false
-awaits_at Stands c = false
+awaits_at IsHalted c = false
 awaits_at (FailsBy e) c = false
 awaits_at HasEnded c = false
 
@@ -50,7 +50,7 @@ partner_at offered awaited (Offers c m) = awaited c
 partner_at offered awaited (Awaits c) = offered c
 partner_at offered awaited (Chooses pri arms) = any_of (λ a. is_ready_on offered (waits_for a)) arms
 partner_at offered awaited (Forks bs) = false
-partner_at offered awaited Stands = false
+partner_at offered awaited IsHalted = false
 partner_at offered awaited (FailsBy e) = false
 partner_at offered awaited HasEnded = false
 

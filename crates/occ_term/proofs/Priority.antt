@@ -2,7 +2,7 @@
 use Rattle.std.proofs.Common.{◌≡◌, ℕ, Bool, true, false, List, [], ◌∷◌, refl, Option, Some, inl, inr}
 use Rattle.std.specs.Prelude.{slice_get, if◌then◌else◌}
 use Rattle.occ_term.specs.Values.{Store}
-use Rattle.occ_term.specs.Choosing.{is_ready_on, ready_among}
+use Rattle.occ_term.specs.Selecting.{is_ready_on, ready_among}
 use Rattle.occ_term.specs.Steps.{Left, seq, drops}
 use Rattle.occ_term.specs.Turns.{Steps, none, more}
 use Rattle.occ_term.specs.Steps.{Then}

@@ -1,6 +1,6 @@
 -- The runs of the small programs.
 use Rattle.occ_term.proofs.Meetings.{unmet}
-use Rattle.occ_term.specs.System.{SystemTurn, Halt, StopMode, joined}
+use Rattle.occ_term.specs.System.{SystemTurn, HaltMode, StopMode, joined}
 use Rattle.occ_term.specs.Runs.{EndsBy, FaultEnds}
 use Rattle.occ_term.specs.Examples.{FaultHalts, after_divides, Joins, one_ended}
 use mathlib.Core.Bool.{true≢false}
@@ -9,10 +9,10 @@ use Rattle.occ_term.specs.System.{system, process, no_processes, and_process}
 use Rattle.occ_term.specs.Steps.{each, leaves, Forking}
 use Rattle.occ_term.specs.Examples.{LaterOffer, ThreeTurns, both_divide, faulted}
 use Rattle.std.proofs.Common.{ℕ, refl, inl, inr, [], pos, true, false, List}
-use Rattle.occ_term.specs.Steps.{Halted, Left, Step, Context, left, output, ends, faults, in_assign, alt, stop, par, seq, clear, drops, take_in, seq_empty, while, turns, body_ends, again, Faulted}
+use Rattle.occ_term.specs.Steps.{Halted, Left, Step, Context, left, output, ends, faults, in_assign, alt, stop, par, seq, clear, drops, take_in, seq_empty, while, passes_again, body_ends, again, Faulted}
 use Rattle.occ_term.specs.Turns.{none, more, single_turn, stops, passes}
 use Rattle.occ_term.specs.System.{System, End, Sends, PassesSkip, alone, turn_here, system_turn, change_here, offer_ends, process_sends, screen_receives, process_receives, change_below, change_first, change_later, arm_gets, passes_skip, turn_below, turn_first, turn_later, meets}
-use Rattle.occ_term.specs.Runs.{over, goes, meets_one, by_end, by_fault, by_standing, StepOf, private_step, meeting_step, skip_step, own_step, join_step, branch_step, first_can, later_can}
+use Rattle.occ_term.specs.Runs.{no_turn, goes, meets_one, by_end, by_fault, by_standing, StepOf, private_step, meeting_step, skip_step, own_step, join_step, branch_step, first_can, later_can}
 use Rattle.occ_term.specs.Examples.{WritesA, Divides, Halts, after_stop, RunsTo, ThreeRun, LongTurns, StopsBoth, Unlawful, second_first}
 use Rattle.occ_term.specs.Values.{Store}
 use Rattle.occ_term.specs.Messages.{Fault, Message}
@@ -21,16 +21,16 @@ pub writes_a : WritesA
 writes_a = (
   goes (system_turn refl (turn_here alone (stops (single_turn none (output refl) refl) (inl refl))))
       (meets_one refl (inl refl) (meets (process_sends (change_here offer_ends)) (screen_receives refl)))
-      (goes (system_turn refl (turn_here alone (stops (single_turn none ends refl) (inl refl)))) (unmet refl) over),
+      (goes (system_turn refl (turn_here alone (stops (single_turn none ends refl) (inl refl)))) (unmet refl) no_turn),
   by_end refl refl,
   λ names. refl,
 )
 
 pub divides : Divides
 divides = (
-  goes (system_turn refl (turn_here alone (stops (single_turn none (faults (in_assign refl)) refl) (inl refl)))) (unmet refl) over,
+  goes (system_turn refl (turn_here alone (stops (single_turn none (faults (in_assign refl)) refl) (inl refl)))) (unmet refl) no_turn,
   by_fault refl refl,
-  goes (system_turn tt (turn_here alone (stops (single_turn none (faults (in_assign refl)) refl) (inl refl)))) (unmet refl) over,
+  goes (system_turn tt (turn_here alone (stops (single_turn none (faults (in_assign refl)) refl) (inl refl)))) (unmet refl) no_turn,
 )
 
 halted_is_still : {k : List Context} {s s' : Store} {b : Left} → Step (left Halted k) s b s' → ⊥
@@ -52,7 +52,7 @@ still (skip_step x) = no_choice x
 
 pub halts : Halts
 halts = (
-  goes (system_turn refl (turn_here alone (stops (single_turn (more (alt refl) refl none) stop refl) (inl refl)))) (unmet refl) over,
+  goes (system_turn refl (turn_here alone (stops (single_turn (more (alt refl) refl none) stop refl) (inl refl)))) (unmet refl) no_turn,
   by_standing refl refl still,
 )
 
@@ -67,7 +67,7 @@ with_priority = (
       (goes (system_turn refl (turn_below (turn_first (turn_here alone (stops (single_turn none ends refl) (inl refl)))))) (unmet refl)
       (goes (system_turn refl (turn_below (turn_later (turn_later (turn_first (turn_here alone (stops (single_turn (more (take_in refl) refl (more drops refl (more seq refl none))) (output refl) refl) (inl refl)))))))) (meets_one refl (inl refl) (meets (process_sends (change_below (change_later (change_later (change_first (change_here offer_ends)))))) (screen_receives refl)))
       (goes (system_turn refl (turn_below (turn_later (turn_later (turn_first (turn_here alone (stops (single_turn (more drops refl (more seq_empty refl (more drops refl (more seq_empty refl none)))) ends refl) (inl refl)))))))) (unmet refl)
-      over))))))),
+      no_turn))))))),
 )
 
 pub takes_first : RunsTo false 1 3 (pos 1)
@@ -80,7 +80,7 @@ takes_first = (
       (goes (system_turn refl (turn_below (turn_first (turn_here alone (stops (single_turn none ends refl) (inl refl)))))) (unmet refl)
       (goes (system_turn refl (turn_below (turn_later (turn_later (turn_first (turn_here alone (stops (single_turn (more (take_in refl) refl (more drops refl (more seq refl none))) (output refl) refl) (inl refl)))))))) (meets_one refl (inl refl) (meets (process_sends (change_below (change_later (change_later (change_first (change_here offer_ends)))))) (screen_receives refl)))
       (goes (system_turn refl (turn_below (turn_later (turn_later (turn_first (turn_here alone (stops (single_turn (more drops refl (more seq_empty refl (more drops refl (more seq_empty refl none)))) ends refl) (inl refl)))))))) (unmet refl)
-      over))))))),
+      no_turn))))))),
 )
 
 pub takes_second : RunsTo false 2 4 (pos 2)
@@ -93,7 +93,7 @@ takes_second = (
       (goes (system_turn refl (turn_below (turn_later (turn_first (turn_here alone (stops (single_turn none ends refl) (inl refl))))))) (unmet refl)
       (goes (system_turn refl (turn_below (turn_later (turn_later (turn_first (turn_here alone (stops (single_turn (more (take_in refl) refl (more drops refl (more seq refl none))) (output refl) refl) (inl refl)))))))) (meets_one refl (inl refl) (meets (process_sends (change_below (change_later (change_later (change_first (change_here offer_ends)))))) (screen_receives refl)))
       (goes (system_turn refl (turn_below (turn_later (turn_later (turn_first (turn_here alone (stops (single_turn (more drops refl (more seq_empty refl (more drops refl (more seq_empty refl none)))) ends refl) (inl refl)))))))) (unmet refl)
-      over))))))),
+      no_turn))))))),
 )
 
 pub three_run : ThreeRun
@@ -102,11 +102,11 @@ three_run = (with_priority, takes_first, takes_second)
 pub long_turns : LongTurns
 long_turns =
     goes (system_turn refl (turn_here alone
-    (passes (single_turn (more while refl (more (turns refl) refl none)) body_ends refl) refl
-    (passes (single_turn (more again refl (more (turns refl) refl none)) body_ends refl) refl
-    (passes (single_turn (more again refl (more (turns refl) refl none)) body_ends refl) refl
-    (stops (single_turn (more again refl (more (turns refl) refl none)) body_ends refl) (inl refl)))))))
-    (unmet refl) over
+    (passes (single_turn (more while refl (more (passes_again refl) refl none)) body_ends refl) refl
+    (passes (single_turn (more again refl (more (passes_again refl) refl none)) body_ends refl) refl
+    (passes (single_turn (more again refl (more (passes_again refl) refl none)) body_ends refl) refl
+    (stops (single_turn (more again refl (more (passes_again refl) refl none)) body_ends refl) (inl refl)))))))
+    (unmet refl) no_turn
 
 faulted_is_still : {e : Fault} {k : List Context} {s s' : Store} {b : Left} → Step (left (Faulted e) k) s b s' → ⊥
 faulted_is_still (faults f) = elim f [ ]
@@ -134,7 +134,7 @@ stops_both = (
   goes (system_turn tt (turn_here alone (stops (single_turn none par refl) (inl refl)))) (unmet refl)
       (goes (system_turn tt (turn_below (turn_later (turn_first (turn_here alone (stops (single_turn none (faults (in_assign refl)) refl) (inl refl))))))) (unmet refl)
       (goes (system_turn tt (turn_below (turn_first (turn_here alone (stops (single_turn none (faults (in_assign refl)) refl) (inl refl)))))) (unmet refl)
-      over)),
+      no_turn)),
   by_standing tt refl both_still,
 )
 
@@ -149,10 +149,10 @@ unlawful = (
 pub three_turns : ThreeTurns
 three_turns = (
   _,
-  goes (system_turn refl (turn_here alone (stops (single_turn (more (each refl) refl (more (turns refl) refl none)) body_ends refl) (inl refl)))) (unmet refl)
-      (goes (system_turn refl (turn_here alone (stops (single_turn (more again refl (more (turns refl) refl none)) body_ends refl) (inl refl)))) (unmet refl)
+  goes (system_turn refl (turn_here alone (stops (single_turn (more (each refl) refl (more (passes_again refl) refl none)) body_ends refl) (inl refl)))) (unmet refl)
+      (goes (system_turn refl (turn_here alone (stops (single_turn (more again refl (more (passes_again refl) refl none)) body_ends refl) (inl refl)))) (unmet refl)
       (goes (system_turn refl (turn_here alone (stops (single_turn (more again refl (more (leaves refl) refl none)) ends refl) (inl refl)))) (unmet refl)
-      over)),
+      no_turn)),
   by_end refl refl,
 )
 
@@ -163,19 +163,19 @@ later_offer = (
       (goes (system_turn refl (turn_below (turn_later (turn_later (turn_first (turn_here alone (stops (single_turn (more seq refl (more (clear refl) refl (more drops refl (more seq refl (more seq refl none))))) (alt refl) refl) (inl refl)))))))) (unmet refl)
       (goes (system_turn refl (turn_below (turn_later (turn_first (turn_here alone (stops (single_turn none (output refl) refl) (inl refl)))))))
       (meets_one refl (inl refl) (meets (process_sends (change_below (change_later (change_first (change_here offer_ends))))) (process_receives (change_below (change_later (change_later (change_first (change_here (arm_gets 1 refl)))))))))
-      over)),
+      no_turn)),
 )
 
-no_turn : (n : ℕ) (b : System) → SystemTurn Halt 1 n after_divides b → ⊥
-no_turn n b (system_turn h t) = cc
+none_after : (n : ℕ) (b : System) → SystemTurn HaltMode 1 n after_divides b → ⊥
+none_after n b (system_turn h t) = cc
 
 no_fault_ending : (e : Fault) → EndsBy StopMode after_divides (FaultEnds e) → ⊥
 no_fault_ending e (by_fault q r) = cc
 
 pub fault_halts : FaultHalts
-fault_halts = (no_turn, no_fault_ending)
+fault_halts = (none_after, no_fault_ending)
 
-no_join : (b : System) → SystemTurn Halt 1 0 one_ended b → ⊥
+no_join : (b : System) → SystemTurn HaltMode 1 0 one_ended b → ⊥
 no_join b (system_turn h (turn_here (joined (x, (y, z))) t)) = cc
 no_join b (system_turn h (turn_below (turn_first (turn_below x)))) = elim x [ ]
 no_join b (system_turn h (turn_below (turn_later (turn_first (turn_below x))))) = elim x [ ]
@@ -185,13 +185,13 @@ pub joins : Joins
 joins = (
   goes (system_turn refl (turn_here alone (stops (single_turn none par refl) (inl refl)))) (unmet refl)
       (goes (system_turn refl (turn_below (turn_first (turn_here alone (stops (single_turn none ends refl) (inl refl)))))) (unmet refl)
-      over),
+      no_turn),
   no_join,
   (
     _,
     goes (system_turn refl (turn_below (turn_later (turn_first (turn_here alone (stops (single_turn none ends refl) (inl refl))))))) (unmet refl)
         (goes (system_turn refl (turn_here (joined (refl, (refl, tt))) (stops (single_turn none ends refl) (inl refl)))) (unmet refl)
-        over),
+        no_turn),
     by_end refl refl,
   ),
 )

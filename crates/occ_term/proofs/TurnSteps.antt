@@ -2,11 +2,11 @@
 use Rattle.std.proofs.Common.{◌≡◌, IsTrue, ℕ, List, [], ◌∷◌, ◌++◌, Some, None, refl, sym, ap, ◌∙◌, subst, append-nil}
 use Rattle.occ_term.specs.Messages.{Fault}
 use Rattle.occ_term.specs.Values.{Store}
-use Rattle.occ_term.specs.Steps.{Left, Status, Runs, Loops, Offers, Awaits, Chooses, Forks, Stands, FailsBy, HasEnded, status, is_running, is_looping}
+use Rattle.occ_term.specs.Steps.{Left, Status, Runs, Loops, Offers, Awaits, Chooses, Forks, IsHalted, FailsBy, HasEnded, status, is_running, is_looping}
 use Rattle.occ_term.specs.Turns.{Steps, none, more, SingleTurn, single_turn, Turn, stops, passes}
 use Rattle.occ_term.specs.System.{Process, process, Processes, no_processes, and_process, System, system, Errors, MayGo, begun, fault_noted, alone, joined, TurnIn, turn_here, turn_below, TurnAmong, turn_first, turn_later, system_turn, Communication}
-use Rattle.occ_term.specs.Runs.{event, meets_none, meets_one, meets_skip, over, goes}
-use Rattle.occ_term.specs.StepRuns.{StepIn, step_here, join_here, step_below, StepAmong, step_first, step_later, process_step, meeting, skipping, StepRun, stays, steps, TurnsAreSteps}
+use Rattle.occ_term.specs.Runs.{event, meets_none, meets_one, meets_skip, no_turn, goes}
+use Rattle.occ_term.specs.StepRuns.{StepIn, step_here, join_here, step_below, StepAmong, step_first, step_later, process_step, meeting, skipping, StepRun, no_step, steps, TurnsAreSteps}
 
 -- one or more changes in a row, each but the last to what notes no fault
 data Chain {A : Type 0} (R : A → Store → A → Store → Status → Type 0) : A → Store → A → Store → Status → Type 0 where
@@ -28,7 +28,7 @@ runs_is (Offers c m) h = cc
 runs_is (Awaits c) h = cc
 runs_is (Chooses pri arms) h = cc
 runs_is (Forks bs) h = cc
-runs_is Stands h = cc
+runs_is IsHalted h = cc
 runs_is (FailsBy e) h = cc
 runs_is HasEnded h = cc
 
@@ -39,7 +39,7 @@ loops_is (Offers c m) h = cc
 loops_is (Awaits c) h = cc
 loops_is (Chooses pri arms) h = cc
 loops_is (Forks bs) h = cc
-loops_is Stands h = cc
+loops_is IsHalted h = cc
 loops_is (FailsBy e) h = cc
 loops_is HasEnded h = cc
 
@@ -79,7 +79,7 @@ chain_run {errors = errors} {kb = kb} {xs = xs} {c = c} noted h (first {b = b} {
     steps {x = None} (process_step h x) (subst (λ l. StepRun errors (system kb b s' l) xs c) same (chain_run noted h rest r))
 
 pub turns_are_steps : TurnsAreSteps
-turns_are_steps errors quantum a b [] over = stays
+turns_are_steps errors quantum a b [] no_turn = no_step
 turns_are_steps errors quantum a b (event n None ∷ es) (goes (system_turn {noted = noted} h t) (meets_none g) r) = chain_run noted h (turn_in t) (turns_are_steps errors quantum _ b es r)
 turns_are_steps errors quantum a b (event n (Some x) ∷ es) (goes (system_turn {noted = noted} h t) (meets_one g w m) r) = chain_run noted h (turn_in t) (steps {x = Some x} (meeting g m) (turns_are_steps errors quantum _ b es r))
 turns_are_steps errors quantum a b (event n None ∷ es) (goes (system_turn {noted = noted} h t) (meets_skip g m) r) = chain_run noted h (turn_in t) (steps {x = None} (skipping g m) (turns_are_steps errors quantum _ b es r))

@@ -3,10 +3,11 @@ use Rattle.std.specs.Prelude.{Bool, IsFalse, IsTrue, List, None, Option, Some, [
 use Rattle.occ_term.specs.Messages.{Primitive, Byte, Int, Arith, Range, Convert, Shift, Count, Fault, fault, One, Counted, Message, message, PartType, OneOf, Tag, CountedArray, Variant, Fits}
 use Rattle.occ_term.specs.Terms.{Operator, Plus, Divide, Remainder, PlusModulo, MinusModulo, TimesModulo, BitXor, ShiftLeft, ShiftRight, After, Equal, BitNot, Expression, Constant, Cell, Binary, Unary, And, Conversion, Place, place, no_subscripts, then_subscript, Array, Cells, Text, Item, OfOne, OfMany, OfCounted, Target, Into, IntoCounted, Naming, Replicator, replicator, Term, Skip, Stop, Assign, Input, Output, Seq, Par, Alt, If, While, Each, Clear, Local, Terms, no_terms, then_term, Branches, no_branches, and_branch, Arms, no_arms, input_arm, declared_arms, each_arm, Reception, Plain, Tagged, no_variants, or_variant, Choices, no_choices, or_choice, each_choice, Options, no_options, or_option, or_else}
 use Rattle.occ_term.specs.Values.{Store, store_with, Evaluated, Value, Fails, span, value_of, span_of, part_of}
-use Rattle.occ_term.specs.Choosing.{Outcome, Gives, Faults, assigned, declared, indices, indices_of, choice_of, option_of, taken, Enabled, IndexTo, SkipArm, InputArm, enabled, is_ready_on, waits_for, chosen, chosen_of}
+use Rattle.occ_term.specs.Storing.{Outcome, Gives, Faults, assigned, declared, indices, indices_of}
+use Rattle.occ_term.specs.Selecting.{choice_of, option_of, taken, Enabled, IndexTo, SkipArm, InputArm, enabled, is_ready_on, waits_for, chosen, chosen_of}
 use Rattle.occ_term.specs.Steps.{Loop, WhileLoop, Doing, Do, Again, Forking, Halted, Faulted, Done, Context, Left, left, status_of, is_running, is_looping, Step}
 use Rattle.occ_term.specs.Turns.{Steps}
-use Rattle.occ_term.specs.System.{Process, process, no_processes, and_process, System, system, start, Halt, StopMode, SystemTurn, OfProcess, Screen, offers, Communication, communication}
+use Rattle.occ_term.specs.System.{Process, process, no_processes, and_process, System, system, start, HaltMode, StopMode, SystemTurn, OfProcess, Screen, offers, Communication, communication}
 use Rattle.occ_term.specs.Runs.{Event, event, Run, Ended, Stopped, FaultEnds, StoppedBy, EndsBy, Names, shown}
 use Rattle.occ_term.specs.Uses.{named_by, cells_of_item, uses_of, Lawful}
 use Rattle.occ_term.specs.Sizes.{size_of}
@@ -221,8 +222,8 @@ after_a = system [] (process 0 (left Done []) no_processes) (λ c. pos 0) []
 
 abbrev pub WritesA : Type 0
 WritesA =
-    Run Halt 1 (start writes_a []) events_of_a after_a
-    × EndsBy Halt after_a Ended
+    Run HaltMode 1 (start writes_a []) events_of_a after_a
+    × EndsBy HaltMode after_a Ended
     × ((names : Names) → (shown names events_of_a).screen ≡ 65 ∷ [])
 
 -- ---- a division by 0, in both modes
@@ -235,8 +236,8 @@ after_divides = system [] (process 0 (left (Faulted (fault Arith 3)) []) no_proc
 
 abbrev pub Divides : Type 0
 Divides =
-    Run Halt 1 (start divides []) (event 0 None ∷ []) after_divides
-    × EndsBy Halt after_divides (FaultEnds (fault Arith 3))
+    Run HaltMode 1 (start divides []) (event 0 None ∷ []) after_divides
+    × EndsBy HaltMode after_divides (FaultEnds (fault Arith 3))
     × Run StopMode 1 (start divides []) (event 0 None ∷ []) after_divides
 
 -- ---- STOP alone
@@ -245,7 +246,7 @@ abbrev pub after_stop : System
 after_stop = system [] (process 0 (left Halted []) no_processes) zeros []
 
 abbrev pub Halts : Type 0
-Halts = Run Halt 1 (start (Alt true closed_arms) []) (event 0 None ∷ []) (system [] (process 0 (left Halted []) no_processes) (store_with zeros 7 (pos 9)) []) × EndsBy Halt after_stop Stopped
+Halts = Run HaltMode 1 (start (Alt true closed_arms) []) (event 0 None ∷ []) (system [] (process 0 (left Halted []) no_processes) (store_with zeros 7 (pos 9)) []) × EndsBy HaltMode after_stop Stopped
 
 -- ---- two outputs and an ALT that waits for one of them
 -- CHAN OF INT a, b: PAR / a ! 1 / b ! 2 / INT x: SEQ (opt PRI) ALT / a ? x SKIP / b ? x SKIP / screen ! BYTE (x + 48)
@@ -277,7 +278,7 @@ events_of_three n c v =
     ∷ event n None ∷ event 3 (Some (to_screen 3 (byte_message (v +ℤ pos 48)))) ∷ event 3 None ∷ []
 
 abbrev pub RunsTo : Bool → ℕ → ℕ → ℤ → Type 0
-RunsTo pri n c v = (b : System) × Run Halt 1 (start (Par (three pri)) []) (events_of_three n c v) b
+RunsTo pri n c v = (b : System) × Run HaltMode 1 (start (Par (three pri)) []) (events_of_three n c v) b
 
 abbrev pub ThreeRun : Type 0
 ThreeRun = RunsTo true 1 3 (pos 1) × RunsTo false 1 3 (pos 1) × RunsTo false 2 4 (pos 2)
@@ -313,7 +314,7 @@ PriorityTakesFirst {A = A} channel =
 -- where a fault ends the system no turn follows it; where it stops its process alone it is no ending
 abbrev pub FaultHalts : Type 0
 FaultHalts =
-    ((n : ℕ) (b : System) → SystemTurn Halt 1 n after_divides b → ⊥)
+    ((n : ℕ) (b : System) → SystemTurn HaltMode 1 n after_divides b → ⊥)
     × ((e : Fault) → EndsBy StopMode after_divides (FaultEnds e) → ⊥)
 
 -- ---- WHILE TRUE SKIP, in turns that pass three stops of the loop
@@ -322,7 +323,7 @@ abbrev pub turns_for_ever : Loop
 turns_for_ever = WhileLoop (number (pos 1)) Skip
 
 abbrev pub LongTurns : Type 0
-LongTurns = Run Halt 4 (start (While (number (pos 1)) Skip) []) (event 0 None ∷ []) (system [] (process 0 (left (Again turns_for_ever) []) no_processes) (λ c. pos 0) [])
+LongTurns = Run HaltMode 4 (start (While (number (pos 1)) Skip) []) (event 0 None ∷ []) (system [] (process 0 (left (Again turns_for_ever) []) no_processes) (λ c. pos 0) [])
 
 -- ---- PAR / a := 1 \ a / b := 1 \ b, where a fault stops its process alone: the first fault in the order of turns is named
 
@@ -367,12 +368,12 @@ abbrev pub two_times : Term
 two_times = Each (replicator 2 0 (number (pos 0)) (number (pos 2))) Skip
 
 abbrev pub ThreeTurns : Type 0
-ThreeTurns = (b : System) × Run Halt 1 (start two_times []) (event 0 None ∷ event 0 None ∷ event 0 None ∷ []) b × EndsBy Halt b Ended
+ThreeTurns = (b : System) × Run HaltMode 1 (start two_times []) (event 0 None ∷ event 0 None ∷ event 0 None ∷ []) b × EndsBy HaltMode b Ended
 
 -- ---- an offer that comes to an ALT that waits: the chooser's turn stands first
 
 abbrev pub LaterOffer : Type 0
-LaterOffer = (b : System) × Run Halt 1 (start (Par (three true)) []) (event 0 None ∷ event 3 None ∷ event 2 (Some (communication 4 (OfProcess 2) (OfProcess 3) (int_message (pos 2)))) ∷ []) b
+LaterOffer = (b : System) × Run HaltMode 1 (start (Par (three true)) []) (event 0 None ∷ event 3 None ∷ event 2 (Some (communication 4 (OfProcess 2) (OfProcess 3) (int_message (pos 2)))) ∷ []) b
 
 -- ---- PAR SKIP SKIP: the parent goes on when both branches have ended, and not before
 
@@ -384,6 +385,6 @@ one_ended = system [] (process 0 (left (Forking two_skips) []) (and_process (pro
 
 abbrev pub Joins : Type 0
 Joins =
-    Run Halt 1 (start (Par two_skips) []) (event 0 None ∷ event 1 None ∷ []) one_ended
-    × ((b : System) → SystemTurn Halt 1 0 one_ended b → ⊥)
-    × ((b : System) × Run Halt 1 one_ended (event 2 None ∷ event 0 None ∷ []) b × EndsBy Halt b Ended)
+    Run HaltMode 1 (start (Par two_skips) []) (event 0 None ∷ event 1 None ∷ []) one_ended
+    × ((b : System) → SystemTurn HaltMode 1 0 one_ended b → ⊥)
+    × ((b : System) × Run HaltMode 1 one_ended (event 2 None ∷ event 0 None ∷ []) b × EndsBy HaltMode b Ended)

@@ -2,12 +2,12 @@
 use Rattle.std.specs.Prelude.{List, None, Some, [], pos, ℕ, ◌∷◌, ◌≡◌}
 use Rattle.occ_term.specs.Messages.{Byte, One, message}
 use Rattle.occ_term.specs.Terms.{Constant, OfOne, Output, Seq, Stop, Term, no_subscripts, no_terms, place, then_term}
-use Rattle.occ_term.specs.System.{Halt, OfProcess, Screen, System, communication, start}
+use Rattle.occ_term.specs.System.{HaltMode, OfProcess, Screen, System, communication, start}
 use Rattle.occ_term.specs.Runs.{Ended, Ending, EndsBy, Event, Limit, Names, Run, Stopped, event, shown}
 
 -- with an empty keyboard, in turns that pass no loop's stop: these turns, these bytes on the screen, this ending
 abbrev pub RunsAs : Term → List Event → List ℕ → Ending → Type 0
-RunsAs t es bytes ending = (b : System) × Run Halt 1 (start t []) es b × EndsBy Halt b ending × ((names : Names) → (shown names es).screen ≡ bytes)
+RunsAs t es bytes ending = (b : System) × Run HaltMode 1 (start t []) es b × EndsBy HaltMode b ending × ((names : Names) → (shown names es).screen ≡ bytes)
 
 -- `screen ! ` with one byte, in that line
 abbrev pub writes : ℕ → ℕ → Term

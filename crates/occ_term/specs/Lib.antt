@@ -1,7 +1,8 @@
 pub mod Messages
 pub mod Terms
 pub mod Values
-pub mod Choosing
+pub mod Storing
+pub mod Selecting
 pub mod Steps
 pub mod Turns
 pub mod System

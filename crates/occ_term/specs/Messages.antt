@@ -63,14 +63,14 @@ PartsFit (t ∷ ts) [] = ⊥
 PartsFit (t ∷ ts) (p ∷ ps) = PartFits t p × PartsFit ts ps
 
 -- an array where there are sizes
-abbrev pub simple_part : Primitive → List ℕ → PartType
-simple_part type [] = OneOf type
-simple_part type (n ∷ ns) = ManyOf (n ∷ ns) type
+abbrev pub simple_part : List ℕ → Primitive → PartType
+simple_part [] type = OneOf type
+simple_part (n ∷ ns) type = ManyOf (n ∷ ns) type
 
 -- what follows the tag of a message; a message of a protocol that is no variant has none
 abbrev pub parts_after : Protocol → Option ℕ → Option (List PartType)
-parts_after (Simple type sizes) None = Some (simple_part type sizes ∷ [])
-parts_after (Simple type sizes) (Some tag) = None
+parts_after (Simple sizes type) None = Some (simple_part sizes type ∷ [])
+parts_after (Simple sizes type) (Some tag) = None
 parts_after (CountedArray count type) None = Some (CountedOf count type ∷ [])
 parts_after (CountedArray count type) (Some tag) = None
 parts_after (Sequential ts) None = Some ts

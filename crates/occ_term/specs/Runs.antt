@@ -3,9 +3,9 @@ use Rattle.std.specs.Prelude.{Bool, IsFalse, IsTrue, List, None, Option, Some, [
 use Rattle.occ_term.specs.Messages.{Fault, Part, Message}
 use Rattle.occ_term.specs.Terms.{Branches}
 use Rattle.occ_term.specs.Values.{Store}
-use Rattle.occ_term.specs.Choosing.{values_in}
+use Rattle.occ_term.specs.Storing.{values_in}
 use Rattle.occ_term.specs.Steps.{Forking, Context, Left, left, status, is_ended, Step}
-use Rattle.occ_term.specs.System.{Process, process, Processes, no_processes, and_process, System, system, Errors, Halt, MayGo, noted_in, AllEnded, SystemTurn, End, OfProcess, Communication, communication, Meets, PassesSkip}
+use Rattle.occ_term.specs.System.{Process, process, Processes, no_processes, and_process, System, system, Errors, HaltMode, MayGo, noted_in, AllEnded, SystemTurn, End, OfProcess, Communication, communication, Meets, PassesSkip}
 
 abbrev pub TakesPart : ℕ → Communication → Type 0
 TakesPart n (communication c x y m) = (x ≡ OfProcess n) ⊎ (y ≡ OfProcess n)
@@ -26,7 +26,7 @@ pub data Event : Type 0 where
   event : (number : ℕ) (met : Option Communication) → Event
 
 pub data Run (errors : Errors) (quantum : ℕ) : System → List Event → System → Type 0 where
-  over : {a : System} → Run errors quantum a [] a
+  no_turn : {a : System} → Run errors quantum a [] a
   goes : {n : ℕ} {x : Option Communication} {a b c d : System} {es : List Event} → SystemTurn errors quantum n a b → MeetsAtMost errors n b x c → Run errors quantum c es d → Run errors quantum a (event n x ∷ es) d
 
 -- ---- the ending
@@ -67,7 +67,7 @@ still_by [] = Stopped
 still_by (e ∷ es) = StoppedBy e
 
 pub data EndsBy (errors : Errors) (a : System) : Ending → Type 0 where
-  by_fault : {e : Fault} {es : List Fault} → errors ≡ Halt → noted_in a ≡ e ∷ es → EndsBy errors a (FaultEnds e)
+  by_fault : {e : Fault} {es : List Fault} → errors ≡ HaltMode → noted_in a ≡ e ∷ es → EndsBy errors a (FaultEnds e)
   by_end : MayGo errors (noted_in a) → IsTrue (main_ended a) → EndsBy errors a Ended
   by_standing : MayGo errors (noted_in a) → IsFalse (main_ended a) → IsStill a → EndsBy errors a (still_by (noted_in a))
   goes_on : MayGo errors (noted_in a) → IsFalse (main_ended a) → StepOf a → EndsBy errors a Limit
@@ -86,14 +86,14 @@ pub record Entry : Type 0 where
   pub sender : End
   pub receiver : End
   pub tag : Option (List ℕ)
-  pub sent : Message
+  pub message : Message
 
 abbrev pub tag_shown : Names → ℕ → Option ℕ → Option (List ℕ)
 tag_shown names c None = None
 tag_shown names c (Some tag) = Some (names.tag_name c tag)
 
 abbrev pub entry_of : Names → ℕ → Communication → Entry
-entry_of names i (communication c x y m) = record { number = i; channel = c; name = names.channel_name c; sender = x; receiver = y; tag = tag_shown names c m.tag; sent = m }
+entry_of names i (communication c x y m) = record { number = i; channel = c; name = names.channel_name c; sender = x; receiver = y; tag = tag_shown names c m.tag; message = m }
 
 abbrev pub communications : List Event → List Communication
 communications [] = []
@@ -121,14 +121,14 @@ abbrev pub bytes_of : List Message → List ℕ
 bytes_of [] = []
 bytes_of (m ∷ ms) = bytes_in m.items ++ bytes_of ms
 
-pub record Shown : Type 0 where
+pub record AllShown : Type 0 where
   pub trace : List Entry
   pub screen : List ℕ
   pub error : List ℕ
   pub messages : ℕ → List Message
 
-abbrev pub shown_by : Names → List Communication → Shown
+abbrev pub shown_by : Names → List Communication → AllShown
 shown_by names xs = record { trace = entries names 1 xs; screen = bytes_of (messages_on 1 xs); error = bytes_of (messages_on 2 xs); messages = λ c. messages_on c xs }
 
-abbrev pub shown : Names → List Event → Shown
+abbrev pub shown : Names → List Event → AllShown
 shown names es = shown_by names (communications es)

@@ -31,7 +31,7 @@ and_met (Some x) xs = x ∷ xs
 
 -- a run by steps, with its communications in order
 pub data StepRun (errors : Errors) : System → List Communication → System → Type 0 where
-  stays : {a : System} → StepRun errors a [] a
+  no_step : {a : System} → StepRun errors a [] a
   steps : {a b c : System} {x : Option Communication} {xs : List Communication} → SystemStep errors a x b → StepRun errors b xs c → StepRun errors a (and_met x xs) c
 
 -- the law

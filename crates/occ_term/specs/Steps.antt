@@ -3,7 +3,8 @@ use Rattle.std.specs.Prelude.{Bool, List, None, Option, Some, [], false, if◌th
 use Rattle.occ_term.specs.Messages.{Fault, Message, message}
 use Rattle.occ_term.specs.Terms.{Expression, Place, Item, Target, Clearing, Naming, Replicator, Term, Skip, Stop, Assign, Input, Output, VariantInput, Seq, Par, Alt, If, Case, While, Each, Clear, Local, Terms, no_terms, then_term, Branches, no_branches, and_branch, Arms, Reception, Plain, Tagged, Variants, Choices, Options}
 use Rattle.occ_term.specs.Values.{Store, store_with, Evaluated, Value, Fails, after, holds, first_of, value_of, span_of, parts_of}
-use Rattle.occ_term.specs.Choosing.{Outcome, Gives, Faults, then_in, in_store, nothing, assigned, declared, Indices, indices, indices_of, index_of, choice_of, option_of, taken, Setting, set_again, Enabled, enabled}
+use Rattle.occ_term.specs.Storing.{Outcome, Gives, Faults, then_in, in_store, nothing, assigned, declared, Indices, indices, indices_of, index_of}
+use Rattle.occ_term.specs.Selecting.{choice_of, option_of, taken, Setting, set_again, Enabled, enabled}
 
 -- a loop: its test, or the index, its next value and how many values are left
 pub data Loop : Type 0 where
@@ -18,7 +19,7 @@ pub data Taken : Type 0 where
 -- the part being done: a term, or a mark of the model
 pub data Doing : Type 0 where
   Do : (term : Term) → Doing
-  Turning : (loop : Loop) → Doing
+  Passing : (loop : Loop) → Doing
   Again : (loop : Loop) → Doing
   Offering : (channel : ℕ) (offered : Message) → Doing
   Awaiting : (channel : ℕ) (list : Reception) → Doing
@@ -47,20 +48,20 @@ pub data Status : Type 0 where
   Awaits : (channel : ℕ) → Status
   Chooses : (pri : Bool) (arms : List Enabled) → Status
   Forks : (branches : Branches) → Status
-  Stands : Status
+  IsHalted : Status
   FailsBy : (fault : Fault) → Status
   HasEnded : Status
 
 abbrev pub status_of : Doing → Status
 status_of (Do t) = Runs
-status_of (Turning l) = Runs
+status_of (Passing l) = Runs
 status_of (Again l) = Loops
 status_of (Offering c m) = Offers c m
 status_of (Awaiting c list) = Awaits c
 status_of (Choosing pri arms) = Chooses pri arms
 status_of (Taking again what) = Runs
 status_of (Forking bs) = Forks bs
-status_of Halted = Stands
+status_of Halted = IsHalted
 status_of (Faulted e) = FailsBy e
 status_of Done = HasEnded
 
@@ -75,7 +76,7 @@ is_running (Offers c m) = false
 is_running (Awaits c) = false
 is_running (Chooses pri arms) = false
 is_running (Forks bs) = false
-is_running Stands = false
+is_running IsHalted = false
 is_running (FailsBy e) = false
 is_running HasEnded = false
 
@@ -86,7 +87,7 @@ is_looping (Offers c m) = false
 is_looping (Awaits c) = false
 is_looping (Chooses pri arms) = false
 is_looping (Forks bs) = false
-is_looping Stands = false
+is_looping IsHalted = false
 is_looping (FailsBy e) = false
 is_looping HasEnded = false
 
@@ -97,7 +98,7 @@ is_ended (Offers c m) = false
 is_ended (Awaits c) = false
 is_ended (Chooses pri arms) = false
 is_ended (Forks bs) = false
-is_ended Stands = false
+is_ended IsHalted = false
 is_ended (FailsBy e) = false
 is_ended HasEnded = true
 
@@ -121,14 +122,14 @@ or_stop (Some t) = t
 abbrev pub each_loop : Term → ℕ → Indices → Loop
 each_loop body index (indices base count) = EachLoop index base count body
 
--- one more turn: the body, and the loop that it is done within
-pub data Turned : Type 0 where
-  turned : (body : Term) (loop : Loop) → Turned
+-- one more pass: the body, and the loop that it is done within
+pub data Pass : Type 0 where
+  pass : (body : Term) (loop : Loop) → Pass
 
-abbrev pub turn_of : Loop → Store → Outcome (Option Turned)
-turn_of (WhileLoop test body) s = then_in (in_store (value_of test s) s) (λ v s'. Gives (if holds v then Some (turned body (WhileLoop test body)) else None) s')
-turn_of (EachLoop index v zero body) s = Gives None s
-turn_of (EachLoop index v (suc n) body) s = Gives (Some (turned body (EachLoop index (v +ℤ pos 1) n body))) (store_with s index v)
+abbrev pub pass_of : Loop → Store → Outcome (Option Pass)
+pass_of (WhileLoop test body) s = then_in (in_store (value_of test s) s) (λ v s'. Gives (if holds v then Some (pass body (WhileLoop test body)) else None) s')
+pass_of (EachLoop index v zero body) s = Gives None s
+pass_of (EachLoop index v (suc n) body) s = Gives (Some (pass body (EachLoop index (v +ℤ pos 1) n body))) (store_with s index v)
 
 abbrev pub after_taken : Taken → Store → Outcome (Option Term)
 after_taken (SkipTaken body) s = Gives (Some body) s
@@ -152,7 +153,7 @@ pub data FaultsIn : Doing → Store → Fault → Store → Type 0 where
   in_if : {s s' : Store} {e : Fault} {cs : Choices} → choice_of cs s ≡ Faults e s' → FaultsIn (Do (If cs)) s e s'
   in_case : {s s' : Store} {e : Fault} {x : Expression} {os : Options} → option_of x os s ≡ Faults e s' → FaultsIn (Do (Case x os)) s e s'
   in_each : {s : Store} {e : Fault} {r : Replicator} {b : Term} → indices_of r s ≡ Fails e → FaultsIn (Do (Each r b)) s e s
-  in_loop : {s s' : Store} {e : Fault} {l : Loop} → turn_of l s ≡ Faults e s' → FaultsIn (Turning l) s e s'
+  in_loop : {s s' : Store} {e : Fault} {l : Loop} → pass_of l s ≡ Faults e s' → FaultsIn (Passing l) s e s'
 
 pub data Step : Left → Store → Left → Store → Type 0 where
   -- Skip, as all that is left
@@ -174,11 +175,11 @@ pub data Step : Left → Store → Left → Store → Type 0 where
   par : {s : Store} {k : List Context} {n : ℕ} {b : Term} {bs : Branches} → Step (left (Do (Par (and_branch n b bs))) k) s (left (Forking (and_branch n b bs)) k) s
   if_step : {s s' : Store} {k : List Context} {cs : Choices} {t : Option Term} → choice_of cs s ≡ Gives t s' → Step (left (Do (If cs)) k) s (left (Do (or_stop t)) k) s'
   case : {s s' : Store} {k : List Context} {x : Expression} {os : Options} {t : Option Term} → option_of x os s ≡ Gives t s' → Step (left (Do (Case x os)) k) s (left (Do (or_stop t)) k) s'
-  while : {s : Store} {k : List Context} {e : Expression} {b : Term} → Step (left (Do (While e b)) k) s (left (Turning (WhileLoop e b)) k) s
-  each : {s : Store} {k : List Context} {r : Replicator} {b : Term} {is : Indices} → indices_of r s ≡ Value is → Step (left (Do (Each r b)) k) s (left (Turning (each_loop b (index_of r) is)) k) s
-  turns : {s s' : Store} {k : List Context} {l l' : Loop} {b : Term} → turn_of l s ≡ Gives (Some (turned b l')) s' → Step (left (Turning l) k) s (left (Do b) (Within l' ∷ k)) s'
-  leaves : {s s' : Store} {k : List Context} {l : Loop} → turn_of l s ≡ Gives None s' → Step (left (Turning l) k) s (left (Do Skip) k) s'
+  while : {s : Store} {k : List Context} {e : Expression} {b : Term} → Step (left (Do (While e b)) k) s (left (Passing (WhileLoop e b)) k) s
+  each : {s : Store} {k : List Context} {r : Replicator} {b : Term} {is : Indices} → indices_of r s ≡ Value is → Step (left (Do (Each r b)) k) s (left (Passing (each_loop b (index_of r) is)) k) s
+  passes_again : {s s' : Store} {k : List Context} {l l' : Loop} {b : Term} → pass_of l s ≡ Gives (Some (pass b l')) s' → Step (left (Passing l) k) s (left (Do b) (Within l' ∷ k)) s'
+  leaves : {s s' : Store} {k : List Context} {l : Loop} → pass_of l s ≡ Gives None s' → Step (left (Passing l) k) s (left (Do Skip) k) s'
   -- the end of the body: the loop stands again
   body_ends : {s : Store} {k : List Context} {l : Loop} → Step (left (Do Skip) (Within l ∷ k)) s (left (Again l) k) s
-  again : {s : Store} {k : List Context} {l : Loop} → Step (left (Again l) k) s (left (Turning l) k) s
+  again : {s : Store} {k : List Context} {l : Loop} → Step (left (Again l) k) s (left (Passing l) k) s
   faults : {s s' : Store} {k : List Context} {d : Doing} {e : Fault} → FaultsIn d s e s' → Step (left d k) s (left (Faulted e) k) s'

@@ -3,8 +3,8 @@ use Rattle.std.specs.Prelude.{Bool, IsTrue, List, None, Some, [], false, nat_eq,
 use Rattle.occ_term.specs.Messages.{Byte, Fault, One, Message, message}
 use Rattle.occ_term.specs.Terms.{Term, Skip, Branches, no_branches, and_branch, Reception}
 use Rattle.occ_term.specs.Values.{Store}
-use Rattle.occ_term.specs.Choosing.{Setting, Enabled, SkipArm, InputArm, chosen}
-use Rattle.occ_term.specs.Steps.{SkipTaken, MessageTaken, Do, Offering, Awaiting, Choosing, Taking, Forking, Context, Left, left, Status, Runs, Loops, Offers, Awaits, Chooses, Forks, Stands, FailsBy, HasEnded, status, is_ended}
+use Rattle.occ_term.specs.Selecting.{Setting, Enabled, SkipArm, InputArm, chosen}
+use Rattle.occ_term.specs.Steps.{SkipTaken, MessageTaken, Do, Offering, Awaiting, Choosing, Taking, Forking, Context, Left, left, Status, Runs, Loops, Offers, Awaits, Chooses, Forks, IsHalted, FailsBy, HasEnded, status, is_ended}
 use Rattle.occ_term.specs.Turns.{Turn}
 
 -- a process has its number, what is left of it, and its live branches
@@ -26,11 +26,11 @@ start t keyboard = system keyboard (process 0 (left (Do t) []) no_processes) (λ
 
 -- what a fault does: end the whole system, or stop its process alone
 pub data Errors : Type 0 where
-  Halt : Errors
+  HaltMode : Errors
   StopMode : Errors
 
 abbrev pub MayGo : Errors → List Fault → Type 0
-MayGo Halt noted = noted ≡ []
+MayGo HaltMode noted = noted ≡ []
 MayGo StopMode noted = ⊤
 
 abbrev pub noted_in : System → List Fault
@@ -50,7 +50,7 @@ begun (Offers c m) = no_processes
 begun (Awaits c) = no_processes
 begun (Chooses pri arms) = no_processes
 begun (Forks bs) = branches_of bs
-begun Stands = no_processes
+begun IsHalted = no_processes
 begun (FailsBy e) = no_processes
 begun HasEnded = no_processes
 
@@ -61,7 +61,7 @@ fault_noted (Offers c m) = []
 fault_noted (Awaits c) = []
 fault_noted (Chooses pri arms) = []
 fault_noted (Forks bs) = []
-fault_noted Stands = []
+fault_noted IsHalted = []
 fault_noted (FailsBy e) = e ∷ []
 fault_noted HasEnded = []
 
@@ -115,7 +115,7 @@ offers_at (Offers d m) c = nat_eq d c
 offers_at (Awaits d) c = false
 offers_at (Chooses pri arms) c = false
 offers_at (Forks bs) c = false
-offers_at Stands c = false
+offers_at IsHalted c = false
 offers_at (FailsBy e) c = false
 offers_at HasEnded c = false
 

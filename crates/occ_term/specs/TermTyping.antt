@@ -29,7 +29,7 @@ TargetsHave d (x ∷ xs) (t ∷ ts) = TargetHas d.types x t × TargetsHave d xs 
 
 -- a value or a whole array, and no counted one
 abbrev pub value_part : (Primitive × List ℕ) → PartType
-value_part (type, sizes) = simple_part type sizes
+value_part (type, sizes) = simple_part sizes type
 
 abbrev pub value_parts : List (Primitive × List ℕ) → List PartType
 value_parts [] = []
@@ -39,7 +39,7 @@ value_parts (x ∷ xs) = value_part x ∷ value_parts xs
 abbrev pub DeclarationHas : Declared → Declaration → Type 0
 DeclarationHas d (Clearing first count) = (type : Primitive) × CellsHave d.types (span first count) type
 DeclarationHas d (Naming first value) =
-    (type : Primitive) × (sizes : List ℕ) × ItemHas d.types value (simple_part type sizes) × CellsHave d.types (span first (product sizes)) type
+    (type : Primitive) × (sizes : List ℕ) × ItemHas d.types value (simple_part sizes type) × CellsHave d.types (span first (product sizes)) type
 
 abbrev pub DeclarationsHave : Declared → List Declaration → Type 0
 DeclarationsHave d [] = ⊤

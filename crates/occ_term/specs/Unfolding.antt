@@ -24,7 +24,7 @@ declared u = record { types = λ c. get_or (map (λ x. x.primitive) u.cells) c I
 
 -- a channel of bytes
 abbrev pub byte_channel : List ℕ → Channel
-byte_channel name = record { name = name; protocol = Simple Byte [] }
+byte_channel name = record { name = name; protocol = Simple [] Byte }
 
 -- channel 0 is the keyboard, 1 the screen, 2 the error channel
 abbrev pub first_channels : List Channel

@@ -1,7 +1,7 @@
 //! Laws of the definitions, and small programs whose runs check them. Each function's contract is the law; its body does nothing.
 
 ghost use Rattle.occ_term.specs.StepRuns.{TurnsAreSteps};
-ghost use Rattle.occ_term.specs.Choosing.{waits_for};
+ghost use Rattle.occ_term.specs.Selecting.{waits_for};
 ghost use Rattle.occ_term.specs.Examples.{ArmRows, AssignRows, ChoiceRows, ChosenRows, Divides, FaultHalts, GoingHasStep, Halts, Joins, LaterOffer, LongTurns, MessageRows, PlaceRows, PriorityTakesFirst, SequencePerforms, StopsBoth, ThreeRun, ThreeTurns, Unlawful, UseRows, ValueRows, WritesA};
 
 /// Operators and conversions at their limits.

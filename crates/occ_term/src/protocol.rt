@@ -29,8 +29,8 @@ pub struct Tag {
 /// The protocol of a channel.
 #[derive(Debug, Drop)]
 pub enum Protocol {
-    /// A value of this type, or an array where there are sizes.
-    Simple(Primitive, Items<u32>),
+    /// A value of this type, or where there are sizes an array.
+    Simple(Items<u32>, Primitive),
     /// A count of the first type, `::`, and so many components of the second.
     CountedArray(Primitive, Primitive),
     /// These parts, in order.
@@ -73,9 +73,9 @@ impl Protocol {
         ensures { IfOk result (λ p. p ≡ self.now) }
     {
         match self {
-            Protocol::Simple(primitive, sizes) => {
+            Protocol::Simple(sizes, primitive) => {
                 let sizes = Items::from_slice(alloc, sizes.as_slice())?;
-                Ok(Protocol::Simple(*primitive, sizes))
+                Ok(Protocol::Simple(sizes, *primitive))
             }
             Protocol::CountedArray(count, primitive) => {
                 Ok(Protocol::CountedArray(*count, *primitive))

@@ -1,5 +1,5 @@
 use Rattle.occ_term.proofs.Priority.{priority_takes_first}
-use Rattle.occ_term.specs.Choosing.{waits_for}
+use Rattle.occ_term.specs.Selecting.{waits_for}
 use Rattle.occ_term.proofs.laws.priority_takes_first.Goals as goal
 
 pub returns : goal.returns
