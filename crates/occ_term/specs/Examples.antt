@@ -25,6 +25,9 @@ most_neg = minus 2147483648
 abbrev pub on_two : Operator → Primitive → ℤ → ℤ → Evaluated ℤ
 on_two op type a b = value_of (Binary op type 1 (number a) (number b)) (λ c. pos 0)
 
+abbrev pub divides_by_zero : Expression
+divides_by_zero = Binary Divide Int 1 (number (pos 1)) (number (pos 0))
+
 abbrev pub ValueRows : Type 0
 ValueRows =
     (on_two Plus Int (pos 2147483647) (pos 1) ≡ Fails (fault Arith 1))
@@ -43,7 +46,7 @@ ValueRows =
     × (on_two BitXor Int (minus 1) (pos 255) ≡ Value (minus 256))
     × (value_of (Unary BitNot Byte 1 (number (pos 1))) (λ c. pos 0) ≡ Value (pos 254))
     × (value_of (Conversion Byte 2 (number (pos 256))) (λ c. pos 0) ≡ Fails (fault Convert 2))
-    × (value_of (And (number (pos 0)) (Binary Equal Int 1 (Binary Divide Int 1 (number (pos 1)) (number (pos 0))) (number (pos 0)))) (λ c. pos 0) ≡ Value (pos 0))
+    × (value_of (And (number (pos 0)) (Binary Equal Int 1 divides_by_zero (number (pos 0)))) (λ c. pos 0) ≡ Value (pos 0))
 
 -- a[1][2] of [2][3]INT from cell 10 on is cell 15; a[0][3] is out of range, before the array is read
 abbrev pub matrix : ℤ → ℤ → Place
@@ -83,7 +86,10 @@ closed_arms =
 
 -- ALT i = 0 FOR 2, with the arm c[i] ? x
 abbrev pub copied_arms : Arms
-copied_arms = each_arm (replicator 2 0 (number (pos 0)) (number (pos 2))) (input_arm (number (pos 1)) (place 2 3 (2 ∷ []) (then_subscript (Cell 0) no_subscripts)) (Plain [] Skip) no_arms) no_arms
+copied_arms =
+    each_arm (replicator 2 0 (number (pos 0)) (number (pos 2)))
+    (input_arm (number (pos 1)) (place 2 3 (2 ∷ []) (then_subscript (Cell 0) no_subscripts)) (Plain [] Skip) no_arms)
+    no_arms
 
 abbrev pub zeros : Store
 zeros = λ c. pos 0
@@ -104,15 +110,19 @@ abbrev pub fault_in : {X : Type 0} → Outcome X → Option Fault
 fault_in (Gives x s) = None
 fault_in (Faults e s) = Some e
 
+abbrev pub copied_arm : ℤ → ℕ → Enabled
+copied_arm index channel = InputArm (IndexTo 0 index ∷ []) channel (Plain [] Skip)
+
 abbrev pub ArmRows : Type 0
 ArmRows =
     (enabled closed_arms [] zeros ≡ Gives [] (store_with zeros 7 (pos 9)))
-    × (arms_in (enabled copied_arms [] zeros) ≡ InputArm (IndexTo 0 (pos 0) ∷ []) 3 (Plain [] Skip) ∷ InputArm (IndexTo 0 (pos 1) ∷ []) 4 (Plain [] Skip) ∷ [])
+    × (arms_in (enabled copied_arms [] zeros) ≡ copied_arm (pos 0) 3 ∷ copied_arm (pos 1) 4 ∷ [])
     × (cell_in 0 (enabled copied_arms [] zeros) ≡ pos 1)
 
 -- IF i = 0 FOR 3, with the choice i = 2; the index stays where it was found
 abbrev pub copied_choices : Choices
-copied_choices = each_choice (replicator 2 0 (number (pos 0)) (number (pos 3))) (or_choice (Binary Equal Int 3 (Cell 0) (number (pos 2))) Skip no_choices) no_choices
+copied_choices =
+    each_choice (replicator 2 0 (number (pos 0)) (number (pos 3))) (or_choice (Binary Equal Int 3 (Cell 0) (number (pos 2))) Skip no_choices) no_choices
 
 abbrev pub some_options : Options
 some_options = or_else [] Stop (or_option (pos 1 ∷ pos 2 ∷ []) [] Skip no_options)
@@ -158,12 +168,25 @@ abbrev pub three_bytes : Item
 three_bytes = OfMany Byte (Text (pos 7 ∷ pos 8 ∷ pos 9 ∷ []))
 
 -- a, b := b, a, and v[i], v[j] := 1, 2 with i = j: the right-hand value stays; no value goes past the last cell of a target
+abbrev pub into_cell : ℕ → Target
+into_cell c = Into (place 1 c [] no_subscripts)
+
+-- v[i] of [2]INT v from cell 4 on, with i in that cell
+abbrev pub into_component : ℕ → Target
+into_component i = Into (place 1 4 (2 ∷ []) (then_subscript (Cell i) no_subscripts))
+
+abbrev pub into_two : Target
+into_two = Into (place 1 0 (2 ∷ []) no_subscripts)
+
+abbrev pub one_and_two : List Item
+one_and_two = OfOne Int (number (pos 1)) ∷ OfOne Int (number (pos 2)) ∷ []
+
 abbrev pub AssignRows : Type 0
 AssignRows =
-    (cell_in 1 (assigned (Into (place 1 0 [] no_subscripts) ∷ Into (place 1 1 [] no_subscripts) ∷ []) (OfOne Int (Cell 1) ∷ OfOne Int (Cell 0) ∷ []) (store_with zeros 0 (pos 5))) ≡ pos 5)
-    × (cell_in 4 (assigned (Into (place 1 4 (2 ∷ []) (then_subscript (Cell 0) no_subscripts)) ∷ Into (place 1 4 (2 ∷ []) (then_subscript (Cell 1) no_subscripts)) ∷ []) (OfOne Int (number (pos 1)) ∷ OfOne Int (number (pos 2)) ∷ []) zeros) ≡ pos 2)
-    × (cell_in 1 (assigned (Into (place 1 0 (2 ∷ []) no_subscripts) ∷ []) (three_bytes ∷ []) zeros) ≡ pos 8)
-    × (cell_in 2 (assigned (Into (place 1 0 (2 ∷ []) no_subscripts) ∷ []) (three_bytes ∷ []) zeros) ≡ pos 0)
+    (cell_in 1 (assigned (into_cell 0 ∷ into_cell 1 ∷ []) (OfOne Int (Cell 1) ∷ OfOne Int (Cell 0) ∷ []) (store_with zeros 0 (pos 5))) ≡ pos 5)
+    × (cell_in 4 (assigned (into_component 0 ∷ into_component 1 ∷ []) one_and_two zeros) ≡ pos 2)
+    × (cell_in 1 (assigned (into_two ∷ []) (three_bytes ∷ []) zeros) ≡ pos 8)
+    × (cell_in 2 (assigned (into_two ∷ []) (three_bytes ∷ []) zeros) ≡ pos 0)
 
 -- ---- use: PAR a[0] := a[1] beside a[i] := 2, for [2][2]INT a
 
@@ -246,7 +269,9 @@ abbrev pub after_stop : System
 after_stop = system [] (process 0 (left Halted []) no_processes) zeros []
 
 abbrev pub Halts : Type 0
-Halts = Run HaltMode 1 (start (Alt true closed_arms) []) (event 0 None ∷ []) (system [] (process 0 (left Halted []) no_processes) (store_with zeros 7 (pos 9)) []) × EndsBy HaltMode after_stop Stopped
+Halts =
+    Run HaltMode 1 (start (Alt true closed_arms) []) (event 0 None ∷ []) (system [] (process 0 (left Halted []) no_processes) (store_with zeros 7 (pos 9)) [])
+    × EndsBy HaltMode after_stop Stopped
 
 -- ---- two outputs and an ALT that waits for one of them
 -- CHAN OF INT a, b: PAR / a ! 1 / b ! 2 / INT x: SEQ (opt PRI) ALT / a ? x SKIP / b ? x SKIP / screen ! BYTE (x + 48)
@@ -260,8 +285,11 @@ into_x = Plain (Into (single 9 0) ∷ []) Skip
 abbrev pub writes_x : Term
 writes_x = Output (single 13 1) None (OfOne Byte (Conversion Byte 13 (Binary Plus Int 13 (Cell 0) (number (pos 48)))) ∷ [])
 
+abbrev pub both_arms : Arms
+both_arms = input_arm (number (pos 1)) (single 9 3) into_x (input_arm (number (pos 1)) (single 11 4) into_x no_arms)
+
 abbrev pub chooser : Bool → Term
-chooser pri = Seq (then_term (Clear 0 1) (then_term (Seq (then_term (Alt pri (input_arm (number (pos 1)) (single 9 3) into_x (input_arm (number (pos 1)) (single 11 4) into_x no_arms))) (then_term writes_x no_terms))) no_terms))
+chooser pri = Seq (then_term (Clear 0 1) (then_term (Seq (then_term (Alt pri both_arms) (then_term writes_x no_terms))) no_terms))
 
 abbrev pub three : Bool → Branches
 three pri = and_branch 1 (sends 3 (pos 1)) (and_branch 2 (sends 4 (pos 2)) (and_branch 3 (chooser pri) no_branches))
@@ -323,7 +351,9 @@ abbrev pub turns_for_ever : Loop
 turns_for_ever = WhileLoop (number (pos 1)) Skip
 
 abbrev pub LongTurns : Type 0
-LongTurns = Run HaltMode 4 (start (While (number (pos 1)) Skip) []) (event 0 None ∷ []) (system [] (process 0 (left (Again turns_for_ever) []) no_processes) (λ c. pos 0) [])
+LongTurns =
+    Run HaltMode 4 (start (While (number (pos 1)) Skip) []) (event 0 None ∷ [])
+    (system [] (process 0 (left (Again turns_for_ever) []) no_processes) (λ c. pos 0) [])
 
 -- ---- PAR / a := 1 \ a / b := 1 \ b, where a fault stops its process alone: the first fault in the order of turns is named
 
@@ -337,7 +367,8 @@ abbrev pub faulted : ℕ → ℕ → Process
 faulted n line = process n (left (Faulted (fault Arith line)) []) no_processes
 
 abbrev pub both_faulted : List Fault → System
-both_faulted noted = system [] (process 0 (left (Forking both_divide) []) (and_process (faulted 1 4) (and_process (faulted 2 5) no_processes))) (λ c. pos 0) noted
+both_faulted noted =
+    system [] (process 0 (left (Forking both_divide) []) (and_process (faulted 1 4) (and_process (faulted 2 5) no_processes))) (λ c. pos 0) noted
 
 abbrev pub second_first : List Fault
 second_first = fault Arith 5 ∷ fault Arith 4 ∷ []
@@ -373,7 +404,10 @@ ThreeTurns = (b : System) × Run HaltMode 1 (start two_times []) (event 0 None �
 -- ---- an offer that comes to an ALT that waits: the chooser's turn stands first
 
 abbrev pub LaterOffer : Type 0
-LaterOffer = (b : System) × Run HaltMode 1 (start (Par (three true)) []) (event 0 None ∷ event 3 None ∷ event 2 (Some (communication 4 (OfProcess 2) (OfProcess 3) (int_message (pos 2)))) ∷ []) b
+LaterOffer =
+    (b : System)
+    × Run HaltMode 1 (start (Par (three true)) [])
+    (event 0 None ∷ event 3 None ∷ event 2 (Some (communication 4 (OfProcess 2) (OfProcess 3) (int_message (pos 2)))) ∷ []) b
 
 -- ---- PAR SKIP SKIP: the parent goes on when both branches have ended, and not before
 
@@ -381,7 +415,11 @@ abbrev pub two_skips : Branches
 two_skips = and_branch 1 Skip (and_branch 2 Skip no_branches)
 
 abbrev pub one_ended : System
-one_ended = system [] (process 0 (left (Forking two_skips) []) (and_process (process 1 (left Done []) no_processes) (and_process (process 2 (left (Do Skip) []) no_processes) no_processes))) (λ c. pos 0) []
+one_ended =
+    system []
+    (process 0 (left (Forking two_skips) [])
+    (and_process (process 1 (left Done []) no_processes) (and_process (process 2 (left (Do Skip) []) no_processes) no_processes)))
+    (λ c. pos 0) []
 
 abbrev pub Joins : Type 0
 Joins =

@@ -7,7 +7,8 @@ use Rattle.occ_term.specs.Runs.{Ended, Ending, EndsBy, Event, Limit, Names, Run,
 
 -- with an empty keyboard, in turns that pass no loop's stop: these turns, these bytes on the screen, this ending
 abbrev pub RunsAs : Term → List Event → List ℕ → Ending → Type 0
-RunsAs t es bytes ending = (b : System) × Run HaltMode 1 (start t []) es b × EndsBy HaltMode b ending × ((names : Names) → (shown names es).screen ≡ bytes)
+RunsAs t es bytes ending =
+    (b : System) × Run HaltMode 1 (start t []) es b × EndsBy HaltMode b ending × ((names : Names) → (shown names es).screen ≡ bytes)
 
 -- `screen ! ` with one byte, in that line
 abbrev pub writes : ℕ → ℕ → Term

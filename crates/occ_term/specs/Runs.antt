@@ -27,7 +27,8 @@ pub data Event : Type 0 where
 
 pub data Run (errors : Errors) (quantum : ℕ) : System → List Event → System → Type 0 where
   no_turn : {a : System} → Run errors quantum a [] a
-  goes : {n : ℕ} {x : Option Communication} {a b c d : System} {es : List Event} → SystemTurn errors quantum n a b → MeetsAtMost errors n b x c → Run errors quantum c es d → Run errors quantum a (event n x ∷ es) d
+  goes : {n : ℕ} {x : Option Communication} {a b c d : System} {es : List Event}
+      → SystemTurn errors quantum n a b → MeetsAtMost errors n b x c → Run errors quantum c es d → Run errors quantum a (event n x ∷ es) d
 
 -- ---- the ending
 
@@ -93,7 +94,8 @@ tag_shown names c None = None
 tag_shown names c (Some tag) = Some (names.tag_name c tag)
 
 abbrev pub entry_of : Names → ℕ → Communication → Entry
-entry_of names i (communication c x y m) = record { number = i; channel = c; name = names.channel_name c; sender = x; receiver = y; tag = tag_shown names c m.tag; message = m }
+entry_of names i (communication c x y m) =
+    record { number = i; channel = c; name = names.channel_name c; sender = x; receiver = y; tag = tag_shown names c m.tag; message = m }
 
 abbrev pub communications : List Event → List Communication
 communications [] = []
@@ -128,7 +130,8 @@ pub record AllShown : Type 0 where
   pub messages : ℕ → List Message
 
 abbrev pub shown_by : Names → List Communication → AllShown
-shown_by names xs = record { trace = entries names 1 xs; screen = bytes_of (messages_on 1 xs); error = bytes_of (messages_on 2 xs); messages = λ c. messages_on c xs }
+shown_by names xs =
+    record { trace = entries names 1 xs; screen = bytes_of (messages_on 1 xs); error = bytes_of (messages_on 2 xs); messages = λ c. messages_on c xs }
 
 abbrev pub shown : Names → List Event → AllShown
 shown names es = shown_by names (communications es)

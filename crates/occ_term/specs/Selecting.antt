@@ -23,7 +23,8 @@ choice_over select index (indices base count) s = first_over select index base c
 
 abbrev pub choice_of : Choices → Store → Outcome (Option Term)
 choice_of no_choices s = Gives None s
-choice_of (or_choice test body others) s = then_in (in_store (value_of test s) s) (λ v s'. if holds v then Gives (Some body) s' else choice_of others s')
+choice_of (or_choice test body others) s =
+    then_in (in_store (value_of test s) s) (λ v s'. if holds v then Gives (Some body) s' else choice_of others s')
 choice_of (declared_choices d within others) s = or_next (then_in (declared d s) (λ x s'. choice_of within s')) (λ s'. choice_of others s')
 choice_of (each_choice over within others) s =
     or_next (then_in (in_store (indices_of over s) s) (λ is s'. choice_over (choice_of within) (index_of over) is s')) (λ s'. choice_of others s')
@@ -140,11 +141,13 @@ is_ready_on offers (Some c) = offers c
 
 abbrev pub ready_among : {A : Type 0} → (A → Option ℕ) → (ℕ → Bool) → List A → List A
 ready_among channel offers [] = []
-ready_among channel offers (a ∷ arms) = if is_ready_on offers (channel a) then a ∷ ready_among channel offers arms else ready_among channel offers arms
+ready_among channel offers (a ∷ arms) =
+    if is_ready_on offers (channel a) then a ∷ ready_among channel offers arms else ready_among channel offers arms
 
 -- the rule: the first ready one with priority, else the one with the number `pick` modulo the ready ones
 abbrev pub chosen_of : {A : Type 0} → (A → Option ℕ) → Bool → ℕ → (ℕ → Bool) → List A → Option A
-chosen_of channel pri pick offers arms = slice_get (ready_among channel offers arms) (if pri then 0 else pick % length (ready_among channel offers arms))
+chosen_of channel pri pick offers arms =
+    slice_get (ready_among channel offers arms) (if pri then 0 else pick % length (ready_among channel offers arms))
 
 abbrev pub waits_for : Enabled → Option ℕ
 waits_for (SkipArm again body) = None

@@ -77,7 +77,8 @@ size_of_declarations (d ∷ ds) = beside (size_of_declaration d) (size_of_declar
 
 -- with what it replicates
 abbrev pub size_of_replicator : Replicator → Size → Size
-size_of_replicator (replicator line index base count) within = node (beside (cells 1) (beside (size_of_expression base) (beside (size_of_expression count) within)))
+size_of_replicator (replicator line index base count) within =
+    node (beside (cells 1) (beside (size_of_expression base) (beside (size_of_expression count) within)))
 
 abbrev pub size_of_constants : List ℤ → Size
 size_of_constants [] = no_size
@@ -112,7 +113,8 @@ abbrev mutual
   pub size_of_arms : Arms → Size
   size_of_arms no_arms = no_size
   size_of_arms (skip_arm e t arms) = beside (node (beside (size_of_expression e) (size_of t))) (size_of_arms arms)
-  size_of_arms (input_arm e c list arms) = beside (node (beside (size_of_expression e) (beside (size_of_place c) (size_of_reception list)))) (size_of_arms arms)
+  size_of_arms (input_arm e c list arms) =
+      beside (node (beside (size_of_expression e) (beside (size_of_place c) (size_of_reception list)))) (size_of_arms arms)
   size_of_arms (declared_arms d arms others) = beside (size_of_declaration d) (beside (size_of_arms arms) (size_of_arms others))
   size_of_arms (each_arm r arms others) = beside (size_of_replicator r (size_of_arms arms)) (size_of_arms others)
 
@@ -122,7 +124,8 @@ abbrev mutual
 
   pub size_of_variants : Variants → Size
   size_of_variants no_variants = no_size
-  size_of_variants (or_variant tag ds ts t vs) = beside (node (beside (size_of_declarations ds) (beside (size_of_targets ts) (size_of t)))) (size_of_variants vs)
+  size_of_variants (or_variant tag ds ts t vs) =
+      beside (node (beside (size_of_declarations ds) (beside (size_of_targets ts) (size_of t)))) (size_of_variants vs)
 
   pub size_of_choices : Choices → Size
   size_of_choices no_choices = no_size
@@ -132,5 +135,6 @@ abbrev mutual
 
   pub size_of_options : Options → Size
   size_of_options no_options = no_size
-  size_of_options (or_option constants ds t os) = beside (node (beside (size_of_constants constants) (beside (size_of_declarations ds) (size_of t)))) (size_of_options os)
+  size_of_options (or_option constants ds t os) =
+      beside (node (beside (size_of_constants constants) (beside (size_of_declarations ds) (size_of t)))) (size_of_options os)
   size_of_options (or_else ds t os) = beside (node (beside (size_of_declarations ds) (size_of t))) (size_of_options os)

@@ -127,7 +127,8 @@ pub data Pass : Type 0 where
   pass : (body : Term) (loop : Loop) → Pass
 
 abbrev pub pass_of : Loop → Store → Outcome (Option Pass)
-pass_of (WhileLoop test body) s = then_in (in_store (value_of test s) s) (λ v s'. Gives (if holds v then Some (pass body (WhileLoop test body)) else None) s')
+pass_of (WhileLoop test body) s =
+    then_in (in_store (value_of test s) s) (λ v s'. Gives (if holds v then Some (pass body (WhileLoop test body)) else None) s')
 pass_of (EachLoop index v zero body) s = Gives None s
 pass_of (EachLoop index v (suc n) body) s = Gives (Some (pass body (EachLoop index (v +ℤ pos 1) n body))) (store_with s index v)
 
@@ -145,11 +146,13 @@ taken_by again what s = then_in (set_again again s) (λ x s'. after_taken what s
 pub data FaultsIn : Doing → Store → Fault → Store → Type 0 where
   in_assign : {s s' : Store} {e : Fault} {ts : List Target} {vs : List Item} → assigned ts vs s ≡ Faults e s' → FaultsIn (Do (Assign ts vs)) s e s'
   in_local : {s s' : Store} {e : Fault} {c : ℕ} {v : Item} → declared (Naming c v) s ≡ Faults e s' → FaultsIn (Do (Local c v)) s e s'
-  in_output : {s : Store} {e : Fault} {c : Place} {tag : Option ℕ} {is : List Item} → offer_of c tag is s ≡ Fails e → FaultsIn (Do (Output c tag is)) s e s
+  in_output : {s : Store} {e : Fault} {c : Place} {tag : Option ℕ} {is : List Item}
+      → offer_of c tag is s ≡ Fails e → FaultsIn (Do (Output c tag is)) s e s
   in_input : {s : Store} {e : Fault} {c : Place} {ts : List Target} → await_of c (Plain ts Skip) s ≡ Fails e → FaultsIn (Do (Input c ts)) s e s
   in_variant : {s : Store} {e : Fault} {c : Place} {vs : Variants} → await_of c (Tagged vs) s ≡ Fails e → FaultsIn (Do (VariantInput c vs)) s e s
   in_alt : {s s' : Store} {e : Fault} {pri : Bool} {arms : Arms} → enabled arms [] s ≡ Faults e s' → FaultsIn (Do (Alt pri arms)) s e s'
-  in_take : {s s' : Store} {e : Fault} {again : List Setting} {what : Taken} → taken_by again what s ≡ Faults e s' → FaultsIn (Taking again what) s e s'
+  in_take : {s s' : Store} {e : Fault} {again : List Setting} {what : Taken}
+      → taken_by again what s ≡ Faults e s' → FaultsIn (Taking again what) s e s'
   in_if : {s s' : Store} {e : Fault} {cs : Choices} → choice_of cs s ≡ Faults e s' → FaultsIn (Do (If cs)) s e s'
   in_case : {s s' : Store} {e : Fault} {x : Expression} {os : Options} → option_of x os s ≡ Faults e s' → FaultsIn (Do (Case x os)) s e s'
   in_each : {s : Store} {e : Fault} {r : Replicator} {b : Term} → indices_of r s ≡ Fails e → FaultsIn (Do (Each r b)) s e s
@@ -159,25 +162,38 @@ pub data Step : Left → Store → Left → Store → Type 0 where
   -- Skip, as all that is left
   ends : {s : Store} → Step (left (Do Skip) []) s (left Done []) s
   stop : {s : Store} {k : List Context} → Step (left (Do Stop) k) s (left Halted k) s
-  assign : {s s' : Store} {k : List Context} {ts : List Target} {vs : List Item} → assigned ts vs s ≡ Gives nothing s' → Step (left (Do (Assign ts vs)) k) s (left (Do Skip) k) s'
-  clear : {s s' : Store} {k : List Context} {c n : ℕ} → declared (Clearing c n) s ≡ Gives nothing s' → Step (left (Do (Clear c n)) k) s (left (Do Skip) k) s'
-  local : {s s' : Store} {k : List Context} {c : ℕ} {v : Item} → declared (Naming c v) s ≡ Gives nothing s' → Step (left (Do (Local c v)) k) s (left (Do Skip) k) s'
-  output : {s : Store} {k : List Context} {d : Doing} {c : Place} {tag : Option ℕ} {is : List Item} → offer_of c tag is s ≡ Value d → Step (left (Do (Output c tag is)) k) s (left d k) s
-  input : {s : Store} {k : List Context} {d : Doing} {c : Place} {ts : List Target} → await_of c (Plain ts Skip) s ≡ Value d → Step (left (Do (Input c ts)) k) s (left d k) s
-  variant : {s : Store} {k : List Context} {d : Doing} {c : Place} {vs : Variants} → await_of c (Tagged vs) s ≡ Value d → Step (left (Do (VariantInput c vs)) k) s (left d k) s
-  alt : {s s' : Store} {k : List Context} {pri : Bool} {arms : Arms} {open_arms : List Enabled} → enabled arms [] s ≡ Gives open_arms s' → Step (left (Do (Alt pri arms)) k) s (left (choosing pri open_arms) k) s'
-  take_in : {s s' : Store} {k : List Context} {again : List Setting} {what : Taken} {t : Option Term} → taken_by again what s ≡ Gives t s' → Step (left (Taking again what) k) s (left (Do (or_stop t)) k) s'
+  assign : {s s' : Store} {k : List Context} {ts : List Target} {vs : List Item}
+      → assigned ts vs s ≡ Gives nothing s' → Step (left (Do (Assign ts vs)) k) s (left (Do Skip) k) s'
+  clear : {s s' : Store} {k : List Context} {c n : ℕ}
+      → declared (Clearing c n) s ≡ Gives nothing s' → Step (left (Do (Clear c n)) k) s (left (Do Skip) k) s'
+  local : {s s' : Store} {k : List Context} {c : ℕ} {v : Item}
+      → declared (Naming c v) s ≡ Gives nothing s' → Step (left (Do (Local c v)) k) s (left (Do Skip) k) s'
+  output : {s : Store} {k : List Context} {d : Doing} {c : Place} {tag : Option ℕ} {is : List Item}
+      → offer_of c tag is s ≡ Value d → Step (left (Do (Output c tag is)) k) s (left d k) s
+  input : {s : Store} {k : List Context} {d : Doing} {c : Place} {ts : List Target}
+      → await_of c (Plain ts Skip) s ≡ Value d → Step (left (Do (Input c ts)) k) s (left d k) s
+  variant : {s : Store} {k : List Context} {d : Doing} {c : Place} {vs : Variants}
+      → await_of c (Tagged vs) s ≡ Value d → Step (left (Do (VariantInput c vs)) k) s (left d k) s
+  alt : {s s' : Store} {k : List Context} {pri : Bool} {arms : Arms} {open_arms : List Enabled}
+      → enabled arms [] s ≡ Gives open_arms s' → Step (left (Do (Alt pri arms)) k) s (left (choosing pri open_arms) k) s'
+  take_in : {s s' : Store} {k : List Context} {again : List Setting} {what : Taken} {t : Option Term}
+      → taken_by again what s ≡ Gives t s' → Step (left (Taking again what) k) s (left (Do (or_stop t)) k) s'
   seq_empty : {s : Store} {k : List Context} → Step (left (Do (Seq no_terms)) k) s (left (Do Skip) k) s
   seq : {s : Store} {k : List Context} {t : Term} {ts : Terms} → Step (left (Do (Seq (then_term t ts))) k) s (left (Do t) (Then ts ∷ k)) s
   -- a first part Skip is dropped
   drops : {s : Store} {k : List Context} {ts : Terms} → Step (left (Do Skip) (Then ts ∷ k)) s (left (Do (Seq ts)) k) s
   par_empty : {s : Store} {k : List Context} → Step (left (Do (Par no_branches)) k) s (left (Do Skip) k) s
-  par : {s : Store} {k : List Context} {n : ℕ} {b : Term} {bs : Branches} → Step (left (Do (Par (and_branch n b bs))) k) s (left (Forking (and_branch n b bs)) k) s
-  if_step : {s s' : Store} {k : List Context} {cs : Choices} {t : Option Term} → choice_of cs s ≡ Gives t s' → Step (left (Do (If cs)) k) s (left (Do (or_stop t)) k) s'
-  case : {s s' : Store} {k : List Context} {x : Expression} {os : Options} {t : Option Term} → option_of x os s ≡ Gives t s' → Step (left (Do (Case x os)) k) s (left (Do (or_stop t)) k) s'
+  par : {s : Store} {k : List Context} {n : ℕ} {b : Term} {bs : Branches}
+      → Step (left (Do (Par (and_branch n b bs))) k) s (left (Forking (and_branch n b bs)) k) s
+  if_step : {s s' : Store} {k : List Context} {cs : Choices} {t : Option Term}
+      → choice_of cs s ≡ Gives t s' → Step (left (Do (If cs)) k) s (left (Do (or_stop t)) k) s'
+  case : {s s' : Store} {k : List Context} {x : Expression} {os : Options} {t : Option Term}
+      → option_of x os s ≡ Gives t s' → Step (left (Do (Case x os)) k) s (left (Do (or_stop t)) k) s'
   while : {s : Store} {k : List Context} {e : Expression} {b : Term} → Step (left (Do (While e b)) k) s (left (Passing (WhileLoop e b)) k) s
-  each : {s : Store} {k : List Context} {r : Replicator} {b : Term} {is : Indices} → indices_of r s ≡ Value is → Step (left (Do (Each r b)) k) s (left (Passing (each_loop b (index_of r) is)) k) s
-  passes_again : {s s' : Store} {k : List Context} {l l' : Loop} {b : Term} → pass_of l s ≡ Gives (Some (pass b l')) s' → Step (left (Passing l) k) s (left (Do b) (Within l' ∷ k)) s'
+  each : {s : Store} {k : List Context} {r : Replicator} {b : Term} {is : Indices}
+      → indices_of r s ≡ Value is → Step (left (Do (Each r b)) k) s (left (Passing (each_loop b (index_of r) is)) k) s
+  passes_again : {s s' : Store} {k : List Context} {l l' : Loop} {b : Term}
+      → pass_of l s ≡ Gives (Some (pass b l')) s' → Step (left (Passing l) k) s (left (Do b) (Within l' ∷ k)) s'
   leaves : {s s' : Store} {k : List Context} {l : Loop} → pass_of l s ≡ Gives None s' → Step (left (Passing l) k) s (left (Do Skip) k) s'
   -- the end of the body: the loop stands again
   body_ends : {s : Store} {k : List Context} {l : Loop} → Step (left (Do Skip) (Within l ∷ k)) s (left (Again l) k) s

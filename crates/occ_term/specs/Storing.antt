@@ -89,7 +89,8 @@ pub data Indices : Type 0 where
 
 abbrev pub indices_of : Replicator → Store → Evaluated Indices
 indices_of (replicator line index base count) s =
-    after (value_of base s) (λ b. after (value_of count s) (λ n. checked (int_le (pos 0) n && int_le (b +ℤ n) (pos 2147483648)) (indices b (nat_abs n)) Count line))
+    after (value_of base s) (λ b. after (value_of count s) (λ n.
+    checked (int_le (pos 0) n && int_le (b +ℤ n) (pos 2147483648)) (indices b (nat_abs n)) Count line))
 
 abbrev pub index_of : Replicator → ℕ
 index_of (replicator line index base count) = index

@@ -78,15 +78,21 @@ pub data GoesFrom : Left → Processes → Left → Type 0 where
 -- a turn of the process with that number, and what it stands at then
 mutual
   pub data TurnIn (quantum n : ℕ) : Process → Store → Process → Store → Status → Type 0 where
-    turn_here : {a b c : Left} {ps : Processes} {s s' : Store} → GoesFrom a ps b → Turn quantum b s c s' → TurnIn quantum n (process n a ps) s (process n c (begun (status c))) s' (status c)
-    turn_below : {m : ℕ} {a : Left} {ps ps' : Processes} {s s' : Store} {st : Status} → TurnAmong quantum n ps s ps' s' st → TurnIn quantum n (process m a ps) s (process m a ps') s' st
+    turn_here : {a b c : Left} {ps : Processes} {s s' : Store}
+        → GoesFrom a ps b → Turn quantum b s c s' → TurnIn quantum n (process n a ps) s (process n c (begun (status c))) s' (status c)
+    turn_below : {m : ℕ} {a : Left} {ps ps' : Processes} {s s' : Store} {st : Status}
+        → TurnAmong quantum n ps s ps' s' st → TurnIn quantum n (process m a ps) s (process m a ps') s' st
 
   pub data TurnAmong (quantum n : ℕ) : Processes → Store → Processes → Store → Status → Type 0 where
-    turn_first : {p p' : Process} {ps : Processes} {s s' : Store} {st : Status} → TurnIn quantum n p s p' s' st → TurnAmong quantum n (and_process p ps) s (and_process p' ps) s' st
-    turn_later : {p : Process} {ps ps' : Processes} {s s' : Store} {st : Status} → TurnAmong quantum n ps s ps' s' st → TurnAmong quantum n (and_process p ps) s (and_process p ps') s' st
+    turn_first : {p p' : Process} {ps : Processes} {s s' : Store} {st : Status}
+        → TurnIn quantum n p s p' s' st → TurnAmong quantum n (and_process p ps) s (and_process p' ps) s' st
+    turn_later : {p : Process} {ps ps' : Processes} {s s' : Store} {st : Status}
+        → TurnAmong quantum n ps s ps' s' st → TurnAmong quantum n (and_process p ps) s (and_process p ps') s' st
 
 pub data SystemTurn (errors : Errors) (quantum n : ℕ) : System → System → Type 0 where
-  system_turn : {kb : List ℕ} {p p' : Process} {s s' : Store} {noted : List Fault} {st : Status} → MayGo errors noted → TurnIn quantum n p s p' s' st → SystemTurn errors quantum n (system kb p s noted) (system kb p' s' (noted ++ fault_noted st))
+  system_turn : {kb : List ℕ} {p p' : Process} {s s' : Store} {noted : List Fault} {st : Status}
+      → MayGo errors noted → TurnIn quantum n p s p' s' st
+      → SystemTurn errors quantum n (system kb p s noted) (system kb p' s' (noted ++ fault_noted st))
 
 -- ---- communication: two changes, each of one part, with one channel and one message
 
@@ -141,18 +147,25 @@ pub data GivesOn (c : ℕ) (m : Message) : Left → Left → Type 0 where
 -- an input has the message, or an ALT whose rule chooses an arm with that channel
 pub data GetsOn (standing : ℕ → Bool) (c : ℕ) (m : Message) : Left → Left → Type 0 where
   input_gets : {k : List Context} {list : Reception} → GetsOn standing c m (left (Awaiting c list) k) (left (Taking [] (MessageTaken list m)) k)
-  arm_gets : {k : List Context} {pri : Bool} {arms : List Enabled} {again : List Setting} {list : Reception} → (pick : ℕ) → chosen pri pick standing arms ≡ Some (InputArm again c list) → GetsOn standing c m (left (Choosing pri arms) k) (left (Taking again (MessageTaken list m)) k)
+  arm_gets : {k : List Context} {pri : Bool} {arms : List Enabled} {again : List Setting} {list : Reception}
+      → (pick : ℕ) → chosen pri pick standing arms ≡ Some (InputArm again c list)
+      → GetsOn standing c m (left (Choosing pri arms) k) (left (Taking again (MessageTaken list m)) k)
 
 -- an ALT whose rule chooses an arm with SKIP
 pub data PassesBy (standing : ℕ → Bool) : Left → Left → Type 0 where
-  arm_skips : {k : List Context} {pri : Bool} {arms : List Enabled} {again : List Setting} {body : Term} → (pick : ℕ) → chosen pri pick standing arms ≡ Some (SkipArm again body) → PassesBy standing (left (Choosing pri arms) k) (left (Taking again (SkipTaken body)) k)
+  arm_skips : {k : List Context} {pri : Bool} {arms : List Enabled} {again : List Setting} {body : Term}
+      → (pick : ℕ) → chosen pri pick standing arms ≡ Some (SkipArm again body)
+      → PassesBy standing (left (Choosing pri arms) k) (left (Taking again (SkipTaken body)) k)
 
 pub data Sends (c : ℕ) (m : Message) : End → System → System → Type 0 where
-  process_sends : {n : ℕ} {kb : List ℕ} {p p' : Process} {s : Store} {noted : List Fault} → ChangeIn (GivesOn c m) n p p' → Sends c m (OfProcess n) (system kb p s noted) (system kb p' s noted)
-  keyboard_sends : {b : ℕ} {kb : List ℕ} {p : Process} {s : Store} {noted : List Fault} → c ≡ 0 → m ≡ message None (One Byte (pos b) ∷ []) → Sends c m Keyboard (system (b ∷ kb) p s noted) (system kb p s noted)
+  process_sends : {n : ℕ} {kb : List ℕ} {p p' : Process} {s : Store} {noted : List Fault}
+      → ChangeIn (GivesOn c m) n p p' → Sends c m (OfProcess n) (system kb p s noted) (system kb p' s noted)
+  keyboard_sends : {b : ℕ} {kb : List ℕ} {p : Process} {s : Store} {noted : List Fault}
+      → c ≡ 0 → m ≡ message None (One Byte (pos b) ∷ []) → Sends c m Keyboard (system (b ∷ kb) p s noted) (system kb p s noted)
 
 pub data Receives (standing : ℕ → Bool) (c : ℕ) (m : Message) : End → System → System → Type 0 where
-  process_receives : {n : ℕ} {kb : List ℕ} {p p' : Process} {s : Store} {noted : List Fault} → ChangeIn (GetsOn standing c m) n p p' → Receives standing c m (OfProcess n) (system kb p s noted) (system kb p' s noted)
+  process_receives : {n : ℕ} {kb : List ℕ} {p p' : Process} {s : Store} {noted : List Fault}
+      → ChangeIn (GetsOn standing c m) n p p' → Receives standing c m (OfProcess n) (system kb p s noted) (system kb p' s noted)
   screen_receives : {a : System} → c ≡ 1 → Receives standing c m Screen a a
   error_receives : {a : System} → c ≡ 2 → Receives standing c m Error a a
 
@@ -164,4 +177,5 @@ pub data Meets : System → Communication → System → Type 0 where
   meets : {a b d : System} {c : ℕ} {m : Message} {x y : End} → Sends c m x a b → Receives (offers a) c m y b d → Meets a (communication c x y m) d
 
 pub data PassesSkip (n : ℕ) : System → System → Type 0 where
-  passes_skip : {kb : List ℕ} {p p' : Process} {s : Store} {noted : List Fault} → ChangeIn (PassesBy (offers (system kb p s noted))) n p p' → PassesSkip n (system kb p s noted) (system kb p' s noted)
+  passes_skip : {kb : List ℕ} {p p' : Process} {s : Store} {noted : List Fault}
+      → ChangeIn (PassesBy (offers (system kb p s noted))) n p p' → PassesSkip n (system kb p s noted) (system kb p' s noted)

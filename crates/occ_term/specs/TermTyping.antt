@@ -13,7 +13,8 @@ pub record Declared : Type 0 where
 
 -- one channel of a declared row, each of which has this protocol
 abbrev pub ChannelHas : Declared → Place → Protocol → Type 0
-ChannelHas d (place line first sizes subs) p = ((c : ℕ) → IsTrue (numbers_in (span first (product sizes)) c) → d.protocols c ≡ Some p) × SubscriptsLeave d.types subs sizes []
+ChannelHas d (place line first sizes subs) p =
+    ((c : ℕ) → IsTrue (numbers_in (span first (product sizes)) c) → d.protocols c ≡ Some p) × SubscriptsLeave d.types subs sizes []
 
 abbrev pub ItemsHave : Declared → List Item → List PartType → Type 0
 ItemsHave d [] [] = ⊤
@@ -88,7 +89,8 @@ abbrev mutual
   pub VariantsHave : Declared → Protocol → Variants → Type 0
   VariantsHave d p no_variants = ⊤
   VariantsHave d p (or_variant tag ds ts t vs) =
-      ((parts : List PartType) × (parts_after p (Some tag) ≡ Some parts) × TargetsHave d ts parts) × DeclarationsHave d ds × TermHas d t × VariantsHave d p vs
+      ((parts : List PartType) × (parts_after p (Some tag) ≡ Some parts) × TargetsHave d ts parts)
+      × DeclarationsHave d ds × TermHas d t × VariantsHave d p vs
 
   pub ChoicesHave : Declared → Choices → Type 0
   ChoicesHave d no_choices = ⊤

@@ -15,4 +15,5 @@ pub data SingleTurn : Left → Store → Left → Store → Type 0 where
 -- A turn: to the quantum-th stop of a loop, or to any other stop before it.
 pub data Turn : ℕ → Left → Store → Left → Store → Type 0 where
   stops : {q : ℕ} {a b : Left} {s s' : Store} → SingleTurn a s b s' → (q ≡ 0) ⊎ IsFalse (is_looping (status b)) → Turn (suc q) a s b s'
-  passes : {q : ℕ} {a b c : Left} {s s' s'' : Store} → SingleTurn a s b s' → IsTrue (is_looping (status b)) → Turn q b s' c s'' → Turn (suc q) a s c s''
+  passes : {q : ℕ} {a b c : Left} {s s' s'' : Store}
+      → SingleTurn a s b s' → IsTrue (is_looping (status b)) → Turn q b s' c s'' → Turn (suc q) a s c s''

@@ -186,7 +186,8 @@ abbrev mutual
   pub uses_of_arms : Arms → Uses
   uses_of_arms no_arms = no_use
   uses_of_arms (skip_arm e t arms) = with_use (reading (reads_of e)) (with_use (uses_of t) (uses_of_arms arms))
-  uses_of_arms (input_arm e c list arms) = with_use (reading (reads_of e)) (with_use (input_place c) (with_use (uses_of_reception list) (uses_of_arms arms)))
+  uses_of_arms (input_arm e c list arms) =
+      with_use (reading (reads_of e)) (with_use (input_place c) (with_use (uses_of_reception list) (uses_of_arms arms)))
   uses_of_arms (declared_arms d arms others) = with_use (uses_of_declaration d) (with_use (uses_of_arms arms) (uses_of_arms others))
   uses_of_arms (each_arm r arms others) = with_use (uses_of_replicator r) (with_use (uses_of_arms arms) (uses_of_arms others))
 
@@ -196,7 +197,8 @@ abbrev mutual
 
   pub uses_of_variants : Variants → Uses
   uses_of_variants no_variants = no_use
-  uses_of_variants (or_variant tag ds ts t vs) = with_use (uses_of_declarations ds) (with_use (uses_of_targets ts) (with_use (uses_of t) (uses_of_variants vs)))
+  uses_of_variants (or_variant tag ds ts t vs) =
+      with_use (uses_of_declarations ds) (with_use (uses_of_targets ts) (with_use (uses_of t) (uses_of_variants vs)))
 
   pub uses_of_choices : Choices → Uses
   uses_of_choices no_choices = no_use

@@ -130,7 +130,8 @@ abbrev mutual
   pub offset_of : Subscripts → ℕ → ℕ → List ℕ → Store → Evaluated Span
   offset_of no_subscripts line first sizes s = Value (span first (product sizes))
   offset_of (then_subscript e es) line first [] s = Value (span first 1)
-  offset_of (then_subscript e es) line first (n ∷ ns) s = after (value_of e s) (λ v. after (subscript line n v) (λ i. offset_of es line (first + i * product ns) ns s))
+  offset_of (then_subscript e es) line first (n ∷ ns) s =
+      after (value_of e s) (λ v. after (subscript line n v) (λ i. offset_of es line (first + i * product ns) ns s))
 
 -- the values of cells in a row
 abbrev pub values_from : ℕ → ℕ → Store → List ℤ
