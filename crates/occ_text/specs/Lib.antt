@@ -1,1 +1,4 @@
+pub mod Lines
+pub mod Reading
+pub mod Spelling
 pub mod Words

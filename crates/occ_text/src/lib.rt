@@ -1,6 +1,15 @@
 //! The words and logical lines of a text.
 #![tactic(auto)]
 
+mod class;
+pub mod fault;
+mod keyword;
+mod literal;
+mod number;
+mod read;
+mod symbol;
 pub mod token;
+mod words;
 
+pub use fault::TextFault;
 pub use token::{Key, Line, Source, Sym, Token};
