@@ -1,6 +1,8 @@
 pub mod Basics
 pub mod Feeds
 pub mod Keys
+pub mod LineLaws
+pub mod LineSteps
 pub mod Literals
 pub mod Numbers
 pub mod Runs

@@ -1,10 +1,10 @@
 -- Characters of literals, by the relation and by the function.
-use Rattle.std.proofs.Common.{◌≡◌, ℕ, zero, suc, ◌+◌, ◌-◌, ◌*◌, Bool, true, false, not, ◌&&◌, eqb, cond, List, [], ◌∷◌, ◌++◌, length, drop, Option, Some, None, refl, sym, ap, subst, ◌∙◌, append_assoc, inl, inr}
+use Rattle.std.proofs.Common.{◌≡◌, ℕ, zero, suc, ◌+◌, ◌-◌, ◌*◌, false, ◌&&◌, eqb, List, [], ◌∷◌, ◌++◌, length, drop, Some, refl, sym, ap, subst, ◌∙◌, append_assoc, inl, inr}
 use Rattle.std.specs.Char.{is_ascii_hexdigit}
 use Rattle.std.proofs.lemmas.Bool.{and_parts, not-true, eqb-true, cases_Bool}
 use Rattle.occ_text.specs.Spelling.{is_plain, digit_of, escape_of, Character, plain, escaped, coded, Characters, closed, more}
 use Rattle.occ_text.specs.Reading.{◌>>=◌, guard, code_at, escape_at, char_at, chars_from}
-use Rattle.occ_text.proofs.Basics.{bind_some, some_is, guard_some, chosen, Takes, tails, drop_taken}
+use Rattle.occ_text.proofs.Basics.{bind_some, some_is, guard_some, chosen, Takes, drop_taken}
 
 -- ---- one character
 

@@ -1,18 +1,16 @@
 -- Words, by the relation and by the function.
-use Rattle.std.proofs.Common.{◌≡◌, ◌≤◌, ◌≢◌, ℕ, zero, suc, ◌+◌, Bool, true, false, ◌&&◌, eqb, leb, ltb, cond, List, [], ◌∷◌, ◌++◌, length, take, drop, Option, Some, None, refl, sym, ap, subst, ◌∙◌, append_assoc, arith, inl, inr, pos}
+use Rattle.std.proofs.Common.{◌≡◌, ◌≤◌, ◌≢◌, ℕ, suc, Bool, true, ◌&&◌, eqb, leb, ltb, List, [], ◌∷◌, ◌++◌, length, drop, Option, Some, None, refl, sym, ap, subst, ◌∙◌, append_assoc, arith, inl, inr, pos}
 use Rattle.std.specs.Char.{is_ascii_alphabetic, is_ascii_digit, is_ascii_hexdigit}
 use Rattle.std.specs.Int.{w32, cast_signed}
 use Rattle.std.specs.List.{list_all, prefix_len, take_while}
 use Rattle.std.proofs.lemmas.Bool.{and_parts, eqb-true, leb-true, le-leb, lt-ltb}
 use Rattle.std.proofs.lemmas.List.Sums.{take_while-cons}
-use Rattle.occ_text.specs.declared.class.Class.{Class}
-use Rattle.occ_text.specs.declared.class.Class.TheVariants as classes
 use Rattle.occ_text.specs.declared.token.Key.{Key}
 use Rattle.occ_text.specs.declared.token.Sym.{Sym}
 use Rattle.occ_text.specs.declared.token.Sym.TheVariants as s
-use Rattle.occ_text.specs.Words.{Word, key, name, lit, mark, number, byte, text}
+use Rattle.occ_text.specs.Words.{Word, lit, number, byte}
 use Rattle.occ_text.specs.Spelling.{letters, marks, is_name_part, value, begins, LongestRun, Spells, keyword, other_name, decimal, pattern, one_byte, string, symbol, Character}
-use Rattle.occ_text.specs.Reading.{◌>>=◌, guard, belongs, run_of, after_run, key_of, named, name_at, decimal_at, pattern_at, char_at, closed_at, byte_at, chars_from, string_at, symbol_at, word_at}
+use Rattle.occ_text.specs.Reading.{key_of, named, name_at, decimal_at, pattern_at, char_at, closed_at, byte_at, chars_from, string_at, symbol_at, word_at}
 use Rattle.occ_text.proofs.Basics.{bind_some, some_is, guard_some, chosen, Takes}
 use Rattle.occ_text.proofs.Keys.{key_again, key_sound, letters_begin}
 use Rattle.occ_text.proofs.Literals.{char_sound, char_again, char_takes, chars_sound, chars_again, chars_take}

@@ -1,11 +1,10 @@
 -- The words of a physical line, by the relation and by the function.
-use Rattle.std.proofs.Common.{◌≡◌, ℕ, zero, suc, ◌-◌, true, false, ◌&&◌, eqb, List, [], ◌∷◌, ◌++◌, length, drop, Option, Some, None, refl, sym, ap, subst, ◌∙◌, inl, inr}
+use Rattle.std.proofs.Common.{◌≡◌, ℕ, zero, suc, ◌-◌, true, false, eqb, List, [], ◌∷◌, length, drop, Some, None, refl, subst, inl, inr}
 use Rattle.std.proofs.lemmas.Bool.{and_parts, eqb-true, cases_Bool}
 use Rattle.occ_text.specs.Words.{Word}
-use Rattle.occ_text.specs.Spelling.{Spells}
 use Rattle.occ_text.specs.Lines.{begins_comment, Reads, ended, comment, space, word}
-use Rattle.occ_text.specs.Reading.{◌>>=◌, symbol_at, double_at, double_of, single_of, word_at, words_from}
-use Rattle.occ_text.proofs.Basics.{bind_some, some_is, chosen, Takes, drop_taken}
+use Rattle.occ_text.specs.Reading.{◌>>=◌, symbol_at, double_of, single_of, word_at, words_from}
+use Rattle.occ_text.proofs.Basics.{bind_some, some_is, chosen, drop_taken}
 use Rattle.occ_text.proofs.Spelled.{word_sound, word_again, word_takes}
 
 words_from-drop : (n : ℕ) (bytes : List ℕ) → words_from n bytes ≡ words_from 0 (drop n bytes)

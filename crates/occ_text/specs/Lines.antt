@@ -1,5 +1,5 @@
 -- The logical lines of a text.
-use Rattle.std.specs.Prelude.{◌≡◌, ◌≤◌, ℕ, ◌+◌, ◌-◌, ◌*◌, Bool, true, false, ◌&&◌, ◌==◌, IsTrue, IsFalse, List, [], ◌∷◌, ◌++◌, length, slice_get, Result, Ok, Err}
+use Rattle.std.specs.Prelude.{◌≡◌, ◌≤◌, ℕ, ◌-◌, ◌*◌, Bool, true, false, ◌&&◌, ◌==◌, IsTrue, IsFalse, List, [], ◌∷◌, ◌++◌, length, slice_get, Result, Ok, Err}
 use Rattle.std.specs.List.{enumerate_from, prefix_len}
 use Rattle.std.specs.Option.{option_map_or}
 use Rattle.std.specs.Str.Lines.{lines}
@@ -71,14 +71,14 @@ indent line = prefix_len (λ b. b == 32) line
 -- The words `ws` of a logical line of this level go on in these lines, where their last word says so: all its
 -- words, and the lines after it. Lines with no words are passed over.
 pub data Continues (level : ℕ) : List Word → List Physical → List Word → List Physical → Type 0 where
-  whole : {ws : List Word} {rest : List Physical} → IsFalse (goes_on ws) → Continues level ws rest ws rest
-  passed : {n : ℕ} {line : List ℕ} {ws all : List Word} {more rest : List Physical} → IsTrue (goes_on ws) → Reads line [] → Continues level ws more all rest → Continues level ws ((n, line) ∷ more) all rest
+  complete : {ws : List Word} {rest : List Physical} → IsFalse (goes_on ws) → Continues level ws rest ws rest
+  skipped : {n : ℕ} {line : List ℕ} {ws all : List Word} {more rest : List Physical} → IsTrue (goes_on ws) → Reads line [] → Continues level ws more all rest → Continues level ws ((n, line) ∷ more) all rest
   joined : {n : ℕ} {line : List ℕ} {w : Word} {ws vs all : List Word} {more rest : List Physical} → IsTrue (goes_on ws) → Reads line (w ∷ vs) → 2 * level ≤ indent line → Continues level (ws ++ w ∷ vs) more all rest → Continues level ws ((n, line) ∷ more) all rest
 
 -- The logical lines of physical lines: each has the number of its first one, and half the spaces before that.
 pub data Logical : List Physical → List Row → Type 0 where
   none : Logical [] []
-  passed : {n : ℕ} {line : List ℕ} {more : List Physical} {rows : List Row} → Reads line [] → Logical more rows → Logical ((n, line) ∷ more) rows
+  dropped : {n : ℕ} {line : List ℕ} {more : List Physical} {rows : List Row} → Reads line [] → Logical more rows → Logical ((n, line) ∷ more) rows
   begun : {n level : ℕ} {line : List ℕ} {w : Word} {ws all : List Word} {more rest : List Physical} {rows : List Row} → Reads line (w ∷ ws) → indent line ≡ 2 * level → Continues level (w ∷ ws) more all rest → Logical rest rows → Logical ((n, line) ∷ more) (row n level all ∷ rows)
 
 -- The logical lines of a text. A text of more than 1,048,576 bytes has none.

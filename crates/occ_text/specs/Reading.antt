@@ -1,5 +1,5 @@
 -- Reading from left to right, as functions on lists. Each answers what stands at the front, and what follows it.
-use Rattle.std.specs.Prelude.{◌≡◌, ℕ, zero, suc, ◌+◌, ◌-◌, ◌*◌, ◌/◌, ◌%◌, Bool, true, false, ◌&&◌, ◌||◌, ◌==◌, nat_le, nat_lt, bytes_eq, if◌then◌else◌, List, [], ◌∷◌, ◌++◌, length, map, drop, Option, Some, None, Result, Ok, Err, pos}
+use Rattle.std.specs.Prelude.{◌≡◌, ℕ, zero, suc, ◌+◌, ◌-◌, ◌*◌, ◌/◌, ◌%◌, Bool, ◌&&◌, ◌==◌, nat_le, nat_lt, bytes_eq, if◌then◌else◌, List, [], ◌∷◌, ◌++◌, length, map, drop, Option, Some, None, Result, Ok, Err, pos}
 use Rattle.std.specs.Char.{is_ascii_alphabetic, is_ascii_digit, is_ascii_hexdigit}
 use Rattle.std.specs.Int.{w32, cast_signed}
 use Rattle.std.specs.List.{enumerate_from, prefix_len, take_while}
@@ -190,16 +190,23 @@ joined_with pending n spaces [] = Some pending
 joined_with None n spaces (w ∷ ws) = guard (spaces % 2 == 0) (Some (row n (spaces / 2) (w ∷ ws)))
 joined_with (Some (row m level vs)) n spaces (w ∷ ws) = guard (nat_le level (spaces / 2)) (Some (row m level (vs ++ w ∷ ws)))
 
--- where the line does not go on it is one of the rows
-abbrev pub settled : (Option Row → Option (List Row)) → Option Row → Option (List Row)
-settled others None = others None
-settled others (Some (row n level ws)) = if goes_on ws then others (Some (row n level ws)) else (others None >>= λ rows. Some (row n level ws ∷ rows))
+-- a logical line that does not go on is one of the rows, and one that does is still pending
+abbrev pub finished : Option Row → List Row
+finished None = []
+finished (Some (row n level ws)) = if goes_on ws then [] else row n level ws ∷ []
+
+abbrev pub unfinished : Option Row → Option Row
+unfinished None = None
+unfinished (Some (row n level ws)) = if goes_on ws then Some (row n level ws) else None
+
+abbrev pub rows_end : Option Row → Option (List Row)
+rows_end None = Some []
+rows_end (Some r) = None
 
 -- the rows of these lines, where a logical line that goes on may stand before them
 unfoldable pub rows_from : Option Row → List Physical → Option (List Row)
-rows_from None [] = Some []
-rows_from (Some r) [] = None
-rows_from pending (p ∷ more) = words_from 0 p.1 >>= λ ws. joined_with pending p.0 (indent p.1) ws >>= settled (λ next. rows_from next more)
+rows_from pending [] = rows_end pending
+rows_from pending (p ∷ more) = words_from 0 p.1 >>= λ ws. joined_with pending p.0 (indent p.1) ws >>= λ next. rows_from (unfinished next) more >>= λ rows. Some (finished next ++ rows)
 
 unfoldable pub lines_at : List ℕ → Option (List Row)
 lines_at bytes = if nat_le (length bytes) 1048576 then rows_from None (enumerate_from 1 (lines bytes)) else None

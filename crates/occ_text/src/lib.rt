@@ -12,4 +12,5 @@ pub mod token;
 mod words;
 
 pub use fault::TextFault;
+pub use read::read_lines;
 pub use token::{Key, Line, Source, Sym, Token};

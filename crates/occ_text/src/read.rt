@@ -1,10 +1,12 @@
 //! The logical lines of a text.
 
-ghost use Rattle.std.specs.Prelude.{◌≡◌, ◌<◌, ◌==◌, IfOk, List, ◌∷◌, length, option_map, position};
+ghost use Rattle.std.specs.Prelude.{◌≡◌, ◌<◌, ◌≤◌, ◌==◌, IfErr, IfOk, OnOk, List, ◌∷◌, ◌++◌, length, option_map, position};
+ghost use Rattle.std.specs.List.{enumerate_from};
 ghost use Rattle.std.specs.Str.Lines.{lines, strip_carriage_return};
+ghost use Rattle.occ_text.specs.declared.fault.TextFault.TheVariants.{Memory};
 ghost use Rattle.occ_text.specs.Words.{Row, row_of, rows, word, words};
 ghost use Rattle.occ_text.specs.Lines.{LinesOf, UnlessMemory, continues, goes_on};
-ghost use Rattle.occ_text.specs.Reading.{Gives, joined_with, lines_at};
+ghost use Rattle.occ_text.specs.Reading.{Gives, finished, joined_with, lines_at, rows_from, unfinished};
 
 use crate::class::{Class, run_len};
 use crate::fault::TextFault;
@@ -36,6 +38,7 @@ fn line_feed(text: &[u8]) -> Option<usize>
 fn first_line(text: &[u8]) -> (&[u8], &[u8])
     requires { 0 < length text.now }
     ensures value { lines text.now ≡ result.0.now ∷ lines result.1.now }
+    ensures within { length result.0.now ≤ length text.now }
     ensures shorter { length result.1.now < length text.now }
 {
     match line_feed(text) {
@@ -127,4 +130,76 @@ fn join(
             Ok(Some(line))
         }
     }
+}
+
+/// Moves the line to the others, unless it goes on.
+fn settle(lines: &mut Vec<Line>, pending: Option<Line>) -> Result<Option<Line>, TextFault>
+    ensures finished { OnOk result (rows lines.new.items ≡ rows lines.old.items ++ finished (option_map row_of pending)) }
+    ensures unfinished { IfOk result (λ p. option_map row_of p ≡ unfinished (option_map row_of pending)) }
+    ensures memory { IfErr result (λ e. e ≡ Memory) }
+{
+    match pending {
+        None => Ok(None),
+        Some(line) => {
+            if has_more(&line.words) {
+                return Ok(Some(line));
+            }
+            lines.push(line)?;
+            Ok(None)
+        }
+    }
+}
+
+/// The number that a fault in the words of a physical line carries.
+fn fault_line(pending: &Option<Line>, number: u32) -> u32 {
+    match pending {
+        Some(line) => line.number,
+        None => number,
+    }
+}
+
+/// The logical lines of a text that is not too long.
+fn lines_of(alloc: Global, text: &[u8]) -> Result<Vec<Line>, TextFault>
+    requires { length text.now ≤ MOST_BYTES }
+    ensures { Gives (λ v. rows v.items) result (rows_from None (enumerate_from 1 (lines text.now))) }
+{
+    let mut finished = Vec::new(alloc);
+    let mut pending = None;
+    let mut number = 0;
+    let mut rest = text;
+    while !rest.is_empty() {
+        let (line, after) = first_line(rest);
+        number += 1;
+        let tokens = words_of(alloc, fault_line(&pending, number), line)?;
+        let indent = run_len(Class::Space, line) as u32;
+        let joined = join(pending, number, indent, tokens)?;
+        pending = settle(&mut finished, joined)?;
+        rest = after;
+    }
+    match pending {
+        None => Ok(finished),
+        Some(line) => Err(TextFault::BadBreak { line: line.number }),
+    }
+}
+
+#[tactic(auto, unfolding(crate::specs::Reading::lines_at))]
+fn source_of(alloc: Global, text: &[u8]) -> Result<Source, TextFault>
+    ensures { Gives (λ s. rows s.lines.items) result (lines_at text.now) }
+{
+    if text.len() > MOST_BYTES {
+        return Err(TextFault::TooLong);
+    }
+    Ok(Source { lines: lines_of(alloc, text)? })
+}
+
+/// The logical lines of a text, with their words.
+///
+/// # Errors
+///
+/// A [`TextFault`] other than [`TextFault::Memory`] where the text has no logical lines.
+pub fn read_lines(alloc: Global, text: &[u8]) -> Result<Source, TextFault>
+    ensures found { IfOk result (λ s. LinesOf text.now (rows s.lines.items)) }
+    ensures only { (rs : List Row) → LinesOf text.now rs → UnlessMemory result (λ s. rows s.lines.items ≡ rs) }
+{
+    source_of(alloc, text)
 }

@@ -1,4 +1,3 @@
-use Rattle.std.proofs.Common.{◌≡◌, ◌∷◌, ◌++◌, []}
 use Rattle.std.proofs.lemmas.Result.{err_from_is_err_and}
 use Rattle.occ_text.specs.Reading.{char_at, chars_from}
 use Rattle.occ_text.proofs.Steps.{fails_along, char_is_less, chars_end, chars_close, chars_go_on, chars_fail}

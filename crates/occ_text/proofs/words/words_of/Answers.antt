@@ -1,8 +1,7 @@
-use Rattle.std.proofs.Common.{◌≡◌, ◌∷◌, ◌++◌, [], false, true, sym}
+use Rattle.std.proofs.Common.{◌≡◌, ◌∷◌, ◌++◌, [], sym}
 use Rattle.std.proofs.lemmas.List.{map_push}
 use Rattle.std.proofs.lemmas.Result.{err_from_is_err_and}
 use Rattle.occ_text.specs.Words.{word, words}
-use Rattle.occ_text.specs.Lines.{begins_comment}
 use Rattle.occ_text.specs.Reading.{word_at, words_from}
 use Rattle.occ_text.proofs.Steps.{fails_along, word_is_less, words_end, words_space, words_comment, words_go_on, words_fail}
 use Rattle.occ_text.proofs.words.words_of.Goals.{in_default, in-len1-up+else-first-eq32+then-is_comment}
