@@ -29,10 +29,10 @@ pub line_before_feed : (bytes line : List ℕ) (n : ℕ) → Some n ≡ position
 line_before_feed bytes line n found e =
     elim (chosen (ltb (position_or_len feed bytes) (length bytes)) (Some (position_or_len feed bytes)) None (Some n) (sym found)) [
       | inl at ↦
-        let rest = first_part (after_first feed bytes) in
-        let cut = ap lines_of_parts (slice_split_first feed bytes 0 (ltb-true _ _ at.0)) ∙ first_of_many (before_first feed bytes) (slice_split feed (after_first feed bytes)) rest.0 rest.1 rest.2 in
-        let here = subst (λ (k : ℕ). lines bytes ≡ strip_carriage_return (take k bytes) ∷ lines (drop (k + 1) bytes)) (some_is _ n at.1) cut in
-        rw (e, take_rest bytes (n + 1)) here
+          let rest = first_part (after_first feed bytes) in
+          let cut = ap lines_of_parts (slice_split_first feed bytes 0 (ltb-true _ _ at.0)) ∙ first_of_many (before_first feed bytes) (slice_split feed (after_first feed bytes)) rest.0 rest.1 rest.2 in
+          let here = subst (λ (k : ℕ). lines bytes ≡ strip_carriage_return (take k bytes) ∷ lines (drop (k + 1) bytes)) (some_is _ n at.1) cut in
+          rw (e, take_rest bytes (n + 1)) here
       | inr none ↦ absurd cc
     ]
 
@@ -41,10 +41,10 @@ line_without_feed bytes full none =
     elim (chosen (ltb (position_or_len feed bytes) (length bytes)) (Some (position_or_len feed bytes)) None None (sym none)) [
       | inl at ↦ absurd cc
       | inr past ↦
-        let beyond = ltb-false _ _ past.0 in
-        let whole = slice_split_none feed bytes (λ k d lt. fails_before_first feed bytes k d (omega (arith, beyond))) in
-        let some : eqb (length bytes) 0 ≡ false = ne_eqb (length bytes) 0 (omega arith) in
-        let cut : lines bytes ≡ bytes ∷ [] = ap lines_of_parts whole ∙ rw some refl in
-        let nothing : take (length bytes - length bytes) (drop (length bytes) bytes) ≡ [] = take_rest bytes (length bytes) ∙ drop_all (length bytes) bytes (omega arith) in
-        cut ∙ ap (λ (b : List ℕ). bytes ∷ lines b) (sym nothing)
+          let beyond = ltb-false _ _ past.0 in
+          let whole = slice_split_none feed bytes (λ k d lt. fails_before_first feed bytes k d (omega (arith, beyond))) in
+          let some : eqb (length bytes) 0 ≡ false = ne_eqb (length bytes) 0 (omega arith) in
+          let cut : lines bytes ≡ bytes ∷ [] = ap lines_of_parts whole ∙ rw some refl in
+          let nothing : take (length bytes - length bytes) (drop (length bytes) bytes) ≡ [] = take_rest bytes (length bytes) ∙ drop_all (length bytes) bytes (omega arith) in
+          cut ∙ ap (λ (b : List ℕ). bytes ∷ lines b) (sym nothing)
     ]

@@ -22,8 +22,8 @@ escape_sound q (c ∷ rest) x e =
     elim (chosen (eqb c 35) (code_at rest) (escape_of c >>= λ b. Some (b, rest)) (Some x) e) [
       | inl code ↦ rw (eqb-true c 35 code.0) (code_sound q rest x code.1)
       | inr letter ↦
-        let b = bind_some (escape_of c) _ x letter.1 in
-        subst (λ (y : ℕ × List ℕ). Character q (42 ∷ c ∷ rest) y.0 y.1) (some_is _ x b.2) (escaped b.1)
+          let b = bind_some (escape_of c) _ x letter.1 in
+          subst (λ (y : ℕ × List ℕ). Character q (42 ∷ c ∷ rest) y.0 y.1) (some_is _ x b.2) (escaped b.1)
     ]
 
 pub char_sound : (q : ℕ) (bytes : List ℕ) (x : ℕ × List ℕ) → char_at q bytes ≡ Some x → Character q bytes x.0 x.1
@@ -33,8 +33,8 @@ char_sound q (b ∷ rest) x e =
     elim (chosen (eqb b 42) (escape_at rest) (guard (is_plain q b) (b, rest)) (Some x) e) [
       | inl star ↦ rw (eqb-true b 42 star.0) (escape_sound q rest x star.1)
       | inr other ↦
-        let g = guard_some (is_plain q b) (b, rest) x other.1 in
-        subst (λ (y : ℕ × List ℕ). Character q (b ∷ rest) y.0 y.1) g.1 (plain g.0)
+          let g = guard_some (is_plain q b) (b, rest) x other.1 in
+          subst (λ (y : ℕ × List ℕ). Character q (b ∷ rest) y.0 y.1) g.1 (plain g.0)
     ]
 
 no_code : (c b : ℕ) → escape_of c ≡ Some b → eqb c 35 ≡ false
@@ -93,11 +93,11 @@ chars_sound zero (b ∷ rest) x e =
     elim (chosen (eqb b 34) (Some ([], rest)) _ (Some x) e) [
       | inl quote ↦ rw (eqb-true b 34 quote.0) (subst (λ (y : List ℕ × List ℕ). Characters 34 (34 ∷ rest) y.0 y.1) (some_is _ x quote.1) closed)
       | inr other ↦
-        let a = bind_some (char_at 34 (b ∷ rest)) _ x other.1 in
-        let s = char_sound 34 (b ∷ rest) a.0 a.1 in
-        let d = bind_some (chars_from (length rest - length a.0.1) rest) _ x a.2 in
-        let others = rw (drop_taken b rest a.0.1 (char_takes s)) at (chars_sound (length rest - length a.0.1) rest d.0 d.1) in
-        subst (λ (y : List ℕ × List ℕ). Characters 34 (b ∷ rest) y.0 y.1) (some_is _ x d.2) (more s others)
+          let a = bind_some (char_at 34 (b ∷ rest)) _ x other.1 in
+          let s = char_sound 34 (b ∷ rest) a.0 a.1 in
+          let d = bind_some (chars_from (length rest - length a.0.1) rest) _ x a.2 in
+          let others = rw (drop_taken b rest a.0.1 (char_takes s)) at (chars_sound (length rest - length a.0.1) rest d.0 d.1) in
+          subst (λ (y : List ℕ × List ℕ). Characters 34 (b ∷ rest) y.0 y.1) (some_is _ x d.2) (more s others)
     ]
 
 pub chars_again : {bytes bs rest : List ℕ} → Characters 34 bytes bs rest → chars_from 0 bytes ≡ Some (bs, rest)

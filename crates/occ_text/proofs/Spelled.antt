@@ -83,18 +83,18 @@ word_sound (b ∷ rest) x e =
     elim (chosen (is_ascii_alphabetic b) (name_at (b ∷ rest)) _ (Some x) e) [
       | inl a ↦ name_sound b rest x a.0 a.1
       | inr a ↦ elim (chosen (is_ascii_digit b) (decimal_at (b ∷ rest)) _ (Some x) a.1) [
-          | inl a ↦ decimal_sound b rest x a.0 a.1
-          | inr a ↦ elim (chosen (eqb b 35) (pattern_at rest) _ (Some x) a.1) [
-              | inl a ↦ rw (eqb-true b 35 a.0) (pattern_sound rest x a.1)
-              | inr a ↦ elim (chosen (eqb b 39) (byte_at rest) _ (Some x) a.1) [
-                  | inl a ↦ rw (eqb-true b 39 a.0) (byte_sound rest x a.1)
-                  | inr a ↦ elim (chosen (eqb b 34) (string_at rest) (symbol_at (b ∷ rest)) (Some x) a.1) [
-                      | inl a ↦ rw (eqb-true b 34 a.0) (string_sound rest x a.1)
-                      | inr a ↦ symbol_sound (b ∷ rest) x a.1
-                    ]
-                ]
+        | inl a ↦ decimal_sound b rest x a.0 a.1
+        | inr a ↦ elim (chosen (eqb b 35) (pattern_at rest) _ (Some x) a.1) [
+          | inl a ↦ rw (eqb-true b 35 a.0) (pattern_sound rest x a.1)
+          | inr a ↦ elim (chosen (eqb b 39) (byte_at rest) _ (Some x) a.1) [
+            | inl a ↦ rw (eqb-true b 39 a.0) (byte_sound rest x a.1)
+            | inr a ↦ elim (chosen (eqb b 34) (string_at rest) (symbol_at (b ∷ rest)) (Some x) a.1) [
+              | inl a ↦ rw (eqb-true b 34 a.0) (string_sound rest x a.1)
+              | inr a ↦ symbol_sound (b ∷ rest) x a.1
             ]
+          ]
         ]
+      ]
     ]
 
 -- ---- what is spelled is read

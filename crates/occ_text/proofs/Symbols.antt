@@ -46,8 +46,8 @@ row2 : (x y a b : ℕ) (m n : Sym) (others : Option Sym) → marks m ≡ x ∷ y
 row2 x y a b m n others h e later =
     elim (chosen (eqb a x && eqb b y) (Some m) others (Some n) e) [
       | inl same ↦
-        let parts = and_parts (eqb a x) (eqb b y) same.0 in
-        ap marks (sym (some_is m n same.1)) ∙ h ∙ rw (eqb-true a x parts.0, eqb-true b y parts.1) refl
+          let parts = and_parts (eqb a x) (eqb b y) same.0 in
+          ap marks (sym (some_is m n same.1)) ∙ h ∙ rw (eqb-true a x parts.0, eqb-true b y parts.1) refl
       | inr other ↦ later other.1
     ]
 
@@ -86,9 +86,9 @@ single : (bytes : List ℕ) (n : Sym) (after : List ℕ) → double_at bytes ≡
 single bytes n after none e =
     elim (shape n) [
       | inl two ↦
-        let w : bytes ≡ two.0 ∷ two.1 ∷ after = rw two.2 at e in
-        let found : double_at bytes ≡ Some (mark n, after) = rw (w, two.3) refl in
-        absurd cc
+          let w : bytes ≡ two.0 ∷ two.1 ∷ after = rw two.2 at e in
+          let found : double_at bytes ≡ Some (mark n, after) = rw (w, two.3) refl in
+          absurd cc
       | inr one ↦ rw one.1 (omega arith)
     ]
 
@@ -134,14 +134,14 @@ unfolding symbol_at
 symbol_again m bytes rest e longest =
     elim (shape m) [
       | inl two ↦
-        let w : bytes ≡ two.0 ∷ two.1 ∷ rest = rw two.2 at e in
-        rw (w, two.3) refl
+          let w : bytes ≡ two.0 ∷ two.1 ∷ rest = rw two.2 at e in
+          rw (w, two.3) refl
       | inr one ↦
-        let w : bytes ≡ one.0 ∷ rest = rw one.1 at e in
-        let len : length (marks m) ≡ 1 = rw one.1 refl in
-        let none = none_longer bytes m longest len in
-        let found : single_at bytes ≡ Some (mark m, rest) = rw (w, one.2) refl in
-        rw (none, found) refl
+          let w : bytes ≡ one.0 ∷ rest = rw one.1 at e in
+          let len : length (marks m) ≡ 1 = rw one.1 refl in
+          let none = none_longer bytes m longest len in
+          let found : single_at bytes ≡ Some (mark m, rest) = rw (w, one.2) refl in
+          rw (none, found) refl
     ]
 
 pub symbol_takes : (m : Sym) (bytes rest : List ℕ) → bytes ≡ marks m ++ rest → Takes bytes rest

@@ -50,14 +50,14 @@ words_sound zero (b ∷ rest) ws e =
     elim (chosen (eqb b 32) (words_from 0 rest) _ (Some ws) e) [
       | inl blank ↦ rw (eqb-true b 32 blank.0) (space (words_sound 0 rest ws blank.1))
       | inr other ↦ elim (chosen (begins_comment (b ∷ rest)) (Some []) _ (Some ws) other.1) [
-          | inl dashes ↦ subst (λ (vs : List Word). Reads (b ∷ rest) vs) (some_is _ ws dashes.1) (comment_is b rest dashes.0)
-          | inr plain ↦
+        | inl dashes ↦ subst (λ (vs : List Word). Reads (b ∷ rest) vs) (some_is _ ws dashes.1) (comment_is b rest dashes.0)
+        | inr plain ↦
             let a = bind_some (word_at (b ∷ rest)) _ ws plain.1 in
             let s = word_sound (b ∷ rest) a.0 a.1 in
             let d = bind_some (words_from (length rest - length a.0.1) rest) _ ws a.2 in
             let others = rw (drop_taken b rest a.0.1 (word_takes s)) at (words_sound (length rest - length a.0.1) rest d.0 d.1) in
             subst (λ (vs : List Word). Reads (b ∷ rest) vs) (some_is _ ws d.2) (word plain.0 s others)
-        ]
+      ]
     ]
 
 pub words_again : {bytes : List ℕ} {ws : List Word} → Reads bytes ws → words_from 0 bytes ≡ Some ws

@@ -21,14 +21,9 @@ pub const KEYS_B: [(&[u8], Key); 5] = [
     (b"BYTE", Key::Byte),
 ];
 
-pub const KEYS_C: [(&[u8], Key); 2] = [
-    (b"CASE", Key::Case),
-    (b"CHAN", Key::Chan),
-];
+pub const KEYS_C: [(&[u8], Key); 2] = [(b"CASE", Key::Case), (b"CHAN", Key::Chan)];
 
-pub const KEYS_E: [(&[u8], Key); 1] = [
-    (b"ELSE", Key::Else),
-];
+pub const KEYS_E: [(&[u8], Key); 1] = [(b"ELSE", Key::Else)];
 
 pub const KEYS_F: [(&[u8], Key); 4] = [
     (b"FALSE", Key::False),
@@ -52,14 +47,9 @@ pub const KEYS_M: [(&[u8], Key); 3] = [
     (b"MOSTPOS", Key::MostPos),
 ];
 
-pub const KEYS_N: [(&[u8], Key); 1] = [
-    (b"NOT", Key::Not),
-];
+pub const KEYS_N: [(&[u8], Key); 1] = [(b"NOT", Key::Not)];
 
-pub const KEYS_O: [(&[u8], Key); 2] = [
-    (b"OF", Key::Of),
-    (b"OR", Key::Or),
-];
+pub const KEYS_O: [(&[u8], Key); 2] = [(b"OF", Key::Of), (b"OR", Key::Or)];
 
 pub const KEYS_P: [(&[u8], Key); 9] = [
     (b"PAR", Key::Par),
@@ -96,14 +86,9 @@ pub const KEYS_T: [(&[u8], Key); 4] = [
     (b"TRUNC", Key::Trunc),
 ];
 
-pub const KEYS_V: [(&[u8], Key); 2] = [
-    (b"VAL", Key::Val),
-    (b"VALOF", Key::Valof),
-];
+pub const KEYS_V: [(&[u8], Key); 2] = [(b"VAL", Key::Val), (b"VALOF", Key::Valof)];
 
-pub const KEYS_W: [(&[u8], Key); 1] = [
-    (b"WHILE", Key::While),
-];
+pub const KEYS_W: [(&[u8], Key); 1] = [(b"WHILE", Key::While)];
 
 fn find(mut rows: &[(&[u8], Key)], letters: &[u8]) -> Option<Key>
     ensures { result ≡ find_key (map (λ r. (r.0.now, r.1)) rows.entry.now) letters.now }

@@ -22,7 +22,9 @@ fn number(base: u32, digits: &[u8]) -> Option<u32>
 {
     let mut number: u32 = 0;
     for byte in digits {
-        number = number.checked_mul(base)?.checked_add(u32::from(digit(*byte)))?;
+        number = number
+            .checked_mul(base)?
+            .checked_add(u32::from(digit(*byte)))?;
     }
     Some(number)
 }

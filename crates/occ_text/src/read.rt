@@ -120,7 +120,11 @@ fn join(
             if indent % 2 != 0 {
                 return Err(TextFault::OddIndent { line: number });
             }
-            Ok(Some(Line { number, level: indent / 2, words: tokens }))
+            Ok(Some(Line {
+                number,
+                level: indent / 2,
+                words: tokens,
+            }))
         }
         Some(mut line) => {
             if indent / 2 < line.level {
@@ -189,7 +193,9 @@ fn source_of(alloc: Global, text: &[u8]) -> Result<Source, TextFault>
     if text.len() > MOST_BYTES {
         return Err(TextFault::TooLong);
     }
-    Ok(Source { lines: lines_of(alloc, text)? })
+    Ok(Source {
+        lines: lines_of(alloc, text)?,
+    })
 }
 
 /// The logical lines of a text, with their words.
