@@ -157,3 +157,6 @@ module _ {X : Type 0} (view : X → List Row) (result : Result X TextFault) (tex
       go (Ok x) g = sym (some_is rows (view x) g)
       go (Err faults.Memory) g = tt
       go (Err _) g = absurd cc
+
+pub one_reading : (text : List ℕ) (a b : List Row) → LinesOf text a → LinesOf text b → a ≡ b
+one_reading text a b p q = some_is a b (sym (lines_again text a p) ∙ lines_again text b q)

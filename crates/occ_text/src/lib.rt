@@ -4,6 +4,7 @@
 mod class;
 pub mod fault;
 mod keyword;
+pub mod laws;
 mod literal;
 mod number;
 mod read;
