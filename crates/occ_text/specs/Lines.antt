@@ -1,4 +1,4 @@
--- The logical lines of a text.
+-- The logical lines of a text, as a relation. Bytes are numbers: 32 is a space, 45 is `-`.
 use Rattle.std.specs.Prelude.{◌≡◌, ◌≤◌, ℕ, ◌-◌, ◌*◌, Bool, true, false, ◌&&◌, ◌==◌, IsTrue, IsFalse, List, [], ◌∷◌, ◌++◌, length, slice_get, Result, Ok, Err}
 use Rattle.std.specs.List.{enumerate_from, prefix_len}
 use Rattle.std.specs.Option.{option_map_or}
@@ -27,42 +27,42 @@ pub data Reads : List ℕ → List Word → Type 0 where
   word : {bytes rest : List ℕ} {w : Word} {ws : List Word} → IsFalse (begins_comment bytes) → Spells bytes w rest → Reads rest ws → Reads bytes (w ∷ ws)
 
 -- after such a word at its end a line goes on: a two-sided operator, AND, OR, `,` `;` `:=` IS or FOR
-unfoldable pub continues : Word → Bool
-continues (key k.After) = true
-continues (key k.And) = true
-continues (key k.BitAnd) = true
-continues (key k.BitOr) = true
-continues (key k.For) = true
-continues (key k.Is) = true
-continues (key k.Minus) = true
-continues (key k.Or) = true
-continues (key k.Plus) = true
-continues (key k.Rem) = true
-continues (key k.Times) = true
-continues (mark s.Assign) = true
-continues (mark s.Semicolon) = true
-continues (mark s.Comma) = true
-continues (mark s.Equal) = true
-continues (mark s.NotEqual) = true
-continues (mark s.LessEqual) = true
-continues (mark s.GreaterEqual) = true
-continues (mark s.ShiftLeft) = true
-continues (mark s.ShiftRight) = true
-continues (mark s.BitXor) = true
-continues (mark s.Less) = true
-continues (mark s.Greater) = true
-continues (mark s.Plus) = true
-continues (mark s.Minus) = true
-continues (mark s.Times) = true
-continues (mark s.BitAnd) = true
-continues (mark s.Divide) = true
-continues (mark s.BitOr) = true
-continues (mark s.Remainder) = true
-continues _ = false
+unfoldable pub leads_on : Word → Bool
+leads_on (key k.After) = true
+leads_on (key k.And) = true
+leads_on (key k.BitAnd) = true
+leads_on (key k.BitOr) = true
+leads_on (key k.For) = true
+leads_on (key k.Is) = true
+leads_on (key k.Minus) = true
+leads_on (key k.Or) = true
+leads_on (key k.Plus) = true
+leads_on (key k.Rem) = true
+leads_on (key k.Times) = true
+leads_on (mark s.Assign) = true
+leads_on (mark s.Semicolon) = true
+leads_on (mark s.Comma) = true
+leads_on (mark s.Equal) = true
+leads_on (mark s.NotEqual) = true
+leads_on (mark s.LessEqual) = true
+leads_on (mark s.GreaterEqual) = true
+leads_on (mark s.ShiftLeft) = true
+leads_on (mark s.ShiftRight) = true
+leads_on (mark s.BitXor) = true
+leads_on (mark s.Less) = true
+leads_on (mark s.Greater) = true
+leads_on (mark s.Plus) = true
+leads_on (mark s.Minus) = true
+leads_on (mark s.Times) = true
+leads_on (mark s.BitAnd) = true
+leads_on (mark s.Divide) = true
+leads_on (mark s.BitOr) = true
+leads_on (mark s.Remainder) = true
+leads_on _ = false
 
 -- the last word is such a word
 abbrev pub goes_on : List Word → Bool
-goes_on ws = option_map_or continues (slice_get ws (length ws - 1)) false
+goes_on ws = option_map_or leads_on (slice_get ws (length ws - 1)) false
 
 -- how many spaces stand before a line
 abbrev pub indent : List ℕ → ℕ
@@ -81,7 +81,8 @@ pub data Logical : List Physical → List Row → Type 0 where
   dropped : {n : ℕ} {line : List ℕ} {more : List Physical} {rows : List Row} → Reads line [] → Logical more rows → Logical ((n, line) ∷ more) rows
   begun : {n level : ℕ} {line : List ℕ} {w : Word} {ws all : List Word} {more rest : List Physical} {rows : List Row} → Reads line (w ∷ ws) → indent line ≡ 2 * level → Continues level (w ∷ ws) more all rest → Logical rest rows → Logical ((n, line) ∷ more) (row n level all ∷ rows)
 
--- The logical lines of a text. A text of more than 1,048,576 bytes has none.
+-- The logical lines of a text, whose physical lines, from 1, are cut by `lines`: each ends with LF or CR LF, or with the
+-- text. A text of more than 1,048,576 bytes has none.
 abbrev pub LinesOf : List ℕ → List Row → Type 0
 LinesOf text rows = (length text ≤ 1048576) × Logical (enumerate_from 1 (lines text)) rows
 

@@ -1,4 +1,4 @@
--- How words are spelled.
+-- How words are spelled. Bytes are numbers: 34 is `"`, 35 is `#`, 39 is `'`, 42 is `*`.
 use Rattle.std.specs.Prelude.{◌≡◌, ◌≢◌, ◌≤◌, ℕ, ◌+◌, ◌-◌, ◌*◌, Bool, false, not, ◌&&◌, ◌||◌, ◌==◌, nat_le, if◌then◌else◌, List, [], ◌∷◌, ◌++◌, length, Option, Some, None, IsTrue, IsFalse, pos, codes}
 use Rattle.std.specs.Char.{is_ascii_alphabetic, is_ascii_alphanumeric, is_ascii_digit, is_ascii_hexdigit}
 use Rattle.std.specs.Int.{w32, cast_signed, is_in_range}
@@ -101,7 +101,7 @@ marks s.BitOr = codes "\\/"
 marks s.Remainder = codes "\\"
 marks s.Tilde = codes "~"
 
--- the byte that an escape stands for, by the byte after the `*`
+-- the byte that an escape stands for, by the byte after the `*`: c, n, t, s, and the two quotes and `*` themselves
 unfoldable pub escape_of : ℕ → Option ℕ
 escape_of c =
     if c == 99 then Some 13 else (if c == 110 then Some 10 else (if c == 116 then Some 9 else (if c == 115 then Some 32

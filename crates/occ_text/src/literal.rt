@@ -1,6 +1,7 @@
 //! Byte literals and strings.
 
-ghost use Rattle.std.specs.Prelude.{◌≡◌, IfSome, Some, length};
+ghost use Rattle.std.specs.Prelude.{◌≡◌, IfErr};
+ghost use Rattle.occ_text.specs.Faults.{Names};
 ghost use Rattle.occ_text.specs.Words.{word};
 ghost use Rattle.occ_text.specs.Spelling.{escape_of, is_plain};
 ghost use Rattle.occ_text.specs.Reading.{Gives, byte_at, char_at, chars_from, code_at, escape_at, string_at};
@@ -36,7 +37,8 @@ fn stands_for_itself(quote: u8, byte: u8) -> bool
 
 /// Two hexadecimal digits.
 fn byte_code(line: u32, bytes: &[u8]) -> Result<(u8, &[u8]), TextFault>
-    ensures { Gives (λ x. (x.0, x.1.now)) result (code_at bytes.now) }
+    ensures value { Gives (λ x. (x.0, x.1.now)) result (code_at bytes.now) }
+    ensures line { IfErr result (Names line) }
 {
     match bytes {
         [high, low, rest @ ..] if high.is_ascii_hexdigit() && low.is_ascii_hexdigit() => {
@@ -49,7 +51,8 @@ fn byte_code(line: u32, bytes: &[u8]) -> Result<(u8, &[u8]), TextFault>
 /// What stands behind the `*` of an escape.
 #[tactic(auto, unfolding(crate::specs::Reading::escape_at))]
 fn escape(line: u32, bytes: &[u8]) -> Result<(u8, &[u8]), TextFault>
-    ensures { Gives (λ x. (x.0, x.1.now)) result (escape_at bytes.now) }
+    ensures value { Gives (λ x. (x.0, x.1.now)) result (escape_at bytes.now) }
+    ensures line { IfErr result (Names line) }
 {
     match bytes {
         [b'#', rest @ ..] => byte_code(line, rest),
@@ -64,7 +67,8 @@ fn escape(line: u32, bytes: &[u8]) -> Result<(u8, &[u8]), TextFault>
 /// The byte that a character or an escape at the front stands for.
 #[tactic(auto, unfolding(crate::specs::Reading::char_at))]
 fn character(line: u32, quote: u8, bytes: &[u8]) -> Result<(u8, &[u8]), TextFault>
-    ensures { Gives (λ x. (x.0, x.1.now)) result (char_at quote bytes.now) }
+    ensures value { Gives (λ x. (x.0, x.1.now)) result (char_at quote bytes.now) }
+    ensures line { IfErr result (Names line) }
 {
     match bytes {
         [b'*', rest @ ..] => escape(line, rest),
@@ -77,7 +81,8 @@ fn character(line: u32, quote: u8, bytes: &[u8]) -> Result<(u8, &[u8]), TextFaul
 /// A byte literal, behind its first quote.
 #[tactic(auto, unfolding(crate::specs::Reading::byte_at))]
 pub fn byte_literal(line: u32, bytes: &[u8]) -> Result<(Token, &[u8]), TextFault>
-    ensures { Gives (λ x. (word x.0, x.1.now)) result (byte_at bytes.now) }
+    ensures value { Gives (λ x. (word x.0, x.1.now)) result (byte_at bytes.now) }
+    ensures line { IfErr result (Names line) }
 {
     let (byte, rest) = character(line, b'\'', bytes)?;
     match rest {
@@ -88,7 +93,8 @@ pub fn byte_literal(line: u32, bytes: &[u8]) -> Result<(Token, &[u8]), TextFault
 
 /// The bytes of a string, behind its first quote.
 fn characters(alloc: Global, line: u32, bytes: &[u8]) -> Result<(Vec<u8>, &[u8]), TextFault>
-    ensures { Gives (λ x. (x.0.items, x.1.now)) result (chars_from 0 bytes.now) }
+    ensures value { Gives (λ x. (x.0.items, x.1.now)) result (chars_from 0 bytes.now) }
+    ensures line { IfErr result (Names line) }
 {
     let mut text = Vec::new(alloc);
     let mut rest = bytes;
@@ -106,7 +112,8 @@ fn characters(alloc: Global, line: u32, bytes: &[u8]) -> Result<(Vec<u8>, &[u8])
 /// A string, behind its first quote.
 #[tactic(auto, unfolding(crate::specs::Reading::string_at))]
 pub fn string(alloc: Global, line: u32, bytes: &[u8]) -> Result<(Token, &[u8]), TextFault>
-    ensures { Gives (λ x. (word x.0, x.1.now)) result (string_at bytes.now) }
+    ensures value { Gives (λ x. (word x.0, x.1.now)) result (string_at bytes.now) }
+    ensures line { IfErr result (Names line) }
 {
     let (text, rest) = characters(alloc, line, bytes)?;
     Ok((Token::Str(text), rest))

@@ -5,7 +5,7 @@ ghost use Rattle.std.specs.List.{enumerate_from};
 ghost use Rattle.std.specs.Str.Lines.{lines, strip_carriage_return};
 ghost use Rattle.occ_text.specs.declared.fault.TextFault.TheVariants.{Memory};
 ghost use Rattle.occ_text.specs.Words.{Row, row_of, rows, word, words};
-ghost use Rattle.occ_text.specs.Lines.{LinesOf, UnlessMemory, continues, goes_on};
+ghost use Rattle.occ_text.specs.Lines.{LinesOf, UnlessMemory, leads_on, goes_on};
 ghost use Rattle.occ_text.specs.Reading.{Gives, finished, joined_with, lines_at, rows_from, unfinished};
 
 use crate::class::{Class, run_len};
@@ -48,9 +48,9 @@ fn first_line(text: &[u8]) -> (&[u8], &[u8])
 }
 
 /// Whether a line whose last word this is goes on.
-#[tactic(auto, unfolding(crate::specs::Lines::continues))]
+#[tactic(auto, unfolding(crate::specs::Lines::leads_on))]
 fn is_unfinished(token: &Token) -> bool
-    ensures { result ≡ continues (word token.now) }
+    ensures { result ≡ leads_on (word token.now) }
 {
     match token {
         Token::Key(key) => matches!(

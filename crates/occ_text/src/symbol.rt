@@ -1,6 +1,7 @@
 //! Symbols.
 
-ghost use Rattle.std.specs.Prelude.{◌≡◌};
+ghost use Rattle.std.specs.Prelude.{◌≡◌, IfErr};
+ghost use Rattle.occ_text.specs.Faults.{Names};
 ghost use Rattle.occ_text.specs.Words.{word};
 ghost use Rattle.occ_text.specs.Reading.{Gives, double_of, single_of, symbol_at};
 
@@ -59,7 +60,8 @@ fn single(byte: u8) -> Option<Sym>
 /// The longest symbol at the front, and what follows it.
 #[tactic(auto, unfolding(crate::specs::Reading::symbol_at))]
 pub fn symbol(line: u32, bytes: &[u8]) -> Result<(Token, &[u8]), TextFault>
-    ensures { Gives (λ x. (word x.0, x.1.now)) result (symbol_at bytes.now) }
+    ensures value { Gives (λ x. (word x.0, x.1.now)) result (symbol_at bytes.now) }
+    ensures line { IfErr result (Names line) }
 {
     if let [first, second, rest @ ..] = bytes
         && let Some(symbol) = double(*first, *second)

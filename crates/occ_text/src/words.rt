@@ -1,6 +1,8 @@
 //! The words of a physical line.
 
-ghost use Rattle.std.specs.Prelude.{◌≡◌};
+ghost use Rattle.std.specs.Prelude.{◌≡◌, IfErr};
+ghost use Rattle.occ_text.specs.declared.fault.TextFault.TheVariants.{Memory};
+ghost use Rattle.occ_text.specs.Faults.{Names};
 ghost use Rattle.occ_text.specs.Words.{word, words};
 ghost use Rattle.occ_text.specs.Lines.{begins_comment};
 ghost use Rattle.occ_text.specs.Reading.{Gives, name_at, word_at, words_from};
@@ -17,7 +19,8 @@ use std::alloc::Global;
 /// A name or a reserved word.
 #[tactic(auto, unfolding(crate::specs::Reading::name_at))]
 fn name_or_key(alloc: Global, bytes: &[u8]) -> Result<(Token, &[u8]), TextFault>
-    ensures { Gives (λ x. (word x.0, x.1.now)) result (name_at bytes.now) }
+    ensures value { Gives (λ x. (word x.0, x.1.now)) result (name_at bytes.now) }
+    ensures memory { IfErr result (λ e. e ≡ Memory) }
 {
     let (letters, rest) = split_run(Class::NamePart, bytes);
     match keyword(letters) {
@@ -29,7 +32,8 @@ fn name_or_key(alloc: Global, bytes: &[u8]) -> Result<(Token, &[u8]), TextFault>
 /// The word at the front, and what follows it.
 #[tactic(auto, unfolding(crate::specs::Reading::word_at))]
 fn next_word(alloc: Global, line: u32, bytes: &[u8]) -> Result<(Token, &[u8]), TextFault>
-    ensures { Gives (λ x. (word x.0, x.1.now)) result (word_at bytes.now) }
+    ensures value { Gives (λ x. (word x.0, x.1.now)) result (word_at bytes.now) }
+    ensures line { IfErr result (Names line) }
 {
     let [first, rest @ ..] = bytes else {
         return Err(TextFault::BadByte { line });
@@ -56,7 +60,8 @@ fn is_comment(bytes: &[u8]) -> bool
 
 /// The words of a physical line. `line` is the number that a fault carries.
 pub fn words_of(alloc: Global, line: u32, bytes: &[u8]) -> Result<Vec<Token>, TextFault>
-    ensures { Gives (λ v. words v.items) result (words_from 0 bytes.now) }
+    ensures value { Gives (λ v. words v.items) result (words_from 0 bytes.now) }
+    ensures line { IfErr result (Names line) }
 {
     let mut tokens = Vec::new(alloc);
     let mut rest = bytes;

@@ -18,7 +18,7 @@ returns-in_err-tokens c =
     let total = rows_from None (enumerate_from 1 (lines c.args.text.now)) in
     let line = c.first_line.result.0.now in
     rw (p.1, p.2) (fails_along c.in_err-tokens.field-0.0 (words_from 0 line) total
-    (words_fail (rows c.loop-rest.finished.items) (option_map row_of c.loop-rest.pending) (c.loop-rest.number + 1) c.loop-rest.rest.now total c.loop-rest.invariant.so_far line c.first_line.result.1.now c.first_line.ensures.value) c.in_err-tokens.ensures)
+    (words_fail (rows c.loop-rest.finished.items) (option_map row_of c.loop-rest.pending) (c.loop-rest.number + 1) c.loop-rest.rest.now total c.loop-rest.invariant.so_far line c.first_line.result.1.now c.first_line.ensures.value) c.in_err-tokens.ensures.value)
 
 pub returns-in_err-joined : goal.returns-in_err-joined
 returns-in_err-joined c =
@@ -28,7 +28,7 @@ returns-in_err-joined c =
     let pending = option_map row_of c.loop-rest.pending in
     let ws = words c.in_ok-tokens.tokens.items in
     rw (p.1, p.2) (fails_along c.in_err-joined.field-0.0 (joined_with pending (c.loop-rest.number + 1) (indent line) ws) total
-    (join_fails (rows c.loop-rest.finished.items) pending (c.loop-rest.number + 1) c.loop-rest.rest.now total c.loop-rest.invariant.so_far line c.first_line.result.1.now ws c.first_line.ensures.value c.in_ok-tokens.ensures)
+    (join_fails (rows c.loop-rest.finished.items) pending (c.loop-rest.number + 1) c.loop-rest.rest.now total c.loop-rest.invariant.so_far line c.first_line.result.1.now ws c.first_line.ensures.value c.in_ok-tokens.ensures.value)
     (rw c.run_len-indent.ensures.value at c.in_err-joined.ensures))
 
 pub loop-rest-preserved : goal.loop-rest-preserved
@@ -40,7 +40,7 @@ loop-rest-preserved c =
     let ws = words c.in_ok-tokens.tokens.items in
     let next = option_map row_of c.in_ok-joined.joined in
     let joined : joined_with pending (c.loop-rest.number + 1) (indent line) ws ≡ Some next = rw c.run_len-indent.ensures.value at c.in_ok-joined.ensures in
-    let read = rows_go_on (rows c.loop-rest.finished.items) pending (c.loop-rest.number + 1) c.loop-rest.rest.now total c.loop-rest.invariant.so_far line after ws next c.first_line.ensures.value c.in_ok-tokens.ensures joined in
+    let read = rows_go_on (rows c.loop-rest.finished.items) pending (c.loop-rest.number + 1) c.loop-rest.rest.now total c.loop-rest.invariant.so_far line after ws next c.first_line.ensures.value c.in_ok-tokens.ensures.value joined in
     record { so_far = rw (c.in_ok-pending.ensures.finished, c.in_ok-pending.ensures.unfinished) read; small = omega (arith, c.loop-rest.invariant.small, c.first_line.ensures.shorter) }
 
 pub returns-in-None : goal.returns-in-None
