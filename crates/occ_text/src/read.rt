@@ -1,9 +1,10 @@
 //! The logical lines of a text.
 
-ghost use Rattle.std.specs.Prelude.{◌≡◌, ◌<◌, ◌≤◌, ◌==◌, IfErr, IfOk, OnOk, List, ◌∷◌, ◌++◌, length, option_map, position};
+ghost use Rattle.std.specs.Prelude.{◌≡◌, ◌<◌, ◌≤◌, ◌==◌, ℕ, IfErr, IfOk, OnOk, List, ◌∷◌, ◌++◌, length, option_map, position};
 ghost use Rattle.std.specs.List.{enumerate_from};
 ghost use Rattle.std.specs.Str.Lines.{lines, strip_carriage_return};
 ghost use Rattle.occ_text.specs.declared.fault.TextFault.TheVariants.{Memory};
+ghost use Rattle.occ_text.specs.Faults.{BeginsUpTo, Names, NamesLineOf};
 ghost use Rattle.occ_text.specs.Words.{Row, row_of, rows, word, words};
 ghost use Rattle.occ_text.specs.Lines.{LinesOf, UnlessMemory, leads_on, goes_on};
 ghost use Rattle.occ_text.specs.Reading.{Gives, finished, joined_with, lines_at, rows_from, unfinished};
@@ -110,7 +111,11 @@ fn join(
     indent: u32,
     mut tokens: Vec<Token>,
 ) -> Result<Option<Line>, TextFault>
-    ensures { Gives (λ p. option_map row_of p) result (joined_with (option_map row_of pending) number indent (words tokens.items)) }
+    requires counted { 1 ≤ number }
+    requires before { BeginsUpTo number pending }
+    ensures value { Gives (λ p. option_map row_of p) result (joined_with (option_map row_of pending) number indent (words tokens.items)) }
+    ensures line { IfErr result (Names number) }
+    ensures first { IfOk result (BeginsUpTo number) }
 {
     if tokens.is_empty() {
         return Ok(pending);
@@ -141,6 +146,7 @@ fn settle(lines: &mut Vec<Line>, pending: Option<Line>) -> Result<Option<Line>, 
     ensures finished { OnOk result (rows lines.new.items ≡ rows lines.old.items ++ finished (option_map row_of pending)) }
     ensures unfinished { IfOk result (λ p. option_map row_of p ≡ unfinished (option_map row_of pending)) }
     ensures memory { IfErr result (λ e. e ≡ Memory) }
+    ensures first { (n : ℕ) → BeginsUpTo n pending → IfOk result (BeginsUpTo n) }
 {
     match pending {
         None => Ok(None),
@@ -155,7 +161,11 @@ fn settle(lines: &mut Vec<Line>, pending: Option<Line>) -> Result<Option<Line>, 
 }
 
 /// The number that a fault in the words of a physical line carries.
-fn fault_line(pending: &Option<Line>, number: u32) -> u32 {
+fn fault_line(pending: &Option<Line>, number: u32) -> u32
+    requires counted { 1 ≤ number }
+    requires before { BeginsUpTo number pending.now }
+    ensures { (1 ≤ result) × (result ≤ number) }
+{
     match pending {
         Some(line) => line.number,
         None => number,
@@ -165,7 +175,8 @@ fn fault_line(pending: &Option<Line>, number: u32) -> u32 {
 /// The logical lines of a text that is not too long.
 fn lines_of(alloc: Global, text: &[u8]) -> Result<Vec<Line>, TextFault>
     requires { length text.now ≤ MOST_BYTES }
-    ensures { Gives (λ v. rows v.items) result (rows_from None (enumerate_from 1 (lines text.now))) }
+    ensures value { Gives (λ v. rows v.items) result (rows_from None (enumerate_from 1 (lines text.now))) }
+    ensures line { IfErr result (NamesLineOf text.now) }
 {
     let mut finished = Vec::new(alloc);
     let mut pending = None;
@@ -188,7 +199,8 @@ fn lines_of(alloc: Global, text: &[u8]) -> Result<Vec<Line>, TextFault>
 
 #[tactic(auto, unfolding(crate::specs::Reading::lines_at))]
 fn source_of(alloc: Global, text: &[u8]) -> Result<Source, TextFault>
-    ensures { Gives (λ s. rows s.lines.items) result (lines_at text.now) }
+    ensures value { Gives (λ s. rows s.lines.items) result (lines_at text.now) }
+    ensures line { IfErr result (NamesLineOf text.now) }
 {
     if text.len() > MOST_BYTES {
         return Err(TextFault::TooLong);
@@ -206,6 +218,7 @@ fn source_of(alloc: Global, text: &[u8]) -> Result<Source, TextFault>
 pub fn read_lines(alloc: Global, text: &[u8]) -> Result<Source, TextFault>
     ensures found { IfOk result (λ s. LinesOf text.now (rows s.lines.items)) }
     ensures only { (rs : List Row) → LinesOf text.now rs → UnlessMemory result (λ s. rows s.lines.items ≡ rs) }
+    ensures line { IfErr result (NamesLineOf text.now) }
 {
     source_of(alloc, text)
 }
