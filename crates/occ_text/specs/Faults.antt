@@ -1,10 +1,11 @@
--- The line that a fault carries.
+-- Faults and the lines that they carry.
 use Rattle.std.specs.Prelude.{◌≡◌, ◌≤◌, ℕ, List, length, Option, Some, None, IfSome}
 use Rattle.std.specs.Str.Lines.{lines}
 use Rattle.occ_text.specs.declared.fault.TextFault.{TextFault}
 use Rattle.occ_text.specs.declared.fault.TextFault.TheVariants as faults
 use Rattle.occ_text.specs.declared.token.Line.{Line}
 
+-- the line that a fault carries, if any
 abbrev pub line_of : TextFault → Option ℕ
 line_of faults.TooLong = None
 line_of (faults.BadByte n) = Some n
