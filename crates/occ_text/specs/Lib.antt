@@ -1,1 +1,5 @@
+pub mod Faults
+pub mod Lines
+pub mod Reading
+pub mod Spelling
 pub mod Words

@@ -1,0 +1,12 @@
+pub mod Basics
+pub mod Feeds
+pub mod Keys
+pub mod LineLaws
+pub mod LineSteps
+pub mod Literals
+pub mod Numbers
+pub mod Runs
+pub mod Spelled
+pub mod Steps
+pub mod Symbols
+pub mod WordLines
