@@ -1,0 +1,7 @@
+mod Growth
+mod PlanLemmas
+mod Walking
+mod Settling
+mod Calm
+mod OneStop
+mod Simulation

@@ -1,0 +1,55 @@
+//! A run of a plan.
+ghost use Rattle.std.specs.Prelude.{◌≡◌, ◌<◌, ◌^◌, ◌+◌, IfOk, ℕ, List, length};
+ghost use Rattle.occ_play.specs.Outcomes.{IsOutcome};
+ghost use Rattle.occ_play.specs.Plans.{choices_of};
+ghost use Rattle.occ_play.specs.ScreenTerms.{WritesOnly};
+
+use crate::ending::{Choice, Ending, Plan};
+use crate::network::Network;
+use crate::trace::Communication;
+use occ_code::Code;
+use std::alloc::{AllocError, Global};
+
+/// What a run came to.
+#[derive(Drop)]
+pub(crate) struct Outcome {
+    /// How it ended.
+    pub(crate) ending: Ending,
+    /// The choices that were used.
+    pub(crate) choices: Vec<Choice>,
+    /// The communications that there were.
+    pub(crate) trace: Vec<Communication>,
+}
+
+/// Takes a turn for each choice of the plan, until the network ends.
+pub(crate) fn run(alloc: Global, code: &Code, plan: &Plan) -> Result<Outcome, AllocError>
+    requires { WritesOnly code.now }
+    ensures { IfOk result (λ o. (keyboard : List ℕ) → IsOutcome code.now keyboard (choices_of plan.now) o) }
+{
+    let Some(body) = code.body(0) else {
+        unreachable!()
+    };
+    let mut network = Network::new(alloc, body)?;
+    let mut choices = Vec::new(alloc);
+    loop {
+        if let Some(ending) = network.ending() {
+            let trace = network.trace;
+            return Ok(Outcome {
+                ending,
+                choices,
+                trace,
+            });
+        }
+        let Some(choice) = plan.at(choices.len()) else {
+            let trace = network.trace;
+            let ending = Ending::Limit;
+            return Ok(Outcome {
+                ending,
+                choices,
+                trace,
+            });
+        };
+        network.take_turn(alloc, body)?;
+        choices.push(choice)?;
+    }
+}
