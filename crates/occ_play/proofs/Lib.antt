@@ -5,3 +5,4 @@ mod Settling
 mod Calm
 mod OneStop
 mod Simulation
+mod Running

@@ -6,12 +6,12 @@ use Rattle.occ_term.specs.Messages.{is_of}
 use Rattle.occ_term.specs.declared.primitive.Primitive.{Primitive}
 use Rattle.occ_term.specs.declared.primitive.Primitive.TheVariants.{Bool as Boolean, Byte, Int}
 use Rattle.occ_term.specs.Frames.{value_at}
-use Rattle.occ_term.specs.Processes.{processes_of}
+use Rattle.occ_term.specs.Processes.{Numbered, numbered, branches_in, branches_in_terms, processes_of}
 use mathlib.Core.Bool.{true≢false}
 use Rattle.occ_play.specs.Replay.{may_go, first_task, first_net, at_start, ending_by, or_later, fault_of, is_done, first_fault, main_done}
 use Rattle.occ_play.specs.declared.ending.Ending.{Ending}
 use Rattle.occ_term.specs.declared.message.Message.{Message}
-use Rattle.occ_term.specs.Terms.{Term, Skip}
+use Rattle.occ_term.specs.Terms.{Term, Skip, Terms}
 use Rattle.occ_term.specs.Values.{Store}
 use Rattle.occ_term.specs.Steps.{Do, Passing, Again, Offering, Awaiting, Choosing, Taking, Forking, Halted, Faulted, Done, Context, Left, left, faults}
 use Rattle.occ_term.specs.Turns.{Turn}
@@ -31,8 +31,8 @@ use Rattle.occ_code.specs.declared.task.Wait.{Wait}
 use Rattle.occ_code.specs.declared.task.Wait.TheVariants as W
 use Rattle.occ_play.specs.declared.ending.Choice.{Choice}
 use Rattle.occ_play.specs.Replay.{Net, Joined, joined, Gives, task_gives, Gets, screen_gets, error_gets, Settled, joins, stays, made_ready, took_turn, with_task, ending_of, OneTurn, Replays, begins, goes_on as replays_on, ready_from, selected}
-use Rattle.occ_play.specs.Network.{reader_of}
-use Rattle.occ_play.specs.ScreenTerms.{ScreenTerm, screen_skip}
+use Rattle.occ_play.specs.Network.{reader_of, HasStop}
+use Rattle.occ_play.specs.ScreenTerms.{ScreenTerm, screen_skip, screen_stop, screen_output, screen_seq, ScreenTerms, screen_none, screen_then}
 use Rattle.occ_play.specs.Following.{Followed, ReplaysAreRuns, process_in, ending_as, or_limit}
 use Rattle.occ_play.proofs.Calm.{CalmContexts, calm_end, Calm, calm_term, calm_offer, calm_halted, calm_done, turn_calm}
 use Rattle.occ_play.proofs.OneStop.{stopping_once}
@@ -388,3 +388,41 @@ replays_are_runs u p body kb cs net from h one small r =
     let does : DoesAs (declared u) body (meaning u) = (subst (λ bs. AllDo (declared u) 0 bs (processes_of (meaning u))) one from.bodies).1 in
     let x = all_followed (declared u) body kb u p cs net one h does 0 bound r in
     record { events = x.events; system = x.now; run = x.run; turns = x.turns; communicates = x.communicates; ends = subst (λ y. EndsBy HaltMode y (ending_as (or_limit (ending_of net)))) (sym x.follows.is) (ends_as (declared u) body kb 0 net x.follows.own x.follows.store x.follows.task x.follows.tasks x.follows.stands) }
+
+-- ---- what a run in code asks
+
+-- a program of the first form has one process
+mutual
+  only_branches : {t : Term} → ScreenTerm t → branches_in t ≡ []
+  only_branches screen_skip = refl
+  only_branches screen_stop = refl
+  only_branches (screen_output line v) = refl
+  only_branches (screen_seq es) = none_among es
+
+  none_among : {ts : Terms} → ScreenTerms ts → branches_in_terms ts ≡ []
+  none_among screen_none = refl
+  none_among (screen_then {t = t} {ts = ts} e es) = ap (λ l. l ++ branches_in_terms ts) (only_branches e) ∙ none_among es
+
+only_done : (d : Declared) (n : ℕ) (bodies : List FlatCode) (x : Numbered) → AllDo d n bodies (x ∷ []) → (b : FlatCode) × (bodies ≡ b ∷ [])
+only_done d n [] x h = absurd h
+only_done d n (b ∷ []) x h = (b, refl)
+only_done d n (b ∷ c ∷ bs) x h = absurd h.2
+
+pub only_body : (u : Unfolding) (p : Program) → IsCompiledFrom u p → ScreenTerm (meaning u) → (b : FlatCode) × (p.bodies ≡ b ∷ [])
+only_body u p from h =
+    only_done (declared u) 0 p.bodies (numbered 0 (meaning u)) (subst (λ ps. AllDo (declared u) 0 p.bodies ps) (ap (λ l. numbered 0 (meaning u) ∷ l) (only_branches h)) from.bodies)
+
+-- a ready task comes to a stop
+pub has_stop : (u : Unfolding) (p : Program) (body : FlatCode) (kb : List ℕ) (cs : List Choice) (net : Net) (t : Task) → IsCompiledFrom u p → ScreenTerm (meaning u) → p.bodies ≡ body ∷ [] → 1 + length cs < 2 ^ 64 → Replays p kb cs net → net.tasks ≡ Some t ∷ [] → IsTrue (may_go t.wait) → HasStop body t
+has_stop u p body kb cs net t from h one small r e g =
+    let does : DoesAs (declared u) body (meaning u) = (subst (λ bs. AllDo (declared u) 0 bs (processes_of (meaning u))) one from.bodies).1 in
+    let x = (all_followed (declared u) body kb u p cs net one h does 1 small r).follows in
+    let same : x.task ≡ t = (let q : Some x.task ∷ [] ≡ Some t ∷ [] = sym x.tasks ∙ e in cc) in
+    let stands = subst (λ y. Stands (declared u) body kb 1 y x.own) same x.stands in
+    let ag = subst (λ y. Agrees (declared u) body.cells y.frame x.store) same x.agrees in
+    by x.own x.store stands ag
+  where
+    by : (own : Left) (s : Store) → Stands (declared u) body kb 1 t own → Agrees (declared u) body.cells t.frame s → HasStop body t
+    by own s (may_turn w i j al) ag = let y = al s ag in record { after = y.after; stops = y.stops }
+    by own s (is_halted w) ag = let h : may_go t.wait ≡ false = ap may_go w in absurd (true≢false (sym g ∙ h))
+    by own s (has_ended w) ag = let h : may_go t.wait ≡ false = ap may_go w in absurd (true≢false (sym g ∙ h))

@@ -86,3 +86,11 @@ effect_at code pc st f o i e h = ap (λ x. act x pc st f) (sym e ∙ h)
 pub turn_at : (body : FlatCode) (code : List Instr) (t : Task) (last : Point) (pc : ℕ) (f : Variables) (w : Wait) → code ≡ body.code → HasStop body t → Walks code (point t.place [] t.frame) last → effect code last ≡ Stops pc f w → (IsReady w → ⊥) → Stopping body t (counted (stands_at t pc f w))
 turn_at body code t last pc f w same h walk stop calm =
     turn_by body t last pc f w h (subst (λ c. Walks c (point t.place [] t.frame) last) same walk) (subst (λ c. effect c last ≡ Stops pc f w) same stop) calm
+
+-- a turn is counted once
+stops_keep : {code : List Instr} {q : ℕ} {a b : Task} → StopsIn code q a b → b.turns ≡ a.turns
+stops_keep (stops_here s h) = ap (λ t. t.turns) s.comes_to
+stops_keep (passes_on s h r) = stops_keep r ∙ ap (λ t. t.turns) s.comes_to
+
+pub stopping_counts : (body : FlatCode) (a b : Task) → Stopping body a b → b.turns ≡ a.turns + 1
+stopping_counts body a b h = ap (λ t. t.turns) h.counts ∙ ap (λ n. n + 1) (stops_keep h.stops)

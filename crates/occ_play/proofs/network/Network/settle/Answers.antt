@@ -6,20 +6,20 @@ use Rattle.occ_play.specs.declared.trace.End.TheVariants.{Process}
 use Rattle.occ_play.proofs.Settling.{settles_stays, settles_met}
 use Rattle.occ_play.proofs.network.Network.settle.Goals as goal
 
-pub returns-in_ok-push-in-Some : goal.returns-in_ok-push-in-Some
-returns-in_ok-push-in-Some c = λ net h.
+pub returns-in_ok-push-in-Some-clause-settles : goal.returns-in_ok-push-in-Some-clause-settles
+returns-in_ok-push-in-Some-clause-settles c = λ net h.
     let now_ready = ap (λ w. record c.args.self.now.task { wait = w }) c.replace.ensures.after in
     settles_met _ _ net c.in-Offers.chan c.in-Offers.message c.in-Some.receiver (sym c.replace.ensures.value ∙ c.in-Offers.is) (sym c.reader.ensures ∙ c.in-Some.is) now_ready c.in_ok-push-in-Some.ensures.items h
 
-pub returns-in-None : goal.returns-in-None
-returns-in-None c = λ net h.
+pub returns-in-None-clause-settles : goal.returns-in-None-clause-settles
+returns-in-None-clause-settles c = λ net h.
     let was = sym c.replace.ensures.value ∙ c.in-Offers.is in
     let same = ap (λ w. record c.args.self.now.task { wait = w }) (sym was) in
     let unread : (d : ℕ) (m : Message) → c.args.self.now.task.wait ≡ Offers d m → reader_of d ≡ None = λ d m e. (let q : d ≡ c.in-Offers.chan = cc in ap reader_of q ∙ sym c.reader.ensures ∙ c.in-None.is) in
     settles_stays _ _ net same refl unread h
 
-pub returns-in_default : goal.returns-in_default
-returns-in_default c = λ net h.
+pub returns-in_default-clause-settles : goal.returns-in_default-clause-settles
+returns-in_default-clause-settles c = λ net h.
     let same = ap (λ w. record c.args.self.now.task { wait = w }) c.replace.ensures.value in
     let no_offer : (d : ℕ) (m : Message) → c.args.self.now.task.wait ≡ Offers d m → reader_of d ≡ None = λ d m e. absurd (c.in_default.not-Offers d m (c.replace.ensures.value ∙ e)) in
     settles_stays _ _ net same refl no_offer h
