@@ -1,4 +1,5 @@
 -- Compiled programs: a body for each process, which does what the process's term does.
+-- Manual: nothing; this is (own).
 use Rattle.std.specs.Prelude.{List, [], ℕ, ◌*◌, ◌+◌, ◌<◌, ⊤, ◌∷◌, ◌≡◌}
 use Rattle.occ_term.specs.Unfolding.{Unfolding, IsWellFormed, Lawful, declared, meaning}
 use Rattle.occ_term.specs.Processes.{Numbered, processes_of}

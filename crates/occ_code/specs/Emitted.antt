@@ -1,4 +1,5 @@
 -- The instructions that a term becomes; private contracts alone cite them. A term that is not compiled yet becomes none.
+-- Manual: nothing; this is (own).
 use Rattle.std.specs.Prelude.{List, [], length, ℕ, ◌++◌, ◌<◌, ◌∷◌, ⊤}
 use Rattle.occ_term.specs.Terms.{Term, Stop, Output, Seq, Terms, no_terms, then_term, Constant, Place, place, Item, OfOne}
 use Rattle.occ_code.specs.Machine.{FlatCode}

@@ -1,14 +1,16 @@
 -- The runs of the simplest programs.
 use Rattle.occ_term.proofs.Meetings.{unmet}
-use Rattle.std.proofs.Common.{List, [], inl, refl}
+use Rattle.std.proofs.Common.{List, [], ◌∷◌, ◌≡◌, None, inl, pos, refl, subst}
+use Rattle.occ_term.specs.Messages.{Byte, Message, One, message}
 use Rattle.occ_term.specs.Values.{Store}
-use Rattle.occ_term.specs.Steps.{Context, Do, Halted, Left, Step, left, drops, ends, faults, output, seq, seq_empty, stop}
+use Rattle.occ_term.specs.Steps.{Context, Do, Halted, Left, Offering, Step, left, status, drops, ends, faults, output, seq, seq_empty, stop}
 use Rattle.occ_term.specs.Turns.{more, none, single_turn, stops}
-use Rattle.occ_term.specs.System.{change_below, change_here, meets, no_processes, offer_ends, passes_skip, process, process_sends, screen_receives, system, system_turn, turn_here}
+use Rattle.occ_term.specs.System.{HaltMode, System, begun, fault_noted, turn_below, change_below, change_here, meets, no_processes, offer_ends, passes_skip, process, process_sends, screen_receives, system, system_turn, turn_here}
 use Rattle.occ_term.specs.System.{alone as by_itself}
-use Rattle.occ_term.specs.Runs.{StepOf, branch_step, by_end, by_standing, goes, goes_on, meeting_step, meets_one, no_turn, own_step, private_step, skip_step}
-use Rattle.occ_term.specs.FirstRows.{EmptySequence, LetterEnds, LetterGoesOn, NoTurn, StopStops, TwoLetters}
+use Rattle.occ_term.specs.Runs.{MeetsAtMost, by_message, meets_none, meets_skip, StepOf, branch_step, by_end, by_standing, goes, goes_on, meeting_step, meets_one, no_turn, own_step, private_step, skip_step}
+use Rattle.occ_term.specs.FirstRows.{EmptySequence, LetterEnds, LetterGoesOn, MeetsAtOnce, NoTurn, StopStops, TwoLetters}
 use Rattle.occ_term.proofs.Going.{going}
+use Rattle.occ_term.proofs.OneResult.{one_turn}
 
 pub letter_goes_on : LetterGoesOn
 letter_goes_on = (
@@ -74,3 +76,16 @@ empty_sequence = (
 
 pub before_turns : NoTurn
 before_turns t = (_, no_turn, goes_on refl refl (private_step (own_step (going (Do t) [] _ refl).2)), λ names. refl)
+
+-- where the letter is offered, the screen takes it
+passed_over : {m : Message} {s : Store} {d : System} → MeetsAtMost HaltMode 0 (system [] (process 0 (left (Offering 1 m) []) no_processes) s []) None d → ⊥
+passed_over (meets_none f) = f refl (by_message (inl refl) (meets (process_sends (change_here offer_ends)) (screen_receives refl)))
+passed_over (meets_skip g (passes_skip (change_here x))) = elim x [ ]
+passed_over (meets_skip g (passes_skip (change_below x))) = elim x [ ]
+
+pub meets_at_once : MeetsAtOnce
+meets_at_once b (goes {c = d} (system_turn h (turn_here {c = c} {s' = s'} by_itself t)) m r) =
+    let offered : Left = left (Offering 1 (message None (One Byte (pos 65) ∷ []))) [] in
+    let e : c ≡ offered = (one_turn _ _ _ _ _ _ _ t (stops (single_turn none (output refl) refl) (inl refl))).0 in
+    passed_over (subst (λ l. MeetsAtMost HaltMode 0 (system [] (process 0 l (begun (status l))) s' (fault_noted (status l))) None d) e m)
+meets_at_once b (goes (system_turn h (turn_below x)) m r) = elim x [ ]

@@ -4,10 +4,10 @@ use Rattle.occ_term.specs.Messages.{Primitive, Byte, Int, Arith, Range, Convert,
 use Rattle.occ_term.specs.Terms.{Operator, Plus, Divide, Remainder, PlusModulo, MinusModulo, TimesModulo, BitXor, ShiftLeft, ShiftRight, After, Equal, BitNot, Expression, Constant, Cell, Binary, Unary, And, Conversion, Place, place, no_subscripts, then_subscript, Array, Cells, Text, Item, OfOne, OfMany, OfCounted, Target, Into, IntoCounted, Naming, Replicator, replicator, Term, Skip, Stop, Assign, Input, Output, Seq, Par, Alt, If, While, Each, Clear, Local, Terms, no_terms, then_term, Branches, no_branches, and_branch, Arms, no_arms, input_arm, declared_arms, each_arm, Reception, Plain, Tagged, no_variants, or_variant, Choices, no_choices, or_choice, each_choice, Options, no_options, or_option, or_else}
 use Rattle.occ_term.specs.Values.{Store, store_with, Evaluated, Value, Fails, span, value_of, span_of, part_of}
 use Rattle.occ_term.specs.Storing.{Outcome, Gives, Faults, assigned, declared, indices, indices_of}
-use Rattle.occ_term.specs.Selecting.{choice_of, option_of, taken, Enabled, IndexTo, SkipArm, InputArm, enabled, is_ready_on, waits_for, chosen, chosen_of}
+use Rattle.occ_term.specs.Selecting.{choice_of, option_of, taken, Enabled, IndexTo, SkipArm, InputArm, enabled, is_ready_on, chosen, chosen_of}
 use Rattle.occ_term.specs.Steps.{Loop, WhileLoop, Doing, Do, Again, Forking, Halted, Faulted, Done, Context, Left, left, status_of, is_running, is_looping, Step}
 use Rattle.occ_term.specs.Turns.{Steps}
-use Rattle.occ_term.specs.System.{Process, process, no_processes, and_process, System, system, start, HaltMode, StopMode, SystemTurn, OfProcess, Screen, offers, Communication, communication}
+use Rattle.occ_term.specs.System.{Process, process, no_processes, and_process, System, system, start, HaltMode, StopMode, SystemTurn, OfProcess, Screen, Communication, communication}
 use Rattle.occ_term.specs.Runs.{Event, event, Run, Ended, Stopped, FaultEnds, StoppedBy, EndsBy, Names, shown}
 use Rattle.occ_term.specs.Uses.{named_by, cells_of_item, uses_of, Lawful}
 use Rattle.occ_term.specs.Sizes.{size_of}

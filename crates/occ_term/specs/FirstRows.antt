@@ -43,6 +43,10 @@ TwoLetters = RunsAs two_writes (shows 65 ∷ shows 66 ∷ alone ∷ []) (65 ∷ 
 abbrev pub EmptySequence : Type 0
 EmptySequence = RunsAs (Seq no_terms) (alone ∷ []) [] Ended
 
+-- no run passes over the screen, which awaits the letter
+abbrev pub MeetsAtOnce : Type 0
+MeetsAtOnce = (b : System) → Run HaltMode 1 (start (writes 2 65) []) (alone ∷ []) b → ⊥
+
 -- of every program
 abbrev pub NoTurn : Type 0
 NoTurn = (t : Term) → RunsAs t [] [] Limit

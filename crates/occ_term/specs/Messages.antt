@@ -1,4 +1,5 @@
--- Primitive types, faults, messages and protocols: the manual's chapters on data types and on channels.
+-- Primitive types, faults, messages and protocols.
+-- Manual: data types; channels and protocols. Values as whole numbers, and the fault kinds with their lines: (own).
 use Rattle.std.specs.Prelude.{Bool, IsTrue, List, None, Option, Some, [], int_le, length, map, neg_ℤ, pos, slice_get, ℕ, ℤ, ⊤, ◌&&◌, ◌*◌, ◌∷◌, ◌≡◌}
 pub use Rattle.occ_term.specs.declared.primitive.Primitive.{Primitive}
 pub use Rattle.occ_term.specs.declared.primitive.Primitive.TheVariants.{Bool as Boolean, Byte, Int}
@@ -31,7 +32,7 @@ is_of type v = int_le (least type) v && int_le v (greatest type)
 abbrev pub fault : FaultKind → ℕ → Fault
 fault kind line = record { kind = kind; line = line }
 
--- A variant protocol's tags are numbered from 0.
+-- A variant protocol's tags are numbered from 0 (own).
 abbrev pub message : Option ℕ → List Part → Message
 message tag items = record { tag = tag; items = items }
 
@@ -67,6 +68,7 @@ abbrev pub simple_part : List ℕ → Primitive → PartType
 simple_part [] type = OneOf type
 simple_part (n ∷ ns) type = ManyOf (n ∷ ns) type
 
+-- (manual: channels and protocols)
 -- what follows the tag of a message; a message of a protocol that is no variant has none
 abbrev pub parts_after : Protocol → Option ℕ → Option (List PartType)
 parts_after (Simple sizes type) None = Some (simple_part sizes type ∷ [])

@@ -1,5 +1,6 @@
 -- The processes of a program: the main term is number 0, and each branch of a PAR has the number that stands with it.
 -- They are listed in the order in which they begin in the term.
+-- Manual: combining processes (PAR). The numbers are (own).
 use Rattle.std.specs.Prelude.{List, [], ℕ, ◌++◌, ◌∷◌}
 use Rattle.occ_term.specs.Terms.{Term, Skip, Stop, Assign, Input, Output, VariantInput, Seq, Par, Alt, If, Case, While, Each, Clear, Local, Terms, no_terms, then_term, Branches, no_branches, and_branch, Arms, no_arms, skip_arm, input_arm, declared_arms, each_arm, Reception, Plain, Tagged, Variants, no_variants, or_variant, Choices, no_choices, or_choice, declared_choices, each_choice, Options, no_options, or_option, or_else}
 

@@ -1,4 +1,5 @@
 -- What a refusal says of the program.
+-- Manual: the usage rules check list.
 use Rattle.std.specs.Prelude.{⊤}
 use Rattle.occ_term.specs.declared.usage.UsageFault.{UsageFault}
 use Rattle.occ_term.specs.declared.usage.UsageFault.TheVariants.{SharedVariable, TwoInputs, TwoOutputs, Memory}

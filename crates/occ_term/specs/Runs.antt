@@ -1,4 +1,5 @@
 -- Runs, their endings, and what they show.
+-- Manual: combining processes (PAR leaves the order open). Turns, the endings and what is shown: (own).
 use Rattle.std.specs.Prelude.{Bool, IsFalse, IsTrue, List, None, Option, Some, [], if◌then◌else◌, map, nat_abs, nat_eq, ℕ, ◌++◌, ◌+◌, ◌∷◌, ◌≡◌, ◌⊎◌}
 use Rattle.occ_term.specs.Messages.{Fault, Part, Message}
 use Rattle.occ_term.specs.Terms.{Branches}
@@ -15,6 +16,7 @@ pub data Meeting (n : ℕ) (a : System) : Type 0 where
   by_message : {x : Communication} {b : System} → TakesPart n x → Meets a x b → Meeting n a
   by_skip : {b : System} → PassesSkip n a b → Meeting n a
 
+-- (own)
 -- After a turn of a process: one communication or choice of SKIP with it where one is possible, and else none.
 pub data MeetsAtMost (errors : Errors) (n : ℕ) : System → Option Communication → System → Type 0 where
   meets_none : {a : System} → (MayGo errors (noted_in a) → Meeting n a → ⊥) → MeetsAtMost errors n a None a
@@ -30,7 +32,7 @@ pub data Run (errors : Errors) (quantum : ℕ) : System → List Event → Syste
   goes : {n : ℕ} {x : Option Communication} {a b c d : System} {es : List Event}
       → SystemTurn errors quantum n a b → MeetsAtMost errors n b x c → Run errors quantum c es d → Run errors quantum a (event n x ∷ es) d
 
--- ---- the ending
+-- ---- the ending (own; faults: manual, invalid processes)
 
 -- some process has a private step, of which the end of a fork is one
 mutual
@@ -73,7 +75,7 @@ pub data EndsBy (errors : Errors) (a : System) : Ending → Type 0 where
   by_standing : MayGo errors (noted_in a) → IsFalse (main_ended a) → IsStill a → EndsBy errors a (still_by (noted_in a))
   goes_on : MayGo errors (noted_in a) → IsFalse (main_ended a) → StepOf a → EndsBy errors a Limit
 
--- ---- what a run shows
+-- ---- what a run shows (own)
 
 -- the names of channels, and of the tags of their protocols
 pub record Names : Type 0 where

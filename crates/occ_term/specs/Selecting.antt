@@ -1,11 +1,12 @@
 -- What IF, CASE and ALT select, and by which arm an ALT goes on.
+-- Manual: combining processes; channels and protocols.
 use Rattle.std.specs.Prelude.{Bool, List, None, Option, Some, [], false, if◌then◌else◌, length, nat_eq, pos, slice_get, suc, true, zero, ℕ, ℤ, ◌%◌, ◌++◌, ◌+ℤ◌, ◌||◌, ◌∷◌}
 use Rattle.occ_term.specs.Messages.{Part, Message}
 use Rattle.occ_term.specs.Terms.{Expression, Declaration, Term, Arms, no_arms, skip_arm, input_arm, declared_arms, each_arm, Reception, Plain, Tagged, Variants, no_variants, or_variant, Choices, no_choices, or_choice, declared_choices, each_choice, Options, no_options, or_option, or_else}
 use Rattle.occ_term.specs.Values.{Store, store_with, holds, int_eq, first_of, value_of, span_of}
 use Rattle.occ_term.specs.Storing.{Outcome, Gives, Faults, then_in, in_store, Nothing, nothing, store_into, declared, all_declared, Indices, indices, indices_of, index_of}
 
--- ---- IF: the first true condition
+-- ---- IF: the first true condition (manual: combining processes)
 
 -- `None` where none is true
 abbrev pub or_next : Outcome (Option Term) → (Store → Outcome (Option Term)) → Outcome (Option Term)
@@ -29,7 +30,7 @@ choice_of (declared_choices d within others) s = or_next (then_in (declared d s)
 choice_of (each_choice over within others) s =
     or_next (then_in (in_store (indices_of over s) s) (λ is s'. choice_over (choice_of within) (index_of over) is s')) (λ s'. choice_of others s')
 
--- ---- CASE: the option with the selector's value, else ELSE
+-- ---- CASE: the option with the selector's value, else ELSE (manual: combining processes; a selector of type BYTE: own)
 
 pub data Selected : Type 0 where
   selected : (declarations : List Declaration) (body : Term) → Selected
@@ -60,7 +61,7 @@ enters (Some (selected ds body)) s = then_in (all_declared ds s) (λ x s'. Gives
 abbrev pub option_of : Expression → Options → Store → Outcome (Option Term)
 option_of e options s = then_in (in_store (value_of e s) s) (λ v s'. enters (either (matching v options) (else_of options)) s')
 
--- ---- a message taken
+-- ---- a message taken (manual: channels and protocols; that targets' subscripts are evaluated after the communication: own)
 
 abbrev pub variant_taken : ℕ → List Part → Variants → Store → Outcome (Option Term)
 variant_taken tag ps no_variants s = Gives None s
@@ -78,7 +79,7 @@ abbrev pub taken : Reception → Message → Store → Outcome (Option Term)
 taken (Plain targets body) m s = then_in (store_into targets m.items s) (λ x s'. Gives (Some body) s')
 taken (Tagged vs) m s = tag_taken m.tag m.items vs s
 
--- ---- ALT: the enabled arms at the stop
+-- ---- ALT: the enabled arms at the stop (manual: combining processes; all in textual order, and once: own)
 
 -- what the rest of an arm sets again: an index of a replicator round it, or a declaration
 pub data Setting : Type 0 where
@@ -130,11 +131,11 @@ enabled (declared_arms d within others) ds s =
 enabled (each_arm over within others) ds s =
     and_arms (then_in (in_store (indices_of over s) s) (λ is s'. arms_over (enabled within) (index_of over) is ds s')) (λ s'. enabled others ds s')
 
--- ---- ALT: the arm that is taken
+-- ---- ALT: the arm that is taken (manual: combining processes; the choice by a number: own)
 
 -- The rule is one for all arms that wait for a channel, or for none, which is SKIP.
 
--- ready: SKIP, or an offer stands on the channel
+-- ready: SKIP, or an offer stands on the channel, whatever its tag (own)
 abbrev pub is_ready_on : (ℕ → Bool) → Option ℕ → Bool
 is_ready_on offers None = true
 is_ready_on offers (Some c) = offers c

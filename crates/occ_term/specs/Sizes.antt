@@ -3,6 +3,7 @@
 -- or output; each target, of which `count::array` is one; each choice, arm, option and variant; each constant of an option; and
 -- each replicator. Subscripts are expressions. What a replicator replicates stands within it.
 -- Cells are the components of declared variables and of named values, and each index.
+-- Manual: nothing; the limits of sizes are (own).
 use Rattle.std.specs.Prelude.{List, [], max, ℕ, ℤ, ◌+◌, ◌∷◌}
 use Rattle.occ_term.specs.Terms.{Expression, Constant, Cell, Component, Letter, Binary, Unary, And, Or, Conversion, Place, place, Subscripts, no_subscripts, then_subscript, Array, Cells, Text, Item, OfOne, OfMany, OfCounted, Target, Into, IntoCounted, Declaration, Clearing, Naming, Replicator, replicator, Term, Skip, Stop, Assign, Input, Output, VariantInput, Seq, Par, Alt, If, Case, While, Each, Clear, Local, Terms, no_terms, then_term, Branches, no_branches, and_branch, Arms, no_arms, skip_arm, input_arm, declared_arms, each_arm, Reception, Plain, Tagged, Variants, no_variants, or_variant, Choices, no_choices, or_choice, declared_choices, each_choice, Options, no_options, or_option, or_else}
 use Rattle.occ_term.specs.Uses.{cells_of_item}

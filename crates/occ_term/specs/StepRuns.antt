@@ -1,5 +1,6 @@
 -- Runs by single steps: each is a private step of one process, the end of a PAR, or a communication.
 -- Each run by turns is one: a turn is private steps of one process in a row.
+-- Manual: combining processes (PAR: the steps of its branches in any order).
 use Rattle.std.specs.Prelude.{List, None, Option, Some, [], ℕ, ◌++◌, ◌∷◌}
 use Rattle.occ_term.specs.Messages.{Fault}
 use Rattle.occ_term.specs.Terms.{Skip, Branches}

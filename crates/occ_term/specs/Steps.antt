@@ -1,4 +1,5 @@
 -- What is left of a process, and its private steps: a constructor for each row of the chapters on processes.
+-- Manual: primitive processes; combining processes; channels and protocols. The marks of the model are (own).
 use Rattle.std.specs.Prelude.{Bool, List, None, Option, Some, [], false, if◌then◌else◌, pos, suc, true, zero, ℕ, ℤ, ◌+ℤ◌, ◌∷◌, ◌≡◌}
 use Rattle.occ_term.specs.Messages.{Fault, Message, message}
 use Rattle.occ_term.specs.Terms.{Expression, Place, Item, Target, Clearing, Naming, Replicator, Term, Skip, Stop, Assign, Input, Output, VariantInput, Seq, Par, Alt, If, Case, While, Each, Clear, Local, Terms, no_terms, then_term, Branches, no_branches, and_branch, Arms, Reception, Plain, Tagged, Variants, Choices, Options}
@@ -39,7 +40,7 @@ pub data Context : Type 0 where
 pub data Left : Type 0 where
   left : (doing : Doing) (contexts : List Context) → Left
 
--- ---- what a process stands at
+-- ---- what a process stands at (own)
 
 pub data Status : Type 0 where
   Runs : Status
@@ -102,8 +103,9 @@ is_ended IsHalted = false
 is_ended (FailsBy e) = false
 is_ended HasEnded = true
 
--- ---- what terms do in a store
+-- ---- what terms do in a store (manual: primitive processes; combining processes)
 
+-- all items of an output are one message (own)
 abbrev pub offer_of : Place → Option ℕ → List Item → Store → Evaluated Doing
 offer_of channel tag items s = after (span_of channel s) (λ c. after (parts_of items s) (λ ps. Value (Offering (first_of c) (message tag ps))))
 
@@ -115,6 +117,7 @@ abbrev pub choosing : Bool → List Enabled → Doing
 choosing pri [] = Do Stop
 choosing pri (a ∷ arms) = Choosing pri (a ∷ arms)
 
+-- where nothing is selected it behaves like STOP; so it does for a tag that is not listed (own)
 abbrev pub or_stop : Option Term → Term
 or_stop None = Stop
 or_stop (Some t) = t
@@ -136,13 +139,13 @@ abbrev pub after_taken : Taken → Store → Outcome (Option Term)
 after_taken (SkipTaken body) s = Gives (Some body) s
 after_taken (MessageTaken list m) s = taken list m s
 
--- after the settings of an ALT's arm
+-- after the settings of an ALT's arm (own)
 abbrev pub taken_by : List Setting → Taken → Store → Outcome (Option Term)
 taken_by again what s = then_in (set_again again s) (λ x s'. after_taken what s')
 
--- ---- private steps
+-- ---- private steps (manual: primitive processes; combining processes)
 
--- an evaluation that faults, with what was set before
+-- an evaluation that faults, with what was set before (manual: invalid processes)
 pub data FaultsIn : Doing → Store → Fault → Store → Type 0 where
   in_assign : {s s' : Store} {e : Fault} {ts : List Target} {vs : List Item} → assigned ts vs s ≡ Faults e s' → FaultsIn (Do (Assign ts vs)) s e s'
   in_local : {s s' : Store} {e : Fault} {c : ℕ} {v : Item} → declared (Naming c v) s ≡ Faults e s' → FaultsIn (Do (Local c v)) s e s'
@@ -158,6 +161,8 @@ pub data FaultsIn : Doing → Store → Fault → Store → Type 0 where
   in_each : {s : Store} {e : Fault} {r : Replicator} {b : Term} → indices_of r s ≡ Fails e → FaultsIn (Do (Each r b)) s e s
   in_loop : {s s' : Store} {e : Fault} {l : Loop} → pass_of l s ≡ Faults e s' → FaultsIn (Passing l) s e s'
 
+-- STOP, assignment, output, input: primitive processes. SEQ, PAR, IF, CASE, WHILE, ALT, replicators: combining processes.
+-- Variant input: channels and protocols. Declarations: scope. That a loop stands at the end of its body is (own).
 pub data Step : Left → Store → Left → Store → Type 0 where
   -- Skip, as all that is left
   ends : {s : Store} → Step (left (Do Skip) []) s (left Done []) s

@@ -1,4 +1,5 @@
 -- Evaluation that sets cells: storing, declarations, replicators.
+-- Manual: primitive processes (assignment, input); variables and values. That what was set before a fault stays set is (own).
 use Rattle.std.specs.Prelude.{List, [], if◌then◌else◌, int_le, length, nat_abs, nat_le, pos, replicate, take, ℕ, ℤ, ◌&&◌, ◌+ℤ◌, ◌+◌, ◌∷◌}
 use Rattle.occ_term.specs.Messages.{Range, Count, Fault, fault, Part, One, Many, Counted}
 use Rattle.occ_term.specs.Terms.{Item, Target, Into, IntoCounted, Declaration, Clearing, Naming, Replicator, replicator}
@@ -22,7 +23,7 @@ in_store (Fails e) s = Faults e s
 pub data Nothing : Type 0 where
   nothing : Nothing
 
--- ---- storing
+-- ---- storing (manual: primitive processes)
 
 -- values into cells in a row
 abbrev pub store_from : ℕ → List ℤ → Store → Store
@@ -51,7 +52,7 @@ abbrev pub spots_of : List Target → Store → Evaluated (List Spot)
 spots_of [] s = Value []
 spots_of (t ∷ ts) s = after (spot_of t s) (λ at. after (spots_of ts s) (λ ats. Value (at ∷ ats)))
 
--- A counted message that is longer than the array is a fault; components past the count keep their values.
+-- A counted message that is longer than the array is a fault; components past the count keep their values (own).
 abbrev pub store_part : Spot → Part → Store → Outcome Nothing
 store_part (At cells) p s = Gives nothing (store_in cells (values_in p) s)
 store_part (AtCounted line count array) p s =
@@ -59,7 +60,7 @@ store_part (AtCounted line count array) p s =
     then Gives nothing (store_in array (values_in p) (store_in count (pos (length (values_in p)) ∷ []) s))
     else Faults (fault Range line) s
 
--- from left to right
+-- from left to right (own)
 abbrev pub store_parts : List Spot → List Part → Store → Outcome Nothing
 store_parts [] ps s = Gives nothing s
 store_parts (at ∷ ats) [] s = Gives nothing s
@@ -73,8 +74,9 @@ store_into targets ps s = then_in (in_store (spots_of targets s) s) (λ ats s'. 
 abbrev pub assigned : List Target → List Item → Store → Outcome Nothing
 assigned targets values s = then_in (in_store (parts_of values s) s) (λ ps s'. store_into targets ps s')
 
--- ---- declarations and replicators
+-- ---- declarations (manual: scope; variables and values) and replicators (manual: combining processes)
 
+-- a declared variable begins with 0 or FALSE in all its components (own)
 abbrev pub declared : Declaration → Store → Outcome Nothing
 declared (Clearing first count) s = Gives nothing (store_from first (replicate count (pos 0)) s)
 declared (Naming first value) s = then_in (in_store (part_of value s) s) (λ p s'. Gives nothing (store_from first (values_in p) s'))
@@ -83,7 +85,7 @@ abbrev pub all_declared : List Declaration → Store → Outcome Nothing
 all_declared [] s = Gives nothing s
 all_declared (d ∷ ds) s = then_in (declared d s) (λ x s'. all_declared ds s')
 
--- base and how many values: none is negative, and the last is an INT
+-- Base and how many values, the base evaluated first. A negative count, or a last index past the last INT, is a fault (own).
 pub data Indices : Type 0 where
   indices : (base : ℤ) (count : ℕ) → Indices
 

@@ -1,4 +1,6 @@
 -- The system: the keyboard, the main tree of processes, the screen and the error sink, over one store.
+-- Manual: combining processes (PAR); primitive processes (communication); invalid processes. One store, the numbers of processes,
+-- and the ends beside the main process: (own).
 use Rattle.std.specs.Prelude.{Bool, IsTrue, List, None, Some, [], false, nat_eq, pos, ℕ, ⊤, ◌++◌, ◌||◌, ◌∷◌, ◌≡◌}
 use Rattle.occ_term.specs.Messages.{Byte, Fault, One, Message, message}
 use Rattle.occ_term.specs.Terms.{Term, Skip, Branches, no_branches, and_branch, Reception}
@@ -20,11 +22,11 @@ mutual
 pub data System : Type 0 where
   system : (keyboard : List ℕ) (main : Process) (store : Store) (noted : List Fault) → System
 
--- The main term is the process 0. Channel 0 is the keyboard, 1 the screen, 2 the error channel.
+-- The main term is the process 0. Channel 0 is the keyboard, 1 the screen, 2 the error channel (own).
 abbrev pub start : Term → List ℕ → System
 start t keyboard = system keyboard (process 0 (left (Do t) []) no_processes) (λ c. pos 0) []
 
--- what a fault does: end the whole system, or stop its process alone
+-- what a fault does: end the whole system, or stop its process alone (manual: invalid processes)
 pub data Errors : Type 0 where
   HaltMode : Errors
   StopMode : Errors
@@ -36,7 +38,7 @@ MayGo StopMode noted = ⊤
 abbrev pub noted_in : System → List Fault
 noted_in (system kb p s noted) = noted
 
--- ---- turns in the system
+-- ---- turns in the system (own); forks and joins (manual: combining processes, PAR)
 
 abbrev pub branches_of : Branches → Processes
 branches_of no_branches = no_processes
@@ -94,7 +96,7 @@ pub data SystemTurn (errors : Errors) (quantum n : ℕ) : System → System → 
       → MayGo errors noted → TurnIn quantum n p s p' s' st
       → SystemTurn errors quantum n (system kb p s noted) (system kb p' s' (noted ++ fault_noted st))
 
--- ---- communication: two changes, each of one part, with one channel and one message
+-- ---- communication: two changes, each of one part, with one channel and one message (manual: primitive processes)
 
 -- an end of a communication
 pub data End : Type 0 where
@@ -151,7 +153,7 @@ pub data GetsOn (standing : ℕ → Bool) (c : ℕ) (m : Message) : Left → Lef
       → (pick : ℕ) → chosen pri pick standing arms ≡ Some (InputArm again c list)
       → GetsOn standing c m (left (Choosing pri arms) k) (left (Taking again (MessageTaken list m)) k)
 
--- an ALT whose rule chooses an arm with SKIP
+-- an ALT whose rule chooses an arm with SKIP (manual: combining processes)
 pub data PassesBy (standing : ℕ → Bool) : Left → Left → Type 0 where
   arm_skips : {k : List Context} {pri : Bool} {arms : List Enabled} {again : List Setting} {body : Term}
       → (pick : ℕ) → chosen pri pick standing arms ≡ Some (SkipArm again body)

@@ -1,4 +1,5 @@
 -- The types of whole terms, over the types of the cells and the protocols of the channels.
+-- Manual: primitive processes; combining processes; channels and protocols; scope.
 use Rattle.std.specs.Prelude.{IsTrue, List, None, Option, Some, [], ℕ, ⊤, ◌∷◌, ◌≡◌}
 use Rattle.occ_term.specs.Messages.{Primitive, Boolean, Int, PartType, Protocol, AllOf, parts_after, simple_part, product}
 use Rattle.occ_term.specs.Terms.{Place, place, Item, Target, Declaration, Clearing, Naming, Replicator, replicator, Term, Skip, Stop, Assign, Input, Output, VariantInput, Seq, Par, Alt, If, Case, While, Each, Clear, Local, Terms, no_terms, then_term, Branches, no_branches, and_branch, Arms, no_arms, skip_arm, input_arm, declared_arms, each_arm, Reception, Plain, Tagged, Variants, no_variants, or_variant, Choices, no_choices, or_choice, declared_choices, each_choice, Options, no_options, or_option, or_else}

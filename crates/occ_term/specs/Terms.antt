@@ -1,6 +1,8 @@
 -- The unfolded program: expressions, variables, and terms.
 -- Cells and channels are numbers. An array is a row of cells, or of channels, from its first on.
-use Rattle.std.specs.Prelude.{Bool, List, Option, [], ℕ, ℤ, ◌∷◌}
+-- Manual: expressions; variables and values; primitive processes; combining processes. Calls and replicated PARs are unfolded
+-- by now (manual: scope, procedures); that all variables are cells in one row is (own).
+use Rattle.std.specs.Prelude.{Bool, List, Option, ℕ, ℤ}
 use Rattle.occ_term.specs.Messages.{Primitive}
 
 -- checked, modulo, bit by bit, shifts, comparisons

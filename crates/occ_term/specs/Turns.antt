@@ -1,4 +1,5 @@
 -- From stop to stop: single turns, and turns that pass the stops of loops.
+-- Manual: nothing. Where processes stop, and that a turn goes to a stop, is (own).
 use Rattle.std.specs.Prelude.{IsFalse, IsTrue, suc, ℕ, ◌≡◌, ◌⊎◌}
 use Rattle.occ_term.specs.Values.{Store}
 use Rattle.occ_term.specs.Steps.{Left, status, is_running, is_looping, Step}

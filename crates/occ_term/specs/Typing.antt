@@ -1,4 +1,5 @@
 -- The types of expressions, items and targets, over the types of the cells.
+-- Manual: data types; expressions; variables and values. BYTE as an operand of arithmetic, bit operators and shifts: (own).
 use Rattle.std.specs.Prelude.{Bool, IsTrue, List, [], false, length, true, ℕ, ◌∷◌, ◌≡◌}
 use Rattle.occ_term.specs.Messages.{Primitive, Boolean, Byte, Int, is_of, PartType, OneOf, ManyOf, CountedOf, product, AllOf}
 use Rattle.occ_term.specs.Terms.{Operator, Plus, Minus, Times, Divide, Remainder, PlusModulo, MinusModulo, TimesModulo, BitAnd, BitOr, BitXor, ShiftLeft, ShiftRight, After, Equal, Unequal, Less, Greater, AtMost, AtLeast, Negate, BitNot, Not, Expression, Constant, Cell, Component, Letter, Binary, Unary, And, Or, Conversion, Place, place, Subscripts, no_subscripts, then_subscript, Array, Cells, Text, Item, OfOne, OfMany, OfCounted, Target, Into, IntoCounted}

@@ -1,4 +1,5 @@
 -- An unfolded program: its term, its cells and its channels, each with its declared name.
+-- Manual: scope, procedures. The numbers of cells, channels and processes: (own).
 use Rattle.std.specs.Prelude.{List, [], codes, get_or, map, slice_get, ℕ, ◌++◌, ◌+◌, ◌∷◌, ◌≡◌, ⊤}
 use Rattle.occ_term.specs.Messages.{Byte, Int, Simple}
 use Rattle.occ_term.specs.Terms as T

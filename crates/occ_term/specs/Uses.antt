@@ -1,4 +1,5 @@
 -- Which cells and channels a term uses, and when the branches of its PARs stay apart.
+-- Manual: the usage rules check list; combining processes (PAR).
 use Rattle.std.specs.Prelude.{Bool, IsTrue, List, None, Option, Some, [], false, if◌then◌else◌, int_le, int_lt, length, nat_abs, nat_eq, nat_le, nat_lt, pos, set, true, ℕ, ℤ, ⊤, ◌&&◌, ◌*◌, ◌+◌, ◌||◌, ◌∷◌}
 use Rattle.occ_term.specs.Messages.{product}
 use Rattle.occ_term.specs.Terms.{Expression, Constant, Cell, Component, Letter, Binary, Unary, And, Or, Conversion, Place, place, Subscripts, no_subscripts, then_subscript, Array, Cells, Text, Item, OfOne, OfMany, OfCounted, Target, Into, IntoCounted, Declaration, Clearing, Naming, Replicator, replicator, Term, Skip, Stop, Assign, Input, Output, VariantInput, Seq, Par, Alt, If, Case, While, Each, Clear, Local, Terms, no_terms, then_term, Branches, no_branches, and_branch, Arms, no_arms, skip_arm, input_arm, declared_arms, each_arm, Reception, Plain, Tagged, Variants, no_variants, or_variant, Choices, no_choices, or_choice, declared_choices, each_choice, Options, no_options, or_option, or_else}
@@ -38,7 +39,7 @@ inputting set = record { reads = empty_set; writes = empty_set; ins = set; outs 
 abbrev pub outputting : Numbers → Uses
 outputting set = record { reads = empty_set; writes = empty_set; ins = empty_set; outs = set }
 
--- ---- constant subscripts
+-- ---- constant subscripts (manual: the usage rules check list; that any other subscript means all components: own)
 
 -- no cell and no component, of a string neither
 abbrev pub is_constant : Expression → Bool
@@ -76,7 +77,7 @@ numbers_in (span first count) = λ c. nat_le first c && nat_lt c (first + count)
 abbrev pub named_by : Place → Numbers
 named_by (place line first sizes subs) = numbers_in (part_named subs first sizes (span first (product sizes)))
 
--- ---- what is read
+-- ---- what is read (manual: expressions)
 
 abbrev mutual
   pub reads_of : Expression → Numbers
@@ -111,7 +112,7 @@ abbrev pub reads_of_items : List Item → Numbers
 reads_of_items [] = empty_set
 reads_of_items (i ∷ is) = union (reads_of_item i) (reads_of_items is)
 
--- ---- what terms use
+-- ---- what terms use (manual: the usage rules check list)
 
 abbrev pub written_place : Place → Uses
 written_place p = with_use (writing (named_by p)) (reading (reads_in_place p))
@@ -211,7 +212,7 @@ abbrev mutual
   uses_of_options (or_option constants ds t os) = with_use (uses_of_declarations ds) (with_use (uses_of t) (uses_of_options os))
   uses_of_options (or_else ds t os) = with_use (uses_of_declarations ds) (with_use (uses_of t) (uses_of_options os))
 
--- ---- the usage rules
+-- ---- the usage rules (manual: the usage rules check list)
 
 abbrev pub Apart : Numbers → Numbers → Type 0
 Apart a b = (c : ℕ) → IsTrue (a c) → IsTrue (b c) → ⊥
@@ -282,7 +283,7 @@ abbrev mutual
 abbrev pub only : ℕ → Numbers
 only n = λ c. nat_eq n c
 
--- the keyboard outputs on channel 0, the screen inputs on 1, the error sink on 2; each is a branch beside the main term
+-- the keyboard outputs on channel 0, the screen inputs on 1, the error sink on 2; each is a branch beside the main term (own)
 pub record Lawful (t : Term) : Type 0 where
   pub branches : LawfulTerm t
   pub beside_keyboard : StayApart (uses_of t) (outputting (only 0))

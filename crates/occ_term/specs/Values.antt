@@ -1,4 +1,6 @@
 -- What an expression is worth in a store: a whole number, or the first fault from the left.
+-- Manual: expressions; data types. Evaluation from the left with the first fault named, arithmetic on BYTE, the counts that a
+-- shift takes, and MOSTNEG \ -1 as 0: (own).
 use Rattle.std.specs.Prelude.{Bool, IsTrue, List, [], bit_and, bit_or, bit_xor, false, get_or, if◌then◌else◌, int_div, int_le, int_lt, int_rem, length, nat_abs, nat_eq, nat_lt, neg_ℤ, negsuc, not, pos, suc, take, true, zero, ℕ, ℤ, ◌%◌, ◌&&◌, ◌*ℤ◌, ◌*◌, ◌+ℤ◌, ◌+◌, ◌-ℤ◌, ◌-◌, ◌/◌, ◌^◌, ◌∷◌, ◌≡◌}
 use Rattle.occ_term.specs.Messages.{Primitive, Boolean, Byte, Int, is_of, FaultKind, Arith, Range, Convert, Shift, Fault, fault, Part, One, Many, Counted, product}
 use Rattle.occ_term.specs.Terms.{Operator, Plus, Minus, Times, Divide, Remainder, PlusModulo, MinusModulo, TimesModulo, BitAnd, BitOr, BitXor, ShiftLeft, ShiftRight, After, Equal, Unequal, Less, Greater, AtMost, AtLeast, Monadic, Negate, BitNot, Not, Expression, Constant, Cell, Component, Letter, Binary, Unary, And, Or, Conversion, Place, place, Subscripts, no_subscripts, then_subscript, Array, Cells, Text, Item, OfOne, OfMany, OfCounted}
@@ -122,7 +124,7 @@ abbrev mutual
   value_of (Or a b) s = after (value_of a s) (λ x. if holds x then Value (pos 1) else value_of b s)
   value_of (Conversion to line a) s = after (value_of a s) (λ x. converted to line x)
 
-  -- the cells or channels that a place names, in the array's order
+  -- the cells or channels that a place names, in the array's order (manual: variables and values)
   pub span_of : Place → Store → Evaluated Span
   span_of (place line first sizes subs) s = offset_of subs line first sizes s
 

@@ -1,4 +1,5 @@
 -- The terms of the code as terms of the definitions.
+-- Manual: nothing; this is (own).
 use Rattle.std.specs.Prelude.{List, None, [], pos, ◌∷◌}
 use Rattle.occ_term.specs.Messages.{Byte}
 use Rattle.occ_term.specs.Terms as T

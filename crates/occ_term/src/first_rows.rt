@@ -1,6 +1,6 @@
 //! The simplest programs, each with the turns that it takes. Each function's contract is the row; its body does nothing.
 
-ghost use Rattle.occ_term.specs.FirstRows.{EmptySequence, LetterEnds, LetterGoesOn, NoTurn, StopStops, TwoLetters};
+ghost use Rattle.occ_term.specs.FirstRows.{EmptySequence, LetterEnds, LetterGoesOn, MeetsAtOnce, NoTurn, StopStops, TwoLetters};
 
 /// A letter to the screen: after one turn it is shown, and the run goes on.
 pub fn letter_goes_on()
@@ -25,6 +25,11 @@ pub fn two_letters()
 /// A sequence of nothing ends with its first turn.
 pub fn empty_sequence()
     ensures { EmptySequence }
+{}
+
+/// What can be communicated after a turn is communicated with it.
+pub fn meets_at_once()
+    ensures { MeetsAtOnce }
 {}
 
 /// Before its first turn each program goes on, and shows nothing.
