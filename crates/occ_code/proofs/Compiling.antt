@@ -1,5 +1,5 @@
 -- The compiled form of an early term keeps what `Code` promises.
-use Rattle.std.proofs.Common.{◌≡◌, ◌++◌, ◌∷◌, [], List, ◌∙◌, refl, sym, ap, subst, arith}
+use Rattle.std.proofs.Common.{◌≤◌, length, ◌≡◌, ◌++◌, ◌∷◌, [], List, ◌∙◌, refl, sym, ap, subst, arith}
 use Rattle.std.specs.Prelude.{◌||◌}
 use Rattle.occ_term.specs.Terms.{Term, Terms}
 use Rattle.occ_term.specs.Uses.{uses_of}
@@ -8,7 +8,7 @@ use Rattle.occ_term.specs.Processes.{branches_in, branches_in_terms, processes_o
 use Rattle.occ_term.specs.declared.names.Channel.{Channel}
 use Rattle.occ_term.proofs.Outputs.{quiet}
 use Rattle.occ_code.specs.Machine.{FlatCode}
-use Rattle.occ_code.specs.Emitted.{flat_body, IsTooLong}
+use Rattle.occ_code.specs.Emitted.{flat_body, most_instructions, IsTooLong}
 use Rattle.occ_code.specs.Alike.{DoesAs}
 use Rattle.occ_code.specs.Compiled.{AllDo, IsCompiledFrom, CodeRefuses}
 use Rattle.occ_code.proofs.Early.{EarlyTerm, early_skip, early_stop, early_output, early_seq, EarlyTerms, early_none, early_then, early_of}
@@ -36,14 +36,15 @@ does_as u =
       alike = λ n first bound h. body_alike (declared u) (early_of u.term) n first h;
     }
 
-pub compiled_from : (u : Unfolding) → IsCompiledFrom u (record { bodies = flat_body (meaning u) ∷ []; channels = u.channels })
-compiled_from u =
+compiled_from : (u : Unfolding) → length (flat_body (meaning u)).code ≤ most_instructions → IsCompiledFrom u (record { bodies = flat_body (meaning u) ∷ []; channels = u.channels })
+compiled_from u h =
     let one : processes_of (meaning u) ≡ numbered 0 (meaning u) ∷ [] = ap (λ l. numbered 0 (meaning u) ∷ l) (no_branches_in (early_of u.term)) in
-    record { channels = refl; bodies = subst (λ ps. AllDo (declared u) 0 (flat_body (meaning u) ∷ []) ps) (sym one) (refl, does_as u, tt) }
+    record { channels = refl; bodies = subst (λ ps. AllDo (declared u) 0 (flat_body (meaning u) ∷ []) ps) (sym one) (refl, does_as u, tt); small = omega (arith, h) }
 
-pub compiled_as : (u : Unfolding) (bodies : List FlatCode) (channels : List Channel) → bodies ≡ flat_body (meaning u) ∷ [] → channels ≡ u.channels → IsCompiledFrom u (record { bodies = bodies; channels = channels })
-compiled_as u bodies channels e h =
-    let with_bodies = subst (λ bs. IsCompiledFrom u (record { bodies = bs; channels = u.channels })) (sym e) (compiled_from u) in
+pub compiled_as : (u : Unfolding) (bodies : List FlatCode) (b : FlatCode) (channels : List Channel) → bodies ≡ b ∷ [] → b ≡ flat_body (meaning u) → length b.code ≤ most_instructions → channels ≡ u.channels → IsCompiledFrom u (record { bodies = bodies; channels = channels })
+compiled_as u bodies b channels e q n h =
+    let small : length (flat_body (meaning u)).code ≤ most_instructions = subst (λ x. length x.code ≤ most_instructions) q n in
+    let with_bodies = subst (λ bs. IsCompiledFrom u (record { bodies = bs; channels = u.channels })) (sym (e ∙ ap (λ x. x ∷ []) q)) (compiled_from u small) in
     subst (λ cs. IsCompiledFrom u (record { bodies = bodies; channels = cs })) (sym h) with_bodies
 
 pub refused_as : (u : Unfolding) (fault : CodeFault) → IsTooLong fault (meaning u) → CodeRefuses fault u

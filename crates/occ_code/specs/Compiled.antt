@@ -1,6 +1,6 @@
 -- Compiled programs: a body for each process, which does what the process's term does.
 -- Manual: nothing; this is (own).
-use Rattle.std.specs.Prelude.{List, [], ℕ, ◌*◌, ◌+◌, ◌<◌, ⊤, ◌∷◌, ◌≡◌}
+use Rattle.std.specs.Prelude.{List, [], length, ℕ, ◌*◌, ◌+◌, ◌<◌, ◌≤◌, ⊤, ◌∷◌, ◌≡◌}
 use Rattle.occ_term.specs.Unfolding.{Unfolding, IsWellFormed, Lawful, declared, meaning}
 use Rattle.occ_term.specs.Processes.{Numbered, processes_of}
 use Rattle.occ_term.specs.TermTyping.{Declared}
@@ -24,10 +24,16 @@ AllDo d n [] (p ∷ ps) = ⊥
 AllDo d n (b ∷ bs) [] = ⊥
 AllDo d n (b ∷ bs) (p ∷ ps) = (p.number ≡ n) × DoesAs d b p.term × AllDo d (n + 1) bs ps
 
--- compiled from this source
+-- how many instructions there are
+abbrev pub instructions_in : List FlatCode → ℕ
+instructions_in [] = 0
+instructions_in (b ∷ bs) = length b.code + instructions_in bs
+
+-- compiled from this source, within the limit of instructions
 pub record IsCompiledFrom (u : Unfolding) (p : Program) : Type 0 where
   pub channels : p.channels ≡ u.channels
   pub bodies : AllDo (declared u) 0 p.bodies (processes_of (meaning u))
+  pub small : instructions_in p.bodies ≤ most_instructions
 
 -- compiled from some source that is well-formed and keeps the usage rules
 pub record IsCompiled (p : Program) : Type 0 where

@@ -1,9 +1,9 @@
 //! Compiled programs.
-ghost use Rattle.std.specs.Prelude.{◌≡◌, [], ◌∷◌, ◌++◌, ◌+◌, ◌<◌, IfOk, IfErr, OnOk, OnErr, IfSome, IfNone, All, length, map, slice_get};
+ghost use Rattle.std.specs.Prelude.{◌≡◌, [], ◌∷◌, ◌++◌, ◌+◌, ◌<◌, ◌≤◌, IfOk, IfErr, OnOk, OnErr, IfSome, IfNone, All, length, map, slice_get};
 ghost use Rattle.std.specs.Arc.{arc_value};
 ghost use Rattle.occ_term.specs.Unfolding.{meaning};
 ghost use Rattle.occ_term.specs.View.{term_of, terms_of};
-ghost use Rattle.occ_code.specs.Emitted.{term_code, terms_code, body_code, flat_body, IsTooLong};
+ghost use Rattle.occ_code.specs.Emitted.{term_code, terms_code, body_code, flat_body, most_instructions, IsTooLong};
 ghost use Rattle.occ_code.specs.Compiled.{IsCompiled, IsCompiledFrom, CodeRefuses};
 
 use crate::body::{Body, Instr};
@@ -115,6 +115,7 @@ pub fn compile(alloc: Global, checked: &Checked) -> Result<Code, CodeFault>
 /// The body of a program's one process.
 fn only_process(alloc: Global, term: &Term) -> Result<Body, CodeFault>
     ensures body { IfOk result (λ b. b ≡ flat_body (term_of term.now)) }
+    ensures small { IfOk result (λ b. length b.code ≤ most_instructions) }
     ensures refused { IfErr result (λ fault. IsTooLong fault (term_of term.now)) }
 {
     let code = flat_code(alloc, term)?;

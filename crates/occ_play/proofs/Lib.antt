@@ -5,4 +5,4 @@ mod Settling
 mod Calm
 mod OneStop
 mod Simulation
-mod Running
+mod Rerun

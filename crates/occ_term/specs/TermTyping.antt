@@ -1,10 +1,10 @@
 -- The types of whole terms, over the types of the cells and the protocols of the channels.
 -- Manual: primitive processes; combining processes; channels and protocols; scope.
-use Rattle.std.specs.Prelude.{IsTrue, List, None, Option, Some, [], ℕ, ⊤, ◌∷◌, ◌≡◌}
+use Rattle.std.specs.Prelude.{false, IsTrue, List, None, Option, Some, [], ℕ, ⊤, ◌∷◌, ◌≡◌}
 use Rattle.occ_term.specs.Messages.{Primitive, Boolean, Int, PartType, Protocol, AllOf, parts_after, simple_part, product}
 use Rattle.occ_term.specs.Terms.{Place, place, Item, Target, Declaration, Clearing, Naming, Replicator, replicator, Term, Skip, Stop, Assign, Input, Output, VariantInput, Seq, Par, Alt, If, Case, While, Each, Clear, Local, Terms, no_terms, then_term, Branches, no_branches, and_branch, Arms, no_arms, skip_arm, input_arm, declared_arms, each_arm, Reception, Plain, Tagged, Variants, no_variants, or_variant, Choices, no_choices, or_choice, declared_choices, each_choice, Options, no_options, or_option, or_else}
 use Rattle.occ_term.specs.Values.{span}
-use Rattle.occ_term.specs.Uses.{numbers_in}
+use Rattle.occ_term.specs.Uses.{Uses, numbers_in, uses_of, uses_of_arms, uses_of_choices}
 use Rattle.occ_term.specs.Typing.{is_number, CellsHave, HasType, SubscriptsLeave, ItemHas, TargetHas}
 
 -- what is declared: the type of each cell, and the protocol of each channel that there is
@@ -50,6 +50,10 @@ DeclarationsHave d (x ∷ xs) = DeclarationHas d x × DeclarationsHave d xs
 abbrev pub ReplicatorHas : Declared → Replicator → Type 0
 ReplicatorHas d (replicator line index base count) = (d.types index ≡ Int) × HasType d.types base Int × HasType d.types count Int
 
+-- an index is no target within what it replicates
+abbrev pub IsKept : Replicator → Uses → Type 0
+IsKept (replicator line index base count) u = u.writes index ≡ false
+
 abbrev mutual
   pub TermHas : Declared → Term → Type 0
   TermHas d Skip = ⊤
@@ -64,7 +68,7 @@ abbrev mutual
   TermHas d (If cs) = ChoicesHave d cs
   TermHas d (Case e os) = (type : Primitive) × IsTrue (is_number type) × HasType d.types e type × OptionsHave d type os
   TermHas d (While e b) = HasType d.types e Boolean × TermHas d b
-  TermHas d (Each r b) = ReplicatorHas d r × TermHas d b
+  TermHas d (Each r b) = ReplicatorHas d r × IsKept r (uses_of b) × TermHas d b
   TermHas d (Clear first count) = DeclarationHas d (Clearing first count)
   TermHas d (Local first value) = DeclarationHas d (Naming first value)
 
@@ -81,7 +85,7 @@ abbrev mutual
   ArmsHave d (skip_arm e t arms) = HasType d.types e Boolean × TermHas d t × ArmsHave d arms
   ArmsHave d (input_arm e c list arms) = HasType d.types e Boolean × ((p : Protocol) × ChannelHas d c p × ReceptionHas d p list) × ArmsHave d arms
   ArmsHave d (declared_arms x arms others) = DeclarationHas d x × ArmsHave d arms × ArmsHave d others
-  ArmsHave d (each_arm r arms others) = ReplicatorHas d r × ArmsHave d arms × ArmsHave d others
+  ArmsHave d (each_arm r arms others) = ReplicatorHas d r × IsKept r (uses_of_arms arms) × ArmsHave d arms × ArmsHave d others
 
   pub ReceptionHas : Declared → Protocol → Reception → Type 0
   ReceptionHas d p (Plain ts t) = ((parts : List PartType) × (parts_after p None ≡ Some parts) × TargetsHave d ts parts) × TermHas d t
@@ -97,7 +101,7 @@ abbrev mutual
   ChoicesHave d no_choices = ⊤
   ChoicesHave d (or_choice e t cs) = HasType d.types e Boolean × TermHas d t × ChoicesHave d cs
   ChoicesHave d (declared_choices x cs others) = DeclarationHas d x × ChoicesHave d cs × ChoicesHave d others
-  ChoicesHave d (each_choice r cs others) = ReplicatorHas d r × ChoicesHave d cs × ChoicesHave d others
+  ChoicesHave d (each_choice r cs others) = ReplicatorHas d r × IsKept r (uses_of_choices cs) × ChoicesHave d cs × ChoicesHave d others
 
   pub OptionsHave : Declared → Primitive → Options → Type 0
   OptionsHave d type no_options = ⊤

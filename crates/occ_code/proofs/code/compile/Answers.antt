@@ -10,7 +10,7 @@ use Rattle.occ_code.proofs.code.compile.Goals as goal
 from : (c : goal.In_ok-channels) → IsCompiledFrom c.args.checked.now (record { bodies = map arc_value c.in_ok-bodies.bodies.items; channels = c.in_ok-channels.channels.items })
 from c =
     let same = c.in-Ok.ensures.body ∙ ap (λ t. flat_body (term_of t)) (c.term.ensures ∙ ap (λ u. u.term) c.unfolded-unfolded.ensures) in
-    compiled_as c.args.checked.now _ _ (c.in_ok-bodies.ensures ∙ ap (λ b. b ∷ []) same) (c.in_ok-channels.ensures ∙ c.channels.ensures ∙ ap (λ u. u.channels) c.unfolded-unfolded.ensures)
+    compiled_as c.args.checked.now _ _ _ c.in_ok-bodies.ensures same c.in-Ok.ensures.small (c.in_ok-channels.ensures ∙ c.channels.ensures ∙ ap (λ u. u.channels) c.unfolded-unfolded.ensures)
 
 pub invariant_of-result : goal.invariant_of-result
 invariant_of-result c =

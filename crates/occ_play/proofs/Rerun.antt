@@ -1,6 +1,7 @@
 -- A run in code is a replay.
 use Rattle.std.proofs.Common.{◌≡◌, ℕ, zero, suc, ◌+◌, ◌<◌, ◌^◌, List, [], ◌∷◌, ◌++◌, Option, Some, None, Bool, true, false, IsTrue, length, map, take, refl, sym, ap, ◌∙◌, subst}
 use Rattle.std.specs.Prelude.{◌%◌, slice_get, if◌then◌else◌}
+use Rattle.std.proofs.Math.Nat.{mod-one}
 use Rattle.occ_term.specs.Unfolding.{Unfolding, meaning}
 use Rattle.occ_code.specs.Machine.{FlatCode}
 use Rattle.occ_code.specs.Compiled.{Program, IsCompiledFrom}
