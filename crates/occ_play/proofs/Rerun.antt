@@ -1,10 +1,14 @@
 -- A run in code is a replay.
-use Rattle.std.proofs.Common.{◌≡◌, ℕ, zero, suc, ◌+◌, ◌<◌, ◌^◌, List, [], ◌∷◌, ◌++◌, Option, Some, None, Bool, true, false, IsTrue, length, map, take, refl, sym, ap, ◌∙◌, subst}
+use Rattle.std.proofs.Common.{◌≡◌, ℕ, zero, suc, ◌+◌, ◌<◌, ◌^◌, List, [], ◌∷◌, ◌++◌, Option, Some, None, Bool, true, false, IsTrue, length, map, take, drop, refl, sym, ap, ◌∙◌, subst, arith, length-append, ◌≤◌, inl, inr}
 use Rattle.std.specs.Prelude.{◌%◌, slice_get, if◌then◌else◌}
 use Rattle.std.proofs.Math.Nat.{mod-one}
+use Rattle.std.proofs.Math.Seq.{take-suc}
+use Rattle.std.proofs.lemmas.List.{take_all, take-append-drop}
+use Rattle.std.proofs.lemmas.Option.{slice_get_within, slice_get_cases, get_or_from_slice_get}
 use Rattle.occ_term.specs.Unfolding.{Unfolding, meaning}
 use Rattle.occ_code.specs.Machine.{FlatCode}
-use Rattle.occ_code.specs.Compiled.{Program, IsCompiledFrom}
+use Rattle.occ_code.specs.Compiled.{Program, IsCompiledFrom, instructions_in}
+use Rattle.occ_code.specs.Emitted.{most_instructions}
 use Rattle.occ_code.specs.declared.task.Wait.{Wait}
 use Rattle.occ_code.specs.declared.task.Wait.TheVariants as W
 use Rattle.occ_play.specs.declared.ending.Choice.{Choice}
@@ -74,3 +78,36 @@ outcome p kb list n o h t b e w =
       ending = e ∙ ap or_limit (sym (ends_by n h.net h.holds));
       whole = λ q. w (sym (ends_by n h.net h.holds) ∙ q);
     }
+
+-- ---- the body of the one process
+
+pub body_is : (p : Program) (body : FlatCode) → WritesOnly p → slice_get p.bodies 0 ≡ Some body → p.bodies ≡ body ∷ []
+body_is p body w has =
+    let one = only_body w.source p w.compiled w.term in
+    let same : one.0 ≡ body = (let q : Some one.0 ≡ Some body = ap (λ bs. slice_get bs 0) (sym one.1) ∙ has in cc) in
+    one.1 ∙ ap (λ b. b ∷ []) same
+
+pub is_there : (p : Program) → WritesOnly p → slice_get p.bodies 0 ≡ None → ⊥
+is_there p w none = let one = only_body w.source p w.compiled w.term in let q : Some one.0 ≡ None = ap (λ bs. slice_get bs 0) (sym one.1) ∙ none in cc
+
+pub body_small : (p : Program) (body : FlatCode) → WritesOnly p → slice_get p.bodies 0 ≡ Some body → length body.code + 1 < 2 ^ 32
+body_small p body w has =
+    let h : instructions_in (body ∷ []) ≤ most_instructions = subst (λ bs. instructions_in bs ≤ most_instructions) (body_is p body w has) w.compiled.small in
+    omega (arith, h)
+
+-- ---- the used choices
+
+pub one_more_used : (xs ys : List Choice) (c : Choice) → xs ≡ take (length xs) ys → slice_get ys (length xs) ≡ Some c → xs ++ c ∷ [] ≡ take (length (xs ++ c ∷ [])) ys
+one_more_used xs ys c e at =
+    let within : length xs < length ys = slice_get_within ys (length xs) c at in
+    let grown : length (xs ++ c ∷ []) ≡ suc (length xs) = omega (arith, length-append xs (c ∷ [])) in
+    ap (λ l. l ++ c ∷ []) e ∙ ap (λ d. take (length xs) ys ++ d ∷ []) (sym (get_or_from_slice_get ys (length xs) c c at)) ∙ sym (take-suc ys (length xs) c within) ∙ ap (λ n. take n ys) (sym grown)
+
+pub begins_by : (xs ys : List Choice) → xs ≡ take (length xs) ys → Begins xs ys
+begins_by xs ys e = record { rest = drop (length xs) ys; is = sym (take-append-drop (length xs) ys) ∙ ap (λ l. l ++ drop (length xs) ys) (sym e) }
+
+pub all_used : (xs ys : List Choice) → xs ≡ take (length xs) ys → slice_get ys (length xs) ≡ None → xs ≡ ys
+all_used xs ys e none = e ∙ take_all (length xs) ys past
+  where
+    past : length ys ≤ length xs
+    past = elim (slice_get_cases ys (length xs)).1 [ inl h ↦ absurd (let q = sym h.2 ∙ none in cc) | inr h ↦ h.0 ]

@@ -4,12 +4,12 @@ use Rattle.occ_play.specs.Plans.{choices_of}
 use Rattle.occ_play.proofs.Rerun.{outcome}
 use Rattle.occ_play.proofs.running.run.Given as goal
 
-abbrev pub invariant-loop : goal.invariant-loop
-invariant-loop l = record {
+abbrev pub invariant-loop-ending : goal.invariant-loop-ending
+invariant-loop-ending l = record {
   replayed : (keyboard : List ℕ) → HasReplayed l.code keyboard l.choices.items l.network;
   used : l.choices.items ≡ take (length l.choices.items) (choices_of l.plan);
   counted : l.network.task.turns ≡ length l.choices.items;
 }
 
-abbrev pub decreases-loop : goal.decreases-loop
-decreases-loop l = length (choices_of l.plan) - length l.choices.items
+abbrev pub decreases-loop-ending : goal.decreases-loop-ending
+decreases-loop-ending l = length (choices_of l.plan) - length l.choices.items
