@@ -8,24 +8,24 @@ use Rattle.occ_term.specs.Terms.{Term, Terms}
 use Rattle.occ_term.specs.Values.{Store}
 use Rattle.occ_term.specs.Steps.{Doing, Do, Offering, Halted, Done, Context, Then, Left, left, FaultsIn, in_output, Step, ends, stop, assign, clear, local, output, input, variant, alt, take_in, seq_empty, seq, drops, par_empty, par, if_step, case, while, each, passes_again, leaves, body_ends, again, faults}
 use Rattle.occ_term.specs.Turns.{Steps, none, more, SingleTurn, single_turn, Turn, stops, passes}
-use Rattle.occ_play.specs.ScreenTerms.{ScreenTerm, screen_skip, screen_stop, screen_output, screen_seq, ScreenTerms, screen_none, screen_then}
+use Rattle.occ_play.specs.ScreenTerms.{ByteTerm, byte_skip, byte_stop, byte_output, byte_seq, ByteTerms, byte_none, byte_then, IsByte}
 
 pub data CalmContexts : List Context → Type 0 where
   calm_end : CalmContexts []
-  calm_then : {ts : Terms} {k : List Context} → ScreenTerms ts → CalmContexts k → CalmContexts (Then ts ∷ k)
+  calm_then : {ts : Terms} {k : List Context} → ByteTerms ts → CalmContexts k → CalmContexts (Then ts ∷ k)
 
 pub data Calm : Left → Type 0 where
-  calm_term : {t : Term} {k : List Context} → ScreenTerm t → CalmContexts k → Calm (left (Do t) k)
-  calm_offer : {m : Message} {k : List Context} → CalmContexts k → Calm (left (Offering 1 m) k)
+  calm_term : {t : Term} {k : List Context} → ByteTerm t → CalmContexts k → Calm (left (Do t) k)
+  calm_offer : {m : Message} {k : List Context} → IsByte m → CalmContexts k → Calm (left (Offering 1 m) k)
   calm_halted : {k : List Context} → Calm (left Halted k)
   calm_done : Calm (left Done [])
 
 no_fault : {d : Doing} {k : List Context} {s s' : Store} {e : _} → FaultsIn d s e s' → Calm (left d k) → ⊥
-no_fault (in_output q) (calm_term (screen_output line v) h) = cc
-no_fault f (calm_term screen_skip h) = elim f [ ]
-no_fault f (calm_term screen_stop h) = elim f [ ]
-no_fault f (calm_term (screen_seq es) h) = elim f [ ]
-no_fault f (calm_offer h) = elim f [ ]
+no_fault (in_output q) (calm_term (byte_output line v b) h) = cc
+no_fault f (calm_term byte_skip h) = elim f [ ]
+no_fault f (calm_term byte_stop h) = elim f [ ]
+no_fault f (calm_term (byte_seq es) h) = elim f [ ]
+no_fault f (calm_offer b h) = elim f [ ]
 no_fault f calm_halted = elim f [ ]
 no_fault f calm_done = elim f [ ]
 
@@ -35,16 +35,16 @@ step_calm stop (calm_term h k) = calm_halted
 step_calm (assign q) (calm_term h k) = elim h [ ]
 step_calm (clear q) (calm_term h k) = elim h [ ]
 step_calm (local q) (calm_term h k) = elim h [ ]
-step_calm (output {k = j} {d = d} q) (calm_term (screen_output line v) k) =
+step_calm (output {k = j} {d = d} q) (calm_term (byte_output line v b) k) =
     let same : Offering 1 (message None (One Byte v ∷ [])) ≡ d = cc in
-    subst (λ x. Calm (left x j)) same (calm_offer k)
+    subst (λ x. Calm (left x j)) same (calm_offer (record { value = v; is = refl; typed = b }) k)
 step_calm (input q) (calm_term h k) = elim h [ ]
 step_calm (variant q) (calm_term h k) = elim h [ ]
 step_calm (alt q) (calm_term h k) = elim h [ ]
 step_calm (take_in q) h = elim h [ ]
-step_calm seq_empty (calm_term h k) = calm_term screen_skip k
-step_calm seq (calm_term (screen_seq (screen_then e es)) k) = calm_term e (calm_then es k)
-step_calm drops (calm_term h (calm_then es k)) = calm_term (screen_seq es) k
+step_calm seq_empty (calm_term h k) = calm_term byte_skip k
+step_calm seq (calm_term (byte_seq (byte_then e es)) k) = calm_term e (calm_then es k)
+step_calm drops (calm_term h (calm_then es k)) = calm_term (byte_seq es) k
 step_calm par_empty (calm_term h k) = elim h [ ]
 step_calm par (calm_term h k) = elim h [ ]
 step_calm (if_step q) (calm_term h k) = elim h [ ]

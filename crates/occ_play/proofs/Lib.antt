@@ -6,3 +6,7 @@ mod Calm
 mod OneStop
 mod Simulation
 mod Rerun
+mod Texts
+mod Traces
+mod Headline
+pub mod FirstTerms

@@ -19,7 +19,7 @@ use Rattle.occ_term.specs.Frames.{Variables}
 use Rattle.occ_term.specs.TermTyping.{Declared}
 use Rattle.occ_term.specs.Unfolding.{Unfolding, meaning, declared}
 use Rattle.occ_term.specs.System.{System, system, start, process, no_processes, HaltMode, SystemTurn, system_turn, turn_here, alone, begun, fault_noted, offer_ends, process_sends, keyboard_sends, screen_receives, error_receives, process_receives, change_here, change_below, meets, passes_skip, OfProcess, Screen, Communication, communication}
-use Rattle.occ_term.specs.Runs.{Event, event, Run, no_turn, goes, communications, MeetsAtMost, meets_one, EndsBy, by_end, by_standing, goes_on, StepOf, IsStill, private_step, own_step, branch_step, meeting_step, skip_step}
+use Rattle.occ_term.specs.Runs.{Event, event, Run, no_turn, goes, communications, sent_on, messages_on, MeetsAtMost, meets_one, EndsBy, by_end, by_standing, goes_on, StepOf, IsStill, private_step, own_step, branch_step, meeting_step, skip_step}
 use Rattle.occ_term.specs.Runs as R
 use Rattle.occ_term.proofs.Meetings.{unmet}
 use Rattle.occ_term.proofs.Going.{going}
@@ -30,9 +30,9 @@ use Rattle.occ_code.specs.declared.task.Task.{Task}
 use Rattle.occ_code.specs.declared.task.Wait.{Wait}
 use Rattle.occ_code.specs.declared.task.Wait.TheVariants as W
 use Rattle.occ_play.specs.declared.ending.Choice.{Choice}
-use Rattle.occ_play.specs.Replay.{Net, Joined, joined, Gives, task_gives, Gets, screen_gets, error_gets, Settled, joins, stays, made_ready, took_turn, with_task, ending_of, OneTurn, Replays, begins, goes_on as replays_on, ready_from, selected}
+use Rattle.occ_play.specs.Replay.{Net, Joined, joined, Gives, task_gives, Gets, screen_gets, error_gets, Settled, joins, stays, made_ready, one_more, took_turn, with_task, ending_of, OneTurn, Replays, begins, goes_on as replays_on, ready_from, selected}
 use Rattle.occ_play.specs.Network.{reader_of, HasStop}
-use Rattle.occ_play.specs.ScreenTerms.{ScreenTerm, screen_skip, screen_stop, screen_output, screen_seq, ScreenTerms, screen_none, screen_then}
+use Rattle.occ_play.specs.ScreenTerms.{ByteTerm, byte_skip, byte_stop, byte_output, byte_seq, ByteTerms, byte_none, byte_then, IsByte, IsLetter, AreLetters}
 use Rattle.occ_play.specs.Following.{Followed, ReplaysAreRuns, process_in, ending_as, or_limit}
 use Rattle.occ_play.proofs.Calm.{CalmContexts, calm_end, Calm, calm_term, calm_offer, calm_halted, calm_done, turn_calm}
 use Rattle.occ_play.proofs.OneStop.{stopping_once}
@@ -41,15 +41,17 @@ use Rattle.occ_play.proofs.Settling.{only_task, stays_if, met_by}
 -- ---- what is joined
 
 -- an end that takes a message changes nothing but its list
-record Same (a b : Net) : Type 0 where
+record Same (a b : Net) (c : ℕ) (m : Message) : Type 0 where
+  pub output : b.output ≡ a.output
+  pub input : b.input ≡ one_more a.input c m
   pub tasks : b.tasks ≡ a.tasks
   pub keyboard : b.keyboard ≡ a.keyboard
   pub trace : b.trace ≡ a.trace
   pub turns : b.turns ≡ a.turns
 
-gets_same : {c : ℕ} {m : Message} {y : _} {a d : Net} → Gets c m y a d → Same a d
-gets_same (screen_gets q) = record { tasks = refl; keyboard = refl; trace = refl; turns = refl }
-gets_same (error_gets q) = record { tasks = refl; keyboard = refl; trace = refl; turns = refl }
+gets_same : {c : ℕ} {m : Message} {y : _} {a d : Net} → Gets c m y a d → Same a d c m
+gets_same (screen_gets q) = record { output = refl; input = refl; tasks = refl; keyboard = refl; trace = refl; turns = refl }
+gets_same (error_gets q) = record { output = refl; input = refl; tasks = refl; keyboard = refl; trace = refl; turns = refl }
 
 gets_screen : {c : ℕ} {m : Message} {y : _} {a d : Net} → c ≡ 1 → Gets c m y a d → y ≡ Screen
 gets_screen e (screen_gets q) = refl
@@ -57,6 +59,8 @@ gets_screen e (error_gets q) = let h = sym e ∙ q in absurd cc
 
 -- the offer of the one task to the screen, joined
 record Written (a : Net) (t : Task) (m : Message) (b : Net) : Type 0 where
+  pub output : b.output ≡ one_more a.output 1 m
+  pub input : b.input ≡ one_more a.input 1 m
   pub tasks : b.tasks ≡ Some (made_ready t) ∷ []
   pub keyboard : b.keyboard ≡ a.keyboard
   pub trace : b.trace ≡ a.trace ++ communication 1 (OfProcess 0) Screen m ∷ []
@@ -72,6 +76,8 @@ written {c = c} {m' = m'} {y = y} {a = a} {d = d} t m e w (task_gives {n = n} {t
     let tasks : slice_set a.tasks n (Some (made_ready u)) ≡ Some (made_ready t) ∷ [] =
         ap (λ k. slice_set a.tasks k (Some (made_ready u))) there.0 ∙ ap (λ ts. slice_set ts 0 (Some (made_ready u))) e ∙ ap (λ z. Some (made_ready z) ∷ []) (sym there.1) in
     record {
+      output = s.output ∙ ap (λ k. one_more a.output k m') chan ∙ ap (one_more a.output 1) sent;
+      input = s.input ∙ ap (λ k. one_more a.input k m') chan ∙ ap (one_more a.input 1) sent;
       tasks = s.tasks ∙ tasks;
       keyboard = s.keyboard;
       trace =
@@ -138,6 +144,14 @@ turns_more : (es : List Event) (n : ℕ) (x : Option Communication) → map proc
 turns_more [] n x = refl
 turns_more (event k y ∷ es) n x = ap (λ l. k ∷ l) (turns_more es n x)
 
+on-append : (c : ℕ) (xs ys : List Communication) → messages_on c (xs ++ ys) ≡ messages_on c xs ++ messages_on c ys
+on-append c [] ys = refl
+on-append c (x ∷ xs) ys = ap (λ l. sent_on c x ++ l) (on-append c xs ys) ∙ sym (append_assoc (sent_on c x) (messages_on c xs) (messages_on c ys))
+
+all_append : (xs ys : List Communication) → AreLetters xs → AreLetters ys → AreLetters (xs ++ ys)
+all_append [] ys h g = g
+all_append (x ∷ xs) ys h g = (h.0, all_append xs ys h.1 g)
+
 -- ---- what a stop of such a process is
 
 is_calm : Left → Bool
@@ -156,7 +170,7 @@ is_calm (left Done k) = true
 not_calm : (r : Left) → is_calm r ≡ false → Calm r → ⊥
 unfolding is_calm
 not_calm r e (calm_term h k) = true≢false e
-not_calm r e (calm_offer k) = true≢false e
+not_calm r e (calm_offer b k) = true≢false e
 not_calm r e calm_halted = true≢false e
 not_calm r e calm_done = true≢false e
 
@@ -174,29 +188,29 @@ halted_is_still kb j s (skip_step (passes_skip (change_below x))) = elim x [ ]
 
 module _ (d : Declared) (body : FlatCode) (kb : List ℕ) where
   data Rest (k : ℕ) (t : Task) : Left → Type 0 where
-    at_offer : {m : Message} {j : List Context} → t.wait ≡ W.Offers 1 m → CalmContexts j → Alike k d body (made_ready t) (left (Do Skip) j) → Rest k t (left (Offering 1 m) j)
+    at_offer : {m : Message} {j : List Context} → t.wait ≡ W.Offers 1 m → IsByte m → CalmContexts j → Alike k d body (made_ready t) (left (Do Skip) j) → Rest k t (left (Offering 1 m) j)
     at_halt : {j : List Context} → t.wait ≡ W.Halted → Rest k t (left Halted j)
     at_end : t.wait ≡ W.Done → Rest k t (left Done [])
 
   offer_rest : (k : ℕ) (t : Task) (r : Left) (c : ℕ) (m : Message) (j : List Context) → t.wait ≡ W.Offers c m → r ≡ left (Offering c m) j → Alike k d body (made_ready t) (left (Do Skip) j) → Calm r → Rest k t r
   offer_rest k t r c m j w e al (calm_term h i) = absurd cc
-  offer_rest k t r c m j w e al (calm_offer {m = m'} {k = j'} h) =
+  offer_rest k t r c m j w e al (calm_offer {m = m'} {k = j'} b h) =
       let chan : c ≡ 1 = cc in
       let same : m ≡ m' = cc in
       let rests : j ≡ j' = cc in
-      at_offer (w ∙ ap (λ x. W.Offers x m) chan ∙ ap (λ x. W.Offers 1 x) same) h (subst (λ x. Alike k d body (made_ready t) (left (Do Skip) x)) rests al)
+      at_offer (w ∙ ap (λ x. W.Offers x m) chan ∙ ap (λ x. W.Offers 1 x) same) b h (subst (λ x. Alike k d body (made_ready t) (left (Do Skip) x)) rests al)
   offer_rest k t r c m j w e al calm_halted = absurd cc
   offer_rest k t r c m j w e al calm_done = absurd cc
 
   halt_rest : (k : ℕ) (t : Task) (r : Left) (j : List Context) → t.wait ≡ W.Halted → r ≡ left Halted j → Calm r → Rest k t r
   halt_rest k t r j w e (calm_term h i) = absurd cc
-  halt_rest k t r j w e (calm_offer h) = absurd cc
+  halt_rest k t r j w e (calm_offer b h) = absurd cc
   halt_rest k t r j w e calm_halted = at_halt w
   halt_rest k t r j w e calm_done = absurd cc
 
   end_rest : (k : ℕ) (t : Task) (r : Left) (j : List Context) → t.wait ≡ W.Done → r ≡ left Done j → Calm r → Rest k t r
   end_rest k t r j w e (calm_term h i) = absurd cc
-  end_rest k t r j w e (calm_offer h) = absurd cc
+  end_rest k t r j w e (calm_offer b h) = absurd cc
   end_rest k t r j w e calm_halted = absurd cc
   end_rest k t r j w e calm_done = at_end w
 
@@ -215,7 +229,7 @@ module _ (d : Declared) (body : FlatCode) (kb : List ℕ) where
   -- ---- the network's state and the system's
 
   data Stands (k : ℕ) (t : Task) : Left → Type 0 where
-    may_turn : {u : Term} {j : List Context} → t.wait ≡ W.Ready → ScreenTerm u → CalmContexts j → Alike k d body t (left (Do u) j) → Stands k t (left (Do u) j)
+    may_turn : {u : Term} {j : List Context} → t.wait ≡ W.Ready → ByteTerm u → CalmContexts j → Alike k d body t (left (Do u) j) → Stands k t (left (Do u) j)
     is_halted : {j : List Context} → t.wait ≡ W.Halted → Stands k t (left Halted j)
     has_ended : t.wait ≡ W.Done → Stands k t (left Done [])
 
@@ -231,6 +245,10 @@ module _ (d : Declared) (body : FlatCode) (kb : List ℕ) where
     pub agrees : Agrees d body.cells task.frame store
     pub stands : Stands k task own
 
+  -- the lists of all channels, after what was met
+  Lists : (ℕ → List Message) → (ℕ → List Message) → Option Communication → Type 0
+  Lists old new met = (c : ℕ) → new c ≡ old c ++ messages_on c (listed met)
+
   record Next (k : ℕ) (net next : Net) (sys : System) : Type 0 where
     pub met : Option Communication
     pub mid : System
@@ -240,11 +258,21 @@ module _ (d : Declared) (body : FlatCode) (kb : List ℕ) where
     pub follows : Follows k next after
     pub trace : next.trace ≡ net.trace ++ listed met
     pub turns : next.turns ≡ net.turns ++ 0 ∷ []
+    pub letters : AreLetters (listed met)
+    pub output : Lists net.output next.output met
+    pub input : Lists net.input next.input met
+
+  one_more_at : (lists : ℕ → List Message) (m : Message) (c : ℕ) → one_more lists 1 m c ≡ lists c ++ messages_on c (communication 1 (OfProcess 0) Screen m ∷ [])
+  one_more_at lists m c = by (nat_eq 1 c)
+    where
+      by : (b : Bool) → (if b then lists c ++ m ∷ [] else lists c) ≡ lists c ++ ((if b then m ∷ [] else []) ++ [])
+      by true = refl
+      by false = sym (append-nil (lists c))
 
   -- after a turn, what is joined
   settle_next : (k : ℕ) (net next : Net) (own : Left) (s : Store) (t : Task) (r : Left) (s' : Store) → slice_set net.tasks 0 (Some t) ≡ Some t ∷ [] → Turn body.quantum own s r s' → Agrees d body.cells t.frame s' → Rest k t r → Settled (took_turn net 0 t) next → Next k net next (alone_in own s)
-  unfolding listed
-  settle_next k net next own s t r s' e turn ag (at_offer {m = m} {j = j} w h al) settle =
+  unfolding listed Lists
+  settle_next k net next own s t r s' e turn ag (at_offer {m = m} {j = j} w b h al) settle =
       let x = settled_written t m e w settle in
       record {
         met = Some (communication 1 (OfProcess 0) Screen m);
@@ -252,9 +280,12 @@ module _ (d : Declared) (body : FlatCode) (kb : List ℕ) where
         after = alone_in (left (Do Skip) j) s';
         turn = system_turn refl (turn_here alone turn);
         meets = meets_one refl (inl refl) (meets (process_sends (change_here offer_ends)) (screen_receives refl));
-        follows = record { task = made_ready t; own = left (Do Skip) j; store = s'; tasks = x.tasks; is = refl; agrees = ag; stands = may_turn refl screen_skip h al };
+        follows = record { task = made_ready t; own = left (Do Skip) j; store = s'; tasks = x.tasks; is = refl; agrees = ag; stands = may_turn refl byte_skip h al };
         trace = x.trace;
         turns = x.turns;
+        letters = (record { sent = m; is = refl; byte = b }, tt);
+        output = λ c. ap (λ f. f c) x.output ∙ one_more_at net.output m c;
+        input = λ c. ap (λ f. f c) x.input ∙ one_more_at net.input m c;
       }
   settle_next k net next own s t r s' e turn ag (at_halt {j = j} w) settle =
       let none : (c : ℕ) (m : Message) → t.wait ≡ W.Offers c m → ⊥ = λ c m q. cc in
@@ -268,6 +299,9 @@ module _ (d : Declared) (body : FlatCode) (kb : List ℕ) where
         follows = record { task = t; own = left Halted j; store = s'; tasks = ap (λ n. n.tasks) same ∙ e; is = refl; agrees = ag; stands = is_halted w };
         trace = ap (λ n. n.trace) same ∙ sym (append-nil net.trace);
         turns = ap (λ n. n.turns) same;
+        letters = tt;
+        output = λ c. ap (λ n. n.output c) same ∙ sym (append-nil (net.output c));
+        input = λ c. ap (λ n. n.input c) same ∙ sym (append-nil (net.input c));
       }
   settle_next k net next own s t r s' e turn ag (at_end w) settle =
       let none : (c : ℕ) (m : Message) → t.wait ≡ W.Offers c m → ⊥ = λ c m q. cc in
@@ -281,6 +315,9 @@ module _ (d : Declared) (body : FlatCode) (kb : List ℕ) where
         follows = record { task = t; own = left Done []; store = s'; tasks = ap (λ n. n.tasks) same ∙ e; is = refl; agrees = ag; stands = has_ended w };
         trace = ap (λ n. n.trace) same ∙ sym (append-nil net.trace);
         turns = ap (λ n. n.turns) same;
+        letters = tt;
+        output = λ c. ap (λ n. n.output c) same ∙ sym (append-nil (net.output c));
+        input = λ c. ap (λ n. n.input c) same ∙ sym (append-nil (net.input c));
       }
 
   -- one more turn
@@ -312,6 +349,9 @@ module _ (d : Declared) (body : FlatCode) (kb : List ℕ) where
     pub turns : map process_in events ≡ net.turns
     pub communicates : communications events ≡ net.trace
     pub follows : Follows k net now
+    pub letters : AreLetters net.trace
+    pub output : (c : ℕ) → net.output c ≡ messages_on c net.trace
+    pub input : (c : ℕ) → net.input c ≡ messages_on c net.trace
 
   zero_either : (b : Bool) (v : ℤ) → v ≡ pos 0 → (if b then pos 0 else v) ≡ pos 0
   zero_either true v h = refl
@@ -334,7 +374,7 @@ module _ (d : Declared) (body : FlatCode) (kb : List ℕ) where
         typed = λ c h. subst (λ v. IsTrue (is_of (d.types c) v)) (sym (zero_values body.cells c)) (zero_of (d.types c));
       }
 
-  first_follows : (u : Unfolding) (p : Program) (k : ℕ) → p.bodies ≡ body ∷ [] → ScreenTerm (meaning u) → DoesAs d body (meaning u) → k < 2 ^ 64 → Follows k (first_net p kb) (start (meaning u) kb)
+  first_follows : (u : Unfolding) (p : Program) (k : ℕ) → p.bodies ≡ body ∷ [] → ByteTerm (meaning u) → DoesAs d body (meaning u) → k < 2 ^ 64 → Follows k (first_net p kb) (start (meaning u) kb)
   first_follows u p k one h does small =
       let first : IsFirst body (first_task 0 body) = record { place = refl; wait = refl; frame = first_agrees.shape; none_left = refl } in
       let bound : (first_task 0 body).turns + k < 2 ^ 64 = omega (arith, small) in
@@ -348,10 +388,11 @@ module _ (d : Declared) (body : FlatCode) (kb : List ℕ) where
         stands = may_turn refl h calm_end (does.alike k (first_task 0 body) bound first);
       }
 
-  all_followed : (u : Unfolding) (p : Program) (cs : List Choice) (net : Net) → p.bodies ≡ body ∷ [] → ScreenTerm (meaning u) → DoesAs d body (meaning u) → (k : ℕ) → k + length cs < 2 ^ 64 → Replays p kb cs net → AllFollowed u k net
+  all_followed : (u : Unfolding) (p : Program) (cs : List Choice) (net : Net) → p.bodies ≡ body ∷ [] → ByteTerm (meaning u) → DoesAs d body (meaning u) → (k : ℕ) → k + length cs < 2 ^ 64 → Replays p kb cs net → AllFollowed u k net
+  unfolding Lists
   all_followed u p cs net one h does k small begins =
       let bound : k < 2 ^ 64 = omega (arith, small) in
-      record { events = []; now = start (meaning u) kb; run = no_turn; turns = refl; communicates = refl; follows = first_follows u p k one h does bound }
+      record { events = []; now = start (meaning u) kb; run = no_turn; turns = refl; communicates = refl; follows = first_follows u p k one h does bound; letters = tt; output = λ c. refl; input = λ c. refl }
   all_followed u p cs net one h does k small (replays_on {cs = ds} {c = c} {a = a} r e o) =
       let bound : suc k + length ds < 2 ^ 64 = omega (arith, small, length-append ds (c ∷ [])) in
       let before = all_followed u p ds a one h does (suc k) bound r in
@@ -363,6 +404,9 @@ module _ (d : Declared) (body : FlatCode) (kb : List ℕ) where
         turns = turns_more before.events 0 x.met ∙ ap (λ l. l ++ 0 ∷ []) before.turns ∙ sym x.turns;
         communicates = met_more before.events 0 x.met ∙ ap (λ l. l ++ listed x.met) before.communicates ∙ sym x.trace;
         follows = x.follows;
+        letters = subst AreLetters (sym x.trace) (all_append a.trace (listed x.met) before.letters x.letters);
+        output = λ c. x.output c ∙ ap (λ l. l ++ messages_on c (listed x.met)) (before.output c) ∙ sym (on-append c a.trace (listed x.met)) ∙ ap (messages_on c) (sym x.trace);
+        input = λ c. x.input c ∙ ap (λ l. l ++ messages_on c (listed x.met)) (before.input c) ∙ sym (on-append c a.trace (listed x.met)) ∙ ap (messages_on c) (sym x.trace);
       }
 
   -- ---- endings
@@ -387,33 +431,33 @@ replays_are_runs u p body kb cs net from h one small r =
     let bound : 0 + length cs < 2 ^ 64 = omega (arith, small) in
     let does : DoesAs (declared u) body (meaning u) = (subst (λ bs. AllDo (declared u) 0 bs (processes_of (meaning u))) one from.bodies).1 in
     let x = all_followed (declared u) body kb u p cs net one h does 0 bound r in
-    record { events = x.events; system = x.now; run = x.run; turns = x.turns; communicates = x.communicates; ends = subst (λ y. EndsBy HaltMode y (ending_as (or_limit (ending_of net)))) (sym x.follows.is) (ends_as (declared u) body kb 0 net x.follows.own x.follows.store x.follows.task x.follows.tasks x.follows.stands) }
+    record { events = x.events; system = x.now; run = x.run; turns = x.turns; communicates = x.communicates; output = x.output; input = x.input; letters = x.letters; ends = subst (λ y. EndsBy HaltMode y (ending_as (or_limit (ending_of net)))) (sym x.follows.is) (ends_as (declared u) body kb 0 net x.follows.own x.follows.store x.follows.task x.follows.tasks x.follows.stands) }
 
 -- ---- what a run in code asks
 
 -- a program of the first form has one process
 mutual
-  only_branches : {t : Term} → ScreenTerm t → branches_in t ≡ []
-  only_branches screen_skip = refl
-  only_branches screen_stop = refl
-  only_branches (screen_output line v) = refl
-  only_branches (screen_seq es) = none_among es
+  only_branches : {t : Term} → ByteTerm t → branches_in t ≡ []
+  only_branches byte_skip = refl
+  only_branches byte_stop = refl
+  only_branches (byte_output line v b) = refl
+  only_branches (byte_seq es) = none_among es
 
-  none_among : {ts : Terms} → ScreenTerms ts → branches_in_terms ts ≡ []
-  none_among screen_none = refl
-  none_among (screen_then {t = t} {ts = ts} e es) = ap (λ l. l ++ branches_in_terms ts) (only_branches e) ∙ none_among es
+  none_among : {ts : Terms} → ByteTerms ts → branches_in_terms ts ≡ []
+  none_among byte_none = refl
+  none_among (byte_then {t = t} {ts = ts} e es) = ap (λ l. l ++ branches_in_terms ts) (only_branches e) ∙ none_among es
 
 only_done : (d : Declared) (n : ℕ) (bodies : List FlatCode) (x : Numbered) → AllDo d n bodies (x ∷ []) → (b : FlatCode) × (bodies ≡ b ∷ [])
 only_done d n [] x h = absurd h
 only_done d n (b ∷ []) x h = (b, refl)
 only_done d n (b ∷ c ∷ bs) x h = absurd h.2
 
-pub only_body : (u : Unfolding) (p : Program) → IsCompiledFrom u p → ScreenTerm (meaning u) → (b : FlatCode) × (p.bodies ≡ b ∷ [])
+pub only_body : (u : Unfolding) (p : Program) → IsCompiledFrom u p → ByteTerm (meaning u) → (b : FlatCode) × (p.bodies ≡ b ∷ [])
 only_body u p from h =
     only_done (declared u) 0 p.bodies (numbered 0 (meaning u)) (subst (λ ps. AllDo (declared u) 0 p.bodies ps) (ap (λ l. numbered 0 (meaning u) ∷ l) (only_branches h)) from.bodies)
 
 -- a ready task comes to a stop
-pub has_stop : (u : Unfolding) (p : Program) (body : FlatCode) (kb : List ℕ) (cs : List Choice) (net : Net) (t : Task) → IsCompiledFrom u p → ScreenTerm (meaning u) → p.bodies ≡ body ∷ [] → 1 + length cs < 2 ^ 64 → Replays p kb cs net → net.tasks ≡ Some t ∷ [] → IsTrue (may_go t.wait) → HasStop body t
+pub has_stop : (u : Unfolding) (p : Program) (body : FlatCode) (kb : List ℕ) (cs : List Choice) (net : Net) (t : Task) → IsCompiledFrom u p → ByteTerm (meaning u) → p.bodies ≡ body ∷ [] → 1 + length cs < 2 ^ 64 → Replays p kb cs net → net.tasks ≡ Some t ∷ [] → IsTrue (may_go t.wait) → HasStop body t
 has_stop u p body kb cs net t from h one small r e g =
     let does : DoesAs (declared u) body (meaning u) = (subst (λ bs. AllDo (declared u) 0 bs (processes_of (meaning u))) one from.bodies).1 in
     let x = (all_followed (declared u) body kb u p cs net one h does 1 small r).follows in

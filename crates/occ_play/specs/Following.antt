@@ -3,7 +3,7 @@ use Rattle.std.specs.Prelude.{List, None, Option, Some, [], map, ℕ, ◌+◌, �
 use Rattle.occ_term.specs.declared.fault.Fault.{Fault}
 use Rattle.occ_term.specs.Unfolding.{Unfolding, meaning}
 use Rattle.occ_term.specs.System.{System, start, HaltMode}
-use Rattle.occ_term.specs.Runs.{Event, event, Run, communications, EndsBy}
+use Rattle.occ_term.specs.Runs.{Event, event, Run, communications, messages_on, EndsBy}
 use Rattle.occ_term.specs.Runs as R
 use Rattle.occ_code.specs.Machine.{FlatCode}
 use Rattle.occ_code.specs.Compiled.{Program, IsCompiledFrom}
@@ -11,7 +11,7 @@ use Rattle.occ_play.specs.declared.ending.Choice.{Choice}
 use Rattle.occ_play.specs.declared.ending.Ending.{Ending}
 use Rattle.occ_play.specs.declared.ending.Ending.TheVariants as E
 use Rattle.occ_play.specs.Replay.{Net, ending_of, Replays}
-use Rattle.occ_play.specs.ScreenTerms.{ScreenTerm}
+use Rattle.occ_play.specs.ScreenTerms.{ByteTerm, AreLetters}
 
 abbrev pub ending_as : Ending → R.Ending
 ending_as E.Ended = R.Ended
@@ -27,18 +27,22 @@ or_limit (Some e) = e
 abbrev pub process_in : Event → ℕ
 process_in (event n x) = n
 
--- the run takes a turn for each of the replay's, by the same process; it has the same communications and the same ending
+-- The run takes a turn for each of the replay's, by the same process; it has the same communications and the same ending.
+-- On each channel the messages output and those input are the communicated ones, in order; each is a byte for the screen.
 pub record Followed (u : Unfolding) (keyboard : List ℕ) (quantum : ℕ) (net : Net) : Type 0 where
   pub events : List Event
   pub system : System
   pub run : Run HaltMode quantum (start (meaning u) keyboard) events system
   pub turns : map process_in events ≡ net.turns
   pub communicates : communications events ≡ net.trace
+  pub output : (c : ℕ) → net.output c ≡ messages_on c net.trace
+  pub input : (c : ℕ) → net.input c ≡ messages_on c net.trace
+  pub letters : AreLetters net.trace
   pub ends : EndsBy HaltMode system (ending_as (or_limit (ending_of net)))
 
 -- each replay of code compiled from a source of the first form is followed by a run of the source
 abbrev pub ReplaysAreRuns : Type 0
 ReplaysAreRuns =
     (u : Unfolding) (p : Program) (body : FlatCode) (keyboard : List ℕ) (cs : List Choice) (net : Net)
-    → IsCompiledFrom u p → ScreenTerm (meaning u) → p.bodies ≡ body ∷ [] → length cs < 2 ^ 64
+    → IsCompiledFrom u p → ByteTerm (meaning u) → p.bodies ≡ body ∷ [] → length cs < 2 ^ 64
     → Replays p keyboard cs net → Followed u keyboard body.quantum net

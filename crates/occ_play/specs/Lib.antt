@@ -6,3 +6,7 @@ pub mod Network
 pub mod ScreenTerms
 pub mod Following
 pub mod Outcomes
+pub mod Answers
+pub mod FirstForm
+pub mod Status
+pub mod Playing

@@ -1,14 +1,20 @@
 //! Plays occam programs: from a source text and the keyboard's bytes to the answer's bytes.
 #![tactic(auto)]
 
+mod answer;
 pub mod counted;
 pub mod ending;
+pub mod fault;
+mod front;
 pub mod laws;
 mod machine;
 mod network;
+pub mod playing;
 mod running;
 pub mod trace;
 
 pub use counted::Counted;
 pub use ending::{Choice, Ending, Plan};
+pub use fault::PlayFault;
+pub use playing::{Played, play, status_of};
 pub use trace::{Communication, End};

@@ -13,10 +13,10 @@ use std::alloc::{AllocError, Global};
 use std::mem;
 
 /// The screen's channel.
-const SCREEN: u32 = 1;
+pub(crate) const SCREEN: u32 = 1;
 
 /// The error channel.
-const ERROR: u32 = 2;
+pub(crate) const ERROR: u32 = 2;
 
 /// A process, and the communications that there were.
 #[derive(Drop)]

@@ -1,0 +1,111 @@
+-- What `play` promises: the answer of an accepted program is shown by a run of its source, with that run's ending.
+use Rattle.std.specs.Prelude.{Bool, List, Option, [], length, map, take, ℕ, ⊤, ◌*◌, ◌<◌, ◌∷◌, ◌≡◌}
+use Rattle.std.specs.Io.KnownBytes.{Appends}
+use Rattle.occ_text.specs.Words.{Row}
+use Rattle.occ_text.specs.Lines.{LinesOf}
+use Rattle.occ_text.specs.declared.fault.TextFault.{TextFault}
+use Rattle.occ_text.specs.declared.fault.TextFault.TheVariants as text
+use Rattle.occ_term.specs.declared.message.Message.{Message}
+use Rattle.occ_term.specs.declared.protocol.Protocol.{Protocol}
+use Rattle.occ_term.specs.declared.usage.UsageFault.{UsageFault}
+use Rattle.occ_term.specs.declared.usage.UsageFault.TheVariants as usage
+use Rattle.occ_term.specs.Terms.{Term}
+use Rattle.occ_term.specs.Sizes.{size_of}
+use Rattle.occ_term.specs.TermTyping.{Declared}
+use Rattle.occ_term.specs.Unfolding.{Unfolding, declared, meaning, IsWellFormed, Lawful}
+use Rattle.occ_term.specs.System.{System, start, HaltMode, Communication}
+use Rattle.occ_term.specs.Runs.{Event, Run, communications, messages_on, shown, EndsBy}
+use Rattle.occ_code.specs.Alike.{FitsProtocol}
+use Rattle.occ_code.specs.Emitted.{most_instructions}
+use Rattle.occ_code.specs.Compiled.{Program, IsCompiledFrom}
+use Rattle.occ_code.specs.declared.code.CodeFault.{CodeFault}
+use Rattle.occ_code.specs.declared.code.CodeFault.TheVariants as code
+use Rattle.occ_play.specs.declared.ending.Choice.{Choice}
+use Rattle.occ_play.specs.declared.ending.Ending.TheVariants as E
+use Rattle.occ_play.specs.declared.playing.Played.{Played}
+use Rattle.occ_play.specs.declared.counted.Counted.{Counted}
+use Rattle.occ_play.specs.declared.fault.PlayFault.{PlayFault}
+use Rattle.occ_play.specs.declared.fault.PlayFault.TheVariants as play
+use Rattle.occ_play.specs.Answers.{answer_text, names_of}
+use Rattle.occ_play.specs.Counting.{failures_of, writer_of}
+use Rattle.occ_play.specs.FirstForm.{FirstForm, IsUnfolding}
+use Rattle.occ_play.specs.Following.{ending_as, process_in}
+use Rattle.occ_play.specs.Outcomes.{Begins}
+use Rattle.occ_play.specs.Replay.{Net, Replays}
+
+-- ---- what a text is
+
+-- the program of a text: the unfolding of its logical lines, typed, with its processes numbered
+pub record Unfolds (source : List ℕ) (u : Unfolding) : Type 0 where
+  pub lines : List Row
+  pub read : LinesOf source lines
+  pub unfolds : IsUnfolding lines u
+  pub well_formed : IsWellFormed u
+
+-- ---- the answer of an accepted program
+
+abbrev pub AllFit : Option Protocol → List Message → Type 0
+AllFit p [] = ⊤
+AllFit p (m ∷ ms) = FitsProtocol p m × AllFit p ms
+
+-- There is an unfolding of the text that keeps the usage rules, and a run of its system, with one turn for each used
+-- choice by the process that the choice selects, whose answer the bytes are, with that run's ending. The used choices
+-- are a beginning of the list, and all of it where the run goes on. On each channel the messages output and those
+-- input are, in order, the communicated ones, each of the channel's protocol.
+pub record IsAnswer (source keyboard : List ℕ) (list : List Choice) (trace : Bool) (played : Played) (bytes : List ℕ) : Type 0 where
+  pub program : Unfolding
+  pub unfolds : Unfolds source program
+  pub lawful : Lawful program
+  pub events : List Event
+  pub system : System
+  pub run : Run HaltMode 1 (start (meaning program) keyboard) events system
+  pub ends : EndsBy HaltMode system (ending_as played.ending)
+  pub is : bytes ≡ answer_text (shown (names_of program.channels) events) played.ending trace
+  pub used : Begins played.choices.items list
+  pub whole : played.ending ≡ E.Limit → played.choices.items ≡ list
+  pub compiled : Program
+  pub from : IsCompiledFrom program compiled
+  pub net : Net
+  pub replays : Replays compiled keyboard played.choices.items net
+  pub turns : map process_in events ≡ net.turns
+  pub output : (c : ℕ) → net.output c ≡ messages_on c (communications events)
+  pub input : (c : ℕ) → net.input c ≡ messages_on c (communications events)
+  pub fits : (c : ℕ) → AllFit ((declared program).protocols c) (messages_on c (communications events))
+
+abbrev pub IsSomeAnswer : (source keyboard : List ℕ) → List Choice → Bool → List ℕ → Type 0
+IsSomeAnswer source keyboard list trace bytes = (played : Played) × IsAnswer source keyboard list trace played bytes
+
+-- ---- refusals
+
+-- a text is refused only where the definitions refuse it; want of memory says nothing
+abbrev pub TextRefuses : TextFault → List ℕ → Type 0
+TextRefuses text.Memory source = ⊤
+TextRefuses fault source = (lines : List Row) → LinesOf source lines → ⊥
+
+abbrev pub UsageRefusesText : UsageFault → List ℕ → Type 0
+UsageRefusesText usage.Memory source = ⊤
+UsageRefusesText fault source = (u : Unfolding) × Unfolds source u × (Lawful u → ⊥)
+
+abbrev pub CodeRefusesText : CodeFault → List ℕ → Type 0
+CodeRefusesText code.Memory source = ⊤
+CodeRefusesText code.TooLarge source = (u : Unfolding) × Unfolds source u × (most_instructions < 32 * (size_of (meaning u)).nodes)
+
+abbrev pub Refuses : List ℕ → PlayFault → Type 0
+Refuses source (play.Text fault) = TextRefuses fault source
+Refuses source (play.Early line) = (lines : List Row) (t : Term) → LinesOf source lines → FirstForm lines t → ⊥
+Refuses source (play.Usage fault) = UsageRefusesText fault source
+Refuses source (play.Code fault) = CodeRefusesText fault source
+Refuses source (play.Write written) = ⊥
+Refuses source (play.Memory e) = ⊤
+
+-- A failed write was met, and a beginning of an answer of length `written` was written and nothing else; any other fault
+-- leaves the writer as it was.
+abbrev pub AfterFault : {W : Type 0} → (W → Option (List ℕ)) → (List ℕ → Type 0) → List ℕ → Counted W → Counted W → PlayFault → Type 0
+AfterFault contents Answers source old new (play.Write written) =
+    (failures_of old < failures_of new)
+    × ((bytes : List ℕ) × Answers bytes × (written < length bytes) × Appends (contents (writer_of old)) (contents (writer_of new)) (take written bytes))
+AfterFault contents Answers source old new fault = Refuses source fault × (new ≡ old)
+
+-- the answer was written, and nothing else
+abbrev pub Wrote : {W : Type 0} → (W → Option (List ℕ)) → (List ℕ → Type 0) → Counted W → Counted W → Type 0
+Wrote contents Answers old new = (bytes : List ℕ) × Answers bytes × Appends (contents (writer_of old)) (contents (writer_of new)) bytes

@@ -1,0 +1,35 @@
+-- The exit status of a program that played so.
+use Rattle.std.specs.Prelude.{ℕ, Result, Ok, Err}
+use Rattle.occ_text.specs.declared.fault.TextFault.{TextFault}
+use Rattle.occ_text.specs.declared.fault.TextFault.TheVariants as text
+use Rattle.occ_term.specs.declared.usage.UsageFault.{UsageFault}
+use Rattle.occ_term.specs.declared.usage.UsageFault.TheVariants as usage
+use Rattle.occ_code.specs.declared.code.CodeFault.{CodeFault}
+use Rattle.occ_code.specs.declared.code.CodeFault.TheVariants as code
+use Rattle.occ_play.specs.declared.ending.Ending.{Ending}
+use Rattle.occ_play.specs.declared.ending.Ending.TheVariants.{Ended, Stopped, Fault, Limit}
+use Rattle.occ_play.specs.declared.playing.Played.{Played}
+use Rattle.occ_play.specs.declared.fault.PlayFault.{PlayFault}
+use Rattle.occ_play.specs.declared.fault.PlayFault.TheVariants as play
+
+abbrev pub ending_status : Ending → ℕ
+ending_status Ended = 0
+ending_status Stopped = 2
+ending_status (Fault fault) = 3
+ending_status Limit = 4
+
+-- 1 for a refused source, 5 for want of memory, 6 for a failed write
+abbrev pub fault_status : PlayFault → ℕ
+fault_status (play.Text text.Memory) = 5
+fault_status (play.Text fault) = 1
+fault_status (play.Early line) = 1
+fault_status (play.Usage usage.Memory) = 5
+fault_status (play.Usage fault) = 1
+fault_status (play.Code code.Memory) = 5
+fault_status (play.Code fault) = 1
+fault_status (play.Write written) = 6
+fault_status (play.Memory e) = 5
+
+abbrev pub status : Result Played PlayFault → ℕ
+status (Ok played) = ending_status played.ending
+status (Err fault) = fault_status fault

@@ -1,0 +1,62 @@
+//! Why a program was not played.
+
+ghost use Rattle.std.specs.Prelude.{◌≡◌};
+
+use occ_code::CodeFault;
+use occ_term::UsageFault;
+use occ_text::TextFault;
+use std::alloc::AllocError;
+use thiserror::Error;
+
+/// Why a program was not played, or its answer not written.
+#[derive(Debug, Drop, Error)]
+pub enum PlayFault {
+    /// The text has no logical lines.
+    #[error("{0}")]
+    Text(TextFault),
+    /// The text is not one of those that are played so far. The line is that of some line of it, and 1 for a text without lines.
+    #[error("refused 95 Early line {line}")]
+    Early { line: u32 },
+    /// The program breaks the usage rules.
+    #[error("{0}")]
+    Usage(UsageFault),
+    /// The program is too large.
+    #[error("{0}")]
+    Code(CodeFault),
+    /// A write failed, after the first `written` bytes of the answer were written.
+    #[error("write failed")]
+    Write { written: u64 },
+    /// A growth was refused.
+    #[error("memory")]
+    Memory(AllocError),
+}
+
+impl From<TextFault> for PlayFault {
+    ghost use Rattle.occ_play.specs.declared.fault.PlayFault.{PlayFault};
+
+    ghost from_gives = { λ fault made. made ≡ PlayFault.Text fault };
+
+    fn from(fault: TextFault) -> PlayFault {
+        PlayFault::Text(fault)
+    }
+}
+
+impl From<CodeFault> for PlayFault {
+    ghost use Rattle.occ_play.specs.declared.fault.PlayFault.{PlayFault};
+
+    ghost from_gives = { λ fault made. made ≡ PlayFault.Code fault };
+
+    fn from(fault: CodeFault) -> PlayFault {
+        PlayFault::Code(fault)
+    }
+}
+
+impl From<AllocError> for PlayFault {
+    ghost use Rattle.occ_play.specs.declared.fault.PlayFault.{PlayFault};
+
+    ghost from_gives = { λ fault made. made ≡ PlayFault.Memory fault };
+
+    fn from(fault: AllocError) -> PlayFault {
+        PlayFault::Memory(fault)
+    }
+}

@@ -1,0 +1,149 @@
+//! Plays a program, from its source's bytes to its answer's bytes.
+ghost use Rattle.std.specs.Prelude.{◌≡◌, ◌<◌, ◌-◌, ◌^◌, IfOk, IfErr, List, ℕ};
+ghost use Rattle.occ_play.specs.Counting.{failures_of};
+ghost use Rattle.occ_play.specs.Plans.{choices_of};
+ghost use Rattle.occ_play.specs.Playing.{AfterFault, IsAnswer, IsSomeAnswer, Refuses, Unfolds, Wrote};
+ghost use Rattle.occ_term.specs.Unfolding.{Lawful};
+ghost use Rattle.occ_play.specs.Status.{status};
+
+
+
+use crate::answer::answer;
+use crate::counted::{Counted, write_answer};
+use crate::ending::{Choice, Ending, Plan};
+use crate::fault::PlayFault;
+use crate::front::{EarlyFault, unfold};
+use crate::running::{Outcome, run};
+
+
+use occ_code::{CodeFault, compile};
+use occ_term::{Checked, Refused, Unfolded, UsageFault, check_usage};
+use occ_text::{TextFault, read_lines};
+use std::alloc::{AllocError, Global};
+use std::io::Write;
+
+
+/// What a run came to.
+#[derive(Debug, Drop)]
+pub struct Played {
+    /// How it ended.
+    pub ending: Ending,
+    /// The choices that were used: a beginning of the plan's.
+    pub choices: Vec<Choice>,
+}
+
+/// Plays a program: reads its source, runs it for the plan's choices, and writes the answer.
+///
+/// The answer is the screen's bytes, the error channel's bytes and a report: with `trace` a line for
+/// each communication, and the line of the ending; without it that line alone, and nothing where the
+/// run ended. It is built whole before the first write.
+///
+/// # Errors
+///
+/// `Text`, `Early`, `Usage` and `Code` refuse the source, `Memory` tells of a refused growth: then
+/// `out` is as it was. `Write` tells of a failed write, after the first `written` bytes of the answer.
+pub fn play<W: Write>(
+    alloc: Global,
+    source: &[u8],
+    keyboard: &[u8],
+    plan: &Plan,
+    trace: bool,
+    out: &mut Counted<W>,
+) -> Result<Played, PlayFault>
+    requires room { failures_of out.old < 2 ^ 64 - 1 }
+    ensures played { IfOk result (λ played. Wrote W.contents
+        (IsAnswer source.now keyboard.now (choices_of plan.now) trace played) out.old out.new) }
+    ensures fault { IfErr result (AfterFault W.contents
+        (IsSomeAnswer source.now keyboard.now (choices_of plan.now) trace) source.now out.old out.new) }
+{
+    let _keyboard = keyboard;
+    let (played, bytes) = answered(alloc, source, plan, trace)?;
+    match write_answer(bytes.as_slice(), out) {
+        Ok(()) => Ok(played),
+        Err(written) => Err(PlayFault::Write { written }),
+    }
+}
+
+/// What a run of a source comes to, and the answer's bytes. No keyboard is read yet.
+fn answered(
+    alloc: Global,
+    source: &[u8],
+    plan: &Plan,
+    trace: bool,
+) -> Result<(Played, Vec<u8>), PlayFault>
+    ensures answer { IfOk result (λ r. (keyboard : List ℕ) → IsAnswer source.now keyboard (choices_of plan.now) trace r.0 r.1.items) }
+    ensures refused { IfErr result (Refuses source.now) }
+{
+    let checked = accepted(alloc, source)?;
+    let code = match compile(alloc, &checked) {
+        Ok(code) => code,
+        Err(fault) => return Err(PlayFault::Code(fault)),
+    };
+    let outcome = run(alloc, &code, plan)?;
+    let bytes = answer(alloc, &outcome, code.channels(), trace)?;
+    let Outcome {
+        ending,
+        choices,
+        trace: _,
+    } = outcome;
+    Ok((Played { ending, choices }, bytes))
+}
+
+/// The program of a source that keeps the usage rules.
+fn accepted(alloc: Global, source: &[u8]) -> Result<Checked, PlayFault>
+    ensures found { IfOk result (λ c. Unfolds source.now c × Lawful c) }
+    ensures refused { IfErr result (Refuses source.now) }
+{
+    let unfolded = front(alloc, source)?;
+    match check_usage(alloc, unfolded) {
+        Ok(checked) => Ok(checked),
+        Err(refused) => Err(PlayFault::Usage(reason(refused))),
+    }
+}
+
+/// Why a program was refused, where the program is no longer wanted.
+fn reason(refused: Refused) -> UsageFault
+    ensures { result ≡ refused.fault }
+{
+    refused.fault
+}
+
+/// The unfolded program of a source.
+fn front(alloc: Global, source: &[u8]) -> Result<Unfolded, PlayFault>
+    ensures found { IfOk result (λ u. Unfolds source.now u) }
+    ensures refused { IfErr result (Refuses source.now) }
+{
+    let lines = read_lines(alloc, source)?;
+    match unfold(alloc, &lines) {
+        Ok(unfolded) => {
+            unfolded.well_formed();
+            Ok(unfolded)
+        }
+        Err(EarlyFault::Early { line }) => Err(PlayFault::Early { line }),
+        Err(EarlyFault::Memory) => Err(PlayFault::Memory(AllocError)),
+    }
+}
+
+/// The exit status of a program that played so: 0 ended, 1 refused, 2 stopped, 3 fault, 4 limit,
+/// 5 want of memory, 6 a failed write.
+pub fn status_of(played: &Result<Played, PlayFault>) -> u8
+    ensures { result ≡ status played.now }
+{
+    match played {
+        Ok(Played { ending, .. }) => match ending {
+            Ending::Ended => 0,
+            Ending::Stopped => 2,
+            Ending::Fault(_) => 3,
+            Ending::Limit => 4,
+        },
+        Err(PlayFault::Text(TextFault::Memory))
+        | Err(PlayFault::Usage(UsageFault::Memory))
+        | Err(PlayFault::Code(CodeFault::Memory))
+        | Err(PlayFault::Memory(_)) => 5,
+        Err(PlayFault::Text(_))
+        | Err(PlayFault::Early { .. })
+        | Err(PlayFault::Usage(_))
+        | Err(PlayFault::Code(_)) => 1,
+        Err(PlayFault::Write { .. }) => 6,
+    }
+}
