@@ -6,3 +6,10 @@ mod Calm
 mod OneStop
 mod Simulation
 mod Rerun
+mod FirstLoop
+mod FirstHeader
+pub mod FirstTerms
+mod FirstAgain
+mod FirstSound
+mod FirstUnfolding
+mod FirstTyped

@@ -6,3 +6,5 @@ pub mod Network
 pub mod ScreenTerms
 pub mod Following
 pub mod Outcomes
+pub mod FirstForm
+pub mod FirstReading

@@ -3,6 +3,7 @@
 
 pub mod counted;
 pub mod ending;
+mod front;
 pub mod laws;
 mod machine;
 mod network;
