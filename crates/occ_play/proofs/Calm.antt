@@ -1,5 +1,5 @@
 -- What is left of a process of the first form: its steps keep it so, and at a stop it offers to the screen, is halted or done.
-use Rattle.std.proofs.Common.{◌≡◌, ℕ, List, [], ◌∷◌, Some, None, refl, sym, ap, subst}
+use Rattle.std.proofs.Common.{◌≡◌, ℕ, List, [], ◌∷◌, None, refl, subst}
 use Rattle.occ_term.specs.declared.message.Message.{Message}
 use Rattle.occ_term.specs.Messages.{message}
 use Rattle.occ_term.specs.declared.message.Part.TheVariants.{One}
@@ -8,7 +8,7 @@ use Rattle.occ_term.specs.Terms.{Term, Terms}
 use Rattle.occ_term.specs.Values.{Store}
 use Rattle.occ_term.specs.Steps.{Doing, Do, Offering, Halted, Done, Context, Then, Left, left, FaultsIn, in_output, Step, ends, stop, assign, clear, local, output, input, variant, alt, take_in, seq_empty, seq, drops, par_empty, par, if_step, case, while, each, passes_again, leaves, body_ends, again, faults}
 use Rattle.occ_term.specs.Turns.{Steps, none, more, SingleTurn, single_turn, Turn, stops, passes}
-use Rattle.occ_play.specs.ScreenTerms.{ByteTerm, byte_skip, byte_stop, byte_output, byte_seq, ByteTerms, byte_none, byte_then, IsByte}
+use Rattle.occ_play.specs.ScreenTerms.{ByteTerm, byte_skip, byte_stop, byte_output, byte_seq, ByteTerms, byte_then, IsByte}
 
 pub data CalmContexts : List Context → Type 0 where
   calm_end : CalmContexts []

@@ -1,9 +1,8 @@
 -- The answer of an outcome is shown by a run of the source.
 use Rattle.std.proofs.Common.{◌≡◌, ◌∙◌, ◌<◌, ◌^◌, ℕ, ℤ, List, [], ◌∷◌, ◌++◌, Option, Some, None, Bool, true, false, IsTrue, length, map, refl, sym, ap, subst, arith}
-use Rattle.std.specs.Prelude.{All, get_or, if◌then◌else◌, nat_eq, slice_get, ⊤}
+use Rattle.std.specs.Prelude.{All, if◌then◌else◌, nat_eq, slice_get}
 use Rattle.std.proofs.lemmas.Bool.{eqb-true}
-use Rattle.occ_text.specs.Words.{Row}
-use Rattle.occ_term.specs.Messages.{message, is_of}
+use Rattle.occ_term.specs.Messages.{is_of}
 use Rattle.occ_term.specs.Terms.{Constant, OfOne}
 use Rattle.occ_term.specs.Typing.{ItemHas}
 use Rattle.occ_term.specs.declared.primitive.Primitive.{Primitive}
@@ -17,10 +16,10 @@ use Rattle.occ_term.specs.declared.protocol.Protocol.TheVariants.{Simple}
 use Rattle.occ_term.specs.declared.usage.UsageFault.{UsageFault}
 use Rattle.occ_term.specs.declared.usage.UsageFault.TheVariants as usage
 use Rattle.occ_term.specs.Refusals.{UsageRefuses}
-use Rattle.occ_term.specs.System.{System, HaltMode, start, Communication, communication, OfProcess, Screen}
-use Rattle.occ_term.specs.Runs.{Event, Run, communications, messages_on, sent_on, shown, shown_by, EndsBy}
+use Rattle.occ_term.specs.System.{HaltMode, start, Communication}
+use Rattle.occ_term.specs.Runs.{Run, communications, messages_on, sent_on, shown, shown_by, EndsBy}
 use Rattle.occ_term.specs.TermTyping.{Declared, TermHas, TermsHave}
-use Rattle.occ_term.specs.Unfolding.{Unfolding, declared, meaning, Lawful, first_channels}
+use Rattle.occ_term.specs.Unfolding.{Unfolding, declared, meaning, Lawful}
 use Rattle.occ_code.specs.Alike.{FitsProtocol}
 use Rattle.occ_code.specs.Compiled.{Program, IsCompiledFrom, CodeRefuses}
 use Rattle.occ_code.specs.Machine.{FlatCode}
@@ -31,15 +30,13 @@ use Rattle.occ_play.specs.declared.ending.Ending.{Ending}
 use Rattle.occ_play.specs.declared.ending.Ending.TheVariants as E
 use Rattle.occ_play.specs.declared.playing.Played.{Played}
 use Rattle.occ_play.specs.declared.running.Outcome.{Outcome}
-use Rattle.occ_play.specs.declared.trace.Communication.{Communication as Made}
 use Rattle.occ_play.specs.Answers.{answer_text, names_of}
 use Rattle.occ_play.specs.Network.{communication_of}
-use Rattle.occ_play.specs.FirstForm.{FirstForm}
 use Rattle.occ_play.specs.Following.{ending_as, or_limit}
 use Rattle.occ_play.specs.Outcomes.{Begins, IsOutcome}
 use Rattle.occ_play.specs.Playing.{AllFit, IsAnswer, Unfolds, UsageRefusesText, CodeRefusesText}
-use Rattle.occ_play.specs.Replay.{Net, Replays, ending_of, ending_by, first_fault, main_done, ready_from}
-use Rattle.occ_play.specs.ScreenTerms.{ScreenTerm, screen_skip, screen_stop, screen_output, screen_seq, ScreenTerms, screen_none, screen_then, ByteTerm, byte_skip, byte_stop, byte_output, byte_seq, ByteTerms, byte_none, byte_then, IsByte, IsLetter, AreLetters, WritesOnly}
+use Rattle.occ_play.specs.Replay.{Replays, ending_of, ending_by}
+use Rattle.occ_play.specs.ScreenTerms.{ScreenTerm, screen_skip, screen_stop, screen_output, screen_seq, ScreenTerms, screen_none, screen_then, ByteTerm, byte_skip, byte_stop, byte_output, byte_seq, ByteTerms, byte_none, byte_then, IsByte, AreLetters, WritesOnly}
 use Rattle.occ_play.proofs.Simulation.{only_body, replays_are_runs}
 use Rattle.occ_play.proofs.FirstTerms.{form_writes_to_screen}
 

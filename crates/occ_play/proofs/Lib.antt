@@ -9,4 +9,10 @@ mod Rerun
 mod Texts
 mod Traces
 mod Headline
+mod FirstLoop
+mod FirstHeader
 pub mod FirstTerms
+mod FirstAgain
+mod FirstSound
+mod FirstUnfolding
+mod FirstTyped

@@ -1,22 +1,20 @@
 -- A run in code is a replay.
-use Rattle.std.proofs.Common.{◌≡◌, ℕ, zero, suc, ◌+◌, ◌<◌, ◌^◌, List, [], ◌∷◌, ◌++◌, Option, Some, None, Bool, true, false, IsTrue, length, map, take, drop, refl, sym, ap, ◌∙◌, subst, arith, length-append, ◌≤◌, inl, inr}
-use Rattle.std.specs.Prelude.{◌%◌, slice_get, if◌then◌else◌}
+use Rattle.std.proofs.Common.{◌≡◌, ℕ, suc, ◌+◌, ◌<◌, ◌^◌, List, [], ◌∷◌, ◌++◌, Some, None, IsTrue, length, map, take, drop, refl, sym, ap, ◌∙◌, subst, arith, length-append, ◌≤◌, inl, inr}
+use Rattle.std.specs.Prelude.{slice_get, if◌then◌else◌}
 use Rattle.std.proofs.Math.Nat.{mod-one}
 use Rattle.std.proofs.Math.Seq.{take-suc}
 use Rattle.std.proofs.lemmas.List.{take_all, take-append-drop}
 use Rattle.std.proofs.lemmas.Option.{slice_get_within, slice_get_cases, get_or_from_slice_get}
-use Rattle.occ_term.specs.Unfolding.{Unfolding, meaning}
 use Rattle.occ_code.specs.Machine.{FlatCode}
-use Rattle.occ_code.specs.Compiled.{Program, IsCompiledFrom, instructions_in}
+use Rattle.occ_code.specs.Compiled.{Program, instructions_in}
 use Rattle.occ_code.specs.Emitted.{most_instructions}
 use Rattle.occ_code.specs.declared.task.Wait.{Wait}
 use Rattle.occ_code.specs.declared.task.Wait.TheVariants as W
 use Rattle.occ_play.specs.declared.ending.Choice.{Choice}
-use Rattle.occ_play.specs.declared.ending.Ending.{Ending}
 use Rattle.occ_play.specs.declared.network.Network.{Network}
 use Rattle.occ_play.specs.declared.running.Outcome.{Outcome}
 use Rattle.occ_play.specs.Network.{HasStop, Holds, TurnsTo, communication_of}
-use Rattle.occ_play.specs.Replay.{Net, Replays, begins, goes_on, first_net, first_task, at_start, ending_of, first_fault, main_done, ready_from, ending_by, may_go, selected, OneTurn}
+use Rattle.occ_play.specs.Replay.{Net, begins, goes_on, first_net, first_task, at_start, ending_of, first_fault, main_done, ready_from, ending_by, may_go, selected, OneTurn}
 use Rattle.occ_play.specs.Following.{or_limit}
 use Rattle.occ_play.specs.Outcomes.{Begins, HasReplayed, IsOutcome, ending_at}
 use Rattle.occ_play.specs.ScreenTerms.{WritesOnly}

@@ -1,5 +1,5 @@
 -- What is joined in the network of one process.
-use Rattle.std.proofs.Common.{◌≡◌, ℕ, zero, suc, List, [], ◌∷◌, ◌++◌, Option, Some, None, Bool, true, false, map, refl, sym, ap, ◌∙◌, subst}
+use Rattle.std.proofs.Common.{◌≡◌, ℕ, zero, suc, [], ◌∷◌, ◌++◌, Some, None, Bool, true, false, map, refl, sym, ap, ◌∙◌, subst}
 use Rattle.std.specs.Prelude.{nat_eq, slice_get, slice_set, if◌then◌else◌}
 use Rattle.std.proofs.lemmas.Bool.{eqb-true}
 use Rattle.std.proofs.lemmas.List.{map-append}
@@ -10,7 +10,6 @@ use Rattle.occ_code.specs.declared.task.Task.{Task}
 use Rattle.occ_code.specs.declared.task.Wait.TheVariants.{Offers}
 use Rattle.occ_play.specs.declared.trace.End.{End}
 use Rattle.occ_play.specs.declared.trace.End.TheVariants.{Process, Screen, Error}
-use Rattle.occ_play.specs.declared.trace.Communication.{Communication}
 use Rattle.occ_play.specs.declared.network.Network.{Network}
 use Rattle.occ_play.specs.Network.{Holds, SettlesTo, TurnsTo, communication_of, end_of, reader_of}
 use Rattle.occ_play.specs.Replay.{Net, Joined, joined, Gives, task_gives, Gets, screen_gets, error_gets, Settled, joins, stays, made_ready, took_turn, with_task, traced, one_more}

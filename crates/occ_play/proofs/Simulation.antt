@@ -1,5 +1,5 @@
 -- A replay of compiled code of the first form is a run of its source.
-use Rattle.std.proofs.Common.{◌≡◌, ℕ, zero, suc, ◌+◌, ◌<◌, ◌^◌, List, [], ◌∷◌, ◌++◌, Option, Some, None, Bool, true, false, IsTrue, IsFalse, length, map, ℤ, refl, sym, ap, ◌∙◌, subst, inl, inr, arith, append_assoc, append-nil, length-append}
+use Rattle.std.proofs.Common.{◌≡◌, ℕ, zero, suc, ◌+◌, ◌<◌, ◌^◌, List, [], ◌∷◌, ◌++◌, Option, Some, None, Bool, true, false, IsTrue, length, map, ℤ, refl, sym, ap, ◌∙◌, subst, inl, arith, append_assoc, append-nil, length-append}
 use Rattle.std.specs.Prelude.{◌%◌, slice_get, slice_set, if◌then◌else◌, nat_eq, pos, replicate}
 use Rattle.std.proofs.lemmas.List.{length-replicate}
 use Rattle.occ_term.specs.Messages.{is_of}
@@ -15,28 +15,26 @@ use Rattle.occ_term.specs.Terms.{Term, Skip, Terms}
 use Rattle.occ_term.specs.Values.{Store}
 use Rattle.occ_term.specs.Steps.{Do, Passing, Again, Offering, Awaiting, Choosing, Taking, Forking, Halted, Faulted, Done, Context, Left, left, faults}
 use Rattle.occ_term.specs.Turns.{Turn}
-use Rattle.occ_term.specs.Frames.{Variables}
 use Rattle.occ_term.specs.TermTyping.{Declared}
 use Rattle.occ_term.specs.Unfolding.{Unfolding, meaning, declared}
-use Rattle.occ_term.specs.System.{System, system, start, process, no_processes, HaltMode, SystemTurn, system_turn, turn_here, alone, begun, fault_noted, offer_ends, process_sends, keyboard_sends, screen_receives, error_receives, process_receives, change_here, change_below, meets, passes_skip, OfProcess, Screen, Communication, communication}
-use Rattle.occ_term.specs.Runs.{Event, event, Run, no_turn, goes, communications, sent_on, messages_on, MeetsAtMost, meets_one, EndsBy, by_end, by_standing, goes_on, StepOf, IsStill, private_step, own_step, branch_step, meeting_step, skip_step}
-use Rattle.occ_term.specs.Runs as R
+use Rattle.occ_term.specs.System.{System, system, start, process, no_processes, HaltMode, SystemTurn, system_turn, turn_here, alone, offer_ends, process_sends, keyboard_sends, screen_receives, error_receives, process_receives, change_here, change_below, meets, passes_skip, OfProcess, Screen, Communication, communication}
+use Rattle.occ_term.specs.Runs.{Event, event, Run, no_turn, goes, communications, sent_on, messages_on, MeetsAtMost, meets_one, EndsBy, by_end, by_standing, goes_on, IsStill, private_step, own_step, branch_step, meeting_step, skip_step}
 use Rattle.occ_term.proofs.Meetings.{unmet}
 use Rattle.occ_term.proofs.Going.{going}
 use Rattle.occ_code.specs.Machine.{FlatCode, Stopping}
-use Rattle.occ_code.specs.Alike.{Agrees, Alike, SameStop, SameTurn, IsFirst, DoesAs}
+use Rattle.occ_code.specs.Alike.{Agrees, Alike, SameStop, IsFirst, DoesAs}
 use Rattle.occ_code.specs.Compiled.{Program, IsCompiledFrom, AllDo}
 use Rattle.occ_code.specs.declared.task.Task.{Task}
 use Rattle.occ_code.specs.declared.task.Wait.{Wait}
 use Rattle.occ_code.specs.declared.task.Wait.TheVariants as W
 use Rattle.occ_play.specs.declared.ending.Choice.{Choice}
-use Rattle.occ_play.specs.Replay.{Net, Joined, joined, Gives, task_gives, Gets, screen_gets, error_gets, Settled, joins, stays, made_ready, one_more, took_turn, with_task, ending_of, OneTurn, Replays, begins, goes_on as replays_on, ready_from, selected}
-use Rattle.occ_play.specs.Network.{reader_of, HasStop}
-use Rattle.occ_play.specs.ScreenTerms.{ByteTerm, byte_skip, byte_stop, byte_output, byte_seq, ByteTerms, byte_none, byte_then, IsByte, IsLetter, AreLetters}
-use Rattle.occ_play.specs.Following.{Followed, ReplaysAreRuns, process_in, ending_as, or_limit}
+use Rattle.occ_play.specs.Replay.{Net, Joined, joined, Gives, task_gives, Gets, screen_gets, error_gets, Settled, joins, stays, made_ready, one_more, took_turn, ending_of, OneTurn, Replays, begins, goes_on as replays_on, ready_from, selected}
+use Rattle.occ_play.specs.Network.{HasStop}
+use Rattle.occ_play.specs.ScreenTerms.{ByteTerm, byte_skip, byte_stop, byte_output, byte_seq, ByteTerms, byte_none, byte_then, IsByte, AreLetters}
+use Rattle.occ_play.specs.Following.{ReplaysAreRuns, process_in, ending_as, or_limit}
 use Rattle.occ_play.proofs.Calm.{CalmContexts, calm_end, Calm, calm_term, calm_offer, calm_halted, calm_done, turn_calm}
 use Rattle.occ_play.proofs.OneStop.{stopping_once}
-use Rattle.occ_play.proofs.Settling.{only_task, stays_if, met_by}
+use Rattle.occ_play.proofs.Settling.{only_task, met_by}
 
 -- ---- what is joined
 

@@ -2,9 +2,7 @@
 use Rattle.std.proofs.Common.{◌≡◌, ◌∙◌, ℕ, zero, suc, ◌+◌, ◌<◌, List, [], ◌∷◌, ◌++◌, length, map, take, get_or, None, refl, sym, ap, subst, arith, append_assoc, append-nil}
 use Rattle.std.proofs.Math.Seq.{take-suc}
 use Rattle.std.proofs.lemmas.List.{length-take-le}
-use Rattle.occ_term.specs.Messages.{message}
 use Rattle.occ_term.specs.declared.message.Message.{Message}
-use Rattle.occ_term.specs.System as S
 use Rattle.occ_term.specs.Runs.{Names, bytes_in, bytes_of, messages_on, sent_on, entries, entry_of}
 use Rattle.occ_play.specs.declared.trace.Communication.{Communication}
 use Rattle.occ_play.specs.Answers.{line_text, trace_text}

@@ -1,10 +1,9 @@
 -- Walks along flat code: a turn reaches its stop, and has but one.
-use Rattle.std.proofs.Common.{◌≡◌, ℕ, zero, suc, ◌+◌, ◌⊎◌, inl, inr, List, [], ◌∷◌, Option, Some, None, refl, sym, ap, ◌∙◌, subst, ℤ}
+use Rattle.std.proofs.Common.{◌≡◌, ℕ, suc, ◌+◌, inr, List, [], Option, Some, refl, sym, ap, ◌∙◌, subst, ℤ}
 use Rattle.std.specs.Prelude.{slice_get}
 use Rattle.occ_term.specs.Frames.{Variables}
-use Rattle.occ_code.specs.Machine.{FlatCode, Point, point, Effect, Moves, Stops, Stuck, act, effect, Walks, here, on, begins_at, stands_at, counted, SingleStop, IsReady, StopsIn, stops_here, passes_on, Stopping}
+use Rattle.occ_code.specs.Machine.{FlatCode, Point, point, Moves, Stops, Stuck, act, effect, Walks, here, on, begins_at, stands_at, counted, SingleStop, IsReady, StopsIn, stops_here, passes_on, Stopping}
 use Rattle.occ_code.specs.declared.body.Instr.{Instr}
-use Rattle.occ_code.specs.declared.body.Instr.TheVariants.{Push, Send, Halt, End}
 use Rattle.occ_code.specs.declared.task.Task.{Task}
 use Rattle.occ_code.specs.declared.task.Wait.{Wait}
 use Rattle.occ_code.specs.declared.task.Wait.TheVariants.{Ready, Took, Offers, Awaits, Chooses, Joins, Halted, Done, Faulted}

@@ -1,6 +1,5 @@
 -- A run of the source that a replay of its compiled code follows.
-use Rattle.std.specs.Prelude.{List, None, Option, Some, [], map, ℕ, ◌+◌, ◌<◌, ◌^◌, ◌∷◌, ◌≡◌, length}
-use Rattle.occ_term.specs.declared.fault.Fault.{Fault}
+use Rattle.std.specs.Prelude.{List, None, Option, Some, [], map, ℕ, ◌<◌, ◌^◌, ◌∷◌, ◌≡◌, length}
 use Rattle.occ_term.specs.Unfolding.{Unfolding, meaning}
 use Rattle.occ_term.specs.System.{System, start, HaltMode}
 use Rattle.occ_term.specs.Runs.{Event, event, Run, communications, messages_on, EndsBy}

@@ -8,5 +8,6 @@ pub mod Following
 pub mod Outcomes
 pub mod Answers
 pub mod FirstForm
+pub mod FirstReading
 pub mod Status
 pub mod Playing

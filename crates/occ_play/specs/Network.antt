@@ -1,5 +1,5 @@
 -- The private network of one process, as a state of the replay.
-use Rattle.std.specs.Prelude.{List, None, Option, Some, [], if◌then◌else◌, map, nat_eq, ℕ, ◌∷◌, ◌≡◌}
+use Rattle.std.specs.Prelude.{None, Option, Some, [], if◌then◌else◌, map, nat_eq, ℕ, ◌∷◌, ◌≡◌}
 use Rattle.occ_term.specs.System as S
 use Rattle.occ_code.specs.Machine.{FlatCode, Stopping}
 use Rattle.occ_code.specs.declared.task.Task.{Task}

@@ -1,5 +1,5 @@
 -- What a run of a plan comes to.
-use Rattle.std.specs.Prelude.{List, None, Option, Some, [], if◌then◌else◌, length, map, ℕ, ◌++◌, ◌∷◌, ◌≡◌}
+use Rattle.std.specs.Prelude.{List, None, Option, [], if◌then◌else◌, map, ℕ, ◌++◌, ◌∷◌, ◌≡◌}
 use Rattle.occ_code.specs.Compiled.{Program}
 use Rattle.occ_code.specs.declared.task.Wait.{Wait}
 use Rattle.occ_play.specs.declared.ending.Choice.{Choice}

@@ -11,9 +11,8 @@ use Rattle.occ_term.specs.declared.usage.UsageFault.{UsageFault}
 use Rattle.occ_term.specs.declared.usage.UsageFault.TheVariants as usage
 use Rattle.occ_term.specs.Terms.{Term}
 use Rattle.occ_term.specs.Sizes.{size_of}
-use Rattle.occ_term.specs.TermTyping.{Declared}
 use Rattle.occ_term.specs.Unfolding.{Unfolding, declared, meaning, IsWellFormed, Lawful}
-use Rattle.occ_term.specs.System.{System, start, HaltMode, Communication}
+use Rattle.occ_term.specs.System.{System, start, HaltMode}
 use Rattle.occ_term.specs.Runs.{Event, Run, communications, messages_on, shown, EndsBy}
 use Rattle.occ_code.specs.Alike.{FitsProtocol}
 use Rattle.occ_code.specs.Emitted.{most_instructions}

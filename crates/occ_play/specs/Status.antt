@@ -1,10 +1,7 @@
 -- The exit status of a program that played so.
 use Rattle.std.specs.Prelude.{ℕ, Result, Ok, Err}
-use Rattle.occ_text.specs.declared.fault.TextFault.{TextFault}
 use Rattle.occ_text.specs.declared.fault.TextFault.TheVariants as text
-use Rattle.occ_term.specs.declared.usage.UsageFault.{UsageFault}
 use Rattle.occ_term.specs.declared.usage.UsageFault.TheVariants as usage
-use Rattle.occ_code.specs.declared.code.CodeFault.{CodeFault}
 use Rattle.occ_code.specs.declared.code.CodeFault.TheVariants as code
 use Rattle.occ_play.specs.declared.ending.Ending.{Ending}
 use Rattle.occ_play.specs.declared.ending.Ending.TheVariants.{Ended, Stopped, Fault, Limit}

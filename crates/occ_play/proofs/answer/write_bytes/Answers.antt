@@ -1,4 +1,3 @@
-use Rattle.std.proofs.Common.{◌≡◌, refl}
 use Rattle.occ_play.proofs.Texts.{text_step}
 use Rattle.occ_play.proofs.Traces.{byte_at, bytes_text}
 use Rattle.occ_play.proofs.answer.write_bytes.Goals as goal

@@ -1,4 +1,4 @@
-use Rattle.std.proofs.Common.{◌≡◌, ◌∙◌, ◌∷◌, ◌++◌, [], refl, ap, append_assoc}
+use Rattle.std.proofs.Common.{◌∙◌, ◌++◌, refl, ap, append_assoc}
 use Rattle.std.specs.Prelude.{codes}
 use Rattle.occ_play.specs.Answers.{part_text, later_text}
 use Rattle.occ_play.proofs.Texts.{IsText, text_step}

@@ -1,4 +1,4 @@
-use Rattle.std.proofs.Common.{◌≡◌, ◌∙◌, ◌∷◌, ◌++◌, [], ℤ, pos, get_or, refl, ap, append_assoc}
+use Rattle.std.proofs.Common.{◌∙◌, ◌∷◌, ◌++◌, [], ℤ, pos, get_or, refl, ap, append_assoc}
 use Rattle.occ_play.specs.Answers.{value_text, spaced_text}
 use Rattle.occ_play.proofs.Texts.{IsText, text_step, get_or_self}
 use Rattle.occ_play.proofs.answer.write_spaced.Goals as goal

@@ -1,4 +1,3 @@
-use Rattle.std.proofs.Common.{◌≡◌, refl}
 use Rattle.occ_play.specs.Answers.{names_of}
 use Rattle.occ_play.proofs.Traces.{byte_at, untagged, lines_step}
 use Rattle.occ_play.proofs.answer.write_trace.Goals as goal

@@ -1,4 +1,4 @@
-use Rattle.std.proofs.Common.{◌≡◌, ◌+◌, Some, sym, ap, ◌∙◌, zero-add}
+use Rattle.std.proofs.Common.{Some, sym, ap, ◌∙◌, zero-add}
 use Rattle.occ_play.proofs.PlanLemmas.{turns_at, turns_past, turn_number}
 use Rattle.occ_play.proofs.ending.turn_at.Goals as goal
 

@@ -1,10 +1,8 @@
-use Rattle.std.proofs.Common.{◌≡◌, ◌+◌, ◌<◌, ◌-◌, ◌++◌, List, [], ◌∷◌, Some, None, length, reverse, refl, sym, ap, ◌∙◌, subst, arith, ℤ, ℕ}
-use Rattle.std.specs.Prelude.{slice_get}
-use Rattle.std.proofs.lemmas.List.{reverse-append}
+use Rattle.std.proofs.Common.{◌≡◌, ◌+◌, ◌<◌, ◌-◌, [], ◌∷◌, Some, None, length, reverse, sym, ap, ◌∙◌, subst, arith}
 use Rattle.std.proofs.lemmas.Option.{slice_get_within}
 use Rattle.occ_code.specs.Machine.{point, Walks, here, on, act, effect, Moves, Stops, Stopping, counted, stands_at}
 use Rattle.occ_code.specs.declared.task.Wait.TheVariants.{Offers}
-use Rattle.occ_code.specs.declared.body.Instr.TheVariants.{Push, Send, Halt, End}
+use Rattle.occ_code.specs.declared.body.Instr.TheVariants.{Send, Halt, End}
 use Rattle.std.proofs.Common.{rules, w64}
 use Rattle.std.proofs.lemmas.Int.{to_z-of_z}
 use Rattle.occ_term.specs.Messages.{message}

@@ -1,4 +1,4 @@
-use Rattle.std.proofs.Common.{◌≡◌, ◌-◌, [], length, reverse}
+use Rattle.std.proofs.Common.{◌-◌, [], length, reverse}
 use Rattle.occ_code.specs.Machine.{point, Walks}
 use Rattle.occ_play.proofs.Walking.{Reaches}
 use Rattle.occ_play.proofs.machine.next_stop.Given as goal

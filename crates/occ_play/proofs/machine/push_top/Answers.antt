@@ -1,4 +1,4 @@
-use Rattle.std.proofs.Common.{◌≡◌, reverse, ap, ◌∙◌, ◌∷◌, [], w64}
+use Rattle.std.proofs.Common.{reverse, ap, ◌∙◌, ◌∷◌, w64}
 use Rattle.std.proofs.lemmas.List.{reverse-append}
 use Rattle.std.proofs.lemmas.Int.{to_z-of_z}
 use Rattle.occ_play.proofs.machine.push_top.Goals as goal

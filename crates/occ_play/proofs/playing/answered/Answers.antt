@@ -1,4 +1,4 @@
-use Rattle.std.proofs.Common.{◌≡◌, ◌<◌, ◌^◌, [], length, refl, sym, ap, ◌∙◌, subst, rules}
+use Rattle.std.proofs.Common.{◌<◌, ◌^◌, [], length, refl, rules}
 use Rattle.occ_play.specs.Plans.{choices_of}
 use Rattle.occ_play.proofs.Headline.{writes_only, headline, trace_letters, code_refuses}
 use Rattle.occ_play.proofs.playing.answered.Goals as goal

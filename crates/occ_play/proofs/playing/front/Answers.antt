@@ -1,4 +1,4 @@
-use Rattle.std.proofs.Common.{◌≡◌, sym, subst}
+use Rattle.std.proofs.Common.{sym, subst}
 use Rattle.std.specs.Prelude.{Err}
 use Rattle.occ_term.specs.Unfolding.{Unfolding}
 use Rattle.occ_play.specs.FirstForm.{FirstForm, IsTaken}

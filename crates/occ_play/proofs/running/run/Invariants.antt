@@ -1,7 +1,6 @@
 use Rattle.std.proofs.Common.{◌≡◌, ◌-◌, ℕ, List, length, take}
 use Rattle.occ_play.specs.Outcomes.{HasReplayed}
 use Rattle.occ_play.specs.Plans.{choices_of}
-use Rattle.occ_play.proofs.Rerun.{outcome}
 use Rattle.occ_play.proofs.running.run.Given as goal
 
 abbrev pub invariant-loop-ending : goal.invariant-loop-ending

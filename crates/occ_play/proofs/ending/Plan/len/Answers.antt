@@ -1,4 +1,4 @@
-use Rattle.std.proofs.Common.{◌≡◌, length, sym, ap, ◌∙◌}
+use Rattle.std.proofs.Common.{length, sym, ap, ◌∙◌}
 use Rattle.occ_play.specs.Plans.{choices_of}
 use Rattle.occ_play.proofs.PlanLemmas.{turns_length}
 use Rattle.occ_play.proofs.ending.Plan.len.Goals as goal

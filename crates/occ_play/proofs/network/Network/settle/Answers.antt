@@ -1,8 +1,7 @@
-use Rattle.std.proofs.Common.{◌≡◌, Some, None, [], ◌∷◌, ◌++◌, refl, sym, ap, ◌∙◌, subst, ℕ}
+use Rattle.std.proofs.Common.{◌≡◌, None, refl, sym, ap, ◌∙◌, ℕ}
 use Rattle.occ_term.specs.declared.message.Message.{Message}
 use Rattle.occ_code.specs.declared.task.Wait.TheVariants.{Offers}
 use Rattle.occ_play.specs.Network.{reader_of}
-use Rattle.occ_play.specs.declared.trace.End.TheVariants.{Process}
 use Rattle.occ_play.proofs.Settling.{settles_stays, settles_met}
 use Rattle.occ_play.proofs.network.Network.settle.Goals as goal
 

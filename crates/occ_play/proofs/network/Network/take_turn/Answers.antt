@@ -1,4 +1,4 @@
-use Rattle.std.proofs.Common.{◌≡◌, Some, None, [], ◌∷◌, ◌++◌, refl, sym, ap, ◌∙◌, subst}
+use Rattle.std.proofs.Common.{refl, ◌∙◌}
 use Rattle.occ_play.proofs.Settling.{turns_to}
 use Rattle.occ_play.proofs.Walking.{stopping_counts}
 use Rattle.occ_play.proofs.network.Network.take_turn.Goals as goal
