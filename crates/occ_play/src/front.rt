@@ -100,7 +100,7 @@ fn channel_of_bytes(alloc: Global, name: &[u8]) -> Result<Channel, AllocError>
     Ok(Channel { name, protocol })
 }
 
-/// The term of all the lines.
+/// The term of the whole text.
 #[tactic(auto, unfolding(crate::specs::FirstReading::text_term))]
 fn whole(alloc: Global, lines: &[Line]) -> Result<Term, EarlyFault>
     ensures { Gives term_of result (text_term (rows lines.now)) }
@@ -114,6 +114,7 @@ fn whole(alloc: Global, lines: &[Line]) -> Result<Term, EarlyFault>
     }
     let (term, rest) = process(alloc, 1, line, after)?;
     if !is_close(rest) {
+        let line = rest.first().map_or(line, |next| next.number);
         return Err(EarlyFault::Early { line });
     }
     Ok(term)
@@ -196,15 +197,16 @@ fn process(
     ensures { Gives (λ x. (term_of x.0, rows x.1.now)) result (process_at (65 - level) level (rows lines.now)) }
 {
     if level > DEEPEST {
-        return Err(EarlyFault::Early { line: before });
+        let line = lines.first().map_or(before, |first| first.number);
+        return Err(EarlyFault::Early { line });
     }
-    shallow(alloc, level, before, lines)
+    first_process(alloc, level, before, lines)
 }
 
-/// The same at a level that a line may have.
+/// The same, at a level that a line may have.
 #[cycle(reading)]
 #[tactic(auto, unfolding(crate::specs::FirstReading::process_with))]
-fn shallow(
+fn first_process(
     alloc: Global,
     level: u32,
     before: u32,

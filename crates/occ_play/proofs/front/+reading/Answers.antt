@@ -15,7 +15,7 @@ pub process-returns-then-level-gt-DEEPEST : goal.process-returns-then-level-gt-D
 process-returns-then-level-gt-DEEPEST t c = no_level c.args.level (rows c.args.lines.now) c.if-level-gt-DEEPEST.true
 
 pub process-returns : goal.process-returns
-process-returns t c = rw (next_level c.args.level (rows c.args.lines.now) c.if-level-gt-DEEPEST.false) c.shallow.ensures
+process-returns t c = rw (next_level c.args.level (rows c.args.lines.now) c.if-level-gt-DEEPEST.false) c.first_process.ensures
 
 pub processes-returns-in_err-next : goal.processes-returns-in_err-next
 processes-returns-in_err-next t c =
@@ -34,8 +34,8 @@ processes-returns t c =
       | processes-then-loop-test+in_default w ↦ is_last c.loop.invariant w.loop-test.true w.in_default.ensures
     ]
 
-pub shallow-returns-in_ok-parts-in-Seq : goal.shallow-returns-in_ok-parts-in-Seq
+pub first_process-returns-in_ok-parts-in-Seq : goal.first_process-returns-in_ok-parts-in-Seq
 unfolding process_with
-shallow-returns-in_ok-parts-in-Seq t c =
+first_process-returns-in_ok-parts-in-Seq t c =
     let parts = c.in_ok-parts-in-Seq.parts in
     subst (λ (x : T.Term). process_with c.args.level (process_at (65 - (c.args.level + 1)) (c.args.level + 1)) (rows c.args.lines.now) ≡ Some (x, rows c.in_ok-parts-in-Seq.rest.now)) (sym (sequence_terms parts)) (grind (arith, common_steps, c.in_ok-parts-in-Seq.ensures, c.in-Seq.ensures))
