@@ -6,3 +6,4 @@ pub mod Network
 pub mod ScreenTerms
 pub mod Following
 pub mod Outcomes
+pub mod Failures

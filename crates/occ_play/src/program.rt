@@ -1,4 +1,7 @@
 //! The program around `play`: what it reads and prints, and its exit status.
+ghost use Rattle.std.specs.Prelude.{◌≡◌, ◌⊎◌, IfOk, IfSome, take};
+ghost use Rattle.occ_play.specs.Failures.{failure_status};
+
 use crate::counted::Counted;
 use crate::ending::Plan;
 use crate::playing::{play, status_of};
@@ -23,7 +26,10 @@ struct Inputs {
 /// Why nothing was played.
 #[derive(Debug, Drop, Error)]
 enum Failure {
-    /// What `clap` says of the words: a mistake, or the help that was asked for.
+    /// The words ask for help, which this is.
+    #[error("{0}")]
+    Help(clap::Error),
+    /// The words are wrong.
     #[error("{0}")]
     Words(clap::Error),
     /// An argument is no UTF-8.
@@ -44,7 +50,7 @@ enum Failure {
 pub fn run<R: Files + Input + Print + Eprint + Env + AllocGlobal>(rt: &R) -> u8 {
     match run_arguments(rt, rt.alloc()) {
         Ok(status) => status,
-        Err(failure) => report(rt, failure),
+        Err(failure) => report(rt, &failure),
     }
 }
 
@@ -83,8 +89,10 @@ fn read_inputs<R: Files + Input>(
     }
 }
 
-/// All bytes, or so many where there are more.
-fn read_most<R: Read + Drop>(alloc: Global, reader: R, most: u64) -> Result<Vec<u8>, Failure> {
+/// All bytes of a reader, or so many where there are more.
+fn read_most<R: Read + Drop>(alloc: Global, reader: R, most: u64) -> Result<Vec<u8>, Failure>
+    ensures { IfSome (R.remaining reader) (λ xs. IfOk result (λ bytes. bytes.items ≡ take most xs)) }
+{
     let mut bytes = Vec::new(alloc);
     reader.take(most).read_to_end(&mut bytes).map_err(of_read)?;
     Ok(bytes)
@@ -108,34 +116,42 @@ fn run_inputs<R: Print + Eprint>(rt: &R, alloc: Global, words: &Words<'_>, input
     status_of(&played)
 }
 
-/// Prints why nothing was played, and answers the exit status. Help goes to standard output.
-fn report<R: Print + Eprint>(rt: &R, failure: Failure) -> u8 {
+/// Prints why nothing was played, and answers the exit status. Help goes to standard output, and
+/// all else to standard error.
+fn report<R: Print + Eprint>(rt: &R, failure: &Failure) -> u8
+    ensures { (result ≡ failure_status failure.now) ⊎ (result ≡ 6) }
+{
     match failure {
-        Failure::Words(error) if error.kind() == ErrorKind::DisplayHelp => {
-            match error.print(rt) {
-                Ok(()) => 0,
-                Err(_) => report_line(rt, &Failure::Write),
+        Failure::Help(help) => {
+            if help.print(rt).is_err() {
+                return report_line(rt, &Failure::Write);
             }
         }
         Failure::Words(error) => {
             let _ = error.print(rt);
-            7
         }
-        failure => report_line(rt, &failure),
+        failure => return report_line(rt, failure),
     }
+    failure.status()
 }
 
-fn report_line<R: Eprint>(rt: &R, failure: &Failure) -> u8 {
+fn report_line<R: Eprint>(rt: &R, failure: &Failure) -> u8
+    ensures { result ≡ failure_status failure.now }
+{
     let _ = eprintln!(rt; "{failure}");
     failure.status()
 }
 
 impl Failure {
-    fn status(&self) -> u8 {
+    /// The exit status.
+    fn status(&self) -> u8
+        ensures { result ≡ failure_status self.now }
+    {
         match self {
-            Failure::Words(_) | Failure::Arguments => 7,
-            Failure::Read | Failure::Write => 6,
+            Failure::Help(_) => 0,
             Failure::Memory => 5,
+            Failure::Read | Failure::Write => 6,
+            Failure::Words(_) | Failure::Arguments => 7,
         }
     }
 }
@@ -148,6 +164,7 @@ impl From<AllocError> for Failure {
 
 fn of_words(error: clap::Error) -> Failure {
     match error.kind() {
+        ErrorKind::DisplayHelp => Failure::Help(error),
         ErrorKind::OutOfMemory => Failure::Memory,
         _ => Failure::Words(error),
     }
