@@ -1,2 +1,15 @@
-//! Tests of whole runs and of the public calls: this crate has no code of its own.
+//! Tests of whole runs and of public calls: this crate has no code of its own.
 #![tactic(auto)]
+
+#[cfg(test)]
+mod command_line;
+#[cfg(test)]
+mod first_programs;
+#[cfg(test)]
+mod memory;
+#[cfg(test)]
+mod row;
+#[cfg(test)]
+mod texts;
+#[cfg(test)]
+mod writers;
