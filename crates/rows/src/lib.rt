@@ -4,12 +4,20 @@
 #[cfg(test)]
 mod command_line;
 #[cfg(test)]
+mod contents;
+#[cfg(test)]
 mod first_programs;
 #[cfg(test)]
+mod layers;
+#[cfg(test)]
 mod memory;
+#[cfg(test)]
+mod outcomes;
 #[cfg(test)]
 mod row;
 #[cfg(test)]
 mod texts;
+#[cfg(test)]
+mod unfolded;
 #[cfg(test)]
 mod writers;
