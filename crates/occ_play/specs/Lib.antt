@@ -11,3 +11,4 @@ pub mod FirstForm
 pub mod FirstReading
 pub mod Status
 pub mod Playing
+pub mod Failures

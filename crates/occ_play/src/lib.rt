@@ -10,11 +10,15 @@ pub mod laws;
 mod machine;
 mod network;
 pub mod playing;
+pub mod program;
 mod running;
 pub mod trace;
+pub mod words;
 
 pub use counted::Counted;
 pub use ending::{Choice, Ending, Plan};
 pub use fault::PlayFault;
 pub use playing::{Played, play, status_of};
+pub use program::run;
 pub use trace::{Communication, End};
+pub use words::{Words, read_words};

@@ -1,0 +1,82 @@
+//! The words of the command line.
+ghost use Rattle.std.specs.Prelude.{◌≡◌, ◌≤◌, unwrap_or};
+
+use clap::error::ErrorKind;
+use clap::{Arg, ArgAction, Command, Error, value_parser};
+use std::alloc::Global;
+
+/// How many turns a run may take where no word says so.
+pub const DEFAULT_LIMIT: u32 = 1_000_000;
+
+/// The most turns that a word may ask for.
+pub const MOST_TURNS: u32 = 10_000_000;
+
+/// What the words of the command line say.
+#[derive(Debug, Drop)]
+pub struct Words<'a> {
+    /// The most turns that the run may take, 0 to 10,000,000.
+    pub limit: u32,
+    /// Whether each communication is printed.
+    pub trace: bool,
+    /// The path of the source; none where standard input is the source.
+    pub file: Option<&'a str>,
+    ghost limit_in_range: { limit ≤ 10000000 },
+}
+
+/// Reads the words, of which the first is the program's name.
+///
+/// # Errors
+///
+/// What `clap` says of the words, and its `OutOfMemory` for a refused growth. A request for help is
+/// an error of the kind `DisplayHelp`.
+pub fn read_words<'a>(alloc: Global, words: &'a [&'a str]) -> Result<Words<'a>, Error> {
+    let mut command = command(alloc)?;
+    let matches = command.try_get_matches_from_mut(words)?;
+    let limit = limit_of(matches.get_one::<u32>("limit"));
+    if limit > MOST_TURNS {
+        return Err(command.error(ErrorKind::ValueValidation, "the limit is too large")?);
+    }
+    Ok(Words {
+        limit,
+        trace: matches.get_flag("trace"),
+        file: matches.get_str("FILE"),
+    })
+}
+
+/// The limit, where the words gave this one or none.
+fn limit_of(given: Option<u32>) -> u32
+    ensures { result ≡ unwrap_or given 1000000 }
+{
+    given.unwrap_or(DEFAULT_LIMIT)
+}
+
+/// The words that the program takes.
+fn command<'a>(alloc: Global) -> Result<Command<'a>, Error> {
+    let command = Command::new(alloc, "occam")
+        .about("Compiles and runs an occam 2 program.")
+        .arg(limit_word(alloc))?
+        .arg(trace_word(alloc))?
+        .arg(file_word(alloc))?;
+    Ok(command)
+}
+
+fn limit_word<'a>(alloc: Global) -> Arg<'a> {
+    Arg::new(alloc, "limit")
+        .long("limit")
+        .value_name("N")
+        .help("Ends the run after N turns, 0 to 10000000 [default: 1000000]")
+        .value_parser(value_parser!(u32).range(0..=10_000_000))
+}
+
+fn trace_word<'a>(alloc: Global) -> Arg<'a> {
+    Arg::new(alloc, "trace")
+        .long("trace")
+        .help("Prints each communication after the answer")
+        .action(ArgAction::SetTrue)
+}
+
+fn file_word<'a>(alloc: Global) -> Arg<'a> {
+    Arg::new(alloc, "FILE").help(
+        "The source; standard input is then the keyboard. Without it, standard input is the source",
+    )
+}

@@ -1,0 +1,136 @@
+//! Plans, endings, faults and exit statuses.
+use occ_code::CodeFault;
+use occ_play::{Choice, Ending, Plan, PlayFault, Played, status_of};
+use occ_term::{Fault, FaultKind, UsageFault};
+use occ_text::TextFault;
+use std::process::Abort;
+use std::test::Fail;
+
+/// The first and the last choice of a plan of turns, and none after it.
+fn check_turns(rt: &impl Abort, turns: u32) {
+    let plan = Plan::Turns(turns);
+    let count = turns as usize;
+    assert_eq!(rt; plan.len(), count);
+    assert_eq!(rt; plan.at(count), None);
+    for which in 0..turns.min(3) {
+        assert_eq!(rt; plan.at(which as usize), Some(Choice { which, pick: 0 }));
+    }
+    if count > 0 {
+        let which = turns - 1;
+        assert_eq!(rt; plan.at(count - 1), Some(Choice { which, pick: 0 }));
+    }
+}
+
+#[test]
+fn plans_have_choices(rt: HostRuntime) -> Result<(), Fail> {
+    for turns in [0, 1, 100, 10_000_000u32] {
+        check_turns(&rt, turns);
+    }
+    let listed = [Choice { which: 7, pick: 3 }, Choice { which: 0, pick: 9 }];
+    let choices = Plan::Choices(Vec::from_slice(rt.alloc(), &listed)?);
+    assert_eq!(rt; choices.len(), 2);
+    assert_eq!(rt; choices.at(1), Some(listed[1]));
+    assert_eq!(rt; choices.at(2), None);
+    Ok(())
+}
+
+/// How runs end, the line that says so, and the exit status.
+const ENDINGS: [(Ending, &str, u8); 8] = [
+    (Ending::Ended, "ended", 0),
+    (Ending::Stopped, "stopped", 2),
+    (Ending::Limit, "limit", 4),
+    (
+        Ending::Fault(Fault {
+            kind: FaultKind::Arith,
+            line: 7,
+        }),
+        "fault ARITH line 7",
+        3,
+    ),
+    (
+        Ending::Fault(Fault {
+            kind: FaultKind::Range,
+            line: 4294967295,
+        }),
+        "fault RANGE line 4294967295",
+        3,
+    ),
+    (
+        Ending::Fault(Fault {
+            kind: FaultKind::Convert,
+            line: 2,
+        }),
+        "fault CONVERT line 2",
+        3,
+    ),
+    (
+        Ending::Fault(Fault {
+            kind: FaultKind::Shift,
+            line: 1,
+        }),
+        "fault SHIFT line 1",
+        3,
+    ),
+    (
+        Ending::Fault(Fault {
+            kind: FaultKind::Count,
+            line: 10,
+        }),
+        "fault COUNT line 10",
+        3,
+    ),
+];
+
+#[test]
+fn endings_have_texts(rt: HostRuntime) -> Result<(), Fail> {
+    let alloc = rt.alloc();
+    for (ending, text, status) in ENDINGS {
+        assert_eq!(rt; ending.to_string(alloc)?.as_str(), text);
+        let choices = Vec::new(alloc);
+        let played = Ok(Played { ending, choices });
+        assert_eq!(rt; status_of(&played), status, "{text}");
+    }
+    Ok(())
+}
+
+#[test]
+fn faults_have_texts(rt: HostRuntime) -> Result<(), Fail> {
+    let alloc = rt.alloc();
+    let name = String::from_str(alloc, "n")?;
+    let shared = UsageFault::SharedVariable { line: 5, name };
+    let name = String::from_str(alloc, "screen")?;
+    let inputs = UsageFault::TwoInputs { line: 3, name };
+    let rows = [
+        (PlayFault::Text(TextFault::TooLong), "refused 1 TooLong", 1),
+        (
+            PlayFault::Text(TextFault::BadByte { line: 9 }),
+            "refused 2 BadByte line 9",
+            1,
+        ),
+        (PlayFault::Early { line: 4 }, "refused 95 Early line 4", 1),
+        (
+            PlayFault::Usage(shared),
+            "refused 50 SharedVariable line 5 n",
+            1,
+        ),
+        (
+            PlayFault::Usage(inputs),
+            "refused 51 TwoInputs line 3 screen",
+            1,
+        ),
+        (
+            PlayFault::Code(CodeFault::TooLarge),
+            "refused 60 TooLarge",
+            1,
+        ),
+        (PlayFault::Text(TextFault::Memory), "memory", 5),
+        (PlayFault::Usage(UsageFault::Memory), "memory", 5),
+        (PlayFault::Code(CodeFault::Memory), "memory", 5),
+        (PlayFault::Write { written: 3 }, "write failed", 6),
+    ];
+    for (fault, text, status) in rows {
+        assert_eq!(rt; fault.to_string(alloc)?.as_str(), text);
+        assert_eq!(rt; status_of(&Err(fault)), status, "{text}");
+    }
+    Ok(())
+}

@@ -1,0 +1,174 @@
+//! Texts: what is read as a program, and what is refused.
+use crate::row::{Row, check_row};
+use occ_play::{Choice, Counted, Plan, PlayFault, play};
+use std::alloc::{AllocError, Global};
+use std::test::Fail;
+
+const HEAD: &[u8] = b"PROC main (CHAN OF BYTE keyboard, screen)\n";
+
+/// Programs that answer A.
+const LETTERS: [(&str, &[u8]); 6] = [
+    (
+        "plain",
+        b"PROC main (CHAN OF BYTE keyboard, screen)\n  screen ! 'A'\n:\n",
+    ),
+    (
+        "comments and blank lines",
+        b"-- a letter\nPROC main (CHAN OF BYTE keyboard, screen) -- main\n\n     -- one\n  screen ! 'A'-- out\n   \n:\n-- end",
+    ),
+    (
+        "carriage returns",
+        b"PROC main (CHAN OF BYTE keyboard, screen)\r\n\r\n  screen ! 'A'\r\n:\r\n",
+    ),
+    (
+        "a broken line",
+        b"PROC main (CHAN OF BYTE keyboard, -- two lines\n\n   screen)\n  screen ! 'A'\n:\n",
+    ),
+    (
+        "no spaces",
+        b"PROC main(CHAN OF BYTE keyboard,screen)\n  screen!'A'\n:\n",
+    ),
+    (
+        "many spaces",
+        b"PROC  main  ( CHAN  OF  BYTE  keyboard , screen )  \n  screen  !  'A'  \n:  \n",
+    ),
+];
+
+/// Texts that are refused, and how.
+const REFUSALS: [(&[u8], &str); 19] = [
+    (b"SKIP\t\n", "refused 2 BadByte line 1"),
+    (b"x,\n  @", "refused 2 BadByte line 1"),
+    (
+        b"PROC main (CHAN OF BYTE keyboard, screen)\n  screen ! 'A'\x00\n:\n",
+        "refused 2 BadByte line 2",
+    ),
+    (b" SKIP", "refused 3 OddIndent line 1"),
+    (
+        b"PROC main (CHAN OF BYTE keyboard, screen)\n   screen ! 'A'\n:\n",
+        "refused 3 OddIndent line 2",
+    ),
+    (b"#100000000", "refused 4 BadLiteral line 1"),
+    (b"2147483648", "refused 4 BadLiteral line 1"),
+    (
+        b"PROC main (CHAN OF BYTE keyboard, screen)\n  screen ! 'AB'\n:\n",
+        "refused 4 BadLiteral line 2",
+    ),
+    (b"'*l'", "refused 5 BadEscape line 1"),
+    (b"\"ab\n", "refused 6 OpenString line 1"),
+    (
+        b"PROC main (CHAN OF BYTE keyboard, screen)\r\n\r\n  screen ! \"A\r\n:\r\n",
+        "refused 6 OpenString line 3",
+    ),
+    (b"x :=", "refused 7 BadBreak line 1"),
+    (b"  x :=\n:\n", "refused 7 BadBreak line 2"),
+    (
+        b"PROC main (CHAN OF BYTE keyboard,\n",
+        "refused 7 BadBreak line 1",
+    ),
+    (b"", "refused 95 Early line 1"),
+    (b"SKIP", "refused 95 Early line 1"),
+    (b":", "refused 95 Early line 1"),
+    (b"-- no program", "refused 95 Early line 1"),
+    (
+        b"PROC main (CHAN OF BYTE keyboard, screen)",
+        "refused 95 Early line 1",
+    ),
+];
+
+#[test]
+fn texts_are_read(rt: HostRuntime) -> Result<(), Fail> {
+    let used = [Choice { which: 0, pick: 0 }, Choice { which: 1, pick: 0 }];
+    for (name, source) in LETTERS {
+        check_row(&rt, rt.alloc(), &Row::ended(name, source, b"A", &used))?;
+    }
+    Ok(())
+}
+
+#[test]
+fn every_printing_byte_is_read(rt: HostRuntime) -> Result<(), Fail> {
+    let alloc = rt.alloc();
+    let mut source = Vec::from_slice(alloc, HEAD)?;
+    source.extend_from_slice(b"  SEQ\n")?;
+    let mut answer = Vec::new(alloc);
+    for byte in 32u8..127 {
+        if byte != b'*' && byte != b'\'' {
+            source.extend_from_slice(b"    screen ! '")?;
+            source.push(byte)?;
+            source.extend_from_slice(b"'\n")?;
+            answer.push(byte)?;
+        }
+    }
+    source.extend_from_slice(b":\n")?;
+    let mut used = Vec::new(alloc);
+    for which in 0..94 {
+        used.push(Choice { which, pick: 0 })?;
+    }
+    check_row(&rt, alloc, &Row::ended("bytes", &source, &answer, &used))
+}
+
+#[test]
+fn texts_are_refused(rt: HostRuntime) -> Result<(), Fail> {
+    for (source, refusal) in REFUSALS {
+        check_row(&rt, rt.alloc(), &Row::refused(source, refusal))?;
+    }
+    Ok(())
+}
+
+#[test]
+fn long_texts_are_refused(rt: HostRuntime) -> Result<(), Fail> {
+    let alloc = rt.alloc();
+    let mut source = vec![in alloc; b' '; 1_048_576]?;
+    check_row(
+        &rt,
+        alloc,
+        &Row::refused(&source, "refused 95 Early line 1"),
+    )?;
+    source.push(b' ')?;
+    check_row(&rt, alloc, &Row::refused(&source, "refused 1 TooLong"))
+}
+
+#[test]
+fn many_lines_are_read(rt: HostRuntime) -> Result<(), Fail> {
+    let alloc = rt.alloc();
+    let mut source = Vec::from_slice(alloc, HEAD)?;
+    source.extend_from_slice(b"  SEQ\n")?;
+    for _ in 0..100_000 {
+        source.extend_from_slice(b"    SKIP\n")?;
+    }
+    source.extend_from_slice(b":\n")?;
+    let used = [Choice { which: 0, pick: 0 }];
+    check_row(&rt, alloc, &Row::ended("many lines", &source, b"", &used))
+}
+
+/// A letter at this level, below a sequence at each level between.
+fn nested(alloc: Global, level: usize) -> Result<Vec<u8>, AllocError> {
+    let mut source = Vec::from_slice(alloc, HEAD)?;
+    for outer in 1..level {
+        indent(&mut source, outer)?;
+        source.extend_from_slice(b"SEQ\n")?;
+    }
+    indent(&mut source, level)?;
+    source.extend_from_slice(b"screen ! 'A'\n:\n")?;
+    Ok(source)
+}
+
+fn indent(source: &mut Vec<u8>, level: usize) -> Result<(), AllocError> {
+    for _ in 0..level {
+        source.extend_from_slice(b"  ")?;
+    }
+    Ok(())
+}
+
+#[test]
+fn levels_are_read(rt: HostRuntime) -> Result<(), Fail> {
+    let alloc = rt.alloc();
+    let used = [Choice { which: 0, pick: 0 }, Choice { which: 1, pick: 0 }];
+    let deepest = nested(alloc, 64)?;
+    check_row(&rt, alloc, &Row::ended("64 levels", &deepest, b"A", &used))?;
+    let too_deep = nested(alloc, 65)?;
+    let mut answer = Vec::new(alloc);
+    let mut out = Counted::new(&mut answer);
+    let played = play(alloc, &too_deep, b"", &Plan::Turns(100), false, &mut out);
+    assert!(rt; matches!(played, Err(PlayFault::Early { .. })));
+    Ok(())
+}
