@@ -13,3 +13,6 @@ pub mod trace;
 pub use counted::Counted;
 pub use ending::{Choice, Ending, Plan};
 pub use trace::{Communication, End};
+
+#[cfg(test)]
+mod front_tests;
