@@ -47,17 +47,17 @@ one_more_turn p kb cs c body old new has open_end turns h =
     let x = turns h.net h.holds in
     let g = goes_if old.task.wait open_end in
     let o : OneTurn p c h.net x.next =
-        record {
-          number = 0;
-          body = body;
-          before = old.task;
-          after = x.after;
-          selects = ap (λ ts. selected (ready_from 0 ts) c.which) h.holds.tasks ∙ selects_it old.task.wait c.which g;
-          has_body = has;
-          has_task = ap (λ ts. slice_get ts 0) h.holds.tasks;
-          stops = x.stops;
-          settles = x.settles;
-        } in
+    record {
+      number = 0;
+      body = body;
+      before = old.task;
+      after = x.after;
+      selects = ap (λ ts. selected (ready_from 0 ts) c.which) h.holds.tasks ∙ selects_it old.task.wait c.which g;
+      has_body = has;
+      has_task = ap (λ ts. slice_get ts 0) h.holds.tasks;
+      stops = x.stops;
+      settles = x.settles;
+    } in
     record { net = x.next; replays = goes_on h.replays (ends_by old h.net h.holds ∙ open_end) o; holds = x.holds }
 
 pub may_stop : (p : Program) (kb : List ℕ) (cs : List Choice) (body : FlatCode) (n : Network) → WritesOnly p → slice_get p.bodies 0 ≡ Some body → 1 + length cs < 2 ^ 64 → ending_at n.task.wait ≡ None → HasReplayed p kb cs n → HasStop body n.task

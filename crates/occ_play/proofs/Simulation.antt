@@ -72,7 +72,7 @@ written {c = c} {m' = m'} {y = y} {a = a} {d = d} t m e w (task_gives {n = n} {t
     let sent : m' ≡ m = cc in
     let s = gets_same h in
     let tasks : slice_set a.tasks n (Some (made_ready u)) ≡ Some (made_ready t) ∷ [] =
-        ap (λ k. slice_set a.tasks k (Some (made_ready u))) there.0 ∙ ap (λ ts. slice_set ts 0 (Some (made_ready u))) e ∙ ap (λ z. Some (made_ready z) ∷ []) (sym there.1) in
+    ap (λ k. slice_set a.tasks k (Some (made_ready u))) there.0 ∙ ap (λ ts. slice_set ts 0 (Some (made_ready u))) e ∙ ap (λ z. Some (made_ready z) ∷ []) (sym there.1) in
     record {
       output = s.output ∙ ap (λ k. one_more a.output k m') chan ∙ ap (one_more a.output 1) sent;
       input = s.input ∙ ap (λ k. one_more a.input k m') chan ∙ ap (one_more a.input 1) sent;

@@ -39,10 +39,10 @@ lines_step names xs i x lt is start before after e f =
     let next : i + 1 ≡ suc i = omega arith in
     let count : 1 + length (take i xs) ≡ i + 1 = omega (arith, length-take-le i xs (omega (arith, lt))) in
     let more =
-        ap (λ n. lines_of names 1 (take n xs)) next
-        ∙ ap (lines_of names 1) (take-suc xs i x lt ∙ ap (λ y. take i xs ++ y ∷ []) (sym is))
-        ∙ lines_more names (take i xs) 1 x
-        ∙ ap (λ k. lines_of names 1 (take i xs) ++ line_text (entry_of names k (communication_of x))) count in
+    ap (λ n. lines_of names 1 (take n xs)) next
+    ∙ ap (lines_of names 1) (take-suc xs i x lt ∙ ap (λ y. take i xs ++ y ∷ []) (sym is))
+    ∙ lines_more names (take i xs) 1 x
+    ∙ ap (λ k. lines_of names 1 (take i xs) ++ line_text (entry_of names k (communication_of x))) count in
     f ∙ ap (λ l. l ++ line_text (entry_of names (i + 1) (communication_of x))) e
     ∙ append_assoc start (lines_of names 1 (take i xs)) (line_text (entry_of names (i + 1) (communication_of x)))
     ∙ ap (λ l. start ++ l) (sym more)

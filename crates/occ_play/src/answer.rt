@@ -19,7 +19,12 @@ use std::alloc::{AllocError, Global};
 /// Ends a line.
 const LINE_FEED: u8 = 10;
 
-fn write_value(alloc: Global, out: &mut Vec<u8>, primitive: Primitive, value: &i64) -> Result<(), AllocError>
+fn write_value(
+    alloc: Global,
+    out: &mut Vec<u8>,
+    primitive: Primitive,
+    value: &i64,
+) -> Result<(), AllocError>
     ensures { OnOk result (out.new.items ≡ out.old.items ++ value_text primitive value.now) }
 {
     match primitive {
@@ -45,7 +50,12 @@ fn write_number(alloc: Global, out: &mut Vec<u8>, number: u64) -> Result<(), All
 }
 
 /// The values of an array, each after a space.
-fn write_spaced(alloc: Global, out: &mut Vec<u8>, primitive: Primitive, values: &[i64]) -> Result<(), AllocError>
+fn write_spaced(
+    alloc: Global,
+    out: &mut Vec<u8>,
+    primitive: Primitive,
+    values: &[i64],
+) -> Result<(), AllocError>
     ensures { OnOk result (out.new.items ≡ out.old.items ++ spaced_text primitive values.now) }
 {
     for value in values {
@@ -55,7 +65,12 @@ fn write_spaced(alloc: Global, out: &mut Vec<u8>, primitive: Primitive, values: 
     Ok(())
 }
 
-fn write_array(alloc: Global, out: &mut Vec<u8>, primitive: Primitive, values: &[i64]) -> Result<(), AllocError>
+fn write_array(
+    alloc: Global,
+    out: &mut Vec<u8>,
+    primitive: Primitive,
+    values: &[i64],
+) -> Result<(), AllocError>
     ensures { OnOk result (out.new.items ≡ out.old.items ++ array_text primitive values.now) }
 {
     out.push(b'[')?;
@@ -93,7 +108,12 @@ fn write_later(alloc: Global, out: &mut Vec<u8>, parts: &[Part]) -> Result<(), A
 }
 
 /// The items of a message, of which a tag's name is the first.
-fn write_items(alloc: Global, out: &mut Vec<u8>, tag: Option<&[u8]>, parts: &[Part]) -> Result<(), AllocError>
+fn write_items(
+    alloc: Global,
+    out: &mut Vec<u8>,
+    tag: Option<&[u8]>,
+    parts: &[Part],
+) -> Result<(), AllocError>
     ensures { OnOk result (out.new.items ≡ out.old.items ++ items_text (option_copied tag.entry) parts.now) }
 {
     match tag {
@@ -136,7 +156,13 @@ fn channel_name<'a>(channels: &'a [Channel], chan: u32) -> &'a [u8]
 }
 
 /// The number, the channel's number and its name.
-fn write_head(alloc: Global, out: &mut Vec<u8>, number: u64, chan: u32, name: &[u8]) -> Result<(), AllocError>
+fn write_head(
+    alloc: Global,
+    out: &mut Vec<u8>,
+    number: u64,
+    chan: u32,
+    name: &[u8],
+) -> Result<(), AllocError>
     ensures { OnOk result (out.new.items ≡ out.old.items ++ head_text number chan name.now) }
 {
     write_number(alloc, out, number)?;
@@ -147,7 +173,12 @@ fn write_head(alloc: Global, out: &mut Vec<u8>, number: u64, chan: u32, name: &[
 }
 
 /// The two ends of a communication, between spaces.
-fn write_ends(alloc: Global, out: &mut Vec<u8>, sender: End, receiver: End) -> Result<(), AllocError>
+fn write_ends(
+    alloc: Global,
+    out: &mut Vec<u8>,
+    sender: End,
+    receiver: End,
+) -> Result<(), AllocError>
     ensures { OnOk result (out.new.items ≡ out.old.items ++ ends_text (end_of sender) (end_of receiver)) }
 {
     out.push(b' ')?;
@@ -186,7 +217,12 @@ fn write_line(
 }
 
 /// The lines of all communications, numbered from 1.
-fn write_trace(alloc: Global, out: &mut Vec<u8>, trace: &[Communication], channels: &[Channel]) -> Result<(), AllocError>
+fn write_trace(
+    alloc: Global,
+    out: &mut Vec<u8>,
+    trace: &[Communication],
+    channels: &[Channel],
+) -> Result<(), AllocError>
     requires { AreLetters (map communication_of trace.now) }
     ensures { OnOk result (out.new.items ≡ out.old.items ++ trace_text (entries (names_of channels.now) 1 (map communication_of trace.now))) }
 {
@@ -219,7 +255,11 @@ fn write_bytes(out: &mut Vec<u8>, trace: &[Communication], chan: u32) -> Result<
 }
 
 /// The byte of a communication, if it is on this channel.
-fn write_letter(out: &mut Vec<u8>, communication: &Communication, chan: u32) -> Result<(), AllocError>
+fn write_letter(
+    out: &mut Vec<u8>,
+    communication: &Communication,
+    chan: u32,
+) -> Result<(), AllocError>
     requires { IsByte communication.now.message }
     ensures { OnOk result (out.new.items ≡ out.old.items ++ bytes_of (sent_on chan (communication_of communication.now))) }
 {
@@ -230,7 +270,12 @@ fn write_letter(out: &mut Vec<u8>, communication: &Communication, chan: u32) -> 
 }
 
 /// The trace's lines and the ending's line; without the trace the ending's line alone, and nothing where the run ended.
-fn report(alloc: Global, trace: Option<&[Communication]>, channels: &[Channel], ending: Ending) -> Result<Vec<u8>, AllocError>
+fn report(
+    alloc: Global,
+    trace: Option<&[Communication]>,
+    channels: &[Channel],
+    ending: Ending,
+) -> Result<Vec<u8>, AllocError>
     requires { ForSome trace (λ xs. AreLetters (map communication_of xs.now)) }
     ensures { IfOk result (λ bytes. bytes.items ≡ report_of channels.now (option_copied trace.entry) ending) }
 {
@@ -256,7 +301,12 @@ fn joined(bytes: &mut Vec<u8>, report: &[u8]) -> Result<(), AllocError>
 }
 
 /// The answer of an outcome: the screen's bytes, the error channel's bytes and the report.
-pub(crate) fn answer(alloc: Global, outcome: &Outcome, channels: &[Channel], with_trace: bool) -> Result<Vec<u8>, AllocError>
+pub(crate) fn answer(
+    alloc: Global,
+    outcome: &Outcome,
+    channels: &[Channel],
+    with_trace: bool,
+) -> Result<Vec<u8>, AllocError>
     requires { AreLetters (map communication_of outcome.now.trace.items) }
     ensures { IfOk result (λ bytes. bytes.items ≡ answer_text (shown_by (names_of channels.now) (map communication_of outcome.now.trace.items)) outcome.now.ending with_trace) }
 {

@@ -6,22 +6,17 @@ ghost use Rattle.occ_play.specs.Playing.{AfterFault, IsAnswer, IsSomeAnswer, Ref
 ghost use Rattle.occ_term.specs.Unfolding.{Lawful};
 ghost use Rattle.occ_play.specs.Status.{status};
 
-
-
 use crate::answer::answer;
 use crate::counted::{Counted, write_answer};
 use crate::ending::{Choice, Ending, Plan};
 use crate::fault::PlayFault;
 use crate::front::{EarlyFault, unfold};
 use crate::running::{Outcome, run};
-
-
 use occ_code::{CodeFault, compile};
 use occ_term::{Checked, Refused, Unfolded, UsageFault, check_usage};
 use occ_text::{TextFault, read_lines};
 use std::alloc::{AllocError, Global};
 use std::io::Write;
-
 
 /// What a run came to.
 #[derive(Debug, Drop)]

@@ -43,7 +43,7 @@ loop-instr-preserved c =
     let f = c.args.task.now.frame in
     let before = reverse c.loop-instr.stack.items in
     let moves : effect c.code-code.result.now (point c.loop-instr.place (reverse c.loop-instr.stack.items) c.args.task.now.frame) ≡ Moves (point (c.loop-instr.place + 1) (c.in-Push.value ∷ reverse c.loop-instr.stack.items) c.args.task.now.frame) =
-        effect_at _ _ _ _ _ _ c.instr_at.ensures (c.in-Some.is ∙ ap Some c.in-Push.is) in
+    effect_at _ _ _ _ _ _ c.instr_at.ensures (c.in-Some.is ∙ ap Some c.in-Push.is) in
     let grown : c.in-Push.value ∷ reverse c.loop-instr.stack.items ≡ reverse c.push_top.new.stack.items = sym (c.in_ok-push_top-in-Push.ensures ∙ ap (λ v. v ∷ reverse c.loop-instr.stack.items) (to_z-of_z w64 c.in-Push.value (search rules))) in
     record {
       walked = subst (λ st. Walks c.code-code.result.now (point c.args.task.now.place [] c.args.task.now.frame) (point (c.loop-instr.place + 1) st c.args.task.now.frame)) grown (walks_join c.loop-instr.invariant.walked (on moves here));
