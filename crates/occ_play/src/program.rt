@@ -1,14 +1,16 @@
 //! The program around `play`: what it reads and prints, and its exit status.
-ghost use Rattle.std.specs.Prelude.{◌≡◌, ◌⊎◌, IfOk, IfSome, take};
+ghost use Rattle.std.specs.Prelude.{◌≡◌, ◌≢◌, ◌⊎◌, IfOk, IfSome, take};
+ghost use Rattle.std.specs.IoError.{error_kind};
+ghost use Rattle.clap.specs.Values.{kind_of};
 ghost use Rattle.occ_play.specs.Failures.{failure_status};
 
 use crate::counted::Counted;
 use crate::ending::Plan;
 use crate::playing::{play, status_of};
 use crate::words::{Words, read_words};
-use clap::error::ErrorKind;
+use clap::error::ErrorKind as WordsErrorKind;
 use std::alloc::{AllocError, Global};
-use std::io::Read;
+use std::io::{ErrorKind, Read};
 use std::rt::{Env, Files};
 use std::{env, fs, io};
 use thiserror::Error;
@@ -162,24 +164,34 @@ impl From<AllocError> for Failure {
     }
 }
 
-fn of_words(error: clap::Error) -> Failure {
+fn of_words(error: clap::Error) -> Failure
+    ensures help { kind_of error ≡ WordsErrorKind.DisplayHelp → result ≡ Failure.Help error }
+    ensures memory { kind_of error ≡ WordsErrorKind.OutOfMemory → result ≡ Failure.Memory }
+    ensures wrong { kind_of error ≢ WordsErrorKind.DisplayHelp → kind_of error ≢ WordsErrorKind.OutOfMemory → result ≡ Failure.Words error }
+{
     match error.kind() {
-        ErrorKind::DisplayHelp => Failure::Help(error),
-        ErrorKind::OutOfMemory => Failure::Memory,
+        WordsErrorKind::DisplayHelp => Failure::Help(error),
+        WordsErrorKind::OutOfMemory => Failure::Memory,
         _ => Failure::Words(error),
     }
 }
 
-fn of_read(error: io::Error) -> Failure {
+fn of_read(error: io::Error) -> Failure
+    ensures memory { error_kind error ≡ ErrorKind.OutOfMemory → result ≡ Failure.Memory }
+    ensures other { error_kind error ≢ ErrorKind.OutOfMemory → result ≡ Failure.Read }
+{
     match error.kind() {
-        io::ErrorKind::OutOfMemory => Failure::Memory,
+        ErrorKind::OutOfMemory => Failure::Memory,
         _ => Failure::Read,
     }
 }
 
-fn of_arguments(error: io::Error) -> Failure {
+fn of_arguments(error: io::Error) -> Failure
+    ensures memory { error_kind error ≡ ErrorKind.OutOfMemory → result ≡ Failure.Memory }
+    ensures other { error_kind error ≢ ErrorKind.OutOfMemory → result ≡ Failure.Arguments }
+{
     match error.kind() {
-        io::ErrorKind::OutOfMemory => Failure::Memory,
+        ErrorKind::OutOfMemory => Failure::Memory,
         _ => Failure::Arguments,
     }
 }
