@@ -1,4 +1,4 @@
-use Rattle.std.proofs.Common.{[], ◌∷◌, map, ap, subst, ◌∙◌}
+use Rattle.std.proofs.Common.{map, ap, subst, ◌∙◌}
 use Rattle.std.specs.Arc.{arc_value}
 use Rattle.occ_term.specs.Unfolding.{IsWellFormed}
 use Rattle.occ_term.specs.View.{term_of}
