@@ -8,6 +8,8 @@ mod contents;
 #[cfg(test)]
 mod first_programs;
 #[cfg(test)]
+mod laws;
+#[cfg(test)]
 mod layers;
 #[cfg(test)]
 mod memory;
