@@ -1,0 +1,3 @@
+pub mod ManyLoop
+pub mod Rows
+pub mod Steps

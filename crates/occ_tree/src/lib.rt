@@ -1,0 +1,8 @@
+//! The tree of a text: its lines read by the grammar.
+#![tactic(auto)]
+
+mod expressions;
+mod fault;
+pub mod tree;
+
+pub use fault::ParseFault;
