@@ -1,3 +1,7 @@
+pub mod Binds
+pub mod ExpressionAgain
+pub mod ExpressionSound
 pub mod ManyLoop
+pub mod Manys
 pub mod Rows
 pub mod Steps

@@ -3,6 +3,7 @@
 
 mod expressions;
 mod fault;
+pub mod laws;
 pub mod tree;
 
 pub use fault::ParseFault;
