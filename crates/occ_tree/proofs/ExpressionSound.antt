@@ -20,11 +20,11 @@ use Rattle.occ_tree.proofs.Manys.{many_sound}
 
 -- ---- single words
 
-open_bracket_is : (ws rest : List Word) → after_open_bracket ws ≡ Some rest → ws ≡ mark s.OpenBracket ∷ rest
+pub open_bracket_is : (ws rest : List Word) → after_open_bracket ws ≡ Some rest → ws ≡ mark s.OpenBracket ∷ rest
 open_bracket_is (mark s.OpenBracket ∷ ws) rest e = cc
 open_bracket_is _ rest e = absurd cc
 
-close_is : (ws rest : List Word) → after_close ws ≡ Some rest → ws ≡ mark s.CloseParen ∷ rest
+pub close_is : (ws rest : List Word) → after_close ws ≡ Some rest → ws ≡ mark s.CloseParen ∷ rest
 close_is (mark s.CloseParen ∷ ws) rest e = cc
 close_is _ rest e = absurd cc
 
@@ -133,7 +133,7 @@ abbrev pub IsOperand : ℕ → List Word → Operand × List Word → Type 0
 IsOperand n ws x = (ws ≡ show_operand x.0 ++ x.1) × (depth_operand x.0 ≤ n) × NarrowOperand x.0
 
 -- what is read inside of brackets has one bracket less
-abbrev IsInner : ℕ → Read Expression → Type 0
+abbrev pub IsInner : ℕ → Read Expression → Type 0
 IsInner n inner = (ws : List Word) (x : Expression × List Word) → inner ws ≡ Some x → (ws ≡ show_expression x.0 ++ x.1) × (depth x.0 < n) × Narrow x.0
 
 in_brackets : (w : Word) (xs inside mid rest : List Word) → xs ≡ inside ++ mid → mid ≡ w ∷ rest → xs ≡ (inside ++ w ∷ []) ++ rest
@@ -147,7 +147,7 @@ type_sound (mark s.OpenParen ∷ ws) x e =
     subst (λ (y : Option Primitive × List Word). mark s.OpenParen ∷ ws ≡ show_type y.0 ++ y.1) (some_is _ x b.2) (ap (λ (t : List Word). mark s.OpenParen ∷ t) whole)
 type_sound ws x e = subst (λ (y : Option Primitive × List Word). ws ≡ show_type y.0 ++ y.1) (some_is _ x e) refl
 
-index_sound : (n : ℕ) (inner : Read Expression) → IsInner n inner → (ws rest : List Word) (x : Expression × List Word) → after_open_bracket ws ≡ Some rest → index_with inner rest ≡ Some x
+pub index_sound : (n : ℕ) (inner : Read Expression) → IsInner n inner → (ws rest : List Word) (x : Expression × List Word) → after_open_bracket ws ≡ Some rest → index_with inner rest ≡ Some x
     → (ws ≡ (mark s.OpenBracket ∷ (show_expression x.0 ++ mark s.CloseBracket ∷ [])) ++ x.1) × ((depth x.0 < n) × Narrow x.0)
 index_sound n inner h ws rest x j e =
     let a = bind_some (inner rest) _ x e in

@@ -1,3 +1,4 @@
 pub mod Expressions
+pub mod Lines
 pub mod Lists
 pub mod Many

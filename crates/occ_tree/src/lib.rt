@@ -4,6 +4,7 @@
 mod expressions;
 mod fault;
 pub mod laws;
+mod lines;
 pub mod tree;
 
 pub use fault::ParseFault;

@@ -1,0 +1,4 @@
+//! Reading what stands in one line.
+
+pub mod head;
+pub mod separator;
