@@ -6,10 +6,8 @@ ghost use Rattle.occ_tree.specs.Expressions.Trees.{Expression};
 ghost use Rattle.occ_tree.specs.Expressions.Shown.{show_expression, depth, Narrow};
 ghost use Rattle.occ_tree.specs.Expressions.Reading.{expression_at};
 ghost use Rattle.occ_tree.specs.Expressions.Follow.{Stops};
-ghost use Rattle.occ_tree.specs.Lines.Trees.{Formals};
-ghost use Rattle.occ_tree.specs.Lines.Shown.{show_formals};
-ghost use Rattle.occ_tree.specs.Lines.Fits.{FitsFormals};
-ghost use Rattle.occ_tree.specs.Lines.Reading.{formals_at};
+ghost use Rattle.occ_tree.specs.Lines.Heads.{DeclHead, show_decl_head, FitsDeclHead, ProcessHead, show_process_head, FitsProcessHead};
+ghost use Rattle.occ_tree.specs.Lines.HeadReading.{decl_head_at, process_head_at};
 
 /// An expression that is read is shown so, with fewer than n brackets open.
 pub fn expression_sound()
@@ -22,5 +20,6 @@ pub fn expression_again()
 {}
 
 pub fn trial()
-    ensures { (b : ℕ) (ws : List Word) (x : Formals × List Word) → formals_at b ws ≡ Some x → (ws ≡ show_formals x.0 ++ x.1) × FitsFormals b x.0 }
+    ensures sound { (b : ℕ) (ws : List Word) (h : DeclHead) → decl_head_at b ws ≡ Some h → (ws ≡ show_decl_head h) × FitsDeclHead b h }
+    ensures process { (b : ℕ) (ws : List Word) (h : ProcessHead) → process_head_at b ws ≡ Some h → (ws ≡ show_process_head h) × FitsProcessHead b h }
 {}

@@ -1,5 +1,8 @@
-use Rattle.occ_tree.proofs.LineSound.{formals_sound}
+use Rattle.occ_tree.proofs.HeadSound.{decl_head_sound, process_head_sound}
 use Rattle.occ_tree.proofs.laws.trial.Goals as goal
 
-pub returns : goal.returns
-returns c = formals_sound
+pub returns-clause-sound : goal.returns-clause-sound
+returns-clause-sound c = decl_head_sound
+
+pub returns-clause-process : goal.returns-clause-process
+returns-clause-process c = process_head_sound
