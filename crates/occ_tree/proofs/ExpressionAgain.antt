@@ -99,7 +99,7 @@ type_again (Some p) ws h = rw (prim_again p (mark s.CloseParen ∷ ws)) refl
 
 -- ---- the lists in an expression
 
-pub operand_list : Operands → List Operand
+unfoldable pub operand_list : Operands → List Operand
 operand_list no_operand = []
 operand_list (more_operands a rest) = a ∷ operand_list rest
 
@@ -108,7 +108,7 @@ unfolding operand_list
 operands_of_list no_operand = refl
 operands_of_list (more_operands a rest) = ap (more_operands a) (operands_of_list rest)
 
-pub expression_list : Expressions → List Expression
+unfoldable pub expression_list : Expressions → List Expression
 expression_list no_expression = []
 expression_list (more_expressions e rest) = e ∷ expression_list rest
 

@@ -2,6 +2,7 @@ pub mod Binds
 pub mod ExpressionAgain
 pub mod ExpressionSound
 pub mod HeadSound
+pub mod LineAgain
 pub mod LineSound
 pub mod ManyLoop
 pub mod Manys

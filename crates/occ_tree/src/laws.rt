@@ -6,6 +6,10 @@ ghost use Rattle.occ_tree.specs.Expressions.Trees.{Expression};
 ghost use Rattle.occ_tree.specs.Expressions.Shown.{show_expression, depth, Narrow};
 ghost use Rattle.occ_tree.specs.Expressions.Reading.{expression_at};
 ghost use Rattle.occ_tree.specs.Expressions.Follow.{Stops};
+ghost use Rattle.occ_tree.specs.Lines.Trees.{Formals};
+ghost use Rattle.occ_tree.specs.Lines.Shown.{show_formals};
+ghost use Rattle.occ_tree.specs.Lines.Fits.{FitsFormals};
+ghost use Rattle.occ_tree.specs.Lines.Reading.{formals_at};
 ghost use Rattle.occ_tree.specs.Lines.Heads.{DeclHead, show_decl_head, FitsDeclHead, ProcessHead, show_process_head, FitsProcessHead};
 ghost use Rattle.occ_tree.specs.Lines.HeadReading.{decl_head_at, process_head_at};
 
@@ -22,4 +26,5 @@ pub fn expression_again()
 pub fn trial()
     ensures sound { (b : ℕ) (ws : List Word) (h : DeclHead) → decl_head_at b ws ≡ Some h → (ws ≡ show_decl_head h) × FitsDeclHead b h }
     ensures process { (b : ℕ) (ws : List Word) (h : ProcessHead) → process_head_at b ws ≡ Some h → (ws ≡ show_process_head h) × FitsProcessHead b h }
+    ensures forms { (b : ℕ) (fs : Formals) (ws : List Word) → FitsFormals b fs → formals_at b (show_formals fs ++ ws) ≡ Some (fs, ws) }
 {}
