@@ -1,6 +1,7 @@
 pub mod Binds
 pub mod ExpressionAgain
 pub mod ExpressionSound
+pub mod HeadAgain
 pub mod HeadSound
 pub mod LineAgain
 pub mod LineSound

@@ -26,5 +26,7 @@ pub fn expression_again()
 pub fn trial()
     ensures sound { (b : ℕ) (ws : List Word) (h : DeclHead) → decl_head_at b ws ≡ Some h → (ws ≡ show_decl_head h) × FitsDeclHead b h }
     ensures process { (b : ℕ) (ws : List Word) (h : ProcessHead) → process_head_at b ws ≡ Some h → (ws ≡ show_process_head h) × FitsProcessHead b h }
+    ensures again { (b : ℕ) (h : DeclHead) → FitsDeclHead b h → decl_head_at b (show_decl_head h) ≡ Some h }
+    ensures process_again { (b : ℕ) (h : ProcessHead) → FitsProcessHead b h → process_head_at b (show_process_head h) ≡ Some h }
     ensures forms { (b : ℕ) (fs : Formals) (ws : List Word) → FitsFormals b fs → formals_at b (show_formals fs ++ ws) ≡ Some (fs, ws) }
 {}

@@ -1,3 +1,4 @@
+use Rattle.occ_tree.proofs.HeadAgain.{decl_head_again, process_head_again}
 use Rattle.occ_tree.proofs.LineAgain.{formals_again}
 use Rattle.occ_tree.proofs.HeadSound.{decl_head_sound, process_head_sound}
 use Rattle.occ_tree.proofs.laws.trial.Goals as goal
@@ -10,3 +11,9 @@ returns-clause-process c = process_head_sound
 
 pub returns-clause-forms : goal.returns-clause-forms
 returns-clause-forms c = formals_again
+
+pub returns-clause-again : goal.returns-clause-again
+returns-clause-again c = decl_head_again
+
+pub returns-clause-process_again : goal.returns-clause-process_again
+returns-clause-process_again c = process_head_again
