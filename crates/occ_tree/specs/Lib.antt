@@ -2,3 +2,4 @@ pub mod Expressions
 pub mod Lines
 pub mod Lists
 pub mod Many
+pub mod Processes

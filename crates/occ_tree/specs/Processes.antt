@@ -1,0 +1,5 @@
+-- Processes and their parts: trees, their written form, and reading them, line by line.
+pub mod Trees
+pub mod Shown
+pub mod Fits
+pub mod Reading
