@@ -7,5 +7,6 @@ pub mod LineAgain
 pub mod LineSound
 pub mod ManyLoop
 pub mod Manys
+pub mod ProcessSound
 pub mod Rows
 pub mod Steps

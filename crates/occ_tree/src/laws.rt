@@ -1,7 +1,12 @@
 //! Laws of the written form, which no code uses.
 
 ghost use Rattle.std.specs.Prelude.{◌≡◌, ◌<◌, ℕ, Some, List, ◌++◌};
-ghost use Rattle.occ_text.specs.Words.{Word};
+ghost use Rattle.occ_text.specs.Words.{Word, Row};
+ghost use Rattle.occ_tree.specs.Lists.{Each};
+ghost use Rattle.occ_tree.specs.Processes.Trees.{Item};
+ghost use Rattle.occ_tree.specs.Processes.Shown.{show_program};
+ghost use Rattle.occ_tree.specs.Processes.Fits.{FitsItem};
+ghost use Rattle.occ_tree.specs.Processes.Reading.{program_at};
 ghost use Rattle.occ_tree.specs.Expressions.Trees.{Expression};
 ghost use Rattle.occ_tree.specs.Expressions.Shown.{show_expression, depth, Narrow};
 ghost use Rattle.occ_tree.specs.Expressions.Reading.{expression_at};
@@ -28,5 +33,6 @@ pub fn trial()
     ensures process { (b : ℕ) (ws : List Word) (h : ProcessHead) → process_head_at b ws ≡ Some h → (ws ≡ show_process_head h) × FitsProcessHead b h }
     ensures again { (b : ℕ) (h : DeclHead) → FitsDeclHead b h → decl_head_at b (show_decl_head h) ≡ Some h }
     ensures process_again { (b : ℕ) (h : ProcessHead) → FitsProcessHead b h → process_head_at b (show_process_head h) ≡ Some h }
+    ensures whole { (b n : ℕ) (rows : List Row) (all : List Item) → program_at b n rows ≡ Some all → (rows ≡ show_program all) × Each (λ i. FitsItem b n i) all }
     ensures forms { (b : ℕ) (fs : Formals) (ws : List Word) → FitsFormals b fs → formals_at b (show_formals fs ++ ws) ≡ Some (fs, ws) }
 {}

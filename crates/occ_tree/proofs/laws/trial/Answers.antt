@@ -1,3 +1,4 @@
+use Rattle.occ_tree.proofs.ProcessSound.{program_sound}
 use Rattle.occ_tree.proofs.HeadAgain.{decl_head_again, process_head_again}
 use Rattle.occ_tree.proofs.LineAgain.{formals_again}
 use Rattle.occ_tree.proofs.HeadSound.{decl_head_sound, process_head_sound}
@@ -17,3 +18,6 @@ returns-clause-again c = decl_head_again
 
 pub returns-clause-process_again : goal.returns-clause-process_again
 returns-clause-process_again c = process_head_again
+
+pub returns-clause-whole : goal.returns-clause-whole
+returns-clause-whole c = program_sound
