@@ -1,4 +1,5 @@
 pub mod Binds
+pub mod Colons
 pub mod ExpressionAgain
 pub mod ExpressionSound
 pub mod HeadAgain
@@ -7,6 +8,7 @@ pub mod LineAgain
 pub mod LineSound
 pub mod ManyLoop
 pub mod Manys
+pub mod ProcessAgain
 pub mod ProcessSound
 pub mod Rows
 pub mod Steps

@@ -34,5 +34,6 @@ pub fn trial()
     ensures again { (b : ℕ) (h : DeclHead) → FitsDeclHead b h → decl_head_at b (show_decl_head h) ≡ Some h }
     ensures process_again { (b : ℕ) (h : ProcessHead) → FitsProcessHead b h → process_head_at b (show_process_head h) ≡ Some h }
     ensures whole { (b n : ℕ) (rows : List Row) (all : List Item) → program_at b n rows ≡ Some all → (rows ≡ show_program all) × Each (λ i. FitsItem b n i) all }
+    ensures unique { (b n : ℕ) → 0 < b → (p q : List Item) → Each (λ i. FitsItem b n i) p → Each (λ i. FitsItem b n i) q → show_program p ≡ show_program q → p ≡ q }
     ensures forms { (b : ℕ) (fs : Formals) (ws : List Word) → FitsFormals b fs → formals_at b (show_formals fs ++ ws) ≡ Some (fs, ws) }
 {}

@@ -1,3 +1,4 @@
+use Rattle.occ_tree.proofs.ProcessAgain.{one_program}
 use Rattle.occ_tree.proofs.ProcessSound.{program_sound}
 use Rattle.occ_tree.proofs.HeadAgain.{decl_head_again, process_head_again}
 use Rattle.occ_tree.proofs.LineAgain.{formals_again}
@@ -21,3 +22,6 @@ returns-clause-process_again c = process_head_again
 
 pub returns-clause-whole : goal.returns-clause-whole
 returns-clause-whole c = program_sound
+
+pub returns-clause-unique : goal.returns-clause-unique
+returns-clause-unique c = one_program
