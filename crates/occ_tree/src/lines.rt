@@ -1,4 +1,9 @@
 //! Reading what stands in one line.
 
 pub mod head;
+pub mod item;
+pub mod kind;
+pub mod list;
+pub mod read_head;
 pub mod separator;
+pub mod word;

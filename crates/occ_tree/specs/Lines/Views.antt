@@ -22,9 +22,11 @@ use Rattle.occ_tree.specs.declared.tree.line.Spec.TheVariants as specs
 use Rattle.occ_tree.specs.declared.tree.line.Formal.{Formal as FormalTree}
 use Rattle.occ_tree.specs.declared.tree.line.Formals.{Formals as FormalsTree}
 use Rattle.occ_tree.specs.declared.tree.line.OneOrMore.{OneOrMore}
+use Rattle.occ_tree.specs.declared.lines.item.Received.{Received as ReceivedTree}
+use Rattle.occ_tree.specs.declared.lines.item.Received.TheVariants as receiveds
 use Rattle.occ_tree.specs.declared.tree.expr.Expr.{Expr}
 use Rattle.occ_tree.specs.Expressions.Trees.{Expression, Expressions, expression_of, expressions}
-use Rattle.occ_tree.specs.Lines.Trees.{Var, var, Target, into, into_counted, Out, from, from_counted, Input, items, tagged, Replicator, each, Part, single, counted, Carried, carries, follows, Sort, of_data, of_channel, Size, open_size, given, ValueType, value_type, Spec, by_value, by_reference, by_channel, Formal, formal, Formals, no_formals, formals, Actuals, no_actuals, actuals}
+use Rattle.occ_tree.specs.Lines.Trees.{Var, var, Target, into, into_counted, Out, from, from_counted, Input, items, tagged, Received, in_line, by_variant, Replicator, each, Part, single, counted, Carried, carries, follows, Sort, of_data, of_channel, Size, open_size, given, ValueType, value_type, Spec, by_value, by_reference, by_channel, Formal, formal, Formals, no_formals, formals, Actuals, no_actuals, actuals}
 
 abbrev pub var_of : VarTree → Var
 var_of v = var v.name.items (expressions (map expression_of v.subscripts.items))
@@ -78,3 +80,7 @@ formals_of (Some f) = formals (spec_of f.spec) f.name.items (map formal_of f.oth
 abbrev pub actuals_of : Option (OneOrMore Expr) → Actuals
 actuals_of None = no_actuals
 actuals_of (Some es) = actuals (expression_of es.first) (map expression_of es.others.items)
+
+abbrev pub received_of : ReceivedTree → Received
+received_of (receiveds.Input i) = in_line (input_of i)
+received_of (receiveds.Variants v) = by_variant (var_of v)

@@ -14,7 +14,7 @@ use occ_text::{Key, Sym, Token};
 use std::alloc::Global;
 
 /// How many subscripts a name may have, and how many sizes a type.
-const DIMENSIONS: usize = 1;
+pub const DIMENSIONS: usize = 1;
 
 /// The type of a literal, where it is given.
 fn type_mark(line: u32, tokens: &[Token]) -> Result<(Option<Prim>, &[Token]), ParseFault>
@@ -32,7 +32,7 @@ fn type_mark(line: u32, tokens: &[Token]) -> Result<(Option<Prim>, &[Token]), Pa
 
 /// What stands in a bracket that was opened, and the bracket that closes.
 #[cycle(reading)]
-fn index(
+pub fn index(
     alloc: Global,
     left: u32,
     line: u32,

@@ -1,0 +1,1 @@
+//! Reading the lines at the head of processes and of their parts.
