@@ -18,7 +18,7 @@ use Rattle.occ_tree.specs.Lines.Shown.{show_listed, show_name, show_var, show_ta
 use Rattle.occ_tree.specs.Lines.Fits.{FitsExpression, FitsVar, FitsTarget, FitsOut, FitsReceived, FitsReplicator, FitsPart, FitsCarried, FitsSizes, FitsSort, FitsValueType, FitsActuals, FitsFormals}
 use Rattle.occ_tree.specs.Lines.Reading.{listed_at, name_at, after_colon, var_at, target_at, out_at, replicator_at, part_at, received_at, after_question, actuals_at, formals_at}
 use Rattle.occ_tree.specs.Lines.Heads.{ProcessHead, skip, stop, assign, input, output, call, sequence, parallel, alternation, conditional, selection, loop, ChoiceHead, chosen, nested_conditional, OptionHead, values, otherwise, ArmHead, guarded, guarded_skip, nested_alternation, VariantHead, tag, DeclHead, names, value, parts, tags, procedure, TagHead, tag_parts, show_process_head, show_choice_head, show_option_head, show_arm_head, show_variant_head, show_decl_head, show_tag_head, show_value_kind, FitsProcessHead, FitsChoiceHead, FitsOptionHead, FitsArmHead, FitsVariantHead, FitsDeclHead, FitsTagHead}
-use Rattle.occ_tree.specs.Lines.HeadReading.{assignment_at, after_var, process_head_at, condition_at, choice_head_at, values_at, option_head_at, as_var, after_condition, guard_at, arm_head_at, variant_head_at, names_at, sort_at, named_value_at, typed_value_at, value_at, decl_head_at, tag_head_at}
+use Rattle.occ_tree.specs.Lines.HeadReading.{assignment_at, after_var, process_head_at, condition_at, choice_head_at, values_at, option_head_at, as_var, reception_at, after_condition, guard_at, arm_head_at, variant_head_at, names_at, sort_at, named_value_at, typed_value_at, value_at, decl_head_at, tag_head_at}
 use Rattle.occ_tree.specs.Lines.Follow.{Ends, begins_expression, Begins}
 use Rattle.occ_tree.proofs.ExpressionAgain.{prim_again, sizes_again, expression_list, expressions_of_list}
 use Rattle.occ_tree.proofs.LineAgain.{Last, listed_again, last_again, listed_ends, name_again, fits_again, last_expression_again, var_again, ended_var_again, target_again, out_again, channel, show_tail, tail_shown, channel_fits, received_again, replicator_again, expression_begins, actuals_again, part_again, carried_again, value_type_again, BeginsType, value_type_begins, formals_again}
@@ -27,7 +27,7 @@ use Rattle.occ_tree.proofs.LineAgain.{Last, listed_again, last_again, listed_end
 
 -- a variable at the front, where no bracket of a call follows
 var_first : (b : ℕ) (v : Var) (ws : List Word) → Plain ws → process_head_at b (show_var v ++ ws) ≡ (var_at b (show_var v ++ ws) >>= λ x. after_var b x.0 x.1)
-unfolding process_head_at
+unfolding process_head_at var_at
 var_first b (var n no_expression) (mark s.OpenParen ∷ ws) h = absurd cc
 var_first b (var n no_expression) _ h = refl
 var_first b (var n (more_expressions e es)) ws h = refl
@@ -144,7 +144,7 @@ channel_read b (var n es) ws pos f =
     no_alt b (name n ∷ (show_indices es ++ mark s.Question ∷ ws)) refl ∙ rw (fits_again b (alone (variable n es)) (mark s.Question ∷ ws) (d', (f.2, f.1)) (refl, refl, refl)) refl
 
 -- the channel begins by no SKIP
-no_skip : (b : ℕ) (e : Expression) (v : Var) (ws : List Word) → after_condition b e (mark s.Ampersand ∷ (show_var v ++ ws)) ≡ (var_at b (show_var v ++ ws) >>= λ x. after_question x.1 >>= λ rest. received_at b x.0 rest >>= λ r. Some (guarded (Some e) r))
+no_skip : (b : ℕ) (e : Expression) (v : Var) (ws : List Word) → after_condition b e (mark s.Ampersand ∷ (show_var v ++ ws)) ≡ (reception_at b (show_var v ++ ws) >>= λ r. Some (guarded (Some e) r))
 no_skip b e (var n es) ws = refl
 
 boolean_again : (b : ℕ) (e : Expression) (r : Received) → FitsExpression b e → FitsReceived b r → arm_head_at b (show_expression e ++ mark s.Ampersand ∷ show_received r) ≡ Some (guarded (Some e) r)

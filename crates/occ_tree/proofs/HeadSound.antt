@@ -15,7 +15,7 @@ use Rattle.occ_tree.specs.Lines.Shown.{show_listed, show_name, show_var, show_ta
 use Rattle.occ_tree.specs.Lines.Fits.{FitsExpression, FitsVar, FitsSizes, FitsSort, FitsTarget, FitsOut, FitsPart, FitsValueType}
 use Rattle.occ_tree.specs.Lines.Reading.{listed_at, name_at, after_assign, after_question, after_is, after_colon, var_at, target_at, out_at, received_at, replicator_at, actuals_at, part_at, carried_at, value_type_at, formals_at}
 use Rattle.occ_tree.specs.Lines.Heads.{ProcessHead, skip, stop, assign, input, ChoiceHead, chosen, OptionHead, values, otherwise, ArmHead, guarded, guarded_skip, VariantHead, DeclHead, names, value, tags, TagHead, show_process_head, show_choice_head, show_option_head, show_arm_head, show_variant_head, show_value_kind, show_decl_head, show_tag_head, FitsProcessHead, FitsChoiceHead, FitsOptionHead, FitsArmHead, FitsVariantHead, FitsDeclHead, FitsTagHead}
-use Rattle.occ_tree.specs.Lines.HeadReading.{assignment_at, after_var, process_head_at, condition_at, choice_head_at, values_at, option_head_at, as_var, after_condition, guard_at, arm_head_at, variant_head_at, names_at, sort_at, named_value_at, typed_value_at, value_at, decl_head_at, tag_head_at}
+use Rattle.occ_tree.specs.Lines.HeadReading.{assignment_at, after_var, process_head_at, condition_at, choice_head_at, values_at, option_head_at, as_var, reception_at, after_condition, guard_at, arm_head_at, variant_head_at, names_at, sort_at, named_value_at, typed_value_at, value_at, decl_head_at, tag_head_at}
 use Rattle.occ_tree.proofs.Binds.{bind_some, some_is, ended_is, after}
 use Rattle.occ_tree.proofs.ExpressionSound.{prim_is, sizes_sound}
 use Rattle.occ_tree.proofs.LineSound.{IsWhole, listed_sound, last_listed, name_is, name_sound, fits_sound, last_expression, var_sound, target_sound, out_sound, received_sound, replicator_sound, actuals_sound, part_sound, carried_sound, value_type_sound, formals_sound}
@@ -77,7 +77,7 @@ var_first_sound b ws h x =
     (p.0 ∙ q.0, q.1)
 
 pub process_head_sound : (b : ℕ) (ws : List Word) (h : ProcessHead) → process_head_at b ws ≡ Some h → (ws ≡ show_process_head h) × FitsProcessHead b h
-unfolding process_head_at
+unfolding process_head_at var_at
 process_head_sound b (key k.Skip ∷ ws) h x = let q = ended_is skip ws h x in subst (IsProcess b (key k.Skip ∷ ws)) q.1 (ap (λ (u : List Word). key k.Skip ∷ u) q.0, tt)
 process_head_sound b (key k.Stop ∷ ws) h x = let q = ended_is stop ws h x in subst (IsProcess b (key k.Stop ∷ ws)) q.1 (ap (λ (u : List Word). key k.Stop ∷ u) q.0, tt)
 process_head_sound b (key k.Seq ∷ ws) h x =
@@ -166,15 +166,15 @@ as_var_sound : (b : ℕ) (e : Expression) → FitsExpression b e → (v : Var) �
 as_var_sound b (alone (variable n es)) f v x = subst (λ (w : Var). (name n ∷ show_indices es ≡ show_var w) × FitsVar b w) (some_is (var n es) v x) (refl, (let d : depth_indices es < b = f.0 in omega arith, f.1.1, f.1.0))
 as_var_sound b _ f v x = absurd cc
 
-boolean_sound : (b : ℕ) (e : Expression) → FitsExpression b e → (ws : List Word) (h : ArmHead) → (var_at b ws >>= λ v. after_question v.1 >>= λ rest. received_at b v.0 rest >>= λ r. Some (guarded (Some e) r)) ≡ Some h → IsArm b (show_expression e ++ mark s.Ampersand ∷ ws) h
+boolean_sound : (b : ℕ) (e : Expression) → FitsExpression b e → (ws : List Word) (h : ArmHead) → (reception_at b ws >>= λ r. Some (guarded (Some e) r)) ≡ Some h → IsArm b (show_expression e ++ mark s.Ampersand ∷ ws) h
 boolean_sound b e f ws h x =
-    let v = bind_some (var_at b ws) (λ v. after_question v.1 >>= λ rest. received_at b v.0 rest >>= λ r. Some (guarded (Some e) r)) h x in
-    let rest = bind_some (after_question v.0.1) _ h v.2 in
-    let r = bind_some (received_at b v.0.0 rest.0) _ h rest.2 in
+    let all = bind_some (reception_at b ws) (λ r. Some (guarded (Some e) r)) h x in
+    let v = bind_some (var_at b ws) _ all.0 all.1 in
+    let rest = bind_some (after_question v.0.1) _ all.0 v.2 in
     let p = var_sound b ws v.0 v.1 in
-    let q = received_sound b v.0.0 p.1 rest.0 r.0 r.1 in
-    let whole : ws ≡ show_received r.0 = p.0 ∙ ap (λ (u : List Word). show_var v.0.0 ++ u) (question_is v.0.1 rest.0 rest.1) ∙ q.0 in
-    subst (IsArm b (show_expression e ++ mark s.Ampersand ∷ ws)) (some_is _ h r.2) (ap (λ (u : List Word). show_expression e ++ mark s.Ampersand ∷ u) whole, (f, q.1))
+    let q = received_sound b v.0.0 p.1 rest.0 all.0 rest.2 in
+    let whole : ws ≡ show_received all.0 = p.0 ∙ ap (λ (u : List Word). show_var v.0.0 ++ u) (question_is v.0.1 rest.0 rest.1) ∙ q.0 in
+    subst (IsArm b (show_expression e ++ mark s.Ampersand ∷ ws)) (some_is _ h all.2) (ap (λ (u : List Word). show_expression e ++ mark s.Ampersand ∷ u) whole, (f, q.1))
 
 after_condition_sound : (b : ℕ) (e : Expression) → FitsExpression b e → (ws : List Word) (h : ArmHead) → after_condition b e ws ≡ Some h → IsArm b (show_expression e ++ ws) h
 after_condition_sound b e f (mark s.Question ∷ ws) h x =
@@ -204,6 +204,7 @@ arm_head_sound b (key k.Pri ∷ key k.Alt ∷ ws) h x =
     let r = bind_some (replicator_at b ws) _ h x in
     let p = replicator_sound b ws r.0 r.1 in
     subst (IsArm b (key k.Pri ∷ key k.Alt ∷ ws)) (some_is _ h r.2) (ap (λ (u : List Word). key k.Pri ∷ key k.Alt ∷ u) p.0, p.1)
+arm_head_sound b (key k.Pri ∷ _) h x = absurd cc
 arm_head_sound b ws h x = guard_sound b ws h x
 
 pub variant_head_sound : (b : ℕ) (ws : List Word) (h : VariantHead) → variant_head_at b ws ≡ Some h → (ws ≡ show_variant_head h) × FitsVariantHead b h
@@ -297,12 +298,14 @@ decl_head_sound b (key k.Protocol ∷ name v ∷ key k.Is ∷ ws) h x =
     let shown = show_listed separators.Semicolon show_part ps.0.0 in
     let whole : ws ≡ show_part p.0.0 ++ (shown ++ mark s.Colon ∷ []) = q.0 ∙ ap (λ (u : List Word). show_part p.0.0 ++ u) (r.0 ∙ ap (λ (u : List Word). shown ++ u) (colon_is ps.0.1 rest.0 rest.1 ∙ ap (λ (u : List Word). mark s.Colon ∷ u) nothing.0)) in
     subst (IsDecl b (key k.Protocol ∷ name v ∷ key k.Is ∷ ws)) nothing.1 (ap (λ (u : List Word). key k.Protocol ∷ name v ∷ key k.Is ∷ u) whole, (q.1, r.1))
+decl_head_sound b (key k.Protocol ∷ _) h x = absurd cc
 decl_head_sound b (key k.Proc ∷ name v ∷ mark s.OpenParen ∷ ws) h x =
     let fs = bind_some (formals_at b ws) _ h x in
     let q = ended_is _ fs.0.1 h fs.2 in
     let p = formals_sound b ws fs.0 fs.1 in
     let whole = p.0 ∙ ap (λ (u : List Word). show_formals fs.0.0 ++ u) q.0 ∙ append-nil (show_formals fs.0.0) in
     subst (IsDecl b (key k.Proc ∷ name v ∷ mark s.OpenParen ∷ ws)) q.1 (ap (λ (u : List Word). key k.Proc ∷ name v ∷ mark s.OpenParen ∷ u) whole, p.1)
+decl_head_sound b (key k.Proc ∷ _) h x = absurd cc
 decl_head_sound b ws h x = declared_sound b ws h x
 
 pub tag_head_sound : (b : ℕ) (ws : List Word) (h : TagHead) → tag_head_at b ws ≡ Some h → (ws ≡ show_tag_head h) × FitsTagHead b h

@@ -6,4 +6,5 @@ pub mod Fits
 pub mod Reading
 pub mod Heads
 pub mod HeadReading
+pub mod HeadViews
 pub mod Follow

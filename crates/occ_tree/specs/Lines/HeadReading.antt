@@ -7,8 +7,8 @@ use Rattle.occ_tree.specs.declared.lines.separator.Separator.TheVariants as sepa
 use Rattle.occ_tree.specs.Many.{◌>>=◌, ended}
 use Rattle.occ_tree.specs.Expressions.Trees.{Expression, alone, Operand, variable, Expressions, expressions}
 use Rattle.occ_tree.specs.Expressions.Reading.{Read, prim_at, indices_with, expression_at}
-use Rattle.occ_tree.specs.Lines.Trees.{Var, var, Sort, of_data, of_channel, ValueType}
-use Rattle.occ_tree.specs.Lines.Reading.{listed_at, name_at, after_assign, after_question, after_is, after_colon, var_at, target_at, out_at, received_at, replicator_at, actuals_at, part_at, carried_at, value_type_at, formals_at}
+use Rattle.occ_tree.specs.Lines.Trees.{Var, var, Received, Sort, of_data, of_channel, ValueType}
+use Rattle.occ_tree.specs.Lines.Reading.{listed_at, name_at, after_assign, after_question, after_is, after_colon, var_named, var_at, target_at, out_at, received_at, replicator_at, actuals_at, part_at, carried_at, value_type_at, formals_at}
 use Rattle.occ_tree.specs.Lines.Heads.{ProcessHead, skip, stop, assign, input, output, call, sequence, parallel, alternation, conditional, selection, loop, ChoiceHead, chosen, nested_conditional, OptionHead, values, otherwise, ArmHead, guarded, guarded_skip, nested_alternation, VariantHead, tag, DeclHead, names, value, parts, tags, procedure, TagHead, tag_parts}
 
 -- ---- processes
@@ -31,6 +31,25 @@ after_var b v (mark s.Exclamation ∷ ws) = do
   os ← listed_at separators.Semicolon (out_at b) o.1
   ended (output v o.0 os.0) os.1
 after_var b v ws = assignment_at b v ws
+
+abbrev pub var_first : ℕ → List ℕ → List Word → Option ProcessHead
+var_first b v ws = do
+  x ← var_named b v ws
+  after_var b x.0 x.1
+
+abbrev pub after_open : List Word → Option (List Word)
+after_open (mark s.OpenParen ∷ ws) = Some ws
+after_open _ = None
+
+abbrev pub called : ℕ → List ℕ → Option (List Word) → List Word → Option ProcessHead
+called b v (Some ws) all = do
+  es ← actuals_at b ws
+  ended (call v es.0) es.1
+called b v None all = var_first b v all
+
+-- what follows the name at the front: a call, or the rest of a variable or a channel
+abbrev pub name_first : ℕ → List ℕ → List Word → Option ProcessHead
+name_first b v ws = called b v (after_open ws) ws
 
 unfoldable pub process_head_at : ℕ → List Word → Option ProcessHead
 process_head_at b (key k.Skip ∷ ws) = ended skip ws
@@ -56,12 +75,7 @@ process_head_at b (key k.Case ∷ ws) = do
 process_head_at b (key k.While ∷ ws) = do
   e ← expression_at b ws
   ended (loop e.0) e.1
-process_head_at b (name v ∷ mark s.OpenParen ∷ ws) = do
-  es ← actuals_at b ws
-  ended (call v es.0) es.1
-process_head_at b (name v ∷ ws) = do
-  x ← var_at b (name v ∷ ws)
-  after_var b x.0 x.1
+process_head_at b (name v ∷ ws) = name_first b v ws
 process_head_at b _ = None
 
 -- ---- choices and options
@@ -89,22 +103,42 @@ option_head_at b ws = values_at b ws
 
 -- ---- arms and variants
 
+abbrev pub operand_var : Operand → Option Var
+operand_var (variable v es) = Some (var v es)
+operand_var _ = None
+
 -- the expression, where it is a variable or a channel
 abbrev pub as_var : Expression → Option Var
-as_var (alone (variable v es)) = Some (var v es)
+as_var (alone a) = operand_var a
 as_var _ = None
 
-abbrev pub after_condition : ℕ → Expression → List Word → Option ArmHead
-after_condition b e (mark s.Question ∷ ws) = do
-  v ← as_var e
-  r ← received_at b v ws
-  Some (guarded None r)
-after_condition b e (mark s.Ampersand ∷ key k.Skip ∷ ws) = ended (guarded_skip e) ws
-after_condition b e (mark s.Ampersand ∷ ws) = do
+-- a channel and what is received from it
+abbrev pub reception_at : ℕ → List Word → Option Received
+reception_at b ws = do
   v ← var_at b ws
   rest ← after_question v.1
-  r ← received_at b v.0 rest
+  received_at b v.0 rest
+
+abbrev pub boolean_at : ℕ → Expression → List Word → Option ArmHead
+boolean_at b e ws = do
+  r ← reception_at b ws
   Some (guarded (Some e) r)
+
+-- what follows a Boolean and its ampersand
+abbrev pub after_and : ℕ → Expression → List Word → Option ArmHead
+after_and b e (key k.Skip ∷ ws) = ended (guarded_skip e) ws
+after_and b e ws = boolean_at b e ws
+
+-- what follows the channel of a guard and its question mark
+abbrev pub channel_first : ℕ → Option Var → List Word → Option ArmHead
+channel_first b channel ws = do
+  v ← channel
+  r ← received_at b v ws
+  Some (guarded None r)
+
+abbrev pub after_condition : ℕ → Expression → List Word → Option ArmHead
+after_condition b e (mark s.Question ∷ ws) = channel_first b (as_var e) ws
+after_condition b e (mark s.Ampersand ∷ ws) = after_and b e ws
 after_condition b e _ = None
 
 abbrev pub guard_at : ℕ → List Word → Option ArmHead
@@ -112,13 +146,18 @@ guard_at b ws = do
   e ← expression_at b ws
   after_condition b e.0 e.1
 
+-- what follows PRI
+abbrev pub by_priority : ℕ → List Word → Option ArmHead
+by_priority b (key k.Alt ∷ ws) = do
+  r ← replicator_at b ws
+  Some (nested_alternation true r)
+by_priority b _ = None
+
 unfoldable pub arm_head_at : ℕ → List Word → Option ArmHead
 arm_head_at b (key k.Alt ∷ ws) = do
   r ← replicator_at b ws
   Some (nested_alternation false r)
-arm_head_at b (key k.Pri ∷ key k.Alt ∷ ws) = do
-  r ← replicator_at b ws
-  Some (nested_alternation true r)
+arm_head_at b (key k.Pri ∷ ws) = by_priority b ws
 arm_head_at b ws = guard_at b ws
 
 unfoldable pub variant_head_at : ℕ → List Word → Option VariantHead
@@ -163,20 +202,33 @@ abbrev pub value_at : ℕ → List Word → Option DeclHead
 value_at b (name v ∷ ws) = named_value_at b None (name v ∷ ws)
 value_at b ws = typed_value_at b ws
 
-unfoldable pub decl_head_at : ℕ → List Word → Option DeclHead
-decl_head_at b (key k.Val ∷ ws) = value_at b ws
-decl_head_at b (key k.Protocol ∷ name v ∷ []) = Some (tags v)
-decl_head_at b (key k.Protocol ∷ name v ∷ key k.Is ∷ ws) = do
+-- what follows PROTOCOL
+abbrev pub protocol_at : ℕ → List Word → Option DeclHead
+protocol_at b (name v ∷ []) = Some (tags v)
+protocol_at b (name v ∷ key k.Is ∷ ws) = do
   p ← part_at b ws
   ps ← listed_at separators.Semicolon (part_at b) p.1
   rest ← after_colon ps.1
   ended (parts v p.0 ps.0) rest
-decl_head_at b (key k.Proc ∷ name v ∷ mark s.OpenParen ∷ ws) = do
+protocol_at b _ = None
+
+-- what follows PROC
+abbrev pub procedure_at : ℕ → List Word → Option DeclHead
+procedure_at b (name v ∷ mark s.OpenParen ∷ ws) = do
   fs ← formals_at b ws
   ended (procedure v fs.0) fs.1
-decl_head_at b ws = do
+procedure_at b _ = None
+
+abbrev pub declared_at : ℕ → List Word → Option DeclHead
+declared_at b ws = do
   es ← indices_with (expression_at b) ws
   sort_at b (expressions es.0) es.1
+
+unfoldable pub decl_head_at : ℕ → List Word → Option DeclHead
+decl_head_at b (key k.Val ∷ ws) = value_at b ws
+decl_head_at b (key k.Protocol ∷ ws) = protocol_at b ws
+decl_head_at b (key k.Proc ∷ ws) = procedure_at b ws
+decl_head_at b ws = declared_at b ws
 
 unfoldable pub tag_head_at : ℕ → List Word → Option TagHead
 tag_head_at b (name v ∷ ws) = do

@@ -49,10 +49,14 @@ after_colon _ = None
 
 -- ---- variables, targets and items
 
-unfoldable pub var_at : ℕ → Read Var
-var_at b (name v ∷ ws) = do
+-- what follows the name
+abbrev pub var_named : ℕ → List ℕ → Read Var
+var_named b v ws = do
   es ← indices_with (expression_at (b - 1)) ws
   Some (var v (expressions es.0), es.1)
+
+unfoldable pub var_at : ℕ → Read Var
+var_at b (name v ∷ ws) = var_named b v ws
 var_at b _ = None
 
 abbrev pub target_after : ℕ → Var → Read Target

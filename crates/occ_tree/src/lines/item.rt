@@ -6,7 +6,7 @@ ghost use Rattle.occ_tree.specs.Many.{ended};
 ghost use Rattle.occ_tree.specs.Expressions.Trees.{expression_of};
 ghost use Rattle.occ_tree.specs.Expressions.Reading.{Gives, expression_at};
 ghost use Rattle.occ_tree.specs.Lines.Views.{var_of, target_of, out_of, received_of, replicator_of, actuals_of};
-ghost use Rattle.occ_tree.specs.Lines.Reading.{var_at, target_at, target_after, out_at, out_after, received_at, targets_whole, replicator_at, actuals_at};
+ghost use Rattle.occ_tree.specs.Lines.Reading.{var_named, var_at, target_at, target_after, out_at, out_after, received_at, targets_whole, replicator_at, actuals_at};
 
 use crate::expressions::read::{expr, indices};
 use crate::expressions::symbol::close;
@@ -32,17 +32,27 @@ pub fn expression(
     expr(alloc, OPEN + 1, line, tokens)
 }
 
+/// The rest of a variable or a channel, behind its name.
+pub fn var_behind<'a>(
+    alloc: Global,
+    line: u32,
+    name: &[u8],
+    tokens: &'a [Token],
+) -> Result<(Var, &'a [Token]), ParseFault>
+    ensures { Gives (λ x. (var_of x.0, words x.1.now)) result (var_named 65 name.now (words tokens.now)) }
+{
+    let (subscripts, rest) = indices(alloc, OPEN, line, tokens)?;
+    let name = Vec::from_slice(alloc, name)?;
+    Ok((Var { name, subscripts }, rest))
+}
+
 /// A name with its subscripts.
 #[tactic(auto, unfolding(crate::specs::Lines::Reading::var_at))]
 pub fn var(alloc: Global, line: u32, tokens: &[Token]) -> Result<(Var, &[Token]), ParseFault>
     ensures { Gives (λ x. (var_of x.0, words x.1.now)) result (var_at 65 (words tokens.now)) }
 {
     match tokens {
-        [Token::Name(name), rest @ ..] => {
-            let (subscripts, rest) = indices(alloc, OPEN, line, rest)?;
-            let name = Vec::from_slice(alloc, name)?;
-            Ok((Var { name, subscripts }, rest))
-        }
+        [Token::Name(name), rest @ ..] => var_behind(alloc, line, name, rest),
         _ => Err(ParseFault::Unexpected { line }),
     }
 }

@@ -47,6 +47,15 @@ pub enum Input {
     Tagged(Var, Vec<u8>, Vec<Target>),
 }
 
+/// The guard of an arm that isn't an input of variants.
+#[derive(Drop)]
+pub enum Guard {
+    /// An input, behind the Boolean where there is one.
+    Input(Option<Expr>, Input),
+    /// `SKIP` behind the Boolean.
+    Skip(Expr),
+}
+
 /// A replicator: `name = base FOR count`.
 #[derive(Drop)]
 pub struct Replicator {
