@@ -17,7 +17,7 @@ use Rattle.occ_tree.specs.Expressions.Trees.{Expression, alone, two, one, conver
 use Rattle.occ_tree.specs.Expressions.Shown.{prim_word, dyadic_word, monadic_word, logic_word, show_type, show_expression, show_operand, show_operands, show_indices}
 use Rattle.occ_tree.specs.Lines.Trees.{Var, var, Target, into, into_counted, Received, in_line, items, tagged, by_variant, of_data, of_channel}
 use Rattle.occ_tree.specs.Lines.Shown.{show_listed, show_name, show_var, show_target, show_received}
-use Rattle.occ_tree.specs.Lines.Heads.{skip, stop, assign, input, output, call, sequence, parallel, alternation, conditional, selection, loop, chosen, nested_conditional, values, otherwise, guarded, guarded_skip, nested_alternation, tag, DeclHead, names, value, parts, tags, procedure, show_decl_head}
+use Rattle.occ_tree.specs.Lines.Heads.{skip, stop, assign, input, output, call, act, input_variants, sequence, parallel, alternation, conditional, selection, loop, chosen, nested_conditional, values, otherwise, on_input, on_skip, guarded, guarded_variants, nested_alternation, tag, DeclHead, names, value, parts, tags, procedure, show_decl_head}
 use Rattle.occ_tree.specs.Lines.HeadReading.{has_colon, declares}
 use Rattle.occ_tree.specs.Processes.Trees.{Kind, process, choice, option, arm, variant, Head}
 use Rattle.occ_tree.specs.Processes.Shown.{show_head}
@@ -156,12 +156,13 @@ received_front (by_variant v) = var_front v _
 
 pub begins_none : (kind : Kind) (h : Head kind) → declares (show_head kind h) ≡ false
 unfolding declares
-begins_none process skip = refl
-begins_none process stop = refl
-begins_none process (assign v vs e es) = var_front v _
-begins_none process (input r) = received_front r
-begins_none process (output v o os) = var_front v _
-begins_none process (call v es) = refl
+begins_none process (act skip) = refl
+begins_none process (act stop) = refl
+begins_none process (act (assign v vs e es)) = var_front v _
+begins_none process (act (input i)) = received_front (in_line i)
+begins_none process (act (output v o os)) = var_front v _
+begins_none process (act (call v es)) = refl
+begins_none process (input_variants v) = received_front (by_variant v)
 begins_none process (sequence r) = refl
 begins_none process (parallel r) = refl
 begins_none process (alternation true r) = refl
@@ -173,9 +174,11 @@ begins_none choice (chosen e) = ap declares (sym (append-nil (show_expression e)
 begins_none choice (nested_conditional r) = refl
 begins_none option (values e es) = not_declared e (show_listed separators.Comma show_expression es) (values_clear es)
 begins_none option otherwise = refl
-begins_none arm (guarded None r) = received_front r
-begins_none arm (guarded (Some e) r) = not_declared e (mark s.Ampersand ∷ show_received r) (received_clear r)
-begins_none arm (guarded_skip e) = not_declared e (mark s.Ampersand ∷ key k.Skip ∷ []) refl
+begins_none arm (guarded (on_input None i)) = received_front (in_line i)
+begins_none arm (guarded (on_input (Some e) i)) = not_declared e (mark s.Ampersand ∷ show_received (in_line i)) (received_clear (in_line i))
+begins_none arm (guarded_variants None v) = received_front (by_variant v)
+begins_none arm (guarded_variants (Some e) v) = not_declared e (mark s.Ampersand ∷ show_received (by_variant v)) (received_clear (by_variant v))
+begins_none arm (guarded (on_skip e)) = not_declared e (mark s.Ampersand ∷ key k.Skip ∷ []) refl
 begins_none arm (nested_alternation true r) = refl
 begins_none arm (nested_alternation false r) = refl
 begins_none variant (tag v ts) = refl

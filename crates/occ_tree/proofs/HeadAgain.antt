@@ -13,12 +13,12 @@ use Rattle.occ_tree.specs.Expressions.Trees.{Expression, alone, variable, Expres
 use Rattle.occ_tree.specs.Expressions.Shown.{prim_word, show_expression, show_indices, depth_indices, count_expressions, dimensions, NarrowExpressions}
 use Rattle.occ_tree.specs.Expressions.Reading.{prim_at, indices_with, expression_at}
 use Rattle.occ_tree.specs.Expressions.Follow.{opens, Plain}
-use Rattle.occ_tree.specs.Lines.Trees.{Var, var, Target, Out, Received, Sort, of_data, of_channel, Part, ValueType, Actuals, Formals}
+use Rattle.occ_tree.specs.Lines.Trees.{Var, var, Target, Out, Received, in_line, by_variant, Sort, of_data, of_channel, Part, ValueType, Actuals, Formals}
 use Rattle.occ_tree.specs.Lines.Shown.{show_listed, show_name, show_var, show_target, show_out, show_received, show_replicator, show_part, show_carried, show_sort, show_value_type, show_formals, show_actuals}
 use Rattle.occ_tree.specs.Lines.Fits.{FitsExpression, FitsVar, FitsTarget, FitsOut, FitsReceived, FitsReplicator, FitsPart, FitsCarried, FitsSizes, FitsSort, FitsValueType, FitsActuals, FitsFormals}
 use Rattle.occ_tree.specs.Lines.Reading.{listed_at, name_at, after_colon, var_at, target_at, out_at, replicator_at, part_at, received_at, after_question, actuals_at, formals_at}
-use Rattle.occ_tree.specs.Lines.Heads.{ProcessHead, skip, stop, assign, input, output, call, sequence, parallel, alternation, conditional, selection, loop, ChoiceHead, chosen, nested_conditional, OptionHead, values, otherwise, ArmHead, guarded, guarded_skip, nested_alternation, VariantHead, tag, DeclHead, names, value, parts, tags, procedure, TagHead, tag_parts, show_process_head, show_choice_head, show_option_head, show_arm_head, show_variant_head, show_decl_head, show_tag_head, show_value_kind, FitsProcessHead, FitsChoiceHead, FitsOptionHead, FitsArmHead, FitsVariantHead, FitsDeclHead, FitsTagHead}
-use Rattle.occ_tree.specs.Lines.HeadReading.{assignment_at, after_var, process_head_at, condition_at, choice_head_at, values_at, option_head_at, as_var, reception_at, after_condition, guard_at, arm_head_at, variant_head_at, names_at, sort_at, named_value_at, typed_value_at, value_at, decl_head_at, tag_head_at}
+use Rattle.occ_tree.specs.Lines.Heads.{skip, stop, assign, input, output, call, show_action, FitsAction, ProcessHead, act, input_variants, sequence, parallel, alternation, conditional, selection, loop, ChoiceHead, chosen, nested_conditional, OptionHead, values, otherwise, on_input, on_skip, ArmHead, guarded, guarded_variants, nested_alternation, VariantHead, tag, DeclHead, names, value, parts, tags, procedure, TagHead, tag_parts, show_process_head, show_choice_head, show_option_head, show_arm_head, show_variant_head, show_decl_head, show_tag_head, show_value_kind, FitsProcessHead, FitsChoiceHead, FitsOptionHead, FitsArmHead, FitsVariantHead, FitsDeclHead, FitsTagHead}
+use Rattle.occ_tree.specs.Lines.HeadReading.{received_head, received_arm, assignment_at, after_var, process_head_at, condition_at, choice_head_at, values_at, option_head_at, as_var, reception_at, after_condition, guard_at, arm_head_at, variant_head_at, names_at, sort_at, named_value_at, typed_value_at, value_at, decl_head_at, tag_head_at}
 use Rattle.occ_tree.specs.Lines.Follow.{Ends, begins_expression, Begins}
 use Rattle.occ_tree.proofs.ExpressionAgain.{prim_again, sizes_again, expression_list, expressions_of_list}
 use Rattle.occ_tree.proofs.LineAgain.{Last, listed_again, last_again, listed_ends, name_again, fits_again, last_expression_again, var_again, ended_var_again, target_again, out_again, channel, show_tail, tail_shown, channel_fits, received_again, replicator_again, expression_begins, actuals_again, part_again, carried_again, value_type_again, BeginsType, value_type_begins, formals_again}
@@ -52,7 +52,7 @@ outs_end : (os : List Out) → Ends (show_listed separators.Semicolon show_out o
 outs_end [] = tt
 outs_end (o ∷ os) = (refl, refl, refl)
 
-assign_again : (b : ℕ) (v : Var) (vs : List Var) (e : Expression) (es : List Expression) → FitsProcessHead b (assign v vs e es) → process_head_at b (show_process_head (assign v vs e es)) ≡ Some (assign v vs e es)
+assign_again : (b : ℕ) (v : Var) (vs : List Var) (e : Expression) (es : List Expression) → FitsAction b (assign v vs e es) → process_head_at b (show_action (assign v vs e es)) ≡ Some (act (assign v vs e es))
 assign_again b v vs e es f =
     let tail = show_expression e ++ show_listed separators.Comma show_expression es in
     let rest = show_listed separators.Comma show_var vs ++ mark s.Assign ∷ tail in
@@ -64,12 +64,12 @@ assign_again b v vs e es f =
       last_again Expression show_expression (FitsExpression b) (expression_at b) (fits_again b) separators.Comma es f.3,
     ) refl
 
-input_again : (b : ℕ) (r : Received) → FitsReceived b r → process_head_at b (show_received r) ≡ Some (input r)
+input_again : (b : ℕ) (r : Received) → FitsReceived b r → process_head_at b (show_received r) ≡ Some (received_head r)
 input_again b r f =
     let rest = mark s.Question ∷ show_tail r in
     rw (tail_shown r) (var_first b (channel r) rest refl ∙ rw (var_again b (channel r) rest (channel_fits b r f) refl, received_again b r f) refl)
 
-output_again : (b : ℕ) (v : Var) (o : Out) (os : List Out) → FitsProcessHead b (output v o os) → process_head_at b (show_process_head (output v o os)) ≡ Some (output v o os)
+output_again : (b : ℕ) (v : Var) (o : Out) (os : List Out) → FitsAction b (output v o os) → process_head_at b (show_action (output v o os)) ≡ Some (act (output v o os))
 output_again b v o os f =
     let rest = mark s.Exclamation ∷ (show_out o ++ show_listed separators.Semicolon show_out os) in
     var_first b v rest refl ∙ rw (
@@ -83,12 +83,13 @@ last_actuals b es f = ap (actuals_at b) (sym (append-nil (show_actuals es))) ∙
 
 pub process_head_again : (b : ℕ) (h : ProcessHead) → FitsProcessHead b h → process_head_at b (show_process_head h) ≡ Some h
 unfolding process_head_at
-process_head_again b skip f = refl
-process_head_again b stop f = refl
-process_head_again b (assign v vs e es) f = assign_again b v vs e es f
-process_head_again b (input r) f = input_again b r f
-process_head_again b (output v o os) f = output_again b v o os f
-process_head_again b (call v es) f = rw (last_actuals b es f) refl
+process_head_again b (act skip) f = refl
+process_head_again b (act stop) f = refl
+process_head_again b (act (assign v vs e es)) f = assign_again b v vs e es f
+process_head_again b (act (input i)) f = input_again b (in_line i) f
+process_head_again b (act (output v o os)) f = output_again b v o os f
+process_head_again b (act (call v es)) f = rw (last_actuals b es f) refl
+process_head_again b (input_variants v) f = input_again b (by_variant v) f
 process_head_again b (sequence r) f = rw (replicator_again b r f) refl
 process_head_again b (parallel r) f = rw (replicator_again b r f) refl
 process_head_again b (alternation true r) f = rw (replicator_again b r f) refl
@@ -137,17 +138,17 @@ no_alt b (key k.Pri ∷ ws) h = absurd cc
 no_alt b _ h = refl
 
 -- a channel at the front, read as an expression
-channel_read : (b : ℕ) (v : Var) (ws : List Word) → 0 < b → FitsVar b v → arm_head_at b (show_var v ++ mark s.Question ∷ ws) ≡ (received_at b v ws >>= λ r. Some (guarded None r))
+channel_read : (b : ℕ) (v : Var) (ws : List Word) → 0 < b → FitsVar b v → arm_head_at b (show_var v ++ mark s.Question ∷ ws) ≡ (received_at b v ws >>= λ r. Some (received_arm None r))
 channel_read b (var n es) ws pos f =
     let d : depth_indices es ≤ b - 1 = f.0 in
     let d' : depth_indices es < b = omega arith in
     no_alt b (name n ∷ (show_indices es ++ mark s.Question ∷ ws)) refl ∙ rw (fits_again b (alone (variable n es)) (mark s.Question ∷ ws) (d', (f.2, f.1)) (refl, refl, refl)) refl
 
 -- the channel begins by no SKIP
-no_skip : (b : ℕ) (e : Expression) (v : Var) (ws : List Word) → after_condition b e (mark s.Ampersand ∷ (show_var v ++ ws)) ≡ (reception_at b (show_var v ++ ws) >>= λ r. Some (guarded (Some e) r))
+no_skip : (b : ℕ) (e : Expression) (v : Var) (ws : List Word) → after_condition b e (mark s.Ampersand ∷ (show_var v ++ ws)) ≡ (reception_at b (show_var v ++ ws) >>= λ r. Some (received_arm (Some e) r))
 no_skip b e (var n es) ws = refl
 
-boolean_again : (b : ℕ) (e : Expression) (r : Received) → FitsExpression b e → FitsReceived b r → arm_head_at b (show_expression e ++ mark s.Ampersand ∷ show_received r) ≡ Some (guarded (Some e) r)
+boolean_again : (b : ℕ) (e : Expression) (r : Received) → FitsExpression b e → FitsReceived b r → arm_head_at b (show_expression e ++ mark s.Ampersand ∷ show_received r) ≡ Some (received_arm (Some e) r)
 boolean_again b e r f g =
     let rest = mark s.Question ∷ show_tail r in
     let tail = mark s.Ampersand ∷ (show_var (channel r) ++ rest) in
@@ -158,11 +159,16 @@ boolean_again b e r f g =
       received_again b r g,
     ) refl)
 
+reception_again : (b : ℕ) (r : Received) → 0 < b → FitsReceived b r → arm_head_at b (show_received r) ≡ Some (received_arm None r)
+reception_again b r pos f = rw (tail_shown r) (channel_read b (channel r) (show_tail r) pos (channel_fits b r f) ∙ rw (received_again b r f) refl)
+
 pub arm_head_again : (b : ℕ) (h : ArmHead) → 0 < b → FitsArmHead b h → arm_head_at b (show_arm_head h) ≡ Some h
 unfolding arm_head_at
-arm_head_again b (guarded None r) pos f = rw (tail_shown r) (channel_read b (channel r) (show_tail r) pos (channel_fits b r f) ∙ rw (received_again b r f) refl)
-arm_head_again b (guarded (Some e) r) pos f = boolean_again b e r f.0 f.1
-arm_head_again b (guarded_skip e) pos f =
+arm_head_again b (guarded (on_input None i)) pos f = reception_again b (in_line i) pos f
+arm_head_again b (guarded (on_input (Some e) i)) pos f = boolean_again b e (in_line i) f.0 f.1
+arm_head_again b (guarded_variants None v) pos f = reception_again b (by_variant v) pos f
+arm_head_again b (guarded_variants (Some e) v) pos f = boolean_again b e (by_variant v) f.0 f.1
+arm_head_again b (guarded (on_skip e)) pos f =
     let tail = mark s.Ampersand ∷ key k.Skip ∷ [] in
     no_alt b (show_expression e ++ tail) (expression_begins e tail) ∙ rw (fits_again b e tail f (refl, refl, refl)) refl
 arm_head_again b (nested_alternation true r) pos f = rw (replicator_again b r f) refl

@@ -10,12 +10,12 @@ use Rattle.occ_tree.specs.Many.{◌>>=◌, ended}
 use Rattle.occ_tree.specs.Expressions.Trees.{Expression, alone, variable, Expressions, expressions}
 use Rattle.occ_tree.specs.Expressions.Shown.{prim_word, show_expression, show_indices, depth, depth_indices, Narrow}
 use Rattle.occ_tree.specs.Expressions.Reading.{prim_at, indices_with, expression_at}
-use Rattle.occ_tree.specs.Lines.Trees.{Var, var, Target, Out, Sort, of_data, of_channel, Part, ValueType}
+use Rattle.occ_tree.specs.Lines.Trees.{Var, var, Target, Out, Received, in_line, by_variant, Sort, of_data, of_channel, Part, ValueType}
 use Rattle.occ_tree.specs.Lines.Shown.{show_listed, show_name, show_var, show_target, show_out, show_sort, show_part, show_value_type, show_received, show_actuals, show_formals}
-use Rattle.occ_tree.specs.Lines.Fits.{FitsExpression, FitsVar, FitsSizes, FitsSort, FitsTarget, FitsOut, FitsPart, FitsValueType}
+use Rattle.occ_tree.specs.Lines.Fits.{FitsExpression, FitsVar, FitsReceived, FitsSizes, FitsSort, FitsTarget, FitsOut, FitsPart, FitsValueType}
 use Rattle.occ_tree.specs.Lines.Reading.{listed_at, name_at, after_assign, after_question, after_is, after_colon, var_at, target_at, out_at, received_at, replicator_at, actuals_at, part_at, carried_at, value_type_at, formals_at}
-use Rattle.occ_tree.specs.Lines.Heads.{ProcessHead, skip, stop, assign, input, ChoiceHead, chosen, OptionHead, values, otherwise, ArmHead, guarded, guarded_skip, VariantHead, DeclHead, names, value, tags, TagHead, show_process_head, show_choice_head, show_option_head, show_arm_head, show_variant_head, show_value_kind, show_decl_head, show_tag_head, FitsProcessHead, FitsChoiceHead, FitsOptionHead, FitsArmHead, FitsVariantHead, FitsDeclHead, FitsTagHead}
-use Rattle.occ_tree.specs.Lines.HeadReading.{assignment_at, after_var, process_head_at, condition_at, choice_head_at, values_at, option_head_at, as_var, reception_at, after_condition, guard_at, arm_head_at, variant_head_at, names_at, sort_at, named_value_at, typed_value_at, value_at, decl_head_at, tag_head_at}
+use Rattle.occ_tree.specs.Lines.Heads.{skip, stop, assign, input, ProcessHead, act, ChoiceHead, chosen, OptionHead, values, otherwise, on_skip, ArmHead, guarded, VariantHead, DeclHead, names, value, tags, TagHead, show_process_head, show_choice_head, show_option_head, show_arm_head, show_variant_head, show_value_kind, show_decl_head, show_tag_head, FitsProcessHead, FitsChoiceHead, FitsOptionHead, FitsArmHead, FitsVariantHead, FitsDeclHead, FitsTagHead}
+use Rattle.occ_tree.specs.Lines.HeadReading.{received_head, received_arm, assignment_at, after_var, process_head_at, condition_at, choice_head_at, values_at, option_head_at, as_var, reception_at, after_condition, guard_at, arm_head_at, variant_head_at, names_at, sort_at, named_value_at, typed_value_at, value_at, decl_head_at, tag_head_at}
 use Rattle.occ_tree.proofs.Binds.{bind_some, some_is, ended_is, after}
 use Rattle.occ_tree.proofs.ExpressionSound.{prim_is, sizes_sound}
 use Rattle.occ_tree.proofs.LineSound.{IsWhole, listed_sound, last_listed, name_is, name_sound, fits_sound, last_expression, var_sound, target_sound, out_sound, received_sound, replicator_sound, actuals_sound, part_sound, carried_sound, value_type_sound, formals_sound}
@@ -55,10 +55,24 @@ assignment_sound b v f ws h x =
     let whole : ws ≡ shown ++ mark s.Assign ∷ (show_expression e.0.0 ++ show_listed separators.Comma show_expression es.0.0) = p.0 ∙ ap (λ (u : List Word). shown ++ u) (assign_is vs.0.1 rest.0 rest.1 ∙ ap (λ (u : List Word). mark s.Assign ∷ u) (q.0 ∙ ap (λ (u : List Word). show_expression e.0.0 ++ u) r.0)) in
     subst (IsProcess b (show_var v ++ ws)) nothing.1 (ap (λ (u : List Word). show_var v ++ u) whole, (f, p.1, q.1, r.1))
 
+head_written : (b : ℕ) (r : Received) → FitsReceived b r → (show_received r ≡ show_process_head (received_head r)) × FitsProcessHead b (received_head r)
+head_written b (in_line i) f = (refl, f)
+head_written b (by_variant v) f = (refl, f)
+
+arm_written : (b : ℕ) (r : Received) → FitsReceived b r → (show_received r ≡ show_arm_head (received_arm None r)) × FitsArmHead b (received_arm None r)
+arm_written b (in_line i) f = (refl, f)
+arm_written b (by_variant v) f = (refl, f)
+
+boolean_written : (b : ℕ) (e : Expression) (r : Received) → FitsExpression b e → FitsReceived b r → (show_expression e ++ mark s.Ampersand ∷ show_received r ≡ show_arm_head (received_arm (Some e) r)) × FitsArmHead b (received_arm (Some e) r)
+boolean_written b e (in_line i) f g = (refl, (f, g))
+boolean_written b e (by_variant v) f g = (refl, (f, g))
+
 after_var_sound : (b : ℕ) (v : Var) → FitsVar b v → (ws : List Word) (h : ProcessHead) → after_var b v ws ≡ Some h → IsProcess b (show_var v ++ ws) h
 after_var_sound b v f (mark s.Question ∷ ws) h x =
     let r = bind_some (received_at b v ws) _ h x in
-    subst (IsProcess b (show_var v ++ mark s.Question ∷ ws)) (some_is _ h r.2) (received_sound b v f ws r.0 r.1)
+    let p = received_sound b v f ws r.0 r.1 in
+    let w = head_written b r.0 p.1 in
+    subst (IsProcess b (show_var v ++ mark s.Question ∷ ws)) (some_is _ h r.2) (p.0 ∙ w.0, w.1)
 after_var_sound b v f (mark s.Exclamation ∷ ws) h x =
     let o = bind_some (out_at b ws) _ h x in
     let os = bind_some (listed_at separators.Semicolon (out_at b) o.0.1) _ h o.2 in
@@ -78,8 +92,8 @@ var_first_sound b ws h x =
 
 pub process_head_sound : (b : ℕ) (ws : List Word) (h : ProcessHead) → process_head_at b ws ≡ Some h → (ws ≡ show_process_head h) × FitsProcessHead b h
 unfolding process_head_at var_at
-process_head_sound b (key k.Skip ∷ ws) h x = let q = ended_is skip ws h x in subst (IsProcess b (key k.Skip ∷ ws)) q.1 (ap (λ (u : List Word). key k.Skip ∷ u) q.0, tt)
-process_head_sound b (key k.Stop ∷ ws) h x = let q = ended_is stop ws h x in subst (IsProcess b (key k.Stop ∷ ws)) q.1 (ap (λ (u : List Word). key k.Stop ∷ u) q.0, tt)
+process_head_sound b (key k.Skip ∷ ws) h x = let q = ended_is (act skip) ws h x in subst (IsProcess b (key k.Skip ∷ ws)) q.1 (ap (λ (u : List Word). key k.Skip ∷ u) q.0, tt)
+process_head_sound b (key k.Stop ∷ ws) h x = let q = ended_is (act stop) ws h x in subst (IsProcess b (key k.Stop ∷ ws)) q.1 (ap (λ (u : List Word). key k.Stop ∷ u) q.0, tt)
 process_head_sound b (key k.Seq ∷ ws) h x =
     let r = bind_some (replicator_at b ws) _ h x in
     let p = replicator_sound b ws r.0 r.1 in
@@ -166,15 +180,16 @@ as_var_sound : (b : ℕ) (e : Expression) → FitsExpression b e → (v : Var) �
 as_var_sound b (alone (variable n es)) f v x = subst (λ (w : Var). (name n ∷ show_indices es ≡ show_var w) × FitsVar b w) (some_is (var n es) v x) (refl, (let d : depth_indices es < b = f.0 in omega arith, f.1.1, f.1.0))
 as_var_sound b _ f v x = absurd cc
 
-boolean_sound : (b : ℕ) (e : Expression) → FitsExpression b e → (ws : List Word) (h : ArmHead) → (reception_at b ws >>= λ r. Some (guarded (Some e) r)) ≡ Some h → IsArm b (show_expression e ++ mark s.Ampersand ∷ ws) h
+boolean_sound : (b : ℕ) (e : Expression) → FitsExpression b e → (ws : List Word) (h : ArmHead) → (reception_at b ws >>= λ r. Some (received_arm (Some e) r)) ≡ Some h → IsArm b (show_expression e ++ mark s.Ampersand ∷ ws) h
 boolean_sound b e f ws h x =
-    let all = bind_some (reception_at b ws) (λ r. Some (guarded (Some e) r)) h x in
+    let all = bind_some (reception_at b ws) (λ r. Some (received_arm (Some e) r)) h x in
     let v = bind_some (var_at b ws) _ all.0 all.1 in
     let rest = bind_some (after_question v.0.1) _ all.0 v.2 in
     let p = var_sound b ws v.0 v.1 in
     let q = received_sound b v.0.0 p.1 rest.0 all.0 rest.2 in
     let whole : ws ≡ show_received all.0 = p.0 ∙ ap (λ (u : List Word). show_var v.0.0 ++ u) (question_is v.0.1 rest.0 rest.1) ∙ q.0 in
-    subst (IsArm b (show_expression e ++ mark s.Ampersand ∷ ws)) (some_is _ h all.2) (ap (λ (u : List Word). show_expression e ++ mark s.Ampersand ∷ u) whole, (f, q.1))
+    let w = boolean_written b e all.0 f q.1 in
+    subst (IsArm b (show_expression e ++ mark s.Ampersand ∷ ws)) (some_is _ h all.2) (ap (λ (u : List Word). show_expression e ++ mark s.Ampersand ∷ u) whole ∙ w.0, w.1)
 
 after_condition_sound : (b : ℕ) (e : Expression) → FitsExpression b e → (ws : List Word) (h : ArmHead) → after_condition b e ws ≡ Some h → IsArm b (show_expression e ++ ws) h
 after_condition_sound b e f (mark s.Question ∷ ws) h x =
@@ -182,8 +197,9 @@ after_condition_sound b e f (mark s.Question ∷ ws) h x =
     let r = bind_some (received_at b v.0 ws) _ h v.2 in
     let p = as_var_sound b e f v.0 v.1 in
     let q = received_sound b v.0 p.1 ws r.0 r.1 in
-    subst (IsArm b (show_expression e ++ mark s.Question ∷ ws)) (some_is _ h r.2) (ap (λ (u : List Word). u ++ mark s.Question ∷ ws) p.0 ∙ q.0, q.1)
-after_condition_sound b e f (mark s.Ampersand ∷ key k.Skip ∷ ws) h x = let q = ended_is (guarded_skip e) ws h x in subst (IsArm b (show_expression e ++ mark s.Ampersand ∷ key k.Skip ∷ ws)) q.1 (ap (λ (u : List Word). show_expression e ++ mark s.Ampersand ∷ key k.Skip ∷ u) q.0, f)
+    let w = arm_written b r.0 q.1 in
+    subst (IsArm b (show_expression e ++ mark s.Question ∷ ws)) (some_is _ h r.2) (ap (λ (u : List Word). u ++ mark s.Question ∷ ws) p.0 ∙ q.0 ∙ w.0, w.1)
+after_condition_sound b e f (mark s.Ampersand ∷ key k.Skip ∷ ws) h x = let q = ended_is (guarded (on_skip e)) ws h x in subst (IsArm b (show_expression e ++ mark s.Ampersand ∷ key k.Skip ∷ ws)) q.1 (ap (λ (u : List Word). show_expression e ++ mark s.Ampersand ∷ key k.Skip ∷ u) q.0, f)
 after_condition_sound b e f (mark s.Ampersand ∷ ws) h x = boolean_sound b e f ws h x
 after_condition_sound b e f _ h x = absurd cc
 

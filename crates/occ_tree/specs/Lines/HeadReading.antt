@@ -7,11 +7,15 @@ use Rattle.occ_tree.specs.declared.lines.separator.Separator.TheVariants as sepa
 use Rattle.occ_tree.specs.Many.{◌>>=◌, ended}
 use Rattle.occ_tree.specs.Expressions.Trees.{Expression, alone, Operand, variable, Expressions, expressions}
 use Rattle.occ_tree.specs.Expressions.Reading.{Read, prim_at, indices_with, expression_at}
-use Rattle.occ_tree.specs.Lines.Trees.{Var, var, Received, Sort, of_data, of_channel, ValueType}
+use Rattle.occ_tree.specs.Lines.Trees.{Var, var, Received, in_line, by_variant, Sort, of_data, of_channel, ValueType}
 use Rattle.occ_tree.specs.Lines.Reading.{listed_at, name_at, after_assign, after_question, after_is, after_colon, var_named, var_at, target_at, out_at, received_at, replicator_at, actuals_at, part_at, carried_at, value_type_at, formals_at}
-use Rattle.occ_tree.specs.Lines.Heads.{ProcessHead, skip, stop, assign, input, output, call, sequence, parallel, alternation, conditional, selection, loop, ChoiceHead, chosen, nested_conditional, OptionHead, values, otherwise, ArmHead, guarded, guarded_skip, nested_alternation, VariantHead, tag, DeclHead, names, value, parts, tags, procedure, TagHead, tag_parts}
+use Rattle.occ_tree.specs.Lines.Heads.{skip, stop, assign, input, output, call, ProcessHead, act, input_variants, sequence, parallel, alternation, conditional, selection, loop, ChoiceHead, chosen, nested_conditional, OptionHead, values, otherwise, on_input, on_skip, ArmHead, guarded, guarded_variants, nested_alternation, VariantHead, tag, DeclHead, names, value, parts, tags, procedure, TagHead, tag_parts}
 
 -- ---- processes
+
+abbrev pub received_head : Received → ProcessHead
+received_head (in_line i) = act (input i)
+received_head (by_variant v) = input_variants v
 
 abbrev pub assignment_at : ℕ → Var → List Word → Option ProcessHead
 assignment_at b v ws = do
@@ -19,17 +23,17 @@ assignment_at b v ws = do
   rest ← after_assign vs.1
   e ← expression_at b rest
   es ← listed_at separators.Comma (expression_at b) e.1
-  ended (assign v vs.0 e.0 es.0) es.1
+  ended (act (assign v vs.0 e.0 es.0)) es.1
 
 -- what follows the variable or the channel at the front
 abbrev pub after_var : ℕ → Var → List Word → Option ProcessHead
 after_var b v (mark s.Question ∷ ws) = do
   r ← received_at b v ws
-  Some (input r)
+  Some (received_head r)
 after_var b v (mark s.Exclamation ∷ ws) = do
   o ← out_at b ws
   os ← listed_at separators.Semicolon (out_at b) o.1
-  ended (output v o.0 os.0) os.1
+  ended (act (output v o.0 os.0)) os.1
 after_var b v ws = assignment_at b v ws
 
 abbrev pub var_first : ℕ → List ℕ → List Word → Option ProcessHead
@@ -44,7 +48,7 @@ after_open _ = None
 abbrev pub called : ℕ → List ℕ → Option (List Word) → List Word → Option ProcessHead
 called b v (Some ws) all = do
   es ← actuals_at b ws
-  ended (call v es.0) es.1
+  ended (act (call v es.0)) es.1
 called b v None all = var_first b v all
 
 -- what follows the name at the front: a call, or the rest of a variable or a channel
@@ -52,8 +56,8 @@ abbrev pub name_first : ℕ → List ℕ → List Word → Option ProcessHead
 name_first b v ws = called b v (after_open ws) ws
 
 unfoldable pub process_head_at : ℕ → List Word → Option ProcessHead
-process_head_at b (key k.Skip ∷ ws) = ended skip ws
-process_head_at b (key k.Stop ∷ ws) = ended stop ws
+process_head_at b (key k.Skip ∷ ws) = ended (act skip) ws
+process_head_at b (key k.Stop ∷ ws) = ended (act stop) ws
 process_head_at b (key k.Seq ∷ ws) = do
   r ← replicator_at b ws
   Some (sequence r)
@@ -103,6 +107,10 @@ option_head_at b ws = values_at b ws
 
 -- ---- arms and variants
 
+abbrev pub received_arm : Option Expression → Received → ArmHead
+received_arm e (in_line i) = guarded (on_input e i)
+received_arm e (by_variant v) = guarded_variants e v
+
 abbrev pub operand_var : Operand → Option Var
 operand_var (variable v es) = Some (var v es)
 operand_var _ = None
@@ -122,11 +130,11 @@ reception_at b ws = do
 abbrev pub boolean_at : ℕ → Expression → List Word → Option ArmHead
 boolean_at b e ws = do
   r ← reception_at b ws
-  Some (guarded (Some e) r)
+  Some (received_arm (Some e) r)
 
 -- what follows a Boolean and its ampersand
 abbrev pub after_and : ℕ → Expression → List Word → Option ArmHead
-after_and b e (key k.Skip ∷ ws) = ended (guarded_skip e) ws
+after_and b e (key k.Skip ∷ ws) = ended (guarded (on_skip e)) ws
 after_and b e ws = boolean_at b e ws
 
 -- what follows the channel of a guard and its question mark
@@ -134,7 +142,7 @@ abbrev pub channel_first : ℕ → Option Var → List Word → Option ArmHead
 channel_first b channel ws = do
   v ← channel
   r ← received_at b v ws
-  Some (guarded None r)
+  Some (received_arm None r)
 
 abbrev pub after_condition : ℕ → Expression → List Word → Option ArmHead
 after_condition b e (mark s.Question ∷ ws) = channel_first b (as_var e) ws

@@ -17,21 +17,20 @@ use Rattle.occ_tree.specs.declared.lines.head.DeclHead.{DeclHead as DeclHeadTree
 use Rattle.occ_tree.specs.declared.lines.head.DeclHead.TheVariants as declarations
 use Rattle.occ_tree.specs.declared.lines.head.TagHead.{TagHead as TagHeadTree}
 use Rattle.occ_tree.specs.Expressions.Trees.{expression_of, expressions}
-use Rattle.occ_tree.specs.Lines.Trees.{in_line, by_variant}
 use Rattle.occ_tree.specs.Lines.Views.{var_of, target_of, out_of, input_of, replicator_of, part_of, sort_of, value_type_of, formals_of, actuals_of}
-use Rattle.occ_tree.specs.Lines.Heads.{ProcessHead, skip, stop, assign, input, output, call, sequence, parallel, alternation, conditional, selection, loop, ChoiceHead, chosen, nested_conditional, OptionHead, values, otherwise, ArmHead, guarded, guarded_skip, nested_alternation, VariantHead, tag, DeclHead, names, value, parts, tags, procedure, TagHead, tag_parts}
+use Rattle.occ_tree.specs.Lines.Heads.{Action, skip, stop, assign, input, output, call, ProcessHead, act, input_variants, sequence, parallel, alternation, conditional, selection, loop, ChoiceHead, chosen, nested_conditional, OptionHead, values, otherwise, Guard, on_input, on_skip, ArmHead, guarded, guarded_variants, nested_alternation, VariantHead, tag, DeclHead, names, value, parts, tags, procedure, TagHead, tag_parts}
 
-abbrev pub action_of : ActionTree → ProcessHead
+abbrev pub action_of : ActionTree → Action
 action_of actions.Skip = skip
 action_of actions.Stop = stop
 action_of (actions.Assign vs es) = assign (var_of vs.first) (map var_of vs.others.items) (expression_of es.first) (map expression_of es.others.items)
-action_of (actions.Input i) = input (in_line (input_of i))
+action_of (actions.Input i) = input (input_of i)
 action_of (actions.Output v os) = output (var_of v) (out_of os.first) (map out_of os.others.items)
 action_of (actions.Call v es) = call v.items (actuals_of es)
 
 abbrev pub process_head_of : ProcessHeadTree → ProcessHead
-process_head_of (processes.Action a) = action_of a
-process_head_of (processes.Variants v) = input (by_variant (var_of v))
+process_head_of (processes.Action a) = act (action_of a)
+process_head_of (processes.Variants v) = input_variants (var_of v)
 process_head_of (processes.Seq r) = sequence (option_map replicator_of r)
 process_head_of (processes.Par r) = parallel (option_map replicator_of r)
 process_head_of (processes.Alt pri r) = alternation pri (option_map replicator_of r)
@@ -47,13 +46,13 @@ abbrev pub option_head_of : OptionHeadTree → OptionHead
 option_head_of (options.Values es) = values (expression_of es.first) (map expression_of es.others.items)
 option_head_of options.Else = otherwise
 
-abbrev pub guard_of : GuardTree → ArmHead
-guard_of (guards.Input e i) = guarded (option_map expression_of e) (in_line (input_of i))
-guard_of (guards.Skip e) = guarded_skip (expression_of e)
+abbrev pub guard_of : GuardTree → Guard
+guard_of (guards.Input e i) = on_input (option_map expression_of e) (input_of i)
+guard_of (guards.Skip e) = on_skip (expression_of e)
 
 abbrev pub arm_head_of : ArmHeadTree → ArmHead
-arm_head_of (arms.Guarded g) = guard_of g
-arm_head_of (arms.Variants e v) = guarded (option_map expression_of e) (by_variant (var_of v))
+arm_head_of (arms.Guarded g) = guarded (guard_of g)
+arm_head_of (arms.Variants e v) = guarded_variants (option_map expression_of e) (var_of v)
 arm_head_of (arms.Alt pri r) = nested_alternation pri (option_map replicator_of r)
 
 abbrev pub variant_head_of : VariantHeadTree → VariantHead

@@ -13,13 +13,18 @@ use Rattle.occ_tree.specs.Lines.Fits.{FitsExpression, FitsVar, FitsSizes, FitsTa
 
 -- ---- what the lines say
 
+-- a process that stands in one line
+pub data Action : Type 0 where
+  skip : Action
+  stop : Action
+  assign : Var → List Var → Expression → List Expression → Action
+  input : Input → Action
+  output : Var → Out → List Out → Action
+  call : List ℕ → Actuals → Action
+
 pub data ProcessHead : Type 0 where
-  skip : ProcessHead
-  stop : ProcessHead
-  assign : Var → List Var → Expression → List Expression → ProcessHead
-  input : Received → ProcessHead
-  output : Var → Out → List Out → ProcessHead
-  call : List ℕ → Actuals → ProcessHead
+  act : Action → ProcessHead
+  input_variants : Var → ProcessHead
   sequence : Option Replicator → ProcessHead
   parallel : Option Replicator → ProcessHead
   -- by priority, where the truth value says so
@@ -36,9 +41,14 @@ pub data OptionHead : Type 0 where
   values : Expression → List Expression → OptionHead
   otherwise : OptionHead
 
+-- a guard that stands in one line, with its Boolean where there is one
+pub data Guard : Type 0 where
+  on_input : Option Expression → Input → Guard
+  on_skip : Expression → Guard
+
 pub data ArmHead : Type 0 where
-  guarded : Option Expression → Received → ArmHead
-  guarded_skip : Expression → ArmHead
+  guarded : Guard → ArmHead
+  guarded_variants : Option Expression → Var → ArmHead
   nested_alternation : Bool → Option Replicator → ArmHead
 
 pub data VariantHead : Type 0 where
@@ -61,13 +71,17 @@ abbrev pub show_alternation : Bool → Option Replicator → List Word
 show_alternation true r = key k.Pri ∷ key k.Alt ∷ show_replicator r
 show_alternation false r = key k.Alt ∷ show_replicator r
 
+abbrev pub show_action : Action → List Word
+show_action skip = key k.Skip ∷ []
+show_action stop = key k.Stop ∷ []
+show_action (assign v vs e es) = show_var v ++ (show_listed separators.Comma show_var vs ++ (mark s.Assign ∷ show_expression e ++ show_listed separators.Comma show_expression es))
+show_action (input i) = show_input i
+show_action (output v o os) = show_var v ++ (mark s.Exclamation ∷ show_out o ++ show_listed separators.Semicolon show_out os)
+show_action (call v es) = name v ∷ mark s.OpenParen ∷ show_actuals es
+
 abbrev pub show_process_head : ProcessHead → List Word
-show_process_head skip = key k.Skip ∷ []
-show_process_head stop = key k.Stop ∷ []
-show_process_head (assign v vs e es) = show_var v ++ (show_listed separators.Comma show_var vs ++ (mark s.Assign ∷ show_expression e ++ show_listed separators.Comma show_expression es))
-show_process_head (input r) = show_received r
-show_process_head (output v o os) = show_var v ++ (mark s.Exclamation ∷ show_out o ++ show_listed separators.Semicolon show_out os)
-show_process_head (call v es) = name v ∷ mark s.OpenParen ∷ show_actuals es
+show_process_head (act a) = show_action a
+show_process_head (input_variants v) = show_received (by_variant v)
 show_process_head (sequence r) = key k.Seq ∷ show_replicator r
 show_process_head (parallel r) = key k.Par ∷ show_replicator r
 show_process_head (alternation pri r) = show_alternation pri r
@@ -84,9 +98,11 @@ show_option_head (values e es) = show_expression e ++ show_listed separators.Com
 show_option_head otherwise = key k.Else ∷ []
 
 abbrev pub show_arm_head : ArmHead → List Word
-show_arm_head (guarded None r) = show_received r
-show_arm_head (guarded (Some e) r) = show_expression e ++ mark s.Ampersand ∷ show_received r
-show_arm_head (guarded_skip e) = show_expression e ++ mark s.Ampersand ∷ key k.Skip ∷ []
+show_arm_head (guarded (on_input None i)) = show_input i
+show_arm_head (guarded (on_input (Some e) i)) = show_expression e ++ mark s.Ampersand ∷ show_input i
+show_arm_head (guarded (on_skip e)) = show_expression e ++ mark s.Ampersand ∷ key k.Skip ∷ []
+show_arm_head (guarded_variants None v) = show_received (by_variant v)
+show_arm_head (guarded_variants (Some e) v) = show_expression e ++ mark s.Ampersand ∷ show_received (by_variant v)
 show_arm_head (nested_alternation pri r) = show_alternation pri r
 
 abbrev pub show_variant_head : VariantHead → List Word
@@ -108,13 +124,17 @@ show_tag_head (tag_parts v ps) = name v ∷ show_listed separators.Semicolon sho
 
 -- ---- their bounds
 
+abbrev pub FitsAction : ℕ → Action → Type 0
+FitsAction b skip = Unit {0}
+FitsAction b stop = Unit {0}
+FitsAction b (assign v vs e es) = FitsVar b v × Each (FitsVar b) vs × FitsExpression b e × Each (FitsExpression b) es
+FitsAction b (input i) = FitsInput b i
+FitsAction b (output v o os) = FitsVar b v × FitsOut b o × Each (FitsOut b) os
+FitsAction b (call v es) = FitsActuals b es
+
 abbrev pub FitsProcessHead : ℕ → ProcessHead → Type 0
-FitsProcessHead b skip = Unit {0}
-FitsProcessHead b stop = Unit {0}
-FitsProcessHead b (assign v vs e es) = FitsVar b v × Each (FitsVar b) vs × FitsExpression b e × Each (FitsExpression b) es
-FitsProcessHead b (input r) = FitsReceived b r
-FitsProcessHead b (output v o os) = FitsVar b v × FitsOut b o × Each (FitsOut b) os
-FitsProcessHead b (call v es) = FitsActuals b es
+FitsProcessHead b (act a) = FitsAction b a
+FitsProcessHead b (input_variants v) = FitsVar b v
 FitsProcessHead b (sequence r) = FitsReplicator b r
 FitsProcessHead b (parallel r) = FitsReplicator b r
 FitsProcessHead b (alternation pri r) = FitsReplicator b r
@@ -131,9 +151,11 @@ FitsOptionHead b (values e es) = FitsExpression b e × Each (FitsExpression b) e
 FitsOptionHead b otherwise = Unit {0}
 
 abbrev pub FitsArmHead : ℕ → ArmHead → Type 0
-FitsArmHead b (guarded None r) = FitsReceived b r
-FitsArmHead b (guarded (Some e) r) = FitsExpression b e × FitsReceived b r
-FitsArmHead b (guarded_skip e) = FitsExpression b e
+FitsArmHead b (guarded (on_input None i)) = FitsInput b i
+FitsArmHead b (guarded (on_input (Some e) i)) = FitsExpression b e × FitsInput b i
+FitsArmHead b (guarded (on_skip e)) = FitsExpression b e
+FitsArmHead b (guarded_variants None v) = FitsVar b v
+FitsArmHead b (guarded_variants (Some e) v) = FitsExpression b e × FitsVar b v
 FitsArmHead b (nested_alternation pri r) = FitsReplicator b r
 
 abbrev pub FitsVariantHead : ℕ → VariantHead → Type 0

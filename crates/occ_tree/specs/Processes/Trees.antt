@@ -1,8 +1,8 @@
 -- The tree of processes and of their parts.
 use Rattle.std.specs.Prelude.{ℕ, List, [], ◌∷◌, Option, Some, None}
 use Rattle.occ_tree.specs.Expressions.Trees.{Expression, Expressions}
-use Rattle.occ_tree.specs.Lines.Trees.{in_line, by_variant, Replicator, Part, Sort, ValueType, Formals}
-use Rattle.occ_tree.specs.Lines.Heads.{ProcessHead, input, sequence, parallel, alternation, conditional, selection, loop, ChoiceHead, chosen, nested_conditional, OptionHead, ArmHead, guarded, guarded_skip, nested_alternation, VariantHead}
+use Rattle.occ_tree.specs.Lines.Trees.{Replicator, Part, Sort, ValueType, Formals}
+use Rattle.occ_tree.specs.Lines.Heads.{ProcessHead, act, input_variants, sequence, parallel, alternation, conditional, selection, loop, ChoiceHead, chosen, nested_conditional, OptionHead, ArmHead, guarded, guarded_variants, nested_alternation, VariantHead}
 
 -- What has declarations, a line of its own and lines under it: a process, or a part of an IF, a CASE, an ALT or an
 -- input of variants.
@@ -33,20 +33,19 @@ replicated None k = all_of k
 replicated (Some r) k = one_of k
 
 abbrev pub under : (k : Kind) → Head k → Under
-under process (input (by_variant v)) = all_of variant
+under process (act a) = nothing
+under process (input_variants v) = all_of variant
 under process (sequence r) = replicated r process
 under process (parallel r) = replicated r process
 under process (alternation pri r) = replicated r arm
 under process (conditional r) = replicated r choice
 under process (selection e) = all_of option
 under process (loop e) = one_of process
-under process _ = nothing
 under choice (chosen e) = one_of process
 under choice (nested_conditional r) = replicated r choice
 under option h = one_of process
-under arm (guarded e (in_line i)) = one_of process
-under arm (guarded e (by_variant v)) = all_of variant
-under arm (guarded_skip e) = one_of process
+under arm (guarded g) = one_of process
+under arm (guarded_variants e v) = all_of variant
 under arm (nested_alternation pri r) = replicated r arm
 under variant h = one_of process
 

@@ -6,9 +6,9 @@ ghost use Rattle.occ_tree.specs.Many.{ended};
 ghost use Rattle.occ_tree.specs.Expressions.Trees.{expression_of, operand_of};
 ghost use Rattle.occ_tree.specs.Expressions.Reading.{Gives};
 ghost use Rattle.occ_tree.specs.Lines.Views.{var_of, received_of};
-ghost use Rattle.occ_tree.specs.Lines.Heads.{guarded, guarded_skip, input};
+ghost use Rattle.occ_tree.specs.Lines.Heads.{act, guarded, on_skip};
 ghost use Rattle.occ_tree.specs.Lines.HeadViews.{action_of, process_head_of, choice_head_of, option_head_of, arm_head_of, variant_head_of};
-ghost use Rattle.occ_tree.specs.Lines.HeadReading.{assignment_at, after_var, var_first, after_open, name_first, process_head_at, condition_at, choice_head_at, values_at, option_head_at, operand_var, as_var, reception_at, boolean_at, after_and, channel_first, after_condition, by_priority, guard_at, arm_head_at, variant_head_at};
+ghost use Rattle.occ_tree.specs.Lines.HeadReading.{received_head as head_received, received_arm as arm_received, assignment_at, after_var, var_first, after_open, name_first, process_head_at, condition_at, choice_head_at, values_at, option_head_at, operand_var, as_var, reception_at, boolean_at, after_and, channel_first, after_condition, by_priority, guard_at, arm_head_at, variant_head_at};
 
 use crate::fault::ParseFault;
 use crate::lines::head::{ArmHead, ChoiceHead, OptionHead, ProcessHead, VariantHead};
@@ -22,7 +22,7 @@ use std::alloc::Global;
 
 /// The action, where nothing follows it.
 fn only_action(line: u32, action: Action, rest: &[Token]) -> Result<ProcessHead, ParseFault>
-    ensures { Gives process_head_of result (ended (action_of action) (words rest.now)) }
+    ensures { Gives process_head_of result (ended (act (action_of action)) (words rest.now)) }
 {
     match rest {
         [] => Ok(ProcessHead::Action(action)),
@@ -58,7 +58,7 @@ fn assignment(
 
 /// What was received, as the line of a process.
 fn received_head(received: Received) -> ProcessHead
-    ensures { process_head_of result ≡ input (received_of received) }
+    ensures { process_head_of result ≡ head_received (received_of received) }
 {
     match received {
         Received::Input(input) => ProcessHead::Action(Action::Input(input)),
@@ -241,7 +241,7 @@ fn var_in(expression: Expr) -> Option<Var>
 
 /// What was received behind the Boolean, as the line of an arm.
 fn received_arm(condition: Option<Expr>, received: Received) -> ArmHead
-    ensures { arm_head_of result ≡ guarded (option_map expression_of condition) (received_of received) }
+    ensures { arm_head_of result ≡ arm_received (option_map expression_of condition) (received_of received) }
 {
     match received {
         Received::Input(input) => ArmHead::Guarded(Guard::Input(condition, input)),
@@ -260,7 +260,7 @@ fn reception(alloc: Global, line: u32, tokens: &[Token]) -> Result<Received, Par
 
 /// The guard of `SKIP`, where nothing follows it.
 fn only_skip(line: u32, condition: Expr, rest: &[Token]) -> Result<ArmHead, ParseFault>
-    ensures { Gives arm_head_of result (ended (guarded_skip (expression_of condition)) (words rest.now)) }
+    ensures { Gives arm_head_of result (ended (guarded (on_skip (expression_of condition))) (words rest.now)) }
 {
     match rest {
         [] => Ok(ArmHead::Guarded(Guard::Skip(condition))),
