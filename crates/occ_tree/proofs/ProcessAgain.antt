@@ -16,7 +16,7 @@ use Rattle.occ_tree.specs.Lines.HeadReading.{has_colon, decl_head_at, tag_head_a
 use Rattle.occ_tree.specs.Processes.Trees.{Kind, process, choice, option, arm, variant, Under, nothing, one_of, all_of, Head, under, Tag, tag_line, Protocol, of_parts, of_tags, Node, node, Body, no_body, single_body, bodies, Nodes, no_node, more_nodes, nodes, Decls, no_decl, more_decls, decls, Decl, declares, item, Item, value_item, protocol_item, proc_item}
 use Rattle.occ_tree.specs.Processes.Shown.{show_head, show_tag, show_protocol, show_node, show_body, show_nodes, show_decls, show_decl, show_item, show_program}
 use Rattle.occ_tree.specs.Processes.Fits.{FitsHead, FitsTag, FitsProtocol, FitsNode, FitsBody, FitsNodes, FitsDecls, FitsDecl, FitsItem}
-use Rattle.occ_tree.specs.Processes.Reading.{head_at, at_level, at_decl, at_any, line_step, line_at, is_case, is_colon, end_at, tag_of, tag_at, tags_at, item_with, decl_with, body_with, node_with, node_at, as_item, item_at, program_at}
+use Rattle.occ_tree.specs.Processes.Reading.{head_at, at_level, at_decl, at_any, line_step, line_at, is_case, is_colon, case_at, end_at, tag_of, tag_at, tags_at, item_with, decl_with, body_with, node_with, node_at, as_item, item_at, program_at}
 use Rattle.occ_tree.proofs.Binds.{some_is}
 use Rattle.occ_tree.proofs.Manys.{Again, many_again, all_long, each_map}
 use Rattle.occ_tree.proofs.HeadAgain.{process_head_again, choice_head_again, option_head_again, arm_head_again, variant_head_again, decl_head_again, tag_head_again}
@@ -52,6 +52,10 @@ line_again l level ws rows = rw (here l level ws rows) refl
 end_again : (l level : ℕ) (rows : List Row) → end_at level (row l level (mark s.Colon ∷ []) ∷ rows) ≡ Some (l, rows)
 unfolding end_at
 end_again l level rows = rw (line_again l level (mark s.Colon ∷ []) rows) refl
+
+case_again : (l level : ℕ) (rows : List Row) → case_at level (row l level (key k.Case ∷ []) ∷ rows) ≡ Some (l, rows)
+unfolding case_at
+case_again l level rows = rw (line_again l level (key k.Case ∷ []) rows) refl
 
 -- ---- lists
 
@@ -100,7 +104,7 @@ tags_again b (suc n) level l v case_line ts end_line rows f =
     let last = row end_line level (mark s.Colon ∷ []) ∷ rows in
     let lower : level < level + 1 + 1 = omega arith in
     rw (
-      line_again case_line (level + 1) (key k.Case ∷ []) ((shown ++ row end_line level (mark s.Colon ∷ []) ∷ []) ++ rows),
+      case_again case_line (level + 1) ((shown ++ row end_line level (mark s.Colon ∷ []) ∷ []) ++ rows),
       append_assoc shown (row end_line level (mark s.Colon ∷ []) ∷ []) rows,
       many_again Row Tag (show_tag (level + 1 + 1)) (at_level (level + 1 + 1)) (tag_at b n (level + 1 + 1)) (λ rows. Unit {0}) (Below (level + 1 + 1)) (λ t rows. tt) (tags_last (level + 1 + 1)) ts (each_map (tag_each b n (level + 1 + 1)) ts f) (length (shown ++ last)) (all_long Row Tag (show_tag (level + 1 + 1)) (tag_long (level + 1 + 1)) ts last) last lower,
       end_again end_line level rows,

@@ -13,7 +13,7 @@ use Rattle.occ_tree.specs.Lines.HeadReading.{decl_head_at, tag_head_at, declares
 use Rattle.occ_tree.specs.Processes.Trees.{Kind, process, choice, option, arm, variant, Under, nothing, one_of, all_of, Head, under, Tag, tag_line, Protocol, of_parts, of_tags, Node, node, Body, no_body, single_body, bodies, Nodes, nodes, Decls, decls, Decl, declares, item, Item, value_item, protocol_item, proc_item}
 use Rattle.occ_tree.specs.Processes.Shown.{show_head, show_tag, show_protocol, show_node, show_body, show_nodes, show_decls, show_decl, show_item, show_program}
 use Rattle.occ_tree.specs.Processes.Fits.{FitsHead, FitsTag, FitsProtocol, FitsNode, FitsBody, FitsNodes, FitsDecls, FitsDecl, FitsItem}
-use Rattle.occ_tree.specs.Processes.Reading.{head_at, at_level, at_decl, at_any, line_step, line_at, is_case, is_colon, end_at, tag_of, tag_at, tags_at, item_with, decl_with, body_with, node_with, node_at, as_item, item_at, program_at}
+use Rattle.occ_tree.specs.Processes.Reading.{head_at, at_level, at_decl, at_any, line_step, line_at, is_case, is_colon, case_at, end_at, tag_of, tag_at, tags_at, item_with, decl_with, body_with, node_with, node_at, as_item, item_at, program_at}
 use Rattle.occ_tree.proofs.Binds.{bind_some, some_is, guard_is, ended_is, after}
 use Rattle.occ_tree.proofs.Manys.{many_sound}
 use Rattle.occ_tree.proofs.HeadSound.{process_head_sound, choice_head_sound, option_head_sound, arm_head_sound, variant_head_sound, decl_head_sound, tag_head_sound}
@@ -60,6 +60,13 @@ case_words : (ws : List Word) (u : Unit {0}) → is_case ws ≡ Some u → ws �
 case_words (key k.Case ∷ []) u e = refl
 case_words _ u e = absurd cc
 
+case_sound : (level : ℕ) (rows : List Row) (x : ℕ × List Row) → case_at level rows ≡ Some x → rows ≡ row x.0 level (key k.Case ∷ []) ∷ x.1
+unfolding case_at
+case_sound level rows x e =
+    let l = bind_some (line_at level rows) _ x e in
+    let sure = bind_some (is_case l.0.0.1) _ x l.2 in
+    subst (λ (y : ℕ × List Row). rows ≡ row y.0 level (key k.Case ∷ []) ∷ y.1) (some_is _ x sure.2) (line_sound level rows l.0 l.1 ∙ ap (λ (ws : List Word). row l.0.0.0 level ws ∷ l.0.1) (case_words l.0.0.1 sure.0 sure.1))
+
 end_sound : (level : ℕ) (rows : List Row) (x : ℕ × List Row) → end_at level rows ≡ Some x → rows ≡ row x.0 level (mark s.Colon ∷ []) ∷ x.1
 unfolding end_at
 end_sound level rows x e =
@@ -90,14 +97,13 @@ tags_sound : (b n level l : ℕ) (v : List ℕ) (rows : List Row) (x : Protocol 
 unfolding tags_at
 tags_sound b zero level l v rows x e = absurd cc
 tags_sound b (suc n) level l v rows x e =
-    let c = bind_some (line_at (level + 1) rows) _ x e in
-    let sure = bind_some (is_case c.0.0.1) _ x c.2 in
-    let ts = bind_some (many (at_level (level + 1 + 1)) (tag_at b n (level + 1 + 1)) (length c.0.1) c.0.1) _ x sure.2 in
+    let c = bind_some (case_at (level + 1) rows) _ x e in
+    let ts = bind_some (many (at_level (level + 1 + 1)) (tag_at b n (level + 1 + 1)) (length c.0.1) c.0.1) _ x c.2 in
     let last = bind_some (end_at level ts.0.1) _ x ts.2 in
     let p = many_sound Row Tag (show_tag (level + 1 + 1)) (FitsTag b n) (at_level (level + 1 + 1)) (tag_at b n (level + 1 + 1)) (tag_one b n (level + 1 + 1)) (length c.0.1) c.0.1 ts.0 ts.1 in
     let shown = show_all (show_tag (level + 1 + 1)) ts.0.0 in
     let closed : c.0.1 ≡ (shown ++ row last.0.0 level (mark s.Colon ∷ []) ∷ []) ++ last.0.1 = p.0 ∙ ap (λ (t : List Row). shown ++ t) (end_sound level ts.0.1 last.0 last.1) ∙ sym (append_assoc shown (row last.0.0 level (mark s.Colon ∷ []) ∷ []) last.0.1) in
-    let whole : rows ≡ row c.0.0.0 (level + 1) (key k.Case ∷ []) ∷ ((shown ++ row last.0.0 level (mark s.Colon ∷ []) ∷ []) ++ last.0.1) = line_sound (level + 1) rows c.0 c.1 ∙ ap (λ (ws : List Word). row c.0.0.0 (level + 1) ws ∷ c.0.1) (case_words c.0.0.1 sure.0 sure.1) ∙ ap (λ (t : List Row). row c.0.0.0 (level + 1) (key k.Case ∷ []) ∷ t) closed in
+    let whole : rows ≡ row c.0.0 (level + 1) (key k.Case ∷ []) ∷ ((shown ++ row last.0.0 level (mark s.Colon ∷ []) ∷ []) ++ last.0.1) = case_sound (level + 1) rows c.0 c.1 ∙ ap (λ (t : List Row). row c.0.0 (level + 1) (key k.Case ∷ []) ∷ t) closed in
     subst (Is (show_protocol level) (FitsProtocol b (suc n)) (row l level (show_decl_head (tags v)) ∷ rows)) (some_is _ x last.2) (ap (λ (t : List Row). row l level (show_decl_head (tags v)) ∷ t) whole, p.1)
 
 -- ---- the line of a kind

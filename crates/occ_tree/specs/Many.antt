@@ -1,5 +1,5 @@
 -- Reading from the front of a list, and reading as many of one kind as there are.
-use Rattle.std.specs.Prelude.{ℕ, zero, suc, List, [], ◌∷◌, Option, Some, None}
+use Rattle.std.specs.Prelude.{ℕ, zero, suc, List, [], ◌∷◌, length, Option, Some, None}
 
 infixl 10 ◌>>=◌
 abbrev pub ◌>>=◌ : {A B : Type 0} → Option A → (A → Option B) → Option B
@@ -26,3 +26,7 @@ many_step read others (Some after) ws = do
 unfoldable pub many : {W A : Type 0} → (List W → Option (List W)) → Reader W A → ℕ → Reader W (List A)
 many next read zero ws = Some ([], ws)
 many next read (suc n) ws = many_step read (many next read n) (next ws) ws
+
+-- as many as there are
+abbrev pub as_many : {W A : Type 0} → (List W → Option (List W)) → Reader W A → Reader W (List A)
+as_many next read ws = many next read (length ws) ws

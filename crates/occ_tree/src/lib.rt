@@ -5,6 +5,7 @@ mod expressions;
 mod fault;
 pub mod laws;
 mod lines;
+mod processes;
 pub mod tree;
 
 pub use fault::ParseFault;

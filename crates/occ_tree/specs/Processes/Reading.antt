@@ -3,7 +3,7 @@ use Rattle.std.specs.Prelude.{ℕ, zero, suc, ◌+◌, List, [], ◌∷◌, leng
 use Rattle.occ_text.specs.declared.token.Key.TheVariants as k
 use Rattle.occ_text.specs.declared.token.Sym.TheVariants as s
 use Rattle.occ_text.specs.Words.{Word, key, mark, Row, row}
-use Rattle.occ_tree.specs.Many.{◌>>=◌, Reader, many, ended}
+use Rattle.occ_tree.specs.Many.{◌>>=◌, Reader, as_many, ended}
 use Rattle.occ_tree.specs.Lines.Heads.{DeclHead, names, value, parts, tags, procedure, TagHead, tag_parts}
 use Rattle.occ_tree.specs.Lines.HeadReading.{process_head_at, choice_head_at, option_head_at, arm_head_at, variant_head_at, decl_head_at, tag_head_at, declares as begins_declaration}
 use Rattle.occ_tree.specs.Processes.Trees.{Kind, process, choice, option, arm, variant, Under, nothing, one_of, all_of, Head, under, Tag, tag_line, Protocol, of_parts, of_tags, Node, node, Body, no_body, single_body, bodies, Nodes, nodes, Decls, decls, Decl, declares, item, Item, value_item, protocol_item, proc_item}
@@ -49,6 +49,13 @@ abbrev pub is_colon : List Word → Option (Unit {0})
 is_colon (mark s.Colon ∷ []) = Some tt
 is_colon _ = None
 
+-- the number of the line of CASE
+unfoldable pub case_at : ℕ → Reader Row ℕ
+case_at level rows = do
+  l ← line_at level rows
+  sure ← is_case l.0.1
+  Some (l.0.0, l.1)
+
 -- the number of the line that ends a declaration
 unfoldable pub end_at : ℕ → Reader Row ℕ
 end_at level rows = do
@@ -61,23 +68,28 @@ end_at level rows = do
 abbrev pub tag_of : ℕ → TagHead → Tag
 tag_of l (tag_parts v ps) = tag_line l v ps
 
--- a line of a protocol, with fewer than n levels
-unfoldable pub tag_at : ℕ → ℕ → ℕ → Reader Row Tag
-tag_at b zero level rows = None
-tag_at b (suc n) level rows = do
+abbrev pub tag_with : ℕ → ℕ → Reader Row Tag
+tag_with b level rows = do
   l ← line_at level rows
   h ← tag_head_at b l.0.1
   Some (tag_of l.0.0 h, l.1)
 
+-- a line of a protocol, with fewer than n levels
+unfoldable pub tag_at : ℕ → ℕ → ℕ → Reader Row Tag
+tag_at b zero level rows = None
+tag_at b (suc n) level rows = tag_with b level rows
+
+abbrev pub tags_with : ℕ → ℕ → ℕ → ℕ → List ℕ → Reader Row Protocol
+tags_with b n level l v rows = do
+  c ← case_at (level + 1) rows
+  ts ← as_many (at_level (level + 1 + 1)) (tag_at b n (level + 1 + 1)) c.1
+  last ← end_at level ts.1
+  Some (of_tags l v c.0 ts.0 last.0, last.1)
+
 -- what follows the first line, where n levels are left from the next
 unfoldable pub tags_at : ℕ → ℕ → ℕ → ℕ → List ℕ → Reader Row Protocol
 tags_at b zero level l v rows = None
-tags_at b (suc n) level l v rows = do
-  c ← line_at (level + 1) rows
-  sure ← is_case c.0.1
-  ts ← many (at_level (level + 1 + 1)) (tag_at b n (level + 1 + 1)) (length c.1) c.1
-  last ← end_at level ts.1
-  Some (of_tags l v c.0.0 ts.0 last.0, last.1)
+tags_at b (suc n) level l v rows = tags_with b n level l v rows
 
 -- ---- declarations, where inner reads a process a level deeper, and n levels are left from there
 
@@ -108,16 +120,21 @@ body_with deeper inner (one_of k) rows = do
   n ← inner k rows
   Some (single_body n.0, n.1)
 body_with deeper inner (all_of k) rows = do
-  ns ← many (at_level deeper) (inner k) (length rows) rows
+  ns ← as_many (at_level deeper) (inner k) rows
   Some (bodies (nodes ns.0), ns.1)
+
+-- what stands under a line, and the whole
+abbrev pub finished : (k : Kind) → ℕ → ((j : Kind) → Reader Row (Node j)) → List Decl → ℕ → Head k → Reader Row (Node k)
+finished k level inner ds l h rows = do
+  body ← body_with (level + 1) inner (under k h) rows
+  Some (node (decls ds) l h body.0, body.1)
 
 unfoldable pub node_with : (k : Kind) → ℕ → ℕ → ℕ → ((j : Kind) → Reader Row (Node j)) → Reader Row (Node k)
 node_with k b n level inner rows = do
-  ds ← many (at_decl level) (decl_with b n level (inner process)) (length rows) rows
+  ds ← as_many (at_decl level) (decl_with b n level (inner process)) rows
   l ← line_at level ds.1
   h ← head_at k b l.0.1
-  body ← body_with (level + 1) inner (under k h) l.1
-  Some (node (decls ds.0) l.0.0 h body.0, body.1)
+  finished k level inner ds.0 l.0.0 h l.1
 
 -- one of a kind at a level, with fewer than n levels, its own and those under it
 unfoldable pub node_at : ℕ → ℕ → ℕ → (k : Kind) → Reader Row (Node k)
@@ -139,5 +156,5 @@ item_at b n rows = do
 
 unfoldable pub program_at : ℕ → ℕ → List Row → Option (List Item)
 program_at b n rows = do
-  all ← many at_any (item_at b n) (length rows) rows
+  all ← as_many at_any (item_at b n) rows
   ended all.0 all.1
