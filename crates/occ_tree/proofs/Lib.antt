@@ -6,6 +6,7 @@ pub mod HeadAgain
 pub mod HeadSound
 pub mod LineAgain
 pub mod LineSound
+pub mod Made
 pub mod ManyLoop
 pub mod Manys
 pub mod ProcessAgain
