@@ -1,9 +1,10 @@
 -- One level of brackets, and one level of lines.
-use Rattle.std.proofs.Common.{◌≡◌, ◌≢◌, ℕ, zero, suc, ◌+◌, ◌-◌, List, Option, None, refl, arith}
+use Rattle.std.proofs.Common.{◌≡◌, ◌≢◌, ℕ, zero, suc, ◌+◌, ◌-◌, List, Option, None, Some, refl, arith}
 use Rattle.occ_text.specs.Words.{Word, Row}
 use Rattle.occ_tree.specs.declared.fault.ParseFault.{ParseFault}
 use Rattle.occ_tree.specs.declared.fault.ParseFault.TheVariants.{Memory, Unexpected, Level, Missing, TooDeep}
 use Rattle.occ_tree.specs.Expressions.Reading.{Fails, expression_with, expression_at}
+use Rattle.occ_tree.specs.Many.{◌>>=◌}
 use Rattle.occ_tree.specs.Processes.Trees.{Kind}
 use Rattle.occ_tree.specs.Processes.Reading.{tag_with, tag_at, tags_with, tags_at, node_with, node_at}
 
@@ -56,3 +57,11 @@ fails_none (Unexpected line) read h = h
 fails_none (Level line) read h = h
 fails_none (Missing line) read h = h
 fails_none (TooDeep line) read h = h
+
+-- what stands a level deeper has the fault, and so has the whole
+pub fails_below : (e : ParseFault) {A B C : Type 0} (r : Option A) (f : A → Option B) (g : B → Option C) → Fails e r → Fails e ((r >>= f) >>= g)
+fails_below Memory r f g h = tt
+fails_below (Unexpected line) r f g h = rw h refl
+fails_below (Level line) r f g h = rw h refl
+fails_below (Missing line) r f g h = rw h refl
+fails_below (TooDeep line) r f g h = rw h refl

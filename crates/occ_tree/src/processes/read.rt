@@ -79,50 +79,58 @@ fn statement(
 {
     match head {
         ProcessHead::Action(action) => Ok((Process::Declared(declarations, line, Stmt::Action(action)), lines)),
-        ProcessHead::Seq(None) => {
-            let (all, rest) = processes(alloc, last, left, level + 1, lines)?;
-            Ok((Process::Declared(declarations, line, Stmt::Seq(all)), rest))
-        }
-        ProcessHead::Seq(Some(index)) => {
-            let (one, rest) = process(alloc, last, left, level + 1, lines)?;
-            let one = Box::new(alloc, one)?;
-            Ok((Process::Declared(declarations, line, Stmt::SeqFor(index, one)), rest))
-        }
-        ProcessHead::Par(None) => {
-            let (all, rest) = processes(alloc, last, left, level + 1, lines)?;
-            Ok((Process::Declared(declarations, line, Stmt::Par(all)), rest))
-        }
-        ProcessHead::Par(Some(index)) => {
-            let (one, rest) = process(alloc, last, left, level + 1, lines)?;
-            let one = Box::new(alloc, one)?;
-            Ok((Process::Declared(declarations, line, Stmt::ParFor(index, one)), rest))
-        }
-        ProcessHead::Alt(pri, None) => {
-            let (all, rest) = arms(alloc, last, left, level + 1, lines)?;
-            Ok((Process::Declared(declarations, line, Stmt::Alt(pri, all)), rest))
-        }
-        ProcessHead::Alt(pri, Some(index)) => {
-            let (one, rest) = arm(alloc, last, left, level + 1, lines)?;
-            let one = Box::new(alloc, one)?;
-            Ok((Process::Declared(declarations, line, Stmt::AltFor(pri, index, one)), rest))
-        }
-        ProcessHead::If(None) => {
-            let (all, rest) = choices(alloc, last, left, level + 1, lines)?;
-            Ok((Process::Declared(declarations, line, Stmt::If(all)), rest))
-        }
-        ProcessHead::If(Some(index)) => {
-            let (one, rest) = choice(alloc, last, left, level + 1, lines)?;
-            let one = Box::new(alloc, one)?;
-            Ok((Process::Declared(declarations, line, Stmt::IfFor(index, one)), rest))
-        }
+        ProcessHead::Seq(seq) => match seq {
+            None => {
+                let (steps, rest) = processes(alloc, last, left, level + 1, lines)?;
+                Ok((Process::Declared(declarations, line, Stmt::Seq(steps)), rest))
+            }
+            Some(index) => {
+                let (step, rest) = process(alloc, last, left, level + 1, lines)?;
+                let step = Box::new(alloc, step)?;
+                Ok((Process::Declared(declarations, line, Stmt::SeqFor(index, step)), rest))
+            }
+        },
+        ProcessHead::Par(par) => match par {
+            None => {
+                let (branches, rest) = processes(alloc, last, left, level + 1, lines)?;
+                Ok((Process::Declared(declarations, line, Stmt::Par(branches)), rest))
+            }
+            Some(index) => {
+                let (branch, rest) = process(alloc, last, left, level + 1, lines)?;
+                let branch = Box::new(alloc, branch)?;
+                Ok((Process::Declared(declarations, line, Stmt::ParFor(index, branch)), rest))
+            }
+        },
+        ProcessHead::Alt(pri, alt) => match alt {
+            None => {
+                let (guards, rest) = arms(alloc, last, left, level + 1, lines)?;
+                Ok((Process::Declared(declarations, line, Stmt::Alt(pri, guards)), rest))
+            }
+            Some(index) => {
+                let (guard, rest) = arm(alloc, last, left, level + 1, lines)?;
+                let guard = Box::new(alloc, guard)?;
+                Ok((Process::Declared(declarations, line, Stmt::AltFor(pri, index, guard)), rest))
+            }
+        },
+        ProcessHead::If(cond) => match cond {
+            None => {
+                let (cases, rest) = choices(alloc, last, left, level + 1, lines)?;
+                Ok((Process::Declared(declarations, line, Stmt::If(cases)), rest))
+            }
+            Some(index) => {
+                let (case, rest) = choice(alloc, last, left, level + 1, lines)?;
+                let case = Box::new(alloc, case)?;
+                Ok((Process::Declared(declarations, line, Stmt::IfFor(index, case)), rest))
+            }
+        },
         ProcessHead::Case(value) => {
-            let (all, rest) = selections(alloc, last, left, level + 1, lines)?;
-            Ok((Process::Declared(declarations, line, Stmt::Case(value, all)), rest))
+            let (options, rest) = selections(alloc, last, left, level + 1, lines)?;
+            Ok((Process::Declared(declarations, line, Stmt::Case(value, options)), rest))
         }
         ProcessHead::While(condition) => {
-            let (one, rest) = process(alloc, last, left, level + 1, lines)?;
-            let one = Box::new(alloc, one)?;
-            Ok((Process::Declared(declarations, line, Stmt::While(condition, one)), rest))
+            let (body, rest) = process(alloc, last, left, level + 1, lines)?;
+            let body = Box::new(alloc, body)?;
+            Ok((Process::Declared(declarations, line, Stmt::While(condition, body)), rest))
         }
         ProcessHead::Variants(channel) => {
             let (all, rest) = variants(alloc, last, left, level + 1, lines)?;
@@ -213,15 +221,17 @@ fn chosen(
             let (one, rest) = process(alloc, last, left, level + 1, lines)?;
             Ok((Choice::When(declarations, line, condition, one), rest))
         }
-        ChoiceHead::If(None) => {
-            let (all, rest) = choices(alloc, last, left, level + 1, lines)?;
-            Ok((Choice::InnerIf(declarations, line, all), rest))
-        }
-        ChoiceHead::If(Some(index)) => {
-            let (one, rest) = choice(alloc, last, left, level + 1, lines)?;
-            let one = Box::new(alloc, one)?;
-            Ok((Choice::InnerIfFor(declarations, line, index, one), rest))
-        }
+        ChoiceHead::If(cond) => match cond {
+            None => {
+                let (cases, rest) = choices(alloc, last, left, level + 1, lines)?;
+                Ok((Choice::InnerIf(declarations, line, cases), rest))
+            }
+            Some(index) => {
+                let (case, rest) = choice(alloc, last, left, level + 1, lines)?;
+                let case = Box::new(alloc, case)?;
+                Ok((Choice::InnerIfFor(declarations, line, index, case), rest))
+            }
+        },
     }
 }
 
@@ -395,15 +405,17 @@ fn armed(
             let (all, rest) = variants(alloc, last, left, level + 1, lines)?;
             Ok((Arm::OnVariant(declarations, line, condition, channel, all), rest))
         }
-        ArmHead::Alt(pri, None) => {
-            let (all, rest) = arms(alloc, last, left, level + 1, lines)?;
-            Ok((Arm::InnerAlt(declarations, line, pri, all), rest))
-        }
-        ArmHead::Alt(pri, Some(index)) => {
-            let (one, rest) = arm(alloc, last, left, level + 1, lines)?;
-            let one = Box::new(alloc, one)?;
-            Ok((Arm::InnerAltFor(declarations, line, pri, index, one), rest))
-        }
+        ArmHead::Alt(pri, alt) => match alt {
+            None => {
+                let (guards, rest) = arms(alloc, last, left, level + 1, lines)?;
+                Ok((Arm::InnerAlt(declarations, line, pri, guards), rest))
+            }
+            Some(index) => {
+                let (guard, rest) = arm(alloc, last, left, level + 1, lines)?;
+                let guard = Box::new(alloc, guard)?;
+                Ok((Arm::InnerAltFor(declarations, line, pri, index, guard), rest))
+            }
+        },
     }
 }
 
