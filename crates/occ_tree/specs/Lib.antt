@@ -1,0 +1,5 @@
+pub mod Expressions
+pub mod Lines
+pub mod Lists
+pub mod Many
+pub mod Processes

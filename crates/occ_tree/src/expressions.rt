@@ -1,0 +1,5 @@
+//! Reading expressions.
+
+pub mod read;
+pub mod start;
+pub mod symbol;

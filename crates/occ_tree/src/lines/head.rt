@@ -1,0 +1,89 @@
+//! What the line at the head of a process, or of a part of one, says.
+
+use crate::tree::expr::Expr;
+use crate::tree::line::{
+    Action, Formals, Guard, OneOrMore, Part, Replicator, Sort, Target, ValueType, Var,
+};
+
+/// The line of a process.
+#[derive(Drop)]
+pub enum ProcessHead {
+    /// A process that stands in one line.
+    Action(Action),
+    /// An input of variants from the channel.
+    Variants(Var),
+    /// `SEQ`
+    Seq(Option<Replicator>),
+    /// `PAR`
+    Par(Option<Replicator>),
+    /// `ALT`, by priority where the truth value says so.
+    Alt(bool, Option<Replicator>),
+    /// `IF`
+    If(Option<Replicator>),
+    /// `CASE` and the value.
+    Case(Expr),
+    /// `WHILE` and the condition.
+    While(Expr),
+}
+
+/// The line of a choice.
+#[derive(Drop)]
+pub enum ChoiceHead {
+    /// A condition.
+    When(Expr),
+    /// A nested `IF`.
+    If(Option<Replicator>),
+}
+
+/// The line of an option.
+#[derive(Drop)]
+pub enum OptionHead {
+    /// The values.
+    Values(OneOrMore<Expr>),
+    /// `ELSE`
+    Else,
+}
+
+/// The line of an arm.
+#[derive(Drop)]
+pub enum ArmHead {
+    /// A guard.
+    Guarded(Guard),
+    /// An input of variants from the channel, behind the Boolean where there is one.
+    Variants(Option<Expr>, Var),
+    /// A nested `ALT`, by priority where the truth value says so.
+    Alt(bool, Option<Replicator>),
+}
+
+/// The line of a variant: the tag and the targets.
+#[derive(Drop)]
+pub struct VariantHead {
+    /// The tag.
+    pub tag: Vec<u8>,
+    /// The targets of what follows it.
+    pub targets: Vec<Target>,
+}
+
+/// The first line of a declaration.
+#[derive(Drop)]
+pub enum DeclHead {
+    /// The sizes, the sort and the names.
+    Names(Vec<Expr>, Sort, OneOrMore<Vec<u8>>),
+    /// The type where it is given, the name and the value.
+    Value(Option<ValueType>, Vec<u8>, Expr),
+    /// A protocol: the name and the parts.
+    Parts(Vec<u8>, OneOrMore<Part>),
+    /// The first line of a protocol of variants: the name.
+    Tags(Vec<u8>),
+    /// The first line of a procedure: the name and the formals.
+    Proc(Vec<u8>, Option<Formals>),
+}
+
+/// A line of a protocol of variants: the tag and the parts.
+#[derive(Drop)]
+pub struct TagHead {
+    /// The tag.
+    pub tag: Vec<u8>,
+    /// The parts that follow it.
+    pub parts: Vec<Part>,
+}
