@@ -5,6 +5,11 @@ use Rattle.occ_text.specs.Words.{Row}
 use Rattle.occ_text.specs.Lines.{LinesOf}
 use Rattle.occ_text.specs.declared.fault.TextFault.{TextFault}
 use Rattle.occ_text.specs.declared.fault.TextFault.TheVariants as text
+use Rattle.occ_tree.specs.Processes.Trees.{Item}
+use Rattle.occ_tree.specs.Processes.Shown.{show_program}
+use Rattle.occ_tree.specs.Processes.Fits.{InBounds}
+use Rattle.occ_tree.specs.declared.fault.ParseFault.{ParseFault}
+use Rattle.occ_tree.specs.declared.fault.ParseFault.TheVariants as tree
 use Rattle.occ_term.specs.declared.message.Message.{Message}
 use Rattle.occ_term.specs.declared.protocol.Protocol.{Protocol}
 use Rattle.occ_term.specs.declared.usage.UsageFault.{UsageFault}
@@ -34,10 +39,17 @@ use Rattle.occ_play.specs.Replay.{Net, Replays}
 
 -- ---- what a text is
 
--- the program of a text: the unfolding of its logical lines, typed, with its processes numbered
+-- a tree within the bounds, whose written form the lines are
+pub record IsTreeOf (lines : List Row) (items : List Item) : Type 0 where
+  pub shown : show_program items ≡ lines
+  pub bounded : InBounds items
+
+-- the program of a text: its logical lines have a tree, and their unfolding is this one, typed, with its processes numbered
 pub record Unfolds (source : List ℕ) (u : Unfolding) : Type 0 where
   pub lines : List Row
   pub read : LinesOf source lines
+  pub items : List Item
+  pub parsed : IsTreeOf lines items
   pub unfolds : IsUnfolding lines u
   pub well_formed : IsWellFormed u
 
@@ -81,6 +93,10 @@ abbrev pub TextRefuses : TextFault → List ℕ → Type 0
 TextRefuses text.Memory source = ⊤
 TextRefuses fault source = (lines : List Row) → LinesOf source lines → ⊥
 
+abbrev pub ParseRefuses : ParseFault → List ℕ → Type 0
+ParseRefuses tree.Memory source = ⊤
+ParseRefuses fault source = (lines : List Row) (items : List Item) → LinesOf source lines → IsTreeOf lines items → ⊥
+
 abbrev pub UsageRefusesText : UsageFault → List ℕ → Type 0
 UsageRefusesText usage.Memory source = ⊤
 UsageRefusesText fault source = (u : Unfolding) × Unfolds source u × (Lawful u → ⊥)
@@ -91,6 +107,7 @@ CodeRefusesText code.TooLarge source = (u : Unfolding) × Unfolds source u × (m
 
 abbrev pub Refuses : List ℕ → PlayFault → Type 0
 Refuses source (play.Text fault) = TextRefuses fault source
+Refuses source (play.Parse fault) = ParseRefuses fault source
 Refuses source (play.Early line) = (lines : List Row) (t : Term) → LinesOf source lines → FirstForm lines t → ⊥
 Refuses source (play.Usage fault) = UsageRefusesText fault source
 Refuses source (play.Code fault) = CodeRefusesText fault source

@@ -1,6 +1,7 @@
 -- The exit status of a program that played so.
 use Rattle.std.specs.Prelude.{ℕ, Result, Ok, Err}
 use Rattle.occ_text.specs.declared.fault.TextFault.TheVariants as text
+use Rattle.occ_tree.specs.declared.fault.ParseFault.TheVariants as tree
 use Rattle.occ_term.specs.declared.usage.UsageFault.TheVariants as usage
 use Rattle.occ_code.specs.declared.code.CodeFault.TheVariants as code
 use Rattle.occ_play.specs.declared.ending.Ending.{Ending}
@@ -19,6 +20,8 @@ ending_status Limit = 4
 abbrev pub fault_status : PlayFault → ℕ
 fault_status (play.Text text.Memory) = 5
 fault_status (play.Text fault) = 1
+fault_status (play.Parse tree.Memory) = 5
+fault_status (play.Parse fault) = 1
 fault_status (play.Early line) = 1
 fault_status (play.Usage usage.Memory) = 5
 fault_status (play.Usage fault) = 1

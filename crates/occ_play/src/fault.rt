@@ -5,6 +5,7 @@ ghost use Rattle.std.specs.Prelude.{◌≡◌};
 use occ_code::CodeFault;
 use occ_term::UsageFault;
 use occ_text::TextFault;
+use occ_tree::ParseFault;
 use std::alloc::AllocError;
 use thiserror::Error;
 
@@ -14,6 +15,9 @@ pub enum PlayFault {
     /// The text has no logical lines.
     #[error("{0}")]
     Text(TextFault),
+    /// The lines have no tree.
+    #[error("{0}")]
+    Parse(ParseFault),
     /// The text is not one of those that are played so far. The line is that of some line of it, and 1 for a text without lines.
     #[error("refused 95 Early line {line}")]
     Early { line: u32 },
@@ -38,6 +42,16 @@ impl From<TextFault> for PlayFault {
 
     fn from(fault: TextFault) -> PlayFault {
         PlayFault::Text(fault)
+    }
+}
+
+impl From<ParseFault> for PlayFault {
+    ghost use Rattle.occ_play.specs.declared.fault.PlayFault.{PlayFault};
+
+    ghost from_gives = { λ fault made. made ≡ PlayFault.Parse fault };
+
+    fn from(fault: ParseFault) -> PlayFault {
+        PlayFault::Parse(fault)
     }
 }
 

@@ -15,6 +15,7 @@ use crate::running::{Outcome, run};
 use occ_code::{CodeFault, compile};
 use occ_term::{Checked, Refused, Unfolded, UsageFault, check_usage};
 use occ_text::{TextFault, read_lines};
+use occ_tree::{ParseFault, parse};
 use std::alloc::{AllocError, Global};
 use std::io::Write;
 
@@ -35,7 +36,7 @@ pub struct Played {
 ///
 /// # Errors
 ///
-/// `Text`, `Early`, `Usage` and `Code` refuse the source, `Memory` tells of a refused growth: then
+/// `Text`, `Parse`, `Early`, `Usage` and `Code` refuse the source, `Memory` tells of a refused growth: then
 /// `out` is as it was. `Write` tells of a failed write, after the first `written` bytes of the answer.
 pub fn play<W: Write>(
     alloc: Global,
@@ -109,6 +110,7 @@ fn front(alloc: Global, source: &[u8]) -> Result<Unfolded, PlayFault>
     ensures refused { IfErr result (Refuses source.now) }
 {
     let lines = read_lines(alloc, source)?;
+    parse(alloc, &lines)?;
     match unfold(alloc, &lines) {
         Ok(unfolded) => {
             unfolded.well_formed();
@@ -132,10 +134,12 @@ pub fn status_of(played: &Result<Played, PlayFault>) -> u8
             Ending::Limit => 4,
         },
         Err(PlayFault::Text(TextFault::Memory))
+        | Err(PlayFault::Parse(ParseFault::Memory))
         | Err(PlayFault::Usage(UsageFault::Memory))
         | Err(PlayFault::Code(CodeFault::Memory))
         | Err(PlayFault::Memory(_)) => 5,
         Err(PlayFault::Text(_))
+        | Err(PlayFault::Parse(_))
         | Err(PlayFault::Early { .. })
         | Err(PlayFault::Usage(_))
         | Err(PlayFault::Code(_)) => 1,

@@ -20,6 +20,8 @@ mod row;
 #[cfg(test)]
 mod texts;
 #[cfg(test)]
+mod trees;
+#[cfg(test)]
 mod unfolded;
 #[cfg(test)]
 mod writers;

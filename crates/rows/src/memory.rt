@@ -3,6 +3,7 @@ use occ_code::CodeFault;
 use occ_play::{Counted, Plan, PlayFault, play, status_of};
 use occ_term::UsageFault;
 use occ_text::TextFault;
+use occ_tree::ParseFault;
 use std::alloc::Global;
 use std::process::Abort;
 
@@ -11,6 +12,7 @@ fn is_memory(fault: &PlayFault) -> bool {
         fault,
         PlayFault::Memory(_)
             | PlayFault::Text(TextFault::Memory)
+            | PlayFault::Parse(ParseFault::Memory)
             | PlayFault::Usage(UsageFault::Memory)
             | PlayFault::Code(CodeFault::Memory)
     )

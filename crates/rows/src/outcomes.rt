@@ -3,6 +3,7 @@ use occ_code::CodeFault;
 use occ_play::{Choice, Ending, Plan, PlayFault, Played, status_of};
 use occ_term::{Fault, FaultKind, UsageFault};
 use occ_text::TextFault;
+use occ_tree::ParseFault;
 use std::process::Abort;
 use std::test::Fail;
 
@@ -107,6 +108,11 @@ fn faults_have_texts(rt: HostRuntime) -> Result<(), Fail> {
             "refused 2 BadByte line 9",
             1,
         ),
+        (
+            PlayFault::Parse(ParseFault::Level { line: 7 }),
+            "refused 21 Level line 7",
+            1,
+        ),
         (PlayFault::Early { line: 4 }, "refused 95 Early line 4", 1),
         (
             PlayFault::Usage(shared),
@@ -124,6 +130,7 @@ fn faults_have_texts(rt: HostRuntime) -> Result<(), Fail> {
             1,
         ),
         (PlayFault::Text(TextFault::Memory), "memory", 5),
+        (PlayFault::Parse(ParseFault::Memory), "memory", 5),
         (PlayFault::Usage(UsageFault::Memory), "memory", 5),
         (PlayFault::Code(CodeFault::Memory), "memory", 5),
         (PlayFault::Write { written: 3 }, "write failed", 6),

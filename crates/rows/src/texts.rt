@@ -1,6 +1,6 @@
 //! Texts: what is read as a program, and what is refused.
 use crate::row::{Row, check_row};
-use occ_play::{Choice, Counted, Plan, PlayFault, play};
+use occ_play::Choice;
 use std::alloc::{AllocError, Global};
 use std::test::Fail;
 
@@ -35,7 +35,7 @@ const LETTERS: [(&str, &[u8]); 6] = [
 ];
 
 /// Texts that are refused, and how.
-const REFUSALS: [(&[u8], &str); 19] = [
+const REFUSALS: [(&[u8], &str); 23] = [
     (b"SKIP\t\n", "refused 2 BadByte line 1"),
     (b"x,\n  @", "refused 2 BadByte line 1"),
     (
@@ -65,13 +65,29 @@ const REFUSALS: [(&[u8], &str); 19] = [
         b"PROC main (CHAN OF BYTE keyboard,\n",
         "refused 7 BadBreak line 1",
     ),
-    (b"", "refused 95 Early line 1"),
-    (b"SKIP", "refused 95 Early line 1"),
-    (b":", "refused 95 Early line 1"),
-    (b"-- no program", "refused 95 Early line 1"),
+    (b"SKIP", "refused 20 Unexpected line 1"),
+    (b":", "refused 20 Unexpected line 1"),
+    (
+        b"PROC main (CHAN OF BYTE keyboard, screen)\n  INT x:\n  x := 1 + 2 + 3\n:\n",
+        "refused 20 Unexpected line 3",
+    ),
+    (
+        b"PROC main (CHAN OF BYTE keyboard, screen)\n  SEQ\n      SKIP\n:\n",
+        "refused 21 Level line 3",
+    ),
     (
         b"PROC main (CHAN OF BYTE keyboard, screen)",
-        "refused 95 Early line 1",
+        "refused 22 Missing line 1",
+    ),
+    (
+        b"PROC main (CHAN OF BYTE keyboard, screen)\n  screen ! 'A'\n",
+        "refused 22 Missing line 2",
+    ),
+    (b"", "refused 95 Early line 1"),
+    (b"-- no program", "refused 95 Early line 1"),
+    (
+        b"PROC main (CHAN OF BYTE keyboard, screen)\n  INT x:\n  x := 1\n:\n",
+        "refused 95 Early line 2",
     ),
 ];
 
@@ -141,7 +157,7 @@ fn many_lines_are_read(rt: HostRuntime) -> Result<(), Fail> {
 }
 
 /// A letter at this level, below a sequence at each level between.
-fn nested(alloc: Global, level: usize) -> Result<Vec<u8>, AllocError> {
+pub(crate) fn nested(alloc: Global, level: usize) -> Result<Vec<u8>, AllocError> {
     let mut source = Vec::from_slice(alloc, HEAD)?;
     for outer in 1..level {
         indent(&mut source, outer)?;
@@ -166,9 +182,9 @@ fn levels_are_read(rt: HostRuntime) -> Result<(), Fail> {
     let deepest = nested(alloc, 64)?;
     check_row(&rt, alloc, &Row::ended("64 levels", &deepest, b"A", &used))?;
     let too_deep = nested(alloc, 65)?;
-    let mut answer = Vec::new(alloc);
-    let mut out = Counted::new(&mut answer);
-    let played = play(alloc, &too_deep, b"", &Plan::Turns(100), false, &mut out);
-    assert!(rt; matches!(played, Err(PlayFault::Early { .. })));
-    Ok(())
+    check_row(
+        &rt,
+        alloc,
+        &Row::refused(&too_deep, "refused 23 TooDeep line 66"),
+    )
 }
