@@ -1,9 +1,9 @@
 -- No line at the head of a process, or of a part of one, begins a declaration.
-use Rattle.std.proofs.Common.{◌≡◌, ℕ, List, [], ◌∷◌, ◌++◌, Bool, true, false, Option, Some, None, refl, sym, ap, ◌∙◌, append_assoc}
+use Rattle.std.proofs.Common.{◌≡◌, List, [], ◌∷◌, ◌++◌, true, false, Some, None, refl, sym, ap, ◌∙◌, append_assoc}
 use Rattle.std.proofs.lemmas.List.{append-nil}
 use Rattle.occ_text.specs.declared.token.Key.TheVariants as k
 use Rattle.occ_text.specs.declared.token.Sym.TheVariants as s
-use Rattle.occ_text.specs.Words.{Word, key, name, lit, mark}
+use Rattle.occ_text.specs.Words.{Word, key, name, mark}
 use Rattle.occ_tree.specs.declared.tree.expr.Primitive.TheVariants as prims
 use Rattle.occ_tree.specs.declared.tree.expr.Dyadic.{Dyadic}
 use Rattle.occ_tree.specs.declared.tree.expr.Dyadic.TheVariants as dyadics
@@ -12,9 +12,8 @@ use Rattle.occ_tree.specs.declared.tree.expr.Monadic.TheVariants as monadics
 use Rattle.occ_tree.specs.declared.tree.expr.Logic.{Logic}
 use Rattle.occ_tree.specs.declared.tree.expr.Logic.TheVariants as logics
 use Rattle.occ_tree.specs.declared.lines.separator.Separator.TheVariants as separators
-use Rattle.occ_tree.specs.Lists.{show_all}
 use Rattle.occ_tree.specs.Expressions.Trees.{Expression, alone, two, one, convert, limit, chain, Operand, variable, literal, truth, parens, Operands, no_operand, more_operands, Expressions, no_expression, more_expressions}
-use Rattle.occ_tree.specs.Expressions.Shown.{prim_word, dyadic_word, monadic_word, logic_word, show_type, show_expression, show_operand, show_operands, show_indices}
+use Rattle.occ_tree.specs.Expressions.Shown.{dyadic_word, monadic_word, logic_word, show_expression, show_operand, show_operands, show_indices}
 use Rattle.occ_tree.specs.Lines.Trees.{Var, var, Target, into, into_counted, Received, in_line, items, tagged, by_variant, of_data, of_channel}
 use Rattle.occ_tree.specs.Lines.Shown.{show_listed, show_name, show_var, show_target, show_received}
 use Rattle.occ_tree.specs.Lines.Heads.{skip, stop, assign, input, output, call, act, input_variants, sequence, parallel, alternation, conditional, selection, loop, chosen, nested_conditional, values, otherwise, on_input, on_skip, guarded, guarded_variants, nested_alternation, tag, DeclHead, names, value, parts, tags, procedure, show_decl_head}

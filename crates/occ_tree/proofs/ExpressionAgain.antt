@@ -1,9 +1,8 @@
 -- An expression that is shown is read again, where what follows does not go on with it.
-use Rattle.std.proofs.Common.{◌≡◌, ℕ, zero, suc, ◌<◌, ◌≤◌, List, [], ◌∷◌, ◌++◌, length, true, false, Option, Some, None, refl, sym, ap, ◌∙◌, append_assoc, length-append, arith, zero-le}
-use Rattle.std.proofs.lemmas.List.{append-nil}
+use Rattle.std.proofs.Common.{◌≡◌, ℕ, zero, suc, ◌<◌, ◌≤◌, List, [], ◌∷◌, ◌++◌, length, true, false, Option, Some, None, refl, sym, ap, ◌∙◌, append_assoc, arith}
 use Rattle.occ_text.specs.declared.token.Key.TheVariants as k
 use Rattle.occ_text.specs.declared.token.Sym.TheVariants as s
-use Rattle.occ_text.specs.Words.{Word, Lit, key, name, lit, mark}
+use Rattle.occ_text.specs.Words.{Word, key, mark}
 use Rattle.occ_tree.specs.declared.tree.expr.Primitive.{Primitive}
 use Rattle.occ_tree.specs.declared.tree.expr.Primitive.TheVariants as prims
 use Rattle.occ_tree.specs.declared.tree.expr.Dyadic.{Dyadic}
@@ -15,7 +14,7 @@ use Rattle.occ_tree.specs.declared.tree.expr.Logic.TheVariants as logics
 use Rattle.occ_tree.specs.declared.expressions.start.Start.TheVariants as starts
 use Rattle.occ_tree.specs.declared.expressions.start.Link.TheVariants as links
 use Rattle.occ_tree.specs.Lists.{show_all, Each}
-use Rattle.occ_tree.specs.Many.{◌>>=◌, Reader, many}
+use Rattle.occ_tree.specs.Many.{◌>>=◌, many}
 use Rattle.occ_tree.specs.Expressions.Trees.{Expression, alone, two, one, convert, limit, chain, Operand, variable, literal, truth, parens, Operands, no_operand, more_operands, Expressions, no_expression, more_expressions, operands, expressions}
 use Rattle.occ_tree.specs.Expressions.Shown.{prim_word, dyadic_word, monadic_word, logic_word, show_type, show_expression, show_operand, show_operands, show_indices, depth, depth_operand, depth_operands, depth_indices, dimensions, count_expressions, Narrow, NarrowOperand, NarrowOperands, NarrowExpressions}
 use Rattle.occ_tree.specs.Expressions.Reading.{Read, after_open_bracket, prim_at, start_of, link_of, type_mark_at, index_with, indices_with, operand_with, after_logic, after_operand, expression_with, expression_at}

@@ -1,5 +1,5 @@
 -- An expression that is read is shown so.
-use Rattle.std.proofs.Common.{◌≡◌, ℕ, zero, suc, ◌<◌, ◌≤◌, max, List, [], ◌∷◌, ◌++◌, length, true, false, Option, Some, None, refl, sym, ap, subst, ◌∙◌, append_assoc, arith, zero-le}
+use Rattle.std.proofs.Common.{◌≡◌, ℕ, zero, suc, ◌<◌, ◌≤◌, max, List, [], ◌∷◌, ◌++◌, length, true, false, Option, Some, refl, sym, ap, subst, ◌∙◌, append_assoc, arith, zero-le}
 use Rattle.occ_text.specs.declared.token.Key.TheVariants as k
 use Rattle.occ_text.specs.declared.token.Sym.TheVariants as s
 use Rattle.occ_text.specs.Words.{Word, key, name, lit, mark}
@@ -11,8 +11,8 @@ use Rattle.occ_tree.specs.declared.expressions.start.Start.TheVariants as starts
 use Rattle.occ_tree.specs.declared.expressions.start.Link.{Link}
 use Rattle.occ_tree.specs.declared.expressions.start.Link.TheVariants as links
 use Rattle.occ_tree.specs.Lists.{show_all, Each}
-use Rattle.occ_tree.specs.Many.{◌>>=◌, Reader, many}
-use Rattle.occ_tree.specs.Expressions.Trees.{Expression, Expressions, Operand, Operands, operands, expressions}
+use Rattle.occ_tree.specs.Many.{many}
+use Rattle.occ_tree.specs.Expressions.Trees.{Expression, Operand, operands, expressions}
 use Rattle.occ_tree.specs.Expressions.Shown.{prim_word, dyadic_word, monadic_word, logic_word, limit_word, show_type, show_expression, show_operand, show_operands, show_indices, depth, depth_operand, depth_operands, depth_indices, dimensions, count_expressions, Narrow, NarrowOperand, NarrowOperands, NarrowExpressions}
 use Rattle.occ_tree.specs.Expressions.Reading.{Read, after_open_bracket, after_close, after_close_bracket, after_int, prim_at, start_of, link_of, type_mark_at, index_with, indices_with, operand_with, after_logic, linked, after_operand, started, expression_with, expression_at}
 use Rattle.occ_tree.proofs.Binds.{bind_some, some_is, after}

@@ -1,26 +1,25 @@
 -- A line at the head of a process, or of a part of one, that is shown is read again.
-use Rattle.std.proofs.Common.{◌≡◌, ℕ, ◌<◌, ◌≤◌, ◌-◌, List, [], ◌∷◌, ◌++◌, Bool, true, false, Option, Some, None, refl, sym, ap, subst, ◌∙◌, append_assoc, arith}
+use Rattle.std.proofs.Common.{◌≡◌, ℕ, ◌<◌, ◌≤◌, ◌-◌, List, [], ◌∷◌, ◌++◌, true, false, Option, Some, None, refl, sym, ap, subst, ◌∙◌, arith}
 use Rattle.std.proofs.lemmas.List.{append-nil}
 use Rattle.occ_text.specs.declared.token.Key.TheVariants as k
 use Rattle.occ_text.specs.declared.token.Sym.TheVariants as s
-use Rattle.occ_text.specs.Words.{Word, key, name, lit, mark}
-use Rattle.occ_tree.specs.declared.tree.expr.Primitive.{Primitive}
+use Rattle.occ_text.specs.Words.{Word, key, name, mark}
 use Rattle.occ_tree.specs.declared.tree.expr.Primitive.TheVariants as prims
 use Rattle.occ_tree.specs.declared.lines.separator.Separator.TheVariants as separators
-use Rattle.occ_tree.specs.Lists.{show_all, Each}
-use Rattle.occ_tree.specs.Many.{◌>>=◌, ended}
+use Rattle.occ_tree.specs.Lists.{Each}
+use Rattle.occ_tree.specs.Many.{◌>>=◌}
 use Rattle.occ_tree.specs.Expressions.Trees.{Expression, alone, variable, Expressions, no_expression, more_expressions, expressions}
-use Rattle.occ_tree.specs.Expressions.Shown.{prim_word, show_expression, show_indices, depth_indices, count_expressions, dimensions, NarrowExpressions}
-use Rattle.occ_tree.specs.Expressions.Reading.{prim_at, indices_with, expression_at}
-use Rattle.occ_tree.specs.Expressions.Follow.{opens, Plain}
+use Rattle.occ_tree.specs.Expressions.Shown.{show_expression, show_indices, depth_indices}
+use Rattle.occ_tree.specs.Expressions.Reading.{indices_with, expression_at}
+use Rattle.occ_tree.specs.Expressions.Follow.{Plain}
 use Rattle.occ_tree.specs.Lines.Trees.{Var, var, Target, Out, Received, in_line, by_variant, Sort, of_data, of_channel, Part, ValueType, Actuals, Formals}
-use Rattle.occ_tree.specs.Lines.Shown.{show_listed, show_name, show_var, show_target, show_out, show_received, show_replicator, show_part, show_carried, show_sort, show_value_type, show_formals, show_actuals}
-use Rattle.occ_tree.specs.Lines.Fits.{FitsExpression, FitsVar, FitsTarget, FitsOut, FitsReceived, FitsReplicator, FitsPart, FitsCarried, FitsSizes, FitsSort, FitsValueType, FitsActuals, FitsFormals}
-use Rattle.occ_tree.specs.Lines.Reading.{listed_at, name_at, after_colon, var_at, target_at, out_at, replicator_at, part_at, received_at, after_question, actuals_at, formals_at}
-use Rattle.occ_tree.specs.Lines.Heads.{skip, stop, assign, input, output, call, show_action, FitsAction, ProcessHead, act, input_variants, sequence, parallel, alternation, conditional, selection, loop, ChoiceHead, chosen, nested_conditional, OptionHead, values, otherwise, on_input, on_skip, ArmHead, guarded, guarded_variants, nested_alternation, VariantHead, tag, DeclHead, names, value, parts, tags, procedure, TagHead, tag_parts, show_process_head, show_choice_head, show_option_head, show_arm_head, show_variant_head, show_decl_head, show_tag_head, show_value_kind, FitsProcessHead, FitsChoiceHead, FitsOptionHead, FitsArmHead, FitsVariantHead, FitsDeclHead, FitsTagHead}
-use Rattle.occ_tree.specs.Lines.HeadReading.{received_head, received_arm, assignment_at, after_var, process_head_at, condition_at, choice_head_at, values_at, option_head_at, as_var, reception_at, after_condition, guard_at, arm_head_at, variant_head_at, names_at, sort_at, named_value_at, typed_value_at, value_at, decl_head_at, tag_head_at}
-use Rattle.occ_tree.specs.Lines.Follow.{Ends, begins_expression, Begins}
-use Rattle.occ_tree.proofs.ExpressionAgain.{prim_again, sizes_again, expression_list, expressions_of_list}
+use Rattle.occ_tree.specs.Lines.Shown.{show_listed, show_name, show_var, show_target, show_out, show_received, show_part, show_sort, show_value_type, show_formals, show_actuals}
+use Rattle.occ_tree.specs.Lines.Fits.{FitsExpression, FitsVar, FitsTarget, FitsOut, FitsReceived, FitsPart, FitsSizes, FitsSort, FitsActuals, FitsFormals}
+use Rattle.occ_tree.specs.Lines.Reading.{name_at, var_at, target_at, out_at, part_at, received_at, actuals_at, formals_at}
+use Rattle.occ_tree.specs.Lines.Heads.{skip, stop, assign, input, output, call, show_action, FitsAction, ProcessHead, act, input_variants, sequence, parallel, alternation, conditional, selection, loop, ChoiceHead, chosen, nested_conditional, OptionHead, values, otherwise, on_input, on_skip, ArmHead, guarded, guarded_variants, nested_alternation, VariantHead, tag, DeclHead, names, value, parts, tags, procedure, TagHead, tag_parts, show_process_head, show_choice_head, show_option_head, show_arm_head, show_variant_head, show_decl_head, show_tag_head, FitsProcessHead, FitsChoiceHead, FitsOptionHead, FitsArmHead, FitsVariantHead, FitsDeclHead, FitsTagHead}
+use Rattle.occ_tree.specs.Lines.HeadReading.{received_head, received_arm, assignment_at, after_var, process_head_at, condition_at, choice_head_at, values_at, option_head_at, reception_at, after_condition, guard_at, arm_head_at, variant_head_at, names_at, sort_at, named_value_at, typed_value_at, value_at, decl_head_at, tag_head_at}
+use Rattle.occ_tree.specs.Lines.Follow.{Ends, Begins}
+use Rattle.occ_tree.proofs.ExpressionAgain.{sizes_again, expressions_of_list}
 use Rattle.occ_tree.proofs.LineAgain.{Last, listed_again, last_again, listed_ends, name_again, fits_again, last_expression_again, var_again, ended_var_again, target_again, out_again, channel, show_tail, tail_shown, channel_fits, received_again, replicator_again, expression_begins, actuals_again, part_again, carried_again, value_type_again, BeginsType, value_type_begins, formals_again}
 
 -- ---- processes

@@ -1,22 +1,21 @@
 -- A line at the head of a process, or of a part of one, that is read is shown so.
 use Rattle.std.proofs.lemmas.List.{append-nil}
-use Rattle.std.proofs.Common.{◌≡◌, ◌<◌, arith, ℕ, List, [], ◌∷◌, ◌++◌, Bool, true, false, Option, Some, None, refl, sym, ap, subst, ◌∙◌, append_assoc}
+use Rattle.std.proofs.Common.{◌≡◌, ◌<◌, arith, ℕ, List, [], ◌∷◌, ◌++◌, Option, Some, None, refl, ap, subst, ◌∙◌}
 use Rattle.occ_text.specs.declared.token.Key.TheVariants as k
 use Rattle.occ_text.specs.declared.token.Sym.TheVariants as s
 use Rattle.occ_text.specs.Words.{Word, key, name, mark}
 use Rattle.occ_tree.specs.declared.lines.separator.Separator.TheVariants as separators
-use Rattle.occ_tree.specs.Lists.{Each}
 use Rattle.occ_tree.specs.Many.{◌>>=◌, ended}
 use Rattle.occ_tree.specs.Expressions.Trees.{Expression, alone, variable, Expressions, expressions}
-use Rattle.occ_tree.specs.Expressions.Shown.{prim_word, show_expression, show_indices, depth, depth_indices, Narrow}
+use Rattle.occ_tree.specs.Expressions.Shown.{show_expression, show_indices, depth_indices}
 use Rattle.occ_tree.specs.Expressions.Reading.{prim_at, indices_with, expression_at}
 use Rattle.occ_tree.specs.Lines.Trees.{Var, var, Target, Out, Received, in_line, by_variant, Sort, of_data, of_channel, Part, ValueType}
-use Rattle.occ_tree.specs.Lines.Shown.{show_listed, show_name, show_var, show_target, show_out, show_sort, show_part, show_value_type, show_received, show_actuals, show_formals}
+use Rattle.occ_tree.specs.Lines.Shown.{show_listed, show_name, show_var, show_target, show_out, show_sort, show_part, show_received, show_actuals, show_formals}
 use Rattle.occ_tree.specs.Lines.Fits.{FitsExpression, FitsVar, FitsReceived, FitsSizes, FitsSort, FitsTarget, FitsOut, FitsPart, FitsValueType}
 use Rattle.occ_tree.specs.Lines.Reading.{listed_at, name_at, after_assign, after_question, after_is, after_colon, var_at, target_at, out_at, received_at, replicator_at, actuals_at, part_at, carried_at, value_type_at, formals_at}
-use Rattle.occ_tree.specs.Lines.Heads.{skip, stop, assign, input, ProcessHead, act, ChoiceHead, chosen, OptionHead, values, otherwise, on_skip, ArmHead, guarded, VariantHead, DeclHead, names, value, tags, TagHead, show_process_head, show_choice_head, show_option_head, show_arm_head, show_variant_head, show_value_kind, show_decl_head, show_tag_head, FitsProcessHead, FitsChoiceHead, FitsOptionHead, FitsArmHead, FitsVariantHead, FitsDeclHead, FitsTagHead}
+use Rattle.occ_tree.specs.Lines.Heads.{skip, stop, ProcessHead, act, ChoiceHead, chosen, OptionHead, values, otherwise, on_skip, ArmHead, guarded, VariantHead, DeclHead, value, tags, TagHead, show_process_head, show_choice_head, show_option_head, show_arm_head, show_variant_head, show_value_kind, show_decl_head, show_tag_head, FitsProcessHead, FitsChoiceHead, FitsOptionHead, FitsArmHead, FitsVariantHead, FitsDeclHead, FitsTagHead}
 use Rattle.occ_tree.specs.Lines.HeadReading.{received_head, received_arm, assignment_at, after_var, process_head_at, condition_at, choice_head_at, values_at, option_head_at, as_var, reception_at, after_condition, guard_at, arm_head_at, variant_head_at, names_at, sort_at, named_value_at, typed_value_at, value_at, decl_head_at, tag_head_at}
-use Rattle.occ_tree.proofs.Binds.{bind_some, some_is, ended_is, after}
+use Rattle.occ_tree.proofs.Binds.{bind_some, some_is, ended_is}
 use Rattle.occ_tree.proofs.ExpressionSound.{prim_is, sizes_sound}
 use Rattle.occ_tree.proofs.LineSound.{IsWhole, listed_sound, last_listed, name_is, name_sound, fits_sound, last_expression, var_sound, target_sound, out_sound, received_sound, replicator_sound, actuals_sound, part_sound, carried_sound, value_type_sound, formals_sound}
 

@@ -13,3 +13,4 @@ pub mod ProcessAgain
 pub mod ProcessSound
 pub mod Rows
 pub mod Steps
+pub mod Whole

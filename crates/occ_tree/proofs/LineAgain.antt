@@ -1,25 +1,25 @@
 -- What is shown in a line is read again.
-use Rattle.std.proofs.Common.{◌≡◌, ℕ, ◌<◌, ◌≤◌, ◌-◌, List, [], ◌∷◌, ◌++◌, length, Bool, true, false, Option, Some, None, refl, sym, ap, ◌∙◌, append_assoc, arith, zero-le}
+use Rattle.std.proofs.Common.{◌≡◌, ℕ, ◌-◌, List, [], ◌∷◌, ◌++◌, length, Bool, true, false, Option, Some, None, refl, sym, ap, ◌∙◌, append_assoc, arith, zero-le}
 use Rattle.std.proofs.lemmas.List.{append-nil}
 use Rattle.occ_text.specs.declared.token.Key.TheVariants as k
 use Rattle.occ_text.specs.declared.token.Sym.TheVariants as s
-use Rattle.occ_text.specs.Words.{Word, key, name, lit, mark}
+use Rattle.occ_text.specs.Words.{Word, key, name, mark}
 use Rattle.occ_tree.specs.declared.tree.expr.Primitive.{Primitive}
 use Rattle.occ_tree.specs.declared.tree.expr.Primitive.TheVariants as prims
 use Rattle.occ_tree.specs.declared.tree.expr.Monadic.TheVariants as monadics
 use Rattle.occ_tree.specs.declared.lines.separator.Separator.{Separator}
 use Rattle.occ_tree.specs.declared.lines.separator.Separator.TheVariants as separators
 use Rattle.occ_tree.specs.Lists.{show_all, Each}
-use Rattle.occ_tree.specs.Many.{◌>>=◌, many, ended}
+use Rattle.occ_tree.specs.Many.{◌>>=◌}
 use Rattle.occ_tree.specs.Expressions.Trees.{Expression, alone, two, one, convert, limit, chain, Operand, variable, literal, truth, parens, Expressions, no_expression, more_expressions, expressions}
-use Rattle.occ_tree.specs.Expressions.Shown.{prim_word, dyadic_word, logic_word, show_expression, show_operand, show_operands, show_indices, depth, depth_indices, dimensions, count_expressions, Narrow, NarrowExpressions}
-use Rattle.occ_tree.specs.Expressions.Reading.{Read, after_open_bracket, after_close, prim_at, index_with, indices_with, expression_at}
+use Rattle.occ_tree.specs.Expressions.Shown.{prim_word, dyadic_word, logic_word, show_expression, show_operand, show_operands, show_indices, dimensions}
+use Rattle.occ_tree.specs.Expressions.Reading.{Read, after_open_bracket, after_close, index_with, indices_with, expression_at}
 use Rattle.occ_tree.specs.Expressions.Follow.{opens, Plain, Stops}
-use Rattle.occ_tree.specs.Lines.Trees.{Var, var, Target, into, into_counted, Out, from, from_counted, Input, items, tagged, Received, in_line, by_variant, Replicator, each, Part, single, counted, Carried, carries, follows, Size, open_size, given, ValueType, value_type, Spec, by_value, by_reference, by_channel, Formal, formal, Formals, no_formals, formals, Actuals, no_actuals, actuals}
+use Rattle.occ_tree.specs.Lines.Trees.{Var, var, Target, into, into_counted, Out, from, from_counted, items, tagged, Received, in_line, by_variant, Replicator, each, Part, single, counted, Carried, carries, follows, Size, open_size, given, ValueType, value_type, Spec, by_value, by_reference, by_channel, Formal, formal, Formals, no_formals, formals, Actuals, no_actuals, actuals}
 use Rattle.occ_tree.specs.Lines.Shown.{separator_word, show_listed, show_name, show_var, show_target, show_out, show_received, show_replicator, show_part, show_carried, show_size, show_value_type, show_spec, show_formal, show_formals, show_actuals}
-use Rattle.occ_tree.specs.Lines.Fits.{FitsExpression, FitsVar, FitsSizes, FitsTarget, FitsOut, FitsReceived, FitsReplicator, FitsPart, FitsCarried, FitsSize, FitsAllSizes, FitsValueType, FitsSpec, FitsFormal, FitsFormals, FitsActuals}
-use Rattle.occ_tree.specs.Lines.Reading.{after_separator, listed_at, name_at, after_for, var_at, target_after, target_at, out_after, out_at, targets_whole, received_at, replicator_at, actuals_at, part_after, part_at, carried_at, size_with, sizes_at, value_type_at, spec_after, spec_at, formal_at, formals_at}
-use Rattle.occ_tree.specs.Lines.Follow.{counts, Ends, begins_expression, Begins}
+use Rattle.occ_tree.specs.Lines.Fits.{FitsExpression, FitsVar, FitsTarget, FitsOut, FitsReceived, FitsReplicator, FitsPart, FitsCarried, FitsSize, FitsAllSizes, FitsValueType, FitsSpec, FitsFormal, FitsFormals, FitsActuals}
+use Rattle.occ_tree.specs.Lines.Reading.{after_separator, listed_at, name_at, var_at, target_after, target_at, out_after, out_at, targets_whole, received_at, replicator_at, actuals_at, part_after, part_at, carried_at, size_with, sizes_at, value_type_at, spec_after, spec_at, formal_at, formals_at}
+use Rattle.occ_tree.specs.Lines.Follow.{Ends, Begins}
 use Rattle.occ_tree.proofs.Manys.{Again, many_again, all_long, each_map}
 use Rattle.occ_tree.proofs.ExpressionAgain.{prim_again, plain, expression_again, sizes_again, expression_list, expressions_of_list}
 

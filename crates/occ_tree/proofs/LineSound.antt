@@ -1,5 +1,5 @@
 -- What is read of a line is shown so.
-use Rattle.std.proofs.Common.{◌≡◌, ℕ, ◌≤◌, ◌-◌, List, [], ◌∷◌, ◌++◌, length, Bool, true, false, Option, Some, None, refl, sym, ap, subst, ◌∙◌, append_assoc}
+use Rattle.std.proofs.Common.{◌≡◌, ℕ, ◌-◌, List, [], ◌∷◌, ◌++◌, length, Option, Some, refl, sym, ap, subst, ◌∙◌, append_assoc}
 use Rattle.std.proofs.lemmas.List.{append-nil}
 use Rattle.occ_text.specs.declared.token.Key.TheVariants as k
 use Rattle.occ_text.specs.declared.token.Sym.TheVariants as s
@@ -8,7 +8,7 @@ use Rattle.occ_tree.specs.declared.tree.expr.Primitive.{Primitive}
 use Rattle.occ_tree.specs.declared.lines.separator.Separator.{Separator}
 use Rattle.occ_tree.specs.declared.lines.separator.Separator.TheVariants as separators
 use Rattle.occ_tree.specs.Lists.{show_all, Each}
-use Rattle.occ_tree.specs.Many.{◌>>=◌, many, ended}
+use Rattle.occ_tree.specs.Many.{◌>>=◌}
 use Rattle.occ_tree.specs.Expressions.Trees.{Expression, expressions}
 use Rattle.occ_tree.specs.Expressions.Shown.{prim_word, show_expression, show_indices, dimensions}
 use Rattle.occ_tree.specs.Expressions.Reading.{Read, after_open_bracket, after_close, prim_at, index_with, indices_with, expression_at}

@@ -1,9 +1,9 @@
 -- The trees that the code makes, seen by their views.
-use Rattle.std.proofs.Common.{◌≡◌, ℕ, List, [], ◌∷◌, Bool, true, false, Option, Some, None, refl, sym, ap, map, ◌∙◌, Vec, Global, option_map}
+use Rattle.std.proofs.Common.{◌≡◌, ℕ, List, Bool, Option, Some, None, refl, ap, map, ◌∙◌, Vec, Global, option_map}
 use Rattle.std.specs.declared.boxed.Box.{Box}
 use Rattle.occ_tree.specs.declared.tree.process.Process.{Process as ProcessTree}
 use Rattle.occ_tree.specs.declared.tree.process.Process.TheVariants as processes
-use Rattle.occ_tree.specs.declared.tree.process.Stmt.{Stmt, Row_of-Process, end_of-Process, more_of-Process, items-the_row-Process, items_hidden-the_row-Process-4, Row_of-Arm, end_of-Arm, more_of-Arm, items-the_row-Arm, items_hidden-the_row-Arm-2, Row_of-Choice, end_of-Choice, more_of-Choice, items-the_row-Choice, items_hidden-the_row-Choice-3, Row_of-Selection, end_of-Selection, more_of-Selection, items-the_row-Selection, items_hidden-the_row-Selection-5, Row_of-Variant, end_of-Variant, more_of-Variant, items-the_row-Variant, items_hidden-the_row-Variant-1}
+use Rattle.occ_tree.specs.declared.tree.process.Stmt.{Row_of-Process, end_of-Process, more_of-Process, items-the_row-Process, items_hidden-the_row-Process-4, Row_of-Arm, end_of-Arm, more_of-Arm, items-the_row-Arm, items_hidden-the_row-Arm-2, Row_of-Choice, end_of-Choice, more_of-Choice, items-the_row-Choice, items_hidden-the_row-Choice-3, Row_of-Selection, end_of-Selection, more_of-Selection, items-the_row-Selection, items_hidden-the_row-Selection-5, Row_of-Variant, end_of-Variant, more_of-Variant, items-the_row-Variant, items_hidden-the_row-Variant-1}
 use Rattle.occ_tree.specs.declared.tree.process.Stmt.TheVariants as stmts
 use Rattle.occ_tree.specs.declared.tree.process.Choice.{Choice as ChoiceTree, Row_of-Decl, end_of-Decl, more_of-Decl, items-the_row-Decl, items_hidden-the_row-Decl-0}
 use Rattle.occ_tree.specs.declared.tree.process.Choice.TheVariants as choices
@@ -33,7 +33,7 @@ use Rattle.occ_tree.specs.Expressions.Trees.{expression_of, expressions}
 use Rattle.occ_tree.specs.Lines.Views.{var_of, target_of, replicator_of, sort_of, value_type_of, formals_of}
 use Rattle.occ_tree.specs.Lines.Heads.{act, input_variants, sequence, parallel, alternation, conditional, selection, loop, chosen, nested_conditional, values, otherwise, guarded, guarded_variants, nested_alternation, tag}
 use Rattle.occ_tree.specs.Lines.HeadViews.{action_of, guard_of}
-use Rattle.occ_tree.specs.Processes.Trees.{Kind, process, choice, option, arm, variant, Head, under, Node, node, Body, no_body, single_body, bodies, Nodes, more_nodes, nodes, Decls, more_decls, decls, Decl, declares, item, Item, value_item, protocol_item, proc_item}
+use Rattle.occ_tree.specs.Processes.Trees.{Kind, process, choice, option, arm, variant, Head, under, node, Body, no_body, single_body, bodies, Nodes, more_nodes, nodes, Decls, more_decls, decls, declares, item, value_item, protocol_item, proc_item}
 use Rattle.occ_tree.specs.Processes.Views.{process_of, choice_of, selection_of, arm_of, variant_of, decl_of, item_of, protocol_of, row_decls, row_processes, row_choices, row_selections, row_arms, row_variants}
 
 -- ---- vectors

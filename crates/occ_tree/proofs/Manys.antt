@@ -1,5 +1,5 @@
 -- As many as there are: what is read is shown so, and what is shown is read again, for any kind.
-use Rattle.std.proofs.Common.{◌≡◌, ℕ, zero, suc, ◌<◌, ◌≤◌, ◌+◌, List, [], ◌∷◌, ◌++◌, length, Option, Some, None, refl, sym, ap, subst, ◌∙◌, append_assoc, length-append, arith, zero-le}
+use Rattle.std.proofs.Common.{◌≡◌, ℕ, zero, suc, ◌<◌, ◌≤◌, List, [], ◌∷◌, ◌++◌, length, Option, Some, None, refl, sym, ap, subst, ◌∙◌, append_assoc, length-append, arith, zero-le}
 use Rattle.occ_tree.specs.Many.{Reader, many_step, many}
 use Rattle.occ_tree.specs.Lists.{show_all, Each}
 use Rattle.occ_tree.proofs.Binds.{bind_some, some_is}

@@ -1,22 +1,19 @@
 -- Processes and texts that are shown are read again.
-use Rattle.std.proofs.Common.{◌≡◌, ℕ, zero, suc, ◌+◌, ◌<◌, ◌≤◌, List, [], ◌∷◌, ◌++◌, length, Bool, true, false, cond, Option, Some, None, refl, sym, ap, ◌∙◌, append_assoc, length-append, arith, zero-le}
+use Rattle.std.proofs.Common.{◌≡◌, ℕ, zero, suc, ◌+◌, ◌<◌, List, [], ◌∷◌, ◌++◌, length, true, false, Some, None, refl, sym, ap, ◌∙◌, append_assoc, length-append, arith}
 use Rattle.std.specs.Prelude.{nat_eq}
 use Rattle.std.proofs.lemmas.Bool.Decides.{nat_tests}
 use Rattle.std.proofs.lemmas.List.{append-nil}
 use Rattle.occ_text.specs.declared.token.Key.TheVariants as k
 use Rattle.occ_text.specs.declared.token.Sym.TheVariants as s
 use Rattle.occ_text.specs.Words.{Word, key, mark, Row, row}
-use Rattle.occ_tree.specs.declared.tree.expr.Primitive.TheVariants as prims
 use Rattle.occ_tree.specs.Lists.{show_all, Each}
-use Rattle.occ_tree.specs.Many.{◌>>=◌, Reader, many, ended}
-use Rattle.occ_tree.specs.Expressions.Trees.{no_expression, more_expressions, Expressions}
-use Rattle.occ_tree.specs.Lines.Trees.{Sort, of_data, of_channel}
-use Rattle.occ_tree.specs.Lines.Heads.{DeclHead, names, value, parts, tags, procedure, TagHead, tag_parts, show_decl_head, show_tag_head, FitsDeclHead}
-use Rattle.occ_tree.specs.Lines.HeadReading.{has_colon, decl_head_at, tag_head_at, declares as begins_declaration}
-use Rattle.occ_tree.specs.Processes.Trees.{Kind, process, choice, option, arm, variant, Under, nothing, one_of, all_of, Head, under, Tag, tag_line, Protocol, of_parts, of_tags, Node, node, Body, no_body, single_body, bodies, Nodes, no_node, more_nodes, nodes, Decls, no_decl, more_decls, decls, Decl, declares, item, Item, value_item, protocol_item, proc_item}
-use Rattle.occ_tree.specs.Processes.Shown.{show_head, show_tag, show_protocol, show_node, show_body, show_nodes, show_decls, show_decl, show_item, show_program}
+use Rattle.occ_tree.specs.Many.{Reader, many}
+use Rattle.occ_tree.specs.Lines.Heads.{DeclHead, names, value, parts, tags, procedure, tag_parts, show_decl_head, show_tag_head}
+use Rattle.occ_tree.specs.Lines.HeadReading.{declares as begins_declaration}
+use Rattle.occ_tree.specs.Processes.Trees.{Kind, process, choice, option, arm, variant, Under, Head, Tag, tag_line, of_parts, of_tags, Node, node, Body, no_body, single_body, bodies, Nodes, no_node, more_nodes, nodes, Decls, no_decl, more_decls, decls, Decl, declares, item, Item, value_item, protocol_item, proc_item}
+use Rattle.occ_tree.specs.Processes.Shown.{show_head, show_tag, show_node, show_body, show_nodes, show_decls, show_decl, show_item, show_program}
 use Rattle.occ_tree.specs.Processes.Fits.{FitsHead, FitsTag, FitsProtocol, FitsNode, FitsBody, FitsNodes, FitsDecls, FitsDecl, FitsItem}
-use Rattle.occ_tree.specs.Processes.Reading.{head_at, at_level, at_decl, at_any, line_step, line_at, is_case, is_colon, case_at, end_at, tag_of, tag_at, tags_at, item_with, decl_with, body_with, node_with, node_at, as_item, item_at, program_at}
+use Rattle.occ_tree.specs.Processes.Reading.{head_at, at_level, at_decl, at_any, line_at, case_at, end_at, tag_at, tags_at, decl_with, body_with, node_with, node_at, item_at, program_at}
 use Rattle.occ_tree.proofs.Binds.{some_is}
 use Rattle.occ_tree.proofs.Manys.{Again, many_again, all_long, each_map}
 use Rattle.occ_tree.proofs.HeadAgain.{process_head_again, choice_head_again, option_head_again, arm_head_again, variant_head_again, decl_head_again, tag_head_again}

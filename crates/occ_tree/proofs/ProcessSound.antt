@@ -1,5 +1,5 @@
 -- Processes and texts that are read are shown so.
-use Rattle.std.proofs.Common.{◌≡◌, ℕ, zero, suc, ◌+◌, ◌<◌, List, [], ◌∷◌, ◌++◌, length, Bool, true, false, cond, Option, Some, None, refl, sym, ap, subst, ◌∙◌, append_assoc, arith}
+use Rattle.std.proofs.Common.{◌≡◌, ℕ, zero, suc, ◌+◌, ◌<◌, List, [], ◌∷◌, ◌++◌, length, cond, Option, Some, None, refl, sym, ap, subst, ◌∙◌, append_assoc, arith}
 use Rattle.std.specs.Prelude.{nat_eq}
 use Rattle.std.proofs.lemmas.Bool.{eqb-true}
 use Rattle.std.proofs.lemmas.List.{append-nil}
@@ -7,10 +7,10 @@ use Rattle.occ_text.specs.declared.token.Key.TheVariants as k
 use Rattle.occ_text.specs.declared.token.Sym.TheVariants as s
 use Rattle.occ_text.specs.Words.{Word, key, mark, Row, row}
 use Rattle.occ_tree.specs.Lists.{show_all, Each}
-use Rattle.occ_tree.specs.Many.{◌>>=◌, Reader, many, ended}
+use Rattle.occ_tree.specs.Many.{Reader, many}
 use Rattle.occ_tree.specs.Lines.Heads.{DeclHead, names, value, parts, tags, procedure, TagHead, tag_parts, show_decl_head, show_tag_head, FitsDeclHead, FitsTagHead}
 use Rattle.occ_tree.specs.Lines.HeadReading.{decl_head_at, tag_head_at, declares as begins_declaration}
-use Rattle.occ_tree.specs.Processes.Trees.{Kind, process, choice, option, arm, variant, Under, nothing, one_of, all_of, Head, under, Tag, tag_line, Protocol, of_parts, of_tags, Node, node, Body, no_body, single_body, bodies, Nodes, nodes, Decls, decls, Decl, declares, item, Item, value_item, protocol_item, proc_item}
+use Rattle.occ_tree.specs.Processes.Trees.{Kind, process, choice, option, arm, variant, Under, nothing, one_of, all_of, Head, under, Tag, Protocol, Node, Body, nodes, decls, Decl, declares, item, Item}
 use Rattle.occ_tree.specs.Processes.Shown.{show_head, show_tag, show_protocol, show_node, show_body, show_nodes, show_decls, show_decl, show_item, show_program}
 use Rattle.occ_tree.specs.Processes.Fits.{FitsHead, FitsTag, FitsProtocol, FitsNode, FitsBody, FitsNodes, FitsDecls, FitsDecl, FitsItem}
 use Rattle.occ_tree.specs.Processes.Reading.{head_at, at_level, at_decl, at_any, line_step, line_at, is_case, is_colon, case_at, end_at, tag_of, tag_at, tags_at, item_with, decl_with, body_with, node_with, node_at, as_item, item_at, program_at}

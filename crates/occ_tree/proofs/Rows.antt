@@ -1,5 +1,5 @@
 -- The children of an expression are those of its vectors.
-use Rattle.std.proofs.Common.{◌≡◌, List, [], ◌∷◌, refl, ap, map, ◌∙◌, Vec, Global}
+use Rattle.std.proofs.Common.{◌≡◌, List, refl, ap, map, ◌∙◌, Vec, Global}
 use Rattle.occ_tree.specs.declared.tree.expr.Expr.{Expr, Row_of-Operand, end_of-Operand, more_of-Operand, items-the_row-Operand, items_hidden-the_row-Operand-0}
 use Rattle.occ_tree.specs.declared.tree.expr.Expr.TheBlock.{hidden-the_row-Operand-0, hidden-the_row-Expr-1}
 use Rattle.occ_tree.specs.declared.tree.expr.Operand.{Operand as OperandTree, Row_of-Expr, end_of-Expr, more_of-Expr, items-the_row-Expr, items_hidden-the_row-Expr-1}

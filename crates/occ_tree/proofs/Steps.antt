@@ -1,5 +1,5 @@
 -- One level of brackets, and one level of lines.
-use Rattle.std.proofs.Common.{◌≡◌, ◌≢◌, ℕ, zero, suc, ◌+◌, ◌-◌, List, Option, None, Some, refl, arith}
+use Rattle.std.proofs.Common.{◌≡◌, ◌≢◌, ℕ, zero, suc, ◌+◌, ◌-◌, List, Option, None, refl, arith}
 use Rattle.occ_text.specs.Words.{Word, Row}
 use Rattle.occ_tree.specs.declared.fault.ParseFault.{ParseFault}
 use Rattle.occ_tree.specs.declared.fault.ParseFault.TheVariants.{Memory, Unexpected, Level, Missing, TooDeep}

@@ -6,7 +6,7 @@ use Rattle.occ_text.specs.Words.{Word, key, name, mark}
 use Rattle.occ_tree.specs.declared.lines.separator.Separator.TheVariants as separators
 use Rattle.occ_tree.specs.Many.{◌>>=◌, ended}
 use Rattle.occ_tree.specs.Expressions.Trees.{Expression, alone, Operand, variable, Expressions, expressions}
-use Rattle.occ_tree.specs.Expressions.Reading.{Read, prim_at, indices_with, expression_at}
+use Rattle.occ_tree.specs.Expressions.Reading.{prim_at, indices_with, expression_at}
 use Rattle.occ_tree.specs.Lines.Trees.{Var, var, Received, in_line, by_variant, Sort, of_data, of_channel, ValueType}
 use Rattle.occ_tree.specs.Lines.Reading.{listed_at, name_at, after_assign, after_question, after_is, after_colon, var_named, var_at, target_at, out_at, received_at, replicator_at, actuals_at, part_at, carried_at, value_type_at, formals_at}
 use Rattle.occ_tree.specs.Lines.Heads.{skip, stop, assign, input, output, call, ProcessHead, act, input_variants, sequence, parallel, alternation, conditional, selection, loop, ChoiceHead, chosen, nested_conditional, OptionHead, values, otherwise, on_input, on_skip, ArmHead, guarded, guarded_variants, nested_alternation, VariantHead, tag, DeclHead, names, value, parts, tags, procedure, TagHead, tag_parts}

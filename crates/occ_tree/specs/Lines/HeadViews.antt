@@ -1,5 +1,5 @@
 -- The heads that the code reads, without where they lie in memory.
-use Rattle.std.specs.Prelude.{ℕ, List, Bool, map, Option, Some, None, option_map}
+use Rattle.std.specs.Prelude.{map, option_map}
 use Rattle.occ_tree.specs.declared.tree.line.Action.{Action as ActionTree}
 use Rattle.occ_tree.specs.declared.tree.line.Action.TheVariants as actions
 use Rattle.occ_tree.specs.declared.tree.line.Guard.{Guard as GuardTree}

@@ -4,12 +4,12 @@ use Rattle.occ_text.specs.declared.token.Key.TheVariants as k
 use Rattle.occ_text.specs.declared.token.Sym.TheVariants as s
 use Rattle.occ_text.specs.Words.{Word, key, name, mark}
 use Rattle.occ_tree.specs.declared.lines.separator.Separator.TheVariants as separators
-use Rattle.occ_tree.specs.Lists.{show_all, Each}
+use Rattle.occ_tree.specs.Lists.{Each}
 use Rattle.occ_tree.specs.Expressions.Trees.{Expression, Expressions}
 use Rattle.occ_tree.specs.Expressions.Shown.{show_expression, show_indices}
-use Rattle.occ_tree.specs.Lines.Trees.{Var, Target, Out, Input, Received, in_line, by_variant, Replicator, Part, Sort, ValueType, Formals, Actuals}
+use Rattle.occ_tree.specs.Lines.Trees.{Var, Target, Out, Input, by_variant, Replicator, Part, Sort, ValueType, Formals, Actuals}
 use Rattle.occ_tree.specs.Lines.Shown.{show_listed, show_name, show_var, show_target, show_out, show_input, show_received, show_replicator, show_part, show_sort, show_value_type, show_formals, show_actuals}
-use Rattle.occ_tree.specs.Lines.Fits.{FitsExpression, FitsVar, FitsSizes, FitsTarget, FitsOut, FitsInput, FitsReceived, FitsReplicator, FitsPart, FitsSort, FitsValueType, FitsFormals, FitsActuals}
+use Rattle.occ_tree.specs.Lines.Fits.{FitsExpression, FitsVar, FitsSizes, FitsTarget, FitsOut, FitsInput, FitsReplicator, FitsPart, FitsSort, FitsValueType, FitsFormals, FitsActuals}
 
 -- ---- what the lines say
 

@@ -1,16 +1,16 @@
 -- Reading what stands in one line, with fewer than b brackets open at one place.
-use Rattle.std.specs.Prelude.{ℕ, ◌-◌, List, [], ◌∷◌, length, Bool, true, false, Option, Some, None}
+use Rattle.std.specs.Prelude.{ℕ, ◌-◌, List, [], ◌∷◌, length, Option, Some, None}
 use Rattle.occ_text.specs.declared.token.Key.TheVariants as k
 use Rattle.occ_text.specs.declared.token.Sym.TheVariants as s
 use Rattle.occ_text.specs.Words.{Word, key, name, mark}
 use Rattle.occ_tree.specs.declared.tree.expr.Primitive.{Primitive}
 use Rattle.occ_tree.specs.declared.lines.separator.Separator.{Separator}
 use Rattle.occ_tree.specs.declared.lines.separator.Separator.TheVariants as separators
-use Rattle.occ_tree.specs.Many.{◌>>=◌, Reader, many, ended}
-use Rattle.occ_tree.specs.Expressions.Trees.{Expression, Expressions, expressions}
+use Rattle.occ_tree.specs.Many.{◌>>=◌, many, ended}
+use Rattle.occ_tree.specs.Expressions.Trees.{Expression, expressions}
 use Rattle.occ_tree.specs.Expressions.Shown.{dimensions}
 use Rattle.occ_tree.specs.Expressions.Reading.{Read, after_open_bracket, after_close, prim_at, index_with, indices_with, expression_at}
-use Rattle.occ_tree.specs.Lines.Trees.{Var, var, Target, into, into_counted, Out, from, from_counted, Input, items, tagged, Received, in_line, by_variant, Replicator, each, Part, single, counted, Carried, carries, follows, Sort, of_data, of_channel, Size, open_size, given, ValueType, value_type, Spec, by_value, by_reference, by_channel, Formal, formal, Formals, no_formals, formals, Actuals, no_actuals, actuals}
+use Rattle.occ_tree.specs.Lines.Trees.{Var, var, Target, into, into_counted, Out, from, from_counted, items, tagged, Received, in_line, by_variant, Replicator, each, Part, single, counted, Carried, carries, follows, Size, open_size, given, ValueType, value_type, Spec, by_value, by_reference, by_channel, Formal, formal, Formals, no_formals, formals, Actuals, no_actuals, actuals}
 
 -- ---- single words
 

@@ -6,7 +6,6 @@ use Rattle.occ_text.specs.Words.{Word, key, name, mark}
 use Rattle.occ_tree.specs.declared.lines.separator.Separator.{Separator}
 use Rattle.occ_tree.specs.declared.lines.separator.Separator.TheVariants as separators
 use Rattle.occ_tree.specs.Lists.{show_all}
-use Rattle.occ_tree.specs.Expressions.Trees.{Expression, Expressions}
 use Rattle.occ_tree.specs.Expressions.Shown.{prim_word, show_expression, show_indices}
 use Rattle.occ_tree.specs.Lines.Trees.{Var, var, Target, into, into_counted, Out, from, from_counted, Input, items, tagged, Received, in_line, by_variant, Replicator, each, Part, single, counted, Carried, carries, follows, Sort, of_data, of_channel, Size, open_size, given, ValueType, value_type, Spec, by_value, by_reference, by_channel, Formal, formal, Formals, no_formals, formals, Actuals, no_actuals, actuals}
 

@@ -1,5 +1,5 @@
 -- The values of the code that stand in one line, without where they lie in memory.
-use Rattle.std.specs.Prelude.{ℕ, List, map, Option, Some, None, option_map}
+use Rattle.std.specs.Prelude.{map, Option, Some, None, option_map}
 use Rattle.occ_tree.specs.declared.tree.line.Var.{Var as VarTree}
 use Rattle.occ_tree.specs.declared.tree.line.Target.{Target as TargetTree}
 use Rattle.occ_tree.specs.declared.tree.line.Target.TheVariants as targets
@@ -25,7 +25,7 @@ use Rattle.occ_tree.specs.declared.tree.line.OneOrMore.{OneOrMore}
 use Rattle.occ_tree.specs.declared.lines.item.Received.{Received as ReceivedTree}
 use Rattle.occ_tree.specs.declared.lines.item.Received.TheVariants as receiveds
 use Rattle.occ_tree.specs.declared.tree.expr.Expr.{Expr}
-use Rattle.occ_tree.specs.Expressions.Trees.{Expression, Expressions, expression_of, expressions}
+use Rattle.occ_tree.specs.Expressions.Trees.{expression_of, expressions}
 use Rattle.occ_tree.specs.Lines.Trees.{Var, var, Target, into, into_counted, Out, from, from_counted, Input, items, tagged, Received, in_line, by_variant, Replicator, each, Part, single, counted, Carried, carries, follows, Sort, of_data, of_channel, Size, open_size, given, ValueType, value_type, Spec, by_value, by_reference, by_channel, Formal, formal, Formals, no_formals, formals, Actuals, no_actuals, actuals}
 
 abbrev pub var_of : VarTree → Var

@@ -1,7 +1,7 @@
 -- What keeps to the bounds: fewer than b brackets open at one place, and fewer than n levels, its own and those under it.
-use Rattle.std.specs.Prelude.{ℕ, zero, suc, ◌<◌, List, [], ◌∷◌}
+use Rattle.std.specs.Prelude.{ℕ, zero, suc, ◌<◌, List}
 use Rattle.occ_tree.specs.Lists.{Each}
-use Rattle.occ_tree.specs.Lines.Heads.{names, value, parts, tags, procedure, tag_parts, FitsProcessHead, FitsChoiceHead, FitsOptionHead, FitsArmHead, FitsVariantHead, FitsDeclHead, FitsTagHead}
+use Rattle.occ_tree.specs.Lines.Heads.{names, value, parts, procedure, tag_parts, FitsProcessHead, FitsChoiceHead, FitsOptionHead, FitsArmHead, FitsVariantHead, FitsDeclHead, FitsTagHead}
 use Rattle.occ_tree.specs.Processes.Trees.{Kind, process, choice, option, arm, variant, Head, Tag, tag_line, Protocol, of_parts, of_tags, Node, node, Body, no_body, single_body, bodies, Nodes, no_node, more_nodes, Decls, no_decl, more_decls, Decl, declares, item, Item, value_item, protocol_item, proc_item}
 
 abbrev pub FitsHead : ℕ → (k : Kind) → Head k → Type 0
@@ -46,3 +46,7 @@ abbrev mutual
   FitsItem b n (value_item l t v e) = FitsDeclHead b (value t v e)
   FitsItem b n (protocol_item p) = FitsProtocol b n p
   FitsItem b n (proc_item l v fs m end_line) = FitsDeclHead b (procedure v fs) × FitsNode b n m
+
+-- a text with at most 64 levels, at most 64 brackets open at one place, and at most one size or subscript
+abbrev pub InBounds : List Item → Type 0
+InBounds = Each (FitsItem 65 64)

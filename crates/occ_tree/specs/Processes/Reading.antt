@@ -1,12 +1,12 @@
 -- Reading processes, their parts and a text, with fewer than b brackets open at one place.
-use Rattle.std.specs.Prelude.{ℕ, zero, suc, ◌+◌, List, [], ◌∷◌, length, Bool, true, false, nat_eq, cond, Option, Some, None}
+use Rattle.std.specs.Prelude.{ℕ, zero, suc, ◌+◌, List, [], ◌∷◌, nat_eq, cond, Option, Some, None}
 use Rattle.occ_text.specs.declared.token.Key.TheVariants as k
 use Rattle.occ_text.specs.declared.token.Sym.TheVariants as s
 use Rattle.occ_text.specs.Words.{Word, key, mark, Row, row}
 use Rattle.occ_tree.specs.Many.{◌>>=◌, Reader, as_many, ended}
 use Rattle.occ_tree.specs.Lines.Heads.{DeclHead, names, value, parts, tags, procedure, TagHead, tag_parts}
 use Rattle.occ_tree.specs.Lines.HeadReading.{process_head_at, choice_head_at, option_head_at, arm_head_at, variant_head_at, decl_head_at, tag_head_at, declares as begins_declaration}
-use Rattle.occ_tree.specs.Processes.Trees.{Kind, process, choice, option, arm, variant, Under, nothing, one_of, all_of, Head, under, Tag, tag_line, Protocol, of_parts, of_tags, Node, node, Body, no_body, single_body, bodies, Nodes, nodes, Decls, decls, Decl, declares, item, Item, value_item, protocol_item, proc_item}
+use Rattle.occ_tree.specs.Processes.Trees.{Kind, process, choice, option, arm, variant, Under, nothing, one_of, all_of, Head, under, Tag, tag_line, Protocol, of_parts, of_tags, Node, node, Body, no_body, single_body, bodies, nodes, decls, Decl, declares, item, Item, value_item, protocol_item, proc_item}
 
 -- the line of a kind
 abbrev pub head_at : (k : Kind) → ℕ → List Word → Option (Head k)

@@ -1,8 +1,8 @@
 -- The processes of the code and their parts, without where they lie in memory.
-use Rattle.std.specs.Prelude.{ℕ, List, [], ◌∷◌, true, false, map, Option, Some, None, option_map}
+use Rattle.std.specs.Prelude.{List, map, Some, None, option_map}
 use Rattle.occ_tree.specs.declared.tree.process.Process.{Process as ProcessTree}
 use Rattle.occ_tree.specs.declared.tree.process.Process.TheVariants as processes
-use Rattle.occ_tree.specs.declared.tree.process.Stmt.{Stmt, Row_of-Process, end_of-Process, more_of-Process, Row_of-Arm, end_of-Arm, more_of-Arm, Row_of-Choice, end_of-Choice, more_of-Choice, Row_of-Selection, end_of-Selection, more_of-Selection, Row_of-Variant, end_of-Variant, more_of-Variant}
+use Rattle.occ_tree.specs.declared.tree.process.Stmt.{Row_of-Process, end_of-Process, more_of-Process, Row_of-Arm, end_of-Arm, more_of-Arm, Row_of-Choice, end_of-Choice, more_of-Choice, Row_of-Selection, end_of-Selection, more_of-Selection, Row_of-Variant, end_of-Variant, more_of-Variant}
 use Rattle.occ_tree.specs.declared.tree.process.Stmt.TheVariants as stmts
 use Rattle.occ_tree.specs.declared.tree.process.Choice.{Choice as ChoiceTree, Row_of-Decl, end_of-Decl, more_of-Decl}
 use Rattle.occ_tree.specs.declared.tree.process.Choice.TheVariants as choices
@@ -19,11 +19,12 @@ use Rattle.occ_tree.specs.declared.tree.process.Item.TheVariants as itemTrees
 use Rattle.occ_tree.specs.declared.tree.process.Protocol.{Protocol as ProtocolTree}
 use Rattle.occ_tree.specs.declared.tree.process.Protocol.TheVariants as protocols
 use Rattle.occ_tree.specs.declared.tree.process.Tag.{Tag as TagTree}
+use Rattle.occ_tree.specs.declared.tree.process.Program.{Program}
 use Rattle.occ_tree.specs.Expressions.Trees.{expression_of, expressions}
 use Rattle.occ_tree.specs.Lines.Views.{var_of, target_of, replicator_of, part_of, sort_of, value_type_of, formals_of}
 use Rattle.occ_tree.specs.Lines.Heads.{act, input_variants, sequence, parallel, alternation, conditional, selection, loop, chosen, nested_conditional, values, otherwise, guarded, guarded_variants, nested_alternation, tag}
 use Rattle.occ_tree.specs.Lines.HeadViews.{action_of, guard_of}
-use Rattle.occ_tree.specs.Processes.Trees.{Kind, process, choice, option, arm, variant, Tag, tag_line, Protocol, of_parts, of_tags, Node, node, no_body, single_body, bodies, Nodes, no_node, more_nodes, Decls, no_decl, more_decls, Decl, declares, item, Item, value_item, protocol_item, proc_item}
+use Rattle.occ_tree.specs.Processes.Trees.{process, choice, option, arm, variant, Tag, tag_line, Protocol, of_parts, of_tags, Node, node, no_body, single_body, bodies, Nodes, no_node, more_nodes, Decls, no_decl, more_decls, Decl, declares, item, Item, value_item, protocol_item, proc_item}
 
 abbrev pub tag_of : TagTree → Tag
 tag_of t = tag_line t.line t.name.items (map part_of t.parts.items)
@@ -97,3 +98,6 @@ unfoldable mutual
   pub row_variants : {m : _} → Row_of-Variant m → Nodes variant
   row_variants end_of-Variant = no_node
   row_variants (more_of-Variant n ns) = more_nodes (variant_of n) (row_variants ns)
+
+abbrev pub program_of : Program → List Item
+program_of p = map item_of p.items.items

@@ -1,12 +1,11 @@
-use Rattle.std.proofs.Common.{arith, ◌≡◌, length, Some, sym, ap, subst, ◌∙◌, ◌∷◌, ◌++◌, [], map}
+use Rattle.std.proofs.Common.{arith, ◌≡◌, Some, sym, subst, ◌∷◌, ◌++◌, [], map}
 use Rattle.std.proofs.lemmas.Grind.{common_steps}
 use Rattle.std.proofs.lemmas.List.{map_push}
 use Rattle.std.proofs.lemmas.Result.{err_from_is_err_and}
-use Rattle.occ_text.specs.Words.{Word, words}
-use Rattle.occ_tree.specs.Many.{many}
-use Rattle.occ_tree.specs.Expressions.Trees.{Operand, Operands, Expression, Expressions, chain, variable, operand_of, expression_of}
-use Rattle.occ_tree.specs.Expressions.Reading.{after_open_bracket, after_logic, index_with, operand_with, after_operand, expression_at}
-use Rattle.occ_tree.proofs.ManyLoop.{begins, goes_on, ends, is_full, is_last}
+use Rattle.occ_text.specs.Words.{words}
+use Rattle.occ_tree.specs.Expressions.Trees.{Operands, Expressions, chain, variable, operand_of, expression_of}
+use Rattle.occ_tree.specs.Expressions.Reading.{operand_with, after_operand, expression_at}
+use Rattle.occ_tree.proofs.ManyLoop.{goes_on, ends, is_full, is_last}
 use Rattle.occ_tree.proofs.Rows.{operands_made, expressions_made}
 use Rattle.occ_tree.proofs.Steps.{no_level, next_level}
 use Rattle.occ_tree.proofs.expressions.read.+reading.Goals.{operands-else-loop-test, operands-then-loop-test+in_default, indices-else-loop-test, indices-then-loop-test+in_default}

@@ -1,4 +1,4 @@
-use Rattle.std.proofs.Common.{◌≡◌, length, ◌+◌, ◌-◌, ◌*◌, map}
+use Rattle.std.proofs.Common.{length, ◌+◌, ◌*◌, map}
 use Rattle.occ_text.specs.Words.{Word, words}
 use Rattle.occ_tree.specs.Many.{many}
 use Rattle.occ_tree.specs.Expressions.Trees.{Operand, Expression, operand_of, expression_of}

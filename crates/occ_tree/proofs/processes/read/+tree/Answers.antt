@@ -1,5 +1,4 @@
-use Rattle.std.proofs.Common.{arith, ◌≡◌, ◌+◌, ◌-◌, Some, None, sym, ap, subst, ◌∙◌, ◌∷◌, ◌++◌, [], map, option_map, refl, Option}
-use Rattle.std.proofs.lemmas.Grind.{common_steps}
+use Rattle.std.proofs.Common.{◌≡◌, ◌+◌, Some, sym, ap, subst, ◌∙◌, ◌∷◌, ◌++◌, [], map, Option}
 use Rattle.std.proofs.lemmas.List.{map_push}
 use Rattle.std.proofs.lemmas.Result.{err_from_is_err_and}
 use Rattle.occ_text.specs.Words.{rows}
@@ -13,19 +12,16 @@ use Rattle.occ_tree.specs.declared.tree.process.Stmt.TheVariants as stmts
 use Rattle.occ_tree.specs.declared.tree.process.Choice.TheVariants as choices
 use Rattle.occ_tree.specs.declared.tree.process.Selection.TheVariants as selections
 use Rattle.occ_tree.specs.declared.tree.process.Arm.TheVariants as arms
-use Rattle.occ_tree.specs.declared.tree.process.Variant.TheVariants as variants
 use Rattle.occ_tree.specs.declared.tree.process.Decl.TheVariants as declTrees
 use Rattle.occ_tree.specs.declared.tree.process.Item.TheVariants as itemTrees
 use Rattle.occ_tree.specs.declared.tree.process.Protocol.TheVariants as protocols
 use Rattle.occ_tree.specs.declared.tree.line.Replicator.{Replicator}
 use Rattle.occ_tree.specs.declared.lines.head.ProcessHead.TheVariants as heads
 use Rattle.occ_tree.specs.declared.lines.head.ChoiceHead.TheVariants as choiceHeads
-use Rattle.occ_tree.specs.declared.lines.head.OptionHead.TheVariants as optionHeads
 use Rattle.occ_tree.specs.declared.lines.head.ArmHead.TheVariants as armHeads
-use Rattle.occ_tree.specs.declared.lines.head.DeclHead.TheVariants as declHeads
 use Rattle.occ_tree.specs.Expressions.Trees.{expression_of}
 use Rattle.occ_tree.specs.Expressions.Reading.{Fails}
-use Rattle.occ_tree.specs.Lines.Views.{var_of, target_of, replicator_of}
+use Rattle.occ_tree.specs.Lines.Views.{replicator_of}
 use Rattle.occ_tree.specs.Lines.Heads.{ProcessHead, ChoiceHead, OptionHead, ArmHead, DeclHead, sequence, parallel, alternation, conditional, loop, nested_conditional, nested_alternation}
 use Rattle.occ_tree.specs.Lines.HeadViews.{process_head_of, choice_head_of, option_head_of, arm_head_of, decl_head_of}
 use Rattle.occ_tree.specs.Processes.Trees.{Node, node, single_body, Decl, item}

@@ -1,7 +1,7 @@
-use Rattle.std.proofs.Common.{◌≡◌, length, ◌+◌, ◌*◌, map}
+use Rattle.std.proofs.Common.{length, ◌+◌, ◌*◌, map}
 use Rattle.occ_text.specs.Words.{Row, rows}
 use Rattle.occ_tree.specs.Many.{as_many}
-use Rattle.occ_tree.specs.Processes.Trees.{Kind, process, choice, option, arm, variant, Node, Decl}
+use Rattle.occ_tree.specs.Processes.Trees.{process, choice, option, arm, variant, Node, Decl}
 use Rattle.occ_tree.specs.Processes.Views.{process_of, choice_of, selection_of, arm_of, variant_of, decl_of}
 use Rattle.occ_tree.specs.Processes.Reading.{at_level, at_decl, node_at, decl_with}
 use Rattle.occ_tree.proofs.ManyLoop.{SoFar}
