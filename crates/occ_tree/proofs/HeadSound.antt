@@ -174,7 +174,6 @@ option_head_sound b ws h x = values_sound b ws h x
 abbrev IsArm : ℕ → List Word → ArmHead → Type 0
 IsArm b = IsWhole show_arm_head (FitsArmHead b)
 
-
 as_var_sound : (b : ℕ) (e : Expression) → FitsExpression b e → (v : Var) → as_var e ≡ Some v → (show_expression e ≡ show_var v) × FitsVar b v
 as_var_sound b (alone (variable n es)) f v x = subst (λ (w : Var). (name n ∷ show_indices es ≡ show_var w) × FitsVar b w) (some_is (var n es) v x) (refl, (let d : depth_indices es < b = f.0 in omega arith, f.1.1, f.1.0))
 as_var_sound b _ f v x = absurd cc

@@ -87,7 +87,7 @@ target_after_sound b v f (mark s.DoubleColon ∷ ws) x e =
     let a = bind_some (var_at b ws) _ x e in
     let p = var_sound b ws a.0 a.1 in
     subst (Is show_target (FitsTarget b) (show_var v ++ mark s.DoubleColon ∷ ws)) (some_is _ x a.2)
-        (after _ (show_var v) (mark s.DoubleColon ∷ ws) (mark s.DoubleColon ∷ show_var a.0.0) a.0.1 refl (ap (λ (t : List Word). mark s.DoubleColon ∷ t) p.0), (f, p.1))
+    (after _ (show_var v) (mark s.DoubleColon ∷ ws) (mark s.DoubleColon ∷ show_var a.0.0) a.0.1 refl (ap (λ (t : List Word). mark s.DoubleColon ∷ t) p.0), (f, p.1))
 target_after_sound b v f ws x e = subst (Is show_target (FitsTarget b) (show_var v ++ ws)) (some_is _ x e) (refl, f)
 
 pub target_sound : (b : ℕ) (ws : List Word) (x : Target × List Word) → target_at b ws ≡ Some x → Is show_target (FitsTarget b) ws x
@@ -103,7 +103,7 @@ out_after_sound b f fits (mark s.DoubleColon ∷ ws) x e =
     let a = bind_some (expression_at b ws) _ x e in
     let p = fits_sound b ws a.0 a.1 in
     subst (Is show_out (FitsOut b) (show_expression f ++ mark s.DoubleColon ∷ ws)) (some_is _ x a.2)
-        (after _ (show_expression f) (mark s.DoubleColon ∷ ws) (mark s.DoubleColon ∷ show_expression a.0.0) a.0.1 refl (ap (λ (t : List Word). mark s.DoubleColon ∷ t) p.0), (fits, p.1))
+    (after _ (show_expression f) (mark s.DoubleColon ∷ ws) (mark s.DoubleColon ∷ show_expression a.0.0) a.0.1 refl (ap (λ (t : List Word). mark s.DoubleColon ∷ t) p.0), (fits, p.1))
 out_after_sound b f fits ws x e = subst (Is show_out (FitsOut b) (show_expression f ++ ws)) (some_is _ x e) (refl, fits)
 
 pub out_sound : (b : ℕ) (ws : List Word) (x : Out × List Word) → out_at b ws ≡ Some x → Is show_out (FitsOut b) ws x

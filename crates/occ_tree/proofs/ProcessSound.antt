@@ -190,7 +190,7 @@ module _ (b n level : ℕ) (inner : (j : Kind) → Reader Row (Node j))
       let first : ds.0.1 ≡ (row l.0.0.0 level (show_head kind h.0) ∷ show_body (level + 1) body.0.0) ++ body.0.1 = line_sound level ds.0.1 l.0 l.1 ∙ ap (λ (ws : List Word). row l.0.0.0 level ws ∷ l.0.1) q.0 ∙ ap (λ (t : List Row). row l.0.0.0 level (show_head kind h.0) ∷ t) r.0 in
       let declared : rows ≡ show_decls level (decls ds.0.0) ++ ds.0.1 = p.0 ∙ ap (λ (t : List Row). t ++ ds.0.1) (sym (decls_shown level ds.0.0)) in
       subst (λ (y : Node kind × List Row). (rows ≡ show_node level y.0 ++ y.1) × FitsNode b (suc n) y.0) (some_is _ x body.2)
-          (after rows (show_decls level (decls ds.0.0)) ds.0.1 (row l.0.0.0 level (show_head kind h.0) ∷ show_body (level + 1) body.0.0) body.0.1 declared first, (decls_fit b n ds.0.0 p.1, q.1, r.1))
+      (after rows (show_decls level (decls ds.0.0)) ds.0.1 (row l.0.0.0 level (show_head kind h.0) ∷ show_body (level + 1) body.0.0) body.0.1 declared first, (decls_fit b n ds.0.0 p.1, q.1, r.1))
 
 pub node_sound : (b n level : ℕ) (kind : Kind) (rows : List Row) (x : Node kind × List Row) → node_at b n level kind rows ≡ Some x → (rows ≡ show_node level x.0 ++ x.1) × FitsNode b n x.0
 unfolding node_at
@@ -211,7 +211,7 @@ item_at_sound b n rows x e =
     let p = decl_sound b n 0 (node_at b n 1) (node_sound b n 1) rows d.0 d.1 in
     let same = as_item_is d.0.0 i.0 i.1 in
     subst (λ (y : Item × List Row). (rows ≡ show_item 0 y.0 ++ y.1) × FitsItem b n y.0) (some_is _ x i.2)
-        (p.0 ∙ ap (λ (t : Decl). show_decl 0 t ++ d.0.1) same, subst (λ (t : Decl). FitsDecl b n t) same p.1)
+    (p.0 ∙ ap (λ (t : Decl). show_decl 0 t ++ d.0.1) same, subst (λ (t : Decl). FitsDecl b n t) same p.1)
 
 any_is : (rows after : List Row) → at_any rows ≡ Some after → rows ≡ after
 any_is [] after e = absurd cc

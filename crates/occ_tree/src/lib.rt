@@ -8,7 +8,6 @@ mod expressions;
 mod fault;
 pub mod laws;
 mod lines;
-
 mod processes;
 mod text;
 pub mod tree;

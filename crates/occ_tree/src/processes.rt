@@ -2,5 +2,4 @@
 
 pub mod line;
 pub mod protocol;
-
 pub mod read;

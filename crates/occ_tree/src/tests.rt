@@ -133,13 +133,25 @@ fn bodies(rt: HostRuntime) -> Result<(), Fail> {
     let alloc = rt.alloc();
     let rows: [(&[(u32, &str)], &str); 40] = [
         (&[(1, "screen ! 'A'")], "ok"),
-        (&[(1, "INT x :"), (1, "x := 1 + 2 + 3")], "refused 20 Unexpected line 3"),
+        (
+            &[(1, "INT x :"), (1, "x := 1 + 2 + 3")],
+            "refused 20 Unexpected line 3",
+        ),
         (&[(1, "INT x :"), (1, "x := 1 + 2")], "ok"),
         (&[(1, "BOOL a , b , c :"), (1, "a := a AND b AND c")], "ok"),
-        (&[(1, "BOOL a :"), (1, "a := a AND a OR a")], "refused 20 Unexpected line 3"),
+        (
+            &[(1, "BOOL a :"), (1, "a := a AND a OR a")],
+            "refused 20 Unexpected line 3",
+        ),
         (&[(1, "SEQ"), (3, "SKIP")], "refused 21 Level line 3"),
-        (&[(1, "INT16 x :"), (1, "SKIP")], "refused 20 Unexpected line 2"),
-        (&[(1, "TIMER x :"), (1, "SKIP")], "refused 20 Unexpected line 2"),
+        (
+            &[(1, "INT16 x :"), (1, "SKIP")],
+            "refused 20 Unexpected line 2",
+        ),
+        (
+            &[(1, "TIMER x :"), (1, "SKIP")],
+            "refused 20 Unexpected line 2",
+        ),
         (&[(1, "SEQ")], "ok"),
         (&[(1, "ALT")], "ok"),
         (&[(1, "PRI ALT")], "ok"),
@@ -148,30 +160,138 @@ fn bodies(rt: HostRuntime) -> Result<(), Fail> {
         (&[(1, "CASE 3")], "ok"),
         (&[(1, "c ? CASE")], "ok"),
         (&[(1, "c ? CASE data ; x")], "ok"),
-        (&[(1, "c ? CASE"), (2, "data ; x"), (3, "SKIP"), (2, "quit"), (3, "SKIP")], "ok"),
+        (
+            &[
+                (1, "c ? CASE"),
+                (2, "data ; x"),
+                (3, "SKIP"),
+                (2, "quit"),
+                (3, "SKIP"),
+            ],
+            "ok",
+        ),
         (&[(1, "c ? n :: got ; x")], "ok"),
         (&[(1, "c ! 5 :: buf ; 1 ( BYTE )")], "ok"),
         (&[(1, "a [ 0 ] , b := 1 , a [ 1 ]")], "ok"),
         (&[(1, "a [ 0 ] [ 1 ] := 1")], "refused 20 Unexpected line 2"),
-        (&[(1, "[ 2 ] [ 3 ] INT a :"), (1, "SKIP")], "refused 20 Unexpected line 2"),
-        (&[(1, "[ 2 ] CHAN OF INT :: [ ] BYTE c :"), (1, "CHAN OF msg d :"), (1, "SKIP")], "ok"),
-        (&[(1, "VAL n IS 3 :"), (1, "VAL [ ] BYTE s IS t :"), (1, "VAL INT m IS n :"), (1, "SKIP")], "ok"),
+        (
+            &[(1, "[ 2 ] [ 3 ] INT a :"), (1, "SKIP")],
+            "refused 20 Unexpected line 2",
+        ),
+        (
+            &[
+                (1, "[ 2 ] CHAN OF INT :: [ ] BYTE c :"),
+                (1, "CHAN OF msg d :"),
+                (1, "SKIP"),
+            ],
+            "ok",
+        ),
+        (
+            &[
+                (1, "VAL n IS 3 :"),
+                (1, "VAL [ ] BYTE s IS t :"),
+                (1, "VAL INT m IS n :"),
+                (1, "SKIP"),
+            ],
+            "ok",
+        ),
         (&[(1, "SKIP"), (1, "SKIP")], "refused 21 Level line 3"),
         (&[(1, "SKIP"), (1, "INT x :")], "refused 21 Level line 3"),
         (&[(1, "SKIP SKIP")], "refused 20 Unexpected line 2"),
         (&[(1, "WHILE TRUE")], "refused 21 Level line 3"),
         (&[(1, "x :=")], "refused 20 Unexpected line 2"),
-        (&[(1, "CASE x"), (2, "1 , 2"), (3, "SKIP"), (2, "ELSE")], "refused 21 Level line 6"),
-        (&[(1, "CASE x"), (2, "INT x , y"), (3, "SKIP"), (2, "INT z :"), (2, "ELSE"), (3, "SKIP")], "ok"),
-        (&[(1, "ALT"), (2, "BOOL b & c ? x"), (3, "SKIP"), (2, "b & SKIP"), (3, "STOP"), (2, "c [ 1 ] ? x"), (3, "SKIP")], "ok"),
-        (&[(1, "ALT"), (2, "a = 1 & c ? CASE"), (3, "data"), (4, "SKIP"), (2, "ALT i = 0 FOR 3"), (3, "c [ i ] ? x"), (4, "SKIP")], "ok"),
-        (&[(1, "ALT"), (2, "1 ? x"), (3, "SKIP")], "refused 20 Unexpected line 3"),
-        (&[(1, "IF"), (2, "a"), (3, "SKIP"), (2, "IF i = 0 FOR n"), (3, "i = 2"), (4, "SKIP")], "ok"),
-        (&[(1, "SEQ i = 0 FOR 3"), (2, "BYTE b :"), (2, "SEQ"), (3, "keyboard ? b")], "ok"),
-        (&[(1, "PROC f ( VAL INT a , b , [ ] BYTE t , CHAN OF INT c )"), (2, "SKIP"), (1, ":"), (1, "f ( 1 , 2 , t , c )")], "ok"),
-        (&[(1, "PROC f ( a )"), (2, "SKIP"), (1, ":"), (1, "f ( )")], "refused 20 Unexpected line 2"),
-        (&[(1, "PROC f ( VAL a )"), (2, "SKIP"), (1, ":"), (1, "f ( )")], "refused 20 Unexpected line 2"),
-        (&[(1, "PROTOCOL msg"), (2, "CASE"), (3, "data ; INT"), (3, "quit"), (1, ":"), (1, "PROTOCOL p IS INT ; [ 4 ] BYTE :"), (1, "x := ( - x ) REM ( SIZE y )")], "ok"),
+        (
+            &[(1, "CASE x"), (2, "1 , 2"), (3, "SKIP"), (2, "ELSE")],
+            "refused 21 Level line 6",
+        ),
+        (
+            &[
+                (1, "CASE x"),
+                (2, "INT x , y"),
+                (3, "SKIP"),
+                (2, "INT z :"),
+                (2, "ELSE"),
+                (3, "SKIP"),
+            ],
+            "ok",
+        ),
+        (
+            &[
+                (1, "ALT"),
+                (2, "BOOL b & c ? x"),
+                (3, "SKIP"),
+                (2, "b & SKIP"),
+                (3, "STOP"),
+                (2, "c [ 1 ] ? x"),
+                (3, "SKIP"),
+            ],
+            "ok",
+        ),
+        (
+            &[
+                (1, "ALT"),
+                (2, "a = 1 & c ? CASE"),
+                (3, "data"),
+                (4, "SKIP"),
+                (2, "ALT i = 0 FOR 3"),
+                (3, "c [ i ] ? x"),
+                (4, "SKIP"),
+            ],
+            "ok",
+        ),
+        (
+            &[(1, "ALT"), (2, "1 ? x"), (3, "SKIP")],
+            "refused 20 Unexpected line 3",
+        ),
+        (
+            &[
+                (1, "IF"),
+                (2, "a"),
+                (3, "SKIP"),
+                (2, "IF i = 0 FOR n"),
+                (3, "i = 2"),
+                (4, "SKIP"),
+            ],
+            "ok",
+        ),
+        (
+            &[
+                (1, "SEQ i = 0 FOR 3"),
+                (2, "BYTE b :"),
+                (2, "SEQ"),
+                (3, "keyboard ? b"),
+            ],
+            "ok",
+        ),
+        (
+            &[
+                (1, "PROC f ( VAL INT a , b , [ ] BYTE t , CHAN OF INT c )"),
+                (2, "SKIP"),
+                (1, ":"),
+                (1, "f ( 1 , 2 , t , c )"),
+            ],
+            "ok",
+        ),
+        (
+            &[(1, "PROC f ( a )"), (2, "SKIP"), (1, ":"), (1, "f ( )")],
+            "refused 20 Unexpected line 2",
+        ),
+        (
+            &[(1, "PROC f ( VAL a )"), (2, "SKIP"), (1, ":"), (1, "f ( )")],
+            "refused 20 Unexpected line 2",
+        ),
+        (
+            &[
+                (1, "PROTOCOL msg"),
+                (2, "CASE"),
+                (3, "data ; INT"),
+                (3, "quit"),
+                (1, ":"),
+                (1, "PROTOCOL p IS INT ; [ 4 ] BYTE :"),
+                (1, "x := ( - x ) REM ( SIZE y )"),
+            ],
+            "ok",
+        ),
     ];
     for (lines, expected) in &rows {
         let found = body(alloc, lines)?;
@@ -186,13 +306,35 @@ fn texts(rt: HostRuntime) -> Result<(), Fail> {
     let head = "PROC main ( CHAN OF BYTE keyboard , screen )";
     let rows: [(&[(u32, &str)], &str); 8] = [
         (&[], "ok"),
-        (&[(0, head), (1, "screen ! 'A'")], "refused 22 Missing line 2"),
+        (
+            &[(0, head), (1, "screen ! 'A'")],
+            "refused 22 Missing line 2",
+        ),
         (&[(0, head)], "refused 22 Missing line 1"),
         (&[(0, "SEQ")], "refused 20 Unexpected line 1"),
         (&[(0, "INT x :")], "refused 20 Unexpected line 1"),
         (&[(1, "VAL n IS 1 :")], "refused 21 Level line 1"),
-        (&[(0, "VAL n IS 1 :"), (0, "PROTOCOL p IS INT :"), (0, head), (1, "SKIP"), (0, ":")], "ok"),
-        (&[(0, "PROTOCOL msg"), (1, "CASE"), (0, ":"), (0, head), (1, "SKIP"), (0, ": x")], "refused 20 Unexpected line 6"),
+        (
+            &[
+                (0, "VAL n IS 1 :"),
+                (0, "PROTOCOL p IS INT :"),
+                (0, head),
+                (1, "SKIP"),
+                (0, ":"),
+            ],
+            "ok",
+        ),
+        (
+            &[
+                (0, "PROTOCOL msg"),
+                (1, "CASE"),
+                (0, ":"),
+                (0, head),
+                (1, "SKIP"),
+                (0, ": x"),
+            ],
+            "refused 20 Unexpected line 6",
+        ),
     ];
     for (lines, expected) in &rows {
         let found = outcome(alloc, lines)?;

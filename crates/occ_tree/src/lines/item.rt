@@ -96,12 +96,7 @@ pub enum Received {
     Variants(Var),
 }
 
-fn items(
-    alloc: Global,
-    line: u32,
-    channel: Var,
-    tokens: &[Token],
-) -> Result<Received, ParseFault>
+fn items(alloc: Global, line: u32, channel: Var, tokens: &[Token]) -> Result<Received, ParseFault>
     ensures { Gives received_of result (targets_whole 65 (var_of channel) (words tokens.now)) }
 {
     let (first, rest) = target(alloc, line, tokens)?;

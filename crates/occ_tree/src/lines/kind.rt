@@ -176,7 +176,13 @@ pub fn formal(alloc: Global, line: u32, tokens: &[Token]) -> Result<(Formal, &[T
         _ => {
             let (spec, rest) = spec(alloc, line, tokens)?;
             let (name, rest) = name(alloc, line, rest)?;
-            Ok((Formal { spec: Some(spec), name }, rest))
+            Ok((
+                Formal {
+                    spec: Some(spec),
+                    name,
+                },
+                rest,
+            ))
         }
     }
 }

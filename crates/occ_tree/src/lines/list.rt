@@ -102,11 +102,7 @@ pub fn targets(
 }
 
 /// Further items of an output, each behind a semicolon.
-pub fn outs(
-    alloc: Global,
-    line: u32,
-    tokens: &[Token],
-) -> Result<(Vec<Out>, &[Token]), ParseFault>
+pub fn outs(alloc: Global, line: u32, tokens: &[Token]) -> Result<(Vec<Out>, &[Token]), ParseFault>
     ensures { Gives (λ x. (map out_of x.0.items, words x.1.now)) result (listed_at Separator.Semicolon (out_at 65) (words tokens.now)) }
 {
     let mut all = Vec::new(alloc);

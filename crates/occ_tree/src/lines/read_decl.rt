@@ -44,7 +44,11 @@ fn declared_names(
     let (first, rest) = name(alloc, line, tokens)?;
     let (others, rest) = names(alloc, line, rest)?;
     let rest = colon(line, rest)?;
-    only_head(line, DeclHead::Names(sizes, sort, OneOrMore { first, others }), rest)
+    only_head(
+        line,
+        DeclHead::Names(sizes, sort, OneOrMore { first, others }),
+        rest,
+    )
 }
 
 /// What follows the sizes of a declaration.
@@ -107,7 +111,11 @@ fn behind_protocol(alloc: Global, line: u32, tokens: &[Token]) -> Result<DeclHea
             let (others, rest) = parts(alloc, line, rest)?;
             let rest = colon(line, rest)?;
             let name = Vec::from_slice(alloc, name)?;
-            only_head(line, DeclHead::Parts(name, OneOrMore { first, others }), rest)
+            only_head(
+                line,
+                DeclHead::Parts(name, OneOrMore { first, others }),
+                rest,
+            )
         }
         _ => Err(ParseFault::Unexpected { line }),
     }

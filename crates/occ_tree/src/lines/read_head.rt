@@ -12,7 +12,9 @@ ghost use Rattle.occ_tree.specs.Lines.HeadReading.{received_head as head_receive
 
 use crate::fault::ParseFault;
 use crate::lines::head::{ArmHead, ChoiceHead, OptionHead, ProcessHead, VariantHead};
-use crate::lines::item::{Received, actuals, behind_question, expression, out, replicator, var, var_behind};
+use crate::lines::item::{
+    Received, actuals, behind_question, expression, out, replicator, var, var_behind,
+};
 use crate::lines::list::{expressions, outs, targets, variables};
 use crate::lines::word::{assign, question};
 use crate::tree::expr::{Expr, Operand};
@@ -53,7 +55,11 @@ fn assignment(
     let rest = assign(line, rest)?;
     let (first, rest) = expression(alloc, line, rest)?;
     let (others, rest) = expressions(alloc, line, rest)?;
-    only_action(line, Action::Assign(targets, OneOrMore { first, others }), rest)
+    only_action(
+        line,
+        Action::Assign(targets, OneOrMore { first, others }),
+        rest,
+    )
 }
 
 /// What was received, as the line of a process.
@@ -84,7 +90,11 @@ fn behind_var(
             let channel = first;
             let (first, rest) = out(alloc, line, rest)?;
             let (others, rest) = outs(alloc, line, rest)?;
-            only_action(line, Action::Output(channel, OneOrMore { first, others }), rest)
+            only_action(
+                line,
+                Action::Output(channel, OneOrMore { first, others }),
+                rest,
+            )
         }
         _ => assignment(alloc, line, first, tokens),
     }
@@ -130,11 +140,7 @@ fn behind_name(
 
 /// The line of a process. At most 64 brackets stand open at one place.
 #[tactic(auto, unfolding(crate::specs::Lines::HeadReading::process_head_at))]
-pub fn process_head(
-    alloc: Global,
-    line: u32,
-    tokens: &[Token],
-) -> Result<ProcessHead, ParseFault>
+pub fn process_head(alloc: Global, line: u32, tokens: &[Token]) -> Result<ProcessHead, ParseFault>
     ensures { Gives process_head_of result (process_head_at 65 (words tokens.now)) }
 {
     match tokens {
@@ -191,11 +197,7 @@ pub fn choice_head(alloc: Global, line: u32, tokens: &[Token]) -> Result<ChoiceH
 }
 
 /// The values, where nothing follows them.
-fn only_values(
-    line: u32,
-    values: OneOrMore<Expr>,
-    rest: &[Token],
-) -> Result<OptionHead, ParseFault>
+fn only_values(line: u32, values: OneOrMore<Expr>, rest: &[Token]) -> Result<OptionHead, ParseFault>
     ensures { Gives option_head_of result (ended (option_head_of (OptionHead.Values values)) (words rest.now)) }
 {
     match rest {
@@ -360,11 +362,7 @@ pub fn arm_head(alloc: Global, line: u32, tokens: &[Token]) -> Result<ArmHead, P
 
 /// The line of a variant.
 #[tactic(auto, unfolding(crate::specs::Lines::HeadReading::variant_head_at))]
-pub fn variant_head(
-    alloc: Global,
-    line: u32,
-    tokens: &[Token],
-) -> Result<VariantHead, ParseFault>
+pub fn variant_head(alloc: Global, line: u32, tokens: &[Token]) -> Result<VariantHead, ParseFault>
     ensures { Gives variant_head_of result (variant_head_at 65 (words tokens.now)) }
 {
     match tokens {

@@ -36,11 +36,7 @@ pub fn declaration_at(level: u32, lines: &[Line]) -> Option<&[Line]>
 /// The line that must stand at this level, and the lines after it. `last` is the last line of the
 /// text.
 #[tactic(auto, unfolding(crate::specs::Processes::Reading::line_at))]
-pub fn line_of(
-    last: u32,
-    level: u32,
-    lines: &[Line],
-) -> Result<(&Line, &[Line]), ParseFault>
+pub fn line_of(last: u32, level: u32, lines: &[Line]) -> Result<(&Line, &[Line]), ParseFault>
     ensures { Gives (λ x. ((x.0.now.number, words x.0.now.words.items), rows x.1.now)) result (line_at level (rows lines.now)) }
 {
     match lines {
@@ -70,11 +66,7 @@ fn only_colon(line: u32, tokens: &[Token]) -> Result<(), ParseFault>
 
 /// The line of `CASE` that must stand at this level: its number.
 #[tactic(auto, unfolding(crate::specs::Processes::Reading::case_at))]
-pub fn case_line(
-    last: u32,
-    level: u32,
-    lines: &[Line],
-) -> Result<(u32, &[Line]), ParseFault>
+pub fn case_line(last: u32, level: u32, lines: &[Line]) -> Result<(u32, &[Line]), ParseFault>
     ensures { Gives (λ x. (x.0, rows x.1.now)) result (case_at level (rows lines.now)) }
 {
     let (first, rest) = line_of(last, level, lines)?;
@@ -84,11 +76,7 @@ pub fn case_line(
 
 /// The colon that must stand at this level and ends a declaration: the number of its line.
 #[tactic(auto, unfolding(crate::specs::Processes::Reading::end_at))]
-pub fn end_line(
-    last: u32,
-    level: u32,
-    lines: &[Line],
-) -> Result<(u32, &[Line]), ParseFault>
+pub fn end_line(last: u32, level: u32, lines: &[Line]) -> Result<(u32, &[Line]), ParseFault>
     ensures { Gives (λ x. (x.0, rows x.1.now)) result (end_at level (rows lines.now)) }
 {
     let (first, rest) = line_of(last, level, lines)?;

@@ -19,9 +19,7 @@ use crate::lines::read_decl::decl_head;
 use crate::lines::read_head::{arm_head, choice_head, option_head, process_head, variant_head};
 use crate::processes::line::{declaration_at, end_line, line_of, lines_at, too_deep};
 use crate::processes::protocol::tags;
-use crate::tree::process::{
-    Arm, Choice, Decl, Item, Process, Protocol, Selection, Stmt, Variant,
-};
+use crate::tree::process::{Arm, Choice, Decl, Item, Process, Protocol, Selection, Stmt, Variant};
 use occ_text::Line;
 use std::alloc::Global;
 
@@ -78,38 +76,59 @@ fn statement(
     ensures { Gives (λ x. (process_of x.0, rows x.1.now)) result (finished the_process level (node_at 65 left (level + 1)) (map decl_of declarations.items) line (process_head_of head) (rows lines.now)) }
 {
     match head {
-        ProcessHead::Action(action) => Ok((Process::Declared(declarations, line, Stmt::Action(action)), lines)),
+        ProcessHead::Action(action) => Ok((
+            Process::Declared(declarations, line, Stmt::Action(action)),
+            lines,
+        )),
         ProcessHead::Seq(seq) => match seq {
             None => {
                 let (steps, rest) = processes(alloc, last, left, level + 1, lines)?;
-                Ok((Process::Declared(declarations, line, Stmt::Seq(steps)), rest))
+                Ok((
+                    Process::Declared(declarations, line, Stmt::Seq(steps)),
+                    rest,
+                ))
             }
             Some(index) => {
                 let (step, rest) = process(alloc, last, left, level + 1, lines)?;
                 let step = Box::new(alloc, step)?;
-                Ok((Process::Declared(declarations, line, Stmt::SeqFor(index, step)), rest))
+                Ok((
+                    Process::Declared(declarations, line, Stmt::SeqFor(index, step)),
+                    rest,
+                ))
             }
         },
         ProcessHead::Par(par) => match par {
             None => {
                 let (branches, rest) = processes(alloc, last, left, level + 1, lines)?;
-                Ok((Process::Declared(declarations, line, Stmt::Par(branches)), rest))
+                Ok((
+                    Process::Declared(declarations, line, Stmt::Par(branches)),
+                    rest,
+                ))
             }
             Some(index) => {
                 let (branch, rest) = process(alloc, last, left, level + 1, lines)?;
                 let branch = Box::new(alloc, branch)?;
-                Ok((Process::Declared(declarations, line, Stmt::ParFor(index, branch)), rest))
+                Ok((
+                    Process::Declared(declarations, line, Stmt::ParFor(index, branch)),
+                    rest,
+                ))
             }
         },
         ProcessHead::Alt(pri, alt) => match alt {
             None => {
                 let (guards, rest) = arms(alloc, last, left, level + 1, lines)?;
-                Ok((Process::Declared(declarations, line, Stmt::Alt(pri, guards)), rest))
+                Ok((
+                    Process::Declared(declarations, line, Stmt::Alt(pri, guards)),
+                    rest,
+                ))
             }
             Some(index) => {
                 let (guard, rest) = arm(alloc, last, left, level + 1, lines)?;
                 let guard = Box::new(alloc, guard)?;
-                Ok((Process::Declared(declarations, line, Stmt::AltFor(pri, index, guard)), rest))
+                Ok((
+                    Process::Declared(declarations, line, Stmt::AltFor(pri, index, guard)),
+                    rest,
+                ))
             }
         },
         ProcessHead::If(cond) => match cond {
@@ -120,21 +139,33 @@ fn statement(
             Some(index) => {
                 let (case, rest) = choice(alloc, last, left, level + 1, lines)?;
                 let case = Box::new(alloc, case)?;
-                Ok((Process::Declared(declarations, line, Stmt::IfFor(index, case)), rest))
+                Ok((
+                    Process::Declared(declarations, line, Stmt::IfFor(index, case)),
+                    rest,
+                ))
             }
         },
         ProcessHead::Case(value) => {
             let (options, rest) = selections(alloc, last, left, level + 1, lines)?;
-            Ok((Process::Declared(declarations, line, Stmt::Case(value, options)), rest))
+            Ok((
+                Process::Declared(declarations, line, Stmt::Case(value, options)),
+                rest,
+            ))
         }
         ProcessHead::While(condition) => {
             let (body, rest) = process(alloc, last, left, level + 1, lines)?;
             let body = Box::new(alloc, body)?;
-            Ok((Process::Declared(declarations, line, Stmt::While(condition, body)), rest))
+            Ok((
+                Process::Declared(declarations, line, Stmt::While(condition, body)),
+                rest,
+            ))
         }
         ProcessHead::Variants(channel) => {
             let (all, rest) = variants(alloc, last, left, level + 1, lines)?;
-            Ok((Process::Declared(declarations, line, Stmt::Variants(channel, all)), rest))
+            Ok((
+                Process::Declared(declarations, line, Stmt::Variants(channel, all)),
+                rest,
+            ))
         }
     }
 }
@@ -312,10 +343,15 @@ fn selected(
     requires { level + left ≤ 64 }
     ensures { Gives (λ x. (selection_of x.0, rows x.1.now)) result (finished the_option level (node_at 65 left (level + 1)) (map decl_of declarations.items) line (option_head_of head) (rows lines.now)) }
 {
-    let (one, rest) = process(alloc, last, left, level + 1, lines)?;
     match head {
-        OptionHead::Values(values) => Ok((Selection::Values(declarations, line, values, one), rest)),
-        OptionHead::Else => Ok((Selection::Else(declarations, line, one), rest)),
+        OptionHead::Values(values) => {
+            let (one, rest) = process(alloc, last, left, level + 1, lines)?;
+            Ok((Selection::Values(declarations, line, values, one), rest))
+        }
+        OptionHead::Else => {
+            let (otherwise, rest) = process(alloc, last, left, level + 1, lines)?;
+            Ok((Selection::Else(declarations, line, otherwise), rest))
+        }
     }
 }
 
@@ -403,7 +439,10 @@ fn armed(
         }
         ArmHead::Variants(condition, channel) => {
             let (all, rest) = variants(alloc, last, left, level + 1, lines)?;
-            Ok((Arm::OnVariant(declarations, line, condition, channel, all), rest))
+            Ok((
+                Arm::OnVariant(declarations, line, condition, channel, all),
+                rest,
+            ))
         }
         ArmHead::Alt(pri, alt) => match alt {
             None => {
@@ -413,7 +452,10 @@ fn armed(
             Some(index) => {
                 let (guard, rest) = arm(alloc, last, left, level + 1, lines)?;
                 let guard = Box::new(alloc, guard)?;
-                Ok((Arm::InnerAltFor(declarations, line, pri, index, guard), rest))
+                Ok((
+                    Arm::InnerAltFor(declarations, line, pri, index, guard),
+                    rest,
+                ))
             }
         },
     }
@@ -479,7 +521,10 @@ fn variant_inside(
     let line = first.number;
     let head = variant_head(alloc, line, &first.words)?;
     let (one, rest) = process(alloc, last, left, level + 1, rest)?;
-    Ok((Variant::Tagged(declarations, line, head.tag, head.targets, one), rest))
+    Ok((
+        Variant::Tagged(declarations, line, head.tag, head.targets, one),
+        rest,
+    ))
 }
 
 /// The variants in a row at this level.
