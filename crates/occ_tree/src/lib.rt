@@ -14,3 +14,6 @@ pub mod tree;
 
 pub use fault::ParseFault;
 pub use text::parse;
+
+#[cfg(test)]
+mod tests;

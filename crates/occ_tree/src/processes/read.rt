@@ -343,13 +343,15 @@ fn selected(
     requires { level + left ≤ 64 }
     ensures { Gives (λ x. (selection_of x.0, rows x.1.now)) result (finished the_option level (node_at 65 left (level + 1)) (map decl_of declarations.items) line (option_head_of head) (rows lines.now)) }
 {
-    let (one, rest) = process(alloc, last, left, level + 1, lines)?;
     match head {
-        OptionHead::Values(values) => Ok((
-            Selection::Values(declarations, line, values, one),
-            rest,
-        )),
-        OptionHead::Else => Ok((Selection::Else(declarations, line, one), rest)),
+        OptionHead::Values(values) => {
+            let (one, rest) = process(alloc, last, left, level + 1, lines)?;
+            Ok((Selection::Values(declarations, line, values, one), rest))
+        }
+        OptionHead::Else => {
+            let (otherwise, rest) = process(alloc, last, left, level + 1, lines)?;
+            Ok((Selection::Else(declarations, line, otherwise), rest))
+        }
     }
 }
 

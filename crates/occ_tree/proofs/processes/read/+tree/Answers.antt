@@ -328,13 +328,23 @@ pub armed-returns-in_ok-guard-in-Some-2 : goal.armed-returns-in_ok-guard-in-Some
 armed-returns-in_ok-guard-in-Some-2 t c =
     subst (λ (h : ArmHead). finished the_arm c.args.level (node_at 65 c.args.left (c.args.level + 1)) (map decl_of c.args.declarations.items) c.args.line h (rows c.args.lines.now) ≡ Some (arm_of (arms.InnerAltFor c.args.declarations c.args.line c.in-Alt.pri c.in-Some.index c.in_ok-guard-in-Some-2.guard), rows c.in_ok-guard-in-Some.rest.now)) (sym (ap arm_head_of (c.in-Alt.is ∙ ap (λ (r : Option Replicator). armHeads.Alt c.in-Alt.pri r) c.in-Some.is))) (rw c.in_ok-guard-in-Some.ensures (ap (λ (n : Node the_arm). Some (n, rows c.in_ok-guard-in-Some.rest.now)) (ap (λ (p : Rattle.occ_tree.specs.declared.tree.process.Arm.Arm). node {k = the_arm} (declared c.args.declarations) c.args.line (nested_alternation c.in-Alt.pri (Some (replicator_of c.in-Some.index))) (single_body (arm_of p))) (sym c.in_ok-guard-in-Some-2.ensures.ok) ∙ sym (arm_alt_for c.args.declarations c.args.line c.in-Alt.pri c.in-Some.index c.in_ok-guard-in-Some-2.guard))))
 
-pub selected-returns-in-Values : goal.selected-returns-in-Values
-selected-returns-in-Values t c =
-    subst (λ (h : OptionHead). finished the_option c.args.level (node_at 65 c.args.left (c.args.level + 1)) (map decl_of c.args.declarations.items) c.args.line h (rows c.args.lines.now) ≡ Some (selection_of (selections.Values c.args.declarations c.args.line c.in-Values.values c.in_ok-one.one), rows c.in_ok-one.rest.now)) (sym (ap option_head_of c.in-Values.is)) (rw c.in_ok-one.ensures (ap (λ (n : Node the_option). Some (n, rows c.in_ok-one.rest.now)) (sym (selection_values c.args.declarations c.args.line c.in-Values.values c.in_ok-one.one))))
+pub selected-returns-in_err-one-in-Values : goal.selected-returns-in_err-one-in-Values
+selected-returns-in_err-one-in-Values t c =
+    let p = err_from_is_err_and c.from_residual.result c.from_residual.ensures.1 in
+    rw (p.1, p.2) (subst (λ (h : OptionHead). Fails c.in_err-one-in-Values.field-0.0 (finished the_option c.args.level (node_at 65 c.args.left (c.args.level + 1)) (map decl_of c.args.declarations.items) c.args.line h (rows c.args.lines.now))) (sym (ap option_head_of (c.in-Values.is))) (fails_below c.in_err-one-in-Values.field-0.0 _ _ _ c.in_err-one-in-Values.ensures))
 
-pub selected-returns-in-Else : goal.selected-returns-in-Else
-selected-returns-in-Else t c =
-    subst (λ (h : OptionHead). finished the_option c.args.level (node_at 65 c.args.left (c.args.level + 1)) (map decl_of c.args.declarations.items) c.args.line h (rows c.args.lines.now) ≡ Some (selection_of (selections.Else c.args.declarations c.args.line c.in_ok-one.one), rows c.in_ok-one.rest.now)) (sym (ap option_head_of c.in-Else.is)) (rw c.in_ok-one.ensures (ap (λ (n : Node the_option). Some (n, rows c.in_ok-one.rest.now)) (sym (selection_else c.args.declarations c.args.line c.in_ok-one.one))))
+pub selected-returns-in_ok-one-in-Values : goal.selected-returns-in_ok-one-in-Values
+selected-returns-in_ok-one-in-Values t c =
+    subst (λ (h : OptionHead). finished the_option c.args.level (node_at 65 c.args.left (c.args.level + 1)) (map decl_of c.args.declarations.items) c.args.line h (rows c.args.lines.now) ≡ Some (selection_of (selections.Values c.args.declarations c.args.line c.in-Values.values c.in_ok-one-in-Values.one), rows c.in_ok-one-in-Values.rest.now)) (sym (ap option_head_of (c.in-Values.is))) (rw c.in_ok-one-in-Values.ensures (ap (λ (n : Node the_option). Some (n, rows c.in_ok-one-in-Values.rest.now)) (sym (selection_values c.args.declarations c.args.line c.in-Values.values c.in_ok-one-in-Values.one))))
+
+pub selected-returns-in_err-otherwise-in-Else : goal.selected-returns-in_err-otherwise-in-Else
+selected-returns-in_err-otherwise-in-Else t c =
+    let p = err_from_is_err_and c.from_residual-in_err-otherwise-in-Else.result c.from_residual-in_err-otherwise-in-Else.ensures.1 in
+    rw (p.1, p.2) (subst (λ (h : OptionHead). Fails c.in_err-otherwise-in-Else.field-0.0 (finished the_option c.args.level (node_at 65 c.args.left (c.args.level + 1)) (map decl_of c.args.declarations.items) c.args.line h (rows c.args.lines.now))) (sym (ap option_head_of (c.in-Else.is))) (fails_below c.in_err-otherwise-in-Else.field-0.0 _ _ _ c.in_err-otherwise-in-Else.ensures))
+
+pub selected-returns-in_ok-otherwise-in-Else : goal.selected-returns-in_ok-otherwise-in-Else
+selected-returns-in_ok-otherwise-in-Else t c =
+    subst (λ (h : OptionHead). finished the_option c.args.level (node_at 65 c.args.left (c.args.level + 1)) (map decl_of c.args.declarations.items) c.args.line h (rows c.args.lines.now) ≡ Some (selection_of (selections.Else c.args.declarations c.args.line c.in_ok-otherwise-in-Else.otherwise), rows c.in_ok-otherwise-in-Else.rest.now)) (sym (ap option_head_of (c.in-Else.is))) (rw c.in_ok-otherwise-in-Else.ensures (ap (λ (n : Node the_option). Some (n, rows c.in_ok-otherwise-in-Else.rest.now)) (sym (selection_else c.args.declarations c.args.line c.in_ok-otherwise-in-Else.otherwise))))
 
 pub declared-returns-in-Names : goal.declared-returns-in-Names
 declared-returns-in-Names t c =
