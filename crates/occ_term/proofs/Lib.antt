@@ -2,8 +2,6 @@ pub mod Programs
 pub mod Going
 pub mod Priority
 pub mod TurnSteps
-pub mod TermRows
-pub mod Outputs
 pub mod FirstRuns
 pub mod OneResult
 pub mod LawfulTerms

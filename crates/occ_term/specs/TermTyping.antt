@@ -7,9 +7,9 @@ use Rattle.occ_term.specs.Values.{span}
 use Rattle.occ_term.specs.Uses.{Uses, numbers_in, uses_of, uses_of_arms, uses_of_choices}
 use Rattle.occ_term.specs.Typing.{is_number, CellsHave, HasType, SubscriptsLeave, ItemHas, TargetHas}
 
--- what is declared: the type of each cell, and the protocol of each channel that there is
+-- what is declared: the type of each cell, and the protocol of each channel, that there is
 pub record Declared : Type 0 where
-  pub types : ℕ → Primitive
+  pub types : ℕ → Option Primitive
   pub protocols : ℕ → Option Protocol
 
 -- one channel of a declared row, each of which has this protocol
@@ -48,7 +48,7 @@ DeclarationsHave d [] = ⊤
 DeclarationsHave d (x ∷ xs) = DeclarationHas d x × DeclarationsHave d xs
 
 abbrev pub ReplicatorHas : Declared → Replicator → Type 0
-ReplicatorHas d (replicator line index base count) = (d.types index ≡ Int) × HasType d.types base Int × HasType d.types count Int
+ReplicatorHas d (replicator line index base count) = (d.types index ≡ Some Int) × HasType d.types base Int × HasType d.types count Int
 
 -- an index is no target within what it replicates
 abbrev pub IsKept : Replicator → Uses → Type 0

@@ -4,34 +4,10 @@
 -- by now (manual: scope, procedures); that all variables are cells in one row is (own).
 use Rattle.std.specs.Prelude.{Bool, List, Option, ℕ, ℤ}
 use Rattle.occ_term.specs.Messages.{Primitive}
-
--- checked, modulo, bit by bit, shifts, comparisons
-pub data Operator : Type 0 where
-  Plus : Operator
-  Minus : Operator
-  Times : Operator
-  Divide : Operator
-  Remainder : Operator
-  PlusModulo : Operator
-  MinusModulo : Operator
-  TimesModulo : Operator
-  BitAnd : Operator
-  BitOr : Operator
-  BitXor : Operator
-  ShiftLeft : Operator
-  ShiftRight : Operator
-  After : Operator
-  Equal : Operator
-  Unequal : Operator
-  Less : Operator
-  Greater : Operator
-  AtMost : Operator
-  AtLeast : Operator
-
-pub data Monadic : Type 0 where
-  Negate : Monadic
-  BitNot : Monadic
-  Not : Monadic
+pub use Rattle.occ_term.specs.declared.expression.Operator.{Operator}
+pub use Rattle.occ_term.specs.declared.expression.Operator.TheVariants.{Plus, Minus, Times, Divide, Remainder, PlusModulo, MinusModulo, TimesModulo, BitAnd, BitOr, BitXor, ShiftLeft, ShiftRight, After, Equal, Unequal, Less, Greater, AtMost, AtLeast}
+pub use Rattle.occ_term.specs.declared.expression.Monadic.{Monadic}
+pub use Rattle.occ_term.specs.declared.expression.Monadic.TheVariants.{Negate, BitNot, Not}
 
 -- Each operator has the type of its left operand and its line. SIZE is a constant by now.
 mutual

@@ -1,6 +1,6 @@
--- The types of expressions, items and targets, over the types of the cells.
+-- The types of expressions, items and targets, over the types of the cells that are declared.
 -- Manual: data types; expressions; variables and values. BYTE as an operand of arithmetic, bit operators and shifts: (own).
-use Rattle.std.specs.Prelude.{Bool, IsTrue, List, [], false, length, true, ℕ, ◌∷◌, ◌≡◌}
+use Rattle.std.specs.Prelude.{Bool, IsTrue, List, Option, Some, [], false, length, true, ℕ, ◌∷◌, ◌≡◌}
 use Rattle.occ_term.specs.Messages.{Primitive, Boolean, Byte, Int, is_of, PartType, OneOf, ManyOf, CountedOf, product, AllOf}
 use Rattle.occ_term.specs.Terms.{Operator, Plus, Minus, Times, Divide, Remainder, PlusModulo, MinusModulo, TimesModulo, BitAnd, BitOr, BitXor, ShiftLeft, ShiftRight, After, Equal, Unequal, Less, Greater, AtMost, AtLeast, Negate, BitNot, Not, Expression, Constant, Cell, Component, Letter, Binary, Unary, And, Or, Conversion, Place, place, Subscripts, no_subscripts, then_subscript, Array, Cells, Text, Item, OfOne, OfMany, OfCounted, Target, Into, IntoCounted}
 use Rattle.occ_term.specs.Values.{Span, span}
@@ -108,13 +108,14 @@ pub data Takes : Operator → Primitive → Primitive → Primitive → Type 0 w
   takes_equality : {op : Operator} {t : Primitive} → IsTrue (is_equality op) → Takes op t t Boolean
   takes_order : {op : Operator} {t : Primitive} → IsTrue (is_order op) → IsTrue (is_number t) → Takes op t t Boolean
 
-abbrev pub CellsHave : (ℕ → Primitive) → Span → Primitive → Type 0
-CellsHave types at t = (c : ℕ) → IsTrue (numbers_in at c) → types c ≡ t
+-- each of these cells is declared, with this type
+abbrev pub CellsHave : (ℕ → Option Primitive) → Span → Primitive → Type 0
+CellsHave types at t = (c : ℕ) → IsTrue (numbers_in at c) → types c ≡ Some t
 
 abbrev mutual
-  pub HasType : (ℕ → Primitive) → Expression → Primitive → Type 0
+  pub HasType : (ℕ → Option Primitive) → Expression → Primitive → Type 0
   HasType types (Constant v) t = IsTrue (is_of t v)
-  HasType types (Cell c) t = types c ≡ t
+  HasType types (Cell c) t = types c ≡ Some t
   HasType types (Component p) t = PlaceHas types p t []
   HasType types (Letter line text e) t = (t ≡ Byte) × AllOf Byte text × HasType types e Int
   HasType types (Binary op type line a b) t = (right : Primitive) × Takes op type right t × HasType types a type × HasType types b right
@@ -126,20 +127,20 @@ abbrev mutual
   HasType types (Conversion to line a) t = (t ≡ to) × (from : Primitive) × HasType types a from
 
   -- a place of that component type whose sizes, after its subscripts, are these
-  pub PlaceHas : (ℕ → Primitive) → Place → Primitive → List ℕ → Type 0
+  pub PlaceHas : (ℕ → Option Primitive) → Place → Primitive → List ℕ → Type 0
   PlaceHas types (place line first sizes subs) t rest = CellsHave types (span first (product sizes)) t × SubscriptsLeave types subs sizes rest
 
-  pub SubscriptsLeave : (ℕ → Primitive) → Subscripts → List ℕ → List ℕ → Type 0
+  pub SubscriptsLeave : (ℕ → Option Primitive) → Subscripts → List ℕ → List ℕ → Type 0
   SubscriptsLeave types no_subscripts sizes rest = sizes ≡ rest
   SubscriptsLeave types (then_subscript e es) [] rest = ⊥
   SubscriptsLeave types (then_subscript e es) (n ∷ ns) rest = HasType types e Int × SubscriptsLeave types es ns rest
 
-abbrev pub ArrayHas : (ℕ → Primitive) → Array → Primitive → List ℕ → Type 0
+abbrev pub ArrayHas : (ℕ → Option Primitive) → Array → Primitive → List ℕ → Type 0
 ArrayHas types (Cells p) t sizes = PlaceHas types p t sizes
 ArrayHas types (Text bytes) t sizes = (t ≡ Byte) × (sizes ≡ length bytes ∷ []) × AllOf Byte bytes
 
 -- an item of a part's type
-abbrev pub ItemHas : (ℕ → Primitive) → Item → PartType → Type 0
+abbrev pub ItemHas : (ℕ → Option Primitive) → Item → PartType → Type 0
 ItemHas types (OfOne t e) (OneOf type) = (t ≡ type) × HasType types e type
 ItemHas types (OfOne t e) (ManyOf sizes type) = ⊥
 ItemHas types (OfOne t e) (CountedOf count type) = ⊥
@@ -150,7 +151,7 @@ ItemHas types (OfCounted t line n a) (OneOf type) = ⊥
 ItemHas types (OfCounted t line n a) (ManyOf sizes type) = ⊥
 ItemHas types (OfCounted t line n a) (CountedOf count type) = (t ≡ type) × HasType types n count × ((size : ℕ) × ArrayHas types a type (size ∷ []))
 
-abbrev pub TargetHas : (ℕ → Primitive) → Target → PartType → Type 0
+abbrev pub TargetHas : (ℕ → Option Primitive) → Target → PartType → Type 0
 TargetHas types (Into p) (OneOf type) = PlaceHas types p type []
 TargetHas types (Into p) (ManyOf sizes type) = PlaceHas types p type sizes
 TargetHas types (Into p) (CountedOf count type) = ⊥

@@ -1,7 +1,7 @@
 -- An unfolded program: its term, its cells and its channels, each with its declared name.
 -- Manual: scope, procedures. The numbers of cells, channels and processes: (own).
-use Rattle.std.specs.Prelude.{List, [], codes, get_or, map, slice_get, ℕ, ◌++◌, ◌+◌, ◌∷◌, ◌≡◌, ⊤}
-use Rattle.occ_term.specs.Messages.{Byte, Int, Simple}
+use Rattle.std.specs.Prelude.{List, [], codes, length, map, slice_get, ℕ, ◌++◌, ◌+◌, ◌∷◌, ◌≡◌, ◌≤◌, ⊤}
+use Rattle.occ_term.specs.Messages.{Byte, Simple}
 use Rattle.occ_term.specs.Terms as T
 use Rattle.occ_term.specs.Uses as Uses
 use Rattle.occ_term.specs.TermTyping.{Declared, TermHas}
@@ -21,7 +21,7 @@ abbrev pub meaning : Unfolding → T.Term
 meaning u = term_of u.term
 
 abbrev pub declared : Unfolding → Declared
-declared u = record { types = λ c. get_or (map (λ x. x.primitive) u.cells) c Int; protocols = λ c. slice_get (map (λ x. x.protocol) u.channels) c }
+declared u = record { types = λ c. slice_get (map (λ x. x.primitive) u.cells) c; protocols = λ c. slice_get (map (λ x. x.protocol) u.channels) c }
 
 -- a channel of bytes
 abbrev pub byte_channel : List ℕ → Channel
@@ -36,11 +36,20 @@ abbrev pub NumberedFrom : ℕ → List Numbered → Type 0
 NumberedFrom n [] = ⊤
 NumberedFrom n (p ∷ ps) = (p.number ≡ n) × NumberedFrom (n + 1) ps
 
--- Every expression, target and item has the type of its place; the first three channels are there;
--- processes have their numbers in the order in which they begin in the term.
+-- how many cells and channels there may be (own)
+abbrev pub most_cells : ℕ
+most_cells = 65536
+
+abbrev pub most_channels : ℕ
+most_channels = 4096
+
+-- Every expression, target and item has the type of its place; the first three channels are there, and no more cells and
+-- channels than there may be; processes have their numbers in the order in which they begin in the term.
 pub record IsWellFormed (u : Unfolding) : Type 0 where
   pub others : List Channel
   pub begins : u.channels ≡ first_channels ++ others
+  pub few_cells : length u.cells ≤ most_cells
+  pub few_channels : length u.channels ≤ most_channels
   pub typed : TermHas (declared u) (meaning u)
   pub numbers : NumberedFrom 0 (processes_of (meaning u))
 

@@ -1,7 +1,7 @@
 -- What an expression is worth in a store: a whole number, or the first fault from the left.
 -- Manual: expressions; data types. Evaluation from the left with the first fault named, arithmetic on BYTE, the counts that a
 -- shift takes, and MOSTNEG \ -1 as 0: (own).
-use Rattle.std.specs.Prelude.{Bool, IsTrue, List, [], bit_and, bit_or, bit_xor, false, get_or, if◌then◌else◌, int_div, int_le, int_lt, int_rem, length, nat_abs, nat_eq, nat_lt, neg_ℤ, negsuc, not, pos, suc, take, true, zero, ℕ, ℤ, ◌%◌, ◌&&◌, ◌*ℤ◌, ◌*◌, ◌+ℤ◌, ◌+◌, ◌-ℤ◌, ◌-◌, ◌/◌, ◌^◌, ◌∷◌, ◌≡◌}
+use Rattle.std.specs.Prelude.{Bool, IsTrue, List, None, Option, Some, [], bit_and, bit_or, bit_xor, false, get_or, if◌then◌else◌, int_div, int_le, int_lt, int_rem, length, nat_abs, nat_eq, nat_lt, neg_ℤ, negsuc, not, pos, suc, take, true, zero, ℕ, ℤ, ◌%◌, ◌&&◌, ◌*ℤ◌, ◌*◌, ◌+ℤ◌, ◌+◌, ◌-ℤ◌, ◌-◌, ◌/◌, ◌^◌, ◌∷◌, ◌≡◌}
 use Rattle.occ_term.specs.Messages.{Primitive, Boolean, Byte, Int, is_of, FaultKind, Arith, Range, Convert, Shift, Fault, fault, Part, One, Many, Counted, product}
 use Rattle.occ_term.specs.Terms.{Operator, Plus, Minus, Times, Divide, Remainder, PlusModulo, MinusModulo, TimesModulo, BitAnd, BitOr, BitXor, ShiftLeft, ShiftRight, After, Equal, Unequal, Less, Greater, AtMost, AtLeast, Monadic, Negate, BitNot, Not, Expression, Constant, Cell, Component, Letter, Binary, Unary, And, Or, Conversion, Place, place, Subscripts, no_subscripts, then_subscript, Array, Cells, Text, Item, OfOne, OfMany, OfCounted}
 
@@ -157,9 +157,14 @@ abbrev pub parts_of : List Item → Store → Evaluated (List Part)
 parts_of [] s = Value []
 parts_of (i ∷ is) s = after (part_of i s) (λ p. after (parts_of is s) (λ ps. Value (p ∷ ps)))
 
--- a typed store: the cells of the set have values of their types
-abbrev pub TypedOn : (ℕ → Bool) → (ℕ → Primitive) → Store → Type 0
-TypedOn cells types s = (c : ℕ) → IsTrue (cells c) → IsTrue (is_of (types c) (s c))
+-- a cell that isn't declared may have any value
+abbrev pub is_of_declared : Option Primitive → ℤ → Bool
+is_of_declared None v = true
+is_of_declared (Some type) v = is_of type v
+
+-- a typed store: the cells of the set that are declared have values of their types
+abbrev pub TypedOn : (ℕ → Bool) → (ℕ → Option Primitive) → Store → Type 0
+TypedOn cells types s = (c : ℕ) → IsTrue (cells c) → IsTrue (is_of_declared (types c) (s c))
 
 -- two stores give the cells of the set the same values
 abbrev pub AgreeOn : (ℕ → Bool) → Store → Store → Type 0

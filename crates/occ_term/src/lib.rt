@@ -3,6 +3,7 @@
 //! The definitions stand in `specs/`, over pure data. This crate's types are seen through them.
 #![tactic(auto)]
 
+pub mod expression;
 pub mod fault;
 pub mod first_rows;
 pub mod frame;
@@ -15,14 +16,17 @@ pub mod primitive;
 pub mod protocol;
 pub mod term;
 pub mod unfolded;
-pub mod usage;
+//pub mod usage;
 
+pub use expression::{
+    Array, Declaration, Item, Monadic, Operator, Place, Replicator, Target, TermExpr,
+};
 pub use fault::{Fault, FaultKind};
 pub use frame::Frame;
 pub use message::{Message, Part};
 pub use names::{Cell, Channel};
 pub use primitive::{Prim, Primitive};
 pub use protocol::{PartType, Protocol, Tag};
-pub use term::{ByteOutput, Term};
+pub use term::{Arm, Branch, Choice, Reception, Selection, Term, Variant};
 pub use unfolded::Unfolded;
-pub use usage::{Checked, Refused, UsageFault, check_usage};
+//pub use usage::{Checked, Refused, UsageFault, check_usage};
