@@ -14,6 +14,7 @@ pub mod TermTyping
 pub mod Frames
 pub mod View
 pub mod Unfolding
+pub mod Refusals
 pub mod Sizes
 pub mod Processes
 pub mod Examples

@@ -16,7 +16,7 @@ pub mod primitive;
 pub mod protocol;
 pub mod term;
 pub mod unfolded;
-//pub mod usage;
+pub mod usage;
 
 pub use expression::{
     Array, Declaration, Item, Monadic, Operator, Place, Replicator, Target, TermExpr,
@@ -29,4 +29,4 @@ pub use primitive::{Prim, Primitive};
 pub use protocol::{PartType, Protocol, Tag};
 pub use term::{Arm, Branch, Choice, Reception, Selection, Term, Variant};
 pub use unfolded::Unfolded;
-//pub use usage::{Checked, Refused, UsageFault, check_usage};
+pub use usage::{Checked, Refused, UsageFault, check_usage};
