@@ -4,7 +4,7 @@ use Rattle.occ_term.specs.Terms.{Term, Terms}
 use Rattle.occ_term.specs.Sizes.{size_of, size_of_terms}
 use Rattle.occ_code.specs.Emitted.{term_code, terms_code, body_code}
 use Rattle.occ_code.specs.declared.body.Instr.TheVariants.{End}
-use Rattle.occ_code.proofs.Early.{EarlyTerm, early_skip, early_stop, early_output, early_seq, EarlyTerms, early_none, early_then}
+use Rattle.occ_code.proofs.EarlyRuns.{EarlyTerm, early_skip, early_stop, early_output, early_seq, EarlyTerms, early_none, early_then}
 
 mutual
   term_length : {t : Term} → EarlyTerm t → length (term_code t) + 1 ≤ 3 * (size_of t).nodes

@@ -1,5 +1,5 @@
 mod Places
-mod Early
+mod EarlyRuns
 mod Turns
 mod Lengths
 mod Rows

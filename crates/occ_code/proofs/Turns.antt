@@ -18,7 +18,7 @@ use Rattle.occ_code.specs.declared.task.Task.{Task}
 use Rattle.occ_code.specs.declared.task.Wait.{Wait}
 use Rattle.occ_code.specs.declared.task.Wait.TheVariants.{Ready, Offers, Halted, Done}
 use Rattle.occ_code.proofs.Places.{HasAt, has_front, has_back, has_all, walks_on}
-use Rattle.occ_code.proofs.Early.{EarlyTerm, early_skip, CodesOn, codes_join, Pause, at_offer, at_halt, Result, finishes, pauses, after_steps, term_runs, terms_run}
+use Rattle.occ_code.proofs.EarlyRuns.{EarlyTerm, early_skip, CodesOn, codes_join, Pause, at_offer, at_halt, Result, finishes, pauses, after_steps, term_runs, terms_run}
 
 -- from a place the code does the contexts, and then the process ends
 pub record ToEnd (code : List Instr) (pc : ℕ) (k : List Context) : Type 0 where

@@ -1,6 +1,6 @@
 -- Compiled programs: a body for each process, which does what the process's term does.
 -- Manual: nothing; this is (own).
-use Rattle.std.specs.Prelude.{List, [], length, ℕ, ◌*◌, ◌+◌, ◌<◌, ◌≤◌, ⊤, ◌∷◌, ◌≡◌}
+use Rattle.std.specs.Prelude.{List, [], false, length, ℕ, ◌*◌, ◌+◌, ◌<◌, ◌≤◌, ⊤, ◌∷◌, ◌≡◌}
 use Rattle.occ_term.specs.Unfolding.{Unfolding, IsWellFormed, Lawful, declared, meaning}
 use Rattle.occ_term.specs.Processes.{Numbered, processes_of}
 use Rattle.occ_term.specs.TermTyping.{Declared}
@@ -8,9 +8,9 @@ use Rattle.occ_term.specs.Sizes.{size_of}
 use Rattle.occ_term.specs.declared.names.Channel.{Channel}
 use Rattle.occ_code.specs.Machine.{FlatCode}
 use Rattle.occ_code.specs.Alike.{DoesAs}
-use Rattle.occ_code.specs.Emitted.{most_instructions}
+use Rattle.occ_code.specs.Emitted.{most_instructions, is_early}
 use Rattle.occ_code.specs.declared.code.CodeFault.{CodeFault}
-use Rattle.occ_code.specs.declared.code.CodeFault.TheVariants.{TooLarge, Memory}
+use Rattle.occ_code.specs.declared.code.CodeFault.TheVariants.{TooLarge, Early, Memory}
 
 -- the code of a program: a body for each process number, and the channels
 pub record Program : Type 0 where
@@ -42,7 +42,9 @@ pub record IsCompiled (p : Program) : Type 0 where
   pub lawful : Lawful source
   pub compiled : IsCompiledFrom source p
 
--- want of memory says nothing; the other refusal, that 32 instructions for each node are more than a program may have
+-- Want of memory says nothing. The others say that 32 instructions for each node are more than a program may have, and that
+-- there is a term that is not compiled yet.
 abbrev pub CodeRefuses : CodeFault → Unfolding → Type 0
 CodeRefuses TooLarge u = most_instructions < 32 * (size_of (meaning u)).nodes
+CodeRefuses (Early line) u = is_early (meaning u) ≡ false
 CodeRefuses Memory u = ⊤

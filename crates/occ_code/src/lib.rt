@@ -3,6 +3,7 @@
 
 pub mod body;
 pub mod code;
+mod early;
 pub mod task;
 
 pub use body::{Body, Instr};

@@ -1,19 +1,17 @@
 -- The terms that are compiled so far, and what their code does within one turn.
-use Rattle.std.proofs.Common.{◌≡◌, ℕ, ℤ, ◌+◌, List, [], ◌∷◌, ◌++◌, length, None, refl, sym, ap, subst, arith, append_assoc, length-append}
+use Rattle.std.specs.Prelude.{◌&&◌, is_some}
+use Rattle.std.proofs.Common.{◌≡◌, ℕ, ℤ, ◌+◌, Bool, true, false, IsTrue, Option, Some, None, List, [], ◌∷◌, ◌++◌, length, None, refl, sym, ap, subst, arith, append_assoc, length-append}
 use Rattle.occ_term.specs.Messages.{message}
 use Rattle.occ_term.specs.declared.primitive.Primitive.{Primitive}
 use Rattle.occ_term.specs.declared.message.Part.TheVariants.{One}
-use Rattle.occ_term.specs.Terms.{Term, Skip, Stop, Output, Seq, Terms, no_terms, then_term, Constant, place, no_subscripts, OfOne}
+use Rattle.occ_term.specs.Terms.{Term, Skip, Stop, Output, Seq, Terms, no_terms, then_term, Constant, Place, place, no_subscripts, then_subscript, Item, OfOne}
 use Rattle.occ_term.specs.Values.{Store}
 use Rattle.occ_term.specs.Steps.{Doing, Do, Offering, Context, Then, Within, Left, left, Step, stop, output, seq, seq_empty, drops, ends}
 use Rattle.occ_term.specs.Steps as S
 use Rattle.occ_term.specs.Turns.{Steps, none, more, SingleTurn, single_turn}
 use Rattle.occ_term.specs.Frames.{Variables}
-use Rattle.occ_term.specs.View.{term_of, terms_in}
-use Rattle.occ_term.specs.declared.term.Term.{Row_of-Term, end_of-Term, more_of-Term}
-use Rattle.occ_term.specs.declared.term.Term as code_terms
 use Rattle.occ_code.specs.Machine.{Point, point, Stops, act, effect, Walks, here}
-use Rattle.occ_code.specs.Emitted.{term_code, terms_code}
+use Rattle.occ_code.specs.Emitted.{term_code, terms_code, single, only_value, constant_value, output_by, simple_output, is_early, are_early}
 use Rattle.occ_code.specs.declared.body.Instr.{Instr}
 use Rattle.occ_code.specs.declared.body.Instr.TheVariants.{Push}
 use Rattle.occ_code.specs.declared.task.Wait.{Wait}
@@ -31,16 +29,33 @@ mutual
     early_none : EarlyTerms no_terms
     early_then : {t : Term} {ts : Terms} → EarlyTerm t → EarlyTerms ts → EarlyTerms (then_term t ts)
 
-mutual
-  pub early_of : (t : code_terms.Term) → EarlyTerm (term_of t)
-  early_of code_terms.Skip = early_skip
-  early_of code_terms.Stop = early_stop
-  early_of (code_terms.Seq' shape row) = early_seq (early_row row)
-  early_of (code_terms.Output o) = early_output _ _ _ _
+both_true : (a b : Bool) → IsTrue (a && b) → IsTrue a × IsTrue b
+both_true true b h = (refl, h)
+both_true false b h = absurd cc
 
-  early_row : {m : _} (row : Row_of-Term m) → EarlyTerms (terms_in row)
-  early_row end_of-Term = early_none
-  early_row (more_of-Term t row) = early_then (early_of t) (early_row row)
+early_item : (l c : ℕ) (i : Item) → IsTrue (is_some (output_by (Some c) (constant_value i))) → EarlyTerm (Output (place l c [] no_subscripts) None (i ∷ []))
+early_item l c (OfOne type (Constant v)) h = early_output l c type v
+early_item l c _ h = absurd cc
+
+early_sent : (p : Place) (tag : Option ℕ) (is : List Item) → IsTrue (is_some (simple_output p tag is)) → EarlyTerm (Output p tag is)
+early_sent p (Some tag) is h = absurd cc
+early_sent (place l c [] no_subscripts) None [] h = absurd cc
+early_sent (place l c [] no_subscripts) None (i ∷ []) h = early_item l c i h
+early_sent (place l c [] no_subscripts) None (i ∷ j ∷ is) h = absurd cc
+early_sent (place l c [] (then_subscript e es)) None is h = absurd cc
+early_sent (place l c (n ∷ ns) subs) None is h = absurd cc
+
+mutual
+  pub early_of : (t : Term) → IsTrue (is_early t) → EarlyTerm t
+  early_of Skip h = early_skip
+  early_of Stop h = early_stop
+  early_of (Output c tag is) h = early_sent c tag is h
+  early_of (Seq ts) h = early_seq (early_all ts h)
+  early_of _ h = absurd cc
+
+  early_all : (ts : Terms) → IsTrue (are_early ts) → EarlyTerms ts
+  early_all no_terms h = early_none
+  early_all (then_term t ts) h = let e = both_true (is_early t) (are_early ts) h in early_then (early_of t e.0) (early_all ts e.1)
 
 -- from one place to another the code does the contexts: parts of sequences
 abbrev pub CodesOn : List Instr → ℕ → List Context → ℕ → Type 0
