@@ -7,7 +7,7 @@ ghost use Rattle.occ_code.specs.Emitted.{term_code, terms_code, send_code, body_
 ghost use Rattle.occ_code.specs.Compiled.{IsCompiled, IsCompiledFrom, CodeRefuses};
 
 use crate::body::{Body, Instr};
-use crate::early::first_line;
+use crate::early::early_line;
 use occ_term::{Channel, Checked, Item, Place, Primitive, Term, TermExpr};
 use std::alloc::{AllocError, AllocFailed, Global};
 use std::marker::Model;
@@ -23,8 +23,7 @@ pub enum CodeFault {
     /// It has too many nodes: 32 instructions for each would be more than a program may have.
     #[error("refused 60 TooLarge")]
     TooLarge,
-    /// There is a term that isn't compiled yet; the line is that of its first use of a variable or a channel,
-    /// else 0.
+    /// There is a term that isn't compiled yet; the line is that of its first use of a variable or a channel, else 1.
     #[error("refused 61 Early line {line}")]
     Early { line: u32 },
     /// A growth was refused.
@@ -176,7 +175,7 @@ fn emit_term(code: &mut Vec<Instr>, term: &Term) -> Result<(), CodeFault>
         Term::Seq(parts) => emit_terms(code, parts.as_slice()),
         Term::Output(channel, tag, items) => emit_output(code, channel, *tag, items.as_slice()),
         _ => Err(CodeFault::Early {
-            line: first_line(term),
+            line: early_line(term),
         }),
     }
 }

@@ -2,9 +2,14 @@
 
 use occ_term::{Arm, Choice, Declaration, Target, Term, TermExpr};
 
-/// The line of the first use of a variable or a channel in it that carries one, else 0.
+/// The line of the first use of a variable or a channel in it that carries one, else 1.
+pub(crate) fn early_line(term: &Term) -> u32 {
+    later(first_line(term), 1)
+}
+
+/// The same, and 0 where none carries one.
 #[cycle(lines)]
-pub(crate) fn first_line(term: &Term) -> u32 {
+fn first_line(term: &Term) -> u32 {
     match term {
         Term::Skip => 0,
         Term::Stop => 0,

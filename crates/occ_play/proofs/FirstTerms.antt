@@ -3,18 +3,17 @@ use Rattle.std.proofs.Common.{◌≡◌, ℕ, pos, List, [], ◌∷◌, map, Vec
 use Rattle.occ_text.specs.Words.{Row}
 use Rattle.occ_term.specs.declared.term.Term as code
 use Rattle.occ_term.specs.Terms.{Term, Seq, Terms, then_term}
-use Rattle.occ_term.specs.View.{term_of, terms_of}
-use Rattle.occ_term.proofs.TermRows.{seq_terms}
+use Rattle.occ_term.specs.View.{term_of, terms as seen}
 use Rattle.occ_play.specs.FirstForm.{Written, skip_line, stop_line, output_line, sequence, WrittenAll, no_line, and_then, FirstForm}
 use Rattle.occ_play.specs.FirstReading.{terms}
 use Rattle.occ_play.specs.ScreenTerms.{ScreenTerm, screen_skip, screen_stop, screen_output, screen_seq, ScreenTerms, screen_none, screen_then}
 
-terms_map : (ts : List code.Term) → terms_of ts ≡ terms (map term_of ts)
-terms_map [] = refl
-terms_map (t ∷ ts) = ap (then_term (term_of t)) (terms_map ts)
-
-pub sequence_terms : (parts : Vec code.Term Global) → term_of (code.Seq parts) ≡ Seq (terms (map term_of parts.items))
-sequence_terms parts = seq_terms parts ∙ ap Seq (terms_map parts.items)
+pub sequence_terms : (parts : List code.Term) → term_of (code.Seq parts) ≡ Seq (terms (map term_of parts))
+sequence_terms parts = ap Seq (same (map term_of parts))
+  where
+    same : (ts : List Term) → seen ts ≡ terms ts
+    same [] = refl
+    same (t ∷ ts) = ap (then_term t) (same ts)
 
 mutual
   written_to_screen : {l : ℕ} {lines : List Row} {t : Term} → Written l lines t → ScreenTerm t

@@ -149,4 +149,5 @@ usage_refuses u usage.Memory x h = tt
 
 pub code_refuses : {source : List ℕ} (u : Unfolding) (fault : CodeFault) → Unfolds source u → CodeRefuses fault u → CodeRefusesText fault source
 code_refuses u code.TooLarge x h = (u, x, h)
+code_refuses u (code.Early line) x h = (u, x, h)
 code_refuses u code.Memory x h = tt

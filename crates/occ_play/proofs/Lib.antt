@@ -9,6 +9,7 @@ mod Rerun
 mod Texts
 mod Traces
 mod Headline
+mod Statuses
 mod FirstLoop
 mod FirstHeader
 pub mod FirstTerms

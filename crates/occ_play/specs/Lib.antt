@@ -12,3 +12,4 @@ pub mod FirstReading
 pub mod Status
 pub mod Playing
 pub mod Failures
+pub mod Coming

@@ -20,7 +20,7 @@ use Rattle.occ_term.specs.Unfolding.{Unfolding, declared, meaning, IsWellFormed,
 use Rattle.occ_term.specs.System.{System, start, HaltMode}
 use Rattle.occ_term.specs.Runs.{Event, Run, communications, messages_on, shown, EndsBy}
 use Rattle.occ_code.specs.Alike.{FitsProtocol}
-use Rattle.occ_code.specs.Emitted.{most_instructions}
+use Rattle.occ_code.specs.Emitted.{most_instructions, is_early}
 use Rattle.occ_code.specs.Compiled.{Program, IsCompiledFrom}
 use Rattle.occ_code.specs.declared.code.CodeFault.{CodeFault}
 use Rattle.occ_code.specs.declared.code.CodeFault.TheVariants as code
@@ -103,6 +103,7 @@ UsageRefusesText fault source = (u : Unfolding) × Unfolds source u × (Lawful u
 
 abbrev pub CodeRefusesText : CodeFault → List ℕ → Type 0
 CodeRefusesText code.Memory source = ⊤
+CodeRefusesText (code.Early line) source = (u : Unfolding) × Unfolds source u × (is_early (meaning u) ≡ false)
 CodeRefusesText code.TooLarge source = (u : Unfolding) × Unfolds source u × (most_instructions < 32 * (size_of (meaning u)).nodes)
 
 abbrev pub Refuses : List ℕ → PlayFault → Type 0

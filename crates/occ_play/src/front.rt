@@ -6,10 +6,10 @@ ghost use Rattle.occ_text.specs.Words.{rows, words};
 ghost use Rattle.occ_term.specs.Terms.{Term as MeantTerm};
 ghost use Rattle.occ_term.specs.Unfolding.{byte_channel, first_channels};
 ghost use Rattle.occ_term.specs.View.{term_of};
-ghost use Rattle.occ_play.specs.FirstForm.{FirstForm, IsTaken, IsUnfolding};
+ghost use Rattle.occ_play.specs.FirstForm.{FirstForm, IsTaken, IsUnfolding, screen_output};
 ghost use Rattle.occ_play.specs.FirstReading.{Gives, act_in, at_level, is_close, is_header, many, process_at, process_with, text_term};
 
-use occ_term::{ByteOutput, Channel, Primitive, Protocol, Term, Unfolded};
+use occ_term::{Channel, Item, Place, Primitive, Protocol, Term, TermExpr, Unfolded};
 use occ_text::{Key, Line, Source, Sym, Token};
 use sqlite_items::Items;
 use std::alloc::{AllocError, AllocFailed, Global};
@@ -230,16 +230,26 @@ fn first_process(
             Ok((Term::Seq(parts), rest))
         }
         Act::Write(byte) => {
-            let channel = SCREEN_CHANNEL;
-            let output = ByteOutput {
-                line,
-                channel,
-                byte,
-            };
-            Ok((Term::Output(output), after))
+            let output = letter(alloc, line, byte)?;
+            Ok((output, after))
         }
         Act::Other => Err(EarlyFault::Early { line }),
     }
+}
+
+/// An output of the byte to the screen.
+fn letter(alloc: Global, line: u32, byte: u8) -> Result<Term, AllocError>
+    ensures { IfOk result (λ t. term_of t ≡ screen_output line byte) }
+{
+    let channel = Place {
+        line,
+        first: SCREEN_CHANNEL,
+        sizes: Items::new(alloc),
+        subscripts: Items::new(alloc),
+    };
+    let mut items = Items::new(alloc);
+    items.push(Item::One(Primitive::Byte, TermExpr::Constant(i64::from(byte))))?;
+    Ok(Term::Output(channel, None, items))
 }
 
 /// All the processes at this level at the front of the lines, and the lines after them.
@@ -249,10 +259,10 @@ fn processes(
     level: u32,
     before: u32,
     lines: &[Line],
-) -> Result<(Vec<Term>, &[Line]), EarlyFault>
-    ensures { Gives (λ x. (map term_of x.0.items, rows x.1.now)) result (many level (process_at (65 - level) level) (length lines.now) (rows lines.now)) }
+) -> Result<(Items<Term>, &[Line]), EarlyFault>
+    ensures { Gives (λ x. (map term_of x.0, rows x.1.now)) result (many level (process_at (65 - level) level) (length lines.now) (rows lines.now)) }
 {
-    let mut all = Vec::new(alloc);
+    let mut all = Items::new(alloc);
     let mut rest = lines;
     for _ in 0..lines.len() {
         let Some(found) = at(level, rest) else {

@@ -1,6 +1,6 @@
 //! Texts and the terms that the front makes of them.
 use crate::front::{EarlyFault, unfold};
-use occ_term::Term;
+use occ_term::{Item, Term, TermExpr};
 use occ_text::read_lines;
 use std::alloc::{AllocError, Global};
 use std::process::Abort;
@@ -30,18 +30,22 @@ fn show_term(alloc: Global, term: &Term) -> Result<String, AllocError> {
     match term {
         Term::Skip => format!(in alloc; "SKIP"),
         Term::Stop => format!(in alloc; "STOP"),
-        Term::Output(output) => {
-            format!(in alloc; "{}!{}@{}", output.channel, output.byte, output.line)
-        }
+        Term::Output(channel, _, items) => match items.get(0) {
+            Some(Item::One(_, TermExpr::Constant(value))) => {
+                format!(in alloc; "{}!{}@{}", channel.first, value, channel.line)
+            }
+            _ => format!(in alloc; "?"),
+        },
         Term::Seq(parts) => {
             let mut shown = format!(in alloc; "SEQ(")?;
-            for part in parts {
+            for part in parts.as_slice() {
                 shown.push_str(show_term(alloc, part)?.as_str())?;
                 shown.push(' ')?;
             }
             shown.push(')')?;
             Ok(shown)
         }
+        _ => format!(in alloc; "?"),
     }
 }
 

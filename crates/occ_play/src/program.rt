@@ -1,8 +1,10 @@
 //! The program around `play`: what it reads and prints, and its exit status.
-ghost use Rattle.std.specs.Prelude.{◌≡◌, ◌≢◌, ◌⊎◌, IfOk, IfSome, take};
+ghost use Rattle.std.specs.Prelude.{◌≡◌, ◌≢◌, ◌≤◌, ◌⊎◌, IfOk, IfSome, take};
 ghost use Rattle.std.specs.IoError.{error_kind};
 ghost use Rattle.clap.specs.Values.{kind_of};
+ghost use Rattle.occ_play.specs.Coming.{IsStatusOf};
 ghost use Rattle.occ_play.specs.Failures.{failure_status};
+ghost use Rattle.occ_play.specs.Plans.{choices_of};
 
 use crate::counted::Counted;
 use crate::ending::Plan;
@@ -48,8 +50,12 @@ enum Failure {
     Memory,
 }
 
-/// Runs the program on the arguments, the files and the streams of `rt`, and answers its exit status.
-pub fn run<R: Files + Input + Print + Eprint + Env + AllocGlobal>(rt: &R) -> u8 {
+/// Runs the program on the arguments, the files and the streams of `rt`, and answers its exit status: 0 ended or
+/// help, 1 source refused, 2 stopped, 3 fault, 4 limit, 5 want of memory, 6 a file or stream that couldn't be
+/// read or written, 7 wrong words.
+pub fn run<R: Files + Input + Print + Eprint + Env + AllocGlobal>(rt: &R) -> u8
+    ensures { result ≤ 7 }
+{
     match run_arguments(rt, rt.alloc()) {
         Ok(status) => status,
         Err(failure) => report(rt, &failure),
@@ -59,7 +65,9 @@ pub fn run<R: Files + Input + Print + Eprint + Env + AllocGlobal>(rt: &R) -> u8 
 fn run_arguments<R: Files + Input + Print + Eprint + Env + AllocGlobal>(
     rt: &R,
     alloc: Global,
-) -> Result<u8, Failure> {
+) -> Result<u8, Failure>
+    ensures { IfOk result (λ status. status ≤ 7) }
+{
     let arguments: Vec<String> = env::args(rt).map_err(of_arguments)?.collect(alloc)?;
     let words: Vec<&str> = arguments
         .iter()
@@ -101,7 +109,10 @@ fn read_most<R: Read + Drop>(alloc: Global, reader: R, most: u64) -> Result<Vec<
 }
 
 /// Plays the source; the answer goes to standard output, a fault's line to standard error.
-fn run_inputs<R: Print + Eprint>(rt: &R, alloc: Global, words: &Words<'_>, inputs: &Inputs) -> u8 {
+fn run_inputs<R: Print + Eprint>(rt: &R, alloc: Global, words: &Words<'_>, inputs: &Inputs) -> u8
+    ensures came { IsStatusOf inputs.now.source.items inputs.now.keyboard.items (choices_of (Plan.Turns words.now.limit)) words.now.trace result }
+    ensures small { result ≤ 7 }
+{
     let plan = Plan::Turns(words.limit);
     let mut out = Counted::new(io::writer(rt));
     let played = play(

@@ -21,3 +21,4 @@ pub mod Examples
 pub mod FirstRows
 pub mod OneResult
 pub mod LimitRows
+pub mod WorkedRows

@@ -17,6 +17,7 @@ pub mod protocol;
 pub mod term;
 pub mod unfolded;
 pub mod usage;
+pub mod worked_rows;
 
 pub use expression::{
     Array, Declaration, Item, Monadic, Operator, Place, Replicator, Target, TermExpr,

@@ -1,8 +1,18 @@
 //! Plays an occam program, whose source comes from a file or from standard input.
 #![tactic(auto)]
+ghost use Rattle.std.specs.Prelude.{◌≡◌, ◌≤◌};
+ghost use Rattle.std.specs.Process.{exit_status};
 
 use std::process::ExitCode;
 
-fn main(rt: HostRuntime) -> ExitCode {
-    ExitCode::from(occ_play::run(&rt))
+fn main(rt: HostRuntime) -> ExitCode
+    ensures { exit_status result ≤ 7 }
+{
+    exit_code(occ_play::run(&rt))
+}
+
+fn exit_code(status: u8) -> ExitCode
+    ensures { exit_status result ≡ status }
+{
+    ExitCode::from(status)
 }

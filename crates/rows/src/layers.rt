@@ -1,7 +1,7 @@
 //! The layers below a run: the lines of a text, the usage check, and the code of a program.
 use crate::unfolded::{letter, stops};
 use occ_code::{CodeFault, Instr, MOST_INSTRUCTIONS, compile};
-use occ_term::{Primitive, Protocol, Term, Unfolded, check_usage};
+use occ_term::{Item, Primitive, Protocol, Term, TermExpr, Unfolded, check_usage};
 use occ_text::{Sym, Token, read_lines};
 use std::alloc::Global;
 use std::process::Abort;
@@ -39,7 +39,7 @@ fn check_letter(rt: &impl Abort, unfolded: &Unfolded, channel: u32) {
     assert!(rt;
         matches!(
         unfolded.term(),
-        Term::Output(output) if output.line == 4 && output.channel == channel && output.byte == 65
+        Term::Output(place, None, items) if place.line == 4 && place.first == channel && matches!(items.as_slice(), [Item::One(Primitive::Byte, TermExpr::Constant(65))])
     )
     );
     assert!(rt; unfolded.cells().is_empty());

@@ -1,4 +1,4 @@
-//! Tests of whole runs and of public calls: this crate has no code of its own.
+//! Tests of whole runs and of public calls, and the small programs that they use.
 #![tactic(auto)]
 
 #[cfg(test)]
@@ -21,7 +21,6 @@ mod row;
 mod texts;
 #[cfg(test)]
 mod trees;
-#[cfg(test)]
-mod unfolded;
+pub mod unfolded;
 #[cfg(test)]
 mod writers;

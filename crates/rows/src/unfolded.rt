@@ -1,42 +1,69 @@
 //! Small unfolded programs.
-ghost use Rattle.std.specs.Prelude.{◌≡◌, ◌<◌, ◌∷◌, [], All, IfOk, OnOk, length};
+ghost use Rattle.std.specs.Prelude.{◌≡◌, ◌<◌, ◌∷◌, [], IfOk, length, map, replicate};
 ghost use Rattle.occ_term.specs.Unfolding.{byte_channel, first_channels};
+ghost use Rattle.occ_term.specs.View.{term_of};
 ghost use Rattle.occ_term.specs.declared.term.Term.TheVariants as terms;
+ghost use Rattle.rows.specs.SmallPrograms.{IsPlain, letter_on, stops_in_sequence};
 
-use occ_term::{ByteOutput, Channel, Primitive, Protocol, Term, Unfolded};
+use occ_term::{Cell, Channel, Item, Place, Primitive, Protocol, Term, TermExpr, Unfolded};
 use sqlite_items::Items;
 use std::alloc::{AllocError, Global};
 
 /// A program that outputs the letter A in line 4 on one of the first three channels.
-pub(crate) fn letter(alloc: Global, channel: u32) -> Result<Unfolded, AllocError>
+///
+/// # Errors
+///
+/// A refused growth.
+pub fn letter(alloc: Global, channel: u32) -> Result<Unfolded, AllocError>
     requires { channel < 3 }
+    ensures { IfOk result (λ u. IsPlain (letter_on channel) u) }
 {
-    let line = 4;
-    let byte = b'A';
-    let term = Term::Output(ByteOutput {
-        line,
-        channel,
-        byte,
-    });
+    let term = letter_term(alloc, channel)?;
     let channels = fixed_channels(alloc)?;
-    Ok(Unfolded::new(term, Vec::new(alloc), channels))
+    Ok(Unfolded::new(term, no_cells(alloc), channels))
 }
 
 /// A program of so many STOPs in a sequence.
-pub(crate) fn stops(alloc: Global, count: u32) -> Result<Unfolded, AllocError> {
+///
+/// # Errors
+///
+/// A refused growth.
+pub fn stops(alloc: Global, count: u32) -> Result<Unfolded, AllocError>
+    ensures { IfOk result (λ u. IsPlain (stops_in_sequence count) u) }
+{
     let parts = stop_parts(alloc, count)?;
     let channels = fixed_channels(alloc)?;
-    Ok(Unfolded::new(Term::Seq(parts), Vec::new(alloc), channels))
+    Ok(Unfolded::new(Term::Seq(parts), no_cells(alloc), channels))
 }
 
-fn stop_parts(alloc: Global, count: u32) -> Result<Vec<Term>, AllocError>
-    ensures { IfOk result (λ parts. All (λ t. t ≡ terms.Stop) parts.items) }
+fn letter_term(alloc: Global, channel: u32) -> Result<Term, AllocError>
+    ensures { IfOk result (λ t. term_of t ≡ letter_on channel) }
 {
-    let mut parts = Vec::new(alloc);
+    let place = Place {
+        line: 4,
+        first: channel,
+        sizes: Items::new(alloc),
+        subscripts: Items::new(alloc),
+    };
+    let mut items = Items::new(alloc);
+    items.push(Item::One(Primitive::Byte, TermExpr::Constant(65)))?;
+    Ok(Term::Output(place, None, items))
+}
+
+fn stop_parts(alloc: Global, count: u32) -> Result<Items<Term>, AllocError>
+    ensures { IfOk result (λ parts. parts ≡ replicate count terms.Stop) }
+{
+    let mut parts = Items::new(alloc);
     for _ in 0..count {
         parts.push(Term::Stop)?;
     }
     Ok(parts)
+}
+
+fn no_cells(alloc: Global) -> Vec<Cell>
+    ensures { result.items ≡ [] }
+{
+    Vec::new(alloc)
 }
 
 /// The keyboard, the screen and the error channel.

@@ -24,7 +24,7 @@ processes-returns-in_err-next t c =
 
 pub processes-loop-preserved : goal.processes-loop-preserved
 processes-loop-preserved t c =
-    let e : map term_of c.push.new.self.items ≡ map term_of c.loop.all.items ++ term_of c.in_ok-next.next ∷ [] = rw c.in_ok-push.ensures.items (map_push _ c.loop.all.items c.in_ok-next.next) in
+    let e : map term_of c.push.new.self ≡ map term_of c.loop.all ++ term_of c.in_ok-next.next ∷ [] = rw c.in_ok-push.ensures.ok (map_push _ c.loop.all c.in_ok-next.next) in
     rw e (goes_on c.loop.invariant c.loop-test.true c.in-Some.ensures c.in_ok-next.ensures)
 
 pub processes-returns : goal.processes-returns

@@ -16,4 +16,4 @@ abbrev pub decreases-first_process : goal.decreases-first_process
 decreases-first_process l = 3 * (66 - l.level)
 
 abbrev pub invariant-processes-loop : goal.invariant-processes-loop
-invariant-processes-loop l = SoFar MeantTerm l.level (process_at (65 - l.level) l.level) (map term_of l.all.items) (length l.lines) l.counter (rows l.rest) (many l.level (process_at (65 - l.level) l.level) (length l.lines) (rows l.lines))
+invariant-processes-loop l = SoFar MeantTerm l.level (process_at (65 - l.level) l.level) (map term_of l.all) (length l.lines) l.counter (rows l.rest) (many l.level (process_at (65 - l.level) l.level) (length l.lines) (rows l.lines))

@@ -1,0 +1,68 @@
+-- Exit statuses are at most 7, and what they come from.
+use Rattle.std.proofs.Common.{◌≡◌, ℕ, ◌≤◌, ◌<◌, Bool, List, refl, sym, subst, arith}
+use Rattle.std.specs.Prelude.{Result, Ok, Err, IfOk, IfErr, Option, length}
+use Rattle.occ_text.specs.declared.fault.TextFault.TheVariants as text
+use Rattle.occ_tree.specs.declared.fault.ParseFault.TheVariants as tree
+use Rattle.occ_term.specs.declared.usage.UsageFault.TheVariants as usage
+use Rattle.occ_code.specs.declared.code.CodeFault.TheVariants as code
+use Rattle.occ_play.specs.declared.ending.Choice.{Choice}
+use Rattle.occ_play.specs.declared.ending.Ending.{Ending}
+use Rattle.occ_play.specs.declared.ending.Ending.TheVariants.{Ended, Stopped, Fault, Limit}
+use Rattle.occ_play.specs.declared.playing.Played.{Played}
+use Rattle.occ_play.specs.declared.counted.Counted.{Counted}
+use Rattle.occ_play.specs.declared.fault.PlayFault.{PlayFault}
+use Rattle.occ_play.specs.declared.fault.PlayFault.TheVariants as play
+use Rattle.occ_play.specs.declared.program.Failure.{Failure}
+use Rattle.occ_play.specs.declared.program.Failure.TheVariants.{Help, Words, Arguments, Read, Write, Memory}
+use Rattle.occ_play.specs.Playing.{AfterFault, IsAnswer, IsSomeAnswer, Wrote}
+use Rattle.occ_play.specs.Status.{ending_status, fault_status, status}
+use Rattle.occ_play.specs.Failures.{failure_status}
+use Rattle.occ_play.specs.Coming.{CameTo, IsStatusOf}
+
+ending_small : (e : Ending) → ending_status e ≤ 7
+ending_small Ended = omega arith
+ending_small Stopped = omega arith
+ending_small (Fault fault) = omega arith
+ending_small Limit = omega arith
+
+fault_small : (f : PlayFault) → fault_status f ≤ 7
+fault_small (play.Text text.Memory) = omega arith
+fault_small (play.Text f) = omega arith
+fault_small (play.Parse tree.Memory) = omega arith
+fault_small (play.Parse f) = omega arith
+fault_small (play.Early line) = omega arith
+fault_small (play.Usage usage.Memory) = omega arith
+fault_small (play.Usage f) = omega arith
+fault_small (play.Code code.Memory) = omega arith
+fault_small (play.Code f) = omega arith
+fault_small (play.Write written) = omega arith
+fault_small (play.Memory e) = omega arith
+
+pub status_small : (r : Result Played PlayFault) → status r ≤ 7
+status_small (Ok played) = ending_small played.ending
+status_small (Err fault) = fault_small fault
+
+pub failure_small : (f : Failure) → failure_status f ≤ 7
+failure_small (Help error) = omega arith
+failure_small Memory = omega arith
+failure_small Read = omega arith
+failure_small Write = omega arith
+failure_small (Words error) = omega arith
+failure_small Arguments = omega arith
+
+came_from_fault : {W : Type 0} (contents : W → Option (List ℕ)) (source keyboard : List ℕ) (list : List Choice) (trace : Bool) (old new : Counted W) (f : PlayFault)
+    → AfterFault contents (IsSomeAnswer source keyboard list trace) source old new f → CameTo source keyboard list trace (Err f)
+came_from_fault contents source keyboard list trace old new (play.Text f) h = h.0
+came_from_fault contents source keyboard list trace old new (play.Parse f) h = h.0
+came_from_fault contents source keyboard list trace old new (play.Early line) h = h.0
+came_from_fault contents source keyboard list trace old new (play.Usage f) h = h.0
+came_from_fault contents source keyboard list trace old new (play.Code f) h = h.0
+came_from_fault contents source keyboard list trace old new (play.Write written) h = (h.1.0, h.1.1.0)
+came_from_fault contents source keyboard list trace old new (play.Memory e) h = h.0
+
+pub came_to : {W : Type 0} (contents : W → Option (List ℕ)) (source keyboard : List ℕ) (list : List Choice) (trace : Bool) (old new : Counted W) (r : Result Played PlayFault)
+    → IfOk r (λ played. Wrote contents (IsAnswer source keyboard list trace played) old new)
+    → IfErr r (AfterFault contents (IsSomeAnswer source keyboard list trace) source old new)
+    → CameTo source keyboard list trace r
+came_to contents source keyboard list trace old new (Ok played) h g = (h.0, h.1.0)
+came_to contents source keyboard list trace old new (Err f) h g = came_from_fault contents source keyboard list trace old new f g
