@@ -12,7 +12,7 @@ use Rattle.occ_term.specs.TermTyping.{Declared, TermHas, TermsHave}
 use Rattle.occ_term.specs.Processes.{branches_in, branches_in_terms, numbered, processes_of}
 use Rattle.occ_term.specs.Unfolding.{Unfolding, IsWellFormed, NumberedFrom, declared, first_channels}
 use Rattle.occ_term.specs.View.{term_of, terms}
-use Rattle.rows.specs.SmallPrograms.{IsPlain, letter_on, stops, stops_in_sequence}
+use Rattle.rows.specs.SmallPrograms.{IsPlain, letter_on, par_of_none, stops, stops_in_sequence}
 
 second : (a b : Bool) → IsTrue (a && b) → IsTrue b
 second true b h = h
@@ -55,6 +55,9 @@ stops_alone (suc n) = stops_alone n
 
 pub stops_are : (n : ℕ) (u : Unfolding) → IsPlain (stops_in_sequence n) u → IsWellFormed u
 stops_are n u h = plain_is (stops_in_sequence n) u h (λ d of. stops_typed d n) (stops_alone n)
+
+pub par_is : (u : Unfolding) → IsPlain par_of_none u → IsWellFormed u
+par_is u h = plain_is par_of_none u h (λ d of. tt) refl
 
 -- STOPs of the code are STOPs
 pub stops_seen : (n : ℕ) → terms (map term_of (replicate n terms_of_code.Stop)) ≡ stops n

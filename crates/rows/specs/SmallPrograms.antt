@@ -2,7 +2,7 @@
 -- Manual: nothing; this is (own).
 use Rattle.std.specs.Prelude.{List, None, [], pos, suc, zero, ℕ, ◌∷◌, ◌≡◌}
 use Rattle.occ_term.specs.declared.primitive.Primitive.TheVariants.{Byte}
-use Rattle.occ_term.specs.Terms.{Term, Stop, Output, Seq, Terms, no_terms, then_term, Constant, place, no_subscripts, OfOne}
+use Rattle.occ_term.specs.Terms.{Term, Stop, Output, Seq, Par, no_branches, Terms, no_terms, then_term, Constant, place, no_subscripts, OfOne}
 use Rattle.occ_term.specs.Unfolding.{Unfolding, meaning, first_channels}
 
 -- a program without variables, with the first three channels alone
@@ -22,3 +22,7 @@ stops (suc n) = then_term Stop (stops n)
 
 abbrev pub stops_in_sequence : ℕ → Term
 stops_in_sequence n = Seq (stops n)
+
+-- a PAR of no branches
+abbrev pub par_of_none : Term
+par_of_none = Par no_branches

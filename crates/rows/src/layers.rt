@@ -1,5 +1,5 @@
 //! The layers below a run: the lines of a text, the usage check, and the code of a program.
-use crate::unfolded::{letter, stops};
+use crate::unfolded::{empty_par, letter, stops};
 use occ_code::{CodeFault, Instr, MOST_INSTRUCTIONS, compile};
 use occ_term::{Item, Primitive, Protocol, Term, TermExpr, Unfolded, check_usage};
 use occ_text::{Sym, Token, read_lines};
@@ -64,6 +64,23 @@ fn lawful_programs_are_accepted(rt: HostRuntime) -> Result<(), Fail> {
 }
 
 #[test]
+fn par_has_no_code_yet(rt: HostRuntime) -> Result<(), Fail> {
+    let alloc = rt.alloc();
+    let Ok(checked) = check_usage(alloc, empty_par(alloc)?) else {
+        assert!(rt; false, "refused");
+        return Ok(());
+    };
+    match compile(alloc, &checked) {
+        Ok(_) => assert!(rt; false, "compiled"),
+        Err(fault) => {
+            let text = fault.to_string(alloc)?;
+            assert_eq!(rt; text.as_str(), "refused 61 Early line 1");
+        }
+    }
+    Ok(())
+}
+
+#[test]
 fn output_on_the_keyboard_is_refused(rt: HostRuntime) -> Result<(), Fail> {
     let alloc = rt.alloc();
     match check_usage(alloc, letter(alloc, 0)?) {
@@ -113,8 +130,8 @@ fn instructions_of(rt: &impl Abort, alloc: Global, count: u32) -> Result<Option<
     match compile(alloc, &checked) {
         Ok(code) => Ok(code.body(0).map(|body| body.code().len())),
         Err(CodeFault::TooLarge) => Ok(None),
-        Err(CodeFault::Memory) => {
-            assert!(rt; false, "memory");
+        Err(CodeFault::Early { .. }) | Err(CodeFault::Memory) => {
+            assert!(rt; false, "not compiled");
             Ok(None)
         }
     }

@@ -3,7 +3,7 @@ ghost use Rattle.std.specs.Prelude.{◌≡◌, ◌<◌, ◌∷◌, [], IfOk, len
 ghost use Rattle.occ_term.specs.Unfolding.{byte_channel, first_channels};
 ghost use Rattle.occ_term.specs.View.{term_of};
 ghost use Rattle.occ_term.specs.declared.term.Term.TheVariants as terms;
-ghost use Rattle.rows.specs.SmallPrograms.{IsPlain, letter_on, stops_in_sequence};
+ghost use Rattle.rows.specs.SmallPrograms.{IsPlain, letter_on, par_of_none, stops_in_sequence};
 
 use occ_term::{Cell, Channel, Item, Place, Primitive, Protocol, Term, TermExpr, Unfolded};
 use sqlite_items::Items;
@@ -34,6 +34,18 @@ pub fn stops(alloc: Global, count: u32) -> Result<Unfolded, AllocError>
     let parts = stop_parts(alloc, count)?;
     let channels = fixed_channels(alloc)?;
     Ok(Unfolded::new(Term::Seq(parts), no_cells(alloc), channels))
+}
+
+/// A program that is a PAR of no branches.
+///
+/// # Errors
+///
+/// A refused growth.
+pub fn empty_par(alloc: Global) -> Result<Unfolded, AllocError>
+    ensures { IfOk result (λ u. IsPlain par_of_none u) }
+{
+    let channels = fixed_channels(alloc)?;
+    Ok(Unfolded::new(Term::Par(Items::new(alloc)), no_cells(alloc), channels))
 }
 
 fn letter_term(alloc: Global, channel: u32) -> Result<Term, AllocError>
