@@ -1,19 +1,22 @@
 -- Terms of the first form: they write to the screen alone, and are typed; and terms of a list.
-use Rattle.std.proofs.Common.{◌≡◌, ℕ, pos, List, [], ◌∷◌, map, Vec, Global, refl, ap, ◌∙◌}
+use Rattle.std.proofs.Common.{rules, ◌≡◌, ℕ, pos, List, [], ◌∷◌, map, refl, ap, ◌∙◌}
 use Rattle.occ_text.specs.Words.{Row}
 use Rattle.occ_term.specs.declared.term.Term as code
+use Rattle.occ_term.specs.declared.term.Term.{the_lemmas}
 use Rattle.occ_term.specs.Terms.{Term, Seq, Terms, then_term}
 use Rattle.occ_term.specs.View.{term_of, terms as seen}
 use Rattle.occ_play.specs.FirstForm.{Written, skip_line, stop_line, output_line, sequence, WrittenAll, no_line, and_then, FirstForm}
 use Rattle.occ_play.specs.FirstReading.{terms}
 use Rattle.occ_play.specs.ScreenTerms.{ScreenTerm, screen_skip, screen_stop, screen_output, screen_seq, ScreenTerms, screen_none, screen_then}
 
+same_terms : (ts : List Term) → seen ts ≡ terms ts
+same_terms [] = refl
+same_terms (t ∷ ts) = ap (then_term t) (same_terms ts)
+
 pub sequence_terms : (parts : List code.Term) → term_of (code.Seq parts) ≡ Seq (terms (map term_of parts))
-sequence_terms parts = ap Seq (same (map term_of parts))
-  where
-    same : (ts : List Term) → seen ts ≡ terms ts
-    same [] = refl
-    same (t ∷ ts) = ap (then_term t) (same ts)
+sequence_terms parts =
+    let one : term_of (code.Seq parts) ≡ Seq (seen (map term_of parts)) = search (rules, the_lemmas) in
+    one ∙ ap Seq (same_terms (map term_of parts))
 
 mutual
   written_to_screen : {l : ℕ} {lines : List Row} {t : Term} → Written l lines t → ScreenTerm t

@@ -1,5 +1,5 @@
 -- What `play` promises: the answer of an accepted program is shown by a run of its source, with that run's ending.
-use Rattle.std.specs.Prelude.{Bool, List, Option, [], length, map, take, ℕ, ⊤, ◌*◌, ◌<◌, ◌∷◌, ◌≡◌}
+use Rattle.std.specs.Prelude.{Bool, List, Option, [], false, length, map, take, ℕ, ⊤, ◌*◌, ◌<◌, ◌∷◌, ◌≡◌}
 use Rattle.std.specs.Io.KnownBytes.{Appends}
 use Rattle.occ_text.specs.Words.{Row}
 use Rattle.occ_text.specs.Lines.{LinesOf}

@@ -1,5 +1,5 @@
 -- Small programs over the first three channels are well-formed.
-use Rattle.std.proofs.Common.{◌≡◌, ℕ, zero, suc, ◌+◌, ◌<◌, Bool, true, false, IsTrue, nat_le, nat_lt, List, [], ◌∷◌, ◌++◌, map, length, replicate, append-nil, Some, refl, sym, ap, ◌∙◌, subst, arith}
+use Rattle.std.proofs.Common.{rules, ◌≡◌, ℕ, zero, suc, ◌+◌, ◌<◌, Bool, true, false, IsTrue, nat_le, nat_lt, List, [], ◌∷◌, ◌++◌, map, length, replicate, append-nil, Some, refl, sym, ap, ◌∙◌, subst, arith}
 use Rattle.std.specs.Prelude.{◌&&◌, slice_get}
 use Rattle.std.proofs.lemmas.Bool.{ltb-true}
 use Rattle.occ_term.specs.declared.primitive.Primitive.TheVariants.{Byte}
@@ -7,6 +7,7 @@ use Rattle.occ_term.specs.declared.protocol.PartType.TheVariants.{One as OneOf}
 use Rattle.occ_term.specs.declared.protocol.Protocol.TheVariants.{Simple}
 use Rattle.occ_term.specs.declared.names.Channel.{Channel}
 use Rattle.occ_term.specs.declared.term.Term as terms_of_code
+use Rattle.occ_term.specs.declared.term.Term.{the_lemmas}
 use Rattle.occ_term.specs.Terms as T
 use Rattle.occ_term.specs.TermTyping.{Declared, TermHas, TermsHave}
 use Rattle.occ_term.specs.Processes.{branches_in, branches_in_terms, numbered, processes_of}
@@ -60,6 +61,16 @@ pub par_is : (u : Unfolding) → IsPlain par_of_none u → IsWellFormed u
 par_is u h = plain_is par_of_none u h (λ d of. tt) refl
 
 -- STOPs of the code are STOPs
-pub stops_seen : (n : ℕ) → terms (map term_of (replicate n terms_of_code.Stop)) ≡ stops n
+stops_seen : (n : ℕ) → terms (map term_of (replicate n terms_of_code.Stop)) ≡ stops n
 stops_seen zero = refl
-stops_seen (suc n) = ap (T.then_term T.Stop) (stops_seen n)
+stops_seen (suc n) =
+    let one : term_of terms_of_code.Stop ≡ T.Stop = search (rules, the_lemmas) in
+    ap (λ t. T.then_term t (terms (map term_of (replicate n terms_of_code.Stop)))) one ∙ ap (T.then_term T.Stop) (stops_seen n)
+
+pub sequence_seen : (n : ℕ) → term_of (terms_of_code.Seq (replicate n terms_of_code.Stop)) ≡ stops_in_sequence n
+sequence_seen n =
+    let one : term_of (terms_of_code.Seq (replicate n terms_of_code.Stop)) ≡ T.Seq (terms (map term_of (replicate n terms_of_code.Stop))) = search (rules, the_lemmas) in
+    one ∙ ap T.Seq (stops_seen n)
+
+pub no_branches_seen : term_of (terms_of_code.Par []) ≡ T.Par T.no_branches
+no_branches_seen = search (rules, the_lemmas)
