@@ -6,3 +6,4 @@ pub mod FirstRuns
 pub mod OneResult
 pub mod LawfulTerms
 pub mod Meetings
+pub mod Words

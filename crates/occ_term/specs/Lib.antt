@@ -12,6 +12,7 @@ pub mod Uses
 pub mod Typing
 pub mod TermTyping
 pub mod Frames
+pub mod Evaluation
 pub mod View
 pub mod Unfolding
 pub mod Sizes

@@ -12,6 +12,7 @@ pub mod limit_rows;
 pub mod message;
 pub mod names;
 pub mod one_result;
+mod operator;
 pub mod primitive;
 pub mod protocol;
 pub mod term;
