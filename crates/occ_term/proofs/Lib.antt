@@ -7,3 +7,4 @@ pub mod OneResult
 pub mod LawfulTerms
 pub mod Meetings
 pub mod Words
+pub mod Bounds

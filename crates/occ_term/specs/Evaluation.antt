@@ -1,9 +1,9 @@
 -- When the code can evaluate an expression, and what its answer means.
 -- Manual: nothing; this is (own).
-use Rattle.std.specs.Prelude.{Err, IsTrue, List, None, Ok, Option, Result, Some, [], length, ℕ, ℤ, ⊤, ◌+◌, ◌<◌, ◌∷◌, ◌≡◌, ◌≤◌}
+use Rattle.std.specs.Prelude.{Err, IsTrue, List, None, Ok, Option, Result, Some, [], get_or, length, pos, ℕ, ℤ, ⊤, ◌*◌, ◌+◌, ◌<◌, ◌∷◌, ◌≡◌, ◌≤◌}
 use Rattle.occ_term.specs.Messages.{Primitive, Int, is_of, Fault, product}
 use Rattle.occ_term.specs.Terms.{Expression, Constant, Cell, Component, Letter, Binary, Unary, And, Or, Conversion, Place, place, Subscripts, no_subscripts, then_subscript}
-use Rattle.occ_term.specs.Values.{Store, Evaluated, Value, Fails, TypedOn, value_of}
+use Rattle.occ_term.specs.Values.{Store, Evaluated, Value, Fails, after, subscript, first_of, TypedOn, value_of, span_of}
 use Rattle.occ_term.specs.Uses.{reads_of}
 use Rattle.occ_term.specs.Typing.{HasType}
 use Rattle.occ_term.specs.Frames.{Variables, holds_cell, at}
@@ -51,3 +51,15 @@ abbrev mutual
   pub BoundedSubscripts : Subscripts → Store → Type 0
   BoundedSubscripts no_subscripts s = ⊤
   BoundedSubscripts (then_subscript e es) s = Bounded e s × BoundedSubscripts es s
+
+-- the first cell that a place names
+abbrev pub first_named : Place → Store → Evaluated ℕ
+first_named p s = after (span_of p s) (λ at. Value (first_of at))
+
+-- the first cell of the component, or of the row, with this subscript
+abbrev pub first_of_row : ℕ → ℕ → ℕ → List ℕ → Expression → Store → Evaluated ℕ
+first_of_row line first size others e s = after (value_of e s) (λ v. after (subscript line size v) (λ i. Value (first + i * product others)))
+
+-- a letter of a string of bytes
+abbrev pub letter : ℕ → List ℕ → ℤ → Evaluated ℤ
+letter line text v = after (subscript line (length text) v) (λ i. Value (pos (get_or text i 0)))

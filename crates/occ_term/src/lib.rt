@@ -18,6 +18,7 @@ pub mod protocol;
 pub mod term;
 pub mod unfolded;
 //pub mod usage;
+pub mod value;
 
 pub use expression::{
     Array, Declaration, Item, Monadic, Operator, Place, Replicator, Target, TermExpr,
@@ -30,4 +31,5 @@ pub use primitive::{Prim, Primitive};
 pub use protocol::{PartType, Protocol, Tag};
 pub use term::{Arm, Branch, Choice, Reception, Selection, Term, Variant};
 pub use unfolded::Unfolded;
+pub use value::value_of;
 //pub use usage::{Checked, Refused, UsageFault, check_usage};
