@@ -13,7 +13,7 @@ use Rattle.occ_term.specs.declared.expression.TermExpr.{TermExpr, the_lemmas}
 use Rattle.occ_term.specs.declared.expression.Place.{Place}
 
 -- one more row fits
-one_more : (size i p : ℕ) → i < size → i * p + p ≤ size * p
+pub one_more : (size i p : ℕ) → i < size → i * p + p ≤ size * p
 one_more size i p within = omega (arith, mul-le-mul_right {m = suc i} {n = size} p within, suc-mul i p)
 
 module _ (first size i p : ℕ) (few : 0 < size * p → first + size * p ≤ 65536) (within : i < size) where
@@ -68,7 +68,7 @@ checked_gives false x y kind line h = cc
 below_size : (n k : ℕ) → IsTrue (int_le (pos 0) (pos k) && int_lt (pos k) (pos n)) → k < n
 below_size n k h = grind (arith, nat_tests)
 
-within_size : (line n : ℕ) (v : ℤ) (i : ℕ) → subscript line n v ≡ Value i → i < n
+pub within_size : (line n : ℕ) (v : ℤ) (i : ℕ) → subscript line n v ≡ Value i → i < n
 within_size line n (pos k) i h =
     let (t, e) = checked_gives (int_le (pos 0) (pos k) && int_lt (pos k) (pos n)) k i Range line h in
     let b = below_size n k t in

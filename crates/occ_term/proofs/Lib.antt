@@ -8,3 +8,5 @@ pub mod LawfulTerms
 pub mod Meetings
 pub mod Words
 pub mod Bounds
+pub mod TypedOperators
+pub mod TypedPlaces

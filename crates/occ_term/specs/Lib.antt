@@ -13,6 +13,7 @@ pub mod Typing
 pub mod TermTyping
 pub mod Frames
 pub mod Evaluation
+pub mod TypedSteps
 pub mod View
 pub mod Unfolding
 pub mod Sizes

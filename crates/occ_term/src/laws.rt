@@ -1,6 +1,7 @@
 //! Laws of the definitions, and small programs whose runs check them. Each function's contract is the law; its body does nothing.
 
 ghost use Rattle.occ_term.specs.StepRuns.{TurnsAreSteps};
+ghost use Rattle.occ_term.specs.TypedSteps.{PlacesLieWithin, ValuesHaveTypes};
 ghost use Rattle.occ_term.specs.Selecting.{waits_for};
 ghost use Rattle.occ_term.specs.Examples.{ArmRows, AssignRows, ChoiceRows, ChosenRows, Divides, FaultHalts, GoingHasStep, Halts, Joins, LaterOffer, LongTurns, MessageRows, PlaceRows, PriorityTakesFirst, SequencePerforms, StopsBoth, ThreeRun, ThreeTurns, Unlawful, UseRows, ValueRows, WritesA};
 
@@ -117,4 +118,14 @@ pub fn joins()
 /// Each run by turns is one by single steps, with the same communications.
 pub fn turns_are_steps()
     ensures { TurnsAreSteps }
+{}
+
+/// An expression's value is of its type.
+pub fn values_have_types()
+    ensures { ValuesHaveTypes }
+{}
+
+/// What a place names lies within its array.
+pub fn places_lie_within()
+    ensures { PlacesLieWithin }
 {}
