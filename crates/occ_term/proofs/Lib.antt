@@ -10,3 +10,4 @@ pub mod Words
 pub mod Bounds
 pub mod TypedOperators
 pub mod TypedPlaces
+pub mod TypedValues

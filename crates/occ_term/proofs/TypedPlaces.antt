@@ -99,5 +99,5 @@ places_lie_within types s (place line first sizes subs) t rest at h q =
     record {
       many = many;
       typed = λ c m. h.0 c (in_it c m);
-      named = offset_named types s subs line first sizes rest (span first (product sizes)) at h.1 q (λ c m. m)
+      named = offset_named types s subs line first sizes rest (span first (product sizes)) at h.1 q (λ c m. m);
     }

@@ -31,18 +31,9 @@ pub(crate) fn binary(
         Operator::PlusModulo => Ok(wrapped(primitive, a + b)),
         Operator::MinusModulo => Ok(wrapped(primitive, a - b)),
         Operator::TimesModulo => Ok(wrapped(primitive, a * b)),
-        Operator::BitAnd => Ok(of_bits(
-            primitive,
-            bits_of(primitive, a) & bits_of(primitive, b),
-        )),
-        Operator::BitOr => Ok(of_bits(
-            primitive,
-            bits_of(primitive, a) | bits_of(primitive, b),
-        )),
-        Operator::BitXor => Ok(of_bits(
-            primitive,
-            bits_of(primitive, a) ^ bits_of(primitive, b),
-        )),
+        Operator::BitAnd => Ok(of_bits(primitive, bits_of(primitive, a) & bits_of(primitive, b))),
+        Operator::BitOr => Ok(of_bits(primitive, bits_of(primitive, a) | bits_of(primitive, b))),
+        Operator::BitXor => Ok(of_bits(primitive, bits_of(primitive, a) ^ bits_of(primitive, b))),
         Operator::ShiftLeft => shift_left(primitive, line, a, b),
         Operator::ShiftRight => shift_right(primitive, line, a, b),
         Operator::After => Ok(truth(0 < wrapped(Primitive::Int, a - b))),
