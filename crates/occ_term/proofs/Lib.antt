@@ -11,3 +11,4 @@ pub mod Bounds
 pub mod TypedOperators
 pub mod TypedPlaces
 pub mod TypedValues
+pub mod TypedStores
