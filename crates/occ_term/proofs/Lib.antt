@@ -12,3 +12,4 @@ pub mod TypedOperators
 pub mod TypedPlaces
 pub mod TypedValues
 pub mod TypedStores
+pub mod TypedSteps

@@ -57,9 +57,10 @@ value_has d s e t h k = as_has t (value_of e s) (value_typed d.types s e t h (λ
 
 pub values_typed : (d : Declared) (s : Store) (first count : ℕ) (t : Primitive) → CellsHave d.types (span first count) t → StoreHas d s → AllOf t (values_from first count s)
 values_typed d s first zero t h k = tt
-values_typed d s first (suc n) t h k =
-    (subst (λ x. IsTrue (is_of_declared x (s first))) (h first (to_row first (suc n) first (omega arith) (omega arith))) (k first),
-      values_typed d s (first + 1) n t (λ c m. let (l, g) = in_row (first + 1) n c m in h c (to_row first (suc n) c (omega arith) (omega arith))) k)
+values_typed d s first (suc n) t h k = (
+  subst (λ x. IsTrue (is_of_declared x (s first))) (h first (to_row first (suc n) first (omega arith) (omega arith))) (k first),
+  values_typed d s (first + 1) n t (λ c m. let (l, g) = in_row (first + 1) n c m in h c (to_row first (suc n) c (omega arith) (omega arith))) k,
+)
 
 pub values_count : (first count : ℕ) (s : Store) → length (values_from first count s) ≡ count
 values_count first zero s = refl
