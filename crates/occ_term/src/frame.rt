@@ -1,5 +1,5 @@
 //! The variables of a process.
-ghost use Rattle.std.specs.Prelude.{◌≡◌, ◌↔◌, IsTrue, IfOk, length, pos, replicate};
+ghost use Rattle.std.specs.Prelude.{◌≡◌, ◌↔◌, IsTrue, IfOk, length, pos, replicate, []};
 ghost use Rattle.occ_term.specs.Frames.{at, value_at, zero_frame};
 
 use crate::message::same_values;
@@ -64,6 +64,18 @@ impl Frame {
             && same_values(&self.values, &other.values)
             && same_numbers(&self.left, &other.left)
     }
+}
+
+/// A frame of these cells with these values.
+#[cfg(test)]
+pub(crate) fn frame_of(alloc: Global, cells: &[u32], values: &[i64]) -> Result<Frame, AllocError>
+    ensures { IfOk result (λ f. f ≡ record { cells = cells.now; values = values.now; left = [] }) }
+{
+    Ok(Frame {
+        cells: Vec::from_slice(alloc, cells)?,
+        values: Vec::from_slice(alloc, values)?,
+        left: Vec::new(alloc),
+    })
 }
 
 fn same_numbers(numbers: &[u32], others: &[u32]) -> bool

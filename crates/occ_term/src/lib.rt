@@ -19,6 +19,8 @@ pub mod term;
 pub mod unfolded;
 //pub mod usage;
 pub mod value;
+#[cfg(test)]
+mod value_tests;
 
 pub use expression::{
     Array, Declaration, Item, Monadic, Operator, Place, Replicator, Target, TermExpr,

@@ -20,8 +20,10 @@ pub fn value_of(e: &TermExpr, frame: &Frame) -> Result<i64, Fault>
     evaluate(e, frame)
 }
 
+/// The same, where no type is known: each operand's value is an INT, and each place lies among the
+/// cells.
 #[cycle(evaluation)]
-fn evaluate(e: &TermExpr, frame: &Frame) -> Result<i64, Fault>
+pub(crate) fn evaluate(e: &TermExpr, frame: &Frame) -> Result<i64, Fault>
     requires { Bounded (expression_of e.now) (at frame.now) }
     ensures { evaluated result ≡ values.value_of (expression_of e.now) (at frame.now) }
 {
