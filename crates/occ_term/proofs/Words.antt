@@ -4,7 +4,7 @@ use Rattle.std.proofs.lemmas.Int.{ints, to_z-of_z, fits_signed_mul, fits_signed_
 use Rattle.std.proofs.lemmas.Bool.Decides.{nat_tests}
 use Rattle.std.proofs.Math.Nat.{div-le_self}
 use Rattle.occ_term.specs.Messages.{Primitive, Int, Arith, fault, is_of}
-use Rattle.occ_term.specs.Terms.{Operator, Plus, Minus, Times, Divide, Remainder, TimesModulo, After, Monadic, Negate}
+use Rattle.occ_term.specs.Terms.{Operator, Plus, Minus, Times, Divide, Remainder, PlusModulo, MinusModulo, TimesModulo, After, Monadic, Negate}
 use Rattle.occ_term.specs.Values.{Evaluated, Value, Fails, in_type, binary, unary, wrapped, truth, is_zero}
 
 pub least_word : (a : ℤ) → IsTrue (is_of Int a) → neg_ℤ (pos 2147483648) ≤ℤ a
@@ -42,6 +42,9 @@ module _ (a b : ℤ) (p : IsTrue (is_of Int a)) (q : IsTrue (is_of Int b)) where
       rw (word_is a p, word_is b q)
       (to_z-of_z w64 (a *ℤ b) (fits_signed_mul w64 a b 2147483648 2147483648 (abs_word a p) (abs_word b q) (omega arith)))
 
+  pub product_word : FitsSigned w64 (in_word a *ℤ in_word b)
+  product_word = rw (word_is a p, word_is b q) (fits_signed_mul w64 a b 2147483648 2147483648 (abs_word a p) (abs_word b q) (omega arith))
+
   module _ (op : Operator) (type : Primitive) (line : ℕ) (r : Evaluated ℤ) where
     pub plus : op ≡ Plus → r ≡ in_type type line (in_word (in_word a +ℤ in_word b)) → r ≡ binary op type line a b
     plus o h = h ∙ ap (in_type type line) sum_fits ∙ sym (ap (λ x. binary x type line a b) o)
@@ -53,6 +56,14 @@ module _ (a b : ℤ) (p : IsTrue (is_of Int a)) (q : IsTrue (is_of Int b)) where
     times o h = h ∙ ap (in_type type line) product_fits ∙ sym (ap (λ x. binary x type line a b) o)
 
   module _ (op : Operator) (type : Primitive) (line : ℕ) (r : ℤ) (f : FitsSigned w64 r) where
+    pub plus_modulo : op ≡ PlusModulo → r ≡ wrapped type (in_word (in_word a +ℤ in_word b)) → ◌≡◌ {A = Evaluated ℤ} (Value (in_word r)) (binary op type line a b)
+    plus_modulo o h =
+        ap Value (to_z-of_z w64 r f ∙ h ∙ ap (wrapped type) sum_fits) ∙ sym (ap (λ x. binary x type line a b) o)
+
+    pub minus_modulo : op ≡ MinusModulo → r ≡ wrapped type (in_word (in_word a -ℤ in_word b)) → ◌≡◌ {A = Evaluated ℤ} (Value (in_word r)) (binary op type line a b)
+    minus_modulo o h =
+        ap Value (to_z-of_z w64 r f ∙ h ∙ ap (wrapped type) difference_fits) ∙ sym (ap (λ x. binary x type line a b) o)
+
     pub times_modulo : op ≡ TimesModulo → r ≡ wrapped type (in_word (in_word a *ℤ in_word b)) → ◌≡◌ {A = Evaluated ℤ} (Value (in_word r)) (binary op type line a b)
     times_modulo o h =
         ap Value (to_z-of_z w64 r f ∙ h ∙ ap (wrapped type) product_fits) ∙ sym (ap (λ x. binary x type line a b) o)

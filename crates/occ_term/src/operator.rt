@@ -1,5 +1,5 @@
 //! Operators and conversions on values, which are within INT.
-ghost use Rattle.std.specs.Prelude.{◌≡◌, ◌<◌, ◌≤◌, ◌^◌, ◌-◌, IfOk, IsTrue};
+ghost use Rattle.std.specs.Prelude.{◌≡◌, ◌<◌, ◌≤◌, ◌^◌, ◌%◌, ◌*◌, ◌-◌, IfOk, IsTrue};
 ghost use Rattle.occ_term.specs.Messages.{Int, is_of};
 ghost use Rattle.occ_term.specs.Values as values;
 ghost use Rattle.occ_term.specs.Values.{bits_of, of_bits, width, wrapped, truth};
@@ -194,8 +194,18 @@ fn shift_left(primitive: Primitive, line: u32, a: i64, b: i64) -> Result<i64, Fa
     ensures { evaluated result ≡ values.binary ShiftLeft primitive line a b }
 {
     let count = shift_count(primitive, line, b)?;
-    let bits = (bits_of(primitive, a) << count) & all_ones(primitive);
+    let bits = shifted_left(primitive, bits_of(primitive, a), count);
     Ok(of_bits(primitive, bits))
+}
+
+/// The bits that stay within the width.
+fn shifted_left(primitive: Primitive, bits: u64, count: u32) -> u64
+    requires within { bits < 2 ^ width primitive }
+    requires small { count ≤ 32 }
+    ensures value { result ≡ (bits * 2 ^ count) % 2 ^ width primitive }
+    ensures below { result < 2 ^ 32 }
+{
+    (bits << count) & all_ones(primitive)
 }
 
 fn shift_right(primitive: Primitive, line: u32, a: i64, b: i64) -> Result<i64, Fault>

@@ -24,7 +24,7 @@ can_be e f a b q h k =
       type = Int;
       typed = (Int, takes_arithmetic refl refl, an_int a h, an_int b k);
       held = λ c m. cc;
-      values = λ c m. refl
+      values = λ c m. refl;
     } in
     subst (λ x. CanBeEvaluated x f) (sym q) closed
 
