@@ -13,3 +13,4 @@ pub mod TypedPlaces
 pub mod TypedValues
 pub mod TypedStores
 pub mod TypedSteps
+pub mod KeptStores

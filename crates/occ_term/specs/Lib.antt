@@ -14,6 +14,7 @@ pub mod TermTyping
 pub mod Frames
 pub mod Evaluation
 pub mod TypedSteps
+pub mod StepUses
 pub mod View
 pub mod Unfolding
 pub mod Sizes
