@@ -14,3 +14,4 @@ pub mod TypedValues
 pub mod TypedStores
 pub mod TypedSteps
 pub mod KeptStores
+pub mod KeptSteps
