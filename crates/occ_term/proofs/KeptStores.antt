@@ -23,7 +23,7 @@ left_part a b u h = record {
   reads = λ c m. h.reads c (or_left (a.reads c) (b.reads c) m);
   writes = λ c m. h.writes c (or_left (a.writes c) (b.writes c) m);
   ins = λ c m. h.ins c (or_left (a.ins c) (b.ins c) m);
-  outs = λ c m. h.outs c (or_left (a.outs c) (b.outs c) m)
+  outs = λ c m. h.outs c (or_left (a.outs c) (b.outs c) m);
 }
 
 pub right_part : (a b u : Uses) → IsPartOf (with_use a b) u → IsPartOf b u
@@ -31,7 +31,7 @@ right_part a b u h = record {
   reads = λ c m. h.reads c (or_right (a.reads c) (b.reads c) m);
   writes = λ c m. h.writes c (or_right (a.writes c) (b.writes c) m);
   ins = λ c m. h.ins c (or_right (a.ins c) (b.ins c) m);
-  outs = λ c m. h.outs c (or_right (a.outs c) (b.outs c) m)
+  outs = λ c m. h.outs c (or_right (a.outs c) (b.outs c) m);
 }
 
 pub either_of : (a b : Bool) {P : Type 0} → (IsTrue a → P) → (IsTrue b → P) → IsTrue (a || b) → P
@@ -43,7 +43,7 @@ both_parts a b u h k = record {
   reads = λ c m. either_of (a.reads c) (b.reads c) (h.reads c) (k.reads c) m;
   writes = λ c m. either_of (a.writes c) (b.writes c) (h.writes c) (k.writes c) m;
   ins = λ c m. either_of (a.ins c) (b.ins c) (h.ins c) (k.ins c) m;
-  outs = λ c m. either_of (a.outs c) (b.outs c) (h.outs c) (k.outs c) m
+  outs = λ c m. either_of (a.outs c) (b.outs c) (h.outs c) (k.outs c) m;
 }
 
 pub no_part : (u : Uses) → IsPartOf no_use u

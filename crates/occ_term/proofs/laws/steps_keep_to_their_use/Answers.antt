@@ -2,4 +2,4 @@ use Rattle.occ_term.proofs.KeptSteps as kept
 use Rattle.occ_term.proofs.laws.steps_keep_to_their_use.Goals as goal
 
 pub returns : goal.returns
-returns c = let x = kept.keeps_all in ?
+returns c = kept.steps_keep_to_their_use
