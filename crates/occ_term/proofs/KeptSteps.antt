@@ -1,23 +1,21 @@
 -- Private steps change only what they write, and what is left uses no more.
-use Rattle.std.proofs.Common.{◌≡◌, ◌∙◌, sym, ap, subst, refl, Bool, true, false, IsTrue, ◌&&◌, int_le, ℕ, zero, suc, ◌+◌, ◌<◌, ◌≤◌, ℤ, pos, negsuc, neg_ℤ, ◌+ℤ◌, ◌≤ℤ◌, nat_eq, nat_abs, if◌then◌else◌, List, [], ◌∷◌, ◌++◌, Option, Some, None, arith}
+use Rattle.std.proofs.Common.{◌≡◌, subst, refl, Bool, true, false, IsTrue, ℕ, zero, suc, ℤ, pos, ◌+ℤ◌, nat_eq, if◌then◌else◌, List, [], ◌∷◌, ◌++◌, Option, Some, None, arith}
 use Rattle.std.proofs.lemmas.Bool.Decides.{nat_tests}
-use Rattle.std.proofs.lemmas.Int.{ints}
 use Rattle.std.specs.Bool.{⊤}
-use Rattle.occ_term.specs.Messages.{Primitive, Boolean, Int, least, FaultKind, Count, Fault, is_of, Part, PartType, PartsFit, product, Message, message, Protocol, Simple, CountedArray, Sequential, Variant, parts_after, Fits, FitsAfter, AllOf}
-use Rattle.occ_term.specs.Terms.{Expression, Place, place, Item, Target, Declaration, Clearing, Naming, Replicator, replicator, Term, Skip, Stop, Assign, Input, Output, VariantInput, Seq, Par, Alt, If, Case, While, Each, Clear, Local, Terms, no_terms, then_term, Branches, no_branches, and_branch, Arms, no_arms, skip_arm, input_arm, declared_arms, each_arm, Reception, Plain, Tagged, Variants, no_variants, or_variant, Choices, no_choices, or_choice, declared_choices, each_choice, Options, no_options, or_option, or_else}
-use Rattle.occ_term.specs.Values.{Store, store_with, Evaluated, Value, Fails, after, checked, holds, Span, span, first_of, count_of, value_of, span_of, parts_of}
-use Rattle.occ_term.specs.Uses.{Numbers, Uses, no_use, with_use, reading, writing, inputting, outputting, only, numbers_in, named_by, reads_of, reads_in_place, reads_of_items, input_place, output_place, uses_of, uses_of_terms, uses_of_branches, uses_of_arms, uses_of_reception, uses_of_variants, uses_of_choices, uses_of_options, uses_of_targets, uses_of_declaration, uses_of_declarations, uses_of_replicator}
-use Rattle.occ_term.specs.Typing.{HasType, is_number}
-use Rattle.occ_term.specs.TermTyping.{Declared, ChannelHas, ItemsHave, TargetsHave, DeclarationHas, DeclarationsHave, ReplicatorHas, IsKept, TermHas, TermsHave, BranchesHave, ArmsHave, ReceptionHas, VariantsHave, ChoicesHave, OptionsHave}
-use Rattle.occ_term.specs.Storing.{Outcome, Gives, Faults, then_in, in_store, Nothing, nothing, store_into, assigned, declared, all_declared, Indices, indices, indices_of, index_of}
+use Rattle.occ_term.specs.Messages.{Primitive, Fault, Part, PartType, product, Message, message, Protocol, parts_after}
+use Rattle.occ_term.specs.Terms.{Expression, Place, place, Item, Target, Declaration, Clearing, Naming, Replicator, replicator, Term, Skip, Stop, Assign, Input, Output, VariantInput, Seq, Par, Alt, If, Case, While, Each, Clear, Local, no_terms, then_term, no_branches, and_branch, Arms, no_arms, skip_arm, input_arm, declared_arms, each_arm, Reception, Plain, Tagged, Variants, no_variants, or_variant, Choices, no_choices, or_choice, declared_choices, each_choice, Options, no_options, or_option, or_else}
+use Rattle.occ_term.specs.Values.{Store, store_with, Evaluated, Value, Fails, after, holds, Span, span, first_of, value_of, span_of, parts_of}
+use Rattle.occ_term.specs.Uses.{Numbers, Uses, no_use, with_use, reading, writing, inputting, outputting, only, named_by, reads_of, reads_of_items, input_place, output_place, uses_of, uses_of_terms, uses_of_arms, uses_of_reception, uses_of_variants, uses_of_choices, uses_of_options, uses_of_targets, uses_of_declaration, uses_of_declarations, uses_of_replicator}
+use Rattle.occ_term.specs.TermTyping.{Declared, ChannelHas, TargetsHave, DeclarationsHave, TermHas, ArmsHave, ReceptionHas, VariantsHave, ChoicesHave, OptionsHave}
+use Rattle.occ_term.specs.Storing.{Outcome, Gives, Faults, then_in, in_store, nothing, store_into, assigned, declared, all_declared, Indices, indices, indices_of, index_of}
 use Rattle.occ_term.specs.Selecting.{or_next, first_over, choice_over, choice_of, Selected, selected, is_among, matching, else_of, either, enters, option_of, variant_taken, tag_taken, taken, Setting, IndexTo, DeclaredAgain, set_one, set_again, Enabled, SkipArm, InputArm, and_arm, and_arms, each_over, arms_over, enabled}
-use Rattle.occ_term.specs.Steps.{Loop, WhileLoop, EachLoop, Taken, SkipTaken, MessageTaken, Doing, Do, Passing, Again, Offering, Awaiting, Choosing, Taking, Forking, Halted, Faulted, Done, Context, Then, Within, Left, left, offer_of, await_of, choosing, or_stop, each_loop, Pass, pass, pass_of, after_taken, taken_by, FaultsIn, in_assign, in_local, in_output, in_input, in_variant, in_alt, in_take, in_if, in_case, in_each, in_loop, Step, ends, stop, assign, clear, local, output, input, variant, alt, take_in, seq_empty, seq, drops, par_empty, par, if_step, case, while, each, passes_again, leaves, body_ends, again, faults}
-use Rattle.occ_term.specs.TypedSteps.{LoopHas, SettingHas, SettingsHave, EnabledHas, EnabledHave, TakenHas, DoingHas, ContextHas, ContextsHave, LeftHas}
-use Rattle.occ_term.specs.StepUses.{uses_of_loop, uses_of_setting, uses_of_settings, uses_of_enabled, uses_of_all, uses_of_taken, uses_of_doing, uses_of_context, uses_of_contexts, uses_of_left, IsPartOf, ChangesOnly, StepsKeepToTheirUse}
-use Rattle.occ_term.proofs.TypedStores.{Has, Any, has_after, has_by}
+use Rattle.occ_term.specs.Steps.{Loop, WhileLoop, EachLoop, Taken, SkipTaken, MessageTaken, Doing, Do, Passing, Again, Offering, Awaiting, Taking, Forking, Halted, Faulted, Done, Context, Then, Within, Left, left, offer_of, await_of, choosing, or_stop, each_loop, Pass, pass, pass_of, after_taken, taken_by, FaultsIn, in_assign, in_local, in_output, in_input, in_variant, in_alt, in_take, in_if, in_case, in_each, in_loop, ends, stop, assign, clear, local, output, input, variant, alt, take_in, seq_empty, seq, drops, par_empty, par, if_step, case, while, each, passes_again, leaves, body_ends, again, faults}
+use Rattle.occ_term.specs.TypedSteps.{SettingHas, SettingsHave, TakenHas, DoingHas}
+use Rattle.occ_term.specs.StepUses.{uses_of_loop, uses_of_setting, uses_of_settings, uses_of_enabled, uses_of_all, uses_of_taken, uses_of_doing, uses_of_contexts, uses_of_left, IsPartOf, ChangesOnly, StepsKeepToTheirUse}
+use Rattle.occ_term.proofs.TypedStores.{Has, Any, has_after}
 use Rattle.occ_term.proofs.KeptStores.{left_part, right_part, both_parts, no_part, whole_part, Goes, goes_then, goes_in, one_goes, into_goes, assigned_goes, declared_goes, all_declared_go}
 use Rattle.occ_term.proofs.TypedPlaces.{to_row, offset_within, offset_named}
-use Rattle.occ_term.proofs.TypedValues.{or_left, or_right}
+use Rattle.occ_term.proofs.TypedValues.{or_left}
 
 -- ---- channels
 

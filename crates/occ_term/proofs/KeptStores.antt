@@ -1,18 +1,17 @@
 -- Evaluation changes only cells that are written.
-use Rattle.std.proofs.Common.{◌≡◌, ◌∙◌, sym, ap, subst, refl, Bool, true, false, IsTrue, ◌||◌, ◌&&◌, int_le, ℕ, zero, suc, ◌+◌, ◌*◌, ◌<◌, ◌≤◌, min, ℤ, pos, nat_eq, nat_le, nat_abs, if◌then◌else◌, List, [], ◌∷◌, ◌++◌, take, length, replicate, Option, Some, None, arith}
+use Rattle.std.proofs.Common.{◌≡◌, ◌∙◌, sym, ap, subst, refl, Bool, true, false, IsTrue, ◌||◌, ℕ, suc, ◌+◌, ℤ, pos, nat_eq, nat_le, if◌then◌else◌, List, [], ◌∷◌, take, length, replicate, Option, arith}
 use Rattle.std.proofs.lemmas.Bool.Decides.{nat_tests}
 use Rattle.std.proofs.lemmas.List.{length-replicate, length-take}
 use Rattle.std.specs.Bool.{⊤}
-use Rattle.occ_term.specs.Messages.{Primitive, Range, Fault, fault, product, Part, One, Many, Counted, PartType, OneOf, ManyOf, CountedOf, simple_part}
+use Rattle.occ_term.specs.Messages.{Primitive, Range, fault, product, Part, One, Many, PartType, OneOf, ManyOf, CountedOf, simple_part}
 use Rattle.occ_term.specs.Terms.{Expression, Place, place, Subscripts, no_subscripts, then_subscript, Array, Cells, Text, Item, OfOne, OfMany, OfCounted, Target, Into, IntoCounted, Declaration, Clearing, Naming}
 use Rattle.occ_term.specs.Values.{Store, store_with, Evaluated, Value, Fails, after, Span, span, first_of, count_of, value_of, span_of, values_from, array_of, part_of, parts_of}
-use Rattle.occ_term.specs.Uses.{Numbers, Uses, no_use, union, with_use, writing, reading, numbers_in, named_by, reads_in_place, components, components_of, cells_of_item, uses_of_target, uses_of_targets, uses_of_declaration, uses_of_declarations}
+use Rattle.occ_term.specs.Uses.{Numbers, Uses, no_use, with_use, writing, reading, numbers_in, named_by, reads_in_place, components, components_of, cells_of_item, uses_of_target, uses_of_targets, uses_of_declaration, uses_of_declarations}
 use Rattle.occ_term.specs.Typing.{SubscriptsLeave, PlaceHas, ArrayHas, ItemHas, TargetHas}
 use Rattle.occ_term.specs.TermTyping.{Declared, TargetsHave, DeclarationHas, DeclarationsHave}
-use Rattle.occ_term.specs.Storing.{Outcome, Gives, Faults, then_in, in_store, Nothing, nothing, store_from, store_in, values_in, Spot, At, AtCounted, spot_of, spots_of, store_part, store_parts, store_into, assigned, declared, all_declared}
+use Rattle.occ_term.specs.Storing.{Outcome, Gives, Faults, then_in, in_store, nothing, store_from, store_in, values_in, Spot, At, AtCounted, spot_of, spots_of, store_part, store_parts, store_into, assigned, declared, all_declared}
 use Rattle.occ_term.specs.StepUses.{IsPartOf, ChangesOnly}
-use Rattle.occ_term.specs.TypedSteps.{LiesWithin}
-use Rattle.occ_term.proofs.TypedStores.{Has, Any, has_after, has_by, values_count}
+use Rattle.occ_term.proofs.TypedStores.{Has, Any, has_after, values_count}
 use Rattle.occ_term.proofs.TypedValues.{or_left, or_right}
 use Rattle.occ_term.proofs.TypedPlaces.{in_row, to_row, places_lie_within}
 

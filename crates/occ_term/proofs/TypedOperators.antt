@@ -1,13 +1,13 @@
 -- Each operator's value is of the type that it gives.
-use Rattle.std.proofs.Common.{◌≡◌, ◌∙◌, sym, ap, subst, refl, Bool, true, false, cond, not, IsTrue, ◌&&◌, int_le, int_lt, ℕ, zero, suc, ◌+◌, ◌-◌, ◌*◌, ◌/◌, ◌%◌, ◌^◌, ◌<◌, ◌≤◌, ℤ, pos, negsuc, ◌+ℤ◌, ◌-ℤ◌, ◌*ℤ◌, neg_ℤ, int_div, int_rem, bit_and, bit_or, bit_xor, nat_lt, nat_abs, if◌then◌else◌, arith, rules}
+use Rattle.std.proofs.Common.{◌≡◌, refl, Bool, true, false, not, IsTrue, int_le, int_lt, ℕ, ◌-◌, ◌*◌, ◌/◌, ◌%◌, ◌^◌, ◌<◌, ℤ, pos, negsuc, ◌+ℤ◌, ◌-ℤ◌, ◌*ℤ◌, int_div, int_rem, bit_and, bit_or, bit_xor, if◌then◌else◌, arith}
 use Rattle.std.specs.Bool.{⊤}
 use Rattle.std.proofs.lemmas.Bool.Decides.{nat_tests}
 use Rattle.std.proofs.lemmas.Int.{ints}
 use Rattle.std.proofs.lemmas.Nat.{and_le_l, or_lt, xor_lt, pow_pos}
 use Rattle.std.proofs.Math.Nat.{mod-lt, div-le_self}
-use Rattle.occ_term.specs.Messages.{Primitive, Boolean, Byte, Int, FaultKind, Arith, Convert, Fault, fault, is_of}
-use Rattle.occ_term.specs.Terms.{Operator, Plus, Minus, Times, Divide, Remainder, PlusModulo, MinusModulo, TimesModulo, BitAnd, BitOr, BitXor, ShiftLeft, ShiftRight, After, Equal, Unequal, Less, Greater, AtMost, AtLeast, Monadic, Negate, BitNot, Not}
-use Rattle.occ_term.specs.Values.{Evaluated, Value, Fails, after, checked, truth, holds, width, residue, bits_of, of_bits, wrapped, is_zero, int_eq, in_type, shift_count, binary, unary, converted}
+use Rattle.occ_term.specs.Messages.{Primitive, Boolean, Byte, Int, FaultKind, Arith, Convert, fault, is_of}
+use Rattle.occ_term.specs.Terms.{Operator, Plus, Minus, Times, Divide, Remainder, PlusModulo, MinusModulo, TimesModulo, BitAnd, BitOr, BitXor, ShiftLeft, ShiftRight, After, Equal, Unequal, Less, Greater, AtMost, AtLeast}
+use Rattle.occ_term.specs.Values.{Evaluated, Value, Fails, after, checked, truth, width, residue, bits_of, of_bits, wrapped, is_zero, int_eq, in_type, shift_count, binary, converted}
 use Rattle.occ_term.specs.Typing.{is_arithmetic, is_shift, is_equality, is_order, Takes, takes_arithmetic, takes_shift, takes_after, takes_equality, takes_order}
 
 -- a value, if there is one, is of the type

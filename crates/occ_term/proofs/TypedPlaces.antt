@@ -1,12 +1,12 @@
 -- What a typed place names lies within its array, and among the components that its constant subscripts name.
-use Rattle.std.proofs.Common.{◌≡◌, ◌∙◌, sym, ap, subst, refl, Bool, true, false, not, IsTrue, ◌&&◌, int_le, int_lt, ℕ, zero, suc, ◌+◌, ◌-◌, ◌*◌, ◌<◌, ◌≤◌, ℤ, pos, negsuc, nat_le, nat_lt, nat_abs, if◌then◌else◌, List, [], ◌∷◌, Option, Some, None, arith}
+use Rattle.std.proofs.Common.{◌≡◌, ◌∙◌, sym, ap, subst, refl, Bool, true, false, IsTrue, ◌&&◌, int_le, int_lt, ℕ, ◌+◌, ◌*◌, ◌<◌, ◌≤◌, ℤ, pos, nat_abs, List, [], ◌∷◌, Option, Some, None, arith}
 use Rattle.std.proofs.lemmas.Bool.Decides.{nat_tests}
-use Rattle.occ_term.specs.Messages.{Primitive, FaultKind, Range, Fault, product}
-use Rattle.occ_term.specs.Terms.{Expression, Constant, Cell, Component, Letter, Binary, Unary, And, Or, Conversion, Place, place, Subscripts, no_subscripts, then_subscript}
-use Rattle.occ_term.specs.Values.{Store, Evaluated, Value, Fails, after, checked, subscript, Span, span, first_of, count_of, value_of, span_of, offset_of}
-use Rattle.occ_term.specs.Uses.{numbers_in, is_constant, constant_subscript, subscript_value, on_index, part_named, named_by}
-use Rattle.occ_term.specs.Typing.{CellsHave, HasType, SubscriptsLeave, PlaceHas}
-use Rattle.occ_term.specs.TypedSteps.{LiesWithin, PlacesLieWithin}
+use Rattle.occ_term.specs.Messages.{Primitive, Range, product}
+use Rattle.occ_term.specs.Terms.{Expression, Constant, Cell, Component, Letter, Binary, Unary, And, Or, Conversion, place, Subscripts, no_subscripts, then_subscript}
+use Rattle.occ_term.specs.Values.{Store, Evaluated, Value, Fails, after, subscript, Span, span, count_of, value_of, offset_of}
+use Rattle.occ_term.specs.Uses.{numbers_in, is_constant, constant_subscript, subscript_value, on_index, part_named}
+use Rattle.occ_term.specs.Typing.{SubscriptsLeave}
+use Rattle.occ_term.specs.TypedSteps.{PlacesLieWithin}
 use Rattle.occ_term.proofs.Bounds.{one_more, checked_gives, within_size}
 
 pub after_gives : {X Y : Type 0} (x : Evaluated X) (f : X → Evaluated Y) (y : Y) → after x f ≡ Value y → (a : X) × (x ≡ Value a) × (f a ≡ Value y)

@@ -1,19 +1,18 @@
 -- Private steps keep the declared types.
-use Rattle.std.proofs.Common.{◌≡◌, ◌∙◌, sym, ap, subst, refl, Bool, true, false, IsTrue, ◌&&◌, int_le, ℕ, zero, suc, ◌+◌, ◌<◌, ◌≤◌, ℤ, pos, negsuc, neg_ℤ, ◌+ℤ◌, ◌≤ℤ◌, nat_eq, nat_abs, if◌then◌else◌, List, [], ◌∷◌, ◌++◌, Option, Some, None, arith}
+use Rattle.std.proofs.Common.{◌≡◌, sym, subst, refl, Bool, true, false, IsTrue, ◌&&◌, int_le, ℕ, zero, suc, ℤ, pos, negsuc, ◌+ℤ◌, nat_eq, nat_abs, if◌then◌else◌, List, [], ◌∷◌, ◌++◌, Option, Some, None, arith}
 use Rattle.std.proofs.lemmas.Bool.Decides.{nat_tests}
 use Rattle.std.proofs.lemmas.Int.{ints}
 use Rattle.std.specs.Bool.{⊤}
-use Rattle.occ_term.specs.Messages.{Primitive, Boolean, Int, least, FaultKind, Count, Fault, is_of, Part, PartType, PartsFit, Message, message, Protocol, Simple, CountedArray, Sequential, Variant, parts_after, Fits, FitsAfter, AllOf}
-use Rattle.occ_term.specs.Terms.{Expression, Place, place, Item, Target, Declaration, Clearing, Naming, Replicator, replicator, Term, Skip, Stop, Assign, Input, Output, VariantInput, Seq, Par, Alt, If, Case, While, Each, Clear, Local, Terms, no_terms, then_term, Branches, no_branches, and_branch, Arms, no_arms, skip_arm, input_arm, declared_arms, each_arm, Reception, Plain, Tagged, Variants, no_variants, or_variant, Choices, no_choices, or_choice, declared_choices, each_choice, Options, no_options, or_option, or_else}
-use Rattle.occ_term.specs.Values.{Store, store_with, Evaluated, Value, Fails, after, checked, holds, Span, span, first_of, count_of, value_of, span_of, parts_of}
-use Rattle.occ_term.specs.Uses.{numbers_in, uses_of, uses_of_arms}
-use Rattle.occ_term.specs.Typing.{HasType, is_number}
-use Rattle.occ_term.specs.TermTyping.{Declared, ChannelHas, ItemsHave, TargetsHave, DeclarationHas, DeclarationsHave, ReplicatorHas, IsKept, TermHas, TermsHave, BranchesHave, ArmsHave, ReceptionHas, VariantsHave, ChoicesHave, OptionsHave}
-use Rattle.occ_term.specs.Storing.{Outcome, Gives, Faults, then_in, in_store, Nothing, nothing, store_into, assigned, declared, all_declared, Indices, indices, indices_of, index_of}
+use Rattle.occ_term.specs.Messages.{Primitive, Int, Count, Fault, is_of, Part, PartType, PartsFit, Message, message, Protocol, Simple, CountedArray, Sequential, Variant, parts_after, Fits, FitsAfter}
+use Rattle.occ_term.specs.Terms.{Expression, Place, place, Item, Target, Declaration, Clearing, Naming, Replicator, replicator, Term, Skip, Output, Arms, no_arms, skip_arm, input_arm, declared_arms, each_arm, Reception, Plain, Tagged, Variants, no_variants, or_variant, Choices, no_choices, or_choice, declared_choices, each_choice, Options, no_options, or_option, or_else}
+use Rattle.occ_term.specs.Values.{Store, store_with, Evaluated, Value, Fails, after, checked, holds, Span, span, first_of, value_of, span_of, parts_of}
+use Rattle.occ_term.specs.Uses.{uses_of}
+use Rattle.occ_term.specs.TermTyping.{Declared, ChannelHas, TargetsHave, DeclarationsHave, ReplicatorHas, IsKept, TermHas, ArmsHave, ReceptionHas, VariantsHave, ChoicesHave, OptionsHave}
+use Rattle.occ_term.specs.Storing.{Outcome, Gives, Faults, then_in, in_store, nothing, store_into, assigned, declared, all_declared, Indices, indices, indices_of, index_of}
 use Rattle.occ_term.specs.Selecting.{or_next, first_over, choice_over, choice_of, Selected, selected, is_among, matching, else_of, either, enters, option_of, variant_taken, tag_taken, taken, Setting, IndexTo, DeclaredAgain, set_one, set_again, Enabled, SkipArm, InputArm, and_arm, and_arms, each_over, arms_over, enabled}
-use Rattle.occ_term.specs.Steps.{Loop, WhileLoop, EachLoop, Taken, SkipTaken, MessageTaken, Doing, Do, Passing, Again, Offering, Awaiting, Choosing, Taking, Forking, Halted, Faulted, Done, Context, Then, Within, Left, left, offer_of, await_of, choosing, or_stop, each_loop, Pass, pass, pass_of, after_taken, taken_by, FaultsIn, in_assign, in_local, in_output, in_input, in_variant, in_alt, in_take, in_if, in_case, in_each, in_loop, Step, ends, stop, assign, clear, local, output, input, variant, alt, take_in, seq_empty, seq, drops, par_empty, par, if_step, case, while, each, passes_again, leaves, body_ends, again, faults}
-use Rattle.occ_term.specs.TypedSteps.{StoreHas, IndicesHave, LoopHas, SettingHas, SettingsHave, EnabledHas, EnabledHave, TakenHas, DoingHas, ContextHas, ContextsHave, LeftHas, StepsKeepTypes}
-use Rattle.occ_term.proofs.TypedStores.{Has, Keeps, Any, has_after, has_by, keeps_then, keeps_in, value_has, parts_have, one_store, stored_into, assigned_has, declared_has, all_declared_have}
+use Rattle.occ_term.specs.Steps.{Loop, WhileLoop, EachLoop, Taken, SkipTaken, MessageTaken, Doing, Offering, Awaiting, offer_of, await_of, choosing, or_stop, each_loop, Pass, pass, pass_of, after_taken, taken_by, FaultsIn, in_assign, in_local, in_output, in_input, in_variant, in_alt, in_take, in_if, in_case, in_each, in_loop, ends, stop, assign, clear, local, output, input, variant, alt, take_in, seq_empty, seq, drops, par_empty, par, if_step, case, while, each, passes_again, leaves, body_ends, again, faults}
+use Rattle.occ_term.specs.TypedSteps.{StoreHas, IndicesHave, LoopHas, SettingHas, SettingsHave, EnabledHas, EnabledHave, TakenHas, DoingHas, StepsKeepTypes}
+use Rattle.occ_term.proofs.TypedStores.{Has, Keeps, Any, has_after, keeps_then, keeps_in, value_has, parts_have, one_store, stored_into, assigned_has, declared_has, all_declared_have}
 use Rattle.occ_term.proofs.TypedPlaces.{to_row, offset_within}
 
 -- ---- indices

@@ -1,20 +1,19 @@
 -- Evaluation keeps the types of cells: items, stores and declarations.
-use Rattle.std.proofs.Common.{◌≡◌, ◌∙◌, sym, ap, subst, refl, Bool, true, false, not, IsTrue, ◌&&◌, int_le, int_lt, ℕ, zero, suc, ◌+◌, ◌-◌, ◌*◌, ◌<◌, ◌≤◌, min, ℤ, pos, negsuc, nat_eq, nat_le, nat_lt, nat_abs, if◌then◌else◌, List, [], ◌∷◌, take, length, replicate, Option, Some, None, arith}
+use Rattle.std.proofs.Common.{◌≡◌, ◌∙◌, sym, ap, subst, refl, Bool, true, false, IsTrue, ◌&&◌, int_le, ℕ, zero, suc, ◌+◌, ◌≤◌, ℤ, pos, negsuc, nat_eq, nat_le, nat_abs, if◌then◌else◌, List, [], ◌∷◌, take, length, replicate, Some, arith}
 use Rattle.std.proofs.lemmas.Bool.Decides.{nat_tests}
 use Rattle.std.proofs.lemmas.List.{length-replicate, length-take, length-take-le}
 use Rattle.std.proofs.Math.Nat.{mul-one}
 use Rattle.std.specs.Bool.{⊤}
-use Rattle.occ_term.specs.Messages.{Primitive, Boolean, Byte, Int, FaultKind, Range, Fault, fault, is_of, product, AllOf, Part, One, Many, Counted, PartType, OneOf, ManyOf, CountedOf, PartFits, PartsFit, simple_part}
+use Rattle.occ_term.specs.Messages.{Primitive, Boolean, Byte, Int, Range, fault, is_of, product, AllOf, Part, One, Many, Counted, PartType, OneOf, ManyOf, CountedOf, PartFits, PartsFit, simple_part}
 use Rattle.occ_term.specs.Terms.{Expression, Place, Array, Cells, Text, Item, OfOne, OfMany, OfCounted, Target, Into, IntoCounted, Declaration, Clearing, Naming}
-use Rattle.occ_term.specs.Values.{Store, store_with, Evaluated, Value, Fails, after, checked, Span, span, first_of, count_of, value_of, span_of, values_from, array_of, counted, part_of, parts_of, is_of_declared, TypedOn}
-use Rattle.occ_term.specs.Uses.{reads_of, numbers_in}
+use Rattle.occ_term.specs.Values.{Store, store_with, Evaluated, Value, Fails, after, checked, Span, span, first_of, count_of, value_of, span_of, values_from, array_of, counted, part_of, parts_of, is_of_declared}
 use Rattle.occ_term.specs.Typing.{CellsHave, HasType, PlaceHas, ArrayHas, ItemHas, TargetHas}
 use Rattle.occ_term.specs.TermTyping.{Declared, ItemsHave, TargetsHave, DeclarationHas, DeclarationsHave}
-use Rattle.occ_term.specs.Storing.{Outcome, Gives, Faults, then_in, in_store, Nothing, nothing, store_from, store_in, values_in, Spot, At, AtCounted, spot_of, spots_of, store_part, store_parts, store_into, assigned, declared, all_declared}
+use Rattle.occ_term.specs.Storing.{Outcome, Gives, Faults, then_in, in_store, nothing, store_from, store_in, values_in, Spot, At, AtCounted, spot_of, spots_of, store_part, store_parts, store_into, assigned, declared, all_declared}
 use Rattle.occ_term.specs.TypedSteps.{StoreHas, LiesWithin}
 use Rattle.occ_term.proofs.TypedValues.{value_typed}
 use Rattle.occ_term.proofs.TypedOperators.{OfType}
-use Rattle.occ_term.proofs.TypedPlaces.{in_row, to_row, places_lie_within, after_gives}
+use Rattle.occ_term.proofs.TypedPlaces.{in_row, to_row, places_lie_within}
 
 -- what an evaluation gives has the property, if it gives something
 abbrev pub Has : {X : Type 0} → (X → Type 0) → Evaluated X → Type 0

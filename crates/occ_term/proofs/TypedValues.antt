@@ -1,18 +1,16 @@
 -- An expression's value is of its type; what is typed stays within the code's words.
-use Rattle.std.proofs.Common.{◌≡◌, ◌∙◌, sym, ap, subst, refl, inl, inr, ◌⊎◌, Bool, true, false, not, IsTrue, ◌&&◌, ◌||◌, int_le, int_lt, ℕ, zero, suc, ◌+◌, ◌-◌, ◌*◌, ◌<◌, ◌≤◌, ℤ, pos, negsuc, neg_ℤ, nat_eq, nat_le, nat_lt, nat_abs, if◌then◌else◌, List, [], ◌∷◌, get_or, length, Option, Some, None, arith}
+use Rattle.std.proofs.Common.{◌≡◌, sym, subst, refl, inl, inr, ◌⊎◌, Bool, true, false, IsTrue, ◌||◌, ℕ, zero, suc, ◌+◌, ◌<◌, ◌≤◌, ℤ, pos, neg_ℤ, nat_eq, if◌then◌else◌, List, [], ◌∷◌, get_or, length, Option, Some, None, arith}
 use Rattle.std.proofs.lemmas.Bool.Decides.{nat_tests}
-use Rattle.std.proofs.Math.Nat.{eq-zero-or-pos}
-use Rattle.std.specs.Bool.{⊤}
-use Rattle.occ_term.specs.Messages.{Primitive, Boolean, Byte, Int, FaultKind, Fault, is_of, product, AllOf}
-use Rattle.occ_term.specs.Terms.{Expression, Constant, Cell, Component, Letter, Binary, Unary, And, Or, Conversion, Monadic, Negate, BitNot, Not, Place, place, Subscripts, no_subscripts, then_subscript}
-use Rattle.occ_term.specs.Values.{Store, Evaluated, Value, Fails, after, checked, holds, is_zero, subscript, Span, span, first_of, count_of, value_of, span_of, offset_of, binary, unary, converted, is_of_declared, TypedOn}
+use Rattle.occ_term.specs.Messages.{Primitive, Boolean, Byte, Int, is_of, product, AllOf}
+use Rattle.occ_term.specs.Terms.{Expression, Constant, Cell, Component, Letter, Binary, Unary, And, Or, Conversion, Negate, BitNot, Not, Place, place, Subscripts, no_subscripts, then_subscript}
+use Rattle.occ_term.specs.Values.{Store, Evaluated, Value, Fails, after, holds, is_zero, subscript, Span, span, first_of, value_of, span_of, binary, unary, converted, is_of_declared, TypedOn}
 use Rattle.occ_term.specs.Uses.{Numbers, union, numbers_in, named_by, reads_of, reads_in_place, reads_in_subscripts}
 use Rattle.occ_term.specs.Typing.{CellsHave, HasType, SubscriptsLeave, PlaceHas}
 use Rattle.occ_term.specs.Frames.{Variables, at}
-use Rattle.occ_term.specs.Evaluation.{CanBeEvaluated, IsWord, FewCells, Bounded, BoundedPlace, BoundedSubscripts}
-use Rattle.occ_term.specs.TypedSteps.{LiesWithin, ValuesHaveTypes}
+use Rattle.occ_term.specs.Evaluation.{CanBeEvaluated, IsWord, Bounded, BoundedPlace, BoundedSubscripts}
+use Rattle.occ_term.specs.TypedSteps.{ValuesHaveTypes}
 use Rattle.occ_term.proofs.TypedOperators.{OfType, in_type_typed, truth_typed, binary_typed, not_typed, converted_typed, is_word}
-use Rattle.occ_term.proofs.TypedPlaces.{after_gives, in_row, to_row, places_lie_within}
+use Rattle.occ_term.proofs.TypedPlaces.{to_row, places_lie_within}
 
 pub or_left : (a b : Bool) → IsTrue a → IsTrue (a || b)
 or_left true b h = refl

@@ -1,6 +1,6 @@
 -- Arithmetic on two INTs stays within 64 bits.
-use Rattle.std.proofs.Common.{◌≡◌, ◌∙◌, sym, ap, ℕ, ◌+◌, ◌*◌, ◌<◌, ◌≤◌, ◌^◌, ℤ, pos, neg_ℤ, ◌+ℤ◌, ◌-ℤ◌, ◌*ℤ◌, ◌≤ℤ◌, IsTrue, arith, unsigned_abs, int_div, int_rem, int_lt, nat_abs, FitsSigned, to_z, of_z, w64, Bool, true, false, refl, if◌then◌else◌, zero, suc, negsuc}
-use Rattle.std.proofs.lemmas.Int.{ints, to_z-of_z, fits_signed_mul, fits_signed_from_abs, rem_below, quot_is, rem_is}
+use Rattle.std.proofs.Common.{◌≡◌, ◌∙◌, sym, ap, ℕ, ◌≤◌, ℤ, pos, neg_ℤ, ◌+ℤ◌, ◌-ℤ◌, ◌*ℤ◌, ◌≤ℤ◌, IsTrue, arith, unsigned_abs, int_div, int_rem, int_lt, FitsSigned, to_z, of_z, w64, false, refl, if◌then◌else◌, zero, suc, negsuc}
+use Rattle.std.proofs.lemmas.Int.{ints, to_z-of_z, fits_signed_mul, fits_signed_from_abs, quot_is, rem_is}
 use Rattle.std.proofs.lemmas.Bool.Decides.{nat_tests}
 use Rattle.std.proofs.Math.Nat.{div-le_self}
 use Rattle.occ_term.specs.Messages.{Primitive, Int, Arith, fault, is_of}

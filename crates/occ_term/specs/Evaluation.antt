@@ -1,6 +1,6 @@
 -- When the code can evaluate an expression, and what its answer means.
 -- Manual: nothing; this is (own).
-use Rattle.std.specs.Prelude.{Err, IsTrue, List, None, Ok, Option, Result, Some, [], get_or, length, pos, ℕ, ℤ, ⊤, ◌*◌, ◌+◌, ◌<◌, ◌∷◌, ◌≡◌, ◌≤◌}
+use Rattle.std.specs.Prelude.{Err, IsTrue, List, None, Ok, Option, Result, get_or, length, pos, ℕ, ℤ, ⊤, ◌*◌, ◌+◌, ◌<◌, ◌≡◌, ◌≤◌}
 use Rattle.occ_term.specs.Messages.{Primitive, Int, is_of, Fault, product}
 use Rattle.occ_term.specs.Terms.{Expression, Constant, Cell, Component, Letter, Binary, Unary, And, Or, Conversion, Place, place, Subscripts, no_subscripts, then_subscript}
 use Rattle.occ_term.specs.Values.{Store, Evaluated, Value, Fails, after, subscript, first_of, TypedOn, value_of, span_of}

@@ -1,8 +1,8 @@
 -- Laws of the types: values stay within the types of their expressions, and steps keep the types of cells and of what is left.
 -- Manual: data types; expressions; variables and values; channels and protocols.
 use Rattle.std.specs.Prelude.{IsTrue, List, Option, Some, [], false, int_le, pos, ℕ, ℤ, ⊤, ◌&&◌, ◌+ℤ◌, ◌∷◌, ◌≡◌}
-use Rattle.occ_term.specs.Messages.{Primitive, Boolean, Int, least, is_of, product, Message, Protocol, Fits}
-use Rattle.occ_term.specs.Terms.{Expression, Place, Term}
+use Rattle.occ_term.specs.Messages.{Primitive, Boolean, Int, least, is_of, product, Protocol, Fits}
+use Rattle.occ_term.specs.Terms.{Expression, Place}
 use Rattle.occ_term.specs.Values.{Store, Value, Span, count_of, value_of, span_of, is_of_declared, TypedOn}
 use Rattle.occ_term.specs.Uses.{reads_of, numbers_in, named_by, uses_of}
 use Rattle.occ_term.specs.Typing.{HasType, PlaceHas, CellsHave}

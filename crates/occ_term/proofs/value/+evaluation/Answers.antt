@@ -1,11 +1,10 @@
-use Rattle.std.proofs.Common.{rules, ◌≡◌, ◌∙◌, sym, ap, subst, ℕ, ◌+◌, ◌<◌, ◌∷◌, List, drop, get_or, length, arith}
-use Rattle.std.proofs.lemmas.List.{drop_more, drop_all}
-use Rattle.occ_term.specs.Values.{Store, Evaluated, Value, Fails}
+use Rattle.std.proofs.Common.{rules, ◌≡◌, ℕ}
+use Rattle.occ_term.specs.Values.{Evaluated, Fails}
 use Rattle.occ_term.specs.Frames.{at}
-use Rattle.occ_term.specs.View.{expression_of, place_of}
+use Rattle.occ_term.specs.View.{place_of}
 use Rattle.occ_term.specs.Evaluation.{first_named}
-use Rattle.occ_term.specs.declared.expression.TermExpr.{TermExpr, the_lemmas}
-use Rattle.occ_term.proofs.Bounds.{Walks, begins_at, no_size_at, row_bounded, row_has_few, walked_at, fails_at, walks_at}
+use Rattle.occ_term.specs.declared.expression.TermExpr.{the_lemmas}
+use Rattle.occ_term.proofs.Bounds.{begins_at, no_size_at, row_bounded, row_has_few, walked_at, fails_at, walks_at}
 use Rattle.occ_term.proofs.value.+evaluation.Goals as goal
 
 pub first_named-loop-e-init : goal.first_named-loop-e-init

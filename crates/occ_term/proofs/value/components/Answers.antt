@@ -1,4 +1,4 @@
-use Rattle.std.proofs.Common.{◌≡◌, ◌∙◌, sym, refl, ap, ℕ, zero, suc, ◌+◌, ◌*◌, ◌<◌, ◌≤◌, ◌^◌, min, List, [], ◌∷◌, length, get_or, drop, add-one, arith, mul_assoc, mul-suc}
+use Rattle.std.proofs.Common.{◌≡◌, ◌∙◌, sym, ap, ℕ, zero, suc, ◌+◌, ◌*◌, ◌≤◌, min, get_or, drop, arith, mul_assoc, mul-suc}
 use Rattle.std.proofs.lemmas.List.{drop_more}
 use Rattle.occ_term.specs.Messages.{product}
 use Rattle.occ_term.proofs.value.components.Goals as goal

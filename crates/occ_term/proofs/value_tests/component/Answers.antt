@@ -1,11 +1,9 @@
-use Rattle.std.proofs.Common.{◌≡◌, ◌∙◌, ap, refl, subst, sym, ℕ, List, [], ◌∷◌, ◌++◌, arith, rules}
+use Rattle.std.proofs.Common.{◌≡◌, subst, sym, ℕ, List, [], ◌∷◌, ◌++◌, rules}
 use Rattle.occ_term.specs.Terms as T
-use Rattle.occ_term.specs.Values.{Store}
 use Rattle.occ_term.specs.Evaluation.{FewCells, Bounded, IsSmall, IsBounded}
-use Rattle.occ_term.specs.View.{expression_of, place_of}
+use Rattle.occ_term.specs.View.{expression_of}
 use Rattle.occ_term.specs.declared.expression.TermExpr.{TermExpr, the_lemmas}
 use Rattle.occ_term.specs.declared.expression.TermExpr.TheViews.{Component, roll-Place}
-use Rattle.occ_term.specs.declared.expression.Place.{Place}
 use Rattle.occ_term.proofs.value_tests.component.Goals as goal
 
 bounded : (e : TermExpr) (line first : ℕ) (sizes : List ℕ) (a b : TermExpr) → expression_of e ≡ T.Component (T.place line first sizes (T.then_subscript (expression_of a) (T.then_subscript (expression_of b) T.no_subscripts))) → FewCells first sizes → IsSmall a → IsSmall b → IsBounded e

@@ -1,11 +1,11 @@
-use Rattle.std.proofs.Common.{◌≡◌, ◌∙◌, ap, refl, subst, sym, ℕ, ℤ, Bool, true, false, IsTrue, Option, None, arith, rules, FitsSigned, w32, w64, to_z, of_z}
+use Rattle.std.proofs.Common.{◌≡◌, ◌∙◌, ap, refl, subst, sym, ℤ, IsTrue, None, arith, rules, FitsSigned, w32, w64, to_z, of_z}
 use Rattle.std.proofs.lemmas.Int.{ints, to_z-of_z}
 use Rattle.std.proofs.lemmas.Bool.Decides.{nat_tests}
-use Rattle.occ_term.specs.Messages.{Primitive, Int, is_of}
+use Rattle.occ_term.specs.Messages.{Int, is_of}
 use Rattle.occ_term.specs.Terms as T
 use Rattle.occ_term.specs.Terms.{Plus}
 use Rattle.occ_term.specs.Typing.{takes_arithmetic}
-use Rattle.occ_term.specs.Frames.{Variables, zero_frame}
+use Rattle.occ_term.specs.Frames.{Variables}
 use Rattle.occ_term.specs.Evaluation.{CanBeEvaluated}
 use Rattle.occ_term.specs.View.{expression_of}
 use Rattle.occ_term.specs.declared.expression.TermExpr.{TermExpr, the_lemmas}

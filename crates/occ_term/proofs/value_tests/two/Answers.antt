@@ -1,8 +1,8 @@
-use Rattle.std.proofs.Common.{◌≡◌, refl, subst, sym, ℕ, ℤ, IsTrue, rules}
+use Rattle.std.proofs.Common.{◌≡◌, subst, sym, ℕ, ℤ, IsTrue, rules}
 use Rattle.occ_term.specs.Messages.{Primitive, Int, is_of}
 use Rattle.occ_term.specs.Terms as T
 use Rattle.occ_term.specs.Terms.{Operator}
-use Rattle.occ_term.specs.Values.{Store, Evaluated, Value, Fails, after, binary, value_of}
+use Rattle.occ_term.specs.Values.{Evaluated, Value, Fails, after, binary, value_of}
 use Rattle.occ_term.specs.Evaluation.{Bounded, IsWord, IsSmall}
 use Rattle.occ_term.specs.View.{expression_of}
 use Rattle.occ_term.specs.declared.expression.TermExpr.{TermExpr, the_lemmas}
