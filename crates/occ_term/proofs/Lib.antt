@@ -7,3 +7,12 @@ pub mod OneResult
 pub mod LawfulTerms
 pub mod Meetings
 pub mod WorkedRuns
+pub mod Words
+pub mod Bounds
+pub mod TypedOperators
+pub mod TypedPlaces
+pub mod TypedValues
+pub mod TypedStores
+pub mod TypedSteps
+pub mod KeptStores
+pub mod KeptSteps
