@@ -1,5 +1,5 @@
 -- Terms of the first form have the types of their places, and there is one process.
-use Rattle.std.proofs.Common.{◌≡◌, ℕ, pos, ◌≤◌, List, [], ◌∷◌, true, Some, refl, subst, arith}
+use Rattle.std.proofs.Common.{◌≡◌, ℕ, pos, ◌≤◌, List, [], ◌∷◌, true, Some, length, refl, ap, subst, arith}
 use Rattle.std.specs.Prelude.{IsTrue, nat_le}
 use Rattle.std.proofs.lemmas.Bool.Decides.{nat_tests}
 use Rattle.occ_text.specs.Words.{Row}
@@ -45,10 +45,15 @@ mutual
   no_branches no_line = refl
   no_branches (and_then one others) = rw (no_branch one, no_branches others) refl
 
-pub well_formed : (lines : List Row) (u : Unfolding) → FirstForm lines (meaning u) → u.channels ≡ first_channels → IsWellFormed u
-well_formed lines u form same = record {
-  others = [];
-  begins = same;
-  typed = written_typed (declared u) (rw same refl) form.written;
-  numbers = rw (no_branch form.written) (refl, tt);
-}
+pub well_formed : (lines : List Row) (u : Unfolding) → FirstForm lines (meaning u) → u.cells ≡ [] → u.channels ≡ first_channels → IsWellFormed u
+well_formed lines u form none same =
+    let no_cells : length u.cells ≡ 0 = ap length none in
+    let three : length u.channels ≡ 3 = ap length same in
+    record {
+      others = [];
+      begins = same;
+      few_cells = omega (arith, no_cells);
+      few_channels = omega (arith, three);
+      typed = written_typed (declared u) (rw same refl) form.written;
+      numbers = rw (no_branch form.written) (refl, tt);
+    }

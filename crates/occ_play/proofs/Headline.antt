@@ -42,7 +42,7 @@ use Rattle.occ_play.proofs.FirstTerms.{form_writes_to_screen}
 
 -- ---- the term writes bytes
 
-item_byte : (types : ℕ → Primitive) (v : ℤ) (x : PartType) → ItemHas types (OfOne Byte (Constant v)) x → IsTrue (is_of Byte v)
+item_byte : (types : ℕ → Option Primitive) (v : ℤ) (x : PartType) → ItemHas types (OfOne Byte (Constant v)) x → IsTrue (is_of Byte v)
 item_byte types v (OneOf type) h = subst (λ t. IsTrue (is_of t v)) (sym h.0) h.1
 item_byte types v (ManyOf sizes type) h = absurd h
 item_byte types v (CountedOf count type) h = absurd h

@@ -12,7 +12,7 @@ use Rattle.occ_play.specs.Replay.{may_go, first_task, first_net, at_start, endin
 use Rattle.occ_play.specs.declared.ending.Ending.{Ending}
 use Rattle.occ_term.specs.declared.message.Message.{Message}
 use Rattle.occ_term.specs.Terms.{Term, Skip, Terms}
-use Rattle.occ_term.specs.Values.{Store}
+use Rattle.occ_term.specs.Values.{Store, is_of_declared}
 use Rattle.occ_term.specs.Steps.{Do, Passing, Again, Offering, Awaiting, Choosing, Taking, Forking, Halted, Faulted, Done, Context, Left, left, faults}
 use Rattle.occ_term.specs.Turns.{Turn}
 use Rattle.occ_term.specs.TermTyping.{Declared}
@@ -364,12 +364,16 @@ module _ (d : Declared) (body : FlatCode) (kb : List ℕ) where
   zero_of Byte = refl
   zero_of Int = refl
 
+  zero_of_declared : (t : Option Primitive) → IsTrue (is_of_declared t (pos 0))
+  zero_of_declared None = refl
+  zero_of_declared (Some t) = zero_of t
+
   first_agrees : Agrees d body.cells (first_task 0 body).frame (λ c. pos 0)
   first_agrees =
       record {
         shape = record { cells_are = refl; values_for_all = length-replicate (length body.cells) (pos 0) };
         same = λ c h. zero_values body.cells c;
-        typed = λ c h. subst (λ v. IsTrue (is_of (d.types c) v)) (sym (zero_values body.cells c)) (zero_of (d.types c));
+        typed = λ c h. subst (λ v. IsTrue (is_of_declared (d.types c) v)) (sym (zero_values body.cells c)) (zero_of_declared (d.types c));
       }
 
   first_follows : (u : Unfolding) (p : Program) (k : ℕ) → p.bodies ≡ body ∷ [] → ByteTerm (meaning u) → DoesAs d body (meaning u) → k < 2 ^ 64 → Follows k (first_net p kb) (start (meaning u) kb)

@@ -57,12 +57,12 @@ came_from_fault contents source keyboard list trace old new (play.Parse f) h = h
 came_from_fault contents source keyboard list trace old new (play.Early line) h = h.0
 came_from_fault contents source keyboard list trace old new (play.Usage f) h = h.0
 came_from_fault contents source keyboard list trace old new (play.Code f) h = h.0
-came_from_fault contents source keyboard list trace old new (play.Write written) h = (h.1.0, h.1.1.0)
+came_from_fault contents source keyboard list trace old new (play.Write written) h = (h.1.0, h.1.1)
 came_from_fault contents source keyboard list trace old new (play.Memory e) h = h.0
 
 pub came_to : {W : Type 0} (contents : W → Option (List ℕ)) (source keyboard : List ℕ) (list : List Choice) (trace : Bool) (old new : Counted W) (r : Result Played PlayFault)
     → IfOk r (λ played. Wrote contents (IsAnswer source keyboard list trace played) old new)
     → IfErr r (AfterFault contents (IsSomeAnswer source keyboard list trace) source old new)
     → CameTo source keyboard list trace r
-came_to contents source keyboard list trace old new (Ok played) h g = (h.0, h.1.0)
+came_to contents source keyboard list trace old new (Ok played) h g = (h.0, h.1)
 came_to contents source keyboard list trace old new (Err f) h g = came_from_fault contents source keyboard list trace old new f g

@@ -1,18 +1,20 @@
 //! The program around `play`: what it reads and prints, and its exit status.
-ghost use Rattle.std.specs.Prelude.{◌≡◌, ◌≢◌, ◌≤◌, ◌⊎◌, IfOk, IfSome, take};
+ghost use Rattle.std.specs.Prelude.{◌≡◌, ◌≢◌, ◌≤◌, ◌<◌, ◌-◌, ◌^◌, ◌⊎◌, IfOk, IfSome, take};
 ghost use Rattle.std.specs.IoError.{error_kind};
 ghost use Rattle.clap.specs.Values.{kind_of};
-ghost use Rattle.occ_play.specs.Coming.{IsStatusOf};
+ghost use Rattle.occ_play.specs.Coming.{CameTo, IsStatusOf};
+ghost use Rattle.occ_play.specs.Counting.{failures_of};
 ghost use Rattle.occ_play.specs.Failures.{failure_status};
 ghost use Rattle.occ_play.specs.Plans.{choices_of};
 
 use crate::counted::Counted;
 use crate::ending::Plan;
-use crate::playing::{play, status_of};
+use crate::fault::PlayFault;
+use crate::playing::{Played, play, status_of};
 use crate::words::{Words, read_words};
 use clap::error::ErrorKind as WordsErrorKind;
 use std::alloc::{AllocError, Global};
-use std::io::{ErrorKind, Read};
+use std::io::{ErrorKind, Read, Write};
 use std::rt::{Env, Files};
 use std::{env, fs, io};
 use thiserror::Error;
@@ -113,20 +115,33 @@ fn run_inputs<R: Print + Eprint>(rt: &R, alloc: Global, words: &Words<'_>, input
     ensures came { IsStatusOf inputs.now.source.items inputs.now.keyboard.items (choices_of (Plan.Turns words.now.limit)) words.now.trace result }
     ensures small { result ≤ 7 }
 {
-    let plan = Plan::Turns(words.limit);
     let mut out = Counted::new(io::writer(rt));
-    let played = play(
+    let played = play_inputs(alloc, words, inputs, &mut out);
+    if let Err(fault) = &played {
+        let _ = eprintln!(rt; "{fault}");
+    }
+    status_of(&played)
+}
+
+/// Plays the source for the turns that the words allow.
+fn play_inputs<W: Write>(
+    alloc: Global,
+    words: &Words<'_>,
+    inputs: &Inputs,
+    out: &mut Counted<W>,
+) -> Result<Played, PlayFault>
+    requires room { failures_of out.old < 2 ^ 64 - 1 }
+    ensures { CameTo inputs.now.source.items inputs.now.keyboard.items (choices_of (Plan.Turns words.now.limit)) words.now.trace result }
+{
+    let plan = Plan::Turns(words.limit);
+    play(
         alloc,
         inputs.source.as_slice(),
         inputs.keyboard.as_slice(),
         &plan,
         words.trace,
-        &mut out,
-    );
-    if let Err(fault) = &played {
-        let _ = eprintln!(rt; "{fault}");
-    }
-    status_of(&played)
+        out,
+    )
 }
 
 /// Prints why nothing was played, and answers the exit status. Help goes to standard output, and

@@ -20,7 +20,7 @@ pub new-requires-2 : goal.new-requires-2
 new-requires-2 c =
     let lines = rows c.args.source.now.lines.items in
     let read : text_term lines ≡ Some (term_of c.in_ok-term.term) = ap (λ (ls : List Line). text_term (rows ls)) (sym c.deref.ensures.value) ∙ c.in_ok-term.ensures in
-    well_formed lines (record { term = c.in_ok-term.term; cells = c.new.result.items; channels = c.in_ok-channels.channels.items }) (text_sound lines (term_of c.in_ok-term.term) read) c.in_ok-channels.ensures
+    well_formed lines (record { term = c.in_ok-term.term; cells = c.new.result.items; channels = c.in_ok-channels.channels.items }) (text_sound lines (term_of c.in_ok-term.term) read) c.new.ensures.items c.in_ok-channels.ensures
 
 pub returns-clause-found : goal.returns-clause-found
 returns-clause-found c =
