@@ -1,0 +1,2 @@
+//! The unfolding of a tree: names, types, protocols, calls and replicators.
+#![tactic(auto)]
