@@ -11,3 +11,5 @@ pub mod Actions
 pub mod Performing
 pub mod Recursion
 pub mod Programs
+pub mod Unfolding
+pub mod ProgramUnfolding
