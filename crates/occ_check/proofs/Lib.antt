@@ -4,3 +4,4 @@ pub mod Sound
 pub mod SoundParts
 pub mod SoundTree
 pub mod Complete
+pub mod Computed

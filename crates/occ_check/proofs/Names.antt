@@ -1,7 +1,7 @@
 -- Names stand for the same in a scope and in the scope with meanings.
-use Rattle.std.proofs.Common.{◌≡◌, ℕ, List, [], ◌∷◌, Bool, true, false, cond, bytes_eq, Option, Some, None, refl, ap, subst, sym}
+use Rattle.std.proofs.Common.{◌≡◌, [], ◌∷◌, Bool, true, false, cond, bytes_eq, Option, Some, None, refl, ap, subst, sym}
 use Rattle.occ_tree.specs.Many.{◌>>=◌}
-use Rattle.occ_check.specs.Scope.{Name, Names, Known, Pairs, Binding, known, proc, Scope, find, as_known, names_of, within}
+use Rattle.occ_check.specs.Scope.{Name, Names, Pairs, Binding, known, proc, find, as_known, names_of, within}
 use Rattle.occ_check.specs.Performing.{Calling}
 use Rattle.occ_check.specs.Unfolding.{Procedure, Procedures, found, meant, meaning_of}
 

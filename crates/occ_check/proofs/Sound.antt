@@ -1,31 +1,24 @@
 -- What the recursion answers is an unfolding: each construct, from its parts.
-use Rattle.std.proofs.Common.{◌≡◌, ℕ, zero, suc, ◌+◌, List, [], ◌∷◌, ◌++◌, Bool, true, false, cond, bytes_eq, Option, Some, None, refl, ap, sym, subst}
+use Rattle.std.proofs.Common.{◌≡◌, ℕ, zero, suc, ◌+◌, [], ◌∷◌, Bool, true, false, cond, bytes_eq, Option, Some, None, refl, ap, sym, subst}
 use Rattle.std.specs.Prelude.{ℤ, pos, ◌+ℤ◌}
 use Rattle.occ_tree.specs.Many.{◌>>=◌}
-use Rattle.occ_tree.specs.Expressions.Trees.{Expression}
 use Rattle.occ_tree.specs.Lines.Trees as L
 use Rattle.occ_tree.specs.Lines.Trees.{Var, Actuals, Formals}
-use Rattle.occ_tree.specs.Lines.Heads.{Action, act, skip, stop, assign, input, output, call, ProcessHead, input_variants, sequence, parallel, alternation, conditional, selection, loop, ChoiceHead, chosen, nested_conditional, values, otherwise, Guard, on_input, on_skip, ArmHead, guarded, guarded_variants, nested_alternation, tag}
-use Rattle.occ_tree.specs.Processes.Trees.{process, choice, option, arm, variant, under, Node, node, Body, no_body, single_body, bodies, Nodes, Decls, Decl}
-use Rattle.occ_term.specs.declared.primitive.Primitive.{Primitive}
-use Rattle.occ_term.specs.declared.primitive.Primitive.TheVariants.{Bool as Boolean}
-use Rattle.occ_term.specs.declared.protocol.Protocol.{Protocol}
-use Rattle.occ_term.specs.Messages.{parts_after}
+use Rattle.occ_tree.specs.Lines.Heads.{Action, act, skip, stop, assign, input, output, call, ProcessHead, sequence, parallel}
+use Rattle.occ_tree.specs.Processes.Trees.{process, under, Node, node, Body, no_body, single_body, bodies, Nodes, Decls}
 use Rattle.occ_term.specs.Terms as T
 use Rattle.occ_term.specs.Terms.{Term, Terms, Branches, Arms, Choices, Variants, Options}
 use Rattle.occ_term.specs.Sizes as Sizes
 use Rattle.occ_term.specs.Sizes.{no_size, size_of, size_of_expression, size_of_place, size_of_targets, size_of_constants}
-use Rattle.occ_check.specs.Scope.{each_of, Name, Names, Pairs, Binding, known, proc, as_proc, Scope, find, names_of, within}
+use Rattle.occ_check.specs.Scope.{Name, Pairs, Binding, known, proc, as_proc, names_of, within}
 use Rattle.occ_check.specs.Numbers.{Numbers, more_processes, room}
-use Rattle.occ_check.specs.Expressions.{typed_as, constant_as}
-use Rattle.occ_check.specs.Items.{channel_of, stored}
-use Rattle.occ_check.specs.Declarations.{Opened, indexed, copies_of, index_of}
+use Rattle.occ_check.specs.Declarations.{indexed, copies_of, index_of}
 use Rattle.occ_check.specs.Calls.{formals_of, bound}
 use Rattle.occ_check.specs.Actions as A
 use Rattle.occ_check.specs.Actions.{headed, opening, taken, assigned, received, as_input, size_of_list, test_of, with_tags, selector, Chosen, none_chosen, choosing, choosing_else}
-use Rattle.occ_check.specs.Performing.{Under, Calling, Entered, entered, Declaring, calling, behind, acted, sequenced, each_sequenced, beside, copied, copies_beside, alternated, conditioned, selected, looped, taken_by_variant, arms_under, arm_of, variants_arm, each_of_arms, choices_under, choice_of, each_of_choices, variant_of, option_of, else_of}
+use Rattle.occ_check.specs.Performing.{Under, Calling, Entered, entered, Declaring, behind, acted, sequenced, each_sequenced, beside, copied, copies_beside}
 use Rattle.occ_check.specs.Recursion.{unfolded, all_declared}
-use Rattle.occ_check.specs.Unfolding.{Procedure, procedure, Procedures, found, entered_by, DeclaresItem, declares_value, declares_protocol, declares_procedure, Declares, declares_names, declares_item, DeclareAll, no_declaration, one_declaration, Unfolding, unfolds, Performs, skips, stops, assigns, inputs, outputs, calls, takes_variants, sequences, replicates_sequence, runs_beside, replicates_branch, alternates, replicates_alternation, conditions, replicates_conditional, selects, loops, InTurn, no_process, one_process, Beside, no_branch, one_branch, Copies, no_copy, one_copy, Arm, behind_arm, Offers, awaits, is_ready, awaits_variants, nests_arms, replicates_arm, EachArm, under_index, AllArms, no_arm, one_arm, Choice, behind_choice, Tests, tests, nests_choices, replicates_choice, EachChoice, under_choice_index, AllChoices, no_choice, one_choice, Variant, takes, AllVariants, no_variant, one_variant, OneOption, is_one_of, is_none_of, AllOptions, no_option, one_option, meaning_of, meant}
+use Rattle.occ_check.specs.Unfolding.{Procedure, procedure, Procedures, found, DeclareAll, Unfolding, unfolds, Performs, skips, stops, assigns, inputs, outputs, calls, sequences, replicates_sequence, runs_beside, replicates_branch, InTurn, Beside, Copies, no_copy, one_copy, meant}
 use Rattle.occ_check.proofs.Steps.{bind_some, some_is}
 use Rattle.occ_check.proofs.Names.{plain, meant_within, found_means, means_of}
 

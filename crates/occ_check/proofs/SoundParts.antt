@@ -1,12 +1,11 @@
 -- What the recursion answers is an unfolding: the parts of ALTs, IFs, CASEs and inputs of variants, and what they stand in.
-use Rattle.std.proofs.Common.{◌≡◌, ℕ, zero, suc, ◌+◌, List, [], ◌∷◌, ◌++◌, Bool, true, false, cond, bytes_eq, Option, Some, None, refl, ap, sym, subst}
-use Rattle.std.specs.Prelude.{ℤ, pos, ◌+ℤ◌}
+use Rattle.std.proofs.Common.{◌≡◌, ℕ, ◌+◌, List, [], ◌∷◌, Bool, Option, Some, None, subst}
 use Rattle.occ_tree.specs.Many.{◌>>=◌}
 use Rattle.occ_tree.specs.Expressions.Trees.{Expression}
 use Rattle.occ_tree.specs.Lines.Trees as L
 use Rattle.occ_tree.specs.Lines.Trees.{Var, Actuals, Formals}
-use Rattle.occ_tree.specs.Lines.Heads.{Action, act, skip, stop, assign, input, output, call, ProcessHead, input_variants, sequence, parallel, alternation, conditional, selection, loop, ChoiceHead, chosen, nested_conditional, values, otherwise, Guard, on_input, on_skip, ArmHead, guarded, guarded_variants, nested_alternation, tag}
-use Rattle.occ_tree.specs.Processes.Trees.{process, choice, option, arm, variant, under, Node, node, Body, no_body, single_body, bodies, Nodes, Decls, Decl}
+use Rattle.occ_tree.specs.Lines.Heads.{input_variants, alternation, conditional, selection, loop, ChoiceHead, chosen, values, otherwise, Guard, on_input, on_skip, ArmHead, guarded, guarded_variants, tag}
+use Rattle.occ_tree.specs.Processes.Trees.{process, choice, option, arm, variant, under, Node, node, Body, single_body, bodies, Nodes, Decls}
 use Rattle.occ_term.specs.declared.primitive.Primitive.{Primitive}
 use Rattle.occ_term.specs.declared.primitive.Primitive.TheVariants.{Bool as Boolean}
 use Rattle.occ_term.specs.declared.protocol.Protocol.{Protocol}
@@ -15,22 +14,19 @@ use Rattle.occ_term.specs.Terms as T
 use Rattle.occ_term.specs.Terms.{Term, Terms, Branches, Arms, Choices, Variants, Options}
 use Rattle.occ_term.specs.Sizes as Sizes
 use Rattle.occ_term.specs.Sizes.{no_size, size_of, size_of_expression, size_of_place, size_of_targets, size_of_constants}
-use Rattle.occ_check.specs.Scope.{each_of, Name, Names, Pairs, Binding, known, proc, as_proc, Scope, find, names_of, within}
-use Rattle.occ_check.specs.Numbers.{Numbers, more_processes, room}
+use Rattle.occ_check.specs.Scope.{each_of, Name, names_of, within}
+use Rattle.occ_check.specs.Numbers.{Numbers, room}
 use Rattle.occ_check.specs.Expressions.{typed_as, constant_as}
 use Rattle.occ_check.specs.Items.{channel_of, stored}
-use Rattle.occ_check.specs.Declarations.{Opened, indexed, copies_of, index_of}
-use Rattle.occ_check.specs.Calls.{formals_of, bound}
-use Rattle.occ_check.specs.Actions as A
-use Rattle.occ_check.specs.Actions.{headed, opening, taken, assigned, received, as_input, size_of_list, test_of, with_tags, selector, Chosen, none_chosen, choosing, choosing_else}
-use Rattle.occ_check.specs.Performing.{Under, Calling, Entered, entered, Declaring, calling, behind, acted, sequenced, each_sequenced, beside, copied, copies_beside, alternated, conditioned, selected, looped, taken_by_variant, arms_under, arm_of, variants_arm, each_of_arms, choices_under, choice_of, each_of_choices, variant_of, option_of, else_of}
-use Rattle.occ_check.specs.Unfolding.{Procedure, procedure, Procedures, found, entered_by, DeclaresItem, declares_value, declares_protocol, declares_procedure, Declares, declares_names, declares_item, DeclareAll, no_declaration, one_declaration, Unfolding, unfolds, Performs, skips, stops, assigns, inputs, outputs, calls, takes_variants, sequences, replicates_sequence, runs_beside, replicates_branch, alternates, replicates_alternation, conditions, replicates_conditional, selects, loops, InTurn, no_process, one_process, Beside, no_branch, one_branch, Copies, no_copy, one_copy, Arm, behind_arm, Offers, awaits, is_ready, awaits_variants, nests_arms, replicates_arm, EachArm, under_index, AllArms, no_arm, one_arm, Choice, behind_choice, Tests, tests, nests_choices, replicates_choice, EachChoice, under_choice_index, AllChoices, no_choice, one_choice, Variant, takes, AllVariants, no_variant, one_variant, OneOption, is_one_of, is_none_of, AllOptions, no_option, one_option, meaning_of, meant}
+use Rattle.occ_check.specs.Declarations.{indexed}
+use Rattle.occ_check.specs.Actions.{received, size_of_list, test_of, with_tags, selector, Chosen, none_chosen, choosing, choosing_else}
+use Rattle.occ_check.specs.Performing.{Under, Calling, Entered, alternated, conditioned, selected, looped, taken_by_variant, arms_under, arm_of, variants_arm, each_of_arms, choices_under, choice_of, each_of_choices, variant_of, option_of, else_of}
+use Rattle.occ_check.specs.Unfolding.{Procedures, DeclareAll, Unfolding, Performs, takes_variants, alternates, replicates_alternation, conditions, replicates_conditional, selects, loops, Arm, behind_arm, Offers, awaits, is_ready, awaits_variants, EachArm, under_index, AllArms, Choice, behind_choice, Tests, tests, EachChoice, under_choice_index, AllChoices, Variant, takes, AllVariants, OneOption, is_one_of, is_none_of, AllOptions, meant}
 use Rattle.occ_check.proofs.Steps.{bind_some, some_is}
-use Rattle.occ_check.proofs.Names.{plain, meant_within, found_means, means_of}
-
-use Rattle.occ_check.specs.Actions.{arms_behind, choices_behind, as_reception, depth_behind}
+use Rattle.occ_check.proofs.Names.{plain}
+use Rattle.occ_check.specs.Actions.{arms_behind, choices_behind, depth_behind}
 use Rattle.occ_check.specs.Recursion.{all_declared}
-use Rattle.occ_check.proofs.Sound.{AllSound, Sound, inside, DeclaringSound, Performing}
+use Rattle.occ_check.proofs.Sound.{Sound, inside, DeclaringSound, Performing}
 
 pub alternated_sound : (line : ℕ) (pri : Bool) (xs : Nodes arm) (f : Under Arms) → Sound f (λ sc depth n arms m. AllArms sc depth n xs arms m)
     → Sound (alternated pri f) (Performing line (alternation pri None) (bodies xs))

@@ -1,24 +1,24 @@
 -- What the recursion answers is an unfolding: the whole tree, and whole programs.
-use Rattle.std.proofs.Common.{◌≡◌, ℕ, ◌+◌, List, [], ◌∷◌, ◌++◌, Option, Some, None, refl, ap, sym, subst, ◌∙◌}
+use Rattle.std.proofs.Common.{◌≡◌, ℕ, List, [], ◌∷◌, ◌++◌, Option, Some, None, refl, ap, sym, subst, ◌∙◌}
 use Rattle.occ_tree.specs.Many.{◌>>=◌}
 use Rattle.occ_tree.specs.Lines.Heads.{act, input_variants, sequence, parallel, alternation, conditional, selection, loop, chosen, nested_conditional, values, otherwise, guarded, guarded_variants, nested_alternation, tag}
 use Rattle.occ_tree.specs.Processes.Trees.{process, choice, option, arm, variant, Node, node, no_body, single_body, bodies, Nodes, no_node, more_nodes, Decls, no_decl, more_decls, Decl, declares, item, Item, value_item, protocol_item, proc_item}
 use Rattle.occ_term.specs.declared.primitive.Primitive.{Primitive}
 use Rattle.occ_term.specs.declared.protocol.Protocol.{Protocol}
-use Rattle.occ_term.specs.Terms.{Term, Terms, Branches, Arms, Choices, Variants, Options}
-use Rattle.occ_check.specs.Scope.{Name, Pairs, known, proc, names_of, within}
+use Rattle.occ_term.specs.Terms.{Term}
+use Rattle.occ_check.specs.Scope.{Pairs, known, proc, within}
 use Rattle.occ_check.specs.Numbers.{Numbers, at_start, more_processes}
 use Rattle.occ_check.specs.Declarations.{Opened, names_declared, value_declared, protocol_declared}
 use Rattle.occ_check.specs.Actions.{headed, opening, new_tag, Chosen, none_chosen}
-use Rattle.occ_check.specs.Performing.{Under, Calling, Entered, entered, Declaring, within_names, calling, acted, sequenced, each_sequenced, beside, copies_beside, alternated, conditioned, selected, looped, taken_by_variant, arm_of, variants_arm, each_of_arms, choice_of, each_of_choices}
+use Rattle.occ_check.specs.Performing.{Calling, Entered, entered, within_names, acted, sequenced, each_sequenced, beside, copies_beside, alternated, conditioned, selected, looped, taken_by_variant, arm_of, variants_arm, each_of_arms, choice_of, each_of_choices}
 use Rattle.occ_check.specs.Recursion.{variant_tag, unfolded, all_in_turn, all_beside, arm_unfolded, all_arms, choice_unfolded, all_choices, variant_unfolded, all_variants, option_unfolded, all_options, all_declared, declared, item_declared}
 use Rattle.occ_check.specs.Programs.{main_of, main_names, channels_from, items_declared, program_unfolded}
 use Rattle.occ_check.specs.ProgramUnfolding.{DeclareItems, no_item, one_item, ProgramUnfolding, program}
-use Rattle.occ_check.specs.Unfolding.{Procedure, procedure, Procedures, found, entered_by, DeclaresItem, declares_value, declares_protocol, declares_procedure, Declares, declares_names, declares_item, DeclareAll, no_declaration, one_declaration, Unfolding, unfolds, Performs, skips, stops, assigns, inputs, outputs, calls, takes_variants, sequences, replicates_sequence, runs_beside, replicates_branch, alternates, replicates_alternation, conditions, replicates_conditional, selects, loops, InTurn, no_process, one_process, Beside, no_branch, one_branch, Copies, no_copy, one_copy, Arm, behind_arm, Offers, awaits, is_ready, awaits_variants, nests_arms, replicates_arm, EachArm, under_index, AllArms, no_arm, one_arm, Choice, behind_choice, Tests, tests, nests_choices, replicates_choice, EachChoice, under_choice_index, AllChoices, no_choice, one_choice, Variant, takes, AllVariants, no_variant, one_variant, OneOption, is_one_of, is_none_of, AllOptions, no_option, one_option, meaning_of, meant}
+use Rattle.occ_check.specs.Unfolding.{Procedure, procedure, Procedures, entered_by, DeclaresItem, declares_value, declares_protocol, declares_procedure, Declares, declares_names, declares_item, DeclareAll, no_declaration, one_declaration, Unfolding, InTurn, no_process, one_process, Beside, no_branch, one_branch, Arm, nests_arms, replicates_arm, AllArms, no_arm, one_arm, Choice, nests_choices, replicates_choice, AllChoices, no_choice, one_choice, Variant, AllVariants, no_variant, one_variant, AllOptions, no_option, one_option, meant}
 use Rattle.occ_check.proofs.Steps.{bind_some, some_is}
 use Rattle.occ_check.proofs.Names.{plain, meant_within}
-use Rattle.occ_check.proofs.Sound.{IsSound, AllSound, sound_within, Sound, inside, Enters, DeclaringSound, Performing, behind_sound, acted_sound, sequenced_sound, each_sequenced_sound, beside_sound, copies_sound}
-use Rattle.occ_check.proofs.SoundParts.{alternated_sound, each_alternated_sound, conditioned_sound, each_conditioned_sound, selected_sound, looped_sound, taken_by_variant_sound, Offering, arms_under_sound, arm_of_sound, variants_arm_sound, each_arm_sound, Testing, choices_under_sound, choice_of_sound, each_choice_sound, variant_of_sound, Opting, option_of_sound, else_of_sound}
+use Rattle.occ_check.proofs.Sound.{IsSound, AllSound, sound_within, Sound, inside, Enters, DeclaringSound, behind_sound, acted_sound, sequenced_sound, each_sequenced_sound, beside_sound, copies_sound}
+use Rattle.occ_check.proofs.SoundParts.{alternated_sound, each_alternated_sound, conditioned_sound, each_conditioned_sound, selected_sound, looped_sound, taken_by_variant_sound, arms_under_sound, arm_of_sound, variants_arm_sound, each_arm_sound, choices_under_sound, choice_of_sound, each_choice_sound, variant_of_sound, Opting, option_of_sound, else_of_sound}
 
 -- names that are entered, as a scope of PROCs
 names_entered : (D : Procedures → ℕ → Numbers → Entered Procedure → Type 0) (sc : Procedures) → AllSound sc → (depth : ℕ) (n : Numbers) (o : Option Opened) (x : Entered Calling)
@@ -149,9 +149,12 @@ mutual
       let a = bind_some (declared d (meant sc) depth n) (rest_declared ds depth) x e in
       let s = one_declared_sound d sc h depth n a.0 a.1 in
       let b = bind_some (all_declared ds (meant s.0.scope) depth s.0.numbers) _ x (subst (λ y. rest_declared ds depth y ≡ Some x) s.3 a.2) in
-      let r = declared_sound ds s.0.scope s.2 depth s.0.numbers b.0 b.1 in
-      (entered r.0.scope (s.0.heads ++ r.0.heads) r.0.numbers, one_declaration s.1 r.1, r.2,
-      sym (some_is _ x b.2) ∙ ap (λ (y : Entered Calling). entered y.scope (s.0.heads ++ y.heads) y.numbers) r.3)
+      let r = declared_sound ds s.0.scope s.2 depth s.0.numbers b.0 b.1 in (
+        entered r.0.scope (s.0.heads ++ r.0.heads) r.0.numbers,
+        one_declaration s.1 r.1,
+        r.2,
+        sym (some_is _ x b.2) ∙ ap (λ (y : Entered Calling). entered y.scope (s.0.heads ++ y.heads) y.numbers) r.3,
+      )
 
   pub one_declared_sound : (d : Decl) → DeclaringSound (declared d) (λ sc depth n a. Declares sc depth n d a)
   one_declared_sound (declares line es sort v vs) sc h depth n x e =
@@ -192,9 +195,12 @@ items_sound (i ∷ items) sc h depth n x e =
     let a = bind_some (item_declared i (meant sc) depth n) (rest_of_items items depth) x e in
     let s = item_sound i sc h depth n a.0 a.1 in
     let b = bind_some (items_declared items (meant s.0.scope) depth s.0.numbers) _ x (subst (λ y. rest_of_items items depth y ≡ Some x) s.3 a.2) in
-    let r = items_sound items s.0.scope s.2 depth s.0.numbers b.0 b.1 in
-    (entered r.0.scope (s.0.heads ++ r.0.heads) r.0.numbers, one_item s.1 r.1, r.2,
-    sym (some_is _ x b.2) ∙ ap (λ (y : Entered Calling). entered y.scope (s.0.heads ++ y.heads) y.numbers) r.3)
+    let r = items_sound items s.0.scope s.2 depth s.0.numbers b.0 b.1 in (
+      entered r.0.scope (s.0.heads ++ r.0.heads) r.0.numbers,
+      one_item s.1 r.1,
+      r.2,
+      sym (some_is _ x b.2) ∙ ap (λ (y : Entered Calling). entered y.scope (s.0.heads ++ y.heads) y.numbers) r.3,
+    )
 
 abbrev program_rest : Node process → Pairs → Entered Calling → Option (Term × Numbers)
 program_rest body names d = do

@@ -13,3 +13,4 @@ pub mod Recursion
 pub mod Programs
 pub mod Unfolding
 pub mod ProgramUnfolding
+pub mod Examples

@@ -1,6 +1,6 @@
 -- The unfoldings of a whole program, by cases.
 -- Manual: scope; procedures. The main process, and that named values at the top stand before it: (own).
-use Rattle.std.specs.Prelude.{List, Option, Some, [], ℕ, ◌++◌, ◌∷◌, ◌≡◌}
+use Rattle.std.specs.Prelude.{List, Some, [], ℕ, ◌++◌, ◌∷◌, ◌≡◌}
 use Rattle.occ_tree.specs.Processes.Trees.{Item}
 use Rattle.occ_term.specs.Terms.{Term}
 use Rattle.occ_check.specs.Scope.{Name, within}

@@ -17,7 +17,7 @@ use Rattle.occ_term.specs.Terms as T
 use Rattle.occ_term.specs.Terms.{Term, Place, Target, Terms, no_terms, then_term, Branches, no_branches, and_branch, Arms, no_arms, skip_arm, input_arm, each_arm, Tagged, Variants, no_variants, or_variant, Choices, no_choices, or_choice, each_choice, Options, no_options, or_option, or_else}
 use Rattle.occ_term.specs.Sizes as Sizes
 use Rattle.occ_term.specs.Sizes.{no_size, size_of, size_of_expression, size_of_place, size_of_targets, size_of_constants}
-use Rattle.occ_check.specs.Scope.{each_of, Name, Names, Binding, known, proc, Scope, names_of, within}
+use Rattle.occ_check.specs.Scope.{each_of, Name, Binding, known, proc, Scope, names_of, within}
 use Rattle.occ_check.specs.Numbers.{Numbers, more_processes, room}
 use Rattle.occ_check.specs.Expressions.{typed_as, constant_as}
 use Rattle.occ_check.specs.Items.{channel_of, stored}
@@ -25,7 +25,7 @@ use Rattle.occ_check.specs.Declarations.{Opened, names_declared, value_declared,
 use Rattle.occ_check.specs.Calls.{Wanted, formals_of, bound}
 use Rattle.occ_check.specs.Actions as A
 use Rattle.occ_check.specs.Actions.{headed, opening, assigned, received, Listed, as_reception, as_input, size_of_list, depth_behind, test_of, with_tags, new_tag, selector, Chosen, none_chosen, choosing, choosing_else, arms_behind, choices_behind, arms_then, choices_then, variants_then, options_then}
-use Rattle.occ_check.specs.Performing.{Entered, entered, Under, Calling, calling}
+use Rattle.occ_check.specs.Performing.{Entered, entered, Calling, calling}
 use Rattle.occ_check.specs.Recursion.{unfolded, variant_tag}
 
 -- a PROC: the line of its declaration, its formals and its body
