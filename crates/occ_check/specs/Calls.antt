@@ -74,33 +74,33 @@ as_named (alone (variable x es)) = Some (x, es)
 as_named e = None
 
 -- subscripts that are evaluated, the sizes that they leave, the Locals that hold them, and the numbers then
-pub record Entered : Type 0 where
+pub record Evaluated : Type 0 where
   pub subscripts : Subscripts
   pub left : List ℕ
   pub heads : List Declaration
   pub numbers : Numbers
 
-abbrev pub entered : Subscripts → List ℕ → List Declaration → Numbers → Entered
-entered subs left heads n = record { subscripts = subs; left = left; heads = heads; numbers = n }
+abbrev pub evaluated : Subscripts → List ℕ → List Declaration → Numbers → Evaluated
+evaluated subs left heads n = record { subscripts = subs; left = left; heads = heads; numbers = n }
 
 -- (refusal: subscript) A constant one stands as its value. Any other is evaluated into a cell, and compared with its size at each use.
-abbrev pub one_entered : Name → ℕ → ℕ → T.Expression → Option ℤ → Numbers → Option Entered
-one_entered x depth size e (Some v) n = keep (is_within (Some v) size) (entered (then_subscript (Constant v) no_subscripts) [] [] n)
-one_entered x depth size e None n = do
+abbrev pub one_evaluated : Name → ℕ → ℕ → T.Expression → Option ℤ → Numbers → Option Evaluated
+one_evaluated x depth size e (Some v) n = keep (is_within (Some v) size) (evaluated (then_subscript (Constant v) no_subscripts) [] [] n)
+one_evaluated x depth size e None n = do
   m ← more_cells Int x [] n
   o ← room depth (size_of_declaration (Naming (length n.cells) (OfOne Int e))) m
-  Some (entered (then_subscript (Cell (length n.cells)) no_subscripts) [] (Naming (length n.cells) (OfOne Int e) ∷ []) o)
+  Some (evaluated (then_subscript (Cell (length n.cells)) no_subscripts) [] (Naming (length n.cells) (OfOne Int e) ∷ []) o)
 
 -- (refusal: wrong type, where there are more subscripts than sizes) from left to right
-unfoldable pub all_entered : Name → ℕ → Subscripts → List ℕ → Numbers → Option Entered
-all_entered x depth no_subscripts sizes n = Some (entered no_subscripts sizes [] n)
-all_entered x depth (then_subscript e es) [] n = None
-all_entered x depth (then_subscript e es) (size ∷ sizes) n = do
-  a ← one_entered x depth size e (constant e) n
-  b ← all_entered x depth es sizes a.numbers
-  Some (entered (joined a.subscripts b.subscripts) b.left (a.heads ++ b.heads) b.numbers)
+unfoldable pub all_evaluated : Name → ℕ → Subscripts → List ℕ → Numbers → Option Evaluated
+all_evaluated x depth no_subscripts sizes n = Some (evaluated no_subscripts sizes [] n)
+all_evaluated x depth (then_subscript e es) [] n = None
+all_evaluated x depth (then_subscript e es) (size ∷ sizes) n = do
+  a ← one_evaluated x depth size e (constant e) n
+  b ← all_evaluated x depth es sizes a.numbers
+  Some (evaluated (joined a.subscripts b.subscripts) b.left (a.heads ++ b.heads) b.numbers)
 
-abbrev pub part_of : Row → Entered → Row
+abbrev pub part_of : Row → Evaluated → Row
 part_of r e = record r { subscripts = joined r.subscripts e.subscripts; left = e.left }
 
 -- unnamed protocols are compared by their part
@@ -130,14 +130,14 @@ actual_of ns line depth x (wants_variable sizes type) e n = do
   k ← ns v.0
   r ← as_variable k
   subs ← typed_subscripts ns line v.1
-  a ← all_entered x depth subs r.1.left n
+  a ← all_evaluated x depth subs r.1.left n
   keep (is_same_type r.0 type && takes_sizes sizes a.left) (one_name x (some_cells assignable r.0 (part_of r.1 a)) a.heads a.numbers)
 actual_of ns line depth x (wants_channels sizes c) e n = do
   v ← as_named e
   k ← ns v.0
   r ← as_channels k
   subs ← typed_subscripts ns line v.1
-  a ← all_entered x depth subs r.1.left n
+  a ← all_evaluated x depth subs r.1.left n
   keep (is_same_carried c r.0 && takes_sizes sizes a.left) (one_name x (some_channels r.0 (part_of r.1 a)) a.heads a.numbers)
 
 -- (refusal: arguments) as many actuals as formals, from left to right

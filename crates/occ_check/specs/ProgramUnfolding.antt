@@ -3,6 +3,7 @@
 use Rattle.std.specs.Prelude.{List, Some, [], ℕ, ◌++◌, ◌∷◌, ◌≡◌}
 use Rattle.occ_tree.specs.Processes.Trees.{Item}
 use Rattle.occ_term.specs.Terms.{Term}
+use Rattle.occ_term.specs.Unfolding as Unfolded
 use Rattle.occ_check.specs.Scope.{Name, within}
 use Rattle.occ_check.specs.Numbers.{Numbers, at_start}
 use Rattle.occ_check.specs.Actions.{headed, opening}
@@ -22,3 +23,7 @@ pub data ProgramUnfolding : List Item → Term → Numbers → Type 0 where
       → main_of items ≡ Some main → main_names main.formals ≡ Some xs → DeclareItems [] 1 at_start main.before d
       → opening d.heads 0 d.numbers ≡ Some (deep, m) → Unfolding (within (channels_from 0 xs) d.scope) deep m main.body t l
       → ProgramUnfolding items (headed d.heads t) l
+
+-- the same as a program with the cells and channels that it declares
+abbrev pub UnfoldsTo : List Item → Unfolded.Unfolding → Type 0
+UnfoldsTo items u = (m : Numbers) × ProgramUnfolding items (Unfolded.meaning u) m × (m.cells ≡ u.cells) × (m.channels ≡ u.channels)
