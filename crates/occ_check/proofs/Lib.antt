@@ -5,3 +5,5 @@ pub mod SoundParts
 pub mod SoundTree
 pub mod Complete
 pub mod Computed
+pub mod Counting
+pub mod CountingTree

@@ -14,3 +14,4 @@ pub mod Programs
 pub mod Unfolding
 pub mod ProgramUnfolding
 pub mod Examples
+pub mod Counting

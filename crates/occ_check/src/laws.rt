@@ -3,7 +3,9 @@
 ghost use Rattle.std.specs.Prelude.{List, Some, ℕ, ◌≡◌};
 ghost use Rattle.occ_tree.specs.Processes.Trees.{process, Node, Item};
 ghost use Rattle.occ_term.specs.Terms.{Term};
-ghost use Rattle.occ_check.specs.Numbers.{Numbers};
+ghost use Rattle.occ_term.specs.Sizes.{size_of};
+ghost use Rattle.occ_check.specs.Counting.{Counted};
+ghost use Rattle.occ_check.specs.Numbers.{Numbers, at_start};
 ghost use Rattle.occ_check.specs.Programs.{program_unfolded};
 ghost use Rattle.occ_check.specs.ProgramUnfolding.{ProgramUnfolding};
 ghost use Rattle.occ_check.specs.Recursion.{unfolded};
@@ -27,4 +29,10 @@ pub fn program_sound()
 /// The same of whole programs.
 pub fn program_complete()
     ensures { (items : List Item) (t : Term) (m : Numbers) → ProgramUnfolding items t m → program_unfolded items ≡ Some (t, m) }
+{}
+
+/// The nodes that are counted are those of the term, and none stands deeper than may be.
+pub fn counted()
+    ensures part { (sc : Procedures) (depth : ℕ) (n m : Numbers) (p : Node process) (t : Term) → Unfolding sc depth n p t m → Counted depth (size_of t) n m }
+    ensures whole { (items : List Item) (t : Term) (m : Numbers) → ProgramUnfolding items t m → Counted 0 (size_of t) at_start m }
 {}
