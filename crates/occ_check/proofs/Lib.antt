@@ -7,3 +7,4 @@ pub mod Complete
 pub mod Computed
 pub mod Counting
 pub mod CountingTree
+pub mod TypedExpressions

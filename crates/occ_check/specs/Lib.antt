@@ -15,3 +15,4 @@ pub mod Unfolding
 pub mod ProgramUnfolding
 pub mod Examples
 pub mod Counting
+pub mod Having
