@@ -8,3 +8,5 @@ pub mod Computed
 pub mod Counting
 pub mod CountingTree
 pub mod TypedExpressions
+pub mod Stepping
+pub mod Numbering

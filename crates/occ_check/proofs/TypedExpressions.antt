@@ -1,6 +1,6 @@
 -- Expressions under names that have what is declared have their types.
-use Rattle.std.proofs.Common.{◌≡◌, ℕ, List, [], ◌∷◌, Bool, true, false, cond, IsTrue, Option, Some, None, refl, ap, sym, subst, ◌∙◌}
-use Rattle.std.specs.Prelude.{ℤ, ⊤, ◌&&◌, ◌+◌, length, map, nat_le, nat_lt, pos}
+use Rattle.std.proofs.Common.{◌≡◌, ℕ, List, [], ◌∷◌, Bool, true, false, IsTrue, Option, Some, None, refl, sym, subst}
+use Rattle.std.specs.Prelude.{ℤ, ◌&&◌, ◌+◌, map, nat_le, nat_lt, pos}
 use Rattle.std.proofs.Common.{arith}
 use Rattle.std.proofs.lemmas.Bool.{le-leb, lt-ltb}
 use Rattle.occ_text.specs.Words.{number, byte, text}
@@ -21,12 +21,12 @@ use Rattle.occ_term.specs.Terms as T
 use Rattle.occ_term.specs.Terms.{Constant, Cell, Component, Letter, Binary, Unary, And, Or, Conversion, Subscripts, no_subscripts, then_subscript, Cells, Text}
 use Rattle.occ_term.specs.Values.{span}
 use Rattle.occ_term.specs.Uses.{numbers_in}
-use Rattle.occ_term.specs.Typing.{is_number, is_arithmetic, is_shift, is_equality, is_order, Takes, takes_arithmetic, takes_shift, takes_after, takes_equality, takes_order, CellsHave, HasType, SubscriptsLeave, ArrayHas}
+use Rattle.occ_term.specs.Typing.{is_number, is_arithmetic, is_shift, is_equality, is_order, Takes, takes_arithmetic, takes_shift, takes_after, takes_equality, takes_order, HasType, SubscriptsLeave}
 use Rattle.occ_term.specs.TermTyping.{Declared}
-use Rattle.occ_check.specs.Scope.{keep, Row, Access, Known, a_value, a_string, some_cells, some_channels, a_protocol, Names}
+use Rattle.occ_check.specs.Scope.{keep, Row, Known, a_value, a_string, some_cells, some_channels, a_protocol, Names}
 use Rattle.occ_check.specs.Constants.{constant, is_within}
-use Rattle.occ_check.specs.Operators.{primitive_of, is_same_type, operator_of, result_of, takes_operand}
-use Rattle.occ_check.specs.Expressions.{Typed, single, whole, as_single, of_type, constant_of, are_bytes, string_of, whole_string, typed_literal, joined, left_by, under, place_of, read_one, read_row, read, two_typed, one_typed, logic_of, truth_of, limit_of, typed, typed_chain, typed_operand, typed_subscripts, size_of_operand}
+use Rattle.occ_check.specs.Operators.{primitive_of, is_same_type, operator_of, result_of}
+use Rattle.occ_check.specs.Expressions.{Typed, single, whole, as_single, of_type, constant_of, are_bytes, string_of, whole_string, typed_literal, joined, left_by, under, read_one, read_row, read, two_typed, one_typed, logic_of, truth_of, limit_of, typed, typed_chain, typed_operand, typed_subscripts, size_of_operand}
 use Rattle.occ_check.specs.Having.{RowHas, KnownHas, NamesHave, TypedHas, SubscriptsHave}
 use Rattle.occ_check.proofs.Steps.{bind_some, some_is}
 use Rattle.occ_check.proofs.Counting.{kept, both_true}

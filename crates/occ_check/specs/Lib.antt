@@ -16,3 +16,4 @@ pub mod ProgramUnfolding
 pub mod Examples
 pub mod Counting
 pub mod Having
+pub mod Numbering
