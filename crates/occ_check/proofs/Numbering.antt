@@ -33,12 +33,13 @@ Same n m = m.processes ≡ n.processes
 
 same_processes : Stepping Same
 same_processes = record {
-    same = λ n. refl;
-    chained = λ n m l e g. g ∙ e;
-    by_cells = λ type x sizes n m e. ap (λ (y : Numbers). y.processes) (sym (kept _ _ m e).1);
-    by_channels = λ p x sizes n m e. ap (λ (y : Numbers). y.processes) (sym (kept _ _ m e).1);
-    by_protocols = λ n. refl;
-    by_room = λ depth s n m e. ap (λ (y : Numbers). y.processes) (sym (kept _ _ m e).1) }
+  same = λ n. refl;
+  chained = λ n m l e g. g ∙ e;
+  by_cells = λ type x sizes n m e. ap (λ (y : Numbers). y.processes) (sym (kept _ _ m e).1);
+  by_channels = λ p x sizes n m e. ap (λ (y : Numbers). y.processes) (sym (kept _ _ m e).1);
+  by_protocols = λ n. refl;
+  by_room = λ depth s n m e. ap (λ (y : Numbers). y.processes) (sym (kept _ _ m e).1);
+}
 
 -- ---- lists of processes
 
