@@ -1,0 +1,12 @@
+pub mod Steps
+pub mod Names
+pub mod Sound
+pub mod SoundParts
+pub mod SoundTree
+pub mod Complete
+pub mod Computed
+pub mod Counting
+pub mod CountingTree
+pub mod TypedExpressions
+pub mod Stepping
+pub mod Numbering

@@ -1,0 +1,57 @@
+//! Laws of the definitions, which no code uses.
+
+ghost use Rattle.std.specs.Prelude.{List, Some, ℕ, ◌≡◌};
+ghost use Rattle.occ_tree.specs.Processes.Trees.{process, Node, Item};
+ghost use Rattle.occ_term.specs.Terms.{Term};
+ghost use Rattle.occ_term.specs.Processes.{branches_in, processes_of};
+ghost use Rattle.occ_term.specs.Sizes.{size_of};
+ghost use Rattle.occ_term.specs.Unfolding.{NumberedFrom};
+ghost use Rattle.occ_term.specs.TermTyping.{Declared};
+ghost use Rattle.occ_tree.specs.Expressions.Trees.{Expression};
+ghost use Rattle.occ_check.specs.Counting.{Counted};
+ghost use Rattle.occ_check.specs.Expressions.{Typed, typed};
+ghost use Rattle.occ_check.specs.Having.{NamesHave, TypedHas};
+ghost use Rattle.occ_check.specs.Numbering.{NumberedUpTo};
+ghost use Rattle.occ_check.specs.Numbers.{Numbers, at_start};
+ghost use Rattle.occ_check.specs.Programs.{program_unfolded};
+ghost use Rattle.occ_check.specs.ProgramUnfolding.{ProgramUnfolding};
+ghost use Rattle.occ_check.specs.Recursion.{unfolded};
+ghost use Rattle.occ_check.specs.Scope.{Names};
+ghost use Rattle.occ_check.specs.Unfolding.{Procedures, Unfolding, meant};
+
+/// What the recursion answers is an unfolding.
+pub fn sound()
+    ensures { (sc : Procedures) (depth : ℕ) (n m : Numbers) (p : Node process) (t : Term) → unfolded p (meant sc) depth n ≡ Some (t, m) → Unfolding sc depth n p t m }
+{}
+
+/// Each unfolding is what the recursion answers, so there is one at most.
+pub fn complete()
+    ensures { (sc : Procedures) (depth : ℕ) (n m : Numbers) (p : Node process) (t : Term) → Unfolding sc depth n p t m → unfolded p (meant sc) depth n ≡ Some (t, m) }
+{}
+
+/// The same of whole programs.
+pub fn program_sound()
+    ensures { (items : List Item) (t : Term) (m : Numbers) → program_unfolded items ≡ Some (t, m) → ProgramUnfolding items t m }
+{}
+
+/// The same of whole programs.
+pub fn program_complete()
+    ensures { (items : List Item) (t : Term) (m : Numbers) → ProgramUnfolding items t m → program_unfolded items ≡ Some (t, m) }
+{}
+
+/// The nodes that are counted are those of the term, and none stands deeper than may be.
+pub fn counted()
+    ensures part { (sc : Procedures) (depth : ℕ) (n m : Numbers) (p : Node process) (t : Term) → Unfolding sc depth n p t m → Counted depth (size_of t) n m }
+    ensures whole { (items : List Item) (t : Term) (m : Numbers) → ProgramUnfolding items t m → Counted 0 (size_of t) at_start m }
+{}
+
+/// Processes have their numbers in the order in which they begin in the term.
+pub fn processes_in_order()
+    ensures part { (sc : Procedures) (depth : ℕ) (n m : Numbers) (p : Node process) (t : Term) → Unfolding sc depth n p t m → NumberedUpTo n.processes (branches_in t) m.processes }
+    ensures whole { (items : List Item) (t : Term) (m : Numbers) → ProgramUnfolding items t m → NumberedFrom 0 (processes_of t) }
+{}
+
+/// An expression under names that have what is declared has its type.
+pub fn expressions_have_types()
+    ensures { (d : Declared) (ns : Names) (line : ℕ) (e : Expression) (t : Typed) → NamesHave d ns → typed ns line e ≡ Some t → TypedHas d.types t }
+{}
