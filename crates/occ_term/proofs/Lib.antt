@@ -6,3 +6,5 @@ pub mod FirstRuns
 pub mod OneResult
 pub mod LawfulTerms
 pub mod Meetings
+pub mod UseSets
+pub mod Rows

@@ -14,6 +14,8 @@ pub mod TermTyping
 pub mod Frames
 pub mod View
 pub mod Unfolding
+pub mod Clashes
+pub mod Noted
 pub mod Sizes
 pub mod Processes
 pub mod Examples

@@ -16,7 +16,7 @@ pub mod primitive;
 pub mod protocol;
 pub mod term;
 pub mod unfolded;
-//pub mod usage;
+pub mod usage;
 
 pub use expression::{
     Array, Declaration, Item, Monadic, Operator, Place, Replicator, Target, TermExpr,

@@ -1,0 +1,80 @@
+-- Uses as the code notes them: a list, each of cells or channels in a row.
+-- Manual: nothing; this is (own).
+use Rattle.std.specs.Prelude.{Bool, List, None, Option, Some, [], false, length, map, nat_le, nat_lt, true, ℕ, ℤ, ◌&&◌, ◌*◌, ◌+◌, ◌/◌, ◌||◌, ◌∷◌, ◌≡◌, ◌⊎◌}
+use Rattle.occ_term.specs.Terms.{Place, place}
+use Rattle.occ_term.specs.Messages.{product}
+use Rattle.occ_term.specs.Values.{Evaluated, Value, Fails, Span, span}
+use Rattle.occ_term.specs.Uses.{Numbers, Uses, no_use, with_use, reading, writing, inputting, outputting, part_named, numbers_in}
+use Rattle.occ_term.specs.Clashes.{Clash, shared_variable, two_inputs, two_outputs}
+use Rattle.occ_term.specs.declared.usage.noted.Use.{Use}
+use Rattle.occ_term.specs.declared.usage.noted.Kind.{Kind}
+use Rattle.occ_term.specs.declared.usage.noted.Kind.TheVariants.{Read, Write, Input, Output}
+use Rattle.occ_term.specs.declared.usage.noted.Rule.{Rule}
+use Rattle.occ_term.specs.declared.usage.noted.Rule.TheVariants.{Variables, Inputs, Outputs}
+use Rattle.occ_term.specs.declared.usage.noted.Found.{Found}
+use Rattle.occ_term.specs.declared.usage.places.Row.{Row}
+
+abbrev pub between : ℕ → ℕ → Numbers
+between first end = λ c. nat_le first c && nat_lt c end
+
+abbrev pub use_of : Kind → Numbers → Uses
+use_of Read s = reading s
+use_of Write s = writing s
+use_of Input s = inputting s
+use_of Output s = outputting s
+
+abbrev pub uses_in : List Use → Uses
+uses_in [] = no_use
+uses_in (u ∷ us) = with_use (use_of u.kind (between u.first u.end)) (uses_in us)
+
+-- what is noted after, beyond what was before
+pub record Adds (before : List Use) (more : Uses) (after : List Use) : Type 0 where
+  pub is : uses_in after ≡ with_use (uses_in before) more
+
+-- the uses of all lists
+abbrev pub uses_in_all : List (List Use) → Uses
+uses_in_all [] = no_use
+uses_in_all (l ∷ ls) = with_use (uses_in l) (uses_in_all ls)
+
+-- what a place names with its constant subscripts
+abbrev pub span_named : Place → Span
+span_named (place line first sizes subs) = part_named subs first sizes (span first (product sizes))
+
+-- the components of one subscript among those of a row: none where it isn't constant
+abbrev pub on_component : Option ℕ → Row → ℕ → Option Row
+on_component None row size = None
+on_component (Some i) row size = Some (record { first = row.first + i * (row.count / size); count = row.count / size })
+
+abbrev pub constant_of : Evaluated ℤ → Option ℤ
+constant_of (Value v) = Some v
+constant_of (Fails e) = None
+
+-- what breaks a rule at a number
+abbrev pub breaking : Rule → ℕ → Clash
+breaking Variables = shared_variable
+breaking Inputs = two_inputs
+breaking Outputs = two_outputs
+
+-- what is found says whether there is a clash, and which
+pub record Finds (found : Option Found) (clashes : Clash → Bool) : Type 0 where
+  pub none : found ≡ None → (rule : Rule) (number : ℕ) → clashes (breaking rule number) ≡ false
+  pub some : (f : Found) → found ≡ Some f → clashes (breaking f.rule f.number) ≡ true
+
+-- the same after what was found before
+pub record FindsAfter (before found : Option Found) (clashes : Clash → Bool) : Type 0 where
+  pub none : found ≡ None → (before ≡ None) × ((rule : Rule) (number : ℕ) → clashes (breaking rule number) ≡ false)
+  pub some : (f : Found) → found ≡ Some f → (before ≡ Some f) ⊎ (clashes (breaking f.rule f.number) ≡ true)
+
+-- one of two, and where there is one at all, one
+pub record IsOneOf (found a b : Option Found) : Type 0 where
+  pub none : found ≡ None → (a ≡ None) × (b ≡ None)
+  pub one : (found ≡ a) ⊎ (found ≡ b)
+
+-- of branches in a row: one, and a later one
+abbrev pub with_one : Clash → Uses → List (List Use) → Bool
+with_one clash a [] = false
+with_one clash a (b ∷ bs) = clash a (uses_in b) || with_one clash a bs
+
+abbrev pub clash_among : List (List Use) → Clash → Bool
+clash_among [] clash = false
+clash_among (a ∷ bs) clash = with_one clash (uses_in a) bs || clash_among bs clash

@@ -1,0 +1,9 @@
+//! The usage rules.
+//!
+//! At each PAR, a variable that one branch writes is used in no other branch, and a channel is input
+//! from in at most one branch and output to in at most one. The keyboard, the screen and the error
+//! channel count as branches beside the program.
+
+mod expressions;
+mod noted;
+mod places;
