@@ -4,10 +4,11 @@ use Rattle.std.specs.Prelude.{Option, Some, None, if◌then◌else◌, ◌&&◌,
 use Rattle.std.proofs.Math.Nat.{mul-le-mul_right, mul-suc, suc-mul, mul-div_cancel_left}
 use Rattle.std.proofs.Math.Seq.{drop-cons}
 use Rattle.std.proofs.lemmas.Bool.Decides.{nat_tests}
+use Rattle.std.proofs.lemmas.List.{drop_all, length-map}
 use Rattle.occ_term.specs.Terms as T
 use Rattle.occ_term.specs.Messages.{product}
 use Rattle.occ_term.specs.Values.{Evaluated, Value, Fails, Span, span, value_of}
-use Rattle.occ_term.specs.Uses.{constant_subscript, is_constant, on_index, part_named, subscript_value}
+use Rattle.occ_term.specs.Uses.{constant_subscript, components, components_of, is_constant, on_index, part_named, subscript_value}
 use Rattle.occ_term.specs.Noted.{on_component, span_named}
 use Rattle.occ_term.specs.View.{expression_of, place_of, subscripts}
 use Rattle.occ_term.specs.declared.expression.TermExpr.{TermExpr, the_lemmas}
@@ -97,3 +98,22 @@ names_next place whole k sizes others row part x size lt is e names gives = by (
       let there : record { first = row.first + i * product others; count = product others } ≡ part = ap (λ n. row_of (row.first + i * n) n) (sym count) ∙ sym same in
       subst (λ r. Names place whole (k + 1) others r) there
         record { is = sym (ap (λ o. named_next place whole k others row size o) f) ∙ seen; count = refl; bound = omega arith }
+
+-- ---- the components of what so many subscripts name
+
+components_drop : (es : List T.Expression) (sizes : List ℕ) → product (drop (length es) sizes) ≡ components (subscripts es) sizes
+components_drop [] [] = refl
+components_drop [] (n ∷ ns) = refl
+components_drop (e ∷ es) [] = drop_none (length es)
+  where
+    drop_none : (k : ℕ) → product (drop (suc k) []) ≡ 1
+    drop_none k = refl
+components_drop (e ∷ es) (n ∷ ns) = components_drop es ns
+
+pub cells_left : (p : Place) → product (drop (length p.subscripts) p.sizes) ≡ components_of (T.Cells (place_of p))
+cells_left p =
+    ap (λ k. product (drop k p.sizes)) (sym (length-map p.subscripts expression_of)) ∙ components_drop (map expression_of p.subscripts) p.sizes
+    ∙ ap (λ q. components_of (T.Cells q)) (sym (place_seen p))
+
+pub one_left : (p : Place) → length p.sizes ≤ length p.subscripts → 1 ≡ components_of (T.Cells (place_of p))
+one_left p h = ap product (sym (drop_all (length p.subscripts) p.sizes h)) ∙ cells_left p

@@ -150,7 +150,8 @@ fn cells_of_place(place: &Place) -> Result<u64, AllocError>
     let sizes = place.sizes.as_slice();
     let subscripts = place.subscripts.len();
     if subscripts < sizes.len() {
-        components(&sizes[subscripts..])
+        let cells = components(&sizes[subscripts..])?;
+        Ok(cells)
     } else {
         Ok(1)
     }
