@@ -8,3 +8,6 @@ pub mod LawfulTerms
 pub mod Meetings
 pub mod UseSets
 pub mod Rows
+pub mod Walks
+pub mod Reaches
+pub mod Branches

@@ -8,17 +8,17 @@ use Rattle.occ_term.specs.Uses.{Numbers, Uses, numbers_in, only, union, no_use, 
 use Rattle.occ_term.specs.Noted.{Adds, use_of, between, uses_in}
 use Rattle.occ_term.specs.declared.usage.noted.Use.{Use}
 
-or_assoc : (a b c : Bool) → ((a || b) || c) ≡ (a || (b || c))
+pub or_assoc : (a b c : Bool) → ((a || b) || c) ≡ (a || (b || c))
 or_assoc true b c = refl
 or_assoc false b c = refl
 
-or_comm : (a b : Bool) → (a || b) ≡ (b || a)
+pub or_comm : (a b : Bool) → (a || b) ≡ (b || a)
 or_comm true true = refl
 or_comm true false = refl
 or_comm false true = refl
 or_comm false false = refl
 
-or_none : (a : Bool) → (a || false) ≡ a
+pub or_none : (a : Bool) → (a || false) ≡ a
 or_none true = refl
 or_none false = refl
 
@@ -101,3 +101,10 @@ adds_one {us} u e = record { is = ap uses_in e ∙ uses_in-push us u }
 
 pub only_between : (x : ℕ) → only x ≡ numbers_in (span x 1)
 only_between x = fun_ext (λ c. grind arith)
+
+-- ---- an item, whatever stands for one that isn't there
+
+pub item_at : {X : Type 0} (xs : List X) (i : ℕ) (d e : X) → i < length xs → get_or xs i d ≡ get_or xs i e
+item_at [] i d e h = absurd (omega arith)
+item_at (x ∷ xs) zero d e h = refl
+item_at (x ∷ xs) (suc i) d e h = item_at xs i d e (omega arith)

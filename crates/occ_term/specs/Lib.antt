@@ -16,6 +16,7 @@ pub mod View
 pub mod Unfolding
 pub mod Clashes
 pub mod Noted
+pub mod Indexes
 pub mod Sizes
 pub mod Processes
 pub mod Examples

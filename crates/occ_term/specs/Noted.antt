@@ -1,11 +1,11 @@
 -- Uses as the code notes them: a list, each of cells or channels in a row.
 -- Manual: nothing; this is (own).
 use Rattle.std.specs.Prelude.{Bool, List, None, Option, Some, [], false, length, map, nat_le, nat_lt, true, ℕ, ℤ, ◌&&◌, ◌*◌, ◌+◌, ◌/◌, ◌||◌, ◌∷◌, ◌≡◌, ◌⊎◌}
-use Rattle.occ_term.specs.Terms.{Place, place}
+use Rattle.occ_term.specs.Terms.{Place, place, Branches, no_branches, and_branch}
 use Rattle.occ_term.specs.Messages.{product}
 use Rattle.occ_term.specs.Values.{Evaluated, Value, Fails, Span, span}
-use Rattle.occ_term.specs.Uses.{Numbers, Uses, no_use, with_use, reading, writing, inputting, outputting, part_named, numbers_in}
-use Rattle.occ_term.specs.Clashes.{Clash, shared_variable, two_inputs, two_outputs}
+use Rattle.occ_term.specs.Uses.{Numbers, Uses, no_use, with_use, reading, writing, inputting, outputting, part_named, uses_of}
+use Rattle.occ_term.specs.Clashes.{Clash, clash_in, shared_variable, two_inputs, two_outputs}
 use Rattle.occ_term.specs.declared.usage.noted.Use.{Use}
 use Rattle.occ_term.specs.declared.usage.noted.Kind.{Kind}
 use Rattle.occ_term.specs.declared.usage.noted.Kind.TheVariants.{Read, Write, Input, Output}
@@ -30,11 +30,6 @@ uses_in (u ∷ us) = with_use (use_of u.kind (between u.first u.end)) (uses_in u
 -- what is noted after, beyond what was before
 pub record Adds (before : List Use) (more : Uses) (after : List Use) : Type 0 where
   pub is : uses_in after ≡ with_use (uses_in before) more
-
--- the uses of all lists
-abbrev pub uses_in_all : List (List Use) → Uses
-uses_in_all [] = no_use
-uses_in_all (l ∷ ls) = with_use (uses_in l) (uses_in_all ls)
 
 -- what a place names with its constant subscripts
 abbrev pub span_named : Place → Span
@@ -70,11 +65,36 @@ pub record IsOneOf (found a b : Option Found) : Type 0 where
   pub none : found ≡ None → (a ≡ None) × (b ≡ None)
   pub one : (found ≡ a) ⊎ (found ≡ b)
 
--- of branches in a row: one, and a later one
-abbrev pub with_one : Clash → Uses → List (List Use) → Bool
-with_one clash a [] = false
-with_one clash a (b ∷ bs) = clash a (uses_in b) || with_one clash a bs
+-- of a term or a part of it: what is noted, and what is found
+pub record Covers (more : Uses) (clashes : Clash → Bool) (before after : List Use) (was is : Option Found) : Type 0 where
+  pub adds : Adds before more after
+  pub finds : FindsAfter was is clashes
 
-abbrev pub clash_among : List (List Use) → Clash → Bool
+-- What was noted and found leaves these others of the whole. It is so before any others.
+pub record Leaves (others : Uses) (other_clashes : Clash → Bool) (whole : Uses) (clashes : Clash → Bool) (before after : List Use) (was is : Option Found) : Type 0 where
+  pub uses : with_use (uses_in after) others ≡ with_use (uses_in before) whole
+  pub finds : (last : Option Found) → FindsAfter is last other_clashes → FindsAfter was last clashes
+
+-- ---- branches
+
+abbrev pub all_uses : List Uses → Uses
+all_uses [] = no_use
+all_uses (u ∷ us) = with_use u (all_uses us)
+
+-- of branches in a row: one, and a later one
+abbrev pub with_one : Clash → Uses → List Uses → Bool
+with_one clash a [] = false
+with_one clash a (b ∷ bs) = clash a b || with_one clash a bs
+
+abbrev pub clash_among : List Uses → Clash → Bool
 clash_among [] clash = false
-clash_among (a ∷ bs) clash = with_one clash (uses_in a) bs || clash_among bs clash
+clash_among (a ∷ bs) clash = with_one clash a bs || clash_among bs clash
+
+abbrev pub branch_uses : Branches → List Uses
+branch_uses no_branches = []
+branch_uses (and_branch n t bs) = uses_of t ∷ branch_uses bs
+
+-- within one of the branches
+abbrev pub clash_within : Branches → Clash → Bool
+clash_within no_branches clash = false
+clash_within (and_branch n t bs) clash = clash_in clash t || clash_within bs clash

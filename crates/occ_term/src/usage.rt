@@ -4,6 +4,9 @@
 //! from in at most one branch and output to in at most one. The keyboard, the screen and the error
 //! channel count as branches beside the program.
 
+mod clashes;
 mod expressions;
+mod index;
 mod noted;
 mod places;
+mod terms;

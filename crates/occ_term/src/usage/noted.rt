@@ -1,6 +1,6 @@
 //! Uses of cells and channels, in the order of the program.
-ghost use Rattle.std.specs.Prelude.{◌≡◌, [], IfOk};
-ghost use Rattle.occ_term.specs.Noted.{between, use_of, Adds, IsOneOf};
+ghost use Rattle.std.specs.Prelude.{◌≡◌, [], IfOk, map};
+ghost use Rattle.occ_term.specs.Noted.{all_uses, between, use_of, uses_in, Adds, IsOneOf};
 
 use sqlite_items::Items;
 use std::alloc::{AllocError, Global};
@@ -90,6 +90,26 @@ impl Noted {
             order,
         })?;
         self.next = order.saturating_add(1);
+        Ok(())
+    }
+
+    /// Notes the uses of a list after these.
+    pub fn extend(&mut self, list: &[Use]) -> Result<(), AllocError>
+        ensures { IfOk result (λ _. Adds self.old.uses (uses_in list.now) self.new.uses) }
+    {
+        for one in list {
+            self.uses.push(*one)?;
+        }
+        Ok(())
+    }
+
+    /// Notes the uses of all lists after these.
+    pub fn extend_all(&mut self, lists: &[Items<Use>]) -> Result<(), AllocError>
+        ensures { IfOk result (λ _. Adds self.old.uses (all_uses (map uses_in lists.now)) self.new.uses) }
+    {
+        for list in lists {
+            self.extend(list.as_slice())?;
+        }
         Ok(())
     }
 }
