@@ -11,3 +11,4 @@ pub mod Rows
 pub mod Walks
 pub mod Reaches
 pub mod Branches
+pub mod Unlawful
