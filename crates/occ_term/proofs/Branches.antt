@@ -143,7 +143,7 @@ breaking_none Outputs n a = and_none (a.outs n)
 none_breaking : (rule : Rule) (n : ℕ) (a : Uses) → breaking rule n no_use a ≡ false
 none_breaking rule n a = breaking_swapped rule n no_use a ∙ breaking_none rule n a
 
-joined_breaking : (rule : Rule) (n : ℕ) (a b c : Uses) → breaking rule n (with_use a b) c ≡ (breaking rule n a c || breaking rule n b c)
+pub joined_breaking : (rule : Rule) (n : ℕ) (a b c : Uses) → breaking rule n (with_use a b) c ≡ (breaking rule n a c || breaking rule n b c)
 joined_breaking rule n a b c =
     breaking_swapped rule n (with_use a b) c ∙ breaking_joined rule n c a b ∙ ap (λ x. x || breaking rule n c b) (breaking_swapped rule n c a)
     ∙ ap (λ x. breaking rule n a c || x) (breaking_swapped rule n c b)

@@ -1,11 +1,18 @@
 -- A term keeps the usage rules where no two branches clash, and only there.
-use Rattle.std.proofs.Common.{◌≡◌, ℕ, Bool, true, false, IsTrue, refl, sym, ap, ◌∙◌, subst}
-use Rattle.std.specs.Prelude.{◌&&◌, ◌||◌}
+use Rattle.std.proofs.Common.{◌≡◌, ℕ, Bool, true, false, IsTrue, refl, sym, ap, ◌∙◌, subst, inl, inr}
+use Rattle.std.specs.Prelude.{None, Option, Some, ◌&&◌, ◌||◌, ◌⊎◌}
 use mathlib.Core.Bool.{true≢false}
 use Rattle.occ_term.specs.Terms as T
-use Rattle.occ_term.specs.Uses.{Numbers, Uses, Apart, ApartFromAll, Lawful, LawfulTerm, LawfulTerms, LawfulBranches, LawfulArms, LawfulReception, LawfulVariants, LawfulChoices, LawfulOptions, StayApart, inputting, only, outputting, union, uses_of}
+use Rattle.occ_term.specs.Uses.{Numbers, Uses, Apart, ApartFromAll, Lawful, LawfulTerm, LawfulTerms, LawfulBranches, LawfulArms, LawfulReception, LawfulVariants, LawfulChoices, LawfulOptions, StayApart, inputting, only, outputting, union, uses_of, with_use}
 use Rattle.occ_term.specs.Clashes.{Clash, clash_in, clash_in_arms, clash_in_branches, clash_in_choices, clash_in_options, clash_in_reception, clash_in_terms, clash_in_variants, clashes, shared_variable, two_inputs, two_outputs, with_a_later}
-use Rattle.occ_term.specs.Noted.{breaking}
+use Rattle.occ_term.specs.Noted.{FaultFor, Finds, FindsAfter, IsOneOf, breaking}
+use Rattle.occ_term.specs.Refusals.{UsageRefuses}
+use Rattle.occ_term.specs.Unfolding.{Unfolding, meaning}
+use Rattle.occ_term.specs.declared.usage.UsageFault.{UsageFault}
+use Rattle.occ_term.specs.declared.usage.UsageFault.TheVariants.{SharedVariable, TwoInputs, TwoOutputs, Memory}
+use Rattle.occ_term.specs.declared.usage.noted.Found.{Found}
+use Rattle.occ_term.proofs.Branches.{joined_breaking}
+use Rattle.occ_term.proofs.Walks.{or_left, or_right}
 use Rattle.occ_term.specs.declared.usage.noted.Rule.{Rule}
 use Rattle.occ_term.specs.declared.usage.noted.Rule.TheVariants.{Variables, Inputs, Outputs}
 
@@ -211,3 +218,34 @@ unlawful_where t rule n e h =
   where
     swapped : (a : Uses) → StayApart (uses_of t) a → NoneBreaks (λ clash. clash a (uses_of t))
     swapped a g = none_breaks a (uses_of t) record { first_writes = g.second_writes; second_writes = g.first_writes; inputs = λ c i j. g.inputs c j i; outputs = λ c i j. g.outputs c j i }
+
+-- what is beside the term
+abbrev pub beside_uses : Uses
+beside_uses = with_use (outputting (only 0)) (with_use (inputting (only 1)) (inputting (only 2)))
+
+with_beside : (t : T.Term) (rule : Rule) (n : ℕ) → (clash_in (breaking rule n) t || breaking rule n beside_uses (uses_of t)) ≡ clashes (breaking rule n) t
+with_beside t rule n =
+    ap (λ x. clash_in (breaking rule n) t || x)
+      (joined_breaking rule n (outputting (only 0)) (with_use (inputting (only 1)) (inputting (only 2))) (uses_of t)
+      ∙ ap (λ x. breaking rule n (outputting (only 0)) (uses_of t) || x) (joined_breaking rule n (inputting (only 1)) (inputting (only 2)) (uses_of t)))
+
+pub finds_whole : (t : T.Term) (was with_it found : Option Found) → FindsAfter None was (λ clash. clash_in clash t) → Finds with_it (λ clash. clash beside_uses (uses_of t)) → IsOneOf found was with_it
+    → Finds found (λ clash. clashes clash t)
+finds_whole t was with_it found p q one =
+    record {
+      none = λ e rule n. sym (with_beside t rule n) ∙ both_false ((p.none (one.none e).0).1 rule n) (q.none (one.none e).1 rule n);
+      some = λ f e. sym (with_beside t f.rule f.number) ∙
+        elim one.one [
+            inl h ↦ elim (p.some f (sym h ∙ e)) [ inl no_way ↦ absurd cc | inr hit ↦ or_left (breaking f.rule f.number beside_uses (uses_of t)) hit ]
+          | inr h ↦ or_right (clash_in (breaking f.rule f.number) t) (q.some f (sym h ∙ e))
+        ]
+    }
+
+pub refuses : (fault : UsageFault) (u : Unfolding) (rule : Rule) (n : ℕ) → FaultFor rule fault → clashes (breaking rule n) (meaning u) ≡ true → UsageRefuses fault u
+refuses (SharedVariable line name) u rule n e h =
+    record { number = n; there = ap (λ r. clashes (breaking r n) (meaning u)) (sym e) ∙ h; unlawful = unlawful_where (meaning u) rule n h }
+refuses (TwoInputs line name) u rule n e h =
+    record { number = n; there = ap (λ r. clashes (breaking r n) (meaning u)) (sym e) ∙ h; unlawful = unlawful_where (meaning u) rule n h }
+refuses (TwoOutputs line name) u rule n e h =
+    record { number = n; there = ap (λ r. clashes (breaking r n) (meaning u)) (sym e) ∙ h; unlawful = unlawful_where (meaning u) rule n h }
+refuses Memory u rule n e h = tt

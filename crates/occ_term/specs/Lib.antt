@@ -17,6 +17,7 @@ pub mod Unfolding
 pub mod Clashes
 pub mod Noted
 pub mod Indexes
+pub mod Refusals
 pub mod Sizes
 pub mod Processes
 pub mod Examples

@@ -1,6 +1,6 @@
 -- Uses as the code notes them: a list, each of cells or channels in a row.
 -- Manual: nothing; this is (own).
-use Rattle.std.specs.Prelude.{Bool, List, None, Option, Some, [], false, length, map, nat_le, nat_lt, true, ℕ, ℤ, ◌&&◌, ◌*◌, ◌+◌, ◌/◌, ◌||◌, ◌∷◌, ◌≡◌, ◌⊎◌}
+use Rattle.std.specs.Prelude.{Bool, List, None, Option, Some, [], false, length, map, nat_le, nat_lt, true, ℕ, ℤ, ⊤, ◌&&◌, ◌*◌, ◌+◌, ◌/◌, ◌||◌, ◌∷◌, ◌≡◌, ◌⊎◌}
 use Rattle.occ_term.specs.Terms.{Place, place, Branches, no_branches, and_branch}
 use Rattle.occ_term.specs.Messages.{product}
 use Rattle.occ_term.specs.Values.{Evaluated, Value, Fails, Span, span}
@@ -12,6 +12,8 @@ use Rattle.occ_term.specs.declared.usage.noted.Kind.TheVariants.{Read, Write, In
 use Rattle.occ_term.specs.declared.usage.noted.Rule.{Rule}
 use Rattle.occ_term.specs.declared.usage.noted.Rule.TheVariants.{Variables, Inputs, Outputs}
 use Rattle.occ_term.specs.declared.usage.noted.Found.{Found}
+use Rattle.occ_term.specs.declared.usage.UsageFault.{UsageFault}
+use Rattle.occ_term.specs.declared.usage.UsageFault.TheVariants.{SharedVariable, TwoInputs, TwoOutputs, Memory}
 use Rattle.occ_term.specs.declared.usage.places.Row.{Row}
 
 abbrev pub between : ℕ → ℕ → Numbers
@@ -98,3 +100,12 @@ branch_uses (and_branch n t bs) = uses_of t ∷ branch_uses bs
 abbrev pub clash_within : Branches → Clash → Bool
 clash_within no_branches clash = false
 clash_within (and_branch n t bs) clash = clash_in clash t || clash_within bs clash
+
+-- ---- faults
+
+-- a fault for this rule
+abbrev pub FaultFor : Rule → UsageFault → Type 0
+FaultFor rule (SharedVariable line name) = rule ≡ Variables
+FaultFor rule (TwoInputs line name) = rule ≡ Inputs
+FaultFor rule (TwoOutputs line name) = rule ≡ Outputs
+FaultFor rule Memory = ⊤

@@ -29,4 +29,4 @@ pub use primitive::{Prim, Primitive};
 pub use protocol::{PartType, Protocol, Tag};
 pub use term::{Arm, Branch, Choice, Reception, Selection, Term, Variant};
 pub use unfolded::Unfolded;
-//pub use usage::{Checked, Refused, UsageFault, check_usage};
+pub use usage::{Checked, Refused, UsageFault, check_usage};
