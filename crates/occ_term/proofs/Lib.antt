@@ -12,3 +12,12 @@ pub mod Walks
 pub mod Reaches
 pub mod Branches
 pub mod Unlawful
+pub mod Words
+pub mod Bounds
+pub mod TypedOperators
+pub mod TypedPlaces
+pub mod TypedValues
+pub mod TypedStores
+pub mod TypedSteps
+pub mod KeptStores
+pub mod KeptSteps

@@ -12,6 +12,9 @@ pub mod Uses
 pub mod Typing
 pub mod TermTyping
 pub mod Frames
+pub mod Evaluation
+pub mod TypedSteps
+pub mod StepUses
 pub mod View
 pub mod Unfolding
 pub mod Clashes

@@ -1,8 +1,8 @@
 -- Uses as the code notes them: a list, each of cells or channels in a row.
 -- Manual: nothing; this is (own).
-use Rattle.std.specs.Prelude.{Bool, List, None, Option, Some, [], false, length, map, nat_le, nat_lt, true, ℕ, ℤ, ⊤, ◌&&◌, ◌*◌, ◌+◌, ◌/◌, ◌||◌, ◌∷◌, ◌≡◌, ◌⊎◌}
+use Rattle.std.specs.Prelude.{Bool, Err, IsTrue, List, None, Ok, Option, Result, Some, [], false, length, map, nat_le, nat_lt, true, ℕ, ℤ, ⊤, ◌&&◌, ◌*◌, ◌+◌, ◌/◌, ◌||◌, ◌∷◌, ◌≡◌, ◌⊎◌}
 use Rattle.occ_term.specs.Terms.{Place, place, Branches, no_branches, and_branch}
-use Rattle.occ_term.specs.Messages.{product}
+use Rattle.occ_term.specs.Messages.{Int, is_of, product}
 use Rattle.occ_term.specs.Values.{Evaluated, Value, Fails, Span, span}
 use Rattle.occ_term.specs.Uses.{Numbers, Uses, no_use, with_use, reading, writing, inputting, outputting, part_named, uses_of}
 use Rattle.occ_term.specs.Clashes.{Clash, clash_in, shared_variable, two_inputs, two_outputs}
@@ -14,6 +14,8 @@ use Rattle.occ_term.specs.declared.usage.noted.Rule.TheVariants.{Variables, Inpu
 use Rattle.occ_term.specs.declared.usage.noted.Found.{Found}
 use Rattle.occ_term.specs.declared.usage.UsageFault.{UsageFault}
 use Rattle.occ_term.specs.declared.usage.UsageFault.TheVariants.{SharedVariable, TwoInputs, TwoOutputs, Memory}
+use Rattle.occ_term.specs.declared.usage.constant.NoValue.{NoValue}
+use Rattle.occ_term.specs.declared.usage.constant.NoValue.TheVariants.{Faulty, Unfit}
 use Rattle.occ_term.specs.declared.usage.places.Row.{Row}
 
 abbrev pub between : ℕ → ℕ → Numbers
@@ -42,9 +44,17 @@ abbrev pub on_component : Option ℕ → Row → ℕ → Option Row
 on_component None row size = None
 on_component (Some i) row size = Some (record { first = row.first + i * (row.count / size); count = row.count / size })
 
-abbrev pub constant_of : Evaluated ℤ → Option ℤ
-constant_of (Value v) = Some v
-constant_of (Fails e) = None
+-- what the value of a constant is, where there is one
+abbrev pub Settles : Result ℤ NoValue → Evaluated ℤ → Type 0
+Settles (Ok v) e = e ≡ Value v
+Settles (Err (Faulty f)) e = e ≡ Fails f
+Settles (Err Unfit) e = ⊤
+
+-- an INT as it is
+abbrev pub Answers : Result ℤ NoValue → ℤ → Type 0
+Answers (Ok x) v = (x ≡ v) × IsTrue (is_of Int v)
+Answers (Err (Faulty f)) v = ⊥
+Answers (Err Unfit) v = ⊤
 
 -- what breaks a rule at a number
 abbrev pub breaking : Rule → ℕ → Clash

@@ -1,6 +1,6 @@
 //! The variables of a process.
-ghost use Rattle.std.specs.Prelude.{◌≡◌, ◌↔◌, IsTrue, IfOk, length, pos, replicate};
-ghost use Rattle.occ_term.specs.Frames.{zero_frame};
+ghost use Rattle.std.specs.Prelude.{◌≡◌, ◌↔◌, IsTrue, IfOk, length, pos, replicate, []};
+ghost use Rattle.occ_term.specs.Frames.{at, value_at, zero_frame};
 
 use crate::message::same_values;
 use std::alloc::{AllocError, Global};
@@ -38,6 +38,13 @@ impl Frame {
         })
     }
 
+    /// The value of a cell; 0 of a cell that the frame doesn't hold.
+    pub fn value(&self, cell: u32) -> i64
+        ensures { result ≡ at self.now cell }
+    {
+        value_at(&self.cells, &self.values, cell)
+    }
+
     /// A copy. The error is a refused growth.
     pub fn copy(&self, alloc: Global) -> Result<Frame, AllocError>
         ensures { IfOk result (λ f. f ≡ self.now) }
@@ -59,8 +66,34 @@ impl Frame {
     }
 }
 
+/// A frame of these cells with these values.
+#[cfg(test)]
+pub(crate) fn frame_of(alloc: Global, cells: &[u32], values: &[i64]) -> Result<Frame, AllocError>
+    ensures { IfOk result (λ f. f ≡ record { cells = cells.now; values = values.now; left = [] }) }
+{
+    Ok(Frame {
+        cells: Vec::from_slice(alloc, cells)?,
+        values: Vec::from_slice(alloc, values)?,
+        left: Vec::new(alloc),
+    })
+}
+
 fn same_numbers(numbers: &[u32], others: &[u32]) -> bool
     ensures { IsTrue result ↔ (numbers.now ≡ others.now) }
 {
     numbers == others
+}
+
+fn value_at(cells: &[u32], values: &[i64], cell: u32) -> i64
+    ensures { result ≡ value_at cells.now values.now cell }
+{
+    for (i, held) in cells.iter().enumerate() {
+        if *held == cell {
+            return match values.get(i) {
+                Some(value) => *value,
+                None => 0,
+            };
+        }
+    }
+    0
 }

@@ -1,6 +1,8 @@
 //! Laws of the definitions, and small programs whose runs check them. Each function's contract is the law; its body does nothing.
 
 ghost use Rattle.occ_term.specs.StepRuns.{TurnsAreSteps};
+ghost use Rattle.occ_term.specs.StepUses.{StepsKeepToTheirUse};
+ghost use Rattle.occ_term.specs.TypedSteps.{PlacesLieWithin, StepsKeepTypes, ValuesHaveTypes};
 ghost use Rattle.occ_term.specs.Selecting.{waits_for};
 ghost use Rattle.occ_term.specs.Examples.{ArmRows, AssignRows, ChoiceRows, ChosenRows, Divides, FaultHalts, GoingHasStep, Halts, Joins, LaterOffer, LongTurns, MessageRows, PlaceRows, PriorityTakesFirst, SequencePerforms, StopsBoth, ThreeRun, ThreeTurns, Unlawful, UseRows, ValueRows, WritesA};
 
@@ -117,4 +119,24 @@ pub fn joins()
 /// Each run by turns is one by single steps, with the same communications.
 pub fn turns_are_steps()
     ensures { TurnsAreSteps }
+{}
+
+/// An expression's value is of its type.
+pub fn values_have_types()
+    ensures { ValuesHaveTypes }
+{}
+
+/// What a place names lies within its array.
+pub fn places_lie_within()
+    ensures { PlacesLieWithin }
+{}
+
+/// A private step keeps the declared types: those of cells, and those of what is left of a process.
+pub fn steps_keep_types()
+    ensures { StepsKeepTypes }
+{}
+
+/// A private step changes only cells that it writes, and what is left then uses no more.
+pub fn steps_keep_to_their_use()
+    ensures { StepsKeepToTheirUse }
 {}

@@ -12,11 +12,15 @@ pub mod limit_rows;
 pub mod message;
 pub mod names;
 pub mod one_result;
+mod operator;
 pub mod primitive;
 pub mod protocol;
 pub mod term;
 pub mod unfolded;
 pub mod usage;
+pub mod value;
+#[cfg(test)]
+mod value_tests;
 
 pub use expression::{
     Array, Declaration, Item, Monadic, Operator, Place, Replicator, Target, TermExpr,
@@ -30,3 +34,4 @@ pub use protocol::{PartType, Protocol, Tag};
 pub use term::{Arm, Branch, Choice, Reception, Selection, Term, Variant};
 pub use unfolded::Unfolded;
 pub use usage::{Checked, Refused, UsageFault, check_usage};
+pub use value::value_of;

@@ -12,6 +12,7 @@ ghost use Rattle.occ_term.specs.Noted.{FaultFor, Finds, uses_in};
 ghost use Rattle.occ_term.specs.View.{term_of};
 
 mod clashes;
+mod constant;
 mod expressions;
 mod index;
 mod noted;

@@ -1,13 +1,14 @@
 //! Which cells or channels a place names.
-ghost use Rattle.std.specs.Prelude.{◌≡◌, ◌+◌, ◌≤◌, ◌<◌, ◌^◌, IfOk, IsTrue, pos};
+ghost use Rattle.std.specs.Prelude.{◌≡◌, ◌+◌, ◌≤◌, ◌<◌, ◌^◌, IfOk};
 ghost use Rattle.occ_term.specs.Messages.{product};
-ghost use Rattle.occ_term.specs.Values.{span, value_of, Value};
+ghost use Rattle.occ_term.specs.Values.{span, Value};
 ghost use Rattle.occ_term.specs.Uses.{constant_subscript, is_constant, cells_of_item, components_of};
 ghost use Rattle.occ_term.specs.Uses as uses;
-ghost use Rattle.occ_term.specs.Noted.{constant_of, on_component, span_named};
+ghost use Rattle.occ_term.specs.Noted.{on_component, span_named};
 ghost use Rattle.occ_term.specs.View.{array_of, expression_of, item_of, place_of};
 ghost use Rattle.occ_term.specs.Terms as terms;
 
+use super::constant::{NoValue, constant_value};
 use crate::expression::{Array, Item, Place, TermExpr};
 use std::alloc::AllocError;
 
@@ -65,9 +66,10 @@ fn constant_index(subscript: &TermExpr, size: u32) -> Result<Option<u32>, AllocE
     if !is_fixed(subscript) {
         return Ok(None);
     }
-    match constant_value(subscript)? {
-        None => Ok(None),
-        Some(value) => Ok(within(value, size)),
+    match constant_value(subscript) {
+        Ok(value) => Ok(within(value, size)),
+        Err(NoValue::Faulty(_)) => Ok(None),
+        Err(NoValue::Unfit) => Err(AllocError),
     }
 }
 
@@ -96,16 +98,6 @@ fn is_fixed(e: &TermExpr) -> bool
         TermExpr::And(left, right) => is_fixed(left.get()) && is_fixed(right.get()),
         TermExpr::Or(left, right) => is_fixed(left.get()) && is_fixed(right.get()),
         TermExpr::Conversion(_, _, operand) => is_fixed(operand.get()),
-    }
-}
-
-/// The value of a constant, where it has no fault.
-fn constant_value(e: &TermExpr) -> Result<Option<i64>, AllocError>
-    ensures { IfOk result (λ value. IsTrue (is_constant (expression_of e.now)) → value ≡ constant_of (value_of (expression_of e.now) (λ c. pos 0))) }
-{
-    match e {
-        TermExpr::Constant(value) => Ok(Some(*value)),
-        _ => Err(AllocError),
     }
 }
 

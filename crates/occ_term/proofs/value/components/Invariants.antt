@@ -1,0 +1,6 @@
+use Rattle.std.proofs.Common.{◌≡◌, ◌*◌, ◌≤◌, drop}
+use Rattle.occ_term.specs.Messages.{product}
+use Rattle.occ_term.proofs.value.components.Given as goal
+
+abbrev pub invariant-loop-size : goal.invariant-loop-size
+invariant-loop-size l = product l.sizes ≤ 65536 → l.count * product (drop l.size-index l.sizes) ≡ product l.sizes

@@ -1,0 +1,74 @@
+-- When the code can evaluate an expression, and what its answer means.
+-- Manual: nothing; this is (own).
+use Rattle.std.specs.Prelude.{Err, IsTrue, List, None, Ok, Option, Result, Some, [], get_or, length, pos, ℕ, ℤ, ⊤, ◌*◌, ◌+◌, ◌<◌, ◌∷◌, ◌≡◌, ◌≤◌}
+use Rattle.occ_term.specs.Messages.{Primitive, Int, is_of, Fault, product}
+use Rattle.occ_term.specs.Terms.{Expression, Constant, Cell, Component, Letter, Binary, Unary, And, Or, Conversion, Place, place, Subscripts, no_subscripts, then_subscript}
+use Rattle.occ_term.specs.Values.{Store, Evaluated, Value, Fails, after, subscript, first_of, TypedOn, value_of, span_of}
+use Rattle.occ_term.specs.Uses.{reads_of}
+use Rattle.occ_term.specs.Typing.{HasType}
+use Rattle.occ_term.specs.View.{expression_of}
+use Rattle.occ_term.specs.declared.expression.TermExpr.{TermExpr}
+use Rattle.occ_term.specs.Frames.{Variables, holds_cell, at}
+
+-- the code's answer: a value or a fault
+abbrev pub evaluated : {X : Type 0} → Result X Fault → Evaluated X
+evaluated (Ok v) = Value v
+evaluated (Err e) = Fails e
+
+-- The expression has a type where no cell from 65,536 on is declared; the frame holds each cell that it reads, with a value of
+-- the cell's type.
+pub record CanBeEvaluated (e : Expression) (f : Variables) : Type 0 where
+  pub types : ℕ → Option Primitive
+  pub few : (c : ℕ) → 65536 ≤ c → types c ≡ None
+  pub type : Primitive
+  pub typed : HasType types e type
+  pub held : (c : ℕ) → IsTrue (reads_of e c) → IsTrue (holds_cell f c)
+  pub values : TypedOn (reads_of e) types (at f)
+
+-- ---- what keeps the code's arithmetic within its words
+
+abbrev pub IsWord : Expression → Store → Type 0
+IsWord e s = (v : ℤ) → value_of e s ≡ Value v → IsTrue (is_of Int v)
+
+-- cells that there are have numbers below 65,536
+abbrev pub FewCells : ℕ → List ℕ → Type 0
+FewCells first sizes = 0 < product sizes → first + product sizes ≤ 65536
+
+-- each operand's value is an INT, and each array lies among the cells
+abbrev mutual
+  pub Bounded : Expression → Store → Type 0
+  Bounded (Constant v) s = ⊤
+  Bounded (Cell c) s = ⊤
+  Bounded (Component p) s = BoundedPlace p s
+  Bounded (Letter line text e) s = Bounded e s
+  Bounded (Binary op type line a b) s = Bounded a s × IsWord a s × Bounded b s × IsWord b s
+  Bounded (Unary op type line a) s = Bounded a s × IsWord a s
+  Bounded (And a b) s = Bounded a s × Bounded b s
+  Bounded (Or a b) s = Bounded a s × Bounded b s
+  Bounded (Conversion to line a) s = Bounded a s
+
+  pub BoundedPlace : Place → Store → Type 0
+  BoundedPlace (place line first sizes subs) s = FewCells first sizes × BoundedSubscripts subs s
+
+  pub BoundedSubscripts : Subscripts → Store → Type 0
+  BoundedSubscripts no_subscripts s = ⊤
+  BoundedSubscripts (then_subscript e es) s = Bounded e s × BoundedSubscripts es s
+
+-- the first cell that a place names
+abbrev pub first_named : Place → Store → Evaluated ℕ
+first_named p s = after (span_of p s) (λ at. Value (first_of at))
+
+-- the first cell of the component, or of the row, with this subscript
+abbrev pub first_of_row : ℕ → ℕ → ℕ → List ℕ → Expression → Store → Evaluated ℕ
+first_of_row line first size others e s = after (value_of e s) (λ v. after (subscript line size v) (λ i. Value (first + i * product others)))
+
+-- a letter of a string of bytes
+abbrev pub letter : ℕ → List ℕ → ℤ → Evaluated ℤ
+letter line text v = after (subscript line (length text) v) (λ i. Value (pos (get_or text i 0)))
+
+-- evaluated in any store, and of an INT's size
+abbrev pub IsBounded : TermExpr → Type 0
+IsBounded e = (s : Store) → Bounded (expression_of e) s
+
+abbrev pub IsSmall : TermExpr → Type 0
+IsSmall e = (s : Store) → Bounded (expression_of e) s × IsWord (expression_of e) s
