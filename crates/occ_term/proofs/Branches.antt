@@ -226,7 +226,7 @@ pub finds_left : (ls bs : List (List Use)) (f : Found) → Finds (Some f) (clash
 finds_left ls bs f p =
     record {
       none = λ e. absurd cc;
-      some = λ g e. parts_among ls bs g.rule g.number ∙ or_left (halves ls bs (breaking g.rule g.number) || clash_among (map uses_in bs) (breaking g.rule g.number)) (p.some g e)
+      some = λ g e. parts_among ls bs g.rule g.number ∙ or_left (halves ls bs (breaking g.rule g.number) || clash_among (map uses_in bs) (breaking g.rule g.number)) (p.some g e);
     }
 
 pub finds_right : (ls bs : List (List Use)) (before across after found : Option Found) → Finds before (clash_among (map uses_in ls)) → before ≡ None → Finds across (halves ls bs)
@@ -235,11 +235,11 @@ finds_right ls bs before across after found p nothing q r one =
     record {
       none = λ e rule n. parts_among ls bs rule n ∙ neither (p.none nothing rule n) (neither (q.none (one.none e).0 rule n) (r.none (one.none e).1 rule n));
       some = λ f e.
-        parts_among ls bs f.rule f.number ∙ or_right (clash_among (map uses_in ls) (breaking f.rule f.number))
+          parts_among ls bs f.rule f.number ∙ or_right (clash_among (map uses_in ls) (breaking f.rule f.number))
           (elim one.one [
-              inl h ↦ or_left (clash_among (map uses_in bs) (breaking f.rule f.number)) (q.some f (sym h ∙ e))
+            | inl h ↦ or_left (clash_among (map uses_in bs) (breaking f.rule f.number)) (q.some f (sym h ∙ e))
             | inr h ↦ or_right (halves ls bs (breaking f.rule f.number)) (r.some f (sym h ∙ e))
-          ])
+          ]);
     }
 
 -- ---- a use against the uses before
@@ -268,7 +268,7 @@ pub scan_next : (left : Uses) (right : List Use) (i : ℕ) (u : Use) → i < len
 scan_next left right i u lt is scan misses =
     record {
       none = λ h. scan.none (λ rule n. scan_tail left right i u lt is rule n ∙ neither (misses rule n) (h rule n));
-      some = λ rule n h. scan.some rule n (scan_tail left right i u lt is rule n ∙ or_right (breaking rule n left (use_at u)) h)
+      some = λ rule n h. scan.some rule n (scan_tail left right i u lt is rule n ∙ or_right (breaking rule n left (use_at u)) h);
     }
 
 pub scan_found : (left : Uses) (right : List Use) (i : ℕ) (u : Use) (f : Found) → i < length right → u ≡ get_or right i u → Scan left right i
@@ -277,7 +277,7 @@ scan_found left right i u f lt is scan hits =
     record {
       none = λ e. absurd cc;
       some = λ g e. subst (λ h. breaking h.rule h.number left (uses_in right) ≡ true) (some_found e)
-        (scan.some f.rule f.number (scan_tail left right i u lt is f.rule f.number ∙ or_left (breaking f.rule f.number left (uses_in (drop (i + 1) right))) hits))
+          (scan.some f.rule f.number (scan_tail left right i u lt is f.rule f.number ∙ or_left (breaking f.rule f.number left (uses_in (drop (i + 1) right))) hits));
     }
   where
     some_found : {a b : Found} → Some a ≡ Some b → a ≡ b
@@ -287,7 +287,7 @@ pub scan_none : (left : Uses) (right : List Use) (i : ℕ) → length right ≤ 
 scan_none left right i h scan =
     record {
       none = λ e. scan.none (λ rule n. ap (λ us. breaking rule n left (uses_in us)) (drop_all i right h) ∙ breaking_none rule n left);
-      some = λ f e. absurd cc
+      some = λ f e. absurd cc;
     }
 
 -- ---- one use
@@ -343,8 +343,8 @@ read_found left first end number found within tells =
     record {
       none = λ e rule n. miss rule n (not_both number left.writes first end within (tells.none e) n);
       some = λ f e.
-        let there = both number left.writes first end f.number within (tells.some f e).1 in
-        same_rule left (use_of Read (between first end)) Variables f (tells.some f e).0 (read_hits (left.writes f.number) (between first end f.number) (left.reads f.number || left.writes f.number) there.0 there.1)
+          let there = both number left.writes first end f.number within (tells.some f e).1 in
+          same_rule left (use_of Read (between first end)) Variables f (tells.some f e).0 (read_hits (left.writes f.number) (between first end f.number) (left.reads f.number || left.writes f.number) there.0 there.1);
     }
   where
     miss : (rule : Rule) (n : ℕ) → (left.writes n && between first end n) ≡ false → breaking rule n left (use_of Read (between first end)) ≡ false
@@ -357,9 +357,9 @@ pub write_found : (left : Uses) (first end : ℕ) (read written number : Option 
 write_found left first end read written number found reads writes one tells =
     record {
       none = λ e rule n.
-        let neither_one = one.none (tells.none e) in
-        miss rule n (not_both written left.writes first end writes neither_one.1 n) (not_both read left.reads first end reads neither_one.0 n);
-      some = λ f e. same_rule left (use_of Write (between first end)) Variables f (tells.some f e).0 (hit f.number (tells.some f e).1)
+          let neither_one = one.none (tells.none e) in
+          miss rule n (not_both written left.writes first end writes neither_one.1 n) (not_both read left.reads first end reads neither_one.0 n);
+      some = λ f e. same_rule left (use_of Write (between first end)) Variables f (tells.some f e).0 (hit f.number (tells.some f e).1);
     }
   where
     miss : (rule : Rule) (n : ℕ) → (left.writes n && between first end n) ≡ false → (left.reads n && between first end n) ≡ false
@@ -370,7 +370,7 @@ write_found left first end read written number found reads writes one tells =
 
     hit : (n : ℕ) → number ≡ Some n → breaking Variables n left (use_of Write (between first end)) ≡ true
     hit n e = elim one.one [
-        inl h ↦
+      | inl h ↦
           let there = both read left.reads first end n reads (sym h ∙ e) in
           write_hits (left.writes n) (left.reads n) (between first end n) there.1 (or_left (left.writes n) there.0)
       | inr h ↦
@@ -388,8 +388,8 @@ input_found left first end number found within tells =
     record {
       none = λ e rule n. miss rule n (not_both number left.ins first end within (tells.none e) n);
       some = λ f e.
-        let there = both number left.ins first end f.number within (tells.some f e).1 in
-        same_rule left (use_of Input (between first end)) Inputs f (tells.some f e).0 (both_hit (left.ins f.number) (between first end f.number) there.0 there.1)
+          let there = both number left.ins first end f.number within (tells.some f e).1 in
+          same_rule left (use_of Input (between first end)) Inputs f (tells.some f e).0 (both_hit (left.ins f.number) (between first end f.number) there.0 there.1);
     }
   where
     miss : (rule : Rule) (n : ℕ) → (left.ins n && between first end n) ≡ false → breaking rule n left (use_of Input (between first end)) ≡ false
@@ -403,8 +403,8 @@ output_found left first end number found within tells =
     record {
       none = λ e rule n. miss rule n (not_both number left.outs first end within (tells.none e) n);
       some = λ f e.
-        let there = both number left.outs first end f.number within (tells.some f e).1 in
-        same_rule left (use_of Output (between first end)) Outputs f (tells.some f e).0 (both_hit (left.outs f.number) (between first end f.number) there.0 there.1)
+          let there = both number left.outs first end f.number within (tells.some f e).1 in
+          same_rule left (use_of Output (between first end)) Outputs f (tells.some f e).0 (both_hit (left.outs f.number) (between first end f.number) there.0 there.1);
     }
   where
     miss : (rule : Rule) (n : ℕ) → (left.outs n && between first end n) ≡ false → breaking rule n left (use_of Output (between first end)) ≡ false

@@ -42,7 +42,7 @@ reaches_from : (m n : ℕ) (S : List Span) (k : ℕ) → k < length S → m ≤ 
 reaches_from m n [] k h small = absurd (omega arith)
 reaches_from m n (s ∷ ss) zero h small = test_max n m s.end small
 reaches_from m n (s ∷ ss) (suc k) h small = elim (lt_or_le n s.end) [
-    inl past ↦
+  | inl past ↦
       let far = furthest_least (max m s.end) ss k (omega arith) in
       test_true n (get_or (furthest (max m s.end) ss) k 0) (omega arith) ∙ sym (or_left (reaches ss (suc k) n) (test_true n s.end past))
   | inr before ↦
@@ -84,26 +84,26 @@ covered_begun S zero n begun past = absurd (no_true past)
         by (t ∷ ts) e = cc
 covered_begun [] (suc k) n begun past = absurd cc
 covered_begun (s ∷ ss) (suc k) n begun past = elim (lt_or_le n s.end) [
-    inl far ↦ or_left (covered ss n) (between_true s.first s.end n (begun 0 s (omega arith) (omega arith)) far)
+  | inl far ↦ or_left (covered ss n) (between_true s.first s.end n (begun 0 s (omega arith) (omega arith)) far)
   | inr near ↦
       or_right (between s.first s.end n)
-        (covered_begun ss k n (λ j d low high. begun (suc j) d (omega arith) (omega arith)) (ap (λ b. b || reaches ss k n) (sym (test_false n s.end near)) ∙ past))
+      (covered_begun ss k n (λ j d low high. begun (suc j) d (omega arith) (omega arith)) (ap (λ b. b || reaches ss k n) (sym (test_false n s.end near)) ∙ past))
 ]
 
 pub none_covered : (S : List Span) (k n e c : ℕ) → reaches S k n ≡ false → AllWithin (λ s. e ≤ s.first) S k (length S) → n ≤ c → c < e → covered S c ≡ false
 none_covered [] k n e c past later low high = refl
 none_covered (s ∷ ss) zero n e c past later low high =
     neither (between_below s.first s.end c (let far : e ≤ s.first = later 0 s (omega arith) (omega arith) in omega arith))
-      (none_covered ss 0 n e c (nothing ss) (λ j d l h. later (suc j) d (omega arith) (omega arith)) low high)
+    (none_covered ss 0 n e c (nothing ss) (λ j d l h. later (suc j) d (omega arith) (omega arith)) low high)
   where
     nothing : (T : List Span) → reaches T 0 n ≡ false
     nothing [] = refl
     nothing (t ∷ ts) = refl
 none_covered (s ∷ ss) (suc k) n e c past later low high = elim (lt_or_le n s.end) [
-    inl far ↦ absurd (let yes = or_left (reaches ss k n) (test_true n s.end far) in cc)
+  | inl far ↦ absurd (let yes = or_left (reaches ss k n) (test_true n s.end far) in cc)
   | inr near ↦
       neither (between_above s.first s.end c (omega arith))
-        (none_covered ss k n e c (ap (λ b. b || reaches ss k n) (sym (test_false n s.end near)) ∙ past) (λ j d l h. later (suc j) d (omega arith) (omega arith)) low high)
+      (none_covered ss k n e c (ap (λ b. b || reaches ss k n) (sym (test_false n s.end near)) ∙ past) (λ j d l h. later (suc j) d (omega arith) (omega arith)) low high)
 ]
 
 -- ---- spans by kind
@@ -205,7 +205,7 @@ pub spans_skip : (k : Kind) (uses : List Use) (i : ℕ) (x : Use) (S : List Span
 spans_skip k uses i x S lt is spans none =
     record {
       filled = spans.filled;
-      is = ap (λ s. union (covered S) (union s (used k (uses_in (drop (i + 1) uses))))) (sym none) ∙ ap (λ s. union (covered S) s) (sym (spans_tail k uses i x lt is)) ∙ spans.is
+      is = ap (λ s. union (covered S) (union s (used k (uses_in (drop (i + 1) uses))))) (sym none) ∙ ap (λ s. union (covered S) s) (sym (spans_tail k uses i x lt is)) ∙ spans.is;
     }
 
 pub spans_more : (k : Kind) (uses : List Use) (i : ℕ) (x : Use) (S T : List Span) (s : Span) → i < length uses → x ≡ get_or uses i x → Spans k uses i S
@@ -213,12 +213,12 @@ pub spans_more : (k : Kind) (uses : List Use) (i : ℕ) (x : Use) (S T : List Sp
 spans_more k uses i x S T s lt is spans fills same e =
     let rest = used k (uses_in (drop (i + 1) uses)) in
     subst (λ T. Spans k uses (i + 1) T) (sym e)
-      record {
-        filled = All-append_one S s spans.filled fills;
-        is =
+    record {
+      filled = All-append_one S s spans.filled fills;
+      is =
           fun_ext (λ c. ap (λ b. b || rest c) (covered_push S s c) ∙ or_assoc (covered S c) (between s.first s.end c) (rest c)) ∙ ap (λ t. union (covered S) (union t rest)) (sym same)
-          ∙ ap (λ t. union (covered S) t) (sym (spans_tail k uses i x lt is)) ∙ spans.is
-      }
+          ∙ ap (λ t. union (covered S) t) (sym (spans_tail k uses i x lt is)) ∙ spans.is;
+    }
   where
     All-append_one : (S : List Span) (s : Span) → AreFilled S → s.first < s.end → AreFilled (S ++ s ∷ [])
     All-append_one [] s all h zero d lt = h

@@ -25,7 +25,7 @@ le_or_lt (suc x) (suc most) = elim (le_or_lt x most) [ inl h ↦ inl (omega arit
 saturated : (x p most y : ℕ) → y ≡ min x most → min (y * p) most ≡ min (x * p) most
 saturated x zero most y e = simp mul-zero
 saturated x (suc p) most y e = elim (le_or_lt x most) [
-    inl h ↦ let same : y ≡ x = omega arith in ap (λ z. min (z * suc p) most) same
+  | inl h ↦ let same : y ≡ x = omega arith in ap (λ z. min (z * suc p) most) same
   | inr h ↦ omega (arith, mul-suc y p, mul-suc x p)
 ]
 
@@ -79,24 +79,24 @@ names_next place whole k sizes others row part x size lt is e names gives = by (
   where
     seen : named_next place whole k others row size (constant_subscript (expression_of x) size) ≡ span_named (place_of place)
     seen =
-      let next : k + 1 ≡ suc k = omega arith in
-      ap (λ j. on_index (constant_subscript (expression_of x) size) (λ i. part_named (subscripts (map expression_of (drop j place.subscripts))) (row.first + i * product others) others (span whole.first whole.count)) (span whole.first whole.count)) next
-      ∙ ap (λ y. part_named (subscripts (map expression_of (y ∷ drop (suc k) place.subscripts))) row.first (size ∷ others) (span whole.first whole.count)) is
-      ∙ ap (λ ys. part_named (subscripts (map expression_of ys)) row.first (size ∷ others) (span whole.first whole.count)) (sym (drop-cons place.subscripts k x lt))
-      ∙ ap (λ ns. part_named (subscripts (map expression_of (drop k place.subscripts))) row.first ns (span whole.first whole.count)) (sym e)
-      ∙ names.is
+        let next : k + 1 ≡ suc k = omega arith in
+        ap (λ j. on_index (constant_subscript (expression_of x) size) (λ i. part_named (subscripts (map expression_of (drop j place.subscripts))) (row.first + i * product others) others (span whole.first whole.count)) (span whole.first whole.count)) next
+        ∙ ap (λ y. part_named (subscripts (map expression_of (y ∷ drop (suc k) place.subscripts))) row.first (size ∷ others) (span whole.first whole.count)) is
+        ∙ ap (λ ys. part_named (subscripts (map expression_of ys)) row.first (size ∷ others) (span whole.first whole.count)) (sym (drop-cons place.subscripts k x lt))
+        ∙ ap (λ ns. part_named (subscripts (map expression_of (drop k place.subscripts))) row.first ns (span whole.first whole.count)) (sym e)
+        ∙ names.is
 
     by : (o : Option ℕ) → constant_subscript (expression_of x) size ≡ o → Names place whole (k + 1) others part
     by None f = let no : Some part ≡ None = gives ∙ ap (λ o. on_component o row size) f in absurd cc
     by (Some i) f =
-      let below : i < size = constant_below (expression_of x) size i f in
-      let all : row.count ≡ size * product others = names.count ∙ ap product e in
-      let count : row.count / size ≡ product others = ap (λ n. n / size) all ∙ mul-div_cancel_left (product others) {n = size} (omega arith) in
-      let same : part ≡ record { first = row.first + i * (row.count / size); count = row.count / size } = some_same (gives ∙ ap (λ o. on_component o row size) f) in
-      let fits : i * product others + product others ≤ size * product others = one_more size i (product others) below in
-      let bound : row.first + row.count < 2 ^ 33 = names.bound in
-      let there : record { first = row.first + i * product others; count = product others } ≡ part = ap (λ n. row_of (row.first + i * n) n) (sym count) ∙ sym same in
-      subst (λ r. Names place whole (k + 1) others r) there
+        let below : i < size = constant_below (expression_of x) size i f in
+        let all : row.count ≡ size * product others = names.count ∙ ap product e in
+        let count : row.count / size ≡ product others = ap (λ n. n / size) all ∙ mul-div_cancel_left (product others) {n = size} (omega arith) in
+        let same : part ≡ record { first = row.first + i * (row.count / size); count = row.count / size } = some_same (gives ∙ ap (λ o. on_component o row size) f) in
+        let fits : i * product others + product others ≤ size * product others = one_more size i (product others) below in
+        let bound : row.first + row.count < 2 ^ 33 = names.bound in
+        let there : record { first = row.first + i * product others; count = product others } ≡ part = ap (λ n. row_of (row.first + i * n) n) (sym count) ∙ sym same in
+        subst (λ r. Names place whole (k + 1) others r) there
         record { is = sym (ap (λ o. named_next place whole k others row size o) f) ∙ seen; count = refl; bound = omega arith }
 
 -- ---- the components of what so many subscripts name

@@ -59,7 +59,7 @@ stay_apart a b h =
       first_writes = λ c w u. not_both (a.writes c) (b.reads c || b.writes c) (left_false (b.writes c && (a.reads c || a.writes c)) (h Variables c)) w u;
       second_writes = λ c w u. not_both (b.writes c) (a.reads c || a.writes c) (right_false (a.writes c && (b.reads c || b.writes c)) (h Variables c)) w u;
       inputs = λ c i j. not_both (a.ins c) (b.ins c) (h Inputs c) i j;
-      outputs = λ c i j. not_both (a.outs c) (b.outs c) (h Outputs c) i j
+      outputs = λ c i j. not_both (a.outs c) (b.outs c) (h Outputs c) i j;
     }
 
 none_breaks : (a b : Uses) → StayApart a b → NoneBreaks (λ clash. clash a b)
@@ -103,12 +103,11 @@ mutual
 
   lawful_branches : (x : T.Branches) → NoneBreaks (λ clash. clash_in_branches clash x) → LawfulBranches x
   lawful_branches T.no_branches h = tt
-  lawful_branches (T.and_branch n t bs) h =
-      (
-        lawful_term t (λ rule c. left_false (with_a_later (breaking rule c) (uses_of t) bs || clash_in_branches (breaking rule c) bs) (h rule c)),
-        apart_from_all (uses_of t) bs (λ rule c. left_false (clash_in_branches (breaking rule c) bs) (right_false (clash_in (breaking rule c) t) (h rule c))),
-        lawful_branches bs (λ rule c. right_false (with_a_later (breaking rule c) (uses_of t) bs) (right_false (clash_in (breaking rule c) t) (h rule c)))
-      )
+  lawful_branches (T.and_branch n t bs) h = (
+    lawful_term t (λ rule c. left_false (with_a_later (breaking rule c) (uses_of t) bs || clash_in_branches (breaking rule c) bs) (h rule c)),
+    apart_from_all (uses_of t) bs (λ rule c. left_false (clash_in_branches (breaking rule c) bs) (right_false (clash_in (breaking rule c) t) (h rule c))),
+    lawful_branches bs (λ rule c. right_false (with_a_later (breaking rule c) (uses_of t) bs) (right_false (clash_in (breaking rule c) t) (h rule c))),
+  )
 
   lawful_arms : (x : T.Arms) → NoneBreaks (λ clash. clash_in_arms clash x) → LawfulArms x
   lawful_arms T.no_arms h = tt
@@ -196,7 +195,7 @@ lawful_where t h =
       branches = lawful_term t (λ rule n. left_false (beside (breaking rule n)) (h rule n));
       beside_keyboard = swapped (outputting (only 0)) (λ rule n. left_false (others (breaking rule n)) (later rule n));
       beside_screen = swapped (inputting (only 1)) (λ rule n. left_false (breaking rule n (inputting (only 2)) (uses_of t)) (right_false (breaking rule n (outputting (only 0)) (uses_of t)) (later rule n)));
-      beside_error = swapped (inputting (only 2)) (λ rule n. right_false (breaking rule n (inputting (only 1)) (uses_of t)) (right_false (breaking rule n (outputting (only 0)) (uses_of t)) (later rule n)))
+      beside_error = swapped (inputting (only 2)) (λ rule n. right_false (breaking rule n (inputting (only 1)) (uses_of t)) (right_false (breaking rule n (outputting (only 0)) (uses_of t)) (later rule n)));
     }
   where
     others : Clash → Bool
@@ -214,7 +213,7 @@ lawful_where t h =
 pub unlawful_where : (t : T.Term) (rule : Rule) (n : ℕ) → clashes (breaking rule n) t ≡ true → Lawful t → ⊥
 unlawful_where t rule n e h =
     true≢false (sym e ∙ both_false (no_term t h.branches rule n)
-      (both_false (swapped _ h.beside_keyboard rule n) (both_false (swapped _ h.beside_screen rule n) (swapped _ h.beside_error rule n))))
+    (both_false (swapped _ h.beside_keyboard rule n) (both_false (swapped _ h.beside_screen rule n) (swapped _ h.beside_error rule n))))
   where
     swapped : (a : Uses) → StayApart (uses_of t) a → NoneBreaks (λ clash. clash a (uses_of t))
     swapped a g = none_breaks a (uses_of t) record { first_writes = g.second_writes; second_writes = g.first_writes; inputs = λ c i j. g.inputs c j i; outputs = λ c i j. g.outputs c j i }
@@ -226,8 +225,8 @@ beside_uses = with_use (outputting (only 0)) (with_use (inputting (only 1)) (inp
 with_beside : (t : T.Term) (rule : Rule) (n : ℕ) → (clash_in (breaking rule n) t || breaking rule n beside_uses (uses_of t)) ≡ clashes (breaking rule n) t
 with_beside t rule n =
     ap (λ x. clash_in (breaking rule n) t || x)
-      (joined_breaking rule n (outputting (only 0)) (with_use (inputting (only 1)) (inputting (only 2))) (uses_of t)
-      ∙ ap (λ x. breaking rule n (outputting (only 0)) (uses_of t) || x) (joined_breaking rule n (inputting (only 1)) (inputting (only 2)) (uses_of t)))
+    (joined_breaking rule n (outputting (only 0)) (with_use (inputting (only 1)) (inputting (only 2))) (uses_of t)
+    ∙ ap (λ x. breaking rule n (outputting (only 0)) (uses_of t) || x) (joined_breaking rule n (inputting (only 1)) (inputting (only 2)) (uses_of t)))
 
 pub finds_whole : (t : T.Term) (was with_it found : Option Found) → FindsAfter None was (λ clash. clash_in clash t) → Finds with_it (λ clash. clash beside_uses (uses_of t)) → IsOneOf found was with_it
     → Finds found (λ clash. clashes clash t)
@@ -235,10 +234,10 @@ finds_whole t was with_it found p q one =
     record {
       none = λ e rule n. sym (with_beside t rule n) ∙ both_false ((p.none (one.none e).0).1 rule n) (q.none (one.none e).1 rule n);
       some = λ f e. sym (with_beside t f.rule f.number) ∙
-        elim one.one [
-            inl h ↦ elim (p.some f (sym h ∙ e)) [ inl no_way ↦ absurd cc | inr hit ↦ or_left (breaking f.rule f.number beside_uses (uses_of t)) hit ]
-          | inr h ↦ or_right (clash_in (breaking f.rule f.number) t) (q.some f (sym h ∙ e))
-        ]
+          elim one.one [
+            | inl h ↦ elim (p.some f (sym h ∙ e)) [ inl no_way ↦ absurd cc | inr hit ↦ or_left (breaking f.rule f.number beside_uses (uses_of t)) hit ]
+            | inr h ↦ or_right (clash_in (breaking f.rule f.number) t) (q.some f (sym h ∙ e))
+          ];
     }
 
 pub refuses : (fault : UsageFault) (u : Unfolding) (rule : Rule) (n : ℕ) → FaultFor rule fault → clashes (breaking rule n) (meaning u) ≡ true → UsageRefuses fault u

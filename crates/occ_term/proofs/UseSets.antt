@@ -28,12 +28,12 @@ uses_path a b p q r s = λ i. record { reads = p i; writes = q i; ins = r i; out
 pub use_assoc : (a b c : Uses) → with_use (with_use a b) c ≡ with_use a (with_use b c)
 use_assoc a b c =
     uses_path _ _ (fun_ext (λ n. or_assoc (a.reads n) (b.reads n) (c.reads n))) (fun_ext (λ n. or_assoc (a.writes n) (b.writes n) (c.writes n)))
-      (fun_ext (λ n. or_assoc (a.ins n) (b.ins n) (c.ins n))) (fun_ext (λ n. or_assoc (a.outs n) (b.outs n) (c.outs n)))
+    (fun_ext (λ n. or_assoc (a.ins n) (b.ins n) (c.ins n))) (fun_ext (λ n. or_assoc (a.outs n) (b.outs n) (c.outs n)))
 
 pub use_comm : (a b : Uses) → with_use a b ≡ with_use b a
 use_comm a b =
     uses_path _ _ (fun_ext (λ n. or_comm (a.reads n) (b.reads n))) (fun_ext (λ n. or_comm (a.writes n) (b.writes n)))
-      (fun_ext (λ n. or_comm (a.ins n) (b.ins n))) (fun_ext (λ n. or_comm (a.outs n) (b.outs n)))
+    (fun_ext (λ n. or_comm (a.ins n) (b.ins n))) (fun_ext (λ n. or_comm (a.outs n) (b.outs n)))
 
 pub use_none : (a : Uses) → with_use a no_use ≡ a
 use_none a =
@@ -69,10 +69,10 @@ pub left_next : {X : Type 0} (U : List X → Uses) (one : X → Uses) (cons : (x
 left_next U one cons xs i x before now later lt is left adds =
     let next : i + 1 ≡ suc i = omega arith in
     let tail : U (drop i xs) ≡ with_use (one x) (U (drop (i + 1) xs)) =
-      ap U (drop-cons xs i x lt) ∙ cons _ _ ∙ ap (λ y. with_use (one y) (U (drop (suc i) xs))) (sym is) ∙ ap (λ n. with_use (one x) (U (drop n xs))) (sym next) in
+    ap U (drop-cons xs i x lt) ∙ cons _ _ ∙ ap (λ y. with_use (one y) (U (drop (suc i) xs))) (sym is) ∙ ap (λ n. with_use (one x) (U (drop n xs))) (sym next) in
     record {
       is =
-        ap (λ u. with_use u (U (drop (i + 1) xs))) adds.is ∙ use_assoc (uses_in now) (one x) (U (drop (i + 1) xs)) ∙ ap (λ u. with_use (uses_in now) u) (sym tail) ∙ left.is
+          ap (λ u. with_use u (U (drop (i + 1) xs))) adds.is ∙ use_assoc (uses_in now) (one x) (U (drop (i + 1) xs)) ∙ ap (λ u. with_use (uses_in now) u) (sym tail) ∙ left.is;
     }
 
 drop_all : {X : Type 0} (xs : List X) (i : ℕ) → length xs ≤ i → drop i xs ≡ []

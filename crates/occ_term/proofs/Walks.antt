@@ -46,10 +46,10 @@ finds_then {a} {b} {c} {P} {Q} p q =
     record {
       none = λ e. ((p.none (q.none e).0).0, λ rule n. neither ((p.none (q.none e).0).1 rule n) ((q.none e).1 rule n));
       some = λ f e.
-        elim (q.some f e) [
-            inl before ↦ elim (p.some f before) [ inl h ↦ inl h | inr h ↦ inr (or_left (Q (breaking f.rule f.number)) h) ]
-          | inr h ↦ inr (or_right (P (breaking f.rule f.number)) h)
-        ];
+          elim (q.some f e) [
+            | inl before ↦ elim (p.some f before) [ inl h ↦ inl h | inr h ↦ inr (or_left (Q (breaking f.rule f.number)) h) ]
+            | inr h ↦ inr (or_right (P (breaking f.rule f.number)) h)
+          ];
     }
 
 pub finds_as : {a b : Option Found} {P Q : Clash → Bool} → FindsAfter a b P → ((clash : Clash) → P clash ≡ Q clash) → FindsAfter a b Q
@@ -86,7 +86,7 @@ pub leaves_two : {a b : List Use} {P : Clash → Bool} {s t : Option Found} (u v
 leaves_two {a} {b} u v others Q p =
     record {
       uses = ap (λ w. with_use w others) p.adds.is ∙ use_assoc (uses_in a) (with_use u v) others ∙ ap (λ w. with_use (uses_in a) w) (use_assoc u v others);
-      finds = λ last q. finds_then p.finds q
+      finds = λ last q. finds_then p.finds q;
     }
 
 pub leaves_three : {a b : List Use} {P : Clash → Bool} {s t : Option Found} (u v w others : Uses) (Q : Clash → Bool) → Covers (with_use u (with_use v w)) P a b s t
@@ -94,9 +94,9 @@ pub leaves_three : {a b : List Use} {P : Clash → Bool} {s t : Option Found} (u
 leaves_three {a} {b} u v w others Q p =
     record {
       uses =
-        ap (λ x. with_use x others) p.adds.is ∙ use_assoc (uses_in a) (with_use u (with_use v w)) others
-        ∙ ap (λ x. with_use (uses_in a) x) (use_assoc u (with_use v w) others ∙ ap (λ x. with_use u x) (use_assoc v w others));
-      finds = λ last q. finds_then p.finds q
+          ap (λ x. with_use x others) p.adds.is ∙ use_assoc (uses_in a) (with_use u (with_use v w)) others
+          ∙ ap (λ x. with_use (uses_in a) x) (use_assoc u (with_use v w) others ∙ ap (λ x. with_use u x) (use_assoc v w others));
+      finds = λ last q. finds_then p.finds q;
     }
 
 -- what parts of a list leave
@@ -116,10 +116,10 @@ rest_next U C xs i x before now later was is next lt item rest one =
     let here = one (drop (i + 1) xs) in
     record {
       leaves =
-        record {
-          uses = here.uses ∙ ap (λ ys. with_use (uses_in now) (U ys)) tail ∙ rest.leaves.uses;
-          finds = λ last p. rest.leaves.finds last (subst (λ ys. FindsAfter is last (C ys)) tail (here.finds last p))
-        }
+          record {
+            uses = here.uses ∙ ap (λ ys. with_use (uses_in now) (U ys)) tail ∙ rest.leaves.uses;
+            finds = λ last p. rest.leaves.finds last (subst (λ ys. FindsAfter is last (C ys)) tail (here.finds last p));
+          };
     }
 
 pub rest_none : {X : Type 0} (U : List X → Uses) (C : List X → Clash → Bool) (no_uses : U [] ≡ no_use) (no_clash : C [] ≡ (λ clash. false)) (xs : List X) (i : ℕ) (before now : List Use)
@@ -127,8 +127,8 @@ pub rest_none : {X : Type 0} (U : List X → Uses) (C : List X → Clash → Boo
 rest_none U C no_uses no_clash xs i before now was is h rest =
     record {
       adds =
-        record { is = sym (use_none (uses_in now)) ∙ ap (λ u. with_use (uses_in now) u) (sym (ap U (drop_all i xs h) ∙ no_uses)) ∙ rest.leaves.uses };
-      finds = rest.leaves.finds is (subst (λ P. FindsAfter is is P) (sym (ap C (drop_all i xs h) ∙ no_clash)) (finds_none is))
+          record { is = sym (use_none (uses_in now)) ∙ ap (λ u. with_use (uses_in now) u) (sym (ap U (drop_all i xs h) ∙ no_uses)) ∙ rest.leaves.uses };
+      finds = rest.leaves.finds is (subst (λ P. FindsAfter is is P) (sym (ap C (drop_all i xs h) ∙ no_clash)) (finds_none is));
     }
 
 -- ---- branches
@@ -159,9 +159,9 @@ each_next branches i x lists more own before now later was is next lt item each 
     record {
       same = kept ∙ each.same;
       uses =
-        ap (λ l. map uses_in l ++ branch_uses others) e ∙ ap (λ l. l ++ branch_uses others) (map-push uses_in lists own) ∙ append_one (map uses_in lists) (uses_in own) (branch_uses others)
-        ∙ ap (λ u. map uses_in lists ++ u ∷ branch_uses others) mine ∙ ap (λ bs. map uses_in lists ++ branch_uses bs) (sym whole) ∙ each.uses;
-      finds = λ last p. each.finds last (subst (λ bs. FindsAfter is last (clash_within bs)) (sym whole) (finds_then covers.finds p))
+          ap (λ l. map uses_in l ++ branch_uses others) e ∙ ap (λ l. l ++ branch_uses others) (map-push uses_in lists own) ∙ append_one (map uses_in lists) (uses_in own) (branch_uses others)
+          ∙ ap (λ u. map uses_in lists ++ u ∷ branch_uses others) mine ∙ ap (λ bs. map uses_in lists ++ branch_uses bs) (sym whole) ∙ each.uses;
+      finds = λ last p. each.finds last (subst (λ bs. FindsAfter is last (clash_within bs)) (sym whole) (finds_then covers.finds p));
     }
   where
     map-push : {X Y : Type 0} (f : X → Y) (xs : List X) (y : X) → map f (xs ++ y ∷ []) ≡ map f xs ++ f y ∷ []
@@ -174,11 +174,10 @@ each_next branches i x lists more own before now later was is next lt item each 
 
 pub each_none : (branches : List Branch) (i : ℕ) (lists : List (List Use)) (before now : List Use) (was is : Option Found) → length branches ≤ i → Each branches i lists before now was is
     → (map uses_in lists ≡ branch_uses (branches_of branches)) × FindsAfter was is (clash_within (branches_of branches))
-each_none branches i lists before now was is h each =
-    (
-      sym (append_nil (map uses_in lists)) ∙ ap (λ bs. map uses_in lists ++ branch_uses (branches_of bs)) (sym (drop_all i branches h)) ∙ each.uses,
-      each.finds is (subst (λ bs. FindsAfter is is (clash_within (branches_of bs))) (sym (drop_all i branches h)) (finds_none is))
-    )
+each_none branches i lists before now was is h each = (
+  sym (append_nil (map uses_in lists)) ∙ ap (λ bs. map uses_in lists ++ branch_uses (branches_of bs)) (sym (drop_all i branches h)) ∙ each.uses,
+  each.finds is (subst (λ bs. FindsAfter is is (clash_within (branches_of bs))) (sym (drop_all i branches h)) (finds_none is)),
+)
   where
     append_nil : {X : Type 0} (xs : List X) → xs ++ [] ≡ xs
     append_nil [] = refl

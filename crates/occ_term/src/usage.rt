@@ -18,7 +18,10 @@ mod index;
 mod noted;
 mod places;
 mod terms;
+#[cfg(test)]
+mod tests;
 
+use crate::names::{Cell, Channel};
 use crate::term::Term;
 use crate::unfolded::Unfolded;
 use clashes::clash_between;
@@ -116,7 +119,7 @@ pub fn check_usage(alloc: Global, unfolded: Unfolded) -> Result<Checked, Refused
     match find_clash(alloc, unfolded.term()) {
         Ok(None) => Ok(Checked { unfolded }),
         Ok(Some(found)) => {
-            let fault = fault_of(alloc, found, &unfolded);
+            let fault = fault_of(alloc, found, unfolded.cells(), unfolded.channels());
             Err(Refused { fault, unfolded })
         }
         Err(_) => Err(Refused {
@@ -149,11 +152,11 @@ fn uses_beside(alloc: Global) -> Result<Noted, AllocError>
     Ok(noted)
 }
 
-fn fault_of(alloc: Global, found: Found, unfolded: &Unfolded) -> UsageFault
+fn fault_of(alloc: Global, found: Found, cells: &[Cell], channels: &[Channel]) -> UsageFault
     ensures { FaultFor found.rule result }
 {
     let line = found.line;
-    match name_of(alloc, found, unfolded) {
+    match name_of(alloc, found, cells, channels) {
         Err(_) => UsageFault::Memory,
         Ok(name) => match found.rule {
             Rule::Variables => UsageFault::SharedVariable { line, name },
@@ -164,17 +167,22 @@ fn fault_of(alloc: Global, found: Found, unfolded: &Unfolded) -> UsageFault
 }
 
 /// The declared name of the cell, or of the channel.
-fn name_of(alloc: Global, found: Found, unfolded: &Unfolded) -> Result<String, AllocError> {
+fn name_of(
+    alloc: Global,
+    found: Found,
+    cells: &[Cell],
+    channels: &[Channel],
+) -> Result<String, AllocError> {
     let number = found.number as usize;
     let mut name = String::new(alloc);
     match found.rule {
         Rule::Variables => {
-            if let Some(cell) = unfolded.cells().get(number) {
+            if let Some(cell) = cells.get(number) {
                 push_name(&mut name, cell.name.as_slice())?;
             }
         }
         Rule::Inputs | Rule::Outputs => {
-            if let Some(channel) = unfolded.channels().get(number) {
+            if let Some(channel) = channels.get(number) {
                 push_name(&mut name, channel.name.as_slice())?;
             }
         }

@@ -43,7 +43,11 @@ fn clash_across(
 }
 
 /// The first use of the second list that clashes with one of the first.
-pub fn clash_between(alloc: Global, left: &[Use], right: &[Use]) -> Result<Option<Found>, AllocError>
+pub fn clash_between(
+    alloc: Global,
+    left: &[Use],
+    right: &[Use],
+) -> Result<Option<Found>, AllocError>
     ensures { IfOk result (λ found. Finds found (λ clash. clash (uses_in left.now) (uses_in right.now))) }
 {
     let all = Indexes::new(alloc, left)?;

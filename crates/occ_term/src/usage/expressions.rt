@@ -85,7 +85,13 @@ fn note_named(kind: Kind, place: &Place, noted: &mut Noted) -> Result<(), AllocE
 }
 
 /// Notes a use of numbers in a row.
-fn note_row(kind: Kind, line: u32, first: u64, count: u64, noted: &mut Noted) -> Result<(), AllocError>
+fn note_row(
+    kind: Kind,
+    line: u32,
+    first: u64,
+    count: u64,
+    noted: &mut Noted,
+) -> Result<(), AllocError>
     ensures { IfOk result (λ _. Adds noted.old.uses (use_of kind (numbers_in (span first count))) noted.new.uses) }
 {
     match first.checked_add(count) {

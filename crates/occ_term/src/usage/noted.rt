@@ -121,12 +121,6 @@ pub fn earlier(found: Option<Found>, other: Option<Found>) -> Option<Found>
     match (found, other) {
         (None, other) => other,
         (found, None) => found,
-        (Some(a), Some(b)) => {
-            if b.order < a.order {
-                Some(b)
-            } else {
-                Some(a)
-            }
-        }
+        (Some(a), Some(b)) => { if b.order < a.order { Some(b) } else { Some(a) } }
     }
 }

@@ -17,7 +17,7 @@ loop-one-preserved c =
     let one = get_or c.args.right.now c.loop-one.one-index no_use_at in
     let inside = c.loop-one-test.true in
     let misses : (rule : Rule) (n : ℕ) → breaking rule n (uses_in c.args.left.now) (use_at one) ≡ false =
-      λ rule n. ap (λ (u : Uses). breaking rule n u (use_at one)) (sym c.in_ok-all.ensures.uses) ∙ c.clash_of.ensures.none c.in-None.is rule n in
+    λ rule n. ap (λ (u : Uses). breaking rule n u (use_at one)) (sym c.in_ok-all.ensures.uses) ∙ c.clash_of.ensures.none c.in-None.is rule n in
     scan_next _ _ _ one inside (item_at c.args.right.now c.loop-one.one-index no_use_at one inside) c.loop-one.invariant misses
 
 pub returns-in-Some : goal.returns-in-Some
@@ -26,7 +26,7 @@ returns-in-Some c =
     let inside = c.loop-one-test.true in
     let f = c.in-Some.found in
     let hits : breaking f.rule f.number (uses_in c.args.left.now) (use_at one) ≡ true =
-      ap (λ (u : Uses). breaking f.rule f.number u (use_at one)) (sym c.in_ok-all.ensures.uses) ∙ c.clash_of.ensures.some f c.in-Some.is in
+    ap (λ (u : Uses). breaking f.rule f.number u (use_at one)) (sym c.in_ok-all.ensures.uses) ∙ c.clash_of.ensures.some f c.in-Some.is in
     scan_found _ _ _ one f inside (item_at c.args.right.now c.loop-one.one-index no_use_at one inside) c.loop-one.invariant hits
 
 pub returns : goal.returns

@@ -8,19 +8,19 @@ use Rattle.occ_term.proofs.usage.expressions.+reads.Goals as goal
 pub note_expression-returns-in_ok-note_expression-in-Binary-2 : goal.note_expression-returns-in_ok-note_expression-in-Binary-2
 note_expression-returns-in_ok-note_expression-in-Binary-2 t c =
     let seen : union (reads_of (expression_of c.get-in-Binary.result.now)) (reads_of (expression_of c.get-in-Binary-2.result.now)) ≡ reads_of (expression_of c.args.e.now) =
-      search (rules, the_lemmas) in
+    search (rules, the_lemmas) in
     adds_as (adds_then c.in_ok-note_expression-in-Binary.ensures c.in_ok-note_expression-in-Binary-2.ensures) (ap reading seen)
 
 pub note_expression-returns-in_ok-note_expression-in-And-2 : goal.note_expression-returns-in_ok-note_expression-in-And-2
 note_expression-returns-in_ok-note_expression-in-And-2 t c =
     let seen : union (reads_of (expression_of c.get-in-And.result.now)) (reads_of (expression_of c.get-in-And-2.result.now)) ≡ reads_of (expression_of c.args.e.now) =
-      search (rules, the_lemmas) in
+    search (rules, the_lemmas) in
     adds_as (adds_then c.in_ok-note_expression-in-And.ensures c.in_ok-note_expression-in-And-2.ensures) (ap reading seen)
 
 pub note_expression-returns-in_ok-note_expression-in-Or-2 : goal.note_expression-returns-in_ok-note_expression-in-Or-2
 note_expression-returns-in_ok-note_expression-in-Or-2 t c =
     let seen : union (reads_of (expression_of c.get-in-Or.result.now)) (reads_of (expression_of c.get-in-Or-2.result.now)) ≡ reads_of (expression_of c.args.e.now) =
-      search (rules, the_lemmas) in
+    search (rules, the_lemmas) in
     adds_as (adds_then c.in_ok-note_expression-in-Or.ensures c.in_ok-note_expression-in-Or-2.ensures) (ap reading seen)
 
 pub note_value-returns : goal.note_value-returns

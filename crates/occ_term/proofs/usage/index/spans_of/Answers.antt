@@ -15,13 +15,13 @@ loop-one-preserved c =
     let inside = c.loop-one-test.true in
     let here : one ≡ get_or c.args.uses.now c.loop-one.one-index one = item_at c.args.uses.now c.loop-one.one-index no_use_at one inside in
     elim c.match-span_of.branch [
-        in-Some+in_ok-push-in-Some w ↦
+      | in-Some+in_ok-push-in-Some w ↦
           let fits = c.span_of.ensures.some w.in-Some.span w.in-Some.is in
           spans_more c.args.kind c.args.uses.now c.loop-one.one-index one c.loop-one.spans.items c.match-span_of.spans.items w.in-Some.span inside here c.loop-one.invariant fits.0 fits.1
-            (ap (λ v. v.items) w.spans-is ∙ w.in_ok-push-in-Some.ensures.items)
+          (ap (λ v. v.items) w.spans-is ∙ w.in_ok-push-in-Some.ensures.items)
       | in-None w ↦
           subst (λ S. Spans c.args.kind c.args.uses.now (c.loop-one.one-index + 1) S) (ap (λ v. v.items) (sym w.spans-is))
-            (spans_skip c.args.kind c.args.uses.now c.loop-one.one-index one c.loop-one.spans.items inside here c.loop-one.invariant (c.span_of.ensures.none w.in-None.is))
+          (spans_skip c.args.kind c.args.uses.now c.loop-one.one-index one c.loop-one.spans.items inside here c.loop-one.invariant (c.span_of.ensures.none w.in-None.is))
     ]
 
 pub returns-clause-numbers : goal.returns-clause-numbers

@@ -44,8 +44,8 @@ note_term-returns-in_ok-note_lists-in-Par t c =
     let same : map uses_in c.deref.result.now ≡ branch_uses branches = ap (λ (l : List (List Use)). map uses_in l) c.deref.ensures.value ∙ c.in_ok-lists-in-Par.ensures.uses in
     let covers = covers_par branches _ same c.in_ok-lists-in-Par.ensures.finds c.in_ok-note_lists-in-Par.ensures in
     covers_at (T.Par branches) _
-      (subst (λ (us : List Use). Covers (uses_of_branches branches) (λ (clash : Clash). clash_in_branches clash branches) us c.note_lists.new.noted.uses c.args.found.now c.note_lists.new.found)
-        c.uses_of_each.ensures.noted covers) seen
+    (subst (λ (us : List Use). Covers (uses_of_branches branches) (λ (clash : Clash). clash_in_branches clash branches) us c.note_lists.new.noted.uses c.args.found.now c.note_lists.new.found)
+    c.uses_of_each.ensures.noted covers) seen
 
 pub note_arm-returns-in_ok-note_term-in-SkipArm : goal.note_arm-returns-in_ok-note_term-in-SkipArm
 note_arm-returns-in_ok-note_term-in-SkipArm t c = λ (others : T.Arms).
@@ -103,7 +103,7 @@ note_arms-returns t c = rest_none _ _ refl refl _ _ _ _ _ _ c.loop-arm-test.fals
 pub note_arms-loop-arm-preserved : goal.note_arms-loop-arm-preserved
 note_arms-loop-arm-preserved t c =
     rest_next (λ xs. uses_of_arms (arms_of xs)) (λ xs clash. clash_in_arms clash (arms_of xs)) _ _ _ _ _ _ _ _ _ c.loop-arm-test.true c.arm-item.is c.loop-arm.invariant
-      (λ others. c.in_ok-note_arm.ensures (arms_of others))
+    (λ others. c.in_ok-note_arm.ensures (arms_of others))
 
 pub note_choices-returns : goal.note_choices-returns
 note_choices-returns t c = rest_none _ _ refl refl _ _ _ _ _ _ c.loop-choice-test.false c.loop-choice.invariant
@@ -111,7 +111,7 @@ note_choices-returns t c = rest_none _ _ refl refl _ _ _ _ _ _ c.loop-choice-tes
 pub note_choices-loop-choice-preserved : goal.note_choices-loop-choice-preserved
 note_choices-loop-choice-preserved t c =
     rest_next (λ xs. uses_of_choices (choices_of xs)) (λ xs clash. clash_in_choices clash (choices_of xs)) _ _ _ _ _ _ _ _ _ c.loop-choice-test.true c.choice-item.is c.loop-choice.invariant
-      (λ others. c.in_ok-note_choice.ensures (choices_of others))
+    (λ others. c.in_ok-note_choice.ensures (choices_of others))
 
 pub note_options-returns : goal.note_options-returns
 note_options-returns t c = rest_none _ _ refl refl _ _ _ _ _ _ c.loop-option-test.false c.loop-option.invariant
@@ -119,7 +119,7 @@ note_options-returns t c = rest_none _ _ refl refl _ _ _ _ _ _ c.loop-option-tes
 pub note_options-loop-option-preserved : goal.note_options-loop-option-preserved
 note_options-loop-option-preserved t c =
     rest_next (λ xs. uses_of_options (options_of xs)) (λ xs clash. clash_in_options clash (options_of xs)) _ _ _ _ _ _ _ _ _ c.loop-option-test.true c.option-item.is c.loop-option.invariant
-      (λ others. c.in_ok-note_option.ensures (options_of others))
+    (λ others. c.in_ok-note_option.ensures (options_of others))
 
 pub note_terms-returns : goal.note_terms-returns
 note_terms-returns t c = rest_none _ _ refl refl _ _ _ _ _ _ c.loop-part-test.false c.loop-part.invariant
@@ -127,7 +127,7 @@ note_terms-returns t c = rest_none _ _ refl refl _ _ _ _ _ _ c.loop-part-test.fa
 pub note_terms-loop-part-preserved : goal.note_terms-loop-part-preserved
 note_terms-loop-part-preserved t c =
     rest_next (λ xs. uses_of_terms (terms_of xs)) (λ xs clash. clash_in_terms clash (terms_of xs)) _ _ _ _ _ _ _ _ _ c.loop-part-test.true c.part-item.is c.loop-part.invariant
-      (λ others. leaves_one (uses_of_terms (terms_of others)) (λ clash. clash_in_terms clash (terms_of others)) c.in_ok-note_term.ensures)
+    (λ others. leaves_one (uses_of_terms (terms_of others)) (λ clash. clash_in_terms clash (terms_of others)) c.in_ok-note_term.ensures)
 
 pub note_variants-returns : goal.note_variants-returns
 note_variants-returns t c = rest_none _ _ refl refl _ _ _ _ _ _ c.loop-variant-test.false c.loop-variant.invariant
@@ -139,15 +139,15 @@ note_variants-loop-variant-preserved t c =
     let targets = targets_of c.as_slice-in-loop-variant.result.now in
     let seen : (others : T.Variants) → T.or_variant x.tag declarations targets (term_of x.body) others ≡ variant_of x others = λ others. search (rules, the_lemmas) in
     rest_next (λ xs. uses_of_variants (variants_of xs)) (λ xs clash. clash_in_variants clash (variants_of xs)) _ _ _ _ _ _ _ _ _ c.loop-variant-test.true c.variant-item.is c.loop-variant.invariant
-      (λ others.
-        leaves_variant (variants_of others) (T.or_variant x.tag declarations targets (term_of x.body) (variants_of others)) (variant_of x (variants_of others)) (seen (variants_of others))
-          (leaves_three (uses_of_declarations declarations) (uses_of_targets targets) (uses_of (term_of x.body)) (uses_of_variants (variants_of others)) (λ clash. clash_in_variants clash (variants_of others))
-            (adds_covers c.in_ok-note_declarations.ensures (adds_covers c.in_ok-note_targets.ensures c.in_ok-note_term.ensures))))
+    (λ others.
+    leaves_variant (variants_of others) (T.or_variant x.tag declarations targets (term_of x.body) (variants_of others)) (variant_of x (variants_of others)) (seen (variants_of others))
+    (leaves_three (uses_of_declarations declarations) (uses_of_targets targets) (uses_of (term_of x.body)) (uses_of_variants (variants_of others)) (λ clash. clash_in_variants clash (variants_of others))
+    (adds_covers c.in_ok-note_declarations.ensures (adds_covers c.in_ok-note_targets.ensures c.in_ok-note_term.ensures))))
 
 pub uses_of_each-loop-branch-preserved : goal.uses_of_each-loop-branch-preserved
 uses_of_each-loop-branch-preserved t c =
     let x = c.branch-item.result in
     let seen : (others : T.Branches) → branch_of x others ≡ T.and_branch x.number (term_of x.body) others = λ others. search (rules, the_lemmas) in
     let covers = subst (λ (us : List Use). Covers (uses_of (term_of x.body)) (λ (clash : Clash). clash_in clash (term_of x.body)) us c.note_term.new.noted.uses c.loop-branch.found c.note_term.new.found)
-      c.new-own.ensures c.in_ok-note_term.ensures in
+    c.new-own.ensures c.in_ok-note_term.ensures in
     each_next _ _ x _ _ c.note_term.new.noted.uses _ _ _ _ _ _ c.loop-branch-test.true c.branch-item.is c.loop-branch.invariant covers refl c.in_ok-push.ensures.items seen

@@ -8,12 +8,12 @@ use Rattle.occ_term.proofs.usage.index.Index.first_within.Goals as goal
 pub returns-then-reaches_past : goal.returns-then-reaches_past
 returns-then-reaches_past c =
     within_some _ _ _ _ (omega arith) (omega arith)
-      (covered_begun c.args.self.now.spans.items c.begun-begun.result c.args.first c.begun-begun.ensures.begun (sym c.reaches_past.ensures ∙ c.if-reaches_past.true))
+    (covered_begun c.args.self.now.spans.items c.begun-begun.result c.args.first c.begun-begun.ensures.begun (sym c.reaches_past.ensures ∙ c.if-reaches_past.true))
 
 pub returns-then-begun-len : goal.returns-then-begun-len
 returns-then-begun-len c =
     within_none _ _ _ (λ n low high.
-      none_covered c.args.self.now.spans.items c.begun-begun.result c.args.first c.args.end n (sym c.reaches_past.ensures ∙ c.if-reaches_past.false) (λ j d l h. absurd (omega (arith, c.if-begun-len.true, c.len.ensures))) low high)
+    none_covered c.args.self.now.spans.items c.begun-begun.result c.args.first c.args.end n (sym c.reaches_past.ensures ∙ c.if-reaches_past.false) (λ j d l h. absurd (omega (arith, c.if-begun-len.true, c.len.ensures))) low high)
 
 pub returns-then-next-end : goal.returns-then-next-end
 returns-then-next-end c =
@@ -29,5 +29,5 @@ returns-else-next-end c =
     let spans = c.args.self.now.spans.items in
     let k = c.begun-begun.result in
     within_none _ _ _ (λ n low high.
-      none_covered spans k c.args.first c.args.end n (sym c.reaches_past.ensures ∙ c.if-reaches_past.false)
-        (later_from spans k c.args.end c.index-next.result.now c.index-next.ensures c.if-next-end.false c.requires.rises) low high)
+    none_covered spans k c.args.first c.args.end n (sym c.reaches_past.ensures ∙ c.if-reaches_past.false)
+    (later_from spans k c.args.end c.index-next.result.now c.index-next.ensures c.if-next-end.false c.requires.rises) low high)

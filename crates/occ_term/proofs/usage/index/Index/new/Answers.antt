@@ -10,7 +10,7 @@ returns-clause-sound c =
     record {
       rises = IsNonDecreasingBy-from_sort_by_key (λ (s : Span). s.first) _ c.sort_unstable_by_key.ensures.sorted (λ a r q k. search rules);
       filled = All-permutation (λ (s : Span). s.first < s.end) _ _ c.sort_unstable_by_key.ensures.permutation c.in_ok-spans.ensures.filled;
-      ends = c.in_ok-ends.ensures ∙ ap (furthest 0) c.deref.ensures.value
+      ends = c.in_ok-ends.ensures ∙ ap (furthest 0) c.deref.ensures.value;
     }
 
 pub returns-clause-numbers : goal.returns-clause-numbers

@@ -14,4 +14,4 @@ no_use_at = record { kind = Read; first = 0; end = 0; line = 0; order = 0 }
 pub loop-one-preserved : goal.loop-one-preserved
 loop-one-preserved c =
     left_next _ (λ u. use_of u.kind (between u.first u.end)) (λ x xs. refl) _ _ (get_or c.args.list.now c.loop-one.one-index no_use_at) _ _ _ c.loop-one-test.true
-      (item_at c.args.list.now c.loop-one.one-index no_use_at _ c.loop-one-test.true) c.loop-one.invariant (adds_one _ c.in_ok-push.ensures.ok)
+    (item_at c.args.list.now c.loop-one.one-index no_use_at _ c.loop-one-test.true) c.loop-one.invariant (adds_one _ c.in_ok-push.ensures.ok)
