@@ -17,6 +17,9 @@ pub mod TypedSteps
 pub mod StepUses
 pub mod View
 pub mod Unfolding
+pub mod Clashes
+pub mod Noted
+pub mod Indexes
 pub mod Refusals
 pub mod Sizes
 pub mod Processes

@@ -1,13 +1,20 @@
 -- What a refusal says of the program.
 -- Manual: the usage rules check list.
-use Rattle.std.specs.Prelude.{⊤}
+use Rattle.std.specs.Prelude.{IsTrue, ℕ, ⊤}
 use Rattle.occ_term.specs.declared.usage.UsageFault.{UsageFault}
 use Rattle.occ_term.specs.declared.usage.UsageFault.TheVariants.{SharedVariable, TwoInputs, TwoOutputs, Memory}
-use Rattle.occ_term.specs.Unfolding.{Unfolding, Lawful}
+use Rattle.occ_term.specs.Unfolding.{Unfolding, meaning, Lawful}
+use Rattle.occ_term.specs.Clashes.{Clash, clashes, shared_variable, two_inputs, two_outputs}
 
--- want of memory says nothing; every other refusal, that the usage rules are broken
+-- some number breaks the rule in the term, which then isn't lawful
+pub record Breaks (rule : ℕ → Clash) (u : Unfolding) : Type 0 where
+  pub number : ℕ
+  pub there : IsTrue (clashes (rule number) (meaning u))
+  pub unlawful : Lawful u → ⊥
+
+-- want of memory says nothing
 abbrev pub UsageRefuses : UsageFault → Unfolding → Type 0
-UsageRefuses (SharedVariable line name) u = Lawful u → ⊥
-UsageRefuses (TwoInputs line name) u = Lawful u → ⊥
-UsageRefuses (TwoOutputs line name) u = Lawful u → ⊥
+UsageRefuses (SharedVariable line name) u = Breaks shared_variable u
+UsageRefuses (TwoInputs line name) u = Breaks two_inputs u
+UsageRefuses (TwoOutputs line name) u = Breaks two_outputs u
 UsageRefuses Memory u = ⊤
