@@ -4,3 +4,5 @@ mod Turns
 mod Lengths
 mod Rows
 mod Compiling
+mod SequentialPlaces
+mod SequentialExpressions

@@ -3,6 +3,7 @@
 
 pub mod body;
 pub mod code;
+pub mod laws;
 mod early;
 pub mod task;
 

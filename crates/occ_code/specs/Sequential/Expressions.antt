@@ -1,0 +1,51 @@
+-- The instructions that evaluate expressions, items and targets.
+-- Manual: nothing; this is (own).
+use Rattle.std.specs.Prelude.{List, [], length, pos, ℕ, ◌++◌, ◌∷◌}
+use Rattle.occ_term.specs.Messages.{product}
+use Rattle.occ_term.specs.Terms.{Expression, Constant, Cell, Component, Letter, Binary, Unary, And, Or, Conversion, Place, place, Subscripts, no_subscripts, then_subscript, Cells, Text, Item, OfOne, OfMany, OfCounted, Target, Into, IntoCounted}
+use Rattle.occ_term.specs.Uses.{components}
+use Rattle.occ_code.specs.Sequential.Machine.{Instruction, Push, Load, LoadAt, LoadLetter, Subscript, Operate, OperateOne, ConvertTo, AndThen, OrElse, PartOne, PartMany, PartText, PartCounted, PartCountedText, SpotOne, SpotCounted}
+
+abbrev mutual
+  pub expression_code : Expression → List Instruction
+  expression_code (Constant v) = Push v ∷ []
+  expression_code (Cell c) = Load c ∷ []
+  expression_code (Component p) = place_code p ++ LoadAt ∷ []
+  expression_code (Letter line text e) = expression_code e ++ LoadLetter line text ∷ []
+  expression_code (Binary op type line a b) = expression_code a ++ (expression_code b ++ Operate op type line ∷ [])
+  expression_code (Unary op type line a) = expression_code a ++ OperateOne op type line ∷ []
+  expression_code (And a b) = expression_code a ++ AndThen (length (expression_code b)) ∷ expression_code b
+  expression_code (Or a b) = expression_code a ++ OrElse (length (expression_code b)) ∷ expression_code b
+  expression_code (Conversion to line a) = expression_code a ++ ConvertTo to line ∷ []
+
+  -- the first cell or channel that a place names
+  pub place_code : Place → List Instruction
+  place_code (place line first sizes subs) = Push (pos first) ∷ subscripts_code subs line sizes
+
+  pub subscripts_code : Subscripts → ℕ → List ℕ → List Instruction
+  subscripts_code no_subscripts line sizes = []
+  subscripts_code (then_subscript e es) line [] = []
+  subscripts_code (then_subscript e es) line (n ∷ ns) = expression_code e ++ Subscript line n (product ns) ∷ subscripts_code es line ns
+
+-- how many cells or channels a place names
+abbrev pub components_at : Place → ℕ
+components_at (place line first sizes subs) = components subs sizes
+
+abbrev pub item_code : Item → List Instruction
+item_code (OfOne type e) = expression_code e ++ PartOne type ∷ []
+item_code (OfMany type (Cells p)) = place_code p ++ PartMany type (components_at p) ∷ []
+item_code (OfMany type (Text bytes)) = PartText type bytes ∷ []
+item_code (OfCounted type line n (Cells p)) = expression_code n ++ (place_code p ++ PartCounted type line (components_at p) ∷ [])
+item_code (OfCounted type line n (Text bytes)) = expression_code n ++ PartCountedText type line bytes ∷ []
+
+abbrev pub items_code : List Item → List Instruction
+items_code [] = []
+items_code (i ∷ is) = item_code i ++ items_code is
+
+abbrev pub target_code : Target → List Instruction
+target_code (Into p) = place_code p ++ SpotOne (components_at p) ∷ []
+target_code (IntoCounted line n a) = place_code n ++ (place_code a ++ SpotCounted line (components_at n) (components_at a) ∷ [])
+
+abbrev pub targets_code : List Target → List Instruction
+targets_code [] = []
+targets_code (t ∷ ts) = target_code t ++ targets_code ts

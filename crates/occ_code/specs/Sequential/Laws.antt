@@ -1,0 +1,36 @@
+-- Laws of the code of sequential processes.
+-- Manual: nothing; this is (own).
+use Rattle.std.specs.Prelude.{List, [], length, slice_get, ℕ, ℤ, ◌+◌, ◌∷◌, ◌≡◌, Some}
+use Rattle.occ_term.specs.declared.fault.Fault.{Fault}
+use Rattle.occ_term.specs.declared.message.Part.{Part}
+use Rattle.occ_term.specs.Terms.{Expression}
+use Rattle.occ_term.specs.Values.{Evaluated, Value, Fails, value_of}
+use Rattle.occ_term.specs.Storing.{Spot}
+use Rattle.occ_term.specs.Frames.{Variables, at}
+use Rattle.occ_code.specs.declared.task.Wait.TheVariants.{Faulted}
+use Rattle.occ_code.specs.Sequential.Machine.{Instruction, Point, point, Stops, effect, Walks}
+use Rattle.occ_code.specs.Sequential.Expressions.{expression_code}
+
+-- these instructions stand from the one place to the other
+abbrev pub StandsAt : List Instruction → ℕ → List Instruction → ℕ → Type 0
+StandsAt code pc [] pc' = pc ≡ pc'
+StandsAt code pc (i ∷ is) pc' = (slice_get code pc ≡ Some i) × StandsAt code (pc + 1) is pc'
+
+-- a stop by a fault
+pub record FaultsAt (code : List Instruction) (a : Point) (f : Variables) (e : Fault) : Type 0 where
+  pub last : Point
+  pub stands : ℕ
+  pub walks : Walks code a last
+  pub stops : effect code last ≡ Stops stands f (Faulted e)
+
+-- from a point to what an evaluation gives, or to its fault, by instructions in a row
+pub data Comes {X : Type 0} (code : List Instruction) (f : Variables) (a : Point) : Evaluated X → (X → Point) → Type 0 where
+  comes : {x : X} {to : X → Point} → Walks code a (to x) → Comes code f a (Value x) to
+  fails : {e : Fault} {to : X → Point} → FaultsAt code a f e → Comes code f a (Fails e) to
+
+-- an expression's code brings its value to the top of the stack
+abbrev pub ExpressionsRun : Type 0
+ExpressionsRun =
+    (code : List Instruction) (f : Variables) (e : Expression) (pc pc' : ℕ) (st : List ℤ) (q : List Part) (sp : List Spot)
+    → StandsAt code pc (expression_code e) pc'
+    → Comes code f (point pc st q sp f) (value_of e (at f)) (λ v. point pc' (v ∷ st) q sp f)
