@@ -6,3 +6,4 @@ mod Rows
 mod Compiling
 mod SequentialPlaces
 mod SequentialExpressions
+mod SequentialItems

@@ -1,8 +1,18 @@
 //! Laws of the code of sequential processes. Each function's contract is the law; its body does nothing.
 
-ghost use Rattle.occ_code.specs.Sequential.Laws.{ExpressionsRun};
+ghost use Rattle.occ_code.specs.Sequential.Laws.{ExpressionsRun, ItemsRun, TargetsRun};
 
 /// The code of an expression brings its value to the top of the stack, or comes to its fault.
 pub fn expressions_run()
     ensures { ExpressionsRun }
+{}
+
+/// The code of items makes the parts of a message, or comes to their first fault.
+pub fn items_run()
+    ensures { ItemsRun }
+{}
+
+/// The code of targets makes their spots, or comes to their first fault.
+pub fn targets_run()
+    ensures { TargetsRun }
 {}

@@ -1,15 +1,15 @@
 -- Laws of the code of sequential processes.
 -- Manual: nothing; this is (own).
-use Rattle.std.specs.Prelude.{List, [], length, slice_get, ℕ, ℤ, ◌+◌, ◌∷◌, ◌≡◌, Some}
+use Rattle.std.specs.Prelude.{List, [], length, slice_get, ℕ, ℤ, ◌+◌, ◌++◌, ◌∷◌, ◌≡◌, Some}
 use Rattle.occ_term.specs.declared.fault.Fault.{Fault}
 use Rattle.occ_term.specs.declared.message.Part.{Part}
-use Rattle.occ_term.specs.Terms.{Expression}
-use Rattle.occ_term.specs.Values.{Evaluated, Value, Fails, value_of}
-use Rattle.occ_term.specs.Storing.{Spot}
+use Rattle.occ_term.specs.Terms.{Expression, Item, Target}
+use Rattle.occ_term.specs.Values.{Evaluated, Value, Fails, value_of, parts_of}
+use Rattle.occ_term.specs.Storing.{Spot, spots_of}
 use Rattle.occ_term.specs.Frames.{Variables, at}
 use Rattle.occ_code.specs.declared.task.Wait.TheVariants.{Faulted}
 use Rattle.occ_code.specs.Sequential.Machine.{Instruction, Point, point, Stops, effect, Walks}
-use Rattle.occ_code.specs.Sequential.Expressions.{expression_code}
+use Rattle.occ_code.specs.Sequential.Expressions.{expression_code, items_code, targets_code}
 
 -- these instructions stand from the one place to the other
 abbrev pub StandsAt : List Instruction → ℕ → List Instruction → ℕ → Type 0
@@ -34,3 +34,17 @@ ExpressionsRun =
     (code : List Instruction) (f : Variables) (e : Expression) (pc pc' : ℕ) (st : List ℤ) (q : List Part) (sp : List Spot)
     → StandsAt code pc (expression_code e) pc'
     → Comes code f (point pc st q sp f) (value_of e (at f)) (λ v. point pc' (v ∷ st) q sp f)
+
+-- the code of items puts their parts at the end of the queue
+abbrev pub ItemsRun : Type 0
+ItemsRun =
+    (code : List Instruction) (f : Variables) (is : List Item) (pc pc' : ℕ) (st : List ℤ) (q : List Part) (sp : List Spot)
+    → StandsAt code pc (items_code is) pc'
+    → Comes code f (point pc st q sp f) (parts_of is (at f)) (λ ps. point pc' st (q ++ ps) sp f)
+
+-- the code of targets puts their spots at the end of those that there are
+abbrev pub TargetsRun : Type 0
+TargetsRun =
+    (code : List Instruction) (f : Variables) (ts : List Target) (pc pc' : ℕ) (st : List ℤ) (q : List Part) (sp : List Spot)
+    → StandsAt code pc (targets_code ts) pc'
+    → Comes code f (point pc st q sp f) (spots_of ts (at f)) (λ xs. point pc' st q (sp ++ xs) f)
