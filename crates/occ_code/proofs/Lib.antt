@@ -7,3 +7,5 @@ mod Compiling
 mod SequentialPlaces
 mod SequentialExpressions
 mod SequentialItems
+mod SequentialReads
+mod SequentialFrames
