@@ -9,3 +9,4 @@ mod SequentialExpressions
 mod SequentialItems
 mod SequentialReads
 mod SequentialFrames
+mod SequentialStatements

@@ -2,9 +2,9 @@
 -- Manual: nothing; this is (own).
 use Rattle.std.specs.Prelude.{List, [], length, pos, ℕ, ◌++◌, ◌∷◌}
 use Rattle.occ_term.specs.Messages.{product}
-use Rattle.occ_term.specs.Terms.{Expression, Constant, Cell, Component, Letter, Binary, Unary, And, Or, Conversion, Place, place, Subscripts, no_subscripts, then_subscript, Cells, Text, Item, OfOne, OfMany, OfCounted, Target, Into, IntoCounted}
+use Rattle.occ_term.specs.Terms.{Expression, Constant, Cell, Component, Letter, Binary, Unary, And, Or, Conversion, Place, place, Subscripts, no_subscripts, then_subscript, Cells, Text, Item, OfOne, OfMany, OfCounted, Target, Into, IntoCounted, Declaration, Clearing, Naming, Replicator, replicator}
 use Rattle.occ_term.specs.Uses.{components}
-use Rattle.occ_code.specs.Sequential.Machine.{Instruction, Push, Load, LoadAt, LoadLetter, Subscript, Operate, OperateOne, ConvertTo, AndThen, OrElse, PartOne, PartMany, PartText, PartCounted, PartCountedText, SpotOne, SpotCounted}
+use Rattle.occ_code.specs.Sequential.Machine.{Instruction, Push, Load, LoadAt, LoadLetter, Subscript, Operate, OperateOne, ConvertTo, AndThen, OrElse, PartOne, PartMany, PartText, PartCounted, PartCountedText, SpotOne, SpotCounted, StoreParts, StoreNamed, ClearCells, CountedFrom}
 
 abbrev mutual
   pub expression_code : Expression → List Instruction
@@ -49,3 +49,18 @@ target_code (IntoCounted line n a) = place_code n ++ (place_code a ++ SpotCounte
 abbrev pub targets_code : List Target → List Instruction
 targets_code [] = []
 targets_code (t ∷ ts) = target_code t ++ targets_code ts
+
+abbrev pub declaration_code : Declaration → List Instruction
+declaration_code (Clearing first count) = ClearCells first count ∷ []
+declaration_code (Naming first value) = item_code value ++ StoreNamed first ∷ []
+
+abbrev pub declarations_code : List Declaration → List Instruction
+declarations_code [] = []
+declarations_code (d ∷ ds) = declaration_code d ++ declarations_code ds
+
+-- what takes the parts in the queue
+abbrev pub storing_code : List Target → List Instruction
+storing_code ts = targets_code ts ++ StoreParts ∷ []
+
+abbrev pub counting_code : Replicator → List Instruction
+counting_code (replicator line index base count) = expression_code base ++ (expression_code count ++ CountedFrom line ∷ [])
