@@ -10,3 +10,4 @@ mod SequentialItems
 mod SequentialReads
 mod SequentialFrames
 mod SequentialStatements
+mod SequentialResults

@@ -1,3 +1,4 @@
 pub mod Machine
 pub mod Expressions
 pub mod Laws
+pub mod Layout
