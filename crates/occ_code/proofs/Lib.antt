@@ -11,3 +11,4 @@ mod SequentialReads
 mod SequentialFrames
 mod SequentialStatements
 mod SequentialResults
+mod SequentialRuns

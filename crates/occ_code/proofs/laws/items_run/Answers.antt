@@ -1,5 +1,6 @@
 use Rattle.occ_code.proofs.SequentialItems as items
 use Rattle.occ_code.proofs.SequentialReads as reads
+use Rattle.occ_code.proofs.SequentialRuns as runs
 use Rattle.occ_code.proofs.SequentialResults as results
 use Rattle.occ_code.proofs.SequentialStatements as statements
 use Rattle.occ_code.proofs.SequentialFrames as frames
