@@ -300,19 +300,22 @@ module _ (code : List Instruction) (cells : List ℕ) (d : Declared) where
     choices_run : (cs : Choices) (f : Variables) (pc next pc' : ℕ) (st : List ℤ) → ChoicesHave d cs → Has (uses_of_choices cs).reads → ChoicesAt code pc cs next pc' → Chooses f (point pc st [] [] f) (choice_of cs) st next pc'
     choices_run no_choices f pc next pc' st h k l = performs None (point next st [] [] f) (ways_walk code st [] [] f l) refl refl (λ s hs. record { store = s; gives_it = refl; holds = hs })
     choices_run (or_choice e t cs) f pc next pc' st h k l =
-        let (ke, r) = (held_left code cells d (reads_of e) (with_use (uses_of t) (uses_of_choices cs)).reads k, held_right code cells d (reads_of e) (with_use (uses_of t) (uses_of_choices cs)).reads k) in
+        let ke = held_left code cells d (reads_of e) (with_use (uses_of t) (uses_of_choices cs)).reads k in
+        let r = held_right code cells d (reads_of e) (with_use (uses_of t) (uses_of_choices cs)).reads k in
         performs_by code cells (value_of e) (value_of e (at f)) (λ v. point l.0 (v ∷ st) [] [] f) (λ v s'. if holds v then Gives (Some t) s' else choice_of cs s') (expression_runs code f [] [] e pc l.0 st l.2)
         (value_agrees e Boolean f h.0 ke)
         (λ v q. by_test f l.0 l.1 next pc' st v t (choice_of cs) (holds v) refl l.3 (term_runs t f (l.0 + 1) pc' h.1 (held_left code cells d (uses_of t).reads (uses_of_choices cs).reads r) l.4)
             (choices_run cs f (l.0 + 1 + l.1) next pc' st h.2 (held_right code cells d (uses_of t).reads (uses_of_choices cs).reads r) l.5))
     choices_run (declared_choices x within others) f pc next pc' st h k l =
-        let (kx, r) = (held_left code cells d (uses_of_declaration x).reads (with_use (uses_of_choices within) (uses_of_choices others)).reads k, held_right code cells d (uses_of_declaration x).reads (with_use (uses_of_choices within) (uses_of_choices others)).reads k) in
+        let kx = held_left code cells d (uses_of_declaration x).reads (with_use (uses_of_choices within) (uses_of_choices others)).reads k in
+        let r = held_right code cells d (uses_of_declaration x).reads (with_use (uses_of_choices within) (uses_of_choices others)).reads k in
         chooses_next (λ s. then_in (declared x s) (λ y s'. choice_of within s')) (choice_of others) st st l.1 next pc'
         (sets_then code cells d (declared x) l.0 st [] [] (choice_of within) (declaration_runs code cells d x f pc l.0 st [] h.0 kx l.2)
             (λ g. choices_run within g l.0 l.1 pc' st h.1 (held_left code cells d (uses_of_choices within).reads (uses_of_choices others).reads r) l.3))
         (λ g. choices_run others g l.1 next pc' st h.2 (held_right code cells d (uses_of_choices within).reads (uses_of_choices others).reads r) l.4)
     choices_run (each_choice over within others) f pc next pc' st h k l =
-        let (kx, r) = (held_left code cells d (uses_of_replicator over).reads (with_use (uses_of_choices within) (uses_of_choices others)).reads k, held_right code cells d (uses_of_replicator over).reads (with_use (uses_of_choices within) (uses_of_choices others)).reads k) in
+        let kx = held_left code cells d (uses_of_replicator over).reads (with_use (uses_of_choices within) (uses_of_choices others)).reads k in
+        let r = held_right code cells d (uses_of_replicator over).reads (with_use (uses_of_choices within) (uses_of_choices others)).reads k in
         let inner = (λ (g : Variables) (st' : List ℤ). choices_run within g (l.0 + 1) l.2 pc' st' h.2 (held_left code cells d (uses_of_choices within).reads (uses_of_choices others).reads r) l.6) in
         chooses_next (λ s. then_in (in_store (indices_of over s) s) (λ is s'. choice_over (choice_of within) (index_of over) is s')) (choice_of others) st st (l.0 + 1 + l.1) next pc'
         (performs_by code cells (indices_of over) (indices_of over (at f)) (λ is. point l.0 (counting is st) [] [] f) (λ is s'. choice_over (choice_of within) (index_of over) is s') (counting_runs code cells d over f pc l.0 st [] l.4)
@@ -324,7 +327,8 @@ module _ (code : List Instruction) (cells : List ℕ) (d : Declared) where
         → ((g : Variables) → Enters g (point next (v ∷ []) [] [] g) (enters other) pc') → Enters f (point pc (v ∷ []) [] [] f) (enters (either (matching v os) other)) pc'
     options_run no_options f v pc next pc' type other h k l r = performs_on code cells (ways_walk code (v ∷ []) [] [] f l) (r f)
     options_run (or_option constants ds t os) f v pc next pc' type other h k l r =
-        let (kd, kr) = (held_left code cells d (uses_of_declarations ds).reads (with_use (uses_of t) (uses_of_options os)).reads k, held_right code cells d (uses_of_declarations ds).reads (with_use (uses_of t) (uses_of_options os)).reads k) in
+        let kd = held_left code cells d (uses_of_declarations ds).reads (with_use (uses_of t) (uses_of_options os)).reads k in
+        let kr = held_right code cells d (uses_of_declarations ds).reads (with_use (uses_of t) (uses_of_options os)).reads k in
         among f pc l.0 pc' v constants ds t (matching v os) other (is_among v constants) refl l.2
         (selected_runs ds t f (pc + 1) l.1 pc' h.1 kd l.3 (λ g. term_runs t g l.1 pc' h.2 (held_left code cells d (uses_of t).reads (uses_of_options os).reads kr) l.4))
         (options_run os f v (pc + 1 + l.0) next pc' type other h.3 (held_right code cells d (uses_of t).reads (uses_of_options os).reads kr) l.5 r)
@@ -336,15 +340,18 @@ module _ (code : List Instruction) (cells : List ℕ) (d : Declared) where
     else_runs (or_option constants ds t os) f v pc pc' type h k l =
         else_runs os f v pc pc' type h.3 (held_right code cells d (uses_of t).reads (uses_of_options os).reads (held_right code cells d (uses_of_declarations ds).reads (with_use (uses_of t) (uses_of_options os)).reads k)) l
     else_runs (or_else ds t os) f v pc pc' type h k l =
-        let (kd, kr) = (held_left code cells d (uses_of_declarations ds).reads (with_use (uses_of t) (uses_of_options os)).reads k, held_right code cells d (uses_of_declarations ds).reads (with_use (uses_of t) (uses_of_options os)).reads k) in
+        let kd = held_left code cells d (uses_of_declarations ds).reads (with_use (uses_of t) (uses_of_options os)).reads k in
+        let kr = held_right code cells d (uses_of_declarations ds).reads (with_use (uses_of t) (uses_of_options os)).reads k in
         performs_on code cells (steps_to code f pc (v ∷ []) [] [] DropOne (start (pc + 1) f) l.1 refl)
         (selected_runs ds t f (pc + 1) l.0 pc' h.0 kd l.2 (λ g. term_runs t g l.0 pc' h.1 (held_left code cells d (uses_of t).reads (uses_of_options os).reads kr) l.3))
 
     pub variants_run : (vs : Variants) (f : Variables) (tag pc pc' : ℕ) (ps : List Part) (p : Protocol) → VariantsHave d p vs → Has (uses_of_variants vs).reads → VariantsAt code pc vs pc' → Enters f (point pc (pos tag ∷ []) ps [] f) (variant_taken tag ps vs) pc'
     variants_run no_variants f tag pc pc' ps p h k l = enters_none f pc pc' (pos tag ∷ []) ps l
     variants_run (or_variant t ds ts body vs) f tag pc pc' ps p h k l =
-        let (kd, kr) = (held_left code cells d (uses_of_declarations ds).reads (with_use (uses_of_targets ts) (with_use (uses_of body) (uses_of_variants vs))).reads k, held_right code cells d (uses_of_declarations ds).reads (with_use (uses_of_targets ts) (with_use (uses_of body) (uses_of_variants vs))).reads k) in
-        let (kt, kb) = (held_left code cells d (uses_of_targets ts).reads (with_use (uses_of body) (uses_of_variants vs)).reads kr, held_right code cells d (uses_of_targets ts).reads (with_use (uses_of body) (uses_of_variants vs)).reads kr) in
+        let kd = held_left code cells d (uses_of_declarations ds).reads (with_use (uses_of_targets ts) (with_use (uses_of body) (uses_of_variants vs))).reads k in
+        let kr = held_right code cells d (uses_of_declarations ds).reads (with_use (uses_of_targets ts) (with_use (uses_of body) (uses_of_variants vs))).reads k in
+        let kt = held_left code cells d (uses_of_targets ts).reads (with_use (uses_of body) (uses_of_variants vs)).reads kr in
+        let kb = held_right code cells d (uses_of_targets ts).reads (with_use (uses_of body) (uses_of_variants vs)).reads kr in
         tagged f pc l.0 pc' tag t ps (λ s. then_in (all_declared ds s) (λ x s'. then_in (store_into ts ps s') (λ y s''. Gives (Some body) s''))) (variant_taken tag ps vs) (nat_eq tag t) refl l.3
         (sets_then code cells d (all_declared ds) l.1 [] ps [] (λ s'. then_in (store_into ts ps s') (λ y s''. Gives (Some body) s'')) (declarations_run code cells d ds f (pc + 1) l.1 [] ps h.1 kd l.4)
             (λ g. sets_then code cells d (store_into ts ps) l.2 [] [] [] (λ s''. Gives (Some body) s'') (storing_runs code cells d ts h.0.0 ps g l.1 l.2 [] h.0.2 kt l.5)
