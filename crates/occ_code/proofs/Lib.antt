@@ -12,3 +12,4 @@ mod SequentialFrames
 mod SequentialStatements
 mod SequentialResults
 mod SequentialRuns
+mod SequentialTurns

@@ -8,6 +8,9 @@ use Rattle.occ_term.specs.declared.message.Part.{Part}
 use Rattle.occ_term.specs.declared.message.Message.{Message}
 use Rattle.occ_term.specs.declared.protocol.Protocol.{Protocol}
 use Rattle.occ_term.specs.declared.protocol.PartType.{PartType}
+use Rattle.occ_term.specs.declared.protocol.Protocol.TheVariants.{Simple, CountedArray, Sequential, Variant}
+use Rattle.occ_term.specs.TypedSteps.{LoopHas}
+use Rattle.occ_term.specs.StepUses.{uses_of_loop}
 use Rattle.occ_term.specs.Messages.{message, parts_after, FitsAfter, Fits}
 use Rattle.occ_term.specs.Terms.{Expression, Place, Item, Target, Declaration, Clearing, Naming, Replicator, Term, Skip, Stop, Assign, Input, Output, VariantInput, Seq, Par, Alt, If, Case, While, Each, Clear, Local, Terms, no_terms, then_term, Reception, Plain, Tagged, Variants, no_variants, or_variant, Choices, no_choices, or_choice, declared_choices, each_choice, Options, no_options, or_option, or_else}
 use Rattle.occ_term.specs.Values.{Store, store_with, Evaluated, Value, Fails, after, holds, first_of, Span, value_of, span_of, parts_of}
@@ -16,7 +19,7 @@ use Rattle.occ_term.specs.Selecting.{or_next, first_over, choice_over, choice_of
 use Rattle.occ_term.specs.Steps.{Loop, WhileLoop, EachLoop, Doing, Do, Passing, Again, Offering, Awaiting, Taking, MessageTaken, Context, Then, Within, left, or_stop, pass, pass_of, offer_of, await_of, Step, ends, stop, assign, clear, local, output, input, variant, take_in, seq_empty, seq, drops, if_step, case, while, passes_again, leaves, body_ends, again, FaultsIn, in_assign, in_local, in_output, in_input, in_variant, in_take, in_if, in_case, in_loop}
 use Rattle.occ_term.specs.Steps as S
 use Rattle.occ_term.specs.Turns.{Steps, none, more, SingleTurn, single_turn}
-use Rattle.occ_term.specs.Uses.{Uses, Numbers, with_use, reads_of, reads_of_items, reads_in_place, named_by, uses_of, uses_of_terms, uses_of_variants, uses_of_choices, uses_of_options, uses_of_targets, uses_of_declaration, uses_of_declarations, uses_of_replicator}
+use Rattle.occ_term.specs.Uses.{Uses, Numbers, with_use, reads_of, reads_of_items, reads_in_place, named_by, uses_of, uses_of_terms, uses_of_variants, uses_of_reception, uses_of_choices, uses_of_options, uses_of_targets, uses_of_declaration, uses_of_declarations, uses_of_replicator}
 use Rattle.occ_term.specs.Typing.{HasType}
 use Rattle.occ_term.specs.TermTyping.{Declared, ChannelHas, value_parts, ItemsHave, TargetsHave, DeclarationHas, DeclarationsHave, ReplicatorHas, TermHas, TermsHave, VariantsHave, ReceptionHas, ChoicesHave, OptionsHave}
 use Rattle.occ_term.specs.Frames.{Variables, is_held, at}
@@ -358,3 +361,31 @@ module _ (code : List Instruction) (cells : List ℕ) (d : Declared) where
                 (λ g'. enters_body body g' l.2 pc' (term_runs body g' l.2 pc' h.2 (held_left code cells d (uses_of body).reads (uses_of_variants vs).reads kb) l.6))))
         (variants_run vs f tag (pc + 1 + l.0) pc' ps p h.3 (held_right code cells d (uses_of body).reads (uses_of_variants vs).reads kb) l.7)
 
+  pub loop_runs : (l : Loop) (f : Variables) (pc pc' : ℕ) → LoopHas d l → Has (uses_of_loop l).reads → LoopAt code pc l pc' → Does (start pc f) f (Passing l) pc'
+  loop_runs (WhileLoop e b) f pc pc' h k l =
+      tests f pc l.0 l.1 l.2 pc' e b h.0 (held_left code cells d (reads_of e) (uses_of b).reads k) l.3 l.4 l.5 l.7 l
+      (term_runs b f (l.0 + 1) l.2 h.1 (held_right code cells d (reads_of e) (uses_of b).reads k) l.6)
+  loop_runs (EachLoop index v n b) f pc pc' h k l = absurd l
+
+  tag_none : (p : Protocol) (tag : Option ℕ) (parts : List PartType) (ps : List Part) → parts_after p None ≡ Some parts → FitsAfter (parts_after p tag) ps → tag ≡ None
+  tag_none p None parts ps e h = refl
+  tag_none (Simple sizes type) (Some tag) parts ps e h = absurd h
+  tag_none (CountedArray count type) (Some tag) parts ps e h = absurd h
+  tag_none (Sequential ts) (Some tag) parts ps e h = absurd h
+  tag_none (Variant tags) (Some tag) parts ps e h = cc
+
+  by_tag : (vs : Variants) (f : Variables) (tag : Option ℕ) (pc pc' : ℕ) (ps : List Part) (p : Protocol) → VariantsHave d p vs → Has (uses_of_variants vs).reads → VariantsAt code pc vs pc' → Enters f (point pc (tag_stack tag) ps [] f) (tag_taken tag ps vs) pc'
+  by_tag vs f None pc pc' ps p h k l = untagged_halts vs f pc pc' ps l
+  by_tag vs f (Some tag) pc pc' ps p h k l = variants_run vs f tag pc pc' ps p h k l
+
+  -- a message is taken by its list
+  pub list_runs : (list : Reception) (m : Message) (p : Protocol) (f : Variables) (pc pc' : ℕ) → ReceptionHas d p list → Fits p m → Has (uses_of_reception list).reads → ListAt code pc list pc'
+      → Does (point pc (tag_stack m.tag) m.items [] f) f (Taking [] (MessageTaken list m)) pc'
+  list_runs (Plain ts t) m p f pc pc' h fit k l =
+      outcome_result code cells (λ x. Do (or_stop x)) (λ x ks. refl) (λ x s s' ks e. take_in e) (λ e s s' q. in_take q)
+      (subst (λ st. Enters f (point pc st m.items [] f) (taken (Plain ts t) m) pc') (sym (ap tag_stack (tag_none p m.tag h.0.0 m.items h.0.1 fit)))
+          (sets_then code cells d (store_into ts m.items) l.0 [] [] [] (λ s'. Gives (Some t) s') (storing_runs code cells d ts h.0.0 m.items f pc l.0 [] h.0.2 (held_left code cells d (uses_of_targets ts).reads (uses_of t).reads k) l.1)
+              (λ g. enters_body t g l.0 pc' (term_runs t g l.0 pc' h.1 (held_right code cells d (uses_of_targets ts).reads (uses_of t).reads k) l.2))))
+      (λ x b e. entered x b pc' e)
+  list_runs (Tagged vs) m p f pc pc' h fit k l =
+      outcome_result code cells (λ x. Do (or_stop x)) (λ x ks. refl) (λ x s s' ks e. take_in e) (λ e s s' q. in_take q) (by_tag vs f m.tag pc pc' m.items p h k l) (λ x b e. entered x b pc' e)

@@ -2,3 +2,4 @@ pub mod Machine
 pub mod Expressions
 pub mod Laws
 pub mod Layout
+pub mod Alike

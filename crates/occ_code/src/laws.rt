@@ -1,5 +1,6 @@
 //! Laws of the code of sequential processes. Each function's contract is the law; its body does nothing.
 
+ghost use Rattle.occ_code.specs.Sequential.Alike.{BodiesDo};
 ghost use Rattle.occ_code.specs.Sequential.Laws.{ExpressionsRun, ItemsRun, TargetsRun};
 
 /// The code of an expression brings its value to the top of the stack, or comes to its fault.
@@ -15,4 +16,9 @@ pub fn items_run()
 /// The code of targets makes their spots, or comes to their first fault.
 pub fn targets_run()
     ensures { TargetsRun }
+{}
+
+/// A body in which the code of a sequential term stands does what the term does.
+pub fn bodies_do()
+    ensures { BodiesDo }
 {}

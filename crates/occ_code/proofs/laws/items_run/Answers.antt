@@ -1,9 +1,4 @@
 use Rattle.occ_code.proofs.SequentialItems as items
-use Rattle.occ_code.proofs.SequentialReads as reads
-use Rattle.occ_code.proofs.SequentialRuns as runs
-use Rattle.occ_code.proofs.SequentialResults as results
-use Rattle.occ_code.proofs.SequentialStatements as statements
-use Rattle.occ_code.proofs.SequentialFrames as frames
 use Rattle.occ_code.proofs.laws.items_run.Goals as goal
 
 pub returns : goal.returns

@@ -1,0 +1,5 @@
+use Rattle.occ_code.proofs.SequentialTurns as turns
+use Rattle.occ_code.proofs.laws.bodies_do.Goals as goal
+
+pub returns : goal.returns
+returns c = turns.bodies_do
