@@ -13,3 +13,4 @@ mod SequentialStatements
 mod SequentialResults
 mod SequentialRuns
 mod SequentialTurns
+mod SequentialLayout

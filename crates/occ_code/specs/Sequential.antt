@@ -3,3 +3,4 @@ pub mod Expressions
 pub mod Laws
 pub mod Layout
 pub mod Alike
+pub mod Emitted

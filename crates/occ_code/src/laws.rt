@@ -1,6 +1,7 @@
 //! Laws of the code of sequential processes. Each function's contract is the law; its body does nothing.
 
 ghost use Rattle.occ_code.specs.Sequential.Alike.{BodiesDo};
+ghost use Rattle.occ_code.specs.Sequential.Emitted.{CompiledDo};
 ghost use Rattle.occ_code.specs.Sequential.Laws.{ExpressionsRun, ItemsRun, TargetsRun};
 
 /// The code of an expression brings its value to the top of the stack, or comes to its fault.
@@ -21,4 +22,9 @@ pub fn targets_run()
 /// A body in which the code of a sequential term stands does what the term does.
 pub fn bodies_do()
     ensures { BodiesDo }
+{}
+
+/// The body of a sequential term does what the term does.
+pub fn compiled_do()
+    ensures { CompiledDo }
 {}

@@ -1,0 +1,5 @@
+use Rattle.occ_code.proofs.SequentialLayout as layout
+use Rattle.occ_code.proofs.laws.compiled_do.Goals as goal
+
+pub returns : goal.returns
+returns c = layout.compiled_do
