@@ -14,3 +14,4 @@ mod SequentialResults
 mod SequentialRuns
 mod SequentialTurns
 mod SequentialLayout
+mod SequentialSizes

@@ -1,7 +1,7 @@
 //! Laws of the code of sequential processes. Each function's contract is the law; its body does nothing.
 
 ghost use Rattle.occ_code.specs.Sequential.Alike.{BodiesDo};
-ghost use Rattle.occ_code.specs.Sequential.Emitted.{CompiledDo};
+ghost use Rattle.occ_code.specs.Sequential.Emitted.{BodiesAreSmall, CompiledDo};
 ghost use Rattle.occ_code.specs.Sequential.Laws.{ExpressionsRun, ItemsRun, TargetsRun};
 
 /// The code of an expression brings its value to the top of the stack, or comes to its fault.
@@ -27,4 +27,9 @@ pub fn bodies_do()
 /// The body of a sequential term does what the term does.
 pub fn compiled_do()
     ensures { CompiledDo }
+{}
+
+/// A body has at most 32 instructions for each node of its term.
+pub fn bodies_are_small()
+    ensures { BodiesAreSmall }
 {}

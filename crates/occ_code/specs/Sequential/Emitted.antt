@@ -1,9 +1,10 @@
 -- The instructions that a sequential term becomes. PAR, ALT and the replicated SEQ have none yet.
 -- Manual: nothing; this is (own).
-use Rattle.std.specs.Prelude.{List, [], length, ℕ, ⊤, ◌+◌, ◌++◌, ◌∷◌}
+use Rattle.std.specs.Prelude.{List, [], length, ℕ, ⊤, ◌*◌, ◌+◌, ◌++◌, ◌≤◌, ◌∷◌}
 use Rattle.occ_term.specs.Terms.{Expression, Term, Skip, Stop, Assign, Input, Output, VariantInput, Seq, Par, Alt, If, Case, While, Each, Clear, Local, Terms, no_terms, then_term, Variants, no_variants, or_variant, Choices, no_choices, or_choice, declared_choices, each_choice, Options, no_options, or_option, or_else, Clearing, Naming}
 use Rattle.occ_term.specs.Storing.{index_of}
 use Rattle.occ_term.specs.Uses.{uses_of}
+use Rattle.occ_term.specs.Sizes.{size_of}
 use Rattle.occ_term.specs.TermTyping.{Declared, TermHas}
 use Rattle.occ_code.specs.Alike.{Lists, used_by}
 use Rattle.occ_code.specs.Sequential.Machine.{Instruction, Body, Jump, Choose, IfAmong, IfTag, DropOne, NextChoice, BackToChoice, LoopBack, Send, Receive, Halt, End}
@@ -109,3 +110,7 @@ abbrev pub CompiledDo : Type 0
 CompiledDo =
     (d : Declared) (t : Term) (cells writes : List ℕ) → IsSequential t → TermHas d t → Lists cells (used_by (uses_of t)) → Lists writes (uses_of t).writes
     → DoesAs d (body_of t cells writes) t
+
+-- at most 32 instructions for each node
+abbrev pub BodiesAreSmall : Type 0
+BodiesAreSmall = (t : Term) (cells writes : List ℕ) → length (body_of t cells writes).code ≤ 32 * (size_of t).nodes

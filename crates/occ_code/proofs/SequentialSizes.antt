@@ -1,0 +1,120 @@
+-- How many instructions a sequential term becomes: at most four for each of its nodes.
+use Rattle.std.proofs.Common.{ℕ, ℤ, ◌+◌, ◌*◌, ◌≤◌, List, [], ◌∷◌, ◌++◌, length, arith, length-append}
+use Rattle.occ_term.specs.Terms.{Expression, Constant, Cell, Component, Letter, Binary, Unary, And, Or, Conversion, Place, place, Subscripts, no_subscripts, then_subscript, Cells, Text, Item, OfOne, OfMany, OfCounted, Target, Into, IntoCounted, Declaration, Clearing, Naming, Replicator, replicator, Term, Skip, Stop, Assign, Input, Output, VariantInput, Seq, Par, Alt, If, Case, While, Each, Clear, Local, Terms, no_terms, then_term, Variants, no_variants, or_variant, Choices, no_choices, or_choice, declared_choices, each_choice, Options, no_options, or_option, or_else}
+use Rattle.occ_term.specs.Messages.{product}
+use Rattle.occ_term.specs.Sizes.{size_of_expression, size_of_place, size_of_subscripts, size_of_item, size_of_items, size_of_target, size_of_targets, size_of_declaration, size_of_declarations, size_of, size_of_terms, size_of_variants, size_of_choices, size_of_options, size_of_constants}
+use Rattle.occ_code.specs.Sequential.Machine.{Instruction, End, LoadAt, LoadLetter, Subscript, Operate, OperateOne, ConvertTo, AndThen, OrElse, PartOne, PartMany, PartCounted, PartCountedText, SpotOne, SpotCounted, StoreParts, StoreNamed, Jump, Choose, NextChoice, BackToChoice, CountedFrom, LoopBack, Send, Receive, Halt}
+use Rattle.occ_code.specs.Sequential.Expressions.{components_at, expression_code, place_code, subscripts_code, item_code, items_code, target_code, targets_code, declaration_code, declarations_code, storing_code, counting_code}
+use Rattle.occ_code.specs.Sequential.Emitted.{term_code, terms_code, variants_code, choices_code, options_code, else_code, BodiesAreSmall}
+
+two : (a b : List Instruction) (x y : ℕ) → length a ≤ x → length b ≤ y → length (a ++ b) ≤ x + y
+two a b x y p q = omega (arith, length-append a b, p, q)
+
+mutual
+  expression_small : (e : Expression) → length (expression_code e) + 2 ≤ 4 * (size_of_expression e).nodes
+  expression_small (Constant v) = omega arith
+  expression_small (Cell c) = omega arith
+  expression_small (Component (place line first sizes subs)) = omega (arith, subscripts_small subs line sizes, length-append (place_code (place line first sizes subs)) (LoadAt ∷ []))
+  expression_small (Letter line text e) = omega (arith, expression_small e, length-append (expression_code e) (LoadLetter line text ∷ []))
+  expression_small (Binary op type line a b) = omega (arith, expression_small a, expression_small b, length-append (expression_code a) (expression_code b ++ Operate op type line ∷ []), length-append (expression_code b) (Operate op type line ∷ []))
+  expression_small (Unary op type line a) = omega (arith, expression_small a, length-append (expression_code a) (OperateOne op type line ∷ []))
+  expression_small (And a b) = omega (arith, expression_small a, expression_small b, length-append (expression_code a) (AndThen (length (expression_code b)) ∷ expression_code b))
+  expression_small (Or a b) = omega (arith, expression_small a, expression_small b, length-append (expression_code a) (OrElse (length (expression_code b)) ∷ expression_code b))
+  expression_small (Conversion to line a) = omega (arith, expression_small a, length-append (expression_code a) (ConvertTo to line ∷ []))
+
+  subscripts_small : (subs : Subscripts) (line : ℕ) (sizes : List ℕ) → length (subscripts_code subs line sizes) ≤ 4 * (size_of_subscripts subs).nodes
+  subscripts_small no_subscripts line sizes = omega arith
+  subscripts_small (then_subscript e es) line [] = omega arith
+  subscripts_small (then_subscript e es) line (n ∷ ns) = omega (arith, expression_small e, subscripts_small es line ns, length-append (expression_code e) (Subscript line n (product ns) ∷ subscripts_code es line ns))
+
+place_small : (p : Place) → length (place_code p) ≤ 4 * (size_of_place p).nodes + 1
+place_small (place line first sizes subs) = omega (arith, subscripts_small subs line sizes)
+
+item_small : (i : Item) → length (item_code i) ≤ 4 * (size_of_item i).nodes
+item_small (OfOne type e) = omega (arith, expression_small e, length-append (expression_code e) (PartOne type ∷ []))
+item_small (OfMany type (Cells p)) = omega (arith, place_small p, length-append (place_code p) (PartMany type (components_at p) ∷ []))
+item_small (OfMany type (Text bytes)) = omega arith
+item_small (OfCounted type line n (Cells p)) = omega (arith, expression_small n, place_small p, length-append (expression_code n) (place_code p ++ PartCounted type line (components_at p) ∷ []), length-append (place_code p) (PartCounted type line (components_at p) ∷ []))
+item_small (OfCounted type line n (Text bytes)) = omega (arith, expression_small n, length-append (expression_code n) (PartCountedText type line bytes ∷ []))
+
+items_small : (is : List Item) → length (items_code is) ≤ 4 * (size_of_items is).nodes
+items_small [] = omega arith
+items_small (i ∷ is) = omega (arith, item_small i, items_small is, length-append (item_code i) (items_code is))
+
+target_small : (t : Target) → length (target_code t) ≤ 4 * (size_of_target t).nodes
+target_small (Into p) = omega (arith, place_small p, length-append (place_code p) (SpotOne (components_at p) ∷ []))
+target_small (IntoCounted line n a) = omega (arith, place_small n, place_small a, length-append (place_code n) (place_code a ++ SpotCounted line (components_at n) (components_at a) ∷ []), length-append (place_code a) (SpotCounted line (components_at n) (components_at a) ∷ []))
+
+targets_small : (ts : List Target) → length (targets_code ts) ≤ 4 * (size_of_targets ts).nodes
+targets_small [] = omega arith
+targets_small (t ∷ ts) = omega (arith, target_small t, targets_small ts, length-append (target_code t) (targets_code ts))
+
+storing_small : (ts : List Target) → length (storing_code ts) ≤ 4 * (size_of_targets ts).nodes + 1
+storing_small ts = omega (arith, targets_small ts, length-append (targets_code ts) (StoreParts ∷ []))
+
+declaration_small : (x : Declaration) → length (declaration_code x) + 1 ≤ 4 * (size_of_declaration x).nodes
+declaration_small (Clearing first count) = omega arith
+declaration_small (Naming first value) = omega (arith, item_small value, length-append (item_code value) (StoreNamed first ∷ []))
+
+declarations_small : (xs : List Declaration) → length (declarations_code xs) ≤ 4 * (size_of_declarations xs).nodes
+declarations_small [] = omega arith
+declarations_small (x ∷ xs) = omega (arith, declaration_small x, declarations_small xs, length-append (declaration_code x) (declarations_code xs))
+
+received_small : (p : Place) (i : Instruction) → length (place_code p ++ i ∷ []) ≤ 4 * (size_of_place p).nodes + 2
+received_small p i = omega (arith, place_small p, length-append (place_code p) (i ∷ []))
+
+mutual
+  term_small : (t : Term) → length (term_code t) + 1 ≤ 4 * (size_of t).nodes
+  term_small Skip = omega arith
+  term_small Stop = omega arith
+  term_small (Assign ts vs) = omega (arith, items_small vs, storing_small ts, length-append (items_code vs) (storing_code ts))
+  term_small (Input c ts) = omega (arith, received_small c Receive, storing_small ts, length-append (place_code c ++ Receive ∷ []) (storing_code ts))
+  term_small (Output c tag is) = omega (arith, place_small c, items_small is, length-append (place_code c) (items_code is ++ Send tag ∷ []), length-append (items_code is) (Send tag ∷ []))
+  term_small (VariantInput c vs) = omega (arith, received_small c Receive, variants_small vs, length-append (place_code c ++ Receive ∷ []) (variants_code vs))
+  term_small (Seq ts) = omega (arith, terms_small ts)
+  term_small (Par bs) = omega arith
+  term_small (Alt pri arms) = omega arith
+  term_small (If cs) = omega (arith, choices_small cs 1, length-append (choices_code cs 1) (Halt ∷ []))
+  term_small (Case e os) =
+      omega (arith, expression_small e, options_small os (length (else_code os)), length-append (expression_code e) (options_code os (length (else_code os)) ++ else_code os), length-append (options_code os (length (else_code os))) (else_code os))
+  term_small (While e b) =
+      omega (arith, expression_small e, term_small b, length-append (expression_code e) (Choose (length (term_code b) + 1) ∷ (term_code b ++ LoopBack (length (expression_code e) + 1 + length (term_code b)) ∷ [])), length-append (term_code b) (LoopBack (length (expression_code e) + 1 + length (term_code b)) ∷ []))
+  term_small (Each r b) = omega arith
+  term_small (Clear first count) = declaration_small (Clearing first count)
+  term_small (Local first value) = declaration_small (Naming first value)
+
+  terms_small : (ts : Terms) → length (terms_code ts) ≤ 4 * (size_of_terms ts).nodes
+  terms_small no_terms = omega arith
+  terms_small (then_term t ts) = omega (arith, term_small t, terms_small ts, length-append (term_code t) (terms_code ts))
+
+  variants_small : (vs : Variants) → length (variants_code vs) ≤ 4 * (size_of_variants vs).nodes + 1
+  variants_small no_variants = omega arith
+  variants_small (or_variant tag ds ts t vs) =
+      omega (arith, declarations_small ds, storing_small ts, term_small t, variants_small vs,
+          length-append (declarations_code ds ++ (storing_code ts ++ (term_code t ++ Jump (length (variants_code vs)) ∷ []))) (variants_code vs),
+          length-append (declarations_code ds) (storing_code ts ++ (term_code t ++ Jump (length (variants_code vs)) ∷ [])), length-append (storing_code ts) (term_code t ++ Jump (length (variants_code vs)) ∷ []), length-append (term_code t) (Jump (length (variants_code vs)) ∷ []))
+
+  choices_small : (cs : Choices) (after : ℕ) → length (choices_code cs after) ≤ 4 * (size_of_choices cs).nodes
+  choices_small no_choices after = omega arith
+  choices_small (or_choice e t cs) after =
+      omega (arith, expression_small e, term_small t, choices_small cs after, length-append (expression_code e) (Choose (length (term_code t) + 1) ∷ (term_code t ++ Jump (length (choices_code cs after) + after) ∷ choices_code cs after)), length-append (term_code t) (Jump (length (choices_code cs after) + after) ∷ choices_code cs after))
+  choices_small (declared_choices d within others) after =
+      let outer = length (choices_code others after) + after in
+      omega (arith, declaration_small d, choices_small within (length (choices_code others after) + after), choices_small others after,
+          length-append (declaration_code d) (choices_code within (length (choices_code others after) + after) ++ choices_code others after), length-append (choices_code within (length (choices_code others after) + after)) (choices_code others after))
+  choices_small (each_choice (replicator line index base count) within others) after =
+      omega (arith, expression_small base, expression_small count, choices_small within (1 + length (choices_code others after) + after), choices_small others after,
+          length-append (expression_code base) (expression_code count ++ CountedFrom line ∷ []), length-append (expression_code count) (CountedFrom line ∷ []),
+          length-append (counting_code (replicator line index base count)) (NextChoice index (length (choices_code within (1 + length (choices_code others after) + after)) + 1) ∷ (choices_code within (1 + length (choices_code others after) + after) ++ BackToChoice (length (choices_code within (1 + length (choices_code others after) + after)) + 1) ∷ choices_code others after)),
+          length-append (choices_code within (1 + length (choices_code others after) + after)) (BackToChoice (length (choices_code within (1 + length (choices_code others after) + after)) + 1) ∷ choices_code others after))
+
+  options_small : (os : Options) (after : ℕ) → length (options_code os after) + length (else_code os) ≤ 4 * (size_of_options os).nodes + 1
+  options_small no_options after = omega arith
+  options_small (or_option constants ds t os) after =
+      omega (arith, declarations_small ds, term_small t, options_small os after,
+          length-append (declarations_code ds ++ (term_code t ++ Jump (length (options_code os after) + after) ∷ [])) (options_code os after), length-append (declarations_code ds) (term_code t ++ Jump (length (options_code os after) + after) ∷ []), length-append (term_code t) (Jump (length (options_code os after) + after) ∷ []))
+  options_small (or_else ds t os) after =
+      omega (arith, declarations_small ds, term_small t, options_small os after, length-append (declarations_code ds) (term_code t))
+
+pub bodies_are_small : BodiesAreSmall
+bodies_are_small t cells writes = omega (arith, term_small t, length-append (term_code t) (End ∷ []))
