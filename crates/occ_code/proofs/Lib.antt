@@ -15,3 +15,4 @@ mod SequentialRuns
 mod SequentialTurns
 mod SequentialLayout
 mod SequentialSizes
+mod SequentialCounters

@@ -35,15 +35,15 @@ use Rattle.occ_code.proofs.SequentialRuns.{Does, start, term_runs, terms_run, lo
 
 -- ---- turns keep types, and to their use
 
-part_on : {a b c : _} → IsPartOf a b → IsPartOf b c → IsPartOf a c
+pub part_on : {a b c : _} → IsPartOf a b → IsPartOf b c → IsPartOf a c
 part_on x y = record { reads = λ n m. y.reads n (x.reads n m); writes = λ n m. y.writes n (x.writes n m); ins = λ n m. y.ins n (x.ins n m); outs = λ n m. y.outs n (x.outs n m) }
 
-record Kept (d : Declared) (l l' : Left) (s' : Store) : Type 0 where
-  types : LeftHas d l'
-  store : StoreHas d s'
-  use_ : IsPartOf (uses_of_left l') (uses_of_left l)
+pub record Kept (d : Declared) (l l' : Left) (s' : Store) : Type 0 where
+  pub types : LeftHas d l'
+  pub store : StoreHas d s'
+  pub use_ : IsPartOf (uses_of_left l') (uses_of_left l)
 
-step_keeps : (d : Declared) {l l' : Left} {s s' : Store} → LeftHas d l → StoreHas d s → Step l s l' s' → Kept d l l' s'
+pub step_keeps : (d : Declared) {l l' : Left} {s s' : Store} → LeftHas d l → StoreHas d s → Step l s l' s' → Kept d l l' s'
 step_keeps d {l = l} {l' = l'} {s = s} {s' = s'} h k x =
     let r = steps_keep_types d l l' s s' h k x in
     record { types = r.0; store = r.1; use_ = (steps_keep_to_their_use d l l' s s' h x).0 }

@@ -2,7 +2,7 @@
 
 ghost use Rattle.occ_code.specs.Sequential.Alike.{BodiesDo};
 ghost use Rattle.occ_code.specs.Sequential.Emitted.{BodiesAreSmall, CompiledDo};
-ghost use Rattle.occ_code.specs.Sequential.Laws.{ExpressionsRun, ItemsRun, TargetsRun};
+ghost use Rattle.occ_code.specs.Sequential.Laws.{CountersAreApart, ExpressionsRun, ItemsRun, TargetsRun};
 
 /// The code of an expression brings its value to the top of the stack, or comes to its fault.
 pub fn expressions_run()
@@ -32,4 +32,9 @@ pub fn compiled_do()
 /// A body has at most 32 instructions for each node of its term.
 pub fn bodies_are_small()
     ensures { BodiesAreSmall }
+{}
+
+/// Counters of replicated SEQs stay apart.
+pub fn counters_are_apart()
+    ensures { CountersAreApart }
 {}

@@ -1,6 +1,6 @@
 -- Laws of the code of sequential processes.
 -- Manual: nothing; this is (own).
-use Rattle.std.specs.Prelude.{List, [], length, slice_get, ℕ, ℤ, ◌+◌, ◌++◌, ◌∷◌, ◌≡◌, Some}
+use Rattle.std.specs.Prelude.{List, [], length, slice_get, ℕ, ℤ, ◌<◌, ◌+◌, ◌++◌, ◌∷◌, ◌≡◌, Some}
 use Rattle.occ_term.specs.declared.fault.Fault.{Fault}
 use Rattle.occ_term.specs.declared.message.Part.{Part}
 use Rattle.occ_term.specs.Terms.{Expression, Item, Target}
@@ -8,7 +8,7 @@ use Rattle.occ_term.specs.Values.{Evaluated, Value, Fails, value_of, parts_of}
 use Rattle.occ_term.specs.Storing.{Spot, spots_of}
 use Rattle.occ_term.specs.Frames.{Variables, at}
 use Rattle.occ_code.specs.declared.task.Wait.TheVariants.{Faulted}
-use Rattle.occ_code.specs.Sequential.Machine.{Instruction, Point, point, Stops, effect, Walks}
+use Rattle.occ_code.specs.Sequential.Machine.{Instruction, Point, point, Stops, effect, Walks, counter_at, counters_with}
 use Rattle.occ_code.specs.Sequential.Expressions.{expression_code, items_code, targets_code}
 
 -- these instructions stand from the one place to the other
@@ -48,3 +48,10 @@ TargetsRun =
     (code : List Instruction) (f : Variables) (ts : List Target) (pc pc' : ℕ) (st : List ℤ) (q : List Part) (sp : List Spot)
     → StandsAt code pc (targets_code ts) pc'
     → Comes code f (point pc st q sp f) (spots_of ts (at f)) (λ xs. point pc' st q (sp ++ xs) f)
+
+-- A counter that is set has its value; another one keeps its own.
+abbrev pub CountersAreApart : Type 0
+CountersAreApart =
+    (ns : List ℕ) (slot m : ℕ)
+    → (slot < length ns → counter_at (counters_with ns slot m) slot ≡ m)
+    × ((other : ℕ) → (slot ≡ other → ⊥) → counter_at (counters_with ns slot m) other ≡ counter_at ns other)
