@@ -1,18 +1,18 @@
 -- Counters of replicated SEQs, and what a part leaves alone: cells that it does not write.
-use Rattle.std.proofs.Common.{◌≡◌, ◌∙◌, ℕ, zero, suc, ℤ, ◌+◌, ◌<◌, Bool, true, false, IsTrue, List, [], ◌∷◌, length, refl, sym, ap, subst, arith}
+use Rattle.std.proofs.Common.{◌≡◌, ◌∙◌, ℕ, zero, suc, ◌<◌, Bool, false, IsTrue, List, [], ◌∷◌, length, refl, ap, arith}
 use Rattle.occ_term.specs.Values.{Store}
-use Rattle.occ_term.specs.Steps.{Doing, Context, Left, left, Step}
+use Rattle.occ_term.specs.Steps.{Doing, Context, Left, left}
 use Rattle.occ_term.specs.Turns.{Steps, none, more, SingleTurn, single_turn}
-use Rattle.occ_term.specs.Uses.{Uses, with_use}
+use Rattle.occ_term.specs.Uses.{Uses}
 use Rattle.occ_term.specs.TermTyping.{Declared}
 use Rattle.occ_term.specs.TypedSteps.{StoreHas, LeftHas, DoingHas}
-use Rattle.occ_term.specs.StepUses.{uses_of_left, uses_of_doing, IsPartOf, ChangesOnly}
+use Rattle.occ_term.specs.StepUses.{uses_of_left, IsPartOf, ChangesOnly}
 use Rattle.occ_term.specs.Frames.{Variables, is_held, at}
 use Rattle.occ_term.proofs.TypedSteps.{steps_keep_types}
 use Rattle.occ_term.proofs.KeptSteps.{steps_keep_to_their_use}
 use Rattle.occ_code.specs.Sequential.Machine.{counter_at, counters_with, with_counter}
 use Rattle.occ_code.proofs.SequentialFrames.{HoldsAs}
-use Rattle.occ_code.proofs.SequentialTurns.{step_keeps, part_on}
+use Rattle.occ_code.proofs.SequentialTurns.{part_on}
 
 -- ---- counters
 

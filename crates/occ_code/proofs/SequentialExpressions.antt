@@ -1,16 +1,15 @@
 -- An expression's code brings its value to the top of the stack, or comes to its fault.
-use Rattle.std.specs.Prelude.{slice_get, get_or, nat_abs, if◌then◌else◌}
-use Rattle.std.proofs.Common.{◌≡◌, ℕ, ℤ, pos, ◌+◌, ◌*◌, Bool, true, false, List, [], ◌∷◌, ◌++◌, length, Some, refl, ap, ◌∙◌, subst, sym, arith}
+use Rattle.std.specs.Prelude.{slice_get, get_or, if◌then◌else◌}
+use Rattle.std.proofs.Common.{◌≡◌, ℕ, ℤ, pos, ◌+◌, ◌*◌, Bool, true, false, List, [], ◌∷◌, length, Some, refl, ap, ◌∙◌, subst}
 use Rattle.occ_term.specs.Messages.{product}
 use Rattle.occ_term.specs.declared.message.Part.{Part}
 use Rattle.occ_term.specs.Terms.{Expression, Constant, Cell, Component, Letter, Binary, Unary, And, Or, Conversion, Place, place, Subscripts, no_subscripts, then_subscript}
-use Rattle.occ_term.specs.Values.{Evaluated, Value, Fails, after, holds, binary, unary, converted, subscript, Span, span, first_of, value_of, span_of, offset_of}
+use Rattle.occ_term.specs.Values.{Evaluated, Value, Fails, after, holds, binary, unary, converted, subscript, Span, first_of, value_of, span_of, offset_of}
 use Rattle.occ_term.specs.Storing.{Spot}
 use Rattle.occ_term.specs.Frames.{Variables, at}
-use Rattle.occ_code.specs.Sequential.Machine.{Instruction, AndThen, OrElse, Point, point, Moves, Stops, Effect, act, effect, going, Walks, here, on}
+use Rattle.occ_code.specs.Sequential.Machine.{Instruction, AndThen, OrElse, Point, point, Moves, act, going, Walks, here, on}
 use Rattle.occ_code.specs.Sequential.Expressions.{expression_code, place_code, subscripts_code}
 use Rattle.occ_code.specs.Sequential.Laws.{StandsAt, FaultsAt, Comes, comes, fails, ExpressionsRun}
-use Rattle.occ_code.specs.declared.task.Wait.TheVariants.{Faulted}
 use Rattle.occ_code.proofs.SequentialPlaces.{split, place_after, walks_on}
 
 module _ (code : List Instruction) (f : Variables) where
@@ -79,8 +78,8 @@ module _ (code : List Instruction) (f : Variables) where
           let (m, a, l) = split code pc pc' (expression_code e) _ h in
           comes_then (value_of e (at f)) (λ v. after (subscript line (length text) v) (λ i. Value (get_or text i (pos 0)))) (expression_runs e pc m st a)
           (λ v y. comes_then (subscript line (length text) v) (λ i. Value (get_or text i (pos 0)))
-              (comes_by m (v ∷ st) q sp _ (subscript line (length text) v) (λ i. on_top st (m + 1) (get_or text i (pos 0))) l.0 refl)
-              (λ i z. comes_at (on_top st (m + 1) (get_or text i (pos 0))) (Value (get_or text i (pos 0))) (m + 1) pc' (on_top st) l.1 (comes here)))
+          (comes_by m (v ∷ st) q sp _ (subscript line (length text) v) (λ i. on_top st (m + 1) (get_or text i (pos 0))) l.0 refl)
+          (λ i z. comes_at (on_top st (m + 1) (get_or text i (pos 0))) (Value (get_or text i (pos 0))) (m + 1) pc' (on_top st) l.1 (comes here)))
       expression_runs (Binary op type line a b) pc pc' st h =
           let (m, ha, hb) = split code pc pc' (expression_code a) _ h in
           let (n, hb', l) = split code m pc' (expression_code b) _ hb in
@@ -118,8 +117,8 @@ module _ (code : List Instruction) (f : Variables) where
           let (m, a, l) = split code pc pc' (expression_code e) _ h in
           comes_then (value_of e (at f)) (λ v. after (subscript line n v) (λ i. offset_of es line (first + i * product ns) ns (at f))) (expression_runs e pc m (pos first ∷ st) a)
           (λ v y. comes_then (subscript line n v) (λ i. offset_of es line (first + i * product ns) ns (at f))
-              (comes_by m (v ∷ pos first ∷ st) q sp _ (subscript line n v) (λ i. on_top st (m + 1) (pos (first + i * product ns))) l.0 refl)
-              (λ i z. subscripts_run es line (first + i * product ns) ns (m + 1) pc' st l.1))
+          (comes_by m (v ∷ pos first ∷ st) q sp _ (subscript line n v) (λ i. on_top st (m + 1) (pos (first + i * product ns))) l.0 refl)
+          (λ i z. subscripts_run es line (first + i * product ns) ns (m + 1) pc' st l.1))
 
 pub expressions_run : ExpressionsRun
 expressions_run code f e pc pc' st q sp h = expression_runs code f q sp e pc pc' st h

@@ -1,18 +1,16 @@
 -- What is stored in a frame is stored in a store that agrees with it; and what code does for an evaluation that sets cells.
-use Rattle.std.specs.Prelude.{slice_get, nat_eq, nat_le, ◌||◌, if◌then◌else◌, ⊤}
-use Rattle.std.proofs.Common.{◌≡◌, ◌∙◌, ℕ, zero, suc, ℤ, pos, ◌+◌, Bool, true, false, IsTrue, List, [], ◌∷◌, ◌++◌, length, take, Option, Some, None, refl, ap, subst, sym, arith}
+use Rattle.std.specs.Prelude.{nat_eq, nat_le, ◌||◌, if◌then◌else◌}
+use Rattle.std.proofs.Common.{◌≡◌, ◌∙◌, ℕ, suc, ℤ, pos, ◌+◌, Bool, true, false, IsTrue, List, [], ◌∷◌, length, take, refl, ap, subst, sym, arith}
 use Rattle.std.proofs.lemmas.Bool.Decides.{nat_tests}
 use Rattle.occ_term.specs.declared.fault.Fault.{Fault}
 use Rattle.occ_term.specs.declared.fault.FaultKind.TheVariants.{Range}
 use Rattle.occ_term.specs.declared.message.Part.{Part}
 use Rattle.occ_term.specs.Messages.{fault}
-use Rattle.occ_term.specs.Terms.{Term}
-use Rattle.occ_term.specs.Values.{Store, store_with, Evaluated, Value, Fails, Span, first_of, count_of}
+use Rattle.occ_term.specs.Values.{Store, store_with, Evaluated, Value, Fails, first_of, count_of}
 use Rattle.occ_term.specs.Storing.{Outcome, Gives, Faults, then_in, in_store, Nothing, nothing, store_from, store_in, values_in, Spot, At, AtCounted, store_part, store_parts}
-use Rattle.occ_term.specs.Selecting.{or_next}
 use Rattle.occ_term.specs.Frames.{Variables, value_at, is_held, at}
 use Rattle.occ_code.specs.Alike.{Frames}
-use Rattle.occ_code.specs.Sequential.Machine.{Instruction, Point, point, Walks, here, values_with, frame_with, frame_from, frame_in, Stored, Stays, Refused, and_stored, frame_part, frame_parts}
+use Rattle.occ_code.specs.Sequential.Machine.{Instruction, Point, point, Walks, values_with, frame_with, frame_from, frame_in, Stored, Stays, Refused, and_stored, frame_part, frame_parts}
 use Rattle.occ_code.specs.Sequential.Laws.{FaultsAt, Comes, comes, fails}
 use Rattle.occ_code.proofs.SequentialPlaces.{walks_on}
 use Rattle.occ_code.proofs.SequentialExpressions.{fault_on}
@@ -53,7 +51,7 @@ with_at [] vs c v c' l h = cc
 with_at (x ∷ xs) [] c v c' l h = absurd (omega (arith, l))
 with_at (x ∷ xs) (w ∷ vs) c v c' l h =
     outer (nat_eq x c) ∙ chosen_cell x c c' v w (value_at xs vs c') (value_at xs (values_with xs vs c v) c') (nat_eq x c) refl
-        (λ other. with_at xs vs c v c' (omega (arith, l)) (subst (λ b. IsTrue (b || is_held xs c')) other h))
+    (λ other. with_at xs vs c v c' (omega (arith, l)) (subst (λ b. IsTrue (b || is_held xs c')) other h))
   where
     outer : (b : Bool) → value_at (x ∷ xs) (if b then v ∷ vs else w ∷ values_with xs vs c v) c' ≡ (if b then (if nat_eq x c' then v else value_at xs vs c') else (if nat_eq x c' then w else value_at xs (values_with xs vs c v) c'))
     outer true = refl
@@ -88,8 +86,10 @@ module _ (cells : List ℕ) where
     where
       vs : List ℤ
       vs = values_in p
+
       one : List ℤ
       one = take (count_of count) (pos (length vs) ∷ [])
+
       by_test : (b : Bool) → StoresAs (if b then Stays (frame_in array (values_in p) (frame_in count (pos (length (values_in p)) ∷ []) f)) else Refused (fault Range line) f) (if b then Gives nothing (store_in array (values_in p) (store_in count (pos (length (values_in p)) ∷ []) s)) else Faults (fault Range line) s)
       by_test true = row_held (take (count_of array) (values_in p)) (first_of array) _ _ (row_held (take (count_of count) (pos (length (values_in p)) ∷ [])) (first_of count) f s h)
       by_test false = (refl, h)

@@ -1,15 +1,15 @@
 -- The code of items makes the parts of a message, and the code of targets their spots.
-use Rattle.std.specs.Prelude.{slice_get, nat_abs, ⊤}
-use Rattle.std.proofs.Common.{◌≡◌, ℕ, ℤ, pos, ◌+◌, ◌*◌, List, [], ◌∷◌, ◌++◌, length, Some, refl, ap, ◌∙◌, subst, sym, arith, append_assoc, append-nil}
+use Rattle.std.specs.Prelude.{⊤}
+use Rattle.std.proofs.Common.{◌≡◌, ℕ, ℤ, pos, ◌+◌, ◌*◌, List, [], ◌∷◌, ◌++◌, refl, ap, ◌∙◌, subst, sym, append_assoc, append-nil}
 use Rattle.occ_term.specs.Messages.{product}
 use Rattle.occ_term.specs.declared.message.Part.{Part}
-use Rattle.occ_term.specs.declared.message.Part.TheVariants.{One, Many, Counted}
-use Rattle.occ_term.specs.Terms.{Expression, Place, place, Subscripts, no_subscripts, then_subscript, Cells, Text, Item, OfOne, OfMany, OfCounted, Target, Into, IntoCounted}
+use Rattle.occ_term.specs.declared.message.Part.TheVariants.{One, Many}
+use Rattle.occ_term.specs.Terms.{Place, place, Subscripts, no_subscripts, then_subscript, Cells, Text, Item, OfOne, OfMany, OfCounted, Target, Into, IntoCounted}
 use Rattle.occ_term.specs.Values.{Store, Evaluated, Value, Fails, after, subscript, counted, Span, span, first_of, count_of, value_of, span_of, offset_of, values_from, array_of, part_of, parts_of}
 use Rattle.occ_term.specs.Storing.{Spot, At, AtCounted, spot_of, spots_of}
 use Rattle.occ_term.specs.Uses.{components}
 use Rattle.occ_term.specs.Frames.{Variables, at}
-use Rattle.occ_code.specs.Sequential.Machine.{Instruction, Point, point, Moves, act, Walks, here}
+use Rattle.occ_code.specs.Sequential.Machine.{Instruction, Point, point, Moves, Walks, here}
 use Rattle.occ_code.specs.Sequential.Expressions.{expression_code, place_code, components_at, item_code, items_code, target_code, targets_code}
 use Rattle.occ_code.specs.Sequential.Laws.{StandsAt, Comes, comes, fails}
 use Rattle.occ_code.proofs.SequentialPlaces.{split}
@@ -63,7 +63,7 @@ module _ (code : List Instruction) (f : Variables) where
         let (m, c, l) = split code pc pc' (place_code p) _ h in
         comes_twice (span_of p (at f)) (λ a. Value (values_from (first_of a) (count_of a) (at f))) (λ vs. Value (Many type vs)) (place_runs code f q sp p pc m st c)
         (λ a y. let v = Many type (values_from (first_of a) (count_of a) (at f)) in
-            comes_at code f _ (Value v) (m + 1) pc' (queued q) l.1 (comes_by code f m (pos (first_of a) ∷ st) q sp _ (Value v) (queued q (m + 1)) l.0 (cells_at type q m p a (count_is p (at f) a y))))
+        comes_at code f _ (Value v) (m + 1) pc' (queued q) l.1 (comes_by code f m (pos (first_of a) ∷ st) q sp _ (Value v) (queued q (m + 1)) l.0 (cells_at type q m p a (count_is p (at f) a y))))
     item_runs (OfMany type (Text bytes)) q pc pc' h =
         comes_at code f _ (Value (Many type bytes)) (pc + 1) pc' (queued q) h.1 (comes_by code f pc st q sp _ (Value (Many type bytes)) (queued q (pc + 1)) h.0 refl)
     item_runs (OfCounted type line n (Cells p)) q pc pc' h =
@@ -72,8 +72,8 @@ module _ (code : List Instruction) (f : Variables) where
         comes_then code f (value_of n (at f)) (λ v. after (array_of (Cells p) (at f)) (λ vs. counted type line v vs)) (expression_runs code f q sp n pc m st a)
         (λ v y. comes_twice (span_of p (at f)) (λ x. Value (values_from (first_of x) (count_of x) (at f))) (λ vs. counted type line v vs) (place_runs code f q sp p m m' (v ∷ st) c)
         (λ x z. let w = counted type line v (values_from (first_of x) (count_of x) (at f)) in
-            comes_at code f _ w (m' + 1) pc' (queued q) l.1 (comes_by code f m' (pos (first_of x) ∷ v ∷ st) q sp _ w (queued q (m' + 1)) l.0
-                (rw (count_is p (at f) x z) refl))))
+        comes_at code f _ w (m' + 1) pc' (queued q) l.1 (comes_by code f m' (pos (first_of x) ∷ v ∷ st) q sp _ w (queued q (m' + 1)) l.0
+        (rw (count_is p (at f) x z) refl))))
     item_runs (OfCounted type line n (Text bytes)) q pc pc' h =
         let (m, a, l) = split code pc pc' (expression_code n) _ h in
         comes_then code f (value_of n (at f)) (λ v. counted type line v bytes) (expression_runs code f q sp n pc m st a)
@@ -102,15 +102,15 @@ module _ (code : List Instruction) (f : Variables) where
         let (m, c, l) = split code pc pc' (place_code p) _ h in
         comes_then code f (span_of p (at f)) (λ a. Value (At a)) (place_runs code f q sp p pc m st c)
         (λ a y. comes_at code f _ (Value (At a)) (m + 1) pc' (spotted sp) l.1 (comes_by code f m (pos (first_of a) ∷ st) q sp _ (Value (At a)) (spotted sp (m + 1)) l.0
-            (ap (λ x. Moves (spotted sp (m + 1) (At x))) (same_span a (components_at p) (count_is p (at f) a y)))))
+        (ap (λ x. Moves (spotted sp (m + 1) (At x))) (same_span a (components_at p) (count_is p (at f) a y)))))
     target_runs (IntoCounted line n a) sp pc pc' h =
         let (m, c, r) = split code pc pc' (place_code n) _ h in
         let (m', c', l) = split code m pc' (place_code a) _ r in
         comes_then code f (span_of n (at f)) (λ x. after (span_of a (at f)) (λ y. Value (AtCounted line x y))) (place_runs code f q sp n pc m st c)
         (λ x e. comes_then code f (span_of a (at f)) (λ y. Value (AtCounted line x y)) (place_runs code f q sp a m m' (pos (first_of x) ∷ st) c')
         (λ y e'. comes_at code f _ (Value (AtCounted line x y)) (m' + 1) pc' (spotted sp) l.1 (comes_by code f m' (pos (first_of y) ∷ pos (first_of x) ∷ st) q sp _ (Value (AtCounted line x y)) (spotted sp (m' + 1)) l.0
-            (ap (λ z. Moves (spotted sp (m' + 1) (AtCounted line z (span (first_of y) (components_at a))))) (same_span x (components_at n) (count_is n (at f) x e))
-            ∙ ap (λ z. Moves (spotted sp (m' + 1) (AtCounted line x z))) (same_span y (components_at a) (count_is a (at f) y e'))))))
+        (ap (λ z. Moves (spotted sp (m' + 1) (AtCounted line z (span (first_of y) (components_at a))))) (same_span x (components_at n) (count_is n (at f) x e))
+        ∙ ap (λ z. Moves (spotted sp (m' + 1) (AtCounted line x z))) (same_span y (components_at a) (count_is a (at f) y e'))))))
 
     pub targets_run : (ts : List Target) (sp : List Spot) (pc pc' : ℕ) → StandsAt code pc (targets_code ts) pc' → Comes code f (point pc st q sp f) (spots_of ts (at f)) (λ xs. point pc' st q (sp ++ xs) f)
     targets_run [] sp pc pc' h =

@@ -1,10 +1,9 @@
 -- The code of a sequential term stands in its body as it should.
-use Rattle.std.specs.Prelude.{slice_get, ◌-◌}
+use Rattle.std.specs.Prelude.{◌-◌}
 use Rattle.std.proofs.Common.{◌≡◌, ◌∙◌, ℕ, ◌+◌, ◌<◌, List, [], ◌∷◌, ◌++◌, length, Some, refl, ap, sym, subst, arith, append_assoc, length-append}
 use Rattle.std.proofs.Math.Seq.{get_or-append_seam}
 use Rattle.std.proofs.lemmas.Option.{slice_get-get_or}
-use Rattle.occ_term.specs.Terms.{Expression, Term, Skip, Stop, Assign, Input, Output, VariantInput, Seq, Par, Alt, If, Case, While, Each, Clear, Local, Terms, no_terms, then_term, Variants, no_variants, or_variant, Choices, no_choices, or_choice, declared_choices, each_choice, Options, no_options, or_option, or_else}
-use Rattle.occ_term.specs.TermTyping.{Declared, TermHas}
+use Rattle.occ_term.specs.Terms.{Term, Skip, Stop, Assign, Input, Output, VariantInput, Seq, Par, Alt, If, Case, While, Each, Clear, Local, Terms, no_terms, then_term, Variants, no_variants, or_variant, Choices, no_choices, or_choice, declared_choices, each_choice, Options, no_options, or_option, or_else}
 use Rattle.occ_code.specs.Sequential.Machine.{Instruction, End}
 use Rattle.occ_code.specs.Sequential.Expressions.{expression_code, place_code, declaration_code, declarations_code, storing_code, counting_code}
 use Rattle.occ_code.specs.Sequential.Laws.{StandsAt}
@@ -74,9 +73,16 @@ module _ (code : List Instruction) where
         let x = place_after code (pc + 1) r.0 chosen r.1 in
         let y : r.0 + length (variants_code vs) ≡ m = place_after code r.0 m (variants_code vs) r.2 in
         let z : c.0 + 1 ≡ r.0 = c.2.1 in
-        let out : c.0 + 1 + length (variants_code vs) ≡ m = omega (arith, y, z) in
-        (length chosen, a.0, b.0, h.0, a.1, b.1, laid t b.0 c.0 pc' q.0 c.1 (jumps c.2.0 (from_place (c.0 + 1 + length (variants_code vs)) m pc' out w)),
-            subst (λ n. VariantsAt code n vs pc') (sym x) (variants_laid vs r.0 m pc' q.1 r.2 w))
+        let out : c.0 + 1 + length (variants_code vs) ≡ m = omega (arith, y, z) in (
+          length chosen,
+          a.0,
+          b.0,
+          h.0,
+          a.1,
+          b.1,
+          laid t b.0 c.0 pc' q.0 c.1 (jumps c.2.0 (from_place (c.0 + 1 + length (variants_code vs)) m pc' out w)),
+          subst (λ n. VariantsAt code n vs pc') (sym x) (variants_laid vs r.0 m pc' q.1 r.2 w),
+        )
 
     choices_laid : (cs : Choices) (after_ pc m out next pc' : ℕ) → ChoicesAreSequential cs → StandsAt code pc (choices_code cs after_) m → m + after_ ≡ out → Ways code m next → Ways code out pc' → ChoicesAt code pc cs next pc'
     choices_laid no_choices after_ pc m out next pc' q h e v w = from_place pc m next h v
@@ -87,9 +93,14 @@ module _ (code : List Instruction) where
         let x : r.0 + 1 + length (term_code t) ≡ a.0 = place_after code (r.0 + 1) a.0 (term_code t) a.1 in
         let y : a.0 + 1 + length (choices_code cs after_) ≡ m = place_after code (a.0 + 1) m (choices_code cs after_) a.2.1 in
         let there : a.0 + 1 + (length (choices_code cs after_) + after_) ≡ out = omega (arith, y, past) in
-        let skip : r.0 + 1 + (length (term_code t) + 1) ≡ a.0 + 1 = omega (arith, x) in
-        (r.0, length (term_code t) + 1, r.1, r.2.0, laid t (r.0 + 1) a.0 pc' q.0 a.1 (jumps a.2.0 (from_place (a.0 + 1 + (length (choices_code cs after_) + after_)) out pc' there w)),
-            subst (λ n. ChoicesAt code n cs next pc') (sym skip) (choices_laid cs after_ (a.0 + 1) m out next pc' q.1 a.2.1 past v w))
+        let skip : r.0 + 1 + (length (term_code t) + 1) ≡ a.0 + 1 = omega (arith, x) in (
+          r.0,
+          length (term_code t) + 1,
+          r.1,
+          r.2.0,
+          laid t (r.0 + 1) a.0 pc' q.0 a.1 (jumps a.2.0 (from_place (a.0 + 1 + (length (choices_code cs after_) + after_)) out pc' there w)),
+          subst (λ n. ChoicesAt code n cs next pc') (sym skip) (choices_laid cs after_ (a.0 + 1) m out next pc' q.1 a.2.1 past v w),
+        )
     choices_laid (declared_choices d within others) after_ pc m out next pc' q h past v w =
         let r = split code pc m (declaration_code d) _ h in
         let a = split code r.0 m (choices_code within (length (choices_code others after_) + after_)) (choices_code others after_) r.2 in
@@ -104,9 +115,17 @@ module _ (code : List Instruction) where
         let y : a.0 + 1 + length (choices_code others after_) ≡ m = place_after code (a.0 + 1) m (choices_code others after_) a.2.1 in
         let there : a.0 + (1 + length (choices_code others after_) + after_) ≡ out = omega (arith, y, past) in
         let skip : r.0 + 1 + (length (choices_code within (1 + length (choices_code others after_) + after_)) + 1) ≡ a.0 + 1 = omega (arith, x) in
-        let back : a.0 - (length (choices_code within (1 + length (choices_code others after_) + after_)) + 1) ≡ r.0 = omega (arith, x) in
-        (r.0, length inner + 1, a.0, length inner + 1, r.1, r.2.0, choices_laid within (1 + length (choices_code others after_) + after_) (r.0 + 1) a.0 out a.0 pc' q.0 a.1 there stays w, (a.2.0, back),
-            subst (λ n. ChoicesAt code n others next pc') (sym skip) (choices_laid others after_ (a.0 + 1) m out next pc' q.1 a.2.1 past v w))
+        let back : a.0 - (length (choices_code within (1 + length (choices_code others after_) + after_)) + 1) ≡ r.0 = omega (arith, x) in (
+          r.0,
+          length inner + 1,
+          a.0,
+          length inner + 1,
+          r.1,
+          r.2.0,
+          choices_laid within (1 + length (choices_code others after_) + after_) (r.0 + 1) a.0 out a.0 pc' q.0 a.1 there stays w,
+          (a.2.0, back),
+          subst (λ n. ChoicesAt code n others next pc') (sym skip) (choices_laid others after_ (a.0 + 1) m out next pc' q.1 a.2.1 past v w),
+        )
 
     options_laid : (os : Options) (after_ pc m out next pc' : ℕ) → OptionsAreSequential os → StandsAt code pc (options_code os after_) m → m + after_ ≡ out → Ways code m next → Ways code out pc' → OptionsAt code pc os next pc'
     options_laid no_options after_ pc m out next pc' q h past v w = from_place pc m next h v
@@ -118,9 +137,14 @@ module _ (code : List Instruction) where
         let x = place_after code (pc + 1) r.0 chosen r.1 in
         let y : r.0 + length (options_code os after_) ≡ m = place_after code r.0 m (options_code os after_) r.2 in
         let z : c.0 + 1 ≡ r.0 = c.2.1 in
-        let there : c.0 + 1 + (length (options_code os after_) + after_) ≡ out = omega (arith, y, z, past) in
-        (length chosen, a.0, h.0, a.1, laid t a.0 c.0 pc' q.0 c.1 (jumps c.2.0 (from_place (c.0 + 1 + (length (options_code os after_) + after_)) out pc' there w)),
-            subst (λ n. OptionsAt code n os next pc') (sym x) (options_laid os after_ r.0 m out next pc' q.1 r.2 past v w))
+        let there : c.0 + 1 + (length (options_code os after_) + after_) ≡ out = omega (arith, y, z, past) in (
+          length chosen,
+          a.0,
+          h.0,
+          a.1,
+          laid t a.0 c.0 pc' q.0 c.1 (jumps c.2.0 (from_place (c.0 + 1 + (length (options_code os after_) + after_)) out pc' there w)),
+          subst (λ n. OptionsAt code n os next pc') (sym x) (options_laid os after_ r.0 m out next pc' q.1 r.2 past v w),
+        )
     options_laid (or_else ds t os) after_ pc m out next pc' q h past v w = options_laid os after_ pc m out next pc' q.1 h past v w
 
     else_laid : (os : Options) (pc m pc' : ℕ) → OptionsAreSequential os → StandsAt code pc (else_code os) m → Ways code m pc' → ElseAt code pc os pc'

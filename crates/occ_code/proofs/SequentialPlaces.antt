@@ -1,7 +1,6 @@
 -- Instructions at a place of the code, and walks along them.
-use Rattle.std.specs.Prelude.{slice_get}
-use Rattle.std.proofs.Common.{◌≡◌, ℕ, ◌+◌, List, [], ◌∷◌, ◌++◌, length, Some, refl, ap, ◌∙◌, subst, sym, arith}
-use Rattle.occ_code.specs.Sequential.Machine.{Instruction, Point, point, Effect, Moves, act, effect, Walks, here, on}
+use Rattle.std.proofs.Common.{◌≡◌, ℕ, ◌+◌, List, [], ◌∷◌, ◌++◌, length, refl, subst, arith}
+use Rattle.occ_code.specs.Sequential.Machine.{Instruction, Point, Walks, here, on}
 use Rattle.occ_code.specs.Sequential.Laws.{StandsAt}
 
 -- two pieces in a row

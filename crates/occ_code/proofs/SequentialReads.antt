@@ -1,7 +1,7 @@
 -- Evaluation looks only at cells that are read.
 use Rattle.std.specs.Prelude.{nat_eq, get_or, nat_abs, int_le, ◌&&◌, ◌+ℤ◌, ◌||◌, if◌then◌else◌}
 use Rattle.std.proofs.lemmas.Bool.Decides.{nat_tests}
-use Rattle.std.proofs.Common.{◌≡◌, ◌∙◌, ℕ, zero, suc, ℤ, pos, ◌+◌, ◌*◌, ◌<◌, ◌≤◌, Bool, true, false, IsTrue, List, [], ◌∷◌, length, Option, Some, refl, ap, subst, sym, arith}
+use Rattle.std.proofs.Common.{◌≡◌, ◌∙◌, ℕ, zero, suc, pos, ◌+◌, ◌*◌, Bool, true, false, IsTrue, List, [], ◌∷◌, length, Option, refl, ap, arith}
 use Rattle.occ_term.specs.Messages.{product}
 use Rattle.occ_term.specs.declared.primitive.Primitive.{Primitive}
 use Rattle.occ_term.specs.declared.primitive.Primitive.TheVariants.{Int}
@@ -10,15 +10,13 @@ use Rattle.occ_term.specs.declared.expression.Monadic.{Monadic}
 use Rattle.occ_term.specs.declared.expression.Monadic.TheVariants.{Negate, BitNot, Not}
 use Rattle.occ_term.specs.declared.protocol.PartType.{PartType}
 use Rattle.occ_term.specs.declared.protocol.PartType.TheVariants.{One as OneOf, Many as ManyOf, Counted as CountedOf}
-use Rattle.occ_term.specs.declared.message.Part.{Part}
-use Rattle.occ_term.specs.declared.message.Part.TheVariants.{One, Many, Counted}
+use Rattle.occ_term.specs.declared.message.Part.TheVariants.{One, Many}
 use Rattle.occ_term.specs.Terms.{Expression, Constant, Cell, Component, Letter, Binary, Unary, And, Or, Conversion, Place, place, Subscripts, no_subscripts, then_subscript, Array, Cells, Text, Item, OfOne, OfMany, OfCounted, Target, Into, IntoCounted, Replicator, replicator}
 use Rattle.occ_term.specs.Values.{Store, Evaluated, Value, Fails, after, checked, holds, binary, unary, converted, subscript, counted, Span, span, first_of, count_of, value_of, span_of, offset_of, values_from, array_of, part_of, parts_of, AgreeOn}
-use Rattle.occ_term.specs.Storing.{Spot, At, AtCounted, spot_of, spots_of, indices, indices_of}
+use Rattle.occ_term.specs.Storing.{At, AtCounted, spot_of, spots_of, indices, indices_of}
 use Rattle.occ_term.specs.Uses.{Numbers, union, numbers_in, named_by, reads_of, reads_in_place, reads_in_subscripts, reads_of_array, reads_of_item, reads_of_items, uses_of_target, uses_of_targets, uses_of_replicator}
 use Rattle.occ_term.specs.Typing.{HasType, PlaceHas, SubscriptsLeave, ArrayHas, ItemHas, TargetHas}
 use Rattle.occ_term.specs.TermTyping.{Declared, ItemsHave, TargetsHave, ReplicatorHas, ChannelHas}
-use Rattle.occ_term.specs.TypedSteps.{LiesWithin, PlacesLieWithin}
 use Rattle.occ_term.proofs.TypedPlaces.{places_lie_within, to_row, in_row}
 
 pub same_cell : (c : ℕ) → IsTrue (nat_eq c c)

@@ -1,9 +1,8 @@
 -- What the code does within one turn: it ends the part being done, or comes to a stop within it.
-use Rattle.std.specs.Prelude.{slice_get}
-use Rattle.std.proofs.Common.{◌≡◌, ◌∙◌, ℕ, ◌+◌, Bool, false, true, IsTrue, List, [], ◌∷◌, ◌++◌, Option, Some, None, refl, ap, subst, sym, append_assoc}
+use Rattle.std.proofs.Common.{◌≡◌, ℕ, IsTrue, List, [], ◌∷◌, ◌++◌, refl, ap, subst, sym, append_assoc}
 use Rattle.occ_term.specs.declared.fault.Fault.{Fault}
 use Rattle.occ_term.specs.declared.message.Message.{Message}
-use Rattle.occ_term.specs.Terms.{Term, Skip, Reception}
+use Rattle.occ_term.specs.Terms.{Skip, Reception}
 use Rattle.occ_term.specs.Values.{Store, Evaluated, Value, Fails}
 use Rattle.occ_term.specs.Storing.{Outcome, Gives, Faults}
 use Rattle.occ_term.specs.Steps.{Loop, Doing, Do, Again, Offering, Awaiting, Context, Then, Within, Left, left, status, is_running, FaultsIn, Step, faults}
@@ -12,11 +11,11 @@ use Rattle.occ_term.specs.Turns.{Steps, none, more, SingleTurn, single_turn}
 use Rattle.occ_term.specs.Frames.{Variables}
 use Rattle.occ_code.specs.declared.task.Wait.{Wait}
 use Rattle.occ_code.specs.declared.task.Wait.TheVariants.{Ready, Offers, Awaits, Halted, Faulted}
-use Rattle.occ_code.specs.Sequential.Machine.{Instruction, Jump, Point, point, Stops, act, effect, Walks, here, on}
+use Rattle.occ_code.specs.Sequential.Machine.{Instruction, Point, point, Stops, act, effect, Walks, here, on}
 use Rattle.occ_code.specs.Sequential.Laws.{FaultsAt, Comes, comes, fails}
-use Rattle.occ_code.specs.Sequential.Layout.{Ways, stays, jumps, ListAt, LoopAt, ContextAt, ContextsAt}
+use Rattle.occ_code.specs.Sequential.Layout.{Ways, stays, jumps, ListAt, LoopAt, ContextsAt}
 use Rattle.occ_code.proofs.SequentialPlaces.{walks_on}
-use Rattle.occ_code.proofs.SequentialFrames.{HoldsAs, frame_of, GivesAs, FaultsAs, Performs, performs, refuses}
+use Rattle.occ_code.proofs.SequentialFrames.{HoldsAs, frame_of, Performs, performs, refuses}
 
 pub steps_on : {a b c : Left} {s s1 s2 : Store} → Steps a s b s1 → Steps b s1 c s2 → Steps a s c s2
 steps_on none r = r

@@ -1,6 +1,6 @@
 -- The code of each term does, within one turn, what the term does.
-use Rattle.std.specs.Prelude.{slice_get, ◌||◌, ⊤, if◌then◌else◌, nat_eq, nat_abs, ◌+ℤ◌, ◌-◌}
-use Rattle.std.proofs.Common.{◌≡◌, ◌∙◌, ℕ, zero, suc, ℤ, pos, ◌+◌, Bool, true, false, IsTrue, List, [], ◌∷◌, ◌++◌, length, Option, Some, None, refl, ap, subst, sym, arith}
+use Rattle.std.specs.Prelude.{slice_get, if◌then◌else◌, nat_eq, ◌+ℤ◌, ◌-◌}
+use Rattle.std.proofs.Common.{◌≡◌, ◌∙◌, ℕ, zero, suc, ℤ, pos, ◌+◌, Bool, true, false, List, [], ◌∷◌, ◌++◌, Option, Some, None, refl, ap, subst, sym}
 use Rattle.occ_term.specs.declared.primitive.Primitive.{Primitive}
 use Rattle.occ_term.specs.declared.primitive.Primitive.TheVariants.{Bool as Boolean}
 use Rattle.occ_term.specs.declared.fault.Fault.{Fault}
@@ -12,29 +12,29 @@ use Rattle.occ_term.specs.declared.protocol.Protocol.TheVariants.{Simple, Counte
 use Rattle.occ_term.specs.TypedSteps.{LoopHas}
 use Rattle.occ_term.specs.StepUses.{uses_of_loop}
 use Rattle.occ_term.specs.Messages.{message, parts_after, FitsAfter, Fits}
-use Rattle.occ_term.specs.Terms.{Expression, Place, Item, Target, Declaration, Clearing, Naming, Replicator, Term, Skip, Stop, Assign, Input, Output, VariantInput, Seq, Par, Alt, If, Case, While, Each, Clear, Local, Terms, no_terms, then_term, Reception, Plain, Tagged, Variants, no_variants, or_variant, Choices, no_choices, or_choice, declared_choices, each_choice, Options, no_options, or_option, or_else}
-use Rattle.occ_term.specs.Values.{Store, store_with, Evaluated, Value, Fails, after, holds, first_of, Span, value_of, span_of, parts_of}
-use Rattle.occ_term.specs.Storing.{Outcome, Gives, Faults, then_in, in_store, Nothing, nothing, store_into, assigned, declared, all_declared, Indices, indices, indices_of, index_of}
-use Rattle.occ_term.specs.Selecting.{or_next, first_over, choice_over, choice_of, Selected, selected, is_among, matching, else_of, either, enters, option_of, variant_taken, tag_taken, taken}
+use Rattle.occ_term.specs.Terms.{Expression, Place, Item, Declaration, Clearing, Naming, Term, Skip, Stop, Assign, Input, Output, VariantInput, Seq, Par, Alt, If, Case, While, Each, Clear, Local, Terms, no_terms, then_term, Reception, Plain, Tagged, Variants, no_variants, or_variant, Choices, no_choices, or_choice, declared_choices, each_choice, Options, no_options, or_option, or_else}
+use Rattle.occ_term.specs.Values.{Store, store_with, Value, Fails, after, holds, first_of, value_of, span_of, parts_of}
+use Rattle.occ_term.specs.Storing.{Outcome, Gives, then_in, in_store, Nothing, nothing, store_into, declared, all_declared, Indices, indices, indices_of, index_of}
+use Rattle.occ_term.specs.Selecting.{or_next, first_over, choice_over, choice_of, Selected, selected, is_among, matching, else_of, either, enters, variant_taken, tag_taken, taken}
 use Rattle.occ_term.specs.Steps.{Loop, WhileLoop, EachLoop, Doing, Do, Passing, Again, Offering, Awaiting, Taking, MessageTaken, Context, Then, Within, left, or_stop, pass, pass_of, offer_of, await_of, Step, ends, stop, assign, clear, local, output, input, variant, take_in, seq_empty, seq, drops, if_step, case, while, passes_again, leaves, body_ends, again, FaultsIn, in_assign, in_local, in_output, in_input, in_variant, in_take, in_if, in_case, in_loop}
 use Rattle.occ_term.specs.Steps as S
-use Rattle.occ_term.specs.Turns.{Steps, none, more, SingleTurn, single_turn}
-use Rattle.occ_term.specs.Uses.{Uses, Numbers, with_use, reads_of, reads_of_items, reads_in_place, named_by, uses_of, uses_of_terms, uses_of_variants, uses_of_reception, uses_of_choices, uses_of_options, uses_of_targets, uses_of_declaration, uses_of_declarations, uses_of_replicator}
+use Rattle.occ_term.specs.Turns.{none, more, single_turn}
+use Rattle.occ_term.specs.Uses.{Numbers, with_use, reads_of, reads_of_items, reads_in_place, uses_of, uses_of_terms, uses_of_variants, uses_of_reception, uses_of_choices, uses_of_options, uses_of_targets, uses_of_declaration, uses_of_declarations, uses_of_replicator}
 use Rattle.occ_term.specs.Typing.{HasType}
-use Rattle.occ_term.specs.TermTyping.{Declared, ChannelHas, value_parts, ItemsHave, TargetsHave, DeclarationHas, DeclarationsHave, ReplicatorHas, TermHas, TermsHave, VariantsHave, ReceptionHas, ChoicesHave, OptionsHave}
-use Rattle.occ_term.specs.Frames.{Variables, is_held, at}
+use Rattle.occ_term.specs.TermTyping.{Declared, ChannelHas, value_parts, ItemsHave, DeclarationsHave, TermHas, TermsHave, VariantsHave, ReceptionHas, ChoicesHave, OptionsHave}
+use Rattle.occ_term.specs.Frames.{Variables, at}
 use Rattle.occ_code.specs.declared.task.Wait.TheVariants.{Ready, Offers, Awaits, Halted}
-use Rattle.occ_code.specs.Sequential.Machine.{Instruction, Choose, IfAmong, IfTag, DropOne, NextChoice, BackToChoice, LoopBack, Send, Receive, Halt, Point, point, Effect, Moves, Stops, act, effect, Walks, here, on, frame_with, next_choice, counting, tag_step, tag_stack}
-use Rattle.occ_code.specs.Sequential.Expressions.{expression_code, place_code, items_code, targets_code, declaration_code, declarations_code, storing_code, counting_code}
-use Rattle.occ_code.specs.Sequential.Laws.{StandsAt, FaultsAt, Comes, comes, fails}
-use Rattle.occ_code.specs.Sequential.Layout.{Ways, stays, jumps, TermAt, TermsAt, VariantsAt, ChoicesAt, OptionsAt, ElseAt, ListAt, LoopAt, ContextAt, ContextsAt, LeadsBack}
+use Rattle.occ_code.specs.Sequential.Machine.{Instruction, Choose, IfAmong, IfTag, DropOne, NextChoice, BackToChoice, Send, Receive, Halt, Point, point, Stops, act, Walks, here, frame_with, counting, tag_stack}
+use Rattle.occ_code.specs.Sequential.Expressions.{expression_code, place_code, items_code, declarations_code}
+use Rattle.occ_code.specs.Sequential.Laws.{StandsAt, FaultsAt}
+use Rattle.occ_code.specs.Sequential.Layout.{Ways, stays, TermAt, TermsAt, VariantsAt, ChoicesAt, OptionsAt, ElseAt, ListAt, LoopAt, LeadsBack}
 use Rattle.occ_code.proofs.SequentialPlaces.{split, walks_on}
 use Rattle.occ_code.proofs.SequentialExpressions.{expression_runs, place_runs, steps_to}
 use Rattle.occ_code.proofs.SequentialItems.{items_run}
-use Rattle.occ_code.proofs.SequentialReads.{value_same, channel_same, indices_same, parts_same, or_left}
-use Rattle.occ_code.proofs.SequentialFrames.{HoldsAs, one_held, frame_of, GivesAs, FaultsAs, Performs, performs, refuses, performs_on, performs_then, performs_by}
-use Rattle.occ_code.proofs.SequentialStatements.{Held, held_left, held_right, agrees_on, Lands, Sets, sets_then, storing_runs, assignment_runs, declaration_runs, declarations_run, counting_runs}
-use Rattle.occ_code.proofs.SequentialResults.{steps_on, ways_join, ways_walk, StopsAt, Pause, at_offer, at_await, at_halt, at_fault, at_loop, Stepped, Turned, Result, finishes, pauses, result_after, result_within, Faulting, faulted, outcome_result, comes_case}
+use Rattle.occ_code.proofs.SequentialReads.{value_same, channel_same, indices_same, parts_same}
+use Rattle.occ_code.proofs.SequentialFrames.{HoldsAs, one_held, frame_of, Performs, performs, refuses, performs_on, performs_by}
+use Rattle.occ_code.proofs.SequentialStatements.{Held, held_left, held_right, agrees_on, Lands, sets_then, storing_runs, assignment_runs, declaration_runs, declarations_run, counting_runs}
+use Rattle.occ_code.proofs.SequentialResults.{steps_on, ways_walk, at_offer, at_await, at_halt, at_loop, Result, finishes, pauses, result_after, result_within, faulted, outcome_result, comes_case}
 
 module _ (code : List Instruction) (cells : List ℕ) (d : Declared) where
   abbrev Has : Numbers → Type 0
@@ -73,21 +73,34 @@ module _ (code : List Instruction) (cells : List ℕ) (d : Declared) where
       let (b, h', l) = split code a m (items_code is) _ r in
       comes_case code (span_of c (at f)) (place_runs code f [] [] c pc a [] h)
       (λ x e v. comes_case code (parts_of is (at f)) (items_run code f (pos (first_of x) ∷ []) [] is [] a b h')
-          (λ ps e' v'. pauses (b + 1) (Offers (first_of x) (message tag ps)) (Offering (first_of x) (message tag ps)) [] f
-              (record { last = point b (pos (first_of x) ∷ []) ps [] f; walks = walks_on v v'; stops = ap (λ o. act o b (pos (first_of x) ∷ []) ps [] f) l.0 })
-              (at_offer (subst (λ n. Ways code n pc') (sym l.1) w))
-              (λ s hs. record { store = s; turn = λ k. single_turn none (output (
-                  ap (λ z. after z (λ y. after (parts_of is s) (λ qs. Value (Offering (first_of y) (message tag qs))))) (channel_agrees c p f hc kc s hs ∙ e)
-                  ∙ ap (λ z. after z (λ qs. Value (Offering (first_of x) (message tag qs)))) (items_agree s hs ∙ e'))) refl; holds = hs }))
-          (λ err e' z. faulted code cells (fault_after v z)
-              (λ s hs. record { store = s; fault_in = in_output (
-                  ap (λ y. after y (λ y. after (parts_of is s) (λ qs. Value (Offering (first_of y) (message tag qs))))) (channel_agrees c p f hc kc s hs ∙ e)
-                  ∙ ap (λ y. after y (λ qs. Value (Offering (first_of x) (message tag qs)))) (items_agree s hs ∙ e')); holds = hs })))
-      (λ err e z. faulted code cells z (λ s hs. record { store = s; fault_in = in_output (
-          ap (λ y. after y (λ y. after (parts_of is s) (λ qs. Value (Offering (first_of y) (message tag qs))))) (channel_agrees c p f hc kc s hs ∙ e)); holds = hs }))
+      (λ ps e' v'. pauses (b + 1) (Offers (first_of x) (message tag ps)) (Offering (first_of x) (message tag ps)) [] f
+      (record { last = point b (pos (first_of x) ∷ []) ps [] f; walks = walks_on v v'; stops = ap (λ o. act o b (pos (first_of x) ∷ []) ps [] f) l.0 })
+      (at_offer (subst (λ n. Ways code n pc') (sym l.1) w))
+      (λ s hs. record {
+        store = s;
+        turn = λ k. single_turn none (output (
+            ap (λ z. after z (λ y. after (parts_of is s) (λ qs. Value (Offering (first_of y) (message tag qs))))) (channel_agrees c p f hc kc s hs ∙ e)
+            ∙ ap (λ z. after z (λ qs. Value (Offering (first_of x) (message tag qs)))) (items_agree s hs ∙ e'))) refl;
+        holds = hs;
+      }))
+      (λ err e' z. faulted code cells (fault_after v z)
+      (λ s hs. record {
+        store = s;
+        fault_in = in_output (
+            ap (λ y. after y (λ y. after (parts_of is s) (λ qs. Value (Offering (first_of y) (message tag qs))))) (channel_agrees c p f hc kc s hs ∙ e)
+            ∙ ap (λ y. after y (λ qs. Value (Offering (first_of x) (message tag qs)))) (items_agree s hs ∙ e'));
+        holds = hs;
+      })))
+      (λ err e z. faulted code cells z (λ s hs. record {
+        store = s;
+        fault_in = in_output (
+            ap (λ y. after y (λ y. after (parts_of is s) (λ qs. Value (Offering (first_of y) (message tag qs))))) (channel_agrees c p f hc kc s hs ∙ e));
+        holds = hs;
+      }))
     where
       items_agree : (s : Store) → HoldsAs cells f s → parts_of is s ≡ parts_of is (at f)
       items_agree s hs = parts_same d s (at f) is types hi (agrees_on code cells d (reads_of_items is) f s ki hs)
+
       fault_after : {a b : Point} {e : Fault} → Walks code a b → FaultsAt code b f e → FaultsAt code a f e
       fault_after v z = record { last = z.last; stands = z.stands; walks = walks_on v z.walks; stops = z.stops }
 
@@ -99,9 +112,9 @@ module _ (code : List Instruction) (cells : List ℕ) (d : Declared) where
       let (a, h, r) = split code pc n (place_code c) _ at_place in
       comes_case code (span_of c (at f)) (place_runs code f [] [] c pc a [] h)
       (λ y e v. pauses (a + 1) (Awaits (first_of y)) (Awaiting (first_of y) list) [] f
-          (record { last = point a (pos (first_of y) ∷ []) [] [] f; walks = v; stops = ap (λ o. act o a (pos (first_of y) ∷ []) [] [] f) r.0 })
-          (at_await pc' (subst (λ m. ListAt code m list pc') (sym r.1) l) stays)
-          (λ s hs. record { store = s; turn = λ k. single_turn none (step s (Awaiting (first_of y) list) k (ap (λ z. after z (λ w. Value (Awaiting (first_of w) list))) (channel_agrees c p f hc kc s hs ∙ e))) refl; holds = hs }))
+      (record { last = point a (pos (first_of y) ∷ []) [] [] f; walks = v; stops = ap (λ o. act o a (pos (first_of y) ∷ []) [] [] f) r.0 })
+      (at_await pc' (subst (λ m. ListAt code m list pc') (sym r.1) l) stays)
+      (λ s hs. record { store = s; turn = λ k. single_turn none (step s (Awaiting (first_of y) list) k (ap (λ z. after z (λ w. Value (Awaiting (first_of w) list))) (channel_agrees c p f hc kc s hs ∙ e))) refl; holds = hs }))
       (λ err e z. faulted code cells z (λ s hs. record { store = s; fault_in = fault s err (ap (λ z. after z (λ w. Value (Awaiting (first_of w) list))) (channel_agrees c p f hc kc s hs ∙ e)); holds = hs }))
 
   -- ---- choices
@@ -162,8 +175,8 @@ module _ (code : List Instruction) (cells : List ℕ) (d : Declared) where
       index_set (λ s. or_next (select s) (λ s'. first_over select index (v +ℤ pos 1) count s')) index v (point (m + 1) (pos count ∷ (v +ℤ pos 1) ∷ st) [] [] (frame_with f index v)) st (m + 1 + skip) pc'
       (steps_to code f m (pos (suc count) ∷ v ∷ st) [] [] (NextChoice index skip) (point (m + 1) (pos count ∷ (v +ℤ pos 1) ∷ st) [] [] (frame_with f index v)) h refl)
       (chooses_next select (λ s'. first_over select index (v +ℤ pos 1) count s') (pos count ∷ (v +ℤ pos 1) ∷ st) st n (m + 1 + skip) pc' (k (frame_with f index v) (pos count ∷ (v +ℤ pos 1) ∷ st))
-          (λ g. performs_on code cells (subst (λ x. Walks code (point n (pos count ∷ (v +ℤ pos 1) ∷ st) [] [] g) (point x (pos count ∷ (v +ℤ pos 1) ∷ st) [] [] g)) eb
-              (steps_to code g n (pos count ∷ (v +ℤ pos 1) ∷ st) [] [] (BackToChoice back) (point (n - back) (pos count ∷ (v +ℤ pos 1) ∷ st) [] [] g) hb refl)) (later g)))
+      (λ g. performs_on code cells (subst (λ x. Walks code (point n (pos count ∷ (v +ℤ pos 1) ∷ st) [] [] g) (point x (pos count ∷ (v +ℤ pos 1) ∷ st) [] [] g)) eb
+      (steps_to code g n (pos count ∷ (v +ℤ pos 1) ∷ st) [] [] (BackToChoice back) (point (n - back) (pos count ∷ (v +ℤ pos 1) ∷ st) [] [] g) hb refl)) (later g)))
 
   -- ---- CASE and variants: where nothing is selected there is the halt
 
@@ -218,13 +231,14 @@ module _ (code : List Instruction) (cells : List ℕ) (d : Declared) where
       passed_as v b h q s hs =
           ap (λ y. then_in (in_store y s) (λ v s'. Gives (if holds v then Some (pass body (WhileLoop e body)) else None) s')) (value_agrees e Boolean f he ke s hs ∙ q)
           ∙ ap (λ c. Gives (if c then Some (pass body (WhileLoop e body)) else None) s) h
+
       by_value : (v : ℤ) (b : Bool) → holds v ≡ b → value_of e (at f) ≡ Value v → Walks code (start pc f) (point m (v ∷ []) [] [] f) → Does (start pc f) f (Passing (WhileLoop e body)) pc'
       by_value v true h q walk =
           result_within code cells (Within (WhileLoop e body)) (n, pc', stays, (pc, back, whole), stays)
           (walks_on walk (steps_to code f m (v ∷ []) [] [] (Choose skip) (start (m + 1) f) hm (rw h refl)))
           (λ s hs. record { store = s; steps = λ k. more (passes_again (passed_as v true h q s hs)) refl none; holds = hs }) r
           (λ g walk' t. pauses pc Ready (Again (WhileLoop e body)) [] g (record { last = start n g; walks = walk'; stops = ap (λ o. act o n [] [] [] g) back.1 ∙ ap (λ x. Stops x g Ready) back.2 }) (at_loop pc' whole stays)
-              (λ s hs. let u = t s hs in record { store = u.store; turn = λ k. single_turn (u.steps k) body_ends refl; holds = u.holds }))
+          (λ s hs. let u = t s hs in record { store = u.store; turn = λ k. single_turn (u.steps k) body_ends refl; holds = u.holds }))
       by_value v false h q walk =
           result_after code cells (walks_on walk (steps_to code f m (v ∷ []) [] [] (Choose skip) (start (m + 1 + skip) f) hm (rw h refl)))
           (λ s hs. record { store = s; steps = λ k. more (leaves (passed_as v false h q s hs)) refl none; holds = hs }) (skips f (m + 1 + skip) pc' w)
@@ -276,14 +290,14 @@ module _ (code : List Instruction) (cells : List ℕ) (d : Declared) where
     term_runs (Case e os) f pc pc' h k l =
         outcome_result code cells (λ t. Do (or_stop t)) (λ x ks. refl) (λ x s s' ks q. case q) (λ x s s' q. in_case q)
         (performs_by code cells (value_of e) (value_of e (at f)) (λ v. point l.0 (v ∷ []) [] [] f) (λ v s'. enters (either (matching v os) (else_of os)) s') (expression_runs code f [] [] e pc l.0 [] l.2)
-            (value_agrees e h.0 f h.2 (held_left code cells d (reads_of e) (uses_of_options os).reads k))
-            (λ v q. options_run os f v l.0 l.1 pc' h.0 (else_of os) h.3 (held_right code cells d (reads_of e) (uses_of_options os).reads k) l.3
-                (λ g. else_runs os g v l.1 pc' h.0 h.3 (held_right code cells d (reads_of e) (uses_of_options os).reads k) l.4)))
+        (value_agrees e h.0 f h.2 (held_left code cells d (reads_of e) (uses_of_options os).reads k))
+        (λ v q. options_run os f v l.0 l.1 pc' h.0 (else_of os) h.3 (held_right code cells d (reads_of e) (uses_of_options os).reads k) l.3
+        (λ g. else_runs os g v l.1 pc' h.0 h.3 (held_right code cells d (reads_of e) (uses_of_options os).reads k) l.4)))
         (λ x b q. entered x b pc' q)
     term_runs (While e b) f pc pc' h k l =
         result_after code cells here (λ s hs. record { store = s; steps = λ ks. more while refl none; holds = hs })
         (tests f pc l.0 l.1 l.2 pc' e b h.0 (held_left code cells d (reads_of e) (uses_of b).reads k) l.3 l.4 l.5 l.7 l
-            (term_runs b f (l.0 + 1) l.2 h.1 (held_right code cells d (reads_of e) (uses_of b).reads k) l.6))
+        (term_runs b f (l.0 + 1) l.2 h.1 (held_right code cells d (reads_of e) (uses_of b).reads k) l.6))
     term_runs (Each r b) f pc pc' h k l = absurd l
     term_runs (Clear first count) f pc pc' h k l =
         outcome_result code cells (λ x. Do Skip) (λ x ks. refl) (λ x s s' ks e. clear (only_nothing x e)) (λ e s s' q. cc)
@@ -298,7 +312,7 @@ module _ (code : List Instruction) (cells : List ℕ) (d : Declared) where
         result_within code cells (Then ts) (l.0, pc', stays, l.2, stays) here (λ s hs. record { store = s; steps = λ ks. more seq refl none; holds = hs })
         (term_runs t f pc l.0 h.0 (held_left code cells d (uses_of t).reads (uses_of_terms ts).reads k) l.1)
         (λ g w u. result_after code cells w (λ s hs. let r = u s hs in record { store = r.store; steps = λ ks. steps_on (r.steps ks) (more drops refl none); holds = r.holds })
-            (terms_run ts g l.0 pc' h.1 (held_right code cells d (uses_of t).reads (uses_of_terms ts).reads k) l.2))
+        (terms_run ts g l.0 pc' h.1 (held_right code cells d (uses_of t).reads (uses_of_terms ts).reads k) l.2))
 
     choices_run : (cs : Choices) (f : Variables) (pc next pc' : ℕ) (st : List ℤ) → ChoicesHave d cs → Has (uses_of_choices cs).reads → ChoicesAt code pc cs next pc' → Chooses f (point pc st [] [] f) (choice_of cs) st next pc'
     choices_run no_choices f pc next pc' st h k l = performs None (point next st [] [] f) (ways_walk code st [] [] f l) refl refl (λ s hs. record { store = s; gives_it = refl; holds = hs })
@@ -308,13 +322,13 @@ module _ (code : List Instruction) (cells : List ℕ) (d : Declared) where
         performs_by code cells (value_of e) (value_of e (at f)) (λ v. point l.0 (v ∷ st) [] [] f) (λ v s'. if holds v then Gives (Some t) s' else choice_of cs s') (expression_runs code f [] [] e pc l.0 st l.2)
         (value_agrees e Boolean f h.0 ke)
         (λ v q. by_test f l.0 l.1 next pc' st v t (choice_of cs) (holds v) refl l.3 (term_runs t f (l.0 + 1) pc' h.1 (held_left code cells d (uses_of t).reads (uses_of_choices cs).reads r) l.4)
-            (choices_run cs f (l.0 + 1 + l.1) next pc' st h.2 (held_right code cells d (uses_of t).reads (uses_of_choices cs).reads r) l.5))
+        (choices_run cs f (l.0 + 1 + l.1) next pc' st h.2 (held_right code cells d (uses_of t).reads (uses_of_choices cs).reads r) l.5))
     choices_run (declared_choices x within others) f pc next pc' st h k l =
         let kx = held_left code cells d (uses_of_declaration x).reads (with_use (uses_of_choices within) (uses_of_choices others)).reads k in
         let r = held_right code cells d (uses_of_declaration x).reads (with_use (uses_of_choices within) (uses_of_choices others)).reads k in
         chooses_next (λ s. then_in (declared x s) (λ y s'. choice_of within s')) (choice_of others) st st l.1 next pc'
         (sets_then code cells d (declared x) l.0 st [] [] (choice_of within) (declaration_runs code cells d x f pc l.0 st [] h.0 kx l.2)
-            (λ g. choices_run within g l.0 l.1 pc' st h.1 (held_left code cells d (uses_of_choices within).reads (uses_of_choices others).reads r) l.3))
+        (λ g. choices_run within g l.0 l.1 pc' st h.1 (held_left code cells d (uses_of_choices within).reads (uses_of_choices others).reads r) l.3))
         (λ g. choices_run others g l.1 next pc' st h.2 (held_right code cells d (uses_of_choices within).reads (uses_of_choices others).reads r) l.4)
     choices_run (each_choice over within others) f pc next pc' st h k l =
         let kx = held_left code cells d (uses_of_replicator over).reads (with_use (uses_of_choices within) (uses_of_choices others)).reads k in
@@ -322,8 +336,8 @@ module _ (code : List Instruction) (cells : List ℕ) (d : Declared) where
         let inner = (λ (g : Variables) (st' : List ℤ). choices_run within g (l.0 + 1) l.2 pc' st' h.2 (held_left code cells d (uses_of_choices within).reads (uses_of_choices others).reads r) l.6) in
         chooses_next (λ s. then_in (in_store (indices_of over s) s) (λ is s'. choice_over (choice_of within) (index_of over) is s')) (choice_of others) st st (l.0 + 1 + l.1) next pc'
         (performs_by code cells (indices_of over) (indices_of over (at f)) (λ is. point l.0 (counting is st) [] [] f) (λ is s'. choice_over (choice_of within) (index_of over) is s') (counting_runs code cells d over f pc l.0 st [] l.4)
-            (λ s hs. indices_same d s (at f) over h.0 (agrees_on code cells d (uses_of_replicator over).reads f s kx hs))
-            (λ is q. counted_runs is (choice_of within) (index_of over) l.0 l.1 l.3 l.2 st pc' l.5 l.7.0 l.7.1 inner f))
+        (λ s hs. indices_same d s (at f) over h.0 (agrees_on code cells d (uses_of_replicator over).reads f s kx hs))
+        (λ is q. counted_runs is (choice_of within) (index_of over) l.0 l.1 l.3 l.2 st pc' l.5 l.7.0 l.7.1 inner f))
         (λ g. choices_run others g (l.0 + 1 + l.1) next pc' st h.3 (held_right code cells d (uses_of_choices within).reads (uses_of_choices others).reads r) l.8)
 
     options_run : (os : Options) (f : Variables) (v : ℤ) (pc next pc' : ℕ) (type : Primitive) (other : Option Selected) → OptionsHave d type os → Has (uses_of_options os).reads → OptionsAt code pc os next pc'
@@ -357,8 +371,8 @@ module _ (code : List Instruction) (cells : List ℕ) (d : Declared) where
         let kb = held_right code cells d (uses_of_targets ts).reads (with_use (uses_of body) (uses_of_variants vs)).reads kr in
         tagged f pc l.0 pc' tag t ps (λ s. then_in (all_declared ds s) (λ x s'. then_in (store_into ts ps s') (λ y s''. Gives (Some body) s''))) (variant_taken tag ps vs) (nat_eq tag t) refl l.3
         (sets_then code cells d (all_declared ds) l.1 [] ps [] (λ s'. then_in (store_into ts ps s') (λ y s''. Gives (Some body) s'')) (declarations_run code cells d ds f (pc + 1) l.1 [] ps h.1 kd l.4)
-            (λ g. sets_then code cells d (store_into ts ps) l.2 [] [] [] (λ s''. Gives (Some body) s'') (storing_runs code cells d ts h.0.0 ps g l.1 l.2 [] h.0.2 kt l.5)
-                (λ g'. enters_body body g' l.2 pc' (term_runs body g' l.2 pc' h.2 (held_left code cells d (uses_of body).reads (uses_of_variants vs).reads kb) l.6))))
+        (λ g. sets_then code cells d (store_into ts ps) l.2 [] [] [] (λ s''. Gives (Some body) s'') (storing_runs code cells d ts h.0.0 ps g l.1 l.2 [] h.0.2 kt l.5)
+        (λ g'. enters_body body g' l.2 pc' (term_runs body g' l.2 pc' h.2 (held_left code cells d (uses_of body).reads (uses_of_variants vs).reads kb) l.6))))
         (variants_run vs f tag (pc + 1 + l.0) pc' ps p h.3 (held_right code cells d (uses_of body).reads (uses_of_variants vs).reads kb) l.7)
 
   pub loop_runs : (l : Loop) (f : Variables) (pc pc' : ℕ) → LoopHas d l → Has (uses_of_loop l).reads → LoopAt code pc l pc' → Does (start pc f) f (Passing l) pc'
@@ -384,8 +398,8 @@ module _ (code : List Instruction) (cells : List ℕ) (d : Declared) where
   list_runs (Plain ts t) m p f pc pc' h fit k l =
       outcome_result code cells (λ x. Do (or_stop x)) (λ x ks. refl) (λ x s s' ks e. take_in e) (λ e s s' q. in_take q)
       (subst (λ st. Enters f (point pc st m.items [] f) (taken (Plain ts t) m) pc') (sym (ap tag_stack (tag_none p m.tag h.0.0 m.items h.0.1 fit)))
-          (sets_then code cells d (store_into ts m.items) l.0 [] [] [] (λ s'. Gives (Some t) s') (storing_runs code cells d ts h.0.0 m.items f pc l.0 [] h.0.2 (held_left code cells d (uses_of_targets ts).reads (uses_of t).reads k) l.1)
-              (λ g. enters_body t g l.0 pc' (term_runs t g l.0 pc' h.1 (held_right code cells d (uses_of_targets ts).reads (uses_of t).reads k) l.2))))
+      (sets_then code cells d (store_into ts m.items) l.0 [] [] [] (λ s'. Gives (Some t) s') (storing_runs code cells d ts h.0.0 m.items f pc l.0 [] h.0.2 (held_left code cells d (uses_of_targets ts).reads (uses_of t).reads k) l.1)
+      (λ g. enters_body t g l.0 pc' (term_runs t g l.0 pc' h.1 (held_right code cells d (uses_of_targets ts).reads (uses_of t).reads k) l.2))))
       (λ x b e. entered x b pc' e)
   list_runs (Tagged vs) m p f pc pc' h fit k l =
       outcome_result code cells (λ x. Do (or_stop x)) (λ x ks. refl) (λ x s s' ks e. take_in e) (λ e s s' q. in_take q) (by_tag vs f m.tag pc pc' m.items p h k l) (λ x b e. entered x b pc' e)

@@ -1,8 +1,8 @@
 -- How many instructions a sequential term becomes: at most four for each of its nodes.
-use Rattle.std.proofs.Common.{ℕ, ℤ, ◌+◌, ◌*◌, ◌≤◌, List, [], ◌∷◌, ◌++◌, length, arith, length-append}
-use Rattle.occ_term.specs.Terms.{Expression, Constant, Cell, Component, Letter, Binary, Unary, And, Or, Conversion, Place, place, Subscripts, no_subscripts, then_subscript, Cells, Text, Item, OfOne, OfMany, OfCounted, Target, Into, IntoCounted, Declaration, Clearing, Naming, Replicator, replicator, Term, Skip, Stop, Assign, Input, Output, VariantInput, Seq, Par, Alt, If, Case, While, Each, Clear, Local, Terms, no_terms, then_term, Variants, no_variants, or_variant, Choices, no_choices, or_choice, declared_choices, each_choice, Options, no_options, or_option, or_else}
+use Rattle.std.proofs.Common.{ℕ, ◌+◌, ◌*◌, ◌≤◌, List, [], ◌∷◌, ◌++◌, length, arith, length-append}
+use Rattle.occ_term.specs.Terms.{Expression, Constant, Cell, Component, Letter, Binary, Unary, And, Or, Conversion, Place, place, Subscripts, no_subscripts, then_subscript, Cells, Text, Item, OfOne, OfMany, OfCounted, Target, Into, IntoCounted, Declaration, Clearing, Naming, replicator, Term, Skip, Stop, Assign, Input, Output, VariantInput, Seq, Par, Alt, If, Case, While, Each, Clear, Local, Terms, no_terms, then_term, Variants, no_variants, or_variant, Choices, no_choices, or_choice, declared_choices, each_choice, Options, no_options, or_option, or_else}
 use Rattle.occ_term.specs.Messages.{product}
-use Rattle.occ_term.specs.Sizes.{size_of_expression, size_of_place, size_of_subscripts, size_of_item, size_of_items, size_of_target, size_of_targets, size_of_declaration, size_of_declarations, size_of, size_of_terms, size_of_variants, size_of_choices, size_of_options, size_of_constants}
+use Rattle.occ_term.specs.Sizes.{size_of_expression, size_of_place, size_of_subscripts, size_of_item, size_of_items, size_of_target, size_of_targets, size_of_declaration, size_of_declarations, size_of, size_of_terms, size_of_variants, size_of_choices, size_of_options}
 use Rattle.occ_code.specs.Sequential.Machine.{Instruction, End, LoadAt, LoadLetter, Subscript, Operate, OperateOne, ConvertTo, AndThen, OrElse, PartOne, PartMany, PartCounted, PartCountedText, SpotOne, SpotCounted, StoreParts, StoreNamed, Jump, Choose, NextChoice, BackToChoice, CountedFrom, LoopBack, Send, Receive, Halt}
 use Rattle.occ_code.specs.Sequential.Expressions.{components_at, expression_code, place_code, subscripts_code, item_code, items_code, target_code, targets_code, declaration_code, declarations_code, storing_code, counting_code}
 use Rattle.occ_code.specs.Sequential.Emitted.{term_code, terms_code, variants_code, choices_code, options_code, else_code, BodiesAreSmall}
@@ -90,9 +90,17 @@ mutual
   variants_small : (vs : Variants) → length (variants_code vs) ≤ 4 * (size_of_variants vs).nodes + 1
   variants_small no_variants = omega arith
   variants_small (or_variant tag ds ts t vs) =
-      omega (arith, declarations_small ds, storing_small ts, term_small t, variants_small vs,
-          length-append (declarations_code ds ++ (storing_code ts ++ (term_code t ++ Jump (length (variants_code vs)) ∷ []))) (variants_code vs),
-          length-append (declarations_code ds) (storing_code ts ++ (term_code t ++ Jump (length (variants_code vs)) ∷ [])), length-append (storing_code ts) (term_code t ++ Jump (length (variants_code vs)) ∷ []), length-append (term_code t) (Jump (length (variants_code vs)) ∷ []))
+      omega (
+        arith,
+        declarations_small ds,
+        storing_small ts,
+        term_small t,
+        variants_small vs,
+        length-append (declarations_code ds ++ (storing_code ts ++ (term_code t ++ Jump (length (variants_code vs)) ∷ []))) (variants_code vs),
+        length-append (declarations_code ds) (storing_code ts ++ (term_code t ++ Jump (length (variants_code vs)) ∷ [])),
+        length-append (storing_code ts) (term_code t ++ Jump (length (variants_code vs)) ∷ []),
+        length-append (term_code t) (Jump (length (variants_code vs)) ∷ []),
+      )
 
   choices_small : (cs : Choices) (after : ℕ) → length (choices_code cs after) ≤ 4 * (size_of_choices cs).nodes
   choices_small no_choices after = omega arith
@@ -100,19 +108,39 @@ mutual
       omega (arith, expression_small e, term_small t, choices_small cs after, length-append (expression_code e) (Choose (length (term_code t) + 1) ∷ (term_code t ++ Jump (length (choices_code cs after) + after) ∷ choices_code cs after)), length-append (term_code t) (Jump (length (choices_code cs after) + after) ∷ choices_code cs after))
   choices_small (declared_choices d within others) after =
       let outer = length (choices_code others after) + after in
-      omega (arith, declaration_small d, choices_small within (length (choices_code others after) + after), choices_small others after,
-          length-append (declaration_code d) (choices_code within (length (choices_code others after) + after) ++ choices_code others after), length-append (choices_code within (length (choices_code others after) + after)) (choices_code others after))
+      omega (
+        arith,
+        declaration_small d,
+        choices_small within (length (choices_code others after) + after),
+        choices_small others after,
+        length-append (declaration_code d) (choices_code within (length (choices_code others after) + after) ++ choices_code others after),
+        length-append (choices_code within (length (choices_code others after) + after)) (choices_code others after),
+      )
   choices_small (each_choice (replicator line index base count) within others) after =
-      omega (arith, expression_small base, expression_small count, choices_small within (1 + length (choices_code others after) + after), choices_small others after,
-          length-append (expression_code base) (expression_code count ++ CountedFrom line ∷ []), length-append (expression_code count) (CountedFrom line ∷ []),
-          length-append (counting_code (replicator line index base count)) (NextChoice index (length (choices_code within (1 + length (choices_code others after) + after)) + 1) ∷ (choices_code within (1 + length (choices_code others after) + after) ++ BackToChoice (length (choices_code within (1 + length (choices_code others after) + after)) + 1) ∷ choices_code others after)),
-          length-append (choices_code within (1 + length (choices_code others after) + after)) (BackToChoice (length (choices_code within (1 + length (choices_code others after) + after)) + 1) ∷ choices_code others after))
+      omega (
+        arith,
+        expression_small base,
+        expression_small count,
+        choices_small within (1 + length (choices_code others after) + after),
+        choices_small others after,
+        length-append (expression_code base) (expression_code count ++ CountedFrom line ∷ []),
+        length-append (expression_code count) (CountedFrom line ∷ []),
+        length-append (counting_code (replicator line index base count)) (NextChoice index (length (choices_code within (1 + length (choices_code others after) + after)) + 1) ∷ (choices_code within (1 + length (choices_code others after) + after) ++ BackToChoice (length (choices_code within (1 + length (choices_code others after) + after)) + 1) ∷ choices_code others after)),
+        length-append (choices_code within (1 + length (choices_code others after) + after)) (BackToChoice (length (choices_code within (1 + length (choices_code others after) + after)) + 1) ∷ choices_code others after),
+      )
 
   options_small : (os : Options) (after : ℕ) → length (options_code os after) + length (else_code os) ≤ 4 * (size_of_options os).nodes + 1
   options_small no_options after = omega arith
   options_small (or_option constants ds t os) after =
-      omega (arith, declarations_small ds, term_small t, options_small os after,
-          length-append (declarations_code ds ++ (term_code t ++ Jump (length (options_code os after) + after) ∷ [])) (options_code os after), length-append (declarations_code ds) (term_code t ++ Jump (length (options_code os after) + after) ∷ []), length-append (term_code t) (Jump (length (options_code os after) + after) ∷ []))
+      omega (
+        arith,
+        declarations_small ds,
+        term_small t,
+        options_small os after,
+        length-append (declarations_code ds ++ (term_code t ++ Jump (length (options_code os after) + after) ∷ [])) (options_code os after),
+        length-append (declarations_code ds) (term_code t ++ Jump (length (options_code os after) + after) ∷ []),
+        length-append (term_code t) (Jump (length (options_code os after) + after) ∷ []),
+      )
   options_small (or_else ds t os) after =
       omega (arith, declarations_small ds, term_small t, options_small os after, length-append (declarations_code ds) (term_code t))
 

@@ -1,26 +1,25 @@
 -- What the code of assignments, declarations and replicators does.
-use Rattle.std.specs.Prelude.{slice_get, ◌||◌, ⊤, int_le, nat_abs, ◌&&◌, ◌+ℤ◌, replicate}
-use Rattle.std.proofs.Common.{◌≡◌, ◌∙◌, ℕ, zero, suc, ℤ, pos, ◌+◌, IsTrue, List, [], ◌∷◌, ◌++◌, length, Option, Some, None, refl, ap, subst, sym, arith}
+use Rattle.std.specs.Prelude.{slice_get, ◌||◌, int_le, nat_abs, ◌&&◌, ◌+ℤ◌, replicate}
+use Rattle.std.proofs.Common.{◌≡◌, ◌∙◌, ℕ, ℤ, pos, ◌+◌, IsTrue, List, [], ◌∷◌, ◌++◌, Some, refl, ap, subst, sym}
 use Rattle.occ_term.specs.declared.fault.Fault.{Fault}
 use Rattle.occ_term.specs.declared.fault.FaultKind.TheVariants.{Count}
 use Rattle.occ_term.specs.declared.message.Part.{Part}
 use Rattle.occ_term.specs.declared.protocol.PartType.{PartType}
 use Rattle.occ_term.specs.Messages.{simple_part}
-use Rattle.occ_term.specs.Terms.{Expression, Item, Target, Declaration, Clearing, Naming, Replicator, replicator}
-use Rattle.occ_term.specs.Values.{Store, Evaluated, Value, Fails, after, checked, value_of, part_of, parts_of, AgreeOn}
-use Rattle.occ_term.specs.Storing.{Outcome, Gives, Faults, then_in, in_store, Nothing, nothing, store_from, values_in, Spot, spots_of, store_parts, store_into, assigned, declared, all_declared, Indices, indices, indices_of}
-use Rattle.occ_term.specs.Uses.{Uses, Numbers, with_use, reading, writing, reads_of, reads_of_item, reads_of_items, uses_of_target, uses_of_targets, uses_of_declaration, uses_of_declarations, uses_of_replicator}
-use Rattle.occ_term.specs.TermTyping.{Declared, ItemsHave, TargetsHave, DeclarationHas, DeclarationsHave, ReplicatorHas}
+use Rattle.occ_term.specs.Terms.{Item, Target, Declaration, Clearing, Naming, Replicator, replicator}
+use Rattle.occ_term.specs.Values.{Store, after, checked, value_of, part_of, parts_of, AgreeOn}
+use Rattle.occ_term.specs.Storing.{Outcome, Gives, Faults, then_in, Nothing, nothing, store_from, values_in, Spot, spots_of, store_parts, store_into, assigned, declared, all_declared, indices, indices_of}
+use Rattle.occ_term.specs.Uses.{Numbers, reads_of_item, reads_of_items, uses_of_targets, uses_of_declaration, uses_of_declarations}
+use Rattle.occ_term.specs.TermTyping.{Declared, ItemsHave, TargetsHave, DeclarationHas, DeclarationsHave}
 use Rattle.occ_term.specs.Frames.{Variables, is_held, at}
-use Rattle.occ_code.specs.Sequential.Machine.{Instruction, StoreParts, StoreNamed, Point, point, Moves, Stops, act, Walks, here, on, frame_from, Stored, Stays, Refused, frame_parts, last_part, without_last, named_from, going_stored, counting}
+use Rattle.occ_code.specs.Sequential.Machine.{Instruction, StoreParts, StoreNamed, Point, point, Moves, act, here, on, frame_from, Stored, Stays, Refused, frame_parts, last_part, without_last, named_from, going_stored, counting}
 use Rattle.occ_code.specs.Sequential.Expressions.{expression_code, item_code, items_code, targets_code, declaration_code, declarations_code, storing_code, counting_code}
-use Rattle.occ_code.specs.Sequential.Laws.{StandsAt, FaultsAt, Comes, comes, fails}
-use Rattle.occ_code.specs.declared.task.Wait.TheVariants.{Faulted}
+use Rattle.occ_code.specs.Sequential.Laws.{StandsAt, Comes}
 use Rattle.occ_code.proofs.SequentialPlaces.{split}
 use Rattle.occ_code.proofs.SequentialExpressions.{comes_then, comes_by, comes_at, expression_runs, steps_to}
 use Rattle.occ_code.proofs.SequentialItems.{item_runs, items_run, targets_run}
-use Rattle.occ_code.proofs.SequentialReads.{or_left, or_right, part_as, parts_same, spots_same, indices_same}
-use Rattle.occ_code.proofs.SequentialFrames.{HoldsAs, row_held, row_left, StoresAs, parts_held, parts_left, stored_frame, frame_of, GivesAs, FaultsAs, Performs, performs, refuses, performs_on, performs_then, performs_by}
+use Rattle.occ_code.proofs.SequentialReads.{or_left, or_right, part_as, parts_same, spots_same}
+use Rattle.occ_code.proofs.SequentialFrames.{HoldsAs, row_held, row_left, StoresAs, parts_held, parts_left, stored_frame, frame_of, GivesAs, FaultsAs, Performs, performs, refuses, performs_then, performs_by}
 
 last_is : (q : List Part) (p : Part) → last_part (q ++ p ∷ []) ≡ Some p
 last_is [] p = refl
@@ -105,10 +104,10 @@ module _ (code : List Instruction) (cells : List ℕ) (d : Declared) where
       performs_by code cells (part_of value) (part_of value (at f)) (λ p. point m st (q ++ p ∷ []) [] f) (λ p s'. Gives nothing (store_from first (values_in p) s')) (item_runs code f st [] value q pc m a)
       (λ s hs. part_as d s (at f) value (simple_part h.1 h.0) h.2 (agrees_on (reads_of_item value) f s (λ c n. k c (or_left (reads_of_item value c) _ n)) hs))
       (λ p e. performs nothing (point (m + 1) st q [] (frame_from first (values_in p) f))
-          (steps_to code f m st (q ++ p ∷ []) [] (StoreNamed first) _ l.0 (ap (λ r. Moves (point (m + 1) st r [] (named_from first (last_part (q ++ p ∷ [])) f))) (others_are q p) ∙ ap (λ r. Moves (point (m + 1) st q [] (named_from first r f))) (last_is q p)))
-          (ap (λ n. point n st q [] (frame_from first (values_in p) f)) l.1)
-          (row_left (values_in p) first f)
-          (λ s hs. record { store = store_from first (values_in p) s; gives_it = refl; holds = row_held cells (values_in p) first f s hs }))
+      (steps_to code f m st (q ++ p ∷ []) [] (StoreNamed first) _ l.0 (ap (λ r. Moves (point (m + 1) st r [] (named_from first (last_part (q ++ p ∷ [])) f))) (others_are q p) ∙ ap (λ r. Moves (point (m + 1) st q [] (named_from first r f))) (last_is q p)))
+      (ap (λ n. point n st q [] (frame_from first (values_in p) f)) l.1)
+      (row_left (values_in p) first f)
+      (λ s hs. record { store = store_from first (values_in p) s; gives_it = refl; holds = row_held cells (values_in p) first f s hs }))
 
   -- what was set, and then something else from there
   pub sets_then : {Y : Type 0} {f : Variables} {a : Point} (o : Store → Outcome Nothing) (pc : ℕ) (st : List ℤ) (q : List Part) (sp : List Spot) (k : Store → Outcome Y) {To : Y → Point → Type 0}
@@ -132,4 +131,4 @@ module _ (code : List Instruction) (cells : List ℕ) (d : Declared) where
       comes_then code f (value_of base (at f)) (λ x. after (value_of count (at f)) (λ y. checked (int_le (pos 0) y && int_le (x +ℤ y) (pos 2147483648)) (indices x (nat_abs y)) Count line)) (expression_runs code f q [] base pc m st a)
       (λ x e. comes_then code f (value_of count (at f)) (λ y. checked (int_le (pos 0) y && int_le (x +ℤ y) (pos 2147483648)) (indices x (nat_abs y)) Count line) (expression_runs code f q [] count m n (x ∷ st) b)
       (λ y e'. let v = checked (int_le (pos 0) y && int_le (x +ℤ y) (pos 2147483648)) (indices x (nat_abs y)) Count line in
-          comes_at code f _ v (n + 1) pc' (λ z is. point z (counting is st) q [] f) l.1 (comes_by code f n (y ∷ x ∷ st) q [] _ v (λ is. point (n + 1) (counting is st) q [] f) l.0 refl)))
+      comes_at code f _ v (n + 1) pc' (λ z is. point z (counting is st) q [] f) l.1 (comes_by code f n (y ∷ x ∷ st) q [] _ v (λ is. point (n + 1) (counting is st) q [] f) l.0 refl)))

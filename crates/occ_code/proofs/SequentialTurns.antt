@@ -1,13 +1,13 @@
 -- Every turn of the code of a sequential term is a turn of what is left of it, for any number of turns.
-use Rattle.std.specs.Prelude.{slice_get, nat_eq, ◌||◌, ⊤}
-use Rattle.std.proofs.Common.{◌≡◌, ◌∙◌, ℕ, zero, suc, ℤ, pos, ◌+◌, Bool, true, false, IsTrue, List, [], ◌∷◌, ◌++◌, length, Option, Some, None, refl, sym, ap, subst, inl}
+use Rattle.std.specs.Prelude.{slice_get, nat_eq, ◌||◌}
+use Rattle.std.proofs.Common.{◌≡◌, ◌∙◌, ℕ, zero, suc, ℤ, pos, ◌+◌, Bool, true, false, IsTrue, List, [], ◌∷◌, ◌++◌, Option, Some, None, refl, sym, ap, subst, inl}
 use Rattle.occ_term.specs.declared.primitive.Primitive.{Primitive}
 use Rattle.occ_term.specs.declared.primitive.Primitive.TheVariants.{Bool as Boolean, Byte, Int}
 use Rattle.occ_term.specs.declared.fault.Fault.{Fault}
 use Rattle.occ_term.specs.declared.message.Message.{Message}
 use Rattle.occ_term.specs.declared.protocol.Protocol.{Protocol}
 use Rattle.occ_term.specs.Messages.{Fits}
-use Rattle.occ_term.specs.Terms.{Term, Skip, Seq, Reception}
+use Rattle.occ_term.specs.Terms.{Term, Skip, Reception}
 use Rattle.occ_term.specs.Values.{Store, is_of_declared}
 use Rattle.occ_term.specs.Steps.{Loop, WhileLoop, EachLoop, Doing, Do, Again, Offering, Awaiting, Taking, MessageTaken, Context, Then, Within, Left, left, Step, ends, drops, body_ends, again}
 use Rattle.occ_term.specs.Steps as S
@@ -15,23 +15,22 @@ use Rattle.occ_term.specs.Turns.{Steps, none, more, SingleTurn, single_turn, sto
 use Rattle.occ_term.specs.Uses.{uses_of, uses_of_terms}
 use Rattle.occ_term.specs.TermTyping.{Declared}
 use Rattle.occ_term.specs.TypedSteps.{StoreHas, LeftHas, ContextsHave}
-use Rattle.occ_term.specs.StepUses.{uses_of_left, uses_of_doing, uses_of_context, uses_of_contexts, IsPartOf}
+use Rattle.occ_term.specs.StepUses.{uses_of_left, uses_of_doing, uses_of_contexts, IsPartOf}
 use Rattle.occ_term.specs.Frames.{Variables, value_at, is_held, at}
 use Rattle.occ_term.proofs.TypedSteps.{steps_keep_types}
 use Rattle.occ_term.proofs.KeptSteps.{steps_keep_to_their_use}
 use Rattle.occ_code.specs.declared.task.Task.{Task}
 use Rattle.occ_code.specs.declared.task.Wait.{Wait}
 use Rattle.occ_code.specs.declared.task.Wait.TheVariants.{Ready, Took, Offers, Awaits, Halted, Done, Faulted}
-use Rattle.occ_code.specs.Alike.{Agrees, Frames, FitsProtocol, SameStop, Lists, used_by}
-use Rattle.occ_code.specs.Sequential.Machine.{Body, Instruction, End, Point, point, Stops, act, effect, Walks, here, begins_at, SingleStop, stops_here, counted_turn, tag_stack}
-use Rattle.occ_code.specs.Sequential.Layout.{Ways, stays, TermAt, ListAt, LoopAt, ContextsAt}
-use Rattle.occ_code.specs.Sequential.Alike.{SameTurn, Alike, IsFirst, DoesAs, IsLaidOut, BodiesDo}
-use Rattle.occ_code.proofs.SequentialPlaces.{walks_on}
-use Rattle.occ_code.proofs.SequentialReads.{or_left, or_right}
+use Rattle.occ_code.specs.Alike.{Agrees, FitsProtocol, SameStop}
+use Rattle.occ_code.specs.Sequential.Machine.{Body, Instruction, End, Point, point, Stops, act, here, begins_at, SingleStop, stops_here, counted_turn, tag_stack}
+use Rattle.occ_code.specs.Sequential.Layout.{stays, TermAt, ListAt, LoopAt, ContextsAt}
+use Rattle.occ_code.specs.Sequential.Alike.{SameTurn, Alike, DoesAs, IsLaidOut, BodiesDo}
+use Rattle.occ_code.proofs.SequentialReads.{or_left}
 use Rattle.occ_code.proofs.SequentialFrames.{HoldsAs}
 use Rattle.occ_code.proofs.SequentialStatements.{Held, held_left, held_right}
-use Rattle.occ_code.proofs.SequentialResults.{steps_on, after_steps, ways_walk, contexts_join, StopsAt, stops_after, Pause, at_offer, at_await, at_halt, at_fault, at_loop, Stepped, Turned, Result, finishes, pauses, result_after}
-use Rattle.occ_code.proofs.SequentialRuns.{Does, start, term_runs, terms_run, loop_runs, list_runs}
+use Rattle.occ_code.proofs.SequentialResults.{after_steps, ways_walk, contexts_join, StopsAt, stops_after, Pause, at_offer, at_await, at_halt, at_fault, at_loop, Result, finishes, pauses, result_after}
+use Rattle.occ_code.proofs.SequentialRuns.{term_runs, terms_run, loop_runs, list_runs}
 
 -- ---- turns keep types, and to their use
 
@@ -129,29 +128,61 @@ module _ (d : Declared) (code : List Instruction) (cells : List ℕ) where
   continued : {a : Point} {f : Variables} {x : Doing} (pc' : ℕ) (k : List Context) → ToEnd pc' k → Result code cells a f x pc' → ((g : Variables) → Runs (point pc' [] [] [] g) g (left (Do Skip) k)) → Runs a f (left x k)
   continued pc' k e (finishes g w t) m =
       let r = m g in
-      record { stands = r.stands; wait = r.wait; rest = r.rest; frame = r.frame; stops_at = stops_after code w r.stops_at; rests = r.rests;
-        turn = λ s hs. let u = t s hs in let v = r.turn u.store u.holds in record { store = v.store; turn = after_steps (u.steps k) v.turn; holds = v.holds } }
+      record {
+        stands = r.stands;
+        wait = r.wait;
+        rest = r.rest;
+        frame = r.frame;
+        stops_at = stops_after code w r.stops_at;
+        rests = r.rests;
+        turn = λ s hs. let u = t s hs in let v = r.turn u.store u.holds in record { store = v.store; turn = after_steps (u.steps k) v.turn; holds = v.holds };
+      }
   continued pc' k e (pauses stands w y inner g z p t) m =
-      record { stands = stands; wait = w; rest = left y (inner ++ k); frame = g; stops_at = z; rests = rested pc' stands inner k e p;
-        turn = λ s hs. let u = t s hs in record { store = u.store; turn = u.turn k; holds = u.holds } }
+      record {
+        stands = stands;
+        wait = w;
+        rest = left y (inner ++ k);
+        frame = g;
+        stops_at = z;
+        rests = rested pc' stands inner k e p;
+        turn = λ s hs. let u = t s hs in record { store = u.store; turn = u.turn k; holds = u.holds };
+      }
 
   contexts_run : (k : List Context) (pc : ℕ) → ContextsHave d k → Held code cells d (uses_of_contexts k).reads → ToEnd pc k → (f : Variables) → Runs (point pc [] [] [] f) f (left (Do Skip) k)
   contexts_run [] pc h u e f =
-      record { stands = e.last; wait = Done; rest = left S.Done []; frame = f; rests = finished;
+      record {
+        stands = e.last;
+        wait = Done;
+        rest = left S.Done [];
+        frame = f;
+        rests = finished;
         stops_at = record { last = point e.last [] [] [] f; walks = ways_walk code [] [] [] f e.codes; stops = ap (λ o. act o e.last [] [] [] f) e.ends_there };
-        turn = λ s hs. record { store = s; turn = single_turn none ends refl; holds = hs } }
+        turn = λ s hs. record { store = s; turn = single_turn none ends refl; holds = hs };
+      }
   contexts_run (Then ts ∷ k) pc h u e f =
       let later : ToEnd e.codes.1 k = record { last = e.last; codes = e.codes.4; ends_there = e.ends_there } in
       let r = continued e.codes.1 k later (terms_run code cells d ts f e.codes.0 e.codes.1 h.0 (held_left code cells d (uses_of_terms ts).reads (uses_of_contexts k).reads u) e.codes.3)
-                (contexts_run k e.codes.1 h.1 (held_right code cells d (uses_of_terms ts).reads (uses_of_contexts k).reads u) later) in
-      record { stands = r.stands; wait = r.wait; rest = r.rest; frame = r.frame; rests = r.rests; stops_at = stops_after code (ways_walk code [] [] [] f e.codes.2) r.stops_at;
-        turn = λ s hs. let v = r.turn s hs in record { store = v.store; turn = after_steps (more drops refl none) v.turn; holds = v.holds } }
+      (contexts_run k e.codes.1 h.1 (held_right code cells d (uses_of_terms ts).reads (uses_of_contexts k).reads u) later) in
+      record {
+        stands = r.stands;
+        wait = r.wait;
+        rest = r.rest;
+        frame = r.frame;
+        rests = r.rests;
+        stops_at = stops_after code (ways_walk code [] [] [] f e.codes.2) r.stops_at;
+        turn = λ s hs. let v = r.turn s hs in record { store = v.store; turn = after_steps (more drops refl none) v.turn; holds = v.holds };
+      }
   contexts_run (Within l ∷ k) pc h u e f =
       let back = e.codes.3.1 in
-      record { stands = e.codes.3.0; wait = Ready; rest = left (Again l) k; frame = f;
+      record {
+        stands = e.codes.3.0;
+        wait = Ready;
+        rest = left (Again l) k;
+        frame = f;
         rests = loops k e.codes.1 e.codes.3.2 (record { last = e.last; codes = e.codes.4; ends_there = e.ends_there });
         stops_at = record { last = point e.codes.0 [] [] [] f; walks = ways_walk code [] [] [] f e.codes.2; stops = ap (λ o. act o e.codes.0 [] [] [] f) back.1 ∙ ap (λ x. Stops x f Ready) back.2 };
-        turn = λ s hs. record { store = s; turn = single_turn none body_ends refl; holds = hs } }
+        turn = λ s hs. record { store = s; turn = single_turn none body_ends refl; holds = hs };
+      }
 
   -- where a turn begins
   data Starting (pc : ℕ) : Wait → Left → Type 0 where
@@ -166,18 +197,27 @@ module _ (d : Declared) (code : List Instruction) (cells : List ℕ) where
 
   begun_turn : {pc : ℕ} {w : Wait} {l : Left} → Starting pc w l → LeftHas d l → Held code cells d (uses_of_left l).reads → (f : Variables) → Begun w pc f l
   begun_turn {pc = pc} (does {t = t} k pc' l e) h u f =
-      record { first = point pc [] [] [] f; begins = refl;
+      record {
+        first = point pc [] [] [] f;
+        begins = refl;
         runs = continued pc' k e (term_runs code cells d t f pc pc' h.0 (held_left code cells d (uses_of t).reads (uses_of_contexts k).reads u) l)
-          (contexts_run k pc' h.1 (held_right code cells d (uses_of t).reads (uses_of_contexts k).reads u) e) }
+            (contexts_run k pc' h.1 (held_right code cells d (uses_of t).reads (uses_of_contexts k).reads u) e);
+      }
   begun_turn {pc = pc} (turns_again {l = x} k pc' l e) h u f =
-      record { first = point pc [] [] [] f; begins = refl;
+      record {
+        first = point pc [] [] [] f;
+        begins = refl;
         runs = continued pc' k e (result_after code cells here (λ s hs. record { store = s; steps = λ ks. more again refl none; holds = hs })
             (loop_runs code cells d x f pc pc' h.0 (held_left code cells d (uses_of_doing (Again x)).reads (uses_of_contexts k).reads u) l))
-          (contexts_run k pc' h.1 (held_right code cells d (uses_of_doing (Again x)).reads (uses_of_contexts k).reads u) e) }
+            (contexts_run k pc' h.1 (held_right code cells d (uses_of_doing (Again x)).reads (uses_of_contexts k).reads u) e);
+      }
   begun_turn {pc = pc} (takes {list = list} {m = m} k pc' l e) h u f =
-      record { first = point pc (tag_stack m.tag) m.items [] f; begins = refl;
+      record {
+        first = point pc (tag_stack m.tag) m.items [] f;
+        begins = refl;
         runs = continued pc' k e (list_runs code cells d list m h.0.1.0 f pc pc' h.0.1.1 h.0.1.2 (held_left code cells d (uses_of_doing (Taking [] (MessageTaken list m))).reads (uses_of_contexts k).reads u) l)
-          (contexts_run k pc' h.1 (held_right code cells d (uses_of_doing (Taking [] (MessageTaken list m))).reads (uses_of_contexts k).reads u) e) }
+            (contexts_run k pc' h.1 (held_right code cells d (uses_of_doing (Taking [] (MessageTaken list m))).reads (uses_of_contexts k).reads u) e);
+      }
 
 module _ (d : Declared) (code : List Instruction) (cells writes : List ℕ) (loops_ : ℕ) where
   abbrev the_body : Body
@@ -237,10 +277,10 @@ module _ (d : Declared) (code : List Instruction) (cells writes : List ℕ) (loo
         cells = h.cells;
         writes = h.writes;
         alike = λ n first small is_first.
-          let at_zero = alike_all n first.number first.turns 0 first.frame Ready (left (Do t) []) (does [] h.last h.code (record { last = h.last; codes = stays; ends_there = h.ends_there })) (h.typed, tt)
-                (λ c m. subst IsTrue (sym (h.cells.members c)) (or_left _ _ (only_first _ m))) in
-          let placed = subst (λ p. Alike n d the_body (task first.number first.turns p first.frame Ready) (left (Do t) [])) (sym is_first.place) at_zero in
-          subst (λ w. Alike n d the_body (task first.number first.turns first.place first.frame w) (left (Do t) [])) (sym is_first.wait) placed;
+            let at_zero = alike_all n first.number first.turns 0 first.frame Ready (left (Do t) []) (does [] h.last h.code (record { last = h.last; codes = stays; ends_there = h.ends_there })) (h.typed, tt)
+            (λ c m. subst IsTrue (sym (h.cells.members c)) (or_left _ _ (only_first _ m))) in
+            let placed = subst (λ p. Alike n d the_body (task first.number first.turns p first.frame Ready) (left (Do t) [])) (sym is_first.place) at_zero in
+            subst (λ w. Alike n d the_body (task first.number first.turns first.place first.frame w) (left (Do t) [])) (sym is_first.wait) placed;
       }
     where
       only_first : (a : Bool) → IsTrue (a || false) → IsTrue a

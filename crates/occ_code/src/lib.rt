@@ -3,8 +3,8 @@
 
 pub mod body;
 pub mod code;
-pub mod laws;
 mod early;
+pub mod laws;
 pub mod task;
 
 pub use body::{Body, Instr};

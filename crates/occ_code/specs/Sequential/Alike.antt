@@ -1,6 +1,6 @@
 -- When a body of sequential code does what a term does, for a number of turns.
 -- Manual: nothing; this is (own).
-use Rattle.std.specs.Prelude.{List, Some, [], replicate, slice_get, suc, zero, ℕ, ⊤, ◌+◌, ◌<◌, ◌^◌, ◌≡◌}
+use Rattle.std.specs.Prelude.{Some, [], replicate, slice_get, suc, zero, ℕ, ⊤, ◌+◌, ◌<◌, ◌^◌, ◌≡◌}
 use Rattle.occ_term.specs.Terms.{Term}
 use Rattle.occ_term.specs.Values.{Store}
 use Rattle.occ_term.specs.Steps.{Do, Left, left}

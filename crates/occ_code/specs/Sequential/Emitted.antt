@@ -1,7 +1,7 @@
 -- The instructions that a sequential term becomes. PAR, ALT and the replicated SEQ have none yet.
 -- Manual: nothing; this is (own).
 use Rattle.std.specs.Prelude.{List, [], length, ℕ, ⊤, ◌*◌, ◌+◌, ◌++◌, ◌≤◌, ◌∷◌}
-use Rattle.occ_term.specs.Terms.{Expression, Term, Skip, Stop, Assign, Input, Output, VariantInput, Seq, Par, Alt, If, Case, While, Each, Clear, Local, Terms, no_terms, then_term, Variants, no_variants, or_variant, Choices, no_choices, or_choice, declared_choices, each_choice, Options, no_options, or_option, or_else, Clearing, Naming}
+use Rattle.occ_term.specs.Terms.{Term, Skip, Stop, Assign, Input, Output, VariantInput, Seq, Par, Alt, If, Case, While, Each, Clear, Local, Terms, no_terms, then_term, Variants, no_variants, or_variant, Choices, no_choices, or_choice, declared_choices, each_choice, Options, no_options, or_option, or_else, Clearing, Naming}
 use Rattle.occ_term.specs.Storing.{index_of}
 use Rattle.occ_term.specs.Uses.{uses_of}
 use Rattle.occ_term.specs.Sizes.{size_of}

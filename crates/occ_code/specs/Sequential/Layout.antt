@@ -1,7 +1,7 @@
 -- How the code of a term stands in a body. Jumps alone lead from the end of a piece to where it goes on.
 -- Manual: nothing; this is (own).
 use Rattle.std.specs.Prelude.{List, Some, [], slice_get, ℕ, ◌+◌, ◌++◌, ◌-◌, ◌∷◌, ◌≡◌}
-use Rattle.occ_term.specs.Terms.{Expression, Term, Skip, Stop, Assign, Input, Output, VariantInput, Seq, Par, Alt, If, Case, While, Each, Clear, Local, Terms, no_terms, then_term, Reception, Plain, Tagged, Variants, no_variants, or_variant, Choices, no_choices, or_choice, declared_choices, each_choice, Options, no_options, or_option, or_else, Clearing, Naming}
+use Rattle.occ_term.specs.Terms.{Term, Skip, Stop, Assign, Input, Output, VariantInput, Seq, Par, Alt, If, Case, While, Each, Clear, Local, Terms, no_terms, then_term, Reception, Plain, Tagged, Variants, no_variants, or_variant, Choices, no_choices, or_choice, declared_choices, each_choice, Options, no_options, or_option, or_else, Clearing, Naming}
 use Rattle.occ_term.specs.Storing.{index_of}
 use Rattle.occ_term.specs.Steps.{Loop, WhileLoop, EachLoop, Context, Then, Within}
 use Rattle.occ_code.specs.Sequential.Machine.{Instruction, Jump, Choose, IfAmong, IfTag, DropOne, NextChoice, BackToChoice, LoopBack, Send, Receive, Halt}
