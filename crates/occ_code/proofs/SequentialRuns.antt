@@ -33,7 +33,7 @@ use Rattle.occ_code.proofs.SequentialExpressions.{expression_runs, place_runs, s
 use Rattle.occ_code.proofs.SequentialItems.{items_run}
 use Rattle.occ_code.proofs.SequentialReads.{value_same, channel_same, indices_same, parts_same}
 use Rattle.occ_code.proofs.SequentialFrames.{HoldsAs, one_held, frame_of, Performs, performs, refuses, performs_on, performs_by}
-use Rattle.occ_code.proofs.SequentialStatements.{Held, held_left, held_right, agrees_on, Lands, sets_then, storing_runs, assignment_runs, declaration_runs, declarations_run, counting_runs}
+use Rattle.occ_code.proofs.SequentialStatements.{Held, held_left, held_right, agrees_on, Lands, sets_then, storing_runs, assigns, declaration_runs, declarations_run, counting_runs}
 use Rattle.occ_code.proofs.SequentialResults.{steps_on, ways_walk, at_offer, at_await, at_halt, at_loop, Result, finishes, pauses, result_after, result_within, faulted, outcome_result, comes_case}
 
 module _ (code : List Instruction) (cells : List ℕ) (d : Declared) where
@@ -273,7 +273,7 @@ module _ (code : List Instruction) (cells : List ℕ) (d : Declared) where
     term_runs Stop f pc pc' h k l = halts f pc pc' [] [] l
     term_runs (Assign ts vs) f pc pc' h k l =
         outcome_result code cells (λ x. Do Skip) (λ x ks. refl) (λ x s s' ks e. assign (only_nothing x e)) (λ e s s' q. in_assign q)
-        (assignment_runs code cells d ts vs (value_parts h.0) f pc l.0 h.1 h.2 (held_left code cells d (reads_of_items vs) (uses_of_targets ts).reads k) (held_right code cells d (reads_of_items vs) (uses_of_targets ts).reads k) l.1)
+        (assigns code cells d ts vs (value_parts h.0) f pc l.0 h.1 h.2 (held_left code cells d (reads_of_items vs) (uses_of_targets ts).reads k) (held_right code cells d (reads_of_items vs) (uses_of_targets ts).reads k) l.1)
         (λ x b e. lands_skips x b l.0 pc' l.2 e)
     term_runs (Input c ts) f pc pc' h k l =
         awaits c (Plain ts Skip) (Do (Input c ts)) h.0 f pc l.0 pc' h.2 (held_left code cells d (reads_in_place c) (uses_of_targets ts).reads k) l.2 (l.1, l.3, l.4) (λ s y ks e. input e) (λ s e q. in_input q)

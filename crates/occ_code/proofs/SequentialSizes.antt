@@ -3,8 +3,8 @@ use Rattle.std.proofs.Common.{ℕ, ◌+◌, ◌*◌, ◌≤◌, List, [], ◌∷
 use Rattle.occ_term.specs.Terms.{Expression, Constant, Cell, Component, Letter, Binary, Unary, And, Or, Conversion, Place, place, Subscripts, no_subscripts, then_subscript, Cells, Text, Item, OfOne, OfMany, OfCounted, Target, Into, IntoCounted, Declaration, Clearing, Naming, replicator, Term, Skip, Stop, Assign, Input, Output, VariantInput, Seq, Par, Alt, If, Case, While, Each, Clear, Local, Terms, no_terms, then_term, Variants, no_variants, or_variant, Choices, no_choices, or_choice, declared_choices, each_choice, Options, no_options, or_option, or_else}
 use Rattle.occ_term.specs.Messages.{product}
 use Rattle.occ_term.specs.Sizes.{size_of_expression, size_of_place, size_of_subscripts, size_of_item, size_of_items, size_of_target, size_of_targets, size_of_declaration, size_of_declarations, size_of, size_of_terms, size_of_variants, size_of_choices, size_of_options}
-use Rattle.occ_code.specs.Sequential.Machine.{Instruction, End, LoadAt, LoadLetter, Subscript, Operate, OperateOne, ConvertTo, AndThen, OrElse, PartOne, PartMany, PartCounted, PartCountedText, SpotOne, SpotCounted, StoreParts, StoreNamed, Jump, Choose, NextChoice, BackToChoice, CountedFrom, LoopBack, Send, Receive, Halt}
-use Rattle.occ_code.specs.Sequential.Expressions.{components_at, expression_code, place_code, subscripts_code, item_code, items_code, target_code, targets_code, declaration_code, declarations_code, storing_code, counting_code}
+use Rattle.occ_code.specs.Sequential.Machine.{Instruction, StoreOne, End, LoadAt, LoadLetter, Subscript, Operate, OperateOne, ConvertTo, AndThen, OrElse, PartOne, PartMany, PartCounted, PartCountedText, SpotOne, SpotCounted, StoreParts, StoreNamed, Jump, Choose, NextChoice, BackToChoice, CountedFrom, LoopBack, Send, Receive, Halt}
+use Rattle.occ_code.specs.Sequential.Expressions.{components_at, expression_code, place_code, subscripts_code, item_code, items_code, target_code, targets_code, declaration_code, declarations_code, storing_code, counting_code, assignment_code}
 use Rattle.occ_code.specs.Sequential.Emitted.{term_code, terms_code, variants_code, choices_code, options_code, else_code, BodiesAreSmall}
 
 two : (a b : List Instruction) (x y : ℕ) → length a ≤ x → length b ≤ y → length (a ++ b) ≤ x + y
@@ -60,6 +60,21 @@ declarations_small : (xs : List Declaration) → length (declarations_code xs) �
 declarations_small [] = omega arith
 declarations_small (x ∷ xs) = omega (arith, declaration_small x, declarations_small xs, length-append (declaration_code x) (declarations_code xs))
 
+assignment_small : (ts : List Target) (vs : List Item) → length (items_code vs ++ storing_code ts) ≤ 4 * (size_of_targets ts).nodes + 4 * (size_of_items vs).nodes + 1
+assignment_small ts vs = omega (arith, items_small vs, storing_small ts, length-append (items_code vs) (storing_code ts))
+
+assigned_small : (ts : List Target) (vs : List Item) → length (assignment_code ts vs) ≤ 4 * (size_of_targets ts).nodes + 4 * (size_of_items vs).nodes + 1
+assigned_small (Into (place line c [] no_subscripts) ∷ []) (OfOne type e ∷ []) = omega (arith, expression_small e, length-append (expression_code e) (StoreOne c ∷ []))
+assigned_small (Into (place line c [] no_subscripts) ∷ []) [] = assignment_small (Into (place line c [] no_subscripts) ∷ []) []
+assigned_small (Into (place line c [] no_subscripts) ∷ []) (OfOne type e ∷ v ∷ vs) = assignment_small (Into (place line c [] no_subscripts) ∷ []) (OfOne type e ∷ v ∷ vs)
+assigned_small (Into (place line c [] no_subscripts) ∷ []) (OfMany type a ∷ vs) = assignment_small (Into (place line c [] no_subscripts) ∷ []) (OfMany type a ∷ vs)
+assigned_small (Into (place line c [] no_subscripts) ∷ []) (OfCounted type line' n a ∷ vs) = assignment_small (Into (place line c [] no_subscripts) ∷ []) (OfCounted type line' n a ∷ vs)
+assigned_small [] vs = assignment_small [] vs
+assigned_small (Into (place line c [] no_subscripts) ∷ t ∷ ts) vs = assignment_small (Into (place line c [] no_subscripts) ∷ t ∷ ts) vs
+assigned_small (Into (place line c [] (then_subscript x xs)) ∷ ts) vs = assignment_small (Into (place line c [] (then_subscript x xs)) ∷ ts) vs
+assigned_small (Into (place line c (n ∷ ns) subs) ∷ ts) vs = assignment_small (Into (place line c (n ∷ ns) subs) ∷ ts) vs
+assigned_small (IntoCounted line n a ∷ ts) vs = assignment_small (IntoCounted line n a ∷ ts) vs
+
 received_small : (p : Place) (i : Instruction) → length (place_code p ++ i ∷ []) ≤ 4 * (size_of_place p).nodes + 2
 received_small p i = omega (arith, place_small p, length-append (place_code p) (i ∷ []))
 
@@ -67,7 +82,7 @@ mutual
   term_small : (t : Term) → length (term_code t) + 1 ≤ 4 * (size_of t).nodes
   term_small Skip = omega arith
   term_small Stop = omega arith
-  term_small (Assign ts vs) = omega (arith, items_small vs, storing_small ts, length-append (items_code vs) (storing_code ts))
+  term_small (Assign ts vs) = omega (arith, assigned_small ts vs)
   term_small (Input c ts) = omega (arith, received_small c Receive, storing_small ts, length-append (place_code c ++ Receive ∷ []) (storing_code ts))
   term_small (Output c tag is) = omega (arith, place_small c, items_small is, length-append (place_code c) (items_code is ++ Send tag ∷ []), length-append (items_code is) (Send tag ∷ []))
   term_small (VariantInput c vs) = omega (arith, received_small c Receive, variants_small vs, length-append (place_code c ++ Receive ∷ []) (variants_code vs))

@@ -1,6 +1,23 @@
 -- What the code of assignments, declarations and replicators does.
 use Rattle.std.specs.Prelude.{slice_get, ◌||◌, int_le, nat_abs, ◌&&◌, ◌+ℤ◌, replicate}
 use Rattle.std.proofs.Common.{◌≡◌, ◌∙◌, ℕ, ℤ, pos, ◌+◌, IsTrue, List, [], ◌∷◌, ◌++◌, Some, refl, ap, subst, sym}
+use Rattle.occ_term.specs.Values.{Evaluated, Value, Fails}
+use Rattle.occ_term.specs.Storing.{in_store}
+use Rattle.occ_code.specs.Sequential.Laws.{FaultsAt, comes, fails}
+use Rattle.occ_code.specs.Sequential.Machine.{Walks}
+use Rattle.occ_term.specs.Terms.{Expression}
+use Rattle.occ_term.specs.Uses.{reads_of}
+use Rattle.occ_term.specs.declared.primitive.Primitive.{Primitive}
+use Rattle.occ_term.specs.declared.message.Part.TheVariants.{One}
+use Rattle.occ_term.specs.declared.protocol.PartType.TheVariants.{One as OneOf, Many as ManyOf, Counted as CountedOf}
+use Rattle.occ_term.specs.Terms.{place, no_subscripts, then_subscript, OfOne, OfMany, OfCounted, Into, IntoCounted}
+use Rattle.occ_term.specs.Typing.{ItemHas}
+use Rattle.occ_term.specs.Values.{store_with}
+use Rattle.occ_code.specs.Sequential.Machine.{StoreOne, frame_with}
+use Rattle.occ_code.specs.Sequential.Expressions.{assignment_code}
+use Rattle.occ_code.proofs.SequentialPlaces.{walks_on}
+use Rattle.occ_code.proofs.SequentialReads.{value_same}
+use Rattle.occ_code.proofs.SequentialFrames.{one_held}
 use Rattle.occ_term.specs.declared.fault.Fault.{Fault}
 use Rattle.occ_term.specs.declared.fault.FaultKind.TheVariants.{Count}
 use Rattle.occ_term.specs.declared.message.Part.{Part}
@@ -90,6 +107,50 @@ module _ (code : List Instruction) (cells : List ℕ) (d : Declared) where
       performs_by code cells (parts_of vs) (parts_of vs (at f)) (λ ps. point m [] ps [] f) (λ ps s'. store_into ts ps s') (items_run code f [] [] vs [] pc m a)
       (λ s hs. parts_same d s (at f) vs types hv (agrees_on (reads_of_items vs) f s kv hs))
       (λ ps e. storing_runs ts types ps f m pc' [] ht kt l)
+
+  -- one value into one variable
+  one_store_runs : (type : Primitive) (t : PartType) (line c : ℕ) (e : Expression) (f : Variables) (pc pc' : ℕ) → ItemHas d.types (OfOne type e) t → Held (reads_of e)
+      → StandsAt code pc (expression_code e ++ StoreOne c ∷ []) pc' → Sets f (point pc [] [] [] f) (assigned (Into (place line c [] no_subscripts) ∷ []) (OfOne type e ∷ [])) pc' [] [] []
+  one_store_runs type t line c e f pc pc' h k at_place =
+      let (m, a, l) = split code pc pc' (expression_code e) _ at_place in
+      by_value m (value_of e (at f)) refl (expression_runs code f [] [] e pc m [] a) l.0 l.1
+    where
+      stored_by : (v : Evaluated ℤ) (s : Store) → Outcome Nothing
+      stored_by v s = then_in (in_store (after (after v (λ x. Value (One type x))) (λ p. after (Value []) (λ ps. Value (p ∷ ps)))) s) (λ ps s'. store_into (Into (place line c [] no_subscripts) ∷ []) ps s')
+      typed_value : (u : PartType) → ItemHas d.types (OfOne type e) u → (s : Store) → HoldsAs cells f s → value_of e s ≡ value_of e (at f)
+      typed_value (OneOf u) g s hs = value_same d.types s (at f) e u g.1 (agrees_on (reads_of e) f s k hs)
+      typed_value (ManyOf sizes u) g s hs = absurd g
+      typed_value (CountedOf n u) g s hs = absurd g
+      by_value : (m : ℕ) (v : Evaluated ℤ) → value_of e (at f) ≡ v → Comes code f (point pc [] [] [] f) (value_of e (at f)) (λ x. point m (x ∷ []) [] [] f) → slice_get code m ≡ Some (StoreOne c) → m + 1 ≡ pc'
+          → Sets f (point pc [] [] [] f) (assigned (Into (place line c [] no_subscripts) ∷ []) (OfOne type e ∷ [])) pc' [] [] []
+      by_value m (Value x) q w l n =
+          let walk = came (subst (λ v. Comes code f (point pc [] [] [] f) v (λ x. point m (x ∷ []) [] [] f)) q w) in
+          performs nothing (point (m + 1) [] [] [] (frame_with f c x)) (walks_on walk (steps_to code f m (x ∷ []) [] [] (StoreOne c) (point (m + 1) [] [] [] (frame_with f c x)) l refl))
+          (ap (λ y. point y [] [] [] (frame_with f c x)) n) refl
+          (λ s hs. record { store = store_with s c x; gives_it = ap (λ v. stored_by v s) (typed_value t h s hs ∙ q); holds = one_held cells f s c x hs })
+        where
+          came : {y : ℤ} {to : ℤ → Point} → Comes code f (point pc [] [] [] f) (Value y) to → Walks code (point pc [] [] [] f) (to y)
+          came (comes u) = u
+      by_value m (Fails err) q w l n =
+          refuses err f (failed (subst (λ v. Comes code f (point pc [] [] [] f) v (λ x. point m (x ∷ []) [] [] f)) q w)) refl
+          (λ s hs. record { store = s; faults_by = ap (λ v. stored_by v s) (typed_value t h s hs ∙ q); holds = hs })
+        where
+          failed : {y : Fault} {to : ℤ → Point} → Comes code f (point pc [] [] [] f) (Fails y) to → FaultsAt code (point pc [] [] [] f) f y
+          failed (fails u) = u
+
+  pub assigns : (ts : List Target) (vs : List Item) (types : List PartType) (f : Variables) (pc pc' : ℕ) → ItemsHave d vs types → TargetsHave d ts types → Held (reads_of_items vs) → Held (uses_of_targets ts).reads
+      → StandsAt code pc (assignment_code ts vs) pc' → Sets f (point pc [] [] [] f) (assigned ts vs) pc' [] [] []
+  assigns (Into (place line c [] no_subscripts) ∷ []) (OfOne type e ∷ []) [] f pc pc' hv ht kv kt l = absurd hv
+  assigns (Into (place line c [] no_subscripts) ∷ []) (OfOne type e ∷ []) (t ∷ types) f pc pc' hv ht kv kt l = one_store_runs type t line c e f pc pc' hv.0 (held_left (reads_of e) (reads_of_items []) kv) l
+  assigns (Into (place line c [] no_subscripts) ∷ []) [] types f pc pc' hv ht kv kt l = assignment_runs (Into (place line c [] no_subscripts) ∷ []) [] types f pc pc' hv ht kv kt l
+  assigns (Into (place line c [] no_subscripts) ∷ []) (OfOne type e ∷ v ∷ vs) types f pc pc' hv ht kv kt l = assignment_runs (Into (place line c [] no_subscripts) ∷ []) (OfOne type e ∷ v ∷ vs) types f pc pc' hv ht kv kt l
+  assigns (Into (place line c [] no_subscripts) ∷ []) (OfMany type a ∷ vs) types f pc pc' hv ht kv kt l = assignment_runs (Into (place line c [] no_subscripts) ∷ []) (OfMany type a ∷ vs) types f pc pc' hv ht kv kt l
+  assigns (Into (place line c [] no_subscripts) ∷ []) (OfCounted type line' n a ∷ vs) types f pc pc' hv ht kv kt l = assignment_runs (Into (place line c [] no_subscripts) ∷ []) (OfCounted type line' n a ∷ vs) types f pc pc' hv ht kv kt l
+  assigns [] vs types f pc pc' hv ht kv kt l = assignment_runs [] vs types f pc pc' hv ht kv kt l
+  assigns (Into (place line c [] no_subscripts) ∷ t ∷ ts) vs types f pc pc' hv ht kv kt l = assignment_runs (Into (place line c [] no_subscripts) ∷ t ∷ ts) vs types f pc pc' hv ht kv kt l
+  assigns (Into (place line c [] (then_subscript x xs)) ∷ ts) vs types f pc pc' hv ht kv kt l = assignment_runs (Into (place line c [] (then_subscript x xs)) ∷ ts) vs types f pc pc' hv ht kv kt l
+  assigns (Into (place line c (n ∷ ns) subs) ∷ ts) vs types f pc pc' hv ht kv kt l = assignment_runs (Into (place line c (n ∷ ns) subs) ∷ ts) vs types f pc pc' hv ht kv kt l
+  assigns (IntoCounted line n a ∷ ts) vs types f pc pc' hv ht kv kt l = assignment_runs (IntoCounted line n a ∷ ts) vs types f pc pc' hv ht kv kt l
 
   -- ---- declarations
 

@@ -8,7 +8,7 @@ use Rattle.occ_term.specs.Sizes.{size_of}
 use Rattle.occ_term.specs.TermTyping.{Declared, TermHas}
 use Rattle.occ_code.specs.Alike.{Lists, used_by}
 use Rattle.occ_code.specs.Sequential.Machine.{Instruction, Body, Jump, Choose, IfAmong, IfTag, DropOne, NextChoice, BackToChoice, LoopBack, Send, Receive, Halt, End}
-use Rattle.occ_code.specs.Sequential.Expressions.{expression_code, place_code, items_code, declaration_code, declarations_code, storing_code, counting_code}
+use Rattle.occ_code.specs.Sequential.Expressions.{expression_code, place_code, items_code, declaration_code, declarations_code, storing_code, counting_code, assignment_code}
 use Rattle.occ_code.specs.Sequential.Alike.{DoesAs}
 
 abbrev mutual
@@ -53,7 +53,7 @@ abbrev mutual
   pub term_code : Term → List Instruction
   term_code Skip = []
   term_code Stop = Halt ∷ []
-  term_code (Assign ts vs) = items_code vs ++ storing_code ts
+  term_code (Assign ts vs) = assignment_code ts vs
   term_code (Input c ts) = (place_code c ++ Receive ∷ []) ++ storing_code ts
   term_code (Output c tag is) = place_code c ++ (items_code is ++ Send tag ∷ [])
   term_code (VariantInput c vs) = (place_code c ++ Receive ∷ []) ++ variants_code vs

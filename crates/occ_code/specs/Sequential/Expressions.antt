@@ -1,10 +1,10 @@
 -- The instructions that evaluate expressions, items and targets.
 -- Manual: nothing; this is (own).
-use Rattle.std.specs.Prelude.{List, [], length, pos, ℕ, ◌++◌, ◌∷◌}
+use Rattle.std.specs.Prelude.{List, None, Option, Some, [], length, pos, ℕ, ◌++◌, ◌∷◌}
 use Rattle.occ_term.specs.Messages.{product}
 use Rattle.occ_term.specs.Terms.{Expression, Constant, Cell, Component, Letter, Binary, Unary, And, Or, Conversion, Place, place, Subscripts, no_subscripts, then_subscript, Cells, Text, Item, OfOne, OfMany, OfCounted, Target, Into, IntoCounted, Declaration, Clearing, Naming, Replicator, replicator}
 use Rattle.occ_term.specs.Uses.{components}
-use Rattle.occ_code.specs.Sequential.Machine.{Instruction, Push, Load, LoadAt, LoadLetter, Subscript, Operate, OperateOne, ConvertTo, AndThen, OrElse, PartOne, PartMany, PartText, PartCounted, PartCountedText, SpotOne, SpotCounted, StoreParts, StoreNamed, ClearCells, CountedFrom}
+use Rattle.occ_code.specs.Sequential.Machine.{Instruction, Push, Load, LoadAt, LoadLetter, Subscript, Operate, OperateOne, ConvertTo, AndThen, OrElse, PartOne, PartMany, PartText, PartCounted, PartCountedText, SpotOne, SpotCounted, StoreParts, StoreNamed, StoreOne, ClearCells, CountedFrom}
 
 abbrev mutual
   pub expression_code : Expression → List Instruction
@@ -64,3 +64,21 @@ storing_code ts = targets_code ts ++ StoreParts ∷ []
 
 abbrev pub counting_code : Replicator → List Instruction
 counting_code (replicator line index base count) = expression_code base ++ (expression_code count ++ CountedFrom line ∷ [])
+
+-- a single variable
+abbrev pub single_target : List Target → Option ℕ
+single_target (Into (place line c [] no_subscripts) ∷ []) = Some c
+single_target _ = None
+
+abbrev pub single_value : List Item → Option Expression
+single_value (OfOne type e ∷ []) = Some e
+single_value _ = None
+
+-- one value into one variable, else the parts and then the stores
+abbrev pub storing_one : Option ℕ → Option Expression → List Instruction → List Instruction
+storing_one None e others = others
+storing_one (Some c) None others = others
+storing_one (Some c) (Some e) others = expression_code e ++ StoreOne c ∷ []
+
+abbrev pub assignment_code : List Target → List Item → List Instruction
+assignment_code ts vs = storing_one (single_target ts) (single_value vs) (items_code vs ++ storing_code ts)

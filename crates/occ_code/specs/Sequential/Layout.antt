@@ -5,7 +5,7 @@ use Rattle.occ_term.specs.Terms.{Term, Skip, Stop, Assign, Input, Output, Varian
 use Rattle.occ_term.specs.Storing.{index_of}
 use Rattle.occ_term.specs.Steps.{Loop, WhileLoop, EachLoop, Context, Then, Within}
 use Rattle.occ_code.specs.Sequential.Machine.{Instruction, Jump, Choose, IfAmong, IfTag, DropOne, NextChoice, BackToChoice, LoopBack, Send, Receive, Halt}
-use Rattle.occ_code.specs.Sequential.Expressions.{expression_code, place_code, items_code, declaration_code, declarations_code, storing_code, counting_code}
+use Rattle.occ_code.specs.Sequential.Expressions.{expression_code, place_code, items_code, declaration_code, declarations_code, storing_code, counting_code, assignment_code}
 use Rattle.occ_code.specs.Sequential.Laws.{StandsAt}
 
 -- from one place to another by jumps alone
@@ -23,7 +23,7 @@ abbrev mutual
   pub TermAt : List Instruction → ℕ → Term → ℕ → Type 0
   TermAt code pc Skip pc' = Ways code pc pc'
   TermAt code pc Stop pc' = slice_get code pc ≡ Some Halt
-  TermAt code pc (Assign ts vs) pc' = (m : ℕ) × StandsAt code pc (items_code vs ++ storing_code ts) m × Ways code m pc'
+  TermAt code pc (Assign ts vs) pc' = (m : ℕ) × StandsAt code pc (assignment_code ts vs) m × Ways code m pc'
   TermAt code pc (Input c ts) pc' =
       (n : ℕ) × (m : ℕ) × StandsAt code pc (place_code c ++ Receive ∷ []) n × StandsAt code n (storing_code ts) m × Ways code m pc'
   TermAt code pc (Output c tag is) pc' = (m : ℕ) × StandsAt code pc (place_code c ++ (items_code is ++ Send tag ∷ [])) m × Ways code m pc'
