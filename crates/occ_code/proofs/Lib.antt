@@ -16,3 +16,4 @@ mod SequentialTurns
 mod SequentialLayout
 mod SequentialSizes
 mod SequentialCounters
+mod SequentialExamples

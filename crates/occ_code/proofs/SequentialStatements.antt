@@ -117,10 +117,12 @@ module _ (code : List Instruction) (cells : List ℕ) (d : Declared) where
     where
       stored_by : (v : Evaluated ℤ) (s : Store) → Outcome Nothing
       stored_by v s = then_in (in_store (after (after v (λ x. Value (One type x))) (λ p. after (Value []) (λ ps. Value (p ∷ ps)))) s) (λ ps s'. store_into (Into (place line c [] no_subscripts) ∷ []) ps s')
+
       typed_value : (u : PartType) → ItemHas d.types (OfOne type e) u → (s : Store) → HoldsAs cells f s → value_of e s ≡ value_of e (at f)
       typed_value (OneOf u) g s hs = value_same d.types s (at f) e u g.1 (agrees_on (reads_of e) f s k hs)
       typed_value (ManyOf sizes u) g s hs = absurd g
       typed_value (CountedOf n u) g s hs = absurd g
+
       by_value : (m : ℕ) (v : Evaluated ℤ) → value_of e (at f) ≡ v → Comes code f (point pc [] [] [] f) (value_of e (at f)) (λ x. point m (x ∷ []) [] [] f) → slice_get code m ≡ Some (StoreOne c) → m + 1 ≡ pc'
           → Sets f (point pc [] [] [] f) (assigned (Into (place line c [] no_subscripts) ∷ []) (OfOne type e ∷ [])) pc' [] [] []
       by_value m (Value x) q w l n =

@@ -4,3 +4,4 @@ pub mod Laws
 pub mod Layout
 pub mod Alike
 pub mod Emitted
+pub mod Examples

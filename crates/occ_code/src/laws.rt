@@ -2,6 +2,7 @@
 
 ghost use Rattle.occ_code.specs.Sequential.Alike.{BodiesDo};
 ghost use Rattle.occ_code.specs.Sequential.Emitted.{BodiesAreSmall, CompiledDo};
+ghost use Rattle.occ_code.specs.Sequential.Examples.{CountsAsCompiled};
 ghost use Rattle.occ_code.specs.Sequential.Laws.{CountersAreApart, ExpressionsRun, ItemsRun, TargetsRun};
 
 /// The code of an expression brings its value to the top of the stack, or comes to its fault.
@@ -37,4 +38,9 @@ pub fn bodies_are_small()
 /// Counters of replicated SEQs stay apart.
 pub fn counters_are_apart()
     ensures { CountersAreApart }
+{}
+
+/// A loop that counts is done by its body: the premises of the law can be met.
+pub fn counts_as_compiled()
+    ensures { CountsAsCompiled }
 {}

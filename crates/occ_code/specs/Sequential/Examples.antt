@@ -1,0 +1,23 @@
+-- A loop that counts, and its body.
+-- Manual: combining processes.
+use Rattle.std.specs.Prelude.{None, Some, [], pos, ◌∷◌}
+use Rattle.occ_term.specs.declared.primitive.Primitive.TheVariants.{Int}
+use Rattle.occ_term.specs.declared.expression.Operator.TheVariants.{Plus, Less}
+use Rattle.occ_term.specs.Terms.{Constant, Cell, Binary, place, no_subscripts, OfOne, Into, Term, Assign, While}
+use Rattle.occ_term.specs.TermTyping.{Declared}
+use Rattle.occ_code.specs.Sequential.Emitted.{body_of}
+use Rattle.occ_code.specs.Sequential.Alike.{DoesAs}
+
+-- WHILE n < 10
+--   n := n + 1
+abbrev pub counts : Term
+counts =
+    While (Binary Less Int 1 (Cell 0) (Constant (pos 10)))
+    (Assign (Into (place 2 0 [] no_subscripts) ∷ []) (OfOne Int (Binary Plus Int 2 (Cell 0) (Constant (pos 1))) ∷ []))
+
+-- each cell is of INT
+abbrev pub whole_numbers : Declared
+whole_numbers = record { types = λ c. Some Int; protocols = λ c. None }
+
+abbrev pub CountsAsCompiled : Type 0
+CountsAsCompiled = DoesAs whole_numbers (body_of counts (0 ∷ []) (0 ∷ [])) counts
