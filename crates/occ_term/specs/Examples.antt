@@ -265,13 +265,15 @@ Divides =
 
 -- ---- STOP alone
 
-abbrev pub after_stop : System
-after_stop = system [] (process 0 (left Halted []) no_processes) zeros []
+-- what a process that is halted leaves, whatever the store
+abbrev pub halted_in : Store → System
+halted_in s = system [] (process 0 (left Halted []) no_processes) s []
 
+-- an ALT whose arms are closed has set their declarations, and then behaves like STOP
 abbrev pub Halts : Type 0
 Halts =
-    Run HaltMode 1 (start (Alt true closed_arms) []) (event 0 None ∷ []) (system [] (process 0 (left Halted []) no_processes) (store_with zeros 7 (pos 9)) [])
-    × EndsBy HaltMode after_stop Stopped
+    Run HaltMode 1 (start (Alt true closed_arms) []) (event 0 None ∷ []) (halted_in (store_with zeros 7 (pos 9)))
+    × EndsBy HaltMode (halted_in (store_with zeros 7 (pos 9))) Stopped
 
 -- ---- two outputs and an ALT that waits for one of them
 -- CHAN OF INT a, b: PAR / a ! 1 / b ! 2 / INT x: SEQ (opt PRI) ALT / a ? x SKIP / b ? x SKIP / screen ! BYTE (x + 48)
