@@ -22,3 +22,4 @@ pub mod TypedStores
 pub mod TypedSteps
 pub mod KeptStores
 pub mod KeptSteps
+pub mod RestOnReads

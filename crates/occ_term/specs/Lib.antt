@@ -15,6 +15,7 @@ pub mod Frames
 pub mod Evaluation
 pub mod TypedSteps
 pub mod StepUses
+pub mod ReadUses
 pub mod View
 pub mod Unfolding
 pub mod Clashes
