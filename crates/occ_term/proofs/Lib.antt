@@ -23,3 +23,4 @@ pub mod TypedSteps
 pub mod KeptStores
 pub mod KeptSteps
 pub mod RestOnReads
+pub mod MoreRuns

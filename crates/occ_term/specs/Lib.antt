@@ -29,3 +29,4 @@ pub mod FirstRows
 pub mod OneResult
 pub mod LimitRows
 pub mod WorkedRows
+pub mod MoreRows
