@@ -10,3 +10,5 @@ pub mod CountingTree
 pub mod TypedExpressions
 pub mod Stepping
 pub mod Numbering
+pub mod TreeSteps
+pub mod Growth

@@ -17,3 +17,4 @@ pub mod Examples
 pub mod Counting
 pub mod Having
 pub mod Numbering
+pub mod Growth

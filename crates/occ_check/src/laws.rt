@@ -10,6 +10,7 @@ ghost use Rattle.occ_term.specs.TermTyping.{Declared};
 ghost use Rattle.occ_tree.specs.Expressions.Trees.{Expression};
 ghost use Rattle.occ_check.specs.Counting.{Counted};
 ghost use Rattle.occ_check.specs.Expressions.{Typed, typed};
+ghost use Rattle.occ_check.specs.Growth.{Grown, IsWithinLimits};
 ghost use Rattle.occ_check.specs.Having.{NamesHave, TypedHas};
 ghost use Rattle.occ_check.specs.Numbering.{NumberedUpTo};
 ghost use Rattle.occ_check.specs.Numbers.{Numbers, at_start};
@@ -54,4 +55,10 @@ pub fn processes_in_order()
 /// An expression under names that have what is declared has its type.
 pub fn expressions_have_types()
     ensures { (d : Declared) (ns : Names) (line : ℕ) (e : Expression) (t : Typed) → NamesHave d ns → typed ns line e ≡ Some t → TypedHas d.types t }
+{}
+
+/// Cells and channels are only added, and never more than there may be.
+pub fn only_grows()
+    ensures part { (sc : Procedures) (depth : ℕ) (n m : Numbers) (p : Node process) (t : Term) → Unfolding sc depth n p t m → Grown n m }
+    ensures whole { (items : List Item) (t : Term) (m : Numbers) → ProgramUnfolding items t m → Grown at_start m × IsWithinLimits m }
 {}
