@@ -12,3 +12,6 @@ pub mod Stepping
 pub mod Numbering
 pub mod TreeSteps
 pub mod Growth
+pub mod Scopes
+pub mod Covering
+pub mod TypedLines
