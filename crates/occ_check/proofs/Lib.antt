@@ -15,3 +15,4 @@ pub mod Growth
 pub mod Scopes
 pub mod Covering
 pub mod TypedLines
+pub mod TypedNames

@@ -99,7 +99,7 @@ and_true : (a b : Bool) → IsTrue a → IsTrue b → IsTrue (a && b)
 and_true true b h g = g
 and_true false b h g = absurd cc
 
-in_one : (f : ℕ) → IsTrue (nat_le f f && nat_lt f (f + 1))
+pub in_one : (f : ℕ) → IsTrue (nat_le f f && nat_lt f (f + 1))
 in_one f = and_true _ _ (le-leb f f (omega arith)) (lt-ltb f (f + 1) (omega arith))
 
 -- ---- subscripts and names
