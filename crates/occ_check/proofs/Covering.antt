@@ -80,7 +80,7 @@ module _ (d : Declared) where
 
 -- ---- constants
 
-either_false : (a b : Bool) → (IsTrue a → ⊥) → (IsTrue b → ⊥) → IsTrue (a || b) → ⊥
+pub either_false : (a b : Bool) → (IsTrue a → ⊥) → (IsTrue b → ⊥) → IsTrue (a || b) → ⊥
 either_false true b h g k = h refl
 either_false false b h g k = g k
 

@@ -16,3 +16,5 @@ pub mod Scopes
 pub mod Covering
 pub mod TypedLines
 pub mod TypedNames
+pub mod Writes
+pub mod WritesTree

@@ -95,7 +95,7 @@ result_takes Greater a b t e = order_takes Greater a b t refl e
 result_takes AtMost a b t e = order_takes AtMost a b t refl e
 result_takes AtLeast a b t e = order_takes AtLeast a b t refl e
 
-and_true : (a b : Bool) → IsTrue a → IsTrue b → IsTrue (a && b)
+pub and_true : (a b : Bool) → IsTrue a → IsTrue b → IsTrue (a && b)
 and_true true b h g = g
 and_true false b h g = absurd cc
 
