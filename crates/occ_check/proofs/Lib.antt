@@ -18,3 +18,6 @@ pub mod TypedLines
 pub mod TypedNames
 pub mod Writes
 pub mod WritesTree
+pub mod Copies
+pub mod TypedTree
+pub mod WellFormed

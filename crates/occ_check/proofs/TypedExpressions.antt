@@ -170,7 +170,7 @@ module _ (types : ℕ → Option Primitive) where
 
   -- ---- operators on typed operands
 
-  single_has : (x : Typed) (a : Primitive × T.Expression) → TypedHas types x → as_single x ≡ Some a → HasType types a.1 a.0
+  pub single_has : (x : Typed) (a : Primitive × T.Expression) → TypedHas types x → as_single x ≡ Some a → HasType types a.1 a.0
   single_has (single type e) a h g = subst (λ (y : Primitive × T.Expression). HasType types y.1 y.0) (some_is _ a g) h
   single_has (whole type sizes b) a h g = absurd cc
 

@@ -58,6 +58,14 @@ all_of P f h (x ∷ xs) ys e =
     let c = bind_some (each_of f xs) _ ys b.2 in
     subst (All P) (some_is (b.0 ∷ c.0) ys c.2) (h x b.0 b.1, all_of P f h xs c.0 c.1)
 
+-- what is input on a channel of this protocol
+abbrev pub ListedHas : Declared → Protocol → Listed → Type 0
+ListedHas d p (plain_list ts) = (parts : List PartType) × (parts_after p None ≡ Some parts) × TargetsHave d ts parts
+ListedHas d p (tagged_list k ts) = (parts : List PartType) × (parts_after p (Some k) ≡ Some parts) × TargetsHave d ts parts
+
+abbrev pub ReceivedHas : Declared → Place × Listed → Type 0
+ReceivedHas d c = (p : Protocol) × ChannelHas d c.0 p × ListedHas d p c.1
+
 module _ (d : Declared) (ns : Names) (h : NamesHave d ns) (line : ℕ) where
   -- ---- variables and channels
 
@@ -241,30 +249,18 @@ module _ (d : Declared) (ns : Names) (h : NamesHave d ns) (line : ℕ) where
       let r = bind_some (apart (rows_of a.0)) _ targets a.2 in
       targets_have parts a.0 targets (all_of (AimHas d) (aim_of ns line) aim_has ts a.0 a.1) r.2
 
-  -- what is input on a channel of this protocol
-  abbrev pub ListedHas : Protocol → Listed → Type 0
-  ListedHas p (plain_list ts) = (parts : List PartType) × (parts_after p None ≡ Some parts) × TargetsHave d ts parts
-  ListedHas p (tagged_list k ts) = (parts : List PartType) × (parts_after p (Some k) ≡ Some parts) × TargetsHave d ts parts
-
-  abbrev pub ReceivedHas : Place × Listed → Type 0
-  ReceivedHas c = (p : Protocol) × ChannelHas d c.0 p × ListedHas p c.1
-
-  pub received_has : (i : L.Input) (c : Place × Listed) → received ns line i ≡ Some c → ReceivedHas c
+  pub received_has : (i : L.Input) (c : Place × Listed) → received ns line i ≡ Some c → ReceivedHas d c
   received_has (L.items v t ts) c e =
       let k = bind_some (channel_of ns line v) _ c e in
       let a = bind_some (parts_after k.0.0 None) _ c k.2 in
       let s = bind_some (stored ns line a.0 (t ∷ ts)) _ c a.2 in
-      subst ReceivedHas (some_is (k.0.1, plain_list s.0) c s.2) (k.0.0, channel_has v k.0 k.1, (a.0, a.1, stored_has a.0 (t ∷ ts) s.0 s.1))
+      subst (ReceivedHas d) (some_is (k.0.1, plain_list s.0) c s.2) (k.0.0, channel_has v k.0 k.1, (a.0, a.1, stored_has a.0 (t ∷ ts) s.0 s.1))
   received_has (L.tagged v x ts) c e =
       let k = bind_some (channel_of ns line v) _ c e in
       let n = bind_some (tag_in k.0.0 x) _ c k.2 in
       let a = bind_some (parts_after k.0.0 (Some n.0)) _ c n.2 in
       let s = bind_some (stored ns line a.0 ts) _ c a.2 in
-      subst ReceivedHas (some_is (k.0.1, tagged_list n.0 s.0) c s.2) (k.0.0, channel_has v k.0 k.1, (a.0, a.1, stored_has a.0 ts s.0 s.1))
-
-  pub input_has : (c : Place × Listed) → ReceivedHas c → TermHas d (as_input c)
-  input_has (c, plain_list ts) g = (g.0, g.2.0, g.1, g.2.1, g.2.2)
-  input_has (c, tagged_list k ts) g = (g.0, g.1, (g.2, tt, tt, tt))
+      subst (ReceivedHas d) (some_is (k.0.1, tagged_list n.0 s.0) c s.2) (k.0.0, channel_has v k.0 k.1, (a.0, a.1, stored_has a.0 ts s.0 s.1))
 
   -- ---- assignments
 
@@ -324,3 +320,8 @@ module _ (d : Declared) (ns : Names) (h : NamesHave d ns) (line : ℕ) where
 
   pub typed_as_has : (type : Primitive) (a : Expression) (e : T.Expression) → typed_as ns line type a ≡ Some e → HasType d.types e type
   typed_as_has type a e g = let t = bind_some (typed ns line a) _ e g in of_type_has d.types type t.0 e (typed_has d ns h line a t.0 t.1) t.2
+
+module _ (d : Declared) where
+  pub input_has : (c : Place × Listed) → ReceivedHas d c → TermHas d (as_input c)
+  input_has (c, plain_list ts) g = (g.0, g.2.0, g.1, g.2.1, g.2.2)
+  input_has (c, tagged_list k ts) g = (g.0, g.1, (g.2, tt, tt, tt))

@@ -5,7 +5,8 @@ ghost use Rattle.occ_tree.specs.Processes.Trees.{process, Node, Item};
 ghost use Rattle.occ_term.specs.Terms.{Term};
 ghost use Rattle.occ_term.specs.Processes.{branches_in, processes_of};
 ghost use Rattle.occ_term.specs.Sizes.{size_of};
-ghost use Rattle.occ_term.specs.Unfolding.{NumberedFrom};
+ghost use Rattle.occ_term.specs.Unfolding as Unfolded;
+ghost use Rattle.occ_term.specs.Unfolding.{IsWellFormed, NumberedFrom};
 ghost use Rattle.occ_term.specs.TermTyping.{Declared};
 ghost use Rattle.occ_tree.specs.Expressions.Trees.{Expression};
 ghost use Rattle.occ_check.specs.Counting.{Counted};
@@ -15,7 +16,7 @@ ghost use Rattle.occ_check.specs.Having.{NamesHave, TypedHas};
 ghost use Rattle.occ_check.specs.Numbering.{NumberedUpTo};
 ghost use Rattle.occ_check.specs.Numbers.{Numbers, at_start};
 ghost use Rattle.occ_check.specs.Programs.{program_unfolded};
-ghost use Rattle.occ_check.specs.ProgramUnfolding.{ProgramUnfolding};
+ghost use Rattle.occ_check.specs.ProgramUnfolding.{ProgramUnfolding, UnfoldsTo};
 ghost use Rattle.occ_check.specs.Recursion.{unfolded};
 ghost use Rattle.occ_check.specs.Scope.{Names};
 ghost use Rattle.occ_check.specs.Unfolding.{Procedures, Unfolding, meant};
@@ -61,4 +62,9 @@ pub fn expressions_have_types()
 pub fn only_grows()
     ensures part { (sc : Procedures) (depth : ℕ) (n m : Numbers) (p : Node process) (t : Term) → Unfolding sc depth n p t m → Grown n m }
     ensures whole { (items : List Item) (t : Term) (m : Numbers) → ProgramUnfolding items t m → Grown at_start m × IsWithinLimits m }
+{}
+
+/// Whatever a program unfolds to is well-formed.
+pub fn unfoldings_are_well_formed()
+    ensures { (items : List Item) (u : Unfolded.Unfolding) → UnfoldsTo items u → IsWellFormed u }
 {}
