@@ -21,3 +21,4 @@ pub mod WritesTree
 pub mod Copies
 pub mod TypedTree
 pub mod WellFormed
+pub mod OrderedNames

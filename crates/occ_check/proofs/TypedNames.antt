@@ -145,7 +145,7 @@ module _ (d : Declared) where
   named_opens x depth (single type e) n o t g = value_opens x depth type e (constant e) n o refl t g
   named_opens x depth (whole type sizes a) n o t g = array_opens x depth type sizes a n o t g
 
-  of_value_has : (ns : Names) (line : ℕ) (type : Option L.ValueType) (v w : Typed) → TypedHas d.types v → of_value_type ns line type v ≡ Some w → TypedHas d.types w
+  pub of_value_has : (ns : Names) (line : ℕ) (type : Option L.ValueType) (v w : Typed) → TypedHas d.types v → of_value_type ns line type v ≡ Some w → TypedHas d.types w
   of_value_has ns line None v w t e = subst (TypedHas d.types) (some_is v w e) t
   of_value_has ns line (Some (L.value_type sizes type)) v w t e =
       let k = bind_some (open_sizes_of ns line sizes) _ w e in

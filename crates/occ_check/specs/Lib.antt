@@ -18,3 +18,4 @@ pub mod Counting
 pub mod Having
 pub mod Numbering
 pub mod Growth
+pub mod CellOrder
