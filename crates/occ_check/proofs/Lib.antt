@@ -22,3 +22,5 @@ pub mod Copies
 pub mod TypedTree
 pub mod WellFormed
 pub mod OrderedNames
+pub mod OrderedTree
+pub mod OrderedProgram

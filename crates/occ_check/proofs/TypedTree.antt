@@ -96,16 +96,16 @@ module _ (d : Declared) where
   abbrev pub In : Procedures → Numbers → Type 0
   In sc n = EachKnown (Fits d (length n.cells)) sc
 
-  named : (sc : Procedures) (n : Numbers) → In sc n → (x : List ℕ) (k : Known) → names_of sc x ≡ Some k → Fits d (length n.cells) k
+  pub named : (sc : Procedures) (n : Numbers) → In sc n → (x : List ℕ) (k : Known) → names_of sc x ≡ Some k → Fits d (length n.cells) k
   named sc n h x k e = each_named (Fits d (length n.cells)) sc x k h e
 
-  have : (sc : Procedures) (n : Numbers) → In sc n → NamesHave d (names_of sc)
+  pub have : (sc : Procedures) (n : Numbers) → In sc n → NamesHave d (names_of sc)
   have sc n h x k e = (named sc n h x k e).0
 
   pub later : (sc : Procedures) (n m : Numbers) → Grown n m → In sc n → In sc m
   later sc n m g h = each_mapped (Fits d (length n.cells)) (Fits d (length m.cells)) (fits_later d (length n.cells) (length m.cells) (fewer_before n m g)) sc h
 
-  roomy : (sc : Procedures) (depth : ℕ) (s : Size) (n m : Numbers) → room depth s n ≡ Some m → In sc n → In sc m
+  pub roomy : (sc : Procedures) (depth : ℕ) (s : Size) (n m : Numbers) → room depth s n ≡ Some m → In sc n → In sc m
   roomy sc depth s n m e h = later sc n m (growing.by_room depth s n m e) h
 
   pub item_has : {sc : Procedures} {depth : ℕ} {n : Numbers} {i : Item} {e : Entered Procedure} → DeclaresItem sc depth n i e → In sc n → Grown n e.numbers → Covers d e.numbers → In e.scope e.numbers × DeclarationsHave d e.heads
@@ -117,7 +117,7 @@ module _ (d : Declared) where
       (each_within (Fits d (length o.numbers.cells)) o.names sc k.0 (later sc n o.numbers g h), k.1)
   item_has declares_procedure h g c = (h, tt)
 
-  one_has : {sc : Procedures} {depth : ℕ} {n : Numbers} {x : Decl} {e : Entered Procedure} → Declares sc depth n x e → In sc n → Grown n e.numbers → Covers d e.numbers → In e.scope e.numbers × DeclarationsHave d e.heads
+  pub one_has : {sc : Procedures} {depth : ℕ} {n : Numbers} {x : Decl} {e : Entered Procedure} → Declares sc depth n x e → In sc n → Grown n e.numbers → Covers d e.numbers → In e.scope e.numbers × DeclarationsHave d e.heads
   one_has (declares_names {sc = sc} {depth = depth} {line = line} {n = n} {es = es} {sort = sort} {x = x} {xs = xs} {o = o} e) h g c =
       let k = names_open d (names_of sc) line depth es sort (x ∷ xs) n o e c in
       (each_within (Fits d (length o.numbers.cells)) o.names sc k.0 (later sc n o.numbers g h), k.1)
@@ -188,7 +188,7 @@ module _ (d : Declared) where
   index_avoids : (sc : Procedures) (n : Numbers) (i : Indexed) → In sc n → IndexIsNew n i → EachKnown (Avoids (length n.cells)) (within i.names sc)
   index_avoids sc n i h g = each_within (Avoids (length n.cells)) i.names sc g.avoids (each_mapped (Fits d (length n.cells)) (Avoids (length n.cells)) (apart_from (length n.cells)) sc h)
 
-  within_index : (sc : Procedures) (n : Numbers) (i : Indexed) → In sc n → Grown n i.numbers → EachPair (Fits d (length i.numbers.cells)) i.names → In (within i.names sc) i.numbers
+  pub within_index : (sc : Procedures) (n : Numbers) (i : Indexed) → In sc n → Grown n i.numbers → EachPair (Fits d (length i.numbers.cells)) i.names → In (within i.names sc) i.numbers
   within_index sc n i h g k = each_within (Fits d (length i.numbers.cells)) i.names sc k (later sc n i.numbers g h)
 
   -- ---- all of the tree

@@ -35,7 +35,7 @@ use Rattle.occ_check.proofs.TypedTree.{In, item_has, later, headed_has, unfoldin
 
 -- ---- the main process's channels
 
-few_names : (fs : L.Formals) (xs : List Name) → main_names fs ≡ Some xs → length xs ≤ 3
+pub few_names : (fs : L.Formals) (xs : List Name) → main_names fs ≡ Some xs → length xs ≤ 3
 few_names L.no_formals xs e = absurd cc
 few_names (L.formals s x fs) xs e =
     let a = bind_some (byte_channels (L.formals s x fs)) _ xs e in
@@ -51,14 +51,14 @@ module _ (d : Declared) where
   first_protocol h (suc (suc zero)) l = h.channels 2 _ refl
   first_protocol h (suc (suc (suc k))) l = absurd (omega (arith, l))
 
-  channels_fit : (b : ℕ) → Covers d at_start → (c : ℕ) (xs : List Name) → c + length xs ≤ 3 → EachPair (Fits d b) (channels_from c xs)
+  pub channels_fit : (b : ℕ) → Covers d at_start → (c : ℕ) (xs : List Name) → c + length xs ≤ 3 → EachPair (Fits d b) (channels_from c xs)
   channels_fit b h c [] l = tt
   channels_fit b h c (x ∷ xs) l =
       ((((λ k m. let s = in_span c 1 k m in let p = s.1 in first_protocol h k (omega (arith, l, p))), refl), tt), channels_fit b h (c + 1) xs (omega (arith, l)))
 
   -- ---- the items before it
 
-  items_have : {sc : Procedures} {depth : ℕ} {n : Numbers} {is : List Item} {e : Entered Procedure} → DeclareItems sc depth n is e → In d sc n → Covers d e.numbers → In d e.scope e.numbers × DeclarationsHave d e.heads
+  pub items_have : {sc : Procedures} {depth : ℕ} {n : Numbers} {is : List Item} {e : Entered Procedure} → DeclareItems sc depth n is e → In d sc n → Covers d e.numbers → In d e.scope e.numbers × DeclarationsHave d e.heads
   items_have no_item h c = (h, tt)
   items_have (one_item {n = n} {a = a} {b = b} x y) h c =
       let k = item_has d x h (item_steps Grown growing x) (covers_before d a.numbers b.numbers (items_steps Grown growing y) c) in
@@ -79,7 +79,7 @@ module _ (d : Declared) where
 
 -- ---- well-formed
 
-mapped_get : {A B : Type 0} (f : A → B) (xs : List A) (c : ℕ) (x : A) → slice_get xs c ≡ Some x → slice_get (map f xs) c ≡ Some (f x)
+pub mapped_get : {A B : Type 0} (f : A → B) (xs : List A) (c : ℕ) (x : A) → slice_get xs c ≡ Some x → slice_get (map f xs) c ≡ Some (f x)
 mapped_get f [] c x e = absurd cc
 mapped_get f (y ∷ xs) zero x e = ap (λ z. Some (f z)) (some_is y x e)
 mapped_get f (y ∷ xs) (suc c) x e = mapped_get f xs c x e

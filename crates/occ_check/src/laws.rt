@@ -1,6 +1,6 @@
 //! Laws of the definitions, which no code uses.
 
-ghost use Rattle.std.specs.Prelude.{List, Some, ℕ, ◌≡◌};
+ghost use Rattle.std.specs.Prelude.{length, List, Some, ℕ, ◌≡◌};
 ghost use Rattle.occ_tree.specs.Processes.Trees.{process, Node, Item};
 ghost use Rattle.occ_term.specs.Terms.{Term};
 ghost use Rattle.occ_term.specs.Processes.{branches_in, processes_of};
@@ -9,6 +9,7 @@ ghost use Rattle.occ_term.specs.Unfolding as Unfolded;
 ghost use Rattle.occ_term.specs.Unfolding.{IsWellFormed, NumberedFrom};
 ghost use Rattle.occ_term.specs.TermTyping.{Declared};
 ghost use Rattle.occ_tree.specs.Expressions.Trees.{Expression};
+ghost use Rattle.occ_check.specs.CellOrder.{cells_in, InOrder};
 ghost use Rattle.occ_check.specs.Counting.{Counted};
 ghost use Rattle.occ_check.specs.Expressions.{Typed, typed};
 ghost use Rattle.occ_check.specs.Growth.{Grown, IsWithinLimits};
@@ -67,4 +68,9 @@ pub fn only_grows()
 /// Whatever a program unfolds to is well-formed.
 pub fn unfoldings_are_well_formed()
     ensures { (items : List Item) (u : Unfolded.Unfolding) → UnfoldsTo items u → IsWellFormed u }
+{}
+
+/// The cells that a program's term declares, read from left to right, are all its cells, from 0 on in order and none twice.
+pub fn cells_in_order()
+    ensures { (items : List Item) (t : Term) (m : Numbers) → ProgramUnfolding items t m → InOrder 0 (cells_in t) (length m.cells) }
 {}
