@@ -1,9 +1,7 @@
 -- The index of each copy of a replicated PAR is an INT.
-use Rattle.std.proofs.Common.{◌≡◌, ◌≤◌, ◌<◌, ℕ, zero, suc, ◌+◌, Bool, IsTrue, Option, Some, refl, sym, subst, ap, ◌∙◌, arith}
-use Rattle.std.specs.Prelude.{ℤ, pos, negsuc, neg_ℤ, ◌+ℤ◌, ◌&&◌, int_le, nat_abs}
+use Rattle.std.proofs.Common.{◌≡◌, ℕ, suc, IsTrue, Some, subst, arith}
+use Rattle.std.specs.Prelude.{ℤ, pos, negsuc, ◌+ℤ◌, ◌&&◌, int_le, nat_abs}
 use Rattle.occ_tree.specs.Lines.Trees as L
-use Rattle.occ_tree.specs.Expressions.Trees.{Expression}
-use Rattle.occ_term.specs.declared.primitive.Primitive.{Primitive}
 use Rattle.occ_term.specs.declared.primitive.Primitive.TheVariants.{Int}
 use Rattle.occ_term.specs.Messages.{is_of}
 use Rattle.std.proofs.lemmas.Bool.Decides.{nat_tests}
@@ -16,9 +14,8 @@ use Rattle.occ_check.specs.Expressions.{typed_as, constant_as}
 use Rattle.occ_check.specs.Declarations.{copies_of}
 use Rattle.occ_check.specs.Having.{NamesHave}
 use Rattle.occ_check.proofs.Steps.{bind_some, some_is}
-use Rattle.occ_check.proofs.Counting.{kept, both_true}
+use Rattle.occ_check.proofs.Counting.{kept}
 use Rattle.occ_check.proofs.Covering.{constant_typed}
-use Rattle.occ_check.proofs.TypedExpressions.{and_true}
 use Rattle.occ_check.proofs.TypedLines.{typed_as_has}
 
 -- an index, and those of the copies after it, are INTs

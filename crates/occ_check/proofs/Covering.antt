@@ -1,6 +1,6 @@
 -- The cells and channels that are given out have the types and protocols that are declared at the end.
-use Rattle.std.proofs.Common.{◌≡◌, ◌≤◌, ◌<◌, ℕ, zero, suc, ◌+◌, List, [], ◌∷◌, ◌++◌, length, Bool, true, false, Option, Some, None, IsTrue, refl, ap, sym, subst, ◌∙◌, arith, length-append}
-use Rattle.std.specs.Prelude.{map, slice_get, nat_le, nat_lt, pos, ℤ, ◌&&◌, ◌||◌, if◌then◌else◌}
+use Rattle.std.proofs.Common.{◌≡◌, ◌≤◌, ◌<◌, ℕ, zero, suc, ◌+◌, List, [], ◌∷◌, ◌++◌, length, Bool, true, false, Option, Some, None, IsTrue, refl, ap, sym, subst, arith, length-append}
+use Rattle.std.specs.Prelude.{map, slice_get, nat_le, nat_lt, pos, ℤ, ◌||◌, if◌then◌else◌}
 use Rattle.std.proofs.lemmas.Bool.{leb-true, ltb-true}
 use Rattle.occ_term.specs.declared.names.Cell.{Cell}
 use Rattle.occ_term.specs.declared.names.Channel.{Channel}
@@ -14,7 +14,7 @@ use Rattle.occ_term.specs.Uses.{numbers_in, is_constant, reads_of}
 use Rattle.occ_term.specs.Typing.{CellsHave, HasType}
 use Rattle.occ_term.specs.TermTyping.{Declared}
 use Rattle.occ_term.proofs.TypedValues.{values_have_types}
-use Rattle.occ_check.specs.Scope.{keep, Name}
+use Rattle.occ_check.specs.Scope.{Name}
 use Rattle.occ_check.specs.Numbers.{Numbers, cell, channel, component_names, more_cells, more_channels}
 use Rattle.occ_check.specs.Constants.{constant, without_fault}
 use Rattle.occ_check.specs.Growth.{Grown}

@@ -10,7 +10,7 @@ use Rattle.occ_term.specs.Messages.{product}
 use Rattle.occ_term.specs.Terms.{Term}
 use Rattle.occ_term.specs.Unfolding.{most_cells, most_channels}
 use Rattle.occ_check.specs.Scope.{Name}
-use Rattle.occ_check.specs.Numbers.{Numbers, at_start, cell, channel, from_number, component_name, component_names, more_cells, more_channels, more_processes, room}
+use Rattle.occ_check.specs.Numbers.{Numbers, at_start, cell, channel, from_number, component_name, component_names, more_cells, more_channels, more_processes}
 use Rattle.occ_check.specs.ProgramUnfolding.{ProgramUnfolding}
 use Rattle.occ_check.specs.Growth.{IsWithinLimits, Grown}
 use Rattle.occ_check.specs.Unfolding.{Procedures, Unfolding}

@@ -1,5 +1,5 @@
 -- Declarations, actuals and replicators take the next cells, in order.
-use Rattle.std.proofs.Common.{◌≡◌, ◌≤◌, ℕ, ◌+◌, ◌*◌, List, [], ◌∷◌, ◌++◌, length, Option, Some, None, refl, sym, subst, ap, ◌∙◌, arith, length-append}
+use Rattle.std.proofs.Common.{◌≡◌, ℕ, ◌+◌, List, [], ◌∷◌, ◌++◌, length, Option, Some, None, refl, sym, subst, ap, ◌∙◌, arith, length-append}
 use Rattle.std.specs.Prelude.{ℤ, map}
 use Rattle.occ_tree.specs.Expressions.Trees.{Expression, Expressions}
 use Rattle.occ_tree.specs.Lines.Trees as L

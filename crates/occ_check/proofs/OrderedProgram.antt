@@ -1,10 +1,9 @@
 -- A program's cells, read from left to right in its term, are all that it declares, from 0 on in order.
-use Rattle.std.proofs.Common.{◌≡◌, ℕ, List, [], ◌∷◌, ◌++◌, length, Some, refl, arith}
+use Rattle.std.proofs.Common.{ℕ, List, ◌++◌, length, refl, arith}
 use Rattle.std.specs.Prelude.{map, slice_get}
 use Rattle.occ_tree.specs.Processes.Trees.{Item}
 use Rattle.occ_term.specs.Terms.{Term}
 use Rattle.occ_term.specs.TermTyping.{Declared}
-use Rattle.occ_check.specs.Scope.{within}
 use Rattle.occ_check.specs.Numbers.{Numbers, at_start}
 use Rattle.occ_check.specs.Actions.{headed}
 use Rattle.occ_check.specs.CellOrder.{cells_of_all, cells_in, InOrder}
@@ -49,8 +48,8 @@ module _ (d : Declared) where
       let q = later d e.scope e.numbers m g k.0 in
       the_same (cells_of_all e.heads ++ cells_in t) (cells_in (headed e.heads t)) at_start l (headed_cells e.heads t)
       (both (cells_of_all e.heads) (cells_in t) at_start e.numbers l (items_take ds tt s) (opening_begins (cells_in t) e.heads 0 e.numbers deep m l o
-          (unfolding_takes d u (each_within (Fits d (length m.cells)) (channels_from 0 xs) e.scope
-              (channels_fit d (length m.cells) (covers_before d at_start e.numbers (items_steps Grown growing ds) s) 0 xs (omega (arith, f))) q) c)))
+      (unfolding_takes d u (each_within (Fits d (length m.cells)) (channels_from 0 xs) e.scope
+      (channels_fit d (length m.cells) (covers_before d at_start e.numbers (items_steps Grown growing ds) s) 0 xs (omega (arith, f))) q) c)))
 
 pub cells_in_order : {is : List Item} {t : Term} {m : Numbers} → ProgramUnfolding is t m → InOrder 0 (cells_in t) (length m.cells)
 cells_in_order {m = m} u = program_takes (declared_by m) u (covered m)

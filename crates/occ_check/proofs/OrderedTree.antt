@@ -1,43 +1,34 @@
 -- The cells of an unfolding, read from left to right, are those that are given out, in order.
-use Rattle.std.proofs.Common.{◌≡◌, ◌≤◌, ◌<◌, ℕ, zero, suc, ◌+◌, List, [], ◌∷◌, ◌++◌, length, Bool, true, false, IsTrue, Option, Some, None, refl, sym, subst, ap, ◌∙◌, arith}
+use Rattle.std.proofs.Common.{◌≡◌, ℕ, ◌+◌, List, [], ◌∷◌, ◌++◌, length, Some, refl, sym, subst, ap, ◌∙◌, arith}
 use Rattle.std.specs.Prelude.{ℤ, map}
-use Rattle.occ_tree.specs.Many.{◌>>=◌}
 use Rattle.occ_tree.specs.Lines.Trees as L
 use Rattle.occ_tree.specs.Lines.Heads.{ProcessHead, ArmHead, ChoiceHead}
 use Rattle.occ_tree.specs.Processes.Trees.{process, choice, option, arm, variant, under, Node, Body, Nodes, Decls, Decl, Item}
 use Rattle.occ_tree.specs.Expressions.Trees.{Expression}
 use Rattle.occ_term.specs.declared.primitive.Primitive.{Primitive}
-use Rattle.occ_term.specs.declared.primitive.Primitive.TheVariants.{Bool as Boolean, Int}
 use Rattle.occ_term.specs.declared.protocol.Protocol.{Protocol}
-use Rattle.occ_term.specs.declared.protocol.Protocol.TheVariants.{Simple, CountedArray, Sequential, Variant as WithTags}
-use Rattle.occ_term.specs.Messages.{is_of, product, AllOf}
 use Rattle.occ_term.specs.Terms as T
 use Rattle.occ_term.specs.Terms.{Term, Terms, Branches, Arms, no_arms, skip_arm, input_arm, declared_arms, each_arm, Choices, no_choices, or_choice, declared_choices, each_choice, Variants, no_variants, or_variant, Options, no_options, or_option, or_else, Declaration, Clearing, Naming, Place, replicator}
 use Rattle.occ_term.specs.Sizes as Sizes
 use Rattle.occ_term.specs.Sizes.{Size, no_size, size_of, size_of_expression, size_of_place, size_of_targets, size_of_constants, size_of_replicator}
-use Rattle.occ_term.specs.Uses.{Uses, uses_of, uses_of_arms, uses_of_choices, numbers_in}
-use Rattle.occ_term.specs.Values.{span}
-use Rattle.occ_term.specs.Typing.{is_number, HasType}
 use Rattle.occ_term.specs.TypedSteps.{IndicesHave}
-use Rattle.occ_term.specs.TermTyping.{Declared, ChannelHas, DeclarationHas, DeclarationsHave, ReplicatorHas, IsKept, ReceptionHas, TermHas, TermsHave, BranchesHave, ArmsHave, ChoicesHave, VariantsHave, OptionsHave}
-use Rattle.occ_check.specs.Scope.{each_of, names_of, within, proc, Names, Known, a_value, a_string, some_cells, some_channels, a_protocol, assignable, kept as unassignable}
-use Rattle.occ_check.specs.Numbers.{Numbers, more_cells, room}
-use Rattle.occ_check.specs.Constants.{constant, a_count}
-use Rattle.occ_check.specs.Expressions.{typed, typed_as, constant_as, as_single}
+use Rattle.occ_term.specs.TermTyping.{Declared}
+use Rattle.occ_check.specs.Scope.{each_of, names_of, within, proc, Names}
+use Rattle.occ_check.specs.Numbers.{Numbers, room}
+use Rattle.occ_check.specs.Expressions.{typed}
 use Rattle.occ_check.specs.Items.{channel_of}
-use Rattle.occ_check.specs.Declarations.{Indexed, indexed, index_of, copies_of}
+use Rattle.occ_check.specs.Declarations.{index_of}
 use Rattle.occ_check.specs.Actions.{opening, headed, followed, as_term, Listed, plain_list, tagged_list, as_reception, size_of_list, arms_behind, choices_behind, arms_then, choices_then, variants_then, options_then, with_tags, selector, Chosen}
 use Rattle.occ_check.specs.Growth.{Grown}
-use Rattle.occ_check.specs.Having.{KnownHas, NamesHave}
 use Rattle.occ_check.specs.Performing.{Entered}
 use Rattle.occ_check.specs.Unfolding.{Procedure, procedure, Procedures, DeclaresItem, declares_value, declares_protocol, declares_procedure, Declares, declares_names, declares_item, DeclareAll, no_declaration, one_declaration, Unfolding, unfolds, Performs, skips, stops, assigns, inputs, outputs, calls, takes_variants, sequences, replicates_sequence, runs_beside, replicates_branch, alternates, replicates_alternation, conditions, replicates_conditional, selects, loops, InTurn, no_process, one_process, Beside, no_branch, one_branch, Copies, no_copy, one_copy, Arm, behind_arm, Offers, awaits, is_ready, awaits_variants, nests_arms, replicates_arm, EachArm, under_index, AllArms, no_arm, one_arm, Choice, behind_choice, Tests, tests, nests_choices, replicates_choice, EachChoice, under_choice_index, AllChoices, no_choice, one_choice, Variant, takes, AllVariants, no_variant, one_variant, OneOption, is_one_of, is_none_of, AllOptions, no_option, one_option}
 use Rattle.occ_check.proofs.Steps.{bind_some, some_is}
 use Rattle.occ_check.proofs.Counting.{kept}
-use Rattle.occ_check.proofs.Scopes.{EachKnown, EachPair, each_within, each_mapped, each_named, each_behind}
+use Rattle.occ_check.proofs.Scopes.{each_within, each_behind}
 use Rattle.occ_check.proofs.Growth.{growing, processes_grown}
-use Rattle.occ_check.proofs.Covering.{Covers, covers_before, fewer_before, in_span, constant_typed}
+use Rattle.occ_check.proofs.Covering.{Covers, covers_before}
 use Rattle.occ_check.proofs.Stepping.{bound_steps, indexed_steps, opening_steps, one_declared_steps, declared_steps}
-use Rattle.occ_check.proofs.TreeSteps.{unfolding_steps, performs_steps, in_turn_steps, beside_steps, copies_steps, arm_steps, offers_steps, each_arm_steps, arms_steps, choice_steps, tests_steps, each_choice_steps, choices_steps, variant_steps, variants_steps, option_steps, options_steps}
+use Rattle.occ_check.proofs.TreeSteps.{unfolding_steps, performs_steps, in_turn_steps, beside_steps, copies_steps, arm_steps, offers_steps, arms_steps, choice_steps, tests_steps, choices_steps, variant_steps, variants_steps, option_steps, options_steps}
 use Rattle.occ_check.proofs.TypedNames.{Fits, bound_opens, indexed_opens}
 use Rattle.std.proofs.Common.{append_assoc}
 use Rattle.occ_term.specs.Terms.{Place}
@@ -48,7 +39,7 @@ use Rattle.occ_check.specs.Items.{variable_of, sent, apart, assigned_items}
 use Rattle.occ_check.specs.Actions as A
 use Rattle.occ_check.specs.Actions.{assigned}
 use Rattle.occ_check.specs.Numbers.{more_processes}
-use Rattle.occ_check.proofs.OrderedNames.{both_in_order, heads_in_order, heads_append, Ordered, names_ordered, protocol_ordered, value_declared_ordered, bound_ordered, indexed_ordered}
+use Rattle.occ_check.proofs.OrderedNames.{both_in_order, heads_in_order, names_ordered, protocol_ordered, value_declared_ordered, bound_ordered, indexed_ordered}
 use Rattle.occ_check.proofs.Copies.{copies_typed, first_typed, next_typed}
 use Rattle.occ_check.proofs.TypedTree.{In, named, have, later, roomy, one_has, all_have, within_index}
 
@@ -200,9 +191,9 @@ module _ (d : Declared) where
         let k = bound_opens d (names_of sc) (length n.cells) (named d sc n h) line (depth + 1) ws es n b (omega arith) a (covers_before d b.numbers m g q) in
         the_same (cells_of_all b.heads ++ cells_in t) (cells_in (headed b.heads t)) n l (headed_cells b.heads t)
         (both (cells_of_all b.heads) (cells_in t) n b.numbers l (bound_ordered d (names_of sc) (have d sc n h) line (depth + 1) ws es n b a)
-            (opening_begins (cells_in t) b.heads depth b.numbers deep m l o
-                (unfolding_takes u (later d (within b.names outer) b.numbers m g
-                    (each_within (Fits d (length b.numbers.cells)) b.names outer k.0 (later d outer n b.numbers s (each_behind (Fits d (length n.cells)) sc f (proc (procedure declared fs body)) outer h e)))) c)))
+        (opening_begins (cells_in t) b.heads depth b.numbers deep m l o
+        (unfolding_takes u (later d (within b.names outer) b.numbers m g
+        (each_within (Fits d (length b.numbers.cells)) b.names outer k.0 (later d outer n b.numbers s (each_behind (Fits d (length n.cells)) sc f (proc (procedure declared fs body)) outer h e)))) c)))
     performs_takes (takes_variants {sc = sc} {depth = depth} {n = n} {m = m} {l = l} {c = x} {xs = xs} e w r u) h c =
         room_begins (cells_in_variants xs) depth (Sizes.node (size_of_place x.1)) n m l r (variants_take u (roomy d sc depth (Sizes.node (size_of_place x.1)) n m r h) c)
     performs_takes (sequences {sc = sc} {depth = depth} {n = n} {m = m} {l = l} {ts = ts} r u) h c = room_begins (cells_in_terms ts) depth (Sizes.node no_size) n m l r (in_turn_takes u (roomy d sc depth (Sizes.node no_size) n m r h) c)
@@ -212,7 +203,7 @@ module _ (d : Declared) where
         let k = indexed_opens d (names_of sc) (length m.cells) (named d sc m q) line (depth + 1) r m i x b in
         room_begins (index_cell i.replicator ∷ cells_in t) depth (Sizes.node no_size) n m l o
         (both (index_cell i.replicator ∷ []) (cells_in t) m i.numbers l (indexed_ordered (names_of sc) line (depth + 1) r m i x)
-            (unfolding_takes u (within_index d sc m i q (indexed_steps Grown growing (names_of sc) line (depth + 1) r m i x) k.1) c))
+        (unfolding_takes u (within_index d sc m i q (indexed_steps Grown growing (names_of sc) line (depth + 1) r m i x) k.1) c))
     performs_takes (runs_beside {sc = sc} {depth = depth} {n = n} {m = m} {l = l} {bs = bs} r u) h c = room_begins (cells_in_branches bs) depth (Sizes.node no_size) n m l r (beside_takes u (roomy d sc depth (Sizes.node no_size) n m r h) c)
     performs_takes (replicates_branch {sc = sc} {line = line} {depth = depth} {n = n} {m = m} {l = l} {r = r} {c = x} {bs = bs} e o u) h c =
         room_begins (cells_in_branches bs) depth (Sizes.node no_size) n m l o (copies_take u (copies_typed d (names_of sc) (have d sc n h) line r x e) (roomy d sc depth (Sizes.node no_size) n m o h) c)
@@ -241,8 +232,8 @@ module _ (d : Declared) where
         let q = later d sc n o (processes_grown n o e) h in
         process_begins (cells_in t ++ cells_in_branches bs) n o l e
         (both (cells_in t) (cells_in_branches bs) o m l
-            (unfolding_takes u (each_within (Fits d (length o.cells)) (index_of r i) sc ((first_typed count i k, tt), tt) q) (covers_before d m l (copies_steps Grown growing processes_grown us) c))
-            (copies_take us (next_typed count i k) (later d sc o m (unfolding_steps Grown growing processes_grown u) q) c))
+        (unfolding_takes u (each_within (Fits d (length o.cells)) (index_of r i) sc ((first_typed count i k, tt), tt) q) (covers_before d m l (copies_steps Grown growing processes_grown us) c))
+        (copies_take us (next_typed count i k) (later d sc o m (unfolding_steps Grown growing processes_grown u) q) c))
 
     arm_takes : {sc : Procedures} {depth : ℕ} {n m : Numbers} {a : Node arm} {arms : Arms} → Arm sc depth n a arms m → In d sc n → Covers d m → Takes n (cells_in_arms arms) m
     arm_takes (behind_arm {n = n} {l = l} {d = e} {arms = arms} ds u) h c =
@@ -255,13 +246,13 @@ module _ (d : Declared) where
     offers_take (awaits {sc = sc} {depth = depth} {n = n} {m = m} {l = l} {e = e} {c = x} {t = t} a g r u) h c =
         the_same (cells_in t) (cells_in_reception (as_reception x.1 t) ++ []) n l (with_nil (cells_in_reception (as_reception x.1 t)) ∙ reception_cells x.1 t)
         (room_begins (cells_in t) depth (Sizes.node (Sizes.beside (size_of_expression e) (Sizes.beside (size_of_place x.0) (size_of_list x.1)))) n m l r
-            (unfolding_takes u (roomy d sc depth (Sizes.node (Sizes.beside (size_of_expression e) (Sizes.beside (size_of_place x.0) (size_of_list x.1)))) n m r h) c))
+        (unfolding_takes u (roomy d sc depth (Sizes.node (Sizes.beside (size_of_expression e) (Sizes.beside (size_of_place x.0) (size_of_list x.1)))) n m r h) c))
     offers_take (is_ready {sc = sc} {depth = depth} {n = n} {m = m} {l = l} {e = e} {t = t} a r u) h c =
         the_same (cells_in t) (cells_in t ++ []) n l (with_nil (cells_in t)) (room_begins (cells_in t) depth (Sizes.node (size_of_expression e)) n m l r (unfolding_takes u (roomy d sc depth (Sizes.node (size_of_expression e)) n m r h) c))
     offers_take (awaits_variants {sc = sc} {depth = depth} {n = n} {m = m} {l = l} {e = e} {c = x} {xs = xs} a g w r u) h c =
         the_same (cells_in_variants xs) (cells_in_variants xs ++ []) n l (with_nil (cells_in_variants xs))
         (room_begins (cells_in_variants xs) depth (Sizes.node (Sizes.beside (size_of_expression e) (size_of_place x.1))) n m l r
-            (variants_take u (roomy d sc depth (Sizes.node (Sizes.beside (size_of_expression e) (size_of_place x.1))) n m r h) c))
+        (variants_take u (roomy d sc depth (Sizes.node (Sizes.beside (size_of_expression e) (size_of_place x.1))) n m r h) c))
     offers_take (nests_arms u) h c = arms_take u h c
     offers_take (replicates_arm u) h c = each_arm_takes u h c
 
@@ -313,7 +304,7 @@ module _ (d : Declared) where
         let k = all_have d ds j s in
         room_begins (cells_of_all e.heads ++ (cells_in t ++ [])) depth (Sizes.node no_size) n o l r
         (both (cells_of_all e.heads) (cells_in t ++ []) o e.numbers l (all_take ds j s)
-            (the_same (cells_in t) (cells_in t ++ []) e.numbers l (with_nil (cells_in t)) (room_begins (cells_in t) (depth + 1) (size_of_targets targets) e.numbers m l q (unfolding_takes u (later d e.scope e.numbers m a k.0) c))))
+        (the_same (cells_in t) (cells_in t ++ []) e.numbers l (with_nil (cells_in t)) (room_begins (cells_in t) (depth + 1) (size_of_targets targets) e.numbers m l q (unfolding_takes u (later d e.scope e.numbers m a k.0) c))))
 
     variants_take : {sc : Procedures} {depth : ℕ} {n m : Numbers} {p : Protocol} {before : List ℕ} {vs : Nodes variant} {xs : Variants} → AllVariants sc depth n p before vs xs m → In d sc n → Covers d m → Takes n (cells_in_variants xs) m
     variants_take no_variant h c = refl
@@ -330,7 +321,7 @@ module _ (d : Declared) where
         let k = all_have d ds j s in
         room_begins (cells_of_all e.heads ++ (cells_in t ++ [])) depth (Sizes.node no_size) n o l r
         (both (cells_of_all e.heads) (cells_in t ++ []) o e.numbers l (all_take ds j s)
-            (the_same (cells_in t) (cells_in t ++ []) e.numbers l (with_nil (cells_in t)) (room_begins (cells_in t) (depth + 1) (size_of_constants vs) e.numbers m l q (unfolding_takes u (later d e.scope e.numbers m a k.0) c))))
+        (the_same (cells_in t) (cells_in t ++ []) e.numbers l (with_nil (cells_in t)) (room_begins (cells_in t) (depth + 1) (size_of_constants vs) e.numbers m l q (unfolding_takes u (later d e.scope e.numbers m a k.0) c))))
     option_takes (is_none_of {sc = sc} {depth = depth} {n = n} {o = o} {l = l} {d = e} {t = t} r ds f u) h c =
         let s = covers_before d e.numbers l (unfolding_steps Grown growing processes_grown u) c in
         let j = roomy d sc depth (Sizes.node no_size) n o r h in

@@ -4,7 +4,7 @@ use Rattle.std.specs.Prelude.{⊤}
 use Rattle.occ_tree.specs.Many.{◌>>=◌}
 use Rattle.occ_check.specs.Scope.{Name, Pairs, Binding, Known, known, proc, as_known, find, names_of, within}
 use Rattle.occ_check.specs.Unfolding.{Procedure, Procedures, found}
-use Rattle.occ_check.proofs.Steps.{bind_some, some_is}
+use Rattle.occ_check.proofs.Steps.{some_is}
 
 abbrev pub EachKnown : (Known → Type 0) → Procedures → Type 0
 EachKnown P [] = ⊤

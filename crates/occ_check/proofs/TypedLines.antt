@@ -1,5 +1,5 @@
 -- Assignments, inputs and outputs under names that have what is declared are of their types.
-use Rattle.std.proofs.Common.{◌≡◌, ℕ, List, [], ◌∷◌, Bool, true, false, IsTrue, Option, Some, None, refl, sym, subst, ap}
+use Rattle.std.proofs.Common.{◌≡◌, ℕ, List, [], ◌∷◌, IsTrue, Option, Some, None, refl, sym, subst, ap}
 use Rattle.std.specs.Prelude.{◌&&◌, nat_eq, map, ⊤}
 use Rattle.std.proofs.lemmas.Bool.{eqb-true}
 use Rattle.occ_tree.specs.Many.{◌>>=◌}
@@ -16,10 +16,9 @@ use Rattle.occ_term.specs.Messages.{product, parts_after, simple_part}
 use Rattle.occ_term.specs.Terms as T
 use Rattle.occ_term.specs.Terms.{Place, Item, OfOne, OfMany, OfCounted, Target, Into, IntoCounted, Term, Input, Output}
 use Rattle.occ_term.specs.Values.{span}
-use Rattle.occ_term.specs.Uses.{numbers_in}
 use Rattle.occ_term.specs.Typing.{CellsHave, HasType, PlaceHas, SubscriptsLeave, ArrayHas, ItemHas, TargetHas}
 use Rattle.occ_term.specs.TermTyping.{Declared, ChannelHas, ItemsHave, TargetsHave, value_parts, TermHas}
-use Rattle.occ_check.specs.Scope.{keep, each_of, Row, assignable, kept as kept_access, Carried, Known, a_value, a_string, some_cells, some_channels, a_protocol, Name, Names}
+use Rattle.occ_check.specs.Scope.{each_of, Row, assignable, kept as kept_access, Carried, Known, a_value, a_string, some_cells, some_channels, a_protocol, Names}
 use Rattle.occ_check.specs.Operators.{is_same_type}
 use Rattle.occ_check.specs.Expressions.{Typed, single, whole, typed, typed_as, typed_subscripts, under, left_by, place_of}
 use Rattle.occ_check.specs.Types.{are_same_sizes}
@@ -307,9 +306,11 @@ module _ (d : Declared) (ns : Names) (h : NamesHave d ns) (line : ℕ) where
       let b = bind_some (each_of (variable_of ns line) vs) _ t a.2 in
       let c = bind_some (apart (map (λ r. r.1) b.0)) _ t b.2 in
       let o = bind_some (assigned_items b.0 a.0) _ t c.2 in
-      subst (TermHas d) (some_is (T.Assign (map (as_target line) b.0) o.0) t o.2)
-      (sorts b.0, assigned_items_have b.0 a.0 o.0 (all_of (TypedHas d.types) (typed ns line) (typed_has d ns h line) es a.0 a.1) o.1,
-        as_targets_have b.0 (all_of (λ (r : Primitive × Row). RowHas d.types r.0 r.1) (variable_of ns line) variable_has vs b.0 b.1))
+      subst (TermHas d) (some_is (T.Assign (map (as_target line) b.0) o.0) t o.2) (
+        sorts b.0,
+        assigned_items_have b.0 a.0 o.0 (all_of (TypedHas d.types) (typed ns line) (typed_has d ns h line) es a.0 a.1) o.1,
+        as_targets_have b.0 (all_of (λ (r : Primitive × Row). RowHas d.types r.0 r.1) (variable_of ns line) variable_has vs b.0 b.1),
+      )
 
   pub test_has : (test : Option Expression) (e : T.Expression) → test_of ns line test ≡ Some e → HasType d.types e Boolean
   test_has None e g = subst (λ y. HasType d.types y Boolean) (some_is _ e g) refl

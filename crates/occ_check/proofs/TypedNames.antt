@@ -1,37 +1,35 @@
 -- What declarations, actuals and replicators put into a scope has what is declared, and so have the Clears and Locals before it.
-use Rattle.std.proofs.Common.{◌≡◌, ◌≤◌, ◌<◌, ℕ, ◌+◌, List, [], ◌∷◌, ◌++◌, length, Bool, true, false, IsTrue, Option, Some, None, refl, sym, subst, ap, ◌∙◌, arith, length-append}
-use Rattle.std.specs.Prelude.{ℤ, ◌&&◌, map, ⊤}
+use Rattle.std.proofs.Common.{◌≡◌, ◌≤◌, ℕ, ◌+◌, List, [], ◌∷◌, ◌++◌, length, Option, Some, None, refl, subst, ap, arith, length-append}
+use Rattle.std.specs.Prelude.{ℤ, map, ⊤}
 use Rattle.occ_tree.specs.Expressions.Trees.{Expression, Expressions}
 use Rattle.occ_tree.specs.Lines.Trees as L
 use Rattle.occ_tree.specs.Processes.Trees as P
 use Rattle.occ_term.specs.declared.primitive.Primitive.{Primitive}
 use Rattle.occ_term.specs.declared.primitive.Primitive.TheVariants.{Int}
-use Rattle.occ_term.specs.declared.protocol.Protocol.{Protocol}
 use Rattle.occ_term.specs.Messages.{product, simple_part}
 use Rattle.occ_term.specs.Terms as T
 use Rattle.occ_term.specs.Terms.{Array, Cells, Text, Item, OfOne, OfMany, Declaration, Clearing, Naming, replicator}
 use Rattle.occ_term.specs.Sizes.{Size, no_size, size_of_declaration, size_of_replicator}
 use Rattle.occ_term.specs.Values.{span}
-use Rattle.occ_term.specs.Uses.{Uses, numbers_in}
 use Rattle.occ_term.specs.Typing.{CellsHave, SubscriptsLeave, ItemHas}
-use Rattle.occ_term.specs.TermTyping.{Declared, DeclarationHas, DeclarationsHave, ReplicatorHas, IsKept}
-use Rattle.occ_check.specs.Scope.{keep, once, Row, row_from, assignable, kept as unassignable, Carried, Known, a_value, a_string, some_cells, some_channels, a_protocol, Name, Names, Pairs}
+use Rattle.occ_term.specs.TermTyping.{Declared, DeclarationsHave, ReplicatorHas}
+use Rattle.occ_check.specs.Scope.{keep, once, Row, assignable, kept as unassignable, Carried, Known, a_value, a_string, some_cells, some_channels, a_protocol, Name, Names}
 use Rattle.occ_check.specs.Numbers.{Numbers, cell, component_names, more_cells, more_channels, room}
-use Rattle.occ_check.specs.Constants.{constant, is_within}
-use Rattle.occ_check.specs.Operators.{primitive_of, is_same_type}
-use Rattle.occ_check.specs.Expressions.{Typed, single, whole, typed, typed_as, typed_subscripts, joined}
-use Rattle.occ_check.specs.Types.{sizes_of, carried_of, protocol_of, open_sizes_of, takes_sizes}
+use Rattle.occ_check.specs.Constants.{constant}
+use Rattle.occ_check.specs.Operators.{primitive_of}
+use Rattle.occ_check.specs.Expressions.{Typed, single, whole, typed, typed_as, typed_subscripts}
+use Rattle.occ_check.specs.Types.{sizes_of, carried_of, protocol_of, open_sizes_of}
 use Rattle.occ_check.specs.Items.{as_variable, as_channels}
 use Rattle.occ_check.specs.Declarations.{Opened, with_others, variable_declared, channel_declared, each_declared, names_declared, local_of, value_named, array_named, named, has_type, of_value_type, value_declared, protocol_declared, Indexed, indexed}
-use Rattle.occ_check.specs.Calls.{Wanted, wants_value, wants_variable, wants_channels, Evaluated, one_evaluated, all_evaluated, part_of, is_same_carried, as_named, actual_list, actual_of, all_actuals, bound}
+use Rattle.occ_check.specs.Calls.{Wanted, wants_value, wants_variable, wants_channels, Evaluated, one_evaluated, all_evaluated, as_named, actual_list, actual_of, all_actuals, bound}
 use Rattle.occ_check.specs.Growth.{Grown}
-use Rattle.occ_check.specs.Having.{KnownHas, NamesHave, TypedHas, RowHas, ChannelsHave, SubscriptsHave}
+use Rattle.occ_check.specs.Having.{KnownHas, NamesHave, TypedHas, SubscriptsHave}
 use Rattle.occ_check.proofs.Steps.{bind_some, some_is}
-use Rattle.occ_check.proofs.Counting.{kept, both_true}
+use Rattle.occ_check.proofs.Counting.{kept}
 use Rattle.occ_check.proofs.Scopes.{EachPair, each_joined, pairs_mapped}
 use Rattle.occ_check.proofs.Growth.{cells_length, growing}
 use Rattle.occ_check.proofs.Covering.{Covers, covers_before, fewer_before, new_cells_have, new_channels_have, constant_typed}
-use Rattle.occ_check.proofs.Stepping.{each_steps, variable_steps, channel_steps, one_steps, evaluated_steps, actual_steps, actuals_steps}
+use Rattle.occ_check.proofs.Stepping.{each_steps, variable_steps, channel_steps, evaluated_steps, actual_steps, actuals_steps}
 use Rattle.occ_check.proofs.TypedExpressions.{typed_has, subscripts_have, leaves_joined, in_one}
 use Rattle.occ_check.proofs.TypedLines.{variable_row, channels_row, typed_as_has}
 
@@ -68,10 +66,11 @@ module _ (d : Declared) where
   declarations_joined (x ∷ hs) gs h g = (h.0, declarations_joined hs gs h.1 g)
 
   both_have : (a b : Opened) → Grown a.numbers b.numbers → OpenedHas d a → OpenedHas d b → OpenedHas d (with_others a b)
-  both_have a b g h k =
-      (each_joined (Fits d (length b.numbers.cells)) a.names b.names
-          (pairs_mapped (Fits d (length a.numbers.cells)) (Fits d (length b.numbers.cells)) (fits_later d (length a.numbers.cells) (length b.numbers.cells) (fewer_before a.numbers b.numbers g)) a.names h.0) k.0,
-        declarations_joined a.heads b.heads h.1 k.1)
+  both_have a b g h k = (
+    each_joined (Fits d (length b.numbers.cells)) a.names b.names
+        (pairs_mapped (Fits d (length a.numbers.cells)) (Fits d (length b.numbers.cells)) (fits_later d (length a.numbers.cells) (length b.numbers.cells) (fewer_before a.numbers b.numbers g)) a.names h.0) k.0,
+    declarations_joined a.heads b.heads h.1 k.1,
+  )
 
   -- ---- new cells
 
@@ -91,7 +90,7 @@ module _ (d : Declared) where
       let r = bind_some (room depth (size_of_declaration (Clearing (length n.cells) (product sizes))) m.0) _ o m.2 in
       subst (λ (y : Opened). Covers d y.numbers → OpenedHas d y) (some_is _ o r.2)
       (λ h. let c = cells_then_room type x sizes depth (size_of_declaration (Clearing (length n.cells) (product sizes))) n m.0 r.0 m.1 r.1 h in
-        ((((c.0, refl), c.1), tt), ((type, c.0), tt)))
+      ((((c.0, refl), c.1), tt), ((type, c.0), tt)))
 
   channel_opens : (c : Carried) (sizes : List ℕ) (x : Name) (n : Numbers) (o : Opened) → channel_declared c sizes x n ≡ Some o → Covers d o.numbers → OpenedHas d o
   channel_opens c sizes x n o e =
@@ -109,7 +108,7 @@ module _ (d : Declared) where
       let b = bind_some (each_declared f xs a.0.numbers) _ o a.2 in
       subst (λ (y : Opened). Covers d y.numbers → OpenedHas d y) (some_is _ o b.2)
       (λ h. let k = each_steps Grown growing f s xs a.0.numbers b.0 b.1 in
-        both_have a.0 b.0 k (g x n a.0 a.1 (covers_before d a.0.numbers b.0.numbers k h)) (each_opens f s g xs a.0.numbers b.0 b.1 h))
+      both_have a.0 b.0 k (g x n a.0 a.1 (covers_before d a.0.numbers b.0.numbers k h)) (each_opens f s g xs a.0.numbers b.0 b.1 h))
 
   pub names_open : (ns : Names) (line depth : ℕ) (es : Expressions) (sort : L.Sort) (xs : List Name) (n : Numbers) (o : Opened) → names_declared ns line depth es sort xs n ≡ Some o → Covers d o.numbers → OpenedHas d o
   names_open ns line depth es (L.of_data type) xs n o e =
@@ -130,7 +129,7 @@ module _ (d : Declared) where
       let r = bind_some (room depth (size_of_declaration (Naming (length n.cells) value)) m.0) _ o m.2 in
       subst (λ (y : Opened). Covers d y.numbers → OpenedHas d y) (some_is _ o r.2)
       (λ h. let c = cells_then_room type x sizes depth (size_of_declaration (Naming (length n.cells) value)) n m.0 r.0 m.1 r.1 h in
-        ((((c.0, refl), tt), tt), ((type, sizes, i, c.0), tt)))
+      ((((c.0, refl), tt), tt), ((type, sizes, i, c.0), tt)))
 
   value_opens : (x : Name) (depth : ℕ) (type : Primitive) (e : T.Expression) (v : Option ℤ) (n : Numbers) (o : Opened) → constant e ≡ v → TypedHas d.types (single type e) → value_named x depth type e v n ≡ Some o → Covers d o.numbers → OpenedHas d o
   value_opens x depth type e (Some v) n o k t g = subst (λ (y : Opened). Covers d y.numbers → OpenedHas d y) (some_is _ o g) (λ h. (((constant_typed d.types e type v t k, tt), tt), tt))
@@ -166,7 +165,7 @@ module _ (d : Declared) where
       let r = bind_some (room depth (size_of_declaration (Naming (length n.cells) (OfOne Int e))) m.0) _ a m.2 in
       subst (λ (y : Evaluated). Covers d y.numbers → SubscriptsLeave d.types y.subscripts (size ∷ sizes) sizes × DeclarationsHave d y.heads) (some_is _ a r.2)
       (λ h. let c = cells_then_room Int x [] depth (size_of_declaration (Naming (length n.cells) (OfOne Int e))) n m.0 r.0 m.1 r.1 h in
-        ((c.0 (length n.cells) (in_one (length n.cells)), refl), ((Int, [], (refl, t), c.0), tt)))
+      ((c.0 (length n.cells) (in_one (length n.cells)), refl), ((Int, [], (refl, t), c.0), tt)))
 
   evaluated_has : (x : Name) (depth : ℕ) (es : T.Subscripts) (sizes : List ℕ) (n : Numbers) (a : Evaluated) → SubscriptsHave d.types es → all_evaluated x depth es sizes n ≡ Some a → Covers d a.numbers
       → SubscriptsLeave d.types a.subscripts sizes a.left × DeclarationsHave d a.heads
@@ -178,9 +177,9 @@ module _ (d : Declared) where
       let c = bind_some (all_evaluated x depth es sizes b.0.numbers) _ a b.2 in
       subst (λ (y : Evaluated). Covers d y.numbers → SubscriptsLeave d.types y.subscripts (size ∷ sizes) y.left × DeclarationsHave d y.heads) (some_is _ a c.2)
       (λ h. let k = evaluated_steps Grown growing x depth es sizes b.0.numbers c.0 c.1 in
-        let p = one_has x depth size sizes e (constant e) n b.0 refl s.0 b.1 (covers_before d b.0.numbers c.0.numbers k h) in
-        let q = evaluated_has x depth es sizes b.0.numbers c.0 s.1 c.1 h in
-        (leaves_joined d.types b.0.subscripts c.0.subscripts (size ∷ sizes) sizes c.0.left p.0 q.0, declarations_joined b.0.heads c.0.heads p.1 q.1))
+      let p = one_has x depth size sizes e (constant e) n b.0 refl s.0 b.1 (covers_before d b.0.numbers c.0.numbers k h) in
+      let q = evaluated_has x depth es sizes b.0.numbers c.0 s.1 c.1 h in
+      (leaves_joined d.types b.0.subscripts c.0.subscripts (size ∷ sizes) sizes c.0.left p.0 q.0, declarations_joined b.0.heads c.0.heads p.1 q.1))
 
   -- ---- under names that have what is declared, which lie below these numbers
 
@@ -215,10 +214,10 @@ module _ (d : Declared) where
         let a = bind_some (all_evaluated x depth t.0 r.0.1.left n) _ o t.2 in
         subst (λ (y : Opened). Covers d y.numbers → OpenedHas d y) (kept _ _ o a.2).1
         (λ c. let p = evaluated_has x depth t.0 r.0.1.left n a.0 (subscripts_have d ns have line v.0.1 t.0 t.1) a.1 c in
-          let q = variable_row d ns have line k.0 r.0 (have v.0.0 k.0 k.1) r.1 in
-          let l = variable_below k.0 r.0 (h v.0.0 k.0 k.1).1 r.1 in
-          let f = fewer_before n a.0.numbers (evaluated_steps Grown growing x depth t.0 r.0.1.left n a.0 a.1) in
-          ((((q.0, leaves_joined d.types r.0.1.subscripts a.0.subscripts r.0.1.sizes r.0.1.left a.0.left q.1 p.0), omega (arith, l, f, b)), tt), p.1))
+        let q = variable_row d ns have line k.0 r.0 (have v.0.0 k.0 k.1) r.1 in
+        let l = variable_below k.0 r.0 (h v.0.0 k.0 k.1).1 r.1 in
+        let f = fewer_before n a.0.numbers (evaluated_steps Grown growing x depth t.0 r.0.1.left n a.0 a.1) in
+        ((((q.0, leaves_joined d.types r.0.1.subscripts a.0.subscripts r.0.1.sizes r.0.1.left a.0.left q.1 p.0), omega (arith, l, f, b)), tt), p.1))
     actual_opens depth x (wants_channels sizes c) e n o b g =
         let v = bind_some (as_named e) _ o g in
         let k = bind_some (ns v.0.0) _ o v.2 in
@@ -227,8 +226,8 @@ module _ (d : Declared) where
         let a = bind_some (all_evaluated x depth t.0 r.0.1.left n) _ o t.2 in
         subst (λ (y : Opened). Covers d y.numbers → OpenedHas d y) (kept _ _ o a.2).1
         (λ c. let p = evaluated_has x depth t.0 r.0.1.left n a.0 (subscripts_have d ns have line v.0.1 t.0 t.1) a.1 c in
-          let q = channels_row d ns have line k.0 r.0 (have v.0.0 k.0 k.1) r.1 in
-          ((((q.0, leaves_joined d.types r.0.1.subscripts a.0.subscripts r.0.1.sizes r.0.1.left a.0.left q.1 p.0), tt), tt), p.1))
+        let q = channels_row d ns have line k.0 r.0 (have v.0.0 k.0 k.1) r.1 in
+        ((((q.0, leaves_joined d.types r.0.1.subscripts a.0.subscripts r.0.1.sizes r.0.1.left a.0.left q.1 p.0), tt), tt), p.1))
 
     actuals_open : (depth : ℕ) (ws : List (Name × Wanted)) (es : List Expression) (n : Numbers) (o : Opened) → n₀ ≤ length n.cells → all_actuals ns line depth ws es n ≡ Some o → Covers d o.numbers → OpenedHas d o
     unfolding all_actuals
@@ -240,8 +239,8 @@ module _ (d : Declared) where
         let b = bind_some (all_actuals ns line depth fs es a.0.numbers) _ o a.2 in
         subst (λ (y : Opened). Covers d y.numbers → OpenedHas d y) (some_is _ o b.2)
         (λ c. let k = actuals_steps Grown growing ns line depth fs es a.0.numbers b.0 b.1 in
-          let q = fewer_before n a.0.numbers (actual_steps Grown growing ns line depth f.0 f.1 x n a.0 a.1) in
-          both_have a.0 b.0 k (actual_opens depth f.0 f.1 x n a.0 l a.1 (covers_before d a.0.numbers b.0.numbers k c)) (actuals_open depth fs es a.0.numbers b.0 (omega (arith, l, q)) b.1 c))
+        let q = fewer_before n a.0.numbers (actual_steps Grown growing ns line depth f.0 f.1 x n a.0 a.1) in
+        both_have a.0 b.0 k (actual_opens depth f.0 f.1 x n a.0 l a.1 (covers_before d a.0.numbers b.0.numbers k c)) (actuals_open depth fs es a.0.numbers b.0 (omega (arith, l, q)) b.1 c))
 
     pub bound_opens : (depth : ℕ) (ws : List (Name × Wanted)) (es : L.Actuals) (n : Numbers) (o : Opened) → n₀ ≤ length n.cells → bound ns line depth ws es n ≡ Some o → Covers d o.numbers → OpenedHas d o
     bound_opens depth ws es n o l e =
@@ -259,4 +258,4 @@ module _ (d : Declared) where
         let o = bind_some (room depth (size_of_replicator (replicator line (length n.cells) b.0 k.0) no_size) m.0) _ i m.2 in
         subst (λ (y : Indexed). Covers d y.numbers → ReplicatorHas d y.replicator × EachPair (Fits d (length y.numbers.cells)) y.names) (some_is _ i o.2)
         (λ c. let s = cells_then_room Int x [] depth (size_of_replicator (replicator line (length n.cells) b.0 k.0) no_size) n m.0 o.0 m.1 o.1 c in
-          ((s.0 (length n.cells) (in_one (length n.cells)), typed_as_has d ns have line Int base b.0 b.1, typed_as_has d ns have line Int count k.0 k.1), (((s.0, refl), tt), tt)))
+        ((s.0 (length n.cells) (in_one (length n.cells)), typed_as_has d ns have line Int base b.0 b.1, typed_as_has d ns have line Int count k.0 k.1), (((s.0, refl), tt), tt)))

@@ -1,6 +1,6 @@
 -- What a process unfolds to, under a scope that has what is declared at the end, is of its types.
-use Rattle.std.proofs.Common.{◌≡◌, ◌≤◌, ◌<◌, ℕ, zero, suc, ◌+◌, List, [], ◌∷◌, ◌++◌, length, Bool, true, false, IsTrue, Option, Some, None, refl, sym, subst, ap, ◌∙◌, arith}
-use Rattle.std.specs.Prelude.{ℤ, pos, ◌+ℤ◌}
+use Rattle.std.proofs.Common.{◌≡◌, ◌<◌, ℕ, ◌+◌, List, [], ◌∷◌, length, IsTrue, Some, subst, arith}
+use Rattle.std.specs.Prelude.{ℤ}
 use Rattle.occ_tree.specs.Many.{◌>>=◌}
 use Rattle.occ_tree.specs.Lines.Trees as L
 use Rattle.occ_tree.specs.Lines.Heads.{ProcessHead, ArmHead, ChoiceHead}
@@ -15,20 +15,17 @@ use Rattle.occ_term.specs.Terms as T
 use Rattle.occ_term.specs.Terms.{Term, Terms, Branches, Arms, no_arms, skip_arm, input_arm, declared_arms, each_arm, Choices, no_choices, or_choice, declared_choices, each_choice, Variants, no_variants, or_variant, Options, no_options, or_option, or_else, Declaration, Clearing, Naming, Place, replicator}
 use Rattle.occ_term.specs.Sizes as Sizes
 use Rattle.occ_term.specs.Sizes.{Size, no_size, size_of_expression, size_of_place, size_of_targets, size_of_constants, size_of_replicator}
-use Rattle.occ_term.specs.Uses.{Uses, uses_of, uses_of_arms, uses_of_choices, numbers_in}
-use Rattle.occ_term.specs.Values.{span}
+use Rattle.occ_term.specs.Uses.{Uses, uses_of, uses_of_arms, uses_of_choices}
 use Rattle.occ_term.specs.Typing.{is_number, HasType}
 use Rattle.occ_term.specs.TypedSteps.{IndicesHave}
-use Rattle.occ_term.specs.TermTyping.{Declared, ChannelHas, DeclarationHas, DeclarationsHave, ReplicatorHas, IsKept, ReceptionHas, TermHas, TermsHave, BranchesHave, ArmsHave, ChoicesHave, VariantsHave, OptionsHave}
-use Rattle.occ_check.specs.Scope.{each_of, names_of, within, proc, Names, Known, a_value, a_string, some_cells, some_channels, a_protocol, assignable, kept as unassignable}
+use Rattle.occ_term.specs.TermTyping.{Declared, ChannelHas, DeclarationHas, DeclarationsHave, IsKept, ReceptionHas, TermHas, TermsHave, BranchesHave, ArmsHave, ChoicesHave, VariantsHave, OptionsHave}
+use Rattle.occ_check.specs.Scope.{names_of, within, proc, Names, Known, a_value, a_string, some_cells, some_channels, a_protocol, assignable, kept as unassignable}
 use Rattle.occ_check.specs.Numbers.{Numbers, more_cells, room}
-use Rattle.occ_check.specs.Constants.{constant, a_count}
 use Rattle.occ_check.specs.Expressions.{typed, typed_as, constant_as, as_single}
-use Rattle.occ_check.specs.Items.{channel_of}
-use Rattle.occ_check.specs.Declarations.{Indexed, indexed, index_of, copies_of}
+use Rattle.occ_check.specs.Declarations.{Indexed, indexed, index_of}
 use Rattle.occ_check.specs.Actions.{headed, followed, as_term, Listed, plain_list, tagged_list, as_reception, size_of_list, arms_behind, choices_behind, arms_then, choices_then, variants_then, options_then, with_tags, selector, Chosen}
 use Rattle.occ_check.specs.Growth.{Grown}
-use Rattle.occ_check.specs.Having.{KnownHas, NamesHave}
+use Rattle.occ_check.specs.Having.{NamesHave}
 use Rattle.occ_check.specs.Performing.{Entered}
 use Rattle.occ_check.specs.Unfolding.{Procedure, procedure, Procedures, DeclaresItem, declares_value, declares_protocol, declares_procedure, Declares, declares_names, declares_item, DeclareAll, no_declaration, one_declaration, Unfolding, unfolds, Performs, skips, stops, assigns, inputs, outputs, calls, takes_variants, sequences, replicates_sequence, runs_beside, replicates_branch, alternates, replicates_alternation, conditions, replicates_conditional, selects, loops, InTurn, no_process, one_process, Beside, no_branch, one_branch, Copies, no_copy, one_copy, Arm, behind_arm, Offers, awaits, is_ready, awaits_variants, nests_arms, replicates_arm, EachArm, under_index, AllArms, no_arm, one_arm, Choice, behind_choice, Tests, tests, nests_choices, replicates_choice, EachChoice, under_choice_index, AllChoices, no_choice, one_choice, Variant, takes, AllVariants, no_variant, one_variant, OneOption, is_one_of, is_none_of, AllOptions, no_option, one_option}
 use Rattle.occ_check.proofs.Steps.{bind_some, some_is}
@@ -37,10 +34,10 @@ use Rattle.occ_check.proofs.Scopes.{EachKnown, EachPair, each_within, each_mappe
 use Rattle.occ_check.proofs.Growth.{growing, processes_grown}
 use Rattle.occ_check.proofs.Covering.{Covers, covers_before, fewer_before, in_span, constant_typed}
 use Rattle.occ_check.proofs.Stepping.{bound_steps, indexed_steps, opening_steps, one_declared_steps, declared_steps}
-use Rattle.occ_check.proofs.TreeSteps.{unfolding_steps, performs_steps, in_turn_steps, beside_steps, copies_steps, arm_steps, offers_steps, each_arm_steps, arms_steps, choice_steps, tests_steps, each_choice_steps, choices_steps, variant_steps, variants_steps, option_steps, options_steps}
+use Rattle.occ_check.proofs.TreeSteps.{unfolding_steps, performs_steps, in_turn_steps, beside_steps, copies_steps, arm_steps, offers_steps, arms_steps, choice_steps, tests_steps, choices_steps, variant_steps, variants_steps, option_steps, options_steps}
 use Rattle.occ_check.proofs.TypedExpressions.{single_has, typed_has}
 use Rattle.occ_check.proofs.TypedLines.{All, all_of, channel_has, output_has, stored_has, ListedHas, received_has, input_has, assigned_has, test_has, typed_as_has}
-use Rattle.occ_check.proofs.TypedNames.{LiesBelow, Fits, fits_later, OpenedHas, declarations_joined, names_open, protocol_opens, value_declared_opens, bound_opens, indexed_opens, cells_then_room}
+use Rattle.occ_check.proofs.TypedNames.{Fits, fits_later, declarations_joined, names_open, protocol_opens, value_declared_opens, bound_opens, indexed_opens, cells_then_room}
 use Rattle.occ_check.proofs.Writes.{Not, is_false, Avoids}
 use Rattle.occ_check.proofs.WritesTree.{unfolding_avoids, arm_avoids, choice_avoids}
 use Rattle.occ_check.proofs.Copies.{copies_typed, first_typed, next_typed}
@@ -182,8 +179,8 @@ module _ (d : Declared) where
       let o = bind_some (room depth (size_of_replicator (replicator line (length n.cells) b.0 k.0) no_size) m.0) _ i m.2 in
       subst (λ (y : Indexed). Covers d y.numbers → IndexIsNew n y) (some_is _ i o.2)
       (λ c. let s = cells_then_room d Int x [] depth (size_of_replicator (replicator line (length n.cells) b.0 k.0) no_size) n m.0 o.0 m.1 o.1 c in
-        let l = s.1 in
-        record { kept_in = λ u q. is_false (u.writes (length n.cells)) q; avoids = (tt, tt); later_cells = omega (arith, l) })
+      let l = s.1 in
+      record { kept_in = λ u q. is_false (u.writes (length n.cells)) q; avoids = (tt, tt); later_cells = omega (arith, l) })
 
   index_avoids : (sc : Procedures) (n : Numbers) (i : Indexed) → In sc n → IndexIsNew n i → EachKnown (Avoids (length n.cells)) (within i.names sc)
   index_avoids sc n i h g = each_within (Avoids (length n.cells)) i.names sc g.avoids (each_mapped (Fits d (length n.cells)) (Avoids (length n.cells)) (apart_from (length n.cells)) sc h)
@@ -214,7 +211,7 @@ module _ (d : Declared) where
         let k = bound_opens d (names_of sc) (length n.cells) (named sc n h) line (depth + 1) ws es n b (omega arith) a (covers_before d b.numbers m g q) in
         headed_has b.heads t k.1
         (unfolding_has u (later (within b.names outer) b.numbers m g
-            (each_within (Fits d (length b.numbers.cells)) b.names outer k.0 (later outer n b.numbers s (each_behind (Fits d (length n.cells)) sc f (proc (procedure declared fs body)) outer h e)))) c)
+        (each_within (Fits d (length b.numbers.cells)) b.names outer k.0 (later outer n b.numbers s (each_behind (Fits d (length n.cells)) sc f (proc (procedure declared fs body)) outer h e)))) c)
     performs_has (takes_variants {sc = sc} {line = line} {depth = depth} {n = n} {m = m} {v = v} {c = x} {p = p} {xs = xs} e w r u) h c =
         (p, subst (λ y. ChannelHas d x.1 y) (tags_same x.0 p w) (channel_has d (names_of sc) (have sc n h) line v x e), variants_have u (roomy sc depth (Sizes.node (size_of_place x.1)) n m r h) c)
     performs_has (sequences {sc = sc} {depth = depth} {n = n} {m = m} r u) h c = in_turn_have u (roomy sc depth (Sizes.node no_size) n m r h) c
@@ -222,9 +219,11 @@ module _ (d : Declared) where
         let q = roomy sc depth (Sizes.node no_size) n m o h in
         let b = covers_before d i.numbers l (unfolding_steps Grown growing processes_grown u) c in
         let k = indexed_opens d (names_of sc) (length m.cells) (named sc m q) line (depth + 1) r m i x b in
-        let g = index_is_new (names_of sc) line (depth + 1) r m i x b in
-        (k.0, g.kept_in (uses_of t) (unfolding_avoids (length m.cells) u (index_avoids sc m i q g) g.later_cells),
-          unfolding_has u (within_index sc m i q (indexed_steps Grown growing (names_of sc) line (depth + 1) r m i x) k.1) c)
+        let g = index_is_new (names_of sc) line (depth + 1) r m i x b in (
+          k.0,
+          g.kept_in (uses_of t) (unfolding_avoids (length m.cells) u (index_avoids sc m i q g) g.later_cells),
+          unfolding_has u (within_index sc m i q (indexed_steps Grown growing (names_of sc) line (depth + 1) r m i x) k.1) c,
+        )
     performs_has (runs_beside {sc = sc} {depth = depth} {n = n} {m = m} r u) h c = beside_have u (roomy sc depth (Sizes.node no_size) n m r h) c
     performs_has (replicates_branch {sc = sc} {line = line} {depth = depth} {n = n} {m = m} {r = r} {c = x} e o u) h c =
         copies_have u (copies_typed d (names_of sc) (have sc n h) line r x e) (roomy sc depth (Sizes.node no_size) n m o h) c
@@ -253,9 +252,10 @@ module _ (d : Declared) where
         → IndicesHave i count → In sc n → Covers d m → BranchesHave d bs
     copies_have no_copy k h c = tt
     copies_have (one_copy {sc = sc} {k = count} {r = r} {i = i} {n = n} {o = o} {m = m} {l = l} e u us) k h c =
-        let q = later sc n o (processes_grown n o e) h in
-        (unfolding_has u (each_within (Fits d (length o.cells)) (index_of r i) sc ((first_typed count i k, tt), tt) q) (covers_before d m l (copies_steps Grown growing processes_grown us) c),
-          copies_have us (next_typed count i k) (later sc o m (unfolding_steps Grown growing processes_grown u) q) c)
+        let q = later sc n o (processes_grown n o e) h in (
+          unfolding_has u (each_within (Fits d (length o.cells)) (index_of r i) sc ((first_typed count i k, tt), tt) q) (covers_before d m l (copies_steps Grown growing processes_grown us) c),
+          copies_have us (next_typed count i k) (later sc o m (unfolding_steps Grown growing processes_grown u) q) c,
+        )
 
     arm_has : {sc : Procedures} {depth : ℕ} {n m : Numbers} {a : Node arm} {arms : Arms} → Arm sc depth n a arms m → In sc n → Covers d m → ArmsHave d arms
     arm_has (behind_arm {n = n} {l = l} {d = e} {arms = arms} ds u) h c =
@@ -264,15 +264,22 @@ module _ (d : Declared) where
 
     offers_have : {sc : Procedures} {line depth : ℕ} {n m : Numbers} {h : ArmHead} {b : Body (under arm h)} {arms : Arms} → Offers sc line depth n h b arms m → In sc n → Covers d m → ArmsHave d arms
     offers_have (awaits {sc = sc} {line = line} {depth = depth} {n = n} {m = m} {test = test} {i = i} {e = e} {c = x} {t = t} a g r u) h c =
-        let k = received_has d (names_of sc) (have sc n h) line i x g in
-        (test_has d (names_of sc) (have sc n h) line test e a,
-          (k.0, k.1, reception_has k.0 x.1 t k.2 (unfolding_has u (roomy sc depth (Sizes.node (Sizes.beside (size_of_expression e) (Sizes.beside (size_of_place x.0) (size_of_list x.1)))) n m r h) c)), tt)
+        let k = received_has d (names_of sc) (have sc n h) line i x g in (
+          test_has d (names_of sc) (have sc n h) line test e a,
+          (k.0, k.1, reception_has k.0 x.1 t k.2 (unfolding_has u (roomy sc depth (Sizes.node (Sizes.beside (size_of_expression e) (Sizes.beside (size_of_place x.0) (size_of_list x.1)))) n m r h) c)),
+          tt,
+        )
     offers_have (is_ready {sc = sc} {line = line} {depth = depth} {n = n} {m = m} {test = test} {e = e} a r u) h c =
         (typed_as_has d (names_of sc) (have sc n h) line Boolean test e a, unfolding_has u (roomy sc depth (Sizes.node (size_of_expression e)) n m r h) c, tt)
-    offers_have (awaits_variants {sc = sc} {line = line} {depth = depth} {n = n} {m = m} {test = test} {v = v} {e = e} {c = x} {p = p} a g w r u) h c =
-        (test_has d (names_of sc) (have sc n h) line test e a,
-          (p, subst (λ y. ChannelHas d x.1 y) (tags_same x.0 p w) (channel_has d (names_of sc) (have sc n h) line v x g),
-            variants_have u (roomy sc depth (Sizes.node (Sizes.beside (size_of_expression e) (size_of_place x.1))) n m r h) c), tt)
+    offers_have (awaits_variants {sc = sc} {line = line} {depth = depth} {n = n} {m = m} {test = test} {v = v} {e = e} {c = x} {p = p} a g w r u) h c = (
+      test_has d (names_of sc) (have sc n h) line test e a,
+      (
+        p,
+        subst (λ y. ChannelHas d x.1 y) (tags_same x.0 p w) (channel_has d (names_of sc) (have sc n h) line v x g),
+        variants_have u (roomy sc depth (Sizes.node (Sizes.beside (size_of_expression e) (size_of_place x.1))) n m r h) c,
+      ),
+      tt,
+    )
     offers_have (nests_arms u) h c = arms_have u h c
     offers_have (replicates_arm u) h c = each_arm_has u h c
 
@@ -280,9 +287,12 @@ module _ (d : Declared) where
     each_arm_has (under_index {sc = sc} {line = line} {depth = depth} {n = n} {l = l} {r = r} {i = i} {arms = arms} x u) h c =
         let b = covers_before d i.numbers l (arm_steps Grown growing processes_grown u) c in
         let k = indexed_opens d (names_of sc) (length n.cells) (named sc n h) line depth r n i x b in
-        let g = index_is_new (names_of sc) line depth r n i x b in
-        (k.0, g.kept_in (uses_of_arms arms) (arm_avoids (length n.cells) u (index_avoids sc n i h g) g.later_cells),
-          arm_has u (within_index sc n i h (indexed_steps Grown growing (names_of sc) line depth r n i x) k.1) c, tt)
+        let g = index_is_new (names_of sc) line depth r n i x b in (
+          k.0,
+          g.kept_in (uses_of_arms arms) (arm_avoids (length n.cells) u (index_avoids sc n i h g) g.later_cells),
+          arm_has u (within_index sc n i h (indexed_steps Grown growing (names_of sc) line depth r n i x) k.1) c,
+          tt,
+        )
 
     arms_have : {sc : Procedures} {depth : ℕ} {n m : Numbers} {xs : Nodes arm} {arms : Arms} → AllArms sc depth n xs arms m → In sc n → Covers d m → ArmsHave d arms
     arms_have no_arm h c = tt
@@ -304,9 +314,12 @@ module _ (d : Declared) where
     each_choice_has (under_choice_index {sc = sc} {line = line} {depth = depth} {n = n} {l = l} {r = r} {i = i} {choices = choices} x u) h c =
         let b = covers_before d i.numbers l (choice_steps Grown growing processes_grown u) c in
         let k = indexed_opens d (names_of sc) (length n.cells) (named sc n h) line depth r n i x b in
-        let g = index_is_new (names_of sc) line depth r n i x b in
-        (k.0, g.kept_in (uses_of_choices choices) (choice_avoids (length n.cells) u (index_avoids sc n i h g) g.later_cells),
-          choice_has u (within_index sc n i h (indexed_steps Grown growing (names_of sc) line depth r n i x) k.1) c, tt)
+        let g = index_is_new (names_of sc) line depth r n i x b in (
+          k.0,
+          g.kept_in (uses_of_choices choices) (choice_avoids (length n.cells) u (index_avoids sc n i h g) g.later_cells),
+          choice_has u (within_index sc n i h (indexed_steps Grown growing (names_of sc) line depth r n i x) k.1) c,
+          tt,
+        )
 
     choices_have : {sc : Procedures} {depth : ℕ} {n m : Numbers} {xs : Nodes choice} {choices : Choices} → AllChoices sc depth n xs choices m → In sc n → Covers d m → ChoicesHave d choices
     choices_have no_choice h c = tt
@@ -329,9 +342,12 @@ module _ (d : Declared) where
     option_has (is_one_of {sc = sc} {depth = depth} {line = line} {n = n} {o = o} {m = m} {l = l} {type = type} {e = x} {es = es} {d = e} {vs = vs} r ds g f q u) h c =
         let b = covers_before d m l (unfolding_steps Grown growing processes_grown u) c in
         let a = growing.by_room (depth + 1) (size_of_constants vs) e.numbers m q in
-        let k = all_have ds (roomy sc depth (Sizes.node no_size) n o r h) (covers_before d e.numbers m a b) in
-        (all_of_type type vs (all_of (λ v. IsTrue (is_of type v)) (constant_as (names_of e.scope) line type) (constant_has (names_of e.scope) (have e.scope e.numbers k.0) line type) (x ∷ es) vs g),
-          k.1, unfolding_has u (later e.scope e.numbers m a k.0) c, tt)
+        let k = all_have ds (roomy sc depth (Sizes.node no_size) n o r h) (covers_before d e.numbers m a b) in (
+          all_of_type type vs (all_of (λ v. IsTrue (is_of type v)) (constant_as (names_of e.scope) line type) (constant_has (names_of e.scope) (have e.scope e.numbers k.0) line type) (x ∷ es) vs g),
+          k.1,
+          unfolding_has u (later e.scope e.numbers m a k.0) c,
+          tt,
+        )
     option_has (is_none_of {sc = sc} {depth = depth} {n = n} {o = o} {l = l} {d = e} r ds f u) h c =
         let k = all_have ds (roomy sc depth (Sizes.node no_size) n o r h) (covers_before d e.numbers l (unfolding_steps Grown growing processes_grown u) c) in
         (k.1, unfolding_has u k.0 c, tt)

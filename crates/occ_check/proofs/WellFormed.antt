@@ -1,21 +1,16 @@
 -- Whatever a program unfolds to is well-formed.
-use Rattle.std.proofs.Common.{◌≡◌, ◌≤◌, ◌<◌, ℕ, zero, suc, ◌+◌, List, [], ◌∷◌, ◌++◌, length, Bool, true, false, IsTrue, Option, Some, None, refl, sym, subst, ap, ◌∙◌, arith}
-use Rattle.std.specs.Prelude.{map, slice_get, nat_le, ◌&&◌}
+use Rattle.std.proofs.Common.{◌≡◌, ◌≤◌, ◌<◌, ℕ, zero, suc, ◌+◌, List, [], ◌∷◌, length, Some, refl, sym, subst, ap, ◌∙◌, arith}
+use Rattle.std.specs.Prelude.{map, slice_get, nat_le}
 use Rattle.std.proofs.lemmas.Bool.{leb-true}
-use Rattle.occ_tree.specs.Many.{◌>>=◌}
 use Rattle.occ_tree.specs.Lines.Trees as L
 use Rattle.occ_tree.specs.Processes.Trees.{Item}
 use Rattle.occ_term.specs.declared.primitive.Primitive.TheVariants.{Byte}
-use Rattle.occ_term.specs.declared.protocol.Protocol.{Protocol}
 use Rattle.occ_term.specs.declared.protocol.Protocol.TheVariants.{Simple}
-use Rattle.occ_term.specs.declared.names.Channel.{Channel}
-use Rattle.occ_term.specs.Terms.{Term, Declaration}
-use Rattle.occ_term.specs.Uses.{numbers_in}
-use Rattle.occ_term.specs.Values.{span}
+use Rattle.occ_term.specs.Terms.{Term}
 use Rattle.occ_term.specs.TermTyping.{Declared, DeclarationsHave, TermHas}
 use Rattle.occ_term.specs.Unfolding.{declared, byte_channel, first_channels, IsWellFormed}
 use Rattle.occ_term.specs.Unfolding as Unfolded
-use Rattle.occ_check.specs.Scope.{keep, once, Name, Names, within}
+use Rattle.occ_check.specs.Scope.{Name}
 use Rattle.occ_check.specs.Numbers.{Numbers, at_start}
 use Rattle.occ_check.specs.Programs.{is_byte_channel, other_names, byte_channels, main_names, channels_from}
 use Rattle.occ_check.specs.ProgramUnfolding.{DeclareItems, no_item, one_item, ProgramUnfolding, program, UnfoldsTo}
@@ -75,7 +70,7 @@ module _ (d : Declared) where
       let q = later d e.scope e.numbers m g k.0 in
       headed_has d e.heads t k.1
       (unfolding_has d u (each_within (Fits d (length m.cells)) (channels_from 0 xs) e.scope
-          (channels_fit (length m.cells) (covers_before d at_start e.numbers (items_steps Grown growing ds) s) 0 xs (omega (arith, f))) q) c)
+      (channels_fit (length m.cells) (covers_before d at_start e.numbers (items_steps Grown growing ds) s) 0 xs (omega (arith, f))) q) c)
 
 -- ---- well-formed
 

@@ -1,8 +1,7 @@
 -- What a line, or what declarations enter, doesn't write: a cell that is given out before, and that no variable of the scope has.
-use Rattle.std.proofs.Common.{◌≡◌, ◌≤◌, ◌<◌, ℕ, ◌+◌, ◌*◌, List, [], ◌∷◌, ◌++◌, length, Bool, true, false, IsTrue, Option, Some, None, refl, sym, subst, ap, ◌∙◌, arith}
+use Rattle.std.proofs.Common.{◌≡◌, ◌≤◌, ◌<◌, ℕ, ◌+◌, ◌*◌, List, [], ◌∷◌, ◌++◌, length, Bool, true, false, IsTrue, Option, Some, None, refl, subst, ap, arith}
 use Rattle.std.proofs.lemmas.Bool.{le-leb, lt-ltb, eqb-true}
 use Rattle.std.specs.Prelude.{ℤ, nat_eq, ◌&&◌, map, ⊤, int_le, int_lt, pos, nat_abs, if◌then◌else◌}
-use Rattle.occ_tree.specs.Many.{◌>>=◌}
 use Rattle.occ_tree.specs.Expressions.Trees.{Expression, Expressions}
 use Rattle.occ_tree.specs.Lines.Trees as L
 use Rattle.occ_tree.specs.Lines.Trees.{Var, var, into, into_counted}
@@ -15,10 +14,9 @@ use Rattle.occ_term.specs.Messages.{product, parts_after}
 use Rattle.occ_term.specs.declared.fault.FaultKind.TheVariants.{Range}
 use Rattle.occ_term.specs.Terms as T
 use Rattle.occ_term.specs.Terms.{Term, Place, place, Array, Cells, Text, Item, OfOne, OfMany, Declaration, Clearing, Naming, Subscripts, no_subscripts, then_subscript, Target, Into, IntoCounted, replicator}
-use Rattle.occ_term.specs.Sizes.{Size, no_size, size_of_declaration, size_of_replicator}
+use Rattle.occ_term.specs.Sizes.{no_size, size_of_declaration, size_of_replicator}
 use Rattle.occ_term.specs.Values.{Span, span, Evaluated as Valued, Value, Fails, checked, value_of}
-use Rattle.occ_term.specs.Uses.{Uses, numbers_in, named_by, part_named, on_index, constant_subscript, subscript_value, is_constant, uses_of, uses_of_target, uses_of_targets, uses_of_declaration, uses_of_replicator, cells_of_item}
-use Rattle.occ_term.specs.TermTyping.{IsKept}
+use Rattle.occ_term.specs.Uses.{numbers_in, named_by, part_named, on_index, constant_subscript, subscript_value, is_constant, uses_of, uses_of_target, uses_of_targets, uses_of_declaration, uses_of_replicator, cells_of_item}
 use Rattle.occ_term.proofs.Bounds.{one_more, within_size}
 use Rattle.occ_check.specs.Scope.{keep, each_of, once, Row, assignable, kept as unassignable, Carried, Known, a_value, a_string, some_cells, some_channels, a_protocol, Name, Names}
 use Rattle.occ_check.specs.Numbers.{Numbers, more_cells, more_channels, room}
@@ -27,7 +25,7 @@ use Rattle.occ_check.specs.Operators.{primitive_of}
 use Rattle.occ_check.specs.Expressions.{Typed, single, whole, typed, typed_as, typed_subscripts, left_by, under, place_of}
 use Rattle.occ_check.specs.Types.{sizes_of, carried_of, protocol_of}
 use Rattle.occ_check.specs.Items.{as_variable, as_channels, variable_of, channel_of, sent, tag_in, Aim, aim, counted_aim, aim_of, target_of, targets_of, apart, rows_of, stored, assigned_items, as_target}
-use Rattle.occ_check.specs.Declarations.{Opened, with_others, variable_declared, channel_declared, each_declared, names_declared, local_of, value_named, array_named, named, has_type, of_value_type, value_declared, protocol_declared, Indexed, indexed}
+use Rattle.occ_check.specs.Declarations.{Opened, variable_declared, channel_declared, each_declared, names_declared, local_of, value_named, array_named, named, has_type, of_value_type, value_declared, protocol_declared, Indexed, indexed}
 use Rattle.occ_check.specs.Calls.{Wanted, wants_value, wants_variable, wants_channels, Evaluated, one_evaluated, all_evaluated, as_named, actual_list, actual_of, all_actuals, bound}
 use Rattle.occ_check.specs.Actions as A
 use Rattle.occ_check.specs.Actions.{assigned, Listed, plain_list, tagged_list, received, as_input}
@@ -37,7 +35,7 @@ use Rattle.occ_check.proofs.Counting.{kept}
 use Rattle.occ_check.proofs.Scopes.{EachPair, each_joined}
 use Rattle.occ_check.proofs.Growth.{growing}
 use Rattle.occ_check.proofs.Covering.{fewer_before, in_span, either_false}
-use Rattle.occ_check.proofs.Stepping.{variable_steps, channel_steps, one_steps, evaluated_steps, actual_steps}
+use Rattle.occ_check.proofs.Stepping.{variable_steps, channel_steps, one_steps, actual_steps}
 use Rattle.occ_check.proofs.TypedExpressions.{and_true}
 use Rattle.occ_check.proofs.TypedLines.{All, all_of}
 
@@ -67,9 +65,11 @@ constant_within e n i h = found (is_constant e) h
     tested : (v : ℤ) (b : Bool) → (int_le (pos 0) v && int_lt v (pos n)) ≡ b → (if b then Some (nat_abs v) else None) ≡ Some i → i < n
     tested v true t q = subst (λ k. k < n) (some_is (nat_abs v) i q) (within_size 0 n v (nat_abs v) (ap (λ b. checked b (nat_abs v) Range 0) t))
     tested v false t q = absurd cc
+
     valued : (x : Valued ℤ) → subscript_value 0 n x ≡ Some i → i < n
     valued (Value v) q = tested v (int_le (pos 0) v && int_lt v (pos n)) refl q
     valued (Fails f) q = absurd cc
+
     found : (b : Bool) → (if b then subscript_value 0 n (value_of e (λ c. pos 0)) else None) ≡ Some i → i < n
     found true q = valued (value_of e (λ c. pos 0)) q
     found false q = absurd cc
@@ -194,7 +194,7 @@ module _ (c : ℕ) where
       let k = bind_some (all_evaluated x depth es sizes b.0.numbers) _ a b.2 in
       subst (λ (y : Evaluated). All HeadAvoids y.heads) (some_is _ a k.2)
       (all_joined b.0.heads k.0.heads (one_avoids x depth size e (constant e) n b.0 l b.1)
-          (evaluated_avoids x depth es sizes b.0.numbers k.0 (still_later n b.0.numbers l (one_steps Grown growing x depth size e (constant e) n b.0 b.1)) k.1))
+      (evaluated_avoids x depth es sizes b.0.numbers k.0 (still_later n b.0.numbers l (one_steps Grown growing x depth size e (constant e) n b.0 b.1)) k.1))
 
   pub kept_index : (ns : Names) (line depth : ℕ) (r : L.Replicator) (n : Numbers) (i : Indexed) → c < length n.cells → indexed ns line depth r n ≡ Some i → EachPair Avoids i.names × Not ((uses_of_replicator i.replicator).writes c)
   kept_index ns line depth (L.each x base count) n i l e =

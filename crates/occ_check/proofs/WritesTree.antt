@@ -1,5 +1,5 @@
 -- No process writes a cell that was given out before it, and that no variable of its scope has.
-use Rattle.std.proofs.Common.{◌≡◌, ◌<◌, ℕ, ◌+◌, List, [], ◌∷◌, ◌++◌, length, Bool, true, false, IsTrue, Option, Some, None, arith}
+use Rattle.std.proofs.Common.{◌≡◌, ◌<◌, ℕ, ◌+◌, List, [], ◌∷◌, ◌++◌, length, Bool, true, false, Some, arith}
 use Rattle.std.specs.Prelude.{ℤ, ◌||◌}
 use Rattle.std.proofs.Common.{refl}
 use Rattle.occ_tree.specs.Lines.Trees as L
@@ -7,15 +7,14 @@ use Rattle.occ_tree.specs.Lines.Heads.{ProcessHead, ArmHead, ChoiceHead}
 use Rattle.occ_tree.specs.Processes.Trees.{process, choice, option, arm, variant, under, Node, Body, Nodes, Decls, Decl, Item}
 use Rattle.occ_term.specs.declared.primitive.Primitive.{Primitive}
 use Rattle.occ_term.specs.declared.protocol.Protocol.{Protocol}
-use Rattle.occ_term.specs.Terms as T
 use Rattle.occ_term.specs.Terms.{Term, Terms, Branches, Arms, no_arms, skip_arm, input_arm, declared_arms, each_arm, Choices, no_choices, or_choice, declared_choices, each_choice, Variants, no_variants, or_variant, Options, no_options, or_option, or_else, Declaration, Clearing, Naming, Place}
 use Rattle.occ_term.specs.Sizes as Sizes
 use Rattle.occ_term.specs.Sizes.{no_size, size_of_expression, size_of_place, size_of_targets, size_of_constants}
 use Rattle.occ_term.specs.Uses.{uses_of, uses_of_terms, uses_of_branches, uses_of_arms, uses_of_reception, uses_of_variants, uses_of_choices, uses_of_options, uses_of_declaration, uses_of_declarations, uses_of_targets, uses_of_replicator}
-use Rattle.occ_check.specs.Scope.{names_of, within, Known}
-use Rattle.occ_check.specs.Numbers.{Numbers, more_processes, room}
+use Rattle.occ_check.specs.Scope.{names_of, Known}
+use Rattle.occ_check.specs.Numbers.{Numbers, room}
 use Rattle.occ_check.specs.Declarations.{index_of}
-use Rattle.occ_check.specs.Actions.{headed, followed, as_term, opening, Listed, plain_list, tagged_list, as_reception, as_input, size_of_list, arms_behind, choices_behind, arms_then, choices_then, variants_then, options_then, Chosen}
+use Rattle.occ_check.specs.Actions.{headed, followed, as_term, Listed, plain_list, tagged_list, as_reception, as_input, size_of_list, arms_behind, choices_behind, arms_then, choices_then, variants_then, options_then, Chosen}
 use Rattle.occ_check.specs.Growth.{Grown}
 use Rattle.occ_check.specs.Performing.{Entered}
 use Rattle.occ_check.specs.Unfolding.{Procedure, procedure, Procedures, DeclaresItem, declares_value, declares_protocol, declares_procedure, Declares, declares_names, declares_item, DeclareAll, no_declaration, one_declaration, Unfolding, unfolds, Performs, skips, stops, assigns, inputs, outputs, calls, takes_variants, sequences, replicates_sequence, runs_beside, replicates_branch, alternates, replicates_alternation, conditions, replicates_conditional, selects, loops, InTurn, no_process, one_process, Beside, no_branch, one_branch, Copies, no_copy, one_copy, Arm, behind_arm, Offers, awaits, is_ready, awaits_variants, nests_arms, replicates_arm, EachArm, under_index, AllArms, no_arm, one_arm, Choice, behind_choice, Tests, tests, nests_choices, replicates_choice, EachChoice, under_choice_index, AllChoices, no_choice, one_choice, Variant, takes, AllVariants, no_variant, one_variant, OneOption, is_one_of, is_none_of, AllOptions, no_option, one_option}
@@ -182,7 +181,7 @@ module _ (c : ℕ) where
         let k = bound_avoids c (names_of sc) (named sc h) line (depth + 1) ws es n b l a in
         headed_not b.heads t k.1
         (unfolding_avoids u (each_within (Avoids c) b.names outer k.0 (each_behind (Avoids c) sc f (proc (procedure declared fs body)) outer h e))
-            (grown b.numbers m (opening_steps Grown growing b.heads depth b.numbers deep m o) (grown n b.numbers (bound_steps Grown growing (names_of sc) line (depth + 1) ws es n b a) l)))
+        (grown b.numbers m (opening_steps Grown growing b.heads depth b.numbers deep m o) (grown n b.numbers (bound_steps Grown growing (names_of sc) line (depth + 1) ws es n b a) l)))
     performs_avoids (takes_variants {depth = depth} {n = n} {m = m} {c = p} e w r u) h l = variants_avoid u h (roomy depth (Sizes.node (size_of_place p.1)) n m r l)
     performs_avoids (sequences {depth = depth} {n = n} {m = m} r u) h l = in_turn_avoids u h (roomy depth (Sizes.node no_size) n m r l)
     performs_avoids (replicates_sequence {sc = sc} {line = line} {depth = depth} {n = n} {m = m} {r = r} {i = i} {t = t} o x u) h l =
