@@ -1,5 +1,5 @@
 -- Small programs with a call, a constant or a loop, and what they unfold to.
-use Rattle.std.specs.Prelude.{List, None, Some, [], codes, false, pos, true, ◌∷◌}
+use Rattle.std.specs.Prelude.{List, None, [], codes, false, pos, true, ◌∷◌}
 use Rattle.occ_tree.specs.declared.tree.expr.Primitive.TheVariants as p
 use Rattle.occ_tree.specs.declared.tree.expr.Dyadic.TheVariants as d
 use Rattle.occ_tree.specs.declared.tree.expr.Logic.TheVariants as l
@@ -37,7 +37,7 @@ given_once = in_turn (T.Clear 0 2 ∷ in_turn (T.Local 2 (OfMany Int (Cells (pla
 
 abbrev pub deciding : List Item
 deciding = main 1 (node (more_decls (item (value_item 2 None (codes "b")
-        (chain l.And (truth false) (parens (two (parens (two (int_literal (pos 1)) d.Divide (int_literal (pos 0)))) d.Equal (int_literal (pos 1)))) no_operand))) no_decl)
+    (chain l.And (truth false) (parens (two (parens (two (int_literal (pos 1)) d.Divide (int_literal (pos 0)))) d.Equal (int_literal (pos 1)))) no_operand))) no_decl)
     3 (loop (alone (name (codes "b")))) (single_body (node no_decl 4 (act skip) no_body))) ∷ []
 
 abbrev pub decided : Term
