@@ -10,3 +10,17 @@ pub mod CountingTree
 pub mod TypedExpressions
 pub mod Stepping
 pub mod Numbering
+pub mod TreeSteps
+pub mod Growth
+pub mod Scopes
+pub mod Covering
+pub mod TypedLines
+pub mod TypedNames
+pub mod Writes
+pub mod WritesTree
+pub mod Copies
+pub mod TypedTree
+pub mod WellFormed
+pub mod OrderedNames
+pub mod OrderedTree
+pub mod OrderedProgram
