@@ -24,3 +24,4 @@ pub mod WellFormed
 pub mod OrderedNames
 pub mod OrderedTree
 pub mod OrderedProgram
+pub mod Tags

@@ -26,6 +26,7 @@ use Rattle.occ_check.specs.Items.{as_variable, as_channels, variable_of, as_one,
 use Rattle.occ_check.specs.Actions as A
 use Rattle.occ_check.specs.Actions.{assigned, Listed, plain_list, tagged_list, received, as_input, test_of}
 use Rattle.occ_check.specs.Having.{RowHas, ChannelsHave, KnownHas, NamesHave, TypedHas, SubscriptsHave}
+use Rattle.occ_check.proofs.Tags.{tagged_by}
 use Rattle.occ_check.proofs.Steps.{bind_some, some_is}
 use Rattle.occ_check.proofs.Counting.{kept, both_true}
 use Rattle.occ_check.proofs.TypedExpressions.{same_type, leaves, leaves_joined, under_has, of_type_has, typed_has, subscripts_have}
@@ -325,4 +326,4 @@ module _ (d : Declared) (ns : Names) (h : NamesHave d ns) (line : ℕ) where
 module _ (d : Declared) where
   pub input_has : (c : Place × Listed) → ReceivedHas d c → TermHas d (as_input c)
   input_has (c, plain_list ts) g = (g.0, g.2.0, g.1, g.2.1, g.2.2)
-  input_has (c, tagged_list k ts) g = (g.0, g.1, (g.2, tt, tt, tt))
+  input_has (c, tagged_list k ts) g = (g.0, g.1, (g.2, tt, tt, tagged_by g.0 k g.2.0 g.2.1))

@@ -18,7 +18,7 @@ use Rattle.occ_term.specs.Sizes.{Size, no_size, size_of_expression, size_of_plac
 use Rattle.occ_term.specs.Uses.{Uses, uses_of, uses_of_arms, uses_of_choices}
 use Rattle.occ_term.specs.Typing.{is_number, HasType}
 use Rattle.occ_term.specs.TypedSteps.{IndicesHave}
-use Rattle.occ_term.specs.TermTyping.{Declared, ChannelHas, DeclarationHas, DeclarationsHave, IsKept, ReceptionHas, TermHas, TermsHave, BranchesHave, ArmsHave, ChoicesHave, VariantsHave, OptionsHave}
+use Rattle.occ_term.specs.TermTyping.{HasTags, Declared, ChannelHas, DeclarationHas, DeclarationsHave, IsKept, ReceptionHas, TermHas, TermsHave, BranchesHave, ArmsHave, ChoicesHave, VariantsHave, OptionsHave}
 use Rattle.occ_check.specs.Scope.{names_of, within, proc, Names, Known, a_value, a_string, some_cells, some_channels, a_protocol, assignable, kept as unassignable}
 use Rattle.occ_check.specs.Numbers.{Numbers, more_cells, room}
 use Rattle.occ_check.specs.Expressions.{typed, typed_as, constant_as, as_single}
@@ -28,6 +28,7 @@ use Rattle.occ_check.specs.Growth.{Grown}
 use Rattle.occ_check.specs.Having.{NamesHave}
 use Rattle.occ_check.specs.Performing.{Entered}
 use Rattle.occ_check.specs.Unfolding.{Procedure, procedure, Procedures, DeclaresItem, declares_value, declares_protocol, declares_procedure, Declares, declares_names, declares_item, DeclareAll, no_declaration, one_declaration, Unfolding, unfolds, Performs, skips, stops, assigns, inputs, outputs, calls, takes_variants, sequences, replicates_sequence, runs_beside, replicates_branch, alternates, replicates_alternation, conditions, replicates_conditional, selects, loops, InTurn, no_process, one_process, Beside, no_branch, one_branch, Copies, no_copy, one_copy, Arm, behind_arm, Offers, awaits, is_ready, awaits_variants, nests_arms, replicates_arm, EachArm, under_index, AllArms, no_arm, one_arm, Choice, behind_choice, Tests, tests, nests_choices, replicates_choice, EachChoice, under_choice_index, AllChoices, no_choice, one_choice, Variant, takes, AllVariants, no_variant, one_variant, OneOption, is_one_of, is_none_of, AllOptions, no_option, one_option}
+use Rattle.occ_check.proofs.Tags.{tagged_by, tagged_with}
 use Rattle.occ_check.proofs.Steps.{bind_some, some_is}
 use Rattle.occ_check.proofs.Counting.{kept}
 use Rattle.occ_check.proofs.Scopes.{EachKnown, EachPair, each_within, each_mapped, each_named, each_behind}
@@ -153,7 +154,7 @@ module _ (d : Declared) where
 
   reception_has : (p : Protocol) (list : Listed) (t : Term) → ListedHas d p list → TermHas d t → ReceptionHas d p (as_reception list t)
   reception_has p (plain_list ts) t h g = (h, g)
-  reception_has p (tagged_list k ts) t h g = (h, tt, g, tt)
+  reception_has p (tagged_list k ts) t h g = (h, tt, g, tagged_by p k h.0 h.1)
 
   -- ---- an index is kept
 
@@ -213,7 +214,7 @@ module _ (d : Declared) where
         (unfolding_has u (later (within b.names outer) b.numbers m g
         (each_within (Fits d (length b.numbers.cells)) b.names outer k.0 (later outer n b.numbers s (each_behind (Fits d (length n.cells)) sc f (proc (procedure declared fs body)) outer h e)))) c)
     performs_has (takes_variants {sc = sc} {line = line} {depth = depth} {n = n} {m = m} {v = v} {c = x} {p = p} {xs = xs} e w r u) h c =
-        (p, subst (λ y. ChannelHas d x.1 y) (tags_same x.0 p w) (channel_has d (names_of sc) (have sc n h) line v x e), variants_have u (roomy sc depth (Sizes.node (size_of_place x.1)) n m r h) c)
+        (p, subst (λ y. ChannelHas d x.1 y) (tags_same x.0 p w) (channel_has d (names_of sc) (have sc n h) line v x e), variants_have u (tagged_with x.0 p w) (roomy sc depth (Sizes.node (size_of_place x.1)) n m r h) c)
     performs_has (sequences {sc = sc} {depth = depth} {n = n} {m = m} r u) h c = in_turn_have u (roomy sc depth (Sizes.node no_size) n m r h) c
     performs_has (replicates_sequence {sc = sc} {line = line} {depth = depth} {n = n} {m = m} {l = l} {r = r} {i = i} {t = t} o x u) h c =
         let q = roomy sc depth (Sizes.node no_size) n m o h in
@@ -276,7 +277,7 @@ module _ (d : Declared) where
       (
         p,
         subst (λ y. ChannelHas d x.1 y) (tags_same x.0 p w) (channel_has d (names_of sc) (have sc n h) line v x g),
-        variants_have u (roomy sc depth (Sizes.node (Sizes.beside (size_of_expression e) (size_of_place x.1))) n m r h) c,
+        variants_have u (tagged_with x.0 p w) (roomy sc depth (Sizes.node (Sizes.beside (size_of_expression e) (size_of_place x.1))) n m r h) c,
       ),
       tt,
     )
@@ -331,12 +332,12 @@ module _ (d : Declared) where
         let b = covers_before d m l (unfolding_steps Grown growing processes_grown u) c in
         let a = growing.by_room (depth + 1) (size_of_targets targets) e.numbers m q in
         let k = all_have ds (roomy sc depth (Sizes.node no_size) n o r h) (covers_before d e.numbers m a b) in
-        ((parts, g, stored_has d (names_of e.scope) (have e.scope e.numbers k.0) line parts ts targets f), k.1, unfolding_has u (later e.scope e.numbers m a k.0) c, tt)
+        ((parts, g, stored_has d (names_of e.scope) (have e.scope e.numbers k.0) line parts ts targets f), k.1, unfolding_has u (later e.scope e.numbers m a k.0) c, tagged_by _ _ parts g)
 
-    variants_have : {sc : Procedures} {depth : ℕ} {n m : Numbers} {p : Protocol} {before : List ℕ} {vs : Nodes variant} {xs : Variants} → AllVariants sc depth n p before vs xs m → In sc n → Covers d m → VariantsHave d p xs
-    variants_have no_variant h c = tt
-    variants_have (one_variant {sc = sc} {n = n} {m = m} {l = l} {p = p} {xs = xs} {others = others} k u us) h c =
-        variants_then_have p xs others (variant_has u h (covers_before d m l (variants_steps Grown growing processes_grown us) c)) (variants_have us (later sc n m (variant_steps Grown growing processes_grown u) h) c)
+    variants_have : {sc : Procedures} {depth : ℕ} {n m : Numbers} {p : Protocol} {before : List ℕ} {vs : Nodes variant} {xs : Variants} → AllVariants sc depth n p before vs xs m → HasTags p → In sc n → Covers d m → VariantsHave d p xs
+    variants_have no_variant tags h c = tags
+    variants_have (one_variant {sc = sc} {n = n} {m = m} {l = l} {p = p} {xs = xs} {others = others} k u us) tags h c =
+        variants_then_have p xs others (variant_has u h (covers_before d m l (variants_steps Grown growing processes_grown us) c)) (variants_have us tags (later sc n m (variant_steps Grown growing processes_grown u) h) c)
 
     option_has : {sc : Procedures} {depth : ℕ} {n m : Numbers} {type : Primitive} {before q : Chosen} {o : Node option} {options : Options} → OneOption sc depth n type before o options q m → In sc n → Covers d m → OptionsHave d type options
     option_has (is_one_of {sc = sc} {depth = depth} {line = line} {n = n} {o = o} {m = m} {l = l} {type = type} {e = x} {es = es} {d = e} {vs = vs} r ds g f q u) h c =
