@@ -5,6 +5,7 @@ use Rattle.std.proofs.Common.{refl}
 use Rattle.occ_term.specs.Terms as T
 use Rattle.occ_check.specs.Examples.{channel_names, copies, copying, empty_sequence, hidden, hiding, idle, named, naming, nested, nesting, no_copies, overlapping, own_cell, self_calling, storing_at, storing_under, swapped, swapping, term_of_program, twice, with_own}
 use Rattle.occ_check.specs.Examples as Examples
+use Rattle.occ_check.specs.CallExamples as CallExamples
 use Rattle.occ_check.specs.Scope.{each_of, find, within}
 use Rattle.occ_check.specs.Numbers.{from_number, component_names}
 use Rattle.occ_check.specs.Expressions.{typed, typed_chain, typed_operand, typed_subscripts, size_of_operand, size_of_expression}
@@ -84,3 +85,19 @@ copies_none = refl
 pub refuses_nothing : term_of_program [] ≡ None
 unfolding each_of find within from_number component_names typed typed_chain typed_operand typed_subscripts size_of_operand size_of_expression each_size sent_items tag_number targets_of assigned_items each_declared other_formals all_evaluated all_actuals choosing copied unfolded all_in_turn all_beside arm_unfolded all_arms choice_unfolded all_choices variant_unfolded all_variants option_unfolded all_options all_declared declared item_declared main_of other_names items_declared
 refuses_nothing = refl
+
+pub binds_a_place : term_of_program CallExamples.placing ≡ Some CallExamples.placed
+unfolding each_of find within from_number component_names typed typed_chain typed_operand typed_subscripts size_of_operand size_of_expression each_size sent_items tag_number targets_of assigned_items each_declared other_formals all_evaluated all_actuals choosing copied unfolded all_in_turn all_beside arm_unfolded all_arms choice_unfolded all_choices variant_unfolded all_variants option_unfolded all_options all_declared declared item_declared main_of other_names items_declared
+binds_a_place = refl
+
+pub gives_a_value_once : term_of_program CallExamples.giving ≡ Some CallExamples.given_once
+unfolding each_of find within from_number component_names typed typed_chain typed_operand typed_subscripts size_of_operand size_of_expression each_size sent_items tag_number targets_of assigned_items each_declared other_formals all_evaluated all_actuals choosing copied unfolded all_in_turn all_beside arm_unfolded all_arms choice_unfolded all_choices variant_unfolded all_variants option_unfolded all_options all_declared declared item_declared main_of other_names items_declared
+gives_a_value_once = refl
+
+pub decides_by_the_left : term_of_program CallExamples.deciding ≡ Some CallExamples.decided
+unfolding each_of find within from_number component_names typed typed_chain typed_operand typed_subscripts size_of_operand size_of_expression each_size sent_items tag_number targets_of assigned_items each_declared other_formals all_evaluated all_actuals choosing copied unfolded all_in_turn all_beside arm_unfolded all_arms choice_unfolded all_choices variant_unfolded all_variants option_unfolded all_options all_declared declared item_declared main_of other_names items_declared
+decides_by_the_left = refl
+
+pub loops_in_scope : term_of_program CallExamples.looping ≡ Some CallExamples.looped_once
+unfolding each_of find within from_number component_names typed typed_chain typed_operand typed_subscripts size_of_operand size_of_expression each_size sent_items tag_number targets_of assigned_items each_declared other_formals all_evaluated all_actuals choosing copied unfolded all_in_turn all_beside arm_unfolded all_arms choice_unfolded all_choices variant_unfolded all_variants option_unfolded all_options all_declared declared item_declared main_of other_names items_declared
+loops_in_scope = refl

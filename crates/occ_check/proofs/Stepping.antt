@@ -46,25 +46,25 @@ module _ (R : Numbers → Numbers → Type 0) (s : Stepping R) where
   cells_and_room : (type : Primitive) (x : Name) (sizes : List ℕ) (depth : ℕ) (z : Size) (n m o : Numbers) → more_cells type x sizes n ≡ Some m → room depth z m ≡ Some o → R n o
   cells_and_room type x sizes depth z n m o e g = s.chained n m o (s.by_cells type x sizes n m e) (s.by_room depth z m o g)
 
-  local_steps : (x : Name) (depth : ℕ) (type : Primitive) (sizes : List ℕ) (value : TermItem) (n : Numbers) (o : Opened) → local_of x depth type sizes value n ≡ Some o → R n o.numbers
+  pub local_steps : (x : Name) (depth : ℕ) (type : Primitive) (sizes : List ℕ) (value : TermItem) (n : Numbers) (o : Opened) → local_of x depth type sizes value n ≡ Some o → R n o.numbers
   local_steps x depth type sizes value n o e =
       let m = bind_some (more_cells type x sizes n) _ o e in
       let r = bind_some (room depth (size_of_declaration (Naming (length n.cells) value)) m.0) _ o m.2 in
       subst (λ (y : Opened). R n y.numbers) (some_is _ o r.2) (cells_and_room type x sizes depth (size_of_declaration (Naming (length n.cells) value)) n m.0 r.0 m.1 r.1)
 
-  value_named_steps : (x : Name) (depth : ℕ) (type : Primitive) (e : T.Expression) (v : Option ℤ) (n : Numbers) (o : Opened) → value_named x depth type e v n ≡ Some o → R n o.numbers
+  pub value_named_steps : (x : Name) (depth : ℕ) (type : Primitive) (e : T.Expression) (v : Option ℤ) (n : Numbers) (o : Opened) → value_named x depth type e v n ≡ Some o → R n o.numbers
   value_named_steps x depth type e (Some v) n o g = subst (λ (y : Opened). R n y.numbers) (some_is _ o g) (s.same n)
   value_named_steps x depth type e None n o g = local_steps x depth type [] (OfOne type e) n o g
 
-  array_named_steps : (x : Name) (depth : ℕ) (type : Primitive) (sizes : List ℕ) (a : Array) (n : Numbers) (o : Opened) → array_named x depth type sizes a n ≡ Some o → R n o.numbers
+  pub array_named_steps : (x : Name) (depth : ℕ) (type : Primitive) (sizes : List ℕ) (a : Array) (n : Numbers) (o : Opened) → array_named x depth type sizes a n ≡ Some o → R n o.numbers
   array_named_steps x depth type sizes (Text bytes) n o g = subst (λ (y : Opened). R n y.numbers) (some_is _ o g) (s.same n)
   array_named_steps x depth type sizes (Cells p) n o g = local_steps x depth type sizes (OfMany type (Cells p)) n o g
 
-  named_steps : (x : Name) (depth : ℕ) (t : Typed) (n : Numbers) (o : Opened) → named x depth t n ≡ Some o → R n o.numbers
+  pub named_steps : (x : Name) (depth : ℕ) (t : Typed) (n : Numbers) (o : Opened) → named x depth t n ≡ Some o → R n o.numbers
   named_steps x depth (single type e) n o g = value_named_steps x depth type e (constant e) n o g
   named_steps x depth (whole type sizes a) n o g = array_named_steps x depth type sizes a n o g
 
-  each_steps : (f : Name → Numbers → Option Opened) → ((x : Name) (n : Numbers) (o : Opened) → f x n ≡ Some o → R n o.numbers)
+  pub each_steps : (f : Name → Numbers → Option Opened) → ((x : Name) (n : Numbers) (o : Opened) → f x n ≡ Some o → R n o.numbers)
       → (xs : List Name) (n : Numbers) (o : Opened) → each_declared f xs n ≡ Some o → R n o.numbers
   unfolding each_declared
   each_steps f h [] n o e = subst (λ (y : Opened). R n y.numbers) (some_is _ o e) (s.same n)
@@ -73,18 +73,18 @@ module _ (R : Numbers → Numbers → Type 0) (s : Stepping R) where
       let b = bind_some (each_declared f xs a.0.numbers) _ o a.2 in
       subst (λ (y : Opened). R n y.numbers) (some_is _ o b.2) (s.chained n a.0.numbers b.0.numbers (h x n a.0 a.1) (each_steps f h xs a.0.numbers b.0 b.1))
 
-  variable_steps : (depth : ℕ) (type : Primitive) (sizes : List ℕ) (x : Name) (n : Numbers) (o : Opened) → variable_declared depth type sizes x n ≡ Some o → R n o.numbers
+  pub variable_steps : (depth : ℕ) (type : Primitive) (sizes : List ℕ) (x : Name) (n : Numbers) (o : Opened) → variable_declared depth type sizes x n ≡ Some o → R n o.numbers
   variable_steps depth type sizes x n o e =
       let m = bind_some (more_cells type x sizes n) _ o e in
       let r = bind_some (room depth (size_of_declaration (Clearing (length n.cells) (product sizes))) m.0) _ o m.2 in
       subst (λ (y : Opened). R n y.numbers) (some_is _ o r.2) (cells_and_room type x sizes depth (size_of_declaration (Clearing (length n.cells) (product sizes))) n m.0 r.0 m.1 r.1)
 
-  channel_steps : (c : Carried) (sizes : List ℕ) (x : Name) (n : Numbers) (o : Opened) → channel_declared c sizes x n ≡ Some o → R n o.numbers
+  pub channel_steps : (c : Carried) (sizes : List ℕ) (x : Name) (n : Numbers) (o : Opened) → channel_declared c sizes x n ≡ Some o → R n o.numbers
   channel_steps c sizes x n o e =
       let m = bind_some (more_channels c.protocol x sizes n) _ o e in
       subst (λ (y : Opened). R n y.numbers) (some_is _ o m.2) (s.by_channels c.protocol x sizes n m.0 m.1)
 
-  names_steps : (ns : Names) (line depth : ℕ) (es : Expressions) (sort : L.Sort) (xs : List Name) (n : Numbers) (o : Opened) → names_declared ns line depth es sort xs n ≡ Some o → R n o.numbers
+  pub names_steps : (ns : Names) (line depth : ℕ) (es : Expressions) (sort : L.Sort) (xs : List Name) (n : Numbers) (o : Opened) → names_declared ns line depth es sort xs n ≡ Some o → R n o.numbers
   names_steps ns line depth es (L.of_data type) xs n o e =
       let z = bind_some (sizes_of ns line es) _ o e in
       let y = bind_some (once xs) _ o z.2 in
@@ -95,25 +95,25 @@ module _ (R : Numbers → Numbers → Type 0) (s : Stepping R) where
       let y = bind_some (once xs) _ o d.2 in
       each_steps (channel_declared d.0 z.0) (channel_steps d.0 z.0) y.0 n o y.2
 
-  value_steps : (ns : Names) (line depth : ℕ) (type : Option L.ValueType) (x : Name) (a : Expression) (n : Numbers) (o : Opened) → value_declared ns line depth type x a n ≡ Some o → R n o.numbers
+  pub value_steps : (ns : Names) (line depth : ℕ) (type : Option L.ValueType) (x : Name) (a : Expression) (n : Numbers) (o : Opened) → value_declared ns line depth type x a n ≡ Some o → R n o.numbers
   value_steps ns line depth type x a n o e =
       let v = bind_some (typed ns line a) _ o e in
       let w = bind_some (of_value_type ns line type v.0) _ o v.2 in
       named_steps x depth w.0 n o w.2
 
-  protocol_steps : (ns : Names) (p : P.Protocol) (n : Numbers) (o : Opened) → protocol_declared ns p n ≡ Some o → R n o.numbers
+  pub protocol_steps : (ns : Names) (p : P.Protocol) (n : Numbers) (o : Opened) → protocol_declared ns p n ≡ Some o → R n o.numbers
   protocol_steps ns p n o e =
       let q = bind_some (protocol_of ns p) _ o e in
       subst (λ (y : Opened). R n y.numbers) (some_is _ o q.2) (s.by_protocols n)
 
-  one_steps : (x : Name) (depth size : ℕ) (e : T.Expression) (v : Option ℤ) (n : Numbers) (a : Evaluated) → one_evaluated x depth size e v n ≡ Some a → R n a.numbers
+  pub one_steps : (x : Name) (depth size : ℕ) (e : T.Expression) (v : Option ℤ) (n : Numbers) (a : Evaluated) → one_evaluated x depth size e v n ≡ Some a → R n a.numbers
   one_steps x depth size e (Some v) n a g = subst (λ (y : Evaluated). R n y.numbers) (kept _ _ a g).1 (s.same n)
   one_steps x depth size e None n a g =
       let m = bind_some (more_cells Int x [] n) _ a g in
       let r = bind_some (room depth (size_of_declaration (Naming (length n.cells) (OfOne Int e))) m.0) _ a m.2 in
       subst (λ (y : Evaluated). R n y.numbers) (some_is _ a r.2) (cells_and_room Int x [] depth (size_of_declaration (Naming (length n.cells) (OfOne Int e))) n m.0 r.0 m.1 r.1)
 
-  evaluated_steps : (x : Name) (depth : ℕ) (es : T.Subscripts) (sizes : List ℕ) (n : Numbers) (a : Evaluated) → all_evaluated x depth es sizes n ≡ Some a → R n a.numbers
+  pub evaluated_steps : (x : Name) (depth : ℕ) (es : T.Subscripts) (sizes : List ℕ) (n : Numbers) (a : Evaluated) → all_evaluated x depth es sizes n ≡ Some a → R n a.numbers
   unfolding all_evaluated
   evaluated_steps x depth T.no_subscripts sizes n a g = subst (λ (y : Evaluated). R n y.numbers) (some_is _ a g) (s.same n)
   evaluated_steps x depth (T.then_subscript e es) [] n a g = absurd cc
@@ -123,7 +123,7 @@ module _ (R : Numbers → Numbers → Type 0) (s : Stepping R) where
       subst (λ (y : Evaluated). R n y.numbers) (some_is _ a c.2)
       (s.chained n b.0.numbers c.0.numbers (one_steps x depth size e (constant e) n b.0 b.1) (evaluated_steps x depth es sizes b.0.numbers c.0 c.1))
 
-  actual_steps : (ns : Names) (line depth : ℕ) (x : Name) (w : Wanted) (e : Expression) (n : Numbers) (o : Opened) → actual_of ns line depth x w e n ≡ Some o → R n o.numbers
+  pub actual_steps : (ns : Names) (line depth : ℕ) (x : Name) (w : Wanted) (e : Expression) (n : Numbers) (o : Opened) → actual_of ns line depth x w e n ≡ Some o → R n o.numbers
   actual_steps ns line depth x (wants_value sizes type) e n o g =
       let v = bind_some (typed ns line e) _ o g in
       let w = bind_some (keep (has_type sizes type v.0) v.0) _ o v.2 in
@@ -143,7 +143,7 @@ module _ (R : Numbers → Numbers → Type 0) (s : Stepping R) where
       let a = bind_some (all_evaluated x depth t.0 r.0.1.left n) _ o t.2 in
       subst (λ (y : Opened). R n y.numbers) (kept _ _ o a.2).1 (evaluated_steps x depth t.0 r.0.1.left n a.0 a.1)
 
-  actuals_steps : (ns : Names) (line depth : ℕ) (ws : List (Name × Wanted)) (es : List Expression) (n : Numbers) (o : Opened) → all_actuals ns line depth ws es n ≡ Some o → R n o.numbers
+  pub actuals_steps : (ns : Names) (line depth : ℕ) (ws : List (Name × Wanted)) (es : List Expression) (n : Numbers) (o : Opened) → all_actuals ns line depth ws es n ≡ Some o → R n o.numbers
   unfolding all_actuals
   actuals_steps ns line depth [] [] n o e = subst (λ (y : Opened). R n y.numbers) (some_is _ o e) (s.same n)
   actuals_steps ns line depth [] (a ∷ es) n o e = absurd cc

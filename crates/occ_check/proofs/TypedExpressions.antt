@@ -95,11 +95,11 @@ result_takes Greater a b t e = order_takes Greater a b t refl e
 result_takes AtMost a b t e = order_takes AtMost a b t refl e
 result_takes AtLeast a b t e = order_takes AtLeast a b t refl e
 
-and_true : (a b : Bool) → IsTrue a → IsTrue b → IsTrue (a && b)
+pub and_true : (a b : Bool) → IsTrue a → IsTrue b → IsTrue (a && b)
 and_true true b h g = g
 and_true false b h g = absurd cc
 
-in_one : (f : ℕ) → IsTrue (nat_le f f && nat_lt f (f + 1))
+pub in_one : (f : ℕ) → IsTrue (nat_le f f && nat_lt f (f + 1))
 in_one f = and_true _ _ (le-leb f f (omega arith)) (lt-ltb f (f + 1) (omega arith))
 
 -- ---- subscripts and names
@@ -170,7 +170,7 @@ module _ (types : ℕ → Option Primitive) where
 
   -- ---- operators on typed operands
 
-  single_has : (x : Typed) (a : Primitive × T.Expression) → TypedHas types x → as_single x ≡ Some a → HasType types a.1 a.0
+  pub single_has : (x : Typed) (a : Primitive × T.Expression) → TypedHas types x → as_single x ≡ Some a → HasType types a.1 a.0
   single_has (single type e) a h g = subst (λ (y : Primitive × T.Expression). HasType types y.1 y.0) (some_is _ a g) h
   single_has (whole type sizes b) a h g = absurd cc
 

@@ -22,44 +22,44 @@ channel_names is = option_map (λ x. map (λ (c : Channel). c.name) x.1.channels
 
 -- ---- trees
 
-abbrev int_literal : ℤ → Operand
+abbrev pub int_literal : ℤ → Operand
 int_literal v = literal (number v) None
 
-abbrev name : List ℕ → Operand
+abbrev pub name : List ℕ → Operand
 name x = variable x no_expression
 
-abbrev component : List ℕ → Operand → Operand
+abbrev pub component : List ℕ → Operand → Operand
 component x i = variable x (more_expressions (alone i) no_expression)
 
-abbrev whole : List ℕ → Var
+abbrev pub whole : List ℕ → Var
 whole x = var x no_expression
 
 abbrev part : List ℕ → Operand → Var
 part x i = var x (more_expressions (alone i) no_expression)
 
-abbrev ints : ℕ → Expressions → List ℕ → Decls → Decls
+abbrev pub ints : ℕ → Expressions → List ℕ → Decls → Decls
 ints line sizes x ds = more_decls (declares line sizes (of_data p.Int) x []) ds
 
-abbrev set : ℕ → Var → Expression → Node process
+abbrev pub set : ℕ → Var → Expression → Node process
 set line v e = node no_decl line (act (assign v [] e [])) no_body
 
 -- PROC main (CHAN OF BYTE keyboard, screen)
-abbrev main : ℕ → Node process → Item
+abbrev pub main : ℕ → Node process → Item
 main line body = proc_item line (codes "main") (formals (by_channel [] (carries (single no_expression p.Byte))) (codes "keyboard") (formal None (codes "screen") ∷ [])) body 99
 
 -- ---- terms
 
-abbrev one : ℕ → Subscripts
+abbrev pub one : ℕ → Subscripts
 one k = then_subscript (T.Constant (pos k)) no_subscripts
 
-abbrev in_turn : List Term → Term
+abbrev pub in_turn : List Term → Term
 in_turn ts = T.Seq (all ts)
   where
     all : List Term → Terms
     all [] = no_terms
     all (u ∷ us) = then_term u (all us)
 
-abbrev into_cell : ℕ → ℕ → T.Expression → Term
+abbrev pub into_cell : ℕ → ℕ → T.Expression → Term
 into_cell line c e = T.Assign (Into (place line c [] no_subscripts) ∷ []) (OfOne Int e ∷ [])
 
 -- ---- PROC swap (INT a, b) / a, b := b, a, called on two components

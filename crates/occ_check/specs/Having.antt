@@ -1,6 +1,6 @@
 -- What the names of a scope, and what is made under it, have of the types and protocols that are declared.
 -- Manual: data types; scope. That a name means its place: (own).
-use Rattle.std.specs.Prelude.{IsTrue, List, Option, Some, ℕ, ⊤, ◌≡◌}
+use Rattle.std.specs.Prelude.{IsTrue, List, Option, Some, [], ℕ, ⊤, ◌∷◌, ◌≡◌}
 use Rattle.occ_term.specs.declared.primitive.Primitive.{Primitive}
 use Rattle.occ_term.specs.declared.primitive.Primitive.TheVariants.{Byte, Int}
 use Rattle.occ_term.specs.Messages.{is_of, product, AllOf}
@@ -30,9 +30,11 @@ KnownHas d (a_protocol c) = ⊤
 abbrev pub NamesHave : Declared → Names → Type 0
 NamesHave d ns = (x : List ℕ) (k : Known) → ns x ≡ Some k → KnownHas d k
 
+-- a value's type, or an array's; an array has a size
 abbrev pub TypedHas : (ℕ → Option Primitive) → Typed → Type 0
 TypedHas types (single type e) = HasType types e type
-TypedHas types (whole type sizes a) = ArrayHas types a type sizes
+TypedHas types (whole type [] a) = ⊥
+TypedHas types (whole type (n ∷ ns) a) = ArrayHas types a type (n ∷ ns)
 
 -- each subscript is an INT
 abbrev pub SubscriptsHave : (ℕ → Option Primitive) → Subscripts → Type 0

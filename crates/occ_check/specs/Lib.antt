@@ -14,6 +14,9 @@ pub mod Programs
 pub mod Unfolding
 pub mod ProgramUnfolding
 pub mod Examples
+pub mod CallExamples
 pub mod Counting
 pub mod Having
 pub mod Numbering
+pub mod Growth
+pub mod CellOrder

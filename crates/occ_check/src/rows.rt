@@ -4,6 +4,7 @@ ghost use Rattle.std.specs.Prelude.{[], codes, map, neg_ℤ, None, pos, Some, �
 ghost use Rattle.occ_term.specs.Terms as T;
 ghost use Rattle.occ_check.specs.Examples.{channel_names, copies, copying, empty_sequence, hidden, hiding, idle, named, naming, nested, nesting, no_copies, overlapping, own_cell, self_calling, storing_at, storing_under, swapped, swapping, term_of_program, twice, with_own};
 ghost use Rattle.occ_check.specs.Examples as Examples;
+ghost use Rattle.occ_check.specs.CallExamples as CallExamples;
 
 /// A reference formal is the component that its actual names.
 pub fn swaps()
@@ -76,4 +77,24 @@ pub fn copies_none()
 /// The empty text has no main process.
 pub fn refuses_nothing()
     ensures { term_of_program [] ≡ None }
+{}
+
+/// A reference formal is the caller's variable, whatever names the called PROC declares.
+pub fn binds_a_place()
+    ensures { term_of_program CallExamples.placing ≡ Some CallExamples.placed }
+{}
+
+/// An array that is given by value is copied once, into cells of its own.
+pub fn gives_a_value_once()
+    ensures { term_of_program CallExamples.giving ≡ Some CallExamples.given_once }
+{}
+
+/// A constant AND doesn't evaluate its right side where the left one decides.
+pub fn decides_by_the_left()
+    ensures { term_of_program CallExamples.deciding ≡ Some CallExamples.decided }
+{}
+
+/// The body of a WHILE is in the scope of the declarations before it.
+pub fn loops_in_scope()
+    ensures { term_of_program CallExamples.looping ≡ Some CallExamples.looped_once }
 {}

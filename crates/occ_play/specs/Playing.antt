@@ -16,6 +16,7 @@ use Rattle.occ_term.specs.declared.usage.UsageFault.{UsageFault}
 use Rattle.occ_term.specs.declared.usage.UsageFault.TheVariants as usage
 use Rattle.occ_term.specs.Terms.{Term}
 use Rattle.occ_term.specs.Sizes.{size_of}
+use Rattle.occ_term.specs.Refusals.{UsageRefuses}
 use Rattle.occ_term.specs.Unfolding.{Unfolding, declared, meaning, IsWellFormed, Lawful}
 use Rattle.occ_term.specs.System.{System, start, HaltMode}
 use Rattle.occ_term.specs.Runs.{Event, Run, communications, messages_on, shown, EndsBy}
@@ -99,7 +100,7 @@ ParseRefuses fault source = (lines : List Row) (items : List Item) → LinesOf s
 
 abbrev pub UsageRefusesText : UsageFault → List ℕ → Type 0
 UsageRefusesText usage.Memory source = ⊤
-UsageRefusesText fault source = (u : Unfolding) × Unfolds source u × (Lawful u → ⊥)
+UsageRefusesText fault source = (u : Unfolding) × Unfolds source u × UsageRefuses fault u
 
 abbrev pub CodeRefusesText : CodeFault → List ℕ → Type 0
 CodeRefusesText code.Memory source = ⊤

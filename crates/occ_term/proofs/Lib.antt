@@ -22,3 +22,5 @@ pub mod TypedStores
 pub mod TypedSteps
 pub mod KeptStores
 pub mod KeptSteps
+pub mod RestOnReads
+pub mod MoreRuns

@@ -13,7 +13,7 @@ use Rattle.occ_term.specs.Steps.{Halted, Left, Step, Context, left, output, ends
 use Rattle.occ_term.specs.Turns.{none, more, single_turn, stops, passes}
 use Rattle.occ_term.specs.System.{System, End, Sends, PassesSkip, alone, turn_here, system_turn, change_here, offer_ends, process_sends, screen_receives, process_receives, change_below, change_first, change_later, arm_gets, passes_skip, turn_below, turn_first, turn_later, meets}
 use Rattle.occ_term.specs.Runs.{no_turn, goes, meets_one, by_end, by_fault, by_standing, StepOf, private_step, meeting_step, skip_step, own_step, join_step, branch_step, first_can, later_can}
-use Rattle.occ_term.specs.Examples.{WritesA, Divides, Halts, after_stop, RunsTo, ThreeRun, LongTurns, StopsBoth, Unlawful, second_first}
+use Rattle.occ_term.specs.Examples.{WritesA, Divides, Halts, halted_in, RunsTo, ThreeRun, LongTurns, StopsBoth, Unlawful, ReadsClash, second_first}
 use Rattle.occ_term.specs.Values.{Store}
 use Rattle.occ_term.specs.Messages.{Fault, Message}
 
@@ -36,15 +36,15 @@ divides = (
 halted_is_still : {k : List Context} {s s' : Store} {b : Left} → Step (left Halted k) s b s' → ⊥
 halted_is_still (faults f) = elim f [ ]
 
-no_offer : {c : ℕ} {m : Message} {x : End} {b : System} → Sends c m x after_stop b → ⊥
+no_offer : {s : Store} {c : ℕ} {m : Message} {x : End} {b : System} → Sends c m x (halted_in s) b → ⊥
 no_offer (process_sends (change_here x)) = elim x [ ]
 no_offer (process_sends (change_below x)) = elim x [ ]
 
-no_choice : {n : ℕ} {b : System} → PassesSkip n after_stop b → ⊥
+no_choice : {s : Store} {n : ℕ} {b : System} → PassesSkip n (halted_in s) b → ⊥
 no_choice (passes_skip (change_here x)) = elim x [ ]
 no_choice (passes_skip (change_below x)) = elim x [ ]
 
-still : StepOf after_stop → ⊥
+still : {s : Store} → StepOf (halted_in s) → ⊥
 still (private_step (own_step st)) = halted_is_still st
 still (private_step (branch_step x)) = elim x [ ]
 still (meeting_step (meets x y)) = no_offer x
@@ -145,6 +145,9 @@ unlawful = (
   λ h. h.beside_screen.inputs 1 refl refl,
   λ h. h.beside_keyboard.outputs 0 refl refl,
 )
+
+pub reads_clash : ReadsClash
+reads_clash = ((λ h. h.branches.1.0.second_writes 0 refl refl), ((λ h. h.branches.1.0.second_writes 0 refl refl), ((λ h. h.branches.1.0.second_writes 0 refl refl), ((λ h. h.branches.1.0.second_writes 0 refl refl), ((λ h. h.branches.1.0.second_writes 0 refl refl), ((λ h. h.branches.1.0.second_writes 0 refl refl), ((λ h. h.branches.1.0.second_writes 0 refl refl), ((λ h. h.branches.1.0.second_writes 0 refl refl), ((λ h. h.branches.1.0.second_writes 0 refl refl), ((λ h. h.branches.1.0.second_writes 0 refl refl), ((λ h. h.branches.1.0.second_writes 0 refl refl), ((λ h. h.branches.1.0.second_writes 0 refl refl), ((λ h. h.branches.1.0.second_writes 0 refl refl), ((λ h. h.branches.1.0.second_writes 0 refl refl), ((λ h. h.branches.1.0.second_writes 0 refl refl), ((λ h. h.branches.1.0.second_writes 0 refl refl), ((λ h. h.branches.1.0.second_writes 0 refl refl), tt)))))))))))))))))
 
 pub three_turns : ThreeTurns
 three_turns = (

@@ -1,7 +1,7 @@
 -- Rows that check the definitions by computing, and small programs.
-use Rattle.std.specs.Prelude.{Bool, IsFalse, IsTrue, List, None, Option, Some, [], false, nat_eq, neg_ℤ, pos, true, ℕ, ℤ, ◌+ℤ◌, ◌||◌, ◌∷◌, ◌≡◌, ◌⊎◌}
+use Rattle.std.specs.Prelude.{Bool, IsFalse, IsTrue, List, None, Option, Some, [], false, nat_eq, neg_ℤ, pos, true, ℕ, ℤ, ◌+ℤ◌, ◌||◌, ◌∷◌, ◌≡◌, ◌⊎◌, ⊤}
 use Rattle.occ_term.specs.Messages.{Primitive, Byte, Int, Arith, Range, Convert, Shift, Count, Fault, fault, One, Counted, Message, message, PartType, OneOf, Tag, CountedArray, Variant, Fits}
-use Rattle.occ_term.specs.Terms.{Operator, Plus, Divide, Remainder, PlusModulo, MinusModulo, TimesModulo, BitXor, ShiftLeft, ShiftRight, After, Equal, BitNot, Expression, Constant, Cell, Binary, Unary, And, Conversion, Place, place, no_subscripts, then_subscript, Array, Cells, Text, Item, OfOne, OfMany, OfCounted, Target, Into, IntoCounted, Naming, Replicator, replicator, Term, Skip, Stop, Assign, Input, Output, Seq, Par, Alt, If, While, Each, Clear, Local, Terms, no_terms, then_term, Branches, no_branches, and_branch, Arms, no_arms, input_arm, declared_arms, each_arm, Reception, Plain, Tagged, no_variants, or_variant, Choices, no_choices, or_choice, each_choice, Options, no_options, or_option, or_else}
+use Rattle.occ_term.specs.Terms.{Operator, Plus, Divide, Remainder, PlusModulo, MinusModulo, TimesModulo, BitXor, ShiftLeft, ShiftRight, After, Equal, BitNot, Expression, Constant, Cell, Binary, Unary, And, Conversion, Place, place, no_subscripts, then_subscript, Array, Cells, Text, Item, OfOne, OfMany, OfCounted, Target, Into, IntoCounted, Naming, Replicator, replicator, Term, Skip, Stop, Assign, Input, Output, VariantInput, Seq, Par, Alt, If, Case, While, Each, Clear, Local, Terms, no_terms, then_term, Branches, no_branches, and_branch, Arms, no_arms, skip_arm, input_arm, declared_arms, each_arm, Reception, Plain, Tagged, no_variants, or_variant, Choices, no_choices, or_choice, each_choice, Options, no_options, or_option, or_else}
 use Rattle.occ_term.specs.Values.{Store, store_with, Evaluated, Value, Fails, span, value_of, span_of, part_of}
 use Rattle.occ_term.specs.Storing.{Outcome, Gives, Faults, assigned, declared, indices, indices_of}
 use Rattle.occ_term.specs.Selecting.{choice_of, option_of, taken, Enabled, IndexTo, SkipArm, InputArm, enabled, is_ready_on, chosen, chosen_of}
@@ -265,13 +265,15 @@ Divides =
 
 -- ---- STOP alone
 
-abbrev pub after_stop : System
-after_stop = system [] (process 0 (left Halted []) no_processes) zeros []
+-- what a process that is halted leaves, whatever the store
+abbrev pub halted_in : Store → System
+halted_in s = system [] (process 0 (left Halted []) no_processes) s []
 
+-- an ALT whose arms are closed has set their declarations, and then behaves like STOP
 abbrev pub Halts : Type 0
 Halts =
-    Run HaltMode 1 (start (Alt true closed_arms) []) (event 0 None ∷ []) (system [] (process 0 (left Halted []) no_processes) (store_with zeros 7 (pos 9)) [])
-    × EndsBy HaltMode after_stop Stopped
+    Run HaltMode 1 (start (Alt true closed_arms) []) (event 0 None ∷ []) (halted_in (store_with zeros 7 (pos 9)))
+    × EndsBy HaltMode (halted_in (store_with zeros 7 (pos 9))) Stopped
 
 -- ---- two outputs and an ALT that waits for one of them
 -- CHAN OF INT a, b: PAR / a ! 1 / b ! 2 / INT x: SEQ (opt PRI) ALT / a ? x SKIP / b ? x SKIP / screen ! BYTE (x + 48)
@@ -392,6 +394,36 @@ Unlawful =
     × (Lawful (beside_each_other (sends 1 (pos 1)) (sends 1 (pos 2))) → ⊥)
     × (Lawful (Input (single 3 1) (Into (single 3 0) ∷ [])) → ⊥)
     × (Lawful (sends 0 (pos 1)) → ⊥)
+
+-- ---- each place where a term reads a variable: none may stand beside an assignment to it
+
+abbrev pub reading_terms : List Term
+reading_terms =
+    While (Cell 0) Skip
+    ∷ Each (replicator 2 9 (Cell 0) (number (pos 1))) Skip
+    ∷ Each (replicator 2 9 (number (pos 1)) (Cell 0)) Skip
+    ∷ Case (Cell 0) no_options
+    ∷ If (or_choice (Cell 0) Skip no_choices)
+    ∷ If (each_choice (replicator 2 9 (number (pos 1)) (Cell 0)) no_choices no_choices)
+    ∷ Alt false (skip_arm (Cell 0) Skip no_arms)
+    ∷ Alt false (input_arm (Cell 0) (single 3 3) (Plain [] Skip) no_arms)
+    ∷ Alt false (each_arm (replicator 2 9 (Cell 0) (number (pos 1))) no_arms no_arms)
+    ∷ Output (single 4 1) None (OfOne Int (Cell 0) ∷ [])
+    ∷ Output (place 4 3 (2 ∷ []) (then_subscript (Cell 0) no_subscripts)) None []
+    ∷ Input (place 4 3 (2 ∷ []) (then_subscript (Cell 0) no_subscripts)) []
+    ∷ Input (single 4 3) (Into (place 4 5 (2 ∷ []) (then_subscript (Cell 0) no_subscripts)) ∷ [])
+    ∷ VariantInput (place 4 3 (2 ∷ []) (then_subscript (Cell 0) no_subscripts)) no_variants
+    ∷ Assign (Into (single 4 9) ∷ []) (OfOne Int (Cell 0) ∷ [])
+    ∷ Assign (Into (place 4 5 (2 ∷ []) (then_subscript (Cell 0) no_subscripts)) ∷ []) (OfOne Int (number (pos 1)) ∷ [])
+    ∷ Local 9 (OfOne Int (Cell 0))
+    ∷ []
+
+abbrev pub NoneBeside : Term → List Term → Type 0
+NoneBeside writer [] = ⊤
+NoneBeside writer (t ∷ ts) = (Lawful (beside_each_other t writer) → ⊥) × NoneBeside writer ts
+
+abbrev pub ReadsClash : Type 0
+ReadsClash = NoneBeside (sets 0) reading_terms
 
 -- ---- SEQ i = 0 FOR 2 SKIP: the loop stands at the end of each body, the last one too
 

@@ -15,6 +15,7 @@ pub mod Frames
 pub mod Evaluation
 pub mod TypedSteps
 pub mod StepUses
+pub mod ReadUses
 pub mod View
 pub mod Unfolding
 pub mod Clashes
@@ -28,3 +29,4 @@ pub mod FirstRows
 pub mod OneResult
 pub mod LimitRows
 pub mod WorkedRows
+pub mod MoreRows

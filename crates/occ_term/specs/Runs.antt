@@ -27,6 +27,7 @@ pub data MeetsAtMost (errors : Errors) (n : ℕ) : System → Option Communicati
 pub data Event : Type 0 where
   event : (number : ℕ) (met : Option Communication) → Event
 
+-- a list of turns; with quantum 0 there is no turn
 pub data Run (errors : Errors) (quantum : ℕ) : System → List Event → System → Type 0 where
   no_turn : {a : System} → Run errors quantum a [] a
   goes : {n : ℕ} {x : Option Communication} {a b c d : System} {es : List Event}

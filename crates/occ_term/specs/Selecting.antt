@@ -79,7 +79,7 @@ abbrev pub taken : Reception → Message → Store → Outcome (Option Term)
 taken (Plain targets body) m s = then_in (store_into targets m.items s) (λ x s'. Gives (Some body) s')
 taken (Tagged vs) m s = tag_taken m.tag m.items vs s
 
--- ---- ALT: the enabled arms at the stop (manual: combining processes; all in textual order, and once: own)
+-- ---- ALT: the enabled arms at the stop (manual: combining processes; that all are evaluated, in textual order: own)
 
 -- what the rest of an arm sets again: an index of a replicator round it, or a declaration
 pub data Setting : Type 0 where

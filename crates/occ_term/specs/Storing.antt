@@ -60,7 +60,7 @@ store_part (AtCounted line count array) p s =
     then Gives nothing (store_in array (values_in p) (store_in count (pos (length (values_in p)) ∷ []) s))
     else Faults (fault Range line) s
 
--- from left to right (own)
+-- from left to right
 abbrev pub store_parts : List Spot → List Part → Store → Outcome Nothing
 store_parts [] ps s = Gives nothing s
 store_parts (at ∷ ats) [] s = Gives nothing s
@@ -85,10 +85,11 @@ abbrev pub all_declared : List Declaration → Store → Outcome Nothing
 all_declared [] s = Gives nothing s
 all_declared (d ∷ ds) s = then_in (declared d s) (λ x s'. all_declared ds s')
 
--- Base and how many values, the base evaluated first. A negative count, or a last index past the last INT, is a fault (own).
+-- the base, and how many values
 pub data Indices : Type 0 where
   indices : (base : ℤ) (count : ℕ) → Indices
 
+-- The base is evaluated first. A negative count, or a last index past the last INT, is a fault (own).
 abbrev pub indices_of : Replicator → Store → Evaluated Indices
 indices_of (replicator line index base count) s =
     after (value_of base s) (λ b. after (value_of count s) (λ n.

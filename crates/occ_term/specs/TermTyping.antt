@@ -1,7 +1,7 @@
 -- The types of whole terms, over the types of the cells and the protocols of the channels.
 -- Manual: primitive processes; combining processes; channels and protocols; scope.
 use Rattle.std.specs.Prelude.{false, IsTrue, List, None, Option, Some, [], ℕ, ⊤, ◌∷◌, ◌≡◌}
-use Rattle.occ_term.specs.Messages.{Primitive, Boolean, Int, PartType, Protocol, AllOf, parts_after, simple_part, product}
+use Rattle.occ_term.specs.Messages.{Primitive, Boolean, Int, PartType, Protocol, Simple, CountedArray, Sequential, Variant, AllOf, parts_after, simple_part, product}
 use Rattle.occ_term.specs.Terms.{Place, place, Item, Target, Declaration, Clearing, Naming, Replicator, replicator, Term, Skip, Stop, Assign, Input, Output, VariantInput, Seq, Par, Alt, If, Case, While, Each, Clear, Local, Terms, no_terms, then_term, Branches, no_branches, and_branch, Arms, no_arms, skip_arm, input_arm, declared_arms, each_arm, Reception, Plain, Tagged, Variants, no_variants, or_variant, Choices, no_choices, or_choice, declared_choices, each_choice, Options, no_options, or_option, or_else}
 use Rattle.occ_term.specs.Values.{span}
 use Rattle.occ_term.specs.Uses.{Uses, numbers_in, uses_of, uses_of_arms, uses_of_choices}
@@ -50,6 +50,13 @@ DeclarationsHave d (x ∷ xs) = DeclarationHas d x × DeclarationsHave d xs
 abbrev pub ReplicatorHas : Declared → Replicator → Type 0
 ReplicatorHas d (replicator line index base count) = (d.types index ≡ Some Int) × HasType d.types base Int × HasType d.types count Int
 
+-- a protocol of variants
+abbrev pub HasTags : Protocol → Type 0
+HasTags (Simple sizes type) = ⊥
+HasTags (CountedArray count type) = ⊥
+HasTags (Sequential ts) = ⊥
+HasTags (Variant tags) = ⊤
+
 -- an index is no target within what it replicates
 abbrev pub IsKept : Replicator → Uses → Type 0
 IsKept (replicator line index base count) u = u.writes index ≡ false
@@ -92,7 +99,7 @@ abbrev mutual
   ReceptionHas d p (Tagged vs) = VariantsHave d p vs
 
   pub VariantsHave : Declared → Protocol → Variants → Type 0
-  VariantsHave d p no_variants = ⊤
+  VariantsHave d p no_variants = HasTags p
   VariantsHave d p (or_variant tag ds ts t vs) =
       ((parts : List PartType) × (parts_after p (Some tag) ≡ Some parts) × TargetsHave d ts parts)
       × DeclarationsHave d ds × TermHas d t × VariantsHave d p vs

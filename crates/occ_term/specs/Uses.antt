@@ -41,7 +41,7 @@ outputting set = record { reads = empty_set; writes = empty_set; ins = empty_set
 
 -- ---- constant subscripts (manual: the usage rules check list; that any other subscript means all components: own)
 
--- no cell and no component, of a string neither
+-- reads no cell, and no letter of a string
 abbrev pub is_constant : Expression → Bool
 is_constant (Constant v) = true
 is_constant (Cell c) = false

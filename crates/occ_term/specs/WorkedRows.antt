@@ -47,9 +47,9 @@ passes_on i x =
     in_order (
     Clear x 1
     ∷ in_order (
-      Input (component 8 3 4 i) (into 8 x ∷ [])
-      ∷ Output (component 9 3 4 (i + 1)) None (one_int (plus 9 (Cell x) (number (pos 1))))
-      ∷ [])
+    Input (component 8 3 4 i) (into 8 x ∷ [])
+    ∷ Output (component 9 3 4 (i + 1)) None (one_int (plus 9 (Cell x) (number (pos 1))))
+    ∷ [])
     ∷ [])
 
 abbrev pub writes_last : Term
@@ -102,11 +102,11 @@ merge =
     Clear 0 2
     ∷ Clear 2 1
     ∷ in_order (
-      Assign (into 5 2 ∷ []) (one_int (number (pos 0)))
-      ∷ While (Binary Less Int 6 (Cell 2) (number (pos 2)))
-        (in_order (Par two_counts ∷ Assign (into 11 2 ∷ []) (one_int (plus 11 (Cell 2) (number (pos 1)))) ∷ []))
-      ∷ shows_digit 12 (plus 12 (Component (component 12 0 2 0)) (Component (component 12 0 2 1)))
-      ∷ [])
+    Assign (into 5 2 ∷ []) (one_int (number (pos 0)))
+    ∷ While (Binary Less Int 6 (Cell 2) (number (pos 2)))
+    (in_order (Par two_counts ∷ Assign (into 11 2 ∷ []) (one_int (plus 11 (Cell 2) (number (pos 1)))) ∷ []))
+    ∷ shows_digit 12 (plus 12 (Component (component 12 0 2 0)) (Component (component 12 0 2 1)))
+    ∷ [])
     ∷ [])
 
 abbrev pub merge_events : List Event
@@ -129,7 +129,7 @@ MergePlays = Plays merge ([]) merge_events Ended
 -- A message with a tag that the second input lists, and one that it does not: that communication is completed, and the
 -- inputting process halts.
 abbrev pub sends_both : Term
-sends_both = in_order (Output (single 9 3) (Some 0) (one_int (number (pos 5))) ∷ Output (single 10 3) (Some 1) [] ∷ [])
+sends_both = in_order (Output (single 10 3) (Some 0) (one_int (number (pos 5))) ∷ Output (single 11 3) (Some 1) [] ∷ [])
 
 abbrev pub takes_data : ℕ → Term
 takes_data line = VariantInput (single line 3) (or_variant 0 [] (into line 0 ∷ []) Skip no_variants)
@@ -137,7 +137,7 @@ takes_data line = VariantInput (single line 3) (or_variant 0 [] (into line 0 ∷
 abbrev pub tagged : Term
 tagged =
     Par (and_branch 1 sends_both
-    (and_branch 2 (in_order (Clear 0 1 ∷ in_order (takes_data 13 ∷ shows_digit 14 (Cell 0) ∷ takes_data 15 ∷ []) ∷ []))
+    (and_branch 2 (in_order (Clear 0 1 ∷ in_order (takes_data 14 ∷ shows_digit 15 (Cell 0) ∷ takes_data 16 ∷ []) ∷ []))
     no_branches))
 
 abbrev pub tagged_events : List Event
@@ -162,10 +162,10 @@ takes_counted =
     Clear 4 1
     ∷ Clear 5 4
     ∷ in_order (
-      Assign (Into (component 9 5 4 0) ∷ []) (OfOne Byte (number (pos 120)) ∷ [])
-      ∷ Input (single 10 3) (IntoCounted 10 (single 10 4) (place 10 5 (4 ∷ []) no_subscripts) ∷ [])
-      ∷ shows 11 (Component (component 11 5 4 0))
-      ∷ [])
+    Assign (Into (component 9 5 4 0) ∷ []) (OfOne Byte (number (pos 120)) ∷ [])
+    ∷ Input (single 10 3) (IntoCounted 10 (single 10 4) (place 10 5 (4 ∷ []) no_subscripts) ∷ [])
+    ∷ shows 11 (Component (component 11 5 4 0))
+    ∷ [])
     ∷ [])
 
 abbrev pub sends_counted : ℕ → Term
@@ -173,7 +173,7 @@ sends_counted n =
     in_order (
     Clear 0 4
     ∷ Par (and_branch 1 (Output (single 5 3) None (OfCounted Byte 5 (number (pos n)) (Cells (place 5 0 (4 ∷ []) no_subscripts)) ∷ []))
-      (and_branch 2 takes_counted no_branches))
+    (and_branch 2 takes_counted no_branches))
     ∷ [])
 
 abbrev pub counted : Term
@@ -212,7 +212,7 @@ faulting =
     in_order (
     Clear 0 1
     ∷ Par (and_branch 1 (Assign (into 4 0 ∷ []) (one_int (Binary Divide Int 4 (number (pos 1)) (Cell 0))))
-      (and_branch 2 (shows 5 (number (pos 97))) no_branches))
+    (and_branch 2 (shows 5 (number (pos 97))) no_branches))
     ∷ [])
 
 abbrev pub faulting_events : List Event

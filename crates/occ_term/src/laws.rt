@@ -3,8 +3,9 @@
 ghost use Rattle.occ_term.specs.StepRuns.{TurnsAreSteps};
 ghost use Rattle.occ_term.specs.StepUses.{StepsKeepToTheirUse};
 ghost use Rattle.occ_term.specs.TypedSteps.{PlacesLieWithin, StepsKeepTypes, ValuesHaveTypes};
+ghost use Rattle.occ_term.specs.ReadUses.{ItemsRestOnReads, ValuesRestOnReads};
 ghost use Rattle.occ_term.specs.Selecting.{waits_for};
-ghost use Rattle.occ_term.specs.Examples.{ArmRows, AssignRows, ChoiceRows, ChosenRows, Divides, FaultHalts, GoingHasStep, Halts, Joins, LaterOffer, LongTurns, MessageRows, PlaceRows, PriorityTakesFirst, SequencePerforms, StopsBoth, ThreeRun, ThreeTurns, Unlawful, UseRows, ValueRows, WritesA};
+ghost use Rattle.occ_term.specs.Examples.{ArmRows, AssignRows, ChoiceRows, ChosenRows, Divides, FaultHalts, GoingHasStep, Halts, Joins, LaterOffer, LongTurns, MessageRows, PlaceRows, PriorityTakesFirst, ReadsClash, SequencePerforms, StopsBoth, ThreeRun, ThreeTurns, Unlawful, UseRows, ValueRows, WritesA};
 
 /// Operators and conversions at their limits.
 pub fn values()
@@ -139,4 +140,19 @@ pub fn steps_keep_types()
 /// A private step changes only cells that it writes, and what is left then uses no more.
 pub fn steps_keep_to_their_use()
     ensures { StepsKeepToTheirUse }
+{}
+
+/// An expression's value rests on the cells that it reads.
+pub fn values_rest_on_reads()
+    ensures { ValuesRestOnReads }
+{}
+
+/// What an item is, rests on the cells that it reads.
+pub fn items_rest_on_reads()
+    ensures { ItemsRestOnReads }
+{}
+
+/// Each place where a term reads a variable clashes with an assignment to it in another branch.
+pub fn reads_clash()
+    ensures { ReadsClash }
 {}

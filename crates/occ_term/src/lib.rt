@@ -10,6 +10,7 @@ pub mod frame;
 pub mod laws;
 pub mod limit_rows;
 pub mod message;
+pub mod more_rows;
 pub mod names;
 pub mod one_result;
 mod operator;

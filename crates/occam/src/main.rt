@@ -1,5 +1,6 @@
 //! Plays an occam program, whose source comes from a file or from standard input.
 #![tactic(auto)]
+
 ghost use Rattle.std.specs.Prelude.{◌≡◌, ◌≤◌};
 ghost use Rattle.std.specs.Process.{exit_status};
 

@@ -1,7 +1,7 @@
 //! The layers below a run: the lines of a text, the usage check, and the code of a program.
 use crate::unfolded::{empty_par, letter, stops};
 use occ_code::{CodeFault, Instr, MOST_INSTRUCTIONS, compile};
-use occ_term::{Item, Primitive, Protocol, Term, TermExpr, Unfolded, check_usage};
+use occ_term::{Checked, Item, Primitive, Protocol, Term, TermExpr, Unfolded, check_usage};
 use occ_text::{Sym, Token, read_lines};
 use std::alloc::Global;
 use std::process::Abort;
@@ -51,32 +51,44 @@ fn check_letter(rt: &impl Abort, unfolded: &Unfolded, channel: u32) {
     }
 }
 
+/// The program, where it keeps the usage rules.
+fn lawful(alloc: Global, unfolded: Unfolded) -> Option<Checked> {
+    check_usage(alloc, unfolded).ok()
+}
+
+fn check_accepted(rt: &impl Abort, alloc: Global, unfolded: Unfolded, channel: u32) {
+    match lawful(alloc, unfolded) {
+        Some(checked) => check_letter(rt, checked.unfolded(), channel),
+        None => assert!(rt; false, "refused"),
+    }
+}
+
 #[test]
 fn lawful_programs_are_accepted(rt: HostRuntime) -> Result<(), Fail> {
     let alloc = rt.alloc();
     for channel in 1..3u32 {
-        match check_usage(alloc, letter(alloc, channel)?) {
-            Ok(checked) => check_letter(&rt, checked.unfolded(), channel),
-            Err(_) => assert!(rt; false, "refused"),
-        }
+        let unfolded = letter(alloc, channel)?;
+        check_accepted(&rt, alloc, unfolded, channel);
     }
     Ok(())
+}
+
+/// Why a program that keeps the usage rules has no code.
+fn code_refusal(alloc: Global, unfolded: Unfolded) -> Option<CodeFault> {
+    let checked = lawful(alloc, unfolded)?;
+    compile(alloc, &checked).err()
 }
 
 #[test]
 fn par_has_no_code_yet(rt: HostRuntime) -> Result<(), Fail> {
     let alloc = rt.alloc();
-    let Ok(checked) = check_usage(alloc, empty_par(alloc)?) else {
-        assert!(rt; false, "refused");
+    let unfolded = empty_par(alloc)?;
+    let Some(fault) = code_refusal(alloc, unfolded) else {
+        assert!(rt; false, "compiled");
         return Ok(());
     };
-    match compile(alloc, &checked) {
-        Ok(_) => assert!(rt; false, "compiled"),
-        Err(fault) => {
-            let text = fault.to_string(alloc)?;
-            assert_eq!(rt; text.as_str(), "refused 61 Early line 1");
-        }
-    }
+    let text = fault.to_string(alloc)?;
+    assert_eq!(rt; text.as_str(), "refused 61 Early line 1");
     Ok(())
 }
 

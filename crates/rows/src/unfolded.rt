@@ -18,8 +18,8 @@ pub fn letter(alloc: Global, channel: u32) -> Result<Unfolded, AllocError>
     requires { channel < 3 }
     ensures { IfOk result (λ u. IsPlain (letter_on channel) u) }
 {
-    let term = letter_term(alloc, channel)?;
     let channels = fixed_channels(alloc)?;
+    let term = letter_term(alloc, channel)?;
     Ok(Unfolded::new(term, no_cells(alloc), channels))
 }
 
@@ -31,8 +31,8 @@ pub fn letter(alloc: Global, channel: u32) -> Result<Unfolded, AllocError>
 pub fn stops(alloc: Global, count: u32) -> Result<Unfolded, AllocError>
     ensures { IfOk result (λ u. IsPlain (stops_in_sequence count) u) }
 {
-    let parts = stop_parts(alloc, count)?;
     let channels = fixed_channels(alloc)?;
+    let parts = stop_parts(alloc, count)?;
     Ok(Unfolded::new(Term::Seq(parts), no_cells(alloc), channels))
 }
 
