@@ -22,6 +22,3 @@ pub use playing::{Played, play, status_of};
 pub use program::run;
 pub use trace::{Communication, End};
 pub use words::{Words, read_words};
-
-#[cfg(test)]
-mod front_tests;
