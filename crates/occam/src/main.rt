@@ -1,14 +1,12 @@
 //! Plays an occam program, whose source comes from a file or from standard input.
 #![tactic(auto)]
 
-ghost use Rattle.std.specs.Prelude.{◌≡◌, ◌≤◌};
+ghost use Rattle.std.specs.Prelude.{◌≡◌};
 ghost use Rattle.std.specs.Process.{exit_status};
 
 use std::process::ExitCode;
 
-fn main(rt: HostRuntime) -> ExitCode
-    ensures { exit_status result ≤ 7 }
-{
+fn main(rt: HostRuntime) -> ExitCode {
     exit_code(occ_play::run(&rt))
 }
 
