@@ -1,27 +1,40 @@
-pub mod Steps
-pub mod Names
-pub mod Sound
-pub mod SoundParts
-pub mod SoundTree
-pub mod Complete
-pub mod Computed
-pub mod Counting
-pub mod CountingTree
-pub mod TypedExpressions
-pub mod Stepping
-pub mod Numbering
-pub mod TreeSteps
-pub mod Growth
-pub mod Scopes
-pub mod Covering
-pub mod TypedLines
-pub mod TypedNames
-pub mod Writes
-pub mod WritesTree
-pub mod Copies
-pub mod TypedTree
-pub mod WellFormed
-pub mod OrderedNames
-pub mod OrderedTree
-pub mod OrderedProgram
-pub mod Tags
+mod Looking
+mod Weights
+pub mod Giving
+pub mod Strings
+pub mod Refusals
+pub mod Leaving
+mod Parts
+pub mod Chains
+pub mod EachOf
+pub mod Refusing
+pub mod Declaring
+pub mod Twice
+pub mod SizeLists
+mod Behind
+mod Listing
+mod InTurn
+pub mod Evaluating
+mod Beside
+pub mod Zipping
+pub mod Tagging
+pub mod Among
+pub mod Choosing
+pub mod Binding
+pub mod Storing
+pub mod Receiving
+mod MainProcess
+mod Items
+mod WholePrograms
+mod Heading
+mod Scoping
+mod Gathering
+mod Rows
+mod Naming
+mod Conditionals
+mod Selections
+mod ReadCells
+mod Assigning
+mod Tags
+mod Numbered
+mod Alternatives

@@ -1,18 +1,12 @@
--- Counters of replicated SEQs, and what a part leaves alone: cells that it does not write.
-use Rattle.std.proofs.Common.{◌≡◌, ◌∙◌, ℕ, zero, suc, ◌<◌, Bool, false, IsTrue, List, [], ◌∷◌, length, refl, ap, arith}
-use Rattle.occ_term.specs.Values.{Store}
-use Rattle.occ_term.specs.Steps.{Doing, Context, Left, left}
-use Rattle.occ_term.specs.Turns.{Steps, none, more, SingleTurn, single_turn}
-use Rattle.occ_term.specs.Uses.{Uses}
-use Rattle.occ_term.specs.TermTyping.{Declared}
-use Rattle.occ_term.specs.TypedSteps.{StoreHas, LeftHas, DoingHas}
-use Rattle.occ_term.specs.StepUses.{uses_of_left, IsPartOf, ChangesOnly}
-use Rattle.occ_term.specs.Frames.{Variables, is_held, at}
-use Rattle.occ_term.proofs.TypedSteps.{steps_keep_types}
-use Rattle.occ_term.proofs.KeptSteps.{steps_keep_to_their_use}
-use Rattle.occ_code.specs.Sequential.Machine.{counter_at, counters_with, with_counter}
-use Rattle.occ_code.proofs.SequentialFrames.{HoldsAs}
-use Rattle.occ_code.proofs.SequentialTurns.{part_on}
+-- The counters of replicated SEQs.
+use Rattle.std.specs.Prelude.{nat_eq, negsuc, ◌+ℤ◌, ◌/◌, ◌%◌, if◌then◌else◌}
+use Rattle.std.proofs.Common.{◌≡◌, ◌∙◌, ℕ, zero, suc, ℤ, pos, ◌+◌, ◌*◌, ◌<◌, ◌≤◌, true, false, List, [], ◌∷◌, length, refl, ap, arith}
+use Rattle.std.proofs.lemmas.Bool.Decides.{nat_tests}
+use Rattle.occ_term.specs.Values.{Store, store_with}
+use Rattle.occ_term.specs.Frames.{Variables}
+use Rattle.occ_code.specs.Sequential.Machine.{counter_at, counters_with, with_counter, kept_as, kept_value, turning}
+use Rattle.occ_code.specs.Sequential.Layout.{Counts}
+use Rattle.occ_code.proofs.SequentialFrames.{HoldsAs, one_held}
 
 -- ---- counters
 
@@ -37,36 +31,51 @@ length-counters_with (n ∷ ns) (suc slot) m = ap suc (length-counters_with ns s
 pub counter_held : (cells : List ℕ) (f : Variables) (s : Store) (slot m : ℕ) → HoldsAs cells f s → HoldsAs cells (with_counter f slot m) s
 counter_held cells f s slot m h = record { shape = record { cells_are = h.shape.cells_are; values_for_all = h.shape.values_for_all }; same = h.same }
 
--- ---- what a part does not write
+-- an index's value is kept
+pub value_kept : (v : ℤ) → kept_value (kept_as v) ≡ v
+value_kept (pos n) =
+    let half : 2 * n / 2 ≡ n = omega arith in
+    let even : nat_eq (2 * n % 2) 0 ≡ true = grind (arith, nat_tests) in
+    ap (λ b. if b then pos (2 * n / 2) else negsuc (2 * n / 2)) even ∙ ap pos half
+value_kept (negsuc n) =
+    let half : (2 * n + 1) / 2 ≡ n = omega arith in
+    let odd : nat_eq ((2 * n + 1) % 2) 0 ≡ false = grind (arith, nat_tests) in
+    ap (λ b. if b then pos ((2 * n + 1) / 2) else negsuc ((2 * n + 1) / 2)) odd ∙ ap negsuc half
 
-changes_on : {a b : Uses} {s s' s'' : Store} → IsPartOf b a → ChangesOnly a.writes s s' → ChangesOnly b.writes s' s'' → ChangesOnly a.writes s s''
-changes_on part x y c h = y c (λ m. h (part.writes c m)) ∙ x c h
+-- those below the slot stay
+pub record KeepsBelow (slot : ℕ) (xs ys : List ℕ) : Type 0 where
+  pub as_long : length ys ≡ length xs
+  pub same : (i : ℕ) → i < slot → counter_at ys i ≡ counter_at xs i
 
-steps_change : (d : Declared) {l l' : Left} {s s' : Store} → LeftHas d l → StoreHas d s → Steps l s l' s' → LeftHas d l' × StoreHas d s' × IsPartOf (uses_of_left l') (uses_of_left l) × ChangesOnly (uses_of_left l).writes s s'
-steps_change d h k none = (h, k, record { reads = λ n m. m; writes = λ n m. m; ins = λ n m. m; outs = λ n m. m }, λ c m. refl)
-steps_change d {l = l} {s = s} h k (more {b = b} {s' = s1} x y xs) =
-    let t = steps_keep_types d l b s s1 h k x in
-    let u = steps_keep_to_their_use d l b s s1 h x in
-    let r = steps_change d t.0 t.1 xs in
-    (r.0, r.1, part_on r.2 u.0, changes_on u.0 u.1 r.3)
+pub keeps_all : (slot : ℕ) {xs ys : List ℕ} → ys ≡ xs → KeepsBelow slot xs ys
+keeps_all slot e = record { as_long = ap length e; same = λ i h. ap (λ l. counter_at l i) e }
 
-turn_changes : (d : Declared) {l l' : Left} {s s' : Store} → LeftHas d l → StoreHas d s → SingleTurn l s l' s' → LeftHas d l' × StoreHas d s' × IsPartOf (uses_of_left l') (uses_of_left l) × ChangesOnly (uses_of_left l).writes s s'
-turn_changes d {l = l} {l' = l'} {s' = s'} h k (single_turn {b = b} {s' = s1} xs x y) =
-    let r = steps_change d h k xs in
-    let t = steps_keep_types d b l' s1 s' r.0 r.1 x in
-    let u = steps_keep_to_their_use d b l' s1 s' r.0 x in
-    (t.0, t.1, part_on u.0 r.2, changes_on r.2 r.3 u.1)
+pub keeps_on : (slot : ℕ) {xs ys zs : List ℕ} → KeepsBelow slot xs ys → KeepsBelow slot ys zs → KeepsBelow slot xs zs
+keeps_on slot a b = record { as_long = b.as_long ∙ a.as_long; same = λ i h. b.same i h ∙ a.same i h }
 
-module _ (d : Declared) (cells : List ℕ) (f g : Variables) (x : Doing) (s : Store) where
-  untouched : (b : Bool) → b ≡ false → IsTrue b → ⊥
-  untouched b e h = cc
+pub keeps_less : (slot e : ℕ) {xs ys : List ℕ} → slot ≤ e → KeepsBelow e xs ys → KeepsBelow slot xs ys
+keeps_less slot e h a = record { as_long = a.as_long; same = λ i m. a.same i (omega arith) }
 
-  -- an index that the part does not write has the same value in the frame where the part stops
-  pub index_kept : (y : Doing) (inner : List Context) (index : ℕ) → DoingHas d x → StoreHas d (at f) → SingleTurn (left x []) (at f) (left y inner) s → HoldsAs cells g s
-      → IsTrue (is_held cells index) → (uses_of_left (left x [])).writes index ≡ false → at g index ≡ at f index
-  index_kept y inner index h k t hs held w = hs.same index held ∙ (turn_changes d (h, tt) k t).3 index (untouched _ w)
+pub counts_kept : (slot : ℕ) (v : ℤ) (n : ℕ) (xs ys : List ℕ) → KeepsBelow (slot + 2) xs ys → Counts xs slot v n → Counts ys slot v n
+counts_kept slot v n xs ys k h = (k.same slot (omega arith) ∙ h.0, ap (λ m. kept_value m +ℤ pos 1) (k.same (slot + 1) (omega arith)) ∙ h.1)
 
-  -- and where it ends
-  pub index_kept_after : (y : Doing) (inner : List Context) (index : ℕ) → DoingHas d x → StoreHas d (at f) → Steps (left x []) (at f) (left y inner) s → HoldsAs cells g s
-      → IsTrue (is_held cells index) → (uses_of_left (left x [])).writes index ≡ false → at g index ≡ at f index
-  index_kept_after y inner index h k t hs held w = hs.same index held ∙ (steps_change d (h, tt) k t).3 index (untouched _ w)
+-- ---- an index that has its next value
+
+module _ (f : Variables) (slot index n : ℕ) (v : ℤ) where
+  pub turning_keeps : KeepsBelow slot f.left (turning f slot index n v).left
+  turning_keeps =
+      record {
+        as_long = length-counters_with (counters_with f.left slot n) (slot + 1) (kept_as v) ∙ length-counters_with f.left slot n;
+        same = λ i h. counter_kept (counters_with f.left slot n) (slot + 1) i (kept_as v) (λ e. omega arith) ∙ counter_kept f.left slot i n (λ e. omega arith);
+      }
+
+  pub turning_counts : slot + 1 < length f.left → Counts (turning f slot index n v).left slot (v +ℤ pos 1) n
+  turning_counts h =
+      let long = length-counters_with f.left slot n in
+      let within : slot + 1 < length (counters_with f.left slot n) = omega (arith, long, h) in
+      let first : slot < length f.left = omega (arith, h) in
+      let apart : slot + 1 ≡ slot → ⊥ = λ e. omega arith in
+      (counter_kept (counters_with f.left slot n) (slot + 1) slot (kept_as v) apart ∙ counter_set f.left slot n first, ap (λ m. kept_value m +ℤ pos 1) (counter_set (counters_with f.left slot n) (slot + 1) (kept_as v) within) ∙ ap (λ x. x +ℤ pos 1) (value_kept v))
+
+  pub turning_held : (cells : List ℕ) (s : Store) → HoldsAs cells f s → HoldsAs cells (turning f slot index n v) (store_with s index v)
+  turning_held cells s h = counter_held cells _ _ (slot + 1) (kept_as v) (counter_held cells _ _ slot n (one_held cells f s index v h))

@@ -7,7 +7,7 @@ use Rattle.occ_term.specs.Typing.{takes_arithmetic, takes_order}
 use Rattle.occ_term.specs.Uses.{uses_of}
 use Rattle.occ_term.specs.Frames.{is_held}
 use Rattle.occ_code.specs.Alike.{Lists, used_by}
-use Rattle.occ_code.specs.Sequential.Examples.{counts, whole_numbers, CountsAsCompiled}
+use Rattle.occ_code.specs.Sequential.Examples.{counts, whole_numbers, CountsAsCompiled, twice, TwiceAsCompiled}
 use Rattle.occ_code.proofs.SequentialLayout.{compiled_do}
 
 below : (n : ℕ) → nat_le 0 (suc n) ≡ true
@@ -35,6 +35,23 @@ written = record { rising = tt; members = λ n. of_cell n }
 
 pub counts_as_compiled : CountsAsCompiled
 counts_as_compiled =
-    compiled_do whole_numbers counts (0 ∷ []) (0 ∷ []) tt
+    compiled_do whole_numbers counts (0 ∷ []) (0 ∷ []) 1 refl
     ((Int, takes_order refl refl, refl, refl), ((Int, []) ∷ [], ((refl, (Int, takes_arithmetic refl refl, refl, refl)), tt), (((λ c m. refl), refl), tt)))
-    used written
+    used written (omega arith)
+
+twice_used : Lists (0 ∷ []) (used_by (uses_of twice))
+twice_used = record { rising = tt; members = λ n. of_cell n }
+  where
+    of_cell : (n : ℕ) → is_held (0 ∷ []) n ≡ used_by (uses_of twice) n
+    of_cell zero = refl
+    of_cell (suc n) = rw (other n) refl
+
+twice_written : Lists (0 ∷ []) (uses_of twice).writes
+twice_written = record { rising = tt; members = λ n. of_cell n }
+  where
+    of_cell : (n : ℕ) → is_held (0 ∷ []) n ≡ (uses_of twice).writes n
+    of_cell zero = refl
+    of_cell (suc n) = rw (other n) refl
+
+pub twice_as_compiled : TwiceAsCompiled
+twice_as_compiled = compiled_do whole_numbers twice (0 ∷ []) (0 ∷ []) 1 refl ((refl, refl, refl), refl, tt) twice_used twice_written (omega arith)

@@ -3,7 +3,7 @@ use Rattle.std.proofs.Common.{ℕ, ◌+◌, ◌*◌, ◌≤◌, List, [], ◌∷
 use Rattle.occ_term.specs.Terms.{Expression, Constant, Cell, Component, Letter, Binary, Unary, And, Or, Conversion, Place, place, Subscripts, no_subscripts, then_subscript, Cells, Text, Item, OfOne, OfMany, OfCounted, Target, Into, IntoCounted, Declaration, Clearing, Naming, replicator, Term, Skip, Stop, Assign, Input, Output, VariantInput, Seq, Par, Alt, If, Case, While, Each, Clear, Local, Terms, no_terms, then_term, Variants, no_variants, or_variant, Choices, no_choices, or_choice, declared_choices, each_choice, Options, no_options, or_option, or_else}
 use Rattle.occ_term.specs.Messages.{product}
 use Rattle.occ_term.specs.Sizes.{size_of_expression, size_of_place, size_of_subscripts, size_of_item, size_of_items, size_of_target, size_of_targets, size_of_declaration, size_of_declarations, size_of, size_of_terms, size_of_variants, size_of_choices, size_of_options}
-use Rattle.occ_code.specs.Sequential.Machine.{Instruction, StoreOne, End, LoadAt, LoadLetter, Subscript, Operate, OperateOne, ConvertTo, AndThen, OrElse, PartOne, PartMany, PartCounted, PartCountedText, SpotOne, SpotCounted, StoreParts, StoreNamed, Jump, Choose, NextChoice, BackToChoice, CountedFrom, LoopBack, Send, Receive, Halt}
+use Rattle.occ_code.specs.Sequential.Machine.{Instruction, StoreOne, End, LoadAt, LoadLetter, Subscript, Operate, OperateOne, ConvertTo, AndThen, OrElse, PartOne, PartMany, PartCounted, PartCountedText, SpotOne, SpotCounted, StoreParts, StoreNamed, Jump, Choose, NextChoice, BackToChoice, Begin, Pass, CountedFrom, LoopBack, Send, Receive, Halt}
 use Rattle.occ_code.specs.Sequential.Expressions.{components_at, expression_code, place_code, subscripts_code, item_code, items_code, target_code, targets_code, declaration_code, declarations_code, storing_code, counting_code, assignment_code}
 use Rattle.occ_code.specs.Sequential.Emitted.{term_code, terms_code, variants_code, choices_code, options_code, else_code, BodiesAreSmall}
 
@@ -79,85 +79,95 @@ received_small : (p : Place) (i : Instruction) → length (place_code p ++ i ∷
 received_small p i = omega (arith, place_small p, length-append (place_code p) (i ∷ []))
 
 mutual
-  term_small : (t : Term) → length (term_code t) + 1 ≤ 4 * (size_of t).nodes
-  term_small Skip = omega arith
-  term_small Stop = omega arith
-  term_small (Assign ts vs) = omega (arith, assigned_small ts vs)
-  term_small (Input c ts) = omega (arith, received_small c Receive, storing_small ts, length-append (place_code c ++ Receive ∷ []) (storing_code ts))
-  term_small (Output c tag is) = omega (arith, place_small c, items_small is, length-append (place_code c) (items_code is ++ Send tag ∷ []), length-append (items_code is) (Send tag ∷ []))
-  term_small (VariantInput c vs) = omega (arith, received_small c Receive, variants_small vs, length-append (place_code c ++ Receive ∷ []) (variants_code vs))
-  term_small (Seq ts) = omega (arith, terms_small ts)
-  term_small (Par bs) = omega arith
-  term_small (Alt pri arms) = omega arith
-  term_small (If cs) = omega (arith, choices_small cs 1, length-append (choices_code cs 1) (Halt ∷ []))
-  term_small (Case e os) =
-      omega (arith, expression_small e, options_small os (length (else_code os)), length-append (expression_code e) (options_code os (length (else_code os)) ++ else_code os), length-append (options_code os (length (else_code os))) (else_code os))
-  term_small (While e b) =
-      omega (arith, expression_small e, term_small b, length-append (expression_code e) (Choose (length (term_code b) + 1) ∷ (term_code b ++ LoopBack (length (expression_code e) + 1 + length (term_code b)) ∷ [])), length-append (term_code b) (LoopBack (length (expression_code e) + 1 + length (term_code b)) ∷ []))
-  term_small (Each r b) = omega arith
-  term_small (Clear first count) = declaration_small (Clearing first count)
-  term_small (Local first value) = declaration_small (Naming first value)
-
-  terms_small : (ts : Terms) → length (terms_code ts) ≤ 4 * (size_of_terms ts).nodes
-  terms_small no_terms = omega arith
-  terms_small (then_term t ts) = omega (arith, term_small t, terms_small ts, length-append (term_code t) (terms_code ts))
-
-  variants_small : (vs : Variants) → length (variants_code vs) ≤ 4 * (size_of_variants vs).nodes + 1
-  variants_small no_variants = omega arith
-  variants_small (or_variant tag ds ts t vs) =
-      omega (
-        arith,
-        declarations_small ds,
-        storing_small ts,
-        term_small t,
-        variants_small vs,
-        length-append (declarations_code ds ++ (storing_code ts ++ (term_code t ++ Jump (length (variants_code vs)) ∷ []))) (variants_code vs),
-        length-append (declarations_code ds) (storing_code ts ++ (term_code t ++ Jump (length (variants_code vs)) ∷ [])),
-        length-append (storing_code ts) (term_code t ++ Jump (length (variants_code vs)) ∷ []),
-        length-append (term_code t) (Jump (length (variants_code vs)) ∷ []),
-      )
-
-  choices_small : (cs : Choices) (after : ℕ) → length (choices_code cs after) ≤ 4 * (size_of_choices cs).nodes
-  choices_small no_choices after = omega arith
-  choices_small (or_choice e t cs) after =
-      omega (arith, expression_small e, term_small t, choices_small cs after, length-append (expression_code e) (Choose (length (term_code t) + 1) ∷ (term_code t ++ Jump (length (choices_code cs after) + after) ∷ choices_code cs after)), length-append (term_code t) (Jump (length (choices_code cs after) + after) ∷ choices_code cs after))
-  choices_small (declared_choices d within others) after =
-      let outer = length (choices_code others after) + after in
-      omega (
-        arith,
-        declaration_small d,
-        choices_small within (length (choices_code others after) + after),
-        choices_small others after,
-        length-append (declaration_code d) (choices_code within (length (choices_code others after) + after) ++ choices_code others after),
-        length-append (choices_code within (length (choices_code others after) + after)) (choices_code others after),
-      )
-  choices_small (each_choice (replicator line index base count) within others) after =
+  term_small : (slot : ℕ) (t : Term) → length (term_code slot t) + 1 ≤ 4 * (size_of t).nodes
+  term_small slot Skip = omega arith
+  term_small slot Stop = omega arith
+  term_small slot (Assign ts vs) = omega (arith, assigned_small ts vs)
+  term_small slot (Input c ts) = omega (arith, received_small c Receive, storing_small ts, length-append (place_code c ++ Receive ∷ []) (storing_code ts))
+  term_small slot (Output c tag is) = omega (arith, place_small c, items_small is, length-append (place_code c) (items_code is ++ Send tag ∷ []), length-append (items_code is) (Send tag ∷ []))
+  term_small slot (VariantInput c vs) = omega (arith, received_small c Receive, variants_small slot vs, length-append (place_code c ++ Receive ∷ []) (variants_code slot vs))
+  term_small slot (Seq ts) = omega (arith, terms_small slot ts)
+  term_small slot (Par bs) = omega arith
+  term_small slot (Alt pri arms) = omega arith
+  term_small slot (If cs) = omega (arith, choices_small slot cs 1, length-append (choices_code slot cs 1) (Halt ∷ []))
+  term_small slot (Case e os) =
+      omega (arith, expression_small e, options_small slot os (length (else_code slot os)), length-append (expression_code e) (options_code slot os (length (else_code slot os)) ++ else_code slot os), length-append (options_code slot os (length (else_code slot os))) (else_code slot os))
+  term_small slot (While e b) =
+      omega (arith, expression_small e, term_small slot b, length-append (expression_code e) (Choose (length (term_code slot b) + 1) ∷ (term_code slot b ++ LoopBack (length (expression_code e) + 1 + length (term_code slot b)) ∷ [])), length-append (term_code slot b) (LoopBack (length (expression_code e) + 1 + length (term_code slot b)) ∷ []))
+  term_small slot (Each (replicator line index base count) b) =
       omega (
         arith,
         expression_small base,
         expression_small count,
-        choices_small within (1 + length (choices_code others after) + after),
-        choices_small others after,
+        term_small (slot + 2) b,
         length-append (expression_code base) (expression_code count ++ CountedFrom line ∷ []),
         length-append (expression_code count) (CountedFrom line ∷ []),
-        length-append (counting_code (replicator line index base count)) (NextChoice index (length (choices_code within (1 + length (choices_code others after) + after)) + 1) ∷ (choices_code within (1 + length (choices_code others after) + after) ++ BackToChoice (length (choices_code within (1 + length (choices_code others after) + after)) + 1) ∷ choices_code others after)),
-        length-append (choices_code within (1 + length (choices_code others after) + after)) (BackToChoice (length (choices_code within (1 + length (choices_code others after) + after)) + 1) ∷ choices_code others after),
+        length-append (counting_code (replicator line index base count)) (Begin slot index (length (term_code (slot + 2) b) + 2) ∷ Pass slot index (length (term_code (slot + 2) b) + 1) ∷ (term_code (slot + 2) b ++ LoopBack (length (term_code (slot + 2) b) + 1) ∷ [])),
+        length-append (term_code (slot + 2) b) (LoopBack (length (term_code (slot + 2) b) + 1) ∷ []),
       )
+  term_small slot (Clear first count) = declaration_small (Clearing first count)
+  term_small slot (Local first value) = declaration_small (Naming first value)
 
-  options_small : (os : Options) (after : ℕ) → length (options_code os after) + length (else_code os) ≤ 4 * (size_of_options os).nodes + 1
-  options_small no_options after = omega arith
-  options_small (or_option constants ds t os) after =
+  terms_small : (slot : ℕ) (ts : Terms) → length (terms_code slot ts) ≤ 4 * (size_of_terms ts).nodes
+  terms_small slot no_terms = omega arith
+  terms_small slot (then_term t ts) = omega (arith, term_small slot t, terms_small slot ts, length-append (term_code slot t) (terms_code slot ts))
+
+  variants_small : (slot : ℕ) (vs : Variants) → length (variants_code slot vs) ≤ 4 * (size_of_variants vs).nodes + 1
+  variants_small slot no_variants = omega arith
+  variants_small slot (or_variant tag ds ts t vs) =
       omega (
         arith,
         declarations_small ds,
-        term_small t,
-        options_small os after,
-        length-append (declarations_code ds ++ (term_code t ++ Jump (length (options_code os after) + after) ∷ [])) (options_code os after),
-        length-append (declarations_code ds) (term_code t ++ Jump (length (options_code os after) + after) ∷ []),
-        length-append (term_code t) (Jump (length (options_code os after) + after) ∷ []),
+        storing_small ts,
+        term_small slot t,
+        variants_small slot vs,
+        length-append (declarations_code ds ++ (storing_code ts ++ (term_code slot t ++ Jump (length (variants_code slot vs)) ∷ []))) (variants_code slot vs),
+        length-append (declarations_code ds) (storing_code ts ++ (term_code slot t ++ Jump (length (variants_code slot vs)) ∷ [])),
+        length-append (storing_code ts) (term_code slot t ++ Jump (length (variants_code slot vs)) ∷ []),
+        length-append (term_code slot t) (Jump (length (variants_code slot vs)) ∷ []),
       )
-  options_small (or_else ds t os) after =
-      omega (arith, declarations_small ds, term_small t, options_small os after, length-append (declarations_code ds) (term_code t))
+
+  choices_small : (slot : ℕ) (cs : Choices) (after : ℕ) → length (choices_code slot cs after) ≤ 4 * (size_of_choices cs).nodes
+  choices_small slot no_choices after = omega arith
+  choices_small slot (or_choice e t cs) after =
+      omega (arith, expression_small e, term_small slot t, choices_small slot cs after, length-append (expression_code e) (Choose (length (term_code slot t) + 1) ∷ (term_code slot t ++ Jump (length (choices_code slot cs after) + after) ∷ choices_code slot cs after)), length-append (term_code slot t) (Jump (length (choices_code slot cs after) + after) ∷ choices_code slot cs after))
+  choices_small slot (declared_choices d within others) after =
+      let outer = length (choices_code slot others after) + after in
+      omega (
+        arith,
+        declaration_small d,
+        choices_small slot within (length (choices_code slot others after) + after),
+        choices_small slot others after,
+        length-append (declaration_code d) (choices_code slot within (length (choices_code slot others after) + after) ++ choices_code slot others after),
+        length-append (choices_code slot within (length (choices_code slot others after) + after)) (choices_code slot others after),
+      )
+  choices_small slot (each_choice (replicator line index base count) within others) after =
+      omega (
+        arith,
+        expression_small base,
+        expression_small count,
+        choices_small slot within (1 + length (choices_code slot others after) + after),
+        choices_small slot others after,
+        length-append (expression_code base) (expression_code count ++ CountedFrom line ∷ []),
+        length-append (expression_code count) (CountedFrom line ∷ []),
+        length-append (counting_code (replicator line index base count)) (NextChoice index (length (choices_code slot within (1 + length (choices_code slot others after) + after)) + 1) ∷ (choices_code slot within (1 + length (choices_code slot others after) + after) ++ BackToChoice (length (choices_code slot within (1 + length (choices_code slot others after) + after)) + 1) ∷ choices_code slot others after)),
+        length-append (choices_code slot within (1 + length (choices_code slot others after) + after)) (BackToChoice (length (choices_code slot within (1 + length (choices_code slot others after) + after)) + 1) ∷ choices_code slot others after),
+      )
+
+  options_small : (slot : ℕ) (os : Options) (after : ℕ) → length (options_code slot os after) + length (else_code slot os) ≤ 4 * (size_of_options os).nodes + 1
+  options_small slot no_options after = omega arith
+  options_small slot (or_option constants ds t os) after =
+      omega (
+        arith,
+        declarations_small ds,
+        term_small slot t,
+        options_small slot os after,
+        length-append (declarations_code ds ++ (term_code slot t ++ Jump (length (options_code slot os after) + after) ∷ [])) (options_code slot os after),
+        length-append (declarations_code ds) (term_code slot t ++ Jump (length (options_code slot os after) + after) ∷ []),
+        length-append (term_code slot t) (Jump (length (options_code slot os after) + after) ∷ []),
+      )
+  options_small slot (or_else ds t os) after =
+      omega (arith, declarations_small ds, term_small slot t, options_small slot os after, length-append (declarations_code ds) (term_code slot t))
 
 pub bodies_are_small : BodiesAreSmall
-bodies_are_small t cells writes = omega (arith, term_small t, length-append (term_code t) (End ∷ []))
+bodies_are_small t cells writes quantum = omega (arith, term_small 0 t, length-append (term_code 0 t) (End ∷ []))

@@ -1,6 +1,7 @@
 -- Every turn of the code of a sequential term is a turn of what is left of it, for any number of turns.
 use Rattle.std.specs.Prelude.{slice_get, nat_eq, ◌||◌}
-use Rattle.std.proofs.Common.{◌≡◌, ◌∙◌, ℕ, zero, suc, ℤ, pos, ◌+◌, Bool, true, false, IsTrue, List, [], ◌∷◌, ◌++◌, Option, Some, None, refl, sym, ap, subst, inl}
+use Rattle.std.proofs.Common.{length, ◌≡◌, ◌∙◌, ℕ, zero, suc, ℤ, pos, ◌+◌, ◌<◌, Bool, true, false, IsTrue, IsFalse, List, [], ◌∷◌, ◌++◌, Option, Some, None, refl, sym, ap, subst, arith, inl, inr}
+use Rattle.std.proofs.lemmas.List.{length-replicate}
 use Rattle.occ_term.specs.declared.primitive.Primitive.{Primitive}
 use Rattle.occ_term.specs.declared.primitive.Primitive.TheVariants.{Bool as Boolean, Byte, Int}
 use Rattle.occ_term.specs.declared.fault.Fault.{Fault}
@@ -9,9 +10,9 @@ use Rattle.occ_term.specs.declared.protocol.Protocol.{Protocol}
 use Rattle.occ_term.specs.Messages.{Fits}
 use Rattle.occ_term.specs.Terms.{Term, Skip, Reception}
 use Rattle.occ_term.specs.Values.{Store, is_of_declared}
-use Rattle.occ_term.specs.Steps.{Loop, WhileLoop, EachLoop, Doing, Do, Again, Offering, Awaiting, Taking, MessageTaken, Context, Then, Within, Left, left, Step, ends, drops, body_ends, again}
+use Rattle.occ_term.specs.Steps.{is_looping, status, Loop, WhileLoop, EachLoop, Doing, Do, Again, Offering, Awaiting, Taking, MessageTaken, Context, Then, Within, Left, left, Step, ends, drops, body_ends, again}
 use Rattle.occ_term.specs.Steps as S
-use Rattle.occ_term.specs.Turns.{Steps, none, more, SingleTurn, single_turn, stops}
+use Rattle.occ_term.specs.Turns.{Steps, none, more, SingleTurn, single_turn, Turn, stops, passes}
 use Rattle.occ_term.specs.Uses.{uses_of, uses_of_terms}
 use Rattle.occ_term.specs.TermTyping.{Declared}
 use Rattle.occ_term.specs.TypedSteps.{StoreHas, LeftHas, ContextsHave}
@@ -23,13 +24,14 @@ use Rattle.occ_code.specs.declared.task.Task.{Task}
 use Rattle.occ_code.specs.declared.task.Wait.{Wait}
 use Rattle.occ_code.specs.declared.task.Wait.TheVariants.{Ready, Took, Offers, Awaits, Halted, Done, Faulted}
 use Rattle.occ_code.specs.Alike.{Agrees, FitsProtocol, SameStop}
-use Rattle.occ_code.specs.Sequential.Machine.{Body, Instruction, End, Point, point, Stops, act, here, begins_at, SingleStop, stops_here, counted_turn, tag_stack}
+use Rattle.occ_code.specs.Sequential.Machine.{Body, Instruction, End, Point, point, Stops, act, here, begins_at, SingleStop, StopsIn, stops_here, passes_on, IsReady, counted_turn, tag_stack}
 use Rattle.occ_code.specs.Sequential.Layout.{stays, TermAt, ListAt, LoopAt, ContextsAt}
 use Rattle.occ_code.specs.Sequential.Alike.{SameTurn, Alike, DoesAs, IsLaidOut, BodiesDo}
 use Rattle.occ_code.proofs.SequentialReads.{or_left}
 use Rattle.occ_code.proofs.SequentialFrames.{HoldsAs}
 use Rattle.occ_code.proofs.SequentialStatements.{Held, held_left, held_right}
-use Rattle.occ_code.proofs.SequentialResults.{after_steps, ways_walk, contexts_join, StopsAt, stops_after, Pause, at_offer, at_await, at_halt, at_fault, at_loop, Result, finishes, pauses, result_after}
+use Rattle.occ_code.proofs.SequentialCounters.{KeepsBelow, keeps_all}
+use Rattle.occ_code.proofs.SequentialResults.{contexts_kept, Does, after_steps, ways_walk, contexts_join, StopsAt, stops_after, Pause, at_offer, at_await, at_halt, at_fault, at_loop, Result, finishes, pauses, result_after}
 use Rattle.occ_code.proofs.SequentialRuns.{term_runs, terms_run, loop_runs, list_runs}
 
 -- ---- turns keep types, and to their use
@@ -89,19 +91,20 @@ module _ (d : Declared) (cells : List ℕ) where
 
 -- ---- a turn
 
-module _ (d : Declared) (code : List Instruction) (cells : List ℕ) where
-  record ToEnd (pc : ℕ) (k : List Context) : Type 0 where
+module _ (d : Declared) (code : List Instruction) (loops : ℕ) (cells : List ℕ) where
+  -- from a place and its slot to the end, with these counters
+  record ToEnd (left_ : List ℕ) (slot pc : ℕ) (k : List Context) : Type 0 where
     last : ℕ
-    codes : ContextsAt code pc k last
+    codes : ContextsAt code loops left_ slot pc k 0 last
     ends_there : slice_get code last ≡ Some End
 
-  data Rested (pc : ℕ) : Wait → Left → Type 0 where
-    offers : {c : ℕ} {m : Message} (k : List Context) → ToEnd pc k → Rested pc (Offers c m) (left (Offering c m) k)
-    awaits : {c : ℕ} {list : Reception} (k : List Context) (mid : ℕ) → ListAt code pc list mid → ToEnd mid k → Rested pc (Awaits c) (left (Awaiting c list) k)
-    loops : {l : Loop} (k : List Context) (mid : ℕ) → LoopAt code pc l mid → ToEnd mid k → Rested pc Ready (left (Again l) k)
-    halts : (k : List Context) → Rested pc Halted (left S.Halted k)
-    fails : {e : Fault} (k : List Context) → Rested pc (Faulted e) (left (S.Faulted e) k)
-    finished : Rested pc Done (left S.Done [])
+  data Rested (left_ : List ℕ) (pc : ℕ) : Wait → Left → Type 0 where
+    offers : {c : ℕ} {m : Message} (k : List Context) (slot : ℕ) → ToEnd left_ slot pc k → Rested left_ pc (Offers c m) (left (Offering c m) k)
+    awaits : {c : ℕ} {list : Reception} (k : List Context) (slot mid : ℕ) → ListAt code loops slot pc list mid → ToEnd left_ slot mid k → Rested left_ pc (Awaits c) (left (Awaiting c list) k)
+    stands_again : {l : Loop} (k : List Context) (slot mid : ℕ) → LoopAt code loops left_ slot pc l mid → ToEnd left_ slot mid k → Rested left_ pc Ready (left (Again l) k)
+    halts : (k : List Context) → Rested left_ pc Halted (left S.Halted k)
+    fails : {e : Fault} (k : List Context) → Rested left_ pc (Faulted e) (left (S.Faulted e) k)
+    finished : Rested left_ pc Done (left S.Done [])
 
   record Reached (s : Store) (a r : Left) (g : Variables) : Type 0 where
     store : Store
@@ -115,132 +118,128 @@ module _ (d : Declared) (code : List Instruction) (cells : List ℕ) where
     frame : Variables
     stops_at : StopsAt code a stands frame wait
     turn : (s : Store) → HoldsAs cells f s → Reached s l rest frame
-    rests : Rested stands wait rest
+    room : length frame.left ≡ loops
+    rests : Rested frame.left stands wait rest
 
-  rested : (pc' pc : ℕ) (j k : List Context) {w : Wait} {y : Doing} → ToEnd pc' k → Pause code pc' pc j w y → Rested pc w (left y (j ++ k))
-  rested pc' pc j k e (at_offer h) = offers (j ++ k) (record { last = e.last; codes = contexts_join code pc' e.last j k pc h e.codes; ends_there = e.ends_there })
-  rested pc' pc j k e (at_await mid l h) = awaits (j ++ k) mid l (record { last = e.last; codes = contexts_join code pc' e.last j k mid h e.codes; ends_there = e.ends_there })
-  rested pc' pc j k e at_halt = halts (j ++ k)
-  rested pc' pc j k e at_fault = fails (j ++ k)
-  rested pc' pc j k e (at_loop mid l h) = loops (j ++ k) mid l (record { last = e.last; codes = contexts_join code pc' e.last j k mid h e.codes; ends_there = e.ends_there })
+  rested : (left_ : List ℕ) (slot pc' pc : ℕ) (j k : List Context) {w : Wait} {y : Doing} → ToEnd left_ slot pc' k → Pause code loops left_ slot pc' pc j w y → Rested left_ pc w (left y (j ++ k))
+  rested left_ slot pc' pc j k e (at_offer i h) = offers (j ++ k) i (record { last = e.last; codes = contexts_join code loops left_ pc' slot e.last 0 j k i pc h e.codes; ends_there = e.ends_there })
+  rested left_ slot pc' pc j k e (at_await i mid l h) = awaits (j ++ k) i mid l (record { last = e.last; codes = contexts_join code loops left_ pc' slot e.last 0 j k i mid h e.codes; ends_there = e.ends_there })
+  rested left_ slot pc' pc j k e at_halt = halts (j ++ k)
+  rested left_ slot pc' pc j k e at_fault = fails (j ++ k)
+  rested left_ slot pc' pc j k e (at_loop i mid l h) = stands_again (j ++ k) i mid l (record { last = e.last; codes = contexts_join code loops left_ pc' slot e.last 0 j k i mid h e.codes; ends_there = e.ends_there })
+
+  kept_to_end : (xs ys : List ℕ) (slot pc : ℕ) (k : List Context) → KeepsBelow slot xs ys → ToEnd xs slot pc k → ToEnd ys slot pc k
+  kept_to_end xs ys slot pc k h e = record { last = e.last; codes = contexts_kept code loops k xs ys slot pc 0 e.last h e.codes; ends_there = e.ends_there }
 
   -- a part, and then its contexts
-  continued : {a : Point} {f : Variables} {x : Doing} (pc' : ℕ) (k : List Context) → ToEnd pc' k → Result code cells a f x pc' → ((g : Variables) → Runs (point pc' [] [] [] g) g (left (Do Skip) k)) → Runs a f (left x k)
-  continued pc' k e (finishes g w t) m =
-      let r = m g in
-      record {
-        stands = r.stands;
-        wait = r.wait;
-        rest = r.rest;
-        frame = r.frame;
-        stops_at = stops_after code w r.stops_at;
-        rests = r.rests;
-        turn = λ s hs. let u = t s hs in let v = r.turn u.store u.holds in record { store = v.store; turn = after_steps (u.steps k) v.turn; holds = v.holds };
-      }
-  continued pc' k e (pauses stands w y inner g z p t) m =
-      record {
-        stands = stands;
-        wait = w;
-        rest = left y (inner ++ k);
-        frame = g;
-        stops_at = z;
-        rests = rested pc' stands inner k e p;
-        turn = λ s hs. let u = t s hs in record { store = u.store; turn = u.turn k; holds = u.holds };
-      }
+  continued : {a : Point} {f : Variables} {x : Doing} (slot pc' : ℕ) (k : List Context) → length f.left ≡ loops → ToEnd f.left slot pc' k → Does code loops cells slot a f x pc'
+      → ((g : Variables) → length g.left ≡ loops → ToEnd g.left slot pc' k → Runs (point pc' [] [] [] g) g (left (Do Skip) k)) → Runs a f (left x k)
+  continued {a = a} {f = f} {x = x} slot pc' k room e d m = joined (d room)
+    where
+      joined : Result code loops cells slot a f x pc' → Runs a f (left x k)
+      joined (finishes g w kept t) =
+          let r = m g (kept.as_long ∙ room) (kept_to_end f.left g.left slot pc' k kept e) in
+          record {
+            stands = r.stands;
+            wait = r.wait;
+            rest = r.rest;
+            frame = r.frame;
+            room = r.room;
+            stops_at = stops_after code w r.stops_at;
+            rests = r.rests;
+            turn = λ s hs. let u = t s hs in let v = r.turn u.store u.holds in record { store = v.store; turn = after_steps (u.steps k) v.turn; holds = v.holds };
+          }
+      joined (pauses stands w y inner g z kept p t) =
+          record {
+            stands = stands;
+            wait = w;
+            rest = left y (inner ++ k);
+            frame = g;
+            room = kept.as_long ∙ room;
+            stops_at = z;
+            rests = rested g.left slot pc' stands inner k (kept_to_end f.left g.left slot pc' k kept e) p;
+            turn = λ s hs. let u = t s hs in record { store = u.store; turn = u.turn k; holds = u.holds };
+          }
 
-  contexts_run : (k : List Context) (pc : ℕ) → ContextsHave d k → Held code cells d (uses_of_contexts k).reads → ToEnd pc k → (f : Variables) → Runs (point pc [] [] [] f) f (left (Do Skip) k)
-  contexts_run [] pc h u e f =
+  contexts_run : (k : List Context) (slot pc : ℕ) → ContextsHave d k → Held code cells d (uses_of_contexts k).reads → (f : Variables) → length f.left ≡ loops → ToEnd f.left slot pc k → Runs (point pc [] [] [] f) f (left (Do Skip) k)
+  contexts_run [] slot pc h u f room e =
       record {
         stands = e.last;
         wait = Done;
         rest = left S.Done [];
         frame = f;
+        room = room;
         rests = finished;
-        stops_at = record { last = point e.last [] [] [] f; walks = ways_walk code [] [] [] f e.codes; stops = ap (λ o. act o e.last [] [] [] f) e.ends_there };
+        stops_at = record { last = point e.last [] [] [] f; walks = ways_walk code [] [] [] f e.codes.1; stops = ap (λ o. act o e.last [] [] [] f) e.ends_there };
         turn = λ s hs. record { store = s; turn = single_turn none ends refl; holds = hs };
       }
-  contexts_run (Then ts ∷ k) pc h u e f =
-      let later : ToEnd e.codes.1 k = record { last = e.last; codes = e.codes.4; ends_there = e.ends_there } in
-      let r = continued e.codes.1 k later (terms_run code cells d ts f e.codes.0 e.codes.1 h.0 (held_left code cells d (uses_of_terms ts).reads (uses_of_contexts k).reads u) e.codes.3)
-      (contexts_run k e.codes.1 h.1 (held_right code cells d (uses_of_terms ts).reads (uses_of_contexts k).reads u) later) in
+  contexts_run (Then ts ∷ k) slot pc h u f room e =
+      let (inner, a, b, same, way, at_ts, others) = e.codes in
+      let later : ToEnd f.left inner b k = record { last = e.last; codes = others; ends_there = e.ends_there } in
+      let r = continued inner b k room later (terms_run code loops cells d inner ts f a b h.0 (held_left code cells d (uses_of_terms ts).reads (uses_of_contexts k).reads u) at_ts)
+      (contexts_run k inner b h.1 (held_right code cells d (uses_of_terms ts).reads (uses_of_contexts k).reads u)) in
       record {
         stands = r.stands;
         wait = r.wait;
         rest = r.rest;
         frame = r.frame;
+        room = r.room;
         rests = r.rests;
-        stops_at = stops_after code (ways_walk code [] [] [] f e.codes.2) r.stops_at;
+        stops_at = stops_after code (ways_walk code [] [] [] f way) r.stops_at;
         turn = λ s hs. let v = r.turn s hs in record { store = v.store; turn = after_steps (more drops refl none) v.turn; holds = v.holds };
       }
-  contexts_run (Within l ∷ k) pc h u e f =
-      let back = e.codes.3.1 in
+  contexts_run (Within l ∷ k) slot pc h u f room e =
+      let (inner, a, b, same, way, at_l, others) = e.codes in
+      let back = at_l.1 in
       record {
-        stands = e.codes.3.0;
+        stands = at_l.0;
         wait = Ready;
         rest = left (Again l) k;
         frame = f;
-        rests = loops k e.codes.1 e.codes.3.2 (record { last = e.last; codes = e.codes.4; ends_there = e.ends_there });
-        stops_at = record { last = point e.codes.0 [] [] [] f; walks = ways_walk code [] [] [] f e.codes.2; stops = ap (λ o. act o e.codes.0 [] [] [] f) back.1 ∙ ap (λ x. Stops x f Ready) back.2 };
+        room = room;
+        rests = stands_again k inner b at_l.2 (record { last = e.last; codes = others; ends_there = e.ends_there });
+        stops_at = record { last = point a [] [] [] f; walks = ways_walk code [] [] [] f way; stops = ap (λ o. act o a [] [] [] f) back.1 ∙ ap (λ x. Stops x f Ready) back.2 };
         turn = λ s hs. record { store = s; turn = single_turn none body_ends refl; holds = hs };
       }
 
   -- where a turn begins
-  data Starting (pc : ℕ) : Wait → Left → Type 0 where
-    does : {t : Term} (k : List Context) (pc' : ℕ) → TermAt code pc t pc' → ToEnd pc' k → Starting pc Ready (left (Do t) k)
-    turns_again : {l : Loop} (k : List Context) (pc' : ℕ) → LoopAt code pc l pc' → ToEnd pc' k → Starting pc Ready (left (Again l) k)
-    takes : {list : Reception} {m : Message} (k : List Context) (pc' : ℕ) → ListAt code pc list pc' → ToEnd pc' k → Starting pc (Took 0 [] (Some m)) (left (Taking [] (MessageTaken list m)) k)
+  data Starting (left_ : List ℕ) (pc : ℕ) : Wait → Left → Type 0 where
+    does : {t : Term} (k : List Context) (slot pc' : ℕ) → TermAt code loops slot pc t pc' → ToEnd left_ slot pc' k → Starting left_ pc Ready (left (Do t) k)
+    turns_again : {l : Loop} (k : List Context) (slot pc' : ℕ) → LoopAt code loops left_ slot pc l pc' → ToEnd left_ slot pc' k → Starting left_ pc Ready (left (Again l) k)
+    takes : {list : Reception} {m : Message} (k : List Context) (slot pc' : ℕ) → ListAt code loops slot pc list pc' → ToEnd left_ slot pc' k → Starting left_ pc (Took 0 [] (Some m)) (left (Taking [] (MessageTaken list m)) k)
 
   record Begun (w : Wait) (pc : ℕ) (f : Variables) (l : Left) : Type 0 where
     first : Point
     begins : begins_at w pc f ≡ Some first
     runs : Runs first f l
 
-  begun_turn : {pc : ℕ} {w : Wait} {l : Left} → Starting pc w l → LeftHas d l → Held code cells d (uses_of_left l).reads → (f : Variables) → Begun w pc f l
-  begun_turn {pc = pc} (does {t = t} k pc' l e) h u f =
+  begun_turn : {pc : ℕ} {w : Wait} {l : Left} (f : Variables) → length f.left ≡ loops → Starting f.left pc w l → LeftHas d l → Held code cells d (uses_of_left l).reads → Begun w pc f l
+  begun_turn {pc = pc} f room (does {t = t} k slot pc' l e) h u =
       record {
         first = point pc [] [] [] f;
         begins = refl;
-        runs = continued pc' k e (term_runs code cells d t f pc pc' h.0 (held_left code cells d (uses_of t).reads (uses_of_contexts k).reads u) l)
-            (contexts_run k pc' h.1 (held_right code cells d (uses_of t).reads (uses_of_contexts k).reads u) e);
+        runs = continued slot pc' k room e (term_runs code loops cells d slot t f pc pc' h.0 (held_left code cells d (uses_of t).reads (uses_of_contexts k).reads u) l)
+            (contexts_run k slot pc' h.1 (held_right code cells d (uses_of t).reads (uses_of_contexts k).reads u));
       }
-  begun_turn {pc = pc} (turns_again {l = x} k pc' l e) h u f =
+  begun_turn {pc = pc} f room (turns_again {l = x} k slot pc' l e) h u =
       record {
         first = point pc [] [] [] f;
         begins = refl;
-        runs = continued pc' k e (result_after code cells here (λ s hs. record { store = s; steps = λ ks. more again refl none; holds = hs })
-            (loop_runs code cells d x f pc pc' h.0 (held_left code cells d (uses_of_doing (Again x)).reads (uses_of_contexts k).reads u) l))
-            (contexts_run k pc' h.1 (held_right code cells d (uses_of_doing (Again x)).reads (uses_of_contexts k).reads u) e);
+        runs = continued slot pc' k room e (result_after code loops cells slot here (keeps_all slot refl) (λ s hs. record { store = s; steps = λ ks. more again refl none; holds = hs })
+            (loop_runs code loops cells d slot x f pc pc' h.0 (held_left code cells d (uses_of_doing (Again x)).reads (uses_of_contexts k).reads u) l))
+            (contexts_run k slot pc' h.1 (held_right code cells d (uses_of_doing (Again x)).reads (uses_of_contexts k).reads u));
       }
-  begun_turn {pc = pc} (takes {list = list} {m = m} k pc' l e) h u f =
+  begun_turn {pc = pc} f room (takes {list = list} {m = m} k slot pc' l e) h u =
       record {
         first = point pc (tag_stack m.tag) m.items [] f;
         begins = refl;
-        runs = continued pc' k e (list_runs code cells d list m h.0.1.0 f pc pc' h.0.1.1 h.0.1.2 (held_left code cells d (uses_of_doing (Taking [] (MessageTaken list m))).reads (uses_of_contexts k).reads u) l)
-            (contexts_run k pc' h.1 (held_right code cells d (uses_of_doing (Taking [] (MessageTaken list m))).reads (uses_of_contexts k).reads u) e);
+        runs = continued slot pc' k room e (list_runs code loops cells d slot list m h.0.1.0 f pc pc' h.0.1.1 h.0.1.2 (held_left code cells d (uses_of_doing (Taking [] (MessageTaken list m))).reads (uses_of_contexts k).reads u) l)
+            (contexts_run k slot pc' h.1 (held_right code cells d (uses_of_doing (Taking [] (MessageTaken list m))).reads (uses_of_contexts k).reads u));
       }
 
 module _ (d : Declared) (code : List Instruction) (cells writes : List ℕ) (loops_ : ℕ) where
-  abbrev the_body : Body
-  the_body = record { code = code; cells = cells; writes = writes; loops = loops_; quantum = 1 }
-
   abbrev task : ℕ → ℕ → ℕ → Variables → Wait → Task
   task number turns pc f w = record { number = number; turns = turns; place = pc; frame = f; wait = w }
-
-  -- what begins a turn is alike for so many turns
-  abbrev GoesOn : ℕ → Type 0
-  GoesOn n = (number turns pc : ℕ) (f : Variables) (w : Wait) (l : Left) → Starting d code cells pc w l → LeftHas d l → Held code cells d (uses_of_left l).reads → Alike n d the_body (task number turns pc f w) l
-
-  fits_protocol : (o : Option Protocol) (p : Protocol) (m : Message) → o ≡ Some p → FitsProtocol o m → Fits p m
-  fits_protocol o p m e h = subst (λ x. FitsProtocol x m) e h
-
-  same_stop : (n number turns pc : ℕ) (f : Variables) {w : Wait} {r : Left} → GoesOn n → LeftHas d r → Held code cells d (uses_of_left r).reads → Rested d code cells pc w r → SameStop d (Alike n d the_body) (task number turns pc f w) r w
-  same_stop n number turns pc f go h u (offers k e) = (k, refl, go number turns pc f Ready (left (Do Skip) k) (does k pc stays e) (tt, h.1) u)
-  same_stop n number turns pc f go h u (awaits {c = c} {list = list} k mid l e) =
-      (k, list, refl, λ m fit. go number turns pc f (Took 0 [] (Some m)) (left (Taking [] (MessageTaken list m)) k) (takes k mid l e) ((tt, (h.0.0, h.0.2, fits_protocol (d.protocols c) h.0.0 m h.0.1 fit)), h.1) u)
-  same_stop n number turns pc f go h u (loops {l = l} k mid x e) = (k, l, refl, go number turns pc f Ready (left (Again l) k) (turns_again k mid x e) h u)
-  same_stop n number turns pc f go h u (halts k) = (k, refl)
-  same_stop n number turns pc f go h u (fails k) = (k, refl)
-  same_stop n number turns pc f go h u finished = ([], refl)
 
   holds_as : (f : Variables) (s : Store) → Agrees d cells f s → HoldsAs cells f s
   holds_as f s h = record { shape = h.shape; same = h.same }
@@ -248,28 +247,133 @@ module _ (d : Declared) (code : List Instruction) (cells writes : List ℕ) (loo
   holds_itself : (f : Variables) (s : Store) → Agrees d cells f s → HoldsAs cells f (at f)
   holds_itself f s h = record { shape = h.shape; same = λ c m. refl }
 
-  same_turn : (n number turns pc : ℕ) (f : Variables) {w : Wait} {l : Left} → GoesOn n → LeftHas d l → Held code cells d (uses_of_left l).reads → Begun d code cells w pc f l
-      → (s : Store) → Agrees d cells f s → SameTurn d the_body (Alike n d the_body) (task number turns pc f w) l s
-  same_turn n number turns pc f {w = w} {l = l} go h u b s ag =
+  -- ---- turns that pass the stops of loops
+
+  -- so many stops of loops at most, from a store that agrees
+  record LongTurn (q number turns pc : ℕ) (f : Variables) (w : Wait) (l : Left) (s : Store) : Type 0 where
+    stands : ℕ
+    frame : Variables
+    wait : Wait
+    rest : Left
+    store : Store
+    stops_in : StopsIn code q (task number turns pc f w) (task number turns stands frame wait)
+    turn : Turn q l s rest store
+    agrees : Agrees d cells frame store
+    types : LeftHas d rest
+    held : Held code cells d (uses_of_left rest).reads
+    room : length frame.left ≡ loops_
+    rests : Rested d code loops_ cells frame.left stands wait rest
+
+  abbrev GoesFor : ℕ → ℕ → ℕ → Type 0
+  GoesFor q number turns =
+      (pc : ℕ) (f : Variables) (w : Wait) (l : Left) → length f.left ≡ loops_ → Starting d code loops_ cells f.left pc w l → LeftHas d l → Held code cells d (uses_of_left l).reads
+      → (s : Store) → Agrees d cells f s → LongTurn (suc q) number turns pc f w l s
+
+  module _ (q number turns pc : ℕ) (f : Variables) (w : Wait) (l : Left) (s : Store) (pc' : ℕ) (f' : Variables) (s' : Store) where
+    -- after one stop that is no loop's
+    stays_there : {w' : Wait} {r : Left} → (IsReady w' → ⊥) → IsFalse (is_looping (status r)) → SingleStop code (task number turns pc f w) (task number turns pc' f' w') → SingleTurn l s r s' → Agrees d cells f' s' → LeftHas d r
+        → Held code cells d (uses_of_left r).reads → length f'.left ≡ loops_ → Rested d code loops_ cells f'.left pc' w' r → LongTurn (suc (suc q)) number turns pc f w l s
+    stays_there {w'} {r} no_loop no_stop single t ag h u room rests =
+        record { stands = pc'; frame = f'; wait = w'; rest = r; store = s'; stops_in = stops_here single (inr no_loop); turn = stops t (inr no_stop); agrees = ag; types = h; held = u; room = room; rests = rests }
+
+    -- after the first stop: a loop's is passed
+    further : {w' : Wait} {r : Left} → SingleStop code (task number turns pc f w) (task number turns pc' f' w') → SingleTurn l s r s' → Agrees d cells f' s' → LeftHas d r → Held code cells d (uses_of_left r).reads → length f'.left ≡ loops_
+        → Rested d code loops_ cells f'.left pc' w' r → GoesFor q number turns → LongTurn (suc (suc q)) number turns pc f w l s
+    further single t ag h u room (offers k slot e) go = stays_there (λ x. absurd cc) refl single t ag h u room (offers k slot e)
+    further single t ag h u room (awaits k slot mid a e) go = stays_there (λ x. absurd cc) refl single t ag h u room (awaits k slot mid a e)
+    further single t ag h u room (stands_again {l = x} k slot mid a e) go =
+        let r = go pc' f' Ready (left (Again x) k) room (turns_again k slot mid a e) h u s' ag in
+        record { stands = r.stands; frame = r.frame; wait = r.wait; rest = r.rest; store = r.store; stops_in = passes_on single refl r.stops_in; turn = passes t refl r.turn; agrees = r.agrees; types = r.types; held = r.held; room = r.room; rests = r.rests }
+    further single t ag h u room (halts k) go = stays_there (λ x. absurd cc) refl single t ag h u room (halts k)
+    further single t ag h u room (fails k) go = stays_there (λ x. absurd cc) refl single t ag h u room (fails k)
+    further single t ag h u room finished go = stays_there (λ x. absurd cc) refl single t ag h u room finished
+
+  -- one stop
+  record OneTurn (number turns pc : ℕ) (f : Variables) (w : Wait) (l : Left) (s : Store) : Type 0 where
+    stands : ℕ
+    frame : Variables
+    wait : Wait
+    rest : Left
+    store : Store
+    single : SingleStop code (task number turns pc f w) (task number turns stands frame wait)
+    turn : SingleTurn l s rest store
+    agrees : Agrees d cells frame store
+    types : LeftHas d rest
+    held : Held code cells d (uses_of_left rest).reads
+    room : length frame.left ≡ loops_
+    rests : Rested d code loops_ cells frame.left stands wait rest
+
+  one_turn : (number turns pc : ℕ) (f : Variables) (w : Wait) (l : Left) → LeftHas d l → Held code cells d (uses_of_left l).reads → Begun d code loops_ cells w pc f l → (s : Store) → Agrees d cells f s → OneTurn number turns pc f w l s
+  one_turn number turns pc f w l h u b s ag =
       let r = b.runs in
       let x = r.turn s (holds_as f s ag) in
       let y = r.turn (at f) (holds_itself f s ag) in
       let kept = turn_keeps d h (frame_typed d cells f s ag) y.turn in
-      let stop : Task = task number turns r.stands r.frame r.wait in
-      let single : SingleStop code (task number turns pc f w) stop = record { first = b.first; last = r.stops_at.last; place = r.stands; frame = r.frame; wait = r.wait; begins = b.begins; walks = r.stops_at.walks; stops = r.stops_at.stops; comes_to = refl } in
       record {
-        after = counted_turn stop;
+        stands = r.stands;
+        frame = r.frame;
+        wait = r.wait;
         rest = r.rest;
         store = x.store;
-        stops = record { stop = stop; stops = stops_here single (inl refl); counts = refl };
-        turn = stops x.turn (inl refl);
+        single = record { first = b.first; last = r.stops_at.last; place = r.stands; frame = r.frame; wait = r.wait; begins = b.begins; walks = r.stops_at.walks; stops = r.stops_at.stops; comes_to = refl };
+        turn = x.turn;
         agrees = record { shape = x.holds.shape; same = x.holds.same; typed = λ c m. subst (λ v. IsTrue (is_of_declared (d.types c) v)) (sym (y.holds.same c m)) (kept.store c) };
-        same = same_stop n number (turns + 1) r.stands r.frame go kept.types (λ c m. u c (kept.use_.reads c m)) r.rests;
+        types = kept.types;
+        held = λ c m. u c (kept.use_.reads c m);
+        room = r.room;
+        rests = r.rests;
+      }
+
+  long_turn : (q number turns : ℕ) → GoesFor q number turns
+  long_turn zero number turns pc f w l room x h u s ag =
+      let o = one_turn number turns pc f w l h u (begun_turn d code loops_ cells f room x h u) s ag in
+      record { stands = o.stands; frame = o.frame; wait = o.wait; rest = o.rest; store = o.store; stops_in = stops_here o.single (inl refl); turn = stops o.turn (inl refl); agrees = o.agrees; types = o.types; held = o.held; room = o.room; rests = o.rests }
+  long_turn (suc q) number turns pc f w l room x h u s ag =
+      let o = one_turn number turns pc f w l h u (begun_turn d code loops_ cells f room x h u) s ag in
+      further q number turns pc f w l s o.stands o.frame o.store o.single o.turn o.agrees o.types o.held o.room o.rests (long_turn q number turns)
+
+module _ (d : Declared) (code : List Instruction) (cells writes : List ℕ) (loops_ q : ℕ) where
+  -- of a quantum above 0
+  abbrev the_body : Body
+  the_body = record { code = code; cells = cells; writes = writes; loops = loops_; quantum = suc q }
+
+  abbrev the_task : ℕ → ℕ → ℕ → Variables → Wait → Task
+  the_task number turns pc f w = task d code cells writes loops_ number turns pc f w
+
+  -- what begins a turn is alike for so many turns
+  abbrev GoesOn : ℕ → Type 0
+  GoesOn n =
+      (number turns pc : ℕ) (f : Variables) (w : Wait) (l : Left) → length f.left ≡ loops_ → Starting d code loops_ cells f.left pc w l → LeftHas d l → Held code cells d (uses_of_left l).reads
+      → Alike n d the_body (the_task number turns pc f w) l
+
+  fits_protocol : (o : Option Protocol) (p : Protocol) (m : Message) → o ≡ Some p → FitsProtocol o m → Fits p m
+  fits_protocol o p m e h = subst (λ x. FitsProtocol x m) e h
+
+  same_stop : (n number turns pc : ℕ) (f : Variables) {w : Wait} {r : Left} → GoesOn n → length f.left ≡ loops_ → LeftHas d r → Held code cells d (uses_of_left r).reads → Rested d code loops_ cells f.left pc w r
+      → SameStop d (Alike n d the_body) (the_task number turns pc f w) r w
+  same_stop n number turns pc f go room h u (offers k slot e) = (k, refl, go number turns pc f Ready (left (Do Skip) k) room (does k slot pc stays e) (tt, h.1) u)
+  same_stop n number turns pc f go room h u (awaits {c = c} {list = list} k slot mid l e) =
+      (k, list, refl, λ m fit. go number turns pc f (Took 0 [] (Some m)) (left (Taking [] (MessageTaken list m)) k) room (takes k slot mid l e) ((tt, (h.0.0, h.0.2, fits_protocol (d.protocols c) h.0.0 m h.0.1 fit)), h.1) u)
+  same_stop n number turns pc f go room h u (stands_again {l = l} k slot mid x e) = (k, l, refl, go number turns pc f Ready (left (Again l) k) room (turns_again k slot mid x e) h u)
+  same_stop n number turns pc f go room h u (halts k) = (k, refl)
+  same_stop n number turns pc f go room h u (fails k) = (k, refl)
+  same_stop n number turns pc f go room h u finished = ([], refl)
+
+  same_turn : (n number turns pc : ℕ) (f : Variables) (w : Wait) (l : Left) (s : Store) → GoesOn n → LongTurn d code cells writes loops_ (suc q) number turns pc f w l s → SameTurn d the_body (Alike n d the_body) (the_task number turns pc f w) l s
+  same_turn n number turns pc f w l s go r =
+      record {
+        after = counted_turn (the_task number turns r.stands r.frame r.wait);
+        rest = r.rest;
+        store = r.store;
+        stops = record { stop = the_task number turns r.stands r.frame r.wait; stops = r.stops_in; counts = refl };
+        turn = r.turn;
+        agrees = r.agrees;
+        same = same_stop n number (turns + 1) r.stands r.frame go r.room r.types r.held r.rests;
       }
 
   alike_all : (n : ℕ) → GoesOn n
-  alike_all zero number turns pc f w l x h u = tt
-  alike_all (suc n) number turns pc f w l x h u = λ s ag. same_turn n number turns pc f (alike_all n) h u (begun_turn d code cells x h u f) s ag
+  alike_all zero number turns pc f w l room x h u = tt
+  alike_all (suc n) number turns pc f w l room x h u = λ s ag. same_turn n number turns pc f w l s (alike_all n) (long_turn d code cells writes loops_ q number turns pc f w l room x h u s ag)
 
   body_does : (t : Term) → IsLaidOut d the_body t → DoesAs d the_body t
   body_does t h =
@@ -277,17 +381,22 @@ module _ (d : Declared) (code : List Instruction) (cells writes : List ℕ) (loo
         cells = h.cells;
         writes = h.writes;
         alike = λ n first small is_first.
-            let at_zero = alike_all n first.number first.turns 0 first.frame Ready (left (Do t) []) (does [] h.last h.code (record { last = h.last; codes = stays; ends_there = h.ends_there })) (h.typed, tt)
+            let at_zero = alike_all n first.number first.turns 0 first.frame Ready (left (Do t) []) (ap length is_first.none_left ∙ length-replicate loops_ 0) (does [] 0 h.last h.code (record { last = h.last; codes = (refl, stays); ends_there = h.ends_there })) (h.typed, tt)
             (λ c m. subst IsTrue (sym (h.cells.members c)) (or_left _ _ (only_first _ m))) in
-            let placed = subst (λ p. Alike n d the_body (task first.number first.turns p first.frame Ready) (left (Do t) [])) (sym is_first.place) at_zero in
-            subst (λ w. Alike n d the_body (task first.number first.turns first.place first.frame w) (left (Do t) [])) (sym is_first.wait) placed;
+            let placed = subst (λ p. Alike n d the_body (the_task first.number first.turns p first.frame Ready) (left (Do t) [])) (sym is_first.place) at_zero in
+            subst (λ w. Alike n d the_body (the_task first.number first.turns first.place first.frame w) (left (Do t) [])) (sym is_first.wait) placed;
       }
     where
       only_first : (a : Bool) → IsTrue (a || false) → IsTrue a
       only_first true e = refl
       only_first false e = e
 
+abbrev with_quantum : Body → ℕ → Body
+with_quantum body q = record { code = body.code; cells = body.cells; writes = body.writes; loops = body.loops; quantum = q }
+
 pub bodies_do : BodiesDo
-bodies_do d body t h =
-    subst (λ q. IsLaidOut d (record { code = body.code; cells = body.cells; writes = body.writes; loops = body.loops; quantum = q }) t → DoesAs d (record { code = body.code; cells = body.cells; writes = body.writes; loops = body.loops; quantum = q }) t)
-    (sym h.single) (body_does d body.code body.cells body.writes body.loops t) h
+bodies_do d body t h = by_quantum body.quantum refl h.quantum
+  where
+    by_quantum : (q : ℕ) → body.quantum ≡ q → 0 < q → DoesAs d body t
+    by_quantum zero e m = absurd (omega (arith, m))
+    by_quantum (suc q) e m = subst (λ n. IsLaidOut d (with_quantum body n) t → DoesAs d (with_quantum body n) t) (sym e) (body_does d body.code body.cells body.writes body.loops q t) h

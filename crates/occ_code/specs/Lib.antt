@@ -1,5 +1,2 @@
-pub mod Machine
 pub mod Alike
-pub mod Emitted
-pub mod Compiled
 pub mod Sequential

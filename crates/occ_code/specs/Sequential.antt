@@ -5,3 +5,6 @@ pub mod Layout
 pub mod Alike
 pub mod Emitted
 pub mod Examples
+pub mod View
+pub mod Cells
+pub mod Compiled

@@ -3,7 +3,7 @@
 use occ_term::{Arm, Choice, Declaration, Target, Term, TermExpr};
 
 /// The line of the first use of a variable or a channel in it that carries one, else 1.
-pub(crate) fn early_line(term: &Term) -> u32 {
+pub fn early_line(term: &Term) -> u32 {
     later(first_line(term), 1)
 }
 

@@ -2,8 +2,8 @@
 
 ghost use Rattle.occ_code.specs.Sequential.Alike.{BodiesDo};
 ghost use Rattle.occ_code.specs.Sequential.Emitted.{BodiesAreSmall, CompiledDo};
-ghost use Rattle.occ_code.specs.Sequential.Examples.{CountsAsCompiled};
-ghost use Rattle.occ_code.specs.Sequential.Laws.{CountersAreApart, ExpressionsRun, ItemsRun, TargetsRun};
+ghost use Rattle.occ_code.specs.Sequential.Examples.{CountsAsCompiled, TwiceAsCompiled};
+ghost use Rattle.occ_code.specs.Sequential.Laws.{CountersAreApart, ExpressionsRun, IndexesAreKept, ItemsRun, TargetsRun};
 
 /// The code of an expression brings its value to the top of the stack, or comes to its fault.
 pub fn expressions_run()
@@ -43,4 +43,14 @@ pub fn counters_are_apart()
 /// A loop that counts is done by its body: the premises of the law can be met.
 pub fn counts_as_compiled()
     ensures { CountsAsCompiled }
+{}
+
+/// A counter keeps the value of an index.
+pub fn indexes_are_kept()
+    ensures { IndexesAreKept }
+{}
+
+/// So is a replicated SEQ.
+pub fn twice_as_compiled()
+    ensures { TwiceAsCompiled }
 {}

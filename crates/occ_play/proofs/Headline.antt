@@ -1,14 +1,13 @@
 -- The answer of an outcome is shown by a run of the source.
-use Rattle.std.proofs.Common.{◌≡◌, ◌∙◌, ◌<◌, ◌^◌, ℕ, ℤ, List, [], ◌∷◌, ◌++◌, Option, Some, None, Bool, true, false, IsTrue, length, map, refl, sym, ap, subst, arith}
+use Rattle.std.proofs.Common.{◌≡◌, ◌∙◌, ◌<◌, ◌^◌, ℕ, ℤ, List, [], ◌∷◌, ◌++◌, Option, Some, None, Bool, true, false, ◌&&◌, IsTrue, length, map, refl, sym, ap, subst, arith}
 use Rattle.std.specs.Prelude.{All, if◌then◌else◌, nat_eq, slice_get}
-use Rattle.std.proofs.lemmas.Bool.{eqb-true}
-use Rattle.occ_term.specs.Messages.{is_of}
-use Rattle.occ_term.specs.Terms.{Constant, OfOne}
-use Rattle.occ_term.specs.Typing.{ItemHas}
-use Rattle.occ_term.specs.declared.primitive.Primitive.{Primitive}
-use Rattle.occ_term.specs.declared.protocol.PartType.{PartType}
-use Rattle.occ_term.specs.declared.protocol.PartType.TheVariants.{One as OneOf, Many as ManyOf, Counted as CountedOf}
+use Rattle.std.proofs.lemmas.Bool.{eq-eqb}
+use Rattle.occ_term.specs.Messages.{Fits, FitsAfter, is_of, message, parts_after}
+use Rattle.occ_term.specs.Processes.{Numbered, numbered, branches_in, branches_in_terms, branches_in_variants, branches_in_choices, branches_in_options}
+use Rattle.occ_term.specs.Terms.{Term, Skip, Stop, Assign, Input, Output, VariantInput, Seq, Par, Alt, If, Case, While, Each, Clear, Local, Terms, no_terms, then_term, Variants, no_variants, or_variant, Choices, no_choices, or_choice, declared_choices, each_choice, Options, no_options, or_option, or_else}
 use Rattle.occ_term.specs.declared.message.Message.{Message}
+use Rattle.occ_term.specs.declared.message.Part.{Part}
+use Rattle.occ_term.specs.declared.message.Part.TheVariants.{One, Many, Counted}
 use Rattle.occ_term.specs.declared.names.Channel.{Channel}
 use Rattle.occ_term.specs.declared.primitive.Primitive.TheVariants.{Byte}
 use Rattle.occ_term.specs.declared.protocol.Protocol.{Protocol}
@@ -16,69 +15,134 @@ use Rattle.occ_term.specs.declared.protocol.Protocol.TheVariants.{Simple}
 use Rattle.occ_term.specs.declared.usage.UsageFault.{UsageFault}
 use Rattle.occ_term.specs.declared.usage.UsageFault.TheVariants as usage
 use Rattle.occ_term.specs.Refusals.{UsageRefuses}
-use Rattle.occ_term.specs.System.{HaltMode, start, Communication}
-use Rattle.occ_term.specs.Runs.{Run, communications, messages_on, sent_on, shown, shown_by, EndsBy}
-use Rattle.occ_term.specs.TermTyping.{Declared, TermHas, TermsHave}
-use Rattle.occ_term.specs.Unfolding.{Unfolding, declared, meaning, Lawful}
+use Rattle.occ_term.specs.System.{HaltMode, start}
+use Rattle.occ_term.specs.Runs.{Run, communications, messages_on, shown, shown_by, EndsBy}
+use Rattle.occ_term.specs.TermTyping.{Declared}
+use Rattle.occ_term.specs.Unfolding.{Unfolding, IsWellFormed, declared, meaning, Lawful}
 use Rattle.occ_code.specs.Alike.{FitsProtocol}
-use Rattle.occ_code.specs.Compiled.{Program, IsCompiledFrom, CodeRefuses}
-use Rattle.occ_code.specs.Machine.{FlatCode}
-use Rattle.occ_code.specs.declared.code.CodeFault.{CodeFault}
-use Rattle.occ_code.specs.declared.code.CodeFault.TheVariants as code
+use Rattle.occ_code.specs.Sequential.Compiled.{Program, IsCompiledFrom, AllDo, CodeRefuses}
+use Rattle.occ_code.specs.Sequential.Emitted.{IsSequential, is_sequential, are_sequential, variants_are_sequential, choices_are_sequential, options_are_sequential}
+use Rattle.occ_code.specs.Sequential.Machine.{Body}
+use Rattle.occ_code.specs.declared.compiler.code.CodeFault.{CodeFault}
+use Rattle.occ_code.specs.declared.compiler.code.CodeFault.TheVariants as code
 use Rattle.occ_play.specs.declared.ending.Choice.{Choice}
 use Rattle.occ_play.specs.declared.ending.Ending.{Ending}
 use Rattle.occ_play.specs.declared.ending.Ending.TheVariants as E
 use Rattle.occ_play.specs.declared.playing.Played.{Played}
 use Rattle.occ_play.specs.declared.running.Outcome.{Outcome}
-use Rattle.occ_play.specs.Answers.{answer_text, names_of}
+use Rattle.occ_play.specs.declared.trace.Communication.{Communication as Made}
+use Rattle.occ_play.specs.Answers.{AreByteMessages, IsByteMessage, answer_text, names_of}
 use Rattle.occ_play.specs.Network.{communication_of}
-use Rattle.occ_play.specs.Following.{ending_as, or_limit}
-use Rattle.occ_play.specs.Outcomes.{Begins, IsOutcome}
-use Rattle.occ_play.specs.Playing.{AllFit, IsAnswer, Unfolds, UsageRefusesText, CodeRefusesText}
+use Rattle.occ_play.specs.Following.{AllFit, AreBytes, Followed, ending_as, or_limit}
+use Rattle.occ_play.specs.Outcomes.{Begins, HasOneProcess, IsOutcome}
+use Rattle.occ_play.specs.Playing.{IsAnswer, Unfolds, UsageRefusesText, CodeRefusesText}
 use Rattle.occ_play.specs.Replay.{Replays, ending_of, ending_by}
-use Rattle.occ_play.specs.ScreenTerms.{ScreenTerm, screen_skip, screen_stop, screen_output, screen_seq, ScreenTerms, screen_none, screen_then, ByteTerm, byte_skip, byte_stop, byte_output, byte_seq, ByteTerms, byte_none, byte_then, IsByte, AreLetters, WritesOnly}
-use Rattle.occ_play.proofs.Simulation.{only_body, replays_are_runs}
-use Rattle.occ_play.proofs.FirstTerms.{form_writes_to_screen}
+use Rattle.occ_play.proofs.Simulation.{replays_are_runs}
 
--- ---- the term writes bytes
+-- ---- a program without PAR has one process
 
-item_byte : (types : ℕ → Option Primitive) (v : ℤ) (x : PartType) → ItemHas types (OfOne Byte (Constant v)) x → IsTrue (is_of Byte v)
-item_byte types v (OneOf type) h = subst (λ t. IsTrue (is_of t v)) (sym h.0) h.1
-item_byte types v (ManyOf sizes type) h = absurd h
-item_byte types v (CountedOf count type) h = absurd h
+both_true : (a b : Bool) → a && b ≡ true → (a ≡ true) × (b ≡ true)
+both_true true b h = (refl, h)
+both_true false b h = absurd cc
+
+none_of : {X : Type 0} (xs ys : List X) → xs ≡ [] → ys ≡ [] → xs ++ ys ≡ []
+none_of xs ys e f = ap (λ l. l ++ ys) e ∙ f
 
 mutual
-  byte_term : (d : Declared) {t : _} → ScreenTerm t → TermHas d t → ByteTerm t
-  byte_term d screen_skip h = byte_skip
-  byte_term d screen_stop h = byte_stop
-  byte_term d (screen_output line v) (p, [], c, e, is) = absurd is
-  byte_term d (screen_output line v) (p, x ∷ xs, c, e, is) = byte_output line v (item_byte d.types v x is.0)
-  byte_term d (screen_seq es) h = byte_seq (byte_terms d es h)
+  no_branches : (t : Term) → is_sequential t ≡ true → branches_in t ≡ []
+  no_branches Skip h = refl
+  no_branches Stop h = refl
+  no_branches (Assign ts vs) h = refl
+  no_branches (Input c ts) h = refl
+  no_branches (Output c tag is) h = refl
+  no_branches (VariantInput c vs) h = none_in_variants vs h
+  no_branches (Seq ts) h = none_among ts h
+  no_branches (Par bs) h = absurd cc
+  no_branches (Alt pri arms) h = absurd cc
+  no_branches (If cs) h = none_in_choices cs h
+  no_branches (Case e os) h = none_in_options os h
+  no_branches (While e b) h = no_branches b h
+  no_branches (Each r b) h = no_branches b h
+  no_branches (Clear first count) h = refl
+  no_branches (Local first value) h = refl
 
-  byte_terms : (d : Declared) {ts : _} → ScreenTerms ts → TermsHave d ts → ByteTerms ts
-  byte_terms d screen_none h = byte_none
-  byte_terms d (screen_then e es) h = byte_then (byte_term d e h.0) (byte_terms d es h.1)
+  none_among : (ts : Terms) → are_sequential ts ≡ true → branches_in_terms ts ≡ []
+  none_among no_terms h = refl
+  none_among (then_term t ts) h =
+      let x = both_true (is_sequential t) (are_sequential ts) h in
+      none_of (branches_in t) (branches_in_terms ts) (no_branches t x.0) (none_among ts x.1)
 
-pub writes_bytes : {source : List ℕ} (u : Unfolding) → Unfolds source u → ByteTerm (meaning u)
-writes_bytes u x = byte_term (declared u) (form_writes_to_screen x.unfolds.form) x.well_formed.typed
+  none_in_variants : (vs : Variants) → variants_are_sequential vs ≡ true → branches_in_variants vs ≡ []
+  none_in_variants no_variants h = refl
+  none_in_variants (or_variant tag ds ts t vs) h =
+      let x = both_true (is_sequential t) (variants_are_sequential vs) h in
+      none_of (branches_in t) (branches_in_variants vs) (no_branches t x.0) (none_in_variants vs x.1)
 
-pub writes_only : {source : List ℕ} (u : Unfolding) (p : Program) → Unfolds source u → IsCompiledFrom u p → WritesOnly p
-writes_only u p x from = record { source = u; compiled = from; term = writes_bytes u x }
+  none_in_choices : (cs : Choices) → choices_are_sequential cs ≡ true → branches_in_choices cs ≡ []
+  none_in_choices no_choices h = refl
+  none_in_choices (or_choice e t cs) h =
+      let x = both_true (is_sequential t) (choices_are_sequential cs) h in
+      none_of (branches_in t) (branches_in_choices cs) (no_branches t x.0) (none_in_choices cs x.1)
+  none_in_choices (declared_choices d within others) h =
+      let x = both_true (choices_are_sequential within) (choices_are_sequential others) h in
+      none_of (branches_in_choices within) (branches_in_choices others) (none_in_choices within x.0) (none_in_choices others x.1)
+  none_in_choices (each_choice r within others) h =
+      let x = both_true (choices_are_sequential within) (choices_are_sequential others) h in
+      none_of (branches_in_choices within) (branches_in_choices others) (none_in_choices within x.0) (none_in_choices others x.1)
 
--- ---- letters fit the screen's protocol
+  none_in_options : (os : Options) → options_are_sequential os ≡ true → branches_in_options os ≡ []
+  none_in_options no_options h = refl
+  none_in_options (or_option constants ds t os) h =
+      let x = both_true (is_sequential t) (options_are_sequential os) h in
+      none_of (branches_in t) (branches_in_options os) (no_branches t x.0) (none_in_options os x.1)
+  none_in_options (or_else ds t os) h =
+      let x = both_true (is_sequential t) (options_are_sequential os) h in
+      none_of (branches_in t) (branches_in_options os) (no_branches t x.0) (none_in_options os x.1)
 
-byte_fits : (m : Message) → IsByte m → FitsProtocol (Some (Simple [] Byte)) m
-byte_fits m h = subst (FitsProtocol (Some (Simple [] Byte))) (sym h.is) ((refl, h.typed), tt)
+only_done : (d : Declared) (n : ℕ) (bodies : List Body) (x : Numbered) → AllDo d n bodies (x ∷ []) → (b : Body) × (bodies ≡ b ∷ [])
+only_done d n [] x h = absurd h
+only_done d n (b ∷ []) x h = (b, refl)
+only_done d n (b ∷ c ∷ bs) x h = absurd h.2
 
-letters_fit : (protocols : ℕ → Option Protocol) → protocols 1 ≡ Some (Simple [] Byte) → (c : ℕ) (xs : List Communication) → AreLetters xs → AllFit (protocols c) (messages_on c xs)
-letters_fit protocols e c [] h = tt
-letters_fit protocols e c (x ∷ xs) h =
-    let rest = letters_fit protocols e c xs h.1 in
-    subst (λ y. AllFit (protocols c) (sent_on c y ++ messages_on c xs)) (sym h.0.is) (by (nat_eq 1 c) refl rest)
+only_body : (u : Unfolding) (p : Program) → IsCompiledFrom u p → IsSequential (meaning u) → (b : Body) × (p.bodies ≡ b ∷ [])
+only_body u p from h =
+    only_done (declared u) 0 p.bodies (numbered 0 (meaning u)) (subst (λ ps. AllDo (declared u) 0 p.bodies ps) (ap (λ l. numbered 0 (meaning u) ∷ l) (no_branches (meaning u) h)) from.bodies)
+
+pub one_process : (u : Unfolding) (p : Program) → IsWellFormed u → IsCompiledFrom u p → IsSequential (meaning u) → HasOneProcess p
+one_process u p w from h = let one = only_body u p from h in record { source = u; well_formed = w; compiled = from; body = one.0; alone = one.1 }
+
+-- ---- what is written to the screen and the error channel
+
+-- a message of the protocol of one byte
+record IsOneByte (tag : Option ℕ) (items : List Part) : Type 0 where
+  pub value : ℤ
+  pub untagged : tag ≡ None
+  pub one : items ≡ One Byte value ∷ []
+  pub typed : IsTrue (is_of Byte value)
+
+one_byte_of : (tag : Option ℕ) (items : List Part) → FitsAfter (parts_after (Simple [] Byte) tag) items → IsOneByte tag items
+one_byte_of (Some t) ps h = absurd h
+one_byte_of None [] h = absurd h
+one_byte_of None (One type v ∷ p ∷ ps) h = absurd h.1
+one_byte_of None (Many type vs ∷ ps) h = absurd h.0
+one_byte_of None (Counted type vs ∷ ps) h = absurd h.0
+one_byte_of None (One type v ∷ []) h = record { value = v; untagged = refl; one = ap (λ t. One t v ∷ []) h.0.0; typed = h.0.1 }
+
+byte_message_of : (m : Message) → Fits (Simple [] Byte) m → IsByteMessage m
+byte_message_of m h =
+    let x = one_byte_of m.tag m.items h in
+    record { value = x.value; is = ap (λ t. message t m.items) x.untagged ∙ ap (message None) x.one; typed = x.typed }
+
+bytes_on : (protocols : ℕ → Option Protocol) (c : ℕ) → protocols c ≡ Some (Simple [] Byte) → (xs : List Made) → AllFit (protocols c) (messages_on c (map communication_of xs)) → AreByteMessages c xs
+bytes_on protocols c e [] h = tt
+bytes_on protocols c e (x ∷ xs) h = by (λ f. bytes_on protocols c e xs f) (nat_eq x.chan c) refl h
   where
-    by : (b : Bool) → nat_eq 1 c ≡ b → AllFit (protocols c) (messages_on c xs) → AllFit (protocols c) ((if b then h.0.sent ∷ [] else []) ++ messages_on c xs)
-    by true q r = (subst (λ o. FitsProtocol o h.0.sent) (sym e ∙ ap protocols (eqb-true 1 c q)) (byte_fits h.0.sent h.0.byte), r)
-    by false q r = r
+    by : (AllFit (protocols c) (messages_on c (map communication_of xs)) → AreByteMessages c xs) → (b : Bool) → nat_eq x.chan c ≡ b → AllFit (protocols c) ((if b then x.message ∷ [] else []) ++ messages_on c (map communication_of xs)) → AreByteMessages c (x ∷ xs)
+    by others true q f = ((λ s. byte_message_of x.message (subst (λ o. FitsProtocol o x.message) e f.0)), others f.1)
+    by others false q f = ((λ s. let r : true ≡ false = sym (eq-eqb x.chan c s) ∙ q in absurd cc), others f)
+
+first_protocols : (u : Unfolding) → IsWellFormed u → ((declared u).protocols 1 ≡ Some (Simple [] Byte)) × ((declared u).protocols 2 ≡ Some (Simple [] Byte))
+first_protocols u w = (ap (λ cs. slice_get (map (λ y. y.protocol) cs) 1) w.begins, ap (λ cs. slice_get (map (λ y. y.protocol) cs) 2) w.begins)
 
 -- ---- endings
 
@@ -94,18 +158,29 @@ none_if (Some e) q h = absurd (h (ap (λ x. Some x) q))
 
 -- ---- the headline
 
+followed : (u : Unfolding) (p : Program) (keyboard : List ℕ) (list : List Choice) (o : Outcome) → IsWellFormed u → IsCompiledFrom u p → IsSequential (meaning u) → AreBytes keyboard → (out : IsOutcome p keyboard list o) → length o.choices.items < 2 ^ 64 → (b : Body) × (p.bodies ≡ b ∷ []) × Followed u keyboard b.quantum out.net
+followed u p keyboard list o w from s bytes out small =
+    let one = only_body u p from s in
+    (one.0, one.1, replays_are_runs u p one.0 keyboard o.choices.items out.net w from one.1 bytes small out.replays)
+
+-- what an outcome's communications carry on the screen's and the error channel
+pub outputs_are_bytes : (u : Unfolding) (p : Program) (keyboard : List ℕ) (list : List Choice) (o : Outcome) → IsWellFormed u → IsCompiledFrom u p → IsSequential (meaning u) → AreBytes keyboard → IsOutcome p keyboard list o → length o.choices.items < 2 ^ 64 → AreByteMessages 1 o.trace.items × AreByteMessages 2 o.trace.items
+outputs_are_bytes u p keyboard list o w from s bytes out small =
+    let f = (followed u p keyboard list o w from s bytes out small).2 in
+    let first = first_protocols u w in
+    let fits : (c : ℕ) → AllFit ((declared u).protocols c) (messages_on c (map communication_of o.trace.items)) = λ c. subst (λ xs. AllFit ((declared u).protocols c) (messages_on c xs)) out.trace (f.fits c) in
+    (bytes_on (declared u).protocols 1 first.0 o.trace.items (fits 1), bytes_on (declared u).protocols 2 first.1 o.trace.items (fits 2))
+
 pub headline : (source keyboard : List ℕ) (list : List Choice) (trace : Bool) (u : Unfolding) (p : Program) (channels : List Channel) (o : Outcome) (played : Played) (bytes : List ℕ)
-    → Unfolds source u → Lawful u → IsCompiledFrom u p → All (λ b. b.quantum ≡ 1) p.bodies → channels ≡ p.channels → IsOutcome p keyboard list o → length o.choices.items < 2 ^ 64
+    → Unfolds source u → IsSequential (meaning u) → Lawful u → IsCompiledFrom u p → All (λ b. b.quantum ≡ 1) p.bodies → AreBytes keyboard → channels ≡ p.channels → IsOutcome p keyboard list o → length o.choices.items < 2 ^ 64
     → played.ending ≡ o.ending → played.choices ≡ o.choices
     → bytes ≡ answer_text (shown_by (names_of channels) (map communication_of o.trace.items)) o.ending trace
     → IsAnswer source keyboard list trace played bytes
-headline source keyboard list trace u p channels o played bytes x lawful from quantum chan out small same_end same_choices is =
-    let one = only_body u p from (writes_bytes u x) in
-    let f = replays_are_runs u p one.0 keyboard o.choices.items out.net from (writes_bytes u x) one.1 small out.replays in
-    let q : one.0.quantum ≡ 1 = quantum_of one.0 (subst (λ bs. All (λ b. b.quantum ≡ 1) bs) one.1 quantum) in
+headline source keyboard list trace u p channels o played bytes x s lawful from quantum keys chan out small same_end same_choices is =
+    let (body, one, f) = followed u p keyboard list o x.well_formed from s keys out small in
+    let q : body.quantum ≡ 1 = quantum_of body (subst (λ bs. All (λ b. b.quantum ≡ 1) bs) one quantum) in
     let ends : or_limit (ending_of out.net) ≡ played.ending = sym out.ending ∙ sym same_end in
     let choices : o.choices.items ≡ played.choices.items = ap (λ v. v.items) (sym same_choices) in
-    let screen : (declared u).protocols 1 ≡ Some (Simple [] Byte) = ap (λ cs. slice_get (map (λ y. y.protocol) cs) 1) x.unfolds.channels in
     let shows : map communication_of o.trace.items ≡ communications f.events = sym out.trace ∙ sym f.communicates in
     record {
       program = u;
@@ -128,16 +203,11 @@ headline source keyboard list trace u p channels o played bytes x lawful from qu
       turns = f.turns;
       output = λ c. f.output c ∙ ap (messages_on c) (sym f.communicates);
       input = λ c. f.input c ∙ ap (messages_on c) (sym f.communicates);
-      fits = λ c. subst (λ xs. AllFit ((declared u).protocols c) (messages_on c xs)) (sym f.communicates) (letters_fit (declared u).protocols screen c out.net.trace f.letters);
+      fits = λ c. subst (λ xs. AllFit ((declared u).protocols c) (messages_on c xs)) (sym f.communicates) (f.fits c);
     }
   where
-    quantum_of : (b : FlatCode) → All (λ c. c.quantum ≡ 1) (b ∷ []) → b.quantum ≡ 1
+    quantum_of : (b : Body) → All (λ c. c.quantum ≡ 1) (b ∷ []) → b.quantum ≡ 1
     quantum_of b h = h 0 b (omega arith)
-
-pub trace_letters : {source : List ℕ} (list : List Choice) (u : Unfolding) (p : Program) (o : Outcome) → Unfolds source u → IsCompiledFrom u p → IsOutcome p [] list o → length o.choices.items < 2 ^ 64 → AreLetters (map communication_of o.trace.items)
-trace_letters list u p o x from out small =
-    let one = only_body u p from (writes_bytes u x) in
-    subst AreLetters out.trace (replays_are_runs u p one.0 [] o.choices.items out.net from (writes_bytes u x) one.1 small out.replays).letters
 
 -- ---- refusals
 
@@ -147,7 +217,9 @@ usage_refuses u (usage.TwoInputs line name) x h = (u, x, h)
 usage_refuses u (usage.TwoOutputs line name) x h = (u, x, h)
 usage_refuses u usage.Memory x h = tt
 
-pub code_refuses : {source : List ℕ} (u : Unfolding) (fault : CodeFault) → Unfolds source u → CodeRefuses fault u → CodeRefusesText fault source
-code_refuses u code.TooLarge x h = (u, x, h)
-code_refuses u (code.Early line) x h = (u, x, h)
+-- a quantum of 1 is refused by none
+pub code_refuses : {source : List ℕ} (u : Unfolding) (fault : CodeFault) → Unfolds source u → CodeRefuses fault 1 u → CodeRefusesText fault source
+code_refuses u code.TooLarge x h = (u, x, h.1)
+code_refuses u (code.Early line) x h = (u, x, h.1)
+code_refuses u code.BadQuantum x h = h (omega arith, omega arith)
 code_refuses u code.Memory x h = tt

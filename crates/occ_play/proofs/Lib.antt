@@ -1,19 +1,12 @@
 mod Growth
 mod PlanLemmas
-mod Walking
-mod Settling
-mod Calm
 mod OneStop
+mod PlainStops
+mod TypedTurns
+mod Settling
 mod Simulation
 mod Rerun
 mod Texts
 mod Traces
 mod Headline
 mod Statuses
-mod FirstLoop
-mod FirstHeader
-pub mod FirstTerms
-mod FirstAgain
-mod FirstSound
-mod FirstUnfolding
-mod FirstTyped

@@ -1,24 +1,43 @@
 -- A run in code is a replay.
-use Rattle.std.proofs.Common.{◌≡◌, ℕ, suc, ◌+◌, ◌<◌, ◌^◌, List, [], ◌∷◌, ◌++◌, Some, None, IsTrue, length, map, take, drop, refl, sym, ap, ◌∙◌, subst, arith, length-append, ◌≤◌, inl, inr}
+use Rattle.std.proofs.Common.{◌≡◌, ℕ, suc, ◌+◌, ◌<◌, ◌^◌, List, [], ◌∷◌, ◌++◌, Some, None, IsTrue, get_or, length, map, take, drop, refl, sym, ap, ◌∙◌, subst, arith, length-append, ◌≤◌, inl, inr}
 use Rattle.std.specs.Prelude.{slice_get, if◌then◌else◌}
 use Rattle.std.proofs.Math.Nat.{mod-one}
 use Rattle.std.proofs.Math.Seq.{take-suc}
 use Rattle.std.proofs.lemmas.List.{take_all, take-append-drop}
 use Rattle.std.proofs.lemmas.Option.{slice_get_within, slice_get_cases, get_or_from_slice_get}
-use Rattle.occ_code.specs.Machine.{FlatCode}
-use Rattle.occ_code.specs.Compiled.{Program, instructions_in}
-use Rattle.occ_code.specs.Emitted.{most_instructions}
+use Rattle.occ_code.specs.Sequential.Machine.{Body}
+use Rattle.occ_code.specs.Sequential.Compiled.{Program, instructions_in, most_instructions}
 use Rattle.occ_code.specs.declared.task.Wait.{Wait}
 use Rattle.occ_code.specs.declared.task.Wait.TheVariants as W
 use Rattle.occ_play.specs.declared.ending.Choice.{Choice}
 use Rattle.occ_play.specs.declared.network.Network.{Network}
 use Rattle.occ_play.specs.declared.running.Outcome.{Outcome}
-use Rattle.occ_play.specs.Network.{HasStop, Holds, TurnsTo, communication_of}
+use Rattle.occ_proc.specs.Turns.{HasStop}
+use Rattle.occ_play.specs.Network.{Holds, TurnsTo, communication_of}
 use Rattle.occ_play.specs.Replay.{Net, begins, goes_on, first_net, first_task, at_start, ending_of, first_fault, main_done, ready_from, ending_by, may_go, selected, OneTurn}
-use Rattle.occ_play.specs.Following.{or_limit}
-use Rattle.occ_play.specs.Outcomes.{Begins, HasReplayed, IsOutcome, ending_at}
-use Rattle.occ_play.specs.ScreenTerms.{WritesOnly}
-use Rattle.occ_play.proofs.Simulation.{has_stop, only_body}
+use Rattle.occ_play.specs.Following.{AreBytes, or_limit}
+use Rattle.occ_play.specs.Outcomes.{Begins, HasOneProcess, HasReplayed, IsOutcome, ending_at}
+use Rattle.occ_play.proofs.Simulation.{has_stop}
+
+-- ---- the body of the one process
+
+pub body_is : (p : Program) (body : Body) → HasOneProcess p → slice_get p.bodies 0 ≡ Some body → p.bodies ≡ body ∷ []
+body_is p body w has =
+    let same : w.body ≡ body = (let q : Some w.body ≡ Some body = ap (λ bs. slice_get bs 0) (sym w.alone) ∙ has in cc) in
+    w.alone ∙ ap (λ b. b ∷ []) same
+
+pub is_there : (p : Program) → HasOneProcess p → slice_get p.bodies 0 ≡ None → ⊥
+is_there p w none = let q : Some w.body ≡ None = ap (λ bs. slice_get bs 0) (sym w.alone) ∙ none in cc
+
+pub body_small : (p : Program) (body : Body) → HasOneProcess p → slice_get p.bodies 0 ≡ Some body → length body.code + 1 < 2 ^ 32
+body_small p body w has =
+    let h : instructions_in (body ∷ []) ≤ most_instructions = subst (λ bs. instructions_in bs ≤ most_instructions) (body_is p body w has) w.compiled.small in
+    omega (arith, h)
+
+-- the bytes of a keyboard
+pub are_bytes : (kb : List ℕ) → ((k : ℕ) → get_or kb k 0 < 256) → AreBytes kb
+are_bytes [] h = tt
+are_bytes (b ∷ bs) h = (h 0, are_bytes bs (λ k. h (suc k)))
 
 pub goes_if : (w : Wait) → ending_at w ≡ None → IsTrue (may_go w)
 goes_if W.Ready e = refl
@@ -31,18 +50,18 @@ goes_if W.Halted e = absurd cc
 goes_if W.Done e = absurd cc
 goes_if (W.Faulted x) e = absurd cc
 
-pub ends_by : (n : Network) (net : Net) → Holds n net → ending_of net ≡ ending_at n.task.wait
-ends_by n net h = ap (λ ts. ending_by (first_fault ts) (main_done ts) (ready_from 0 ts)) h.tasks
+pub ends_by : (kb : List ℕ) (n : Network) (net : Net) → Holds kb n net → ending_of net ≡ ending_at n.task.wait
+ends_by kb n net h = ap (λ ts. ending_by (first_fault ts) (main_done ts) (ready_from 0 ts)) h.tasks
 
 -- of one ready process every choice selects it
 selects_it : (w : Wait) (which : ℕ) → IsTrue (may_go w) → selected (if may_go w then 0 ∷ [] else []) which ≡ Some 0
 selects_it w which g = ap (λ b. selected (if b then 0 ∷ [] else []) which) g ∙ ap (slice_get (0 ∷ [])) (mod-one which)
 
-pub starts : (p : Program) (kb : List ℕ) (body : FlatCode) (n : Network) → p.bodies ≡ body ∷ [] → n.task ≡ first_task 0 body → n.trace.items ≡ [] → HasReplayed p kb [] n
-starts p kb body n one t s =
-    record { net = first_net p kb; replays = begins; holds = record { tasks = ap at_start one ∙ ap (λ x. Some x ∷ []) (sym t); trace = ap (map communication_of) (sym s) } }
+pub starts : (p : Program) (kb : List ℕ) (body : Body) (n : Network) → p.bodies ≡ body ∷ [] → n.task ≡ first_task 0 body → n.used ≡ 0 → n.trace.items ≡ [] → HasReplayed p kb [] n
+starts p kb body n one t k s =
+    record { net = first_net p kb; replays = begins; holds = record { tasks = ap at_start one ∙ ap (λ x. Some x ∷ []) (sym t); bytes = ap (λ i. drop i kb) (sym k); trace = ap (map communication_of) (sym s) } }
 
-pub one_more_turn : (p : Program) (kb : List ℕ) (cs : List Choice) (c : Choice) (body : FlatCode) (old new : Network) → slice_get p.bodies 0 ≡ Some body → ending_at old.task.wait ≡ None → ((net : Net) → Holds old net → TurnsTo body old new net) → HasReplayed p kb cs old → HasReplayed p kb (cs ++ c ∷ []) new
+pub one_more_turn : (p : Program) (kb : List ℕ) (cs : List Choice) (c : Choice) (body : Body) (old new : Network) → slice_get p.bodies 0 ≡ Some body → ending_at old.task.wait ≡ None → ((net : Net) → Holds kb old net → TurnsTo body kb old new net) → HasReplayed p kb cs old → HasReplayed p kb (cs ++ c ∷ []) new
 one_more_turn p kb cs c body old new has open_end turns h =
     let x = turns h.net h.holds in
     let g = goes_if old.task.wait open_end in
@@ -58,13 +77,11 @@ one_more_turn p kb cs c body old new has open_end turns h =
       stops = x.stops;
       settles = x.settles;
     } in
-    record { net = x.next; replays = goes_on h.replays (ends_by old h.net h.holds ∙ open_end) o; holds = x.holds }
+    record { net = x.next; replays = goes_on h.replays (ends_by kb old h.net h.holds ∙ open_end) o; holds = x.holds }
 
-pub may_stop : (p : Program) (kb : List ℕ) (cs : List Choice) (body : FlatCode) (n : Network) → WritesOnly p → slice_get p.bodies 0 ≡ Some body → 1 + length cs < 2 ^ 64 → ending_at n.task.wait ≡ None → HasReplayed p kb cs n → HasStop body n.task
-may_stop p kb cs body n w has small open_end h =
-    let one = only_body w.source p w.compiled w.term in
-    let same : one.0 ≡ body = (let q : Some one.0 ≡ Some body = ap (λ bs. slice_get bs 0) (sym one.1) ∙ has in cc) in
-    has_stop w.source p body kb cs h.net n.task w.compiled w.term (one.1 ∙ ap (λ b. b ∷ []) same) small h.replays h.holds.tasks (goes_if n.task.wait open_end)
+pub may_stop : (p : Program) (kb : List ℕ) (cs : List Choice) (body : Body) (n : Network) → HasOneProcess p → AreBytes kb → slice_get p.bodies 0 ≡ Some body → 1 + length cs < 2 ^ 64 → ending_at n.task.wait ≡ None → HasReplayed p kb cs n → HasStop body n.task
+may_stop p kb cs body n w bytes has small open_end h =
+    has_stop w.source p body kb cs h.net n.task w.well_formed w.compiled (body_is p body w has) bytes small h.replays h.holds.tasks (goes_if n.task.wait open_end)
 
 pub outcome : (p : Program) (kb : List ℕ) (list : List Choice) (n : Network) (o : Outcome) → HasReplayed p kb o.choices.items n → o.trace ≡ n.trace → Begins o.choices.items list → o.ending ≡ or_limit (ending_at n.task.wait) → (ending_at n.task.wait ≡ None → o.choices.items ≡ list) → IsOutcome p kb list o
 outcome p kb list n o h t b e w =
@@ -73,25 +90,9 @@ outcome p kb list n o h t b e w =
       replays = h.replays;
       trace = h.holds.trace ∙ ap (λ x. map communication_of x.items) (sym t);
       used = b;
-      ending = e ∙ ap or_limit (sym (ends_by n h.net h.holds));
-      whole = λ q. w (sym (ends_by n h.net h.holds) ∙ q);
+      ending = e ∙ ap or_limit (sym (ends_by kb n h.net h.holds));
+      whole = λ q. w (sym (ends_by kb n h.net h.holds) ∙ q);
     }
-
--- ---- the body of the one process
-
-pub body_is : (p : Program) (body : FlatCode) → WritesOnly p → slice_get p.bodies 0 ≡ Some body → p.bodies ≡ body ∷ []
-body_is p body w has =
-    let one = only_body w.source p w.compiled w.term in
-    let same : one.0 ≡ body = (let q : Some one.0 ≡ Some body = ap (λ bs. slice_get bs 0) (sym one.1) ∙ has in cc) in
-    one.1 ∙ ap (λ b. b ∷ []) same
-
-pub is_there : (p : Program) → WritesOnly p → slice_get p.bodies 0 ≡ None → ⊥
-is_there p w none = let one = only_body w.source p w.compiled w.term in let q : Some one.0 ≡ None = ap (λ bs. slice_get bs 0) (sym one.1) ∙ none in cc
-
-pub body_small : (p : Program) (body : FlatCode) → WritesOnly p → slice_get p.bodies 0 ≡ Some body → length body.code + 1 < 2 ^ 32
-body_small p body w has =
-    let h : instructions_in (body ∷ []) ≤ most_instructions = subst (λ bs. instructions_in bs ≤ most_instructions) (body_is p body w has) w.compiled.small in
-    omega (arith, h)
 
 -- ---- the used choices
 

@@ -1,108 +1,48 @@
--- A replay of compiled code of the first form is a run of its source.
-use Rattle.std.proofs.Common.{◌≡◌, ℕ, zero, suc, ◌+◌, ◌<◌, ◌^◌, List, [], ◌∷◌, ◌++◌, Option, Some, None, Bool, true, false, IsTrue, length, map, ℤ, refl, sym, ap, ◌∙◌, subst, inl, arith, append_assoc, append-nil, length-append}
-use Rattle.std.specs.Prelude.{◌%◌, slice_get, slice_set, if◌then◌else◌, nat_eq, pos, replicate}
+-- A replay of the code of a program of one process is a run of the program.
+use Rattle.std.proofs.Common.{◌≡◌, ℕ, zero, suc, ◌+◌, ◌<◌, ◌^◌, List, [], ◌∷◌, ◌++◌, Option, Some, None, Bool, true, false, IsTrue, IsFalse, length, map, ℤ, refl, sym, ap, ◌∙◌, subst, inl, inr, arith, append_assoc, append-nil, length-append}
+use Rattle.std.specs.Prelude.{◌%◌, ◌&&◌, ◌||◌, slice_get, slice_set, if◌then◌else◌, int_le, nat_eq, pos, replicate}
+use Rattle.std.proofs.lemmas.Bool.{eq-eqb, eqb-true, le-leb}
 use Rattle.std.proofs.lemmas.List.{length-replicate}
-use Rattle.occ_term.specs.Messages.{is_of}
+use mathlib.Core.Bool.{true≢false}
+use Rattle.std.specs.Bool.{⊤}
+use Rattle.occ_term.specs.Messages.{Fits, is_of}
+use Rattle.occ_term.specs.declared.fault.Fault.{Fault}
+use Rattle.occ_term.specs.declared.message.Message.{Message}
 use Rattle.occ_term.specs.declared.primitive.Primitive.{Primitive}
 use Rattle.occ_term.specs.declared.primitive.Primitive.TheVariants.{Bool as Boolean, Byte, Int}
+use Rattle.occ_term.specs.declared.protocol.Protocol.{Protocol}
+use Rattle.occ_term.specs.declared.protocol.Protocol.TheVariants.{Simple}
+use Rattle.occ_term.specs.Examples.{IsGoing}
 use Rattle.occ_term.specs.Frames.{value_at}
-use Rattle.occ_term.specs.Processes.{Numbered, numbered, branches_in, branches_in_terms, processes_of}
-use mathlib.Core.Bool.{true≢false}
-use Rattle.occ_play.specs.Replay.{may_go, first_task, first_net, at_start, ending_by, or_later, fault_of, is_done, first_fault, main_done}
-use Rattle.occ_play.specs.declared.ending.Ending.{Ending}
-use Rattle.occ_term.specs.declared.message.Message.{Message}
-use Rattle.occ_term.specs.Terms.{Term, Skip, Terms}
+use Rattle.occ_term.specs.Processes.{processes_of}
+use Rattle.occ_term.specs.Terms.{Skip, Reception}
 use Rattle.occ_term.specs.Values.{Store, is_of_declared}
-use Rattle.occ_term.specs.Steps.{Do, Passing, Again, Offering, Awaiting, Choosing, Taking, Forking, Halted, Faulted, Done, Context, Left, left, faults}
+use Rattle.occ_term.specs.Steps.{Loop, Doing, Do, Passing, Again, Offering, Awaiting, Choosing, Taking, MessageTaken, Forking, Halted, Faulted, Done, Context, Left, left, status, status_of, is_ended, faults}
 use Rattle.occ_term.specs.Turns.{Turn}
 use Rattle.occ_term.specs.TermTyping.{Declared}
-use Rattle.occ_term.specs.Unfolding.{Unfolding, meaning, declared}
-use Rattle.occ_term.specs.System.{System, system, start, process, no_processes, HaltMode, SystemTurn, system_turn, turn_here, alone, offer_ends, process_sends, keyboard_sends, screen_receives, error_receives, process_receives, change_here, change_below, meets, passes_skip, OfProcess, Screen, Communication, communication}
-use Rattle.occ_term.specs.Runs.{Event, event, Run, no_turn, goes, communications, sent_on, messages_on, MeetsAtMost, meets_one, EndsBy, by_end, by_standing, goes_on, IsStill, private_step, own_step, branch_step, meeting_step, skip_step}
+use Rattle.occ_term.specs.TypedSteps.{StoreHas, LeftHas}
+use Rattle.occ_term.specs.Unfolding.{Unfolding, IsWellFormed, meaning, declared}
+use Rattle.occ_term.specs.System.{System, system, start, process, no_processes, HaltMode, begun, fault_noted, has_byte, Receives, SystemTurn, system_turn, turn_here, alone, offer_ends, input_gets, process_sends, keyboard_sends, screen_receives, error_receives, process_receives, change_here, change_below, meets, passes_skip, End, OfProcess, Keyboard, Communication, communication}
+use Rattle.occ_term.specs.Runs.{Event, event, Run, no_turn, goes, communications, sent_on, messages_on, MeetsAtMost, meets_none, meets_one, EndsBy, by_fault, by_end, by_standing, goes_on, IsStill, private_step, own_step, branch_step, meeting_step, skip_step}
 use Rattle.occ_term.proofs.Meetings.{unmet}
 use Rattle.occ_term.proofs.Going.{going}
-use Rattle.occ_code.specs.Machine.{FlatCode, Stopping}
-use Rattle.occ_code.specs.Alike.{Agrees, Alike, SameStop, IsFirst, DoesAs}
-use Rattle.occ_code.specs.Compiled.{Program, IsCompiledFrom, AllDo}
+use Rattle.occ_code.specs.Alike.{Agrees, FitsProtocol, SameStop}
+use Rattle.occ_code.specs.Sequential.Machine.{Body, Stopping}
+use Rattle.occ_code.specs.Sequential.Alike.{Alike, IsFirst, DoesAs}
+use Rattle.occ_code.specs.Sequential.Compiled.{Program, IsCompiledFrom, AllDo}
 use Rattle.occ_code.specs.declared.task.Task.{Task}
 use Rattle.occ_code.specs.declared.task.Wait.{Wait}
 use Rattle.occ_code.specs.declared.task.Wait.TheVariants as W
+use Rattle.occ_proc.specs.Turns.{HasStop}
 use Rattle.occ_play.specs.declared.ending.Choice.{Choice}
-use Rattle.occ_play.specs.Replay.{Net, Joined, joined, Gives, task_gives, Gets, screen_gets, error_gets, Settled, joins, stays, made_ready, one_more, took_turn, ending_of, OneTurn, Replays, begins, goes_on as replays_on, ready_from, selected}
-use Rattle.occ_play.specs.Network.{HasStop}
-use Rattle.occ_play.specs.ScreenTerms.{ByteTerm, byte_skip, byte_stop, byte_output, byte_seq, ByteTerms, byte_none, byte_then, IsByte, AreLetters}
-use Rattle.occ_play.specs.Following.{ReplaysAreRuns, process_in, ending_as, or_limit}
-use Rattle.occ_play.proofs.Calm.{CalmContexts, calm_end, Calm, calm_term, calm_offer, calm_halted, calm_done, turn_calm}
+use Rattle.occ_play.specs.declared.ending.Ending.{Ending}
+use Rattle.occ_play.specs.declared.ending.Ending.TheVariants as E
+use Rattle.occ_play.specs.Replay.{Net, Settled, made_ready, has_taken, byte_message, one_more, took_turn, ending_of, OneTurn, Replays, begins, goes_on as replays_on, ready_from, selected, may_go, first_task, first_net, at_start, ending_by, or_later, fault_of, is_done, first_fault, main_done}
+use Rattle.occ_play.specs.Following.{AllFit, AreBytes, ReplaysAreRuns, process_in, ending_as, or_limit}
 use Rattle.occ_play.proofs.OneStop.{stopping_once}
-use Rattle.occ_play.proofs.Settling.{only_task, met_by}
-
--- ---- what is joined
-
--- an end that takes a message changes nothing but its list
-record Same (a b : Net) (c : ℕ) (m : Message) : Type 0 where
-  pub output : b.output ≡ a.output
-  pub input : b.input ≡ one_more a.input c m
-  pub tasks : b.tasks ≡ a.tasks
-  pub keyboard : b.keyboard ≡ a.keyboard
-  pub trace : b.trace ≡ a.trace
-  pub turns : b.turns ≡ a.turns
-
-gets_same : {c : ℕ} {m : Message} {y : _} {a d : Net} → Gets c m y a d → Same a d c m
-gets_same (screen_gets q) = record { output = refl; input = refl; tasks = refl; keyboard = refl; trace = refl; turns = refl }
-gets_same (error_gets q) = record { output = refl; input = refl; tasks = refl; keyboard = refl; trace = refl; turns = refl }
-
-gets_screen : {c : ℕ} {m : Message} {y : _} {a d : Net} → c ≡ 1 → Gets c m y a d → y ≡ Screen
-gets_screen e (screen_gets q) = refl
-gets_screen e (error_gets q) = let h = sym e ∙ q in absurd cc
-
--- the offer of the one task to the screen, joined
-record Written (a : Net) (t : Task) (m : Message) (b : Net) : Type 0 where
-  pub output : b.output ≡ one_more a.output 1 m
-  pub input : b.input ≡ one_more a.input 1 m
-  pub tasks : b.tasks ≡ Some (made_ready t) ∷ []
-  pub keyboard : b.keyboard ≡ a.keyboard
-  pub trace : b.trace ≡ a.trace ++ communication 1 (OfProcess 0) Screen m ∷ []
-  pub turns : b.turns ≡ a.turns
-
-written : {c : ℕ} {m' : Message} {x y : _} {a b d : Net} (t : Task) (m : Message) → a.tasks ≡ Some t ∷ [] → t.wait ≡ W.Offers 1 m → Gives c m' x a b → Gets c m' y b d → Written a t m (record d { trace = d.trace ++ communication c x y m' ∷ [] })
-written {c = c} {m' = m'} {y = y} {a = a} {d = d} t m e w (task_gives {n = n} {t = u} at v) h =
-    let there = only_task t u n (ap (λ ts. slice_get ts n) (sym e) ∙ at) in
-    let offers : W.Offers 1 m ≡ W.Offers c m' = sym w ∙ ap (λ x. x.wait) there.1 ∙ v in
-    let chan : c ≡ 1 = cc in
-    let sent : m' ≡ m = cc in
-    let s = gets_same h in
-    let tasks : slice_set a.tasks n (Some (made_ready u)) ≡ Some (made_ready t) ∷ [] =
-    ap (λ k. slice_set a.tasks k (Some (made_ready u))) there.0 ∙ ap (λ ts. slice_set ts 0 (Some (made_ready u))) e ∙ ap (λ z. Some (made_ready z) ∷ []) (sym there.1) in
-    record {
-      output = s.output ∙ ap (λ k. one_more a.output k m') chan ∙ ap (one_more a.output 1) sent;
-      input = s.input ∙ ap (λ k. one_more a.input k m') chan ∙ ap (one_more a.input 1) sent;
-      tasks = s.tasks ∙ tasks;
-      keyboard = s.keyboard;
-      trace =
-          ap (λ l. l ++ communication c (OfProcess n) y m' ∷ []) s.trace
-          ∙ ap (λ k. a.trace ++ communication k (OfProcess n) y m' ∷ []) chan
-          ∙ ap (λ k. a.trace ++ communication 1 (OfProcess k) y m' ∷ []) there.0
-          ∙ ap (λ k. a.trace ++ communication 1 (OfProcess 0) k m' ∷ []) (gets_screen chan h)
-          ∙ ap (λ k. a.trace ++ communication 1 (OfProcess 0) Screen k ∷ []) sent;
-      turns = s.turns;
-    }
-
-joined_written : {a b : Net} (t : Task) (m : Message) → a.tasks ≡ Some t ∷ [] → t.wait ≡ W.Offers 1 m → Joined a b → Written a t m b
-joined_written t m e w (joined g h) = written t m e w g h
-
-settled_written : {a b : Net} (t : Task) (m : Message) → a.tasks ≡ Some t ∷ [] → t.wait ≡ W.Offers 1 m → Settled a b → Written a t m b
-settled_written t m e w (joins j) = joined_written t m e w j
-settled_written {a = a} t m e w (stays none) = absurd (none _ (met_by a t 1 m _ e w refl).join)
-
-unoffered : {a b : Net} (t : Task) → a.tasks ≡ Some t ∷ [] → ((c : ℕ) (m : Message) → t.wait ≡ W.Offers c m → ⊥) → Joined a b → ⊥
-unoffered {a = a} t e none (joined g h) = by g
-  where
-    by : {c : ℕ} {m : Message} {x : _} {d : Net} → Gives c m x a d → ⊥
-    by (task_gives {n = n} {t = u} at w) = none _ _ (ap (λ x. x.wait) (only_task t u n (ap (λ ts. slice_get ts n) (sym e) ∙ at)).1 ∙ w)
-
-settled_stays : {a b : Net} (t : Task) → a.tasks ≡ Some t ∷ [] → ((c : ℕ) (m : Message) → t.wait ≡ W.Offers c m → ⊥) → Settled a b → b ≡ a
-settled_stays t e none (joins j) = absurd (unoffered t e none j)
-settled_stays t e none (stays h) = refl
+use Rattle.occ_play.proofs.PlainStops.{is_plain, plain_turn}
+use Rattle.occ_play.proofs.Settling.{only_task, Reads, screen_reads, error_reads, is_read, written_net, read_net, is_written, has_read, SettledAs, is_met, is_left, settled_as}
+use Rattle.occ_play.proofs.TypedTurns.{turn_typed}
 
 -- ---- who takes a turn
 
@@ -146,33 +86,75 @@ on-append : (c : ℕ) (xs ys : List Communication) → messages_on c (xs ++ ys) 
 on-append c [] ys = refl
 on-append c (x ∷ xs) ys = ap (λ l. sent_on c x ++ l) (on-append c xs ys) ∙ sym (append_assoc (sent_on c x) (messages_on c xs) (messages_on c ys))
 
-all_append : (xs ys : List Communication) → AreLetters xs → AreLetters ys → AreLetters (xs ++ ys)
-all_append [] ys h g = g
-all_append (x ∷ xs) ys h g = (h.0, all_append xs ys h.1 g)
+one_more_at : (lists : ℕ → List Message) (k : ℕ) (m : Message) (x y : End) (c : ℕ) → one_more lists k m c ≡ lists c ++ messages_on c (communication k x y m ∷ [])
+one_more_at lists k m x y c = by (nat_eq k c)
+  where
+    by : (b : Bool) → (if b then lists c ++ m ∷ [] else lists c) ≡ lists c ++ ((if b then m ∷ [] else []) ++ [])
+    by true = refl
+    by false = sym (append-nil (lists c))
 
--- ---- what a stop of such a process is
+-- ---- messages that fit
 
-is_calm : Left → Bool
-is_calm (left (Do t) k) = true
-is_calm (left (Passing l) k) = false
-is_calm (left (Again l) k) = false
-is_calm (left (Offering c m) k) = true
-is_calm (left (Awaiting c l) k) = false
-is_calm (left (Choosing pri arms) k) = false
-is_calm (left (Taking a w) k) = false
-is_calm (left (Forking bs) k) = false
-is_calm (left Halted k) = true
-is_calm (left (Faulted e) k) = false
-is_calm (left Done k) = true
+module _ (protocols : ℕ → Option Protocol) where
+  abbrev FitsOn : Communication → Type 0
+  FitsOn (communication c x y m) = FitsProtocol (protocols c) m
 
-not_calm : (r : Left) → is_calm r ≡ false → Calm r → ⊥
-unfolding is_calm
-not_calm r e (calm_term h k) = true≢false e
-not_calm r e (calm_offer b k) = true≢false e
-not_calm r e calm_halted = true≢false e
-not_calm r e calm_done = true≢false e
+  abbrev FitAll : List Communication → Type 0
+  FitAll [] = ⊤
+  FitAll (x ∷ xs) = FitsOn x × FitAll xs
 
-halted_is_still : (kb : List ℕ) (j : List Context) (s : Store) → IsStill (system kb (process 0 (left Halted j) no_processes) s [])
+  fit_append : (xs ys : List Communication) → FitAll xs → FitAll ys → FitAll (xs ++ ys)
+  fit_append [] ys h g = g
+  fit_append (x ∷ xs) ys h g = (h.0, fit_append xs ys h.1 g)
+
+  fit_on : (c : ℕ) (xs : List Communication) → FitAll xs → AllFit (protocols c) (messages_on c xs)
+  fit_on c [] h = tt
+  fit_on c (communication k x y m ∷ xs) h = by (nat_eq k c) refl (fit_on c xs h.1)
+    where
+      by : (b : Bool) → nat_eq k c ≡ b → AllFit (protocols c) (messages_on c xs) → AllFit (protocols c) ((if b then m ∷ [] else []) ++ messages_on c xs)
+      by true q r = (subst (λ i. FitsProtocol (protocols i) m) (eqb-true k c q) h.0, r)
+      by false q r = r
+
+byte_fits : (b : ℕ) → b < 256 → Fits (Simple [] Byte) (byte_message b)
+byte_fits b h = ((refl, both (int_le (pos 0) (pos b)) (int_le (pos b) (pos 255)) (le-leb 0 b (omega arith)) (le-leb b 255 (omega (arith, h)))), tt)
+  where
+    both : (x y : Bool) → x ≡ true → y ≡ true → (x && y) ≡ true
+    both x y p q = cc
+
+-- ---- what goes on is at no stop but a loop's
+
+quiet : (x : Doing) → IsGoing x → fault_noted (status_of x) ≡ []
+quiet (Do t) h = refl
+quiet (Passing l) h = refl
+quiet (Again l) h = refl
+quiet (Offering c m) h = cc
+quiet (Awaiting c list) h = cc
+quiet (Choosing pri arms) h = cc
+quiet (Taking xs what) h = refl
+quiet (Forking bs) h = cc
+quiet Halted h = cc
+quiet (Faulted e) h = cc
+quiet Done h = cc
+
+unended : (x : Doing) → IsGoing x → IsFalse (is_ended (status_of x))
+unended (Do t) h = refl
+unended (Passing l) h = refl
+unended (Again l) h = refl
+unended (Offering c m) h = cc
+unended (Awaiting c list) h = cc
+unended (Choosing pri arms) h = cc
+unended (Taking xs what) h = refl
+unended (Forking bs) h = cc
+unended Halted h = cc
+unended (Faulted e) h = cc
+unended Done h = cc
+
+-- ---- what waits for another end has no step
+
+abbrev alone_in : List ℕ → Left → Store → System
+alone_in kb own s = system kb (process 0 own no_processes) s (fault_noted (status own))
+
+halted_is_still : (kb : List ℕ) (j : List Context) (s : Store) → IsStill (alone_in kb (left Halted j) s)
 halted_is_still kb j s (private_step (own_step (faults f))) = elim f [ ]
 halted_is_still kb j s (private_step (branch_step x)) = elim x [ ]
 halted_is_still kb j s (meeting_step (meets (process_sends (change_here g)) y)) = elim g [ ]
@@ -184,64 +166,83 @@ halted_is_still kb j s (meeting_step (meets (keyboard_sends q r) (error_receives
 halted_is_still kb j s (skip_step (passes_skip (change_here x))) = elim x [ ]
 halted_is_still kb j s (skip_step (passes_skip (change_below x))) = elim x [ ]
 
-module _ (d : Declared) (body : FlatCode) (kb : List ℕ) where
+unread : (c : ℕ) → is_read c ≡ false → (c ≡ 1 → ⊥) × (c ≡ 2 → ⊥)
+unread c h = ((λ e. let q : is_read 1 ≡ false = ap is_read (sym e) ∙ h in true≢false q), (λ e. let q : is_read 2 ≡ false = ap is_read (sym e) ∙ h in true≢false q))
+
+offer_is_still : (kb : List ℕ) (c : ℕ) (m : Message) (j : List Context) (s : Store) → is_read c ≡ false → IsStill (alone_in kb (left (Offering c m) j) s)
+offer_is_still kb c m j s n (private_step (own_step (faults f))) = elim f [ ]
+offer_is_still kb c m j s n (private_step (branch_step x)) = elim x [ ]
+offer_is_still kb c m j s n (meeting_step (meets (process_sends (change_here offer_ends)) (process_receives (change_here y)))) = elim y [ ]
+offer_is_still kb c m j s n (meeting_step (meets (process_sends (change_here offer_ends)) (process_receives (change_below y)))) = elim y [ ]
+offer_is_still kb c m j s n (meeting_step (meets (process_sends (change_here offer_ends)) (screen_receives h))) = (unread c n).0 h
+offer_is_still kb c m j s n (meeting_step (meets (process_sends (change_here offer_ends)) (error_receives h))) = (unread c n).1 h
+offer_is_still kb c m j s n (meeting_step (meets (process_sends (change_below x)) y)) = elim x [ ]
+offer_is_still kb c m j s n (meeting_step (meets (keyboard_sends q r) (process_receives (change_here y)))) = elim y [ ]
+offer_is_still kb c m j s n (meeting_step (meets (keyboard_sends q r) (process_receives (change_below y)))) = elim y [ ]
+offer_is_still kb c m j s n (meeting_step (meets (keyboard_sends q r) (screen_receives h))) = let e = sym q ∙ h in absurd cc
+offer_is_still kb c m j s n (meeting_step (meets (keyboard_sends q r) (error_receives h))) = let e = sym q ∙ h in absurd cc
+offer_is_still kb c m j s n (skip_step (passes_skip (change_here x))) = elim x [ ]
+offer_is_still kb c m j s n (skip_step (passes_skip (change_below x))) = elim x [ ]
+
+await_is_still : (kb : List ℕ) (c : ℕ) (list : Reception) (j : List Context) (s : Store) → has_byte kb c ≡ false → IsStill (alone_in kb (left (Awaiting c list) j) s)
+await_is_still kb c list j s n (private_step (own_step (faults f))) = elim f [ ]
+await_is_still kb c list j s n (private_step (branch_step x)) = elim x [ ]
+await_is_still kb c list j s n (meeting_step (meets (process_sends (change_here g)) y)) = elim g [ ]
+await_is_still kb c list j s n (meeting_step (meets (process_sends (change_below x)) y)) = elim x [ ]
+await_is_still kb c list j s n (meeting_step (meets (keyboard_sends q r) (process_receives (change_here input_gets)))) = true≢false (sym (eq-eqb c 0 q) ∙ n)
+await_is_still kb c list j s n (meeting_step (meets (keyboard_sends q r) (process_receives (change_below y)))) = elim y [ ]
+await_is_still kb c list j s n (meeting_step (meets (keyboard_sends q r) (screen_receives h))) = let e = sym q ∙ h in absurd cc
+await_is_still kb c list j s n (meeting_step (meets (keyboard_sends q r) (error_receives h))) = let e = sym q ∙ h in absurd cc
+await_is_still kb c list j s n (skip_step (passes_skip (change_here x))) = elim x [ ]
+await_is_still kb c list j s n (skip_step (passes_skip (change_below x))) = elim x [ ]
+
+-- after a fault nobody meets
+fault_meets_none : (kb : List ℕ) (e : Fault) (j : List Context) (s : Store) → MeetsAtMost HaltMode 0 (alone_in kb (left (Faulted e) j) s) None (alone_in kb (left (Faulted e) j) s)
+fault_meets_none kb e j s = meets_none (λ h m. absurd cc)
+
+-- ---- the task and what is left of the process
+
+module _ (d : Declared) (body : Body) where
+  -- at a stop, before what can be joined is joined
   data Rest (k : ℕ) (t : Task) : Left → Type 0 where
-    at_offer : {m : Message} {j : List Context} → t.wait ≡ W.Offers 1 m → IsByte m → CalmContexts j → Alike k d body (made_ready t) (left (Do Skip) j) → Rest k t (left (Offering 1 m) j)
+    at_offer : {c : ℕ} {m : Message} {j : List Context} → t.wait ≡ W.Offers c m → Alike k d body (made_ready t) (left (Do Skip) j) → Rest k t (left (Offering c m) j)
+    at_await : {c : ℕ} {list : Reception} {j : List Context} → t.wait ≡ W.Awaits c → ((m : Message) → FitsProtocol (d.protocols c) m → Alike k d body (has_taken t m) (left (Taking [] (MessageTaken list m)) j)) → Rest k t (left (Awaiting c list) j)
+    at_loop : {l : Loop} {j : List Context} → t.wait ≡ W.Ready → Alike k d body t (left (Again l) j) → Rest k t (left (Again l) j)
     at_halt : {j : List Context} → t.wait ≡ W.Halted → Rest k t (left Halted j)
-    at_end : t.wait ≡ W.Done → Rest k t (left Done [])
+    at_fault : {e : Fault} {j : List Context} → t.wait ≡ W.Faulted e → Rest k t (left (Faulted e) j)
+    at_end : {j : List Context} → t.wait ≡ W.Done → Rest k t (left Done j)
 
-  offer_rest : (k : ℕ) (t : Task) (r : Left) (c : ℕ) (m : Message) (j : List Context) → t.wait ≡ W.Offers c m → r ≡ left (Offering c m) j → Alike k d body (made_ready t) (left (Do Skip) j) → Calm r → Rest k t r
-  offer_rest k t r c m j w e al (calm_term h i) = absurd cc
-  offer_rest k t r c m j w e al (calm_offer {m = m'} {k = j'} b h) =
-      let chan : c ≡ 1 = cc in
-      let same : m ≡ m' = cc in
-      let rests : j ≡ j' = cc in
-      at_offer (w ∙ ap (λ x. W.Offers x m) chan ∙ ap (λ x. W.Offers 1 x) same) b h (subst (λ x. Alike k d body (made_ready t) (left (Do Skip) x)) rests al)
-  offer_rest k t r c m j w e al calm_halted = absurd cc
-  offer_rest k t r c m j w e al calm_done = absurd cc
+  rest_of : (k : ℕ) (t : Task) (r : Left) (w : Wait) → t.wait ≡ w → IsTrue (is_plain w) → SameStop d (Alike k d body) t r w → Rest k t r
+  rest_of k t r W.Ready e p (j, l, q, g) = subst (Rest k t) (sym q) (at_loop e (subst (Alike k d body t) q g))
+  rest_of k t r (W.Took arm is m) e p s = cc
+  rest_of k t r (W.Offers c m) e p (j, q, g) = subst (Rest k t) (sym q) (at_offer e g)
+  rest_of k t r (W.Awaits c) e p (j, list, q, g) = subst (Rest k t) (sym q) (at_await e g)
+  rest_of k t r (W.Chooses pri arms) e p s = cc
+  rest_of k t r (W.Joins ns) e p s = cc
+  rest_of k t r W.Halted e p (j, q) = subst (Rest k t) (sym q) (at_halt e)
+  rest_of k t r W.Done e p (j, q) = subst (Rest k t) (sym q) (at_end e)
+  rest_of k t r (W.Faulted x) e p (j, q) = subst (Rest k t) (sym q) (at_fault e)
 
-  halt_rest : (k : ℕ) (t : Task) (r : Left) (j : List Context) → t.wait ≡ W.Halted → r ≡ left Halted j → Calm r → Rest k t r
-  halt_rest k t r j w e (calm_term h i) = absurd cc
-  halt_rest k t r j w e (calm_offer b h) = absurd cc
-  halt_rest k t r j w e calm_halted = at_halt w
-  halt_rest k t r j w e calm_done = absurd cc
-
-  end_rest : (k : ℕ) (t : Task) (r : Left) (j : List Context) → t.wait ≡ W.Done → r ≡ left Done j → Calm r → Rest k t r
-  end_rest k t r j w e (calm_term h i) = absurd cc
-  end_rest k t r j w e (calm_offer b h) = absurd cc
-  end_rest k t r j w e calm_halted = absurd cc
-  end_rest k t r j w e calm_done = at_end w
-
-  rest_of : (k : ℕ) (t : Task) (r : Left) (w : Wait) → t.wait ≡ w → SameStop d (Alike k d body) t r w → Calm r → Rest k t r
-  unfolding is_calm
-  rest_of k t r W.Ready e (j, l, q, g) h = absurd (not_calm r (ap is_calm q) h)
-  rest_of k t r (W.Took arm is m) e s h = absurd s
-  rest_of k t r (W.Offers c m) e (j, q, g) h = offer_rest k t r c m j e q g h
-  rest_of k t r (W.Awaits c) e (j, l, q, g) h = absurd (not_calm r (ap is_calm q) h)
-  rest_of k t r (W.Chooses pri arms) e (j, es, q, g) h = absurd (not_calm r (ap is_calm q) h)
-  rest_of k t r (W.Joins ns) e (j, bs, q, n, g) h = absurd (not_calm r (ap is_calm q) h)
-  rest_of k t r W.Halted e (j, q) h = halt_rest k t r j e q h
-  rest_of k t r W.Done e (j, q) h = end_rest k t r j e q h
-  rest_of k t r (W.Faulted x) e (j, q) h = absurd (not_calm r (ap is_calm q) h)
-
-  -- ---- the network's state and the system's
-
-  data Stands (k : ℕ) (t : Task) : Left → Type 0 where
-    may_turn : {u : Term} {j : List Context} → t.wait ≡ W.Ready → ByteTerm u → CalmContexts j → Alike k d body t (left (Do u) j) → Stands k t (left (Do u) j)
-    is_halted : {j : List Context} → t.wait ≡ W.Halted → Stands k t (left Halted j)
-    has_ended : t.wait ≡ W.Done → Stands k t (left Done [])
-
-  abbrev alone_in : Left → Store → System
-  alone_in own s = system kb (process 0 own no_processes) s []
+  -- after it is joined
+  data Stands (k : ℕ) (kb : List ℕ) (t : Task) : Left → Type 0 where
+    may_turn : {x : Doing} {j : List Context} → IsTrue (may_go t.wait) → IsGoing x → Alike k d body t (left x j) → Stands k kb t (left x j)
+    offers_still : {c : ℕ} {m : Message} {j : List Context} → t.wait ≡ W.Offers c m → is_read c ≡ false → Stands k kb t (left (Offering c m) j)
+    awaits_still : {c : ℕ} {list : Reception} {j : List Context} → t.wait ≡ W.Awaits c → has_byte kb c ≡ false → Stands k kb t (left (Awaiting c list) j)
+    is_halted : {j : List Context} → t.wait ≡ W.Halted → Stands k kb t (left Halted j)
+    has_failed : {e : Fault} {j : List Context} → t.wait ≡ W.Faulted e → Stands k kb t (left (Faulted e) j)
+    has_ended : {j : List Context} → t.wait ≡ W.Done → Stands k kb t (left Done j)
 
   record Follows (k : ℕ) (net : Net) (sys : System) : Type 0 where
     pub task : Task
     pub own : Left
     pub store : Store
     pub tasks : net.tasks ≡ Some task ∷ []
-    pub is : sys ≡ alone_in own store
+    pub bytes : AreBytes net.keyboard
+    pub is : sys ≡ alone_in net.keyboard own store
+    pub typed : LeftHas d own
+    pub typed_store : StoreHas d store
     pub agrees : Agrees d body.cells task.frame store
-    pub stands : Stands k task own
+    pub stands : Stands k net.keyboard task own
 
   -- the lists of all channels, after what was met
   Lists : (ℕ → List Message) → (ℕ → List Message) → Option Communication → Type 0
@@ -256,100 +257,202 @@ module _ (d : Declared) (body : FlatCode) (kb : List ℕ) where
     pub follows : Follows k next after
     pub trace : next.trace ≡ net.trace ++ listed met
     pub turns : next.turns ≡ net.turns ++ 0 ∷ []
-    pub letters : AreLetters (listed met)
+    pub fits : FitAll d.protocols (listed met)
     pub output : Lists net.output next.output met
     pub input : Lists net.input next.input met
 
-  one_more_at : (lists : ℕ → List Message) (m : Message) (c : ℕ) → one_more lists 1 m c ≡ lists c ++ messages_on c (communication 1 (OfProcess 0) Screen m ∷ [])
-  one_more_at lists m c = by (nat_eq 1 c)
-    where
-      by : (b : Bool) → (if b then lists c ++ m ∷ [] else lists c) ≡ lists c ++ ((if b then m ∷ [] else []) ++ [])
-      by true = refl
-      by false = sym (append-nil (lists c))
+  -- a turn has come to a stop
+  record Came (k : ℕ) (net : Net) (sys : System) (t : Task) (r : Left) (s : Store) : Type 0 where
+    pub tasks : slice_set net.tasks 0 (Some t) ≡ Some t ∷ []
+    pub bytes : AreBytes net.keyboard
+    pub turn : SystemTurn HaltMode body.quantum 0 sys (alone_in net.keyboard r s)
+    pub typed : LeftHas d r
+    pub typed_store : StoreHas d s
+    pub agrees : Agrees d body.cells t.frame s
 
-  -- after a turn, what is joined
-  settle_next : (k : ℕ) (net next : Net) (own : Left) (s : Store) (t : Task) (r : Left) (s' : Store) → slice_set net.tasks 0 (Some t) ≡ Some t ∷ [] → Turn body.quantum own s r s' → Agrees d body.cells t.frame s' → Rest k t r → Settled (took_turn net 0 t) next → Next k net next (alone_in own s)
+  -- nothing is joined
+  none_met : (k : ℕ) (net : Net) (sys : System) (t : Task) (r : Left) (s : Store) → Came k net sys t r s → MeetsAtMost HaltMode 0 (alone_in net.keyboard r s) None (alone_in net.keyboard r s) → Stands k net.keyboard t r → Next k net (took_turn net 0 t) sys
   unfolding listed Lists
-  settle_next k net next own s t r s' e turn ag (at_offer {m = m} {j = j} w b h al) settle =
-      let x = settled_written t m e w settle in
-      record {
-        met = Some (communication 1 (OfProcess 0) Screen m);
-        mid = alone_in (left (Offering 1 m) j) s';
-        after = alone_in (left (Do Skip) j) s';
-        turn = system_turn refl (turn_here alone turn);
-        meets = meets_one refl (inl refl) (meets (process_sends (change_here offer_ends)) (screen_receives refl));
-        follows = record { task = made_ready t; own = left (Do Skip) j; store = s'; tasks = x.tasks; is = refl; agrees = ag; stands = may_turn refl byte_skip h al };
-        trace = x.trace;
-        turns = x.turns;
-        letters = (record { sent = m; is = refl; byte = b }, tt);
-        output = λ c. ap (λ f. f c) x.output ∙ one_more_at net.output m c;
-        input = λ c. ap (λ f. f c) x.input ∙ one_more_at net.input m c;
-      }
-  settle_next k net next own s t r s' e turn ag (at_halt {j = j} w) settle =
-      let none : (c : ℕ) (m : Message) → t.wait ≡ W.Offers c m → ⊥ = λ c m q. cc in
-      let same = settled_stays t e none settle in
+  none_met k net sys t r s h m stands =
       record {
         met = None;
-        mid = alone_in (left Halted j) s';
-        after = alone_in (left Halted j) s';
-        turn = system_turn refl (turn_here alone turn);
-        meets = unmet refl;
-        follows = record { task = t; own = left Halted j; store = s'; tasks = ap (λ n. n.tasks) same ∙ e; is = refl; agrees = ag; stands = is_halted w };
-        trace = ap (λ n. n.trace) same ∙ sym (append-nil net.trace);
-        turns = ap (λ n. n.turns) same;
-        letters = tt;
-        output = λ c. ap (λ n. n.output c) same ∙ sym (append-nil (net.output c));
-        input = λ c. ap (λ n. n.input c) same ∙ sym (append-nil (net.input c));
+        mid = alone_in net.keyboard r s;
+        after = alone_in net.keyboard r s;
+        turn = h.turn;
+        meets = m;
+        follows = record { task = t; own = r; store = s; tasks = h.tasks; bytes = h.bytes; is = refl; typed = h.typed; typed_store = h.typed_store; agrees = h.agrees; stands = stands };
+        trace = sym (append-nil net.trace);
+        turns = refl;
+        fits = tt;
+        output = λ c. sym (append-nil (net.output c));
+        input = λ c. sym (append-nil (net.input c));
       }
-  settle_next k net next own s t r s' e turn ag (at_end w) settle =
-      let none : (c : ℕ) (m : Message) → t.wait ≡ W.Offers c m → ⊥ = λ c m q. cc in
-      let same = settled_stays t e none settle in
+
+  -- an offer was taken
+  offer_met : (k : ℕ) (net : Net) (sys : System) (t : Task) (s : Store) (c : ℕ) (m : Message) (j : List Context) (y : End) → Came k net sys t (left (Offering c m) j) s → Alike k d body (made_ready t) (left (Do Skip) j) → Reads c y → Next k net (written_net (took_turn net 0 t) 0 t c m y) sys
+  unfolding listed Lists
+  offer_met k net sys t s c m j y h al r =
       record {
-        met = None;
-        mid = alone_in (left Done []) s';
-        after = alone_in (left Done []) s';
-        turn = system_turn refl (turn_here alone turn);
-        meets = unmet refl;
-        follows = record { task = t; own = left Done []; store = s'; tasks = ap (λ n. n.tasks) same ∙ e; is = refl; agrees = ag; stands = has_ended w };
-        trace = ap (λ n. n.trace) same ∙ sym (append-nil net.trace);
-        turns = ap (λ n. n.turns) same;
-        letters = tt;
-        output = λ c. ap (λ n. n.output c) same ∙ sym (append-nil (net.output c));
-        input = λ c. ap (λ n. n.input c) same ∙ sym (append-nil (net.input c));
+        met = Some (communication c (OfProcess 0) y m);
+        mid = alone_in net.keyboard (left (Offering c m) j) s;
+        after = alone_in net.keyboard (left (Do Skip) j) s;
+        turn = h.turn;
+        meets = meets_one refl (inl refl) (meets (process_sends (change_here offer_ends)) (received r));
+        follows = record {
+          task = made_ready t;
+          own = left (Do Skip) j;
+          store = s;
+          tasks = ap (λ ts. slice_set ts 0 (Some (made_ready t))) h.tasks;
+          bytes = h.bytes;
+          is = refl;
+          typed = (tt, h.typed.1);
+          typed_store = h.typed_store;
+          agrees = h.agrees;
+          stands = may_turn refl refl al;
+        };
+        trace = refl;
+        turns = refl;
+        fits = (subst (λ o. FitsProtocol o m) (sym h.typed.0.1) h.typed.0.2, tt);
+        output = λ i. one_more_at net.output c m (OfProcess 0) y i;
+        input = λ i. one_more_at net.input c m (OfProcess 0) y i;
+      }
+    where
+      received : {standing : ℕ → Bool} {i : ℕ} {z : End} {b : System} → Reads i z → Receives standing i m z b b
+      received screen_reads = screen_receives refl
+      received error_reads = error_receives refl
+
+  -- the keyboard's next byte was taken
+  byte_met : (k : ℕ) (net : Net) (sys : System) (t : Task) (s : Store) (list : Reception) (j : List Context) (b : ℕ) (kb : List ℕ) → net.keyboard ≡ b ∷ kb → FitsProtocol (d.protocols 0) (byte_message b) → Came k net sys t (left (Awaiting 0 list) j) s → Alike k d body (has_taken t (byte_message b)) (left (Taking [] (MessageTaken list (byte_message b))) j) → Next k net (read_net (took_turn net 0 t) 0 t 0 b kb) sys
+  unfolding listed Lists
+  byte_met k net sys t s list j b kb e fits h al =
+      record {
+        met = Some (communication 0 Keyboard (OfProcess 0) (byte_message b));
+        mid = alone_in net.keyboard (left (Awaiting 0 list) j) s;
+        after = alone_in kb (left (Taking [] (MessageTaken list (byte_message b))) j) s;
+        turn = h.turn;
+        meets =
+            subst (λ x. MeetsAtMost HaltMode 0 (alone_in x (left (Awaiting 0 list) j) s) (Some (communication 0 Keyboard (OfProcess 0) (byte_message b))) (alone_in kb (left (Taking [] (MessageTaken list (byte_message b))) j) s)) (sym e)
+            (meets_one refl (inr refl) (meets (keyboard_sends refl refl) (process_receives (change_here input_gets))));
+        follows = record {
+          task = has_taken t (byte_message b);
+          own = left (Taking [] (MessageTaken list (byte_message b))) j;
+          store = s;
+          tasks = ap (λ ts. slice_set ts 0 (Some (has_taken t (byte_message b)))) h.tasks;
+          bytes = (subst AreBytes e h.bytes).1;
+          is = refl;
+          typed = ((tt, (h.typed.0.0, h.typed.0.2, subst (λ o. FitsProtocol o (byte_message b)) h.typed.0.1 fits)), h.typed.1);
+          typed_store = h.typed_store;
+          agrees = h.agrees;
+          stands = may_turn refl refl al;
+        };
+        trace = refl;
+        turns = refl;
+        fits = (fits, tt);
+        output = λ i. one_more_at net.output 0 (byte_message b) Keyboard (OfProcess 0) i;
+        input = λ i. one_more_at net.input 0 (byte_message b) Keyboard (OfProcess 0) i;
       }
 
-  -- one more turn
-  turn_next : (k : ℕ) (net next : Net) (own : Left) (s : Store) (t after : Task) → net.tasks ≡ Some t ∷ [] → Agrees d body.cells t.frame s → Stands (suc k) t own → IsTrue (may_go t.wait) → Stopping body t after → Settled (took_turn net 0 after) next → Next k net next (alone_in own s)
-  turn_next k net next own s t after e ag (may_turn {u = u} {j = j} w h i al) g stops settle =
-      let x = al s ag in
-      let same : x.after ≡ after = stopping_once body t x.after after x.stops stops in
-      let tasks : slice_set net.tasks 0 (Some x.after) ≡ Some x.after ∷ [] = ap (λ ts. slice_set ts 0 (Some x.after)) e in
-      let rest = rest_of k x.after x.rest x.after.wait refl x.same (turn_calm x.turn (calm_term h i)) in
-      settle_next k net next own s x.after x.rest x.store tasks x.turn x.agrees rest (subst (λ y. Settled (took_turn net 0 y) next) (sym same) settle)
-  turn_next k net next own s t after e ag (is_halted w) g stops settle = let h : may_go t.wait ≡ false = ap may_go w in absurd (true≢false (sym g ∙ h))
-  turn_next k net next own s t after e ag (has_ended w) g stops settle = let h : may_go t.wait ≡ false = ap may_go w in absurd (true≢false (sym g ∙ h))
+  offer_meets_none : (kb : List ℕ) (c : ℕ) (m : Message) (j : List Context) (s : Store) → is_read c ≡ false → MeetsAtMost HaltMode 0 (alone_in kb (left (Offering c m) j) s) None (alone_in kb (left (Offering c m) j) s)
+  offer_meets_none kb c m j s n = unmet (by (nat_eq c 1) (nat_eq c 2) n)
+    where
+      by : (a b : Bool) → (a || b) ≡ false → IsFalse ((a || b || (false || false)) || false)
+      by true b e = cc
+      by false true e = cc
+      by false false e = refl
 
-  one_turn : (p : Program) (k : ℕ) (c : Choice) (net next : Net) (sys : System) → p.bodies ≡ body ∷ [] → Follows (suc k) net sys → OneTurn p c net next → Next k net next sys
-  one_turn p k c net next sys one f o =
-      let which = picked f.task c.which o.number (ap (λ ts. selected (ready_from 0 ts) c.which) (sym f.tasks) ∙ o.selects) in
-      let before : f.task ≡ o.before = (only_task f.task o.before o.number (ap (λ ts. slice_get ts o.number) (sym f.tasks) ∙ o.has_task)).1 in
-      let code : body ≡ o.body = (let q : Some body ≡ Some o.body = ap (λ bs. slice_get bs 0) (sym one) ∙ ap (λ n. slice_get p.bodies n) (sym which.1) ∙ o.has_body in cc) in
-      let stops : Stopping body f.task o.after = subst (λ b. Stopping b f.task o.after) (sym code) (subst (λ t. Stopping o.body t o.after) (sym before) o.stops) in
-      let settles : Settled (took_turn net 0 o.after) next = subst (λ n. Settled (took_turn net n o.after) next) which.1 o.settles in
-      subst (λ y. Next k net next y) (sym f.is) (turn_next k net next f.own f.store f.task o.after f.tasks f.agrees f.stands which.0 stops settles)
+  await_meets_none : (kb : List ℕ) (c : ℕ) (list : Reception) (j : List Context) (s : Store) → has_byte kb c ≡ false → MeetsAtMost HaltMode 0 (alone_in kb (left (Awaiting c list) j) s) None (alone_in kb (left (Awaiting c list) j) s)
+  await_meets_none kb c list j s n = unmet (by (has_byte kb c) n)
+    where
+      by : (a : Bool) → a ≡ false → IsFalse ((a || (false || false)) || false)
+      by true e = cc
+      by false e = refl
+
+  -- a task that neither offers nor awaits
+  untouched : {net next : Net} {t : Task} → SettledAs net t next → ((c : ℕ) (m : Message) → t.wait ≡ W.Offers c m → ⊥) → ((c : ℕ) → t.wait ≡ W.Awaits c → ⊥) → next ≡ net
+  untouched (is_met (is_written w r)) f g = absurd (f _ _ w)
+  untouched (is_met (has_read e w)) f g = absurd (g _ w)
+  untouched (is_left u) f g = refl
+
+  module _ (protocol : d.protocols 0 ≡ Some (Simple [] Byte)) where
+    keyboard_fits : (net : Net) (b : ℕ) (kb : List ℕ) → AreBytes net.keyboard → net.keyboard ≡ b ∷ kb → FitsProtocol (d.protocols 0) (byte_message b)
+    keyboard_fits net b kb h e = subst (λ o. FitsProtocol o (byte_message b)) (sym protocol) (byte_fits b (subst AreBytes e h).0)
+
+    settle_next : (k : ℕ) (net next : Net) (sys : System) (t : Task) (r : Left) (s : Store) → Came k net sys t r s → Rest k t r → SettledAs (took_turn net 0 t) t next → Next k net next sys
+    settle_next k net next sys t r s h (at_offer {c = c} {m = m} {j = j} w al) (is_met (is_written {c = i} {m = n} {y = y} v x)) =
+        let both : W.Offers i n ≡ W.Offers c m = sym v ∙ w in
+        let chan : i ≡ c = cc in
+        let sent : n ≡ m = cc in
+        let same : written_net (took_turn net 0 t) 0 t i n y ≡ written_net (took_turn net 0 t) 0 t c m y = ap (λ z. written_net (took_turn net 0 t) 0 t z n y) chan ∙ ap (λ z. written_net (took_turn net 0 t) 0 t c z y) sent in
+        subst (λ b. Next k net b sys) (sym same) (offer_met k net sys t s c m j y h al (subst (λ z. Reads z y) chan x))
+    settle_next k net next sys t r s h (at_offer w al) (is_met (has_read e v)) = let q = sym w ∙ v in absurd cc
+    settle_next k net next sys t r s h (at_offer {c = c} {m = m} {j = j} w al) (is_left u) =
+        none_met k net sys t (left (Offering c m) j) s h (offer_meets_none net.keyboard c m j s (u.offers c m w)) (offers_still w (u.offers c m w))
+    settle_next k net next sys t r s h (at_await w g) (is_met (is_written v x)) = let q = sym w ∙ v in absurd cc
+    settle_next k net next sys t r s h (at_await {c = c} {list = list} {j = j} w g) (is_met (has_read {b = b} {kb = kb} e v)) =
+        let chan : c ≡ 0 = (let q = sym w ∙ v in cc) in
+        let fits = keyboard_fits net b kb h.bytes e in
+        let al = g (byte_message b) (subst (λ z. FitsProtocol (d.protocols z) (byte_message b)) (sym chan) fits) in
+        byte_met k net sys t s list j b kb e fits (subst (λ z. Came k net sys t (left (Awaiting z list) j) s) chan h) al
+    settle_next k net next sys t r s h (at_await {c = c} {list = list} {j = j} w g) (is_left u) =
+        none_met k net sys t (left (Awaiting c list) j) s h (await_meets_none net.keyboard c list j s (u.awaits c w)) (awaits_still w (u.awaits c w))
+    settle_next k net next sys t r s h (at_loop {l = l} {j = j} w al) x =
+        let same = untouched x (λ c m v. let q = sym w ∙ v in cc) (λ c v. let q = sym w ∙ v in cc) in
+        subst (λ b. Next k net b sys) (sym same) (none_met k net sys t (left (Again l) j) s h (unmet refl) (may_turn (ap may_go w) refl al))
+    settle_next k net next sys t r s h (at_halt {j = j} w) x =
+        let same = untouched x (λ c m v. let q = sym w ∙ v in cc) (λ c v. let q = sym w ∙ v in cc) in
+        subst (λ b. Next k net b sys) (sym same) (none_met k net sys t (left Halted j) s h (unmet refl) (is_halted w))
+    settle_next k net next sys t r s h (at_fault {e = e} {j = j} w) x =
+        let same = untouched x (λ c m v. let q = sym w ∙ v in cc) (λ c v. let q = sym w ∙ v in cc) in
+        subst (λ b. Next k net b sys) (sym same) (none_met k net sys t (left (Faulted e) j) s h (fault_meets_none net.keyboard e j s) (has_failed w))
+    settle_next k net next sys t r s h (at_end {j = j} w) x =
+        let same = untouched x (λ c m v. let q = sym w ∙ v in cc) (λ c v. let q = sym w ∙ v in cc) in
+        subst (λ b. Next k net b sys) (sym same) (none_met k net sys t (left Done j) s h (unmet refl) (has_ended w))
+
+    -- ---- one more turn
+
+    begins_none : {k : ℕ} {t : Task} {r : Left} → Rest k t r → begun (status r) ≡ no_processes
+    begins_none (at_offer w al) = refl
+    begins_none (at_await w g) = refl
+    begins_none (at_loop w al) = refl
+    begins_none (at_halt w) = refl
+    begins_none (at_fault w) = refl
+    begins_none (at_end w) = refl
+
+    turned : (kb : List ℕ) (x : Doing) (j : List Context) (s s' : Store) (r : Left) → IsGoing x → begun (status r) ≡ no_processes → Turn body.quantum (left x j) s r s' → SystemTurn HaltMode body.quantum 0 (alone_in kb (left x j) s) (alone_in kb r s')
+    turned kb x j s s' r h e t =
+        subst (λ n. SystemTurn HaltMode body.quantum 0 (alone_in kb (left x j) s) (system kb (process 0 r no_processes) s' (n ++ fault_noted (status r)))) (quiet x h)
+        (subst (λ ps. SystemTurn HaltMode body.quantum 0 (alone_in kb (left x j) s) (system kb (process 0 r ps) s' (fault_noted (status_of x) ++ fault_noted (status r)))) e
+        (system_turn (quiet x h) (turn_here alone t)))
+
+    never_goes : (w v : Wait) → w ≡ v → may_go v ≡ false → IsTrue (may_go w) → ⊥
+    never_goes w v e n g = true≢false (sym g ∙ ap may_go e ∙ n)
+
+    turn_next : (k : ℕ) (net next : Net) (own : Left) (s : Store) (t after : Task) → net.tasks ≡ Some t ∷ [] → AreBytes net.keyboard → LeftHas d own → StoreHas d s → Agrees d body.cells t.frame s → Stands (suc k) net.keyboard t own → IsTrue (may_go t.wait) → Stopping body t after → Settled (took_turn net 0 after) next → Next k net next (alone_in net.keyboard own s)
+    turn_next k net next own s t after e bytes ht hs ag (may_turn {x = x} {j = j} m h al) g stops settle =
+        let y = al s ag in
+        let same : y.after ≡ after = stopping_once body t y.after after y.stops stops in
+        let tasks : slice_set net.tasks 0 (Some y.after) ≡ Some y.after ∷ [] = ap (λ ts. slice_set ts 0 (Some y.after)) e in
+        let typed = turn_typed d y.turn ht hs in
+        let rest : Rest k y.after y.rest = rest_of k y.after y.rest y.after.wait refl (plain_turn body t y.after y.stops) y.same in
+        let came : Came k net (alone_in net.keyboard (left x j) s) y.after y.rest y.store =
+        record { tasks = tasks; bytes = bytes; turn = turned net.keyboard x j s y.store y.rest h (begins_none rest) y.turn; typed = typed.0; typed_store = typed.1; agrees = y.agrees } in
+        settle_next k net next (alone_in net.keyboard (left x j) s) y.after y.rest y.store came rest (settled_as (took_turn net 0 y.after) y.after tasks (subst (λ z. Settled (took_turn net 0 z) next) (sym same) settle))
+    turn_next k net next own s t after e bytes ht hs ag (offers_still w n) g stops settle = absurd (never_goes _ _ w refl g)
+    turn_next k net next own s t after e bytes ht hs ag (awaits_still w n) g stops settle = absurd (never_goes _ _ w refl g)
+    turn_next k net next own s t after e bytes ht hs ag (is_halted w) g stops settle = absurd (never_goes _ _ w refl g)
+    turn_next k net next own s t after e bytes ht hs ag (has_failed w) g stops settle = absurd (never_goes _ _ w refl g)
+    turn_next k net next own s t after e bytes ht hs ag (has_ended w) g stops settle = absurd (never_goes _ _ w refl g)
+
+    one_turn : (p : Program) (k : ℕ) (c : Choice) (net next : Net) (sys : System) → p.bodies ≡ body ∷ [] → Follows (suc k) net sys → OneTurn p c net next → Next k net next sys
+    one_turn p k c net next sys one f o =
+        let which = picked f.task c.which o.number (ap (λ ts. selected (ready_from 0 ts) c.which) (sym f.tasks) ∙ o.selects) in
+        let before : f.task ≡ o.before = (only_task f.task o.before o.number (ap (λ ts. slice_get ts o.number) (sym f.tasks) ∙ o.has_task)).1 in
+        let code : body ≡ o.body = (let q : Some body ≡ Some o.body = ap (λ bs. slice_get bs 0) (sym one) ∙ ap (λ n. slice_get p.bodies n) (sym which.1) ∙ o.has_body in cc) in
+        let stops : Stopping body f.task o.after = subst (λ b. Stopping b f.task o.after) (sym code) (subst (λ t. Stopping o.body t o.after) (sym before) o.stops) in
+        let settles : Settled (took_turn net 0 o.after) next = subst (λ n. Settled (took_turn net n o.after) next) which.1 o.settles in
+        subst (λ y. Next k net next y) (sym f.is) (turn_next k net next f.own f.store f.task o.after f.tasks f.bytes f.typed f.typed_store f.agrees f.stands which.0 stops settles)
 
   -- ---- the whole replay
-
-  record AllFollowed (u : Unfolding) (k : ℕ) (net : Net) : Type 0 where
-    pub events : List Event
-    pub now : System
-    pub run : Run HaltMode body.quantum (start (meaning u) kb) events now
-    pub turns : map process_in events ≡ net.turns
-    pub communicates : communications events ≡ net.trace
-    pub follows : Follows k net now
-    pub letters : AreLetters net.trace
-    pub output : (c : ℕ) → net.output c ≡ messages_on c net.trace
-    pub input : (c : ℕ) → net.input c ≡ messages_on c net.trace
 
   zero_either : (b : Bool) (v : ℤ) → v ≡ pos 0 → (if b then pos 0 else v) ≡ pos 0
   zero_either true v h = refl
@@ -376,29 +479,54 @@ module _ (d : Declared) (body : FlatCode) (kb : List ℕ) where
         typed = λ c h. subst (λ v. IsTrue (is_of_declared (d.types c) v)) (sym (zero_values body.cells c)) (zero_of_declared (d.types c));
       }
 
-  first_follows : (u : Unfolding) (p : Program) (k : ℕ) → p.bodies ≡ body ∷ [] → ByteTerm (meaning u) → DoesAs d body (meaning u) → k < 2 ^ 64 → Follows k (first_net p kb) (start (meaning u) kb)
-  first_follows u p k one h does small =
-      let first : IsFirst body (first_task 0 body) = record { place = refl; wait = refl; frame = first_agrees.shape; none_left = refl } in
+-- a program of one process, and its keyboard
+record Sources (u : Unfolding) (p : Program) (body : Body) (kb : List ℕ) : Type 0 where
+  pub well_formed : IsWellFormed u
+  pub does : DoesAs (declared u) body (meaning u)
+  pub alone_is : p.bodies ≡ body ∷ []
+  pub bytes : AreBytes kb
+
+keyboard_protocol : (u : Unfolding) → IsWellFormed u → (declared u).protocols 0 ≡ Some (Simple [] Byte)
+keyboard_protocol u w = ap (λ cs. slice_get (map (λ y. y.protocol) cs) 0) w.begins
+
+module _ (u : Unfolding) (p : Program) (body : Body) (kb : List ℕ) (src : Sources u p body kb) where
+  first_follows : (k : ℕ) → k < 2 ^ 64 → Follows (declared u) body k (first_net p kb) (start (meaning u) kb)
+  first_follows k small =
+      let first : IsFirst body (first_task 0 body) = record { place = refl; wait = refl; frame = (first_agrees (declared u) body).shape; none_left = refl } in
       let bound : (first_task 0 body).turns + k < 2 ^ 64 = omega (arith, small) in
       record {
         task = first_task 0 body;
         own = left (Do (meaning u)) [];
         store = λ c. pos 0;
-        tasks = ap at_start one;
+        tasks = ap at_start src.alone_is;
+        bytes = src.bytes;
         is = refl;
-        agrees = first_agrees;
-        stands = may_turn refl h calm_end (does.alike k (first_task 0 body) bound first);
+        typed = (src.well_formed.typed, tt);
+        typed_store = λ c. zero_of_declared (declared u) body ((declared u).types c);
+        agrees = first_agrees (declared u) body;
+        stands = may_turn refl refl (src.does.alike k (first_task 0 body) bound first);
       }
 
-  all_followed : (u : Unfolding) (p : Program) (cs : List Choice) (net : Net) → p.bodies ≡ body ∷ [] → ByteTerm (meaning u) → DoesAs d body (meaning u) → (k : ℕ) → k + length cs < 2 ^ 64 → Replays p kb cs net → AllFollowed u k net
+  record AllFollowed (k : ℕ) (net : Net) : Type 0 where
+    pub events : List Event
+    pub now : System
+    pub run : Run HaltMode body.quantum (start (meaning u) kb) events now
+    pub turns : map process_in events ≡ net.turns
+    pub communicates : communications events ≡ net.trace
+    pub follows : Follows (declared u) body k net now
+    pub fits : FitAll (declared u).protocols net.trace
+    pub output : (c : ℕ) → net.output c ≡ messages_on c net.trace
+    pub input : (c : ℕ) → net.input c ≡ messages_on c net.trace
+
+  all_followed : (cs : List Choice) (net : Net) (k : ℕ) → k + length cs < 2 ^ 64 → Replays p kb cs net → AllFollowed k net
   unfolding Lists
-  all_followed u p cs net one h does k small begins =
+  all_followed cs net k small begins =
       let bound : k < 2 ^ 64 = omega (arith, small) in
-      record { events = []; now = start (meaning u) kb; run = no_turn; turns = refl; communicates = refl; follows = first_follows u p k one h does bound; letters = tt; output = λ c. refl; input = λ c. refl }
-  all_followed u p cs net one h does k small (replays_on {cs = ds} {c = c} {a = a} r e o) =
+      record { events = []; now = start (meaning u) kb; run = no_turn; turns = refl; communicates = refl; follows = first_follows k bound; fits = tt; output = λ c. refl; input = λ c. refl }
+  all_followed cs net k small (replays_on {cs = ds} {c = c} {a = a} r e o) =
       let bound : suc k + length ds < 2 ^ 64 = omega (arith, small, length-append ds (c ∷ [])) in
-      let before = all_followed u p ds a one h does (suc k) bound r in
-      let x = one_turn p k c a net before.now one before.follows o in
+      let before = all_followed ds a (suc k) bound r in
+      let x = one_turn (declared u) body (keyboard_protocol u src.well_formed) p k c a net before.now src.alone_is before.follows o in
       record {
         events = before.events ++ event 0 x.met ∷ [];
         now = x.after;
@@ -406,69 +534,72 @@ module _ (d : Declared) (body : FlatCode) (kb : List ℕ) where
         turns = turns_more before.events 0 x.met ∙ ap (λ l. l ++ 0 ∷ []) before.turns ∙ sym x.turns;
         communicates = met_more before.events 0 x.met ∙ ap (λ l. l ++ listed x.met) before.communicates ∙ sym x.trace;
         follows = x.follows;
-        letters = subst AreLetters (sym x.trace) (all_append a.trace (listed x.met) before.letters x.letters);
-        output = λ c. x.output c ∙ ap (λ l. l ++ messages_on c (listed x.met)) (before.output c) ∙ sym (on-append c a.trace (listed x.met)) ∙ ap (messages_on c) (sym x.trace);
-        input = λ c. x.input c ∙ ap (λ l. l ++ messages_on c (listed x.met)) (before.input c) ∙ sym (on-append c a.trace (listed x.met)) ∙ ap (messages_on c) (sym x.trace);
+        fits = subst (FitAll (declared u).protocols) (sym x.trace) (fit_append (declared u).protocols a.trace (listed x.met) before.fits x.fits);
+        output = λ i. x.output i ∙ ap (λ l. l ++ messages_on i (listed x.met)) (before.output i) ∙ sym (on-append i a.trace (listed x.met)) ∙ ap (messages_on i) (sym x.trace);
+        input = λ i. x.input i ∙ ap (λ l. l ++ messages_on i (listed x.met)) (before.input i) ∙ sym (on-append i a.trace (listed x.met)) ∙ ap (messages_on i) (sym x.trace);
       }
 
-  -- ---- endings
+-- ---- endings
 
-  ending_at : Wait → Ending
-  ending_at w = or_limit (ending_by (or_later (fault_of w) None) (is_done w) (if may_go w then 0 ∷ [] else []))
+ending_at : Wait → Ending
+ending_at w = or_limit (ending_by (or_later (fault_of w) None) (is_done w) (if may_go w then 0 ∷ [] else []))
 
-  ends_as : (k : ℕ) (net : Net) (own : Left) (s : Store) (t : Task) → net.tasks ≡ Some t ∷ [] → Stands k t own → EndsBy HaltMode (alone_in own s) (ending_as (or_limit (ending_of net)))
-  unfolding ending_at
-  ends_as k net own s t e stands = subst (λ x. EndsBy HaltMode (alone_in own s) (ending_as x)) (sym same) (by stands)
-    where
-      same : or_limit (ending_of net) ≡ ending_at t.wait
-      same = ap (λ ts. or_limit (ending_by (first_fault ts) (main_done ts) (ready_from 0 ts))) e
+limit_if : (w : Wait) → IsTrue (may_go w) → ending_at w ≡ E.Limit
+unfolding ending_at
+limit_if W.Ready g = refl
+limit_if (W.Took arm is m) g = refl
+limit_if (W.Offers c m) g = cc
+limit_if (W.Awaits c) g = cc
+limit_if (W.Chooses pri arms) g = cc
+limit_if (W.Joins ns) g = cc
+limit_if W.Halted g = cc
+limit_if W.Done g = cc
+limit_if (W.Faulted x) g = cc
 
-      by : {a : Left} → Stands k t a → EndsBy HaltMode (alone_in a s) (ending_as (ending_at t.wait))
-      by (may_turn {u = u} {j = j} w h i al) = subst (λ x. EndsBy HaltMode (alone_in (left (Do u) j) s) (ending_as (ending_at x))) (sym w) (let x = going (Do u) j s refl in goes_on refl refl (private_step (own_step x.2)))
-      by (is_halted {j = j} w) = subst (λ x. EndsBy HaltMode (alone_in (left Halted j) s) (ending_as (ending_at x))) (sym w) (by_standing refl refl (halted_is_still kb j s))
-      by (has_ended w) = subst (λ x. EndsBy HaltMode (alone_in (left Done []) s) (ending_as (ending_at x))) (sym w) (by_end refl refl)
+ends_by : (d : Declared) (body : Body) (k : ℕ) (kb : List ℕ) (own : Left) (s : Store) (t : Task) → Stands d body k kb t own → EndsBy HaltMode (alone_in kb own s) (ending_as (ending_at t.wait))
+unfolding ending_at
+ends_by d body k kb own s t (may_turn {x = x} {j = j} m h al) =
+    let next = going x j s h in
+    subst (λ e. EndsBy HaltMode (alone_in kb (left x j) s) (ending_as e)) (sym (limit_if t.wait m)) (goes_on (quiet x h) (unended x h) (private_step (own_step next.2)))
+ends_by d body k kb own s t (offers_still {c = c} {m = m} {j = j} w n) =
+    subst (λ x. EndsBy HaltMode (alone_in kb (left (Offering c m) j) s) (ending_as (ending_at x))) (sym w) (by_standing refl refl (offer_is_still kb c m j s n))
+ends_by d body k kb own s t (awaits_still {c = c} {list = list} {j = j} w n) =
+    subst (λ x. EndsBy HaltMode (alone_in kb (left (Awaiting c list) j) s) (ending_as (ending_at x))) (sym w) (by_standing refl refl (await_is_still kb c list j s n))
+ends_by d body k kb own s t (is_halted {j = j} w) = subst (λ x. EndsBy HaltMode (alone_in kb (left Halted j) s) (ending_as (ending_at x))) (sym w) (by_standing refl refl (halted_is_still kb j s))
+ends_by d body k kb own s t (has_failed {e = e} {j = j} w) = subst (λ x. EndsBy HaltMode (alone_in kb (left (Faulted e) j) s) (ending_as (ending_at x))) (sym w) (by_fault refl refl)
+ends_by d body k kb own s t (has_ended {j = j} w) = subst (λ x. EndsBy HaltMode (alone_in kb (left Done j) s) (ending_as (ending_at x))) (sym w) (by_end refl refl)
 
-pub replays_are_runs : ReplaysAreRuns
-replays_are_runs u p body kb cs net from h one small r =
-    let bound : 0 + length cs < 2 ^ 64 = omega (arith, small) in
-    let does : DoesAs (declared u) body (meaning u) = (subst (λ bs. AllDo (declared u) 0 bs (processes_of (meaning u))) one from.bodies).1 in
-    let x = all_followed (declared u) body kb u p cs net one h does 0 bound r in
-    record { events = x.events; system = x.now; run = x.run; turns = x.turns; communicates = x.communicates; output = x.output; input = x.input; letters = x.letters; ends = subst (λ y. EndsBy HaltMode y (ending_as (or_limit (ending_of net)))) (sym x.follows.is) (ends_as (declared u) body kb 0 net x.follows.own x.follows.store x.follows.task x.follows.tasks x.follows.stands) }
+ends_as : (d : Declared) (body : Body) (k : ℕ) (net : Net) (sys : System) → Follows d body k net sys → EndsBy HaltMode sys (ending_as (or_limit (ending_of net)))
+unfolding ending_at
+ends_as d body k net sys f =
+    let same : or_limit (ending_of net) ≡ ending_at f.task.wait = ap (λ ts. or_limit (ending_by (first_fault ts) (main_done ts) (ready_from 0 ts))) f.tasks in
+    subst (λ x. EndsBy HaltMode sys (ending_as x)) (sym same) (subst (λ y. EndsBy HaltMode y (ending_as (ending_at f.task.wait))) (sym f.is) (ends_by d body k net.keyboard f.own f.store f.task f.stands))
 
 -- ---- what a run in code asks
 
--- a program of the first form has one process
-mutual
-  only_branches : {t : Term} → ByteTerm t → branches_in t ≡ []
-  only_branches byte_skip = refl
-  only_branches byte_stop = refl
-  only_branches (byte_output line v b) = refl
-  only_branches (byte_seq es) = none_among es
+one_source : (u : Unfolding) (p : Program) (body : Body) (kb : List ℕ) → IsWellFormed u → IsCompiledFrom u p → p.bodies ≡ body ∷ [] → AreBytes kb → Sources u p body kb
+one_source u p body kb w from one bytes =
+    record { well_formed = w; does = (subst (λ bs. AllDo (declared u) 0 bs (processes_of (meaning u))) one from.bodies).1; alone_is = one; bytes = bytes }
 
-  none_among : {ts : Terms} → ByteTerms ts → branches_in_terms ts ≡ []
-  none_among byte_none = refl
-  none_among (byte_then {t = t} {ts = ts} e es) = ap (λ l. l ++ branches_in_terms ts) (only_branches e) ∙ none_among es
-
-only_done : (d : Declared) (n : ℕ) (bodies : List FlatCode) (x : Numbered) → AllDo d n bodies (x ∷ []) → (b : FlatCode) × (bodies ≡ b ∷ [])
-only_done d n [] x h = absurd h
-only_done d n (b ∷ []) x h = (b, refl)
-only_done d n (b ∷ c ∷ bs) x h = absurd h.2
-
-pub only_body : (u : Unfolding) (p : Program) → IsCompiledFrom u p → ByteTerm (meaning u) → (b : FlatCode) × (p.bodies ≡ b ∷ [])
-only_body u p from h =
-    only_done (declared u) 0 p.bodies (numbered 0 (meaning u)) (subst (λ ps. AllDo (declared u) 0 p.bodies ps) (ap (λ l. numbered 0 (meaning u) ∷ l) (only_branches h)) from.bodies)
+pub replays_are_runs : ReplaysAreRuns
+replays_are_runs u p body kb cs net w from one bytes small r =
+    let bound : 0 + length cs < 2 ^ 64 = omega (arith, small) in
+    let x = all_followed u p body kb (one_source u p body kb w from one bytes) cs net 0 bound r in
+    record { events = x.events; system = x.now; run = x.run; turns = x.turns; communicates = x.communicates; output = x.output; input = x.input; fits = λ c. fit_on (declared u).protocols c net.trace x.fits; ends = ends_as (declared u) body 0 net x.now x.follows }
 
 -- a ready task comes to a stop
-pub has_stop : (u : Unfolding) (p : Program) (body : FlatCode) (kb : List ℕ) (cs : List Choice) (net : Net) (t : Task) → IsCompiledFrom u p → ByteTerm (meaning u) → p.bodies ≡ body ∷ [] → 1 + length cs < 2 ^ 64 → Replays p kb cs net → net.tasks ≡ Some t ∷ [] → IsTrue (may_go t.wait) → HasStop body t
-has_stop u p body kb cs net t from h one small r e g =
-    let does : DoesAs (declared u) body (meaning u) = (subst (λ bs. AllDo (declared u) 0 bs (processes_of (meaning u))) one from.bodies).1 in
-    let x = (all_followed (declared u) body kb u p cs net one h does 1 small r).follows in
+pub has_stop : (u : Unfolding) (p : Program) (body : Body) (kb : List ℕ) (cs : List Choice) (net : Net) (t : Task) → IsWellFormed u → IsCompiledFrom u p → p.bodies ≡ body ∷ [] → AreBytes kb → 1 + length cs < 2 ^ 64 → Replays p kb cs net → net.tasks ≡ Some t ∷ [] → IsTrue (may_go t.wait) → HasStop body t
+has_stop u p body kb cs net t w from one bytes small r e g =
+    let x = (all_followed u p body kb (one_source u p body kb w from one bytes) cs net 1 small r).follows in
     let same : x.task ≡ t = (let q : Some x.task ∷ [] ≡ Some t ∷ [] = sym x.tasks ∙ e in cc) in
-    let stands = subst (λ y. Stands (declared u) body kb 1 y x.own) same x.stands in
+    let stands = subst (λ y. Stands (declared u) body 1 net.keyboard y x.own) same x.stands in
     let ag = subst (λ y. Agrees (declared u) body.cells y.frame x.store) same x.agrees in
     by x.own x.store stands ag
   where
-    by : (own : Left) (s : Store) → Stands (declared u) body kb 1 t own → Agrees (declared u) body.cells t.frame s → HasStop body t
-    by own s (may_turn w i j al) ag = let y = al s ag in record { after = y.after; stops = y.stops }
-    by own s (is_halted w) ag = let h : may_go t.wait ≡ false = ap may_go w in absurd (true≢false (sym g ∙ h))
-    by own s (has_ended w) ag = let h : may_go t.wait ≡ false = ap may_go w in absurd (true≢false (sym g ∙ h))
+    by : (own : Left) (s : Store) → Stands (declared u) body 1 net.keyboard t own → Agrees (declared u) body.cells t.frame s → HasStop body t
+    by own s (may_turn m h al) ag = let y = al s ag in record { after = y.after; stops = y.stops }
+    by own s (offers_still v n) ag = absurd (true≢false (sym g ∙ ap may_go v))
+    by own s (awaits_still v n) ag = absurd (true≢false (sym g ∙ ap may_go v))
+    by own s (is_halted v) ag = absurd (true≢false (sym g ∙ ap may_go v))
+    by own s (has_failed v) ag = absurd (true≢false (sym g ∙ ap may_go v))
+    by own s (has_ended v) ag = absurd (true≢false (sym g ∙ ap may_go v))

@@ -1,10 +1,11 @@
 -- Exit statuses are at most 7, and what they come from.
-use Rattle.std.proofs.Common.{◌≡◌, ℕ, ◌≤◌, ◌<◌, Bool, List, refl, sym, subst, arith}
-use Rattle.std.specs.Prelude.{Result, Ok, Err, IfOk, IfErr, Option, length}
+use Rattle.std.proofs.Common.{ℕ, ◌≤◌, Bool, List, arith}
+use Rattle.std.specs.Prelude.{Result, Ok, Err, IfOk, IfErr, Option}
 use Rattle.occ_text.specs.declared.fault.TextFault.TheVariants as text
 use Rattle.occ_tree.specs.declared.fault.ParseFault.TheVariants as tree
 use Rattle.occ_term.specs.declared.usage.UsageFault.TheVariants as usage
-use Rattle.occ_code.specs.declared.code.CodeFault.TheVariants as code
+use Rattle.occ_check.specs.declared.fault.CheckFault.TheVariants as check
+use Rattle.occ_code.specs.declared.compiler.code.CodeFault.TheVariants as code
 use Rattle.occ_play.specs.declared.ending.Choice.{Choice}
 use Rattle.occ_play.specs.declared.ending.Ending.{Ending}
 use Rattle.occ_play.specs.declared.ending.Ending.TheVariants.{Ended, Stopped, Fault, Limit}
@@ -17,7 +18,7 @@ use Rattle.occ_play.specs.declared.program.Failure.TheVariants.{Help, Words, Arg
 use Rattle.occ_play.specs.Playing.{AfterFault, IsAnswer, IsSomeAnswer, Wrote}
 use Rattle.occ_play.specs.Status.{ending_status, fault_status, status}
 use Rattle.occ_play.specs.Failures.{failure_status}
-use Rattle.occ_play.specs.Coming.{CameTo, IsStatusOf}
+use Rattle.occ_play.specs.Coming.{CameTo}
 
 ending_small : (e : Ending) → ending_status e ≤ 7
 ending_small Ended = omega arith
@@ -30,7 +31,8 @@ fault_small (play.Text text.Memory) = omega arith
 fault_small (play.Text f) = omega arith
 fault_small (play.Parse tree.Memory) = omega arith
 fault_small (play.Parse f) = omega arith
-fault_small (play.Early line) = omega arith
+fault_small (play.Check check.Memory) = omega arith
+fault_small (play.Check f) = omega arith
 fault_small (play.Usage usage.Memory) = omega arith
 fault_small (play.Usage f) = omega arith
 fault_small (play.Code code.Memory) = omega arith
@@ -54,7 +56,7 @@ came_from_fault : {W : Type 0} (contents : W → Option (List ℕ)) (source keyb
     → AfterFault contents (IsSomeAnswer source keyboard list trace) source old new f → CameTo source keyboard list trace (Err f)
 came_from_fault contents source keyboard list trace old new (play.Text f) h = h.0
 came_from_fault contents source keyboard list trace old new (play.Parse f) h = h.0
-came_from_fault contents source keyboard list trace old new (play.Early line) h = h.0
+came_from_fault contents source keyboard list trace old new (play.Check f) h = h.0
 came_from_fault contents source keyboard list trace old new (play.Usage f) h = h.0
 came_from_fault contents source keyboard list trace old new (play.Code f) h = h.0
 came_from_fault contents source keyboard list trace old new (play.Write written) h = (h.1.0, h.1.1)

@@ -1,13 +1,12 @@
 -- The texts and the bytes of communications in a row.
-use Rattle.std.proofs.Common.{◌≡◌, ◌∙◌, ℕ, zero, suc, ◌+◌, ◌<◌, List, [], ◌∷◌, ◌++◌, length, map, take, get_or, None, refl, sym, ap, subst, arith, append_assoc, append-nil}
+use Rattle.std.proofs.Common.{◌≡◌, ◌∙◌, ℕ, zero, suc, ◌+◌, ◌<◌, List, [], ◌∷◌, ◌++◌, length, map, take, get_or, refl, sym, ap, subst, arith, append_assoc, append-nil}
 use Rattle.std.proofs.Math.Seq.{take-suc}
 use Rattle.std.proofs.lemmas.List.{length-take-le}
 use Rattle.occ_term.specs.declared.message.Message.{Message}
 use Rattle.occ_term.specs.Runs.{Names, bytes_in, bytes_of, messages_on, sent_on, entries, entry_of}
 use Rattle.occ_play.specs.declared.trace.Communication.{Communication}
-use Rattle.occ_play.specs.Answers.{line_text, trace_text}
+use Rattle.occ_play.specs.Answers.{AreByteMessages, IsByteMessage, line_text, trace_text}
 use Rattle.occ_play.specs.Network.{communication_of}
-use Rattle.occ_play.specs.ScreenTerms.{AreLetters, IsByte, IsLetter}
 use Rattle.occ_play.proofs.Texts.{IsText}
 
 bytes_of-append : (xs ys : List Message) → bytes_of (xs ++ ys) ≡ bytes_of xs ++ bytes_of ys
@@ -47,18 +46,14 @@ lines_step names xs i x lt is start before after e f =
     ∙ append_assoc start (lines_of names 1 (take i xs)) (line_text (entry_of names (i + 1) (communication_of x)))
     ∙ ap (λ l. start ++ l) (sym more)
 
--- ---- letters
+-- ---- messages of bytes
 
-letter_at : (xs : List Communication) (i : ℕ) (d : Communication) → i < length xs → AreLetters (map communication_of xs) → IsLetter (communication_of (get_or xs i d))
-letter_at [] i d lt h = absurd (omega arith)
-letter_at (x ∷ xs) zero d lt h = h.0
-letter_at (x ∷ xs) (suc i) d lt h = letter_at xs i d (omega arith) h.1
+message_at : (c : ℕ) (xs : List Communication) (i : ℕ) (d : Communication) → i < length xs → AreByteMessages c xs → (get_or xs i d).chan ≡ c → IsByteMessage (get_or xs i d).message
+message_at c [] i d lt h = absurd (omega arith)
+message_at c (x ∷ xs) zero d lt h = h.0
+message_at c (x ∷ xs) (suc i) d lt h = message_at c xs i d (omega arith) h.1
 
-pub byte_at : (xs : List Communication) (i : ℕ) (x : Communication) → i < length xs → x ≡ get_or xs i x → AreLetters (map communication_of xs) → IsByte x.message
-byte_at xs i x lt is h =
-    let l = letter_at xs i x lt h in
-    let same : l.sent ≡ (get_or xs i x).message = (let q = l.is in cc) in
-    subst IsByte (same ∙ ap (λ y. y.message) (sym is)) l.byte
-
-pub untagged : {m : Message} → IsByte m → m.tag ≡ None
-untagged h = ap (λ m. m.tag) h.is
+pub byte_at : (c : ℕ) (xs : List Communication) (i : ℕ) (x : Communication) → i < length xs → x ≡ get_or xs i x → AreByteMessages c xs → x.chan ≡ c → IsByteMessage x.message
+byte_at c xs i x lt is h e =
+    let there : (get_or xs i x).chan ≡ c = ap (λ y. y.chan) (sym is) ∙ e in
+    subst (λ y. IsByteMessage y.message) (sym is) (message_at c xs i x lt h there)

@@ -1,9 +1,11 @@
 -- The bytes of an answer.
-use Rattle.std.specs.Prelude.{Bool, List, None, Option, Some, [], codes, false, if◌then◌else◌, int_le, length, map, not, pos, slice_get, true, ℕ, ℤ, ◌&&◌, ◌++◌, ◌-◌, ◌==◌, ◌∷◌}
+use Rattle.std.specs.Prelude.{Bool, IsTrue, List, None, Option, Some, [], codes, false, if◌then◌else◌, int_le, length, map, not, pos, slice_get, true, ℕ, ℤ, ⊤, ◌≡◌, ◌&&◌, ◌++◌, ◌-◌, ◌==◌, ◌∷◌}
 use Rattle.std.specs.Option.{option_map_or}
 use Rattle.std.specs.Fmt.{decimal, signed_decimal}
 use Rattle.occ_term.specs.declared.primitive.Primitive.{Primitive}
 use Rattle.occ_term.specs.declared.primitive.Primitive.TheVariants.{Bool as Boolean, Byte, Int}
+use Rattle.occ_term.specs.Messages.{is_of, message}
+use Rattle.occ_term.specs.declared.message.Message.{Message}
 use Rattle.occ_term.specs.declared.message.Part.{Part}
 use Rattle.occ_term.specs.declared.message.Part.TheVariants.{One, Many, Counted}
 use Rattle.occ_term.specs.declared.protocol.Protocol.{Protocol}
@@ -120,6 +122,17 @@ abbrev pub names_of : List Channel → Names
 names_of cs = record { channel_name = λ c. name_at (slice_get cs c); tag_name = λ c t. tag_in (slice_get (map (λ x. x.protocol) cs) c) t }
 
 -- ---- what the code writes; private contracts alone cite it
+
+-- a message of one byte
+pub record IsByteMessage (m : Message) : Type 0 where
+  pub value : ℤ
+  pub is : m ≡ message None (One Byte value ∷ [])
+  pub typed : IsTrue (is_of Byte value)
+
+-- all messages on this channel are of one byte
+abbrev pub AreByteMessages : ℕ → List Made → Type 0
+AreByteMessages c [] = ⊤
+AreByteMessages c (x ∷ xs) = (x.chan ≡ c → IsByteMessage x.message) × AreByteMessages c xs
 
 -- a report whose trace is given, or none
 abbrev pub report_of : List Channel → Option (List Made) → Ending → List ℕ

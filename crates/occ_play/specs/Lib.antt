@@ -3,12 +3,9 @@ pub mod Endings
 pub mod Plans
 pub mod Replay
 pub mod Network
-pub mod ScreenTerms
 pub mod Following
 pub mod Outcomes
 pub mod Answers
-pub mod FirstForm
-pub mod FirstReading
 pub mod Status
 pub mod Playing
 pub mod Failures

@@ -1,6 +1,8 @@
 -- What a run of a plan comes to.
 use Rattle.std.specs.Prelude.{List, None, Option, [], if◌then◌else◌, map, ℕ, ◌++◌, ◌∷◌, ◌≡◌}
-use Rattle.occ_code.specs.Compiled.{Program}
+use Rattle.occ_term.specs.Unfolding.{Unfolding, IsWellFormed}
+use Rattle.occ_code.specs.Sequential.Machine.{Body}
+use Rattle.occ_code.specs.Sequential.Compiled.{Program, IsCompiledFrom}
 use Rattle.occ_code.specs.declared.task.Wait.{Wait}
 use Rattle.occ_play.specs.declared.ending.Choice.{Choice}
 use Rattle.occ_play.specs.declared.ending.Ending.{Ending}
@@ -19,7 +21,15 @@ pub record Begins {X : Type 0} (front whole : List X) : Type 0 where
 pub record HasReplayed (p : Program) (keyboard : List ℕ) (choices : List Choice) (n : Network) : Type 0 where
   pub net : Net
   pub replays : Replays p keyboard choices net
-  pub holds : Holds n net
+  pub holds : Holds keyboard n net
+
+-- compiled from a program of one process, which has this body
+pub record HasOneProcess (p : Program) : Type 0 where
+  pub source : Unfolding
+  pub well_formed : IsWellFormed source
+  pub compiled : IsCompiledFrom source p
+  pub body : Body
+  pub alone : p.bodies ≡ body ∷ []
 
 -- the ending of a network whose one process stands so
 abbrev pub ending_at : Wait → Option Ending

@@ -1,5 +1,5 @@
 -- What `play` promises: the answer of an accepted program is shown by a run of its source, with that run's ending.
-use Rattle.std.specs.Prelude.{Bool, List, Option, [], false, length, map, take, ℕ, ⊤, ◌*◌, ◌<◌, ◌∷◌, ◌≡◌}
+use Rattle.std.specs.Prelude.{Bool, List, Option, false, length, map, take, ℕ, ⊤, ◌*◌, ◌<◌, ◌≡◌}
 use Rattle.std.specs.Io.KnownBytes.{Appends}
 use Rattle.occ_text.specs.Words.{Row}
 use Rattle.occ_text.specs.Lines.{LinesOf}
@@ -10,21 +10,20 @@ use Rattle.occ_tree.specs.Processes.Shown.{show_program}
 use Rattle.occ_tree.specs.Processes.Fits.{InBounds}
 use Rattle.occ_tree.specs.declared.fault.ParseFault.{ParseFault}
 use Rattle.occ_tree.specs.declared.fault.ParseFault.TheVariants as tree
-use Rattle.occ_term.specs.declared.message.Message.{Message}
-use Rattle.occ_term.specs.declared.protocol.Protocol.{Protocol}
 use Rattle.occ_term.specs.declared.usage.UsageFault.{UsageFault}
 use Rattle.occ_term.specs.declared.usage.UsageFault.TheVariants as usage
-use Rattle.occ_term.specs.Terms.{Term}
 use Rattle.occ_term.specs.Sizes.{size_of}
 use Rattle.occ_term.specs.Refusals.{UsageRefuses}
 use Rattle.occ_term.specs.Unfolding.{Unfolding, declared, meaning, IsWellFormed, Lawful}
 use Rattle.occ_term.specs.System.{System, start, HaltMode}
 use Rattle.occ_term.specs.Runs.{Event, Run, communications, messages_on, shown, EndsBy}
-use Rattle.occ_code.specs.Alike.{FitsProtocol}
-use Rattle.occ_code.specs.Emitted.{most_instructions, is_early}
-use Rattle.occ_code.specs.Compiled.{Program, IsCompiledFrom}
-use Rattle.occ_code.specs.declared.code.CodeFault.{CodeFault}
-use Rattle.occ_code.specs.declared.code.CodeFault.TheVariants as code
+use Rattle.occ_code.specs.Sequential.Emitted.{is_sequential}
+use Rattle.occ_code.specs.Sequential.Compiled.{Program, IsCompiledFrom, most_instructions}
+use Rattle.occ_unfolding.specs.ProgramUnfolding.{UnfoldsTo}
+use Rattle.occ_check.specs.declared.fault.CheckFault.{CheckFault}
+use Rattle.occ_check.specs.CheckRefuses.{CheckRefuses}
+use Rattle.occ_code.specs.declared.compiler.code.CodeFault.{CodeFault}
+use Rattle.occ_code.specs.declared.compiler.code.CodeFault.TheVariants as code
 use Rattle.occ_play.specs.declared.ending.Choice.{Choice}
 use Rattle.occ_play.specs.declared.ending.Ending.TheVariants as E
 use Rattle.occ_play.specs.declared.playing.Played.{Played}
@@ -33,8 +32,7 @@ use Rattle.occ_play.specs.declared.fault.PlayFault.{PlayFault}
 use Rattle.occ_play.specs.declared.fault.PlayFault.TheVariants as play
 use Rattle.occ_play.specs.Answers.{answer_text, names_of}
 use Rattle.occ_play.specs.Counting.{failures_of, writer_of}
-use Rattle.occ_play.specs.FirstForm.{FirstForm, IsUnfolding}
-use Rattle.occ_play.specs.Following.{ending_as, process_in}
+use Rattle.occ_play.specs.Following.{AllFit, ending_as, process_in}
 use Rattle.occ_play.specs.Outcomes.{Begins}
 use Rattle.occ_play.specs.Replay.{Net, Replays}
 
@@ -51,14 +49,10 @@ pub record Unfolds (source : List ℕ) (u : Unfolding) : Type 0 where
   pub read : LinesOf source lines
   pub items : List Item
   pub parsed : IsTreeOf lines items
-  pub unfolds : IsUnfolding lines u
+  pub unfolds : UnfoldsTo items u
   pub well_formed : IsWellFormed u
 
 -- ---- the answer of an accepted program
-
-abbrev pub AllFit : Option Protocol → List Message → Type 0
-AllFit p [] = ⊤
-AllFit p (m ∷ ms) = FitsProtocol p m × AllFit p ms
 
 -- There is an unfolding of the text that keeps the usage rules, and a run of its system, with one turn for each used
 -- choice by the process that the choice selects, whose answer the bytes are, with that run's ending. The used choices
@@ -98,19 +92,23 @@ abbrev pub ParseRefuses : ParseFault → List ℕ → Type 0
 ParseRefuses tree.Memory source = ⊤
 ParseRefuses fault source = (lines : List Row) (items : List Item) → LinesOf source lines → IsTreeOf lines items → ⊥
 
+abbrev pub CheckRefusesText : CheckFault → List ℕ → Type 0
+CheckRefusesText fault source = (lines : List Row) (items : List Item) → LinesOf source lines → IsTreeOf lines items → CheckRefuses fault items
+
 abbrev pub UsageRefusesText : UsageFault → List ℕ → Type 0
 UsageRefusesText usage.Memory source = ⊤
 UsageRefusesText fault source = (u : Unfolding) × Unfolds source u × UsageRefuses fault u
 
 abbrev pub CodeRefusesText : CodeFault → List ℕ → Type 0
 CodeRefusesText code.Memory source = ⊤
-CodeRefusesText (code.Early line) source = (u : Unfolding) × Unfolds source u × (is_early (meaning u) ≡ false)
+CodeRefusesText (code.Early line) source = (u : Unfolding) × Unfolds source u × (is_sequential (meaning u) ≡ false)
+CodeRefusesText code.BadQuantum source = ⊥
 CodeRefusesText code.TooLarge source = (u : Unfolding) × Unfolds source u × (most_instructions < 32 * (size_of (meaning u)).nodes)
 
 abbrev pub Refuses : List ℕ → PlayFault → Type 0
 Refuses source (play.Text fault) = TextRefuses fault source
 Refuses source (play.Parse fault) = ParseRefuses fault source
-Refuses source (play.Early line) = (lines : List Row) (t : Term) → LinesOf source lines → FirstForm lines t → ⊥
+Refuses source (play.Check fault) = CheckRefusesText fault source
 Refuses source (play.Usage fault) = UsageRefusesText fault source
 Refuses source (play.Code fault) = CodeRefusesText fault source
 Refuses source (play.Write written) = ⊥

@@ -1,14 +1,17 @@
 -- The replay of choices: what a program's network holds after them.
 --
 -- A process is a task between two of its turns. For each choice the chosen ready process takes a turn, and then an
--- offer and an end that takes its message are joined at once. PAR, ALT and input add cases here, and change none.
-use Rattle.std.specs.Prelude.{Bool, List, None, Option, Some, [], false, if◌then◌else◌, length, nat_eq, slice_get, slice_set, true, ℕ, ◌%◌, ◌++◌, ◌+◌, ◌∷◌, ◌≡◌}
+-- offer and an end that takes its message are joined at once. PAR and ALT add cases here, and change none.
+use Rattle.std.specs.Prelude.{Bool, List, None, Option, Some, [], false, if◌then◌else◌, length, nat_eq, pos, slice_get, slice_set, true, ℕ, ◌%◌, ◌++◌, ◌+◌, ◌∷◌, ◌≡◌}
+use Rattle.occ_term.specs.Messages.{message}
+use Rattle.occ_term.specs.declared.message.Part.TheVariants.{One}
+use Rattle.occ_term.specs.declared.primitive.Primitive.TheVariants.{Byte}
 use Rattle.occ_term.specs.declared.message.Message.{Message}
 use Rattle.occ_term.specs.declared.fault.Fault.{Fault}
 use Rattle.occ_term.specs.Frames.{zero_frame}
-use Rattle.occ_term.specs.System.{End, OfProcess, Screen, Error, Communication, communication}
-use Rattle.occ_code.specs.Machine.{FlatCode, Stopping}
-use Rattle.occ_code.specs.Compiled.{Program}
+use Rattle.occ_term.specs.System.{End, OfProcess, Keyboard, Screen, Error, Communication, communication}
+use Rattle.occ_code.specs.Sequential.Machine.{Body, Stopping}
+use Rattle.occ_code.specs.Sequential.Compiled.{Program}
 use Rattle.occ_code.specs.declared.task.Task.{Task}
 use Rattle.occ_code.specs.declared.task.Wait.{Wait}
 use Rattle.occ_code.specs.declared.task.Wait.TheVariants.{Ready, Took, Offers, Awaits, Chooses, Joins, Halted, Done, Faulted}
@@ -27,15 +30,15 @@ pub record Net : Type 0 where
   pub turns : List ℕ
 
 -- a process at its start
-abbrev pub first_task : ℕ → FlatCode → Task
+abbrev pub first_task : ℕ → Body → Task
 first_task number body = record { number = number; turns = 0; place = 0; frame = zero_frame body.cells body.loops; wait = Ready }
 
-abbrev pub none_begun : List FlatCode → List (Option Task)
+abbrev pub none_begun : List Body → List (Option Task)
 none_begun [] = []
 none_begun (b ∷ bs) = None ∷ none_begun bs
 
 -- process 0 begins, alone
-abbrev pub at_start : List FlatCode → List (Option Task)
+abbrev pub at_start : List Body → List (Option Task)
 at_start [] = []
 at_start (b ∷ bs) = Some (first_task 0 b) ∷ none_begun bs
 
@@ -80,15 +83,25 @@ took_turn net n t = record net { tasks = slice_set net.tasks n (Some t); turns =
 abbrev pub made_ready : Task → Task
 made_ready t = record t { wait = Ready }
 
+-- with the message that it awaited
+abbrev pub has_taken : Task → Message → Task
+has_taken t m = record t { wait = Took 0 [] (Some m) }
+
+-- the message of one byte
+abbrev pub byte_message : ℕ → Message
+byte_message b = message None (One Byte (pos b) ∷ [])
+
 abbrev pub one_more : (ℕ → List Message) → ℕ → Message → ℕ → List Message
 one_more lists c m = λ d. if nat_eq c d then lists d ++ m ∷ [] else lists d
 
 -- an end whose output of this message completes
 pub data Gives (c : ℕ) (m : Message) : End → Net → Net → Type 0 where
   task_gives : {n : ℕ} {t : Task} {net : Net} → slice_get net.tasks n ≡ Some (Some t) → t.wait ≡ Offers c m → Gives c m (OfProcess n) net (record (with_task net n (made_ready t)) { output = one_more net.output c m })
+  keyboard_gives : {b : ℕ} {kb : List ℕ} {net : Net} → net.keyboard ≡ b ∷ kb → c ≡ 0 → m ≡ byte_message b → Gives c m Keyboard net (record net { keyboard = kb; output = one_more net.output c m })
 
 -- an end that takes it
 pub data Gets (c : ℕ) (m : Message) : End → Net → Net → Type 0 where
+  task_gets : {n : ℕ} {t : Task} {net : Net} → slice_get net.tasks n ≡ Some (Some t) → t.wait ≡ Awaits c → Gets c m (OfProcess n) net (record (with_task net n (has_taken t m)) { input = one_more net.input c m })
   screen_gets : {net : Net} → c ≡ 1 → Gets c m Screen net (record net { input = one_more net.input c m })
   error_gets : {net : Net} → c ≡ 2 → Gets c m Error net (record net { input = one_more net.input c m })
 
@@ -157,7 +170,7 @@ ending_of net = ending_by (first_fault net.tasks) (main_done net.tasks) (ready_f
 -- the chosen process takes a turn, and what can be joined is joined
 pub record OneTurn (p : Program) (c : Choice) (a b : Net) : Type 0 where
   pub number : ℕ
-  pub body : FlatCode
+  pub body : Body
   pub before : Task
   pub after : Task
   pub selects : selected (ready_from 0 a.tasks) c.which ≡ Some number

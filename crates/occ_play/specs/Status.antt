@@ -3,7 +3,8 @@ use Rattle.std.specs.Prelude.{ℕ, Result, Ok, Err}
 use Rattle.occ_text.specs.declared.fault.TextFault.TheVariants as text
 use Rattle.occ_tree.specs.declared.fault.ParseFault.TheVariants as tree
 use Rattle.occ_term.specs.declared.usage.UsageFault.TheVariants as usage
-use Rattle.occ_code.specs.declared.code.CodeFault.TheVariants as code
+use Rattle.occ_check.specs.declared.fault.CheckFault.TheVariants as check
+use Rattle.occ_code.specs.declared.compiler.code.CodeFault.TheVariants as code
 use Rattle.occ_play.specs.declared.ending.Ending.{Ending}
 use Rattle.occ_play.specs.declared.ending.Ending.TheVariants.{Ended, Stopped, Fault, Limit}
 use Rattle.occ_play.specs.declared.playing.Played.{Played}
@@ -22,7 +23,8 @@ fault_status (play.Text text.Memory) = 5
 fault_status (play.Text fault) = 1
 fault_status (play.Parse tree.Memory) = 5
 fault_status (play.Parse fault) = 1
-fault_status (play.Early line) = 1
+fault_status (play.Check check.Memory) = 5
+fault_status (play.Check fault) = 1
 fault_status (play.Usage usage.Memory) = 5
 fault_status (play.Usage fault) = 1
 fault_status (play.Code code.Memory) = 5

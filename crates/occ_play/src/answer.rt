@@ -2,10 +2,8 @@
 ghost use Rattle.std.specs.Prelude.{◌≡◌, ◌++◌, ◌∷◌, [], ◌<◌, ◌+◌, ◌^◌, Some, None, Option, IfOk, OnOk, List, ℕ, length, map, codes, slice_get};
 ghost use Rattle.std.specs.Fmt.{decimal};
 ghost use Rattle.std.specs.Option.{option_copied};
-ghost use Rattle.std.specs.Option.{ForSome};
-ghost use Rattle.occ_term.specs.Runs.{bytes_in, bytes_of, entry_of, entries, messages_on, sent_on, shown_by};
-ghost use Rattle.occ_play.specs.ScreenTerms.{AreLetters, IsByte};
-ghost use Rattle.occ_play.specs.Answers.{answer_text, value_text, spaced_text, values_text, array_text, part_text, later_text, items_text, end_text, head_text, ends_text, line_text, trace_text, line_break, ends_inside, names_of, name_at, report_of};
+ghost use Rattle.occ_term.specs.Runs.{bytes_in, bytes_of, entry_of, entries, messages_on, sent_on, shown_by, tag_shown};
+ghost use Rattle.occ_play.specs.Answers.{AreByteMessages, IsByteMessage, answer_text, value_text, spaced_text, values_text, array_text, part_text, later_text, items_text, end_text, head_text, ends_text, line_text, trace_text, line_break, ends_inside, names_of, name_at, tag_in, report_of};
 ghost use Rattle.occ_play.specs.Endings.{ending_text};
 ghost use Rattle.occ_play.specs.Network.{communication_of, end_of};
 
@@ -13,7 +11,7 @@ use crate::ending::Ending;
 use crate::network::{ERROR, SCREEN};
 use crate::running::Outcome;
 use crate::trace::{Communication, End};
-use occ_term::{Channel, Message, Part, Primitive};
+use occ_term::{Channel, Message, Part, Primitive, Protocol};
 use std::alloc::{AllocError, Global};
 
 /// Ends a line.
@@ -189,12 +187,44 @@ fn write_ends(
     Ok(())
 }
 
-/// The items of a message without a tag, and the end of the line.
-fn write_message(alloc: Global, out: &mut Vec<u8>, message: &Message) -> Result<(), AllocError>
-    requires { message.now.tag ≡ None }
-    ensures { OnOk result (out.new.items ≡ out.old.items ++ items_text None message.now.items ++ 10 ∷ []) }
+/// The name of a channel's tag; empty where there is no such tag.
+fn tag_name<'a>(channels: &'a [Channel], chan: u32, tag: u32) -> &'a [u8]
+    ensures { result.now ≡ (names_of channels.now).tag_name chan tag }
 {
-    write_items(alloc, out, None, message.items.as_slice())?;
+    match channels.get(chan as usize) {
+        Some(channel) => protocol_tag(&channel.protocol, tag),
+        None => &[],
+    }
+}
+
+/// The name of a protocol's tag; empty where there is no such tag.
+fn protocol_tag<'a>(protocol: &'a Protocol, tag: u32) -> &'a [u8]
+    ensures { result.now ≡ tag_in (Some protocol.now) tag }
+{
+    match protocol {
+        Protocol::Variant(tags) => match tags.as_slice().get(tag as usize) {
+            Some(found) => found.name.as_slice(),
+            None => &[],
+        },
+        _ => &[],
+    }
+}
+
+/// The tag's name and the items of a message on this channel, and the end of the line.
+fn write_message(
+    alloc: Global,
+    out: &mut Vec<u8>,
+    message: &Message,
+    chan: u32,
+    channels: &[Channel],
+) -> Result<(), AllocError>
+    ensures { OnOk result (out.new.items ≡ out.old.items ++ items_text (tag_shown (names_of channels.now) chan message.now.tag) message.now.items ++ 10 ∷ []) }
+{
+    let items = message.items.as_slice();
+    match message.tag {
+        Some(tag) => write_items(alloc, out, Some(tag_name(channels, chan, tag)), items)?,
+        None => write_items(alloc, out, None, items)?,
+    }
     out.push(LINE_FEED)?;
     Ok(())
 }
@@ -207,13 +237,18 @@ fn write_line(
     communication: &Communication,
     channels: &[Channel],
 ) -> Result<(), AllocError>
-    requires { communication.now.message.tag ≡ None }
     ensures { OnOk result (out.new.items ≡ out.old.items ++ line_text (entry_of (names_of channels.now) number (communication_of communication.now))) }
 {
     let name = channel_name(channels, communication.chan);
     write_head(alloc, out, number, communication.chan, name)?;
     write_ends(alloc, out, communication.sender, communication.receiver)?;
-    write_message(alloc, out, &communication.message)
+    write_message(
+        alloc,
+        out,
+        &communication.message,
+        communication.chan,
+        channels,
+    )
 }
 
 /// The lines of all communications, numbered from 1.
@@ -223,7 +258,6 @@ fn write_trace(
     trace: &[Communication],
     channels: &[Channel],
 ) -> Result<(), AllocError>
-    requires { AreLetters (map communication_of trace.now) }
     ensures { OnOk result (out.new.items ≡ out.old.items ++ trace_text (entries (names_of channels.now) 1 (map communication_of trace.now))) }
 {
     for i in 0..trace.len() {
@@ -234,7 +268,7 @@ fn write_trace(
 
 /// The byte that a message is.
 fn byte_of(message: &Message) -> u8
-    requires { IsByte message.now }
+    requires { IsByteMessage message.now }
     ensures { bytes_in message.now.items ≡ result ∷ [] }
 {
     match message.items.as_slice() {
@@ -245,22 +279,18 @@ fn byte_of(message: &Message) -> u8
 
 /// The bytes of the messages of one channel.
 fn write_bytes(out: &mut Vec<u8>, trace: &[Communication], chan: u32) -> Result<(), AllocError>
-    requires { AreLetters (map communication_of trace.now) }
+    requires { AreByteMessages chan trace.now }
     ensures { OnOk result (out.new.items ≡ out.old.items ++ bytes_of (messages_on chan (map communication_of trace.now))) }
 {
     for i in 0..trace.len() {
-        write_letter(out, &trace[i], chan)?;
+        write_byte(out, &trace[i], chan)?;
     }
     Ok(())
 }
 
 /// The byte of a communication, if it is on this channel.
-fn write_letter(
-    out: &mut Vec<u8>,
-    communication: &Communication,
-    chan: u32,
-) -> Result<(), AllocError>
-    requires { IsByte communication.now.message }
+fn write_byte(out: &mut Vec<u8>, communication: &Communication, chan: u32) -> Result<(), AllocError>
+    requires { communication.now.chan ≡ chan → IsByteMessage communication.now.message }
     ensures { OnOk result (out.new.items ≡ out.old.items ++ bytes_of (sent_on chan (communication_of communication.now))) }
 {
     if communication.chan == chan {
@@ -276,7 +306,6 @@ fn report(
     channels: &[Channel],
     ending: Ending,
 ) -> Result<Vec<u8>, AllocError>
-    requires { ForSome trace (λ xs. AreLetters (map communication_of xs.now)) }
     ensures { IfOk result (λ bytes. bytes.items ≡ report_of channels.now (option_copied trace.entry) ending) }
 {
     let mut bytes = Vec::new(alloc);
@@ -307,7 +336,8 @@ pub(crate) fn answer(
     channels: &[Channel],
     with_trace: bool,
 ) -> Result<Vec<u8>, AllocError>
-    requires { AreLetters (map communication_of outcome.now.trace.items) }
+    requires screen { AreByteMessages SCREEN outcome.now.trace.items }
+    requires error { AreByteMessages ERROR outcome.now.trace.items }
     ensures { IfOk result (λ bytes. bytes.items ≡ answer_text (shown_by (names_of channels.now) (map communication_of outcome.now.trace.items)) outcome.now.ending with_trace) }
 {
     let trace = outcome.trace.as_slice();

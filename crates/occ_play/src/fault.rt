@@ -2,6 +2,7 @@
 
 ghost use Rattle.std.specs.Prelude.{◌≡◌};
 
+use occ_check::CheckFault;
 use occ_code::CodeFault;
 use occ_term::UsageFault;
 use occ_text::TextFault;
@@ -18,13 +19,13 @@ pub enum PlayFault {
     /// The lines have no tree.
     #[error("{0}")]
     Parse(ParseFault),
-    /// The text is not one of those that are played so far. The line is that of some line of it, and 1 for a text without lines.
-    #[error("refused 95 Early line {line}")]
-    Early { line: u32 },
+    /// The tree breaks a rule of scopes, types or protocols.
+    #[error("{0}")]
+    Check(CheckFault),
     /// The program breaks the usage rules.
     #[error("{0}")]
     Usage(UsageFault),
-    /// The program is too large.
+    /// The program is too large, or it has a PAR or an ALT.
     #[error("{0}")]
     Code(CodeFault),
     /// A write failed, after the first `written` bytes of the answer were written.
@@ -52,6 +53,16 @@ impl From<ParseFault> for PlayFault {
 
     fn from(fault: ParseFault) -> PlayFault {
         PlayFault::Parse(fault)
+    }
+}
+
+impl From<CheckFault> for PlayFault {
+    ghost use Rattle.occ_play.specs.declared.fault.PlayFault.{PlayFault};
+
+    ghost from_gives = { λ fault made. made ≡ PlayFault.Check fault };
+
+    fn from(fault: CheckFault) -> PlayFault {
+        PlayFault::Check(fault)
     }
 }
 

@@ -2,7 +2,7 @@
 
 ghost use Rattle.occ_play.specs.Following.{ReplaysAreRuns};
 
-/// A replay of compiled code is a run of its source, for sources of the first form.
+/// A replay of the code of a program of one process is a run of the program.
 pub fn replays_are_runs()
     ensures { ReplaysAreRuns }
 {}

@@ -1,5 +1,5 @@
 //! Plays a program, from its source's bytes to its answer's bytes.
-ghost use Rattle.std.specs.Prelude.{◌≡◌, ◌<◌, ◌-◌, ◌^◌, IfOk, IfErr, List, ℕ};
+ghost use Rattle.std.specs.Prelude.{◌≡◌, ◌<◌, ◌-◌, ◌^◌, IfOk, IfErr};
 ghost use Rattle.occ_play.specs.Counting.{failures_of};
 ghost use Rattle.occ_play.specs.Plans.{choices_of};
 ghost use Rattle.occ_play.specs.Playing.{AfterFault, IsAnswer, IsSomeAnswer, Refuses, Unfolds, Wrote};
@@ -10,13 +10,14 @@ use crate::answer::answer;
 use crate::counted::{Counted, write_answer};
 use crate::ending::{Choice, Ending, Plan};
 use crate::fault::PlayFault;
-use crate::front::{EarlyFault, unfold};
 use crate::running::{Outcome, run};
+use occ_check::{CheckFault, unfold};
 use occ_code::{CodeFault, compile};
+use occ_parse::parse;
 use occ_term::{Checked, Refused, Unfolded, UsageFault, check_usage};
 use occ_text::{TextFault, read_lines};
-use occ_tree::{ParseFault, parse};
-use std::alloc::{AllocError, Global};
+use occ_tree::ParseFault;
+use std::alloc::Global;
 use std::io::Write;
 
 /// What a run came to.
@@ -28,7 +29,8 @@ pub struct Played {
     pub choices: Vec<Choice>,
 }
 
-/// Plays a program: reads its source, runs it for the plan's choices, and writes the answer.
+/// Plays a program: reads its source, runs it on the keyboard's bytes for the plan's choices, and
+/// writes the answer.
 ///
 /// The answer is the screen's bytes, the error channel's bytes and a report: with `trace` a line for
 /// each communication, and the line of the ending; without it that line alone, and nothing where the
@@ -36,7 +38,7 @@ pub struct Played {
 ///
 /// # Errors
 ///
-/// `Text`, `Parse`, `Early`, `Usage` and `Code` refuse the source, `Memory` tells of a refused growth: then
+/// `Text`, `Parse`, `Check`, `Usage` and `Code` refuse the source, `Memory` tells of a refused growth: then
 /// `out` is as it was. `Write` tells of a failed write, after the first `written` bytes of the answer.
 pub fn play<W: Write>(
     alloc: Global,
@@ -52,22 +54,22 @@ pub fn play<W: Write>(
     ensures fault { IfErr result (AfterFault W.contents
         (IsSomeAnswer source.now keyboard.now (choices_of plan.now) trace) source.now out.old out.new) }
 {
-    let _keyboard = keyboard;
-    let (played, bytes) = answered(alloc, source, plan, trace)?;
+    let (played, bytes) = answered(alloc, source, keyboard, plan, trace)?;
     match write_answer(bytes.as_slice(), out) {
         Ok(()) => Ok(played),
         Err(written) => Err(PlayFault::Write { written }),
     }
 }
 
-/// What a run of a source comes to, and the answer's bytes. No keyboard is read yet.
+/// What a run of a source comes to, and the answer's bytes.
 fn answered(
     alloc: Global,
     source: &[u8],
+    keyboard: &[u8],
     plan: &Plan,
     trace: bool,
 ) -> Result<(Played, Vec<u8>), PlayFault>
-    ensures answer { IfOk result (λ r. (keyboard : List ℕ) → IsAnswer source.now keyboard (choices_of plan.now) trace r.0 r.1.items) }
+    ensures answer { IfOk result (λ r. IsAnswer source.now keyboard.now (choices_of plan.now) trace r.0 r.1.items) }
     ensures refused { IfErr result (Refuses source.now) }
 {
     let checked = accepted(alloc, source)?;
@@ -75,7 +77,7 @@ fn answered(
         Ok(code) => code,
         Err(fault) => return Err(PlayFault::Code(fault)),
     };
-    let outcome = run(alloc, &code, plan)?;
+    let outcome = run(alloc, &code, keyboard, plan)?;
     let bytes = answer(alloc, &outcome, code.channels(), trace)?;
     let Outcome {
         ending,
@@ -110,15 +112,10 @@ fn front(alloc: Global, source: &[u8]) -> Result<Unfolded, PlayFault>
     ensures refused { IfErr result (Refuses source.now) }
 {
     let lines = read_lines(alloc, source)?;
-    parse(alloc, &lines)?;
-    match unfold(alloc, &lines) {
-        Ok(unfolded) => {
-            unfolded.well_formed();
-            Ok(unfolded)
-        }
-        Err(EarlyFault::Early { line }) => Err(PlayFault::Early { line }),
-        Err(EarlyFault::Memory) => Err(PlayFault::Memory(AllocError)),
-    }
+    let tree = parse(alloc, &lines)?;
+    let unfolded = unfold(alloc, &tree)?;
+    unfolded.well_formed();
+    Ok(unfolded)
 }
 
 /// The exit status of a program that played so: 0 ended, 1 refused, 2 stopped, 3 fault, 4 limit,
@@ -135,12 +132,13 @@ pub fn status_of(played: &Result<Played, PlayFault>) -> u8
         },
         Err(PlayFault::Text(TextFault::Memory))
         | Err(PlayFault::Parse(ParseFault::Memory))
+        | Err(PlayFault::Check(CheckFault::Memory))
         | Err(PlayFault::Usage(UsageFault::Memory))
         | Err(PlayFault::Code(CodeFault::Memory))
         | Err(PlayFault::Memory(_)) => 5,
         Err(PlayFault::Text(_))
         | Err(PlayFault::Parse(_))
-        | Err(PlayFault::Early { .. })
+        | Err(PlayFault::Check(_))
         | Err(PlayFault::Usage(_))
         | Err(PlayFault::Code(_)) => 1,
         Err(PlayFault::Write { .. }) => 6,

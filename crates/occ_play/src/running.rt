@@ -1,13 +1,13 @@
 //! A run of a plan.
-ghost use Rattle.std.specs.Prelude.{◌≡◌, ◌<◌, ◌^◌, ◌+◌, IfOk, ℕ, List, length};
-ghost use Rattle.occ_play.specs.Outcomes.{IsOutcome};
+ghost use Rattle.std.specs.Prelude.{◌≡◌, ◌<◌, ◌^◌, ◌+◌, IfOk, length};
+ghost use Rattle.occ_play.specs.Outcomes.{HasOneProcess, IsOutcome};
 ghost use Rattle.occ_play.specs.Plans.{choices_of};
-ghost use Rattle.occ_play.specs.ScreenTerms.{WritesOnly};
 
 use crate::ending::{Choice, Ending, Plan};
 use crate::network::Network;
 use crate::trace::Communication;
 use occ_code::Code;
+use occ_proc::Scratch;
 use std::alloc::{AllocError, Global};
 
 /// What a run came to.
@@ -22,13 +22,19 @@ pub(crate) struct Outcome {
 }
 
 /// Takes a turn for each choice of the plan, until the network ends.
-pub(crate) fn run(alloc: Global, code: &Code, plan: &Plan) -> Result<Outcome, AllocError>
-    requires { WritesOnly code.now }
-    ensures { IfOk result (λ o. (keyboard : List ℕ) → IsOutcome code.now keyboard (choices_of plan.now) o) }
+pub(crate) fn run(
+    alloc: Global,
+    code: &Code,
+    keyboard: &[u8],
+    plan: &Plan,
+) -> Result<Outcome, AllocError>
+    requires { HasOneProcess code.now }
+    ensures { IfOk result (IsOutcome code.now keyboard.now (choices_of plan.now)) }
 {
     let Some(body) = code.body(0) else {
         unreachable!()
     };
+    let mut scratch = Scratch::new(alloc);
     let mut network = Network::new(alloc, body)?;
     let mut choices = Vec::new(alloc);
     loop {
@@ -49,7 +55,7 @@ pub(crate) fn run(alloc: Global, code: &Code, plan: &Plan) -> Result<Outcome, Al
                 trace,
             });
         };
-        network.take_turn(alloc, body)?;
+        network.take_turn(alloc, body, &mut scratch, keyboard)?;
         choices.push(choice)?;
     }
 }

@@ -24,3 +24,4 @@ pub mod KeptStores
 pub mod KeptSteps
 pub mod RestOnReads
 pub mod MoreRuns
+pub mod FrameWrites

@@ -6,8 +6,6 @@ use Rattle.occ_term.specs.Terms.{Expression, Constant, Cell, Component, Letter, 
 use Rattle.occ_term.specs.Values.{Store, Evaluated, Value, Fails, after, subscript, first_of, TypedOn, value_of, span_of}
 use Rattle.occ_term.specs.Uses.{reads_of}
 use Rattle.occ_term.specs.Typing.{HasType}
-use Rattle.occ_term.specs.View.{expression_of}
-use Rattle.occ_term.specs.declared.expression.TermExpr.{TermExpr}
 use Rattle.occ_term.specs.Frames.{Variables, holds_cell, at}
 
 -- the code's answer: a value or a fault
@@ -65,10 +63,3 @@ first_of_row line first size others e s = after (value_of e s) (λ v. after (sub
 -- a letter of a string of bytes
 abbrev pub letter : ℕ → List ℕ → ℤ → Evaluated ℤ
 letter line text v = after (subscript line (length text) v) (λ i. Value (pos (get_or text i 0)))
-
--- evaluated in any store, and of an INT's size
-abbrev pub IsBounded : TermExpr → Type 0
-IsBounded e = (s : Store) → Bounded (expression_of e) s
-
-abbrev pub IsSmall : TermExpr → Type 0
-IsSmall e = (s : Store) → Bounded (expression_of e) s × IsWord (expression_of e) s

@@ -1,16 +1,17 @@
 //! The variables of a process.
-ghost use Rattle.std.specs.Prelude.{◌≡◌, ◌↔◌, IsTrue, IfOk, length, pos, replicate, []};
-ghost use Rattle.occ_term.specs.Frames.{at, value_at, zero_frame};
+ghost use Rattle.std.specs.Prelude.{◌≡◌, ◌↔◌, IsTrue, IfOk, length, pos, replicate, slice_index_or, []};
+ghost use Rattle.occ_term.specs.Frames.{at, value_at, values_with, zero_frame, frame_with, frame_from, row_with, counter_at, counters_with, with_counter};
 
+use crate::held::Held;
 use crate::message::same_values;
 use std::alloc::{AllocError, Global};
 use std::marker::Model;
 
 /// The variables of a process and of its branches: the cells that it uses, in rising order, with
-/// their values, and for each of its replicated SEQs how many values are left.
+/// their values, and the counters of its replicated SEQs.
 #[derive(Drop)]
 pub struct Frame {
-    cells: Vec<u32>,
+    cells: Held,
     values: Vec<i64>,
     left: Vec<u32>,
 }
@@ -20,7 +21,7 @@ impl Model for Frame {
 
     ghost Value = { Variables };
 
-    ghost view = { λ f. record { cells = f.cells.items; values = f.values.items; left = f.left.items } };
+    ghost view = { λ f. record { cells = f.cells; values = f.values.items; left = f.left.items } };
 }
 
 impl Frame {
@@ -30,7 +31,7 @@ impl Frame {
     {
         let values = vec![in alloc; 0; cells.len()]?;
         let left = vec![in alloc; 0; loops]?;
-        let cells = Vec::from_slice(alloc, cells)?;
+        let cells = Held::new(alloc, cells)?;
         Ok(Frame {
             cells,
             values,
@@ -42,7 +43,49 @@ impl Frame {
     pub fn value(&self, cell: u32) -> i64
         ensures { result ≡ at self.now cell }
     {
+        value_at(&self.cells, &self.values, u64::from(cell))
+    }
+
+    /// The same of a cell whose number was computed.
+    pub fn value_at(&self, cell: u64) -> i64
+        ensures { result ≡ at self.now cell }
+    {
         value_at(&self.cells, &self.values, cell)
+    }
+
+    /// Gives a cell this value. A cell that the frame doesn't hold has none.
+    pub fn set(&mut self, cell: u64, value: i64)
+        ensures { self.new ≡ frame_with self.old cell value }
+    {
+        set_value(&self.cells, &mut self.values, cell, value);
+    }
+
+    /// Gives cells in a row these values, from the first cell on.
+    pub fn set_row(&mut self, first: u64, values: &[i64])
+        ensures { self.new ≡ frame_from first values.now self.old }
+    {
+        set_values(&self.cells, &mut self.values, first, values);
+    }
+
+    /// Gives so many cells in a row the value 0, from the first cell on.
+    pub fn clear_row(&mut self, first: u32, count: u32)
+        ensures { self.new ≡ frame_from first (replicate count (pos 0)) self.old }
+    {
+        clear_values(&self.cells, &mut self.values, first, count);
+    }
+
+    /// A counter of the replicated SEQs; 0 where there is none at the slot.
+    pub fn left(&self, slot: u64) -> u32
+        ensures { result ≡ counter_at self.now.left slot }
+    {
+        counter_at(&self.left, slot)
+    }
+
+    /// Sets a counter of the replicated SEQs.
+    pub fn set_left(&mut self, slot: u64, count: u32)
+        ensures { self.new ≡ with_counter self.old slot count }
+    {
+        set_counter(&mut self.left, slot, count);
     }
 
     /// A copy. The error is a refused growth.
@@ -50,7 +93,7 @@ impl Frame {
         ensures { IfOk result (λ f. f ≡ self.now) }
     {
         Ok(Frame {
-            cells: Vec::from_slice(alloc, &self.cells)?,
+            cells: self.cells.copy(alloc)?,
             values: Vec::from_slice(alloc, &self.values)?,
             left: Vec::from_slice(alloc, &self.left)?,
         })
@@ -60,22 +103,10 @@ impl Frame {
     pub fn is_same(&self, other: &Frame) -> bool
         ensures { IsTrue result ↔ (self.now ≡ other.now) }
     {
-        same_numbers(&self.cells, &other.cells)
+        self.cells.is_same(&other.cells)
             && same_values(&self.values, &other.values)
             && same_numbers(&self.left, &other.left)
     }
-}
-
-/// A frame of these cells with these values.
-#[cfg(test)]
-pub(crate) fn frame_of(alloc: Global, cells: &[u32], values: &[i64]) -> Result<Frame, AllocError>
-    ensures { IfOk result (λ f. f ≡ record { cells = cells.now; values = values.now; left = [] }) }
-{
-    Ok(Frame {
-        cells: Vec::from_slice(alloc, cells)?,
-        values: Vec::from_slice(alloc, values)?,
-        left: Vec::new(alloc),
-    })
 }
 
 fn same_numbers(numbers: &[u32], others: &[u32]) -> bool
@@ -84,16 +115,71 @@ fn same_numbers(numbers: &[u32], others: &[u32]) -> bool
     numbers == others
 }
 
-fn value_at(cells: &[u32], values: &[i64], cell: u32) -> i64
+fn value_at(cells: &Held, values: &[i64], cell: u64) -> i64
     ensures { result ≡ value_at cells.now values.now cell }
 {
-    for (i, held) in cells.iter().enumerate() {
-        if *held == cell {
-            return match values.get(i) {
-                Some(value) => *value,
-                None => 0,
-            };
+    match cells.place_of(cell) {
+        Some(place) => value_in(values, place),
+        None => 0,
+    }
+}
+
+fn value_in(values: &[i64], place: usize) -> i64
+    ensures { result ≡ slice_index_or values.now place (pos 0) }
+{
+    match values.get(place) {
+        Some(value) => *value,
+        None => 0,
+    }
+}
+
+fn set_value(cells: &Held, values: &mut [i64], cell: u64, value: i64)
+    ensures { values.new ≡ values_with cells.now values.old cell value }
+{
+    if let Some(place) = cells.place_of(cell) {
+        if place < values.len() {
+            values[place] = value;
         }
     }
-    0
+}
+
+fn set_values(cells: &Held, held: &mut [i64], first: u64, values: &[i64])
+    ensures { held.new ≡ row_with cells.now held.old first values.now }
+{
+    cells.words();
+    for (i, value) in values.iter().enumerate() {
+        let i = i as u64;
+        if u64::MAX - i < first {
+            return;
+        }
+        set_value(cells, held, first + i, *value);
+    }
+}
+
+fn clear_values(cells: &Held, held: &mut [i64], first: u32, count: u32)
+    ensures { held.new ≡ row_with cells.now held.old first (replicate count (pos 0)) }
+{
+    for i in 0..count {
+        set_value(cells, held, u64::from(first) + u64::from(i), 0);
+    }
+}
+
+fn counter_at(counters: &[u32], slot: u64) -> u32
+    ensures { result ≡ counter_at counters.now slot }
+{
+    let slot = slot as usize;
+    if slot < counters.len() {
+        counters[slot]
+    } else {
+        0
+    }
+}
+
+fn set_counter(counters: &mut [u32], slot: u64, count: u32)
+    ensures { counters.new ≡ counters_with counters.old slot count }
+{
+    let slot = slot as usize;
+    if slot < counters.len() {
+        counters[slot] = count;
+    }
 }

@@ -7,21 +7,20 @@ pub mod expression;
 pub mod fault;
 pub mod first_rows;
 pub mod frame;
+mod held;
 pub mod laws;
 pub mod limit_rows;
 pub mod message;
 pub mod more_rows;
 pub mod names;
 pub mod one_result;
-mod operator;
+pub mod operator;
 pub mod primitive;
 pub mod protocol;
 pub mod term;
 pub mod unfolded;
 pub mod usage;
 pub mod value;
-#[cfg(test)]
-mod value_tests;
 pub mod worked_rows;
 
 pub use expression::{
@@ -35,5 +34,7 @@ pub use primitive::{Prim, Primitive};
 pub use protocol::{PartType, Protocol, Tag};
 pub use term::{Arm, Branch, Choice, Reception, Selection, Term, Variant};
 pub use unfolded::Unfolded;
-pub use usage::{Checked, Refused, UsageFault, check_usage};
+pub use usage::{
+    Checked, Kind, NoValue, Refused, UsageFault, Use, check_usage, constant_value, term_uses,
+};
 pub use value::value_of;

@@ -11,7 +11,7 @@ use crate::fault::{Fault, FaultKind};
 use crate::primitive::Primitive;
 
 /// An operator's value on two values.
-pub(crate) fn binary(
+pub fn binary(
     operator: Operator,
     primitive: Primitive,
     line: u32,
@@ -47,12 +47,7 @@ pub(crate) fn binary(
 }
 
 /// An operator's value on one value.
-pub(crate) fn unary(
-    operator: Monadic,
-    primitive: Primitive,
-    line: u32,
-    a: i64,
-) -> Result<i64, Fault>
+pub fn unary(operator: Monadic, primitive: Primitive, line: u32, a: i64) -> Result<i64, Fault>
     requires { IsTrue (is_of Int a) }
     ensures { evaluated result ≡ values.unary operator primitive line a }
 {
@@ -64,7 +59,7 @@ pub(crate) fn unary(
 }
 
 /// A value as one of the type.
-pub(crate) fn converted(to: Primitive, line: u32, v: i64) -> Result<i64, Fault>
+pub fn converted(to: Primitive, line: u32, v: i64) -> Result<i64, Fault>
     ensures { evaluated result ≡ values.converted to line v }
 {
     if is_of(to, v) {
@@ -80,7 +75,8 @@ fn fault(kind: FaultKind, line: u32) -> Fault
     Fault { kind, line }
 }
 
-fn is_of(primitive: Primitive, v: i64) -> bool
+/// Whether a value is one of the type.
+pub fn is_of(primitive: Primitive, v: i64) -> bool
     ensures { result ≡ is_of primitive v }
 {
     match primitive {

@@ -6,7 +6,7 @@
 ghost use Rattle.std.specs.Prelude.{◌≡◌, ◌||◌, IfOk, IfErr};
 ghost use Rattle.occ_term.specs.Unfolding.{Lawful};
 ghost use Rattle.occ_term.specs.Refusals.{UsageRefuses};
-ghost use Rattle.occ_term.specs.Uses.{inputting, only, outputting, with_use};
+ghost use Rattle.occ_term.specs.Uses.{inputting, only, outputting, uses_of, with_use};
 ghost use Rattle.occ_term.specs.Clashes.{clashes};
 ghost use Rattle.occ_term.specs.Noted.{FaultFor, Finds, uses_in};
 ghost use Rattle.occ_term.specs.View.{term_of};
@@ -18,14 +18,15 @@ mod index;
 mod noted;
 mod places;
 mod terms;
-#[cfg(test)]
-mod tests;
 
 use crate::names::{Cell, Channel};
 use crate::term::Term;
 use crate::unfolded::Unfolded;
 use clashes::clash_between;
-use noted::{Found, Kind, Noted, Rule, earlier};
+pub use constant::{NoValue, constant_value};
+pub use noted::{Kind, Use};
+use noted::{Found, Noted, Rule, earlier};
+use sqlite_items::Items;
 use std::alloc::{AllocError, Global};
 use std::marker::Model;
 use terms::note_term;
@@ -127,6 +128,16 @@ pub fn check_usage(alloc: Global, unfolded: Unfolded) -> Result<Checked, Refused
             unfolded,
         }),
     }
+}
+
+/// What a term uses, in the order of the program.
+pub fn term_uses(alloc: Global, term: &Term) -> Result<Items<Use>, AllocError>
+    ensures { IfOk result (λ uses. uses_in uses ≡ uses_of (term_of term.now)) }
+{
+    let mut noted = Noted::new(alloc, 0);
+    let mut found = None;
+    note_term(alloc, term, &mut noted, &mut found)?;
+    Ok(noted.uses)
 }
 
 /// The first clash of branches of a PAR in the term, or of the term with what is beside it.

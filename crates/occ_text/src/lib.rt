@@ -15,6 +15,3 @@ mod words;
 pub use fault::TextFault;
 pub use read::read_lines;
 pub use token::{Key, Line, Source, Sym, Token};
-
-#[cfg(test)]
-mod tests;

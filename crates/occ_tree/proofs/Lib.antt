@@ -1,16 +1,3 @@
-pub mod Binds
-pub mod Colons
-pub mod ExpressionAgain
-pub mod ExpressionSound
-pub mod HeadAgain
-pub mod HeadSound
-pub mod LineAgain
-pub mod LineSound
 pub mod Made
-pub mod ManyLoop
-pub mod Manys
-pub mod ProcessAgain
-pub mod ProcessSound
 pub mod Rows
-pub mod Steps
-pub mod Whole
+mod Readings

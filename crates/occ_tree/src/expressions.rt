@@ -1,5 +1,3 @@
-//! Reading expressions.
+//! What begins an expression, and what goes on with one.
 
-pub mod read;
 pub mod start;
-pub mod symbol;

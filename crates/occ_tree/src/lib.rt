@@ -1,19 +1,13 @@
-//! The tree of a text: its lines, read by the grammar.
+//! The tree of a text: its types, its written form, and how lines are read as one.
 //!
-//! [`parse`] answers the one tree whose written form is the lines of a text, and refuses only where
-//! no tree has them, or memory runs out.
+//! The definitions stand in specs/: `Shown` writes a tree as lines, `Reading` reads lines as a tree
+//! by the grammar, and the views say which tree a value of the code is. The crate `occ_grammar` has
+//! the laws of the two, `occ_line` and `occ_parse` the code that reads.
 #![tactic(auto)]
 
-mod expressions;
+pub mod expressions;
 mod fault;
-pub mod laws;
-mod lines;
-mod processes;
-mod text;
+pub mod lines;
 pub mod tree;
 
 pub use fault::ParseFault;
-pub use text::parse;
-
-#[cfg(test)]
-mod tests;

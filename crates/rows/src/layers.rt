@@ -124,8 +124,18 @@ fn a_letter_has_code(rt: HostRuntime) -> Result<(), Fail> {
         assert!(rt; false, "no body");
         return Ok(());
     };
-    let wanted = [Instr::Push(65), Instr::Send(1, Primitive::Byte), Instr::End];
-    assert_eq!(rt; body.code(), wanted.as_slice());
+    assert!(rt;
+        matches!(
+            body.code(),
+            [
+                Instr::Push(1),
+                Instr::Push(65),
+                Instr::PartOne(Primitive::Byte),
+                Instr::Send(None),
+                Instr::End,
+            ]
+        )
+    );
     assert!(rt; body.cells().is_empty());
     assert!(rt; body.writes().is_empty());
     assert_eq!(rt; body.loops(), 0);
@@ -142,7 +152,7 @@ fn instructions_of(rt: &impl Abort, alloc: Global, count: u32) -> Result<Option<
     match compile(alloc, &checked) {
         Ok(code) => Ok(code.body(0).map(|body| body.code().len())),
         Err(CodeFault::TooLarge) => Ok(None),
-        Err(CodeFault::Early { .. }) | Err(CodeFault::Memory) => {
+        Err(CodeFault::Early { .. }) | Err(CodeFault::BadQuantum) | Err(CodeFault::Memory) => {
             assert!(rt; false, "not compiled");
             Ok(None)
         }

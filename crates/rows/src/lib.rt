@@ -2,25 +2,46 @@
 #![tactic(auto)]
 
 #[cfg(test)]
+mod code_faults;
+#[cfg(test)]
 mod command_line;
+#[cfg(test)]
+mod compiled;
 #[cfg(test)]
 mod contents;
 #[cfg(test)]
+mod examples;
+#[cfg(test)]
 mod first_programs;
+#[cfg(test)]
+mod grammar;
 #[cfg(test)]
 mod laws;
 #[cfg(test)]
 mod layers;
 #[cfg(test)]
+mod lexing;
+#[cfg(test)]
 mod memory;
 #[cfg(test)]
 mod outcomes;
 #[cfg(test)]
+mod refusals;
+#[cfg(test)]
 mod row;
+#[cfg(test)]
+mod sequential;
+#[cfg(test)]
+mod sequential_programs;
 #[cfg(test)]
 mod texts;
 #[cfg(test)]
 mod trees;
-pub mod unfolded;
+#[cfg(test)]
+mod unfolded;
+#[cfg(test)]
+mod usage;
+#[cfg(test)]
+mod values;
 #[cfg(test)]
 mod writers;

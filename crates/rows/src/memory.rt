@@ -1,4 +1,5 @@
 //! Runs in which a growth may be refused, for `rt try --test --fail-alloc N`: they pass for every N.
+use occ_check::CheckFault;
 use occ_code::CodeFault;
 use occ_play::{Counted, Plan, PlayFault, play, status_of};
 use occ_term::UsageFault;
@@ -13,6 +14,7 @@ fn is_memory(fault: &PlayFault) -> bool {
         PlayFault::Memory(_)
             | PlayFault::Text(TextFault::Memory)
             | PlayFault::Parse(ParseFault::Memory)
+            | PlayFault::Check(CheckFault::Memory)
             | PlayFault::Usage(UsageFault::Memory)
             | PlayFault::Code(CodeFault::Memory)
     )

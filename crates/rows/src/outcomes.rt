@@ -1,9 +1,11 @@
 //! Plans, endings, faults and exit statuses.
+use occ_check::CheckFault;
 use occ_code::CodeFault;
 use occ_play::{Choice, Ending, Plan, PlayFault, Played, status_of};
 use occ_term::{Fault, FaultKind, UsageFault};
 use occ_text::TextFault;
 use occ_tree::ParseFault;
+use std::alloc::Global;
 use std::process::Abort;
 use std::test::Fail;
 
@@ -94,50 +96,76 @@ fn endings_have_texts(rt: HostRuntime) -> Result<(), Fail> {
     Ok(())
 }
 
+fn check_fault(
+    rt: &impl Abort,
+    alloc: Global,
+    fault: PlayFault,
+    text: &str,
+    status: u8,
+) -> Result<(), Fail> {
+    let told = fault.to_string(alloc)?;
+    assert_eq!(rt; told.as_str(), text);
+    assert_eq!(rt; status_of(&Err(fault)), status);
+    Ok(())
+}
+
 #[test]
-fn faults_have_texts(rt: HostRuntime) -> Result<(), Fail> {
+fn faults_of_texts_are_told(rt: HostRuntime) -> Result<(), Fail> {
+    let alloc = rt.alloc();
+    let long = PlayFault::Text(TextFault::TooLong);
+    check_fault(&rt, alloc, long, "refused 1 TooLong", 1)?;
+    let byte = PlayFault::Text(TextFault::BadByte { line: 9 });
+    check_fault(&rt, alloc, byte, "refused 2 BadByte line 9", 1)?;
+    let level = PlayFault::Parse(ParseFault::Level { line: 7 });
+    check_fault(&rt, alloc, level, "refused 21 Level line 7", 1)
+}
+
+#[test]
+fn faults_of_programs_are_told(rt: HostRuntime) -> Result<(), Fail> {
+    let alloc = rt.alloc();
+    let no_main = PlayFault::Check(CheckFault::NoMain);
+    check_fault(&rt, alloc, no_main, "refused 42 NoMain", 1)?;
+    let large = PlayFault::Code(CodeFault::TooLarge);
+    check_fault(&rt, alloc, large, "refused 60 TooLarge", 1)?;
+    let write = PlayFault::Write { written: 3 };
+    check_fault(&rt, alloc, write, "write failed", 6)
+}
+
+#[test]
+fn faults_of_usage_are_told(rt: HostRuntime) -> Result<(), Fail> {
     let alloc = rt.alloc();
     let name = String::from_str(alloc, "n")?;
-    let shared = UsageFault::SharedVariable { line: 5, name };
+    let shared = PlayFault::Usage(UsageFault::SharedVariable { line: 5, name });
+    check_fault(&rt, alloc, shared, "refused 50 SharedVariable line 5 n", 1)?;
     let name = String::from_str(alloc, "screen")?;
-    let inputs = UsageFault::TwoInputs { line: 3, name };
-    let rows = [
-        (PlayFault::Text(TextFault::TooLong), "refused 1 TooLong", 1),
-        (
-            PlayFault::Text(TextFault::BadByte { line: 9 }),
-            "refused 2 BadByte line 9",
-            1,
-        ),
-        (
-            PlayFault::Parse(ParseFault::Level { line: 7 }),
-            "refused 21 Level line 7",
-            1,
-        ),
-        (PlayFault::Early { line: 4 }, "refused 95 Early line 4", 1),
-        (
-            PlayFault::Usage(shared),
-            "refused 50 SharedVariable line 5 n",
-            1,
-        ),
-        (
-            PlayFault::Usage(inputs),
-            "refused 51 TwoInputs line 3 screen",
-            1,
-        ),
-        (
-            PlayFault::Code(CodeFault::TooLarge),
-            "refused 60 TooLarge",
-            1,
-        ),
-        (PlayFault::Text(TextFault::Memory), "memory", 5),
-        (PlayFault::Parse(ParseFault::Memory), "memory", 5),
-        (PlayFault::Usage(UsageFault::Memory), "memory", 5),
-        (PlayFault::Code(CodeFault::Memory), "memory", 5),
-        (PlayFault::Write { written: 3 }, "write failed", 6),
-    ];
-    for (fault, text, status) in rows {
-        assert_eq!(rt; fault.to_string(alloc)?.as_str(), text);
-        assert_eq!(rt; status_of(&Err(fault)), status, "{text}");
-    }
-    Ok(())
+    let inputs = PlayFault::Usage(UsageFault::TwoInputs { line: 3, name });
+    check_fault(&rt, alloc, inputs, "refused 51 TwoInputs line 3 screen", 1)
+}
+
+#[test]
+fn want_of_memory_is_told(rt: HostRuntime) -> Result<(), Fail> {
+    let alloc = rt.alloc();
+    check_fault(&rt, alloc, PlayFault::Text(TextFault::Memory), "memory", 5)?;
+    check_fault(
+        &rt,
+        alloc,
+        PlayFault::Parse(ParseFault::Memory),
+        "memory",
+        5,
+    )?;
+    check_fault(
+        &rt,
+        alloc,
+        PlayFault::Check(CheckFault::Memory),
+        "memory",
+        5,
+    )?;
+    check_fault(
+        &rt,
+        alloc,
+        PlayFault::Usage(UsageFault::Memory),
+        "memory",
+        5,
+    )?;
+    check_fault(&rt, alloc, PlayFault::Code(CodeFault::Memory), "memory", 5)
 }

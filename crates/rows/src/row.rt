@@ -94,3 +94,61 @@ pub(crate) fn check_row(rt: &impl Abort, alloc: Global, row: &Row<'_>) -> Result
     assert_eq!(rt; answer.as_slice(), row.answer, "{name}");
     Ok(())
 }
+
+/// A run of so many turns at most, and what it comes to.
+pub(crate) struct Run {
+    pub(crate) source: &'static str,
+    pub(crate) keyboard: &'static [u8],
+    pub(crate) turns: u32,
+    pub(crate) trace: bool,
+    /// The bytes of the answer.
+    pub(crate) answer: &'static [u8],
+    pub(crate) status: u8,
+    /// How many choices are used.
+    pub(crate) used: usize,
+}
+
+/// Plays a run, and compares its answer, its status and how many choices it used.
+pub(crate) fn check_run(rt: &impl Abort, alloc: Global, run: &Run) -> Result<(), Fail> {
+    let source = run.source;
+    let plan = Plan::Turns(run.turns);
+    let mut answer = Vec::new(alloc);
+    let mut out = Counted::new(&mut answer);
+    let played = play(
+        alloc,
+        source.as_bytes(),
+        run.keyboard,
+        &plan,
+        run.trace,
+        &mut out,
+    );
+    drop(out);
+    assert_eq!(rt; answer.as_slice(), run.answer, "{source}");
+    assert_eq!(rt; status_of(&played), run.status, "{source}");
+    let used = match played {
+        Ok(played) => played.choices.len(),
+        Err(_) => 0,
+    };
+    assert_eq!(rt; used, run.used, "{source}");
+    Ok(())
+}
+
+/// A program, what is typed, and what it prints before it ends.
+pub(crate) struct Example(
+    pub(crate) &'static str,
+    pub(crate) &'static [u8],
+    pub(crate) &'static [u8],
+);
+
+/// Plays a program that ends.
+pub(crate) fn check_example(rt: &impl Abort, alloc: Global, example: &Example) -> Result<(), Fail> {
+    let source = example.0;
+    let plan = Plan::Turns(100_000);
+    let mut answer = Vec::new(alloc);
+    let mut out = Counted::new(&mut answer);
+    let played = play(alloc, source.as_bytes(), example.1, &plan, false, &mut out);
+    drop(out);
+    assert_eq!(rt; answer.as_slice(), example.2, "{source}");
+    assert_eq!(rt; status_of(&played), 0, "{source}");
+    Ok(())
+}

@@ -83,11 +83,11 @@ const REFUSALS: [(&[u8], &str); 23] = [
         b"PROC main (CHAN OF BYTE keyboard, screen)\n  screen ! 'A'\n",
         "refused 22 Missing line 2",
     ),
-    (b"", "refused 95 Early line 1"),
-    (b"-- no program", "refused 95 Early line 1"),
+    (b"", "refused 42 NoMain"),
+    (b"-- no program", "refused 42 NoMain"),
     (
-        b"PROC main (CHAN OF BYTE keyboard, screen)\n  INT x:\n  x := 1\n:\n",
-        "refused 95 Early line 2",
+        b"PROC main (CHAN OF BYTE keyboard, screen)\n  PAR\n    screen ! 'A'\n    SKIP\n:\n",
+        "refused 61 Early line 3",
     ),
 ];
 
@@ -134,26 +134,31 @@ fn texts_are_refused(rt: HostRuntime) -> Result<(), Fail> {
 fn long_texts_are_refused(rt: HostRuntime) -> Result<(), Fail> {
     let alloc = rt.alloc();
     let mut source = vec![in alloc; b' '; 1_048_576]?;
-    check_row(
-        &rt,
-        alloc,
-        &Row::refused(&source, "refused 95 Early line 1"),
-    )?;
+    check_row(&rt, alloc, &Row::refused(&source, "refused 42 NoMain"))?;
     source.push(b' ')?;
     check_row(&rt, alloc, &Row::refused(&source, "refused 1 TooLong"))
 }
 
-#[test]
-fn many_lines_are_read(rt: HostRuntime) -> Result<(), Fail> {
-    let alloc = rt.alloc();
+/// A sequence of so many SKIPs.
+fn skips(alloc: Global, count: usize) -> Result<Vec<u8>, AllocError> {
     let mut source = Vec::from_slice(alloc, HEAD)?;
     source.extend_from_slice(b"  SEQ\n")?;
-    for _ in 0..100_000 {
+    for _ in 0..count {
         source.extend_from_slice(b"    SKIP\n")?;
     }
     source.extend_from_slice(b":\n")?;
+    Ok(source)
+}
+
+/// A program has 100,000 nodes at most, and SEQ is one.
+#[test]
+fn many_lines_are_read(rt: HostRuntime) -> Result<(), Fail> {
+    let alloc = rt.alloc();
     let used = [Choice { which: 0, pick: 0 }];
-    check_row(&rt, alloc, &Row::ended("many lines", &source, b"", &used))
+    let most = skips(alloc, 99_999)?;
+    check_row(&rt, alloc, &Row::ended("many lines", &most, b"", &used))?;
+    let more = skips(alloc, 100_000)?;
+    check_row(&rt, alloc, &Row::refused(&more, "refused 43 TooLarge"))
 }
 
 /// A letter at this level, below a sequence at each level between.

@@ -45,11 +45,11 @@ pub record DoesAs (d : Declared) (body : Body) (t : Term) : Type 0 where
 pub record IsLaidOut (d : Declared) (body : Body) (t : Term) : Type 0 where
   pub last : ℕ
   pub typed : TermHas d t
-  pub code : TermAt body.code 0 t last
+  pub code : TermAt body.code body.loops 0 0 t last
   pub ends_there : slice_get body.code last ≡ Some End
   pub cells : Lists body.cells (used_by (uses_of t))
   pub writes : Lists body.writes (uses_of t).writes
-  pub single : body.quantum ≡ 1
+  pub quantum : 0 < body.quantum
 
 abbrev pub BodiesDo : Type 0
 BodiesDo = (d : Declared) (body : Body) (t : Term) → IsLaidOut d body t → DoesAs d body t

@@ -1,116 +1,160 @@
--- The instructions that a sequential term becomes. PAR, ALT and the replicated SEQ have none yet.
+-- The instructions that a sequential term becomes. PAR and ALT have none yet.
 -- Manual: nothing; this is (own).
-use Rattle.std.specs.Prelude.{List, [], length, ℕ, ⊤, ◌*◌, ◌+◌, ◌++◌, ◌≤◌, ◌∷◌}
+use Rattle.std.specs.Prelude.{Bool, IsTrue, List, [], false, length, max, true, ℕ, ◌&&◌, ◌*◌, ◌+◌, ◌++◌, ◌<◌, ◌≤◌, ◌∷◌}
 use Rattle.occ_term.specs.Terms.{Term, Skip, Stop, Assign, Input, Output, VariantInput, Seq, Par, Alt, If, Case, While, Each, Clear, Local, Terms, no_terms, then_term, Variants, no_variants, or_variant, Choices, no_choices, or_choice, declared_choices, each_choice, Options, no_options, or_option, or_else, Clearing, Naming}
 use Rattle.occ_term.specs.Storing.{index_of}
 use Rattle.occ_term.specs.Uses.{uses_of}
 use Rattle.occ_term.specs.Sizes.{size_of}
 use Rattle.occ_term.specs.TermTyping.{Declared, TermHas}
 use Rattle.occ_code.specs.Alike.{Lists, used_by}
-use Rattle.occ_code.specs.Sequential.Machine.{Instruction, Body, Jump, Choose, IfAmong, IfTag, DropOne, NextChoice, BackToChoice, LoopBack, Send, Receive, Halt, End}
+use Rattle.occ_code.specs.Sequential.Machine.{Instruction, Body, Jump, Choose, IfAmong, IfTag, DropOne, NextChoice, BackToChoice, Begin, Pass, LoopBack, Send, Receive, Halt, End}
 use Rattle.occ_code.specs.Sequential.Expressions.{expression_code, place_code, items_code, declaration_code, declarations_code, storing_code, counting_code, assignment_code}
 use Rattle.occ_code.specs.Sequential.Alike.{DoesAs}
 
 abbrev mutual
-  pub IsSequential : Term → Type 0
-  IsSequential Skip = ⊤
-  IsSequential Stop = ⊤
-  IsSequential (Assign ts vs) = ⊤
-  IsSequential (Input c ts) = ⊤
-  IsSequential (Output c tag is) = ⊤
-  IsSequential (VariantInput c vs) = VariantsAreSequential vs
-  IsSequential (Seq ts) = AreSequential ts
-  IsSequential (Par bs) = ⊥
-  IsSequential (Alt pri arms) = ⊥
-  IsSequential (If cs) = ChoicesAreSequential cs
-  IsSequential (Case e os) = OptionsAreSequential os
-  IsSequential (While e b) = IsSequential b
-  IsSequential (Each r b) = ⊥
-  IsSequential (Clear first count) = ⊤
-  IsSequential (Local first value) = ⊤
+  pub is_sequential : Term → Bool
+  is_sequential Skip = true
+  is_sequential Stop = true
+  is_sequential (Assign ts vs) = true
+  is_sequential (Input c ts) = true
+  is_sequential (Output c tag is) = true
+  is_sequential (VariantInput c vs) = variants_are_sequential vs
+  is_sequential (Seq ts) = are_sequential ts
+  is_sequential (Par bs) = false
+  is_sequential (Alt pri arms) = false
+  is_sequential (If cs) = choices_are_sequential cs
+  is_sequential (Case e os) = options_are_sequential os
+  is_sequential (While e b) = is_sequential b
+  is_sequential (Each r b) = is_sequential b
+  is_sequential (Clear first count) = true
+  is_sequential (Local first value) = true
 
-  pub AreSequential : Terms → Type 0
-  AreSequential no_terms = ⊤
-  AreSequential (then_term t ts) = IsSequential t × AreSequential ts
+  pub are_sequential : Terms → Bool
+  are_sequential no_terms = true
+  are_sequential (then_term t ts) = is_sequential t && are_sequential ts
 
-  pub VariantsAreSequential : Variants → Type 0
-  VariantsAreSequential no_variants = ⊤
-  VariantsAreSequential (or_variant tag ds ts t vs) = IsSequential t × VariantsAreSequential vs
+  pub variants_are_sequential : Variants → Bool
+  variants_are_sequential no_variants = true
+  variants_are_sequential (or_variant tag ds ts t vs) = is_sequential t && variants_are_sequential vs
 
-  pub ChoicesAreSequential : Choices → Type 0
-  ChoicesAreSequential no_choices = ⊤
-  ChoicesAreSequential (or_choice e t cs) = IsSequential t × ChoicesAreSequential cs
-  ChoicesAreSequential (declared_choices d within others) = ChoicesAreSequential within × ChoicesAreSequential others
-  ChoicesAreSequential (each_choice r within others) = ChoicesAreSequential within × ChoicesAreSequential others
+  pub choices_are_sequential : Choices → Bool
+  choices_are_sequential no_choices = true
+  choices_are_sequential (or_choice e t cs) = is_sequential t && choices_are_sequential cs
+  choices_are_sequential (declared_choices d within others) = choices_are_sequential within && choices_are_sequential others
+  choices_are_sequential (each_choice r within others) = choices_are_sequential within && choices_are_sequential others
 
-  pub OptionsAreSequential : Options → Type 0
-  OptionsAreSequential no_options = ⊤
-  OptionsAreSequential (or_option constants ds t os) = IsSequential t × OptionsAreSequential os
-  OptionsAreSequential (or_else ds t os) = IsSequential t × OptionsAreSequential os
+  pub options_are_sequential : Options → Bool
+  options_are_sequential no_options = true
+  options_are_sequential (or_option constants ds t os) = is_sequential t && options_are_sequential os
+  options_are_sequential (or_else ds t os) = is_sequential t && options_are_sequential os
 
--- `after` is how many instructions stand between the choices, or the options, and where their bodies go on
+-- without PAR and ALT
+abbrev pub IsSequential : Term → Type 0
+IsSequential t = IsTrue (is_sequential t)
+
+-- A replicated SEQ has its two counters from the slot on, and what stands in it has later ones. `after` is how many instructions stand between the choices, or the options, and where their bodies go on
 abbrev mutual
-  pub term_code : Term → List Instruction
-  term_code Skip = []
-  term_code Stop = Halt ∷ []
-  term_code (Assign ts vs) = assignment_code ts vs
-  term_code (Input c ts) = (place_code c ++ Receive ∷ []) ++ storing_code ts
-  term_code (Output c tag is) = place_code c ++ (items_code is ++ Send tag ∷ [])
-  term_code (VariantInput c vs) = (place_code c ++ Receive ∷ []) ++ variants_code vs
-  term_code (Seq ts) = terms_code ts
-  term_code (Par bs) = []
-  term_code (Alt pri arms) = []
-  term_code (If cs) = choices_code cs 1 ++ Halt ∷ []
-  term_code (Case e os) = expression_code e ++ (options_code os (length (else_code os)) ++ else_code os)
-  term_code (While e b) =
-      expression_code e ++ Choose (length (term_code b) + 1) ∷ (term_code b ++ LoopBack (length (expression_code e) + 1 + length (term_code b)) ∷ [])
-  term_code (Each r b) = []
-  term_code (Clear first count) = declaration_code (Clearing first count)
-  term_code (Local first value) = declaration_code (Naming first value)
+  pub term_code : ℕ → Term → List Instruction
+  term_code slot Skip = []
+  term_code slot Stop = Halt ∷ []
+  term_code slot (Assign ts vs) = assignment_code ts vs
+  term_code slot (Input c ts) = (place_code c ++ Receive ∷ []) ++ storing_code ts
+  term_code slot (Output c tag is) = place_code c ++ (items_code is ++ Send tag ∷ [])
+  term_code slot (VariantInput c vs) = (place_code c ++ Receive ∷ []) ++ variants_code slot vs
+  term_code slot (Seq ts) = terms_code slot ts
+  term_code slot (Par bs) = []
+  term_code slot (Alt pri arms) = []
+  term_code slot (If cs) = choices_code slot cs 1 ++ Halt ∷ []
+  term_code slot (Case e os) = expression_code e ++ (options_code slot os (length (else_code slot os)) ++ else_code slot os)
+  term_code slot (While e b) =
+      expression_code e ++ Choose (length (term_code slot b) + 1) ∷ (term_code slot b ++ LoopBack (length (expression_code e) + 1 + length (term_code slot b)) ∷ [])
+  term_code slot (Each r b) =
+      counting_code r ++ Begin slot (index_of r) (length (term_code (slot + 2) b) + 2)
+      ∷ Pass slot (index_of r) (length (term_code (slot + 2) b) + 1) ∷ (term_code (slot + 2) b ++ LoopBack (length (term_code (slot + 2) b) + 1) ∷ [])
+  term_code slot (Clear first count) = declaration_code (Clearing first count)
+  term_code slot (Local first value) = declaration_code (Naming first value)
 
-  pub terms_code : Terms → List Instruction
-  terms_code no_terms = []
-  terms_code (then_term t ts) = term_code t ++ terms_code ts
+  pub terms_code : ℕ → Terms → List Instruction
+  terms_code slot no_terms = []
+  terms_code slot (then_term t ts) = term_code slot t ++ terms_code slot ts
 
-  pub variants_code : Variants → List Instruction
-  variants_code no_variants = Halt ∷ []
-  variants_code (or_variant tag ds ts t vs) =
-      IfTag tag (length (declarations_code ds ++ (storing_code ts ++ (term_code t ++ Jump (length (variants_code vs)) ∷ []))))
-      ∷ ((declarations_code ds ++ (storing_code ts ++ (term_code t ++ Jump (length (variants_code vs)) ∷ []))) ++ variants_code vs)
+  pub variants_code : ℕ → Variants → List Instruction
+  variants_code slot no_variants = Halt ∷ []
+  variants_code slot (or_variant tag ds ts t vs) =
+      IfTag tag (length (declarations_code ds ++ (storing_code ts ++ (term_code slot t ++ Jump (length (variants_code slot vs)) ∷ []))))
+      ∷ ((declarations_code ds ++ (storing_code ts ++ (term_code slot t ++ Jump (length (variants_code slot vs)) ∷ []))) ++ variants_code slot vs)
 
-  pub choices_code : Choices → ℕ → List Instruction
-  choices_code no_choices after = []
-  choices_code (or_choice e t cs) after =
-      expression_code e ++ Choose (length (term_code t) + 1) ∷ (term_code t ++ Jump (length (choices_code cs after) + after) ∷ choices_code cs after)
-  choices_code (declared_choices d within others) after =
-      declaration_code d ++ (choices_code within (length (choices_code others after) + after) ++ choices_code others after)
-  choices_code (each_choice r within others) after =
-      counting_code r ++ NextChoice (index_of r) (length (choices_code within (1 + length (choices_code others after) + after)) + 1)
-      ∷ (choices_code within (1 + length (choices_code others after) + after)
-      ++ BackToChoice (length (choices_code within (1 + length (choices_code others after) + after)) + 1) ∷ choices_code others after)
+  pub choices_code : ℕ → Choices → ℕ → List Instruction
+  choices_code slot no_choices after = []
+  choices_code slot (or_choice e t cs) after =
+      expression_code e ++ Choose (length (term_code slot t) + 1) ∷ (term_code slot t ++ Jump (length (choices_code slot cs after) + after) ∷ choices_code slot cs after)
+  choices_code slot (declared_choices d within others) after =
+      declaration_code d ++ (choices_code slot within (length (choices_code slot others after) + after) ++ choices_code slot others after)
+  choices_code slot (each_choice r within others) after =
+      counting_code r ++ NextChoice (index_of r) (length (choices_code slot within (1 + length (choices_code slot others after) + after)) + 1)
+      ∷ (choices_code slot within (1 + length (choices_code slot others after) + after)
+      ++ BackToChoice (length (choices_code slot within (1 + length (choices_code slot others after) + after)) + 1) ∷ choices_code slot others after)
 
-  pub options_code : Options → ℕ → List Instruction
-  options_code no_options after = []
-  options_code (or_option constants ds t os) after =
-      IfAmong constants (length (declarations_code ds ++ (term_code t ++ Jump (length (options_code os after) + after) ∷ [])))
-      ∷ ((declarations_code ds ++ (term_code t ++ Jump (length (options_code os after) + after) ∷ [])) ++ options_code os after)
-  options_code (or_else ds t os) after = options_code os after
+  pub options_code : ℕ → Options → ℕ → List Instruction
+  options_code slot no_options after = []
+  options_code slot (or_option constants ds t os) after =
+      IfAmong constants (length (declarations_code ds ++ (term_code slot t ++ Jump (length (options_code slot os after) + after) ∷ [])))
+      ∷ ((declarations_code ds ++ (term_code slot t ++ Jump (length (options_code slot os after) + after) ∷ [])) ++ options_code slot os after)
+  options_code slot (or_else ds t os) after = options_code slot os after
 
-  pub else_code : Options → List Instruction
-  else_code no_options = Halt ∷ []
-  else_code (or_option constants ds t os) = else_code os
-  else_code (or_else ds t os) = DropOne ∷ (declarations_code ds ++ term_code t)
+  pub else_code : ℕ → Options → List Instruction
+  else_code slot no_options = Halt ∷ []
+  else_code slot (or_option constants ds t os) = else_code slot os
+  else_code slot (or_else ds t os) = DropOne ∷ (declarations_code ds ++ term_code slot t)
 
--- the body of a process
-abbrev pub body_of : Term → List ℕ → List ℕ → Body
-body_of t cells writes = record { code = term_code t ++ End ∷ []; cells = cells; writes = writes; loops = 0; quantum = 1 }
+-- how many counters the replicated SEQs of a term have, within one another
+abbrev mutual
+  pub counters_of : Term → ℕ
+  counters_of Skip = 0
+  counters_of Stop = 0
+  counters_of (Assign ts vs) = 0
+  counters_of (Input c ts) = 0
+  counters_of (Output c tag is) = 0
+  counters_of (VariantInput c vs) = counters_of_variants vs
+  counters_of (Seq ts) = counters_of_terms ts
+  counters_of (Par bs) = 0
+  counters_of (Alt pri arms) = 0
+  counters_of (If cs) = counters_of_choices cs
+  counters_of (Case e os) = counters_of_options os
+  counters_of (While e b) = counters_of b
+  counters_of (Each r b) = counters_of b + 2
+  counters_of (Clear first count) = 0
+  counters_of (Local first value) = 0
+
+  pub counters_of_terms : Terms → ℕ
+  counters_of_terms no_terms = 0
+  counters_of_terms (then_term t ts) = max (counters_of t) (counters_of_terms ts)
+
+  pub counters_of_variants : Variants → ℕ
+  counters_of_variants no_variants = 0
+  counters_of_variants (or_variant tag ds ts t vs) = max (counters_of t) (counters_of_variants vs)
+
+  pub counters_of_choices : Choices → ℕ
+  counters_of_choices no_choices = 0
+  counters_of_choices (or_choice e t cs) = max (counters_of t) (counters_of_choices cs)
+  counters_of_choices (declared_choices d within others) = max (counters_of_choices within) (counters_of_choices others)
+  counters_of_choices (each_choice r within others) = max (counters_of_choices within) (counters_of_choices others)
+
+  pub counters_of_options : Options → ℕ
+  counters_of_options no_options = 0
+  counters_of_options (or_option constants ds t os) = max (counters_of t) (counters_of_options os)
+  counters_of_options (or_else ds t os) = max (counters_of t) (counters_of_options os)
+
+-- the body of a process, for turns that pass so many stops of loops at most, the last one included
+abbrev pub body_of : Term → List ℕ → List ℕ → ℕ → Body
+body_of t cells writes quantum = record { code = term_code 0 t ++ End ∷ []; cells = cells; writes = writes; loops = counters_of t; quantum = quantum }
 
 -- the body of a typed sequential term does what the term does
 abbrev pub CompiledDo : Type 0
 CompiledDo =
-    (d : Declared) (t : Term) (cells writes : List ℕ) → IsSequential t → TermHas d t → Lists cells (used_by (uses_of t)) → Lists writes (uses_of t).writes
-    → DoesAs d (body_of t cells writes) t
+    (d : Declared) (t : Term) (cells writes : List ℕ) (quantum : ℕ) → IsSequential t → TermHas d t → Lists cells (used_by (uses_of t)) → Lists writes (uses_of t).writes
+    → 0 < quantum → DoesAs d (body_of t cells writes quantum) t
 
 -- at most 32 instructions for each node
 abbrev pub BodiesAreSmall : Type 0
-BodiesAreSmall = (t : Term) (cells writes : List ℕ) → length (body_of t cells writes).code ≤ 32 * (size_of t).nodes
+BodiesAreSmall = (t : Term) (cells writes : List ℕ) (quantum : ℕ) → length (body_of t cells writes quantum).code ≤ 32 * (size_of t).nodes

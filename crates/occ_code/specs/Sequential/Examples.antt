@@ -1,9 +1,9 @@
--- A loop that counts, and its body.
+-- Two loops that count, and their bodies.
 -- Manual: combining processes.
 use Rattle.std.specs.Prelude.{None, Some, [], pos, ◌∷◌}
 use Rattle.occ_term.specs.declared.primitive.Primitive.TheVariants.{Int}
 use Rattle.occ_term.specs.declared.expression.Operator.TheVariants.{Plus, Less}
-use Rattle.occ_term.specs.Terms.{Constant, Cell, Binary, place, no_subscripts, OfOne, Into, Term, Assign, While}
+use Rattle.occ_term.specs.Terms.{Constant, Cell, Binary, place, no_subscripts, OfOne, Into, replicator, Term, Skip, Assign, While, Each}
 use Rattle.occ_term.specs.TermTyping.{Declared}
 use Rattle.occ_code.specs.Sequential.Emitted.{body_of}
 use Rattle.occ_code.specs.Sequential.Alike.{DoesAs}
@@ -20,4 +20,12 @@ abbrev pub whole_numbers : Declared
 whole_numbers = record { types = λ c. Some Int; protocols = λ c. None }
 
 abbrev pub CountsAsCompiled : Type 0
-CountsAsCompiled = DoesAs whole_numbers (body_of counts (0 ∷ []) (0 ∷ [])) counts
+CountsAsCompiled = DoesAs whole_numbers (body_of counts (0 ∷ []) (0 ∷ []) 1) counts
+
+-- SEQ i = 0 FOR 2
+--   SKIP
+abbrev pub twice : Term
+twice = Each (replicator 1 0 (Constant (pos 0)) (Constant (pos 2))) Skip
+
+abbrev pub TwiceAsCompiled : Type 0
+TwiceAsCompiled = DoesAs whole_numbers (body_of twice (0 ∷ []) (0 ∷ []) 1) twice

@@ -8,7 +8,7 @@ use Rattle.occ_term.specs.Values.{Evaluated, Value, Fails, value_of, parts_of}
 use Rattle.occ_term.specs.Storing.{Spot, spots_of}
 use Rattle.occ_term.specs.Frames.{Variables, at}
 use Rattle.occ_code.specs.declared.task.Wait.TheVariants.{Faulted}
-use Rattle.occ_code.specs.Sequential.Machine.{Instruction, Point, point, Stops, effect, Walks, counter_at, counters_with}
+use Rattle.occ_code.specs.Sequential.Machine.{Instruction, Point, point, Stops, effect, Walks, counter_at, counters_with, kept_as, kept_value}
 use Rattle.occ_code.specs.Sequential.Expressions.{expression_code, items_code, targets_code}
 
 -- these instructions stand from the one place to the other
@@ -55,3 +55,7 @@ CountersAreApart =
     (ns : List ℕ) (slot m : ℕ)
     → (slot < length ns → counter_at (counters_with ns slot m) slot ≡ m)
     × ((other : ℕ) → (slot ≡ other → ⊥) → counter_at (counters_with ns slot m) other ≡ counter_at ns other)
+
+-- An index's value comes back from its counter.
+abbrev pub IndexesAreKept : Type 0
+IndexesAreKept = (v : ℤ) → kept_value (kept_as v) ≡ v

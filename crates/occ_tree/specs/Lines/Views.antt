@@ -22,8 +22,8 @@ use Rattle.occ_tree.specs.declared.tree.line.Spec.TheVariants as specs
 use Rattle.occ_tree.specs.declared.tree.line.Formal.{Formal as FormalTree}
 use Rattle.occ_tree.specs.declared.tree.line.Formals.{Formals as FormalsTree}
 use Rattle.occ_tree.specs.declared.tree.line.OneOrMore.{OneOrMore}
-use Rattle.occ_tree.specs.declared.lines.item.Received.{Received as ReceivedTree}
-use Rattle.occ_tree.specs.declared.lines.item.Received.TheVariants as receiveds
+use Rattle.occ_tree.specs.declared.lines.head.Received.{Received as ReceivedTree}
+use Rattle.occ_tree.specs.declared.lines.head.Received.TheVariants as receiveds
 use Rattle.occ_tree.specs.declared.tree.expr.Expr.{Expr}
 use Rattle.occ_tree.specs.Expressions.Trees.{expression_of, expressions}
 use Rattle.occ_tree.specs.Lines.Trees.{Var, var, Target, into, into_counted, Out, from, from_counted, Input, items, tagged, Received, in_line, by_variant, Replicator, each, Part, single, counted, Carried, carries, follows, Sort, of_data, of_channel, Size, open_size, given, ValueType, value_type, Spec, by_value, by_reference, by_channel, Formal, formal, Formals, no_formals, formals, Actuals, no_actuals, actuals}

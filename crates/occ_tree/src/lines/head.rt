@@ -2,7 +2,7 @@
 
 use crate::tree::expr::Expr;
 use crate::tree::line::{
-    Action, Formals, Guard, OneOrMore, Part, Replicator, Sort, Target, ValueType, Var,
+    Action, Formals, Guard, Input, OneOrMore, Part, Replicator, Sort, Target, ValueType, Var,
 };
 
 /// The line of a process.
@@ -86,4 +86,13 @@ pub struct TagHead {
     pub tag: Vec<u8>,
     /// The parts that follow it.
     pub parts: Vec<Part>,
+}
+
+/// What follows the question mark of an input.
+#[derive(Drop)]
+pub enum Received {
+    /// An input in one line.
+    Input(Input),
+    /// An input of variants, which stand in the lines below.
+    Variants(Var),
 }

@@ -1,11 +1,11 @@
-use Rattle.std.proofs.Common.{◌≡◌, ◌-◌, ℕ, List, length, take}
+use Rattle.std.proofs.Common.{◌≡◌, ◌-◌, length, take}
 use Rattle.occ_play.specs.Outcomes.{HasReplayed}
 use Rattle.occ_play.specs.Plans.{choices_of}
 use Rattle.occ_play.proofs.running.run.Given as goal
 
 abbrev pub invariant-loop-ending : goal.invariant-loop-ending
 invariant-loop-ending l = record {
-  replayed : (keyboard : List ℕ) → HasReplayed l.code keyboard l.choices.items l.network;
+  replayed : HasReplayed l.code l.keyboard l.choices.items l.network;
   used : l.choices.items ≡ take (length l.choices.items) (choices_of l.plan);
   counted : l.network.task.turns ≡ length l.choices.items;
 }

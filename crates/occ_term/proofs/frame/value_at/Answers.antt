@@ -1,19 +1,12 @@
-use Rattle.std.proofs.Common.{◌≡◌, ◌∙◌, sym, refl, ℕ, zero, suc, ◌<◌, List, [], ◌∷◌, length, get_or, drop, ℤ, pos, add-one, arith}
-use Rattle.std.proofs.lemmas.Bool.Decides.{nat_tests}
-use Rattle.occ_term.specs.Frames.{value_at}
+use Rattle.std.proofs.Common.{sym, ap, ◌∙◌, Some, None, rules, w64}
+use Rattle.std.proofs.lemmas.Int.{to_z-of_z}
+use Rattle.occ_term.proofs.FrameWrites.{value_there}
 use Rattle.occ_term.proofs.frame.value_at.Goals as goal
 
-no_values : (xs : List ℕ) (c : ℕ) → value_at xs [] c ≡ pos 0
-no_values [] c = refl
-no_values (x ∷ xs) c = refl
+pub returns-in-Some : goal.returns-in-Some
+returns-in-Some c =
+    to_z-of_z w64 c.value_in.result (search rules) ∙ c.value_in.ensures
+    ∙ sym (value_there c.args.cells.now c.args.values.now c.args.cell (Some c.in-Some.place) (sym c.in-Some.is ∙ c.place_of.ensures))
 
-passes : (xs : List ℕ) (vs : List ℤ) (i c d : ℕ) → i < length xs → (get_or xs i d ≡ c → ⊥) → value_at (drop (suc i) xs) (drop (suc i) vs) c ≡ value_at (drop i xs) (drop i vs) c
-passes [] vs i c d h n = absurd (omega arith)
-passes (x ∷ xs) [] zero c d h n = no_values xs c
-passes (x ∷ xs) (v ∷ vs) zero c d h n = grind (arith, nat_tests)
-passes (x ∷ xs) [] (suc i) c d h n = no_values (drop (suc i) xs) c ∙ sym (no_values (drop i xs) c)
-passes (x ∷ xs) (v ∷ vs) (suc i) c d h n = passes xs vs i c d (omega arith) n
-
-pub loop-i-preserved : goal.loop-i-preserved
-loop-i-preserved c =
-    rw add-one (passes c.args.cells.now c.args.values.now c.loop-i.i c.args.cell 0 c.loop-i-test.true c.if-held-cell.false ∙ c.loop-i.invariant)
+pub returns-in-None : goal.returns-in-None
+returns-in-None c = sym (value_there c.args.cells.now c.args.values.now c.args.cell None (sym c.in-None.is ∙ c.place_of.ensures))

@@ -1,0 +1,83 @@
+-- Whether a number stands in a list.
+use Rattle.std.proofs.Common.{◌≡◌, ℕ, ℤ, zero, suc, ◌+◌, ◌<◌, ◌≤◌, List, [], ◌∷◌, ◌++◌, drop, get_or, length, reverse, Bool, true, false, cond, refl, subst, sym, ap, ◌∙◌, arith}
+use Rattle.std.specs.List.{list_any}
+use Rattle.std.specs.Prelude.{nat_eq, ◌||◌}
+use Rattle.std.specs.Ordering.{int_eq}
+use Rattle.std.proofs.Math.Seq.{drop-cons}
+use Rattle.std.proofs.lemmas.Cmp.{int_eq_equiv}
+use Rattle.std.proofs.lemmas.Grind.{reverse_onto}
+use Rattle.std.proofs.lemmas.List.{drop_all}
+use Rattle.occ_unfolding.specs.Actions.{has_constant, has_number}
+
+pub among : {A : Type 0} → (A → Bool) → List A → Bool
+among test [] = false
+among test (a ∷ rest) = cond (test a) true (among test rest)
+
+pub number_among : (k : ℕ) (ms : List ℕ) → has_number k ms ≡ among (nat_eq k) ms
+unfolding among
+number_among k [] = refl
+number_among k (m ∷ ms) = ap (cond (nat_eq k m) true) (number_among k ms)
+
+constant_among : (v : ℤ) (ws : List ℤ) → has_constant v ws ≡ among (int_eq v) ws
+unfolding among
+constant_among v [] = refl
+constant_among v (w ∷ ws) = ap (cond (int_eq v w) true) (constant_among v ws)
+
+-- what is left of the list decides
+pub record Sought {A : Type 0} (test : A → Bool) (xs : List A) (i : ℕ) : Type 0 where
+  pub is : among test xs ≡ among test (drop i xs)
+
+module _ {A : Type 0} (test : A → Bool) (xs : List A) where
+  pub sought_first : Sought test xs 0
+  sought_first = by xs
+    where
+      by : (xs : List A) → Sought test xs 0
+      by [] = record { is = refl }
+      by (x ∷ xs) = record { is = refl }
+
+  module _ (i : ℕ) (d : A) (below : i < length xs) (so_far : Sought test xs i) where
+    first : among test xs ≡ cond (test (get_or xs i d)) true (among test (drop (i + 1) xs))
+    unfolding among
+    first =
+        let next : suc i ≡ i + 1 = omega arith in
+        so_far.is ∙ ap (among test) (drop-cons xs i d below) ∙ ap (λ k. cond (test (get_or xs i d)) true (among test (drop k xs))) next
+
+    pub sought_next : test (get_or xs i d) ≡ false → Sought test xs (i + 1)
+    sought_next h = record { is = first ∙ ap (λ b. cond b true (among test (drop (i + 1) xs))) h }
+
+    pub sought_here : test (get_or xs i d) ≡ true → true ≡ among test xs
+    sought_here h = sym (first ∙ ap (λ b. cond b true (among test (drop (i + 1) xs))) h)
+
+  pub sought_none : (i : ℕ) → length xs ≤ i → Sought test xs i → false ≡ among test xs
+  unfolding among
+  sought_none i past so_far = sym (so_far.is ∙ ap (among test) (drop_all i xs past))
+
+-- ---- constants, the last of which stands first
+
+swap : (a b c : Bool) → cond a true (cond b true c) ≡ cond b true (cond a true c)
+swap true true c = refl
+swap true false c = refl
+swap false true c = refl
+swap false false c = refl
+
+at_end : {A : Type 0} (test : A → Bool) (xs : List A) (y : A) → among test (xs ++ y ∷ []) ≡ cond (test y) true (among test xs)
+unfolding among
+at_end test [] y = refl
+at_end test (x ∷ xs) y = ap (cond (test x) true) (at_end test xs y) ∙ swap (test x) (test y) (among test xs)
+
+among_reverse : {A : Type 0} (test : A → Bool) (xs : List A) → among test (reverse xs) ≡ among test xs
+unfolding among
+among_reverse test [] = refl
+among_reverse test (x ∷ xs) = ap (among test) (reverse_onto xs x []) ∙ at_end test (reverse xs) x ∙ ap (cond (test x) true) (among_reverse test xs)
+
+any_among : (v : ℤ) (ws : List ℤ) → list_any (λ y. int_eq y v) ws ≡ among (int_eq v) ws
+unfolding among
+any_among v [] = refl
+any_among v (w ∷ ws) = ap (λ b. b || list_any (λ y. int_eq y v) ws) (int_eq_equiv.symm w v) ∙ by (int_eq v w) ∙ ap (cond (int_eq v w) true) (any_among v ws)
+  where
+    by : (b : Bool) → (b || list_any (λ y. int_eq y v) ws) ≡ cond b true (list_any (λ y. int_eq y v) ws)
+    by true = refl
+    by false = refl
+
+pub any_constant : (v : ℤ) (ws : List ℤ) → list_any (λ y. int_eq y v) ws ≡ has_constant v (reverse ws)
+any_constant v ws = any_among v ws ∙ sym (among_reverse (int_eq v) ws) ∙ sym (constant_among v (reverse ws))

@@ -1,0 +1,84 @@
+-- Processes one after the other.
+use Rattle.std.proofs.Common.{◌≡◌, ◌<◌, ◌≤◌, ◌+◌, ◌∙◌, ℕ, List, [], ◌∷◌, ◌++◌, Option, Some, None, refl, ap, sym, map, drop, get_or, length, arith, Vec, Global, zero, suc}
+use Rattle.occ_tree.specs.Many.{◌>>=◌}
+use Rattle.occ_tree.specs.Processes.Trees.{nodes, Nodes, process, more_nodes}
+use Rattle.occ_tree.specs.Processes.Views.{process_of, row_processes}
+use Rattle.occ_tree.specs.declared.tree.process.Process.{Process}
+use Rattle.occ_tree.specs.declared.tree.process.Stmt.{Stmt, Row_of-Process, end_of-Process, more_of-Process, items-the_row-Process, items_hidden-the_row-Process-4}
+use Rattle.occ_tree.specs.declared.tree.process.Stmt.TheVariants as stmts
+use Rattle.occ_tree.specs.declared.tree.process.Arm.TheBlock.{hidden-the_row-Process-4}
+use Rattle.occ_term.specs.Sizes.{node, no_size}
+use Rattle.occ_term.specs.Terms.{Term, Terms, no_terms, then_term, Seq}
+use Rattle.occ_term.specs.View.{terms}
+use Rattle.occ_unfolding.specs.Numbers.{Numbers, room}
+use Rattle.occ_unfolding.specs.Performing.{Calling, Under, sequenced}
+use Rattle.occ_unfolding.specs.Recursion.{all_in_turn, unfolded}
+use Rattle.occ_unfolding.specs.Scope.{Scope}
+use Rattle.occ_check.specs.Statements.{performing}
+use Rattle.occ_check.specs.Weights.{node_size, nodes_size, statement_size}
+use Rattle.occ_check.proofs.Listing.{before}
+
+-- ---- vectors
+
+processes_of_row : {m : _} (k : Row_of-Process m) → row_processes k ≡ nodes (map process_of (items-the_row-Process m k))
+unfolding process_of row_processes
+processes_of_row end_of-Process = refl
+processes_of_row (more_of-Process x k) = ap (more_nodes (process_of x)) (processes_of_row k)
+
+pub processes_made : (v : Vec Process Global) → row_processes (hidden-the_row-Process-4 v) ≡ nodes (map process_of v.items)
+processes_made v = processes_of_row (hidden-the_row-Process-4 v) ∙ ap (λ (xs : List Process). nodes (map process_of xs)) (items_hidden-the_row-Process-4 v)
+
+-- ---- the list, part by part
+
+abbrev pub in_turn : Scope Calling → ℕ → List Process → Numbers → Option (Terms × Numbers)
+in_turn sc depth xs n = all_in_turn (nodes (map process_of xs)) sc depth n
+
+abbrev pub in_turn_one : Scope Calling → ℕ → Process → Numbers → Option (Term × Numbers)
+in_turn_one sc depth x n = unfolded (process_of x) sc depth n
+
+abbrev pub put_term : Term → Terms × Numbers → Terms × Numbers
+put_term t r = (then_term t r.0, r.1)
+
+pub in_turn_step : (sc : Scope Calling) (depth : ℕ) (x : Process) (xs : List Process) (n : Numbers)
+    → in_turn sc depth (x ∷ xs) n ≡ (in_turn_one sc depth x n >>= λ a. in_turn sc depth xs a.1 >>= λ r. Some (put_term a.0 r))
+unfolding all_in_turn
+in_turn_step sc depth x xs n = refl
+
+pub in_turn_none : (sc : Scope Calling) (depth : ℕ) (n : Numbers) → in_turn sc depth [] n ≡ Some (no_terms, n)
+unfolding all_in_turn
+in_turn_none sc depth n = refl
+
+pub all_terms : (ts : List Term) (n : Numbers) → before put_term ts (no_terms, n) ≡ (terms ts, n)
+all_terms [] n = refl
+all_terms (t ∷ ts) n = ap (put_term t) (all_terms ts n)
+
+-- ---- what stands in a list is smaller
+
+pub item_within : (xs : List Process) (i : ℕ) (x : Process) → i < length xs → x ≡ get_or xs i x → node_size (process_of x) < nodes_size (nodes (map process_of xs))
+unfolding nodes_size
+item_within [] i x h is = absurd (omega (arith, h))
+item_within (y ∷ ys) zero x h is = let e : node_size (process_of x) ≡ node_size (process_of y) = ap (λ z. node_size (process_of z)) is in omega (arith, e)
+item_within (y ∷ ys) (suc i) x h is = let e = item_within ys i x (omega (arith, h)) is in omega (arith, e)
+
+-- ---- the statement
+
+pub sequence_form : (s : Stmt) (v : Vec Process Global) (xs : List Process) (line : ℕ) → s ≡ stmts.Seq v → xs ≡ v.items
+    → performing line s ≡ sequenced (all_in_turn (nodes (map process_of xs)))
+sequence_form s v xs line is items =
+    ap (performing line) is ∙ ap (λ (ns : Nodes process). sequenced (all_in_turn ns)) (processes_made v ∙ ap (λ (l : List Process). nodes (map process_of l)) (sym items))
+
+pub sequence_size : (s : Stmt) (v : Vec Process Global) (xs : List Process) → s ≡ stmts.Seq v → xs ≡ v.items → statement_size s ≡ nodes_size (nodes (map process_of xs)) + 1
+sequence_size s v xs is items =
+    ap statement_size is ∙ ap (λ (ns : Nodes process). nodes_size ns + 1) (processes_made v ∙ ap (λ (l : List Process). nodes (map process_of l)) (sym items))
+
+module _ (s : Stmt) (v : Vec Process Global) (xs : List Process) (line : ℕ) (is : s ≡ stmts.Seq v) (items : xs ≡ v.items) (sc : Scope Calling) (depth : ℕ) (n m : Numbers)
+    (counts : room depth (node no_size) n ≡ Some m) where
+  sequence_is : performing line s sc depth n ≡ (all_in_turn (nodes (map process_of xs)) sc (depth + 1) m >>= λ x. Some (Seq x.0, x.1))
+  sequence_is = ap (λ (u : Under Term). u sc depth n) (sequence_form s v xs line is items)
+      ∙ ap (λ r. r >>= λ l. all_in_turn (nodes (map process_of xs)) sc (depth + 1) l >>= λ x. Some (Seq x.0, x.1)) counts
+
+  pub sequence_refused : all_in_turn (nodes (map process_of xs)) sc (depth + 1) m ≡ None → performing line s sc depth n ≡ None
+  sequence_refused e = sequence_is ∙ ap (λ r. r >>= λ x. Some (Seq x.0, x.1)) e
+
+  pub sequence_done : (ts : Terms) (l : Numbers) → all_in_turn (nodes (map process_of xs)) sc (depth + 1) m ≡ Some (ts, l) → performing line s sc depth n ≡ Some (Seq ts, l)
+  sequence_done ts l e = sequence_is ∙ ap (λ r. r >>= λ x. Some (Seq x.0, x.1)) e

@@ -1,0 +1,10 @@
+use Rattle.std.proofs.Common.{◌≡◌, length, map}
+use Rattle.occ_tree.specs.Processes.Views.{item_of}
+use Rattle.occ_unfolding.specs.Programs as programs
+use Rattle.occ_check.proofs.program.main_of.Given as goal
+
+abbrev pub invariant-backwards : goal.invariant-backwards
+invariant-backwards l = programs.main_of (map item_of l.left) ≡ programs.main_of (map item_of l.items)
+
+abbrev pub decreases-backwards : goal.decreases-backwards
+decreases-backwards l = length l.left

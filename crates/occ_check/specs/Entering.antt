@@ -1,0 +1,37 @@
+-- What comes into scope at a call.
+-- Manual: scope; procedures.
+use Rattle.std.specs.Prelude.{List, None, Option, Some, reverse, ℕ}
+use Rattle.occ_tree.specs.Lines.Trees.{Actuals, Formals}
+use Rattle.occ_tree.specs.Lines.Views as lines
+use Rattle.occ_tree.specs.Many.{◌>>=◌}
+use Rattle.occ_tree.specs.Processes.Views.{process_of}
+use Rattle.occ_unfolding.specs.Calls as C
+use Rattle.occ_unfolding.specs.Declarations as D
+use Rattle.occ_unfolding.specs.Numbers.{Numbers}
+use Rattle.occ_unfolding.specs.Scope as S
+use Rattle.occ_unfolding.specs.Unfolding as U
+use Rattle.occ_unfolding.specs.Unfolding.{Procedures, procedure}
+use Rattle.occ_check.specs.View.{scope_in}
+use Rattle.occ_check.specs.declared.scope.Frame.{Frame}
+use Rattle.occ_check.specs.declared.scope.Position.{Position}
+use Rattle.occ_check.specs.declared.scope.Procedure.{Procedure}
+
+abbrev pub procedure_of : Procedure → U.Procedure
+procedure_of p = procedure p.line (lines.formals_of p.formals.now) (process_of p.body.now)
+
+-- a PROC with what is in scope where it stands
+abbrev pub procedure_in : List Frame → Procedure × Position → U.Procedure × Procedures
+procedure_in frames x = (procedure_of x.0, scope_in (reverse frames) x.1)
+
+-- (refusal: wrong kind) a PROC that is found
+abbrev pub as_procedure : S.Binding U.Procedure × Procedures → Option (U.Procedure × Procedures)
+as_procedure (S.known k, outer) = None
+as_procedure (S.proc p, outer) = Some (p, outer)
+
+-- (refusal: a name that stands for nothing)
+abbrev pub procedure_found : Procedures → S.Name → Option (U.Procedure × Procedures)
+procedure_found sc f = U.found sc f >>= as_procedure
+
+-- what the formals stand for, under the names of the PROC's declaration and those of the caller
+abbrev pub formals_bound : S.Names → ℕ → Formals → S.Names → ℕ → ℕ → Actuals → Numbers → Option D.Opened
+formals_bound outer declared fs ns line depth es n = C.formals_of outer declared fs >>= λ ws. C.bound ns line depth ws es n

@@ -1,0 +1,32 @@
+-- Whole programs of the code, as the definitions have them.
+-- Manual: scope; procedures.
+use Rattle.std.specs.Prelude.{List, None, Option, Some, [], map, ℕ}
+use Rattle.occ_tree.specs.Lines.Views.{formals_of}
+use Rattle.occ_tree.specs.Many.{◌>>=◌}
+use Rattle.occ_tree.specs.Processes.Trees.{Item, value_item, protocol_item, proc_item}
+use Rattle.occ_tree.specs.Processes.Views.{item_of, process_of}
+use Rattle.occ_term.specs.declared.primitive.Primitive.TheVariants.{Byte}
+use Rattle.occ_term.specs.declared.protocol.Protocol.TheVariants.{Simple}
+use Rattle.occ_unfolding.specs.Performing.{Declaring, entered}
+use Rattle.occ_unfolding.specs.Programs as P
+use Rattle.occ_unfolding.specs.Programs.{items_declared}
+use Rattle.occ_unfolding.specs.Scope.{Known, Pairs, row_from, some_channels, within}
+use Rattle.occ_unfolding.specs.Types.{unnamed}
+use Rattle.occ_check.specs.declared.program.Main.{Main}
+
+abbrev pub main_in : Main → P.Main
+main_in m = record { before = map item_of m.before.now; formals = formals_of m.formals.now; body = process_of m.body.now }
+
+-- the main process, where the item behind these is a PROC
+abbrev pub main_at : List Item → Item → Option P.Main
+main_at before (value_item line type x e) = None
+main_at before (protocol_item p) = None
+main_at before (proc_item line f fs body end_line) = Some (record { before = before; formals = fs; body = body })
+
+-- items, and inside of them names
+abbrev pub items_within : List Item → Pairs → Declaring
+items_within items names sc depth n = items_declared items sc depth n >>= λ d. Some (entered (within names d.scope) d.heads d.numbers)
+
+-- the channel of bytes with this number
+abbrev pub byte_channel : ℕ → Known
+byte_channel number = some_channels (unnamed (Simple [] Byte)) (row_from number [])

@@ -1,0 +1,90 @@
+-- What a statement of the code unfolds to, behind its declarations.
+-- Manual: combining processes.
+use Rattle.std.specs.Prelude.{List, None, Option, Some, [], map, option_map, ℕ, ◌∷◌}
+use Rattle.occ_tree.specs.Expressions.Trees.{expression_of}
+use Rattle.occ_tree.specs.Lines.Trees as L
+use Rattle.occ_tree.specs.Lines.Views.{replicator_of, target_of, var_of}
+use Rattle.occ_tree.specs.Lines.HeadViews.{action_of, guard_of}
+use Rattle.occ_tree.specs.Processes.Views.{process_of, arm_of, choice_of, row_processes, row_arms, row_choices, row_selections, row_variants, row_decls}
+use Rattle.occ_tree.specs.Processes.Trees.{Decls}
+use Rattle.occ_tree.specs.declared.tree.process.Process.{Process}
+use Rattle.occ_tree.specs.declared.tree.process.Process.TheVariants as processes
+use Rattle.occ_tree.specs.declared.tree.process.Stmt.{Stmt}
+use Rattle.occ_tree.specs.declared.tree.process.Stmt.TheVariants as stmts
+use Rattle.occ_tree.specs.declared.tree.process.Choice.{Choice}
+use Rattle.occ_tree.specs.declared.tree.process.Choice.TheVariants as choices
+use Rattle.occ_tree.specs.declared.tree.process.Arm.{Arm}
+use Rattle.occ_tree.specs.declared.tree.process.Arm.TheVariants as arms
+use Rattle.occ_tree.specs.declared.tree.process.Variant.{Variant}
+use Rattle.occ_tree.specs.declared.tree.process.Variant.TheVariants as variants
+use Rattle.occ_term.specs.Terms.{Arms, Choices, Term}
+use Rattle.occ_unfolding.specs.Actions.{none_chosen}
+use Rattle.occ_unfolding.specs.Performing.{Under, acted, sequenced, each_sequenced, beside, copies_beside, alternated, conditioned, selected, looped, taken_by_variant, each_of_arms, each_of_choices, variants_arm}
+use Rattle.occ_unfolding.specs.Performing as P
+use Rattle.occ_unfolding.specs.Recursion.{unfolded, all_in_turn, all_beside, all_arms, arm_unfolded, all_choices, choice_unfolded, all_options, all_variants}
+
+abbrev pub performing : ℕ → Stmt → Under Term
+performing line (stmts.Action a) = acted line (action_of a)
+performing line (stmts.Seq' s ps) = sequenced (all_in_turn (row_processes ps))
+performing line (stmts.SeqFor' r p n) = each_sequenced line (replicator_of r) (unfolded (process_of n))
+performing line (stmts.Par' s ps) = beside (all_beside (row_processes ps))
+performing line (stmts.ParFor' r p n) = copies_beside line (replicator_of r) (unfolded (process_of n))
+performing line (stmts.Alt' pri s ms) = alternated pri (all_arms (row_arms ms))
+performing line (stmts.AltFor' pri r p m) = alternated pri (each_of_arms line (replicator_of r) (arm_unfolded (arm_of m)))
+performing line (stmts.If' s cs) = conditioned (all_choices (row_choices cs))
+performing line (stmts.IfFor' r p c) = conditioned (each_of_choices line (replicator_of r) (choice_unfolded (choice_of c)))
+performing line (stmts.Case' e s os) = selected line (expression_of e) (λ type. all_options (row_selections os) type none_chosen)
+performing line (stmts.While' e p n) = looped line (expression_of e) (unfolded (process_of n))
+performing line (stmts.Variants' v s vs) = taken_by_variant line (var_of v) (λ p. all_variants (row_variants vs) p [])
+
+-- the declarations of a process, its line and its statement
+abbrev pub declarations_in : Process → Decls
+declarations_in (processes.Declared' shape ds line s) = row_decls ds
+
+abbrev pub line_in : Process → ℕ
+line_in (processes.Declared' shape ds line s) = line
+
+abbrev pub statement_in : Process → Stmt
+statement_in (processes.Declared' shape ds line s) = s
+
+-- ---- the choices of an IF
+
+-- the declarations of a choice, and what it unfolds to behind them
+abbrev pub declarations_of_choice : Choice → Decls
+declarations_of_choice (choices.When' shape ds line e n) = row_decls ds
+declarations_of_choice (choices.InnerIf' shape ds line s cs) = row_decls ds
+declarations_of_choice (choices.InnerIfFor' shape ds line r p c) = row_decls ds
+
+abbrev pub choosing : Choice → Under Choices
+choosing (choices.When' shape ds line e n) = P.choice_of line (expression_of e) (unfolded (process_of n))
+choosing (choices.InnerIf' shape ds line s cs) = all_choices (row_choices cs)
+choosing (choices.InnerIfFor' shape ds line r p c) = each_of_choices line (replicator_of r) (choice_unfolded (choice_of c))
+
+-- ---- the arms of an ALT
+
+-- the declarations of an arm, and what it unfolds to behind them
+abbrev pub declarations_of_arm : Arm → Decls
+declarations_of_arm (arms.Guarded' shape ds line g n) = row_decls ds
+declarations_of_arm (arms.OnVariant' shape ds line e v s vs) = row_decls ds
+declarations_of_arm (arms.InnerAlt' shape ds line pri s ms) = row_decls ds
+declarations_of_arm (arms.InnerAltFor' shape ds line pri r p m) = row_decls ds
+
+abbrev pub listening : Arm → Under Arms
+listening (arms.Guarded' shape ds line g n) = P.arm_of line (guard_of g) (unfolded (process_of n))
+listening (arms.OnVariant' shape ds line e v s vs) = variants_arm line (option_map expression_of e) (var_of v) (λ p. all_variants (row_variants vs) p [])
+listening (arms.InnerAlt' shape ds line pri s ms) = all_arms (row_arms ms)
+listening (arms.InnerAltFor' shape ds line pri r p m) = each_of_arms line (replicator_of r) (arm_unfolded (arm_of m))
+
+-- ---- the variants of an input: the parts of each
+
+abbrev pub declarations_of_variant : Variant → Decls
+declarations_of_variant (variants.Tagged' shape ds line x ts n) = row_decls ds
+
+abbrev pub line_of_variant : Variant → ℕ
+line_of_variant (variants.Tagged' shape ds line x ts n) = line
+
+abbrev pub targets_of_variant : Variant → List L.Target
+targets_of_variant (variants.Tagged' shape ds line x ts n) = map target_of ts.items
+
+abbrev pub body_of_variant : Variant → Process
+body_of_variant (variants.Tagged' shape ds line x ts n) = n

@@ -1,0 +1,74 @@
+-- How large trees and scopes are. What is unfolded next is smaller than what it stands in, and a PROC's body with all that it sees
+-- is smaller than a scope that the PROC stands in.
+-- Manual: nothing; this is (own).
+use Rattle.std.specs.Prelude.{List, [], ℕ, ◌+◌, ◌∷◌}
+use Rattle.occ_tree.specs.Processes.Trees.{Kind, process, Node, node, Body, no_body, single_body, bodies, Nodes, no_node, more_nodes, Decls, no_decl, more_decls, Decl, declares, item, Item, value_item, protocol_item, proc_item, Under}
+use Rattle.occ_tree.specs.Processes.Views.{process_of, arm_of, choice_of, row_processes, row_arms, row_choices, row_selections, row_variants}
+use Rattle.occ_tree.specs.declared.tree.process.Stmt.{Stmt}
+use Rattle.occ_tree.specs.declared.tree.process.Stmt.TheVariants as stmts
+use Rattle.occ_tree.specs.declared.tree.process.Choice.{Choice}
+use Rattle.occ_tree.specs.declared.tree.process.Choice.TheVariants as choices
+use Rattle.occ_tree.specs.declared.tree.process.Arm.{Arm}
+use Rattle.occ_tree.specs.declared.tree.process.Arm.TheVariants as arms
+use Rattle.occ_unfolding.specs.Scope.{known, proc}
+use Rattle.occ_unfolding.specs.Unfolding.{procedure, Procedures}
+
+-- the sizes of trees, with those of bodies that are declared in them
+unfoldable mutual
+  pub node_size : {k : Kind} → Node k → ℕ
+  node_size (node ds line h b) = (decls_size ds + body_size b) + 2
+
+  pub body_size : {u : Under} → Body u → ℕ
+  body_size no_body = 0
+  body_size (single_body n) = node_size n + 1
+  body_size (bodies ns) = nodes_size ns + 1
+
+  pub nodes_size : {k : Kind} → Nodes k → ℕ
+  nodes_size no_node = 0
+  nodes_size (more_nodes n ns) = (node_size n + nodes_size ns) + 1
+
+  pub decls_size : Decls → ℕ
+  decls_size no_decl = 0
+  decls_size (more_decls d ds) = (decl_size d + decls_size ds) + 1
+
+  pub decl_size : Decl → ℕ
+  decl_size (declares line es sort x xs) = 1
+  decl_size (item i) = item_size i + 1
+
+  pub item_size : Item → ℕ
+  item_size (value_item line type x e) = 1
+  item_size (protocol_item p) = 1
+  item_size (proc_item line f fs body end_line) = node_size body + 2
+
+-- the sizes of the bodies in a scope
+unfoldable pub weight : Procedures → ℕ
+weight [] = 0
+weight ((x, known k) ∷ sc) = weight sc
+weight ((f, proc (procedure line fs body)) ∷ sc) = (node_size body + weight sc) + 1
+
+-- the size of what stands under a statement
+abbrev pub statement_size : Stmt → ℕ
+statement_size (stmts.Action a) = 0
+statement_size (stmts.Seq' s ps) = nodes_size (row_processes ps) + 1
+statement_size (stmts.SeqFor' r p n) = node_size (process_of n) + 1
+statement_size (stmts.Par' s ps) = nodes_size (row_processes ps) + 1
+statement_size (stmts.ParFor' r p n) = node_size (process_of n) + 1
+statement_size (stmts.Alt' pri s ms) = nodes_size (row_arms ms) + 1
+statement_size (stmts.AltFor' pri r p m) = node_size (arm_of m) + 1
+statement_size (stmts.If' s cs) = nodes_size (row_choices cs) + 1
+statement_size (stmts.IfFor' r p c) = node_size (choice_of c) + 1
+statement_size (stmts.Case' e s os) = nodes_size (row_selections os) + 1
+statement_size (stmts.While' e p n) = node_size (process_of n) + 1
+statement_size (stmts.Variants' v s vs) = nodes_size (row_variants vs) + 1
+
+-- the size of what stands under a choice, and under an arm
+abbrev pub choice_size : Choice → ℕ
+choice_size (choices.When' shape ds line e n) = node_size (process_of n) + 1
+choice_size (choices.InnerIf' shape ds line s cs) = nodes_size (row_choices cs) + 1
+choice_size (choices.InnerIfFor' shape ds line r p c) = node_size (choice_of c) + 1
+
+abbrev pub arm_size : Arm → ℕ
+arm_size (arms.Guarded' shape ds line g n) = node_size (process_of n) + 1
+arm_size (arms.OnVariant' shape ds line e v s vs) = nodes_size (row_variants vs) + 1
+arm_size (arms.InnerAlt' shape ds line pri s ms) = nodes_size (row_arms ms) + 1
+arm_size (arms.InnerAltFor' shape ds line pri r p m) = node_size (arm_of m) + 1

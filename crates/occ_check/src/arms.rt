@@ -1,0 +1,414 @@
+//! The arms of an ALT.
+
+ghost use Rattle.std.specs.Prelude.{◌≡◌, ◌<◌, ◌≤◌, ◌+◌, IfOk, OnOk, map, option_map};
+ghost use Rattle.occ_tree.specs.Expressions.Trees.{expression_of as tree_of};
+ghost use Rattle.occ_tree.specs.Processes.Trees.{nodes, decls};
+ghost use Rattle.occ_tree.specs.Processes.Views as trees;
+ghost use Rattle.occ_tree.specs.Processes.Views.{decl_of, process_of, row_arms, row_decls};
+ghost use Rattle.occ_tree.specs.declared.tree.process.Arm.TheBlock.{hidden-the_row-Arm-2, hidden-the_row-Decl-0};
+ghost use Rattle.occ_tree.specs.Lines.HeadViews.{guard_of};
+ghost use Rattle.occ_tree.specs.Lines.Views as lines;
+ghost use Rattle.occ_tree.specs.Lines.Views.{replicator_of};
+ghost use Rattle.occ_term.specs.Sizes.{beside, node, size_of_expression, size_of_place};
+ghost use Rattle.occ_term.specs.Terms.{no_arms};
+ghost use Rattle.occ_term.specs.View.{arm_of, arms_of, declarations_of, expression_of, place_of, term_of};
+ghost use Rattle.occ_unfolding.specs.Actions as meant;
+ghost use Rattle.occ_unfolding.specs.Performing as performing;
+ghost use Rattle.occ_unfolding.specs.Performing.{alternated, each_of_arms};
+ghost use Rattle.occ_unfolding.specs.Recursion.{all_arms, arm_unfolded, unfolded};
+ghost use Rattle.occ_unfolding.specs.Scope.{names_of};
+ghost use Rattle.occ_check.specs.ActionView.{listed_of};
+ghost use Rattle.occ_check.specs.Prefixes.{guarding, guarding_variants};
+ghost use Rattle.occ_unfolding.specs.Numbers.{room};
+ghost use Rattle.occ_check.specs.View.{Counts, Unfolds, names_in, numbers_of};
+ghost use Rattle.occ_check.specs.Statements.{declarations_of_arm, listening};
+ghost use Rattle.occ_check.specs.Progress.{counted, meant_at};
+
+use crate::acting::names_at;
+use crate::action::{Listed, as_reception, received, test_of, with_tags};
+use crate::fault::CheckFault;
+use crate::item::channel_of;
+use crate::measuring::{count_expression, count_place, count_targets};
+use crate::numbers::Numbers;
+use crate::scope::{Position, Scope};
+use crate::unfolder::Unfolder;
+use crate::variants::listed_variants;
+use occ_term::{Arm as TermArm, Declaration, Place, Protocol, Reception, Term, TermExpr};
+use occ_tree::tree::expr::Expr;
+use occ_tree::tree::line::{Guard, Input, Replicator, Var};
+use occ_tree::tree::process::{Arm, Decl, Process};
+use sqlite_items::Items;
+use std::alloc::{AllocError, Global};
+
+/// The guard of an arm with an input: its Boolean, its channel and what it stores.
+#[derive(Drop)]
+struct Guarded {
+    test: TermExpr,
+    channel: Place,
+    listed: Listed,
+}
+
+impl<'t> Unfolder<'t> {
+    /// What an ALT unfolds to.
+    #[cycle(unfolding)]
+    pub fn alternation(
+        &mut self,
+        alloc: Global,
+        at: Position,
+        depth: u32,
+        by_priority: bool,
+        arms: &'t [Arm],
+    ) -> Result<Term, CheckFault>
+        requires { depth ≤ 200 }
+        ensures term { Unfolds term_of result self.new.numbers (alternated by_priority (all_arms (nodes (map trees.arm_of arms.now))) (meant_at self.old at) depth (counted self.old)) }
+        ensures kept { OnOk result (self.new.frames.frames.items ≡ self.old.frames.frames.items) }
+    {
+        self.numbers.node(depth)?;
+        let arms = self.arms(alloc, at, depth + 1, arms)?;
+        Ok(Term::Alt(by_priority, arms))
+    }
+
+    /// What a replicated ALT unfolds to.
+    #[cycle(unfolding)]
+    pub fn each_alternation(
+        &mut self,
+        alloc: Global,
+        at: Position,
+        depth: u32,
+        line: u32,
+        by_priority: bool,
+        replicator: &Replicator,
+        arm: &'t Arm,
+    ) -> Result<Term, CheckFault>
+        requires { depth ≤ 200 }
+        ensures term { Unfolds term_of result self.new.numbers (alternated by_priority (each_of_arms line (replicator_of replicator.now) (arm_unfolded (trees.arm_of arm.now))) (meant_at self.old at) depth (counted self.old)) }
+        ensures kept { OnOk result (self.new.frames.frames.items ≡ self.old.frames.frames.items) }
+    {
+        self.numbers.node(depth)?;
+        let arms = self.each_arm(alloc, at, depth + 1, line, replicator, arm)?;
+        Ok(Term::Alt(by_priority, arms))
+    }
+
+    /// What arms unfold to, those of a nested ALT in its place.
+    #[cycle(unfolding)]
+    fn arms(
+        &mut self,
+        alloc: Global,
+        at: Position,
+        depth: u32,
+        list: &'t [Arm],
+    ) -> Result<Items<TermArm>, CheckFault>
+        requires { depth ≤ 200 }
+        ensures arms { Unfolds arms_of result self.new.numbers (all_arms (nodes (map trees.arm_of list.now)) (meant_at self.old at) depth (counted self.old)) }
+        ensures kept { OnOk result (self.new.frames.frames.items ≡ self.old.frames.frames.items) }
+    {
+        let mut arms = Items::new(alloc);
+        for arm in list {
+            let made = self.arm(alloc, at, depth, arm)?;
+            arms.append(made)?;
+        }
+        Ok(arms)
+    }
+
+    /// What an arm unfolds to.
+    #[cycle(unfolding)]
+    fn arm(
+        &mut self,
+        alloc: Global,
+        at: Position,
+        depth: u32,
+        arm: &'t Arm,
+    ) -> Result<Items<TermArm>, CheckFault>
+        requires { depth ≤ 200 }
+        ensures arms { Unfolds arms_of result self.new.numbers (arm_unfolded (trees.arm_of arm.now) (meant_at self.old at) depth (counted self.old)) }
+        ensures kept { OnOk result (self.new.frames.frames.items ≡ self.old.frames.frames.items) }
+    {
+        let base = self.frames.len();
+        let (heads, inside) = self.entering(alloc, at, depth, declarations_of(arm))?;
+        let arms = self.listening(alloc, inside, depth, arm)?;
+        self.frames.close(base);
+        Ok(arms_behind(alloc, heads, arms)?)
+    }
+
+    /// What an arm unfolds to behind its declarations.
+    #[cycle(unfolding)]
+    fn listening(
+        &mut self,
+        alloc: Global,
+        at: Position,
+        depth: u32,
+        arm: &'t Arm,
+    ) -> Result<Items<TermArm>, CheckFault>
+        requires { depth ≤ 200 }
+        ensures arms { Unfolds arms_of result self.new.numbers (listening arm.now (meant_at self.old at) depth (counted self.old)) }
+        ensures kept { OnOk result (self.new.frames.frames.items ≡ self.old.frames.frames.items) }
+    {
+        match arm {
+            Arm::Guarded(_, line, guard, body) => {
+                self.guarded(alloc, at, depth, *line, guard, body)
+            }
+            Arm::OnVariant(_, line, test, channel, variants) => {
+                let (test, protocol, channel) = self.guarding_variants(
+                    alloc, at, depth, *line, test, channel,
+                )?;
+                let variants = self.variants(
+                    alloc,
+                    at,
+                    depth + 1,
+                    &protocol,
+                    listed_variants(variants),
+                )?;
+                let arm = TermArm::InputArm(test, channel, Reception::Tagged(variants));
+                Ok(only_arm(alloc, arm)?)
+            }
+            Arm::InnerAlt(_, _, _, arms) => self.arms(alloc, at, depth, listed_arms(arms)),
+            Arm::InnerAltFor(_, line, _, replicator, arm) => {
+                self.each_arm(alloc, at, depth, *line, replicator, arm)
+            }
+        }
+    }
+
+    /// What an arm with a guard in one line unfolds to.
+    #[cycle(unfolding)]
+    fn guarded(
+        &mut self,
+        alloc: Global,
+        at: Position,
+        depth: u32,
+        line: u32,
+        guard: &Guard,
+        body: &'t Process,
+    ) -> Result<Items<TermArm>, CheckFault>
+        requires { depth ≤ 200 }
+        ensures arms { Unfolds arms_of result self.new.numbers (performing.arm_of line (guard_of guard.now) (unfolded (process_of body.now)) (meant_at self.old at) depth (counted self.old)) }
+        ensures kept { OnOk result (self.new.frames.frames.items ≡ self.old.frames.frames.items) }
+    {
+        match guard {
+            Guard::Input(test, input) => {
+                let guarded = self.guarding(alloc, at, depth, line, test, input)?;
+                let deep = depth_behind(&guarded.listed, depth + 1);
+                let body = self.process(alloc, at, deep, body)?;
+                let reception = as_reception(alloc, guarded.listed, body)?;
+                let arm = TermArm::InputArm(guarded.test, guarded.channel, reception);
+                Ok(only_arm(alloc, arm)?)
+            }
+            Guard::Skip(test) => {
+                let test = self.tested(alloc, at, depth, line, test)?;
+                let body = self.process(alloc, at, depth + 1, body)?;
+                Ok(only_arm(alloc, TermArm::SkipArm(test, body))?)
+            }
+        }
+    }
+
+    /// What an arm unfolds to for each value of an index.
+    #[cycle(unfolding)]
+    fn each_arm(
+        &mut self,
+        alloc: Global,
+        at: Position,
+        depth: u32,
+        line: u32,
+        replicator: &Replicator,
+        arm: &'t Arm,
+    ) -> Result<Items<TermArm>, CheckFault>
+        requires { depth ≤ 200 }
+        ensures arms { Unfolds arms_of result self.new.numbers (each_of_arms line (replicator_of replicator.now) (arm_unfolded (trees.arm_of arm.now)) (meant_at self.old at) depth (counted self.old)) }
+        ensures kept { OnOk result (self.new.frames.frames.items ≡ self.old.frames.frames.items) }
+    {
+        let base = self.frames.len();
+        let (over, inside) = self.indexed(alloc, at, depth, line, replicator)?;
+        let within = self.arm(alloc, inside, depth + 1, arm)?;
+        self.frames.close(base);
+        Ok(only_arm(alloc, TermArm::EachArm(over, within))?)
+    }
+
+    /// A guard with an input, with the node that it heads.
+    fn guarding(
+        &mut self,
+        alloc: Global,
+        at: Position,
+        depth: u32,
+        line: u32,
+        test: &Option<Expr>,
+        input: &Input,
+    ) -> Result<Guarded, CheckFault>
+        ensures guard { Unfolds (λ g. (expression_of g.test, (place_of g.channel, listed_of g.listed))) result self.new.numbers (guarding (names_of (meant_at self.old at)) line depth (option_map tree_of test.now) (lines.input_of input.now) (counted self.old)) }
+        ensures kept { OnOk result (self.new.frames ≡ self.old.frames) }
+        ensures within { IfOk result (λ g. meant.depth_behind (listed_of g.listed) (depth + 1) ≤ 200) }
+    {
+        let scope = names_at(&self.frames, at);
+        guarding(&mut self.numbers, alloc, scope, line, depth, test, input)
+    }
+
+    /// A guard with an input of variants, with the node that it heads, and what its channel carries.
+    fn guarding_variants(
+        &mut self,
+        alloc: Global,
+        at: Position,
+        depth: u32,
+        line: u32,
+        test: &Option<Expr>,
+        channel: &Var,
+    ) -> Result<(TermExpr, Protocol, Place), CheckFault>
+        ensures guard { Unfolds (λ g. (expression_of g.0, (g.1, place_of g.2))) result self.new.numbers (guarding_variants (names_of (meant_at self.old at)) line depth (option_map tree_of test.now) (lines.var_of channel.now) (counted self.old)) }
+        ensures kept { OnOk result (self.new.frames ≡ self.old.frames) }
+        ensures within { IfOk result (λ _. depth < 200) }
+    {
+        let scope = names_at(&self.frames, at);
+        guarding_variants(&mut self.numbers, alloc, scope, line, depth, test, channel)
+    }
+}
+
+/// A guard with an input, with the node that it heads.
+fn guarding(
+    numbers: &mut Numbers,
+    alloc: Global,
+    scope: Scope<'_, '_>,
+    line: u32,
+    depth: u32,
+    test: &Option<Expr>,
+    input: &Input,
+) -> Result<Guarded, CheckFault>
+    ensures guard { Unfolds (λ g. (expression_of g.test, (place_of g.channel, listed_of g.listed))) result numbers.new (guarding (names_in scope.entry) line depth (option_map tree_of test.now) (lines.input_of input.now) (numbers_of numbers.old)) }
+    ensures within { IfOk result (λ g. meant.depth_behind (listed_of g.listed) (depth + 1) ≤ 200) }
+{
+    let test = test_of(alloc, scope, line, test)?;
+    let (channel, listed) = received(alloc, scope, line, input)?;
+    count_guard(numbers, depth, &test, &channel, &listed)?;
+    Ok(Guarded {
+        test,
+        channel,
+        listed,
+    })
+}
+
+/// Counts a guard with an input.
+fn count_guard(
+    numbers: &mut Numbers,
+    depth: u32,
+    test: &TermExpr,
+    channel: &Place,
+    listed: &Listed,
+) -> Result<(), CheckFault>
+    ensures counts { Counts result numbers.new (room depth (node (beside (size_of_expression (expression_of test.now)) (beside (size_of_place (place_of channel.now)) (meant.size_of_list (listed_of listed.now))))) (numbers_of numbers.old)) }
+    ensures within { IfOk result (λ _. meant.depth_behind (listed_of listed.now) (depth + 1) ≤ 200) }
+{
+    numbers.node(depth)?;
+    count_expression(numbers, depth + 1, test)?;
+    count_place(numbers, depth + 1, channel)?;
+    count_listed(numbers, depth + 1, listed)
+}
+
+/// Counts what an input stores.
+fn count_listed(numbers: &mut Numbers, depth: u32, listed: &Listed) -> Result<(), CheckFault>
+    requires { depth ≤ 200 }
+    ensures counts { Counts result numbers.new (room depth (meant.size_of_list (listed_of listed.now)) (numbers_of numbers.old)) }
+    ensures within { IfOk result (λ _. meant.depth_behind (listed_of listed.now) depth ≤ 200) }
+{
+    match listed {
+        Listed::Plain(targets) => count_targets(numbers, depth, targets.as_slice()),
+        Listed::Tagged(_, targets) => {
+            numbers.node(depth)?;
+            count_targets(numbers, depth + 1, targets.as_slice())
+        }
+    }
+}
+
+/// How deep a process behind an input is.
+fn depth_behind(listed: &Listed, depth: u32) -> u32
+    requires { depth ≤ 200 }
+    ensures { result ≡ meant.depth_behind (listed_of listed.now) depth }
+{
+    match listed {
+        Listed::Plain(_) => depth,
+        Listed::Tagged(_, _) => depth + 1,
+    }
+}
+
+/// A guard with an input of variants, with the node that it heads.
+fn guarding_variants(
+    numbers: &mut Numbers,
+    alloc: Global,
+    scope: Scope<'_, '_>,
+    line: u32,
+    depth: u32,
+    test: &Option<Expr>,
+    channel: &Var,
+) -> Result<(TermExpr, Protocol, Place), CheckFault>
+    ensures guard { Unfolds (λ g. (expression_of g.0, (g.1, place_of g.2))) result numbers.new (guarding_variants (names_in scope.entry) line depth (option_map tree_of test.now) (lines.var_of channel.now) (numbers_of numbers.old)) }
+    ensures within { IfOk result (λ _. depth < 200) }
+{
+    let test = test_of(alloc, scope, line, test)?;
+    let (protocol, channel) = channel_of(alloc, scope, line, channel)?;
+    let protocol = with_tags(line, protocol)?;
+    count_guarded_channel(numbers, depth, &test, &channel)?;
+    Ok((test, protocol.copy(alloc)?, channel))
+}
+
+/// Counts a guard with an input of variants.
+fn count_guarded_channel(
+    numbers: &mut Numbers,
+    depth: u32,
+    test: &TermExpr,
+    channel: &Place,
+) -> Result<(), CheckFault>
+    ensures counts { Counts result numbers.new (room depth (node (beside (size_of_expression (expression_of test.now)) (size_of_place (place_of channel.now)))) (numbers_of numbers.old)) }
+    ensures within { IfOk result (λ _. depth < 200) }
+{
+    numbers.node(depth)?;
+    count_expression(numbers, depth + 1, test)?;
+    count_place(numbers, depth + 1, channel)
+}
+
+/// An arm alone.
+fn only_arm(alloc: Global, arm: TermArm) -> Result<Items<TermArm>, AllocError>
+    ensures { IfOk result (λ xs. arms_of xs ≡ arm_of arm no_arms) }
+{
+    let mut arms = Items::new(alloc);
+    arms.push(arm)?;
+    Ok(arms)
+}
+
+/// Arms behind what is set for declarations.
+fn arms_behind(
+    alloc: Global,
+    heads: Items<Declaration>,
+    arms: Items<TermArm>,
+) -> Result<Items<TermArm>, AllocError>
+    ensures { IfOk result (λ xs. arms_of xs ≡ meant.arms_behind (declarations_of heads) (arms_of arms)) }
+{
+    let mut heads = heads;
+    let mut arms = arms;
+    'outwards: while let Some(head) = heads.pop() {
+        arms = only_arm(alloc, TermArm::DeclaredArms(head, arms))?;
+    }
+    Ok(arms)
+}
+
+/// The arms of an ALT, as a slice.
+#[tactic(auto, using(crate::proofs::Rows::arms_made))]
+pub(crate) fn listed_arms(arms: &Vec<Arm>) -> &[Arm]
+    ensures { nodes (map trees.arm_of result.now) ≡ row_arms (hidden-the_row-Arm-2 arms.now) }
+{
+    arms.as_slice()
+}
+
+/// The declarations of an arm, as they are kept.
+fn kept_declarations(arm: &Arm) -> &Vec<Decl>
+    ensures { row_decls (hidden-the_row-Decl-0 result.now) ≡ declarations_of_arm arm.now }
+{
+    match arm {
+        Arm::Guarded(declarations, _, _, _) => declarations,
+        Arm::OnVariant(declarations, _, _, _, _) => declarations,
+        Arm::InnerAlt(declarations, _, _, _) => declarations,
+        Arm::InnerAltFor(declarations, _, _, _, _) => declarations,
+    }
+}
+
+/// The declarations of an arm.
+#[tactic(auto, using(crate::proofs::Parts::decls_made))]
+fn declarations_of(arm: &Arm) -> &[Decl]
+    ensures { decls (map decl_of result.now) ≡ declarations_of_arm arm.now }
+{
+    kept_declarations(arm).as_slice()
+}

@@ -1,0 +1,165 @@
+//! The copies of a replicated PAR.
+
+ghost use Rattle.std.specs.Prelude.{◌≡◌, ◌<◌, ◌≤◌, ◌+ℤ◌, pos, IfErr, IfOk, OnOk, length, take};
+ghost use Rattle.occ_tree.specs.Processes.Views.{process_of};
+ghost use Rattle.occ_tree.specs.Lines.Views.{replicator_of};
+ghost use Rattle.occ_term.specs.View.{branch_of, branches_of, term_of};
+ghost use Rattle.occ_unfolding.specs.Declarations.{index_of};
+ghost use Rattle.occ_unfolding.specs.Performing.{copied, copies_beside};
+ghost use Rattle.occ_unfolding.specs.Recursion.{unfolded};
+ghost use Rattle.occ_unfolding.specs.Scope.{names_of, within};
+ghost use Rattle.occ_check.specs.Numbered.{copies_counted, copy_for, numbered_copy};
+ghost use Rattle.occ_check.specs.View.{Unfolds, names_in, numbers_of};
+ghost use Rattle.occ_check.specs.Progress.{counted, meant_at, weight_at};
+ghost use Rattle.occ_check.specs.declared.fault.CheckFault.TheVariants.{Memory};
+
+use crate::acting::names_at;
+use crate::declaration::copies_of;
+use crate::fault::CheckFault;
+use crate::known::Known;
+use crate::numbers::Numbers;
+use crate::scope::{Binding, Position, Scope};
+use crate::unfolder::Unfolder;
+use occ_term::{Branch, Primitive, Term};
+use occ_tree::tree::line::Replicator;
+use occ_tree::tree::process::Process;
+use sqlite_items::Items;
+use std::alloc::Global;
+
+impl<'t> Unfolder<'t> {
+    /// What a replicated PAR unfolds to.
+    #[cycle(unfolding)]
+    pub fn copied(
+        &mut self,
+        alloc: Global,
+        at: Position,
+        depth: u32,
+        line: u32,
+        replicator: &Replicator,
+        body: &'t Process,
+    ) -> Result<Term, CheckFault>
+        requires { depth ≤ 200 }
+        ensures term { Unfolds term_of result self.new.numbers (copies_beside line (replicator_of replicator.now) (unfolded (process_of body.now)) (meant_at self.old at) depth (counted self.old)) }
+        ensures kept { OnOk result (self.new.frames.frames.items ≡ self.old.frames.frames.items) }
+    {
+        let (first, count) = self.copies_counted(alloc, at, depth, line, replicator)?;
+        let branches = self.copies(alloc, at, depth + 1, replicator, first, count, body)?;
+        Ok(Term::Par(branches))
+    }
+
+    /// So many copies beside each other, from a value of the index on.
+    #[cycle(unfolding)]
+    fn copies(
+        &mut self,
+        alloc: Global,
+        at: Position,
+        depth: u32,
+        replicator: &Replicator,
+        first: i64,
+        count: u64,
+        body: &'t Process,
+    ) -> Result<Items<Branch>, CheckFault>
+        requires { depth ≤ 200 }
+        ensures branches { Unfolds branches_of result self.new.numbers (copied (copy_for (replicator_of replicator.now) (process_of body.now) (meant_at self.old at) depth) count first (counted self.old)) }
+        ensures kept { OnOk result (self.new.frames.frames.items ≡ self.old.frames.frames.items) }
+    {
+        let mut branches = Items::new(alloc);
+        let mut value = first;
+        let mut left = count;
+        'copies: while left > 0 {
+            let branch = self.copy(alloc, at, depth, replicator, value, body)?;
+            branches.push(branch)?;
+            value = next_value(value)?;
+            left -= 1;
+        }
+        Ok(branches)
+    }
+
+    /// The copy for a value of the index, with its number.
+    #[cycle(unfolding)]
+    fn copy(
+        &mut self,
+        alloc: Global,
+        at: Position,
+        depth: u32,
+        replicator: &Replicator,
+        value: i64,
+        body: &'t Process,
+    ) -> Result<Branch, CheckFault>
+        requires { depth ≤ 200 }
+        ensures branch { Unfolds branch_of result self.new.numbers (numbered_copy (copy_for (replicator_of replicator.now) (process_of body.now) (meant_at self.old at) depth) value (counted self.old)) }
+        ensures kept { OnOk result (self.new.frames.frames.items ≡ self.old.frames.frames.items) }
+    {
+        let base = self.frames.len();
+        let number = self.numbers.more_processes()?;
+        let inside = self.at_value(alloc, at, replicator, value)?;
+        let body = self.process(alloc, inside, depth, body)?;
+        self.frames.close(base);
+        Ok(Branch { number, body })
+    }
+
+    /// Enters the index of a copy, which is a constant there, and answers the position at which it is in scope.
+    fn at_value(
+        &mut self,
+        alloc: Global,
+        at: Position,
+        replicator: &Replicator,
+        value: i64,
+    ) -> Result<Position, CheckFault>
+        ensures scope { IfOk result (λ p. meant_at self.new p ≡ within (index_of (replicator_of replicator.now) value) (meant_at self.old at)) }
+        ensures weight { IfOk result (λ p. weight_at self.new p ≡ weight_at self.old at) }
+        ensures kept { OnOk result (take (length self.old.frames.frames.items) self.new.frames.frames.items ≡ self.old.frames.frames.items) }
+        ensures numbers { OnOk result (self.new.numbers ≡ self.old.numbers) }
+        ensures memory { IfErr result (λ e. e ≡ Memory) }
+    {
+        self.frames.open(alloc, at)?;
+        let index = Binding::Known(Known::Value(Primitive::Int, value));
+        self.frames.declare(alloc, &replicator.name, index)?;
+        Ok(self.frames.end())
+    }
+
+    /// The first value of the index and how many copies there are, with the node of the PAR.
+    fn copies_counted(
+        &mut self,
+        alloc: Global,
+        at: Position,
+        depth: u32,
+        line: u32,
+        replicator: &Replicator,
+    ) -> Result<(i64, u64), CheckFault>
+        ensures counted { Unfolds (λ c. c) result self.new.numbers (copies_counted (names_of (meant_at self.old at)) line depth (replicator_of replicator.now) (counted self.old)) }
+        ensures kept { OnOk result (self.new.frames ≡ self.old.frames) }
+        ensures within { IfOk result (λ _. depth < 200) }
+    {
+        let scope = names_at(&self.frames, at);
+        copies_counted(&mut self.numbers, alloc, scope, line, depth, replicator)
+    }
+}
+
+/// The first value of the index and how many copies there are, with the node of the PAR.
+fn copies_counted(
+    numbers: &mut Numbers,
+    alloc: Global,
+    scope: Scope<'_, '_>,
+    line: u32,
+    depth: u32,
+    replicator: &Replicator,
+) -> Result<(i64, u64), CheckFault>
+    ensures counted { Unfolds (λ c. c) result numbers.new (copies_counted (names_in scope.entry) line depth (replicator_of replicator.now) (numbers_of numbers.old)) }
+    ensures within { IfOk result (λ _. depth < 200) }
+{
+    let copies = copies_of(alloc, scope, line, replicator)?;
+    numbers.node(depth)?;
+    Ok(copies)
+}
+
+/// The value of the index after this one.
+fn next_value(value: i64) -> Result<i64, CheckFault>
+    ensures next { IfOk result (λ v. v ≡ value +ℤ pos 1) }
+    ensures memory { IfErr result (λ e. e ≡ Memory) }
+{
+    match value.checked_add(1) {
+        Some(next) => Ok(next),
+        None => Err(CheckFault::Memory),
+    }
+}

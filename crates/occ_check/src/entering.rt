@@ -1,0 +1,378 @@
+//! What comes into scope: declarations, the formals of a call and the index of a replicator.
+
+ghost use Rattle.std.specs.Prelude.{ℕ, ◌≡◌, ◌+◌, ◌<◌, ◌≤◌, IfErr, IfOk, OnOk, length, map, reverse, take};
+ghost use Rattle.occ_tree.specs.Processes.Trees.{decls};
+ghost use Rattle.occ_tree.specs.Processes.Views.{process_of, decl_of, item_of};
+ghost use Rattle.occ_tree.specs.Lines.Views.{actuals_of, formals_of, replicator_of};
+ghost use Rattle.occ_tree.specs.Lines.Heads.{call};
+ghost use Rattle.occ_term.specs.View.{declaration_of, declarations_of, term_of};
+ghost use Rattle.occ_unfolding.specs.Actions.{as_term, headed, opening};
+ghost use Rattle.occ_unfolding.specs.Declarations.{indexed};
+ghost use Rattle.occ_unfolding.specs.Performing.{acted};
+ghost use Rattle.occ_unfolding.specs.Scope.{names_of, within};
+ghost use Rattle.occ_unfolding.specs.Recursion.{all_declared, declared, item_declared};
+ghost use Rattle.occ_unfolding.specs.Unfolding.{meaning_of};
+ghost use Rattle.occ_check.specs.Entering.{formals_bound, procedure_found, procedure_in, procedure_of};
+ghost use Rattle.occ_check.specs.OpenedView.{Opens, pairs_of};
+ghost use Rattle.occ_check.specs.Weights.{decl_size, decls_size, item_size, node_size, weight};
+ghost use Rattle.occ_check.specs.View.{Gives, Unfolds, innermost, names_in, numbers_of, scope_in, scope_of};
+ghost use Rattle.occ_check.specs.Progress.{Calls, Enters, Indexes, counted, innermost_at, meant_at, meant_innermost, weight_at};
+ghost use Rattle.occ_check.specs.declared.fault.CheckFault.TheVariants.{Memory};
+
+use crate::call::{bound, formals_of};
+use crate::declaration::{
+    Indexed, Named, Opened, index_replicator, names_declared, protocol_declared, value_declared,
+};
+use crate::fault::{CheckFault, unknown};
+use crate::frames::Frames;
+use crate::numbers::Numbers;
+use crate::scope::{Binding, Found, Position, Procedure, Scope};
+use crate::unfolder::{Call, Unfolder};
+use occ_term::{Declaration, Replicator, Term};
+use occ_tree::tree::expr::Expr;
+use occ_tree::tree::line::{OneOrMore, Replicator as ReplicatorTree};
+use occ_tree::tree::process::{Decl, Item};
+use sqlite_items::Items;
+use std::alloc::Global;
+
+// ---- a term behind its declarations
+
+/// A process behind what is set for its declarations.
+pub(crate) fn headed(
+    alloc: Global,
+    heads: Items<Declaration>,
+    term: Term,
+) -> Result<Term, CheckFault>
+    ensures term { IfOk result (λ t. term_of t ≡ headed (declarations_of heads) (term_of term)) }
+    ensures memory { IfErr result (λ e. e ≡ Memory) }
+{
+    if heads.is_empty() {
+        return Ok(term);
+    }
+    let mut before = heads;
+    let mut parts = Vec::new(alloc);
+    parts.push(term)?;
+    'backwards: while let Some(head) = before.pop() {
+        parts.push(set(head))?;
+    }
+    parts.reverse();
+    Ok(Term::Seq(Items::from_vec(parts)))
+}
+
+/// The term that sets a declaration.
+fn set(declaration: Declaration) -> Term
+    ensures { term_of result ≡ as_term (declaration_of declaration) }
+{
+    match declaration {
+        Declaration::Clearing(line, first, count) => Term::Clear(line, first, count),
+        Declaration::Naming(line, first, value) => Term::Local(line, first, value),
+    }
+}
+
+// ---- names
+
+impl<'t> Frames<'t> {
+    /// All that is in scope at the end.
+    fn inside(&self) -> Scope<'_, 't>
+        ensures { scope_of result ≡ innermost (reverse self.now.frames.items) }
+    {
+        self.scope(self.end())
+    }
+
+    /// Declares names, the first of which is the innermost.
+    pub(crate) fn enter(&mut self, alloc: Global, names: Vec<Named>) -> Result<(), CheckFault>
+        requires { 0 < length self.old.frames.items }
+        ensures scope { OnOk result (innermost (reverse self.new.frames.items) ≡ within (pairs_of names.items) (innermost (reverse self.old.frames.items))) }
+        ensures kept { OnOk result ((n : ℕ) → n < length self.old.frames.items → take n self.new.frames.items ≡ take n self.old.frames.items) }
+        ensures more { OnOk result (length self.old.frames.items ≤ length self.new.frames.items) }
+        ensures memory { IfErr result (λ e. e ≡ Memory) }
+    {
+        let mut left = names;
+        'names: while let Some(named) = left.pop() {
+            let Named { name, known } = named;
+            self.declare(alloc, name.as_slice(), Binding::Known(known))?;
+        }
+        Ok(())
+    }
+
+    /// Opens a frame with names inside of a position.
+    fn open_with(
+        &mut self,
+        alloc: Global,
+        outer: Position,
+        names: Vec<Named>,
+    ) -> Result<Position, CheckFault>
+        ensures scope { IfOk result (λ at. scope_in (reverse self.new.frames.items) at ≡ within (pairs_of names.items) (scope_in (reverse self.old.frames.items) outer)) }
+        ensures kept { OnOk result (take (length self.old.frames.items) self.new.frames.items ≡ self.old.frames.items) }
+        ensures memory { IfErr result (λ e. e ≡ Memory) }
+    {
+        self.open(alloc, outer)?;
+        self.enter(alloc, names)?;
+        Ok(self.end())
+    }
+}
+
+// ---- declarations
+
+impl<'t> Unfolder<'t> {
+    /// Enters declarations into the last frame, and answers what is set for them.
+    pub(crate) fn declared(
+        &mut self,
+        alloc: Global,
+        depth: u32,
+        declarations: &'t [Decl],
+    ) -> Result<Items<Declaration>, CheckFault>
+        requires { 0 < length self.old.frames.frames.items }
+        ensures entered { Enters result self.new (all_declared (decls (map decl_of declarations.now)) (meant_innermost self.old) depth (counted self.old)) }
+        ensures kept { OnOk result ((n : ℕ) → n < length self.old.frames.frames.items → take n self.new.frames.frames.items ≡ take n self.old.frames.frames.items) }
+        ensures more { OnOk result (length self.old.frames.frames.items ≤ length self.new.frames.frames.items) }
+        ensures weight { OnOk result (weight (innermost_at self.new) ≤ decls_size (decls (map decl_of declarations.now)) + weight (innermost_at self.old)) }
+    {
+        let mut heads = Items::new(alloc);
+        for declaration in declarations {
+            let more = self.one_declared(alloc, depth, declaration)?;
+            heads.append(more)?;
+        }
+        Ok(heads)
+    }
+
+    /// Enters one declaration.
+    fn one_declared(
+        &mut self,
+        alloc: Global,
+        depth: u32,
+        declaration: &'t Decl,
+    ) -> Result<Items<Declaration>, CheckFault>
+        requires { 0 < length self.old.frames.frames.items }
+        ensures entered { Enters result self.new (declared (decl_of declaration.now) (meant_innermost self.old) depth (counted self.old)) }
+        ensures kept { OnOk result ((n : ℕ) → n < length self.old.frames.frames.items → take n self.new.frames.frames.items ≡ take n self.old.frames.frames.items) }
+        ensures more { OnOk result (length self.old.frames.frames.items ≤ length self.new.frames.frames.items) }
+        ensures weight { OnOk result (weight (innermost_at self.new) ≤ decl_size (decl_of declaration.now) + weight (innermost_at self.old)) }
+    {
+        match declaration {
+            Decl::Names(line, sizes, sort, names) => {
+                let opened = names_declared(
+                    &mut self.numbers,
+                    alloc,
+                    self.frames.inside(),
+                    *line,
+                    depth,
+                    sizes,
+                    sort,
+                    names,
+                )?;
+                self.opened_names(alloc, opened)
+            }
+            Decl::Item(item) => self.item_declared(alloc, depth, item),
+        }
+    }
+
+    /// Enters an item.
+    pub(crate) fn item_declared(
+        &mut self,
+        alloc: Global,
+        depth: u32,
+        item: &'t Item,
+    ) -> Result<Items<Declaration>, CheckFault>
+        requires { 0 < length self.old.frames.frames.items }
+        ensures entered { Enters result self.new (item_declared (item_of item.now) (meant_innermost self.old) depth (counted self.old)) }
+        ensures kept { OnOk result ((n : ℕ) → n < length self.old.frames.frames.items → take n self.new.frames.frames.items ≡ take n self.old.frames.frames.items) }
+        ensures more { OnOk result (length self.old.frames.frames.items ≤ length self.new.frames.frames.items) }
+        ensures weight { OnOk result (weight (innermost_at self.new) ≤ item_size (item_of item.now) + weight (innermost_at self.old)) }
+    {
+        match item {
+            Item::Value(line, value_type, name, e) => {
+                let opened = value_declared(
+                    &mut self.numbers,
+                    alloc,
+                    self.frames.inside(),
+                    *line,
+                    depth,
+                    value_type,
+                    name,
+                    e,
+                )?;
+                self.opened_names(alloc, opened)
+            }
+            Item::Protocol(protocol) => {
+                let opened = protocol_declared(
+                    &mut self.numbers,
+                    alloc,
+                    self.frames.inside(),
+                    protocol,
+                )?;
+                self.opened_names(alloc, opened)
+            }
+            Item::Proc(line, name, formals, body, _) => {
+                let procedure = Procedure {
+                    line: *line,
+                    formals,
+                    body,
+                };
+                self.frames
+                    .declare(alloc, name, Binding::Procedure(procedure))?;
+                Ok(Items::new(alloc))
+            }
+        }
+    }
+
+    /// Enters names, and answers what is set for them.
+    fn opened_names(
+        &mut self,
+        alloc: Global,
+        opened: Opened,
+    ) -> Result<Items<Declaration>, CheckFault>
+        requires { 0 < length self.old.frames.frames.items }
+        ensures scope { OnOk result (innermost_at self.new ≡ within (pairs_of opened.names.items) (innermost_at self.old)) }
+        ensures heads { IfOk result (λ heads. heads ≡ opened.heads) }
+        ensures numbers { self.new.numbers ≡ self.old.numbers }
+        ensures kept { OnOk result ((n : ℕ) → n < length self.old.frames.frames.items → take n self.new.frames.frames.items ≡ take n self.old.frames.frames.items) }
+        ensures more { OnOk result (length self.old.frames.frames.items ≤ length self.new.frames.frames.items) }
+        ensures weight { OnOk result (weight (innermost_at self.new) ≡ weight (innermost_at self.old)) }
+        ensures memory { IfErr result (λ e. e ≡ Memory) }
+    {
+        let Opened { names, heads } = opened;
+        self.frames.enter(alloc, names)?;
+        Ok(heads)
+    }
+
+    /// Counts the SEQ that declarations head where there are some, and answers how deep what stands behind them is.
+    pub(crate) fn opened(&mut self, depth: u32, heads: &[Declaration]) -> Result<u32, CheckFault>
+        ensures opening { Unfolds (λ deep. deep) result self.new.numbers (opening (declarations_of heads.now) depth (counted self.old)) }
+        ensures kept { OnOk result (self.new.frames ≡ self.old.frames) }
+        ensures small { IfOk result (λ deep. depth ≤ 200 → deep ≤ 200) }
+    {
+        if heads.is_empty() {
+            return Ok(depth);
+        }
+        self.numbers.node(depth)?;
+        Ok(depth + 1)
+    }
+
+    // ---- calls
+
+    /// Binds the formals of the PROC that is called.
+    pub(crate) fn bound(
+        &mut self,
+        alloc: Global,
+        at: Position,
+        depth: u32,
+        line: u32,
+        name: &[u8],
+        actuals: &Option<OneOrMore<Expr>>,
+    ) -> Result<Call<'t>, CheckFault>
+        ensures call { Calls depth result self.new (acted line (call name.now (actuals_of actuals.now)) (meant_at self.old at) depth (counted self.old)) }
+        ensures kept { OnOk result (take (length self.old.frames.frames.items) self.new.frames.frames.items ≡ self.old.frames.frames.items) }
+        ensures weight { IfOk result (λ c. node_size (process_of c.body.now) + weight_at self.new c.inside < weight_at self.old at) }
+    {
+        let (procedure, outer) = procedure_of(alloc, self.frames.scope(at), line, name)?;
+        self.called(alloc, at, outer, depth, line, procedure, actuals)
+    }
+
+    /// Binds the formals of a PROC whose declaration stands at the outer position.
+    fn called(
+        &mut self,
+        alloc: Global,
+        at: Position,
+        outer: Position,
+        depth: u32,
+        line: u32,
+        procedure: Procedure<'t>,
+        actuals: &Option<OneOrMore<Expr>>,
+    ) -> Result<Call<'t>, CheckFault>
+        ensures call { Calls depth result self.new (meaning_of (procedure_of procedure.entry) (meant_at self.old outer) (names_of (meant_at self.old at)) line depth (actuals_of actuals.now) (counted self.old)) }
+        ensures kept { OnOk result (take (length self.old.frames.frames.items) self.new.frames.frames.items ≡ self.old.frames.frames.items) }
+        ensures body { IfOk result (λ c. c.body.now ≡ procedure.entry.body.now) }
+        ensures weight { IfOk result (λ c. weight_at self.new c.inside ≡ weight_at self.old outer) }
+    {
+        let Some(deep) = depth.checked_add(1) else {
+            return Err(CheckFault::Memory);
+        };
+        let opened = formals_bound(
+            &mut self.numbers,
+            alloc,
+            self.frames.scope(outer),
+            self.frames.scope(at),
+            line,
+            deep,
+            procedure,
+            actuals,
+        )?;
+        let Opened { names, heads } = opened;
+        let inside = self.frames.open_with(alloc, outer, names)?;
+        Ok(Call {
+            heads,
+            body: procedure.body,
+            inside,
+        })
+    }
+
+    // ---- replicators
+
+    /// What a replicator unfolds to. Its index is in scope at the position that is answered.
+    pub(crate) fn indexed(
+        &mut self,
+        alloc: Global,
+        at: Position,
+        depth: u32,
+        line: u32,
+        replicator: &ReplicatorTree,
+    ) -> Result<(Replicator, Position), CheckFault>
+        ensures indexed { Indexes result self.new (meant_at self.old at) (indexed (names_of (meant_at self.old at)) line depth (replicator_of replicator.now) (counted self.old)) }
+        ensures kept { OnOk result (take (length self.old.frames.frames.items) self.new.frames.frames.items ≡ self.old.frames.frames.items) }
+        ensures weight { IfOk result (λ r. weight_at self.new r.1 ≡ weight_at self.old at) }
+        ensures within { IfOk result (λ _. depth < 200) }
+    {
+        let scope = self.frames.scope(at);
+        let indexed = index_replicator(&mut self.numbers, alloc, scope, line, depth, replicator)?;
+        let Indexed {
+            replicator: over,
+            name,
+        } = indexed;
+        let mut names = Vec::new(alloc);
+        names.push(name)?;
+        let inside = self.frames.open_with(alloc, at, names)?;
+        Ok((over, inside))
+    }
+}
+
+/// The PROC that a name stands for, and the position of what it sees.
+///
+/// # Errors
+///
+/// `Unknown` for a name that stands for nothing, `WrongKind` for one of another kind, and `Memory`.
+fn procedure_of<'t>(
+    alloc: Global,
+    scope: Scope<'_, 't>,
+    line: u32,
+    name: &[u8],
+) -> Result<(Procedure<'t>, Position), CheckFault>
+    ensures { Gives (procedure_in scope.entry.frames.now) result (procedure_found (scope_of scope.entry) name.now) }
+{
+    match scope.find(name) {
+        Some(Found::Procedure(procedure, outer)) => Ok((procedure, outer)),
+        Some(Found::Known(_)) => Err(CheckFault::WrongKind { line }),
+        None => Err(unknown(alloc, line, name)),
+    }
+}
+
+/// What the formals of a PROC stand for. Its declaration stands in the outer scope, and the Locals at this depth.
+///
+/// # Errors
+///
+/// As `formals_of` and `bound`.
+fn formals_bound(
+    numbers: &mut Numbers,
+    alloc: Global,
+    outer: Scope<'_, '_>,
+    scope: Scope<'_, '_>,
+    line: u32,
+    depth: u32,
+    procedure: Procedure<'_>,
+    actuals: &Option<OneOrMore<Expr>>,
+) -> Result<Opened, CheckFault>
+    ensures { Opens result numbers.new (formals_bound (names_in outer.entry) procedure.entry.line (formals_of procedure.entry.formals.now) (names_in scope.entry) line depth (actuals_of actuals.now) (numbers_of numbers.old)) }
+{
+    let formals = formals_of(alloc, outer, procedure.line, procedure.formals)?;
+    bound(numbers, alloc, scope, line, depth, &formals, actuals)
+}

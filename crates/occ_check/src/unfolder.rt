@@ -1,0 +1,37 @@
+//! What is kept while a program is unfolded.
+
+use crate::frames::Frames;
+use crate::numbers::Numbers;
+use crate::scope::Position;
+use occ_term::{Declaration, Term};
+use occ_tree::tree::process::Process;
+use sqlite_items::Items;
+
+/// The scopes that are open, and the numbers that are given out.
+#[derive(Drop)]
+pub(crate) struct Unfolder<'t> {
+    /// The scopes.
+    pub frames: Frames<'t>,
+    /// The numbers.
+    pub numbers: Numbers,
+}
+
+/// What a process unfolds to: its term, or what the body of a PROC unfolds to that it calls and does nothing beside.
+#[derive(Drop)]
+pub(crate) enum Step<'t> {
+    /// The term.
+    Term(Term),
+    /// The body, and the position at which it is read.
+    Call(&'t Process, Position),
+}
+
+/// A call: what is set for the formals, the body that is called, and the position at which it is read.
+#[derive(Drop)]
+pub(crate) struct Call<'t> {
+    /// The Locals of the actuals, in order.
+    pub heads: Items<Declaration>,
+    /// The body.
+    pub body: &'t Process,
+    /// The position.
+    pub inside: Position,
+}

@@ -1,0 +1,147 @@
+-- What is emitted one after the other, and the rows of a list, the last one first.
+use Rattle.std.specs.Prelude.{reverse, set, map, ◌-◌}
+use Rattle.std.proofs.Common.{◌≡◌, ℕ, zero, suc, ◌+◌, ◌*◌, ◌<◌, ◌≤◌, List, [], ◌∷◌, ◌++◌, drop, take, min, get_or, length, rules, refl, sym, ap, ◌∙◌, arith, append_assoc, append-nil, length-append}
+use Rattle.std.proofs.Math.Seq.{drop-cons, set-append_seam}
+use Rattle.std.proofs.lemmas.List.{reverse-append, map-append, length-map, length-reverse}
+use Rattle.occ_term.specs.Messages.{product}
+use Rattle.std.proofs.lemmas.Grind.{common_steps}
+use Rattle.occ_term.specs.Terms.{place}
+use Rattle.occ_term.specs.Uses.{components}
+use Rattle.occ_term.specs.View.{expression_of, place_of, subscripts}
+use Rattle.occ_term.specs.declared.expression.TermExpr.{TermExpr, the_lemmas}
+use Rattle.occ_term.specs.declared.expression.Place.{Place}
+use Rattle.occ_code.specs.Sequential.Expressions.{expression_code, subscripts_code, components_at}
+use Rattle.occ_code.specs.Sequential.Machine.{Instruction, Subscript}
+use Rattle.occ_code.specs.Sequential.View.{instruction_of, emitted, Emits}
+use Rattle.occ_code.specs.declared.compiler.instr.Instr.{Instr}
+
+pub emits_none : (a : List Instr) → Emits a [] a
+emits_none a = record { more = []; added = sym (append-nil a); is = refl }
+
+pub emitted-append : (a b : List Instr) → emitted (a ++ b) ≡ emitted b ++ emitted a
+emitted-append a b = ap (map instruction_of) (reverse-append a b) ∙ map-append instruction_of (reverse b) (reverse a)
+
+pub emits_then : {a b c : List Instr} {p q : List Instruction} → Emits a p b → Emits b q c → Emits a (q ++ p) c
+emits_then {a} {b} {c} {p} {q} x y =
+    record {
+      more = x.more ++ y.more;
+      added = y.added ∙ ap (λ l. l ++ y.more) x.added ∙ append_assoc a x.more y.more;
+      is = emitted-append x.more y.more ∙ ap (λ l. l ++ emitted x.more) y.is ∙ ap (λ l. q ++ l) x.is;
+    }
+
+pub emits_as : {a b : List Instr} {p q : List Instruction} → Emits a p b → p ≡ q → Emits a q b
+emits_as x e = record { more = x.more; added = x.added; is = x.is ∙ e }
+
+pub emits_from : {a b c : List Instr} {p : List Instruction} → a ≡ b → Emits b p c → Emits a p c
+emits_from e x = record { more = x.more; added = x.added ∙ ap (λ l. l ++ x.more) (sym e); is = x.is }
+
+-- how long the code is after it
+pub emits_length : {a b : List Instr} {p : List Instruction} → Emits a p b → length b ≡ length p + length a
+emits_length {a} {b} {p} x =
+    let n : length (emitted x.more) ≡ length x.more = length-map (reverse x.more) instruction_of ∙ length-reverse x.more in
+    let m : length p ≡ length x.more = ap length (sym x.is) ∙ n in
+    ap length x.added ∙ length-append a x.more ∙ omega (arith, m)
+
+pub emits_since : {a b : List Instr} {p : List Instruction} → Emits a p b → length b - length a ≡ length p
+emits_since x = omega (arith, emits_length x)
+
+-- an instruction in the place of the first one emitted
+pub emits_set : {a b c d : List Instr} {p : List Instruction} (x : Instr) (i j : Instruction) → Emits a (i ∷ []) b → Emits b p c → d ≡ set c (length a) x → instruction_of x ≡ j → Emits a (p ++ j ∷ []) d
+emits_set {a} {b} {c} {d} {p} x i j first others e same = from_one first.more first.added (sym n)
+  where
+    n : length first.more ≡ 1
+    n = let h = emits_length first in let k = ap length first.added ∙ length-append a first.more in omega (arith, h, k)
+
+    from_one : (more : List Instr) → b ≡ a ++ more → 1 ≡ length more → Emits a (p ++ j ∷ []) d
+    from_one [] q h = absurd (omega (arith, h))
+    from_one (y ∷ z ∷ zs) q h = absurd (omega (arith, h))
+    from_one (y ∷ []) q h =
+        record {
+          more = x ∷ others.more;
+          added = e ∙ ap (λ l. set l (length a) x) (others.added ∙ ap (λ l. l ++ others.more) q ∙ append_assoc a (y ∷ []) others.more) ∙ set-append_seam a y others.more x;
+          is = emitted-append (x ∷ []) others.more ∙ ap (λ l. l ++ instruction_of x ∷ []) others.is ∙ ap (λ k. p ++ k ∷ []) same;
+        }
+
+-- ---- rows
+
+pub drop_whole : {X : Type 0} (xs : List X) → drop 0 xs ≡ xs
+drop_whole [] = refl
+drop_whole (x ∷ xs) = refl
+
+pub drop_all : {X : Type 0} (xs : List X) (i : ℕ) → length xs ≤ i → drop i xs ≡ []
+drop_all [] zero h = refl
+drop_all [] (suc i) h = refl
+drop_all (x ∷ xs) zero h = absurd (omega (arith, h))
+drop_all (x ∷ xs) (suc i) h = drop_all xs i (omega (arith, h))
+
+-- before its last one
+pub row_first : {X : Type 0} (F : List X → List Instruction) (xs : List X) (a : List Instr) → F [] ≡ [] → Emits a (F (drop (length xs) xs)) a
+row_first F xs a e = emits_as (emits_none a) (sym (ap F (drop_all xs (length xs) (omega arith)) ∙ e))
+
+pub row_next : {X : Type 0} (F : List X → List Instruction) (one : X → List Instruction) (cons : (x : X) (xs : List X) → F (x ∷ xs) ≡ one x ++ F xs)
+    → (xs : List X) (i k : ℕ) (x : X) {a b c : List Instr} → k ≡ i + 1 → i < length xs → x ≡ get_or xs i x → Emits a (F (drop k xs)) b → Emits b (one x) c → Emits a (F (drop i xs)) c
+row_next F one cons xs i k x e lt is others first =
+    let next : k ≡ suc i = omega (arith, e) in
+    let tail : F (drop i xs) ≡ one x ++ F (drop k xs) =
+    ap F (drop-cons xs i x lt) ∙ cons _ _ ∙ ap (λ y. one y ++ F (drop (suc i) xs)) (sym is) ∙ ap (λ n. one x ++ F (drop n xs)) (sym next) in
+    emits_as (emits_then others first) (sym tail)
+
+pub row_whole : {X : Type 0} (F : List X → List Instruction) (xs : List X) {a b : List Instr} → Emits a (F (drop 0 xs)) b → Emits a (F xs) b
+row_whole F xs x = emits_as x (ap F (drop_whole xs))
+
+-- ---- products
+
+pub product_all : (xs : List ℕ) → 1 ≡ product (drop (length xs) xs)
+product_all xs = sym (ap product (drop_all xs (length xs) (omega arith)))
+
+pub product_before : (xs : List ℕ) (i k x all : ℕ) → k ≡ i + 1 → i < length xs → x ≡ get_or xs i 0 → all ≡ product (drop k xs) → x * all ≡ product (drop i xs)
+product_before xs i k x all e lt is h =
+    let next : k ≡ suc i = omega (arith, e) in
+    ap (λ n. x * n) (h ∙ ap (λ n. product (drop n xs)) next) ∙ ap (λ y. y * product (drop (suc i) xs)) is ∙ sym (ap product (drop-cons xs i 0 lt))
+
+pub whole_rest : (xs : List ℕ) (n : ℕ) → take (length xs - n) (drop n xs) ≡ drop n xs
+whole_rest xs n = grind (arith, common_steps)
+
+-- ---- subscripts
+
+drop_none : {X : Type 0} (k : ℕ) → drop {A = X} k [] ≡ []
+drop_none zero = refl
+drop_none (suc k) = refl
+
+abbrev pub rest_code : ℕ → List TermExpr → List ℕ → ℕ → List Instruction
+rest_code line es ns k = subscripts_code (subscripts (map expression_of (drop k es))) line (drop k ns)
+
+none_rest : (line : ℕ) (es : List TermExpr) (ns : List ℕ) (k : ℕ) → k ≡ min (length es) (length ns) → rest_code line es ns k ≡ []
+none_rest line [] ns k h = ap (λ l. subscripts_code (subscripts (map expression_of l)) line (drop k ns)) (drop_none k)
+none_rest line (e ∷ es) [] zero h = refl
+none_rest line (e ∷ es) [] (suc k) h = absurd (omega (arith, h))
+none_rest line (e ∷ es) (n ∷ ns) zero h = absurd (omega (arith, h))
+none_rest line (e ∷ es) (n ∷ ns) (suc k) h = none_rest line es ns k (omega (arith, h))
+
+pub subscripts_first : (line : ℕ) (es : List TermExpr) (ns : List ℕ) (k : ℕ) (a : List Instr) → k ≡ min (length es) (length ns) → Emits a (rest_code line es ns k) a
+subscripts_first line es ns k a h = emits_as (emits_none a) (sym (none_rest line es ns k h))
+
+pub subscripts_next : (line : ℕ) (es : List TermExpr) (ns : List ℕ) (i k : ℕ) (e : TermExpr) (n stride : ℕ) {a b c d : List Instr} → k ≡ i + 1 → i < length es → i < length ns → e ≡ get_or es i e → n ≡ get_or ns i 0 → stride ≡ product (drop k ns)
+    → Emits a (rest_code line es ns k) b → Emits b (Subscript line n stride ∷ []) c → Emits c (expression_code (expression_of e)) d → Emits a (rest_code line es ns i) d
+subscripts_next line es ns i k e n stride next lt lt' is is' strides others first value =
+    let after : k ≡ suc i = omega (arith, next) in
+    let subs : drop i es ≡ e ∷ drop k es = drop-cons es i e lt ∙ ap (λ y. y ∷ drop (suc i) es) (sym is) ∙ ap (λ m. e ∷ drop m es) (sym after) in
+    let sizes : drop i ns ≡ n ∷ drop k ns = drop-cons ns i 0 lt' ∙ ap (λ y. y ∷ drop (suc i) ns) (sym is') ∙ ap (λ m. n ∷ drop m ns) (sym after) in
+    let whole : rest_code line es ns i ≡ expression_code (expression_of e) ++ Subscript line n (product (drop k ns)) ∷ rest_code line es ns k =
+    ap (λ l. subscripts_code (subscripts (map expression_of l)) line (drop i ns)) subs ∙ ap (λ l. subscripts_code (subscripts (map expression_of (e ∷ drop k es))) line l) sizes in
+    emits_as (emits_then (emits_then others (emits_as first (ap (λ m. Subscript line n m ∷ []) strides))) value) (sym whole)
+
+-- ---- places
+
+pub place_seen : (p : Place) → place_of p ≡ place p.line p.first p.sizes (subscripts (map expression_of p.subscripts))
+place_seen p = search (rules, the_lemmas)
+
+components_left : (es : List TermExpr) (ns : List ℕ) (k : ℕ) → k ≡ min (length es) (length ns) → product (drop k ns) ≡ components (subscripts (map expression_of es)) ns
+components_left [] ns zero h = ap product (drop_whole ns)
+components_left [] ns (suc k) h = absurd (omega (arith, h))
+components_left (e ∷ es) [] k h = ap product (drop_none k)
+components_left (e ∷ es) (n ∷ ns) zero h = absurd (omega (arith, h))
+components_left (e ∷ es) (n ∷ ns) (suc k) h = components_left es ns k (omega (arith, h))
+
+pub components_seen : (p : Place) (k : ℕ) → k ≡ min (length p.subscripts) (length p.sizes) → product (drop k p.sizes) ≡ components_at (place_of p)
+components_seen p k h = components_left p.subscripts p.sizes k h ∙ ap components_at (sym (place_seen p))

@@ -1,0 +1,133 @@
+-- The code of choices, options, variants and loops, from its end to its start.
+use Rattle.std.specs.Prelude.{reverse, set, ◌-◌}
+use Rattle.std.proofs.Common.{◌≡◌, ℕ, suc, ◌+◌, ◌<◌, ◌≤◌, List, [], ◌∷◌, ◌++◌, drop, get_or, length, sym, ap, ◌∙◌, arith, append_assoc, length-append}
+use Rattle.std.proofs.Math.Seq.{drop-cons, set-append_seam}
+use Rattle.std.proofs.lemmas.List.{length-map, length-reverse}
+use Rattle.occ_term.specs.View.{choice_of, choices_of, option_of, options_of, variant_of, variants_of}
+use Rattle.occ_term.specs.declared.term.Choice.{Choice}
+use Rattle.occ_term.specs.declared.term.Selection.{Selection}
+use Rattle.occ_term.specs.declared.term.Variant.{Variant}
+use Rattle.occ_code.specs.Sequential.Machine.{Instruction, Jump, Choose, LoopBack}
+use Rattle.occ_code.specs.Sequential.View.{instruction_of, emitted, Emits, Behind}
+use Rattle.occ_code.specs.declared.compiler.instr.Instr.{Instr}
+use Rattle.occ_code.proofs.Emitting.{emitted-append, emits_then, emits_as, emits_length}
+
+-- ---- behind an instruction whose place is known
+
+pub behind : {a b c : List Instr} {i : Instruction} {p : List Instruction} → Emits a (i ∷ []) b → Emits b p c → Behind a p c
+behind {a} {b} {c} {i} {p} x y = by_first x.more x.added one
+  where
+    one : length x.more ≡ 1
+    one = let h = emits_length x in let k = ap length x.added ∙ length-append a x.more in omega (arith, h, k)
+
+    by_first : (more : List Instr) → b ≡ a ++ more → length more ≡ 1 → Behind a p c
+    by_first [] q h = absurd (omega (arith, h))
+    by_first (z ∷ w ∷ zs) q h = absurd (omega (arith, h))
+    by_first (z ∷ []) q h = record { first = z; more = y.more; added = y.added ∙ ap (λ l. l ++ y.more) q ∙ append_assoc a (z ∷ []) y.more; is = y.is }
+
+pub behind_then : {a b c : List Instr} {p q : List Instruction} → Behind a p b → Emits b q c → Behind a (q ++ p) c
+behind_then {a} {b} {c} {p} {q} x y =
+    record {
+      first = x.first;
+      more = x.more ++ y.more;
+      added = y.added ∙ ap (λ l. l ++ y.more) x.added ∙ append_assoc a (x.first ∷ x.more) y.more;
+      is = emitted-append x.more y.more ∙ ap (λ l. l ++ emitted x.more) y.is ∙ ap (λ l. q ++ l) x.is;
+    }
+
+pub behind_length : {a b : List Instr} {p : List Instruction} → Behind a p b → length b ≡ length p + 1 + length a
+behind_length {a} {b} {p} x =
+    let n : length (emitted x.more) ≡ length x.more = length-map (reverse x.more) instruction_of ∙ length-reverse x.more in
+    let m : length p ≡ length x.more = ap length (sym x.is) ∙ n in
+    ap length x.added ∙ length-append a (x.first ∷ x.more) ∙ omega (arith, m)
+
+-- the instruction itself
+pub behind_set : {a b d : List Instr} {p : List Instruction} (x : Instr) (n : ℕ) → Behind a p b → length a ≡ n → d ≡ set b n x → Emits a (p ++ instruction_of x ∷ []) d
+behind_set {a} {b} {d} {p} x n h long e =
+    record {
+      more = x ∷ h.more;
+      added = e ∙ ap (λ m. set b m x) (sym long) ∙ ap (λ l. set l (length a) x) h.added ∙ set-append_seam a h.first h.more x;
+      is = emitted-append (x ∷ []) h.more ∙ ap (λ l. l ++ instruction_of x ∷ []) h.is;
+    }
+
+-- ---- rows
+
+pub choices_row : (cs : List Choice) (i k : ℕ) (c : Choice) → k ≡ i + 1 → i < length cs → c ≡ get_or cs i c → choices_of (drop i cs) ≡ choice_of c (choices_of (drop k cs))
+choices_row cs i k c e lt is =
+    let next : suc i ≡ k = omega (arith, e) in
+    ap choices_of (drop-cons cs i c lt) ∙ ap (λ y. choice_of y (choices_of (drop (suc i) cs))) (sym is) ∙ ap (λ n. choice_of c (choices_of (drop n cs))) next
+
+pub options_row : (os : List Selection) (i k : ℕ) (o : Selection) → k ≡ i + 1 → i < length os → o ≡ get_or os i o → options_of (drop i os) ≡ option_of o (options_of (drop k os))
+options_row os i k o e lt is =
+    let next : suc i ≡ k = omega (arith, e) in
+    ap options_of (drop-cons os i o lt) ∙ ap (λ y. option_of y (options_of (drop (suc i) os))) (sym is) ∙ ap (λ n. option_of o (options_of (drop n os))) next
+
+pub variants_row : (vs : List Variant) (i k : ℕ) (v : Variant) → k ≡ i + 1 → i < length vs → v ≡ get_or vs i v → variants_of (drop i vs) ≡ variant_of v (variants_of (drop k vs))
+variants_row vs i k v e lt is =
+    let next : suc i ≡ k = omega (arith, e) in
+    ap variants_of (drop-cons vs i v lt) ∙ ap (λ y. variant_of y (variants_of (drop (suc i) vs))) (sym is) ∙ ap (λ n. variant_of v (variants_of (drop n vs))) next
+
+-- ---- bodies that go on behind the others
+
+-- how far it is from before the others to the end
+pub beyond : {before old : List Instr} {R : List Instruction} (end : ℕ) → Emits before R old → end ≤ length before → length old - end ≡ length R + (length before - end)
+beyond end e h = omega (arith, emits_length e, h)
+
+module _ {before old m1 m2 : List Instr} (R T D : List Instruction) (end s n : ℕ) (others : Emits before R old) (within : end ≤ length before) (skip : s ≡ length old - end)
+    (jump : Emits old (Jump s ∷ []) m1) (body : Emits m1 T m2) (from : n ≡ length old) where
+  jumped : Emits before (T ++ Jump (length R + (length before - end)) ∷ R) m2
+  jumped = emits_then (emits_then others (emits_as jump (ap (λ k. Jump k ∷ []) (skip ∙ beyond end others within)))) body
+
+  -- behind a test of their own
+  pub chosen : {new : List Instr} (E : List Instruction) → Emits m2 (E ++ Choose (length m2 - n) ∷ []) new → Emits before (E ++ Choose (length T + 1) ∷ (T ++ Jump (length R + (length before - end)) ∷ R)) new
+  chosen {new} E test =
+      let count : length m2 - n ≡ length T + 1 = omega (arith, emits_length body, emits_length jump, from) in
+      emits_as (emits_then jumped (emits_as test (ap (λ k. E ++ Choose k ∷ []) count))) (append_assoc E (Choose (length T + 1) ∷ []) (T ++ Jump (length R + (length before - end)) ∷ R))
+
+  -- behind one instruction and declarations
+  pub guarded : {new : List Instr} (make : ℕ → Instruction) (k : ℕ) → k ≡ length D + length m2 - n → Emits m2 (make k ∷ D) new
+      → Emits before (make (length (D ++ (T ++ Jump (length R + (length before - end)) ∷ []))) ∷ ((D ++ (T ++ Jump (length R + (length before - end)) ∷ [])) ++ R)) new
+  guarded {new} make k is first =
+      let J = Jump (length R + (length before - end)) in
+      let long : length (D ++ (T ++ Jump (length R + (length before - end)) ∷ [])) ≡ length D + (length T + 1) =
+      length-append D (T ++ Jump (length R + (length before - end)) ∷ []) ∙ ap (λ m. length D + m) (length-append T (Jump (length R + (length before - end)) ∷ [])) in
+      let count : k ≡ length (D ++ (T ++ Jump (length R + (length before - end)) ∷ [])) = omega (arith, emits_length body, emits_length jump, from, is, long) in
+      let rows : D ++ (T ++ Jump (length R + (length before - end)) ∷ R) ≡ (D ++ (T ++ Jump (length R + (length before - end)) ∷ [])) ++ R =
+      ap (λ l. D ++ l) (sym (append_assoc T (Jump (length R + (length before - end)) ∷ []) R)) ∙ sym (append_assoc D (T ++ Jump (length R + (length before - end)) ∷ []) R) in
+      emits_as (emits_then jumped first) (ap (λ m. make m ∷ (D ++ (T ++ Jump (length R + (length before - end)) ∷ R))) count ∙ ap (λ l. make (length (D ++ (T ++ Jump (length R + (length before - end)) ∷ []))) ∷ l) rows)
+
+-- ---- loops
+
+module _ {before old : List Instr} (B : List Instruction) (place : ℕ) (long : length before ≡ place) (loop_ : Behind before B old) where
+  pub tested : {m1 m2 new : List Instr} (E : List Instruction) (s back : ℕ) (x : Instr) → s ≡ length old - place → Emits old (Choose s ∷ []) m1 → Emits m1 E m2 → back ≡ length m2 - place - 1 → instruction_of x ≡ LoopBack back → new ≡ set m2 place x
+      → Emits before (E ++ Choose (length B + 1) ∷ (B ++ LoopBack (length E + 1 + length B) ∷ [])) new
+  tested {m1} {m2} {new} E s back x skip choose test way is e =
+      let a : s ≡ length B + 1 = omega (arith, skip, behind_length loop_, long) in
+      let b : back ≡ length E + 1 + length B = omega (arith, way, emits_length test, emits_length choose, behind_length loop_, long) in
+      emits_as (behind_set x place (behind_then (behind_then loop_ choose) test) long e)
+      (append_assoc E (Choose s ∷ B) (instruction_of x ∷ []) ∙ ap (λ k. E ++ Choose k ∷ (B ++ instruction_of x ∷ [])) a ∙ ap (λ i. E ++ Choose (length B + 1) ∷ (B ++ i ∷ [])) (is ∙ ap LoopBack b))
+
+  pub set_back : {m1 : List Instr} (make : ℕ → Instruction) (back : ℕ) (x : Instr) → back ≡ length old - place → instruction_of x ≡ make back → m1 ≡ set old place x → Emits before (B ++ make (length B + 1) ∷ []) m1
+  set_back {m1} make back x way is e =
+      let a : back ≡ length B + 1 = omega (arith, way, behind_length loop_, long) in
+      emits_as (behind_set x place loop_ long e) (ap (λ i. B ++ i ∷ []) (is ∙ ap make a))
+
+  pub back_is : (back : ℕ) → back ≡ length old - place → back ≡ length B + 1
+  back_is back way = omega (arith, way, behind_length loop_, long)
+
+-- ---- variants, and choices for each value of an index
+
+pub tagged : {before old m1 m2 m3 m4 new : List Instr} (R T S D : List Instruction) (make : ℕ → Instruction) (s n k : ℕ) → Emits before R old → s ≡ length old - length before → Emits old (Jump s ∷ []) m1 → Emits m1 T m2 → Emits m2 S m3
+    → Emits m3 D m4 → n ≡ length old → k ≡ length m4 - n → Emits m4 (make k ∷ []) new
+    → Emits before (make (length (D ++ (S ++ (T ++ Jump (length R) ∷ [])))) ∷ ((D ++ (S ++ (T ++ Jump (length R) ∷ []))) ++ R)) new
+tagged R T S D make s n k others skip jump body store declare from is first =
+    let far : s ≡ length R = omega (arith, skip, emits_length others) in
+    let long : length (D ++ (S ++ (T ++ Jump (length R) ∷ []))) ≡ length D + (length S + (length T + 1)) =
+    length-append D (S ++ (T ++ Jump (length R) ∷ [])) ∙ ap (λ m. length D + m) (length-append S (T ++ Jump (length R) ∷ []) ∙ ap (λ m. length S + m) (length-append T (Jump (length R) ∷ []))) in
+    let count : k ≡ length (D ++ (S ++ (T ++ Jump (length R) ∷ []))) = omega (arith, emits_length jump, emits_length body, emits_length store, emits_length declare, from, is, long) in
+    let rows : D ++ (S ++ (T ++ Jump (length R) ∷ R)) ≡ (D ++ (S ++ (T ++ Jump (length R) ∷ []))) ++ R =
+    ap (λ l. D ++ (S ++ l)) (sym (append_assoc T (Jump (length R) ∷ []) R)) ∙ ap (λ l. D ++ l) (sym (append_assoc S (T ++ Jump (length R) ∷ []) R)) ∙ sym (append_assoc D (S ++ (T ++ Jump (length R) ∷ [])) R) in
+    let chain = emits_then (emits_then (emits_then (emits_then others (emits_as jump (ap (λ m. Jump m ∷ []) far))) body) store) declare in
+    emits_as (emits_then chain first) (ap (λ m. make m ∷ (D ++ (S ++ (T ++ Jump (length R) ∷ R)))) count ∙ ap (λ l. make (length (D ++ (S ++ (T ++ Jump (length R) ∷ [])))) ∷ l) rows)
+
+pub among_others : (C W R : List Instruction) (i j : Instruction) → (C ++ i ∷ (W ++ j ∷ [])) ++ R ≡ C ++ i ∷ (W ++ j ∷ R)
+among_others C W R i j = append_assoc C (i ∷ (W ++ j ∷ [])) R ∙ ap (λ l. C ++ i ∷ l) (append_assoc W (j ∷ []) R)

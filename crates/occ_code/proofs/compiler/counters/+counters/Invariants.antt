@@ -1,0 +1,28 @@
+use Rattle.std.proofs.Common.{◌≡◌, ◌≤◌, length, drop}
+use Rattle.occ_term.specs.View.{choices_of, options_of, terms_of, variants_of}
+use Rattle.occ_code.specs.Sequential.Emitted.{counters_of_choices, counters_of_options, counters_of_terms, counters_of_variants}
+use Rattle.occ_code.proofs.compiler.counters.+counters.Given as goal
+
+abbrev pub invariant-counters_in_terms-loop-count : goal.invariant-counters_in_terms-loop-count
+invariant-counters_in_terms-loop-count l = (l.count ≤ length l.parts) × (l.most ≡ counters_of_terms (terms_of (drop l.count l.parts)))
+
+abbrev pub decreases-counters_in_terms-loop-count : goal.decreases-counters_in_terms-loop-count
+decreases-counters_in_terms-loop-count l = l.count
+
+abbrev pub invariant-counters_in_variants-loop-count : goal.invariant-counters_in_variants-loop-count
+invariant-counters_in_variants-loop-count l = (l.count ≤ length l.variants) × (l.most ≡ counters_of_variants (variants_of (drop l.count l.variants)))
+
+abbrev pub decreases-counters_in_variants-loop-count : goal.decreases-counters_in_variants-loop-count
+decreases-counters_in_variants-loop-count l = l.count
+
+abbrev pub invariant-counters_in_choices-loop-count : goal.invariant-counters_in_choices-loop-count
+invariant-counters_in_choices-loop-count l = (l.count ≤ length l.choices) × (l.most ≡ counters_of_choices (choices_of (drop l.count l.choices)))
+
+abbrev pub decreases-counters_in_choices-loop-count : goal.decreases-counters_in_choices-loop-count
+decreases-counters_in_choices-loop-count l = l.count
+
+abbrev pub invariant-counters_in_options-loop-count : goal.invariant-counters_in_options-loop-count
+invariant-counters_in_options-loop-count l = (l.count ≤ length l.options) × (l.most ≡ counters_of_options (options_of (drop l.count l.options)))
+
+abbrev pub decreases-counters_in_options-loop-count : goal.decreases-counters_in_options-loop-count
+decreases-counters_in_options-loop-count l = l.count

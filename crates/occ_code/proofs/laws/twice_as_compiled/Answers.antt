@@ -1,0 +1,5 @@
+use Rattle.occ_code.proofs.SequentialExamples as examples
+use Rattle.occ_code.proofs.laws.twice_as_compiled.Goals as goal
+
+pub returns : goal.returns
+returns c = examples.twice_as_compiled

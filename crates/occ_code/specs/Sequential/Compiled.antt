@@ -1,0 +1,79 @@
+-- Compiled programs: a body for each process, which does what the process's term does.
+-- Manual: nothing; this is (own).
+use Rattle.std.specs.Prelude.{List, [], false, length, ℕ, ⊤, ◌*◌, ◌+◌, ◌++◌, ◌<◌, ◌≤◌, ◌∷◌, ◌≡◌}
+use Rattle.occ_term.specs.Terms.{Term}
+use Rattle.occ_term.specs.Unfolding.{Unfolding, IsWellFormed, Lawful, declared, meaning}
+use Rattle.occ_term.specs.Processes.{Numbered, processes_of}
+use Rattle.occ_term.specs.Uses.{uses_of}
+use Rattle.occ_term.specs.TermTyping.{Declared}
+use Rattle.occ_term.specs.Sizes.{size_of}
+use Rattle.occ_term.specs.declared.names.Channel.{Channel}
+use Rattle.occ_code.specs.Alike.{Lists, used_by}
+use Rattle.occ_code.specs.Sequential.Machine.{Body, Instruction, End}
+use Rattle.occ_code.specs.Sequential.Alike.{DoesAs}
+use Rattle.occ_code.specs.Sequential.Emitted.{body_of, is_sequential, term_code}
+use Rattle.occ_code.specs.declared.compiler.code.CodeFault.{CodeFault}
+use Rattle.occ_code.specs.declared.compiler.code.CodeFault.TheVariants.{TooLarge, Early, BadQuantum, Memory}
+
+-- the code of a program: a body for each process number, and the channels
+pub record Program : Type 0 where
+  pub bodies : List Body
+  pub channels : List Channel
+
+-- the body at each place does what the process with that number does
+abbrev pub AllDo : Declared → ℕ → List Body → List Numbered → Type 0
+AllDo d n [] [] = ⊤
+AllDo d n [] (p ∷ ps) = ⊥
+AllDo d n (b ∷ bs) [] = ⊥
+AllDo d n (b ∷ bs) (p ∷ ps) = (p.number ≡ n) × DoesAs d b p.term × AllDo d (n + 1) bs ps
+
+-- how many instructions there are
+abbrev pub instructions_in : List Body → ℕ
+instructions_in [] = 0
+instructions_in (b ∷ bs) = length b.code + instructions_in bs
+
+-- how many instructions a program's bodies may have in all
+abbrev pub most_instructions : ℕ
+most_instructions = 262144
+
+-- compiled from this source, within the limit of instructions
+pub record IsCompiledFrom (u : Unfolding) (p : Program) : Type 0 where
+  pub channels : p.channels ≡ u.channels
+  pub bodies : AllDo (declared u) 0 p.bodies (processes_of (meaning u))
+  pub small : instructions_in p.bodies ≤ most_instructions
+
+-- compiled from some source that is well-formed and keeps the usage rules
+pub record IsCompiled (p : Program) : Type 0 where
+  pub source : Unfolding
+  pub well_formed : IsWellFormed source
+  pub lawful : Lawful source
+  pub compiled : IsCompiledFrom source p
+
+-- how many stops of loops a turn may take at most
+abbrev pub IsQuantum : ℕ → Type 0
+IsQuantum quantum = (0 < quantum) × (quantum ≤ 65536)
+
+-- A quantum that is none is refused before all else. Want of memory says nothing more. The others say that 32 instructions for
+-- each node are more than a program may have, and that there is a PAR or an ALT.
+abbrev pub CodeRefuses : CodeFault → ℕ → Unfolding → Type 0
+CodeRefuses TooLarge quantum u = IsQuantum quantum × (most_instructions < 32 * (size_of (meaning u)).nodes)
+CodeRefuses (Early line) quantum u = IsQuantum quantum × (is_sequential (meaning u) ≡ false)
+CodeRefuses BadQuantum quantum u = IsQuantum quantum → ⊥
+CodeRefuses Memory quantum u = IsQuantum quantum
+
+-- ---- one process; private contracts alone cite what follows
+
+abbrev pub whole_code : Term → List Instruction
+whole_code t = term_code 0 t ++ End ∷ []
+
+-- the body of a term, with its cells
+pub record IsBodyOf (t : Term) (quantum : ℕ) (b : Body) : Type 0 where
+  pub is : b ≡ body_of t b.cells b.writes quantum
+  pub cells : Lists b.cells (used_by (uses_of t))
+  pub writes : Lists b.writes (uses_of t).writes
+
+abbrev pub IsRefused : CodeFault → Term → Type 0
+IsRefused TooLarge t = most_instructions < length (whole_code t)
+IsRefused (Early line) t = is_sequential t ≡ false
+IsRefused BadQuantum t = ⊥
+IsRefused Memory t = ⊤

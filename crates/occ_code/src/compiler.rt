@@ -1,0 +1,15 @@
+//! The compiler of terms without PAR and ALT.
+
+pub mod body;
+mod cells;
+pub mod code;
+mod counters;
+mod expressions;
+pub mod instr;
+mod pieces;
+mod sequential;
+mod statements;
+
+pub use body::Body;
+pub use code::{Code, CodeFault, MOST_INSTRUCTIONS, MOST_QUANTUM, compile, compile_for};
+pub use instr::Instr;

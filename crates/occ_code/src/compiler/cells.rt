@@ -1,0 +1,125 @@
+//! The cells that a process uses, and those that it writes.
+ghost use Rattle.std.specs.Prelude.{◌≡◌, ◌∷◌, [], ◌++◌, ◌<◌, ◌≤◌, IfOk, OnOk, get_or, if◌then◌else◌, List, length, max, nat_lt, set};
+ghost use Rattle.occ_term.specs.Noted.{uses_in};
+ghost use Rattle.occ_term.specs.declared.usage.noted.Use.{Use};
+ghost use Rattle.occ_code.specs.Alike.{Lists};
+ghost use Rattle.occ_code.specs.Sequential.Cells.{AreEnds, AreReached, counted, covers, is_counted as is_counted_use};
+
+use occ_term::{Kind, Use};
+use std::alloc::{AllocError, Global};
+
+/// How many cells a program may have.
+const MOST_CELLS: usize = 65_536;
+
+/// The cells that are written, or also those that are read, rising. The error is a refused growth, or
+/// that of a cell past the limit.
+pub(crate) fn rising_cells(
+    alloc: Global,
+    uses: &[Use],
+    writes_only: bool,
+) -> Result<Vec<u32>, AllocError>
+    ensures { IfOk result (λ xs. Lists xs.items (counted writes_only (uses_in uses.now))) }
+{
+    let count = furthest_end(uses, writes_only);
+    if count > MOST_CELLS {
+        return Err(AllocError);
+    }
+    let ends = ends_of(alloc, uses, writes_only, count)?;
+    let cells = reached(alloc, &ends)?;
+    Ok(cells)
+}
+
+fn is_counted(kind: Kind, writes_only: bool) -> bool
+    ensures { result ≡ is_counted_use writes_only kind }
+{
+    match kind {
+        Kind::Read => !writes_only,
+        Kind::Write => true,
+        Kind::Input => false,
+        Kind::Output => false,
+    }
+}
+
+/// The furthest end of a use. It says how long a table has to be, and a shorter one is refused.
+fn furthest_end(uses: &[Use], writes_only: bool) -> usize {
+    let mut furthest = 0;
+    for one in uses {
+        if is_counted(one.kind, writes_only) && furthest < one.end {
+            furthest = one.end;
+        }
+    }
+    furthest as usize
+}
+
+/// For each number the furthest end of a use that begins there.
+fn ends_of(
+    alloc: Global,
+    uses: &[Use],
+    writes_only: bool,
+    count: usize,
+) -> Result<Vec<usize>, AllocError>
+    ensures { IfOk result (λ ends. AreEnds ends.items count (covers writes_only uses.now)) }
+{
+    let mut ends = vec![in alloc; 0; count]?;
+    let mut left = uses.len();
+    while left > 0 {
+        left -= 1;
+        note_use(&mut ends, uses[left], writes_only)?;
+    }
+    Ok(ends)
+}
+
+fn note_use(ends: &mut Vec<usize>, one: Use, writes_only: bool) -> Result<(), AllocError>
+    ensures long { length ends.new.items ≡ length ends.old.items }
+    ensures noted { OnOk result ((uses : List Use) → AreEnds ends.old.items (length ends.old.items) (covers writes_only uses) → AreEnds ends.new.items (length ends.old.items) (covers writes_only (one ∷ uses))) }
+{
+    if is_counted(one.kind, writes_only) && one.first < one.end {
+        note_end(ends, one.first, one.end)?;
+    }
+    Ok(())
+}
+
+/// The error is that of an end past the table.
+fn note_end(ends: &mut Vec<usize>, first: u64, end: u64) -> Result<(), AllocError>
+    requires { first < end }
+    ensures long { length ends.new.items ≡ length ends.old.items }
+    ensures within { OnOk result (end ≤ length ends.old.items) }
+    ensures set { OnOk result (ends.new.items ≡ set ends.old.items first (max (get_or ends.old.items first 0) end)) }
+{
+    if end > ends.len() as u64 {
+        return Err(AllocError);
+    }
+    let place = first as usize;
+    ends[place] = larger(ends[place], end as usize);
+    Ok(())
+}
+
+fn larger(a: usize, b: usize) -> usize
+    ensures { result ≡ max a b }
+{
+    if a < b { b } else { a }
+}
+
+/// The numbers that are reached.
+fn reached(alloc: Global, ends: &[usize]) -> Result<Vec<u32>, AllocError>
+    requires { length ends.now ≤ 65536 }
+    ensures { IfOk result (λ xs. AreReached ends.now (length ends.now) xs.items) }
+{
+    let mut numbers = Vec::new(alloc);
+    let mut furthest = 0;
+    for number in 0..ends.len() {
+        furthest = larger(furthest, ends[number]);
+        note_number(&mut numbers, number, furthest)?;
+    }
+    Ok(numbers)
+}
+
+fn note_number(numbers: &mut Vec<u32>, number: usize, furthest: usize) -> Result<(), AllocError>
+    requires { number < 65536 }
+    ensures { OnOk result (numbers.new.items ≡ numbers.old.items ++ (if nat_lt number furthest then number ∷ [] else [])) }
+{
+    if number < furthest {
+        numbers.push(number as u32)?;
+    }
+    Ok(())
+}

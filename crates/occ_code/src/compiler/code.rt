@@ -1,0 +1,211 @@
+//! Compiled programs.
+ghost use Rattle.std.specs.Prelude.{◌≡◌, ◌∷◌, [], ◌<◌, ◌≤◌, IsTrue, IfOk, IfErr, IfSome, IfNone, All, None, Some, length, map, slice_get};
+ghost use Rattle.std.specs.Arc.{arc_value};
+ghost use Rattle.occ_term.specs.Unfolding.{meaning};
+ghost use Rattle.occ_term.specs.View.{term_of};
+ghost use Rattle.occ_code.specs.Sequential.Compiled.{IsBodyOf, IsCompiled, IsCompiledFrom, IsQuantum, IsRefused, CodeRefuses, most_instructions, whole_code};
+ghost use Rattle.occ_code.specs.Sequential.Emitted as emitted;
+ghost use Rattle.occ_code.specs.Sequential.View.{instruction_of};
+
+use crate::compiler::body::Body;
+use crate::compiler::cells::rising_cells;
+use crate::compiler::counters::counters_in;
+use crate::compiler::instr::Instr;
+use crate::compiler::pieces::put;
+use crate::compiler::sequential::is_sequential;
+use crate::compiler::statements::emit_term;
+use crate::early::early_line;
+use occ_term::{Channel, Checked, Term, term_uses};
+use std::alloc::{AllocError, AllocFailed, Global};
+use std::marker::Model;
+use std::sync::Arc;
+use thiserror::Error;
+
+/// How many instructions a program's bodies may have in all.
+pub const MOST_INSTRUCTIONS: usize = 262_144;
+
+/// The greatest quantum.
+pub const MOST_QUANTUM: u32 = 65_536;
+
+/// Why a program has no code.
+#[derive(Debug, Drop, Error)]
+pub enum CodeFault {
+    /// It has more than `MOST_INSTRUCTIONS` instructions, as only a program can of which 32 times the nodes are more.
+    #[error("refused 60 TooLarge")]
+    TooLarge,
+    /// There is a PAR or an ALT, which aren't compiled yet; the line is one of the program's, and it isn't promised which.
+    #[error("refused 61 Early line {line}")]
+    Early { line: u32 },
+    /// The quantum is not from 1 to 65,536.
+    #[error("refused 62 BadQuantum")]
+    BadQuantum,
+    /// A growth was refused.
+    #[error("memory")]
+    Memory,
+}
+
+impl From<AllocError> for CodeFault {
+    ghost use Rattle.occ_code.specs.declared.compiler.code.CodeFault.{CodeFault};
+
+    ghost from_gives = { λ e made. made ≡ CodeFault.Memory };
+
+    fn from(_: AllocError) -> CodeFault {
+        CodeFault::Memory
+    }
+}
+
+impl<T: Drop> From<AllocFailed<T>> for CodeFault {
+    ghost use Rattle.occ_code.specs.declared.compiler.code.CodeFault.{CodeFault};
+
+    ghost from_gives = { λ e made. made ≡ CodeFault.Memory };
+
+    fn from(_: AllocFailed<T>) -> CodeFault {
+        CodeFault::Memory
+    }
+}
+
+/// A compiled program: a body for each process number, and the channels.
+///
+/// Each body does what its process's term does, in some program that keeps the usage rules and has
+/// these channels: no other value of this type can be made.
+#[derive(Drop)]
+pub struct Code {
+    bodies: Vec<Arc<Body, Global>>,
+    channels: Vec<Channel>,
+}
+
+impl Model for Code {
+    ghost use Rattle.std.specs.Prelude.{map};
+    ghost use Rattle.std.specs.Arc.{arc_value};
+    ghost use Rattle.occ_code.specs.Sequential.Compiled.{Program, IsCompiled};
+
+    ghost Value = { Program };
+
+    ghost view = { λ c. record { bodies = map arc_value c.bodies.items; channels = c.channels.items } };
+
+    ghost invariant = { λ c. IsCompiled (record { bodies = map arc_value c.bodies.items; channels = c.channels.items }) };
+}
+
+impl Code {
+    /// What every code keeps: it was compiled from a program.
+    pub fn compiled(&self)
+        ensures { IsCompiled self.now }
+    {
+        let _bodies = &self.bodies;
+    }
+
+    /// How many processes there are.
+    pub fn len(&self) -> usize
+        ensures { result ≡ length self.now.bodies }
+    {
+        self.bodies.len()
+    }
+
+    /// The body of the process with this number.
+    pub fn body(&self, number: usize) -> Option<&Arc<Body, Global>>
+        ensures some { IfSome result (λ b. slice_get self.now.bodies number ≡ Some (arc_value b.now)) }
+        ensures none { IfNone result (slice_get self.now.bodies number ≡ None) }
+    {
+        self.bodies.get(number)
+    }
+
+    /// The channels, from number 0 on.
+    pub fn channels(&self) -> &[Channel]
+        ensures { result.now ≡ self.now.channels }
+    {
+        &self.channels
+    }
+}
+
+/// Compiles a program, for turns that take one stop of a loop.
+///
+/// # Errors
+///
+/// As of `compile_for`, but for `BadQuantum`.
+pub fn compile(alloc: Global, checked: &Checked) -> Result<Code, CodeFault>
+    ensures compiled { IfOk result (λ c. IsCompiledFrom checked.now c) }
+    ensures sequential { IfOk result (λ c. emitted.IsSequential (meaning checked.now)) }
+    ensures quantum { IfOk result (λ c. All (λ b. b.quantum ≡ 1) c.bodies) }
+    ensures refused { IfErr result (λ fault. CodeRefuses fault 1 checked.now) }
+{
+    compile_for(alloc, checked, 1)
+}
+
+/// Compiles a program, for turns that take so many stops of loops at most.
+///
+/// # Errors
+///
+/// `BadQuantum` for a quantum that isn't from 1 to 65,536, before all else; then `Early` for a PAR or
+/// an ALT, `TooLarge` past the limit of instructions, and `Memory` for a refused growth.
+pub fn compile_for(alloc: Global, checked: &Checked, quantum: u32) -> Result<Code, CodeFault>
+    ensures compiled { IfOk result (λ c. IsCompiledFrom checked.now c) }
+    ensures sequential { IfOk result (λ c. emitted.IsSequential (meaning checked.now)) }
+    ensures quantum { IfOk result (λ c. All (λ b. b.quantum ≡ quantum) c.bodies) }
+    ensures refused { IfErr result (λ fault. CodeRefuses fault quantum checked.now) }
+{
+    if quantum == 0 || quantum > MOST_QUANTUM {
+        return Err(CodeFault::BadQuantum);
+    }
+    let unfolded = checked.unfolded();
+    checked.lawful();
+    unfolded.well_formed();
+    let body = match only_process(alloc, unfolded.term(), quantum) {
+        Ok(body) => body,
+        Err(fault) => return Err(fault),
+    };
+    let bodies = only_body(alloc, body)?;
+    let channels = copy_channels(alloc, unfolded.channels())?;
+    Ok(Code { bodies, channels })
+}
+
+/// The body of a program's one process.
+fn only_process(alloc: Global, term: &Term, quantum: u32) -> Result<Body, CodeFault>
+    ensures body { IfOk result (λ b. IsBodyOf (term_of term.now) quantum b) }
+    ensures sequential { IfOk result (λ b. emitted.IsSequential (term_of term.now)) }
+    ensures small { IfOk result (λ b. length b.code ≤ most_instructions) }
+    ensures refused { IfErr result (λ fault. IsRefused fault (term_of term.now)) }
+{
+    if !is_sequential(term) {
+        return Err(CodeFault::Early {
+            line: early_line(term),
+        });
+    }
+    let loops = counters_in(term)?;
+    let uses = term_uses(alloc, term)?;
+    let cells = rising_cells(alloc, uses.as_slice(), false)?;
+    let writes = rising_cells(alloc, uses.as_slice(), true)?;
+    let code = code_of(alloc, term)?;
+    if code.len() > MOST_INSTRUCTIONS {
+        return Err(CodeFault::TooLarge);
+    }
+    Ok(Body::new(code, cells, writes, loops, quantum))
+}
+
+fn code_of(alloc: Global, term: &Term) -> Result<Vec<Instr>, AllocError>
+    ensures { IfOk result (λ code. map instruction_of code.items ≡ whole_code (term_of term.now)) }
+{
+    let mut code = Vec::new(alloc);
+    put(&mut code, Instr::End)?;
+    emit_term(alloc, 0, term, &mut code)?;
+    code.reverse();
+    Ok(code)
+}
+
+fn only_body(alloc: Global, body: Body) -> Result<Vec<Arc<Body, Global>>, AllocError>
+    ensures { IfOk result (λ bodies. map arc_value bodies.items ≡ body ∷ []) }
+{
+    let mut bodies = Vec::new(alloc);
+    let body = Arc::new(alloc, body)?;
+    bodies.push(body)?;
+    Ok(bodies)
+}
+
+fn copy_channels(alloc: Global, channels: &[Channel]) -> Result<Vec<Channel>, AllocError>
+    ensures { IfOk result (λ copies. copies.items ≡ channels.now) }
+{
+    let mut copies = Vec::new(alloc);
+    for channel in channels {
+        copies.push(channel.copy(alloc)?)?;
+    }
+    Ok(copies)
+}

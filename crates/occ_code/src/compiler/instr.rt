@@ -1,0 +1,85 @@
+//! The instructions of sequential code.
+
+use occ_term::{Monadic, Operator, Primitive};
+use sqlite_items::Items;
+
+/// One instruction. A skip counts the instructions that are jumped over, and a `back` is how far a
+/// jump leads back. Lines are for faults.
+#[derive(Drop)]
+pub enum Instr {
+    /// Puts a value on the stack.
+    Push(i64),
+    /// Puts the value of a cell on the stack.
+    Load(u32),
+    /// Takes a cell's number from the stack, and puts its value there.
+    LoadAt,
+    /// Takes a subscript, and puts that letter of the text: the line and the text.
+    LoadLetter(u32, Items<u8>),
+    /// Takes a subscript and a number, and puts the number of that component: the line, the size that
+    /// the subscript has to be below, and how many numbers a component has.
+    Subscript(u32, u32, u64),
+    /// Takes the two operands of an operator, and puts its value.
+    Operate(Operator, Primitive, u32),
+    /// Takes the operand of an operator, and puts its value.
+    OperateOne(Monadic, Primitive, u32),
+    /// Takes a value, and puts it as one of the type.
+    ConvertTo(Primitive, u32),
+    /// Takes a truth value: FALSE is put again, behind the skip.
+    AndThen(usize),
+    /// Takes a truth value: TRUE is put again, behind the skip.
+    OrElse(usize),
+    /// Takes a value, which becomes the last part of the message.
+    PartOne(Primitive),
+    /// Takes the number of the first of so many cells, which become the last part.
+    PartMany(Primitive, u64),
+    /// A text becomes the last part.
+    PartText(Primitive, Items<u8>),
+    /// Takes the number of the first of so many cells, and how many of them become the last part.
+    PartCounted(Primitive, u32, u64),
+    /// Takes how many letters of the text become the last part.
+    PartCountedText(Primitive, u32, Items<u8>),
+    /// Takes the number of the first of so many cells, which are the last target.
+    SpotOne(u64),
+    /// Takes the number of the first component and that of the count's cell, which are the last target:
+    /// the line, how many cells the count has, and how many components there are.
+    SpotCounted(u32, u64, u64),
+    /// Stores each part of the message in its target.
+    StoreParts,
+    /// Stores the last part, from this cell on.
+    StoreNamed(u32),
+    /// Takes a value, and stores it in the cell.
+    StoreOne(u32),
+    /// Sets so many cells to 0, from the first on.
+    ClearCells(u32, u32),
+    /// Goes on behind the skip.
+    Jump(usize),
+    /// Takes a truth value: FALSE goes on behind the skip.
+    Choose(usize),
+    /// Takes the value on top where it is among the constants, else goes on behind the skip.
+    IfAmong(Items<i64>, usize),
+    /// Takes the tag on top where it is this one, else goes on behind the skip.
+    IfTag(u32, usize),
+    /// Takes the value on top.
+    DropOne,
+    /// Takes the count and the base of a replicator, and puts them in its order.
+    CountedFrom(u32),
+    /// The next value of a choice's index, or behind the skip where none is left: the index's cell and the skip.
+    NextChoice(u32, usize),
+    /// Back to the next value.
+    BackToChoice(usize),
+    /// The first value of the index of a replicated SEQ, or behind the skip where there is none: the first
+    /// of its two counters, the index's cell and the skip.
+    Begin(u32, u32, usize),
+    /// The next value of the index, or behind the skip where none is left.
+    Pass(u32, u32, usize),
+    /// The stop at the end of a loop's body, and back.
+    LoopBack(usize),
+    /// Takes a channel, and offers the message on it, with its tag where it has one.
+    Send(Option<u32>),
+    /// Takes a channel, and awaits a message on it.
+    Receive,
+    /// Halts the process.
+    Halt,
+    /// Ends the process.
+    End,
+}

@@ -1,0 +1,44 @@
+//! Emitting code from its end to its start.
+ghost use Rattle.std.specs.Prelude.{◌≡◌, ◌∷◌, [], ◌-◌, ◌<◌, IfOk, OnOk, length, set};
+ghost use Rattle.occ_code.specs.Sequential.View.{instruction_of, Emits};
+
+use crate::compiler::instr::Instr;
+use sqlite_items::Items;
+use std::alloc::{AllocError, Global};
+
+/// Puts one instruction before what was emitted.
+pub(crate) fn put(code: &mut Vec<Instr>, instr: Instr) -> Result<(), AllocError>
+    ensures { OnOk result (Emits code.old.items (instruction_of instr ∷ []) code.new.items) }
+{
+    code.push(instr)?;
+    Ok(())
+}
+
+/// How many instructions were emitted.
+pub(crate) fn emitted(code: &Vec<Instr>) -> usize
+    ensures { result ≡ length code.now.items }
+{
+    code.len()
+}
+
+/// How many instructions were emitted since there were so many.
+pub(crate) fn since(code: &Vec<Instr>, before: usize) -> usize
+    ensures { result ≡ length code.now.items - before }
+{
+    code.len().saturating_sub(before)
+}
+
+/// Puts an instruction in the place of one that was emitted.
+pub(crate) fn put_at(code: &mut Vec<Instr>, place: usize, instr: Instr)
+    requires { place < length code.old.items }
+    ensures { code.new.items ≡ set code.old.items place instr }
+{
+    code[place] = instr;
+}
+
+/// A copy of a text.
+pub(crate) fn copy_text(alloc: Global, text: &Items<u8>) -> Result<Items<u8>, AllocError>
+    ensures { IfOk result (λ copy. copy ≡ text.now) }
+{
+    Items::from_slice(alloc, text.as_slice())
+}

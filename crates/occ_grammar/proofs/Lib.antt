@@ -1,0 +1,12 @@
+pub mod Binds
+pub mod Colons
+pub mod ExpressionAgain
+pub mod ExpressionSound
+pub mod HeadAgain
+pub mod HeadSound
+pub mod LineAgain
+pub mod LineSound
+pub mod Manys
+pub mod ProcessAgain
+pub mod ProcessSound
+pub mod Whole

@@ -1,0 +1,5 @@
+pub mod Counting
+pub mod Having
+pub mod Numbering
+pub mod Growth
+pub mod CellOrder

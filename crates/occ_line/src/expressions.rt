@@ -1,0 +1,4 @@
+//! Reading expressions.
+
+pub mod read;
+pub mod symbol;

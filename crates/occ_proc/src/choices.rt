@@ -1,0 +1,100 @@
+//! Instructions that choose where a process goes on.
+ghost use Rattle.std.specs.Prelude.{◌≡◌, IfOk};
+ghost use Rattle.occ_term.specs.Selecting.{is_among};
+ghost use Rattle.occ_code.specs.Sequential.Machine as machine;
+ghost use Rattle.occ_proc.specs.Doing.{OnStack};
+
+use crate::stack::Stack;
+use crate::values::number;
+use crate::went::Went;
+use std::alloc::AllocError;
+
+pub(crate) fn and_then(stack: &mut Stack, skip: usize) -> Result<Went, AllocError>
+    ensures { IfOk result (λ w. OnStack (machine.AndThen skip) stack.old w stack.new) }
+{
+    let Some(test) = stack.pop() else {
+        return Ok(Went::Stuck);
+    };
+    if test != 0 {
+        return Ok(Went::Next);
+    }
+    stack.push(0)?;
+    Ok(Went::Skip(skip))
+}
+
+pub(crate) fn or_else(stack: &mut Stack, skip: usize) -> Result<Went, AllocError>
+    ensures { IfOk result (λ w. OnStack (machine.OrElse skip) stack.old w stack.new) }
+{
+    let Some(test) = stack.pop() else {
+        return Ok(Went::Stuck);
+    };
+    if test == 0 {
+        return Ok(Went::Next);
+    }
+    stack.push(1)?;
+    Ok(Went::Skip(skip))
+}
+
+pub(crate) fn choose(stack: &mut Stack, skip: usize) -> Went
+    ensures { OnStack (machine.Choose skip) stack.old result stack.new }
+{
+    let Some(test) = stack.pop() else {
+        return Went::Stuck;
+    };
+    if test == 0 {
+        return Went::Skip(skip);
+    }
+    stack.clear();
+    Went::Next
+}
+
+pub(crate) fn if_among(
+    stack: &mut Stack,
+    constants: &[i64],
+    skip: usize,
+) -> Result<Went, AllocError>
+    ensures { IfOk result (λ w. OnStack (machine.IfAmong constants.now skip) stack.old w stack.new) }
+{
+    let Some(value) = stack.pop() else {
+        return Ok(Went::Stuck);
+    };
+    if is_among(value, constants) {
+        return Ok(Went::Next);
+    }
+    stack.push(value)?;
+    Ok(Went::Skip(skip))
+}
+
+fn is_among(value: i64, constants: &[i64]) -> bool
+    ensures { result ≡ is_among value constants.now }
+{
+    for constant in constants {
+        if value == *constant {
+            return true;
+        }
+    }
+    false
+}
+
+/// Where no tag is left on the stack, the variants go on with the first one behind the skip.
+pub(crate) fn if_tag(stack: &mut Stack, tag: u32, skip: usize) -> Result<Went, AllocError>
+    ensures { IfOk result (λ w. OnStack (machine.IfTag tag skip) stack.old w stack.new) }
+{
+    let Some(value) = stack.pop() else {
+        return Ok(Went::Skip(skip));
+    };
+    if number(value) == u64::from(tag) {
+        return Ok(Went::Next);
+    }
+    stack.push(value)?;
+    Ok(Went::Skip(skip))
+}
+
+pub(crate) fn drop_one(stack: &mut Stack) -> Went
+    ensures { OnStack machine.DropOne stack.old result stack.new }
+{
+    match stack.pop() {
+        Some(_) => Went::Next,
+        None => Went::Stuck,
+    }
+}

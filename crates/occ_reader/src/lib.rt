@@ -1,0 +1,4 @@
+//! Reading processes, their parts and declarations, line by line.
+#![tactic(auto)]
+
+pub mod processes;

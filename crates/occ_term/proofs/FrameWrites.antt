@@ -1,0 +1,164 @@
+-- Frames that are read and written by the place of a cell.
+use Rattle.std.specs.Prelude.{nat_eq, nat_lt, option_map, if◌then◌else◌, replicate}
+use Rattle.std.proofs.Common.{◌≡◌, ◌∙◌, sym, refl, ap, ℕ, zero, suc, ◌+◌, ◌-◌, ◌<◌, ◌≤◌, Bool, true, false, Option, Some, None, List, [], ◌∷◌, length, get_or, drop, ℤ, pos, add-zero, arith}
+use Rattle.std.proofs.Math.ListN.{set}
+use Rattle.std.proofs.lemmas.Bool.Decides.{nat_tests}
+use Rattle.std.proofs.lemmas.List.{at_drop_more, at_drop_all}
+use Rattle.occ_term.specs.Frames.{Variables, value_at, values_with, frame_from, frame_with, row_with, place_in, counter_at, counters_with}
+
+-- ---- the place of a cell
+
+pub place_first : (xs : List ℕ) (i c : ℕ) → i < length xs → get_or xs i 0 ≡ c → ((k : ℕ) → k < i → get_or xs k 0 ≡ c → ⊥) → place_in xs c ≡ Some i
+place_first [] i c h e n = absurd (omega (arith, h))
+place_first (x ∷ xs) zero c h e n =
+    let same : nat_eq x c ≡ true = grind (arith, nat_tests) in
+    ap (λ b. if b then Some 0 else option_map suc (place_in xs c)) same
+place_first (x ∷ xs) (suc i) c h e n =
+    let before : x ≡ c → ⊥ = n 0 (omega arith) in
+    let other : nat_eq x c ≡ false = grind (arith, nat_tests) in
+    ap (λ b. if b then Some 0 else option_map suc (place_in xs c)) other
+    ∙ ap (option_map suc) (place_first xs i c (omega arith) e (λ k m. n (suc k) (omega arith)))
+
+pub place_none : (xs : List ℕ) (c : ℕ) → ((k : ℕ) → k < length xs → get_or xs k 0 ≡ c → ⊥) → place_in xs c ≡ None
+place_none [] c n = refl
+place_none (x ∷ xs) c n =
+    let before : x ≡ c → ⊥ = n 0 (omega arith) in
+    let other : nat_eq x c ≡ false = grind (arith, nat_tests) in
+    ap (λ b. if b then Some 0 else option_map suc (place_in xs c)) other
+    ∙ ap (option_map suc) (place_none xs c (λ k m. n (suc k) (omega arith)))
+
+-- nor between what is less and what is greater
+pub none_between : (xs : List ℕ) (c low high : ℕ) → high ≤ low → ((k : ℕ) → k < low → get_or xs k 0 < c) → ((k : ℕ) → high ≤ k → k < length xs → c < get_or xs k 0) → (k : ℕ) → k < length xs → get_or xs k 0 ≡ c → ⊥
+none_between xs c low high meet below above k h e = by (nat_lt k low) refl
+  where
+    by : (b : Bool) → nat_lt k low ≡ b → ⊥
+    by true t =
+        let less : k < low = grind (arith, nat_tests) in
+        let under = below k less in
+        omega (arith, under, e)
+    by false t =
+        let more : high ≤ k = grind (arith, nat_tests) in
+        let over = above k more h in
+        omega (arith, over, e)
+
+-- ---- what stands at a place
+
+abbrev pub read_at : Option ℕ → List ℤ → ℤ
+read_at None vs = pos 0
+read_at (Some i) vs = get_or vs i (pos 0)
+
+nothing_there : (o : Option ℕ) → read_at o [] ≡ pos 0
+nothing_there None = refl
+nothing_there (Some i) = refl
+
+read_next : (o : Option ℕ) (v : ℤ) (vs : List ℤ) → read_at o vs ≡ read_at (option_map suc o) (v ∷ vs)
+read_next None v vs = refl
+read_next (Some i) v vs = refl
+
+pub value_by : (xs : List ℕ) (vs : List ℤ) (c : ℕ) → value_at xs vs c ≡ read_at (place_in xs c) vs
+value_by [] vs c = refl
+value_by (x ∷ xs) [] c = sym (nothing_there (place_in (x ∷ xs) c))
+value_by (x ∷ xs) (v ∷ vs) c = by_test (value_by xs vs c) (nat_eq x c)
+  where
+    by_test : value_at xs vs c ≡ read_at (place_in xs c) vs → (b : Bool) → (if b then v else value_at xs vs c) ≡ read_at (if b then Some 0 else option_map suc (place_in xs c)) (v ∷ vs)
+    by_test e true = refl
+    by_test e false = e ∙ read_next (place_in xs c) v vs
+
+abbrev pub write_at : Option ℕ → List ℤ → ℤ → List ℤ
+write_at None vs v = vs
+write_at (Some i) vs v = set vs i v
+
+nothing_written : (o : Option ℕ) (v : ℤ) → write_at o [] v ≡ []
+nothing_written None v = refl
+nothing_written (Some i) v = refl
+
+write_next : (o : Option ℕ) (w : ℤ) (vs : List ℤ) (v : ℤ) → w ∷ write_at o vs v ≡ write_at (option_map suc o) (w ∷ vs) v
+write_next None w vs v = refl
+write_next (Some i) w vs v = refl
+
+pub with_by : (xs : List ℕ) (vs : List ℤ) (c : ℕ) (v : ℤ) → values_with xs vs c v ≡ write_at (place_in xs c) vs v
+with_by [] vs c v = refl
+with_by (x ∷ xs) [] c v = sym (nothing_written (place_in (x ∷ xs) c) v)
+with_by (x ∷ xs) (w ∷ vs) c v = by_test (with_by xs vs c v) (nat_eq x c)
+  where
+    by_test : values_with xs vs c v ≡ write_at (place_in xs c) vs v → (b : Bool) → (if b then v ∷ vs else w ∷ values_with xs vs c v) ≡ write_at (if b then Some 0 else option_map suc (place_in xs c)) (w ∷ vs) v
+    by_test e true = refl
+    by_test e false = ap (λ ws. w ∷ ws) e ∙ write_next (place_in xs c) w vs v
+
+pub set_past : (vs : List ℤ) (i : ℕ) (v : ℤ) → length vs ≤ i → set vs i v ≡ vs
+set_past [] i v h = refl
+set_past (w ∷ vs) zero v h = absurd (omega (arith, h))
+set_past (w ∷ vs) (suc i) v h = ap (λ ws. w ∷ ws) (set_past vs i v (omega arith))
+
+pub value_there : (xs : List ℕ) (vs : List ℤ) (c : ℕ) (o : Option ℕ) → o ≡ place_in xs c → value_at xs vs c ≡ read_at o vs
+value_there xs vs c o e = value_by xs vs c ∙ ap (λ p. read_at p vs) (sym e)
+
+pub with_there : (xs : List ℕ) (vs : List ℤ) (c : ℕ) (v : ℤ) (o : Option ℕ) → o ≡ place_in xs c → values_with xs vs c v ≡ write_at o vs v
+with_there xs vs c v o e = with_by xs vs c v ∙ ap (λ p. write_at p vs v) (sym e)
+
+-- ---- values in a row
+
+pub frame_from_is : (vs : List ℤ) (first : ℕ) (f : Variables) → frame_from first vs f ≡ record f { values = row_with f.cells f.values first vs }
+frame_from_is [] first f = refl
+frame_from_is (v ∷ vs) first f = frame_from_is vs (first + 1) (frame_with f first v)
+
+-- no cell is as great as that
+pub row_beyond : (xs : List ℕ) (held : List ℤ) (vs : List ℤ) (first bound : ℕ) → ((k : ℕ) → get_or xs k 0 < bound) → bound ≤ first → row_with xs held first vs ≡ held
+row_beyond xs held [] first bound h m = refl
+row_beyond xs held (v ∷ vs) first bound h m =
+    let none = place_none xs first (λ k i e. let below = h k in omega (arith, below, e)) in
+    let same : values_with xs held first v ≡ held = with_there xs held first v None (sym none) in
+    ap (λ ws. row_with xs ws (first + 1) vs) same ∙ row_beyond xs held vs (first + 1) bound h (omega arith)
+
+pub row_step : (xs : List ℕ) (held : List ℤ) (first i : ℕ) (vs : List ℤ) (d : ℤ) → i < length vs → row_with xs (values_with xs held (first + i) (get_or vs i d)) (first + (i + 1)) (drop (i + 1) vs) ≡ row_with xs held (first + i) (drop i vs)
+row_step xs held first i vs d h =
+    let next : first + (i + 1) ≡ first + i + 1 = omega arith in
+    ap (λ m. row_with xs (values_with xs held (first + i) (get_or vs i d)) m (drop (i + 1) vs)) next
+    ∙ sym (at_drop_more (row_with xs held (first + i)) vs i d h)
+
+pub row_end : (xs : List ℕ) (held : List ℤ) (first i : ℕ) (vs : List ℤ) → length vs ≤ i → row_with xs held (first + i) (drop i vs) ≡ held
+row_end xs held first i vs h = at_drop_all (row_with xs held (first + i)) vs i h
+
+pub row_start : (xs : List ℕ) (held : List ℤ) (first : ℕ) (vs : List ℤ) → row_with xs held (first + 0) (drop 0 vs) ≡ row_with xs held first vs
+row_start xs held first vs = ap (λ m. row_with xs held m vs) (add-zero first)
+
+-- ---- zeros in a row
+
+pub zeros_step : (xs : List ℕ) (held : List ℤ) (first i n : ℕ) → i < n → row_with xs (values_with xs held (first + i) (pos 0)) (first + (i + 1)) (replicate (n - (i + 1)) (pos 0)) ≡ row_with xs held (first + i) (replicate (n - i) (pos 0))
+zeros_step xs held first i n h =
+    let next : first + (i + 1) ≡ first + i + 1 = omega arith in
+    let more : n - i ≡ suc (n - (i + 1)) = omega (arith, h) in
+    ap (λ m. row_with xs (values_with xs held (first + i) (pos 0)) m (replicate (n - (i + 1)) (pos 0))) next
+    ∙ sym (ap (λ m. row_with xs held (first + i) (replicate m (pos 0))) more)
+
+pub zeros_start : (xs : List ℕ) (held : List ℤ) (first n : ℕ) → row_with xs held (first + 0) (replicate (n - 0) (pos 0)) ≡ row_with xs held first (replicate n (pos 0))
+zeros_start xs held first n =
+    let same : n - 0 ≡ n = omega arith in
+    ap (λ m. row_with xs held m (replicate (n - 0) (pos 0))) (add-zero first) ∙ ap (λ m. row_with xs held first (replicate m (pos 0))) same
+
+pub zeros_end : (xs : List ℕ) (held : List ℤ) (first i n : ℕ) → n ≤ i → row_with xs held (first + i) (replicate (n - i) (pos 0)) ≡ held
+zeros_end xs held first i n h =
+    let none : n - i ≡ 0 = omega (arith, h) in
+    ap (λ m. row_with xs held (first + i) (replicate m (pos 0))) none
+
+-- ---- counters
+
+pub counter_read : (ns : List ℕ) (slot : ℕ) → counter_at ns slot ≡ get_or ns slot 0
+counter_read [] slot = refl
+counter_read (n ∷ ns) zero = refl
+counter_read (n ∷ ns) (suc slot) = counter_read ns slot
+
+pub counter_past : (ns : List ℕ) (slot : ℕ) → length ns ≤ slot → counter_at ns slot ≡ 0
+counter_past [] slot h = refl
+counter_past (n ∷ ns) zero h = absurd (omega (arith, h))
+counter_past (n ∷ ns) (suc slot) h = counter_past ns slot (omega arith)
+
+pub counters_set : (ns : List ℕ) (slot m : ℕ) → counters_with ns slot m ≡ set ns slot m
+counters_set [] slot m = refl
+counters_set (n ∷ ns) zero m = refl
+counters_set (n ∷ ns) (suc slot) m = ap (λ xs. n ∷ xs) (counters_set ns slot m)
+
+pub counters_past : (ns : List ℕ) (slot m : ℕ) → length ns ≤ slot → counters_with ns slot m ≡ ns
+counters_past [] slot m h = refl
+counters_past (n ∷ ns) zero m h = absurd (omega (arith, h))
+counters_past (n ∷ ns) (suc slot) m h = ap (λ xs. n ∷ xs) (counters_past ns slot m (omega arith))

@@ -1,0 +1,17 @@
+pub mod Scope
+pub mod Numbers
+pub mod Constants
+pub mod Operators
+pub mod Expressions
+pub mod Types
+pub mod Items
+pub mod Declarations
+pub mod Calls
+pub mod Actions
+pub mod Performing
+pub mod Recursion
+pub mod Programs
+pub mod Unfolding
+pub mod ProgramUnfolding
+pub mod Examples
+pub mod CallExamples

@@ -1,0 +1,8 @@
+//! What the tree of a text unfolds to: names, types, protocols, calls and replicators.
+//!
+//! The definitions stand in specs/, as a relation and as a function; the laws say that the two
+//! agree, and [`rows`] has small programs with what they unfold to.
+#![tactic(auto)]
+
+pub mod laws;
+pub mod rows;

@@ -1,0 +1,129 @@
+//! Programs without PAR and ALT have code, for every quantum that may be.
+use occ_check::unfold;
+use occ_code::{CodeFault, compile_for};
+use occ_parse::parse;
+use occ_term::{Checked, check_usage};
+use occ_text::read_lines;
+use std::alloc::{AllocError, Global};
+use std::test::Fail;
+
+/// The body of `main` below its first line, the quantum, and what comes of it.
+struct Compiled(&'static str, u32, &'static str);
+
+const CODE: &str = "1 body of code";
+
+const PROGRAMS: [Compiled; 21] = [
+    Compiled("  SKIP\n", 1, CODE),
+    Compiled("  INT x:\n  x := 1 + 2\n", 1, CODE),
+    Compiled(
+        "  INT x:\n  SEQ\n    x := 1\n    WHILE x < 10\n      x := x + 1\n",
+        4,
+        CODE,
+    ),
+    Compiled(
+        "  SEQ i = 0 FOR 3\n    BYTE b:\n    SEQ\n      keyboard ? b\n      screen ! b\n",
+        1,
+        CODE,
+    ),
+    Compiled(
+        "  [2]INT v:\n  SEQ\n    v[0], v[1] := 5, 6\n    v := v\n    screen ! BYTE (v[0] + 48)\n",
+        65_536,
+        CODE,
+    ),
+    Compiled(
+        "  INT n:\n  SEQ\n    n := 3\n    IF i = 0 FOR n\n      i = 2\n        screen ! BYTE (i + 48)\n",
+        1,
+        CODE,
+    ),
+    Compiled(
+        "  INT n:\n  CASE n\n    1, 2\n      SKIP\n    ELSE\n      STOP\n",
+        1,
+        CODE,
+    ),
+    Compiled(
+        "  VAL s IS \"abc\":\n  SEQ i = 0 FOR SIZE s\n    screen ! s[i]\n",
+        1,
+        CODE,
+    ),
+    Compiled(
+        "  PROTOCOL p\n    CASE\n      data; INT\n      quit\n  :\n  CHAN OF p c:\n  c ! data; 5\n",
+        1,
+        CODE,
+    ),
+    Compiled(
+        "  PROTOCOL p\n    CASE\n      data; INT\n      quit\n  :\n  CHAN OF p c:\n  INT x:\n  c ? CASE\n    quit\n      SKIP\n    data; x\n      SKIP\n",
+        1,
+        CODE,
+    ),
+    Compiled(
+        "  CHAN OF INT::[]BYTE c:\n  [4]BYTE s:\n  c ! 2::s\n",
+        1,
+        CODE,
+    ),
+    Compiled(
+        "  CHAN OF INT::[]BYTE c:\n  INT n:\n  [4]BYTE s:\n  c ? n::s\n",
+        1,
+        CODE,
+    ),
+    Compiled(
+        "  PROC inc (INT a)\n    a := a + 1\n  :\n  INT x:\n  inc (x)\n",
+        1,
+        CODE,
+    ),
+    Compiled("  BOOL b:\n  b := (1 < 2) AND (NOT b)\n", 1, CODE),
+    Compiled("  SKIP\n", 0, "refused 62 BadQuantum"),
+    Compiled("  SKIP\n", 65_537, "refused 62 BadQuantum"),
+    Compiled("  PAR\n    SKIP\n    SKIP\n", 1, "refused 61 Early line 1"),
+    Compiled("  PAR\n    SKIP\n    SKIP\n", 0, "refused 62 BadQuantum"),
+    Compiled(
+        "  BYTE b:\n  ALT\n    keyboard ? b\n      SKIP\n",
+        1,
+        "refused 61 Early line 2",
+    ),
+    Compiled(
+        "  SEQ i = 0 FOR 2\n    SEQ j = 0 FOR 2\n      INT x:\n      x := i + j\n",
+        7,
+        CODE,
+    ),
+    Compiled("  SEQ\n    STOP\n    STOP\n", 1, CODE),
+];
+
+/// The program, where it is accepted.
+fn accepted(alloc: Global, source: &[u8]) -> Option<Checked> {
+    let lines = read_lines(alloc, source).ok()?;
+    let tree = parse(alloc, &lines).ok()?;
+    let unfolded = unfold(alloc, &tree).ok()?;
+    check_usage(alloc, unfolded).ok()
+}
+
+/// How many bodies the code of a program has.
+fn bodies_of(alloc: Global, checked: &Checked, quantum: u32) -> Result<usize, CodeFault> {
+    let code = compile_for(alloc, checked, quantum)?;
+    Ok(code.len())
+}
+
+fn told(alloc: Global, bodies: Result<usize, CodeFault>) -> Result<String, AllocError> {
+    match bodies {
+        Ok(count) => format!(in alloc; "{count} body of code"),
+        Err(fault) => fault.to_string(alloc),
+    }
+}
+
+/// What comes of a program.
+fn outcome(alloc: Global, source: &[u8], quantum: u32) -> Result<String, AllocError> {
+    match accepted(alloc, source) {
+        Some(checked) => told(alloc, bodies_of(alloc, &checked, quantum)),
+        None => String::from_str(alloc, "refused before"),
+    }
+}
+
+#[test]
+fn programs_have_code(rt: HostRuntime) -> Result<(), Fail> {
+    let alloc = rt.alloc();
+    for row in PROGRAMS.iter() {
+        let source = format!(in alloc; "PROC main (CHAN OF BYTE keyboard, screen)\n{}:\n", row.0)?;
+        let found = outcome(alloc, source.as_bytes(), row.1)?;
+        assert_eq!(rt; found.as_str(), row.2, "{source}");
+    }
+    Ok(())
+}

@@ -1,0 +1,576 @@
+//! Sources that break a rule of scopes, types or protocols, each beside a neighbour that keeps it.
+use occ_play::{Counted, Plan, PlayFault, play};
+use std::alloc::{AllocError, Global};
+use std::process::Abort;
+use std::test::Fail;
+
+/// The body of `main` below its first line, and the refusal; none where the source is accepted.
+pub(crate) struct Body(pub(crate) &'static str, pub(crate) &'static str);
+
+/// The text before `main` and, where it has the usual first line, what stands below that; and the refusal.
+struct Whole(&'static str, Option<&'static str>, &'static str);
+
+const NAMES: [Body; 22] = [
+    // 30: a name that isn't in scope
+    Body("  screen ! x\n", "refused 30 Unknown line 2 x"),
+    Body(
+        "  INT x:\n  SEQ\n    x := 1\n    y := 2\n",
+        "refused 30 Unknown line 5 y",
+    ),
+    Body(
+        "  SEQ\n    INT x:\n    x := 1\n    x := 2\n",
+        "refused 30 Unknown line 5 x",
+    ),
+    Body(
+        "  CHAN OF msg c:\n  SKIP\n",
+        "refused 30 Unknown line 2 msg",
+    ),
+    Body("  f ()\n", "refused 30 Unknown line 2 f"),
+    Body("  [n]INT a:\n  SKIP\n", "refused 30 Unknown line 2 n"),
+    Body(
+        "  SEQ i = i FOR 2\n    SKIP\n",
+        "refused 30 Unknown line 2 i",
+    ),
+    Body(
+        "  SEQ\n    INT x:\n    x := 1\n    INT x:\n    x := 2\n",
+        "",
+    ),
+    Body("  VAL n IS 2:\n  [n]INT a:\n  SKIP\n", ""),
+    // 31: a name twice in one declaration, a constant twice
+    Body("  INT a, a:\n  SKIP\n", "refused 31 Twice line 2 a"),
+    Body(
+        "  CHAN OF INT c, d, c:\n  SKIP\n",
+        "refused 31 Twice line 2 c",
+    ),
+    Body("  [2]BYTE x, y, x:\n  SKIP\n", "refused 31 Twice line 2 x"),
+    Body(
+        "  CASE 3\n    1\n      SKIP\n    2, 1\n      SKIP\n",
+        "refused 31 Twice line 5 1",
+    ),
+    Body(
+        "  CASE 3\n    -1, -1\n      SKIP\n",
+        "refused 31 Twice line 3 -1",
+    ),
+    Body("  INT a:\n  INT a:\n  SKIP\n", ""),
+    Body("  CASE 3\n    1, 2\n      SKIP\n    3\n      SKIP\n", ""),
+    // 32: a name used as what it isn't
+    Body("  main := 1\n", "refused 30 Unknown line 2 main"),
+    Body("  screen := 1\n", "refused 32 WrongKind line 2"),
+    Body("  VAL n IS 1:\n  n := 2\n", "refused 32 WrongKind line 3"),
+    Body(
+        "  SEQ i = 0 FOR 2\n    i := 1\n",
+        "refused 32 WrongKind line 3",
+    ),
+    Body("  INT x:\n  x ! 1\n", "refused 32 WrongKind line 3"),
+    Body("  INT i:\n  SEQ i = 0 FOR 2\n    SKIP\n", ""),
+];
+
+const KINDS: [Body; 10] = [
+    Body("  INT x:\n  x ()\n", "refused 32 WrongKind line 3"),
+    Body(
+        "  INT x:\n  CHAN OF x c:\n  SKIP\n",
+        "refused 32 WrongKind line 3",
+    ),
+    Body(
+        "  PROTOCOL msg IS INT:\n  msg := 1\n",
+        "refused 32 WrongKind line 3",
+    ),
+    Body(
+        "  INT x:\n  SEQ\n    x := keyboard\n",
+        "refused 32 WrongKind line 4",
+    ),
+    Body(
+        "  CASE 1\n    ELSE\n      SKIP\n    ELSE\n      SKIP\n",
+        "refused 32 WrongKind line 5",
+    ),
+    Body("  PROTOCOL msg IS INT:\n  CHAN OF msg c:\n  SKIP\n", ""),
+    Body("  CASE 1\n    ELSE\n      SKIP\n    1\n      SKIP\n", ""),
+    Body("  PROC f ()\n    SKIP\n  :\n  f ()\n", ""),
+    Body("  BYTE b:\n  keyboard ? b\n", ""),
+    Body("  INT x:\n  SEQ i = 0 FOR 2\n    x := i\n", ""),
+];
+
+const TYPES: [Body; 24] = [
+    // 33: operands and sides
+    Body("  INT x:\n  x := TRUE\n", "refused 33 WrongType line 3"),
+    Body("  INT x:\n  x := 1 + 'a'\n", "refused 33 WrongType line 3"),
+    Body(
+        "  BOOL b:\n  b := TRUE < FALSE\n",
+        "refused 33 WrongType line 3",
+    ),
+    Body(
+        "  BYTE b:\n  b := 256(BYTE)\n",
+        "refused 33 WrongType line 3",
+    ),
+    Body("  BOOL b:\n  b := 2(BOOL)\n", "refused 33 WrongType line 3"),
+    Body("  INT x, y:\n  x, y := 1\n", "refused 33 WrongType line 3"),
+    Body("  INT x:\n  x := 1, 2\n", "refused 33 WrongType line 3"),
+    Body("  IF\n    1\n      SKIP\n", "refused 33 WrongType line 3"),
+    Body("  WHILE 1\n    SKIP\n", "refused 33 WrongType line 2"),
+    Body(
+        "  CASE TRUE\n    TRUE\n      SKIP\n",
+        "refused 33 WrongType line 2",
+    ),
+    Body("  INT x:\n  x := SIZE x\n", "refused 33 WrongType line 3"),
+    Body("  [2]INT a:\n  a[0] := a\n", "refused 33 WrongType line 3"),
+    Body(
+        "  [2]INT a:\n  [3]INT b:\n  a := b\n",
+        "refused 33 WrongType line 4",
+    ),
+    Body("  INT x:\n  x[0] := 1\n", "refused 33 WrongType line 3"),
+    Body(
+        "  [2]INT a:\n  BYTE i:\n  a[i] := 1\n",
+        "refused 33 WrongType line 4",
+    ),
+    Body(
+        "  VAL BYTE n IS 1:\n  SKIP\n",
+        "refused 33 WrongType line 2",
+    ),
+    Body("  BOOL b:\n  b := TRUE = FALSE\n", ""),
+    Body("  BYTE b:\n  b := 255(BYTE)\n", ""),
+    Body("  BOOL b:\n  b := 1(BOOL)\n", ""),
+    Body("  INT x, y:\n  x, y := y, x\n", ""),
+    Body("  [2]INT a, b:\n  a := b\n", ""),
+    Body("  INT x:\n  x := 1 << 40\n", ""),
+    Body("  CASE 'a'\n    'a'\n      SKIP\n", ""),
+    Body("  VAL BYTE n IS 1(BYTE):\n  SKIP\n", ""),
+];
+
+const CONSTANTS: [Body; 22] = [
+    // 34: what must be constant
+    Body(
+        "  INT n:\n  [n]INT a:\n  SKIP\n",
+        "refused 34 NotConstant line 3",
+    ),
+    Body(
+        "  INT n:\n  PAR i = 0 FOR n\n    SKIP\n",
+        "refused 34 NotConstant line 3",
+    ),
+    Body(
+        "  INT n:\n  CASE 1\n    n\n      SKIP\n",
+        "refused 34 NotConstant line 4",
+    ),
+    Body("  [1 / 0]INT a:\n  SKIP\n", "refused 34 NotConstant line 2"),
+    Body(
+        "  SEQ i = 0 FOR 2\n    [i + 1]INT a:\n    SKIP\n",
+        "refused 34 NotConstant line 3",
+    ),
+    Body(
+        "  VAL s IS \"abc\":\n  [INT s[0]]INT a:\n  SKIP\n",
+        "refused 34 NotConstant line 3",
+    ),
+    Body("  VAL n IS 2:\n  PAR i = 0 FOR n\n    SKIP\n", ""),
+    Body("  PAR i = 0 FOR 2\n    [i + 1]INT a:\n    SKIP\n", ""),
+    Body("  VAL s IS \"abc\":\n  [SIZE s]INT a:\n  SKIP\n", ""),
+    Body("  INT x:\n  x := 1 / 0\n", ""),
+    // 35: sizes and counts
+    Body("  [0]INT a:\n  SKIP\n", "refused 35 BadCount line 2"),
+    Body(
+        "  [-1]CHAN OF INT c:\n  SKIP\n",
+        "refused 35 BadCount line 2",
+    ),
+    Body(
+        "  PAR i = 0 FOR -1\n    SKIP\n",
+        "refused 35 BadCount line 2",
+    ),
+    Body(
+        "  PAR i = MOSTPOS INT FOR 2\n    SKIP\n",
+        "refused 35 BadCount line 2",
+    ),
+    Body("  PAR i = MOSTPOS INT FOR 1\n    SKIP\n", ""),
+    Body("  PAR i = 0 FOR 0\n    SKIP\n", ""),
+    Body("  [1]INT a:\n  SKIP\n", ""),
+    Body("  SEQ i = 0 FOR -1\n    SKIP\n", ""),
+    // 36: constant subscripts
+    Body("  [2]INT v:\n  v[2] := 0\n", "refused 36 Subscript line 3"),
+    Body("  [2]INT v:\n  v[-1] := 0\n", "refused 36 Subscript line 3"),
+    Body(
+        "  PAR i = 0 FOR 3\n    [2]INT v:\n    v[i] := 0\n",
+        "refused 36 Subscript line 4",
+    ),
+    Body("  [2]INT v:\n  v[1 / 0] := 0\n", ""),
+];
+
+const PROTOCOLS: [Body; 20] = [
+    Body(
+        "  VAL s IS \"ab\":\n  screen ! s[2]\n",
+        "refused 36 Subscript line 3",
+    ),
+    Body("  VAL s IS \"ab\":\n  screen ! s[1]\n", ""),
+    // 37: items
+    Body("  screen ! 1\n", "refused 37 Protocol line 2"),
+    Body("  screen ! 'a'; 'b'\n", "refused 37 Protocol line 2"),
+    Body("  INT x:\n  keyboard ? x\n", "refused 37 Protocol line 3"),
+    Body(
+        "  BYTE b:\n  keyboard ? CASE\n    data; b\n      SKIP\n",
+        "refused 37 Protocol line 3",
+    ),
+    Body(
+        "  [2]BYTE s:\n  screen ! 2::s\n",
+        "refused 37 Protocol line 3",
+    ),
+    Body(
+        "  CHAN OF INT::[]BYTE c:\n  [2]BYTE s:\n  c ! s\n",
+        "refused 37 Protocol line 4",
+    ),
+    Body(
+        "  CHAN OF [2]INT c:\n  [3]INT s:\n  c ! s\n",
+        "refused 37 Protocol line 4",
+    ),
+    Body(
+        "  PROTOCOL p IS INT; BYTE:\n  CHAN OF p c:\n  c ! 1\n",
+        "refused 37 Protocol line 4",
+    ),
+    Body(
+        "  PROTOCOL p\n    CASE\n      data; INT\n  :\n  CHAN OF p c:\n  c ! 5\n",
+        "refused 37 Protocol line 7",
+    ),
+    Body(
+        "  PROTOCOL p IS INT; BYTE:\n  CHAN OF p c:\n  c ! 1; 'a'\n",
+        "",
+    ),
+    Body("  CHAN OF INT::[]BYTE c:\n  [2]BYTE s:\n  c ! 2::s\n", ""),
+    Body("  CHAN OF [2]INT c:\n  [2]INT s:\n  c ! s\n", ""),
+    // 38: tags
+    Body(
+        "  PROTOCOL p\n    CASE\n      data; INT\n  :\n  CHAN OF p c:\n  c ! quit\n",
+        "refused 38 Tag line 7",
+    ),
+    Body(
+        "  PROTOCOL p\n    CASE\n      data\n  :\n  CHAN OF p c:\n  c ? CASE quit\n",
+        "refused 38 Tag line 7",
+    ),
+    Body(
+        "  PROTOCOL p\n    CASE\n      data\n  :\n  CHAN OF p c:\n  c ? CASE\n    data\n      SKIP\n    data\n      SKIP\n",
+        "refused 38 Tag line 10",
+    ),
+    Body(
+        "  PROTOCOL p\n    CASE\n      data\n      quit\n  :\n  CHAN OF p c:\n  c ? CASE\n    quit\n      SKIP\n    data\n      SKIP\n",
+        "",
+    ),
+    Body(
+        "  PROTOCOL p\n    CASE\n      data\n  :\n  CHAN OF p c:\n  c ! data\n",
+        "",
+    ),
+    Body(
+        "  PROTOCOL p\n    CASE\n      data; INT\n      data\n  :\n  CHAN OF p c:\n  SKIP\n",
+        "refused 31 Twice line 5 data",
+    ),
+];
+
+const CALLS: [Whole; 25] = [
+    // names of another kind
+    Whole(
+        "PROC g ()\n  SKIP\n:\nPROC f (INT a)\n  SKIP\n:\n",
+        Some("  f (g)\n:\n"),
+        "refused 32 WrongKind line 8",
+    ),
+    Whole(
+        "PROC f (CHAN OF INT c)\n  SKIP\n:\n",
+        Some("  VAL n IS 1:\n  f (n)\n:\n"),
+        "refused 39 Arguments line 6",
+    ),
+    Whole(
+        "PROC f (CHAN OF INT c)\n  SKIP\n:\n",
+        Some("  INT n:\n  f (n)\n:\n"),
+        "refused 39 Arguments line 6",
+    ),
+    // 39: actuals
+    Whole(
+        "PROC f (INT a)\n  SKIP\n:\n",
+        Some("  f ()\n:\n"),
+        "refused 39 Arguments line 5",
+    ),
+    Whole(
+        "PROC f ()\n  SKIP\n:\n",
+        Some("  f (1)\n:\n"),
+        "refused 39 Arguments line 5",
+    ),
+    Whole(
+        "PROC f (VAL INT a)\n  SKIP\n:\n",
+        Some("  f ('a')\n:\n"),
+        "refused 39 Arguments line 5",
+    ),
+    Whole(
+        "PROC f (INT a)\n  SKIP\n:\n",
+        Some("  f (1)\n:\n"),
+        "refused 39 Arguments line 5",
+    ),
+    Whole(
+        "PROC f ([2]INT a)\n  SKIP\n:\n",
+        Some("  [3]INT v:\n  f (v)\n:\n"),
+        "refused 39 Arguments line 6",
+    ),
+    Whole(
+        "PROC f (CHAN OF INT c)\n  SKIP\n:\n",
+        Some("  f (screen)\n:\n"),
+        "refused 39 Arguments line 5",
+    ),
+    Whole(
+        "PROC f (CHAN OF INT c)\n  SKIP\n:\n",
+        Some("  INT x:\n  f (x)\n:\n"),
+        "refused 39 Arguments line 6",
+    ),
+    Whole(
+        "PROC f ([]INT a)\n  SKIP\n:\n",
+        Some("  [3]INT v:\n  f (v)\n:\n"),
+        "",
+    ),
+    Whole(
+        "PROC f (VAL INT a)\n  SKIP\n:\n",
+        Some("  f (1 + 2)\n:\n"),
+        "",
+    ),
+    Whole(
+        "PROC f (CHAN OF BYTE c)\n  SKIP\n:\n",
+        Some("  f (screen)\n:\n"),
+        "",
+    ),
+    // 40: overlap
+    Whole(
+        "PROC swap (INT a, b)\n  a, b := b, a\n:\n",
+        Some("  INT x:\n  swap (x, x)\n:\n"),
+        "refused 40 Overlap line 6",
+    ),
+    Whole(
+        "PROC swap (INT a, b)\n  a, b := b, a\n:\n",
+        Some("  [2]INT v:\n  swap (v[0], v[0])\n:\n"),
+        "refused 40 Overlap line 6",
+    ),
+    Whole(
+        "PROC swap (INT a, b)\n  a, b := b, a\n:\n",
+        Some("  [2]INT v:\n  INT i:\n  swap (v[i], v[1])\n:\n"),
+        "refused 40 Overlap line 7",
+    ),
+    Whole(
+        "PROC f ([]INT a, INT b)\n  SKIP\n:\n",
+        Some("  [2]INT v:\n  f (v, v[1])\n:\n"),
+        "refused 40 Overlap line 6",
+    ),
+    Whole(
+        "PROC swap (INT a, b)\n  a, b := b, a\n:\n",
+        Some("  [2]INT v:\n  swap (v[0], v[1])\n:\n"),
+        "",
+    ),
+    Whole(
+        "PROC f (VAL INT a, INT b)\n  b := a\n:\n",
+        Some("  INT x:\n  f (x, x)\n:\n"),
+        "",
+    ),
+    // what is never called isn't looked at
+    Whole("PROC f ()\n  f ()\n:\n", Some("  SKIP\n:\n"), ""),
+    Whole(
+        "PROC f ()\n  f ()\n:\n",
+        Some("  f ()\n:\n"),
+        "refused 30 Unknown line 2 f",
+    ),
+    Whole(
+        "PROC f (INT a, a)\n  SKIP\n:\n",
+        Some("  INT x, y:\n  f (x, y)\n:\n"),
+        "refused 31 Twice line 1 a",
+    ),
+    Whole(
+        "PROC f (INT a, b)\n  SKIP\n:\n",
+        Some("  INT x, y:\n  f (x, y)\n:\n"),
+        "",
+    ),
+    // the usage rules, in the line of the use
+    Whole(
+        "PROC inc (INT n)\n  n := n + 1\n:\n",
+        Some("  INT n:\n  PAR\n    inc (n)\n    inc (n)\n:\n"),
+        "refused 50 SharedVariable line 2 n",
+    ),
+    Whole(
+        "PROC inc (INT a)\n  a := a + 1\n:\n",
+        Some("  [2]INT v:\n  PAR\n    inc (v[0])\n    inc (v[1])\n:\n"),
+        "",
+    ),
+];
+
+const LISTS: [Body; 12] = [
+    // 41: lists of targets
+    Body(
+        "  INT i:\n  [2]INT v:\n  i, v[i] := 1, 2\n",
+        "refused 41 ListTarget line 4",
+    ),
+    Body("  INT x:\n  x, x := 1, 2\n", "refused 41 ListTarget line 3"),
+    Body(
+        "  [2]INT v:\n  v[0], v[0] := 1, 2\n",
+        "refused 41 ListTarget line 3",
+    ),
+    Body(
+        "  [2]INT v:\n  v, v[0] := v, 2\n",
+        "refused 41 ListTarget line 3",
+    ),
+    Body(
+        "  PROTOCOL p IS INT; INT:\n  CHAN OF p c:\n  INT x:\n  c ? x; x\n",
+        "refused 41 ListTarget line 5",
+    ),
+    Body("  INT i:\n  [2]INT v:\n  v[i], v[0] := 1, 2\n", ""),
+    Body("  [2]INT v:\n  v[0], v[1] := 1, 2\n", ""),
+    Body("  INT i, j:\n  [2]INT v:\n  j, v[i] := 1, 2\n", ""),
+    // 43: limits
+    Body("  [65537]INT a:\n  SKIP\n", "refused 43 TooLarge"),
+    Body("  [4094]CHAN OF INT c:\n  SKIP\n", "refused 43 TooLarge"),
+    Body("  [4093]CHAN OF INT c:\n  SKIP\n", ""),
+    Body("  PAR i = 0 FOR 4096\n    SKIP\n", "refused 43 TooLarge"),
+];
+
+const MAINS: [Whole; 12] = [
+    // 42: the main process
+    Whole("", None, "refused 42 NoMain"),
+    Whole("VAL n IS 1:\n", None, "refused 42 NoMain"),
+    Whole("PROC main ()\n  SKIP\n:\n", None, "refused 42 NoMain"),
+    Whole(
+        "PROC main (CHAN OF INT keyboard)\n  SKIP\n:\n",
+        None,
+        "refused 42 NoMain",
+    ),
+    Whole(
+        "PROC main (CHAN OF BYTE a, b, c, d)\n  SKIP\n:\n",
+        None,
+        "refused 42 NoMain",
+    ),
+    Whole("PROC main (INT x)\n  SKIP\n:\n", None, "refused 42 NoMain"),
+    Whole("PROC main (CHAN OF BYTE keyboard)\n  SKIP\n:\n", None, ""),
+    Whole("PROC main (CHAN OF BYTE a, b, c)\n  SKIP\n:\n", None, ""),
+    Whole("", Some("  SKIP\n:\nVAL n IS m:\n"), ""),
+    Whole("", Some("  [65536]BYTE a:\n  SKIP\n:\n"), ""),
+    Whole("", Some("  PAR i = 0 FOR 4095\n    SKIP\n:\n"), ""),
+    Whole("VAL n IS 2:\n", Some("  [n]INT a:\n  SKIP\n:\n"), ""),
+];
+
+const HEADER: &str = "PROC main (CHAN OF BYTE keyboard, screen)\n";
+
+/// Why a source is refused before it is compiled; empty where it is not.
+pub(crate) fn refusal(alloc: Global, source: &str) -> Result<String, AllocError> {
+    let mut answer = Vec::new(alloc);
+    let mut out = Counted::new(&mut answer);
+    match play(
+        alloc,
+        source.as_bytes(),
+        b"",
+        &Plan::Turns(0),
+        false,
+        &mut out,
+    ) {
+        Err(PlayFault::Check(fault)) => fault.to_string(alloc),
+        Err(PlayFault::Usage(fault)) => fault.to_string(alloc),
+        Err(PlayFault::Text(fault)) => fault.to_string(alloc),
+        Err(PlayFault::Parse(fault)) => fault.to_string(alloc),
+        _ => Ok(String::new(alloc)),
+    }
+}
+
+/// The source of a row.
+fn source_of(alloc: Global, row: &Whole) -> Result<String, AllocError> {
+    match row.1 {
+        Some(below) => format!(in alloc; "{}{HEADER}{below}", row.0),
+        None => String::from_str(alloc, row.0),
+    }
+}
+
+pub(crate) fn check_bodies(rt: &impl Abort, alloc: Global, rows: &[Body]) -> Result<(), Fail> {
+    for row in rows {
+        let source = format!(in alloc; "{HEADER}{}:\n", row.0)?;
+        let found = refusal(alloc, source.as_str())?;
+        assert_eq!(rt; found.as_str(), row.1, "{source}");
+    }
+    Ok(())
+}
+
+fn check_wholes(rt: &impl Abort, alloc: Global, rows: &[Whole]) -> Result<(), Fail> {
+    for row in rows {
+        let source = source_of(alloc, row)?;
+        let found = refusal(alloc, source.as_str())?;
+        assert_eq!(rt; found.as_str(), row.2, "{source}");
+    }
+    Ok(())
+}
+
+#[test]
+fn names(rt: HostRuntime) -> Result<(), Fail> {
+    check_bodies(&rt, rt.alloc(), &NAMES)
+}
+
+#[test]
+fn kinds(rt: HostRuntime) -> Result<(), Fail> {
+    check_bodies(&rt, rt.alloc(), &KINDS)
+}
+
+#[test]
+fn types(rt: HostRuntime) -> Result<(), Fail> {
+    check_bodies(&rt, rt.alloc(), &TYPES)
+}
+
+#[test]
+fn constants(rt: HostRuntime) -> Result<(), Fail> {
+    check_bodies(&rt, rt.alloc(), &CONSTANTS)
+}
+
+#[test]
+fn protocols(rt: HostRuntime) -> Result<(), Fail> {
+    check_bodies(&rt, rt.alloc(), &PROTOCOLS)
+}
+
+#[test]
+fn calls(rt: HostRuntime) -> Result<(), Fail> {
+    check_wholes(&rt, rt.alloc(), &CALLS)
+}
+
+#[test]
+fn lists(rt: HostRuntime) -> Result<(), Fail> {
+    check_bodies(&rt, rt.alloc(), &LISTS)
+}
+
+/// So many procedures, each of which calls the one before.
+fn chain(alloc: Global, length: u32) -> Result<String, AllocError> {
+    let mut source = format!(in alloc; "PROC p0 ()\n  SKIP\n:\n")?;
+    for number in 1..length {
+        let before = number.saturating_sub(1);
+        source.push_str(format!(in alloc; "PROC p{number} ()\n  p{before} ()\n:\n")?.as_str())?;
+    }
+    let last = length.saturating_sub(1);
+    source.push_str(format!(in alloc; "{HEADER}  p{last} ()\n:\n")?.as_str())?;
+    Ok(source)
+}
+
+#[test]
+fn long_chains_of_calls(rt: HostRuntime) -> Result<(), Fail> {
+    let alloc = rt.alloc();
+    let source = chain(alloc, 30_000)?;
+    let found = refusal(alloc, source.as_str())?;
+    assert_eq!(rt; found.as_str(), "");
+    Ok(())
+}
+
+/// An assignment of so many operands that AND joins.
+fn conjunction(alloc: Global, operands: u32) -> Result<String, AllocError> {
+    let mut source = format!(in alloc; "{HEADER}  BOOL b:\n  b := b")?;
+    for _ in 1..operands {
+        source.push_str(" AND b")?;
+    }
+    source.push_str("\n:\n")?;
+    Ok(source)
+}
+
+#[test]
+fn long_conjunctions(rt: HostRuntime) -> Result<(), Fail> {
+    let alloc = rt.alloc();
+    for (operands, wanted) in [
+        (190, ""),
+        (300, "refused 43 TooLarge"),
+        (1_000, "refused 43 TooLarge"),
+        (100_000, "memory"),
+    ] {
+        let source = conjunction(alloc, operands)?;
+        let found = refusal(alloc, source.as_str())?;
+        assert_eq!(rt; found.as_str(), wanted, "{operands} operands");
+    }
+    Ok(())
+}
+
+#[test]
+fn mains(rt: HostRuntime) -> Result<(), Fail> {
+    check_wholes(&rt, rt.alloc(), &MAINS)
+}
