@@ -126,10 +126,10 @@ pub(crate) fn check_run(rt: &impl Abort, alloc: Global, run: &Run) -> Result<(),
     assert_eq!(rt; answer.as_slice(), run.answer, "{source}");
     assert_eq!(rt; status_of(&played), run.status, "{source}");
     let used = match played {
-        Ok(played) => played.choices.len(),
-        Err(_) => 0,
+        Ok(played) => played.choices,
+        Err(_fault) => Vec::new(alloc),
     };
-    assert_eq!(rt; used, run.used, "{source}");
+    assert_eq!(rt; used.len(), run.used, "{source}");
     Ok(())
 }
 

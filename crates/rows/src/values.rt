@@ -249,17 +249,25 @@ fn conversions(rt: HostRuntime) -> Result<(), Fail> {
     Ok(())
 }
 
+fn check_and(rt: &impl Abort, alloc: Global, left: i32, wanted: &str) -> Result<(), Fail> {
+    let right = divides_by_zero(alloc)?;
+    let e = and(alloc, number(left), right)?;
+    check(rt, alloc, &e, wanted)
+}
+
+fn check_or(rt: &impl Abort, alloc: Global, left: i32, wanted: &str) -> Result<(), Fail> {
+    let right = divides_by_zero(alloc)?;
+    let e = or(alloc, number(left), right)?;
+    check(rt, alloc, &e, wanted)
+}
+
 #[test]
 fn lazy_operators(rt: HostRuntime) -> Result<(), Fail> {
     let alloc = rt.alloc();
-    let e = and(alloc, number(0), divides_by_zero(alloc)?)?;
-    check(&rt, alloc, &e, "0")?;
-    let e = and(alloc, number(1), divides_by_zero(alloc)?)?;
-    check(&rt, alloc, &e, "Arith 3")?;
-    let e = or(alloc, number(1), divides_by_zero(alloc)?)?;
-    check(&rt, alloc, &e, "1")?;
-    let e = or(alloc, number(0), divides_by_zero(alloc)?)?;
-    check(&rt, alloc, &e, "Arith 3")
+    check_and(&rt, alloc, 0, "0")?;
+    check_and(&rt, alloc, 1, "Arith 3")?;
+    check_or(&rt, alloc, 1, "1")?;
+    check_or(&rt, alloc, 0, "Arith 3")
 }
 
 #[test]

@@ -1,9 +1,10 @@
 use Rattle.std.proofs.Common.{◌≡◌, ◌∙◌, ap, refl, subst, sym, ℤ, IsTrue, None, arith, rules, FitsSigned, w32, w64, to_z, of_z}
 use Rattle.std.proofs.lemmas.Int.{ints, to_z-of_z}
 use Rattle.std.proofs.lemmas.Bool.Decides.{nat_tests}
-use Rattle.occ_term.specs.Messages.{Int, is_of}
+use Rattle.occ_term.specs.Messages.{is_of}
+use Rattle.occ_term.specs.declared.primitive.Primitive.TheVariants.{Int}
 use Rattle.occ_term.specs.Terms as T
-use Rattle.occ_term.specs.Terms.{Plus}
+use Rattle.occ_term.specs.declared.expression.Operator.TheVariants.{Plus}
 use Rattle.occ_term.specs.Typing.{takes_arithmetic}
 use Rattle.occ_term.specs.Frames.{Variables}
 use Rattle.occ_term.specs.Evaluation.{CanBeEvaluated}
