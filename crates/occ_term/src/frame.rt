@@ -25,7 +25,7 @@ impl Model for Frame {
 }
 
 impl Frame {
-    /// A frame of these cells and of so many replicated SEQs, where all is 0.
+    /// A frame of these cells and of so many counters of replicated SEQs, where all is 0.
     pub fn new(alloc: Global, cells: &[u32], loops: usize) -> Result<Frame, AllocError>
         ensures { IfOk result (λ f. f ≡ zero_frame cells.now loops) }
     {

@@ -53,7 +53,7 @@ pub enum Instr {
     ClearCells(u32, u32),
     /// Goes on behind the skip.
     Jump(usize),
-    /// Takes a truth value: FALSE goes on behind the skip.
+    /// Takes a truth value: TRUE empties the stack, and FALSE goes on behind the skip.
     Choose(usize),
     /// Takes the value on top where it is among the constants, else goes on behind the skip.
     IfAmong(Items<i64>, usize),
