@@ -1,0 +1,13 @@
+//! Laws of the definitions. Each function's contract is the law; its body does nothing.
+
+ghost use Rattle.occ_net.specs.Following.{ReadyTasksStop, ReplaysAreRuns};
+
+/// A replay of the code of a lawful program is a run of the program.
+pub fn replays_are_runs()
+    ensures { ReplaysAreRuns }
+{}
+
+/// In a replay each task that may take a turn has one.
+pub fn ready_tasks_stop()
+    ensures { ReadyTasksStop }
+{}
