@@ -1,4 +1,4 @@
--- Laws of the code of sequential processes.
+-- Laws of the code of sequential processes, as it is emitted: with the numbers of cells.
 -- Manual: nothing; this is (own).
 use Rattle.std.specs.Prelude.{List, [], length, slice_get, ℕ, ℤ, ◌<◌, ◌+◌, ◌++◌, ◌∷◌, ◌≡◌, Some}
 use Rattle.occ_term.specs.declared.fault.Fault.{Fault}
@@ -8,7 +8,7 @@ use Rattle.occ_term.specs.Values.{Evaluated, Value, Fails, value_of, parts_of}
 use Rattle.occ_term.specs.Storing.{Spot, spots_of}
 use Rattle.occ_term.specs.Frames.{Variables, at}
 use Rattle.occ_code.specs.declared.task.Wait.TheVariants.{Faulted}
-use Rattle.occ_code.specs.Sequential.Machine.{Instruction, Point, point, Stops, effect, Walks, counter_at, counters_with, kept_as, kept_value}
+use Rattle.occ_code.specs.Sequential.Machine.{Instruction, by_cell, Point, point, Stops, effect, Walks, counter_at, counters_with, kept_as, kept_value}
 use Rattle.occ_code.specs.Sequential.Expressions.{expression_code, items_code, targets_code}
 
 -- these instructions stand from the one place to the other
@@ -20,12 +20,12 @@ StandsAt code pc (i ∷ is) pc' = (slice_get code pc ≡ Some i) × StandsAt cod
 pub record FaultsAt (code : List Instruction) (a : Point) (f : Variables) (e : Fault) : Type 0 where
   pub last : Point
   pub stands : ℕ
-  pub walks : Walks code a last
-  pub stops : effect code last ≡ Stops stands f (Faulted e)
+  pub walks : Walks by_cell code a last
+  pub stops : effect by_cell code last ≡ Stops stands f (Faulted e)
 
 -- from a point to what an evaluation gives, or to its fault, by instructions in a row
 pub data Comes {X : Type 0} (code : List Instruction) (f : Variables) (a : Point) : Evaluated X → (X → Point) → Type 0 where
-  comes : {x : X} {to : X → Point} → Walks code a (to x) → Comes code f a (Value x) to
+  comes : {x : X} {to : X → Point} → Walks by_cell code a (to x) → Comes code f a (Value x) to
   fails : {e : Fault} {to : X → Point} → FaultsAt code a f e → Comes code f a (Fails e) to
 
 -- an expression's code brings its value to the top of the stack
