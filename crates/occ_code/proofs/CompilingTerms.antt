@@ -1,13 +1,14 @@
 -- The compiled form of a sequential term keeps what the code of a program promises.
 use Rattle.std.proofs.Common.{◌≤◌, ◌<◌, ◌*◌, ℕ, IsTrue, length, ◌≡◌, ◌++◌, ◌∷◌, [], List, ◌∙◌, refl, sym, ap, subst, arith}
+use Rattle.std.proofs.lemmas.List.{length-map}
 use Rattle.occ_term.specs.Terms.{Term, Skip, Stop, Assign, Input, Output, VariantInput, Seq, Par, Alt, If, Case, While, Each, Clear, Local, Terms, no_terms, then_term, Variants, no_variants, or_variant, Choices, no_choices, or_choice, declared_choices, each_choice, Options, no_options, or_option, or_else}
 use Rattle.occ_term.specs.Unfolding.{Unfolding, IsWellFormed, declared, meaning}
 use Rattle.occ_term.specs.Sizes.{size_of}
 use Rattle.occ_term.specs.Processes.{branches_in, branches_in_terms, branches_in_variants, branches_in_choices, branches_in_options, processes_of, numbered}
 use Rattle.occ_term.specs.declared.names.Channel.{Channel}
-use Rattle.occ_code.specs.Sequential.Machine.{Body}
+use Rattle.occ_code.specs.Sequential.Machine.{Body, placed}
 use Rattle.occ_code.specs.Sequential.Alike.{DoesAs}
-use Rattle.occ_code.specs.Sequential.Emitted.{is_sequential, are_sequential, variants_are_sequential, choices_are_sequential, options_are_sequential}
+use Rattle.occ_code.specs.Sequential.Emitted.{is_sequential, are_sequential, variants_are_sequential, choices_are_sequential, options_are_sequential, whole_code}
 use Rattle.occ_code.specs.Sequential.Compiled.{AllDo, IsCompiledFrom, IsQuantum, CodeRefuses, IsBodyOf, IsRefused, most_instructions}
 use Rattle.occ_code.specs.declared.compiler.code.CodeFault.{CodeFault}
 use Rattle.occ_code.specs.declared.compiler.code.CodeFault.TheVariants.{TooLarge, Early, BadQuantum, Memory}
@@ -70,7 +71,7 @@ pub refused_as : (u : Unfolding) (quantum : ℕ) (fault : CodeFault) → IsQuant
 refused_as u quantum TooLarge between h = (between, too_long u h)
   where
     too_long : (u : Unfolding) → IsRefused TooLarge (meaning u) → most_instructions < 32 * (size_of (meaning u)).nodes
-    too_long u h = let g = bodies_are_small (meaning u) [] [] 1 in omega (arith, h, g)
+    too_long u h = let g = bodies_are_small (meaning u) [] [] 1 in omega (arith, h, g, length-map (whole_code (meaning u)) (placed []))
 refused_as u quantum (Early line) between h = (between, h)
 refused_as u quantum BadQuantum between h = absurd h
 refused_as u quantum Memory between h = between

@@ -3,6 +3,7 @@ mod SequentialExpressions
 mod SequentialItems
 mod SequentialReads
 mod SequentialFrames
+mod PlacedCode
 mod SequentialStatements
 mod SequentialCounters
 mod SequentialResults
@@ -14,4 +15,5 @@ mod SequentialExamples
 mod Emitting
 mod EmittingTerms
 mod CellRows
+mod PlacedInstrs
 mod CompilingTerms

@@ -4,7 +4,7 @@ use Rattle.std.proofs.Common.{◌≡◌, ◌∙◌, ℕ, zero, suc, ℤ, pos, �
 use Rattle.std.proofs.lemmas.Bool.Decides.{nat_tests}
 use Rattle.occ_term.specs.Values.{Store, store_with}
 use Rattle.occ_term.specs.Frames.{Variables}
-use Rattle.occ_code.specs.Sequential.Machine.{counter_at, counters_with, with_counter, kept_as, kept_value, turning}
+use Rattle.occ_code.specs.Sequential.Machine.{by_cell, counter_at, counters_with, with_counter, kept_as, kept_value, turning}
 use Rattle.occ_code.specs.Sequential.Layout.{Counts}
 use Rattle.occ_code.proofs.SequentialFrames.{HoldsAs, one_held}
 
@@ -62,14 +62,14 @@ counts_kept slot v n xs ys k h = (k.same slot (omega arith) ∙ h.0, ap (λ m. k
 -- ---- an index that has its next value
 
 module _ (f : Variables) (slot index n : ℕ) (v : ℤ) where
-  pub turning_keeps : KeepsBelow slot f.left (turning f slot index n v).left
+  pub turning_keeps : KeepsBelow slot f.left (turning by_cell f slot index n v).left
   turning_keeps =
       record {
         as_long = length-counters_with (counters_with f.left slot n) (slot + 1) (kept_as v) ∙ length-counters_with f.left slot n;
         same = λ i h. counter_kept (counters_with f.left slot n) (slot + 1) i (kept_as v) (λ e. omega arith) ∙ counter_kept f.left slot i n (λ e. omega arith);
       }
 
-  pub turning_counts : slot + 1 < length f.left → Counts (turning f slot index n v).left slot (v +ℤ pos 1) n
+  pub turning_counts : slot + 1 < length f.left → Counts (turning by_cell f slot index n v).left slot (v +ℤ pos 1) n
   turning_counts h =
       let long = length-counters_with f.left slot n in
       let within : slot + 1 < length (counters_with f.left slot n) = omega (arith, long, h) in
@@ -77,5 +77,5 @@ module _ (f : Variables) (slot index n : ℕ) (v : ℤ) where
       let apart : slot + 1 ≡ slot → ⊥ = λ e. omega arith in
       (counter_kept (counters_with f.left slot n) (slot + 1) slot (kept_as v) apart ∙ counter_set f.left slot n first, ap (λ m. kept_value m +ℤ pos 1) (counter_set (counters_with f.left slot n) (slot + 1) (kept_as v) within) ∙ ap (λ x. x +ℤ pos 1) (value_kept v))
 
-  pub turning_held : (cells : List ℕ) (s : Store) → HoldsAs cells f s → HoldsAs cells (turning f slot index n v) (store_with s index v)
+  pub turning_held : (cells : List ℕ) (s : Store) → HoldsAs cells f s → HoldsAs cells (turning by_cell f slot index n v) (store_with s index v)
   turning_held cells s h = counter_held cells _ _ (slot + 1) (kept_as v) (counter_held cells _ _ slot n (one_held cells f s index v h))

@@ -7,16 +7,16 @@ use Rattle.occ_term.specs.Terms.{Expression, Constant, Cell, Component, Letter, 
 use Rattle.occ_term.specs.Values.{Evaluated, Value, Fails, after, holds, binary, unary, converted, subscript, Span, first_of, value_of, span_of, offset_of}
 use Rattle.occ_term.specs.Storing.{Spot}
 use Rattle.occ_term.specs.Frames.{Variables, at}
-use Rattle.occ_code.specs.Sequential.Machine.{Instruction, AndThen, OrElse, Point, point, Moves, act, going, Walks, here, on}
+use Rattle.occ_code.specs.Sequential.Machine.{by_cell, Instruction, AndThen, OrElse, Point, point, Moves, act, going, Walks, here, on}
 use Rattle.occ_code.specs.Sequential.Expressions.{expression_code, place_code, subscripts_code}
 use Rattle.occ_code.specs.Sequential.Laws.{StandsAt, FaultsAt, Comes, comes, fails, ExpressionsRun}
 use Rattle.occ_code.proofs.SequentialPlaces.{split, place_after, walks_on}
 
 module _ (code : List Instruction) (f : Variables) where
-  pub fault_on : {a b : Point} {e : _} → Walks code a b → FaultsAt code b f e → FaultsAt code a f e
+  pub fault_on : {a b : Point} {e : _} → Walks by_cell code a b → FaultsAt code b f e → FaultsAt code a f e
   fault_on w x = record { last = x.last; stands = x.stands; walks = walks_on w x.walks; stops = x.stops }
 
-  pub comes_on : {X : Type 0} {a b : Point} {to : X → Point} (v : Evaluated X) → Walks code a b → Comes code f b v to → Comes code f a v to
+  pub comes_on : {X : Type 0} {a b : Point} {to : X → Point} (v : Evaluated X) → Walks by_cell code a b → Comes code f b v to → Comes code f a v to
   comes_on (Value x) w (comes c) = comes (walks_on w c)
   comes_on (Fails e) w (fails c) = fails (fault_on w c)
 
@@ -27,14 +27,14 @@ module _ (code : List Instruction) (f : Variables) where
 
   -- one instruction that goes on with what an evaluation gives
   pub comes_by : {X : Type 0} (pc : ℕ) (st : List ℤ) (q : List Part) (sp : List Spot) (i : Instruction) (v : Evaluated X) (to : X → Point)
-      → slice_get code pc ≡ Some i → act (Some i) pc st q sp f ≡ going pc f v to → Comes code f (point pc st q sp f) v to
-  comes_by pc st q sp i (Value x) to h e = comes (on (ap (λ o. act o pc st q sp f) h ∙ e) here)
+      → slice_get code pc ≡ Some i → act by_cell (Some i) pc st q sp f ≡ going pc f v to → Comes code f (point pc st q sp f) v to
+  comes_by pc st q sp i (Value x) to h e = comes (on (ap (λ o. act by_cell o pc st q sp f) h ∙ e) here)
   comes_by pc st q sp i (Fails x) to h e =
-      fails (record { last = point pc st q sp f; stands = pc; walks = here; stops = ap (λ o. act o pc st q sp f) h ∙ e })
+      fails (record { last = point pc st q sp f; stands = pc; walks = here; stops = ap (λ o. act by_cell o pc st q sp f) h ∙ e })
 
   pub steps_to : (pc : ℕ) (st : List ℤ) (q : List Part) (sp : List Spot) (i : Instruction) (b : Point)
-      → slice_get code pc ≡ Some i → act (Some i) pc st q sp f ≡ Moves b → Walks code (point pc st q sp f) b
-  steps_to pc st q sp i b h e = on (ap (λ o. act o pc st q sp f) h ∙ e) here
+      → slice_get code pc ≡ Some i → act by_cell (Some i) pc st q sp f ≡ Moves b → Walks by_cell code (point pc st q sp f) b
+  steps_to pc st q sp i b h e = on (ap (λ o. act by_cell o pc st q sp f) h ∙ e) here
 
   pub comes_at : {X : Type 0} (a : Point) (v : Evaluated X) (m n : ℕ) (to : ℕ → X → Point) → m ≡ n → Comes code f a v (to m) → Comes code f a v (to n)
   comes_at a v m n to e c = subst (λ x. Comes code f a v (to x)) e c
@@ -49,27 +49,27 @@ module _ (code : List Instruction) (f : Variables) where
     and_chosen : (st : List ℤ) (pc pc' : ℕ) (b : Expression) (x : ℤ) (skip : ℕ) (t : Bool) → holds x ≡ t → slice_get code pc ≡ Some (AndThen skip) → pc + 1 + skip ≡ pc'
         → Comes code f (point (pc + 1) st q sp f) (value_of b (at f)) (on_top st pc') → Comes code f (on_top st pc x) (if holds x then value_of b (at f) else Value (pos 0)) (on_top st pc')
     and_chosen st pc pc' b x skip true e h len c =
-        let w : Walks code (on_top st pc x) (point (pc + 1) st q sp f) = steps_to pc (x ∷ st) q sp (AndThen skip) (point (pc + 1) st q sp f) h (rw e refl) in
+        let w : Walks by_cell code (on_top st pc x) (point (pc + 1) st q sp f) = steps_to pc (x ∷ st) q sp (AndThen skip) (point (pc + 1) st q sp f) h (rw e refl) in
         rw e (comes_on (value_of b (at f)) w c)
     and_chosen st pc pc' b x skip false e h len c =
-        let w : Walks code (on_top st pc x) (on_top st (pc + 1 + skip) (pos 0)) = steps_to pc (x ∷ st) q sp (AndThen skip) (on_top st (pc + 1 + skip) (pos 0)) h (rw e refl) in
-        rw e (comes (subst (λ n. Walks code (on_top st pc x) (on_top st n (pos 0))) len w))
+        let w : Walks by_cell code (on_top st pc x) (on_top st (pc + 1 + skip) (pos 0)) = steps_to pc (x ∷ st) q sp (AndThen skip) (on_top st (pc + 1 + skip) (pos 0)) h (rw e refl) in
+        rw e (comes (subst (λ n. Walks by_cell code (on_top st pc x) (on_top st n (pos 0))) len w))
 
     or_chosen : (st : List ℤ) (pc pc' : ℕ) (b : Expression) (x : ℤ) (skip : ℕ) (t : Bool) → holds x ≡ t → slice_get code pc ≡ Some (OrElse skip) → pc + 1 + skip ≡ pc'
         → Comes code f (point (pc + 1) st q sp f) (value_of b (at f)) (on_top st pc') → Comes code f (on_top st pc x) (if holds x then Value (pos 1) else value_of b (at f)) (on_top st pc')
     or_chosen st pc pc' b x skip true e h len c =
-        let w : Walks code (on_top st pc x) (on_top st (pc + 1 + skip) (pos 1)) = steps_to pc (x ∷ st) q sp (OrElse skip) (on_top st (pc + 1 + skip) (pos 1)) h (rw e refl) in
-        rw e (comes (subst (λ n. Walks code (on_top st pc x) (on_top st n (pos 1))) len w))
+        let w : Walks by_cell code (on_top st pc x) (on_top st (pc + 1 + skip) (pos 1)) = steps_to pc (x ∷ st) q sp (OrElse skip) (on_top st (pc + 1 + skip) (pos 1)) h (rw e refl) in
+        rw e (comes (subst (λ n. Walks by_cell code (on_top st pc x) (on_top st n (pos 1))) len w))
     or_chosen st pc pc' b x skip false e h len c =
-        let w : Walks code (on_top st pc x) (point (pc + 1) st q sp f) = steps_to pc (x ∷ st) q sp (OrElse skip) (point (pc + 1) st q sp f) h (rw e refl) in
+        let w : Walks by_cell code (on_top st pc x) (point (pc + 1) st q sp f) = steps_to pc (x ∷ st) q sp (OrElse skip) (point (pc + 1) st q sp f) h (rw e refl) in
         rw e (comes_on (value_of b (at f)) w c)
 
     mutual
       pub expression_runs : (e : Expression) (pc pc' : ℕ) (st : List ℤ) → StandsAt code pc (expression_code e) pc' → Comes code f (point pc st q sp f) (value_of e (at f)) (on_top st pc')
       expression_runs (Constant v) pc pc' st h =
-          comes (subst (λ n. Walks code (point pc st q sp f) (on_top st n v)) h.1 (steps_to pc st q sp _ (on_top st (pc + 1) v) h.0 refl))
+          comes (subst (λ n. Walks by_cell code (point pc st q sp f) (on_top st n v)) h.1 (steps_to pc st q sp _ (on_top st (pc + 1) v) h.0 refl))
       expression_runs (Cell c) pc pc' st h =
-          comes (subst (λ n. Walks code (point pc st q sp f) (on_top st n (at f c))) h.1 (steps_to pc st q sp _ (on_top st (pc + 1) (at f c)) h.0 refl))
+          comes (subst (λ n. Walks by_cell code (point pc st q sp f) (on_top st n (at f c))) h.1 (steps_to pc st q sp _ (on_top st (pc + 1) (at f c)) h.0 refl))
       expression_runs (Component p) pc pc' st h =
           let (m, a, l) = split code pc pc' (place_code p) _ h in
           comes_then (span_of p (at f)) (λ x. Value (at f (first_of x))) (place_runs p pc m st a)
@@ -111,8 +111,8 @@ module _ (code : List Instruction) (f : Variables) where
 
       pub subscripts_run : (subs : Subscripts) (line first : ℕ) (sizes : List ℕ) (pc pc' : ℕ) (st : List ℤ) → StandsAt code pc (subscripts_code subs line sizes) pc'
           → Comes code f (on_top st pc (pos first)) (offset_of subs line first sizes (at f)) (cell_on_top st pc')
-      subscripts_run no_subscripts line first sizes pc pc' st h = comes (subst (λ n. Walks code (on_top st pc (pos first)) (on_top st n (pos first))) h here)
-      subscripts_run (then_subscript e es) line first [] pc pc' st h = comes (subst (λ n. Walks code (on_top st pc (pos first)) (on_top st n (pos first))) h here)
+      subscripts_run no_subscripts line first sizes pc pc' st h = comes (subst (λ n. Walks by_cell code (on_top st pc (pos first)) (on_top st n (pos first))) h here)
+      subscripts_run (then_subscript e es) line first [] pc pc' st h = comes (subst (λ n. Walks by_cell code (on_top st pc (pos first)) (on_top st n (pos first))) h here)
       subscripts_run (then_subscript e es) line first (n ∷ ns) pc pc' st h =
           let (m, a, l) = split code pc pc' (expression_code e) _ h in
           comes_then (value_of e (at f)) (λ v. after (subscript line n v) (λ i. offset_of es line (first + i * product ns) ns (at f))) (expression_runs e pc m (pos first ∷ st) a)

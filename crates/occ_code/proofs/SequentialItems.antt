@@ -9,7 +9,7 @@ use Rattle.occ_term.specs.Values.{Store, Evaluated, Value, Fails, after, subscri
 use Rattle.occ_term.specs.Storing.{Spot, At, AtCounted, spot_of, spots_of}
 use Rattle.occ_term.specs.Uses.{components}
 use Rattle.occ_term.specs.Frames.{Variables, at}
-use Rattle.occ_code.specs.Sequential.Machine.{Instruction, Point, point, Moves, Walks, here}
+use Rattle.occ_code.specs.Sequential.Machine.{by_cell, Instruction, Point, point, Moves, Walks, here}
 use Rattle.occ_code.specs.Sequential.Expressions.{expression_code, place_code, components_at, item_code, items_code, target_code, targets_code}
 use Rattle.occ_code.specs.Sequential.Laws.{StandsAt, Comes, comes, fails}
 use Rattle.occ_code.proofs.SequentialPlaces.{split}
@@ -81,12 +81,12 @@ module _ (code : List Instruction) (f : Variables) where
 
     pub items_run : (is : List Item) (q : List Part) (pc pc' : ℕ) → StandsAt code pc (items_code is) pc' → Comes code f (point pc st q sp f) (parts_of is (at f)) (λ ps. point pc' st (q ++ ps) sp f)
     items_run [] q pc pc' h =
-        comes (subst (λ n. Walks code (point pc st q sp f) (point n st (q ++ []) sp f)) h (subst (λ r. Walks code (point pc st q sp f) (point pc st r sp f)) (sym (append-nil q)) here))
+        comes (subst (λ n. Walks by_cell code (point pc st q sp f) (point n st (q ++ []) sp f)) h (subst (λ r. Walks by_cell code (point pc st q sp f) (point pc st r sp f)) (sym (append-nil q)) here))
     items_run (i ∷ is) q pc pc' h =
         let (m, a, l) = split code pc pc' (item_code i) _ h in
         comes_then code f (part_of i (at f)) (λ p. after (parts_of is (at f)) (λ ps. Value (p ∷ ps))) (item_runs i q pc m a)
         (λ p y. comes_then code f (parts_of is (at f)) (λ ps. Value (p ∷ ps)) (items_run is (q ++ p ∷ []) m pc' l)
-        (λ ps z. comes (subst (λ r. Walks code (point pc' st ((q ++ p ∷ []) ++ ps) sp f) (point pc' st r sp f)) (append_assoc q (p ∷ []) ps) here)))
+        (λ ps z. comes (subst (λ r. Walks by_cell code (point pc' st ((q ++ p ∷ []) ++ ps) sp f) (point pc' st r sp f)) (append_assoc q (p ∷ []) ps) here)))
 
   -- ---- targets
 
@@ -114,9 +114,9 @@ module _ (code : List Instruction) (f : Variables) where
 
     pub targets_run : (ts : List Target) (sp : List Spot) (pc pc' : ℕ) → StandsAt code pc (targets_code ts) pc' → Comes code f (point pc st q sp f) (spots_of ts (at f)) (λ xs. point pc' st q (sp ++ xs) f)
     targets_run [] sp pc pc' h =
-        comes (subst (λ n. Walks code (point pc st q sp f) (point n st q (sp ++ []) f)) h (subst (λ r. Walks code (point pc st q sp f) (point pc st q r f)) (sym (append-nil sp)) here))
+        comes (subst (λ n. Walks by_cell code (point pc st q sp f) (point n st q (sp ++ []) f)) h (subst (λ r. Walks by_cell code (point pc st q sp f) (point pc st q r f)) (sym (append-nil sp)) here))
     targets_run (t ∷ ts) sp pc pc' h =
         let (m, a, l) = split code pc pc' (target_code t) _ h in
         comes_then code f (spot_of t (at f)) (λ x. after (spots_of ts (at f)) (λ xs. Value (x ∷ xs))) (target_runs t sp pc m a)
         (λ x y. comes_then code f (spots_of ts (at f)) (λ xs. Value (x ∷ xs)) (targets_run ts (sp ++ x ∷ []) m pc' l)
-        (λ xs z. comes (subst (λ r. Walks code (point pc' st q ((sp ++ x ∷ []) ++ xs) f) (point pc' st q r f)) (append_assoc sp (x ∷ []) xs) here)))
+        (λ xs z. comes (subst (λ r. Walks by_cell code (point pc' st q ((sp ++ x ∷ []) ++ xs) f) (point pc' st q r f)) (append_assoc sp (x ∷ []) xs) here)))

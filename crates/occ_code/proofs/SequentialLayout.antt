@@ -8,7 +8,7 @@ use Rattle.occ_code.specs.Sequential.Machine.{Instruction, End}
 use Rattle.occ_code.specs.Sequential.Expressions.{expression_code, place_code, declaration_code, declarations_code, storing_code, counting_code}
 use Rattle.occ_code.specs.Sequential.Laws.{StandsAt}
 use Rattle.occ_code.specs.Sequential.Layout.{Ways, stays, jumps, TermAt, TermsAt, VariantsAt, ChoicesAt, OptionsAt, ElseAt}
-use Rattle.occ_code.specs.Sequential.Emitted.{counters_of, counters_of_terms, counters_of_variants, counters_of_choices, counters_of_options, is_sequential, are_sequential, variants_are_sequential, choices_are_sequential, options_are_sequential, term_code, terms_code, variants_code, choices_code, options_code, else_code, CompiledDo}
+use Rattle.occ_code.specs.Sequential.Emitted.{counters_of, counters_of_terms, counters_of_variants, counters_of_choices, counters_of_options, is_sequential, are_sequential, variants_are_sequential, choices_are_sequential, options_are_sequential, term_code, terms_code, variants_code, choices_code, options_code, else_code, whole_code, body_of, CompiledDo}
 use Rattle.occ_code.proofs.SequentialPlaces.{split, place_after}
 use Rattle.occ_code.proofs.SequentialTurns.{bodies_do}
 
@@ -185,7 +185,7 @@ module _ (code : List Instruction) (loops : ℕ) where
 
 pub compiled_do : CompiledDo
 compiled_do d t cells writes quantum q typed held written h =
-    let code = term_code 0 t ++ End ∷ [] in
+    let code = whole_code t in
     let r = split code 0 (length code) (term_code 0 t) (End ∷ []) (stands_all code []) in
-    bodies_do d (record { code = code; cells = cells; writes = writes; loops = counters_of t; quantum = quantum }) t
-    (record { last = r.0; typed = typed; code = laid code (counters_of t) 0 t 0 r.0 r.0 q (omega arith) r.1 stays; ends_there = r.2.0; cells = held; writes = written; quantum = omega (arith, h) })
+    bodies_do d (body_of t cells writes quantum) t
+    (record { by_cells = code; last = r.0; typed = typed; lays_out = laid code (counters_of t) 0 t 0 r.0 r.0 q (omega arith) r.1 stays; ends_there = r.2.0; code = refl; cells = held; writes = written; quantum = omega (arith, h) })

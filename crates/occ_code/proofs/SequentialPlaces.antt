@@ -1,6 +1,6 @@
 -- Instructions at a place of the code, and walks along them.
 use Rattle.std.proofs.Common.{◌≡◌, ℕ, ◌+◌, List, [], ◌∷◌, ◌++◌, length, refl, subst, arith}
-use Rattle.occ_code.specs.Sequential.Machine.{Instruction, Point, Walks, here, on}
+use Rattle.occ_code.specs.Sequential.Machine.{by_cell, Instruction, Point, Walks, here, on}
 use Rattle.occ_code.specs.Sequential.Laws.{StandsAt}
 
 -- two pieces in a row
@@ -12,9 +12,9 @@ pub place_after : (code : List Instruction) (pc pc' : ℕ) (a : List Instruction
 place_after code pc pc' [] h = omega (arith, h)
 place_after code pc pc' (i ∷ a) h = let e = place_after code (pc + 1) pc' a h.1 in omega (arith, e)
 
-pub walks_on : {code : List Instruction} {a b c : Point} → Walks code a b → Walks code b c → Walks code a c
+pub walks_on : {code : List Instruction} {a b c : Point} → Walks by_cell code a b → Walks by_cell code b c → Walks by_cell code a c
 walks_on here w = w
 walks_on (on e v) w = on e (walks_on v w)
 
-pub to_place : (code : List Instruction) (a : Point) (m n : ℕ) (at_place : ℕ → Point) → m ≡ n → Walks code a (at_place m) → Walks code a (at_place n)
-to_place code a m n at_place e w = subst (λ x. Walks code a (at_place x)) e w
+pub to_place : (code : List Instruction) (a : Point) (m n : ℕ) (at_place : ℕ → Point) → m ≡ n → Walks by_cell code a (at_place m) → Walks by_cell code a (at_place n)
+to_place code a m n at_place e w = subst (λ x. Walks by_cell code a (at_place x)) e w

@@ -11,7 +11,7 @@ use Rattle.occ_term.specs.Turns.{Steps, none, more, SingleTurn, single_turn}
 use Rattle.occ_term.specs.Frames.{Variables}
 use Rattle.occ_code.specs.declared.task.Wait.{Wait}
 use Rattle.occ_code.specs.declared.task.Wait.TheVariants.{Ready, Offers, Awaits, Halted, Faulted}
-use Rattle.occ_code.specs.Sequential.Machine.{Instruction, Point, point, Stops, act, effect, Walks, here, on}
+use Rattle.occ_code.specs.Sequential.Machine.{by_cell, Instruction, Point, point, Stops, act, effect, Walks, here, on}
 use Rattle.occ_code.specs.Sequential.Laws.{FaultsAt, Comes, comes, fails}
 use Rattle.occ_code.specs.Sequential.Layout.{Ways, stays, jumps, slot_in, slot_before, ListAt, LoopAt, ContextAt, ContextsAt}
 use Rattle.occ_code.proofs.SequentialPlaces.{walks_on}
@@ -30,20 +30,20 @@ module _ (code : List Instruction) where
   ways_join stays w = w
   ways_join (jumps h v) w = jumps h (ways_join v w)
 
-  pub ways_walk : {a b : ℕ} (st : _) (q : _) (sp : _) (f : Variables) → Ways code a b → Walks code (point a st q sp f) (point b st q sp f)
+  pub ways_walk : {a b : ℕ} (st : _) (q : _) (sp : _) (f : Variables) → Ways code a b → Walks by_cell code (point a st q sp f) (point b st q sp f)
   ways_walk st q sp f stays = here
-  ways_walk {a = a} st q sp f (jumps h w) = on (ap (λ o. act o a st q sp f) h) (ways_walk st q sp f w)
+  ways_walk {a = a} st q sp f (jumps h w) = on (ap (λ o. act by_cell o a st q sp f) h) (ways_walk st q sp f w)
 
   pub record StopsAt (a : Point) (stands : ℕ) (g : Variables) (w : Wait) : Type 0 where
     pub last : Point
-    pub walks : Walks code a last
-    pub stops : effect code last ≡ Stops stands g w
+    pub walks : Walks by_cell code a last
+    pub stops : effect by_cell code last ≡ Stops stands g w
 
-  pub stops_after : {a b : Point} {stands : ℕ} {g : Variables} {w : Wait} → Walks code a b → StopsAt b stands g w → StopsAt a stands g w
+  pub stops_after : {a b : Point} {stands : ℕ} {g : Variables} {w : Wait} → Walks by_cell code a b → StopsAt b stands g w → StopsAt a stands g w
   stops_after v x = record { last = x.last; walks = walks_on v x.walks; stops = x.stops }
 
   pub comes_case : {X : Type 0} {R : Type 0} {a : Point} {f : Variables} {to : X → Point} (v : Evaluated X) → Comes code f a v to
-      → ((x : X) → v ≡ Value x → Walks code a (to x) → R) → ((e : Fault) → v ≡ Fails e → FaultsAt code a f e → R) → R
+      → ((x : X) → v ≡ Value x → Walks by_cell code a (to x) → R) → ((e : Fault) → v ≡ Fails e → FaultsAt code a f e → R) → R
   comes_case (Value x) (comes w) k m = k x refl w
   comes_case (Fails e) (fails z) k m = m e refl z
 
@@ -107,7 +107,7 @@ module _ (code : List Instruction) (loops : ℕ) where
       pub holds : HoldsAs cells g store
 
     pub data Result (slot : ℕ) (a : Point) (f : Variables) (x : Doing) (pc' : ℕ) : Type 0 where
-      finishes : (g : Variables) → Walks code a (point pc' [] [] [] g) → KeepsBelow slot f.left g.left → ((s : Store) → HoldsAs cells f s → Stepped s x (Do Skip) [] g) → Result slot a f x pc'
+      finishes : (g : Variables) → Walks by_cell code a (point pc' [] [] [] g) → KeepsBelow slot f.left g.left → ((s : Store) → HoldsAs cells f s → Stepped s x (Do Skip) [] g) → Result slot a f x pc'
       pauses : (stands : ℕ) (w : Wait) (y : Doing) (inner : List Context) (g : Variables) → StopsAt code a stands g w → KeepsBelow slot f.left g.left → Pause g.left slot pc' stands inner w y
           → ((s : Store) → HoldsAs cells f s → Turned s x y inner g) → Result slot a f x pc'
 
@@ -117,7 +117,7 @@ module _ (code : List Instruction) (loops : ℕ) where
 
     module _ (slot : ℕ) where
       -- first some steps
-      pub result_after : {a b : Point} {f g : Variables} {x y : Doing} {pc' : ℕ} → Walks code a b → KeepsBelow slot f.left g.left → ((s : Store) → HoldsAs cells f s → Stepped s x y [] g) → Does slot b g y pc' → Does slot a f x pc'
+      pub result_after : {a b : Point} {f g : Variables} {x y : Doing} {pc' : ℕ} → Walks by_cell code a b → KeepsBelow slot f.left g.left → ((s : Store) → HoldsAs cells f s → Stepped s x y [] g) → Does slot b g y pc' → Does slot a f x pc'
       result_after {a = a} {b = b} {f = f} {g = g} {x = x} {y = y} {pc' = pc'} w m t r room = joined (r (m.as_long ∙ room))
         where
           joined : Result slot b g y pc' → Result slot a f x pc'
@@ -127,9 +127,9 @@ module _ (code : List Instruction) (loops : ℕ) where
               pauses stands wait z inner h (stops_after code w v) (keeps_on slot m n) p (λ s hs. let r = t s hs in let r' = u r.store r.holds in record { store = r'.store; turn = λ k. after_steps (r.steps k) (r'.turn k); holds = r'.holds })
 
       -- a part that is begun within a context: `c` after it, and then the rest
-      pub result_within : {a b : Point} {f g : Variables} {x y : Doing} {n pc' : ℕ} (c : Context) → ((ys : List ℕ) → KeepsBelow (slot_before c slot) g.left ys → ContextsAt code loops ys (slot_before c slot) n (c ∷ []) slot pc') → Walks code a b
+      pub result_within : {a b : Point} {f g : Variables} {x y : Doing} {n pc' : ℕ} (c : Context) → ((ys : List ℕ) → KeepsBelow (slot_before c slot) g.left ys → ContextsAt code loops ys (slot_before c slot) n (c ∷ []) slot pc') → Walks by_cell code a b
           → KeepsBelow slot f.left g.left → ((s : Store) → HoldsAs cells f s → Stepped s x y (c ∷ []) g) → Does (slot_before c slot) b g y n
-          → ((h : Variables) → KeepsBelow (slot_before c slot) g.left h.left → Walks code a (point n [] [] [] h) → ((s : Store) → HoldsAs cells f s → Stepped s x (Do Skip) (c ∷ []) h) → Does slot a f x pc') → Does slot a f x pc'
+          → ((h : Variables) → KeepsBelow (slot_before c slot) g.left h.left → Walks by_cell code a (point n [] [] [] h) → ((s : Store) → HoldsAs cells f s → Stepped s x (Do Skip) (c ∷ []) h) → Does slot a f x pc') → Does slot a f x pc'
       result_within {a = a} {b = b} {f = f} {g = g} {x = x} {y = y} {n = n} {pc' = pc'} c at_c w m t r k room = joined (r (m.as_long ∙ room))
         where
           joined : Result (slot_before c slot) b g y n → Result slot a f x pc'

@@ -24,7 +24,7 @@ use Rattle.occ_term.specs.Typing.{HasType}
 use Rattle.occ_term.specs.TermTyping.{Declared, ChannelHas, value_parts, ItemsHave, DeclarationsHave, TermHas, TermsHave, VariantsHave, ReceptionHas, ChoicesHave, OptionsHave}
 use Rattle.occ_term.specs.Frames.{Variables, at}
 use Rattle.occ_code.specs.declared.task.Wait.TheVariants.{Ready, Offers, Awaits, Halted}
-use Rattle.occ_code.specs.Sequential.Machine.{Instruction, Choose, IfAmong, IfTag, DropOne, NextChoice, BackToChoice, Begin, Pass, passed, turning, Moves, Send, Receive, Halt, Point, point, Stops, act, Walks, here, frame_with, counting, tag_stack}
+use Rattle.occ_code.specs.Sequential.Machine.{by_cell, Instruction, Choose, IfAmong, IfTag, DropOne, NextChoice, BackToChoice, Begin, Pass, passed, turning, Moves, Send, Receive, Halt, Point, point, Stops, act, Walks, here, frame_with, counting, tag_stack}
 use Rattle.occ_code.specs.Sequential.Expressions.{expression_code, place_code, items_code, declarations_code}
 use Rattle.occ_code.specs.Sequential.Laws.{StandsAt, FaultsAt}
 use Rattle.occ_code.specs.Sequential.Layout.{Ways, stays, Counts, EachAt, TermAt, TermsAt, VariantsAt, ChoicesAt, OptionsAt, ElseAt, ListAt, LoopAt, LeadsBack}
@@ -57,7 +57,7 @@ module _ (code : List Instruction) (loops : ℕ) (cells : List ℕ) (d : Declare
 
     halts : (f : Variables) (pc pc' : ℕ) (st : List ℤ) (q : List Part) → slice_get code pc ≡ Some Halt → Does (point pc st q [] f) f (Do Stop) pc'
     halts f pc pc' st q h room =
-        pauses pc Halted S.Halted [] f (record { last = point pc st q [] f; walks = here; stops = ap (λ o. act o pc st q [] f) h }) (keeps_all slot refl) at_halt
+        pauses pc Halted S.Halted [] f (record { last = point pc st q [] f; walks = here; stops = ap (λ o. act by_cell o pc st q [] f) h }) (keeps_all slot refl) at_halt
         (λ s hs. record { store = s; turn = λ k. single_turn none stop refl; holds = hs })
 
     -- ---- outputs and inputs
@@ -76,7 +76,7 @@ module _ (code : List Instruction) (loops : ℕ) (cells : List ℕ) (d : Declare
         comes_case code (span_of c (at f)) (place_runs code f [] [] c pc a [] h)
         (λ x e v. comes_case code (parts_of is (at f)) (items_run code f (pos (first_of x) ∷ []) [] is [] a b h')
         (λ ps e' v' room. pauses (b + 1) (Offers (first_of x) (message tag ps)) (Offering (first_of x) (message tag ps)) [] f
-        (record { last = point b (pos (first_of x) ∷ []) ps [] f; walks = walks_on v v'; stops = ap (λ o. act o b (pos (first_of x) ∷ []) ps [] f) l.0 })
+        (record { last = point b (pos (first_of x) ∷ []) ps [] f; walks = walks_on v v'; stops = ap (λ o. act by_cell o b (pos (first_of x) ∷ []) ps [] f) l.0 })
         (keeps_all slot refl) (at_offer slot (refl, subst (λ n. Ways code n pc') (sym l.1) w))
         (λ s hs. record {
           store = s;
@@ -103,7 +103,7 @@ module _ (code : List Instruction) (loops : ℕ) (cells : List ℕ) (d : Declare
         items_agree : (s : Store) → HoldsAs cells f s → parts_of is s ≡ parts_of is (at f)
         items_agree s hs = parts_same d s (at f) is types hi (agrees_on code cells d (reads_of_items is) f s ki hs)
 
-        fault_after : {a b : Point} {e : Fault} → Walks code a b → FaultsAt code b f e → FaultsAt code a f e
+        fault_after : {a b : Point} {e : Fault} → Walks by_cell code a b → FaultsAt code b f e → FaultsAt code a f e
         fault_after v z = record { last = z.last; stands = z.stands; walks = walks_on v z.walks; stops = z.stops }
 
     awaits : (c : Place) (list : Reception) (x : Doing) (p : Protocol) (f : Variables) (pc n pc' : ℕ) → ChannelHas d c p → Has (reads_in_place c)
@@ -114,7 +114,7 @@ module _ (code : List Instruction) (loops : ℕ) (cells : List ℕ) (d : Declare
         let (a, h, r) = split code pc n (place_code c) _ at_place in
         comes_case code (span_of c (at f)) (place_runs code f [] [] c pc a [] h)
         (λ y e v room. pauses (a + 1) (Awaits (first_of y)) (Awaiting (first_of y) list) [] f
-        (record { last = point a (pos (first_of y) ∷ []) [] [] f; walks = v; stops = ap (λ o. act o a (pos (first_of y) ∷ []) [] [] f) r.0 })
+        (record { last = point a (pos (first_of y) ∷ []) [] [] f; walks = v; stops = ap (λ o. act by_cell o a (pos (first_of y) ∷ []) [] [] f) r.0 })
         (keeps_all slot refl) (at_await slot pc' (subst (λ m. ListAt code loops slot m list pc') (sym r.1) l) (refl, stays))
         (λ s hs. record { store = s; turn = λ k. single_turn none (step s (Awaiting (first_of y) list) k (ap (λ z. after z (λ w. Value (Awaiting (first_of w) list))) (channel_agrees c p f hc kc s hs ∙ e))) refl; holds = hs }))
         (λ err e z. faulted code loops cells slot z refl (λ s hs. record { store = s; fault_in = fault s err (ap (λ z. after z (λ w. Value (Awaiting (first_of w) list))) (channel_agrees c p f hc kc s hs ∙ e)); holds = hs }))
@@ -160,7 +160,7 @@ module _ (code : List Instruction) (loops : ℕ) (cells : List ℕ) (d : Declare
         (performs_on code cells (steps_to code f m (x ∷ st) [] [] (Choose skip) (point (m + 1 + skip) st [] [] f) h (rw e refl)) o)
 
     -- an index is set first
-    index_set : {f : Variables} {a : Point} (k : Store → Outcome (Option Term)) (c : ℕ) (v : ℤ) (b : Point) (st : List ℤ) (next pc' : ℕ) → Walks code a b → Chooses (frame_with f c v) b k st next pc' → Chooses f a (λ s. k (store_with s c v)) st next pc'
+    index_set : {f : Variables} {a : Point} (k : Store → Outcome (Option Term)) (c : ℕ) (v : ℤ) (b : Point) (st : List ℤ) (next pc' : ℕ) → Walks by_cell code a b → Chooses (frame_with f c v) b k st next pc' → Chooses f a (λ s. k (store_with s c v)) st next pc'
     index_set {f = f} k c v b st next pc' w (performs x z u t l h) =
         performs x z (walks_on w u) t l (λ s hs. let r = h (store_with s c v) (one_held cells f s c v hs) in record { store = r.store; gives_it = r.gives_it; holds = r.holds })
     index_set {f = f} k c v b st next pc' w (refuses e g z l h) =
@@ -177,7 +177,7 @@ module _ (code : List Instruction) (loops : ℕ) (cells : List ℕ) (d : Declare
         index_set (λ s. or_next (select s) (λ s'. first_over select index (v +ℤ pos 1) count s')) index v (point (m + 1) (pos count ∷ (v +ℤ pos 1) ∷ st) [] [] (frame_with f index v)) st (m + 1 + skip) pc'
         (steps_to code f m (pos (suc count) ∷ v ∷ st) [] [] (NextChoice index skip) (point (m + 1) (pos count ∷ (v +ℤ pos 1) ∷ st) [] [] (frame_with f index v)) h refl)
         (chooses_next select (λ s'. first_over select index (v +ℤ pos 1) count s') (pos count ∷ (v +ℤ pos 1) ∷ st) st n (m + 1 + skip) pc' (k (frame_with f index v) (pos count ∷ (v +ℤ pos 1) ∷ st))
-        (λ g. performs_on code cells (subst (λ x. Walks code (point n (pos count ∷ (v +ℤ pos 1) ∷ st) [] [] g) (point x (pos count ∷ (v +ℤ pos 1) ∷ st) [] [] g)) eb
+        (λ g. performs_on code cells (subst (λ x. Walks by_cell code (point n (pos count ∷ (v +ℤ pos 1) ∷ st) [] [] g) (point x (pos count ∷ (v +ℤ pos 1) ∷ st) [] [] g)) eb
         (steps_to code g n (pos count ∷ (v +ℤ pos 1) ∷ st) [] [] (BackToChoice back) (point (n - back) (pos count ∷ (v +ℤ pos 1) ∷ st) [] [] g) hb refl)) (later g)))
 
     -- ---- CASE and variants: where nothing is selected there is the halt
@@ -234,12 +234,12 @@ module _ (code : List Instruction) (loops : ℕ) (cells : List ℕ) (d : Declare
             ap (λ y. then_in (in_store y s) (λ v s'. Gives (if holds v then Some (pass body (WhileLoop e body)) else None) s')) (value_agrees e Boolean f he ke s hs ∙ q)
             ∙ ap (λ c. Gives (if c then Some (pass body (WhileLoop e body)) else None) s) h
 
-        by_value : (v : ℤ) (b : Bool) → holds v ≡ b → value_of e (at f) ≡ Value v → Walks code (start pc f) (point m (v ∷ []) [] [] f) → Does (start pc f) f (Passing (WhileLoop e body)) pc'
+        by_value : (v : ℤ) (b : Bool) → holds v ≡ b → value_of e (at f) ≡ Value v → Walks by_cell code (start pc f) (point m (v ∷ []) [] [] f) → Does (start pc f) f (Passing (WhileLoop e body)) pc'
         by_value v true h q walk =
             result_within code loops cells slot (Within (WhileLoop e body)) (λ ys kept. (slot, n, pc', refl, stays, (pc, back, whole), (refl, stays)))
             (walks_on walk (steps_to code f m (v ∷ []) [] [] (Choose skip) (start (m + 1) f) hm (rw h refl)))
             (keeps_all slot refl) (λ s hs. record { store = s; steps = λ k. more (passes_again (passed_as v true h q s hs)) refl none; holds = hs }) r
-            (λ g kept walk' t room. pauses pc Ready (Again (WhileLoop e body)) [] g (record { last = start n g; walks = walk'; stops = ap (λ o. act o n [] [] [] g) back.1 ∙ ap (λ x. Stops x g Ready) back.2 }) kept (at_loop slot pc' whole (refl, stays))
+            (λ g kept walk' t room. pauses pc Ready (Again (WhileLoop e body)) [] g (record { last = start n g; walks = walk'; stops = ap (λ o. act by_cell o n [] [] [] g) back.1 ∙ ap (λ x. Stops x g Ready) back.2 }) kept (at_loop slot pc' whole (refl, stays))
             (λ s hs. let u = t s hs in record { store = u.store; turn = λ k. single_turn (u.steps k) body_ends refl; holds = u.holds }))
         by_value v false h q walk =
             result_after code loops cells slot (walks_on walk (steps_to code f m (v ∷ []) [] [] (Choose skip) (start (m + 1 + skip) f) hm (rw h refl)))
@@ -247,14 +247,14 @@ module _ (code : List Instruction) (loops : ℕ) (cells : List ℕ) (d : Declare
 
     -- from where the index and the counters are set
     turns : {a : Point} (f : Variables) (pc pc' index : ℕ) (b : Term) (l : EachAt code loops slot pc index b pc') → ((g : Variables) → DoesFrom code loops cells (slot + 2) (start (pc + 1) g) g (Do b) l.1)
-        → (n : ℕ) (v : ℤ) → Walks code a (start (pc + 1) (turning f slot index n v)) → Does a f (Passing (EachLoop index v (suc n) b)) pc'
+        → (n : ℕ) (v : ℤ) → Walks by_cell code a (start (pc + 1) (turning by_cell f slot index n v)) → Does a f (Passing (EachLoop index v (suc n) b)) pc'
     turns f pc pc' index b l r n v walk room =
         let counted = turning_counts f slot index n v (subst (λ m. slot + 1 < m) (sym room) l.2) in
-        let again_at = (λ (ys : List ℕ) (kept : KeepsBelow (slot + 2) (turning f slot index n v).left ys). counts_kept slot (v +ℤ pos 1) n (turning f slot index n v).left ys kept counted) in
+        let again_at = (λ (ys : List ℕ) (kept : KeepsBelow (slot + 2) (turning by_cell f slot index n v).left ys). counts_kept slot (v +ℤ pos 1) n (turning by_cell f slot index n v).left ys kept counted) in
         result_within code loops cells slot (Within (EachLoop index (v +ℤ pos 1) n b)) (λ ys kept. (slot, l.1, pc', refl, stays, (pc, l.6, (again_at ys kept, l)), (refl, stays))) walk (turning_keeps f slot index n v)
-        (λ s hs. record { store = store_with s index v; steps = λ k. more (passes_again refl) refl none; holds = turning_held f slot index n v cells s hs }) (r (turning f slot index n v))
+        (λ s hs. record { store = store_with s index v; steps = λ k. more (passes_again refl) refl none; holds = turning_held f slot index n v cells s hs }) (r (turning by_cell f slot index n v))
         (λ g kept walk' t room'. pauses pc Ready (Again (EachLoop index (v +ℤ pos 1) n b)) [] g
-        (record { last = start l.1 g; walks = walk'; stops = ap (λ o. act o l.1 [] [] [] g) l.6.1 ∙ ap (λ x. Stops x g Ready) l.6.2 })
+        (record { last = start l.1 g; walks = walk'; stops = ap (λ o. act by_cell o l.1 [] [] [] g) l.6.1 ∙ ap (λ x. Stops x g Ready) l.6.2 })
         (keeps_on slot (turning_keeps f slot index n v) (keeps_less slot (slot + 2) (omega arith) kept))
         (at_loop slot pc' (again_at g.left kept, l) (refl, stays))
         (λ s hs. let u = t s hs in record { store = u.store; turn = λ k. single_turn (u.steps k) body_ends refl; holds = u.holds })) room
@@ -263,12 +263,12 @@ module _ (code : List Instruction) (loops : ℕ) (cells : List ℕ) (d : Declare
     passes : (f : Variables) (pc pc' index : ℕ) (b : Term) (l : EachAt code loops slot pc index b pc') → ((g : Variables) → DoesFrom code loops cells (slot + 2) (start (pc + 1) g) g (Do b) l.1)
         → (n : ℕ) (v : ℤ) → Counts f.left slot v n → Does (start pc f) f (Passing (EachLoop index v n b)) pc'
     passes f pc pc' index b l r zero v counts =
-        result_after code loops cells slot (steps_to code f pc [] [] [] (Pass slot index l.0) (start (pc + 1 + l.0) f) l.3 (ap (λ c. Moves (passed c pc slot index l.0 [] [] [] f)) counts.0)) (keeps_all slot refl)
+        result_after code loops cells slot (steps_to code f pc [] [] [] (Pass slot index l.0) (start (pc + 1 + l.0) f) l.3 (ap (λ c. Moves (passed by_cell c pc slot index l.0 [] [] [] f)) counts.0)) (keeps_all slot refl)
         (λ s hs. record { store = s; steps = λ k. more (leaves refl) refl none; holds = hs }) (skips f (pc + 1 + l.0) pc' l.4)
     passes f pc pc' index b l r (suc n) v counts =
         turns f pc pc' index b l r n v
-        (steps_to code f pc [] [] [] (Pass slot index l.0) (start (pc + 1) (turning f slot index n v)) l.3
-        (ap (λ c. Moves (passed c pc slot index l.0 [] [] [] f)) counts.0 ∙ ap (λ x. Moves (start (pc + 1) (turning f slot index n x))) counts.1))
+        (steps_to code f pc [] [] [] (Pass slot index l.0) (start (pc + 1) (turning by_cell f slot index n v)) l.3
+        (ap (λ c. Moves (passed by_cell c pc slot index l.0 [] [] [] f)) counts.0 ∙ ap (λ x. Moves (start (pc + 1) (turning by_cell f slot index n x))) counts.1))
 
     -- the first body, or none
     begins : (f : Variables) (m skip pc' index : ℕ) (b : Term) (l : EachAt code loops slot (m + 1) index b pc') → slice_get code m ≡ Some (Begin slot index skip) → Ways code (m + 1 + skip) pc'
@@ -277,7 +277,7 @@ module _ (code : List Instruction) (loops : ℕ) (cells : List ℕ) (d : Declare
         result_after code loops cells slot (steps_to code f m (pos 0 ∷ base ∷ []) [] [] (Begin slot index skip) (start (m + 1 + skip) f) h refl) (keeps_all slot refl)
         (λ s hs. record { store = s; steps = λ k. more (leaves refl) refl none; holds = hs }) (skips f (m + 1 + skip) pc' w)
     begins f m skip pc' index b l h w r (indices base (suc n)) =
-        turns f (m + 1) pc' index b l r n base (steps_to code f m (pos (suc n) ∷ base ∷ []) [] [] (Begin slot index skip) (start (m + 1 + 1) (turning f slot index n base)) h refl)
+        turns f (m + 1) pc' index b l r n base (steps_to code f m (pos (suc n) ∷ base ∷ []) [] [] (Begin slot index skip) (start (m + 1 + 1) (turning by_cell f slot index n base)) h refl)
 
     -- ---- terms
 

@@ -1,11 +1,12 @@
 -- How many instructions a sequential term becomes: at most four for each of its nodes.
 use Rattle.std.proofs.Common.{ℕ, ◌+◌, ◌*◌, ◌≤◌, List, [], ◌∷◌, ◌++◌, length, arith, length-append}
+use Rattle.std.proofs.lemmas.List.{length-map}
 use Rattle.occ_term.specs.Terms.{Expression, Constant, Cell, Component, Letter, Binary, Unary, And, Or, Conversion, Place, place, Subscripts, no_subscripts, then_subscript, Cells, Text, Item, OfOne, OfMany, OfCounted, Target, Into, IntoCounted, Declaration, Clearing, Naming, replicator, Term, Skip, Stop, Assign, Input, Output, VariantInput, Seq, Par, Alt, If, Case, While, Each, Clear, Local, Terms, no_terms, then_term, Variants, no_variants, or_variant, Choices, no_choices, or_choice, declared_choices, each_choice, Options, no_options, or_option, or_else}
 use Rattle.occ_term.specs.Messages.{product}
 use Rattle.occ_term.specs.Sizes.{size_of_expression, size_of_place, size_of_subscripts, size_of_item, size_of_items, size_of_target, size_of_targets, size_of_declaration, size_of_declarations, size_of, size_of_terms, size_of_variants, size_of_choices, size_of_options}
-use Rattle.occ_code.specs.Sequential.Machine.{Instruction, StoreOne, End, LoadAt, LoadLetter, Subscript, Operate, OperateOne, ConvertTo, AndThen, OrElse, PartOne, PartMany, PartCounted, PartCountedText, SpotOne, SpotCounted, StoreParts, StoreNamed, Jump, Choose, NextChoice, BackToChoice, Begin, Pass, CountedFrom, LoopBack, Send, Receive, Halt}
+use Rattle.occ_code.specs.Sequential.Machine.{placed, Instruction, StoreOne, End, LoadAt, LoadLetter, Subscript, Operate, OperateOne, ConvertTo, AndThen, OrElse, PartOne, PartMany, PartCounted, PartCountedText, SpotOne, SpotCounted, StoreParts, StoreNamed, Jump, Choose, NextChoice, BackToChoice, Begin, Pass, CountedFrom, LoopBack, Send, Receive, Halt}
 use Rattle.occ_code.specs.Sequential.Expressions.{components_at, expression_code, place_code, subscripts_code, item_code, items_code, target_code, targets_code, declaration_code, declarations_code, storing_code, counting_code, assignment_code}
-use Rattle.occ_code.specs.Sequential.Emitted.{term_code, terms_code, variants_code, choices_code, options_code, else_code, BodiesAreSmall}
+use Rattle.occ_code.specs.Sequential.Emitted.{term_code, terms_code, variants_code, choices_code, options_code, else_code, whole_code, BodiesAreSmall}
 
 two : (a b : List Instruction) (x y : ℕ) → length a ≤ x → length b ≤ y → length (a ++ b) ≤ x + y
 two a b x y p q = omega (arith, length-append a b, p, q)
@@ -170,4 +171,4 @@ mutual
       omega (arith, declarations_small ds, term_small slot t, options_small slot os after, length-append (declarations_code ds) (term_code slot t))
 
 pub bodies_are_small : BodiesAreSmall
-bodies_are_small t cells writes quantum = omega (arith, term_small 0 t, length-append (term_code 0 t) (End ∷ []))
+bodies_are_small t cells writes quantum = omega (arith, term_small 0 t, length-append (term_code 0 t) (End ∷ []), length-map (whole_code t) (placed cells))

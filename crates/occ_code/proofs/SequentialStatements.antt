@@ -4,7 +4,7 @@ use Rattle.std.proofs.Common.{◌≡◌, ◌∙◌, ℕ, ℤ, pos, ◌+◌, IsTr
 use Rattle.occ_term.specs.Values.{Evaluated, Value, Fails}
 use Rattle.occ_term.specs.Storing.{in_store}
 use Rattle.occ_code.specs.Sequential.Laws.{FaultsAt, comes, fails}
-use Rattle.occ_code.specs.Sequential.Machine.{Walks}
+use Rattle.occ_code.specs.Sequential.Machine.{by_cell, Walks}
 use Rattle.occ_term.specs.Terms.{Expression}
 use Rattle.occ_term.specs.Uses.{reads_of}
 use Rattle.occ_term.specs.declared.primitive.Primitive.{Primitive}
@@ -83,12 +83,12 @@ module _ (code : List Instruction) (cells : List ℕ) (d : Declared) where
       → Sets f (point pc st ps xs f) (λ s. store_parts xs ps s) pc' st [] []
   stores_run xs ps f pc pc' st (Stays g) e h n =
       performs nothing (point (pc + 1) st [] [] g)
-      (on (ap (λ o. act o pc st ps xs f) h ∙ ap (λ z. going_stored pc z (λ y. point (pc + 1) st [] [] y)) e) here)
+      (on (ap (λ o. act by_cell o pc st ps xs f) h ∙ ap (λ z. going_stored pc z (λ y. point (pc + 1) st [] [] y)) e) here)
       (ap (λ m. point m st [] [] g) n)
       (sym (ap (λ z. (stored_frame z).left) e) ∙ parts_left xs ps f)
       (λ s hs. as_gives g (store_parts xs ps s) (subst (λ z. StoresAs cells z (store_parts xs ps s)) e (parts_held cells xs ps f s hs)))
   stores_run xs ps f pc pc' st (Refused x g) e h n =
-      refuses x g (record { last = point pc st ps xs f; stands = pc; walks = here; stops = ap (λ o. act o pc st ps xs f) h ∙ ap (λ z. going_stored pc z (λ y. point (pc + 1) st [] [] y)) e })
+      refuses x g (record { last = point pc st ps xs f; stands = pc; walks = here; stops = ap (λ o. act by_cell o pc st ps xs f) h ∙ ap (λ z. going_stored pc z (λ y. point (pc + 1) st [] [] y)) e })
       (sym (ap (λ z. (stored_frame z).left) e) ∙ parts_left xs ps f)
       (λ s hs. as_faults x g (store_parts xs ps s) (subst (λ z. StoresAs cells z (store_parts xs ps s)) e (parts_held cells xs ps f s hs)))
 
@@ -131,7 +131,7 @@ module _ (code : List Instruction) (cells : List ℕ) (d : Declared) where
           (ap (λ y. point y [] [] [] (frame_with f c x)) n) refl
           (λ s hs. record { store = store_with s c x; gives_it = ap (λ v. stored_by v s) (typed_value t h s hs ∙ q); holds = one_held cells f s c x hs })
         where
-          came : {y : ℤ} {to : ℤ → Point} → Comes code f (point pc [] [] [] f) (Value y) to → Walks code (point pc [] [] [] f) (to y)
+          came : {y : ℤ} {to : ℤ → Point} → Comes code f (point pc [] [] [] f) (Value y) to → Walks by_cell code (point pc [] [] [] f) (to y)
           came (comes u) = u
       by_value m (Fails err) q w l n =
           refuses err f (failed (subst (λ v. Comes code f (point pc [] [] [] f) v (λ x. point m (x ∷ []) [] [] f)) q w)) refl

@@ -1,5 +1,5 @@
 -- Every turn of the code of a sequential term is a turn of what is left of it, for any number of turns.
-use Rattle.std.specs.Prelude.{slice_get, nat_eq, ◌||◌}
+use Rattle.std.specs.Prelude.{map, slice_get, nat_eq, ◌||◌}
 use Rattle.std.proofs.Common.{length, ◌≡◌, ◌∙◌, ℕ, zero, suc, ℤ, pos, ◌+◌, ◌<◌, Bool, true, false, IsTrue, IsFalse, List, [], ◌∷◌, ◌++◌, Option, Some, None, refl, sym, ap, subst, arith, inl, inr}
 use Rattle.std.proofs.lemmas.List.{length-replicate}
 use Rattle.occ_term.specs.declared.primitive.Primitive.{Primitive}
@@ -14,7 +14,7 @@ use Rattle.occ_term.specs.Steps.{is_looping, status, Loop, WhileLoop, EachLoop, 
 use Rattle.occ_term.specs.Steps as S
 use Rattle.occ_term.specs.Turns.{Steps, none, more, SingleTurn, single_turn, Turn, stops, passes}
 use Rattle.occ_term.specs.Uses.{uses_of, uses_of_terms}
-use Rattle.occ_term.specs.TermTyping.{Declared}
+use Rattle.occ_term.specs.TermTyping.{Declared, TermHas}
 use Rattle.occ_term.specs.TypedSteps.{StoreHas, LeftHas, ContextsHave}
 use Rattle.occ_term.specs.StepUses.{uses_of_left, uses_of_doing, uses_of_contexts, IsPartOf}
 use Rattle.occ_term.specs.Frames.{Variables, value_at, is_held, at}
@@ -23,12 +23,13 @@ use Rattle.occ_term.proofs.KeptSteps.{steps_keep_to_their_use}
 use Rattle.occ_code.specs.declared.task.Task.{Task}
 use Rattle.occ_code.specs.declared.task.Wait.{Wait}
 use Rattle.occ_code.specs.declared.task.Wait.TheVariants.{Ready, Took, Offers, Awaits, Halted, Done, Faulted}
-use Rattle.occ_code.specs.Alike.{Agrees, FitsProtocol, SameStop}
-use Rattle.occ_code.specs.Sequential.Machine.{Body, Instruction, End, Point, point, Stops, act, here, begins_at, SingleStop, StopsIn, stops_here, passes_on, IsReady, counted_turn, tag_stack}
+use Rattle.occ_code.specs.Alike.{Agrees, FitsProtocol, SameStop, Lists, used_by}
+use Rattle.occ_code.specs.Sequential.Machine.{by_cell, placed, Body, Instruction, End, Point, point, Stops, act, here, begins_at, SingleStop, StopsIn, stops_here, passes_on, IsReady, counted_turn, tag_stack}
 use Rattle.occ_code.specs.Sequential.Layout.{stays, TermAt, ListAt, LoopAt, ContextsAt}
-use Rattle.occ_code.specs.Sequential.Alike.{SameTurn, Alike, DoesAs, IsLaidOut, BodiesDo}
+use Rattle.occ_code.specs.Sequential.Alike.{SameTurn, Alike, DoesAs, BodiesDo}
 use Rattle.occ_code.proofs.SequentialReads.{or_left}
 use Rattle.occ_code.proofs.SequentialFrames.{HoldsAs}
+use Rattle.occ_code.proofs.PlacedCode.{stops_placed}
 use Rattle.occ_code.proofs.SequentialStatements.{Held, held_left, held_right}
 use Rattle.occ_code.proofs.SequentialCounters.{KeepsBelow, keeps_all}
 use Rattle.occ_code.proofs.SequentialResults.{contexts_kept, Does, after_steps, ways_walk, contexts_join, StopsAt, stops_after, Pause, at_offer, at_await, at_halt, at_fault, at_loop, Result, finishes, pauses, result_after}
@@ -170,7 +171,7 @@ module _ (d : Declared) (code : List Instruction) (loops : ℕ) (cells : List �
         frame = f;
         room = room;
         rests = finished;
-        stops_at = record { last = point e.last [] [] [] f; walks = ways_walk code [] [] [] f e.codes.1; stops = ap (λ o. act o e.last [] [] [] f) e.ends_there };
+        stops_at = record { last = point e.last [] [] [] f; walks = ways_walk code [] [] [] f e.codes.1; stops = ap (λ o. act by_cell o e.last [] [] [] f) e.ends_there };
         turn = λ s hs. record { store = s; turn = single_turn none ends refl; holds = hs };
       }
   contexts_run (Then ts ∷ k) slot pc h u f room e =
@@ -198,7 +199,7 @@ module _ (d : Declared) (code : List Instruction) (loops : ℕ) (cells : List �
         frame = f;
         room = room;
         rests = stands_again k inner b at_l.2 (record { last = e.last; codes = others; ends_there = e.ends_there });
-        stops_at = record { last = point a [] [] [] f; walks = ways_walk code [] [] [] f way; stops = ap (λ o. act o a [] [] [] f) back.1 ∙ ap (λ x. Stops x f Ready) back.2 };
+        stops_at = record { last = point a [] [] [] f; walks = ways_walk code [] [] [] f way; stops = ap (λ o. act by_cell o a [] [] [] f) back.1 ∙ ap (λ x. Stops x f Ready) back.2 };
         turn = λ s hs. record { store = s; turn = single_turn none body_ends refl; holds = hs };
       }
 
@@ -256,7 +257,7 @@ module _ (d : Declared) (code : List Instruction) (cells writes : List ℕ) (loo
     wait : Wait
     rest : Left
     store : Store
-    stops_in : StopsIn code q (task number turns pc f w) (task number turns stands frame wait)
+    stops_in : StopsIn by_cell code q (task number turns pc f w) (task number turns stands frame wait)
     turn : Turn q l s rest store
     agrees : Agrees d cells frame store
     types : LeftHas d rest
@@ -271,13 +272,13 @@ module _ (d : Declared) (code : List Instruction) (cells writes : List ℕ) (loo
 
   module _ (q number turns pc : ℕ) (f : Variables) (w : Wait) (l : Left) (s : Store) (pc' : ℕ) (f' : Variables) (s' : Store) where
     -- after one stop that is no loop's
-    stays_there : {w' : Wait} {r : Left} → (IsReady w' → ⊥) → IsFalse (is_looping (status r)) → SingleStop code (task number turns pc f w) (task number turns pc' f' w') → SingleTurn l s r s' → Agrees d cells f' s' → LeftHas d r
+    stays_there : {w' : Wait} {r : Left} → (IsReady w' → ⊥) → IsFalse (is_looping (status r)) → SingleStop by_cell code (task number turns pc f w) (task number turns pc' f' w') → SingleTurn l s r s' → Agrees d cells f' s' → LeftHas d r
         → Held code cells d (uses_of_left r).reads → length f'.left ≡ loops_ → Rested d code loops_ cells f'.left pc' w' r → LongTurn (suc (suc q)) number turns pc f w l s
     stays_there {w'} {r} no_loop no_stop single t ag h u room rests =
         record { stands = pc'; frame = f'; wait = w'; rest = r; store = s'; stops_in = stops_here single (inr no_loop); turn = stops t (inr no_stop); agrees = ag; types = h; held = u; room = room; rests = rests }
 
     -- after the first stop: a loop's is passed
-    further : {w' : Wait} {r : Left} → SingleStop code (task number turns pc f w) (task number turns pc' f' w') → SingleTurn l s r s' → Agrees d cells f' s' → LeftHas d r → Held code cells d (uses_of_left r).reads → length f'.left ≡ loops_
+    further : {w' : Wait} {r : Left} → SingleStop by_cell code (task number turns pc f w) (task number turns pc' f' w') → SingleTurn l s r s' → Agrees d cells f' s' → LeftHas d r → Held code cells d (uses_of_left r).reads → length f'.left ≡ loops_
         → Rested d code loops_ cells f'.left pc' w' r → GoesFor q number turns → LongTurn (suc (suc q)) number turns pc f w l s
     further single t ag h u room (offers k slot e) go = stays_there (λ x. absurd cc) refl single t ag h u room (offers k slot e)
     further single t ag h u room (awaits k slot mid a e) go = stays_there (λ x. absurd cc) refl single t ag h u room (awaits k slot mid a e)
@@ -295,7 +296,7 @@ module _ (d : Declared) (code : List Instruction) (cells writes : List ℕ) (loo
     wait : Wait
     rest : Left
     store : Store
-    single : SingleStop code (task number turns pc f w) (task number turns stands frame wait)
+    single : SingleStop by_cell code (task number turns pc f w) (task number turns stands frame wait)
     turn : SingleTurn l s rest store
     agrees : Agrees d cells frame store
     types : LeftHas d rest
@@ -335,7 +336,7 @@ module _ (d : Declared) (code : List Instruction) (cells writes : List ℕ) (loo
 module _ (d : Declared) (code : List Instruction) (cells writes : List ℕ) (loops_ q : ℕ) where
   -- of a quantum above 0
   abbrev the_body : Body
-  the_body = record { code = code; cells = cells; writes = writes; loops = loops_; quantum = suc q }
+  the_body = record { code = map (placed cells) code; cells = cells; writes = writes; loops = loops_; quantum = suc q }
 
   abbrev the_task : ℕ → ℕ → ℕ → Variables → Wait → Task
   the_task number turns pc f w = task d code cells writes loops_ number turns pc f w
@@ -359,13 +360,13 @@ module _ (d : Declared) (code : List Instruction) (cells writes : List ℕ) (loo
   same_stop n number turns pc f go room h u (fails k) = (k, refl)
   same_stop n number turns pc f go room h u finished = ([], refl)
 
-  same_turn : (n number turns pc : ℕ) (f : Variables) (w : Wait) (l : Left) (s : Store) → GoesOn n → LongTurn d code cells writes loops_ (suc q) number turns pc f w l s → SameTurn d the_body (Alike n d the_body) (the_task number turns pc f w) l s
-  same_turn n number turns pc f w l s go r =
+  same_turn : (n number turns pc : ℕ) (f : Variables) (w : Wait) (l : Left) (s : Store) → GoesOn n → Agrees d cells f s → LongTurn d code cells writes loops_ (suc q) number turns pc f w l s → SameTurn d the_body (Alike n d the_body) (the_task number turns pc f w) l s
+  same_turn n number turns pc f w l s go ag r =
       record {
         after = counted_turn (the_task number turns r.stands r.frame r.wait);
         rest = r.rest;
         store = r.store;
-        stops = record { stop = the_task number turns r.stands r.frame r.wait; stops = r.stops_in; counts = refl };
+        stops = record { stop = the_task number turns r.stands r.frame r.wait; stops = stops_placed cells code ag.shape r.stops_in; counts = refl };
         turn = r.turn;
         agrees = r.agrees;
         same = same_stop n number (turns + 1) r.stands r.frame go r.room r.types r.held r.rests;
@@ -373,30 +374,32 @@ module _ (d : Declared) (code : List Instruction) (cells writes : List ℕ) (loo
 
   alike_all : (n : ℕ) → GoesOn n
   alike_all zero number turns pc f w l room x h u = tt
-  alike_all (suc n) number turns pc f w l room x h u = λ s ag. same_turn n number turns pc f w l s (alike_all n) (long_turn d code cells writes loops_ q number turns pc f w l room x h u s ag)
+  alike_all (suc n) number turns pc f w l room x h u = λ s ag. same_turn n number turns pc f w l s (alike_all n) ag (long_turn d code cells writes loops_ q number turns pc f w l room x h u s ag)
 
-  body_does : (t : Term) → IsLaidOut d the_body t → DoesAs d the_body t
-  body_does t h =
+  body_does : (t : Term) (last : ℕ) → TermHas d t → TermAt code loops_ 0 0 t last → slice_get code last ≡ Some End → Lists cells (used_by (uses_of t)) → Lists writes (uses_of t).writes → DoesAs d the_body t
+  body_does t last typed lays_out ends_there used written =
       record {
-        cells = h.cells;
-        writes = h.writes;
+        cells = used;
+        writes = written;
         alike = λ n first small is_first.
-            let at_zero = alike_all n first.number first.turns 0 first.frame Ready (left (Do t) []) (ap length is_first.none_left ∙ length-replicate loops_ 0) (does [] 0 h.last h.code (record { last = h.last; codes = (refl, stays); ends_there = h.ends_there })) (h.typed, tt)
-            (λ c m. subst IsTrue (sym (h.cells.members c)) (or_left _ _ (only_first _ m))) in
-            let placed = subst (λ p. Alike n d the_body (the_task first.number first.turns p first.frame Ready) (left (Do t) [])) (sym is_first.place) at_zero in
-            subst (λ w. Alike n d the_body (the_task first.number first.turns first.place first.frame w) (left (Do t) [])) (sym is_first.wait) placed;
+            let at_zero = alike_all n first.number first.turns 0 first.frame Ready (left (Do t) []) (ap length is_first.none_left ∙ length-replicate loops_ 0) (does [] 0 last lays_out (record { last = last; codes = (refl, stays); ends_there = ends_there })) (typed, tt)
+            (λ c m. subst IsTrue (sym (used.members c)) (or_left _ _ (only_first _ m))) in
+            let there = subst (λ p. Alike n d the_body (the_task first.number first.turns p first.frame Ready) (left (Do t) [])) (sym is_first.place) at_zero in
+            subst (λ w. Alike n d the_body (the_task first.number first.turns first.place first.frame w) (left (Do t) [])) (sym is_first.wait) there;
       }
     where
       only_first : (a : Bool) → IsTrue (a || false) → IsTrue a
       only_first true e = refl
       only_first false e = e
 
-abbrev with_quantum : Body → ℕ → Body
-with_quantum body q = record { code = body.code; cells = body.cells; writes = body.writes; loops = body.loops; quantum = q }
+abbrev with_code : Body → List Instruction → ℕ → Body
+with_code body code q = record { code = code; cells = body.cells; writes = body.writes; loops = body.loops; quantum = q }
 
 pub bodies_do : BodiesDo
 bodies_do d body t h = by_quantum body.quantum refl h.quantum
   where
     by_quantum : (q : ℕ) → body.quantum ≡ q → 0 < q → DoesAs d body t
     by_quantum zero e m = absurd (omega (arith, m))
-    by_quantum (suc q) e m = subst (λ n. IsLaidOut d (with_quantum body n) t → DoesAs d (with_quantum body n) t) (sym e) (body_does d body.code body.cells body.writes body.loops q t) h
+    by_quantum (suc q) e m =
+        let does = body_does d h.by_cells body.cells body.writes body.loops q t h.last h.typed h.lays_out h.ends_there h.cells h.writes in
+        subst (λ n. DoesAs d (with_code body body.code n) t) (sym e) (subst (λ code. DoesAs d (with_code body code (suc q)) t) (sym h.code) does)

@@ -7,6 +7,7 @@ mod counters;
 mod expressions;
 pub mod instr;
 mod pieces;
+mod places;
 mod sequential;
 mod statements;
 

@@ -1,10 +1,10 @@
 -- Frames that are read and written by the place of a cell.
-use Rattle.std.specs.Prelude.{nat_eq, nat_lt, option_map, if◌then◌else◌, replicate}
+use Rattle.std.specs.Prelude.{nat_eq, nat_lt, option_map, if◌then◌else◌, replicate, unwrap_or}
 use Rattle.std.proofs.Common.{◌≡◌, ◌∙◌, sym, refl, ap, ℕ, zero, suc, ◌+◌, ◌-◌, ◌<◌, ◌≤◌, Bool, true, false, Option, Some, None, List, [], ◌∷◌, length, get_or, drop, ℤ, pos, add-zero, arith}
 use Rattle.std.proofs.Math.ListN.{set}
 use Rattle.std.proofs.lemmas.Bool.Decides.{nat_tests}
 use Rattle.std.proofs.lemmas.List.{at_drop_more, at_drop_all}
-use Rattle.occ_term.specs.Frames.{Variables, value_at, values_with, frame_from, frame_with, row_with, place_in, counter_at, counters_with}
+use Rattle.occ_term.specs.Frames.{Variables, value_at, values_with, frame_from, frame_with, row_with, place_among, place_in, counter_at, counters_with}
 
 -- ---- the place of a cell
 
@@ -40,6 +40,18 @@ none_between xs c low high meet below above k h e = by (nat_lt k low) refl
         let more : high ≤ k = grind (arith, nat_tests) in
         let over = above k more h in
         omega (arith, over, e)
+
+end_or_before : (o : Option ℕ) (n : ℕ) → unwrap_or o n ≤ n → unwrap_or (option_map suc o) (suc n) ≤ suc n
+end_or_before None n h = omega arith
+end_or_before (Some i) n h = omega (arith, h)
+
+pub place_among_within : (xs : List ℕ) (c : ℕ) → place_among xs c ≤ length xs
+place_among_within [] c = omega arith
+place_among_within (x ∷ xs) c = by_test (place_among_within xs c) (nat_eq x c)
+  where
+    by_test : place_among xs c ≤ length xs → (b : Bool) → unwrap_or (if b then Some 0 else option_map suc (place_in xs c)) (suc (length xs)) ≤ suc (length xs)
+    by_test h true = omega arith
+    by_test h false = end_or_before (place_in xs c) (length xs) h
 
 -- ---- what stands at a place
 

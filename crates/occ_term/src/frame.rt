@@ -1,6 +1,6 @@
 //! The variables of a process.
-ghost use Rattle.std.specs.Prelude.{◌≡◌, ◌↔◌, IsTrue, IfOk, length, pos, replicate, slice_index_or, []};
-ghost use Rattle.occ_term.specs.Frames.{at, value_at, values_with, zero_frame, frame_with, frame_from, row_with, counter_at, counters_with, with_counter};
+ghost use Rattle.std.specs.Prelude.{◌≡◌, ◌↔◌, IsTrue, IfOk, length, pos, replicate, slice_index_or, slice_set, []};
+ghost use Rattle.occ_term.specs.Frames.{at, in_place, value_at, values_with, zero_frame, frame_with, with_place, frame_from, row_with, counter_at, counters_with, with_counter};
 
 use crate::held::Held;
 use crate::message::same_values;
@@ -53,11 +53,25 @@ impl Frame {
         value_at(&self.cells, &self.values, cell)
     }
 
+    /// The value at a place among those of the cells; 0 where there is none.
+    pub fn value_in(&self, place: u32) -> i64
+        ensures { result ≡ in_place self.now place }
+    {
+        value_in(&self.values, place as usize)
+    }
+
     /// Gives a cell this value. A cell that the frame doesn't hold has none.
     pub fn set(&mut self, cell: u64, value: i64)
         ensures { self.new ≡ frame_with self.old cell value }
     {
         set_value(&self.cells, &mut self.values, cell, value);
+    }
+
+    /// Puts this value at a place. Where there is none, nothing is changed.
+    pub fn set_in(&mut self, place: u32, value: i64)
+        ensures { self.new ≡ with_place self.old place value }
+    {
+        set_in(&mut self.values, place as usize, value);
     }
 
     /// Gives cells in a row these values, from the first cell on.
@@ -137,9 +151,15 @@ fn set_value(cells: &Held, values: &mut [i64], cell: u64, value: i64)
     ensures { values.new ≡ values_with cells.now values.old cell value }
 {
     if let Some(place) = cells.place_of(cell) {
-        if place < values.len() {
-            values[place] = value;
-        }
+        set_in(values, place, value);
+    }
+}
+
+fn set_in(values: &mut [i64], place: usize, value: i64)
+    ensures { values.new ≡ slice_set values.old place value }
+{
+    if place < values.len() {
+        values[place] = value;
     }
 }
 

@@ -1,6 +1,6 @@
 //! The cells that a frame holds, and where.
-ghost use Rattle.std.specs.Prelude.{◌≡◌, ◌↔◌, ◌<◌, ◌^◌, ℕ, IfOk, IsTrue, slice_index};
-ghost use Rattle.occ_term.specs.Frames.{Ascends, place_in};
+ghost use Rattle.std.specs.Prelude.{◌≡◌, ◌↔◌, ◌<◌, ◌≤◌, ◌^◌, ℕ, IfOk, IsTrue, length, slice_index};
+ghost use Rattle.occ_term.specs.Frames.{Ascends, place_among, place_in};
 
 use std::alloc::{AllocError, Global};
 use std::marker::Model;
@@ -10,7 +10,7 @@ use std::marker::Model;
 /// The place of a cell is found at once where no number is missing before it, and else by halving,
 /// if the numbers are rising.
 #[derive(Drop)]
-pub(crate) struct Held {
+pub struct Held {
     cells: Vec<u32>,
     rising: bool,
 }
@@ -27,7 +27,8 @@ impl Model for Held {
 }
 
 impl Held {
-    pub(crate) fn new(alloc: Global, cells: &[u32]) -> Result<Held, AllocError>
+    /// These cells. The error is a refused growth.
+    pub fn new(alloc: Global, cells: &[u32]) -> Result<Held, AllocError>
         ensures { IfOk result (λ h. h ≡ cells.now) }
     {
         let rising = is_rising(cells);
@@ -62,6 +63,17 @@ impl Held {
         are_words(&self.cells);
     }
 
+    /// The first place that holds a cell, or the end where none does.
+    pub fn place_among(&self, cell: u32) -> usize
+        ensures is { result ≡ place_among self.now cell }
+        ensures within { result ≤ length self.now }
+    {
+        match self.place_of(u64::from(cell)) {
+            Some(place) => place,
+            None => self.cells.len(),
+        }
+    }
+
     /// The first place that holds a cell.
     pub(crate) fn place_of(&self, cell: u64) -> Option<usize>
         ensures { result ≡ place_in self.now cell }
@@ -69,7 +81,7 @@ impl Held {
         if self.rising {
             place_among_rising(&self.cells, cell)
         } else {
-            place_among(&self.cells, cell)
+            first_place(&self.cells, cell)
         }
     }
 }
@@ -126,7 +138,7 @@ fn place_by_halves(cells: &[u32], cell: u64) -> Option<usize>
     None
 }
 
-fn place_among(cells: &[u32], cell: u64) -> Option<usize>
+fn first_place(cells: &[u32], cell: u64) -> Option<usize>
     ensures { result ≡ place_in cells.now cell }
 {
     for (i, held) in cells.iter().enumerate() {

@@ -7,7 +7,7 @@ pub mod expression;
 pub mod fault;
 pub mod first_rows;
 pub mod frame;
-mod held;
+pub mod held;
 pub mod laws;
 pub mod limit_rows;
 pub mod message;
@@ -28,6 +28,7 @@ pub use expression::{
 };
 pub use fault::{Fault, FaultKind};
 pub use frame::Frame;
+pub use held::Held;
 pub use message::{Message, Part};
 pub use names::{Cell, Channel};
 pub use primitive::{Prim, Primitive};

@@ -1,6 +1,6 @@
 -- When a body of sequential code does what a term does, for a number of turns.
 -- Manual: nothing; this is (own).
-use Rattle.std.specs.Prelude.{Some, [], replicate, slice_get, suc, zero, ℕ, ⊤, ◌+◌, ◌<◌, ◌^◌, ◌≡◌}
+use Rattle.std.specs.Prelude.{List, Some, [], map, replicate, slice_get, suc, zero, ℕ, ⊤, ◌+◌, ◌<◌, ◌^◌, ◌≡◌}
 use Rattle.occ_term.specs.Terms.{Term}
 use Rattle.occ_term.specs.Values.{Store}
 use Rattle.occ_term.specs.Steps.{Do, Left, left}
@@ -10,7 +10,7 @@ use Rattle.occ_term.specs.TermTyping.{Declared, TermHas}
 use Rattle.occ_code.specs.Alike.{Agrees, Frames, SameStop, Lists, used_by}
 use Rattle.occ_code.specs.declared.task.Task.{Task}
 use Rattle.occ_code.specs.declared.task.Wait.TheVariants.{Ready}
-use Rattle.occ_code.specs.Sequential.Machine.{Body, End, Stopping}
+use Rattle.occ_code.specs.Sequential.Machine.{Body, End, Instruction, Stopping, placed}
 use Rattle.occ_code.specs.Sequential.Layout.{TermAt}
 
 -- the next turn of both, from a store that agrees with the frame
@@ -41,12 +41,14 @@ pub record DoesAs (d : Declared) (body : Body) (t : Term) : Type 0 where
   pub writes : Lists body.writes (uses_of t).writes
   pub alike : (n : ℕ) (first : Task) → first.turns + n < 2 ^ 64 → IsFirst body first → Alike n d body first (left (Do t) [])
 
--- the code of a typed term, and the end after it
+-- the code of a typed term, and the end after it: laid out with the numbers of cells, and then with their places
 pub record IsLaidOut (d : Declared) (body : Body) (t : Term) : Type 0 where
+  pub by_cells : List Instruction
   pub last : ℕ
   pub typed : TermHas d t
-  pub code : TermAt body.code body.loops 0 0 t last
-  pub ends_there : slice_get body.code last ≡ Some End
+  pub lays_out : TermAt by_cells body.loops 0 0 t last
+  pub ends_there : slice_get by_cells last ≡ Some End
+  pub code : body.code ≡ map (placed body.cells) by_cells
   pub cells : Lists body.cells (used_by (uses_of t))
   pub writes : Lists body.writes (uses_of t).writes
   pub quantum : 0 < body.quantum

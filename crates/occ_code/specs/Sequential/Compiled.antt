@@ -1,6 +1,6 @@
 -- Compiled programs: a body for each process, which does what the process's term does.
 -- Manual: nothing; this is (own).
-use Rattle.std.specs.Prelude.{List, [], false, length, ℕ, ⊤, ◌*◌, ◌+◌, ◌++◌, ◌<◌, ◌≤◌, ◌∷◌, ◌≡◌}
+use Rattle.std.specs.Prelude.{List, [], false, length, ℕ, ⊤, ◌*◌, ◌+◌, ◌<◌, ◌≤◌, ◌∷◌, ◌≡◌}
 use Rattle.occ_term.specs.Terms.{Term}
 use Rattle.occ_term.specs.Unfolding.{Unfolding, IsWellFormed, Lawful, declared, meaning}
 use Rattle.occ_term.specs.Processes.{Numbered, processes_of}
@@ -9,9 +9,9 @@ use Rattle.occ_term.specs.TermTyping.{Declared}
 use Rattle.occ_term.specs.Sizes.{size_of}
 use Rattle.occ_term.specs.declared.names.Channel.{Channel}
 use Rattle.occ_code.specs.Alike.{Lists, used_by}
-use Rattle.occ_code.specs.Sequential.Machine.{Body, Instruction, End}
+use Rattle.occ_code.specs.Sequential.Machine.{Body}
 use Rattle.occ_code.specs.Sequential.Alike.{DoesAs}
-use Rattle.occ_code.specs.Sequential.Emitted.{body_of, is_sequential, term_code}
+use Rattle.occ_code.specs.Sequential.Emitted.{body_of, is_sequential, whole_code}
 use Rattle.occ_code.specs.declared.compiler.code.CodeFault.{CodeFault}
 use Rattle.occ_code.specs.declared.compiler.code.CodeFault.TheVariants.{TooLarge, Early, BadQuantum, Memory}
 
@@ -62,9 +62,6 @@ CodeRefuses BadQuantum quantum u = IsQuantum quantum → ⊥
 CodeRefuses Memory quantum u = IsQuantum quantum
 
 -- ---- one process; private contracts alone cite what follows
-
-abbrev pub whole_code : Term → List Instruction
-whole_code t = term_code 0 t ++ End ∷ []
 
 -- the body of a term, with its cells
 pub record IsBodyOf (t : Term) (quantum : ℕ) (b : Body) : Type 0 where

@@ -1,13 +1,13 @@
 -- The instructions that a sequential term becomes. PAR and ALT have none yet.
 -- Manual: nothing; this is (own).
-use Rattle.std.specs.Prelude.{Bool, IsTrue, List, [], false, length, max, true, ℕ, ◌&&◌, ◌*◌, ◌+◌, ◌++◌, ◌<◌, ◌≤◌, ◌∷◌}
+use Rattle.std.specs.Prelude.{Bool, IsTrue, List, [], false, length, map, max, true, ℕ, ◌&&◌, ◌*◌, ◌+◌, ◌++◌, ◌<◌, ◌≤◌, ◌∷◌}
 use Rattle.occ_term.specs.Terms.{Term, Skip, Stop, Assign, Input, Output, VariantInput, Seq, Par, Alt, If, Case, While, Each, Clear, Local, Terms, no_terms, then_term, Variants, no_variants, or_variant, Choices, no_choices, or_choice, declared_choices, each_choice, Options, no_options, or_option, or_else, Clearing, Naming}
 use Rattle.occ_term.specs.Storing.{index_of}
 use Rattle.occ_term.specs.Uses.{uses_of}
 use Rattle.occ_term.specs.Sizes.{size_of}
 use Rattle.occ_term.specs.TermTyping.{Declared, TermHas}
 use Rattle.occ_code.specs.Alike.{Lists, used_by}
-use Rattle.occ_code.specs.Sequential.Machine.{Instruction, Body, Jump, Choose, IfAmong, IfTag, DropOne, NextChoice, BackToChoice, Begin, Pass, LoopBack, Send, Receive, Halt, End}
+use Rattle.occ_code.specs.Sequential.Machine.{Instruction, Body, placed, Jump, Choose, IfAmong, IfTag, DropOne, NextChoice, BackToChoice, Begin, Pass, LoopBack, Send, Receive, Halt, End}
 use Rattle.occ_code.specs.Sequential.Expressions.{expression_code, place_code, items_code, declaration_code, declarations_code, storing_code, counting_code, assignment_code}
 use Rattle.occ_code.specs.Sequential.Alike.{DoesAs}
 
@@ -145,9 +145,13 @@ abbrev mutual
   counters_of_options (or_option constants ds t os) = max (counters_of t) (counters_of_options os)
   counters_of_options (or_else ds t os) = max (counters_of t) (counters_of_options os)
 
+-- the code of a whole process, with the numbers of cells
+abbrev pub whole_code : Term → List Instruction
+whole_code t = term_code 0 t ++ End ∷ []
+
 -- the body of a process, for turns that pass so many stops of loops at most, the last one included
 abbrev pub body_of : Term → List ℕ → List ℕ → ℕ → Body
-body_of t cells writes quantum = record { code = term_code 0 t ++ End ∷ []; cells = cells; writes = writes; loops = counters_of t; quantum = quantum }
+body_of t cells writes quantum = record { code = map (placed cells) (whole_code t); cells = cells; writes = writes; loops = counters_of t; quantum = quantum }
 
 -- the body of a typed sequential term does what the term does
 abbrev pub CompiledDo : Type 0

@@ -9,7 +9,7 @@ use occ_term::{Kind, Use};
 use std::alloc::{AllocError, Global};
 
 /// How many cells a program may have.
-const MOST_CELLS: usize = 65_536;
+pub(crate) const MOST_CELLS: usize = 65_536;
 
 /// The cells that are written, or also those that are read, rising. The error is a refused growth, or
 /// that of a cell past the limit.

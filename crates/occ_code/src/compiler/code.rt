@@ -3,8 +3,9 @@ ghost use Rattle.std.specs.Prelude.{◌≡◌, ◌∷◌, [], ◌<◌, ◌≤◌
 ghost use Rattle.std.specs.Arc.{arc_value};
 ghost use Rattle.occ_term.specs.Unfolding.{meaning};
 ghost use Rattle.occ_term.specs.View.{term_of};
-ghost use Rattle.occ_code.specs.Sequential.Compiled.{IsBodyOf, IsCompiled, IsCompiledFrom, IsQuantum, IsRefused, CodeRefuses, most_instructions, whole_code};
+ghost use Rattle.occ_code.specs.Sequential.Compiled.{IsBodyOf, IsCompiled, IsCompiledFrom, IsQuantum, IsRefused, CodeRefuses, most_instructions};
 ghost use Rattle.occ_code.specs.Sequential.Emitted as emitted;
+ghost use Rattle.occ_code.specs.Sequential.Emitted.{whole_code};
 ghost use Rattle.occ_code.specs.Sequential.View.{instruction_of};
 
 use crate::compiler::body::Body;
@@ -12,6 +13,7 @@ use crate::compiler::cells::rising_cells;
 use crate::compiler::counters::counters_in;
 use crate::compiler::instr::Instr;
 use crate::compiler::pieces::put;
+use crate::compiler::places::name_places;
 use crate::compiler::sequential::is_sequential;
 use crate::compiler::statements::emit_term;
 use crate::early::early_line;
@@ -174,13 +176,15 @@ fn only_process(alloc: Global, term: &Term, quantum: u32) -> Result<Body, CodeFa
     let uses = term_uses(alloc, term)?;
     let cells = rising_cells(alloc, uses.as_slice(), false)?;
     let writes = rising_cells(alloc, uses.as_slice(), true)?;
-    let code = code_of(alloc, term)?;
+    let mut code = code_of(alloc, term)?;
     if code.len() > MOST_INSTRUCTIONS {
         return Err(CodeFault::TooLarge);
     }
+    name_places(alloc, &cells, &mut code)?;
     Ok(Body::new(code, cells, writes, loops, quantum))
 }
 
+/// The code of a process, with the numbers of cells.
 fn code_of(alloc: Global, term: &Term) -> Result<Vec<Instr>, AllocError>
     ensures { IfOk result (λ code. map instruction_of code.items ≡ whole_code (term_of term.now)) }
 {

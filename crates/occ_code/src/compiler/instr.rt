@@ -5,11 +5,14 @@ use sqlite_items::Items;
 
 /// One instruction. A skip counts the instructions that are jumped over, and a `back` is how far a
 /// jump leads back. Lines are for faults.
+///
+/// In a body, `Load`, `StoreOne` and the index of `NextChoice`, `Begin` and `Pass` name a cell by its
+/// place among the body's cells; they are emitted with its number. All other cells go by their numbers.
 #[derive(Drop)]
 pub enum Instr {
     /// Puts a value on the stack.
     Push(i64),
-    /// Puts the value of a cell on the stack.
+    /// Puts the value of a cell on the stack: its place.
     Load(u32),
     /// Takes a cell's number from the stack, and puts its value there.
     LoadAt,
@@ -47,7 +50,7 @@ pub enum Instr {
     StoreParts,
     /// Stores the last part, from this cell on.
     StoreNamed(u32),
-    /// Takes a value, and stores it in the cell.
+    /// Takes a value, and stores it in a cell: its place.
     StoreOne(u32),
     /// Sets so many cells to 0, from the first on.
     ClearCells(u32, u32),
@@ -63,12 +66,13 @@ pub enum Instr {
     DropOne,
     /// Takes the count and the base of a replicator, and puts them in its order.
     CountedFrom(u32),
-    /// The next value of a choice's index, or behind the skip where none is left: the index's cell and the skip.
+    /// The next value of a choice's index, or behind the skip where none is left: the place of the index's
+    /// cell and the skip.
     NextChoice(u32, usize),
     /// Back to the next value.
     BackToChoice(usize),
     /// The first value of the index of a replicated SEQ, or behind the skip where there is none: the first
-    /// of its two counters, the index's cell and the skip.
+    /// of its two counters, the place of the index's cell and the skip.
     Begin(u32, u32, usize),
     /// The next value of the index, or behind the skip where none is left.
     Pass(u32, u32, usize),

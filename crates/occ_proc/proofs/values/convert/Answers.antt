@@ -12,6 +12,6 @@ returns c =
     if_ok_map (λ w. Puts (evaluated c.converted.result) (λ v. v ∷ c.pop.new.self) w c.put.new.stack)
     (λ w. OnStack (machine.ConvertTo c.args.to c.args.line) c.args.stack.now w c.put.new.stack)
     c.put.result
-    (λ w h pc q sp f. subst (λ st. Does pc (machine.act (Some (machine.ConvertTo c.args.to c.args.line)) pc st q sp f) w c.put.new.stack q sp f) (sym c.in-Some.ensures.some)
+    (λ w h pc q sp f. subst (λ st. Does pc (machine.act machine.by_place (Some (machine.ConvertTo c.args.to c.args.line)) pc st q sp f) w c.put.new.stack q sp f) (sym c.in-Some.ensures.some)
     (subst (λ e. Does pc (machine.going pc f e (λ x. machine.point (pc + 1) (x ∷ c.pop.new.self) q sp f)) w c.put.new.stack q sp f) same (h pc q sp f)))
     c.put.ensures

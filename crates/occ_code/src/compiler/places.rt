@@ -1,0 +1,50 @@
+//! Places for the cells that instructions name.
+ghost use Rattle.std.specs.Prelude.{◌≡◌, ◌≤◌, OnOk, length, map};
+ghost use Rattle.occ_term.specs.Frames.{place_among};
+ghost use Rattle.occ_code.specs.Sequential.Machine.{placed};
+ghost use Rattle.occ_code.specs.Sequential.View.{instruction_of};
+
+use crate::compiler::cells::MOST_CELLS;
+use crate::compiler::instr::Instr;
+use occ_term::Held;
+use std::alloc::{AllocError, Global};
+
+/// Each instruction that names one cell names its place among these from now on. The error is a refused
+/// growth, or that of more cells than a program may have.
+pub(crate) fn name_places(
+    alloc: Global,
+    cells: &[u32],
+    code: &mut Vec<Instr>,
+) -> Result<(), AllocError>
+    ensures { OnOk result (map instruction_of code.new.items ≡ map (placed cells.now) (map instruction_of code.old.items)) }
+{
+    if cells.len() > MOST_CELLS {
+        return Err(AllocError);
+    }
+    let held = Held::new(alloc, cells)?;
+    for instr in code.iter_mut() {
+        name_place(&held, instr);
+    }
+    Ok(())
+}
+
+fn name_place(held: &Held, instr: &mut Instr)
+    requires { length held.now ≤ 65536 }
+    ensures { instruction_of instr.new ≡ placed held.now (instruction_of instr.old) }
+{
+    match instr {
+        Instr::Load(cell) => *cell = place_of(held, *cell),
+        Instr::StoreOne(cell) => *cell = place_of(held, *cell),
+        Instr::NextChoice(index, _) => *index = place_of(held, *index),
+        Instr::Begin(_, index, _) => *index = place_of(held, *index),
+        Instr::Pass(_, index, _) => *index = place_of(held, *index),
+        _ => {}
+    }
+}
+
+fn place_of(held: &Held, cell: u32) -> u32
+    requires { length held.now ≤ 65536 }
+    ensures { result ≡ place_among held.now cell }
+{
+    held.place_among(cell) as u32
+}
