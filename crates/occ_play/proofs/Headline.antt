@@ -25,19 +25,19 @@ use Rattle.occ_code.specs.Sequential.Emitted.{IsSequential, is_sequential, are_s
 use Rattle.occ_code.specs.Sequential.Machine.{Body}
 use Rattle.occ_code.specs.declared.compiler.code.CodeFault.{CodeFault}
 use Rattle.occ_code.specs.declared.compiler.code.CodeFault.TheVariants as code
-use Rattle.occ_play.specs.declared.ending.Choice.{Choice}
-use Rattle.occ_play.specs.declared.ending.Ending.{Ending}
-use Rattle.occ_play.specs.declared.ending.Ending.TheVariants as E
+use Rattle.occ_net.specs.declared.choice.Choice.{Choice}
+use Rattle.occ_net.specs.declared.ending.Ending.{Ending}
+use Rattle.occ_net.specs.declared.ending.Ending.TheVariants as E
 use Rattle.occ_play.specs.declared.playing.Played.{Played}
 use Rattle.occ_play.specs.declared.running.Outcome.{Outcome}
 use Rattle.occ_play.specs.declared.trace.Communication.{Communication as Made}
 use Rattle.occ_play.specs.Answers.{AreByteMessages, IsByteMessage, answer_text, names_of}
 use Rattle.occ_play.specs.Network.{communication_of}
-use Rattle.occ_play.specs.Following.{AllFit, AreBytes, Followed, ending_as, or_limit}
+use Rattle.occ_net.specs.Following.{AllFit, AreBytes, Followed, ending_as, or_limit}
 use Rattle.occ_play.specs.Outcomes.{Begins, HasOneProcess, IsOutcome}
 use Rattle.occ_play.specs.Playing.{IsAnswer, Unfolds, UsageRefusesText, CodeRefusesText}
-use Rattle.occ_play.specs.Replay.{Replays, ending_of, ending_by}
-use Rattle.occ_play.proofs.Simulation.{replays_are_runs}
+use Rattle.occ_net.specs.Replay.{Replays, ending_of, ending_by}
+use Rattle.occ_net.proofs.Law.{replays_are_runs}
 
 -- ---- a program without PAR has one process
 
@@ -108,8 +108,8 @@ only_body : (u : Unfolding) (p : Program) → IsCompiledFrom u p → IsSequentia
 only_body u p from h =
     only_done (declared u) 0 p.bodies (numbered 0 (meaning u)) (subst (λ ps. AllDo (declared u) 0 p.bodies ps) (ap (λ l. numbered 0 (meaning u) ∷ l) (no_branches (meaning u) h)) from.bodies)
 
-pub one_process : (u : Unfolding) (p : Program) → IsWellFormed u → IsCompiledFrom u p → IsSequential (meaning u) → HasOneProcess p
-one_process u p w from h = let one = only_body u p from h in record { source = u; well_formed = w; compiled = from; body = one.0; alone = one.1 }
+pub one_process : (u : Unfolding) (p : Program) → IsWellFormed u → Lawful u → IsCompiledFrom u p → IsSequential (meaning u) → HasOneProcess p
+one_process u p w lawful from h = let one = only_body u p from h in record { source = u; well_formed = w; lawful = lawful; compiled = from; body = one.0; alone = one.1 }
 
 -- ---- what is written to the screen and the error channel
 
@@ -158,27 +158,24 @@ none_if (Some e) q h = absurd (h (ap (λ x. Some x) q))
 
 -- ---- the headline
 
-followed : (u : Unfolding) (p : Program) (keyboard : List ℕ) (list : List Choice) (o : Outcome) → IsWellFormed u → IsCompiledFrom u p → IsSequential (meaning u) → AreBytes keyboard → (out : IsOutcome p keyboard list o) → length o.choices.items < 2 ^ 64 → (b : Body) × (p.bodies ≡ b ∷ []) × Followed u keyboard b.quantum out.net
-followed u p keyboard list o w from s bytes out small =
-    let one = only_body u p from s in
-    (one.0, one.1, replays_are_runs u p one.0 keyboard o.choices.items out.net w from one.1 bytes small out.replays)
+followed : (u : Unfolding) (p : Program) (keyboard : List ℕ) (list : List Choice) (o : Outcome) → IsWellFormed u → Lawful u → IsCompiledFrom u p → All (λ b. b.quantum ≡ 1) p.bodies → AreBytes keyboard → (out : IsOutcome p keyboard list o) → length o.choices.items < 2 ^ 64 → Followed u keyboard 1 out.net
+followed u p keyboard list o w lawful from quantum bytes out small = replays_are_runs u p 1 keyboard o.choices.items out.net w lawful from quantum bytes small out.replays
 
 -- what an outcome's communications carry on the screen's and the error channel
-pub outputs_are_bytes : (u : Unfolding) (p : Program) (keyboard : List ℕ) (list : List Choice) (o : Outcome) → IsWellFormed u → IsCompiledFrom u p → IsSequential (meaning u) → AreBytes keyboard → IsOutcome p keyboard list o → length o.choices.items < 2 ^ 64 → AreByteMessages 1 o.trace.items × AreByteMessages 2 o.trace.items
-outputs_are_bytes u p keyboard list o w from s bytes out small =
-    let f = (followed u p keyboard list o w from s bytes out small).2 in
+pub outputs_are_bytes : (u : Unfolding) (p : Program) (keyboard : List ℕ) (list : List Choice) (o : Outcome) → IsWellFormed u → Lawful u → IsCompiledFrom u p → All (λ b. b.quantum ≡ 1) p.bodies → AreBytes keyboard → IsOutcome p keyboard list o → length o.choices.items < 2 ^ 64 → AreByteMessages 1 o.trace.items × AreByteMessages 2 o.trace.items
+outputs_are_bytes u p keyboard list o w lawful from quantum bytes out small =
+    let f = followed u p keyboard list o w lawful from quantum bytes out small in
     let first = first_protocols u w in
     let fits : (c : ℕ) → AllFit ((declared u).protocols c) (messages_on c (map communication_of o.trace.items)) = λ c. subst (λ xs. AllFit ((declared u).protocols c) (messages_on c xs)) out.trace (f.fits c) in
     (bytes_on (declared u).protocols 1 first.0 o.trace.items (fits 1), bytes_on (declared u).protocols 2 first.1 o.trace.items (fits 2))
 
 pub headline : (source keyboard : List ℕ) (list : List Choice) (trace : Bool) (u : Unfolding) (p : Program) (channels : List Channel) (o : Outcome) (played : Played) (bytes : List ℕ)
-    → Unfolds source u → IsSequential (meaning u) → Lawful u → IsCompiledFrom u p → All (λ b. b.quantum ≡ 1) p.bodies → AreBytes keyboard → channels ≡ p.channels → IsOutcome p keyboard list o → length o.choices.items < 2 ^ 64
+    → Unfolds source u → Lawful u → IsCompiledFrom u p → All (λ b. b.quantum ≡ 1) p.bodies → AreBytes keyboard → channels ≡ p.channels → IsOutcome p keyboard list o → length o.choices.items < 2 ^ 64
     → played.ending ≡ o.ending → played.choices ≡ o.choices
     → bytes ≡ answer_text (shown_by (names_of channels) (map communication_of o.trace.items)) o.ending trace
     → IsAnswer source keyboard list trace played bytes
-headline source keyboard list trace u p channels o played bytes x s lawful from quantum keys chan out small same_end same_choices is =
-    let (body, one, f) = followed u p keyboard list o x.well_formed from s keys out small in
-    let q : body.quantum ≡ 1 = quantum_of body (subst (λ bs. All (λ b. b.quantum ≡ 1) bs) one quantum) in
+headline source keyboard list trace u p channels o played bytes x lawful from quantum keys chan out small same_end same_choices is =
+    let f = followed u p keyboard list o x.well_formed lawful from quantum keys out small in
     let ends : or_limit (ending_of out.net) ≡ played.ending = sym out.ending ∙ sym same_end in
     let choices : o.choices.items ≡ played.choices.items = ap (λ v. v.items) (sym same_choices) in
     let shows : map communication_of o.trace.items ≡ communications f.events = sym out.trace ∙ sym f.communicates in
@@ -188,7 +185,7 @@ headline source keyboard list trace u p channels o played bytes x s lawful from 
       lawful = lawful;
       events = f.events;
       system = f.system;
-      run = subst (λ n. Run HaltMode n (start (meaning u) keyboard) f.events f.system) q f.run;
+      run = f.run;
       ends = subst (λ e. EndsBy HaltMode f.system (ending_as e)) ends f.ends;
       is =
           is ∙ ap (λ cs. answer_text (shown_by (names_of cs) (map communication_of o.trace.items)) o.ending trace) (chan ∙ from.channels)
@@ -205,9 +202,6 @@ headline source keyboard list trace u p channels o played bytes x s lawful from 
       input = λ c. f.input c ∙ ap (messages_on c) (sym f.communicates);
       fits = λ c. subst (λ xs. AllFit ((declared u).protocols c) (messages_on c xs)) (sym f.communicates) (f.fits c);
     }
-  where
-    quantum_of : (b : Body) → All (λ c. c.quantum ≡ 1) (b ∷ []) → b.quantum ≡ 1
-    quantum_of b h = h 0 b (omega arith)
 
 -- ---- refusals
 

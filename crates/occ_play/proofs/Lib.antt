@@ -1,10 +1,7 @@
 mod Growth
 mod PlanLemmas
-mod OneStop
 mod PlainStops
-mod TypedTurns
 mod Settling
-mod Simulation
 mod Rerun
 mod Texts
 mod Traces

@@ -8,19 +8,7 @@ use Rattle.occ_term.specs.declared.message.Part.{Part}
 use Rattle.occ_code.specs.Sequential.Machine.{by_place, Body, Instruction, Point, point, Effect, Moves, Stops, Stuck, act, effect, going, going_stored, with_one, with_two, Stored, Stays, Refused, SingleStop, StopsIn, stops_here, passes_on, Stopping}
 use Rattle.occ_code.specs.Sequential.Machine as M
 use Rattle.occ_code.specs.declared.task.Task.{Task}
-use Rattle.occ_code.specs.declared.task.Wait.{Wait}
-use Rattle.occ_code.specs.declared.task.Wait.TheVariants.{Ready, Took, Offers, Awaits, Chooses, Joins, Halted, Done, Faulted}
-
-abbrev pub is_plain : Wait → Bool
-is_plain Ready = true
-is_plain (Took arm indices m) = false
-is_plain (Offers c m) = true
-is_plain (Awaits c) = true
-is_plain (Chooses pri arms) = false
-is_plain (Joins ns) = false
-is_plain Halted = true
-is_plain Done = true
-is_plain (Faulted e) = true
+use Rattle.occ_play.specs.Network.{is_plain}
 
 abbrev IsPlain : Effect → Type 0
 IsPlain (Moves to) = ⊤

@@ -1,6 +1,7 @@
 -- A run in code is a replay.
 use Rattle.std.proofs.Common.{◌≡◌, ℕ, suc, ◌+◌, ◌<◌, ◌^◌, List, [], ◌∷◌, ◌++◌, Some, None, IsTrue, get_or, length, map, take, drop, refl, sym, ap, ◌∙◌, subst, arith, length-append, ◌≤◌, inl, inr}
-use Rattle.std.specs.Prelude.{slice_get, if◌then◌else◌}
+use Rattle.std.specs.Prelude.{All, slice_get, zero, if◌then◌else◌}
+use Rattle.occ_term.specs.Frames.{zero_frame}
 use Rattle.std.proofs.Math.Nat.{mod-one}
 use Rattle.std.proofs.Math.Seq.{take-suc}
 use Rattle.std.proofs.lemmas.List.{take_all, take-append-drop}
@@ -9,15 +10,15 @@ use Rattle.occ_code.specs.Sequential.Machine.{Body}
 use Rattle.occ_code.specs.Sequential.Compiled.{Program, instructions_in, most_instructions}
 use Rattle.occ_code.specs.declared.task.Wait.{Wait}
 use Rattle.occ_code.specs.declared.task.Wait.TheVariants as W
-use Rattle.occ_play.specs.declared.ending.Choice.{Choice}
+use Rattle.occ_net.specs.declared.choice.Choice.{Choice}
 use Rattle.occ_play.specs.declared.network.Network.{Network}
 use Rattle.occ_play.specs.declared.running.Outcome.{Outcome}
 use Rattle.occ_proc.specs.Turns.{HasStop}
 use Rattle.occ_play.specs.Network.{Holds, TurnsTo, communication_of}
-use Rattle.occ_play.specs.Replay.{Net, begins, goes_on, first_net, first_task, at_start, ending_of, first_fault, main_done, ready_from, ending_by, may_go, selected, OneTurn}
-use Rattle.occ_play.specs.Following.{AreBytes, or_limit}
+use Rattle.occ_net.specs.Replay.{Net, begins, goes_on, first_net, first_task, at_start, ending_of, first_fault, main_done, ready_from, ending_by, may_go, selected, OneTurn}
+use Rattle.occ_net.specs.Following.{AreBytes, or_limit}
 use Rattle.occ_play.specs.Outcomes.{Begins, HasOneProcess, HasReplayed, IsOutcome, ending_at}
-use Rattle.occ_play.proofs.Simulation.{has_stop}
+use Rattle.occ_net.proofs.Law.{ready_tasks_stop}
 
 -- ---- the body of the one process
 
@@ -57,13 +58,13 @@ ends_by kb n net h = ap (λ ts. ending_by (first_fault ts) (main_done ts) (ready
 selects_it : (w : Wait) (which : ℕ) → IsTrue (may_go w) → selected (if may_go w then 0 ∷ [] else []) which ≡ Some 0
 selects_it w which g = ap (λ b. selected (if b then 0 ∷ [] else []) which) g ∙ ap (slice_get (0 ∷ [])) (mod-one which)
 
-pub starts : (p : Program) (kb : List ℕ) (body : Body) (n : Network) → p.bodies ≡ body ∷ [] → n.task ≡ first_task 0 body → n.used ≡ 0 → n.trace.items ≡ [] → HasReplayed p kb [] n
+pub starts : (p : Program) (kb : List ℕ) (body : Body) (n : Network) → p.bodies ≡ body ∷ [] → n.task ≡ first_task 0 0 (zero_frame body.cells body.loops) → n.used ≡ 0 → n.trace.items ≡ [] → HasReplayed p kb [] n
 starts p kb body n one t k s =
     record { net = first_net p kb; replays = begins; holds = record { tasks = ap at_start one ∙ ap (λ x. Some x ∷ []) (sym t); bytes = ap (λ i. drop i kb) (sym k); trace = ap (map communication_of) (sym s) } }
 
-pub one_more_turn : (p : Program) (kb : List ℕ) (cs : List Choice) (c : Choice) (body : Body) (old new : Network) → slice_get p.bodies 0 ≡ Some body → ending_at old.task.wait ≡ None → ((net : Net) → Holds kb old net → TurnsTo body kb old new net) → HasReplayed p kb cs old → HasReplayed p kb (cs ++ c ∷ []) new
+pub one_more_turn : (p : Program) (kb : List ℕ) (cs : List Choice) (c : Choice) (body : Body) (old new : Network) → slice_get p.bodies 0 ≡ Some body → ending_at old.task.wait ≡ None → ((bodies : List Body) (pick : ℕ) (net : Net) → Holds kb old net → TurnsTo bodies pick body kb old new net) → HasReplayed p kb cs old → HasReplayed p kb (cs ++ c ∷ []) new
 one_more_turn p kb cs c body old new has open_end turns h =
-    let x = turns h.net h.holds in
+    let x = turns p.bodies c.pick h.net h.holds in
     let g = goes_if old.task.wait open_end in
     let o : OneTurn p c h.net x.next =
     record {
@@ -79,9 +80,15 @@ one_more_turn p kb cs c body old new has open_end turns h =
     } in
     record { net = x.next; replays = goes_on h.replays (ends_by kb old h.net h.holds ∙ open_end) o; holds = x.holds }
 
+-- of one body the quantum is one
+pub alone : (body : Body) → All (λ b. b.quantum ≡ body.quantum) (body ∷ [])
+alone body zero d h = refl
+alone body (suc k) d h = absurd (omega (arith, h))
+
 pub may_stop : (p : Program) (kb : List ℕ) (cs : List Choice) (body : Body) (n : Network) → HasOneProcess p → AreBytes kb → slice_get p.bodies 0 ≡ Some body → 1 + length cs < 2 ^ 64 → ending_at n.task.wait ≡ None → HasReplayed p kb cs n → HasStop body n.task
 may_stop p kb cs body n w bytes has small open_end h =
-    has_stop w.source p body kb cs h.net n.task w.well_formed w.compiled (body_is p body w has) bytes small h.replays h.holds.tasks (goes_if n.task.wait open_end)
+    let x = ready_tasks_stop w.source p body.quantum kb cs h.net 0 body n.task w.well_formed w.lawful w.compiled (subst (All (λ b. b.quantum ≡ body.quantum)) (sym (body_is p body w has)) (alone body)) bytes small h.replays has (ap (λ ts. slice_get ts 0) h.holds.tasks) (goes_if n.task.wait open_end) in
+    record { after = x.0; stops = x.1 }
 
 pub outcome : (p : Program) (kb : List ℕ) (list : List Choice) (n : Network) (o : Outcome) → HasReplayed p kb o.choices.items n → o.trace ≡ n.trace → Begins o.choices.items list → o.ending ≡ or_limit (ending_at n.task.wait) → (ending_at n.task.wait ≡ None → o.choices.items ≡ list) → IsOutcome p kb list o
 outcome p kb list n o h t b e w =

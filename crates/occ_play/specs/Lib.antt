@@ -1,9 +1,6 @@
 pub mod Counting
-pub mod Endings
 pub mod Plans
-pub mod Replay
 pub mod Network
-pub mod Following
 pub mod Outcomes
 pub mod Answers
 pub mod Status

@@ -1,13 +1,15 @@
 -- The private network of one process, as a state of the replay.
-use Rattle.std.specs.Prelude.{List, None, Option, Some, [], drop, if◌then◌else◌, map, nat_eq, slice_get, ℕ, ◌∷◌, ◌≡◌}
+use Rattle.std.specs.Prelude.{Bool, false, true, List, None, Option, Some, [], drop, if◌then◌else◌, map, nat_eq, slice_get, ℕ, ◌∷◌, ◌≡◌}
 use Rattle.occ_term.specs.System as S
 use Rattle.occ_code.specs.Sequential.Machine.{Body, Stopping}
 use Rattle.occ_code.specs.declared.task.Task.{Task}
+use Rattle.occ_code.specs.declared.task.Wait.{Wait}
+use Rattle.occ_code.specs.declared.task.Wait.TheVariants.{Ready, Took, Offers, Awaits, Chooses, Joins, Halted, Done, Faulted}
 use Rattle.occ_play.specs.declared.trace.End.{End}
 use Rattle.occ_play.specs.declared.trace.End.TheVariants.{Process, Keyboard, Screen, Error}
 use Rattle.occ_play.specs.declared.trace.Communication.{Communication}
 use Rattle.occ_play.specs.declared.network.Network.{Network}
-use Rattle.occ_play.specs.Replay.{Net, Settled, byte_message, took_turn}
+use Rattle.occ_net.specs.Replay.{Net, Settled, byte_message, took_turn}
 
 abbrev pub end_of : End → S.End
 end_of (Process n) = S.OfProcess n
@@ -36,16 +38,28 @@ byte_on c keyboard used = if nat_eq c 0 then slice_get keyboard used else None
 abbrev pub byte_taken : ℕ → Communication
 byte_taken b = record { chan = 0; sender = Keyboard; receiver = Process 0; message = byte_message b }
 
--- what can be joined is joined
-pub record SettlesTo (keyboard : List ℕ) (new : Network) (net : Net) : Type 0 where
+-- waits for no branches and for no alternatives
+abbrev pub is_plain : Wait → Bool
+is_plain Ready = true
+is_plain (Took arm indices m) = false
+is_plain (Offers c m) = true
+is_plain (Awaits c) = true
+is_plain (Chooses pri arms) = false
+is_plain (Joins ns) = false
+is_plain Halted = true
+is_plain Done = true
+is_plain (Faulted e) = true
+
+-- what the turn made possible happens
+pub record SettlesTo (bodies : List Body) (pick : ℕ) (keyboard : List ℕ) (new : Network) (net : Net) : Type 0 where
   pub next : Net
-  pub settles : Settled net next
+  pub settles : Settled bodies 0 pick net next
   pub holds : Holds keyboard new next
 
--- a turn of the one process, and what is joined then
-pub record TurnsTo (body : Body) (keyboard : List ℕ) (old new : Network) (net : Net) : Type 0 where
+-- a turn of the one process, and what happens then
+pub record TurnsTo (bodies : List Body) (pick : ℕ) (body : Body) (keyboard : List ℕ) (old new : Network) (net : Net) : Type 0 where
   pub after : Task
   pub next : Net
   pub stops : Stopping body old.task after
-  pub settles : Settled (took_turn net 0 after) next
+  pub settles : Settled bodies 0 pick (took_turn net 0 after) next
   pub holds : Holds keyboard new next

@@ -1,16 +1,16 @@
 -- What a run of a plan comes to.
 use Rattle.std.specs.Prelude.{List, None, Option, [], if◌then◌else◌, map, ℕ, ◌++◌, ◌∷◌, ◌≡◌}
-use Rattle.occ_term.specs.Unfolding.{Unfolding, IsWellFormed}
+use Rattle.occ_term.specs.Unfolding.{Unfolding, IsWellFormed, Lawful}
 use Rattle.occ_code.specs.Sequential.Machine.{Body}
 use Rattle.occ_code.specs.Sequential.Compiled.{Program, IsCompiledFrom}
 use Rattle.occ_code.specs.declared.task.Wait.{Wait}
-use Rattle.occ_play.specs.declared.ending.Choice.{Choice}
-use Rattle.occ_play.specs.declared.ending.Ending.{Ending}
+use Rattle.occ_net.specs.declared.choice.Choice.{Choice}
+use Rattle.occ_net.specs.declared.ending.Ending.{Ending}
 use Rattle.occ_play.specs.declared.network.Network.{Network}
 use Rattle.occ_play.specs.declared.running.Outcome.{Outcome}
 use Rattle.occ_play.specs.Network.{Holds, communication_of}
-use Rattle.occ_play.specs.Replay.{Net, Replays, ending_of, ending_by, or_later, fault_of, is_done, may_go}
-use Rattle.occ_play.specs.Following.{or_limit}
+use Rattle.occ_net.specs.Replay.{Net, Replays, ending_of, ending_by, or_later, fault_of, is_done, may_go}
+use Rattle.occ_net.specs.Following.{or_limit}
 
 -- one list is a beginning of the other
 pub record Begins {X : Type 0} (front whole : List X) : Type 0 where
@@ -23,10 +23,11 @@ pub record HasReplayed (p : Program) (keyboard : List ℕ) (choices : List Choic
   pub replays : Replays p keyboard choices net
   pub holds : Holds keyboard n net
 
--- compiled from a program of one process, which has this body
+-- compiled from a lawful program of one process, which has this body
 pub record HasOneProcess (p : Program) : Type 0 where
   pub source : Unfolding
   pub well_formed : IsWellFormed source
+  pub lawful : Lawful source
   pub compiled : IsCompiledFrom source p
   pub body : Body
   pub alone : p.bodies ≡ body ∷ []

@@ -24,17 +24,17 @@ use Rattle.occ_check.specs.declared.fault.CheckFault.{CheckFault}
 use Rattle.occ_check.specs.CheckRefuses.{CheckRefuses}
 use Rattle.occ_code.specs.declared.compiler.code.CodeFault.{CodeFault}
 use Rattle.occ_code.specs.declared.compiler.code.CodeFault.TheVariants as code
-use Rattle.occ_play.specs.declared.ending.Choice.{Choice}
-use Rattle.occ_play.specs.declared.ending.Ending.TheVariants as E
+use Rattle.occ_net.specs.declared.choice.Choice.{Choice}
+use Rattle.occ_net.specs.declared.ending.Ending.TheVariants as E
 use Rattle.occ_play.specs.declared.playing.Played.{Played}
 use Rattle.occ_play.specs.declared.counted.Counted.{Counted}
 use Rattle.occ_play.specs.declared.fault.PlayFault.{PlayFault}
 use Rattle.occ_play.specs.declared.fault.PlayFault.TheVariants as play
 use Rattle.occ_play.specs.Answers.{answer_text, names_of}
 use Rattle.occ_play.specs.Counting.{failures_of, writer_of}
-use Rattle.occ_play.specs.Following.{AllFit, ending_as, process_in}
+use Rattle.occ_net.specs.Following.{AllFit, ending_as, process_in}
 use Rattle.occ_play.specs.Outcomes.{Begins}
-use Rattle.occ_play.specs.Replay.{Net, Replays}
+use Rattle.occ_net.specs.Replay.{Net, Replays}
 
 -- ---- what a text is
 

@@ -3,10 +3,9 @@
 
 mod answer;
 pub mod counted;
-pub mod ending;
 pub mod fault;
-pub mod laws;
 mod network;
+pub mod plan;
 pub mod playing;
 pub mod program;
 mod running;
@@ -14,8 +13,9 @@ pub mod trace;
 pub mod words;
 
 pub use counted::Counted;
-pub use ending::{Choice, Ending, Plan};
 pub use fault::PlayFault;
+pub use occ_net::{Choice, Ending};
+pub use plan::Plan;
 pub use playing::{Played, play, status_of};
 pub use program::run;
 pub use trace::{Communication, End};

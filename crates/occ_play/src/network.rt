@@ -1,13 +1,15 @@
 //! The network of one process, with the keyboard, the screen and the error channel.
-ghost use Rattle.std.specs.Prelude.{◌≡◌, ◌+◌, ◌<◌, ◌^◌, ◌++◌, ◌∷◌, [], IfOk, OnOk, length};
+ghost use Rattle.std.specs.Prelude.{◌≡◌, ◌+◌, ◌<◌, ◌^◌, ◌++◌, ◌∷◌, [], IfOk, IsTrue, List, OnOk, length, ℕ};
 ghost use Rattle.occ_proc.specs.Turns.{HasStop};
-ghost use Rattle.occ_play.specs.Network.{Holds, SettlesTo, TurnsTo, byte_on, byte_taken, reader_of};
-ghost use Rattle.occ_play.specs.Replay.{Net, byte_message, first_task, has_taken};
+ghost use Rattle.occ_term.specs.Frames.{zero_frame};
+ghost use Rattle.occ_code.specs.Sequential.Machine as machine;
+ghost use Rattle.occ_play.specs.Network.{Holds, SettlesTo, TurnsTo, byte_on, byte_taken, is_plain, reader_of};
+ghost use Rattle.occ_net.specs.Replay.{Net, byte_message, first_task, has_taken};
 ghost use Rattle.occ_play.specs.Outcomes.{ending_at};
 
-use crate::ending::Ending;
 use crate::trace::{Communication, End};
 use occ_code::{Body, Task, Wait};
+use occ_net::Ending;
 use occ_proc::{Scratch, advance};
 use occ_term::{Frame, Message, Part, Primitive};
 use sqlite_items::Items;
@@ -34,7 +36,7 @@ pub(crate) struct Network {
 impl Network {
     /// The network before its first turn.
     pub(crate) fn new(alloc: Global, body: &Body) -> Result<Network, AllocError>
-        ensures task { IfOk result (λ n. n.task ≡ first_task 0 body.now) }
+        ensures task { IfOk result (λ n. n.task ≡ first_task 0 0 (zero_frame body.now.cells body.now.loops)) }
         ensures used { IfOk result (λ n. n.used ≡ 0) }
         ensures trace { IfOk result (λ n. n.trace.items ≡ []) }
     {
@@ -77,7 +79,7 @@ impl Network {
         requires small { length body.now.code + 1 < 2 ^ 32 }
         requires counts { self.old.task.turns + 1 < 2 ^ 64 }
         requires stops { HasStop body.now self.old.task }
-        ensures turns_to { OnOk result ((net : Net) → Holds keyboard.now self.old net → TurnsTo body.now keyboard.now self.old self.new net) }
+        ensures turns_to { OnOk result ((bodies : List machine.Body) (pick : ℕ) (net : Net) → Holds keyboard.now self.old net → TurnsTo bodies pick body.now keyboard.now self.old self.new net) }
         ensures counted { OnOk result (self.new.task.turns ≡ self.old.task.turns + 1) }
     {
         advance(alloc, body, scratch, &mut self.task)?;
@@ -87,7 +89,7 @@ impl Network {
 
     /// What the process offers or awaits is joined with the other end, if there is one.
     fn settle(&mut self, alloc: Global, keyboard: &[u8]) -> Result<(), AllocError>
-        ensures settles { OnOk result ((net : Net) → Holds keyboard.now self.old net → SettlesTo keyboard.now self.new net) }
+        ensures settles { OnOk result ((bodies : List machine.Body) (pick : ℕ) (net : Net) → IsTrue (is_plain self.old.task.wait) → Holds keyboard.now self.old net → SettlesTo bodies pick keyboard.now self.new net) }
         ensures same_count { OnOk result (self.new.task.turns ≡ self.old.task.turns) }
     {
         match mem::replace(&mut self.task.wait, Wait::Ready) {

@@ -8,11 +8,12 @@ ghost use Rattle.occ_play.specs.Status.{status};
 
 use crate::answer::answer;
 use crate::counted::{Counted, write_answer};
-use crate::ending::{Choice, Ending, Plan};
+use crate::plan::Plan;
 use crate::fault::PlayFault;
 use crate::running::{Outcome, run};
 use occ_check::{CheckFault, unfold};
 use occ_code::{CodeFault, compile};
+use occ_net::{Choice, Ending};
 use occ_parse::parse;
 use occ_term::{Checked, Refused, Unfolded, UsageFault, check_usage};
 use occ_text::{TextFault, read_lines};

@@ -8,7 +8,7 @@ ghost use Rattle.occ_play.specs.Failures.{failure_status};
 ghost use Rattle.occ_play.specs.Plans.{choices_of};
 
 use crate::counted::Counted;
-use crate::ending::Plan;
+use crate::plan::Plan;
 use crate::fault::PlayFault;
 use crate::playing::{Played, play, status_of};
 use crate::words::{Words, read_words};

@@ -3,10 +3,11 @@ ghost use Rattle.std.specs.Prelude.{◌≡◌, ◌<◌, ◌^◌, ◌+◌, IfOk, 
 ghost use Rattle.occ_play.specs.Outcomes.{HasOneProcess, IsOutcome};
 ghost use Rattle.occ_play.specs.Plans.{choices_of};
 
-use crate::ending::{Choice, Ending, Plan};
+use crate::plan::Plan;
 use crate::network::Network;
 use crate::trace::Communication;
 use occ_code::Code;
+use occ_net::{Choice, Ending};
 use occ_proc::Scratch;
 use std::alloc::{AllocError, Global};
 

@@ -3,7 +3,7 @@ use Rattle.std.specs.Prelude.{slice_get}
 use Rattle.std.proofs.lemmas.Option.{slice_get_within}
 use Rattle.occ_play.specs.Plans.{choices_of}
 use Rattle.occ_play.specs.Outcomes.{HasReplayed, ending_at}
-use Rattle.occ_play.specs.Following.{or_limit}
+use Rattle.occ_net.specs.Following.{or_limit}
 use Rattle.occ_play.proofs.Rerun.{starts, one_more_turn, may_stop, outcome, are_bytes, body_is, body_small, is_there, one_more_used, begins_by, all_used}
 use Rattle.occ_play.proofs.running.run.Goals as goal
 

@@ -3,8 +3,8 @@ use Rattle.std.specs.Prelude.{List, ℕ, ◌++◌, codes}
 use Rattle.std.specs.Fmt.{decimal}
 use Rattle.occ_term.specs.declared.fault.FaultKind.{FaultKind}
 use Rattle.occ_term.specs.declared.fault.FaultKind.TheVariants.{Arith, Range, Convert, Shift, Count}
-use Rattle.occ_play.specs.declared.ending.Ending.{Ending}
-use Rattle.occ_play.specs.declared.ending.Ending.TheVariants.{Ended, Stopped, Fault, Limit}
+use Rattle.occ_net.specs.declared.ending.Ending.{Ending}
+use Rattle.occ_net.specs.declared.ending.Ending.TheVariants.{Ended, Stopped, Fault, Limit}
 
 abbrev pub kind_text : FaultKind → List ℕ
 kind_text Arith = codes "ARITH"
