@@ -2,7 +2,7 @@ mod Placed
 mod Placing
 mod Fewer
 mod Turning
-mod OneStop
+pub mod OneStop
 mod Holding
 mod Putting
 mod Changing
@@ -21,4 +21,4 @@ mod Runs
 mod Settling
 mod Beginning
 mod Whole
-mod Law
+pub mod Law

@@ -15,8 +15,8 @@ use Rattle.occ_term.specs.declared.protocol.Protocol.TheVariants.{Simple}
 use Rattle.occ_term.specs.declared.usage.UsageFault.{UsageFault}
 use Rattle.occ_term.specs.declared.usage.UsageFault.TheVariants as usage
 use Rattle.occ_term.specs.Refusals.{UsageRefuses}
-use Rattle.occ_term.specs.System.{HaltMode, start}
-use Rattle.occ_term.specs.Runs.{Run, communications, messages_on, shown, shown_by, EndsBy}
+use Rattle.occ_term.specs.System.{HaltMode}
+use Rattle.occ_term.specs.Runs.{communications, messages_on, shown, shown_by, EndsBy}
 use Rattle.occ_term.specs.TermTyping.{Declared}
 use Rattle.occ_term.specs.Unfolding.{Unfolding, IsWellFormed, declared, meaning, Lawful}
 use Rattle.occ_code.specs.Alike.{FitsProtocol}

@@ -1,5 +1,5 @@
 -- Code without PAR and ALT neither forks nor chooses: none of its stops waits for branches or for alternatives.
-use Rattle.std.proofs.Common.{ℕ, ℤ, Bool, true, false, IsTrue, List, [], ◌∷◌, Option, Some, None, refl, sym, subst}
+use Rattle.std.proofs.Common.{ℕ, ℤ, IsTrue, List, [], ◌∷◌, Option, Some, None, refl, sym, subst}
 use Rattle.std.specs.Prelude.{slice_get, ⊤}
 use Rattle.occ_term.specs.Frames.{Variables}
 use Rattle.occ_term.specs.Storing.{Spot}

@@ -15,7 +15,7 @@ use Rattle.occ_play.specs.declared.trace.End.{End}
 use Rattle.occ_play.specs.declared.trace.End.TheVariants.{Process, Screen, Error}
 use Rattle.occ_play.specs.declared.network.Network.{Network}
 use Rattle.occ_play.specs.Network.{Holds, is_plain, SettlesTo, TurnsTo, byte_on, byte_taken, communication_of, end_of, reader_of}
-use Rattle.occ_net.specs.Replay.{Net, HasTask, Joined, joined, task_gives, keyboard_gives, task_gets, arm_gets, screen_gets, error_gets, Happens, meets, skips, forks, joins, Settled, settles, stays, made_ready, has_taken, byte_message, took_turn, with_task, traced, one_more}
+use Rattle.occ_net.specs.Replay.{Net, HasTask, Joined, joined, Gets, task_gives, keyboard_gives, task_gets, arm_gets, screen_gets, error_gets, Happens, meets, skips, forks, joins, Settled, settles, stays, made_ready, has_taken, byte_message, took_turn, with_task, traced, one_more}
 
 pub only_task : (t u : Task) (n : ℕ) → slice_get (Some t ∷ []) n ≡ Some (Some u) → (n ≡ 0) × (t ≡ u)
 only_task t u zero e = (refl, cc)
@@ -49,9 +49,6 @@ pub record Unmet (net : Net) (t : Task) : Type 0 where
 
 -- ---- what is met happens, and where nothing is met nothing happens
 
-no_task : {i : ℕ} {u : Task} → slice_get [] i ≡ Some (Some u) → ⊥
-no_task e = cc
-
 not_plain : {w v : Wait} → w ≡ v → is_plain v ≡ false → IsTrue (is_plain w) → ⊥
 not_plain e f h = true≢false (sym h ∙ ap is_plain e ∙ f)
 
@@ -77,17 +74,24 @@ module _ (bodies : List Body) (pick : ℕ) (net : Net) (t : Task) (only : net.ta
       let z = only_task (made_ready u) v i y in
       ap (λ r. r.wait) z.1 ∙ e
 
+  none_gets : Unmet net t → (c n : ℕ) (m : Message) (u : Task) → HasTask net.tasks n u → u.wait ≡ W.Offers c m → {offers : ℕ → Bool} {y : S.End} {a b : Net} → Gets pick offers c m y a b → a.tasks ≡ slice_set net.tasks n (Some (made_ready u)) → ⊥
+  none_gets x c n m u at w (task_gets {n = i} {t = v} h e) q = let r = none_left n u v i _ at (subst (λ ts. HasTask ts i v) q h) e in absurd cc
+  none_gets x c n m u at w (arm_gets {n = i} {t = v} h e f g) q = let r = none_left n u v i _ at (subst (λ ts. HasTask ts i v) q h) e in absurd cc
+  none_gets x c n m u at w (screen_gets e) q = let same = (found n u at).1 in true≢false (sym (ap is_read e) ∙ x.offers c m (ap (λ r. r.wait) same ∙ w))
+  none_gets x c n m u at w (error_gets e) q = let same = (found n u at).1 in true≢false (sym (ap is_read e) ∙ x.offers c m (ap (λ r. r.wait) same ∙ w))
+
+  no_byte_gets : Unmet net t → IsTrue (is_plain t.wait) → (c b : ℕ) (kb : List ℕ) (m : Message) → net.keyboard ≡ b ∷ kb → c ≡ 0 → {offers : ℕ → Bool} {y : S.End} {a e : Net} → Gets pick offers c m y a e → a.tasks ≡ net.tasks → ⊥
+  no_byte_gets x plain c b kb m q z (task_gets {n = i} {t = v} h e) r =
+      let same = (found i v (subst (λ ts. HasTask ts i v) r h)).1 in
+      let stands : has_byte net.keyboard c ≡ true = ap (λ k. has_byte k c) q ∙ ap (λ k. nat_eq k 0) z in
+      true≢false (sym stands ∙ x.awaits c (ap (λ y. y.wait) same ∙ e))
+  no_byte_gets x plain c b kb m q z (arm_gets {n = i} {t = v} h e f g) r = let same = (found i v (subst (λ ts. HasTask ts i v) r h)).1 in not_plain (ap (λ y. y.wait) same ∙ e) refl plain
+  no_byte_gets x plain c b kb m q z (screen_gets e) r = let y = sym z ∙ e in absurd cc
+  no_byte_gets x plain c b kb m q z (error_gets e) r = let y = sym z ∙ e in absurd cc
+
   no_meeting : Unmet net t → IsTrue (is_plain t.wait) → {x : S.Communication} {b : Net} → Joined pick net x b → ⊥
-  no_meeting x plain (joined (task_gives {n = n} {t = u} at w) (task_gets {n = i} {t = v} h e)) = let q = none_left n u v i _ at h e in absurd cc
-  no_meeting x plain (joined (task_gives {n = n} {t = u} at w) (arm_gets {n = i} {t = v} h e f g)) = let q = none_left n u v i _ at h e in absurd cc
-  no_meeting x plain (joined (task_gives {n = n} {t = u} at w) (screen_gets e)) = let same = (found n u at).1 in true≢false (sym (ap is_read e) ∙ x.offers _ _ (ap (λ r. r.wait) same ∙ w))
-  no_meeting x plain (joined (task_gives {n = n} {t = u} at w) (error_gets e)) = let same = (found n u at).1 in true≢false (sym (ap is_read e) ∙ x.offers _ _ (ap (λ r. r.wait) same ∙ w))
-  no_meeting x plain (joined (keyboard_gives {kb = kb} q z r) (task_gets {n = i} {t = v} h e)) =
-      let same = (found i v h).1 in
-      true≢false (sym (ap (λ k. has_byte net.keyboard k) z ∙ ap (λ k. has_byte k 0) q) ∙ x.awaits _ (ap (λ y. y.wait) same ∙ e))
-  no_meeting x plain (joined (keyboard_gives q z r) (arm_gets {n = i} {t = v} h e f g)) = let same = (found i v h).1 in not_plain (ap (λ y. y.wait) same ∙ e) refl plain
-  no_meeting x plain (joined (keyboard_gives q z r) (screen_gets e)) = let y = sym z ∙ e in absurd cc
-  no_meeting x plain (joined (keyboard_gives q z r) (error_gets e)) = let y = sym z ∙ e in absurd cc
+  no_meeting x plain (joined {c = c} {m = m} (task_gives {n = n} {t = u} at w) g) = none_gets x c n m u at w g refl
+  no_meeting x plain (joined {c = c} {m = m} (keyboard_gives {b = b} {kb = kb} q z r) g) = no_byte_gets x plain c b kb m q z g refl
 
   pub nothing_happens : Unmet net t → IsTrue (is_plain t.wait) → Settled bodies 0 pick net net
   nothing_happens x plain = stays (λ b h. none h)

@@ -8,8 +8,8 @@ ghost use Rattle.occ_play.specs.Status.{status};
 
 use crate::answer::answer;
 use crate::counted::{Counted, write_answer};
-use crate::plan::Plan;
 use crate::fault::PlayFault;
+use crate::plan::Plan;
 use crate::running::{Outcome, run};
 use occ_check::{CheckFault, unfold};
 use occ_code::{CodeFault, compile};

@@ -8,8 +8,8 @@ ghost use Rattle.occ_play.specs.Failures.{failure_status};
 ghost use Rattle.occ_play.specs.Plans.{choices_of};
 
 use crate::counted::Counted;
-use crate::plan::Plan;
 use crate::fault::PlayFault;
+use crate::plan::Plan;
 use crate::playing::{Played, play, status_of};
 use crate::words::{Words, read_words};
 use clap::error::ErrorKind as WordsErrorKind;

@@ -3,8 +3,8 @@ ghost use Rattle.std.specs.Prelude.{◌≡◌, ◌<◌, ◌^◌, ◌+◌, IfOk, 
 ghost use Rattle.occ_play.specs.Outcomes.{HasOneProcess, IsOutcome};
 ghost use Rattle.occ_play.specs.Plans.{choices_of};
 
-use crate::plan::Plan;
 use crate::network::Network;
+use crate::plan::Plan;
 use crate::trace::Communication;
 use occ_code::Code;
 use occ_net::{Choice, Ending};
