@@ -203,9 +203,9 @@ fn assigning(
 ) -> Result<Term, CheckFault>
     ensures { Unfolds term_of result numbers.new (assigning (names_in scope.entry) line depth (lines.var_of variables.now.first ∷ map lines.var_of variables.now.others.items) (tree_of values.now.first ∷ map tree_of values.now.others.items) (numbers_of numbers.old)) }
 {
-    let term = assigned(alloc, scope, line, variables, values)?;
-    count_line(numbers, depth, &term)?;
-    Ok(term)
+    let term = Held::new(assigned(alloc, scope, line, variables, values)?);
+    count_line(numbers, depth, &term.value)?;
+    Ok(term.into_inner())
 }
 
 /// An output with its nodes.
@@ -220,9 +220,9 @@ fn outputting(
 ) -> Result<Term, CheckFault>
     ensures { Unfolds term_of result numbers.new (outputting (names_in scope.entry) line depth (lines.var_of channel.now) (lines.out_of outs.now.first) (map lines.out_of outs.now.others.items) (numbers_of numbers.old)) }
 {
-    let term = output(alloc, scope, line, channel, outs)?;
-    count_line(numbers, depth, &term)?;
-    Ok(term)
+    let term = Held::new(output(alloc, scope, line, channel, outs)?);
+    count_line(numbers, depth, &term.value)?;
+    Ok(term.into_inner())
 }
 
 /// An input with its nodes.

@@ -1,6 +1,6 @@
 //! Processes that stand in one line, and the parts of the others that declare nothing.
 
-ghost use Rattle.std.specs.Prelude.{◌≡◌, ◌∷◌, [], IfOk, map, option_map, reverse};
+ghost use Rattle.std.specs.Prelude.{◌≡◌, ◌∷◌, [], IfOk, map, option_map};
 ghost use Rattle.occ_tree.specs.Expressions.Trees as trees;
 ghost use Rattle.occ_tree.specs.Lines.Views as lines;
 ghost use Rattle.occ_term.specs.Terms.{no_variants, or_variant};
@@ -19,6 +19,7 @@ use crate::scope::Scope;
 use crate::target::{apart, placed, stored, stored_list};
 use crate::typed::{Part, Typed};
 use crate::types::are_same_sizes;
+use indexmap::IndexSet;
 use occ_held::Held;
 use occ_term::{Item, Place, Primitive, Protocol, Reception, Target, Term, TermExpr, Variant};
 use occ_tree::tree::expr::Expr;
@@ -39,7 +40,7 @@ pub(crate) enum Listed {
 #[derive(Drop)]
 pub(crate) struct Chosen {
     /// The constants, in order.
-    pub constants: Items<i64>,
+    pub constants: IndexSet<i64>,
     /// Whether ELSE stands there.
     pub has_else: bool,
 }
@@ -378,7 +379,6 @@ pub(crate) fn choosing(
 }
 
 /// One constant more.
-#[tactic(auto, unfolding(occ_unfolding::specs::Actions::choosing))]
 fn choosing_one(
     alloc: Global,
     line: u32,
@@ -387,18 +387,11 @@ fn choosing_one(
 ) -> Result<(), CheckFault>
     ensures { Chooses result chosen.new (meant.choosing (constant.now ∷ []) (chosen_of chosen.old)) }
 {
-    if has_constant(constant, chosen.constants.as_slice()) {
+    let added = chosen.constants.insert(*constant)?;
+    if !added {
         return Err(constant_twice(alloc, line, *constant));
     }
-    chosen.constants.push(*constant)?;
     Ok(())
-}
-
-/// Whether a constant stands in a list.
-fn has_constant(constant: &i64, list: &[i64]) -> bool
-    ensures { result ≡ meant.has_constant constant.now (reverse list.now) }
-{
-    list.contains(constant)
 }
 
 /// The fault of a constant that stands twice.

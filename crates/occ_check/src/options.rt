@@ -24,6 +24,7 @@ use crate::measuring::count_constants;
 use crate::numbers::Numbers;
 use crate::scope::{Position, Scope};
 use crate::unfolder::Unfolder;
+use indexmap::IndexSet;
 use occ_held::Held;
 use occ_term::{Primitive, Selection as TermSelection, Term, TermExpr};
 use occ_tree::tree::expr::Expr;
@@ -234,7 +235,7 @@ fn none_chosen(alloc: Global) -> Chosen
     ensures { chosen_of result ≡ meant.none_chosen }
 {
     Chosen {
-        constants: Items::new(alloc),
+        constants: IndexSet::new(alloc),
         has_else: false,
     }
 }
