@@ -1,12 +1,11 @@
 -- Whether a number stands in a list.
 use Rattle.std.proofs.Common.{◌≡◌, ℕ, ℤ, zero, suc, ◌+◌, ◌<◌, ◌≤◌, List, [], ◌∷◌, ◌++◌, drop, get_or, length, reverse, Bool, true, false, cond, refl, subst, sym, ap, ◌∙◌, arith}
 use Rattle.std.specs.List.{list_any}
-use Rattle.std.specs.Prelude.{nat_eq, ◌||◌}
+use Rattle.std.specs.Prelude.{nat_eq, not, ◌||◌}
 use Rattle.std.specs.Ordering.{int_eq}
 use Rattle.std.proofs.Math.Seq.{drop-cons}
-use Rattle.std.proofs.lemmas.Cmp.{int_eq_equiv}
 use Rattle.std.proofs.lemmas.Grind.{reverse_onto}
-use Rattle.std.proofs.lemmas.List.{drop_all}
+use Rattle.std.proofs.lemmas.List.{drop_all, reverse-append}
 use Rattle.occ_unfolding.specs.Actions.{has_constant, has_number}
 
 pub among : {A : Type 0} → (A → Bool) → List A → Bool
@@ -70,14 +69,28 @@ unfolding among
 among_reverse test [] = refl
 among_reverse test (x ∷ xs) = ap (among test) (reverse_onto xs x []) ∙ at_end test (reverse xs) x ∙ ap (cond (test x) true) (among_reverse test xs)
 
-any_among : (v : ℤ) (ws : List ℤ) → list_any (λ y. int_eq y v) ws ≡ among (int_eq v) ws
+any_among : (v : ℤ) (ws : List ℤ) → list_any (λ y. int_eq v y) ws ≡ among (int_eq v) ws
 unfolding among
 any_among v [] = refl
-any_among v (w ∷ ws) = ap (λ b. b || list_any (λ y. int_eq y v) ws) (int_eq_equiv.symm w v) ∙ by (int_eq v w) ∙ ap (cond (int_eq v w) true) (any_among v ws)
+any_among v (w ∷ ws) = by (int_eq v w) ∙ ap (cond (int_eq v w) true) (any_among v ws)
   where
-    by : (b : Bool) → (b || list_any (λ y. int_eq y v) ws) ≡ cond b true (list_any (λ y. int_eq y v) ws)
+    by : (b : Bool) → (b || list_any (λ y. int_eq v y) ws) ≡ cond b true (list_any (λ y. int_eq v y) ws)
     by true = refl
     by false = refl
 
-pub any_constant : (v : ℤ) (ws : List ℤ) → list_any (λ y. int_eq y v) ws ≡ has_constant v (reverse ws)
+any_constant : (v : ℤ) (ws : List ℤ) → list_any (λ y. int_eq v y) ws ≡ has_constant v (reverse ws)
 any_constant v ws = any_among v ws ∙ sym (among_reverse (int_eq v) ws) ∙ sym (constant_among v (reverse ws))
+
+-- what a set of constants tells of one that is put in, and what it has then
+pub constant_told : (v u : ℤ) (ws : List ℤ) (added : Bool) → u ≡ v → added ≡ not (list_any (λ y. int_eq u y) ws) → has_constant v (reverse ws) ≡ not added
+constant_told v u ws added same e =
+    ap (λ w. has_constant w (reverse ws)) (sym same) ∙ sym (any_constant u ws) ∙ twice_not (list_any (λ y. int_eq u y) ws) ∙ ap not (sym e)
+  where
+    twice_not : (b : Bool) → b ≡ not (not b)
+    twice_not true = refl
+    twice_not false = refl
+
+pub constants_more : (v u : ℤ) (ws now : List ℤ) → u ≡ v → has_constant v (reverse ws) ≡ false → now ≡ cond (list_any (λ y. int_eq u y) ws) ws (ws ++ u ∷ []) → reverse now ≡ v ∷ reverse ws
+constants_more v u ws now same lacks is =
+    let none : list_any (λ y. int_eq u y) ws ≡ false = any_constant u ws ∙ ap (λ w. has_constant w (reverse ws)) same ∙ lacks in
+    ap reverse (is ∙ ap (λ b. cond b ws (ws ++ u ∷ [])) none) ∙ reverse-append ws (u ∷ []) ∙ ap (λ w. w ∷ reverse ws) same

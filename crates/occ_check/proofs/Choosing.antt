@@ -1,5 +1,5 @@
 -- Constants of a CASE, from one to the next.
-use Rattle.std.proofs.Common.{◌≡◌, ℕ, ℤ, suc, ◌+◌, ◌<◌, ◌≤◌, List, [], ◌∷◌, drop, get_or, length, Bool, Option, Some, None, refl, sym, ap, ◌∙◌, arith}
+use Rattle.std.proofs.Common.{◌≡◌, ℕ, ℤ, suc, ◌+◌, ◌<◌, ◌≤◌, List, [], ◌∷◌, drop, get_or, length, Bool, true, false, Option, Some, None, refl, sym, ap, ◌∙◌, arith}
 use Rattle.std.specs.Prelude.{not, pos}
 use Rattle.std.proofs.Math.Seq.{drop-cons}
 use Rattle.std.proofs.lemmas.List.{drop_all}
@@ -13,6 +13,15 @@ use Rattle.occ_check.proofs.Refusals.{none_then, refused_with, then_nothing}
 one_first : (v : ℤ) (vs : List ℤ) (c : Chosen) → choosing (v ∷ vs) c ≡ (choosing (v ∷ []) c >>= choosing vs)
 unfolding choosing
 one_first v vs c = ap (λ r. r >>= choosing vs) (sym (then_nothing (keep (not (has_constant v c.constants)) (record c { constants = v ∷ c.constants }))))
+
+-- one that stands there already, and one that doesn't
+pub chosen_before : (v : ℤ) (c : Chosen) → has_constant v c.constants ≡ true → choosing (v ∷ []) c ≡ None
+unfolding choosing
+chosen_before v c h = ap (λ b. keep (not b) (record c { constants = v ∷ c.constants }) >>= choosing []) h
+
+pub chosen_now : (v : ℤ) (c : Chosen) → has_constant v c.constants ≡ false → choosing (v ∷ []) c ≡ Some (record c { constants = v ∷ c.constants })
+unfolding choosing
+chosen_now v c h = ap (λ b. keep (not b) (record c { constants = v ∷ c.constants }) >>= choosing []) h
 
 -- the constants from the i-th on leave what all leave
 pub record Going (vs : List ℤ) (i : ℕ) (first now : Chosen) : Type 0 where

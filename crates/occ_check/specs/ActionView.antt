@@ -28,7 +28,7 @@ listed_of (Tagged tag targets) = A.tagged_list tag (targets_of targets)
 
 -- the last constant first
 abbrev pub chosen_of : Chosen → A.Chosen
-chosen_of c = record { constants = reverse c.constants; has_else = c.has_else }
+chosen_of c = record { constants = reverse c.constants.keys; has_else = c.has_else }
 
 -- what is chosen then is what the definition gives
 abbrev pub Chooses : {X : Type 0} → Result X CheckFault → Chosen → Option A.Chosen → Type 0

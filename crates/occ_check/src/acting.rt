@@ -32,6 +32,7 @@ use crate::measuring::{
 use crate::numbers::Numbers;
 use crate::scope::{Position, Scope};
 use crate::unfolder::Unfolder;
+use occ_held::Held;
 use occ_term::{Declaration, Place, Primitive, Term, TermExpr};
 use occ_tree::tree::expr::Expr;
 use occ_tree::tree::line::{Input, OneOrMore, Out, Var};
@@ -184,9 +185,10 @@ pub(crate) fn counted_expression(
     ensures counted { Unfolds expression_of result numbers.new (heading (expression_of e) depth (numbers_of numbers.old)) }
     ensures within { IfOk result (λ _. depth < 200) }
 {
+    let e = Held::new(e);
     numbers.node(depth)?;
-    count_expression(numbers, depth + 1, &e)?;
-    Ok(e)
+    count_expression(numbers, depth + 1, &e.value)?;
+    Ok(e.into_inner())
 }
 
 /// An assignment with its nodes.
@@ -201,9 +203,9 @@ fn assigning(
 ) -> Result<Term, CheckFault>
     ensures { Unfolds term_of result numbers.new (assigning (names_in scope.entry) line depth (lines.var_of variables.now.first ∷ map lines.var_of variables.now.others.items) (tree_of values.now.first ∷ map tree_of values.now.others.items) (numbers_of numbers.old)) }
 {
-    let term = assigned(alloc, scope, line, variables, values)?;
-    count_line(numbers, depth, &term)?;
-    Ok(term)
+    let term = Held::new(assigned(alloc, scope, line, variables, values)?);
+    count_line(numbers, depth, &term.value)?;
+    Ok(term.into_inner())
 }
 
 /// An output with its nodes.
@@ -218,9 +220,9 @@ fn outputting(
 ) -> Result<Term, CheckFault>
     ensures { Unfolds term_of result numbers.new (outputting (names_in scope.entry) line depth (lines.var_of channel.now) (lines.out_of outs.now.first) (map lines.out_of outs.now.others.items) (numbers_of numbers.old)) }
 {
-    let term = output(alloc, scope, line, channel, outs)?;
-    count_line(numbers, depth, &term)?;
-    Ok(term)
+    let term = Held::new(output(alloc, scope, line, channel, outs)?);
+    count_line(numbers, depth, &term.value)?;
+    Ok(term.into_inner())
 }
 
 /// An input with its nodes.
@@ -235,8 +237,10 @@ fn receiving(
     ensures { Unfolds term_of result numbers.new (receiving (names_in scope.entry) line depth (lines.input_of input.now) (numbers_of numbers.old)) }
 {
     let (channel, listed) = received(alloc, scope, line, input)?;
-    count_received(numbers, depth, &channel, &listed)?;
-    Ok(as_input(alloc, channel, listed)?)
+    let (channel, listed) = (Held::new(channel), Held::new(listed));
+    count_received(numbers, depth, &channel.value, &listed.value)?;
+    let term = as_input(alloc, channel.into_inner(), listed.into_inner())?;
+    Ok(term)
 }
 
 /// Counts an assignment or an output.

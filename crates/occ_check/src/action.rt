@@ -1,6 +1,6 @@
 //! Processes that stand in one line, and the parts of the others that declare nothing.
 
-ghost use Rattle.std.specs.Prelude.{◌≡◌, ◌∷◌, [], IfOk, map, option_map, reverse};
+ghost use Rattle.std.specs.Prelude.{◌≡◌, ◌∷◌, [], IfOk, map, option_map};
 ghost use Rattle.occ_tree.specs.Expressions.Trees as trees;
 ghost use Rattle.occ_tree.specs.Lines.Views as lines;
 ghost use Rattle.occ_term.specs.Terms.{no_variants, or_variant};
@@ -19,6 +19,8 @@ use crate::scope::Scope;
 use crate::target::{apart, placed, stored, stored_list};
 use crate::typed::{Part, Typed};
 use crate::types::are_same_sizes;
+use indexmap::IndexSet;
+use occ_held::Held;
 use occ_term::{Item, Place, Primitive, Protocol, Reception, Target, Term, TermExpr, Variant};
 use occ_tree::tree::expr::Expr;
 use occ_tree::tree::line::{Input, OneOrMore, Out, Var};
@@ -38,7 +40,7 @@ pub(crate) enum Listed {
 #[derive(Drop)]
 pub(crate) struct Chosen {
     /// The constants, in order.
-    pub constants: Items<i64>,
+    pub constants: IndexSet<i64>,
     /// Whether ELSE stands there.
     pub has_else: bool,
 }
@@ -75,10 +77,9 @@ fn all_variables(
 ) -> Result<Vec<(Primitive, Part)>, CheckFault>
     ensures { Gives (λ xs. map side_of xs.items) result (each_of (items.variable_of (names_in scope.entry) line) (lines.var_of variables.now.first ∷ map lines.var_of variables.now.others.items)) }
 {
-    let first = variable_of(alloc, scope, line, &variables.first)?;
-    let mut others = each_variable(alloc, scope, line, &variables.others)?;
     let mut all = Vec::new(alloc);
-    all.push(first)?;
+    all.push(variable_of(alloc, scope, line, &variables.first)?)?;
+    let mut others = each_variable(alloc, scope, line, &variables.others)?;
     all.append(&mut others)?;
     Ok(all)
 }
@@ -116,11 +117,9 @@ fn all_sides(
     match variables.split_first() {
         None => Err(CheckFault::WrongType { line }),
         Some((variable, rest)) => {
-            let first = one_side(alloc, scope, line, variable, &values.first)?;
-            let others = each_side(alloc, scope, line, rest, &values.others)?;
             let mut all = Items::new(alloc);
-            all.push(first)?;
-            all.append(others)?;
+            all.push(one_side(alloc, scope, line, variable, &values.first)?)?;
+            all.append(each_side(alloc, scope, line, rest, &values.others)?)?;
             Ok(all)
         }
     }
@@ -248,18 +247,20 @@ pub(crate) fn received(
     match input {
         Input::Items(channel, targets) => {
             let (protocol, channel) = channel_of(alloc, scope, line, channel)?;
+            let channel = Held::new(channel);
             let parts = parts_after(alloc, line, protocol, None)?;
             match stored_list(alloc, scope, line, parts.as_slice(), targets) {
-                Ok(targets) => Ok((channel, Listed::Plain(targets))),
+                Ok(targets) => Ok((channel.into_inner(), Listed::Plain(targets))),
                 Err(e) => Err(e),
             }
         }
         Input::Tagged(channel, name, targets) => {
             let (protocol, channel) = channel_of(alloc, scope, line, channel)?;
+            let channel = Held::new(channel);
             let tag = tag_in(line, protocol, name)?;
             let parts = parts_after(alloc, line, protocol, Some(tag))?;
             match stored(alloc, scope, line, parts.as_slice(), targets) {
-                Ok(targets) => Ok((channel, Listed::Tagged(tag, targets))),
+                Ok(targets) => Ok((channel.into_inner(), Listed::Tagged(tag, targets))),
                 Err(e) => Err(e),
             }
         }
@@ -378,7 +379,6 @@ pub(crate) fn choosing(
 }
 
 /// One constant more.
-#[tactic(auto, unfolding(occ_unfolding::specs::Actions::choosing))]
 fn choosing_one(
     alloc: Global,
     line: u32,
@@ -387,18 +387,11 @@ fn choosing_one(
 ) -> Result<(), CheckFault>
     ensures { Chooses result chosen.new (meant.choosing (constant.now ∷ []) (chosen_of chosen.old)) }
 {
-    if has_constant(constant, chosen.constants.as_slice()) {
+    let added = chosen.constants.insert(*constant)?;
+    if !added {
         return Err(constant_twice(alloc, line, *constant));
     }
-    chosen.constants.push(*constant)?;
     Ok(())
-}
-
-/// Whether a constant stands in a list.
-fn has_constant(constant: &i64, list: &[i64]) -> bool
-    ensures { result ≡ meant.has_constant constant.now (reverse list.now) }
-{
-    list.contains(constant)
 }
 
 /// The fault of a constant that stands twice.

@@ -10,7 +10,7 @@ ghost use Rattle.occ_tree.specs.Lines.HeadViews.{guard_of};
 ghost use Rattle.occ_tree.specs.Lines.Views as lines;
 ghost use Rattle.occ_tree.specs.Lines.Views.{replicator_of};
 ghost use Rattle.occ_term.specs.Sizes.{beside, node, size_of_expression, size_of_place};
-ghost use Rattle.occ_term.specs.Terms.{no_arms};
+ghost use Rattle.occ_term.specs.Terms.{input_arm, no_arms};
 ghost use Rattle.occ_term.specs.View.{arm_of, arms_of, declarations_of, expression_of, place_of, term_of};
 ghost use Rattle.occ_unfolding.specs.Actions as meant;
 ghost use Rattle.occ_unfolding.specs.Performing as performing;
@@ -33,6 +33,7 @@ use crate::numbers::Numbers;
 use crate::scope::{Position, Scope};
 use crate::unfolder::Unfolder;
 use crate::variants::listed_variants;
+use occ_held::Held;
 use occ_term::{Arm as TermArm, Declaration, Place, Protocol, Reception, Term, TermExpr};
 use occ_tree::tree::expr::Expr;
 use occ_tree::tree::line::{Guard, Input, Replicator, Var};
@@ -187,15 +188,14 @@ impl<'t> Unfolder<'t> {
             Guard::Input(test, input) => {
                 let guarded = self.guarding(alloc, at, depth, line, test, input)?;
                 let deep = depth_behind(&guarded.listed, depth + 1);
+                let guarded = Held::new(guarded);
                 let body = self.process(alloc, at, deep, body)?;
-                let reception = as_reception(alloc, guarded.listed, body)?;
-                let arm = TermArm::InputArm(guarded.test, guarded.channel, reception);
-                Ok(only_arm(alloc, arm)?)
+                Ok(input_arm(alloc, guarded.into_inner(), body)?)
             }
             Guard::Skip(test) => {
-                let test = self.tested(alloc, at, depth, line, test)?;
+                let test = Held::new(self.tested(alloc, at, depth, line, test)?);
                 let body = self.process(alloc, at, depth + 1, body)?;
-                Ok(only_arm(alloc, TermArm::SkipArm(test, body))?)
+                Ok(only_arm(alloc, TermArm::SkipArm(test.into_inner(), body))?)
             }
         }
     }
@@ -217,9 +217,10 @@ impl<'t> Unfolder<'t> {
     {
         let base = self.frames.len();
         let (over, inside) = self.indexed(alloc, at, depth, line, replicator)?;
+        let over = Held::new(over);
         let within = self.arm(alloc, inside, depth + 1, arm)?;
         self.frames.close(base);
-        Ok(only_arm(alloc, TermArm::EachArm(over, within))?)
+        Ok(only_arm(alloc, TermArm::EachArm(over.into_inner(), within))?)
     }
 
     /// A guard with an input, with the node that it heads.
@@ -259,6 +260,21 @@ impl<'t> Unfolder<'t> {
     }
 }
 
+/// The arm of a guard with an input, and the process behind it.
+fn input_arm(alloc: Global, guarded: Guarded, body: Term) -> Result<Items<TermArm>, AllocError>
+    ensures { IfOk result (λ arms. arms_of arms ≡ input_arm (expression_of guarded.test) (place_of guarded.channel) (meant.as_reception (listed_of guarded.listed) (term_of body)) no_arms) }
+{
+    let Guarded {
+        test,
+        channel,
+        listed,
+    } = guarded;
+    let (test, channel) = (Held::new(test), Held::new(channel));
+    let reception = as_reception(alloc, listed, body)?;
+    let arm = TermArm::InputArm(test.into_inner(), channel.into_inner(), reception);
+    only_arm(alloc, arm)
+}
+
 /// A guard with an input, with the node that it heads.
 fn guarding(
     numbers: &mut Numbers,
@@ -272,13 +288,14 @@ fn guarding(
     ensures guard { Unfolds (λ g. (expression_of g.test, (place_of g.channel, listed_of g.listed))) result numbers.new (guarding (names_in scope.entry) line depth (option_map tree_of test.now) (lines.input_of input.now) (numbers_of numbers.old)) }
     ensures within { IfOk result (λ g. meant.depth_behind (listed_of g.listed) (depth + 1) ≤ 200) }
 {
-    let test = test_of(alloc, scope, line, test)?;
+    let test = Held::new(test_of(alloc, scope, line, test)?);
     let (channel, listed) = received(alloc, scope, line, input)?;
-    count_guard(numbers, depth, &test, &channel, &listed)?;
+    let (channel, listed) = (Held::new(channel), Held::new(listed));
+    count_guard(numbers, depth, &test.value, &channel.value, &listed.value)?;
     Ok(Guarded {
-        test,
-        channel,
-        listed,
+        test: test.into_inner(),
+        channel: channel.into_inner(),
+        listed: listed.into_inner(),
     })
 }
 
@@ -338,11 +355,13 @@ fn guarding_variants(
     ensures guard { Unfolds (λ g. (expression_of g.0, (g.1, place_of g.2))) result numbers.new (guarding_variants (names_in scope.entry) line depth (option_map tree_of test.now) (lines.var_of channel.now) (numbers_of numbers.old)) }
     ensures within { IfOk result (λ _. depth < 200) }
 {
-    let test = test_of(alloc, scope, line, test)?;
+    let test = Held::new(test_of(alloc, scope, line, test)?);
     let (protocol, channel) = channel_of(alloc, scope, line, channel)?;
+    let channel = Held::new(channel);
     let protocol = with_tags(line, protocol)?;
-    count_guarded_channel(numbers, depth, &test, &channel)?;
-    Ok((test, protocol.copy(alloc)?, channel))
+    count_guarded_channel(numbers, depth, &test.value, &channel.value)?;
+    let protocol = protocol.copy(alloc)?;
+    Ok((test.into_inner(), protocol, channel.into_inner()))
 }
 
 /// Counts a guard with an input of variants.

@@ -26,6 +26,7 @@ use crate::operators::{is_same_type, primitive_of};
 use crate::overlap::some_overlap;
 use crate::scope::Scope;
 use crate::types::{carried_by, open_sizes_of};
+use occ_held::Held;
 use occ_term::{Declaration, Item, Primitive, Protocol, TermExpr};
 use occ_tree::tree::expr::{Expr, Operand};
 use occ_tree::tree::line::{Carried as CarriedTree, Formal, Formals, OneOrMore, Size, Spec};
@@ -313,10 +314,13 @@ fn cell_given(
 ) -> Result<Given, CheckFault>
     ensures { (size : ℕ) → Evaluates result numbers.new (meant.one_evaluated name.now depth size (expression_of e) None (numbers_of numbers.old)) }
 {
+    let e = Held::new(e);
     let cell = numbers.more_cells(alloc, Primitive::Int, name, &[])?;
-    let naming = Declaration::Naming(line, cell, Item::One(Primitive::Int, e));
-    count_declaration(numbers, depth, &naming)?;
-    Ok(Given::held(alloc, Evaluated::Cell(line, cell), naming)?)
+    let value = Item::One(Primitive::Int, e.into_inner());
+    let naming = Held::new(Declaration::Naming(line, cell, value));
+    count_declaration(numbers, depth, &naming.value)?;
+    let given = Given::held(alloc, Evaluated::Cell(line, cell), naming.into_inner())?;
+    Ok(given)
 }
 
 impl Given {
@@ -516,9 +520,9 @@ fn value_actual(
 ) -> Result<Opened, CheckFault>
     ensures { Opens result numbers.new (meant.actual_of (names_in scope.entry) line depth name.now (meant.wants_value sizes.now primitive) (trees.expression_of e.now) (numbers_of numbers.old)) }
 {
-    let value = typed(alloc, scope, line, e)?;
-    if has_type(sizes, primitive, &value) {
-        name_value(numbers, alloc, line, depth, name, value)
+    let value = Held::new(typed(alloc, scope, line, e)?);
+    if has_type(sizes, primitive, &value.value) {
+        name_value(numbers, alloc, line, depth, name, value.into_inner())
     } else {
         Err(CheckFault::Arguments { line })
     }

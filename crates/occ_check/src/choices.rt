@@ -18,6 +18,7 @@ ghost use Rattle.occ_check.specs.Progress.{counted, meant_at};
 use crate::fault::CheckFault;
 use crate::scope::Position;
 use crate::unfolder::Unfolder;
+use occ_held::Held;
 use occ_term::{Choice as TermChoice, Declaration, Term};
 use occ_tree::tree::line::Replicator;
 use occ_tree::tree::process::{Choice, Decl};
@@ -120,8 +121,10 @@ impl<'t> Unfolder<'t> {
         match choice {
             Choice::When(_, line, test, body) => {
                 let test = self.tested(alloc, at, depth, *line, test)?;
+                let test = Held::new(test);
                 let body = self.process(alloc, at, depth + 1, body)?;
-                Ok(only_choice(alloc, TermChoice::When(test, body))?)
+                let choice = TermChoice::When(test.into_inner(), body);
+                Ok(only_choice(alloc, choice)?)
             }
             Choice::InnerIf(_, _, choices) => {
                 self.choices(alloc, at, depth, listed_choices(choices))
@@ -149,9 +152,11 @@ impl<'t> Unfolder<'t> {
     {
         let base = self.frames.len();
         let (over, inside) = self.indexed(alloc, at, depth, line, replicator)?;
+        let over = Held::new(over);
         let within = self.choice(alloc, inside, depth + 1, choice)?;
         self.frames.close(base);
-        Ok(only_choice(alloc, TermChoice::EachChoice(over, within))?)
+        let choice = TermChoice::EachChoice(over.into_inner(), within);
+        Ok(only_choice(alloc, choice)?)
     }
 }
 

@@ -23,6 +23,7 @@ use crate::scope::Scope;
 use crate::typed::Typed;
 use crate::types::{carried_by, open_sizes_of, protocol_of, sizes_of};
 use indexmap::IndexSet;
+use occ_held::Held;
 use occ_term::{Array, Declaration, Item, Primitive, Replicator, TermExpr};
 use occ_tree::tree::expr::Expr;
 use occ_tree::tree::line::{OneOrMore, Replicator as ReplicatorTree, Sort, ValueType};
@@ -99,8 +100,9 @@ impl Opened {
         ensures names { IfOk result (λ x. pairs_of x.names.items ≡ (name.now, known_of known) ∷ []) }
         ensures heads { IfOk result (λ x. x.heads ≡ head ∷ []) }
     {
+        let head = Held::new(head);
         let mut opened = Opened::one(alloc, name, known)?;
-        opened.heads.push(head)?;
+        opened.heads.push(head.into_inner())?;
         Ok(opened)
     }
 
@@ -213,10 +215,11 @@ pub(crate) fn names_declared(
         }
         Sort::Channel(carried) => {
             let sizes = sizes_of(alloc, scope, line, sizes)?;
-            let carried = carried_by(alloc, scope, line, carried)?;
+            let carried = Held::new(carried_by(alloc, scope, line, carried)?);
             let names = names_of(alloc, names)?;
             once(alloc, line, names.as_slice())?;
-            channels_declared(numbers, alloc, &carried, sizes.as_slice(), names.as_slice())
+            let carried = &carried.value;
+            channels_declared(numbers, alloc, carried, sizes.as_slice(), names.as_slice())
         }
     }
 }
@@ -332,10 +335,11 @@ fn name_single(
 ) -> Result<Opened, CheckFault>
     ensures { Opens result numbers.new (meant.value_named name.now depth primitive (expression_of e) (constant (expression_of e)) (numbers_of numbers.old)) }
 {
-    match constant_of(&e)? {
+    let e = Held::new(e);
+    match constant_of(&e.value)? {
         Some(value) => Ok(Opened::one(alloc, name, Known::Value(primitive, value))?),
         None => {
-            let value = Item::One(primitive, e);
+            let value = Item::One(primitive, e.into_inner());
             local_of(
                 numbers,
                 alloc,
@@ -362,12 +366,13 @@ fn local_of(
 ) -> Result<Opened, CheckFault>
     ensures { Opens result numbers.new (meant.local_of name.now depth primitive sizes (item_of value) (numbers_of numbers.old)) }
 {
+    let value = Held::new(value);
     let first = numbers.more_cells(alloc, primitive, name, sizes.as_slice())?;
-    let naming = Declaration::Naming(line, first, value);
-    count_declaration(numbers, depth, &naming)?;
+    let naming = Held::new(Declaration::Naming(line, first, value.into_inner()));
+    count_declaration(numbers, depth, &naming.value)?;
     let row = row_from(alloc, first, sizes.as_slice())?;
     let known = Known::Cells(Access::Kept, primitive, row);
-    Ok(Opened::one_with(alloc, name, known, naming)?)
+    Ok(Opened::one_with(alloc, name, known, naming.into_inner())?)
 }
 
 /// A declaration of a named value. Its Local stands at this depth.
@@ -416,9 +421,10 @@ fn of_given_type(
 ) -> Result<Typed, CheckFault>
     ensures { Gives typed_of result (meant.of_value_type (names_in scope.entry) line (Some (lines.value_type_of wanted.now)) (typed_of value)) }
 {
+    let value = Held::new(value);
     let sizes = open_sizes_of(alloc, scope, line, &wanted.sizes)?;
-    if has_type(sizes.as_slice(), primitive_of(wanted.of), &value) {
-        Ok(value)
+    if has_type(sizes.as_slice(), primitive_of(wanted.of), &value.value) {
+        Ok(value.into_inner())
     } else {
         Err(CheckFault::WrongType { line })
     }
@@ -508,21 +514,21 @@ pub(crate) fn index_replicator(
 ) -> Result<Indexed, CheckFault>
     ensures { Indexes result numbers.new (meant.indexed (names_in scope.entry) line depth (lines.replicator_of replicator.now) (numbers_of numbers.old)) }
 {
-    let base = typed_as(alloc, scope, line, Primitive::Int, &replicator.base)?;
-    let count = typed_as(alloc, scope, line, Primitive::Int, &replicator.count)?;
+    let base = Held::new(typed_as(alloc, scope, line, Primitive::Int, &replicator.base)?);
+    let count = Held::new(typed_as(alloc, scope, line, Primitive::Int, &replicator.count)?);
     let index = numbers.more_cells(alloc, Primitive::Int, &replicator.name, &[])?;
-    let over = Replicator {
+    let over = Held::new(Replicator {
         line,
         index,
-        base,
-        count,
-    };
-    count_replicator(numbers, depth, &over)?;
+        base: base.into_inner(),
+        count: count.into_inner(),
+    });
+    count_replicator(numbers, depth, &over.value)?;
     let row = row_from(alloc, index, &[])?;
     let known = Known::Cells(Access::Kept, Primitive::Int, row);
     let name = Named::new(alloc, &replicator.name, known)?;
     Ok(Indexed {
-        replicator: over,
+        replicator: over.into_inner(),
         name,
     })
 }

@@ -28,6 +28,7 @@ use crate::frames::Frames;
 use crate::numbers::Numbers;
 use crate::scope::{Binding, Found, Position, Procedure, Scope};
 use crate::unfolder::{Call, Unfolder};
+use occ_held::Held;
 use occ_term::{Declaration, Replicator, Term};
 use occ_tree::tree::expr::Expr;
 use occ_tree::tree::line::{OneOrMore, Replicator as ReplicatorTree};
@@ -329,10 +330,11 @@ impl<'t> Unfolder<'t> {
             replicator: over,
             name,
         } = indexed;
+        let over = Held::new(over);
         let mut names = Vec::new(alloc);
         names.push(name)?;
         let inside = self.frames.open_with(alloc, at, names)?;
-        Ok((over, inside))
+        Ok((over.into_inner(), inside))
     }
 }
 

@@ -18,6 +18,7 @@ pub(crate) use crate::reading::under;
 use crate::reading::{read, size_of_known};
 use crate::scope::{Found, Scope};
 use crate::typed::Typed;
+use occ_held::Held;
 use occ_term::{Monadic, Operator, Primitive, TermExpr};
 use occ_tree::tree::expr::{Expr, Literal, Logic, Monadic as Sign, Operand};
 use sqlite_items::{Boxed, Items};
@@ -42,8 +43,9 @@ pub(crate) fn typed(
         Expr::Operand(a) => typed_operand(alloc, scope, line, a),
         Expr::Two(a, spelling, b) => {
             let x = as_single(line, typed_operand(alloc, scope, line, a)?)?;
+            let x = Held::new(x);
             let y = as_single(line, typed_operand(alloc, scope, line, b)?)?;
-            two_typed(alloc, line, operator_of(*spelling), x, y)
+            two_typed(alloc, line, operator_of(*spelling), x.into_inner(), y)
         }
         Expr::One(sign, a) => typed_one(alloc, scope, line, *sign, a),
         Expr::Convert(to, a) => {
@@ -55,8 +57,9 @@ pub(crate) fn typed(
         Expr::MostNeg => Ok(Typed::Single(Primitive::Int, TermExpr::Constant(-2_147_483_648))),
         Expr::Chain(logic, a, b, others) => {
             let x = typed_truth(alloc, scope, line, a)?;
+            let x = Held::new(x);
             let y = typed_truth(alloc, scope, line, b)?;
-            let left = logic_of(alloc, *logic, x, y)?;
+            let left = logic_of(alloc, *logic, x.into_inner(), y)?;
             match typed_chain(alloc, scope, line, *logic, others, left) {
                 Ok(e) => Ok(Typed::Single(Primitive::Bool, e)),
                 Err(e) => Err(e),
@@ -160,8 +163,9 @@ fn chained(
 ) -> Result<TermExpr, CheckFault>
     ensures { Gives expression_of result (meant.typed_chain (names_in scope.entry) line logic (expression_of left) (trees.operands (trees.operand_of operand.now ∷ []))) }
 {
+    let left = Held::new(left);
     let right = typed_truth(alloc, scope, line, operand)?;
-    let e = logic_of(alloc, logic, left, right)?;
+    let e = logic_of(alloc, logic, left.into_inner(), right)?;
     Ok(e)
 }
 
@@ -325,8 +329,8 @@ pub(crate) fn constant_as(
     ensures value { Gives (λ v. v) result (meant.constant_as (names_in scope.entry) line primitive (trees.expression_of e.now)) }
     ensures range { IfOk result (λ v. IsTrue (is_of Int v)) }
 {
-    let e = typed_as(alloc, scope, line, primitive, e)?;
-    match constant_of(&e)? {
+    let e = Held::new(typed_as(alloc, scope, line, primitive, e)?);
+    match constant_of(&e.value)? {
         Some(value) => Ok(value),
         None => Err(CheckFault::NotConstant { line }),
     }
@@ -404,10 +408,13 @@ fn two_typed(
 ) -> Result<Typed, CheckFault>
     ensures { Gives typed_of result (meant.two_typed line operator (a.0, expression_of a.1) (b.0, expression_of b.1)) }
 {
-    let primitive = result_of(line, operator, a.0, b.0)?;
-    let left = Boxed::new(alloc, a.1)?;
-    let right = Boxed::new(alloc, b.1)?;
-    let e = TermExpr::Binary(operator, a.0, line, left, right);
+    let (own, left) = a;
+    let (other, right) = b;
+    let (left, right) = (Held::new(left), Held::new(right));
+    let primitive = result_of(line, operator, own, other)?;
+    let left = Boxed::new(alloc, left.into_inner())?;
+    let right = Boxed::new(alloc, right.into_inner())?;
+    let e = TermExpr::Binary(operator, own, line, left, right);
     Ok(Typed::Single(primitive, e))
 }
 
@@ -445,8 +452,9 @@ fn converted(
 fn logic_of(alloc: Global, logic: Logic, a: TermExpr, b: TermExpr) -> Result<TermExpr, AllocError>
     ensures { IfOk result (λ e. expression_of e ≡ meant.logic_of logic (expression_of a) (expression_of b)) }
 {
+    let b = Held::new(b);
     let a = Boxed::new(alloc, a)?;
-    let b = Boxed::new(alloc, b)?;
+    let b = Boxed::new(alloc, b.into_inner())?;
     match logic {
         Logic::And => Ok(TermExpr::And(a, b)),
         Logic::Or => Ok(TermExpr::Or(a, b)),

@@ -7,6 +7,7 @@ ghost use Rattle.occ_check.specs.View.{binding_of, innermost, scope_in};
 use crate::fault::CheckFault;
 use crate::known::Known;
 use crate::scope::{Binding, Frame, Position, Scope};
+use occ_held::Held;
 use std::alloc::Global;
 
 /// The frames, the innermost last.
@@ -78,6 +79,7 @@ impl<'t> Frames<'t> {
         ensures more { OnOk result (length self.old.frames.items ≤ length self.new.frames.items) }
         ensures memory { IfErr result (λ e. e ≡ Memory) }
     {
+        let binding = Held::new(binding);
         let Some(frame) = self.frames.pop() else {
             return Err(CheckFault::Memory);
         };
@@ -87,11 +89,11 @@ impl<'t> Frames<'t> {
         };
         if frame.has(name) {
             self.frames.push(frame)?;
-            let frame = Frame::new(alloc, outer).with(alloc, name, binding)?;
+            let frame = Frame::new(alloc, outer).with(alloc, name, binding.into_inner())?;
             self.frames.push(frame)?;
             return Ok(());
         }
-        let frame = frame.with(alloc, name, binding)?;
+        let frame = frame.with(alloc, name, binding.into_inner())?;
         self.frames.push(frame)?;
         Ok(())
     }

@@ -20,6 +20,7 @@ use crate::reading::under;
 use crate::scope::Scope;
 use crate::typed::{Part, Typed};
 use crate::types::{are_same_sizes, simple_part};
+use occ_held::Held;
 use occ_term::{Array, Item, PartType, Place, Primitive, Protocol, Tag, TermExpr};
 use occ_tree::tree::expr::{Expr, Operand};
 use occ_tree::tree::line::{OneOrMore, Out, Var};
@@ -159,16 +160,18 @@ fn array_item(
 fn counted_item(line: u32, part: &PartType, number: Typed, value: Typed) -> Result<Item, CheckFault>
     ensures { Gives terms.item_of result (meant.counted_item line part.now (typed_of number) (typed_of value)) }
 {
+    let (number, value) = (Held::new(number), Held::new(value));
     let PartType::Counted(count, of) = part else {
         return Err(CheckFault::Protocol { line });
     };
-    match number {
+    match number.into_inner() {
         Typed::Whole(_, _, _) => Err(CheckFault::Protocol { line }),
         Typed::Single(primitive, number) => {
+            let number = Held::new(number);
             if !is_same_type(primitive, *count) {
                 return Err(CheckFault::Protocol { line });
             }
-            counted_array(line, *of, number, value)
+            counted_array(line, *of, number.into_inner(), value.into_inner())
         }
     }
 }
@@ -182,15 +185,18 @@ fn counted_array(
 ) -> Result<Item, CheckFault>
     ensures { Gives terms.item_of result (meant.counted_item line (CountedOf Int of) (single Int (terms.expression_of number)) (typed_of value)) }
 {
+    let number = Held::new(number);
     match value {
         Typed::Single(_, _) => Err(CheckFault::Protocol { line }),
         Typed::Whole(primitive, sizes, array) => {
+            let array = Held::new(array);
             match sizes.as_slice().split_first() {
                 None => Err(CheckFault::Protocol { line }),
                 Some((_, others)) => match others.split_first() {
                     Some(_) => Err(CheckFault::Protocol { line }),
                     None => {
                         if is_same_type(primitive, of) {
+                            let (number, array) = (number.into_inner(), array.into_inner());
                             Ok(Item::Counted(primitive, line, number, array))
                         } else {
                             Err(CheckFault::Protocol { line })
@@ -215,9 +221,9 @@ fn sent_item(
     match out {
         Out::Whole(e) => item_of(line, part, typed(alloc, scope, line, e)?),
         Out::Counted(number, e) => {
-            let number = typed(alloc, scope, line, number)?;
+            let number = Held::new(typed(alloc, scope, line, number)?);
             let value = typed(alloc, scope, line, e)?;
-            counted_item(line, part, number, value)
+            counted_item(line, part, number.into_inner(), value)
         }
     }
 }
@@ -265,11 +271,9 @@ fn sent_list(
     match parts.split_first() {
         None => Err(CheckFault::Protocol { line }),
         Some((part, parts)) => {
-            let first = sent_item(alloc, scope, line, part, &outs.first)?;
-            let others = sent_items(alloc, scope, line, parts, &outs.others)?;
             let mut all = Items::new(alloc);
-            all.push(first)?;
-            all.append(others)?;
+            all.push(sent_item(alloc, scope, line, part, &outs.first)?)?;
+            all.append(sent_items(alloc, scope, line, parts, &outs.others)?)?;
             Ok(all)
         }
     }

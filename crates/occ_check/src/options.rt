@@ -24,6 +24,8 @@ use crate::measuring::count_constants;
 use crate::numbers::Numbers;
 use crate::scope::{Position, Scope};
 use crate::unfolder::Unfolder;
+use indexmap::IndexSet;
+use occ_held::Held;
 use occ_term::{Primitive, Selection as TermSelection, Term, TermExpr};
 use occ_tree::tree::expr::Expr;
 use occ_tree::tree::line::OneOrMore;
@@ -48,8 +50,9 @@ impl<'t> Unfolder<'t> {
         ensures kept { OnOk result (self.new.frames.frames.items ≡ self.old.frames.frames.items) }
     {
         let (primitive, selector) = self.selecting(alloc, at, depth, line, e)?;
+        let selector = Held::new(selector);
         let options = self.options(alloc, at, depth + 1, primitive, selections)?;
-        Ok(Term::Case(selector, options))
+        Ok(Term::Case(selector.into_inner(), options))
     }
 
     /// What options unfold to.
@@ -232,7 +235,7 @@ fn none_chosen(alloc: Global) -> Chosen
     ensures { chosen_of result ≡ meant.none_chosen }
 {
     Chosen {
-        constants: Items::new(alloc),
+        constants: IndexSet::new(alloc),
         has_else: false,
     }
 }

@@ -27,6 +27,7 @@ use crate::options::listed_selections;
 use crate::scope::Position;
 use crate::unfolder::{Call, Step, Unfolder};
 use crate::variants::listed_variants;
+use occ_held::Held;
 use occ_term::{Branch, Declaration, Replicator, Term};
 use occ_tree::tree::expr::Expr;
 use occ_tree::tree::line::{Action, OneOrMore, Replicator as ReplicatorTree};
@@ -145,9 +146,11 @@ impl<'t> Unfolder<'t> {
                 let base = self.frames.len();
                 self.numbers.node(depth)?;
                 let (over, inside) = self.indexed(alloc, at, depth + 1, line, replicator)?;
+                let over = Held::new(over);
                 let body = self.process(alloc, inside, depth + 2, body)?;
                 self.frames.close(base);
-                Ok(Term::Each(over, Boxed::new(alloc, body)?))
+                let body = Boxed::new(alloc, body)?;
+                Ok(Term::Each(over.into_inner(), body))
             }
             Stmt::Par(processes) => {
                 self.numbers.node(depth)?;
@@ -158,9 +161,10 @@ impl<'t> Unfolder<'t> {
                 self.copied(alloc, at, depth, line, replicator, body)
             }
             Stmt::While(condition, body) => {
-                let test = self.tested(alloc, at, depth, line, condition)?;
+                let test = Held::new(self.tested(alloc, at, depth, line, condition)?);
                 let body = self.process(alloc, at, depth + 1, body)?;
-                Ok(Term::While(test, Boxed::new(alloc, body)?))
+                let body = Boxed::new(alloc, body)?;
+                Ok(Term::While(test.into_inner(), body))
             }
             Stmt::Action(action) => self.acted(alloc, at, depth, line, action),
             Stmt::If(choices) => self.conditional(alloc, at, depth, listed_choices(choices)),

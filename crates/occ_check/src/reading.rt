@@ -14,6 +14,7 @@ use crate::fault::CheckFault;
 use crate::known::{Known, Row};
 use crate::literal::whole_string;
 use crate::typed::{Part, Typed};
+use occ_held::Held;
 use occ_term::{Array, Place, Primitive, TermExpr};
 use sqlite_items::{Boxed, Items};
 use std::alloc::{AllocError, Global};
@@ -158,11 +159,12 @@ fn named_string(alloc: Global, bytes: &[u8]) -> Result<Typed, CheckFault>
 fn letter(alloc: Global, line: u32, bytes: &[u8], subscript: TermExpr) -> Result<Typed, CheckFault>
     ensures { Gives typed_of result (meant.read line (a_string (map pos bytes.now)) (then_subscript (expression_of subscript) no_subscripts)) }
 {
-    if !is_within_size(&subscript, bytes.len() as u64)? {
+    let subscript = Held::new(subscript);
+    if !is_within_size(&subscript.value, bytes.len() as u64)? {
         return Err(CheckFault::Subscript { line });
     }
     let bytes = Items::from_slice(alloc, bytes)?;
-    let subscript = Boxed::new(alloc, subscript)?;
+    let subscript = Boxed::new(alloc, subscript.into_inner())?;
     Ok(Typed::Single(Primitive::Byte, TermExpr::Letter(line, bytes, subscript)))
 }
 

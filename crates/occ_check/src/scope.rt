@@ -11,6 +11,7 @@ ghost use Rattle.occ_check.specs.View.{binding_of, pairs_before, AreWithin, IsBo
 use crate::fault::CheckFault;
 use crate::known::Known;
 use indexmap::IndexMap;
+use occ_held::Held;
 use occ_tree::tree::line::Formals;
 use occ_tree::tree::process::Process;
 use std::alloc::Global;
@@ -202,9 +203,10 @@ impl<'t> Frame<'t> {
         ensures outer { IfOk result (λ f. f.outer ≡ self.entry.outer) }
         ensures memory { IfErr result (λ e. e ≡ Memory) }
     {
+        let binding = Held::new(binding);
         let mut frame = self;
         let name = Vec::from_slice(alloc, name)?;
-        frame.names.insert(name, binding)?;
+        let _before = Held::new(frame.names.insert(name, binding.into_inner())?);
         Ok(frame)
     }
 

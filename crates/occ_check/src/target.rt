@@ -15,6 +15,7 @@ use crate::operators::is_same_type;
 use crate::scope::Scope;
 use crate::typed::Part;
 use crate::types::are_same_sizes;
+use occ_held::Held;
 use occ_term::{PartType, Place, Primitive, Target};
 use occ_tree::tree::line::{OneOrMore, Target as TargetTree};
 use sqlite_items::Items;
@@ -71,20 +72,23 @@ fn counted_target(
 ) -> Result<Target, CheckFault>
     ensures { Gives terms.target_of result (meant.target_of line part.now (meant.counted_aim (number.0, part_of number.1) (array.0, part_of array.1))) }
 {
+    let (counts, number) = number;
+    let (holds, array) = array;
+    let (number, array) = (Held::new(number), Held::new(array));
     let PartType::Counted(count, of) = part else {
         return Err(CheckFault::Protocol { line });
     };
-    match array.1.left.as_slice().split_first() {
+    match array.value.left.as_slice().split_first() {
         None => Err(CheckFault::Protocol { line }),
         Some((_, others)) => match others.split_first() {
             Some(_) => Err(CheckFault::Protocol { line }),
             None => {
-                if is_same_type(number.0, *count)
-                    && is_same_type(array.0, *of)
-                    && are_same_sizes(number.1.left.as_slice(), &[])
+                if is_same_type(counts, *count)
+                    && is_same_type(holds, *of)
+                    && are_same_sizes(number.value.left.as_slice(), &[])
                 {
-                    let number = placed(line, number.1);
-                    let array = placed(line, array.1);
+                    let number = placed(line, number.into_inner());
+                    let array = placed(line, array.into_inner());
                     Ok(Target::IntoCounted(line, number, array))
                 } else {
                     Err(CheckFault::Protocol { line })
@@ -223,11 +227,9 @@ fn list_stored(
     match parts.split_first() {
         None => Err(CheckFault::Protocol { line }),
         Some((part, parts)) => {
-            let first = one_stored(alloc, scope, line, part, &targets.first)?;
-            let others = each_stored(alloc, scope, line, parts, &targets.others)?;
             let mut all = Items::new(alloc);
-            all.push(first)?;
-            all.append(others)?;
+            all.push(one_stored(alloc, scope, line, part, &targets.first)?)?;
+            all.append(each_stored(alloc, scope, line, parts, &targets.others)?)?;
             Ok(all)
         }
     }

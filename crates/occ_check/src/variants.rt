@@ -25,6 +25,7 @@ use crate::numbers::Numbers;
 use crate::scope::{Position, Scope};
 use crate::target::stored;
 use crate::unfolder::Unfolder;
+use occ_held::Held;
 use occ_term::{Place, Protocol, Target, Term, Variant as TermVariant};
 use occ_tree::tree::line::{Target as TargetTree, Var};
 use occ_tree::tree::process::{Decl, Process, Variant};
@@ -75,8 +76,8 @@ impl<'t> Unfolder<'t> {
                 tag_of(variant),
                 before.as_slice(),
             )?;
-            let made = self.variant(alloc, at, depth, protocol, tag, variant)?;
             put_first(&mut before, tag)?;
+            let made = self.variant(alloc, at, depth, protocol, tag, variant)?;
             variants.push(made)?;
         }
         Ok(variants)
@@ -204,10 +205,12 @@ fn variants_taken(
     ensures within { IfOk result (λ _. depth < 200) }
 {
     let (protocol, channel) = channel_of(alloc, scope, line, channel)?;
+    let channel = Held::new(channel);
     let protocol = with_tags(line, protocol)?;
     numbers.node(depth)?;
-    count_place(numbers, depth + 1, &channel)?;
-    Ok((protocol.copy(alloc)?, channel))
+    count_place(numbers, depth + 1, &channel.value)?;
+    let protocol = protocol.copy(alloc)?;
+    Ok((protocol, channel.into_inner()))
 }
 
 /// The targets behind a tag, with their nodes.

@@ -12,6 +12,7 @@ use crate::expressions::read::{expr, indices};
 use crate::expressions::symbol::close;
 use crate::lines::list::{expressions, targets};
 use crate::lines::word::for_count;
+use occ_held::Held;
 use occ_text::{Key, Sym, Token};
 use occ_tree::ParseFault;
 use occ_tree::lines::head::Received;
@@ -79,12 +80,13 @@ pub fn out(alloc: Global, line: u32, tokens: &[Token]) -> Result<(Out, &[Token])
     ensures { Gives (λ x. (out_of x.0, words x.1.now)) result (out_at 65 (words tokens.now)) }
 {
     let (first, rest) = expression(alloc, line, tokens)?;
+    let first = Held::new(first);
     match rest {
         [Token::Sym(Sym::DoubleColon), rest @ ..] => {
             let (array, rest) = expression(alloc, line, rest)?;
-            Ok((Out::Counted(first, array), rest))
+            Ok((Out::Counted(first.into_inner(), array), rest))
         }
-        _ => Ok((Out::Whole(first), rest)),
+        _ => Ok((Out::Whole(first.into_inner()), rest)),
     }
 }
 
@@ -92,9 +94,13 @@ fn items(alloc: Global, line: u32, channel: Var, tokens: &[Token]) -> Result<Rec
     ensures { Gives received_of result (targets_whole 65 (var_of channel) (words tokens.now)) }
 {
     let (first, rest) = target(alloc, line, tokens)?;
+    let first = Held::new(first);
     let (others, rest) = targets(alloc, line, rest)?;
     match rest {
-        [] => Ok(Received::Input(Input::Items(channel, OneOrMore { first, others }))),
+        [] => {
+            let first = first.into_inner();
+            Ok(Received::Input(Input::Items(channel, OneOrMore { first, others })))
+        }
         _ => Err(ParseFault::Unexpected { line }),
     }
 }
@@ -131,8 +137,9 @@ fn only_replicator(
 ) -> Result<Option<Replicator>, ParseFault>
     ensures { Gives (λ r. option_map replicator_of r) result (ended (Some (replicator_of replicator)) (words rest.now)) }
 {
+    let replicator = Held::new(replicator);
     match rest {
-        [] => Ok(Some(replicator)),
+        [] => Ok(Some(replicator.into_inner())),
         _ => Err(ParseFault::Unexpected { line }),
     }
 }
@@ -150,9 +157,13 @@ pub fn replicator(
         [] => Ok(None),
         [Token::Name(name), Token::Sym(Sym::Equal), rest @ ..] => {
             let (base, rest) = expression(alloc, line, rest)?;
+            let base = Held::new(base);
             let rest = for_count(line, rest)?;
             let (count, rest) = expression(alloc, line, rest)?;
+            let count = Held::new(count);
             let name = Vec::from_slice(alloc, name)?;
+            let base = base.into_inner();
+            let count = count.into_inner();
             only_replicator(line, Replicator { name, base, count }, rest)
         }
         _ => Err(ParseFault::Unexpected { line }),
@@ -172,8 +183,10 @@ pub fn actuals(
         [Token::Sym(Sym::CloseParen), rest @ ..] => Ok((None, rest)),
         _ => {
             let (first, rest) = expression(alloc, line, tokens)?;
+            let first = Held::new(first);
             let (others, rest) = expressions(alloc, line, rest)?;
             let rest = close(line, rest)?;
+            let first = first.into_inner();
             Ok((Some(OneOrMore { first, others }), rest))
         }
     }

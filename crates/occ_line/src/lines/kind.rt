@@ -11,6 +11,7 @@ use crate::expressions::read::{DIMENSIONS, index, indices};
 use crate::expressions::symbol::{close, open_bracket, prim};
 use crate::lines::list::formal_list;
 use crate::lines::word::name;
+use occ_held::Held;
 use occ_text::{Key, Sym, Token};
 use occ_tree::ParseFault;
 use occ_tree::tree::expr::{Expr, Prim};
@@ -175,10 +176,11 @@ pub fn formal(alloc: Global, line: u32, tokens: &[Token]) -> Result<(Formal, &[T
         }
         _ => {
             let (spec, rest) = spec(alloc, line, tokens)?;
+            let spec = Held::new(spec);
             let (name, rest) = name(alloc, line, rest)?;
             Ok((
                 Formal {
-                    spec: Some(spec),
+                    spec: Some(spec.into_inner()),
                     name,
                 },
                 rest,
@@ -200,9 +202,11 @@ pub fn formals(
         [Token::Sym(Sym::CloseParen), rest @ ..] => Ok((None, rest)),
         _ => {
             let (spec, rest) = spec(alloc, line, tokens)?;
+            let spec = Held::new(spec);
             let (name, rest) = name(alloc, line, rest)?;
             let (others, rest) = formal_list(alloc, line, rest)?;
             let rest = close(line, rest)?;
+            let spec = spec.into_inner();
             Ok((Some(Formals { spec, name, others }), rest))
         }
     }

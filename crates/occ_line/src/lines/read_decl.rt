@@ -14,6 +14,7 @@ use crate::lines::item::expression;
 use crate::lines::kind::{carried, declared_sizes, formals, part, value_type};
 use crate::lines::list::{names, parts};
 use crate::lines::word::{colon, is, name};
+use occ_held::Held;
 use occ_text::{Key, Sym, Token};
 use occ_tree::ParseFault;
 use occ_tree::lines::head::{DeclHead, TagHead};
@@ -25,8 +26,9 @@ use std::alloc::Global;
 fn only_head(line: u32, head: DeclHead, rest: &[Token]) -> Result<DeclHead, ParseFault>
     ensures { Gives decl_head_of result (ended (decl_head_of head) (words rest.now)) }
 {
+    let head = Held::new(head);
     match rest {
-        [] => Ok(head),
+        [] => Ok(head.into_inner()),
         _ => Err(ParseFault::Unexpected { line }),
     }
 }
@@ -41,9 +43,11 @@ fn declared_names(
 ) -> Result<DeclHead, ParseFault>
     ensures { Gives decl_head_of result (names_at 65 (expressions (map expression_of sizes.items)) (sort_of sort) (words tokens.now)) }
 {
+    let sort = Held::new(sort);
     let (first, rest) = name(alloc, line, tokens)?;
     let (others, rest) = names(alloc, line, rest)?;
     let rest = colon(line, rest)?;
+    let sort = sort.into_inner();
     only_head(
         line,
         DeclHead::Names(sizes, sort, OneOrMore { first, others }),
@@ -83,8 +87,9 @@ fn named_value(
     let (name, rest) = name(alloc, line, tokens)?;
     let rest = is(line, rest)?;
     let (value, rest) = expression(alloc, line, rest)?;
+    let value = Held::new(value);
     let rest = colon(line, rest)?;
-    only_head(line, DeclHead::Value(of, name, value), rest)
+    only_head(line, DeclHead::Value(of, name, value.into_inner()), rest)
 }
 
 /// What follows `VAL`.

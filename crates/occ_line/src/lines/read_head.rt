@@ -13,6 +13,7 @@ ghost use Rattle.occ_tree.specs.Lines.HeadReading.{received_head as head_receive
 use crate::lines::item::{actuals, behind_question, expression, out, replicator, var, var_behind};
 use crate::lines::list::{expressions, outs, targets, variables};
 use crate::lines::word::{assign, question};
+use occ_held::Held;
 use occ_text::{Key, Sym, Token};
 use occ_tree::ParseFault;
 use occ_tree::lines::head::{ArmHead, ChoiceHead, OptionHead, ProcessHead, Received, VariantHead};
@@ -24,8 +25,9 @@ use std::alloc::Global;
 fn only_action(line: u32, action: Action, rest: &[Token]) -> Result<ProcessHead, ParseFault>
     ensures { Gives process_head_of result (ended (act (action_of action)) (words rest.now)) }
 {
+    let action = Held::new(action);
     match rest {
-        [] => Ok(ProcessHead::Action(action)),
+        [] => Ok(ProcessHead::Action(action.into_inner())),
         _ => Err(ParseFault::Unexpected { line }),
     }
 }
@@ -34,8 +36,9 @@ fn only_action(line: u32, action: Action, rest: &[Token]) -> Result<ProcessHead,
 fn only_head(line: u32, head: ProcessHead, rest: &[Token]) -> Result<ProcessHead, ParseFault>
     ensures { Gives process_head_of result (ended (process_head_of head) (words rest.now)) }
 {
+    let head = Held::new(head);
     match rest {
-        [] => Ok(head),
+        [] => Ok(head.into_inner()),
         _ => Err(ParseFault::Unexpected { line }),
     }
 }
@@ -52,7 +55,9 @@ fn assignment(
     let targets = OneOrMore { first, others };
     let rest = assign(line, rest)?;
     let (first, rest) = expression(alloc, line, rest)?;
+    let first = Held::new(first);
     let (others, rest) = expressions(alloc, line, rest)?;
+    let first = first.into_inner();
     only_action(
         line,
         Action::Assign(targets, OneOrMore { first, others }),
@@ -87,7 +92,9 @@ fn behind_var(
         [Token::Sym(Sym::Exclamation), rest @ ..] => {
             let channel = first;
             let (first, rest) = out(alloc, line, rest)?;
+            let first = Held::new(first);
             let (others, rest) = outs(alloc, line, rest)?;
+            let first = first.into_inner();
             only_action(
                 line,
                 Action::Output(channel, OneOrMore { first, others }),
@@ -174,8 +181,9 @@ pub fn process_head(alloc: Global, line: u32, tokens: &[Token]) -> Result<Proces
 fn only_condition(line: u32, condition: Expr, rest: &[Token]) -> Result<ChoiceHead, ParseFault>
     ensures { Gives choice_head_of result (ended (choice_head_of (ChoiceHead.When condition)) (words rest.now)) }
 {
+    let condition = Held::new(condition);
     match rest {
-        [] => Ok(ChoiceHead::When(condition)),
+        [] => Ok(ChoiceHead::When(condition.into_inner())),
         _ => Err(ParseFault::Unexpected { line }),
     }
 }
@@ -198,8 +206,9 @@ pub fn choice_head(alloc: Global, line: u32, tokens: &[Token]) -> Result<ChoiceH
 fn only_values(line: u32, values: OneOrMore<Expr>, rest: &[Token]) -> Result<OptionHead, ParseFault>
     ensures { Gives option_head_of result (ended (option_head_of (OptionHead.Values values)) (words rest.now)) }
 {
+    let values = Held::new(values);
     match rest {
-        [] => Ok(OptionHead::Values(values)),
+        [] => Ok(OptionHead::Values(values.into_inner())),
         _ => Err(ParseFault::Unexpected { line }),
     }
 }
@@ -262,8 +271,9 @@ fn reception(alloc: Global, line: u32, tokens: &[Token]) -> Result<Received, Par
 fn only_skip(line: u32, condition: Expr, rest: &[Token]) -> Result<ArmHead, ParseFault>
     ensures { Gives arm_head_of result (ended (guarded (on_skip (expression_of condition))) (words rest.now)) }
 {
+    let condition = Held::new(condition);
     match rest {
-        [] => Ok(ArmHead::Guarded(Guard::Skip(condition))),
+        [] => Ok(ArmHead::Guarded(Guard::Skip(condition.into_inner()))),
         _ => Err(ParseFault::Unexpected { line }),
     }
 }
@@ -276,8 +286,9 @@ fn boolean(
 ) -> Result<ArmHead, ParseFault>
     ensures { Gives arm_head_of result (boolean_at 65 (expression_of condition) (words tokens.now)) }
 {
+    let condition = Held::new(condition);
     let received = reception(alloc, line, tokens)?;
-    Ok(received_arm(Some(condition), received))
+    Ok(received_arm(Some(condition.into_inner()), received))
 }
 
 /// What follows the Boolean of a guard and its ampersand.
@@ -321,12 +332,15 @@ fn behind_condition(
 ) -> Result<ArmHead, ParseFault>
     ensures { Gives arm_head_of result (after_condition 65 (expression_of condition) (words tokens.now)) }
 {
+    let condition = Held::new(condition);
     match tokens {
         [Token::Sym(Sym::Question), rest @ ..] => {
-            let channel = var_in(condition);
+            let channel = var_in(condition.into_inner());
             behind_channel(alloc, line, channel, rest)
         }
-        [Token::Sym(Sym::Ampersand), rest @ ..] => behind_and(alloc, line, condition, rest),
+        [Token::Sym(Sym::Ampersand), rest @ ..] => {
+            behind_and(alloc, line, condition.into_inner(), rest)
+        }
         _ => Err(ParseFault::Unexpected { line }),
     }
 }

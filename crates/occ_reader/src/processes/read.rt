@@ -15,6 +15,7 @@ ghost use Rattle.occ_tree.specs.Processes.Reading.{at_level, at_decl, finished, 
 
 use crate::processes::line::{declaration_at, end_line, line_of, lines_at, too_deep};
 use crate::processes::protocol::tags;
+use occ_held::Held;
 use occ_line::lines::read_decl::decl_head;
 use occ_line::lines::read_head::{arm_head, choice_head, option_head, process_head, variant_head};
 use occ_text::Line;
@@ -91,8 +92,10 @@ fn statement(
                 ))
             }
             Some(index) => {
+                let index = Held::new(index);
                 let (step, rest) = process(alloc, last, left, level + 1, lines)?;
                 let step = Box::new(alloc, step)?;
+                let index = index.into_inner();
                 Ok((
                     Process::Declared(declarations, line, Stmt::SeqFor(index, step)),
                     rest,
@@ -108,8 +111,10 @@ fn statement(
                 ))
             }
             Some(index) => {
+                let index = Held::new(index);
                 let (branch, rest) = process(alloc, last, left, level + 1, lines)?;
                 let branch = Box::new(alloc, branch)?;
+                let index = index.into_inner();
                 Ok((
                     Process::Declared(declarations, line, Stmt::ParFor(index, branch)),
                     rest,
@@ -125,8 +130,10 @@ fn statement(
                 ))
             }
             Some(index) => {
+                let index = Held::new(index);
                 let (guard, rest) = arm(alloc, last, left, level + 1, lines)?;
                 let guard = Box::new(alloc, guard)?;
+                let index = index.into_inner();
                 Ok((
                     Process::Declared(declarations, line, Stmt::AltFor(pri, index, guard)),
                     rest,
@@ -139,8 +146,10 @@ fn statement(
                 Ok((Process::Declared(declarations, line, Stmt::If(cases)), rest))
             }
             Some(index) => {
+                let index = Held::new(index);
                 let (case, rest) = choice(alloc, last, left, level + 1, lines)?;
                 let case = Box::new(alloc, case)?;
+                let index = index.into_inner();
                 Ok((
                     Process::Declared(declarations, line, Stmt::IfFor(index, case)),
                     rest,
@@ -148,15 +157,19 @@ fn statement(
             }
         },
         ProcessHead::Case(value) => {
+            let value = Held::new(value);
             let (options, rest) = selections(alloc, last, left, level + 1, lines)?;
+            let value = value.into_inner();
             Ok((
                 Process::Declared(declarations, line, Stmt::Case(value, options)),
                 rest,
             ))
         }
         ProcessHead::While(condition) => {
+            let condition = Held::new(condition);
             let (body, rest) = process(alloc, last, left, level + 1, lines)?;
             let body = Box::new(alloc, body)?;
+            let condition = condition.into_inner();
             Ok((
                 Process::Declared(declarations, line, Stmt::While(condition, body)),
                 rest,
@@ -251,7 +264,9 @@ fn chosen(
 {
     match head {
         ChoiceHead::When(condition) => {
+            let condition = Held::new(condition);
             let (one, rest) = process(alloc, last, left, level + 1, lines)?;
+            let condition = condition.into_inner();
             Ok((Choice::When(declarations, line, condition, one), rest))
         }
         ChoiceHead::If(cond) => match cond {
@@ -260,8 +275,10 @@ fn chosen(
                 Ok((Choice::InnerIf(declarations, line, cases), rest))
             }
             Some(index) => {
+                let index = Held::new(index);
                 let (case, rest) = choice(alloc, last, left, level + 1, lines)?;
                 let case = Box::new(alloc, case)?;
+                let index = index.into_inner();
                 Ok((Choice::InnerIfFor(declarations, line, index, case), rest))
             }
         },
@@ -347,7 +364,9 @@ fn selected(
 {
     match head {
         OptionHead::Values(values) => {
+            let values = Held::new(values);
             let (one, rest) = process(alloc, last, left, level + 1, lines)?;
+            let values = values.into_inner();
             Ok((Selection::Values(declarations, line, values, one), rest))
         }
         OptionHead::Else => {
@@ -436,11 +455,15 @@ fn armed(
 {
     match head {
         ArmHead::Guarded(guard) => {
+            let guard = Held::new(guard);
             let (one, rest) = process(alloc, last, left, level + 1, lines)?;
+            let guard = guard.into_inner();
             Ok((Arm::Guarded(declarations, line, guard, one), rest))
         }
         ArmHead::Variants(condition, channel) => {
+            let condition = Held::new(condition);
             let (all, rest) = variants(alloc, last, left, level + 1, lines)?;
+            let condition = condition.into_inner();
             Ok((
                 Arm::OnVariant(declarations, line, condition, channel, all),
                 rest,
@@ -452,8 +475,10 @@ fn armed(
                 Ok((Arm::InnerAlt(declarations, line, pri, guards), rest))
             }
             Some(index) => {
+                let index = Held::new(index);
                 let (guard, rest) = arm(alloc, last, left, level + 1, lines)?;
                 let guard = Box::new(alloc, guard)?;
+                let index = index.into_inner();
                 Ok((
                     Arm::InnerAltFor(declarations, line, pri, index, guard),
                     rest,
@@ -628,8 +653,12 @@ fn declared(
             Ok((Decl::Item(Item::Protocol(protocol)), rest))
         }
         DeclHead::Proc(name, formals) => {
+            let formals = Held::new(formals);
             let (body, rest) = process(alloc, last, left, level + 1, lines)?;
+            let body = Held::new(body);
             let (end, rest) = end_line(last, level, rest)?;
+            let formals = formals.into_inner();
+            let body = body.into_inner();
             Ok((Decl::Item(Item::Proc(line, name, formals, body, end)), rest))
         }
     }

@@ -6,7 +6,7 @@ use Rattle.occ_tree.specs.Processes.Views.{arm_of, choice_of, decl_of, process_o
 use Rattle.occ_tree.specs.Lines.HeadViews.{guard_of}
 use Rattle.occ_tree.specs.declared.tree.process.Arm.TheBlock.{hidden-the_row-Variant-1}
 use Rattle.occ_term.specs.View.{arms_of, branch_of, branches_of, choices_of, declarations_of, expression_of, option_of, options_of, place_of, reception_of, term_of, terms_of, variant_of as term_variant_of, variants_of}
-use Rattle.occ_unfolding.specs.Actions.{depth_behind, new_tag, none_chosen, opening}
+use Rattle.occ_unfolding.specs.Actions.{as_reception, depth_behind, new_tag, none_chosen, opening}
 use Rattle.occ_tree.specs.Lines.Views as lines
 use Rattle.occ_check.proofs.Tags.{no_more_variants, no_tag, variant_done, variant_form, variant_refused, variant_size, variants_grown, variants_none, variants_step}
 use Rattle.occ_check.specs.ActionView.{chosen_of, listed_of}
@@ -695,22 +695,21 @@ guarded-returns-in_err-body-in-Input-clause-arms t c =
     this in
     search rules
 
-pub guarded-returns-in_ok-only_arm-in-Input-clause-arms : goal.guarded-returns-in_ok-only_arm-in-Input-clause-arms
-guarded-returns-in_ok-only_arm-in-Input-clause-arms t c =
+pub guarded-returns-in_ok-input_arm-in-Input-clause-arms : goal.guarded-returns-in_ok-input_arm-in-Input-clause-arms
+guarded-returns-in_ok-input_arm-in-Input-clause-arms t c =
     let sc = meant_at c.args.self.now c.args.at in
     let deep = depth_behind (listed_of c.in_ok-guarded-in-Input.guarded.listed) (c.args.depth + 1) in
     let this : unfolded (process_of c.args.body.now) sc deep (counted c.guarding.new.self) ≡ Some (term_of c.in_ok-body-in-Input.body, counted c.process.new.self) =
     subst (λ k. unfolded (process_of c.args.body.now) sc k (counted c.guarding.new.self) ≡ Some (term_of c.in_ok-body-in-Input.body, counted c.process.new.self)) c.depth_behind-deep.ensures
     (subst (λ f. unfolded (process_of c.args.body.now) (meant (scope_in (reverse f.frames.items) c.args.at)) c.depth_behind-deep.result (counted c.guarding.new.self) ≡ Some (term_of c.in_ok-body-in-Input.body, counted c.process.new.self))
     c.in_ok-guarded-in-Input.ensures.kept c.in_ok-body-in-Input.ensures.term) in
-    let made : arms_of c.in_ok-only_arm-in-Input.field-0 ≡ T.input_arm (expression_of c.in_ok-guarded-in-Input.guarded.test) (place_of c.in_ok-guarded-in-Input.guarded.channel) (reception_of c.in_ok-reception-in-Input.reception) no_arms =
-    c.in_ok-only_arm-in-Input.ensures ∙ search (rules, arm_lemmas) in
+    let held : c.into_inner.result ≡ c.in_ok-guarded-in-Input.guarded = cc in
     ap (λ g. performs.arm_of c.args.line (guard_of g) (unfolded (process_of c.args.body.now)) sc c.args.depth (counted c.args.self.now)) c.in-Input.is
     ∙ input_done c.args.line (option_map tree_of c.in-Input.test) (lines.input_of c.in-Input.input) (unfolded (process_of c.args.body.now)) sc c.args.depth (counted c.args.self.now)
     (expression_of c.in_ok-guarded-in-Input.guarded.test, (place_of c.in_ok-guarded-in-Input.guarded.channel, listed_of c.in_ok-guarded-in-Input.guarded.listed)) (counted c.guarding.new.self) c.in_ok-guarded-in-Input.ensures.guard
     (term_of c.in_ok-body-in-Input.body) (counted c.process.new.self) this
-    ∙ ap (λ r. Some (T.input_arm (expression_of c.in_ok-guarded-in-Input.guarded.test) (place_of c.in_ok-guarded-in-Input.guarded.channel) r no_arms, counted c.process.new.self)) (sym c.in_ok-reception-in-Input.ensures)
-    ∙ ap (λ a. Some (a, counted c.process.new.self)) (sym made)
+    ∙ ap (λ g. Some (T.input_arm (expression_of g.test) (place_of g.channel) (as_reception (listed_of g.listed) (term_of c.in_ok-body-in-Input.body)) no_arms, counted c.process.new.self)) (sym held)
+    ∙ ap (λ a. Some (a, counted c.process.new.self)) (sym c.in_ok-input_arm-in-Input.ensures)
 
 pub listening-returns-in_err-test-in-OnVariant-clause-arms : goal.listening-returns-in_err-test-in-OnVariant-clause-arms
 listening-returns-in_err-test-in-OnVariant-clause-arms t c =
