@@ -2,6 +2,7 @@
 #![tactic(auto)]
 
 mod choices;
+mod common;
 mod counting;
 mod parts;
 pub mod scratch;
