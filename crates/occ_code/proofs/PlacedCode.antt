@@ -1,5 +1,5 @@
 -- Code that names cells by their places does what it does by their numbers, from any frame of the cells.
-use Rattle.std.specs.Prelude.{if◌then◌else◌, map, nat_abs, nat_eq, option_map, pos, replicate, slice_get, slice_set, unwrap_or, ⊤}
+use Rattle.std.specs.Prelude.{if◌then◌else◌, map, nat_abs, nat_eq, option_map, pos, replicate, slice_get, slice_set, unwrap_or, ⊤, ◌+ℤ◌}
 use Rattle.std.proofs.Common.{◌≡◌, ◌∙◌, refl, ap, sym, subst, ℕ, zero, suc, ◌+◌, ℤ, Bool, true, false, Option, Some, None, List, [], ◌∷◌, length, get_or, arith}
 use Rattle.std.proofs.lemmas.List.{get_or_past, set_past}
 use Rattle.std.proofs.lemmas.Option.{slice_get-map}
@@ -14,6 +14,7 @@ use Rattle.occ_code.specs.declared.task.Task.{Task}
 use Rattle.occ_code.specs.declared.task.Wait.{Wait}
 use Rattle.occ_code.specs.declared.task.Wait.TheVariants.{Ready, Took, Offers, Awaits, Chooses, Joins, Halted, Done, Faulted}
 use Rattle.occ_code.specs.Sequential.Machine.{by_cell, by_place, placed, Instruction, Push, Load, LoadAt, LoadLetter, Subscript, Operate, OperateOne, ConvertTo, AndThen, OrElse, PartOne, PartMany, PartText, PartCounted, PartCountedText, SpotOne, SpotCounted, StoreParts, StoreNamed, StoreOne, ClearCells, Jump, Choose, IfAmong, IfTag, DropOne, CountedFrom, NextChoice, BackToChoice, Begin, Pass, LoopBack, Send, Receive, Halt, End, Point, point, Effect, Moves, Stops, Stuck, with_one, with_two, going, going_stored, act, effect, Walks, here, on, begins_at, SingleStop, StopsIn, stops_here, passes_on, turning, begun, passed, next_choice, tag_step, last_part, named_from, Stored, Stays, Refused, frame_with, frame_from, frame_parts, values_with, with_counter, counter_at, kept_as}
+use Rattle.occ_code.specs.Sequential.Laws.{PlacesDo}
 use Rattle.occ_code.proofs.SequentialFrames.{HoldsAs, one_held, row_held, parts_held, StoresAs, stored_frame, frame_of}
 
 -- ---- what an instruction does
@@ -52,7 +53,7 @@ module _ (cells : List ℕ) where
   chosen_same : (n : ℕ) (v : ℤ) (pc index skip : ℕ) (st : List ℤ) (q : List Part) (sp : List Spot) (f : Variables) → Frames cells f
       → next_choice by_cell n v pc index skip st q sp f ≡ next_choice by_place n v pc (place_among cells index) skip st q sp f
   chosen_same zero v pc index skip st q sp f h = refl
-  chosen_same (suc n) v pc index skip st q sp f h = ap (point (pc + 1) _ q sp) (with_same f index v h)
+  chosen_same (suc n) v pc index skip st q sp f h = ap (point (pc + 1) (pos n ∷ (v +ℤ pos 1) ∷ st) q sp) (with_same f index v h)
 
   act_same : (o : Option Instruction) (pc : ℕ) (st : List ℤ) (q : List Part) (sp : List Spot) (f : Variables) → Frames cells f → act by_cell o pc st q sp f ≡ act by_place (option_map (placed cells) o) pc st q sp f
   act_same None pc st q sp f h = refl
@@ -252,3 +253,6 @@ module _ (cells : List ℕ) where
     pub stops_placed : {q : ℕ} {a b : Task} → Frames cells a.frame → StopsIn by_cell code q a b → StopsIn by_place by_places q a b
     stops_placed h (stops_here s k) = stops_here (single_placed h s).0 k
     stops_placed h (passes_on s r rest) = let x = single_placed h s in passes_on x.0 r (stops_placed x.1 rest)
+
+pub places_do : PlacesDo
+places_do cells code q a b h s = stops_placed cells code h s

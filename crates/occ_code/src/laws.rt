@@ -3,7 +3,7 @@
 ghost use Rattle.occ_code.specs.Sequential.Alike.{BodiesDo};
 ghost use Rattle.occ_code.specs.Sequential.Emitted.{BodiesAreSmall, CompiledDo};
 ghost use Rattle.occ_code.specs.Sequential.Examples.{CountsAsCompiled, TwiceAsCompiled};
-ghost use Rattle.occ_code.specs.Sequential.Laws.{CountersAreApart, ExpressionsRun, IndexesAreKept, ItemsRun, TargetsRun};
+ghost use Rattle.occ_code.specs.Sequential.Laws.{CountersAreApart, ExpressionsRun, IndexesAreKept, ItemsRun, PlacesDo, TargetsRun};
 
 /// The code of an expression brings its value to the top of the stack, or comes to its fault.
 pub fn expressions_run()
@@ -18,6 +18,11 @@ pub fn items_run()
 /// The code of targets makes their spots, or comes to their first fault.
 pub fn targets_run()
     ensures { TargetsRun }
+{}
+
+/// Code with places for cells comes to the same stops as with their numbers.
+pub fn places_do()
+    ensures { PlacesDo }
 {}
 
 /// A body in which the code of a sequential term stands does what the term does.

@@ -5,7 +5,7 @@ use Rattle.occ_term.specs.Frames.{Variables}
 use Rattle.occ_term.specs.Storing.{Spot}
 use Rattle.occ_term.specs.Values.{Evaluated, Value, Fails}
 use Rattle.occ_term.specs.declared.message.Part.{Part}
-use Rattle.occ_code.specs.Sequential.Machine.{Body, Instruction, Point, point, Effect, Moves, Stops, Stuck, act, effect, going, going_stored, with_one, with_two, Stored, Stays, Refused, SingleStop, StopsIn, stops_here, passes_on, Stopping}
+use Rattle.occ_code.specs.Sequential.Machine.{by_place, Body, Instruction, Point, point, Effect, Moves, Stops, Stuck, act, effect, going, going_stored, with_one, with_two, Stored, Stays, Refused, SingleStop, StopsIn, stops_here, passes_on, Stopping}
 use Rattle.occ_code.specs.Sequential.Machine as M
 use Rattle.occ_code.specs.declared.task.Task.{Task}
 use Rattle.occ_code.specs.declared.task.Wait.{Wait}
@@ -44,7 +44,7 @@ plain_stored : (pc : ℕ) (x : Stored) (to : Variables → Point) → IsPlain (g
 plain_stored pc (Stays f) to = tt
 plain_stored pc (Refused e f) to = refl
 
-plain_act : (i : Option Instruction) (pc : ℕ) (st : List ℤ) (q : List Part) (sp : List Spot) (f : Variables) → IsPlain (act i pc st q sp f)
+plain_act : (i : Option Instruction) (pc : ℕ) (st : List ℤ) (q : List Part) (sp : List Spot) (f : Variables) → IsPlain (act by_place i pc st q sp f)
 plain_act None pc st q sp f = tt
 plain_act (Some (M.Push v)) pc st q sp f = tt
 plain_act (Some (M.Load c)) pc st q sp f = tt
@@ -83,15 +83,15 @@ plain_act (Some M.Receive) pc st q sp f = plain_one st _ (λ v rest. refl)
 plain_act (Some M.Halt) pc st q sp f = refl
 plain_act (Some M.End) pc st q sp f = refl
 
-plain_effect : (code : List Instruction) (a : Point) → IsPlain (effect code a)
+plain_effect : (code : List Instruction) (a : Point) → IsPlain (effect by_place code a)
 plain_effect code (point pc st q sp f) = plain_act (slice_get code pc) pc st q sp f
 
-plain_single : {code : List Instruction} {a b : Task} → SingleStop code a b → IsTrue (is_plain b.wait)
+plain_single : {code : List Instruction} {a b : Task} → SingleStop by_place code a b → IsTrue (is_plain b.wait)
 plain_single {code = code} s =
     let plain : IsTrue (is_plain s.wait) = subst IsPlain s.stops (plain_effect code s.last) in
     subst (λ t. IsTrue (is_plain t.wait)) (sym s.comes_to) plain
 
-plain_stops : {code : List Instruction} {q : ℕ} {a b : Task} → StopsIn code q a b → IsTrue (is_plain b.wait)
+plain_stops : {code : List Instruction} {q : ℕ} {a b : Task} → StopsIn by_place code q a b → IsTrue (is_plain b.wait)
 plain_stops (stops_here s h) = plain_single s
 plain_stops (passes_on s h r) = plain_stops r
 

@@ -1,14 +1,16 @@
 -- Laws of the code of sequential processes, as it is emitted: with the numbers of cells.
 -- Manual: nothing; this is (own).
-use Rattle.std.specs.Prelude.{List, [], length, slice_get, ℕ, ℤ, ◌<◌, ◌+◌, ◌++◌, ◌∷◌, ◌≡◌, Some}
+use Rattle.std.specs.Prelude.{List, [], length, map, slice_get, ℕ, ℤ, ◌<◌, ◌+◌, ◌++◌, ◌∷◌, ◌≡◌, Some}
 use Rattle.occ_term.specs.declared.fault.Fault.{Fault}
 use Rattle.occ_term.specs.declared.message.Part.{Part}
 use Rattle.occ_term.specs.Terms.{Expression, Item, Target}
 use Rattle.occ_term.specs.Values.{Evaluated, Value, Fails, value_of, parts_of}
 use Rattle.occ_term.specs.Storing.{Spot, spots_of}
 use Rattle.occ_term.specs.Frames.{Variables, at}
+use Rattle.occ_code.specs.Alike.{Frames}
+use Rattle.occ_code.specs.declared.task.Task.{Task}
 use Rattle.occ_code.specs.declared.task.Wait.TheVariants.{Faulted}
-use Rattle.occ_code.specs.Sequential.Machine.{Instruction, by_cell, Point, point, Stops, effect, Walks, counter_at, counters_with, kept_as, kept_value}
+use Rattle.occ_code.specs.Sequential.Machine.{Instruction, by_cell, by_place, placed, StopsIn, Point, point, Stops, effect, Walks, counter_at, counters_with, kept_as, kept_value}
 use Rattle.occ_code.specs.Sequential.Expressions.{expression_code, items_code, targets_code}
 
 -- these instructions stand from the one place to the other
@@ -48,6 +50,13 @@ TargetsRun =
     (code : List Instruction) (f : Variables) (ts : List Target) (pc pc' : ℕ) (st : List ℤ) (q : List Part) (sp : List Spot)
     → StandsAt code pc (targets_code ts) pc'
     → Comes code f (point pc st q sp f) (spots_of ts (at f)) (λ xs. point pc' st q (sp ++ xs) f)
+
+-- Code that names single cells by their places comes to the stops of a turn that it has with the numbers of cells, from each frame
+-- of the cells.
+abbrev pub PlacesDo : Type 0
+PlacesDo =
+    (cells : List ℕ) (code : List Instruction) (quantum : ℕ) (before after : Task) → Frames cells before.frame
+    → StopsIn by_cell code quantum before after → StopsIn by_place (map (placed cells) code) quantum before after
 
 -- A counter that is set has its value; another one keeps its own.
 abbrev pub CountersAreApart : Type 0

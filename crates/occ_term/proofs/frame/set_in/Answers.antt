@@ -1,4 +1,4 @@
-use Rattle.std.proofs.Common.{sym, ap, ◌∙◌, w64}
+use Rattle.std.proofs.Common.{sym, ap, w64}
 use Rattle.std.specs.Prelude.{slice_set}
 use Rattle.std.proofs.lemmas.Int.{to_z-of_z}
 use Rattle.occ_term.proofs.FrameWrites.{set_past}
