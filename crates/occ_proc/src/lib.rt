@@ -4,6 +4,7 @@
 mod choices;
 mod common;
 mod counting;
+mod operators;
 mod parts;
 pub mod scratch;
 pub mod segment;

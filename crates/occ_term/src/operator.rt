@@ -11,7 +11,6 @@ use crate::fault::{Fault, FaultKind};
 use crate::primitive::Primitive;
 
 /// An operator's value on two values.
-#[inline(always)]
 pub fn binary(
     operator: Operator,
     primitive: Primitive,
