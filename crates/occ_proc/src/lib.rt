@@ -2,7 +2,9 @@
 #![tactic(auto)]
 
 mod choices;
+mod common;
 mod counting;
+mod operators;
 mod parts;
 pub mod scratch;
 pub mod segment;
