@@ -8,22 +8,25 @@ use Rattle.occ_term.specs.Processes.{Numbered, numbered, processes_of}
 use Rattle.occ_term.specs.Runs.{Event, event, Run, no_turn, communications, messages_on}
 use Rattle.occ_term.specs.System.{System, start, HaltMode}
 use Rattle.occ_term.specs.TermTyping.{Declared}
-use Rattle.occ_term.specs.Terms.{Term}
+use Rattle.occ_term.specs.Terms.{Term, Branches, no_branches, and_branch}
 use Rattle.occ_term.specs.Unfolding.{Unfolding, IsWellFormed, Lawful, meaning, declared}
-use Rattle.occ_code.specs.Sequential.Alike.{DoesAs}
+use Rattle.occ_code.specs.Alike.{SameStop}
+use Rattle.occ_code.specs.Sequential.Alike.{Alike, DoesAs}
 use Rattle.occ_code.specs.Sequential.Compiled.{Program, IsCompiledFrom, AllDo}
 use Rattle.occ_code.specs.Sequential.Machine.{Body, Stopping}
 use Rattle.occ_code.specs.declared.task.Task.{Task}
+use Rattle.occ_code.specs.declared.task.Wait.TheVariants.{Joins}
 use Rattle.occ_net.specs.declared.choice.Choice.{Choice}
-use Rattle.occ_net.specs.Following.{AreBytes, Followed, ReplaysAreRuns, ReadyTasksStop, process_in}
+use Rattle.occ_net.specs.Following.{AreBytes, Followed, OneNeverForks, ReplaysAreRuns, ReadyTasksStop, process_in}
 use Rattle.occ_net.specs.Replay.{Net, HasTask, may_go, Replays, begins, goes_on as replays_on}
 use Rattle.occ_net.proofs.Beginning.{first_follows, ends_as}
 use Rattle.occ_net.proofs.Holding.{AgreesBut, agrees_all, Belongs, Stands, one_term}
 use Rattle.occ_net.proofs.Runs.{listed, run_more, met_more, turns_more, on-append, FitAll, fit_append, fit_on}
 use Rattle.occ_net.proofs.Settling.{Follows}
 use Rattle.occ_net.proofs.States.{live_at}
-use Rattle.occ_net.proofs.TakingTurns.{Begins, begins_alone, begins_joined, begins_as}
-use Rattle.occ_net.proofs.Whole.{one_turn}
+use Rattle.occ_net.proofs.Placed.{AreSome, BranchesPlaced, LeftPlaced, size}
+use Rattle.occ_net.proofs.TakingTurns.{ran, Begins, begins_alone, begins_joined, begins_as}
+use Rattle.occ_net.proofs.Whole.{all_at, one_turn}
 
 -- ---- what belongs to a process number
 
@@ -119,6 +122,31 @@ module _ (u : Unfolding) (p : Program) (quantum : ℕ) (kb : List ℕ) (w : IsWe
       by {b} own ps but (begins_alone h al) ag = let y = al f.store (agrees_all d b.cells t.frame f.store f.state.typed_store ag) in (y.after, y.stops)
       by {b} own ps but (begins_joined e al) ag = let y = al f.store (agrees_all d b.cells t.frame f.store f.state.typed_store ag) in (y.after, y.stops)
 
+  -- ---- one process
+
+  one_program : (body : Body) (ps : List Numbered) → AllDo d 0 (body ∷ []) ps → (i : ℕ) (q : Numbered) → slice_get ps i ≡ Some q → i ≡ 0
+  one_program body [] h i q e = absurd cc
+  one_program body (x ∷ []) h zero q e = refl
+  one_program body (x ∷ []) h (suc i) q e = absurd cc
+  one_program body (x ∷ y ∷ ps) h i q e = absurd h.2
+
+  no_branch : (n hi : ℕ) (bs : Branches) → ((i : ℕ) (q : Numbered) → slice_get procs i ≡ Some q → i ≡ 0) → BranchesPlaced procs (n + 1) hi bs → AreSome bs → ⊥
+  no_branch n hi no_branches only b s = absurd s
+  no_branch n hi (and_branch i t bs) only b s = let low = b.0 in let none = only i (numbered i t) b.1 in omega (arith, low, none)
+
+  one_never_forks : (n : ℕ) (net : Net) (now : System) (body : Body) (t after : Task) (ns : List ℕ) → Follows d p procs (keyboard_protocol u w) quantum 1 net now → p.bodies ≡ body ∷ [] → HasTask net.tasks n t → IsTrue (may_go t.wait) → Stopping body t after → after.wait ≡ Joins ns → ⊥
+  one_never_forks n net now body t after ns f one there may stops e =
+      let l = live_at d p procs 1 net.tasks f.proc f.store n t f.state there (λ q. true≢false (sym may ∙ ap (λ z. may_go z) q)) in
+      let here : n ≡ 0 = one_program body procs (subst (λ bs. AllDo d 0 bs procs) one from.bodies) n (numbered n l.mine.belongs.term) l.mine.belongs.entry in
+      let same_body : l.mine.belongs.body ≡ body = one_body (sym l.mine.belongs.code ∙ ap (slice_get p.bodies) here ∙ ap (λ bs. slice_get bs 0) one) in
+      let r = ran d p procs 0 quantum n net.tasks f.proc f.store f.state l.own l.branches l.at l.mine l.all t after l.same there may (all_at (λ b. b.quantum ≡ quantum) p.bodies n l.mine.belongs.body same l.mine.belongs.code) (subst (λ b. Stopping b t after) (sym same_body) stops) in
+      let x : SameStop d (Alike 0 d l.mine.belongs.body) after r.rest (Joins ns) = subst (SameStop d (Alike 0 d l.mine.belongs.body) after r.rest) e r.same in
+      let placed = subst (LeftPlaced procs (n + 1) (n + 1 + size l.mine.belongs.term)) x.2 r.placed in
+      no_branch n (n + 1 + size l.mine.belongs.term) x.1 (one_program body procs (subst (λ bs. AllDo d 0 bs procs) one from.bodies)) placed.0.0 placed.0.1
+    where
+      one_body : {a b : Body} → Some a ≡ Some b → a ≡ b
+      one_body q = cc
+
 pub replays_are_runs : ReplaysAreRuns
 replays_are_runs u p quantum kb cs net w lawful from same bytes small r = followed u p quantum kb w lawful from same bytes cs net small r
 
@@ -126,3 +154,8 @@ pub ready_tasks_stop : ReadyTasksStop
 ready_tasks_stop u p quantum kb cs net n body t w lawful from same bytes small r code there may =
     let x = all_followed u p quantum kb w lawful from same bytes cs net 1 small r in
     stop_of u p quantum kb w lawful from same bytes n net x.now body t x.follows code there may
+
+pub one_never_forks_is : OneNeverForks
+one_never_forks_is u p quantum kb cs net n body t after ns w lawful from same bytes small r one there may stops e =
+    let x = all_followed u p quantum kb w lawful from same bytes cs net 1 small r in
+    one_never_forks u p quantum kb w lawful from same bytes n net x.now body t after ns x.follows one there may stops e

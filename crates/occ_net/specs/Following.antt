@@ -9,6 +9,7 @@ use Rattle.occ_term.specs.Runs as R
 use Rattle.occ_code.specs.Alike.{FitsProtocol}
 use Rattle.occ_code.specs.Sequential.Machine.{Body, Stopping}
 use Rattle.occ_code.specs.declared.task.Task.{Task}
+use Rattle.occ_code.specs.declared.task.Wait.TheVariants.{Joins}
 use Rattle.occ_code.specs.Sequential.Compiled.{Program, IsCompiledFrom}
 use Rattle.occ_net.specs.declared.choice.Choice.{Choice}
 use Rattle.occ_net.specs.declared.ending.Ending.{Ending}
@@ -66,3 +67,10 @@ ReadyTasksStop =
     → IsWellFormed u → Lawful u → IsCompiledFrom u p → All (λ b. b.quantum ≡ quantum) p.bodies → AreBytes keyboard → 1 + length cs < 2 ^ 64
     → Replays p keyboard cs net → slice_get p.bodies n ≡ Some body → HasTask net.tasks n t → IsTrue (may_go t.wait)
     → (after : Task) × Stopping body t after
+
+-- a turn of the one process of a program never ends at a fork
+abbrev pub OneNeverForks : Type 0
+OneNeverForks =
+    (u : Unfolding) (p : Program) (quantum : ℕ) (keyboard : List ℕ) (cs : List Choice) (net : Net) (n : ℕ) (body : Body) (t after : Task) (ns : List ℕ)
+    → IsWellFormed u → Lawful u → IsCompiledFrom u p → All (λ b. b.quantum ≡ quantum) p.bodies → AreBytes keyboard → 1 + length cs < 2 ^ 64
+    → Replays p keyboard cs net → p.bodies ≡ body ∷ [] → HasTask net.tasks n t → IsTrue (may_go t.wait) → Stopping body t after → after.wait ≡ Joins ns → ⊥

@@ -1,6 +1,6 @@
 //! Laws of the definitions. Each function's contract is the law; its body does nothing.
 
-ghost use Rattle.occ_net.specs.Following.{ReadyTasksStop, ReplaysAreRuns};
+ghost use Rattle.occ_net.specs.Following.{OneNeverForks, ReadyTasksStop, ReplaysAreRuns};
 
 /// A replay of the code of a lawful program is a run of the program.
 pub fn replays_are_runs()
@@ -10,4 +10,9 @@ pub fn replays_are_runs()
 /// In a replay each task that may take a turn has one.
 pub fn ready_tasks_stop()
     ensures { ReadyTasksStop }
+{}
+
+/// A turn of the one process of a program never ends at a fork.
+pub fn one_never_forks()
+    ensures { OneNeverForks }
 {}

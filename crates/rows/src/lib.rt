@@ -38,6 +38,8 @@ mod texts;
 #[cfg(test)]
 mod trees;
 #[cfg(test)]
+mod turns;
+#[cfg(test)]
 mod unfolded;
 #[cfg(test)]
 mod usage;

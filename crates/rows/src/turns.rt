@@ -1,0 +1,139 @@
+//! First turns of processes, for several quanta.
+ghost use Rattle.std.specs.Prelude.{◌≡◌, All, IfOk};
+ghost use Rattle.occ_term.specs.Frames.{zero_frame};
+ghost use Rattle.occ_net.specs.Replay.{first_task};
+
+use occ_check::unfold;
+use occ_code::{Body, Code, Task, Wait, compile_for};
+use occ_parse::parse;
+use occ_proc::{Scratch, Segment, advance, turn};
+use occ_term::{Checked, Frame, check_usage};
+use occ_text::read_lines;
+use std::alloc::{AllocError, Global};
+use std::test::Fail;
+
+const COUNTS: &str =
+    "  INT n:\n  SEQ\n    n := 0\n    WHILE n < 8\n      n := n + 1\n    screen ! BYTE (n + 48)\n";
+
+const ADDS: &str = "  INT n:\n  SEQ\n    n := 1\n    SEQ i = 5 FOR 3\n      n := n + i\n";
+
+const STOPS: &str = "  INT n:\n  SEQ\n    n := 7\n    STOP\n";
+
+/// The body of `main`, the quantum, the value of its first variable after one turn, and whether the
+/// process may then take another one.
+struct Turned(&'static str, u32, i64, bool);
+
+const TURNS: [Turned; 11] = [
+    Turned(COUNTS, 1, 1, true),
+    Turned(COUNTS, 2, 2, true),
+    Turned(COUNTS, 4, 4, true),
+    Turned(COUNTS, 8, 8, true),
+    Turned(COUNTS, 9, 8, false),
+    Turned(COUNTS, 65_536, 8, false),
+    Turned(ADDS, 1, 6, true),
+    Turned(ADDS, 2, 12, true),
+    Turned(ADDS, 3, 19, true),
+    Turned(ADDS, 4, 19, false),
+    Turned(STOPS, 3, 7, false),
+];
+
+/// The program, where it is accepted.
+fn accepted(alloc: Global, source: &[u8]) -> Option<Checked> {
+    let lines = read_lines(alloc, source).ok()?;
+    let tree = parse(alloc, &lines).ok()?;
+    let unfolded = unfold(alloc, &tree).ok()?;
+    check_usage(alloc, unfolded).ok()
+}
+
+/// A process at its start.
+fn task_at_start(alloc: Global, body: &Body) -> Result<Task, AllocError>
+    ensures { IfOk result (λ t. t ≡ first_task 0 0 (zero_frame body.now.cells body.now.loops)) }
+{
+    let frame = Frame::new(alloc, body.cells(), body.loops() as usize)?;
+    Ok(Task {
+        number: 0,
+        turns: 0,
+        place: 0,
+        frame,
+        wait: Wait::Ready,
+    })
+}
+
+/// The first turn of the main process, on a copy.
+fn first_turn(alloc: Global, code: &Code, quantum: u32) -> Result<Option<Segment>, AllocError>
+    requires { All (λ b. b.quantum ≡ quantum) code.now.bodies }
+{
+    code.compiled();
+    let Some(body) = code.body(0) else {
+        return Ok(None);
+    };
+    let task = task_at_start(alloc, body)?;
+    match turn(alloc, body.clone()?, task) {
+        Ok(segment) => Ok(Some(segment)),
+        Err((_task, refused)) => Err(refused),
+    }
+}
+
+/// The task after its first turn, in place.
+fn advanced(alloc: Global, code: &Code, quantum: u32) -> Result<Option<Task>, AllocError>
+    requires { All (λ b. b.quantum ≡ quantum) code.now.bodies }
+{
+    code.compiled();
+    let Some(body) = code.body(0) else {
+        return Ok(None);
+    };
+    let mut task = task_at_start(alloc, body)?;
+    let mut scratch = Scratch::new(alloc);
+    advance(alloc, body, &mut scratch, &mut task)?;
+    Ok(Some(task))
+}
+
+/// The first variable and whether the task may go on.
+fn shown(alloc: Global, task: &Task) -> Result<String, AllocError> {
+    let ready = matches!(task.wait, Wait::Ready);
+    let value = task.frame.value(0);
+    let turns = task.turns;
+    format!(in alloc; "{value} {ready} {turns}")
+}
+
+/// What a turn on a copy shows, before and after.
+fn shown_on_a_copy(alloc: Global, checked: &Checked, quantum: u32) -> Result<String, AllocError> {
+    let Ok(code) = compile_for(alloc, checked, quantum) else {
+        return String::from_str(alloc, "no code");
+    };
+    match first_turn(alloc, &code, quantum)? {
+        Some(segment) => {
+            let before = shown(alloc, segment.before())?;
+            let after = shown(alloc, segment.after())?;
+            format!(in alloc; "{before}, {after}")
+        }
+        None => String::from_str(alloc, "no body"),
+    }
+}
+
+/// What a turn in place shows.
+fn shown_in_place(alloc: Global, checked: &Checked, quantum: u32) -> Result<String, AllocError> {
+    let Ok(code) = compile_for(alloc, checked, quantum) else {
+        return String::from_str(alloc, "no code");
+    };
+    match advanced(alloc, &code, quantum)? {
+        Some(task) => shown(alloc, &task),
+        None => String::from_str(alloc, "no body"),
+    }
+}
+
+#[test]
+fn turns_go_to_the_stop(rt: HostRuntime) -> Result<(), Fail> {
+    let alloc = rt.alloc();
+    for row in TURNS.iter() {
+        let source = format!(in alloc; "PROC main (CHAN OF BYTE keyboard, screen)\n{}:\n", row.0)?;
+        let checked = accepted(alloc, source.as_bytes()).unwrap();
+        let after = format!(in alloc; "{} {} 1", row.2, row.3)?;
+        let both = format!(in alloc; "0 true 0, {after}")?;
+        let copied = shown_on_a_copy(alloc, &checked, row.1)?;
+        assert_eq!(rt; copied.as_str(), both.as_str(), "{source}");
+        let moved = shown_in_place(alloc, &checked, row.1)?;
+        assert_eq!(rt; moved.as_str(), after.as_str(), "{source}");
+    }
+    Ok(())
+}
