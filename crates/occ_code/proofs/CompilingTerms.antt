@@ -1,5 +1,6 @@
 -- The compiled form of a sequential term keeps what the code of a program promises.
-use Rattle.std.proofs.Common.{◌≤◌, ◌<◌, ◌*◌, ℕ, IsTrue, length, ◌≡◌, ◌++◌, ◌∷◌, [], List, ◌∙◌, refl, sym, ap, subst, arith}
+use Rattle.std.specs.Prelude.{◌&&◌}
+use Rattle.std.proofs.Common.{Bool, true, false, ◌≤◌, ◌<◌, ◌*◌, ℕ, IsTrue, length, ◌≡◌, ◌++◌, ◌∷◌, [], List, ◌∙◌, refl, sym, ap, subst, arith}
 use Rattle.std.proofs.lemmas.List.{length-map}
 use Rattle.occ_term.specs.Terms.{Term, Skip, Stop, Assign, Input, Output, VariantInput, Seq, Par, Alt, If, Case, While, Each, Clear, Local, Terms, no_terms, then_term, Variants, no_variants, or_variant, Choices, no_choices, or_choice, declared_choices, each_choice, Options, no_options, or_option, or_else}
 use Rattle.occ_term.specs.Unfolding.{Unfolding, IsWellFormed, declared, meaning}
@@ -8,7 +9,7 @@ use Rattle.occ_term.specs.Processes.{branches_in, branches_in_terms, branches_in
 use Rattle.occ_term.specs.declared.names.Channel.{Channel}
 use Rattle.occ_code.specs.Sequential.Machine.{Body, placed}
 use Rattle.occ_code.specs.Sequential.Alike.{DoesAs}
-use Rattle.occ_code.specs.Sequential.Emitted.{is_sequential, are_sequential, variants_are_sequential, choices_are_sequential, options_are_sequential, whole_code}
+use Rattle.occ_code.specs.Sequential.Emitted.{is_sequential, are_sequential, variants_are_sequential, choices_are_sequential, options_are_sequential, has_no_alt, have_no_alt, variants_have_no_alt, choices_have_no_alt, options_have_no_alt, whole_code}
 use Rattle.occ_code.specs.Sequential.Compiled.{AllDo, IsCompiledFrom, IsQuantum, CodeRefuses, IsBodyOf, IsRefused, most_instructions}
 use Rattle.occ_code.specs.declared.compiler.code.CodeFault.{CodeFault}
 use Rattle.occ_code.specs.declared.compiler.code.CodeFault.TheVariants.{TooLarge, Early, BadQuantum, Memory}
@@ -55,9 +56,51 @@ mutual
   none_in_options (or_option constants ds t os) q = none_in (branches_in t) (branches_in_options os) (no_branches t (first_true _ _ q)) (none_in_options os (second_true _ _ q))
   none_in_options (or_else ds t os) q = none_in (branches_in t) (branches_in_options os) (no_branches t (first_true _ _ q)) (none_in_options os (second_true _ _ q))
 
+both_true : (a b : Bool) → IsTrue a → IsTrue b → IsTrue (a && b)
+both_true true b h k = k
+both_true false b h k = absurd cc
+
+mutual
+  -- a term without PAR and ALT has no ALT
+  no_alt : (t : Term) → IsTrue (is_sequential t) → IsTrue (has_no_alt t)
+  no_alt Skip q = refl
+  no_alt Stop q = refl
+  no_alt (Assign ts vs) q = refl
+  no_alt (Input c ts) q = refl
+  no_alt (Output c tag is) q = refl
+  no_alt (VariantInput c vs) q = no_alt_in_variants vs q
+  no_alt (Seq ts) q = no_alt_in_terms ts q
+  no_alt (Par bs) q = absurd cc
+  no_alt (Alt pri arms) q = absurd cc
+  no_alt (If cs) q = no_alt_in_choices cs q
+  no_alt (Case e os) q = no_alt_in_options os q
+  no_alt (While e b) q = no_alt b q
+  no_alt (Each r b) q = no_alt b q
+  no_alt (Clear first count) q = refl
+  no_alt (Local first value) q = refl
+
+  no_alt_in_terms : (ts : Terms) → IsTrue (are_sequential ts) → IsTrue (have_no_alt ts)
+  no_alt_in_terms no_terms q = refl
+  no_alt_in_terms (then_term t ts) q = both_true _ _ (no_alt t (first_true _ _ q)) (no_alt_in_terms ts (second_true _ _ q))
+
+  no_alt_in_variants : (vs : Variants) → IsTrue (variants_are_sequential vs) → IsTrue (variants_have_no_alt vs)
+  no_alt_in_variants no_variants q = refl
+  no_alt_in_variants (or_variant tag ds ts t vs) q = both_true _ _ (no_alt t (first_true _ _ q)) (no_alt_in_variants vs (second_true _ _ q))
+
+  no_alt_in_choices : (cs : Choices) → IsTrue (choices_are_sequential cs) → IsTrue (choices_have_no_alt cs)
+  no_alt_in_choices no_choices q = refl
+  no_alt_in_choices (or_choice e t cs) q = both_true _ _ (no_alt t (first_true _ _ q)) (no_alt_in_choices cs (second_true _ _ q))
+  no_alt_in_choices (declared_choices d within others) q = both_true _ _ (no_alt_in_choices within (first_true _ _ q)) (no_alt_in_choices others (second_true _ _ q))
+  no_alt_in_choices (each_choice r within others) q = both_true _ _ (no_alt_in_choices within (first_true _ _ q)) (no_alt_in_choices others (second_true _ _ q))
+
+  no_alt_in_options : (os : Options) → IsTrue (options_are_sequential os) → IsTrue (options_have_no_alt os)
+  no_alt_in_options no_options q = refl
+  no_alt_in_options (or_option constants ds t os) q = both_true _ _ (no_alt t (first_true _ _ q)) (no_alt_in_options os (second_true _ _ q))
+  no_alt_in_options (or_else ds t os) q = both_true _ _ (no_alt t (first_true _ _ q)) (no_alt_in_options os (second_true _ _ q))
+
 body_does : (u : Unfolding) (quantum : ℕ) (b : Body) → IsWellFormed u → IsTrue (is_sequential (meaning u)) → IsQuantum quantum → IsBodyOf (meaning u) quantum b → DoesAs (declared u) b (meaning u)
 body_does u quantum b well q between h =
-    subst (λ x. DoesAs (declared u) x (meaning u)) (sym h.is) (compiled_do (declared u) (meaning u) b.cells b.writes quantum q well.typed h.cells h.writes between.0)
+    subst (λ x. DoesAs (declared u) x (meaning u)) (sym h.is) (compiled_do (declared u) (meaning u) b.cells b.writes quantum (no_alt (meaning u) q) well.typed h.cells h.writes between.0)
 
 pub compiled_as : (u : Unfolding) (quantum : ℕ) (bodies : List Body) (b : Body) (channels : List Channel) → IsWellFormed u → IsTrue (is_sequential (meaning u)) → IsQuantum quantum → bodies ≡ b ∷ [] → IsBodyOf (meaning u) quantum b
     → length b.code ≤ most_instructions → channels ≡ u.channels → IsCompiledFrom u (record { bodies = bodies; channels = channels })
