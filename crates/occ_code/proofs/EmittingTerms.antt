@@ -3,10 +3,10 @@ use Rattle.std.specs.Prelude.{reverse, set, ◌-◌}
 use Rattle.std.proofs.Common.{◌≡◌, ℕ, suc, ◌+◌, ◌<◌, ◌≤◌, List, [], ◌∷◌, ◌++◌, drop, get_or, length, map, rules, refl, sym, ap, ◌∙◌, arith, append_assoc, length-append}
 use Rattle.std.proofs.Math.Seq.{drop-cons, set-append_seam}
 use Rattle.std.proofs.lemmas.List.{length-map, length-reverse}
-use Rattle.occ_term.specs.View.{branch_of, branches_of, choice_of, choices_of, term_of, option_of, options_of, variant_of, variants_of}
-use Rattle.occ_term.specs.Terms.{and_branch}
+use Rattle.occ_term.specs.View.{branch_of, branches_of, choice_of, choices_of, term_of, terms_of, option_of, options_of, variant_of, variants_of}
+use Rattle.occ_term.specs.Terms.{and_branch, then_term}
 use Rattle.occ_term.specs.declared.term.Branch.{Branch}
-use Rattle.occ_term.specs.declared.term.Term.{the_lemmas}
+use Rattle.occ_term.specs.declared.term.Term.{Term, the_lemmas}
 use Rattle.occ_term.specs.declared.term.Choice.{Choice}
 use Rattle.occ_term.specs.declared.term.Selection.{Selection}
 use Rattle.occ_term.specs.declared.term.Variant.{Variant}
@@ -55,6 +55,16 @@ behind_set {a} {b} {d} {p} x n h long e =
     }
 
 -- ---- rows
+
+pub terms_row : (ts : List Term) (i k : ℕ) (t : Term) → k ≡ i + 1 → i < length ts → t ≡ get_or ts i t → terms_of (drop i ts) ≡ then_term (term_of t) (terms_of (drop k ts))
+terms_row ts i k t e lt is =
+    let next : suc i ≡ k = omega (arith, e) in
+    ap terms_of (drop-cons ts i t lt) ∙ ap (λ y. then_term (term_of y) (terms_of (drop (suc i) ts))) (sym is) ∙ ap (λ n. then_term (term_of t) (terms_of (drop n ts))) next
+
+pub branches_row : (bs : List Branch) (i k : ℕ) (b : Branch) → k ≡ i + 1 → i < length bs → b ≡ get_or bs i b → branches_of (drop i bs) ≡ branch_of b (branches_of (drop k bs))
+branches_row bs i k b e lt is =
+    let next : suc i ≡ k = omega (arith, e) in
+    ap branches_of (drop-cons bs i b lt) ∙ ap (λ y. branch_of y (branches_of (drop (suc i) bs))) (sym is) ∙ ap (λ n. branch_of b (branches_of (drop n bs))) next
 
 pub choices_row : (cs : List Choice) (i k : ℕ) (c : Choice) → k ≡ i + 1 → i < length cs → c ≡ get_or cs i c → choices_of (drop i cs) ≡ choice_of c (choices_of (drop k cs))
 choices_row cs i k c e lt is =

@@ -1,7 +1,7 @@
 //! Laws of the code of single processes. Each function's contract is the law; its body does nothing.
 
 ghost use Rattle.occ_code.specs.Sequential.Alike.{BodiesDo};
-ghost use Rattle.occ_code.specs.Sequential.Emitted.{BodiesAreSmall, CompiledDo};
+ghost use Rattle.occ_code.specs.Sequential.Emitted.{BodiesAreSmall, CompiledDo, ProgramsAreSmall};
 ghost use Rattle.occ_code.specs.Sequential.Examples.{CountsAsCompiled, TwiceAsCompiled, TwiceTwoAsCompiled};
 ghost use Rattle.occ_code.specs.Sequential.Laws.{CountersAreApart, ExpressionsRun, IndexesAreKept, ItemsRun, PlacesDo, TargetsRun};
 
@@ -38,6 +38,11 @@ pub fn compiled_do()
 /// A body has at most 32 instructions for each node of its term.
 pub fn bodies_are_small()
     ensures { BodiesAreSmall }
+{}
+
+/// All bodies of a program have at most 32 instructions for each node of its term.
+pub fn programs_are_small()
+    ensures { ProgramsAreSmall }
 {}
 
 /// Counters of replicated SEQs stay apart.

@@ -5,6 +5,7 @@ use Rattle.occ_term.specs.Terms.{Term, Skip, Stop, Assign, Input, Output, Varian
 use Rattle.occ_term.specs.Storing.{index_of}
 use Rattle.occ_term.specs.Uses.{uses_of}
 use Rattle.occ_term.specs.Sizes.{size_of}
+use Rattle.occ_term.specs.Processes.{Numbered, processes_of}
 use Rattle.occ_term.specs.TermTyping.{Declared, TermHas}
 use Rattle.occ_code.specs.Alike.{Lists, used_by}
 use Rattle.occ_code.specs.Sequential.Machine.{Instruction, Body, placed, Jump, Choose, IfAmong, IfTag, DropOne, NextChoice, BackToChoice, Begin, Pass, LoopBack, Send, Receive, Halt, End}
@@ -203,6 +204,15 @@ abbrev pub CompiledDo : Type 0
 CompiledDo =
     (d : Declared) (t : Term) (cells writes : List ℕ) (quantum : ℕ) → HasNoAlt t → TermHas d t → Lists cells (used_by (uses_of t)) → Lists writes (uses_of t).writes
     → 0 < quantum → DoesAs d (body_of t cells writes quantum) t
+
+-- how many instructions the processes have in all
+abbrev pub instructions_of : List Numbered → ℕ
+instructions_of [] = 0
+instructions_of (p ∷ ps) = length (whole_code p.term) + instructions_of ps
+
+-- at most 32 instructions for each node, in the bodies of all processes of a term
+abbrev pub ProgramsAreSmall : Type 0
+ProgramsAreSmall = (t : Term) → instructions_of (processes_of t) ≤ 32 * (size_of t).nodes
 
 -- at most 32 instructions for each node
 abbrev pub BodiesAreSmall : Type 0
