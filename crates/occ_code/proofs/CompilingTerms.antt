@@ -1,77 +1,157 @@
--- The compiled form of a sequential term keeps what the code of a program promises.
-use Rattle.std.proofs.Common.{◌≤◌, ◌<◌, ◌*◌, ℕ, IsTrue, length, ◌≡◌, ◌++◌, ◌∷◌, [], List, ◌∙◌, refl, sym, ap, subst, arith}
-use Rattle.std.proofs.lemmas.List.{length-map}
-use Rattle.occ_term.specs.Terms.{Term, Skip, Stop, Assign, Input, Output, VariantInput, Seq, Par, Alt, If, Case, While, Each, Clear, Local, Terms, no_terms, then_term, Variants, no_variants, or_variant, Choices, no_choices, or_choice, declared_choices, each_choice, Options, no_options, or_option, or_else}
-use Rattle.occ_term.specs.Unfolding.{Unfolding, IsWellFormed, declared, meaning}
+-- The bodies of a term's processes keep what the code of a program promises.
+use Rattle.std.specs.Prelude.{All, reverse, ⊤}
+use Rattle.std.proofs.Common.{◌≤◌, ◌<◌, ◌+◌, ◌*◌, ℕ, zero, suc, map, IsTrue, length, ◌≡◌, ◌++◌, ◌∷◌, [], List, ◌∙◌, refl, sym, ap, subst, arith, append_assoc, append-nil}
+use Rattle.std.proofs.lemmas.List.{length-map, map-append, reverse-append}
+use Rattle.occ_term.specs.Terms.{Term, Skip, Stop, Assign, Input, Output, VariantInput, Seq, Par, Alt, If, Case, While, Each, Clear, Local, Terms, no_terms, then_term, Branches, no_branches, and_branch, Variants, no_variants, or_variant, Choices, no_choices, or_choice, declared_choices, each_choice, Options, no_options, or_option, or_else}
+use Rattle.occ_term.specs.Unfolding.{Unfolding, IsWellFormed, NumberedFrom, declared, meaning}
+use Rattle.occ_term.specs.declared.primitive.Primitive.{Primitive}
+use Rattle.occ_term.specs.declared.protocol.Protocol.{Protocol}
+use Rattle.occ_term.specs.TermTyping.{Declared, TermHas, TermsHave, BranchesHave, VariantsHave, ChoicesHave, OptionsHave}
 use Rattle.occ_term.specs.Sizes.{size_of}
-use Rattle.occ_term.specs.Processes.{branches_in, branches_in_terms, branches_in_variants, branches_in_choices, branches_in_options, processes_of, numbered}
+use Rattle.occ_term.specs.Processes.{Numbered, branches_in, branches_in_terms, branches_among, branches_in_variants, branches_in_choices, branches_in_options, processes_of}
 use Rattle.occ_term.specs.declared.names.Channel.{Channel}
 use Rattle.occ_code.specs.Sequential.Machine.{Body, placed}
 use Rattle.occ_code.specs.Sequential.Alike.{DoesAs}
-use Rattle.occ_code.specs.Sequential.Emitted.{is_sequential, are_sequential, variants_are_sequential, choices_are_sequential, options_are_sequential, whole_code}
-use Rattle.occ_code.specs.Sequential.Compiled.{AllDo, IsCompiledFrom, IsQuantum, CodeRefuses, IsBodyOf, IsRefused, most_instructions}
+use Rattle.occ_code.specs.Sequential.Emitted.{has_no_alt, have_no_alt, branches_have_no_alt, variants_have_no_alt, choices_have_no_alt, options_have_no_alt, instructions_of, whole_code}
+use Rattle.occ_code.specs.Sequential.Compiled.{AddsBodies, AllDo, AreBodiesOf, IsCompiledFrom, IsQuantum, CodeRefuses, IsBodyOf, IsRefused, instructions_in, most_instructions}
 use Rattle.occ_code.specs.declared.compiler.code.CodeFault.{CodeFault}
 use Rattle.occ_code.specs.declared.compiler.code.CodeFault.TheVariants.{TooLarge, Early, BadQuantum, Memory}
 use Rattle.occ_code.proofs.SequentialLayout.{first_true, second_true, compiled_do}
-use Rattle.occ_code.proofs.SequentialSizes.{bodies_are_small}
+use Rattle.occ_code.proofs.SequentialSizes.{programs_are_small}
 
-none_in : {X : Type 0} (a b : List X) → a ≡ [] → b ≡ [] → a ++ b ≡ []
-none_in a b e f = ap (λ l. l ++ b) e ∙ f
+-- ---- every process of a typed term without ALT is typed, and has none
 
-mutual
-  no_branches : (t : Term) → IsTrue (is_sequential t) → branches_in t ≡ []
-  no_branches Skip q = refl
-  no_branches Stop q = refl
-  no_branches (Assign ts vs) q = refl
-  no_branches (Input c ts) q = refl
-  no_branches (Output c tag is) q = refl
-  no_branches (VariantInput c vs) q = none_in_variants vs q
-  no_branches (Seq ts) q = none_in_terms ts q
-  no_branches (Par bs) q = absurd cc
-  no_branches (Alt pri arms) q = absurd cc
-  no_branches (If cs) q = none_in_choices cs q
-  no_branches (Case e os) q = none_in_options os q
-  no_branches (While e b) q = no_branches b q
-  no_branches (Each r b) q = no_branches b q
-  no_branches (Clear first count) q = refl
-  no_branches (Local first value) q = refl
+abbrev AllCompile : Declared → List Numbered → Type 0
+AllCompile d [] = ⊤
+AllCompile d (p ∷ ps) = TermHas d p.term × IsTrue (has_no_alt p.term) × AllCompile d ps
 
-  none_in_terms : (ts : Terms) → IsTrue (are_sequential ts) → branches_in_terms ts ≡ []
-  none_in_terms no_terms q = refl
-  none_in_terms (then_term t ts) q = none_in (branches_in t) (branches_in_terms ts) (no_branches t (first_true _ _ q)) (none_in_terms ts (second_true _ _ q))
+module _ (d : Declared) where
+  both_compile : (ps qs : List Numbered) → AllCompile d ps → AllCompile d qs → AllCompile d (ps ++ qs)
+  both_compile [] qs h k = k
+  both_compile (p ∷ ps) qs h k = (h.0, h.1, both_compile ps qs h.2 k)
 
-  none_in_variants : (vs : Variants) → IsTrue (variants_are_sequential vs) → branches_in_variants vs ≡ []
-  none_in_variants no_variants q = refl
-  none_in_variants (or_variant tag ds ts t vs) q = none_in (branches_in t) (branches_in_variants vs) (no_branches t (first_true _ _ q)) (none_in_variants vs (second_true _ _ q))
+  mutual
+    within : (t : Term) → TermHas d t → IsTrue (has_no_alt t) → AllCompile d (branches_in t)
+    within Skip h q = tt
+    within Stop h q = tt
+    within (Assign ts vs) h q = tt
+    within (Input c ts) h q = tt
+    within (Output c tag is) h q = tt
+    within (VariantInput c vs) h q = within_variants h.0 vs h.2 q
+    within (Seq ts) h q = within_terms ts h q
+    within (Par bs) h q = within_branches bs h q
+    within (Alt pri arms) h q = absurd cc
+    within (If cs) h q = within_choices cs h q
+    within (Case e os) h q = within_options h.0 os h.3 q
+    within (While e b) h q = within b h.1 q
+    within (Each r b) h q = within b h.2 q
+    within (Clear first count) h q = tt
+    within (Local first value) h q = tt
 
-  none_in_choices : (cs : Choices) → IsTrue (choices_are_sequential cs) → branches_in_choices cs ≡ []
-  none_in_choices no_choices q = refl
-  none_in_choices (or_choice e t cs) q = none_in (branches_in t) (branches_in_choices cs) (no_branches t (first_true _ _ q)) (none_in_choices cs (second_true _ _ q))
-  none_in_choices (declared_choices d within others) q = none_in (branches_in_choices within) (branches_in_choices others) (none_in_choices within (first_true _ _ q)) (none_in_choices others (second_true _ _ q))
-  none_in_choices (each_choice r within others) q = none_in (branches_in_choices within) (branches_in_choices others) (none_in_choices within (first_true _ _ q)) (none_in_choices others (second_true _ _ q))
+    within_terms : (ts : Terms) → TermsHave d ts → IsTrue (have_no_alt ts) → AllCompile d (branches_in_terms ts)
+    within_terms no_terms h q = tt
+    within_terms (then_term t ts) h q = both_compile (branches_in t) (branches_in_terms ts) (within t h.0 (first_true _ _ q)) (within_terms ts h.1 (second_true _ _ q))
 
-  none_in_options : (os : Options) → IsTrue (options_are_sequential os) → branches_in_options os ≡ []
-  none_in_options no_options q = refl
-  none_in_options (or_option constants ds t os) q = none_in (branches_in t) (branches_in_options os) (no_branches t (first_true _ _ q)) (none_in_options os (second_true _ _ q))
-  none_in_options (or_else ds t os) q = none_in (branches_in t) (branches_in_options os) (no_branches t (first_true _ _ q)) (none_in_options os (second_true _ _ q))
+    within_branches : (bs : Branches) → BranchesHave d bs → IsTrue (branches_have_no_alt bs) → AllCompile d (branches_among bs)
+    within_branches no_branches h q = tt
+    within_branches (and_branch n t bs) h q =
+        (h.0, first_true _ _ q, both_compile (branches_in t) (branches_among bs) (within t h.0 (first_true _ _ q)) (within_branches bs h.1 (second_true _ _ q)))
 
-body_does : (u : Unfolding) (quantum : ℕ) (b : Body) → IsWellFormed u → IsTrue (is_sequential (meaning u)) → IsQuantum quantum → IsBodyOf (meaning u) quantum b → DoesAs (declared u) b (meaning u)
-body_does u quantum b well q between h =
-    subst (λ x. DoesAs (declared u) x (meaning u)) (sym h.is) (compiled_do (declared u) (meaning u) b.cells b.writes quantum q well.typed h.cells h.writes between.0)
+    within_variants : (p : Protocol) (vs : Variants) → VariantsHave d p vs → IsTrue (variants_have_no_alt vs) → AllCompile d (branches_in_variants vs)
+    within_variants p no_variants h q = tt
+    within_variants p (or_variant tag ds ts t vs) h q =
+        both_compile (branches_in t) (branches_in_variants vs) (within t h.2 (first_true _ _ q)) (within_variants p vs h.3 (second_true _ _ q))
 
-pub compiled_as : (u : Unfolding) (quantum : ℕ) (bodies : List Body) (b : Body) (channels : List Channel) → IsWellFormed u → IsTrue (is_sequential (meaning u)) → IsQuantum quantum → bodies ≡ b ∷ [] → IsBodyOf (meaning u) quantum b
-    → length b.code ≤ most_instructions → channels ≡ u.channels → IsCompiledFrom u (record { bodies = bodies; channels = channels })
-compiled_as u quantum bodies b channels well q between e h n same =
-    let one : processes_of (meaning u) ≡ numbered 0 (meaning u) ∷ [] = ap (λ l. numbered 0 (meaning u) ∷ l) (no_branches (meaning u) q) in
-    let alone : IsCompiledFrom u (record { bodies = b ∷ []; channels = channels }) =
-    record { channels = same; bodies = subst (λ ps. AllDo (declared u) 0 (b ∷ []) ps) (sym one) (refl, body_does u quantum b well q between h, tt); small = omega (arith, n) } in
-    subst (λ bs. IsCompiledFrom u (record { bodies = bs; channels = channels })) (sym e) alone
+    within_choices : (cs : Choices) → ChoicesHave d cs → IsTrue (choices_have_no_alt cs) → AllCompile d (branches_in_choices cs)
+    within_choices no_choices h q = tt
+    within_choices (or_choice e t cs) h q = both_compile (branches_in t) (branches_in_choices cs) (within t h.1 (first_true _ _ q)) (within_choices cs h.2 (second_true _ _ q))
+    within_choices (declared_choices x cs others) h q =
+        both_compile (branches_in_choices cs) (branches_in_choices others) (within_choices cs h.1 (first_true _ _ q)) (within_choices others h.2 (second_true _ _ q))
+    within_choices (each_choice r cs others) h q =
+        both_compile (branches_in_choices cs) (branches_in_choices others) (within_choices cs h.2 (first_true _ _ q)) (within_choices others h.3 (second_true _ _ q))
+
+    within_options : (type : Primitive) (os : Options) → OptionsHave d type os → IsTrue (options_have_no_alt os) → AllCompile d (branches_in_options os)
+    within_options type no_options h q = tt
+    within_options type (or_option constants ds t os) h q =
+        both_compile (branches_in t) (branches_in_options os) (within t h.2 (first_true _ _ q)) (within_options type os h.3 (second_true _ _ q))
+    within_options type (or_else ds t os) h q = both_compile (branches_in t) (branches_in_options os) (within t h.1 (first_true _ _ q)) (within_options type os h.2 (second_true _ _ q))
+
+  -- ---- every body does what its process's term does
+
+  body_does : (t : Term) (quantum : ℕ) (b : Body) → TermHas d t → IsTrue (has_no_alt t) → 0 < quantum → IsBodyOf t quantum b → DoesAs d b t
+  body_does t quantum b typed q some h = subst (λ x. DoesAs d x t) (sym h.is) (compiled_do d t b.cells b.writes quantum q typed h.cells h.writes some)
+
+  all_do : (n quantum : ℕ) (ps : List Numbered) (bs : List Body) → 0 < quantum → NumberedFrom n ps → AllCompile d ps → AreBodiesOf ps quantum bs → AllDo d n bs ps
+  all_do n quantum [] [] some m h k = tt
+  all_do n quantum [] (b ∷ bs) some m h k = absurd k
+  all_do n quantum (p ∷ ps) [] some m h k = absurd k
+  all_do n quantum (p ∷ ps) (b ∷ bs) some m h k = (m.0, body_does p.term quantum b h.0 h.1 some k.0, all_do (n + 1) quantum ps bs some m.1 h.2 k.1)
+
+pub compiled_as : (u : Unfolding) (quantum : ℕ) (bodies : List Body) (channels : List Channel) → IsWellFormed u → IsTrue (has_no_alt (meaning u)) → IsQuantum quantum → AreBodiesOf (processes_of (meaning u)) quantum bodies
+    → instructions_in bodies ≤ most_instructions → channels ≡ u.channels → IsCompiledFrom u (record { bodies = bodies; channels = channels })
+compiled_as u quantum bodies channels well q between h small same =
+    record {
+      channels = same;
+      bodies = all_do (declared u) 0 quantum (processes_of (meaning u)) bodies between.0 well.numbers (well.typed, q, within (declared u) (meaning u) well.typed q) h;
+      small = small;
+    }
+
+pub of_quantum : (ps : List Numbered) (quantum : ℕ) (bs : List Body) → AreBodiesOf ps quantum bs → All (λ b. b.quantum ≡ quantum) bs
+of_quantum [] quantum [] h k d within = absurd (omega (arith, within))
+of_quantum [] quantum (b ∷ bs) h k d within = absurd h
+of_quantum (p ∷ ps) quantum [] h k d within = absurd h
+of_quantum (p ∷ ps) quantum (b ∷ bs) h zero d within = ap (λ x. x.quantum) h.0.is
+of_quantum (p ∷ ps) quantum (b ∷ bs) h (suc k) d within = of_quantum ps quantum bs h.1 k d (omega (arith, within))
+
+-- ---- how many instructions there are
+
+body_length : (t : Term) (quantum : ℕ) (b : Body) → IsBodyOf t quantum b → length b.code ≡ length (whole_code t)
+body_length t quantum b h = ap (λ x. length x.code) h.is ∙ length-map (whole_code t) (placed b.cells)
+
+pub as_many : (ps : List Numbered) (quantum : ℕ) (bs : List Body) → AreBodiesOf ps quantum bs → instructions_in bs ≡ instructions_of ps
+as_many [] quantum [] h = refl
+as_many [] quantum (b ∷ bs) h = absurd h
+as_many (p ∷ ps) quantum [] h = absurd h
+as_many (p ∷ ps) quantum (b ∷ bs) h = let x = body_length p.term quantum b h.0 in let y = as_many ps quantum bs h.1 in omega (arith, x, y)
+
+pub too_many : (t : Term) (quantum : ℕ) (bs : List Body) → AreBodiesOf (processes_of t) quantum bs → most_instructions < instructions_in bs → most_instructions < instructions_of (processes_of t)
+too_many t quantum bs h more = subst (λ n. most_instructions < n) (as_many (processes_of t) quantum bs h) more
 
 pub refused_as : (u : Unfolding) (quantum : ℕ) (fault : CodeFault) → IsQuantum quantum → IsRefused fault (meaning u) → CodeRefuses fault quantum u
 refused_as u quantum TooLarge between h = (between, too_long u h)
   where
     too_long : (u : Unfolding) → IsRefused TooLarge (meaning u) → most_instructions < 32 * (size_of (meaning u)).nodes
-    too_long u h = let g = bodies_are_small (meaning u) [] [] 1 in omega (arith, h, g, length-map (whole_code (meaning u)) (placed []))
+    too_long u h = let g = programs_are_small (meaning u) in omega (arith, h, g)
 refused_as u quantum (Early line) between h = (between, h)
 refused_as u quantum BadQuantum between h = absurd h
 refused_as u quantum Memory between h = between
+
+-- ---- bodies that are added
+
+pub map-reverse : {X Y : Type 0} (f : X → Y) (xs : List X) → map f (reverse xs) ≡ reverse (map f xs)
+map-reverse f [] = refl
+map-reverse f (x ∷ xs) = ap (map f) (reverse-append (x ∷ []) xs) ∙ map-append f (reverse xs) (x ∷ []) ∙ ap (λ l. l ++ f x ∷ []) (map-reverse f xs) ∙ sym (reverse-append (f x ∷ []) (map f xs))
+
+pub adds_none : (quantum : ℕ) (a : List Body) → AddsBodies quantum a [] a
+adds_none quantum a = record { more = []; added = sym (append-nil a); are = tt }
+
+bodies_then : (ps qs : List Numbered) (quantum : ℕ) (cs bs : List Body) → AreBodiesOf ps quantum cs → AreBodiesOf qs quantum bs → AreBodiesOf (ps ++ qs) quantum (cs ++ bs)
+bodies_then [] qs quantum [] bs h k = k
+bodies_then [] qs quantum (c ∷ cs) bs h k = absurd h
+bodies_then (p ∷ ps) qs quantum [] bs h k = absurd h
+bodies_then (p ∷ ps) qs quantum (c ∷ cs) bs h k = (h.0, bodies_then ps qs quantum cs bs h.1 k)
+
+pub adds_then : {quantum : ℕ} {a b c : List Body} {ps qs : List Numbered} → AddsBodies quantum a ps b → AddsBodies quantum b qs c → AddsBodies quantum a (qs ++ ps) c
+adds_then {quantum} {a} {b} {c} {ps} {qs} x y =
+    record {
+      more = x.more ++ y.more;
+      added = y.added ∙ ap (λ l. l ++ y.more) x.added ∙ append_assoc a x.more y.more;
+      are = subst (λ l. AreBodiesOf (qs ++ ps) quantum l) (sym (reverse-append x.more y.more)) (bodies_then qs ps quantum (reverse y.more) (reverse x.more) y.are x.are);
+    }
+
+pub adds_as : {quantum : ℕ} {a b : List Body} {ps qs : List Numbered} → AddsBodies quantum a ps b → ps ≡ qs → AddsBodies quantum a qs b
+adds_as {quantum} x e = record { more = x.more; added = x.added; are = subst (λ rs. AreBodiesOf rs quantum (reverse x.more)) e x.are }
+
+-- from none
+pub added_bodies : {quantum : ℕ} {b : List Body} {ps : List Numbered} → AddsBodies quantum [] ps b → AreBodiesOf ps quantum (reverse b)
+added_bodies {quantum} {b} {ps} x = subst (λ l. AreBodiesOf ps quantum (reverse l)) (sym x.added) x.are

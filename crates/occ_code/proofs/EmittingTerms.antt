@@ -1,13 +1,18 @@
 -- The code of choices, options, variants and loops, from its end to its start.
 use Rattle.std.specs.Prelude.{reverse, set, ◌-◌}
-use Rattle.std.proofs.Common.{◌≡◌, ℕ, suc, ◌+◌, ◌<◌, ◌≤◌, List, [], ◌∷◌, ◌++◌, drop, get_or, length, sym, ap, ◌∙◌, arith, append_assoc, length-append}
+use Rattle.std.proofs.Common.{◌≡◌, ℕ, suc, ◌+◌, ◌<◌, ◌≤◌, List, [], ◌∷◌, ◌++◌, drop, get_or, length, map, rules, refl, sym, ap, ◌∙◌, arith, append_assoc, length-append}
 use Rattle.std.proofs.Math.Seq.{drop-cons, set-append_seam}
 use Rattle.std.proofs.lemmas.List.{length-map, length-reverse}
-use Rattle.occ_term.specs.View.{choice_of, choices_of, option_of, options_of, variant_of, variants_of}
+use Rattle.occ_term.specs.View.{branch_of, branches_of, choice_of, choices_of, term_of, terms_of, option_of, options_of, variant_of, variants_of}
+use Rattle.occ_term.specs.Terms.{and_branch, then_term}
+use Rattle.occ_term.specs.declared.term.Branch.{Branch}
+use Rattle.occ_term.specs.declared.term.Term.{Term, the_lemmas}
 use Rattle.occ_term.specs.declared.term.Choice.{Choice}
 use Rattle.occ_term.specs.declared.term.Selection.{Selection}
 use Rattle.occ_term.specs.declared.term.Variant.{Variant}
-use Rattle.occ_code.specs.Sequential.Machine.{Instruction, Jump, Choose, LoopBack}
+use Rattle.occ_code.specs.Sequential.Machine.{Instruction, Jump, Choose, LoopBack, Fork}
+use Rattle.occ_code.specs.Sequential.Expressions.{par_code}
+use Rattle.occ_code.specs.Alike.{numbers_of}
 use Rattle.occ_code.specs.Sequential.View.{instruction_of, emitted, Emits, Behind}
 use Rattle.occ_code.specs.declared.compiler.instr.Instr.{Instr}
 use Rattle.occ_code.proofs.Emitting.{emitted-append, emits_then, emits_as, emits_length}
@@ -50,6 +55,16 @@ behind_set {a} {b} {d} {p} x n h long e =
     }
 
 -- ---- rows
+
+pub terms_row : (ts : List Term) (i k : ℕ) (t : Term) → k ≡ i + 1 → i < length ts → t ≡ get_or ts i t → terms_of (drop i ts) ≡ then_term (term_of t) (terms_of (drop k ts))
+terms_row ts i k t e lt is =
+    let next : suc i ≡ k = omega (arith, e) in
+    ap terms_of (drop-cons ts i t lt) ∙ ap (λ y. then_term (term_of y) (terms_of (drop (suc i) ts))) (sym is) ∙ ap (λ n. then_term (term_of t) (terms_of (drop n ts))) next
+
+pub branches_row : (bs : List Branch) (i k : ℕ) (b : Branch) → k ≡ i + 1 → i < length bs → b ≡ get_or bs i b → branches_of (drop i bs) ≡ branch_of b (branches_of (drop k bs))
+branches_row bs i k b e lt is =
+    let next : suc i ≡ k = omega (arith, e) in
+    ap branches_of (drop-cons bs i b lt) ∙ ap (λ y. branch_of y (branches_of (drop (suc i) bs))) (sym is) ∙ ap (λ n. branch_of b (branches_of (drop n bs))) next
 
 pub choices_row : (cs : List Choice) (i k : ℕ) (c : Choice) → k ≡ i + 1 → i < length cs → c ≡ get_or cs i c → choices_of (drop i cs) ≡ choice_of c (choices_of (drop k cs))
 choices_row cs i k c e lt is =
@@ -131,3 +146,21 @@ tagged R T S D make s n k others skip jump body store declare from is first =
 
 pub among_others : (C W R : List Instruction) (i j : Instruction) → (C ++ i ∷ (W ++ j ∷ [])) ++ R ≡ C ++ i ∷ (W ++ j ∷ R)
 among_others C W R i j = append_assoc C (i ∷ (W ++ j ∷ [])) R ∙ ap (λ l. C ++ i ∷ l) (append_assoc W (j ∷ []) R)
+
+-- ---- branches
+
+numbers_seen : (bs : List Branch) → numbers_of (branches_of bs) ≡ map (λ b. b.number) bs
+numbers_seen [] = refl
+numbers_seen (b ∷ bs) =
+    let seen : branch_of b (branches_of bs) ≡ and_branch b.number (term_of b.body) (branches_of bs) = search (rules, the_lemmas) in
+    ap numbers_of seen ∙ ap (λ ns. b.number ∷ ns) (numbers_seen bs)
+
+pub no_fork : (bs : List Branch) → length bs ≡ 0 → par_code (branches_of bs) ≡ []
+no_fork [] e = refl
+no_fork (b ∷ bs) e = absurd (omega (arith, e))
+
+pub fork_seen : (bs : List Branch) → (length bs ≡ 0 → ⊥) → Fork (map (λ b. b.number) bs) ∷ [] ≡ par_code (branches_of bs)
+fork_seen [] h = absurd (h refl)
+fork_seen (b ∷ bs) h =
+    let seen : branch_of b (branches_of bs) ≡ and_branch b.number (term_of b.body) (branches_of bs) = search (rules, the_lemmas) in
+    ap (λ ns. Fork (b.number ∷ ns) ∷ []) (sym (numbers_seen bs)) ∙ sym (ap par_code seen)

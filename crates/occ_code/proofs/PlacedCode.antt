@@ -13,7 +13,7 @@ use Rattle.occ_code.specs.Alike.{Frames}
 use Rattle.occ_code.specs.declared.task.Task.{Task}
 use Rattle.occ_code.specs.declared.task.Wait.{Wait}
 use Rattle.occ_code.specs.declared.task.Wait.TheVariants.{Ready, Took, Offers, Awaits, Chooses, Joins, Halted, Done, Faulted}
-use Rattle.occ_code.specs.Sequential.Machine.{by_cell, by_place, placed, Instruction, Push, Load, LoadAt, LoadLetter, Subscript, Operate, OperateOne, ConvertTo, AndThen, OrElse, PartOne, PartMany, PartText, PartCounted, PartCountedText, SpotOne, SpotCounted, StoreParts, StoreNamed, StoreOne, ClearCells, Jump, Choose, IfAmong, IfTag, DropOne, CountedFrom, NextChoice, BackToChoice, Begin, Pass, LoopBack, Send, Receive, Halt, End, Point, point, Effect, Moves, Stops, Stuck, with_one, with_two, going, going_stored, act, effect, Walks, here, on, begins_at, SingleStop, StopsIn, stops_here, passes_on, turning, begun, passed, next_choice, tag_step, last_part, named_from, Stored, Stays, Refused, frame_with, frame_from, frame_parts, values_with, with_counter, counter_at, kept_as}
+use Rattle.occ_code.specs.Sequential.Machine.{by_cell, by_place, placed, Instruction, Push, Load, LoadAt, LoadLetter, Subscript, Operate, OperateOne, ConvertTo, AndThen, OrElse, PartOne, PartMany, PartText, PartCounted, PartCountedText, SpotOne, SpotCounted, StoreParts, StoreNamed, StoreOne, ClearCells, Jump, Choose, IfAmong, IfTag, DropOne, CountedFrom, NextChoice, BackToChoice, Begin, Pass, LoopBack, Send, Receive, Fork, Halt, End, Point, point, Effect, Moves, Stops, Stuck, with_one, with_two, going, going_stored, act, effect, Walks, here, on, begins_at, SingleStop, StopsIn, stops_here, passes_on, turning, begun, passed, next_choice, tag_step, last_part, named_from, Stored, Stays, Refused, frame_with, frame_from, frame_parts, values_with, with_counter, counter_at, kept_as}
 use Rattle.occ_code.specs.Sequential.Laws.{PlacesDo}
 use Rattle.occ_code.proofs.SequentialFrames.{HoldsAs, one_held, row_held, parts_held, StoresAs, stored_frame, frame_of}
 
@@ -96,6 +96,7 @@ module _ (cells : List ℕ) where
   act_same (Some (LoopBack back)) pc st q sp f h = refl
   act_same (Some (Send tag)) pc st q sp f h = refl
   act_same (Some Receive) pc st q sp f h = refl
+  act_same (Some (Fork ns)) pc st q sp f h = refl
   act_same (Some Halt) pc st q sp f h = refl
   act_same (Some End) pc st q sp f h = refl
 
@@ -204,6 +205,7 @@ module _ (cells : List ℕ) where
   act_shapes (Some (LoopBack back)) pc st q sp f h = h
   act_shapes (Some (Send tag)) pc st q sp f h = one_shapes st _ (λ v st'. h)
   act_shapes (Some Receive) pc st q sp f h = one_shapes st _ (λ v st'. h)
+  act_shapes (Some (Fork ns)) pc st q sp f h = h
   act_shapes (Some Halt) pc st q sp f h = h
   act_shapes (Some End) pc st q sp f h = h
 

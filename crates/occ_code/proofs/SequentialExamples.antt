@@ -7,7 +7,7 @@ use Rattle.occ_term.specs.Typing.{takes_arithmetic, takes_order}
 use Rattle.occ_term.specs.Uses.{uses_of}
 use Rattle.occ_term.specs.Frames.{is_held}
 use Rattle.occ_code.specs.Alike.{Lists, used_by}
-use Rattle.occ_code.specs.Sequential.Examples.{counts, whole_numbers, CountsAsCompiled, twice, TwiceAsCompiled}
+use Rattle.occ_code.specs.Sequential.Examples.{counts, whole_numbers, CountsAsCompiled, twice, TwiceAsCompiled, twice_two, TwiceTwoAsCompiled}
 use Rattle.occ_code.proofs.SequentialLayout.{compiled_do}
 
 below : (n : ℕ) → nat_le 0 (suc n) ≡ true
@@ -55,3 +55,20 @@ twice_written = record { rising = tt; members = λ n. of_cell n }
 
 pub twice_as_compiled : TwiceAsCompiled
 twice_as_compiled = compiled_do whole_numbers twice (0 ∷ []) (0 ∷ []) 1 refl ((refl, refl, refl), refl, tt) twice_used twice_written (omega arith)
+
+two_used : Lists (0 ∷ []) (used_by (uses_of twice_two))
+two_used = record { rising = tt; members = λ n. of_cell n }
+  where
+    of_cell : (n : ℕ) → is_held (0 ∷ []) n ≡ used_by (uses_of twice_two) n
+    of_cell zero = refl
+    of_cell (suc n) = rw (other n) refl
+
+two_written : Lists (0 ∷ []) (uses_of twice_two).writes
+two_written = record { rising = tt; members = λ n. of_cell n }
+  where
+    of_cell : (n : ℕ) → is_held (0 ∷ []) n ≡ (uses_of twice_two).writes n
+    of_cell zero = refl
+    of_cell (suc n) = rw (other n) refl
+
+pub twice_two_as_compiled : TwiceTwoAsCompiled
+twice_two_as_compiled = compiled_do whole_numbers twice_two (0 ∷ []) (0 ∷ []) 1 refl ((refl, refl, refl), refl, (tt, (tt, tt))) two_used two_written (omega arith)

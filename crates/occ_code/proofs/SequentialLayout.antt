@@ -1,4 +1,4 @@
--- The code of a sequential term stands in its body as it should.
+-- The code of a term stands in its body as it should.
 use Rattle.std.specs.Prelude.{◌-◌, ◌&&◌}
 use Rattle.std.proofs.Common.{Bool, true, false, IsTrue, ◌≡◌, ◌∙◌, ℕ, ◌+◌, ◌<◌, ◌≤◌, List, [], ◌∷◌, ◌++◌, length, Some, refl, ap, sym, subst, arith, append_assoc, length-append}
 use Rattle.std.proofs.Math.Seq.{get_or-append_seam}
@@ -8,7 +8,7 @@ use Rattle.occ_code.specs.Sequential.Machine.{Instruction, End}
 use Rattle.occ_code.specs.Sequential.Expressions.{expression_code, place_code, declaration_code, declarations_code, storing_code, counting_code}
 use Rattle.occ_code.specs.Sequential.Laws.{StandsAt}
 use Rattle.occ_code.specs.Sequential.Layout.{Ways, stays, jumps, TermAt, TermsAt, VariantsAt, ChoicesAt, OptionsAt, ElseAt}
-use Rattle.occ_code.specs.Sequential.Emitted.{counters_of, counters_of_terms, counters_of_variants, counters_of_choices, counters_of_options, is_sequential, are_sequential, variants_are_sequential, choices_are_sequential, options_are_sequential, term_code, terms_code, variants_code, choices_code, options_code, else_code, whole_code, body_of, CompiledDo}
+use Rattle.occ_code.specs.Sequential.Emitted.{counters_of, counters_of_terms, counters_of_variants, counters_of_choices, counters_of_options, has_no_alt, have_no_alt, variants_have_no_alt, choices_have_no_alt, options_have_no_alt, term_code, terms_code, variants_code, choices_code, options_code, else_code, whole_code, body_of, CompiledDo}
 use Rattle.occ_code.proofs.SequentialPlaces.{split, place_after}
 use Rattle.occ_code.proofs.SequentialTurns.{bodies_do}
 
@@ -35,7 +35,7 @@ module _ (code : List Instruction) (loops : ℕ) where
   from_place a b c e w = subst (λ n. Ways code n c) (sym e) w
 
   mutual
-    laid : (slot : ℕ) (t : Term) (pc m pc' : ℕ) → IsTrue (is_sequential t) → slot + counters_of t ≤ loops → StandsAt code pc (term_code slot t) m → Ways code m pc' → TermAt code loops slot pc t pc'
+    laid : (slot : ℕ) (t : Term) (pc m pc' : ℕ) → IsTrue (has_no_alt t) → slot + counters_of t ≤ loops → StandsAt code pc (term_code slot t) m → Ways code m pc' → TermAt code loops slot pc t pc'
     laid slot Skip pc m pc' q o h w = from_place pc m pc' h w
     laid slot Stop pc m pc' q o h w = h.0
     laid slot (Assign ts vs) pc m pc' q o h w = (m, h, w)
@@ -43,7 +43,7 @@ module _ (code : List Instruction) (loops : ℕ) where
     laid slot (Output c tag is) pc m pc' q o h w = (m, h, w)
     laid slot (VariantInput c vs) pc m pc' q o h w = let r = split code pc m (place_code c ++ _ ∷ []) (variants_code slot vs) h in (r.0, r.1, variants_laid slot vs r.0 m pc' q (omega (arith, o)) r.2 w)
     laid slot (Seq ts) pc m pc' q o h w = terms_laid slot ts pc m pc' q (omega (arith, o)) h w
-    laid slot (Par bs) pc m pc' q o h w = absurd cc
+    laid slot (Par bs) pc m pc' q o h w = (m, h, w)
     laid slot (Alt pri arms) pc m pc' q o h w = absurd cc
     laid slot (If cs) pc m pc' q o h w =
         let r = split code pc m (choices_code slot cs 1) (_ ∷ []) h in
@@ -89,11 +89,11 @@ module _ (code : List Instruction) (loops : ℕ) where
     laid slot (Clear first count) pc m pc' q o h w = (m, h, w)
     laid slot (Local first value) pc m pc' q o h w = (m, h, w)
 
-    terms_laid : (slot : ℕ) (ts : Terms) (pc m pc' : ℕ) → IsTrue (are_sequential ts) → slot + counters_of_terms ts ≤ loops → StandsAt code pc (terms_code slot ts) m → Ways code m pc' → TermsAt code loops slot pc ts pc'
+    terms_laid : (slot : ℕ) (ts : Terms) (pc m pc' : ℕ) → IsTrue (have_no_alt ts) → slot + counters_of_terms ts ≤ loops → StandsAt code pc (terms_code slot ts) m → Ways code m pc' → TermsAt code loops slot pc ts pc'
     terms_laid slot no_terms pc m pc' q o h w = from_place pc m pc' h w
     terms_laid slot (then_term t ts) pc m pc' q o h w = let r = split code pc m (term_code slot t) (terms_code slot ts) h in (r.0, laid slot t pc r.0 r.0 (first_true _ _ q) (omega (arith, o)) r.1 stays, terms_laid slot ts r.0 m pc' (second_true _ _ q) (omega (arith, o)) r.2 w)
 
-    variants_laid : (slot : ℕ) (vs : Variants) (pc m pc' : ℕ) → IsTrue (variants_are_sequential vs) → slot + counters_of_variants vs ≤ loops → StandsAt code pc (variants_code slot vs) m → Ways code m pc' → VariantsAt code loops slot pc vs pc'
+    variants_laid : (slot : ℕ) (vs : Variants) (pc m pc' : ℕ) → IsTrue (variants_have_no_alt vs) → slot + counters_of_variants vs ≤ loops → StandsAt code pc (variants_code slot vs) m → Ways code m pc' → VariantsAt code loops slot pc vs pc'
     variants_laid slot no_variants pc m pc' q o h w = h.0
     variants_laid slot (or_variant tag ds ts t vs) pc m pc' q o h w =
         let chosen = declarations_code ds ++ (storing_code ts ++ (term_code slot t ++ _ ∷ [])) in
@@ -115,7 +115,7 @@ module _ (code : List Instruction) (loops : ℕ) where
           subst (λ n. VariantsAt code loops slot n vs pc') (sym x) (variants_laid slot vs r.0 m pc' (second_true _ _ q) (omega (arith, o)) r.2 w),
         )
 
-    choices_laid : (slot : ℕ) (cs : Choices) (after_ pc m out next pc' : ℕ) → IsTrue (choices_are_sequential cs) → slot + counters_of_choices cs ≤ loops → StandsAt code pc (choices_code slot cs after_) m → m + after_ ≡ out → Ways code m next → Ways code out pc' → ChoicesAt code loops slot pc cs next pc'
+    choices_laid : (slot : ℕ) (cs : Choices) (after_ pc m out next pc' : ℕ) → IsTrue (choices_have_no_alt cs) → slot + counters_of_choices cs ≤ loops → StandsAt code pc (choices_code slot cs after_) m → m + after_ ≡ out → Ways code m next → Ways code out pc' → ChoicesAt code loops slot pc cs next pc'
     choices_laid slot no_choices after_ pc m out next pc' q o h e v w = from_place pc m next h v
     choices_laid slot (or_choice e t cs) after_ pc m out next pc' q o h past v w =
         let rest = choices_code slot cs after_ in
@@ -158,7 +158,7 @@ module _ (code : List Instruction) (loops : ℕ) where
           subst (λ n. ChoicesAt code loops slot n others next pc') (sym skip) (choices_laid slot others after_ (a.0 + 1) m out next pc' (second_true _ _ q) (omega (arith, o)) a.2.1 past v w),
         )
 
-    options_laid : (slot : ℕ) (os : Options) (after_ pc m out next pc' : ℕ) → IsTrue (options_are_sequential os) → slot + counters_of_options os ≤ loops → StandsAt code pc (options_code slot os after_) m → m + after_ ≡ out → Ways code m next → Ways code out pc' → OptionsAt code loops slot pc os next pc'
+    options_laid : (slot : ℕ) (os : Options) (after_ pc m out next pc' : ℕ) → IsTrue (options_have_no_alt os) → slot + counters_of_options os ≤ loops → StandsAt code pc (options_code slot os after_) m → m + after_ ≡ out → Ways code m next → Ways code out pc' → OptionsAt code loops slot pc os next pc'
     options_laid slot no_options after_ pc m out next pc' q o h past v w = from_place pc m next h v
     options_laid slot (or_option constants ds t os) after_ pc m out next pc' q o h past v w =
         let chosen = declarations_code ds ++ (term_code slot t ++ _ ∷ []) in
@@ -178,7 +178,7 @@ module _ (code : List Instruction) (loops : ℕ) where
         )
     options_laid slot (or_else ds t os) after_ pc m out next pc' q o h past v w = options_laid slot os after_ pc m out next pc' (second_true _ _ q) (omega (arith, o)) h past v w
 
-    else_laid : (slot : ℕ) (os : Options) (pc m pc' : ℕ) → IsTrue (options_are_sequential os) → slot + counters_of_options os ≤ loops → StandsAt code pc (else_code slot os) m → Ways code m pc' → ElseAt code loops slot pc os pc'
+    else_laid : (slot : ℕ) (os : Options) (pc m pc' : ℕ) → IsTrue (options_have_no_alt os) → slot + counters_of_options os ≤ loops → StandsAt code pc (else_code slot os) m → Ways code m pc' → ElseAt code loops slot pc os pc'
     else_laid slot no_options pc m pc' q o h w = h.0
     else_laid slot (or_option constants ds t os) pc m pc' q o h w = else_laid slot os pc m pc' (second_true _ _ q) (omega (arith, o)) h w
     else_laid slot (or_else ds t os) pc m pc' q o h w = let r = split code (pc + 1) m (declarations_code ds) (term_code slot t) h.1 in (r.0, h.0, r.1, laid slot t r.0 m pc' (first_true _ _ q) (omega (arith, o)) r.2 w)

@@ -2,15 +2,16 @@
 use Rattle.std.proofs.Common.{◌≡◌, ◌∙◌, ℕ, ◌≤◌, IsTrue, List, [], ◌∷◌, ◌++◌, length, refl, ap, subst, sym, arith, append_assoc}
 use Rattle.occ_term.specs.declared.fault.Fault.{Fault}
 use Rattle.occ_term.specs.declared.message.Message.{Message}
-use Rattle.occ_term.specs.Terms.{Skip, Reception}
+use Rattle.occ_term.specs.Terms.{Skip, Branches, Reception}
 use Rattle.occ_term.specs.Values.{Store, Evaluated, Value, Fails}
 use Rattle.occ_term.specs.Storing.{Outcome, Gives, Faults}
-use Rattle.occ_term.specs.Steps.{Loop, WhileLoop, EachLoop, Doing, Do, Again, Offering, Awaiting, Context, Then, Within, Left, left, status, is_running, FaultsIn, Step, faults}
+use Rattle.occ_term.specs.Steps.{Loop, WhileLoop, EachLoop, Doing, Do, Again, Offering, Awaiting, Forking, Context, Then, Within, Left, left, status, is_running, FaultsIn, Step, faults}
 use Rattle.occ_term.specs.Steps as S
 use Rattle.occ_term.specs.Turns.{Steps, none, more, SingleTurn, single_turn}
 use Rattle.occ_term.specs.Frames.{Variables}
 use Rattle.occ_code.specs.declared.task.Wait.{Wait}
-use Rattle.occ_code.specs.declared.task.Wait.TheVariants.{Ready, Offers, Awaits, Halted, Faulted}
+use Rattle.occ_code.specs.declared.task.Wait.TheVariants.{Ready, Offers, Awaits, Joins, Halted, Faulted}
+use Rattle.occ_code.specs.Alike.{numbers_of}
 use Rattle.occ_code.specs.Sequential.Machine.{by_cell, Instruction, Point, point, Stops, act, effect, Walks, here, on}
 use Rattle.occ_code.specs.Sequential.Laws.{FaultsAt, Comes, comes, fails}
 use Rattle.occ_code.specs.Sequential.Layout.{Ways, stays, jumps, slot_in, slot_before, ListAt, LoopAt, ContextAt, ContextsAt}
@@ -83,6 +84,7 @@ module _ (code : List Instruction) (loops : ℕ) where
     pub data Pause (slot pc' : ℕ) (stands : ℕ) (inner : List Context) : Wait → Doing → Type 0 where
       at_offer : {c : ℕ} {m : Message} (e : ℕ) → ContextsAt code loops left_ e stands inner slot pc' → Pause slot pc' stands inner (Offers c m) (Offering c m)
       at_await : {c : ℕ} {list : Reception} (e mid : ℕ) → ListAt code loops e stands list mid → ContextsAt code loops left_ e mid inner slot pc' → Pause slot pc' stands inner (Awaits c) (Awaiting c list)
+      at_fork : {bs : Branches} (e : ℕ) → ContextsAt code loops left_ e stands inner slot pc' → Pause slot pc' stands inner (Joins (numbers_of bs)) (Forking bs)
       at_halt : Pause slot pc' stands inner Halted S.Halted
       at_fault : {e : Fault} → Pause slot pc' stands inner (Faulted e) (S.Faulted e)
       at_loop : {l : Loop} (e mid : ℕ) → LoopAt code loops left_ e stands l mid → ContextsAt code loops left_ e mid inner slot pc' → Pause slot pc' stands inner Ready (Again l)
@@ -90,6 +92,7 @@ module _ (code : List Instruction) (loops : ℕ) where
     pub pause_in : (m n slot pc' stands : ℕ) (j k : List Context) {w : Wait} {y : Doing} → ContextsAt code loops left_ m n k slot pc' → Pause m n stands j w y → Pause slot pc' stands (j ++ k) w y
     pause_in m n slot pc' stands j k h (at_offer e c) = at_offer e (contexts_join n m pc' slot j k e stands c h)
     pause_in m n slot pc' stands j k h (at_await e mid l c) = at_await e mid l (contexts_join n m pc' slot j k e mid c h)
+    pause_in m n slot pc' stands j k h (at_fork e c) = at_fork e (contexts_join n m pc' slot j k e stands c h)
     pause_in m n slot pc' stands j k h at_halt = at_halt
     pause_in m n slot pc' stands j k h at_fault = at_fault
     pause_in m n slot pc' stands j k h (at_loop e mid l c) = at_loop e mid l (contexts_join n m pc' slot j k e mid c h)

@@ -12,20 +12,21 @@ use Rattle.occ_term.specs.declared.protocol.Protocol.TheVariants.{Simple, Counte
 use Rattle.occ_term.specs.TypedSteps.{LoopHas}
 use Rattle.occ_term.specs.StepUses.{uses_of_loop}
 use Rattle.occ_term.specs.Messages.{message, parts_after, FitsAfter, Fits}
-use Rattle.occ_term.specs.Terms.{Expression, Place, Item, Declaration, Clearing, Naming, Term, Skip, Stop, Assign, Input, Output, VariantInput, Seq, Par, Alt, If, Case, While, Each, Clear, Local, Terms, no_terms, then_term, Reception, Plain, Tagged, Variants, no_variants, or_variant, Choices, no_choices, or_choice, declared_choices, each_choice, Options, no_options, or_option, or_else}
+use Rattle.occ_term.specs.Terms.{Expression, Place, Item, Declaration, Clearing, Naming, Term, Skip, Stop, Assign, Input, Output, VariantInput, Seq, Par, Alt, If, Case, While, Each, Clear, Local, Terms, no_terms, then_term, Branches, no_branches, and_branch, Reception, Plain, Tagged, Variants, no_variants, or_variant, Choices, no_choices, or_choice, declared_choices, each_choice, Options, no_options, or_option, or_else}
 use Rattle.occ_term.specs.Values.{Store, store_with, Value, Fails, after, holds, first_of, value_of, span_of, parts_of}
 use Rattle.occ_term.specs.Storing.{Outcome, Gives, then_in, in_store, Nothing, nothing, store_into, declared, all_declared, Indices, indices, indices_of, index_of}
 use Rattle.occ_term.specs.Selecting.{or_next, first_over, choice_over, choice_of, Selected, selected, is_among, matching, else_of, either, enters, variant_taken, tag_taken, taken}
-use Rattle.occ_term.specs.Steps.{Loop, WhileLoop, EachLoop, each, each_loop, in_each, Doing, Do, Passing, Again, Offering, Awaiting, Taking, MessageTaken, Context, Then, Within, left, or_stop, pass, pass_of, offer_of, await_of, Step, ends, stop, assign, clear, local, output, input, variant, take_in, seq_empty, seq, drops, if_step, case, while, passes_again, leaves, body_ends, again, FaultsIn, in_assign, in_local, in_output, in_input, in_variant, in_take, in_if, in_case, in_loop}
+use Rattle.occ_term.specs.Steps.{Loop, WhileLoop, EachLoop, each, each_loop, in_each, Doing, Do, Passing, Again, Offering, Awaiting, Taking, MessageTaken, Forking, Context, Then, Within, left, or_stop, pass, pass_of, offer_of, await_of, Step, ends, stop, assign, clear, local, output, input, variant, take_in, seq_empty, seq, drops, par_empty, par, if_step, case, while, passes_again, leaves, body_ends, again, FaultsIn, in_assign, in_local, in_output, in_input, in_variant, in_take, in_if, in_case, in_loop}
 use Rattle.occ_term.specs.Steps as S
 use Rattle.occ_term.specs.Turns.{none, more, single_turn}
 use Rattle.occ_term.specs.Uses.{Numbers, with_use, reads_of, reads_of_items, reads_in_place, uses_of, uses_of_terms, uses_of_variants, uses_of_reception, uses_of_choices, uses_of_options, uses_of_targets, uses_of_declaration, uses_of_declarations, uses_of_replicator}
 use Rattle.occ_term.specs.Typing.{HasType}
 use Rattle.occ_term.specs.TermTyping.{Declared, ChannelHas, value_parts, ItemsHave, DeclarationsHave, TermHas, TermsHave, VariantsHave, ReceptionHas, ChoicesHave, OptionsHave}
 use Rattle.occ_term.specs.Frames.{Variables, at}
-use Rattle.occ_code.specs.declared.task.Wait.TheVariants.{Ready, Offers, Awaits, Halted}
+use Rattle.occ_code.specs.declared.task.Wait.TheVariants.{Ready, Offers, Awaits, Joins, Halted}
+use Rattle.occ_code.specs.Alike.{numbers_of}
 use Rattle.occ_code.specs.Sequential.Machine.{by_cell, Instruction, Choose, IfAmong, IfTag, DropOne, NextChoice, BackToChoice, Begin, Pass, passed, turning, Moves, Send, Receive, Halt, Point, point, Stops, act, Walks, here, frame_with, counting, tag_stack}
-use Rattle.occ_code.specs.Sequential.Expressions.{expression_code, place_code, items_code, declarations_code}
+use Rattle.occ_code.specs.Sequential.Expressions.{expression_code, place_code, items_code, declarations_code, par_code}
 use Rattle.occ_code.specs.Sequential.Laws.{StandsAt, FaultsAt}
 use Rattle.occ_code.specs.Sequential.Layout.{Ways, stays, Counts, EachAt, TermAt, TermsAt, VariantsAt, ChoicesAt, OptionsAt, ElseAt, ListAt, LoopAt, LeadsBack}
 use Rattle.occ_code.proofs.SequentialPlaces.{split, walks_on}
@@ -34,7 +35,7 @@ use Rattle.occ_code.proofs.SequentialItems.{items_run}
 use Rattle.occ_code.proofs.SequentialReads.{value_same, channel_same, indices_same, parts_same}
 use Rattle.occ_code.proofs.SequentialFrames.{HoldsAs, one_held, frame_of, Performs, performs, refuses, performs_on, performs_by}
 use Rattle.occ_code.proofs.SequentialStatements.{Held, held_left, held_right, agrees_on, Lands, sets_then, storing_runs, assigns, declaration_runs, declarations_run, counting_runs}
-use Rattle.occ_code.proofs.SequentialResults.{Does as DoesFrom, steps_on, ways_walk, at_offer, at_await, at_halt, at_loop, finishes, pauses, result_after, result_within, faulted, outcome_result, comes_case}
+use Rattle.occ_code.proofs.SequentialResults.{Does as DoesFrom, steps_on, ways_walk, at_offer, at_await, at_fork, at_halt, at_loop, finishes, pauses, result_after, result_within, faulted, outcome_result, comes_case}
 use Rattle.occ_code.proofs.SequentialCounters.{KeepsBelow, keeps_all, keeps_on, keeps_less, counts_kept, turning_keeps, turning_counts, turning_held}
 
 module _ (code : List Instruction) (loops : ℕ) (cells : List ℕ) (d : Declared) where
@@ -59,6 +60,17 @@ module _ (code : List Instruction) (loops : ℕ) (cells : List ℕ) (d : Declare
     halts f pc pc' st q h room =
         pauses pc Halted S.Halted [] f (record { last = point pc st q [] f; walks = here; stops = ap (λ o. act by_cell o pc st q [] f) h }) (keeps_all slot refl) at_halt
         (λ s hs. record { store = s; turn = λ k. single_turn none stop refl; holds = hs })
+
+    -- branches begin, where there are any
+    forks : (bs : Branches) (f : Variables) (pc m pc' : ℕ) → StandsAt code pc (par_code bs) m → Ways code m pc' → Does (start pc f) f (Do (Par bs)) pc'
+    forks no_branches f pc m pc' l w =
+        result_after code loops cells slot here (keeps_all slot refl) (λ s hs. record { store = s; steps = λ k. more par_empty refl none; holds = hs })
+        (skips f pc pc' (subst (λ n. Ways code n pc') (sym l) w))
+    forks (and_branch n t bs) f pc m pc' l w = λ room.
+        pauses (pc + 1) (Joins (numbers_of (and_branch n t bs))) (Forking (and_branch n t bs)) [] f
+        (record { last = point pc [] [] [] f; walks = here; stops = ap (λ o. act by_cell o pc [] [] [] f) l.0 }) (keeps_all slot refl)
+        (at_fork slot (refl, subst (λ n. Ways code n pc') (sym l.1) w))
+        (λ s hs. record { store = s; turn = λ k. single_turn none par refl; holds = hs })
 
     -- ---- outputs and inputs
 
@@ -318,7 +330,7 @@ module _ (code : List Instruction) (loops : ℕ) (cells : List ℕ) (d : Declare
     term_runs slot (VariantInput c vs) f pc pc' h k l =
         awaits slot c (Tagged vs) (Do (VariantInput c vs)) h.0 f pc l.0 pc' h.1 (held_left code cells d (reads_in_place c) (uses_of_variants vs).reads k) l.1 l.2 (λ s y ks e. variant e) (λ s e q. in_variant q)
     term_runs slot (Seq ts) f pc pc' h k l = terms_run slot ts f pc pc' h k l
-    term_runs slot (Par bs) f pc pc' h k l = absurd l
+    term_runs slot (Par bs) f pc pc' h k l = forks slot bs f pc l.0 pc' l.1 l.2
     term_runs slot (Alt pri arms) f pc pc' h k l = absurd l
     term_runs slot (If cs) f pc pc' h k l =
         outcome_result code loops cells slot (λ t. Do (or_stop t)) (λ x ks. refl) (λ x s s' ks e. if_step e) (λ e s s' q. in_if q) (choices_run slot cs f pc l.0 pc' [] h k l.1)

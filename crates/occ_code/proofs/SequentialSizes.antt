@@ -1,12 +1,13 @@
--- How many instructions a sequential term becomes: at most four for each of its nodes.
-use Rattle.std.proofs.Common.{ℕ, ◌+◌, ◌*◌, ◌≤◌, List, [], ◌∷◌, ◌++◌, length, arith, length-append}
+-- How many instructions a term becomes: at most four for each of its nodes.
+use Rattle.std.proofs.Common.{◌≡◌, ℕ, ◌+◌, ◌*◌, ◌≤◌, List, [], ◌∷◌, ◌++◌, length, arith, length-append}
 use Rattle.std.proofs.lemmas.List.{length-map}
-use Rattle.occ_term.specs.Terms.{Expression, Constant, Cell, Component, Letter, Binary, Unary, And, Or, Conversion, Place, place, Subscripts, no_subscripts, then_subscript, Cells, Text, Item, OfOne, OfMany, OfCounted, Target, Into, IntoCounted, Declaration, Clearing, Naming, replicator, Term, Skip, Stop, Assign, Input, Output, VariantInput, Seq, Par, Alt, If, Case, While, Each, Clear, Local, Terms, no_terms, then_term, Variants, no_variants, or_variant, Choices, no_choices, or_choice, declared_choices, each_choice, Options, no_options, or_option, or_else}
+use Rattle.occ_term.specs.Terms.{Expression, Constant, Cell, Component, Letter, Binary, Unary, And, Or, Conversion, Place, place, Subscripts, no_subscripts, then_subscript, Cells, Text, Item, OfOne, OfMany, OfCounted, Target, Into, IntoCounted, Declaration, Clearing, Naming, replicator, Term, Skip, Stop, Assign, Input, Output, VariantInput, Seq, Par, Alt, If, Case, While, Each, Clear, Local, Terms, no_terms, then_term, Branches, no_branches, and_branch, Arms, no_arms, skip_arm, input_arm, declared_arms, each_arm, Reception, Plain, Tagged, Variants, no_variants, or_variant, Choices, no_choices, or_choice, declared_choices, each_choice, Options, no_options, or_option, or_else}
 use Rattle.occ_term.specs.Messages.{product}
-use Rattle.occ_term.specs.Sizes.{size_of_expression, size_of_place, size_of_subscripts, size_of_item, size_of_items, size_of_target, size_of_targets, size_of_declaration, size_of_declarations, size_of, size_of_terms, size_of_variants, size_of_choices, size_of_options}
+use Rattle.occ_term.specs.Sizes.{size_of_expression, size_of_place, size_of_subscripts, size_of_item, size_of_items, size_of_target, size_of_targets, size_of_declaration, size_of_declarations, size_of, size_of_terms, size_of_branches, size_of_arms, size_of_reception, size_of_variants, size_of_choices, size_of_options}
+use Rattle.occ_term.specs.Processes.{Numbered, branches_in, branches_in_terms, branches_among, branches_in_arms, branches_in_reception, branches_in_variants, branches_in_choices, branches_in_options}
 use Rattle.occ_code.specs.Sequential.Machine.{placed, Instruction, StoreOne, End, LoadAt, LoadLetter, Subscript, Operate, OperateOne, ConvertTo, AndThen, OrElse, PartOne, PartMany, PartCounted, PartCountedText, SpotOne, SpotCounted, StoreParts, StoreNamed, Jump, Choose, NextChoice, BackToChoice, Begin, Pass, CountedFrom, LoopBack, Send, Receive, Halt}
 use Rattle.occ_code.specs.Sequential.Expressions.{components_at, expression_code, place_code, subscripts_code, item_code, items_code, target_code, targets_code, declaration_code, declarations_code, storing_code, counting_code, assignment_code}
-use Rattle.occ_code.specs.Sequential.Emitted.{term_code, terms_code, variants_code, choices_code, options_code, else_code, whole_code, BodiesAreSmall}
+use Rattle.occ_code.specs.Sequential.Emitted.{term_code, terms_code, variants_code, choices_code, options_code, else_code, whole_code, instructions_of, BodiesAreSmall, ProgramsAreSmall}
 
 two : (a b : List Instruction) (x y : ℕ) → length a ≤ x → length b ≤ y → length (a ++ b) ≤ x + y
 two a b x y p q = omega (arith, length-append a b, p, q)
@@ -79,8 +80,13 @@ assigned_small (IntoCounted line n a ∷ ts) vs = assignment_small (IntoCounted 
 received_small : (p : Place) (i : Instruction) → length (place_code p ++ i ∷ []) ≤ 4 * (size_of_place p).nodes + 2
 received_small p i = omega (arith, place_small p, length-append (place_code p) (i ∷ []))
 
+instructions-append : (ps qs : List Numbered) → instructions_of (ps ++ qs) ≡ instructions_of ps + instructions_of qs
+instructions-append [] qs = omega arith
+instructions-append (p ∷ ps) qs = let e = instructions-append ps qs in omega (arith, e)
+
+-- with the bodies of the branches of PARs
 mutual
-  term_small : (slot : ℕ) (t : Term) → length (term_code slot t) + 1 ≤ 4 * (size_of t).nodes
+  term_small : (slot : ℕ) (t : Term) → length (term_code slot t) + 1 + instructions_of (branches_in t) ≤ 4 * (size_of t).nodes
   term_small slot Skip = omega arith
   term_small slot Stop = omega arith
   term_small slot (Assign ts vs) = omega (arith, assigned_small ts vs)
@@ -88,8 +94,9 @@ mutual
   term_small slot (Output c tag is) = omega (arith, place_small c, items_small is, length-append (place_code c) (items_code is ++ Send tag ∷ []), length-append (items_code is) (Send tag ∷ []))
   term_small slot (VariantInput c vs) = omega (arith, received_small c Receive, variants_small slot vs, length-append (place_code c ++ Receive ∷ []) (variants_code slot vs))
   term_small slot (Seq ts) = omega (arith, terms_small slot ts)
-  term_small slot (Par bs) = omega arith
-  term_small slot (Alt pri arms) = omega arith
+  term_small slot (Par no_branches) = omega arith
+  term_small slot (Par (and_branch n t bs)) = omega (arith, branches_small (and_branch n t bs))
+  term_small slot (Alt pri arms) = omega (arith, arms_small arms)
   term_small slot (If cs) = omega (arith, choices_small slot cs 1, length-append (choices_code slot cs 1) (Halt ∷ []))
   term_small slot (Case e os) =
       omega (arith, expression_small e, options_small slot os (length (else_code slot os)), length-append (expression_code e) (options_code slot os (length (else_code slot os)) ++ else_code slot os), length-append (options_code slot os (length (else_code slot os))) (else_code slot os))
@@ -106,14 +113,29 @@ mutual
         length-append (counting_code (replicator line index base count)) (Begin slot index (length (term_code (slot + 2) b) + 2) ∷ Pass slot index (length (term_code (slot + 2) b) + 1) ∷ (term_code (slot + 2) b ++ LoopBack (length (term_code (slot + 2) b) + 1) ∷ [])),
         length-append (term_code (slot + 2) b) (LoopBack (length (term_code (slot + 2) b) + 1) ∷ []),
       )
-  term_small slot (Clear first count) = declaration_small (Clearing first count)
-  term_small slot (Local first value) = declaration_small (Naming first value)
+  term_small slot (Clear first count) = omega (arith, declaration_small (Clearing first count))
+  term_small slot (Local first value) = omega (arith, declaration_small (Naming first value))
 
-  terms_small : (slot : ℕ) (ts : Terms) → length (terms_code slot ts) ≤ 4 * (size_of_terms ts).nodes
+  terms_small : (slot : ℕ) (ts : Terms) → length (terms_code slot ts) + instructions_of (branches_in_terms ts) ≤ 4 * (size_of_terms ts).nodes
   terms_small slot no_terms = omega arith
-  terms_small slot (then_term t ts) = omega (arith, term_small slot t, terms_small slot ts, length-append (term_code slot t) (terms_code slot ts))
+  terms_small slot (then_term t ts) = omega (arith, term_small slot t, terms_small slot ts, length-append (term_code slot t) (terms_code slot ts), instructions-append (branches_in t) (branches_in_terms ts))
 
-  variants_small : (slot : ℕ) (vs : Variants) → length (variants_code slot vs) ≤ 4 * (size_of_variants vs).nodes + 1
+  branches_small : (bs : Branches) → instructions_of (branches_among bs) ≤ 4 * (size_of_branches bs).nodes
+  branches_small no_branches = omega arith
+  branches_small (and_branch n t bs) = omega (arith, term_small 0 t, branches_small bs, length-append (term_code 0 t) (End ∷ []), instructions-append (branches_in t) (branches_among bs))
+
+  arms_small : (arms : Arms) → instructions_of (branches_in_arms arms) ≤ 4 * (size_of_arms arms).nodes
+  arms_small no_arms = omega arith
+  arms_small (skip_arm e t arms) = omega (arith, term_small 0 t, arms_small arms, instructions-append (branches_in t) (branches_in_arms arms))
+  arms_small (input_arm e c list arms) = omega (arith, reception_small list, arms_small arms, instructions-append (branches_in_reception list) (branches_in_arms arms))
+  arms_small (declared_arms d arms others) = omega (arith, arms_small arms, arms_small others, instructions-append (branches_in_arms arms) (branches_in_arms others))
+  arms_small (each_arm (replicator line index base count) arms others) = omega (arith, arms_small arms, arms_small others, instructions-append (branches_in_arms arms) (branches_in_arms others))
+
+  reception_small : (list : Reception) → instructions_of (branches_in_reception list) ≤ 4 * (size_of_reception list).nodes + 1
+  reception_small (Plain ts t) = omega (arith, term_small 0 t)
+  reception_small (Tagged vs) = omega (arith, variants_small 0 vs)
+
+  variants_small : (slot : ℕ) (vs : Variants) → length (variants_code slot vs) + instructions_of (branches_in_variants vs) ≤ 4 * (size_of_variants vs).nodes + 1
   variants_small slot no_variants = omega arith
   variants_small slot (or_variant tag ds ts t vs) =
       omega (
@@ -126,12 +148,13 @@ mutual
         length-append (declarations_code ds) (storing_code ts ++ (term_code slot t ++ Jump (length (variants_code slot vs)) ∷ [])),
         length-append (storing_code ts) (term_code slot t ++ Jump (length (variants_code slot vs)) ∷ []),
         length-append (term_code slot t) (Jump (length (variants_code slot vs)) ∷ []),
+        instructions-append (branches_in t) (branches_in_variants vs),
       )
 
-  choices_small : (slot : ℕ) (cs : Choices) (after : ℕ) → length (choices_code slot cs after) ≤ 4 * (size_of_choices cs).nodes
+  choices_small : (slot : ℕ) (cs : Choices) (after : ℕ) → length (choices_code slot cs after) + instructions_of (branches_in_choices cs) ≤ 4 * (size_of_choices cs).nodes
   choices_small slot no_choices after = omega arith
   choices_small slot (or_choice e t cs) after =
-      omega (arith, expression_small e, term_small slot t, choices_small slot cs after, length-append (expression_code e) (Choose (length (term_code slot t) + 1) ∷ (term_code slot t ++ Jump (length (choices_code slot cs after) + after) ∷ choices_code slot cs after)), length-append (term_code slot t) (Jump (length (choices_code slot cs after) + after) ∷ choices_code slot cs after))
+      omega (arith, expression_small e, term_small slot t, choices_small slot cs after, length-append (expression_code e) (Choose (length (term_code slot t) + 1) ∷ (term_code slot t ++ Jump (length (choices_code slot cs after) + after) ∷ choices_code slot cs after)), length-append (term_code slot t) (Jump (length (choices_code slot cs after) + after) ∷ choices_code slot cs after), instructions-append (branches_in t) (branches_in_choices cs))
   choices_small slot (declared_choices d within others) after =
       let outer = length (choices_code slot others after) + after in
       omega (
@@ -141,6 +164,7 @@ mutual
         choices_small slot others after,
         length-append (declaration_code d) (choices_code slot within (length (choices_code slot others after) + after) ++ choices_code slot others after),
         length-append (choices_code slot within (length (choices_code slot others after) + after)) (choices_code slot others after),
+        instructions-append (branches_in_choices within) (branches_in_choices others),
       )
   choices_small slot (each_choice (replicator line index base count) within others) after =
       omega (
@@ -153,9 +177,10 @@ mutual
         length-append (expression_code count) (CountedFrom line ∷ []),
         length-append (counting_code (replicator line index base count)) (NextChoice index (length (choices_code slot within (1 + length (choices_code slot others after) + after)) + 1) ∷ (choices_code slot within (1 + length (choices_code slot others after) + after) ++ BackToChoice (length (choices_code slot within (1 + length (choices_code slot others after) + after)) + 1) ∷ choices_code slot others after)),
         length-append (choices_code slot within (1 + length (choices_code slot others after) + after)) (BackToChoice (length (choices_code slot within (1 + length (choices_code slot others after) + after)) + 1) ∷ choices_code slot others after),
+        instructions-append (branches_in_choices within) (branches_in_choices others),
       )
 
-  options_small : (slot : ℕ) (os : Options) (after : ℕ) → length (options_code slot os after) + length (else_code slot os) ≤ 4 * (size_of_options os).nodes + 1
+  options_small : (slot : ℕ) (os : Options) (after : ℕ) → length (options_code slot os after) + length (else_code slot os) + instructions_of (branches_in_options os) ≤ 4 * (size_of_options os).nodes + 1
   options_small slot no_options after = omega arith
   options_small slot (or_option constants ds t os) after =
       omega (
@@ -166,9 +191,13 @@ mutual
         length-append (declarations_code ds ++ (term_code slot t ++ Jump (length (options_code slot os after) + after) ∷ [])) (options_code slot os after),
         length-append (declarations_code ds) (term_code slot t ++ Jump (length (options_code slot os after) + after) ∷ []),
         length-append (term_code slot t) (Jump (length (options_code slot os after) + after) ∷ []),
+        instructions-append (branches_in t) (branches_in_options os),
       )
   options_small slot (or_else ds t os) after =
-      omega (arith, declarations_small ds, term_small slot t, options_small slot os after, length-append (declarations_code ds) (term_code slot t))
+      omega (arith, declarations_small ds, term_small slot t, options_small slot os after, length-append (declarations_code ds) (term_code slot t), instructions-append (branches_in t) (branches_in_options os))
 
 pub bodies_are_small : BodiesAreSmall
 bodies_are_small t cells writes quantum = omega (arith, term_small 0 t, length-append (term_code 0 t) (End ∷ []), length-map (whole_code t) (placed cells))
+
+pub programs_are_small : ProgramsAreSmall
+programs_are_small t = omega (arith, term_small 0 t, length-append (term_code 0 t) (End ∷ []))

@@ -1,4 +1,4 @@
--- Every turn of the code of a sequential term is a turn of what is left of it, for any number of turns.
+-- Every turn of the code of a term is a turn of what is left of it, for any number of turns.
 use Rattle.std.specs.Prelude.{map, slice_get, nat_eq, ◌||◌}
 use Rattle.std.proofs.Common.{length, ◌≡◌, ◌∙◌, ℕ, zero, suc, ℤ, pos, ◌+◌, ◌<◌, Bool, true, false, IsTrue, IsFalse, List, [], ◌∷◌, ◌++◌, Option, Some, None, refl, sym, ap, subst, arith, inl, inr}
 use Rattle.std.proofs.lemmas.List.{length-replicate}
@@ -8,12 +8,12 @@ use Rattle.occ_term.specs.declared.fault.Fault.{Fault}
 use Rattle.occ_term.specs.declared.message.Message.{Message}
 use Rattle.occ_term.specs.declared.protocol.Protocol.{Protocol}
 use Rattle.occ_term.specs.Messages.{Fits}
-use Rattle.occ_term.specs.Terms.{Term, Skip, Reception}
+use Rattle.occ_term.specs.Terms.{Term, Skip, Branches, Reception}
 use Rattle.occ_term.specs.Values.{Store, is_of_declared}
-use Rattle.occ_term.specs.Steps.{is_looping, status, Loop, WhileLoop, EachLoop, Doing, Do, Again, Offering, Awaiting, Taking, MessageTaken, Context, Then, Within, Left, left, Step, ends, drops, body_ends, again}
+use Rattle.occ_term.specs.Steps.{is_looping, status, Loop, WhileLoop, EachLoop, Doing, Do, Again, Offering, Awaiting, Taking, MessageTaken, Forking, Context, Then, Within, Left, left, Step, ends, drops, body_ends, again}
 use Rattle.occ_term.specs.Steps as S
 use Rattle.occ_term.specs.Turns.{Steps, none, more, SingleTurn, single_turn, Turn, stops, passes}
-use Rattle.occ_term.specs.Uses.{uses_of, uses_of_terms}
+use Rattle.occ_term.specs.Uses.{uses_of, uses_of_branches, uses_of_terms}
 use Rattle.occ_term.specs.TermTyping.{Declared, TermHas}
 use Rattle.occ_term.specs.TypedSteps.{StoreHas, LeftHas, ContextsHave}
 use Rattle.occ_term.specs.StepUses.{uses_of_left, uses_of_doing, uses_of_contexts, IsPartOf}
@@ -22,8 +22,8 @@ use Rattle.occ_term.proofs.TypedSteps.{steps_keep_types}
 use Rattle.occ_term.proofs.KeptSteps.{steps_keep_to_their_use}
 use Rattle.occ_code.specs.declared.task.Task.{Task}
 use Rattle.occ_code.specs.declared.task.Wait.{Wait}
-use Rattle.occ_code.specs.declared.task.Wait.TheVariants.{Ready, Took, Offers, Awaits, Halted, Done, Faulted}
-use Rattle.occ_code.specs.Alike.{Agrees, FitsProtocol, SameStop, Lists, used_by}
+use Rattle.occ_code.specs.declared.task.Wait.TheVariants.{Ready, Took, Offers, Awaits, Joins, Halted, Done, Faulted}
+use Rattle.occ_code.specs.Alike.{Agrees, FitsProtocol, SameStop, Lists, numbers_of, used_by}
 use Rattle.occ_code.specs.Sequential.Machine.{by_cell, placed, Body, Instruction, End, Point, point, Stops, act, here, begins_at, SingleStop, StopsIn, stops_here, passes_on, IsReady, counted_turn, tag_stack}
 use Rattle.occ_code.specs.Sequential.Layout.{stays, TermAt, ListAt, LoopAt, ContextsAt}
 use Rattle.occ_code.specs.Sequential.Alike.{SameTurn, Alike, DoesAs, BodiesDo}
@@ -32,7 +32,7 @@ use Rattle.occ_code.proofs.SequentialFrames.{HoldsAs}
 use Rattle.occ_code.proofs.PlacedCode.{stops_placed}
 use Rattle.occ_code.proofs.SequentialStatements.{Held, held_left, held_right}
 use Rattle.occ_code.proofs.SequentialCounters.{KeepsBelow, keeps_all}
-use Rattle.occ_code.proofs.SequentialResults.{contexts_kept, Does, after_steps, ways_walk, contexts_join, StopsAt, stops_after, Pause, at_offer, at_await, at_halt, at_fault, at_loop, Result, finishes, pauses, result_after}
+use Rattle.occ_code.proofs.SequentialResults.{contexts_kept, Does, after_steps, ways_walk, contexts_join, StopsAt, stops_after, Pause, at_offer, at_await, at_fork, at_halt, at_fault, at_loop, Result, finishes, pauses, result_after}
 use Rattle.occ_code.proofs.SequentialRuns.{term_runs, terms_run, loop_runs, list_runs}
 
 -- ---- turns keep types, and to their use
@@ -103,6 +103,7 @@ module _ (d : Declared) (code : List Instruction) (loops : ℕ) (cells : List �
     offers : {c : ℕ} {m : Message} (k : List Context) (slot : ℕ) → ToEnd left_ slot pc k → Rested left_ pc (Offers c m) (left (Offering c m) k)
     awaits : {c : ℕ} {list : Reception} (k : List Context) (slot mid : ℕ) → ListAt code loops slot pc list mid → ToEnd left_ slot mid k → Rested left_ pc (Awaits c) (left (Awaiting c list) k)
     stands_again : {l : Loop} (k : List Context) (slot mid : ℕ) → LoopAt code loops left_ slot pc l mid → ToEnd left_ slot mid k → Rested left_ pc Ready (left (Again l) k)
+    forks : {bs : Branches} (k : List Context) (slot : ℕ) → ToEnd left_ slot pc k → Rested left_ pc (Joins (numbers_of bs)) (left (Forking bs) k)
     halts : (k : List Context) → Rested left_ pc Halted (left S.Halted k)
     fails : {e : Fault} (k : List Context) → Rested left_ pc (Faulted e) (left (S.Faulted e) k)
     finished : Rested left_ pc Done (left S.Done [])
@@ -125,6 +126,7 @@ module _ (d : Declared) (code : List Instruction) (loops : ℕ) (cells : List �
   rested : (left_ : List ℕ) (slot pc' pc : ℕ) (j k : List Context) {w : Wait} {y : Doing} → ToEnd left_ slot pc' k → Pause code loops left_ slot pc' pc j w y → Rested left_ pc w (left y (j ++ k))
   rested left_ slot pc' pc j k e (at_offer i h) = offers (j ++ k) i (record { last = e.last; codes = contexts_join code loops left_ pc' slot e.last 0 j k i pc h e.codes; ends_there = e.ends_there })
   rested left_ slot pc' pc j k e (at_await i mid l h) = awaits (j ++ k) i mid l (record { last = e.last; codes = contexts_join code loops left_ pc' slot e.last 0 j k i mid h e.codes; ends_there = e.ends_there })
+  rested left_ slot pc' pc j k e (at_fork i h) = forks (j ++ k) i (record { last = e.last; codes = contexts_join code loops left_ pc' slot e.last 0 j k i pc h e.codes; ends_there = e.ends_there })
   rested left_ slot pc' pc j k e at_halt = halts (j ++ k)
   rested left_ slot pc' pc j k e at_fault = fails (j ++ k)
   rested left_ slot pc' pc j k e (at_loop i mid l h) = stands_again (j ++ k) i mid l (record { last = e.last; codes = contexts_join code loops left_ pc' slot e.last 0 j k i mid h e.codes; ends_there = e.ends_there })
@@ -285,6 +287,7 @@ module _ (d : Declared) (code : List Instruction) (cells writes : List ℕ) (loo
     further single t ag h u room (stands_again {l = x} k slot mid a e) go =
         let r = go pc' f' Ready (left (Again x) k) room (turns_again k slot mid a e) h u s' ag in
         record { stands = r.stands; frame = r.frame; wait = r.wait; rest = r.rest; store = r.store; stops_in = passes_on single refl r.stops_in; turn = passes t refl r.turn; agrees = r.agrees; types = r.types; held = r.held; room = r.room; rests = r.rests }
+    further single t ag h u room (forks k slot e) go = stays_there (λ x. absurd cc) refl single t ag h u room (forks k slot e)
     further single t ag h u room (halts k) go = stays_there (λ x. absurd cc) refl single t ag h u room (halts k)
     further single t ag h u room (fails k) go = stays_there (λ x. absurd cc) refl single t ag h u room (fails k)
     further single t ag h u room finished go = stays_there (λ x. absurd cc) refl single t ag h u room finished
@@ -356,6 +359,14 @@ module _ (d : Declared) (code : List Instruction) (cells writes : List ℕ) (loo
   same_stop n number turns pc f go room h u (awaits {c = c} {list = list} k slot mid l e) =
       (k, list, refl, λ m fit. go number turns pc f (Took 0 [] (Some m)) (left (Taking [] (MessageTaken list m)) k) room (takes k slot mid l e) ((tt, (h.0.0, h.0.2, fits_protocol (d.protocols c) h.0.0 m h.0.1 fit)), h.1) u)
   same_stop n number turns pc f go room h u (stands_again {l = l} k slot mid x e) = (k, l, refl, go number turns pc f Ready (left (Again l) k) room (turns_again k slot mid x e) h u)
+  same_stop n number turns pc f go room h u (forks {bs = bs} k slot e) = (
+    k,
+    bs,
+    refl,
+    refl,
+    λ g j. go number turns pc g Ready (left (Do Skip) k) (ap length j.left_is ∙ room)
+        (does k slot pc stays (subst (λ l. ToEnd d code loops_ cells l slot pc k) (sym j.left_is) e)) (tt, h.1) (held_right code cells d (uses_of_branches bs).reads (uses_of_contexts k).reads u),
+  )
   same_stop n number turns pc f go room h u (halts k) = (k, refl)
   same_stop n number turns pc f go room h u (fails k) = (k, refl)
   same_stop n number turns pc f go room h u finished = ([], refl)

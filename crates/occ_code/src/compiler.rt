@@ -1,5 +1,6 @@
-//! The compiler of terms without PAR and ALT.
+//! The compiler of programs without ALT.
 
+mod alts;
 pub mod body;
 mod cells;
 pub mod code;
@@ -8,7 +9,7 @@ mod expressions;
 pub mod instr;
 mod pieces;
 mod places;
-mod sequential;
+mod processes;
 mod statements;
 
 pub use body::Body;

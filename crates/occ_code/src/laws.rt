@@ -1,8 +1,8 @@
-//! Laws of the code of sequential processes. Each function's contract is the law; its body does nothing.
+//! Laws of the code of single processes. Each function's contract is the law; its body does nothing.
 
 ghost use Rattle.occ_code.specs.Sequential.Alike.{BodiesDo};
-ghost use Rattle.occ_code.specs.Sequential.Emitted.{BodiesAreSmall, CompiledDo};
-ghost use Rattle.occ_code.specs.Sequential.Examples.{CountsAsCompiled, TwiceAsCompiled};
+ghost use Rattle.occ_code.specs.Sequential.Emitted.{BodiesAreSmall, CompiledDo, ProgramsAreSmall};
+ghost use Rattle.occ_code.specs.Sequential.Examples.{CountsAsCompiled, TwiceAsCompiled, TwiceTwoAsCompiled};
 ghost use Rattle.occ_code.specs.Sequential.Laws.{CountersAreApart, ExpressionsRun, IndexesAreKept, ItemsRun, PlacesDo, TargetsRun};
 
 /// The code of an expression brings its value to the top of the stack, or comes to its fault.
@@ -25,12 +25,12 @@ pub fn places_do()
     ensures { PlacesDo }
 {}
 
-/// A body in which the code of a sequential term stands does what the term does.
+/// A body in which the code of a term stands does what the term does.
 pub fn bodies_do()
     ensures { BodiesDo }
 {}
 
-/// The body of a sequential term does what the term does.
+/// The body of a term without ALT does what the term does.
 pub fn compiled_do()
     ensures { CompiledDo }
 {}
@@ -38,6 +38,11 @@ pub fn compiled_do()
 /// A body has at most 32 instructions for each node of its term.
 pub fn bodies_are_small()
     ensures { BodiesAreSmall }
+{}
+
+/// All bodies of a program have at most 32 instructions for each node of its term.
+pub fn programs_are_small()
+    ensures { ProgramsAreSmall }
 {}
 
 /// Counters of replicated SEQs stay apart.
@@ -58,4 +63,9 @@ pub fn indexes_are_kept()
 /// So is a replicated SEQ.
 pub fn twice_as_compiled()
     ensures { TwiceAsCompiled }
+{}
+
+/// So is one with a PAR in it.
+pub fn twice_two_as_compiled()
+    ensures { TwiceTwoAsCompiled }
 {}

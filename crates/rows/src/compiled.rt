@@ -1,6 +1,6 @@
-//! Programs without PAR and ALT have code, for every quantum that may be.
+//! Programs without ALT have code, for every quantum that may be.
 use occ_check::unfold;
-use occ_code::{CodeFault, compile_for};
+use occ_code::{Code, CodeFault, Instr, compile_for};
 use occ_parse::parse;
 use occ_term::{Checked, check_usage};
 use occ_text::read_lines;
@@ -10,9 +10,9 @@ use std::test::Fail;
 /// The body of `main` below its first line, the quantum, and what comes of it.
 struct Compiled(&'static str, u32, &'static str);
 
-const CODE: &str = "1 body of code";
+const CODE: &str = "bodies: 1";
 
-const PROGRAMS: [Compiled; 21] = [
+const PROGRAMS: [Compiled; 24] = [
     Compiled("  SKIP\n", 1, CODE),
     Compiled("  INT x:\n  x := 1 + 2\n", 1, CODE),
     Compiled(
@@ -73,7 +73,14 @@ const PROGRAMS: [Compiled; 21] = [
     Compiled("  BOOL b:\n  b := (1 < 2) AND (NOT b)\n", 1, CODE),
     Compiled("  SKIP\n", 0, "refused 62 BadQuantum"),
     Compiled("  SKIP\n", 65_537, "refused 62 BadQuantum"),
-    Compiled("  PAR\n    SKIP\n    SKIP\n", 1, "refused 61 Early line 1"),
+    Compiled("  PAR\n    SKIP\n    SKIP\n", 1, "bodies: 3"),
+    Compiled("  PAR i = 0 FOR 5\n    SKIP\n", 1, "bodies: 6"),
+    Compiled("  SEQ i = 0 FOR 5\n    PAR\n      SKIP\n", 1, "bodies: 2"),
+    Compiled(
+        "  BYTE b:\n  PAR\n    SKIP\n    ALT\n      keyboard ? b\n        SKIP\n",
+        1,
+        "refused 61 Early line 2",
+    ),
     Compiled("  PAR\n    SKIP\n    SKIP\n", 0, "refused 62 BadQuantum"),
     Compiled(
         "  BYTE b:\n  ALT\n    keyboard ? b\n      SKIP\n",
@@ -104,7 +111,7 @@ fn bodies_of(alloc: Global, checked: &Checked, quantum: u32) -> Result<usize, Co
 
 fn told(alloc: Global, bodies: Result<usize, CodeFault>) -> Result<String, AllocError> {
     match bodies {
-        Ok(count) => format!(in alloc; "{count} body of code"),
+        Ok(count) => format!(in alloc; "bodies: {count}"),
         Err(fault) => fault.to_string(alloc),
     }
 }
@@ -125,5 +132,47 @@ fn programs_have_code(rt: HostRuntime) -> Result<(), Fail> {
         let found = outcome(alloc, source.as_bytes(), row.1)?;
         assert_eq!(rt; found.as_str(), row.2, "{source}");
     }
+    Ok(())
+}
+
+const NESTED: &[u8] =
+    b"PROC main (CHAN OF BYTE keyboard, screen)\n  PAR\n    screen ! 'A'\n    PAR\n      SKIP\n      STOP\n:\n";
+
+/// How many instructions the body of a process has.
+fn instructions_in(code: &Code, number: usize) -> usize {
+    match code.body(number) {
+        Some(body) => body.code().len(),
+        None => 0,
+    }
+}
+
+/// The branches that a process begins first of all.
+fn first_branches(code: &Code, number: usize) -> &[u32] {
+    match code.body(number) {
+        Some(body) => match body.code().first() {
+            Some(Instr::Fork(branches)) => branches.as_slice(),
+            _ => &[],
+        },
+        None => &[],
+    }
+}
+
+#[test]
+fn each_branch_has_its_body(rt: HostRuntime) -> Result<(), Fail> {
+    let alloc = rt.alloc();
+    let Some(checked) = accepted(alloc, NESTED) else {
+        assert!(rt; false, "refused");
+        return Ok(());
+    };
+    let Ok(code) = compile_for(alloc, &checked, 1) else {
+        assert!(rt; false, "no code");
+        return Ok(());
+    };
+    assert_eq!(rt; code.len(), 5);
+    for (number, count) in [2, 5, 2, 1, 2].iter().enumerate() {
+        assert_eq!(rt; instructions_in(&code, number), *count);
+    }
+    assert!(rt; matches!(first_branches(&code, 0), [1, 2]));
+    assert!(rt; matches!(first_branches(&code, 2), [3, 4]));
     Ok(())
 }

@@ -73,22 +73,23 @@ fn lawful_programs_are_accepted(rt: HostRuntime) -> Result<(), Fail> {
     Ok(())
 }
 
-/// Why a program that keeps the usage rules has no code.
-fn code_refusal(alloc: Global, unfolded: Unfolded) -> Option<CodeFault> {
-    let checked = lawful(alloc, unfolded)?;
-    compile(alloc, &checked).err()
-}
-
 #[test]
-fn par_has_no_code_yet(rt: HostRuntime) -> Result<(), Fail> {
+fn par_of_no_branches_only_ends(rt: HostRuntime) -> Result<(), Fail> {
     let alloc = rt.alloc();
-    let unfolded = empty_par(alloc)?;
-    let Some(fault) = code_refusal(alloc, unfolded) else {
-        assert!(rt; false, "compiled");
+    let Some(checked) = lawful(alloc, empty_par(alloc)?) else {
+        assert!(rt; false, "refused");
         return Ok(());
     };
-    let text = fault.to_string(alloc)?;
-    assert_eq!(rt; text.as_str(), "refused 61 Early line 1");
+    let Ok(code) = compile(alloc, &checked) else {
+        assert!(rt; false, "no code");
+        return Ok(());
+    };
+    assert_eq!(rt; code.len(), 1);
+    let Some(body) = code.body(0) else {
+        assert!(rt; false, "no body");
+        return Ok(());
+    };
+    assert!(rt; matches!(body.code(), [Instr::End]));
     Ok(())
 }
 

@@ -1,6 +1,6 @@
 -- Compiled programs: a body for each process, which does what the process's term does.
 -- Manual: nothing; this is (own).
-use Rattle.std.specs.Prelude.{List, [], false, length, ℕ, ⊤, ◌*◌, ◌+◌, ◌<◌, ◌≤◌, ◌∷◌, ◌≡◌}
+use Rattle.std.specs.Prelude.{List, [], false, length, reverse, ℕ, ⊤, ◌*◌, ◌+◌, ◌++◌, ◌<◌, ◌≤◌, ◌∷◌, ◌≡◌}
 use Rattle.occ_term.specs.Terms.{Term}
 use Rattle.occ_term.specs.Unfolding.{Unfolding, IsWellFormed, Lawful, declared, meaning}
 use Rattle.occ_term.specs.Processes.{Numbered, processes_of}
@@ -11,7 +11,7 @@ use Rattle.occ_term.specs.declared.names.Channel.{Channel}
 use Rattle.occ_code.specs.Alike.{Lists, used_by}
 use Rattle.occ_code.specs.Sequential.Machine.{Body}
 use Rattle.occ_code.specs.Sequential.Alike.{DoesAs}
-use Rattle.occ_code.specs.Sequential.Emitted.{body_of, is_sequential, whole_code}
+use Rattle.occ_code.specs.Sequential.Emitted.{body_of, has_no_alt, instructions_of}
 use Rattle.occ_code.specs.declared.compiler.code.CodeFault.{CodeFault}
 use Rattle.occ_code.specs.declared.compiler.code.CodeFault.TheVariants.{TooLarge, Early, BadQuantum, Memory}
 
@@ -54,14 +54,14 @@ abbrev pub IsQuantum : ℕ → Type 0
 IsQuantum quantum = (0 < quantum) × (quantum ≤ 65536)
 
 -- A quantum that is none is refused before all else. Want of memory says nothing more. The others say that 32 instructions for
--- each node are more than a program may have, and that there is a PAR or an ALT.
+-- each node are more than a program may have, and that there is an ALT.
 abbrev pub CodeRefuses : CodeFault → ℕ → Unfolding → Type 0
 CodeRefuses TooLarge quantum u = IsQuantum quantum × (most_instructions < 32 * (size_of (meaning u)).nodes)
-CodeRefuses (Early line) quantum u = IsQuantum quantum × (is_sequential (meaning u) ≡ false)
+CodeRefuses (Early line) quantum u = IsQuantum quantum × (has_no_alt (meaning u) ≡ false)
 CodeRefuses BadQuantum quantum u = IsQuantum quantum → ⊥
 CodeRefuses Memory quantum u = IsQuantum quantum
 
--- ---- one process; private contracts alone cite what follows
+-- ---- private contracts alone cite what follows
 
 -- the body of a term, with its cells
 pub record IsBodyOf (t : Term) (quantum : ℕ) (b : Body) : Type 0 where
@@ -69,8 +69,21 @@ pub record IsBodyOf (t : Term) (quantum : ℕ) (b : Body) : Type 0 where
   pub cells : Lists b.cells (used_by (uses_of t))
   pub writes : Lists b.writes (uses_of t).writes
 
+-- a body for each process
+abbrev pub AreBodiesOf : List Numbered → ℕ → List Body → Type 0
+AreBodiesOf [] quantum [] = ⊤
+AreBodiesOf [] quantum (b ∷ bs) = ⊥
+AreBodiesOf (p ∷ ps) quantum [] = ⊥
+AreBodiesOf (p ∷ ps) quantum (b ∷ bs) = IsBodyOf p.term quantum b × AreBodiesOf ps quantum bs
+
+-- Bodies were added for these processes, the one of the last process first.
+pub record AddsBodies (quantum : ℕ) (before : List Body) (ps : List Numbered) (after : List Body) : Type 0 where
+  pub more : List Body
+  pub added : after ≡ before ++ more
+  pub are : AreBodiesOf ps quantum (reverse more)
+
 abbrev pub IsRefused : CodeFault → Term → Type 0
-IsRefused TooLarge t = most_instructions < length (whole_code t)
-IsRefused (Early line) t = is_sequential t ≡ false
+IsRefused TooLarge t = most_instructions < instructions_of (processes_of t)
+IsRefused (Early line) t = has_no_alt t ≡ false
 IsRefused BadQuantum t = ⊥
 IsRefused Memory t = ⊤

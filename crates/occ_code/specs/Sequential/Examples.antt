@@ -1,9 +1,9 @@
--- Two loops that count, and their bodies.
+-- Loops that count, one of them round a PAR, and their bodies.
 -- Manual: combining processes.
 use Rattle.std.specs.Prelude.{None, Some, [], pos, ◌∷◌}
 use Rattle.occ_term.specs.declared.primitive.Primitive.TheVariants.{Int}
 use Rattle.occ_term.specs.declared.expression.Operator.TheVariants.{Plus, Less}
-use Rattle.occ_term.specs.Terms.{Constant, Cell, Binary, place, no_subscripts, OfOne, Into, replicator, Term, Skip, Assign, While, Each}
+use Rattle.occ_term.specs.Terms.{Constant, Cell, Binary, place, no_subscripts, OfOne, Into, replicator, Term, Skip, Assign, Par, While, Each, no_branches, and_branch}
 use Rattle.occ_term.specs.TermTyping.{Declared}
 use Rattle.occ_code.specs.Sequential.Emitted.{body_of}
 use Rattle.occ_code.specs.Sequential.Alike.{DoesAs}
@@ -29,3 +29,13 @@ twice = Each (replicator 1 0 (Constant (pos 0)) (Constant (pos 2))) Skip
 
 abbrev pub TwiceAsCompiled : Type 0
 TwiceAsCompiled = DoesAs whole_numbers (body_of twice (0 ∷ []) (0 ∷ []) 1) twice
+
+-- SEQ i = 0 FOR 2
+--   PAR
+--     SKIP
+--     SKIP
+abbrev pub twice_two : Term
+twice_two = Each (replicator 1 0 (Constant (pos 0)) (Constant (pos 2))) (Par (and_branch 1 Skip (and_branch 2 Skip no_branches)))
+
+abbrev pub TwiceTwoAsCompiled : Type 0
+TwiceTwoAsCompiled = DoesAs whole_numbers (body_of twice_two (0 ∷ []) (0 ∷ []) 1) twice_two

@@ -1,10 +1,11 @@
--- The instructions that evaluate expressions, items and targets.
+-- The instructions that evaluate expressions, items and targets, and those of a PAR.
 -- Manual: nothing; this is (own).
 use Rattle.std.specs.Prelude.{List, None, Option, Some, [], length, pos, ℕ, ◌++◌, ◌∷◌}
 use Rattle.occ_term.specs.Messages.{product}
-use Rattle.occ_term.specs.Terms.{Expression, Constant, Cell, Component, Letter, Binary, Unary, And, Or, Conversion, Place, place, Subscripts, no_subscripts, then_subscript, Cells, Text, Item, OfOne, OfMany, OfCounted, Target, Into, IntoCounted, Declaration, Clearing, Naming, Replicator, replicator}
+use Rattle.occ_term.specs.Terms.{Expression, Constant, Cell, Component, Letter, Binary, Unary, And, Or, Conversion, Place, place, Subscripts, no_subscripts, then_subscript, Cells, Text, Item, OfOne, OfMany, OfCounted, Target, Into, IntoCounted, Declaration, Clearing, Naming, Replicator, replicator, Branches, no_branches, and_branch}
 use Rattle.occ_term.specs.Uses.{components}
-use Rattle.occ_code.specs.Sequential.Machine.{Instruction, Push, Load, LoadAt, LoadLetter, Subscript, Operate, OperateOne, ConvertTo, AndThen, OrElse, PartOne, PartMany, PartText, PartCounted, PartCountedText, SpotOne, SpotCounted, StoreParts, StoreNamed, StoreOne, ClearCells, CountedFrom}
+use Rattle.occ_code.specs.Sequential.Machine.{Instruction, Push, Load, LoadAt, LoadLetter, Subscript, Operate, OperateOne, ConvertTo, AndThen, OrElse, PartOne, PartMany, PartText, PartCounted, PartCountedText, SpotOne, SpotCounted, StoreParts, StoreNamed, StoreOne, ClearCells, CountedFrom, Fork}
+use Rattle.occ_code.specs.Alike.{numbers_of}
 
 abbrev mutual
   pub expression_code : Expression → List Instruction
@@ -82,3 +83,8 @@ storing_one (Some c) (Some e) others = expression_code e ++ StoreOne c ∷ []
 
 abbrev pub assignment_code : List Target → List Item → List Instruction
 assignment_code ts vs = storing_one (single_target ts) (single_value vs) (items_code vs ++ storing_code ts)
+
+-- the code of the branches does not stand here: each has a body of its own
+abbrev pub par_code : Branches → List Instruction
+par_code no_branches = []
+par_code (and_branch n t bs) = Fork (numbers_of (and_branch n t bs)) ∷ []

@@ -5,7 +5,7 @@ use Rattle.occ_term.specs.Terms.{Term, Skip, Stop, Assign, Input, Output, Varian
 use Rattle.occ_term.specs.Storing.{index_of}
 use Rattle.occ_term.specs.Steps.{Loop, WhileLoop, EachLoop, Context, Then, Within}
 use Rattle.occ_code.specs.Sequential.Machine.{Instruction, Jump, Choose, IfAmong, IfTag, DropOne, NextChoice, BackToChoice, Begin, Pass, LoopBack, Send, Receive, Halt, counter_at, kept_value}
-use Rattle.occ_code.specs.Sequential.Expressions.{expression_code, place_code, items_code, declaration_code, declarations_code, storing_code, counting_code, assignment_code}
+use Rattle.occ_code.specs.Sequential.Expressions.{expression_code, place_code, items_code, declaration_code, declarations_code, storing_code, counting_code, assignment_code, par_code}
 use Rattle.occ_code.specs.Sequential.Laws.{StandsAt}
 
 -- from one place to another by jumps alone
@@ -19,7 +19,7 @@ LeadsBack code pc head = (back : ℕ) × (slice_get code pc ≡ Some (LoopBack b
 
 abbrev mutual
   -- From the place on stands the code of the term, after which it goes on at the other place. A replicated SEQ has the counters
-  -- from the slot on, of which there are `loops`; what stands in it has later ones. PAR and ALT have no code yet.
+  -- from the slot on, of which there are `loops`; what stands in it has later ones. ALT has no code yet.
   pub TermAt : List Instruction → ℕ → ℕ → ℕ → Term → ℕ → Type 0
   TermAt code loops slot pc Skip pc' = Ways code pc pc'
   TermAt code loops slot pc Stop pc' = slice_get code pc ≡ Some Halt
@@ -29,7 +29,7 @@ abbrev mutual
   TermAt code loops slot pc (Output c tag is) pc' = (m : ℕ) × StandsAt code pc (place_code c ++ (items_code is ++ Send tag ∷ [])) m × Ways code m pc'
   TermAt code loops slot pc (VariantInput c vs) pc' = (n : ℕ) × StandsAt code pc (place_code c ++ Receive ∷ []) n × VariantsAt code loops slot n vs pc'
   TermAt code loops slot pc (Seq ts) pc' = TermsAt code loops slot pc ts pc'
-  TermAt code loops slot pc (Par bs) pc' = ⊥
+  TermAt code loops slot pc (Par bs) pc' = (m : ℕ) × StandsAt code pc (par_code bs) m × Ways code m pc'
   TermAt code loops slot pc (Alt pri arms) pc' = ⊥
   TermAt code loops slot pc (If cs) pc' = (m : ℕ) × ChoicesAt code loops slot pc cs m pc' × (slice_get code m ≡ Some Halt)
   TermAt code loops slot pc (Case e os) pc' = (m : ℕ) × (n : ℕ) × StandsAt code pc (expression_code e) m × OptionsAt code loops slot m os n pc' × ElseAt code loops slot n os pc'

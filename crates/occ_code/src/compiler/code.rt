@@ -1,23 +1,18 @@
 //! Compiled programs.
-ghost use Rattle.std.specs.Prelude.{◌≡◌, ◌∷◌, [], ◌<◌, ◌≤◌, IsTrue, IfOk, IfErr, IfSome, IfNone, All, None, Some, length, map, slice_get};
+ghost use Rattle.std.specs.Prelude.{◌≡◌, ◌<◌, ◌≤◌, IsTrue, IfOk, IfErr, IfSome, IfNone, All, None, Some, length, map, slice_get};
 ghost use Rattle.std.specs.Arc.{arc_value};
+ghost use Rattle.occ_term.specs.Processes.{processes_of};
 ghost use Rattle.occ_term.specs.Unfolding.{meaning};
 ghost use Rattle.occ_term.specs.View.{term_of};
-ghost use Rattle.occ_code.specs.Sequential.Compiled.{IsBodyOf, IsCompiled, IsCompiledFrom, IsQuantum, IsRefused, CodeRefuses, most_instructions};
-ghost use Rattle.occ_code.specs.Sequential.Emitted as emitted;
-ghost use Rattle.occ_code.specs.Sequential.Emitted.{whole_code};
-ghost use Rattle.occ_code.specs.Sequential.View.{instruction_of};
+ghost use Rattle.occ_code.specs.Sequential.Compiled.{AreBodiesOf, IsCompiled, IsCompiledFrom, IsQuantum, IsRefused, CodeRefuses, most_instructions};
+ghost use Rattle.occ_code.specs.Sequential.Compiled as compiled;
+ghost use Rattle.occ_code.specs.Sequential.Emitted.{HasNoAlt};
 
+use crate::compiler::alts::has_no_alt;
 use crate::compiler::body::Body;
-use crate::compiler::cells::rising_cells;
-use crate::compiler::counters::counters_in;
-use crate::compiler::instr::Instr;
-use crate::compiler::pieces::put;
-use crate::compiler::places::name_places;
-use crate::compiler::sequential::is_sequential;
-use crate::compiler::statements::emit_term;
+use crate::compiler::processes::bodies_of;
 use crate::early::early_line;
-use occ_term::{Channel, Checked, Term, term_uses};
+use occ_term::{Channel, Checked, Term};
 use std::alloc::{AllocError, AllocFailed, Global};
 use std::marker::Model;
 use std::sync::Arc;
@@ -35,7 +30,7 @@ pub enum CodeFault {
     /// It has more than `MOST_INSTRUCTIONS` instructions, as only a program can of which 32 times the nodes are more.
     #[error("refused 60 TooLarge")]
     TooLarge,
-    /// There is a PAR or an ALT, which aren't compiled yet; the line is one of the program's, and it isn't promised which.
+    /// There is an ALT, which isn't compiled yet; the line is one of the program's, and it isn't promised which.
     #[error("refused 61 Early line {line}")]
     Early { line: u32 },
     /// The quantum is not from 1 to 65,536.
@@ -126,7 +121,7 @@ impl Code {
 /// As of `compile_for`, but for `BadQuantum`.
 pub fn compile(alloc: Global, checked: &Checked) -> Result<Code, CodeFault>
     ensures compiled { IfOk result (λ c. IsCompiledFrom checked.now c) }
-    ensures sequential { IfOk result (λ c. emitted.IsSequential (meaning checked.now)) }
+    ensures no_alt { IfOk result (λ c. HasNoAlt (meaning checked.now)) }
     ensures quantum { IfOk result (λ c. All (λ b. b.quantum ≡ 1) c.bodies) }
     ensures refused { IfErr result (λ fault. CodeRefuses fault 1 checked.now) }
 {
@@ -137,11 +132,11 @@ pub fn compile(alloc: Global, checked: &Checked) -> Result<Code, CodeFault>
 ///
 /// # Errors
 ///
-/// `BadQuantum` for a quantum that isn't from 1 to 65,536, before all else; then `Early` for a PAR or
-/// an ALT, `TooLarge` past the limit of instructions, and `Memory` for a refused growth.
+/// `BadQuantum` for a quantum that isn't from 1 to 65,536, before all else; then `Early` for an ALT,
+/// `TooLarge` past the limit of instructions, and `Memory` for a refused growth.
 pub fn compile_for(alloc: Global, checked: &Checked, quantum: u32) -> Result<Code, CodeFault>
     ensures compiled { IfOk result (λ c. IsCompiledFrom checked.now c) }
-    ensures sequential { IfOk result (λ c. emitted.IsSequential (meaning checked.now)) }
+    ensures no_alt { IfOk result (λ c. HasNoAlt (meaning checked.now)) }
     ensures quantum { IfOk result (λ c. All (λ b. b.quantum ≡ quantum) c.bodies) }
     ensures refused { IfErr result (λ fault. CodeRefuses fault quantum checked.now) }
 {
@@ -151,57 +146,49 @@ pub fn compile_for(alloc: Global, checked: &Checked, quantum: u32) -> Result<Cod
     let unfolded = checked.unfolded();
     checked.lawful();
     unfolded.well_formed();
-    let body = match only_process(alloc, unfolded.term(), quantum) {
-        Ok(body) => body,
+    let bodies = match program_bodies(alloc, unfolded.term(), quantum) {
+        Ok(bodies) => bodies,
         Err(fault) => return Err(fault),
     };
-    let bodies = only_body(alloc, body)?;
     let channels = copy_channels(alloc, unfolded.channels())?;
     Ok(Code { bodies, channels })
 }
 
-/// The body of a program's one process.
-fn only_process(alloc: Global, term: &Term, quantum: u32) -> Result<Body, CodeFault>
-    ensures body { IfOk result (λ b. IsBodyOf (term_of term.now) quantum b) }
-    ensures sequential { IfOk result (λ b. emitted.IsSequential (term_of term.now)) }
-    ensures small { IfOk result (λ b. length b.code ≤ most_instructions) }
+/// The bodies of a program's processes, in the order of their numbers, within the limit.
+fn program_bodies(
+    alloc: Global,
+    term: &Term,
+    quantum: u32,
+) -> Result<Vec<Arc<Body, Global>>, CodeFault>
+    ensures bodies { IfOk result (λ bodies. AreBodiesOf (processes_of (term_of term.now)) quantum (map arc_value bodies.items)) }
+    ensures no_alt { IfOk result (λ bodies. HasNoAlt (term_of term.now)) }
+    ensures small { IfOk result (λ bodies. compiled.instructions_in (map arc_value bodies.items) ≤ most_instructions) }
     ensures refused { IfErr result (λ fault. IsRefused fault (term_of term.now)) }
 {
-    if !is_sequential(term) {
+    if !has_no_alt(term) {
         return Err(CodeFault::Early {
             line: early_line(term),
         });
     }
-    let loops = counters_in(term)?;
-    let uses = term_uses(alloc, term)?;
-    let cells = rising_cells(alloc, uses.as_slice(), false)?;
-    let writes = rising_cells(alloc, uses.as_slice(), true)?;
-    let mut code = code_of(alloc, term)?;
-    if code.len() > MOST_INSTRUCTIONS {
+    let bodies = bodies_of(alloc, quantum, term)?;
+    if instructions_in(&bodies)? > MOST_INSTRUCTIONS {
         return Err(CodeFault::TooLarge);
     }
-    name_places(alloc, &cells, &mut code)?;
-    Ok(Body::new(code, cells, writes, loops, quantum))
-}
-
-/// The code of a process, with the numbers of cells.
-fn code_of(alloc: Global, term: &Term) -> Result<Vec<Instr>, AllocError>
-    ensures { IfOk result (λ code. map instruction_of code.items ≡ whole_code (term_of term.now)) }
-{
-    let mut code = Vec::new(alloc);
-    put(&mut code, Instr::End)?;
-    emit_term(alloc, 0, term, &mut code)?;
-    code.reverse();
-    Ok(code)
-}
-
-fn only_body(alloc: Global, body: Body) -> Result<Vec<Arc<Body, Global>>, AllocError>
-    ensures { IfOk result (λ bodies. map arc_value bodies.items ≡ body ∷ []) }
-{
-    let mut bodies = Vec::new(alloc);
-    let body = Arc::new(alloc, body)?;
-    bodies.push(body)?;
     Ok(bodies)
+}
+
+/// How many instructions there are. The error is that of more than a machine's word can count.
+fn instructions_in(bodies: &[Arc<Body, Global>]) -> Result<usize, AllocError>
+    ensures { IfOk result (λ n. n ≡ compiled.instructions_in (map arc_value bodies.now)) }
+{
+    let mut all: usize = 0;
+    let mut count = bodies.len();
+    while count > 0 {
+        count -= 1;
+        let own = bodies[count].code().len();
+        all = own.checked_add(all).ok_or(AllocError)?;
+    }
+    Ok(all)
 }
 
 fn copy_channels(alloc: Global, channels: &[Channel]) -> Result<Vec<Channel>, AllocError>

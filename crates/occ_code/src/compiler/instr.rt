@@ -1,4 +1,4 @@
-//! The instructions of sequential code.
+//! The instructions of a process's code.
 
 use occ_term::{Monadic, Operator, Primitive};
 use sqlite_items::Items;
@@ -82,6 +82,9 @@ pub enum Instr {
     Send(Option<u32>),
     /// Takes a channel, and awaits a message on it.
     Receive,
+    /// Begins the branches of a PAR, and waits for their end: the numbers of their processes, which have
+    /// code of their own.
+    Fork(Items<u32>),
     /// Halts the process.
     Halt,
     /// Ends the process.

@@ -1,10 +1,10 @@
 //! The code of terms.
-ghost use Rattle.std.specs.Prelude.{◌≡◌, ◌∷◌, [], ◌++◌, ◌-◌, ◌+◌, ◌≤◌, ◌<◌, IfOk, OnOk, List, length};
+ghost use Rattle.std.specs.Prelude.{◌≡◌, ◌∷◌, [], ◌++◌, ◌-◌, ◌+◌, ◌≤◌, ◌<◌, IfOk, OnOk, List, length, map};
 ghost use Rattle.occ_term.specs.Storing.{index_of};
 ghost use Rattle.occ_term.specs.Terms as terms;
-ghost use Rattle.occ_term.specs.View.{choice_of, choices_of, declaration_of, declarations_of, expression_of, items_of, option_of, options_of, place_of, replicator_of, targets_of, term_of, terms_of, variant_of, variants_of};
+ghost use Rattle.occ_term.specs.View.{branches_of, choice_of, choices_of, declaration_of, declarations_of, expression_of, items_of, option_of, options_of, place_of, replicator_of, targets_of, term_of, terms_of, variant_of, variants_of};
 ghost use Rattle.occ_code.specs.Sequential.Machine as machine;
-ghost use Rattle.occ_code.specs.Sequential.Expressions.{counting_code, declaration_code, declarations_code, expression_code, items_code, place_code, storing_code};
+ghost use Rattle.occ_code.specs.Sequential.Expressions.{counting_code, declaration_code, declarations_code, expression_code, items_code, par_code, place_code, storing_code};
 ghost use Rattle.occ_code.specs.Sequential.Emitted.{choices_code, else_code, options_code, term_code, terms_code, variants_code};
 ghost use Rattle.occ_code.specs.Sequential.View.{Behind, Emits};
 ghost use Rattle.occ_code.specs.declared.compiler.instr.Instr.{Instr};
@@ -16,12 +16,13 @@ use crate::compiler::expressions::{
 use crate::compiler::instr::Instr;
 use crate::compiler::pieces::{emitted, put, put_at, since};
 use occ_term::{
-    Choice, Declaration, Item, Place, Replicator, Selection, Target, Term, TermExpr, Variant,
+    Branch, Choice, Declaration, Item, Place, Replicator, Selection, Target, Term, TermExpr,
+    Variant,
 };
 use sqlite_items::Items;
 use std::alloc::{AllocError, Global};
 
-/// The code of a term, whose replicated SEQs have the counters from the slot on. PAR and ALT have none.
+/// The code of a term, whose replicated SEQs have the counters from the slot on. ALT has none.
 #[cycle(terms)]
 pub(crate) fn emit_term(
     alloc: Global,
@@ -47,7 +48,7 @@ pub(crate) fn emit_term(
             Ok(())
         }
         Term::Seq(parts) => emit_terms(alloc, slot, parts.as_slice(), code),
-        Term::Par(_) => Ok(()),
+        Term::Par(branches) => emit_par(alloc, branches.as_slice(), code),
         Term::Alt(_, _) => Ok(()),
         Term::If(choices) => {
             let end = emitted(code);
@@ -133,6 +134,28 @@ fn emit_output(
     emit_items(alloc, items, code)?;
     emit_place(alloc, channel, code)?;
     Ok(())
+}
+
+/// The start of the branches of a PAR, where there are any.
+fn emit_par(alloc: Global, branches: &[Branch], code: &mut Vec<Instr>) -> Result<(), AllocError>
+    ensures { OnOk result (Emits code.old.items (par_code (branches_of branches.now)) code.new.items) }
+{
+    if branches.is_empty() {
+        return Ok(());
+    }
+    let numbers = branch_numbers(alloc, branches)?;
+    put(code, Instr::Fork(numbers))?;
+    Ok(())
+}
+
+fn branch_numbers(alloc: Global, branches: &[Branch]) -> Result<Items<u32>, AllocError>
+    ensures { IfOk result (λ numbers. numbers ≡ map (λ branch. branch.number) branches.now) }
+{
+    let mut numbers = Items::new(alloc);
+    for branch in branches {
+        numbers.push(branch.number)?;
+    }
+    Ok(numbers)
 }
 
 /// The test of a loop whose body was emitted behind the jump back at the place.

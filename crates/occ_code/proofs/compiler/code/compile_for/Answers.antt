@@ -1,19 +1,21 @@
 use Rattle.std.proofs.Common.{◌<◌, map, IsTrue, ap, subst, arith, ◌∙◌}
 use Rattle.std.specs.Arc.{arc_value}
+use Rattle.occ_term.specs.Processes.{processes_of}
 use Rattle.occ_term.specs.Unfolding.{IsWellFormed}
 use Rattle.occ_term.specs.View.{term_of}
-use Rattle.occ_code.specs.Sequential.Emitted.{is_sequential}
-use Rattle.occ_code.specs.Sequential.Compiled.{IsBodyOf, IsCompiledFrom, IsRefused}
-use Rattle.occ_code.proofs.CompilingTerms.{compiled_as, refused_as}
+use Rattle.occ_code.specs.Sequential.Emitted.{has_no_alt}
+use Rattle.occ_code.specs.Sequential.Compiled.{AreBodiesOf, IsCompiledFrom, IsRefused}
+use Rattle.occ_code.proofs.CompilingTerms.{compiled_as, of_quantum, refused_as}
 use Rattle.occ_code.proofs.compiler.code.compile_for.Goals as goal
 
-from : (c : goal.In_ok-channels) → IsCompiledFrom c.args.checked.now (record { bodies = map arc_value c.in_ok-bodies.bodies.items; channels = c.in_ok-channels.channels.items })
+from : (c : goal.In_ok-channels) → IsCompiledFrom c.args.checked.now (record { bodies = map arc_value c.in-Ok.bodies.items; channels = c.in_ok-channels.channels.items })
 from c =
     let same = c.term.ensures ∙ ap (λ u. u.term) c.unfolded-unfolded.ensures in
     let some : 0 < c.args.quantum = omega (arith, c.if-quantum-eq0.false) in
-    compiled_as c.args.checked.now c.args.quantum (map arc_value c.in_ok-bodies.bodies.items) _ c.in_ok-channels.channels.items (subst (λ u. IsWellFormed u) c.unfolded-unfolded.ensures c.well_formed-2.ensures)
-    (subst (λ t. IsTrue (is_sequential (term_of t))) same c.in-Ok.ensures.sequential) (some, c.if-quantum-gt-MOST_QUANTUM.false) c.in_ok-bodies.ensures
-    (subst (λ t. IsBodyOf (term_of t) c.args.quantum c.in-Ok.body) same c.in-Ok.ensures.body) c.in-Ok.ensures.small (c.in_ok-channels.ensures ∙ c.channels.ensures ∙ ap (λ u. u.channels) c.unfolded-unfolded.ensures)
+    compiled_as c.args.checked.now c.args.quantum (map arc_value c.in-Ok.bodies.items) c.in_ok-channels.channels.items (subst (λ u. IsWellFormed u) c.unfolded-unfolded.ensures c.well_formed-2.ensures)
+    (subst (λ t. IsTrue (has_no_alt (term_of t))) same c.in-Ok.ensures.no_alt) (some, c.if-quantum-gt-MOST_QUANTUM.false)
+    (subst (λ t. AreBodiesOf (processes_of (term_of t)) c.args.quantum (map arc_value c.in-Ok.bodies.items)) same c.in-Ok.ensures.bodies) c.in-Ok.ensures.small
+    (c.in_ok-channels.ensures ∙ c.channels.ensures ∙ ap (λ u. u.channels) c.unfolded-unfolded.ensures)
 
 pub invariant_of-result : goal.invariant_of-result
 invariant_of-result c =
@@ -27,3 +29,6 @@ returns-in-Err-clause-refused c =
     let same = ap term_of (c.term.ensures ∙ ap (λ u. u.term) c.unfolded-unfolded.ensures) in
     let some : 0 < c.args.quantum = omega (arith, c.if-quantum-eq0.false) in
     refused_as c.args.checked.now c.args.quantum c.in-Err.fault (some, c.if-quantum-gt-MOST_QUANTUM.false) (subst (λ t. IsRefused c.in-Err.fault t) same c.in-Err.ensures.refused)
+
+pub returns-clause-quantum : goal.returns-clause-quantum
+returns-clause-quantum c = of_quantum (processes_of (term_of c.term.result.now)) c.args.quantum (map arc_value c.in-Ok.bodies.items) c.in-Ok.ensures.bodies
