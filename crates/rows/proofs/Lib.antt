@@ -1,1 +1,2 @@
 mod WellFormed
+mod FirstTurns

@@ -1,0 +1,29 @@
+-- The first turn of a program's main process.
+use Rattle.std.proofs.Common.{◌≡◌, ◌∙◌, ℕ, zero, ◌+◌, ◌<◌, ◌≤◌, ◌^◌, List, [], ◌∷◌, Some, length, refl, sym, ap, subst, arith}
+use Rattle.std.specs.Prelude.{All, slice_get}
+use Rattle.occ_term.specs.Frames.{zero_frame}
+use Rattle.occ_code.specs.Sequential.Compiled.{IsCompiled, Program, instructions_in}
+use Rattle.occ_code.specs.Sequential.Machine.{Body}
+use Rattle.occ_code.specs.declared.task.Task.{Task}
+use Rattle.occ_proc.specs.Turns.{HasStop}
+use Rattle.occ_net.specs.Replay.{HasTask, at_start, begins, first_net, first_task}
+use Rattle.occ_net.proofs.Law.{ready_tasks_stop}
+
+first_small : (bs : List Body) (b : Body) → slice_get bs 0 ≡ Some b → length b.code ≤ instructions_in bs
+first_small [] b e = absurd cc
+first_small (x ∷ bs) b e = let same : length x.code ≡ length b.code = (let one : x ≡ b = cc in ap (λ z. length z.code) one) in omega (arith, same)
+
+pub body_small : (p : Program) (b : Body) → IsCompiled p → slice_get p.bodies 0 ≡ Some b → length b.code + 1 < 2 ^ 32
+body_small p b c e =
+    let all = c.compiled.small in
+    let one = first_small p.bodies b e in
+    omega (arith, all, one)
+
+main_there : (bs : List Body) (b : Body) → slice_get bs 0 ≡ Some b → HasTask (at_start bs) 0 (first_task 0 0 (zero_frame b.cells b.loops))
+main_there [] b e = absurd cc
+main_there (x ∷ bs) b e = let same : x ≡ b = cc in ap (λ z. Some (Some (first_task 0 0 (zero_frame z.cells z.loops)))) same
+
+pub first_stop : (p : Program) (b : Body) (quantum : ℕ) (t : Task) → IsCompiled p → All (λ x. x.quantum ≡ quantum) p.bodies → slice_get p.bodies 0 ≡ Some b → t ≡ first_task 0 0 (zero_frame b.cells b.loops) → HasStop b t
+first_stop p b quantum t c same e is =
+    let x = ready_tasks_stop c.source p quantum [] [] (first_net p []) 0 b (first_task 0 0 (zero_frame b.cells b.loops)) c.well_formed c.lawful c.compiled same tt (omega arith) begins e (main_there p.bodies b e) refl in
+    subst (HasStop b) (sym is) (record { after = x.0; stops = x.1 })
