@@ -1,10 +1,9 @@
 -- The answer of an outcome is shown by a run of the source.
-use Rattle.std.proofs.Common.{◌≡◌, ◌∙◌, ◌<◌, ◌^◌, ℕ, ℤ, List, [], ◌∷◌, ◌++◌, Option, Some, None, Bool, true, false, ◌&&◌, IsTrue, length, map, refl, sym, ap, subst, arith}
+use Rattle.std.proofs.Common.{inl, inr, ◌≡◌, ◌∙◌, ◌<◌, ◌^◌, ℕ, ℤ, List, [], ◌∷◌, ◌++◌, Option, Some, None, Bool, true, false, ◌&&◌, IsTrue, length, map, refl, sym, ap, subst, arith}
 use Rattle.std.specs.Prelude.{All, if◌then◌else◌, nat_eq, slice_get}
 use Rattle.std.proofs.lemmas.Bool.{eq-eqb}
 use Rattle.occ_term.specs.Messages.{Fits, FitsAfter, is_of, message, parts_after}
-use Rattle.occ_term.specs.Processes.{Numbered, numbered, branches_in, branches_in_terms, branches_in_variants, branches_in_choices, branches_in_options}
-use Rattle.occ_term.specs.Terms.{Term, Skip, Stop, Assign, Input, Output, VariantInput, Seq, Par, Alt, If, Case, While, Each, Clear, Local, Terms, no_terms, then_term, Variants, no_variants, or_variant, Choices, no_choices, or_choice, declared_choices, each_choice, Options, no_options, or_option, or_else}
+use Rattle.occ_term.specs.Processes.{Numbered, numbered, branches_in}
 use Rattle.occ_term.specs.declared.message.Message.{Message}
 use Rattle.occ_term.specs.declared.message.Part.{Part}
 use Rattle.occ_term.specs.declared.message.Part.TheVariants.{One, Many, Counted}
@@ -21,7 +20,6 @@ use Rattle.occ_term.specs.TermTyping.{Declared}
 use Rattle.occ_term.specs.Unfolding.{Unfolding, IsWellFormed, declared, meaning, Lawful}
 use Rattle.occ_code.specs.Alike.{FitsProtocol}
 use Rattle.occ_code.specs.Sequential.Compiled.{Program, IsCompiledFrom, AllDo, CodeRefuses}
-use Rattle.occ_code.specs.Sequential.Emitted.{IsSequential, is_sequential, are_sequential, variants_are_sequential, choices_are_sequential, options_are_sequential}
 use Rattle.occ_code.specs.Sequential.Machine.{Body}
 use Rattle.occ_code.specs.declared.compiler.code.CodeFault.{CodeFault}
 use Rattle.occ_code.specs.declared.compiler.code.CodeFault.TheVariants as code
@@ -39,77 +37,24 @@ use Rattle.occ_play.specs.Playing.{IsAnswer, Unfolds, UsageRefusesText, CodeRefu
 use Rattle.occ_net.specs.Replay.{Replays, ending_of, ending_by}
 use Rattle.occ_net.proofs.Law.{replays_are_runs}
 
--- ---- a program without PAR has one process
+-- ---- a program without branches has one process
 
-both_true : (a b : Bool) → a && b ≡ true → (a ≡ true) × (b ≡ true)
-both_true true b h = (refl, h)
-both_true false b h = absurd cc
-
-none_of : {X : Type 0} (xs ys : List X) → xs ≡ [] → ys ≡ [] → xs ++ ys ≡ []
-none_of xs ys e f = ap (λ l. l ++ ys) e ∙ f
-
-mutual
-  no_branches : (t : Term) → is_sequential t ≡ true → branches_in t ≡ []
-  no_branches Skip h = refl
-  no_branches Stop h = refl
-  no_branches (Assign ts vs) h = refl
-  no_branches (Input c ts) h = refl
-  no_branches (Output c tag is) h = refl
-  no_branches (VariantInput c vs) h = none_in_variants vs h
-  no_branches (Seq ts) h = none_among ts h
-  no_branches (Par bs) h = absurd cc
-  no_branches (Alt pri arms) h = absurd cc
-  no_branches (If cs) h = none_in_choices cs h
-  no_branches (Case e os) h = none_in_options os h
-  no_branches (While e b) h = no_branches b h
-  no_branches (Each r b) h = no_branches b h
-  no_branches (Clear first count) h = refl
-  no_branches (Local first value) h = refl
-
-  none_among : (ts : Terms) → are_sequential ts ≡ true → branches_in_terms ts ≡ []
-  none_among no_terms h = refl
-  none_among (then_term t ts) h =
-      let x = both_true (is_sequential t) (are_sequential ts) h in
-      none_of (branches_in t) (branches_in_terms ts) (no_branches t x.0) (none_among ts x.1)
-
-  none_in_variants : (vs : Variants) → variants_are_sequential vs ≡ true → branches_in_variants vs ≡ []
-  none_in_variants no_variants h = refl
-  none_in_variants (or_variant tag ds ts t vs) h =
-      let x = both_true (is_sequential t) (variants_are_sequential vs) h in
-      none_of (branches_in t) (branches_in_variants vs) (no_branches t x.0) (none_in_variants vs x.1)
-
-  none_in_choices : (cs : Choices) → choices_are_sequential cs ≡ true → branches_in_choices cs ≡ []
-  none_in_choices no_choices h = refl
-  none_in_choices (or_choice e t cs) h =
-      let x = both_true (is_sequential t) (choices_are_sequential cs) h in
-      none_of (branches_in t) (branches_in_choices cs) (no_branches t x.0) (none_in_choices cs x.1)
-  none_in_choices (declared_choices d within others) h =
-      let x = both_true (choices_are_sequential within) (choices_are_sequential others) h in
-      none_of (branches_in_choices within) (branches_in_choices others) (none_in_choices within x.0) (none_in_choices others x.1)
-  none_in_choices (each_choice r within others) h =
-      let x = both_true (choices_are_sequential within) (choices_are_sequential others) h in
-      none_of (branches_in_choices within) (branches_in_choices others) (none_in_choices within x.0) (none_in_choices others x.1)
-
-  none_in_options : (os : Options) → options_are_sequential os ≡ true → branches_in_options os ≡ []
-  none_in_options no_options h = refl
-  none_in_options (or_option constants ds t os) h =
-      let x = both_true (is_sequential t) (options_are_sequential os) h in
-      none_of (branches_in t) (branches_in_options os) (no_branches t x.0) (none_in_options os x.1)
-  none_in_options (or_else ds t os) h =
-      let x = both_true (is_sequential t) (options_are_sequential os) h in
-      none_of (branches_in t) (branches_in_options os) (no_branches t x.0) (none_in_options os x.1)
-
-only_done : (d : Declared) (n : ℕ) (bodies : List Body) (x : Numbered) → AllDo d n bodies (x ∷ []) → (b : Body) × (bodies ≡ b ∷ [])
+only_done : (d : Declared) (n : ℕ) (bodies : List Body) (x : Numbered) → AllDo d n bodies (x ∷ []) → length bodies ≡ 1
 only_done d n [] x h = absurd h
-only_done d n (b ∷ []) x h = (b, refl)
+only_done d n (b ∷ []) x h = refl
 only_done d n (b ∷ c ∷ bs) x h = absurd h.2
 
-only_body : (u : Unfolding) (p : Program) → IsCompiledFrom u p → IsSequential (meaning u) → (b : Body) × (p.bodies ≡ b ∷ [])
-only_body u p from h =
-    only_done (declared u) 0 p.bodies (numbered 0 (meaning u)) (subst (λ ps. AllDo (declared u) 0 p.bodies ps) (ap (λ l. numbered 0 (meaning u) ∷ l) (no_branches (meaning u) h)) from.bodies)
+-- a program of several bodies has a branch
+pub several : (u : Unfolding) (p : Program) → IsCompiledFrom u p → (length p.bodies ≡ 1 → ⊥) → branches_in (meaning u) ≡ [] → ⊥
+several u p from many none = many (only_done (declared u) 0 p.bodies (numbered 0 (meaning u)) (subst (λ ps. AllDo (declared u) 0 p.bodies ps) (ap (λ l. numbered 0 (meaning u) ∷ l) none) from.bodies))
 
-pub one_process : (u : Unfolding) (p : Program) → IsWellFormed u → Lawful u → IsCompiledFrom u p → IsSequential (meaning u) → HasOneProcess p
-one_process u p w lawful from h = let one = only_body u p from h in record { source = u; well_formed = w; lawful = lawful; compiled = from; body = one.0; alone = one.1 }
+single : (bodies : List Body) → length bodies ≡ 1 → (b : Body) × (bodies ≡ b ∷ [])
+single [] e = absurd cc
+single (b ∷ []) e = (b, refl)
+single (b ∷ c ∷ bs) e = absurd (omega (arith, e))
+
+pub one_process : (u : Unfolding) (p : Program) → IsWellFormed u → Lawful u → IsCompiledFrom u p → length p.bodies ≡ 1 → HasOneProcess p
+one_process u p w lawful from e = let one = single p.bodies e in record { source = u; well_formed = w; lawful = lawful; compiled = from; body = one.0; alone = one.1 }
 
 -- ---- what is written to the screen and the error channel
 
@@ -212,8 +157,11 @@ usage_refuses u (usage.TwoOutputs line name) x h = (u, x, h)
 usage_refuses u usage.Memory x h = tt
 
 -- a quantum of 1 is refused by none
+pub many_refused : {source : List ℕ} (u : Unfolding) (p : Program) (line : ℕ) → Unfolds source u → IsCompiledFrom u p → (length p.bodies ≡ 1 → ⊥) → CodeRefusesText (code.Early line) source
+many_refused u p line x from many = (u, x, inr (several u p from many))
+
 pub code_refuses : {source : List ℕ} (u : Unfolding) (fault : CodeFault) → Unfolds source u → CodeRefuses fault 1 u → CodeRefusesText fault source
 code_refuses u code.TooLarge x h = (u, x, h.1)
-code_refuses u (code.Early line) x h = (u, x, h.1)
+code_refuses u (code.Early line) x h = (u, x, inl h.1)
 code_refuses u code.BadQuantum x h = h (omega arith, omega arith)
 code_refuses u code.Memory x h = tt

@@ -1,4 +1,4 @@
--- Code without PAR and ALT neither forks nor chooses: none of its stops waits for branches or for alternatives.
+-- No code chooses among alternatives yet: a stop that waits for no branches waits for one message at most.
 use Rattle.std.proofs.Common.{ℕ, ℤ, IsTrue, List, [], ◌∷◌, Option, Some, None, refl, sym, subst}
 use Rattle.std.specs.Prelude.{slice_get, ⊤}
 use Rattle.occ_term.specs.Frames.{Variables}
@@ -8,11 +8,36 @@ use Rattle.occ_term.specs.declared.message.Part.{Part}
 use Rattle.occ_code.specs.Sequential.Machine.{by_place, Body, Instruction, Point, point, Effect, Moves, Stops, Stuck, act, effect, going, going_stored, with_one, with_two, Stored, Stays, Refused, SingleStop, StopsIn, stops_here, passes_on, Stopping}
 use Rattle.occ_code.specs.Sequential.Machine as M
 use Rattle.occ_code.specs.declared.task.Task.{Task}
+use Rattle.occ_code.specs.declared.task.Wait.{Wait}
+use Rattle.occ_code.specs.declared.task.Wait.TheVariants as W
 use Rattle.occ_play.specs.Network.{is_plain}
+
+-- does not wait for alternatives
+abbrev is_unchosen : Wait → Bool
+is_unchosen W.Ready = true
+is_unchosen (W.Took arm indices m) = false
+is_unchosen (W.Offers c m) = true
+is_unchosen (W.Awaits c) = true
+is_unchosen (W.Chooses pri arms) = false
+is_unchosen (W.Joins ns) = true
+is_unchosen W.Halted = true
+is_unchosen W.Done = true
+is_unchosen (W.Faulted e) = true
+
+plain_if : (w : Wait) → IsTrue (is_unchosen w) → ((ns : List ℕ) → w ≡ W.Joins ns → ⊥) → IsTrue (is_plain w)
+plain_if W.Ready h g = refl
+plain_if (W.Took arm indices m) h g = h
+plain_if (W.Offers c m) h g = refl
+plain_if (W.Awaits c) h g = refl
+plain_if (W.Chooses pri arms) h g = h
+plain_if (W.Joins ns) h g = absurd (g ns refl)
+plain_if W.Halted h g = refl
+plain_if W.Done h g = refl
+plain_if (W.Faulted e) h g = refl
 
 abbrev IsPlain : Effect → Type 0
 IsPlain (Moves to) = ⊤
-IsPlain (Stops place frame wait) = IsTrue (is_plain wait)
+IsPlain (Stops place frame wait) = IsTrue (is_unchosen wait)
 IsPlain Stuck = ⊤
 
 plain_one : (st : List ℤ) (f : ℤ → List ℤ → Effect) → ((v : ℤ) (rest : List ℤ) → IsPlain (f v rest)) → IsPlain (with_one st f)
@@ -68,20 +93,24 @@ plain_act (Some (M.Pass slot index skip)) pc st q sp f = tt
 plain_act (Some (M.LoopBack back)) pc st q sp f = refl
 plain_act (Some (M.Send tag)) pc st q sp f = plain_one st _ (λ v rest. refl)
 plain_act (Some M.Receive) pc st q sp f = plain_one st _ (λ v rest. refl)
+plain_act (Some (M.Fork ns)) pc st q sp f = refl
 plain_act (Some M.Halt) pc st q sp f = refl
 plain_act (Some M.End) pc st q sp f = refl
 
 plain_effect : (code : List Instruction) (a : Point) → IsPlain (effect by_place code a)
 plain_effect code (point pc st q sp f) = plain_act (slice_get code pc) pc st q sp f
 
-plain_single : {code : List Instruction} {a b : Task} → SingleStop by_place code a b → IsTrue (is_plain b.wait)
+plain_single : {code : List Instruction} {a b : Task} → SingleStop by_place code a b → IsTrue (is_unchosen b.wait)
 plain_single {code = code} s =
-    let plain : IsTrue (is_plain s.wait) = subst IsPlain s.stops (plain_effect code s.last) in
-    subst (λ t. IsTrue (is_plain t.wait)) (sym s.comes_to) plain
+    let plain : IsTrue (is_unchosen s.wait) = subst IsPlain s.stops (plain_effect code s.last) in
+    subst (λ t. IsTrue (is_unchosen t.wait)) (sym s.comes_to) plain
 
-plain_stops : {code : List Instruction} {q : ℕ} {a b : Task} → StopsIn by_place code q a b → IsTrue (is_plain b.wait)
+plain_stops : {code : List Instruction} {q : ℕ} {a b : Task} → StopsIn by_place code q a b → IsTrue (is_unchosen b.wait)
 plain_stops (stops_here s h) = plain_single s
 plain_stops (passes_on s h r) = plain_stops r
 
-pub plain_turn : (body : Body) (a b : Task) → Stopping body a b → IsTrue (is_plain b.wait)
-plain_turn body a b h = subst (λ t. IsTrue (is_plain t.wait)) (sym h.counts) (plain_stops h.stops)
+unchosen_turn : (body : Body) (a b : Task) → Stopping body a b → IsTrue (is_unchosen b.wait)
+unchosen_turn body a b h = subst (λ t. IsTrue (is_unchosen t.wait)) (sym h.counts) (plain_stops h.stops)
+
+pub plain_turn : (body : Body) (a b : Task) → Stopping body a b → ((ns : List ℕ) → b.wait ≡ W.Joins ns → ⊥) → IsTrue (is_plain b.wait)
+plain_turn body a b h g = plain_if b.wait (unchosen_turn body a b h) g

@@ -14,11 +14,11 @@ use Rattle.occ_net.specs.declared.choice.Choice.{Choice}
 use Rattle.occ_play.specs.declared.network.Network.{Network}
 use Rattle.occ_play.specs.declared.running.Outcome.{Outcome}
 use Rattle.occ_proc.specs.Turns.{HasStop}
-use Rattle.occ_play.specs.Network.{Holds, TurnsTo, communication_of}
+use Rattle.occ_play.specs.Network.{Holds, NeverForks, TurnsTo, communication_of}
 use Rattle.occ_net.specs.Replay.{Net, begins, goes_on, first_net, first_task, at_start, ending_of, first_fault, main_done, ready_from, ending_by, may_go, selected, OneTurn}
 use Rattle.occ_net.specs.Following.{AreBytes, or_limit}
 use Rattle.occ_play.specs.Outcomes.{Begins, HasOneProcess, HasReplayed, IsOutcome, ending_at}
-use Rattle.occ_net.proofs.Law.{ready_tasks_stop}
+use Rattle.occ_net.proofs.Law.{one_never_forks_is, ready_tasks_stop}
 
 -- ---- the body of the one process
 
@@ -89,6 +89,10 @@ pub may_stop : (p : Program) (kb : List ℕ) (cs : List Choice) (body : Body) (n
 may_stop p kb cs body n w bytes has small open_end h =
     let x = ready_tasks_stop w.source p body.quantum kb cs h.net 0 body n.task w.well_formed w.lawful w.compiled (subst (All (λ b. b.quantum ≡ body.quantum)) (sym (body_is p body w has)) (alone body)) bytes small h.replays has (ap (λ ts. slice_get ts 0) h.holds.tasks) (goes_if n.task.wait open_end) in
     record { after = x.0; stops = x.1 }
+
+pub may_not_fork : (p : Program) (kb : List ℕ) (cs : List Choice) (body : Body) (n : Network) → HasOneProcess p → AreBytes kb → slice_get p.bodies 0 ≡ Some body → 1 + length cs < 2 ^ 64 → ending_at n.task.wait ≡ None → HasReplayed p kb cs n → NeverForks body n.task
+may_not_fork p kb cs body n w bytes has small open_end h after ns stops waits =
+    one_never_forks_is w.source p body.quantum kb cs h.net 0 body n.task after ns w.well_formed w.lawful w.compiled (subst (All (λ b. b.quantum ≡ body.quantum)) (sym (body_is p body w has)) (alone body)) bytes small h.replays (body_is p body w has) (ap (λ ts. slice_get ts 0) h.holds.tasks) (goes_if n.task.wait open_end) stops waits
 
 pub outcome : (p : Program) (kb : List ℕ) (list : List Choice) (n : Network) (o : Outcome) → HasReplayed p kb o.choices.items n → o.trace ≡ n.trace → Begins o.choices.items list → o.ending ≡ or_limit (ending_at n.task.wait) → (ending_at n.task.wait ≡ None → o.choices.items ≡ list) → IsOutcome p kb list o
 outcome p kb list n o h t b e w =

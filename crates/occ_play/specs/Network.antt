@@ -50,6 +50,10 @@ is_plain Halted = true
 is_plain Done = true
 is_plain (Faulted e) = true
 
+-- no turn of the task ends at a fork
+abbrev pub NeverForks : Body → Task → Type 0
+NeverForks body t = (after : Task) (ns : List ℕ) → Stopping body t after → after.wait ≡ Joins ns → ⊥
+
 -- what the turn made possible happens
 pub record SettlesTo (bodies : List Body) (pick : ℕ) (keyboard : List ℕ) (new : Network) (net : Net) : Type 0 where
   pub next : Net

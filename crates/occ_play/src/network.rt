@@ -3,7 +3,7 @@ ghost use Rattle.std.specs.Prelude.{◌≡◌, ◌+◌, ◌<◌, ◌^◌, ◌++�
 ghost use Rattle.occ_proc.specs.Turns.{HasStop};
 ghost use Rattle.occ_term.specs.Frames.{zero_frame};
 ghost use Rattle.occ_code.specs.Sequential.Machine as machine;
-ghost use Rattle.occ_play.specs.Network.{Holds, SettlesTo, TurnsTo, byte_on, byte_taken, is_plain, reader_of};
+ghost use Rattle.occ_play.specs.Network.{Holds, NeverForks, SettlesTo, TurnsTo, byte_on, byte_taken, is_plain, reader_of};
 ghost use Rattle.occ_net.specs.Replay.{Net, byte_message, first_task, has_taken};
 ghost use Rattle.occ_play.specs.Outcomes.{ending_at};
 
@@ -79,6 +79,7 @@ impl Network {
         requires small { length body.now.code + 1 < 2 ^ 32 }
         requires counts { self.old.task.turns + 1 < 2 ^ 64 }
         requires stops { HasStop body.now self.old.task }
+        requires alone { NeverForks body.now self.old.task }
         ensures turns_to { OnOk result ((bodies : List machine.Body) (pick : ℕ) (net : Net) → Holds keyboard.now self.old net → TurnsTo bodies pick body.now keyboard.now self.old self.new net) }
         ensures counted { OnOk result (self.new.task.turns ≡ self.old.task.turns + 1) }
     {

@@ -78,6 +78,9 @@ fn answered(
         Ok(code) => code,
         Err(fault) => return Err(PlayFault::Code(fault)),
     };
+    if code.len() != 1 {
+        return Err(PlayFault::Code(CodeFault::Early { line: 1 }));
+    }
     let outcome = run(alloc, &code, keyboard, plan)?;
     let bytes = answer(alloc, &outcome, code.channels(), trace)?;
     let Outcome {

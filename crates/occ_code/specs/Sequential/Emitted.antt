@@ -13,47 +13,6 @@ use Rattle.occ_code.specs.Sequential.Expressions.{expression_code, place_code, i
 use Rattle.occ_code.specs.Sequential.Alike.{DoesAs}
 
 abbrev mutual
-  pub is_sequential : Term → Bool
-  is_sequential Skip = true
-  is_sequential Stop = true
-  is_sequential (Assign ts vs) = true
-  is_sequential (Input c ts) = true
-  is_sequential (Output c tag is) = true
-  is_sequential (VariantInput c vs) = variants_are_sequential vs
-  is_sequential (Seq ts) = are_sequential ts
-  is_sequential (Par bs) = false
-  is_sequential (Alt pri arms) = false
-  is_sequential (If cs) = choices_are_sequential cs
-  is_sequential (Case e os) = options_are_sequential os
-  is_sequential (While e b) = is_sequential b
-  is_sequential (Each r b) = is_sequential b
-  is_sequential (Clear first count) = true
-  is_sequential (Local first value) = true
-
-  pub are_sequential : Terms → Bool
-  are_sequential no_terms = true
-  are_sequential (then_term t ts) = is_sequential t && are_sequential ts
-
-  pub variants_are_sequential : Variants → Bool
-  variants_are_sequential no_variants = true
-  variants_are_sequential (or_variant tag ds ts t vs) = is_sequential t && variants_are_sequential vs
-
-  pub choices_are_sequential : Choices → Bool
-  choices_are_sequential no_choices = true
-  choices_are_sequential (or_choice e t cs) = is_sequential t && choices_are_sequential cs
-  choices_are_sequential (declared_choices d within others) = choices_are_sequential within && choices_are_sequential others
-  choices_are_sequential (each_choice r within others) = choices_are_sequential within && choices_are_sequential others
-
-  pub options_are_sequential : Options → Bool
-  options_are_sequential no_options = true
-  options_are_sequential (or_option constants ds t os) = is_sequential t && options_are_sequential os
-  options_are_sequential (or_else ds t os) = is_sequential t && options_are_sequential os
-
--- without PAR and ALT
-abbrev pub IsSequential : Term → Type 0
-IsSequential t = IsTrue (is_sequential t)
-
-abbrev mutual
   pub has_no_alt : Term → Bool
   has_no_alt Skip = true
   has_no_alt Stop = true

@@ -4,7 +4,7 @@ use Rattle.std.proofs.lemmas.Option.{slice_get_within}
 use Rattle.occ_play.specs.Plans.{choices_of}
 use Rattle.occ_play.specs.Outcomes.{HasReplayed, ending_at}
 use Rattle.occ_net.specs.Following.{or_limit}
-use Rattle.occ_play.proofs.Rerun.{starts, one_more_turn, may_stop, outcome, are_bytes, body_is, body_small, is_there, one_more_used, begins_by, all_used}
+use Rattle.occ_play.proofs.Rerun.{starts, one_more_turn, may_not_fork, may_stop, outcome, are_bytes, body_is, body_small, is_there, one_more_used, begins_by, all_used}
 use Rattle.occ_play.proofs.running.run.Goals as goal
 
 pub unreachable-requires : goal.unreachable-requires
@@ -27,6 +27,11 @@ pub take_turn-requires-clause-stops : goal.take_turn-requires-clause-stops
 take_turn-requires-clause-stops c =
     let small : 1 + length c.loop-ending.choices.items < 2 ^ 64 = search rules in
     may_stop c.args.code.now c.args.keyboard.now c.loop-ending.choices.items _ c.loop-ending.network c.requires (are_bytes c.args.keyboard.now (λ k. (c.type_inv.keyboard k).fits)) (c.in-Some.ensures.some ∙ ap Some (sym c.deref-in-loop-ending.ensures)) small (sym c.ending.ensures ∙ c.in_default-ending.is) c.loop-ending.invariant.replayed
+
+pub take_turn-requires-clause-alone : goal.take_turn-requires-clause-alone
+take_turn-requires-clause-alone c =
+    let small : 1 + length c.loop-ending.choices.items < 2 ^ 64 = search rules in
+    may_not_fork c.args.code.now c.args.keyboard.now c.loop-ending.choices.items _ c.loop-ending.network c.requires (are_bytes c.args.keyboard.now (λ k. (c.type_inv.keyboard k).fits)) (c.in-Some.ensures.some ∙ ap Some (sym c.deref-in-loop-ending.ensures)) small (sym c.ending.ensures ∙ c.in_default-ending.is) c.loop-ending.invariant.replayed
 
 pub loop-ending-smaller : goal.loop-ending-smaller
 loop-ending-smaller c =
