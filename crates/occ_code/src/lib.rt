@@ -9,4 +9,5 @@ pub mod task;
 pub use compiler::{
     Body, Code, CodeFault, Instr, MOST_INSTRUCTIONS, MOST_QUANTUM, compile, compile_for,
 };
+pub use early::early_line;
 pub use task::{Arm, Task, Wait};
