@@ -38,3 +38,6 @@ mod Assigning
 mod Tags
 mod Numbered
 mod Alternatives
+mod AnyPair
+pub mod Meeting
+pub mod Fixing

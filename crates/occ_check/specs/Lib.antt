@@ -12,3 +12,4 @@ pub mod ProgramView
 pub mod Entering
 pub mod Clashing
 pub mod Numbered
+pub mod Meeting

@@ -7,11 +7,11 @@ ghost use Rattle.occ_term.specs.View.{expression_of, place_of, subscripts, targe
 ghost use Rattle.occ_unfolding.specs.Items as meant;
 ghost use Rattle.occ_check.specs.ActionView.{row_at, rows_at};
 ghost use Rattle.occ_check.specs.CallView.{span_of};
-ghost use Rattle.occ_check.specs.Clashing.{any_in_subscripts, reads_any, rows_of, shares};
+ghost use Rattle.occ_check.specs.Clashing.{any_in_subscripts, one_of_clashes, reads_any, rows_of, shares};
 
 use crate::constant::constant_of;
 use crate::known::Evaluated;
-use crate::overlap::{Span, all_components, index_within, meets};
+use crate::overlap::{Span, all_components, index_within, meets, some_meet};
 use occ_term::{Place, Target, TermExpr};
 use std::alloc::{AllocError, Global};
 
@@ -24,7 +24,7 @@ pub(crate) fn some_clash(alloc: Global, targets: &[Target]) -> Result<bool, Allo
     ensures { IfOk result (λ clash. clash ≡ meant.some_clash (rows_at (targets_of targets.now))) }
 {
     let places = places_of(alloc, targets)?;
-    some_places_clash(&places)
+    some_places_clash(alloc, &places)
 }
 
 /// The places of targets, in order.
@@ -44,15 +44,51 @@ fn places_of(alloc: Global, targets: &[Target]) -> Result<Vec<&Place>, AllocErro
     Ok(places)
 }
 
-fn some_places_clash(places: &[&Place]) -> Result<bool, AllocError>
+/// Whether two places clash. Only a place with a subscript that is not constant is compared with each other one: among
+/// those with constant subscripts it is enough whether their parts share a component.
+fn some_places_clash(alloc: Global, places: &[&Place]) -> Result<bool, AllocError>
     ensures { IfOk result (λ clash. clash ≡ meant.some_clash (rows_of places.now)) }
+{
+    let mut varying = Vec::new(alloc);
+    let mut fixed = Vec::new(alloc);
+    for place in places {
+        if are_constant(place.subscripts.as_slice())? {
+            fixed.push(*place)?;
+        } else {
+            varying.push(*place)?;
+        }
+    }
+    if one_clashes(&varying, &fixed)? {
+        return Ok(true);
+    }
+    let parts = parts_named(alloc, &fixed)?;
+    Ok(some_meet(parts))
+}
+
+/// Whether one of the first places clashes with a later one of them or with one of the others.
+fn one_clashes(places: &[&Place], others: &[&Place]) -> Result<bool, AllocError>
+    ensures { IfOk result (λ clash. clash ≡ one_of_clashes (rows_of places.now) (rows_of others.now)) }
 {
     for (index, place) in places.iter().enumerate() {
         if clashes_with_one(place, &places[index + 1..])? {
             return Ok(true);
         }
+        if clashes_with_one(place, others)? {
+            return Ok(true);
+        }
     }
     Ok(false)
+}
+
+/// The parts that places name.
+fn parts_named(alloc: Global, places: &[&Place]) -> Result<Vec<Span>, AllocError>
+    ensures { IfOk result (λ parts. map span_of parts.items ≡ map meant.part_span (rows_of places.now)) }
+{
+    let mut parts = Vec::new(alloc);
+    for place in places {
+        parts.push(span_named(place)?)?;
+    }
+    Ok(parts)
 }
 
 fn clashes_with_one(place: &Place, others: &[&Place]) -> Result<bool, AllocError>

@@ -8,6 +8,7 @@ ghost use Rattle.occ_unfolding.specs.Calls as meant;
 ghost use Rattle.occ_unfolding.specs.Items.{have_common, part_span};
 ghost use Rattle.occ_check.specs.View.{evaluated_of, row_of};
 ghost use Rattle.occ_check.specs.CallView.{span_of};
+ghost use Rattle.occ_check.specs.Meeting.{end_in_turn, ends_before, neighbours_meet};
 ghost use Rattle.occ_check.specs.OpenedView.{pairs_of};
 
 use crate::declaration::Named;
@@ -33,7 +34,7 @@ pub(crate) fn some_overlap(alloc: Global, names: &[Named]) -> Result<bool, Alloc
     ensures { IfOk result (λ overlap. overlap ≡ meant.some_meet (meant.reference_spans (pairs_of names.now))) }
 {
     let spans = reference_spans(alloc, names)?;
-    Ok(some_meet(&spans))
+    Ok(some_meet(spans))
 }
 
 fn reference_spans(alloc: Global, names: &[Named]) -> Result<Vec<Span>, AllocError>
@@ -48,7 +49,62 @@ fn reference_spans(alloc: Global, names: &[Named]) -> Result<Vec<Span>, AllocErr
     Ok(spans)
 }
 
-fn some_meet(spans: &[Span]) -> bool
+/// Whether two of the rows share a cell. Sorted by their first cells they are apart where each ends before the next begins;
+/// else two neighbours share a cell, or there are rows without a cell, and these alone are compared in pairs.
+pub(crate) fn some_meet(mut spans: Vec<Span>) -> bool
+    ensures { result ≡ meant.some_meet (map span_of spans.items) }
+{
+    spans.sort_unstable_by_key(|span| span.first);
+    if stand_apart(&spans) {
+        return false;
+    }
+    if neighbours_meet(&spans) {
+        return true;
+    }
+    some_pair_meets(&spans)
+}
+
+/// Whether each ends before the next one begins.
+fn stand_apart(spans: &[Span]) -> bool
+    ensures { result ≡ end_in_turn (map span_of spans.now) }
+{
+    let mut others = spans;
+    while let Some((span, rest)) = others.split_first() {
+        if let Some(next) = rest.first() {
+            if !ends_before(*span, *next) {
+                return false;
+            }
+        }
+        others = rest;
+    }
+    true
+}
+
+/// Whether the one ends before the other begins.
+fn ends_before(a: Span, b: Span) -> bool
+    ensures { result ≡ ends_before (span_of a) (span_of b) }
+{
+    a.first <= b.first && a.count <= b.first - a.first
+}
+
+/// Whether one shares a cell with the next one.
+fn neighbours_meet(spans: &[Span]) -> bool
+    ensures { result ≡ neighbours_meet (map span_of spans.now) }
+{
+    let mut others = spans;
+    while let Some((span, rest)) = others.split_first() {
+        if let Some(next) = rest.first() {
+            if meets(*span, *next) {
+                return true;
+            }
+        }
+        others = rest;
+    }
+    false
+}
+
+/// Whether two share a cell, pair by pair.
+fn some_pair_meets(spans: &[Span]) -> bool
     ensures { result ≡ meant.some_meet (map span_of spans.now) }
 {
     let mut others = spans;
