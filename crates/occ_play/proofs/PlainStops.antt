@@ -1,5 +1,5 @@
 -- No code chooses among alternatives yet: a stop that waits for no branches waits for one message at most.
-use Rattle.std.proofs.Common.{ℕ, ℤ, IsTrue, List, [], ◌∷◌, Option, Some, None, refl, sym, subst}
+use Rattle.std.proofs.Common.{◌≡◌, Bool, true, false, ℕ, ℤ, IsTrue, List, [], ◌∷◌, Option, Some, None, refl, sym, subst}
 use Rattle.std.specs.Prelude.{slice_get, ⊤}
 use Rattle.occ_term.specs.Frames.{Variables}
 use Rattle.occ_term.specs.Storing.{Spot}
