@@ -1,5 +1,5 @@
 -- The answer of an outcome is shown by a run of the source.
-use Rattle.std.proofs.Common.{inl, inr, ◌≡◌, ◌∙◌, ◌<◌, ◌^◌, ℕ, ℤ, List, [], ◌∷◌, ◌++◌, Option, Some, None, Bool, true, false, ◌&&◌, IsTrue, length, map, refl, sym, ap, subst, arith}
+use Rattle.std.proofs.Common.{inl, inr, ◌≡◌, ◌∙◌, ◌<◌, ◌^◌, ℕ, ℤ, List, [], ◌∷◌, ◌++◌, Option, Some, None, Bool, true, false, IsTrue, length, map, refl, sym, ap, subst, arith}
 use Rattle.std.specs.Prelude.{All, if◌then◌else◌, nat_eq, slice_get}
 use Rattle.std.proofs.lemmas.Bool.{eq-eqb}
 use Rattle.occ_term.specs.Messages.{Fits, FitsAfter, is_of, message, parts_after}

@@ -5,6 +5,7 @@ use occ_parse::parse;
 use occ_term::{Checked, check_usage};
 use occ_text::read_lines;
 use std::alloc::{AllocError, Global};
+use std::process::Abort;
 use std::test::Fail;
 
 /// The body of `main` below its first line, the quantum, and what comes of it.
@@ -157,22 +158,28 @@ fn first_branches(code: &Code, number: usize) -> &[u32] {
     }
 }
 
+/// The code of the program with branches in a branch, where there is one.
+fn nested_code(alloc: Global) -> Option<Code> {
+    let checked = accepted(alloc, NESTED)?;
+    compile_for(alloc, &checked, 1).ok()
+}
+
+fn check_nested(rt: &impl Abort, code: &Code) {
+    assert_eq!(rt; code.len(), 5);
+    assert_eq!(rt; instructions_in(code, 0), 2);
+    assert_eq!(rt; instructions_in(code, 1), 5);
+    assert_eq!(rt; instructions_in(code, 2), 2);
+    assert_eq!(rt; instructions_in(code, 3), 1);
+    assert_eq!(rt; instructions_in(code, 4), 2);
+    assert!(rt; matches!(first_branches(code, 0), [1, 2]));
+    assert!(rt; matches!(first_branches(code, 2), [3, 4]));
+}
+
 #[test]
 fn each_branch_has_its_body(rt: HostRuntime) -> Result<(), Fail> {
-    let alloc = rt.alloc();
-    let Some(checked) = accepted(alloc, NESTED) else {
-        assert!(rt; false, "refused");
-        return Ok(());
-    };
-    let Ok(code) = compile_for(alloc, &checked, 1) else {
-        assert!(rt; false, "no code");
-        return Ok(());
-    };
-    assert_eq!(rt; code.len(), 5);
-    for (number, count) in [2, 5, 2, 1, 2].iter().enumerate() {
-        assert_eq!(rt; instructions_in(&code, number), *count);
+    match nested_code(rt.alloc()) {
+        Some(code) => check_nested(&rt, &code),
+        None => assert!(rt; false, "no code"),
     }
-    assert!(rt; matches!(first_branches(&code, 0), [1, 2]));
-    assert!(rt; matches!(first_branches(&code, 2), [3, 4]));
     Ok(())
 }

@@ -1,6 +1,6 @@
 //! The layers below a run: the lines of a text, the usage check, and the code of a program.
 use crate::unfolded::{empty_par, letter, stops};
-use occ_code::{CodeFault, Instr, MOST_INSTRUCTIONS, compile};
+use occ_code::{Code, CodeFault, Instr, MOST_INSTRUCTIONS, compile};
 use occ_term::{Checked, Item, Primitive, Protocol, Term, TermExpr, Unfolded, check_usage};
 use occ_text::{Sym, Token, read_lines};
 use std::alloc::Global;
@@ -73,23 +73,28 @@ fn lawful_programs_are_accepted(rt: HostRuntime) -> Result<(), Fail> {
     Ok(())
 }
 
+/// The code of a program that keeps the usage rules.
+fn code_of(alloc: Global, unfolded: Unfolded) -> Option<Code> {
+    let checked = lawful(alloc, unfolded)?;
+    compile(alloc, &checked).ok()
+}
+
+/// Whether the code is one body, which ends at once.
+fn only_ends(code: &Code) -> bool {
+    match code.body(0) {
+        Some(body) => code.len() == 1 && matches!(body.code(), [Instr::End]),
+        None => false,
+    }
+}
+
 #[test]
 fn par_of_no_branches_only_ends(rt: HostRuntime) -> Result<(), Fail> {
     let alloc = rt.alloc();
-    let Some(checked) = lawful(alloc, empty_par(alloc)?) else {
-        assert!(rt; false, "refused");
-        return Ok(());
-    };
-    let Ok(code) = compile(alloc, &checked) else {
-        assert!(rt; false, "no code");
-        return Ok(());
-    };
-    assert_eq!(rt; code.len(), 1);
-    let Some(body) = code.body(0) else {
-        assert!(rt; false, "no body");
-        return Ok(());
-    };
-    assert!(rt; matches!(body.code(), [Instr::End]));
+    let unfolded = empty_par(alloc)?;
+    match code_of(alloc, unfolded) {
+        Some(code) => assert!(rt; only_ends(&code)),
+        None => assert!(rt; false, "no code"),
+    }
     Ok(())
 }
 

@@ -127,7 +127,7 @@ fn turns_go_to_the_stop(rt: HostRuntime) -> Result<(), Fail> {
     let alloc = rt.alloc();
     for row in TURNS.iter() {
         let source = format!(in alloc; "PROC main (CHAN OF BYTE keyboard, screen)\n{}:\n", row.0)?;
-        let checked = accepted(alloc, source.as_bytes()).unwrap();
+        let checked = accepted(alloc, source.as_bytes()).expect(&rt, "refused");
         let after = format!(in alloc; "{} {} 1", row.2, row.3)?;
         let both = format!(in alloc; "0 true 0, {after}")?;
         let copied = shown_on_a_copy(alloc, &checked, row.1)?;
