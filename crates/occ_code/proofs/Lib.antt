@@ -1,3 +1,4 @@
+mod NamedCells
 mod SequentialPlaces
 mod SequentialExpressions
 mod SequentialItems

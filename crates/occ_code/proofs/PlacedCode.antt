@@ -1,21 +1,23 @@
 -- Code that names cells by their places does what it does by their numbers, from any frame of the cells.
-use Rattle.std.specs.Prelude.{if◌then◌else◌, map, nat_abs, nat_eq, option_map, pos, replicate, slice_get, slice_set, unwrap_or, ⊤, ◌+ℤ◌}
-use Rattle.std.proofs.Common.{◌≡◌, ◌∙◌, refl, ap, sym, subst, ℕ, zero, suc, ◌+◌, ℤ, Bool, true, false, Option, Some, None, List, [], ◌∷◌, length, get_or, arith}
+use Rattle.std.specs.Prelude.{All, if◌then◌else◌, map, nat_abs, nat_eq, nat_lt, option_map, pos, replicate, slice_get, slice_set, unwrap_or, ⊤, ◌+ℤ◌, ◌||◌}
+use Rattle.std.proofs.Common.{IsTrue, ◌<◌, ◌≤◌, ◌≡◌, ◌∙◌, refl, ap, sym, subst, ℕ, zero, suc, ◌+◌, ℤ, Bool, true, false, Option, Some, None, List, [], ◌∷◌, length, get_or, arith}
 use Rattle.std.proofs.lemmas.List.{get_or_past, set_past}
-use Rattle.std.proofs.lemmas.Option.{slice_get-map}
+use Rattle.std.proofs.lemmas.Option.{slice_get-map, slice_get-get_or, slice_get_past}
+use Rattle.std.proofs.lemmas.Bool.Decides.{nat_tests}
 use Rattle.occ_term.specs.declared.message.Part.{Part}
 use Rattle.occ_term.specs.Values.{Evaluated, Value, Fails, holds}
 use Rattle.occ_term.specs.Storing.{Spot, Outcome, Gives, Faults, Nothing, Indices, indices, values_in}
 use Rattle.occ_term.specs.Selecting.{is_among}
-use Rattle.occ_term.specs.Frames.{Variables, at, in_place, with_place, place_among, place_in, value_at}
+use Rattle.occ_term.specs.Frames.{Variables, at, in_place, with_place, place_among, place_in, value_at, is_held}
 use Rattle.occ_term.proofs.FrameWrites.{read_at, write_at, value_by, with_by}
 use Rattle.occ_code.specs.Alike.{Frames}
 use Rattle.occ_code.specs.declared.task.Task.{Task}
 use Rattle.occ_code.specs.declared.task.Wait.{Wait}
 use Rattle.occ_code.specs.declared.task.Wait.TheVariants.{Ready, Took, Offers, Awaits, Chooses, Joins, Halted, Done, Faulted}
-use Rattle.occ_code.specs.Sequential.Machine.{by_cell, by_place, placed, Instruction, Push, Load, LoadAt, LoadLetter, Subscript, Operate, OperateOne, ConvertTo, AndThen, OrElse, PartOne, PartMany, PartText, PartCounted, PartCountedText, SpotOne, SpotCounted, StoreParts, StoreNamed, StoreOne, ClearCells, Jump, Choose, IfAmong, IfTag, DropOne, CountedFrom, NextChoice, BackToChoice, Begin, Pass, LoopBack, Send, Receive, Fork, Halt, End, Point, point, Effect, Moves, Stops, Stuck, with_one, with_two, going, going_stored, act, effect, Walks, here, on, begins_at, SingleStop, StopsIn, stops_here, passes_on, turning, begun, passed, next_choice, tag_step, last_part, named_from, Stored, Stays, Refused, frame_with, frame_from, frame_parts, values_with, with_counter, counter_at, kept_as}
+use Rattle.occ_code.specs.Sequential.Machine.{by_cell, by_place, NamesWithin, placed, counters_with, Instruction, Push, Load, LoadAt, LoadLetter, Subscript, Operate, OperateOne, ConvertTo, AndThen, OrElse, PartOne, PartMany, PartText, PartCounted, PartCountedText, SpotOne, SpotCounted, StoreParts, StoreNamed, StoreOne, ClearCells, Jump, Choose, IfAmong, IfTag, DropOne, CountedFrom, NextChoice, BackToChoice, Begin, Pass, LoopBack, Send, Receive, Fork, Halt, End, Point, point, Effect, Moves, Stops, Stuck, with_one, with_two, going, going_stored, act, effect, Walks, here, on, begins_at, SingleStop, StopsIn, stops_here, passes_on, turning, begun, passed, next_choice, tag_step, last_part, named_from, Stored, Stays, Refused, frame_with, frame_from, frame_parts, values_with, with_counter, counter_at, kept_as}
 use Rattle.occ_code.specs.Sequential.Laws.{PlacesDo}
-use Rattle.occ_code.proofs.SequentialFrames.{HoldsAs, one_held, row_held, parts_held, StoresAs, stored_frame, frame_of}
+use Rattle.occ_code.proofs.SequentialFrames.{HoldsAs, one_held, row_held, parts_held, StoresAs, stored_frame, frame_of, row_left, parts_left}
+use Rattle.occ_code.proofs.SequentialCounters.{length-counters_with}
 
 -- ---- what an instruction does
 
@@ -27,7 +29,25 @@ write_same : (cells : List ℕ) (vs : List ℤ) (o : Option ℕ) (v : ℤ) → l
 write_same cells vs None v h = sym (set_past vs (length cells) v (omega (arith, h)))
 write_same cells vs (Some i) v h = refl
 
-module _ (cells : List ℕ) where
+-- ---- places and slots that there are
+
+more : (o : Option ℕ) (n m : ℕ) → unwrap_or o n < m → unwrap_or (option_map suc o) n < suc m
+more None n m h = omega (arith, h)
+more (Some i) n m h = omega (arith, h)
+
+-- a cell that is held has a place
+place_below : (xs : List ℕ) (c n : ℕ) → IsTrue (is_held xs c) → unwrap_or (place_in xs c) n < length xs
+place_below [] c n h = absurd cc
+place_below (x ∷ xs) c n h = by_test (nat_eq x c) (λ e. place_below xs c n e) h
+  where
+    by_test : (b : Bool) → (IsTrue (is_held xs c) → unwrap_or (place_in xs c) n < length xs) → IsTrue (b || is_held xs c) → unwrap_or (if b then Some 0 else option_map suc (place_in xs c)) n < suc (length xs)
+    by_test true k m = omega arith
+    by_test false k m = more (place_in xs c) n (length xs) (k m)
+
+below_true : (n m : ℕ) → n < m → nat_lt n m ≡ true
+below_true n m h = grind (arith, nat_tests)
+
+module _ (cells : List ℕ) (loops : ℕ) where
   named_same : (f : Variables) (c : ℕ) → Frames cells f → at f c ≡ in_place f (place_among cells c)
   named_same f c h =
       ap (λ xs. value_at xs f.values c) h.cells_are ∙ value_by cells f.values c ∙ read_same cells f.values (place_in cells c) h.values_for_all
@@ -55,69 +75,94 @@ module _ (cells : List ℕ) where
   chosen_same zero v pc index skip st q sp f h = refl
   chosen_same (suc n) v pc index skip st q sp f h = ap (point (pc + 1) (pos n ∷ (v +ℤ pos 1) ∷ st) q sp) (with_same f index v h)
 
-  act_same : (o : Option Instruction) (pc : ℕ) (st : List ℤ) (q : List Part) (sp : List Spot) (f : Variables) → Frames cells f → act by_cell o pc st q sp f ≡ act by_place (option_map (placed cells) o) pc st q sp f
-  act_same None pc st q sp f h = refl
-  act_same (Some (Push v)) pc st q sp f h = refl
-  act_same (Some (Load c)) pc st q sp f h = ap (λ v. Moves (point (pc + 1) (v ∷ st) q sp f)) (named_same f c h)
-  act_same (Some LoadAt) pc st q sp f h = refl
-  act_same (Some (LoadLetter line text)) pc st q sp f h = refl
-  act_same (Some (Subscript line size stride)) pc st q sp f h = refl
-  act_same (Some (Operate operator type line)) pc st q sp f h = refl
-  act_same (Some (OperateOne operator type line)) pc st q sp f h = refl
-  act_same (Some (ConvertTo to line)) pc st q sp f h = refl
-  act_same (Some (AndThen skip)) pc st q sp f h = refl
-  act_same (Some (OrElse skip)) pc st q sp f h = refl
-  act_same (Some (PartOne type)) pc st q sp f h = refl
-  act_same (Some (PartMany type count)) pc st q sp f h = refl
-  act_same (Some (PartText type bytes)) pc st q sp f h = refl
-  act_same (Some (PartCounted type line count)) pc st q sp f h = refl
-  act_same (Some (PartCountedText type line bytes)) pc st q sp f h = refl
-  act_same (Some (SpotOne count)) pc st q sp f h = refl
-  act_same (Some (SpotCounted line counts components)) pc st q sp f h = refl
-  act_same (Some StoreParts) pc st q sp f h = refl
-  act_same (Some (StoreNamed first)) pc st q sp f h = refl
-  act_same (Some (StoreOne c)) pc [] q sp f h = refl
-  act_same (Some (StoreOne c)) pc (v ∷ st) q sp f h = ap (λ g. Moves (point (pc + 1) st q sp g)) (with_same f c v h)
-  act_same (Some (ClearCells first count)) pc st q sp f h = refl
-  act_same (Some (Jump skip)) pc st q sp f h = refl
-  act_same (Some (Choose skip)) pc st q sp f h = refl
-  act_same (Some (IfAmong constants skip)) pc st q sp f h = refl
-  act_same (Some (IfTag tag skip)) pc st q sp f h = refl
-  act_same (Some DropOne) pc st q sp f h = refl
-  act_same (Some (CountedFrom line)) pc st q sp f h = refl
-  act_same (Some (NextChoice c skip)) pc [] q sp f h = refl
-  act_same (Some (NextChoice c skip)) pc (n ∷ []) q sp f h = refl
-  act_same (Some (NextChoice c skip)) pc (n ∷ v ∷ st) q sp f h = ap Moves (chosen_same (nat_abs n) v pc c skip st q sp f h)
-  act_same (Some (BackToChoice back)) pc st q sp f h = refl
-  act_same (Some (Begin slot c skip)) pc [] q sp f h = refl
-  act_same (Some (Begin slot c skip)) pc (n ∷ []) q sp f h = refl
-  act_same (Some (Begin slot c skip)) pc (n ∷ b ∷ st) q sp f h = ap Moves (begun_same (indices b (nat_abs n)) pc slot c skip st q sp f h)
-  act_same (Some (Pass slot c skip)) pc st q sp f h = ap Moves (passed_same (counter_at f.left slot) pc slot c skip st q sp f h)
-  act_same (Some (LoopBack back)) pc st q sp f h = refl
-  act_same (Some (Send tag)) pc st q sp f h = refl
-  act_same (Some Receive) pc st q sp f h = refl
-  act_same (Some (Fork ns)) pc st q sp f h = refl
-  act_same (Some Halt) pc st q sp f h = refl
-  act_same (Some End) pc st q sp f h = refl
+  -- a frame of the cells, with so many counters
+  abbrev Shaped : Variables → Type 0
+  Shaped f = Frames cells f × (length f.left ≡ loops)
+
+  abbrev Within : Option Instruction → Type 0
+  Within None = ⊤
+  Within (Some i) = NamesWithin cells loops i
+
+  is_place : (f : Variables) (c : ℕ) → Shaped f → IsTrue (is_held cells c) → nat_lt (place_among cells c) (length f.values) ≡ true
+  is_place f c h k =
+      let inside : place_among cells c < length cells = place_below cells c (length cells) k in
+      let as_long : length f.values ≡ length cells = h.0.values_for_all in
+      let lies : place_among cells c < length f.values = omega (arith, inside, as_long) in
+      below_true (place_among cells c) (length f.values) lies
+
+  is_slot : (f : Variables) (slot : ℕ) → Shaped f → slot + 1 < loops → nat_lt (slot + 1) (length f.left) ≡ true
+  is_slot f slot h k =
+      let as_many : length f.left ≡ loops = h.1 in
+      let lies : slot + 1 < length f.left = omega (arith, k, as_many) in
+      below_true (slot + 1) (length f.left) lies
+
+  act_same : (o : Option Instruction) (pc : ℕ) (st : List ℤ) (q : List Part) (sp : List Spot) (f : Variables) → Shaped f → Within o → act by_cell o pc st q sp f ≡ act by_place (option_map (placed cells) o) pc st q sp f
+  act_same None pc st q sp f h k = refl
+  act_same (Some (Push v)) pc st q sp f h k = refl
+  act_same (Some (Load c)) pc st q sp f h k = let there = is_place f c h k in rw there (ap (λ v. Moves (point (pc + 1) (v ∷ st) q sp f)) (named_same f c h.0))
+  act_same (Some LoadAt) pc st q sp f h k = refl
+  act_same (Some (LoadLetter line text)) pc st q sp f h k = refl
+  act_same (Some (Subscript line size stride)) pc st q sp f h k = refl
+  act_same (Some (Operate operator type line)) pc st q sp f h k = refl
+  act_same (Some (OperateOne operator type line)) pc st q sp f h k = refl
+  act_same (Some (ConvertTo to line)) pc st q sp f h k = refl
+  act_same (Some (AndThen skip)) pc st q sp f h k = refl
+  act_same (Some (OrElse skip)) pc st q sp f h k = refl
+  act_same (Some (PartOne type)) pc st q sp f h k = refl
+  act_same (Some (PartMany type count)) pc st q sp f h k = refl
+  act_same (Some (PartText type bytes)) pc st q sp f h k = refl
+  act_same (Some (PartCounted type line count)) pc st q sp f h k = refl
+  act_same (Some (PartCountedText type line bytes)) pc st q sp f h k = refl
+  act_same (Some (SpotOne count)) pc st q sp f h k = refl
+  act_same (Some (SpotCounted line counts components)) pc st q sp f h k = refl
+  act_same (Some StoreParts) pc st q sp f h k = refl
+  act_same (Some (StoreNamed first)) pc st q sp f h k = refl
+  act_same (Some (StoreOne c)) pc [] q sp f h k = refl
+  act_same (Some (StoreOne c)) pc (v ∷ st) q sp f h k = let there = is_place f c h k in rw there (ap (λ g. Moves (point (pc + 1) st q sp g)) (with_same f c v h.0))
+  act_same (Some (ClearCells first count)) pc st q sp f h k = refl
+  act_same (Some (Jump skip)) pc st q sp f h k = refl
+  act_same (Some (Choose skip)) pc st q sp f h k = refl
+  act_same (Some (IfAmong constants skip)) pc st q sp f h k = refl
+  act_same (Some (IfTag tag skip)) pc st q sp f h k = refl
+  act_same (Some DropOne) pc st q sp f h k = refl
+  act_same (Some (CountedFrom line)) pc st q sp f h k = refl
+  act_same (Some (NextChoice c skip)) pc [] q sp f h k = refl
+  act_same (Some (NextChoice c skip)) pc (n ∷ []) q sp f h k = refl
+  act_same (Some (NextChoice c skip)) pc (n ∷ v ∷ st) q sp f h k = let there = is_place f c h k in rw there (ap Moves (chosen_same (nat_abs n) v pc c skip st q sp f h.0))
+  act_same (Some (BackToChoice back)) pc st q sp f h k = refl
+  act_same (Some (Begin slot c skip)) pc [] q sp f h k = refl
+  act_same (Some (Begin slot c skip)) pc (n ∷ []) q sp f h k = refl
+  act_same (Some (Begin slot c skip)) pc (n ∷ b ∷ st) q sp f h k = let there = is_place f c h k.0 in let room = is_slot f slot h k.1 in rw (there, room) (ap Moves (begun_same (indices b (nat_abs n)) pc slot c skip st q sp f h.0))
+  act_same (Some (Pass slot c skip)) pc st q sp f h k = let there = is_place f c h k.0 in let room = is_slot f slot h k.1 in rw (there, room) (ap Moves (passed_same (counter_at f.left slot) pc slot c skip st q sp f h.0))
+  act_same (Some (LoopBack back)) pc st q sp f h k = refl
+  act_same (Some (Send tag)) pc st q sp f h k = refl
+  act_same (Some Receive) pc st q sp f h k = refl
+  act_same (Some (Fork ns)) pc st q sp f h k = refl
+  act_same (Some Halt) pc st q sp f h k = refl
+  act_same (Some End) pc st q sp f h k = refl
 
   -- ---- the frame's cells stay
 
   abbrev Shapes : Effect → Type 0
-  Shapes (Moves b) = Frames cells (frame_of b)
-  Shapes (Stops pc f w) = Frames cells f
+  Shapes (Moves b) = Shaped (frame_of b)
+  Shapes (Stops pc f w) = Shaped f
   Shapes Stuck = ⊤
 
   as_itself : (f : Variables) → Frames cells f → HoldsAs cells f (at f)
   as_itself f h = record { shape = h; same = λ c m. refl }
 
-  with_shape : (f : Variables) (c : ℕ) (v : ℤ) → Frames cells f → Frames cells (frame_with f c v)
-  with_shape f c v h = (one_held cells f (at f) c v (as_itself f h)).shape
+  with_shape : (f : Variables) (c : ℕ) (v : ℤ) → Shaped f → Shaped (frame_with f c v)
+  with_shape f c v h = ((one_held cells f (at f) c v (as_itself f h.0)).shape, h.1)
 
-  row_shape : (first : ℕ) (vs : List ℤ) (f : Variables) → Frames cells f → Frames cells (frame_from first vs f)
-  row_shape first vs f h = (row_held cells vs first f (at f) (as_itself f h)).shape
+  row_shape : (first : ℕ) (vs : List ℤ) (f : Variables) → Shaped f → Shaped (frame_from first vs f)
+  row_shape first vs f h = ((row_held cells vs first f (at f) (as_itself f h.0)).shape, ap length (row_left vs first f) ∙ h.1)
 
-  turning_shape : (f : Variables) (slot index n : ℕ) (v : ℤ) → Frames cells f → Frames cells (turning by_cell f slot index n v)
-  turning_shape f slot index n v h = let r = with_shape f index v h in record { cells_are = r.cells_are; values_for_all = r.values_for_all }
+  turning_shape : (f : Variables) (slot index n : ℕ) (v : ℤ) → Shaped f → Shaped (turning by_cell f slot index n v)
+  turning_shape f slot index n v h =
+      let r = with_shape f index v h in (
+        record { cells_are = r.0.cells_are; values_for_all = r.0.values_for_all },
+        length-counters_with (counters_with f.left slot n) (slot + 1) (kept_as v) ∙ length-counters_with f.left slot n ∙ r.1,
+      )
 
   stored_shape : (a : Stored) (o : Outcome Nothing) → StoresAs cells a o → Frames cells (stored_frame a)
   stored_shape (Stays f) (Gives x s) h = h.shape
@@ -125,10 +170,10 @@ module _ (cells : List ℕ) where
   stored_shape (Refused e f) (Gives x s) h = absurd h
   stored_shape (Refused e f) (Faults e' s) h = h.1.shape
 
-  parts_shape : (xs : List Spot) (ps : List Part) (f : Variables) → Frames cells f → Frames cells (stored_frame (frame_parts xs ps f))
-  parts_shape xs ps f h = stored_shape (frame_parts xs ps f) _ (parts_held cells xs ps f (at f) (as_itself f h))
+  parts_shape : (xs : List Spot) (ps : List Part) (f : Variables) → Shaped f → Shaped (stored_frame (frame_parts xs ps f))
+  parts_shape xs ps f h = (stored_shape (frame_parts xs ps f) _ (parts_held cells xs ps f (at f) (as_itself f h.0)), ap length (parts_left xs ps f) ∙ h.1)
 
-  named_shape : (first : ℕ) (o : Option Part) (f : Variables) → Frames cells f → Frames cells (named_from first o f)
+  named_shape : (first : ℕ) (o : Option Part) (f : Variables) → Shaped f → Shaped (named_from first o f)
   named_shape first None f h = h
   named_shape first (Some p) f h = row_shape first (values_in p) f h
 
@@ -141,35 +186,35 @@ module _ (cells : List ℕ) where
   two_shapes (v ∷ []) g k = tt
   two_shapes (v ∷ w ∷ st) g k = k v w st
 
-  going_shapes : {X : Type 0} (pc : ℕ) (f : Variables) (v : Evaluated X) (to : X → Point) → Frames cells f → ((x : X) → Frames cells (frame_of (to x))) → Shapes (going pc f v to)
+  going_shapes : {X : Type 0} (pc : ℕ) (f : Variables) (v : Evaluated X) (to : X → Point) → Shaped f → ((x : X) → Shaped (frame_of (to x))) → Shapes (going pc f v to)
   going_shapes pc f (Value x) to h k = k x
   going_shapes pc f (Fails e) to h k = h
 
-  stored_shapes : (pc : ℕ) (a : Stored) (to : Variables → Point) → Frames cells (stored_frame a) → ((g : Variables) → Frames cells g → Frames cells (frame_of (to g))) → Shapes (going_stored pc a to)
+  stored_shapes : (pc : ℕ) (a : Stored) (to : Variables → Point) → Shaped (stored_frame a) → ((g : Variables) → Shaped g → Shaped (frame_of (to g))) → Shapes (going_stored pc a to)
   stored_shapes pc (Stays f) to h k = k f h
   stored_shapes pc (Refused e f) to h k = h
 
-  either_shape : (b : Bool) (x y : Point) → Frames cells (frame_of x) → Frames cells (frame_of y) → Frames cells (frame_of (if b then x else y))
+  either_shape : (b : Bool) (x y : Point) → Shaped (frame_of x) → Shaped (frame_of y) → Shaped (frame_of (if b then x else y))
   either_shape true x y h k = h
   either_shape false x y h k = k
 
-  begun_shape : (is : Indices) (pc slot index skip : ℕ) (st : List ℤ) (q : List Part) (sp : List Spot) (f : Variables) → Frames cells f → Frames cells (frame_of (begun by_cell is pc slot index skip st q sp f))
+  begun_shape : (is : Indices) (pc slot index skip : ℕ) (st : List ℤ) (q : List Part) (sp : List Spot) (f : Variables) → Shaped f → Shaped (frame_of (begun by_cell is pc slot index skip st q sp f))
   begun_shape (indices b zero) pc slot index skip st q sp f h = h
   begun_shape (indices b (suc n)) pc slot index skip st q sp f h = turning_shape f slot index n b h
 
-  passed_shape : (n pc slot index skip : ℕ) (st : List ℤ) (q : List Part) (sp : List Spot) (f : Variables) → Frames cells f → Frames cells (frame_of (passed by_cell n pc slot index skip st q sp f))
+  passed_shape : (n pc slot index skip : ℕ) (st : List ℤ) (q : List Part) (sp : List Spot) (f : Variables) → Shaped f → Shaped (frame_of (passed by_cell n pc slot index skip st q sp f))
   passed_shape zero pc slot index skip st q sp f h = h
   passed_shape (suc n) pc slot index skip st q sp f h = turning_shape f slot index n _ h
 
-  chosen_shape : (n : ℕ) (v : ℤ) (pc index skip : ℕ) (st : List ℤ) (q : List Part) (sp : List Spot) (f : Variables) → Frames cells f → Frames cells (frame_of (next_choice by_cell n v pc index skip st q sp f))
+  chosen_shape : (n : ℕ) (v : ℤ) (pc index skip : ℕ) (st : List ℤ) (q : List Part) (sp : List Spot) (f : Variables) → Shaped f → Shaped (frame_of (next_choice by_cell n v pc index skip st q sp f))
   chosen_shape zero v pc index skip st q sp f h = h
   chosen_shape (suc n) v pc index skip st q sp f h = with_shape f index v h
 
-  tag_shape : (tag skip pc : ℕ) (st : List ℤ) (q : List Part) (sp : List Spot) (f : Variables) → Frames cells f → Frames cells (frame_of (tag_step tag skip pc st q sp f))
+  tag_shape : (tag skip pc : ℕ) (st : List ℤ) (q : List Part) (sp : List Spot) (f : Variables) → Shaped f → Shaped (frame_of (tag_step tag skip pc st q sp f))
   tag_shape tag skip pc [] q sp f h = h
   tag_shape tag skip pc (v ∷ st) q sp f h = either_shape (nat_eq (nat_abs v) tag) _ _ h h
 
-  act_shapes : (o : Option Instruction) (pc : ℕ) (st : List ℤ) (q : List Part) (sp : List Spot) (f : Variables) → Frames cells f → Shapes (act by_cell o pc st q sp f)
+  act_shapes : (o : Option Instruction) (pc : ℕ) (st : List ℤ) (q : List Part) (sp : List Spot) (f : Variables) → Shaped f → Shapes (act by_cell o pc st q sp f)
   act_shapes None pc st q sp f h = tt
   act_shapes (Some (Push v)) pc st q sp f h = h
   act_shapes (Some (Load c)) pc st q sp f h = h
@@ -213,9 +258,9 @@ module _ (cells : List ℕ) where
 
   abbrev Begins : Option Point → Type 0
   Begins None = ⊤
-  Begins (Some p) = Frames cells (frame_of p)
+  Begins (Some p) = Shaped (frame_of p)
 
-  begins_shape : (w : Wait) (pc : ℕ) (f : Variables) → Frames cells f → Begins (begins_at w pc f)
+  begins_shape : (w : Wait) (pc : ℕ) (f : Variables) → Shaped f → Begins (begins_at w pc f)
   begins_shape Ready pc f h = h
   begins_shape (Took arm chosen None) pc f h = tt
   begins_shape (Took arm chosen (Some m)) pc f h = h
@@ -227,34 +272,45 @@ module _ (cells : List ℕ) where
   begins_shape Done pc f h = tt
   begins_shape (Faulted e) pc f h = tt
 
-  module _ (code : List Instruction) where
+  module _ (code : List Instruction) (names : All (NamesWithin cells loops) code) where
     abbrev by_places : List Instruction
     by_places = map (placed cells) code
 
-    effect_same : (a : Point) → Frames cells (frame_of a) → effect by_cell code a ≡ effect by_place by_places a
-    effect_same (point pc st q sp f) h = act_same (slice_get code pc) pc st q sp f h ∙ ap (λ o. act by_place o pc st q sp f) (sym (slice_get-map (placed cells) code pc))
+    within_at : (pc : ℕ) → Within (slice_get code pc)
+    within_at pc = by_test (nat_lt pc (length code)) refl
+      where
+        by_test : (b : Bool) → nat_lt pc (length code) ≡ b → Within (slice_get code pc)
+        by_test true e =
+            let inside : pc < length code = grind (arith, nat_tests) in
+            subst Within (sym (slice_get-get_or code pc End inside)) (names pc End inside)
+        by_test false e =
+            let past : length code ≤ pc = grind (arith, nat_tests) in
+            subst Within (sym (slice_get_past code pc past)) tt
 
-    effect_shapes : (a : Point) → Frames cells (frame_of a) → Shapes (effect by_cell code a)
+    effect_same : (a : Point) → Shaped (frame_of a) → effect by_cell code a ≡ effect by_place by_places a
+    effect_same (point pc st q sp f) h = act_same (slice_get code pc) pc st q sp f h (within_at pc) ∙ ap (λ o. act by_place o pc st q sp f) (sym (slice_get-map (placed cells) code pc))
+
+    effect_shapes : (a : Point) → Shaped (frame_of a) → Shapes (effect by_cell code a)
     effect_shapes (point pc st q sp f) h = act_shapes (slice_get code pc) pc st q sp f h
 
-    walks_placed : {a b : Point} → Frames cells (frame_of a) → Walks by_cell code a b → Walks by_place by_places a b × Frames cells (frame_of b)
+    walks_placed : {a b : Point} → Shaped (frame_of a) → Walks by_cell code a b → Walks by_place by_places a b × Shaped (frame_of b)
     walks_placed h here = (here, h)
     walks_placed {a = a} h (on e w) =
         let r = walks_placed (subst Shapes e (effect_shapes a h)) w in
         (on (sym (effect_same a h) ∙ e) r.0, r.1)
 
-    single_placed : {a b : Task} → Frames cells a.frame → SingleStop by_cell code a b → SingleStop by_place by_places a b × Frames cells b.frame
+    single_placed : {a b : Task} → Shaped a.frame → SingleStop by_cell code a b → SingleStop by_place by_places a b × Shaped b.frame
     single_placed {a = a} h x =
         let begins = subst Begins x.begins (begins_shape a.wait a.place a.frame h) in
         let w = walks_placed begins x.walks in
         let shape = subst Shapes x.stops (effect_shapes x.last w.1) in (
           record { first = x.first; last = x.last; place = x.place; frame = x.frame; wait = x.wait; begins = x.begins; walks = w.0; stops = sym (effect_same x.last w.1) ∙ x.stops; comes_to = x.comes_to },
-          subst (λ t. Frames cells t.frame) (sym x.comes_to) shape,
+          subst (λ t. Shaped t.frame) (sym x.comes_to) shape,
         )
 
-    pub stops_placed : {q : ℕ} {a b : Task} → Frames cells a.frame → StopsIn by_cell code q a b → StopsIn by_place by_places q a b
+    pub stops_placed : {q : ℕ} {a b : Task} → Shaped a.frame → StopsIn by_cell code q a b → StopsIn by_place by_places q a b
     stops_placed h (stops_here s k) = stops_here (single_placed h s).0 k
     stops_placed h (passes_on s r rest) = let x = single_placed h s in passes_on x.0 r (stops_placed x.1 rest)
 
 pub places_do : PlacesDo
-places_do cells code q a b h s = stops_placed cells code h s
+places_do cells loops code q a b names h room s = stops_placed cells loops code names (h, room) s

@@ -11,6 +11,7 @@ use Rattle.occ_code.specs.Sequential.Layout.{Ways, stays, jumps, TermAt, TermsAt
 use Rattle.occ_code.specs.Sequential.Emitted.{counters_of, counters_of_terms, counters_of_variants, counters_of_choices, counters_of_options, has_no_alt, have_no_alt, variants_have_no_alt, choices_have_no_alt, options_have_no_alt, term_code, terms_code, variants_code, choices_code, options_code, else_code, whole_code, body_of, CompiledDo}
 use Rattle.occ_code.proofs.SequentialPlaces.{split, place_after}
 use Rattle.occ_code.proofs.SequentialTurns.{bodies_do}
+use Rattle.occ_code.proofs.NamedCells.{whole_names}
 
 pub first_true : (a b : Bool) → IsTrue (a && b) → IsTrue a
 first_true true b h = refl
@@ -188,4 +189,4 @@ compiled_do d t cells writes quantum q typed held written h =
     let code = whole_code t in
     let r = split code 0 (length code) (term_code 0 t) (End ∷ []) (stands_all code []) in
     bodies_do d (body_of t cells writes quantum) t
-    (record { by_cells = code; last = r.0; typed = typed; lays_out = laid code (counters_of t) 0 t 0 r.0 r.0 q (omega arith) r.1 stays; ends_there = r.2.0; code = refl; cells = held; writes = written; quantum = omega (arith, h) })
+    (record { by_cells = code; last = r.0; typed = typed; lays_out = laid code (counters_of t) 0 t 0 r.0 r.0 q (omega arith) r.1 stays; ends_there = r.2.0; names = whole_names t cells held; code = refl; cells = held; writes = written; quantum = omega (arith, h) })

@@ -1,5 +1,5 @@
 -- Every turn of the code of a term is a turn of what is left of it, for any number of turns.
-use Rattle.std.specs.Prelude.{map, slice_get, nat_eq, ◌||◌}
+use Rattle.std.specs.Prelude.{All, map, slice_get, nat_eq, ◌||◌}
 use Rattle.std.proofs.Common.{length, ◌≡◌, ◌∙◌, ℕ, zero, suc, ℤ, pos, ◌+◌, ◌<◌, Bool, true, false, IsTrue, IsFalse, List, [], ◌∷◌, ◌++◌, Option, Some, None, refl, sym, ap, subst, arith, inl, inr}
 use Rattle.std.proofs.lemmas.List.{length-replicate}
 use Rattle.occ_term.specs.declared.primitive.Primitive.{Primitive}
@@ -24,7 +24,7 @@ use Rattle.occ_code.specs.declared.task.Task.{Task}
 use Rattle.occ_code.specs.declared.task.Wait.{Wait}
 use Rattle.occ_code.specs.declared.task.Wait.TheVariants.{Ready, Took, Offers, Awaits, Joins, Halted, Done, Faulted}
 use Rattle.occ_code.specs.Alike.{Agrees, FitsProtocol, SameStop, Lists, numbers_of, used_by}
-use Rattle.occ_code.specs.Sequential.Machine.{by_cell, placed, Body, Instruction, End, Point, point, Stops, act, here, begins_at, SingleStop, StopsIn, stops_here, passes_on, IsReady, counted_turn, tag_stack}
+use Rattle.occ_code.specs.Sequential.Machine.{by_cell, NamesWithin, placed, Body, Instruction, End, Point, point, Stops, act, here, begins_at, SingleStop, StopsIn, stops_here, passes_on, IsReady, counted_turn, tag_stack}
 use Rattle.occ_code.specs.Sequential.Layout.{stays, TermAt, ListAt, LoopAt, ContextsAt}
 use Rattle.occ_code.specs.Sequential.Alike.{SameTurn, Alike, DoesAs, BodiesDo}
 use Rattle.occ_code.proofs.SequentialReads.{or_left}
@@ -336,7 +336,7 @@ module _ (d : Declared) (code : List Instruction) (cells writes : List ℕ) (loo
       let o = one_turn number turns pc f w l h u (begun_turn d code loops_ cells f room x h u) s ag in
       further q number turns pc f w l s o.stands o.frame o.store o.single o.turn o.agrees o.types o.held o.room o.rests (long_turn q number turns)
 
-module _ (d : Declared) (code : List Instruction) (cells writes : List ℕ) (loops_ q : ℕ) where
+module _ (d : Declared) (code : List Instruction) (cells writes : List ℕ) (loops_ q : ℕ) (names : All (NamesWithin cells loops_) code) where
   -- of a quantum above 0
   abbrev the_body : Body
   the_body = record { code = map (placed cells) code; cells = cells; writes = writes; loops = loops_; quantum = suc q }
@@ -371,13 +371,13 @@ module _ (d : Declared) (code : List Instruction) (cells writes : List ℕ) (loo
   same_stop n number turns pc f go room h u (fails k) = (k, refl)
   same_stop n number turns pc f go room h u finished = ([], refl)
 
-  same_turn : (n number turns pc : ℕ) (f : Variables) (w : Wait) (l : Left) (s : Store) → GoesOn n → Agrees d cells f s → LongTurn d code cells writes loops_ (suc q) number turns pc f w l s → SameTurn d the_body (Alike n d the_body) (the_task number turns pc f w) l s
-  same_turn n number turns pc f w l s go ag r =
+  same_turn : (n number turns pc : ℕ) (f : Variables) (w : Wait) (l : Left) (s : Store) → GoesOn n → length f.left ≡ loops_ → Agrees d cells f s → LongTurn d code cells writes loops_ (suc q) number turns pc f w l s → SameTurn d the_body (Alike n d the_body) (the_task number turns pc f w) l s
+  same_turn n number turns pc f w l s go room ag r =
       record {
         after = counted_turn (the_task number turns r.stands r.frame r.wait);
         rest = r.rest;
         store = r.store;
-        stops = record { stop = the_task number turns r.stands r.frame r.wait; stops = stops_placed cells code ag.shape r.stops_in; counts = refl };
+        stops = record { stop = the_task number turns r.stands r.frame r.wait; stops = stops_placed cells loops_ code names (ag.shape, room) r.stops_in; counts = refl };
         turn = r.turn;
         agrees = r.agrees;
         same = same_stop n number (turns + 1) r.stands r.frame go r.room r.types r.held r.rests;
@@ -385,7 +385,7 @@ module _ (d : Declared) (code : List Instruction) (cells writes : List ℕ) (loo
 
   alike_all : (n : ℕ) → GoesOn n
   alike_all zero number turns pc f w l room x h u = tt
-  alike_all (suc n) number turns pc f w l room x h u = λ s ag. same_turn n number turns pc f w l s (alike_all n) ag (long_turn d code cells writes loops_ q number turns pc f w l room x h u s ag)
+  alike_all (suc n) number turns pc f w l room x h u = λ s ag. same_turn n number turns pc f w l s (alike_all n) room ag (long_turn d code cells writes loops_ q number turns pc f w l room x h u s ag)
 
   body_does : (t : Term) (last : ℕ) → TermHas d t → TermAt code loops_ 0 0 t last → slice_get code last ≡ Some End → Lists cells (used_by (uses_of t)) → Lists writes (uses_of t).writes → DoesAs d the_body t
   body_does t last typed lays_out ends_there used written =
@@ -412,5 +412,5 @@ bodies_do d body t h = by_quantum body.quantum refl h.quantum
     by_quantum : (q : ℕ) → body.quantum ≡ q → 0 < q → DoesAs d body t
     by_quantum zero e m = absurd (omega (arith, m))
     by_quantum (suc q) e m =
-        let does = body_does d h.by_cells body.cells body.writes body.loops q t h.last h.typed h.lays_out h.ends_there h.cells h.writes in
+        let does = body_does d h.by_cells body.cells body.writes body.loops q h.names t h.last h.typed h.lays_out h.ends_there h.cells h.writes in
         subst (λ n. DoesAs d (with_code body body.code n) t) (sym e) (subst (λ code. DoesAs d (with_code body code (suc q)) t) (sym h.code) does)

@@ -1,3 +1,4 @@
 pub mod Messages
 pub mod Stacks
 pub mod Walking
+pub mod Moving

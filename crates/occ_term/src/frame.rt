@@ -1,6 +1,6 @@
 //! The variables of a process.
-ghost use Rattle.std.specs.Prelude.{◌≡◌, ◌↔◌, IsTrue, IfOk, length, pos, replicate, slice_index_or, slice_set, []};
-ghost use Rattle.occ_term.specs.Frames.{at, in_place, value_at, values_with, zero_frame, frame_with, with_place, frame_from, row_with, counter_at, counters_with, with_counter};
+ghost use Rattle.std.specs.Prelude.{◌≡◌, ◌<◌, ◌↔◌, IsTrue, IfOk, length, pos, replicate, slice_index_or, slice_set, []};
+ghost use Rattle.occ_term.specs.Frames.{at, in_place, value_at, values_with, zero_frame, frame_with, with_place, frame_from, row_with, counter_at, with_counter};
 
 use crate::held::Held;
 use crate::message::same_values;
@@ -53,11 +53,13 @@ impl Frame {
         value_at(&self.cells, &self.values, cell)
     }
 
-    /// The value at a place among those of the cells; 0 where there is none.
+    /// The value at a place among those of the cells.
+    #[inline(always)]
     pub fn value_in(&self, place: u32) -> i64
+        requires { place < length self.now.values }
         ensures { result ≡ in_place self.now place }
     {
-        value_in(&self.values, place as usize)
+        self.values[place as usize]
     }
 
     /// Gives a cell this value. A cell that the frame doesn't hold has none.
@@ -67,11 +69,14 @@ impl Frame {
         set_value(&self.cells, &mut self.values, cell, value);
     }
 
-    /// Puts this value at a place. Where there is none, nothing is changed.
+    /// Puts this value at a place among those of the cells.
+    #[inline(always)]
     pub fn set_in(&mut self, place: u32, value: i64)
+        requires { place < length self.old.values }
         ensures { self.new ≡ with_place self.old place value }
     {
-        set_in(&mut self.values, place as usize, value);
+        let place = place as usize;
+        self.values[place] = value;
     }
 
     /// Gives cells in a row these values, from the first cell on.
@@ -88,18 +93,37 @@ impl Frame {
         clear_values(&self.cells, &mut self.values, first, count);
     }
 
-    /// A counter of the replicated SEQs; 0 where there is none at the slot.
+    /// How many cells it holds.
+    pub fn len(&self) -> usize
+        ensures { result ≡ length self.now.values }
+    {
+        self.values.len()
+    }
+
+    /// How many counters of replicated SEQs it has.
+    pub fn counters(&self) -> usize
+        ensures { result ≡ length self.now.left }
+    {
+        self.left.len()
+    }
+
+    /// A counter of the replicated SEQs.
+    #[inline(always)]
     pub fn left(&self, slot: u64) -> u32
+        requires { slot < length self.now.left }
         ensures { result ≡ counter_at self.now.left slot }
     {
         counter_at(&self.left, slot)
     }
 
     /// Sets a counter of the replicated SEQs.
+    #[inline(always)]
     pub fn set_left(&mut self, slot: u64, count: u32)
+        requires { slot < length self.old.left }
         ensures { self.new ≡ with_counter self.old slot count }
     {
-        set_counter(&mut self.left, slot, count);
+        let slot = slot as usize;
+        self.left[slot] = count;
     }
 
     /// A copy. The error is a refused growth.
@@ -184,22 +208,10 @@ fn clear_values(cells: &Held, held: &mut [i64], first: u32, count: u32)
     }
 }
 
+#[inline(always)]
 fn counter_at(counters: &[u32], slot: u64) -> u32
+    requires { slot < length counters.now }
     ensures { result ≡ counter_at counters.now slot }
 {
-    let slot = slot as usize;
-    if slot < counters.len() {
-        counters[slot]
-    } else {
-        0
-    }
-}
-
-fn set_counter(counters: &mut [u32], slot: u64, count: u32)
-    ensures { counters.new ≡ counters_with counters.old slot count }
-{
-    let slot = slot as usize;
-    if slot < counters.len() {
-        counters[slot] = count;
-    }
+    counters[slot as usize]
 }

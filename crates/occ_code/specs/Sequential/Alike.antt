@@ -1,6 +1,6 @@
 -- When a body of sequential code does what a term does, for a number of turns.
 -- Manual: nothing; this is (own).
-use Rattle.std.specs.Prelude.{List, Some, [], map, replicate, slice_get, suc, zero, ℕ, ⊤, ◌+◌, ◌<◌, ◌^◌, ◌≡◌}
+use Rattle.std.specs.Prelude.{All, List, Some, [], map, replicate, slice_get, suc, zero, ℕ, ⊤, ◌+◌, ◌<◌, ◌^◌, ◌≡◌}
 use Rattle.occ_term.specs.Terms.{Term}
 use Rattle.occ_term.specs.Values.{Store}
 use Rattle.occ_term.specs.Steps.{Do, Left, left}
@@ -10,7 +10,7 @@ use Rattle.occ_term.specs.TermTyping.{Declared, TermHas}
 use Rattle.occ_code.specs.Alike.{Agrees, Frames, SameStop, Lists, used_by}
 use Rattle.occ_code.specs.declared.task.Task.{Task}
 use Rattle.occ_code.specs.declared.task.Wait.TheVariants.{Ready}
-use Rattle.occ_code.specs.Sequential.Machine.{Body, End, Instruction, Stopping, placed}
+use Rattle.occ_code.specs.Sequential.Machine.{Body, End, Instruction, NamesWithin, Stopping, placed}
 use Rattle.occ_code.specs.Sequential.Layout.{TermAt}
 
 -- the next turn of both, from a store that agrees with the frame
@@ -48,6 +48,7 @@ pub record IsLaidOut (d : Declared) (body : Body) (t : Term) : Type 0 where
   pub typed : TermHas d t
   pub lays_out : TermAt by_cells body.loops 0 0 t last
   pub ends_there : slice_get by_cells last ≡ Some End
+  pub names : All (NamesWithin body.cells body.loops) by_cells
   pub code : body.code ≡ map (placed body.cells) by_cells
   pub cells : Lists body.cells (used_by (uses_of t))
   pub writes : Lists body.writes (uses_of t).writes

@@ -1,6 +1,6 @@
 -- Laws of the code of sequential processes, as it is emitted: with the numbers of cells.
 -- Manual: nothing; this is (own).
-use Rattle.std.specs.Prelude.{List, [], length, map, slice_get, ℕ, ℤ, ◌<◌, ◌+◌, ◌++◌, ◌∷◌, ◌≡◌, Some}
+use Rattle.std.specs.Prelude.{All, List, [], length, map, slice_get, ℕ, ℤ, ◌<◌, ◌+◌, ◌++◌, ◌∷◌, ◌≡◌, Some}
 use Rattle.occ_term.specs.declared.fault.Fault.{Fault}
 use Rattle.occ_term.specs.declared.message.Part.{Part}
 use Rattle.occ_term.specs.Terms.{Expression, Item, Target}
@@ -10,7 +10,7 @@ use Rattle.occ_term.specs.Frames.{Variables, at}
 use Rattle.occ_code.specs.Alike.{Frames}
 use Rattle.occ_code.specs.declared.task.Task.{Task}
 use Rattle.occ_code.specs.declared.task.Wait.TheVariants.{Faulted}
-use Rattle.occ_code.specs.Sequential.Machine.{Instruction, by_cell, by_place, placed, StopsIn, Point, point, Stops, effect, Walks, counter_at, counters_with, kept_as, kept_value}
+use Rattle.occ_code.specs.Sequential.Machine.{Instruction, by_cell, by_place, NamesWithin, placed, StopsIn, Point, point, Stops, effect, Walks, counter_at, counters_with, kept_as, kept_value}
 use Rattle.occ_code.specs.Sequential.Expressions.{expression_code, items_code, targets_code}
 
 -- these instructions stand from the one place to the other
@@ -52,10 +52,11 @@ TargetsRun =
     → Comes code f (point pc st q sp f) (spots_of ts (at f)) (λ xs. point pc' st q (sp ++ xs) f)
 
 -- Code that names single cells by their places comes to the stops of a turn that it has with the numbers of cells, from each frame
--- of the cells.
+-- of the cells and of the counters that it names.
 abbrev pub PlacesDo : Type 0
 PlacesDo =
-    (cells : List ℕ) (code : List Instruction) (quantum : ℕ) (before after : Task) → Frames cells before.frame
+    (cells : List ℕ) (loops : ℕ) (code : List Instruction) (quantum : ℕ) (before after : Task)
+    → All (NamesWithin cells loops) code → Frames cells before.frame → length before.frame.left ≡ loops
     → StopsIn by_cell code quantum before after → StopsIn by_place (map (placed cells) code) quantum before after
 
 -- A counter that is set has its value; another one keeps its own.
