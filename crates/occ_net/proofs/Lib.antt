@@ -21,4 +21,5 @@ mod Runs
 mod Settling
 mod Beginning
 mod Whole
+pub mod Examples
 pub mod Law
