@@ -22,3 +22,5 @@ mod Settling
 mod Beginning
 mod Whole
 pub mod Law
+mod Beside
+pub mod Alone

@@ -1,3 +1,4 @@
 pub mod Replay
 pub mod Following
+pub mod Waiting
 pub mod Endings

@@ -1,6 +1,7 @@
 //! Laws of the definitions. Each function's contract is the law; its body does nothing.
 
 ghost use Rattle.occ_net.specs.Following.{OneNeverForks, ReadyTasksStop, ReplaysAreRuns};
+ghost use Rattle.occ_net.specs.Waiting.{TurnsAreFew, TurnsAwaitAlone, TurnsForkAlone, TurnsOfferAlone};
 
 /// A replay of the code of a lawful program is a run of the program.
 pub fn replays_are_runs()
@@ -15,4 +16,24 @@ pub fn ready_tasks_stop()
 /// A turn of the one process of a program never ends at a fork.
 pub fn one_never_forks()
     ensures { OneNeverForks }
+{}
+
+/// In a replay each task can count one turn more.
+pub fn turns_are_few()
+    ensures { TurnsAreFew }
+{}
+
+/// No two processes offer on one channel.
+pub fn turns_offer_alone()
+    ensures { TurnsOfferAlone }
+{}
+
+/// No two processes await a message on one channel.
+pub fn turns_await_alone()
+    ensures { TurnsAwaitAlone }
+{}
+
+/// The branches of a fork are nobody's but its own.
+pub fn turns_fork_alone()
+    ensures { TurnsForkAlone }
 {}
