@@ -42,17 +42,17 @@ does_at d n (b ∷ bs) [] i q h e = absurd h
 does_at d n (b ∷ bs) (x ∷ ps) zero q h e = let same : x ≡ q = cc in record { body = b; code = refl; does = subst (λ z. DoesAs d b z.term) same h.1 }
 does_at d n (b ∷ bs) (x ∷ ps) (suc i) q h e = let y = does_at d (n + 1) bs ps i q h.2 e in record { body = y.body; code = y.code; does = y.does }
 
-keyboard_protocol : (u : Unfolding) → IsWellFormed u → (declared u).protocols 0 ≡ Some (Simple [] Byte)
+pub keyboard_protocol : (u : Unfolding) → IsWellFormed u → (declared u).protocols 0 ≡ Some (Simple [] Byte)
 keyboard_protocol u w = ap (λ cs. slice_get (map (λ y. y.protocol) cs) 0) w.begins
 
 module _ (u : Unfolding) (p : Program) (quantum : ℕ) (kb : List ℕ) (w : IsWellFormed u) (lawful : Lawful u) (from : IsCompiledFrom u p) (same : All (λ b. b.quantum ≡ quantum) p.bodies) (bytes : AreBytes kb) where
-  abbrev d : Declared
+  abbrev pub d : Declared
   d = declared u
 
-  abbrev procs : List Numbered
+  abbrev pub procs : List Numbered
   procs = processes_of (meaning u)
 
-  belongs : (n : ℕ) (t : Term) → slice_get procs n ≡ Some (numbered n t) → Belongs d p procs n
+  pub belongs : (n : ℕ) (t : Term) → slice_get procs n ≡ Some (numbered n t) → Belongs d p procs n
   belongs n t e = let y = does_at d 0 p.bodies procs n (numbered n t) from.bodies e in record { term = t; body = y.body; entry = e; code = y.code; does = y.does }
 
   main_belongs : Belongs d p procs 0
@@ -61,7 +61,7 @@ module _ (u : Unfolding) (p : Program) (quantum : ℕ) (kb : List ℕ) (w : IsWe
   main_term : main_belongs.term ≡ meaning u
   main_term = one_term (sym main_belongs.entry)
 
-  record AllFollowed (k : ℕ) (net : Net) : Type 0 where
+  pub record AllFollowed (k : ℕ) (net : Net) : Type 0 where
     pub events : List Event
     pub now : System
     pub run : Run HaltMode quantum (start (meaning u) kb) events now
@@ -72,7 +72,7 @@ module _ (u : Unfolding) (p : Program) (quantum : ℕ) (kb : List ℕ) (w : IsWe
     pub output : (c : ℕ) → net.output c ≡ messages_on c net.trace
     pub input : (c : ℕ) → net.input c ≡ messages_on c net.trace
 
-  all_followed : (cs : List Choice) (net : Net) (k : ℕ) → k + length cs < 2 ^ 64 → Replays p kb cs net → AllFollowed k net
+  pub all_followed : (cs : List Choice) (net : Net) (k : ℕ) → k + length cs < 2 ^ 64 → Replays p kb cs net → AllFollowed k net
   all_followed cs net k small begins =
       let bound : k < 2 ^ 64 = omega (arith, small) in
       record {

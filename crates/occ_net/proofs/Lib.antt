@@ -23,3 +23,5 @@ mod Beginning
 mod Whole
 pub mod Examples
 pub mod Law
+mod Beside
+pub mod Alone

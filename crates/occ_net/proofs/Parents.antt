@@ -33,7 +33,7 @@ module _ (d : Declared) (p : Program) (procs : List Numbered) (k : ℕ) (s : Sto
       by (inr x) g = let y = g x in let low = b.0 in let a = y.0 in (omega (arith, low, a), y.1)
 
   -- no branch's number lies within the branches of another one
-  not_inside : (n m : ℕ) (t : Term) {own : Left} {ps qs : Processes} → (bs : Branches) (lo hi : ℕ) → BranchesPlaced procs lo hi bs → SameNumbers bs qs → AllHold d p procs k s tasks qs → IsTrue (is_held (numbers_of bs) n) → (x : Among m own ps qs) → slice_get procs m ≡ Some (numbered m t) → m + 1 ≤ n → n < m + 1 + size t → ⊥
+  pub not_inside : (n m : ℕ) (t : Term) {own : Left} {ps qs : Processes} → (bs : Branches) (lo hi : ℕ) → BranchesPlaced procs lo hi bs → SameNumbers bs qs → AllHold d p procs k s tasks qs → IsTrue (is_held (numbers_of bs) n) → (x : Among m own ps qs) → slice_get procs m ≡ Some (numbered m t) → m + 1 ≤ n → n < m + 1 + size t → ⊥
   not_inside n m t no_branches lo hi b z h f (first x) e from to = absurd z
   not_inside n m t no_branches lo hi b z h f (later x) e from to = absurd z
   not_inside n m t (and_branch i u bs) lo hi b z h f (first {p = process j a rs} x) e from to =

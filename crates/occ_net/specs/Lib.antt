@@ -1,4 +1,5 @@
 pub mod Replay
 pub mod Following
+pub mod Waiting
 pub mod Endings
 pub mod Examples

@@ -2,6 +2,7 @@
 
 ghost use Rattle.occ_net.specs.Examples.{ChoiceRows, EndingRows, ForkRows, MeetingRows, FirstWithPriority, TurnRows};
 ghost use Rattle.occ_net.specs.Following.{OneNeverForks, ReadyTasksStop, ReplaysAreRuns};
+ghost use Rattle.occ_net.specs.Waiting.{TurnsAreFew, TurnsAwaitAlone, TurnsForkAlone, TurnsOfferAlone};
 
 /// A replay of the code of a lawful program is a run of the program.
 pub fn replays_are_runs()
@@ -27,4 +28,24 @@ pub fn small_networks()
     ensures priority { FirstWithPriority }
     ensures forks { ForkRows }
     ensures endings { EndingRows }
+{}
+
+/// In a replay each task can count one turn more.
+pub fn turns_are_few()
+    ensures { TurnsAreFew }
+{}
+
+/// No two processes offer on one channel.
+pub fn turns_offer_alone()
+    ensures { TurnsOfferAlone }
+{}
+
+/// No two processes await a message on one channel.
+pub fn turns_await_alone()
+    ensures { TurnsAwaitAlone }
+{}
+
+/// The branches of a fork are nobody's but its own.
+pub fn turns_fork_alone()
+    ensures { TurnsForkAlone }
 {}
