@@ -23,6 +23,8 @@ use Rattle.occ_net.proofs.Beginning.{first_follows, ends_as}
 use Rattle.occ_net.proofs.Holding.{AgreesBut, agrees_all, Belongs, Stands, one_term}
 use Rattle.occ_net.proofs.Runs.{listed, run_more, met_more, turns_more, on-append, FitAll, fit_append, fit_on}
 use Rattle.occ_net.proofs.Settling.{Follows}
+use Rattle.occ_net.proofs.Sharing.{shares_store}
+use Rattle.occ_net.specs.Sharing.{ReplaysShareStore, SharesStore}
 use Rattle.occ_net.proofs.States.{live_at}
 use Rattle.occ_net.proofs.Placed.{AreSome, BranchesPlaced, LeftPlaced, size}
 use Rattle.occ_net.proofs.TakingTurns.{ran, Begins, begins_alone, begins_joined, begins_as}
@@ -102,11 +104,18 @@ module _ (u : Unfolding) (p : Program) (quantum : ℕ) (kb : List ℕ) (w : IsWe
         input = λ i. x.input i ∙ ap (λ l. l ++ messages_on i (listed x.met)) (before.input i) ∙ sym (on-append i a.trace (listed x.met)) ∙ ap (messages_on i) (sym x.trace);
       }
 
-  followed : (cs : List Choice) (net : Net) → length cs < 2 ^ 64 → Replays p kb cs net → Followed u kb quantum net
-  followed cs net small r =
-      let bound : 0 + length cs < 2 ^ 64 = omega (arith, small) in
-      let x = all_followed cs net 0 bound r in
+  abbrev followed_by : (net : Net) → AllFollowed 0 net → Followed u kb quantum net
+  followed_by net x =
       record { events = x.events; system = x.now; run = x.run; turns = x.turns; communicates = x.communicates; output = x.output; input = x.input; fits = λ c. fit_on d.protocols c net.trace x.fits; ends = ends_as d p procs (keyboard_protocol u w) quantum 0 net x.now x.follows }
+
+  from_start : (cs : List Choice) (net : Net) → length cs < 2 ^ 64 → Replays p kb cs net → AllFollowed 0 net
+  from_start cs net small r = let bound : 0 + length cs < 2 ^ 64 = omega (arith, small) in all_followed cs net 0 bound r
+
+  followed : (cs : List Choice) (net : Net) → length cs < 2 ^ 64 → Replays p kb cs net → Followed u kb quantum net
+  followed cs net small r = followed_by net (from_start cs net small r)
+
+  shared : (cs : List Choice) (net : Net) → length cs < 2 ^ 64 → Replays p kb cs net → (f : Followed u kb quantum net) × SharesStore p net f.system
+  shared cs net small r = let x = from_start cs net small r in (followed_by net x, shares_store d p procs (keyboard_protocol u w) quantum belongs 0 net x.now x.follows)
 
   stop_of : (n : ℕ) (net : Net) (now : System) (body : Body) (t : Task) → Follows d p procs (keyboard_protocol u w) quantum 1 net now → slice_get p.bodies n ≡ Some body → HasTask net.tasks n t → IsTrue (may_go t.wait) → (after : Task) × Stopping body t after
   stop_of n net now body t f code there may =
@@ -159,3 +168,6 @@ pub one_never_forks_is : OneNeverForks
 one_never_forks_is u p quantum kb cs net n body t after ns w lawful from same bytes small r one there may stops e =
     let x = all_followed u p quantum kb w lawful from same bytes cs net 1 small r in
     one_never_forks u p quantum kb w lawful from same bytes n net x.now body t after ns x.follows one there may stops e
+
+pub replays_share_store : ReplaysShareStore
+replays_share_store u p quantum kb cs net w lawful from same bytes small r = shared u p quantum kb w lawful from same bytes cs net small r

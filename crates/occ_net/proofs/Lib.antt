@@ -20,6 +20,7 @@ mod Faults
 mod Runs
 mod Settling
 mod Beginning
+mod Sharing
 mod Whole
 pub mod Examples
 pub mod Law

@@ -3,3 +3,4 @@ pub mod Following
 pub mod Waiting
 pub mod Endings
 pub mod Examples
+pub mod Sharing

@@ -2,6 +2,7 @@
 
 ghost use Rattle.occ_net.specs.Examples.{ChoiceRows, EndingRows, ForkRows, MeetingRows, FirstWithPriority, TurnRows};
 ghost use Rattle.occ_net.specs.Following.{OneNeverForks, ReadyTasksStop, ReplaysAreRuns};
+ghost use Rattle.occ_net.specs.Sharing.{ReplaysShareStore};
 ghost use Rattle.occ_net.specs.Waiting.{TurnsAreFew, TurnsAwaitAlone, TurnsForkAlone, TurnsOfferAlone};
 
 /// A replay of the code of a lawful program is a run of the program.
@@ -48,4 +49,9 @@ pub fn turns_await_alone()
 /// The branches of a fork are nobody's but its own.
 pub fn turns_fork_alone()
     ensures { TurnsForkAlone }
+{}
+
+/// The processes of a replay share the store of the run that follows it.
+pub fn replays_share_store()
+    ensures { ReplaysShareStore }
 {}
