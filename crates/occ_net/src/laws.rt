@@ -1,5 +1,7 @@
 //! Laws of the definitions. Each function's contract is the law; its body does nothing.
 
+ghost use Rattle.occ_term.specs.Examples.{PriorityTakesFirst};
+ghost use Rattle.occ_code.specs.declared.task.Arm.{Arm};
 ghost use Rattle.occ_net.specs.Examples.{ChoiceRows, EndingRows, ForkRows, MeetingRows, FirstWithPriority, TurnRows};
 ghost use Rattle.occ_net.specs.Following.{OneNeverForks, ReadyTasksStop, ReplaysAreRuns};
 ghost use Rattle.occ_net.specs.Sharing.{ReplaysShareStore};
@@ -54,4 +56,9 @@ pub fn turns_fork_alone()
 /// The processes of a replay share the store of the run that follows it.
 pub fn replays_share_store()
     ensures { ReplaysShareStore }
+{}
+
+/// With priority a choosing process takes its first ready arm, whatever the pick.
+pub fn priority_takes_first()
+    ensures { PriorityTakesFirst (λ (a : Arm). a.chan) }
 {}
