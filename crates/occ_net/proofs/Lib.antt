@@ -26,3 +26,5 @@ pub mod Examples
 pub mod Law
 mod Beside
 pub mod Alone
+mod Orderly
+pub mod Same

@@ -102,16 +102,16 @@ module _ (d : Declared) (Go : Task → Left → Type 0) (t : Task) (k : List Con
 
 -- ---- parts of arms
 
-enabled_part : (es : List Enabled) (e : Enabled) (i : ℕ) (u : Uses) → slice_get es i ≡ Some e → IsPartOf (uses_of_all es) u → IsPartOf (uses_of_enabled e) u
+pub enabled_part : (es : List Enabled) (e : Enabled) (i : ℕ) (u : Uses) → slice_get es i ≡ Some e → IsPartOf (uses_of_all es) u → IsPartOf (uses_of_enabled e) u
 enabled_part [] e i u q h = absurd cc
 enabled_part (x ∷ es) e zero u q h = let same : x ≡ e = cc in subst (λ z. IsPartOf (uses_of_enabled z) u) same (left_part (uses_of_enabled x) (uses_of_all es) u h)
 enabled_part (x ∷ es) e (suc i) u q h = enabled_part es e i u q (right_part (uses_of_enabled x) (uses_of_all es) u h)
 
-record ReadyIs (es : List Enabled) (e : Enabled) : Type 0 where
+pub record ReadyIs (es : List Enabled) (e : Enabled) : Type 0 where
   pub place : ℕ
   pub is : slice_get es place ≡ Some e
 
-ready_is_one : (stand : ℕ → Bool) (es : List Enabled) (i : ℕ) (e : Enabled) → slice_get (ready_among waits_for stand es) i ≡ Some e → ReadyIs es e
+pub ready_is_one : (stand : ℕ → Bool) (es : List Enabled) (i : ℕ) (e : Enabled) → slice_get (ready_among waits_for stand es) i ≡ Some e → ReadyIs es e
 ready_is_one stand [] i e q = absurd cc
 ready_is_one stand (x ∷ es) i e q = by (is_ready_on stand (waits_for x)) i q (λ j f. step (ready_is_one stand es j e f))
   where

@@ -4,3 +4,4 @@ pub mod Waiting
 pub mod Endings
 pub mod Examples
 pub mod Sharing
+pub mod OneReplay

@@ -4,6 +4,7 @@ ghost use Rattle.occ_term.specs.Examples.{PriorityTakesFirst};
 ghost use Rattle.occ_code.specs.declared.task.Arm.{Arm};
 ghost use Rattle.occ_net.specs.Examples.{ChoiceRows, EndingRows, ForkRows, MeetingRows, FirstWithPriority, TurnRows};
 ghost use Rattle.occ_net.specs.Following.{OneNeverForks, ReadyTasksStop, ReplaysAreRuns};
+ghost use Rattle.occ_net.specs.OneReplay.{OneReplay};
 ghost use Rattle.occ_net.specs.Sharing.{ReplaysShareStore};
 ghost use Rattle.occ_net.specs.Waiting.{TurnsAreFew, TurnsAwaitAlone, TurnsForkAlone, TurnsOfferAlone};
 
@@ -61,4 +62,9 @@ pub fn replays_share_store()
 /// With priority a choosing process takes its first ready arm, whatever the pick.
 pub fn priority_takes_first()
     ensures { PriorityTakesFirst (λ (a : Arm). a.chan) }
+{}
+
+/// The same choices have one replay.
+pub fn one_replay()
+    ensures { OneReplay }
 {}
