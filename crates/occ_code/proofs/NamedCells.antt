@@ -205,10 +205,10 @@ module _ (cells : List ℕ) (loops : ℕ) where
         let b = right_used (uses_of_targets ts) (with_use (uses_of t) (uses_of_variants vs)) a in (
           tt,
           both (declarations_code ds ++ (storing_code ts ++ (term_code slot t ++ _ ∷ []))) _
-          (both (declarations_code ds) _ (declarations_names ds (left_used (uses_of_declarations ds) (with_use (uses_of_targets ts) (with_use (uses_of t) (uses_of_variants vs))) h))
-          (both (storing_code ts) _ (storing_names ts (left_used (uses_of_targets ts) (with_use (uses_of t) (uses_of_variants vs)) a))
-          (both (term_code slot t) _ (term_names slot t (omega (arith, o)) (left_used (uses_of t) (uses_of_variants vs) b)) (tt, tt))))
-          (variants_names slot vs (omega (arith, o)) (right_used (uses_of t) (uses_of_variants vs) b)),
+              (both (declarations_code ds) _ (declarations_names ds (left_used (uses_of_declarations ds) (with_use (uses_of_targets ts) (with_use (uses_of t) (uses_of_variants vs))) h))
+              (both (storing_code ts) _ (storing_names ts (left_used (uses_of_targets ts) (with_use (uses_of t) (uses_of_variants vs)) a))
+              (both (term_code slot t) _ (term_names slot t (omega (arith, o)) (left_used (uses_of t) (uses_of_variants vs) b)) (tt, tt))))
+              (variants_names slot vs (omega (arith, o)) (right_used (uses_of t) (uses_of_variants vs) b)),
         )
 
     choices_names : (slot : ℕ) (cs : Choices) (after_ : ℕ) → slot + counters_of_choices cs ≤ loops → UsedIn (uses_of_choices cs) → Names (choices_code slot cs after_)
@@ -225,10 +225,11 @@ module _ (cells : List ℕ) (loops : ℕ) where
     choices_names slot (each_choice r within others) after_ o h =
         let over = left_used (uses_of_replicator r) (with_use (uses_of_choices within) (uses_of_choices others)) h in
         let a = right_used (uses_of_replicator r) (with_use (uses_of_choices within) (uses_of_choices others)) h in
-        both (counting_code r) _ (counting_names r over)
-        (index_held r over,
-        both (choices_code slot within (1 + length (choices_code slot others after_) + after_)) _ (choices_names slot within (1 + length (choices_code slot others after_) + after_) (omega (arith, o)) (left_used (uses_of_choices within) (uses_of_choices others) a))
-        (tt, choices_names slot others after_ (omega (arith, o)) (right_used (uses_of_choices within) (uses_of_choices others) a)))
+        both (counting_code r) _ (counting_names r over) (
+          index_held r over,
+          both (choices_code slot within (1 + length (choices_code slot others after_) + after_)) _ (choices_names slot within (1 + length (choices_code slot others after_) + after_) (omega (arith, o)) (left_used (uses_of_choices within) (uses_of_choices others) a))
+              (tt, choices_names slot others after_ (omega (arith, o)) (right_used (uses_of_choices within) (uses_of_choices others) a)),
+        )
 
     options_names : (slot : ℕ) (os : Options) (after_ : ℕ) → slot + counters_of_options os ≤ loops → UsedIn (uses_of_options os) → Names (options_code slot os after_)
     options_names slot no_options after_ o h = tt
@@ -236,8 +237,8 @@ module _ (cells : List ℕ) (loops : ℕ) where
         let a = right_used (uses_of_declarations ds) (with_use (uses_of t) (uses_of_options os)) h in (
           tt,
           both (declarations_code ds ++ (term_code slot t ++ _ ∷ [])) _
-          (both (declarations_code ds) _ (declarations_names ds (left_used (uses_of_declarations ds) (with_use (uses_of t) (uses_of_options os)) h)) (both (term_code slot t) _ (term_names slot t (omega (arith, o)) (left_used (uses_of t) (uses_of_options os) a)) (tt, tt)))
-          (options_names slot os after_ (omega (arith, o)) (right_used (uses_of t) (uses_of_options os) a)),
+              (both (declarations_code ds) _ (declarations_names ds (left_used (uses_of_declarations ds) (with_use (uses_of t) (uses_of_options os)) h)) (both (term_code slot t) _ (term_names slot t (omega (arith, o)) (left_used (uses_of t) (uses_of_options os) a)) (tt, tt)))
+              (options_names slot os after_ (omega (arith, o)) (right_used (uses_of t) (uses_of_options os) a)),
         )
     options_names slot (or_else ds t os) after_ o h =
         options_names slot os after_ (omega (arith, o)) (right_used (uses_of t) (uses_of_options os) (right_used (uses_of_declarations ds) (with_use (uses_of t) (uses_of_options os)) h))
