@@ -1,3 +1,5 @@
 pub mod Tables
 pub mod Ready
 pub mod Tasks
+pub mod Holding
+pub mod Settling

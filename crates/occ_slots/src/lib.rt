@@ -2,9 +2,12 @@
 //! when one has taken a turn.
 #![tactic(auto)]
 
-pub mod ready;
-pub mod tables;
-pub mod tasks;
+mod meeting;
+pub mod network;
+mod ready;
+mod tables;
+mod tasks;
 pub mod trace;
 
+pub use network::Network;
 pub use trace::{Communication, End};

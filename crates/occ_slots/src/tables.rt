@@ -15,8 +15,8 @@ pub(crate) fn entry(table: &[Option<u32>], key: u32) -> Option<u32>
 }
 
 /// Lets somebody stand at this key, or nobody.
-pub(crate) fn set_entry(table: &mut [Option<u32>], key: u32, value: Option<u32>)
-    ensures { table.new ≡ slice_set table.old key value }
+pub(crate) fn set_entry(table: &mut Vec<Option<u32>>, key: u32, value: Option<u32>)
+    ensures { table.new.items ≡ slice_set table.old.items key value }
 {
     let place = key as usize;
     if place < table.len() {

@@ -15,12 +15,12 @@ pub(crate) fn advance_task(
     alloc: Global,
     body: &Body,
     scratch: &mut Scratch,
-    tasks: &mut [Option<Task>],
+    tasks: &mut Vec<Option<Task>>,
     number: u32,
 ) -> Result<Wait, AllocError>
     requires small { length body.now.code + 1 < 2 ^ 32 }
-    requires turn { HasTurn body.now tasks.old number }
-    ensures { IfOk result (λ wait. (t : Task) → HasTask tasks.old number t → Advanced body.now tasks.old number t wait tasks.new) }
+    requires turn { HasTurn body.now tasks.old.items number }
+    ensures { IfOk result (λ wait. (t : Task) → HasTask tasks.old.items number t → Advanced body.now tasks.old.items number t wait tasks.new.items) }
 {
     match &mut tasks[number as usize] {
         Some(task) => {
@@ -32,9 +32,9 @@ pub(crate) fn advance_task(
 }
 
 /// The process stands at this from now on.
-pub(crate) fn set_wait(tasks: &mut [Option<Task>], number: u32, wait: Wait)
-    requires { IsThere tasks.old number }
-    ensures { (t : Task) → HasTask tasks.old number t → tasks.new ≡ slice_set tasks.old number (Some (ready_with t wait)) }
+pub(crate) fn set_wait(tasks: &mut Vec<Option<Task>>, number: u32, wait: Wait)
+    requires { IsThere tasks.old.items number }
+    ensures { (t : Task) → HasTask tasks.old.items number t → tasks.new.items ≡ slice_set tasks.old.items number (Some (ready_with t wait)) }
 {
     match &mut tasks[number as usize] {
         Some(task) => task.wait = wait,
@@ -43,9 +43,9 @@ pub(crate) fn set_wait(tasks: &mut [Option<Task>], number: u32, wait: Wait)
 }
 
 /// What the process stands at is handed out, and it is left as ready.
-pub(crate) fn take_wait(tasks: &mut [Option<Task>], number: u32) -> Wait
-    requires { IsThere tasks.old number }
-    ensures { (t : Task) → HasTask tasks.old number t → IsTaken tasks.old number t result tasks.new }
+pub(crate) fn take_wait(tasks: &mut Vec<Option<Task>>, number: u32) -> Wait
+    requires { IsThere tasks.old.items number }
+    ensures { (t : Task) → HasTask tasks.old.items number t → IsTaken tasks.old.items number t result tasks.new.items }
 {
     match &mut tasks[number as usize] {
         Some(task) => mem::replace(&mut task.wait, Wait::Ready),
@@ -54,10 +54,10 @@ pub(crate) fn take_wait(tasks: &mut [Option<Task>], number: u32) -> Wait
 }
 
 /// Takes the task out of its slot.
-pub(crate) fn take_task(tasks: &mut [Option<Task>], number: u32) -> Task
-    requires { IsThere tasks.old number }
-    ensures task { HasTask tasks.old number result }
-    ensures empty { tasks.new ≡ slice_set tasks.old number None }
+pub(crate) fn take_task(tasks: &mut Vec<Option<Task>>, number: u32) -> Task
+    requires { IsThere tasks.old.items number }
+    ensures task { HasTask tasks.old.items number result }
+    ensures empty { tasks.new.items ≡ slice_set tasks.old.items number None }
 {
     match mem::replace(&mut tasks[number as usize], None) {
         Some(task) => task,
@@ -66,9 +66,9 @@ pub(crate) fn take_task(tasks: &mut [Option<Task>], number: u32) -> Task
 }
 
 /// Puts a task into its slot.
-pub(crate) fn put_task(tasks: &mut [Option<Task>], number: u32, task: Task)
-    requires { number < length tasks.old }
-    ensures { tasks.new ≡ slice_set tasks.old number (Some task) }
+pub(crate) fn put_task(tasks: &mut Vec<Option<Task>>, number: u32, task: Task)
+    requires { number < length tasks.old.items }
+    ensures { tasks.new.items ≡ slice_set tasks.old.items number (Some task) }
 {
     tasks[number as usize] = Some(task);
 }
