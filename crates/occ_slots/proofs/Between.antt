@@ -119,7 +119,7 @@ byte_within c keyboard used b e = by (nat_eq c 0) e
 -- ---- the state between
 
 module _ (p : Program) (kb : List ℕ) (old : Network) (number place : ℕ) (after : Task) (net : Net) (mid : Mid p kb old number place after net) where
-  abbrev now : Net
+  abbrev pub now : Net
   now = took_turn net number after
 
   pub there_old : HasTask old.tasks.items number (made_ready after)
@@ -140,7 +140,7 @@ module _ (p : Program) (kb : List ℕ) (old : Network) (number place : ℕ) (aft
       let apart : i ≡ number → ⊥ = (λ q. let same : u ≡ mid.before = task_once net.tasks number (subst (λ z. HasTask net.tasks z u) q h) mid.has_task in true≢false (sym mid.may ∙ ap (λ z. may_go z.wait) (sym same) ∙ f)) in
       ap (λ l. slice_get l i) mid.tasks ∙ set_other net.tasks number i (Some (made_ready after)) apart ∙ h
 
-  mid_unchosen : (i : ℕ) (u : Task) (pri : Bool) (arms : List Arm) → HasTask now.tasks i u → u.wait ≡ W.Chooses pri arms → ⊥
+  pub mid_unchosen : (i : ℕ) (u : Task) (pri : Bool) (arms : List Arm) → HasTask now.tasks i u → u.wait ≡ W.Chooses pri arms → ⊥
   mid_unchosen i u pri arms h w = by (set_back net.tasks number i mid.has_task h)
     where
       by : ((i ≡ number) × (u ≡ after)) ⊎ ((i ≡ number → ⊥) × HasTask net.tasks i u) → ⊥
@@ -148,19 +148,19 @@ module _ (p : Program) (kb : List ℕ) (old : Network) (number place : ℕ) (aft
       by (inr q) = subst IsOrdinary w (mid.sound.ordinary i u (waiting_net i u q.1 (ap may_go w)))
 
   -- the task as it is after the turn
-  as_after : (v : Wait) → after.wait ≡ v → slice_set old.tasks.items number (Some (ready_with (made_ready after) v)) ≡ now.tasks
+  pub as_after : (v : Wait) → after.wait ≡ v → slice_set old.tasks.items number (Some (ready_with (made_ready after) v)) ≡ now.tasks
   as_after v e =
       ap (λ l. slice_set l number (Some (ready_with (made_ready after) v))) mid.tasks ∙ set_twice net.tasks number (Some (made_ready after)) (Some (ready_with after v))
       ∙ ap (λ z. slice_set net.tasks number (Some (ready_with after z))) (sym e)
 
   -- the task as it was left
-  as_ready : slice_set now.tasks number (Some (made_ready after)) ≡ old.tasks.items
+  pub as_ready : slice_set now.tasks number (Some (made_ready after)) ≡ old.tasks.items
   as_ready = set_twice net.tasks number (Some after) (Some (made_ready after)) ∙ sym mid.tasks
 
-  traced_by : (new : Network) (x : Communication) → new.trace.items ≡ old.trace.items ++ x ∷ [] → net.trace ++ communication_of x ∷ [] ≡ map communication_of new.trace.items
+  pub traced_by : (new : Network) (x : Communication) → new.trace.items ≡ old.trace.items ++ x ∷ [] → net.trace ++ communication_of x ∷ [] ≡ map communication_of new.trace.items
   traced_by new x e = ap (λ l. l ++ communication_of x ∷ []) mid.trace ∙ sym (map-append communication_of old.trace.items (x ∷ [])) ∙ ap (map communication_of) (sym e)
 
-  bytes_same : (new : Network) → new.used ≡ old.used → net.keyboard ≡ drop new.used kb
+  pub bytes_same : (new : Network) → new.used ≡ old.used → net.keyboard ≡ drop new.used kb
   bytes_same new e = mid.bytes ∙ ap (λ n. drop n kb) (sym e)
 
   -- ---- the screen or the error channel takes what is offered
@@ -226,10 +226,10 @@ module _ (p : Program) (kb : List ℕ) (old : Network) (number place : ℕ) (aft
 
   -- ---- the process waits
 
-  abbrev Nobody : Type 0
+  abbrev pub Nobody : Type 0
   Nobody = Unmet p.bodies 0 number net mid.before after mid.has_task
 
-  stays_as : (new : Network) (pick : ℕ) (v : Wait) → after.wait ≡ v → Nobody → new.tasks.items ≡ slice_set old.tasks.items number (Some (ready_with (made_ready after) v)) → new.used ≡ old.used → new.trace.items ≡ old.trace.items → Sound new → Sized p new → SettlesTo p kb pick number after net new
+  pub stays_as : (new : Network) (pick : ℕ) (v : Wait) → after.wait ≡ v → Nobody → new.tasks.items ≡ slice_set old.tasks.items number (Some (ready_with (made_ready after) v)) → new.used ≡ old.used → new.trace.items ≡ old.trace.items → Sound new → Sized p new → SettlesTo p kb pick number after net new
   stays_as new pick v w none tasks used trace sound sized =
       record {
         next = now;

@@ -4,3 +4,7 @@ pub mod Steps
 pub mod Meetings
 pub mod Between
 pub mod Waits
+pub mod Keys
+pub mod Undone
+pub mod Branches
+pub mod Ends

@@ -6,6 +6,8 @@ use Rattle.std.proofs.lemmas.Bool.{eqb-true, eq-eqb}
 use mathlib.Core.Bool.{true≢false}
 use Rattle.occ_term.specs.declared.fault.Fault.{Fault}
 use Rattle.occ_term.specs.declared.message.Message.{Message}
+use Rattle.occ_term.specs.Frames.{Variables, is_held}
+use Rattle.occ_code.specs.Alike.{joined_with}
 use Rattle.occ_code.specs.declared.task.Task.{Task}
 use Rattle.occ_code.specs.declared.task.Wait.{Wait}
 use Rattle.occ_code.specs.declared.task.Wait.TheVariants as W
@@ -15,6 +17,8 @@ use Rattle.occ_net.proofs.Faults.{fault_is, no_fault}
 use Rattle.occ_net.proofs.Quiet.{offers_is}
 use Rattle.occ_slots.specs.Holding.{IsTable, AreCounted, IsOrdinary, AreTrue, awaits_on, joins_on}
 use Rattle.occ_slots.specs.Ready.{put_in}
+use Rattle.occ_slots.specs.Tables.{set_all}
+use Rattle.occ_slots.proofs.Keys.{all_gone, all_other}
 use Rattle.occ_slots.proofs.OneChange.{set_within, table_kept, table_enters, table_leaves, counts_kept, ordinary_again, clean_again}
 use Rattle.occ_slots.proofs.ReadyLists.{ready_same, ready_put, ready_out}
 
@@ -166,3 +170,31 @@ module _ (tasks : Tasks) (ready : List ℕ) (offering awaiting parents : List (O
             ordinary = ordinary_again tasks i t new there W.Ready v e f tt h.ordinary;
             fault_is = ap fault_of (sym f) ∙ sym (fault_is (with_task new) i new (set_same tasks i (Some t) (Some new) there) (λ j u n g. no_fault tasks j u clean (sym (set_other tasks i j (Some new) n) ∙ g)));
           }
+
+      pub rest_done : new.wait ≡ W.Done → (counts : List ℕ) → AreCounted (with_task new) counts → AreTrue (with_task new) (remove ready place) offering awaiting parents counts fault
+      rest_done f counts counted =
+          record {
+            ready_is = rested W.Done f refl;
+            offers = table_kept tasks i t new there W.Ready W.Done e f offers_on (λ d. refl) (λ d. refl) offering h.offers;
+            awaits = table_kept tasks i t new there W.Ready W.Done e f awaits_on (λ d. refl) (λ d. refl) awaiting h.awaits;
+            joins = table_kept tasks i t new there W.Ready W.Done e f joins_on (λ d. refl) (λ d. refl) parents h.joins;
+            counted = counted;
+            ordinary = ordinary_again tasks i t new there W.Ready W.Done e f tt h.ordinary;
+            fault_is = still_clean new W.Ready W.Done e f refl;
+          }
+
+  -- ---- a process whose branches are done
+
+  pub rejoins : (ns : List ℕ) (g : Variables) → t.wait ≡ W.Joins ns → AreTrue (with_task (joined_with t g)) (put_in i ready) offering awaiting (set_all ns None parents) unfinished fault
+  rejoins ns g e =
+      let new : Task = joined_with t g in
+      let w : Wait = W.Joins ns in
+      record {
+        ready_is = woken new (ap may_go e) refl;
+        offers = table_kept tasks i t new there w W.Ready e refl offers_on (λ d. refl) (λ d. refl) offering h.offers;
+        awaits = table_kept tasks i t new there w W.Ready e refl awaits_on (λ d. refl) (λ d. refl) awaiting h.awaits;
+        joins = table_leaves tasks i t new there w W.Ready e refl joins_on (is_held ns) (λ d. refl) (λ d. refl) parents (set_all ns None parents) (λ d j k. all_gone ns parents d j k) (λ d k. all_other ns None parents d k) h.joins;
+        counted = counts_kept tasks i t new there w W.Ready e refl refl (λ ms q. cc) unfinished h.counted;
+        ordinary = ordinary_again tasks i t new there w W.Ready e refl tt h.ordinary;
+        fault_is = still_clean new w W.Ready e refl refl;
+      }

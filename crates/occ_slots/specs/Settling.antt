@@ -1,12 +1,14 @@
 -- What happens when a process has taken a turn.
-use Rattle.std.specs.Prelude.{All, IsTrue, List, None, Option, Some, [], drop, if◌then◌else◌, length, map, nat_eq, slice_get, slice_set, ℕ, ◌+◌, ◌<◌, ◌^◌, ◌++◌, ◌∷◌, ◌≡◌}
+use Rattle.std.specs.Prelude.{All, false, IsTrue, List, None, Option, Some, [], drop, if◌then◌else◌, length, map, nat_eq, slice_get, slice_set, ℕ, ◌+◌, ◌<◌, ◌^◌, ◌++◌, ◌∷◌, ◌≡◌}
 use Rattle.occ_term.specs.declared.message.Message.{Message}
+use Rattle.occ_term.specs.Frames.{Variables, is_held}
+use Rattle.occ_code.specs.Alike.{IsRising, joined_with}
 use Rattle.occ_code.specs.Sequential.Compiled.{Program, IsCompiled}
 use Rattle.occ_code.specs.declared.task.Task.{Task}
 use Rattle.occ_code.specs.declared.task.Wait.{Wait}
 use Rattle.occ_code.specs.declared.task.Wait.TheVariants.{Offers, Awaits, Joins}
 use Rattle.occ_net.specs.declared.choice.Choice.{Choice}
-use Rattle.occ_net.specs.Replay.{Net, Tasks, HasTask, OneTurn, Replays, Settled, byte_message, ending_of, first_fault, has_taken, made_ready, may_go, took_turn}
+use Rattle.occ_net.specs.Replay.{Net, Tasks, HasTask, OneTurn, Replays, Settled, branch_task, byte_message, ending_of, first_fault, goes, has_taken, made_ready, may_go, merged, ready_from, took_turn, with_branches}
 use Rattle.occ_net.specs.Waiting.{OffersAlone, AwaitsAlone, ForksAlone}
 use Rattle.occ_slots.specs.declared.trace.End.{End}
 use Rattle.occ_slots.specs.declared.trace.End.TheVariants.{Process, Keyboard, Screen, Error}
@@ -14,6 +16,7 @@ use Rattle.occ_slots.specs.declared.trace.Communication.{Communication}
 use Rattle.occ_slots.specs.declared.network.Network.{Network}
 use Rattle.occ_slots.specs.Holding.{Holds, IsOrdinary, Sized, Sound, communication_of}
 use Rattle.occ_slots.specs.Ready.{put_in}
+use Rattle.occ_slots.specs.Tables.{set_all}
 
 -- a turn of the network: whatever state it held, it holds the next one
 pub record TurnsTo (p : Program) (keyboard : List ℕ) (choice : Choice) (net : Net) (new : Network) : Type 0 where
@@ -123,3 +126,65 @@ pub record TookFrom (old : Network) (number giver chan : ℕ) (t : Task) (m : Me
   pub unfinished : new.unfinished ≡ old.unfinished
   pub fault : new.fault ≡ old.fault
   pub used : new.used ≡ old.used
+
+-- ---- forks
+
+-- the process has not begun, or is done
+pub record IsFree (tasks : Tasks) (i : ℕ) : Type 0 where
+  pub entry : Option Task
+  pub is : slice_get tasks i ≡ Some entry
+  pub still : goes entry ≡ false
+
+-- the branches that are to begin
+pub record MayBegin (p : Program) (n : Network) (ns : List ℕ) : Type 0 where
+  pub ready_is : n.ready.items ≡ ready_from 0 n.tasks.items
+  pub rising : IsRising ns
+  pub have_bodies : (i : ℕ) → IsTrue (is_held ns i) → i < length p.bodies
+  pub free : (i : ℕ) → IsTrue (is_held ns i) → IsFree n.tasks.items i
+
+-- a branch begins
+pub record Began (p : Program) (parent : ℕ) (f : Variables) (old : Network) (i : ℕ) (new : Network) : Type 0 where
+  pub tasks : new.tasks.items ≡ slice_set old.tasks.items i (branch_task p.bodies f old.tasks.items i)
+  pub ready_is : new.ready.items ≡ ready_from 0 new.tasks.items
+  pub parents : new.parents.items ≡ slice_set old.parents.items i (Some parent)
+  pub offering : new.offering ≡ old.offering
+  pub awaiting : new.awaiting ≡ old.awaiting
+  pub unfinished : new.unfinished ≡ old.unfinished
+  pub fault : new.fault ≡ old.fault
+  pub used : new.used ≡ old.used
+  pub trace : new.trace ≡ old.trace
+
+-- branches begin
+pub record AllBegan (p : Program) (parent : ℕ) (f : Variables) (old : Network) (ns : List ℕ) (new : Network) : Type 0 where
+  pub tasks : new.tasks.items ≡ with_branches p.bodies f ns old.tasks.items
+  pub ready_is : new.ready.items ≡ ready_from 0 new.tasks.items
+  pub parents : new.parents.items ≡ set_all ns (Some parent) old.parents.items
+  pub offering : new.offering ≡ old.offering
+  pub awaiting : new.awaiting ≡ old.awaiting
+  pub unfinished : new.unfinished ≡ old.unfinished
+  pub fault : new.fault ≡ old.fault
+  pub used : new.used ≡ old.used
+  pub trace : new.trace ≡ old.trace
+
+-- ---- joins
+
+-- a process waits for these, and may go on
+pub record Joining (n : Network) (m : ℕ) : Type 0 where
+  pub task : Task
+  pub there : HasTask n.tasks.items m task
+  pub branches : List ℕ
+  pub waits : task.wait ≡ Joins branches
+  pub apart : is_held branches m ≡ false
+  pub rising : IsRising n.ready.items
+
+-- what they can write is taken over, and nobody waits for them any more
+pub record JoinsBranches (p : Program) (old : Network) (m : ℕ) (t : Task) (ns : List ℕ) (new : Network) : Type 0 where
+  pub tasks : new.tasks.items ≡ slice_set old.tasks.items m (Some (joined_with t (merged p.bodies old.tasks.items ns t.frame)))
+  pub ready : new.ready.items ≡ put_in m old.ready.items
+  pub parents : new.parents.items ≡ set_all ns None old.parents.items
+  pub offering : new.offering ≡ old.offering
+  pub awaiting : new.awaiting ≡ old.awaiting
+  pub unfinished : new.unfinished ≡ old.unfinished
+  pub fault : new.fault ≡ old.fault
+  pub used : new.used ≡ old.used
+  pub trace : new.trace ≡ old.trace

@@ -2,6 +2,9 @@
 //! when one has taken a turn.
 #![tactic(auto)]
 
+mod copying;
+mod forking;
+mod joining;
 mod meeting;
 pub mod network;
 mod ready;

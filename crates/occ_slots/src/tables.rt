@@ -1,6 +1,6 @@
 //! Tables of process numbers, by channel or by process.
-ghost use Rattle.std.specs.Prelude.{◌≡◌, IfOk, None, replicate, slice_set};
-ghost use Rattle.occ_slots.specs.Tables.{entry_in};
+ghost use Rattle.std.specs.Prelude.{◌≡◌, ◌+◌, IfOk, None, Some, replicate, slice_get, slice_set, ℕ};
+ghost use Rattle.occ_slots.specs.Tables.{CountsDown, HasCount, entry_in, set_all};
 
 use std::alloc::{AllocError, Global};
 
@@ -29,4 +29,34 @@ pub(crate) fn empty(alloc: Global, count: usize) -> Result<Vec<Option<u32>>, All
     ensures { IfOk result (λ table. table.items ≡ replicate count None) }
 {
     vec![in alloc; None; count]
+}
+
+/// Lets nobody stand at these keys.
+pub(crate) fn clear_entries(table: &mut Vec<Option<u32>>, keys: &[u32])
+    ensures { table.new.items ≡ set_all keys.now None table.old.items }
+{
+    for key in keys {
+        set_entry(table, *key, None);
+    }
+}
+
+/// Sets a count.
+pub(crate) fn set_count(counts: &mut Vec<usize>, key: u32, count: usize)
+    ensures { counts.new.items ≡ slice_set counts.old.items key count }
+{
+    let place = key as usize;
+    if place < counts.len() {
+        counts[place] = count;
+    }
+}
+
+/// Counts one less.
+pub(crate) fn count_down(counts: &mut Vec<usize>, key: u32) -> usize
+    requires { HasCount counts.old.items key }
+    ensures { (k : ℕ) → slice_get counts.old.items key ≡ Some (k + 1) → CountsDown counts.old.items key k result counts.new.items }
+{
+    let place = key as usize;
+    let left = counts[place] - 1;
+    counts[place] = left;
+    left
 }
