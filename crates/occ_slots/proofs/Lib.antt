@@ -8,3 +8,6 @@ pub mod Keys
 pub mod Undone
 pub mod Branches
 pub mod Ends
+pub mod Forked
+pub mod PlainStops
+pub mod Turned

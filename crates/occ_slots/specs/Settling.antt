@@ -1,12 +1,12 @@
 -- What happens when a process has taken a turn.
-use Rattle.std.specs.Prelude.{All, false, IsTrue, List, None, Option, Some, [], drop, if◌then◌else◌, length, map, nat_eq, slice_get, slice_set, ℕ, ◌+◌, ◌<◌, ◌^◌, ◌++◌, ◌∷◌, ◌≡◌}
+use Rattle.std.specs.Prelude.{All, false, IsTrue, List, None, Option, Some, [], drop, if◌then◌else◌, length, map, nat_eq, slice_get, slice_set, ℕ, ℤ, ◌+◌, ◌<◌, ◌^◌, ◌++◌, ◌∷◌, ◌≡◌}
 use Rattle.occ_term.specs.declared.message.Message.{Message}
 use Rattle.occ_term.specs.Frames.{Variables, is_held}
 use Rattle.occ_code.specs.Alike.{IsRising, joined_with}
 use Rattle.occ_code.specs.Sequential.Compiled.{Program, IsCompiled}
 use Rattle.occ_code.specs.declared.task.Task.{Task}
 use Rattle.occ_code.specs.declared.task.Wait.{Wait}
-use Rattle.occ_code.specs.declared.task.Wait.TheVariants.{Offers, Awaits, Joins}
+use Rattle.occ_code.specs.declared.task.Wait.TheVariants.{Took, Offers, Awaits, Joins}
 use Rattle.occ_net.specs.declared.choice.Choice.{Choice}
 use Rattle.occ_net.specs.Replay.{Net, Tasks, HasTask, OneTurn, Replays, Settled, branch_task, byte_message, ending_of, first_fault, goes, has_taken, made_ready, may_go, merged, ready_from, took_turn, with_branches}
 use Rattle.occ_net.specs.Waiting.{OffersAlone, AwaitsAlone, ForksAlone}
@@ -45,6 +45,7 @@ pub record Mid (p : Program) (keyboard : List ℕ) (n : Network) (number place :
   pub clean : first_fault net.tasks ≡ None
   pub at_place : slice_get n.ready.items place ≡ Some number
   pub ordinary : IsOrdinary after.wait
+  pub untaken : (arm : ℕ) (indices : List ℤ) (m : Option Message) → after.wait ≡ Took arm indices m → ⊥
   pub tasks : n.tasks.items ≡ slice_set net.tasks number (Some (made_ready after))
   pub bytes : net.keyboard ≡ drop n.used keyboard
   pub trace : net.trace ≡ map communication_of n.trace.items

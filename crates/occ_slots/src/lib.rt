@@ -8,6 +8,7 @@ mod joining;
 mod meeting;
 pub mod network;
 mod ready;
+mod settling;
 mod tables;
 mod tasks;
 pub mod trace;

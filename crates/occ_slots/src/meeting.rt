@@ -13,7 +13,7 @@ use crate::tables::{entry, set_entry};
 use crate::tasks::{set_wait, take_wait};
 use crate::trace::{Communication, End};
 use occ_code::{Task, Wait};
-use occ_term::{Message, Part, Primitive};
+use occ_term::{Fault, Message, Part, Primitive};
 use sqlite_items::Items;
 use std::alloc::{AllocError, Global};
 
@@ -217,5 +217,22 @@ impl Network {
             }
         }
         Ok(())
+    }
+
+    /// The process halts, for good.
+    pub(crate) fn halt(&mut self, place: usize, number: u32)
+        requires { (p : Program) × HasMid p self.old number place Wait.Halted }
+        ensures { (p : Program) (keyboard : List ℕ) → Settles p keyboard number place Wait.Halted self.old self.new }
+    {
+        rest(&mut self.tasks, &mut self.ready, place, number, Wait::Halted);
+    }
+
+    /// The process fails, which ends the run.
+    pub(crate) fn fail(&mut self, place: usize, number: u32, fault: Fault)
+        requires { (p : Program) × HasMid p self.old number place (Wait.Faulted fault) }
+        ensures { (p : Program) (keyboard : List ℕ) → Settles p keyboard number place (Wait.Faulted fault) self.old self.new }
+    {
+        rest(&mut self.tasks, &mut self.ready, place, number, Wait::Faulted(fault));
+        self.fault = Some(fault);
     }
 }

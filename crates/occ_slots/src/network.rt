@@ -1,10 +1,13 @@
 //! The network: its parts, its start and its ending.
-ghost use Rattle.std.specs.Prelude.{◌≡◌, IfOk};
-ghost use Rattle.occ_net.specs.Replay.{ending_of, first_net};
-ghost use Rattle.occ_slots.specs.Holding.{Holds};
+ghost use Rattle.std.specs.Prelude.{◌≡◌, IfOk, List, None, map, replicate, ℕ};
+ghost use Rattle.occ_code.specs.Sequential.Compiled.{Program};
+ghost use Rattle.occ_net.specs.Replay.{Net, ending_of, first_net, is_done, main_done};
+ghost use Rattle.occ_slots.specs.Holding.{Holds, communication_of};
 
+use crate::tables::empty;
+use crate::tasks::put_task;
 use crate::trace::Communication;
-use occ_code::{Body, Code, Task, Wait};
+use occ_code::{Code, Task, Wait};
 use occ_net::Ending;
 use occ_term::{Fault, Frame};
 use std::alloc::{AllocError, Global};
@@ -30,4 +33,92 @@ pub struct Network {
     pub(crate) used: usize,
     /// The communications that there were.
     pub(crate) trace: Vec<Communication>,
+}
+
+/// So many processes that have not begun.
+fn none_begun(alloc: Global, count: usize) -> Result<Vec<Option<Task>>, AllocError>
+    ensures { IfOk result (λ tasks. tasks.items ≡ replicate count None) }
+{
+    let mut tasks = Vec::new(alloc);
+    for _ in 0..count {
+        tasks.push(None)?;
+    }
+    Ok(tasks)
+}
+
+/// Whether the main process is at its end.
+fn main_done(tasks: &[Option<Task>]) -> bool
+    ensures { result ≡ main_done tasks.now }
+{
+    match tasks.first() {
+        Some(Some(task)) => is_done(&task.wait),
+        _ => false,
+    }
+}
+
+fn is_done(wait: &Wait) -> bool
+    ensures { result ≡ is_done wait.now }
+{
+    match wait {
+        Wait::Done => true,
+        _ => false,
+    }
+}
+
+impl Network {
+    /// The network before its first turn.
+    pub fn new(alloc: Global, code: &Code) -> Result<Network, AllocError>
+        ensures { IfOk result (λ n. (keyboard : List ℕ) → Holds code.now keyboard n (first_net code.now keyboard)) }
+    {
+        code.compiled();
+        let Some(body) = code.body(0) else {
+            unreachable!()
+        };
+        let frame = Frame::new(alloc, body.cells(), body.loops() as usize)?;
+        let main = Task {
+            number: 0,
+            turns: 0,
+            place: 0,
+            frame,
+            wait: Wait::Ready,
+        };
+        let mut tasks = none_begun(alloc, code.len())?;
+        put_task(&mut tasks, 0, main);
+        let mut ready = Vec::new(alloc);
+        ready.push(0)?;
+        Ok(Network {
+            tasks,
+            ready,
+            offering: empty(alloc, code.channels().len())?,
+            awaiting: empty(alloc, code.channels().len())?,
+            parents: empty(alloc, code.len())?,
+            unfinished: vec![in alloc; 0; code.len()]?,
+            fault: None,
+            used: 0,
+            trace: Vec::new(alloc),
+        })
+    }
+
+    /// How the run has ended, if it has.
+    pub fn ending(&self) -> Option<Ending>
+        ensures { (p : Program) (keyboard : List ℕ) (net : Net) → Holds p keyboard self.now net → result ≡ ending_of net }
+    {
+        if let Some(fault) = self.fault {
+            return Some(Ending::Fault(fault));
+        }
+        if main_done(&self.tasks) {
+            return Some(Ending::Ended);
+        }
+        if self.ready.is_empty() {
+            return Some(Ending::Stopped);
+        }
+        None
+    }
+
+    /// The communications that there were, in order.
+    pub fn trace(&self) -> &[Communication]
+        ensures { (p : Program) (keyboard : List ℕ) (net : Net) → Holds p keyboard self.now net → net.trace ≡ map communication_of result.now }
+    {
+        &self.trace
+    }
 }
