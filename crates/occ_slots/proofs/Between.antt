@@ -1,13 +1,11 @@
 -- Between a turn and what it makes possible: the task has taken the turn, and is left as ready.
 use Rattle.std.proofs.Common.{◌≡◌, ◌∙◌, refl, sym, ap, subst, Bool, true, false, IsTrue, ℕ, zero, suc, ◌+◌, ◌<◌, ◌⊎◌, inl, inr, List, [], ◌∷◌, ◌++◌, Option, Some, None, length, map, drop, arith}
-use Rattle.std.specs.Prelude.{slice_get, slice_set, nat_eq, if◌then◌else◌, remove, ◌||◌}
-use Rattle.std.specs.Bool.{⊤}
+use Rattle.std.specs.Prelude.{slice_get, slice_set, nat_eq, if◌then◌else◌, ◌||◌}
 use Rattle.std.proofs.lemmas.Bool.{eqb-true, eq-eqb}
 use Rattle.std.proofs.lemmas.List.{map-append}
 use mathlib.Core.Bool.{true≢false}
 use Rattle.occ_term.specs.declared.fault.Fault.{Fault}
 use Rattle.occ_term.specs.declared.message.Message.{Message}
-use Rattle.occ_term.specs.Frames.{is_held}
 use Rattle.occ_term.specs.System.{has_byte}
 use Rattle.occ_term.specs.System as S
 use Rattle.occ_code.specs.Alike.{ready_with}
@@ -16,8 +14,8 @@ use Rattle.occ_code.specs.declared.task.Arm.{Arm}
 use Rattle.occ_code.specs.declared.task.Task.{Task}
 use Rattle.occ_code.specs.declared.task.Wait.{Wait}
 use Rattle.occ_code.specs.declared.task.Wait.TheVariants as W
-use Rattle.occ_net.specs.Replay.{Net, HasTask, AreDone, first_fault, may_go, made_ready, has_taken, byte_message, one_more, with_task, traced, took_turn, offers_on, Gives, task_gives, keyboard_gives, Gets, task_gets, screen_gets, error_gets, joined, meets, Settled, settles, stays}
-use Rattle.occ_net.proofs.Tables.{set_same, set_other, set_back, same_or_not, task_once}
+use Rattle.occ_net.specs.Replay.{Net, HasTask, first_fault, may_go, made_ready, has_taken, byte_message, one_more, with_task, traced, took_turn, offers_on, task_gives, keyboard_gives, task_gets, screen_gets, error_gets, joined, meets, Settled, settles, stays}
+use Rattle.occ_net.proofs.Tables.{set_same, set_other, set_back, task_once}
 use Rattle.occ_net.proofs.Quiet.{is_read}
 use Rattle.occ_slots.specs.declared.trace.End.{End}
 use Rattle.occ_slots.specs.declared.trace.End.TheVariants.{Process, Keyboard, Screen, Error}
@@ -25,12 +23,11 @@ use Rattle.occ_slots.specs.declared.trace.Communication.{Communication}
 use Rattle.occ_slots.specs.declared.network.Network.{Network}
 use Rattle.occ_slots.specs.Ready.{put_in}
 use Rattle.occ_slots.specs.Tables.{flat, entry_in}
-use Rattle.occ_slots.specs.Holding.{Stands, IsOrdinary, AreTrue, AreSized, Sound, Sized, Holds, awaits_on, communication_of, end_of}
+use Rattle.occ_slots.specs.Holding.{IsOrdinary, Sound, Sized, awaits_on, communication_of, end_of}
 use Rattle.occ_slots.specs.Settling.{Mid, SettlesTo, Gave, TookByte, TookFrom, IsOffering, reader_of, byte_on, sent}
-use Rattle.occ_slots.specs.Tasks.{IsThere}
 use Rattle.occ_slots.proofs.OneChange.{set_twice, set_swap, set_length, clean_again, true_as}
 use Rattle.occ_slots.proofs.Meetings.{mine, Unmet, nothing}
-use Rattle.occ_slots.proofs.Steps.{awaits_is, wake_awaiter, wake_offerer, takes, rest_offer, rest_await, rest_halted, rest_faulted}
+use Rattle.occ_slots.proofs.Steps.{awaits_is, wake_awaiter, wake_offerer, takes}
 use Rattle.occ_net.proofs.Quiet.{offers_is}
 
 -- ---- tables

@@ -1,9 +1,8 @@
 -- The branches of a fork: each begins in its slot.
-use Rattle.std.proofs.Common.{◌≡◌, ◌∙◌, refl, sym, ap, subst, Bool, true, false, IsTrue, ℕ, zero, suc, ◌+◌, ◌<◌, ◌⊎◌, inl, inr, List, [], ◌∷◌, Option, Some, None, length, arith}
+use Rattle.std.proofs.Common.{◌≡◌, ◌∙◌, refl, sym, ap, subst, false, IsTrue, ℕ, zero, suc, ◌+◌, ◌<◌, ◌⊎◌, inl, inr, List, [], ◌∷◌, Option, Some, None, length, arith}
 use Rattle.std.specs.Prelude.{slice_get, slice_set, option_map, nat_eq}
 use Rattle.std.specs.Option.{option_map_or}
 use Rattle.std.proofs.lemmas.Bool.{eqb-true}
-use Rattle.std.proofs.lemmas.Option.{slice_get_within}
 use mathlib.Core.Bool.{true≢false}
 use Rattle.occ_term.specs.Frames.{Variables, is_held}
 use Rattle.occ_term.specs.Processes.{Numbered}
@@ -13,13 +12,12 @@ use Rattle.occ_code.specs.Sequential.Compiled.{Program, AllDo, IsCompiled}
 use Rattle.occ_code.specs.Sequential.Machine.{Body}
 use Rattle.occ_code.specs.declared.task.Task.{Task}
 use Rattle.occ_code.specs.declared.task.Wait.TheVariants as W
-use Rattle.occ_net.specs.Replay.{Tasks, HasTask, branch_task, copied, first_task, goes, merged, ready_from, taken_from, turns_at, turns_of, with_branches}
-use Rattle.occ_net.proofs.Tables.{set_same, set_other, or_else}
+use Rattle.occ_net.specs.Replay.{Tasks, branch_task, copied, first_task, merged, taken_from, turns_at, turns_of, with_branches}
+use Rattle.occ_net.proofs.Tables.{set_other, or_else}
 use Rattle.occ_slots.specs.declared.network.Network.{Network}
-use Rattle.occ_slots.specs.Settling.{IsFree, MayBegin, Began, AllBegan}
-use Rattle.occ_slots.specs.Tables.{set_all}
+use Rattle.occ_slots.specs.Settling.{IsFree, MayBegin, Began}
 use Rattle.occ_slots.proofs.Keys.{first_held, later_held, not_first, not_again, rising_rest}
-use Rattle.occ_slots.proofs.OneChange.{either_way, get_some, set_length, set_swap, set_within}
+use Rattle.occ_slots.proofs.OneChange.{get_some, set_length, set_swap, set_within}
 
 -- ---- bodies
 

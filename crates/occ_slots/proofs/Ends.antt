@@ -1,5 +1,5 @@
 -- A process is at its end, and another one may have waited for it.
-use Rattle.std.proofs.Common.{◌≡◌, ◌∙◌, refl, sym, ap, subst, Bool, true, false, IsTrue, ℕ, zero, suc, ◌+◌, ◌<◌, ◌⊎◌, inl, inr, List, [], ◌∷◌, ◌++◌, Option, Some, None, length, map, drop, arith}
+use Rattle.std.proofs.Common.{◌≡◌, ◌∙◌, refl, sym, ap, subst, true, false, IsTrue, ℕ, ◌+◌, ◌⊎◌, inl, inr, List, Some, None, length, map, drop}
 use Rattle.std.specs.Prelude.{slice_get, slice_set, remove}
 use Rattle.std.specs.Option.{option_map_or}
 use Rattle.std.proofs.lemmas.Option.{slice_get_within}
@@ -7,21 +7,18 @@ use mathlib.Core.Bool.{true≢false}
 use Rattle.occ_term.specs.Frames.{Variables, is_held}
 use Rattle.occ_code.specs.Alike.{IsRising, joined_with, ready_with}
 use Rattle.occ_code.specs.Sequential.Compiled.{Program}
-use Rattle.occ_code.specs.declared.task.Arm.{Arm}
 use Rattle.occ_code.specs.declared.task.Task.{Task}
 use Rattle.occ_code.specs.declared.task.Wait.{Wait}
 use Rattle.occ_code.specs.declared.task.Wait.TheVariants as W
-use Rattle.occ_net.specs.Replay.{Net, Tasks, HasTask, AreDone, ended, first_fault, may_go, made_ready, merged, with_task, took_turn, joins, settles}
+use Rattle.occ_net.specs.Replay.{Net, Tasks, HasTask, AreDone, ended, first_fault, may_go, made_ready, merged, with_task, joins, settles}
 use Rattle.occ_net.proofs.Tables.{set_same, set_other, set_back, same_or_not, task_once}
 use Rattle.occ_net.proofs.Settling.{done_among}
 use Rattle.occ_slots.specs.declared.network.Network.{Network}
-use Rattle.occ_slots.specs.Holding.{AreTrue, AreSized, AreCounted, IsOrdinary, Sound, Sized, communication_of, is_over, joins_on, undone}
-use Rattle.occ_slots.specs.Ready.{put_in}
+use Rattle.occ_slots.specs.Holding.{AreTrue, AreCounted, IsOrdinary, Sized, communication_of, is_over, joins_on, undone}
 use Rattle.occ_slots.specs.Settling.{Mid, SettlesTo, Joining, JoinsBranches}
-use Rattle.occ_slots.specs.Tables.{entry_in, flat, set_all}
+use Rattle.occ_slots.specs.Tables.{entry_in}
 use Rattle.occ_slots.proofs.Between.{Nobody, as_after, clean_old, entry_there, mid_unchosen, no_entry, now, stays_as, there_old, waiting_net, waiting_old}
 use Rattle.occ_slots.proofs.Keys.{all_length}
-use Rattle.occ_slots.proofs.Meetings.{mine}
 use Rattle.occ_slots.proofs.OneChange.{clean_again, either_way, set_length, set_within, true_as}
 use Rattle.occ_slots.proofs.ReadyLists.{ready_rising}
 use Rattle.occ_slots.proofs.Steps.{rejoins, rest_done}

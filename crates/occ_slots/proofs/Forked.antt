@@ -1,13 +1,10 @@
 -- A fork: the branches begin, and their process waits for their end.
-use Rattle.std.proofs.Common.{◌≡◌, ◌∙◌, refl, sym, ap, subst, Bool, true, false, IsTrue, ℕ, zero, suc, ◌+◌, ◌<◌, ◌⊎◌, inl, inr, List, [], ◌∷◌, Option, Some, None, length, map, drop, arith}
+use Rattle.std.proofs.Common.{◌≡◌, ◌∙◌, refl, sym, ap, subst, Bool, true, false, IsTrue, ℕ, ◌<◌, ◌⊎◌, inl, inr, List, Option, Some, None, length, map, drop, arith}
 use Rattle.std.specs.Prelude.{slice_get, slice_set, remove}
-use Rattle.std.specs.Bool.{⊤}
 use Rattle.std.specs.Option.{option_map_or}
 use Rattle.std.proofs.lemmas.Option.{slice_get_within}
 use mathlib.Core.Bool.{true≢false}
-use Rattle.occ_term.specs.declared.fault.Fault.{Fault}
-use Rattle.occ_term.specs.Frames.{Variables, is_held}
-use Rattle.occ_code.specs.Alike.{IsRising}
+use Rattle.occ_term.specs.Frames.{is_held}
 use Rattle.occ_code.specs.Sequential.Compiled.{Program}
 use Rattle.occ_code.specs.declared.task.Task.{Task}
 use Rattle.occ_code.specs.declared.task.Wait.{Wait}
@@ -15,12 +12,12 @@ use Rattle.occ_code.specs.declared.task.Wait.TheVariants as W
 use Rattle.occ_net.specs.Replay.{Net, Tasks, HasTask, ended, fault_of, first_fault, forks, goes, is_done, made_ready, may_go, offers_on, ready_from, settles, took_turn, with_branches}
 use Rattle.occ_net.specs.Waiting.{ForksAlone}
 use Rattle.occ_net.proofs.Faults.{no_fault, none_faulted}
-use Rattle.occ_net.proofs.Tables.{set_same, set_other, set_back, same_or_not, task_once}
+use Rattle.occ_net.proofs.Tables.{set_other, same_or_not, task_once}
 use Rattle.occ_slots.specs.declared.network.Network.{Network}
-use Rattle.occ_slots.specs.Holding.{AreTrue, AreSized, AreCounted, IsOrdinary, IsTable, Stands, Sound, Sized, awaits_on, communication_of, is_over, joins_on, undone}
-use Rattle.occ_slots.specs.Settling.{AllBegan, IsFree, MayBegin, Mid, SettlesTo}
+use Rattle.occ_slots.specs.Holding.{AreCounted, IsOrdinary, IsTable, Stands, awaits_on, communication_of, is_over, joins_on, undone}
+use Rattle.occ_slots.specs.Settling.{AllBegan, MayBegin, Mid, SettlesTo}
 use Rattle.occ_slots.specs.Tables.{set_all}
-use Rattle.occ_slots.proofs.Between.{there_old, waiting_net, waiting_old}
+use Rattle.occ_slots.proofs.Between.{there_old, waiting_old}
 use Rattle.occ_slots.proofs.Branches.{IsBegun, branches_begun, branches_length, branches_other, branches_swap}
 use Rattle.occ_slots.proofs.Ends.{joins_is}
 use Rattle.occ_slots.proofs.Keys.{all_here, all_length, all_other}

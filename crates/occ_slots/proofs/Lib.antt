@@ -11,3 +11,4 @@ pub mod Ends
 pub mod Forked
 pub mod PlainStops
 pub mod Turned
+pub mod Start

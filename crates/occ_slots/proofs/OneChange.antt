@@ -10,7 +10,7 @@ use Rattle.occ_code.specs.declared.task.Wait.TheVariants as W
 use Rattle.occ_net.specs.Replay.{Tasks, HasTask, ended, fault_of, first_fault, is_done}
 use Rattle.occ_net.proofs.Tables.{set_same, set_other, set_back, same_or_not, task_once}
 use Rattle.occ_net.proofs.Faults.{no_fault, none_faulted}
-use Rattle.occ_slots.specs.Holding.{Stands, IsTable, is_over, undone, AreCounted, IsOrdinary, AreTrue, AreSized}
+use Rattle.occ_slots.specs.Holding.{Stands, IsTable, is_over, undone, AreCounted, IsOrdinary, AreTrue}
 
 -- ---- lists that are set
 

@@ -1,7 +1,6 @@
 -- A process rests, or is made to go on: what is kept beside the tasks is changed with them.
-use Rattle.std.proofs.Common.{◌≡◌, ◌∙◌, refl, sym, ap, subst, Bool, true, false, IsTrue, ℕ, zero, suc, ◌+◌, ◌<◌, ◌⊎◌, inl, inr, List, [], ◌∷◌, Option, Some, None, length, arith}
+use Rattle.std.proofs.Common.{◌≡◌, ◌∙◌, refl, sym, ap, false, IsTrue, ℕ, zero, suc, ◌<◌, List, [], ◌∷◌, Option, Some, None, length, arith}
 use Rattle.std.specs.Prelude.{slice_get, slice_set, nat_eq, remove}
-use Rattle.std.specs.Bool.{⊤}
 use Rattle.std.proofs.lemmas.Bool.{eqb-true, eq-eqb}
 use mathlib.Core.Bool.{true≢false}
 use Rattle.occ_term.specs.declared.fault.Fault.{Fault}
@@ -11,11 +10,11 @@ use Rattle.occ_code.specs.Alike.{joined_with}
 use Rattle.occ_code.specs.declared.task.Task.{Task}
 use Rattle.occ_code.specs.declared.task.Wait.{Wait}
 use Rattle.occ_code.specs.declared.task.Wait.TheVariants as W
-use Rattle.occ_net.specs.Replay.{Tasks, HasTask, fault_of, first_fault, goes, is_done, made_ready, may_go, has_taken, offers_on, ready_from}
-use Rattle.occ_net.proofs.Tables.{set_same, set_other, set_back, same_or_not}
+use Rattle.occ_net.specs.Replay.{Tasks, HasTask, fault_of, first_fault, made_ready, may_go, has_taken, offers_on, ready_from}
+use Rattle.occ_net.proofs.Tables.{set_same, set_other}
 use Rattle.occ_net.proofs.Faults.{fault_is, no_fault}
 use Rattle.occ_net.proofs.Quiet.{offers_is}
-use Rattle.occ_slots.specs.Holding.{IsTable, AreCounted, IsOrdinary, AreTrue, awaits_on, joins_on}
+use Rattle.occ_slots.specs.Holding.{AreCounted, AreTrue, awaits_on, joins_on}
 use Rattle.occ_slots.specs.Ready.{put_in}
 use Rattle.occ_slots.specs.Tables.{set_all}
 use Rattle.occ_slots.proofs.Keys.{all_gone, all_other}

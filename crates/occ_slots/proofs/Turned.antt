@@ -1,28 +1,24 @@
 -- The chosen process takes a turn.
-use Rattle.std.proofs.Common.{◌≡◌, ◌∙◌, refl, sym, ap, subst, Bool, true, false, IsTrue, ℕ, zero, suc, ◌+◌, ◌<◌, ◌≤◌, ◌^◌, ◌%◌, ◌⊎◌, inl, inr, List, [], ◌∷◌, ◌++◌, Option, Some, None, get_or, length, map, drop, arith, length-append}
-use Rattle.std.specs.Prelude.{All, slice_get, slice_set}
-use Rattle.std.specs.Bool.{⊤}
+use Rattle.std.proofs.Common.{◌≡◌, ◌∙◌, refl, sym, ap, subst, Bool, true, false, IsTrue, ℕ, zero, suc, ◌+◌, ◌<◌, ◌≤◌, ◌^◌, ◌%◌, List, [], ◌∷◌, Option, Some, None, get_or, length, map, drop, arith}
+use Rattle.std.specs.Prelude.{slice_get, slice_set}
 use Rattle.std.proofs.lemmas.Option.{get_or_from_slice_get, slice_get_within}
 use mathlib.Core.Bool.{true≢false}
 use Rattle.occ_term.specs.declared.fault.Fault.{Fault}
-use Rattle.occ_term.specs.declared.message.Message.{Message}
-use Rattle.occ_term.specs.Unfolding.{Unfolding}
-use Rattle.occ_code.specs.Sequential.Compiled.{Program, IsCompiled, instructions_in, most_instructions}
-use Rattle.occ_code.specs.Sequential.Machine.{Body, Stopping}
+use Rattle.occ_code.specs.Sequential.Compiled.{Program, IsCompiled, instructions_in}
+use Rattle.occ_code.specs.Sequential.Machine.{Body}
 use Rattle.occ_code.specs.declared.task.Task.{Task}
 use Rattle.occ_code.specs.declared.task.Wait.{Wait}
 use Rattle.occ_code.specs.declared.task.Wait.TheVariants as W
 use Rattle.occ_net.specs.declared.choice.Choice.{Choice}
 use Rattle.occ_net.specs.Following.{AreBytes}
-use Rattle.occ_net.specs.Replay.{Net, Tasks, HasTask, OneTurn, Settled, ending_by, ending_of, first_fault, goes, is_done, main_done, made_ready, may_go, offers_on, ready_from, selected, took_turn}
+use Rattle.occ_net.specs.Replay.{Net, Tasks, HasTask, ending_by, first_fault, is_done, main_done, made_ready, may_go, offers_on, ready_from, selected}
 use Rattle.occ_net.specs.Waiting.{IsReplay, IsTurn, OffersAlone, AwaitsAlone, ForksAlone}
 use Rattle.occ_net.proofs.Alone.{turns_are_few, turns_await_alone, turns_fork_alone, turns_offer_alone}
 use Rattle.occ_net.proofs.Law.{ready_tasks_stop}
 use Rattle.occ_net.proofs.Tables.{ready_at}
-use Rattle.occ_proc.specs.Turns.{HasStop}
 use Rattle.occ_slots.specs.declared.network.Network.{Network}
-use Rattle.occ_slots.specs.Holding.{AreTrue, AreSized, Holds, IsOrdinary, awaits_on, communication_of, joins_on}
-use Rattle.occ_slots.specs.Settling.{HasMid, Mid, Settles, SettlesTo, Standing, TurnsTo}
+use Rattle.occ_slots.specs.Holding.{AreTrue, Holds, awaits_on, communication_of, joins_on}
+use Rattle.occ_slots.specs.Settling.{Mid, SettlesTo, Standing, TurnsTo}
 use Rattle.occ_slots.specs.Tasks.{Advanced, HasTurn}
 use Rattle.occ_slots.proofs.OneChange.{clean_again, counts_kept, get_some, ordinary_again, set_length, table_kept, true_as}
 use Rattle.occ_slots.proofs.PlainStops.{ordinary_turn, untaken_turn}

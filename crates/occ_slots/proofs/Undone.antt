@@ -1,15 +1,15 @@
 -- How many of some processes are not done.
-use Rattle.std.proofs.Common.{◌≡◌, ◌∙◌, refl, sym, ap, subst, Bool, true, false, IsTrue, ℕ, zero, suc, ◌+◌, ◌<◌, ◌⊎◌, inl, inr, List, [], ◌∷◌, Option, Some, None, length, arith}
-use Rattle.std.specs.Prelude.{slice_get, if◌then◌else◌, nat_eq}
+use Rattle.std.proofs.Common.{◌≡◌, ◌∙◌, refl, sym, ap, Bool, true, false, IsTrue, ℕ, ◌+◌, ◌⊎◌, inl, inr, List, [], ◌∷◌, length, arith}
+use Rattle.std.specs.Prelude.{if◌then◌else◌, nat_eq}
 use mathlib.Core.Bool.{true≢false}
-use Rattle.std.proofs.lemmas.Bool.{eqb-true, eq-eqb}
+use Rattle.std.proofs.lemmas.Bool.{eqb-true}
 use Rattle.occ_term.specs.Frames.{is_held}
 use Rattle.occ_code.specs.Alike.{IsRising}
 use Rattle.occ_net.specs.Replay.{Tasks, AreDone}
-use Rattle.occ_net.proofs.Tables.{or_else, or_first}
+use Rattle.occ_net.proofs.Tables.{or_else}
 use Rattle.occ_slots.specs.Holding.{is_over, undone}
 use Rattle.occ_slots.proofs.OneChange.{either_way}
-use Rattle.occ_slots.proofs.Keys.{first_held, later_held, not_first, not_again, rising_rest}
+use Rattle.occ_slots.proofs.Keys.{first_held, later_held, not_again, rising_rest}
 
 abbrev weight : Bool → ℕ
 weight b = if b then 0 else 1

@@ -1,6 +1,6 @@
 -- What a state between says to the calls in it, and what is kept where the process rests.
-use Rattle.std.proofs.Common.{◌≡◌, ◌∙◌, refl, sym, ap, subst, ℕ, ◌<◌, List, Option, Some, None, length, arith}
-use Rattle.std.specs.Prelude.{slice_get, slice_set, remove}
+use Rattle.std.proofs.Common.{◌≡◌, ◌∙◌, refl, sym, ap, subst, ℕ, ◌<◌, List, Option, Some, length, arith}
+use Rattle.std.specs.Prelude.{slice_set, remove}
 use Rattle.std.specs.Vec.{vec_len}
 use Rattle.std.proofs.lemmas.Option.{slice_get_within}
 use Rattle.occ_term.specs.declared.fault.Fault.{Fault}
@@ -10,7 +10,7 @@ use Rattle.occ_code.specs.Sequential.Compiled.{Program}
 use Rattle.occ_code.specs.declared.task.Task.{Task}
 use Rattle.occ_code.specs.declared.task.Wait.{Wait}
 use Rattle.occ_code.specs.declared.task.Wait.TheVariants as W
-use Rattle.occ_net.specs.Replay.{Net, Tasks, HasTask, may_go, made_ready}
+use Rattle.occ_net.specs.Replay.{Net, Tasks, may_go, made_ready}
 use Rattle.occ_slots.specs.declared.network.Network.{Network}
 use Rattle.occ_slots.specs.Holding.{AreTrue, AreSized}
 use Rattle.occ_slots.specs.Settling.{Mid, HasMid}

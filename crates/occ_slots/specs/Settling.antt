@@ -3,7 +3,7 @@ use Rattle.std.specs.Prelude.{All, false, IsTrue, List, None, Option, Some, [], 
 use Rattle.occ_term.specs.declared.message.Message.{Message}
 use Rattle.occ_term.specs.Frames.{Variables, is_held}
 use Rattle.occ_code.specs.Alike.{IsRising, joined_with}
-use Rattle.occ_code.specs.Sequential.Compiled.{Program, IsCompiled}
+use Rattle.occ_code.specs.Sequential.Compiled.{Program}
 use Rattle.occ_code.specs.declared.task.Task.{Task}
 use Rattle.occ_code.specs.declared.task.Wait.{Wait}
 use Rattle.occ_code.specs.declared.task.Wait.TheVariants.{Took, Offers, Awaits, Joins}

@@ -224,7 +224,13 @@ impl Network {
         requires { (p : Program) × HasMid p self.old number place Wait.Halted }
         ensures { (p : Program) (keyboard : List ℕ) → Settles p keyboard number place Wait.Halted self.old self.new }
     {
-        rest(&mut self.tasks, &mut self.ready, place, number, Wait::Halted);
+        rest(
+            &mut self.tasks,
+            &mut self.ready,
+            place,
+            number,
+            Wait::Halted,
+        );
     }
 
     /// The process fails, which ends the run.
@@ -232,7 +238,13 @@ impl Network {
         requires { (p : Program) × HasMid p self.old number place (Wait.Faulted fault) }
         ensures { (p : Program) (keyboard : List ℕ) → Settles p keyboard number place (Wait.Faulted fault) self.old self.new }
     {
-        rest(&mut self.tasks, &mut self.ready, place, number, Wait::Faulted(fault));
+        rest(
+            &mut self.tasks,
+            &mut self.ready,
+            place,
+            number,
+            Wait::Faulted(fault),
+        );
         self.fault = Some(fault);
     }
 }

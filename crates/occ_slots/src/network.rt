@@ -4,7 +4,7 @@ ghost use Rattle.occ_code.specs.Sequential.Compiled.{Program};
 ghost use Rattle.occ_net.specs.Replay.{Net, ending_of, first_net, is_done, main_done};
 ghost use Rattle.occ_slots.specs.Holding.{Holds, communication_of};
 
-use crate::tables::empty;
+use crate::tables::{empty, no_counts};
 use crate::tasks::put_task;
 use crate::trace::Communication;
 use occ_code::{Code, Task, Wait};
@@ -40,7 +40,7 @@ fn none_begun(alloc: Global, count: usize) -> Result<Vec<Option<Task>>, AllocErr
     ensures { IfOk result (λ tasks. tasks.items ≡ replicate count None) }
 {
     let mut tasks = Vec::new(alloc);
-    for _ in 0..count {
+    for _slot in 0..count {
         tasks.push(None)?;
     }
     Ok(tasks)
@@ -82,20 +82,27 @@ impl Network {
             frame,
             wait: Wait::Ready,
         };
-        let mut tasks = none_begun(alloc, code.len())?;
+        let count = code.len();
+        let channels = code.channels().len();
+        let mut tasks = none_begun(alloc, count)?;
         put_task(&mut tasks, 0, main);
         let mut ready = Vec::new(alloc);
         ready.push(0)?;
+        let offering = empty(alloc, channels)?;
+        let awaiting = empty(alloc, channels)?;
+        let parents = empty(alloc, count)?;
+        let unfinished = no_counts(alloc, count)?;
+        let trace = Vec::new(alloc);
         Ok(Network {
             tasks,
             ready,
-            offering: empty(alloc, code.channels().len())?,
-            awaiting: empty(alloc, code.channels().len())?,
-            parents: empty(alloc, code.len())?,
-            unfinished: vec![in alloc; 0; code.len()]?,
+            offering,
+            awaiting,
+            parents,
+            unfinished,
             fault: None,
             used: 0,
-            trace: Vec::new(alloc),
+            trace,
         })
     }
 

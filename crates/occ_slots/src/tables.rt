@@ -60,3 +60,10 @@ pub(crate) fn count_down(counts: &mut Vec<usize>, key: u32) -> usize
     counts[place] = left;
     left
 }
+
+/// So many counts of 0.
+pub(crate) fn no_counts(alloc: Global, count: usize) -> Result<Vec<usize>, AllocError>
+    ensures { IfOk result (λ counts. counts.items ≡ replicate count 0) }
+{
+    vec![in alloc; 0; count]
+}

@@ -1,4 +1,4 @@
-use Rattle.std.proofs.Common.{◌<◌, ◌≤◌, ap, arith, get_or, length, subst, sym}
+use Rattle.std.proofs.Common.{arith, subst, sym}
 use Rattle.occ_code.specs.Alike.{IsRising}
 use Rattle.occ_slots.proofs.ReadyLists.{rising_index}
 use Rattle.occ_slots.proofs.copying.branch_frame.Goals as goal

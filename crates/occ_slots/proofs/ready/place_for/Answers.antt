@@ -1,4 +1,4 @@
-use Rattle.std.proofs.Common.{◌≡◌, ◌<◌, ◌≤◌, ◌+◌, ◌-◌, ◌/◌, ℕ, get_or, length, arith}
+use Rattle.std.proofs.Common.{◌≡◌, ◌<◌, ◌+◌, ◌-◌, ◌/◌, ℕ, length, arith}
 use Rattle.occ_slots.proofs.ReadyLists.{rising_le, insert_is}
 use Rattle.occ_slots.proofs.ready.place_for.Goals as goal
 

@@ -1,11 +1,9 @@
-use Rattle.std.proofs.Common.{◌≡◌, ◌∙◌, ◌+◌, ◌<◌, ◌∷◌, [], ℕ, refl, sym, ap, subst, length, Some, None, Option, arith}
+use Rattle.std.proofs.Common.{◌≡◌, ◌∙◌, [], refl, sym, ap, subst, Some, arith}
 use Rattle.std.specs.Prelude.{slice_get, slice_set, option_map}
 use Rattle.std.proofs.lemmas.Option.{slice_get_within}
-use Rattle.occ_term.specs.Frames.{Variables}
 use Rattle.occ_code.specs.Alike.{IsRising}
 use Rattle.occ_code.specs.Sequential.Machine.{Body}
-use Rattle.occ_code.specs.declared.task.Task.{Task}
-use Rattle.occ_net.specs.Replay.{branch_task, copied, first_task, goes, ready_from, turns_at}
+use Rattle.occ_net.specs.Replay.{branch_task, copied, first_task, ready_from, turns_at}
 use Rattle.occ_slots.specs.Ready.{put_in}
 use Rattle.occ_slots.proofs.Branches.{body_rising, has_body}
 use Rattle.occ_slots.proofs.Keys.{first_held}

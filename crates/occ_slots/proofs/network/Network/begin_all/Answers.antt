@@ -1,5 +1,4 @@
-use Rattle.std.proofs.Common.{◌≡◌, ◌∙◌, ◌+◌, ◌<◌, ◌∷◌, [], ℕ, List, refl, sym, ap, subst, length, drop, get_or, Some, None, Option, drop-cons, add-one}
-use Rattle.std.specs.Prelude.{slice_get, slice_set}
+use Rattle.std.proofs.Common.{◌≡◌, ◌∙◌, ◌+◌, ◌<◌, ◌∷◌, ℕ, List, sym, ap, subst, length, drop, get_or, Some, drop-cons, add-one}
 use Rattle.occ_net.specs.Replay.{with_branches}
 use Rattle.occ_slots.specs.Settling.{MayBegin}
 use Rattle.occ_slots.specs.Tables.{set_all}

@@ -1,5 +1,5 @@
 use Rattle.std.proofs.Common.{◌≡◌, Some, drop}
-use Rattle.occ_net.specs.Replay.{ready_from, with_branches}
+use Rattle.occ_net.specs.Replay.{with_branches}
 use Rattle.occ_slots.specs.Settling.{MayBegin}
 use Rattle.occ_slots.specs.Tables.{set_all}
 use Rattle.occ_slots.proofs.network.Network.begin_all.Given as goal

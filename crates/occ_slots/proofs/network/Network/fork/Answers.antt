@@ -1,5 +1,5 @@
-use Rattle.std.proofs.Common.{◌≡◌, ◌∙◌, ◌+◌, ◌<◌, ℕ, List, refl, sym, ap, subst, length, Some, None, arith}
-use Rattle.std.specs.Prelude.{slice_get, slice_set}
+use Rattle.std.proofs.Common.{◌≡◌, ◌∙◌, ℕ, refl, sym, ap, subst, length, Some, None, arith}
+use Rattle.std.specs.Prelude.{slice_set}
 use Rattle.occ_code.specs.Alike.{ready_with}
 use Rattle.occ_code.specs.declared.task.Task.{Task}
 use Rattle.occ_code.specs.declared.task.Wait.{Wait}
@@ -12,7 +12,7 @@ use Rattle.occ_slots.proofs.Between.{there_old}
 use Rattle.occ_slots.proofs.Branches.{branches_length}
 use Rattle.occ_slots.proofs.Forked.{forks_to, may_begin, number_within}
 use Rattle.occ_slots.proofs.OneChange.{set_length}
-use Rattle.occ_slots.proofs.Waits.{there_of, within_of}
+use Rattle.occ_slots.proofs.Waits.{there_of}
 use Rattle.occ_slots.proofs.network.Network.fork.Goals as goal
 
 pub take_task-task-requires : goal.take_task-task-requires

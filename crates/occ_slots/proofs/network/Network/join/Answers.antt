@@ -1,9 +1,8 @@
-use Rattle.std.proofs.Common.{◌≡◌, ◌∙◌, ℕ, List, Bool, true, false, refl, sym, ap, subst, Some, None}
-use Rattle.std.specs.Prelude.{slice_get, slice_set}
+use Rattle.std.proofs.Common.{◌≡◌, ◌∙◌, false, refl, sym, ap, Some, None}
+use Rattle.std.specs.Prelude.{slice_set}
 use mathlib.Core.Bool.{true≢false}
 use Rattle.occ_term.specs.Frames.{Variables, is_held}
 use Rattle.occ_code.specs.Alike.{joined_with}
-use Rattle.occ_code.specs.declared.task.Task.{Task}
 use Rattle.occ_code.specs.declared.task.Wait.{Wait}
 use Rattle.occ_code.specs.declared.task.Wait.TheVariants as W
 use Rattle.occ_net.specs.Replay.{merged}

@@ -1,4 +1,4 @@
-use Rattle.std.proofs.Common.{◌≡◌, ◌∙◌, refl, sym}
+use Rattle.std.proofs.Common.{◌∙◌, refl}
 use Rattle.occ_slots.proofs.Between.{goes_on}
 use Rattle.occ_slots.proofs.network.Network.settle.Goals as goal
 

@@ -1,11 +1,8 @@
-use Rattle.std.proofs.Common.{◌≡◌, ◌∙◌, refl, sym, ap, ◌∷◌, ◌++◌, Some, None, []}
+use Rattle.std.proofs.Common.{◌≡◌, ◌∙◌, refl, sym, ap, ◌∷◌, ◌++◌, Some, []}
 use Rattle.std.specs.Prelude.{slice_get, slice_set}
-use Rattle.occ_term.specs.declared.message.Message.{Message}
 use Rattle.occ_code.specs.Alike.{ready_with}
-use Rattle.occ_code.specs.declared.task.Task.{Task}
-use Rattle.occ_code.specs.declared.task.Wait.{Wait}
 use Rattle.occ_code.specs.declared.task.Wait.TheVariants as W
-use Rattle.occ_net.specs.Replay.{HasTask, made_ready, has_taken}
+use Rattle.occ_net.specs.Replay.{made_ready}
 use Rattle.occ_net.proofs.Tables.{set_other}
 use Rattle.occ_slots.specs.declared.trace.End.TheVariants.{Process}
 use Rattle.occ_slots.specs.Settling.{sent}

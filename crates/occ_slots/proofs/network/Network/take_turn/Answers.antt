@@ -1,6 +1,4 @@
-use Rattle.std.proofs.Common.{◌≡◌, ◌∙◌, ◌+◌, ◌<◌, ◌%◌, ◌^◌, ℕ, refl, sym, ap, subst, length, Some, None, arith}
-use Rattle.std.specs.Prelude.{slice_get, slice_set}
-use Rattle.occ_code.specs.Sequential.Machine.{Body}
+use Rattle.std.proofs.Common.{◌≡◌, ◌∙◌, ◌%◌, ℕ, refl, sym, ap, length, Some, arith}
 use Rattle.occ_slots.specs.declared.network.Network.{Network}
 use Rattle.occ_slots.proofs.Branches.{has_body}
 use Rattle.occ_slots.proofs.Turned.{are_bytes, body_small, chosen, has_turn, mid_for, number_small, place_within, read_at, some_ready, turns_to}
