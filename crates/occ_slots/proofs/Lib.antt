@@ -12,3 +12,4 @@ pub mod Forked
 pub mod PlainStops
 pub mod Turned
 pub mod Start
+pub mod Rerun

@@ -3,3 +3,4 @@ pub mod Ready
 pub mod Tasks
 pub mod Holding
 pub mod Settling
+pub mod Running

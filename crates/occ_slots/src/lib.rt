@@ -8,10 +8,12 @@ mod joining;
 mod meeting;
 pub mod network;
 mod ready;
+pub mod running;
 mod settling;
 mod tables;
 mod tasks;
 pub mod trace;
 
 pub use network::Network;
+pub use running::{Run, run_choices};
 pub use trace::{Communication, End};
