@@ -6,8 +6,8 @@ pub mod OneStop
 mod Holding
 mod Putting
 mod Changing
-mod Tables
-mod Quiet
+pub mod Tables
+pub mod Quiet
 mod States
 mod Meeting
 mod Still
@@ -16,9 +16,9 @@ mod Forks
 mod Merging
 mod Joining
 mod Parents
-mod Faults
+pub mod Faults
 mod Runs
-mod Settling
+pub mod Settling
 mod Beginning
 mod Sharing
 mod Whole

@@ -1,0 +1,15 @@
+pub mod ReadyLists
+pub mod OneChange
+pub mod Steps
+pub mod Meetings
+pub mod Between
+pub mod Waits
+pub mod Keys
+pub mod Undone
+pub mod Branches
+pub mod Ends
+pub mod Forked
+pub mod PlainStops
+pub mod Turned
+pub mod Start
+pub mod Rerun
