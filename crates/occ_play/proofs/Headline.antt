@@ -28,33 +28,14 @@ use Rattle.occ_net.specs.declared.ending.Ending.{Ending}
 use Rattle.occ_net.specs.declared.ending.Ending.TheVariants as E
 use Rattle.occ_play.specs.declared.playing.Played.{Played}
 use Rattle.occ_play.specs.declared.running.Outcome.{Outcome}
-use Rattle.occ_play.specs.declared.trace.Communication.{Communication as Made}
+use Rattle.occ_slots.specs.declared.trace.Communication.{Communication as Made}
 use Rattle.occ_play.specs.Answers.{AreByteMessages, IsByteMessage, answer_text, names_of}
-use Rattle.occ_play.specs.Network.{communication_of}
+use Rattle.occ_slots.specs.Holding.{communication_of}
 use Rattle.occ_net.specs.Following.{AllFit, AreBytes, Followed, ending_as, or_limit}
-use Rattle.occ_play.specs.Outcomes.{Begins, HasOneProcess, IsOutcome}
+use Rattle.occ_play.specs.Outcomes.{Begins, IsOutcome}
 use Rattle.occ_play.specs.Playing.{IsAnswer, Unfolds, UsageRefusesText, CodeRefusesText}
 use Rattle.occ_net.specs.Replay.{Replays, ending_of, ending_by}
 use Rattle.occ_net.proofs.Law.{replays_are_runs}
-
--- ---- a program without branches has one process
-
-only_done : (d : Declared) (n : ℕ) (bodies : List Body) (x : Numbered) → AllDo d n bodies (x ∷ []) → length bodies ≡ 1
-only_done d n [] x h = absurd h
-only_done d n (b ∷ []) x h = refl
-only_done d n (b ∷ c ∷ bs) x h = absurd h.2
-
--- a program of several bodies has a branch
-pub several : (u : Unfolding) (p : Program) → IsCompiledFrom u p → (length p.bodies ≡ 1 → ⊥) → branches_in (meaning u) ≡ [] → ⊥
-several u p from many none = many (only_done (declared u) 0 p.bodies (numbered 0 (meaning u)) (subst (λ ps. AllDo (declared u) 0 p.bodies ps) (ap (λ l. numbered 0 (meaning u) ∷ l) none) from.bodies))
-
-single : (bodies : List Body) → length bodies ≡ 1 → (b : Body) × (bodies ≡ b ∷ [])
-single [] e = absurd cc
-single (b ∷ []) e = (b, refl)
-single (b ∷ c ∷ bs) e = absurd (omega (arith, e))
-
-pub one_process : (u : Unfolding) (p : Program) → IsWellFormed u → Lawful u → IsCompiledFrom u p → length p.bodies ≡ 1 → HasOneProcess p
-one_process u p w lawful from e = let one = single p.bodies e in record { source = u; well_formed = w; lawful = lawful; compiled = from; body = one.0; alone = one.1 }
 
 -- ---- what is written to the screen and the error channel
 
@@ -157,11 +138,8 @@ usage_refuses u (usage.TwoOutputs line name) x h = (u, x, h)
 usage_refuses u usage.Memory x h = tt
 
 -- a quantum of 1 is refused by none
-pub many_refused : {source : List ℕ} (u : Unfolding) (p : Program) (line : ℕ) → Unfolds source u → IsCompiledFrom u p → (length p.bodies ≡ 1 → ⊥) → CodeRefusesText (code.Early line) source
-many_refused u p line x from many = (u, x, inr (several u p from many))
-
 pub code_refuses : {source : List ℕ} (u : Unfolding) (fault : CodeFault) → Unfolds source u → CodeRefuses fault 1 u → CodeRefusesText fault source
 code_refuses u code.TooLarge x h = (u, x, h.1)
-code_refuses u (code.Early line) x h = (u, x, inl h.1)
+code_refuses u (code.Early line) x h = (u, x, h.1)
 code_refuses u code.BadQuantum x h = h (omega arith, omega arith)
 code_refuses u code.Memory x h = tt

@@ -1,7 +1,5 @@
 mod Growth
 mod PlanLemmas
-mod PlainStops
-mod Settling
 mod Rerun
 mod Texts
 mod Traces

@@ -15,8 +15,8 @@ use Rattle.occ_term.specs.System.{End, OfProcess, Keyboard, Screen, Error}
 use Rattle.occ_term.specs.Runs.{Names, Entry, AllShown, entries}
 use Rattle.occ_net.specs.declared.ending.Ending.{Ending}
 use Rattle.occ_net.specs.declared.ending.Ending.TheVariants.{Ended, Stopped, Fault, Limit}
-use Rattle.occ_play.specs.declared.trace.Communication.{Communication as Made}
-use Rattle.occ_play.specs.Network.{communication_of}
+use Rattle.occ_slots.specs.declared.trace.Communication.{Communication as Made}
+use Rattle.occ_slots.specs.Holding.{communication_of}
 use Rattle.occ_net.specs.Endings.{ending_text}
 
 -- ---- messages

@@ -1,6 +1,5 @@
 pub mod Counting
 pub mod Plans
-pub mod Network
 pub mod Outcomes
 pub mod Answers
 pub mod Status

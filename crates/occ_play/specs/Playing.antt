@@ -1,5 +1,5 @@
 -- What `play` promises: the answer of an accepted program is shown by a run of its source, with that run's ending.
-use Rattle.std.specs.Prelude.{Bool, List, Option, [], false, length, map, take, ℕ, ⊤, ◌*◌, ◌<◌, ◌≡◌, ◌⊎◌}
+use Rattle.std.specs.Prelude.{Bool, List, Option, false, length, map, take, ℕ, ⊤, ◌*◌, ◌<◌, ◌≡◌}
 use Rattle.std.specs.Io.KnownBytes.{Appends}
 use Rattle.occ_text.specs.Words.{Row}
 use Rattle.occ_text.specs.Lines.{LinesOf}
@@ -12,7 +12,6 @@ use Rattle.occ_tree.specs.declared.fault.ParseFault.{ParseFault}
 use Rattle.occ_tree.specs.declared.fault.ParseFault.TheVariants as tree
 use Rattle.occ_term.specs.declared.usage.UsageFault.{UsageFault}
 use Rattle.occ_term.specs.declared.usage.UsageFault.TheVariants as usage
-use Rattle.occ_term.specs.Processes.{branches_in}
 use Rattle.occ_term.specs.Sizes.{size_of}
 use Rattle.occ_term.specs.Refusals.{UsageRefuses}
 use Rattle.occ_term.specs.Unfolding.{Unfolding, declared, meaning, IsWellFormed, Lawful}
@@ -100,10 +99,10 @@ abbrev pub UsageRefusesText : UsageFault → List ℕ → Type 0
 UsageRefusesText usage.Memory source = ⊤
 UsageRefusesText fault source = (u : Unfolding) × Unfolds source u × UsageRefuses fault u
 
--- where there is an ALT, or a PAR with a branch, for which there is no network yet
+-- 61 only where there is an ALT
 abbrev pub CodeRefusesText : CodeFault → List ℕ → Type 0
 CodeRefusesText code.Memory source = ⊤
-CodeRefusesText (code.Early line) source = (u : Unfolding) × Unfolds source u × ((has_no_alt (meaning u) ≡ false) ⊎ (branches_in (meaning u) ≡ [] → ⊥))
+CodeRefusesText (code.Early line) source = (u : Unfolding) × Unfolds source u × (has_no_alt (meaning u) ≡ false)
 CodeRefusesText code.BadQuantum source = ⊥
 CodeRefusesText code.TooLarge source = (u : Unfolding) × Unfolds source u × (most_instructions < 32 * (size_of (meaning u)).nodes)
 

@@ -12,7 +12,7 @@ use crate::fault::PlayFault;
 use crate::plan::Plan;
 use crate::running::{Outcome, run};
 use occ_check::{CheckFault, unfold};
-use occ_code::{CodeFault, compile, early_line};
+use occ_code::{CodeFault, compile};
 use occ_net::{Choice, Ending};
 use occ_parse::parse;
 use occ_term::{Checked, Refused, Unfolded, UsageFault, check_usage};
@@ -78,10 +78,6 @@ fn answered(
         Ok(code) => code,
         Err(fault) => return Err(PlayFault::Code(fault)),
     };
-    if code.len() != 1 {
-        let line = early_line(checked.unfolded().term());
-        return Err(PlayFault::Code(CodeFault::Early { line }));
-    }
     let outcome = run(alloc, &code, keyboard, plan)?;
     let bytes = answer(alloc, &outcome, code.channels(), trace)?;
     let Outcome {

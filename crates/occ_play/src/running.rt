@@ -1,14 +1,13 @@
 //! A run of a plan.
-ghost use Rattle.std.specs.Prelude.{◌≡◌, ◌<◌, ◌^◌, ◌+◌, IfOk, length};
-ghost use Rattle.occ_play.specs.Outcomes.{HasOneProcess, IsOutcome};
+ghost use Rattle.std.specs.Prelude.{◌≡◌, All, IfOk, ℕ};
+ghost use Rattle.occ_play.specs.Outcomes.{IsOutcome};
 ghost use Rattle.occ_play.specs.Plans.{choices_of};
 
-use crate::network::Network;
 use crate::plan::Plan;
-use crate::trace::Communication;
 use occ_code::Code;
 use occ_net::{Choice, Ending};
 use occ_proc::Scratch;
+use occ_slots::{Communication, Network};
 use std::alloc::{AllocError, Global};
 
 /// What a run came to.
@@ -22,25 +21,22 @@ pub(crate) struct Outcome {
     pub(crate) trace: Vec<Communication>,
 }
 
-/// Takes a turn for each choice of the plan, until the network ends.
+/// Takes a turn for each choice of the plan, until the network ends. The bodies have one quantum.
 pub(crate) fn run(
     alloc: Global,
     code: &Code,
     keyboard: &[u8],
     plan: &Plan,
 ) -> Result<Outcome, AllocError>
-    requires { HasOneProcess code.now }
+    requires { (quantum : ℕ) × All (λ b. b.quantum ≡ quantum) code.now.bodies }
     ensures { IfOk result (IsOutcome code.now keyboard.now (choices_of plan.now)) }
 {
-    let Some(body) = code.body(0) else {
-        unreachable!()
-    };
     let mut scratch = Scratch::new(alloc);
-    let mut network = Network::new(alloc, body)?;
+    let mut network = Network::new(alloc, code)?;
     let mut choices = Vec::new(alloc);
     loop {
         if let Some(ending) = network.ending() {
-            let trace = network.trace;
+            let trace = network.into_trace();
             return Ok(Outcome {
                 ending,
                 choices,
@@ -48,7 +44,7 @@ pub(crate) fn run(
             });
         }
         let Some(choice) = plan.at(choices.len()) else {
-            let trace = network.trace;
+            let trace = network.into_trace();
             let ending = Ending::Limit;
             return Ok(Outcome {
                 ending,
@@ -56,7 +52,7 @@ pub(crate) fn run(
                 trace,
             });
         };
-        network.take_turn(alloc, body, &mut scratch, keyboard)?;
+        network.take_turn(alloc, code, &mut scratch, keyboard, choice)?;
         choices.push(choice)?;
     }
 }

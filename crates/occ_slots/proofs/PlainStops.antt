@@ -1,6 +1,6 @@
 -- No code chooses among alternatives yet, and no turn ends with a message taken.
 use Rattle.std.proofs.Common.{◌≡◌, Bool, true, false, ℕ, ℤ, IsTrue, List, [], ◌∷◌, Option, Some, None, refl, sym, ap, ◌∙◌, subst}
-use Rattle.std.specs.Prelude.{slice_get, ⊤}
+use Rattle.std.specs.Prelude.{if◌then◌else◌, slice_get, ⊤, ◌&&◌}
 use mathlib.Core.Bool.{true≢false}
 use Rattle.occ_term.specs.declared.message.Message.{Message}
 use Rattle.occ_term.specs.Frames.{Variables}
@@ -49,10 +49,14 @@ plain_stored : (pc : ℕ) (x : Stored) (to : Variables → Point) → IsPlain (g
 plain_stored pc (Stays f) to = tt
 plain_stored pc (Refused e f) to = refl
 
+plain_if : (b : Bool) (to : Point) → IsPlain (if b then Moves to else Stuck)
+plain_if true to = tt
+plain_if false to = tt
+
 plain_act : (i : Option Instruction) (pc : ℕ) (st : List ℤ) (q : List Part) (sp : List Spot) (f : Variables) → IsPlain (act by_place i pc st q sp f)
 plain_act None pc st q sp f = tt
 plain_act (Some (M.Push v)) pc st q sp f = tt
-plain_act (Some (M.Load c)) pc st q sp f = tt
+plain_act (Some (M.Load c)) pc st q sp f = plain_if (M.is_named by_place f c) _
 plain_act (Some M.LoadAt) pc st q sp f = plain_one st _ (λ v rest. tt)
 plain_act (Some (M.LoadLetter line text)) pc st q sp f = plain_one st _ (λ v rest. plain_going pc f _ _)
 plain_act (Some (M.Subscript line size stride)) pc st q sp f = plain_two st _ (λ v w rest. plain_going pc f _ _)
@@ -70,7 +74,7 @@ plain_act (Some (M.SpotOne count)) pc st q sp f = plain_one st _ (λ v rest. tt)
 plain_act (Some (M.SpotCounted line counts components)) pc st q sp f = plain_two st _ (λ v w rest. tt)
 plain_act (Some M.StoreParts) pc st q sp f = plain_stored pc _ _
 plain_act (Some (M.StoreNamed first)) pc st q sp f = tt
-plain_act (Some (M.StoreOne c)) pc st q sp f = plain_one st _ (λ v rest. tt)
+plain_act (Some (M.StoreOne c)) pc st q sp f = plain_one st _ (λ v rest. plain_if (M.is_named by_place f c) _)
 plain_act (Some (M.ClearCells first count)) pc st q sp f = tt
 plain_act (Some (M.Jump skip)) pc st q sp f = tt
 plain_act (Some (M.Choose skip)) pc st q sp f = plain_one st _ (λ v rest. tt)
@@ -78,10 +82,10 @@ plain_act (Some (M.IfAmong constants skip)) pc st q sp f = plain_one st _ (λ v 
 plain_act (Some (M.IfTag tag skip)) pc st q sp f = tt
 plain_act (Some M.DropOne) pc st q sp f = plain_one st _ (λ v rest. tt)
 plain_act (Some (M.CountedFrom line)) pc st q sp f = plain_two st _ (λ v w rest. plain_going pc f _ _)
-plain_act (Some (M.NextChoice index skip)) pc st q sp f = plain_two st _ (λ v w rest. tt)
+plain_act (Some (M.NextChoice index skip)) pc st q sp f = plain_two st _ (λ v w rest. plain_if (M.is_named by_place f index) _)
 plain_act (Some (M.BackToChoice back)) pc st q sp f = tt
-plain_act (Some (M.Begin slot index skip)) pc st q sp f = plain_two st _ (λ v w rest. tt)
-plain_act (Some (M.Pass slot index skip)) pc st q sp f = tt
+plain_act (Some (M.Begin slot index skip)) pc st q sp f = plain_two st _ (λ v w rest. plain_if (M.is_named by_place f index && M.has_slot by_place f slot) _)
+plain_act (Some (M.Pass slot index skip)) pc st q sp f = plain_if (M.is_named by_place f index && M.has_slot by_place f slot) _
 plain_act (Some (M.LoopBack back)) pc st q sp f = refl
 plain_act (Some (M.Send tag)) pc st q sp f = plain_one st _ (λ v rest. refl)
 plain_act (Some M.Receive) pc st q sp f = plain_one st _ (λ v rest. refl)

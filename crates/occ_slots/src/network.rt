@@ -128,4 +128,11 @@ impl Network {
     {
         &self.trace
     }
+
+    /// The same, where the network is no longer wanted.
+    pub fn into_trace(self) -> Vec<Communication>
+        ensures { (p : Program) (keyboard : List ℕ) (net : Net) → Holds p keyboard self net → net.trace ≡ map communication_of result.items }
+    {
+        self.trace
+    }
 }

@@ -1,7 +1,7 @@
 use Rattle.std.proofs.Common.{◌∙◌, ◌<◌, ◌^◌, sym, length, refl, rules}
 use Rattle.occ_net.specs.Following.{AreBytes}
 use Rattle.occ_play.specs.Plans.{choices_of}
-use Rattle.occ_play.proofs.Headline.{one_process, headline, outputs_are_bytes, code_refuses, many_refused}
+use Rattle.occ_play.proofs.Headline.{headline, outputs_are_bytes, code_refuses}
 use Rattle.occ_play.proofs.Rerun.{are_bytes}
 use Rattle.occ_play.proofs.playing.answered.Goals as goal
 
@@ -9,10 +9,7 @@ pub returns-in-Err-clause-refused : goal.returns-in-Err-clause-refused
 returns-in-Err-clause-refused c = code_refuses c.in_ok-checked.checked c.in-Err.fault c.in_ok-checked.ensures.found.0 c.in-Err.ensures.refused
 
 pub run-requires : goal.run-requires
-run-requires c = one_process c.in_ok-checked.checked c.in-Ok.code c.in_ok-checked.ensures.found.0.well_formed c.in_ok-checked.ensures.found.1 c.in-Ok.ensures.compiled (sym c.len.ensures ∙ c.if-len-ne1.false)
-
-pub returns-then-len-ne1-clause-refused : goal.returns-then-len-ne1-clause-refused
-returns-then-len-ne1-clause-refused c = many_refused c.in_ok-checked.checked c.in-Ok.code c.early_line-line.result c.in_ok-checked.ensures.found.0 c.in-Ok.ensures.compiled (λ one. c.if-len-ne1.true (c.len.ensures ∙ one))
+run-requires c = (1, c.in-Ok.ensures.quantum)
 
 pub answer-requires-clause-screen : goal.answer-requires-clause-screen
 answer-requires-clause-screen c =

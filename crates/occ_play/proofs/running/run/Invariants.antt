@@ -1,5 +1,5 @@
 use Rattle.std.proofs.Common.{◌≡◌, ◌-◌, length, take}
-use Rattle.occ_play.specs.Outcomes.{HasReplayed}
+use Rattle.occ_slots.specs.Running.{HasReplayed}
 use Rattle.occ_play.specs.Plans.{choices_of}
 use Rattle.occ_play.proofs.running.run.Given as goal
 
@@ -7,7 +7,6 @@ abbrev pub invariant-loop-ending : goal.invariant-loop-ending
 invariant-loop-ending l = record {
   replayed : HasReplayed l.code l.keyboard l.choices.items l.network;
   used : l.choices.items ≡ take (length l.choices.items) (choices_of l.plan);
-  counted : l.network.task.turns ≡ length l.choices.items;
 }
 
 abbrev pub decreases-loop-ending : goal.decreases-loop-ending
