@@ -24,6 +24,8 @@ mod lexing;
 #[cfg(test)]
 mod memory;
 #[cfg(test)]
+mod networks;
+#[cfg(test)]
 mod outcomes;
 #[cfg(test)]
 mod refusals;

@@ -86,8 +86,8 @@ const REFUSALS: [(&[u8], &str); 23] = [
     (b"", "refused 42 NoMain"),
     (b"-- no program", "refused 42 NoMain"),
     (
-        b"PROC main (CHAN OF BYTE keyboard, screen)\n  PAR\n    screen ! 'A'\n    SKIP\n:\n",
-        "refused 61 Early line 3",
+        b"PROC main (CHAN OF BYTE keyboard, screen)\n  BYTE b:\n  ALT\n    keyboard ? b\n      SKIP\n:\n",
+        "refused 61 Early line 2",
     ),
 ];
 
