@@ -48,7 +48,7 @@ pub returns-in-Some : goal.returns-in-Some
 returns-in-Some c =
     let h = c.loop-ending.invariant.replayed in
     let ends = sym (c.in-Some.is) ∙ c.ending.ensures c.args.code.now c.args.keyboard.now h.net h.holds in
-    outcome c.args.code.now c.args.keyboard.now (choices_of c.args.plan.now) c.loop-ending.network _ h (c.into_trace.ensures c.args.code.now c.args.keyboard.now h.net h.holds) (begins_by c.loop-ending.choices.items _ c.loop-ending.invariant.used) (ap or_limit ends) (λ q. let never : Some c.in-Some.ending ≡ None = ends ∙ q in absurd cc)
+    outcome c.args.code.now c.args.keyboard.now (choices_of c.args.plan.now) c.loop-ending.network _ h (c.into_trace-trace.ensures c.args.code.now c.args.keyboard.now h.net h.holds) (begins_by c.loop-ending.choices.items _ c.loop-ending.invariant.used) (ap or_limit ends) (λ q. let never : Some c.in-Some.ending ≡ None = ends ∙ q in absurd cc)
 
 pub returns-in_default-at : goal.returns-in_default-at
 returns-in_default-at c =
@@ -56,4 +56,4 @@ returns-in_default-at c =
     let count : c.len.result ≡ length c.loop-ending.choices.items = c.len.ensures ∙ c.loop-ending.choices.ok.0 in
     let at = ap (slice_get (choices_of c.args.plan.now)) (sym count) ∙ sym c.at.ensures ∙ c.in_default-at.is in
     let open_end : None ≡ ending_of h.net = sym c.in_default.is ∙ c.ending.ensures c.args.code.now c.args.keyboard.now h.net h.holds in
-    outcome c.args.code.now c.args.keyboard.now (choices_of c.args.plan.now) c.loop-ending.network _ h (c.into_trace-in_default-at.ensures c.args.code.now c.args.keyboard.now h.net h.holds) (begins_by c.loop-ending.choices.items _ c.loop-ending.invariant.used) (ap or_limit open_end) (λ q. all_used c.loop-ending.choices.items _ c.loop-ending.invariant.used at)
+    outcome c.args.code.now c.args.keyboard.now (choices_of c.args.plan.now) c.loop-ending.network _ h (c.into_trace-trace-in_default-at.ensures c.args.code.now c.args.keyboard.now h.net h.holds) (begins_by c.loop-ending.choices.items _ c.loop-ending.invariant.used) (ap or_limit open_end) (λ q. all_used c.loop-ending.choices.items _ c.loop-ending.invariant.used at)
