@@ -1,35 +1,35 @@
 -- The arms of an ALT, one after the other, and behind declarations.
 use Rattle.std.proofs.Common.{◌≡◌, ◌∙◌, ◌+◌, ℕ, List, [], ◌∷◌, ◌++◌, Option, Some, None, refl, ap, sym, map}
 use Rattle.std.proofs.lemmas.List.{map-append}
-use Rattle.occ_tree.specs.Many.{◌>>=◌}
+use Rattle.occ_tree_grammar.specs.Many.{◌>>=◌}
 use Rattle.occ_term.specs.declared.expression.Declaration.{Declaration}
-use Rattle.occ_tree.specs.Processes.Trees.{nodes}
-use Rattle.occ_tree.specs.Processes.Views as trees
-use Rattle.occ_tree.specs.declared.tree.process.Arm.{Arm}
-use Rattle.occ_tree.specs.declared.tree.process.Arm.TheVariants as arms
+use Rattle.occ_tree_grammar.specs.Processes.Trees.{nodes}
+use Rattle.occ_tree_grammar.specs.Processes.Views as trees
+use Rattle.occ_tree_grammar.specs.declared.tree.process.Arm.{Arm}
+use Rattle.occ_tree_grammar.specs.declared.tree.process.Arm.TheVariants as arms
 use Rattle.occ_term.specs.Terms as T
 use Rattle.occ_term.specs.Terms.{Arms, no_arms, skip_arm, input_arm, declared_arms, each_arm}
 use Rattle.occ_term.specs.View.{Seen, arm_step, choice_step, reception_step, option_step, term_step, branch_step, variant_step, arm_of, arms_of, declaration_of, declarations_of}
 use Rattle.occ_term.specs.declared.term.Arm.{Arm as TermArm}
 use Rattle.occ_term.specs.declared.term.Arm.TheOpen.{Arm-F}
 use Rattle.occ_term.specs.declared.term.Arm.TheFolds.{fold_out-Arm}
-use Rattle.occ_unfolding.specs.Actions.{Listed, arms_behind, arms_then, as_reception, depth_behind, received, size_of_list, test_of, with_tags}
-use Rattle.occ_unfolding.specs.Items.{channel_of}
-use Rattle.occ_unfolding.specs.Numbers.{Numbers, room}
-use Rattle.occ_tree.specs.Expressions.Trees.{Expression}
-use Rattle.occ_tree.specs.Lines.Heads.{on_input, on_skip}
-use Rattle.occ_tree.specs.Lines.Trees as L
-use Rattle.occ_tree.specs.Processes.Trees.{Decls}
+use Rattle.occ_check_meaning.specs.Actions.{Listed, arms_behind, arms_then, as_reception, depth_behind, received, size_of_list, test_of, with_tags}
+use Rattle.occ_check_meaning.specs.Items.{channel_of}
+use Rattle.occ_check_meaning.specs.Numbers.{Numbers, room}
+use Rattle.occ_tree_grammar.specs.Expressions.Trees.{Expression}
+use Rattle.occ_tree_grammar.specs.Lines.Heads.{on_input, on_skip}
+use Rattle.occ_tree_grammar.specs.Lines.Trees as L
+use Rattle.occ_tree_grammar.specs.Processes.Trees.{Decls}
 use Rattle.occ_term.specs.Sizes as Sizes
 use Rattle.occ_term.specs.Sizes.{size_of_expression, size_of_place}
 use Rattle.occ_term.specs.declared.primitive.Primitive.TheVariants.{Bool as Boolean}
 use Rattle.occ_term.specs.declared.protocol.Protocol.{Protocol}
-use Rattle.occ_unfolding.specs.Expressions.{typed_as}
-use Rattle.occ_unfolding.specs.Performing as P
-use Rattle.occ_unfolding.specs.Performing.{Calling, Under, arms_under, entered, variants_arm}
+use Rattle.occ_check_meaning.specs.Expressions.{typed_as}
+use Rattle.occ_check_meaning.specs.Performing as P
+use Rattle.occ_check_meaning.specs.Performing.{Calling, Under, arms_under, entered, variants_arm}
 use Rattle.occ_check.specs.Prefixes.{guarding, guarding_variants, tested}
-use Rattle.occ_unfolding.specs.Recursion.{all_arms, all_declared, arm_unfolded}
-use Rattle.occ_unfolding.specs.Scope.{Scope, names_of}
+use Rattle.occ_check_meaning.specs.Recursion.{all_arms, all_declared, arm_unfolded}
+use Rattle.occ_check_meaning.specs.Scope.{Scope, names_of}
 use Rattle.occ_check.specs.Statements.{listening, declarations_of_arm}
 use Rattle.occ_check.specs.Weights.{body_size, arm_size, decls_size, node_size}
 

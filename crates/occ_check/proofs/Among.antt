@@ -6,7 +6,7 @@ use Rattle.std.specs.Ordering.{int_eq}
 use Rattle.std.proofs.Math.Seq.{drop-cons}
 use Rattle.std.proofs.lemmas.Grind.{reverse_onto}
 use Rattle.std.proofs.lemmas.List.{drop_all, reverse-append}
-use Rattle.occ_unfolding.specs.Actions.{has_constant, has_number}
+use Rattle.occ_check_meaning.specs.Actions.{has_constant, has_number}
 
 pub among : {A : Type 0} → (A → Bool) → List A → Bool
 among test [] = false

@@ -1,16 +1,16 @@
 -- Assignments: sides made one by one, put together, and compared.
 use Rattle.std.proofs.Common.{◌≡◌, ◌∙◌, sym, ap, refl, ℕ, List, [], ◌∷◌, map, Option, Some, None, Bool, true, false}
 use Rattle.std.specs.Prelude.{not}
-use Rattle.occ_tree.specs.Many.{◌>>=◌}
-use Rattle.occ_tree.specs.Expressions.Trees.{Expression}
-use Rattle.occ_tree.specs.Lines.Trees as L
+use Rattle.occ_tree_grammar.specs.Many.{◌>>=◌}
+use Rattle.occ_tree_grammar.specs.Expressions.Trees.{Expression}
+use Rattle.occ_tree_grammar.specs.Lines.Trees as L
 use Rattle.occ_term.specs.declared.primitive.Primitive.{Primitive}
 use Rattle.occ_term.specs.Terms as T
-use Rattle.occ_unfolding.specs.Actions.{assigned}
-use Rattle.occ_unfolding.specs.Expressions.{Typed, typed}
-use Rattle.occ_unfolding.specs.Items.{apart, as_target, assigned_item, assigned_items, some_clash, variable_of}
-use Rattle.occ_unfolding.specs.Scope.{Names, Row, each_of, keep}
-use Rattle.occ_unfolding.proofs.Steps.{bind_some, some_is}
+use Rattle.occ_check_meaning.specs.Actions.{assigned}
+use Rattle.occ_check_meaning.specs.Expressions.{Typed, typed}
+use Rattle.occ_check_meaning.specs.Items.{apart, as_target, assigned_item, assigned_items, some_clash, variable_of}
+use Rattle.occ_check_meaning.specs.Scope.{Names, Row, each_of, keep}
+use Rattle.occ_check_meaning.proofs.Steps.{bind_some, some_is}
 use Rattle.occ_check.specs.ActionView.{rows_at, side_assigned, side_of, zipped}
 use Rattle.occ_check.specs.View.{Refuses}
 use Rattle.occ_check.specs.declared.fault.CheckFault.{CheckFault}

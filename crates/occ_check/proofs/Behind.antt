@@ -1,18 +1,18 @@
 -- What stands behind declarations, step by step, and what makes it smaller.
 use Rattle.std.proofs.Common.{◌≡◌, ◌<◌, ◌≤◌, ◌+◌, ◌*◌, ℕ, List, [], ◌∷◌, Option, Some, None, refl, ap, sym, subst, ◌∙◌, arith, map, slice_get}
-use Rattle.occ_tree.specs.Many.{◌>>=◌}
+use Rattle.occ_tree_grammar.specs.Many.{◌>>=◌}
 use Rattle.occ_term.specs.Terms.{Term, Declaration}
-use Rattle.occ_unfolding.specs.Actions.{headed, opening}
-use Rattle.occ_unfolding.specs.Numbers.{Numbers}
-use Rattle.occ_unfolding.specs.Performing.{behind, Calling, Declaring, Under, Entered, entered}
-use Rattle.occ_unfolding.specs.Scope.{Scope}
-use Rattle.occ_tree.specs.Processes.Trees.{Decls}
-use Rattle.occ_tree.specs.Processes.Views.{process_of}
-use Rattle.occ_tree.specs.declared.tree.process.Process.{Process}
-use Rattle.occ_tree.specs.declared.tree.process.Stmt.{Stmt}
-use Rattle.occ_unfolding.specs.Recursion.{all_declared, unfolded}
+use Rattle.occ_check_meaning.specs.Actions.{headed, opening}
+use Rattle.occ_check_meaning.specs.Numbers.{Numbers}
+use Rattle.occ_check_meaning.specs.Performing.{behind, Calling, Declaring, Under, Entered, entered}
+use Rattle.occ_check_meaning.specs.Scope.{Scope}
+use Rattle.occ_tree_grammar.specs.Processes.Trees.{Decls}
+use Rattle.occ_tree_grammar.specs.Processes.Views.{process_of}
+use Rattle.occ_tree_grammar.specs.declared.tree.process.Process.{Process}
+use Rattle.occ_tree_grammar.specs.declared.tree.process.Stmt.{Stmt}
+use Rattle.occ_check_meaning.specs.Recursion.{all_declared, unfolded}
 use Rattle.occ_check.specs.Statements.{declarations_in, line_in, performing, statement_in}
-use Rattle.occ_unfolding.specs.Unfolding.{Procedures, meant}
+use Rattle.occ_check_meaning.specs.Unfolding.{Procedures, meant}
 use Rattle.std.specs.Prelude.{IfOk, Result, Ok, Err}
 use Rattle.occ_check.specs.Progress.{IsFalling}
 use Rattle.occ_check.specs.Weights.{decls_size, node_size, statement_size, weight}
@@ -21,7 +21,7 @@ use Rattle.occ_check.specs.declared.unfolder.Unfolder.{Unfolder}
 use Rattle.occ_check.specs.declared.unfolder.Step.{Step}
 use Rattle.occ_check.specs.declared.unfolder.Step.TheVariants as steps
 use Rattle.occ_check.proofs.Parts.{behind_declarations, within_process}
-use Rattle.occ_unfolding.proofs.Steps.{then_some}
+use Rattle.occ_check_meaning.proofs.Steps.{then_some}
 
 -- an answer that is taken apart and put together again
 same_pair : {A B : Type 0} (r : Option (A × B)) → (r >>= λ t. Some (t.0, t.1)) ≡ r

@@ -4,19 +4,19 @@ use Rattle.std.specs.Prelude.{MatchOption}
 use Rattle.std.proofs.Math.Seq.{drop-cons}
 use Rattle.std.proofs.Math.ListN.{drop_of_length-le}
 use mathlib.Core.List.{append_assoc, append-nil, map-append}
-use Rattle.occ_tree.specs.Many.{◌>>=◌}
-use Rattle.occ_tree.specs.Expressions.Trees.{Expression}
-use Rattle.occ_tree.specs.Expressions.Trees as trees
-use Rattle.occ_tree.specs.Lines.Trees as L
-use Rattle.occ_tree.specs.Lines.Views as lines
-use Rattle.occ_tree.specs.declared.tree.expr.Expr.{Expr}
-use Rattle.occ_tree.specs.declared.tree.line.Formal.{Formal}
-use Rattle.occ_tree.specs.declared.tree.line.Spec.{Spec}
-use Rattle.occ_unfolding.specs.Scope.{Name, Names, are_once, keep, once}
-use Rattle.occ_unfolding.specs.Declarations as D
-use Rattle.occ_unfolding.specs.Declarations.{opened, with_others}
-use Rattle.occ_unfolding.specs.Calls as C
-use Rattle.occ_unfolding.specs.Calls.{other_formals, all_actuals, actual_of, wanted, spec_after}
+use Rattle.occ_tree_grammar.specs.Many.{◌>>=◌}
+use Rattle.occ_tree_grammar.specs.Expressions.Trees.{Expression}
+use Rattle.occ_tree_grammar.specs.Expressions.Trees as trees
+use Rattle.occ_tree_grammar.specs.Lines.Trees as L
+use Rattle.occ_tree_grammar.specs.Lines.Views as lines
+use Rattle.occ_tree_grammar.specs.declared.tree.expr.Expr.{Expr}
+use Rattle.occ_tree_grammar.specs.declared.tree.line.Formal.{Formal}
+use Rattle.occ_tree_grammar.specs.declared.tree.line.Spec.{Spec}
+use Rattle.occ_check_meaning.specs.Scope.{Name, Names, are_once, keep, once}
+use Rattle.occ_check_meaning.specs.Declarations as D
+use Rattle.occ_check_meaning.specs.Declarations.{opened, with_others}
+use Rattle.occ_check_meaning.specs.Calls as C
+use Rattle.occ_check_meaning.specs.Calls.{other_formals, all_actuals, actual_of, wanted, spec_after}
 use Rattle.occ_check.specs.View.{Refuses, numbers_of}
 use Rattle.occ_check.specs.OpenedView.{opened_of}
 use Rattle.occ_check.specs.CallView.{formal_of, formals_of, listed_formals, named_formal, wanted_of}

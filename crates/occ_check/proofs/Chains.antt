@@ -2,21 +2,21 @@
 use Rattle.std.proofs.Common.{◌≡◌, ℕ, suc, ◌+◌, ◌<◌, ◌≤◌, List, [], ◌∷◌, ◌++◌, drop, get_or, length, map, Option, Some, None, refl, subst, sym, ap, ◌∙◌, arith, Vec, Global}
 use Rattle.std.proofs.Math.Seq.{drop-cons}
 use Rattle.std.proofs.lemmas.List.{drop_all, map-append}
-use Rattle.occ_tree.specs.Many.{◌>>=◌}
-use Rattle.occ_tree.specs.declared.tree.expr.Expr.{Expr}
-use Rattle.occ_tree.specs.declared.tree.expr.Expr.TheVariants as exprs
-use Rattle.occ_tree.specs.declared.tree.expr.Operand.{Operand as OperandTree}
-use Rattle.occ_tree.specs.declared.tree.expr.Operand.TheVariants as operandTrees
-use Rattle.occ_tree.specs.declared.tree.expr.Logic.{Logic}
-use Rattle.occ_tree.specs.Expressions.Trees as trees
-use Rattle.occ_tree.proofs.Rows.{operands_made, expressions_made}
+use Rattle.occ_tree_grammar.specs.Many.{◌>>=◌}
+use Rattle.occ_tree_grammar.specs.declared.tree.expr.Expr.{Expr}
+use Rattle.occ_tree_grammar.specs.declared.tree.expr.Expr.TheVariants as exprs
+use Rattle.occ_tree_grammar.specs.declared.tree.expr.Operand.{Operand as OperandTree}
+use Rattle.occ_tree_grammar.specs.declared.tree.expr.Operand.TheVariants as operandTrees
+use Rattle.occ_tree_grammar.specs.declared.tree.expr.Logic.{Logic}
+use Rattle.occ_tree_grammar.specs.Expressions.Trees as trees
+use Rattle.occ_tree_grammar.proofs.Rows.{operands_made, expressions_made}
 use Rattle.occ_term.specs.declared.primitive.Primitive.TheVariants.{Bool as Boolean, Int}
 use Rattle.occ_term.specs.Terms as T
 use Rattle.occ_term.specs.Terms.{Subscripts, no_subscripts, then_subscript}
 use Rattle.occ_term.specs.View.{expression_of, subscripts}
 use Rattle.occ_term.specs.declared.expression.TermExpr.{TermExpr}
-use Rattle.occ_unfolding.specs.Scope.{Names}
-use Rattle.occ_unfolding.specs.Expressions.{joined, single, logic_of, of_type, typed, typed_as, typed_chain, typed_operand, typed_subscripts}
+use Rattle.occ_check_meaning.specs.Scope.{Names}
+use Rattle.occ_check_meaning.specs.Expressions.{joined, single, logic_of, of_type, typed, typed_as, typed_chain, typed_operand, typed_subscripts}
 use Rattle.occ_check.specs.View.{Refuses}
 use Rattle.occ_check.specs.declared.fault.CheckFault.{CheckFault}
 use Rattle.occ_check.proofs.Refusals.{none_then, refused_with, then_nothing, then_then}

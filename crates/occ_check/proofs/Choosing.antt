@@ -3,9 +3,9 @@ use Rattle.std.proofs.Common.{◌≡◌, ℕ, ℤ, suc, ◌+◌, ◌<◌, ◌≤
 use Rattle.std.specs.Prelude.{not, pos}
 use Rattle.std.proofs.Math.Seq.{drop-cons}
 use Rattle.std.proofs.lemmas.List.{drop_all}
-use Rattle.occ_tree.specs.Many.{◌>>=◌}
-use Rattle.occ_unfolding.specs.Scope.{keep}
-use Rattle.occ_unfolding.specs.Actions.{Chosen, choosing, has_constant}
+use Rattle.occ_tree_grammar.specs.Many.{◌>>=◌}
+use Rattle.occ_check_meaning.specs.Scope.{keep}
+use Rattle.occ_check_meaning.specs.Actions.{Chosen, choosing, has_constant}
 use Rattle.occ_check.specs.View.{Refuses}
 use Rattle.occ_check.specs.declared.fault.CheckFault.{CheckFault}
 use Rattle.occ_check.proofs.Refusals.{none_then, refused_with, then_nothing}

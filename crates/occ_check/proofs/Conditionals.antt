@@ -1,32 +1,32 @@
 -- The choices of an IF, one after the other, and behind declarations.
 use Rattle.std.proofs.Common.{◌≡◌, ◌∙◌, ◌+◌, ℕ, List, [], ◌∷◌, ◌++◌, Option, Some, None, refl, ap, sym, map}
 use Rattle.std.proofs.lemmas.List.{map-append}
-use Rattle.occ_tree.specs.Many.{◌>>=◌}
+use Rattle.occ_tree_grammar.specs.Many.{◌>>=◌}
 use Rattle.occ_term.specs.declared.expression.Declaration.{Declaration}
-use Rattle.occ_tree.specs.Processes.Trees.{nodes}
-use Rattle.occ_tree.specs.Processes.Views as trees
-use Rattle.occ_tree.specs.Processes.Views.{process_of, row_decls}
-use Rattle.occ_tree.specs.declared.tree.process.Choice.{Choice}
-use Rattle.occ_tree.specs.declared.tree.process.Choice.TheVariants as choices
+use Rattle.occ_tree_grammar.specs.Processes.Trees.{nodes}
+use Rattle.occ_tree_grammar.specs.Processes.Views as trees
+use Rattle.occ_tree_grammar.specs.Processes.Views.{process_of, row_decls}
+use Rattle.occ_tree_grammar.specs.declared.tree.process.Choice.{Choice}
+use Rattle.occ_tree_grammar.specs.declared.tree.process.Choice.TheVariants as choices
 use Rattle.occ_term.specs.Terms as T
 use Rattle.occ_term.specs.Terms.{Choices, no_choices, or_choice, declared_choices, each_choice}
 use Rattle.occ_term.specs.View.{Seen, arm_step, choice_step, reception_step, option_step, term_step, branch_step, variant_step, choice_of, choices_of, declaration_of, declarations_of}
 use Rattle.occ_term.specs.declared.term.Choice.{Choice as TermChoice}
 use Rattle.occ_term.specs.declared.term.Arm.TheOpen.{Choice-F}
 use Rattle.occ_term.specs.declared.term.Arm.TheFolds.{fold_out-Choice}
-use Rattle.occ_unfolding.specs.Actions.{choices_behind, choices_then}
-use Rattle.occ_unfolding.specs.Numbers.{Numbers, room}
-use Rattle.occ_tree.specs.Expressions.Trees.{Expression}
-use Rattle.occ_tree.specs.Processes.Trees.{Decls}
+use Rattle.occ_check_meaning.specs.Actions.{choices_behind, choices_then}
+use Rattle.occ_check_meaning.specs.Numbers.{Numbers, room}
+use Rattle.occ_tree_grammar.specs.Expressions.Trees.{Expression}
+use Rattle.occ_tree_grammar.specs.Processes.Trees.{Decls}
 use Rattle.occ_term.specs.Sizes as Sizes
 use Rattle.occ_term.specs.Sizes.{size_of_expression}
 use Rattle.occ_term.specs.declared.primitive.Primitive.TheVariants.{Bool as Boolean}
-use Rattle.occ_unfolding.specs.Expressions.{typed_as}
-use Rattle.occ_unfolding.specs.Performing as P
-use Rattle.occ_unfolding.specs.Performing.{Calling, Under, choices_under, entered}
+use Rattle.occ_check_meaning.specs.Expressions.{typed_as}
+use Rattle.occ_check_meaning.specs.Performing as P
+use Rattle.occ_check_meaning.specs.Performing.{Calling, Under, choices_under, entered}
 use Rattle.occ_check.specs.Prefixes.{tested}
-use Rattle.occ_unfolding.specs.Recursion.{all_choices, all_declared, choice_unfolded}
-use Rattle.occ_unfolding.specs.Scope.{Scope, names_of}
+use Rattle.occ_check_meaning.specs.Recursion.{all_choices, all_declared, choice_unfolded}
+use Rattle.occ_check_meaning.specs.Scope.{Scope, names_of}
 use Rattle.occ_check.specs.Statements.{choosing, declarations_of_choice}
 use Rattle.occ_check.specs.Weights.{body_size, choice_size, decls_size, node_size}
 

@@ -3,12 +3,12 @@ use Rattle.std.proofs.Common.{◌≡◌, ◌∙◌, sym, ap, refl, ℕ, suc, ◌
 use Rattle.std.proofs.Math.Seq.{drop-cons}
 use Rattle.std.proofs.Math.ListN.{drop_of_length-le}
 use mathlib.Core.List.{append_assoc, append-nil, map-append}
-use Rattle.occ_tree.specs.Many.{◌>>=◌}
+use Rattle.occ_tree_grammar.specs.Many.{◌>>=◌}
 use Rattle.occ_term.specs.View.{declaration_of, declarations_of}
-use Rattle.occ_unfolding.specs.Scope.{Name}
-use Rattle.occ_unfolding.specs.Numbers.{Numbers}
-use Rattle.occ_unfolding.specs.Declarations as D
-use Rattle.occ_unfolding.specs.Declarations.{opened, with_others, each_declared}
+use Rattle.occ_check_meaning.specs.Scope.{Name}
+use Rattle.occ_check_meaning.specs.Numbers.{Numbers}
+use Rattle.occ_check_meaning.specs.Declarations as D
+use Rattle.occ_check_meaning.specs.Declarations.{opened, with_others, each_declared}
 use Rattle.occ_check.specs.View.{Refuses, numbers_of}
 use Rattle.occ_check.specs.OpenedView.{opened_of, pair_of, pairs_of}
 use Rattle.occ_check.specs.declared.fault.CheckFault.{CheckFault}

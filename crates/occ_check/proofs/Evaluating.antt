@@ -2,16 +2,16 @@
 use Rattle.std.proofs.Common.{◌≡◌, ◌∙◌, sym, ap, refl, ℕ, List, [], ◌∷◌, ◌++◌, map, slice_get, Option, Some}
 use Rattle.std.specs.Prelude.{remove}
 use mathlib.Core.List.{map-append}
-use Rattle.occ_tree.specs.Many.{◌>>=◌}
+use Rattle.occ_tree_grammar.specs.Many.{◌>>=◌}
 use Rattle.occ_term.specs.Terms.{Subscripts, Declaration}
 use Rattle.occ_term.specs.View.{expression_of, subscripts, declaration_of, declarations_of}
 use Rattle.occ_term.specs.Terms as T
 use Rattle.occ_term.specs.declared.expression.TermExpr.{TermExpr}
-use Rattle.occ_unfolding.specs.Scope.{Name}
-use Rattle.occ_unfolding.specs.Constants.{constant}
-use Rattle.occ_unfolding.specs.Expressions.{joined}
-use Rattle.occ_unfolding.specs.Calls as C
-use Rattle.occ_unfolding.specs.Calls.{all_evaluated, one_evaluated, evaluated}
+use Rattle.occ_check_meaning.specs.Scope.{Name}
+use Rattle.occ_check_meaning.specs.Constants.{constant}
+use Rattle.occ_check_meaning.specs.Expressions.{joined}
+use Rattle.occ_check_meaning.specs.Calls as C
+use Rattle.occ_check_meaning.specs.Calls.{all_evaluated, one_evaluated, evaluated}
 use Rattle.occ_check.specs.View.{Refuses, evaluated_of, numbers_of}
 use Rattle.occ_check.specs.CallView.{given_of}
 use Rattle.occ_check.specs.declared.fault.CheckFault.{CheckFault}

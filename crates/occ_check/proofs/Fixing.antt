@@ -13,10 +13,10 @@ use Rattle.std.specs.List.Sorted.{IsPermutation}
 use Rattle.occ_term.specs.Terms.{Expression, Constant, Cell, Component, Letter, Binary, Unary, And, Or, Conversion, Subscripts, no_subscripts, then_subscript}
 use Rattle.occ_term.specs.Uses.{is_constant}
 use Rattle.occ_term.specs.Values.{Span}
-use Rattle.occ_unfolding.specs.Calls.{meets_one, some_meet}
-use Rattle.occ_unfolding.specs.Constants.{constant}
-use Rattle.occ_unfolding.specs.Items.{are_constant, clash, clashes_with_one, has_value, have_common, is_named_by, part_span, some_clash, variable_span}
-use Rattle.occ_unfolding.specs.Scope.{Row}
+use Rattle.occ_check_meaning.specs.Calls.{meets_one, some_meet}
+use Rattle.occ_check_meaning.specs.Constants.{constant}
+use Rattle.occ_check_meaning.specs.Items.{are_constant, clash, clashes_with_one, has_value, have_common, is_named_by, part_span, some_clash, variable_span}
+use Rattle.occ_check_meaning.specs.Scope.{Row}
 use Rattle.occ_check.specs.Clashing.{any_in_subscripts, are_all_constant, one_of_clashes, reads_any, rows_of}
 use Rattle.occ_check.proofs.AnyPair.{some_pair, some_pair-permuted, some_with}
 use Rattle.occ_check.proofs.Meeting.{and_first, and_second, common_turned}

@@ -2,8 +2,8 @@
 use Rattle.std.proofs.Common.{◌≡◌, ◌<◌, ◌≤◌, ◌+◌, ◌∙◌, ℕ, zero, suc, List, [], ◌∷◌, Option, Some, None, refl, ap, sym, drop, get_or, length, map, arith}
 use Rattle.std.proofs.lemmas.List.{drop_more}
 use Rattle.std.proofs.Math.ListN.{drop_of_length-le}
-use Rattle.occ_tree.specs.Many.{◌>>=◌}
-use Rattle.occ_tree.specs.Processes.Trees.{Kind, Node, nodes}
+use Rattle.occ_tree_grammar.specs.Many.{◌>>=◌}
+use Rattle.occ_tree_grammar.specs.Processes.Trees.{Kind, Node, nodes}
 use Rattle.occ_check.specs.View.{Refuses}
 use Rattle.occ_check.specs.Weights.{node_size, nodes_size}
 use Rattle.occ_check.specs.declared.fault.CheckFault.{CheckFault}

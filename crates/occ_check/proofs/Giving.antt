@@ -4,8 +4,8 @@ use Rattle.std.proofs.lemmas.List.{drop_more}
 use Rattle.std.proofs.Math.ListN.{drop_of_length-le}
 use mathlib.Core.List.{append_assoc, append-nil}
 use Rattle.occ_term.specs.Messages.{product}
-use Rattle.occ_unfolding.specs.Scope.{Name}
-use Rattle.occ_unfolding.specs.Numbers.{from_number}
+use Rattle.occ_check_meaning.specs.Scope.{Name}
+use Rattle.occ_check_meaning.specs.Numbers.{from_number}
 
 -- ---- the product of sizes, up to the most that a word holds
 

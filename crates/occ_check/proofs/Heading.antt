@@ -6,7 +6,7 @@ use Rattle.occ_term.specs.Terms.{Terms, no_terms, then_term}
 use Rattle.occ_term.specs.View.{declaration_of, declarations_of, term_of, terms_of}
 use Rattle.occ_term.specs.declared.expression.Declaration.{Declaration}
 use Rattle.occ_term.specs.declared.term.Term.{Term}
-use Rattle.occ_unfolding.specs.Actions.{as_term, followed, headed}
+use Rattle.occ_check_meaning.specs.Actions.{as_term, followed, headed}
 
 -- declarations before other terms
 abbrev pub before : List T.Declaration → Terms → Terms

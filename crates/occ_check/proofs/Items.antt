@@ -3,17 +3,17 @@ use Rattle.std.proofs.Common.{◌≡◌, ◌∙◌, sym, ap, refl, ℕ, ◌+◌,
 use Rattle.std.proofs.lemmas.List.{map-append}
 use Rattle.std.proofs.Math.ListN.{drop_of_length-le}
 use mathlib.Core.List.{append-nil}
-use Rattle.occ_tree.specs.Many.{◌>>=◌}
-use Rattle.occ_tree.specs.Processes.Views.{item_of}
-use Rattle.occ_tree.specs.declared.tree.process.Item.{Item as ItemTree}
+use Rattle.occ_tree_grammar.specs.Many.{◌>>=◌}
+use Rattle.occ_tree_grammar.specs.Processes.Views.{item_of}
+use Rattle.occ_tree_grammar.specs.declared.tree.process.Item.{Item as ItemTree}
 use Rattle.occ_term.specs.Terms as T
 use Rattle.occ_term.specs.View.{declaration_of, declarations_of}
 use Rattle.occ_term.specs.declared.expression.Declaration.{Declaration}
-use Rattle.occ_unfolding.specs.Numbers.{Numbers}
-use Rattle.occ_unfolding.specs.Performing.{Calling, Entered, entered}
-use Rattle.occ_unfolding.specs.Programs.{items_declared}
-use Rattle.occ_unfolding.specs.Recursion.{item_declared}
-use Rattle.occ_unfolding.specs.Scope.{Scope}
+use Rattle.occ_check_meaning.specs.Numbers.{Numbers}
+use Rattle.occ_check_meaning.specs.Performing.{Calling, Entered, entered}
+use Rattle.occ_check_meaning.specs.Programs.{items_declared}
+use Rattle.occ_check_meaning.specs.Recursion.{item_declared}
+use Rattle.occ_check_meaning.specs.Scope.{Scope}
 use Rattle.occ_check.specs.View.{Refuses}
 use Rattle.occ_check.specs.declared.fault.CheckFault.{CheckFault}
 use Rattle.occ_check.proofs.EachOf.{from_here}

@@ -2,14 +2,14 @@
 use Rattle.std.proofs.Common.{◌≡◌, ℕ, ℤ, suc, ◌+◌, ◌<◌, ◌≤◌, List, [], ◌∷◌, ◌++◌, drop, get_or, length, map, Option, Some, None, refl, sym, ap, ◌∙◌, arith}
 use Rattle.std.proofs.Math.Seq.{drop-cons}
 use Rattle.std.proofs.lemmas.List.{drop_all, map-append}
-use Rattle.occ_tree.specs.Many.{◌>>=◌}
+use Rattle.occ_tree_grammar.specs.Many.{◌>>=◌}
 use Rattle.occ_term.specs.Terms as T
 use Rattle.occ_term.specs.Terms.{Subscripts, no_subscripts, then_subscript}
 use Rattle.occ_term.specs.View.{expression_of, subscripts}
 use Rattle.occ_term.specs.declared.expression.TermExpr.{TermExpr}
-use Rattle.occ_unfolding.specs.Scope.{keep, a_string}
-use Rattle.occ_unfolding.specs.Constants.{constant, is_within}
-use Rattle.occ_unfolding.specs.Expressions.{joined, left_by, read}
+use Rattle.occ_check_meaning.specs.Scope.{keep, a_string}
+use Rattle.occ_check_meaning.specs.Constants.{constant, is_within}
+use Rattle.occ_check_meaning.specs.Expressions.{joined, left_by, read}
 use Rattle.occ_check.specs.View.{Refuses}
 use Rattle.occ_check.specs.declared.fault.CheckFault.{CheckFault}
 use Rattle.occ_check.proofs.Refusals.{none_then, refused_with, then_nothing}

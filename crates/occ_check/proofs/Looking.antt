@@ -11,9 +11,9 @@ use Rattle.std.proofs.lemmas.Slice.Eq.{bytes_eq-Decides}
 use Rattle.std.proofs.lemmas.List.{take_all, reverse-append, append_assoc, length-append, length-reverse}
 use Rattle.std.proofs.lemmas.Bool.{ne_eqb}
 use Rattle.std.proofs.lemmas.Bool.Decides.{eqb_tells}
-use Rattle.occ_tree.specs.Many.{◌>>=◌}
-use Rattle.occ_unfolding.specs.Scope.{Binding, Known, known, proc, find, as_known, names_of}
-use Rattle.occ_unfolding.specs.Unfolding.{Procedure, Procedures, found}
+use Rattle.occ_tree_grammar.specs.Many.{◌>>=◌}
+use Rattle.occ_check_meaning.specs.Scope.{Binding, Known, known, proc, find, as_known, names_of}
+use Rattle.occ_check_meaning.specs.Unfolding.{Procedure, Procedures, found}
 use Rattle.occ_check.specs.declared.scope.Binding.{Binding as BindingCode}
 use Rattle.occ_check.specs.declared.scope.Frame.{Frame}
 use Rattle.occ_check.specs.declared.scope.Position.{Position}

@@ -4,24 +4,24 @@ use Rattle.std.specs.Prelude.{nat_le, ◌&&◌}
 use Rattle.std.proofs.lemmas.List.{map-append}
 use Rattle.std.proofs.Math.ListN.{drop_of_length-le}
 use mathlib.Core.List.{append-nil}
-use Rattle.occ_tree.specs.Many.{◌>>=◌}
-use Rattle.occ_tree.specs.Lines.Trees as L
-use Rattle.occ_tree.specs.Lines.Views as lines
-use Rattle.occ_tree.specs.Processes.Trees.{Item, value_item, protocol_item, proc_item}
-use Rattle.occ_tree.specs.Processes.Views.{item_of, process_of}
-use Rattle.occ_tree.specs.declared.tree.expr.Expr.{Expr}
-use Rattle.occ_tree.specs.declared.tree.line.Formals.{Formals}
-use Rattle.occ_tree.specs.declared.tree.line.ValueType.{ValueType}
-use Rattle.occ_tree.specs.declared.tree.process.Item.TheVariants as itemTrees
-use Rattle.occ_tree.specs.declared.tree.process.Process.{Process}
-use Rattle.occ_tree.specs.declared.tree.process.Protocol.{Protocol}
-use Rattle.occ_tree.specs.declared.tree.line.Formal.{Formal}
-use Rattle.occ_tree.specs.declared.tree.line.Spec.{Spec}
-use Rattle.occ_tree.specs.declared.tree.process.Item.{Item as ItemTree}
-use Rattle.occ_unfolding.specs.Calls.{spec_after}
-use Rattle.occ_unfolding.specs.Programs.{Main, byte_channels, channels_from, is_byte_channel, last_or, main_of, other_names}
-use Rattle.occ_unfolding.specs.Scope.{Name, keep}
-use Rattle.occ_unfolding.proofs.Steps.{bind_some, some_is}
+use Rattle.occ_tree_grammar.specs.Many.{◌>>=◌}
+use Rattle.occ_tree_grammar.specs.Lines.Trees as L
+use Rattle.occ_tree_grammar.specs.Lines.Views as lines
+use Rattle.occ_tree_grammar.specs.Processes.Trees.{Item, value_item, protocol_item, proc_item}
+use Rattle.occ_tree_grammar.specs.Processes.Views.{item_of, process_of}
+use Rattle.occ_tree_grammar.specs.declared.tree.expr.Expr.{Expr}
+use Rattle.occ_tree_grammar.specs.declared.tree.line.Formals.{Formals}
+use Rattle.occ_tree_grammar.specs.declared.tree.line.ValueType.{ValueType}
+use Rattle.occ_tree_grammar.specs.declared.tree.process.Item.TheVariants as itemTrees
+use Rattle.occ_tree_grammar.specs.declared.tree.process.Process.{Process}
+use Rattle.occ_tree_grammar.specs.declared.tree.process.Protocol.{Protocol}
+use Rattle.occ_tree_grammar.specs.declared.tree.line.Formal.{Formal}
+use Rattle.occ_tree_grammar.specs.declared.tree.line.Spec.{Spec}
+use Rattle.occ_tree_grammar.specs.declared.tree.process.Item.{Item as ItemTree}
+use Rattle.occ_check_meaning.specs.Calls.{spec_after}
+use Rattle.occ_check_meaning.specs.Programs.{Main, byte_channels, channels_from, is_byte_channel, last_or, main_of, other_names}
+use Rattle.occ_check_meaning.specs.Scope.{Name, keep}
+use Rattle.occ_check_meaning.proofs.Steps.{bind_some, some_is}
 use Rattle.occ_check.specs.OpenedView.{pair_of, pairs_of}
 use Rattle.occ_check.specs.ProgramView.{byte_channel, main_at}
 use Rattle.occ_check.specs.declared.declaration.Named.{Named}

@@ -4,8 +4,8 @@ use Rattle.std.specs.Prelude.{nat_lt, ◌&&◌, ◌||◌}
 use Rattle.std.specs.List.Sorted.{IsPermutation}
 use Rattle.std.proofs.lemmas.Bool.Decides.{nat_tests}
 use Rattle.occ_term.specs.Values.{Span, span}
-use Rattle.occ_unfolding.specs.Calls.{meets_one, some_meet}
-use Rattle.occ_unfolding.specs.Items.{have_common}
+use Rattle.occ_check_meaning.specs.Calls.{meets_one, some_meet}
+use Rattle.occ_check_meaning.specs.Items.{have_common}
 use Rattle.occ_check.specs.Meeting.{end_in_turn, ends_before, neighbours_meet}
 use Rattle.occ_check.proofs.AnyPair.{some_pair, some_pair-permuted, some_with}
 

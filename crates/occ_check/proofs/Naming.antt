@@ -1,8 +1,8 @@
 -- Names at a position are those of the scope with meanings.
 use Rattle.std.proofs.Common.{◌≡◌, ◌∙◌, List, reverse, sym}
-use Rattle.occ_unfolding.specs.Scope.{names_of}
-use Rattle.occ_unfolding.specs.Unfolding.{meant}
-use Rattle.occ_unfolding.proofs.Names.{same_names}
+use Rattle.occ_check_meaning.specs.Scope.{names_of}
+use Rattle.occ_check_meaning.specs.Unfolding.{meant}
+use Rattle.occ_check_meaning.proofs.Names.{same_names}
 use Rattle.occ_check.specs.View.{names_in, scope_in}
 use Rattle.occ_check.specs.declared.scope.Frame.{Frame}
 use Rattle.occ_check.specs.declared.scope.Position.{Position}

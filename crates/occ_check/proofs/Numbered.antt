@@ -1,19 +1,19 @@
 -- The copies of a replicated PAR, one after the other.
 use Rattle.std.proofs.Common.{◌≡◌, ◌∙◌, ◌+◌, ◌<◌, ◌≤◌, ℕ, ℤ, zero, suc, pos, List, [], ◌∷◌, ◌++◌, Option, Some, None, refl, ap, subst, sym, arith}
 use Rattle.std.specs.Prelude.{◌+ℤ◌}
-use Rattle.occ_tree.specs.Many.{◌>>=◌}
-use Rattle.occ_tree.specs.Lines.Trees as L
-use Rattle.occ_tree.specs.Processes.Trees.{Node, process}
+use Rattle.occ_tree_grammar.specs.Many.{◌>>=◌}
+use Rattle.occ_tree_grammar.specs.Lines.Trees as L
+use Rattle.occ_tree_grammar.specs.Processes.Trees.{Node, process}
 use Rattle.occ_term.specs.declared.primitive.Primitive.TheVariants.{Int}
 use Rattle.occ_term.specs.Sizes.{no_size, node}
 use Rattle.occ_term.specs.Terms.{Term, Branches, Par, no_branches, and_branch}
 use Rattle.occ_term.specs.View.{branches}
-use Rattle.occ_unfolding.specs.Declarations.{copies_of, index_name, index_of}
-use Rattle.occ_unfolding.specs.Numbers.{Numbers, more_processes, room}
-use Rattle.occ_unfolding.specs.Performing.{Calling, Unfolds, copied, copies_beside}
-use Rattle.occ_unfolding.specs.Recursion.{unfolded}
-use Rattle.occ_unfolding.specs.Scope.{Scope, a_value, known, names_of, within}
-use Rattle.occ_unfolding.specs.Unfolding.{Procedures, meant}
+use Rattle.occ_check_meaning.specs.Declarations.{copies_of, index_name, index_of}
+use Rattle.occ_check_meaning.specs.Numbers.{Numbers, more_processes, room}
+use Rattle.occ_check_meaning.specs.Performing.{Calling, Unfolds, copied, copies_beside}
+use Rattle.occ_check_meaning.specs.Recursion.{unfolded}
+use Rattle.occ_check_meaning.specs.Scope.{Scope, a_value, known, names_of, within}
+use Rattle.occ_check_meaning.specs.Unfolding.{Procedures, meant}
 use Rattle.occ_check.specs.Numbered.{copies_counted, copy_for, numbered_copy}
 use Rattle.occ_check.specs.View.{Refuses}
 use Rattle.occ_check.specs.Weights.{weight}

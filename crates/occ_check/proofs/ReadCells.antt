@@ -6,7 +6,7 @@ use Rattle.occ_term.specs.Messages.{product}
 use Rattle.occ_term.specs.Terms.{Expression, Constant, Cell, Component, Letter, Binary, Unary, And, Or, Conversion, Place, place, Subscripts, no_subscripts, then_subscript}
 use Rattle.occ_term.specs.Uses.{Numbers, empty_set, named_by, numbers_in, part_named, reads_in_place, reads_in_subscripts, reads_of, union}
 use Rattle.occ_term.specs.Values.{Span, span}
-use Rattle.occ_unfolding.specs.Items.{has_of, has_some}
+use Rattle.occ_check_meaning.specs.Items.{has_of, has_some}
 use Rattle.occ_check.specs.Clashing.{any_in_place, any_in_subscripts, reads_any, shares}
 
 -- ---- one of so many numbers

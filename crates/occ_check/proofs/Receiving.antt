@@ -1,19 +1,19 @@
 -- Inputs, from the channel, its parts and the targets.
 use Rattle.std.proofs.Common.{◌≡◌, ℕ, List, ◌∷◌, map, Option, Some, None, sym, ap, ◌∙◌, Vec, Global}
-use Rattle.occ_tree.specs.Many.{◌>>=◌}
-use Rattle.occ_tree.specs.Lines.Views as lines
-use Rattle.occ_tree.specs.declared.tree.line.Input.{Input as InputTree}
-use Rattle.occ_tree.specs.declared.tree.line.Input.TheVariants as inputs
-use Rattle.occ_tree.specs.declared.tree.line.OneOrMore.{OneOrMore}
-use Rattle.occ_tree.specs.declared.tree.line.Target.{Target as TargetTree}
-use Rattle.occ_tree.specs.declared.tree.line.Var.{Var as VarTree}
+use Rattle.occ_tree_grammar.specs.Many.{◌>>=◌}
+use Rattle.occ_tree_grammar.specs.Lines.Views as lines
+use Rattle.occ_tree_grammar.specs.declared.tree.line.Input.{Input as InputTree}
+use Rattle.occ_tree_grammar.specs.declared.tree.line.Input.TheVariants as inputs
+use Rattle.occ_tree_grammar.specs.declared.tree.line.OneOrMore.{OneOrMore}
+use Rattle.occ_tree_grammar.specs.declared.tree.line.Target.{Target as TargetTree}
+use Rattle.occ_tree_grammar.specs.declared.tree.line.Var.{Var as VarTree}
 use Rattle.occ_term.specs.declared.protocol.PartType.{PartType}
 use Rattle.occ_term.specs.declared.protocol.Protocol.{Protocol}
 use Rattle.occ_term.specs.Messages.{parts_after}
 use Rattle.occ_term.specs.Terms.{Place, Target}
-use Rattle.occ_unfolding.specs.Scope.{Names}
-use Rattle.occ_unfolding.specs.Items.{channel_of, stored, tag_in}
-use Rattle.occ_unfolding.specs.Actions.{plain_list, received, tagged_list}
+use Rattle.occ_check_meaning.specs.Scope.{Names}
+use Rattle.occ_check_meaning.specs.Items.{channel_of, stored, tag_in}
+use Rattle.occ_check_meaning.specs.Actions.{plain_list, received, tagged_list}
 use Rattle.occ_check.specs.View.{Refuses}
 use Rattle.occ_check.specs.declared.fault.CheckFault.{CheckFault}
 use Rattle.occ_check.proofs.Refusals.{none_then, refused_with}

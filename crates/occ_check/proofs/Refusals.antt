@@ -1,6 +1,6 @@
 -- What a refusal says.
 use Rattle.std.proofs.Common.{◌≡◌, Option, Some, None, refl, ap, ◌∙◌}
-use Rattle.occ_tree.specs.Many.{◌>>=◌}
+use Rattle.occ_tree_grammar.specs.Many.{◌>>=◌}
 use Rattle.occ_check.specs.View.{Refuses}
 use Rattle.occ_check.specs.declared.fault.CheckFault.{CheckFault}
 use Rattle.occ_check.specs.declared.fault.CheckFault.TheVariants.{Unknown, Twice, WrongKind, WrongType, NotConstant, BadCount, Subscript, Protocol, Tag, Arguments, Overlap, ListTarget, NoMain, TooLarge, Memory}

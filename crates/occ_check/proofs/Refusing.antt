@@ -1,6 +1,6 @@
 -- A refused step refuses the row of steps that it stands in.
 use Rattle.std.proofs.Common.{◌≡◌, ◌∙◌, ap, Option, Some, None}
-use Rattle.occ_tree.specs.Many.{◌>>=◌}
+use Rattle.occ_tree_grammar.specs.Many.{◌>>=◌}
 use Rattle.occ_check.specs.View.{Refuses}
 use Rattle.occ_check.specs.declared.fault.CheckFault.{CheckFault}
 use Rattle.occ_check.proofs.Refusals.{none_then, refused_with}

@@ -1,13 +1,13 @@
 -- The parts of processes that the code has read, seen by their views.
 use Rattle.std.proofs.Common.{◌≡◌, List, refl, ap, map, ◌∙◌, Vec, Global}
-use Rattle.occ_tree.specs.declared.tree.process.Stmt.{Row_of-Arm, end_of-Arm, more_of-Arm, items-the_row-Arm, items_hidden-the_row-Arm-2, Row_of-Choice, end_of-Choice, more_of-Choice, items-the_row-Choice, items_hidden-the_row-Choice-3, Row_of-Selection, end_of-Selection, more_of-Selection, items-the_row-Selection, items_hidden-the_row-Selection-5, Row_of-Variant, end_of-Variant, more_of-Variant, items-the_row-Variant, items_hidden-the_row-Variant-1}
-use Rattle.occ_tree.specs.declared.tree.process.Choice.{Choice}
-use Rattle.occ_tree.specs.declared.tree.process.Selection.{Selection}
-use Rattle.occ_tree.specs.declared.tree.process.Arm.{Arm}
-use Rattle.occ_tree.specs.declared.tree.process.Variant.{Variant}
-use Rattle.occ_tree.specs.declared.tree.process.Arm.TheBlock.{hidden-the_row-Choice-3, hidden-the_row-Selection-5, hidden-the_row-Arm-2, hidden-the_row-Variant-1}
-use Rattle.occ_tree.specs.Processes.Trees.{more_nodes, nodes}
-use Rattle.occ_tree.specs.Processes.Views.{choice_of, selection_of, arm_of, variant_of, row_choices, row_selections, row_arms, row_variants}
+use Rattle.occ_tree_grammar.specs.declared.tree.process.Stmt.{Row_of-Arm, end_of-Arm, more_of-Arm, items-the_row-Arm, items_hidden-the_row-Arm-2, Row_of-Choice, end_of-Choice, more_of-Choice, items-the_row-Choice, items_hidden-the_row-Choice-3, Row_of-Selection, end_of-Selection, more_of-Selection, items-the_row-Selection, items_hidden-the_row-Selection-5, Row_of-Variant, end_of-Variant, more_of-Variant, items-the_row-Variant, items_hidden-the_row-Variant-1}
+use Rattle.occ_tree_grammar.specs.declared.tree.process.Choice.{Choice}
+use Rattle.occ_tree_grammar.specs.declared.tree.process.Selection.{Selection}
+use Rattle.occ_tree_grammar.specs.declared.tree.process.Arm.{Arm}
+use Rattle.occ_tree_grammar.specs.declared.tree.process.Variant.{Variant}
+use Rattle.occ_tree_grammar.specs.declared.tree.process.Arm.TheBlock.{hidden-the_row-Choice-3, hidden-the_row-Selection-5, hidden-the_row-Arm-2, hidden-the_row-Variant-1}
+use Rattle.occ_tree_grammar.specs.Processes.Trees.{more_nodes, nodes}
+use Rattle.occ_tree_grammar.specs.Processes.Views.{choice_of, selection_of, arm_of, variant_of, row_choices, row_selections, row_arms, row_variants}
 
 choices_of_row : {m : _} (k : Row_of-Choice m) → row_choices k ≡ nodes (map choice_of (items-the_row-Choice m k))
 unfolding choice_of row_choices

@@ -4,37 +4,37 @@ use Rattle.std.specs.Prelude.{IfErr, IfOk, OnOk, Result, Ok, Err}
 use Rattle.std.proofs.lemmas.Bool.{leb-true}
 use Rattle.std.proofs.lemmas.List.{drop_more, append-nil, append_assoc, map-append}
 use Rattle.std.proofs.Math.ListN.{drop_of_length-le}
-use Rattle.occ_tree.specs.Expressions.Trees as trees
-use Rattle.occ_tree.specs.Many.{◌>>=◌}
-use Rattle.occ_tree.specs.Lines.Trees as L
-use Rattle.occ_tree.specs.Lines.Heads.{call}
-use Rattle.occ_tree.specs.Lines.Views as lines
-use Rattle.occ_tree.specs.Processes.Trees.{process, Node, decls}
-use Rattle.occ_tree.specs.Processes.Views.{decl_of, item_of, process_of}
-use Rattle.occ_tree.specs.Processes.Views as processes
-use Rattle.occ_tree.specs.declared.tree.expr.Expr.{Expr}
-use Rattle.occ_tree.specs.declared.tree.process.Decl.{Decl}
-use Rattle.occ_tree.specs.declared.tree.process.Decl.TheVariants as declTrees
-use Rattle.occ_tree.specs.declared.tree.process.Process.{Process}
-use Rattle.occ_tree.specs.declared.tree.process.Item.{Item}
-use Rattle.occ_tree.specs.declared.tree.process.Item.TheVariants as itemTrees
+use Rattle.occ_tree_grammar.specs.Expressions.Trees as trees
+use Rattle.occ_tree_grammar.specs.Many.{◌>>=◌}
+use Rattle.occ_tree_grammar.specs.Lines.Trees as L
+use Rattle.occ_tree_grammar.specs.Lines.Heads.{call}
+use Rattle.occ_tree_grammar.specs.Lines.Views as lines
+use Rattle.occ_tree_grammar.specs.Processes.Trees.{process, Node, decls}
+use Rattle.occ_tree_grammar.specs.Processes.Views.{decl_of, item_of, process_of}
+use Rattle.occ_tree_grammar.specs.Processes.Views as processes
+use Rattle.occ_tree_grammar.specs.declared.tree.expr.Expr.{Expr}
+use Rattle.occ_tree_grammar.specs.declared.tree.process.Decl.{Decl}
+use Rattle.occ_tree_grammar.specs.declared.tree.process.Decl.TheVariants as declTrees
+use Rattle.occ_tree_grammar.specs.declared.tree.process.Process.{Process}
+use Rattle.occ_tree_grammar.specs.declared.tree.process.Item.{Item}
+use Rattle.occ_tree_grammar.specs.declared.tree.process.Item.TheVariants as itemTrees
 use Rattle.occ_term.specs.declared.primitive.Primitive.TheVariants.{Int}
 use Rattle.occ_term.specs.Sizes.{Size, no_size, size_of_replicator}
 use Rattle.occ_term.specs.View.{declarations_of}
 use Rattle.occ_term.specs.declared.expression.Declaration.{Declaration as DeclarationCode}
 use Rattle.occ_term.specs.Terms.{Declaration, Term, replicator}
-use Rattle.occ_unfolding.specs.Actions.{headed, opening}
-use Rattle.occ_unfolding.specs.Calls.{formals_of, bound}
-use Rattle.occ_unfolding.specs.Declarations as D
-use Rattle.occ_unfolding.specs.Declarations.{indexed, opened}
-use Rattle.occ_unfolding.specs.Expressions.{typed_as}
-use Rattle.occ_unfolding.specs.Numbers.{Numbers, more_cells, room}
-use Rattle.occ_unfolding.specs.Performing.{acted, Calling, calling, Entered, entered, within_names}
-use Rattle.occ_unfolding.specs.Recursion.{all_declared, declared, item_declared, unfolded}
-use Rattle.occ_unfolding.specs.Scope.{as_proc, Binding, Known, known, keep, Name, Names, names_of, Pairs, proc, Scope, within}
-use Rattle.occ_unfolding.specs.Unfolding.{found, meaning_of, meant, Procedure, procedure, Procedures}
-use Rattle.occ_unfolding.proofs.Names.{found_means, meant_within, means_of, same_names}
-use Rattle.occ_unfolding.proofs.Steps.{bind_some, some_is}
+use Rattle.occ_check_meaning.specs.Actions.{headed, opening}
+use Rattle.occ_check_meaning.specs.Calls.{formals_of, bound}
+use Rattle.occ_check_meaning.specs.Declarations as D
+use Rattle.occ_check_meaning.specs.Declarations.{indexed, opened}
+use Rattle.occ_check_meaning.specs.Expressions.{typed_as}
+use Rattle.occ_check_meaning.specs.Numbers.{Numbers, more_cells, room}
+use Rattle.occ_check_meaning.specs.Performing.{acted, Calling, calling, Entered, entered, within_names}
+use Rattle.occ_check_meaning.specs.Recursion.{all_declared, declared, item_declared, unfolded}
+use Rattle.occ_check_meaning.specs.Scope.{as_proc, Binding, Known, known, keep, Name, Names, names_of, Pairs, proc, Scope, within}
+use Rattle.occ_check_meaning.specs.Unfolding.{found, meaning_of, meant, Procedure, procedure, Procedures}
+use Rattle.occ_check_meaning.proofs.Names.{found_means, meant_within, means_of, same_names}
+use Rattle.occ_check_meaning.proofs.Steps.{bind_some, some_is}
 use Rattle.occ_check.specs.Entering.{as_procedure, formals_bound, procedure_found, procedure_in}
 use Rattle.occ_check.specs.OpenedView.{opened_of, pair_of, pairs_of}
 use Rattle.occ_check.specs.Progress.{Enters, innermost_at, meant_innermost, weight_at}

@@ -1,19 +1,19 @@
 -- The options of a CASE, one after the other, each with what is chosen before it.
 use Rattle.std.proofs.Common.{◌≡◌, ◌∙◌, ◌+◌, ℕ, List, [], ◌∷◌, ◌++◌, Option, Some, None, refl, ap, sym, map, Vec, Global}
-use Rattle.occ_tree.specs.Many.{◌>>=◌}
-use Rattle.occ_tree.specs.Processes.Trees.{nodes}
-use Rattle.occ_tree.specs.Processes.Trees.{Decls}
-use Rattle.occ_tree.specs.Processes.Views.{process_of, row_decls, selection_of}
-use Rattle.occ_tree.specs.Expressions.Trees.{expression_of as tree_of}
-use Rattle.occ_tree.specs.declared.tree.expr.Expr.{Expr}
-use Rattle.occ_tree.specs.declared.tree.line.OneOrMore.{OneOrMore}
-use Rattle.occ_tree.specs.declared.tree.process.Arm.TheBlock.{hidden-the_row-Decl-0}
-use Rattle.occ_tree.specs.declared.tree.process.Decl.{Decl}
-use Rattle.occ_tree.specs.declared.tree.process.Process.{Process}
+use Rattle.occ_tree_grammar.specs.Many.{◌>>=◌}
+use Rattle.occ_tree_grammar.specs.Processes.Trees.{nodes}
+use Rattle.occ_tree_grammar.specs.Processes.Trees.{Decls}
+use Rattle.occ_tree_grammar.specs.Processes.Views.{process_of, row_decls, selection_of}
+use Rattle.occ_tree_grammar.specs.Expressions.Trees.{expression_of as tree_of}
+use Rattle.occ_tree_grammar.specs.declared.tree.expr.Expr.{Expr}
+use Rattle.occ_tree_grammar.specs.declared.tree.line.OneOrMore.{OneOrMore}
+use Rattle.occ_tree_grammar.specs.declared.tree.process.Arm.TheBlock.{hidden-the_row-Decl-0}
+use Rattle.occ_tree_grammar.specs.declared.tree.process.Decl.{Decl}
+use Rattle.occ_tree_grammar.specs.declared.tree.process.Process.{Process}
 use Rattle.occ_check.specs.Weights.{decls_size, node_size}
-use Rattle.occ_unfolding.specs.Performing as P
-use Rattle.occ_tree.specs.declared.tree.process.Selection.{Selection}
-use Rattle.occ_tree.specs.declared.tree.process.Selection.TheVariants as selections
+use Rattle.occ_check_meaning.specs.Performing as P
+use Rattle.occ_tree_grammar.specs.declared.tree.process.Selection.{Selection}
+use Rattle.occ_tree_grammar.specs.declared.tree.process.Selection.TheVariants as selections
 use Rattle.occ_term.specs.Terms as T
 use Rattle.occ_term.specs.Terms.{Options, no_options, or_option, or_else}
 use Rattle.occ_term.specs.View.{Seen, arm_step, choice_step, reception_step, option_step, term_step, branch_step, variant_step, option_of, options_of}
@@ -21,11 +21,11 @@ use Rattle.occ_term.specs.declared.primitive.Primitive.{Primitive}
 use Rattle.occ_term.specs.declared.term.Selection.{Selection as TermSelection}
 use Rattle.occ_term.specs.declared.term.Arm.TheOpen.{Selection-F}
 use Rattle.occ_term.specs.declared.term.Arm.TheFolds.{fold_out-Selection}
-use Rattle.occ_unfolding.specs.Actions.{Chosen, options_then}
-use Rattle.occ_unfolding.specs.Numbers.{Numbers}
-use Rattle.occ_unfolding.specs.Performing.{Calling}
-use Rattle.occ_unfolding.specs.Recursion.{all_declared, all_options, option_unfolded, unfolded}
-use Rattle.occ_unfolding.specs.Scope.{Scope}
+use Rattle.occ_check_meaning.specs.Actions.{Chosen, options_then}
+use Rattle.occ_check_meaning.specs.Numbers.{Numbers}
+use Rattle.occ_check_meaning.specs.Performing.{Calling}
+use Rattle.occ_check_meaning.specs.Recursion.{all_declared, all_options, option_unfolded, unfolded}
+use Rattle.occ_check_meaning.specs.Scope.{Scope}
 use Rattle.occ_check.specs.View.{Refuses}
 use Rattle.occ_check.specs.declared.fault.CheckFault.{CheckFault}
 use Rattle.occ_check.proofs.Refusing.{then_refused}

@@ -2,26 +2,26 @@
 use Rattle.std.proofs.Common.{◌≡◌, ℕ, ℤ, zero, suc, ◌+◌, ◌*◌, ◌<◌, ◌≤◌, min, List, [], ◌∷◌, drop, take, get_or, length, map, Option, Some, None, option_map, refl, sym, ap, ◌∙◌, arith, Vec, Global}
 use Rattle.std.proofs.Math.Seq.{drop-cons}
 use Rattle.std.proofs.lemmas.List.{drop_all}
-use Rattle.occ_tree.specs.Many.{◌>>=◌}
-use Rattle.occ_tree.specs.Expressions.Trees as trees
-use Rattle.occ_tree.specs.Expressions.Trees.{Expression}
-use Rattle.occ_tree.specs.Lines.Trees as L
-use Rattle.occ_tree.specs.Processes.Views as processes
-use Rattle.occ_tree.specs.Lines.Views as lines
-use Rattle.occ_tree.specs.declared.tree.line.OneOrMore.{OneOrMore}
-use Rattle.occ_tree.specs.declared.tree.line.Part.{Part as PartTree}
-use Rattle.occ_tree.specs.declared.tree.process.Protocol.{Protocol as ProtocolTree}
-use Rattle.occ_tree.specs.declared.tree.process.Protocol.TheVariants as protocolTrees
-use Rattle.occ_tree.specs.declared.tree.process.Tag.{Tag as TagTree}
+use Rattle.occ_tree_grammar.specs.Many.{◌>>=◌}
+use Rattle.occ_tree_grammar.specs.Expressions.Trees as trees
+use Rattle.occ_tree_grammar.specs.Expressions.Trees.{Expression}
+use Rattle.occ_tree_grammar.specs.Lines.Trees as L
+use Rattle.occ_tree_grammar.specs.Processes.Views as processes
+use Rattle.occ_tree_grammar.specs.Lines.Views as lines
+use Rattle.occ_tree_grammar.specs.declared.tree.line.OneOrMore.{OneOrMore}
+use Rattle.occ_tree_grammar.specs.declared.tree.line.Part.{Part as PartTree}
+use Rattle.occ_tree_grammar.specs.declared.tree.process.Protocol.{Protocol as ProtocolTree}
+use Rattle.occ_tree_grammar.specs.declared.tree.process.Protocol.TheVariants as protocolTrees
+use Rattle.occ_tree_grammar.specs.declared.tree.process.Tag.{Tag as TagTree}
 use Rattle.occ_term.specs.declared.protocol.PartType.{PartType}
 use Rattle.occ_term.specs.declared.protocol.Protocol.TheVariants.{Sequential, Variant}
 use Rattle.occ_term.specs.declared.protocol.Tag.{Tag}
 use Rattle.occ_term.specs.declared.primitive.Primitive.TheVariants.{Int}
 use Rattle.occ_term.proofs.Rows.{saturates}
-use Rattle.occ_unfolding.specs.Scope.{Names, each_of, once}
-use Rattle.occ_unfolding.specs.Constants.{a_size}
-use Rattle.occ_unfolding.specs.Expressions.{constant_as}
-use Rattle.occ_unfolding.specs.Types.{Open, each_size, given_product, open_size, part_of, protocol_of, tag_names, tag_of}
+use Rattle.occ_check_meaning.specs.Scope.{Names, each_of, once}
+use Rattle.occ_check_meaning.specs.Constants.{a_size}
+use Rattle.occ_check_meaning.specs.Expressions.{constant_as}
+use Rattle.occ_check_meaning.specs.Types.{Open, each_size, given_product, open_size, part_of, protocol_of, tag_names, tag_of}
 use Rattle.occ_check.specs.View.{Refuses}
 use Rattle.occ_check.specs.declared.fault.CheckFault.{CheckFault}
 use Rattle.occ_check.proofs.Refusals.{none_then, refused_with}

@@ -1,21 +1,21 @@
 -- A list of targets, each made beside its part, and then compared.
 use Rattle.std.proofs.Common.{◌≡◌, ℕ, List, [], ◌∷◌, Bool, true, false, map, Option, Some, None, refl, sym, ap, ◌∙◌}
 use Rattle.std.specs.Prelude.{not, ◌||◌}
-use Rattle.occ_tree.specs.Many.{◌>>=◌}
-use Rattle.occ_tree.specs.Lines.Trees as L
+use Rattle.occ_tree_grammar.specs.Many.{◌>>=◌}
+use Rattle.occ_tree_grammar.specs.Lines.Trees as L
 use Rattle.occ_term.specs.declared.primitive.Primitive.{Primitive}
 use Rattle.occ_term.specs.declared.protocol.PartType.{PartType}
 use Rattle.occ_term.specs.declared.protocol.PartType.TheVariants.{One as OneOf, Many as ManyOf, Counted as CountedOf}
 use Rattle.occ_term.specs.Terms as T
 use Rattle.occ_term.specs.Terms.{Subscripts}
-use Rattle.occ_unfolding.specs.Scope.{Names, Row, each_of, keep}
-use Rattle.occ_unfolding.specs.Expressions.{place_of}
-use Rattle.occ_unfolding.specs.Items.{Aim, aim, aim_of, apart, clash, clashes_with_one, counted_aim, rows_of, some_clash, stored, target_of, targets_of}
+use Rattle.occ_check_meaning.specs.Scope.{Names, Row, each_of, keep}
+use Rattle.occ_check_meaning.specs.Expressions.{place_of}
+use Rattle.occ_check_meaning.specs.Items.{Aim, aim, aim_of, apart, clash, clashes_with_one, counted_aim, rows_of, some_clash, stored, target_of, targets_of}
 use Rattle.occ_check.specs.ActionView.{rows_at, stored_one, zipped}
 use Rattle.occ_check.specs.View.{Refuses}
 use Rattle.occ_check.specs.declared.fault.CheckFault.{CheckFault}
 use Rattle.occ_check.proofs.Refusals.{none_then, refused_with}
-use Rattle.occ_unfolding.proofs.Steps.{bind_some, some_is}
+use Rattle.occ_check_meaning.proofs.Steps.{bind_some, some_is}
 
 -- ---- the sizes that are left do not matter
 

@@ -5,8 +5,8 @@ use Rattle.std.proofs.lemmas.Bool.{le-leb}
 use Rattle.std.proofs.lemmas.List.{length-map}
 use Rattle.occ_term.specs.declared.primitive.Primitive.TheVariants.{Byte, Int}
 use Rattle.occ_term.specs.Messages.{is_of}
-use Rattle.occ_unfolding.specs.Scope.{keep}
-use Rattle.occ_unfolding.specs.Expressions.{are_bytes, string_of}
+use Rattle.occ_check_meaning.specs.Scope.{keep}
+use Rattle.occ_check_meaning.specs.Expressions.{are_bytes, string_of}
 
 both : (a b : Bool) → a ≡ true → b ≡ true → (a && b) ≡ true
 both a b p q = cc

@@ -3,7 +3,7 @@ use Rattle.std.proofs.Common.{◌≡◌, ℕ, suc, ◌+◌, ◌<◌, ◌≤◌, 
 use Rattle.std.specs.Prelude.{bytes_eq}
 use Rattle.std.proofs.lemmas.List.{drop_all}
 use Rattle.occ_term.specs.declared.protocol.Tag.{Tag}
-use Rattle.occ_unfolding.specs.Items.{tag_number}
+use Rattle.occ_check_meaning.specs.Items.{tag_number}
 use Rattle.occ_check.proofs.EachOf.{from_here}
 
 pub record Numbered (tags : List Tag) (x : List ℕ) (i k : ℕ) : Type 0 where

@@ -1,16 +1,16 @@
 -- The variants of an input, one after the other, each with the numbers of the tags before it.
 use Rattle.std.proofs.Common.{◌≡◌, ◌∙◌, ◌+◌, ℕ, List, [], ◌∷◌, ◌++◌, Option, Some, None, refl, ap, sym, subst, map}
-use Rattle.occ_tree.specs.Many.{◌>>=◌}
-use Rattle.occ_tree.specs.Lines.Trees as L
-use Rattle.occ_tree.specs.Processes.Trees.{Decls, nodes}
-use Rattle.occ_tree.specs.Processes.Views.{process_of}
-use Rattle.occ_tree.specs.declared.tree.process.Process.{Process}
-use Rattle.occ_tree.specs.declared.tree.process.Variant.TheVariants as variants
-use Rattle.occ_unfolding.specs.Performing as P
+use Rattle.occ_tree_grammar.specs.Many.{◌>>=◌}
+use Rattle.occ_tree_grammar.specs.Lines.Trees as L
+use Rattle.occ_tree_grammar.specs.Processes.Trees.{Decls, nodes}
+use Rattle.occ_tree_grammar.specs.Processes.Views.{process_of}
+use Rattle.occ_tree_grammar.specs.declared.tree.process.Process.{Process}
+use Rattle.occ_tree_grammar.specs.declared.tree.process.Variant.TheVariants as variants
+use Rattle.occ_check_meaning.specs.Performing as P
 use Rattle.occ_check.specs.Statements.{body_of_variant, declarations_of_variant, line_of_variant, targets_of_variant}
 use Rattle.occ_check.specs.Weights.{decls_size, node_size}
-use Rattle.occ_tree.specs.Processes.Views as trees
-use Rattle.occ_tree.specs.declared.tree.process.Variant.{Variant}
+use Rattle.occ_tree_grammar.specs.Processes.Views as trees
+use Rattle.occ_tree_grammar.specs.declared.tree.process.Variant.{Variant}
 use Rattle.occ_term.specs.Terms as T
 use Rattle.occ_term.specs.Terms.{Variants, no_variants, or_variant}
 use Rattle.occ_term.specs.View.{Seen, arm_step, choice_step, reception_step, option_step, term_step, branch_step, variant_step, variant_of, variants_of}
@@ -18,11 +18,11 @@ use Rattle.occ_term.specs.declared.protocol.Protocol.{Protocol}
 use Rattle.occ_term.specs.declared.term.Variant.{Variant as TermVariant}
 use Rattle.occ_term.specs.declared.term.Arm.TheOpen.{Variant-F}
 use Rattle.occ_term.specs.declared.term.Arm.TheFolds.{fold_out-Variant}
-use Rattle.occ_unfolding.specs.Actions.{new_tag, variants_then}
-use Rattle.occ_unfolding.specs.Numbers.{Numbers}
-use Rattle.occ_unfolding.specs.Performing.{Calling}
-use Rattle.occ_unfolding.specs.Recursion.{all_declared, all_variants, unfolded, variant_tag, variant_unfolded}
-use Rattle.occ_unfolding.specs.Scope.{Scope}
+use Rattle.occ_check_meaning.specs.Actions.{new_tag, variants_then}
+use Rattle.occ_check_meaning.specs.Numbers.{Numbers}
+use Rattle.occ_check_meaning.specs.Performing.{Calling}
+use Rattle.occ_check_meaning.specs.Recursion.{all_declared, all_variants, unfolded, variant_tag, variant_unfolded}
+use Rattle.occ_check_meaning.specs.Scope.{Scope}
 use Rattle.occ_check.specs.View.{Refuses}
 use Rattle.occ_check.specs.declared.fault.CheckFault.{CheckFault}
 use Rattle.occ_check.proofs.Refusing.{then_refused}

@@ -1,21 +1,21 @@
 -- Whole programs: from the main process and its formals to what the program unfolds to.
 use Rattle.std.proofs.Common.{◌≡◌, ◌∙◌, sym, ap, refl, ℕ, List, [], Option, Some, None, reverse}
-use Rattle.occ_tree.specs.Many.{◌>>=◌}
-use Rattle.occ_tree.specs.Processes.Trees.{Item}
+use Rattle.occ_tree_grammar.specs.Many.{◌>>=◌}
+use Rattle.occ_tree_grammar.specs.Processes.Trees.{Item}
 use Rattle.occ_term.specs.Terms.{Term, Declaration}
 use Rattle.occ_term.specs.View.{term_of}
 use Rattle.occ_term.specs.declared.term.Term.{Term as TermTree}
-use Rattle.occ_unfolding.specs.Actions.{headed, opening}
-use Rattle.occ_unfolding.specs.Numbers.{Numbers, at_start}
-use Rattle.occ_unfolding.specs.Performing.{behind, Calling, Entered, entered}
-use Rattle.occ_unfolding.specs.Programs.{Main, channels_from, items_declared, main_of, main_names, program_unfolded}
-use Rattle.occ_unfolding.specs.ProgramUnfolding.{UnfoldsTo}
-use Rattle.occ_unfolding.specs.Recursion.{unfolded}
-use Rattle.occ_unfolding.specs.Scope.{Name, Pairs, Scope, within}
-use Rattle.occ_unfolding.specs.Unfolding.{meant, Procedures}
-use Rattle.occ_unfolding.proofs.Complete.{program_complete}
-use Rattle.occ_unfolding.proofs.Names.{meant_within}
-use Rattle.occ_unfolding.proofs.SoundTree.{program_sound}
+use Rattle.occ_check_meaning.specs.Actions.{headed, opening}
+use Rattle.occ_check_meaning.specs.Numbers.{Numbers, at_start}
+use Rattle.occ_check_meaning.specs.Performing.{behind, Calling, Entered, entered}
+use Rattle.occ_check_meaning.specs.Programs.{Main, channels_from, items_declared, main_of, main_names, program_unfolded}
+use Rattle.occ_check_meaning.specs.ProgramUnfolding.{UnfoldsTo}
+use Rattle.occ_check_meaning.specs.Recursion.{unfolded}
+use Rattle.occ_check_meaning.specs.Scope.{Name, Pairs, Scope, within}
+use Rattle.occ_check_meaning.specs.Unfolding.{meant, Procedures}
+use Rattle.occ_check_meaning.proofs.Complete.{program_complete}
+use Rattle.occ_check_meaning.proofs.Names.{meant_within}
+use Rattle.occ_check_meaning.proofs.SoundTree.{program_sound}
 use Rattle.occ_check.specs.CheckRefuses.{CheckRefuses, HasNoUnfolding}
 use Rattle.occ_check.specs.ProgramView.{items_within}
 use Rattle.occ_check.specs.View.{Refuses, numbers_of, scope_in}

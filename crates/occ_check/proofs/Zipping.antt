@@ -2,12 +2,12 @@
 use Rattle.std.proofs.Common.{◌≡◌, ℕ, suc, ◌+◌, ◌<◌, ◌≤◌, List, [], ◌∷◌, ◌++◌, drop, get_or, length, map, Option, Some, None, append_assoc, refl, subst, sym, ap, ◌∙◌, arith}
 use Rattle.std.proofs.lemmas.List.{drop_all, map-append}
 use mathlib.Core.List.{append-nil}
-use Rattle.occ_tree.specs.Many.{◌>>=◌}
-use Rattle.occ_tree.specs.Lines.Trees as L
+use Rattle.occ_tree_grammar.specs.Many.{◌>>=◌}
+use Rattle.occ_tree_grammar.specs.Lines.Trees as L
 use Rattle.occ_term.specs.Terms as T
 use Rattle.occ_term.specs.declared.protocol.PartType.{PartType}
-use Rattle.occ_unfolding.specs.Scope.{Names}
-use Rattle.occ_unfolding.specs.Items.{Aim, sent_item, sent_items, target_of, targets_of}
+use Rattle.occ_check_meaning.specs.Scope.{Names}
+use Rattle.occ_check_meaning.specs.Items.{Aim, sent_item, sent_items, target_of, targets_of}
 use Rattle.occ_check.specs.ActionView.{zipped}
 use Rattle.occ_check.specs.View.{Refuses}
 use Rattle.occ_check.specs.declared.fault.CheckFault.{CheckFault}

@@ -1,20 +1,20 @@
 -- What lines of one process unfold to in the code, as the definitions have it.
 -- Manual: nothing; this is (own).
 use Rattle.std.specs.Prelude.{Bool, List, None, Option, Result, Ok, Err, [], false, ◌&&◌, reverse, ◌∷◌, ◌≡◌, Some, ℕ}
-use Rattle.occ_tree.specs.Many.{◌>>=◌}
-use Rattle.occ_tree.specs.Expressions.Trees.{Expression}
-use Rattle.occ_tree.specs.Lines.Trees as L
+use Rattle.occ_tree_grammar.specs.Many.{◌>>=◌}
+use Rattle.occ_tree_grammar.specs.Expressions.Trees.{Expression}
+use Rattle.occ_tree_grammar.specs.Lines.Trees as L
 use Rattle.occ_term.specs.Terms as T
 use Rattle.occ_term.specs.declared.primitive.Primitive.{Primitive}
 use Rattle.occ_term.specs.declared.protocol.PartType.{PartType}
 use Rattle.occ_term.specs.declared.protocol.PartType.TheVariants.{One as OneOf, Many as ManyOf, Counted as CountedOf}
 use Rattle.occ_term.specs.View.{targets_of}
-use Rattle.occ_unfolding.specs.Scope.{Names, Row}
-use Rattle.occ_unfolding.specs.Operators.{is_same_type}
-use Rattle.occ_unfolding.specs.Types.{are_same_sizes}
-use Rattle.occ_unfolding.specs.Expressions.{typed}
-use Rattle.occ_unfolding.specs.Items.{aim_of, assigned_item, target_of}
-use Rattle.occ_unfolding.specs.Actions as A
+use Rattle.occ_check_meaning.specs.Scope.{Names, Row}
+use Rattle.occ_check_meaning.specs.Operators.{is_same_type}
+use Rattle.occ_check_meaning.specs.Types.{are_same_sizes}
+use Rattle.occ_check_meaning.specs.Expressions.{typed}
+use Rattle.occ_check_meaning.specs.Items.{aim_of, assigned_item, target_of}
+use Rattle.occ_check_meaning.specs.Actions as A
 use Rattle.occ_check.specs.View.{Refuses, part_of}
 use Rattle.occ_check.specs.declared.fault.CheckFault.{CheckFault}
 use Rattle.occ_check.specs.declared.action.Listed.{Listed}

@@ -3,17 +3,17 @@
 use Rattle.std.specs.Prelude.{Result, Ok, Err, Option, Some, List, [], map, ◌≡◌, ◌&&◌, ◌∷◌, ℕ, ℤ}
 use Rattle.occ_term.specs.Values as Values
 use Rattle.occ_term.specs.View.{declarations_of, subscripts}
-use Rattle.occ_tree.specs.Lines.Trees as L
-use Rattle.occ_tree.specs.Many.{◌>>=◌}
+use Rattle.occ_tree_grammar.specs.Lines.Trees as L
+use Rattle.occ_tree_grammar.specs.Many.{◌>>=◌}
 use Rattle.occ_term.specs.declared.primitive.Primitive.{Primitive}
-use Rattle.occ_unfolding.specs.Scope.{Name}
-use Rattle.occ_unfolding.specs.Scope as S
-use Rattle.occ_unfolding.specs.Declarations as D
-use Rattle.occ_unfolding.specs.Expressions.{joined}
-use Rattle.occ_unfolding.specs.Operators.{is_same_type}
-use Rattle.occ_unfolding.specs.Types.{Open, takes_sizes}
-use Rattle.occ_unfolding.specs.Calls as C
-use Rattle.occ_unfolding.specs.Numbers as N
+use Rattle.occ_check_meaning.specs.Scope.{Name}
+use Rattle.occ_check_meaning.specs.Scope as S
+use Rattle.occ_check_meaning.specs.Declarations as D
+use Rattle.occ_check_meaning.specs.Expressions.{joined}
+use Rattle.occ_check_meaning.specs.Operators.{is_same_type}
+use Rattle.occ_check_meaning.specs.Types.{Open, takes_sizes}
+use Rattle.occ_check_meaning.specs.Calls as C
+use Rattle.occ_check_meaning.specs.Numbers as N
 use Rattle.occ_term.specs.Terms as T
 use Rattle.occ_check.specs.View.{Refuses, carried_of, evaluated_of, numbers_of}
 use Rattle.occ_check.specs.declared.fault.CheckFault.{CheckFault}

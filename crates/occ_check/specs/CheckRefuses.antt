@@ -1,10 +1,10 @@
 -- What it says of a program that it was refused.
 -- Manual: nothing; the faults are (own).
 use Rattle.std.specs.Prelude.{List, ⊤}
-use Rattle.occ_tree.specs.Processes.Trees.{Item}
+use Rattle.occ_tree_grammar.specs.Processes.Trees.{Item}
 use Rattle.occ_term.specs.Terms.{Term}
-use Rattle.occ_unfolding.specs.Numbers.{Numbers}
-use Rattle.occ_unfolding.specs.ProgramUnfolding.{ProgramUnfolding}
+use Rattle.occ_check_meaning.specs.Numbers.{Numbers}
+use Rattle.occ_check_meaning.specs.ProgramUnfolding.{ProgramUnfolding}
 use Rattle.occ_check.specs.declared.fault.CheckFault.{CheckFault}
 use Rattle.occ_check.specs.declared.fault.CheckFault.TheVariants.{Unknown, Twice, WrongKind, WrongType, NotConstant, BadCount, Subscript, Protocol, Tag, Arguments, Overlap, ListTarget, NoMain, TooLarge, Memory}
 

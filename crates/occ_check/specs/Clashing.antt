@@ -8,8 +8,8 @@ use Rattle.occ_term.specs.Uses.{numbers_in, part_named}
 use Rattle.occ_term.specs.Values.{Span, span}
 use Rattle.occ_term.specs.View.{place_of}
 use Rattle.occ_term.specs.declared.expression.Place.{Place as PlaceTree}
-use Rattle.occ_unfolding.specs.Scope.{Row}
-use Rattle.occ_unfolding.specs.Items.{are_constant, clashes_with_one, has_of}
+use Rattle.occ_check_meaning.specs.Scope.{Row}
+use Rattle.occ_check_meaning.specs.Items.{are_constant, clashes_with_one, has_of}
 use Rattle.occ_check.specs.ActionView.{row_at}
 
 abbrev pub rows_of : List (Bor PlaceTree) → List Row

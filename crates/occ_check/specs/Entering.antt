@@ -1,16 +1,16 @@
 -- What comes into scope at a call.
 -- Manual: scope; procedures.
 use Rattle.std.specs.Prelude.{List, None, Option, Some, reverse, ℕ}
-use Rattle.occ_tree.specs.Lines.Trees.{Actuals, Formals}
-use Rattle.occ_tree.specs.Lines.Views as lines
-use Rattle.occ_tree.specs.Many.{◌>>=◌}
-use Rattle.occ_tree.specs.Processes.Views.{process_of}
-use Rattle.occ_unfolding.specs.Calls as C
-use Rattle.occ_unfolding.specs.Declarations as D
-use Rattle.occ_unfolding.specs.Numbers.{Numbers}
-use Rattle.occ_unfolding.specs.Scope as S
-use Rattle.occ_unfolding.specs.Unfolding as U
-use Rattle.occ_unfolding.specs.Unfolding.{Procedures, procedure}
+use Rattle.occ_tree_grammar.specs.Lines.Trees.{Actuals, Formals}
+use Rattle.occ_tree_grammar.specs.Lines.Views as lines
+use Rattle.occ_tree_grammar.specs.Many.{◌>>=◌}
+use Rattle.occ_tree_grammar.specs.Processes.Views.{process_of}
+use Rattle.occ_check_meaning.specs.Calls as C
+use Rattle.occ_check_meaning.specs.Declarations as D
+use Rattle.occ_check_meaning.specs.Numbers.{Numbers}
+use Rattle.occ_check_meaning.specs.Scope as S
+use Rattle.occ_check_meaning.specs.Unfolding as U
+use Rattle.occ_check_meaning.specs.Unfolding.{Procedures, procedure}
 use Rattle.occ_check.specs.View.{scope_in}
 use Rattle.occ_check.specs.declared.scope.Frame.{Frame}
 use Rattle.occ_check.specs.declared.scope.Position.{Position}

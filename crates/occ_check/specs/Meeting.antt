@@ -2,7 +2,7 @@
 -- Manual: nothing; this is (own).
 use Rattle.std.specs.Prelude.{Bool, List, [], false, nat_le, true, ◌&&◌, ◌+◌, ◌||◌, ◌∷◌}
 use Rattle.occ_term.specs.Values.{Span, span}
-use Rattle.occ_unfolding.specs.Items.{have_common}
+use Rattle.occ_check_meaning.specs.Items.{have_common}
 
 abbrev pub ends_before : Span → Span → Bool
 ends_before (span first count) (span other n) = nat_le (first + count) other

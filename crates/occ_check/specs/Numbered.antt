@@ -1,16 +1,16 @@
 -- The copies of a replicated PAR, and what is checked and counted before them.
 -- Manual: combining processes; replicators.
 use Rattle.std.specs.Prelude.{Option, Some, ℕ, ℤ}
-use Rattle.occ_tree.specs.Many.{◌>>=◌}
-use Rattle.occ_tree.specs.Lines.Trees as L
-use Rattle.occ_tree.specs.Processes.Trees.{Node, process}
+use Rattle.occ_tree_grammar.specs.Many.{◌>>=◌}
+use Rattle.occ_tree_grammar.specs.Lines.Trees as L
+use Rattle.occ_tree_grammar.specs.Processes.Trees.{Node, process}
 use Rattle.occ_term.specs.Sizes as Sizes
 use Rattle.occ_term.specs.Terms.{Branches, Term, and_branch}
-use Rattle.occ_unfolding.specs.Declarations.{copies_of, index_of}
-use Rattle.occ_unfolding.specs.Numbers.{Numbers, more_processes, room}
-use Rattle.occ_unfolding.specs.Performing.{Calling, Unfolds}
-use Rattle.occ_unfolding.specs.Recursion.{unfolded}
-use Rattle.occ_unfolding.specs.Scope.{Names, Scope, within}
+use Rattle.occ_check_meaning.specs.Declarations.{copies_of, index_of}
+use Rattle.occ_check_meaning.specs.Numbers.{Numbers, more_processes, room}
+use Rattle.occ_check_meaning.specs.Performing.{Calling, Unfolds}
+use Rattle.occ_check_meaning.specs.Recursion.{unfolded}
+use Rattle.occ_check_meaning.specs.Scope.{Names, Scope, within}
 
 -- the first value of the index and how many copies there are, with the node of the PAR
 abbrev pub copies_counted : Names → ℕ → ℕ → L.Replicator → Numbers → Option ((ℤ × ℕ) × Numbers)

@@ -2,8 +2,8 @@
 -- Manual: nothing; this is (own).
 use Rattle.std.specs.Prelude.{List, Option, Some, Result, Ok, Err, map, ◌∷◌, ◌≡◌, [], Bool, true, not, ◌&&◌}
 use Rattle.occ_term.specs.View.{declarations_of, replicator_of}
-use Rattle.occ_unfolding.specs.Scope.{Name, Known, Pairs, is_among}
-use Rattle.occ_unfolding.specs.Declarations as D
+use Rattle.occ_check_meaning.specs.Scope.{Name, Known, Pairs, is_among}
+use Rattle.occ_check_meaning.specs.Declarations as D
 use Rattle.occ_check.specs.View.{Refuses, known_of, numbers_of}
 use Rattle.occ_check.specs.declared.fault.CheckFault.{CheckFault}
 use Rattle.occ_check.specs.declared.numbers.Numbers.{Numbers}

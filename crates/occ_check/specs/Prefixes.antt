@@ -1,8 +1,8 @@
 -- The first steps of constructs: what is checked and counted before their parts are unfolded.
 -- Manual: combining processes; replicators.
 use Rattle.std.specs.Prelude.{List, Option, Some, ℕ, ℤ}
-use Rattle.occ_tree.specs.Many.{◌>>=◌}
-use Rattle.occ_tree.specs.Expressions.Trees.{Expression}
+use Rattle.occ_tree_grammar.specs.Many.{◌>>=◌}
+use Rattle.occ_tree_grammar.specs.Expressions.Trees.{Expression}
 use Rattle.occ_term.specs.declared.primitive.Primitive.{Primitive}
 use Rattle.occ_term.specs.declared.primitive.Primitive.TheVariants.{Bool as Boolean}
 use Rattle.occ_term.specs.Sizes as Sizes
@@ -10,13 +10,13 @@ use Rattle.occ_term.specs.Sizes.{size_of_constants, size_of_expression, size_of_
 use Rattle.occ_term.specs.Terms as T
 use Rattle.occ_term.specs.Messages.{parts_after}
 use Rattle.occ_term.specs.declared.protocol.Protocol.{Protocol}
-use Rattle.occ_unfolding.specs.Items.{channel_of, stored}
-use Rattle.occ_tree.specs.Lines.Trees as L
-use Rattle.occ_tree.specs.Lines.Trees.{Var, Out}
-use Rattle.occ_unfolding.specs.Actions.{Chosen, Listed, as_input, assigned, choosing, output, received, selector, size_of_list, taken, test_of, with_tags}
-use Rattle.occ_unfolding.specs.Expressions.{constant_as, typed_as}
-use Rattle.occ_unfolding.specs.Numbers.{Numbers, room}
-use Rattle.occ_unfolding.specs.Scope.{Names, each_of}
+use Rattle.occ_check_meaning.specs.Items.{channel_of, stored}
+use Rattle.occ_tree_grammar.specs.Lines.Trees as L
+use Rattle.occ_tree_grammar.specs.Lines.Trees.{Var, Out}
+use Rattle.occ_check_meaning.specs.Actions.{Chosen, Listed, as_input, assigned, choosing, output, received, selector, size_of_list, taken, test_of, with_tags}
+use Rattle.occ_check_meaning.specs.Expressions.{constant_as, typed_as}
+use Rattle.occ_check_meaning.specs.Numbers.{Numbers, room}
+use Rattle.occ_check_meaning.specs.Scope.{Names, each_of}
 
 -- an expression with the node that it heads
 abbrev pub heading : T.Expression → ℕ → Numbers → Option (T.Expression × Numbers)

@@ -1,17 +1,17 @@
 -- Whole programs of the code, as the definitions have them.
 -- Manual: scope; procedures.
 use Rattle.std.specs.Prelude.{List, None, Option, Some, [], map, ℕ}
-use Rattle.occ_tree.specs.Lines.Views.{formals_of}
-use Rattle.occ_tree.specs.Many.{◌>>=◌}
-use Rattle.occ_tree.specs.Processes.Trees.{Item, value_item, protocol_item, proc_item}
-use Rattle.occ_tree.specs.Processes.Views.{item_of, process_of}
+use Rattle.occ_tree_grammar.specs.Lines.Views.{formals_of}
+use Rattle.occ_tree_grammar.specs.Many.{◌>>=◌}
+use Rattle.occ_tree_grammar.specs.Processes.Trees.{Item, value_item, protocol_item, proc_item}
+use Rattle.occ_tree_grammar.specs.Processes.Views.{item_of, process_of}
 use Rattle.occ_term.specs.declared.primitive.Primitive.TheVariants.{Byte}
 use Rattle.occ_term.specs.declared.protocol.Protocol.TheVariants.{Simple}
-use Rattle.occ_unfolding.specs.Performing.{Declaring, entered}
-use Rattle.occ_unfolding.specs.Programs as P
-use Rattle.occ_unfolding.specs.Programs.{items_declared}
-use Rattle.occ_unfolding.specs.Scope.{Known, Pairs, row_from, some_channels, within}
-use Rattle.occ_unfolding.specs.Types.{unnamed}
+use Rattle.occ_check_meaning.specs.Performing.{Declaring, entered}
+use Rattle.occ_check_meaning.specs.Programs as P
+use Rattle.occ_check_meaning.specs.Programs.{items_declared}
+use Rattle.occ_check_meaning.specs.Scope.{Known, Pairs, row_from, some_channels, within}
+use Rattle.occ_check_meaning.specs.Types.{unnamed}
 use Rattle.occ_check.specs.declared.program.Main.{Main}
 
 abbrev pub main_in : Main → P.Main

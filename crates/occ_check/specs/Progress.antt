@@ -1,26 +1,26 @@
 -- What the code of processes answers.
 -- Manual: nothing; this is (own).
 use Rattle.std.specs.Prelude.{List, map, None, Option, Some, reverse, Result, Ok, Err, ℕ, ℤ, ⊤, ◌+◌, ◌<◌, ◌≡◌}
-use Rattle.occ_tree.specs.Processes.Views.{decl_of, process_of}
-use Rattle.occ_tree.specs.Processes.Trees.{decls}
-use Rattle.occ_tree.specs.declared.tree.process.Decl.{Decl as DeclTree}
-use Rattle.occ_tree.specs.declared.tree.process.Stmt.{Stmt}
-use Rattle.occ_tree.specs.declared.tree.process.Process.{Process}
+use Rattle.occ_tree_grammar.specs.Processes.Views.{decl_of, process_of}
+use Rattle.occ_tree_grammar.specs.Processes.Trees.{decls}
+use Rattle.occ_tree_grammar.specs.declared.tree.process.Decl.{Decl as DeclTree}
+use Rattle.occ_tree_grammar.specs.declared.tree.process.Stmt.{Stmt}
+use Rattle.occ_tree_grammar.specs.declared.tree.process.Process.{Process}
 use Rattle.occ_term.specs.Terms as T
 use Rattle.occ_term.specs.declared.expression.Declaration.{Declaration}
 use Rattle.occ_term.specs.View.{declarations_of, option_of, replicator_of, term_of}
 use Rattle.occ_term.specs.declared.term.Selection.{Selection}
 use Rattle.occ_term.specs.declared.expression.Replicator.{Replicator}
-use Rattle.occ_unfolding.specs.Declarations.{Indexed}
-use Rattle.occ_unfolding.specs.Numbers as N
-use Rattle.occ_unfolding.specs.Performing.{behind, Calling, Entered, entered}
-use Rattle.occ_unfolding.specs.Scope as S
-use Rattle.occ_unfolding.specs.Recursion.{all_declared, unfolded}
+use Rattle.occ_check_meaning.specs.Declarations.{Indexed}
+use Rattle.occ_check_meaning.specs.Numbers as N
+use Rattle.occ_check_meaning.specs.Performing.{behind, Calling, Entered, entered}
+use Rattle.occ_check_meaning.specs.Scope as S
+use Rattle.occ_check_meaning.specs.Recursion.{all_declared, unfolded}
 use Rattle.occ_check.specs.Statements.{performing}
-use Rattle.occ_unfolding.specs.Unfolding.{Procedures, meant}
-use Rattle.occ_tree.specs.Many.{◌>>=◌}
-use Rattle.occ_unfolding.specs.Actions as A
-use Rattle.occ_unfolding.specs.Actions.{headed, opening}
+use Rattle.occ_check_meaning.specs.Unfolding.{Procedures, meant}
+use Rattle.occ_tree_grammar.specs.Many.{◌>>=◌}
+use Rattle.occ_check_meaning.specs.Actions as A
+use Rattle.occ_check_meaning.specs.Actions.{headed, opening}
 use Rattle.occ_check.specs.ActionView.{chosen_of}
 use Rattle.occ_check.specs.declared.action.Chosen.{Chosen}
 use Rattle.occ_check.specs.declared.numbers.Numbers.{Numbers}

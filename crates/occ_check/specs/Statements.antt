@@ -1,27 +1,27 @@
 -- What a statement of the code unfolds to, behind its declarations.
 -- Manual: combining processes.
 use Rattle.std.specs.Prelude.{List, None, Option, Some, [], map, option_map, ℕ, ◌∷◌}
-use Rattle.occ_tree.specs.Expressions.Trees.{expression_of}
-use Rattle.occ_tree.specs.Lines.Trees as L
-use Rattle.occ_tree.specs.Lines.Views.{replicator_of, target_of, var_of}
-use Rattle.occ_tree.specs.Lines.HeadViews.{action_of, guard_of}
-use Rattle.occ_tree.specs.Processes.Views.{process_of, arm_of, choice_of, row_processes, row_arms, row_choices, row_selections, row_variants, row_decls}
-use Rattle.occ_tree.specs.Processes.Trees.{Decls}
-use Rattle.occ_tree.specs.declared.tree.process.Process.{Process}
-use Rattle.occ_tree.specs.declared.tree.process.Process.TheVariants as processes
-use Rattle.occ_tree.specs.declared.tree.process.Stmt.{Stmt}
-use Rattle.occ_tree.specs.declared.tree.process.Stmt.TheVariants as stmts
-use Rattle.occ_tree.specs.declared.tree.process.Choice.{Choice}
-use Rattle.occ_tree.specs.declared.tree.process.Choice.TheVariants as choices
-use Rattle.occ_tree.specs.declared.tree.process.Arm.{Arm}
-use Rattle.occ_tree.specs.declared.tree.process.Arm.TheVariants as arms
-use Rattle.occ_tree.specs.declared.tree.process.Variant.{Variant}
-use Rattle.occ_tree.specs.declared.tree.process.Variant.TheVariants as variants
+use Rattle.occ_tree_grammar.specs.Expressions.Trees.{expression_of}
+use Rattle.occ_tree_grammar.specs.Lines.Trees as L
+use Rattle.occ_tree_grammar.specs.Lines.Views.{replicator_of, target_of, var_of}
+use Rattle.occ_tree_grammar.specs.Lines.HeadViews.{action_of, guard_of}
+use Rattle.occ_tree_grammar.specs.Processes.Views.{process_of, arm_of, choice_of, row_processes, row_arms, row_choices, row_selections, row_variants, row_decls}
+use Rattle.occ_tree_grammar.specs.Processes.Trees.{Decls}
+use Rattle.occ_tree_grammar.specs.declared.tree.process.Process.{Process}
+use Rattle.occ_tree_grammar.specs.declared.tree.process.Process.TheVariants as processes
+use Rattle.occ_tree_grammar.specs.declared.tree.process.Stmt.{Stmt}
+use Rattle.occ_tree_grammar.specs.declared.tree.process.Stmt.TheVariants as stmts
+use Rattle.occ_tree_grammar.specs.declared.tree.process.Choice.{Choice}
+use Rattle.occ_tree_grammar.specs.declared.tree.process.Choice.TheVariants as choices
+use Rattle.occ_tree_grammar.specs.declared.tree.process.Arm.{Arm}
+use Rattle.occ_tree_grammar.specs.declared.tree.process.Arm.TheVariants as arms
+use Rattle.occ_tree_grammar.specs.declared.tree.process.Variant.{Variant}
+use Rattle.occ_tree_grammar.specs.declared.tree.process.Variant.TheVariants as variants
 use Rattle.occ_term.specs.Terms.{Arms, Choices, Term}
-use Rattle.occ_unfolding.specs.Actions.{none_chosen}
-use Rattle.occ_unfolding.specs.Performing.{Under, acted, sequenced, each_sequenced, beside, copies_beside, alternated, conditioned, selected, looped, taken_by_variant, each_of_arms, each_of_choices, variants_arm}
-use Rattle.occ_unfolding.specs.Performing as P
-use Rattle.occ_unfolding.specs.Recursion.{unfolded, all_in_turn, all_beside, all_arms, arm_unfolded, all_choices, choice_unfolded, all_options, all_variants}
+use Rattle.occ_check_meaning.specs.Actions.{none_chosen}
+use Rattle.occ_check_meaning.specs.Performing.{Under, acted, sequenced, each_sequenced, beside, copies_beside, alternated, conditioned, selected, looped, taken_by_variant, each_of_arms, each_of_choices, variants_arm}
+use Rattle.occ_check_meaning.specs.Performing as P
+use Rattle.occ_check_meaning.specs.Recursion.{unfolded, all_in_turn, all_beside, all_arms, arm_unfolded, all_choices, choice_unfolded, all_options, all_variants}
 
 abbrev pub performing : ℕ → Stmt → Under Term
 performing line (stmts.Action a) = acted line (action_of a)

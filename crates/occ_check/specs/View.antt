@@ -2,16 +2,16 @@
 -- Manual: nothing; this is (own).
 use Rattle.std.specs.Borrow.{Bor}
 use Rattle.std.specs.Prelude.{List, bytes_eq, false, None, Option, Some, [], if◌then◌else◌, length, map, nat_eq, pos, reverse, suc, take, Vec, Result, Ok, Err, ℕ, ℤ, ⊤, ◌+◌, ◌++◌, ◌<◌, ◌≤◌, ◌∷◌, ◌≡◌}
-use Rattle.occ_tree.specs.Lines.Views.{formals_of}
-use Rattle.occ_tree.specs.Processes.Views.{process_of}
+use Rattle.occ_tree_grammar.specs.Lines.Views.{formals_of}
+use Rattle.occ_tree_grammar.specs.Processes.Views.{process_of}
 use Rattle.occ_term.specs.Terms as T
 use Rattle.occ_term.specs.View.{subscripts, expression_of, array_of}
 use Rattle.occ_term.specs.declared.expression.Place.{Place}
-use Rattle.occ_unfolding.specs.Scope as S
-use Rattle.occ_unfolding.specs.Expressions as E
-use Rattle.occ_unfolding.specs.Numbers as N
-use Rattle.occ_unfolding.specs.Unfolding as U
-use Rattle.occ_unfolding.specs.Unfolding.{Procedures, procedure}
+use Rattle.occ_check_meaning.specs.Scope as S
+use Rattle.occ_check_meaning.specs.Expressions as E
+use Rattle.occ_check_meaning.specs.Numbers as N
+use Rattle.occ_check_meaning.specs.Unfolding as U
+use Rattle.occ_check_meaning.specs.Unfolding.{Procedures, procedure}
 use Rattle.occ_check.specs.declared.fault.CheckFault.{CheckFault}
 use Rattle.occ_check.specs.declared.fault.CheckFault.TheVariants.{Unknown, Twice, WrongKind, WrongType, NotConstant, BadCount, Subscript, Protocol, Tag, Arguments, Overlap, ListTarget, NoMain, TooLarge, Memory}
 use Rattle.occ_check.specs.declared.known.Access.{Access}

@@ -2,16 +2,16 @@
 -- is smaller than a scope that the PROC stands in.
 -- Manual: nothing; this is (own).
 use Rattle.std.specs.Prelude.{List, [], ℕ, ◌+◌, ◌∷◌}
-use Rattle.occ_tree.specs.Processes.Trees.{Kind, process, Node, node, Body, no_body, single_body, bodies, Nodes, no_node, more_nodes, Decls, no_decl, more_decls, Decl, declares, item, Item, value_item, protocol_item, proc_item, Under}
-use Rattle.occ_tree.specs.Processes.Views.{process_of, arm_of, choice_of, row_processes, row_arms, row_choices, row_selections, row_variants}
-use Rattle.occ_tree.specs.declared.tree.process.Stmt.{Stmt}
-use Rattle.occ_tree.specs.declared.tree.process.Stmt.TheVariants as stmts
-use Rattle.occ_tree.specs.declared.tree.process.Choice.{Choice}
-use Rattle.occ_tree.specs.declared.tree.process.Choice.TheVariants as choices
-use Rattle.occ_tree.specs.declared.tree.process.Arm.{Arm}
-use Rattle.occ_tree.specs.declared.tree.process.Arm.TheVariants as arms
-use Rattle.occ_unfolding.specs.Scope.{known, proc}
-use Rattle.occ_unfolding.specs.Unfolding.{procedure, Procedures}
+use Rattle.occ_tree_grammar.specs.Processes.Trees.{Kind, process, Node, node, Body, no_body, single_body, bodies, Nodes, no_node, more_nodes, Decls, no_decl, more_decls, Decl, declares, item, Item, value_item, protocol_item, proc_item, Under}
+use Rattle.occ_tree_grammar.specs.Processes.Views.{process_of, arm_of, choice_of, row_processes, row_arms, row_choices, row_selections, row_variants}
+use Rattle.occ_tree_grammar.specs.declared.tree.process.Stmt.{Stmt}
+use Rattle.occ_tree_grammar.specs.declared.tree.process.Stmt.TheVariants as stmts
+use Rattle.occ_tree_grammar.specs.declared.tree.process.Choice.{Choice}
+use Rattle.occ_tree_grammar.specs.declared.tree.process.Choice.TheVariants as choices
+use Rattle.occ_tree_grammar.specs.declared.tree.process.Arm.{Arm}
+use Rattle.occ_tree_grammar.specs.declared.tree.process.Arm.TheVariants as arms
+use Rattle.occ_check_meaning.specs.Scope.{known, proc}
+use Rattle.occ_check_meaning.specs.Unfolding.{procedure, Procedures}
 
 -- the sizes of trees, with those of bodies that are declared in them
 unfoldable mutual

@@ -1,21 +1,21 @@
 //! What stands in one line, with the nodes that it heads, and what is entered before it.
 
 ghost use Rattle.std.specs.Prelude.{◌≡◌, ◌<◌, ◌≤◌, ◌+◌, ◌∷◌, IfOk, OnOk, length, map, reverse, take};
-ghost use Rattle.occ_tree.specs.Processes.Trees.{decls};
-ghost use Rattle.occ_tree.specs.Processes.Views.{decl_of, row_decls};
-ghost use Rattle.occ_tree.specs.declared.tree.process.Arm.TheBlock.{hidden-the_row-Decl-0};
-ghost use Rattle.occ_tree.specs.Expressions.Trees.{expression_of as tree_of};
-ghost use Rattle.occ_tree.specs.Lines.Views as lines;
-ghost use Rattle.occ_tree.specs.Lines.Heads as heads;
+ghost use Rattle.occ_tree_grammar.specs.Processes.Trees.{decls};
+ghost use Rattle.occ_tree_grammar.specs.Processes.Views.{decl_of, row_decls};
+ghost use Rattle.occ_tree_grammar.specs.declared.tree.process.Arm.TheBlock.{hidden-the_row-Decl-0};
+ghost use Rattle.occ_tree_grammar.specs.Expressions.Trees.{expression_of as tree_of};
+ghost use Rattle.occ_tree_grammar.specs.Lines.Views as lines;
+ghost use Rattle.occ_tree_grammar.specs.Lines.Heads as heads;
 ghost use Rattle.occ_term.specs.Sizes.{size_of};
 ghost use Rattle.occ_term.specs.Terms as terms;
 ghost use Rattle.occ_term.specs.View.{expression_of, place_of, term_of};
-ghost use Rattle.occ_unfolding.specs.Numbers.{room};
-ghost use Rattle.occ_unfolding.specs.Performing.{acted};
-ghost use Rattle.occ_unfolding.specs.Actions as meant;
-ghost use Rattle.occ_unfolding.specs.Recursion.{all_declared};
-ghost use Rattle.occ_unfolding.specs.Scope.{names_of};
-ghost use Rattle.occ_unfolding.specs.Unfolding.{meant as with_meanings};
+ghost use Rattle.occ_check_meaning.specs.Numbers.{room};
+ghost use Rattle.occ_check_meaning.specs.Performing.{acted};
+ghost use Rattle.occ_check_meaning.specs.Actions as meant;
+ghost use Rattle.occ_check_meaning.specs.Recursion.{all_declared};
+ghost use Rattle.occ_check_meaning.specs.Scope.{names_of};
+ghost use Rattle.occ_check_meaning.specs.Unfolding.{meant as with_meanings};
 ghost use Rattle.occ_check.specs.ActionView.{listed_of};
 ghost use Rattle.occ_check.specs.Prefixes.{assigning, heading, outputting, receiving, tested};
 ghost use Rattle.occ_check.specs.View.{Counts, Unfolds, names_in, numbers_of, scope_in};
@@ -34,9 +34,9 @@ use crate::scope::{Position, Scope};
 use crate::unfolder::Unfolder;
 use occ_held::Held;
 use occ_term::{Declaration, Place, Primitive, Term, TermExpr};
-use occ_tree::tree::expr::Expr;
-use occ_tree::tree::line::{Input, OneOrMore, Out, Var};
-use occ_tree::tree::process::Decl;
+use occ_tree_grammar::tree::expr::Expr;
+use occ_tree_grammar::tree::line::{Input, OneOrMore, Out, Var};
+use occ_tree_grammar::tree::process::Decl;
 use sqlite_items::Items;
 use std::alloc::Global;
 

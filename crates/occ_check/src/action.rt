@@ -1,13 +1,13 @@
 //! Processes that stand in one line, and the parts of the others that declare nothing.
 
 ghost use Rattle.std.specs.Prelude.{◌≡◌, ◌∷◌, [], IfOk, map, option_map};
-ghost use Rattle.occ_tree.specs.Expressions.Trees as trees;
-ghost use Rattle.occ_tree.specs.Lines.Views as lines;
+ghost use Rattle.occ_tree_grammar.specs.Expressions.Trees as trees;
+ghost use Rattle.occ_tree_grammar.specs.Lines.Views as lines;
 ghost use Rattle.occ_term.specs.Terms.{no_variants, or_variant};
 ghost use Rattle.occ_term.specs.View as terms;
-ghost use Rattle.occ_unfolding.specs.Actions as meant;
-ghost use Rattle.occ_unfolding.specs.Items as items;
-ghost use Rattle.occ_unfolding.specs.Scope.{each_of};
+ghost use Rattle.occ_check_meaning.specs.Actions as meant;
+ghost use Rattle.occ_check_meaning.specs.Items as items;
+ghost use Rattle.occ_check_meaning.specs.Scope.{each_of};
 ghost use Rattle.occ_check.specs.ActionView.{Chooses, chosen_of, listed_of, side_assigned, side_of, zipped};
 ghost use Rattle.occ_check.specs.View.{Gives, names_in, part_of, typed_of};
 
@@ -22,8 +22,8 @@ use crate::types::are_same_sizes;
 use indexmap::IndexSet;
 use occ_held::Held;
 use occ_term::{Item, Place, Primitive, Protocol, Reception, Target, Term, TermExpr, Variant};
-use occ_tree::tree::expr::Expr;
-use occ_tree::tree::line::{Input, OneOrMore, Out, Var};
+use occ_tree_grammar::tree::expr::Expr;
+use occ_tree_grammar::tree::line::{Input, OneOrMore, Out, Var};
 use sqlite_items::Items;
 use std::alloc::{AllocError, Global};
 
@@ -68,7 +68,7 @@ pub(crate) fn assigned(
 }
 
 /// The left side, where there is one variable at least.
-#[tactic(auto, unfolding(occ_unfolding::specs::Scope::each_of))]
+#[tactic(auto, unfolding(occ_check_meaning::specs::Scope::each_of))]
 fn all_variables(
     alloc: Global,
     scope: Scope<'_, '_>,
@@ -361,7 +361,7 @@ fn has_number(number: u32, list: &[u32]) -> bool
 /// # Errors
 ///
 /// `Twice` for one that stands there already, and `Memory`. After an error nothing is known of what is chosen.
-#[tactic(auto, unfolding(occ_unfolding::specs::Actions::choosing))]
+#[tactic(auto, unfolding(occ_check_meaning::specs::Actions::choosing))]
 pub(crate) fn choosing(
     alloc: Global,
     line: u32,

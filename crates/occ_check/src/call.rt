@@ -1,15 +1,15 @@
 //! Calls: what the formals want, and what they stand for under the actuals.
 
 ghost use Rattle.std.specs.Prelude.{◌≡◌, ◌∷◌, ◌++◌, [], IfOk, map, None, option_map, Some, ℕ};
-ghost use Rattle.occ_tree.specs.Expressions.Trees as trees;
-ghost use Rattle.occ_tree.specs.Lines.Views as lines;
+ghost use Rattle.occ_tree_grammar.specs.Expressions.Trees as trees;
+ghost use Rattle.occ_tree_grammar.specs.Lines.Views as lines;
 ghost use Rattle.occ_term.specs.View.{expression_of, subscripts};
-ghost use Rattle.occ_unfolding.specs.Calls as meant;
-ghost use Rattle.occ_unfolding.specs.Constants.{constant};
-ghost use Rattle.occ_unfolding.specs.Items as items;
-ghost use Rattle.occ_tree.specs.Lines.Trees.{by_channel};
-ghost use Rattle.occ_unfolding.specs.Types as types;
-ghost use Rattle.occ_unfolding.specs.Types.{open_sizes_of};
+ghost use Rattle.occ_check_meaning.specs.Calls as meant;
+ghost use Rattle.occ_check_meaning.specs.Constants.{constant};
+ghost use Rattle.occ_check_meaning.specs.Items as items;
+ghost use Rattle.occ_tree_grammar.specs.Lines.Trees.{by_channel};
+ghost use Rattle.occ_check_meaning.specs.Types as types;
+ghost use Rattle.occ_check_meaning.specs.Types.{open_sizes_of};
 ghost use Rattle.occ_check.specs.View.{Gives, carried_of, evaluated_of, known_of, names_in, numbers_of, row_of};
 ghost use Rattle.occ_check.specs.OpenedView.{Opens};
 ghost use Rattle.occ_check.specs.declared.numbers.Numbers.{Numbers};
@@ -28,8 +28,10 @@ use crate::scope::Scope;
 use crate::types::{carried_by, open_sizes_of};
 use occ_held::Held;
 use occ_term::{Declaration, Item, Primitive, Protocol, TermExpr};
-use occ_tree::tree::expr::{Expr, Operand};
-use occ_tree::tree::line::{Carried as CarriedTree, Formal, Formals, OneOrMore, Size, Spec};
+use occ_tree_grammar::tree::expr::{Expr, Operand};
+use occ_tree_grammar::tree::line::{
+    Carried as CarriedTree, Formal, Formals, OneOrMore, Size, Spec,
+};
 use sqlite_items::Items;
 use std::alloc::{AllocError, Global};
 
@@ -350,7 +352,7 @@ impl Given {
 }
 
 /// Subscripts of an actual, from left to right, and the sizes that they leave.
-#[tactic(auto, unfolding(occ_unfolding::specs::Calls::all_evaluated))]
+#[tactic(auto, unfolding(occ_check_meaning::specs::Calls::all_evaluated))]
 fn all_evaluated(
     numbers: &mut Numbers,
     alloc: Global,

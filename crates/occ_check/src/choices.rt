@@ -1,16 +1,16 @@
 //! The choices of an IF.
 
 ghost use Rattle.std.specs.Prelude.{◌≡◌, ◌≤◌, ◌+◌, IfOk, OnOk, map};
-ghost use Rattle.occ_tree.specs.Processes.Trees.{nodes, decls};
-ghost use Rattle.occ_tree.specs.Processes.Views as trees;
-ghost use Rattle.occ_tree.specs.Processes.Views.{decl_of, row_choices, row_decls};
-ghost use Rattle.occ_tree.specs.declared.tree.process.Arm.TheBlock.{hidden-the_row-Choice-3, hidden-the_row-Decl-0};
-ghost use Rattle.occ_tree.specs.Lines.Views.{replicator_of};
+ghost use Rattle.occ_tree_grammar.specs.Processes.Trees.{nodes, decls};
+ghost use Rattle.occ_tree_grammar.specs.Processes.Views as trees;
+ghost use Rattle.occ_tree_grammar.specs.Processes.Views.{decl_of, row_choices, row_decls};
+ghost use Rattle.occ_tree_grammar.specs.declared.tree.process.Arm.TheBlock.{hidden-the_row-Choice-3, hidden-the_row-Decl-0};
+ghost use Rattle.occ_tree_grammar.specs.Lines.Views.{replicator_of};
 ghost use Rattle.occ_term.specs.Terms.{no_choices};
 ghost use Rattle.occ_term.specs.View.{choice_of, choices_of, declarations_of, term_of};
-ghost use Rattle.occ_unfolding.specs.Actions as meant;
-ghost use Rattle.occ_unfolding.specs.Performing.{conditioned, each_of_choices};
-ghost use Rattle.occ_unfolding.specs.Recursion.{all_choices, choice_unfolded};
+ghost use Rattle.occ_check_meaning.specs.Actions as meant;
+ghost use Rattle.occ_check_meaning.specs.Performing.{conditioned, each_of_choices};
+ghost use Rattle.occ_check_meaning.specs.Recursion.{all_choices, choice_unfolded};
 ghost use Rattle.occ_check.specs.View.{Unfolds};
 ghost use Rattle.occ_check.specs.Statements.{choosing, declarations_of_choice};
 ghost use Rattle.occ_check.specs.Progress.{counted, meant_at};
@@ -20,8 +20,8 @@ use crate::scope::Position;
 use crate::unfolder::Unfolder;
 use occ_held::Held;
 use occ_term::{Choice as TermChoice, Declaration, Term};
-use occ_tree::tree::line::Replicator;
-use occ_tree::tree::process::{Choice, Decl};
+use occ_tree_grammar::tree::line::Replicator;
+use occ_tree_grammar::tree::process::{Choice, Decl};
 use sqlite_items::Items;
 use std::alloc::{AllocError, Global};
 

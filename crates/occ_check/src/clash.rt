@@ -4,7 +4,7 @@
 ghost use Rattle.std.specs.Prelude.{◌≡◌, ◌&&◌, IfOk, map};
 ghost use Rattle.occ_term.specs.Uses as uses;
 ghost use Rattle.occ_term.specs.View.{expression_of, place_of, subscripts, targets_of};
-ghost use Rattle.occ_unfolding.specs.Items as meant;
+ghost use Rattle.occ_check_meaning.specs.Items as meant;
 ghost use Rattle.occ_check.specs.ActionView.{row_at, rows_at};
 ghost use Rattle.occ_check.specs.CallView.{span_of};
 ghost use Rattle.occ_check.specs.Clashing.{any_in_subscripts, one_of_clashes, reads_any, rows_of, shares};

@@ -5,7 +5,7 @@ ghost use Rattle.occ_term.specs.Messages.{is_of};
 ghost use Rattle.occ_term.specs.declared.primitive.Primitive.TheVariants.{Int};
 ghost use Rattle.occ_term.specs.Uses as uses;
 ghost use Rattle.occ_term.specs.View.{expression_of};
-ghost use Rattle.occ_unfolding.specs.Constants.{constant, is_within};
+ghost use Rattle.occ_check_meaning.specs.Constants.{constant, is_within};
 
 use occ_term::{NoValue, Primitive, TermExpr, constant_value};
 use std::alloc::AllocError;

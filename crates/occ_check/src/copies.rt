@@ -1,13 +1,13 @@
 //! The copies of a replicated PAR.
 
 ghost use Rattle.std.specs.Prelude.{◌≡◌, ◌<◌, ◌≤◌, ◌+ℤ◌, pos, IfErr, IfOk, OnOk, length, take};
-ghost use Rattle.occ_tree.specs.Processes.Views.{process_of};
-ghost use Rattle.occ_tree.specs.Lines.Views.{replicator_of};
+ghost use Rattle.occ_tree_grammar.specs.Processes.Views.{process_of};
+ghost use Rattle.occ_tree_grammar.specs.Lines.Views.{replicator_of};
 ghost use Rattle.occ_term.specs.View.{branch_of, branches_of, term_of};
-ghost use Rattle.occ_unfolding.specs.Declarations.{index_of};
-ghost use Rattle.occ_unfolding.specs.Performing.{copied, copies_beside};
-ghost use Rattle.occ_unfolding.specs.Recursion.{unfolded};
-ghost use Rattle.occ_unfolding.specs.Scope.{names_of, within};
+ghost use Rattle.occ_check_meaning.specs.Declarations.{index_of};
+ghost use Rattle.occ_check_meaning.specs.Performing.{copied, copies_beside};
+ghost use Rattle.occ_check_meaning.specs.Recursion.{unfolded};
+ghost use Rattle.occ_check_meaning.specs.Scope.{names_of, within};
 ghost use Rattle.occ_check.specs.Numbered.{copies_counted, copy_for, numbered_copy};
 ghost use Rattle.occ_check.specs.View.{Unfolds, names_in, numbers_of};
 ghost use Rattle.occ_check.specs.Progress.{counted, meant_at, weight_at};
@@ -21,8 +21,8 @@ use crate::numbers::Numbers;
 use crate::scope::{Binding, Position, Scope};
 use crate::unfolder::Unfolder;
 use occ_term::{Branch, Primitive, Term};
-use occ_tree::tree::line::Replicator;
-use occ_tree::tree::process::Process;
+use occ_tree_grammar::tree::line::Replicator;
+use occ_tree_grammar::tree::process::Process;
 use sqlite_items::Items;
 use std::alloc::Global;
 

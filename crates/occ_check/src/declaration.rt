@@ -1,14 +1,14 @@
 //! Declarations: what their names stand for, and the Clears and Locals that are set for them.
 
 ghost use Rattle.std.specs.Prelude.{◌≡◌, [], ◌∷◌, ◌++◌, IfOk, map, option_map, Some};
-ghost use Rattle.occ_tree.specs.Expressions.Trees as trees;
-ghost use Rattle.occ_tree.specs.Lines.Views as lines;
-ghost use Rattle.occ_tree.specs.Processes.Views as processes;
+ghost use Rattle.occ_tree_grammar.specs.Expressions.Trees as trees;
+ghost use Rattle.occ_tree_grammar.specs.Lines.Views as lines;
+ghost use Rattle.occ_tree_grammar.specs.Processes.Views as processes;
 ghost use Rattle.occ_term.specs.View.{expression_of, item_of};
-ghost use Rattle.occ_unfolding.specs.Constants.{a_count, constant};
-ghost use Rattle.occ_unfolding.specs.Declarations as meant;
-ghost use Rattle.occ_unfolding.specs.Scope as scopes;
-ghost use Rattle.occ_unfolding.specs.Types as types;
+ghost use Rattle.occ_check_meaning.specs.Constants.{a_count, constant};
+ghost use Rattle.occ_check_meaning.specs.Declarations as meant;
+ghost use Rattle.occ_check_meaning.specs.Scope as scopes;
+ghost use Rattle.occ_check_meaning.specs.Types as types;
 ghost use Rattle.occ_check.specs.View.{Gives, carried_of, known_of, names_in, numbers_of, row_of, typed_of};
 ghost use Rattle.occ_check.specs.OpenedView.{Indexes, Opens, pair_of, pairs_of};
 
@@ -25,9 +25,9 @@ use crate::types::{carried_by, open_sizes_of, protocol_of, sizes_of};
 use indexmap::IndexSet;
 use occ_held::Held;
 use occ_term::{Array, Declaration, Item, Primitive, Replicator, TermExpr};
-use occ_tree::tree::expr::Expr;
-use occ_tree::tree::line::{OneOrMore, Replicator as ReplicatorTree, Sort, ValueType};
-use occ_tree::tree::process::Protocol as ProtocolTree;
+use occ_tree_grammar::tree::expr::Expr;
+use occ_tree_grammar::tree::line::{OneOrMore, Replicator as ReplicatorTree, Sort, ValueType};
+use occ_tree_grammar::tree::process::Protocol as ProtocolTree;
 use sqlite_items::Items;
 use std::alloc::{AllocError, Global};
 

@@ -1,17 +1,17 @@
 //! What comes into scope: declarations, the formals of a call and the index of a replicator.
 
 ghost use Rattle.std.specs.Prelude.{ℕ, ◌≡◌, ◌+◌, ◌<◌, ◌≤◌, IfErr, IfOk, OnOk, length, map, reverse, take};
-ghost use Rattle.occ_tree.specs.Processes.Trees.{decls};
-ghost use Rattle.occ_tree.specs.Processes.Views.{process_of, decl_of, item_of};
-ghost use Rattle.occ_tree.specs.Lines.Views.{actuals_of, formals_of, replicator_of};
-ghost use Rattle.occ_tree.specs.Lines.Heads.{call};
+ghost use Rattle.occ_tree_grammar.specs.Processes.Trees.{decls};
+ghost use Rattle.occ_tree_grammar.specs.Processes.Views.{process_of, decl_of, item_of};
+ghost use Rattle.occ_tree_grammar.specs.Lines.Views.{actuals_of, formals_of, replicator_of};
+ghost use Rattle.occ_tree_grammar.specs.Lines.Heads.{call};
 ghost use Rattle.occ_term.specs.View.{declaration_of, declarations_of, term_of};
-ghost use Rattle.occ_unfolding.specs.Actions.{as_term, headed, opening};
-ghost use Rattle.occ_unfolding.specs.Declarations.{indexed};
-ghost use Rattle.occ_unfolding.specs.Performing.{acted};
-ghost use Rattle.occ_unfolding.specs.Scope.{names_of, within};
-ghost use Rattle.occ_unfolding.specs.Recursion.{all_declared, declared, item_declared};
-ghost use Rattle.occ_unfolding.specs.Unfolding.{meaning_of};
+ghost use Rattle.occ_check_meaning.specs.Actions.{as_term, headed, opening};
+ghost use Rattle.occ_check_meaning.specs.Declarations.{indexed};
+ghost use Rattle.occ_check_meaning.specs.Performing.{acted};
+ghost use Rattle.occ_check_meaning.specs.Scope.{names_of, within};
+ghost use Rattle.occ_check_meaning.specs.Recursion.{all_declared, declared, item_declared};
+ghost use Rattle.occ_check_meaning.specs.Unfolding.{meaning_of};
 ghost use Rattle.occ_check.specs.Entering.{formals_bound, procedure_found, procedure_in, procedure_of};
 ghost use Rattle.occ_check.specs.OpenedView.{Opens, pairs_of};
 ghost use Rattle.occ_check.specs.Weights.{decl_size, decls_size, item_size, node_size, weight};
@@ -30,9 +30,9 @@ use crate::scope::{Binding, Found, Position, Procedure, Scope};
 use crate::unfolder::{Call, Unfolder};
 use occ_held::Held;
 use occ_term::{Declaration, Replicator, Term};
-use occ_tree::tree::expr::Expr;
-use occ_tree::tree::line::{OneOrMore, Replicator as ReplicatorTree};
-use occ_tree::tree::process::{Decl, Item};
+use occ_tree_grammar::tree::expr::Expr;
+use occ_tree_grammar::tree::line::{OneOrMore, Replicator as ReplicatorTree};
+use occ_tree_grammar::tree::process::{Decl, Item};
 use sqlite_items::Items;
 use std::alloc::Global;
 

@@ -1,12 +1,12 @@
 //! Expressions under a scope: their types, and what they unfold to.
 
 ghost use Rattle.std.specs.Prelude.{◌≡◌, ◌∷◌, [], IfOk, IsTrue, None, map, pos};
-ghost use Rattle.occ_tree.specs.Expressions.Trees as trees;
+ghost use Rattle.occ_tree_grammar.specs.Expressions.Trees as trees;
 ghost use Rattle.occ_term.specs.Messages.{is_of};
 ghost use Rattle.occ_term.specs.Terms.{Conversion};
 ghost use Rattle.occ_term.specs.View.{expression_of, subscripts};
 ghost use Rattle.occ_term.specs.declared.primitive.Primitive.TheVariants.{Bool as Boolean, Int};
-ghost use Rattle.occ_unfolding.specs.Expressions as meant;
+ghost use Rattle.occ_check_meaning.specs.Expressions as meant;
 ghost use Rattle.occ_check.specs.View.{Gives, known_of, names_in, typed_of};
 
 use crate::constant::constant_of;
@@ -20,7 +20,7 @@ use crate::scope::{Found, Scope};
 use crate::typed::Typed;
 use occ_held::Held;
 use occ_term::{Monadic, Operator, Primitive, TermExpr};
-use occ_tree::tree::expr::{Expr, Literal, Logic, Monadic as Sign, Operand};
+use occ_tree_grammar::tree::expr::{Expr, Literal, Logic, Monadic as Sign, Operand};
 use sqlite_items::{Boxed, Items};
 use std::alloc::{AllocError, Global};
 
@@ -30,7 +30,7 @@ use std::alloc::{AllocError, Global};
 ///
 /// `Unknown`, `WrongKind`, `WrongType` and `Subscript` refuse it, `Memory` tells of a refused growth.
 #[cycle(typing)]
-#[tactic(auto, unfolding(occ_unfolding::specs::Expressions::typed))]
+#[tactic(auto, unfolding(occ_check_meaning::specs::Expressions::typed))]
 pub(crate) fn typed(
     alloc: Global,
     scope: Scope<'_, '_>,
@@ -70,7 +70,7 @@ pub(crate) fn typed(
 
 /// An operator and its operand.
 #[cycle(typing)]
-#[tactic(auto, unfolding(occ_unfolding::specs::Expressions::typed))]
+#[tactic(auto, unfolding(occ_check_meaning::specs::Expressions::typed))]
 fn typed_one(
     alloc: Global,
     scope: Scope<'_, '_>,
@@ -106,7 +106,7 @@ fn typed_one(
 
 /// An operand of type BOOL.
 #[cycle(typing)]
-#[tactic(auto, unfolding(occ_unfolding::specs::Expressions::typed))]
+#[tactic(auto, unfolding(occ_check_meaning::specs::Expressions::typed))]
 fn typed_truth(
     alloc: Global,
     scope: Scope<'_, '_>,
@@ -152,7 +152,7 @@ fn typed_chain(
 
 /// One operand more.
 #[cycle(typing)]
-#[tactic(auto, unfolding(occ_unfolding::specs::Expressions::typed, occ_unfolding::specs::Expressions::typed_chain))]
+#[tactic(auto, unfolding(occ_check_meaning::specs::Expressions::typed, occ_check_meaning::specs::Expressions::typed_chain))]
 fn chained(
     alloc: Global,
     scope: Scope<'_, '_>,
@@ -171,7 +171,7 @@ fn chained(
 
 /// What an operand unfolds to.
 #[cycle(typing)]
-#[tactic(auto, unfolding(occ_unfolding::specs::Expressions::typed_operand))]
+#[tactic(auto, unfolding(occ_check_meaning::specs::Expressions::typed_operand))]
 fn typed_operand(
     alloc: Global,
     scope: Scope<'_, '_>,
@@ -195,7 +195,7 @@ fn typed_operand(
 
 /// A name with its subscripts, which is read.
 #[cycle(typing)]
-#[tactic(auto, unfolding(occ_unfolding::specs::Expressions::typed_operand))]
+#[tactic(auto, unfolding(occ_check_meaning::specs::Expressions::typed_operand))]
 fn typed_variable(
     alloc: Global,
     scope: Scope<'_, '_>,
@@ -237,7 +237,7 @@ pub(crate) fn typed_subscripts(
 
 /// The SIZE of an operand. It reads nothing, but the subscripts under it are checked.
 #[cycle(typing)]
-#[tactic(auto, unfolding(occ_unfolding::specs::Expressions::size_of_operand))]
+#[tactic(auto, unfolding(occ_check_meaning::specs::Expressions::size_of_operand))]
 fn size_of_operand(
     alloc: Global,
     scope: Scope<'_, '_>,
@@ -259,7 +259,7 @@ fn size_of_operand(
 
 /// The SIZE of what a name under subscripts stands for.
 #[cycle(typing)]
-#[tactic(auto, unfolding(occ_unfolding::specs::Expressions::size_of_operand))]
+#[tactic(auto, unfolding(occ_check_meaning::specs::Expressions::size_of_operand))]
 fn size_of_variable(
     alloc: Global,
     scope: Scope<'_, '_>,
@@ -276,7 +276,7 @@ fn size_of_variable(
 
 /// The SIZE of an array in parentheses.
 #[cycle(typing)]
-#[tactic(auto, unfolding(occ_unfolding::specs::Expressions::size_of_expression))]
+#[tactic(auto, unfolding(occ_check_meaning::specs::Expressions::size_of_expression))]
 fn size_of_expression(
     alloc: Global,
     scope: Scope<'_, '_>,
@@ -473,7 +473,7 @@ fn size_typed(line: u32, size: u64) -> Result<Typed, CheckFault>
 }
 
 /// The SIZE of a literal without a type, which must be a string.
-#[tactic(auto, unfolding(occ_unfolding::specs::Expressions::size_of_operand))]
+#[tactic(auto, unfolding(occ_check_meaning::specs::Expressions::size_of_operand))]
 fn size_of_literal(line: u32, literal: &Literal) -> Result<u64, CheckFault>
     ensures { Gives (λ n. n) result (meant.size_of_operand (λ x. None) line (trees.literal (trees.lit_of literal.now) None)) }
 {

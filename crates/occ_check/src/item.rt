@@ -1,15 +1,15 @@
 //! Variables and channels of a line, and what is output.
 
 ghost use Rattle.std.specs.Prelude.{◌≡◌, ◌∷◌, [], IfOk, Some, map};
-ghost use Rattle.occ_tree.specs.Expressions.Trees as trees;
-ghost use Rattle.occ_tree.specs.Lines.Trees.{from};
-ghost use Rattle.occ_tree.specs.Lines.Views as lines;
+ghost use Rattle.occ_tree_grammar.specs.Expressions.Trees as trees;
+ghost use Rattle.occ_tree_grammar.specs.Lines.Trees.{from};
+ghost use Rattle.occ_tree_grammar.specs.Lines.Views as lines;
 ghost use Rattle.occ_term.specs.Messages as messages;
 ghost use Rattle.occ_term.specs.View as terms;
 ghost use Rattle.occ_term.specs.declared.primitive.Primitive.TheVariants.{Int};
 ghost use Rattle.occ_term.specs.declared.protocol.PartType.TheVariants.{One as OneOf, Many as ManyOf, Counted as CountedOf};
-ghost use Rattle.occ_unfolding.specs.Expressions.{single};
-ghost use Rattle.occ_unfolding.specs.Items as meant;
+ghost use Rattle.occ_check_meaning.specs.Expressions.{single};
+ghost use Rattle.occ_check_meaning.specs.Items as meant;
 ghost use Rattle.occ_check.specs.View.{Gives, carried_of, known_of, names_in, part_of, row_of, typed_of};
 
 use crate::expression::{known_name, typed, typed_subscripts};
@@ -22,8 +22,8 @@ use crate::typed::{Part, Typed};
 use crate::types::{are_same_sizes, simple_part};
 use occ_held::Held;
 use occ_term::{Array, Item, PartType, Place, Primitive, Protocol, Tag, TermExpr};
-use occ_tree::tree::expr::{Expr, Operand};
-use occ_tree::tree::line::{OneOrMore, Out, Var};
+use occ_tree_grammar::tree::expr::{Expr, Operand};
+use occ_tree_grammar::tree::line::{OneOrMore, Out, Var};
 use sqlite_items::Items;
 use std::alloc::{AllocError, Global};
 
@@ -258,7 +258,7 @@ fn sent_items(
 }
 
 /// As many items as parts, where there is one at least.
-#[tactic(auto, unfolding(occ_unfolding::specs::Items::sent_items))]
+#[tactic(auto, unfolding(occ_check_meaning::specs::Items::sent_items))]
 fn sent_list(
     alloc: Global,
     scope: Scope<'_, '_>,

@@ -1,8 +1,8 @@
 //! Literals.
 
 ghost use Rattle.std.specs.Prelude.{◌≡◌, IfOk, length, map, pos};
-ghost use Rattle.occ_tree.specs.Expressions.Trees as trees;
-ghost use Rattle.occ_unfolding.specs.Expressions as meant;
+ghost use Rattle.occ_tree_grammar.specs.Expressions.Trees as trees;
+ghost use Rattle.occ_check_meaning.specs.Expressions as meant;
 ghost use Rattle.occ_check.specs.View.{Gives, typed_of};
 
 use crate::constant::has_type;
@@ -10,7 +10,7 @@ use crate::fault::CheckFault;
 use crate::operators::primitive_of;
 use crate::typed::Typed;
 use occ_term::{Array, Primitive, TermExpr};
-use occ_tree::tree::expr::{Literal, Primitive as PrimitiveTree};
+use occ_tree_grammar::tree::expr::{Literal, Primitive as PrimitiveTree};
 use sqlite_items::Items;
 use std::alloc::{AllocError, Global};
 

@@ -5,7 +5,7 @@ ghost use Rattle.occ_term.specs.Sizes.{no_size, size_of, size_of_array, size_of_
 ghost use Rattle.occ_term.specs.Terms.{Assign, Input, Output, Skip, VariantInput, no_variants, or_variant};
 ghost use Rattle.occ_term.specs.View.{array_of, declaration_of, expression_of, item_of, items_of, place_of, replicator_of, subscripts, target_of, targets_of};
 ghost use Rattle.occ_check.specs.Measuring.{size_within};
-ghost use Rattle.occ_unfolding.specs.Numbers.{room};
+ghost use Rattle.occ_check_meaning.specs.Numbers.{room};
 ghost use Rattle.occ_check.specs.View.{Counts, numbers_of};
 
 use crate::fault::CheckFault;

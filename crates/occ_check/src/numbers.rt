@@ -4,8 +4,8 @@ ghost use Rattle.std.specs.Prelude.{◌≡◌, ◌<◌, ◌≤◌, ◌+◌, ◌+
 ghost use Rattle.occ_term.specs.Messages.{product};
 ghost use Rattle.occ_term.specs.Sizes.{no_size, node};
 ghost use Rattle.occ_term.specs.Unfolding.{byte_channel};
-ghost use Rattle.occ_unfolding.specs.Numbers.{at_start, component_name, component_names, more_cells, more_channels, more_processes, more_protocols, most_depth, room};
-ghost use Rattle.occ_unfolding.specs.Scope.{keep};
+ghost use Rattle.occ_check_meaning.specs.Numbers.{at_start, component_name, component_names, more_cells, more_channels, more_processes, more_protocols, most_depth, room};
+ghost use Rattle.occ_check_meaning.specs.Scope.{keep};
 ghost use Rattle.occ_check.specs.View.{Counts, Gives, numbers_of};
 
 use crate::fault::CheckFault;
@@ -211,7 +211,7 @@ pub(crate) fn components(sizes: &[u32]) -> u32
 }
 
 /// The names of the components of an array of these sizes, after others: the last subscript moves fastest.
-#[tactic(auto, unfolding(occ_unfolding::specs::Numbers::component_names))]
+#[tactic(auto, unfolding(occ_check_meaning::specs::Numbers::component_names))]
 fn component_names(
     alloc: Global,
     names: &mut Vec<Items<u8>>,

@@ -2,13 +2,13 @@
 
 ghost use Rattle.std.specs.Prelude.{◌≡◌};
 ghost use Rattle.occ_term.specs.Typing.{is_number};
-ghost use Rattle.occ_unfolding.specs.Operators as meant;
-ghost use Rattle.occ_unfolding.specs.Scope.{keep};
+ghost use Rattle.occ_check_meaning.specs.Operators as meant;
+ghost use Rattle.occ_check_meaning.specs.Scope.{keep};
 ghost use Rattle.occ_check.specs.View.{Gives};
 
 use crate::fault::CheckFault;
 use occ_term::{Monadic, Operator, Primitive};
-use occ_tree::tree::expr::{Dyadic, Primitive as PrimitiveTree};
+use occ_tree_grammar::tree::expr::{Dyadic, Primitive as PrimitiveTree};
 
 /// The primitive type that a tree names.
 pub(crate) fn primitive_of(primitive: PrimitiveTree) -> Primitive

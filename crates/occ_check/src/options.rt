@@ -1,16 +1,16 @@
 //! The options of a CASE.
 
 ghost use Rattle.std.specs.Prelude.{◌≡◌, ◌<◌, ◌≤◌, ◌∷◌, IfOk, OnOk, map};
-ghost use Rattle.occ_tree.specs.Processes.Trees.{nodes, decls};
-ghost use Rattle.occ_tree.specs.Processes.Views.{decl_of, process_of, row_selections, selection_of};
-ghost use Rattle.occ_tree.specs.declared.tree.process.Arm.TheBlock.{hidden-the_row-Selection-5};
-ghost use Rattle.occ_tree.specs.Expressions.Trees.{expression_of as tree_of};
+ghost use Rattle.occ_tree_grammar.specs.Processes.Trees.{nodes, decls};
+ghost use Rattle.occ_tree_grammar.specs.Processes.Views.{decl_of, process_of, row_selections, selection_of};
+ghost use Rattle.occ_tree_grammar.specs.declared.tree.process.Arm.TheBlock.{hidden-the_row-Selection-5};
+ghost use Rattle.occ_tree_grammar.specs.Expressions.Trees.{expression_of as tree_of};
 ghost use Rattle.occ_term.specs.View.{expression_of, options_of, term_of};
-ghost use Rattle.occ_unfolding.specs.Actions as meant;
-ghost use Rattle.occ_unfolding.specs.Expressions.{constant_as};
-ghost use Rattle.occ_unfolding.specs.Performing as performing;
-ghost use Rattle.occ_unfolding.specs.Recursion.{all_declared, all_options, option_unfolded, unfolded};
-ghost use Rattle.occ_unfolding.specs.Scope.{each_of, names_of};
+ghost use Rattle.occ_check_meaning.specs.Actions as meant;
+ghost use Rattle.occ_check_meaning.specs.Expressions.{constant_as};
+ghost use Rattle.occ_check_meaning.specs.Performing as performing;
+ghost use Rattle.occ_check_meaning.specs.Recursion.{all_declared, all_options, option_unfolded, unfolded};
+ghost use Rattle.occ_check_meaning.specs.Scope.{each_of, names_of};
 ghost use Rattle.occ_check.specs.ActionView.{chosen_of};
 ghost use Rattle.occ_check.specs.Prefixes.{choosing_values, listing, selecting};
 ghost use Rattle.occ_check.specs.View.{Gives, Unfolds, names_in, numbers_of};
@@ -27,9 +27,9 @@ use crate::unfolder::Unfolder;
 use indexmap::IndexSet;
 use occ_held::Held;
 use occ_term::{Primitive, Selection as TermSelection, Term, TermExpr};
-use occ_tree::tree::expr::Expr;
-use occ_tree::tree::line::OneOrMore;
-use occ_tree::tree::process::{Decl, Process, Selection};
+use occ_tree_grammar::tree::expr::Expr;
+use occ_tree_grammar::tree::line::OneOrMore;
+use occ_tree_grammar::tree::process::{Decl, Process, Selection};
 use sqlite_items::Items;
 use std::alloc::Global;
 
@@ -80,7 +80,7 @@ impl<'t> Unfolder<'t> {
 
     /// What an option unfolds to.
     #[cycle(unfolding)]
-    #[tactic(auto, unfolding(occ_tree::specs::Processes::Views::selection_of, occ_unfolding::specs::Recursion::option_unfolded))]
+    #[tactic(auto, unfolding(occ_tree_grammar::specs::Processes::Views::selection_of, occ_check_meaning::specs::Recursion::option_unfolded))]
     fn option(
         &mut self,
         alloc: Global,
@@ -257,7 +257,7 @@ fn chosen_constants(
 }
 
 /// The values of an option.
-#[tactic(auto, unfolding(occ_unfolding::specs::Scope::each_of))]
+#[tactic(auto, unfolding(occ_check_meaning::specs::Scope::each_of))]
 fn constants(
     alloc: Global,
     scope: Scope<'_, '_>,

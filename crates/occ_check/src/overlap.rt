@@ -4,8 +4,8 @@ ghost use Rattle.std.specs.Prelude.{◌≡◌, ◌<◌, ◌+◌, IfOk, map, nat_
 ghost use Rattle.occ_term.specs.Messages.{product};
 ghost use Rattle.occ_term.specs.Uses.{constant_subscript, part_named};
 ghost use Rattle.occ_term.specs.View.{subscripts};
-ghost use Rattle.occ_unfolding.specs.Calls as meant;
-ghost use Rattle.occ_unfolding.specs.Items.{have_common, part_span};
+ghost use Rattle.occ_check_meaning.specs.Calls as meant;
+ghost use Rattle.occ_check_meaning.specs.Items.{have_common, part_span};
 ghost use Rattle.occ_check.specs.View.{evaluated_of, row_of};
 ghost use Rattle.occ_check.specs.CallView.{span_of};
 ghost use Rattle.occ_check.specs.Meeting.{end_in_turn, ends_before, neighbours_meet};

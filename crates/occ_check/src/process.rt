@@ -1,18 +1,18 @@
 //! Processes.
 
 ghost use Rattle.std.specs.Prelude.{ℕ, ◌≡◌, ◌+◌, ◌<◌, ◌≤◌, IfErr, IfOk, OnOk, Some, length, map, reverse, take};
-ghost use Rattle.occ_tree.specs.Processes.Trees.{nodes, decls};
-ghost use Rattle.occ_tree.specs.Processes.Views.{process_of, decl_of, row_decls};
-ghost use Rattle.occ_tree.specs.declared.tree.process.Arm.TheBlock.{hidden-the_row-Decl-0};
-ghost use Rattle.occ_tree.specs.Lines.Views.{actuals_of, replicator_of};
-ghost use Rattle.occ_tree.specs.Lines.HeadViews.{action_of};
-ghost use Rattle.occ_tree.specs.Lines.Heads.{call};
+ghost use Rattle.occ_tree_grammar.specs.Processes.Trees.{nodes, decls};
+ghost use Rattle.occ_tree_grammar.specs.Processes.Views.{process_of, decl_of, row_decls};
+ghost use Rattle.occ_tree_grammar.specs.declared.tree.process.Arm.TheBlock.{hidden-the_row-Decl-0};
+ghost use Rattle.occ_tree_grammar.specs.Lines.Views.{actuals_of, replicator_of};
+ghost use Rattle.occ_tree_grammar.specs.Lines.HeadViews.{action_of};
+ghost use Rattle.occ_tree_grammar.specs.Lines.Heads.{call};
 ghost use Rattle.occ_term.specs.View.{branches_of, declarations_of, term_of, terms_of};
-ghost use Rattle.occ_unfolding.specs.Actions.{headed, opening};
-ghost use Rattle.occ_unfolding.specs.Declarations.{indexed};
-ghost use Rattle.occ_unfolding.specs.Performing.{acted, behind};
-ghost use Rattle.occ_unfolding.specs.Scope.{names_of};
-ghost use Rattle.occ_unfolding.specs.Recursion.{unfolded, all_declared, all_in_turn, all_beside};
+ghost use Rattle.occ_check_meaning.specs.Actions.{headed, opening};
+ghost use Rattle.occ_check_meaning.specs.Declarations.{indexed};
+ghost use Rattle.occ_check_meaning.specs.Performing.{acted, behind};
+ghost use Rattle.occ_check_meaning.specs.Scope.{names_of};
+ghost use Rattle.occ_check_meaning.specs.Recursion.{unfolded, all_declared, all_in_turn, all_beside};
 ghost use Rattle.occ_check.specs.Weights.{decls_size, node_size, statement_size, weight};
 ghost use Rattle.occ_check.specs.View.{Unfolds, numbers_of, scope_in};
 ghost use Rattle.occ_check.specs.Statements.{declarations_in, line_in, performing, statement_in};
@@ -29,9 +29,9 @@ use crate::unfolder::{Call, Step, Unfolder};
 use crate::variants::listed_variants;
 use occ_held::Held;
 use occ_term::{Branch, Declaration, Replicator, Term};
-use occ_tree::tree::expr::Expr;
-use occ_tree::tree::line::{Action, OneOrMore, Replicator as ReplicatorTree};
-use occ_tree::tree::process::{Decl, Process, Stmt};
+use occ_tree_grammar::tree::expr::Expr;
+use occ_tree_grammar::tree::line::{Action, OneOrMore, Replicator as ReplicatorTree};
+use occ_tree_grammar::tree::process::{Decl, Process, Stmt};
 use sqlite_items::{Boxed, Items};
 use std::alloc::Global;
 

@@ -1,15 +1,15 @@
 //! Whole programs: the main process behind the items that stand before it.
 
 ghost use Rattle.std.specs.Prelude.{◌≡◌, ◌++◌, ◌∷◌, ◌≤◌, ◌<◌, IfErr, IfOk, OnOk, None, Option, Some, [], length, map, option_map};
-ghost use Rattle.occ_tree.specs.Expressions.Trees as trees;
-ghost use Rattle.occ_tree.specs.Lines.Trees.{by_channel, carries};
-ghost use Rattle.occ_tree.specs.Lines.Views as lines;
-ghost use Rattle.occ_tree.specs.Processes.Views.{item_of, process_of, program_of};
+ghost use Rattle.occ_tree_grammar.specs.Expressions.Trees as trees;
+ghost use Rattle.occ_tree_grammar.specs.Lines.Trees.{by_channel, carries};
+ghost use Rattle.occ_tree_grammar.specs.Lines.Views as lines;
+ghost use Rattle.occ_tree_grammar.specs.Processes.Views.{item_of, process_of, program_of};
 ghost use Rattle.occ_term.specs.View.{term_of};
-ghost use Rattle.occ_unfolding.specs.Performing.{behind};
-ghost use Rattle.occ_unfolding.specs.ProgramUnfolding.{UnfoldsTo};
-ghost use Rattle.occ_unfolding.specs.Programs as programs;
-ghost use Rattle.occ_unfolding.specs.Recursion.{unfolded};
+ghost use Rattle.occ_check_meaning.specs.Performing.{behind};
+ghost use Rattle.occ_check_meaning.specs.ProgramUnfolding.{UnfoldsTo};
+ghost use Rattle.occ_check_meaning.specs.Programs as programs;
+ghost use Rattle.occ_check_meaning.specs.Recursion.{unfolded};
 ghost use Rattle.occ_check.specs.CheckRefuses.{CheckRefuses};
 ghost use Rattle.occ_check.specs.OpenedView.{pairs_of};
 ghost use Rattle.occ_check.specs.ProgramView.{byte_channel, items_within, main_at, main_in};
@@ -26,9 +26,9 @@ use crate::numbers::Numbers;
 use crate::scope::Position;
 use crate::unfolder::Unfolder;
 use occ_term::{Declaration, Primitive, Protocol, Term, Unfolded};
-use occ_tree::tree::expr::Prim;
-use occ_tree::tree::line::{Carried as CarriedTree, Formals, Part, Spec};
-use occ_tree::tree::process::{Item, Process, Program};
+use occ_tree_grammar::tree::expr::Prim;
+use occ_tree_grammar::tree::line::{Carried as CarriedTree, Formals, Part, Spec};
+use occ_tree_grammar::tree::process::{Item, Process, Program};
 use sqlite_items::Items;
 use std::alloc::{AllocError, Global};
 

@@ -4,8 +4,8 @@ ghost use Rattle.std.specs.Prelude.{◌≡◌, ◌∷◌, [], IfOk, Some, map, p
 ghost use Rattle.occ_term.specs.Terms.{no_subscripts, then_subscript};
 ghost use Rattle.occ_term.specs.View.{expression_of, subscripts};
 ghost use Rattle.occ_term.specs.declared.primitive.Primitive.TheVariants.{Int};
-ghost use Rattle.occ_unfolding.specs.Expressions as meant;
-ghost use Rattle.occ_unfolding.specs.Scope.{a_string, a_value, kept, some_cells};
+ghost use Rattle.occ_check_meaning.specs.Expressions as meant;
+ghost use Rattle.occ_check_meaning.specs.Scope.{a_string, a_value, kept, some_cells};
 ghost use Rattle.occ_check.specs.View.{Gives, known_of, part_of, row_of, typed_of};
 
 use crate::constant::is_within_size;

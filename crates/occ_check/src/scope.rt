@@ -4,7 +4,7 @@
 //! scope there. A procedure sees what stands before it in its frame, and what is outside of that.
 
 ghost use Rattle.std.specs.Prelude.{ℕ, ◌≡◌, ◌≤◌, ◌+◌, ◌++◌, ◌∷◌, [], IfErr, IfOk, IfSome, IfNone, IsFalse, drop, length, option_map, reverse};
-ghost use Rattle.occ_unfolding.specs.Unfolding.{found, Procedures};
+ghost use Rattle.occ_check_meaning.specs.Unfolding.{found, Procedures};
 ghost use Rattle.occ_check.specs.declared.fault.CheckFault.TheVariants.{Memory};
 ghost use Rattle.occ_check.specs.View.{binding_of, pairs_before, AreWithin, IsBound, IsFewer, IsFound, IsLooked, IsPart, IsSeen, IsWithin, Lacks, known_of, names_in, scope_in, scope_of};
 
@@ -12,8 +12,8 @@ use crate::fault::CheckFault;
 use crate::known::Known;
 use indexmap::IndexMap;
 use occ_held::Held;
-use occ_tree::tree::line::Formals;
-use occ_tree::tree::process::Process;
+use occ_tree_grammar::tree::line::Formals;
+use occ_tree_grammar::tree::process::Process;
 use std::alloc::Global;
 
 /// A procedure: the line of its declaration, its formals and its body.

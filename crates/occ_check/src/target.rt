@@ -1,11 +1,11 @@
 //! Where what is input is stored.
 
 ghost use Rattle.std.specs.Prelude.{◌≡◌, ◌∷◌, [], map};
-ghost use Rattle.occ_tree.specs.Lines.Views as lines;
+ghost use Rattle.occ_tree_grammar.specs.Lines.Views as lines;
 ghost use Rattle.occ_term.specs.View as terms;
 ghost use Rattle.occ_check.specs.ActionView.{rows_at, stored_one, takes, zipped};
-ghost use Rattle.occ_unfolding.specs.Expressions as expressions;
-ghost use Rattle.occ_unfolding.specs.Items as meant;
+ghost use Rattle.occ_check_meaning.specs.Expressions as expressions;
+ghost use Rattle.occ_check_meaning.specs.Items as meant;
 ghost use Rattle.occ_check.specs.View.{Gives, names_in, part_of};
 
 use crate::clash::some_clash;
@@ -17,7 +17,7 @@ use crate::typed::Part;
 use crate::types::are_same_sizes;
 use occ_held::Held;
 use occ_term::{PartType, Place, Primitive, Target};
-use occ_tree::tree::line::{OneOrMore, Target as TargetTree};
+use occ_tree_grammar::tree::line::{OneOrMore, Target as TargetTree};
 use sqlite_items::Items;
 use std::alloc::Global;
 

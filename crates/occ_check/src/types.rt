@@ -1,15 +1,15 @@
 //! Sizes, parts of messages, and protocols.
 
 ghost use Rattle.std.specs.Prelude.{◌≡◌, ◌∷◌, IfOk, IsTrue, Some, map, min, option_map};
-ghost use Rattle.occ_tree.specs.Expressions.Trees as trees;
-ghost use Rattle.occ_tree.specs.Lines.Trees.{given};
-ghost use Rattle.occ_tree.specs.Lines.Views as lines;
-ghost use Rattle.occ_tree.specs.Processes.Views as processes;
+ghost use Rattle.occ_tree_grammar.specs.Expressions.Trees as trees;
+ghost use Rattle.occ_tree_grammar.specs.Lines.Trees.{given};
+ghost use Rattle.occ_tree_grammar.specs.Lines.Views as lines;
+ghost use Rattle.occ_tree_grammar.specs.Processes.Views as processes;
 ghost use Rattle.occ_term.specs.Messages.{is_of, simple_part};
 ghost use Rattle.occ_term.specs.declared.primitive.Primitive.TheVariants.{Int};
-ghost use Rattle.occ_unfolding.specs.Constants as constants;
-ghost use Rattle.occ_unfolding.specs.Scope.{each_of, keep, once};
-ghost use Rattle.occ_unfolding.specs.Types as meant;
+ghost use Rattle.occ_check_meaning.specs.Constants as constants;
+ghost use Rattle.occ_check_meaning.specs.Scope.{each_of, keep, once};
+ghost use Rattle.occ_check_meaning.specs.Types as meant;
 ghost use Rattle.occ_check.specs.View.{Gives, carried_of, known_of, names_in};
 
 use crate::declaration::once as names_once;
@@ -20,9 +20,9 @@ use crate::numbers::components;
 use crate::operators::{is_number, primitive_of};
 use crate::scope::Scope;
 use occ_term::{PartType, Primitive, Protocol, Tag};
-use occ_tree::tree::expr::Expr;
-use occ_tree::tree::line::{Carried as CarriedTree, OneOrMore, Part, Size};
-use occ_tree::tree::process::{Protocol as ProtocolTree, Tag as TagTree};
+use occ_tree_grammar::tree::expr::Expr;
+use occ_tree_grammar::tree::line::{Carried as CarriedTree, OneOrMore, Part, Size};
+use occ_tree_grammar::tree::process::{Protocol as ProtocolTree, Tag as TagTree};
 use sqlite_items::Items;
 use std::alloc::{AllocError, Global};
 
@@ -251,7 +251,7 @@ fn each_part(
 }
 
 /// One or more parts, in order.
-#[tactic(auto, unfolding(occ_unfolding::specs::Scope::each_of))]
+#[tactic(auto, unfolding(occ_check_meaning::specs::Scope::each_of))]
 fn parts_of(
     alloc: Global,
     scope: Scope<'_, '_>,

@@ -4,7 +4,7 @@ use crate::frames::Frames;
 use crate::numbers::Numbers;
 use crate::scope::Position;
 use occ_term::{Declaration, Term};
-use occ_tree::tree::process::Process;
+use occ_tree_grammar::tree::process::Process;
 use sqlite_items::Items;
 
 /// The scopes that are open, and the numbers that are given out.

@@ -1,16 +1,16 @@
 //! Inputs of variants.
 
 ghost use Rattle.std.specs.Prelude.{◌≡◌, ◌<◌, ◌≤◌, ◌∷◌, [], IfOk, OnOk, map};
-ghost use Rattle.occ_tree.specs.Processes.Trees.{nodes, decls};
-ghost use Rattle.occ_tree.specs.Processes.Views as trees;
-ghost use Rattle.occ_tree.specs.Processes.Views.{decl_of, process_of, row_decls, row_variants};
-ghost use Rattle.occ_tree.specs.declared.tree.process.Arm.TheBlock.{hidden-the_row-Decl-0, hidden-the_row-Variant-1};
-ghost use Rattle.occ_tree.specs.Lines.Views as lines;
+ghost use Rattle.occ_tree_grammar.specs.Processes.Trees.{nodes, decls};
+ghost use Rattle.occ_tree_grammar.specs.Processes.Views as trees;
+ghost use Rattle.occ_tree_grammar.specs.Processes.Views.{decl_of, process_of, row_decls, row_variants};
+ghost use Rattle.occ_tree_grammar.specs.declared.tree.process.Arm.TheBlock.{hidden-the_row-Decl-0, hidden-the_row-Variant-1};
+ghost use Rattle.occ_tree_grammar.specs.Lines.Views as lines;
 ghost use Rattle.occ_term.specs.Terms.{no_variants};
 ghost use Rattle.occ_term.specs.View.{place_of, targets_of, term_of, variant_of, variants_of};
-ghost use Rattle.occ_unfolding.specs.Performing as performing;
-ghost use Rattle.occ_unfolding.specs.Recursion.{all_declared, all_variants, unfolded, variant_tag, variant_unfolded};
-ghost use Rattle.occ_unfolding.specs.Scope.{names_of};
+ghost use Rattle.occ_check_meaning.specs.Performing as performing;
+ghost use Rattle.occ_check_meaning.specs.Recursion.{all_declared, all_variants, unfolded, variant_tag, variant_unfolded};
+ghost use Rattle.occ_check_meaning.specs.Scope.{names_of};
 ghost use Rattle.occ_check.specs.Prefixes.{storing, variants_taken};
 ghost use Rattle.occ_check.specs.View.{Unfolds, names_in, numbers_of};
 ghost use Rattle.occ_check.specs.Statements.{body_of_variant, declarations_of_variant, line_of_variant, targets_of_variant};
@@ -27,8 +27,8 @@ use crate::target::stored;
 use crate::unfolder::Unfolder;
 use occ_held::Held;
 use occ_term::{Place, Protocol, Target, Term, Variant as TermVariant};
-use occ_tree::tree::line::{Target as TargetTree, Var};
-use occ_tree::tree::process::{Decl, Process, Variant};
+use occ_tree_grammar::tree::line::{Target as TargetTree, Var};
+use occ_tree_grammar::tree::process::{Decl, Process, Variant};
 use sqlite_items::Items;
 use std::alloc::{AllocError, Global};
 
@@ -288,7 +288,7 @@ fn body_of(variant: &Variant) -> &Process
 }
 
 /// The name of a variant's tag.
-#[tactic(auto, unfolding(occ_tree::specs::Processes::Views::variant_of))]
+#[tactic(auto, unfolding(occ_tree_grammar::specs::Processes::Views::variant_of))]
 fn tag_of(variant: &Variant) -> &[u8]
     ensures { result.now ≡ variant_tag (trees.variant_of variant.now) }
 {

@@ -6,7 +6,7 @@ use Rattle.std.proofs.lemmas.Str.{digit_value_digit}
 use Rattle.std.proofs.lemmas.Str.Parse.{digit_from_value}
 use Rattle.std.specs.Char.{digit_value}
 use Rattle.std.specs.Str.Parse.{AllDigits, digits_value, digits_value_after}
-use Rattle.occ_net.specs.declared.choice.Choice.{Choice}
+use Rattle.occ_net_replay.specs.declared.choice.Choice.{Choice}
 use Rattle.occ_choices.specs.Lines.{IsEnd, no_end, line_feed, return_and_line_feed, IsLine, Spells}
 use Rattle.occ_choices.specs.Reading.{AreDigits, ends_line, is_digit, leading, spelled}
 

@@ -7,7 +7,7 @@ use Rattle.std.proofs.lemmas.Option.{slice_get-get_or}
 use Rattle.std.proofs.lemmas.List.{take_more}
 use Rattle.std.proofs.lemmas.Bool.Decides.{nat_tests}
 use Rattle.std.proofs.lemmas.Fmt.{decimal_is_IsNumeral, length-decimal-le}
-use Rattle.occ_net.specs.declared.choice.Choice.{Choice}
+use Rattle.occ_net_replay.specs.declared.choice.Choice.{Choice}
 use Rattle.occ_choices.specs.Lines.{before_all, lines_of, AreLines, ChoiceLines, IsLine, IsBad, IsEnd, line_feed, Spells, line_text, choice_text, AreWords, WrittenIsRead, OneReading}
 use Rattle.occ_choices.specs.Reading.{AreDigits, ReadTo}
 use Rattle.occ_choices.proofs.Digits.{are_digits, digit_least, one_choice}

@@ -1,11 +1,11 @@
 //! Reads files of choices.
 ghost use Rattle.std.specs.Prelude.{◌≡◌, ◌∷◌, ◌<◌, IfErr, IfNone, IfOk, IfSome, Some, None, drop, length, take};
-ghost use Rattle.occ_net.specs.declared.choice.Choice as choice;
+ghost use Rattle.occ_net_replay.specs.declared.choice.Choice as choice;
 ghost use Rattle.occ_choices.specs.Lines.{ChoiceLines, IsLine, Refuses, lines_of};
 ghost use Rattle.occ_choices.specs.Reading.{AreDigits, ends_line, leading, spelled};
 
 use crate::fault::ChoiceFault;
-use occ_net::Choice;
+use occ_net_replay::Choice;
 use std::alloc::Global;
 
 /// The most choices that a file may have.

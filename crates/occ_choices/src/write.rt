@@ -2,7 +2,7 @@
 ghost use Rattle.std.specs.Prelude.{◌≡◌, ◌++◌, IfOk, OnOk};
 ghost use Rattle.occ_choices.specs.Lines.{choice_text, line_text};
 
-use occ_net::Choice;
+use occ_net_replay::Choice;
 use std::alloc::{AllocError, Global};
 
 /// The text of a file of choices: a line for each, without leading zeros, ended by LF.

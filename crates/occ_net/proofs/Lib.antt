@@ -1,30 +1,15 @@
-mod Placed
-mod Placing
-mod Fewer
-mod Turning
-pub mod OneStop
-mod Holding
-mod Putting
-mod Changing
-pub mod Tables
-pub mod Quiet
-mod States
-mod Meeting
-mod Still
-mod TakingTurns
-mod Forks
-mod Merging
-mod Joining
-mod Parents
-pub mod Faults
-mod Runs
-pub mod Settling
-mod Beginning
-mod Sharing
-mod Whole
-pub mod Examples
-pub mod Law
-mod Beside
-pub mod Alone
-mod Orderly
-pub mod Same
+pub mod ReadyLists
+pub mod OneChange
+pub mod Steps
+pub mod Meetings
+pub mod Between
+pub mod Waits
+pub mod Keys
+pub mod Undone
+pub mod Branches
+pub mod Ends
+pub mod Forked
+pub mod PlainStops
+pub mod Turned
+pub mod Start
+pub mod Rerun

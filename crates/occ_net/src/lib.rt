@@ -1,10 +1,19 @@
-//! The network of a program's processes: what its replay of choices is, and the run of the source that
-//! it follows.
+//! The network of a program's processes: who may take a turn, who waits for whom, and what happens
+//! when one has taken a turn.
 #![tactic(auto)]
 
-pub mod choice;
-pub mod ending;
-pub mod laws;
+mod copying;
+mod forking;
+mod joining;
+mod meeting;
+pub mod network;
+mod ready;
+pub mod running;
+mod settling;
+mod tables;
+mod tasks;
+pub mod trace;
 
-pub use choice::Choice;
-pub use ending::Ending;
+pub use network::Network;
+pub use running::{Run, run_choices};
+pub use trace::{Communication, End};

@@ -23,19 +23,19 @@ use Rattle.occ_code.specs.Sequential.Compiled.{Program, IsCompiledFrom, AllDo, C
 use Rattle.occ_code.specs.Sequential.Machine.{Body}
 use Rattle.occ_code.specs.declared.compiler.code.CodeFault.{CodeFault}
 use Rattle.occ_code.specs.declared.compiler.code.CodeFault.TheVariants as code
-use Rattle.occ_net.specs.declared.choice.Choice.{Choice}
-use Rattle.occ_net.specs.declared.ending.Ending.{Ending}
-use Rattle.occ_net.specs.declared.ending.Ending.TheVariants as E
+use Rattle.occ_net_replay.specs.declared.choice.Choice.{Choice}
+use Rattle.occ_net_replay.specs.declared.ending.Ending.{Ending}
+use Rattle.occ_net_replay.specs.declared.ending.Ending.TheVariants as E
 use Rattle.occ_play.specs.declared.playing.Played.{Played}
 use Rattle.occ_play.specs.declared.running.Outcome.{Outcome}
-use Rattle.occ_slots.specs.declared.trace.Communication.{Communication as Made}
+use Rattle.occ_net.specs.declared.trace.Communication.{Communication as Made}
 use Rattle.occ_play.specs.Answers.{AreByteMessages, IsByteMessage, answer_text, names_of}
-use Rattle.occ_slots.specs.Holding.{communication_of}
-use Rattle.occ_net.specs.Following.{AllFit, AreBytes, Followed, ending_as, or_limit}
+use Rattle.occ_net.specs.Holding.{communication_of}
+use Rattle.occ_net_replay.specs.Following.{AllFit, AreBytes, Followed, ending_as, or_limit}
 use Rattle.occ_play.specs.Outcomes.{Begins, IsOutcome}
 use Rattle.occ_play.specs.Playing.{IsAnswer, Unfolds, UsageRefusesText, CodeRefusesText}
-use Rattle.occ_net.specs.Replay.{Replays, ending_of, ending_by}
-use Rattle.occ_net.proofs.Law.{replays_are_runs}
+use Rattle.occ_net_replay.specs.Replay.{Replays, ending_of, ending_by}
+use Rattle.occ_net_replay.proofs.Law.{replays_are_runs}
 
 -- ---- what is written to the screen and the error channel
 

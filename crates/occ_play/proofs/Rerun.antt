@@ -5,13 +5,13 @@ use Rattle.std.proofs.Math.Seq.{take-suc}
 use Rattle.std.proofs.lemmas.List.{take_all, take-append-drop}
 use Rattle.std.proofs.lemmas.Option.{slice_get_within, slice_get_cases, get_or_from_slice_get}
 use Rattle.occ_code.specs.Sequential.Compiled.{Program}
-use Rattle.occ_net.specs.declared.choice.Choice.{Choice}
-use Rattle.occ_net.specs.Following.{AreBytes, or_limit}
-use Rattle.occ_net.specs.Replay.{Net, begins, ending_of, first_net, goes_on}
-use Rattle.occ_slots.specs.declared.network.Network.{Network}
-use Rattle.occ_slots.specs.Holding.{Holds, communication_of}
-use Rattle.occ_slots.specs.Running.{HasReplayed}
-use Rattle.occ_slots.specs.Settling.{Standing, TurnsTo}
+use Rattle.occ_net_replay.specs.declared.choice.Choice.{Choice}
+use Rattle.occ_net_replay.specs.Following.{AreBytes, or_limit}
+use Rattle.occ_net_replay.specs.Replay.{Net, begins, ending_of, first_net, goes_on}
+use Rattle.occ_net.specs.declared.network.Network.{Network}
+use Rattle.occ_net.specs.Holding.{Holds, communication_of}
+use Rattle.occ_net.specs.Running.{HasReplayed}
+use Rattle.occ_net.specs.Settling.{Standing, TurnsTo}
 use Rattle.occ_play.specs.declared.running.Outcome.{Outcome}
 use Rattle.occ_play.specs.Outcomes.{Begins, IsOutcome}
 

@@ -2,13 +2,13 @@
 use Rattle.std.proofs.Common.{ℕ, ◌≤◌, Bool, List, arith}
 use Rattle.std.specs.Prelude.{Result, Ok, Err, IfOk, IfErr, Option}
 use Rattle.occ_text.specs.declared.fault.TextFault.TheVariants as text
-use Rattle.occ_tree.specs.declared.fault.ParseFault.TheVariants as tree
+use Rattle.occ_tree_grammar.specs.declared.fault.ParseFault.TheVariants as tree
 use Rattle.occ_term.specs.declared.usage.UsageFault.TheVariants as usage
 use Rattle.occ_check.specs.declared.fault.CheckFault.TheVariants as check
 use Rattle.occ_code.specs.declared.compiler.code.CodeFault.TheVariants as code
-use Rattle.occ_net.specs.declared.choice.Choice.{Choice}
-use Rattle.occ_net.specs.declared.ending.Ending.{Ending}
-use Rattle.occ_net.specs.declared.ending.Ending.TheVariants.{Ended, Stopped, Fault, Limit}
+use Rattle.occ_net_replay.specs.declared.choice.Choice.{Choice}
+use Rattle.occ_net_replay.specs.declared.ending.Ending.{Ending}
+use Rattle.occ_net_replay.specs.declared.ending.Ending.TheVariants.{Ended, Stopped, Fault, Limit}
 use Rattle.occ_play.specs.declared.playing.Played.{Played}
 use Rattle.occ_play.specs.declared.counted.Counted.{Counted}
 use Rattle.occ_play.specs.declared.fault.PlayFault.{PlayFault}

@@ -4,9 +4,9 @@ use Rattle.std.proofs.Math.Seq.{take-suc}
 use Rattle.std.proofs.lemmas.List.{length-take-le}
 use Rattle.occ_term.specs.declared.message.Message.{Message}
 use Rattle.occ_term.specs.Runs.{Names, bytes_in, bytes_of, messages_on, sent_on, entries, entry_of}
-use Rattle.occ_slots.specs.declared.trace.Communication.{Communication}
+use Rattle.occ_net.specs.declared.trace.Communication.{Communication}
 use Rattle.occ_play.specs.Answers.{AreByteMessages, IsByteMessage, line_text, trace_text}
-use Rattle.occ_slots.specs.Holding.{communication_of}
+use Rattle.occ_net.specs.Holding.{communication_of}
 use Rattle.occ_play.proofs.Texts.{IsText}
 
 bytes_of-append : (xs ys : List Message) → bytes_of (xs ++ ys) ≡ bytes_of xs ++ bytes_of ys

@@ -13,11 +13,11 @@ use Rattle.occ_term.specs.declared.protocol.Protocol.TheVariants.{Simple, Counte
 use Rattle.occ_term.specs.declared.names.Channel.{Channel}
 use Rattle.occ_term.specs.System.{End, OfProcess, Keyboard, Screen, Error}
 use Rattle.occ_term.specs.Runs.{Names, Entry, AllShown, entries}
-use Rattle.occ_net.specs.declared.ending.Ending.{Ending}
-use Rattle.occ_net.specs.declared.ending.Ending.TheVariants.{Ended, Stopped, Fault, Limit}
-use Rattle.occ_slots.specs.declared.trace.Communication.{Communication as Made}
-use Rattle.occ_slots.specs.Holding.{communication_of}
-use Rattle.occ_net.specs.Endings.{ending_text}
+use Rattle.occ_net_replay.specs.declared.ending.Ending.{Ending}
+use Rattle.occ_net_replay.specs.declared.ending.Ending.TheVariants.{Ended, Stopped, Fault, Limit}
+use Rattle.occ_net.specs.declared.trace.Communication.{Communication as Made}
+use Rattle.occ_net.specs.Holding.{communication_of}
+use Rattle.occ_net_replay.specs.Endings.{ending_text}
 
 -- ---- messages
 

@@ -1,6 +1,6 @@
 -- What an exit status says of the source and the keyboard that were played.
 use Rattle.std.specs.Prelude.{Bool, List, Result, Ok, Err, ℕ, ◌≡◌}
-use Rattle.occ_net.specs.declared.choice.Choice.{Choice}
+use Rattle.occ_net_replay.specs.declared.choice.Choice.{Choice}
 use Rattle.occ_play.specs.declared.playing.Played.{Played}
 use Rattle.occ_play.specs.declared.fault.PlayFault.{PlayFault}
 use Rattle.occ_play.specs.declared.fault.PlayFault.TheVariants as play

@@ -1,11 +1,11 @@
 -- What a run of a plan comes to.
 use Rattle.std.specs.Prelude.{List, None, map, ℕ, ◌++◌, ◌≡◌}
 use Rattle.occ_code.specs.Sequential.Compiled.{Program}
-use Rattle.occ_net.specs.declared.choice.Choice.{Choice}
+use Rattle.occ_net_replay.specs.declared.choice.Choice.{Choice}
 use Rattle.occ_play.specs.declared.running.Outcome.{Outcome}
-use Rattle.occ_slots.specs.Holding.{communication_of}
-use Rattle.occ_net.specs.Replay.{Net, Replays, ending_of}
-use Rattle.occ_net.specs.Following.{or_limit}
+use Rattle.occ_net.specs.Holding.{communication_of}
+use Rattle.occ_net_replay.specs.Replay.{Net, Replays, ending_of}
+use Rattle.occ_net_replay.specs.Following.{or_limit}
 
 -- one list is a beginning of the other
 pub record Begins {X : Type 0} (front whole : List X) : Type 0 where

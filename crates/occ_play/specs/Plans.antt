@@ -1,6 +1,6 @@
 -- The choices of a plan.
 use Rattle.std.specs.Prelude.{List, [], suc, zero, ℕ, ◌+◌, ◌∷◌}
-use Rattle.occ_net.specs.declared.choice.Choice.{Choice}
+use Rattle.occ_net_replay.specs.declared.choice.Choice.{Choice}
 use Rattle.occ_play.specs.declared.plan.Plan.{Plan}
 use Rattle.occ_play.specs.declared.plan.Plan.TheVariants.{Turns, Choices}
 

@@ -5,11 +5,11 @@ use Rattle.occ_text.specs.Words.{Row}
 use Rattle.occ_text.specs.Lines.{LinesOf}
 use Rattle.occ_text.specs.declared.fault.TextFault.{TextFault}
 use Rattle.occ_text.specs.declared.fault.TextFault.TheVariants as text
-use Rattle.occ_tree.specs.Processes.Trees.{Item}
-use Rattle.occ_tree.specs.Processes.Shown.{show_program}
-use Rattle.occ_tree.specs.Processes.Fits.{InBounds}
-use Rattle.occ_tree.specs.declared.fault.ParseFault.{ParseFault}
-use Rattle.occ_tree.specs.declared.fault.ParseFault.TheVariants as tree
+use Rattle.occ_tree_grammar.specs.Processes.Trees.{Item}
+use Rattle.occ_tree_grammar.specs.Processes.Shown.{show_program}
+use Rattle.occ_tree_grammar.specs.Processes.Fits.{InBounds}
+use Rattle.occ_tree_grammar.specs.declared.fault.ParseFault.{ParseFault}
+use Rattle.occ_tree_grammar.specs.declared.fault.ParseFault.TheVariants as tree
 use Rattle.occ_term.specs.declared.usage.UsageFault.{UsageFault}
 use Rattle.occ_term.specs.declared.usage.UsageFault.TheVariants as usage
 use Rattle.occ_term.specs.Sizes.{size_of}
@@ -19,22 +19,22 @@ use Rattle.occ_term.specs.System.{System, start, HaltMode}
 use Rattle.occ_term.specs.Runs.{Event, Run, communications, messages_on, shown, EndsBy}
 use Rattle.occ_code.specs.Sequential.Emitted.{has_no_alt}
 use Rattle.occ_code.specs.Sequential.Compiled.{Program, IsCompiledFrom, most_instructions}
-use Rattle.occ_unfolding.specs.ProgramUnfolding.{UnfoldsTo}
+use Rattle.occ_check_meaning.specs.ProgramUnfolding.{UnfoldsTo}
 use Rattle.occ_check.specs.declared.fault.CheckFault.{CheckFault}
 use Rattle.occ_check.specs.CheckRefuses.{CheckRefuses}
 use Rattle.occ_code.specs.declared.compiler.code.CodeFault.{CodeFault}
 use Rattle.occ_code.specs.declared.compiler.code.CodeFault.TheVariants as code
-use Rattle.occ_net.specs.declared.choice.Choice.{Choice}
-use Rattle.occ_net.specs.declared.ending.Ending.TheVariants as E
+use Rattle.occ_net_replay.specs.declared.choice.Choice.{Choice}
+use Rattle.occ_net_replay.specs.declared.ending.Ending.TheVariants as E
 use Rattle.occ_play.specs.declared.playing.Played.{Played}
 use Rattle.occ_play.specs.declared.counted.Counted.{Counted}
 use Rattle.occ_play.specs.declared.fault.PlayFault.{PlayFault}
 use Rattle.occ_play.specs.declared.fault.PlayFault.TheVariants as play
 use Rattle.occ_play.specs.Answers.{answer_text, names_of}
 use Rattle.occ_play.specs.Counting.{failures_of, writer_of}
-use Rattle.occ_net.specs.Following.{AllFit, ending_as, process_in}
+use Rattle.occ_net_replay.specs.Following.{AllFit, ending_as, process_in}
 use Rattle.occ_play.specs.Outcomes.{Begins}
-use Rattle.occ_net.specs.Replay.{Net, Replays}
+use Rattle.occ_net_replay.specs.Replay.{Net, Replays}
 
 -- ---- what a text is
 

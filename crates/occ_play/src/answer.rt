@@ -4,12 +4,12 @@ ghost use Rattle.std.specs.Fmt.{decimal};
 ghost use Rattle.std.specs.Option.{option_copied};
 ghost use Rattle.occ_term.specs.Runs.{bytes_in, bytes_of, entry_of, entries, messages_on, sent_on, shown_by, tag_shown};
 ghost use Rattle.occ_play.specs.Answers.{AreByteMessages, IsByteMessage, answer_text, value_text, spaced_text, values_text, array_text, part_text, later_text, items_text, end_text, head_text, ends_text, line_text, trace_text, line_break, ends_inside, names_of, name_at, tag_in, report_of};
-ghost use Rattle.occ_net.specs.Endings.{ending_text};
-ghost use Rattle.occ_slots.specs.Holding.{communication_of, end_of};
+ghost use Rattle.occ_net_replay.specs.Endings.{ending_text};
+ghost use Rattle.occ_net.specs.Holding.{communication_of, end_of};
 
 use crate::running::Outcome;
-use occ_net::Ending;
-use occ_slots::{Communication, End};
+use occ_net::{Communication, End};
+use occ_net_replay::Ending;
 use occ_term::{Channel, Message, Part, Primitive, Protocol};
 use std::alloc::{AllocError, Global};
 

@@ -6,7 +6,7 @@ use occ_check::CheckFault;
 use occ_code::CodeFault;
 use occ_term::UsageFault;
 use occ_text::TextFault;
-use occ_tree::ParseFault;
+use occ_tree_grammar::ParseFault;
 use std::alloc::AllocError;
 use thiserror::Error;
 

@@ -12,8 +12,8 @@ pub mod words;
 
 pub use counted::Counted;
 pub use fault::PlayFault;
-pub use occ_net::{Choice, Ending};
-pub use occ_slots::{Communication, End};
+pub use occ_net::{Communication, End};
+pub use occ_net_replay::{Choice, Ending};
 pub use plan::Plan;
 pub use playing::{Played, play, status_of};
 pub use program::run;

@@ -2,7 +2,7 @@
 ghost use Rattle.std.specs.Prelude.{◌≡◌, Some, length, slice_get};
 ghost use Rattle.occ_play.specs.Plans.{choices_of, turns_from};
 
-use occ_net::Choice;
+use occ_net_replay::Choice;
 
 /// The choices of a run.
 #[derive(Debug, Drop)]

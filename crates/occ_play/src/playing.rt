@@ -13,11 +13,11 @@ use crate::plan::Plan;
 use crate::running::{Outcome, run};
 use occ_check::{CheckFault, unfold};
 use occ_code::{CodeFault, compile};
-use occ_net::{Choice, Ending};
-use occ_parse::parse;
+use occ_net_replay::{Choice, Ending};
 use occ_term::{Checked, Refused, Unfolded, UsageFault, check_usage};
 use occ_text::{TextFault, read_lines};
-use occ_tree::ParseFault;
+use occ_tree::parse;
+use occ_tree_grammar::ParseFault;
 use std::alloc::Global;
 use std::io::Write;
 

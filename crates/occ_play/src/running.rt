@@ -5,9 +5,9 @@ ghost use Rattle.occ_play.specs.Plans.{choices_of};
 
 use crate::plan::Plan;
 use occ_code::Code;
-use occ_net::{Choice, Ending};
+use occ_net::{Communication, Network};
+use occ_net_replay::{Choice, Ending};
 use occ_proc::Scratch;
-use occ_slots::{Communication, Network};
 use std::alloc::{AllocError, Global};
 
 /// What a run came to.

@@ -1,13 +1,9 @@
-//! The tree of a text: its types, its written form, and how lines are read as one.
+//! Reading whole texts.
 //!
-//! The definitions stand in specs/: `Shown` writes a tree as lines, `Reading` reads lines as a tree
-//! by the grammar, and the views say which tree a value of the code is. The crate `occ_grammar` has
-//! the laws of the two, `occ_line` and `occ_parse` the code that reads.
+//! [`parse`] answers the one tree whose written form is the lines of a text, and refuses only where
+//! no tree has them, or memory runs out.
 #![tactic(auto)]
 
-pub mod expressions;
-mod fault;
-pub mod lines;
-pub mod tree;
+mod text;
 
-pub use fault::ParseFault;
+pub use text::parse;

@@ -6,8 +6,8 @@ use Rattle.occ_code.specs.Sequential.Compiled.{IsCompiled, Program, instructions
 use Rattle.occ_code.specs.Sequential.Machine.{Body}
 use Rattle.occ_code.specs.declared.task.Task.{Task}
 use Rattle.occ_proc.specs.Turns.{HasStop}
-use Rattle.occ_net.specs.Replay.{HasTask, at_start, begins, first_net, first_task}
-use Rattle.occ_net.proofs.Law.{ready_tasks_stop}
+use Rattle.occ_net_replay.specs.Replay.{HasTask, at_start, begins, first_net, first_task}
+use Rattle.occ_net_replay.proofs.Law.{ready_tasks_stop}
 
 first_small : (bs : List Body) (b : Body) → slice_get bs 0 ≡ Some b → length b.code ≤ instructions_in bs
 first_small [] b e = absurd cc

@@ -1,6 +1,6 @@
 //! Files of choices: what is read from a text, and what is written.
 use occ_choices::{ChoiceFault, choices_text, read_choices};
-use occ_net::Choice;
+use occ_net_replay::Choice;
 use std::alloc::{AllocError, Global};
 use std::process::Abort;
 use std::test::Fail;

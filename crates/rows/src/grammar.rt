@@ -3,8 +3,8 @@
 //! A row's lines are levels and words; the words stand apart by one space each, so no lexer is
 //! needed here.
 
-use occ_parse::parse;
 use occ_text::{Key, Line, Source, Sym, Token};
+use occ_tree::parse;
 use std::alloc::{AllocError, Global};
 use std::test::Fail;
 

@@ -64,7 +64,7 @@ fn steps_have_one_result(_rt: HostRuntime) -> Result<(), Fail> {
 #[test]
 fn texts_and_replays_have_laws(_rt: HostRuntime) -> Result<(), Fail> {
     occ_text::laws::one_reading();
-    occ_net::laws::replays_are_runs();
-    occ_net::laws::ready_tasks_stop();
+    occ_net_replay::laws::replays_are_runs();
+    occ_net_replay::laws::ready_tasks_stop();
     Ok(())
 }

@@ -4,7 +4,7 @@ use occ_code::CodeFault;
 use occ_play::{Counted, Plan, PlayFault, play, status_of};
 use occ_term::UsageFault;
 use occ_text::TextFault;
-use occ_tree::ParseFault;
+use occ_tree_grammar::ParseFault;
 use std::alloc::Global;
 use std::process::Abort;
 

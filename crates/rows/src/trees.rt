@@ -1,7 +1,7 @@
 //! The grammar: sources that have a tree, and sources that have none.
 use crate::texts::nested;
-use occ_parse::parse;
 use occ_text::read_lines;
+use occ_tree::parse;
 use std::alloc::{AllocError, Global};
 use std::process::Abort;
 use std::test::Fail;

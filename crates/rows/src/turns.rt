@@ -1,14 +1,14 @@
 //! First turns of processes, for several quanta.
 ghost use Rattle.std.specs.Prelude.{◌≡◌, All, IfOk};
 ghost use Rattle.occ_term.specs.Frames.{zero_frame};
-ghost use Rattle.occ_net.specs.Replay.{first_task};
+ghost use Rattle.occ_net_replay.specs.Replay.{first_task};
 
 use occ_check::unfold;
 use occ_code::{Body, Code, Task, Wait, compile_for};
-use occ_parse::parse;
 use occ_proc::{Scratch, Segment, advance, turn};
 use occ_term::{Checked, Frame, check_usage};
 use occ_text::read_lines;
+use occ_tree::parse;
 use std::alloc::{AllocError, Global};
 use std::test::Fail;
 

@@ -1,8 +1,8 @@
 use Rattle.std.proofs.Common.{rules, ◌≡◌, subst, sym}
 use Rattle.occ_term.specs.Sizes.{size_of}
 use Rattle.occ_term.specs.View.{place_of, targets_of}
-use Rattle.occ_unfolding.specs.Actions.{as_input, tagged_list}
-use Rattle.occ_unfolding.specs.Numbers.{room}
+use Rattle.occ_check_meaning.specs.Actions.{as_input, tagged_list}
+use Rattle.occ_check_meaning.specs.Numbers.{room}
 use Rattle.occ_check.specs.ActionView.{listed_of}
 use Rattle.occ_check.specs.View.{Counts, numbers_of}
 use Rattle.occ_check.proofs.acting.count_received.Goals as goal

@@ -1,11 +1,11 @@
 use Rattle.std.proofs.Common.{◌≡◌, ◌∷◌, ◌∙◌, Some, ap, map, rules, sym}
-use Rattle.occ_tree.specs.Expressions.Trees.{expression_of}
-use Rattle.occ_tree.specs.Lines.Views.{var_of}
+use Rattle.occ_tree_grammar.specs.Expressions.Trees.{expression_of}
+use Rattle.occ_tree_grammar.specs.Lines.Views.{var_of}
 use Rattle.occ_term.specs.Terms as T
 use Rattle.occ_term.specs.View as terms
 use Rattle.occ_term.specs.declared.term.Term as code
 use Rattle.occ_term.specs.declared.term.Term.{the_lemmas}
-use Rattle.occ_unfolding.specs.Actions as meant
+use Rattle.occ_check_meaning.specs.Actions as meant
 use Rattle.occ_check.specs.View.{Refuses, names_in}
 use Rattle.occ_check.proofs.Assigning.{all_assigned, no_sides, no_variables, not_apart}
 use Rattle.occ_check.proofs.action.assigned.Goals as goal

@@ -1,4 +1,4 @@
-use Rattle.occ_tree.specs.Expressions.Trees.{expression_of}
+use Rattle.occ_tree_grammar.specs.Expressions.Trees.{expression_of}
 use Rattle.occ_term.specs.View.{item_of}
 use Rattle.occ_check.specs.ActionView.{side_assigned}
 use Rattle.occ_check.specs.View.{names_in}

@@ -1,5 +1,5 @@
-use Rattle.occ_tree.specs.Lines.Views.{var_of}
-use Rattle.occ_unfolding.specs.Items.{variable_of}
+use Rattle.occ_tree_grammar.specs.Lines.Views.{var_of}
+use Rattle.occ_check_meaning.specs.Items.{variable_of}
 use Rattle.occ_check.specs.ActionView.{side_of}
 use Rattle.occ_check.specs.View.{names_in}
 use Rattle.occ_check.proofs.EachOf.{SoFar}

@@ -1,6 +1,6 @@
 use Rattle.std.proofs.Common.{◌≡◌, ◌∙◌, Some, ap, sym}
 use Rattle.occ_term.specs.View.{place_of, targets_of}
-use Rattle.occ_unfolding.specs.Actions.{plain_list, tagged_list}
+use Rattle.occ_check_meaning.specs.Actions.{plain_list, tagged_list}
 use Rattle.occ_check.proofs.Receiving.{listed_gives, listed_nothing, tagged_gives, tagged_nothing}
 use Rattle.occ_check.proofs.action.received.Goals as goal
 

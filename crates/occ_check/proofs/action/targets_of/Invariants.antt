@@ -1,6 +1,6 @@
 use Rattle.std.proofs.Common.{◌≡◌, map}
 use Rattle.occ_term.specs.View.{targets_of}
-use Rattle.occ_unfolding.specs.Items.{as_target}
+use Rattle.occ_check_meaning.specs.Items.{as_target}
 use Rattle.occ_check.specs.ActionView.{side_of}
 use Rattle.occ_check.proofs.action.targets_of.Given as goal
 

@@ -1,6 +1,6 @@
 use Rattle.std.proofs.Common.{◌≡◌, length}
 use Rattle.occ_term.specs.View.{arms_of, declarations_of}
-use Rattle.occ_unfolding.specs.Actions.{arms_behind}
+use Rattle.occ_check_meaning.specs.Actions.{arms_behind}
 use Rattle.occ_check.proofs.arms.arms_behind.Given as goal
 
 abbrev pub invariant-outwards : goal.invariant-outwards

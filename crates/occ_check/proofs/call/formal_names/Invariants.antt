@@ -1,5 +1,5 @@
 use Rattle.std.proofs.Common.{◌≡◌, ◌++◌, drop}
-use Rattle.occ_unfolding.specs.Calls.{formal_names}
+use Rattle.occ_check_meaning.specs.Calls.{formal_names}
 use Rattle.occ_check.specs.CallView.{formals_of}
 use Rattle.occ_check.proofs.call.formal_names.Given as goal
 

@@ -1,6 +1,6 @@
 use Rattle.std.proofs.Common.{map, rules, ◌∙◌, ap}
-use Rattle.occ_tree.specs.Lines.Views as lines
-use Rattle.occ_unfolding.specs.Calls.{formal_names}
+use Rattle.occ_tree_grammar.specs.Lines.Views as lines
+use Rattle.occ_check_meaning.specs.Calls.{formal_names}
 use Rattle.occ_check.specs.CallView.{formals_of}
 use Rattle.occ_check.specs.View.{names_in}
 use Rattle.occ_check.proofs.Binding.{list_stops, twice_stops}

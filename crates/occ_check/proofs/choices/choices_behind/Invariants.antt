@@ -1,6 +1,6 @@
 use Rattle.std.proofs.Common.{◌≡◌, length}
 use Rattle.occ_term.specs.View.{choices_of, declarations_of}
-use Rattle.occ_unfolding.specs.Actions.{choices_behind}
+use Rattle.occ_check_meaning.specs.Actions.{choices_behind}
 use Rattle.occ_check.proofs.choices.choices_behind.Given as goal
 
 abbrev pub invariant-outwards : goal.invariant-outwards

@@ -1,6 +1,6 @@
 use Rattle.std.proofs.Common.{◌≡◌, drop, map}
 use Rattle.occ_term.specs.View.{expression_of, subscripts}
-use Rattle.occ_unfolding.specs.Items.{are_constant}
+use Rattle.occ_check_meaning.specs.Items.{are_constant}
 use Rattle.occ_check.proofs.clash.are_constant.Given as goal
 
 abbrev pub invariant-loop-subscript : goal.invariant-loop-subscript

@@ -1,6 +1,6 @@
 use Rattle.std.proofs.Common.{◌≡◌, drop}
 use Rattle.occ_term.specs.View.{place_of}
-use Rattle.occ_unfolding.specs.Items.{clashes_with_one}
+use Rattle.occ_check_meaning.specs.Items.{clashes_with_one}
 use Rattle.occ_check.specs.ActionView.{row_at}
 use Rattle.occ_check.specs.Clashing.{rows_of}
 use Rattle.occ_check.proofs.clash.clashes_with_one.Given as goal

@@ -1,5 +1,5 @@
 use Rattle.std.proofs.Common.{◌≡◌, ◌++◌, drop, map}
-use Rattle.occ_unfolding.specs.Items.{part_span}
+use Rattle.occ_check_meaning.specs.Items.{part_span}
 use Rattle.occ_check.specs.CallView.{span_of}
 use Rattle.occ_check.specs.Clashing.{rows_of}
 use Rattle.occ_check.proofs.clash.parts_named.Given as goal

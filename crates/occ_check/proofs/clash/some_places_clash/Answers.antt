@@ -1,8 +1,8 @@
 use Rattle.std.proofs.Common.{◌≡◌, ◌∙◌, ◌+◌, ap, sym, map, rules, true, false}
 use Rattle.occ_term.specs.View.{expression_of, place_of, subscripts}
 use Rattle.occ_term.specs.declared.expression.TermExpr.{the_lemmas}
-use Rattle.occ_unfolding.specs.Calls.{some_meet}
-use Rattle.occ_unfolding.specs.Items.{are_constant, part_span, some_clash}
+use Rattle.occ_check_meaning.specs.Calls.{some_meet}
+use Rattle.occ_check_meaning.specs.Items.{are_constant, part_span, some_clash}
 use Rattle.occ_check.specs.ActionView.{row_at}
 use Rattle.occ_check.specs.Clashing.{are_all_constant, one_of_clashes, rows_of}
 use Rattle.occ_check.proofs.Fixing.{left, more_fixed, none_found, one_fixed, one_found, one_varying}

@@ -1,5 +1,5 @@
 use Rattle.std.proofs.Common.{◌≡◌, ◌++◌, drop, true}
-use Rattle.occ_unfolding.specs.Items.{some_clash}
+use Rattle.occ_check_meaning.specs.Items.{some_clash}
 use Rattle.occ_check.specs.Clashing.{are_all_constant, rows_of}
 use Rattle.occ_check.proofs.clash.some_places_clash.Given as goal
 

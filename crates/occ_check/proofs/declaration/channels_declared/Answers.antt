@@ -1,5 +1,5 @@
 use Rattle.std.proofs.Common.{rules}
-use Rattle.occ_unfolding.specs.Declarations as meant
+use Rattle.occ_check_meaning.specs.Declarations as meant
 use Rattle.occ_check.specs.View.{Refuses, carried_of, numbers_of}
 use Rattle.occ_check.proofs.Declaring.{ends, goes_on, stops}
 use Rattle.occ_check.proofs.declaration.channels_declared.Goals as goal

@@ -1,5 +1,5 @@
 use Rattle.occ_check.specs.View.{carried_of}
-use Rattle.occ_unfolding.specs.Declarations as meant
+use Rattle.occ_check_meaning.specs.Declarations as meant
 use Rattle.occ_check.proofs.Declaring.{Continues}
 use Rattle.occ_check.proofs.declaration.channels_declared.Given as goal
 

@@ -1,9 +1,9 @@
 use Rattle.std.proofs.Common.{◌≡◌, ap, map, false, rules}
-use Rattle.occ_tree.specs.Lines.Views as lines
-use Rattle.occ_unfolding.specs.Declarations as meant
-use Rattle.occ_unfolding.specs.Operators.{primitive_of}
-use Rattle.occ_unfolding.specs.Scope.{keep}
-use Rattle.occ_unfolding.specs.Types.{Open, open_sizes_of}
+use Rattle.occ_tree_grammar.specs.Lines.Views as lines
+use Rattle.occ_check_meaning.specs.Declarations as meant
+use Rattle.occ_check_meaning.specs.Operators.{primitive_of}
+use Rattle.occ_check_meaning.specs.Scope.{keep}
+use Rattle.occ_check_meaning.specs.Types.{Open, open_sizes_of}
 use Rattle.occ_check.specs.View.{names_in, typed_of}
 use Rattle.occ_check.proofs.Refusing.{then_none, then_refused}
 use Rattle.occ_check.proofs.declaration.of_given_type.Goals as goal

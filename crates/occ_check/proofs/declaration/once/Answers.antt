@@ -1,6 +1,6 @@
 use Rattle.std.proofs.Common.{◌≡◌, ◌∙◌, ap, true, false, map}
 use Rattle.std.specs.Prelude.{not}
-use Rattle.occ_unfolding.specs.Scope.{is_among, keep}
+use Rattle.occ_check_meaning.specs.Scope.{is_among, keep}
 use Rattle.occ_check.proofs.Twice.{begins, clashes, goes_on, keys_more, told_among}
 use Rattle.occ_check.proofs.Refusals.{refused}
 use Rattle.occ_check.proofs.declaration.once.Goals as goal

@@ -1,6 +1,6 @@
 use Rattle.std.proofs.Common.{◌≡◌, map, drop}
 use Rattle.std.specs.Prelude.{◌&&◌}
-use Rattle.occ_unfolding.specs.Scope.{are_once}
+use Rattle.occ_check_meaning.specs.Scope.{are_once}
 use Rattle.occ_check.specs.OpenedView.{none_among}
 use Rattle.occ_check.proofs.declaration.once.Given as goal
 

@@ -1,4 +1,4 @@
-use Rattle.occ_unfolding.specs.Declarations as meant
+use Rattle.occ_check_meaning.specs.Declarations as meant
 use Rattle.occ_check.proofs.Declaring.{Continues}
 use Rattle.occ_check.proofs.declaration.variables_declared.Given as goal
 

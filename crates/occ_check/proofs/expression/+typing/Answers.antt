@@ -1,6 +1,6 @@
 use Rattle.std.proofs.Common.{◌≡◌, subst}
 use Rattle.occ_term.specs.View.{expression_of}
-use Rattle.occ_unfolding.specs.Expressions.{logic_of, size_of_operand, typed_operand}
+use Rattle.occ_check_meaning.specs.Expressions.{logic_of, size_of_operand, typed_operand}
 use Rattle.occ_check.specs.View.{Gives, names_in, typed_of}
 use Rattle.occ_check.proofs.Chains.{chain_gives, chain_nothing, variable_given, chained_first, chained_next, chained_nothing, chained_last, subscripted_first, subscripted_next, subscripted_nothing, subscripted_last}
 use Rattle.occ_check.proofs.expression.+typing.Goals as goal

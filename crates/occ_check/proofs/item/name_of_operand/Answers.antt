@@ -1,7 +1,7 @@
 use Rattle.std.proofs.Common.{subst}
-use Rattle.occ_tree.specs.Expressions.Trees.{alone}
-use Rattle.occ_tree.specs.Lines.Trees.{from}
-use Rattle.occ_unfolding.specs.Items.{as_name}
+use Rattle.occ_tree_grammar.specs.Expressions.Trees.{alone}
+use Rattle.occ_tree_grammar.specs.Lines.Trees.{from}
+use Rattle.occ_check_meaning.specs.Items.{as_name}
 use Rattle.occ_check.specs.View.{Gives}
 use Rattle.occ_check.proofs.Chains.{variable_given}
 use Rattle.occ_check.proofs.item.name_of_operand.Goals as goal

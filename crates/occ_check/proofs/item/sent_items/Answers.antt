@@ -1,5 +1,5 @@
 use Rattle.std.proofs.Common.{map, subst, sym, ◌∙◌}
-use Rattle.occ_tree.specs.Lines.Views.{out_of}
+use Rattle.occ_tree_grammar.specs.Lines.Views.{out_of}
 use Rattle.occ_check.specs.View.{names_in, Refuses}
 use Rattle.occ_check.proofs.Zipping.{sent_zipped, zipping_first, zipping_last, zipping_long, zipping_next, zipping_nothing, zipping_short}
 use Rattle.occ_check.proofs.item.sent_items.Goals as goal

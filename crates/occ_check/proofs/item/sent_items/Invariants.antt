@@ -1,6 +1,6 @@
-use Rattle.occ_tree.specs.Lines.Views.{out_of}
+use Rattle.occ_tree_grammar.specs.Lines.Views.{out_of}
 use Rattle.occ_term.specs.View.{item_of}
-use Rattle.occ_unfolding.specs.Items.{sent_item}
+use Rattle.occ_check_meaning.specs.Items.{sent_item}
 use Rattle.occ_check.specs.View.{names_in}
 use Rattle.occ_check.proofs.Zipping.{Zipping}
 use Rattle.occ_check.proofs.item.sent_items.Given as goal

@@ -1,7 +1,7 @@
 use Rattle.std.proofs.Common.{◌≡◌, map, drop}
 use Rattle.occ_term.specs.Sizes.{size_of_subscripts}
 use Rattle.occ_term.specs.View.{expression_of, subscripts}
-use Rattle.occ_unfolding.specs.Numbers.{room}
+use Rattle.occ_check_meaning.specs.Numbers.{room}
 use Rattle.occ_check.specs.View.{numbers_of}
 use Rattle.occ_check.proofs.measuring.+counting.Given as goal
 

@@ -1,7 +1,7 @@
 use Rattle.std.proofs.Common.{◌≡◌, drop}
 use Rattle.occ_term.specs.Sizes.{size_of_targets}
 use Rattle.occ_term.specs.View.{targets_of}
-use Rattle.occ_unfolding.specs.Numbers.{room}
+use Rattle.occ_check_meaning.specs.Numbers.{room}
 use Rattle.occ_check.specs.View.{numbers_of}
 use Rattle.occ_check.proofs.measuring.count_targets.Given as goal
 

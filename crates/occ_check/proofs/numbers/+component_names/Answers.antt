@@ -1,4 +1,4 @@
-use Rattle.occ_unfolding.specs.Numbers.{component_name, component_names}
+use Rattle.occ_check_meaning.specs.Numbers.{component_name, component_names}
 use Rattle.occ_check.proofs.Giving.{names_next, no_more_names}
 use Rattle.occ_check.proofs.numbers.+component_names.Goals as goal
 

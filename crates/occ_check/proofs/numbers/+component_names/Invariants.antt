@@ -1,5 +1,5 @@
 use Rattle.std.proofs.Common.{length, ◌≡◌, ◌++◌, ◌-◌}
-use Rattle.occ_unfolding.specs.Numbers.{component_name, component_names, from_number}
+use Rattle.occ_check_meaning.specs.Numbers.{component_name, component_names, from_number}
 use Rattle.occ_check.proofs.numbers.+component_names.Given as goal
 
 abbrev pub decreases-component_names : goal.decreases-component_names

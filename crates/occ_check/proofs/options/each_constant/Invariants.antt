@@ -1,5 +1,5 @@
-use Rattle.occ_tree.specs.Expressions.Trees.{expression_of}
-use Rattle.occ_unfolding.specs.Expressions.{constant_as}
+use Rattle.occ_tree_grammar.specs.Expressions.Trees.{expression_of}
+use Rattle.occ_check_meaning.specs.Expressions.{constant_as}
 use Rattle.occ_check.specs.View.{names_in}
 use Rattle.occ_check.proofs.EachOf.{SoFar}
 use Rattle.occ_check.proofs.options.each_constant.Given as goal

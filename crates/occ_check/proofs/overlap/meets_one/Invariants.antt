@@ -1,5 +1,5 @@
 use Rattle.std.proofs.Common.{◌≡◌, map, drop}
-use Rattle.occ_unfolding.specs.Calls.{meets_one}
+use Rattle.occ_check_meaning.specs.Calls.{meets_one}
 use Rattle.occ_check.specs.CallView.{span_of}
 use Rattle.occ_check.proofs.overlap.meets_one.Given as goal
 

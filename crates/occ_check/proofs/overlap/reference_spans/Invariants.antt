@@ -1,5 +1,5 @@
 use Rattle.std.proofs.Common.{◌≡◌, ◌++◌, map, drop}
-use Rattle.occ_unfolding.specs.Calls.{reference_spans}
+use Rattle.occ_check_meaning.specs.Calls.{reference_spans}
 use Rattle.occ_check.specs.CallView.{span_of}
 use Rattle.occ_check.specs.OpenedView.{pairs_of}
 use Rattle.occ_check.proofs.overlap.reference_spans.Given as goal

@@ -1,6 +1,6 @@
 use Rattle.std.proofs.Common.{◌∙◌, sym, ap, map}
 use Rattle.std.proofs.lemmas.List.Sorted.{IsPermutation-map}
-use Rattle.occ_unfolding.specs.Calls.{some_meet}
+use Rattle.occ_check_meaning.specs.Calls.{some_meet}
 use Rattle.occ_check.specs.CallView.{span_of}
 use Rattle.occ_check.proofs.Meeting.{none_meet, some_meet-permuted, two_meet}
 use Rattle.occ_check.proofs.overlap.some_meet.Goals as goal

@@ -1,5 +1,5 @@
 use Rattle.std.proofs.Common.{◌≡◌, map, length}
-use Rattle.occ_unfolding.specs.Calls.{some_meet}
+use Rattle.occ_check_meaning.specs.Calls.{some_meet}
 use Rattle.occ_check.specs.CallView.{span_of}
 use Rattle.occ_check.proofs.overlap.some_pair_meets.Given as goal
 

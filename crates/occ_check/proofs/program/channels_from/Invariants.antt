@@ -1,5 +1,5 @@
 use Rattle.std.proofs.Common.{◌≡◌, ◌++◌, drop}
-use Rattle.occ_unfolding.specs.Programs as programs
+use Rattle.occ_check_meaning.specs.Programs as programs
 use Rattle.occ_check.specs.OpenedView.{pairs_of}
 use Rattle.occ_check.proofs.program.channels_from.Given as goal
 

@@ -1,5 +1,5 @@
 use Rattle.std.proofs.Common.{map}
-use Rattle.occ_tree.specs.Processes.Views.{item_of}
+use Rattle.occ_tree_grammar.specs.Processes.Views.{item_of}
 use Rattle.occ_check.proofs.MainProcess.{a_procedure, no_protocol, no_value}
 use Rattle.occ_check.proofs.program.main_at.Goals as goal
 

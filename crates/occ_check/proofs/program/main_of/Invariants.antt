@@ -1,6 +1,6 @@
 use Rattle.std.proofs.Common.{◌≡◌, length, map}
-use Rattle.occ_tree.specs.Processes.Views.{item_of}
-use Rattle.occ_unfolding.specs.Programs as programs
+use Rattle.occ_tree_grammar.specs.Processes.Views.{item_of}
+use Rattle.occ_check_meaning.specs.Programs as programs
 use Rattle.occ_check.proofs.program.main_of.Given as goal
 
 abbrev pub invariant-backwards : goal.invariant-backwards

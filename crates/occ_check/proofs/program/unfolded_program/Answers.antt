@@ -1,7 +1,7 @@
 use Rattle.std.proofs.Common.{◌≡◌, Some, rules}
-use Rattle.occ_tree.specs.Processes.Views.{program_of}
+use Rattle.occ_tree_grammar.specs.Processes.Views.{program_of}
 use Rattle.occ_term.specs.View.{term_of}
-use Rattle.occ_unfolding.specs.Programs as programs
+use Rattle.occ_check_meaning.specs.Programs as programs
 use Rattle.occ_check.specs.OpenedView.{pairs_of}
 use Rattle.occ_check.specs.ProgramView.{main_in}
 use Rattle.occ_check.specs.View.{Refuses, numbers_of}

@@ -1,4 +1,4 @@
-use Rattle.occ_tree.specs.Lines.Views.{target_of as seen_target}
+use Rattle.occ_tree_grammar.specs.Lines.Views.{target_of as seen_target}
 use Rattle.occ_term.specs.View.{target_of}
 use Rattle.occ_check.specs.ActionView.{stored_one}
 use Rattle.occ_check.specs.View.{names_in}

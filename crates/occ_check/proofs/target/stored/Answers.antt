@@ -1,6 +1,6 @@
 use Rattle.std.proofs.Common.{ap, subst, sym, ◌∙◌}
 use Rattle.occ_term.specs.View.{targets_of}
-use Rattle.occ_unfolding.specs.Items.{apart}
+use Rattle.occ_check_meaning.specs.Items.{apart}
 use Rattle.occ_check.specs.ActionView.{rows_at}
 use Rattle.occ_check.specs.View.{Refuses}
 use Rattle.occ_check.proofs.Storing.{stored_clashes, stored_gives, stored_nothing}

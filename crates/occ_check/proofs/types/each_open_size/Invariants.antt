@@ -1,5 +1,5 @@
-use Rattle.occ_tree.specs.Lines.Views.{size_of}
-use Rattle.occ_unfolding.specs.Types.{open_size}
+use Rattle.occ_tree_grammar.specs.Lines.Views.{size_of}
+use Rattle.occ_check_meaning.specs.Types.{open_size}
 use Rattle.occ_check.specs.View.{names_in}
 use Rattle.occ_check.proofs.EachOf.{SoFar}
 use Rattle.occ_check.proofs.types.each_open_size.Given as goal

@@ -1,5 +1,5 @@
 use Rattle.std.proofs.Common.{map, subst, sym, ◌∙◌}
-use Rattle.occ_tree.specs.Expressions.Trees.{expression_of}
+use Rattle.occ_tree_grammar.specs.Expressions.Trees.{expression_of}
 use Rattle.occ_check.specs.View.{names_in, Refuses}
 use Rattle.occ_check.proofs.EachOf.{so_far_first, so_far_next, so_far_nothing, so_far_same}
 use Rattle.occ_check.proofs.SizeLists.{given_none, given_one, sizes_each}

@@ -1,4 +1,4 @@
-use Rattle.occ_tree.specs.Expressions.Trees.{expression_of}
+use Rattle.occ_tree_grammar.specs.Expressions.Trees.{expression_of}
 use Rattle.occ_check.specs.View.{names_in}
 use Rattle.occ_check.proofs.EachOf.{SoFar}
 use Rattle.occ_check.proofs.SizeLists.{one_size}

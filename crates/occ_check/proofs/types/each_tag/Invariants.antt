@@ -1,5 +1,5 @@
-use Rattle.occ_tree.specs.Processes.Views as processes
-use Rattle.occ_unfolding.specs.Types.{tag_of}
+use Rattle.occ_tree_grammar.specs.Processes.Views as processes
+use Rattle.occ_check_meaning.specs.Types.{tag_of}
 use Rattle.occ_check.specs.View.{names_in}
 use Rattle.occ_check.proofs.EachOf.{SoFar}
 use Rattle.occ_check.proofs.types.each_tag.Given as goal

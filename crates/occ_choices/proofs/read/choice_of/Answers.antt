@@ -1,5 +1,5 @@
 use Rattle.std.proofs.Common.{◌≡◌, ◌∙◌, ◌∷◌, [], Some, ap, sym, subst, take, drop, length, arith}
-use Rattle.occ_net.specs.declared.choice.Choice.{Choice}
+use Rattle.occ_net_replay.specs.declared.choice.Choice.{Choice}
 use Rattle.occ_choices.specs.Lines.{IsEnd, IsLine}
 use Rattle.occ_choices.specs.Reading.{ends_line, leading}
 use Rattle.occ_choices.proofs.Digits.{end_of, line_of, no_end_there, no_pick, no_rest, no_space, no_which, none_of, nothing}

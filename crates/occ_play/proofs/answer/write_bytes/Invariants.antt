@@ -1,6 +1,6 @@
 use Rattle.std.proofs.Common.{◌≡◌, ◌++◌, map, take}
 use Rattle.occ_term.specs.Runs.{bytes_of, messages_on}
-use Rattle.occ_slots.specs.Holding.{communication_of}
+use Rattle.occ_net.specs.Holding.{communication_of}
 use Rattle.occ_play.proofs.answer.write_bytes.Given as goal
 
 abbrev pub invariant-loop-i : goal.invariant-loop-i

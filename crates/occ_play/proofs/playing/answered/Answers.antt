@@ -1,5 +1,5 @@
 use Rattle.std.proofs.Common.{◌∙◌, ◌<◌, ◌^◌, sym, length, refl, rules}
-use Rattle.occ_net.specs.Following.{AreBytes}
+use Rattle.occ_net_replay.specs.Following.{AreBytes}
 use Rattle.occ_play.specs.Plans.{choices_of}
 use Rattle.occ_play.proofs.Headline.{headline, outputs_are_bytes, code_refuses}
 use Rattle.occ_play.proofs.Rerun.{are_bytes}

@@ -2,7 +2,7 @@ use Rattle.std.proofs.Common.{◌+◌, ◌<◌, ◌^◌, length, ◌∙◌, ap, 
 use Rattle.std.specs.Arc.{arc_value}
 use Rattle.occ_term.specs.Frames.{zero_frame}
 use Rattle.occ_proc.specs.Turns.{HasStop}
-use Rattle.occ_net.specs.Replay.{first_task}
+use Rattle.occ_net_replay.specs.Replay.{first_task}
 use Rattle.rows.proofs.FirstTurns.{body_small, first_stop}
 use Rattle.rows.proofs.turns.advanced.Goals as goal
 

@@ -2,7 +2,7 @@ use Rattle.std.proofs.Common.{◌∙◌, ap, sym, subst}
 use Rattle.std.specs.Arc.{arc_value}
 use Rattle.occ_term.specs.Frames.{zero_frame}
 use Rattle.occ_proc.specs.Turns.{HasStop}
-use Rattle.occ_net.specs.Replay.{first_task}
+use Rattle.occ_net_replay.specs.Replay.{first_task}
 use Rattle.rows.proofs.FirstTurns.{first_stop}
 use Rattle.rows.proofs.turns.first_turn.Goals as goal
 

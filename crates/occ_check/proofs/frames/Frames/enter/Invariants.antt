@@ -1,5 +1,5 @@
 use Rattle.std.proofs.Common.{ℕ, ◌≡◌, ◌<◌, ◌≤◌, length, reverse, take}
-use Rattle.occ_unfolding.specs.Scope.{within}
+use Rattle.occ_check_meaning.specs.Scope.{within}
 use Rattle.occ_check.specs.OpenedView.{pairs_of}
 use Rattle.occ_check.specs.View.{innermost}
 use Rattle.occ_check.proofs.frames.Frames.enter.Given as goal

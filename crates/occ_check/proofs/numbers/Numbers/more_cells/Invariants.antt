@@ -1,5 +1,5 @@
 use Rattle.std.proofs.Common.{◌≡◌, ◌++◌, map}
-use Rattle.occ_unfolding.specs.Numbers.{cell}
+use Rattle.occ_check_meaning.specs.Numbers.{cell}
 use Rattle.occ_check.specs.View.{numbers_of}
 use Rattle.occ_check.proofs.numbers.Numbers.more_cells.Given as goal
 

@@ -1,6 +1,6 @@
 use Rattle.std.proofs.Common.{◌≡◌, ◌++◌, ◌∙◌, [], List, Some, ap, refl, sym, subst, length, reverse}
 use Rattle.std.proofs.lemmas.List.{append-nil, append_assoc, length-append}
-use Rattle.occ_unfolding.specs.Unfolding.{found}
+use Rattle.occ_check_meaning.specs.Unfolding.{found}
 use Rattle.occ_check.specs.View.{scope_of, IsFound, IsWithin}
 use Rattle.occ_check.specs.declared.scope.Frame.{Frame}
 use Rattle.occ_check.proofs.Looking.{wider}

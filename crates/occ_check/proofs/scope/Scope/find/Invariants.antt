@@ -1,5 +1,5 @@
 use Rattle.std.proofs.Common.{◌≡◌, ◌++◌, List, length}
-use Rattle.occ_unfolding.specs.Unfolding.{found}
+use Rattle.occ_check_meaning.specs.Unfolding.{found}
 use Rattle.occ_check.specs.View.{scope_of}
 use Rattle.occ_check.specs.declared.scope.Frame.{Frame}
 use Rattle.occ_check.proofs.scope.Scope.find.Given as goal

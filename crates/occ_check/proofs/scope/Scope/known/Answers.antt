@@ -1,5 +1,5 @@
 use Rattle.std.proofs.Common.{Some, reverse, subst, sym}
-use Rattle.occ_unfolding.specs.Unfolding.{found}
+use Rattle.occ_check_meaning.specs.Unfolding.{found}
 use Rattle.occ_check.specs.View.{scope_of, IsFound}
 use Rattle.occ_check.proofs.Looking.{known_found, no_known, nothing_found}
 use Rattle.occ_check.proofs.scope.Scope.known.Goals as goal

@@ -1,5 +1,5 @@
 use Rattle.std.proofs.Common.{◌≡◌, Some, ap, sym, ◌∙◌, drop, length, reverse, take}
-use Rattle.occ_unfolding.specs.Unfolding.{found}
+use Rattle.occ_check_meaning.specs.Unfolding.{found}
 use Rattle.occ_check.specs.View.{binding_of, pairs_before, scope_in, scope_of}
 use Rattle.occ_check.specs.declared.scope.Position.{Position}
 use Rattle.occ_check.proofs.Looking.{bound_found, by_own}

@@ -1,22 +1,22 @@
 use Rattle.std.proofs.lemmas.Int.{to_z-of_z}
 use Rattle.std.proofs.lemmas.List.{map-append}
 use Rattle.std.proofs.Common.{rules, arith, option_map, w64, to_z, of_z, SFits, ◌-◌, ℤ, pos, ◌+ℤ◌, ◌∷◌, ◌++◌, drop, ◌≡◌, ◌<◌, ◌≤◌, ◌+◌, ◌*◌, ◌∙◌, ℕ, List, Some, None, Err, [], ap, map, refl, reverse, subst, sym, true}
-use Rattle.occ_tree.specs.Processes.Trees.{decls, nodes}
-use Rattle.occ_tree.specs.Processes.Views.{arm_of, choice_of, decl_of, process_of, row_variants, selection_of, variant_of}
-use Rattle.occ_tree.specs.Lines.HeadViews.{guard_of}
-use Rattle.occ_tree.specs.declared.tree.process.Arm.TheBlock.{hidden-the_row-Variant-1}
+use Rattle.occ_tree_grammar.specs.Processes.Trees.{decls, nodes}
+use Rattle.occ_tree_grammar.specs.Processes.Views.{arm_of, choice_of, decl_of, process_of, row_variants, selection_of, variant_of}
+use Rattle.occ_tree_grammar.specs.Lines.HeadViews.{guard_of}
+use Rattle.occ_tree_grammar.specs.declared.tree.process.Arm.TheBlock.{hidden-the_row-Variant-1}
 use Rattle.occ_term.specs.View.{arms_of, branch_of, branches_of, choices_of, declarations_of, expression_of, option_of, options_of, place_of, reception_of, term_of, terms_of, variant_of as term_variant_of, variants_of}
-use Rattle.occ_unfolding.specs.Actions.{as_reception, depth_behind, new_tag, none_chosen, opening}
-use Rattle.occ_tree.specs.Lines.Views as lines
+use Rattle.occ_check_meaning.specs.Actions.{as_reception, depth_behind, new_tag, none_chosen, opening}
+use Rattle.occ_tree_grammar.specs.Lines.Views as lines
 use Rattle.occ_check.proofs.Tags.{no_more_variants, no_tag, variant_done, variant_form, variant_refused, variant_size, variants_grown, variants_none, variants_step}
 use Rattle.occ_check.specs.ActionView.{chosen_of, listed_of}
 use Rattle.occ_check.specs.Prefixes.{guarding, guarding_variants}
-use Rattle.occ_unfolding.specs.Scope.{names_of}
+use Rattle.occ_check_meaning.specs.Scope.{names_of}
 use Rattle.occ_check.proofs.Gathering.{gathered_first, gathered_last, gathered_next, gathered_refused, part_within}
 use Rattle.occ_check.proofs.Conditionals.{choice_done, choice_in, choice_not_declared, choice_refused, choices_grown, choices_none, choices_step, no_more_choices, when_refused, within_choice}
 use Rattle.occ_check.proofs.Alternatives.{arm_done, arm_in, arm_not_declared, arm_refused, arms_grown, arms_none, arms_step, input_done, input_not_guarded, input_refused, no_more_arms, variants_not_guarded, variants_refused, within_arm}
 use Rattle.occ_check.proofs.Selections.{no_more_options, option_done, option_refused, options_grown, options_none, options_step, otherwise_form, otherwise_size, values_form, values_size}
-use Rattle.occ_tree.specs.Many.{◌>>=◌}
+use Rattle.occ_tree_grammar.specs.Many.{◌>>=◌}
 use Rattle.occ_term.specs.Terms as T
 use Rattle.occ_term.specs.Terms.{no_arms, no_choices, no_options, no_terms, no_variants}
 use Rattle.occ_term.specs.declared.term.Term as code
@@ -24,23 +24,23 @@ use Rattle.occ_term.specs.declared.term.Term.{the_lemmas}
 use Rattle.occ_check.proofs.Listing.{before, listed_refused, listed_next, listed_last}
 use Rattle.occ_term.specs.declared.term.Branch.{the_lemmas as branch_lemmas}
 use Rattle.occ_term.specs.declared.term.Arm.{the_lemmas as arm_lemmas}
-use Rattle.occ_unfolding.specs.Numbers.{more_processes}
+use Rattle.occ_check_meaning.specs.Numbers.{more_processes}
 use Rattle.occ_check.proofs.Beside.{all_branches, beside_done, beside_refused, beside_size, branch_none, branch_one, branch_step, branches_in, no_body, no_number, one_branch, put_branch}
 use Rattle.occ_check.proofs.InTurn.{all_terms, in_turn, in_turn_none, in_turn_one, in_turn_step, item_within, put_term, sequence_done, sequence_refused, sequence_size}
-use Rattle.occ_unfolding.specs.Recursion.{all_arms, all_beside, all_choices, all_declared, all_in_turn, all_options, all_variants, arm_unfolded, choice_unfolded, option_unfolded, unfolded, variant_unfolded}
-use Rattle.occ_tree.specs.Expressions.Trees.{expression_of as tree_of}
-use Rattle.occ_unfolding.specs.Performing as performs
+use Rattle.occ_check_meaning.specs.Recursion.{all_arms, all_beside, all_choices, all_declared, all_in_turn, all_options, all_variants, arm_unfolded, choice_unfolded, option_unfolded, unfolded, variant_unfolded}
+use Rattle.occ_tree_grammar.specs.Expressions.Trees.{expression_of as tree_of}
+use Rattle.occ_check_meaning.specs.Performing as performs
 use Rattle.occ_check.specs.Statements.{declarations_of_arm, declarations_of_choice, listening, performing}
-use Rattle.occ_unfolding.specs.Unfolding.{meant}
+use Rattle.occ_check_meaning.specs.Unfolding.{meant}
 use Rattle.occ_check.specs.View.{Refuses, Unfolds, numbers_of, innermost, scope_in}
 use Rattle.occ_check.specs.Progress.{IsFalling, Selects, Steps, counted, innermost_at, meant_at, scope_at, weight_at}
 use Rattle.occ_check.specs.Weights.{arm_size, choice_size, decls_size, node_size, nodes_size, statement_size, weight}
 use Rattle.occ_check.proofs.Behind.{smaller, falls_further, heads_refused, no_heads, opening_refused, statement_refused, statement_done}
 use Rattle.occ_check.proofs.Refusals.{refused_with}
-use Rattle.occ_unfolding.specs.Performing.{copied}
+use Rattle.occ_check_meaning.specs.Performing.{copied}
 use Rattle.occ_check.specs.Numbered.{copy_for, numbered_copy}
-use Rattle.occ_unfolding.specs.Declarations.{index_of}
-use Rattle.occ_unfolding.specs.Scope.{within}
+use Rattle.occ_check_meaning.specs.Declarations.{index_of}
+use Rattle.occ_check_meaning.specs.Scope.{within}
 use Rattle.occ_check.proofs.Numbered.{Copied, copied_first, copied_last, copied_next, copied_refused, copies_done, copies_refused, no_copy, no_number_left, one_copy}
 use Rattle.occ_check.proofs.unfolder.Unfolder.+unfolding.Goals as goal
 

@@ -1,11 +1,11 @@
 use Rattle.std.proofs.Common.{◌≡◌, ◌+◌, ◌*◌, ◌≤◌, Some, [], drop, length, map, take}
-use Rattle.occ_tree.specs.Many.{◌>>=◌}
-use Rattle.occ_tree.specs.Processes.Trees.{decls, nodes}
-use Rattle.occ_tree.specs.Processes.Views.{arm_of, choice_of, decl_of, process_of, selection_of, variant_of}
+use Rattle.occ_tree_grammar.specs.Many.{◌>>=◌}
+use Rattle.occ_tree_grammar.specs.Processes.Trees.{decls, nodes}
+use Rattle.occ_tree_grammar.specs.Processes.Views.{arm_of, choice_of, decl_of, process_of, selection_of, variant_of}
 use Rattle.occ_term.specs.View.{arms_of, choices_of, options_of, term_of, variants_of}
-use Rattle.occ_unfolding.specs.Actions.{none_chosen}
+use Rattle.occ_check_meaning.specs.Actions.{none_chosen}
 use Rattle.occ_check.specs.ActionView.{chosen_of}
-use Rattle.occ_unfolding.specs.Recursion.{unfolded, all_in_turn}
+use Rattle.occ_check_meaning.specs.Recursion.{unfolded, all_in_turn}
 use Rattle.occ_check.specs.Weights.{arm_size, choice_size, decls_size, node_size, nodes_size, statement_size}
 use Rattle.occ_check.specs.Progress.{counted, meant_at, weight_at}
 use Rattle.occ_check.proofs.Listing.{Listed}
@@ -17,8 +17,8 @@ use Rattle.occ_check.proofs.Tags.{put_variants, variants_in}
 use Rattle.occ_term.specs.View.{branch_of}
 use Rattle.occ_check.proofs.Beside.{branches_in, branch_one, branch_step, put_branch}
 use Rattle.occ_check.proofs.InTurn.{in_turn, in_turn_one, in_turn_step, put_term}
-use Rattle.occ_tree.specs.Lines.Views.{replicator_of}
-use Rattle.occ_unfolding.specs.Performing.{copied}
+use Rattle.occ_tree_grammar.specs.Lines.Views.{replicator_of}
+use Rattle.occ_check_meaning.specs.Performing.{copied}
 use Rattle.occ_check.specs.Numbered.{copy_for}
 use Rattle.occ_check.proofs.Numbered.{Copied}
 use Rattle.occ_check.proofs.unfolder.Unfolder.+unfolding.Given as goal

@@ -1,8 +1,8 @@
 use Rattle.std.proofs.Common.{rules, subst, sym}
-use Rattle.occ_tree.specs.Lines.Heads.{call}
-use Rattle.occ_tree.specs.Lines.Views.{actuals_of, formals_of}
-use Rattle.occ_tree.specs.Processes.Views.{process_of}
-use Rattle.occ_unfolding.specs.Performing.{acted}
+use Rattle.occ_tree_grammar.specs.Lines.Heads.{call}
+use Rattle.occ_tree_grammar.specs.Lines.Views.{actuals_of, formals_of}
+use Rattle.occ_tree_grammar.specs.Processes.Views.{process_of}
+use Rattle.occ_check_meaning.specs.Performing.{acted}
 use Rattle.occ_check.specs.Entering.{procedure_found, procedure_of}
 use Rattle.occ_check.specs.Progress.{Calls, counted, meant_at, scope_at, weight_at}
 use Rattle.occ_check.specs.View.{Refuses}

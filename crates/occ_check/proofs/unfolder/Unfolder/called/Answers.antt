@@ -1,9 +1,9 @@
 use Rattle.std.proofs.Common.{rules, ◌≡◌, ◌+◌, ◌∙◌, ap}
-use Rattle.occ_tree.specs.Lines.Views.{actuals_of, formals_of}
-use Rattle.occ_tree.specs.Processes.Views.{process_of}
+use Rattle.occ_tree_grammar.specs.Lines.Views.{actuals_of, formals_of}
+use Rattle.occ_tree_grammar.specs.Processes.Views.{process_of}
 use Rattle.occ_term.specs.View.{declarations_of}
-use Rattle.occ_unfolding.specs.Scope.{names_of}
-use Rattle.occ_unfolding.specs.Unfolding.{meaning_of}
+use Rattle.occ_check_meaning.specs.Scope.{names_of}
+use Rattle.occ_check_meaning.specs.Unfolding.{meaning_of}
 use Rattle.occ_check.specs.Entering.{procedure_of}
 use Rattle.occ_check.specs.OpenedView.{pairs_of}
 use Rattle.occ_check.specs.Progress.{counted, meant_at, scope_at}

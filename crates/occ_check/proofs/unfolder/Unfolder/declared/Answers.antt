@@ -1,9 +1,9 @@
 use Rattle.std.proofs.Common.{rules, arith, ◌≡◌, ◌+◌, ◌++◌, ◌∙◌, ap, map}
 use Rattle.std.proofs.lemmas.List.{map-append}
-use Rattle.occ_tree.specs.Processes.Trees.{decls}
-use Rattle.occ_tree.specs.Processes.Views.{decl_of}
+use Rattle.occ_tree_grammar.specs.Processes.Trees.{decls}
+use Rattle.occ_tree_grammar.specs.Processes.Views.{decl_of}
 use Rattle.occ_term.specs.View.{declaration_of, declarations_of}
-use Rattle.occ_unfolding.specs.Recursion.{all_declared}
+use Rattle.occ_check_meaning.specs.Recursion.{all_declared}
 use Rattle.occ_check.specs.Progress.{counted, innermost_at, meant_innermost}
 use Rattle.occ_check.specs.View.{Refuses}
 use Rattle.occ_check.specs.Weights.{decls_size, weight}

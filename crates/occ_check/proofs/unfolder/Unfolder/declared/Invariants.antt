@@ -1,8 +1,8 @@
 use Rattle.std.proofs.Common.{ℕ, ◌≡◌, ◌+◌, ◌<◌, ◌≤◌, drop, length, map, take}
-use Rattle.occ_tree.specs.Processes.Trees.{decls}
-use Rattle.occ_tree.specs.Processes.Views.{decl_of}
+use Rattle.occ_tree_grammar.specs.Processes.Trees.{decls}
+use Rattle.occ_tree_grammar.specs.Processes.Views.{decl_of}
 use Rattle.occ_term.specs.View.{declarations_of}
-use Rattle.occ_unfolding.specs.Recursion.{all_declared}
+use Rattle.occ_check_meaning.specs.Recursion.{all_declared}
 use Rattle.occ_check.specs.Progress.{counted, innermost_at, meant_innermost}
 use Rattle.occ_check.specs.Weights.{decls_size, weight}
 use Rattle.occ_check.proofs.Scoping.{Declares}

@@ -1,5 +1,5 @@
 use Rattle.std.proofs.Common.{map}
-use Rattle.occ_tree.specs.Processes.Views.{item_of}
+use Rattle.occ_tree_grammar.specs.Processes.Views.{item_of}
 use Rattle.occ_term.specs.View.{declarations_of}
 use Rattle.occ_check.specs.OpenedView.{pairs_of}
 use Rattle.occ_check.specs.Progress.{counted, innermost_at, meant_innermost}

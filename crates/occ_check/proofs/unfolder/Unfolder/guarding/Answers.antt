@@ -1,6 +1,6 @@
 use Rattle.std.proofs.Common.{option_map, subst}
-use Rattle.occ_tree.specs.Expressions.Trees.{expression_of as tree_of}
-use Rattle.occ_tree.specs.Lines.Views.{input_of}
+use Rattle.occ_tree_grammar.specs.Expressions.Trees.{expression_of as tree_of}
+use Rattle.occ_tree_grammar.specs.Lines.Views.{input_of}
 use Rattle.occ_term.specs.View.{expression_of, place_of}
 use Rattle.occ_check.specs.ActionView.{listed_of}
 use Rattle.occ_check.specs.Prefixes.{guarding}

@@ -1,10 +1,10 @@
 use Rattle.std.proofs.Common.{rules, ◌≡◌, ◌∙◌, ◌∷◌, [], Some, ap, refl, subst, sym}
-use Rattle.occ_tree.specs.Lines.Views.{replicator_of}
+use Rattle.occ_tree_grammar.specs.Lines.Views.{replicator_of}
 use Rattle.occ_term.specs.View.{replicator_of as over_of}
-use Rattle.occ_unfolding.specs.Declarations.{indexed}
-use Rattle.occ_unfolding.specs.Scope.{names_of, within}
-use Rattle.occ_unfolding.specs.Unfolding.{meant}
-use Rattle.occ_unfolding.proofs.Names.{meant_within, same_names}
+use Rattle.occ_check_meaning.specs.Declarations.{indexed}
+use Rattle.occ_check_meaning.specs.Scope.{names_of, within}
+use Rattle.occ_check_meaning.specs.Unfolding.{meant}
+use Rattle.occ_check_meaning.proofs.Names.{meant_within, same_names}
 use Rattle.occ_check.specs.OpenedView.{indexed_of, pairs_of}
 use Rattle.occ_check.specs.Progress.{counted, meant_at, scope_at}
 use Rattle.occ_check.specs.View.{Refuses}

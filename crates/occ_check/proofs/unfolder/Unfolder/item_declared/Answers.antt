@@ -1,14 +1,14 @@
 use Rattle.std.proofs.Common.{rules, ◌∙◌, ◌∷◌, Some, ap, option_map, reverse, subst, sym}
-use Rattle.occ_tree.specs.Expressions.Trees.{expression_of}
-use Rattle.occ_tree.specs.Lines.Views.{formals_of, value_type_of}
-use Rattle.occ_tree.specs.Processes.Views.{item_of, process_of, protocol_of}
+use Rattle.occ_tree_grammar.specs.Expressions.Trees.{expression_of}
+use Rattle.occ_tree_grammar.specs.Lines.Views.{formals_of, value_type_of}
+use Rattle.occ_tree_grammar.specs.Processes.Views.{item_of, process_of, protocol_of}
 use Rattle.occ_term.specs.View.{declarations_of}
-use Rattle.occ_unfolding.specs.Declarations as meant
-use Rattle.occ_unfolding.specs.Performing.{entered}
-use Rattle.occ_unfolding.specs.Recursion.{item_declared}
-use Rattle.occ_unfolding.specs.Scope.{proc}
-use Rattle.occ_unfolding.specs.Unfolding.{procedure}
-use Rattle.occ_unfolding.specs.Unfolding as unfoldings
+use Rattle.occ_check_meaning.specs.Declarations as meant
+use Rattle.occ_check_meaning.specs.Performing.{entered}
+use Rattle.occ_check_meaning.specs.Recursion.{item_declared}
+use Rattle.occ_check_meaning.specs.Scope.{proc}
+use Rattle.occ_check_meaning.specs.Unfolding.{procedure}
+use Rattle.occ_check_meaning.specs.Unfolding as unfoldings
 use Rattle.occ_check.specs.Progress.{Enters, counted, innermost_at, meant_innermost}
 use Rattle.occ_check.specs.View.{Refuses, innermost, names_in}
 use Rattle.occ_check.proofs.Refusals.{refused_with}

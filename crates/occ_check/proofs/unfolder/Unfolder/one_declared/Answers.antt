@@ -1,9 +1,9 @@
 use Rattle.std.proofs.Common.{rules, ◌≡◌, ◌+◌, ◌∙◌, ◌∷◌, arith, map, subst, sym}
-use Rattle.occ_tree.specs.Expressions.Trees.{expression_of, expressions}
-use Rattle.occ_tree.specs.Lines.Views.{sort_of}
-use Rattle.occ_tree.specs.Processes.Views.{decl_of, item_of}
-use Rattle.occ_unfolding.specs.Declarations as meant
-use Rattle.occ_unfolding.specs.Recursion.{declared}
+use Rattle.occ_tree_grammar.specs.Expressions.Trees.{expression_of, expressions}
+use Rattle.occ_tree_grammar.specs.Lines.Views.{sort_of}
+use Rattle.occ_tree_grammar.specs.Processes.Views.{decl_of, item_of}
+use Rattle.occ_check_meaning.specs.Declarations as meant
+use Rattle.occ_check_meaning.specs.Recursion.{declared}
 use Rattle.occ_check.specs.Progress.{Enters, counted, innermost_at, meant_innermost}
 use Rattle.occ_check.specs.View.{Refuses, names_in}
 use Rattle.occ_check.specs.Weights.{decl_size, item_size, weight}

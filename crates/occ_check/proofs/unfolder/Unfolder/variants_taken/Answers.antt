@@ -1,5 +1,5 @@
 use Rattle.std.proofs.Common.{subst}
-use Rattle.occ_tree.specs.Lines.Views.{var_of}
+use Rattle.occ_tree_grammar.specs.Lines.Views.{var_of}
 use Rattle.occ_term.specs.View.{place_of}
 use Rattle.occ_check.specs.Prefixes.{variants_taken}
 use Rattle.occ_check.specs.View.{Unfolds, numbers_of}

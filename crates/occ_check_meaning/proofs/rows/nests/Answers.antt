@@ -1,0 +1,5 @@
+use Rattle.occ_check_meaning.proofs.Computed as Rows
+use Rattle.occ_check_meaning.proofs.rows.nests.Goals as goal
+
+pub returns : goal.returns
+returns c = Rows.nests

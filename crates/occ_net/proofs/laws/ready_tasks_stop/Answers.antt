@@ -1,5 +1,0 @@
-use Rattle.occ_net.proofs.Law.{ready_tasks_stop}
-use Rattle.occ_net.proofs.laws.ready_tasks_stop.Goals as goal
-
-pub returns : goal.returns
-returns c = ready_tasks_stop

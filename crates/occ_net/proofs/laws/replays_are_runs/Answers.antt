@@ -1,5 +1,0 @@
-use Rattle.occ_net.proofs.Law.{replays_are_runs}
-use Rattle.occ_net.proofs.laws.replays_are_runs.Goals as goal
-
-pub returns : goal.returns
-returns c = replays_are_runs

@@ -1,5 +1,0 @@
-use Rattle.occ_net.proofs.Alone.{turns_are_few}
-use Rattle.occ_net.proofs.laws.turns_are_few.Goals as goal
-
-pub returns : goal.returns
-returns c = turns_are_few

@@ -1,5 +1,0 @@
-use Rattle.occ_net.proofs.Alone.{turns_offer_alone}
-use Rattle.occ_net.proofs.laws.turns_offer_alone.Goals as goal
-
-pub returns : goal.returns
-returns c = turns_offer_alone

@@ -1,0 +1,52 @@
+use Rattle.std.proofs.Common.{◌∙◌, refl, sym, ap, arith}
+use Rattle.occ_code.specs.declared.task.Wait.TheVariants as W
+use Rattle.occ_net_replay.specs.Replay.{made_ready}
+use Rattle.occ_net.specs.Tables.{entry_in}
+use Rattle.occ_net.proofs.Between.{there_old, byte_within, giver_of, was_byte, was_taken, await_waits}
+use Rattle.occ_net.proofs.Waits.{rising_of, within_of, there_of, rests_at_await, sized_at_await}
+use Rattle.occ_net.proofs.network.Network.await_on.Goals as goal
+
+pub take_byte-requires-clause-there : goal.take_byte-requires-clause-there
+take_byte-requires-clause-there c = there_of c.requires.0 c.args.self.now c.args.number c.args.place (W.Awaits c.args.chan) c.requires.1
+
+pub take_byte-requires-clause-counts : goal.take_byte-requires-clause-counts
+take_byte-requires-clause-counts c = let h = byte_within c.args.chan c.args.keyboard.now c.args.self.now.used c.in-Some.byte (sym c.next_byte.ensures ∙ c.in-Some.is) in omega (arith, h)
+
+pub returns-in-Some : goal.returns-in-Some
+returns-in-Some c = λ p pick after net mid w.
+    was_byte p c.args.keyboard.now c.args.self.now c.args.number c.args.place after net mid _ pick c.args.chan c.in-Some.byte w (sym c.next_byte.ensures ∙ c.in-Some.is) c.in_ok-take_byte.ensures
+
+pub take_from-requires-clause-there : goal.take_from-requires-clause-there
+take_from-requires-clause-there c = there_of c.requires.0 c.args.self.now c.args.number c.args.place (W.Awaits c.args.chan) c.requires.1
+
+pub take_from-requires-clause-offers : goal.take_from-requires-clause-offers
+take_from-requires-clause-offers c =
+    let h = c.requires.1 in
+    (giver_of c.requires.0 h.keyboard c.args.self.now c.args.number c.args.place h.after h.net h.mid c.args.chan c.in-Some-entry.giver (ap (λ t. entry_in t c.args.chan) (sym c.deref.ensures.value) ∙ sym c.entry.ensures ∙ c.in-Some-entry.is)).offering
+
+pub take_from-requires-clause-apart : goal.take_from-requires-clause-apart
+take_from-requires-clause-apart c =
+    let h = c.requires.1 in
+    λ e. (giver_of c.requires.0 h.keyboard c.args.self.now c.args.number c.args.place h.after h.net h.mid c.args.chan c.in-Some-entry.giver (ap (λ t. entry_in t c.args.chan) (sym c.deref.ensures.value) ∙ sym c.entry.ensures ∙ c.in-Some-entry.is)).apart (sym e)
+
+pub take_from-requires-clause-rising : goal.take_from-requires-clause-rising
+take_from-requires-clause-rising c = rising_of c.requires.0 c.args.self.now c.args.number c.args.place (W.Awaits c.args.chan) c.requires.1
+
+pub rest-requires-clause-there : goal.rest-requires-clause-there
+rest-requires-clause-there c = there_of c.requires.0 c.args.self.now c.args.number c.args.place (W.Awaits c.args.chan) c.requires.1
+
+pub rest-requires-clause-within : goal.rest-requires-clause-within
+rest-requires-clause-within c = within_of c.requires.0 c.args.self.now c.args.number c.args.place (W.Awaits c.args.chan) c.requires.1
+
+pub returns-in_ok-take_from-in-Some-entry : goal.returns-in_ok-take_from-in-Some-entry
+returns-in_ok-take_from-in-Some-entry c = λ p pick after net mid w.
+    was_taken p c.args.keyboard.now c.args.self.now c.args.number c.args.place after net mid _ pick c.args.chan c.in-Some-entry.giver w (ap (λ t. entry_in t c.args.chan) (sym c.deref.ensures.value) ∙ sym c.entry.ensures ∙ c.in-Some-entry.is) c.in_ok-take_from-in-Some-entry.ensures
+
+pub returns-in-None : goal.returns-in-None
+returns-in-None c = λ p pick after net mid w.
+    let kb = c.args.keyboard.now in
+    let there = there_old p kb c.args.self.now c.args.number c.args.place after net mid in
+    let tasks = c.rest.ensures.tasks (made_ready after) there in
+    await_waits p kb c.args.self.now c.args.number c.args.place after net mid _ pick c.args.chan w (sym c.next_byte.ensures ∙ c.in_default.is) (ap (λ t. entry_in t c.args.chan) (sym c.deref.ensures.value) ∙ sym c.entry.ensures ∙ c.in-None.is) tasks refl refl
+    (rests_at_await p kb c.args.self.now c.args.number c.args.place after net mid c.args.chan w tasks c.rest.ensures.ready c.set_entry.ensures)
+    (sized_at_await p kb c.args.self.now c.args.number c.args.place after net mid c.args.chan tasks c.set_entry.ensures)

@@ -1,0 +1,191 @@
+-- What happens when a process has taken a turn.
+use Rattle.std.specs.Prelude.{All, false, IsTrue, List, None, Option, Some, [], drop, if◌then◌else◌, length, map, nat_eq, slice_get, slice_set, ℕ, ℤ, ◌+◌, ◌<◌, ◌^◌, ◌++◌, ◌∷◌, ◌≡◌}
+use Rattle.occ_term.specs.declared.message.Message.{Message}
+use Rattle.occ_term.specs.Frames.{Variables, is_held}
+use Rattle.occ_code.specs.Alike.{IsRising, joined_with}
+use Rattle.occ_code.specs.Sequential.Compiled.{Program}
+use Rattle.occ_code.specs.declared.task.Task.{Task}
+use Rattle.occ_code.specs.declared.task.Wait.{Wait}
+use Rattle.occ_code.specs.declared.task.Wait.TheVariants.{Took, Offers, Awaits, Joins}
+use Rattle.occ_net_replay.specs.declared.choice.Choice.{Choice}
+use Rattle.occ_net_replay.specs.Replay.{Net, Tasks, HasTask, OneTurn, Replays, Settled, branch_task, byte_message, ending_of, first_fault, goes, has_taken, made_ready, may_go, merged, ready_from, took_turn, with_branches}
+use Rattle.occ_net_replay.specs.Waiting.{OffersAlone, AwaitsAlone, ForksAlone}
+use Rattle.occ_net.specs.declared.trace.End.{End}
+use Rattle.occ_net.specs.declared.trace.End.TheVariants.{Process, Keyboard, Screen, Error}
+use Rattle.occ_net.specs.declared.trace.Communication.{Communication}
+use Rattle.occ_net.specs.declared.network.Network.{Network}
+use Rattle.occ_net.specs.Holding.{Holds, IsOrdinary, Sized, Sound, communication_of}
+use Rattle.occ_net.specs.Ready.{put_in}
+use Rattle.occ_net.specs.Tables.{set_all}
+
+-- a turn of the network: whatever state it held, it holds the next one
+pub record TurnsTo (p : Program) (keyboard : List ℕ) (choice : Choice) (net : Net) (new : Network) : Type 0 where
+  pub next : Net
+  pub turn : OneTurn p choice net next
+  pub holds : Holds p keyboard new next
+
+-- the network stands where a replay has come to that can go on
+pub record Standing (p : Program) (keyboard : List ℕ) (n : Network) : Type 0 where
+  pub quantum : ℕ
+  pub same_quantum : All (λ b. b.quantum ≡ quantum) p.bodies
+  pub choices : List Choice
+  pub few : 1 + length choices < 2 ^ 64
+  pub net : Net
+  pub replays : Replays p keyboard choices net
+  pub open_end : ending_of net ≡ None
+  pub holds : Holds p keyboard n net
+
+-- ---- private contracts alone cite what follows
+
+-- The process at this place among the ready ones has taken a turn, and is left as ready; this is its task after the turn.
+pub record Mid (p : Program) (keyboard : List ℕ) (n : Network) (number place : ℕ) (after : Task) (net : Net) : Type 0 where
+  pub before : Task
+  pub has_task : HasTask net.tasks number before
+  pub may : IsTrue (may_go before.wait)
+  pub clean : first_fault net.tasks ≡ None
+  pub at_place : slice_get n.ready.items place ≡ Some number
+  pub ordinary : IsOrdinary after.wait
+  pub untaken : (arm : ℕ) (indices : List ℤ) (m : Option Message) → after.wait ≡ Took arm indices m → ⊥
+  pub tasks : n.tasks.items ≡ slice_set net.tasks number (Some (made_ready after))
+  pub bytes : net.keyboard ≡ drop n.used keyboard
+  pub trace : net.trace ≡ map communication_of n.trace.items
+  pub sound : Sound n
+  pub sized : Sized p n
+  pub offers : (c : ℕ) (m : Message) → after.wait ≡ Offers c m → OffersAlone p net.tasks c
+  pub awaits : (c : ℕ) → after.wait ≡ Awaits c → AwaitsAlone p net.tasks c
+  pub forks : (ns : List ℕ) → after.wait ≡ Joins ns → ForksAlone p net.tasks number ns
+
+-- it stands at this
+pub record HasMid (p : Program) (n : Network) (number place : ℕ) (wait : Wait) : Type 0 where
+  pub keyboard : List ℕ
+  pub after : Task
+  pub net : Net
+  pub mid : Mid p keyboard n number place after net
+  pub waits : after.wait ≡ wait
+
+-- what the turn made possible happens
+pub record SettlesTo (p : Program) (keyboard : List ℕ) (pick number : ℕ) (after : Task) (net : Net) (new : Network) : Type 0 where
+  pub next : Net
+  pub settles : Settled p.bodies number pick (took_turn net number after) next
+  pub holds : Holds p keyboard new next
+
+abbrev pub Settles : Program → List ℕ → ℕ → ℕ → Wait → Network → Network → Type 0
+Settles p keyboard number place wait old new =
+    (pick : ℕ) (after : Task) (net : Net) → Mid p keyboard old number place after net → after.wait ≡ wait → SettlesTo p keyboard pick number after net new
+
+-- the end that always takes what is offered on a channel
+abbrev pub reader_of : ℕ → Option End
+reader_of c = if nat_eq c 1 then Some Screen else if nat_eq c 2 then Some Error else None
+
+-- what the keyboard gives on a channel, where so many of its bytes are taken
+abbrev pub byte_on : ℕ → List ℕ → ℕ → Option ℕ
+byte_on c keyboard used = if nat_eq c 0 then slice_get keyboard used else None
+
+-- who sent what to whom on which channel
+abbrev pub sent : ℕ → End → End → Message → Communication
+sent c x y m = record { chan = c; sender = x; receiver = y; message = m }
+
+-- a process that awaited a message has it, and may go on
+pub record Gave (old : Network) (number taker chan : ℕ) (m : Message) (new : Network) : Type 0 where
+  pub tasks : (t : Task) → HasTask old.tasks.items taker t → new.tasks.items ≡ slice_set old.tasks.items taker (Some (has_taken t m))
+  pub ready : new.ready.items ≡ put_in taker old.ready.items
+  pub awaiting : new.awaiting.items ≡ slice_set old.awaiting.items chan None
+  pub trace : new.trace.items ≡ old.trace.items ++ sent chan (Process number) (Process taker) m ∷ []
+  pub offering : new.offering ≡ old.offering
+  pub parents : new.parents ≡ old.parents
+  pub unfinished : new.unfinished ≡ old.unfinished
+  pub fault : new.fault ≡ old.fault
+  pub used : new.used ≡ old.used
+
+-- a process that awaited a message has the keyboard's next byte, and may go on
+pub record TookByte (old : Network) (number byte : ℕ) (new : Network) : Type 0 where
+  pub tasks : (t : Task) → HasTask old.tasks.items number t → new.tasks.items ≡ slice_set old.tasks.items number (Some (has_taken t (byte_message byte)))
+  pub trace : new.trace.items ≡ old.trace.items ++ sent 0 Keyboard (Process number) (byte_message byte) ∷ []
+  pub used : new.used ≡ old.used + 1
+  pub ready : new.ready ≡ old.ready
+  pub offering : new.offering ≡ old.offering
+  pub awaiting : new.awaiting ≡ old.awaiting
+  pub parents : new.parents ≡ old.parents
+  pub unfinished : new.unfinished ≡ old.unfinished
+  pub fault : new.fault ≡ old.fault
+
+-- a process offers a message on the channel
+pub record IsOffering (tasks : Tasks) (giver chan : ℕ) : Type 0 where
+  pub task : Task
+  pub there : HasTask tasks giver task
+  pub message : Message
+  pub waits : task.wait ≡ Offers chan message
+
+-- a process has the message that another one offered, and both may go on
+pub record TookFrom (old : Network) (number giver chan : ℕ) (t : Task) (m : Message) (new : Network) : Type 0 where
+  pub tasks : (u : Task) → HasTask old.tasks.items number u → new.tasks.items ≡ slice_set (slice_set old.tasks.items giver (Some (made_ready t))) number (Some (has_taken u m))
+  pub ready : new.ready.items ≡ put_in giver old.ready.items
+  pub offering : new.offering.items ≡ slice_set old.offering.items chan None
+  pub trace : new.trace.items ≡ old.trace.items ++ sent chan (Process giver) (Process number) m ∷ []
+  pub awaiting : new.awaiting ≡ old.awaiting
+  pub parents : new.parents ≡ old.parents
+  pub unfinished : new.unfinished ≡ old.unfinished
+  pub fault : new.fault ≡ old.fault
+  pub used : new.used ≡ old.used
+
+-- ---- forks
+
+-- the process has not begun, or is done
+pub record IsFree (tasks : Tasks) (i : ℕ) : Type 0 where
+  pub entry : Option Task
+  pub is : slice_get tasks i ≡ Some entry
+  pub still : goes entry ≡ false
+
+-- the branches that are to begin
+pub record MayBegin (p : Program) (n : Network) (ns : List ℕ) : Type 0 where
+  pub ready_is : n.ready.items ≡ ready_from 0 n.tasks.items
+  pub rising : IsRising ns
+  pub have_bodies : (i : ℕ) → IsTrue (is_held ns i) → i < length p.bodies
+  pub free : (i : ℕ) → IsTrue (is_held ns i) → IsFree n.tasks.items i
+
+-- a branch begins
+pub record Began (p : Program) (parent : ℕ) (f : Variables) (old : Network) (i : ℕ) (new : Network) : Type 0 where
+  pub tasks : new.tasks.items ≡ slice_set old.tasks.items i (branch_task p.bodies f old.tasks.items i)
+  pub ready_is : new.ready.items ≡ ready_from 0 new.tasks.items
+  pub parents : new.parents.items ≡ slice_set old.parents.items i (Some parent)
+  pub offering : new.offering ≡ old.offering
+  pub awaiting : new.awaiting ≡ old.awaiting
+  pub unfinished : new.unfinished ≡ old.unfinished
+  pub fault : new.fault ≡ old.fault
+  pub used : new.used ≡ old.used
+  pub trace : new.trace ≡ old.trace
+
+-- branches begin
+pub record AllBegan (p : Program) (parent : ℕ) (f : Variables) (old : Network) (ns : List ℕ) (new : Network) : Type 0 where
+  pub tasks : new.tasks.items ≡ with_branches p.bodies f ns old.tasks.items
+  pub ready_is : new.ready.items ≡ ready_from 0 new.tasks.items
+  pub parents : new.parents.items ≡ set_all ns (Some parent) old.parents.items
+  pub offering : new.offering ≡ old.offering
+  pub awaiting : new.awaiting ≡ old.awaiting
+  pub unfinished : new.unfinished ≡ old.unfinished
+  pub fault : new.fault ≡ old.fault
+  pub used : new.used ≡ old.used
+  pub trace : new.trace ≡ old.trace
+
+-- ---- joins
+
+-- a process waits for these, and may go on
+pub record Joining (n : Network) (m : ℕ) : Type 0 where
+  pub task : Task
+  pub there : HasTask n.tasks.items m task
+  pub branches : List ℕ
+  pub waits : task.wait ≡ Joins branches
+  pub apart : is_held branches m ≡ false
+  pub rising : IsRising n.ready.items
+
+-- what they can write is taken over, and nobody waits for them any more
+pub record JoinsBranches (p : Program) (old : Network) (m : ℕ) (t : Task) (ns : List ℕ) (new : Network) : Type 0 where
+  pub tasks : new.tasks.items ≡ slice_set old.tasks.items m (Some (joined_with t (merged p.bodies old.tasks.items ns t.frame)))
+  pub ready : new.ready.items ≡ put_in m old.ready.items
+  pub parents : new.parents.items ≡ set_all ns None old.parents.items
+  pub offering : new.offering ≡ old.offering
+  pub awaiting : new.awaiting ≡ old.awaiting
+  pub unfinished : new.unfinished ≡ old.unfinished
+  pub fault : new.fault ≡ old.fault
+  pub used : new.used ≡ old.used
+  pub trace : new.trace ≡ old.trace

@@ -1,0 +1,30 @@
+mod Placed
+mod Placing
+mod Fewer
+mod Turning
+pub mod OneStop
+mod Holding
+mod Putting
+mod Changing
+pub mod Tables
+pub mod Quiet
+mod States
+mod Meeting
+mod Still
+mod TakingTurns
+mod Forks
+mod Merging
+mod Joining
+mod Parents
+pub mod Faults
+mod Runs
+pub mod Settling
+mod Beginning
+mod Sharing
+mod Whole
+pub mod Examples
+pub mod Law
+mod Beside
+pub mod Alone
+mod Orderly
+pub mod Same

@@ -1,0 +1,150 @@
+-- Small networks of tasks, and what happens in them after a turn.
+use Rattle.std.specs.Prelude.{Bool, List, None, Option, Some, [], false, map, pos, true, ℕ, ◌∷◌, ◌≡◌}
+use Rattle.occ_term.specs.Messages.{fault, message}
+use Rattle.occ_term.specs.declared.fault.FaultKind.TheVariants.{Arith}
+use Rattle.occ_term.specs.declared.message.Message.{Message}
+use Rattle.occ_term.specs.declared.message.Part.TheVariants.{One}
+use Rattle.occ_term.specs.declared.primitive.Primitive.TheVariants.{Int}
+use Rattle.occ_term.specs.Frames.{Variables}
+use Rattle.occ_term.specs.Runs.{messages_on}
+use Rattle.occ_term.specs.System.{OfProcess, Keyboard, Screen, Communication, communication}
+use Rattle.occ_code.specs.Sequential.Machine.{Body}
+use Rattle.occ_code.specs.declared.task.Arm.{Arm}
+use Rattle.occ_code.specs.declared.task.Task.{Task}
+use Rattle.occ_code.specs.declared.task.Wait.{Wait}
+use Rattle.occ_code.specs.declared.task.Wait.TheVariants.{Ready, Took, Offers, Awaits, Chooses, Joins, Halted, Done, Faulted}
+use Rattle.occ_net_replay.specs.declared.ending.Ending.TheVariants as ending
+use Rattle.occ_net_replay.specs.Replay.{Net, Tasks, Settled, byte_message, ending_of, ready_from, selected}
+
+-- ---- tasks and networks
+
+abbrev pub variables : List ℕ → List ℕ → List ℕ → Variables
+variables cells values left = record { cells = cells; values = map pos values; left = left }
+
+-- after so many turns, with these variables
+abbrev pub after : ℕ → ℕ → Variables → Wait → Option Task
+after n turns f w = Some (record { number = n; turns = turns; place = 6; frame = f; wait = w })
+
+-- after two turns, without variables
+abbrev pub task : ℕ → Wait → Option Task
+task n w = after n 2 (variables [] [] []) w
+
+abbrev pub net_of : List ℕ → Tasks → Net
+net_of keyboard tasks = record { tasks = tasks; keyboard = keyboard; output = λ c. []; input = λ c. []; trace = []; turns = [] }
+
+-- After a turn of the process n these tasks come to those, with these communications; each is in the lists of its channel.
+pub record LeadsTo (bodies : List Body) (n pick : ℕ) (a : Net) (tasks : Tasks) (met : List Communication) : Type 0 where
+  pub net : Net
+  pub settles : Settled bodies n pick a net
+  pub tasks_are : net.tasks ≡ tasks
+  pub trace : net.trace ≡ met
+  pub output : (c : ℕ) → net.output c ≡ messages_on c met
+  pub input : (c : ℕ) → net.input c ≡ messages_on c met
+
+abbrev pub whole_number : ℕ → Message
+whole_number v = message None (One Int (pos v) ∷ [])
+
+abbrev pub from_to : ℕ → ℕ → ℕ → ℕ → Communication
+from_to c n m v = communication c (OfProcess n) (OfProcess m) (whole_number v)
+
+-- ---- who takes a turn: 1 and 3 are ready, and are counted round and round
+
+abbrev pub five : Tasks
+five = task 0 (Joins (1 ∷ 2 ∷ 3 ∷ 4 ∷ [])) ∷ task 1 Ready ∷ task 2 (Awaits 3) ∷ task 3 (Took 0 [] (Some (whole_number 7))) ∷ None ∷ []
+
+abbrev pub TurnRows : Type 0
+TurnRows =
+    (selected (ready_from 0 five) 0 ≡ Some 1)
+    × (selected (ready_from 0 five) 1 ≡ Some 3)
+    × (selected (ready_from 0 five) 2 ≡ Some 1)
+    × (selected (ready_from 0 five) 4294967295 ≡ Some 3)
+
+-- ---- c ! 7 beside c ? x, whichever comes second; an offer that nobody awaits; the keyboard and the screen
+
+abbrev pub both_stand : Tasks
+both_stand = task 0 (Offers 3 (whole_number 7)) ∷ task 1 (Awaits 3) ∷ []
+
+abbrev pub both_go : Tasks
+both_go = task 0 Ready ∷ task 1 (Took 0 [] (Some (whole_number 7))) ∷ []
+
+abbrev pub apart : Tasks
+apart = task 0 (Offers 3 (whole_number 7)) ∷ task 1 (Awaits 4) ∷ []
+
+abbrev pub MeetingRows : Type 0
+MeetingRows =
+    LeadsTo [] 0 0 (net_of [] both_stand) both_go (from_to 3 0 1 7 ∷ [])
+    × LeadsTo [] 1 0 (net_of [] both_stand) both_go (from_to 3 0 1 7 ∷ [])
+    × LeadsTo [] 0 0 (net_of [] apart) apart []
+    × LeadsTo [] 0 0 (net_of (104 ∷ 105 ∷ []) (task 0 (Awaits 0) ∷ [])) (task 0 (Took 0 [] (Some (byte_message 104))) ∷ []) (communication 0 Keyboard (OfProcess 0) (byte_message 104) ∷ [])
+    × LeadsTo [] 0 0 (net_of [] (task 0 (Offers 1 (byte_message 104)) ∷ [])) (task 0 Ready ∷ []) (communication 1 (OfProcess 0) Screen (byte_message 104) ∷ [])
+
+-- ---- two standing offers and a process that chooses; an arm with SKIP; an offer that comes to two arms that wait for it
+
+abbrev pub arm : ℕ → Option ℕ → Arm
+arm place channel = record { place = place; chan = channel; indices = [] }
+
+abbrev pub choosing : Bool → Tasks
+choosing pri = task 0 (Offers 3 (whole_number 5)) ∷ task 1 (Offers 4 (whole_number 6)) ∷ task 2 (Chooses pri (arm 10 (Some 3) ∷ arm 20 (Some 4) ∷ [])) ∷ []
+
+abbrev pub took_first : Tasks
+took_first = task 0 Ready ∷ task 1 (Offers 4 (whole_number 6)) ∷ task 2 (Took 10 [] (Some (whole_number 5))) ∷ []
+
+abbrev pub took_second : Tasks
+took_second = task 0 (Offers 3 (whole_number 5)) ∷ task 1 Ready ∷ task 2 (Took 20 [] (Some (whole_number 6))) ∷ []
+
+abbrev pub or_skip : Tasks
+or_skip = task 0 (Chooses true (arm 10 (Some 3) ∷ arm 20 None ∷ [])) ∷ []
+
+abbrev pub twice : Tasks
+twice = task 0 (Offers 3 (whole_number 5)) ∷ task 1 (Chooses false (arm 10 (Some 3) ∷ arm 20 (Some 3) ∷ [])) ∷ []
+
+abbrev pub ChoiceRows : Type 0
+ChoiceRows =
+    ((pick : ℕ) → LeadsTo [] 2 pick (net_of [] (choosing true)) took_first (from_to 3 0 2 5 ∷ []))
+    × LeadsTo [] 2 0 (net_of [] (choosing false)) took_first (from_to 3 0 2 5 ∷ [])
+    × LeadsTo [] 2 1 (net_of [] (choosing false)) took_second (from_to 4 1 2 6 ∷ [])
+    × LeadsTo [] 2 2 (net_of [] (choosing false)) took_first (from_to 3 0 2 5 ∷ [])
+    × LeadsTo [] 0 0 (net_of [] or_skip) (task 0 (Took 20 [] None) ∷ []) []
+    × LeadsTo [] 0 1 (net_of [] twice) (task 0 Ready ∷ task 1 (Took 20 [] (Some (whole_number 5))) ∷ []) (from_to 3 0 1 5 ∷ [])
+
+-- with priority the first arm alone
+abbrev pub FirstWithPriority : Type 0
+FirstWithPriority = (pick : ℕ) (b : Net) → Settled [] 2 pick (net_of [] (choosing true)) b → b.tasks ≡ took_first
+
+-- ---- a PAR of two branches, the first of which ran before: the first writes cell 0, the second reads cell 2 and writes cell 1
+
+abbrev pub body : List ℕ → List ℕ → ℕ → Body
+body cells writes loops = record { code = []; cells = cells; writes = writes; loops = loops; quantum = 1 }
+
+abbrev pub bodies : List Body
+bodies = body (0 ∷ 1 ∷ 2 ∷ []) (0 ∷ 1 ∷ 2 ∷ []) 1 ∷ body (0 ∷ []) (0 ∷ []) 0 ∷ body (1 ∷ 2 ∷ []) (1 ∷ []) 2 ∷ []
+
+-- the process 0, with these values, at the fork or after the join
+abbrev pub parent : List ℕ → Wait → Option Task
+parent values w = after 0 2 (variables (0 ∷ 1 ∷ 2 ∷ []) values (9 ∷ [])) w
+
+abbrev pub waiting : Option Task
+waiting = parent (4 ∷ 5 ∷ 6 ∷ []) (Joins (1 ∷ 2 ∷ []))
+
+abbrev pub begins : ℕ → ℕ → Variables → Option Task
+begins n turns f = Some (record { number = n; turns = turns; place = 0; frame = f; wait = Ready })
+
+abbrev pub branches : Wait → Wait → Tasks
+branches v w = after 1 3 (variables (0 ∷ []) (14 ∷ []) []) v ∷ after 2 7 (variables (1 ∷ 2 ∷ []) (15 ∷ 16 ∷ []) (0 ∷ 0 ∷ [])) w ∷ []
+
+abbrev pub ForkRows : Type 0
+ForkRows =
+    LeadsTo bodies 0 0 (net_of [] (waiting ∷ after 1 3 (variables (0 ∷ []) (8 ∷ []) []) Done ∷ None ∷ []))
+    (waiting ∷ begins 1 3 (variables (0 ∷ []) (4 ∷ []) []) ∷ begins 2 0 (variables (1 ∷ 2 ∷ []) (5 ∷ 6 ∷ []) (0 ∷ 0 ∷ [])) ∷ []) []
+    × LeadsTo bodies 1 0 (net_of [] (waiting ∷ branches Done Done)) (parent (14 ∷ 15 ∷ 6 ∷ []) Ready ∷ branches Done Done) []
+    × LeadsTo bodies 1 0 (net_of [] (waiting ∷ branches Done Ready)) (waiting ∷ branches Done Ready) []
+    × LeadsTo bodies 2 0 (net_of [] (waiting ∷ branches Done Halted)) (waiting ∷ branches Done Halted) []
+
+-- ---- endings: a fault before all else, then the end of process 0, then that nobody is ready
+
+abbrev pub EndingRows : Type 0
+EndingRows =
+    (ending_of (net_of [] (task 0 (Joins (1 ∷ 2 ∷ [])) ∷ task 1 (Faulted (fault Arith 4)) ∷ task 2 Ready ∷ [])) ≡ Some (ending.Fault (fault Arith 4)))
+    × (ending_of (net_of [] (task 0 Done ∷ task 1 Done ∷ [])) ≡ Some ending.Ended)
+    × (ending_of (net_of [] (task 0 (Joins (1 ∷ [])) ∷ task 1 Halted ∷ [])) ≡ Some ending.Stopped)
+    × (ending_of (net_of [] (task 0 (Joins (1 ∷ [])) ∷ task 1 Ready ∷ None ∷ [])) ≡ None)

@@ -1,0 +1,15 @@
+-- The choices, the code and the keyboard determine a replay.
+use Rattle.std.specs.Prelude.{All, List, length, ℕ, ◌<◌, ◌^◌, ◌≡◌}
+use Rattle.occ_term.specs.Unfolding.{Unfolding, IsWellFormed, Lawful}
+use Rattle.occ_code.specs.Sequential.Compiled.{Program, IsCompiledFrom}
+use Rattle.occ_net_replay.specs.declared.choice.Choice.{Choice}
+use Rattle.occ_net_replay.specs.Following.{AreBytes}
+use Rattle.occ_net_replay.specs.Replay.{Net, Replays}
+
+-- Two replays of the code of a lawful program by the same choices come to one network: its tasks, the bytes left, what was output and
+-- input on each channel, the communications and the turns.
+abbrev pub OneReplay : Type 0
+OneReplay =
+    (u : Unfolding) (p : Program) (quantum : ℕ) (keyboard : List ℕ) (cs : List Choice) (a b : Net)
+    → IsWellFormed u → Lawful u → IsCompiledFrom u p → All (λ x. x.quantum ≡ quantum) p.bodies → AreBytes keyboard → length cs < 2 ^ 64
+    → Replays p keyboard cs a → Replays p keyboard cs b → a ≡ b

@@ -1,0 +1,76 @@
+-- The tree of an expression.
+use Rattle.std.specs.Prelude.{ℕ, List, [], ◌∷◌, Bool, true, false, Option}
+use Rattle.occ_text.specs.Words.{Lit, number, byte, text}
+use Rattle.occ_tree_grammar.specs.declared.tree.expr.Primitive.{Primitive}
+use Rattle.occ_tree_grammar.specs.declared.tree.expr.Dyadic.{Dyadic}
+use Rattle.occ_tree_grammar.specs.declared.tree.expr.Monadic.{Monadic}
+use Rattle.occ_tree_grammar.specs.declared.tree.expr.Logic.{Logic}
+use Rattle.occ_tree_grammar.specs.declared.tree.expr.Literal.{Literal}
+use Rattle.occ_tree_grammar.specs.declared.tree.expr.Literal.TheVariants as literals
+use Rattle.occ_tree_grammar.specs.declared.tree.expr.Operand.{Operand as OperandTree, Row_of-Expr, end_of-Expr, more_of-Expr}
+use Rattle.occ_tree_grammar.specs.declared.tree.expr.Operand.TheVariants as operandTrees
+use Rattle.occ_tree_grammar.specs.declared.tree.expr.Expr.{Expr, Row_of-Operand, end_of-Operand, more_of-Operand}
+use Rattle.occ_tree_grammar.specs.declared.tree.expr.Expr.TheVariants as exprs
+
+mutual
+  pub data Expression : Type 0 where
+    alone : Operand → Expression
+    two : Operand → Dyadic → Operand → Expression
+    one : Monadic → Operand → Expression
+    convert : Primitive → Operand → Expression
+    limit : Bool → Expression
+    chain : Logic → Operand → Operand → Operands → Expression
+
+  pub data Operands : Type 0 where
+    no_operand : Operands
+    more_operands : Operand → Operands → Operands
+
+  pub data Operand : Type 0 where
+    variable : List ℕ → Expressions → Operand
+    literal : Lit → Option Primitive → Operand
+    truth : Bool → Operand
+    parens : Expression → Operand
+
+  pub data Expressions : Type 0 where
+    no_expression : Expressions
+    more_expressions : Expression → Expressions → Expressions
+
+-- the same, as the lists that they are
+abbrev pub operands : List Operand → Operands
+operands [] = no_operand
+operands (a ∷ rest) = more_operands a (operands rest)
+
+abbrev pub expressions : List Expression → Expressions
+expressions [] = no_expression
+expressions (e ∷ rest) = more_expressions e (expressions rest)
+
+-- ---- the values of the code, without where they lie in memory
+
+abbrev pub lit_of : Literal → Lit
+lit_of (literals.Number n) = number n
+lit_of (literals.Byte b) = byte b
+lit_of (literals.Text v) = text v.items
+
+abbrev mutual
+  pub expression_of : Expr → Expression
+  expression_of (exprs.Operand a) = alone (operand_of a)
+  expression_of (exprs.Two a d b) = two (operand_of a) d (operand_of b)
+  expression_of (exprs.One m a) = one m (operand_of a)
+  expression_of (exprs.Convert p a) = convert p (operand_of a)
+  expression_of exprs.MostPos = limit true
+  expression_of exprs.MostNeg = limit false
+  expression_of (exprs.Chain' l a b shape row) = chain l (operand_of a) (operand_of b) (row_operands row)
+
+  pub operand_of : OperandTree → Operand
+  operand_of (operandTrees.Variable' v shape row) = variable v.items (row_expressions row)
+  operand_of (operandTrees.Literal l t) = literal (lit_of l) t
+  operand_of (operandTrees.Truth b) = truth b
+  operand_of (operandTrees.Parens' p e) = parens (expression_of e)
+
+  pub row_operands : {m : _} → Row_of-Operand m → Operands
+  row_operands end_of-Operand = no_operand
+  row_operands (more_of-Operand a row) = more_operands (operand_of a) (row_operands row)
+
+  pub row_expressions : {m : _} → Row_of-Expr m → Expressions
+  row_expressions end_of-Expr = no_expression
+  row_expressions (more_of-Expr e row) = more_expressions (expression_of e) (row_expressions row)

@@ -1,0 +1,68 @@
+//! Single words that must or may stand at the front.
+
+ghost use Rattle.std.specs.Prelude.{◌≡◌, option_map};
+ghost use Rattle.occ_text.specs.Words.{words};
+ghost use Rattle.occ_tree_grammar.specs.Expressions.Reading.{Gives, after_open_bracket, after_close, after_close_bracket, after_int, prim_at, after_logic};
+
+use occ_text::{Key, Sym, Token};
+use occ_tree_grammar::ParseFault;
+use occ_tree_grammar::tree::expr::{Logic, Prim};
+
+pub fn open_bracket(tokens: &[Token]) -> Option<&[Token]>
+    ensures { option_map (λ r. words r.now) result ≡ after_open_bracket (words tokens.now) }
+{
+    match tokens {
+        [Token::Sym(Sym::OpenBracket), rest @ ..] => Some(rest),
+        _ => None,
+    }
+}
+
+pub fn close(line: u32, tokens: &[Token]) -> Result<&[Token], ParseFault>
+    ensures { Gives (λ r. words r.now) result (after_close (words tokens.now)) }
+{
+    match tokens {
+        [Token::Sym(Sym::CloseParen), rest @ ..] => Ok(rest),
+        _ => Err(ParseFault::Unexpected { line }),
+    }
+}
+
+pub fn close_bracket(line: u32, tokens: &[Token]) -> Result<&[Token], ParseFault>
+    ensures { Gives (λ r. words r.now) result (after_close_bracket (words tokens.now)) }
+{
+    match tokens {
+        [Token::Sym(Sym::CloseBracket), rest @ ..] => Ok(rest),
+        _ => Err(ParseFault::Unexpected { line }),
+    }
+}
+
+pub fn int(line: u32, tokens: &[Token]) -> Result<&[Token], ParseFault>
+    ensures { Gives (λ r. words r.now) result (after_int (words tokens.now)) }
+{
+    match tokens {
+        [Token::Key(Key::Int), rest @ ..] => Ok(rest),
+        _ => Err(ParseFault::Unexpected { line }),
+    }
+}
+
+/// A primitive type.
+pub fn prim(line: u32, tokens: &[Token]) -> Result<(Prim, &[Token]), ParseFault>
+    ensures { Gives (λ x. (x.0, words x.1.now)) result (prim_at (words tokens.now)) }
+{
+    match tokens {
+        [Token::Key(Key::Bool), rest @ ..] => Ok((Prim::Bool, rest)),
+        [Token::Key(Key::Byte), rest @ ..] => Ok((Prim::Byte, rest)),
+        [Token::Key(Key::Int), rest @ ..] => Ok((Prim::Int, rest)),
+        _ => Err(ParseFault::Unexpected { line }),
+    }
+}
+
+/// The words after the operator, where it stands.
+pub fn joined(logic: Logic, tokens: &[Token]) -> Option<&[Token]>
+    ensures { option_map (λ r. words r.now) result ≡ after_logic logic (words tokens.now) }
+{
+    match (logic, tokens) {
+        (Logic::And, [Token::Key(Key::And), rest @ ..]) => Some(rest),
+        (Logic::Or, [Token::Key(Key::Or), rest @ ..]) => Some(rest),
+        _ => None,
+    }
+}

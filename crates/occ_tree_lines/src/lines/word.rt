@@ -1,0 +1,77 @@
+//! Single words of a line that must or may stand at the front.
+
+ghost use Rattle.std.specs.Prelude.{◌≡◌, option_map};
+ghost use Rattle.occ_text.specs.Words.{words};
+ghost use Rattle.occ_tree_grammar.specs.Expressions.Reading.{Gives};
+ghost use Rattle.occ_tree_grammar.specs.Lines.Reading.{after_separator, name_at, after_assign, after_question, after_for, after_is, after_colon};
+
+use occ_text::{Key, Sym, Token};
+use occ_tree_grammar::ParseFault;
+use occ_tree_grammar::lines::separator::Separator;
+use std::alloc::Global;
+
+/// The words after the separator, where it stands.
+pub fn separated(by: Separator, tokens: &[Token]) -> Option<&[Token]>
+    ensures { option_map (λ r. words r.now) result ≡ after_separator by (words tokens.now) }
+{
+    match (by, tokens) {
+        (Separator::Comma, [Token::Sym(Sym::Comma), rest @ ..]) => Some(rest),
+        (Separator::Semicolon, [Token::Sym(Sym::Semicolon), rest @ ..]) => Some(rest),
+        _ => None,
+    }
+}
+
+/// A name.
+pub fn name(alloc: Global, line: u32, tokens: &[Token]) -> Result<(Vec<u8>, &[Token]), ParseFault>
+    ensures { Gives (λ x. (x.0.items, words x.1.now)) result (name_at (words tokens.now)) }
+{
+    match tokens {
+        [Token::Name(name), rest @ ..] => Ok((Vec::from_slice(alloc, name)?, rest)),
+        _ => Err(ParseFault::Unexpected { line }),
+    }
+}
+
+pub fn assign(line: u32, tokens: &[Token]) -> Result<&[Token], ParseFault>
+    ensures { Gives (λ r. words r.now) result (after_assign (words tokens.now)) }
+{
+    match tokens {
+        [Token::Sym(Sym::Assign), rest @ ..] => Ok(rest),
+        _ => Err(ParseFault::Unexpected { line }),
+    }
+}
+
+pub fn question(line: u32, tokens: &[Token]) -> Result<&[Token], ParseFault>
+    ensures { Gives (λ r. words r.now) result (after_question (words tokens.now)) }
+{
+    match tokens {
+        [Token::Sym(Sym::Question), rest @ ..] => Ok(rest),
+        _ => Err(ParseFault::Unexpected { line }),
+    }
+}
+
+pub fn for_count(line: u32, tokens: &[Token]) -> Result<&[Token], ParseFault>
+    ensures { Gives (λ r. words r.now) result (after_for (words tokens.now)) }
+{
+    match tokens {
+        [Token::Key(Key::For), rest @ ..] => Ok(rest),
+        _ => Err(ParseFault::Unexpected { line }),
+    }
+}
+
+pub fn is(line: u32, tokens: &[Token]) -> Result<&[Token], ParseFault>
+    ensures { Gives (λ r. words r.now) result (after_is (words tokens.now)) }
+{
+    match tokens {
+        [Token::Key(Key::Is), rest @ ..] => Ok(rest),
+        _ => Err(ParseFault::Unexpected { line }),
+    }
+}
+
+pub fn colon(line: u32, tokens: &[Token]) -> Result<&[Token], ParseFault>
+    ensures { Gives (λ r. words r.now) result (after_colon (words tokens.now)) }
+{
+    match tokens {
+        [Token::Sym(Sym::Colon), rest @ ..] => Ok(rest),
+        _ => Err(ParseFault::Unexpected { line }),
+    }
+}

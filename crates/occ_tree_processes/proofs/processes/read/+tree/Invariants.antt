@@ -1,0 +1,92 @@
+use Rattle.std.proofs.Common.{length, ◌+◌, ◌*◌, map}
+use Rattle.occ_text.specs.Words.{Row, rows}
+use Rattle.occ_tree_grammar.specs.Many.{as_many}
+use Rattle.occ_tree_grammar.specs.Processes.Trees.{process, choice, option, arm, variant, Node, Decl}
+use Rattle.occ_tree_grammar.specs.Processes.Views.{process_of, choice_of, selection_of, arm_of, variant_of, decl_of}
+use Rattle.occ_tree_grammar.specs.Processes.Reading.{at_level, at_decl, node_at, decl_with}
+use Rattle.occ_tree_lines.proofs.ManyLoop.{SoFar}
+use Rattle.occ_tree_processes.proofs.processes.read.+tree.Given as goal
+
+abbrev pub decreases-process : goal.decreases-process
+decreases-process l = 5 * l.left
+
+abbrev pub decreases-choice : goal.decreases-choice
+decreases-choice l = 5 * l.left
+
+abbrev pub decreases-selection : goal.decreases-selection
+decreases-selection l = 5 * l.left
+
+abbrev pub decreases-arm : goal.decreases-arm
+decreases-arm l = 5 * l.left
+
+abbrev pub decreases-variant : goal.decreases-variant
+decreases-variant l = 5 * l.left
+
+abbrev pub decreases-processes : goal.decreases-processes
+decreases-processes l = 5 * l.left + 1
+
+abbrev pub decreases-choices : goal.decreases-choices
+decreases-choices l = 5 * l.left + 1
+
+abbrev pub decreases-selections : goal.decreases-selections
+decreases-selections l = 5 * l.left + 1
+
+abbrev pub decreases-arms : goal.decreases-arms
+decreases-arms l = 5 * l.left + 1
+
+abbrev pub decreases-variants : goal.decreases-variants
+decreases-variants l = 5 * l.left + 1
+
+abbrev pub decreases-statement : goal.decreases-statement
+decreases-statement l = 5 * l.left + 2
+
+abbrev pub decreases-chosen : goal.decreases-chosen
+decreases-chosen l = 5 * l.left + 2
+
+abbrev pub decreases-selected : goal.decreases-selected
+decreases-selected l = 5 * l.left + 2
+
+abbrev pub decreases-armed : goal.decreases-armed
+decreases-armed l = 5 * l.left + 2
+
+abbrev pub decreases-declared : goal.decreases-declared
+decreases-declared l = 5 * l.left + 1
+
+abbrev pub decreases-declaration : goal.decreases-declaration
+decreases-declaration l = 5 * l.left + 2
+
+abbrev pub decreases-declarations : goal.decreases-declarations
+decreases-declarations l = 5 * l.left + 3
+
+abbrev pub decreases-process_inside : goal.decreases-process_inside
+decreases-process_inside l = 5 * l.left + 4
+
+abbrev pub decreases-choice_inside : goal.decreases-choice_inside
+decreases-choice_inside l = 5 * l.left + 4
+
+abbrev pub decreases-selection_inside : goal.decreases-selection_inside
+decreases-selection_inside l = 5 * l.left + 4
+
+abbrev pub decreases-arm_inside : goal.decreases-arm_inside
+decreases-arm_inside l = 5 * l.left + 4
+
+abbrev pub decreases-variant_inside : goal.decreases-variant_inside
+decreases-variant_inside l = 5 * l.left + 4
+
+abbrev pub invariant-processes-loop : goal.invariant-processes-loop
+invariant-processes-loop l = SoFar Row (Node process) (at_level l.level) (node_at 65 l.left l.level process) (map process_of l.all.items) (length l.lines) l.counter (rows l.rest) (as_many (at_level l.level) (node_at 65 l.left l.level process) (rows l.lines))
+
+abbrev pub invariant-choices-loop : goal.invariant-choices-loop
+invariant-choices-loop l = SoFar Row (Node choice) (at_level l.level) (node_at 65 l.left l.level choice) (map choice_of l.all.items) (length l.lines) l.counter (rows l.rest) (as_many (at_level l.level) (node_at 65 l.left l.level choice) (rows l.lines))
+
+abbrev pub invariant-selections-loop : goal.invariant-selections-loop
+invariant-selections-loop l = SoFar Row (Node option) (at_level l.level) (node_at 65 l.left l.level option) (map selection_of l.all.items) (length l.lines) l.counter (rows l.rest) (as_many (at_level l.level) (node_at 65 l.left l.level option) (rows l.lines))
+
+abbrev pub invariant-arms-loop : goal.invariant-arms-loop
+invariant-arms-loop l = SoFar Row (Node arm) (at_level l.level) (node_at 65 l.left l.level arm) (map arm_of l.all.items) (length l.lines) l.counter (rows l.rest) (as_many (at_level l.level) (node_at 65 l.left l.level arm) (rows l.lines))
+
+abbrev pub invariant-variants-loop : goal.invariant-variants-loop
+invariant-variants-loop l = SoFar Row (Node variant) (at_level l.level) (node_at 65 l.left l.level variant) (map variant_of l.all.items) (length l.lines) l.counter (rows l.rest) (as_many (at_level l.level) (node_at 65 l.left l.level variant) (rows l.lines))
+
+abbrev pub invariant-declarations-loop : goal.invariant-declarations-loop
+invariant-declarations-loop l = SoFar Row Decl (at_decl l.level) (decl_with 65 l.left l.level (node_at 65 l.left (l.level + 1) process)) (map decl_of l.all.items) (length l.lines) l.counter (rows l.rest) (as_many (at_decl l.level) (decl_with 65 l.left l.level (node_at 65 l.left (l.level + 1) process)) (rows l.lines))

@@ -1,0 +1,113 @@
+//! Protocols of variants.
+
+ghost use Rattle.std.specs.Prelude.{◌≡◌, ◌≤◌, ◌+◌, map};
+ghost use Rattle.occ_text.specs.Words.{rows};
+ghost use Rattle.occ_tree_grammar.specs.Many.{as_many};
+ghost use Rattle.occ_tree_grammar.specs.Expressions.Reading.{Gives};
+ghost use Rattle.occ_tree_grammar.specs.Lines.HeadViews.{tag_head_of};
+ghost use Rattle.occ_tree_grammar.specs.Processes.Views.{tag_of, protocol_of};
+ghost use Rattle.occ_tree_grammar.specs.Processes.Reading.{at_level, tag_with, tag_at, tags_with, tags_at};
+
+use crate::processes::line::{case_line, end_line, line_of, lines_at, too_deep};
+use occ_text::Line;
+use occ_tree_grammar::ParseFault;
+use occ_tree_grammar::tree::process::{Protocol, Tag};
+use occ_tree_lines::lines::read_decl::tag_head;
+use std::alloc::Global;
+
+fn tag_inside(
+    alloc: Global,
+    last: u32,
+    level: u32,
+    lines: &[Line],
+) -> Result<(Tag, &[Line]), ParseFault>
+    ensures { Gives (λ x. (tag_of x.0, rows x.1.now)) result (tag_with 65 level (rows lines.now)) }
+{
+    let (first, rest) = line_of(last, level, lines)?;
+    let line = first.number;
+    let head = tag_head(alloc, line, &first.words)?;
+    Ok((
+        Tag {
+            line,
+            name: head.tag,
+            parts: head.parts,
+        },
+        rest,
+    ))
+}
+
+/// A line of a protocol, with fewer than `left` levels.
+fn tag(
+    alloc: Global,
+    last: u32,
+    left: u32,
+    level: u32,
+    lines: &[Line],
+) -> Result<(Tag, &[Line]), ParseFault>
+    ensures { Gives (λ x. (tag_of x.0, rows x.1.now)) result (tag_at 65 left level (rows lines.now)) }
+{
+    if left == 0 {
+        return Err(too_deep(last, level, lines));
+    }
+    tag_inside(alloc, last, level, lines)
+}
+
+fn tag_list(
+    alloc: Global,
+    last: u32,
+    left: u32,
+    level: u32,
+    lines: &[Line],
+) -> Result<(Vec<Tag>, &[Line]), ParseFault>
+    ensures { Gives (λ x. (map tag_of x.0.items, rows x.1.now)) result (as_many (at_level level) (tag_at 65 left level) (rows lines.now)) }
+{
+    let mut all = Vec::new(alloc);
+    let mut rest = lines;
+    for _ in 0..lines.len() {
+        let Some(after) = lines_at(level, rest) else {
+            break;
+        };
+        let (next, after) = tag(alloc, last, left, level, after)?;
+        all.push(next)?;
+        rest = after;
+    }
+    Ok((all, rest))
+}
+
+fn tags_inside(
+    alloc: Global,
+    last: u32,
+    left: u32,
+    level: u32,
+    line: u32,
+    name: Vec<u8>,
+    lines: &[Line],
+) -> Result<(Protocol, &[Line]), ParseFault>
+    requires { level + left ≤ 64 }
+    ensures { Gives (λ x. (protocol_of x.0, rows x.1.now)) result (tags_with 65 left level line name.items (rows lines.now)) }
+{
+    let below = level + 1;
+    let (case, rest) = case_line(last, below, lines)?;
+    let (tags, rest) = tag_list(alloc, last, left, below + 1, rest)?;
+    let (end, rest) = end_line(last, level, rest)?;
+    Ok((Protocol::Tags(line, name, case, tags, end), rest))
+}
+
+/// What follows the first line of a protocol of variants. `left` levels may stand below it.
+pub fn tags(
+    alloc: Global,
+    last: u32,
+    left: u32,
+    level: u32,
+    line: u32,
+    name: Vec<u8>,
+    lines: &[Line],
+) -> Result<(Protocol, &[Line]), ParseFault>
+    requires { level + left ≤ 64 }
+    ensures { Gives (λ x. (protocol_of x.0, rows x.1.now)) result (tags_at 65 left level line name.items (rows lines.now)) }
+{
+    if left == 0 {
+        return Err(too_deep(last, level + 1, lines));
+    }
+    tags_inside(alloc, last, left - 1, level, line, name, lines)
+}

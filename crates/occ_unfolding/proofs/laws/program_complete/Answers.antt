@@ -1,5 +1,0 @@
-use Rattle.occ_unfolding.proofs.Complete as Complete
-use Rattle.occ_unfolding.proofs.laws.program_complete.Goals as goal
-
-pub returns : goal.returns
-returns c = λ items t m u. Complete.program_complete u

@@ -1,5 +1,0 @@
-use Rattle.occ_unfolding.proofs.Computed as Rows
-use Rattle.occ_unfolding.proofs.rows.gives_a_value_once.Goals as goal
-
-pub returns : goal.returns
-returns c = Rows.gives_a_value_once

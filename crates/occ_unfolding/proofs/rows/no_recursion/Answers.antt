@@ -1,5 +1,0 @@
-use Rattle.occ_unfolding.proofs.Computed as Rows
-use Rattle.occ_unfolding.proofs.rows.no_recursion.Goals as goal
-
-pub returns : goal.returns
-returns c = record { called = Rows.called; idle = Rows.not_called }
