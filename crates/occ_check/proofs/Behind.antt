@@ -16,7 +16,7 @@ use Rattle.occ_check_meaning.specs.Unfolding.{Procedures, meant}
 use Rattle.std.specs.Prelude.{IfOk, Result, Ok, Err}
 use Rattle.occ_check.specs.Progress.{IsFalling}
 use Rattle.occ_check.specs.Weights.{decls_size, node_size, statement_size, weight}
-use Rattle.occ_check.specs.declared.fault.CheckFault.{CheckFault}
+use Rattle.occ_check_names.specs.declared.fault.CheckFault.{CheckFault}
 use Rattle.occ_check.specs.declared.unfolder.Unfolder.{Unfolder}
 use Rattle.occ_check.specs.declared.unfolder.Step.{Step}
 use Rattle.occ_check.specs.declared.unfolder.Step.TheVariants as steps

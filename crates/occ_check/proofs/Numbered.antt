@@ -15,13 +15,13 @@ use Rattle.occ_check_meaning.specs.Recursion.{unfolded}
 use Rattle.occ_check_meaning.specs.Scope.{Scope, a_value, known, names_of, within}
 use Rattle.occ_check_meaning.specs.Unfolding.{Procedures, meant}
 use Rattle.occ_check.specs.Numbered.{copies_counted, copy_for, numbered_copy}
-use Rattle.occ_check.specs.View.{Refuses}
+use Rattle.occ_check_names.specs.View.{Refuses}
 use Rattle.occ_check.specs.Weights.{weight}
-use Rattle.occ_check.specs.declared.fault.CheckFault.{CheckFault}
+use Rattle.occ_check_names.specs.declared.fault.CheckFault.{CheckFault}
 use Rattle.occ_check.proofs.Beside.{all_branches, numbered_as, put_branch}
 use Rattle.occ_check.proofs.Listing.{before, one_more}
-use Rattle.occ_check.proofs.Refusals.{none_then, refused_with}
-use Rattle.occ_check.proofs.Refusing.{then_refused}
+use Rattle.occ_check_typing.proofs.Refusals.{none_then, refused_with}
+use Rattle.occ_check_typing.proofs.Refusing.{then_refused}
 
 -- ---- the list of copies
 

@@ -36,22 +36,22 @@ use Rattle.occ_check_meaning.specs.Unfolding.{found, meaning_of, meant, Procedur
 use Rattle.occ_check_meaning.proofs.Names.{found_means, meant_within, means_of, same_names}
 use Rattle.occ_check_meaning.proofs.Steps.{bind_some, some_is}
 use Rattle.occ_check.specs.Entering.{as_procedure, formals_bound, procedure_found, procedure_in}
-use Rattle.occ_check.specs.OpenedView.{opened_of, pair_of, pairs_of}
+use Rattle.occ_check_typing.specs.OpenedView.{opened_of, pair_of, pairs_of}
 use Rattle.occ_check.specs.Progress.{Enters, innermost_at, meant_innermost, weight_at}
-use Rattle.occ_check.specs.View.{Refuses, known_of, names_in, numbers_of, scope_in, scope_of}
-use Rattle.occ_check.specs.declared.fault.CheckFault.{CheckFault}
-use Rattle.occ_check.specs.declared.scope.Frame.{Frame}
-use Rattle.occ_check.specs.declared.scope.Position.{Position}
-use Rattle.occ_check.specs.declared.scope.Procedure.{Procedure as ProcedureCode}
-use Rattle.occ_check.specs.declared.scope.Scope.{Scope as ScopeCode}
+use Rattle.occ_check_names.specs.View.{Refuses, known_of, names_in, numbers_of, scope_in, scope_of}
+use Rattle.occ_check_names.specs.declared.fault.CheckFault.{CheckFault}
+use Rattle.occ_check_names.specs.declared.scope.Frame.{Frame}
+use Rattle.occ_check_names.specs.declared.scope.Position.{Position}
+use Rattle.occ_check_names.specs.declared.scope.Procedure.{Procedure as ProcedureCode}
+use Rattle.occ_check_names.specs.declared.scope.Scope.{Scope as ScopeCode}
 use Rattle.occ_check.specs.declared.unfolder.Call.{Call}
 use Rattle.occ_check.specs.declared.unfolder.Unfolder.{Unfolder}
-use Rattle.occ_check.specs.declared.declaration.Named.{Named}
-use Rattle.occ_check.specs.declared.declaration.Opened.{Opened as OpenedCode}
-use Rattle.occ_check.specs.declared.numbers.Numbers.{Numbers as NumbersCode}
-use Rattle.occ_check.specs.declared.fault.CheckFault.TheVariants.{Memory}
+use Rattle.occ_check_typing.specs.declared.declaration.Named.{Named}
+use Rattle.occ_check_typing.specs.declared.declaration.Opened.{Opened as OpenedCode}
+use Rattle.occ_check_names.specs.declared.numbers.Numbers.{Numbers as NumbersCode}
+use Rattle.occ_check_names.specs.declared.fault.CheckFault.TheVariants.{Memory}
 use Rattle.occ_check.specs.Weights.{decl_size, decls_size, item_size, node_size, weight}
-use Rattle.occ_check.proofs.Refusals.{then_then}
+use Rattle.occ_check_typing.proofs.Refusals.{then_then}
 use Rattle.occ_check.proofs.Weights.{lighter}
 
 -- ---- scopes of the code

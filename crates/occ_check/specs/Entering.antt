@@ -11,10 +11,10 @@ use Rattle.occ_check_meaning.specs.Numbers.{Numbers}
 use Rattle.occ_check_meaning.specs.Scope as S
 use Rattle.occ_check_meaning.specs.Unfolding as U
 use Rattle.occ_check_meaning.specs.Unfolding.{Procedures, procedure}
-use Rattle.occ_check.specs.View.{scope_in}
-use Rattle.occ_check.specs.declared.scope.Frame.{Frame}
-use Rattle.occ_check.specs.declared.scope.Position.{Position}
-use Rattle.occ_check.specs.declared.scope.Procedure.{Procedure}
+use Rattle.occ_check_names.specs.View.{scope_in}
+use Rattle.occ_check_names.specs.declared.scope.Frame.{Frame}
+use Rattle.occ_check_names.specs.declared.scope.Position.{Position}
+use Rattle.occ_check_names.specs.declared.scope.Procedure.{Procedure}
 
 abbrev pub procedure_of : Procedure → U.Procedure
 procedure_of p = procedure p.line (lines.formals_of p.formals.now) (process_of p.body.now)

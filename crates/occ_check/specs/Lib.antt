@@ -1,15 +1,8 @@
-pub mod View
-pub mod Measuring
 pub mod Progress
 pub mod Statements
 pub mod Weights
-pub mod OpenedView
-pub mod ActionView
-pub mod CallView
 pub mod Prefixes
 pub mod CheckRefuses
 pub mod ProgramView
 pub mod Entering
-pub mod Clashing
 pub mod Numbered
-pub mod Meeting

@@ -21,14 +21,14 @@ use Rattle.occ_check_meaning.specs.Unfolding.{Procedures, meant}
 use Rattle.occ_tree_grammar.specs.Many.{◌>>=◌}
 use Rattle.occ_check_meaning.specs.Actions as A
 use Rattle.occ_check_meaning.specs.Actions.{headed, opening}
-use Rattle.occ_check.specs.ActionView.{chosen_of}
-use Rattle.occ_check.specs.declared.action.Chosen.{Chosen}
-use Rattle.occ_check.specs.declared.numbers.Numbers.{Numbers}
+use Rattle.occ_check_acting.specs.ActionView.{chosen_of}
+use Rattle.occ_check_acting.specs.declared.action.Chosen.{Chosen}
+use Rattle.occ_check_names.specs.declared.numbers.Numbers.{Numbers}
 use Rattle.occ_check.specs.Weights.{decls_size, node_size, statement_size, weight}
 use Rattle.occ_check.specs.declared.unfolder.Call.{Call}
-use Rattle.occ_check.specs.View.{numbers_of, innermost, scope_in, Refuses}
-use Rattle.occ_check.specs.declared.fault.CheckFault.{CheckFault}
-use Rattle.occ_check.specs.declared.scope.Position.{Position}
+use Rattle.occ_check_names.specs.View.{numbers_of, innermost, scope_in, Refuses}
+use Rattle.occ_check_names.specs.declared.fault.CheckFault.{CheckFault}
+use Rattle.occ_check_names.specs.declared.scope.Position.{Position}
 use Rattle.occ_check.specs.declared.unfolder.Unfolder.{Unfolder}
 use Rattle.occ_check.specs.declared.unfolder.Step.{Step}
 use Rattle.occ_check.specs.declared.unfolder.Step.TheVariants as steps

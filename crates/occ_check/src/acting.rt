@@ -16,21 +16,21 @@ ghost use Rattle.occ_check_meaning.specs.Actions as meant;
 ghost use Rattle.occ_check_meaning.specs.Recursion.{all_declared};
 ghost use Rattle.occ_check_meaning.specs.Scope.{names_of};
 ghost use Rattle.occ_check_meaning.specs.Unfolding.{meant as with_meanings};
-ghost use Rattle.occ_check.specs.ActionView.{listed_of};
+ghost use Rattle.occ_check_acting.specs.ActionView.{listed_of};
 ghost use Rattle.occ_check.specs.Prefixes.{assigning, heading, outputting, receiving, tested};
-ghost use Rattle.occ_check.specs.View.{Counts, Unfolds, names_in, numbers_of, scope_in};
+ghost use Rattle.occ_check_names.specs.View.{Counts, Unfolds, names_in, numbers_of, scope_in};
 ghost use Rattle.occ_check.specs.Weights.{decls_size};
 ghost use Rattle.occ_check.specs.Progress.{EntersAt, counted, meant_at, weight_at};
 
-use crate::action::{Listed, as_input, assigned, output, received};
-use crate::expression::typed_as;
-use crate::fault::CheckFault;
+use occ_check_acting::action::{Listed, as_input, assigned, output, received};
+use occ_check_typing::expression::typed_as;
+use occ_check_names::fault::CheckFault;
 use crate::frames::Frames;
-use crate::measuring::{
+use occ_check_names::measuring::{
     count_assignment, count_expression, count_input, count_output, count_tagged_input,
 };
-use crate::numbers::Numbers;
-use crate::scope::{Position, Scope};
+use occ_check_names::numbers::Numbers;
+use occ_check_names::scope::{Position, Scope};
 use crate::unfolder::Unfolder;
 use occ_held::Held;
 use occ_term::{Declaration, Place, Primitive, Term, TermExpr};

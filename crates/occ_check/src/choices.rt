@@ -11,12 +11,12 @@ ghost use Rattle.occ_term.specs.View.{choice_of, choices_of, declarations_of, te
 ghost use Rattle.occ_check_meaning.specs.Actions as meant;
 ghost use Rattle.occ_check_meaning.specs.Performing.{conditioned, each_of_choices};
 ghost use Rattle.occ_check_meaning.specs.Recursion.{all_choices, choice_unfolded};
-ghost use Rattle.occ_check.specs.View.{Unfolds};
+ghost use Rattle.occ_check_names.specs.View.{Unfolds};
 ghost use Rattle.occ_check.specs.Statements.{choosing, declarations_of_choice};
 ghost use Rattle.occ_check.specs.Progress.{counted, meant_at};
 
-use crate::fault::CheckFault;
-use crate::scope::Position;
+use occ_check_names::fault::CheckFault;
+use occ_check_names::scope::Position;
 use crate::unfolder::Unfolder;
 use occ_held::Held;
 use occ_term::{Choice as TermChoice, Declaration, Term};

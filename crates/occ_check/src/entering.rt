@@ -13,20 +13,20 @@ ghost use Rattle.occ_check_meaning.specs.Scope.{names_of, within};
 ghost use Rattle.occ_check_meaning.specs.Recursion.{all_declared, declared, item_declared};
 ghost use Rattle.occ_check_meaning.specs.Unfolding.{meaning_of};
 ghost use Rattle.occ_check.specs.Entering.{formals_bound, procedure_found, procedure_in, procedure_of};
-ghost use Rattle.occ_check.specs.OpenedView.{Opens, pairs_of};
+ghost use Rattle.occ_check_typing.specs.OpenedView.{Opens, pairs_of};
 ghost use Rattle.occ_check.specs.Weights.{decl_size, decls_size, item_size, node_size, weight};
-ghost use Rattle.occ_check.specs.View.{Gives, Unfolds, innermost, names_in, numbers_of, scope_in, scope_of};
+ghost use Rattle.occ_check_names.specs.View.{Gives, Unfolds, innermost, names_in, numbers_of, scope_in, scope_of};
 ghost use Rattle.occ_check.specs.Progress.{Calls, Enters, Indexes, counted, innermost_at, meant_at, meant_innermost, weight_at};
-ghost use Rattle.occ_check.specs.declared.fault.CheckFault.TheVariants.{Memory};
+ghost use Rattle.occ_check_names.specs.declared.fault.CheckFault.TheVariants.{Memory};
 
-use crate::call::{bound, formals_of};
-use crate::declaration::{
+use occ_check_acting::call::{bound, formals_of};
+use occ_check_typing::declaration::{
     Indexed, Named, Opened, index_replicator, names_declared, protocol_declared, value_declared,
 };
-use crate::fault::{CheckFault, unknown};
+use occ_check_names::fault::{CheckFault, unknown};
 use crate::frames::Frames;
-use crate::numbers::Numbers;
-use crate::scope::{Binding, Found, Position, Procedure, Scope};
+use occ_check_names::numbers::Numbers;
+use occ_check_names::scope::{Binding, Found, Position, Procedure, Scope};
 use crate::unfolder::{Call, Unfolder};
 use occ_held::Held;
 use occ_term::{Declaration, Replicator, Term};

@@ -1,12 +1,12 @@
 //! The frames of the scopes that are open while a program is unfolded.
 
 ghost use Rattle.std.specs.Prelude.{◌≡◌, ◌+◌, ◌<◌, ◌≤◌, ◌++◌, ◌∷◌, [], ℕ, IfErr, IfOk, OnOk, length, reverse, take};
-ghost use Rattle.occ_check.specs.declared.fault.CheckFault.TheVariants.{Memory};
-ghost use Rattle.occ_check.specs.View.{binding_of, innermost, scope_in};
+ghost use Rattle.occ_check_names.specs.declared.fault.CheckFault.TheVariants.{Memory};
+ghost use Rattle.occ_check_names.specs.View.{binding_of, innermost, scope_in};
 
-use crate::fault::CheckFault;
-use crate::known::Known;
-use crate::scope::{Binding, Frame, Position, Scope};
+use occ_check_names::fault::CheckFault;
+use occ_check_names::known::Known;
+use occ_check_names::scope::{Binding, Frame, Position, Scope};
 use occ_held::Held;
 use std::alloc::Global;
 

@@ -1,8 +1,8 @@
 //! What is kept while a program is unfolded.
 
 use crate::frames::Frames;
-use crate::numbers::Numbers;
-use crate::scope::Position;
+use occ_check_names::numbers::Numbers;
+use occ_check_names::scope::Position;
 use occ_term::{Declaration, Term};
 use occ_tree_grammar::tree::process::Process;
 use sqlite_items::Items;

@@ -4,7 +4,7 @@ use Rattle.occ_term.specs.Terms as terms
 use Rattle.occ_term.specs.View.{items_of, place_of, term_of}
 use Rattle.occ_term.specs.declared.term.Term.{the_lemmas}
 use Rattle.occ_check_meaning.specs.Numbers.{room}
-use Rattle.occ_check.specs.View.{Counts, numbers_of}
+use Rattle.occ_check_names.specs.View.{Counts, numbers_of}
 use Rattle.occ_check.proofs.acting.count_line.Goals as goal
 
 pub returns-in-Output : goal.returns-in-Output

@@ -1,8 +1,8 @@
 use Rattle.std.proofs.Common.{rules, ◌≡◌, ◌+◌, ◌++◌, ◌∷◌, ◌∙◌, [], ap, refl, subst, sym, length, reverse, ℕ, List}
 use Rattle.occ_check_meaning.specs.Unfolding.{Procedures}
-use Rattle.occ_check.specs.View.{binding_of, innermost, pairs_before}
-use Rattle.occ_check.specs.declared.scope.Frame.{Frame}
-use Rattle.occ_check.proofs.Looking.{declared_outside, declared_within}
+use Rattle.occ_check_names.specs.View.{binding_of, innermost, pairs_before}
+use Rattle.occ_check_names.specs.declared.scope.Frame.{Frame}
+use Rattle.occ_check_names.proofs.Looking.{declared_outside, declared_within}
 use Rattle.occ_check.proofs.frames.Frames.declare.Goals as goal
 
 pub returns-then-has-clause-scope : goal.returns-then-has-clause-scope

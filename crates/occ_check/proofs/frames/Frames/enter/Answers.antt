@@ -1,6 +1,6 @@
 use Rattle.std.proofs.Common.{rules, ◌≡◌, ◌∙◌, ◌∷◌, [], reverse, arith}
 use Rattle.occ_check_meaning.specs.Scope.{known}
-use Rattle.occ_check.specs.View.{innermost, known_of}
+use Rattle.occ_check_names.specs.View.{innermost, known_of}
 use Rattle.occ_check.proofs.Scoping.{next_name, no_name}
 use Rattle.occ_check.proofs.frames.Frames.enter.Goals as goal
 

@@ -1,7 +1,7 @@
 use Rattle.std.proofs.Common.{ℕ, ◌≡◌, ◌<◌, ◌≤◌, length, reverse, take}
 use Rattle.occ_check_meaning.specs.Scope.{within}
-use Rattle.occ_check.specs.OpenedView.{pairs_of}
-use Rattle.occ_check.specs.View.{innermost}
+use Rattle.occ_check_typing.specs.OpenedView.{pairs_of}
+use Rattle.occ_check_names.specs.View.{innermost}
 use Rattle.occ_check.proofs.frames.Frames.enter.Given as goal
 
 abbrev pub invariant-names : goal.invariant-names

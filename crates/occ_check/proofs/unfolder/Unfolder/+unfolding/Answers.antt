@@ -9,7 +9,7 @@ use Rattle.occ_term.specs.View.{arms_of, branch_of, branches_of, choices_of, dec
 use Rattle.occ_check_meaning.specs.Actions.{as_reception, depth_behind, new_tag, none_chosen, opening}
 use Rattle.occ_tree_grammar.specs.Lines.Views as lines
 use Rattle.occ_check.proofs.Tags.{no_more_variants, no_tag, variant_done, variant_form, variant_refused, variant_size, variants_grown, variants_none, variants_step}
-use Rattle.occ_check.specs.ActionView.{chosen_of, listed_of}
+use Rattle.occ_check_acting.specs.ActionView.{chosen_of, listed_of}
 use Rattle.occ_check.specs.Prefixes.{guarding, guarding_variants}
 use Rattle.occ_check_meaning.specs.Scope.{names_of}
 use Rattle.occ_check.proofs.Gathering.{gathered_first, gathered_last, gathered_next, gathered_refused, part_within}
@@ -32,11 +32,11 @@ use Rattle.occ_tree_grammar.specs.Expressions.Trees.{expression_of as tree_of}
 use Rattle.occ_check_meaning.specs.Performing as performs
 use Rattle.occ_check.specs.Statements.{declarations_of_arm, declarations_of_choice, listening, performing}
 use Rattle.occ_check_meaning.specs.Unfolding.{meant}
-use Rattle.occ_check.specs.View.{Refuses, Unfolds, numbers_of, innermost, scope_in}
+use Rattle.occ_check_names.specs.View.{Refuses, Unfolds, numbers_of, innermost, scope_in}
 use Rattle.occ_check.specs.Progress.{IsFalling, Selects, Steps, counted, innermost_at, meant_at, scope_at, weight_at}
 use Rattle.occ_check.specs.Weights.{arm_size, choice_size, decls_size, node_size, nodes_size, statement_size, weight}
 use Rattle.occ_check.proofs.Behind.{smaller, falls_further, heads_refused, no_heads, opening_refused, statement_refused, statement_done}
-use Rattle.occ_check.proofs.Refusals.{refused_with}
+use Rattle.occ_check_typing.proofs.Refusals.{refused_with}
 use Rattle.occ_check_meaning.specs.Performing.{copied}
 use Rattle.occ_check.specs.Numbered.{copy_for, numbered_copy}
 use Rattle.occ_check_meaning.specs.Declarations.{index_of}

@@ -4,7 +4,7 @@ use Rattle.occ_tree_grammar.specs.Processes.Trees.{decls, nodes}
 use Rattle.occ_tree_grammar.specs.Processes.Views.{arm_of, choice_of, decl_of, process_of, selection_of, variant_of}
 use Rattle.occ_term.specs.View.{arms_of, choices_of, options_of, term_of, variants_of}
 use Rattle.occ_check_meaning.specs.Actions.{none_chosen}
-use Rattle.occ_check.specs.ActionView.{chosen_of}
+use Rattle.occ_check_acting.specs.ActionView.{chosen_of}
 use Rattle.occ_check_meaning.specs.Recursion.{unfolded, all_in_turn}
 use Rattle.occ_check.specs.Weights.{arm_size, choice_size, decls_size, node_size, nodes_size, statement_size}
 use Rattle.occ_check.specs.Progress.{counted, meant_at, weight_at}

@@ -5,11 +5,11 @@ use Rattle.occ_term.specs.View.{declarations_of}
 use Rattle.occ_check_meaning.specs.Scope.{names_of}
 use Rattle.occ_check_meaning.specs.Unfolding.{meaning_of}
 use Rattle.occ_check.specs.Entering.{procedure_of}
-use Rattle.occ_check.specs.OpenedView.{pairs_of}
+use Rattle.occ_check_typing.specs.OpenedView.{pairs_of}
 use Rattle.occ_check.specs.Progress.{counted, meant_at, scope_at}
-use Rattle.occ_check.specs.View.{Refuses, names_in, numbers_of, scope_in}
+use Rattle.occ_check_names.specs.View.{Refuses, names_in, numbers_of, scope_in}
 use Rattle.occ_check.specs.Weights.{weight}
-use Rattle.occ_check.proofs.Refusals.{refused_with}
+use Rattle.occ_check_typing.proofs.Refusals.{refused_with}
 use Rattle.occ_check.proofs.Scoping.{call_bound, call_refused, names_are, scope_is}
 use Rattle.occ_check.proofs.Weights.{same_weight}
 use Rattle.occ_check.proofs.unfolder.Unfolder.called.Goals as goal

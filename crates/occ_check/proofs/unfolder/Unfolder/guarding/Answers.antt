@@ -2,9 +2,9 @@ use Rattle.std.proofs.Common.{option_map, subst}
 use Rattle.occ_tree_grammar.specs.Expressions.Trees.{expression_of as tree_of}
 use Rattle.occ_tree_grammar.specs.Lines.Views.{input_of}
 use Rattle.occ_term.specs.View.{expression_of, place_of}
-use Rattle.occ_check.specs.ActionView.{listed_of}
+use Rattle.occ_check_acting.specs.ActionView.{listed_of}
 use Rattle.occ_check.specs.Prefixes.{guarding}
-use Rattle.occ_check.specs.View.{Unfolds, numbers_of}
+use Rattle.occ_check_names.specs.View.{Unfolds, numbers_of}
 use Rattle.occ_check.proofs.unfolder.Unfolder.guarding.Goals as goal
 
 pub returns-clause-guard : goal.returns-clause-guard

@@ -3,7 +3,7 @@ use Rattle.occ_tree_grammar.specs.Expressions.Trees.{expression_of as tree_of}
 use Rattle.occ_tree_grammar.specs.Lines.Views.{var_of}
 use Rattle.occ_term.specs.View.{expression_of, place_of}
 use Rattle.occ_check.specs.Prefixes.{guarding_variants}
-use Rattle.occ_check.specs.View.{Unfolds, numbers_of}
+use Rattle.occ_check_names.specs.View.{Unfolds, numbers_of}
 use Rattle.occ_check.proofs.unfolder.Unfolder.guarding_variants.Goals as goal
 
 pub returns-clause-guard : goal.returns-clause-guard

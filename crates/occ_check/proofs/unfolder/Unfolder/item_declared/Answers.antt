@@ -10,8 +10,8 @@ use Rattle.occ_check_meaning.specs.Scope.{proc}
 use Rattle.occ_check_meaning.specs.Unfolding.{procedure}
 use Rattle.occ_check_meaning.specs.Unfolding as unfoldings
 use Rattle.occ_check.specs.Progress.{Enters, counted, innermost_at, meant_innermost}
-use Rattle.occ_check.specs.View.{Refuses, innermost, names_in}
-use Rattle.occ_check.proofs.Refusals.{refused_with}
+use Rattle.occ_check_names.specs.View.{Refuses, innermost, names_in}
+use Rattle.occ_check_typing.proofs.Refusals.{refused_with}
 use Rattle.occ_check.proofs.Scoping.{enters_names, names_are, names_refused, proc_form, proc_within, protocol_form, value_form}
 use Rattle.occ_check.proofs.unfolder.Unfolder.item_declared.Goals as goal
 

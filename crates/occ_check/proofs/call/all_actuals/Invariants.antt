@@ -1,6 +1,0 @@
-use Rattle.occ_check.specs.View.{names_in}
-use Rattle.occ_check.proofs.Binding.{Binds}
-use Rattle.occ_check.proofs.call.all_actuals.Given as goal
-
-abbrev pub invariant-loop-formal : goal.invariant-loop-formal
-invariant-loop-formal l = Binds (names_in l.scope) l.line l.depth l.formals l.actuals l.formal-index l.initial.numbers l.opened l.others l.numbers

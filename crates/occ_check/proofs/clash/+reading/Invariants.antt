@@ -1,9 +1,0 @@
-use Rattle.std.proofs.Common.{◌≡◌, drop, map}
-use Rattle.occ_term.specs.View.{expression_of, subscripts}
-use Rattle.occ_check.specs.CallView.{span_of}
-use Rattle.occ_check.specs.Clashing.{any_in_subscripts}
-use Rattle.occ_check.proofs.clash.+reading.Given as goal
-
-abbrev pub invariant-some_reads-loop-subscript : goal.invariant-some_reads-loop-subscript
-invariant-some_reads-loop-subscript l =
-    any_in_subscripts (subscripts (map expression_of (drop l.subscript-index l.list))) (span_of l.cells) ≡ any_in_subscripts (subscripts (map expression_of l.list)) (span_of l.cells)

@@ -1,0 +1,9 @@
+pub mod Evaluating
+pub mod Among
+pub mod Choosing
+pub mod Binding
+pub mod Storing
+pub mod Receiving
+pub mod ReadCells
+pub mod Assigning
+pub mod Fixing

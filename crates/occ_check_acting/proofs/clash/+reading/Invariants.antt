@@ -1,0 +1,9 @@
+use Rattle.std.proofs.Common.{◌≡◌, drop, map}
+use Rattle.occ_term.specs.View.{expression_of, subscripts}
+use Rattle.occ_check_typing.specs.Spans.{span_of}
+use Rattle.occ_check_acting.specs.Clashing.{any_in_subscripts}
+use Rattle.occ_check_acting.proofs.clash.+reading.Given as goal
+
+abbrev pub invariant-some_reads-loop-subscript : goal.invariant-some_reads-loop-subscript
+invariant-some_reads-loop-subscript l =
+    any_in_subscripts (subscripts (map expression_of (drop l.subscript-index l.list))) (span_of l.cells) ≡ any_in_subscripts (subscripts (map expression_of l.list)) (span_of l.cells)

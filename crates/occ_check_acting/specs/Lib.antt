@@ -1,0 +1,3 @@
+pub mod ActionView
+pub mod CallView
+pub mod Clashing

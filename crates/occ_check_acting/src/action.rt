@@ -1,0 +1,469 @@
+//! Processes that stand in one line, and the parts of the others that declare nothing.
+
+ghost use Rattle.std.specs.Prelude.{◌≡◌, ◌∷◌, [], IfOk, map, option_map};
+ghost use Rattle.occ_tree_grammar.specs.Expressions.Trees as trees;
+ghost use Rattle.occ_tree_grammar.specs.Lines.Views as lines;
+ghost use Rattle.occ_term.specs.Terms.{no_variants, or_variant};
+ghost use Rattle.occ_term.specs.View as terms;
+ghost use Rattle.occ_check_meaning.specs.Actions as meant;
+ghost use Rattle.occ_check_meaning.specs.Items as items;
+ghost use Rattle.occ_check_meaning.specs.Scope.{each_of};
+ghost use Rattle.occ_check_acting.specs.ActionView.{Chooses, chosen_of, listed_of, side_assigned, side_of};
+ghost use Rattle.occ_check_typing.specs.Zipped.{zipped};
+ghost use Rattle.occ_check_names.specs.View.{Gives, names_in, part_of, typed_of};
+
+use occ_check_typing::expression::{as_single, typed, typed_as};
+use occ_check_names::fault::CheckFault;
+use occ_check_typing::item::{channel_of, parts_after, sent, tag_in, variable_of};
+use occ_check_names::operators::{is_number, is_same_type};
+use occ_check_names::scope::Scope;
+use crate::target::{apart, placed, stored, stored_list};
+use occ_check_names::typed::{Part, Typed};
+use occ_check_typing::types::are_same_sizes;
+use indexmap::IndexSet;
+use occ_held::Held;
+use occ_term::{Item, Place, Primitive, Protocol, Reception, Target, Term, TermExpr, Variant};
+use occ_tree_grammar::tree::expr::Expr;
+use occ_tree_grammar::tree::line::{Input, OneOrMore, Out, Var};
+use sqlite_items::Items;
+use std::alloc::{AllocError, Global};
+
+/// What an input stores.
+#[derive(Drop)]
+pub enum Listed {
+    /// A list of targets.
+    Plain(Items<Target>),
+    /// The number of a tag, and the targets of what follows it.
+    Tagged(u32, Items<Target>),
+}
+
+/// The constants that stand in the options of a CASE so far, and whether ELSE does.
+#[derive(Drop)]
+pub struct Chosen {
+    /// The constants, in order.
+    pub constants: IndexSet<i64>,
+    /// Whether ELSE stands there.
+    pub has_else: bool,
+}
+
+/// An assignment.
+///
+/// # Errors
+///
+/// As `typed` and `variable_of`, `WrongType` for sides of different types or numbers, `ListTarget` for two targets that
+/// clash, and `Memory`.
+pub fn assigned(
+    alloc: Global,
+    scope: Scope<'_, '_>,
+    line: u32,
+    variables: &OneOrMore<Var>,
+    values: &OneOrMore<Expr>,
+) -> Result<Term, CheckFault>
+    ensures { Gives terms.term_of result (meant.assigned (names_in scope.entry) line (lines.var_of variables.now.first ∷ map lines.var_of variables.now.others.items) (trees.expression_of values.now.first ∷ map trees.expression_of values.now.others.items)) }
+{
+    let variables = all_variables(alloc, scope, line, variables)?;
+    let items = all_sides(alloc, scope, line, &variables, values)?;
+    let targets = targets_of(alloc, line, variables)?;
+    apart(alloc, line, targets.as_slice())?;
+    Ok(Term::Assign(targets, items))
+}
+
+/// The left side, where there is one variable at least.
+#[tactic(auto, unfolding(occ_check_meaning::specs::Scope::each_of))]
+fn all_variables(
+    alloc: Global,
+    scope: Scope<'_, '_>,
+    line: u32,
+    variables: &OneOrMore<Var>,
+) -> Result<Vec<(Primitive, Part)>, CheckFault>
+    ensures { Gives (λ xs. map side_of xs.items) result (each_of (items.variable_of (names_in scope.entry) line) (lines.var_of variables.now.first ∷ map lines.var_of variables.now.others.items)) }
+{
+    let mut all = Vec::new(alloc);
+    all.push(variable_of(alloc, scope, line, &variables.first)?)?;
+    let mut others = each_variable(alloc, scope, line, &variables.others)?;
+    all.append(&mut others)?;
+    Ok(all)
+}
+
+fn each_variable(
+    alloc: Global,
+    scope: Scope<'_, '_>,
+    line: u32,
+    variables: &[Var],
+) -> Result<Vec<(Primitive, Part)>, CheckFault>
+    ensures { Gives (λ xs. map side_of xs.items) result (each_of (items.variable_of (names_in scope.entry) line) (map lines.var_of variables.now)) }
+{
+    let mut all = Vec::new(alloc);
+    for variable in variables {
+        let one = match variable_of(alloc, scope, line, variable) {
+            Ok(one) => one,
+            Err(e) => return Err(e),
+        };
+        all.push(one)?;
+    }
+    Ok(all)
+}
+
+/// As many values as variables, where there is one value at least.
+#[tactic(auto, unfolding(occ_check_typing::specs::Zipped::zipped))]
+fn all_sides(
+    alloc: Global,
+    scope: Scope<'_, '_>,
+    line: u32,
+    variables: &[(Primitive, Part)],
+    values: &OneOrMore<Expr>,
+) -> Result<Items<Item>, CheckFault>
+    ensures { Gives terms.items_of result (zipped (side_assigned (names_in scope.entry) line) variables.now (trees.expression_of values.now.first ∷ map trees.expression_of values.now.others.items)) }
+{
+    match variables.split_first() {
+        None => Err(CheckFault::WrongType { line }),
+        Some((variable, rest)) => {
+            let mut all = Items::new(alloc);
+            all.push(one_side(alloc, scope, line, variable, &values.first)?)?;
+            all.append(each_side(alloc, scope, line, rest, &values.others)?)?;
+            Ok(all)
+        }
+    }
+}
+
+/// As many values as variables.
+fn each_side(
+    alloc: Global,
+    scope: Scope<'_, '_>,
+    line: u32,
+    variables: &[(Primitive, Part)],
+    values: &[Expr],
+) -> Result<Items<Item>, CheckFault>
+    ensures { Gives terms.items_of result (zipped (side_assigned (names_in scope.entry) line) variables.now (map trees.expression_of values.now)) }
+{
+    let mut made = Items::new(alloc);
+    let mut left = values;
+    for variable in variables {
+        let Some((value, others)) = left.split_first() else {
+            return Err(CheckFault::WrongType { line });
+        };
+        let item = match one_side(alloc, scope, line, variable, value) {
+            Ok(item) => item,
+            Err(e) => return Err(e),
+        };
+        made.push(item)?;
+        left = others;
+    }
+    match left.split_first() {
+        None => Ok(made),
+        Some(_) => Err(CheckFault::WrongType { line }),
+    }
+}
+
+/// A value for a variable.
+fn one_side(
+    alloc: Global,
+    scope: Scope<'_, '_>,
+    line: u32,
+    variable: &(Primitive, Part),
+    value: &Expr,
+) -> Result<Item, CheckFault>
+    ensures { Gives terms.item_of result (side_assigned (names_in scope.entry) line variable.now (trees.expression_of value.now)) }
+{
+    let value = typed(alloc, scope, line, value)?;
+    assigned_item(line, variable.0, &variable.1, value)
+}
+
+/// The variables as targets.
+fn targets_of(
+    alloc: Global,
+    line: u32,
+    variables: Vec<(Primitive, Part)>,
+) -> Result<Items<Target>, AllocError>
+    ensures { IfOk result (λ ts. terms.targets_of ts ≡ map (items.as_target line) (map side_of variables.items)) }
+{
+    let mut targets = Items::new(alloc);
+    for (_, part) in variables {
+        targets.push(Target::Into(placed(line, part)))?;
+    }
+    Ok(targets)
+}
+
+/// A value of the type and the sizes of the variable that takes it.
+fn assigned_item(
+    line: u32,
+    primitive: Primitive,
+    variable: &Part,
+    value: Typed,
+) -> Result<Item, CheckFault>
+    ensures { Gives terms.item_of result (items.assigned_item (primitive, part_of variable.now) (typed_of value)) }
+{
+    let left = variable.left.as_slice();
+    match value {
+        Typed::Single(own, e) => {
+            if is_same_type(own, primitive) && are_same_sizes(left, &[]) {
+                Ok(Item::One(own, e))
+            } else {
+                Err(CheckFault::WrongType { line })
+            }
+        }
+        Typed::Whole(own, sizes, array) => {
+            if is_same_type(own, primitive) && are_same_sizes(left, sizes.as_slice()) {
+                Ok(Item::Many(own, array))
+            } else {
+                Err(CheckFault::WrongType { line })
+            }
+        }
+    }
+}
+
+/// An output.
+///
+/// # Errors
+///
+/// As `channel_of` and `sent`.
+pub fn output(
+    alloc: Global,
+    scope: Scope<'_, '_>,
+    line: u32,
+    channel: &Var,
+    outs: &OneOrMore<Out>,
+) -> Result<Term, CheckFault>
+    ensures { Gives terms.term_of result (meant.output (names_in scope.entry) line (lines.var_of channel.now) (lines.out_of outs.now.first) (map lines.out_of outs.now.others.items)) }
+{
+    let (protocol, channel) = channel_of(alloc, scope, line, channel)?;
+    let (tag, items) = sent(alloc, scope, line, protocol, outs)?;
+    Ok(Term::Output(channel, tag, items))
+}
+
+/// The channel of an input, and what is stored.
+///
+/// # Errors
+///
+/// As `channel_of` and `stored`, `Protocol` for a message that the channel does not carry, and `Tag` for a tag that
+/// its protocol has not.
+pub fn received(
+    alloc: Global,
+    scope: Scope<'_, '_>,
+    line: u32,
+    input: &Input,
+) -> Result<(Place, Listed), CheckFault>
+    ensures { Gives (λ x. (terms.place_of x.0, listed_of x.1)) result (meant.received (names_in scope.entry) line (lines.input_of input.now)) }
+{
+    match input {
+        Input::Items(channel, targets) => {
+            let (protocol, channel) = channel_of(alloc, scope, line, channel)?;
+            let channel = Held::new(channel);
+            let parts = parts_after(alloc, line, protocol, None)?;
+            match stored_list(alloc, scope, line, parts.as_slice(), targets) {
+                Ok(targets) => Ok((channel.into_inner(), Listed::Plain(targets))),
+                Err(e) => Err(e),
+            }
+        }
+        Input::Tagged(channel, name, targets) => {
+            let (protocol, channel) = channel_of(alloc, scope, line, channel)?;
+            let channel = Held::new(channel);
+            let tag = tag_in(line, protocol, name)?;
+            let parts = parts_after(alloc, line, protocol, Some(tag))?;
+            match stored(alloc, scope, line, parts.as_slice(), targets) {
+                Ok(targets) => Ok((channel.into_inner(), Listed::Tagged(tag, targets))),
+                Err(e) => Err(e),
+            }
+        }
+    }
+}
+
+/// The Boolean of a guard. None is TRUE.
+///
+/// # Errors
+///
+/// As `typed_as` of a BOOL.
+pub fn test_of(
+    alloc: Global,
+    scope: Scope<'_, '_>,
+    line: u32,
+    test: &Option<Expr>,
+) -> Result<TermExpr, CheckFault>
+    ensures { Gives terms.expression_of result (meant.test_of (names_in scope.entry) line (option_map trees.expression_of test.now)) }
+{
+    match test {
+        None => Ok(TermExpr::Constant(1)),
+        Some(e) => typed_as(alloc, scope, line, Primitive::Bool, e),
+    }
+}
+
+/// The value that a CASE selects by, with its type.
+///
+/// # Errors
+///
+/// As `typed`, and `WrongType` for an array and for a BOOL.
+pub fn selector(
+    alloc: Global,
+    scope: Scope<'_, '_>,
+    line: u32,
+    e: &Expr,
+) -> Result<(Primitive, TermExpr), CheckFault>
+    ensures { Gives (λ x. (x.0, terms.expression_of x.1)) result (meant.selector (names_in scope.entry) line (trees.expression_of e.now)) }
+{
+    let (primitive, e) = as_single(line, typed(alloc, scope, line, e)?)?;
+    if is_number(primitive) {
+        Ok((primitive, e))
+    } else {
+        Err(CheckFault::WrongType { line })
+    }
+}
+
+/// A protocol with tags.
+///
+/// # Errors
+///
+/// `Protocol` for any other.
+pub fn with_tags(line: u32, protocol: &Protocol) -> Result<&Protocol, CheckFault>
+    ensures { Gives (λ p. p.now) result (meant.with_tags protocol.now) }
+{
+    match protocol {
+        Protocol::Variant(_) => Ok(protocol),
+        Protocol::Simple(_, _) => Err(CheckFault::Protocol { line }),
+        Protocol::CountedArray(_, _) => Err(CheckFault::Protocol { line }),
+        Protocol::Sequential(_) => Err(CheckFault::Protocol { line }),
+    }
+}
+
+/// The number of a tag that was not listed before.
+///
+/// # Errors
+///
+/// As `tag_in`, and `Tag` for one that was.
+pub fn new_tag(
+    line: u32,
+    protocol: &Protocol,
+    name: &[u8],
+    before: &[u32],
+) -> Result<u32, CheckFault>
+    ensures { Gives (λ k. k) result (meant.new_tag protocol.now name.now before.now) }
+{
+    let tag = tag_in(line, protocol, name)?;
+    if has_number(tag, before) {
+        Err(CheckFault::Tag { line })
+    } else {
+        Ok(tag)
+    }
+}
+
+/// Whether a number stands in a list.
+fn has_number(number: u32, list: &[u32]) -> bool
+    ensures { result ≡ meant.has_number number list.now }
+{
+    for other in list {
+        if number == *other {
+            return true;
+        }
+    }
+    false
+}
+
+/// Constants of one option more.
+///
+/// # Errors
+///
+/// `Twice` for one that stands there already, and `Memory`. After an error nothing is known of what is chosen.
+#[tactic(auto, unfolding(occ_check_meaning::specs::Actions::choosing))]
+pub fn choosing(
+    alloc: Global,
+    line: u32,
+    constants: &[i64],
+    chosen: &mut Chosen,
+) -> Result<(), CheckFault>
+    ensures { Chooses result chosen.new (meant.choosing constants.now (chosen_of chosen.old)) }
+{
+    for constant in constants {
+        if let Err(e) = choosing_one(alloc, line, constant, chosen) {
+            return Err(e);
+        }
+    }
+    Ok(())
+}
+
+/// One constant more.
+fn choosing_one(
+    alloc: Global,
+    line: u32,
+    constant: &i64,
+    chosen: &mut Chosen,
+) -> Result<(), CheckFault>
+    ensures { Chooses result chosen.new (meant.choosing (constant.now ∷ []) (chosen_of chosen.old)) }
+{
+    let added = chosen.constants.insert(*constant)?;
+    if !added {
+        return Err(constant_twice(alloc, line, *constant));
+    }
+    Ok(())
+}
+
+/// The fault of a constant that stands twice.
+fn constant_twice(alloc: Global, line: u32, constant: i64) -> CheckFault {
+    match constant.to_string(alloc) {
+        Ok(name) => CheckFault::Twice { line, name },
+        Err(_) => CheckFault::Memory,
+    }
+}
+
+/// ELSE.
+///
+/// # Errors
+///
+/// `WrongKind` for a second one.
+pub fn choosing_else(line: u32, chosen: &mut Chosen) -> Result<(), CheckFault>
+    ensures { Chooses result chosen.new (meant.choosing_else (chosen_of chosen.old)) }
+{
+    if chosen.has_else {
+        return Err(CheckFault::WrongKind { line });
+    }
+    chosen.has_else = true;
+    Ok(())
+}
+
+/// The list of an arm, and the process behind it.
+pub fn as_reception(
+    alloc: Global,
+    listed: Listed,
+    body: Term,
+) -> Result<Reception, AllocError>
+    ensures { IfOk result (λ r. terms.reception_of r ≡ meant.as_reception (listed_of listed) (terms.term_of body)) }
+{
+    match listed {
+        Listed::Plain(targets) => Ok(Reception::Plain(targets, body)),
+        Listed::Tagged(tag, targets) => {
+            let variants = only_variant(alloc, tag, targets, body)?;
+            Ok(Reception::Tagged(variants))
+        }
+    }
+}
+
+/// An input.
+pub fn as_input(alloc: Global, channel: Place, listed: Listed) -> Result<Term, AllocError>
+    ensures { IfOk result (λ t. terms.term_of t ≡ meant.as_input (terms.place_of channel, listed_of listed)) }
+{
+    match listed {
+        Listed::Plain(targets) => Ok(Term::Input(channel, targets)),
+        Listed::Tagged(tag, targets) => {
+            let variants = only_variant(alloc, tag, targets, Term::Skip)?;
+            Ok(Term::VariantInput(channel, variants))
+        }
+    }
+}
+
+/// A variant alone, without declarations.
+fn only_variant(
+    alloc: Global,
+    tag: u32,
+    targets: Items<Target>,
+    body: Term,
+) -> Result<Items<Variant>, AllocError>
+    ensures { IfOk result (λ vs. terms.variants_of vs ≡ or_variant tag [] (terms.targets_of targets) (terms.term_of body) no_variants) }
+{
+    let variant = Variant {
+        tag,
+        declarations: Items::new(alloc),
+        targets,
+        body,
+    };
+    let mut variants = Items::new(alloc);
+    variants.push(variant)?;
+    Ok(variants)
+}

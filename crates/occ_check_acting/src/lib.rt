@@ -1,0 +1,7 @@
+//! What calls, assignments, inputs and outputs unfold to, below [`occ_check`].
+#![tactic(auto)]
+
+pub mod action;
+pub mod call;
+pub mod clash;
+pub mod target;

@@ -1,0 +1,237 @@
+//! Where what is input is stored.
+
+ghost use Rattle.std.specs.Prelude.{◌≡◌, ◌∷◌, [], map};
+ghost use Rattle.occ_tree_grammar.specs.Lines.Views as lines;
+ghost use Rattle.occ_term.specs.View as terms;
+ghost use Rattle.occ_check_acting.specs.ActionView.{rows_at, stored_one, takes};
+ghost use Rattle.occ_check_typing.specs.Zipped.{zipped};
+ghost use Rattle.occ_check_meaning.specs.Expressions as expressions;
+ghost use Rattle.occ_check_meaning.specs.Items as meant;
+ghost use Rattle.occ_check_names.specs.View.{Gives, names_in, part_of};
+
+use crate::clash::some_clash;
+use occ_check_names::fault::CheckFault;
+use occ_check_typing::item::variable_of;
+use occ_check_names::operators::is_same_type;
+use occ_check_names::scope::Scope;
+use occ_check_names::typed::Part;
+use occ_check_typing::types::are_same_sizes;
+use occ_held::Held;
+use occ_term::{PartType, Place, Primitive, Target};
+use occ_tree_grammar::tree::line::{OneOrMore, Target as TargetTree};
+use sqlite_items::Items;
+use std::alloc::Global;
+
+/// The place of a part, in this line.
+pub fn placed(line: u32, part: Part) -> Place
+    ensures { terms.place_of result ≡ expressions.place_of line (part_of part) }
+{
+    let place = part.place;
+    Place {
+        line,
+        first: place.first,
+        sizes: place.sizes,
+        subscripts: place.subscripts,
+    }
+}
+
+/// A variable of the part's type.
+fn target_of(
+    line: u32,
+    part: &PartType,
+    primitive: Primitive,
+    variable: Part,
+) -> Result<Target, CheckFault>
+    ensures { Gives terms.target_of result (meant.target_of line part.now (meant.aim primitive (part_of variable))) }
+{
+    if takes_part(part, primitive, variable.left.as_slice()) {
+        Ok(Target::Into(placed(line, variable)))
+    } else {
+        Err(CheckFault::Protocol { line })
+    }
+}
+
+/// Whether a variable with these sizes takes the part.
+fn takes_part(part: &PartType, primitive: Primitive, sizes: &[u32]) -> bool
+    ensures { result ≡ takes part.now primitive sizes.now }
+{
+    match part {
+        PartType::One(wanted) => is_same_type(primitive, *wanted) && are_same_sizes(sizes, &[]),
+        PartType::Many(wanted_sizes, wanted) => {
+            is_same_type(primitive, *wanted) && are_same_sizes(sizes, wanted_sizes.as_slice())
+        }
+        PartType::Counted(_, _) => false,
+    }
+}
+
+/// A variable that takes a count, and an array of one dimension that takes the components.
+fn counted_target(
+    line: u32,
+    part: &PartType,
+    number: (Primitive, Part),
+    array: (Primitive, Part),
+) -> Result<Target, CheckFault>
+    ensures { Gives terms.target_of result (meant.target_of line part.now (meant.counted_aim (number.0, part_of number.1) (array.0, part_of array.1))) }
+{
+    let (counts, number) = number;
+    let (holds, array) = array;
+    let (number, array) = (Held::new(number), Held::new(array));
+    let PartType::Counted(count, of) = part else {
+        return Err(CheckFault::Protocol { line });
+    };
+    match array.value.left.as_slice().split_first() {
+        None => Err(CheckFault::Protocol { line }),
+        Some((_, others)) => match others.split_first() {
+            Some(_) => Err(CheckFault::Protocol { line }),
+            None => {
+                if is_same_type(counts, *count)
+                    && is_same_type(holds, *of)
+                    && are_same_sizes(number.value.left.as_slice(), &[])
+                {
+                    let number = placed(line, number.into_inner());
+                    let array = placed(line, array.into_inner());
+                    Ok(Target::IntoCounted(line, number, array))
+                } else {
+                    Err(CheckFault::Protocol { line })
+                }
+            }
+        },
+    }
+}
+
+/// One target of a list.
+fn one_stored(
+    alloc: Global,
+    scope: Scope<'_, '_>,
+    line: u32,
+    part: &PartType,
+    target: &TargetTree,
+) -> Result<Target, CheckFault>
+    ensures { Gives terms.target_of result (stored_one (names_in scope.entry) line part.now (lines.target_of target.now)) }
+{
+    match target {
+        TargetTree::Whole(variable) => {
+            let (primitive, variable) = variable_of(alloc, scope, line, variable)?;
+            target_of(line, part, primitive, variable)
+        }
+        TargetTree::Counted(number, array) => {
+            let number = variable_of(alloc, scope, line, number)?;
+            let array = variable_of(alloc, scope, line, array)?;
+            counted_target(line, part, number, array)
+        }
+    }
+}
+
+/// As many targets as parts.
+fn each_stored(
+    alloc: Global,
+    scope: Scope<'_, '_>,
+    line: u32,
+    parts: &[PartType],
+    targets: &[TargetTree],
+) -> Result<Items<Target>, CheckFault>
+    ensures { Gives terms.targets_of result (zipped (stored_one (names_in scope.entry) line) parts.now (map lines.target_of targets.now)) }
+{
+    let mut made = Items::new(alloc);
+    let mut left = targets;
+    for part in parts {
+        let Some((target, others)) = left.split_first() else {
+            return Err(CheckFault::Protocol { line });
+        };
+        let target = match one_stored(alloc, scope, line, part, target) {
+            Ok(target) => target,
+            Err(e) => return Err(e),
+        };
+        made.push(target)?;
+        left = others;
+    }
+    match left.split_first() {
+        None => Ok(made),
+        Some(_) => Err(CheckFault::Protocol { line }),
+    }
+}
+
+/// That no two targets share a component under constant subscripts, and none stands in a subscript of another.
+///
+/// # Errors
+///
+/// `ListTarget` for two that clash, and as `some_clash`.
+pub fn apart(alloc: Global, line: u32, targets: &[Target]) -> Result<(), CheckFault>
+    ensures { Gives (λ _. rows_at (terms.targets_of targets.now)) result (meant.apart (rows_at (terms.targets_of targets.now))) }
+{
+    if some_clash(alloc, targets)? {
+        Err(CheckFault::ListTarget { line })
+    } else {
+        Ok(())
+    }
+}
+
+/// The targets of one list.
+///
+/// # Errors
+///
+/// As `variable_of`, `Protocol` for targets that are not of the parts, and `ListTarget` for two that are not apart.
+pub fn stored(
+    alloc: Global,
+    scope: Scope<'_, '_>,
+    line: u32,
+    parts: &[PartType],
+    targets: &[TargetTree],
+) -> Result<Items<Target>, CheckFault>
+    ensures { Gives terms.targets_of result (meant.stored (names_in scope.entry) line parts.now (map lines.target_of targets.now)) }
+{
+    let made = match each_stored(alloc, scope, line, parts, targets) {
+        Ok(made) => made,
+        Err(e) => return Err(e),
+    };
+    match apart(alloc, line, made.as_slice()) {
+        Ok(()) => Ok(made),
+        Err(e) => Err(e),
+    }
+}
+
+/// The targets of a list of one or more.
+///
+/// # Errors
+///
+/// As `stored`.
+pub fn stored_list(
+    alloc: Global,
+    scope: Scope<'_, '_>,
+    line: u32,
+    parts: &[PartType],
+    targets: &OneOrMore<TargetTree>,
+) -> Result<Items<Target>, CheckFault>
+    ensures { Gives terms.targets_of result (meant.stored (names_in scope.entry) line parts.now (lines.target_of targets.now.first ∷ map lines.target_of targets.now.others.items)) }
+{
+    let made = match list_stored(alloc, scope, line, parts, targets) {
+        Ok(made) => made,
+        Err(e) => return Err(e),
+    };
+    match apart(alloc, line, made.as_slice()) {
+        Ok(()) => Ok(made),
+        Err(e) => Err(e),
+    }
+}
+
+/// As many targets as parts, where there is one at least.
+#[tactic(auto, unfolding(occ_check_typing::specs::Zipped::zipped))]
+fn list_stored(
+    alloc: Global,
+    scope: Scope<'_, '_>,
+    line: u32,
+    parts: &[PartType],
+    targets: &OneOrMore<TargetTree>,
+) -> Result<Items<Target>, CheckFault>
+    ensures { Gives terms.targets_of result (zipped (stored_one (names_in scope.entry) line) parts.now (lines.target_of targets.now.first ∷ map lines.target_of targets.now.others.items)) }
+{
+    match parts.split_first() {
+        None => Err(CheckFault::Protocol { line }),
+        Some((part, parts)) => {
+            let mut all = Items::new(alloc);
+            all.push(one_stored(alloc, scope, line, part, &targets.first)?)?;
+            all.append(each_stored(alloc, scope, line, parts, &targets.others)?)?;
+            Ok(all)
+        }
+    }
+}

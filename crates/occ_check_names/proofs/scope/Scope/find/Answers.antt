@@ -1,0 +1,15 @@
+use Rattle.std.proofs.Common.{◌≡◌, ◌++◌, ◌∙◌, [], List, Some, ap, refl, sym, subst, length, reverse}
+use Rattle.std.proofs.lemmas.List.{append-nil, append_assoc, length-append}
+use Rattle.occ_check_meaning.specs.Unfolding.{found}
+use Rattle.occ_check_names.specs.View.{scope_of, IsFound, IsWithin}
+use Rattle.occ_check_names.specs.declared.scope.Frame.{Frame}
+use Rattle.occ_check_names.proofs.Looking.{wider}
+use Rattle.occ_check_names.proofs.scope.Scope.find.Goals as goal
+
+pub outwards-init : goal.outwards-init
+outwards-init c = (refl, ([], sym (append-nil c.args.self.frames.now)))
+
+pub returns-in-Found-clause-found : goal.returns-in-Found-clause-found
+returns-in-Found-clause-found c =
+    wider c.args.self.frames.now c.outwards.place.frames.now c.outwards.invariant.1.0 c.args.name.now (scope_of c.args.self) c.in-Found.found c.outwards.invariant.1.1 c.in-Found.ensures.within
+    (subst (λ t. IsFound (reverse c.outwards.place.frames.now) t (Some c.in-Found.found)) (sym c.outwards.invariant.0) c.in-Found.ensures.found)

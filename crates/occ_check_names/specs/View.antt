@@ -1,0 +1,188 @@
+-- The types of the code as those of the definitions.
+-- Manual: nothing; this is (own).
+use Rattle.std.specs.Borrow.{Bor}
+use Rattle.std.specs.Prelude.{List, bytes_eq, false, None, Option, Some, [], if◌then◌else◌, length, map, nat_eq, pos, reverse, suc, take, Vec, Result, Ok, Err, ℕ, ℤ, ⊤, ◌+◌, ◌++◌, ◌<◌, ◌≤◌, ◌∷◌, ◌≡◌}
+use Rattle.occ_tree_grammar.specs.Lines.Views.{formals_of}
+use Rattle.occ_tree_grammar.specs.Processes.Views.{process_of}
+use Rattle.occ_term.specs.Terms as T
+use Rattle.occ_term.specs.View.{subscripts, expression_of, array_of}
+use Rattle.occ_term.specs.declared.expression.Place.{Place}
+use Rattle.occ_check_meaning.specs.Scope as S
+use Rattle.occ_check_meaning.specs.Expressions as E
+use Rattle.occ_check_meaning.specs.Numbers as N
+use Rattle.occ_check_meaning.specs.Unfolding as U
+use Rattle.occ_check_meaning.specs.Unfolding.{Procedures, procedure}
+use Rattle.occ_check_names.specs.declared.fault.CheckFault.{CheckFault}
+use Rattle.occ_check_names.specs.declared.fault.CheckFault.TheVariants.{Unknown, Twice, WrongKind, WrongType, NotConstant, BadCount, Subscript, Protocol, Tag, Arguments, Overlap, ListTarget, NoMain, TooLarge, Memory}
+use Rattle.occ_check_names.specs.declared.known.Access.{Access}
+use Rattle.occ_check_names.specs.declared.known.Access.TheVariants as accesses
+use Rattle.occ_check_names.specs.declared.known.Evaluated.{Evaluated}
+use Rattle.occ_check_names.specs.declared.known.Evaluated.TheVariants as evaluateds
+use Rattle.occ_check_names.specs.declared.known.Row.{Row}
+use Rattle.occ_check_names.specs.declared.known.Carried.{Carried}
+use Rattle.occ_check_names.specs.declared.known.Known.{Known}
+use Rattle.occ_check_names.specs.declared.known.Known.TheVariants as knowns
+use Rattle.occ_check_names.specs.declared.numbers.Numbers.{Numbers}
+use Rattle.occ_check_names.specs.declared.typed.Typed.{Typed}
+use Rattle.occ_check_names.specs.declared.typed.Typed.TheVariants as typeds
+use Rattle.occ_check_names.specs.declared.typed.Part.{Part}
+use Rattle.occ_check_names.specs.declared.scope.Procedure.{Procedure}
+use Rattle.occ_check_names.specs.declared.scope.Binding.{Binding}
+use Rattle.occ_check_names.specs.declared.scope.Binding.TheVariants as bindings
+use Rattle.occ_check_names.specs.declared.scope.Position.{Position}
+use Rattle.occ_check_names.specs.declared.scope.Frame.{Frame}
+use Rattle.occ_check_names.specs.declared.scope.Scope.{Scope}
+use Rattle.occ_check_names.specs.declared.scope.Looked.{Looked}
+use Rattle.occ_check_names.specs.declared.scope.Looked.TheVariants as lookeds
+use Rattle.occ_check_names.specs.declared.scope.Found.{Found}
+use Rattle.occ_check_names.specs.declared.scope.Found.TheVariants as founds
+
+-- ---- what a function answers
+
+-- nothing is known where memory ran out
+abbrev pub Refuses : {Y : Type 0} → CheckFault → Option Y → Type 0
+Refuses (Unknown line x) given = given ≡ None
+Refuses (Twice line x) given = given ≡ None
+Refuses (WrongKind line) given = given ≡ None
+Refuses (WrongType line) given = given ≡ None
+Refuses (NotConstant line) given = given ≡ None
+Refuses (BadCount line) given = given ≡ None
+Refuses (Subscript line) given = given ≡ None
+Refuses (Protocol line) given = given ≡ None
+Refuses (Tag line) given = given ≡ None
+Refuses (Arguments line) given = given ≡ None
+Refuses (Overlap line) given = given ≡ None
+Refuses (ListTarget line) given = given ≡ None
+Refuses NoMain given = given ≡ None
+Refuses TooLarge given = given ≡ None
+Refuses Memory given = ⊤
+
+-- what the code answers is what the definition gives
+abbrev pub Gives : {X Y : Type 0} → (X → Y) → Result X CheckFault → Option Y → Type 0
+Gives view (Ok x) given = given ≡ Some (view x)
+Gives view (Err e) given = Refuses e given
+
+-- ---- what names stand for
+
+abbrev pub access_of : Access → S.Access
+access_of accesses.Assignable = S.assignable
+access_of accesses.Kept = S.kept
+
+abbrev pub evaluated_of : Evaluated → T.Expression
+evaluated_of (evaluateds.Value v) = T.Constant v
+evaluated_of (evaluateds.Cell line c) = T.Cell c
+
+abbrev pub row_of : Row → S.Row
+row_of r = record { first = r.first; sizes = r.sizes; subscripts = subscripts (map evaluated_of r.subscripts); left = r.left }
+
+abbrev pub carried_of : Carried → S.Carried
+carried_of c = record { declared = c.declared; protocol = c.protocol }
+
+abbrev pub known_of : Known → S.Known
+known_of (knowns.Value type v) = S.a_value type v
+known_of (knowns.Text bytes) = S.a_string (map pos bytes)
+known_of (knowns.Cells access type r) = S.some_cells (access_of access) type (row_of r)
+known_of (knowns.Channels c r) = S.some_channels (carried_of c) (row_of r)
+known_of (knowns.Protocol c) = S.a_protocol (carried_of c)
+
+abbrev pub binding_of : Binding → S.Binding U.Procedure
+binding_of (bindings.Known k) = S.known (known_of k)
+binding_of (bindings.Procedure p) = S.proc (procedure p.line (formals_of p.formals.now) (process_of p.body.now))
+
+-- ---- scopes
+
+-- names of a frame before a scope, each before those that are declared before it
+abbrev pub pairs_before : {A : Type 0} → List (Vec ℕ A × Binding) → Procedures → Procedures
+pairs_before [] sc = sc
+pairs_before (e ∷ es) sc = pairs_before es ((e.0.items, binding_of e.1) ∷ sc)
+
+-- what is in scope at a position, where the last frame stands first
+abbrev pub scope_in : List Frame → Position → Procedures
+scope_in [] at = []
+scope_in (f ∷ older) at = if nat_eq at.frames (suc (length older)) then pairs_before (take at.seen f.names.entries) (scope_in older f.outer) else scope_in older at
+
+abbrev pub scope_of : Scope → Procedures
+scope_of s = scope_in (reverse s.frames.now) s.at
+
+-- what names stand for there, but for procedures
+abbrev pub names_in : Scope → S.Names
+names_in s = S.names_of (scope_of s)
+
+-- ---- expressions
+
+abbrev pub typed_of : Typed → E.Typed
+typed_of (typeds.Single type e) = E.single type (expression_of e)
+typed_of (typeds.Whole type sizes a) = E.whole type sizes (array_of a)
+
+abbrev pub part_of : Part → S.Row
+part_of p = record { first = p.place.first; sizes = p.place.sizes; subscripts = subscripts (map expression_of p.place.subscripts); left = p.left }
+
+-- ---- numbers
+
+abbrev pub numbers_of : Numbers → N.Numbers
+numbers_of n = record { cells = n.cells.items; channels = n.channels.items; processes = n.processes; protocols = n.protocols; nodes = n.nodes }
+
+-- a step that gives out numbers leaves those that the definition gives
+abbrev pub Counts : {X : Type 0} → Result X CheckFault → Numbers → Option N.Numbers → Type 0
+Counts (Ok x) after given = given ≡ Some (numbers_of after)
+Counts (Err e) after given = Refuses e given
+
+-- and what it answers with them
+abbrev pub Unfolds : {X Y : Type 0} → (X → Y) → Result X CheckFault → Numbers → Option (Y × N.Numbers) → Type 0
+Unfolds view (Ok x) after given = given ≡ Some (view x, numbers_of after)
+Unfolds view (Err e) after given = Refuses e given
+
+-- ---- look-ups
+
+-- what the first names of a frame hide: the binding with the number of those before it, or nothing
+abbrev pub IsSeen : {A : Type 0} → ℕ → List (Vec ℕ A × Binding) → List ℕ → Option (Bor Binding × ℕ) → Type 0
+IsSeen seen es x None = (sc : Procedures) → U.found (pairs_before (take seen es) sc) x ≡ U.found sc x
+IsSeen seen es x (Some (b, i)) = (sc : Procedures) → U.found (pairs_before (take seen es) sc) x ≡ Some (binding_of b.now, pairs_before (take i es) sc)
+
+-- a binding with its position
+abbrev pub IsBound : S.Binding U.Procedure → Position → Found → Type 0
+IsBound b at (founds.Known k) = b ≡ S.known (known_of k.now)
+IsBound b at (founds.Procedure p place) = (b ≡ binding_of (bindings.Procedure p)) × (place ≡ at)
+
+-- what a look-up answers is what is found
+abbrev pub IsFound : List Frame → Option (S.Binding U.Procedure × Procedures) → Option Found → Type 0
+IsFound frames there None = there ≡ None
+IsFound frames there (Some (founds.Known k)) = (outer : Procedures) × (there ≡ Some (S.known (known_of k.now), outer))
+IsFound frames there (Some (founds.Procedure p at)) = there ≡ Some (binding_of (bindings.Procedure p), scope_in frames at)
+
+-- all that is in scope, where the last frame stands first
+abbrev pub innermost : List Frame → Procedures
+innermost [] = []
+innermost (f ∷ older) = pairs_before f.names.entries (scope_in older f.outer)
+
+-- no name of a frame is this one
+abbrev pub Lacks : {A : Type 0} → List ℕ → List (Vec ℕ A × Binding) → Type 0
+Lacks x [] = ⊤
+Lacks x (e ∷ es) = (bytes_eq x e.0.items ≡ false) × Lacks x es
+
+-- what is found among frames, or behind the innermost of them
+abbrev pub IsLooked : Option (S.Binding U.Procedure × Procedures) → List Frame → List ℕ → Looked → Type 0
+IsLooked there frames x (lookeds.Found f) = IsFound frames there (Some f)
+IsLooked there frames x (lookeds.Outside s) = there ≡ U.found (scope_of s) x
+IsLooked there frames x lookeds.Nowhere = there ≡ None
+
+abbrev pub IsFewer : ℕ → Looked → Type 0
+IsFewer n (lookeds.Found f) = ⊤
+IsFewer n (lookeds.Outside s) = length s.frames.now < n
+IsFewer n lookeds.Nowhere = ⊤
+
+-- the frames outside are the first of all
+abbrev pub IsPart : List Frame → Looked → Type 0
+IsPart frames (lookeds.Found f) = ⊤
+IsPart frames (lookeds.Outside s) = (rest : List Frame) × (frames ≡ s.frames.now ++ rest)
+IsPart frames lookeds.Nowhere = ⊤
+
+-- a procedure that is found stands in one of so many frames
+abbrev pub IsWithin : ℕ → Found → Type 0
+IsWithin n (founds.Known k) = ⊤
+IsWithin n (founds.Procedure p at) = at.frames ≤ n
+
+abbrev pub AreWithin : ℕ → Looked → Type 0
+AreWithin n (lookeds.Found f) = IsWithin n f
+AreWithin n (lookeds.Outside s) = ⊤
+AreWithin n lookeds.Nowhere = ⊤

@@ -1,0 +1,92 @@
+//! Literals.
+
+ghost use Rattle.std.specs.Prelude.{◌≡◌, IfOk, length, map, pos};
+ghost use Rattle.occ_tree_grammar.specs.Expressions.Trees as trees;
+ghost use Rattle.occ_check_meaning.specs.Expressions as meant;
+ghost use Rattle.occ_check_names.specs.View.{Gives, typed_of};
+
+use crate::constant::has_type;
+use crate::fault::CheckFault;
+use crate::operators::primitive_of;
+use crate::typed::Typed;
+use occ_term::{Array, Primitive, TermExpr};
+use occ_tree_grammar::tree::expr::{Literal, Primitive as PrimitiveTree};
+use sqlite_items::Items;
+use std::alloc::{AllocError, Global};
+
+/// What a literal stands for. A number is an INT and a byte is a BYTE where no type is given; none can be given to
+/// a string.
+///
+/// # Errors
+///
+/// `WrongType` for a value outside its type, and for a string with a type, and `Memory`.
+pub fn typed_literal(
+    alloc: Global,
+    line: u32,
+    literal: &Literal,
+    primitive: Option<PrimitiveTree>,
+) -> Result<Typed, CheckFault>
+    ensures { Gives typed_of result (meant.typed_literal (trees.lit_of literal.now) primitive) }
+{
+    match literal {
+        Literal::Number(value) => match primitive {
+            None => constant_typed(line, Primitive::Int, i64::from(*value)),
+            Some(primitive) => constant_typed(line, primitive_of(primitive), i64::from(*value)),
+        },
+        Literal::Byte(value) => match primitive {
+            None => constant_typed(line, Primitive::Byte, i64::from(*value)),
+            Some(primitive) => constant_typed(line, primitive_of(primitive), i64::from(*value)),
+        },
+        Literal::Text(bytes) => match primitive {
+            None => {
+                let size = string_size(line, bytes)?;
+                let bytes = Items::from_slice(alloc, bytes)?;
+                let string = whole_string(alloc, size, bytes)?;
+                Ok(string)
+            }
+            Some(_) => Err(CheckFault::WrongType { line }),
+        },
+    }
+}
+
+/// A constant of the type.
+///
+/// # Errors
+///
+/// `WrongType` for a value outside of it.
+pub fn constant_typed(line: u32, primitive: Primitive, value: i64) -> Result<Typed, CheckFault>
+    ensures { Gives typed_of result (meant.constant_of primitive value) }
+{
+    if has_type(primitive, value) {
+        Ok(Typed::Single(primitive, TermExpr::Constant(value)))
+    } else {
+        Err(CheckFault::WrongType { line })
+    }
+}
+
+/// The size of a string.
+///
+/// # Errors
+///
+/// `WrongType` where it is no INT.
+pub fn string_size(line: u32, bytes: &[u8]) -> Result<u32, CheckFault>
+    ensures string { Gives (λ n. map pos bytes.now) result (meant.string_of (map pos bytes.now)) }
+    ensures size { IfOk result (λ n. n ≡ length bytes.now) }
+{
+    let size = bytes.len();
+    if size <= 2_147_483_647 {
+        Ok(size as u32)
+    } else {
+        Err(CheckFault::WrongType { line })
+    }
+}
+
+/// A string of this size as an array.
+pub fn whole_string(alloc: Global, size: u32, bytes: Items<u8>) -> Result<Typed, AllocError>
+    requires { size ≡ length bytes }
+    ensures { IfOk result (λ string. typed_of string ≡ meant.whole_string (map pos bytes)) }
+{
+    let mut sizes = Items::new(alloc);
+    sizes.push(size)?;
+    Ok(Typed::Whole(Primitive::Byte, sizes, Array::Text(bytes)))
+}

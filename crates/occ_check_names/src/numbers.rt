@@ -1,0 +1,248 @@
+//! The numbers that are given out while a program is unfolded.
+
+ghost use Rattle.std.specs.Prelude.{◌≡◌, ◌<◌, ◌≤◌, ◌+◌, ◌++◌, IfOk, length, min, nat_le, Some};
+ghost use Rattle.occ_term.specs.Messages.{product};
+ghost use Rattle.occ_term.specs.Sizes.{no_size, node};
+ghost use Rattle.occ_term.specs.Unfolding.{byte_channel};
+ghost use Rattle.occ_check_meaning.specs.Numbers.{at_start, component_name, component_names, more_cells, more_channels, more_processes, more_protocols, most_depth, room};
+ghost use Rattle.occ_check_meaning.specs.Scope.{keep};
+ghost use Rattle.occ_check_names.specs.View.{Counts, Gives, numbers_of};
+
+use crate::fault::CheckFault;
+use occ_term::{Cell, Channel, Primitive, Protocol};
+use sqlite_items::Items;
+use std::alloc::{AllocError, Global};
+
+/// How many cells a program may have.
+const MOST_CELLS: usize = 65536;
+/// How many channels a program may have.
+const MOST_CHANNELS: usize = 4096;
+/// How many processes a program may have.
+const MOST_PROCESSES: u32 = 4096;
+/// How many nodes a program may have.
+const MOST_NODES: u32 = 100000;
+/// How deep a node may stand.
+const MOST_DEPTH: u32 = 200;
+
+/// The cells and the channels that are declared so far, and how many processes, named protocols and nodes there are.
+#[derive(Drop)]
+pub struct Numbers {
+    /// The cells, from number 0 on.
+    pub cells: Vec<Cell>,
+    /// The channels, from number 0 on.
+    pub channels: Vec<Channel>,
+    /// How many processes there are.
+    pub processes: u32,
+    /// How many protocols with names are declared.
+    pub protocols: u64,
+    /// How many nodes there are.
+    pub nodes: u32,
+}
+
+impl Numbers {
+    /// The main process and the first three channels are there.
+    pub fn at_start(alloc: Global) -> Result<Numbers, AllocError>
+        ensures { IfOk result (λ n. numbers_of n ≡ at_start) }
+    {
+        let mut channels = Vec::new(alloc);
+        channels.push(channel_of_bytes(alloc, b"keyboard")?)?;
+        channels.push(channel_of_bytes(alloc, b"screen")?)?;
+        channels.push(channel_of_bytes(alloc, b"error")?)?;
+        Ok(Numbers {
+            cells: Vec::new(alloc),
+            channels,
+            processes: 1,
+            protocols: 0,
+            nodes: 0,
+        })
+    }
+
+    /// Gives out the cells of a variable, a named value or an index, and answers the first of them.
+    ///
+    /// # Errors
+    ///
+    /// `TooLarge` past 65,536 cells, and `Memory`.
+    pub fn more_cells(
+        &mut self,
+        alloc: Global,
+        primitive: Primitive,
+        name: &[u8],
+        sizes: &[u32],
+    ) -> Result<u32, CheckFault>
+        ensures counts { Counts result self.new (more_cells primitive name.now sizes.now (numbers_of self.old)) }
+        ensures first { IfOk result (λ first. first ≡ length self.old.cells.items) }
+    {
+        let first = first_of_more(self.cells.len(), components(sizes), MOST_CELLS)?;
+        let mut names = Vec::new(alloc);
+        component_names(alloc, &mut names, name, sizes)?;
+        for name in names {
+            self.cells.push(Cell { name, primitive })?;
+        }
+        Ok(first)
+    }
+
+    /// Gives out the channels of a declaration, and answers the first of them.
+    ///
+    /// # Errors
+    ///
+    /// `TooLarge` past 4,096 channels, and `Memory`.
+    pub fn more_channels(
+        &mut self,
+        alloc: Global,
+        protocol: &Protocol,
+        name: &[u8],
+        sizes: &[u32],
+    ) -> Result<u32, CheckFault>
+        ensures counts { Counts result self.new (more_channels protocol.now name.now sizes.now (numbers_of self.old)) }
+        ensures first { IfOk result (λ first. first ≡ length self.old.channels.items) }
+    {
+        let first = first_of_more(self.channels.len(), components(sizes), MOST_CHANNELS)?;
+        let mut names = Vec::new(alloc);
+        component_names(alloc, &mut names, name, sizes)?;
+        for name in names {
+            let protocol = protocol.copy(alloc)?;
+            self.channels.push(Channel { name, protocol })?;
+        }
+        Ok(first)
+    }
+
+    /// Gives out a branch of a PAR, and answers its number.
+    ///
+    /// # Errors
+    ///
+    /// `TooLarge` past 4,096 processes.
+    pub fn more_processes(&mut self) -> Result<u32, CheckFault>
+        ensures counts { Counts result self.new (more_processes (numbers_of self.old)) }
+        ensures number { IfOk result (λ number. number ≡ self.old.processes) }
+    {
+        let number = self.processes;
+        if number < MOST_PROCESSES {
+            self.processes = number + 1;
+            Ok(number)
+        } else {
+            Err(CheckFault::TooLarge)
+        }
+    }
+
+    /// Counts a protocol with a name, and answers its number.
+    ///
+    /// # Errors
+    ///
+    /// `Memory` where no further one can be counted.
+    pub fn more_protocols(&mut self) -> Result<u64, CheckFault>
+        ensures counts { Counts result self.new (Some (more_protocols (numbers_of self.old))) }
+        ensures number { IfOk result (λ number. number ≡ self.old.protocols) }
+    {
+        let number = self.protocols;
+        match number.checked_add(1) {
+            None => Err(CheckFault::Memory),
+            Some(next) => {
+                self.protocols = next;
+                Ok(number)
+            }
+        }
+    }
+
+    /// Counts one node, under so many nodes that stand round it.
+    ///
+    /// # Errors
+    ///
+    /// `TooLarge` past 100,000 nodes, and where it would stand deeper than 200.
+    pub fn node(&mut self, depth: u32) -> Result<(), CheckFault>
+        ensures counts { Counts result self.new (room depth (node no_size) (numbers_of self.old)) }
+        ensures within { IfOk result (λ _. depth < most_depth) }
+    {
+        if depth < MOST_DEPTH && self.nodes < MOST_NODES {
+            self.nodes += 1;
+            Ok(())
+        } else {
+            Err(CheckFault::TooLarge)
+        }
+    }
+
+    /// Counts no node at this depth.
+    ///
+    /// # Errors
+    ///
+    /// `TooLarge` where there are too many nodes already, or too many stand round it.
+    pub fn no_node(&mut self, depth: u32) -> Result<(), CheckFault>
+        ensures { Counts result self.new (room depth no_size (numbers_of self.old)) }
+    {
+        if depth <= MOST_DEPTH && self.nodes <= MOST_NODES {
+            Ok(())
+        } else {
+            Err(CheckFault::TooLarge)
+        }
+    }
+}
+
+fn channel_of_bytes(alloc: Global, name: &[u8]) -> Result<Channel, AllocError>
+    ensures { IfOk result (λ channel. channel ≡ byte_channel name.now) }
+{
+    let name = Items::from_slice(alloc, name)?;
+    let protocol = Protocol::Simple(Items::new(alloc), Primitive::Byte);
+    Ok(Channel { name, protocol })
+}
+
+/// The number of the first of so many more, where there are so many already.
+///
+/// # Errors
+///
+/// `TooLarge` where they are more than the most that there may be.
+fn first_of_more(len: usize, count: u32, most: usize) -> Result<u32, CheckFault>
+    requires few { most ≤ 65536 }
+    ensures { Gives (λ first. first) result (keep (nat_le (len + count) most) len) }
+{
+    match most.checked_sub(len) {
+        Some(left) if count as usize <= left => Ok(len as u32),
+        _ => Err(CheckFault::TooLarge),
+    }
+}
+
+/// How many components an array of these sizes has, up to the largest `u32`.
+pub fn components(sizes: &[u32]) -> u32
+    ensures { result ≡ min (product sizes.now) 4294967295 }
+{
+    let mut count = 1_u32;
+    for size in sizes {
+        count = count.saturating_mul(*size);
+    }
+    count
+}
+
+/// The names of the components of an array of these sizes, after others: the last subscript moves fastest.
+#[tactic(auto, unfolding(occ_check_meaning::specs::Numbers::component_names))]
+fn component_names(
+    alloc: Global,
+    names: &mut Vec<Items<u8>>,
+    name: &[u8],
+    sizes: &[u32],
+) -> Result<(), AllocError>
+    ensures { IfOk result (λ _. names.new.items ≡ names.old.items ++ component_names name.now sizes.now) }
+{
+    match sizes.split_first() {
+        None => {
+            names.push(Items::from_slice(alloc, name)?)?;
+            Ok(())
+        }
+        Some((size, others)) => {
+            for k in 0..*size {
+                let component = component_name(alloc, name, k)?;
+                component_names(alloc, names, component.as_slice(), others)?;
+            }
+            Ok(())
+        }
+    }
+}
+
+/// The name of the component with this number.
+fn component_name(alloc: Global, name: &[u8], k: u32) -> Result<Items<u8>, AllocError>
+    ensures { IfOk result (λ component. component ≡ component_name name.now k) }
+{
+    let digits = format!(in alloc; "{k}")?;
+    let mut component = Vec::from_slice(alloc, name)?;
+    component.push(b'[')?;
+    component.extend_from_slice(digits.as_bytes())?;
+    component.push(b']')?;
+    Ok(Items::from_vec(component))
+}

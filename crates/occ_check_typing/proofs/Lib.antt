@@ -1,0 +1,12 @@
+pub mod Refusals
+pub mod Leaving
+pub mod Chains
+pub mod EachOf
+pub mod Refusing
+pub mod Declaring
+pub mod Twice
+pub mod SizeLists
+pub mod Zipping
+pub mod Tagging
+pub mod AnyPair
+pub mod Meeting

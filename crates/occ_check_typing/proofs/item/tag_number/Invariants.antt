@@ -1,0 +1,5 @@
+use Rattle.occ_check_typing.proofs.Tagging.{Numbered}
+use Rattle.occ_check_typing.proofs.item.tag_number.Given as goal
+
+abbrev pub invariant-loop-tag : goal.invariant-loop-tag
+invariant-loop-tag l = Numbered l.tags l.name l.tag-index l.number

@@ -1,0 +1,5 @@
+use Rattle.occ_check_typing.proofs.Leaving.{Leaves}
+use Rattle.occ_check_typing.proofs.reading.left_by.Given as goal
+
+abbrev pub invariant-loop-subscript : goal.invariant-loop-subscript
+invariant-loop-subscript l = Leaves l.under_these l.subscript-index l.sizes l.left

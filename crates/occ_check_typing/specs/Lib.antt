@@ -1,0 +1,4 @@
+pub mod OpenedView
+pub mod Meeting
+pub mod Spans
+pub mod Zipped

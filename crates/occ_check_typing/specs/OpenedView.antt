@@ -1,0 +1,40 @@
+-- What declarations and formals of the code leave, as the definitions have it.
+-- Manual: nothing; this is (own).
+use Rattle.std.specs.Prelude.{List, Option, Some, Result, Ok, Err, map, ◌∷◌, ◌≡◌, [], Bool, true, not, ◌&&◌}
+use Rattle.occ_term.specs.View.{declarations_of, replicator_of}
+use Rattle.occ_check_meaning.specs.Scope.{Name, Known, Pairs, is_among}
+use Rattle.occ_check_meaning.specs.Declarations as D
+use Rattle.occ_check_names.specs.View.{Refuses, known_of, numbers_of}
+use Rattle.occ_check_names.specs.declared.fault.CheckFault.{CheckFault}
+use Rattle.occ_check_names.specs.declared.numbers.Numbers.{Numbers}
+use Rattle.occ_check_typing.specs.declared.declaration.Named.{Named}
+use Rattle.occ_check_typing.specs.declared.declaration.Opened.{Opened}
+use Rattle.occ_check_typing.specs.declared.declaration.Indexed.{Indexed}
+
+-- a name and what it stands for
+abbrev pub pair_of : Named → Name × Known
+pair_of x = (x.name, known_of x.known)
+
+abbrev pub pairs_of : List Named → Pairs
+pairs_of xs = map pair_of xs
+
+abbrev pub opened_of : Opened → Numbers → D.Opened
+opened_of x n = D.opened (pairs_of x.names.items) (declarations_of x.heads) (numbers_of n)
+
+-- what names stand for and what is set for them is what the definition gives, and so are the numbers then
+abbrev pub Opens : Result Opened CheckFault → Numbers → Option D.Opened → Type 0
+Opens (Ok x) after given = given ≡ Some (opened_of x after)
+Opens (Err e) after given = Refuses e given
+
+abbrev pub indexed_of : Indexed → Numbers → D.Indexed
+indexed_of x n = record { replicator = replicator_of x.replicator; names = pair_of x.name ∷ []; numbers = numbers_of n }
+
+-- the same of a replicator and its index
+abbrev pub Indexes : Result Indexed CheckFault → Numbers → Option D.Indexed → Type 0
+Indexes (Ok x) after given = given ≡ Some (indexed_of x after)
+Indexes (Err e) after given = Refuses e given
+
+-- whether no name of the second list stands in the first
+abbrev pub none_among : List Name → List Name → Bool
+none_among seen [] = true
+none_among seen (x ∷ xs) = not (is_among x seen) && none_among seen xs

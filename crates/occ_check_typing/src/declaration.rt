@@ -1,0 +1,574 @@
+//! Declarations: what their names stand for, and the Clears and Locals that are set for them.
+
+ghost use Rattle.std.specs.Prelude.{◌≡◌, [], ◌∷◌, ◌++◌, IfOk, map, option_map, Some};
+ghost use Rattle.occ_tree_grammar.specs.Expressions.Trees as trees;
+ghost use Rattle.occ_tree_grammar.specs.Lines.Views as lines;
+ghost use Rattle.occ_tree_grammar.specs.Processes.Views as processes;
+ghost use Rattle.occ_term.specs.View.{expression_of, item_of};
+ghost use Rattle.occ_check_meaning.specs.Constants.{a_count, constant};
+ghost use Rattle.occ_check_meaning.specs.Declarations as meant;
+ghost use Rattle.occ_check_meaning.specs.Scope as scopes;
+ghost use Rattle.occ_check_meaning.specs.Types as types;
+ghost use Rattle.occ_check_names.specs.View.{Gives, carried_of, known_of, names_in, numbers_of, row_of, typed_of};
+ghost use Rattle.occ_check_typing.specs.OpenedView.{Indexes, Opens, pair_of, pairs_of};
+
+use occ_check_names::constant::constant_of;
+use crate::expression::{constant_as, typed, typed_as};
+use occ_check_names::fault::{CheckFault, twice};
+use occ_check_names::known::{Access, Carried, Known, Row};
+use occ_check_names::measuring::{count_declaration, count_replicator};
+use occ_check_names::numbers::{Numbers, components};
+use occ_check_names::operators::{is_same_type, primitive_of};
+use occ_check_names::scope::Scope;
+use occ_check_names::typed::Typed;
+use crate::types::{carried_by, open_sizes_of, protocol_of, sizes_of};
+use indexmap::IndexSet;
+use occ_held::Held;
+use occ_term::{Array, Declaration, Item, Primitive, Replicator, TermExpr};
+use occ_tree_grammar::tree::expr::Expr;
+use occ_tree_grammar::tree::line::{OneOrMore, Replicator as ReplicatorTree, Sort, ValueType};
+use occ_tree_grammar::tree::process::Protocol as ProtocolTree;
+use sqlite_items::Items;
+use std::alloc::{AllocError, Global};
+
+/// A name, and what it stands for.
+#[derive(Drop)]
+pub struct Named {
+    /// The name.
+    pub name: Items<u8>,
+    /// What it stands for.
+    pub known: Known,
+}
+
+/// What names stand for, and what is set for them.
+#[derive(Drop)]
+pub struct Opened {
+    /// The names, in order.
+    pub names: Vec<Named>,
+    /// The Clears and Locals, in order.
+    pub heads: Items<Declaration>,
+}
+
+/// A replicator with its index.
+#[derive(Drop)]
+pub struct Indexed {
+    /// The replicator.
+    pub replicator: Replicator,
+    /// The index, and its cell.
+    pub name: Named,
+}
+
+impl Named {
+    /// A copy of the name, with what it stands for.
+    pub fn new(alloc: Global, name: &[u8], known: Known) -> Result<Named, AllocError>
+        ensures { IfOk result (λ x. pair_of x ≡ (name.now, known_of known)) }
+    {
+        let name = Items::from_slice(alloc, name)?;
+        Ok(Named { name, known })
+    }
+}
+
+impl Opened {
+    /// No name.
+    pub fn new(alloc: Global) -> Opened
+        ensures names { result.names.items ≡ [] }
+        ensures heads { result.heads ≡ [] }
+    {
+        Opened {
+            names: Vec::new(alloc),
+            heads: Items::new(alloc),
+        }
+    }
+
+    /// One name, for which nothing is set.
+    fn one(alloc: Global, name: &[u8], known: Known) -> Result<Opened, AllocError>
+        ensures names { IfOk result (λ x. pairs_of x.names.items ≡ (name.now, known_of known) ∷ []) }
+        ensures heads { IfOk result (λ x. x.heads ≡ []) }
+    {
+        let mut opened = Opened::new(alloc);
+        opened.names.push(Named::new(alloc, name, known)?)?;
+        Ok(opened)
+    }
+
+    /// One name, and what is set for it.
+    fn one_with(
+        alloc: Global,
+        name: &[u8],
+        known: Known,
+        head: Declaration,
+    ) -> Result<Opened, AllocError>
+        ensures names { IfOk result (λ x. pairs_of x.names.items ≡ (name.now, known_of known) ∷ []) }
+        ensures heads { IfOk result (λ x. x.heads ≡ head ∷ []) }
+    {
+        let head = Held::new(head);
+        let mut opened = Opened::one(alloc, name, known)?;
+        opened.heads.push(head.into_inner())?;
+        Ok(opened)
+    }
+
+    /// One name behind what is set for it.
+    pub fn one_behind(
+        alloc: Global,
+        name: &[u8],
+        known: Known,
+        heads: Items<Declaration>,
+    ) -> Result<Opened, AllocError>
+        ensures names { IfOk result (λ x. pairs_of x.names.items ≡ (name.now, known_of known) ∷ []) }
+        ensures heads { IfOk result (λ x. x.heads ≡ heads) }
+    {
+        let mut opened = Opened::one(alloc, name, known)?;
+        opened.heads = heads;
+        Ok(opened)
+    }
+
+    /// Puts others after these.
+    pub fn append(&mut self, others: Opened) -> Result<(), AllocError>
+        ensures names { IfOk result (λ _. self.new.names.items ≡ self.old.names.items ++ others.names.items) }
+        ensures heads { IfOk result (λ _. self.new.heads ≡ self.old.heads ++ others.heads) }
+    {
+        let Opened { mut names, heads } = others;
+        self.names.append(&mut names)?;
+        self.heads.append(heads)?;
+        Ok(())
+    }
+}
+
+/// An array from its first on, or a single one.
+pub fn row_from(alloc: Global, first: u32, sizes: &[u32]) -> Result<Row, AllocError>
+    ensures { IfOk result (λ row. row_of row ≡ scopes.row_from first sizes.now) }
+{
+    Ok(Row {
+        first,
+        sizes: Items::from_slice(alloc, sizes)?,
+        subscripts: Items::new(alloc),
+        left: Items::from_slice(alloc, sizes)?,
+    })
+}
+
+// ---- names
+
+/// The names of a declaration, in order.
+fn names_of(alloc: Global, names: &OneOrMore<Vec<u8>>) -> Result<Items<Items<u8>>, AllocError>
+    ensures { IfOk result (λ xs. xs ≡ names.now.first.items ∷ map (λ v. v.items) names.now.others.items) }
+{
+    let mut all = Items::new(alloc);
+    all.push(Items::from_slice(alloc, &names.first)?)?;
+    for name in &names.others {
+        all.push(Items::from_slice(alloc, name)?)?;
+    }
+    Ok(all)
+}
+
+/// That no name stands twice in a list.
+///
+/// # Errors
+///
+/// `Twice` for the first name that stands before, and `Memory`.
+pub fn once(alloc: Global, line: u32, names: &[Items<u8>]) -> Result<(), CheckFault>
+    ensures { Gives (λ _. names.now) result (scopes.once names.now) }
+{
+    let mut seen: IndexSet<Vec<u8>> = IndexSet::new(alloc);
+    for name in names {
+        let added = seen.insert(Vec::from_slice(alloc, name.as_slice())?)?;
+        if !added {
+            return Err(twice(alloc, line, name.as_slice()));
+        }
+    }
+    Ok(())
+}
+
+// ---- variables and channels
+
+/// Variables and channels of one declaration. Their Clears stand at this depth.
+///
+/// # Errors
+///
+/// As `sizes_of` and `carried_by`, `Twice` for a name that stands twice, `TooLarge` for too many cells, channels or
+/// nodes, and `Memory`.
+pub fn names_declared(
+    numbers: &mut Numbers,
+    alloc: Global,
+    scope: Scope<'_, '_>,
+    line: u32,
+    depth: u32,
+    sizes: &[Expr],
+    sort: &Sort,
+    names: &OneOrMore<Vec<u8>>,
+) -> Result<Opened, CheckFault>
+    ensures { Opens result numbers.new (meant.names_declared (names_in scope.entry) line depth (trees.expressions (map trees.expression_of sizes.now)) (lines.sort_of sort.now) (names.now.first.items ∷ map (λ v. v.items) names.now.others.items) (numbers_of numbers.old)) }
+{
+    match sort {
+        Sort::Data(primitive) => {
+            let primitive = primitive_of(*primitive);
+            let sizes = sizes_of(alloc, scope, line, sizes)?;
+            let names = names_of(alloc, names)?;
+            once(alloc, line, names.as_slice())?;
+            variables_declared(
+                numbers,
+                alloc,
+                line,
+                depth,
+                primitive,
+                sizes.as_slice(),
+                names.as_slice(),
+            )
+        }
+        Sort::Channel(carried) => {
+            let sizes = sizes_of(alloc, scope, line, sizes)?;
+            let carried = Held::new(carried_by(alloc, scope, line, carried)?);
+            let names = names_of(alloc, names)?;
+            once(alloc, line, names.as_slice())?;
+            let carried = &carried.value;
+            channels_declared(numbers, alloc, carried, sizes.as_slice(), names.as_slice())
+        }
+    }
+}
+
+fn variables_declared(
+    numbers: &mut Numbers,
+    alloc: Global,
+    line: u32,
+    depth: u32,
+    primitive: Primitive,
+    sizes: &[u32],
+    names: &[Items<u8>],
+) -> Result<Opened, CheckFault>
+    ensures { Opens result numbers.new (meant.each_declared (meant.variable_declared depth primitive sizes.now) names.now (numbers_of numbers.old)) }
+{
+    let mut opened = Opened::new(alloc);
+    for name in names {
+        let name = name.as_slice();
+        let one = variable_declared(numbers, alloc, line, depth, primitive, sizes, name)?;
+        opened.append(one)?;
+    }
+    Ok(opened)
+}
+
+fn channels_declared(
+    numbers: &mut Numbers,
+    alloc: Global,
+    carried: &Carried,
+    sizes: &[u32],
+    names: &[Items<u8>],
+) -> Result<Opened, CheckFault>
+    ensures { Opens result numbers.new (meant.each_declared (meant.channel_declared (carried_of carried.now) sizes.now) names.now (numbers_of numbers.old)) }
+{
+    let mut opened = Opened::new(alloc);
+    for name in names {
+        let one = channel_declared(numbers, alloc, carried, sizes, name.as_slice())?;
+        opened.append(one)?;
+    }
+    Ok(opened)
+}
+
+fn variable_declared(
+    numbers: &mut Numbers,
+    alloc: Global,
+    line: u32,
+    depth: u32,
+    primitive: Primitive,
+    sizes: &[u32],
+    name: &[u8],
+) -> Result<Opened, CheckFault>
+    ensures { Opens result numbers.new (meant.variable_declared depth primitive sizes.now name.now (numbers_of numbers.old)) }
+{
+    let first = numbers.more_cells(alloc, primitive, name, sizes)?;
+    numbers.node(depth)?;
+    let row = row_from(alloc, first, sizes)?;
+    let known = Known::Cells(Access::Assignable, primitive, row);
+    let clearing = Declaration::Clearing(line, first, components(sizes));
+    Ok(Opened::one_with(alloc, name, known, clearing)?)
+}
+
+fn channel_declared(
+    numbers: &mut Numbers,
+    alloc: Global,
+    carried: &Carried,
+    sizes: &[u32],
+    name: &[u8],
+) -> Result<Opened, CheckFault>
+    ensures { Opens result numbers.new (meant.channel_declared (carried_of carried.now) sizes.now name.now (numbers_of numbers.old)) }
+{
+    let first = numbers.more_channels(alloc, &carried.protocol, name, sizes)?;
+    let row = row_from(alloc, first, sizes)?;
+    let known = Known::Channels(carried.copy(alloc)?, row);
+    Ok(Opened::one(alloc, name, known)?)
+}
+
+// ---- named values
+
+/// What a name stands for that is given a value. Its Local stands at this depth, where the value is no constant.
+///
+/// # Errors
+///
+/// `TooLarge` for too many cells or nodes, and `Memory`.
+pub fn name_value(
+    numbers: &mut Numbers,
+    alloc: Global,
+    line: u32,
+    depth: u32,
+    name: &[u8],
+    value: Typed,
+) -> Result<Opened, CheckFault>
+    ensures { Opens result numbers.new (meant.named name.now depth (typed_of value) (numbers_of numbers.old)) }
+{
+    match value {
+        Typed::Single(primitive, e) => name_single(numbers, alloc, line, depth, name, primitive, e),
+        Typed::Whole(primitive, sizes, array) => match array {
+            Array::Text(bytes) => Ok(Opened::one(alloc, name, Known::Text(bytes))?),
+            Array::Cells(place) => {
+                let value = Item::Many(primitive, Array::Cells(place));
+                local_of(numbers, alloc, line, depth, name, primitive, sizes, value)
+            }
+        }
+    }
+}
+
+fn name_single(
+    numbers: &mut Numbers,
+    alloc: Global,
+    line: u32,
+    depth: u32,
+    name: &[u8],
+    primitive: Primitive,
+    e: TermExpr,
+) -> Result<Opened, CheckFault>
+    ensures { Opens result numbers.new (meant.value_named name.now depth primitive (expression_of e) (constant (expression_of e)) (numbers_of numbers.old)) }
+{
+    let e = Held::new(e);
+    match constant_of(&e.value)? {
+        Some(value) => Ok(Opened::one(alloc, name, Known::Value(primitive, value))?),
+        None => {
+            let value = Item::One(primitive, e.into_inner());
+            local_of(
+                numbers,
+                alloc,
+                line,
+                depth,
+                name,
+                primitive,
+                Items::new(alloc),
+                value,
+            )
+        }
+    }
+}
+
+fn local_of(
+    numbers: &mut Numbers,
+    alloc: Global,
+    line: u32,
+    depth: u32,
+    name: &[u8],
+    primitive: Primitive,
+    sizes: Items<u32>,
+    value: Item,
+) -> Result<Opened, CheckFault>
+    ensures { Opens result numbers.new (meant.local_of name.now depth primitive sizes (item_of value) (numbers_of numbers.old)) }
+{
+    let value = Held::new(value);
+    let first = numbers.more_cells(alloc, primitive, name, sizes.as_slice())?;
+    let naming = Held::new(Declaration::Naming(line, first, value.into_inner()));
+    count_declaration(numbers, depth, &naming.value)?;
+    let row = row_from(alloc, first, sizes.as_slice())?;
+    let known = Known::Cells(Access::Kept, primitive, row);
+    Ok(Opened::one_with(alloc, name, known, naming.into_inner())?)
+}
+
+/// A declaration of a named value. Its Local stands at this depth.
+///
+/// # Errors
+///
+/// As `typed` and `open_sizes_of`, `WrongType` where the value has not the type that is given, and as `name_value`.
+pub fn value_declared(
+    numbers: &mut Numbers,
+    alloc: Global,
+    scope: Scope<'_, '_>,
+    line: u32,
+    depth: u32,
+    value_type: &Option<ValueType>,
+    name: &[u8],
+    e: &Expr,
+) -> Result<Opened, CheckFault>
+    ensures { Opens result numbers.new (meant.value_declared (names_in scope.entry) line depth (option_map lines.value_type_of value_type.now) name.now (trees.expression_of e.now) (numbers_of numbers.old)) }
+{
+    let value = typed(alloc, scope, line, e)?;
+    let value = of_value_type(alloc, scope, line, value_type, value)?;
+    name_value(numbers, alloc, line, depth, name, value)
+}
+
+fn of_value_type(
+    alloc: Global,
+    scope: Scope<'_, '_>,
+    line: u32,
+    value_type: &Option<ValueType>,
+    value: Typed,
+) -> Result<Typed, CheckFault>
+    ensures { Gives typed_of result (meant.of_value_type (names_in scope.entry) line (option_map lines.value_type_of value_type.now) (typed_of value)) }
+{
+    match value_type {
+        None => Ok(value),
+        Some(wanted) => of_given_type(alloc, scope, line, wanted, value),
+    }
+}
+
+fn of_given_type(
+    alloc: Global,
+    scope: Scope<'_, '_>,
+    line: u32,
+    wanted: &ValueType,
+    value: Typed,
+) -> Result<Typed, CheckFault>
+    ensures { Gives typed_of result (meant.of_value_type (names_in scope.entry) line (Some (lines.value_type_of wanted.now)) (typed_of value)) }
+{
+    let value = Held::new(value);
+    let sizes = open_sizes_of(alloc, scope, line, &wanted.sizes)?;
+    if has_type(sizes.as_slice(), primitive_of(wanted.of), &value.value) {
+        Ok(value.into_inner())
+    } else {
+        Err(CheckFault::WrongType { line })
+    }
+}
+
+/// Whether a value or an array has this type and sizes, where none stands for any size.
+pub fn has_type(open_sizes: &[Option<u32>], primitive: Primitive, value: &Typed) -> bool
+    ensures { result ≡ meant.has_type open_sizes.now primitive (typed_of value.now) }
+{
+    match value {
+        Typed::Single(own, _) => { is_same_type(*own, primitive) && takes_sizes(open_sizes, &[]) },
+        Typed::Whole(own, sizes, _) => {
+            is_same_type(*own, primitive) && takes_sizes(open_sizes, sizes.as_slice())
+        }
+    }
+}
+
+/// Whether these sizes are those that are wanted, where none stands for any.
+pub fn takes_sizes(open_sizes: &[Option<u32>], sizes: &[u32]) -> bool
+    ensures { result ≡ types.takes_sizes open_sizes.now sizes.now }
+{
+    match (open_sizes.split_first(), sizes.split_first()) {
+        (None, None) => true,
+        (Some((open_size, others)), Some((size, rest))) => {
+            takes_size(*open_size, *size) && takes_sizes(others, rest)
+        }
+        _ => false,
+    }
+}
+
+fn takes_size(open_size: Option<u32>, size: u32) -> bool
+    ensures { result ≡ types.takes_size open_size size }
+{
+    match open_size {
+        None => true,
+        Some(wanted) => wanted == size,
+    }
+}
+
+// ---- protocols
+
+/// A declaration of a protocol.
+///
+/// # Errors
+///
+/// As `protocol_of`, and `Memory`.
+pub fn protocol_declared(
+    numbers: &mut Numbers,
+    alloc: Global,
+    scope: Scope<'_, '_>,
+    protocol: &ProtocolTree,
+) -> Result<Opened, CheckFault>
+    ensures { Opens result numbers.new (meant.protocol_declared (names_in scope.entry) (processes.protocol_of protocol.now) (numbers_of numbers.old)) }
+{
+    let carried = protocol_of(alloc, scope, protocol)?;
+    let number = numbers.more_protocols()?;
+    let known = Known::Protocol(Carried {
+        declared: Some(number),
+        protocol: carried,
+    });
+    Ok(Opened::one(alloc, protocol_name(protocol), known)?)
+}
+
+fn protocol_name(protocol: &ProtocolTree) -> &[u8]
+    ensures { result.now ≡ types.protocol_name (processes.protocol_of protocol.now) }
+{
+    match protocol {
+        ProtocolTree::Parts(_, name, _) => name,
+        ProtocolTree::Tags(_, name, _, _, _) => name,
+    }
+}
+
+// ---- replicators
+
+/// A replicator of a SEQ, an IF or an ALT, with its index. It stands at this depth.
+///
+/// # Errors
+///
+/// As `typed_as` of an INT, `TooLarge` for too many cells or nodes, and `Memory`.
+pub fn index_replicator(
+    numbers: &mut Numbers,
+    alloc: Global,
+    scope: Scope<'_, '_>,
+    line: u32,
+    depth: u32,
+    replicator: &ReplicatorTree,
+) -> Result<Indexed, CheckFault>
+    ensures { Indexes result numbers.new (meant.indexed (names_in scope.entry) line depth (lines.replicator_of replicator.now) (numbers_of numbers.old)) }
+{
+    let base = Held::new(typed_as(alloc, scope, line, Primitive::Int, &replicator.base)?);
+    let count = Held::new(typed_as(alloc, scope, line, Primitive::Int, &replicator.count)?);
+    let index = numbers.more_cells(alloc, Primitive::Int, &replicator.name, &[])?;
+    let over = Held::new(Replicator {
+        line,
+        index,
+        base: base.into_inner(),
+        count: count.into_inner(),
+    });
+    count_replicator(numbers, depth, &over.value)?;
+    let row = row_from(alloc, index, &[])?;
+    let known = Known::Cells(Access::Kept, Primitive::Int, row);
+    let name = Named::new(alloc, &replicator.name, known)?;
+    Ok(Indexed {
+        replicator: over.into_inner(),
+        name,
+    })
+}
+
+/// The base of a replicated PAR, and how many copies it has.
+///
+/// # Errors
+///
+/// As `constant_as` of an INT, and `BadCount` for a negative count or an index that is no INT.
+pub fn copies_of(
+    alloc: Global,
+    scope: Scope<'_, '_>,
+    line: u32,
+    replicator: &ReplicatorTree,
+) -> Result<(i64, u64), CheckFault>
+    ensures { Gives (λ x. x) result (meant.copies_of (names_in scope.entry) line (lines.replicator_of replicator.now)) }
+{
+    let base = constant_as(alloc, scope, line, Primitive::Int, &replicator.base)?;
+    let count = constant_as(alloc, scope, line, Primitive::Int, &replicator.count)?;
+    let copies = count_of(line, base, count)?;
+    Ok((base, copies))
+}
+
+fn count_of(line: u32, base: i64, count: i64) -> Result<u64, CheckFault>
+    ensures { Gives (λ n. n) result (a_count base count) }
+{
+    if 0 <= count && count <= 2147483648_i64.saturating_sub(base) {
+        Ok(count as u64)
+    } else {
+        Err(CheckFault::BadCount { line })
+    }
+}
+
+/// The index of a copy, which is a constant there.
+pub fn index_of(
+    alloc: Global,
+    replicator: &ReplicatorTree,
+    i: i64,
+) -> Result<Named, AllocError>
+    ensures { IfOk result (λ x. pair_of x ∷ [] ≡ meant.index_of (lines.replicator_of replicator.now) i) }
+{
+    Named::new(alloc, &replicator.name, Known::Value(Primitive::Int, i))
+}

@@ -1,0 +1,485 @@
+//! Expressions under a scope: their types, and what they unfold to.
+
+ghost use Rattle.std.specs.Prelude.{◌≡◌, ◌∷◌, [], IfOk, IsTrue, None, map, pos};
+ghost use Rattle.occ_tree_grammar.specs.Expressions.Trees as trees;
+ghost use Rattle.occ_term.specs.Messages.{is_of};
+ghost use Rattle.occ_term.specs.Terms.{Conversion};
+ghost use Rattle.occ_term.specs.View.{expression_of, subscripts};
+ghost use Rattle.occ_term.specs.declared.primitive.Primitive.TheVariants.{Bool as Boolean, Int};
+ghost use Rattle.occ_check_meaning.specs.Expressions as meant;
+ghost use Rattle.occ_check_names.specs.View.{Gives, known_of, names_in, typed_of};
+
+use occ_check_names::constant::constant_of;
+use occ_check_names::fault::{CheckFault, unknown};
+use occ_check_names::known::Known;
+use occ_check_names::literal::{constant_typed, string_size, typed_literal};
+use occ_check_names::operators::{is_same_type, operator_of, primitive_of, result_of, takes_operand};
+pub use crate::reading::under;
+use crate::reading::{read, size_of_known};
+use occ_check_names::scope::{Found, Scope};
+use occ_check_names::typed::Typed;
+use occ_held::Held;
+use occ_term::{Monadic, Operator, Primitive, TermExpr};
+use occ_tree_grammar::tree::expr::{Expr, Literal, Logic, Monadic as Sign, Operand};
+use sqlite_items::{Boxed, Items};
+use std::alloc::{AllocError, Global};
+
+/// What an expression unfolds to.
+///
+/// # Errors
+///
+/// `Unknown`, `WrongKind`, `WrongType` and `Subscript` refuse it, `Memory` tells of a refused growth.
+#[cycle(typing)]
+#[tactic(auto, unfolding(occ_check_meaning::specs::Expressions::typed))]
+pub fn typed(
+    alloc: Global,
+    scope: Scope<'_, '_>,
+    line: u32,
+    e: &Expr,
+) -> Result<Typed, CheckFault>
+    ensures { Gives typed_of result (meant.typed (names_in scope.entry) line (trees.expression_of e.now)) }
+{
+    match e {
+        Expr::Operand(a) => typed_operand(alloc, scope, line, a),
+        Expr::Two(a, spelling, b) => {
+            let x = as_single(line, typed_operand(alloc, scope, line, a)?)?;
+            let x = Held::new(x);
+            let y = as_single(line, typed_operand(alloc, scope, line, b)?)?;
+            two_typed(alloc, line, operator_of(*spelling), x.into_inner(), y)
+        }
+        Expr::One(sign, a) => typed_one(alloc, scope, line, *sign, a),
+        Expr::Convert(to, a) => {
+            let x = as_single(line, typed_operand(alloc, scope, line, a)?)?;
+            let e = converted(alloc, line, primitive_of(*to), x)?;
+            Ok(e)
+        }
+        Expr::MostPos => Ok(Typed::Single(Primitive::Int, TermExpr::Constant(2_147_483_647))),
+        Expr::MostNeg => Ok(Typed::Single(Primitive::Int, TermExpr::Constant(-2_147_483_648))),
+        Expr::Chain(logic, a, b, others) => {
+            let x = typed_truth(alloc, scope, line, a)?;
+            let x = Held::new(x);
+            let y = typed_truth(alloc, scope, line, b)?;
+            let left = logic_of(alloc, *logic, x.into_inner(), y)?;
+            match typed_chain(alloc, scope, line, *logic, others, left) {
+                Ok(e) => Ok(Typed::Single(Primitive::Bool, e)),
+                Err(e) => Err(e),
+            }
+        }
+    }
+}
+
+/// An operator and its operand.
+#[cycle(typing)]
+#[tactic(auto, unfolding(occ_check_meaning::specs::Expressions::typed))]
+fn typed_one(
+    alloc: Global,
+    scope: Scope<'_, '_>,
+    line: u32,
+    sign: Sign,
+    a: &Operand,
+) -> Result<Typed, CheckFault>
+    ensures { Gives typed_of result (meant.typed (names_in scope.entry) line (trees.one sign (trees.operand_of a.now))) }
+{
+    match sign {
+        Sign::Minus => {
+            let x = as_single(line, typed_operand(alloc, scope, line, a)?)?;
+            one_typed(alloc, line, Monadic::Negate, x)
+        }
+        Sign::Tilde => {
+            let x = as_single(line, typed_operand(alloc, scope, line, a)?)?;
+            one_typed(alloc, line, Monadic::BitNot, x)
+        }
+        Sign::BitNot => {
+            let x = as_single(line, typed_operand(alloc, scope, line, a)?)?;
+            one_typed(alloc, line, Monadic::BitNot, x)
+        }
+        Sign::Not => {
+            let x = as_single(line, typed_operand(alloc, scope, line, a)?)?;
+            one_typed(alloc, line, Monadic::Not, x)
+        }
+        Sign::Size => {
+            let size = size_of_operand(alloc, scope, line, a)?;
+            size_typed(line, size)
+        }
+    }
+}
+
+/// An operand of type BOOL.
+#[cycle(typing)]
+#[tactic(auto, unfolding(occ_check_meaning::specs::Expressions::typed))]
+fn typed_truth(
+    alloc: Global,
+    scope: Scope<'_, '_>,
+    line: u32,
+    a: &Operand,
+) -> Result<TermExpr, CheckFault>
+    ensures { Gives expression_of result (meant.typed_as (names_in scope.entry) line Boolean (trees.alone (trees.operand_of a.now))) }
+{
+    of_type(line, Primitive::Bool, typed_operand(alloc, scope, line, a)?)
+}
+
+/// How many further operands a chain may have. A longer one would take the stack: each nests what stands before it.
+const MOST_CHAINED: usize = 1_000;
+
+/// Further operands of a chain, which groups to the left.
+///
+/// # Errors
+///
+/// The first fault of an operand, and `Memory`, also for more than `MOST_CHAINED` of them.
+#[cycle(typing)]
+fn typed_chain(
+    alloc: Global,
+    scope: Scope<'_, '_>,
+    line: u32,
+    logic: Logic,
+    operands: &[Operand],
+    first: TermExpr,
+) -> Result<TermExpr, CheckFault>
+    ensures { Gives expression_of result (meant.typed_chain (names_in scope.entry) line logic (expression_of first) (trees.operands (map trees.operand_of operands.now))) }
+{
+    if operands.len() > MOST_CHAINED {
+        return Err(CheckFault::Memory);
+    }
+    let mut left = first;
+    for operand in operands {
+        left = match chained(alloc, scope, line, logic, operand, left) {
+            Ok(e) => e,
+            Err(e) => return Err(e),
+        };
+    }
+    Ok(left)
+}
+
+/// One operand more.
+#[cycle(typing)]
+#[tactic(auto, unfolding(occ_check_meaning::specs::Expressions::typed, occ_check_meaning::specs::Expressions::typed_chain))]
+fn chained(
+    alloc: Global,
+    scope: Scope<'_, '_>,
+    line: u32,
+    logic: Logic,
+    operand: &Operand,
+    left: TermExpr,
+) -> Result<TermExpr, CheckFault>
+    ensures { Gives expression_of result (meant.typed_chain (names_in scope.entry) line logic (expression_of left) (trees.operands (trees.operand_of operand.now ∷ []))) }
+{
+    let left = Held::new(left);
+    let right = typed_truth(alloc, scope, line, operand)?;
+    let e = logic_of(alloc, logic, left.into_inner(), right)?;
+    Ok(e)
+}
+
+/// What an operand unfolds to.
+#[cycle(typing)]
+#[tactic(auto, unfolding(occ_check_meaning::specs::Expressions::typed_operand))]
+fn typed_operand(
+    alloc: Global,
+    scope: Scope<'_, '_>,
+    line: u32,
+    a: &Operand,
+) -> Result<Typed, CheckFault>
+    ensures { Gives typed_of result (meant.typed_operand (names_in scope.entry) line (trees.operand_of a.now)) }
+{
+    match a {
+        Operand::Variable(name, subscripts) => {
+            typed_variable(alloc, scope, line, name, subscripts)
+        }
+        Operand::Literal(literal, primitive) => typed_literal(alloc, line, literal, *primitive),
+        Operand::Truth(truth) => Ok(Typed::Single(
+            Primitive::Bool,
+            TermExpr::Constant(i64::from(*truth)),
+        )),
+        Operand::Parens(e) => typed(alloc, scope, line, e),
+    }
+}
+
+/// A name with its subscripts, which is read.
+#[cycle(typing)]
+#[tactic(auto, unfolding(occ_check_meaning::specs::Expressions::typed_operand))]
+fn typed_variable(
+    alloc: Global,
+    scope: Scope<'_, '_>,
+    line: u32,
+    name: &[u8],
+    subscripts: &[Expr],
+) -> Result<Typed, CheckFault>
+    ensures { Gives typed_of result (meant.typed_operand (names_in scope.entry) line (trees.variable name.now (trees.expressions (map trees.expression_of subscripts.now)))) }
+{
+    let known = known_name(alloc, scope, line, name)?;
+    let subscripts = typed_subscripts(alloc, scope, line, subscripts)?;
+    read(alloc, line, known, subscripts)
+}
+
+/// What subscripts unfold to, in order.
+///
+/// # Errors
+///
+/// As `typed_as` of an INT.
+#[cycle(typing)]
+pub fn typed_subscripts(
+    alloc: Global,
+    scope: Scope<'_, '_>,
+    line: u32,
+    es: &[Expr],
+) -> Result<Items<TermExpr>, CheckFault>
+    ensures { Gives (λ es. subscripts (map expression_of es)) result (meant.typed_subscripts (names_in scope.entry) line (trees.expressions (map trees.expression_of es.now))) }
+{
+    let mut made = Items::new(alloc);
+    for e in es {
+        let subscript = match typed_as(alloc, scope, line, Primitive::Int, e) {
+            Ok(subscript) => subscript,
+            Err(e) => return Err(e),
+        };
+        made.push(subscript)?;
+    }
+    Ok(made)
+}
+
+/// The SIZE of an operand. It reads nothing, but the subscripts under it are checked.
+#[cycle(typing)]
+#[tactic(auto, unfolding(occ_check_meaning::specs::Expressions::size_of_operand))]
+fn size_of_operand(
+    alloc: Global,
+    scope: Scope<'_, '_>,
+    line: u32,
+    a: &Operand,
+) -> Result<u64, CheckFault>
+    ensures { Gives (λ n. n) result (meant.size_of_operand (names_in scope.entry) line (trees.operand_of a.now)) }
+{
+    match a {
+        Operand::Variable(name, subscripts) => {
+            size_of_variable(alloc, scope, line, name, subscripts)
+        }
+        Operand::Literal(literal, None) => size_of_literal(line, literal),
+        Operand::Literal(_, Some(_)) => Err(CheckFault::WrongType { line }),
+        Operand::Truth(_) => Err(CheckFault::WrongType { line }),
+        Operand::Parens(e) => size_of_expression(alloc, scope, line, e),
+    }
+}
+
+/// The SIZE of what a name under subscripts stands for.
+#[cycle(typing)]
+#[tactic(auto, unfolding(occ_check_meaning::specs::Expressions::size_of_operand))]
+fn size_of_variable(
+    alloc: Global,
+    scope: Scope<'_, '_>,
+    line: u32,
+    name: &[u8],
+    subscripts: &[Expr],
+) -> Result<u64, CheckFault>
+    ensures { Gives (λ n. n) result (meant.size_of_operand (names_in scope.entry) line (trees.variable name.now (trees.expressions (map trees.expression_of subscripts.now)))) }
+{
+    let known = known_name(alloc, scope, line, name)?;
+    let subscripts = typed_subscripts(alloc, scope, line, subscripts)?;
+    size_of_known(line, known, subscripts.as_slice())
+}
+
+/// The SIZE of an array in parentheses.
+#[cycle(typing)]
+#[tactic(auto, unfolding(occ_check_meaning::specs::Expressions::size_of_expression))]
+fn size_of_expression(
+    alloc: Global,
+    scope: Scope<'_, '_>,
+    line: u32,
+    e: &Expr,
+) -> Result<u64, CheckFault>
+    ensures { Gives (λ n. n) result (meant.size_of_expression (names_in scope.entry) line (trees.expression_of e.now)) }
+{
+    match e {
+        Expr::Operand(a) => size_of_operand(alloc, scope, line, a),
+        Expr::Two(_, _, _) => Err(CheckFault::WrongType { line }),
+        Expr::One(_, _) => Err(CheckFault::WrongType { line }),
+        Expr::Convert(_, _) => Err(CheckFault::WrongType { line }),
+        Expr::MostPos => Err(CheckFault::WrongType { line }),
+        Expr::MostNeg => Err(CheckFault::WrongType { line }),
+        Expr::Chain(_, _, _, _) => Err(CheckFault::WrongType { line }),
+    }
+}
+
+/// What an expression of this type unfolds to.
+///
+/// # Errors
+///
+/// As `typed`, and `WrongType` for another type or an array.
+#[cycle(typing)]
+pub fn typed_as(
+    alloc: Global,
+    scope: Scope<'_, '_>,
+    line: u32,
+    primitive: Primitive,
+    e: &Expr,
+) -> Result<TermExpr, CheckFault>
+    ensures { Gives expression_of result (meant.typed_as (names_in scope.entry) line primitive (trees.expression_of e.now)) }
+{
+    of_type(line, primitive, typed(alloc, scope, line, e)?)
+}
+
+/// The value of a constant of this type.
+///
+/// # Errors
+///
+/// As `typed_as`, and `NotConstant`.
+pub fn constant_as(
+    alloc: Global,
+    scope: Scope<'_, '_>,
+    line: u32,
+    primitive: Primitive,
+    e: &Expr,
+) -> Result<i64, CheckFault>
+    ensures value { Gives (λ v. v) result (meant.constant_as (names_in scope.entry) line primitive (trees.expression_of e.now)) }
+    ensures range { IfOk result (λ v. IsTrue (is_of Int v)) }
+{
+    let e = Held::new(typed_as(alloc, scope, line, primitive, e)?);
+    match constant_of(&e.value)? {
+        Some(value) => Ok(value),
+        None => Err(CheckFault::NotConstant { line }),
+    }
+}
+
+/// What a name stands for.
+///
+/// # Errors
+///
+/// `Unknown` where it stands for nothing, `WrongKind` where it is a procedure's, and `Memory`.
+#[tactic(auto, using(crate::proofs::Refusals::refused))]
+pub fn known_name<'a>(
+    alloc: Global,
+    scope: Scope<'a, '_>,
+    line: u32,
+    name: &[u8],
+) -> Result<&'a Known, CheckFault>
+    ensures { Gives (λ k. known_of k.now) result (names_in scope.entry name.now) }
+{
+    match scope.known(name) {
+        Some(known) => Ok(known),
+        None => Err(no_value(alloc, scope, line, name)),
+    }
+}
+
+/// The fault of a name that stands for no value.
+fn no_value(alloc: Global, scope: Scope<'_, '_>, line: u32, name: &[u8]) -> CheckFault {
+    match scope.find(name) {
+        Some(Found::Procedure(_, _)) => CheckFault::WrongKind { line },
+        _ => unknown(alloc, line, name),
+    }
+}
+
+/// One value with its type.
+///
+/// # Errors
+///
+/// `WrongType` for an array.
+pub fn as_single(line: u32, typed: Typed) -> Result<(Primitive, TermExpr), CheckFault>
+    ensures { Gives (λ x. (x.0, expression_of x.1)) result (meant.as_single (typed_of typed)) }
+{
+    match typed {
+        Typed::Single(primitive, e) => Ok((primitive, e)),
+        Typed::Whole(_, _, _) => Err(CheckFault::WrongType { line }),
+    }
+}
+
+/// One value of this type.
+///
+/// # Errors
+///
+/// `WrongType` for another type or an array.
+fn of_type(line: u32, primitive: Primitive, typed: Typed) -> Result<TermExpr, CheckFault>
+    ensures { Gives expression_of result (meant.of_type primitive (typed_of typed)) }
+{
+    match typed {
+        Typed::Single(t, e) => {
+            if is_same_type(t, primitive) {
+                Ok(e)
+            } else {
+                Err(CheckFault::WrongType { line })
+            }
+        }
+        Typed::Whole(_, _, _) => Err(CheckFault::WrongType { line }),
+    }
+}
+
+/// Two operands and the operator between them.
+fn two_typed(
+    alloc: Global,
+    line: u32,
+    operator: Operator,
+    a: (Primitive, TermExpr),
+    b: (Primitive, TermExpr),
+) -> Result<Typed, CheckFault>
+    ensures { Gives typed_of result (meant.two_typed line operator (a.0, expression_of a.1) (b.0, expression_of b.1)) }
+{
+    let (own, left) = a;
+    let (other, right) = b;
+    let (left, right) = (Held::new(left), Held::new(right));
+    let primitive = result_of(line, operator, own, other)?;
+    let left = Boxed::new(alloc, left.into_inner())?;
+    let right = Boxed::new(alloc, right.into_inner())?;
+    let e = TermExpr::Binary(operator, own, line, left, right);
+    Ok(Typed::Single(primitive, e))
+}
+
+/// An operator before its operand.
+fn one_typed(
+    alloc: Global,
+    line: u32,
+    operator: Monadic,
+    a: (Primitive, TermExpr),
+) -> Result<Typed, CheckFault>
+    ensures { Gives typed_of result (meant.one_typed line operator (a.0, expression_of a.1)) }
+{
+    if !takes_operand(operator, a.0) {
+        return Err(CheckFault::WrongType { line });
+    }
+    let operand = Boxed::new(alloc, a.1)?;
+    let e = TermExpr::Unary(operator, a.0, line, operand);
+    Ok(Typed::Single(a.0, e))
+}
+
+/// A conversion of one value.
+fn converted(
+    alloc: Global,
+    line: u32,
+    to: Primitive,
+    a: (Primitive, TermExpr),
+) -> Result<Typed, AllocError>
+    ensures { IfOk result (λ t. typed_of t ≡ meant.single to (Conversion to line (expression_of a.1))) }
+{
+    let operand = Boxed::new(alloc, a.1)?;
+    Ok(Typed::Single(to, TermExpr::Conversion(to, line, operand)))
+}
+
+/// AND or OR of two values.
+fn logic_of(alloc: Global, logic: Logic, a: TermExpr, b: TermExpr) -> Result<TermExpr, AllocError>
+    ensures { IfOk result (λ e. expression_of e ≡ meant.logic_of logic (expression_of a) (expression_of b)) }
+{
+    let b = Held::new(b);
+    let a = Boxed::new(alloc, a)?;
+    let b = Boxed::new(alloc, b.into_inner())?;
+    match logic {
+        Logic::And => Ok(TermExpr::And(a, b)),
+        Logic::Or => Ok(TermExpr::Or(a, b)),
+    }
+}
+
+/// A SIZE as an INT.
+fn size_typed(line: u32, size: u64) -> Result<Typed, CheckFault>
+    ensures { Gives typed_of result (meant.constant_of Int (pos size)) }
+{
+    if size <= 2_147_483_647 {
+        constant_typed(line, Primitive::Int, size as i64)
+    } else {
+        Err(CheckFault::WrongType { line })
+    }
+}
+
+/// The SIZE of a literal without a type, which must be a string.
+#[tactic(auto, unfolding(occ_check_meaning::specs::Expressions::size_of_operand))]
+fn size_of_literal(line: u32, literal: &Literal) -> Result<u64, CheckFault>
+    ensures { Gives (λ n. n) result (meant.size_of_operand (λ x. None) line (trees.literal (trees.lit_of literal.now) None)) }
+{
+    match literal {
+        Literal::Number(_) => Err(CheckFault::WrongType { line }),
+        Literal::Byte(_) => Err(CheckFault::WrongType { line }),
+        Literal::Text(bytes) => Ok(u64::from(string_size(line, bytes)?)),
+    }
+}

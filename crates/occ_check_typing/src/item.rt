@@ -1,0 +1,445 @@
+//! Variables and channels of a line, and what is output.
+
+ghost use Rattle.std.specs.Prelude.{◌≡◌, ◌∷◌, [], IfOk, Some, map};
+ghost use Rattle.occ_tree_grammar.specs.Expressions.Trees as trees;
+ghost use Rattle.occ_tree_grammar.specs.Lines.Trees.{from};
+ghost use Rattle.occ_tree_grammar.specs.Lines.Views as lines;
+ghost use Rattle.occ_term.specs.Messages as messages;
+ghost use Rattle.occ_term.specs.View as terms;
+ghost use Rattle.occ_term.specs.declared.primitive.Primitive.TheVariants.{Int};
+ghost use Rattle.occ_term.specs.declared.protocol.PartType.TheVariants.{One as OneOf, Many as ManyOf, Counted as CountedOf};
+ghost use Rattle.occ_check_meaning.specs.Expressions.{single};
+ghost use Rattle.occ_check_meaning.specs.Items as meant;
+ghost use Rattle.occ_check_names.specs.View.{Gives, carried_of, known_of, names_in, part_of, row_of, typed_of};
+
+use crate::expression::{known_name, typed, typed_subscripts};
+use occ_check_names::fault::CheckFault;
+use occ_check_names::known::{Access, Carried, Known, Row};
+use occ_check_names::operators::is_same_type;
+use crate::reading::under;
+use occ_check_names::scope::Scope;
+use occ_check_names::typed::{Part, Typed};
+use crate::types::{are_same_sizes, simple_part};
+use occ_held::Held;
+use occ_term::{Array, Item, PartType, Place, Primitive, Protocol, Tag, TermExpr};
+use occ_tree_grammar::tree::expr::{Expr, Operand};
+use occ_tree_grammar::tree::line::{OneOrMore, Out, Var};
+use sqlite_items::Items;
+use std::alloc::{AllocError, Global};
+
+// ---- variables and channels
+
+/// A variable that may be assigned to.
+///
+/// # Errors
+///
+/// `WrongKind` for anything else.
+pub fn as_variable(line: u32, known: &Known) -> Result<(Primitive, &Row), CheckFault>
+    ensures { Gives (λ x. (x.0, row_of x.1.now)) result (meant.as_variable (known_of known.now)) }
+{
+    match known {
+        Known::Cells(Access::Assignable, primitive, row) => Ok((*primitive, row)),
+        Known::Cells(Access::Kept, _, _) => Err(CheckFault::WrongKind { line }),
+        Known::Value(_, _) => Err(CheckFault::WrongKind { line }),
+        Known::Text(_) => Err(CheckFault::WrongKind { line }),
+        Known::Channels(_, _) => Err(CheckFault::WrongKind { line }),
+        Known::Protocol(_) => Err(CheckFault::WrongKind { line }),
+    }
+}
+
+/// A channel, or an array of channels.
+///
+/// # Errors
+///
+/// `WrongKind` for anything else.
+pub fn as_channels(line: u32, known: &Known) -> Result<(&Carried, &Row), CheckFault>
+    ensures { Gives (λ x. (carried_of x.0.now, row_of x.1.now)) result (meant.as_channels (known_of known.now)) }
+{
+    match known {
+        Known::Channels(carried, row) => Ok((carried, row)),
+        Known::Cells(_, _, _) => Err(CheckFault::WrongKind { line }),
+        Known::Value(_, _) => Err(CheckFault::WrongKind { line }),
+        Known::Text(_) => Err(CheckFault::WrongKind { line }),
+        Known::Protocol(_) => Err(CheckFault::WrongKind { line }),
+    }
+}
+
+/// A variable, a component or an array, with its type.
+///
+/// # Errors
+///
+/// As `typed_subscripts` and `under`, and `Unknown` and `WrongKind` for a name that is no variable's.
+pub fn variable_of(
+    alloc: Global,
+    scope: Scope<'_, '_>,
+    line: u32,
+    variable: &Var,
+) -> Result<(Primitive, Part), CheckFault>
+    ensures variable { Gives (λ x. (x.0, part_of x.1)) result (meant.variable_of (names_in scope.entry) line (lines.var_of variable.now)) }
+    ensures line { IfOk result (λ x. x.1.place.line ≡ line) }
+{
+    let known = known_name(alloc, scope, line, &variable.name)?;
+    let (primitive, row) = as_variable(line, known)?;
+    let subscripts = typed_subscripts(alloc, scope, line, &variable.subscripts)?;
+    let part = under(alloc, line, row, subscripts)?;
+    Ok((primitive, part))
+}
+
+/// A single channel, with what it carries.
+///
+/// # Errors
+///
+/// As `variable_of`, and `WrongType` for an array of channels.
+pub fn channel_of<'a>(
+    alloc: Global,
+    scope: Scope<'a, '_>,
+    line: u32,
+    channel: &Var,
+) -> Result<(&'a Protocol, Place), CheckFault>
+    ensures { Gives (λ x. (x.0.now, terms.place_of x.1)) result (meant.channel_of (names_in scope.entry) line (lines.var_of channel.now)) }
+{
+    let known = known_name(alloc, scope, line, &channel.name)?;
+    let (carried, row) = as_channels(line, known)?;
+    let subscripts = typed_subscripts(alloc, scope, line, &channel.subscripts)?;
+    let part = under(alloc, line, row, subscripts)?;
+    match part.left.as_slice().split_first() {
+        None => Ok((&carried.protocol, part.place)),
+        Some(_) => Err(CheckFault::WrongType { line }),
+    }
+}
+
+// ---- what is output
+
+/// A value or an array of the part's type.
+fn item_of(line: u32, part: &PartType, value: Typed) -> Result<Item, CheckFault>
+    ensures { Gives terms.item_of result (meant.item_of part.now (typed_of value)) }
+{
+    match part {
+        PartType::One(wanted) => one_item(line, *wanted, value),
+        PartType::Many(sizes, wanted) => array_item(line, sizes.as_slice(), *wanted, value),
+        PartType::Counted(_, _) => Err(CheckFault::Protocol { line }),
+    }
+}
+
+fn one_item(line: u32, wanted: Primitive, value: Typed) -> Result<Item, CheckFault>
+    ensures { Gives terms.item_of result (meant.item_of (OneOf wanted) (typed_of value)) }
+{
+    match value {
+        Typed::Single(primitive, e) => {
+            if is_same_type(primitive, wanted) {
+                Ok(Item::One(primitive, e))
+            } else {
+                Err(CheckFault::Protocol { line })
+            }
+        }
+        Typed::Whole(_, _, _) => Err(CheckFault::Protocol { line }),
+    }
+}
+
+fn array_item(
+    line: u32,
+    wanted_sizes: &[u32],
+    wanted: Primitive,
+    value: Typed,
+) -> Result<Item, CheckFault>
+    ensures { Gives terms.item_of result (meant.item_of (ManyOf wanted_sizes.now wanted) (typed_of value)) }
+{
+    match value {
+        Typed::Single(_, _) => Err(CheckFault::Protocol { line }),
+        Typed::Whole(primitive, sizes, array) => {
+            if is_same_type(primitive, wanted) && are_same_sizes(sizes.as_slice(), wanted_sizes) {
+                Ok(Item::Many(primitive, array))
+            } else {
+                Err(CheckFault::Protocol { line })
+            }
+        }
+    }
+}
+
+/// A count, and an array of one dimension that it counts components of.
+fn counted_item(line: u32, part: &PartType, number: Typed, value: Typed) -> Result<Item, CheckFault>
+    ensures { Gives terms.item_of result (meant.counted_item line part.now (typed_of number) (typed_of value)) }
+{
+    let (number, value) = (Held::new(number), Held::new(value));
+    let PartType::Counted(count, of) = part else {
+        return Err(CheckFault::Protocol { line });
+    };
+    match number.into_inner() {
+        Typed::Whole(_, _, _) => Err(CheckFault::Protocol { line }),
+        Typed::Single(primitive, number) => {
+            let number = Held::new(number);
+            if !is_same_type(primitive, *count) {
+                return Err(CheckFault::Protocol { line });
+            }
+            counted_array(line, *of, number.into_inner(), value.into_inner())
+        }
+    }
+}
+
+/// An array of one dimension, behind its count.
+fn counted_array(
+    line: u32,
+    of: Primitive,
+    number: TermExpr,
+    value: Typed,
+) -> Result<Item, CheckFault>
+    ensures { Gives terms.item_of result (meant.counted_item line (CountedOf Int of) (single Int (terms.expression_of number)) (typed_of value)) }
+{
+    let number = Held::new(number);
+    match value {
+        Typed::Single(_, _) => Err(CheckFault::Protocol { line }),
+        Typed::Whole(primitive, sizes, array) => {
+            let array = Held::new(array);
+            match sizes.as_slice().split_first() {
+                None => Err(CheckFault::Protocol { line }),
+                Some((_, others)) => match others.split_first() {
+                    Some(_) => Err(CheckFault::Protocol { line }),
+                    None => {
+                        if is_same_type(primitive, of) {
+                            let (number, array) = (number.into_inner(), array.into_inner());
+                            Ok(Item::Counted(primitive, line, number, array))
+                        } else {
+                            Err(CheckFault::Protocol { line })
+                        }
+                    }
+                },
+            }
+        }
+    }
+}
+
+/// An item of the part's type.
+fn sent_item(
+    alloc: Global,
+    scope: Scope<'_, '_>,
+    line: u32,
+    part: &PartType,
+    out: &Out,
+) -> Result<Item, CheckFault>
+    ensures { Gives terms.item_of result (meant.sent_item (names_in scope.entry) line part.now (lines.out_of out.now)) }
+{
+    match out {
+        Out::Whole(e) => item_of(line, part, typed(alloc, scope, line, e)?),
+        Out::Counted(number, e) => {
+            let number = Held::new(typed(alloc, scope, line, number)?);
+            let value = typed(alloc, scope, line, e)?;
+            counted_item(line, part, number.into_inner(), value)
+        }
+    }
+}
+
+/// As many items as parts.
+fn sent_items(
+    alloc: Global,
+    scope: Scope<'_, '_>,
+    line: u32,
+    parts: &[PartType],
+    outs: &[Out],
+) -> Result<Items<Item>, CheckFault>
+    ensures { Gives terms.items_of result (meant.sent_items (names_in scope.entry) line parts.now (map lines.out_of outs.now)) }
+{
+    let mut made = Items::new(alloc);
+    let mut left = outs;
+    for part in parts {
+        let Some((out, others)) = left.split_first() else {
+            return Err(CheckFault::Protocol { line });
+        };
+        let item = match sent_item(alloc, scope, line, part, out) {
+            Ok(item) => item,
+            Err(e) => return Err(e),
+        };
+        made.push(item)?;
+        left = others;
+    }
+    match left.split_first() {
+        None => Ok(made),
+        Some(_) => Err(CheckFault::Protocol { line }),
+    }
+}
+
+/// As many items as parts, where there is one at least.
+#[tactic(auto, unfolding(occ_check_meaning::specs::Items::sent_items))]
+fn sent_list(
+    alloc: Global,
+    scope: Scope<'_, '_>,
+    line: u32,
+    parts: &[PartType],
+    outs: &OneOrMore<Out>,
+) -> Result<Items<Item>, CheckFault>
+    ensures { Gives terms.items_of result (meant.sent_items (names_in scope.entry) line parts.now (lines.out_of outs.now.first ∷ map lines.out_of outs.now.others.items)) }
+{
+    match parts.split_first() {
+        None => Err(CheckFault::Protocol { line }),
+        Some((part, parts)) => {
+            let mut all = Items::new(alloc);
+            all.push(sent_item(alloc, scope, line, part, &outs.first)?)?;
+            all.append(sent_items(alloc, scope, line, parts, &outs.others)?)?;
+            Ok(all)
+        }
+    }
+}
+
+/// The number of a tag.
+///
+/// # Errors
+///
+/// `Protocol` where the protocol has no tags, `Tag` where it has not this one.
+pub fn tag_in(line: u32, protocol: &Protocol, name: &[u8]) -> Result<u32, CheckFault>
+    ensures { Gives (λ k. k) result (meant.tag_in protocol.now name.now) }
+{
+    match protocol {
+        Protocol::Variant(tags) => tag_number(line, tags.as_slice(), name),
+        Protocol::Simple(_, _) => Err(CheckFault::Protocol { line }),
+        Protocol::CountedArray(_, _) => Err(CheckFault::Protocol { line }),
+        Protocol::Sequential(_) => Err(CheckFault::Protocol { line }),
+    }
+}
+
+/// The place of a tag among the tags.
+fn tag_number(line: u32, tags: &[Tag], name: &[u8]) -> Result<u32, CheckFault>
+    ensures { Gives (λ k. k) result (meant.tag_number tags.now name.now 0) }
+{
+    let mut number = 0_u32;
+    for tag in tags {
+        if name == tag.name.as_slice() {
+            return Ok(number);
+        }
+        match number.checked_add(1) {
+            Some(next) => number = next,
+            None => return Err(CheckFault::Memory),
+        }
+    }
+    Err(CheckFault::Tag { line })
+}
+
+/// The parts that follow a tag, or those of a message without one.
+///
+/// # Errors
+///
+/// `Protocol` where the protocol has no message with this tag, or none without one, and `Memory`.
+pub fn parts_after(
+    alloc: Global,
+    line: u32,
+    protocol: &Protocol,
+    tag: Option<u32>,
+) -> Result<Items<PartType>, CheckFault>
+    ensures { Gives (λ ts. ts) result (messages.parts_after protocol.now tag) }
+{
+    match (protocol, tag) {
+        (Protocol::Simple(sizes, primitive), None) => {
+            let sizes = Items::from_slice(alloc, sizes.as_slice())?;
+            let part = only_part(alloc, simple_part(sizes, *primitive))?;
+            Ok(part)
+        }
+        (Protocol::CountedArray(count, of), None) => {
+            let part = only_part(alloc, PartType::Counted(*count, *of))?;
+            Ok(part)
+        }
+        (Protocol::Sequential(parts), None) => {
+            let parts = copy_parts(alloc, parts.as_slice())?;
+            Ok(parts)
+        }
+        (Protocol::Variant(tags), Some(tag)) => match tags.as_slice().get(tag as usize) {
+            Some(tag) => {
+                let parts = copy_parts(alloc, tag.parts.as_slice())?;
+                Ok(parts)
+            }
+            None => Err(CheckFault::Protocol { line }),
+        },
+        _ => Err(CheckFault::Protocol { line }),
+    }
+}
+
+fn only_part(alloc: Global, part: PartType) -> Result<Items<PartType>, AllocError>
+    ensures { IfOk result (λ parts. parts ≡ part ∷ []) }
+{
+    let mut parts = Items::new(alloc);
+    parts.push(part)?;
+    Ok(parts)
+}
+
+fn copy_parts(alloc: Global, parts: &[PartType]) -> Result<Items<PartType>, AllocError>
+    ensures { IfOk result (λ copies. copies ≡ parts.now) }
+{
+    let mut copies = Items::new(alloc);
+    for part in parts {
+        copies.push(part.copy(alloc)?)?;
+    }
+    Ok(copies)
+}
+
+/// The name of a tag, which an output on a channel with tags begins with.
+fn as_name(line: u32, out: &Out) -> Result<&[u8], CheckFault>
+    ensures { Gives (λ x. x.now) result (meant.as_name (lines.out_of out.now)) }
+{
+    match out {
+        Out::Whole(e) => name_alone(line, e),
+        Out::Counted(_, _) => Err(CheckFault::Protocol { line }),
+    }
+}
+
+/// A name that is an expression of its own.
+fn name_alone(line: u32, e: &Expr) -> Result<&[u8], CheckFault>
+    ensures { Gives (λ x. x.now) result (meant.as_name (from (trees.expression_of e.now))) }
+{
+    match e {
+        Expr::Operand(a) => name_of_operand(line, a),
+        Expr::Two(_, _, _) => Err(CheckFault::Protocol { line }),
+        Expr::One(_, _) => Err(CheckFault::Protocol { line }),
+        Expr::Convert(_, _) => Err(CheckFault::Protocol { line }),
+        Expr::MostPos => Err(CheckFault::Protocol { line }),
+        Expr::MostNeg => Err(CheckFault::Protocol { line }),
+        Expr::Chain(_, _, _, _) => Err(CheckFault::Protocol { line }),
+    }
+}
+
+fn name_of_operand(line: u32, a: &Operand) -> Result<&[u8], CheckFault>
+    ensures { Gives (λ x. x.now) result (meant.as_name (from (trees.alone (trees.operand_of a.now)))) }
+{
+    match a {
+        Operand::Variable(name, subscripts) => name_without(line, name, subscripts),
+        Operand::Literal(_, _) => Err(CheckFault::Protocol { line }),
+        Operand::Truth(_) => Err(CheckFault::Protocol { line }),
+        Operand::Parens(_) => Err(CheckFault::Protocol { line }),
+    }
+}
+
+/// A name without subscripts.
+fn name_without<'a>(line: u32, name: &'a [u8], subscripts: &[Expr]) -> Result<&'a [u8], CheckFault>
+    ensures { Gives (λ x. x.now) result (meant.as_name (from (trees.alone (trees.variable name.now (trees.expressions (map trees.expression_of subscripts.now)))))) }
+{
+    match subscripts.split_first() {
+        None => Ok(name),
+        Some(_) => Err(CheckFault::Protocol { line }),
+    }
+}
+
+/// The number of the tag of an output where it has one, and its items.
+///
+/// # Errors
+///
+/// As `typed`, `Protocol` for items that are not of the protocol, and `Tag` for a tag that it has not.
+pub fn sent(
+    alloc: Global,
+    scope: Scope<'_, '_>,
+    line: u32,
+    protocol: &Protocol,
+    outs: &OneOrMore<Out>,
+) -> Result<(Option<u32>, Items<Item>), CheckFault>
+    ensures { Gives (λ x. (x.0, terms.items_of x.1)) result (meant.sent (names_in scope.entry) line protocol.now (lines.out_of outs.now.first) (map lines.out_of outs.now.others.items)) }
+{
+    match protocol {
+        Protocol::Variant(_) => {
+            let name = as_name(line, &outs.first)?;
+            let tag = tag_in(line, protocol, name)?;
+            let parts = parts_after(alloc, line, protocol, Some(tag))?;
+            let items = sent_items(alloc, scope, line, parts.as_slice(), &outs.others)?;
+            Ok((Some(tag), items))
+        }
+        _ => {
+            let parts = parts_after(alloc, line, protocol, None)?;
+            let items = sent_list(alloc, scope, line, parts.as_slice(), outs)?;
+            Ok((None, items))
+        }
+    }
+}

@@ -1,0 +1,221 @@
+//! Whether two reference actuals share a cell.
+
+ghost use Rattle.std.specs.Prelude.{◌≡◌, ◌<◌, ◌+◌, IfOk, map, nat_lt};
+ghost use Rattle.occ_term.specs.Messages.{product};
+ghost use Rattle.occ_term.specs.Uses.{constant_subscript, part_named};
+ghost use Rattle.occ_term.specs.View.{subscripts};
+ghost use Rattle.occ_check_meaning.specs.Calls as meant;
+ghost use Rattle.occ_check_meaning.specs.Items.{have_common, part_span};
+ghost use Rattle.occ_check_names.specs.View.{evaluated_of, row_of};
+ghost use Rattle.occ_check_typing.specs.Spans.{span_of};
+ghost use Rattle.occ_check_typing.specs.Meeting.{end_in_turn, ends_before, neighbours_meet};
+ghost use Rattle.occ_check_typing.specs.OpenedView.{pairs_of};
+
+use crate::declaration::Named;
+use occ_check_names::known::{Access, Evaluated, Known, Row};
+use occ_check_names::numbers::components;
+use std::alloc::{AllocError, Global};
+
+/// Cells in a row.
+#[derive(Clone, Copy)]
+pub struct Span {
+    /// The first.
+    pub first: u64,
+    /// How many there are.
+    pub count: u64,
+}
+
+/// Whether two of the names that may be assigned to share a cell. A subscript that is no constant counts the whole array.
+///
+/// # Errors
+///
+/// A refused growth, and a row of more cells than a program may have.
+pub fn some_overlap(alloc: Global, names: &[Named]) -> Result<bool, AllocError>
+    ensures { IfOk result (λ overlap. overlap ≡ meant.some_meet (meant.reference_spans (pairs_of names.now))) }
+{
+    let spans = reference_spans(alloc, names)?;
+    Ok(some_meet(spans))
+}
+
+fn reference_spans(alloc: Global, names: &[Named]) -> Result<Vec<Span>, AllocError>
+    ensures { IfOk result (λ spans. map span_of spans.items ≡ meant.reference_spans (pairs_of names.now)) }
+{
+    let mut spans = Vec::new(alloc);
+    for named in names {
+        if let Known::Cells(Access::Assignable, _, row) = &named.known {
+            spans.push(span_of(row)?)?;
+        }
+    }
+    Ok(spans)
+}
+
+/// Whether two of the rows share a cell. Sorted by their first cells they are apart where each ends before the next begins;
+/// else two neighbours share a cell, or there are rows without a cell, and these alone are compared in pairs.
+pub fn some_meet(mut spans: Vec<Span>) -> bool
+    ensures { result ≡ meant.some_meet (map span_of spans.items) }
+{
+    spans.sort_unstable_by_key(|span| span.first);
+    if stand_apart(&spans) {
+        return false;
+    }
+    if neighbours_meet(&spans) {
+        return true;
+    }
+    some_pair_meets(&spans)
+}
+
+/// Whether each ends before the next one begins.
+fn stand_apart(spans: &[Span]) -> bool
+    ensures { result ≡ end_in_turn (map span_of spans.now) }
+{
+    let mut others = spans;
+    while let Some((span, rest)) = others.split_first() {
+        if let Some(next) = rest.first() {
+            if !ends_before(*span, *next) {
+                return false;
+            }
+        }
+        others = rest;
+    }
+    true
+}
+
+/// Whether the one ends before the other begins.
+fn ends_before(a: Span, b: Span) -> bool
+    ensures { result ≡ ends_before (span_of a) (span_of b) }
+{
+    a.first <= b.first && a.count <= b.first - a.first
+}
+
+/// Whether one shares a cell with the next one.
+fn neighbours_meet(spans: &[Span]) -> bool
+    ensures { result ≡ neighbours_meet (map span_of spans.now) }
+{
+    let mut others = spans;
+    while let Some((span, rest)) = others.split_first() {
+        if let Some(next) = rest.first() {
+            if meets(*span, *next) {
+                return true;
+            }
+        }
+        others = rest;
+    }
+    false
+}
+
+/// Whether two share a cell, pair by pair.
+fn some_pair_meets(spans: &[Span]) -> bool
+    ensures { result ≡ meant.some_meet (map span_of spans.now) }
+{
+    let mut others = spans;
+    while let Some((span, rest)) = others.split_first() {
+        if meets_one(*span, rest) {
+            return true;
+        }
+        others = rest;
+    }
+    false
+}
+
+fn meets_one(span: Span, others: &[Span]) -> bool
+    ensures { result ≡ meant.meets_one (span_of span) (map span_of others.now) }
+{
+    for other in others {
+        if meets(span, *other) {
+            return true;
+        }
+    }
+    false
+}
+
+/// Whether two rows share a cell, where both have some.
+pub fn meets(a: Span, b: Span) -> bool
+    ensures { result ≡ have_common (span_of a) (span_of b) }
+{
+    begins_in(a, b) && begins_in(b, a)
+}
+
+/// Whether the one begins before the other ends.
+fn begins_in(a: Span, b: Span) -> bool
+    ensures { result ≡ nat_lt a.first (b.first + b.count) }
+{
+    a.first < b.first || a.first - b.first < b.count
+}
+
+/// The cells that a row names with its constant subscripts.
+fn span_of(row: &Row) -> Result<Span, AllocError>
+    ensures { IfOk result (λ span. span_of span ≡ part_span (row_of row.now)) }
+{
+    let whole = Span {
+        first: u64::from(row.first),
+        count: all_components(row.sizes.as_slice())?,
+    };
+    part_named(
+        row.subscripts.as_slice(),
+        whole.first,
+        row.sizes.as_slice(),
+        whole,
+    )
+}
+
+fn part_named(
+    under: &[Evaluated],
+    first: u64,
+    sizes: &[u32],
+    whole: Span,
+) -> Result<Span, AllocError>
+    ensures { IfOk result (λ span. span_of span ≡ part_named (subscripts (map evaluated_of under.now)) first sizes.now (span_of whole)) }
+{
+    match under.split_first() {
+        None => {
+            let count = all_components(sizes)?;
+            Ok(Span { first, count })
+        }
+        Some((subscript, rest)) => match sizes.split_first() {
+            None => Ok(whole),
+            Some((size, others)) => match index_within(*subscript, *size) {
+                None => Ok(whole),
+                Some(index) => {
+                    let step = u64::from(index) * all_components(others)?;
+                    match first.checked_add(step) {
+                        None => Err(AllocError),
+                        Some(first) => part_named(rest, first, others, whole),
+                    }
+                }
+            },
+        },
+    }
+}
+
+/// A constant subscript within the size.
+pub fn index_within(subscript: Evaluated, size: u32) -> Option<u32>
+    ensures { result ≡ constant_subscript (evaluated_of subscript) size }
+{
+    match subscript {
+        Evaluated::Value(value) => {
+            if value >= 0 && value < i64::from(size) {
+                Some(value as u32)
+            } else {
+                None
+            }
+        }
+        Evaluated::Cell(_, _) => None,
+    }
+}
+
+/// How many components an array of these sizes has.
+///
+/// # Errors
+///
+/// More than a program may have.
+pub fn all_components(sizes: &[u32]) -> Result<u64, AllocError>
+    ensures product { IfOk result (λ all. all ≡ product sizes.now) }
+    ensures small { IfOk result (λ all. all < 4294967296) }
+{
+    let count = components(sizes);
+    if count < 4_294_967_295 {
+        Ok(u64::from(count))
+    } else {
+        Err(AllocError)
+    }
+}

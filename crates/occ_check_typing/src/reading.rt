@@ -1,0 +1,247 @@
+//! Names under subscripts.
+
+ghost use Rattle.std.specs.Prelude.{◌≡◌, ◌∷◌, [], IfOk, Some, map, pos};
+ghost use Rattle.occ_term.specs.Terms.{no_subscripts, then_subscript};
+ghost use Rattle.occ_term.specs.View.{expression_of, subscripts};
+ghost use Rattle.occ_term.specs.declared.primitive.Primitive.TheVariants.{Int};
+ghost use Rattle.occ_check_meaning.specs.Expressions as meant;
+ghost use Rattle.occ_check_meaning.specs.Scope.{a_string, a_value, kept, some_cells};
+ghost use Rattle.occ_check_names.specs.View.{Gives, known_of, part_of, row_of, typed_of};
+
+use occ_check_names::constant::is_within_size;
+use occ_check_names::copying::evaluated_subscripts;
+use occ_check_names::fault::CheckFault;
+use occ_check_names::known::{Known, Row};
+use occ_check_names::literal::whole_string;
+use occ_check_names::typed::{Part, Typed};
+use occ_held::Held;
+use occ_term::{Array, Place, Primitive, TermExpr};
+use sqlite_items::{Boxed, Items};
+use std::alloc::{AllocError, Global};
+
+/// The sizes that subscripts leave.
+///
+/// # Errors
+///
+/// `WrongType` for more subscripts than sizes, `Subscript` for a constant one outside its size.
+fn left_by<'a>(
+    line: u32,
+    under_these: &[TermExpr],
+    sizes: &'a [u32],
+) -> Result<&'a [u32], CheckFault>
+    ensures { Gives (λ left. left.now) result (meant.left_by (subscripts (map expression_of under_these.now)) sizes.now) }
+{
+    let mut left = sizes;
+    for subscript in under_these {
+        match left_by_one(line, subscript, left) {
+            Ok(others) => left = others,
+            Err(e) => return Err(e),
+        }
+    }
+    Ok(left)
+}
+
+/// The sizes that one subscript leaves.
+fn left_by_one<'a>(
+    line: u32,
+    subscript: &TermExpr,
+    sizes: &'a [u32],
+) -> Result<&'a [u32], CheckFault>
+    ensures { Gives (λ left. left.now) result (meant.left_by (subscripts (expression_of subscript.now ∷ [])) sizes.now) }
+{
+    match sizes.split_first() {
+        None => Err(CheckFault::WrongType { line }),
+        Some((size, others)) => {
+            if is_within_size(subscript, u64::from(*size))? {
+                Ok(others)
+            } else {
+                Err(CheckFault::Subscript { line })
+            }
+        }
+    }
+}
+
+/// A row under subscripts.
+///
+/// # Errors
+///
+/// `WrongType` for more subscripts than sizes, `Subscript` for a constant one outside its size, and `Memory`.
+pub fn under(
+    alloc: Global,
+    line: u32,
+    row: &Row,
+    under_these: Items<TermExpr>,
+) -> Result<Part, CheckFault>
+    ensures part { Gives part_of result (meant.under (row_of row.now) (subscripts (map expression_of under_these))) }
+    ensures line { IfOk result (λ part. part.place.line ≡ line) }
+{
+    let left = left_by(line, under_these.as_slice(), row.left.as_slice())?;
+    let left = Items::from_slice(alloc, left)?;
+    let sizes = Items::from_slice(alloc, row.sizes.as_slice())?;
+    let subscripts = joined(alloc, row, under_these)?;
+    let place = Place {
+        line,
+        first: row.first,
+        sizes,
+        subscripts,
+    };
+    Ok(Part { place, left })
+}
+
+/// The subscripts of a row, and further ones.
+fn joined(
+    alloc: Global,
+    row: &Row,
+    under_these: Items<TermExpr>,
+) -> Result<Items<TermExpr>, AllocError>
+    ensures { IfOk result (λ all. subscripts (map expression_of all) ≡ meant.joined ((row_of row.now).subscripts) (subscripts (map expression_of under_these))) }
+{
+    let mut all = evaluated_subscripts(alloc, row.subscripts.as_slice())?;
+    all.append(under_these)?;
+    Ok(all)
+}
+
+/// A part that is read: a single cell or component, or a whole array.
+fn read_part(primitive: Primitive, part: Part) -> Typed
+    ensures { typed_of result ≡ meant.read_row part.place.line primitive (part_of part) part.left }
+{
+    if !part.left.is_empty() {
+        return Typed::Whole(primitive, part.left, Array::Cells(part.place));
+    }
+    let place = part.place;
+    if place.sizes.is_empty() {
+        Typed::Single(primitive, TermExpr::Cell(place.line, place.first))
+    } else {
+        Typed::Single(primitive, TermExpr::Component(place))
+    }
+}
+
+/// A string under subscripts.
+///
+/// # Errors
+///
+/// `WrongType` for two subscripts, `Subscript` for a constant one outside of the string, and `Memory`.
+fn read_string(
+    alloc: Global,
+    line: u32,
+    bytes: &[u8],
+    under_these: Items<TermExpr>,
+) -> Result<Typed, CheckFault>
+    ensures { Gives typed_of result (meant.read line (a_string (map pos bytes.now)) (subscripts (map expression_of under_these))) }
+{
+    let mut subscripts = under_these;
+    match subscripts.pop() {
+        None => named_string(alloc, bytes),
+        Some(subscript) => {
+            if subscripts.is_empty() {
+                letter(alloc, line, bytes, subscript)
+            } else {
+                Err(CheckFault::WrongType { line })
+            }
+        }
+    }
+}
+
+/// A whole string that is named.
+fn named_string(alloc: Global, bytes: &[u8]) -> Result<Typed, CheckFault>
+    ensures { Gives typed_of result (Some (meant.whole_string (map pos bytes.now))) }
+{
+    match u32::try_from(bytes.len()) {
+        Ok(size) => {
+            let bytes = Items::from_slice(alloc, bytes)?;
+            Ok(whole_string(alloc, size, bytes)?)
+        }
+        Err(_) => Err(CheckFault::Memory),
+    }
+}
+
+/// A component of a string.
+fn letter(alloc: Global, line: u32, bytes: &[u8], subscript: TermExpr) -> Result<Typed, CheckFault>
+    ensures { Gives typed_of result (meant.read line (a_string (map pos bytes.now)) (then_subscript (expression_of subscript) no_subscripts)) }
+{
+    let subscript = Held::new(subscript);
+    if !is_within_size(&subscript.value, bytes.len() as u64)? {
+        return Err(CheckFault::Subscript { line });
+    }
+    let bytes = Items::from_slice(alloc, bytes)?;
+    let subscript = Boxed::new(alloc, subscript.into_inner())?;
+    Ok(Typed::Single(Primitive::Byte, TermExpr::Letter(line, bytes, subscript)))
+}
+
+/// What a name under subscripts is, where it is read.
+///
+/// # Errors
+///
+/// `WrongKind` for a channel or a protocol, `WrongType` for too many subscripts, `Subscript` for a constant one
+/// outside its size, and `Memory`.
+pub fn read(
+    alloc: Global,
+    line: u32,
+    known: &Known,
+    under_these: Items<TermExpr>,
+) -> Result<Typed, CheckFault>
+    ensures { Gives typed_of result (meant.read line (known_of known.now) (subscripts (map expression_of under_these))) }
+{
+    match known {
+        Known::Value(primitive, value) => {
+            read_value(line, *primitive, *value, under_these.as_slice())
+        }
+        Known::Text(bytes) => read_string(alloc, line, bytes.as_slice(), under_these),
+        Known::Cells(_, primitive, row) => {
+            let part = under(alloc, line, row, under_these)?;
+            Ok(read_part(*primitive, part))
+        }
+        Known::Channels(_, _) => Err(CheckFault::WrongKind { line }),
+        Known::Protocol(_) => Err(CheckFault::WrongKind { line }),
+    }
+}
+
+/// A constant, which takes no subscripts.
+fn read_value(
+    line: u32,
+    primitive: Primitive,
+    value: i64,
+    under_these: &[TermExpr],
+) -> Result<Typed, CheckFault>
+    ensures { Gives typed_of result (meant.read line (a_value primitive value) (subscripts (map expression_of under_these.now))) }
+{
+    match under_these.split_first() {
+        None => Ok(Typed::Single(primitive, TermExpr::Constant(value))),
+        Some(_) => Err(CheckFault::WrongType { line }),
+    }
+}
+
+/// The SIZE of what a name under subscripts stands for.
+///
+/// # Errors
+///
+/// `WrongType` for what is no array, and as `under`.
+pub fn size_of_known(
+    line: u32,
+    known: &Known,
+    under_these: &[TermExpr],
+) -> Result<u64, CheckFault>
+    ensures { Gives (λ n. n) result (meant.size_of_known (known_of known.now) (subscripts (map expression_of under_these.now))) }
+{
+    match known {
+        Known::Value(_, _) => Err(CheckFault::WrongType { line }),
+        Known::Text(bytes) => match under_these.split_first() {
+            None => Ok(bytes.len() as u64),
+            Some(_) => Err(CheckFault::WrongType { line }),
+        },
+        Known::Cells(_, _, row) => size_of_row(line, row, under_these),
+        Known::Channels(_, row) => size_of_row(line, row, under_these),
+        Known::Protocol(_) => Err(CheckFault::WrongKind { line }),
+    }
+}
+
+/// The first of the sizes that subscripts leave.
+fn size_of_row(line: u32, row: &Row, under_these: &[TermExpr]) -> Result<u64, CheckFault>
+    ensures { Gives (λ n. n) result (meant.size_of_known (some_cells kept Int (row_of row.now)) (subscripts (map expression_of under_these.now))) }
+{
+    let left = left_by(line, under_these, row.left.as_slice())?;
+    match left.first() {
+        Some(size) => Ok(u64::from(*size)),
+        None => Err(CheckFault::WrongType { line }),
+    }
+}

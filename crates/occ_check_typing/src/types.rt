@@ -1,0 +1,441 @@
+//! Sizes, parts of messages, and protocols.
+
+ghost use Rattle.std.specs.Prelude.{◌≡◌, ◌∷◌, IfOk, IsTrue, Some, map, min, option_map};
+ghost use Rattle.occ_tree_grammar.specs.Expressions.Trees as trees;
+ghost use Rattle.occ_tree_grammar.specs.Lines.Trees.{given};
+ghost use Rattle.occ_tree_grammar.specs.Lines.Views as lines;
+ghost use Rattle.occ_tree_grammar.specs.Processes.Views as processes;
+ghost use Rattle.occ_term.specs.Messages.{is_of, simple_part};
+ghost use Rattle.occ_term.specs.declared.primitive.Primitive.TheVariants.{Int};
+ghost use Rattle.occ_check_meaning.specs.Constants as constants;
+ghost use Rattle.occ_check_meaning.specs.Scope.{each_of, keep, once};
+ghost use Rattle.occ_check_meaning.specs.Types as meant;
+ghost use Rattle.occ_check_names.specs.View.{Gives, carried_of, known_of, names_in};
+
+use crate::declaration::once as names_once;
+use crate::expression::{constant_as, known_name};
+use occ_check_names::fault::CheckFault;
+use occ_check_names::known::{Carried, Known};
+use occ_check_names::numbers::components;
+use occ_check_names::operators::{is_number, primitive_of};
+use occ_check_names::scope::Scope;
+use occ_term::{PartType, Primitive, Protocol, Tag};
+use occ_tree_grammar::tree::expr::Expr;
+use occ_tree_grammar::tree::line::{Carried as CarriedTree, OneOrMore, Part, Size};
+use occ_tree_grammar::tree::process::{Protocol as ProtocolTree, Tag as TagTree};
+use sqlite_items::Items;
+use std::alloc::{AllocError, Global};
+
+/// How many components an array may have.
+const MOST: u32 = 65_536;
+
+// ---- sizes
+
+/// The sizes of a declaration, or of a part of a message.
+///
+/// # Errors
+///
+/// As `constant_as` of an INT, `BadCount` for one below 1, and `TooLarge` for more components than a program may have.
+pub fn sizes_of(
+    alloc: Global,
+    scope: Scope<'_, '_>,
+    line: u32,
+    sizes: &[Expr],
+) -> Result<Items<u32>, CheckFault>
+    ensures { Gives (λ sizes. sizes) result (meant.sizes_of (names_in scope.entry) line (trees.expressions (map trees.expression_of sizes.now))) }
+{
+    let sizes = each_size(alloc, scope, line, sizes)?;
+    not_too_large(sizes)
+}
+
+/// Sizes, in order.
+fn each_size(
+    alloc: Global,
+    scope: Scope<'_, '_>,
+    line: u32,
+    sizes: &[Expr],
+) -> Result<Items<u32>, CheckFault>
+    ensures { Gives (λ sizes. sizes) result (meant.each_size (names_in scope.entry) line (trees.expressions (map trees.expression_of sizes.now))) }
+{
+    let mut made = Items::new(alloc);
+    for size in sizes {
+        let size = match given_size(alloc, scope, line, size) {
+            Ok(size) => size,
+            Err(e) => return Err(e),
+        };
+        made.push(size)?;
+    }
+    Ok(made)
+}
+
+/// A size that is given.
+fn given_size(
+    alloc: Global,
+    scope: Scope<'_, '_>,
+    line: u32,
+    size: &Expr,
+) -> Result<u32, CheckFault>
+    ensures { Gives (λ n. Some n) result (meant.open_size (names_in scope.entry) line (given (trees.expression_of size.now))) }
+{
+    let value = constant_as(alloc, scope, line, Primitive::Int, size)?;
+    a_size(line, value)
+}
+
+/// A size, at least 1.
+fn a_size(line: u32, value: i64) -> Result<u32, CheckFault>
+    requires { IsTrue (is_of Int value) }
+    ensures { Gives (λ n. n) result (constants.a_size value) }
+{
+    if value >= 1 {
+        Ok(value as u32)
+    } else {
+        Err(CheckFault::BadCount { line })
+    }
+}
+
+/// Sizes of no more components than there may be.
+fn not_too_large(sizes: Items<u32>) -> Result<Items<u32>, CheckFault>
+    ensures { Gives (λ sizes. sizes) result (meant.not_too_large sizes) }
+{
+    if components(sizes.as_slice()) <= MOST {
+        Ok(sizes)
+    } else {
+        Err(CheckFault::TooLarge)
+    }
+}
+
+/// The sizes of a named value or a formal, where none stands for any size.
+///
+/// # Errors
+///
+/// As `sizes_of`.
+pub fn open_sizes_of(
+    alloc: Global,
+    scope: Scope<'_, '_>,
+    line: u32,
+    sizes: &[Size],
+) -> Result<Items<Option<u32>>, CheckFault>
+    ensures { Gives (λ sizes. sizes) result (meant.open_sizes_of (names_in scope.entry) line (map lines.size_of sizes.now)) }
+{
+    let sizes = each_open_size(alloc, scope, line, sizes)?;
+    few(sizes)
+}
+
+/// Sizes that may be open, in order.
+fn each_open_size(
+    alloc: Global,
+    scope: Scope<'_, '_>,
+    line: u32,
+    sizes: &[Size],
+) -> Result<Items<Option<u32>>, CheckFault>
+    ensures { Gives (λ sizes. sizes) result (each_of (meant.open_size (names_in scope.entry) line) (map lines.size_of sizes.now)) }
+{
+    let mut made = Items::new(alloc);
+    for size in sizes {
+        let size = match open_size(alloc, scope, line, size) {
+            Ok(size) => size,
+            Err(e) => return Err(e),
+        };
+        made.push(size)?;
+    }
+    Ok(made)
+}
+
+/// A size that may be open.
+fn open_size(
+    alloc: Global,
+    scope: Scope<'_, '_>,
+    line: u32,
+    size: &Size,
+) -> Result<Option<u32>, CheckFault>
+    ensures { Gives (λ size. size) result (meant.open_size (names_in scope.entry) line (lines.size_of size.now)) }
+{
+    match size {
+        Size::Open => Ok(None),
+        Size::Given(size) => Ok(Some(given_size(alloc, scope, line, size)?)),
+    }
+}
+
+/// Open sizes that, where all are given, are of no more components than there may be.
+fn few(sizes: Items<Option<u32>>) -> Result<Items<Option<u32>>, CheckFault>
+    ensures { Gives (λ sizes. sizes) result (keep (meant.is_few (meant.given_product sizes)) sizes) }
+{
+    match given_components(sizes.as_slice()) {
+        None => Ok(sizes),
+        Some(count) => {
+            if count <= MOST {
+                Ok(sizes)
+            } else {
+                Err(CheckFault::TooLarge)
+            }
+        }
+    }
+}
+
+/// How many components there are, up to the largest `u32`; none where a size is open.
+fn given_components(sizes: &[Option<u32>]) -> Option<u32>
+    ensures { result ≡ option_map (λ n. min n 4294967295) (meant.given_product sizes.now) }
+{
+    let mut count = 1_u32;
+    for size in sizes {
+        match size {
+            None => return None,
+            Some(size) => count = count.saturating_mul(*size),
+        }
+    }
+    Some(count)
+}
+
+// ---- parts and protocols
+
+/// The type of a count: INT or BYTE.
+fn count_type(line: u32, primitive: Primitive) -> Result<Primitive, CheckFault>
+    ensures { Gives (λ t. t) result (meant.count_type primitive) }
+{
+    if is_number(primitive) {
+        Ok(primitive)
+    } else {
+        Err(CheckFault::WrongType { line })
+    }
+}
+
+/// A part of a message.
+fn part_of(
+    alloc: Global,
+    scope: Scope<'_, '_>,
+    line: u32,
+    part: &Part,
+) -> Result<PartType, CheckFault>
+    ensures { Gives (λ t. t) result (meant.part_of (names_in scope.entry) line (lines.part_of part.now)) }
+{
+    match part {
+        Part::Single(sizes, primitive) => {
+            let sizes = sizes_of(alloc, scope, line, sizes)?;
+            Ok(simple_part(sizes, primitive_of(*primitive)))
+        }
+        Part::Counted(count, primitive) => {
+            let count = count_type(line, primitive_of(*count))?;
+            Ok(PartType::Counted(count, primitive_of(*primitive)))
+        }
+    }
+}
+
+/// A value, or an array where there are sizes.
+pub fn simple_part(sizes: Items<u32>, primitive: Primitive) -> PartType
+    ensures { result ≡ simple_part sizes primitive }
+{
+    match sizes.as_slice().split_first() {
+        None => PartType::One(primitive),
+        Some(_) => PartType::Many(sizes, primitive),
+    }
+}
+
+/// Parts of a message, in order.
+fn each_part(
+    alloc: Global,
+    scope: Scope<'_, '_>,
+    line: u32,
+    parts: &[Part],
+) -> Result<Items<PartType>, CheckFault>
+    ensures { Gives (λ ts. ts) result (each_of (meant.part_of (names_in scope.entry) line) (map lines.part_of parts.now)) }
+{
+    let mut made = Items::new(alloc);
+    for part in parts {
+        let part = match part_of(alloc, scope, line, part) {
+            Ok(part) => part,
+            Err(e) => return Err(e),
+        };
+        made.push(part)?;
+    }
+    Ok(made)
+}
+
+/// One or more parts, in order.
+#[tactic(auto, unfolding(occ_check_meaning::specs::Scope::each_of))]
+fn parts_of(
+    alloc: Global,
+    scope: Scope<'_, '_>,
+    line: u32,
+    parts: &OneOrMore<Part>,
+) -> Result<Items<PartType>, CheckFault>
+    ensures { Gives (λ ts. ts) result (each_of (meant.part_of (names_in scope.entry) line) (lines.part_of parts.now.first ∷ map lines.part_of parts.now.others.items)) }
+{
+    let first = part_of(alloc, scope, line, &parts.first)?;
+    let others = each_part(alloc, scope, line, &parts.others)?;
+    let mut all = Items::new(alloc);
+    all.push(first)?;
+    all.append(others)?;
+    Ok(all)
+}
+
+/// What a channel of this declaration or formal carries.
+///
+/// # Errors
+///
+/// As `sizes_of`, `Unknown` and `WrongKind` for a name that is no protocol's, and `WrongType` for a count of BOOL.
+pub fn carried_by(
+    alloc: Global,
+    scope: Scope<'_, '_>,
+    line: u32,
+    carried: &CarriedTree,
+) -> Result<Carried, CheckFault>
+    ensures { Gives carried_of result (meant.carried_of (names_in scope.entry) line (lines.carried_of carried.now)) }
+{
+    match carried {
+        CarriedTree::Part(part) => {
+            let protocol = plain_protocol(alloc, scope, line, part)?;
+            Ok(Carried {
+                declared: None,
+                protocol,
+            })
+        }
+        CarriedTree::Named(name) => {
+            let known = known_name(alloc, scope, line, name)?;
+            as_protocol(alloc, line, known)
+        }
+    }
+}
+
+/// What a channel carries that has no protocol's name.
+fn plain_protocol(
+    alloc: Global,
+    scope: Scope<'_, '_>,
+    line: u32,
+    part: &Part,
+) -> Result<Protocol, CheckFault>
+    ensures { Gives (λ p. p) result (meant.plain_protocol (names_in scope.entry) line (lines.part_of part.now)) }
+{
+    match part {
+        Part::Single(sizes, primitive) => {
+            let sizes = sizes_of(alloc, scope, line, sizes)?;
+            Ok(Protocol::Simple(sizes, primitive_of(*primitive)))
+        }
+        Part::Counted(count, primitive) => {
+            let count = count_type(line, primitive_of(*count))?;
+            Ok(Protocol::CountedArray(count, primitive_of(*primitive)))
+        }
+    }
+}
+
+/// The protocol that a name stands for.
+fn as_protocol(alloc: Global, line: u32, known: &Known) -> Result<Carried, CheckFault>
+    ensures { Gives carried_of result (meant.as_protocol (known_of known.now)) }
+{
+    match known {
+        Known::Protocol(carried) => {
+            let carried = carried.copy(alloc)?;
+            Ok(carried)
+        }
+        Known::Value(_, _) => Err(CheckFault::WrongKind { line }),
+        Known::Text(_) => Err(CheckFault::WrongKind { line }),
+        Known::Cells(_, _, _) => Err(CheckFault::WrongKind { line }),
+        Known::Channels(_, _) => Err(CheckFault::WrongKind { line }),
+    }
+}
+
+/// The protocol that a declaration names.
+///
+/// # Errors
+///
+/// As `carried_by`, and `Twice` for a tag that stands twice.
+pub fn protocol_of(
+    alloc: Global,
+    scope: Scope<'_, '_>,
+    protocol: &ProtocolTree,
+) -> Result<Protocol, CheckFault>
+    ensures { Gives (λ protocol. protocol) result (meant.protocol_of (names_in scope.entry) (processes.protocol_of protocol.now)) }
+{
+    match protocol {
+        ProtocolTree::Parts(line, _, parts) => {
+            match parts_of(alloc, scope, *line, parts) {
+                Ok(parts) => Ok(Protocol::Sequential(parts)),
+                Err(e) => Err(e),
+            }
+        }
+        ProtocolTree::Tags(_, _, _, tags, _) => {
+            let tags = tags.as_slice();
+            if let Err(e) = tags_once(alloc, tags) {
+                return Err(e);
+            }
+            match each_tag(alloc, scope, tags) {
+                Ok(tags) => Ok(Protocol::Variant(tags)),
+                Err(e) => Err(e),
+            }
+        }
+    }
+}
+
+/// A tag with its parts.
+fn tag_of(alloc: Global, scope: Scope<'_, '_>, tag: &TagTree) -> Result<Tag, CheckFault>
+    ensures { Gives (λ t. t) result (meant.tag_of (names_in scope.entry) (processes.tag_of tag.now)) }
+{
+    let parts = each_part(alloc, scope, tag.line, &tag.parts)?;
+    let name = Items::from_slice(alloc, &tag.name)?;
+    Ok(Tag { name, parts })
+}
+
+/// Tags, in order.
+fn each_tag(alloc: Global, scope: Scope<'_, '_>, tags: &[TagTree]) -> Result<Items<Tag>, CheckFault>
+    ensures { Gives (λ ts. ts) result (each_of (meant.tag_of (names_in scope.entry)) (map processes.tag_of tags.now)) }
+{
+    let mut made = Items::new(alloc);
+    for tag in tags {
+        let tag = match tag_of(alloc, scope, tag) {
+            Ok(tag) => tag,
+            Err(e) => return Err(e),
+        };
+        made.push(tag)?;
+    }
+    Ok(made)
+}
+
+/// That no tag stands twice.
+fn tags_once(alloc: Global, tags: &[TagTree]) -> Result<(), CheckFault>
+    ensures { Gives (λ _. meant.tag_names (map processes.tag_of tags.now)) result (once (meant.tag_names (map processes.tag_of tags.now))) }
+{
+    let names = names_of_tags(alloc, tags)?;
+    match names_once(alloc, 0, names.as_slice()) {
+        Ok(()) => Ok(()),
+        Err(CheckFault::Twice { name, .. }) => {
+            let line = second_line(tags, name.as_bytes());
+            Err(CheckFault::Twice { line, name })
+        }
+        Err(e) => Err(e),
+    }
+}
+
+/// The names of tags, in order.
+fn names_of_tags(alloc: Global, tags: &[TagTree]) -> Result<Items<Items<u8>>, AllocError>
+    ensures { IfOk result (λ names. names ≡ meant.tag_names (map processes.tag_of tags.now)) }
+{
+    let mut names = Items::new(alloc);
+    for tag in tags {
+        names.push(Items::from_slice(alloc, &tag.name)?)?;
+    }
+    Ok(names)
+}
+
+/// The line of the second tag with this name.
+fn second_line(tags: &[TagTree], name: &[u8]) -> u32 {
+    let mut is_second = false;
+    for tag in tags {
+        if tag.name.as_slice() == name {
+            if is_second {
+                return tag.line;
+            }
+            is_second = true;
+        }
+    }
+    0
+}
+
+/// Whether two lists of sizes are one.
+pub fn are_same_sizes(a: &[u32], b: &[u32]) -> bool
+    ensures { result ≡ meant.are_same_sizes a.now b.now }
+{
+    match (a.split_first(), b.split_first()) {
+        (None, None) => true,
+        (Some((m, ms)), Some((n, ns))) => *m == *n && are_same_sizes(ms, ns),
+        _ => false,
+    }
+}
