@@ -12,15 +12,15 @@ ghost use Rattle.occ_check_acting.specs.ActionView.{Chooses, chosen_of, listed_o
 ghost use Rattle.occ_check_typing.specs.Zipped.{zipped};
 ghost use Rattle.occ_check_names.specs.View.{Gives, names_in, part_of, typed_of};
 
-use occ_check_typing::expression::{as_single, typed, typed_as};
+use crate::target::{apart, placed, stored, stored_list};
+use indexmap::IndexSet;
 use occ_check_names::fault::CheckFault;
-use occ_check_typing::item::{channel_of, parts_after, sent, tag_in, variable_of};
 use occ_check_names::operators::{is_number, is_same_type};
 use occ_check_names::scope::Scope;
-use crate::target::{apart, placed, stored, stored_list};
 use occ_check_names::typed::{Part, Typed};
+use occ_check_typing::expression::{as_single, typed, typed_as};
+use occ_check_typing::item::{channel_of, parts_after, sent, tag_in, variable_of};
 use occ_check_typing::types::are_same_sizes;
-use indexmap::IndexSet;
 use occ_held::Held;
 use occ_term::{Item, Place, Primitive, Protocol, Reception, Target, Term, TermExpr, Variant};
 use occ_tree_grammar::tree::expr::Expr;
@@ -419,11 +419,7 @@ pub fn choosing_else(line: u32, chosen: &mut Chosen) -> Result<(), CheckFault>
 }
 
 /// The list of an arm, and the process behind it.
-pub fn as_reception(
-    alloc: Global,
-    listed: Listed,
-    body: Term,
-) -> Result<Reception, AllocError>
+pub fn as_reception(alloc: Global, listed: Listed, body: Term) -> Result<Reception, AllocError>
     ensures { IfOk result (λ r. terms.reception_of r ≡ meant.as_reception (listed_of listed) (terms.term_of body)) }
 {
     match listed {

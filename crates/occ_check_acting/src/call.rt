@@ -16,15 +16,15 @@ ghost use Rattle.occ_check_names.specs.declared.numbers.Numbers.{Numbers};
 ghost use Rattle.occ_check_acting.specs.CallView.{Evaluates, channels_bound, formal_of, formals_of, given_of, listed_formals, named_formal, one_constant, part_under, variable_bound, wanted_of, wants_a_value, wants_a_variable};
 
 use occ_check_names::constant::{constant_of, is_below};
-use occ_check_typing::declaration::{Opened, has_type, name_value, once, takes_sizes};
-use occ_check_typing::expression::{known_name, typed, typed_subscripts};
 use occ_check_names::fault::CheckFault;
 use occ_check_names::known::{Access, Carried, Evaluated, Known, Row};
 use occ_check_names::measuring::count_declaration;
 use occ_check_names::numbers::Numbers;
 use occ_check_names::operators::{is_same_type, primitive_of};
-use occ_check_typing::overlap::some_overlap;
 use occ_check_names::scope::Scope;
+use occ_check_typing::declaration::{Opened, has_type, name_value, once, takes_sizes};
+use occ_check_typing::expression::{known_name, typed, typed_subscripts};
+use occ_check_typing::overlap::some_overlap;
 use occ_check_typing::types::{carried_by, open_sizes_of};
 use occ_held::Held;
 use occ_term::{Declaration, Item, Primitive, Protocol, TermExpr};

@@ -11,10 +11,10 @@ ghost use Rattle.occ_check_names.specs.View.{Gives, names_in, part_of};
 
 use crate::clash::some_clash;
 use occ_check_names::fault::CheckFault;
-use occ_check_typing::item::variable_of;
 use occ_check_names::operators::is_same_type;
 use occ_check_names::scope::Scope;
 use occ_check_names::typed::Part;
+use occ_check_typing::item::variable_of;
 use occ_check_typing::types::are_same_sizes;
 use occ_held::Held;
 use occ_term::{PartType, Place, Primitive, Target};

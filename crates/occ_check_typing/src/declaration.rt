@@ -12,8 +12,10 @@ ghost use Rattle.occ_check_meaning.specs.Types as types;
 ghost use Rattle.occ_check_names.specs.View.{Gives, carried_of, known_of, names_in, numbers_of, row_of, typed_of};
 ghost use Rattle.occ_check_typing.specs.OpenedView.{Indexes, Opens, pair_of, pairs_of};
 
-use occ_check_names::constant::constant_of;
 use crate::expression::{constant_as, typed, typed_as};
+use crate::types::{carried_by, open_sizes_of, protocol_of, sizes_of};
+use indexmap::IndexSet;
+use occ_check_names::constant::constant_of;
 use occ_check_names::fault::{CheckFault, twice};
 use occ_check_names::known::{Access, Carried, Known, Row};
 use occ_check_names::measuring::{count_declaration, count_replicator};
@@ -21,8 +23,6 @@ use occ_check_names::numbers::{Numbers, components};
 use occ_check_names::operators::{is_same_type, primitive_of};
 use occ_check_names::scope::Scope;
 use occ_check_names::typed::Typed;
-use crate::types::{carried_by, open_sizes_of, protocol_of, sizes_of};
-use indexmap::IndexSet;
 use occ_held::Held;
 use occ_term::{Array, Declaration, Item, Primitive, Replicator, TermExpr};
 use occ_tree_grammar::tree::expr::Expr;
@@ -563,11 +563,7 @@ fn count_of(line: u32, base: i64, count: i64) -> Result<u64, CheckFault>
 }
 
 /// The index of a copy, which is a constant there.
-pub fn index_of(
-    alloc: Global,
-    replicator: &ReplicatorTree,
-    i: i64,
-) -> Result<Named, AllocError>
+pub fn index_of(alloc: Global, replicator: &ReplicatorTree, i: i64) -> Result<Named, AllocError>
     ensures { IfOk result (λ x. pair_of x ∷ [] ≡ meant.index_of (lines.replicator_of replicator.now) i) }
 {
     Named::new(alloc, &replicator.name, Known::Value(Primitive::Int, i))

@@ -9,13 +9,15 @@ ghost use Rattle.occ_term.specs.declared.primitive.Primitive.TheVariants.{Bool a
 ghost use Rattle.occ_check_meaning.specs.Expressions as meant;
 ghost use Rattle.occ_check_names.specs.View.{Gives, known_of, names_in, typed_of};
 
+pub use crate::reading::under;
+use crate::reading::{read, size_of_known};
 use occ_check_names::constant::constant_of;
 use occ_check_names::fault::{CheckFault, unknown};
 use occ_check_names::known::Known;
 use occ_check_names::literal::{constant_typed, string_size, typed_literal};
-use occ_check_names::operators::{is_same_type, operator_of, primitive_of, result_of, takes_operand};
-pub use crate::reading::under;
-use crate::reading::{read, size_of_known};
+use occ_check_names::operators::{
+    is_same_type, operator_of, primitive_of, result_of, takes_operand,
+};
 use occ_check_names::scope::{Found, Scope};
 use occ_check_names::typed::Typed;
 use occ_held::Held;
@@ -31,12 +33,7 @@ use std::alloc::{AllocError, Global};
 /// `Unknown`, `WrongKind`, `WrongType` and `Subscript` refuse it, `Memory` tells of a refused growth.
 #[cycle(typing)]
 #[tactic(auto, unfolding(occ_check_meaning::specs::Expressions::typed))]
-pub fn typed(
-    alloc: Global,
-    scope: Scope<'_, '_>,
-    line: u32,
-    e: &Expr,
-) -> Result<Typed, CheckFault>
+pub fn typed(alloc: Global, scope: Scope<'_, '_>, line: u32, e: &Expr) -> Result<Typed, CheckFault>
     ensures { Gives typed_of result (meant.typed (names_in scope.entry) line (trees.expression_of e.now)) }
 {
     match e {

@@ -13,13 +13,13 @@ ghost use Rattle.occ_check_meaning.specs.Items as meant;
 ghost use Rattle.occ_check_names.specs.View.{Gives, carried_of, known_of, names_in, part_of, row_of, typed_of};
 
 use crate::expression::{known_name, typed, typed_subscripts};
+use crate::reading::under;
+use crate::types::{are_same_sizes, simple_part};
 use occ_check_names::fault::CheckFault;
 use occ_check_names::known::{Access, Carried, Known, Row};
 use occ_check_names::operators::is_same_type;
-use crate::reading::under;
 use occ_check_names::scope::Scope;
 use occ_check_names::typed::{Part, Typed};
-use crate::types::{are_same_sizes, simple_part};
 use occ_held::Held;
 use occ_term::{Array, Item, PartType, Place, Primitive, Protocol, Tag, TermExpr};
 use occ_tree_grammar::tree::expr::{Expr, Operand};

@@ -216,11 +216,7 @@ fn read_value(
 /// # Errors
 ///
 /// `WrongType` for what is no array, and as `under`.
-pub fn size_of_known(
-    line: u32,
-    known: &Known,
-    under_these: &[TermExpr],
-) -> Result<u64, CheckFault>
+pub fn size_of_known(line: u32, known: &Known, under_these: &[TermExpr]) -> Result<u64, CheckFault>
     ensures { Gives (λ n. n) result (meant.size_of_known (known_of known.now) (subscripts (map expression_of under_these.now))) }
 {
     match known {
