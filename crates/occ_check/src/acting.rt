@@ -22,16 +22,16 @@ ghost use Rattle.occ_check_names.specs.View.{Counts, Unfolds, names_in, numbers_
 ghost use Rattle.occ_check.specs.Weights.{decls_size};
 ghost use Rattle.occ_check.specs.Progress.{EntersAt, counted, meant_at, weight_at};
 
-use occ_check_acting::action::{Listed, as_input, assigned, output, received};
-use occ_check_typing::expression::typed_as;
-use occ_check_names::fault::CheckFault;
 use crate::frames::Frames;
+use crate::unfolder::Unfolder;
+use occ_check_acting::action::{Listed, as_input, assigned, output, received};
+use occ_check_names::fault::CheckFault;
 use occ_check_names::measuring::{
     count_assignment, count_expression, count_input, count_output, count_tagged_input,
 };
 use occ_check_names::numbers::Numbers;
 use occ_check_names::scope::{Position, Scope};
-use crate::unfolder::Unfolder;
+use occ_check_typing::expression::typed_as;
 use occ_held::Held;
 use occ_term::{Declaration, Place, Primitive, Term, TermExpr};
 use occ_tree_grammar::tree::expr::Expr;

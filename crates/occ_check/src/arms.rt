@@ -25,14 +25,14 @@ ghost use Rattle.occ_check.specs.Statements.{declarations_of_arm, listening};
 ghost use Rattle.occ_check.specs.Progress.{counted, meant_at};
 
 use crate::acting::names_at;
+use crate::unfolder::Unfolder;
+use crate::variants::listed_variants;
 use occ_check_acting::action::{Listed, as_reception, received, test_of, with_tags};
 use occ_check_names::fault::CheckFault;
-use occ_check_typing::item::channel_of;
 use occ_check_names::measuring::{count_expression, count_place, count_targets};
 use occ_check_names::numbers::Numbers;
 use occ_check_names::scope::{Position, Scope};
-use crate::unfolder::Unfolder;
-use crate::variants::listed_variants;
+use occ_check_typing::item::channel_of;
 use occ_held::Held;
 use occ_term::{Arm as TermArm, Declaration, Place, Protocol, Reception, Term, TermExpr};
 use occ_tree_grammar::tree::expr::Expr;

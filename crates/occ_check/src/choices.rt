@@ -15,9 +15,9 @@ ghost use Rattle.occ_check_names.specs.View.{Unfolds};
 ghost use Rattle.occ_check.specs.Statements.{choosing, declarations_of_choice};
 ghost use Rattle.occ_check.specs.Progress.{counted, meant_at};
 
+use crate::unfolder::Unfolder;
 use occ_check_names::fault::CheckFault;
 use occ_check_names::scope::Position;
-use crate::unfolder::Unfolder;
 use occ_held::Held;
 use occ_term::{Choice as TermChoice, Declaration, Term};
 use occ_tree_grammar::tree::line::Replicator;

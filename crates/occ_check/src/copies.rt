@@ -14,12 +14,12 @@ ghost use Rattle.occ_check.specs.Progress.{counted, meant_at, weight_at};
 ghost use Rattle.occ_check_names.specs.declared.fault.CheckFault.TheVariants.{Memory};
 
 use crate::acting::names_at;
-use occ_check_typing::declaration::copies_of;
+use crate::unfolder::Unfolder;
 use occ_check_names::fault::CheckFault;
 use occ_check_names::known::Known;
 use occ_check_names::numbers::Numbers;
 use occ_check_names::scope::{Binding, Position, Scope};
-use crate::unfolder::Unfolder;
+use occ_check_typing::declaration::copies_of;
 use occ_term::{Branch, Primitive, Term};
 use occ_tree_grammar::tree::line::Replicator;
 use occ_tree_grammar::tree::process::Process;

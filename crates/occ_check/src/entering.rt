@@ -19,15 +19,15 @@ ghost use Rattle.occ_check_names.specs.View.{Gives, Unfolds, innermost, names_in
 ghost use Rattle.occ_check.specs.Progress.{Calls, Enters, Indexes, counted, innermost_at, meant_at, meant_innermost, weight_at};
 ghost use Rattle.occ_check_names.specs.declared.fault.CheckFault.TheVariants.{Memory};
 
+use crate::frames::Frames;
+use crate::unfolder::{Call, Unfolder};
 use occ_check_acting::call::{bound, formals_of};
+use occ_check_names::fault::{CheckFault, unknown};
+use occ_check_names::numbers::Numbers;
+use occ_check_names::scope::{Binding, Found, Position, Procedure, Scope};
 use occ_check_typing::declaration::{
     Indexed, Named, Opened, index_replicator, names_declared, protocol_declared, value_declared,
 };
-use occ_check_names::fault::{CheckFault, unknown};
-use crate::frames::Frames;
-use occ_check_names::numbers::Numbers;
-use occ_check_names::scope::{Binding, Found, Position, Procedure, Scope};
-use crate::unfolder::{Call, Unfolder};
 use occ_held::Held;
 use occ_term::{Declaration, Replicator, Term};
 use occ_tree_grammar::tree::expr::Expr;

@@ -17,14 +17,14 @@ ghost use Rattle.occ_check_names.specs.View.{Gives, Unfolds, names_in, numbers_o
 ghost use Rattle.occ_check.specs.Progress.{Lists, Selects, counted, meant_at};
 
 use crate::acting::{counted_expression, listed_declarations, names_at};
+use crate::unfolder::Unfolder;
+use indexmap::IndexSet;
 use occ_check_acting::action::{Chosen, choosing, choosing_else, selector};
-use occ_check_typing::expression::constant_as;
 use occ_check_names::fault::CheckFault;
 use occ_check_names::measuring::count_constants;
 use occ_check_names::numbers::Numbers;
 use occ_check_names::scope::{Position, Scope};
-use crate::unfolder::Unfolder;
-use indexmap::IndexSet;
+use occ_check_typing::expression::constant_as;
 use occ_held::Held;
 use occ_term::{Primitive, Selection as TermSelection, Term, TermExpr};
 use occ_tree_grammar::tree::expr::Expr;

@@ -22,11 +22,11 @@ ghost use Rattle.occ_check_names.specs.declared.fault.CheckFault.TheVariants.{Me
 use crate::arms::listed_arms;
 use crate::choices::listed_choices;
 use crate::entering::headed;
-use occ_check_names::fault::CheckFault;
 use crate::options::listed_selections;
-use occ_check_names::scope::Position;
 use crate::unfolder::{Call, Step, Unfolder};
 use crate::variants::listed_variants;
+use occ_check_names::fault::CheckFault;
+use occ_check_names::scope::Position;
 use occ_held::Held;
 use occ_term::{Branch, Declaration, Replicator, Term};
 use occ_tree_grammar::tree::expr::Expr;

@@ -16,15 +16,15 @@ ghost use Rattle.occ_check.specs.ProgramView.{byte_channel, items_within, main_a
 ghost use Rattle.occ_check.specs.Progress.{Enters, counted, meant_at, meant_innermost};
 ghost use Rattle.occ_check_names.specs.View.{Gives, Unfolds, known_of, numbers_of};
 
-use occ_check_acting::call::spec_after;
-use occ_check_typing::declaration::{Named, once, row_from};
 use crate::entering::headed;
-use occ_check_names::fault::CheckFault;
 use crate::frames::Frames;
+use crate::unfolder::Unfolder;
+use occ_check_acting::call::spec_after;
+use occ_check_names::fault::CheckFault;
 use occ_check_names::known::{Carried, Known};
 use occ_check_names::numbers::Numbers;
 use occ_check_names::scope::Position;
-use crate::unfolder::Unfolder;
+use occ_check_typing::declaration::{Named, once, row_from};
 use occ_term::{Declaration, Primitive, Protocol, Term, Unfolded};
 use occ_tree_grammar::tree::expr::Prim;
 use occ_tree_grammar::tree::line::{Carried as CarriedTree, Formals, Part, Spec};

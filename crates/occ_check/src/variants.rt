@@ -17,14 +17,14 @@ ghost use Rattle.occ_check.specs.Statements.{body_of_variant, declarations_of_va
 ghost use Rattle.occ_check.specs.Progress.{counted, meant_at};
 
 use crate::acting::names_at;
+use crate::unfolder::Unfolder;
 use occ_check_acting::action::{new_tag, with_tags};
+use occ_check_acting::target::stored;
 use occ_check_names::fault::CheckFault;
-use occ_check_typing::item::{channel_of, parts_after};
 use occ_check_names::measuring::{count_place, count_targets};
 use occ_check_names::numbers::Numbers;
 use occ_check_names::scope::{Position, Scope};
-use occ_check_acting::target::stored;
-use crate::unfolder::Unfolder;
+use occ_check_typing::item::{channel_of, parts_after};
 use occ_held::Held;
 use occ_term::{Place, Protocol, Target, Term, Variant as TermVariant};
 use occ_tree_grammar::tree::line::{Target as TargetTree, Var};
