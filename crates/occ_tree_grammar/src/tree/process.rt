@@ -1,5 +1,10 @@
 //! Processes, their parts, declarations and whole texts.
 
+ghost use Rattle.occ_tree_grammar.specs.Expressions.Reading.{Gives};
+ghost use Rattle.occ_tree_grammar.specs.Processes.Reading.{as_item};
+ghost use Rattle.occ_tree_grammar.specs.Processes.Views.{decl_of, item_of};
+
+use crate::fault::ParseFault;
 use crate::tree::expr::Expr;
 use crate::tree::line::{
     Action, Formals, Guard, OneOrMore, Part, Replicator, Sort, Target, ValueType, Var, VariantGuard,
@@ -167,6 +172,19 @@ impl Drop for Decl {
         match self {
             Decl::Names(_, _, _, _) => {}
             Decl::Item(_) => {}
+        }
+    }
+}
+
+impl Decl {
+    /// The item, where the declaration may stand at the top of a text.
+    #[tactic(auto, unfolding(crate::specs::Processes::Views::decl_of))]
+    pub fn into_item(self) -> Result<Item, ParseFault>
+        ensures { Gives item_of result (as_item (decl_of self)) }
+    {
+        match self {
+            Decl::Item(item) => Ok(item),
+            Decl::Names(line, _, _, _) => Err(ParseFault::Unexpected { line }),
         }
     }
 }
