@@ -39,14 +39,14 @@ pub behind_arm : (c : Arm) (sc : Scope Calling) (depth : ℕ) (n : Numbers)
     → arm_unfolded (trees.arm_of c) sc depth n ≡ arms_under (all_declared (declarations_of_arm c)) (listening c) sc depth n
 unfolding trees.arm_of arm_unfolded
 behind_arm (arms.Guarded' shape ds line g n) sc depth m = refl
-behind_arm (arms.OnVariant' shape ds line e v s vs) sc depth m = refl
+behind_arm (arms.OnVariant' shape ds line g s vs) sc depth m = refl
 behind_arm (arms.InnerAlt' shape ds line pri s ms) sc depth m = refl
 behind_arm (arms.InnerAltFor' shape ds line pri r p c) sc depth m = refl
 
 pub within_arm : (c : Arm) → node_size (trees.arm_of c) ≡ (decls_size (declarations_of_arm c) + arm_size c) + 2
 unfolding trees.arm_of node_size
 within_arm (arms.Guarded' shape ds line g n) = refl
-within_arm (arms.OnVariant' shape ds line e v s vs) = refl
+within_arm (arms.OnVariant' shape ds line g s vs) = refl
 within_arm (arms.InnerAlt' shape ds line pri s ms) = refl
 within_arm (arms.InnerAltFor' shape ds line pri r p c) = refl
 

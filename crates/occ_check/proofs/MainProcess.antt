@@ -1,6 +1,7 @@
 -- The main process: the last PROC, and the names of its formals.
 use Rattle.std.proofs.Common.{◌≡◌, ◌∙◌, sym, ap, refl, ℕ, suc, ◌+◌, ◌<◌, ◌≤◌, List, [], ◌∷◌, ◌++◌, map, length, drop, get_or, option_map, Option, Some, None, Bool, true, false, append_assoc, arith, Vec, Global}
 use Rattle.std.specs.Prelude.{nat_le, ◌&&◌}
+use Rattle.std.specs.declared.boxed.Box.{Box}
 use Rattle.std.proofs.lemmas.List.{map-append}
 use Rattle.std.proofs.Math.ListN.{drop_of_length-le}
 use mathlib.Core.List.{append-nil}
@@ -54,12 +55,12 @@ not_last (j ∷ is) i h = ap (last_or j) (not_last is i (still (j ∷ is) is i h
 -- ---- an item of the code
 
 module _ (before : List Item) (i : ItemTree) where
-  pub a_procedure : (line : ℕ) (name : Vec ℕ Global) (formals : Option Formals) (body : Process) (end_line : ℕ) → i ≡ itemTrees.Proc line name formals body end_line
+  pub a_procedure : (line : ℕ) (name : Vec ℕ Global) (formals : Option (Box Formals Global)) (body : Process) (end_line : ℕ) → i ≡ itemTrees.Proc line name formals body end_line
       → Some (record { before = before; formals = lines.formals_of formals; body = process_of body }) ≡ main_at before (item_of i)
   unfolding item_of
   a_procedure line name formals body end_line is = sym (ap (λ j. main_at before (item_of j)) is)
 
-  pub no_value : (line : ℕ) (type : Option ValueType) (name : Vec ℕ Global) (e : Expr) → i ≡ itemTrees.Value line type name e → None ≡ main_at before (item_of i)
+  pub no_value : (line : ℕ) (type : Option ValueType) (name : Vec ℕ Global) (e : Box Expr Global) → i ≡ itemTrees.Value line type name e → None ≡ main_at before (item_of i)
   unfolding item_of
   no_value line type name e is = sym (ap (λ j. main_at before (item_of j)) is)
 

@@ -13,6 +13,7 @@ use Rattle.occ_tree_grammar.specs.Processes.Trees.{process, Node, decls}
 use Rattle.occ_tree_grammar.specs.Processes.Views.{decl_of, item_of, process_of}
 use Rattle.occ_tree_grammar.specs.Processes.Views as processes
 use Rattle.occ_tree_grammar.specs.declared.tree.expr.Expr.{Expr}
+use Rattle.occ_tree_grammar.specs.declared.tree.line.Sort.{Sort}
 use Rattle.occ_tree_grammar.specs.declared.tree.process.Decl.{Decl}
 use Rattle.occ_tree_grammar.specs.declared.tree.process.Decl.TheVariants as declTrees
 use Rattle.occ_tree_grammar.specs.declared.tree.process.Process.{Process}
@@ -166,14 +167,16 @@ pub heavier : {X : Type 0} (r : Result X CheckFault) (w a b : ℕ) → a ≤ b �
 heavier (Ok x) w a b more h = omega (arith, more, h)
 heavier (Err e) w a b more h = tt
 
-pub names_form : (d : Decl) (line : ℕ) (es : _) (sort : _) (xs : _) (sizes : _) → d ≡ declTrees.Names line es sort xs → sizes ≡ es.items → (sc : Scope Calling) (depth : ℕ) (n : Numbers)
+pub names_form : (d : Decl) (line : ℕ) (es : _) (sort : _) (xs : _) (sizes : _) (of : Sort) → d ≡ declTrees.Names line es sort xs → sizes ≡ es.items → of ≡ sort.value → (sc : Scope Calling) (depth : ℕ) (n : Numbers)
     → declared (decl_of d) sc depth n
-    ≡ within_names sc (D.names_declared (names_of sc) line depth (trees.expressions (map trees.expression_of sizes)) (lines.sort_of sort) (xs.first.items ∷ map (λ v. v.items) xs.others.items) n)
+    ≡ within_names sc (D.names_declared (names_of sc) line depth (trees.expressions (map trees.expression_of sizes)) (lines.sort_of of) (xs.first.items ∷ map (λ v. v.items) xs.others.items) n)
 unfolding decl_of declared
-names_form d line es sort xs sizes is same sc depth n =
+names_form d line es sort xs sizes of is same of_sort sc depth n =
     ap (λ e. declared (decl_of e) sc depth n) is
     ∙ ap (λ (l : List Expr). within_names sc
-    (D.names_declared (names_of sc) line depth (trees.expressions (map trees.expression_of l)) (lines.sort_of sort) (xs.first.items ∷ map (λ v. v.items) xs.others.items) n)) (sym same)
+    (D.names_declared (names_of sc) line depth (trees.expressions (map trees.expression_of l)) (lines.sort_of sort.value) (xs.first.items ∷ map (λ v. v.items) xs.others.items) n)) (sym same)
+    ∙ ap (λ (s : Sort). within_names sc
+    (D.names_declared (names_of sc) line depth (trees.expressions (map trees.expression_of sizes)) (lines.sort_of s) (xs.first.items ∷ map (λ v. v.items) xs.others.items) n)) (sym of_sort)
 
 pub item_form : (d : Decl) (it : Item) → d ≡ declTrees.Item it → (sc : Scope Calling) (depth : ℕ) (n : Numbers) → declared (decl_of d) sc depth n ≡ item_declared (item_of it) sc depth n
 unfolding decl_of declared
@@ -183,12 +186,13 @@ pub item_within : (d : Decl) (it : Item) → d ≡ declTrees.Item it → decl_si
 unfolding decl_of decl_size
 item_within d it is = ap (λ e. decl_size (decl_of e)) is
 
-pub value_form : (it : Item) (line : ℕ) (type : _) (x : _) (e : _) (name : Name) → it ≡ itemTrees.Value line type x e → name ≡ x.items → (sc : Scope Calling) (depth : ℕ) (n : Numbers)
-    → item_declared (item_of it) sc depth n ≡ within_names sc (D.value_declared (names_of sc) line depth (option_map lines.value_type_of type) name (trees.expression_of e) n)
+pub value_form : (it : Item) (line : ℕ) (type : _) (x : _) (e : _) (name : Name) (value : Expr) → it ≡ itemTrees.Value line type x e → name ≡ x.items → value ≡ e.value → (sc : Scope Calling) (depth : ℕ) (n : Numbers)
+    → item_declared (item_of it) sc depth n ≡ within_names sc (D.value_declared (names_of sc) line depth (option_map lines.value_type_of type) name (trees.expression_of value) n)
 unfolding item_of item_declared
-value_form it line type x e name is same sc depth n =
+value_form it line type x e name value is same of_value sc depth n =
     ap (λ i. item_declared (item_of i) sc depth n) is
-    ∙ ap (λ (y : Name). within_names sc (D.value_declared (names_of sc) line depth (option_map lines.value_type_of type) y (trees.expression_of e) n)) (sym same)
+    ∙ ap (λ (y : Name). within_names sc (D.value_declared (names_of sc) line depth (option_map lines.value_type_of type) y (trees.expression_of e.value) n)) (sym same)
+    ∙ ap (λ (v : Expr). within_names sc (D.value_declared (names_of sc) line depth (option_map lines.value_type_of type) name (trees.expression_of v) n)) (sym of_value)
 
 pub protocol_form : (it : Item) (p : _) → it ≡ itemTrees.Protocol p → (sc : Scope Calling) (depth : ℕ) (n : Numbers)
     → item_declared (item_of it) sc depth n ≡ within_names sc (D.protocol_declared (names_of sc) (processes.protocol_of p) n)

@@ -1,5 +1,6 @@
 -- The options of a CASE, one after the other, each with what is chosen before it.
 use Rattle.std.proofs.Common.{◌≡◌, ◌∙◌, ◌+◌, ℕ, List, [], ◌∷◌, ◌++◌, Option, Some, None, refl, ap, sym, map, Vec, Global}
+use Rattle.std.specs.declared.boxed.Box.{Box}
 use Rattle.occ_tree_grammar.specs.Many.{◌>>=◌}
 use Rattle.occ_tree_grammar.specs.Processes.Trees.{nodes}
 use Rattle.occ_tree_grammar.specs.Processes.Trees.{Decls}
@@ -101,17 +102,17 @@ module _ (type : Primitive) (sc : Scope Calling) (depth : ℕ) (x : Selection) (
 
 -- ---- one option, by its cases
 
-module _ (s : Selection) (ds : Vec Decl Global) (line : ℕ) (es : OneOrMore Expr) (p : Process) (xs : Decls) (is : s ≡ selections.Values ds line es p) (same : xs ≡ row_decls (hidden-the_row-Decl-0 ds)) where
+module _ (s : Selection) (ds : Vec Decl Global) (line : ℕ) (es : Box (OneOrMore Expr) Global) (p : Process) (xs : Decls) (is : s ≡ selections.Values ds line es p) (same : xs ≡ row_decls (hidden-the_row-Decl-0 ds)) where
   pub values_size : node_size (selection_of s) ≡ (decls_size xs + (node_size (process_of p) + 1)) + 2
   unfolding selection_of node_size
   values_size = ap (λ x. node_size (selection_of x)) is ∙ ap (λ d. (decls_size d + (node_size (process_of p) + 1)) + 2) (sym same)
 
   pub values_form : (type : Primitive) (before : Chosen) (sc : Scope Calling) (depth : ℕ) (n : Numbers)
-      → option_unfolded (selection_of s) type before sc depth n ≡ P.option_of line (tree_of es.first ∷ map tree_of es.others.items) (all_declared xs) (unfolded (process_of p)) type before sc depth n
+      → option_unfolded (selection_of s) type before sc depth n ≡ P.option_of line (tree_of es.value.first ∷ map tree_of es.value.others.items) (all_declared xs) (unfolded (process_of p)) type before sc depth n
   unfolding selection_of option_unfolded
   values_form type before sc depth n =
       ap (λ x. option_unfolded (selection_of x) type before sc depth n) is
-      ∙ ap (λ d. P.option_of line (tree_of es.first ∷ map tree_of es.others.items) (all_declared d) (unfolded (process_of p)) type before sc depth n) (sym same)
+      ∙ ap (λ d. P.option_of line (tree_of es.value.first ∷ map tree_of es.value.others.items) (all_declared d) (unfolded (process_of p)) type before sc depth n) (sym same)
 
 module _ (s : Selection) (ds : Vec Decl Global) (line : ℕ) (p : Process) (xs : Decls) (is : s ≡ selections.Else ds line p) (same : xs ≡ row_decls (hidden-the_row-Decl-0 ds)) where
   pub otherwise_size : node_size (selection_of s) ≡ (decls_size xs + (node_size (process_of p) + 1)) + 2

@@ -24,17 +24,17 @@ use Rattle.occ_check_meaning.specs.Performing as P
 use Rattle.occ_check_meaning.specs.Recursion.{unfolded, all_in_turn, all_beside, all_arms, arm_unfolded, all_choices, choice_unfolded, all_options, all_variants}
 
 abbrev pub performing : ℕ → Stmt → Under Term
-performing line (stmts.Action a) = acted line (action_of a)
+performing line (stmts.Action a) = acted line (action_of a.value)
 performing line (stmts.Seq' s ps) = sequenced (all_in_turn (row_processes ps))
-performing line (stmts.SeqFor' r p n) = each_sequenced line (replicator_of r) (unfolded (process_of n))
+performing line (stmts.SeqFor' r p n) = each_sequenced line (replicator_of r.value) (unfolded (process_of n))
 performing line (stmts.Par' s ps) = beside (all_beside (row_processes ps))
-performing line (stmts.ParFor' r p n) = copies_beside line (replicator_of r) (unfolded (process_of n))
+performing line (stmts.ParFor' r p n) = copies_beside line (replicator_of r.value) (unfolded (process_of n))
 performing line (stmts.Alt' pri s ms) = alternated pri (all_arms (row_arms ms))
-performing line (stmts.AltFor' pri r p m) = alternated pri (each_of_arms line (replicator_of r) (arm_unfolded (arm_of m)))
+performing line (stmts.AltFor' pri r p m) = alternated pri (each_of_arms line (replicator_of r.value) (arm_unfolded (arm_of m)))
 performing line (stmts.If' s cs) = conditioned (all_choices (row_choices cs))
-performing line (stmts.IfFor' r p c) = conditioned (each_of_choices line (replicator_of r) (choice_unfolded (choice_of c)))
-performing line (stmts.Case' e s os) = selected line (expression_of e) (λ type. all_options (row_selections os) type none_chosen)
-performing line (stmts.While' e p n) = looped line (expression_of e) (unfolded (process_of n))
+performing line (stmts.IfFor' r p c) = conditioned (each_of_choices line (replicator_of r.value) (choice_unfolded (choice_of c)))
+performing line (stmts.Case' e s os) = selected line (expression_of e.value) (λ type. all_options (row_selections os) type none_chosen)
+performing line (stmts.While' e p n) = looped line (expression_of e.value) (unfolded (process_of n))
 performing line (stmts.Variants' v s vs) = taken_by_variant line (var_of v) (λ p. all_variants (row_variants vs) p [])
 
 -- the declarations of a process, its line and its statement
@@ -56,24 +56,24 @@ declarations_of_choice (choices.InnerIf' shape ds line s cs) = row_decls ds
 declarations_of_choice (choices.InnerIfFor' shape ds line r p c) = row_decls ds
 
 abbrev pub choosing : Choice → Under Choices
-choosing (choices.When' shape ds line e n) = P.choice_of line (expression_of e) (unfolded (process_of n))
+choosing (choices.When' shape ds line e n) = P.choice_of line (expression_of e.value) (unfolded (process_of n))
 choosing (choices.InnerIf' shape ds line s cs) = all_choices (row_choices cs)
-choosing (choices.InnerIfFor' shape ds line r p c) = each_of_choices line (replicator_of r) (choice_unfolded (choice_of c))
+choosing (choices.InnerIfFor' shape ds line r p c) = each_of_choices line (replicator_of r.value) (choice_unfolded (choice_of c))
 
 -- ---- the arms of an ALT
 
 -- the declarations of an arm, and what it unfolds to behind them
 abbrev pub declarations_of_arm : Arm → Decls
 declarations_of_arm (arms.Guarded' shape ds line g n) = row_decls ds
-declarations_of_arm (arms.OnVariant' shape ds line e v s vs) = row_decls ds
+declarations_of_arm (arms.OnVariant' shape ds line g s vs) = row_decls ds
 declarations_of_arm (arms.InnerAlt' shape ds line pri s ms) = row_decls ds
 declarations_of_arm (arms.InnerAltFor' shape ds line pri r p m) = row_decls ds
 
 abbrev pub listening : Arm → Under Arms
-listening (arms.Guarded' shape ds line g n) = P.arm_of line (guard_of g) (unfolded (process_of n))
-listening (arms.OnVariant' shape ds line e v s vs) = variants_arm line (option_map expression_of e) (var_of v) (λ p. all_variants (row_variants vs) p [])
+listening (arms.Guarded' shape ds line g n) = P.arm_of line (guard_of g.value) (unfolded (process_of n))
+listening (arms.OnVariant' shape ds line g s vs) = variants_arm line (option_map expression_of g.value.condition) (var_of g.value.channel) (λ p. all_variants (row_variants vs) p [])
 listening (arms.InnerAlt' shape ds line pri s ms) = all_arms (row_arms ms)
-listening (arms.InnerAltFor' shape ds line pri r p m) = each_of_arms line (replicator_of r) (arm_unfolded (arm_of m))
+listening (arms.InnerAltFor' shape ds line pri r p m) = each_of_arms line (replicator_of r.value) (arm_unfolded (arm_of m))
 
 -- ---- the variants of an input: the parts of each
 

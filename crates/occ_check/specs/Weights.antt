@@ -69,6 +69,6 @@ choice_size (choices.InnerIfFor' shape ds line r p c) = node_size (choice_of c) 
 
 abbrev pub arm_size : Arm → ℕ
 arm_size (arms.Guarded' shape ds line g n) = node_size (process_of n) + 1
-arm_size (arms.OnVariant' shape ds line e v s vs) = nodes_size (row_variants vs) + 1
+arm_size (arms.OnVariant' shape ds line g s vs) = nodes_size (row_variants vs) + 1
 arm_size (arms.InnerAlt' shape ds line pri s ms) = nodes_size (row_arms ms) + 1
 arm_size (arms.InnerAltFor' shape ds line pri r p m) = node_size (arm_of m) + 1

@@ -36,7 +36,7 @@ use occ_check_typing::item::channel_of;
 use occ_held::Held;
 use occ_term::{Arm as TermArm, Declaration, Place, Protocol, Reception, Term, TermExpr};
 use occ_tree_grammar::tree::expr::Expr;
-use occ_tree_grammar::tree::line::{Guard, Input, Replicator, Var};
+use occ_tree_grammar::tree::line::{Guard, Input, Replicator, VariantGuard};
 use occ_tree_grammar::tree::process::{Arm, Decl, Process};
 use sqlite_items::Items;
 use std::alloc::{AllocError, Global};
@@ -148,10 +148,9 @@ impl<'t> Unfolder<'t> {
             Arm::Guarded(_, line, guard, body) => {
                 self.guarded(alloc, at, depth, *line, guard, body)
             }
-            Arm::OnVariant(_, line, test, channel, variants) => {
-                let (test, protocol, channel) = self.guarding_variants(
-                    alloc, at, depth, *line, test, channel,
-                )?;
+            Arm::OnVariant(_, line, guard, variants) => {
+                let (test, protocol, channel) =
+                    self.guarding_variants(alloc, at, depth, *line, guard)?;
                 let variants = self.variants(
                     alloc,
                     at,
@@ -248,15 +247,14 @@ impl<'t> Unfolder<'t> {
         at: Position,
         depth: u32,
         line: u32,
-        test: &Option<Expr>,
-        channel: &Var,
+        guard: &VariantGuard,
     ) -> Result<(TermExpr, Protocol, Place), CheckFault>
-        ensures guard { Unfolds (λ g. (expression_of g.0, (g.1, place_of g.2))) result self.new.numbers (guarding_variants (names_of (meant_at self.old at)) line depth (option_map tree_of test.now) (lines.var_of channel.now) (counted self.old)) }
+        ensures guard { Unfolds (λ g. (expression_of g.0, (g.1, place_of g.2))) result self.new.numbers (guarding_variants (names_of (meant_at self.old at)) line depth (option_map tree_of guard.now.condition) (lines.var_of guard.now.channel) (counted self.old)) }
         ensures kept { OnOk result (self.new.frames ≡ self.old.frames) }
         ensures within { IfOk result (λ _. depth < 200) }
     {
         let scope = names_at(&self.frames, at);
-        guarding_variants(&mut self.numbers, alloc, scope, line, depth, test, channel)
+        guarding_variants(&mut self.numbers, alloc, scope, line, depth, guard)
     }
 }
 
@@ -349,14 +347,13 @@ fn guarding_variants(
     scope: Scope<'_, '_>,
     line: u32,
     depth: u32,
-    test: &Option<Expr>,
-    channel: &Var,
+    guard: &VariantGuard,
 ) -> Result<(TermExpr, Protocol, Place), CheckFault>
-    ensures guard { Unfolds (λ g. (expression_of g.0, (g.1, place_of g.2))) result numbers.new (guarding_variants (names_in scope.entry) line depth (option_map tree_of test.now) (lines.var_of channel.now) (numbers_of numbers.old)) }
+    ensures guard { Unfolds (λ g. (expression_of g.0, (g.1, place_of g.2))) result numbers.new (guarding_variants (names_in scope.entry) line depth (option_map tree_of guard.now.condition) (lines.var_of guard.now.channel) (numbers_of numbers.old)) }
     ensures within { IfOk result (λ _. depth < 200) }
 {
-    let test = Held::new(test_of(alloc, scope, line, test)?);
-    let (protocol, channel) = channel_of(alloc, scope, line, channel)?;
+    let test = Held::new(test_of(alloc, scope, line, &guard.condition)?);
+    let (protocol, channel) = channel_of(alloc, scope, line, &guard.channel)?;
     let channel = Held::new(channel);
     let protocol = with_tags(line, protocol)?;
     count_guarded_channel(numbers, depth, &test.value, &channel.value)?;
@@ -418,7 +415,7 @@ fn kept_declarations(arm: &Arm) -> &Vec<Decl>
 {
     match arm {
         Arm::Guarded(declarations, _, _, _) => declarations,
-        Arm::OnVariant(declarations, _, _, _, _) => declarations,
+        Arm::OnVariant(declarations, _, _, _) => declarations,
         Arm::InnerAlt(declarations, _, _, _) => declarations,
         Arm::InnerAltFor(declarations, _, _, _, _) => declarations,
     }

@@ -1,6 +1,6 @@
 //! Processes.
 
-ghost use Rattle.std.specs.Prelude.{ℕ, ◌≡◌, ◌+◌, ◌<◌, ◌≤◌, IfErr, IfOk, OnOk, Some, length, map, reverse, take};
+ghost use Rattle.std.specs.Prelude.{ℕ, ◌≡◌, ◌+◌, ◌<◌, ◌≤◌, IfErr, IfOk, IfSome, OnOk, Some, length, map, reverse, take};
 ghost use Rattle.occ_tree_grammar.specs.Processes.Trees.{nodes, decls};
 ghost use Rattle.occ_tree_grammar.specs.Processes.Views.{process_of, decl_of, row_decls};
 ghost use Rattle.occ_tree_grammar.specs.declared.tree.process.Arm.TheBlock.{hidden-the_row-Decl-0};
@@ -108,18 +108,16 @@ impl<'t> Unfolder<'t> {
         ensures kept { OnOk result (take (length self.old.frames.frames.items) self.new.frames.frames.items ≡ self.old.frames.frames.items) }
         ensures falls { IfOk result (IsFalling self.new (statement_size statement.now + weight_at self.old at)) }
     {
-        match statement {
-            Stmt::Action(Action::Call(name, actuals)) => {
-                let call = self.bound(alloc, at, depth, line, name, actuals)?;
-                if call.heads.is_empty() {
-                    return Ok(Step::Call(call.body, call.inside));
-                }
-                let deep = self.opened(depth, call.heads.as_slice())?;
-                let term = self.process(alloc, call.inside, deep, call.body)?;
-                Ok(Step::Term(headed(alloc, call.heads, term)?))
-            }
-            _ => Ok(Step::Term(self.performed(alloc, at, depth, line, statement)?)),
+        let Some((name, actuals)) = call_of(statement) else {
+            return Ok(Step::Term(self.performed(alloc, at, depth, line, statement)?));
+        };
+        let call = self.bound(alloc, at, depth, line, name, actuals)?;
+        if call.heads.is_empty() {
+            return Ok(Step::Call(call.body, call.inside));
         }
+        let deep = self.opened(depth, call.heads.as_slice())?;
+        let term = self.process(alloc, call.inside, deep, call.body)?;
+        Ok(Step::Term(headed(alloc, call.heads, term)?))
     }
 
     /// What a statement unfolds to.
@@ -259,6 +257,20 @@ impl<'t> Unfolder<'t> {
             terms.push(self.process(alloc, at, depth, process)?)?;
         }
         Ok(terms)
+    }
+}
+
+/// The name and the actuals, where a statement is a call.
+fn call_of(statement: &Stmt) -> Option<(&[u8], &Option<OneOrMore<Expr>>)>
+    ensures calls { IfSome result (λ c. (line : ℕ) → performing line statement.now ≡ acted line (call c.0.now (actuals_of c.1.now))) }
+    ensures size { IfSome result (λ _. statement_size statement.now ≡ 0) }
+{
+    match statement {
+        Stmt::Action(action) => match &**action {
+            Action::Call(name, actuals) => Some((name, actuals)),
+            _ => None,
+        },
+        _ => None,
     }
 }
 

@@ -40,7 +40,7 @@ struct Main<'t> {
     /// The line of its PROC.
     line: u32,
     /// Its formals.
-    formals: &'t Option<Formals>,
+    formals: &'t Option<Box<Formals>>,
     /// Its body.
     body: &'t Process,
 }
@@ -125,7 +125,7 @@ fn main_at<'t>(before: &'t [Item], item: &'t Item) -> Option<Main<'t>>
 fn main_names(
     alloc: Global,
     line: u32,
-    formals: &Option<Formals>,
+    formals: &Option<Box<Formals>>,
 ) -> Result<Items<Items<u8>>, CheckFault>
     ensures { Gives (λ xs. xs) result (programs.main_names (lines.formals_of formals.now)) }
 {
@@ -134,7 +134,7 @@ fn main_names(
     Ok(names)
 }
 
-fn byte_channels(alloc: Global, formals: &Option<Formals>) -> Result<Items<Items<u8>>, CheckFault>
+fn byte_channels(alloc: Global, formals: &Option<Box<Formals>>) -> Result<Items<Items<u8>>, CheckFault>
     ensures { Gives (λ xs. xs) result (programs.byte_channels (lines.formals_of formals.now)) }
 {
     match formals {
@@ -144,7 +144,7 @@ fn byte_channels(alloc: Global, formals: &Option<Formals>) -> Result<Items<Items
 }
 
 fn some_channels(alloc: Global, formals: &Formals) -> Result<Items<Items<u8>>, CheckFault>
-    ensures { Gives (λ xs. xs) result (programs.byte_channels (lines.formals_of (Some formals.now))) }
+    ensures { Gives (λ xs. xs) result (programs.byte_channels (lines.some_formals_of formals.now)) }
 {
     if formals.others.len() > 2 {
         return Err(CheckFault::NoMain);

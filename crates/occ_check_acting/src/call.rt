@@ -140,7 +140,7 @@ pub fn formals_of(
     alloc: Global,
     scope: Scope<'_, '_>,
     line: u32,
-    formals: &Option<Formals>,
+    formals: &Option<Box<Formals>>,
 ) -> Result<Vec<WantedFormal>, CheckFault>
     ensures { Gives (λ fs. formals_of fs.items) result (meant.formals_of (names_in scope.entry) line (lines.formals_of formals.now)) }
 {
@@ -156,7 +156,7 @@ fn some_formals(
     line: u32,
     formals: &Formals,
 ) -> Result<Vec<WantedFormal>, CheckFault>
-    ensures { Gives (λ fs. formals_of fs.items) result (meant.formals_of (names_in scope.entry) line (lines.formals_of (Some formals.now))) }
+    ensures { Gives (λ fs. formals_of fs.items) result (meant.formals_of (names_in scope.entry) line (lines.some_formals_of formals.now)) }
 {
     let all = listed_formals(alloc, scope, line, formals)?;
     let names = formal_names(alloc, &all)?;

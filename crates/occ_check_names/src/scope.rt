@@ -22,7 +22,7 @@ pub struct Procedure<'t> {
     /// The line.
     pub line: u32,
     /// The formals.
-    pub formals: &'t Option<Formals>,
+    pub formals: &'t Option<Box<Formals>>,
     /// The body.
     pub body: &'t Process,
 }

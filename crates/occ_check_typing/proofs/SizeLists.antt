@@ -1,4 +1,5 @@
 -- Lists of sizes, and of tags.
+use Rattle.std.specs.declared.boxed.Box.{Box}
 use Rattle.std.proofs.Common.{◌≡◌, ℕ, ℤ, zero, suc, ◌+◌, ◌*◌, ◌<◌, ◌≤◌, min, List, [], ◌∷◌, drop, take, get_or, length, map, Option, Some, None, option_map, refl, sym, ap, ◌∙◌, arith, Vec, Global}
 use Rattle.std.proofs.Math.Seq.{drop-cons}
 use Rattle.std.proofs.lemmas.List.{drop_all}
@@ -108,14 +109,14 @@ counted_last sizes i count past counted =
 -- ---- protocols
 
 module _ (ns : Names) (p : ProtocolTree) where
-  module _ (line : ℕ) (name : Vec ℕ Global) (parts : OneOrMore PartTree) (is : p ≡ protocolTrees.Parts line name parts) where
-    sequential : protocol_of ns (processes.protocol_of p) ≡ (each_of (part_of ns line) (lines.part_of parts.first ∷ map lines.part_of parts.others.items) >>= λ ts. Some (Sequential ts))
+  module _ (line : ℕ) (name : Vec ℕ Global) (parts : Box (OneOrMore PartTree) Global) (is : p ≡ protocolTrees.Parts line name parts) where
+    sequential : protocol_of ns (processes.protocol_of p) ≡ (each_of (part_of ns line) (lines.part_of parts.value.first ∷ map lines.part_of parts.value.others.items) >>= λ ts. Some (Sequential ts))
     sequential = ap (λ q. protocol_of ns (processes.protocol_of q)) is
 
-    pub sequential_is : (ts : List PartType) → each_of (part_of ns line) (lines.part_of parts.first ∷ map lines.part_of parts.others.items) ≡ Some ts → protocol_of ns (processes.protocol_of p) ≡ Some (Sequential ts)
+    pub sequential_is : (ts : List PartType) → each_of (part_of ns line) (lines.part_of parts.value.first ∷ map lines.part_of parts.value.others.items) ≡ Some ts → protocol_of ns (processes.protocol_of p) ≡ Some (Sequential ts)
     sequential_is ts h = sequential ∙ ap (λ r. r >>= λ ts. Some (Sequential ts)) h
 
-    pub sequential_none : (e : CheckFault) → Refuses e (each_of (part_of ns line) (lines.part_of parts.first ∷ map lines.part_of parts.others.items)) → Refuses e (protocol_of ns (processes.protocol_of p))
+    pub sequential_none : (e : CheckFault) → Refuses e (each_of (part_of ns line) (lines.part_of parts.value.first ∷ map lines.part_of parts.value.others.items)) → Refuses e (protocol_of ns (processes.protocol_of p))
     sequential_none e = refused_with e _ _ (λ h. sequential ∙ none_then _ h)
 
   module _ (line : ℕ) (name : Vec ℕ Global) (case_line : ℕ) (tags : Vec TagTree Global) (end_line : ℕ) (all : List TagTree) (is : p ≡ protocolTrees.Tags line name case_line tags end_line) (seen : all ≡ tags.items) where

@@ -5,14 +5,14 @@ ghost use Rattle.occ_text.specs.Words.{rows};
 ghost use Rattle.occ_tree_grammar.specs.Many.{as_many};
 ghost use Rattle.occ_tree_grammar.specs.Expressions.Reading.{Gives};
 ghost use Rattle.occ_tree_grammar.specs.Processes.Trees.{Item as ItemForm};
-ghost use Rattle.occ_tree_grammar.specs.Processes.Views.{decl_of, item_of, program_of};
+ghost use Rattle.occ_tree_grammar.specs.Processes.Views.{item_of, program_of};
 ghost use Rattle.occ_tree_grammar.specs.Processes.Shown.{show_program};
 ghost use Rattle.occ_tree_grammar.specs.Processes.Fits.{InBounds};
-ghost use Rattle.occ_tree_grammar.specs.Processes.Reading.{at_any, as_item, item_at, program_at};
+ghost use Rattle.occ_tree_grammar.specs.Processes.Reading.{at_any, item_at, program_at};
 
 use occ_text::{Line, Source};
 use occ_tree_grammar::ParseFault;
-use occ_tree_grammar::tree::process::{Decl, Item, Program};
+use occ_tree_grammar::tree::process::{Item, Program};
 use occ_tree_processes::processes::read::declaration;
 use std::alloc::Global;
 
@@ -29,24 +29,12 @@ fn lines_left(lines: &[Line]) -> Option<&[Line]>
     }
 }
 
-/// The declaration, where it may stand at the top of a text.
-#[tactic(auto, unfolding(occ_tree_grammar::specs::Processes::Views::decl_of))]
-fn only_item(declaration: Decl) -> Result<Item, ParseFault>
-    ensures { Gives item_of result (as_item (decl_of declaration)) }
-{
-    match declaration {
-        Decl::Item(item) => Ok(item),
-        Decl::Names(line, _, _, _) => Err(ParseFault::Unexpected { line }),
-    }
-}
-
 #[tactic(auto, unfolding(occ_tree_grammar::specs::Processes::Reading::item_at))]
 fn item(alloc: Global, last: u32, lines: &[Line]) -> Result<(Item, &[Line]), ParseFault>
     ensures { Gives (λ x. (item_of x.0, rows x.1.now)) result (item_at 65 64 (rows lines.now)) }
 {
     let (declaration, rest) = declaration(alloc, last, LEVELS, 0, lines)?;
-    let item = only_item(declaration)?;
-    Ok((item, rest))
+    Ok((declaration.into_item()?, rest))
 }
 
 fn items(alloc: Global, last: u32, lines: &[Line]) -> Result<(Vec<Item>, &[Line]), ParseFault>

@@ -24,6 +24,7 @@ use Rattle.occ_tree_grammar.specs.declared.tree.line.Action.{Action}
 use Rattle.occ_tree_grammar.specs.declared.tree.line.Replicator.{Replicator}
 use Rattle.occ_tree_grammar.specs.declared.tree.line.Var.{Var}
 use Rattle.occ_tree_grammar.specs.declared.tree.line.Guard.{Guard}
+use Rattle.occ_tree_grammar.specs.declared.tree.line.VariantGuard.{VariantGuard}
 use Rattle.occ_tree_grammar.specs.declared.tree.line.Target.{Target}
 use Rattle.occ_tree_grammar.specs.declared.tree.line.OneOrMore.{OneOrMore}
 use Rattle.occ_tree_grammar.specs.declared.tree.line.Sort.{Sort}
@@ -96,9 +97,9 @@ with_decls {k} ds l h body = ap (λ (t : Decls). node {k = k} t l h body) (decls
 
 -- ---- processes
 
-pub process_action : (ds : Vec DeclTree Global) (l : ℕ) (a : Action) → process_of (processes.Declared ds l (stmts.Action a)) ≡ node {k = process} (declared ds) l (act (action_of a)) no_body
+pub process_action : (ds : Vec DeclTree Global) (l : ℕ) (a : Box Action Global) → process_of (processes.Declared ds l (stmts.Action a)) ≡ node {k = process} (declared ds) l (act (action_of a.value)) no_body
 unfolding process_of
-process_action ds l a = with_decls {k = process} ds l (act (action_of a)) no_body
+process_action ds l a = with_decls {k = process} ds l (act (action_of a.value)) no_body
 
 pub process_seq : (ds : Vec DeclTree Global) (l : ℕ) (ps : Vec ProcessTree Global) → process_of (processes.Declared ds l (stmts.Seq ps)) ≡ node {k = process} (declared ds) l (sequence None) (bodies (nodes (map process_of ps.items)))
 unfolding process_of
@@ -108,37 +109,37 @@ pub process_par : (ds : Vec DeclTree Global) (l : ℕ) (ps : Vec ProcessTree Glo
 unfolding process_of
 process_par ds l ps = with_decls {k = process} ds l (parallel None) (bodies (row_processes (hidden-the_row-Process-4 ps))) ∙ ap (λ (t : Nodes process). node {k = process} (declared ds) l (parallel None) (bodies t)) (processes_made ps)
 
-pub process_seq_for : (ds : Vec DeclTree Global) (l : ℕ) (r : Replicator) (p : Box ProcessTree Global) → process_of (processes.Declared ds l (stmts.SeqFor r p)) ≡ node {k = process} (declared ds) l (sequence (Some (replicator_of r))) (single_body (process_of p.value))
+pub process_seq_for : (ds : Vec DeclTree Global) (l : ℕ) (r : Box Replicator Global) (p : Box ProcessTree Global) → process_of (processes.Declared ds l (stmts.SeqFor r p)) ≡ node {k = process} (declared ds) l (sequence (Some (replicator_of r.value))) (single_body (process_of p.value))
 unfolding process_of
-process_seq_for ds l r p = with_decls {k = process} ds l (sequence (Some (replicator_of r))) (single_body (process_of p.value))
+process_seq_for ds l r p = with_decls {k = process} ds l (sequence (Some (replicator_of r.value))) (single_body (process_of p.value))
 
-pub process_par_for : (ds : Vec DeclTree Global) (l : ℕ) (r : Replicator) (p : Box ProcessTree Global) → process_of (processes.Declared ds l (stmts.ParFor r p)) ≡ node {k = process} (declared ds) l (parallel (Some (replicator_of r))) (single_body (process_of p.value))
+pub process_par_for : (ds : Vec DeclTree Global) (l : ℕ) (r : Box Replicator Global) (p : Box ProcessTree Global) → process_of (processes.Declared ds l (stmts.ParFor r p)) ≡ node {k = process} (declared ds) l (parallel (Some (replicator_of r.value))) (single_body (process_of p.value))
 unfolding process_of
-process_par_for ds l r p = with_decls {k = process} ds l (parallel (Some (replicator_of r))) (single_body (process_of p.value))
+process_par_for ds l r p = with_decls {k = process} ds l (parallel (Some (replicator_of r.value))) (single_body (process_of p.value))
 
 pub process_alt : (ds : Vec DeclTree Global) (l : ℕ) (pri : Bool) (ms : Vec ArmTree Global) → process_of (processes.Declared ds l (stmts.Alt pri ms)) ≡ node {k = process} (declared ds) l (alternation pri None) (bodies (nodes (map arm_of ms.items)))
 unfolding process_of
 process_alt ds l pri ms = with_decls {k = process} ds l (alternation pri None) (bodies (row_arms (hidden-the_row-Arm-2 ms))) ∙ ap (λ (t : Nodes arm). node {k = process} (declared ds) l (alternation pri None) (bodies t)) (arms_made ms)
 
-pub process_alt_for : (ds : Vec DeclTree Global) (l : ℕ) (pri : Bool) (r : Replicator) (m : Box ArmTree Global) → process_of (processes.Declared ds l (stmts.AltFor pri r m)) ≡ node {k = process} (declared ds) l (alternation pri (Some (replicator_of r))) (single_body (arm_of m.value))
+pub process_alt_for : (ds : Vec DeclTree Global) (l : ℕ) (pri : Bool) (r : Box Replicator Global) (m : Box ArmTree Global) → process_of (processes.Declared ds l (stmts.AltFor pri r m)) ≡ node {k = process} (declared ds) l (alternation pri (Some (replicator_of r.value))) (single_body (arm_of m.value))
 unfolding process_of
-process_alt_for ds l pri r m = with_decls {k = process} ds l (alternation pri (Some (replicator_of r))) (single_body (arm_of m.value))
+process_alt_for ds l pri r m = with_decls {k = process} ds l (alternation pri (Some (replicator_of r.value))) (single_body (arm_of m.value))
 
 pub process_if : (ds : Vec DeclTree Global) (l : ℕ) (cs : Vec ChoiceTree Global) → process_of (processes.Declared ds l (stmts.If cs)) ≡ node {k = process} (declared ds) l (conditional None) (bodies (nodes (map choice_of cs.items)))
 unfolding process_of
 process_if ds l cs = with_decls {k = process} ds l (conditional None) (bodies (row_choices (hidden-the_row-Choice-3 cs))) ∙ ap (λ (t : Nodes choice). node {k = process} (declared ds) l (conditional None) (bodies t)) (choices_made cs)
 
-pub process_if_for : (ds : Vec DeclTree Global) (l : ℕ) (r : Replicator) (c : Box ChoiceTree Global) → process_of (processes.Declared ds l (stmts.IfFor r c)) ≡ node {k = process} (declared ds) l (conditional (Some (replicator_of r))) (single_body (choice_of c.value))
+pub process_if_for : (ds : Vec DeclTree Global) (l : ℕ) (r : Box Replicator Global) (c : Box ChoiceTree Global) → process_of (processes.Declared ds l (stmts.IfFor r c)) ≡ node {k = process} (declared ds) l (conditional (Some (replicator_of r.value))) (single_body (choice_of c.value))
 unfolding process_of
-process_if_for ds l r c = with_decls {k = process} ds l (conditional (Some (replicator_of r))) (single_body (choice_of c.value))
+process_if_for ds l r c = with_decls {k = process} ds l (conditional (Some (replicator_of r.value))) (single_body (choice_of c.value))
 
-pub process_case : (ds : Vec DeclTree Global) (l : ℕ) (e : Expr) (os : Vec SelectionTree Global) → process_of (processes.Declared ds l (stmts.Case e os)) ≡ node {k = process} (declared ds) l (selection (expression_of e)) (bodies (nodes (map selection_of os.items)))
+pub process_case : (ds : Vec DeclTree Global) (l : ℕ) (e : Box Expr Global) (os : Vec SelectionTree Global) → process_of (processes.Declared ds l (stmts.Case e os)) ≡ node {k = process} (declared ds) l (selection (expression_of e.value)) (bodies (nodes (map selection_of os.items)))
 unfolding process_of
-process_case ds l e os = with_decls {k = process} ds l (selection (expression_of e)) (bodies (row_selections (hidden-the_row-Selection-5 os))) ∙ ap (λ (t : Nodes option). node {k = process} (declared ds) l (selection (expression_of e)) (bodies t)) (selections_made os)
+process_case ds l e os = with_decls {k = process} ds l (selection (expression_of e.value)) (bodies (row_selections (hidden-the_row-Selection-5 os))) ∙ ap (λ (t : Nodes option). node {k = process} (declared ds) l (selection (expression_of e.value)) (bodies t)) (selections_made os)
 
-pub process_while : (ds : Vec DeclTree Global) (l : ℕ) (e : Expr) (p : Box ProcessTree Global) → process_of (processes.Declared ds l (stmts.While e p)) ≡ node {k = process} (declared ds) l (loop (expression_of e)) (single_body (process_of p.value))
+pub process_while : (ds : Vec DeclTree Global) (l : ℕ) (e : Box Expr Global) (p : Box ProcessTree Global) → process_of (processes.Declared ds l (stmts.While e p)) ≡ node {k = process} (declared ds) l (loop (expression_of e.value)) (single_body (process_of p.value))
 unfolding process_of
-process_while ds l e p = with_decls {k = process} ds l (loop (expression_of e)) (single_body (process_of p.value))
+process_while ds l e p = with_decls {k = process} ds l (loop (expression_of e.value)) (single_body (process_of p.value))
 
 pub process_variants : (ds : Vec DeclTree Global) (l : ℕ) (v : Var) (vs : Vec VariantTree Global) → process_of (processes.Declared ds l (stmts.Variants v vs)) ≡ node {k = process} (declared ds) l (input_variants (var_of v)) (bodies (nodes (map variant_of vs.items)))
 unfolding process_of
@@ -146,21 +147,21 @@ process_variants ds l v vs = with_decls {k = process} ds l (input_variants (var_
 
 -- ---- choices and options
 
-pub choice_when : (ds : Vec DeclTree Global) (l : ℕ) (e : Expr) (p : ProcessTree) → choice_of (choices.When ds l e p) ≡ node {k = choice} (declared ds) l (chosen (expression_of e)) (single_body (process_of p))
+pub choice_when : (ds : Vec DeclTree Global) (l : ℕ) (e : Box Expr Global) (p : ProcessTree) → choice_of (choices.When ds l e p) ≡ node {k = choice} (declared ds) l (chosen (expression_of e.value)) (single_body (process_of p))
 unfolding choice_of
-choice_when ds l e p = with_decls {k = choice} ds l (chosen (expression_of e)) (single_body (process_of p))
+choice_when ds l e p = with_decls {k = choice} ds l (chosen (expression_of e.value)) (single_body (process_of p))
 
 pub choice_if : (ds : Vec DeclTree Global) (l : ℕ) (cs : Vec ChoiceTree Global) → choice_of (choices.InnerIf ds l cs) ≡ node {k = choice} (declared ds) l (nested_conditional None) (bodies (nodes (map choice_of cs.items)))
 unfolding choice_of
 choice_if ds l cs = with_decls {k = choice} ds l (nested_conditional None) (bodies (row_choices (hidden-the_row-Choice-3 cs))) ∙ ap (λ (t : Nodes choice). node {k = choice} (declared ds) l (nested_conditional None) (bodies t)) (choices_made cs)
 
-pub choice_if_for : (ds : Vec DeclTree Global) (l : ℕ) (r : Replicator) (c : Box ChoiceTree Global) → choice_of (choices.InnerIfFor ds l r c) ≡ node {k = choice} (declared ds) l (nested_conditional (Some (replicator_of r))) (single_body (choice_of c.value))
+pub choice_if_for : (ds : Vec DeclTree Global) (l : ℕ) (r : Box Replicator Global) (c : Box ChoiceTree Global) → choice_of (choices.InnerIfFor ds l r c) ≡ node {k = choice} (declared ds) l (nested_conditional (Some (replicator_of r.value))) (single_body (choice_of c.value))
 unfolding choice_of
-choice_if_for ds l r c = with_decls {k = choice} ds l (nested_conditional (Some (replicator_of r))) (single_body (choice_of c.value))
+choice_if_for ds l r c = with_decls {k = choice} ds l (nested_conditional (Some (replicator_of r.value))) (single_body (choice_of c.value))
 
-pub selection_values : (ds : Vec DeclTree Global) (l : ℕ) (es : OneOrMore Expr) (p : ProcessTree) → selection_of (selections.Values ds l es p) ≡ node {k = option} (declared ds) l (values (expression_of es.first) (map expression_of es.others.items)) (single_body (process_of p))
+pub selection_values : (ds : Vec DeclTree Global) (l : ℕ) (es : Box (OneOrMore Expr) Global) (p : ProcessTree) → selection_of (selections.Values ds l es p) ≡ node {k = option} (declared ds) l (values (expression_of es.value.first) (map expression_of es.value.others.items)) (single_body (process_of p))
 unfolding selection_of
-selection_values ds l es p = with_decls {k = option} ds l (values (expression_of es.first) (map expression_of es.others.items)) (single_body (process_of p))
+selection_values ds l es p = with_decls {k = option} ds l (values (expression_of es.value.first) (map expression_of es.value.others.items)) (single_body (process_of p))
 
 pub selection_else : (ds : Vec DeclTree Global) (l : ℕ) (p : ProcessTree) → selection_of (selections.Else ds l p) ≡ node {k = option} (declared ds) l (otherwise) (single_body (process_of p))
 unfolding selection_of
@@ -168,21 +169,21 @@ selection_else ds l p = with_decls {k = option} ds l (otherwise) (single_body (p
 
 -- ---- arms and variants
 
-pub arm_guarded : (ds : Vec DeclTree Global) (l : ℕ) (g : Guard) (p : ProcessTree) → arm_of (arms.Guarded ds l g p) ≡ node {k = arm} (declared ds) l (guarded (guard_of g)) (single_body (process_of p))
+pub arm_guarded : (ds : Vec DeclTree Global) (l : ℕ) (g : Box Guard Global) (p : ProcessTree) → arm_of (arms.Guarded ds l g p) ≡ node {k = arm} (declared ds) l (guarded (guard_of g.value)) (single_body (process_of p))
 unfolding arm_of
-arm_guarded ds l g p = with_decls {k = arm} ds l (guarded (guard_of g)) (single_body (process_of p))
+arm_guarded ds l g p = with_decls {k = arm} ds l (guarded (guard_of g.value)) (single_body (process_of p))
 
-pub arm_variants : (ds : Vec DeclTree Global) (l : ℕ) (e : Option Expr) (v : Var) (vs : Vec VariantTree Global) → arm_of (arms.OnVariant ds l e v vs) ≡ node {k = arm} (declared ds) l (guarded_variants (option_map expression_of e) (var_of v)) (bodies (nodes (map variant_of vs.items)))
+pub arm_variants : (ds : Vec DeclTree Global) (l : ℕ) (g : Box VariantGuard Global) (vs : Vec VariantTree Global) → arm_of (arms.OnVariant ds l g vs) ≡ node {k = arm} (declared ds) l (guarded_variants (option_map expression_of g.value.condition) (var_of g.value.channel)) (bodies (nodes (map variant_of vs.items)))
 unfolding arm_of
-arm_variants ds l e v vs = with_decls {k = arm} ds l (guarded_variants (option_map expression_of e) (var_of v)) (bodies (row_variants (hidden-the_row-Variant-1 vs))) ∙ ap (λ (t : Nodes variant). node {k = arm} (declared ds) l (guarded_variants (option_map expression_of e) (var_of v)) (bodies t)) (variants_made vs)
+arm_variants ds l g vs = with_decls {k = arm} ds l (guarded_variants (option_map expression_of g.value.condition) (var_of g.value.channel)) (bodies (row_variants (hidden-the_row-Variant-1 vs))) ∙ ap (λ (t : Nodes variant). node {k = arm} (declared ds) l (guarded_variants (option_map expression_of g.value.condition) (var_of g.value.channel)) (bodies t)) (variants_made vs)
 
 pub arm_alt : (ds : Vec DeclTree Global) (l : ℕ) (pri : Bool) (ms : Vec ArmTree Global) → arm_of (arms.InnerAlt ds l pri ms) ≡ node {k = arm} (declared ds) l (nested_alternation pri None) (bodies (nodes (map arm_of ms.items)))
 unfolding arm_of
 arm_alt ds l pri ms = with_decls {k = arm} ds l (nested_alternation pri None) (bodies (row_arms (hidden-the_row-Arm-2 ms))) ∙ ap (λ (t : Nodes arm). node {k = arm} (declared ds) l (nested_alternation pri None) (bodies t)) (arms_made ms)
 
-pub arm_alt_for : (ds : Vec DeclTree Global) (l : ℕ) (pri : Bool) (r : Replicator) (m : Box ArmTree Global) → arm_of (arms.InnerAltFor ds l pri r m) ≡ node {k = arm} (declared ds) l (nested_alternation pri (Some (replicator_of r))) (single_body (arm_of m.value))
+pub arm_alt_for : (ds : Vec DeclTree Global) (l : ℕ) (pri : Bool) (r : Box Replicator Global) (m : Box ArmTree Global) → arm_of (arms.InnerAltFor ds l pri r m) ≡ node {k = arm} (declared ds) l (nested_alternation pri (Some (replicator_of r.value))) (single_body (arm_of m.value))
 unfolding arm_of
-arm_alt_for ds l pri r m = with_decls {k = arm} ds l (nested_alternation pri (Some (replicator_of r))) (single_body (arm_of m.value))
+arm_alt_for ds l pri r m = with_decls {k = arm} ds l (nested_alternation pri (Some (replicator_of r.value))) (single_body (arm_of m.value))
 
 pub variant_tagged : (ds : Vec DeclTree Global) (l : ℕ) (v : Vec ℕ Global) (ts : Vec Target Global) (p : ProcessTree) → variant_of (variants.Tagged ds l v ts p) ≡ node {k = variant} (declared ds) l (tag v.items (map target_of ts.items)) (single_body (process_of p))
 unfolding variant_of
@@ -190,7 +191,7 @@ variant_tagged ds l v ts p = with_decls {k = variant} ds l (tag v.items (map tar
 
 -- ---- declarations
 
-pub decl_names : (l : ℕ) (es : Vec Expr Global) (t : Sort) (vs : OneOrMore (Vec ℕ Global)) → decl_of (declTrees.Names l es t vs) ≡ declares l (expressions (map expression_of es.items)) (sort_of t) vs.first.items (map (λ v. v.items) vs.others.items)
+pub decl_names : (l : ℕ) (es : Vec Expr Global) (t : Box Sort Global) (vs : OneOrMore (Vec ℕ Global)) → decl_of (declTrees.Names l es t vs) ≡ declares l (expressions (map expression_of es.items)) (sort_of t.value) vs.first.items (map (λ v. v.items) vs.others.items)
 unfolding decl_of
 decl_names l es t vs = refl
 
@@ -198,7 +199,7 @@ pub decl_item : (i : ItemTree) → decl_of (declTrees.Item i) ≡ item (item_of 
 unfolding decl_of item_of
 decl_item i = refl
 
-pub item_value : (l : ℕ) (t : Option ValueType) (v : Vec ℕ Global) (e : Expr) → item_of (itemTrees.Value l t v e) ≡ value_item l (option_map value_type_of t) v.items (expression_of e)
+pub item_value : (l : ℕ) (t : Option ValueType) (v : Vec ℕ Global) (e : Box Expr Global) → item_of (itemTrees.Value l t v e) ≡ value_item l (option_map value_type_of t) v.items (expression_of e.value)
 unfolding item_of
 item_value l t v e = refl
 
@@ -206,6 +207,6 @@ pub item_protocol : (p : ProtocolTree) → item_of (itemTrees.Protocol p) ≡ pr
 unfolding item_of
 item_protocol p = refl
 
-pub item_proc : (l : ℕ) (v : Vec ℕ Global) (fs : Option Formals) (p : ProcessTree) (end_line : ℕ) → item_of (itemTrees.Proc l v fs p end_line) ≡ proc_item l v.items (formals_of fs) (process_of p) end_line
+pub item_proc : (l : ℕ) (v : Vec ℕ Global) (fs : Option (Box Formals Global)) (p : ProcessTree) (end_line : ℕ) → item_of (itemTrees.Proc l v fs p end_line) ≡ proc_item l v.items (formals_of fs) (process_of p) end_line
 unfolding item_of process_of
 item_proc l v fs p end_line = refl

@@ -1,2 +1,3 @@
+mod Arms
 pub mod ManyLoop
 pub mod Steps

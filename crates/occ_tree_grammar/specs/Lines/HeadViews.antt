@@ -17,7 +17,7 @@ use Rattle.occ_tree_grammar.specs.declared.lines.head.DeclHead.{DeclHead as Decl
 use Rattle.occ_tree_grammar.specs.declared.lines.head.DeclHead.TheVariants as declarations
 use Rattle.occ_tree_grammar.specs.declared.lines.head.TagHead.{TagHead as TagHeadTree}
 use Rattle.occ_tree_grammar.specs.Expressions.Trees.{expression_of, expressions}
-use Rattle.occ_tree_grammar.specs.Lines.Views.{var_of, target_of, out_of, input_of, replicator_of, part_of, sort_of, value_type_of, formals_of, actuals_of}
+use Rattle.occ_tree_grammar.specs.Lines.Views.{var_of, target_of, out_of, input_of, optional_replicator_of, part_of, sort_of, value_type_of, formals_of, actuals_of}
 use Rattle.occ_tree_grammar.specs.Lines.Heads.{Action, skip, stop, assign, input, output, call, ProcessHead, act, input_variants, sequence, parallel, alternation, conditional, selection, loop, ChoiceHead, chosen, nested_conditional, OptionHead, values, otherwise, Guard, on_input, on_skip, ArmHead, guarded, guarded_variants, nested_alternation, VariantHead, tag, DeclHead, names, value, parts, tags, procedure, TagHead, tag_parts}
 
 abbrev pub action_of : ActionTree → Action
@@ -29,21 +29,21 @@ action_of (actions.Output v os) = output (var_of v) (out_of os.first) (map out_o
 action_of (actions.Call v es) = call v.items (actuals_of es)
 
 abbrev pub process_head_of : ProcessHeadTree → ProcessHead
-process_head_of (processes.Action a) = act (action_of a)
+process_head_of (processes.Action a) = act (action_of a.value)
 process_head_of (processes.Variants v) = input_variants (var_of v)
-process_head_of (processes.Seq r) = sequence (option_map replicator_of r)
-process_head_of (processes.Par r) = parallel (option_map replicator_of r)
-process_head_of (processes.Alt pri r) = alternation pri (option_map replicator_of r)
-process_head_of (processes.If r) = conditional (option_map replicator_of r)
-process_head_of (processes.Case e) = selection (expression_of e)
-process_head_of (processes.While e) = loop (expression_of e)
+process_head_of (processes.Seq r) = sequence (optional_replicator_of r)
+process_head_of (processes.Par r) = parallel (optional_replicator_of r)
+process_head_of (processes.Alt pri r) = alternation pri (optional_replicator_of r)
+process_head_of (processes.If r) = conditional (optional_replicator_of r)
+process_head_of (processes.Case e) = selection (expression_of e.value)
+process_head_of (processes.While e) = loop (expression_of e.value)
 
 abbrev pub choice_head_of : ChoiceHeadTree → ChoiceHead
-choice_head_of (choices.When e) = chosen (expression_of e)
-choice_head_of (choices.If r) = nested_conditional (option_map replicator_of r)
+choice_head_of (choices.When e) = chosen (expression_of e.value)
+choice_head_of (choices.If r) = nested_conditional (optional_replicator_of r)
 
 abbrev pub option_head_of : OptionHeadTree → OptionHead
-option_head_of (options.Values es) = values (expression_of es.first) (map expression_of es.others.items)
+option_head_of (options.Values es) = values (expression_of es.value.first) (map expression_of es.value.others.items)
 option_head_of options.Else = otherwise
 
 abbrev pub guard_of : GuardTree → Guard
@@ -51,17 +51,17 @@ guard_of (guards.Input e i) = on_input (option_map expression_of e) (input_of i)
 guard_of (guards.Skip e) = on_skip (expression_of e)
 
 abbrev pub arm_head_of : ArmHeadTree → ArmHead
-arm_head_of (arms.Guarded g) = guarded (guard_of g)
-arm_head_of (arms.Variants e v) = guarded_variants (option_map expression_of e) (var_of v)
-arm_head_of (arms.Alt pri r) = nested_alternation pri (option_map replicator_of r)
+arm_head_of (arms.Guarded g) = guarded (guard_of g.value)
+arm_head_of (arms.Variants g) = guarded_variants (option_map expression_of g.value.condition) (var_of g.value.channel)
+arm_head_of (arms.Alt pri r) = nested_alternation pri (optional_replicator_of r)
 
 abbrev pub variant_head_of : VariantHeadTree → VariantHead
 variant_head_of h = tag h.tag.items (map target_of h.targets.items)
 
 abbrev pub decl_head_of : DeclHeadTree → DeclHead
-decl_head_of (declarations.Names es t vs) = names (expressions (map expression_of es.items)) (sort_of t) vs.first.items (map (λ v. v.items) vs.others.items)
-decl_head_of (declarations.Value t v e) = value (option_map value_type_of t) v.items (expression_of e)
-decl_head_of (declarations.Parts v ps) = parts v.items (part_of ps.first) (map part_of ps.others.items)
+decl_head_of (declarations.Names es t vs) = names (expressions (map expression_of es.items)) (sort_of t.value) vs.first.items (map (λ v. v.items) vs.others.items)
+decl_head_of (declarations.Value t v e) = value (option_map value_type_of t) v.items (expression_of e.value)
+decl_head_of (declarations.Parts v ps) = parts v.items (part_of ps.value.first) (map part_of ps.value.others.items)
 decl_head_of (declarations.Tags v) = tags v.items
 decl_head_of (declarations.Proc v fs) = procedure v.items (formals_of fs)
 

@@ -1,5 +1,7 @@
 -- The values of the code that stand in one line, without where they lie in memory.
 use Rattle.std.specs.Prelude.{map, Option, Some, None, option_map}
+use Rattle.std.specs.Global.{Global}
+use Rattle.std.specs.declared.boxed.Box.{Box}
 use Rattle.occ_tree_grammar.specs.declared.tree.line.Var.{Var as VarTree}
 use Rattle.occ_tree_grammar.specs.declared.tree.line.Target.{Target as TargetTree}
 use Rattle.occ_tree_grammar.specs.declared.tree.line.Target.TheVariants as targets
@@ -46,6 +48,9 @@ input_of (inputs.Tagged v t ts) = tagged (var_of v) t.items (map target_of ts.it
 abbrev pub replicator_of : ReplicatorTree → Replicator
 replicator_of r = each r.name.items (expression_of r.base) (expression_of r.count)
 
+abbrev pub optional_replicator_of : Option (Box ReplicatorTree Global) → Option Replicator
+optional_replicator_of r = option_map (λ b. replicator_of b.value) r
+
 abbrev pub part_of : PartTree → Part
 part_of (parts.Single es p) = single (expressions (map expression_of es.items)) p
 part_of (parts.Counted p q) = counted p q
@@ -73,9 +78,12 @@ spec_of (specs.Channel ds c) = by_channel (map size_of ds.items) (carried_of c)
 abbrev pub formal_of : FormalTree → Formal
 formal_of f = formal (option_map spec_of f.spec) f.name.items
 
-abbrev pub formals_of : Option FormalsTree → Formals
+abbrev pub some_formals_of : FormalsTree → Formals
+some_formals_of f = formals (spec_of f.spec) f.name.items (map formal_of f.others.items)
+
+abbrev pub formals_of : Option (Box FormalsTree Global) → Formals
 formals_of None = no_formals
-formals_of (Some f) = formals (spec_of f.spec) f.name.items (map formal_of f.others.items)
+formals_of (Some f) = some_formals_of f.value
 
 abbrev pub actuals_of : Option (OneOrMore Expr) → Actuals
 actuals_of None = no_actuals

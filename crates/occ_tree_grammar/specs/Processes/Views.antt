@@ -30,48 +30,48 @@ abbrev pub tag_of : TagTree → Tag
 tag_of t = tag_line t.line t.name.items (map part_of t.parts.items)
 
 abbrev pub protocol_of : ProtocolTree → Protocol
-protocol_of (protocols.Parts l v ps) = of_parts l v.items (part_of ps.first) (map part_of ps.others.items)
+protocol_of (protocols.Parts l v ps) = of_parts l v.items (part_of ps.value.first) (map part_of ps.value.others.items)
 protocol_of (protocols.Tags l v case_line ts end_line) = of_tags l v.items case_line (map tag_of ts.items) end_line
 
 unfoldable mutual
   pub process_of : ProcessTree → Node process
-  process_of (processes.Declared' shape ds l (stmts.Action a)) = node (row_decls ds) l (act (action_of a)) no_body
+  process_of (processes.Declared' shape ds l (stmts.Action a)) = node (row_decls ds) l (act (action_of a.value)) no_body
   process_of (processes.Declared' shape ds l (stmts.Seq' s ps)) = node (row_decls ds) l (sequence None) (bodies (row_processes ps))
-  process_of (processes.Declared' shape ds l (stmts.SeqFor' r p n)) = node (row_decls ds) l (sequence (Some (replicator_of r))) (single_body (process_of n))
+  process_of (processes.Declared' shape ds l (stmts.SeqFor' r p n)) = node (row_decls ds) l (sequence (Some (replicator_of r.value))) (single_body (process_of n))
   process_of (processes.Declared' shape ds l (stmts.Par' s ps)) = node (row_decls ds) l (parallel None) (bodies (row_processes ps))
-  process_of (processes.Declared' shape ds l (stmts.ParFor' r p n)) = node (row_decls ds) l (parallel (Some (replicator_of r))) (single_body (process_of n))
+  process_of (processes.Declared' shape ds l (stmts.ParFor' r p n)) = node (row_decls ds) l (parallel (Some (replicator_of r.value))) (single_body (process_of n))
   process_of (processes.Declared' shape ds l (stmts.Alt' pri s ms)) = node (row_decls ds) l (alternation pri None) (bodies (row_arms ms))
-  process_of (processes.Declared' shape ds l (stmts.AltFor' pri r p m)) = node (row_decls ds) l (alternation pri (Some (replicator_of r))) (single_body (arm_of m))
+  process_of (processes.Declared' shape ds l (stmts.AltFor' pri r p m)) = node (row_decls ds) l (alternation pri (Some (replicator_of r.value))) (single_body (arm_of m))
   process_of (processes.Declared' shape ds l (stmts.If' s cs)) = node (row_decls ds) l (conditional None) (bodies (row_choices cs))
-  process_of (processes.Declared' shape ds l (stmts.IfFor' r p c)) = node (row_decls ds) l (conditional (Some (replicator_of r))) (single_body (choice_of c))
-  process_of (processes.Declared' shape ds l (stmts.Case' e s os)) = node (row_decls ds) l (selection (expression_of e)) (bodies (row_selections os))
-  process_of (processes.Declared' shape ds l (stmts.While' e p n)) = node (row_decls ds) l (loop (expression_of e)) (single_body (process_of n))
+  process_of (processes.Declared' shape ds l (stmts.IfFor' r p c)) = node (row_decls ds) l (conditional (Some (replicator_of r.value))) (single_body (choice_of c))
+  process_of (processes.Declared' shape ds l (stmts.Case' e s os)) = node (row_decls ds) l (selection (expression_of e.value)) (bodies (row_selections os))
+  process_of (processes.Declared' shape ds l (stmts.While' e p n)) = node (row_decls ds) l (loop (expression_of e.value)) (single_body (process_of n))
   process_of (processes.Declared' shape ds l (stmts.Variants' v s vs)) = node (row_decls ds) l (input_variants (var_of v)) (bodies (row_variants vs))
 
   pub choice_of : ChoiceTree → Node choice
-  choice_of (choices.When' shape ds l e n) = node (row_decls ds) l (chosen (expression_of e)) (single_body (process_of n))
+  choice_of (choices.When' shape ds l e n) = node (row_decls ds) l (chosen (expression_of e.value)) (single_body (process_of n))
   choice_of (choices.InnerIf' shape ds l s cs) = node (row_decls ds) l (nested_conditional None) (bodies (row_choices cs))
-  choice_of (choices.InnerIfFor' shape ds l r p c) = node (row_decls ds) l (nested_conditional (Some (replicator_of r))) (single_body (choice_of c))
+  choice_of (choices.InnerIfFor' shape ds l r p c) = node (row_decls ds) l (nested_conditional (Some (replicator_of r.value))) (single_body (choice_of c))
 
   pub selection_of : SelectionTree → Node option
-  selection_of (selections.Values' shape ds l es n) = node (row_decls ds) l (values (expression_of es.first) (map expression_of es.others.items)) (single_body (process_of n))
+  selection_of (selections.Values' shape ds l es n) = node (row_decls ds) l (values (expression_of es.value.first) (map expression_of es.value.others.items)) (single_body (process_of n))
   selection_of (selections.Else' shape ds l n) = node (row_decls ds) l otherwise (single_body (process_of n))
 
   pub arm_of : ArmTree → Node arm
-  arm_of (arms.Guarded' shape ds l g n) = node (row_decls ds) l (guarded (guard_of g)) (single_body (process_of n))
-  arm_of (arms.OnVariant' shape ds l e v s vs) = node (row_decls ds) l (guarded_variants (option_map expression_of e) (var_of v)) (bodies (row_variants vs))
+  arm_of (arms.Guarded' shape ds l g n) = node (row_decls ds) l (guarded (guard_of g.value)) (single_body (process_of n))
+  arm_of (arms.OnVariant' shape ds l g s vs) = node (row_decls ds) l (guarded_variants (option_map expression_of g.value.condition) (var_of g.value.channel)) (bodies (row_variants vs))
   arm_of (arms.InnerAlt' shape ds l pri s ms) = node (row_decls ds) l (nested_alternation pri None) (bodies (row_arms ms))
-  arm_of (arms.InnerAltFor' shape ds l pri r p m) = node (row_decls ds) l (nested_alternation pri (Some (replicator_of r))) (single_body (arm_of m))
+  arm_of (arms.InnerAltFor' shape ds l pri r p m) = node (row_decls ds) l (nested_alternation pri (Some (replicator_of r.value))) (single_body (arm_of m))
 
   pub variant_of : VariantTree → Node variant
   variant_of (variants.Tagged' shape ds l v ts n) = node (row_decls ds) l (tag v.items (map target_of ts.items)) (single_body (process_of n))
 
   pub decl_of : DeclTree → Decl
-  decl_of (declTrees.Names l es t vs) = declares l (expressions (map expression_of es.items)) (sort_of t) vs.first.items (map (λ v. v.items) vs.others.items)
+  decl_of (declTrees.Names l es t vs) = declares l (expressions (map expression_of es.items)) (sort_of t.value) vs.first.items (map (λ v. v.items) vs.others.items)
   decl_of (declTrees.Item i) = item (item_of i)
 
   pub item_of : ItemTree → Item
-  item_of (itemTrees.Value l t v e) = value_item l (option_map value_type_of t) v.items (expression_of e)
+  item_of (itemTrees.Value l t v e) = value_item l (option_map value_type_of t) v.items (expression_of e.value)
   item_of (itemTrees.Protocol p) = protocol_item (protocol_of p)
   item_of (itemTrees.Proc l v fs n end_line) = proc_item l v.items (formals_of fs) (process_of n) end_line
 

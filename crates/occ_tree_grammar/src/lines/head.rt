@@ -3,43 +3,44 @@
 use crate::tree::expr::Expr;
 use crate::tree::line::{
     Action, Formals, Guard, Input, OneOrMore, Part, Replicator, Sort, Target, ValueType, Var,
+    VariantGuard,
 };
 
 /// The line of a process.
 #[derive(Drop)]
 pub enum ProcessHead {
     /// A process that stands in one line.
-    Action(Action),
+    Action(Box<Action>),
     /// An input of variants from the channel.
     Variants(Var),
     /// `SEQ`
-    Seq(Option<Replicator>),
+    Seq(Option<Box<Replicator>>),
     /// `PAR`
-    Par(Option<Replicator>),
+    Par(Option<Box<Replicator>>),
     /// `ALT`, by priority where the truth value says so.
-    Alt(bool, Option<Replicator>),
+    Alt(bool, Option<Box<Replicator>>),
     /// `IF`
-    If(Option<Replicator>),
+    If(Option<Box<Replicator>>),
     /// `CASE` and the value.
-    Case(Expr),
+    Case(Box<Expr>),
     /// `WHILE` and the condition.
-    While(Expr),
+    While(Box<Expr>),
 }
 
 /// The line of a choice.
 #[derive(Drop)]
 pub enum ChoiceHead {
     /// A condition.
-    When(Expr),
+    When(Box<Expr>),
     /// A nested `IF`.
-    If(Option<Replicator>),
+    If(Option<Box<Replicator>>),
 }
 
 /// The line of an option.
 #[derive(Drop)]
 pub enum OptionHead {
     /// The values.
-    Values(OneOrMore<Expr>),
+    Values(Box<OneOrMore<Expr>>),
     /// `ELSE`
     Else,
 }
@@ -48,11 +49,11 @@ pub enum OptionHead {
 #[derive(Drop)]
 pub enum ArmHead {
     /// A guard.
-    Guarded(Guard),
-    /// An input of variants from the channel, behind the Boolean where there is one.
-    Variants(Option<Expr>, Var),
+    Guarded(Box<Guard>),
+    /// What guards an input of variants.
+    Variants(Box<VariantGuard>),
     /// A nested `ALT`, by priority where the truth value says so.
-    Alt(bool, Option<Replicator>),
+    Alt(bool, Option<Box<Replicator>>),
 }
 
 /// The line of a variant: the tag and the targets.
@@ -68,15 +69,15 @@ pub struct VariantHead {
 #[derive(Drop)]
 pub enum DeclHead {
     /// The sizes, the sort and the names.
-    Names(Vec<Expr>, Sort, OneOrMore<Vec<u8>>),
+    Names(Vec<Expr>, Box<Sort>, OneOrMore<Vec<u8>>),
     /// The type where it is given, the name and the value.
-    Value(Option<ValueType>, Vec<u8>, Expr),
+    Value(Option<ValueType>, Vec<u8>, Box<Expr>),
     /// A protocol: the name and the parts.
-    Parts(Vec<u8>, OneOrMore<Part>),
+    Parts(Vec<u8>, Box<OneOrMore<Part>>),
     /// The first line of a protocol of variants: the name.
     Tags(Vec<u8>),
     /// The first line of a procedure: the name and the formals.
-    Proc(Vec<u8>, Option<Formals>),
+    Proc(Vec<u8>, Option<Box<Formals>>),
 }
 
 /// A line of a protocol of variants: the tag and the parts.

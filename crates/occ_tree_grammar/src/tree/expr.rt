@@ -1,5 +1,12 @@
 //! Expressions.
 
+ghost use Rattle.std.specs.Prelude.{◌≡◌, option_map};
+ghost use Rattle.occ_tree_grammar.specs.Expressions.Trees.{expression_of, operand_of};
+ghost use Rattle.occ_tree_grammar.specs.Lines.Views.{var_of};
+ghost use Rattle.occ_tree_grammar.specs.Lines.HeadReading.{as_var, operand_var};
+
+use crate::tree::line::Var;
+
 /// A primitive type.
 #[derive(Clone, Copy)]
 pub enum Primitive {
@@ -90,7 +97,6 @@ pub enum Logic {
 }
 
 /// A literal, as the value that it stands for.
-#[derive(Drop)]
 pub enum Literal {
     /// A number.
     Number(i32),
@@ -100,8 +106,17 @@ pub enum Literal {
     Text(Vec<u8>),
 }
 
+impl Drop for Literal {
+    fn drop(self) {
+        match self {
+            Literal::Number(_) => {}
+            Literal::Byte(_) => {}
+            Literal::Text(_) => {}
+        }
+    }
+}
+
 /// An expression. It stands in one logical line, whose number is that of what it stands in.
-#[derive(Drop)]
 #[cycle(expr)]
 pub enum Expr {
     /// An operand alone.
@@ -120,8 +135,22 @@ pub enum Expr {
     Chain(Logic, Operand, Operand, Vec<Operand>),
 }
 
+impl Drop for Expr {
+    #[cycle(expr)]
+    fn drop(self) {
+        match self {
+            Expr::Operand(_) => {}
+            Expr::Two(_, _, _) => {}
+            Expr::One(_, _) => {}
+            Expr::Convert(_, _) => {}
+            Expr::MostPos => {}
+            Expr::MostNeg => {}
+            Expr::Chain(_, _, _, _) => {}
+        }
+    }
+}
+
 /// An operand.
-#[derive(Drop)]
 #[cycle(expr)]
 pub enum Operand {
     /// A name with its subscripts.
@@ -132,4 +161,40 @@ pub enum Operand {
     Truth(bool),
     /// An expression in parentheses.
     Parens(Box<Expr>),
+}
+
+impl Drop for Operand {
+    #[cycle(expr)]
+    fn drop(self) {
+        match self {
+            Operand::Variable(_, _) => {}
+            Operand::Literal(_, _) => {}
+            Operand::Truth(_) => {}
+            Operand::Parens(_) => {}
+        }
+    }
+}
+
+impl Expr {
+    /// The variable or the channel that the expression is, where it is one.
+    pub fn into_var(self) -> Option<Var>
+        ensures { option_map var_of result ≡ as_var (expression_of self) }
+    {
+        match self {
+            Expr::Operand(operand) => operand.into_var(),
+            _ => None,
+        }
+    }
+}
+
+impl Operand {
+    /// The variable or the channel that the operand is, where it is one.
+    pub fn into_var(self) -> Option<Var>
+        ensures { option_map var_of result ≡ operand_var (operand_of self) }
+    {
+        match self {
+            Operand::Variable(name, subscripts) => Some(Var { name, subscripts }),
+            _ => None,
+        }
+    }
 }

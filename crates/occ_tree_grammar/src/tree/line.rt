@@ -3,7 +3,6 @@
 use crate::tree::expr::{Expr, Prim};
 
 /// One or more of a kind.
-#[derive(Drop)]
 pub struct OneOrMore<T: Drop> {
     /// The first.
     pub first: T,
@@ -11,8 +10,16 @@ pub struct OneOrMore<T: Drop> {
     pub others: Vec<T>,
 }
 
+impl<T: Drop> Drop for OneOrMore<T> {
+    fn drop(self) {
+        let OneOrMore {
+            first: _,
+            others: _,
+        } = self;
+    }
+}
+
 /// A variable or a channel: a name with its subscripts.
-#[derive(Drop)]
 pub struct Var {
     /// The name.
     pub name: Vec<u8>,
@@ -20,8 +27,16 @@ pub struct Var {
     pub subscripts: Vec<Expr>,
 }
 
+impl Drop for Var {
+    fn drop(self) {
+        let Var {
+            name: _,
+            subscripts: _,
+        } = self;
+    }
+}
+
 /// Where an input puts an item.
-#[derive(Drop)]
 pub enum Target {
     /// The variable that takes the item.
     Whole(Var),
@@ -29,8 +44,16 @@ pub enum Target {
     Counted(Var, Var),
 }
 
+impl Drop for Target {
+    fn drop(self) {
+        match self {
+            Target::Whole(_) => {}
+            Target::Counted(_, _) => {}
+        }
+    }
+}
+
 /// An item of an output.
-#[derive(Drop)]
 pub enum Out {
     /// A value.
     Whole(Expr),
@@ -38,8 +61,16 @@ pub enum Out {
     Counted(Expr, Expr),
 }
 
+impl Drop for Out {
+    fn drop(self) {
+        match self {
+            Out::Whole(_) => {}
+            Out::Counted(_, _) => {}
+        }
+    }
+}
+
 /// An input in one line.
-#[derive(Drop)]
 pub enum Input {
     /// The channel and the targets.
     Items(Var, OneOrMore<Target>),
@@ -47,8 +78,16 @@ pub enum Input {
     Tagged(Var, Vec<u8>, Vec<Target>),
 }
 
+impl Drop for Input {
+    fn drop(self) {
+        match self {
+            Input::Items(_, _) => {}
+            Input::Tagged(_, _, _) => {}
+        }
+    }
+}
+
 /// The guard of an arm that isn't an input of variants.
-#[derive(Drop)]
 pub enum Guard {
     /// An input, behind the Boolean where there is one.
     Input(Option<Expr>, Input),
@@ -56,8 +95,33 @@ pub enum Guard {
     Skip(Expr),
 }
 
+impl Drop for Guard {
+    fn drop(self) {
+        match self {
+            Guard::Input(_, _) => {}
+            Guard::Skip(_) => {}
+        }
+    }
+}
+
+/// The guard of an arm that is an input of variants.
+pub struct VariantGuard {
+    /// The Boolean, where there is one.
+    pub condition: Option<Expr>,
+    /// The channel.
+    pub channel: Var,
+}
+
+impl Drop for VariantGuard {
+    fn drop(self) {
+        let VariantGuard {
+            condition: _,
+            channel: _,
+        } = self;
+    }
+}
+
 /// A replicator: `name = base FOR count`.
-#[derive(Drop)]
 pub struct Replicator {
     /// The name of the index.
     pub name: Vec<u8>,
@@ -67,8 +131,17 @@ pub struct Replicator {
     pub count: Expr,
 }
 
+impl Drop for Replicator {
+    fn drop(self) {
+        let Replicator {
+            name: _,
+            base: _,
+            count: _,
+        } = self;
+    }
+}
+
 /// A process that stands in one line.
-#[derive(Drop)]
 pub enum Action {
     /// `SKIP`
     Skip,
@@ -84,8 +157,20 @@ pub enum Action {
     Call(Vec<u8>, Option<OneOrMore<Expr>>),
 }
 
+impl Drop for Action {
+    fn drop(self) {
+        match self {
+            Action::Skip => {}
+            Action::Stop => {}
+            Action::Assign(_, _) => {}
+            Action::Input(_) => {}
+            Action::Output(_, _) => {}
+            Action::Call(_, _) => {}
+        }
+    }
+}
+
 /// A part of a message.
-#[derive(Drop)]
 pub enum Part {
     /// A value of the type, or an array of the sizes; at most one size.
     Single(Vec<Expr>, Prim),
@@ -93,8 +178,16 @@ pub enum Part {
     Counted(Prim, Prim),
 }
 
+impl Drop for Part {
+    fn drop(self) {
+        match self {
+            Part::Single(_, _) => {}
+            Part::Counted(_, _) => {}
+        }
+    }
+}
+
 /// What a channel carries.
-#[derive(Drop)]
 pub enum Carried {
     /// Messages of one part.
     Part(Part),
@@ -102,8 +195,16 @@ pub enum Carried {
     Named(Vec<u8>),
 }
 
+impl Drop for Carried {
+    fn drop(self) {
+        match self {
+            Carried::Part(_) => {}
+            Carried::Named(_) => {}
+        }
+    }
+}
+
 /// What a declaration declares its names as.
-#[derive(Drop)]
 pub enum Sort {
     /// Variables of the type.
     Data(Prim),
@@ -111,8 +212,16 @@ pub enum Sort {
     Channel(Carried),
 }
 
+impl Drop for Sort {
+    fn drop(self) {
+        match self {
+            Sort::Data(_) => {}
+            Sort::Channel(_) => {}
+        }
+    }
+}
+
 /// A size in the type of a formal or of a named value.
-#[derive(Drop)]
 pub enum Size {
     /// Any size: `[]`.
     Open,
@@ -120,8 +229,16 @@ pub enum Size {
     Given(Expr),
 }
 
+impl Drop for Size {
+    fn drop(self) {
+        match self {
+            Size::Open => {}
+            Size::Given(_) => {}
+        }
+    }
+}
+
 /// The type of a named value or of a formal: its sizes, at most one, and the type of its components.
-#[derive(Drop)]
 pub struct ValueType {
     /// The sizes, in order.
     pub sizes: Vec<Size>,
@@ -129,8 +246,13 @@ pub struct ValueType {
     pub of: Prim,
 }
 
+impl Drop for ValueType {
+    fn drop(self) {
+        let ValueType { sizes: _, of: _ } = self;
+    }
+}
+
 /// What a formal stands for.
-#[derive(Drop)]
 pub enum Spec {
     /// A value, by `VAL`.
     Value(ValueType),
@@ -140,8 +262,17 @@ pub enum Spec {
     Channel(Vec<Size>, Carried),
 }
 
+impl Drop for Spec {
+    fn drop(self) {
+        match self {
+            Spec::Value(_) => {}
+            Spec::Variable(_) => {}
+            Spec::Channel(_, _) => {}
+        }
+    }
+}
+
 /// A formal that isn't the first.
-#[derive(Drop)]
 pub struct Formal {
     /// The spec, where it isn't that of the formal before it.
     pub spec: Option<Spec>,
@@ -149,8 +280,13 @@ pub struct Formal {
     pub name: Vec<u8>,
 }
 
+impl Drop for Formal {
+    fn drop(self) {
+        let Formal { spec: _, name: _ } = self;
+    }
+}
+
 /// The formals of a procedure that has some.
-#[derive(Drop)]
 pub struct Formals {
     /// The spec of the first.
     pub spec: Spec,
@@ -158,4 +294,14 @@ pub struct Formals {
     pub name: Vec<u8>,
     /// The others.
     pub others: Vec<Formal>,
+}
+
+impl Drop for Formals {
+    fn drop(self) {
+        let Formals {
+            spec: _,
+            name: _,
+            others: _,
+        } = self;
+    }
 }

@@ -7,7 +7,6 @@ ghost use Rattle.occ_tree_grammar.specs.Expressions.Trees.{expression_of, operan
 ghost use Rattle.occ_tree_grammar.specs.Expressions.Reading.{Gives, type_mark_at, index_with, indices_with, operand_with, after_logic, after_operand, expression_with, expression_at};
 
 use crate::expressions::symbol::{close, close_bracket, int, joined, open_bracket, prim};
-use occ_held::Held;
 use occ_text::{Key, Sym, Token};
 use occ_tree_grammar::ParseFault;
 use occ_tree_grammar::expressions::start::{Link, Start, link_to, start_with};
@@ -42,9 +41,8 @@ pub fn index(
     ensures { Gives (λ x. (expression_of x.0, words x.1.now)) result (index_with (expression_at left) (words tokens.now)) }
 {
     let (index, rest) = expr(alloc, left, line, tokens)?;
-    let index = Held::new(index);
     let rest = close_bracket(line, rest)?;
-    Ok((index.into_inner(), rest))
+    Ok((index, rest))
 }
 
 /// Expressions, each in brackets of its own. At most `left` brackets more may stand open.
@@ -103,9 +101,8 @@ fn operand(
         [Token::Key(Key::False), rest @ ..] => Ok((Operand::Truth(false), rest)),
         [Token::Sym(Sym::OpenParen), rest @ ..] => {
             let (inside, rest) = expr(alloc, left, line, rest)?;
-            let inside = Held::new(inside);
             let rest = close(line, rest)?;
-            let inside = Box::new(alloc, inside.into_inner())?;
+            let inside = Box::new(alloc, inside)?;
             Ok((Operand::Parens(inside), rest))
         }
         _ => Err(ParseFault::Unexpected { line }),
@@ -203,20 +200,16 @@ fn linked(
     let [word, after @ ..] = tokens else {
         return Ok((Expr::Operand(first), tokens));
     };
-    let first = Held::new(first);
     match link_to(word) {
         Link::Dyadic(sign) => {
             let (second, rest) = operand(alloc, left, line, after)?;
-            Ok((Expr::Two(first.into_inner(), sign, second), rest))
+            Ok((Expr::Two(first, sign, second), rest))
         }
         Link::Logic(logic) => {
             let (second, rest) = operand(alloc, left, line, after)?;
-            let second = Held::new(second);
             let (others, rest) = operands(alloc, left, line, logic, rest)?;
-            let first = first.into_inner();
-            let second = second.into_inner();
             Ok((Expr::Chain(logic, first, second, others), rest))
         }
-        Link::End => Ok((Expr::Operand(first.into_inner()), tokens)),
+        Link::End => Ok((Expr::Operand(first), tokens)),
     }
 }

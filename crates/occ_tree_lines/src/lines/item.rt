@@ -5,14 +5,13 @@ ghost use Rattle.occ_text.specs.Words.{words};
 ghost use Rattle.occ_tree_grammar.specs.Many.{ended};
 ghost use Rattle.occ_tree_grammar.specs.Expressions.Trees.{expression_of};
 ghost use Rattle.occ_tree_grammar.specs.Expressions.Reading.{Gives, expression_at};
-ghost use Rattle.occ_tree_grammar.specs.Lines.Views.{var_of, target_of, out_of, received_of, replicator_of, actuals_of};
+ghost use Rattle.occ_tree_grammar.specs.Lines.Views.{var_of, target_of, out_of, received_of, replicator_of, optional_replicator_of, actuals_of};
 ghost use Rattle.occ_tree_grammar.specs.Lines.Reading.{var_named, var_at, target_at, target_after, out_at, out_after, received_at, targets_whole, replicator_at, actuals_at};
 
 use crate::expressions::read::{expr, indices};
 use crate::expressions::symbol::close;
 use crate::lines::list::{expressions, targets};
 use crate::lines::word::for_count;
-use occ_held::Held;
 use occ_text::{Key, Sym, Token};
 use occ_tree_grammar::ParseFault;
 use occ_tree_grammar::lines::head::Received;
@@ -80,13 +79,12 @@ pub fn out(alloc: Global, line: u32, tokens: &[Token]) -> Result<(Out, &[Token])
     ensures { Gives (λ x. (out_of x.0, words x.1.now)) result (out_at 65 (words tokens.now)) }
 {
     let (first, rest) = expression(alloc, line, tokens)?;
-    let first = Held::new(first);
     match rest {
         [Token::Sym(Sym::DoubleColon), rest @ ..] => {
             let (array, rest) = expression(alloc, line, rest)?;
-            Ok((Out::Counted(first.into_inner(), array), rest))
+            Ok((Out::Counted(first, array), rest))
         }
-        _ => Ok((Out::Whole(first.into_inner()), rest)),
+        _ => Ok((Out::Whole(first), rest)),
     }
 }
 
@@ -94,13 +92,9 @@ fn items(alloc: Global, line: u32, channel: Var, tokens: &[Token]) -> Result<Rec
     ensures { Gives received_of result (targets_whole 65 (var_of channel) (words tokens.now)) }
 {
     let (first, rest) = target(alloc, line, tokens)?;
-    let first = Held::new(first);
     let (others, rest) = targets(alloc, line, rest)?;
     match rest {
-        [] => {
-            let first = first.into_inner();
-            Ok(Received::Input(Input::Items(channel, OneOrMore { first, others })))
-        }
+        [] => { Ok(Received::Input(Input::Items(channel, OneOrMore { first, others }))) }
         _ => Err(ParseFault::Unexpected { line }),
     }
 }
@@ -131,15 +125,15 @@ pub fn behind_question(
 
 /// The replicator, where nothing follows it.
 fn only_replicator(
+    alloc: Global,
     line: u32,
     replicator: Replicator,
     rest: &[Token],
-) -> Result<Option<Replicator>, ParseFault>
-    ensures { Gives (λ r. option_map replicator_of r) result (ended (Some (replicator_of replicator)) (words rest.now)) }
+) -> Result<Option<Box<Replicator>>, ParseFault>
+    ensures { Gives optional_replicator_of result (ended (Some (replicator_of replicator)) (words rest.now)) }
 {
-    let replicator = Held::new(replicator);
     match rest {
-        [] => Ok(Some(replicator.into_inner())),
+        [] => Ok(Some(Box::new(alloc, replicator)?)),
         _ => Err(ParseFault::Unexpected { line }),
     }
 }
@@ -150,21 +144,17 @@ pub fn replicator(
     alloc: Global,
     line: u32,
     tokens: &[Token],
-) -> Result<Option<Replicator>, ParseFault>
-    ensures { Gives (λ r. option_map replicator_of r) result (replicator_at 65 (words tokens.now)) }
+) -> Result<Option<Box<Replicator>>, ParseFault>
+    ensures { Gives optional_replicator_of result (replicator_at 65 (words tokens.now)) }
 {
     match tokens {
         [] => Ok(None),
         [Token::Name(name), Token::Sym(Sym::Equal), rest @ ..] => {
             let (base, rest) = expression(alloc, line, rest)?;
-            let base = Held::new(base);
             let rest = for_count(line, rest)?;
             let (count, rest) = expression(alloc, line, rest)?;
-            let count = Held::new(count);
             let name = Vec::from_slice(alloc, name)?;
-            let base = base.into_inner();
-            let count = count.into_inner();
-            only_replicator(line, Replicator { name, base, count }, rest)
+            only_replicator(alloc, line, Replicator { name, base, count }, rest)
         }
         _ => Err(ParseFault::Unexpected { line }),
     }
@@ -183,10 +173,8 @@ pub fn actuals(
         [Token::Sym(Sym::CloseParen), rest @ ..] => Ok((None, rest)),
         _ => {
             let (first, rest) = expression(alloc, line, tokens)?;
-            let first = Held::new(first);
             let (others, rest) = expressions(alloc, line, rest)?;
             let rest = close(line, rest)?;
-            let first = first.into_inner();
             Ok((Some(OneOrMore { first, others }), rest))
         }
     }

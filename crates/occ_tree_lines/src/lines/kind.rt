@@ -11,7 +11,6 @@ use crate::expressions::read::{DIMENSIONS, index, indices};
 use crate::expressions::symbol::{close, open_bracket, prim};
 use crate::lines::list::formal_list;
 use crate::lines::word::name;
-use occ_held::Held;
 use occ_text::{Key, Sym, Token};
 use occ_tree_grammar::ParseFault;
 use occ_tree_grammar::tree::expr::{Expr, Prim};
@@ -176,11 +175,10 @@ pub fn formal(alloc: Global, line: u32, tokens: &[Token]) -> Result<(Formal, &[T
         }
         _ => {
             let (spec, rest) = spec(alloc, line, tokens)?;
-            let spec = Held::new(spec);
             let (name, rest) = name(alloc, line, rest)?;
             Ok((
                 Formal {
-                    spec: Some(spec.into_inner()),
+                    spec: Some(spec),
                     name,
                 },
                 rest,
@@ -195,19 +193,18 @@ pub fn formals(
     alloc: Global,
     line: u32,
     tokens: &[Token],
-) -> Result<(Option<Formals>, &[Token]), ParseFault>
+) -> Result<(Option<Box<Formals>>, &[Token]), ParseFault>
     ensures { Gives (λ x. (formals_of x.0, words x.1.now)) result (formals_at 65 (words tokens.now)) }
 {
     match tokens {
         [Token::Sym(Sym::CloseParen), rest @ ..] => Ok((None, rest)),
         _ => {
             let (spec, rest) = spec(alloc, line, tokens)?;
-            let spec = Held::new(spec);
             let (name, rest) = name(alloc, line, rest)?;
             let (others, rest) = formal_list(alloc, line, rest)?;
             let rest = close(line, rest)?;
-            let spec = spec.into_inner();
-            Ok((Some(Formals { spec, name, others }), rest))
+            let formals = Box::new(alloc, Formals { spec, name, others })?;
+            Ok((Some(formals), rest))
         }
     }
 }

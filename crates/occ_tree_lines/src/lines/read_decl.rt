@@ -5,7 +5,8 @@ ghost use Rattle.occ_text.specs.Words.{words};
 ghost use Rattle.occ_tree_grammar.specs.Many.{ended};
 ghost use Rattle.occ_tree_grammar.specs.Expressions.Trees.{expression_of, expressions};
 ghost use Rattle.occ_tree_grammar.specs.Expressions.Reading.{Gives};
-ghost use Rattle.occ_tree_grammar.specs.Lines.Views.{sort_of, value_type_of};
+ghost use Rattle.occ_tree_grammar.specs.Lines.Views.{part_of, sort_of, value_type_of};
+ghost use Rattle.occ_tree_grammar.specs.Lines.Heads.{names as the_names, value as the_value, parts as the_parts};
 ghost use Rattle.occ_tree_grammar.specs.Lines.HeadViews.{decl_head_of, tag_head_of};
 ghost use Rattle.occ_tree_grammar.specs.Lines.HeadReading.{names_at, sort_at, named_value_at, value_at, protocol_at, procedure_at, declared_at, decl_head_at, tag_head_at, has_colon, declares};
 
@@ -14,21 +15,59 @@ use crate::lines::item::expression;
 use crate::lines::kind::{carried, declared_sizes, formals, part, value_type};
 use crate::lines::list::{names, parts};
 use crate::lines::word::{colon, is, name};
-use occ_held::Held;
 use occ_text::{Key, Sym, Token};
 use occ_tree_grammar::ParseFault;
 use occ_tree_grammar::lines::head::{DeclHead, TagHead};
 use occ_tree_grammar::tree::expr::Expr;
-use occ_tree_grammar::tree::line::{OneOrMore, Sort, ValueType};
+use occ_tree_grammar::tree::line::{OneOrMore, Part, Sort, ValueType};
 use std::alloc::Global;
 
-/// The head, where nothing follows it.
-fn only_head(line: u32, head: DeclHead, rest: &[Token]) -> Result<DeclHead, ParseFault>
-    ensures { Gives decl_head_of result (ended (decl_head_of head) (words rest.now)) }
+/// The names and what they are declared as, where nothing follows them.
+fn only_names(
+    alloc: Global,
+    line: u32,
+    sizes: Vec<Expr>,
+    sort: Sort,
+    all: OneOrMore<Vec<u8>>,
+    rest: &[Token],
+) -> Result<DeclHead, ParseFault>
+    ensures { Gives decl_head_of result (ended (the_names (expressions (map expression_of sizes.items)) (sort_of sort) all.first.items (map (λ v. v.items) all.others.items)) (words rest.now)) }
 {
-    let head = Held::new(head);
     match rest {
-        [] => Ok(head.into_inner()),
+        [] => Ok(DeclHead::Names(sizes, Box::new(alloc, sort)?, all)),
+        _ => Err(ParseFault::Unexpected { line }),
+    }
+}
+
+/// The named value, where nothing follows it.
+fn only_value(
+    alloc: Global,
+    line: u32,
+    of: Option<ValueType>,
+    name: Vec<u8>,
+    value: Expr,
+    rest: &[Token],
+) -> Result<DeclHead, ParseFault>
+    ensures { Gives decl_head_of result (ended (the_value (option_map value_type_of of) name.items (expression_of value)) (words rest.now)) }
+{
+    match rest {
+        [] => Ok(DeclHead::Value(of, name, Box::new(alloc, value)?)),
+        _ => Err(ParseFault::Unexpected { line }),
+    }
+}
+
+/// The protocol, where nothing follows it.
+fn only_parts(
+    alloc: Global,
+    line: u32,
+    name: Vec<u8>,
+    all: OneOrMore<Part>,
+    rest: &[Token],
+) -> Result<DeclHead, ParseFault>
+    ensures { Gives decl_head_of result (ended (the_parts name.items (part_of all.first) (map part_of all.others.items)) (words rest.now)) }
+{
+    match rest {
+        [] => Ok(DeclHead::Parts(name, Box::new(alloc, all)?)),
         _ => Err(ParseFault::Unexpected { line }),
     }
 }
@@ -43,16 +82,10 @@ fn declared_names(
 ) -> Result<DeclHead, ParseFault>
     ensures { Gives decl_head_of result (names_at 65 (expressions (map expression_of sizes.items)) (sort_of sort) (words tokens.now)) }
 {
-    let sort = Held::new(sort);
     let (first, rest) = name(alloc, line, tokens)?;
     let (others, rest) = names(alloc, line, rest)?;
     let rest = colon(line, rest)?;
-    let sort = sort.into_inner();
-    only_head(
-        line,
-        DeclHead::Names(sizes, sort, OneOrMore { first, others }),
-        rest,
-    )
+    only_names(alloc, line, sizes, sort, OneOrMore { first, others }, rest)
 }
 
 /// What follows the sizes of a declaration.
@@ -87,9 +120,8 @@ fn named_value(
     let (name, rest) = name(alloc, line, tokens)?;
     let rest = is(line, rest)?;
     let (value, rest) = expression(alloc, line, rest)?;
-    let value = Held::new(value);
     let rest = colon(line, rest)?;
-    only_head(line, DeclHead::Value(of, name, value.into_inner()), rest)
+    only_value(alloc, line, of, name, value, rest)
 }
 
 /// What follows `VAL`.
@@ -116,11 +148,7 @@ fn behind_protocol(alloc: Global, line: u32, tokens: &[Token]) -> Result<DeclHea
             let (others, rest) = parts(alloc, line, rest)?;
             let rest = colon(line, rest)?;
             let name = Vec::from_slice(alloc, name)?;
-            only_head(
-                line,
-                DeclHead::Parts(name, OneOrMore { first, others }),
-                rest,
-            )
+            only_parts(alloc, line, name, OneOrMore { first, others }, rest)
         }
         _ => Err(ParseFault::Unexpected { line }),
     }
@@ -134,7 +162,10 @@ fn behind_proc(alloc: Global, line: u32, tokens: &[Token]) -> Result<DeclHead, P
         [Token::Name(name), Token::Sym(Sym::OpenParen), rest @ ..] => {
             let (formals, rest) = formals(alloc, line, rest)?;
             let name = Vec::from_slice(alloc, name)?;
-            only_head(line, DeclHead::Proc(name, formals), rest)
+            match rest {
+                [] => Ok(DeclHead::Proc(name, formals)),
+                _ => Err(ParseFault::Unexpected { line }),
+            }
         }
         _ => Err(ParseFault::Unexpected { line }),
     }

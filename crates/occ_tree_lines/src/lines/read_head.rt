@@ -1,46 +1,38 @@
 //! Reading the lines at the head of processes and of their parts.
 
-ghost use Rattle.std.specs.Prelude.{◌≡◌, option_map};
-ghost use Rattle.occ_text.specs.Words.{words};
+ghost use Rattle.std.specs.Prelude.{◌≡◌, ◌∷◌, Some, map, option_map};
+ghost use Rattle.occ_text.specs.Words.{key, words};
 ghost use Rattle.occ_tree_grammar.specs.Many.{ended};
-ghost use Rattle.occ_tree_grammar.specs.Expressions.Trees.{expression_of, operand_of};
+ghost use Rattle.occ_tree_grammar.specs.Expressions.Trees.{expression_of};
 ghost use Rattle.occ_tree_grammar.specs.Expressions.Reading.{Gives};
 ghost use Rattle.occ_tree_grammar.specs.Lines.Views.{var_of, received_of};
-ghost use Rattle.occ_tree_grammar.specs.Lines.Heads.{act, guarded, on_skip};
+ghost use Rattle.occ_tree_grammar.specs.Lines.Heads.{act, chosen, values as the_values, guarded, on_skip};
 ghost use Rattle.occ_tree_grammar.specs.Lines.HeadViews.{action_of, process_head_of, choice_head_of, option_head_of, arm_head_of, variant_head_of};
-ghost use Rattle.occ_tree_grammar.specs.Lines.HeadReading.{received_head as head_received, received_arm as arm_received, assignment_at, after_var, var_first, after_open, name_first, process_head_at, condition_at, choice_head_at, values_at, option_head_at, operand_var, as_var, reception_at, boolean_at, after_and, channel_first, after_condition, by_priority, guard_at, arm_head_at, variant_head_at};
+ghost use Rattle.occ_tree_grammar.specs.Lines.HeadReading.{received_head as head_received, received_arm as arm_received, assignment_at, after_var, var_first, after_open, name_first, process_head_at, condition_at, choice_head_at, values_at, option_head_at, reception_at, boolean_at, after_and, channel_first, after_condition, by_priority, guard_at, arm_head_at, variant_head_at};
 
 use crate::lines::item::{actuals, behind_question, expression, out, replicator, var, var_behind};
 use crate::lines::list::{expressions, outs, targets, variables};
 use crate::lines::word::{assign, question};
-use occ_held::Held;
 use occ_text::{Key, Sym, Token};
 use occ_tree_grammar::ParseFault;
 use occ_tree_grammar::lines::head::{
     ArmHead, ChoiceHead, OptionHead, ProcessHead, Received, VariantHead,
 };
-use occ_tree_grammar::tree::expr::{Expr, Operand};
-use occ_tree_grammar::tree::line::{Action, Guard, OneOrMore, Var};
+use occ_tree_grammar::tree::expr::Expr;
+use occ_tree_grammar::tree::line::{Action, Guard, OneOrMore, Var, VariantGuard};
 use std::alloc::Global;
 
 /// The action, where nothing follows it.
-fn only_action(line: u32, action: Action, rest: &[Token]) -> Result<ProcessHead, ParseFault>
+fn only_action(
+    alloc: Global,
+    line: u32,
+    action: Action,
+    rest: &[Token],
+) -> Result<ProcessHead, ParseFault>
     ensures { Gives process_head_of result (ended (act (action_of action)) (words rest.now)) }
 {
-    let action = Held::new(action);
     match rest {
-        [] => Ok(ProcessHead::Action(action.into_inner())),
-        _ => Err(ParseFault::Unexpected { line }),
-    }
-}
-
-/// The head, where nothing follows it.
-fn only_head(line: u32, head: ProcessHead, rest: &[Token]) -> Result<ProcessHead, ParseFault>
-    ensures { Gives process_head_of result (ended (process_head_of head) (words rest.now)) }
-{
-    let head = Held::new(head);
-    match rest {
-        [] => Ok(head.into_inner()),
+        [] => Ok(ProcessHead::Action(Box::new(alloc, action)?)),
         _ => Err(ParseFault::Unexpected { line }),
     }
 }
@@ -57,10 +49,9 @@ fn assignment(
     let targets = OneOrMore { first, others };
     let rest = assign(line, rest)?;
     let (first, rest) = expression(alloc, line, rest)?;
-    let first = Held::new(first);
     let (others, rest) = expressions(alloc, line, rest)?;
-    let first = first.into_inner();
     only_action(
+        alloc,
         line,
         Action::Assign(targets, OneOrMore { first, others }),
         rest,
@@ -68,12 +59,15 @@ fn assignment(
 }
 
 /// What was received, as the line of a process.
-fn received_head(received: Received) -> ProcessHead
-    ensures { process_head_of result ≡ head_received (received_of received) }
+fn received_head(alloc: Global, received: Received) -> Result<ProcessHead, ParseFault>
+    ensures { Gives process_head_of result (Some (head_received (received_of received))) }
 {
     match received {
-        Received::Input(input) => ProcessHead::Action(Action::Input(input)),
-        Received::Variants(channel) => ProcessHead::Variants(channel),
+        Received::Input(input) => {
+            let action = Box::new(alloc, Action::Input(input))?;
+            Ok(ProcessHead::Action(action))
+        }
+        Received::Variants(channel) => Ok(ProcessHead::Variants(channel)),
     }
 }
 
@@ -89,15 +83,14 @@ fn behind_var(
     match tokens {
         [Token::Sym(Sym::Question), rest @ ..] => {
             let received = behind_question(alloc, line, first, rest)?;
-            Ok(received_head(received))
+            received_head(alloc, received)
         }
         [Token::Sym(Sym::Exclamation), rest @ ..] => {
             let channel = first;
             let (first, rest) = out(alloc, line, rest)?;
-            let first = Held::new(first);
             let (others, rest) = outs(alloc, line, rest)?;
-            let first = first.into_inner();
             only_action(
+                alloc,
                 line,
                 Action::Output(channel, OneOrMore { first, others }),
                 rest,
@@ -142,7 +135,31 @@ fn behind_name(
     };
     let (actuals, rest) = actuals(alloc, line, rest)?;
     let name = Vec::from_slice(alloc, name)?;
-    only_action(line, Action::Call(name, actuals), rest)
+    only_action(alloc, line, Action::Call(name, actuals), rest)
+}
+
+/// The value behind `CASE`.
+#[tactic(auto, unfolding(occ_tree_grammar::specs::Lines::HeadReading::process_head_at))]
+fn behind_case(alloc: Global, line: u32, tokens: &[Token]) -> Result<ProcessHead, ParseFault>
+    ensures { Gives process_head_of result (process_head_at 65 (key Key.Case ∷ words tokens.now)) }
+{
+    let (value, rest) = expression(alloc, line, tokens)?;
+    match rest {
+        [] => Ok(ProcessHead::Case(Box::new(alloc, value)?)),
+        _ => Err(ParseFault::Unexpected { line }),
+    }
+}
+
+/// The condition behind `WHILE`.
+#[tactic(auto, unfolding(occ_tree_grammar::specs::Lines::HeadReading::process_head_at))]
+fn behind_while(alloc: Global, line: u32, tokens: &[Token]) -> Result<ProcessHead, ParseFault>
+    ensures { Gives process_head_of result (process_head_at 65 (key Key.While ∷ words tokens.now)) }
+{
+    let (condition, rest) = expression(alloc, line, tokens)?;
+    match rest {
+        [] => Ok(ProcessHead::While(Box::new(alloc, condition)?)),
+        _ => Err(ParseFault::Unexpected { line }),
+    }
 }
 
 /// The line of a process. At most 64 brackets stand open at one place.
@@ -151,8 +168,8 @@ pub fn process_head(alloc: Global, line: u32, tokens: &[Token]) -> Result<Proces
     ensures { Gives process_head_of result (process_head_at 65 (words tokens.now)) }
 {
     match tokens {
-        [Token::Key(Key::Skip), rest @ ..] => only_action(line, Action::Skip, rest),
-        [Token::Key(Key::Stop), rest @ ..] => only_action(line, Action::Stop, rest),
+        [Token::Key(Key::Skip), rest @ ..] => only_action(alloc, line, Action::Skip, rest),
+        [Token::Key(Key::Stop), rest @ ..] => only_action(alloc, line, Action::Stop, rest),
         [Token::Key(Key::Seq), rest @ ..] => {
             Ok(ProcessHead::Seq(replicator(alloc, line, rest)?))
         }
@@ -166,26 +183,24 @@ pub fn process_head(alloc: Global, line: u32, tokens: &[Token]) -> Result<Proces
             Ok(ProcessHead::Alt(true, replicator(alloc, line, rest)?))
         }
         [Token::Key(Key::If), rest @ ..] => Ok(ProcessHead::If(replicator(alloc, line, rest)?)),
-        [Token::Key(Key::Case), rest @ ..] => {
-            let (value, rest) = expression(alloc, line, rest)?;
-            only_head(line, ProcessHead::Case(value), rest)
-        }
-        [Token::Key(Key::While), rest @ ..] => {
-            let (condition, rest) = expression(alloc, line, rest)?;
-            only_head(line, ProcessHead::While(condition), rest)
-        }
+        [Token::Key(Key::Case), rest @ ..] => behind_case(alloc, line, rest),
+        [Token::Key(Key::While), rest @ ..] => behind_while(alloc, line, rest),
         [Token::Name(name), rest @ ..] => behind_name(alloc, line, name, rest),
         _ => Err(ParseFault::Unexpected { line }),
     }
 }
 
 /// The condition, where nothing follows it.
-fn only_condition(line: u32, condition: Expr, rest: &[Token]) -> Result<ChoiceHead, ParseFault>
-    ensures { Gives choice_head_of result (ended (choice_head_of (ChoiceHead.When condition)) (words rest.now)) }
+fn only_condition(
+    alloc: Global,
+    line: u32,
+    condition: Expr,
+    rest: &[Token],
+) -> Result<ChoiceHead, ParseFault>
+    ensures { Gives choice_head_of result (ended (chosen (expression_of condition)) (words rest.now)) }
 {
-    let condition = Held::new(condition);
     match rest {
-        [] => Ok(ChoiceHead::When(condition.into_inner())),
+        [] => Ok(ChoiceHead::When(Box::new(alloc, condition)?)),
         _ => Err(ParseFault::Unexpected { line }),
     }
 }
@@ -199,18 +214,22 @@ pub fn choice_head(alloc: Global, line: u32, tokens: &[Token]) -> Result<ChoiceH
         [Token::Key(Key::If), rest @ ..] => Ok(ChoiceHead::If(replicator(alloc, line, rest)?)),
         _ => {
             let (condition, rest) = expression(alloc, line, tokens)?;
-            only_condition(line, condition, rest)
+            only_condition(alloc, line, condition, rest)
         }
     }
 }
 
 /// The values, where nothing follows them.
-fn only_values(line: u32, values: OneOrMore<Expr>, rest: &[Token]) -> Result<OptionHead, ParseFault>
-    ensures { Gives option_head_of result (ended (option_head_of (OptionHead.Values values)) (words rest.now)) }
+fn only_values(
+    alloc: Global,
+    line: u32,
+    values: OneOrMore<Expr>,
+    rest: &[Token],
+) -> Result<OptionHead, ParseFault>
+    ensures { Gives option_head_of result (ended (the_values (expression_of values.first) (map expression_of values.others.items)) (words rest.now)) }
 {
-    let values = Held::new(values);
     match rest {
-        [] => Ok(OptionHead::Values(values.into_inner())),
+        [] => Ok(OptionHead::Values(Box::new(alloc, values)?)),
         _ => Err(ParseFault::Unexpected { line }),
     }
 }
@@ -226,37 +245,28 @@ pub fn option_head(alloc: Global, line: u32, tokens: &[Token]) -> Result<OptionH
         _ => {
             let (first, rest) = expression(alloc, line, tokens)?;
             let (others, rest) = expressions(alloc, line, rest)?;
-            only_values(line, OneOrMore { first, others }, rest)
+            only_values(alloc, line, OneOrMore { first, others }, rest)
         }
     }
 }
 
-fn var_alone(operand: Operand) -> Option<Var>
-    ensures { option_map var_of result ≡ operand_var (operand_of operand) }
-{
-    match operand {
-        Operand::Variable(name, subscripts) => Some(Var { name, subscripts }),
-        _ => None,
-    }
-}
-
-/// The expression, where it is a variable or a channel.
-fn var_in(expression: Expr) -> Option<Var>
-    ensures { option_map var_of result ≡ as_var (expression_of expression) }
-{
-    match expression {
-        Expr::Operand(operand) => var_alone(operand),
-        _ => None,
-    }
-}
-
 /// What was received behind the Boolean, as the line of an arm.
-fn received_arm(condition: Option<Expr>, received: Received) -> ArmHead
-    ensures { arm_head_of result ≡ arm_received (option_map expression_of condition) (received_of received) }
+fn received_arm(
+    alloc: Global,
+    condition: Option<Expr>,
+    received: Received,
+) -> Result<ArmHead, ParseFault>
+    ensures { Gives arm_head_of result (Some (arm_received (option_map expression_of condition) (received_of received))) }
 {
     match received {
-        Received::Input(input) => ArmHead::Guarded(Guard::Input(condition, input)),
-        Received::Variants(channel) => ArmHead::Variants(condition, channel),
+        Received::Input(input) => {
+            let guard = Box::new(alloc, Guard::Input(condition, input))?;
+            Ok(ArmHead::Guarded(guard))
+        }
+        Received::Variants(channel) => {
+            let guard = Box::new(alloc, VariantGuard { condition, channel })?;
+            Ok(ArmHead::Variants(guard))
+        }
     }
 }
 
@@ -270,12 +280,16 @@ fn reception(alloc: Global, line: u32, tokens: &[Token]) -> Result<Received, Par
 }
 
 /// The guard of `SKIP`, where nothing follows it.
-fn only_skip(line: u32, condition: Expr, rest: &[Token]) -> Result<ArmHead, ParseFault>
+fn only_skip(
+    alloc: Global,
+    line: u32,
+    condition: Expr,
+    rest: &[Token],
+) -> Result<ArmHead, ParseFault>
     ensures { Gives arm_head_of result (ended (guarded (on_skip (expression_of condition))) (words rest.now)) }
 {
-    let condition = Held::new(condition);
     match rest {
-        [] => Ok(ArmHead::Guarded(Guard::Skip(condition.into_inner()))),
+        [] => Ok(ArmHead::Guarded(Box::new(alloc, Guard::Skip(condition))?)),
         _ => Err(ParseFault::Unexpected { line }),
     }
 }
@@ -288,9 +302,8 @@ fn boolean(
 ) -> Result<ArmHead, ParseFault>
     ensures { Gives arm_head_of result (boolean_at 65 (expression_of condition) (words tokens.now)) }
 {
-    let condition = Held::new(condition);
     let received = reception(alloc, line, tokens)?;
-    Ok(received_arm(Some(condition.into_inner()), received))
+    received_arm(alloc, Some(condition), received)
 }
 
 /// What follows the Boolean of a guard and its ampersand.
@@ -303,7 +316,7 @@ fn behind_and(
     ensures { Gives arm_head_of result (after_and 65 (expression_of condition) (words tokens.now)) }
 {
     match tokens {
-        [Token::Key(Key::Skip), rest @ ..] => only_skip(line, condition, rest),
+        [Token::Key(Key::Skip), rest @ ..] => only_skip(alloc, line, condition, rest),
         _ => boolean(alloc, line, condition, tokens),
     }
 }
@@ -321,7 +334,7 @@ fn behind_channel(
         return Err(ParseFault::Unexpected { line });
     };
     let received = behind_question(alloc, line, channel, tokens)?;
-    Ok(received_arm(None, received))
+    received_arm(alloc, None, received)
 }
 
 /// What follows the expression at the front of a guard: the channel that is input from, or the
@@ -334,15 +347,12 @@ fn behind_condition(
 ) -> Result<ArmHead, ParseFault>
     ensures { Gives arm_head_of result (after_condition 65 (expression_of condition) (words tokens.now)) }
 {
-    let condition = Held::new(condition);
     match tokens {
         [Token::Sym(Sym::Question), rest @ ..] => {
-            let channel = var_in(condition.into_inner());
+            let channel = condition.into_var();
             behind_channel(alloc, line, channel, rest)
         }
-        [Token::Sym(Sym::Ampersand), rest @ ..] => {
-            behind_and(alloc, line, condition.into_inner(), rest)
-        }
+        [Token::Sym(Sym::Ampersand), rest @ ..] => { behind_and(alloc, line, condition, rest) }
         _ => Err(ParseFault::Unexpected { line }),
     }
 }
@@ -357,6 +367,14 @@ fn behind_pri(alloc: Global, line: u32, tokens: &[Token]) -> Result<ArmHead, Par
     }
 }
 
+/// The guard of an arm.
+fn guard(alloc: Global, line: u32, tokens: &[Token]) -> Result<ArmHead, ParseFault>
+    ensures { Gives arm_head_of result (guard_at 65 (words tokens.now)) }
+{
+    let (condition, rest) = expression(alloc, line, tokens)?;
+    behind_condition(alloc, line, condition, rest)
+}
+
 /// The line of an arm.
 #[tactic(auto, unfolding(occ_tree_grammar::specs::Lines::HeadReading::arm_head_at))]
 pub fn arm_head(alloc: Global, line: u32, tokens: &[Token]) -> Result<ArmHead, ParseFault>
@@ -367,10 +385,7 @@ pub fn arm_head(alloc: Global, line: u32, tokens: &[Token]) -> Result<ArmHead, P
             Ok(ArmHead::Alt(false, replicator(alloc, line, rest)?))
         }
         [Token::Key(Key::Pri), rest @ ..] => behind_pri(alloc, line, rest),
-        _ => {
-            let (condition, rest) = expression(alloc, line, tokens)?;
-            behind_condition(alloc, line, condition, rest)
-        }
+        _ => guard(alloc, line, tokens),
     }
 }
 

@@ -15,7 +15,6 @@ ghost use Rattle.occ_tree_grammar.specs.Processes.Reading.{at_level, at_decl, fi
 
 use crate::processes::line::{declaration_at, end_line, line_of, lines_at, too_deep};
 use crate::processes::protocol::tags;
-use occ_held::Held;
 use occ_text::Line;
 use occ_tree_grammar::ParseFault;
 use occ_tree_grammar::lines::head::{ArmHead, ChoiceHead, DeclHead, OptionHead, ProcessHead};
@@ -94,10 +93,8 @@ fn statement(
                 ))
             }
             Some(index) => {
-                let index = Held::new(index);
                 let (step, rest) = process(alloc, last, left, level + 1, lines)?;
                 let step = Box::new(alloc, step)?;
-                let index = index.into_inner();
                 Ok((
                     Process::Declared(declarations, line, Stmt::SeqFor(index, step)),
                     rest,
@@ -113,10 +110,8 @@ fn statement(
                 ))
             }
             Some(index) => {
-                let index = Held::new(index);
                 let (branch, rest) = process(alloc, last, left, level + 1, lines)?;
                 let branch = Box::new(alloc, branch)?;
-                let index = index.into_inner();
                 Ok((
                     Process::Declared(declarations, line, Stmt::ParFor(index, branch)),
                     rest,
@@ -132,10 +127,8 @@ fn statement(
                 ))
             }
             Some(index) => {
-                let index = Held::new(index);
                 let (guard, rest) = arm(alloc, last, left, level + 1, lines)?;
                 let guard = Box::new(alloc, guard)?;
-                let index = index.into_inner();
                 Ok((
                     Process::Declared(declarations, line, Stmt::AltFor(pri, index, guard)),
                     rest,
@@ -148,10 +141,8 @@ fn statement(
                 Ok((Process::Declared(declarations, line, Stmt::If(cases)), rest))
             }
             Some(index) => {
-                let index = Held::new(index);
                 let (case, rest) = choice(alloc, last, left, level + 1, lines)?;
                 let case = Box::new(alloc, case)?;
-                let index = index.into_inner();
                 Ok((
                     Process::Declared(declarations, line, Stmt::IfFor(index, case)),
                     rest,
@@ -159,19 +150,15 @@ fn statement(
             }
         },
         ProcessHead::Case(value) => {
-            let value = Held::new(value);
             let (options, rest) = selections(alloc, last, left, level + 1, lines)?;
-            let value = value.into_inner();
             Ok((
                 Process::Declared(declarations, line, Stmt::Case(value, options)),
                 rest,
             ))
         }
         ProcessHead::While(condition) => {
-            let condition = Held::new(condition);
             let (body, rest) = process(alloc, last, left, level + 1, lines)?;
             let body = Box::new(alloc, body)?;
-            let condition = condition.into_inner();
             Ok((
                 Process::Declared(declarations, line, Stmt::While(condition, body)),
                 rest,
@@ -266,9 +253,7 @@ fn chosen(
 {
     match head {
         ChoiceHead::When(condition) => {
-            let condition = Held::new(condition);
             let (one, rest) = process(alloc, last, left, level + 1, lines)?;
-            let condition = condition.into_inner();
             Ok((Choice::When(declarations, line, condition, one), rest))
         }
         ChoiceHead::If(cond) => match cond {
@@ -277,10 +262,8 @@ fn chosen(
                 Ok((Choice::InnerIf(declarations, line, cases), rest))
             }
             Some(index) => {
-                let index = Held::new(index);
                 let (case, rest) = choice(alloc, last, left, level + 1, lines)?;
                 let case = Box::new(alloc, case)?;
-                let index = index.into_inner();
                 Ok((Choice::InnerIfFor(declarations, line, index, case), rest))
             }
         },
@@ -366,9 +349,7 @@ fn selected(
 {
     match head {
         OptionHead::Values(values) => {
-            let values = Held::new(values);
             let (one, rest) = process(alloc, last, left, level + 1, lines)?;
-            let values = values.into_inner();
             Ok((Selection::Values(declarations, line, values, one), rest))
         }
         OptionHead::Else => {
@@ -457,19 +438,12 @@ fn armed(
 {
     match head {
         ArmHead::Guarded(guard) => {
-            let guard = Held::new(guard);
             let (one, rest) = process(alloc, last, left, level + 1, lines)?;
-            let guard = guard.into_inner();
             Ok((Arm::Guarded(declarations, line, guard, one), rest))
         }
-        ArmHead::Variants(condition, channel) => {
-            let condition = Held::new(condition);
+        ArmHead::Variants(guard) => {
             let (all, rest) = variants(alloc, last, left, level + 1, lines)?;
-            let condition = condition.into_inner();
-            Ok((
-                Arm::OnVariant(declarations, line, condition, channel, all),
-                rest,
-            ))
+            Ok((Arm::OnVariant(declarations, line, guard, all), rest))
         }
         ArmHead::Alt(pri, alt) => match alt {
             None => {
@@ -477,10 +451,8 @@ fn armed(
                 Ok((Arm::InnerAlt(declarations, line, pri, guards), rest))
             }
             Some(index) => {
-                let index = Held::new(index);
                 let (guard, rest) = arm(alloc, last, left, level + 1, lines)?;
                 let guard = Box::new(alloc, guard)?;
-                let index = index.into_inner();
                 Ok((
                     Arm::InnerAltFor(declarations, line, pri, index, guard),
                     rest,
@@ -655,12 +627,8 @@ fn declared(
             Ok((Decl::Item(Item::Protocol(protocol)), rest))
         }
         DeclHead::Proc(name, formals) => {
-            let formals = Held::new(formals);
             let (body, rest) = process(alloc, last, left, level + 1, lines)?;
-            let body = Held::new(body);
             let (end, rest) = end_line(last, level, rest)?;
-            let formals = formals.into_inner();
-            let body = body.into_inner();
             Ok((Decl::Item(Item::Proc(line, name, formals, body, end)), rest))
         }
     }

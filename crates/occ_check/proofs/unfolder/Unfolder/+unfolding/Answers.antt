@@ -377,9 +377,9 @@ chosen-returns-in_err-body-in-When-clause-choices t c =
     let this : Refuses c.in_err-body-in-When.field-0.0 (unfolded (process_of c.in-When.body) (meant_at c.args.self.now c.args.at) (c.args.depth + 1) (counted c.tested.new.self)) =
     subst (λ f. Refuses c.in_err-body-in-When.field-0.0 (unfolded (process_of c.in-When.body) (meant (scope_in (reverse f.frames.items) c.args.at)) (c.args.depth + 1) (counted c.tested.new.self)))
     c.in_ok-test-in-When.ensures.kept c.in_err-body-in-When.ensures.term in
-    let refused : Refuses c.in_err-body-in-When.field-0.0 (performs.choice_of c.in-When.line (tree_of c.in-When.test) (unfolded (process_of c.in-When.body)) (meant_at c.args.self.now c.args.at) c.args.depth (counted c.args.self.now)) =
+    let refused : Refuses c.in_err-body-in-When.field-0.0 (performs.choice_of c.in-When.line (tree_of c.in-When.test.value) (unfolded (process_of c.in-When.body)) (meant_at c.args.self.now c.args.at) c.args.depth (counted c.args.self.now)) =
     refused_with c.in_err-body-in-When.field-0.0 _ _
-    (when_refused c.in-When.line (tree_of c.in-When.test) (unfolded (process_of c.in-When.body)) (meant_at c.args.self.now c.args.at) c.args.depth (counted c.args.self.now) _ (counted c.tested.new.self) c.in_ok-test-in-When.ensures.tested)
+    (when_refused c.in-When.line (tree_of c.in-When.test.value) (unfolded (process_of c.in-When.body)) (meant_at c.args.self.now c.args.at) c.args.depth (counted c.args.self.now) _ (counted c.tested.new.self) c.in_ok-test-in-When.ensures.tested)
     this in
     search rules
 
@@ -716,9 +716,9 @@ listening-returns-in_err-test-in-OnVariant-clause-arms t c =
     let sc = meant_at c.args.self.now c.args.at in
     let refused : Refuses c.in_err-test-in-OnVariant.field-0.0 (listening c.args.arm.now sc c.args.depth (counted c.args.self.now)) =
     refused_with c.in_err-test-in-OnVariant.field-0.0
-    (guarding_variants (names_of sc) c.in-OnVariant.line c.args.depth (option_map tree_of c.in-OnVariant.test) (lines.var_of c.in-OnVariant.channel) (counted c.args.self.now)) _
+    (guarding_variants (names_of sc) c.in-OnVariant.line c.args.depth (option_map tree_of c.in-OnVariant.guard.value.condition) (lines.var_of c.in-OnVariant.guard.value.channel) (counted c.args.self.now)) _
     (λ none. ap (λ a. listening a sc c.args.depth (counted c.args.self.now)) c.in-OnVariant.is
-    ∙ variants_not_guarded c.in-OnVariant.line (option_map tree_of c.in-OnVariant.test) (lines.var_of c.in-OnVariant.channel) (λ p. all_variants (row_variants (hidden-the_row-Variant-1 c.in-OnVariant.variants)) p [])
+    ∙ variants_not_guarded c.in-OnVariant.line (option_map tree_of c.in-OnVariant.guard.value.condition) (lines.var_of c.in-OnVariant.guard.value.channel) (λ p. all_variants (row_variants (hidden-the_row-Variant-1 c.in-OnVariant.variants)) p [])
     sc c.args.depth (counted c.args.self.now) none)
     c.in_err-test-in-OnVariant.ensures.guard in
     search rules
@@ -734,7 +734,7 @@ listening-returns-in_err-variants-in-OnVariant-clause-arms t c =
     let refused : Refuses c.in_err-variants-in-OnVariant.field-0.0 (listening c.args.arm.now sc c.args.depth (counted c.args.self.now)) =
     refused_with c.in_err-variants-in-OnVariant.field-0.0 _ _
     (λ none. ap (λ a. listening a sc c.args.depth (counted c.args.self.now)) c.in-OnVariant.is
-    ∙ variants_refused c.in-OnVariant.line (option_map tree_of c.in-OnVariant.test) (lines.var_of c.in-OnVariant.channel) (λ p. all_variants (row_variants (hidden-the_row-Variant-1 c.in-OnVariant.variants)) p [])
+    ∙ variants_refused c.in-OnVariant.line (option_map tree_of c.in-OnVariant.guard.value.condition) (lines.var_of c.in-OnVariant.guard.value.channel) (λ p. all_variants (row_variants (hidden-the_row-Variant-1 c.in-OnVariant.variants)) p [])
     sc c.args.depth (counted c.args.self.now) (expression_of c.in_ok-test-in-OnVariant.test, (c.in_ok-test-in-OnVariant.protocol, place_of c.in_ok-test-in-OnVariant.channel)) (counted c.guarding_variants.new.self)
     c.in_ok-test-in-OnVariant.ensures.guard none)
     this in

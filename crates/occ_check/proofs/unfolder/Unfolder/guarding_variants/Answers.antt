@@ -9,4 +9,4 @@ use Rattle.occ_check.proofs.unfolder.Unfolder.guarding_variants.Goals as goal
 pub returns-clause-guard : goal.returns-clause-guard
 returns-clause-guard c =
     subst (λ ns. Unfolds (λ g. (expression_of g.0, (g.1, place_of g.2))) c.guarding_variants.result c.guarding_variants.new.numbers
-    (guarding_variants ns c.args.line c.args.depth (option_map tree_of c.args.test.now) (var_of c.args.channel.now) (numbers_of c.args.self.now.numbers))) c.names_at-scope.ensures c.guarding_variants.ensures.guard
+    (guarding_variants ns c.args.line c.args.depth (option_map tree_of c.args.guard.now.condition) (var_of c.args.guard.now.channel) (numbers_of c.args.self.now.numbers))) c.names_at-scope.ensures c.guarding_variants.ensures.guard

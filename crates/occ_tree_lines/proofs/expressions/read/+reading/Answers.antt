@@ -53,10 +53,7 @@ indices-returns t c =
 
 pub linked-returns-in_ok-others-in-Logic : goal.linked-returns-in_ok-others-in-Logic
 linked-returns-in_ok-others-in-Logic t c =
-    let first : c.into_inner-first.result ≡ c.args.first = cc in
-    let second : c.into_inner-second.result ≡ c.in_ok-second-in-Logic.second = cc in
-    rw (first, second) (
-    subst (λ (r : Operands). after_operand (expression_at c.args.left) (operand_of c.args.first) (words c.args.tokens.now) ≡ Some (chain c.in-Logic.logic (operand_of c.args.first) (operand_of c.in_ok-second-in-Logic.second) r, words c.in_ok-others-in-Logic.rest.now)) (sym (operands_made c.in_ok-others-in-Logic.others)) (grind (arith, common_steps, c.in_ok-others-in-Logic.ensures, c.in_ok-second-in-Logic.ensures, c.in-Logic.ensures)))
+    subst (λ (r : Operands). after_operand (expression_at c.args.left) (operand_of c.args.first) (words c.args.tokens.now) ≡ Some (chain c.in-Logic.logic (operand_of c.args.first) (operand_of c.in_ok-second-in-Logic.second) r, words c.in_ok-others-in-Logic.rest.now)) (sym (operands_made c.in_ok-others-in-Logic.others)) (grind (arith, common_steps, c.in_ok-others-in-Logic.ensures, c.in_ok-second-in-Logic.ensures, c.in-Logic.ensures))
 
 pub operand-returns-in_ok-name-in-Name : goal.operand-returns-in_ok-name-in-Name
 unfolding operand_with

@@ -23,6 +23,10 @@ pub returns-in-Sym : goal.returns-in-Sym
 unfolding formals_at
 returns-in-Sym c = grind (arith, common_steps)
 
-pub returns-in_ok-rest-in_default : goal.returns-in_ok-rest-in_default
+pub returns-in_ok-formals-in_default : goal.returns-in_ok-formals-in_default
 unfolding formals_at
-returns-in_ok-rest-in_default c = grind (arith, common_steps)
+returns-in_ok-formals-in_default c = grind (arith, common_steps)
+
+pub returns-in_err-formals-in_default : goal.returns-in_err-formals-in_default
+unfolding formals_at
+returns-in_err-formals-in_default c = grind (arith, common_steps)

@@ -7,14 +7,6 @@ pub returns-in_err-replicator-in-Key-6 : goal.returns-in_err-replicator-in-Key-6
 unfolding process_head_at
 returns-in_err-replicator-in-Key-6 c = grind (arith, common_steps)
 
-pub returns-in_err-condition-in-Key-9 : goal.returns-in_err-condition-in-Key-9
-unfolding process_head_at
-returns-in_err-condition-in-Key-9 c = grind (arith, common_steps)
-
-pub returns-in_err-value-in-Key-8 : goal.returns-in_err-value-in-Key-8
-unfolding process_head_at
-returns-in_err-value-in-Key-8 c = grind (arith, common_steps)
-
 pub returns-in_err-replicator-in-Key-7 : goal.returns-in_err-replicator-in-Key-7
 unfolding process_head_at
 returns-in_err-replicator-in-Key-7 c = grind (arith, common_steps)
@@ -39,13 +31,13 @@ pub returns-in-Name : goal.returns-in-Name
 unfolding process_head_at
 returns-in-Name c = grind (arith, common_steps)
 
-pub returns-in_ok-condition-in-Key-9 : goal.returns-in_ok-condition-in-Key-9
+pub returns-in-Key-9 : goal.returns-in-Key-9
 unfolding process_head_at
-returns-in_ok-condition-in-Key-9 c = grind (arith, common_steps)
+returns-in-Key-9 c = grind (arith, common_steps)
 
-pub returns-in_ok-value-in-Key-8 : goal.returns-in_ok-value-in-Key-8
+pub returns-in-Key-8 : goal.returns-in-Key-8
 unfolding process_head_at
-returns-in_ok-value-in-Key-8 c = grind (arith, common_steps)
+returns-in-Key-8 c = grind (arith, common_steps)
 
 pub returns-in_ok-replicator-in-Key-7 : goal.returns-in_ok-replicator-in-Key-7
 unfolding process_head_at

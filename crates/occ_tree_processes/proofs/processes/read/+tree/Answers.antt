@@ -1,4 +1,5 @@
-use Rattle.std.proofs.Common.{◌≡◌, ◌+◌, Some, sym, ap, subst, ◌∙◌, ◌∷◌, ◌++◌, [], map, Option}
+use Rattle.std.proofs.Common.{◌≡◌, ◌+◌, Some, sym, ap, subst, ◌∙◌, ◌∷◌, ◌++◌, [], map, Option, Global}
+use Rattle.std.specs.declared.boxed.Box.{Box}
 use Rattle.std.proofs.lemmas.List.{map_push}
 use Rattle.std.proofs.lemmas.Result.{err_from_is_err_and}
 use Rattle.occ_text.specs.Words.{rows}
@@ -178,9 +179,7 @@ statement-returns-in_ok-steps-in-None t c =
 
 pub statement-returns-in_ok-step-in-Some-2 : goal.statement-returns-in_ok-step-in-Some-2
 statement-returns-in_ok-step-in-Some-2 t c =
-    let held_index : c.into_inner-index.result ≡ c.in-Some.index = cc in
-    rw held_index (
-    subst (λ (h : ProcessHead). finished the_process c.args.level (node_at 65 c.args.left (c.args.level + 1)) (map decl_of c.args.declarations.items) c.args.line h (rows c.args.lines.now) ≡ Some (process_of (processes.Declared c.args.declarations c.args.line (stmts.SeqFor c.in-Some.index c.in_ok-step-in-Some-2.step)), rows c.in_ok-step-in-Some.rest.now)) (sym (ap process_head_of (c.in-Seq.is ∙ ap (heads.Seq) c.in-Some.is))) (rw c.in_ok-step-in-Some.ensures (ap (λ (n : Node the_process). Some (n, rows c.in_ok-step-in-Some.rest.now)) (ap (λ (p : Rattle.occ_tree_grammar.specs.declared.tree.process.Process.Process). node {k = the_process} (declared c.args.declarations) c.args.line (sequence (Some (replicator_of c.in-Some.index))) (single_body (process_of p))) (sym c.in_ok-step-in-Some-2.ensures.ok) ∙ sym (process_seq_for c.args.declarations c.args.line c.in-Some.index c.in_ok-step-in-Some-2.step)))))
+    subst (λ (h : ProcessHead). finished the_process c.args.level (node_at 65 c.args.left (c.args.level + 1)) (map decl_of c.args.declarations.items) c.args.line h (rows c.args.lines.now) ≡ Some (process_of (processes.Declared c.args.declarations c.args.line (stmts.SeqFor c.in-Some.index c.in_ok-step-in-Some-2.step)), rows c.in_ok-step-in-Some.rest.now)) (sym (ap process_head_of (c.in-Seq.is ∙ ap (heads.Seq) c.in-Some.is))) (rw c.in_ok-step-in-Some.ensures (ap (λ (n : Node the_process). Some (n, rows c.in_ok-step-in-Some.rest.now)) (ap (λ (p : Rattle.occ_tree_grammar.specs.declared.tree.process.Process.Process). node {k = the_process} (declared c.args.declarations) c.args.line (sequence (Some (replicator_of c.in-Some.index.value))) (single_body (process_of p))) (sym c.in_ok-step-in-Some-2.ensures.ok) ∙ sym (process_seq_for c.args.declarations c.args.line c.in-Some.index c.in_ok-step-in-Some-2.step))))
 
 pub statement-returns-in_err-branches-in-None-par : goal.statement-returns-in_err-branches-in-None-par
 statement-returns-in_err-branches-in-None-par t c =
@@ -198,29 +197,25 @@ statement-returns-in_ok-branches-in-None-par t c =
 
 pub statement-returns-in_ok-branch-in-Some-par-2 : goal.statement-returns-in_ok-branch-in-Some-par-2
 statement-returns-in_ok-branch-in-Some-par-2 t c =
-    let held_index : c.into_inner-index-in-Some-par.result ≡ c.in-Some-par.index = cc in
-    rw held_index (
-    subst (λ (h : ProcessHead). finished the_process c.args.level (node_at 65 c.args.left (c.args.level + 1)) (map decl_of c.args.declarations.items) c.args.line h (rows c.args.lines.now) ≡ Some (process_of (processes.Declared c.args.declarations c.args.line (stmts.ParFor c.in-Some-par.index c.in_ok-branch-in-Some-par-2.branch)), rows c.in_ok-branch-in-Some-par.rest.now)) (sym (ap process_head_of (c.in-Par.is ∙ ap (heads.Par) c.in-Some-par.is))) (rw c.in_ok-branch-in-Some-par.ensures (ap (λ (n : Node the_process). Some (n, rows c.in_ok-branch-in-Some-par.rest.now)) (ap (λ (p : Rattle.occ_tree_grammar.specs.declared.tree.process.Process.Process). node {k = the_process} (declared c.args.declarations) c.args.line (parallel (Some (replicator_of c.in-Some-par.index))) (single_body (process_of p))) (sym c.in_ok-branch-in-Some-par-2.ensures.ok) ∙ sym (process_par_for c.args.declarations c.args.line c.in-Some-par.index c.in_ok-branch-in-Some-par-2.branch)))))
+    subst (λ (h : ProcessHead). finished the_process c.args.level (node_at 65 c.args.left (c.args.level + 1)) (map decl_of c.args.declarations.items) c.args.line h (rows c.args.lines.now) ≡ Some (process_of (processes.Declared c.args.declarations c.args.line (stmts.ParFor c.in-Some-par.index c.in_ok-branch-in-Some-par-2.branch)), rows c.in_ok-branch-in-Some-par.rest.now)) (sym (ap process_head_of (c.in-Par.is ∙ ap (heads.Par) c.in-Some-par.is))) (rw c.in_ok-branch-in-Some-par.ensures (ap (λ (n : Node the_process). Some (n, rows c.in_ok-branch-in-Some-par.rest.now)) (ap (λ (p : Rattle.occ_tree_grammar.specs.declared.tree.process.Process.Process). node {k = the_process} (declared c.args.declarations) c.args.line (parallel (Some (replicator_of c.in-Some-par.index.value))) (single_body (process_of p))) (sym c.in_ok-branch-in-Some-par-2.ensures.ok) ∙ sym (process_par_for c.args.declarations c.args.line c.in-Some-par.index c.in_ok-branch-in-Some-par-2.branch))))
 
 pub statement-returns-in_err-guards-in-None-alt : goal.statement-returns-in_err-guards-in-None-alt
 statement-returns-in_err-guards-in-None-alt t c =
     let p = err_from_is_err_and c.from_residual-in_err-guards-in-None-alt.result c.from_residual-in_err-guards-in-None-alt.ensures.1 in
-    rw (p.1, p.2) (subst (λ (h : ProcessHead). Fails c.in_err-guards-in-None-alt.field-0.0 (finished the_process c.args.level (node_at 65 c.args.left (c.args.level + 1)) (map decl_of c.args.declarations.items) c.args.line h (rows c.args.lines.now))) (sym (ap process_head_of (c.in-Alt.is ∙ ap (λ (r : Option Replicator). heads.Alt c.in-Alt.pri r) c.in-None-alt.is))) (fails_below c.in_err-guards-in-None-alt.field-0.0 _ _ _ c.in_err-guards-in-None-alt.ensures))
+    rw (p.1, p.2) (subst (λ (h : ProcessHead). Fails c.in_err-guards-in-None-alt.field-0.0 (finished the_process c.args.level (node_at 65 c.args.left (c.args.level + 1)) (map decl_of c.args.declarations.items) c.args.line h (rows c.args.lines.now))) (sym (ap process_head_of (c.in-Alt.is ∙ ap (λ (r : Option (Box Replicator Global)). heads.Alt c.in-Alt.pri r) c.in-None-alt.is))) (fails_below c.in_err-guards-in-None-alt.field-0.0 _ _ _ c.in_err-guards-in-None-alt.ensures))
 
 pub statement-returns-in_err-guard-in-Some-alt : goal.statement-returns-in_err-guard-in-Some-alt
 statement-returns-in_err-guard-in-Some-alt t c =
     let p = err_from_is_err_and c.from_residual-in_err-guard-in-Some-alt.result c.from_residual-in_err-guard-in-Some-alt.ensures.1 in
-    rw (p.1, p.2) (subst (λ (h : ProcessHead). Fails c.in_err-guard-in-Some-alt.field-0.0 (finished the_process c.args.level (node_at 65 c.args.left (c.args.level + 1)) (map decl_of c.args.declarations.items) c.args.line h (rows c.args.lines.now))) (sym (ap process_head_of (c.in-Alt.is ∙ ap (λ (r : Option Replicator). heads.Alt c.in-Alt.pri r) c.in-Some-alt.is))) (fails_below c.in_err-guard-in-Some-alt.field-0.0 _ _ _ c.in_err-guard-in-Some-alt.ensures))
+    rw (p.1, p.2) (subst (λ (h : ProcessHead). Fails c.in_err-guard-in-Some-alt.field-0.0 (finished the_process c.args.level (node_at 65 c.args.left (c.args.level + 1)) (map decl_of c.args.declarations.items) c.args.line h (rows c.args.lines.now))) (sym (ap process_head_of (c.in-Alt.is ∙ ap (λ (r : Option (Box Replicator Global)). heads.Alt c.in-Alt.pri r) c.in-Some-alt.is))) (fails_below c.in_err-guard-in-Some-alt.field-0.0 _ _ _ c.in_err-guard-in-Some-alt.ensures))
 
 pub statement-returns-in_ok-guards-in-None-alt : goal.statement-returns-in_ok-guards-in-None-alt
 statement-returns-in_ok-guards-in-None-alt t c =
-    subst (λ (h : ProcessHead). finished the_process c.args.level (node_at 65 c.args.left (c.args.level + 1)) (map decl_of c.args.declarations.items) c.args.line h (rows c.args.lines.now) ≡ Some (process_of (processes.Declared c.args.declarations c.args.line (stmts.Alt c.in-Alt.pri c.in_ok-guards-in-None-alt.guards)), rows c.in_ok-guards-in-None-alt.rest.now)) (sym (ap process_head_of (c.in-Alt.is ∙ ap (λ (r : Option Replicator). heads.Alt c.in-Alt.pri r) c.in-None-alt.is))) (rw c.in_ok-guards-in-None-alt.ensures (ap (λ (n : Node the_process). Some (n, rows c.in_ok-guards-in-None-alt.rest.now)) (sym (process_alt c.args.declarations c.args.line c.in-Alt.pri c.in_ok-guards-in-None-alt.guards))))
+    subst (λ (h : ProcessHead). finished the_process c.args.level (node_at 65 c.args.left (c.args.level + 1)) (map decl_of c.args.declarations.items) c.args.line h (rows c.args.lines.now) ≡ Some (process_of (processes.Declared c.args.declarations c.args.line (stmts.Alt c.in-Alt.pri c.in_ok-guards-in-None-alt.guards)), rows c.in_ok-guards-in-None-alt.rest.now)) (sym (ap process_head_of (c.in-Alt.is ∙ ap (λ (r : Option (Box Replicator Global)). heads.Alt c.in-Alt.pri r) c.in-None-alt.is))) (rw c.in_ok-guards-in-None-alt.ensures (ap (λ (n : Node the_process). Some (n, rows c.in_ok-guards-in-None-alt.rest.now)) (sym (process_alt c.args.declarations c.args.line c.in-Alt.pri c.in_ok-guards-in-None-alt.guards))))
 
 pub statement-returns-in_ok-guard-in-Some-alt-2 : goal.statement-returns-in_ok-guard-in-Some-alt-2
 statement-returns-in_ok-guard-in-Some-alt-2 t c =
-    let held_index : c.into_inner-index-in-Some-alt.result ≡ c.in-Some-alt.index = cc in
-    rw held_index (
-    subst (λ (h : ProcessHead). finished the_process c.args.level (node_at 65 c.args.left (c.args.level + 1)) (map decl_of c.args.declarations.items) c.args.line h (rows c.args.lines.now) ≡ Some (process_of (processes.Declared c.args.declarations c.args.line (stmts.AltFor c.in-Alt.pri c.in-Some-alt.index c.in_ok-guard-in-Some-alt-2.guard)), rows c.in_ok-guard-in-Some-alt.rest.now)) (sym (ap process_head_of (c.in-Alt.is ∙ ap (λ (r : Option Replicator). heads.Alt c.in-Alt.pri r) c.in-Some-alt.is))) (rw c.in_ok-guard-in-Some-alt.ensures (ap (λ (n : Node the_process). Some (n, rows c.in_ok-guard-in-Some-alt.rest.now)) (ap (λ (p : Rattle.occ_tree_grammar.specs.declared.tree.process.Arm.Arm). node {k = the_process} (declared c.args.declarations) c.args.line (alternation c.in-Alt.pri (Some (replicator_of c.in-Some-alt.index))) (single_body (arm_of p))) (sym c.in_ok-guard-in-Some-alt-2.ensures.ok) ∙ sym (process_alt_for c.args.declarations c.args.line c.in-Alt.pri c.in-Some-alt.index c.in_ok-guard-in-Some-alt-2.guard)))))
+    subst (λ (h : ProcessHead). finished the_process c.args.level (node_at 65 c.args.left (c.args.level + 1)) (map decl_of c.args.declarations.items) c.args.line h (rows c.args.lines.now) ≡ Some (process_of (processes.Declared c.args.declarations c.args.line (stmts.AltFor c.in-Alt.pri c.in-Some-alt.index c.in_ok-guard-in-Some-alt-2.guard)), rows c.in_ok-guard-in-Some-alt.rest.now)) (sym (ap process_head_of (c.in-Alt.is ∙ ap (λ (r : Option (Box Replicator Global)). heads.Alt c.in-Alt.pri r) c.in-Some-alt.is))) (rw c.in_ok-guard-in-Some-alt.ensures (ap (λ (n : Node the_process). Some (n, rows c.in_ok-guard-in-Some-alt.rest.now)) (ap (λ (p : Rattle.occ_tree_grammar.specs.declared.tree.process.Arm.Arm). node {k = the_process} (declared c.args.declarations) c.args.line (alternation c.in-Alt.pri (Some (replicator_of c.in-Some-alt.index.value))) (single_body (arm_of p))) (sym c.in_ok-guard-in-Some-alt-2.ensures.ok) ∙ sym (process_alt_for c.args.declarations c.args.line c.in-Alt.pri c.in-Some-alt.index c.in_ok-guard-in-Some-alt-2.guard))))
 
 pub statement-returns-in_err-cases-in-None-cond : goal.statement-returns-in_err-cases-in-None-cond
 statement-returns-in_err-cases-in-None-cond t c =
@@ -238,9 +233,7 @@ statement-returns-in_ok-cases-in-None-cond t c =
 
 pub statement-returns-in_ok-case-in-Some-cond-2 : goal.statement-returns-in_ok-case-in-Some-cond-2
 statement-returns-in_ok-case-in-Some-cond-2 t c =
-    let held_index : c.into_inner-index-in-Some-cond.result ≡ c.in-Some-cond.index = cc in
-    rw held_index (
-    subst (λ (h : ProcessHead). finished the_process c.args.level (node_at 65 c.args.left (c.args.level + 1)) (map decl_of c.args.declarations.items) c.args.line h (rows c.args.lines.now) ≡ Some (process_of (processes.Declared c.args.declarations c.args.line (stmts.IfFor c.in-Some-cond.index c.in_ok-case-in-Some-cond-2.case)), rows c.in_ok-case-in-Some-cond.rest.now)) (sym (ap process_head_of (c.in-If.is ∙ ap (heads.If) c.in-Some-cond.is))) (rw c.in_ok-case-in-Some-cond.ensures (ap (λ (n : Node the_process). Some (n, rows c.in_ok-case-in-Some-cond.rest.now)) (ap (λ (p : Rattle.occ_tree_grammar.specs.declared.tree.process.Choice.Choice). node {k = the_process} (declared c.args.declarations) c.args.line (conditional (Some (replicator_of c.in-Some-cond.index))) (single_body (choice_of p))) (sym c.in_ok-case-in-Some-cond-2.ensures.ok) ∙ sym (process_if_for c.args.declarations c.args.line c.in-Some-cond.index c.in_ok-case-in-Some-cond-2.case)))))
+    subst (λ (h : ProcessHead). finished the_process c.args.level (node_at 65 c.args.left (c.args.level + 1)) (map decl_of c.args.declarations.items) c.args.line h (rows c.args.lines.now) ≡ Some (process_of (processes.Declared c.args.declarations c.args.line (stmts.IfFor c.in-Some-cond.index c.in_ok-case-in-Some-cond-2.case)), rows c.in_ok-case-in-Some-cond.rest.now)) (sym (ap process_head_of (c.in-If.is ∙ ap (heads.If) c.in-Some-cond.is))) (rw c.in_ok-case-in-Some-cond.ensures (ap (λ (n : Node the_process). Some (n, rows c.in_ok-case-in-Some-cond.rest.now)) (ap (λ (p : Rattle.occ_tree_grammar.specs.declared.tree.process.Choice.Choice). node {k = the_process} (declared c.args.declarations) c.args.line (conditional (Some (replicator_of c.in-Some-cond.index.value))) (single_body (choice_of p))) (sym c.in_ok-case-in-Some-cond-2.ensures.ok) ∙ sym (process_if_for c.args.declarations c.args.line c.in-Some-cond.index c.in_ok-case-in-Some-cond-2.case))))
 
 pub statement-returns-in_err-options-in-Case : goal.statement-returns-in_err-options-in-Case
 statement-returns-in_err-options-in-Case t c =
@@ -249,9 +242,7 @@ statement-returns-in_err-options-in-Case t c =
 
 pub statement-returns-in_ok-options-in-Case : goal.statement-returns-in_ok-options-in-Case
 statement-returns-in_ok-options-in-Case t c =
-    let held_value : c.into_inner-value.result ≡ c.in-Case.value = cc in
-    rw held_value (
-    subst (λ (h : ProcessHead). finished the_process c.args.level (node_at 65 c.args.left (c.args.level + 1)) (map decl_of c.args.declarations.items) c.args.line h (rows c.args.lines.now) ≡ Some (process_of (processes.Declared c.args.declarations c.args.line (stmts.Case c.in-Case.value c.in_ok-options-in-Case.options)), rows c.in_ok-options-in-Case.rest.now)) (sym (ap process_head_of (c.in-Case.is))) (rw c.in_ok-options-in-Case.ensures (ap (λ (n : Node the_process). Some (n, rows c.in_ok-options-in-Case.rest.now)) (sym (process_case c.args.declarations c.args.line c.in-Case.value c.in_ok-options-in-Case.options)))))
+    subst (λ (h : ProcessHead). finished the_process c.args.level (node_at 65 c.args.left (c.args.level + 1)) (map decl_of c.args.declarations.items) c.args.line h (rows c.args.lines.now) ≡ Some (process_of (processes.Declared c.args.declarations c.args.line (stmts.Case c.in-Case.value c.in_ok-options-in-Case.options)), rows c.in_ok-options-in-Case.rest.now)) (sym (ap process_head_of (c.in-Case.is))) (rw c.in_ok-options-in-Case.ensures (ap (λ (n : Node the_process). Some (n, rows c.in_ok-options-in-Case.rest.now)) (sym (process_case c.args.declarations c.args.line c.in-Case.value c.in_ok-options-in-Case.options))))
 
 pub statement-returns-in_err-body-in-While : goal.statement-returns-in_err-body-in-While
 statement-returns-in_err-body-in-While t c =
@@ -260,9 +251,7 @@ statement-returns-in_err-body-in-While t c =
 
 pub statement-returns-in_ok-body-in-While-2 : goal.statement-returns-in_ok-body-in-While-2
 statement-returns-in_ok-body-in-While-2 t c =
-    let held_condition : c.into_inner-condition.result ≡ c.in-While.condition = cc in
-    rw held_condition (
-    subst (λ (h : ProcessHead). finished the_process c.args.level (node_at 65 c.args.left (c.args.level + 1)) (map decl_of c.args.declarations.items) c.args.line h (rows c.args.lines.now) ≡ Some (process_of (processes.Declared c.args.declarations c.args.line (stmts.While c.in-While.condition c.in_ok-body-in-While-2.body)), rows c.in_ok-body-in-While.rest.now)) (sym (ap process_head_of (c.in-While.is))) (rw c.in_ok-body-in-While.ensures (ap (λ (n : Node the_process). Some (n, rows c.in_ok-body-in-While.rest.now)) (ap (λ (p : Rattle.occ_tree_grammar.specs.declared.tree.process.Process.Process). node {k = the_process} (declared c.args.declarations) c.args.line (loop (expression_of c.in-While.condition)) (single_body (process_of p))) (sym c.in_ok-body-in-While-2.ensures.ok) ∙ sym (process_while c.args.declarations c.args.line c.in-While.condition c.in_ok-body-in-While-2.body)))))
+    subst (λ (h : ProcessHead). finished the_process c.args.level (node_at 65 c.args.left (c.args.level + 1)) (map decl_of c.args.declarations.items) c.args.line h (rows c.args.lines.now) ≡ Some (process_of (processes.Declared c.args.declarations c.args.line (stmts.While c.in-While.condition c.in_ok-body-in-While-2.body)), rows c.in_ok-body-in-While.rest.now)) (sym (ap process_head_of (c.in-While.is))) (rw c.in_ok-body-in-While.ensures (ap (λ (n : Node the_process). Some (n, rows c.in_ok-body-in-While.rest.now)) (ap (λ (p : Rattle.occ_tree_grammar.specs.declared.tree.process.Process.Process). node {k = the_process} (declared c.args.declarations) c.args.line (loop (expression_of c.in-While.condition.value)) (single_body (process_of p))) (sym c.in_ok-body-in-While-2.ensures.ok) ∙ sym (process_while c.args.declarations c.args.line c.in-While.condition c.in_ok-body-in-While-2.body))))
 
 pub statement-returns-in_err-all-in-Variants : goal.statement-returns-in_err-all-in-Variants
 statement-returns-in_err-all-in-Variants t c =
@@ -284,9 +273,7 @@ chosen-returns-in_err-one-in-When t c =
 
 pub chosen-returns-in_ok-one-in-When : goal.chosen-returns-in_ok-one-in-When
 chosen-returns-in_ok-one-in-When t c =
-    let held_condition : c.into_inner-condition.result ≡ c.in-When.condition = cc in
-    rw held_condition (
-    subst (λ (h : ChoiceHead). finished the_choice c.args.level (node_at 65 c.args.left (c.args.level + 1)) (map decl_of c.args.declarations.items) c.args.line h (rows c.args.lines.now) ≡ Some (choice_of (choices.When c.args.declarations c.args.line c.in-When.condition c.in_ok-one-in-When.one), rows c.in_ok-one-in-When.rest.now)) (sym (ap choice_head_of (c.in-When.is))) (rw c.in_ok-one-in-When.ensures (ap (λ (n : Node the_choice). Some (n, rows c.in_ok-one-in-When.rest.now)) (sym (choice_when c.args.declarations c.args.line c.in-When.condition c.in_ok-one-in-When.one)))))
+    subst (λ (h : ChoiceHead). finished the_choice c.args.level (node_at 65 c.args.left (c.args.level + 1)) (map decl_of c.args.declarations.items) c.args.line h (rows c.args.lines.now) ≡ Some (choice_of (choices.When c.args.declarations c.args.line c.in-When.condition c.in_ok-one-in-When.one), rows c.in_ok-one-in-When.rest.now)) (sym (ap choice_head_of (c.in-When.is))) (rw c.in_ok-one-in-When.ensures (ap (λ (n : Node the_choice). Some (n, rows c.in_ok-one-in-When.rest.now)) (sym (choice_when c.args.declarations c.args.line c.in-When.condition c.in_ok-one-in-When.one))))
 
 pub chosen-returns-in_err-cases-in-None : goal.chosen-returns-in_err-cases-in-None
 chosen-returns-in_err-cases-in-None t c =
@@ -304,9 +291,7 @@ chosen-returns-in_ok-cases-in-None t c =
 
 pub chosen-returns-in_ok-case-in-Some-2 : goal.chosen-returns-in_ok-case-in-Some-2
 chosen-returns-in_ok-case-in-Some-2 t c =
-    let held_index : c.into_inner-index.result ≡ c.in-Some.index = cc in
-    rw held_index (
-    subst (λ (h : ChoiceHead). finished the_choice c.args.level (node_at 65 c.args.left (c.args.level + 1)) (map decl_of c.args.declarations.items) c.args.line h (rows c.args.lines.now) ≡ Some (choice_of (choices.InnerIfFor c.args.declarations c.args.line c.in-Some.index c.in_ok-case-in-Some-2.case), rows c.in_ok-case-in-Some.rest.now)) (sym (ap choice_head_of (c.in-If.is ∙ ap (choiceHeads.If) c.in-Some.is))) (rw c.in_ok-case-in-Some.ensures (ap (λ (n : Node the_choice). Some (n, rows c.in_ok-case-in-Some.rest.now)) (ap (λ (p : Rattle.occ_tree_grammar.specs.declared.tree.process.Choice.Choice). node {k = the_choice} (declared c.args.declarations) c.args.line (nested_conditional (Some (replicator_of c.in-Some.index))) (single_body (choice_of p))) (sym c.in_ok-case-in-Some-2.ensures.ok) ∙ sym (choice_if_for c.args.declarations c.args.line c.in-Some.index c.in_ok-case-in-Some-2.case)))))
+    subst (λ (h : ChoiceHead). finished the_choice c.args.level (node_at 65 c.args.left (c.args.level + 1)) (map decl_of c.args.declarations.items) c.args.line h (rows c.args.lines.now) ≡ Some (choice_of (choices.InnerIfFor c.args.declarations c.args.line c.in-Some.index c.in_ok-case-in-Some-2.case), rows c.in_ok-case-in-Some.rest.now)) (sym (ap choice_head_of (c.in-If.is ∙ ap (choiceHeads.If) c.in-Some.is))) (rw c.in_ok-case-in-Some.ensures (ap (λ (n : Node the_choice). Some (n, rows c.in_ok-case-in-Some.rest.now)) (ap (λ (p : Rattle.occ_tree_grammar.specs.declared.tree.process.Choice.Choice). node {k = the_choice} (declared c.args.declarations) c.args.line (nested_conditional (Some (replicator_of c.in-Some.index.value))) (single_body (choice_of p))) (sym c.in_ok-case-in-Some-2.ensures.ok) ∙ sym (choice_if_for c.args.declarations c.args.line c.in-Some.index c.in_ok-case-in-Some-2.case))))
 
 pub armed-returns-in_err-one-in-Guarded : goal.armed-returns-in_err-one-in-Guarded
 armed-returns-in_err-one-in-Guarded t c =
@@ -315,9 +300,7 @@ armed-returns-in_err-one-in-Guarded t c =
 
 pub armed-returns-in_ok-one-in-Guarded : goal.armed-returns-in_ok-one-in-Guarded
 armed-returns-in_ok-one-in-Guarded t c =
-    let held_guard : c.into_inner-guard.result ≡ c.in-Guarded.guard = cc in
-    rw held_guard (
-    subst (λ (h : ArmHead). finished the_arm c.args.level (node_at 65 c.args.left (c.args.level + 1)) (map decl_of c.args.declarations.items) c.args.line h (rows c.args.lines.now) ≡ Some (arm_of (arms.Guarded c.args.declarations c.args.line c.in-Guarded.guard c.in_ok-one-in-Guarded.one), rows c.in_ok-one-in-Guarded.rest.now)) (sym (ap arm_head_of (c.in-Guarded.is))) (rw c.in_ok-one-in-Guarded.ensures (ap (λ (n : Node the_arm). Some (n, rows c.in_ok-one-in-Guarded.rest.now)) (sym (arm_guarded c.args.declarations c.args.line c.in-Guarded.guard c.in_ok-one-in-Guarded.one)))))
+    subst (λ (h : ArmHead). finished the_arm c.args.level (node_at 65 c.args.left (c.args.level + 1)) (map decl_of c.args.declarations.items) c.args.line h (rows c.args.lines.now) ≡ Some (arm_of (arms.Guarded c.args.declarations c.args.line c.in-Guarded.guard c.in_ok-one-in-Guarded.one), rows c.in_ok-one-in-Guarded.rest.now)) (sym (ap arm_head_of (c.in-Guarded.is))) (rw c.in_ok-one-in-Guarded.ensures (ap (λ (n : Node the_arm). Some (n, rows c.in_ok-one-in-Guarded.rest.now)) (sym (arm_guarded c.args.declarations c.args.line c.in-Guarded.guard c.in_ok-one-in-Guarded.one))))
 
 pub armed-returns-in_err-all-in-Variants : goal.armed-returns-in_err-all-in-Variants
 armed-returns-in_err-all-in-Variants t c =
@@ -326,29 +309,25 @@ armed-returns-in_err-all-in-Variants t c =
 
 pub armed-returns-in_ok-all-in-Variants : goal.armed-returns-in_ok-all-in-Variants
 armed-returns-in_ok-all-in-Variants t c =
-    let held_condition : c.into_inner-condition.result ≡ c.in-Variants.condition = cc in
-    rw held_condition (
-    subst (λ (h : ArmHead). finished the_arm c.args.level (node_at 65 c.args.left (c.args.level + 1)) (map decl_of c.args.declarations.items) c.args.line h (rows c.args.lines.now) ≡ Some (arm_of (arms.OnVariant c.args.declarations c.args.line c.in-Variants.condition c.in-Variants.channel c.in_ok-all-in-Variants.all), rows c.in_ok-all-in-Variants.rest.now)) (sym (ap arm_head_of (c.in-Variants.is))) (rw c.in_ok-all-in-Variants.ensures (ap (λ (n : Node the_arm). Some (n, rows c.in_ok-all-in-Variants.rest.now)) (sym (arm_variants c.args.declarations c.args.line c.in-Variants.condition c.in-Variants.channel c.in_ok-all-in-Variants.all)))))
+    subst (λ (h : ArmHead). finished the_arm c.args.level (node_at 65 c.args.left (c.args.level + 1)) (map decl_of c.args.declarations.items) c.args.line h (rows c.args.lines.now) ≡ Some (arm_of (arms.OnVariant c.args.declarations c.args.line c.in-Variants.guard c.in_ok-all-in-Variants.all), rows c.in_ok-all-in-Variants.rest.now)) (sym (ap arm_head_of (c.in-Variants.is))) (rw c.in_ok-all-in-Variants.ensures (ap (λ (n : Node the_arm). Some (n, rows c.in_ok-all-in-Variants.rest.now)) (sym (arm_variants c.args.declarations c.args.line c.in-Variants.guard c.in_ok-all-in-Variants.all))))
 
 pub armed-returns-in_err-guards-in-None : goal.armed-returns-in_err-guards-in-None
 armed-returns-in_err-guards-in-None t c =
     let p = err_from_is_err_and c.from_residual-in_err-guards-in-None.result c.from_residual-in_err-guards-in-None.ensures.1 in
-    rw (p.1, p.2) (subst (λ (h : ArmHead). Fails c.in_err-guards-in-None.field-0.0 (finished the_arm c.args.level (node_at 65 c.args.left (c.args.level + 1)) (map decl_of c.args.declarations.items) c.args.line h (rows c.args.lines.now))) (sym (ap arm_head_of (c.in-Alt.is ∙ ap (λ (r : Option Replicator). armHeads.Alt c.in-Alt.pri r) c.in-None.is))) (fails_below c.in_err-guards-in-None.field-0.0 _ _ _ c.in_err-guards-in-None.ensures))
+    rw (p.1, p.2) (subst (λ (h : ArmHead). Fails c.in_err-guards-in-None.field-0.0 (finished the_arm c.args.level (node_at 65 c.args.left (c.args.level + 1)) (map decl_of c.args.declarations.items) c.args.line h (rows c.args.lines.now))) (sym (ap arm_head_of (c.in-Alt.is ∙ ap (λ (r : Option (Box Replicator Global)). armHeads.Alt c.in-Alt.pri r) c.in-None.is))) (fails_below c.in_err-guards-in-None.field-0.0 _ _ _ c.in_err-guards-in-None.ensures))
 
 pub armed-returns-in_err-guard-in-Some : goal.armed-returns-in_err-guard-in-Some
 armed-returns-in_err-guard-in-Some t c =
     let p = err_from_is_err_and c.from_residual-in_err-guard-in-Some.result c.from_residual-in_err-guard-in-Some.ensures.1 in
-    rw (p.1, p.2) (subst (λ (h : ArmHead). Fails c.in_err-guard-in-Some.field-0.0 (finished the_arm c.args.level (node_at 65 c.args.left (c.args.level + 1)) (map decl_of c.args.declarations.items) c.args.line h (rows c.args.lines.now))) (sym (ap arm_head_of (c.in-Alt.is ∙ ap (λ (r : Option Replicator). armHeads.Alt c.in-Alt.pri r) c.in-Some.is))) (fails_below c.in_err-guard-in-Some.field-0.0 _ _ _ c.in_err-guard-in-Some.ensures))
+    rw (p.1, p.2) (subst (λ (h : ArmHead). Fails c.in_err-guard-in-Some.field-0.0 (finished the_arm c.args.level (node_at 65 c.args.left (c.args.level + 1)) (map decl_of c.args.declarations.items) c.args.line h (rows c.args.lines.now))) (sym (ap arm_head_of (c.in-Alt.is ∙ ap (λ (r : Option (Box Replicator Global)). armHeads.Alt c.in-Alt.pri r) c.in-Some.is))) (fails_below c.in_err-guard-in-Some.field-0.0 _ _ _ c.in_err-guard-in-Some.ensures))
 
 pub armed-returns-in_ok-guards-in-None : goal.armed-returns-in_ok-guards-in-None
 armed-returns-in_ok-guards-in-None t c =
-    subst (λ (h : ArmHead). finished the_arm c.args.level (node_at 65 c.args.left (c.args.level + 1)) (map decl_of c.args.declarations.items) c.args.line h (rows c.args.lines.now) ≡ Some (arm_of (arms.InnerAlt c.args.declarations c.args.line c.in-Alt.pri c.in_ok-guards-in-None.guards), rows c.in_ok-guards-in-None.rest.now)) (sym (ap arm_head_of (c.in-Alt.is ∙ ap (λ (r : Option Replicator). armHeads.Alt c.in-Alt.pri r) c.in-None.is))) (rw c.in_ok-guards-in-None.ensures (ap (λ (n : Node the_arm). Some (n, rows c.in_ok-guards-in-None.rest.now)) (sym (arm_alt c.args.declarations c.args.line c.in-Alt.pri c.in_ok-guards-in-None.guards))))
+    subst (λ (h : ArmHead). finished the_arm c.args.level (node_at 65 c.args.left (c.args.level + 1)) (map decl_of c.args.declarations.items) c.args.line h (rows c.args.lines.now) ≡ Some (arm_of (arms.InnerAlt c.args.declarations c.args.line c.in-Alt.pri c.in_ok-guards-in-None.guards), rows c.in_ok-guards-in-None.rest.now)) (sym (ap arm_head_of (c.in-Alt.is ∙ ap (λ (r : Option (Box Replicator Global)). armHeads.Alt c.in-Alt.pri r) c.in-None.is))) (rw c.in_ok-guards-in-None.ensures (ap (λ (n : Node the_arm). Some (n, rows c.in_ok-guards-in-None.rest.now)) (sym (arm_alt c.args.declarations c.args.line c.in-Alt.pri c.in_ok-guards-in-None.guards))))
 
 pub armed-returns-in_ok-guard-in-Some-2 : goal.armed-returns-in_ok-guard-in-Some-2
 armed-returns-in_ok-guard-in-Some-2 t c =
-    let held_index : c.into_inner-index.result ≡ c.in-Some.index = cc in
-    rw held_index (
-    subst (λ (h : ArmHead). finished the_arm c.args.level (node_at 65 c.args.left (c.args.level + 1)) (map decl_of c.args.declarations.items) c.args.line h (rows c.args.lines.now) ≡ Some (arm_of (arms.InnerAltFor c.args.declarations c.args.line c.in-Alt.pri c.in-Some.index c.in_ok-guard-in-Some-2.guard), rows c.in_ok-guard-in-Some.rest.now)) (sym (ap arm_head_of (c.in-Alt.is ∙ ap (λ (r : Option Replicator). armHeads.Alt c.in-Alt.pri r) c.in-Some.is))) (rw c.in_ok-guard-in-Some.ensures (ap (λ (n : Node the_arm). Some (n, rows c.in_ok-guard-in-Some.rest.now)) (ap (λ (p : Rattle.occ_tree_grammar.specs.declared.tree.process.Arm.Arm). node {k = the_arm} (declared c.args.declarations) c.args.line (nested_alternation c.in-Alt.pri (Some (replicator_of c.in-Some.index))) (single_body (arm_of p))) (sym c.in_ok-guard-in-Some-2.ensures.ok) ∙ sym (arm_alt_for c.args.declarations c.args.line c.in-Alt.pri c.in-Some.index c.in_ok-guard-in-Some-2.guard)))))
+    subst (λ (h : ArmHead). finished the_arm c.args.level (node_at 65 c.args.left (c.args.level + 1)) (map decl_of c.args.declarations.items) c.args.line h (rows c.args.lines.now) ≡ Some (arm_of (arms.InnerAltFor c.args.declarations c.args.line c.in-Alt.pri c.in-Some.index c.in_ok-guard-in-Some-2.guard), rows c.in_ok-guard-in-Some.rest.now)) (sym (ap arm_head_of (c.in-Alt.is ∙ ap (λ (r : Option (Box Replicator Global)). armHeads.Alt c.in-Alt.pri r) c.in-Some.is))) (rw c.in_ok-guard-in-Some.ensures (ap (λ (n : Node the_arm). Some (n, rows c.in_ok-guard-in-Some.rest.now)) (ap (λ (p : Rattle.occ_tree_grammar.specs.declared.tree.process.Arm.Arm). node {k = the_arm} (declared c.args.declarations) c.args.line (nested_alternation c.in-Alt.pri (Some (replicator_of c.in-Some.index.value))) (single_body (arm_of p))) (sym c.in_ok-guard-in-Some-2.ensures.ok) ∙ sym (arm_alt_for c.args.declarations c.args.line c.in-Alt.pri c.in-Some.index c.in_ok-guard-in-Some-2.guard))))
 
 pub selected-returns-in_err-one-in-Values : goal.selected-returns-in_err-one-in-Values
 selected-returns-in_err-one-in-Values t c =
@@ -357,9 +336,7 @@ selected-returns-in_err-one-in-Values t c =
 
 pub selected-returns-in_ok-one-in-Values : goal.selected-returns-in_ok-one-in-Values
 selected-returns-in_ok-one-in-Values t c =
-    let held_values : c.into_inner-values.result ≡ c.in-Values.values = cc in
-    rw held_values (
-    subst (λ (h : OptionHead). finished the_option c.args.level (node_at 65 c.args.left (c.args.level + 1)) (map decl_of c.args.declarations.items) c.args.line h (rows c.args.lines.now) ≡ Some (selection_of (selections.Values c.args.declarations c.args.line c.in-Values.values c.in_ok-one-in-Values.one), rows c.in_ok-one-in-Values.rest.now)) (sym (ap option_head_of (c.in-Values.is))) (rw c.in_ok-one-in-Values.ensures (ap (λ (n : Node the_option). Some (n, rows c.in_ok-one-in-Values.rest.now)) (sym (selection_values c.args.declarations c.args.line c.in-Values.values c.in_ok-one-in-Values.one)))))
+    subst (λ (h : OptionHead). finished the_option c.args.level (node_at 65 c.args.left (c.args.level + 1)) (map decl_of c.args.declarations.items) c.args.line h (rows c.args.lines.now) ≡ Some (selection_of (selections.Values c.args.declarations c.args.line c.in-Values.values c.in_ok-one-in-Values.one), rows c.in_ok-one-in-Values.rest.now)) (sym (ap option_head_of (c.in-Values.is))) (rw c.in_ok-one-in-Values.ensures (ap (λ (n : Node the_option). Some (n, rows c.in_ok-one-in-Values.rest.now)) (sym (selection_values c.args.declarations c.args.line c.in-Values.values c.in_ok-one-in-Values.one))))
 
 pub selected-returns-in_err-otherwise-in-Else : goal.selected-returns-in_err-otherwise-in-Else
 selected-returns-in_err-otherwise-in-Else t c =
@@ -388,10 +365,7 @@ declared-returns-in_ok-protocol-in-Tags t c =
 
 pub declared-returns-in_ok-end-in-Proc : goal.declared-returns-in_ok-end-in-Proc
 declared-returns-in_ok-end-in-Proc t c =
-    let held_formals : c.into_inner-formals.result ≡ c.in-Proc.formals = cc in
-    let held_body : c.into_inner-body.result ≡ c.in_ok-body-in-Proc.body = cc in
-    rw (held_formals, held_body) (
-    subst (λ (h : DeclHead). item_with 65 c.args.left c.args.level (node_at 65 c.args.left (c.args.level + 1) the_process) c.args.line h (rows c.args.lines.now) ≡ Some (decl_of (declTrees.Item (itemTrees.Proc c.args.line c.in-Proc.name c.in-Proc.formals c.in_ok-body-in-Proc.body c.in_ok-end-in-Proc.end)), rows c.in_ok-end-in-Proc.rest.now)) (sym (ap decl_head_of c.in-Proc.is)) (rw (c.in_ok-body-in-Proc.ensures, c.in_ok-end-in-Proc.ensures) (ap (λ (d : Decl). Some (d, rows c.in_ok-end-in-Proc.rest.now)) (ap item (sym (item_proc c.args.line c.in-Proc.name c.in-Proc.formals c.in_ok-body-in-Proc.body c.in_ok-end-in-Proc.end)) ∙ sym (decl_item (itemTrees.Proc c.args.line c.in-Proc.name c.in-Proc.formals c.in_ok-body-in-Proc.body c.in_ok-end-in-Proc.end))))))
+    subst (λ (h : DeclHead). item_with 65 c.args.left c.args.level (node_at 65 c.args.left (c.args.level + 1) the_process) c.args.line h (rows c.args.lines.now) ≡ Some (decl_of (declTrees.Item (itemTrees.Proc c.args.line c.in-Proc.name c.in-Proc.formals c.in_ok-body-in-Proc.body c.in_ok-end-in-Proc.end)), rows c.in_ok-end-in-Proc.rest.now)) (sym (ap decl_head_of c.in-Proc.is)) (rw (c.in_ok-body-in-Proc.ensures, c.in_ok-end-in-Proc.ensures) (ap (λ (d : Decl). Some (d, rows c.in_ok-end-in-Proc.rest.now)) (ap item (sym (item_proc c.args.line c.in-Proc.name c.in-Proc.formals c.in_ok-body-in-Proc.body c.in_ok-end-in-Proc.end)) ∙ sym (decl_item (itemTrees.Proc c.args.line c.in-Proc.name c.in-Proc.formals c.in_ok-body-in-Proc.body c.in_ok-end-in-Proc.end)))))
 
 pub variant_inside-returns : goal.variant_inside-returns
 unfolding node_with

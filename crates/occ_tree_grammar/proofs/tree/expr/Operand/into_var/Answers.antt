@@ -4,10 +4,10 @@ use Rattle.occ_tree_grammar.specs.Expressions.Trees.{Expressions, operand_of, ex
 use Rattle.occ_tree_grammar.specs.Lines.Trees.{var}
 use Rattle.occ_tree_grammar.specs.Lines.HeadReading.{operand_var}
 use Rattle.occ_tree_grammar.proofs.Rows.{expressions_made}
-use Rattle.occ_tree_lines.proofs.lines.read_head.var_alone.Goals as goal
+use Rattle.occ_tree_grammar.proofs.tree.expr.Operand.into_var.Goals as goal
 
 pub returns-in-Variable : goal.returns-in-Variable
 returns-in-Variable c =
     let m = c.in-Variable in
-    let read : operand_var (operand_of c.args.operand) ≡ Some (var m.name.items (expressions (map expression_of m.subscripts.items))) = ap (λ (a : Operand). operand_var (operand_of a)) m.is ∙ ap (λ (es : Expressions). Some (var m.name.items es)) (expressions_made m.subscripts) in
+    let read : operand_var (operand_of c.args.self) ≡ Some (var m.name.items (expressions (map expression_of m.subscripts.items))) = ap (λ (a : Operand). operand_var (operand_of a)) m.is ∙ ap (λ (es : Expressions). Some (var m.name.items es)) (expressions_made m.subscripts) in
     sym read
