@@ -109,14 +109,16 @@ counted_last sizes i count past counted =
 -- ---- protocols
 
 module _ (ns : Names) (p : ProtocolTree) where
-  module _ (line : ℕ) (name : Vec ℕ Global) (parts : Box (OneOrMore PartTree) Global) (is : p ≡ protocolTrees.Parts line name parts) where
-    sequential : protocol_of ns (processes.protocol_of p) ≡ (each_of (part_of ns line) (lines.part_of parts.value.first ∷ map lines.part_of parts.value.others.items) >>= λ ts. Some (Sequential ts))
-    sequential = ap (λ q. protocol_of ns (processes.protocol_of q)) is
+  module _ (line : ℕ) (name : Vec ℕ Global) (parts : Box (OneOrMore PartTree) Global) (all : OneOrMore PartTree) (is : p ≡ protocolTrees.Parts line name parts) (seen : all ≡ parts.value) where
+    sequential : protocol_of ns (processes.protocol_of p) ≡ (each_of (part_of ns line) (lines.part_of all.first ∷ map lines.part_of all.others.items) >>= λ ts. Some (Sequential ts))
+    sequential =
+        ap (λ q. protocol_of ns (processes.protocol_of q)) is
+        ∙ ap (λ (x : OneOrMore PartTree). each_of (part_of ns line) (lines.part_of x.first ∷ map lines.part_of x.others.items) >>= λ ts. Some (Sequential ts)) (sym seen)
 
-    pub sequential_is : (ts : List PartType) → each_of (part_of ns line) (lines.part_of parts.value.first ∷ map lines.part_of parts.value.others.items) ≡ Some ts → protocol_of ns (processes.protocol_of p) ≡ Some (Sequential ts)
+    pub sequential_is : (ts : List PartType) → each_of (part_of ns line) (lines.part_of all.first ∷ map lines.part_of all.others.items) ≡ Some ts → protocol_of ns (processes.protocol_of p) ≡ Some (Sequential ts)
     sequential_is ts h = sequential ∙ ap (λ r. r >>= λ ts. Some (Sequential ts)) h
 
-    pub sequential_none : (e : CheckFault) → Refuses e (each_of (part_of ns line) (lines.part_of parts.value.first ∷ map lines.part_of parts.value.others.items)) → Refuses e (protocol_of ns (processes.protocol_of p))
+    pub sequential_none : (e : CheckFault) → Refuses e (each_of (part_of ns line) (lines.part_of all.first ∷ map lines.part_of all.others.items)) → Refuses e (protocol_of ns (processes.protocol_of p))
     sequential_none e = refused_with e _ _ (λ h. sequential ∙ none_then _ h)
 
   module _ (line : ℕ) (name : Vec ℕ Global) (case_line : ℕ) (tags : Vec TagTree Global) (end_line : ℕ) (all : List TagTree) (is : p ≡ protocolTrees.Tags line name case_line tags end_line) (seen : all ≡ tags.items) where
