@@ -1,5 +1,5 @@
 -- One of a kind, read step by step.
-use Rattle.std.proofs.Common.{◌≡◌, ◌≢◌, ℕ, ◌+◌, ◌-◌, List, Option, Some, None, refl, ap, ◌∙◌}
+use Rattle.std.proofs.Common.{◌≡◌, ◌≢◌, ℕ, ◌+◌, ◌-◌, List, Option, Some, None, refl}
 use Rattle.occ_text.specs.Words.{Word, Row}
 use Rattle.occ_tree_grammar.specs.declared.fault.ParseFault.{ParseFault}
 use Rattle.occ_tree_grammar.specs.declared.fault.ParseFault.TheVariants.{Memory, Unexpected, Level, Missing, TooDeep}

@@ -1,5 +1,5 @@
 -- The lines at the head of processes, of their parts and of declarations, with fewer than 65 brackets open at one place.
-use Rattle.std.specs.Prelude.{ℕ, List, Some}
+use Rattle.std.specs.Prelude.{ℕ, Some}
 use Rattle.occ_text.specs.Words.{Row}
 use Rattle.occ_tree_grammar.specs.Many.{◌>>=◌, Reader}
 use Rattle.occ_tree_grammar.specs.Lines.Heads.{DeclHead}
