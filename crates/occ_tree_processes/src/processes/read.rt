@@ -8,22 +8,22 @@ ghost use Rattle.std.specs.Prelude.{◌≡◌, ◌≤◌, ◌+◌, map};
 ghost use Rattle.occ_text.specs.Words.{words, rows};
 ghost use Rattle.occ_tree_grammar.specs.Many.{as_many};
 ghost use Rattle.occ_tree_grammar.specs.Expressions.Reading.{Gives};
-ghost use Rattle.occ_tree_grammar.specs.Lines.HeadViews.{process_head_of, choice_head_of, option_head_of, arm_head_of, variant_head_of, decl_head_of};
+ghost use Rattle.occ_tree_grammar.specs.Lines.HeadViews.{process_head_of, choice_head_of, arm_head_of, decl_head_of};
 ghost use Rattle.occ_tree_grammar.specs.Processes.Trees.{process as the_process, choice as the_choice, option as the_option, arm as the_arm, variant as the_variant};
 ghost use Rattle.occ_tree_grammar.specs.Processes.Views.{process_of, choice_of, selection_of, arm_of, variant_of, decl_of};
-ghost use Rattle.occ_tree_grammar.specs.Processes.Reading.{at_level, at_decl, finished, node_with, node_at, item_with, decl_with};
+ghost use Rattle.occ_tree_grammar.specs.Processes.Reading.{at_level, at_decl, finished, node_at, item_with, decl_with};
 
-use crate::processes::line::{declaration_at, end_line, line_of, lines_at, too_deep};
+use crate::processes::head::{
+    arm_line, choice_line, declaration_line, process_line, selected, selection_line, tagged,
+    variant_line,
+};
+use crate::processes::line::{declaration_at, end_line, lines_at, too_deep};
 use crate::processes::protocol::tags;
 use occ_text::Line;
 use occ_tree_grammar::ParseFault;
-use occ_tree_grammar::lines::head::{ArmHead, ChoiceHead, DeclHead, OptionHead, ProcessHead};
+use occ_tree_grammar::lines::head::{ArmHead, ChoiceHead, DeclHead, ProcessHead};
 use occ_tree_grammar::tree::process::{
     Arm, Choice, Decl, Item, Process, Protocol, Selection, Stmt, Variant,
-};
-use occ_tree_lines::lines::read_decl::decl_head;
-use occ_tree_lines::lines::read_head::{
-    arm_head, choice_head, option_head, process_head, variant_head,
 };
 use std::alloc::Global;
 
@@ -42,25 +42,9 @@ pub fn process(
     if left == 0 {
         return Err(too_deep(last, level, lines));
     }
-    process_inside(alloc, last, left - 1, level, lines)
-}
-
-#[cycle(tree)]
-#[tactic(auto, unfolding(occ_tree_grammar::specs::Processes::Reading::node_with))]
-fn process_inside(
-    alloc: Global,
-    last: u32,
-    left: u32,
-    level: u32,
-    lines: &[Line],
-) -> Result<(Process, &[Line]), ParseFault>
-    requires { level + left ≤ 64 }
-    ensures { Gives (λ x. (process_of x.0, rows x.1.now)) result (node_with the_process 65 left level (node_at 65 left (level + 1)) (rows lines.now)) }
-{
+    let left = left - 1;
     let (declarations, rest) = declarations(alloc, last, left, level, lines)?;
-    let (first, rest) = line_of(last, level, rest)?;
-    let line = first.number;
-    let head = process_head(alloc, line, &first.words)?;
+    let (line, head, rest) = process_line(alloc, last, level, rest)?;
     statement(alloc, last, left, level, declarations, line, head, rest)
 }
 
@@ -214,25 +198,9 @@ pub fn choice(
     if left == 0 {
         return Err(too_deep(last, level, lines));
     }
-    choice_inside(alloc, last, left - 1, level, lines)
-}
-
-#[cycle(tree)]
-#[tactic(auto, unfolding(occ_tree_grammar::specs::Processes::Reading::node_with))]
-fn choice_inside(
-    alloc: Global,
-    last: u32,
-    left: u32,
-    level: u32,
-    lines: &[Line],
-) -> Result<(Choice, &[Line]), ParseFault>
-    requires { level + left ≤ 64 }
-    ensures { Gives (λ x. (choice_of x.0, rows x.1.now)) result (node_with the_choice 65 left level (node_at 65 left (level + 1)) (rows lines.now)) }
-{
+    let left = left - 1;
     let (declarations, rest) = declarations(alloc, last, left, level, lines)?;
-    let (first, rest) = line_of(last, level, rest)?;
-    let line = first.number;
-    let head = choice_head(alloc, line, &first.words)?;
+    let (line, head, rest) = choice_line(alloc, last, level, rest)?;
     chosen(alloc, last, left, level, declarations, line, head, rest)
 }
 
@@ -310,53 +278,11 @@ pub fn selection(
     if left == 0 {
         return Err(too_deep(last, level, lines));
     }
-    selection_inside(alloc, last, left - 1, level, lines)
-}
-
-#[cycle(tree)]
-#[tactic(auto, unfolding(occ_tree_grammar::specs::Processes::Reading::node_with))]
-fn selection_inside(
-    alloc: Global,
-    last: u32,
-    left: u32,
-    level: u32,
-    lines: &[Line],
-) -> Result<(Selection, &[Line]), ParseFault>
-    requires { level + left ≤ 64 }
-    ensures { Gives (λ x. (selection_of x.0, rows x.1.now)) result (node_with the_option 65 left level (node_at 65 left (level + 1)) (rows lines.now)) }
-{
+    let left = left - 1;
     let (declarations, rest) = declarations(alloc, last, left, level, lines)?;
-    let (first, rest) = line_of(last, level, rest)?;
-    let line = first.number;
-    let head = option_head(alloc, line, &first.words)?;
-    selected(alloc, last, left, level, declarations, line, head, rest)
-}
-
-/// What stands under the line of an option, and the whole.
-#[cycle(tree)]
-fn selected(
-    alloc: Global,
-    last: u32,
-    left: u32,
-    level: u32,
-    declarations: Vec<Decl>,
-    line: u32,
-    head: OptionHead,
-    lines: &[Line],
-) -> Result<(Selection, &[Line]), ParseFault>
-    requires { level + left ≤ 64 }
-    ensures { Gives (λ x. (selection_of x.0, rows x.1.now)) result (finished the_option level (node_at 65 left (level + 1)) (map decl_of declarations.items) line (option_head_of head) (rows lines.now)) }
-{
-    match head {
-        OptionHead::Values(values) => {
-            let (one, rest) = process(alloc, last, left, level + 1, lines)?;
-            Ok((Selection::Values(declarations, line, values, one), rest))
-        }
-        OptionHead::Else => {
-            let (otherwise, rest) = process(alloc, last, left, level + 1, lines)?;
-            Ok((Selection::Else(declarations, line, otherwise), rest))
-        }
-    }
+    let (line, head, rest) = selection_line(alloc, last, level, rest)?;
+    let (body, rest) = process(alloc, last, left, level + 1, rest)?;
+    Ok((selected(declarations, line, head, body), rest))
 }
 
 /// The options in a row at this level.
@@ -399,25 +325,9 @@ pub fn arm(
     if left == 0 {
         return Err(too_deep(last, level, lines));
     }
-    arm_inside(alloc, last, left - 1, level, lines)
-}
-
-#[cycle(tree)]
-#[tactic(auto, unfolding(occ_tree_grammar::specs::Processes::Reading::node_with))]
-fn arm_inside(
-    alloc: Global,
-    last: u32,
-    left: u32,
-    level: u32,
-    lines: &[Line],
-) -> Result<(Arm, &[Line]), ParseFault>
-    requires { level + left ≤ 64 }
-    ensures { Gives (λ x. (arm_of x.0, rows x.1.now)) result (node_with the_arm 65 left level (node_at 65 left (level + 1)) (rows lines.now)) }
-{
+    let left = left - 1;
     let (declarations, rest) = declarations(alloc, last, left, level, lines)?;
-    let (first, rest) = line_of(last, level, rest)?;
-    let line = first.number;
-    let head = arm_head(alloc, line, &first.words)?;
+    let (line, head, rest) = arm_line(alloc, last, level, rest)?;
     armed(alloc, last, left, level, declarations, line, head, rest)
 }
 
@@ -502,30 +412,11 @@ pub fn variant(
     if left == 0 {
         return Err(too_deep(last, level, lines));
     }
-    variant_inside(alloc, last, left - 1, level, lines)
-}
-
-#[cycle(tree)]
-#[tactic(auto, unfolding(occ_tree_grammar::specs::Processes::Reading::node_with))]
-fn variant_inside(
-    alloc: Global,
-    last: u32,
-    left: u32,
-    level: u32,
-    lines: &[Line],
-) -> Result<(Variant, &[Line]), ParseFault>
-    requires { level + left ≤ 64 }
-    ensures { Gives (λ x. (variant_of x.0, rows x.1.now)) result (node_with the_variant 65 left level (node_at 65 left (level + 1)) (rows lines.now)) }
-{
+    let left = left - 1;
     let (declarations, rest) = declarations(alloc, last, left, level, lines)?;
-    let (first, rest) = line_of(last, level, rest)?;
-    let line = first.number;
-    let head = variant_head(alloc, line, &first.words)?;
-    let (one, rest) = process(alloc, last, left, level + 1, rest)?;
-    Ok((
-        Variant::Tagged(declarations, line, head.tag, head.targets, one),
-        rest,
-    ))
+    let (line, head, rest) = variant_line(alloc, last, level, rest)?;
+    let (body, rest) = process(alloc, last, left, level + 1, rest)?;
+    Ok((tagged(declarations, line, head, body), rest))
 }
 
 /// The variants in a row at this level.
@@ -591,9 +482,7 @@ pub fn declaration(
     requires { level + left ≤ 64 }
     ensures { Gives (λ x. (decl_of x.0, rows x.1.now)) result (decl_with 65 left level (node_at 65 left (level + 1) the_process) (rows lines.now)) }
 {
-    let (first, rest) = line_of(last, level, lines)?;
-    let line = first.number;
-    let head = decl_head(alloc, line, &first.words)?;
+    let (line, head, rest) = declaration_line(alloc, last, level, lines)?;
     declared(alloc, last, left, level, line, head, rest)
 }
 

@@ -5,13 +5,12 @@ use Rattle.std.proofs.lemmas.Result.{err_from_is_err_and}
 use Rattle.occ_text.specs.Words.{rows}
 use Rattle.occ_tree_grammar.specs.Processes.Trees.{process as the_process, choice as the_choice, option as the_option, arm as the_arm, variant as the_variant}
 use Rattle.occ_tree_grammar.specs.Processes.Views.{process_of, choice_of, selection_of, arm_of, variant_of, decl_of}
-use Rattle.occ_tree_grammar.specs.Processes.Reading.{finished, node_at, node_with, item_with}
+use Rattle.occ_tree_grammar.specs.Processes.Reading.{finished, node_at, item_with}
 use Rattle.occ_tree_lines.proofs.ManyLoop.{goes_on, ends, is_full, is_last}
-use Rattle.occ_tree_lines.proofs.Steps.{no_node_at, next_node_at, fails_none}
+use Rattle.occ_tree_lines.proofs.Steps.{no_node_at, fails_none}
 use Rattle.occ_tree_grammar.specs.declared.tree.process.Process.TheVariants as processes
 use Rattle.occ_tree_grammar.specs.declared.tree.process.Stmt.TheVariants as stmts
 use Rattle.occ_tree_grammar.specs.declared.tree.process.Choice.TheVariants as choices
-use Rattle.occ_tree_grammar.specs.declared.tree.process.Selection.TheVariants as selections
 use Rattle.occ_tree_grammar.specs.declared.tree.process.Arm.TheVariants as arms
 use Rattle.occ_tree_grammar.specs.declared.tree.process.Decl.TheVariants as declTrees
 use Rattle.occ_tree_grammar.specs.declared.tree.process.Item.TheVariants as itemTrees
@@ -23,43 +22,109 @@ use Rattle.occ_tree_grammar.specs.declared.lines.head.ArmHead.TheVariants as arm
 use Rattle.occ_tree_grammar.specs.Expressions.Trees.{expression_of}
 use Rattle.occ_tree_grammar.specs.Expressions.Reading.{Fails}
 use Rattle.occ_tree_grammar.specs.Lines.Views.{replicator_of}
-use Rattle.occ_tree_grammar.specs.Lines.Heads.{ProcessHead, ChoiceHead, OptionHead, ArmHead, DeclHead, sequence, parallel, alternation, conditional, loop, nested_conditional, nested_alternation}
-use Rattle.occ_tree_grammar.specs.Lines.HeadViews.{process_head_of, choice_head_of, option_head_of, arm_head_of, decl_head_of}
+use Rattle.occ_tree_grammar.specs.Lines.Heads.{ProcessHead, ChoiceHead, ArmHead, DeclHead, sequence, parallel, alternation, conditional, loop, nested_conditional, nested_alternation}
+use Rattle.occ_tree_grammar.specs.Lines.HeadViews.{process_head_of, choice_head_of, option_head_of, arm_head_of, variant_head_of, decl_head_of}
 use Rattle.occ_tree_grammar.specs.Processes.Trees.{Node, node, single_body, Decl, item}
-use Rattle.occ_tree_grammar.proofs.Made.{declared, process_action, process_seq, process_par, process_seq_for, process_par_for, process_alt, process_alt_for, process_if, process_if_for, process_case, process_while, process_variants, choice_when, choice_if, choice_if_for, selection_values, selection_else, arm_guarded, arm_variants, arm_alt, arm_alt_for, variant_tagged, decl_names, decl_item, item_value, item_protocol, item_proc}
+use Rattle.occ_tree_grammar.proofs.Made.{declared, process_action, process_seq, process_par, process_seq_for, process_par_for, process_alt, process_alt_for, process_if, process_if_for, process_case, process_while, process_variants, choice_when, choice_if, choice_if_for, arm_guarded, arm_variants, arm_alt, arm_alt_for, decl_names, decl_item, item_value, item_protocol, item_proc}
 use Rattle.occ_tree_lines.proofs.Steps.{fails_below}
+use Rattle.occ_tree_processes.proofs.Levels.{no_declarations, no_line, node_is}
 use Rattle.occ_tree_processes.proofs.processes.read.+tree.Goals.{processes-else-loop-test, processes-then-loop-test+in_default, choices-else-loop-test, choices-then-loop-test+in_default, selections-else-loop-test, selections-then-loop-test+in_default, arms-else-loop-test, arms-then-loop-test+in_default, variants-else-loop-test, variants-then-loop-test+in_default, declarations-else-loop-test, declarations-then-loop-test+in_default}
 use Rattle.occ_tree_processes.proofs.processes.read.+tree.Goals as goal
 
 pub process-returns-then-left-eq0 : goal.process-returns-then-left-eq0
 process-returns-then-left-eq0 t c = fails_none c.too_deep.result _ (no_node_at 65 c.args.left c.args.level the_process (rows c.args.lines.now) c.if-left-eq0.true)
 
+pub process-returns-in_err-declarations : goal.process-returns-in_err-declarations
+process-returns-in_err-declarations t c =
+    let p = err_from_is_err_and c.from_residual.result c.from_residual.ensures.1 in
+    rw (p.1, p.2) (no_declarations c.in_err-declarations.field-0.0 the_process c.args.left c.args.level (rows c.args.lines.now) c.if-left-eq0.false c.in_err-declarations.ensures)
+
+pub process-returns-in_err-line : goal.process-returns-in_err-line
+process-returns-in_err-line t c =
+    let p = err_from_is_err_and c.from_residual-in_err-line.result c.from_residual-in_err-line.ensures.1 in
+    rw (p.1, p.2) (no_line the_process c.args.left c.args.level (rows c.args.lines.now) (map decl_of c.in_ok-declarations.declarations.items) (rows c.in_ok-declarations.rest.now) c.if-left-eq0.false c.in_ok-declarations.ensures c.in_err-line.field-0.0 c.in_err-line.ensures)
+
 pub process-returns : goal.process-returns
-process-returns t c = rw (next_node_at 65 c.args.left c.args.level the_process (rows c.args.lines.now) c.if-left-eq0.false) c.process_inside.ensures
+process-returns t c =
+    rw (node_is the_process c.args.left c.args.level (rows c.args.lines.now) (map decl_of c.in_ok-declarations.declarations.items) (rows c.in_ok-declarations.rest.now) c.if-left-eq0.false c.in_ok-declarations.ensures c.in_ok-line.line (process_head_of c.in_ok-line.head) (rows c.in_ok-line.rest.now) c.in_ok-line.ensures) c.statement.ensures
 
 pub choice-returns-then-left-eq0 : goal.choice-returns-then-left-eq0
 choice-returns-then-left-eq0 t c = fails_none c.too_deep.result _ (no_node_at 65 c.args.left c.args.level the_choice (rows c.args.lines.now) c.if-left-eq0.true)
 
+pub choice-returns-in_err-declarations : goal.choice-returns-in_err-declarations
+choice-returns-in_err-declarations t c =
+    let p = err_from_is_err_and c.from_residual.result c.from_residual.ensures.1 in
+    rw (p.1, p.2) (no_declarations c.in_err-declarations.field-0.0 the_choice c.args.left c.args.level (rows c.args.lines.now) c.if-left-eq0.false c.in_err-declarations.ensures)
+
+pub choice-returns-in_err-line : goal.choice-returns-in_err-line
+choice-returns-in_err-line t c =
+    let p = err_from_is_err_and c.from_residual-in_err-line.result c.from_residual-in_err-line.ensures.1 in
+    rw (p.1, p.2) (no_line the_choice c.args.left c.args.level (rows c.args.lines.now) (map decl_of c.in_ok-declarations.declarations.items) (rows c.in_ok-declarations.rest.now) c.if-left-eq0.false c.in_ok-declarations.ensures c.in_err-line.field-0.0 c.in_err-line.ensures)
+
 pub choice-returns : goal.choice-returns
-choice-returns t c = rw (next_node_at 65 c.args.left c.args.level the_choice (rows c.args.lines.now) c.if-left-eq0.false) c.choice_inside.ensures
+choice-returns t c =
+    rw (node_is the_choice c.args.left c.args.level (rows c.args.lines.now) (map decl_of c.in_ok-declarations.declarations.items) (rows c.in_ok-declarations.rest.now) c.if-left-eq0.false c.in_ok-declarations.ensures c.in_ok-line.line (choice_head_of c.in_ok-line.head) (rows c.in_ok-line.rest.now) c.in_ok-line.ensures) c.chosen.ensures
 
 pub selection-returns-then-left-eq0 : goal.selection-returns-then-left-eq0
 selection-returns-then-left-eq0 t c = fails_none c.too_deep.result _ (no_node_at 65 c.args.left c.args.level the_option (rows c.args.lines.now) c.if-left-eq0.true)
 
+pub selection-returns-in_err-declarations : goal.selection-returns-in_err-declarations
+selection-returns-in_err-declarations t c =
+    let p = err_from_is_err_and c.from_residual.result c.from_residual.ensures.1 in
+    rw (p.1, p.2) (no_declarations c.in_err-declarations.field-0.0 the_option c.args.left c.args.level (rows c.args.lines.now) c.if-left-eq0.false c.in_err-declarations.ensures)
+
+pub selection-returns-in_err-line : goal.selection-returns-in_err-line
+selection-returns-in_err-line t c =
+    let p = err_from_is_err_and c.from_residual-in_err-line.result c.from_residual-in_err-line.ensures.1 in
+    rw (p.1, p.2) (no_line the_option c.args.left c.args.level (rows c.args.lines.now) (map decl_of c.in_ok-declarations.declarations.items) (rows c.in_ok-declarations.rest.now) c.if-left-eq0.false c.in_ok-declarations.ensures c.in_err-line.field-0.0 c.in_err-line.ensures)
+
+pub selection-returns-in_err-body : goal.selection-returns-in_err-body
+selection-returns-in_err-body t c =
+    let p = err_from_is_err_and c.from_residual-in_err-body.result c.from_residual-in_err-body.ensures.1 in
+    rw (p.1, p.2, node_is the_option c.args.left c.args.level (rows c.args.lines.now) (map decl_of c.in_ok-declarations.declarations.items) (rows c.in_ok-declarations.rest.now) c.if-left-eq0.false c.in_ok-declarations.ensures c.in_ok-line.line (option_head_of c.in_ok-line.head) (rows c.in_ok-line.rest.now) c.in_ok-line.ensures) (fails_below c.in_err-body.field-0.0 _ _ _ c.in_err-body.ensures)
+
 pub selection-returns : goal.selection-returns
-selection-returns t c = rw (next_node_at 65 c.args.left c.args.level the_option (rows c.args.lines.now) c.if-left-eq0.false) c.selection_inside.ensures
+selection-returns t c =
+    rw (node_is the_option c.args.left c.args.level (rows c.args.lines.now) (map decl_of c.in_ok-declarations.declarations.items) (rows c.in_ok-declarations.rest.now) c.if-left-eq0.false c.in_ok-declarations.ensures c.in_ok-line.line (option_head_of c.in_ok-line.head) (rows c.in_ok-line.rest.now) c.in_ok-line.ensures, c.in_ok-body.ensures) (ap (λ (n : Node the_option). Some (n, rows c.in_ok-body.rest.now)) (sym c.selected.ensures))
 
 pub arm-returns-then-left-eq0 : goal.arm-returns-then-left-eq0
 arm-returns-then-left-eq0 t c = fails_none c.too_deep.result _ (no_node_at 65 c.args.left c.args.level the_arm (rows c.args.lines.now) c.if-left-eq0.true)
 
+pub arm-returns-in_err-declarations : goal.arm-returns-in_err-declarations
+arm-returns-in_err-declarations t c =
+    let p = err_from_is_err_and c.from_residual.result c.from_residual.ensures.1 in
+    rw (p.1, p.2) (no_declarations c.in_err-declarations.field-0.0 the_arm c.args.left c.args.level (rows c.args.lines.now) c.if-left-eq0.false c.in_err-declarations.ensures)
+
+pub arm-returns-in_err-line : goal.arm-returns-in_err-line
+arm-returns-in_err-line t c =
+    let p = err_from_is_err_and c.from_residual-in_err-line.result c.from_residual-in_err-line.ensures.1 in
+    rw (p.1, p.2) (no_line the_arm c.args.left c.args.level (rows c.args.lines.now) (map decl_of c.in_ok-declarations.declarations.items) (rows c.in_ok-declarations.rest.now) c.if-left-eq0.false c.in_ok-declarations.ensures c.in_err-line.field-0.0 c.in_err-line.ensures)
+
 pub arm-returns : goal.arm-returns
-arm-returns t c = rw (next_node_at 65 c.args.left c.args.level the_arm (rows c.args.lines.now) c.if-left-eq0.false) c.arm_inside.ensures
+arm-returns t c =
+    rw (node_is the_arm c.args.left c.args.level (rows c.args.lines.now) (map decl_of c.in_ok-declarations.declarations.items) (rows c.in_ok-declarations.rest.now) c.if-left-eq0.false c.in_ok-declarations.ensures c.in_ok-line.line (arm_head_of c.in_ok-line.head) (rows c.in_ok-line.rest.now) c.in_ok-line.ensures) c.armed.ensures
 
 pub variant-returns-then-left-eq0 : goal.variant-returns-then-left-eq0
 variant-returns-then-left-eq0 t c = fails_none c.too_deep.result _ (no_node_at 65 c.args.left c.args.level the_variant (rows c.args.lines.now) c.if-left-eq0.true)
 
+pub variant-returns-in_err-declarations : goal.variant-returns-in_err-declarations
+variant-returns-in_err-declarations t c =
+    let p = err_from_is_err_and c.from_residual.result c.from_residual.ensures.1 in
+    rw (p.1, p.2) (no_declarations c.in_err-declarations.field-0.0 the_variant c.args.left c.args.level (rows c.args.lines.now) c.if-left-eq0.false c.in_err-declarations.ensures)
+
+pub variant-returns-in_err-line : goal.variant-returns-in_err-line
+variant-returns-in_err-line t c =
+    let p = err_from_is_err_and c.from_residual-in_err-line.result c.from_residual-in_err-line.ensures.1 in
+    rw (p.1, p.2) (no_line the_variant c.args.left c.args.level (rows c.args.lines.now) (map decl_of c.in_ok-declarations.declarations.items) (rows c.in_ok-declarations.rest.now) c.if-left-eq0.false c.in_ok-declarations.ensures c.in_err-line.field-0.0 c.in_err-line.ensures)
+
+pub variant-returns-in_err-body : goal.variant-returns-in_err-body
+variant-returns-in_err-body t c =
+    let p = err_from_is_err_and c.from_residual-in_err-body.result c.from_residual-in_err-body.ensures.1 in
+    rw (p.1, p.2, node_is the_variant c.args.left c.args.level (rows c.args.lines.now) (map decl_of c.in_ok-declarations.declarations.items) (rows c.in_ok-declarations.rest.now) c.if-left-eq0.false c.in_ok-declarations.ensures c.in_ok-line.line (variant_head_of c.in_ok-line.head) (rows c.in_ok-line.rest.now) c.in_ok-line.ensures) (fails_below c.in_err-body.field-0.0 _ _ _ c.in_err-body.ensures)
+
 pub variant-returns : goal.variant-returns
-variant-returns t c = rw (next_node_at 65 c.args.left c.args.level the_variant (rows c.args.lines.now) c.if-left-eq0.false) c.variant_inside.ensures
+variant-returns t c =
+    rw (node_is the_variant c.args.left c.args.level (rows c.args.lines.now) (map decl_of c.in_ok-declarations.declarations.items) (rows c.in_ok-declarations.rest.now) c.if-left-eq0.false c.in_ok-declarations.ensures c.in_ok-line.line (variant_head_of c.in_ok-line.head) (rows c.in_ok-line.rest.now) c.in_ok-line.ensures, c.in_ok-body.ensures) (ap (λ (n : Node the_variant). Some (n, rows c.in_ok-body.rest.now)) (sym c.tagged.ensures))
 
 pub processes-returns-in_err-next : goal.processes-returns-in_err-next
 processes-returns-in_err-next t c =
@@ -329,24 +394,6 @@ pub armed-returns-in_ok-guard-in-Some-2 : goal.armed-returns-in_ok-guard-in-Some
 armed-returns-in_ok-guard-in-Some-2 t c =
     subst (λ (h : ArmHead). finished the_arm c.args.level (node_at 65 c.args.left (c.args.level + 1)) (map decl_of c.args.declarations.items) c.args.line h (rows c.args.lines.now) ≡ Some (arm_of (arms.InnerAltFor c.args.declarations c.args.line c.in-Alt.pri c.in-Some.index c.in_ok-guard-in-Some-2.guard), rows c.in_ok-guard-in-Some.rest.now)) (sym (ap arm_head_of (c.in-Alt.is ∙ ap (λ (r : Option (Box Replicator Global)). armHeads.Alt c.in-Alt.pri r) c.in-Some.is))) (rw c.in_ok-guard-in-Some.ensures (ap (λ (n : Node the_arm). Some (n, rows c.in_ok-guard-in-Some.rest.now)) (ap (λ (p : Rattle.occ_tree_grammar.specs.declared.tree.process.Arm.Arm). node {k = the_arm} (declared c.args.declarations) c.args.line (nested_alternation c.in-Alt.pri (Some (replicator_of c.in-Some.index.value))) (single_body (arm_of p))) (sym c.in_ok-guard-in-Some-2.ensures.ok) ∙ sym (arm_alt_for c.args.declarations c.args.line c.in-Alt.pri c.in-Some.index c.in_ok-guard-in-Some-2.guard))))
 
-pub selected-returns-in_err-one-in-Values : goal.selected-returns-in_err-one-in-Values
-selected-returns-in_err-one-in-Values t c =
-    let p = err_from_is_err_and c.from_residual.result c.from_residual.ensures.1 in
-    rw (p.1, p.2) (subst (λ (h : OptionHead). Fails c.in_err-one-in-Values.field-0.0 (finished the_option c.args.level (node_at 65 c.args.left (c.args.level + 1)) (map decl_of c.args.declarations.items) c.args.line h (rows c.args.lines.now))) (sym (ap option_head_of (c.in-Values.is))) (fails_below c.in_err-one-in-Values.field-0.0 _ _ _ c.in_err-one-in-Values.ensures))
-
-pub selected-returns-in_ok-one-in-Values : goal.selected-returns-in_ok-one-in-Values
-selected-returns-in_ok-one-in-Values t c =
-    subst (λ (h : OptionHead). finished the_option c.args.level (node_at 65 c.args.left (c.args.level + 1)) (map decl_of c.args.declarations.items) c.args.line h (rows c.args.lines.now) ≡ Some (selection_of (selections.Values c.args.declarations c.args.line c.in-Values.values c.in_ok-one-in-Values.one), rows c.in_ok-one-in-Values.rest.now)) (sym (ap option_head_of (c.in-Values.is))) (rw c.in_ok-one-in-Values.ensures (ap (λ (n : Node the_option). Some (n, rows c.in_ok-one-in-Values.rest.now)) (sym (selection_values c.args.declarations c.args.line c.in-Values.values c.in_ok-one-in-Values.one))))
-
-pub selected-returns-in_err-otherwise-in-Else : goal.selected-returns-in_err-otherwise-in-Else
-selected-returns-in_err-otherwise-in-Else t c =
-    let p = err_from_is_err_and c.from_residual-in_err-otherwise-in-Else.result c.from_residual-in_err-otherwise-in-Else.ensures.1 in
-    rw (p.1, p.2) (subst (λ (h : OptionHead). Fails c.in_err-otherwise-in-Else.field-0.0 (finished the_option c.args.level (node_at 65 c.args.left (c.args.level + 1)) (map decl_of c.args.declarations.items) c.args.line h (rows c.args.lines.now))) (sym (ap option_head_of (c.in-Else.is))) (fails_below c.in_err-otherwise-in-Else.field-0.0 _ _ _ c.in_err-otherwise-in-Else.ensures))
-
-pub selected-returns-in_ok-otherwise-in-Else : goal.selected-returns-in_ok-otherwise-in-Else
-selected-returns-in_ok-otherwise-in-Else t c =
-    subst (λ (h : OptionHead). finished the_option c.args.level (node_at 65 c.args.left (c.args.level + 1)) (map decl_of c.args.declarations.items) c.args.line h (rows c.args.lines.now) ≡ Some (selection_of (selections.Else c.args.declarations c.args.line c.in_ok-otherwise-in-Else.otherwise), rows c.in_ok-otherwise-in-Else.rest.now)) (sym (ap option_head_of (c.in-Else.is))) (rw c.in_ok-otherwise-in-Else.ensures (ap (λ (n : Node the_option). Some (n, rows c.in_ok-otherwise-in-Else.rest.now)) (sym (selection_else c.args.declarations c.args.line c.in_ok-otherwise-in-Else.otherwise))))
-
 pub declared-returns-in-Names : goal.declared-returns-in-Names
 declared-returns-in-Names t c =
     subst (λ (h : DeclHead). item_with 65 c.args.left c.args.level (node_at 65 c.args.left (c.args.level + 1) the_process) c.args.line h (rows c.args.lines.now) ≡ Some (decl_of (declTrees.Names c.args.line c.in-Names.sizes c.in-Names.sort c.in-Names.names), rows c.args.lines.now)) (sym (ap decl_head_of c.in-Names.is)) (ap (λ (d : Decl). Some (d, rows c.args.lines.now)) (sym (decl_names c.args.line c.in-Names.sizes c.in-Names.sort c.in-Names.names)))
@@ -366,8 +413,3 @@ declared-returns-in_ok-protocol-in-Tags t c =
 pub declared-returns-in_ok-end-in-Proc : goal.declared-returns-in_ok-end-in-Proc
 declared-returns-in_ok-end-in-Proc t c =
     subst (λ (h : DeclHead). item_with 65 c.args.left c.args.level (node_at 65 c.args.left (c.args.level + 1) the_process) c.args.line h (rows c.args.lines.now) ≡ Some (decl_of (declTrees.Item (itemTrees.Proc c.args.line c.in-Proc.name c.in-Proc.formals c.in_ok-body-in-Proc.body c.in_ok-end-in-Proc.end)), rows c.in_ok-end-in-Proc.rest.now)) (sym (ap decl_head_of c.in-Proc.is)) (rw (c.in_ok-body-in-Proc.ensures, c.in_ok-end-in-Proc.ensures) (ap (λ (d : Decl). Some (d, rows c.in_ok-end-in-Proc.rest.now)) (ap item (sym (item_proc c.args.line c.in-Proc.name c.in-Proc.formals c.in_ok-body-in-Proc.body c.in_ok-end-in-Proc.end)) ∙ sym (decl_item (itemTrees.Proc c.args.line c.in-Proc.name c.in-Proc.formals c.in_ok-body-in-Proc.body c.in_ok-end-in-Proc.end)))))
-
-pub variant_inside-returns : goal.variant_inside-returns
-unfolding node_with
-variant_inside-returns t c =
-    rw (c.in_ok-declarations.ensures, c.in_ok-first.ensures, ← c.deref.ensures.value, c.in_ok-head.ensures, c.in_ok-one.ensures) (ap (λ (n : Node the_variant). Some (n, rows c.in_ok-one.rest.now)) (sym (variant_tagged c.in_ok-declarations.declarations c.in_ok-first.first.now.number c.in_ok-head.head.tag c.in_ok-head.head.targets c.in_ok-one.one)))

@@ -43,9 +43,6 @@ decreases-statement l = 5 * l.left + 2
 abbrev pub decreases-chosen : goal.decreases-chosen
 decreases-chosen l = 5 * l.left + 2
 
-abbrev pub decreases-selected : goal.decreases-selected
-decreases-selected l = 5 * l.left + 2
-
 abbrev pub decreases-armed : goal.decreases-armed
 decreases-armed l = 5 * l.left + 2
 
@@ -57,21 +54,6 @@ decreases-declaration l = 5 * l.left + 2
 
 abbrev pub decreases-declarations : goal.decreases-declarations
 decreases-declarations l = 5 * l.left + 3
-
-abbrev pub decreases-process_inside : goal.decreases-process_inside
-decreases-process_inside l = 5 * l.left + 4
-
-abbrev pub decreases-choice_inside : goal.decreases-choice_inside
-decreases-choice_inside l = 5 * l.left + 4
-
-abbrev pub decreases-selection_inside : goal.decreases-selection_inside
-decreases-selection_inside l = 5 * l.left + 4
-
-abbrev pub decreases-arm_inside : goal.decreases-arm_inside
-decreases-arm_inside l = 5 * l.left + 4
-
-abbrev pub decreases-variant_inside : goal.decreases-variant_inside
-decreases-variant_inside l = 5 * l.left + 4
 
 abbrev pub invariant-processes-loop : goal.invariant-processes-loop
 invariant-processes-loop l = SoFar Row (Node process) (at_level l.level) (node_at 65 l.left l.level process) (map process_of l.all.items) (length l.lines) l.counter (rows l.rest) (as_many (at_level l.level) (node_at 65 l.left l.level process) (rows l.lines))

@@ -1,0 +1,130 @@
+//! The lines at the head of processes, of their parts and of declarations, and the parts that have
+//! one process under them.
+
+ghost use Rattle.std.specs.Prelude.{◌≡◌, map};
+ghost use Rattle.occ_text.specs.Words.{rows};
+ghost use Rattle.occ_tree_grammar.specs.Expressions.Reading.{Gives};
+ghost use Rattle.occ_tree_grammar.specs.Lines.HeadViews.{process_head_of, choice_head_of, option_head_of, arm_head_of, variant_head_of, decl_head_of};
+ghost use Rattle.occ_tree_grammar.specs.Processes.Trees.{decls, node, single_body, process as the_process, choice as the_choice, option as the_option, arm as the_arm, variant as the_variant};
+ghost use Rattle.occ_tree_grammar.specs.Processes.Views.{decl_of, process_of, selection_of, variant_of};
+ghost use Rattle.occ_tree_processes.specs.Heads.{line_with, declaration_line_with};
+
+use crate::processes::line::line_of;
+use occ_text::Line;
+use occ_tree_grammar::ParseFault;
+use occ_tree_grammar::lines::head::{
+    ArmHead, ChoiceHead, DeclHead, OptionHead, ProcessHead, VariantHead,
+};
+use occ_tree_grammar::tree::process::{Decl, Process, Selection, Variant};
+use occ_tree_lines::lines::read_decl::decl_head;
+use occ_tree_lines::lines::read_head::{
+    arm_head, choice_head, option_head, process_head, variant_head,
+};
+use std::alloc::Global;
+
+/// The line of a process that must stand at this level: its number and what it says.
+pub fn process_line(
+    alloc: Global,
+    last: u32,
+    level: u32,
+    lines: &[Line],
+) -> Result<(u32, ProcessHead, &[Line]), ParseFault>
+    ensures { Gives (λ x. ((x.0, process_head_of x.1), rows x.2.now)) result (line_with the_process level (rows lines.now)) }
+{
+    let (first, rest) = line_of(last, level, lines)?;
+    let line = first.number;
+    let head = process_head(alloc, line, &first.words)?;
+    Ok((line, head, rest))
+}
+
+/// The line of a choice that must stand at this level: its number and what it says.
+pub fn choice_line(
+    alloc: Global,
+    last: u32,
+    level: u32,
+    lines: &[Line],
+) -> Result<(u32, ChoiceHead, &[Line]), ParseFault>
+    ensures { Gives (λ x. ((x.0, choice_head_of x.1), rows x.2.now)) result (line_with the_choice level (rows lines.now)) }
+{
+    let (first, rest) = line_of(last, level, lines)?;
+    let line = first.number;
+    let head = choice_head(alloc, line, &first.words)?;
+    Ok((line, head, rest))
+}
+
+/// The line of an option that must stand at this level: its number and what it says.
+pub fn selection_line(
+    alloc: Global,
+    last: u32,
+    level: u32,
+    lines: &[Line],
+) -> Result<(u32, OptionHead, &[Line]), ParseFault>
+    ensures { Gives (λ x. ((x.0, option_head_of x.1), rows x.2.now)) result (line_with the_option level (rows lines.now)) }
+{
+    let (first, rest) = line_of(last, level, lines)?;
+    let line = first.number;
+    let head = option_head(alloc, line, &first.words)?;
+    Ok((line, head, rest))
+}
+
+/// The line of an arm that must stand at this level: its number and what it says.
+pub fn arm_line(
+    alloc: Global,
+    last: u32,
+    level: u32,
+    lines: &[Line],
+) -> Result<(u32, ArmHead, &[Line]), ParseFault>
+    ensures { Gives (λ x. ((x.0, arm_head_of x.1), rows x.2.now)) result (line_with the_arm level (rows lines.now)) }
+{
+    let (first, rest) = line_of(last, level, lines)?;
+    let line = first.number;
+    let head = arm_head(alloc, line, &first.words)?;
+    Ok((line, head, rest))
+}
+
+/// The line of a variant that must stand at this level: its number and what it says.
+pub fn variant_line(
+    alloc: Global,
+    last: u32,
+    level: u32,
+    lines: &[Line],
+) -> Result<(u32, VariantHead, &[Line]), ParseFault>
+    ensures { Gives (λ x. ((x.0, variant_head_of x.1), rows x.2.now)) result (line_with the_variant level (rows lines.now)) }
+{
+    let (first, rest) = line_of(last, level, lines)?;
+    let line = first.number;
+    let head = variant_head(alloc, line, &first.words)?;
+    Ok((line, head, rest))
+}
+
+/// The line of a declaration that must stand at this level: its number and what it says.
+pub fn declaration_line(
+    alloc: Global,
+    last: u32,
+    level: u32,
+    lines: &[Line],
+) -> Result<(u32, DeclHead, &[Line]), ParseFault>
+    ensures { Gives (λ x. ((x.0, decl_head_of x.1), rows x.2.now)) result (declaration_line_with level (rows lines.now)) }
+{
+    let (first, rest) = line_of(last, level, lines)?;
+    let line = first.number;
+    let head = decl_head(alloc, line, &first.words)?;
+    Ok((line, head, rest))
+}
+
+/// The option with this line and the process under it.
+pub fn selected(declarations: Vec<Decl>, line: u32, head: OptionHead, body: Process) -> Selection
+    ensures { selection_of result ≡ node {k = the_option} (decls (map decl_of declarations.items)) line (option_head_of head) (single_body (process_of body)) }
+{
+    match head {
+        OptionHead::Values(values) => Selection::Values(declarations, line, values, body),
+        OptionHead::Else => Selection::Else(declarations, line, body),
+    }
+}
+
+/// The variant with this line and the process under it.
+pub fn tagged(declarations: Vec<Decl>, line: u32, head: VariantHead, body: Process) -> Variant
+    ensures { variant_of result ≡ node {k = the_variant} (decls (map decl_of declarations.items)) line (variant_head_of head) (single_body (process_of body)) }
+{
+    Variant::Tagged(declarations, line, head.tag, head.targets, body)
+}
