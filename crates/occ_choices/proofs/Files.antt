@@ -18,6 +18,15 @@ starts text = record { lines = []; cut = refl; read = tt; counted = refl }
 pub read_whole : (text : List ℕ) (cs : List Choice) (n : ℕ) → ReadTo text [] cs n → ChoiceLines text cs
 read_whole text cs n r = subst (λ ls. AreLines ls cs) (sym (r.cut ∙ append-nil r.lines)) r.read
 
+as_many : (ls : List (List ℕ)) (cs : List Choice) → AreLines ls cs → length ls ≡ length cs
+as_many [] [] h = refl
+as_many [] (c ∷ cs) h = absurd h
+as_many (l ∷ ls) [] h = absurd h
+as_many (l ∷ ls) (c ∷ cs) h = ap suc (as_many ls cs h.1)
+
+pub read_many : (text rest : List ℕ) (cs : List Choice) (n : ℕ) → ReadTo text rest cs n → length cs ≡ n
+read_many text rest cs n r = sym (as_many r.lines cs r.read) ∙ r.counted
+
 pushed : (ls : List (List ℕ)) (cs : List Choice) (line : List ℕ) (c : Choice) → AreLines ls cs → IsLine line c → AreLines (ls ++ line ∷ []) (cs ++ c ∷ [])
 pushed [] [] line c h k = (k, tt)
 pushed [] (x ∷ cs) line c h k = absurd h

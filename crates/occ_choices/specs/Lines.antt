@@ -53,6 +53,9 @@ ChoiceLines text cs = AreLines (lines_of text) cs
 abbrev pub most_choices : ℕ
 most_choices = 10000000
 
+abbrev pub Limit : Type 0
+Limit = most_choices ≡ 10000000
+
 -- the line with that number, from 1, is none
 pub record IsBad (text : List ℕ) (number : ℕ) : Type 0 where
   pub line : List ℕ

@@ -11,7 +11,7 @@ use Rattle.occ_term.specs.declared.usage.noted.Kind.{Kind}
 use Rattle.occ_term.specs.declared.usage.noted.Kind.TheVariants.{Read, Write, Input, Output}
 use Rattle.occ_code.proofs.Emitting.{drop_all}
 use Rattle.occ_code.specs.Alike.{AreAbove, IsRising, Lists}
-use Rattle.occ_code.specs.Sequential.Cells.{is_counted, counted, covers, reach, AreEnds, AreReached}
+use Rattle.occ_code.specs.Sequential.Cells.{is_counted, counted, covers, end_of, furthest, reach, AreEnds, AreReached}
 
 -- ---- tests of numbers
 
@@ -195,6 +195,12 @@ covers_next us i k one d writes_only es count e lt is h =
     let next : k ≡ suc i = omega (arith, e) in
     let row : drop i us ≡ one ∷ drop k us = drop-cons us i d lt ∙ ap (λ x. x ∷ drop (suc i) us) (sym is) ∙ ap (λ n. one ∷ drop n us) (sym next) in
     subst (λ l. AreEnds es count (covers writes_only l)) (sym row) h
+
+pub furthest_next : (us : List Use) (i k : ℕ) (one d : Use) (writes_only : Bool) {end more : ℕ} → k ≡ i + 1 → i < length us → one ≡ get_or us i d → end ≡ furthest writes_only (drop k us) → more ≡ max (end_of writes_only one) end → more ≡ furthest writes_only (drop i us)
+furthest_next us i k one d writes_only e lt is h m =
+    let next : k ≡ suc i = omega (arith, e) in
+    let row : drop i us ≡ one ∷ drop k us = drop-cons us i d lt ∙ ap (λ x. x ∷ drop (suc i) us) (sym is) ∙ ap (λ n. one ∷ drop n us) (sym next) in
+    m ∙ ap (max (end_of writes_only one)) h ∙ sym (ap (furthest writes_only) row)
 
 pub no_uses : (us : List Use) (i : ℕ) (writes_only : Bool) (es : List ℕ) (count : ℕ) → length us ≤ i → AreEnds es count (covers writes_only []) → AreEnds es count (covers writes_only (drop i us))
 no_uses us i writes_only es count h ends = subst (λ l. AreEnds es count (covers writes_only l)) (sym (drop_all us i h)) ends

@@ -1,6 +1,6 @@
 -- The cells of a process, from the uses of its term.
 -- Manual: nothing; this is (own).
-use Rattle.std.specs.Prelude.{Bool, List, [], false, length, max, nat_lt, not, suc, true, zero, ℕ, ◌&&◌, ◌+◌, ◌≤◌, ◌||◌, ◌∷◌, ◌≡◌}
+use Rattle.std.specs.Prelude.{Bool, List, [], false, if◌then◌else◌, length, max, nat_lt, not, suc, true, zero, ℕ, ◌&&◌, ◌+◌, ◌≤◌, ◌||◌, ◌∷◌, ◌≡◌}
 use Rattle.occ_term.specs.Uses.{Numbers, Uses}
 use Rattle.occ_term.specs.Noted.{between}
 use Rattle.occ_term.specs.Frames.{is_held}
@@ -23,6 +23,15 @@ counted false u = used_by u
 abbrev pub covers : Bool → List Use → Numbers
 covers writes_only [] c = false
 covers writes_only (u ∷ us) c = (is_counted writes_only u.kind && between u.first u.end c) || covers writes_only us c
+
+-- the end of a use that is counted
+abbrev pub end_of : Bool → Use → ℕ
+end_of writes_only u = if is_counted writes_only u.kind then u.end else 0
+
+-- the furthest of them
+abbrev pub furthest : Bool → List Use → ℕ
+furthest writes_only [] = 0
+furthest writes_only (u ∷ us) = max (end_of writes_only u) (furthest writes_only us)
 
 -- the furthest of so many ends
 abbrev pub reach : List ℕ → ℕ → ℕ

@@ -3,7 +3,7 @@ ghost use Rattle.std.specs.Prelude.{◌≡◌, ◌∷◌, [], ◌++◌, ◌<◌,
 ghost use Rattle.occ_term.specs.Noted.{uses_in};
 ghost use Rattle.occ_term.specs.declared.usage.noted.Use.{Use};
 ghost use Rattle.occ_code.specs.Alike.{Lists};
-ghost use Rattle.occ_code.specs.Sequential.Cells.{AreEnds, AreReached, counted, covers, is_counted as is_counted_use};
+ghost use Rattle.occ_code.specs.Sequential.Cells.{AreEnds, AreReached, counted, covers, end_of, furthest, is_counted as is_counted_use};
 
 use occ_term::{Kind, Use};
 use std::alloc::{AllocError, Global};
@@ -40,15 +40,28 @@ fn is_counted(kind: Kind, writes_only: bool) -> bool
     }
 }
 
-/// The furthest end of a use. It says how long a table has to be, and a shorter one is refused.
-fn furthest_end(uses: &[Use], writes_only: bool) -> usize {
-    let mut furthest = 0;
-    for one in uses {
-        if is_counted(one.kind, writes_only) && furthest < one.end {
-            furthest = one.end;
-        }
+/// The furthest end of a use that is counted. It says how long a table has to be.
+fn furthest_end(uses: &[Use], writes_only: bool) -> usize
+    ensures { result ≡ furthest writes_only uses.now }
+{
+    let mut end = 0;
+    let mut left = uses.len();
+    while left > 0 {
+        left -= 1;
+        end = further(end, uses[left], writes_only);
     }
-    furthest as usize
+    end as usize
+}
+
+/// The furthest of this end and that of a use, if it is counted.
+fn further(end: u64, one: Use, writes_only: bool) -> u64
+    ensures { result ≡ max (end_of writes_only one) end }
+{
+    if is_counted(one.kind, writes_only) && end < one.end {
+        one.end
+    } else {
+        end
+    }
 }
 
 /// For each number the furthest end of a use that begins there.

@@ -1,7 +1,7 @@
-use Rattle.std.proofs.Common.{◌≡◌, ◌∙◌, ◌<◌, ◌+◌, ap, sym, subst, length, arith}
+use Rattle.std.proofs.Common.{◌≡◌, ◌∙◌, ◌<◌, ◌≤◌, ◌+◌, ap, sym, subst, length, arith}
 use Rattle.std.proofs.lemmas.Bool.Decides.{nat_tests}
 use Rattle.occ_choices.specs.Reading.{ReadTo}
-use Rattle.occ_choices.proofs.Files.{bad_there, read_on, read_whole, starts, too_many}
+use Rattle.occ_choices.proofs.Files.{bad_there, read_many, read_on, read_whole, starts, too_many}
 use Rattle.occ_choices.proofs.read.read_choices.Goals as goal
 
 pub loop-number-init : goal.loop-number-init
@@ -22,4 +22,14 @@ returns-else-is_empty-2-clause-refused c =
     let is_not = c.if-is_empty-2.false in
     let some : 0 < length c.loop-number.rest.now = grind (arith, nat_tests) in
     let many = too_many c.args.text.now c.loop-number.rest.now c.loop-number.choices.items c.loop-number.number c.loop-number.invariant some in
+    omega (arith, many, c.loop-number-test.false)
+
+pub returns-then-is_empty-clause-few : goal.returns-then-is_empty-clause-few
+returns-then-is_empty-clause-few c =
+    let many = read_many c.args.text.now c.loop-number.rest.now c.loop-number.choices.items c.loop-number.number c.loop-number.invariant in
+    omega (arith, many, c.loop-number-test.true)
+
+pub returns-then-is_empty-2-clause-few : goal.returns-then-is_empty-2-clause-few
+returns-then-is_empty-2-clause-few c =
+    let many = read_many c.args.text.now c.loop-number.rest.now c.loop-number.choices.items c.loop-number.number c.loop-number.invariant in
     omega (arith, many, c.loop-number-test.false)

@@ -35,3 +35,6 @@ first_named-loop-e-preserved t c =
 pub first_named-returns : goal.first_named-returns
 first_named-returns t c =
     walked_at c.as_slice-e-items.result.now c.loop-e.e-index c.args.place.now.line c.loop-e.first (at c.args.frame.now) (first_named (place_of c.args.place.now) (at c.args.frame.now)) c.loop-e.sizes.now c.loop-e-test.false c.loop-e.invariant
+
+pub evaluate-returns-in_err-a-in-Binary : goal.evaluate-returns-in_err-a-in-Binary
+evaluate-returns-in_err-a-in-Binary t c = search (rules, the_lemmas)
