@@ -1,5 +1,5 @@
 -- A run that is played again has the same answer.
-use Rattle.std.proofs.Common.{◌≡◌, ◌∙◌, ◌<◌, ◌≤◌, ◌^◌, ◌+◌, ◌×◌, ◌⊎◌, inl, inr, ℕ, Bool, List, [], ◌∷◌, ◌++◌, Option, Some, None, refl, sym, ap, subst, length, map, arith, length-append, append-nil}
+use Rattle.std.proofs.Common.{◌≡◌, ◌∙◌, ◌<◌, ◌≤◌, ◌^◌, ◌+◌, ℕ, Bool, List, [], ◌∷◌, ◌++◌, Option, Some, None, refl, sym, ap, subst, length, map, arith, length-append, append-nil}
 use Rattle.occ_text.specs.Words.{Row}
 use Rattle.occ_text.proofs.LineLaws.{one_reading}
 use Rattle.occ_tree_grammar.specs.Processes.Trees.{Item}
@@ -31,14 +31,13 @@ pub record MeansSame (u v : Unfolding) : Type 0 where
   pub term : meaning u ≡ meaning v
   pub channels : u.channels ≡ v.channels
 
+both_parts : {t s : Term} {n m : Numbers} → ◌≡◌ {A = Option (Term × Numbers)} (Some (t, n)) (Some (s, m)) → (t ≡ s) × (n ≡ m)
+both_parts {t = t} {s = s} {n = n} {m = m} e = let q : ◌≡◌ {A = Term × Numbers} (t, n) (s, m) = cc in (ap (λ z. z.0) q, ap (λ z. z.1) q)
+
 one_unfolding : (items : List Item) (u v : Unfolding) → UnfoldsTo items u → UnfoldsTo items v → MeansSame u v
-one_unfolding items u v x y = by (sym (program_complete x.1) ∙ program_complete y.1)
-  where
-    by : Some (meaning u, x.0) ≡ Some (meaning v, y.0) → MeansSame u v
-    by e =
-        let term : meaning u ≡ meaning v = cc in
-        let numbers : x.0 ≡ y.0 = cc in
-        record { term = term; channels = sym x.3 ∙ ap (λ n. n.channels) numbers ∙ y.3 }
+one_unfolding items u v x y =
+    let both = both_parts (sym (program_complete x.1) ∙ program_complete y.1) in
+    record { term = both.0; channels = sym x.3 ∙ ap (λ n. n.channels) both.1 ∙ y.3 }
 
 one_meaning : (source : List ℕ) (u v : Unfolding) → Unfolds source u → Unfolds source v → MeansSame u v
 one_meaning source u v x y =

@@ -6,10 +6,10 @@ use Rattle.occ_play.specs.declared.playing.Played.{Played}
 use Rattle.occ_play.specs.Playing.{IsAnswer}
 
 -- one ending, one list of used choices, one text
-pub record IsSameAnswer (a b : Played) (bytes others : List ℕ) : Type 0 where
+pub record IsSameAnswer (a b : Played) (text other : List ℕ) : Type 0 where
   pub ending : a.ending ≡ b.ending
   pub choices : a.choices.items ≡ b.choices.items
-  pub bytes : bytes ≡ others
+  pub bytes : text ≡ other
 
 -- Two answers of one source, keyboard, word for the trace and quantum are the same where both are by one list of choices, and where
 -- the one is by the choices that the other used.
