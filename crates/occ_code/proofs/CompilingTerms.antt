@@ -99,7 +99,6 @@ pub compiled_as : (u : Unfolding) (quantum : ℕ) (bodies : List Body) (channels
 compiled_as u quantum bodies channels well q between h small same =
     record {
       channels = same;
-      emitted = h;
       bodies = all_do (declared u) 0 quantum (processes_of (meaning u)) bodies between.0 well.numbers (well.typed, q, within (declared u) (meaning u) well.typed q) h;
       quanta = of_quantum (processes_of (meaning u)) quantum bodies h;
       small = small;

@@ -12,7 +12,7 @@ use Rattle.occ_check_meaning.specs.Numbers.{Numbers}
 use Rattle.occ_check_meaning.specs.ProgramUnfolding.{UnfoldsTo}
 use Rattle.occ_check_meaning.specs.Programs.{program_unfolded}
 use Rattle.occ_check_meaning.proofs.Complete.{program_complete}
-use Rattle.occ_code.specs.Sequential.Compiled.{Program, IsCompiledFrom}
+use Rattle.occ_code.specs.Sequential.Compiled.{Program}
 use Rattle.occ_code.proofs.OneCode.{one_code}
 use Rattle.occ_net_replay.specs.declared.choice.Choice.{Choice}
 use Rattle.occ_net_replay.specs.declared.ending.Ending.TheVariants as E
@@ -57,7 +57,7 @@ module _ (quantum : ℕ) (source keyboard : List ℕ) (trace : Bool) (bytes_are 
 
     one_net : (cs : List Choice) (m n : Net) → length cs < 2 ^ 64 → Replays x.compiled keyboard cs m → Replays y.compiled keyboard cs n → m ≡ n
     one_net cs m n small r s =
-        one_replay x.program x.compiled quantum keyboard cs m n x.unfolds.well_formed x.lawful x.from bytes_are small r (subst (λ p. Replays p keyboard cs n) (sym same_code) s)
+        one_replay x.program x.compiled quantum keyboard cs m n x.unfolds.well_formed x.lawful x.from.does bytes_are small r (subst (λ p. Replays p keyboard cs n) (sym same_code) s)
 
     pub by_used : length a.choices.items < 2 ^ 64 → a.choices.items ≡ b.choices.items → IsSameAnswer a b bytes text
     by_used small used =

@@ -19,7 +19,7 @@ use Rattle.occ_term.specs.Runs.{communications, messages_on, shown, shown_by, En
 use Rattle.occ_term.specs.TermTyping.{Declared}
 use Rattle.occ_term.specs.Unfolding.{Unfolding, IsWellFormed, declared, meaning, Lawful}
 use Rattle.occ_code.specs.Alike.{FitsProtocol}
-use Rattle.occ_code.specs.Sequential.Compiled.{Program, IsCompiledFrom, AllDo, CodeRefuses}
+use Rattle.occ_code.specs.Sequential.Compiled.{Program, IsCodeOf, IsCompiledFrom, AllDo, CodeRefuses}
 use Rattle.occ_code.specs.Sequential.Machine.{Body}
 use Rattle.occ_code.specs.declared.compiler.code.CodeFault.{CodeFault}
 use Rattle.occ_code.specs.declared.compiler.code.CodeFault.TheVariants as code
@@ -96,12 +96,12 @@ outputs_are_bytes u quantum p keyboard list o w lawful from bytes out small =
     (bytes_on (declared u).protocols 1 first.0 o.trace.items (fits 1), bytes_on (declared u).protocols 2 first.1 o.trace.items (fits 2))
 
 pub headline : (quantum : ℕ) (source keyboard : List ℕ) (list : List Choice) (trace : Bool) (u : Unfolding) (p : Program) (channels : List Channel) (o : Outcome) (played : Played) (bytes : List ℕ)
-    → Unfolds source u → Lawful u → IsCompiledFrom u quantum p → AreBytes keyboard → channels ≡ p.channels → IsOutcome p keyboard list o → length o.choices.items < 2 ^ 64
+    → Unfolds source u → Lawful u → IsCodeOf u quantum p → AreBytes keyboard → channels ≡ p.channels → IsOutcome p keyboard list o → length o.choices.items < 2 ^ 64
     → played.ending ≡ o.ending → played.choices ≡ o.choices
     → bytes ≡ answer_text (shown_by (names_of channels) (map communication_of o.trace.items)) o.ending trace
     → IsAnswer quantum source keyboard list trace played bytes
 headline quantum source keyboard list trace u p channels o played bytes x lawful from keys chan out small same_end same_choices is =
-    let f = followed u quantum p keyboard list o x.well_formed lawful from keys out small in
+    let f = followed u quantum p keyboard list o x.well_formed lawful from.does keys out small in
     let ends : or_limit (ending_of out.net) ≡ played.ending = sym out.ending ∙ sym same_end in
     let choices : o.choices.items ≡ played.choices.items = ap (λ v. v.items) (sym same_choices) in
     let shows : map communication_of o.trace.items ≡ communications f.events = sym out.trace ∙ sym f.communicates in
@@ -114,7 +114,7 @@ headline quantum source keyboard list trace u p channels o played bytes x lawful
       run = f.run;
       ends = subst (λ e. EndsBy HaltMode f.system (ending_as e)) ends f.ends;
       is =
-          is ∙ ap (λ cs. answer_text (shown_by (names_of cs) (map communication_of o.trace.items)) o.ending trace) (chan ∙ from.channels)
+          is ∙ ap (λ cs. answer_text (shown_by (names_of cs) (map communication_of o.trace.items)) o.ending trace) (chan ∙ from.does.channels)
           ∙ ap (λ xs. answer_text (shown_by (names_of u.channels) xs) o.ending trace) shows
           ∙ ap (λ e. answer_text (shown (names_of u.channels) f.events) e trace) (sym same_end);
       used = subst (λ cs. Begins cs list) choices out.used;

@@ -18,7 +18,7 @@ use Rattle.occ_term.specs.Unfolding.{Unfolding, declared, meaning, IsWellFormed,
 use Rattle.occ_term.specs.System.{System, start, HaltMode}
 use Rattle.occ_term.specs.Runs.{Event, Run, communications, shown, EndsBy}
 use Rattle.occ_code.specs.Sequential.Emitted.{has_no_alt}
-use Rattle.occ_code.specs.Sequential.Compiled.{Program, IsCompiledFrom, most_instructions}
+use Rattle.occ_code.specs.Sequential.Compiled.{Program, IsCodeOf, most_instructions}
 use Rattle.occ_check_meaning.specs.ProgramUnfolding.{UnfoldsTo}
 use Rattle.occ_check.specs.declared.fault.CheckFault.{CheckFault}
 use Rattle.occ_check.specs.CheckRefuses.{CheckRefuses}
@@ -57,7 +57,7 @@ pub record Unfolds (source : List ℕ) (u : Unfolding) : Type 0 where
 -- There is an unfolding of the text that keeps the usage rules, and a run of its system, with one turn of this quantum for
 -- each used choice by the process that the choice selects, whose answer the bytes are, with that run's ending. The used
 -- choices are a beginning of the list, and all of it where the run goes on. Which process a choice selects is what the
--- replay of the used choices says, over code of the program for that quantum: it has the run's turns, communications and
+-- replay of the used choices says, over the program's code for that quantum: it has the run's turns, communications and
 -- ending. On each channel the messages output and those input are, in order, the communicated ones, each of the channel's
 -- protocol.
 pub record IsAnswer (quantum : ℕ) (source keyboard : List ℕ) (list : List Choice) (trace : Bool) (played : Played) (bytes : List ℕ) : Type 0 where
@@ -72,7 +72,7 @@ pub record IsAnswer (quantum : ℕ) (source keyboard : List ℕ) (list : List Ch
   pub used : Begins played.choices.items list
   pub whole : played.ending ≡ E.Limit → played.choices.items ≡ list
   pub compiled : Program
-  pub from : IsCompiledFrom program quantum compiled
+  pub from : IsCodeOf program quantum compiled
   pub net : Net
   pub replays : Replays compiled keyboard played.choices.items net
   pub turns : map process_in events ≡ net.turns

@@ -52,14 +52,18 @@ AreBodiesOf (p ∷ ps) quantum (b ∷ bs) = IsBodyOf p.term quantum b × AreBodi
 -- compiled from this source, for turns that take so many stops of loops at most, within the limit of instructions
 pub record IsCompiledFrom (u : Unfolding) (quantum : ℕ) (p : Program) : Type 0 where
   pub channels : p.channels ≡ u.channels
-  pub emitted : AreBodiesOf (processes_of (meaning u)) quantum p.bodies
   pub bodies : AllDo (declared u) 0 p.bodies (processes_of (meaning u))
   pub quanta : All (λ b. b.quantum ≡ quantum) p.bodies
   pub small : instructions_in p.bodies ≤ most_instructions
 
+-- the code of this source: it does what the source does, and each body is what the code of its term is
+pub record IsCodeOf (u : Unfolding) (quantum : ℕ) (p : Program) : Type 0 where
+  pub does : IsCompiledFrom u quantum p
+  pub emitted : AreBodiesOf (processes_of (meaning u)) quantum p.bodies
+
 -- what means the same on the same channels has one code for each quantum
 abbrev pub OneCode : Type 0
-OneCode = (u v : Unfolding) (quantum : ℕ) (p q : Program) → meaning u ≡ meaning v → u.channels ≡ v.channels → IsCompiledFrom u quantum p → IsCompiledFrom v quantum q → p ≡ q
+OneCode = (u v : Unfolding) (quantum : ℕ) (p q : Program) → meaning u ≡ meaning v → u.channels ≡ v.channels → IsCodeOf u quantum p → IsCodeOf v quantum q → p ≡ q
 
 -- compiled from some source that is well-formed and keeps the usage rules
 pub record IsCompiled (p : Program) : Type 0 where

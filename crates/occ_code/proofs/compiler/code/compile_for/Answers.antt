@@ -22,7 +22,9 @@ invariant_of-result c =
     record { source = c.args.checked.now; well_formed = subst (λ u. IsWellFormed u) c.unfolded-unfolded.ensures c.well_formed-2.ensures; lawful = c.lawful.ensures; quantum = c.args.quantum; compiled = from c }
 
 pub returns-clause-compiled : goal.returns-clause-compiled
-returns-clause-compiled c = from c
+returns-clause-compiled c =
+    let same = c.term.ensures ∙ ap (λ u. u.term) c.unfolded-unfolded.ensures in
+    record { does = from c; emitted = subst (λ t. AreBodiesOf (processes_of (term_of t)) c.args.quantum (map arc_value c.in-Ok.bodies.items)) same c.in-Ok.ensures.bodies }
 
 pub returns-in-Err-clause-refused : goal.returns-in-Err-clause-refused
 returns-in-Err-clause-refused c =
