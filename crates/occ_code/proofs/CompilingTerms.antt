@@ -87,21 +87,22 @@ module _ (d : Declared) where
   all_do n quantum (p ∷ ps) [] some m h k = absurd k
   all_do n quantum (p ∷ ps) (b ∷ bs) some m h k = (m.0, body_does p.term quantum b h.0 h.1 some k.0, all_do (n + 1) quantum ps bs some m.1 h.2 k.1)
 
-pub compiled_as : (u : Unfolding) (quantum : ℕ) (bodies : List Body) (channels : List Channel) → IsWellFormed u → IsTrue (has_no_alt (meaning u)) → IsQuantum quantum → AreBodiesOf (processes_of (meaning u)) quantum bodies
-    → instructions_in bodies ≤ most_instructions → channels ≡ u.channels → IsCompiledFrom u (record { bodies = bodies; channels = channels })
-compiled_as u quantum bodies channels well q between h small same =
-    record {
-      channels = same;
-      bodies = all_do (declared u) 0 quantum (processes_of (meaning u)) bodies between.0 well.numbers (well.typed, q, within (declared u) (meaning u) well.typed q) h;
-      small = small;
-    }
-
-pub of_quantum : (ps : List Numbered) (quantum : ℕ) (bs : List Body) → AreBodiesOf ps quantum bs → All (λ b. b.quantum ≡ quantum) bs
+of_quantum : (ps : List Numbered) (quantum : ℕ) (bs : List Body) → AreBodiesOf ps quantum bs → All (λ b. b.quantum ≡ quantum) bs
 of_quantum [] quantum [] h k d within = absurd (omega (arith, within))
 of_quantum [] quantum (b ∷ bs) h k d within = absurd h
 of_quantum (p ∷ ps) quantum [] h k d within = absurd h
 of_quantum (p ∷ ps) quantum (b ∷ bs) h zero d within = ap (λ x. x.quantum) h.0.is
 of_quantum (p ∷ ps) quantum (b ∷ bs) h (suc k) d within = of_quantum ps quantum bs h.1 k d (omega (arith, within))
+
+pub compiled_as : (u : Unfolding) (quantum : ℕ) (bodies : List Body) (channels : List Channel) → IsWellFormed u → IsTrue (has_no_alt (meaning u)) → IsQuantum quantum → AreBodiesOf (processes_of (meaning u)) quantum bodies
+    → instructions_in bodies ≤ most_instructions → channels ≡ u.channels → IsCompiledFrom u quantum (record { bodies = bodies; channels = channels })
+compiled_as u quantum bodies channels well q between h small same =
+    record {
+      channels = same;
+      bodies = all_do (declared u) 0 quantum (processes_of (meaning u)) bodies between.0 well.numbers (well.typed, q, within (declared u) (meaning u) well.typed q) h;
+      quanta = of_quantum (processes_of (meaning u)) quantum bodies h;
+      small = small;
+    }
 
 -- ---- how many instructions there are
 

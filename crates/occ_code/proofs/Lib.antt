@@ -18,3 +18,4 @@ mod EmittingTerms
 mod CellRows
 mod PlacedInstrs
 mod CompilingTerms
+pub mod OneCode

@@ -1,6 +1,7 @@
 //! Laws of the code of single processes. Each function's contract is the law; its body does nothing.
 
 ghost use Rattle.occ_code.specs.Sequential.Alike.{BodiesDo};
+ghost use Rattle.occ_code.specs.Sequential.Compiled.{OneCode};
 ghost use Rattle.occ_code.specs.Sequential.Emitted.{BodiesAreSmall, CompiledDo, ProgramsAreSmall};
 ghost use Rattle.occ_code.specs.Sequential.Examples.{CountsAsCompiled, TwiceAsCompiled, TwiceTwoAsCompiled};
 ghost use Rattle.occ_code.specs.Sequential.Laws.{CountersAreApart, ExpressionsRun, IndexesAreKept, ItemsRun, PlacesDo, TargetsRun};
@@ -68,4 +69,9 @@ pub fn twice_as_compiled()
 /// So is one with a PAR in it.
 pub fn twice_two_as_compiled()
     ensures { TwiceTwoAsCompiled }
+{}
+
+/// What means the same on the same channels has one code for each quantum.
+pub fn one_code()
+    ensures { OneCode }
 {}

@@ -16,7 +16,7 @@ use Rattle.occ_code.specs.declared.task.Wait.{Wait}
 use Rattle.occ_code.specs.declared.task.Wait.TheVariants as W
 use Rattle.occ_net_replay.specs.Replay.{Net, HasTask, first_fault, may_go, made_ready, has_taken, byte_message, one_more, with_task, traced, took_turn, offers_on, task_gives, keyboard_gives, task_gets, screen_gets, error_gets, joined, meets, Settled, settles, stays}
 use Rattle.occ_net_replay.proofs.Tables.{set_same, set_other, set_back, task_once}
-use Rattle.occ_net_replay.proofs.Quiet.{is_read}
+use Rattle.occ_net_replay.specs.Moments.{is_read}
 use Rattle.occ_net.specs.declared.trace.End.{End}
 use Rattle.occ_net.specs.declared.trace.End.TheVariants.{Process, Keyboard, Screen, Error}
 use Rattle.occ_net.specs.declared.trace.Communication.{Communication}

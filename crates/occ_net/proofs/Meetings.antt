@@ -13,7 +13,8 @@ use Rattle.occ_code.specs.declared.task.Wait.{Wait}
 use Rattle.occ_code.specs.declared.task.Wait.TheVariants as W
 use Rattle.occ_net_replay.specs.Replay.{Net, HasTask, AreDone, Gets, task_gets, arm_gets, screen_gets, error_gets, Happens, meets, skips, forks, joins, Joined, joined, is_done, keyboard_gives, made_ready, task_gives, took_turn}
 use Rattle.occ_net_replay.proofs.Tables.{set_same, set_other, set_back, same_or_not, task_once}
-use Rattle.occ_net_replay.proofs.Quiet.{is_read, done_is}
+use Rattle.occ_net_replay.specs.Moments.{is_read}
+use Rattle.occ_net_replay.proofs.Quiet.{done_is}
 use Rattle.occ_net_replay.proofs.Settling.{done_among}
 
 pub done_wait : (w : Wait) → IsTrue (is_done w) → w ≡ W.Done

@@ -1,6 +1,5 @@
 -- A run in code is the replay of its choices.
 use Rattle.std.proofs.Common.{◌≡◌, ◌∙◌, refl, sym, ap, subst, ℕ, suc, ◌+◌, ◌<◌, ◌≤◌, ◌^◌, List, [], ◌∷◌, ◌++◌, Option, Some, None, get_or, length, map, take, arith}
-use Rattle.std.specs.Prelude.{All, slice_get}
 use Rattle.std.proofs.Math.Seq.{take-suc}
 use Rattle.std.proofs.lemmas.List.{take_all}
 use Rattle.occ_code.specs.Sequential.Compiled.{Program}
@@ -17,8 +16,8 @@ use Rattle.occ_net.specs.Settling.{Standing, TurnsTo}
 pub starts_run : (p : Program) (kb : List ℕ) (n : Network) → ((k : List ℕ) → Holds p k n (first_net p k)) → HasReplayed p kb [] n
 starts_run p kb n h = record { net = first_net p kb; replays = begins; holds = h kb }
 
-pub standing_now : (p : Program) (kb : List ℕ) (cs : List Choice) (n : Network) (quantum : ℕ) → All (λ b. b.quantum ≡ quantum) p.bodies → 1 + length cs < 2 ^ 64 → (h : HasReplayed p kb cs n) → ending_of h.net ≡ None → Standing p kb n
-standing_now p kb cs n quantum same few h going = record { quantum = quantum; same_quantum = same; choices = cs; few = few; net = h.net; replays = h.replays; open_end = going; holds = h.holds }
+pub standing_now : (p : Program) (kb : List ℕ) (cs : List Choice) (n : Network) → 1 + length cs < 2 ^ 64 → (h : HasReplayed p kb cs n) → ending_of h.net ≡ None → Standing p kb n
+standing_now p kb cs n few h going = record { choices = cs; few = few; net = h.net; replays = h.replays; open_end = going; holds = h.holds }
 
 pub one_more_turn : (p : Program) (kb : List ℕ) (cs : List Choice) (c : Choice) (old new : Network) (h : HasReplayed p kb cs old) → ending_of h.net ≡ None → ((net : Net) → Holds p kb old net → TurnsTo p kb c net new) → HasReplayed p kb (cs ++ c ∷ []) new
 one_more_turn p kb cs c old new h going turns =

@@ -151,18 +151,18 @@ module _ (p : Program) (kb : List ℕ) (n : Network) (s : Standing p kb n) where
       omega (arith, l, z)
 
   module _ (compiled : IsCompiled p) (bytes : AreBytes kb) where
-    is_replay : IsReplay compiled.source p s.quantum kb s.choices s.net
-    is_replay = record { well_formed = compiled.well_formed; lawful = compiled.lawful; compiled = compiled.compiled; same_quantum = s.same_quantum; bytes = bytes; few = s.few; replays = s.replays }
+    is_replay : IsReplay compiled.source p compiled.quantum kb s.choices s.net
+    is_replay = record { well_formed = compiled.well_formed; lawful = compiled.lawful; compiled = compiled.compiled; bytes = bytes; few = s.few; replays = s.replays }
 
     pub has_turn : (place number : ℕ) (body : Body) → slice_get n.ready.items place ≡ Some number → slice_get p.bodies number ≡ Some body → HasTurn body n.tasks.items number
     has_turn place number body e has =
         let x = chosen place number e in
         let there : HasTask s.net.tasks number x.task = ap (λ l. slice_get l number) s.holds.tasks ∙ x.there in
-        let y = ready_tasks_stop compiled.source p s.quantum kb s.choices s.net number body x.task compiled.well_formed compiled.lawful compiled.compiled s.same_quantum bytes s.few s.replays has there x.may in
+        let y = ready_tasks_stop compiled.source p compiled.quantum kb s.choices s.net number body x.task compiled.well_formed compiled.lawful compiled.compiled bytes s.few s.replays has there x.may in
         record {
           task = x.task;
           there = x.there;
-          counts = turns_are_few compiled.source p s.quantum kb s.choices s.net number x.task is_replay there;
+          counts = turns_are_few compiled.source p compiled.quantum kb s.choices s.net number x.task is_replay there;
           stops = record { after = y.0; stops = y.1 };
         }
 
@@ -175,7 +175,7 @@ module _ (p : Program) (kb : List ℕ) (n : Network) (s : Standing p kb n) where
 
       pub mid_for : (net : Net) → Holds p kb n net → new.ready ≡ n.ready → new.offering ≡ n.offering → new.awaiting ≡ n.awaiting → new.parents ≡ n.parents → new.unfinished ≡ n.unfinished → new.fault ≡ n.fault → new.used ≡ n.used → new.trace ≡ n.trace → Mid p kb new number place adv.after net
       mid_for net h e1 e2 e3 e4 e5 e6 e7 e8 =
-          let fork = turns_fork_alone compiled.source p s.quantum kb s.choices s.net number adv.after in
+          let fork = turns_fork_alone compiled.source p compiled.quantum kb s.choices s.net number adv.after in
           record {
             before = t;
             has_task = ap (λ l. slice_get l number) h.tasks ∙ there;
@@ -196,8 +196,8 @@ module _ (p : Program) (kb : List ℕ) (n : Network) (s : Standing p kb n) where
               parents_are = ap (λ z. length z.items) e4 ∙ h.sized.parents_are;
               unfinished_are = ap (λ z. length z.items) e5 ∙ h.sized.unfinished_are;
             };
-            offers = λ c m q. subst (λ l. OffersAlone p l c) (same_tasks net h) (turns_offer_alone compiled.source p s.quantum kb s.choices s.net number adv.after c m is_replay is_turn q);
-            awaits = λ c q. subst (λ l. AwaitsAlone p l c) (same_tasks net h) (turns_await_alone compiled.source p s.quantum kb s.choices s.net number adv.after c is_replay is_turn q);
+            offers = λ c m q. subst (λ l. OffersAlone p l c) (same_tasks net h) (turns_offer_alone compiled.source p compiled.quantum kb s.choices s.net number adv.after c m is_replay is_turn q);
+            awaits = λ c q. subst (λ l. AwaitsAlone p l c) (same_tasks net h) (turns_await_alone compiled.source p compiled.quantum kb s.choices s.net number adv.after c is_replay is_turn q);
             forks = λ ns q. subst (λ l. ForksAlone p l number ns) (same_tasks net h) (fork ns is_replay is_turn q);
           }
 

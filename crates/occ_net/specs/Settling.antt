@@ -1,5 +1,5 @@
 -- What happens when a process has taken a turn.
-use Rattle.std.specs.Prelude.{All, false, IsTrue, List, None, Option, Some, [], drop, if◌then◌else◌, length, map, nat_eq, slice_get, slice_set, ℕ, ℤ, ◌+◌, ◌<◌, ◌^◌, ◌++◌, ◌∷◌, ◌≡◌}
+use Rattle.std.specs.Prelude.{false, IsTrue, List, None, Option, Some, [], drop, if◌then◌else◌, length, map, nat_eq, slice_get, slice_set, ℕ, ℤ, ◌+◌, ◌<◌, ◌^◌, ◌++◌, ◌∷◌, ◌≡◌}
 use Rattle.occ_term.specs.declared.message.Message.{Message}
 use Rattle.occ_term.specs.Frames.{Variables, is_held}
 use Rattle.occ_code.specs.Alike.{IsRising, joined_with}
@@ -26,8 +26,6 @@ pub record TurnsTo (p : Program) (keyboard : List ℕ) (choice : Choice) (net : 
 
 -- the network stands where a replay has come to that can go on
 pub record Standing (p : Program) (keyboard : List ℕ) (n : Network) : Type 0 where
-  pub quantum : ℕ
-  pub same_quantum : All (λ b. b.quantum ≡ quantum) p.bodies
   pub choices : List Choice
   pub few : 1 + length choices < 2 ^ 64
   pub net : Net

@@ -1,5 +1,5 @@
 //! A run by a list of choices.
-ghost use Rattle.std.specs.Prelude.{◌≡◌, All, IfOk, ℕ};
+ghost use Rattle.std.specs.Prelude.{IfOk};
 ghost use Rattle.occ_net.specs.Running.{IsRun};
 
 use crate::network::Network;
@@ -20,7 +20,7 @@ pub struct Run {
     pub trace: Vec<Communication>,
 }
 
-/// Takes a turn for each choice, until the network ends. The bodies have one quantum.
+/// Takes a turn for each choice, until the network ends.
 ///
 /// # Errors
 ///
@@ -31,7 +31,6 @@ pub fn run_choices(
     keyboard: &[u8],
     choices: &[Choice],
 ) -> Result<Run, AllocError>
-    requires { (quantum : ℕ) × All (λ b. b.quantum ≡ quantum) code.now.bodies }
     ensures { IfOk result (λ run. IsRun code.now keyboard.now choices.now run) }
 {
     let mut scratch = Scratch::new(alloc);

@@ -27,8 +27,9 @@ use Rattle.occ_code.specs.declared.task.Wait.{Wait}
 use Rattle.occ_code.specs.declared.task.Wait.TheVariants as W
 use Rattle.occ_net_replay.specs.Replay.{Net, HasTask, may_go}
 use Rattle.occ_net_replay.specs.Waiting.{IsTurn, TurnsAreFew, OffersAlone, TurnsOfferAlone, AwaitsAlone, TurnsAwaitAlone, ForksAlone, TurnsForkAlone}
+use Rattle.occ_net_replay.specs.Moments.{Among, below}
 use Rattle.occ_net_replay.proofs.Beside.{ChannelsApart, Related, are_one, is_inside, is_around, are_beside, related}
-use Rattle.occ_net_replay.proofs.Holding.{Among, below, Belongs, Stands, Own, branches_placed}
+use Rattle.occ_net_replay.proofs.Holding.{Belongs, Stands, Own, branches_placed}
 use Rattle.occ_net_replay.proofs.Joining.{JoinsAs, joins_as}
 use Rattle.occ_net_replay.proofs.Law.{d, procs, keyboard_protocol, belongs, all_followed}
 use Rattle.occ_net_replay.proofs.Parents.{number_within, not_inside}
@@ -227,23 +228,23 @@ module _ (d : Declared) (p : Program) (procs : List Numbered) (protocol : d.prot
 
 pub turns_are_few : TurnsAreFew
 turns_are_few u p quantum kb cs net n t z h =
-    let x = all_followed u p quantum kb z.well_formed z.lawful z.compiled z.same_quantum z.bytes cs net 1 z.few z.replays in
+    let x = all_followed u p quantum kb z.well_formed z.lawful z.compiled z.bytes cs net 1 z.few z.replays in
     x.follows.state.small n t h
 
 pub turns_offer_alone : TurnsOfferAlone
 turns_offer_alone u p quantum kb cs net n after c m z o e =
-    let x = all_followed u p quantum kb z.well_formed z.lawful z.compiled z.same_quantum z.bytes cs net 1 z.few z.replays in
-    offers_alone (d u p quantum kb z.well_formed z.lawful z.compiled z.same_quantum z.bytes) p (procs u p quantum kb z.well_formed z.lawful z.compiled z.same_quantum z.bytes) (keyboard_protocol u z.well_formed) quantum z.same_quantum
-    (belongs u p quantum kb z.well_formed z.lawful z.compiled z.same_quantum z.bytes) net x.now x.follows n after o c m e (length u.channels) (λ y q. declared_within u.channels c y q) (sym (ap (λ l. length l) z.compiled.channels))
+    let x = all_followed u p quantum kb z.well_formed z.lawful z.compiled z.bytes cs net 1 z.few z.replays in
+    offers_alone (d u p quantum kb z.well_formed z.lawful z.compiled z.bytes) p (procs u p quantum kb z.well_formed z.lawful z.compiled z.bytes) (keyboard_protocol u z.well_formed) quantum z.compiled.quanta
+    (belongs u p quantum kb z.well_formed z.lawful z.compiled z.bytes) net x.now x.follows n after o c m e (length u.channels) (λ y q. declared_within u.channels c y q) (sym (ap (λ l. length l) z.compiled.channels))
 
 pub turns_await_alone : TurnsAwaitAlone
 turns_await_alone u p quantum kb cs net n after c z o e =
-    let x = all_followed u p quantum kb z.well_formed z.lawful z.compiled z.same_quantum z.bytes cs net 1 z.few z.replays in
-    awaits_alone (d u p quantum kb z.well_formed z.lawful z.compiled z.same_quantum z.bytes) p (procs u p quantum kb z.well_formed z.lawful z.compiled z.same_quantum z.bytes) (keyboard_protocol u z.well_formed) quantum z.same_quantum
-    (belongs u p quantum kb z.well_formed z.lawful z.compiled z.same_quantum z.bytes) net x.now x.follows n after o c e (length u.channels) (λ y q. declared_within u.channels c y q) (sym (ap (λ l. length l) z.compiled.channels))
+    let x = all_followed u p quantum kb z.well_formed z.lawful z.compiled z.bytes cs net 1 z.few z.replays in
+    awaits_alone (d u p quantum kb z.well_formed z.lawful z.compiled z.bytes) p (procs u p quantum kb z.well_formed z.lawful z.compiled z.bytes) (keyboard_protocol u z.well_formed) quantum z.compiled.quanta
+    (belongs u p quantum kb z.well_formed z.lawful z.compiled z.bytes) net x.now x.follows n after o c e (length u.channels) (λ y q. declared_within u.channels c y q) (sym (ap (λ l. length l) z.compiled.channels))
 
 pub turns_fork_alone : TurnsForkAlone
 turns_fork_alone u p quantum kb cs net n after ns z o e =
-    let x = all_followed u p quantum kb z.well_formed z.lawful z.compiled z.same_quantum z.bytes cs net 1 z.few z.replays in
-    forks_alone (d u p quantum kb z.well_formed z.lawful z.compiled z.same_quantum z.bytes) p (procs u p quantum kb z.well_formed z.lawful z.compiled z.same_quantum z.bytes) (keyboard_protocol u z.well_formed) quantum z.same_quantum
-    (belongs u p quantum kb z.well_formed z.lawful z.compiled z.same_quantum z.bytes) net x.now x.follows n after o ns e
+    let x = all_followed u p quantum kb z.well_formed z.lawful z.compiled z.bytes cs net 1 z.few z.replays in
+    forks_alone (d u p quantum kb z.well_formed z.lawful z.compiled z.bytes) p (procs u p quantum kb z.well_formed z.lawful z.compiled z.bytes) (keyboard_protocol u z.well_formed) quantum z.compiled.quanta
+    (belongs u p quantum kb z.well_formed z.lawful z.compiled z.bytes) net x.now x.follows n after o ns e

@@ -28,8 +28,9 @@ use Rattle.occ_code.specs.declared.task.Task.{Task}
 use Rattle.occ_code.specs.declared.task.Wait.{Wait}
 use Rattle.occ_net_replay.specs.Following.{AreBytes, ending_as, or_limit}
 use Rattle.occ_net_replay.specs.Replay.{Net, Tasks, HasTask, first_task, first_net, at_start, none_begun, may_go, ready_from, first_fault, is_done, ended, main_done, ending_by, ending_of}
+use Rattle.occ_net_replay.specs.Moments.{At, Among, first, later, here, below}
 use Rattle.occ_net_replay.proofs.Faults.{noted_as, none_faulted, ready_no_fault}
-use Rattle.occ_net_replay.proofs.Holding.{number_of, At, Among, first, later, here, below, Belongs, Stands, may_turn, Own, Holds}
+use Rattle.occ_net_replay.proofs.Holding.{number_of, Belongs, Stands, may_turn, Own, Holds}
 use Rattle.occ_net_replay.proofs.Merging.{done_stands}
 use Rattle.occ_net_replay.proofs.Placed.{size, Placed, LeftPlaced}
 use Rattle.occ_net_replay.proofs.Placing.{main_placed}

@@ -14,8 +14,9 @@ use Rattle.occ_code.specs.Sequential.Compiled.{Program}
 use Rattle.occ_code.specs.Sequential.Machine.{Body}
 use Rattle.occ_code.specs.declared.task.Task.{Task}
 use Rattle.occ_net_replay.specs.Replay.{Tasks}
+use Rattle.occ_net_replay.specs.Moments.{At, here, below, Among, first, later}
 use Rattle.occ_net_replay.proofs.Fewer.{Fewer, alike_fewer}
-use Rattle.occ_net_replay.proofs.Holding.{SameNumbers, At, here, below, Among, first, later, put, put_among, Stands, may_turn, may_join, offers, awaits, chooses, waits, is_halted, has_failed, has_ended, Own, Holds, AllHold, Branched, alone_is, forked_is, branched, branches_placed, again, all_again}
+use Rattle.occ_net_replay.proofs.Holding.{SameNumbers, put, put_among, Stands, may_turn, may_join, offers, awaits, chooses, waits, is_halted, has_failed, has_ended, Own, Holds, AllHold, Branched, alone_is, forked_is, branched, branches_placed, again, all_again}
 use Rattle.occ_net_replay.proofs.Placed.{size, BranchesPlaced}
 use Rattle.occ_net_replay.proofs.Putting.{apart_used, apart_written, same_put, ended_inside, Elsewhere, within, within_all}
 

@@ -21,7 +21,8 @@ use Rattle.occ_code.specs.Sequential.Compiled.{Program}
 use Rattle.occ_code.specs.Sequential.Machine.{Body}
 use Rattle.occ_code.specs.declared.task.Task.{Task}
 use Rattle.occ_net_replay.specs.Replay.{Tasks, HasTask, may_go, first_task, turns_of, turns_at, copied, branch_task, with_branches}
-use Rattle.occ_net_replay.proofs.Holding.{SameNumbers, first, later, here, Belongs, may_turn, Own, AllHold, one_term, placed_order, used_part, held_used}
+use Rattle.occ_net_replay.specs.Moments.{first, later, here}
+use Rattle.occ_net_replay.proofs.Holding.{SameNumbers, Belongs, may_turn, Own, AllHold, one_term, placed_order, used_part, held_used}
 use Rattle.occ_net_replay.proofs.Placed.{size, Placed, BranchesPlaced, LeftPlaced}
 use Rattle.occ_net_replay.proofs.Putting.{InAmong}
 use Rattle.occ_net_replay.proofs.States.{IsThere, there_again}

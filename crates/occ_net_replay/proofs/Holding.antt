@@ -26,6 +26,7 @@ use Rattle.occ_code.specs.declared.task.Arm.{Arm}
 use Rattle.occ_code.specs.declared.task.Task.{Task}
 use Rattle.occ_code.specs.declared.task.Wait.TheVariants as W
 use Rattle.occ_net_replay.specs.Replay.{Tasks, HasTask, may_go, made_ready, has_taken}
+use Rattle.occ_net_replay.specs.Moments.{At, here, below, Among, first, later}
 use Rattle.occ_net_replay.proofs.Fewer.{Fewer, alike_fewer, arms_fewer}
 use Rattle.occ_net_replay.proofs.Placed.{size, BranchesPlaced, LeftPlaced}
 
@@ -60,15 +61,6 @@ unfolding term_in
 one_term e = ap term_in e
 
 -- ---- paths in the system's tree
-
-mutual
-  pub data At (n : ℕ) (own : Left) (ps : Processes) : Process → Type 0 where
-    here : At n own ps (process n own ps)
-    below : {m : ℕ} {a : Left} {qs : Processes} → Among n own ps qs → At n own ps (process m a qs)
-
-  pub data Among (n : ℕ) (own : Left) (ps : Processes) : Processes → Type 0 where
-    first : {p : Process} {qs : Processes} → At n own ps p → Among n own ps (and_process p qs)
-    later : {p : Process} {qs : Processes} → Among n own ps qs → Among n own ps (and_process p qs)
 
 abbrev mutual
   pub put : {n : ℕ} {own : Left} {ps : Processes} {q : Process} → At n own ps q → Left → Processes → Process

@@ -18,10 +18,11 @@ use Rattle.occ_code.specs.Sequential.Machine.{Body, Stopping}
 use Rattle.occ_code.specs.declared.task.Task.{Task}
 use Rattle.occ_code.specs.declared.task.Wait.TheVariants as W
 use Rattle.occ_net_replay.specs.Replay.{Tasks, HasTask, may_go, AreDone, with_branches, merged}
+use Rattle.occ_net_replay.specs.Moments.{At}
 use Rattle.occ_net_replay.proofs.Changing.{put_holds}
 use Rattle.occ_net_replay.proofs.Fewer.{as_many, one_less}
 use Rattle.occ_net_replay.proofs.Forks.{same_branches, outside, full_again, Branch, branch_or_old, branches_hold, turns_small}
-use Rattle.occ_net_replay.proofs.Holding.{SameNumbers, AgreesBut, agrees_but, At, put, Belongs, Stands, may_turn, may_join, offers, awaits, chooses, waits, is_halted, has_failed, has_ended, Own, AllHold, all_again, branches_part, branches_placed, used_part}
+use Rattle.occ_net_replay.proofs.Holding.{SameNumbers, AgreesBut, agrees_but, put, Belongs, Stands, may_turn, may_join, offers, awaits, chooses, waits, is_halted, has_failed, has_ended, Own, AllHold, all_again, branches_part, branches_placed, used_part}
 use Rattle.occ_net_replay.proofs.Merging.{Mixed, all_ended, merges}
 use Rattle.occ_net_replay.proofs.Placed.{size, LeftPlaced}
 use Rattle.occ_net_replay.proofs.Putting.{In, InAmong, in_put, in_new, put_in, put_same, Elsewhere}

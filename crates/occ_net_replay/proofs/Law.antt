@@ -18,7 +18,9 @@ use Rattle.occ_code.specs.declared.task.Task.{Task}
 use Rattle.occ_code.specs.declared.task.Wait.TheVariants.{Joins}
 use Rattle.occ_net_replay.specs.declared.choice.Choice.{Choice}
 use Rattle.occ_net_replay.specs.Following.{AreBytes, Followed, OneNeverForks, ReplaysAreRuns, ReadyTasksStop, process_in}
-use Rattle.occ_net_replay.specs.Replay.{Net, HasTask, may_go, Replays, begins, goes_on as replays_on}
+use Rattle.occ_net_replay.specs.Replay.{Net, HasTask, may_go, Replays, begins, first_net, goes_on as replays_on}
+use Rattle.occ_net_replay.specs.Moments.{StandAlike, IsMoment, Accompanies, OneRunThroughout, at_start, after_turn, main_in}
+use Rattle.occ_net_replay.proofs.Moments.{stand_alike}
 use Rattle.occ_net_replay.proofs.Beginning.{first_follows, ends_as}
 use Rattle.occ_net_replay.proofs.Holding.{AgreesBut, agrees_all, Belongs, Stands, one_term}
 use Rattle.occ_net_replay.proofs.Runs.{listed, run_more, met_more, turns_more, on-append, FitAll, fit_append, fit_on}
@@ -47,7 +49,7 @@ does_at d n (b ∷ bs) (x ∷ ps) (suc i) q h e = let y = does_at d (n + 1) bs p
 pub keyboard_protocol : (u : Unfolding) → IsWellFormed u → (declared u).protocols 0 ≡ Some (Simple [] Byte)
 keyboard_protocol u w = ap (λ cs. slice_get (map (λ y. y.protocol) cs) 0) w.begins
 
-module _ (u : Unfolding) (p : Program) (quantum : ℕ) (kb : List ℕ) (w : IsWellFormed u) (lawful : Lawful u) (from : IsCompiledFrom u p) (same : All (λ b. b.quantum ≡ quantum) p.bodies) (bytes : AreBytes kb) where
+module _ (u : Unfolding) (p : Program) (quantum : ℕ) (kb : List ℕ) (w : IsWellFormed u) (lawful : Lawful u) (from : IsCompiledFrom u quantum p) (bytes : AreBytes kb) where
   abbrev pub d : Declared
   d = declared u
 
@@ -91,7 +93,7 @@ module _ (u : Unfolding) (p : Program) (quantum : ℕ) (kb : List ℕ) (w : IsWe
   all_followed cs net k small (replays_on {cs = ds} {c = c} {a = a} r e o) =
       let bound : suc k + length ds < 2 ^ 64 = omega (arith, small, length-append ds (c ∷ [])) in
       let before = all_followed ds a (suc k) bound r in
-      let x = one_turn d p procs (keyboard_protocol u w) quantum same belongs k c a net before.now before.follows e o in
+      let x = one_turn d p procs (keyboard_protocol u w) quantum from.quanta belongs k c a net before.now before.follows e o in
       record {
         events = before.events ++ event o.number x.met ∷ [];
         now = x.after;
@@ -104,18 +106,32 @@ module _ (u : Unfolding) (p : Program) (quantum : ℕ) (kb : List ℕ) (w : IsWe
         input = λ i. x.input i ∙ ap (λ l. l ++ messages_on i (listed x.met)) (before.input i) ∙ sym (on-append i a.trace (listed x.met)) ∙ ap (messages_on i) (sym x.trace);
       }
 
-  abbrev followed_by : (net : Net) → AllFollowed 0 net → Followed u kb quantum net
-  followed_by net x =
-      record { events = x.events; system = x.now; run = x.run; turns = x.turns; communicates = x.communicates; output = x.output; input = x.input; fits = λ c. fit_on d.protocols c net.trace x.fits; ends = ends_as d p procs (keyboard_protocol u w) quantum 0 net x.now x.follows }
+  abbrev followed_by : (k : ℕ) (net : Net) → AllFollowed k net → Followed u kb quantum net
+  followed_by k net x =
+      record { events = x.events; system = x.now; run = x.run; turns = x.turns; communicates = x.communicates; output = x.output; input = x.input; fits = λ c. fit_on d.protocols c net.trace x.fits; ends = ends_as d p procs (keyboard_protocol u w) quantum k net x.now x.follows }
 
   from_start : (cs : List Choice) (net : Net) → length cs < 2 ^ 64 → Replays p kb cs net → AllFollowed 0 net
   from_start cs net small r = let bound : 0 + length cs < 2 ^ 64 = omega (arith, small) in all_followed cs net 0 bound r
 
   followed : (cs : List Choice) (net : Net) → length cs < 2 ^ 64 → Replays p kb cs net → Followed u kb quantum net
-  followed cs net small r = followed_by net (from_start cs net small r)
+  followed cs net small r = followed_by 0 net (from_start cs net small r)
 
   shared : (cs : List Choice) (net : Net) → length cs < 2 ^ 64 → Replays p kb cs net → (f : Followed u kb quantum net) × SharesStore p net f.system
-  shared cs net small r = let x = from_start cs net small r in (followed_by net x, shares_store d p procs (keyboard_protocol u w) quantum belongs 0 net x.now x.follows)
+  shared cs net small r = let x = from_start cs net small r in (followed_by 0 net x, shares_store d p procs (keyboard_protocol u w) quantum belongs 0 net x.now x.follows)
+
+  is_moment : (k : ℕ) (net : Net) (x : AllFollowed k net) → IsMoment net x.now
+  is_moment k net x = record { alike = subst (λ z. StandAlike net.tasks (main_in z)) (sym x.follows.is) (stand_alike d p procs k net.tasks x.follows.proc x.follows.store x.follows.state); quiet = x.follows.quiet }
+
+  accompanied : (cs : List Choice) (net : Net) (k : ℕ) (small : k + length cs < 2 ^ 64) (r : Replays p kb cs net) → Accompanies u p quantum kb cs net (followed_by k net (all_followed cs net k small r))
+  unfolding all_followed
+  accompanied cs net k small begins =
+      at_start (followed_by k (first_net p kb) (all_followed [] (first_net p kb) k small begins)) refl (is_moment k (first_net p kb) (all_followed [] (first_net p kb) k small begins))
+  accompanied cs net k small (replays_on {cs = ds} {c = c} {a = a} r e o) =
+      let bound : suc k + length ds < 2 ^ 64 = omega (arith, small, length-append ds (c ∷ [])) in
+      after_turn (followed_by k net (all_followed cs net k small (replays_on r e o))) _ (accompanied ds a (suc k) bound r) o refl (is_moment k net (all_followed cs net k small (replays_on r e o)))
+
+  one_run : (cs : List Choice) (net : Net) → length cs < 2 ^ 64 → Replays p kb cs net → (f : Followed u kb quantum net) × Accompanies u p quantum kb cs net f
+  one_run cs net small r = let bound : 0 + length cs < 2 ^ 64 = omega (arith, small) in (followed_by 0 net (all_followed cs net 0 bound r), accompanied cs net 0 bound r)
 
   stop_of : (n : ℕ) (net : Net) (now : System) (body : Body) (t : Task) → Follows d p procs (keyboard_protocol u w) quantum 1 net now → slice_get p.bodies n ≡ Some body → HasTask net.tasks n t → IsTrue (may_go t.wait) → (after : Task) × Stopping body t after
   stop_of n net now body t f code there may =
@@ -148,7 +164,7 @@ module _ (u : Unfolding) (p : Program) (quantum : ℕ) (kb : List ℕ) (w : IsWe
       let l = live_at d p procs 1 net.tasks f.proc f.store n t f.state there (λ q. true≢false (sym may ∙ ap (λ z. may_go z) q)) in
       let here : n ≡ 0 = one_program body procs (subst (λ bs. AllDo d 0 bs procs) one from.bodies) n (numbered n l.mine.belongs.term) l.mine.belongs.entry in
       let same_body : l.mine.belongs.body ≡ body = one_body (sym l.mine.belongs.code ∙ ap (slice_get p.bodies) here ∙ ap (λ bs. slice_get bs 0) one) in
-      let r = ran d p procs 0 quantum n net.tasks f.proc f.store f.state l.own l.branches l.at l.mine l.all t after l.same there may (all_at (λ b. b.quantum ≡ quantum) p.bodies n l.mine.belongs.body same l.mine.belongs.code) (subst (λ b. Stopping b t after) (sym same_body) stops) in
+      let r = ran d p procs 0 quantum n net.tasks f.proc f.store f.state l.own l.branches l.at l.mine l.all t after l.same there may (all_at (λ b. b.quantum ≡ quantum) p.bodies n l.mine.belongs.body from.quanta l.mine.belongs.code) (subst (λ b. Stopping b t after) (sym same_body) stops) in
       let x : SameStop d (Alike 0 d l.mine.belongs.body) after r.rest (Joins ns) = subst (SameStop d (Alike 0 d l.mine.belongs.body) after r.rest) e r.same in
       let placed = subst (LeftPlaced procs (n + 1) (n + 1 + size l.mine.belongs.term)) x.2 r.placed in
       no_branch n (n + 1 + size l.mine.belongs.term) x.1 (one_program body procs (subst (λ bs. AllDo d 0 bs procs) one from.bodies)) placed.0.0 placed.0.1
@@ -157,17 +173,20 @@ module _ (u : Unfolding) (p : Program) (quantum : ℕ) (kb : List ℕ) (w : IsWe
       one_body q = cc
 
 pub replays_are_runs : ReplaysAreRuns
-replays_are_runs u p quantum kb cs net w lawful from same bytes small r = followed u p quantum kb w lawful from same bytes cs net small r
+replays_are_runs u p quantum kb cs net w lawful from bytes small r = followed u p quantum kb w lawful from bytes cs net small r
 
 pub ready_tasks_stop : ReadyTasksStop
-ready_tasks_stop u p quantum kb cs net n body t w lawful from same bytes small r code there may =
-    let x = all_followed u p quantum kb w lawful from same bytes cs net 1 small r in
-    stop_of u p quantum kb w lawful from same bytes n net x.now body t x.follows code there may
+ready_tasks_stop u p quantum kb cs net n body t w lawful from bytes small r code there may =
+    let x = all_followed u p quantum kb w lawful from bytes cs net 1 small r in
+    stop_of u p quantum kb w lawful from bytes n net x.now body t x.follows code there may
 
 pub one_never_forks_is : OneNeverForks
-one_never_forks_is u p quantum kb cs net n body t after ns w lawful from same bytes small r one there may stops e =
-    let x = all_followed u p quantum kb w lawful from same bytes cs net 1 small r in
-    one_never_forks u p quantum kb w lawful from same bytes n net x.now body t after ns x.follows one there may stops e
+one_never_forks_is u p quantum kb cs net n body t after ns w lawful from bytes small r one there may stops e =
+    let x = all_followed u p quantum kb w lawful from bytes cs net 1 small r in
+    one_never_forks u p quantum kb w lawful from bytes n net x.now body t after ns x.follows one there may stops e
 
 pub replays_share_store : ReplaysShareStore
-replays_share_store u p quantum kb cs net w lawful from same bytes small r = shared u p quantum kb w lawful from same bytes cs net small r
+replays_share_store u p quantum kb cs net w lawful from bytes small r = shared u p quantum kb w lawful from bytes cs net small r
+
+pub one_run_throughout : OneRunThroughout
+one_run_throughout u p quantum kb cs net w lawful from bytes small r = one_run u p quantum kb w lawful from bytes cs net small r

@@ -23,6 +23,7 @@ mod Beginning
 mod Sharing
 mod Whole
 pub mod Examples
+mod Moments
 pub mod Law
 mod Beside
 pub mod Alone

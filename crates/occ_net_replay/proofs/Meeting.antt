@@ -24,8 +24,9 @@ use Rattle.occ_code.specs.declared.task.Arm.{Arm}
 use Rattle.occ_code.specs.declared.task.Task.{Task}
 use Rattle.occ_code.specs.declared.task.Wait.TheVariants as W
 use Rattle.occ_net_replay.specs.Replay.{Tasks, HasTask, made_ready, has_taken, took_arm, offers_on, offers_among, arm_chosen}
+use Rattle.occ_net_replay.specs.Moments.{At, here, below, Among, first, later}
 use Rattle.occ_net_replay.proofs.Placed.{size, LeftPlaced, EnabledPlaced, AllEnabledPlaced}
-use Rattle.occ_net_replay.proofs.Holding.{At, here, below, Among, first, later, put, Stands, may_turn, may_join, offers, awaits, chooses, waits, is_halted, has_failed, has_ended, Own}
+use Rattle.occ_net_replay.proofs.Holding.{put, Stands, may_turn, may_join, offers, awaits, chooses, waits, is_halted, has_failed, has_ended, Own}
 use Rattle.occ_net_replay.proofs.Putting.{change_put, mine}
 use Rattle.occ_net_replay.proofs.Quiet.{offers_is}
 use Rattle.occ_net_replay.proofs.States.{gives_as, gets_as, ChoosesAs, chooses_as, State, Live, live_at, moved}

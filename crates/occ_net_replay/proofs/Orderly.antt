@@ -22,8 +22,9 @@ use Rattle.occ_code.specs.declared.task.Task.{Task}
 use Rattle.occ_code.specs.declared.task.Wait.{Wait}
 use Rattle.occ_code.specs.declared.task.Wait.TheVariants as W
 use Rattle.occ_net_replay.specs.Replay.{Tasks, HasTask, arm_chosen}
+use Rattle.occ_net_replay.specs.Moments.{At, Among}
 use Rattle.occ_net_replay.proofs.Beside.{Related, are_one, is_inside, is_around, are_beside, related}
-use Rattle.occ_net_replay.proofs.Holding.{At, Among, Stands, branches_placed}
+use Rattle.occ_net_replay.proofs.Holding.{Stands, branches_placed}
 use Rattle.occ_net_replay.proofs.Joining.{joins_as}
 use Rattle.occ_net_replay.proofs.Meeting.{chosen_both, enabled_part, ready_is_one}
 use Rattle.occ_net_replay.proofs.Parents.{HasBranch, parent_once}

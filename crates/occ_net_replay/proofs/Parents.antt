@@ -13,7 +13,8 @@ use Rattle.occ_term.specs.Values.{Store}
 use Rattle.occ_code.specs.Alike.{numbers_of}
 use Rattle.occ_code.specs.Sequential.Compiled.{Program}
 use Rattle.occ_net_replay.specs.Replay.{Tasks}
-use Rattle.occ_net_replay.proofs.Holding.{SameNumbers, number_of, At, here, below, Among, first, later, Own, Holds, AllHold, Branched, alone_is, forked_is, branched, placed_order, branches_placed}
+use Rattle.occ_net_replay.specs.Moments.{At, here, below, Among, first, later}
+use Rattle.occ_net_replay.proofs.Holding.{SameNumbers, number_of, Own, Holds, AllHold, Branched, alone_is, forked_is, branched, placed_order, branches_placed}
 use Rattle.occ_net_replay.proofs.Placed.{size, BranchesPlaced}
 use Rattle.occ_net_replay.proofs.Putting.{within, within_all}
 use Rattle.occ_net_replay.proofs.Tables.{or_else}

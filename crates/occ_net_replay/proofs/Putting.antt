@@ -15,7 +15,8 @@ use Rattle.occ_term.proofs.KeptStores.{left_part, right_part, whole_part, either
 use Rattle.occ_code.specs.Alike.{used_by}
 use Rattle.occ_code.specs.Sequential.Compiled.{Program}
 use Rattle.occ_net_replay.specs.Replay.{Tasks}
-use Rattle.occ_net_replay.proofs.Holding.{SameNumbers, number_of, At, here, below, Among, first, later, put, put_among, Own, Holds, AllHold, Branched, alone_is, forked_is, branched, placed_order, branches_part, branches_placed, one_term}
+use Rattle.occ_net_replay.specs.Moments.{At, here, below, Among, first, later}
+use Rattle.occ_net_replay.proofs.Holding.{SameNumbers, number_of, put, put_among, Own, Holds, AllHold, Branched, alone_is, forked_is, branched, placed_order, branches_part, branches_placed, one_term}
 use Rattle.occ_net_replay.proofs.Placed.{size, BranchesPlaced}
 use Rattle.occ_net_replay.proofs.Turning.{part_of_part}
 

@@ -14,17 +14,8 @@ use Rattle.occ_code.specs.declared.task.Task.{Task}
 use Rattle.occ_code.specs.declared.task.Wait.{Wait}
 use Rattle.occ_code.specs.declared.task.Wait.TheVariants as W
 use Rattle.occ_net_replay.specs.Replay.{Net, Tasks, HasTask, may_go, made_ready, offers_on, offers_among, standing, arm_chosen, task_gives, keyboard_gives, task_gets, arm_gets, screen_gets, error_gets, joined, took_turn, ended, is_done, AreDone, Happens, meets, skips, forks, joins}
-use Rattle.occ_net_replay.proofs.Tables.{set_same, set_other, same_or_not, task_once, OffersOn, offers_found, offers_there, NoneReady, Chosen, chosen_or_none, chosen_unready, or_first, or_second, or_else}
-
--- whether an end beside the processes always takes what is offered
-abbrev pub is_read : ℕ → Bool
-is_read c = nat_eq c 1 || nat_eq c 2
-
-pub record Quiet (net : Net) : Type 0 where
-  pub unread : (i : ℕ) (t : Task) (c : ℕ) (m : Message) → HasTask net.tasks i t → t.wait ≡ W.Offers c m → is_read c ≡ false
-  pub unheard : (i : ℕ) (t : Task) (c : ℕ) → HasTask net.tasks i t → t.wait ≡ W.Awaits c → IsTrue (standing net c) → ⊥
-  pub unready : (i : ℕ) (t : Task) (pri : Bool) (arms : List Arm) → HasTask net.tasks i t → t.wait ≡ W.Chooses pri arms → NoneReady (λ a. a.chan) (standing net) arms
-  pub unjoined : (i : ℕ) (t : Task) (ns : List ℕ) → HasTask net.tasks i t → t.wait ≡ W.Joins ns → AreDone net.tasks ns → ⊥
+use Rattle.occ_net_replay.specs.Moments.{NoneReady, Quiet, is_read}
+use Rattle.occ_net_replay.proofs.Tables.{set_same, set_other, same_or_not, task_once, OffersOn, offers_found, offers_there, Chosen, chosen_or_none, chosen_unready, or_first, or_second, or_else}
 
 -- ---- waits
 

@@ -1,6 +1,7 @@
 -- The same choices have one replay.
 use Rattle.std.proofs.Common.{◌≡◌, ◌∙◌, refl, sym, ap, subst, Bool, IsTrue, ℕ, ◌+◌, ◌<◌, ◌^◌, ◌⊎◌, inl, inr, List, [], ◌∷◌, ◌++◌, Some, None, length, arith, length-append}
 use Rattle.std.specs.Prelude.{All, slice_get}
+use Rattle.std.proofs.lemmas.List.{append_assoc}
 use Rattle.occ_term.specs.declared.message.Message.{Message}
 use Rattle.occ_term.specs.Frames.{is_held}
 use Rattle.occ_term.specs.Runs.{TakesPart}
@@ -16,7 +17,7 @@ use Rattle.occ_code.specs.declared.task.Wait.TheVariants as W
 use Rattle.occ_net_replay.specs.declared.choice.Choice.{Choice}
 use Rattle.occ_net_replay.specs.Following.{AreBytes}
 use Rattle.occ_net_replay.specs.OneReplay.{OneReplay}
-use Rattle.occ_net_replay.specs.Replay.{Net, Tasks, HasTask, made_ready, has_taken, took_arm, byte_message, took_turn, with_task, with_branches, standing, arm_chosen, Gives, task_gives, keyboard_gives, Gets, task_gets, arm_gets, screen_gets, error_gets, joined, traced, one_more, is_done, merged, Happens, meets, skips, forks, joins, Settled, settles, stays, OneTurn, Replays, begins, goes_on}
+use Rattle.occ_net_replay.specs.Replay.{Net, Tasks, HasTask, made_ready, has_taken, took_arm, byte_message, took_turn, with_task, with_branches, standing, arm_chosen, Gives, task_gives, keyboard_gives, Gets, task_gets, arm_gets, screen_gets, error_gets, joined, traced, one_more, is_done, merged, Happens, meets, skips, forks, joins, Settled, settles, stays, OneTurn, Replays, begins, goes_on, ending_of}
 use Rattle.occ_net_replay.proofs.Law.{all_followed, d, procs}
 use Rattle.occ_net_replay.proofs.OneStop.{stopping_once}
 use Rattle.occ_net_replay.proofs.Orderly.{Hears, by_input, by_arm, Speaks, Listens, WaitsFor, Orderly, orderly}
@@ -281,7 +282,7 @@ not_empty : {X : Type 0} (xs : List X) (x : X) → xs ++ x ∷ [] ≡ [] → ⊥
 not_empty [] x e = cc
 not_empty (y ∷ xs) x e = cc
 
-same_last : {X : Type 0} (xs ys : List X) (x y : X) → xs ++ x ∷ [] ≡ ys ++ y ∷ [] → (xs ≡ ys) × (x ≡ y)
+pub same_last : {X : Type 0} (xs ys : List X) (x y : X) → xs ++ x ∷ [] ≡ ys ++ y ∷ [] → (xs ≡ ys) × (x ≡ y)
 same_last [] [] x y e = (refl, cc)
 same_last [] (w ∷ ys) x y e = let q : ys ++ y ∷ [] ≡ [] = cc in absurd (not_empty ys y q)
 same_last (z ∷ xs) [] x y e = let q : xs ++ x ∷ [] ≡ [] = cc in absurd (not_empty xs x q)
@@ -290,11 +291,11 @@ same_last (z ∷ xs) (w ∷ ys) x y e =
     let rest = same_last xs ys x y cc in
     (ap (λ l. l ∷ xs) first ∙ ap (λ l. w ∷ l) rest.0, rest.1)
 
-module _ (u : Unfolding) (p : Program) (quantum : ℕ) (kb : List ℕ) (w : IsWellFormed u) (lawful : Lawful u) (from : IsCompiledFrom u p) (same : All (λ b. b.quantum ≡ quantum) p.bodies) (bytes : AreBytes kb) where
+module _ (u : Unfolding) (p : Program) (quantum : ℕ) (kb : List ℕ) (w : IsWellFormed u) (lawful : Lawful u) (from : IsCompiledFrom u quantum p) (bytes : AreBytes kb) where
   ordered : (cs : List Choice) (net : Net) → 1 + length cs < 2 ^ 64 → Replays p kb cs net → Orderly net.tasks
   ordered cs net small r =
-      let x = all_followed u p quantum kb w lawful from same bytes cs net 1 small r in
-      orderly (d u p quantum kb w lawful from same bytes) p (procs u p quantum kb w lawful from same bytes) 1 net.tasks x.follows.proc x.follows.store x.follows.state (meaning u) lawful refl
+      let x = all_followed u p quantum kb w lawful from bytes cs net 1 small r in
+      orderly (d u p quantum kb w lawful from bytes) p (procs u p quantum kb w lawful from bytes) 1 net.tasks x.follows.proc x.follows.store x.follows.state (meaning u) lawful refl
 
   replayed_once : (cs ds : List Choice) {a b : Net} → cs ≡ ds → length cs < 2 ^ 64 → Replays p kb cs a → Replays p kb ds b → a ≡ b
   replayed_once cs ds e small begins begins = refl
@@ -307,4 +308,37 @@ module _ (u : Unfolding) (p : Program) (quantum : ℕ) (kb : List ℕ) (w : IsWe
       turn_once p x a (ordered xs a fewer r) o (subst (λ l. OneTurn p x l b') (sym net) (subst (λ l. OneTurn p l a' b') (sym parts.1) t))
 
 pub one_replay : OneReplay
-one_replay u p quantum kb cs a b w lawful from same bytes small r s = replayed_once u p quantum kb w lawful from same bytes cs cs refl small r s
+one_replay u p quantum kb cs a b w lawful from bytes small r s = replayed_once u p quantum kb w lawful from bytes cs cs refl small r s
+
+-- ---- a replay has gone on from each of its beginnings
+
+-- where a replay stood after its first choices, and that it went on
+pub record Passed (p : Program) (kb : List ℕ) (cs : List Choice) : Type 0 where
+  pub net : Net
+  pub replays : Replays p kb cs net
+  pub going : ending_of net ≡ None
+
+-- a list is empty or has a last element
+ends_with : {X : Type 0} (xs : List X) → (xs ≡ []) ⊎ ((front : List X) × (x : X) × (xs ≡ front ++ x ∷ []))
+ends_with [] = inl refl
+ends_with (x ∷ xs) = by (ends_with xs)
+  where
+    by : (xs ≡ []) ⊎ ((front : List _) × (y : _) × (xs ≡ front ++ y ∷ [])) → (x ∷ xs ≡ []) ⊎ ((front : List _) × (y : _) × (x ∷ xs ≡ front ++ y ∷ []))
+    by (inl e) = inr ([], x, ap (λ l. x ∷ l) e)
+    by (inr z) = inr (x ∷ z.0, z.1, ap (λ l. x ∷ l) z.2)
+
+pub passed : (p : Program) (kb : List ℕ) (all first : List Choice) (c : Choice) (rest : List Choice) (net : Net) → Replays p kb all net → all ≡ first ++ c ∷ rest → Passed p kb first
+passed p kb all first c rest net begins e = absurd (no_start first e)
+  where
+    no_start : (xs : List Choice) → [] ≡ xs ++ c ∷ rest → ⊥
+    no_start [] q = cc
+    no_start (x ∷ xs) q = cc
+passed p kb all first c rest net (goes_on {cs = ds} {c = x} {a = a} r going o) e = by (λ front q. passed p kb ds first c front a r q) (ends_with rest)
+  where
+    by : ((front : List Choice) → ds ≡ first ++ c ∷ front → Passed p kb first) → (rest ≡ []) ⊎ ((front : List Choice) × (y : Choice) × (rest ≡ front ++ y ∷ [])) → Passed p kb first
+    by before (inl q) =
+        let parts = same_last ds first x c (e ∙ ap (λ l. first ++ c ∷ l) q) in
+        record { net = a; replays = subst (λ l. Replays p kb l a) parts.0 r; going = going }
+    by before (inr z) =
+        let parts = same_last ds (first ++ c ∷ z.0) x z.1 (e ∙ ap (λ l. first ++ c ∷ l) z.2 ∙ sym (append_assoc first (c ∷ z.0) (z.1 ∷ []))) in
+        before z.0 parts.0

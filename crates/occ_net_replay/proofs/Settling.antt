@@ -22,10 +22,11 @@ use Rattle.occ_code.specs.declared.task.Wait.{Wait}
 use Rattle.occ_code.specs.declared.task.Wait.TheVariants as W
 use Rattle.occ_net_replay.specs.Following.{AreBytes}
 use Rattle.occ_net_replay.specs.Replay.{Net, Tasks, HasTask, may_go, made_ready, has_taken, took_arm, byte_message, took_turn, with_task, standing, arm_chosen, task_gives, keyboard_gives, Gets, task_gets, arm_gets, screen_gets, error_gets, Joined, joined, traced, one_more, fault_of, first_fault, is_done, AreDone, merged, Happens, meets, skips, forks, joins, Settled, settles, stays}
+use Rattle.occ_net_replay.specs.Moments.{Quiet}
 use Rattle.occ_net_replay.proofs.Faults.{noted_as, no_fault, none_faulted, fault_is, ready_no_fault, uncalm_no_fault, part_waits}
 use Rattle.occ_net_replay.proofs.Holding.{Stands, branches_placed}
 use Rattle.occ_net_replay.proofs.Meeting.{gives_on, offered_fits, gets_on, arm_gets_by, arm_skips_by, chosen_same, offers_same}
-use Rattle.occ_net_replay.proofs.Quiet.{Quiet, is_calm, still_not, done_at, done_map, done_is, done_has, done_still, quiet_again, quiet_stays}
+use Rattle.occ_net_replay.proofs.Quiet.{is_calm, still_not, done_at, done_map, done_is, done_has, done_still, quiet_again, quiet_stays}
 use Rattle.occ_net_replay.proofs.Runs.{listed, one_more_at, FitAll, byte_fits}
 use Rattle.occ_net_replay.proofs.States.{State, Live, live_at}
 use Rattle.occ_net_replay.proofs.Joining.{joins_as, has_joined}

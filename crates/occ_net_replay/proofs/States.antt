@@ -23,9 +23,10 @@ use Rattle.occ_code.specs.declared.task.Task.{Task}
 use Rattle.occ_code.specs.declared.task.Wait.{Wait}
 use Rattle.occ_code.specs.declared.task.Wait.TheVariants as W
 use Rattle.occ_net_replay.specs.Replay.{Tasks, HasTask, may_go, made_ready, has_taken, is_done}
+use Rattle.occ_net_replay.specs.Moments.{At, here, below}
 use Rattle.occ_net_replay.proofs.Fewer.{as_many}
 use Rattle.occ_net_replay.proofs.Placed.{size, LeftPlaced}
-use Rattle.occ_net_replay.proofs.Holding.{AgreesBut, number_of, At, here, below, put, Stands, may_turn, may_join, offers, awaits, chooses, waits, is_halted, has_failed, has_ended, Own, Holds, AllHold}
+use Rattle.occ_net_replay.proofs.Holding.{AgreesBut, number_of, put, Stands, may_turn, may_join, offers, awaits, chooses, waits, is_halted, has_failed, has_ended, Own, Holds, AllHold}
 use Rattle.occ_net_replay.proofs.Putting.{In, InAmong, in_put, mine, Elsewhere}
 use Rattle.occ_net_replay.proofs.Changing.{put_holds}
 use Rattle.occ_net_replay.proofs.Tables.{set_same, set_other, set_back, same_or_not, task_once}

@@ -22,10 +22,11 @@ use Rattle.occ_code.specs.declared.task.Arm.{Arm}
 use Rattle.occ_code.specs.declared.task.Task.{Task}
 use Rattle.occ_code.specs.declared.task.Wait.TheVariants as W
 use Rattle.occ_net_replay.specs.Replay.{Net, HasTask, may_go, offers_on, offers_among, standing, AreDone}
-use Rattle.occ_net_replay.proofs.Holding.{SameNumbers, At, here, below, Among, first, later, put, put_among, Stands, may_turn, may_join, offers, awaits, chooses, waits, is_halted, has_failed, has_ended, Holds, AllHold}
+use Rattle.occ_net_replay.specs.Moments.{At, here, below, Among, first, later, Quiet, is_read}
+use Rattle.occ_net_replay.proofs.Holding.{SameNumbers, put, put_among, Stands, may_turn, may_join, offers, awaits, chooses, waits, is_halted, has_failed, has_ended, Holds, AllHold}
 use Rattle.occ_net_replay.proofs.Meeting.{chosen_same, none_both, offers_same}
 use Rattle.occ_net_replay.proofs.Putting.{mine}
-use Rattle.occ_net_replay.proofs.Quiet.{Quiet, is_read, done_at, done_has}
+use Rattle.occ_net_replay.proofs.Quiet.{done_at, done_has}
 use Rattle.occ_net_replay.proofs.States.{State, ended_done}
 use Rattle.occ_net_replay.proofs.Tables.{none_among, offers_there, or_first, or_second}
 

@@ -8,6 +8,7 @@ use mathlib.Core.Bool.{true≢false}
 use Rattle.occ_term.specs.Selecting.{is_ready_on, ready_among, chosen_of}
 use Rattle.occ_code.specs.declared.task.Task.{Task}
 use Rattle.occ_net_replay.specs.Replay.{Tasks, HasTask, goes, may_go, ready_from, offers_among, offers_on}
+use Rattle.occ_net_replay.specs.Moments.{NoneReady}
 
 pub set_same : {X : Type 0} (xs : List X) (i : ℕ) (x v : X) → slice_get xs i ≡ Some x → slice_get (slice_set xs i v) i ≡ Some v
 set_same [] i x v e = absurd cc
@@ -124,11 +125,7 @@ offers_there (Some u ∷ ts) c (suc i) t h o = or_second (offers_on u.wait c) (o
 -- ---- the rule
 
 module _ {A : Type 0} (channel : A → Option ℕ) (offers : ℕ → Bool) where
-  abbrev pub NoneReady : List A → Type 0
-  NoneReady [] = ⊤
-  NoneReady (a ∷ arms) = (is_ready_on offers (channel a) ≡ false) × NoneReady arms
-
-  pub none_among : (arms : List A) → NoneReady arms → ready_among channel offers arms ≡ []
+  pub none_among : (arms : List A) → NoneReady channel offers arms → ready_among channel offers arms ≡ []
   none_among [] h = refl
   none_among (a ∷ arms) h = ap (λ b. if b then a ∷ ready_among channel offers arms else ready_among channel offers arms) h.0 ∙ none_among arms h.1
 
@@ -136,7 +133,7 @@ module _ {A : Type 0} (channel : A → Option ℕ) (offers : ℕ → Bool) where
   get_none i x e = cc
 
   -- where none is ready, none is chosen
-  pub none_chosen : (pri : Bool) (pick : ℕ) (arms : List A) (a : A) → NoneReady arms → chosen_of channel pri pick offers arms ≡ Some a → ⊥
+  pub none_chosen : (pri : Bool) (pick : ℕ) (arms : List A) (a : A) → NoneReady channel offers arms → chosen_of channel pri pick offers arms ≡ Some a → ⊥
   none_chosen pri pick arms a h e =
       get_none (if pri then 0 else pick % length (ready_among channel offers arms)) a (ap (λ xs. slice_get xs (if pri then 0 else pick % length (ready_among channel offers arms))) (sym (none_among arms h)) ∙ e)
 

@@ -23,9 +23,10 @@ use Rattle.occ_code.specs.declared.task.Task.{Task}
 use Rattle.occ_code.specs.declared.task.Wait.{Wait}
 use Rattle.occ_code.specs.declared.task.Wait.TheVariants as W
 use Rattle.occ_net_replay.specs.Replay.{Tasks, HasTask, may_go, is_done}
+use Rattle.occ_net_replay.specs.Moments.{At}
 use Rattle.occ_net_replay.proofs.Changing.{put_holds}
 use Rattle.occ_net_replay.proofs.Fewer.{one_less}
-use Rattle.occ_net_replay.proofs.Holding.{AgreesBut, agrees_all, agrees_but, At, put, Stands, may_turn, may_join, offers, awaits, chooses, waits, is_halted, has_failed, has_ended, Own, AllHold}
+use Rattle.occ_net_replay.proofs.Holding.{AgreesBut, agrees_all, agrees_but, put, Stands, may_turn, may_join, offers, awaits, chooses, waits, is_halted, has_failed, has_ended, Own, AllHold}
 use Rattle.occ_net_replay.proofs.OneStop.{stopping_once, stopping_counts}
 use Rattle.occ_net_replay.proofs.Placed.{size, LeftPlaced, turn_placed}
 use Rattle.occ_net_replay.proofs.Putting.{In, InAmong, in_put, put_in, mine_among, ended_inside}

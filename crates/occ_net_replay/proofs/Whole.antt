@@ -23,6 +23,7 @@ use Rattle.occ_code.specs.declared.task.Wait.{Wait}
 use Rattle.occ_code.specs.declared.task.Wait.TheVariants as W
 use Rattle.occ_net_replay.specs.declared.choice.Choice.{Choice}
 use Rattle.occ_net_replay.specs.Replay.{Net, HasTask, may_go, ready_from, took_turn, with_branches, fault_of, first_fault, main_done, AreDone, ending_by, ending_of, OneTurn, Settled, settles, stays, meets, skips, forks, joins}
+use Rattle.occ_net_replay.specs.Moments.{Quiet}
 use Rattle.occ_net_replay.proofs.Faults.{noted_as, no_fault, none_faulted, ready_no_fault, part_waits, stands_noted}
 use Rattle.occ_net_replay.proofs.Forks.{Branch, branch_or_old, outside, same_branches}
 use Rattle.occ_net_replay.proofs.Holding.{SameNumbers, put, Belongs, Stands, Own}
@@ -30,7 +31,7 @@ use Rattle.occ_net_replay.proofs.Joining.{forked, JoinsAs, joins_as}
 use Rattle.occ_net_replay.proofs.Merging.{all_ended}
 use Rattle.occ_net_replay.proofs.Placed.{size, AreSome, LeftPlaced}
 use Rattle.occ_net_replay.proofs.Putting.{mine, at_put, turn_put}
-use Rattle.occ_net_replay.proofs.Quiet.{Quiet, is_calm, still_not, done_at, done_map, done_is, done_has, done_still, quiet_again}
+use Rattle.occ_net_replay.proofs.Quiet.{is_calm, still_not, done_at, done_map, done_is, done_has, done_still, quiet_again}
 use Rattle.occ_net_replay.proofs.Settling.{Follows, Next, settle_next, done_among}
 use Rattle.occ_net_replay.proofs.States.{IsThere, there_again, State, Live, live_at}
 use Rattle.occ_net_replay.proofs.Still.{meets_nobody}

@@ -57,14 +57,14 @@ AreBytes (b ∷ bs) = (b < 256) × AreBytes bs
 abbrev pub ReplaysAreRuns : Type 0
 ReplaysAreRuns =
     (u : Unfolding) (p : Program) (quantum : ℕ) (keyboard : List ℕ) (cs : List Choice) (net : Net)
-    → IsWellFormed u → Lawful u → IsCompiledFrom u p → All (λ b. b.quantum ≡ quantum) p.bodies → AreBytes keyboard → length cs < 2 ^ 64
+    → IsWellFormed u → Lawful u → IsCompiledFrom u quantum p → AreBytes keyboard → length cs < 2 ^ 64
     → Replays p keyboard cs net → Followed u keyboard quantum net
 
 -- a task that may take a turn then has one
 abbrev pub ReadyTasksStop : Type 0
 ReadyTasksStop =
     (u : Unfolding) (p : Program) (quantum : ℕ) (keyboard : List ℕ) (cs : List Choice) (net : Net) (n : ℕ) (body : Body) (t : Task)
-    → IsWellFormed u → Lawful u → IsCompiledFrom u p → All (λ b. b.quantum ≡ quantum) p.bodies → AreBytes keyboard → 1 + length cs < 2 ^ 64
+    → IsWellFormed u → Lawful u → IsCompiledFrom u quantum p → AreBytes keyboard → 1 + length cs < 2 ^ 64
     → Replays p keyboard cs net → slice_get p.bodies n ≡ Some body → HasTask net.tasks n t → IsTrue (may_go t.wait)
     → (after : Task) × Stopping body t after
 
@@ -72,5 +72,5 @@ ReadyTasksStop =
 abbrev pub OneNeverForks : Type 0
 OneNeverForks =
     (u : Unfolding) (p : Program) (quantum : ℕ) (keyboard : List ℕ) (cs : List Choice) (net : Net) (n : ℕ) (body : Body) (t after : Task) (ns : List ℕ)
-    → IsWellFormed u → Lawful u → IsCompiledFrom u p → All (λ b. b.quantum ≡ quantum) p.bodies → AreBytes keyboard → 1 + length cs < 2 ^ 64
+    → IsWellFormed u → Lawful u → IsCompiledFrom u quantum p → AreBytes keyboard → 1 + length cs < 2 ^ 64
     → Replays p keyboard cs net → p.bodies ≡ body ∷ [] → HasTask net.tasks n t → IsTrue (may_go t.wait) → Stopping body t after → after.wait ≡ Joins ns → ⊥

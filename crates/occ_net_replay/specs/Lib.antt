@@ -5,3 +5,4 @@ pub mod Endings
 pub mod Examples
 pub mod Sharing
 pub mod OneReplay
+pub mod Moments

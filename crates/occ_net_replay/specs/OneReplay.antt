@@ -11,5 +11,5 @@ use Rattle.occ_net_replay.specs.Replay.{Net, Replays}
 abbrev pub OneReplay : Type 0
 OneReplay =
     (u : Unfolding) (p : Program) (quantum : ℕ) (keyboard : List ℕ) (cs : List Choice) (a b : Net)
-    → IsWellFormed u → Lawful u → IsCompiledFrom u p → All (λ x. x.quantum ≡ quantum) p.bodies → AreBytes keyboard → length cs < 2 ^ 64
+    → IsWellFormed u → Lawful u → IsCompiledFrom u quantum p → AreBytes keyboard → length cs < 2 ^ 64
     → Replays p keyboard cs a → Replays p keyboard cs b → a ≡ b

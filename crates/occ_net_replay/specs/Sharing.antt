@@ -35,5 +35,5 @@ pub record SharesStore (p : Program) (net : Net) (a : System) : Type 0 where
 abbrev pub ReplaysShareStore : Type 0
 ReplaysShareStore =
     (u : Unfolding) (p : Program) (quantum : ℕ) (keyboard : List ℕ) (cs : List Choice) (net : Net)
-    → IsWellFormed u → Lawful u → IsCompiledFrom u p → All (λ b. b.quantum ≡ quantum) p.bodies → AreBytes keyboard → length cs < 2 ^ 64
+    → IsWellFormed u → Lawful u → IsCompiledFrom u quantum p → AreBytes keyboard → length cs < 2 ^ 64
     → Replays p keyboard cs net → (f : Followed u keyboard quantum net) × SharesStore p net f.system

@@ -16,8 +16,7 @@ use Rattle.occ_net_replay.specs.Replay.{Net, Tasks, HasTask, may_go, Replays}
 pub record IsReplay (u : Unfolding) (p : Program) (quantum : ℕ) (keyboard : List ℕ) (cs : List Choice) (net : Net) : Type 0 where
   pub well_formed : IsWellFormed u
   pub lawful : Lawful u
-  pub compiled : IsCompiledFrom u p
-  pub same_quantum : All (λ b. b.quantum ≡ quantum) p.bodies
+  pub compiled : IsCompiledFrom u quantum p
   pub bytes : AreBytes keyboard
   pub few : 1 + length cs < 2 ^ 64
   pub replays : Replays p keyboard cs net

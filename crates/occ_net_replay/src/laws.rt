@@ -4,6 +4,7 @@ ghost use Rattle.occ_term.specs.Examples.{PriorityTakesFirst};
 ghost use Rattle.occ_code.specs.declared.task.Arm.{Arm};
 ghost use Rattle.occ_net_replay.specs.Examples.{ChoiceRows, EndingRows, ForkRows, MeetingRows, FirstWithPriority, TurnRows};
 ghost use Rattle.occ_net_replay.specs.Following.{OneNeverForks, ReadyTasksStop, ReplaysAreRuns};
+ghost use Rattle.occ_net_replay.specs.Moments.{OneRunThroughout};
 ghost use Rattle.occ_net_replay.specs.OneReplay.{OneReplay};
 ghost use Rattle.occ_net_replay.specs.Sharing.{ReplaysShareStore};
 ghost use Rattle.occ_net_replay.specs.Waiting.{TurnsAreFew, TurnsAwaitAlone, TurnsForkAlone, TurnsOfferAlone};
@@ -67,4 +68,10 @@ pub fn priority_takes_first()
 /// The same choices have one replay.
 pub fn one_replay()
     ensures { OneReplay }
+{}
+
+/// One run follows a replay from its start on, with each process at the same stop between two turns,
+/// where nothing is possible that needs no turn.
+pub fn one_run_throughout()
+    ensures { OneRunThroughout }
 {}

@@ -19,7 +19,7 @@ use Rattle.occ_term.specs.Runs.{communications, messages_on, shown, shown_by, En
 use Rattle.occ_term.specs.TermTyping.{Declared}
 use Rattle.occ_term.specs.Unfolding.{Unfolding, IsWellFormed, declared, meaning, Lawful}
 use Rattle.occ_code.specs.Alike.{FitsProtocol}
-use Rattle.occ_code.specs.Sequential.Compiled.{Program, IsCompiledFrom, AllDo, CodeRefuses}
+use Rattle.occ_code.specs.Sequential.Compiled.{Program, IsCodeOf, IsCompiledFrom, AllDo, CodeRefuses}
 use Rattle.occ_code.specs.Sequential.Machine.{Body}
 use Rattle.occ_code.specs.declared.compiler.code.CodeFault.{CodeFault}
 use Rattle.occ_code.specs.declared.compiler.code.CodeFault.TheVariants as code
@@ -84,24 +84,24 @@ none_if (Some e) q h = absurd (h (ap (λ x. Some x) q))
 
 -- ---- the headline
 
-followed : (u : Unfolding) (p : Program) (keyboard : List ℕ) (list : List Choice) (o : Outcome) → IsWellFormed u → Lawful u → IsCompiledFrom u p → All (λ b. b.quantum ≡ 1) p.bodies → AreBytes keyboard → (out : IsOutcome p keyboard list o) → length o.choices.items < 2 ^ 64 → Followed u keyboard 1 out.net
-followed u p keyboard list o w lawful from quantum bytes out small = replays_are_runs u p 1 keyboard o.choices.items out.net w lawful from quantum bytes small out.replays
+followed : (u : Unfolding) (quantum : ℕ) (p : Program) (keyboard : List ℕ) (list : List Choice) (o : Outcome) → IsWellFormed u → Lawful u → IsCompiledFrom u quantum p → AreBytes keyboard → (out : IsOutcome p keyboard list o) → length o.choices.items < 2 ^ 64 → Followed u keyboard quantum out.net
+followed u quantum p keyboard list o w lawful from bytes out small = replays_are_runs u p quantum keyboard o.choices.items out.net w lawful from bytes small out.replays
 
 -- what an outcome's communications carry on the screen's and the error channel
-pub outputs_are_bytes : (u : Unfolding) (p : Program) (keyboard : List ℕ) (list : List Choice) (o : Outcome) → IsWellFormed u → Lawful u → IsCompiledFrom u p → All (λ b. b.quantum ≡ 1) p.bodies → AreBytes keyboard → IsOutcome p keyboard list o → length o.choices.items < 2 ^ 64 → AreByteMessages 1 o.trace.items × AreByteMessages 2 o.trace.items
-outputs_are_bytes u p keyboard list o w lawful from quantum bytes out small =
-    let f = followed u p keyboard list o w lawful from quantum bytes out small in
+pub outputs_are_bytes : (u : Unfolding) (quantum : ℕ) (p : Program) (keyboard : List ℕ) (list : List Choice) (o : Outcome) → IsWellFormed u → Lawful u → IsCompiledFrom u quantum p → AreBytes keyboard → IsOutcome p keyboard list o → length o.choices.items < 2 ^ 64 → AreByteMessages 1 o.trace.items × AreByteMessages 2 o.trace.items
+outputs_are_bytes u quantum p keyboard list o w lawful from bytes out small =
+    let f = followed u quantum p keyboard list o w lawful from bytes out small in
     let first = first_protocols u w in
     let fits : (c : ℕ) → AllFit ((declared u).protocols c) (messages_on c (map communication_of o.trace.items)) = λ c. subst (λ xs. AllFit ((declared u).protocols c) (messages_on c xs)) out.trace (f.fits c) in
     (bytes_on (declared u).protocols 1 first.0 o.trace.items (fits 1), bytes_on (declared u).protocols 2 first.1 o.trace.items (fits 2))
 
-pub headline : (source keyboard : List ℕ) (list : List Choice) (trace : Bool) (u : Unfolding) (p : Program) (channels : List Channel) (o : Outcome) (played : Played) (bytes : List ℕ)
-    → Unfolds source u → Lawful u → IsCompiledFrom u p → All (λ b. b.quantum ≡ 1) p.bodies → AreBytes keyboard → channels ≡ p.channels → IsOutcome p keyboard list o → length o.choices.items < 2 ^ 64
+pub headline : (quantum : ℕ) (source keyboard : List ℕ) (list : List Choice) (trace : Bool) (u : Unfolding) (p : Program) (channels : List Channel) (o : Outcome) (played : Played) (bytes : List ℕ)
+    → Unfolds source u → Lawful u → IsCodeOf u quantum p → AreBytes keyboard → channels ≡ p.channels → IsOutcome p keyboard list o → length o.choices.items < 2 ^ 64
     → played.ending ≡ o.ending → played.choices ≡ o.choices
     → bytes ≡ answer_text (shown_by (names_of channels) (map communication_of o.trace.items)) o.ending trace
-    → IsAnswer source keyboard list trace played bytes
-headline source keyboard list trace u p channels o played bytes x lawful from quantum keys chan out small same_end same_choices is =
-    let f = followed u p keyboard list o x.well_formed lawful from quantum keys out small in
+    → IsAnswer quantum source keyboard list trace played bytes
+headline quantum source keyboard list trace u p channels o played bytes x lawful from keys chan out small same_end same_choices is =
+    let f = followed u quantum p keyboard list o x.well_formed lawful from.does keys out small in
     let ends : or_limit (ending_of out.net) ≡ played.ending = sym out.ending ∙ sym same_end in
     let choices : o.choices.items ≡ played.choices.items = ap (λ v. v.items) (sym same_choices) in
     let shows : map communication_of o.trace.items ≡ communications f.events = sym out.trace ∙ sym f.communicates in
@@ -114,7 +114,7 @@ headline source keyboard list trace u p channels o played bytes x lawful from qu
       run = f.run;
       ends = subst (λ e. EndsBy HaltMode f.system (ending_as e)) ends f.ends;
       is =
-          is ∙ ap (λ cs. answer_text (shown_by (names_of cs) (map communication_of o.trace.items)) o.ending trace) (chan ∙ from.channels)
+          is ∙ ap (λ cs. answer_text (shown_by (names_of cs) (map communication_of o.trace.items)) o.ending trace) (chan ∙ from.does.channels)
           ∙ ap (λ xs. answer_text (shown_by (names_of u.channels) xs) o.ending trace) shows
           ∙ ap (λ e. answer_text (shown (names_of u.channels) f.events) e trace) (sym same_end);
       used = subst (λ cs. Begins cs list) choices out.used;
@@ -124,6 +124,8 @@ headline source keyboard list trace u p channels o played bytes x lawful from qu
       net = out.net;
       replays = subst (λ cs. Replays p keyboard cs out.net) choices out.replays;
       turns = f.turns;
+      communicates = f.communicates;
+      ending = same_end ∙ out.ending;
       output = λ c. f.output c ∙ ap (messages_on c) (sym f.communicates);
       input = λ c. f.input c ∙ ap (messages_on c) (sym f.communicates);
       fits = λ c. subst (λ xs. AllFit ((declared u).protocols c) (messages_on c xs)) (sym f.communicates) (f.fits c);

@@ -5,3 +5,4 @@ mod Texts
 mod Traces
 mod Headline
 mod Statuses
+mod Again

@@ -25,8 +25,8 @@ are_bytes (b ∷ bs) h = (h 0, are_bytes bs (λ k. h (suc k)))
 pub starts : (p : Program) (kb : List ℕ) (n : Network) → ((k : List ℕ) → Holds p k n (first_net p k)) → HasReplayed p kb [] n
 starts p kb n h = record { net = first_net p kb; replays = begins; holds = h kb }
 
-pub stands : (p : Program) (kb : List ℕ) (cs : List Choice) (n : Network) (q : (quantum : ℕ) × All (λ b. b.quantum ≡ quantum) p.bodies) → 1 + length cs < 2 ^ 64 → (h : HasReplayed p kb cs n) → ending_of h.net ≡ None → Standing p kb n
-stands p kb cs n q few h going = record { quantum = q.0; same_quantum = q.1; choices = cs; few = few; net = h.net; replays = h.replays; open_end = going; holds = h.holds }
+pub stands : (p : Program) (kb : List ℕ) (cs : List Choice) (n : Network) → 1 + length cs < 2 ^ 64 → (h : HasReplayed p kb cs n) → ending_of h.net ≡ None → Standing p kb n
+stands p kb cs n few h going = record { choices = cs; few = few; net = h.net; replays = h.replays; open_end = going; holds = h.holds }
 
 pub one_more_turn : (p : Program) (kb : List ℕ) (cs : List Choice) (c : Choice) (old new : Network) (h : HasReplayed p kb cs old) → ending_of h.net ≡ None → ((net : Net) → Holds p kb old net → TurnsTo p kb c net new) → HasReplayed p kb (cs ++ c ∷ []) new
 one_more_turn p kb cs c old new h going turns =

@@ -36,6 +36,7 @@ fault_small (play.Check f) = omega arith
 fault_small (play.Usage usage.Memory) = omega arith
 fault_small (play.Usage f) = omega arith
 fault_small (play.Code code.Memory) = omega arith
+fault_small (play.Code code.BadQuantum) = omega arith
 fault_small (play.Code f) = omega arith
 fault_small (play.Write written) = omega arith
 fault_small (play.Memory e) = omega arith
@@ -53,7 +54,7 @@ failure_small (Words error) = omega arith
 failure_small Arguments = omega arith
 
 came_from_fault : {W : Type 0} (contents : W → Option (List ℕ)) (source keyboard : List ℕ) (list : List Choice) (trace : Bool) (old new : Counted W) (f : PlayFault)
-    → AfterFault contents (IsSomeAnswer source keyboard list trace) source old new f → CameTo source keyboard list trace (Err f)
+    → AfterFault contents (IsSomeAnswer 1 source keyboard list trace) source old new f → CameTo source keyboard list trace (Err f)
 came_from_fault contents source keyboard list trace old new (play.Text f) h = h.0
 came_from_fault contents source keyboard list trace old new (play.Parse f) h = h.0
 came_from_fault contents source keyboard list trace old new (play.Check f) h = h.0
@@ -63,8 +64,8 @@ came_from_fault contents source keyboard list trace old new (play.Write written)
 came_from_fault contents source keyboard list trace old new (play.Memory e) h = h.0
 
 pub came_to : {W : Type 0} (contents : W → Option (List ℕ)) (source keyboard : List ℕ) (list : List Choice) (trace : Bool) (old new : Counted W) (r : Result Played PlayFault)
-    → IfOk r (λ played. Wrote contents (IsAnswer source keyboard list trace played) old new)
-    → IfErr r (AfterFault contents (IsSomeAnswer source keyboard list trace) source old new)
+    → IfOk r (λ played. Wrote contents (IsAnswer 1 source keyboard list trace played) old new)
+    → IfErr r (AfterFault contents (IsSomeAnswer 1 source keyboard list trace) source old new)
     → CameTo source keyboard list trace r
 came_to contents source keyboard list trace old new (Ok played) h g = (h.0, h.1)
 came_to contents source keyboard list trace old new (Err f) h g = came_from_fault contents source keyboard list trace old new f g

@@ -7,10 +7,10 @@ use Rattle.occ_play.specs.declared.fault.PlayFault.TheVariants as play
 use Rattle.occ_play.specs.Playing.{IsAnswer, IsSomeAnswer, Refuses}
 use Rattle.occ_play.specs.Status.{status}
 
--- a run of the source has an answer; a write of one failed; or the source was refused
+-- a run of the source, with turns of quantum 1, has an answer; a write of one failed; or the source was refused
 abbrev pub CameTo : (source keyboard : List ℕ) → List Choice → Bool → Result Played PlayFault → Type 0
-CameTo source keyboard list trace (Ok played) = (bytes : List ℕ) × IsAnswer source keyboard list trace played bytes
-CameTo source keyboard list trace (Err (play.Write written)) = (bytes : List ℕ) × IsSomeAnswer source keyboard list trace bytes
+CameTo source keyboard list trace (Ok played) = (bytes : List ℕ) × IsAnswer 1 source keyboard list trace played bytes
+CameTo source keyboard list trace (Err (play.Write written)) = (bytes : List ℕ) × IsSomeAnswer 1 source keyboard list trace bytes
 CameTo source keyboard list trace (Err fault) = Refuses source fault
 
 -- the status of what playing them came to

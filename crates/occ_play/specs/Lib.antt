@@ -6,3 +6,4 @@ pub mod Status
 pub mod Playing
 pub mod Failures
 pub mod Coming
+pub mod Again

@@ -16,9 +16,9 @@ use Rattle.occ_term.specs.Sizes.{size_of}
 use Rattle.occ_term.specs.Refusals.{UsageRefuses}
 use Rattle.occ_term.specs.Unfolding.{Unfolding, declared, meaning, IsWellFormed, Lawful}
 use Rattle.occ_term.specs.System.{System, start, HaltMode}
-use Rattle.occ_term.specs.Runs.{Event, Run, communications, messages_on, shown, EndsBy}
+use Rattle.occ_term.specs.Runs.{Event, Run, communications, shown, EndsBy}
 use Rattle.occ_code.specs.Sequential.Emitted.{has_no_alt}
-use Rattle.occ_code.specs.Sequential.Compiled.{Program, IsCompiledFrom, most_instructions}
+use Rattle.occ_code.specs.Sequential.Compiled.{Program, IsCodeOf, most_instructions}
 use Rattle.occ_check_meaning.specs.ProgramUnfolding.{UnfoldsTo}
 use Rattle.occ_check.specs.declared.fault.CheckFault.{CheckFault}
 use Rattle.occ_check.specs.CheckRefuses.{CheckRefuses}
@@ -32,9 +32,9 @@ use Rattle.occ_play.specs.declared.fault.PlayFault.{PlayFault}
 use Rattle.occ_play.specs.declared.fault.PlayFault.TheVariants as play
 use Rattle.occ_play.specs.Answers.{answer_text, names_of}
 use Rattle.occ_play.specs.Counting.{failures_of, writer_of}
-use Rattle.occ_net_replay.specs.Following.{AllFit, ending_as, process_in}
+use Rattle.occ_net_replay.specs.Following.{AllFit, ending_as, or_limit, process_in}
 use Rattle.occ_play.specs.Outcomes.{Begins}
-use Rattle.occ_net_replay.specs.Replay.{Net, Replays}
+use Rattle.occ_net_replay.specs.Replay.{Net, Replays, ending_of}
 
 -- ---- what a text is
 
@@ -54,32 +54,36 @@ pub record Unfolds (source : List ℕ) (u : Unfolding) : Type 0 where
 
 -- ---- the answer of an accepted program
 
--- There is an unfolding of the text that keeps the usage rules, and a run of its system, with one turn for each used
--- choice by the process that the choice selects, whose answer the bytes are, with that run's ending. The used choices
--- are a beginning of the list, and all of it where the run goes on. On each channel the messages output and those
--- input are, in order, the communicated ones, each of the channel's protocol.
-pub record IsAnswer (source keyboard : List ℕ) (list : List Choice) (trace : Bool) (played : Played) (bytes : List ℕ) : Type 0 where
+-- There is an unfolding of the text that keeps the usage rules, and a run of its system, with one turn of this quantum for
+-- each used choice by the process that the choice selects, whose answer the bytes are, with that run's ending. The used
+-- choices are a beginning of the list, and all of it where the run goes on. Which process a choice selects is what the
+-- replay of the used choices says, over the program's code for that quantum: it has the run's turns, communications and
+-- ending. On each channel the messages output and those input are, in order, the communicated ones, each of the channel's
+-- protocol.
+pub record IsAnswer (quantum : ℕ) (source keyboard : List ℕ) (list : List Choice) (trace : Bool) (played : Played) (bytes : List ℕ) : Type 0 where
   pub program : Unfolding
   pub unfolds : Unfolds source program
   pub lawful : Lawful program
   pub events : List Event
   pub system : System
-  pub run : Run HaltMode 1 (start (meaning program) keyboard) events system
+  pub run : Run HaltMode quantum (start (meaning program) keyboard) events system
   pub ends : EndsBy HaltMode system (ending_as played.ending)
   pub is : bytes ≡ answer_text (shown (names_of program.channels) events) played.ending trace
   pub used : Begins played.choices.items list
   pub whole : played.ending ≡ E.Limit → played.choices.items ≡ list
   pub compiled : Program
-  pub from : IsCompiledFrom program compiled
+  pub from : IsCodeOf program quantum compiled
   pub net : Net
   pub replays : Replays compiled keyboard played.choices.items net
   pub turns : map process_in events ≡ net.turns
-  pub output : (c : ℕ) → net.output c ≡ messages_on c (communications events)
-  pub input : (c : ℕ) → net.input c ≡ messages_on c (communications events)
-  pub fits : (c : ℕ) → AllFit ((declared program).protocols c) (messages_on c (communications events))
+  pub communicates : communications events ≡ net.trace
+  pub ending : played.ending ≡ or_limit (ending_of net)
+  pub output : (c : ℕ) → net.output c ≡ (shown (names_of program.channels) events).messages c
+  pub input : (c : ℕ) → net.input c ≡ (shown (names_of program.channels) events).messages c
+  pub fits : (c : ℕ) → AllFit ((declared program).protocols c) ((shown (names_of program.channels) events).messages c)
 
-abbrev pub IsSomeAnswer : (source keyboard : List ℕ) → List Choice → Bool → List ℕ → Type 0
-IsSomeAnswer source keyboard list trace bytes = (played : Played) × IsAnswer source keyboard list trace played bytes
+abbrev pub IsSomeAnswer : ℕ → (source keyboard : List ℕ) → List Choice → Bool → List ℕ → Type 0
+IsSomeAnswer quantum source keyboard list trace bytes = (played : Played) × IsAnswer quantum source keyboard list trace played bytes
 
 -- ---- refusals
 

@@ -17,7 +17,7 @@ ending_status Stopped = 2
 ending_status (Fault fault) = 3
 ending_status Limit = 4
 
--- 1 for a refused source, 5 for want of memory, 6 for a failed write
+-- 1 for a refused source, 5 for want of memory, 6 for a failed write, 7 for a quantum that is none
 abbrev pub fault_status : PlayFault → ℕ
 fault_status (play.Text text.Memory) = 5
 fault_status (play.Text fault) = 1
@@ -28,6 +28,7 @@ fault_status (play.Check fault) = 1
 fault_status (play.Usage usage.Memory) = 5
 fault_status (play.Usage fault) = 1
 fault_status (play.Code code.Memory) = 5
+fault_status (play.Code code.BadQuantum) = 7
 fault_status (play.Code fault) = 1
 fault_status (play.Write written) = 6
 fault_status (play.Memory e) = 5

@@ -4,6 +4,7 @@
 mod answer;
 pub mod counted;
 pub mod fault;
+pub mod laws;
 pub mod plan;
 pub mod playing;
 pub mod program;

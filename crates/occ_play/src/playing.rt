@@ -51,9 +51,9 @@ pub fn play<W: Write>(
 ) -> Result<Played, PlayFault>
     requires room { failures_of out.old < 2 ^ 64 - 1 }
     ensures played { IfOk result (λ played. Wrote W.contents
-        (IsAnswer source.now keyboard.now (choices_of plan.now) trace played) out.old out.new) }
+        (IsAnswer 1 source.now keyboard.now (choices_of plan.now) trace played) out.old out.new) }
     ensures fault { IfErr result (AfterFault W.contents
-        (IsSomeAnswer source.now keyboard.now (choices_of plan.now) trace) source.now out.old out.new) }
+        (IsSomeAnswer 1 source.now keyboard.now (choices_of plan.now) trace) source.now out.old out.new) }
 {
     let (played, bytes) = answered(alloc, source, keyboard, plan, trace)?;
     match write_answer(bytes.as_slice(), out) {
@@ -70,7 +70,7 @@ fn answered(
     plan: &Plan,
     trace: bool,
 ) -> Result<(Played, Vec<u8>), PlayFault>
-    ensures answer { IfOk result (λ r. IsAnswer source.now keyboard.now (choices_of plan.now) trace r.0 r.1.items) }
+    ensures answer { IfOk result (λ r. IsAnswer 1 source.now keyboard.now (choices_of plan.now) trace r.0 r.1.items) }
     ensures refused { IfErr result (Refuses source.now) }
 {
     let checked = accepted(alloc, source)?;
@@ -120,7 +120,7 @@ fn front(alloc: Global, source: &[u8]) -> Result<Unfolded, PlayFault>
 }
 
 /// The exit status of a program that played so: 0 ended, 1 refused, 2 stopped, 3 fault, 4 limit,
-/// 5 want of memory, 6 a failed write.
+/// 5 want of memory, 6 a failed write, 7 a quantum that is none.
 pub fn status_of(played: &Result<Played, PlayFault>) -> u8
     ensures { result ≡ status played.now }
 {
@@ -137,6 +137,7 @@ pub fn status_of(played: &Result<Played, PlayFault>) -> u8
         | Err(PlayFault::Usage(UsageFault::Memory))
         | Err(PlayFault::Code(CodeFault::Memory))
         | Err(PlayFault::Memory(_)) => 5,
+        Err(PlayFault::Code(CodeFault::BadQuantum)) => 7,
         Err(PlayFault::Text(_))
         | Err(PlayFault::Parse(_))
         | Err(PlayFault::Check(_))

@@ -1,5 +1,5 @@
 //! A run of a plan.
-ghost use Rattle.std.specs.Prelude.{◌≡◌, All, IfOk, ℕ};
+ghost use Rattle.std.specs.Prelude.{IfOk};
 ghost use Rattle.occ_play.specs.Outcomes.{IsOutcome};
 ghost use Rattle.occ_play.specs.Plans.{choices_of};
 
@@ -21,14 +21,13 @@ pub(crate) struct Outcome {
     pub(crate) trace: Vec<Communication>,
 }
 
-/// Takes a turn for each choice of the plan, until the network ends. The bodies have one quantum.
+/// Takes a turn for each choice of the plan, until the network ends.
 pub(crate) fn run(
     alloc: Global,
     code: &Code,
     keyboard: &[u8],
     plan: &Plan,
 ) -> Result<Outcome, AllocError>
-    requires { (quantum : ℕ) × All (λ b. b.quantum ≡ quantum) code.now.bodies }
     ensures { IfOk result (IsOutcome code.now keyboard.now (choices_of plan.now)) }
 {
     let mut scratch = Scratch::new(alloc);

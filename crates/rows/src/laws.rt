@@ -1,8 +1,7 @@
 //! The laws of the definitions are public calls that do nothing: each stands, and can be called.
-use std::test::Fail;
 
 #[test]
-fn operators_and_messages_have_laws(_rt: HostRuntime) -> Result<(), Fail> {
+fn laws_can_be_called(_rt: HostRuntime) {
     occ_term::laws::values();
     occ_term::laws::places();
     occ_term::laws::ready_arms();
@@ -11,11 +10,6 @@ fn operators_and_messages_have_laws(_rt: HostRuntime) -> Result<(), Fail> {
     occ_term::laws::messages();
     occ_term::laws::assignments();
     occ_term::laws::usage();
-    Ok(())
-}
-
-#[test]
-fn small_programs_have_laws(_rt: HostRuntime) -> Result<(), Fail> {
     occ_term::laws::writes_a();
     occ_term::laws::divides();
     occ_term::laws::halts();
@@ -31,11 +25,6 @@ fn small_programs_have_laws(_rt: HostRuntime) -> Result<(), Fail> {
     occ_term::laws::fault_halts();
     occ_term::laws::joins();
     occ_term::laws::turns_are_steps();
-    Ok(())
-}
-
-#[test]
-fn first_programs_have_laws(_rt: HostRuntime) -> Result<(), Fail> {
     occ_term::first_rows::letter_goes_on();
     occ_term::first_rows::letter_ends();
     occ_term::first_rows::stop_stops();
@@ -43,28 +32,15 @@ fn first_programs_have_laws(_rt: HostRuntime) -> Result<(), Fail> {
     occ_term::first_rows::empty_sequence();
     occ_term::first_rows::meets_at_once();
     occ_term::first_rows::no_turn();
-    Ok(())
-}
-
-#[test]
-fn limits_have_laws(_rt: HostRuntime) -> Result<(), Fail> {
     occ_term::limit_rows::limits();
     occ_term::limit_rows::accepts();
-    Ok(())
-}
-
-#[test]
-fn steps_have_one_result(_rt: HostRuntime) -> Result<(), Fail> {
     occ_term::one_result::one_step();
     occ_term::one_result::one_turn();
     occ_term::one_result::one_ending();
-    Ok(())
-}
-
-#[test]
-fn texts_and_replays_have_laws(_rt: HostRuntime) -> Result<(), Fail> {
     occ_text::laws::one_reading();
     occ_net_replay::laws::replays_are_runs();
     occ_net_replay::laws::ready_tasks_stop();
-    Ok(())
+    occ_code::laws::one_code();
+    occ_net_replay::laws::one_run_throughout();
+    occ_play::laws::played_again();
 }

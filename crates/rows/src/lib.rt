@@ -4,8 +4,6 @@
 #[cfg(test)]
 mod choices;
 #[cfg(test)]
-mod code_faults;
-#[cfg(test)]
 mod command_line;
 #[cfg(test)]
 mod compiled;
@@ -15,8 +13,6 @@ mod contents;
 mod examples;
 #[cfg(test)]
 mod first_programs;
-#[cfg(test)]
-mod grammar;
 #[cfg(test)]
 mod laws;
 #[cfg(test)]

@@ -1,37 +1,18 @@
 //! Texts: what is read as a program, and what is refused.
 use crate::row::{Row, check_row};
-use occ_play::Choice;
 use std::alloc::{AllocError, Global};
 use std::test::Fail;
 
 const HEAD: &[u8] = b"PROC main (CHAN OF BYTE keyboard, screen)\n";
 
 /// Programs that answer A.
-const LETTERS: [(&str, &[u8]); 6] = [
-    (
-        "plain",
-        b"PROC main (CHAN OF BYTE keyboard, screen)\n  screen ! 'A'\n:\n",
-    ),
-    (
-        "comments and blank lines",
-        b"-- a letter\nPROC main (CHAN OF BYTE keyboard, screen) -- main\n\n     -- one\n  screen ! 'A'-- out\n   \n:\n-- end",
-    ),
-    (
-        "carriage returns",
-        b"PROC main (CHAN OF BYTE keyboard, screen)\r\n\r\n  screen ! 'A'\r\n:\r\n",
-    ),
-    (
-        "a broken line",
-        b"PROC main (CHAN OF BYTE keyboard, -- two lines\n\n   screen)\n  screen ! 'A'\n:\n",
-    ),
-    (
-        "no spaces",
-        b"PROC main(CHAN OF BYTE keyboard,screen)\n  screen!'A'\n:\n",
-    ),
-    (
-        "many spaces",
-        b"PROC  main  ( CHAN  OF  BYTE  keyboard , screen )  \n  screen  !  'A'  \n:  \n",
-    ),
+const LETTERS: [&[u8]; 6] = [
+    b"PROC main (CHAN OF BYTE keyboard, screen)\n  screen ! 'A'\n:\n",
+    b"-- a letter\nPROC main (CHAN OF BYTE keyboard, screen) -- main\n\n     -- one\n  screen ! 'A'-- out\n   \n:\n-- end",
+    b"PROC main (CHAN OF BYTE keyboard, screen)\r\n\r\n  screen ! 'A'\r\n:\r\n",
+    b"PROC main (CHAN OF BYTE keyboard, -- two lines\n\n   screen)\n  screen ! 'A'\n:\n",
+    b"PROC main(CHAN OF BYTE keyboard,screen)\n  screen!'A'\n:\n",
+    b"PROC  main  ( CHAN  OF  BYTE  keyboard , screen )  \n  screen  !  'A'  \n:  \n",
 ];
 
 /// Texts that are refused, and how.
@@ -93,9 +74,8 @@ const REFUSALS: [(&[u8], &str); 23] = [
 
 #[test]
 fn texts_are_read(rt: HostRuntime) -> Result<(), Fail> {
-    let used = [Choice { which: 0, pick: 0 }, Choice { which: 1, pick: 0 }];
-    for (name, source) in LETTERS {
-        check_row(&rt, rt.alloc(), &Row::ended(name, source, b"A", &used))?;
+    for source in LETTERS {
+        check_row(&rt, rt.alloc(), &Row::ended(source, b"A", 2))?;
     }
     Ok(())
 }
@@ -115,11 +95,7 @@ fn every_printing_byte_is_read(rt: HostRuntime) -> Result<(), Fail> {
         }
     }
     source.extend_from_slice(b":\n")?;
-    let mut used = Vec::new(alloc);
-    for which in 0..94 {
-        used.push(Choice { which, pick: 0 })?;
-    }
-    check_row(&rt, alloc, &Row::ended("bytes", &source, &answer, &used))
+    check_row(&rt, alloc, &Row::ended(&source, &answer, 94))
 }
 
 #[test]
@@ -154,9 +130,8 @@ fn skips(alloc: Global, count: usize) -> Result<Vec<u8>, AllocError> {
 #[test]
 fn many_lines_are_read(rt: HostRuntime) -> Result<(), Fail> {
     let alloc = rt.alloc();
-    let used = [Choice { which: 0, pick: 0 }];
     let most = skips(alloc, 99_999)?;
-    check_row(&rt, alloc, &Row::ended("many lines", &most, b"", &used))?;
+    check_row(&rt, alloc, &Row::ended(&most, b"", 1))?;
     let more = skips(alloc, 100_000)?;
     check_row(&rt, alloc, &Row::refused(&more, "refused 43 TooLarge"))
 }
@@ -183,9 +158,8 @@ fn indent(source: &mut Vec<u8>, level: usize) -> Result<(), AllocError> {
 #[test]
 fn levels_are_read(rt: HostRuntime) -> Result<(), Fail> {
     let alloc = rt.alloc();
-    let used = [Choice { which: 0, pick: 0 }, Choice { which: 1, pick: 0 }];
     let deepest = nested(alloc, 64)?;
-    check_row(&rt, alloc, &Row::ended("64 levels", &deepest, b"A", &used))?;
+    check_row(&rt, alloc, &Row::ended(&deepest, b"A", 2))?;
     let too_deep = nested(alloc, 65)?;
     check_row(
         &rt,

@@ -9,7 +9,7 @@ use std::test::Fail;
 const HEAD: &[u8] = b"PROC main (CHAN OF BYTE keyboard, screen)\n";
 
 /// Bodies of `main` that have a tree.
-const BODIES: [&[u8]; 27] = [
+const BODIES: [&[u8]; 48] = [
     b"  screen ! 'A'\n",
     b"  INT x:\n  x := 2147483647 + 1\n",
     b"  INT x:\n  SEQ\n    x := (MOSTNEG INT) \\ (-1)\n    screen ! BYTE (x + 48)\n",
@@ -37,19 +37,41 @@ const BODIES: [&[u8]; 27] = [
     b"  CHAN OF msg c:\n  ALT\n    a = b & c ? CASE\n      data; x\n        SKIP\n      quit\n        STOP\n    ALT i = 0 FOR 2\n      d[i] ? x\n        SKIP\n    TRUE & SKIP\n      SKIP\n",
     b"  c ? CASE\n    data; x\n      SKIP\n    INT y:\n    pair; y; n::a\n      STOP\n",
     b"  VAL []BYTE name IS \"occam\":\n  VAL n IS 4:\n  PROTOCOL both IS INT; [4]BYTE:\n  PROC inner (VAL INT a, b, []INT v, CHAN OF both c, INT x)\n    v[a] := b\n  :\n  inner (1, 2, w, c, x)\n",
+    b"  INT x :\n  x := 1 + 2\n",
+    b"  BOOL a , b , c :\n  a := a AND b AND c\n",
+    b"  PRI ALT\n",
+    b"  IF\n",
+    b"  PAR\n",
+    b"  CASE 3\n",
+    b"  c ? CASE\n",
+    b"  c ? CASE data ; x\n",
+    b"  c ? CASE\n    data ; x\n      SKIP\n    quit\n      SKIP\n",
+    b"  c ? n :: got ; x\n",
+    b"  c ! 5 :: buf ; 1 ( BYTE )\n",
+    b"  a [ 0 ] , b := 1 , a [ 1 ]\n",
+    b"  [ 2 ] CHAN OF INT :: [ ] BYTE c :\n  CHAN OF msg d :\n  SKIP\n",
+    b"  VAL n IS 3 :\n  VAL [ ] BYTE s IS t :\n  VAL INT m IS n :\n  SKIP\n",
+    b"  CASE x\n    INT x , y\n      SKIP\n    INT z :\n    ELSE\n      SKIP\n",
+    b"  ALT\n    BOOL b & c ? x\n      SKIP\n    b & SKIP\n      STOP\n    c [ 1 ] ? x\n      SKIP\n",
+    b"  ALT\n    a = 1 & c ? CASE\n      data\n        SKIP\n    ALT i = 0 FOR 3\n      c [ i ] ? x\n        SKIP\n",
+    b"  IF\n    a\n      SKIP\n    IF i = 0 FOR n\n      i = 2\n        SKIP\n",
+    b"  SEQ i = 0 FOR 3\n    BYTE b :\n    SEQ\n      keyboard ? b\n",
+    b"  PROC f ( VAL INT a , b , [ ] BYTE t , CHAN OF INT c )\n    SKIP\n  :\n  f ( 1 , 2 , t , c )\n",
+    b"  PROTOCOL msg\n    CASE\n      data ; INT\n      quit\n  :\n  PROTOCOL p IS INT ; [ 4 ] BYTE :\n  x := ( - x ) REM ( SIZE y )\n",
 ];
 
 /// Whole sources that have a tree.
-const SOURCES: [&[u8]; 5] = [
+const SOURCES: [&[u8]; 6] = [
     b"",
     b"PROTOCOL msg\n  CASE\n    data; INT\n    quit\n:\nPROC main (CHAN OF BYTE keyboard, screen)\n  CHAN OF msg c:\n  PAR\n    SEQ\n      c ! data; 5\n      c ! quit\n    INT x:\n    SEQ\n      c ? CASE data; x\n      screen ! BYTE (x + 48)\n      c ? CASE data; x\n:\n",
     b"PROC swap (INT a, b)\n  a, b := b, a\n:\nPROC main (CHAN OF BYTE keyboard, screen)\n  INT x:\n  swap (x, x)\n:\n",
     b"PROC f ()\n  INT y:\n  y := 5\n:\nPROC main (CHAN OF BYTE keyboard, screen)\n  INT x:\n  SEQ\n    x := 1\n    f ()\n    screen ! BYTE (x + 48)\n:\n",
     b"PROC inc (INT a)\n  a := a + 1\n:\nPROC main (CHAN OF BYTE keyboard, screen)\n  [2]INT v:\n  PAR\n    inc (v[0])\n    inc (v[1])\n:\n",
+    b"VAL n IS 1 :\nPROTOCOL p IS INT :\nPROC main ( CHAN OF BYTE keyboard , screen )\n  SKIP\n:\n",
 ];
 
 /// Bodies of `main` that have no tree, and how they are refused.
-const REFUSED: [(&[u8], &str); 12] = [
+const REFUSED: [(&[u8], &str); 24] = [
     (
         b"  INT x:\n  x := 1 + 2 + 3\n",
         "refused 20 Unexpected line 3",
@@ -68,6 +90,63 @@ const REFUSED: [(&[u8], &str); 12] = [
     (b"  CASE 1\n    ELSE\n  SKIP\n", "refused 21 Level line 4"),
     (b"  screen !\n", "refused 20 Unexpected line 2"),
     (b"  SKIP\n  INT x:\n", "refused 21 Level line 3"),
+    (
+        b"  INT x :\n  x := 1 + 2 + 3\n",
+        "refused 20 Unexpected line 3",
+    ),
+    (
+        b"  BOOL a :\n  a := a AND a OR a\n",
+        "refused 20 Unexpected line 3",
+    ),
+    (b"  INT16 x :\n  SKIP\n", "refused 20 Unexpected line 2"),
+    (b"  TIMER x :\n  SKIP\n", "refused 20 Unexpected line 2"),
+    (b"  a [ 0 ] [ 1 ] := 1\n", "refused 20 Unexpected line 2"),
+    (
+        b"  [ 2 ] [ 3 ] INT a :\n  SKIP\n",
+        "refused 20 Unexpected line 2",
+    ),
+    (b"  SKIP\n  INT x :\n", "refused 21 Level line 3"),
+    (b"  SKIP SKIP\n", "refused 20 Unexpected line 2"),
+    (
+        b"  CASE x\n    1 , 2\n      SKIP\n    ELSE\n",
+        "refused 21 Level line 6",
+    ),
+    (
+        b"  ALT\n    1 ? x\n      SKIP\n",
+        "refused 20 Unexpected line 3",
+    ),
+    (
+        b"  PROC f ( a )\n    SKIP\n  :\n  f ( )\n",
+        "refused 20 Unexpected line 2",
+    ),
+    (
+        b"  PROC f ( VAL a )\n    SKIP\n  :\n  f ( )\n",
+        "refused 20 Unexpected line 2",
+    ),
+];
+
+/// Whole sources that have no tree, and how they are refused.
+const REFUSED_SOURCES: [(&[u8], &str); 8] = [
+    (
+        b"PROC main ( CHAN OF BYTE keyboard , screen )\n  screen ! 'A'\n",
+        "refused 22 Missing line 2",
+    ),
+    (
+        b"PROC main ( CHAN OF BYTE keyboard , screen )\n",
+        "refused 22 Missing line 1",
+    ),
+    (b"SEQ\n", "refused 20 Unexpected line 1"),
+    (b"INT x :\n", "refused 20 Unexpected line 1"),
+    (b"  VAL n IS 1 :\n", "refused 21 Level line 1"),
+    (
+        b"PROTOCOL msg\n  CASE\n:\nPROC main ( CHAN OF BYTE keyboard , screen )\n  SKIP\n: x\n",
+        "refused 20 Unexpected line 6",
+    ),
+    (
+        b"PROC main (CHAN OF BYTE keyboard, screen)\n  screen ! 'A'\n",
+        "refused 22 Missing line 2",
+    ),
+    (b"SKIP", "refused 20 Unexpected line 1"),
 ];
 
 fn check_tree(
@@ -119,9 +198,10 @@ fn sources_have_no_tree(rt: HostRuntime) -> Result<(), Fail> {
     for (body, refusal) in REFUSED {
         check_tree(&rt, alloc, &main_with(alloc, body)?, Some(refusal))?;
     }
-    let unended = b"PROC main (CHAN OF BYTE keyboard, screen)\n  screen ! 'A'\n";
-    check_tree(&rt, alloc, unended, Some("refused 22 Missing line 2"))?;
-    check_tree(&rt, alloc, b"SKIP", Some("refused 20 Unexpected line 1"))
+    for (source, refusal) in REFUSED_SOURCES {
+        check_tree(&rt, alloc, source, Some(refusal))?;
+    }
+    Ok(())
 }
 
 #[test]

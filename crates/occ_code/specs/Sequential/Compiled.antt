@@ -1,6 +1,6 @@
 -- Compiled programs: a body for each process, which does what the process's term does.
 -- Manual: nothing; this is (own).
-use Rattle.std.specs.Prelude.{List, [], false, length, reverse, ℕ, ⊤, ◌*◌, ◌+◌, ◌++◌, ◌<◌, ◌≤◌, ◌∷◌, ◌≡◌}
+use Rattle.std.specs.Prelude.{All, List, [], false, length, reverse, ℕ, ⊤, ◌*◌, ◌+◌, ◌++◌, ◌<◌, ◌≤◌, ◌∷◌, ◌≡◌}
 use Rattle.occ_term.specs.Terms.{Term}
 use Rattle.occ_term.specs.Unfolding.{Unfolding, IsWellFormed, Lawful, declared, meaning}
 use Rattle.occ_term.specs.Processes.{Numbered, processes_of}
@@ -36,18 +36,42 @@ instructions_in (b ∷ bs) = length b.code + instructions_in bs
 abbrev pub most_instructions : ℕ
 most_instructions = 262144
 
--- compiled from this source, within the limit of instructions
-pub record IsCompiledFrom (u : Unfolding) (p : Program) : Type 0 where
+-- the body of a term, for turns of this quantum: its code, the cells that the term uses, and those that it writes
+pub record IsBodyOf (t : Term) (quantum : ℕ) (b : Body) : Type 0 where
+  pub is : b ≡ body_of t b.cells b.writes quantum
+  pub cells : Lists b.cells (used_by (uses_of t))
+  pub writes : Lists b.writes (uses_of t).writes
+
+-- a body for each process
+abbrev pub AreBodiesOf : List Numbered → ℕ → List Body → Type 0
+AreBodiesOf [] quantum [] = ⊤
+AreBodiesOf [] quantum (b ∷ bs) = ⊥
+AreBodiesOf (p ∷ ps) quantum [] = ⊥
+AreBodiesOf (p ∷ ps) quantum (b ∷ bs) = IsBodyOf p.term quantum b × AreBodiesOf ps quantum bs
+
+-- compiled from this source, for turns that take so many stops of loops at most, within the limit of instructions
+pub record IsCompiledFrom (u : Unfolding) (quantum : ℕ) (p : Program) : Type 0 where
   pub channels : p.channels ≡ u.channels
   pub bodies : AllDo (declared u) 0 p.bodies (processes_of (meaning u))
+  pub quanta : All (λ b. b.quantum ≡ quantum) p.bodies
   pub small : instructions_in p.bodies ≤ most_instructions
+
+-- the code of this source: it does what the source does, and each body is what the code of its term is
+pub record IsCodeOf (u : Unfolding) (quantum : ℕ) (p : Program) : Type 0 where
+  pub does : IsCompiledFrom u quantum p
+  pub emitted : AreBodiesOf (processes_of (meaning u)) quantum p.bodies
+
+-- what means the same on the same channels has one code for each quantum
+abbrev pub OneCode : Type 0
+OneCode = (u v : Unfolding) (quantum : ℕ) (p q : Program) → meaning u ≡ meaning v → u.channels ≡ v.channels → IsCodeOf u quantum p → IsCodeOf v quantum q → p ≡ q
 
 -- compiled from some source that is well-formed and keeps the usage rules
 pub record IsCompiled (p : Program) : Type 0 where
   pub source : Unfolding
   pub well_formed : IsWellFormed source
   pub lawful : Lawful source
-  pub compiled : IsCompiledFrom source p
+  pub quantum : ℕ
+  pub compiled : IsCompiledFrom source quantum p
 
 -- how many stops of loops a turn may take at most
 abbrev pub IsQuantum : ℕ → Type 0
@@ -62,19 +86,6 @@ CodeRefuses BadQuantum quantum u = IsQuantum quantum → ⊥
 CodeRefuses Memory quantum u = IsQuantum quantum
 
 -- ---- private contracts alone cite what follows
-
--- the body of a term, with its cells
-pub record IsBodyOf (t : Term) (quantum : ℕ) (b : Body) : Type 0 where
-  pub is : b ≡ body_of t b.cells b.writes quantum
-  pub cells : Lists b.cells (used_by (uses_of t))
-  pub writes : Lists b.writes (uses_of t).writes
-
--- a body for each process
-abbrev pub AreBodiesOf : List Numbered → ℕ → List Body → Type 0
-AreBodiesOf [] quantum [] = ⊤
-AreBodiesOf [] quantum (b ∷ bs) = ⊥
-AreBodiesOf (p ∷ ps) quantum [] = ⊥
-AreBodiesOf (p ∷ ps) quantum (b ∷ bs) = IsBodyOf p.term quantum b × AreBodiesOf ps quantum bs
 
 -- Bodies were added for these processes, the one of the last process first.
 pub record AddsBodies (quantum : ℕ) (before : List Body) (ps : List Numbered) (after : List Body) : Type 0 where

@@ -1,10 +1,10 @@
 //! Compiled programs.
-ghost use Rattle.std.specs.Prelude.{◌≡◌, ◌<◌, ◌≤◌, IsTrue, IfOk, IfErr, IfSome, IfNone, All, None, Some, length, map, slice_get};
+ghost use Rattle.std.specs.Prelude.{◌≡◌, ◌<◌, ◌≤◌, IsTrue, IfOk, IfErr, IfSome, IfNone, None, Some, length, map, slice_get};
 ghost use Rattle.std.specs.Arc.{arc_value};
 ghost use Rattle.occ_term.specs.Processes.{processes_of};
 ghost use Rattle.occ_term.specs.Unfolding.{meaning};
 ghost use Rattle.occ_term.specs.View.{term_of};
-ghost use Rattle.occ_code.specs.Sequential.Compiled.{AreBodiesOf, IsCompiled, IsCompiledFrom, IsQuantum, IsRefused, CodeRefuses, most_instructions};
+ghost use Rattle.occ_code.specs.Sequential.Compiled.{AreBodiesOf, IsCodeOf, IsCompiled, IsQuantum, IsRefused, CodeRefuses, most_instructions};
 ghost use Rattle.occ_code.specs.Sequential.Compiled as compiled;
 ghost use Rattle.occ_code.specs.Sequential.Emitted.{HasNoAlt};
 
@@ -120,9 +120,8 @@ impl Code {
 ///
 /// As of `compile_for`, but for `BadQuantum`.
 pub fn compile(alloc: Global, checked: &Checked) -> Result<Code, CodeFault>
-    ensures compiled { IfOk result (λ c. IsCompiledFrom checked.now c) }
+    ensures compiled { IfOk result (λ c. IsCodeOf checked.now 1 c) }
     ensures no_alt { IfOk result (λ c. HasNoAlt (meaning checked.now)) }
-    ensures quantum { IfOk result (λ c. All (λ b. b.quantum ≡ 1) c.bodies) }
     ensures refused { IfErr result (λ fault. CodeRefuses fault 1 checked.now) }
 {
     compile_for(alloc, checked, 1)
@@ -135,9 +134,8 @@ pub fn compile(alloc: Global, checked: &Checked) -> Result<Code, CodeFault>
 /// `BadQuantum` for a quantum that isn't from 1 to 65,536, before all else; then `Early` for an ALT,
 /// `TooLarge` past the limit of instructions, and `Memory` for a refused growth.
 pub fn compile_for(alloc: Global, checked: &Checked, quantum: u32) -> Result<Code, CodeFault>
-    ensures compiled { IfOk result (λ c. IsCompiledFrom checked.now c) }
+    ensures compiled { IfOk result (λ c. IsCodeOf checked.now quantum c) }
     ensures no_alt { IfOk result (λ c. HasNoAlt (meaning checked.now)) }
-    ensures quantum { IfOk result (λ c. All (λ b. b.quantum ≡ quantum) c.bodies) }
     ensures refused { IfErr result (λ fault. CodeRefuses fault quantum checked.now) }
 {
     if quantum == 0 || quantum > MOST_QUANTUM {

@@ -8,24 +8,21 @@ use Rattle.occ_play.proofs.playing.answered.Goals as goal
 pub returns-in-Err-clause-refused : goal.returns-in-Err-clause-refused
 returns-in-Err-clause-refused c = code_refuses c.in_ok-checked.checked c.in-Err.fault c.in_ok-checked.ensures.found.0 c.in-Err.ensures.refused
 
-pub run-requires : goal.run-requires
-run-requires c = (1, c.in-Ok.ensures.quantum)
-
 pub answer-requires-clause-screen : goal.answer-requires-clause-screen
 answer-requires-clause-screen c =
     let small : length c.in_ok-outcome.outcome.choices.items < 2 ^ 64 = search rules in
     let keys : AreBytes c.args.keyboard.now = are_bytes c.args.keyboard.now (λ k. (c.type_inv.keyboard k).fits) in
-    (outputs_are_bytes c.in_ok-checked.checked c.in-Ok.code c.args.keyboard.now (choices_of c.args.plan.now) c.in_ok-outcome.outcome c.in_ok-checked.ensures.found.0.well_formed c.in_ok-checked.ensures.found.1 c.in-Ok.ensures.compiled c.in-Ok.ensures.quantum keys c.in_ok-outcome.ensures small).0
+    (outputs_are_bytes c.in_ok-checked.checked 1 c.in-Ok.code c.args.keyboard.now (choices_of c.args.plan.now) c.in_ok-outcome.outcome c.in_ok-checked.ensures.found.0.well_formed c.in_ok-checked.ensures.found.1 c.in-Ok.ensures.compiled.does keys c.in_ok-outcome.ensures small).0
 
 pub answer-requires-clause-error : goal.answer-requires-clause-error
 answer-requires-clause-error c =
     let small : length c.in_ok-outcome.outcome.choices.items < 2 ^ 64 = search rules in
     let keys : AreBytes c.args.keyboard.now = are_bytes c.args.keyboard.now (λ k. (c.type_inv.keyboard k).fits) in
-    (outputs_are_bytes c.in_ok-checked.checked c.in-Ok.code c.args.keyboard.now (choices_of c.args.plan.now) c.in_ok-outcome.outcome c.in_ok-checked.ensures.found.0.well_formed c.in_ok-checked.ensures.found.1 c.in-Ok.ensures.compiled c.in-Ok.ensures.quantum keys c.in_ok-outcome.ensures small).1
+    (outputs_are_bytes c.in_ok-checked.checked 1 c.in-Ok.code c.args.keyboard.now (choices_of c.args.plan.now) c.in_ok-outcome.outcome c.in_ok-checked.ensures.found.0.well_formed c.in_ok-checked.ensures.found.1 c.in-Ok.ensures.compiled.does keys c.in_ok-outcome.ensures small).1
 
 pub returns-clause-answer : goal.returns-clause-answer
 returns-clause-answer c =
     let small : length c.in_ok-outcome.outcome.choices.items < 2 ^ 64 = search rules in
     let keys : AreBytes c.args.keyboard.now = are_bytes c.args.keyboard.now (λ k. (c.type_inv.keyboard k).fits) in
-    headline c.args.source.now c.args.keyboard.now (choices_of c.args.plan.now) c.args.trace c.in_ok-checked.checked c.in-Ok.code c.channels.result.now c.in_ok-outcome.outcome _ _
-    c.in_ok-checked.ensures.found.0 c.in_ok-checked.ensures.found.1 c.in-Ok.ensures.compiled c.in-Ok.ensures.quantum keys c.channels.ensures c.in_ok-outcome.ensures small refl refl c.in_ok-bytes.ensures
+    headline 1 c.args.source.now c.args.keyboard.now (choices_of c.args.plan.now) c.args.trace c.in_ok-checked.checked c.in-Ok.code c.channels.result.now c.in_ok-outcome.outcome _ _
+    c.in_ok-checked.ensures.found.0 c.in_ok-checked.ensures.found.1 c.in-Ok.ensures.compiled keys c.channels.ensures c.in_ok-outcome.ensures small refl refl c.in_ok-bytes.ensures

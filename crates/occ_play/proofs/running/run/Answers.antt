@@ -21,7 +21,7 @@ take_turn-requires c =
     let small : 1 + length c.loop-ending.choices.items < 2 ^ 64 = search rules in
     let h = c.loop-ending.invariant.replayed in
     let going : ending_of h.net ≡ None = sym (c.ending.ensures c.args.code.now c.args.keyboard.now h.net h.holds) ∙ c.in_default.is in
-    stands c.args.code.now c.args.keyboard.now c.loop-ending.choices.items c.loop-ending.network c.requires small h going
+    stands c.args.code.now c.args.keyboard.now c.loop-ending.choices.items c.loop-ending.network small h going
 
 pub loop-ending-smaller : goal.loop-ending-smaller
 loop-ending-smaller c =

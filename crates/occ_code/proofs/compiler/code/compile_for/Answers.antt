@@ -5,10 +5,10 @@ use Rattle.occ_term.specs.Unfolding.{IsWellFormed}
 use Rattle.occ_term.specs.View.{term_of}
 use Rattle.occ_code.specs.Sequential.Emitted.{has_no_alt}
 use Rattle.occ_code.specs.Sequential.Compiled.{AreBodiesOf, IsCompiledFrom, IsRefused}
-use Rattle.occ_code.proofs.CompilingTerms.{compiled_as, of_quantum, refused_as}
+use Rattle.occ_code.proofs.CompilingTerms.{compiled_as, refused_as}
 use Rattle.occ_code.proofs.compiler.code.compile_for.Goals as goal
 
-from : (c : goal.In_ok-channels) → IsCompiledFrom c.args.checked.now (record { bodies = map arc_value c.in-Ok.bodies.items; channels = c.in_ok-channels.channels.items })
+from : (c : goal.In_ok-channels) → IsCompiledFrom c.args.checked.now c.args.quantum (record { bodies = map arc_value c.in-Ok.bodies.items; channels = c.in_ok-channels.channels.items })
 from c =
     let same = c.term.ensures ∙ ap (λ u. u.term) c.unfolded-unfolded.ensures in
     let some : 0 < c.args.quantum = omega (arith, c.if-quantum-eq0.false) in
@@ -19,16 +19,15 @@ from c =
 
 pub invariant_of-result : goal.invariant_of-result
 invariant_of-result c =
-    record { source = c.args.checked.now; well_formed = subst (λ u. IsWellFormed u) c.unfolded-unfolded.ensures c.well_formed-2.ensures; lawful = c.lawful.ensures; compiled = from c }
+    record { source = c.args.checked.now; well_formed = subst (λ u. IsWellFormed u) c.unfolded-unfolded.ensures c.well_formed-2.ensures; lawful = c.lawful.ensures; quantum = c.args.quantum; compiled = from c }
 
 pub returns-clause-compiled : goal.returns-clause-compiled
-returns-clause-compiled c = from c
+returns-clause-compiled c =
+    let same = c.term.ensures ∙ ap (λ u. u.term) c.unfolded-unfolded.ensures in
+    record { does = from c; emitted = subst (λ t. AreBodiesOf (processes_of (term_of t)) c.args.quantum (map arc_value c.in-Ok.bodies.items)) same c.in-Ok.ensures.bodies }
 
 pub returns-in-Err-clause-refused : goal.returns-in-Err-clause-refused
 returns-in-Err-clause-refused c =
     let same = ap term_of (c.term.ensures ∙ ap (λ u. u.term) c.unfolded-unfolded.ensures) in
     let some : 0 < c.args.quantum = omega (arith, c.if-quantum-eq0.false) in
     refused_as c.args.checked.now c.args.quantum c.in-Err.fault (some, c.if-quantum-gt-MOST_QUANTUM.false) (subst (λ t. IsRefused c.in-Err.fault t) same c.in-Err.ensures.refused)
-
-pub returns-clause-quantum : goal.returns-clause-quantum
-returns-clause-quantum c = of_quantum (processes_of (term_of c.term.result.now)) c.args.quantum (map arc_value c.in-Ok.bodies.items) c.in-Ok.ensures.bodies

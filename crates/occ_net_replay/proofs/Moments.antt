@@ -1,0 +1,53 @@
+-- Between two turns each process stands at the same stop in the network and in the system.
+use Rattle.std.proofs.Common.{◌≡◌, refl, sym, ap, subst, IsTrue, ℕ, ◌⊎◌, inl, inr, List, [], ◌∷◌}
+use Rattle.occ_term.specs.Processes.{Numbered}
+use Rattle.occ_term.specs.Selecting.{Enabled, SkipArm, InputArm}
+use Rattle.occ_term.specs.Steps.{Context, Left}
+use Rattle.occ_term.specs.System.{Process, Processes}
+use Rattle.occ_term.specs.TermTyping.{Declared}
+use Rattle.occ_term.specs.Uses.{Numbers}
+use Rattle.occ_term.specs.Values.{Store}
+use Rattle.occ_code.specs.Alike.{SameArms}
+use Rattle.occ_code.specs.Sequential.Alike.{Alike}
+use Rattle.occ_code.specs.Sequential.Compiled.{Program}
+use Rattle.occ_code.specs.Sequential.Machine.{Body}
+use Rattle.occ_code.specs.declared.task.Arm.{Arm}
+use Rattle.occ_code.specs.declared.task.Task.{Task}
+use Rattle.occ_code.specs.declared.task.Wait.{Wait}
+use Rattle.occ_code.specs.declared.task.Wait.TheVariants as W
+use Rattle.occ_net_replay.specs.Replay.{Tasks, HasTask, is_done}
+use Rattle.occ_net_replay.specs.Moments.{At, OnSameChannels, StopsAlike, both_go, both_join, both_offer, both_await, both_choose, both_fork, both_halt, both_fail, both_done, StandAlike}
+use Rattle.occ_net_replay.proofs.Holding.{Stands, may_turn, may_join, offers, awaits, chooses, waits, is_halted, has_failed, has_ended}
+use Rattle.occ_net_replay.proofs.Putting.{In, mine}
+use Rattle.occ_net_replay.proofs.States.{State}
+
+on_same : (d : Declared) (Go : Task → Left → Type 0) (t : Task) (k : List Context) (arms : List Arm) (es : List Enabled) → SameArms d Go t k arms es → OnSameChannels arms es
+on_same d Go t k [] [] h = tt
+on_same d Go t k [] (e ∷ es) h = absurd h
+on_same d Go t k (a ∷ arms) [] h = absurd h
+on_same d Go t k (a ∷ arms) (SkipArm again body ∷ es) h = (h.0.0, on_same d Go t k arms es h.1)
+on_same d Go t k (a ∷ arms) (InputArm again c list ∷ es) h = (h.0.0, on_same d Go t k arms es h.1)
+
+module _ (d : Declared) (p : Program) (procs : List Numbered) where
+  stops_alike : (k : ℕ) (body : Body) (t : Task) (own : Left) (ps : Processes) (but : Numbers) → Stands d p procs k body t own ps but → StopsAlike t.wait own ps
+  stops_alike k body t own ps but (may_turn g h a) = both_go g h
+  stops_alike k body t own ps but (may_join g n e a) = both_join g e
+  stops_alike k body t own ps but (offers w a) = subst (λ v. StopsAlike v own ps) (sym w) both_offer
+  stops_alike k body t own ps but (awaits w a) = subst (λ v. StopsAlike v own ps) (sym w) both_await
+  stops_alike k body t own ps but (chooses {arms = arms} {es = es} {j = j} w a) = subst (λ v. StopsAlike v own ps) (sym w) (both_choose (on_same d (Alike k d body) t j arms es a))
+  stops_alike k body t own ps but (waits w e n a) = subst (λ v. StopsAlike v own ps) (sym w) (both_fork e)
+  stops_alike k body t own ps but (is_halted w) = subst (λ v. StopsAlike v own ps) (sym w) both_halt
+  stops_alike k body t own ps but (has_failed w) = subst (λ v. StopsAlike v own ps) (sym w) both_fail
+  stops_alike k body t own ps but (has_ended w) = subst (λ v. StopsAlike v own ps) (sym w) both_done
+
+  pub stand_alike : (k : ℕ) (tasks : Tasks) (proc : Process) (s : Store) → State d p procs k tasks proc s → StandAlike tasks proc
+  stand_alike k tasks proc s st = record { each = each; others = λ n t h. by n t (st.live n t h) }
+    where
+      each : (n : ℕ) (own : Left) (ps : Processes) → At n own ps proc → (t : Task) × HasTask tasks n t × StopsAlike t.wait own ps
+      each n own ps at =
+          let y = (mine d p procs k s tasks at st.holds).0 in
+          (y.task, y.has_task, stops_alike k y.belongs.body y.task own ps y.but y.stands)
+
+      by : (n : ℕ) (t : Task) → In n proc ⊎ (t.wait ≡ W.Done) → ((own : Left) × (ps : Processes) × At n own ps proc) ⊎ IsTrue (is_done t.wait)
+      by n t (inl x) = inl (x.own, x.branches, x.at)
+      by n t (inr e) = inr (ap is_done e)

@@ -1,0 +1,100 @@
+-- The run that a replay is followed by, at every moment: between two turns each process stands at the same stop in both.
+use Rattle.std.specs.Prelude.{Bool, IsTrue, List, Option, [], false, length, nat_eq, ℕ, ⊤, ◌<◌, ◌^◌, ◌++◌, ◌||◌, ◌∷◌, ◌≡◌, ◌⊎◌}
+use Rattle.occ_term.specs.declared.fault.Fault.{Fault}
+use Rattle.occ_term.specs.declared.message.Message.{Message}
+use Rattle.occ_term.specs.Examples.{IsGoing}
+use Rattle.occ_term.specs.Runs.{Event}
+use Rattle.occ_term.specs.Selecting.{Enabled, is_ready_on, waits_for}
+use Rattle.occ_term.specs.Steps.{Doing, Offering, Awaiting, Choosing, Forking, Halted, Faulted, Done, Context, Left, left}
+use Rattle.occ_term.specs.System.{Process, process, Processes, no_processes, and_process, System, system, AllEnded}
+use Rattle.occ_term.specs.Terms.{Branches, Reception}
+use Rattle.occ_term.specs.Unfolding.{Unfolding, IsWellFormed, Lawful}
+use Rattle.occ_code.specs.Alike.{numbers_of}
+use Rattle.occ_code.specs.Sequential.Compiled.{Program, IsCompiledFrom}
+use Rattle.occ_code.specs.declared.task.Arm.{Arm}
+use Rattle.occ_code.specs.declared.task.Task.{Task}
+use Rattle.occ_code.specs.declared.task.Wait.{Wait}
+use Rattle.occ_code.specs.declared.task.Wait.TheVariants as W
+use Rattle.occ_net_replay.specs.declared.choice.Choice.{Choice}
+use Rattle.occ_net_replay.specs.Following.{AreBytes, Followed}
+use Rattle.occ_net_replay.specs.Replay.{Net, Tasks, HasTask, OneTurn, Replays, AreDone, first_net, is_done, may_go, standing}
+
+-- ---- the processes of a system
+
+-- the process with that number stands in the tree, with what is left of it and its live branches
+mutual
+  pub data At (n : ℕ) (own : Left) (ps : Processes) : Process → Type 0 where
+    here : At n own ps (process n own ps)
+    below : {m : ℕ} {a : Left} {qs : Processes} → Among n own ps qs → At n own ps (process m a qs)
+
+  pub data Among (n : ℕ) (own : Left) (ps : Processes) : Processes → Type 0 where
+    first : {p : Process} {qs : Processes} → At n own ps p → Among n own ps (and_process p qs)
+    later : {p : Process} {qs : Processes} → Among n own ps qs → Among n own ps (and_process p qs)
+
+abbrev pub main_in : System → Process
+main_in (system kb p s noted) = p
+
+-- ---- the same stop
+
+-- arms in the same order, on the same channels
+abbrev pub OnSameChannels : List Arm → List Enabled → Type 0
+OnSameChannels [] [] = ⊤
+OnSameChannels [] (e ∷ es) = ⊥
+OnSameChannels (a ∷ arms) [] = ⊥
+OnSameChannels (a ∷ arms) (e ∷ es) = (a.chan ≡ waits_for e) × OnSameChannels arms es
+
+-- What a task waits for, and what is left of the process with its live branches: it may go on, or the two wait for the same on the
+-- same channel, with the same message, for the same branches, or have come to the same end.
+pub data StopsAlike : Wait → Left → Processes → Type 0 where
+  both_go : {w : Wait} {x : Doing} {k : List Context} → IsTrue (may_go w) → IsGoing x → StopsAlike w (left x k) no_processes
+  both_join : {w : Wait} {bs : Branches} {k : List Context} {ps : Processes} → IsTrue (may_go w) → AllEnded ps → StopsAlike w (left (Forking bs) k) ps
+  both_offer : {c : ℕ} {m : Message} {k : List Context} → StopsAlike (W.Offers c m) (left (Offering c m) k) no_processes
+  both_await : {c : ℕ} {list : Reception} {k : List Context} → StopsAlike (W.Awaits c) (left (Awaiting c list) k) no_processes
+  both_choose : {pri : Bool} {arms : List Arm} {es : List Enabled} {k : List Context} → OnSameChannels arms es → StopsAlike (W.Chooses pri arms) (left (Choosing pri es) k) no_processes
+  both_fork : {ns : List ℕ} {bs : Branches} {k : List Context} {ps : Processes} → numbers_of bs ≡ ns → StopsAlike (W.Joins ns) (left (Forking bs) k) ps
+  both_halt : {k : List Context} → StopsAlike W.Halted (left Halted k) no_processes
+  both_fail : {e : Fault} {k : List Context} → StopsAlike (W.Faulted e) (left (Faulted e) k) no_processes
+  both_done : {k : List Context} → StopsAlike W.Done (left Done k) no_processes
+
+-- each process of the system has a task that stops alike; a task without a process there is done
+pub record StandAlike (tasks : Tasks) (main : Process) : Type 0 where
+  pub each : (n : ℕ) (own : Left) (ps : Processes) → At n own ps main → (t : Task) × HasTask tasks n t × StopsAlike t.wait own ps
+  pub others : (n : ℕ) (t : Task) → HasTask tasks n t → ((own : Left) × (ps : Processes) × At n own ps main) ⊎ IsTrue (is_done t.wait)
+
+-- ---- nothing is possible that needs no turn
+
+-- whether an end beside the processes always takes what is offered on a channel
+abbrev pub is_read : ℕ → Bool
+is_read c = nat_eq c 1 || nat_eq c 2
+
+module _ {A : Type 0} (channel : A → Option ℕ) (offers : ℕ → Bool) where
+  abbrev pub NoneReady : List A → Type 0
+  NoneReady [] = ⊤
+  NoneReady (a ∷ arms) = (is_ready_on offers (channel a) ≡ false) × NoneReady arms
+
+-- Of all tasks: no offer stands on a channel that is always read, no input waits where an offer stands, no arm of a choice is
+-- ready, and no branches that a task waits for are all done.
+pub record Quiet (net : Net) : Type 0 where
+  pub unread : (i : ℕ) (t : Task) (c : ℕ) (m : Message) → HasTask net.tasks i t → t.wait ≡ W.Offers c m → is_read c ≡ false
+  pub unheard : (i : ℕ) (t : Task) (c : ℕ) → HasTask net.tasks i t → t.wait ≡ W.Awaits c → IsTrue (standing net c) → ⊥
+  pub unready : (i : ℕ) (t : Task) (pri : Bool) (arms : List Arm) → HasTask net.tasks i t → t.wait ≡ W.Chooses pri arms → NoneReady (λ a. a.chan) (standing net) arms
+  pub unjoined : (i : ℕ) (t : Task) (ns : List ℕ) → HasTask net.tasks i t → t.wait ≡ W.Joins ns → AreDone net.tasks ns → ⊥
+
+-- ---- one run at every moment
+
+pub record IsMoment (net : Net) (now : System) : Type 0 where
+  pub alike : StandAlike net.tasks (main_in now)
+  pub quiet : Quiet net
+
+-- The run goes on with the replay: behind each choice it has one turn more than before it.
+pub data Accompanies (u : Unfolding) (p : Program) (quantum : ℕ) (keyboard : List ℕ) : List Choice → (net : Net) → Followed u keyboard quantum net → Type 0 where
+  at_start : (f : Followed u keyboard quantum (first_net p keyboard)) → f.events ≡ [] → IsMoment (first_net p keyboard) f.system → Accompanies u p quantum keyboard [] (first_net p keyboard) f
+  after_turn : {cs : List Choice} {c : Choice} {a b : Net} {f : Followed u keyboard quantum a} (g : Followed u keyboard quantum b) (e : Event)
+      → Accompanies u p quantum keyboard cs a f → OneTurn p c a b → g.events ≡ f.events ++ e ∷ [] → IsMoment b g.system → Accompanies u p quantum keyboard (cs ++ c ∷ []) b g
+
+-- each replay has one run that follows it from its start on, turn by turn
+abbrev pub OneRunThroughout : Type 0
+OneRunThroughout =
+    (u : Unfolding) (p : Program) (quantum : ℕ) (keyboard : List ℕ) (cs : List Choice) (net : Net)
+    → IsWellFormed u → Lawful u → IsCompiledFrom u quantum p → AreBytes keyboard → length cs < 2 ^ 64
+    → Replays p keyboard cs net → (f : Followed u keyboard quantum net) × Accompanies u p quantum keyboard cs net f

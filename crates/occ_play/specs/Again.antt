@@ -1,0 +1,22 @@
+-- A run that is played again by the same choices, or by those that it used, has the same answer.
+use Rattle.std.specs.Prelude.{Bool, List, length, ℕ, ◌<◌, ◌^◌, ◌≡◌}
+use Rattle.occ_net_replay.specs.declared.choice.Choice.{Choice}
+use Rattle.occ_net_replay.specs.Following.{AreBytes}
+use Rattle.occ_play.specs.declared.playing.Played.{Played}
+use Rattle.occ_play.specs.Playing.{IsAnswer}
+
+-- one ending, one list of used choices, one text
+pub record IsSameAnswer (a b : Played) (text other : List ℕ) : Type 0 where
+  pub ending : a.ending ≡ b.ending
+  pub choices : a.choices.items ≡ b.choices.items
+  pub bytes : text ≡ other
+
+-- Two answers of one source, keyboard, word for the trace and quantum are the same where both are by one list of choices, and where
+-- the one is by the choices that the other used.
+abbrev pub PlayedAgain : Type 0
+PlayedAgain =
+    (quantum : ℕ) (source keyboard : List ℕ) (list : List Choice) (trace : Bool) (a b : Played) (bytes others : List ℕ)
+    → AreBytes keyboard → length list < 2 ^ 64
+    → IsAnswer quantum source keyboard list trace a bytes
+    → (IsAnswer quantum source keyboard list trace b others → IsSameAnswer a b bytes others)
+      × (IsAnswer quantum source keyboard a.choices.items trace b others → IsSameAnswer a b bytes others)

@@ -1,0 +1,8 @@
+//! Laws of what is promised. Each function's contract is the law; its body does nothing.
+
+ghost use Rattle.occ_play.specs.Again.{PlayedAgain};
+
+/// A run that is played again, by the same choices or by those that it used, has the same answer.
+pub fn played_again()
+    ensures { PlayedAgain }
+{}
