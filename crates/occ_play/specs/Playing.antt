@@ -20,7 +20,7 @@ use Rattle.occ_term.specs.Runs.{Event, Run, communications, shown, EndsBy}
 use Rattle.occ_code.specs.Sequential.Emitted.{has_no_alt}
 use Rattle.occ_code.specs.Sequential.Compiled.{Program, IsCodeOf, most_instructions}
 use Rattle.occ_check_meaning.specs.ProgramUnfolding.{UnfoldsTo}
-use Rattle.occ_check.specs.declared.fault.CheckFault.{CheckFault}
+use Rattle.occ_check_names.specs.declared.fault.CheckFault.{CheckFault}
 use Rattle.occ_check.specs.CheckRefuses.{CheckRefuses}
 use Rattle.occ_code.specs.declared.compiler.code.CodeFault.{CodeFault}
 use Rattle.occ_code.specs.declared.compiler.code.CodeFault.TheVariants as code
