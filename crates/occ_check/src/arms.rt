@@ -149,8 +149,9 @@ impl<'t> Unfolder<'t> {
                 self.guarded(alloc, at, depth, *line, guard, body)
             }
             Arm::OnVariant(_, line, guard, variants) => {
-                let (test, protocol, channel) =
-                    self.guarding_variants(alloc, at, depth, *line, guard)?;
+                let (test, protocol, channel) = self.guarding_variants(
+                    alloc, at, depth, *line, guard,
+                )?;
                 let variants = self.variants(
                     alloc,
                     at,

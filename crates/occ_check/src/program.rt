@@ -134,7 +134,10 @@ fn main_names(
     Ok(names)
 }
 
-fn byte_channels(alloc: Global, formals: &Option<Box<Formals>>) -> Result<Items<Items<u8>>, CheckFault>
+fn byte_channels(
+    alloc: Global,
+    formals: &Option<Box<Formals>>,
+) -> Result<Items<Items<u8>>, CheckFault>
     ensures { Gives (λ xs. xs) result (programs.byte_channels (lines.formals_of formals.now)) }
 {
     match formals {

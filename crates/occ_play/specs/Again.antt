@@ -19,4 +19,4 @@ PlayedAgain =
     → AreBytes keyboard → length list < 2 ^ 64
     → IsAnswer quantum source keyboard list trace a bytes
     → (IsAnswer quantum source keyboard list trace b others → IsSameAnswer a b bytes others)
-      × (IsAnswer quantum source keyboard a.choices.items trace b others → IsSameAnswer a b bytes others)
+    × (IsAnswer quantum source keyboard a.choices.items trace b others → IsSameAnswer a b bytes others)
