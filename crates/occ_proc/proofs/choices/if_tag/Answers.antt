@@ -1,0 +1,5 @@
+use Rattle.std.proofs.Common.{rules}
+use Rattle.occ_proc.proofs.choices.if_tag.Goals as goal
+
+pub returns : goal.returns
+returns c = search rules
