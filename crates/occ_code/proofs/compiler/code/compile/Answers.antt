@@ -1,5 +1,5 @@
 use Rattle.std.proofs.Common.{rules}
 use Rattle.occ_code.proofs.compiler.code.compile.Goals as goal
 
-pub returns-clause-quantum : goal.returns-clause-quantum
-returns-clause-quantum c = search rules
+pub returns-clause-compiled : goal.returns-clause-compiled
+returns-clause-compiled c = search rules
