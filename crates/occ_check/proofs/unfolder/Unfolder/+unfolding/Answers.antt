@@ -4,13 +4,16 @@ use Rattle.std.proofs.Common.{rules, arith, option_map, w64, to_z, of_z, SFits, 
 use Rattle.occ_tree_grammar.specs.Processes.Trees.{decls, nodes}
 use Rattle.occ_tree_grammar.specs.Processes.Views.{arm_of, choice_of, decl_of, process_of, row_variants, selection_of, variant_of}
 use Rattle.occ_tree_grammar.specs.Lines.HeadViews.{guard_of}
+use Rattle.occ_tree_grammar.specs.declared.tree.expr.Expr.{Expr}
+use Rattle.occ_tree_grammar.specs.declared.tree.line.OneOrMore.{OneOrMore}
+use Rattle.occ_tree_grammar.specs.declared.tree.line.VariantGuard.{VariantGuard}
 use Rattle.occ_tree_grammar.specs.declared.tree.process.Arm.TheBlock.{hidden-the_row-Variant-1}
 use Rattle.occ_term.specs.View.{arms_of, branch_of, branches_of, choices_of, declarations_of, expression_of, option_of, options_of, place_of, reception_of, term_of, terms_of, variant_of as term_variant_of, variants_of}
 use Rattle.occ_check_meaning.specs.Actions.{as_reception, depth_behind, new_tag, none_chosen, opening}
 use Rattle.occ_tree_grammar.specs.Lines.Views as lines
 use Rattle.occ_check.proofs.Tags.{no_more_variants, no_tag, variant_done, variant_form, variant_refused, variant_size, variants_grown, variants_none, variants_step}
 use Rattle.occ_check_acting.specs.ActionView.{chosen_of, listed_of}
-use Rattle.occ_check.specs.Prefixes.{guarding, guarding_variants}
+use Rattle.occ_check.specs.Prefixes.{guarding, guarding_variants, tested}
 use Rattle.occ_check_meaning.specs.Scope.{names_of}
 use Rattle.occ_check.proofs.Gathering.{gathered_first, gathered_last, gathered_next, gathered_refused, part_within}
 use Rattle.occ_check.proofs.Conditionals.{choice_done, choice_in, choice_not_declared, choice_refused, choices_grown, choices_none, choices_step, no_more_choices, when_refused, within_choice}
@@ -379,7 +382,8 @@ chosen-returns-in_err-body-in-When-clause-choices t c =
     c.in_ok-test-in-When.ensures.kept c.in_err-body-in-When.ensures.term in
     let refused : Refuses c.in_err-body-in-When.field-0.0 (performs.choice_of c.in-When.line (tree_of c.in-When.test.value) (unfolded (process_of c.in-When.body)) (meant_at c.args.self.now c.args.at) c.args.depth (counted c.args.self.now)) =
     refused_with c.in_err-body-in-When.field-0.0 _ _
-    (when_refused c.in-When.line (tree_of c.in-When.test.value) (unfolded (process_of c.in-When.body)) (meant_at c.args.self.now c.args.at) c.args.depth (counted c.args.self.now) _ (counted c.tested.new.self) c.in_ok-test-in-When.ensures.tested)
+    (when_refused c.in-When.line (tree_of c.in-When.test.value) (unfolded (process_of c.in-When.body)) (meant_at c.args.self.now c.args.at) c.args.depth (counted c.args.self.now) _ (counted c.tested.new.self)
+    (ap (λ (e : Expr). tested (names_of (meant_at c.args.self.now c.args.at)) c.in-When.line c.args.depth (tree_of e) (counted c.args.self.now)) (sym c.deref.ensures) ∙ c.in_ok-test-in-When.ensures.tested))
     this in
     search rules
 
@@ -400,7 +404,10 @@ option-returns-in-Values-clause-option t c =
     subst (Selects c.values.result c.values.new.chosen c.values.new.self)
     (sym (values_form c.args.selection.now c.in-Values.declarations c.in-Values.line c.in-Values.values c.in-Values.body (decls (map decl_of c.listed_declarations-declarations.result.now)) c.in-Values.is c.listed_declarations-declarations.ensures
     c.args.primitive (chosen_of c.args.chosen.now) (meant_at c.args.self.now c.args.at) c.args.depth (counted c.args.self.now)))
-    c.values.ensures.option
+    (subst (λ (v : OneOrMore Expr). Selects c.values.result c.values.new.chosen c.values.new.self
+    (performs.option_of c.in-Values.line (tree_of v.first ∷ map tree_of v.others.items) (all_declared (decls (map decl_of c.listed_declarations-declarations.result.now))) (unfolded (process_of c.in-Values.body))
+    c.args.primitive (chosen_of c.args.chosen.now) (meant_at c.args.self.now c.args.at) c.args.depth (counted c.args.self.now)))
+    c.deref.ensures c.values.ensures.option)
 
 pub option-returns-in-Else-clause-option : goal.option-returns-in-Else-clause-option
 option-returns-in-Else-clause-option t c =
@@ -720,7 +727,8 @@ listening-returns-in_err-test-in-OnVariant-clause-arms t c =
     (λ none. ap (λ a. listening a sc c.args.depth (counted c.args.self.now)) c.in-OnVariant.is
     ∙ variants_not_guarded c.in-OnVariant.line (option_map tree_of c.in-OnVariant.guard.value.condition) (lines.var_of c.in-OnVariant.guard.value.channel) (λ p. all_variants (row_variants (hidden-the_row-Variant-1 c.in-OnVariant.variants)) p [])
     sc c.args.depth (counted c.args.self.now) none)
-    c.in_err-test-in-OnVariant.ensures.guard in
+    (subst (λ (g : VariantGuard). Refuses c.in_err-test-in-OnVariant.field-0.0 (guarding_variants (names_of sc) c.in-OnVariant.line c.args.depth (option_map tree_of g.condition) (lines.var_of g.channel) (counted c.args.self.now)))
+    c.deref-in-OnVariant.ensures c.in_err-test-in-OnVariant.ensures.guard) in
     search rules
 
 pub listening-returns-in_err-variants-in-OnVariant-clause-arms : goal.listening-returns-in_err-variants-in-OnVariant-clause-arms
@@ -736,6 +744,7 @@ listening-returns-in_err-variants-in-OnVariant-clause-arms t c =
     (λ none. ap (λ a. listening a sc c.args.depth (counted c.args.self.now)) c.in-OnVariant.is
     ∙ variants_refused c.in-OnVariant.line (option_map tree_of c.in-OnVariant.guard.value.condition) (lines.var_of c.in-OnVariant.guard.value.channel) (λ p. all_variants (row_variants (hidden-the_row-Variant-1 c.in-OnVariant.variants)) p [])
     sc c.args.depth (counted c.args.self.now) (expression_of c.in_ok-test-in-OnVariant.test, (c.in_ok-test-in-OnVariant.protocol, place_of c.in_ok-test-in-OnVariant.channel)) (counted c.guarding_variants.new.self)
-    c.in_ok-test-in-OnVariant.ensures.guard none)
+    (ap (λ (g : VariantGuard). guarding_variants (names_of sc) c.in-OnVariant.line c.args.depth (option_map tree_of g.condition) (lines.var_of g.channel) (counted c.args.self.now)) (sym c.deref-in-OnVariant.ensures)
+    ∙ c.in_ok-test-in-OnVariant.ensures.guard) none)
     this in
     search rules

@@ -21,8 +21,8 @@ returns-in_err-opened-in-Value-clause-entered c =
     let v = c.in-Value in
     let refused : Refuses c.in_err-opened-in-Value.field-0.0 (item_declared (item_of c.args.item.now) (meant_innermost u) c.args.depth (counted u)) =
     refused_with c.in_err-opened-in-Value.field-0.0 _ _
-    (λ none. value_form c.args.item.now v.line v.value_type v.name v.e c.deref.result.now c.deref-e.result.now v.is c.deref.ensures.value c.deref-e.ensures.value (meant_innermost u) c.args.depth (counted u)
-    ∙ names_refused (λ ns. meant.value_declared ns v.line c.args.depth (option_map value_type_of v.value_type) c.deref.result.now (expression_of c.deref-e.result.now) (counted u)) (innermost_at u)
+    (λ none. value_form c.args.item.now v.line v.value_type v.name v.e c.deref.result.now c.deref-in-Value.result.now v.is c.deref.ensures.value c.deref-in-Value.ensures (meant_innermost u) c.args.depth (counted u)
+    ∙ names_refused (λ ns. meant.value_declared ns v.line c.args.depth (option_map value_type_of v.value_type) c.deref.result.now (expression_of c.deref-in-Value.result.now) (counted u)) (innermost_at u)
     (names_in c.inside.result) (names_are c.inside.result (innermost_at u) c.inside.ensures) none)
     c.in_err-opened-in-Value.ensures in
     search rules
@@ -44,9 +44,9 @@ returns-in_ok-opened-in-Value-clause-entered c =
     let u = c.args.self.now in
     let v = c.in-Value in
     subst (Enters c.opened_names.result c.opened_names.new.self)
-    (sym (value_form c.args.item.now v.line v.value_type v.name v.e c.deref.result.now c.deref-e.result.now v.is c.deref.ensures.value c.deref-e.ensures.value (meant_innermost u) c.args.depth (counted u)))
+    (sym (value_form c.args.item.now v.line v.value_type v.name v.e c.deref.result.now c.deref-in-Value.result.now v.is c.deref.ensures.value c.deref-in-Value.ensures (meant_innermost u) c.args.depth (counted u)))
     (enters_names c.opened_names.result c.opened_names.new.self (innermost_at u)
-    (λ ns. meant.value_declared ns v.line c.args.depth (option_map value_type_of v.value_type) c.deref.result.now (expression_of c.deref-e.result.now) (counted u)) (names_in c.inside.result)
+    (λ ns. meant.value_declared ns v.line c.args.depth (option_map value_type_of v.value_type) c.deref.result.now (expression_of c.deref-in-Value.result.now) (counted u)) (names_in c.inside.result)
     c.in_ok-opened-in-Value.opened c.value_declared.new.numbers (names_are c.inside.result (innermost_at u) c.inside.ensures) c.in_ok-opened-in-Value.ensures
     c.opened_names.ensures.scope c.opened_names.ensures.heads c.opened_names.ensures.numbers c.opened_names.ensures.memory)
 
