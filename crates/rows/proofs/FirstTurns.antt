@@ -1,6 +1,6 @@
 -- The first turn of a program's main process.
 use Rattle.std.proofs.Common.{◌≡◌, ◌∙◌, ℕ, zero, ◌+◌, ◌<◌, ◌≤◌, ◌^◌, List, [], ◌∷◌, Some, length, refl, sym, ap, subst, arith}
-use Rattle.std.specs.Prelude.{All, slice_get}
+use Rattle.std.specs.Prelude.{slice_get}
 use Rattle.occ_term.specs.Frames.{zero_frame}
 use Rattle.occ_code.specs.Sequential.Compiled.{IsCompiled, Program, instructions_in}
 use Rattle.occ_code.specs.Sequential.Machine.{Body}
@@ -23,7 +23,7 @@ main_there : (bs : List Body) (b : Body) → slice_get bs 0 ≡ Some b → HasTa
 main_there [] b e = absurd cc
 main_there (x ∷ bs) b e = let same : x ≡ b = cc in ap (λ z. Some (Some (first_task 0 0 (zero_frame z.cells z.loops)))) same
 
-pub first_stop : (p : Program) (b : Body) (quantum : ℕ) (t : Task) → IsCompiled p → All (λ x. x.quantum ≡ quantum) p.bodies → slice_get p.bodies 0 ≡ Some b → t ≡ first_task 0 0 (zero_frame b.cells b.loops) → HasStop b t
-first_stop p b quantum t c same e is =
-    let x = ready_tasks_stop c.source p quantum [] [] (first_net p []) 0 b (first_task 0 0 (zero_frame b.cells b.loops)) c.well_formed c.lawful c.compiled same tt (omega arith) begins e (main_there p.bodies b e) refl in
+pub first_stop : (p : Program) (b : Body) (t : Task) → IsCompiled p → slice_get p.bodies 0 ≡ Some b → t ≡ first_task 0 0 (zero_frame b.cells b.loops) → HasStop b t
+first_stop p b t c e is =
+    let x = ready_tasks_stop c.source p c.quantum [] [] (first_net p []) 0 b (first_task 0 0 (zero_frame b.cells b.loops)) c.well_formed c.lawful c.compiled tt (omega arith) begins e (main_there p.bodies b e) refl in
     subst (HasStop b) (sym is) (record { after = x.0; stops = x.1 })

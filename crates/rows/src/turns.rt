@@ -1,5 +1,5 @@
 //! First turns of processes, for several quanta.
-ghost use Rattle.std.specs.Prelude.{◌≡◌, All, IfOk};
+ghost use Rattle.std.specs.Prelude.{◌≡◌, IfOk};
 ghost use Rattle.occ_term.specs.Frames.{zero_frame};
 ghost use Rattle.occ_net_replay.specs.Replay.{first_task};
 
@@ -60,9 +60,7 @@ fn task_at_start(alloc: Global, body: &Body) -> Result<Task, AllocError>
 }
 
 /// The first turn of the main process, on a copy.
-fn first_turn(alloc: Global, code: &Code, quantum: u32) -> Result<Option<Segment>, AllocError>
-    requires { All (λ b. b.quantum ≡ quantum) code.now.bodies }
-{
+fn first_turn(alloc: Global, code: &Code) -> Result<Option<Segment>, AllocError> {
     code.compiled();
     let Some(body) = code.body(0) else {
         return Ok(None);
@@ -75,9 +73,7 @@ fn first_turn(alloc: Global, code: &Code, quantum: u32) -> Result<Option<Segment
 }
 
 /// The task after its first turn, in place.
-fn advanced(alloc: Global, code: &Code, quantum: u32) -> Result<Option<Task>, AllocError>
-    requires { All (λ b. b.quantum ≡ quantum) code.now.bodies }
-{
+fn advanced(alloc: Global, code: &Code) -> Result<Option<Task>, AllocError> {
     code.compiled();
     let Some(body) = code.body(0) else {
         return Ok(None);
@@ -101,7 +97,7 @@ fn shown_on_a_copy(alloc: Global, checked: &Checked, quantum: u32) -> Result<Str
     let Ok(code) = compile_for(alloc, checked, quantum) else {
         return String::from_str(alloc, "no code");
     };
-    match first_turn(alloc, &code, quantum)? {
+    match first_turn(alloc, &code)? {
         Some(segment) => {
             let before = shown(alloc, segment.before())?;
             let after = shown(alloc, segment.after())?;
@@ -116,7 +112,7 @@ fn shown_in_place(alloc: Global, checked: &Checked, quantum: u32) -> Result<Stri
     let Ok(code) = compile_for(alloc, checked, quantum) else {
         return String::from_str(alloc, "no code");
     };
-    match advanced(alloc, &code, quantum)? {
+    match advanced(alloc, &code)? {
         Some(task) => shown(alloc, &task),
         None => String::from_str(alloc, "no body"),
     }

@@ -12,4 +12,4 @@ advance-requires-clause-small c = subst (λ b. length b.code + 1 < 2 ^ 32) (sym 
 pub advance-requires-clause-stops : goal.advance-requires-clause-stops
 advance-requires-clause-stops c =
     subst (λ b. HasStop b c.in_ok-task.task) (sym c.deref-2.ensures)
-    (first_stop c.args.code.now (arc_value c.in-Some.body.now) c.args.quantum c.in_ok-task.task c.compiled.ensures c.requires c.in-Some.ensures.some (c.in_ok-task.ensures ∙ ap (λ b. first_task 0 0 (zero_frame b.cells b.loops)) c.deref.ensures))
+    (first_stop c.args.code.now (arc_value c.in-Some.body.now) c.in_ok-task.task c.compiled.ensures c.in-Some.ensures.some (c.in_ok-task.ensures ∙ ap (λ b. first_task 0 0 (zero_frame b.cells b.loops)) c.deref.ensures))
