@@ -21,7 +21,7 @@ use Rattle.occ_tree_grammar.specs.Lines.Heads.{on_input, on_skip}
 use Rattle.occ_tree_grammar.specs.Lines.Trees as L
 use Rattle.occ_tree_grammar.specs.Processes.Trees.{Decls}
 use Rattle.occ_term.specs.Sizes as Sizes
-use Rattle.occ_term.specs.Sizes.{size_of_expression, size_of_place}
+use Rattle.occ_term.specs.Sizes.{size_of_expression, size_of_test, size_of_place}
 use Rattle.occ_term.specs.declared.primitive.Primitive.TheVariants.{Bool as Boolean}
 use Rattle.occ_term.specs.declared.protocol.Protocol.{Protocol}
 use Rattle.occ_check_meaning.specs.Expressions.{typed_as}
@@ -137,39 +137,39 @@ module _ (c : Arm) (sc : Scope Calling) (depth : ℕ) (n : Numbers) (ds : Decls)
 -- ---- an arm by its guard
 
 module _ (line : ℕ) (test : Option Expression) (i : L.Input) (body : Under T.Term) (sc : Scope Calling) (depth : ℕ) (n : Numbers) where
-  as_input_arm : T.Expression × (T.Place × Listed) → T.Term × Numbers → Option (Arms × Numbers)
+  as_input_arm : Option T.Expression × (T.Place × Listed) → T.Term × Numbers → Option (Arms × Numbers)
   as_input_arm g x = Some (input_arm g.0 g.1.0 (as_reception g.1.1 x.0) no_arms, x.1)
 
-  then_input : (T.Expression × (T.Place × Listed)) × Numbers → Option (Arms × Numbers)
+  then_input : (Option T.Expression × (T.Place × Listed)) × Numbers → Option (Arms × Numbers)
   then_input a = body sc (depth_behind a.0.1.1 (depth + 1)) a.1 >>= as_input_arm a.0
 
   by_guard : P.arm_of line (on_input test i) body sc depth n ≡ (guarding (names_of sc) line depth test i n >>= then_input)
   unfolding then_input as_input_arm
   by_guard = by (test_of (names_of sc) line test)
     where
-      then_by : (e : T.Expression) (c : T.Place × Listed) (r : Option Numbers)
+      then_by : (e : Option T.Expression) (c : T.Place × Listed) (r : Option Numbers)
           → (r >>= λ m. body sc (depth_behind c.1 (depth + 1)) m >>= λ x. Some (input_arm e c.0 (as_reception c.1 x.0) no_arms, x.1)) ≡ ((r >>= λ m. Some ((e, c), m)) >>= then_input)
       then_by e c None = refl
       then_by e c (Some m) = refl
 
-      with_channel : (e : T.Expression) (o : Option (T.Place × Listed))
-          → (o >>= λ c. room depth (Sizes.node (Sizes.beside (size_of_expression e) (Sizes.beside (size_of_place c.0) (size_of_list c.1)))) n >>= λ m.
+      with_channel : (e : Option T.Expression) (o : Option (T.Place × Listed))
+          → (o >>= λ c. room depth (Sizes.node (Sizes.beside (size_of_test e) (Sizes.beside (size_of_place c.0) (size_of_list c.1)))) n >>= λ m.
           body sc (depth_behind c.1 (depth + 1)) m >>= λ x. Some (input_arm e c.0 (as_reception c.1 x.0) no_arms, x.1))
-          ≡ ((o >>= λ c. room depth (Sizes.node (Sizes.beside (size_of_expression e) (Sizes.beside (size_of_place c.0) (size_of_list c.1)))) n >>= λ m. Some ((e, c), m)) >>= then_input)
+          ≡ ((o >>= λ c. room depth (Sizes.node (Sizes.beside (size_of_test e) (Sizes.beside (size_of_place c.0) (size_of_list c.1)))) n >>= λ m. Some ((e, c), m)) >>= then_input)
       with_channel e None = refl
-      with_channel e (Some c) = then_by e c (room depth (Sizes.node (Sizes.beside (size_of_expression e) (Sizes.beside (size_of_place c.0) (size_of_list c.1)))) n)
+      with_channel e (Some c) = then_by e c (room depth (Sizes.node (Sizes.beside (size_of_test e) (Sizes.beside (size_of_place c.0) (size_of_list c.1)))) n)
 
-      by : (o : Option T.Expression)
-          → (o >>= λ e. received (names_of sc) line i >>= λ c. room depth (Sizes.node (Sizes.beside (size_of_expression e) (Sizes.beside (size_of_place c.0) (size_of_list c.1)))) n >>= λ m.
+      by : (o : Option (Option T.Expression))
+          → (o >>= λ e. received (names_of sc) line i >>= λ c. room depth (Sizes.node (Sizes.beside (size_of_test e) (Sizes.beside (size_of_place c.0) (size_of_list c.1)))) n >>= λ m.
           body sc (depth_behind c.1 (depth + 1)) m >>= λ x. Some (input_arm e c.0 (as_reception c.1 x.0) no_arms, x.1))
-          ≡ ((o >>= λ e. received (names_of sc) line i >>= λ c. room depth (Sizes.node (Sizes.beside (size_of_expression e) (Sizes.beside (size_of_place c.0) (size_of_list c.1)))) n >>= λ m. Some ((e, c), m)) >>= then_input)
+          ≡ ((o >>= λ e. received (names_of sc) line i >>= λ c. room depth (Sizes.node (Sizes.beside (size_of_test e) (Sizes.beside (size_of_place c.0) (size_of_list c.1)))) n >>= λ m. Some ((e, c), m)) >>= then_input)
       by None = refl
       by (Some e) = with_channel e (received (names_of sc) line i)
 
   pub input_not_guarded : guarding (names_of sc) line depth test i n ≡ None → P.arm_of line (on_input test i) body sc depth n ≡ None
   input_not_guarded h = by_guard ∙ ap (λ o. o >>= then_input) h
 
-  module _ (g : T.Expression × (T.Place × Listed)) (m : Numbers) (h : guarding (names_of sc) line depth test i n ≡ Some (g, m)) where
+  module _ (g : Option T.Expression × (T.Place × Listed)) (m : Numbers) (h : guarding (names_of sc) line depth test i n ≡ Some (g, m)) where
     pub input_refused : body sc (depth_behind g.1.1 (depth + 1)) m ≡ None → P.arm_of line (on_input test i) body sc depth n ≡ None
     unfolding then_input
     input_refused none = by_guard ∙ ap (λ o. o >>= then_input) h ∙ ap (λ o. o >>= as_input_arm g) none
@@ -180,45 +180,45 @@ module _ (line : ℕ) (test : Option Expression) (i : L.Input) (body : Under T.T
     input_done t l done = by_guard ∙ ap (λ o. o >>= then_input) h ∙ ap (λ o. o >>= as_input_arm g) done
 
 module _ (line : ℕ) (test : Option Expression) (v : L.Var) (variants : Protocol → Under T.Variants) (sc : Scope Calling) (depth : ℕ) (n : Numbers) where
-  as_variants_arm : T.Expression × (Protocol × T.Place) → T.Variants × Numbers → Option (Arms × Numbers)
+  as_variants_arm : Option T.Expression × (Protocol × T.Place) → T.Variants × Numbers → Option (Arms × Numbers)
   as_variants_arm g x = Some (input_arm g.0 g.1.1 (T.Tagged x.0) no_arms, x.1)
 
-  then_variants : (T.Expression × (Protocol × T.Place)) × Numbers → Option (Arms × Numbers)
+  then_variants : (Option T.Expression × (Protocol × T.Place)) × Numbers → Option (Arms × Numbers)
   then_variants a = variants a.0.1.0 sc (depth + 1) a.1 >>= as_variants_arm a.0
 
   by_variants : variants_arm line test v variants sc depth n ≡ (guarding_variants (names_of sc) line depth test v n >>= then_variants)
   unfolding then_variants as_variants_arm
   by_variants = by (test_of (names_of sc) line test)
     where
-      then_by : (e : T.Expression) (p : Protocol) (c : T.Place) (r : Option Numbers)
+      then_by : (e : Option T.Expression) (p : Protocol) (c : T.Place) (r : Option Numbers)
           → (r >>= λ m. variants p sc (depth + 1) m >>= λ x. Some (input_arm e c (T.Tagged x.0) no_arms, x.1)) ≡ ((r >>= λ m. Some ((e, (p, c)), m)) >>= then_variants)
       then_by e p c None = refl
       then_by e p c (Some m) = refl
 
-      with_protocol : (e : T.Expression) (c : T.Place) (o : Option Protocol)
-          → (o >>= λ p. room depth (Sizes.node (Sizes.beside (size_of_expression e) (size_of_place c))) n >>= λ m. variants p sc (depth + 1) m >>= λ x. Some (input_arm e c (T.Tagged x.0) no_arms, x.1))
-          ≡ ((o >>= λ p. room depth (Sizes.node (Sizes.beside (size_of_expression e) (size_of_place c))) n >>= λ m. Some ((e, (p, c)), m)) >>= then_variants)
+      with_protocol : (e : Option T.Expression) (c : T.Place) (o : Option Protocol)
+          → (o >>= λ p. room depth (Sizes.node (Sizes.beside (size_of_test e) (size_of_place c))) n >>= λ m. variants p sc (depth + 1) m >>= λ x. Some (input_arm e c (T.Tagged x.0) no_arms, x.1))
+          ≡ ((o >>= λ p. room depth (Sizes.node (Sizes.beside (size_of_test e) (size_of_place c))) n >>= λ m. Some ((e, (p, c)), m)) >>= then_variants)
       with_protocol e c None = refl
-      with_protocol e c (Some p) = then_by e p c (room depth (Sizes.node (Sizes.beside (size_of_expression e) (size_of_place c))) n)
+      with_protocol e c (Some p) = then_by e p c (room depth (Sizes.node (Sizes.beside (size_of_test e) (size_of_place c))) n)
 
-      with_channel : (e : T.Expression) (o : Option (Protocol × T.Place))
-          → (o >>= λ c. with_tags c.0 >>= λ p. room depth (Sizes.node (Sizes.beside (size_of_expression e) (size_of_place c.1))) n >>= λ m.
+      with_channel : (e : Option T.Expression) (o : Option (Protocol × T.Place))
+          → (o >>= λ c. with_tags c.0 >>= λ p. room depth (Sizes.node (Sizes.beside (size_of_test e) (size_of_place c.1))) n >>= λ m.
           variants p sc (depth + 1) m >>= λ x. Some (input_arm e c.1 (T.Tagged x.0) no_arms, x.1))
-          ≡ ((o >>= λ c. with_tags c.0 >>= λ p. room depth (Sizes.node (Sizes.beside (size_of_expression e) (size_of_place c.1))) n >>= λ m. Some ((e, (p, c.1)), m)) >>= then_variants)
+          ≡ ((o >>= λ c. with_tags c.0 >>= λ p. room depth (Sizes.node (Sizes.beside (size_of_test e) (size_of_place c.1))) n >>= λ m. Some ((e, (p, c.1)), m)) >>= then_variants)
       with_channel e None = refl
       with_channel e (Some c) = with_protocol e c.1 (with_tags c.0)
 
-      by : (o : Option T.Expression)
-          → (o >>= λ e. channel_of (names_of sc) line v >>= λ c. with_tags c.0 >>= λ p. room depth (Sizes.node (Sizes.beside (size_of_expression e) (size_of_place c.1))) n >>= λ m.
+      by : (o : Option (Option T.Expression))
+          → (o >>= λ e. channel_of (names_of sc) line v >>= λ c. with_tags c.0 >>= λ p. room depth (Sizes.node (Sizes.beside (size_of_test e) (size_of_place c.1))) n >>= λ m.
           variants p sc (depth + 1) m >>= λ x. Some (input_arm e c.1 (T.Tagged x.0) no_arms, x.1))
-          ≡ ((o >>= λ e. channel_of (names_of sc) line v >>= λ c. with_tags c.0 >>= λ p. room depth (Sizes.node (Sizes.beside (size_of_expression e) (size_of_place c.1))) n >>= λ m. Some ((e, (p, c.1)), m)) >>= then_variants)
+          ≡ ((o >>= λ e. channel_of (names_of sc) line v >>= λ c. with_tags c.0 >>= λ p. room depth (Sizes.node (Sizes.beside (size_of_test e) (size_of_place c.1))) n >>= λ m. Some ((e, (p, c.1)), m)) >>= then_variants)
       by None = refl
       by (Some e) = with_channel e (channel_of (names_of sc) line v)
 
   pub variants_not_guarded : guarding_variants (names_of sc) line depth test v n ≡ None → variants_arm line test v variants sc depth n ≡ None
   variants_not_guarded h = by_variants ∙ ap (λ o. o >>= then_variants) h
 
-  module _ (g : T.Expression × (Protocol × T.Place)) (m : Numbers) (h : guarding_variants (names_of sc) line depth test v n ≡ Some (g, m)) where
+  module _ (g : Option T.Expression × (Protocol × T.Place)) (m : Numbers) (h : guarding_variants (names_of sc) line depth test v n ≡ Some (g, m)) where
     pub variants_refused : variants g.1.0 sc (depth + 1) m ≡ None → variants_arm line test v variants sc depth n ≡ None
     unfolding then_variants
     variants_refused none = by_variants ∙ ap (λ o. o >>= then_variants) h ∙ ap (λ o. o >>= as_variants_arm g) none

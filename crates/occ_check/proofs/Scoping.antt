@@ -20,9 +20,10 @@ use Rattle.occ_tree_grammar.specs.declared.tree.process.Process.{Process}
 use Rattle.occ_tree_grammar.specs.declared.tree.process.Item.{Item}
 use Rattle.occ_tree_grammar.specs.declared.tree.process.Item.TheVariants as itemTrees
 use Rattle.occ_term.specs.declared.primitive.Primitive.TheVariants.{Int}
-use Rattle.occ_term.specs.Sizes.{Size, no_size, size_of_replicator}
+use Rattle.occ_term.specs.Sizes.{Size, no_size, size_of_expression, size_of_replicator}
 use Rattle.occ_term.specs.View.{declarations_of}
 use Rattle.occ_term.specs.declared.expression.Declaration.{Declaration as DeclarationCode}
+use Rattle.occ_term.specs.Terms as T
 use Rattle.occ_term.specs.Terms.{Declaration, Term, replicator}
 use Rattle.occ_check_meaning.specs.Actions.{headed, opening}
 use Rattle.occ_check_meaning.specs.Calls.{formals_of, bound}
@@ -296,6 +297,18 @@ room_within depth size n m e =
     leb-true (depth + size.depth) 200 (and_first (nat_le (depth + size.depth) 200) (nat_le (n.nodes + size.nodes) 100000)
     (is_kept (nat_le (depth + size.depth) 200 && nat_le (n.nodes + size.nodes) 100000) (record n { nodes = n.nodes + size.nodes }) m e))
 
+-- each expression is a node
+one_deep : (e : T.Expression) → 1 ≤ (size_of_expression e).depth
+one_deep (T.Constant v) = omega arith
+one_deep (T.Cell c) = omega arith
+one_deep (T.Component p) = omega arith
+one_deep (T.Letter line text e) = omega arith
+one_deep (T.Binary op type line a b) = omega arith
+one_deep (T.Unary op type line a) = omega arith
+one_deep (T.And a b) = omega arith
+one_deep (T.Or a b) = omega arith
+one_deep (T.Conversion to line a) = omega arith
+
 pub index_within : (ns : Names) (line depth : ℕ) (r : L.Replicator) (n : Numbers) (i : D.Indexed) → indexed ns line depth r n ≡ Some i → depth < 200
 index_within ns line depth (L.each x base count) n i e =
     let a = bind_some (typed_as ns line Int base) _ i e in
@@ -303,4 +316,5 @@ index_within ns line depth (L.each x base count) n i e =
     let c = bind_some (more_cells Int x [] n) _ i b.2 in
     let d = bind_some (room depth (size_of_replicator (replicator line (length n.cells) a.0 b.0) no_size) c.0) _ i c.2 in
     let h = room_within depth (size_of_replicator (replicator line (length n.cells) a.0 b.0) no_size) c.0 d.0 d.1 in
-    omega (arith, h)
+    let one = one_deep a.0 in
+    omega (arith, h, one)

@@ -6,7 +6,7 @@ use Rattle.occ_tree_grammar.specs.Expressions.Trees.{Expression}
 use Rattle.occ_term.specs.declared.primitive.Primitive.{Primitive}
 use Rattle.occ_term.specs.declared.primitive.Primitive.TheVariants.{Bool as Boolean}
 use Rattle.occ_term.specs.Sizes as Sizes
-use Rattle.occ_term.specs.Sizes.{size_of_constants, size_of_expression, size_of_place, size_of_targets}
+use Rattle.occ_term.specs.Sizes.{size_of_constants, size_of_expression, size_of_place, size_of_targets, size_of_test}
 use Rattle.occ_term.specs.Terms as T
 use Rattle.occ_term.specs.Messages.{parts_after}
 use Rattle.occ_term.specs.declared.protocol.Protocol.{Protocol}
@@ -78,17 +78,17 @@ storing ns line depth p k ts n = do
 
 -- ---- the guards of an ALT, each with the node that it heads
 
-abbrev pub guarding : Names → ℕ → ℕ → Option Expression → L.Input → Numbers → Option ((T.Expression × (T.Place × Listed)) × Numbers)
+abbrev pub guarding : Names → ℕ → ℕ → Option Expression → L.Input → Numbers → Option ((Option T.Expression × (T.Place × Listed)) × Numbers)
 guarding ns line depth test i n = do
   e ← test_of ns line test
   c ← received ns line i
-  m ← room depth (Sizes.node (Sizes.beside (size_of_expression e) (Sizes.beside (size_of_place c.0) (size_of_list c.1)))) n
+  m ← room depth (Sizes.node (Sizes.beside (size_of_test e) (Sizes.beside (size_of_place c.0) (size_of_list c.1)))) n
   Some ((e, c), m)
 
-abbrev pub guarding_variants : Names → ℕ → ℕ → Option Expression → Var → Numbers → Option ((T.Expression × (Protocol × T.Place)) × Numbers)
+abbrev pub guarding_variants : Names → ℕ → ℕ → Option Expression → Var → Numbers → Option ((Option T.Expression × (Protocol × T.Place)) × Numbers)
 guarding_variants ns line depth test v n = do
   e ← test_of ns line test
   c ← channel_of ns line v
   p ← with_tags c.0
-  m ← room depth (Sizes.node (Sizes.beside (size_of_expression e) (size_of_place c.1))) n
+  m ← room depth (Sizes.node (Sizes.beside (size_of_test e) (size_of_place c.1))) n
   Some ((e, (p, c.1)), m)

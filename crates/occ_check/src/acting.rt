@@ -9,7 +9,7 @@ ghost use Rattle.occ_tree_grammar.specs.Lines.Views as lines;
 ghost use Rattle.occ_tree_grammar.specs.Lines.Heads as heads;
 ghost use Rattle.occ_term.specs.Sizes.{size_of};
 ghost use Rattle.occ_term.specs.Terms as terms;
-ghost use Rattle.occ_term.specs.View.{expression_of, place_of, term_of};
+ghost use Rattle.occ_term.specs.View.{expression_of, items_of, place_of, term_of};
 ghost use Rattle.occ_check_meaning.specs.Numbers.{room};
 ghost use Rattle.occ_check_meaning.specs.Performing.{acted};
 ghost use Rattle.occ_check_meaning.specs.Actions as meant;
@@ -33,7 +33,7 @@ use occ_check_names::numbers::Numbers;
 use occ_check_names::scope::{Position, Scope};
 use occ_check_typing::expression::typed_as;
 use occ_held::Held;
-use occ_term::{Declaration, Place, Primitive, Term, TermExpr};
+use occ_term::{Declaration, Item, Place, Primitive, Term, TermExpr};
 use occ_tree_grammar::tree::expr::Expr;
 use occ_tree_grammar::tree::line::{Input, OneOrMore, Out, Var};
 use occ_tree_grammar::tree::process::Decl;
@@ -203,9 +203,9 @@ fn assigning(
 ) -> Result<Term, CheckFault>
     ensures { Unfolds term_of result numbers.new (assigning (names_in scope.entry) line depth (lines.var_of variables.now.first ∷ map lines.var_of variables.now.others.items) (tree_of values.now.first ∷ map tree_of values.now.others.items) (numbers_of numbers.old)) }
 {
-    let term = Held::new(assigned(alloc, scope, line, variables, values)?);
-    count_line(numbers, depth, &term.value)?;
-    Ok(term.into_inner())
+    let (targets, items) = assigned(alloc, scope, line, variables, values)?;
+    count_assignment(numbers, depth, targets.as_slice(), items.as_slice())?;
+    Ok(Term::Assign(targets, items))
 }
 
 /// An output with its nodes.
@@ -220,9 +220,23 @@ fn outputting(
 ) -> Result<Term, CheckFault>
     ensures { Unfolds term_of result numbers.new (outputting (names_in scope.entry) line depth (lines.var_of channel.now) (lines.out_of outs.now.first) (map lines.out_of outs.now.others.items) (numbers_of numbers.old)) }
 {
-    let term = Held::new(output(alloc, scope, line, channel, outs)?);
-    count_line(numbers, depth, &term.value)?;
-    Ok(term.into_inner())
+    let (channel, tag, items) = output(alloc, scope, line, channel, outs)?;
+    counted_output(numbers, depth, &channel, tag, items.as_slice())?;
+    Ok(Term::Output(channel, tag, items))
+}
+
+/// Counts an output with its tag, which is no node.
+fn counted_output(
+    numbers: &mut Numbers,
+    depth: u32,
+    channel: &Place,
+    tag: Option<u32>,
+    items: &[Item],
+) -> Result<(), CheckFault>
+    ensures { Counts result numbers.new (room depth (size_of (terms.Output (place_of channel.now) tag (items_of items.now))) (numbers_of numbers.old)) }
+{
+    let _sent = tag;
+    count_output(numbers, depth, channel, items)
 }
 
 /// An input with its nodes.
@@ -241,19 +255,6 @@ fn receiving(
     count_received(numbers, depth, &channel.value, &listed.value)?;
     let term = as_input(alloc, channel.into_inner(), listed.into_inner())?;
     Ok(term)
-}
-
-/// Counts an assignment or an output.
-fn count_line(numbers: &mut Numbers, depth: u32, term: &Term) -> Result<(), CheckFault>
-    ensures { Counts result numbers.new (room depth (size_of (term_of term.now)) (numbers_of numbers.old)) }
-{
-    match term {
-        Term::Assign(targets, items) => {
-            count_assignment(numbers, depth, targets.as_slice(), items.as_slice())
-        }
-        Term::Output(channel, _, items) => count_output(numbers, depth, channel, items.as_slice()),
-        _ => Err(CheckFault::Memory),
-    }
 }
 
 /// Counts an input.

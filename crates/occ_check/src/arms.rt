@@ -9,9 +9,9 @@ ghost use Rattle.occ_tree_grammar.specs.declared.tree.process.Arm.TheBlock.{hidd
 ghost use Rattle.occ_tree_grammar.specs.Lines.HeadViews.{guard_of};
 ghost use Rattle.occ_tree_grammar.specs.Lines.Views as lines;
 ghost use Rattle.occ_tree_grammar.specs.Lines.Views.{replicator_of};
-ghost use Rattle.occ_term.specs.Sizes.{beside, node, size_of_expression, size_of_place};
+ghost use Rattle.occ_term.specs.Sizes.{beside, node, size_of_place, size_of_test};
 ghost use Rattle.occ_term.specs.Terms.{input_arm, no_arms};
-ghost use Rattle.occ_term.specs.View.{arm_of, arms_of, declarations_of, expression_of, place_of, term_of};
+ghost use Rattle.occ_term.specs.View.{arm_of, arms_of, declarations_of, place_of, term_of, test_of as boolean_of};
 ghost use Rattle.occ_check_meaning.specs.Actions as meant;
 ghost use Rattle.occ_check_meaning.specs.Performing as performing;
 ghost use Rattle.occ_check_meaning.specs.Performing.{alternated, each_of_arms};
@@ -29,7 +29,7 @@ use crate::unfolder::Unfolder;
 use crate::variants::listed_variants;
 use occ_check_acting::action::{Listed, as_reception, received, test_of, with_tags};
 use occ_check_names::fault::CheckFault;
-use occ_check_names::measuring::{count_expression, count_place, count_targets};
+use occ_check_names::measuring::{count_place, count_targets, count_test};
 use occ_check_names::numbers::Numbers;
 use occ_check_names::scope::{Position, Scope};
 use occ_check_typing::item::channel_of;
@@ -44,7 +44,7 @@ use std::alloc::{AllocError, Global};
 /// The guard of an arm with an input: its Boolean, its channel and what it stores.
 #[derive(Drop)]
 struct Guarded {
-    test: TermExpr,
+    test: Option<TermExpr>,
     channel: Place,
     listed: Listed,
 }
@@ -218,7 +218,7 @@ impl<'t> Unfolder<'t> {
         let base = self.frames.len();
         let (over, inside) = self.indexed(alloc, at, depth, line, replicator)?;
         let over = Held::new(over);
-        let within = self.arm(alloc, inside, depth + 1, arm)?;
+        let within = self.arm(alloc, inside, depth, arm)?;
         self.frames.close(base);
         Ok(only_arm(alloc, TermArm::EachArm(over.into_inner(), within))?)
     }
@@ -233,7 +233,7 @@ impl<'t> Unfolder<'t> {
         test: &Option<Expr>,
         input: &Input,
     ) -> Result<Guarded, CheckFault>
-        ensures guard { Unfolds (λ g. (expression_of g.test, (place_of g.channel, listed_of g.listed))) result self.new.numbers (guarding (names_of (meant_at self.old at)) line depth (option_map tree_of test.now) (lines.input_of input.now) (counted self.old)) }
+        ensures guard { Unfolds (λ g. (boolean_of g.test, (place_of g.channel, listed_of g.listed))) result self.new.numbers (guarding (names_of (meant_at self.old at)) line depth (option_map tree_of test.now) (lines.input_of input.now) (counted self.old)) }
         ensures kept { OnOk result (self.new.frames ≡ self.old.frames) }
         ensures within { IfOk result (λ g. meant.depth_behind (listed_of g.listed) (depth + 1) ≤ 200) }
     {
@@ -249,8 +249,8 @@ impl<'t> Unfolder<'t> {
         depth: u32,
         line: u32,
         guard: &VariantGuard,
-    ) -> Result<(TermExpr, Protocol, Place), CheckFault>
-        ensures guard { Unfolds (λ g. (expression_of g.0, (g.1, place_of g.2))) result self.new.numbers (guarding_variants (names_of (meant_at self.old at)) line depth (option_map tree_of guard.now.condition) (lines.var_of guard.now.channel) (counted self.old)) }
+    ) -> Result<(Option<TermExpr>, Protocol, Place), CheckFault>
+        ensures guard { Unfolds (λ g. (boolean_of g.0, (g.1, place_of g.2))) result self.new.numbers (guarding_variants (names_of (meant_at self.old at)) line depth (option_map tree_of guard.now.condition) (lines.var_of guard.now.channel) (counted self.old)) }
         ensures kept { OnOk result (self.new.frames ≡ self.old.frames) }
         ensures within { IfOk result (λ _. depth < 200) }
     {
@@ -261,7 +261,7 @@ impl<'t> Unfolder<'t> {
 
 /// The arm of a guard with an input, and the process behind it.
 fn input_arm(alloc: Global, guarded: Guarded, body: Term) -> Result<Items<TermArm>, AllocError>
-    ensures { IfOk result (λ arms. arms_of arms ≡ input_arm (expression_of guarded.test) (place_of guarded.channel) (meant.as_reception (listed_of guarded.listed) (term_of body)) no_arms) }
+    ensures { IfOk result (λ arms. arms_of arms ≡ input_arm (boolean_of guarded.test) (place_of guarded.channel) (meant.as_reception (listed_of guarded.listed) (term_of body)) no_arms) }
 {
     let Guarded {
         test,
@@ -284,7 +284,7 @@ fn guarding(
     test: &Option<Expr>,
     input: &Input,
 ) -> Result<Guarded, CheckFault>
-    ensures guard { Unfolds (λ g. (expression_of g.test, (place_of g.channel, listed_of g.listed))) result numbers.new (guarding (names_in scope.entry) line depth (option_map tree_of test.now) (lines.input_of input.now) (numbers_of numbers.old)) }
+    ensures guard { Unfolds (λ g. (boolean_of g.test, (place_of g.channel, listed_of g.listed))) result numbers.new (guarding (names_in scope.entry) line depth (option_map tree_of test.now) (lines.input_of input.now) (numbers_of numbers.old)) }
     ensures within { IfOk result (λ g. meant.depth_behind (listed_of g.listed) (depth + 1) ≤ 200) }
 {
     let test = Held::new(test_of(alloc, scope, line, test)?);
@@ -302,15 +302,15 @@ fn guarding(
 fn count_guard(
     numbers: &mut Numbers,
     depth: u32,
-    test: &TermExpr,
+    test: &Option<TermExpr>,
     channel: &Place,
     listed: &Listed,
 ) -> Result<(), CheckFault>
-    ensures counts { Counts result numbers.new (room depth (node (beside (size_of_expression (expression_of test.now)) (beside (size_of_place (place_of channel.now)) (meant.size_of_list (listed_of listed.now))))) (numbers_of numbers.old)) }
+    ensures counts { Counts result numbers.new (room depth (node (beside (size_of_test (boolean_of test.now)) (beside (size_of_place (place_of channel.now)) (meant.size_of_list (listed_of listed.now))))) (numbers_of numbers.old)) }
     ensures within { IfOk result (λ _. meant.depth_behind (listed_of listed.now) (depth + 1) ≤ 200) }
 {
     numbers.node(depth)?;
-    count_expression(numbers, depth + 1, test)?;
+    count_test(numbers, depth + 1, test)?;
     count_place(numbers, depth + 1, channel)?;
     count_listed(numbers, depth + 1, listed)
 }
@@ -349,8 +349,8 @@ fn guarding_variants(
     line: u32,
     depth: u32,
     guard: &VariantGuard,
-) -> Result<(TermExpr, Protocol, Place), CheckFault>
-    ensures guard { Unfolds (λ g. (expression_of g.0, (g.1, place_of g.2))) result numbers.new (guarding_variants (names_in scope.entry) line depth (option_map tree_of guard.now.condition) (lines.var_of guard.now.channel) (numbers_of numbers.old)) }
+) -> Result<(Option<TermExpr>, Protocol, Place), CheckFault>
+    ensures guard { Unfolds (λ g. (boolean_of g.0, (g.1, place_of g.2))) result numbers.new (guarding_variants (names_in scope.entry) line depth (option_map tree_of guard.now.condition) (lines.var_of guard.now.channel) (numbers_of numbers.old)) }
     ensures within { IfOk result (λ _. depth < 200) }
 {
     let test = Held::new(test_of(alloc, scope, line, &guard.condition)?);
@@ -366,14 +366,14 @@ fn guarding_variants(
 fn count_guarded_channel(
     numbers: &mut Numbers,
     depth: u32,
-    test: &TermExpr,
+    test: &Option<TermExpr>,
     channel: &Place,
 ) -> Result<(), CheckFault>
-    ensures counts { Counts result numbers.new (room depth (node (beside (size_of_expression (expression_of test.now)) (size_of_place (place_of channel.now)))) (numbers_of numbers.old)) }
+    ensures counts { Counts result numbers.new (room depth (node (beside (size_of_test (boolean_of test.now)) (size_of_place (place_of channel.now)))) (numbers_of numbers.old)) }
     ensures within { IfOk result (λ _. depth < 200) }
 {
     numbers.node(depth)?;
-    count_expression(numbers, depth + 1, test)?;
+    count_test(numbers, depth + 1, test)?;
     count_place(numbers, depth + 1, channel)
 }
 

@@ -153,7 +153,7 @@ impl<'t> Unfolder<'t> {
         let base = self.frames.len();
         let (over, inside) = self.indexed(alloc, at, depth, line, replicator)?;
         let over = Held::new(over);
-        let within = self.choice(alloc, inside, depth + 1, choice)?;
+        let within = self.choice(alloc, inside, depth, choice)?;
         self.frames.close(base);
         let choice = TermChoice::EachChoice(over.into_inner(), within);
         Ok(only_choice(alloc, choice)?)

@@ -262,6 +262,7 @@ impl<'t> Unfolder<'t> {
         name: &[u8],
         actuals: &Option<OneOrMore<Expr>>,
     ) -> Result<Call<'t>, CheckFault>
+        requires { depth ≤ 200 }
         ensures call { Calls depth result self.new (acted line (call name.now (actuals_of actuals.now)) (meant_at self.old at) depth (counted self.old)) }
         ensures kept { OnOk result (take (length self.old.frames.frames.items) self.new.frames.frames.items ≡ self.old.frames.frames.items) }
         ensures weight { IfOk result (λ c. node_size (process_of c.body.now) + weight_at self.new c.inside < weight_at self.old at) }
@@ -281,21 +282,19 @@ impl<'t> Unfolder<'t> {
         procedure: Procedure<'t>,
         actuals: &Option<OneOrMore<Expr>>,
     ) -> Result<Call<'t>, CheckFault>
+        requires { depth ≤ 200 }
         ensures call { Calls depth result self.new (meaning_of (procedure_of procedure.entry) (meant_at self.old outer) (names_of (meant_at self.old at)) line depth (actuals_of actuals.now) (counted self.old)) }
         ensures kept { OnOk result (take (length self.old.frames.frames.items) self.new.frames.frames.items ≡ self.old.frames.frames.items) }
         ensures body { IfOk result (λ c. c.body.now ≡ procedure.entry.body.now) }
         ensures weight { IfOk result (λ c. weight_at self.new c.inside ≡ weight_at self.old outer) }
     {
-        let Some(deep) = depth.checked_add(1) else {
-            return Err(CheckFault::Memory);
-        };
         let opened = formals_bound(
             &mut self.numbers,
             alloc,
             self.frames.scope(outer),
             self.frames.scope(at),
             line,
-            deep,
+            depth + 1,
             procedure,
             actuals,
         )?;

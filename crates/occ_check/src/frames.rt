@@ -81,7 +81,7 @@ impl<'t> Frames<'t> {
     {
         let binding = Held::new(binding);
         let Some(frame) = self.frames.pop() else {
-            return Err(CheckFault::Memory);
+            unreachable!();
         };
         let outer = Position {
             frames: self.frames.len() + 1,

@@ -145,7 +145,7 @@ impl<'t> Unfolder<'t> {
                 self.numbers.node(depth)?;
                 let (over, inside) = self.indexed(alloc, at, depth + 1, line, replicator)?;
                 let over = Held::new(over);
-                let body = self.process(alloc, inside, depth + 2, body)?;
+                let body = self.process(alloc, inside, depth + 1, body)?;
                 self.frames.close(base);
                 let body = Boxed::new(alloc, body)?;
                 Ok(Term::Each(over.into_inner(), body))

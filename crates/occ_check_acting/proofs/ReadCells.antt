@@ -103,3 +103,13 @@ mutual
 
 pub named_is : (es fs : Subscripts) (a b : Span) → es ≡ fs → a ≡ b → any_in_subscripts es a ≡ has_of (reads_in_subscripts fs) b
 named_is es fs (span first count) b is at = subscripts_is es first count ∙ (λ i. has_of (reads_in_subscripts (is i)) (at i))
+
+-- ---- the operands of a chain, from the last to the first
+
+pub read_by_right : (a b : Bool) → b ≡ true → (a || b) ≡ true
+read_by_right true b is = refl
+read_by_right false b is = is
+
+pub read_by_left : (a b : Bool) → b ≡ false → (a || b) ≡ a
+read_by_left true b is = refl
+read_by_left false b is = is

@@ -3,7 +3,7 @@
 ghost use Rattle.std.specs.Prelude.{◌≡◌, ◌∷◌, [], IfOk, map, option_map};
 ghost use Rattle.occ_tree_grammar.specs.Expressions.Trees as trees;
 ghost use Rattle.occ_tree_grammar.specs.Lines.Views as lines;
-ghost use Rattle.occ_term.specs.Terms.{no_variants, or_variant};
+ghost use Rattle.occ_term.specs.Terms.{Assign, Output, no_variants, or_variant};
 ghost use Rattle.occ_term.specs.View as terms;
 ghost use Rattle.occ_check_meaning.specs.Actions as meant;
 ghost use Rattle.occ_check_meaning.specs.Items as items;
@@ -46,7 +46,7 @@ pub struct Chosen {
     pub has_else: bool,
 }
 
-/// An assignment.
+/// An assignment: its targets and its items.
 ///
 /// # Errors
 ///
@@ -58,14 +58,14 @@ pub fn assigned(
     line: u32,
     variables: &OneOrMore<Var>,
     values: &OneOrMore<Expr>,
-) -> Result<Term, CheckFault>
-    ensures { Gives terms.term_of result (meant.assigned (names_in scope.entry) line (lines.var_of variables.now.first ∷ map lines.var_of variables.now.others.items) (trees.expression_of values.now.first ∷ map trees.expression_of values.now.others.items)) }
+) -> Result<(Items<Target>, Items<Item>), CheckFault>
+    ensures { Gives (λ x. Assign (terms.targets_of x.0) (terms.items_of x.1)) result (meant.assigned (names_in scope.entry) line (lines.var_of variables.now.first ∷ map lines.var_of variables.now.others.items) (trees.expression_of values.now.first ∷ map trees.expression_of values.now.others.items)) }
 {
     let variables = all_variables(alloc, scope, line, variables)?;
     let items = all_sides(alloc, scope, line, &variables, values)?;
     let targets = targets_of(alloc, line, variables)?;
     apart(alloc, line, targets.as_slice())?;
-    Ok(Term::Assign(targets, items))
+    Ok((targets, items))
 }
 
 /// The left side, where there is one variable at least.
@@ -212,7 +212,7 @@ fn assigned_item(
     }
 }
 
-/// An output.
+/// An output: its channel, its tag and its items.
 ///
 /// # Errors
 ///
@@ -223,12 +223,12 @@ pub fn output(
     line: u32,
     channel: &Var,
     outs: &OneOrMore<Out>,
-) -> Result<Term, CheckFault>
-    ensures { Gives terms.term_of result (meant.output (names_in scope.entry) line (lines.var_of channel.now) (lines.out_of outs.now.first) (map lines.out_of outs.now.others.items)) }
+) -> Result<(Place, Option<u32>, Items<Item>), CheckFault>
+    ensures { Gives (λ x. Output (terms.place_of x.0) x.1 (terms.items_of x.2)) result (meant.output (names_in scope.entry) line (lines.var_of channel.now) (lines.out_of outs.now.first) (map lines.out_of outs.now.others.items)) }
 {
     let (protocol, channel) = channel_of(alloc, scope, line, channel)?;
     let (tag, items) = sent(alloc, scope, line, protocol, outs)?;
-    Ok(Term::Output(channel, tag, items))
+    Ok((channel, tag, items))
 }
 
 /// The channel of an input, and what is stored.
@@ -268,7 +268,7 @@ pub fn received(
     }
 }
 
-/// The Boolean of a guard. None is TRUE.
+/// The Boolean of a guard, where it has one.
 ///
 /// # Errors
 ///
@@ -278,12 +278,15 @@ pub fn test_of(
     scope: Scope<'_, '_>,
     line: u32,
     test: &Option<Expr>,
-) -> Result<TermExpr, CheckFault>
-    ensures { Gives terms.expression_of result (meant.test_of (names_in scope.entry) line (option_map trees.expression_of test.now)) }
+) -> Result<Option<TermExpr>, CheckFault>
+    ensures { Gives terms.test_of result (meant.test_of (names_in scope.entry) line (option_map trees.expression_of test.now)) }
 {
     match test {
-        None => Ok(TermExpr::Constant(1)),
-        Some(e) => typed_as(alloc, scope, line, Primitive::Bool, e),
+        None => Ok(None),
+        Some(e) => {
+            let test = typed_as(alloc, scope, line, Primitive::Bool, e)?;
+            Ok(Some(test))
+        }
     }
 }
 

@@ -27,6 +27,7 @@ use occ_check_typing::expression::{known_name, typed, typed_subscripts};
 use occ_check_typing::overlap::some_overlap;
 use occ_check_typing::types::{carried_by, open_sizes_of};
 use occ_held::Held;
+use occ_held::parts::Listed;
 use occ_term::{Declaration, Item, Primitive, Protocol, TermExpr};
 use occ_tree_grammar::tree::expr::{Expr, Operand};
 use occ_tree_grammar::tree::line::{
@@ -359,7 +360,7 @@ fn all_evaluated(
     line: u32,
     depth: u32,
     name: &[u8],
-    under: Items<TermExpr>,
+    under: Listed<TermExpr>,
     sizes: &[u32],
 ) -> Result<Given, CheckFault>
     ensures { Evaluates result numbers.new (meant.all_evaluated name.now depth (subscripts (map expression_of under)) sizes.now (numbers_of numbers.old)) }

@@ -2,6 +2,7 @@
 //! another.
 
 ghost use Rattle.std.specs.Prelude.{◌≡◌, ◌&&◌, IfOk, map};
+ghost use Rattle.occ_term.specs.Terms.{Component};
 ghost use Rattle.occ_term.specs.Uses as uses;
 ghost use Rattle.occ_term.specs.View.{expression_of, place_of, subscripts, targets_of};
 ghost use Rattle.occ_check_meaning.specs.Items as meant;
@@ -214,43 +215,53 @@ fn constant_index(subscript: &TermExpr, size: u32) -> Result<Option<u32>, AllocE
 
 // ---- what subscripts read
 
-/// Whether an expression reads one of so many cells.
+/// Whether an expression reads one of so many cells. A chain of AND and OR is a loop.
 #[cycle(reading)]
+#[tactic(auto, using(crate::proofs::ReadCells::read_by_right, crate::proofs::ReadCells::read_by_left))]
 fn reads(e: &TermExpr, cells: Span) -> Result<bool, AllocError>
     ensures { IfOk result (λ reads. reads ≡ reads_any (expression_of e.now) (span_of cells)) }
 {
-    match e {
-        TermExpr::Constant(_) => Ok(false),
-        TermExpr::Cell(_, cell) => Ok(is_in(u64::from(*cell), cells)),
-        TermExpr::Component(place) => {
-            let named = span_named(place)?;
-            if are_shared(named, cells) {
-                return Ok(true);
+    let mut rest = e;
+    loop {
+        match rest {
+            TermExpr::Constant(_) => return Ok(false),
+            TermExpr::Cell(_, cell) => return Ok(is_in(u64::from(*cell), cells)),
+            TermExpr::Component(place) => return reads_component(place, cells),
+            TermExpr::Letter(_, _, subscript) => return reads(subscript.get(), cells),
+            TermExpr::Binary(_, _, _, left, right) => {
+                if reads(left.get(), cells)? {
+                    return Ok(true);
+                }
+                return reads(right.get(), cells);
             }
-            some_reads(place.subscripts.as_slice(), cells)
-        }
-        TermExpr::Letter(_, _, subscript) => reads(subscript.get(), cells),
-        TermExpr::Binary(_, _, _, left, right) => {
-            if reads(left.get(), cells)? {
-                return Ok(true);
+            TermExpr::Unary(_, _, _, operand) => return reads(operand.get(), cells),
+            TermExpr::And(left, right) => {
+                if reads(right.get(), cells)? {
+                    return Ok(true);
+                }
+                rest = left.get();
             }
-            reads(right.get(), cells)
-        }
-        TermExpr::Unary(_, _, _, operand) => reads(operand.get(), cells),
-        TermExpr::And(left, right) => {
-            if reads(left.get(), cells)? {
-                return Ok(true);
+            TermExpr::Or(left, right) => {
+                if reads(right.get(), cells)? {
+                    return Ok(true);
+                }
+                rest = left.get();
             }
-            reads(right.get(), cells)
+            TermExpr::Conversion(_, _, operand) => return reads(operand.get(), cells),
         }
-        TermExpr::Or(left, right) => {
-            if reads(left.get(), cells)? {
-                return Ok(true);
-            }
-            reads(right.get(), cells)
-        }
-        TermExpr::Conversion(_, _, operand) => reads(operand.get(), cells),
     }
+}
+
+/// Whether a component or one of its subscripts does.
+#[cycle(reading)]
+fn reads_component(place: &Place, cells: Span) -> Result<bool, AllocError>
+    ensures { IfOk result (λ reads. reads ≡ reads_any (Component (place_of place.now)) (span_of cells)) }
+{
+    let named = span_named(place)?;
+    if are_shared(named, cells) {
+        return Ok(true);
+    }
+    some_reads(place.subscripts.as_slice(), cells)
 }
 
 /// Whether one of the subscripts does.

@@ -26,13 +26,9 @@ use std::alloc::Global;
 pub fn placed(line: u32, part: Part) -> Place
     ensures { terms.place_of result ≡ expressions.place_of line (part_of part) }
 {
-    let place = part.place;
-    Place {
-        line,
-        first: place.first,
-        sizes: place.sizes,
-        subscripts: place.subscripts,
-    }
+    let mut place = part.place;
+    place.line = line;
+    place
 }
 
 /// A variable of the part's type.

@@ -13,7 +13,7 @@ use Rattle.occ_term.specs.Messages.{product}
 use Rattle.occ_term.specs.Terms as T
 use Rattle.occ_term.specs.Terms.{Term, Terms, Branches, Arms, Choices, Variants, Options, Array, Cells, Text, Item as TermItem, OfOne, OfMany, Clearing, Naming, replicator, Declaration, Place}
 use Rattle.occ_term.specs.Sizes as Sizes
-use Rattle.occ_term.specs.Sizes.{Size, no_size, beside, size_of, size_of_terms, size_of_branches, size_of_arms, size_of_choices, size_of_variants, size_of_options, size_of_expression, size_of_place, size_of_targets, size_of_constants, size_of_declaration, size_of_declarations, size_of_replicator}
+use Rattle.occ_term.specs.Sizes.{Size, no_size, beside, size_of, size_of_terms, size_of_branches, size_of_arms, size_of_choices, size_of_variants, size_of_options, size_of_expression, size_of_test, size_of_place, size_of_targets, size_of_constants, size_of_declaration, size_of_declarations, size_of_replicator}
 use Rattle.occ_check_meaning.specs.Scope.{keep, once, Name, Names, names_of, Carried}
 use Rattle.occ_check_meaning.specs.Numbers.{Numbers, at_start, more_cells, more_channels, room}
 use Rattle.occ_check_meaning.specs.Constants.{constant}
@@ -169,7 +169,7 @@ bound_counted ns line depth ws es n o e =
     subst (OpenedCounted depth n) (kept _ _ o b.2).1 (actuals_counted ns line depth ws (actual_list es) n b.0 b.1)
 
 -- a replicator with what it replicates
-replicated_counted : (ns : Names) (line depth : ℕ) (r : L.Replicator) (n : Numbers) (i : Indexed) (a : Size) (l : Numbers) → indexed ns line depth r n ≡ Some i → Counted (depth + 1) a i.numbers l
+replicated_counted : (ns : Names) (line depth : ℕ) (r : L.Replicator) (n : Numbers) (i : Indexed) (a : Size) (l : Numbers) → indexed ns line depth r n ≡ Some i → Counted depth a i.numbers l
     → Counted depth (size_of_replicator i.replicator a) n l
 replicated_counted ns line depth (L.each x base count) n i a l e c =
     let b = bind_some (typed_as ns line Int base) _ i e in
@@ -177,10 +177,10 @@ replicated_counted ns line depth (L.each x base count) n i a l e c =
     let m = bind_some (more_cells Int x [] n) _ i k.2 in
     let o = bind_some (room depth (size_of_replicator (replicator line (length n.cells) b.0 k.0) no_size) m.0) _ i m.2 in
     let g = some_is _ i o.2 in
-    let q : Counted (depth + 1) a o.0 l = subst (λ (y : Indexed). Counted (depth + 1) a y.numbers l) (sym g) c in
+    let q : Counted depth a o.0 l = subst (λ (y : Indexed). Counted depth a y.numbers l) (sym g) c in
     subst (λ (y : Indexed). Counted depth (size_of_replicator y.replicator a) n l) g
     (from_nodes {s = size_of_replicator (replicator line (length n.cells) b.0 k.0) a} (cells_nodes Int x [] n m.0 m.1)
-    (counted_node (beside (Sizes.cells 1) (beside (size_of_expression b.0) (beside (size_of_expression k.0) no_size))) a (size_of_replicator (replicator line (length n.cells) b.0 k.0) a) o.1 q (omega arith) (omega arith)) refl (omega arith))
+    (counted_both (counted_room (size_of_replicator (replicator line (length n.cells) b.0 k.0) no_size) o.1) q (omega arith) (omega arith)) refl (omega arith))
 
 -- ---- declarations
 
@@ -203,27 +203,21 @@ items_counted (one_item {a = a} {b = b} x y) = counted_both (item_counted x) (it
 
 -- ---- all of the tree
 
-awaited : (depth : ℕ) (n m l : Numbers) (e : T.Expression) (c : Place) (list : Listed) (t : Term)
-    → room depth (Sizes.node (beside (size_of_expression e) (beside (size_of_place c) (size_of_list list)))) n ≡ Some m → Counted (depth_behind list (depth + 1)) (size_of t) m l
+awaited : (depth : ℕ) (n m l : Numbers) (e : Option T.Expression) (c : Place) (list : Listed) (t : Term)
+    → room depth (Sizes.node (beside (size_of_test e) (beside (size_of_place c) (size_of_list list)))) n ≡ Some m → Counted (depth_behind list (depth + 1)) (size_of t) m l
     → Counted depth (size_of_arms (T.input_arm e c (as_reception list t) T.no_arms)) n l
 awaited depth n m l e c (plain_list ts) t h g =
-    let x = room_nodes depth (Sizes.node (beside (size_of_expression e) (beside (size_of_place c) (size_of_targets ts)))) n m h in
-    let y = room_deep depth (Sizes.node (beside (size_of_expression e) (beside (size_of_place c) (size_of_targets ts)))) n m h in
+    let x = room_nodes depth (Sizes.node (beside (size_of_test e) (beside (size_of_place c) (size_of_targets ts)))) n m h in
+    let y = room_deep depth (Sizes.node (beside (size_of_test e) (beside (size_of_place c) (size_of_targets ts)))) n m h in
     let p = g.nodes in
     let q = g.deep in
     record { nodes = omega (arith, x, p); deep = omega (arith, y, q) }
 awaited depth n m l e c (tagged_list k ts) t h g =
-    let x = room_nodes depth (Sizes.node (beside (size_of_expression e) (beside (size_of_place c) (Sizes.node (size_of_targets ts))))) n m h in
-    let y = room_deep depth (Sizes.node (beside (size_of_expression e) (beside (size_of_place c) (Sizes.node (size_of_targets ts))))) n m h in
+    let x = room_nodes depth (Sizes.node (beside (size_of_test e) (beside (size_of_place c) (Sizes.node (size_of_targets ts))))) n m h in
+    let y = room_deep depth (Sizes.node (beside (size_of_test e) (beside (size_of_place c) (Sizes.node (size_of_targets ts))))) n m h in
     let p = g.nodes in
     let q = g.deep in
     record { nodes = omega (arith, x, p); deep = omega (arith, y, q) }
-
-twice_deeper : (depth : ℕ) {s : Size} {n m : Numbers} → Counted (depth + 2) s n m → Counted ((depth + 1) + 1) s n m
-twice_deeper depth h =
-    let x = h.nodes in
-    let y = h.deep in
-    record { nodes = x; deep = omega (arith, y) }
 
 branch_counted : {depth : ℕ} {n p m l : Numbers} (k : ℕ) (t : Term) (bs : Branches) → p.nodes ≡ n.nodes → Counted depth (size_of t) p m → Counted depth (size_of_branches bs) m l
     → Counted depth (size_of_branches (T.and_branch k t bs)) n l
@@ -264,7 +258,7 @@ mutual
   performs_counted (sequences {ts = ts} m u) = counted_node no_size (size_of_terms ts) (size_of (T.Seq ts)) m (in_turn_counted u) (omega arith) (omega arith)
   performs_counted (replicates_sequence {sc = sc} {line = line} {depth = depth} {m = m} {l = l} {r = r} {i = i} {t = t} o x u) =
       counted_node no_size (size_of_replicator i.replicator (size_of t)) (size_of (T.Each i.replicator t)) o
-      (replicated_counted (names_of sc) line (depth + 1) r m i (size_of t) l x (twice_deeper depth (unfolding_counted u))) (omega arith) (omega arith)
+      (replicated_counted (names_of sc) line (depth + 1) r m i (size_of t) l x (unfolding_counted u)) (omega arith) (omega arith)
   performs_counted (runs_beside {bs = bs} m u) = counted_node no_size (size_of_branches bs) (size_of (T.Par bs)) m (beside_counted u) (omega arith) (omega arith)
   performs_counted (replicates_branch {bs = bs} c m u) = counted_node no_size (size_of_branches bs) (size_of (T.Par bs)) m (copies_counted u) (omega arith) (omega arith)
   performs_counted (alternates {pri = pri} {arms = arms} m u) = counted_node no_size (size_of_arms arms) (size_of (T.Alt pri arms)) m (arms_counted u) (omega arith) (omega arith)
@@ -293,7 +287,7 @@ mutual
   offers_counted (awaits {depth = depth} {n = n} {m = m} {l = l} {e = e} {c = c} {t = t} x y r u) = awaited depth n m l e c.0 c.1 t r (unfolding_counted u)
   offers_counted (is_ready {e = e} {t = t} x r u) = counted_node (size_of_expression e) (size_of t) (size_of_arms (T.skip_arm e t T.no_arms)) r (unfolding_counted u) (omega arith) (omega arith)
   offers_counted (awaits_variants {e = e} {c = c} {xs = xs} x y p r u) =
-      counted_node (beside (size_of_expression e) (size_of_place c.1)) (size_of_variants xs) (size_of_arms (T.input_arm e c.1 (T.Tagged xs) T.no_arms)) r (variants_counted u) (omega arith) (omega arith)
+      counted_node (beside (size_of_test e) (size_of_place c.1)) (size_of_variants xs) (size_of_arms (T.input_arm e c.1 (T.Tagged xs) T.no_arms)) r (variants_counted u) (omega arith) (omega arith)
   offers_counted (nests_arms u) = arms_counted u
   offers_counted (replicates_arm u) = each_arm_counted u
 

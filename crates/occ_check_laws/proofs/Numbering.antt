@@ -11,7 +11,7 @@ use Rattle.occ_term.specs.Terms as T
 use Rattle.occ_term.specs.Terms.{Term, Terms, no_terms, then_term, Branches, and_branch, Arms, no_arms, skip_arm, input_arm, declared_arms, each_arm, Choices, no_choices, or_choice, declared_choices, each_choice, Variants, no_variants, or_variant, Options, no_options, or_option, or_else, Declaration, Clearing, Naming}
 use Rattle.occ_term.specs.Processes.{Numbered, branches_in, branches_in_terms, branches_among, branches_in_arms, branches_in_reception, branches_in_variants, branches_in_choices, branches_in_options, processes_of}
 use Rattle.occ_term.specs.Sizes as Sizes
-use Rattle.occ_term.specs.Sizes.{Size, no_size, size_of, size_of_expression, size_of_place, size_of_targets, size_of_constants}
+use Rattle.occ_term.specs.Sizes.{Size, no_size, size_of, size_of_expression, size_of_test, size_of_place, size_of_targets, size_of_constants}
 use Rattle.occ_term.specs.Unfolding.{NumberedFrom}
 use Rattle.occ_check_meaning.specs.Scope.{each_of, Names, names_of}
 use Rattle.occ_check_meaning.specs.Expressions.{typed}
@@ -198,11 +198,11 @@ mutual
   offers_numbered : {sc : Procedures} {line depth : ℕ} {n m : Numbers} {h : ArmHead} {b : Body (under arm h)} {arms : Arms} → Offers sc line depth n h b arms m → NumberedUpTo n.processes (branches_in_arms arms) m.processes
   offers_numbered (awaits {depth = depth} {n = n} {m = m} {l = l} {e = e} {c = c} {t = t} x y r u) =
       the_same (branches_in t) (branches_in_reception (as_reception c.1 t) ++ []) n.processes l.processes (with_nil (branches_in_reception (as_reception c.1 t)) ∙ reception_branches c.1 t)
-      (begin_at (branches_in t) n.processes m.processes l.processes (roomy depth (Sizes.node (Sizes.beside (size_of_expression e) (Sizes.beside (size_of_place c.0) (size_of_list c.1)))) n m r) (unfolding_numbered u))
+      (begin_at (branches_in t) n.processes m.processes l.processes (roomy depth (Sizes.node (Sizes.beside (size_of_test e) (Sizes.beside (size_of_place c.0) (size_of_list c.1)))) n m r) (unfolding_numbered u))
   offers_numbered (is_ready {depth = depth} {n = n} {m = m} {l = l} {e = e} {t = t} x r u) =
       the_same (branches_in t) (branches_in t ++ []) n.processes l.processes (with_nil (branches_in t)) (begin_at (branches_in t) n.processes m.processes l.processes (roomy depth (Sizes.node (size_of_expression e)) n m r) (unfolding_numbered u))
   offers_numbered (awaits_variants {depth = depth} {n = n} {m = m} {l = l} {e = e} {c = c} {xs = xs} x y p r u) =
-      the_same (branches_in_variants xs) (branches_in_variants xs ++ []) n.processes l.processes (with_nil (branches_in_variants xs)) (begin_at (branches_in_variants xs) n.processes m.processes l.processes (roomy depth (Sizes.node (Sizes.beside (size_of_expression e) (size_of_place c.1))) n m r) (variants_numbered u))
+      the_same (branches_in_variants xs) (branches_in_variants xs ++ []) n.processes l.processes (with_nil (branches_in_variants xs)) (begin_at (branches_in_variants xs) n.processes m.processes l.processes (roomy depth (Sizes.node (Sizes.beside (size_of_test e) (size_of_place c.1))) n m r) (variants_numbered u))
   offers_numbered (nests_arms u) = arms_numbered u
   offers_numbered (replicates_arm u) = each_arm_numbered u
 

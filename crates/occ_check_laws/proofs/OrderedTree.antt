@@ -10,7 +10,7 @@ use Rattle.occ_term.specs.declared.protocol.Protocol.{Protocol}
 use Rattle.occ_term.specs.Terms as T
 use Rattle.occ_term.specs.Terms.{Term, Terms, Branches, Arms, no_arms, skip_arm, input_arm, declared_arms, each_arm, Choices, no_choices, or_choice, declared_choices, each_choice, Variants, no_variants, or_variant, Options, no_options, or_option, or_else, Declaration, Clearing, Naming, Place, replicator}
 use Rattle.occ_term.specs.Sizes as Sizes
-use Rattle.occ_term.specs.Sizes.{Size, no_size, size_of, size_of_expression, size_of_place, size_of_targets, size_of_constants, size_of_replicator}
+use Rattle.occ_term.specs.Sizes.{Size, no_size, size_of, size_of_expression, size_of_test, size_of_place, size_of_targets, size_of_constants, size_of_replicator}
 use Rattle.occ_term.specs.TypedSteps.{IndicesHave}
 use Rattle.occ_term.specs.TermTyping.{Declared}
 use Rattle.occ_check_meaning.specs.Scope.{each_of, names_of, within, proc, Names}
@@ -245,14 +245,14 @@ module _ (d : Declared) where
     offers_take : {sc : Procedures} {line depth : ℕ} {n m : Numbers} {h : ArmHead} {b : Body (under arm h)} {arms : Arms} → Offers sc line depth n h b arms m → In d sc n → Covers d m → Takes n (cells_in_arms arms) m
     offers_take (awaits {sc = sc} {depth = depth} {n = n} {m = m} {l = l} {e = e} {c = x} {t = t} a g r u) h c =
         the_same (cells_in t) (cells_in_reception (as_reception x.1 t) ++ []) n l (with_nil (cells_in_reception (as_reception x.1 t)) ∙ reception_cells x.1 t)
-        (room_begins (cells_in t) depth (Sizes.node (Sizes.beside (size_of_expression e) (Sizes.beside (size_of_place x.0) (size_of_list x.1)))) n m l r
-        (unfolding_takes u (roomy d sc depth (Sizes.node (Sizes.beside (size_of_expression e) (Sizes.beside (size_of_place x.0) (size_of_list x.1)))) n m r h) c))
+        (room_begins (cells_in t) depth (Sizes.node (Sizes.beside (size_of_test e) (Sizes.beside (size_of_place x.0) (size_of_list x.1)))) n m l r
+        (unfolding_takes u (roomy d sc depth (Sizes.node (Sizes.beside (size_of_test e) (Sizes.beside (size_of_place x.0) (size_of_list x.1)))) n m r h) c))
     offers_take (is_ready {sc = sc} {depth = depth} {n = n} {m = m} {l = l} {e = e} {t = t} a r u) h c =
         the_same (cells_in t) (cells_in t ++ []) n l (with_nil (cells_in t)) (room_begins (cells_in t) depth (Sizes.node (size_of_expression e)) n m l r (unfolding_takes u (roomy d sc depth (Sizes.node (size_of_expression e)) n m r h) c))
     offers_take (awaits_variants {sc = sc} {depth = depth} {n = n} {m = m} {l = l} {e = e} {c = x} {xs = xs} a g w r u) h c =
         the_same (cells_in_variants xs) (cells_in_variants xs ++ []) n l (with_nil (cells_in_variants xs))
-        (room_begins (cells_in_variants xs) depth (Sizes.node (Sizes.beside (size_of_expression e) (size_of_place x.1))) n m l r
-        (variants_take u (roomy d sc depth (Sizes.node (Sizes.beside (size_of_expression e) (size_of_place x.1))) n m r h) c))
+        (room_begins (cells_in_variants xs) depth (Sizes.node (Sizes.beside (size_of_test e) (size_of_place x.1))) n m l r
+        (variants_take u (roomy d sc depth (Sizes.node (Sizes.beside (size_of_test e) (size_of_place x.1))) n m r h) c))
     offers_take (nests_arms u) h c = arms_take u h c
     offers_take (replicates_arm u) h c = each_arm_takes u h c
 

@@ -9,7 +9,7 @@ use Rattle.occ_term.specs.declared.protocol.Protocol.{Protocol}
 use Rattle.occ_term.specs.Terms as T
 use Rattle.occ_term.specs.Terms.{Term, Terms, Branches, Arms, Choices, Variants, Options}
 use Rattle.occ_term.specs.Sizes as Sizes
-use Rattle.occ_term.specs.Sizes.{no_size, size_of, size_of_expression, size_of_place, size_of_targets, size_of_constants}
+use Rattle.occ_term.specs.Sizes.{no_size, size_of, size_of_expression, size_of_test, size_of_place, size_of_targets, size_of_constants}
 use Rattle.occ_check_meaning.specs.Scope.{names_of}
 use Rattle.occ_check_meaning.specs.Numbers.{Numbers, at_start, more_processes}
 use Rattle.occ_check_meaning.specs.Actions.{as_input, size_of_list, Chosen}
@@ -61,10 +61,10 @@ module _ (R : Numbers → Numbers → Type 0) (s : Stepping R) (numbered : (n m 
 
     pub offers_steps : {sc : Procedures} {line depth : ℕ} {n m : Numbers} {h : ArmHead} {b : Body (under arm h)} {arms : Arms} → Offers sc line depth n h b arms m → R n m
     offers_steps (awaits {depth = depth} {n = n} {m = m} {l = l} {e = e} {c = c} x g r u) =
-        s.chained n m l (s.by_room depth (Sizes.node (Sizes.beside (size_of_expression e) (Sizes.beside (size_of_place c.0) (size_of_list c.1)))) n m r) (unfolding_steps u)
+        s.chained n m l (s.by_room depth (Sizes.node (Sizes.beside (size_of_test e) (Sizes.beside (size_of_place c.0) (size_of_list c.1)))) n m r) (unfolding_steps u)
     offers_steps (is_ready {depth = depth} {n = n} {m = m} {l = l} {e = e} x r u) = s.chained n m l (s.by_room depth (Sizes.node (size_of_expression e)) n m r) (unfolding_steps u)
     offers_steps (awaits_variants {depth = depth} {n = n} {m = m} {l = l} {e = e} {c = c} x g p r u) =
-        s.chained n m l (s.by_room depth (Sizes.node (Sizes.beside (size_of_expression e) (size_of_place c.1))) n m r) (variants_steps u)
+        s.chained n m l (s.by_room depth (Sizes.node (Sizes.beside (size_of_test e) (size_of_place c.1))) n m r) (variants_steps u)
     offers_steps (nests_arms u) = arms_steps u
     offers_steps (replicates_arm u) = each_arm_steps u
 

@@ -313,9 +313,11 @@ module _ (d : Declared) (ns : Names) (h : NamesHave d ns) (line : ℕ) where
         as_targets_have b.0 (all_of (λ (r : Primitive × Row). RowHas d.types r.0 r.1) (variable_of ns line) variable_has vs b.0 b.1),
       )
 
-  pub test_has : (test : Option Expression) (e : T.Expression) → test_of ns line test ≡ Some e → HasType d.types e Boolean
-  test_has None e g = subst (λ y. HasType d.types y Boolean) (some_is _ e g) refl
-  test_has (Some a) e g = as_has Boolean a e g
+  pub test_has : (test : Option Expression) (e : Option T.Expression) → test_of ns line test ≡ Some e → HasType d.types (T.tested e) Boolean
+  test_has None e g = subst (λ y. HasType d.types (T.tested y) Boolean) (some_is _ e g) refl
+  test_has (Some a) e g =
+      let t = bind_some (typed_as ns line Boolean a) _ e g in
+      subst (λ y. HasType d.types (T.tested y) Boolean) (some_is _ e t.2) (as_has Boolean a t.0 t.1)
     where
       as_has : (type : Primitive) (a : Expression) (e : T.Expression) → typed_as ns line type a ≡ Some e → HasType d.types e type
       as_has type a e g = let t = bind_some (typed ns line a) _ e g in of_type_has d.types type t.0 e (typed_has d ns h line a t.0 t.1) t.2

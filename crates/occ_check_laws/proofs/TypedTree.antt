@@ -14,7 +14,7 @@ use Rattle.occ_term.specs.Messages.{is_of, product, AllOf}
 use Rattle.occ_term.specs.Terms as T
 use Rattle.occ_term.specs.Terms.{Term, Terms, Branches, Arms, no_arms, skip_arm, input_arm, declared_arms, each_arm, Choices, no_choices, or_choice, declared_choices, each_choice, Variants, no_variants, or_variant, Options, no_options, or_option, or_else, Declaration, Clearing, Naming, Place, replicator}
 use Rattle.occ_term.specs.Sizes as Sizes
-use Rattle.occ_term.specs.Sizes.{Size, no_size, size_of_expression, size_of_place, size_of_targets, size_of_constants, size_of_replicator}
+use Rattle.occ_term.specs.Sizes.{Size, no_size, size_of_expression, size_of_test, size_of_place, size_of_targets, size_of_constants, size_of_replicator}
 use Rattle.occ_term.specs.Uses.{Uses, uses_of, uses_of_arms, uses_of_choices}
 use Rattle.occ_term.specs.Typing.{is_number, HasType}
 use Rattle.occ_term.specs.TypedSteps.{IndicesHave}
@@ -267,7 +267,7 @@ module _ (d : Declared) where
     offers_have (awaits {sc = sc} {line = line} {depth = depth} {n = n} {m = m} {test = test} {i = i} {e = e} {c = x} {t = t} a g r u) h c =
         let k = received_has d (names_of sc) (have sc n h) line i x g in (
           test_has d (names_of sc) (have sc n h) line test e a,
-          (k.0, k.1, reception_has k.0 x.1 t k.2 (unfolding_has u (roomy sc depth (Sizes.node (Sizes.beside (size_of_expression e) (Sizes.beside (size_of_place x.0) (size_of_list x.1)))) n m r h) c)),
+          (k.0, k.1, reception_has k.0 x.1 t k.2 (unfolding_has u (roomy sc depth (Sizes.node (Sizes.beside (size_of_test e) (Sizes.beside (size_of_place x.0) (size_of_list x.1)))) n m r h) c)),
           tt,
         )
     offers_have (is_ready {sc = sc} {line = line} {depth = depth} {n = n} {m = m} {test = test} {e = e} a r u) h c =
@@ -277,7 +277,7 @@ module _ (d : Declared) where
       (
         p,
         subst (λ y. ChannelHas d x.1 y) (tags_same x.0 p w) (channel_has d (names_of sc) (have sc n h) line v x g),
-        variants_have u (tagged_with x.0 p w) (roomy sc depth (Sizes.node (Sizes.beside (size_of_expression e) (size_of_place x.1))) n m r h) c,
+        variants_have u (tagged_with x.0 p w) (roomy sc depth (Sizes.node (Sizes.beside (size_of_test e) (size_of_place x.1))) n m r h) c,
       ),
       tt,
     )

@@ -9,7 +9,7 @@ use Rattle.occ_term.specs.declared.primitive.Primitive.{Primitive}
 use Rattle.occ_term.specs.declared.protocol.Protocol.{Protocol}
 use Rattle.occ_term.specs.Terms.{Term, Terms, Branches, Arms, no_arms, skip_arm, input_arm, declared_arms, each_arm, Choices, no_choices, or_choice, declared_choices, each_choice, Variants, no_variants, or_variant, Options, no_options, or_option, or_else, Declaration, Clearing, Naming, Place}
 use Rattle.occ_term.specs.Sizes as Sizes
-use Rattle.occ_term.specs.Sizes.{no_size, size_of_expression, size_of_place, size_of_targets, size_of_constants}
+use Rattle.occ_term.specs.Sizes.{no_size, size_of_expression, size_of_test, size_of_place, size_of_targets, size_of_constants}
 use Rattle.occ_term.specs.Uses.{uses_of, uses_of_terms, uses_of_branches, uses_of_arms, uses_of_reception, uses_of_variants, uses_of_choices, uses_of_options, uses_of_declaration, uses_of_declarations, uses_of_targets, uses_of_replicator}
 use Rattle.occ_check_meaning.specs.Scope.{names_of, Known}
 use Rattle.occ_check_meaning.specs.Numbers.{Numbers, room}
@@ -223,11 +223,11 @@ module _ (c : ℕ) where
     offers_avoid : {sc : Procedures} {line depth : ℕ} {n m : Numbers} {h : ArmHead} {b : Body (under arm h)} {arms : Arms} → Offers sc line depth n h b arms m → In sc → c < length n.cells → Not ((uses_of_arms arms).writes c)
     offers_avoid (awaits {sc = sc} {line = line} {depth = depth} {n = n} {m = m} {i = i} {e = e} {c = p} {t = t} x g r u) h l =
         alone ((uses_of_reception (as_reception p.1 t)).writes c) (reception_not p.1 t (received_avoids c (names_of sc) (named sc h) line i p g)
-        (unfolding_avoids u h (roomy depth (Sizes.node (Sizes.beside (size_of_expression e) (Sizes.beside (size_of_place p.0) (size_of_list p.1)))) n m r l)))
+        (unfolding_avoids u h (roomy depth (Sizes.node (Sizes.beside (size_of_test e) (Sizes.beside (size_of_place p.0) (size_of_list p.1)))) n m r l)))
     offers_avoid (is_ready {depth = depth} {n = n} {m = m} {e = e} {t = t} x r u) h l =
         alone ((uses_of t).writes c) (unfolding_avoids u h (roomy depth (Sizes.node (size_of_expression e)) n m r l))
     offers_avoid (awaits_variants {depth = depth} {n = n} {m = m} {e = e} {c = p} {xs = xs} x g w r u) h l =
-        alone ((uses_of_variants xs).writes c) (variants_avoid u h (roomy depth (Sizes.node (Sizes.beside (size_of_expression e) (size_of_place p.1))) n m r l))
+        alone ((uses_of_variants xs).writes c) (variants_avoid u h (roomy depth (Sizes.node (Sizes.beside (size_of_test e) (size_of_place p.1))) n m r l))
     offers_avoid (nests_arms u) h l = arms_avoid u h l
     offers_avoid (replicates_arm u) h l = each_arm_avoids u h l
 

@@ -3,7 +3,7 @@ use Rattle.std.specs.Prelude.{[], codes, neg_ℤ, None, pos, Some, ◌∷◌, �
 use Rattle.std.specs.Fmt.{digits}
 use Rattle.std.proofs.Common.{refl}
 use Rattle.occ_term.specs.Terms as T
-use Rattle.occ_check_meaning.specs.Examples.{channel_names, copies, copying, empty_sequence, hidden, hiding, idle, named, naming, nested, nesting, no_copies, overlapping, own_cell, self_calling, storing_at, storing_under, swapped, swapping, term_of_program, twice, with_own}
+use Rattle.occ_check_meaning.specs.Examples.{channel_names, carrying, copies, copying, empty_sequence, hidden, hiding, holding, idle, named, naming, nested, nesting, no_copies, nodes_of, overlapping, own_cell, self_calling, storing_at, storing_under, swapped, swapping, term_of_program, twice, with_own}
 use Rattle.occ_check_meaning.specs.Examples as Examples
 use Rattle.occ_check_meaning.specs.CallExamples as CallExamples
 use Rattle.occ_check_meaning.specs.Scope.{each_of, find, within}
@@ -101,3 +101,15 @@ decides_by_the_left = refl
 pub loops_in_scope : term_of_program CallExamples.looping ≡ Some CallExamples.looped_once
 unfolding each_of find within from_number component_names typed typed_chain typed_operand typed_subscripts size_of_operand size_of_expression each_size sent_items tag_number targets_of assigned_items each_declared other_formals all_evaluated all_actuals choosing copied unfolded all_in_turn all_beside arm_unfolded all_arms choice_unfolded all_choices variant_unfolded all_variants option_unfolded all_options all_declared declared item_declared main_of other_names items_declared
 loops_in_scope = refl
+
+pub counts_nodes : nodes_of nesting ≡ Some 13
+unfolding each_of find within from_number component_names typed typed_chain typed_operand typed_subscripts size_of_operand size_of_expression each_size sent_items tag_number targets_of assigned_items each_declared other_formals all_evaluated all_actuals choosing copied unfolded all_in_turn all_beside arm_unfolded all_arms choice_unfolded all_choices variant_unfolded all_variants option_unfolded all_options all_declared declared item_declared main_of other_names items_declared
+counts_nodes = refl
+
+pub carries_large : term_of_program (carrying (pos 65537)) ≡ Some T.Skip
+unfolding each_of find within from_number component_names typed typed_chain typed_operand typed_subscripts size_of_operand size_of_expression each_size sent_items tag_number targets_of assigned_items each_declared other_formals all_evaluated all_actuals choosing copied unfolded all_in_turn all_beside arm_unfolded all_arms choice_unfolded all_choices variant_unfolded all_variants option_unfolded all_options all_declared declared item_declared main_of other_names items_declared
+carries_large = refl
+
+pub holds_no_large : term_of_program (holding (pos 65537)) ≡ None
+unfolding each_of find within from_number component_names typed typed_chain typed_operand typed_subscripts size_of_operand size_of_expression each_size sent_items tag_number targets_of assigned_items each_declared other_formals all_evaluated all_actuals choosing copied unfolded all_in_turn all_beside arm_unfolded all_arms choice_unfolded all_choices variant_unfolded all_variants option_unfolded all_options all_declared declared item_declared main_of other_names items_declared
+holds_no_large = refl

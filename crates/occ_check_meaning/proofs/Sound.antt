@@ -152,10 +152,10 @@ pub each_sequenced_sound : (line : ℕ) (r : L.Replicator) (p : Node process) (f
 each_sequenced_sound line r p f s sc h depth n x e =
     let m = bind_some (room depth (Sizes.node no_size) n) _ x e in
     let i = bind_some (indexed (names_of (meant sc)) line (depth + 1) r m.0) _ x m.2 in
-    let t = bind_some (f (within i.0.names (meant sc)) (depth + 2) i.0.numbers) _ x i.2 in
+    let t = bind_some (f (within i.0.names (meant sc)) (depth + 1) i.0.numbers) _ x i.2 in
     subst (λ y. Performs sc line depth n (sequence (Some r)) (single_body p) y.0 y.1) (some_is _ x t.2)
     (replicates_sequence m.1 (plain sc (λ ns. indexed ns line (depth + 1) r m.0) i.1)
-    (inside f (λ sc depth n t m. Unfolding sc depth n p t m) s i.0.names sc h (depth + 2) i.0.numbers t.0 t.1))
+    (inside f (λ sc depth n t m. Unfolding sc depth n p t m) s i.0.names sc h (depth + 1) i.0.numbers t.0 t.1))
 
 pub beside_sound : (line : ℕ) (ps : Nodes process) (f : Under Branches) → Sound f (λ sc depth n bs m. Beside sc depth n ps bs m)
     → Sound (beside f) (Performing line (parallel None) (bodies ps))

@@ -13,7 +13,7 @@ use Rattle.occ_term.specs.Messages.{parts_after}
 use Rattle.occ_term.specs.Terms as T
 use Rattle.occ_term.specs.Terms.{Term, Terms, Branches, Arms, Choices, Variants, Options}
 use Rattle.occ_term.specs.Sizes as Sizes
-use Rattle.occ_term.specs.Sizes.{no_size, size_of, size_of_expression, size_of_place, size_of_targets, size_of_constants}
+use Rattle.occ_term.specs.Sizes.{no_size, size_of, size_of_test, size_of_expression, size_of_place, size_of_targets, size_of_constants}
 use Rattle.occ_check_meaning.specs.Scope.{each_of, Name, names_of, within}
 use Rattle.occ_check_meaning.specs.Numbers.{Numbers, room}
 use Rattle.occ_check_meaning.specs.Expressions.{typed_as, constant_as}
@@ -110,7 +110,7 @@ pub arm_of_sound : (line : ℕ) (g : Guard) (p : Node process) (f : Under Term) 
 arm_of_sound line (on_input test i) p f s sc h depth n x e =
     let b = bind_some (test_of (names_of (meant sc)) line test) _ x e in
     let c = bind_some (received (names_of (meant sc)) line i) _ x b.2 in
-    let m = bind_some (room depth (Sizes.node (Sizes.beside (size_of_expression b.0) (Sizes.beside (size_of_place c.0.0) (size_of_list c.0.1)))) n) _ x c.2 in
+    let m = bind_some (room depth (Sizes.node (Sizes.beside (size_of_test b.0) (Sizes.beside (size_of_place c.0.0) (size_of_list c.0.1)))) n) _ x c.2 in
     let t = bind_some (f (meant sc) (depth_behind c.0.1 (depth + 1)) m.0) _ x m.2 in
     subst (λ y. Offers sc line depth n (guarded (on_input test i)) (single_body p) y.0 y.1) (some_is _ x t.2)
     (awaits (plain sc (λ ns. test_of ns line test) b.1) (plain sc (λ ns. received ns line i) c.1) m.1 (s sc h (depth_behind c.0.1 (depth + 1)) m.0 t.0 t.1))
@@ -128,7 +128,7 @@ variants_arm_sound line test v vs f s sc h depth n x e =
     let b = bind_some (test_of (names_of (meant sc)) line test) _ x e in
     let c = bind_some (channel_of (names_of (meant sc)) line v) _ x b.2 in
     let p = bind_some (with_tags c.0.0) _ x c.2 in
-    let m = bind_some (room depth (Sizes.node (Sizes.beside (size_of_expression b.0) (size_of_place c.0.1))) n) _ x p.2 in
+    let m = bind_some (room depth (Sizes.node (Sizes.beside (size_of_test b.0) (size_of_place c.0.1))) n) _ x p.2 in
     let t = bind_some (f p.0 (meant sc) (depth + 1) m.0) _ x m.2 in
     subst (λ y. Offers sc line depth n (guarded_variants test v) (bodies vs) y.0 y.1) (some_is _ x t.2)
     (awaits_variants (plain sc (λ ns. test_of ns line test) b.1) (plain sc (λ ns. channel_of ns line v) c.1) p.1 m.1 (s p.0 sc h (depth + 1) m.0 t.0 t.1))
@@ -137,9 +137,9 @@ pub each_arm_sound : (line : ℕ) (r : L.Replicator) (a : Node arm) (f : Under A
     → Sound (each_of_arms line r f) (λ sc depth n arms m. EachArm sc line depth n r a arms m)
 each_arm_sound line r a f s sc h depth n x e =
     let i = bind_some (indexed (names_of (meant sc)) line depth r n) _ x e in
-    let t = bind_some (f (within i.0.names (meant sc)) (depth + 1) i.0.numbers) _ x i.2 in
+    let t = bind_some (f (within i.0.names (meant sc)) depth i.0.numbers) _ x i.2 in
     subst (λ y. EachArm sc line depth n r a y.0 y.1) (some_is _ x t.2)
-    (under_index (plain sc (λ ns. indexed ns line depth r n) i.1) (inside f (λ sc depth n arms m. Arm sc depth n a arms m) s i.0.names sc h (depth + 1) i.0.numbers t.0 t.1))
+    (under_index (plain sc (λ ns. indexed ns line depth r n) i.1) (inside f (λ sc depth n arms m. Arm sc depth n a arms m) s i.0.names sc h depth i.0.numbers t.0 t.1))
 
 -- ---- choices
 
@@ -173,9 +173,9 @@ pub each_choice_sound : (line : ℕ) (r : L.Replicator) (c : Node choice) (f : U
     → Sound (each_of_choices line r f) (λ sc depth n choices m. EachChoice sc line depth n r c choices m)
 each_choice_sound line r c f s sc h depth n x e =
     let i = bind_some (indexed (names_of (meant sc)) line depth r n) _ x e in
-    let t = bind_some (f (within i.0.names (meant sc)) (depth + 1) i.0.numbers) _ x i.2 in
+    let t = bind_some (f (within i.0.names (meant sc)) depth i.0.numbers) _ x i.2 in
     subst (λ y. EachChoice sc line depth n r c y.0 y.1) (some_is _ x t.2)
-    (under_choice_index (plain sc (λ ns. indexed ns line depth r n) i.1) (inside f (λ sc depth n choices m. Choice sc depth n c choices m) s i.0.names sc h (depth + 1) i.0.numbers t.0 t.1))
+    (under_choice_index (plain sc (λ ns. indexed ns line depth r n) i.1) (inside f (λ sc depth n choices m. Choice sc depth n c choices m) s i.0.names sc h depth i.0.numbers t.0 t.1))
 
 -- ---- variants and options
 

@@ -1,5 +1,5 @@
 -- Processes that stand in one line, and the parts of the others that declare nothing: each answers nothing where it is refused.
--- Manual: primitive processes; combining processes. An arm without a Boolean has the constant TRUE: (own).
+-- Manual: primitive processes; combining processes.
 use Rattle.std.specs.Prelude.{Bool, List, None, Option, Some, [], cond, false, map, nat_eq, not, pos, true, ℕ, ℤ, ◌+◌, ◌∷◌}
 use Rattle.std.specs.Ordering.{int_eq}
 use Rattle.occ_tree_grammar.specs.Many.{◌>>=◌}
@@ -98,9 +98,10 @@ abbrev pub depth_behind : Listed → ℕ → ℕ
 depth_behind (plain_list targets) depth = depth
 depth_behind (tagged_list k targets) depth = depth + 1
 
-abbrev pub test_of : Names → ℕ → Option Expression → Option T.Expression
-test_of ns line None = Some (Constant (pos 1))
-test_of ns line (Some e) = typed_as ns line Boolean e
+-- the Boolean of an arm that inputs, where it has one
+abbrev pub test_of : Names → ℕ → Option Expression → Option (Option T.Expression)
+test_of ns line None = Some None
+test_of ns line (Some e) = typed_as ns line Boolean e >>= λ test. Some (Some test)
 
 -- ---- inputs of variants
 

@@ -20,6 +20,9 @@ term_of_program is = option_map (λ x. x.0) (program_unfolded is)
 abbrev pub channel_names : List Item → Option (List (List ℕ))
 channel_names is = option_map (λ x. map (λ (c : Channel). c.name) x.1.channels) (program_unfolded is)
 
+abbrev pub nodes_of : List Item → Option ℕ
+nodes_of is = option_map (λ x. x.1.nodes) (program_unfolded is)
+
 -- ---- trees
 
 abbrev pub int_literal : ℤ → Operand
@@ -118,8 +121,8 @@ nesting = main 1 (node (ints 2 no_expression (codes "x") (more_decls (declares 3
 
 abbrev pub nested : Term
 nested = in_turn (T.Clear 0 1 ∷ T.Alt true (each_arm (replicator 4 1 (T.Constant (pos 0)) (T.Constant (pos 2)))
-    (input_arm (T.Constant (pos 1)) (at 6) (Plain (Into (place 6 0 [] no_subscripts) ∷ []) T.Skip)
-    (input_arm (T.Constant (pos 1)) (at 7) (Plain (Into (place 7 0 [] no_subscripts) ∷ []) T.Skip) no_arms)) no_arms) ∷ [])
+    (input_arm None (at 6) (Plain (Into (place 6 0 [] no_subscripts) ∷ []) T.Skip)
+    (input_arm None (at 7) (Plain (Into (place 7 0 [] no_subscripts) ∷ []) T.Skip) no_arms)) no_arms) ∷ [])
   where
     at : ℕ → Place
     at line = place line 3 (2 ∷ []) (then_subscript (T.Cell 1) no_subscripts)
@@ -171,3 +174,12 @@ overlapping = proc_item 1 (codes "swap") (formals (by_reference (value_type [] p
 -- PAR i = 0 FOR 0, whose body calls what isn't there
 abbrev pub no_copies : List Item
 no_copies = main 1 (node no_decl 2 (parallel (Some (each (codes "i") (alone (int_literal (pos 0))) (alone (int_literal (pos 0)))))) (single_body calling)) ∷ []
+
+-- ---- CHAN OF [n]BYTE c: / SKIP, which takes no cell, and [n]INT a: / SKIP, which takes n
+
+abbrev pub carrying : ℤ → List Item
+carrying n = main 1 (node (more_decls (declares 2 no_expression (of_channel (carries (single (more_expressions (alone (int_literal n)) no_expression) p.Byte))) (codes "c") []) no_decl)
+    3 (act skip) no_body) ∷ []
+
+abbrev pub holding : ℤ → List Item
+holding n = main 1 (node (ints 2 (more_expressions (alone (int_literal n)) no_expression) (codes "a") no_decl) 3 (act skip) no_body) ∷ []

@@ -13,7 +13,7 @@ use Rattle.occ_term.specs.Messages.{parts_after}
 use Rattle.occ_term.specs.Terms as T
 use Rattle.occ_term.specs.Terms.{Declaration, Term, Terms, Branches, no_branches, and_branch, Arms, no_arms, skip_arm, input_arm, each_arm, Tagged, Variants, no_variants, or_variant, Choices, no_choices, or_choice, each_choice, Options, no_options, or_option, or_else}
 use Rattle.occ_term.specs.Sizes as Sizes
-use Rattle.occ_term.specs.Sizes.{no_size, size_of_expression, size_of_place, size_of_targets, size_of_constants}
+use Rattle.occ_term.specs.Sizes.{no_size, size_of_test, size_of_expression, size_of_place, size_of_targets, size_of_constants}
 use Rattle.occ_check_meaning.specs.Scope.{each_of, Names, Pairs, as_proc, Scope, find, names_of, within}
 use Rattle.occ_check_meaning.specs.Numbers.{Numbers, more_processes, room}
 use Rattle.occ_check_meaning.specs.Expressions.{typed_as, constant_as}
@@ -94,7 +94,7 @@ abbrev pub each_sequenced : ℕ → L.Replicator → Under Term → Under Term
 each_sequenced line r body sc depth n = do
   m ← room depth (Sizes.node no_size) n
   i ← indexed (names_of sc) line (depth + 1) r m
-  x ← body (within i.names sc) (depth + 2) i.numbers
+  x ← body (within i.names sc) (depth + 1) i.numbers
   Some (T.Each i.replicator x.0, x.1)
 
 abbrev pub beside : Under Branches → Under Term
@@ -170,7 +170,7 @@ abbrev pub arm_of : ℕ → Guard → Under Term → Under Arms
 arm_of line (on_input test i) body sc depth n = do
   e ← test_of (names_of sc) line test
   c ← received (names_of sc) line i
-  m ← room depth (Sizes.node (Sizes.beside (size_of_expression e) (Sizes.beside (size_of_place c.0) (size_of_list c.1)))) n
+  m ← room depth (Sizes.node (Sizes.beside (size_of_test e) (Sizes.beside (size_of_place c.0) (size_of_list c.1)))) n
   x ← body sc (depth_behind c.1 (depth + 1)) m
   Some (input_arm e c.0 (as_reception c.1 x.0) no_arms, x.1)
 arm_of line (on_skip test) body sc depth n = do
@@ -184,14 +184,14 @@ variants_arm line test v variants sc depth n = do
   e ← test_of (names_of sc) line test
   c ← channel_of (names_of sc) line v
   p ← with_tags c.0
-  m ← room depth (Sizes.node (Sizes.beside (size_of_expression e) (size_of_place c.1))) n
+  m ← room depth (Sizes.node (Sizes.beside (size_of_test e) (size_of_place c.1))) n
   x ← variants p sc (depth + 1) m
   Some (input_arm e c.1 (Tagged x.0) no_arms, x.1)
 
 abbrev pub each_of_arms : ℕ → L.Replicator → Under Arms → Under Arms
 each_of_arms line r arms sc depth n = do
   i ← indexed (names_of sc) line depth r n
-  x ← arms (within i.names sc) (depth + 1) i.numbers
+  x ← arms (within i.names sc) depth i.numbers
   Some (each_arm i.replicator x.0 no_arms, x.1)
 
 -- ---- choices of an IF; the depth is that at which they stand
@@ -212,7 +212,7 @@ choice_of line test body sc depth n = do
 abbrev pub each_of_choices : ℕ → L.Replicator → Under Choices → Under Choices
 each_of_choices line r choices sc depth n = do
   i ← indexed (names_of sc) line depth r n
-  x ← choices (within i.names sc) (depth + 1) i.numbers
+  x ← choices (within i.names sc) depth i.numbers
   Some (each_choice i.replicator x.0 no_choices, x.1)
 
 -- ---- variants of an input, and options of a CASE

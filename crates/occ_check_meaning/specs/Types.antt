@@ -22,9 +22,12 @@ use Rattle.occ_check_meaning.specs.Expressions.{constant_as}
 
 -- ---- sizes
 
--- (refusal: too large) an array of more components than there may be cells
+-- (refusal: too large) Two sizes or more that multiply to more than there may be cells. One alone may be any INT: what is declared
+-- with it takes cells, and counts there.
 abbrev pub not_too_large : List ℕ → Option (List ℕ)
-not_too_large sizes = keep (nat_le (product sizes) most_cells) sizes
+not_too_large [] = Some []
+not_too_large (n ∷ []) = Some (n ∷ [])
+not_too_large (m ∷ n ∷ ns) = keep (nat_le (product (m ∷ n ∷ ns)) most_cells) (m ∷ n ∷ ns)
 
 unfoldable pub each_size : Names → ℕ → Expressions → Option (List ℕ)
 each_size ns line no_expression = Some []
@@ -59,8 +62,14 @@ abbrev pub is_few : Option ℕ → Bool
 is_few None = true
 is_few (Some n) = nat_le n most_cells
 
+-- (refusal: too large) as `not_too_large`, where all sizes are given
+abbrev pub are_few : Open → Bool
+are_few [] = true
+are_few (s ∷ []) = true
+are_few (s ∷ t ∷ sizes) = is_few (given_product (s ∷ t ∷ sizes))
+
 abbrev pub open_sizes_of : Names → ℕ → List L.Size → Option Open
-open_sizes_of ns line sizes = each_of (open_size ns line) sizes >>= λ open_sizes. keep (is_few (given_product open_sizes)) open_sizes
+open_sizes_of ns line sizes = each_of (open_size ns line) sizes >>= λ open_sizes. keep (are_few open_sizes) open_sizes
 
 -- an open size takes any
 abbrev pub takes_size : Option ℕ → ℕ → Bool

@@ -16,7 +16,7 @@ use Rattle.occ_term.specs.Messages.{parts_after}
 use Rattle.occ_term.specs.Terms as T
 use Rattle.occ_term.specs.Terms.{Term, Place, Target, Terms, no_terms, then_term, Branches, no_branches, and_branch, Arms, no_arms, skip_arm, input_arm, each_arm, Tagged, Variants, no_variants, or_variant, Choices, no_choices, or_choice, each_choice, Options, no_options, or_option, or_else}
 use Rattle.occ_term.specs.Sizes as Sizes
-use Rattle.occ_term.specs.Sizes.{no_size, size_of, size_of_expression, size_of_place, size_of_targets, size_of_constants}
+use Rattle.occ_term.specs.Sizes.{no_size, size_of, size_of_test, size_of_expression, size_of_place, size_of_targets, size_of_constants}
 use Rattle.occ_check_meaning.specs.Scope.{each_of, Name, Binding, known, proc, Scope, names_of, within}
 use Rattle.occ_check_meaning.specs.Numbers.{Numbers, more_processes, room}
 use Rattle.occ_check_meaning.specs.Expressions.{typed_as, constant_as}
@@ -101,7 +101,7 @@ mutual
         → Performs sc line depth n (sequence None) (bodies ps) (T.Seq ts) l
     replicates_sequence : {sc : Procedures} {line depth : ℕ} {n m l : Numbers} {r : L.Replicator} {p : Node process} {i : Indexed} {t : Term}
         → room depth (Sizes.node no_size) n ≡ Some m → indexed (names_of sc) line (depth + 1) r m ≡ Some i
-        → Unfolding (within i.names sc) (depth + 2) i.numbers p t l
+        → Unfolding (within i.names sc) (depth + 1) i.numbers p t l
         → Performs sc line depth n (sequence (Some r)) (single_body p) (T.Each i.replicator t) l
     runs_beside : {sc : Procedures} {line depth : ℕ} {n m l : Numbers} {ps : Nodes process} {bs : Branches}
         → room depth (Sizes.node no_size) n ≡ Some m → Beside sc (depth + 1) m ps bs l
@@ -157,18 +157,18 @@ mutual
         → DeclareAll sc depth n ds d → Offers d.scope line depth d.numbers h b arms l → Arm sc depth n (node ds line h b) (arms_behind d.heads arms) l
 
   pub data Offers : Procedures → (line depth : ℕ) → Numbers → (h : ArmHead) → Body (under arm h) → Arms → Numbers → Type 0 where
-    awaits : {sc : Procedures} {line depth : ℕ} {n m l : Numbers} {test : Option Expression} {i : L.Input} {p : Node process} {e : T.Expression} {c : Place × Listed} {t : Term}
+    awaits : {sc : Procedures} {line depth : ℕ} {n m l : Numbers} {test : Option Expression} {i : L.Input} {p : Node process} {e : Option T.Expression} {c : Place × Listed} {t : Term}
         → test_of (names_of sc) line test ≡ Some e → received (names_of sc) line i ≡ Some c
-        → room depth (Sizes.node (Sizes.beside (size_of_expression e) (Sizes.beside (size_of_place c.0) (size_of_list c.1)))) n ≡ Some m
+        → room depth (Sizes.node (Sizes.beside (size_of_test e) (Sizes.beside (size_of_place c.0) (size_of_list c.1)))) n ≡ Some m
         → Unfolding sc (depth_behind c.1 (depth + 1)) m p t l
         → Offers sc line depth n (guarded (on_input test i)) (single_body p) (input_arm e c.0 (as_reception c.1 t) no_arms) l
     is_ready : {sc : Procedures} {line depth : ℕ} {n m l : Numbers} {test : Expression} {p : Node process} {e : T.Expression} {t : Term}
         → typed_as (names_of sc) line Boolean test ≡ Some e → room depth (Sizes.node (size_of_expression e)) n ≡ Some m
         → Unfolding sc (depth + 1) m p t l
         → Offers sc line depth n (guarded (on_skip test)) (single_body p) (skip_arm e t no_arms) l
-    awaits_variants : {sc : Procedures} {line depth : ℕ} {n m l : Numbers} {test : Option Expression} {v : Var} {vs : Nodes variant} {e : T.Expression} {c : Protocol × Place} {p : Protocol} {xs : Variants}
+    awaits_variants : {sc : Procedures} {line depth : ℕ} {n m l : Numbers} {test : Option Expression} {v : Var} {vs : Nodes variant} {e : Option T.Expression} {c : Protocol × Place} {p : Protocol} {xs : Variants}
         → test_of (names_of sc) line test ≡ Some e → channel_of (names_of sc) line v ≡ Some c → with_tags c.0 ≡ Some p
-        → room depth (Sizes.node (Sizes.beside (size_of_expression e) (size_of_place c.1))) n ≡ Some m
+        → room depth (Sizes.node (Sizes.beside (size_of_test e) (size_of_place c.1))) n ≡ Some m
         → AllVariants sc (depth + 1) m p [] vs xs l
         → Offers sc line depth n (guarded_variants test v) (bodies vs) (input_arm e c.1 (Tagged xs) no_arms) l
     -- a nested ALT's arms stand in its place; the PRI of the outermost decides
@@ -179,7 +179,7 @@ mutual
 
   pub data EachArm : Procedures → (line depth : ℕ) → Numbers → L.Replicator → Node arm → Arms → Numbers → Type 0 where
     under_index : {sc : Procedures} {line depth : ℕ} {n l : Numbers} {r : L.Replicator} {a : Node arm} {i : Indexed} {arms : Arms}
-        → indexed (names_of sc) line depth r n ≡ Some i → Arm (within i.names sc) (depth + 1) i.numbers a arms l
+        → indexed (names_of sc) line depth r n ≡ Some i → Arm (within i.names sc) depth i.numbers a arms l
         → EachArm sc line depth n r a (each_arm i.replicator arms no_arms) l
 
   pub data AllArms : Procedures → (depth : ℕ) → Numbers → Nodes arm → Arms → Numbers → Type 0 where
@@ -205,7 +205,7 @@ mutual
 
   pub data EachChoice : Procedures → (line depth : ℕ) → Numbers → L.Replicator → Node choice → Choices → Numbers → Type 0 where
     under_choice_index : {sc : Procedures} {line depth : ℕ} {n l : Numbers} {r : L.Replicator} {c : Node choice} {i : Indexed} {choices : Choices}
-        → indexed (names_of sc) line depth r n ≡ Some i → Choice (within i.names sc) (depth + 1) i.numbers c choices l
+        → indexed (names_of sc) line depth r n ≡ Some i → Choice (within i.names sc) depth i.numbers c choices l
         → EachChoice sc line depth n r c (each_choice i.replicator choices no_choices) l
 
   pub data AllChoices : Procedures → (depth : ℕ) → Numbers → Nodes choice → Choices → Numbers → Type 0 where

@@ -2,7 +2,7 @@
 
 ghost use Rattle.std.specs.Prelude.{[], codes, map, neg_ℤ, None, pos, Some, ◌∷◌, ◌≡◌};
 ghost use Rattle.occ_term.specs.Terms as T;
-ghost use Rattle.occ_check_meaning.specs.Examples.{channel_names, copies, copying, empty_sequence, hidden, hiding, idle, named, naming, nested, nesting, no_copies, overlapping, own_cell, self_calling, storing_at, storing_under, swapped, swapping, term_of_program, twice, with_own};
+ghost use Rattle.occ_check_meaning.specs.Examples.{channel_names, carrying, copies, copying, empty_sequence, hidden, hiding, holding, idle, named, naming, nested, nesting, no_copies, nodes_of, overlapping, own_cell, self_calling, storing_at, storing_under, swapped, swapping, term_of_program, twice, with_own};
 ghost use Rattle.occ_check_meaning.specs.Examples as Examples;
 ghost use Rattle.occ_check_meaning.specs.CallExamples as CallExamples;
 
@@ -97,4 +97,16 @@ pub fn decides_by_the_left()
 /// The body of a WHILE is in the scope of the declarations before it.
 pub fn loops_in_scope()
     ensures { term_of_program CallExamples.looping ≡ Some CallExamples.looped_once }
+{}
+
+/// Neither a replicator is a node nor a Boolean that isn't written: the SEQ of the declaration, the Clear, the ALT, the base
+/// and the count of its index, and for each of the two arms the arm, its channel's subscript, its target and its SKIP.
+pub fn counts_nodes()
+    ensures { nodes_of nesting ≡ Some 13 }
+{}
+
+/// A size takes cells where a variable has it, and not in a protocol.
+pub fn sizes_take_cells()
+    ensures carried { term_of_program (carrying (pos 65537)) ≡ Some T.Skip }
+    ensures held { term_of_program (holding (pos 65537)) ≡ None }
 {}

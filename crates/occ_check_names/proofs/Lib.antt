@@ -1,3 +1,4 @@
 pub mod Looking
 pub mod Giving
 pub mod Strings
+pub mod Chained

@@ -10,22 +10,36 @@ ghost use Rattle.occ_check_meaning.specs.Constants.{constant, is_within};
 use occ_term::{NoValue, Primitive, TermExpr, constant_value};
 use std::alloc::AllocError;
 
-/// Whether no cell, no component and no letter of a string stands in an expression.
+/// Whether no cell, no component and no letter of a string stands in an expression. A chain of AND and OR is a loop.
+#[tactic(auto, using(crate::proofs::Chained::both, crate::proofs::Chained::one_is_none))]
 fn is_constant(e: &TermExpr) -> bool
     ensures { result ≡ uses.is_constant (expression_of e.now) }
 {
-    match e {
-        TermExpr::Constant(_) => true,
-        TermExpr::Cell(_, _) => false,
-        TermExpr::Component(_) => false,
-        TermExpr::Letter(_, _, _) => false,
-        TermExpr::Binary(_, _, _, left, right) => {
-            is_constant(left.get()) && is_constant(right.get())
+    let mut rest = e;
+    loop {
+        match rest {
+            TermExpr::Constant(_) => return true,
+            TermExpr::Cell(_, _) => return false,
+            TermExpr::Component(_) => return false,
+            TermExpr::Letter(_, _, _) => return false,
+            TermExpr::Binary(_, _, _, left, right) => {
+                return is_constant(left.get()) && is_constant(right.get());
+            }
+            TermExpr::Unary(_, _, _, operand) => return is_constant(operand.get()),
+            TermExpr::And(left, right) => {
+                if !is_constant(right.get()) {
+                    return false;
+                }
+                rest = left.get();
+            }
+            TermExpr::Or(left, right) => {
+                if !is_constant(right.get()) {
+                    return false;
+                }
+                rest = left.get();
+            }
+            TermExpr::Conversion(_, _, operand) => return is_constant(operand.get()),
         }
-        TermExpr::Unary(_, _, _, operand) => is_constant(operand.get()),
-        TermExpr::And(left, right) => is_constant(left.get()) && is_constant(right.get()),
-        TermExpr::Or(left, right) => is_constant(left.get()) && is_constant(right.get()),
-        TermExpr::Conversion(_, _, operand) => is_constant(operand.get()),
     }
 }
 

@@ -5,6 +5,7 @@ ghost use Rattle.occ_term.specs.View.{expression_of};
 ghost use Rattle.occ_check_names.specs.View.{evaluated_of};
 
 use crate::known::{Carried, Evaluated, Known, Row};
+use occ_held::parts::Listed;
 use occ_term::TermExpr;
 use sqlite_items::Items;
 use std::alloc::{AllocError, Global};
@@ -13,10 +14,10 @@ use std::alloc::{AllocError, Global};
 pub fn evaluated_subscripts(
     alloc: Global,
     subscripts: &[Evaluated],
-) -> Result<Items<TermExpr>, AllocError>
+) -> Result<Listed<TermExpr>, AllocError>
     ensures { IfOk result (λ es. map expression_of es ≡ map evaluated_of subscripts.now) }
 {
-    let mut expressions = Items::new(alloc);
+    let mut expressions = Listed::new(alloc);
     for subscript in subscripts {
         expressions.push(evaluated_subscript(subscript))?;
     }

@@ -1,9 +1,9 @@
 //! Counting the nodes of what stands in a term: no count goes deeper than a program may be.
 
 ghost use Rattle.std.specs.Prelude.{[], map, Option, ℕ};
-ghost use Rattle.occ_term.specs.Sizes.{no_size, size_of, size_of_array, size_of_constants, size_of_declaration, size_of_expression, size_of_item, size_of_items, size_of_place, size_of_replicator, size_of_subscripts, size_of_target, size_of_targets};
+ghost use Rattle.occ_term.specs.Sizes.{no_size, size_of, size_of_array, size_of_constants, size_of_declaration, size_of_expression, size_of_item, size_of_items, size_of_place, size_of_replicator, size_of_subscripts, size_of_target, size_of_targets, size_of_test};
 ghost use Rattle.occ_term.specs.Terms.{Assign, Input, Output, Skip, VariantInput, no_variants, or_variant};
-ghost use Rattle.occ_term.specs.View.{array_of, declaration_of, expression_of, item_of, items_of, place_of, replicator_of, subscripts, target_of, targets_of};
+ghost use Rattle.occ_term.specs.View.{array_of, declaration_of, expression_of, item_of, items_of, place_of, replicator_of, subscripts, target_of, targets_of, test_of};
 ghost use Rattle.occ_check_names.specs.Measuring.{size_within};
 ghost use Rattle.occ_check_meaning.specs.Numbers.{room};
 ghost use Rattle.occ_check_names.specs.View.{Counts, numbers_of};
@@ -183,7 +183,7 @@ pub fn count_declaration(
     }
 }
 
-/// Counts a replicator without what it replicates.
+/// Counts the base and the count of a replicator, which is no node itself.
 ///
 /// # Errors
 ///
@@ -195,9 +195,26 @@ pub fn count_replicator(
 ) -> Result<(), CheckFault>
     ensures { Counts result numbers.new (room depth (size_of_replicator (replicator_of over.now) no_size) (numbers_of numbers.old)) }
 {
-    numbers.node(depth)?;
-    count_expression(numbers, depth + 1, &over.base)?;
-    count_expression(numbers, depth + 1, &over.count)
+    count_expression(numbers, depth, &over.base)?;
+    count_expression(numbers, depth, &over.count)
+}
+
+/// Counts the Boolean of an arm, where it has one.
+///
+/// # Errors
+///
+/// As `count_expression`.
+pub fn count_test(
+    numbers: &mut Numbers,
+    depth: u32,
+    test: &Option<TermExpr>,
+) -> Result<(), CheckFault>
+    ensures { Counts result numbers.new (room depth (size_of_test (test_of test.now)) (numbers_of numbers.old)) }
+{
+    match test {
+        None => numbers.no_node(depth),
+        Some(test) => count_expression(numbers, depth, test),
+    }
 }
 
 /// Counts the constants of an option, each of which is a node.

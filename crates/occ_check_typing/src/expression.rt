@@ -21,9 +21,9 @@ use occ_check_names::operators::{
 use occ_check_names::scope::{Found, Scope};
 use occ_check_names::typed::Typed;
 use occ_held::Held;
+use occ_held::parts::{Listed, Nested};
 use occ_term::{Monadic, Operator, Primitive, TermExpr};
 use occ_tree_grammar::tree::expr::{Expr, Literal, Logic, Monadic as Sign, Operand};
-use sqlite_items::{Boxed, Items};
 use std::alloc::{AllocError, Global};
 
 /// What an expression unfolds to.
@@ -115,14 +115,11 @@ fn typed_truth(
     of_type(line, Primitive::Bool, typed_operand(alloc, scope, line, a)?)
 }
 
-/// How many further operands a chain may have. A longer one would take the stack: each nests what stands before it.
-const MOST_CHAINED: usize = 1_000;
-
 /// Further operands of a chain, which groups to the left.
 ///
 /// # Errors
 ///
-/// The first fault of an operand, and `Memory`, also for more than `MOST_CHAINED` of them.
+/// The first fault of an operand, and `Memory`.
 #[cycle(typing)]
 fn typed_chain(
     alloc: Global,
@@ -134,9 +131,6 @@ fn typed_chain(
 ) -> Result<TermExpr, CheckFault>
     ensures { Gives expression_of result (meant.typed_chain (names_in scope.entry) line logic (expression_of first) (trees.operands (map trees.operand_of operands.now))) }
 {
-    if operands.len() > MOST_CHAINED {
-        return Err(CheckFault::Memory);
-    }
     let mut left = first;
     for operand in operands {
         left = match chained(alloc, scope, line, logic, operand, left) {
@@ -218,10 +212,10 @@ pub fn typed_subscripts(
     scope: Scope<'_, '_>,
     line: u32,
     es: &[Expr],
-) -> Result<Items<TermExpr>, CheckFault>
+) -> Result<Listed<TermExpr>, CheckFault>
     ensures { Gives (λ es. subscripts (map expression_of es)) result (meant.typed_subscripts (names_in scope.entry) line (trees.expressions (map trees.expression_of es.now))) }
 {
-    let mut made = Items::new(alloc);
+    let mut made = Listed::new(alloc);
     for e in es {
         let subscript = match typed_as(alloc, scope, line, Primitive::Int, e) {
             Ok(subscript) => subscript,
@@ -409,8 +403,8 @@ fn two_typed(
     let (other, right) = b;
     let (left, right) = (Held::new(left), Held::new(right));
     let primitive = result_of(line, operator, own, other)?;
-    let left = Boxed::new(alloc, left.into_inner())?;
-    let right = Boxed::new(alloc, right.into_inner())?;
+    let left = Nested::new(alloc, left.into_inner())?;
+    let right = Nested::new(alloc, right.into_inner())?;
     let e = TermExpr::Binary(operator, own, line, left, right);
     Ok(Typed::Single(primitive, e))
 }
@@ -427,7 +421,7 @@ fn one_typed(
     if !takes_operand(operator, a.0) {
         return Err(CheckFault::WrongType { line });
     }
-    let operand = Boxed::new(alloc, a.1)?;
+    let operand = Nested::new(alloc, a.1)?;
     let e = TermExpr::Unary(operator, a.0, line, operand);
     Ok(Typed::Single(a.0, e))
 }
@@ -441,7 +435,7 @@ fn converted(
 ) -> Result<Typed, AllocError>
     ensures { IfOk result (λ t. typed_of t ≡ meant.single to (Conversion to line (expression_of a.1))) }
 {
-    let operand = Boxed::new(alloc, a.1)?;
+    let operand = Nested::new(alloc, a.1)?;
     Ok(Typed::Single(to, TermExpr::Conversion(to, line, operand)))
 }
 
@@ -450,8 +444,8 @@ fn logic_of(alloc: Global, logic: Logic, a: TermExpr, b: TermExpr) -> Result<Ter
     ensures { IfOk result (λ e. expression_of e ≡ meant.logic_of logic (expression_of a) (expression_of b)) }
 {
     let b = Held::new(b);
-    let a = Boxed::new(alloc, a)?;
-    let b = Boxed::new(alloc, b.into_inner())?;
+    let a = Nested::new(alloc, a)?;
+    let b = Nested::new(alloc, b.into_inner())?;
     match logic {
         Logic::And => Ok(TermExpr::And(a, b)),
         Logic::Or => Ok(TermExpr::Or(a, b)),

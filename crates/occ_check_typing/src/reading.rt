@@ -15,8 +15,9 @@ use occ_check_names::known::{Known, Row};
 use occ_check_names::literal::whole_string;
 use occ_check_names::typed::{Part, Typed};
 use occ_held::Held;
+use occ_held::parts::{Listed, Nested};
 use occ_term::{Array, Place, Primitive, TermExpr};
-use sqlite_items::{Boxed, Items};
+use sqlite_items::Items;
 use std::alloc::{AllocError, Global};
 
 /// The sizes that subscripts leave.
@@ -70,7 +71,7 @@ pub fn under(
     alloc: Global,
     line: u32,
     row: &Row,
-    under_these: Items<TermExpr>,
+    under_these: Listed<TermExpr>,
 ) -> Result<Part, CheckFault>
     ensures part { Gives part_of result (meant.under (row_of row.now) (subscripts (map expression_of under_these))) }
     ensures line { IfOk result (λ part. part.place.line ≡ line) }
@@ -92,8 +93,8 @@ pub fn under(
 fn joined(
     alloc: Global,
     row: &Row,
-    under_these: Items<TermExpr>,
-) -> Result<Items<TermExpr>, AllocError>
+    under_these: Listed<TermExpr>,
+) -> Result<Listed<TermExpr>, AllocError>
     ensures { IfOk result (λ all. subscripts (map expression_of all) ≡ meant.joined ((row_of row.now).subscripts) (subscripts (map expression_of under_these))) }
 {
     let mut all = evaluated_subscripts(alloc, row.subscripts.as_slice())?;
@@ -125,7 +126,7 @@ fn read_string(
     alloc: Global,
     line: u32,
     bytes: &[u8],
-    under_these: Items<TermExpr>,
+    under_these: Listed<TermExpr>,
 ) -> Result<Typed, CheckFault>
     ensures { Gives typed_of result (meant.read line (a_string (map pos bytes.now)) (subscripts (map expression_of under_these))) }
 {
@@ -164,7 +165,7 @@ fn letter(alloc: Global, line: u32, bytes: &[u8], subscript: TermExpr) -> Result
         return Err(CheckFault::Subscript { line });
     }
     let bytes = Items::from_slice(alloc, bytes)?;
-    let subscript = Boxed::new(alloc, subscript.into_inner())?;
+    let subscript = Nested::new(alloc, subscript.into_inner())?;
     Ok(Typed::Single(Primitive::Byte, TermExpr::Letter(line, bytes, subscript)))
 }
 
@@ -178,7 +179,7 @@ pub fn read(
     alloc: Global,
     line: u32,
     known: &Known,
-    under_these: Items<TermExpr>,
+    under_these: Listed<TermExpr>,
 ) -> Result<Typed, CheckFault>
     ensures { Gives typed_of result (meant.read line (known_of known.now) (subscripts (map expression_of under_these))) }
 {

@@ -93,14 +93,25 @@ fn a_size(line: u32, value: i64) -> Result<u32, CheckFault>
     }
 }
 
-/// Sizes of no more components than there may be.
+/// One size, or several that do not multiply to more than there may be cells.
 fn not_too_large(sizes: Items<u32>) -> Result<Items<u32>, CheckFault>
     ensures { Gives (λ sizes. sizes) result (meant.not_too_large sizes) }
 {
-    if components(sizes.as_slice()) <= MOST {
+    if are_few(sizes.as_slice()) {
         Ok(sizes)
     } else {
         Err(CheckFault::TooLarge)
+    }
+}
+
+/// Whether there is at most one size, or several do not multiply to more than there may be cells.
+fn are_few(sizes: &[u32]) -> bool
+    ensures { meant.not_too_large sizes.now ≡ keep result sizes.now }
+{
+    match sizes {
+        [] => true,
+        [_] => true,
+        [_, _, ..] => components(sizes) <= MOST,
     }
 }
 
@@ -156,19 +167,28 @@ fn open_size(
     }
 }
 
-/// Open sizes that, where all are given, are of no more components than there may be.
+/// The same of open sizes, where all are given.
 fn few(sizes: Items<Option<u32>>) -> Result<Items<Option<u32>>, CheckFault>
-    ensures { Gives (λ sizes. sizes) result (keep (meant.is_few (meant.given_product sizes)) sizes) }
+    ensures { Gives (λ sizes. sizes) result (keep (meant.are_few sizes) sizes) }
 {
-    match given_components(sizes.as_slice()) {
-        None => Ok(sizes),
-        Some(count) => {
-            if count <= MOST {
-                Ok(sizes)
-            } else {
-                Err(CheckFault::TooLarge)
-            }
-        }
+    if are_few_open(sizes.as_slice()) {
+        Ok(sizes)
+    } else {
+        Err(CheckFault::TooLarge)
+    }
+}
+
+/// Whether there is at most one size, or one is open, or they do not multiply to more than there may be cells.
+fn are_few_open(sizes: &[Option<u32>]) -> bool
+    ensures { result ≡ meant.are_few sizes.now }
+{
+    match sizes {
+        [] => true,
+        [_] => true,
+        [_, _, ..] => match given_components(sizes) {
+            None => true,
+            Some(count) => count <= MOST,
+        },
     }
 }
 

@@ -1,91 +1,102 @@
 -- The bodies of a term's processes keep what the code of a program promises.
 use Rattle.std.specs.Prelude.{All, reverse, ⊤}
-use Rattle.std.proofs.Common.{◌≤◌, ◌<◌, ◌+◌, ◌*◌, ℕ, zero, suc, map, IsTrue, length, ◌≡◌, ◌++◌, ◌∷◌, [], List, ◌∙◌, refl, sym, ap, subst, arith, append_assoc, append-nil}
+use Rattle.std.proofs.Common.{◌≤◌, ◌<◌, ◌+◌, ◌*◌, ℕ, zero, suc, map, length, ◌≡◌, ◌++◌, ◌∷◌, [], List, ◌∙◌, refl, sym, ap, subst, arith, append_assoc, append-nil}
 use Rattle.std.proofs.lemmas.List.{length-map, map-append, reverse-append}
-use Rattle.occ_term.specs.Terms.{Term, Skip, Stop, Assign, Input, Output, VariantInput, Seq, Par, Alt, If, Case, While, Each, Clear, Local, Terms, no_terms, then_term, Branches, no_branches, and_branch, Variants, no_variants, or_variant, Choices, no_choices, or_choice, declared_choices, each_choice, Options, no_options, or_option, or_else}
+use Rattle.occ_term.specs.Terms.{Term, Skip, Stop, Assign, Input, Output, VariantInput, Seq, Par, Alt, If, Case, While, Each, Clear, Local, Terms, no_terms, then_term, Branches, no_branches, and_branch, Arms, no_arms, skip_arm, input_arm, declared_arms, each_arm, Reception, Plain, Tagged, Variants, no_variants, or_variant, Choices, no_choices, or_choice, declared_choices, each_choice, Options, no_options, or_option, or_else}
 use Rattle.occ_term.specs.Unfolding.{Unfolding, IsWellFormed, NumberedFrom, declared, meaning}
 use Rattle.occ_term.specs.declared.primitive.Primitive.{Primitive}
 use Rattle.occ_term.specs.declared.protocol.Protocol.{Protocol}
-use Rattle.occ_term.specs.TermTyping.{Declared, TermHas, TermsHave, BranchesHave, VariantsHave, ChoicesHave, OptionsHave}
+use Rattle.occ_term.specs.TermTyping.{Declared, TermHas, TermsHave, BranchesHave, ArmsHave, ReceptionHas, VariantsHave, ChoicesHave, OptionsHave}
 use Rattle.occ_term.specs.Sizes.{size_of}
-use Rattle.occ_term.specs.Processes.{Numbered, branches_in, branches_in_terms, branches_among, branches_in_variants, branches_in_choices, branches_in_options, processes_of}
+use Rattle.occ_term.specs.Processes.{Numbered, branches_in, branches_in_terms, branches_among, branches_in_arms, branches_in_reception, branches_in_variants, branches_in_choices, branches_in_options, processes_of}
 use Rattle.occ_term.specs.declared.names.Channel.{Channel}
 use Rattle.occ_code.specs.Sequential.Machine.{Body, placed}
 use Rattle.occ_code.specs.Sequential.Alike.{DoesAs}
-use Rattle.occ_code.specs.Sequential.Emitted.{has_no_alt, have_no_alt, branches_have_no_alt, variants_have_no_alt, choices_have_no_alt, options_have_no_alt, instructions_of, whole_code}
+use Rattle.occ_code.specs.Sequential.Emitted.{instructions_of, whole_code}
 use Rattle.occ_code.specs.Sequential.Compiled.{AddsBodies, AllDo, AreBodiesOf, IsCompiledFrom, IsQuantum, CodeRefuses, IsBodyOf, IsRefused, instructions_in, most_instructions}
 use Rattle.occ_code.specs.declared.compiler.code.CodeFault.{CodeFault}
-use Rattle.occ_code.specs.declared.compiler.code.CodeFault.TheVariants.{TooLarge, Early, BadQuantum, Memory}
-use Rattle.occ_code.proofs.SequentialLayout.{first_true, second_true, compiled_do}
+use Rattle.occ_code.specs.declared.compiler.code.CodeFault.TheVariants.{TooLarge, BadQuantum, Memory}
+use Rattle.occ_code.proofs.SequentialLayout.{compiled_do}
 use Rattle.occ_code.proofs.SequentialSizes.{programs_are_small}
 
--- ---- every process of a typed term without ALT is typed, and has none
+-- ---- every process of a typed term is typed
 
 abbrev AllCompile : Declared → List Numbered → Type 0
 AllCompile d [] = ⊤
-AllCompile d (p ∷ ps) = TermHas d p.term × IsTrue (has_no_alt p.term) × AllCompile d ps
+AllCompile d (p ∷ ps) = TermHas d p.term × AllCompile d ps
 
 module _ (d : Declared) where
   both_compile : (ps qs : List Numbered) → AllCompile d ps → AllCompile d qs → AllCompile d (ps ++ qs)
   both_compile [] qs h k = k
-  both_compile (p ∷ ps) qs h k = (h.0, h.1, both_compile ps qs h.2 k)
+  both_compile (p ∷ ps) qs h k = (h.0, both_compile ps qs h.1 k)
 
   mutual
-    within : (t : Term) → TermHas d t → IsTrue (has_no_alt t) → AllCompile d (branches_in t)
-    within Skip h q = tt
-    within Stop h q = tt
-    within (Assign ts vs) h q = tt
-    within (Input c ts) h q = tt
-    within (Output c tag is) h q = tt
-    within (VariantInput c vs) h q = within_variants h.0 vs h.2 q
-    within (Seq ts) h q = within_terms ts h q
-    within (Par bs) h q = within_branches bs h q
-    within (Alt pri arms) h q = absurd cc
-    within (If cs) h q = within_choices cs h q
-    within (Case e os) h q = within_options h.0 os h.3 q
-    within (While e b) h q = within b h.1 q
-    within (Each r b) h q = within b h.2 q
-    within (Clear first count) h q = tt
-    within (Local first value) h q = tt
+    within : (t : Term) → TermHas d t → AllCompile d (branches_in t)
+    within Skip h = tt
+    within Stop h = tt
+    within (Assign ts vs) h = tt
+    within (Input c ts) h = tt
+    within (Output c tag is) h = tt
+    within (VariantInput c vs) h = within_variants h.0 vs h.2
+    within (Seq ts) h = within_terms ts h
+    within (Par bs) h = within_branches bs h
+    within (Alt pri arms) h = within_arms arms h
+    within (If cs) h = within_choices cs h
+    within (Case e os) h = within_options h.0 os h.3
+    within (While e b) h = within b h.1
+    within (Each r b) h = within b h.2
+    within (Clear first count) h = tt
+    within (Local first value) h = tt
 
-    within_terms : (ts : Terms) → TermsHave d ts → IsTrue (have_no_alt ts) → AllCompile d (branches_in_terms ts)
-    within_terms no_terms h q = tt
-    within_terms (then_term t ts) h q = both_compile (branches_in t) (branches_in_terms ts) (within t h.0 (first_true _ _ q)) (within_terms ts h.1 (second_true _ _ q))
+    within_terms : (ts : Terms) → TermsHave d ts → AllCompile d (branches_in_terms ts)
+    within_terms no_terms h = tt
+    within_terms (then_term t ts) h = both_compile (branches_in t) (branches_in_terms ts) (within t h.0) (within_terms ts h.1)
 
-    within_branches : (bs : Branches) → BranchesHave d bs → IsTrue (branches_have_no_alt bs) → AllCompile d (branches_among bs)
-    within_branches no_branches h q = tt
-    within_branches (and_branch n t bs) h q =
-        (h.0, first_true _ _ q, both_compile (branches_in t) (branches_among bs) (within t h.0 (first_true _ _ q)) (within_branches bs h.1 (second_true _ _ q)))
+    within_branches : (bs : Branches) → BranchesHave d bs → AllCompile d (branches_among bs)
+    within_branches no_branches h = tt
+    within_branches (and_branch n t bs) h =
+        (h.0, both_compile (branches_in t) (branches_among bs) (within t h.0) (within_branches bs h.1))
 
-    within_variants : (p : Protocol) (vs : Variants) → VariantsHave d p vs → IsTrue (variants_have_no_alt vs) → AllCompile d (branches_in_variants vs)
-    within_variants p no_variants h q = tt
-    within_variants p (or_variant tag ds ts t vs) h q =
-        both_compile (branches_in t) (branches_in_variants vs) (within t h.2 (first_true _ _ q)) (within_variants p vs h.3 (second_true _ _ q))
+    within_arms : (arms : Arms) → ArmsHave d arms → AllCompile d (branches_in_arms arms)
+    within_arms no_arms h = tt
+    within_arms (skip_arm e t arms) h = both_compile (branches_in t) (branches_in_arms arms) (within t h.1) (within_arms arms h.2)
+    within_arms (input_arm e c list arms) h = both_compile (branches_in_reception list) (branches_in_arms arms) (within_list h.1.0 list h.1.2) (within_arms arms h.2)
+    within_arms (declared_arms x arms others) h = both_compile (branches_in_arms arms) (branches_in_arms others) (within_arms arms h.1) (within_arms others h.2)
+    within_arms (each_arm r arms others) h = both_compile (branches_in_arms arms) (branches_in_arms others) (within_arms arms h.2) (within_arms others h.3)
 
-    within_choices : (cs : Choices) → ChoicesHave d cs → IsTrue (choices_have_no_alt cs) → AllCompile d (branches_in_choices cs)
-    within_choices no_choices h q = tt
-    within_choices (or_choice e t cs) h q = both_compile (branches_in t) (branches_in_choices cs) (within t h.1 (first_true _ _ q)) (within_choices cs h.2 (second_true _ _ q))
-    within_choices (declared_choices x cs others) h q =
-        both_compile (branches_in_choices cs) (branches_in_choices others) (within_choices cs h.1 (first_true _ _ q)) (within_choices others h.2 (second_true _ _ q))
-    within_choices (each_choice r cs others) h q =
-        both_compile (branches_in_choices cs) (branches_in_choices others) (within_choices cs h.2 (first_true _ _ q)) (within_choices others h.3 (second_true _ _ q))
+    within_list : (p : Protocol) (list : Reception) → ReceptionHas d p list → AllCompile d (branches_in_reception list)
+    within_list p (Plain ts t) h = within t h.1
+    within_list p (Tagged vs) h = within_variants p vs h
 
-    within_options : (type : Primitive) (os : Options) → OptionsHave d type os → IsTrue (options_have_no_alt os) → AllCompile d (branches_in_options os)
-    within_options type no_options h q = tt
-    within_options type (or_option constants ds t os) h q =
-        both_compile (branches_in t) (branches_in_options os) (within t h.2 (first_true _ _ q)) (within_options type os h.3 (second_true _ _ q))
-    within_options type (or_else ds t os) h q = both_compile (branches_in t) (branches_in_options os) (within t h.1 (first_true _ _ q)) (within_options type os h.2 (second_true _ _ q))
+    within_variants : (p : Protocol) (vs : Variants) → VariantsHave d p vs → AllCompile d (branches_in_variants vs)
+    within_variants p no_variants h = tt
+    within_variants p (or_variant tag ds ts t vs) h =
+        both_compile (branches_in t) (branches_in_variants vs) (within t h.2) (within_variants p vs h.3)
+
+    within_choices : (cs : Choices) → ChoicesHave d cs → AllCompile d (branches_in_choices cs)
+    within_choices no_choices h = tt
+    within_choices (or_choice e t cs) h = both_compile (branches_in t) (branches_in_choices cs) (within t h.1) (within_choices cs h.2)
+    within_choices (declared_choices x cs others) h =
+        both_compile (branches_in_choices cs) (branches_in_choices others) (within_choices cs h.1) (within_choices others h.2)
+    within_choices (each_choice r cs others) h =
+        both_compile (branches_in_choices cs) (branches_in_choices others) (within_choices cs h.2) (within_choices others h.3)
+
+    within_options : (type : Primitive) (os : Options) → OptionsHave d type os → AllCompile d (branches_in_options os)
+    within_options type no_options h = tt
+    within_options type (or_option constants ds t os) h =
+        both_compile (branches_in t) (branches_in_options os) (within t h.2) (within_options type os h.3)
+    within_options type (or_else ds t os) h = both_compile (branches_in t) (branches_in_options os) (within t h.1) (within_options type os h.2)
 
   -- ---- every body does what its process's term does
 
-  body_does : (t : Term) (quantum : ℕ) (b : Body) → TermHas d t → IsTrue (has_no_alt t) → 0 < quantum → IsBodyOf t quantum b → DoesAs d b t
-  body_does t quantum b typed q some h = subst (λ x. DoesAs d x t) (sym h.is) (compiled_do d t b.cells b.writes quantum q typed h.cells h.writes some)
+  body_does : (t : Term) (quantum : ℕ) (b : Body) → TermHas d t → 0 < quantum → IsBodyOf t quantum b → DoesAs d b t
+  body_does t quantum b typed some h = subst (λ x. DoesAs d x t) (sym h.is) (compiled_do d t b.cells b.writes quantum typed h.cells h.writes some)
 
   all_do : (n quantum : ℕ) (ps : List Numbered) (bs : List Body) → 0 < quantum → NumberedFrom n ps → AllCompile d ps → AreBodiesOf ps quantum bs → AllDo d n bs ps
   all_do n quantum [] [] some m h k = tt
   all_do n quantum [] (b ∷ bs) some m h k = absurd k
   all_do n quantum (p ∷ ps) [] some m h k = absurd k
-  all_do n quantum (p ∷ ps) (b ∷ bs) some m h k = (m.0, body_does p.term quantum b h.0 h.1 some k.0, all_do (n + 1) quantum ps bs some m.1 h.2 k.1)
+  all_do n quantum (p ∷ ps) (b ∷ bs) some m h k = (m.0, body_does p.term quantum b h.0 some k.0, all_do (n + 1) quantum ps bs some m.1 h.1 k.1)
 
 of_quantum : (ps : List Numbered) (quantum : ℕ) (bs : List Body) → AreBodiesOf ps quantum bs → All (λ b. b.quantum ≡ quantum) bs
 of_quantum [] quantum [] h k d within = absurd (omega (arith, within))
@@ -94,12 +105,12 @@ of_quantum (p ∷ ps) quantum [] h k d within = absurd h
 of_quantum (p ∷ ps) quantum (b ∷ bs) h zero d within = ap (λ x. x.quantum) h.0.is
 of_quantum (p ∷ ps) quantum (b ∷ bs) h (suc k) d within = of_quantum ps quantum bs h.1 k d (omega (arith, within))
 
-pub compiled_as : (u : Unfolding) (quantum : ℕ) (bodies : List Body) (channels : List Channel) → IsWellFormed u → IsTrue (has_no_alt (meaning u)) → IsQuantum quantum → AreBodiesOf (processes_of (meaning u)) quantum bodies
+pub compiled_as : (u : Unfolding) (quantum : ℕ) (bodies : List Body) (channels : List Channel) → IsWellFormed u → IsQuantum quantum → AreBodiesOf (processes_of (meaning u)) quantum bodies
     → instructions_in bodies ≤ most_instructions → channels ≡ u.channels → IsCompiledFrom u quantum (record { bodies = bodies; channels = channels })
-compiled_as u quantum bodies channels well q between h small same =
+compiled_as u quantum bodies channels well between h small same =
     record {
       channels = same;
-      bodies = all_do (declared u) 0 quantum (processes_of (meaning u)) bodies between.0 well.numbers (well.typed, q, within (declared u) (meaning u) well.typed q) h;
+      bodies = all_do (declared u) 0 quantum (processes_of (meaning u)) bodies between.0 well.numbers (well.typed, within (declared u) (meaning u) well.typed) h;
       quanta = of_quantum (processes_of (meaning u)) quantum bodies h;
       small = small;
     }
@@ -123,7 +134,6 @@ refused_as u quantum TooLarge between h = (between, too_long u h)
   where
     too_long : (u : Unfolding) → IsRefused TooLarge (meaning u) → most_instructions < 32 * (size_of (meaning u)).nodes
     too_long u h = let g = programs_are_small (meaning u) in omega (arith, h, g)
-refused_as u quantum (Early line) between h = (between, h)
 refused_as u quantum BadQuantum between h = absurd h
 refused_as u quantum Memory between h = between
 

@@ -1,17 +1,16 @@
 -- The instructions of a term name only cells that the term uses, and counters that are its own.
 use Rattle.std.specs.Prelude.{All, nat_eq, nat_le, nat_lt, ⊤, ◌&&◌, ◌||◌}
-use Rattle.std.proofs.Common.{◌≡◌, ℕ, ◌+◌, ◌<◌, ◌≤◌, Bool, true, false, IsTrue, List, [], ◌∷◌, ◌++◌, length, refl, subst, sym, arith}
+use Rattle.std.proofs.Common.{◌≡◌, ℕ, ◌+◌, ◌≤◌, Bool, true, false, IsTrue, List, [], ◌∷◌, ◌++◌, length, Option, None, Some, refl, subst, sym, arith}
 use Rattle.std.proofs.lemmas.Bool.Decides.{nat_tests}
 use Rattle.std.proofs.lemmas.List.Elements.{All-nil, All-cons}
-use Rattle.occ_term.specs.Messages.{product}
-use Rattle.occ_term.specs.Terms.{Expression, Constant, Cell, Component, Letter, Binary, Unary, And, Or, Conversion, Place, place, Subscripts, no_subscripts, then_subscript, Cells, Text, Item, OfOne, OfMany, OfCounted, Target, Into, IntoCounted, Declaration, Clearing, Naming, Replicator, replicator, Term, Skip, Stop, Assign, Input, Output, VariantInput, Seq, Par, Alt, If, Case, While, Each, Clear, Local, Terms, no_terms, then_term, Branches, no_branches, and_branch, Variants, no_variants, or_variant, Choices, no_choices, or_choice, declared_choices, each_choice, Options, no_options, or_option, or_else}
+use Rattle.occ_term.specs.Terms.{Expression, Constant, Cell, Component, Letter, Binary, Unary, And, Or, Conversion, Place, place, Subscripts, no_subscripts, then_subscript, Cells, Text, Item, OfOne, OfMany, OfCounted, Target, Into, IntoCounted, Declaration, Clearing, Naming, Replicator, replicator, Term, Skip, Stop, Assign, Input, Output, VariantInput, Seq, Par, Alt, If, Case, While, Each, Clear, Local, Terms, no_terms, then_term, Branches, no_branches, and_branch, Arms, no_arms, skip_arm, input_arm, declared_arms, each_arm, Reception, Plain, Tagged, tested, Variants, no_variants, or_variant, Choices, no_choices, or_choice, declared_choices, each_choice, Options, no_options, or_option, or_else}
 use Rattle.occ_term.specs.Storing.{index_of}
-use Rattle.occ_term.specs.Uses.{Numbers, Uses, union, with_use, reading, writing, inputting, outputting, named_by, reads_of, reads_in_place, reads_in_subscripts, reads_of_array, reads_of_item, reads_of_items, written_place, input_place, output_place, uses_of_target, uses_of_targets, uses_of_declaration, uses_of_declarations, uses_of_replicator, uses_of, uses_of_terms, uses_of_variants, uses_of_choices, uses_of_options}
+use Rattle.occ_term.specs.Uses.{Numbers, Uses, union, with_use, reading, writing, inputting, outputting, named_by, reads_of, reads_in_place, reads_in_subscripts, reads_of_array, reads_of_item, reads_of_items, written_place, input_place, output_place, uses_of_target, uses_of_targets, uses_of_declaration, uses_of_declarations, uses_of_replicator, uses_of, uses_of_terms, uses_of_arms, uses_of_reception, uses_of_variants, uses_of_choices, uses_of_options}
 use Rattle.occ_term.specs.Frames.{is_held}
 use Rattle.occ_code.specs.Alike.{Lists, used_by}
-use Rattle.occ_code.specs.Sequential.Machine.{Instruction, NamesWithin, End, Jump, LoopBack, BackToChoice, Halt}
-use Rattle.occ_code.specs.Sequential.Expressions.{expression_code, place_code, subscripts_code, item_code, items_code, target_code, targets_code, declaration_code, declarations_code, storing_code, counting_code, assignment_code, par_code}
-use Rattle.occ_code.specs.Sequential.Emitted.{counters_of, counters_of_terms, counters_of_variants, counters_of_choices, counters_of_options, term_code, terms_code, variants_code, choices_code, options_code, else_code, whole_code}
+use Rattle.occ_code.specs.Sequential.Machine.{Instruction, NamesWithin, End, OpenSkip, OpenInput}
+use Rattle.occ_code.specs.Sequential.Expressions.{expression_code, place_code, subscripts_code, item_code, items_code, target_code, targets_code, declaration_code, declarations_code, storing_code, counting_code, assignment_code, par_code, opening_code, skip_opening, input_opening}
+use Rattle.occ_code.specs.Sequential.Emitted.{counters_of, counters_of_terms, counters_of_arms, counters_of_list, counters_of_variants, counters_of_choices, counters_of_options, term_code, terms_code, arm_code, arms_code, list_code, variants_code, choices_code, options_code, else_code, whole_code}
 
 in_first : (a b : Bool) → IsTrue a → IsTrue (a || b)
 in_first true b h = refl
@@ -161,6 +160,13 @@ module _ (cells : List ℕ) (loops : ℕ) where
   channel_out : (c : Place) → UsedIn (output_place c) → In (reads_in_place c)
   channel_out c h = (right_used (outputting (named_by c)) (reading (reads_in_place c)) h).reads
 
+  opening_names : (e : Option Expression) (opens : List Instruction) → In (reads_of (tested e)) → Names opens → Names (opening_code e opens)
+  opening_names None opens k n = n
+  opening_names (Some e) opens k n = both (expression_code e) _ (expression_names e k) (tt, n)
+
+  arm_names : (body opens others : List Instruction) (after_ : ℕ) → Names body → Names opens → Names others → Names (arm_code body opens others after_)
+  arm_names body opens others after_ h k m = (tt, (tt, both body _ h (tt, both opens others k m)))
+
   mutual
     term_names : (slot : ℕ) (t : Term) → slot + counters_of t ≤ loops → UsedIn (uses_of t) → Names (term_code slot t)
     term_names slot Skip o h = tt
@@ -176,7 +182,7 @@ module _ (cells : List ℕ) (loops : ℕ) where
         (variants_names slot vs (omega (arith, o)) (right_used (input_place c) (uses_of_variants vs) h))
     term_names slot (Seq ts) o h = terms_names slot ts (omega (arith, o)) h
     term_names slot (Par bs) o h = fork_names bs
-    term_names slot (Alt pri arms) o h = tt
+    term_names slot (Alt pri arms) o h = (tt, both (arms_code slot arms 1) _ (arms_names slot arms 1 (omega (arith, o)) h) (tt, tt))
     term_names slot (If cs) o h = both (choices_code slot cs 1) _ (choices_names slot cs 1 (omega (arith, o)) h) (tt, tt)
     term_names slot (Case e os) o h =
         both (expression_code e) _ (expression_names e (left_used (reading (reads_of e)) (uses_of_options os) h).reads)
@@ -197,6 +203,48 @@ module _ (cells : List ℕ) (loops : ℕ) where
     terms_names slot no_terms o h = tt
     terms_names slot (then_term t ts) o h =
         both (term_code slot t) _ (term_names slot t (omega (arith, o)) (left_used (uses_of t) (uses_of_terms ts) h)) (terms_names slot ts (omega (arith, o)) (right_used (uses_of t) (uses_of_terms ts) h))
+
+    arms_names : (slot : ℕ) (arms : Arms) (after_ : ℕ) → slot + counters_of_arms arms ≤ loops → UsedIn (uses_of_arms arms) → Names (arms_code slot arms after_)
+    arms_names slot no_arms after_ o h = tt
+    arms_names slot (skip_arm e t others) after_ o h =
+        let a = right_used (reading (reads_of e)) (with_use (uses_of t) (uses_of_arms others)) h in
+        arm_names (term_code slot t) (skip_opening e (length (arms_code slot others after_) + after_ + 1)) (arms_code slot others after_) after_ (term_names slot t (omega (arith, o)) (left_used (uses_of t) (uses_of_arms others) a))
+        (opening_names (Some e) (OpenSkip (length (arms_code slot others after_) + after_ + 1) ∷ []) (left_used (reading (reads_of e)) (with_use (uses_of t) (uses_of_arms others)) h).reads (tt, tt))
+        (arms_names slot others after_ (omega (arith, o)) (right_used (uses_of t) (uses_of_arms others) a))
+    arms_names slot (input_arm e c list others) after_ o h =
+        let a = right_used (reading (reads_of (tested e))) (with_use (input_place c) (with_use (uses_of_reception list) (uses_of_arms others))) h in
+        let b = right_used (input_place c) (with_use (uses_of_reception list) (uses_of_arms others)) a in
+        arm_names (list_code slot list) (input_opening e c (length (arms_code slot others after_) + after_ + 1)) (arms_code slot others after_) after_ (list_names slot list (omega (arith, o)) (left_used (uses_of_reception list) (uses_of_arms others) b))
+        (opening_names e (place_code c ++ OpenInput (length (arms_code slot others after_) + after_ + 1) ∷ []) (left_used (reading (reads_of (tested e))) (with_use (input_place c) (with_use (uses_of_reception list) (uses_of_arms others))) h).reads
+        (both (place_code c) _ (place_names c (channel_in c (left_used (input_place c) (with_use (uses_of_reception list) (uses_of_arms others)) a))) (tt, tt)))
+        (arms_names slot others after_ (omega (arith, o)) (right_used (uses_of_reception list) (uses_of_arms others) b))
+    arms_names slot (declared_arms d within others) after_ o h =
+        let a = right_used (uses_of_declaration d) (with_use (uses_of_arms within) (uses_of_arms others)) h in (
+          tt,
+          both (declaration_code d) _ (declaration_names d (left_used (uses_of_declaration d) (with_use (uses_of_arms within) (uses_of_arms others)) h))
+              (both (arms_code slot within (length (arms_code slot others after_) + after_)) _ (arms_names slot within (length (arms_code slot others after_) + after_) (omega (arith, o)) (left_used (uses_of_arms within) (uses_of_arms others) a))
+              (arms_names slot others after_ (omega (arith, o)) (right_used (uses_of_arms within) (uses_of_arms others) a))),
+        )
+    arms_names slot (each_arm r within others) after_ o h =
+        let over = left_used (uses_of_replicator r) (with_use (uses_of_arms within) (uses_of_arms others)) h in
+        let a = right_used (uses_of_replicator r) (with_use (uses_of_arms within) (uses_of_arms others)) h in (
+          tt,
+          (
+            index_held r over,
+            both (counting_code r) _ (counting_names r over) (
+              index_held r over,
+              (
+                tt,
+                both (arms_code slot within (2 + length (arms_code slot others after_) + after_)) _ (arms_names slot within (2 + length (arms_code slot others after_) + after_) (omega (arith, o)) (left_used (uses_of_arms within) (uses_of_arms others) a))
+                    (tt, (tt, arms_names slot others after_ (omega (arith, o)) (right_used (uses_of_arms within) (uses_of_arms others) a))),
+              ),
+            ),
+          ),
+        )
+
+    list_names : (slot : ℕ) (list : Reception) → slot + counters_of_list list ≤ loops → UsedIn (uses_of_reception list) → Names (list_code slot list)
+    list_names slot (Plain ts t) o h = both (storing_code ts) _ (storing_names ts (left_used (uses_of_targets ts) (uses_of t) h)) (term_names slot t (omega (arith, o)) (right_used (uses_of_targets ts) (uses_of t) h))
+    list_names slot (Tagged vs) o h = variants_names slot vs (omega (arith, o)) h
 
     variants_names : (slot : ℕ) (vs : Variants) → slot + counters_of_variants vs ≤ loops → UsedIn (uses_of_variants vs) → Names (variants_code slot vs)
     variants_names slot no_variants o h = (tt, tt)

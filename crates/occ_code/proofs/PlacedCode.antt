@@ -1,5 +1,5 @@
 -- Code that names cells by their places does what it does by their numbers, from any frame of the cells.
-use Rattle.std.specs.Prelude.{All, if◌then◌else◌, map, nat_abs, nat_eq, nat_lt, option_map, pos, replicate, slice_get, slice_set, unwrap_or, ⊤, ◌+ℤ◌, ◌||◌}
+use Rattle.std.specs.Prelude.{All, if◌then◌else◌, map, nat_abs, nat_eq, nat_le, nat_lt, option_map, pos, replicate, slice_get, slice_set, unwrap_or, ⊤, ◌+ℤ◌, ◌||◌}
 use Rattle.std.proofs.Common.{IsTrue, ◌<◌, ◌≤◌, ◌≡◌, ◌∙◌, refl, ap, sym, subst, ℕ, zero, suc, ◌+◌, ℤ, Bool, true, false, Option, Some, None, List, [], ◌∷◌, length, get_or, arith}
 use Rattle.std.proofs.lemmas.List.{get_or_past, set_past}
 use Rattle.std.proofs.lemmas.Option.{slice_get-map, slice_get-get_or, slice_get_past}
@@ -12,9 +12,10 @@ use Rattle.occ_term.specs.Frames.{Variables, at, in_place, with_place, place_amo
 use Rattle.occ_term.proofs.FrameWrites.{read_at, write_at, value_by, with_by}
 use Rattle.occ_code.specs.Alike.{Frames}
 use Rattle.occ_code.specs.declared.task.Task.{Task}
+use Rattle.occ_code.specs.declared.task.Arm.{Arm}
 use Rattle.occ_code.specs.declared.task.Wait.{Wait}
 use Rattle.occ_code.specs.declared.task.Wait.TheVariants.{Ready, Took, Offers, Awaits, Chooses, Joins, Halted, Done, Faulted}
-use Rattle.occ_code.specs.Sequential.Machine.{by_cell, by_place, NamesWithin, placed, counters_with, Instruction, Push, Load, LoadAt, LoadLetter, Subscript, Operate, OperateOne, ConvertTo, AndThen, OrElse, PartOne, PartMany, PartText, PartCounted, PartCountedText, SpotOne, SpotCounted, StoreParts, StoreNamed, StoreOne, ClearCells, Jump, Choose, IfAmong, IfTag, DropOne, CountedFrom, NextChoice, BackToChoice, Begin, Pass, LoopBack, Send, Receive, Fork, Halt, End, Point, point, Effect, Moves, Stops, Stuck, with_one, with_two, going, going_stored, act, effect, Walks, here, on, begins_at, SingleStop, StopsIn, stops_here, passes_on, turning, begun, passed, next_choice, tag_step, last_part, named_from, Stored, Stays, Refused, frame_with, frame_from, frame_parts, values_with, with_counter, counter_at, kept_as}
+use Rattle.occ_code.specs.Sequential.Machine.{by_cell, by_place, NamesWithin, placed, counters_with, Instruction, Push, Load, LoadAt, LoadLetter, Subscript, Operate, OperateOne, ConvertTo, AndThen, OrElse, PartOne, PartMany, PartText, PartCounted, PartCountedText, SpotOne, SpotCounted, StoreParts, StoreNamed, StoreOne, ClearCells, Jump, Choose, IfAmong, IfTag, DropOne, CountedFrom, NextChoice, BackToChoice, PassArms, IfTaken, SetAgain, IfTrue, OpenSkip, OpenInput, ChooseArm, pass_arms, if_taken, again_set, open_arm, choosing_stop, Begin, Pass, LoopBack, Send, Receive, Fork, Halt, End, Point, point, Effect, Moves, Stops, Stuck, with_one, with_two, going, going_stored, act, effect, Walks, here, on, begins_at, SingleStop, StopsIn, stops_here, passes_on, turning, begun, passed, next_choice, tag_step, last_part, named_from, Stored, Stays, Refused, frame_with, frame_from, frame_parts, values_with, with_counter, counter_at, kept_as}
 use Rattle.occ_code.specs.Sequential.Laws.{PlacesDo}
 use Rattle.occ_code.proofs.SequentialFrames.{HoldsAs, one_held, row_held, parts_held, StoresAs, stored_frame, frame_of, row_left, parts_left}
 use Rattle.occ_code.proofs.SequentialCounters.{length-counters_with}
@@ -96,6 +97,11 @@ module _ (cells : List ℕ) (loops : ℕ) where
       let lies : slot + 1 < length f.left = omega (arith, k, as_many) in
       below_true (slot + 1) (length f.left) lies
 
+  again_same : (n c skip pc : ℕ) (st : List ℤ) (q : List Part) (sp : List Spot) (f : Variables) → Shaped f → IsTrue (is_held cells c) → again_set by_cell n c skip pc st q sp f ≡ again_set by_place n (place_among cells c) skip pc st q sp f
+  again_same zero c skip pc st q sp f h k = refl
+  again_same (suc n) c skip pc [] q sp f h k = refl
+  again_same (suc n) c skip pc (v ∷ st) q sp f h k = let there = is_place f c h k in rw there (ap (λ g. Moves (point (pc + 1 + skip) (pos (suc n) ∷ st) q sp g)) (with_same f c v h.0))
+
   act_same : (o : Option Instruction) (pc : ℕ) (st : List ℤ) (q : List Part) (sp : List Spot) (f : Variables) → Shaped f → Within o → act by_cell o pc st q sp f ≡ act by_place (option_map (placed cells) o) pc st q sp f
   act_same None pc st q sp f h k = refl
   act_same (Some (Push v)) pc st q sp f h k = refl
@@ -130,6 +136,14 @@ module _ (cells : List ℕ) (loops : ℕ) where
   act_same (Some (NextChoice c skip)) pc (n ∷ []) q sp f h k = refl
   act_same (Some (NextChoice c skip)) pc (n ∷ v ∷ st) q sp f h k = let there = is_place f c h k in rw there (ap Moves (chosen_same (nat_abs n) v pc c skip st q sp f h.0))
   act_same (Some (BackToChoice back)) pc st q sp f h k = refl
+  act_same (Some (PassArms last skip)) pc st q sp f h k = refl
+  act_same (Some (IfTaken skip)) pc st q sp f h k = refl
+  act_same (Some (SetAgain c skip)) pc [] q sp f h k = refl
+  act_same (Some (SetAgain c skip)) pc (n ∷ st) q sp f h k = again_same (nat_abs n) c skip pc st q sp f h k
+  act_same (Some (IfTrue skip)) pc st q sp f h k = refl
+  act_same (Some (OpenSkip number)) pc st q sp f h k = refl
+  act_same (Some (OpenInput number)) pc st q sp f h k = refl
+  act_same (Some (ChooseArm pri back)) pc st q sp f h k = refl
   act_same (Some (Begin slot c skip)) pc [] q sp f h k = refl
   act_same (Some (Begin slot c skip)) pc (n ∷ []) q sp f h k = refl
   act_same (Some (Begin slot c skip)) pc (n ∷ b ∷ st) q sp f h k = let there = is_place f c h k.0 in let room = is_slot f slot h k.1 in rw (there, room) (ap Moves (begun_same (indices b (nat_abs n)) pc slot c skip st q sp f h.0))
@@ -214,6 +228,22 @@ module _ (cells : List ℕ) (loops : ℕ) where
   tag_shape tag skip pc [] q sp f h = h
   tag_shape tag skip pc (v ∷ st) q sp f h = either_shape (nat_eq (nat_abs v) tag) _ _ h h
 
+  passes_shape : (n last skip pc : ℕ) (st : List ℤ) (q : List Part) (sp : List Spot) (f : Variables) → Shaped f → Shaped (frame_of (pass_arms n last skip pc st q sp f))
+  passes_shape zero last skip pc st q sp f h = h
+  passes_shape (suc n) last skip pc st q sp f h = either_shape (nat_le (suc n) last) _ _ h h
+
+  taken_shape : (n skip pc : ℕ) (st : List ℤ) (q : List Part) (sp : List Spot) (f : Variables) → Shaped f → Shaped (frame_of (if_taken n skip pc st q sp f))
+  taken_shape zero skip pc st q sp f h = h
+  taken_shape (suc n) skip pc st q sp f h = h
+
+  again_shapes : (n c skip pc : ℕ) (st : List ℤ) (q : List Part) (sp : List Spot) (f : Variables) → Shaped f → Shapes (again_set by_cell n c skip pc st q sp f)
+  again_shapes zero c skip pc st q sp f h = h
+  again_shapes (suc n) c skip pc st q sp f h = one_shapes st _ (λ v st'. with_shape f c v h)
+
+  choosing_shapes : (pri : Bool) (back pc : ℕ) (arms : List Arm) (f : Variables) → Shaped f → Shapes (choosing_stop pri back pc arms f)
+  choosing_shapes pri back pc [] f h = h
+  choosing_shapes pri back pc (a ∷ arms) f h = h
+
   act_shapes : (o : Option Instruction) (pc : ℕ) (st : List ℤ) (q : List Part) (sp : List Spot) (f : Variables) → Shaped f → Shapes (act by_cell o pc st q sp f)
   act_shapes None pc st q sp f h = tt
   act_shapes (Some (Push v)) pc st q sp f h = h
@@ -245,6 +275,13 @@ module _ (cells : List ℕ) (loops : ℕ) where
   act_shapes (Some (CountedFrom line)) pc st q sp f h = two_shapes st _ (λ v w st'. going_shapes pc f _ _ h (λ x. h))
   act_shapes (Some (NextChoice c skip)) pc st q sp f h = two_shapes st _ (λ n v st'. chosen_shape (nat_abs n) v pc c skip st' q sp f h)
   act_shapes (Some (BackToChoice back)) pc st q sp f h = h
+  act_shapes (Some (PassArms last skip)) pc st q sp f h = one_shapes st _ (λ n st'. passes_shape (nat_abs n) last skip pc st' q sp f h)
+  act_shapes (Some (IfTaken skip)) pc st q sp f h = one_shapes st _ (λ n st'. taken_shape (nat_abs n) skip pc st' q sp f h)
+  act_shapes (Some (SetAgain c skip)) pc st q sp f h = one_shapes st _ (λ n st'. again_shapes (nat_abs n) c skip pc st' q sp f h)
+  act_shapes (Some (IfTrue skip)) pc st q sp f h = one_shapes st _ (λ x st'. either_shape (holds x) _ _ h h)
+  act_shapes (Some (OpenSkip number)) pc st q sp f h = h
+  act_shapes (Some (OpenInput number)) pc st q sp f h = one_shapes st _ (λ c st'. h)
+  act_shapes (Some (ChooseArm pri back)) pc st q sp f h = choosing_shapes pri back pc (map open_arm q) f h
   act_shapes (Some (Begin slot c skip)) pc st q sp f h = two_shapes st _ (λ n b st'. begun_shape (indices b (nat_abs n)) pc slot c skip st' q sp f h)
   act_shapes (Some (Pass slot c skip)) pc st q sp f h = passed_shape (counter_at f.left slot) pc slot c skip st q sp f h
   act_shapes (Some (LoopBack back)) pc st q sp f h = h
@@ -262,7 +299,7 @@ module _ (cells : List ℕ) (loops : ℕ) where
 
   begins_shape : (w : Wait) (pc : ℕ) (f : Variables) → Shaped f → Begins (begins_at w pc f)
   begins_shape Ready pc f h = h
-  begins_shape (Took arm chosen None) pc f h = tt
+  begins_shape (Took arm chosen None) pc f h = h
   begins_shape (Took arm chosen (Some m)) pc f h = h
   begins_shape (Offers c m) pc f h = tt
   begins_shape (Awaits c) pc f h = tt

@@ -1,13 +1,13 @@
 -- The premises of the theorem can be met.
 use Rattle.std.specs.Prelude.{nat_eq, nat_le, nat_lt}
-use Rattle.std.proofs.Common.{◌≡◌, ℕ, zero, suc, true, false, [], ◌∷◌, refl, arith}
+use Rattle.std.proofs.Common.{◌≡◌, ◌<◌, ℕ, zero, suc, true, false, [], ◌∷◌, refl, arith}
 use Rattle.std.proofs.lemmas.Bool.Decides.{nat_tests}
 use Rattle.occ_term.specs.declared.primitive.Primitive.TheVariants.{Int}
 use Rattle.occ_term.specs.Typing.{takes_arithmetic, takes_order}
 use Rattle.occ_term.specs.Uses.{uses_of}
 use Rattle.occ_term.specs.Frames.{is_held}
 use Rattle.occ_code.specs.Alike.{Lists, used_by}
-use Rattle.occ_code.specs.Sequential.Examples.{counts, whole_numbers, CountsAsCompiled, twice, TwiceAsCompiled, twice_two, TwiceTwoAsCompiled}
+use Rattle.occ_code.specs.Sequential.Examples.{counts, whole_numbers, CountsAsCompiled, first_of_two, FirstOfTwoAsCompiled, twice, TwiceAsCompiled, twice_two, TwiceTwoAsCompiled}
 use Rattle.occ_code.proofs.SequentialLayout.{compiled_do}
 
 below : (n : ℕ) → nat_le 0 (suc n) ≡ true
@@ -35,7 +35,7 @@ written = record { rising = tt; members = λ n. of_cell n }
 
 pub counts_as_compiled : CountsAsCompiled
 counts_as_compiled =
-    compiled_do whole_numbers counts (0 ∷ []) (0 ∷ []) 1 refl
+    compiled_do whole_numbers counts (0 ∷ []) (0 ∷ []) 1
     ((Int, takes_order refl refl, refl, refl), ((Int, []) ∷ [], ((refl, (Int, takes_arithmetic refl refl, refl, refl)), tt), (((λ c m. refl), refl), tt)))
     used written (omega arith)
 
@@ -54,7 +54,7 @@ twice_written = record { rising = tt; members = λ n. of_cell n }
     of_cell (suc n) = rw (other n) refl
 
 pub twice_as_compiled : TwiceAsCompiled
-twice_as_compiled = compiled_do whole_numbers twice (0 ∷ []) (0 ∷ []) 1 refl ((refl, refl, refl), refl, tt) twice_used twice_written (omega arith)
+twice_as_compiled = compiled_do whole_numbers twice (0 ∷ []) (0 ∷ []) 1 ((refl, refl, refl), refl, tt) twice_used twice_written (omega arith)
 
 two_used : Lists (0 ∷ []) (used_by (uses_of twice_two))
 two_used = record { rising = tt; members = λ n. of_cell n }
@@ -71,4 +71,38 @@ two_written = record { rising = tt; members = λ n. of_cell n }
     of_cell (suc n) = rw (other n) refl
 
 pub twice_two_as_compiled : TwiceTwoAsCompiled
-twice_two_as_compiled = compiled_do whole_numbers twice_two (0 ∷ []) (0 ∷ []) 1 refl ((refl, refl, refl), refl, (tt, (tt, tt))) two_used two_written (omega arith)
+twice_two_as_compiled = compiled_do whole_numbers twice_two (0 ∷ []) (0 ∷ []) 1 ((refl, refl, refl), refl, (tt, (tt, tt))) two_used two_written (omega arith)
+
+no_more : (a n : ℕ) → a < 3 → nat_eq a (suc (suc (suc n))) ≡ false
+no_more a n h = grind (arith, nat_tests)
+
+at_least : (a n : ℕ) → a < 3 → nat_le a (suc (suc (suc n))) ≡ true
+at_least a n h = grind (arith, nat_tests)
+
+not_below : (a n : ℕ) → a < 4 → nat_lt (suc (suc (suc n))) a ≡ false
+not_below a n h = grind (arith, nat_tests)
+
+three_used : Lists (0 ∷ 1 ∷ 2 ∷ []) (used_by (uses_of first_of_two))
+three_used = record { rising = (omega arith, (omega arith, tt)); members = λ n. of_cell n }
+  where
+    of_cell : (n : ℕ) → is_held (0 ∷ 1 ∷ 2 ∷ []) n ≡ used_by (uses_of first_of_two) n
+    of_cell zero = refl
+    of_cell (suc zero) = refl
+    of_cell (suc (suc zero)) = refl
+    of_cell (suc (suc (suc n))) =
+        rw (no_more 0 n (omega arith), no_more 1 n (omega arith), no_more 2 n (omega arith), at_least 1 n (omega arith), at_least 2 n (omega arith), not_below 2 n (omega arith), not_below 3 n (omega arith)) refl
+
+three_written : Lists (0 ∷ 1 ∷ 2 ∷ []) (uses_of first_of_two).writes
+three_written = record { rising = (omega arith, (omega arith, tt)); members = λ n. of_cell n }
+  where
+    of_cell : (n : ℕ) → is_held (0 ∷ 1 ∷ 2 ∷ []) n ≡ (uses_of first_of_two).writes n
+    of_cell zero = refl
+    of_cell (suc zero) = refl
+    of_cell (suc (suc zero)) = refl
+    of_cell (suc (suc (suc n))) =
+        rw (no_more 0 n (omega arith), no_more 1 n (omega arith), no_more 2 n (omega arith), at_least 1 n (omega arith), at_least 2 n (omega arith), not_below 2 n (omega arith), not_below 3 n (omega arith)) refl
+
+pub first_of_two_as_compiled : FirstOfTwoAsCompiled
+first_of_two_as_compiled =
+    compiled_do whole_numbers first_of_two (0 ∷ 1 ∷ 2 ∷ []) (0 ∷ 1 ∷ 2 ∷ []) 1
+    ((refl, refl, refl), refl, ((Int, [], (refl, refl), (λ c m. refl)), (refl, ((Int, []) ∷ [], ((refl, refl), tt), (((λ c m. refl), refl), tt)), tt), tt), tt) three_used three_written (omega arith)

@@ -5,17 +5,20 @@ use Rattle.occ_term.specs.declared.message.Message.{Message}
 use Rattle.occ_term.specs.Terms.{Skip, Branches, Reception}
 use Rattle.occ_term.specs.Values.{Store, Evaluated, Value, Fails}
 use Rattle.occ_term.specs.Storing.{Outcome, Gives, Faults}
-use Rattle.occ_term.specs.Steps.{Loop, WhileLoop, EachLoop, Doing, Do, Again, Offering, Awaiting, Forking, Context, Then, Within, Left, left, status, is_running, FaultsIn, Step, faults}
+use Rattle.occ_term.specs.Selecting.{Enabled}
+use Rattle.occ_term.specs.Steps.{Loop, WhileLoop, EachLoop, Doing, Do, Again, Offering, Awaiting, Choosing, Forking, Context, Then, Within, Left, left, status, is_running, FaultsIn, Step, faults}
 use Rattle.occ_term.specs.Steps as S
 use Rattle.occ_term.specs.Turns.{Steps, none, more, SingleTurn, single_turn}
 use Rattle.occ_term.specs.Frames.{Variables}
+use Rattle.occ_code.specs.declared.task.Arm.{Arm}
 use Rattle.occ_code.specs.declared.task.Wait.{Wait}
-use Rattle.occ_code.specs.declared.task.Wait.TheVariants.{Ready, Offers, Awaits, Joins, Halted, Faulted}
+use Rattle.occ_code.specs.declared.task.Wait.TheVariants.{Ready, Offers, Awaits, Chooses, Joins, Halted, Faulted}
 use Rattle.occ_code.specs.Alike.{numbers_of}
 use Rattle.occ_code.specs.Sequential.Machine.{by_cell, Instruction, Point, point, Stops, act, effect, Walks, here, on}
 use Rattle.occ_code.specs.Sequential.Laws.{FaultsAt, Comes, comes, fails}
 use Rattle.occ_code.specs.Sequential.Layout.{Ways, stays, jumps, slot_in, slot_before, ListAt, LoopAt, ContextAt, ContextsAt}
 use Rattle.occ_code.proofs.SequentialPlaces.{walks_on}
+use Rattle.occ_code.proofs.SequentialChoosing.{ArmsLaid}
 use Rattle.occ_code.proofs.SequentialCounters.{KeepsBelow, keeps_all, keeps_on, keeps_less, counts_kept}
 use Rattle.occ_code.proofs.SequentialFrames.{HoldsAs, frame_of, Performs, performs, refuses}
 
@@ -84,6 +87,7 @@ module _ (code : List Instruction) (loops : ℕ) where
     pub data Pause (slot pc' : ℕ) (stands : ℕ) (inner : List Context) : Wait → Doing → Type 0 where
       at_offer : {c : ℕ} {m : Message} (e : ℕ) → ContextsAt code loops left_ e stands inner slot pc' → Pause slot pc' stands inner (Offers c m) (Offering c m)
       at_await : {c : ℕ} {list : Reception} (e mid : ℕ) → ListAt code loops e stands list mid → ContextsAt code loops left_ e mid inner slot pc' → Pause slot pc' stands inner (Awaits c) (Awaiting c list)
+      at_choose : {pri : _} {arms : List Arm} {es : List Enabled} (e mid : ℕ) → ArmsLaid code loops e stands arms es mid → ContextsAt code loops left_ e mid inner slot pc' → Pause slot pc' stands inner (Chooses pri arms) (Choosing pri es)
       at_fork : {bs : Branches} (e : ℕ) → ContextsAt code loops left_ e stands inner slot pc' → Pause slot pc' stands inner (Joins (numbers_of bs)) (Forking bs)
       at_halt : Pause slot pc' stands inner Halted S.Halted
       at_fault : {e : Fault} → Pause slot pc' stands inner (Faulted e) (S.Faulted e)
@@ -92,6 +96,7 @@ module _ (code : List Instruction) (loops : ℕ) where
     pub pause_in : (m n slot pc' stands : ℕ) (j k : List Context) {w : Wait} {y : Doing} → ContextsAt code loops left_ m n k slot pc' → Pause m n stands j w y → Pause slot pc' stands (j ++ k) w y
     pause_in m n slot pc' stands j k h (at_offer e c) = at_offer e (contexts_join n m pc' slot j k e stands c h)
     pause_in m n slot pc' stands j k h (at_await e mid l c) = at_await e mid l (contexts_join n m pc' slot j k e mid c h)
+    pause_in m n slot pc' stands j k h (at_choose e mid l c) = at_choose e mid l (contexts_join n m pc' slot j k e mid c h)
     pause_in m n slot pc' stands j k h (at_fork e c) = at_fork e (contexts_join n m pc' slot j k e stands c h)
     pause_in m n slot pc' stands j k h at_halt = at_halt
     pause_in m n slot pc' stands j k h at_fault = at_fault

@@ -1,31 +1,29 @@
 -- The code of each term does, within one turn, what the term does.
-use Rattle.std.specs.Prelude.{slice_get, if◌then◌else◌, nat_eq, ◌+ℤ◌, ◌-◌}
+use Rattle.std.specs.Prelude.{map, slice_get, if◌then◌else◌, nat_eq, ◌+ℤ◌, ◌-◌}
 use Rattle.std.proofs.Common.{arith, ◌≡◌, ◌∙◌, ℕ, zero, suc, ℤ, pos, ◌+◌, Bool, true, false, ◌<◌, List, [], ◌∷◌, ◌++◌, Option, Some, None, refl, ap, subst, sym}
 use Rattle.occ_term.specs.declared.primitive.Primitive.{Primitive}
 use Rattle.occ_term.specs.declared.primitive.Primitive.TheVariants.{Bool as Boolean}
 use Rattle.occ_term.specs.declared.fault.Fault.{Fault}
 use Rattle.occ_term.specs.declared.message.Part.{Part}
-use Rattle.occ_term.specs.declared.message.Message.{Message}
 use Rattle.occ_term.specs.declared.protocol.Protocol.{Protocol}
 use Rattle.occ_term.specs.declared.protocol.PartType.{PartType}
-use Rattle.occ_term.specs.declared.protocol.Protocol.TheVariants.{Simple, CountedArray, Sequential, Variant}
 use Rattle.occ_term.specs.TypedSteps.{LoopHas}
 use Rattle.occ_term.specs.StepUses.{uses_of_loop}
-use Rattle.occ_term.specs.Messages.{message, parts_after, FitsAfter, Fits}
-use Rattle.occ_term.specs.Terms.{Expression, Place, Item, Declaration, Clearing, Naming, Term, Skip, Stop, Assign, Input, Output, VariantInput, Seq, Par, Alt, If, Case, While, Each, Clear, Local, Terms, no_terms, then_term, Branches, no_branches, and_branch, Reception, Plain, Tagged, Variants, no_variants, or_variant, Choices, no_choices, or_choice, declared_choices, each_choice, Options, no_options, or_option, or_else}
+use Rattle.occ_term.specs.Messages.{message}
+use Rattle.occ_term.specs.Terms.{Expression, Place, Item, Declaration, Clearing, Naming, Arms, Term, Skip, Stop, Assign, Input, Output, VariantInput, Seq, Par, Alt, If, Case, While, Each, Clear, Local, Terms, no_terms, then_term, Branches, no_branches, and_branch, Reception, Plain, Tagged, Variants, no_variants, or_variant, Choices, no_choices, or_choice, declared_choices, each_choice, Options, no_options, or_option, or_else}
 use Rattle.occ_term.specs.Values.{Store, store_with, Value, Fails, after, holds, first_of, value_of, span_of, parts_of}
 use Rattle.occ_term.specs.Storing.{Outcome, Gives, then_in, in_store, Nothing, nothing, store_into, declared, all_declared, Indices, indices, indices_of, index_of}
-use Rattle.occ_term.specs.Selecting.{or_next, first_over, choice_over, choice_of, Selected, selected, is_among, matching, else_of, either, enters, variant_taken, tag_taken, taken}
-use Rattle.occ_term.specs.Steps.{Loop, WhileLoop, EachLoop, each, each_loop, in_each, Doing, Do, Passing, Again, Offering, Awaiting, Taking, MessageTaken, Forking, Context, Then, Within, left, or_stop, pass, pass_of, offer_of, await_of, Step, ends, stop, assign, clear, local, output, input, variant, take_in, seq_empty, seq, drops, par_empty, par, if_step, case, while, passes_again, leaves, body_ends, again, FaultsIn, in_assign, in_local, in_output, in_input, in_variant, in_take, in_if, in_case, in_loop}
+use Rattle.occ_term.specs.Selecting.{Enabled, enabled, or_next, first_over, choice_over, choice_of, Selected, selected, is_among, matching, else_of, either, enters, variant_taken}
+use Rattle.occ_term.specs.Steps.{Loop, WhileLoop, EachLoop, each, each_loop, in_each, Doing, Do, Passing, Again, Offering, Awaiting, Taken, SkipTaken, Choosing, choosing, alt, in_alt, taken_by, after_taken, Taking, MessageTaken, Forking, Context, Then, Within, left, or_stop, pass, pass_of, offer_of, await_of, Step, ends, stop, assign, clear, local, output, input, variant, take_in, seq_empty, seq, drops, par_empty, par, if_step, case, while, passes_again, leaves, body_ends, again, FaultsIn, in_assign, in_local, in_output, in_input, in_variant, in_take, in_if, in_case, in_loop}
 use Rattle.occ_term.specs.Steps as S
 use Rattle.occ_term.specs.Turns.{none, more, single_turn}
-use Rattle.occ_term.specs.Uses.{Numbers, with_use, reads_of, reads_of_items, reads_in_place, uses_of, uses_of_terms, uses_of_variants, uses_of_reception, uses_of_choices, uses_of_options, uses_of_targets, uses_of_declaration, uses_of_declarations, uses_of_replicator}
+use Rattle.occ_term.specs.Uses.{Numbers, with_use, reads_of, reads_of_items, reads_in_place, uses_of, uses_of_terms, uses_of_variants, uses_of_choices, uses_of_options, uses_of_targets, uses_of_declaration, uses_of_declarations, uses_of_replicator}
 use Rattle.occ_term.specs.Typing.{HasType}
-use Rattle.occ_term.specs.TermTyping.{Declared, ChannelHas, value_parts, ItemsHave, DeclarationsHave, TermHas, TermsHave, VariantsHave, ReceptionHas, ChoicesHave, OptionsHave}
+use Rattle.occ_term.specs.TermTyping.{Declared, ChannelHas, value_parts, ItemsHave, DeclarationsHave, TermHas, TermsHave, VariantsHave, ChoicesHave, OptionsHave}
 use Rattle.occ_term.specs.Frames.{Variables, at}
-use Rattle.occ_code.specs.declared.task.Wait.TheVariants.{Ready, Offers, Awaits, Joins, Halted}
+use Rattle.occ_code.specs.declared.task.Wait.TheVariants.{Ready, Offers, Awaits, Chooses as ChoosesAmong, Joins, Halted}
 use Rattle.occ_code.specs.Alike.{numbers_of}
-use Rattle.occ_code.specs.Sequential.Machine.{by_cell, Instruction, Choose, IfAmong, IfTag, DropOne, NextChoice, BackToChoice, Begin, Pass, passed, turning, Moves, Send, Receive, Halt, Point, point, Stops, act, Walks, here, frame_with, counting, tag_stack}
+use Rattle.occ_code.specs.Sequential.Machine.{by_cell, Instruction, Push, ChooseArm, open_arm, Choose, IfAmong, IfTag, DropOne, NextChoice, BackToChoice, Begin, Pass, passed, turning, Moves, Send, Receive, Halt, Point, point, Stops, act, effect, Walks, here, frame_with, counting}
 use Rattle.occ_code.specs.Sequential.Expressions.{expression_code, place_code, items_code, declarations_code, par_code}
 use Rattle.occ_code.specs.Sequential.Laws.{StandsAt, FaultsAt}
 use Rattle.occ_code.specs.Sequential.Layout.{Ways, stays, Counts, EachAt, TermAt, TermsAt, VariantsAt, ChoicesAt, OptionsAt, ElseAt, ListAt, LoopAt, LeadsBack}
@@ -33,9 +31,11 @@ use Rattle.occ_code.proofs.SequentialPlaces.{split, walks_on}
 use Rattle.occ_code.proofs.SequentialExpressions.{expression_runs, place_runs, steps_to}
 use Rattle.occ_code.proofs.SequentialItems.{items_run}
 use Rattle.occ_code.proofs.SequentialReads.{value_same, channel_same, indices_same, parts_same}
-use Rattle.occ_code.proofs.SequentialFrames.{HoldsAs, one_held, frame_of, Performs, performs, refuses, performs_on, performs_by}
+use Rattle.occ_code.proofs.SequentialFrames.{HoldsAs, GivesAs, one_held, frame_of, Performs, performs, refuses, performs_on, performs_by}
 use Rattle.occ_code.proofs.SequentialStatements.{Held, held_left, held_right, agrees_on, Lands, sets_then, storing_runs, assigns, declaration_runs, declarations_run, counting_runs}
-use Rattle.occ_code.proofs.SequentialResults.{Does as DoesFrom, steps_on, ways_walk, at_offer, at_await, at_fork, at_halt, at_loop, finishes, pauses, result_after, result_within, faulted, outcome_result, comes_case}
+use Rattle.occ_code.proofs.SequentialResults.{Does as DoesFrom, steps_on, ways_walk, at_offer, at_await, at_choose, at_fork, at_halt, at_loop, finishes, pauses, result_after, result_within, faulted, outcome_result, comes_case}
+use Rattle.occ_code.proofs.SequentialChoosing.{arrives, ArmsLaid}
+use Rattle.occ_code.proofs.SequentialArms.{Opens, arms_run}
 use Rattle.occ_code.proofs.SequentialCounters.{KeepsBelow, keeps_all, keeps_on, keeps_less, counts_kept, turning_keeps, turning_counts, turning_held}
 
 module _ (code : List Instruction) (loops : ℕ) (cells : List ℕ) (d : Declared) where
@@ -227,10 +227,39 @@ module _ (code : List Instruction) (loops : ℕ) (cells : List ℕ) (d : Declare
         enters_as no_ (λ s. if nat_eq tag t then yes_ s else no_ s) pc' (λ s. rw e refl)
         (performs_on code cells (steps_to code f pc (pos tag ∷ []) ps [] (IfTag t skip) (point (pc + 1 + skip) (pos tag ∷ []) ps [] f) h (rw e refl)) o)
 
-    untagged_halts : (vs : Variants) (f : Variables) (pc pc' : ℕ) (ps : List Part) → VariantsAt code loops slot pc vs pc' → Enters f (point pc [] ps [] f) (λ s. Gives None s) pc'
+    pub untagged_halts : (vs : Variants) (f : Variables) (pc pc' : ℕ) (ps : List Part) → VariantsAt code loops slot pc vs pc' → Enters f (point pc [] ps [] f) (λ s. Gives None s) pc'
     untagged_halts no_variants f pc pc' ps h = enters_none f pc pc' [] ps h
     untagged_halts (or_variant tag ds ts t vs) f pc pc' ps h =
         performs_on code cells (steps_to code f pc [] ps [] (IfTag tag h.0) (point (pc + 1 + h.0) [] ps [] f) h.3 refl) (untagged_halts vs f (pc + 1 + h.0) pc' ps h.7)
+
+    -- ---- ALT
+
+    -- the arms are opened: it chooses among them, or halts with none
+    alts : (pri : Bool) (arms : Arms) (f : Variables) (pc n back pc' : ℕ) → slice_get code pc ≡ Some (Push (pos 0)) → slice_get code n ≡ Some (ChooseArm pri back) → n - back ≡ pc + 1
+        → Opens code loops cells d slot (pc + 1) pc' f (point (pc + 1) (pos 0 ∷ []) [] [] f) (enabled arms []) [] [] n → Does (start pc f) f (Do (Alt pri arms)) pc'
+    alts pri arms f pc n back pc' hp hc root (refuses e g z l h) =
+        faulted code loops cells slot (record { last = z.last; stands = z.stands; walks = walks_on (steps_to code f pc [] [] [] (Push (pos 0)) (point (pc + 1) (pos 0 ∷ []) [] [] f) hp refl) z.walks; stops = z.stops }) l
+        (λ s hs. let r = h s hs in record { store = r.store; fault_in = in_alt r.faults_by; holds = r.holds })
+    alts pri arms f pc n back pc' hp hc root (performs es b w t l h) = by_arms es t.opened t.laid t.lands h
+      where
+        Given : List Enabled → Type 0
+        Given xs = (s : Store) → HoldsAs cells f s → GivesAs cells (enabled arms [] s) xs (frame_of b)
+
+        walk : Walks by_cell code (start pc f) b
+        walk = walks_on (steps_to code f pc [] [] [] (Push (pos 0)) (point (pc + 1) (pos 0 ∷ []) [] [] f) hp refl) w
+
+        by_arms : (es : List Enabled) (ps : List Part) → ArmsLaid code loops slot (pc + 1) (map open_arm ps) es pc' → b ≡ point n (pos 0 ∷ []) ps [] (frame_of b) → Given es → Does (start pc f) f (Do (Alt pri arms)) pc'
+        by_arms [] [] x lands given =
+            result_after code loops cells slot walk (keeps_all slot l) (λ s hs. let r = given s hs in record { store = r.store; steps = λ ks. more (alt r.gives_it) refl none; holds = r.holds })
+            (λ room'. pauses n Halted S.Halted [] (frame_of b) (record { last = b; walks = here; stops = ap (λ z. effect by_cell code z) lands ∙ ap (λ o. act by_cell o n (pos 0 ∷ []) [] [] (frame_of b)) hc }) (keeps_all slot refl) at_halt
+            (λ s hs. record { store = s; turn = λ k. single_turn none stop refl; holds = hs }))
+        by_arms [] (p ∷ ps) x lands given = absurd x
+        by_arms (e ∷ es) [] x lands given = absurd x
+        by_arms (e ∷ es) (p ∷ ps) x lands given = λ room.
+            pauses (pc + 1) (ChoosesAmong pri (map open_arm (p ∷ ps))) (Choosing pri (e ∷ es)) [] (frame_of b)
+            (record { last = b; walks = walk; stops = ap (λ z. effect by_cell code z) lands ∙ ap (λ o. act by_cell o n (pos 0 ∷ []) (p ∷ ps) [] (frame_of b)) hc ∙ ap (λ m. Stops m (frame_of b) (ChoosesAmong pri (map open_arm (p ∷ ps)))) root })
+            (keeps_all slot l) (at_choose slot pc' x (refl, stays))
+            (λ s hs. let r = given s hs in record { store = r.store; turn = λ k. single_turn none (alt r.gives_it) refl; holds = r.holds })
 
     -- ---- loops
 
@@ -296,14 +325,14 @@ module _ (code : List Instruction) (loops : ℕ) (cells : List ℕ) (d : Declare
     only_nothing : {o : Outcome Nothing} {s' : Store} (x : Nothing) → o ≡ Gives x s' → o ≡ Gives nothing s'
     only_nothing nothing e = e
 
-    enters_body : (t : Term) (f : Variables) (pc pc' : ℕ) → Does (start pc f) f (Do t) pc' → Enters f (start pc f) (λ s. Gives (Some t) s) pc'
+    pub enters_body : (t : Term) (f : Variables) (pc pc' : ℕ) → Does (start pc f) f (Do t) pc' → Enters f (start pc f) (λ s. Gives (Some t) s) pc'
     enters_body t f pc pc' r = performs (Some t) (start pc f) here r refl (λ s hs. record { store = s; gives_it = refl; holds = hs })
 
     selected_runs : (ds : List Declaration) (t : Term) (f : Variables) (pc m pc' : ℕ) → DeclarationsHave d ds → Has (uses_of_declarations ds).reads → StandsAt code pc (declarations_code ds) m → ((g : Variables) → Does (start m g) g (Do t) pc')
         → Enters f (start pc f) (enters (Some (selected ds t))) pc'
     selected_runs ds t f pc m pc' h k l r = sets_then code cells d (all_declared ds) m [] [] [] (λ s. Gives (Some t) s) (declarations_run code cells d ds f pc m [] [] h k l) (λ g. enters_body t g m pc' (r g))
 
-    entered : (x : Option Term) (b : Point) (pc' : ℕ) → EntersTo pc' x b → Does b (frame_of b) (Do (or_stop x)) pc'
+    pub entered : (x : Option Term) (b : Point) (pc' : ℕ) → EntersTo pc' x b → Does b (frame_of b) (Do (or_stop x)) pc'
     entered None b pc' h = h
     entered (Some t) b pc' h = h
 
@@ -331,7 +360,9 @@ module _ (code : List Instruction) (loops : ℕ) (cells : List ℕ) (d : Declare
         awaits slot c (Tagged vs) (Do (VariantInput c vs)) h.0 f pc l.0 pc' h.1 (held_left code cells d (reads_in_place c) (uses_of_variants vs).reads k) l.1 l.2 (λ s y ks e. variant e) (λ s e q. in_variant q)
     term_runs slot (Seq ts) f pc pc' h k l = terms_run slot ts f pc pc' h k l
     term_runs slot (Par bs) f pc pc' h k l = forks slot bs f pc l.0 pc' l.1 l.2
-    term_runs slot (Alt pri arms) f pc pc' h k l = absurd l
+    term_runs slot (Alt pri arms) f pc pc' h k l =
+        alts slot pri arms f pc l.1 l.2 pc' l.3 l.5 l.6
+        (arms_run code loops cells d slot (pc + 1) pc' arms [] f (pc + 1) 0 l.0 l.1 [] [] h k l.4 refl (λ n a b. arrives))
     term_runs slot (If cs) f pc pc' h k l =
         outcome_result code loops cells slot (λ t. Do (or_stop t)) (λ x ks. refl) (λ x s s' ks e. if_step e) (λ e s s' q. in_if q) (choices_run slot cs f pc l.0 pc' [] h k l.1)
         (λ x b e. chosen_runs slot x b l.0 pc' l.2 e)
@@ -437,26 +468,3 @@ module _ (code : List Instruction) (loops : ℕ) (cells : List ℕ) (d : Declare
       (term_runs slot b f (l.0 + 1) l.2 h.1 (held_right code cells d (reads_of e) (uses_of b).reads k) l.6)
   loop_runs slot (EachLoop index v n b) f pc pc' h k l =
       passes slot f pc pc' index b l.1 (λ g. term_runs (slot + 2) b g (pc + 1) l.1.1 h.3 (held_right code cells d (λ c. false) (uses_of b).reads k) l.1.5) n v l.0
-
-  tag_none : (p : Protocol) (tag : Option ℕ) (parts : List PartType) (ps : List Part) → parts_after p None ≡ Some parts → FitsAfter (parts_after p tag) ps → tag ≡ None
-  tag_none p None parts ps e h = refl
-  tag_none (Simple sizes type) (Some tag) parts ps e h = absurd h
-  tag_none (CountedArray count type) (Some tag) parts ps e h = absurd h
-  tag_none (Sequential ts) (Some tag) parts ps e h = absurd h
-  tag_none (Variant tags) (Some tag) parts ps e h = cc
-
-  by_tag : (slot : ℕ) → (vs : Variants) (f : Variables) (tag : Option ℕ) (pc pc' : ℕ) (ps : List Part) (p : Protocol) → VariantsHave d p vs → Has (uses_of_variants vs).reads → VariantsAt code loops slot pc vs pc' → Enters slot f (point pc (tag_stack tag) ps [] f) (tag_taken tag ps vs) pc'
-  by_tag slot vs f None pc pc' ps p h k l = untagged_halts slot vs f pc pc' ps l
-  by_tag slot vs f (Some tag) pc pc' ps p h k l = variants_run slot vs f tag pc pc' ps p h k l
-
-  -- a message is taken by its list
-  pub list_runs : (slot : ℕ) → (list : Reception) (m : Message) (p : Protocol) (f : Variables) (pc pc' : ℕ) → ReceptionHas d p list → Fits p m → Has (uses_of_reception list).reads → ListAt code loops slot pc list pc'
-      → DoesFrom code loops cells slot (point pc (tag_stack m.tag) m.items [] f) f (Taking [] (MessageTaken list m)) pc'
-  list_runs slot (Plain ts t) m p f pc pc' h fit k l =
-      outcome_result code loops cells slot (λ x. Do (or_stop x)) (λ x ks. refl) (λ x s s' ks e. take_in e) (λ e s s' q. in_take q)
-      (subst (λ st. Enters slot f (point pc st m.items [] f) (taken (Plain ts t) m) pc') (sym (ap tag_stack (tag_none p m.tag h.0.0 m.items h.0.1 fit)))
-      (sets_then code cells d (store_into ts m.items) l.0 [] [] [] (λ s'. Gives (Some t) s') (storing_runs code cells d ts h.0.0 m.items f pc l.0 [] h.0.2 (held_left code cells d (uses_of_targets ts).reads (uses_of t).reads k) l.1)
-      (λ g. enters_body slot t g l.0 pc' (term_runs slot t g l.0 pc' h.1 (held_right code cells d (uses_of_targets ts).reads (uses_of t).reads k) l.2))))
-      (λ x b e. entered slot x b pc' e)
-  list_runs slot (Tagged vs) m p f pc pc' h fit k l =
-      outcome_result code loops cells slot (λ x. Do (or_stop x)) (λ x ks. refl) (λ x s s' ks e. take_in e) (λ e s s' q. in_take q) (by_tag slot vs f m.tag pc pc' m.items p h k l) (λ x b e. entered slot x b pc' e)

@@ -9,22 +9,24 @@ use Rattle.occ_term.specs.declared.message.Message.{Message}
 use Rattle.occ_term.specs.declared.protocol.Protocol.{Protocol}
 use Rattle.occ_term.specs.Messages.{Fits}
 use Rattle.occ_term.specs.Terms.{Term, Skip, Branches, Reception}
+use Rattle.occ_term.specs.Selecting.{Setting, Enabled, SkipArm, InputArm}
 use Rattle.occ_term.specs.Values.{Store, is_of_declared}
-use Rattle.occ_term.specs.Steps.{is_looping, status, Loop, WhileLoop, EachLoop, Doing, Do, Again, Offering, Awaiting, Taking, MessageTaken, Forking, Context, Then, Within, Left, left, Step, ends, drops, body_ends, again}
+use Rattle.occ_term.specs.Steps.{is_looping, status, Loop, WhileLoop, EachLoop, Doing, Do, Again, Offering, Awaiting, Choosing, Taken, SkipTaken, Taking, MessageTaken, Forking, Context, Then, Within, Left, left, Step, ends, drops, body_ends, again}
 use Rattle.occ_term.specs.Steps as S
 use Rattle.occ_term.specs.Turns.{Steps, none, more, SingleTurn, single_turn, Turn, stops, passes}
 use Rattle.occ_term.specs.Uses.{uses_of, uses_of_branches, uses_of_terms}
 use Rattle.occ_term.specs.TermTyping.{Declared, TermHas}
-use Rattle.occ_term.specs.TypedSteps.{StoreHas, LeftHas, ContextsHave}
-use Rattle.occ_term.specs.StepUses.{uses_of_left, uses_of_doing, uses_of_contexts, IsPartOf}
+use Rattle.occ_term.specs.TypedSteps.{StoreHas, LeftHas, ContextsHave, EnabledHave}
+use Rattle.occ_term.specs.StepUses.{uses_of_settings, uses_of_taken, uses_of_enabled, uses_of_all, uses_of_left, uses_of_doing, uses_of_contexts, IsPartOf}
 use Rattle.occ_term.specs.Frames.{Variables, value_at, is_held, at}
 use Rattle.occ_term.proofs.TypedSteps.{steps_keep_types}
 use Rattle.occ_term.proofs.KeptSteps.{steps_keep_to_their_use}
 use Rattle.occ_code.specs.declared.task.Task.{Task}
+use Rattle.occ_code.specs.declared.task.Arm.{Arm}
 use Rattle.occ_code.specs.declared.task.Wait.{Wait}
-use Rattle.occ_code.specs.declared.task.Wait.TheVariants.{Ready, Took, Offers, Awaits, Joins, Halted, Done, Faulted}
-use Rattle.occ_code.specs.Alike.{Agrees, FitsProtocol, SameStop, Lists, numbers_of, used_by}
-use Rattle.occ_code.specs.Sequential.Machine.{by_cell, NamesWithin, placed, Body, Instruction, End, Point, point, Stops, act, here, begins_at, SingleStop, StopsIn, stops_here, passes_on, IsReady, counted_turn, tag_stack}
+use Rattle.occ_code.specs.declared.task.Wait.TheVariants.{Ready, Took, Offers, Awaits, Chooses, Joins, Halted, Done, Faulted}
+use Rattle.occ_code.specs.Alike.{Agrees, FitsProtocol, indices_in, SameArm, SameArms, SameStop, Lists, numbers_of, used_by}
+use Rattle.occ_code.specs.Sequential.Machine.{by_cell, NamesWithin, placed, Body, Instruction, IfTaken, End, Point, point, Stops, act, here, begins_at, SingleStop, StopsIn, stops_here, passes_on, IsReady, counted_turn, tag_stack}
 use Rattle.occ_code.specs.Sequential.Layout.{stays, TermAt, ListAt, LoopAt, ContextsAt}
 use Rattle.occ_code.specs.Sequential.Alike.{SameTurn, Alike, DoesAs, BodiesDo}
 use Rattle.occ_code.proofs.SequentialReads.{or_left}
@@ -32,8 +34,10 @@ use Rattle.occ_code.proofs.SequentialFrames.{HoldsAs}
 use Rattle.occ_code.proofs.PlacedCode.{stops_placed}
 use Rattle.occ_code.proofs.SequentialStatements.{Held, held_left, held_right}
 use Rattle.occ_code.proofs.SequentialCounters.{KeepsBelow, keeps_all}
-use Rattle.occ_code.proofs.SequentialResults.{contexts_kept, Does, after_steps, ways_walk, contexts_join, StopsAt, stops_after, Pause, at_offer, at_await, at_fork, at_halt, at_fault, at_loop, Result, finishes, pauses, result_after}
-use Rattle.occ_code.proofs.SequentialRuns.{term_runs, terms_run, loop_runs, list_runs}
+use Rattle.occ_code.proofs.SequentialResults.{contexts_kept, Does, after_steps, ways_walk, contexts_join, StopsAt, stops_after, Pause, at_offer, at_await, at_choose, at_fork, at_halt, at_fault, at_loop, Result, finishes, pauses, result_after}
+use Rattle.occ_code.proofs.SequentialChoosing.{SetsAgain, ArmLaid, ArmsLaid}
+use Rattle.occ_code.proofs.SequentialRuns.{term_runs, terms_run, loop_runs}
+use Rattle.occ_code.proofs.SequentialTaking.{list_runs, arm_runs, tag_of, items_of_taken, TakenAt}
 
 -- ---- turns keep types, and to their use
 
@@ -103,6 +107,7 @@ module _ (d : Declared) (code : List Instruction) (loops : ℕ) (cells : List �
     offers : {c : ℕ} {m : Message} (k : List Context) (slot : ℕ) → ToEnd left_ slot pc k → Rested left_ pc (Offers c m) (left (Offering c m) k)
     awaits : {c : ℕ} {list : Reception} (k : List Context) (slot mid : ℕ) → ListAt code loops slot pc list mid → ToEnd left_ slot mid k → Rested left_ pc (Awaits c) (left (Awaiting c list) k)
     stands_again : {l : Loop} (k : List Context) (slot mid : ℕ) → LoopAt code loops left_ slot pc l mid → ToEnd left_ slot mid k → Rested left_ pc Ready (left (Again l) k)
+    chooses : {pri : Bool} {arms : List Arm} {es : List Enabled} (k : List Context) (slot mid : ℕ) → ArmsLaid code loops slot pc arms es mid → ToEnd left_ slot mid k → Rested left_ pc (Chooses pri arms) (left (Choosing pri es) k)
     forks : {bs : Branches} (k : List Context) (slot : ℕ) → ToEnd left_ slot pc k → Rested left_ pc (Joins (numbers_of bs)) (left (Forking bs) k)
     halts : (k : List Context) → Rested left_ pc Halted (left S.Halted k)
     fails : {e : Fault} (k : List Context) → Rested left_ pc (Faulted e) (left (S.Faulted e) k)
@@ -126,6 +131,7 @@ module _ (d : Declared) (code : List Instruction) (loops : ℕ) (cells : List �
   rested : (left_ : List ℕ) (slot pc' pc : ℕ) (j k : List Context) {w : Wait} {y : Doing} → ToEnd left_ slot pc' k → Pause code loops left_ slot pc' pc j w y → Rested left_ pc w (left y (j ++ k))
   rested left_ slot pc' pc j k e (at_offer i h) = offers (j ++ k) i (record { last = e.last; codes = contexts_join code loops left_ pc' slot e.last 0 j k i pc h e.codes; ends_there = e.ends_there })
   rested left_ slot pc' pc j k e (at_await i mid l h) = awaits (j ++ k) i mid l (record { last = e.last; codes = contexts_join code loops left_ pc' slot e.last 0 j k i mid h e.codes; ends_there = e.ends_there })
+  rested left_ slot pc' pc j k e (at_choose i mid l h) = chooses (j ++ k) i mid l (record { last = e.last; codes = contexts_join code loops left_ pc' slot e.last 0 j k i mid h e.codes; ends_there = e.ends_there })
   rested left_ slot pc' pc j k e (at_fork i h) = forks (j ++ k) i (record { last = e.last; codes = contexts_join code loops left_ pc' slot e.last 0 j k i pc h e.codes; ends_there = e.ends_there })
   rested left_ slot pc' pc j k e at_halt = halts (j ++ k)
   rested left_ slot pc' pc j k e at_fault = fails (j ++ k)
@@ -205,11 +211,21 @@ module _ (d : Declared) (code : List Instruction) (loops : ℕ) (cells : List �
         turn = λ s hs. record { store = s; turn = single_turn none body_ends refl; holds = hs };
       }
 
+  abbrev message_in : Taken → Option Message
+  message_in (SkipTaken t) = None
+  message_in (MessageTaken list m) = Some m
+
+  begins_taken : (what : Taken) (n : ℕ) (is : List ℤ) (pc : ℕ) (f : Variables) → begins_at (Took (suc n) is (message_in what)) pc f ≡ Some (point pc (pos (suc n) ∷ (is ++ tag_of code loops cells d what)) (items_of_taken code loops cells d what) [] f)
+  begins_taken (SkipTaken t) n is pc f = refl
+  begins_taken (MessageTaken list m) n is pc f = refl
+
   -- where a turn begins
   data Starting (left_ : List ℕ) (pc : ℕ) : Wait → Left → Type 0 where
     does : {t : Term} (k : List Context) (slot pc' : ℕ) → TermAt code loops slot pc t pc' → ToEnd left_ slot pc' k → Starting left_ pc Ready (left (Do t) k)
     turns_again : {l : Loop} (k : List Context) (slot pc' : ℕ) → LoopAt code loops left_ slot pc l pc' → ToEnd left_ slot pc' k → Starting left_ pc Ready (left (Again l) k)
     takes : {list : Reception} {m : Message} (k : List Context) (slot pc' : ℕ) → ListAt code loops slot pc list pc' → ToEnd left_ slot pc' k → Starting left_ pc (Took 0 [] (Some m)) (left (Taking [] (MessageTaken list m)) k)
+    takes_arm : {settings : List Setting} {what : Taken} (k : List Context) (slot mid n b skip : ℕ) → SetsAgain code n pc settings b → slice_get code b ≡ Some (IfTaken skip) → TakenAt code loops cells d slot (b + 1) what mid → ToEnd left_ slot mid k
+        → Starting left_ pc (Took (suc n) (indices_in settings) (message_in what)) (left (Taking settings what) k)
 
   record Begun (w : Wait) (pc : ℕ) (f : Variables) (l : Left) : Type 0 where
     first : Point
@@ -238,6 +254,14 @@ module _ (d : Declared) (code : List Instruction) (loops : ℕ) (cells : List �
         begins = refl;
         runs = continued slot pc' k room e (list_runs code loops cells d slot list m h.0.1.0 f pc pc' h.0.1.1 h.0.1.2 (held_left code cells d (uses_of_doing (Taking [] (MessageTaken list m))).reads (uses_of_contexts k).reads u) l)
             (contexts_run k slot pc' h.1 (held_right code cells d (uses_of_doing (Taking [] (MessageTaken list m))).reads (uses_of_contexts k).reads u));
+      }
+  begun_turn {pc = pc} f room (takes_arm {settings = settings} {what = what} k slot mid n b skip x at_b l e) h u =
+      let own = held_left code cells d (uses_of_doing (Taking settings what)).reads (uses_of_contexts k).reads u in
+      record {
+        first = point pc (pos (suc n) ∷ (indices_in settings ++ tag_of code loops cells d what)) (items_of_taken code loops cells d what) [] f;
+        begins = begins_taken what n (indices_in settings) pc f;
+        runs = continued slot mid k room e (arm_runs code loops cells d slot n pc b skip settings what f mid h.0.0 h.0.1 (held_left code cells d (uses_of_settings settings).reads (uses_of_taken what).reads own) (held_right code cells d (uses_of_settings settings).reads (uses_of_taken what).reads own) x at_b l)
+            (contexts_run k slot mid h.1 (held_right code cells d (uses_of_doing (Taking settings what)).reads (uses_of_contexts k).reads u));
       }
 
 module _ (d : Declared) (code : List Instruction) (cells writes : List ℕ) (loops_ : ℕ) where
@@ -287,6 +311,7 @@ module _ (d : Declared) (code : List Instruction) (cells writes : List ℕ) (loo
     further single t ag h u room (stands_again {l = x} k slot mid a e) go =
         let r = go pc' f' Ready (left (Again x) k) room (turns_again k slot mid a e) h u s' ag in
         record { stands = r.stands; frame = r.frame; wait = r.wait; rest = r.rest; store = r.store; stops_in = passes_on single refl r.stops_in; turn = passes t refl r.turn; agrees = r.agrees; types = r.types; held = r.held; room = r.room; rests = r.rests }
+    further single t ag h u room (chooses k slot mid a e) go = stays_there (λ x. absurd cc) refl single t ag h u room (chooses k slot mid a e)
     further single t ag h u room (forks k slot e) go = stays_there (λ x. absurd cc) refl single t ag h u room (forks k slot e)
     further single t ag h u room (halts k) go = stays_there (λ x. absurd cc) refl single t ag h u room (halts k)
     further single t ag h u room (fails k) go = stays_there (λ x. absurd cc) refl single t ag h u room (fails k)
@@ -344,6 +369,13 @@ module _ (d : Declared) (code : List Instruction) (cells writes : List ℕ) (loo
   abbrev the_task : ℕ → ℕ → ℕ → Variables → Wait → Task
   the_task number turns pc f w = task d code cells writes loops_ number turns pc f w
 
+  held_both : (a b : ℕ → Bool) → Held code cells d a → Held code cells d b → Held code cells d (λ c. a c || b c)
+  held_both a b h k c m = by_first (a c) (b c) m (h c) (k c)
+    where
+      by_first : {X : Type 0} (x y : Bool) → IsTrue (x || y) → (IsTrue x → X) → (IsTrue y → X) → X
+      by_first true y m h k = h refl
+      by_first false y m h k = k m
+
   -- what begins a turn is alike for so many turns
   abbrev GoesOn : ℕ → Type 0
   GoesOn n =
@@ -353,12 +385,46 @@ module _ (d : Declared) (code : List Instruction) (cells writes : List ℕ) (loo
   fits_protocol : (o : Option Protocol) (p : Protocol) (m : Message) → o ≡ Some p → FitsProtocol o m → Fits p m
   fits_protocol o p m e h = subst (λ x. FitsProtocol x m) e h
 
+  -- each arm that is open goes on as the term does
+  same_arm : (n number turns pc : ℕ) (f : Variables) (k : List Context) (slot mid : ℕ) (pri : Bool) (all : List Arm) (a : Arm) (e : Enabled) → GoesOn n → length f.left ≡ loops_ → EnabledHave d (e ∷ []) → ContextsHave d k
+      → Held code cells d (uses_of_enabled e).reads → Held code cells d (uses_of_contexts k).reads → ArmLaid code loops_ slot pc a e mid → ToEnd d code loops_ cells f.left slot mid k
+      → SameArm d (Alike n d the_body) (the_task number turns pc f (Chooses pri all)) k a e
+  same_arm n number turns pc f k slot mid pri all a (SkipArm settings t) go room h hk u uk l e =
+      let w : Took a.place a.indices None ≡ Took (suc l.0) (indices_in settings) None = ap (λ p. Took p a.indices None) l.3 ∙ ap (λ is. Took (suc l.0) is None) l.5 in (
+        l.4,
+        l.5,
+        subst (λ x. Alike n d the_body (the_task number turns pc f x) (left (Taking settings (SkipTaken t)) k)) (sym w)
+            (go number turns pc f (Took (suc l.0) (indices_in settings) None) (left (Taking settings (SkipTaken t)) k) room (takes_arm k slot mid l.0 l.1 l.2 l.6 l.7 l.8 e) (h.0, hk) (held_both (uses_of_doing (Taking settings (SkipTaken t))).reads (uses_of_contexts k).reads u uk)),
+      )
+  same_arm n number turns pc f k slot mid pri all a (InputArm settings c list) go room h hk u uk l e = (
+    l.4,
+    l.5,
+    λ m fit. (
+        let w : Took a.place a.indices (Some m) ≡ Took (suc l.0) (indices_in settings) (Some m) = ap (λ p. Took p a.indices (Some m)) l.3 ∙ ap (λ is. Took (suc l.0) is (Some m)) l.5 in
+        subst (λ x. Alike n d the_body (the_task number turns pc f x) (left (Taking settings (MessageTaken list m)) k)) (sym w)
+        (go number turns pc f (Took (suc l.0) (indices_in settings) (Some m)) (left (Taking settings (MessageTaken list m)) k) room (takes_arm k slot mid l.0 l.1 l.2 l.6 l.7 l.8 e)
+        ((h.0.0, (h.0.1.0, h.0.1.2, fits_protocol (d.protocols c) h.0.1.0 m h.0.1.1 fit)), hk) (held_both (uses_of_doing (Taking settings (MessageTaken list m))).reads (uses_of_contexts k).reads u uk))),
+  )
+
+  same_arms : (n number turns pc : ℕ) (f : Variables) (k : List Context) (slot mid : ℕ) (pri : Bool) (all arms : List Arm) (es : List Enabled) → GoesOn n → length f.left ≡ loops_ → EnabledHave d es → ContextsHave d k
+      → Held code cells d (uses_of_all es).reads → Held code cells d (uses_of_contexts k).reads → ArmsLaid code loops_ slot pc arms es mid → ToEnd d code loops_ cells f.left slot mid k
+      → SameArms d (Alike n d the_body) (the_task number turns pc f (Chooses pri all)) k arms es
+  same_arms n number turns pc f k slot mid pri all [] [] go room h hk u uk l e = tt
+  same_arms n number turns pc f k slot mid pri all [] (x ∷ es) go room h hk u uk l e = absurd l
+  same_arms n number turns pc f k slot mid pri all (a ∷ arms) [] go room h hk u uk l e = absurd l
+  same_arms n number turns pc f k slot mid pri all (a ∷ arms) (x ∷ es) go room h hk u uk l e = (
+    same_arm n number turns pc f k slot mid pri all a x go room (h.0, tt) hk (held_left code cells d (uses_of_enabled x).reads (uses_of_all es).reads u) uk l.0 e,
+    same_arms n number turns pc f k slot mid pri all arms es go room h.1 hk (held_right code cells d (uses_of_enabled x).reads (uses_of_all es).reads u) uk l.1 e,
+  )
+
   same_stop : (n number turns pc : ℕ) (f : Variables) {w : Wait} {r : Left} → GoesOn n → length f.left ≡ loops_ → LeftHas d r → Held code cells d (uses_of_left r).reads → Rested d code loops_ cells f.left pc w r
       → SameStop d (Alike n d the_body) (the_task number turns pc f w) r w
   same_stop n number turns pc f go room h u (offers k slot e) = (k, refl, go number turns pc f Ready (left (Do Skip) k) room (does k slot pc stays e) (tt, h.1) u)
   same_stop n number turns pc f go room h u (awaits {c = c} {list = list} k slot mid l e) =
       (k, list, refl, λ m fit. go number turns pc f (Took 0 [] (Some m)) (left (Taking [] (MessageTaken list m)) k) room (takes k slot mid l e) ((tt, (h.0.0, h.0.2, fits_protocol (d.protocols c) h.0.0 m h.0.1 fit)), h.1) u)
   same_stop n number turns pc f go room h u (stands_again {l = l} k slot mid x e) = (k, l, refl, go number turns pc f Ready (left (Again l) k) room (turns_again k slot mid x e) h u)
+  same_stop n number turns pc f go room h u (chooses {pri = pri} {arms = arms} {es = es} k slot mid l e) =
+      (k, es, refl, same_arms n number turns pc f k slot mid pri arms arms es go room h.0 h.1 (held_left code cells d (uses_of_all es).reads (uses_of_contexts k).reads u) (held_right code cells d (uses_of_all es).reads (uses_of_contexts k).reads u) l e)
   same_stop n number turns pc f go room h u (forks {bs = bs} k slot e) = (
     k,
     bs,

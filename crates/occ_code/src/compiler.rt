@@ -1,6 +1,6 @@
-//! The compiler of programs without ALT.
+//! The compiler of programs.
 
-mod alts;
+mod arms;
 pub mod body;
 mod cells;
 pub mod code;

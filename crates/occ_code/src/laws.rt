@@ -3,7 +3,7 @@
 ghost use Rattle.occ_code.specs.Sequential.Alike.{BodiesDo};
 ghost use Rattle.occ_code.specs.Sequential.Compiled.{OneCode};
 ghost use Rattle.occ_code.specs.Sequential.Emitted.{BodiesAreSmall, CompiledDo, ProgramsAreSmall};
-ghost use Rattle.occ_code.specs.Sequential.Examples.{CountsAsCompiled, TwiceAsCompiled, TwiceTwoAsCompiled};
+ghost use Rattle.occ_code.specs.Sequential.Examples.{CountsAsCompiled, FirstOfTwoAsCompiled, TwiceAsCompiled, TwiceTwoAsCompiled};
 ghost use Rattle.occ_code.specs.Sequential.Laws.{CountersAreApart, ExpressionsRun, IndexesAreKept, ItemsRun, PlacesDo, TargetsRun};
 
 /// The code of an expression brings its value to the top of the stack, or comes to its fault.
@@ -31,7 +31,7 @@ pub fn bodies_do()
     ensures { BodiesDo }
 {}
 
-/// The body of a term without ALT does what the term does.
+/// The body of a term does what the term does.
 pub fn compiled_do()
     ensures { CompiledDo }
 {}
@@ -69,6 +69,11 @@ pub fn twice_as_compiled()
 /// So is one with a PAR in it.
 pub fn twice_two_as_compiled()
     ensures { TwiceTwoAsCompiled }
+{}
+
+/// So is an ALT with a declaration for each value of an index.
+pub fn first_of_two_as_compiled()
+    ensures { FirstOfTwoAsCompiled }
 {}
 
 /// What means the same on the same channels has one code for each quantum.

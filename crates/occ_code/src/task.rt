@@ -6,7 +6,7 @@ use sqlite_items::Items;
 /// An alternative of a choosing process.
 #[derive(Debug, Drop)]
 pub struct Arm {
-    /// Its place in the body.
+    /// What it is named by in the code of its ALT: how far it stands from the end of that code, never 0.
     pub place: u32,
     /// The channel that it inputs from; none for SKIP.
     pub chan: Option<u32>,
@@ -20,7 +20,8 @@ pub enum Wait {
     /// May take its next turn.
     Ready,
     /// Took an alternative or an input, and may take its next turn. `arm` is the place of the
-    /// alternative taken, with its `indices`; 0 and none for an input. SKIP has no message.
+    /// alternative taken, as its `Arm` has it, with its `indices`; 0 and none for an input. SKIP has no
+    /// message.
     Took {
         arm: u32,
         indices: Items<i64>,

@@ -4,6 +4,8 @@
 //! for each of the enum's variants. A value that is held is let go by one call at each place.
 #![tactic(auto)]
 
+pub mod parts;
+
 ghost use Rattle.std.specs.Prelude.{◌≡◌};
 
 /// A value that is let go by one call.

@@ -14,20 +14,25 @@ use Rattle.occ_code.specs.declared.task.Arm.{Arm}
 use Rattle.occ_code.specs.declared.task.Task.{Task}
 use Rattle.occ_code.specs.declared.task.Wait.{Wait}
 use Rattle.occ_code.specs.declared.task.Wait.TheVariants as W
-use Rattle.occ_net_replay.specs.Replay.{Net, HasTask, first_fault, may_go, made_ready, has_taken, byte_message, one_more, with_task, traced, took_turn, offers_on, task_gives, keyboard_gives, task_gets, screen_gets, error_gets, joined, meets, Settled, settles, stays}
-use Rattle.occ_net_replay.proofs.Tables.{set_same, set_other, set_back, task_once}
-use Rattle.occ_net_replay.specs.Moments.{is_read}
+use Rattle.occ_net_replay.specs.Replay.{Net, HasTask, first_fault, may_go, made_ready, byte_message, offers_among, one_more, standing, took_arm, with_task, traced, took_turn, offers_on, task_gives, keyboard_gives, screen_gets, error_gets, joined, meets, Settled, settles, stays}
+use Rattle.occ_net_replay.specs.Waiting.{channels_at, listens_on}
+use Rattle.occ_net_replay.proofs.Tables.{OffersOn, offers_found, offers_there, or_else, or_first, or_second, set_same, set_other, set_back, task_once}
+use Rattle.occ_net_replay.specs.Moments.{NoneReady, is_read}
 use Rattle.occ_net.specs.declared.trace.End.{End}
 use Rattle.occ_net.specs.declared.trace.End.TheVariants.{Process, Keyboard, Screen, Error}
 use Rattle.occ_net.specs.declared.trace.Communication.{Communication}
 use Rattle.occ_net.specs.declared.network.Network.{Network}
 use Rattle.occ_net.specs.Ready.{put_in}
 use Rattle.occ_net.specs.Tables.{flat, entry_in}
-use Rattle.occ_net.specs.Holding.{IsOrdinary, Sound, Sized, awaits_on, communication_of, end_of}
-use Rattle.occ_net.specs.Settling.{Mid, SettlesTo, Gave, TookByte, TookFrom, IsOffering, reader_of, byte_on, sent}
-use Rattle.occ_net.proofs.OneChange.{set_twice, set_swap, set_length, clean_again, true_as}
+use Rattle.occ_net.specs.Choosing.{TakesBy, offered_by}
+use Rattle.occ_net.specs.Holding.{Sound, Sized, communication_of, end_of}
+use Rattle.occ_net.specs.Settling.{Mid, SettlesTo, Gave, TakesAlone, TookByte, TookFrom, IsOffering, reader_of, byte_on, sent}
+use Rattle.occ_net_replay.proofs.Arms.{chosen_by_new}
+use Rattle.occ_net.proofs.Arms.{alone_is, gets_by, takes_as, taking}
+use Rattle.occ_net.proofs.Keys.{all_length}
+use Rattle.occ_net.proofs.OneChange.{either_way, set_twice, set_swap, set_length, clean_again, true_as}
 use Rattle.occ_net.proofs.Meetings.{mine, Unmet, nothing}
-use Rattle.occ_net.proofs.Steps.{awaits_is, wake_awaiter, wake_offerer, takes}
+use Rattle.occ_net.proofs.Steps.{IsListener, listener_is, listens_only, wake_listener, wake_offerer, takes}
 use Rattle.occ_net_replay.proofs.Quiet.{offers_is}
 
 -- ---- tables
@@ -83,7 +88,7 @@ drop_past [] (suc n) e = refl
 drop_past (x ∷ xs) zero e = absurd cc
 drop_past (x ∷ xs) (suc n) e = drop_past xs n e
 
-none_given : (c : ℕ) (keyboard : List ℕ) (used : ℕ) → byte_on c keyboard used ≡ None → has_byte (drop used keyboard) c ≡ false
+pub none_given : (c : ℕ) (keyboard : List ℕ) (used : ℕ) → byte_on c keyboard used ≡ None → has_byte (drop used keyboard) c ≡ false
 none_given c keyboard used e = by (nat_eq c 0) refl e
   where
     given : (kb : List ℕ) → nat_eq c 0 ≡ false → has_byte kb c ≡ false
@@ -137,18 +142,15 @@ module _ (p : Program) (kb : List ℕ) (old : Network) (number place : ℕ) (aft
       let apart : i ≡ number → ⊥ = (λ q. let same : u ≡ mid.before = task_once net.tasks number (subst (λ z. HasTask net.tasks z u) q h) mid.has_task in true≢false (sym mid.may ∙ ap (λ z. may_go z.wait) (sym same) ∙ f)) in
       ap (λ l. slice_get l i) mid.tasks ∙ set_other net.tasks number i (Some (made_ready after)) apart ∙ h
 
-  pub mid_unchosen : (i : ℕ) (u : Task) (pri : Bool) (arms : List Arm) → HasTask now.tasks i u → u.wait ≡ W.Chooses pri arms → ⊥
-  mid_unchosen i u pri arms h w = by (set_back net.tasks number i mid.has_task h)
-    where
-      by : ((i ≡ number) × (u ≡ after)) ⊎ ((i ≡ number → ⊥) × HasTask net.tasks i u) → ⊥
-      by (inl q) = subst IsOrdinary (ap (λ z. z.wait) (sym q.1) ∙ w) mid.ordinary
-      by (inr q) = subst IsOrdinary w (mid.sound.ordinary i u (waiting_net i u q.1 (ap may_go w)))
-
   -- the task as it is after the turn
   pub as_after : (v : Wait) → after.wait ≡ v → slice_set old.tasks.items number (Some (ready_with (made_ready after) v)) ≡ now.tasks
   as_after v e =
       ap (λ l. slice_set l number (Some (ready_with (made_ready after) v))) mid.tasks ∙ set_twice net.tasks number (Some (made_ready after)) (Some (ready_with after v))
       ∙ ap (λ z. slice_set net.tasks number (Some (ready_with after z))) (sym e)
+
+  -- the task when it has taken an arm
+  pub as_took : (a : Arm) (m : Option Message) → slice_set now.tasks number (Some (took_arm after a m)) ≡ slice_set old.tasks.items number (Some (took_arm (made_ready after) a m))
+  as_took a m = set_twice net.tasks number (Some after) (Some (took_arm after a m)) ∙ sym (set_twice net.tasks number (Some (made_ready after)) (Some (took_arm after a m))) ∙ ap (λ l. slice_set l number (Some (took_arm after a m))) (sym mid.tasks)
 
   -- the task as it was left
   pub as_ready : slice_set now.tasks number (Some (made_ready after)) ≡ old.tasks.items
@@ -183,38 +185,86 @@ module _ (p : Program) (kb : List ℕ) (old : Network) (number place : ℕ) (aft
         };
       }
 
-  -- ---- a process that awaits it takes what is offered
+  -- ---- a process that waits for it takes what is offered
 
-  pub record Taker (c taker : ℕ) : Type 0 where
+  -- an offer of this process is new, and no other one
+  stands_new : (c : ℕ) (m : Message) → after.wait ≡ W.Offers c m → (d : ℕ) → standing net d ≡ false → standing now d ≡ offered_by (Some c) [] d
+  stands_new c m w d f = by (either_way (nat_eq d c)) ∙ sym (alone_is c d)
+    where
+      at_number : HasTask now.tasks number after
+      at_number = mine p.bodies 0 number net mid.before after mid.has_task
+
+      byte : has_byte net.keyboard d ≡ false
+      byte = unless (has_byte net.keyboard d) (λ q. or_first (has_byte net.keyboard d) (offers_among net.tasks d) q)
+        where
+          unless : (b : Bool) → (IsTrue b → IsTrue (standing net d)) → b ≡ false
+          unless true g = absurd (true≢false (sym (g refl) ∙ f))
+          unless false g = refl
+
+      none : nat_eq d c ≡ false → IsTrue (offers_among now.tasks d) → ⊥
+      none q h = at (set_back net.tasks number o.number mid.has_task o.there)
+        where
+          o : OffersOn now.tasks d
+          o = offers_found now.tasks d h
+
+          at : ((o.number ≡ number) × (o.task ≡ after)) ⊎ ((o.number ≡ number → ⊥) × HasTask net.tasks o.number o.task) → ⊥
+          at (inl x) =
+              let is = offers_is after.wait d (subst (λ z. IsTrue (offers_on z.wait d)) x.1 o.offers) in
+              let same : d ≡ c = (let r = sym is.1 ∙ w in cc) in
+              true≢false (sym (eq-eqb d c same) ∙ q)
+          at (inr x) = true≢false (sym (or_second (has_byte net.keyboard d) (offers_among net.tasks d) (offers_there net.tasks d o.number o.task x.1 o.offers)) ∙ f)
+
+      by : (nat_eq d c ≡ true) ⊎ (nat_eq d c ≡ false) → standing now d ≡ nat_eq d c
+      by (inl q) =
+          let on : IsTrue (offers_on after.wait d) = ap (λ z. offers_on z d) w ∙ eq-eqb c d (sym (eqb-true d c q)) in
+          or_second (has_byte net.keyboard d) (offers_among now.tasks d) (offers_there now.tasks d number after at_number on) ∙ sym q
+      by (inr q) = unless (has_byte net.keyboard d || offers_among now.tasks d) (λ h. which (or_else (has_byte net.keyboard d) (offers_among now.tasks d) h)) ∙ sym q
+        where
+          which : IsTrue (has_byte net.keyboard d) ⊎ IsTrue (offers_among now.tasks d) → ⊥
+          which (inl h) = true≢false (sym h ∙ byte)
+          which (inr h) = none q h
+
+          unless : (b : Bool) → (IsTrue b → ⊥) → b ≡ false
+          unless true g = absurd (g refl)
+          unless false g = refl
+
+  pub record Taker (c pick taker : ℕ) : Type 0 where
     pub task : Task
     pub there : HasTask old.tasks.items taker task
-    pub waits : task.wait ≡ W.Awaits c
+    pub listener : IsListener task.wait
     pub apart : taker ≡ number → ⊥
+    pub arm : Arm
+    pub takes : TakesAlone pick c task.wait arm
+    pub unready : (pri : Bool) (arms : List Arm) → task.wait ≡ W.Chooses pri arms → NoneReady (λ a. a.chan) (standing net) arms
 
-  pub taker_of : (c taker : ℕ) → entry_in old.awaiting.items c ≡ Some taker → Taker c taker
-  taker_of c taker e =
+  pub taker_of : (c pick taker : ℕ) → entry_in old.awaiting.items c ≡ Some taker → Taker c pick taker
+  taker_of c pick taker e =
       let x = mid.sound.awaits.sound c taker (entry_there old.awaiting.items c taker e) in
-      let w = awaits_is x.task.wait c x.is in
-      record { task = x.task; there = x.there; waits = w; apart = (waiting_old taker x.task x.there (ap may_go w)).0 }
+      let l = listener_is x.task.wait c x.is in
+      let w = waiting_old taker x.task x.there (listens_only x.task.wait l).still in
+      let unready : (pri : Bool) (arms : List Arm) → x.task.wait ≡ W.Chooses pri arms → NoneReady (λ (a : Arm). a.chan) (standing net) arms = (λ pri arms q. mid.unready taker x.task pri arms w.1 q) in
+      let t = taking pick c x.task.wait (standing net) unready x.is in
+      record { task = x.task; there = x.there; listener = l; apart = w.0; arm = t.arm; takes = t.takes; unready = unready }
 
-  pub was_given : (new : Network) (pick c taker : ℕ) (m : Message) → after.wait ≡ W.Offers c m → entry_in old.awaiting.items c ≡ Some taker → Gave old number taker c m new → SettlesTo p kb pick number after net new
-  was_given new pick c taker m w e g =
-      let x = taker_of c taker e in
-      let tasks = g.tasks x.task x.there in
+  pub was_given : (new : Network) (pick c taker : ℕ) (m : Message) → after.wait ≡ W.Offers c m → (x : Taker c pick taker) → Gave old number taker c x.task x.arm m new → SettlesTo p kb pick number after net new
+  was_given new pick c taker m w x g =
+      let a = x.arm in
+      let took : TakesBy pick (standing now) c x.task.wait a = takes_as pick c (offered_by (Some c) []) (standing now) x.task.wait a (λ pri arms q. sym (chosen_by_new (standing net) (standing now) (offered_by (Some c) []) (stands_new c m w) pri pick arms (x.unready pri arms q))) x.takes in
       let there : HasTask (slice_set now.tasks number (Some (made_ready after))) taker x.task = ap (λ l. slice_get l taker) as_ready ∙ x.there in
-      let s = wake_awaiter old.tasks.items old.ready.items old.offering.items old.awaiting.items old.parents.items old.unfinished.items old.fault mid.sound clean_old taker x.task x.there c m x.waits in
+      let s = wake_listener old.tasks.items old.ready.items old.offering.items old.awaiting.items old.parents.items old.unfinished.items old.fault mid.sound clean_old taker x.task x.there x.task.wait a.place a.indices (Some m) x.listener refl in
+      let given : Net = record (with_task now number (made_ready after)) { output = one_more net.output c m } in
       record {
-        next = traced (record (with_task (record (with_task now number (made_ready after)) { output = one_more net.output c m }) taker (has_taken x.task m)) { input = one_more net.input c m }) (S.communication c (S.OfProcess number) (S.OfProcess taker) m);
-        settles = settles (meets (inl refl) (joined (task_gives (mine p.bodies pick number net mid.before after mid.has_task) w) (task_gets there x.waits)));
+        next = traced (record (with_task given taker (took_arm x.task a (Some m))) { input = one_more net.input c m }) (S.communication c (S.OfProcess number) (S.OfProcess taker) m);
+        settles = settles (meets (inl refl) (joined (task_gives (mine p.bodies pick number net mid.before after mid.has_task) w) (gets_by pick c (standing now) m given taker x.task x.task.wait a there refl took)));
         holds = record {
-          tasks = ap (λ l. slice_set l taker (Some (has_taken x.task m))) as_ready ∙ sym tasks;
+          tasks = ap (λ l. slice_set l taker (Some (took_arm x.task a (Some m)))) as_ready ∙ sym g.tasks;
           bytes = bytes_same new g.used;
           trace = traced_by new (sent c (Process number) (Process taker) m) g.trace;
-          sound = true_as tasks g.ready (ap (λ z. z.items) g.offering) g.awaiting (ap (λ z. z.items) g.parents) (ap (λ z. z.items) g.unfinished) g.fault s;
+          sound = true_as g.tasks g.ready (ap (λ z. z.items) g.offering) g.awaiting (ap (λ z. z.items) g.parents) (ap (λ z. z.items) g.unfinished) g.fault s;
           sized = record {
-            tasks_are = ap length tasks ∙ set_length old.tasks.items taker (Some (has_taken x.task m)) ∙ mid.sized.tasks_are;
+            tasks_are = ap length g.tasks ∙ set_length old.tasks.items taker (Some (took_arm x.task a (Some m))) ∙ mid.sized.tasks_are;
             offering_is = ap (λ z. length z.items) g.offering ∙ mid.sized.offering_is;
-            awaiting_is = ap length g.awaiting ∙ set_length old.awaiting.items c None ∙ mid.sized.awaiting_is;
+            awaiting_is = ap length g.awaiting ∙ all_length (channels_at x.task.wait) None old.awaiting.items ∙ mid.sized.awaiting_is;
             parents_are = ap (λ z. length z.items) g.parents ∙ mid.sized.parents_are;
             unfinished_are = ap (λ z. length z.items) g.unfinished ∙ mid.sized.unfinished_are;
           };
@@ -223,14 +273,14 @@ module _ (p : Program) (kb : List ℕ) (old : Network) (number place : ℕ) (aft
 
   -- ---- the process waits
 
-  abbrev pub Nobody : Type 0
-  Nobody = Unmet p.bodies 0 number net mid.before after mid.has_task
+  abbrev pub Nobody : ℕ → Type 0
+  Nobody pick = Unmet p.bodies pick number net mid.before after mid.has_task
 
-  pub stays_as : (new : Network) (pick : ℕ) (v : Wait) → after.wait ≡ v → Nobody → new.tasks.items ≡ slice_set old.tasks.items number (Some (ready_with (made_ready after) v)) → new.used ≡ old.used → new.trace.items ≡ old.trace.items → Sound new → Sized p new → SettlesTo p kb pick number after net new
+  pub stays_as : (new : Network) (pick : ℕ) (v : Wait) → after.wait ≡ v → Nobody pick → new.tasks.items ≡ slice_set old.tasks.items number (Some (ready_with (made_ready after) v)) → new.used ≡ old.used → new.trace.items ≡ old.trace.items → Sound new → Sized p new → SettlesTo p kb pick number after net new
   stays_as new pick v w none tasks used trace sound sized =
       record {
         next = now;
-        settles = stays (λ b h. nothing p.bodies pick number net mid.before after mid.has_task (record { offers = none.offers; awaits = none.awaits; unforked = none.unforked; unjoined = none.unjoined; unchosen = none.unchosen }) h);
+        settles = stays (λ b h. nothing p.bodies pick number net mid.before after mid.has_task none h);
         holds = record {
           tasks = sym (tasks ∙ as_after v w);
           bytes = bytes_same new used;
@@ -243,40 +293,38 @@ module _ (p : Program) (kb : List ℕ) (old : Network) (number place : ℕ) (aft
   pub offer_waits : (new : Network) (pick c : ℕ) (m : Message) → after.wait ≡ W.Offers c m → reader_of c ≡ None → entry_in old.awaiting.items c ≡ None → new.tasks.items ≡ slice_set old.tasks.items number (Some (ready_with (made_ready after) (W.Offers c m))) → new.used ≡ old.used → new.trace.items ≡ old.trace.items → Sound new → Sized p new → SettlesTo p kb pick number after net new
   offer_waits new pick c m w unread empty tasks used trace sound sized = stays_as new pick (W.Offers c m) w none tasks used trace sound sized
     where
-      none : Nobody
+      none : Nobody pick
       none =
           record {
             offers = λ d x e.
                 let same : d ≡ c = (let q = sym e ∙ w in cc) in
-                (ap is_read same ∙ none_read c unread, λ i u h v. no_entry old.awaiting.items c i empty (mid.sound.awaits.whole c i u (waiting_net i u h (ap may_go v)) (ap (λ z. awaits_on z c) v ∙ same_key d c same)));
+                (ap is_read same ∙ none_read c unread, λ i u h v. let v' : IsTrue (listens_on u.wait c) = ap (listens_on u.wait) (sym same) ∙ v in no_entry old.awaiting.items c i empty (mid.sound.awaits.whole c i u (waiting_net i u h (listens_only u.wait (listener_is u.wait c v')).still) v'));
             awaits = λ d e. let q = sym w ∙ e in absurd cc;
             unforked = λ ns e. let q = sym w ∙ e in cc;
             unjoined = λ e. let q = sym w ∙ e in absurd cc;
-            unchosen = mid_unchosen;
+            unchosen = λ pri arms a e f. let q = sym w ∙ e in cc;
           }
-        where
-          same_key : (d c : ℕ) → d ≡ c → IsTrue (nat_eq d c)
-          same_key d c q = eq-eqb d c q
 
   -- ---- the keyboard gives a byte
 
-  pub was_byte : (new : Network) (pick c b : ℕ) → after.wait ≡ W.Awaits c → byte_on c kb old.used ≡ Some b → TookByte old number b new → SettlesTo p kb pick number after net new
-  was_byte new pick c b w e g =
+  pub was_byte : (new : Network) (pick c b : ℕ) (a : Arm) → TakesBy pick (standing now) c after.wait a → byte_on c kb old.used ≡ Some b → TookByte old number a b new → SettlesTo p kb pick number after net new
+  was_byte new pick c b a t e g =
       let x = byte_given c kb old.used b e in
       let rest = drop (old.used + 1) kb in
       let tasks = g.tasks (made_ready after) there_old in
       let m = byte_message b in
-      let s = takes old.tasks.items old.ready.items old.offering.items old.awaiting.items old.parents.items old.unfinished.items old.fault mid.sound clean_old number (made_ready after) there_old refl m in
+      let s = takes old.tasks.items old.ready.items old.offering.items old.awaiting.items old.parents.items old.unfinished.items old.fault mid.sound clean_old number (made_ready after) there_old refl a.place a.indices (Some m) in
+      let given : Net = record now { keyboard = rest; output = one_more net.output 0 m } in
       record {
-        next = traced (record (with_task (record now { keyboard = rest; output = one_more net.output 0 m }) number (has_taken after m)) { input = one_more net.input 0 m }) (S.communication 0 S.Keyboard (S.OfProcess number) m);
-        settles = settles (meets (inr refl) (joined (keyboard_gives (mid.bytes ∙ x.1) refl refl) (task_gets (mine p.bodies pick number net mid.before after mid.has_task) (w ∙ ap W.Awaits x.0))));
+        next = traced (record (with_task given number (took_arm after a (Some m))) { input = one_more net.input 0 m }) (S.communication 0 S.Keyboard (S.OfProcess number) m);
+        settles = settles (meets (inr refl) (joined (keyboard_gives (mid.bytes ∙ x.1) refl refl) (gets_by pick 0 (standing now) m given number after after.wait a (mine p.bodies pick number net mid.before after mid.has_task) refl (subst (λ z. TakesBy pick (standing now) z after.wait a) x.0 t))));
         holds = record {
-          tasks = set_twice net.tasks number (Some after) (Some (has_taken after m)) ∙ sym (set_twice net.tasks number (Some (made_ready after)) (Some (has_taken after m))) ∙ ap (λ l. slice_set l number (Some (has_taken after m))) (sym mid.tasks) ∙ sym tasks;
+          tasks = as_took a (Some m) ∙ sym tasks;
           bytes = ap (λ n. drop n kb) (sym g.used);
           trace = traced_by new (sent 0 Keyboard (Process number) m) g.trace;
           sound = true_as tasks (ap (λ z. z.items) g.ready) (ap (λ z. z.items) g.offering) (ap (λ z. z.items) g.awaiting) (ap (λ z. z.items) g.parents) (ap (λ z. z.items) g.unfinished) g.fault s;
           sized = record {
-            tasks_are = ap length tasks ∙ set_length old.tasks.items number (Some (has_taken (made_ready after) m)) ∙ mid.sized.tasks_are;
+            tasks_are = ap length tasks ∙ set_length old.tasks.items number (Some (took_arm (made_ready after) a (Some m))) ∙ mid.sized.tasks_are;
             offering_is = ap (λ z. length z.items) g.offering ∙ mid.sized.offering_is;
             awaiting_is = ap (λ z. length z.items) g.awaiting ∙ mid.sized.awaiting_is;
             parents_are = ap (λ z. length z.items) g.parents ∙ mid.sized.parents_are;
@@ -297,8 +345,8 @@ module _ (p : Program) (kb : List ℕ) (old : Network) (number place : ℕ) (aft
       let w = offers_is x.task.wait c x.is in
       record { offering = record { task = x.task; there = x.there; message = w.0; waits = w.1 }; apart = (waiting_old giver x.task x.there (ap may_go w.1)).0 }
 
-  pub was_taken : (new : Network) (pick c giver : ℕ) → after.wait ≡ W.Awaits c → entry_in old.offering.items c ≡ Some giver → ((t : Task) (m : Message) → HasTask old.tasks.items giver t → t.wait ≡ W.Offers c m → TookFrom old number giver c t m new) → SettlesTo p kb pick number after net new
-  was_taken new pick c giver w e took =
+  pub was_taken : (new : Network) (pick c giver : ℕ) (a : Arm) → TakesBy pick (standing now) c after.wait a → entry_in old.offering.items c ≡ Some giver → ((t : Task) (m : Message) → HasTask old.tasks.items giver t → t.wait ≡ W.Offers c m → TookFrom old number giver c a t m new) → SettlesTo p kb pick number after net new
+  was_taken new pick c giver a by e took =
       let x = giver_of c giver e in
       let o = x.offering in
       let m = o.message in
@@ -307,22 +355,23 @@ module _ (p : Program) (kb : List ℕ) (old : Network) (number place : ℕ) (aft
       let s = wake_offerer old.tasks.items old.ready.items old.offering.items old.awaiting.items old.parents.items old.unfinished.items old.fault mid.sound clean_old giver o.task o.there c m o.waits in
       let still : HasTask (slice_set old.tasks.items giver (Some (made_ready o.task))) number (made_ready after) = set_other old.tasks.items giver number (Some (made_ready o.task)) (λ q. x.apart (sym q)) ∙ there_old in
       let clean = clean_again old.tasks.items giver o.task (made_ready o.task) o.there (W.Offers c m) W.Ready o.waits refl refl clean_old in
-      let s' = takes (slice_set old.tasks.items giver (Some (made_ready o.task))) (put_in giver old.ready.items) (slice_set old.offering.items c None) old.awaiting.items old.parents.items old.unfinished.items old.fault s clean number (made_ready after) still refl m in
+      let s' = takes (slice_set old.tasks.items giver (Some (made_ready o.task))) (put_in giver old.ready.items) (slice_set old.offering.items c None) old.awaiting.items old.parents.items old.unfinished.items old.fault s clean number (made_ready after) still refl a.place a.indices (Some m) in
       let given : HasTask now.tasks giver o.task = set_other net.tasks number giver (Some after) x.apart ∙ (waiting_old giver o.task o.there (ap may_go o.waits)).1 in
       let got : HasTask (slice_set now.tasks giver (Some (made_ready o.task))) number after = set_other now.tasks giver number (Some (made_ready o.task)) (λ q. x.apart (sym q)) ∙ mine p.bodies pick number net mid.before after mid.has_task in
+      let after_giving : Net = record (with_task now giver (made_ready o.task)) { output = one_more net.output c m } in
       record {
-        next = traced (record (with_task (record (with_task now giver (made_ready o.task)) { output = one_more net.output c m }) number (has_taken after m)) { input = one_more net.input c m }) (S.communication c (S.OfProcess giver) (S.OfProcess number) m);
-        settles = settles (meets (inr refl) (joined (task_gives given o.waits) (task_gets got w)));
+        next = traced (record (with_task after_giving number (took_arm after a (Some m))) { input = one_more net.input c m }) (S.communication c (S.OfProcess giver) (S.OfProcess number) m);
+        settles = settles (meets (inr refl) (joined (task_gives given o.waits) (gets_by pick c (standing now) m after_giving number after after.wait a got refl by)));
         holds = record {
           tasks =
-              set_swap (slice_set net.tasks number (Some after)) giver number (Some (made_ready o.task)) (Some (has_taken after m)) x.apart
-              ∙ ap (λ l. slice_set l giver (Some (made_ready o.task))) (set_twice net.tasks number (Some after) (Some (has_taken after m)) ∙ sym (set_twice net.tasks number (Some (made_ready after)) (Some (has_taken after m))) ∙ ap (λ l. slice_set l number (Some (has_taken after m))) (sym mid.tasks))
-              ∙ set_swap old.tasks.items number giver (Some (has_taken after m)) (Some (made_ready o.task)) (λ q. x.apart (sym q)) ∙ sym tasks;
+              set_swap (slice_set net.tasks number (Some after)) giver number (Some (made_ready o.task)) (Some (took_arm after a (Some m))) x.apart
+              ∙ ap (λ l. slice_set l giver (Some (made_ready o.task))) (as_took a (Some m))
+              ∙ set_swap old.tasks.items number giver (Some (took_arm after a (Some m))) (Some (made_ready o.task)) (λ q. x.apart (sym q)) ∙ sym tasks;
           bytes = bytes_same new g.used;
           trace = traced_by new (sent c (Process giver) (Process number) m) g.trace;
           sound = true_as tasks g.ready g.offering (ap (λ z. z.items) g.awaiting) (ap (λ z. z.items) g.parents) (ap (λ z. z.items) g.unfinished) g.fault s';
           sized = record {
-            tasks_are = ap length tasks ∙ set_length (slice_set old.tasks.items giver (Some (made_ready o.task))) number (Some (has_taken (made_ready after) m)) ∙ set_length old.tasks.items giver (Some (made_ready o.task)) ∙ mid.sized.tasks_are;
+            tasks_are = ap length tasks ∙ set_length (slice_set old.tasks.items giver (Some (made_ready o.task))) number (Some (took_arm (made_ready after) a (Some m))) ∙ set_length old.tasks.items giver (Some (made_ready o.task)) ∙ mid.sized.tasks_are;
             offering_is = ap length g.offering ∙ set_length old.offering.items c None ∙ mid.sized.offering_is;
             awaiting_is = ap (λ z. length z.items) g.awaiting ∙ mid.sized.awaiting_is;
             parents_are = ap (λ z. length z.items) g.parents ∙ mid.sized.parents_are;
@@ -336,7 +385,7 @@ module _ (p : Program) (kb : List ℕ) (old : Network) (number place : ℕ) (aft
   pub await_waits : (new : Network) (pick c : ℕ) → after.wait ≡ W.Awaits c → byte_on c kb old.used ≡ None → entry_in old.offering.items c ≡ None → new.tasks.items ≡ slice_set old.tasks.items number (Some (ready_with (made_ready after) (W.Awaits c))) → new.used ≡ old.used → new.trace.items ≡ old.trace.items → Sound new → Sized p new → SettlesTo p kb pick number after net new
   await_waits new pick c w no_byte empty tasks used trace sound sized = stays_as new pick (W.Awaits c) w none tasks used trace sound sized
     where
-      none : Nobody
+      none : Nobody pick
       none =
           record {
             offers = λ d x e. let q = sym w ∙ e in absurd cc;
@@ -345,16 +394,16 @@ module _ (p : Program) (kb : List ℕ) (old : Network) (number place : ℕ) (aft
                 (ap (has_byte net.keyboard) same ∙ ap (λ l. has_byte l c) mid.bytes ∙ none_given c kb old.used no_byte, λ i u x h v. no_entry old.offering.items c i empty (mid.sound.offers.whole c i u (waiting_net i u h (ap may_go v)) (ap (λ z. offers_on z c) v ∙ eq-eqb d c same)));
             unforked = λ ns e. let q = sym w ∙ e in cc;
             unjoined = λ e. let q = sym w ∙ e in absurd cc;
-            unchosen = mid_unchosen;
+            unchosen = λ pri arms a e f. let q = sym w ∙ e in cc;
           }
 
   -- ---- the process halted, or failed
 
   pub halts : (new : Network) (pick : ℕ) → after.wait ≡ W.Halted → new.tasks.items ≡ slice_set old.tasks.items number (Some (ready_with (made_ready after) W.Halted)) → new.used ≡ old.used → new.trace.items ≡ old.trace.items → Sound new → Sized p new → SettlesTo p kb pick number after net new
-  halts new pick w tasks used trace sound sized = stays_as new pick W.Halted w (record { offers = λ d x e. let q = sym w ∙ e in absurd cc; awaits = λ d e. let q = sym w ∙ e in absurd cc; unforked = λ ns e. let q = sym w ∙ e in cc; unjoined = λ e. let q = sym w ∙ e in absurd cc; unchosen = mid_unchosen }) tasks used trace sound sized
+  halts new pick w tasks used trace sound sized = stays_as new pick W.Halted w (record { offers = λ d x e. let q = sym w ∙ e in absurd cc; awaits = λ d e. let q = sym w ∙ e in absurd cc; unforked = λ ns e. let q = sym w ∙ e in cc; unjoined = λ e. let q = sym w ∙ e in absurd cc; unchosen = λ pri arms a e f. let q = sym w ∙ e in cc }) tasks used trace sound sized
 
   pub fails : (new : Network) (pick : ℕ) (x : Fault) → after.wait ≡ W.Faulted x → new.tasks.items ≡ slice_set old.tasks.items number (Some (ready_with (made_ready after) (W.Faulted x))) → new.used ≡ old.used → new.trace.items ≡ old.trace.items → Sound new → Sized p new → SettlesTo p kb pick number after net new
-  fails new pick x w tasks used trace sound sized = stays_as new pick (W.Faulted x) w (record { offers = λ d y e. let q = sym w ∙ e in absurd cc; awaits = λ d e. let q = sym w ∙ e in absurd cc; unforked = λ ns e. let q = sym w ∙ e in cc; unjoined = λ e. let q = sym w ∙ e in absurd cc; unchosen = mid_unchosen }) tasks used trace sound sized
+  fails new pick x w tasks used trace sound sized = stays_as new pick (W.Faulted x) w (record { offers = λ d y e. let q = sym w ∙ e in absurd cc; awaits = λ d e. let q = sym w ∙ e in absurd cc; unforked = λ ns e. let q = sym w ∙ e in cc; unjoined = λ e. let q = sym w ∙ e in absurd cc; unchosen = λ pri arms a e f. let q = sym w ∙ e in cc }) tasks used trace sound sized
 
   pub goes_on : (new : Network) (pick : ℕ) → after.wait ≡ W.Ready → new.tasks.items ≡ old.tasks.items → new.used ≡ old.used → new.trace.items ≡ old.trace.items → Sound new → Sized p new → SettlesTo p kb pick number after net new
-  goes_on new pick w tasks used trace sound sized = stays_as new pick W.Ready w (record { offers = λ d x e. let q = sym w ∙ e in absurd cc; awaits = λ d e. let q = sym w ∙ e in absurd cc; unforked = λ ns e. let q = sym w ∙ e in cc; unjoined = λ e. let q = sym w ∙ e in absurd cc; unchosen = mid_unchosen }) (tasks ∙ mid.tasks ∙ sym (set_twice net.tasks number (Some (made_ready after)) (Some (made_ready after))) ∙ ap (λ l. slice_set l number (Some (made_ready after))) (sym mid.tasks)) used trace sound sized
+  goes_on new pick w tasks used trace sound sized = stays_as new pick W.Ready w (record { offers = λ d x e. let q = sym w ∙ e in absurd cc; awaits = λ d e. let q = sym w ∙ e in absurd cc; unforked = λ ns e. let q = sym w ∙ e in cc; unjoined = λ e. let q = sym w ∙ e in absurd cc; unchosen = λ pri arms a e f. let q = sym w ∙ e in cc }) (tasks ∙ mid.tasks ∙ sym (set_twice net.tasks number (Some (made_ready after)) (Some (made_ready after))) ∙ ap (λ l. slice_set l number (Some (made_ready after))) (sym mid.tasks)) used trace sound sized

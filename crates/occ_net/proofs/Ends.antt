@@ -17,7 +17,7 @@ use Rattle.occ_net.specs.declared.network.Network.{Network}
 use Rattle.occ_net.specs.Holding.{AreTrue, AreCounted, IsOrdinary, Sized, communication_of, is_over, joins_on, undone}
 use Rattle.occ_net.specs.Settling.{Mid, SettlesTo, Joining, JoinsBranches}
 use Rattle.occ_net.specs.Tables.{entry_in}
-use Rattle.occ_net.proofs.Between.{Nobody, as_after, clean_old, entry_there, mid_unchosen, no_entry, now, stays_as, there_old, waiting_net, waiting_old}
+use Rattle.occ_net.proofs.Between.{Nobody, as_after, clean_old, entry_there, no_entry, now, stays_as, there_old, waiting_net, waiting_old}
 use Rattle.occ_net.proofs.Keys.{all_length}
 use Rattle.occ_net.proofs.OneChange.{clean_again, either_way, set_length, set_within, true_as}
 use Rattle.occ_net.proofs.ReadyLists.{ready_rising}
@@ -132,14 +132,14 @@ module _ (p : Program) (kb : List ℕ) (old : Network) (number place : ℕ) (aft
   clean_then : first_fault then_done ≡ None
   clean_then = clean_again old.tasks.items number (made_ready after) ended_task here W.Ready W.Done refl refl refl (clean_old p kb old number place after net mid)
 
-  nobody : ((m : ℕ) (u : Task) (ns : List ℕ) → HasTask net.tasks m u → u.wait ≡ W.Joins ns → IsTrue (is_held ns number) → AreDone then_done ns → ⊥) → Nobody p kb old number place after net mid
-  nobody g =
+  nobody : ((m : ℕ) (u : Task) (ns : List ℕ) → HasTask net.tasks m u → u.wait ≡ W.Joins ns → IsTrue (is_held ns number) → AreDone then_done ns → ⊥) → (pick : ℕ) → Nobody p kb old number place after net mid pick
+  nobody g pick =
       record {
         offers = λ d x e. let q = sym w ∙ e in absurd cc;
         awaits = λ d e. let q = sym w ∙ e in absurd cc;
         unforked = λ ns e. let q = sym w ∙ e in cc;
         unjoined = λ e m u ns h v a done. g m u ns h v a (subst (λ l. AreDone l ns) (sym (as_after p kb old number place after net mid W.Done w)) done);
-        unchosen = mid_unchosen p kb old number place after net mid;
+        unchosen = λ pri arms a e f. let q = sym w ∙ e in cc;
       }
 
   -- ---- nobody waited
@@ -147,14 +147,14 @@ module _ (p : Program) (kb : List ℕ) (old : Network) (number place : ℕ) (aft
   pub ends_alone : (new : Network) (pick : ℕ) → entry_in old.parents.items number ≡ None → new.tasks.items ≡ then_done → new.used ≡ old.used → new.trace.items ≡ old.trace.items → new.ready.items ≡ remove old.ready.items place → new.offering.items ≡ old.offering.items → new.awaiting.items ≡ old.awaiting.items → new.parents.items ≡ old.parents.items → new.unfinished.items ≡ old.unfinished.items → new.fault ≡ old.fault → Sized p new → SettlesTo p kb pick number after net new
   ends_alone new pick none tasks used trace e1 e2 e3 e4 e5 e6 sized =
       stays_as p kb old number place after net mid new pick W.Done w
-      (nobody (λ m u ns h v a done. no_entry old.parents.items number m none (stands_there m u ns (waiting_net p kb old number place after net mid m u h (ap may_go v)) v a))) tasks used trace
+      (nobody (λ m u ns h v a done. no_entry old.parents.items number m none (stands_there m u ns (waiting_net p kb old number place after net mid m u h (ap may_go v)) v a)) pick) tasks used trace
       (true_as tasks e1 e2 e3 e4 e5 e6 (true_then old.unfinished.items (counted_alone none))) sized
 
   -- ---- another process waits for others as well
 
   pub ends_before : (new : Network) (pick m : ℕ) (some : entry_in old.parents.items number ≡ Some m) (x : Parent m) → (undone then_done x.branches ≡ 0 → ⊥) → new.tasks.items ≡ then_done → new.used ≡ old.used → new.trace.items ≡ old.trace.items → new.ready.items ≡ remove old.ready.items place → new.offering.items ≡ old.offering.items → new.awaiting.items ≡ old.awaiting.items → new.parents.items ≡ old.parents.items → new.unfinished.items ≡ slice_set old.unfinished.items m (undone then_done x.branches) → new.fault ≡ old.fault → Sized p new → SettlesTo p kb pick number after net new
   ends_before new pick m some x more tasks used trace e1 e2 e3 e4 e5 e6 sized =
-      stays_as p kb old number place after net mid new pick W.Done w (nobody others) tasks used trace
+      stays_as p kb old number place after net mid new pick W.Done w (nobody others pick) tasks used trace
       (true_as tasks e1 e2 e3 e4 e5 e6 (true_then (slice_set old.unfinished.items m (undone then_done x.branches)) (counted_less m some x))) sized
     where
       others : (j : ℕ) (u : Task) (ns : List ℕ) → HasTask net.tasks j u → u.wait ≡ W.Joins ns → IsTrue (is_held ns number) → AreDone then_done ns → ⊥

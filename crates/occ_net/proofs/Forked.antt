@@ -10,11 +10,12 @@ use Rattle.occ_code.specs.declared.task.Task.{Task}
 use Rattle.occ_code.specs.declared.task.Wait.{Wait}
 use Rattle.occ_code.specs.declared.task.Wait.TheVariants as W
 use Rattle.occ_net_replay.specs.Replay.{Net, Tasks, HasTask, ended, fault_of, first_fault, forks, goes, is_done, made_ready, may_go, offers_on, ready_from, settles, took_turn, with_branches}
+use Rattle.occ_net_replay.specs.Waiting.{listens_on}
 use Rattle.occ_net_replay.specs.Waiting.{ForksAlone}
 use Rattle.occ_net_replay.proofs.Faults.{no_fault, none_faulted}
 use Rattle.occ_net_replay.proofs.Tables.{set_other, same_or_not, task_once}
 use Rattle.occ_net.specs.declared.network.Network.{Network}
-use Rattle.occ_net.specs.Holding.{AreCounted, IsOrdinary, IsTable, Stands, awaits_on, communication_of, is_over, joins_on, undone}
+use Rattle.occ_net.specs.Holding.{AreCounted, IsOrdinary, IsTable, Stands, communication_of, is_over, joins_on, undone}
 use Rattle.occ_net.specs.Settling.{AllBegan, MayBegin, Mid, SettlesTo}
 use Rattle.occ_net.specs.Tables.{set_all}
 use Rattle.occ_net.proofs.Between.{there_old, waiting_old}
@@ -271,7 +272,7 @@ module _ (p : Program) (kb : List ℕ) (old : Network) (number place : ℕ) (aft
               (record {
                 ready_is = refl;
                 offers = table_forked offers_on (λ c. refl) (λ c. refl) (λ c. refl) old.offering.items mid.sound.offers;
-                awaits = table_forked awaits_on (λ c. refl) (λ c. refl) (λ c. refl) old.awaiting.items mid.sound.awaits;
+                awaits = table_forked listens_on (λ c. refl) (λ c. refl) (λ c. refl) old.awaiting.items mid.sound.awaits;
                 joins = parents_forked new.parents.items parents;
                 counted = counted_forked new.unfinished.items unfinished;
                 ordinary = ordinary_forked;

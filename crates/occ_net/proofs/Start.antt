@@ -10,9 +10,10 @@ use Rattle.occ_code.specs.declared.task.Task.{Task}
 use Rattle.occ_code.specs.declared.task.Wait.{Wait}
 use Rattle.occ_code.specs.declared.task.Wait.TheVariants as W
 use Rattle.occ_net_replay.specs.Replay.{HasTask, at_start, fault_of, first_net, first_task, none_begun, offers_on, ready_from}
+use Rattle.occ_net_replay.specs.Waiting.{listens_on}
 use Rattle.occ_net_replay.proofs.Faults.{none_faulted}
 use Rattle.occ_net.specs.declared.network.Network.{Network}
-use Rattle.occ_net.specs.Holding.{AreTrue, Holds, IsOrdinary, IsTable, awaits_on, communication_of, joins_on}
+use Rattle.occ_net.specs.Holding.{AreTrue, Holds, IsOrdinary, IsTable, communication_of, joins_on}
 use Rattle.occ_net.proofs.OneChange.{not_both, set_length, true_as}
 
 first_there : (d : Declared) (n : ℕ) (bs : List Body) (q : Numbered) (ps : List Numbered) → AllDo d n bs (q ∷ ps) → slice_get bs 0 ≡ None → ⊥
@@ -69,7 +70,7 @@ start_true bs b channels e =
     record {
       ready_is = one_ready bs b e;
       offers = empty_table bs offers_on channels (λ c. refl);
-      awaits = empty_table bs awaits_on channels (λ c. refl);
+      awaits = empty_table bs listens_on channels (λ c. refl);
       joins = empty_table bs joins_on (length bs) (λ c. refl);
       counted = λ m t ns h w. let q : W.Ready ≡ W.Joins ns = sym (all_ready bs m t h) ∙ w in absurd cc;
       ordinary = λ i t h. subst IsOrdinary (sym (all_ready bs i t h)) tt;

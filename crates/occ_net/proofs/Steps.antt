@@ -1,23 +1,25 @@
 -- A process rests, or is made to go on: what is kept beside the tasks is changed with them.
-use Rattle.std.proofs.Common.{◌≡◌, ◌∙◌, refl, sym, ap, false, IsTrue, ℕ, zero, suc, ◌<◌, List, [], ◌∷◌, Option, Some, None, length, arith}
+use Rattle.std.proofs.Common.{◌≡◌, ◌∙◌, refl, sym, ap, Bool, false, IsTrue, ℕ, ℤ, zero, suc, ◌<◌, List, [], ◌∷◌, Option, Some, None, length, arith}
 use Rattle.std.specs.Prelude.{slice_get, slice_set, nat_eq, remove}
 use Rattle.std.proofs.lemmas.Bool.{eqb-true, eq-eqb}
 use mathlib.Core.Bool.{true≢false}
 use Rattle.occ_term.specs.declared.fault.Fault.{Fault}
 use Rattle.occ_term.specs.declared.message.Message.{Message}
 use Rattle.occ_term.specs.Frames.{Variables, is_held}
-use Rattle.occ_code.specs.Alike.{joined_with}
+use Rattle.occ_code.specs.Alike.{joined_with, ready_with}
+use Rattle.occ_code.specs.declared.task.Arm.{Arm}
 use Rattle.occ_code.specs.declared.task.Task.{Task}
 use Rattle.occ_code.specs.declared.task.Wait.{Wait}
 use Rattle.occ_code.specs.declared.task.Wait.TheVariants as W
-use Rattle.occ_net_replay.specs.Replay.{Tasks, HasTask, fault_of, first_fault, made_ready, may_go, has_taken, offers_on, ready_from}
+use Rattle.occ_net_replay.specs.Replay.{Tasks, HasTask, fault_of, first_fault, is_done, made_ready, may_go, offers_on, ready_from}
+use Rattle.occ_net_replay.specs.Waiting.{channels_at, listens_on}
 use Rattle.occ_net_replay.proofs.Tables.{set_same, set_other}
 use Rattle.occ_net_replay.proofs.Faults.{fault_is, no_fault}
 use Rattle.occ_net_replay.proofs.Quiet.{offers_is}
-use Rattle.occ_net.specs.Holding.{AreCounted, AreTrue, awaits_on, joins_on}
+use Rattle.occ_net.specs.Holding.{AreCounted, AreTrue, IsOrdinary, joins_on}
 use Rattle.occ_net.specs.Ready.{put_in}
 use Rattle.occ_net.specs.Tables.{set_all}
-use Rattle.occ_net.proofs.Keys.{all_gone, all_other}
+use Rattle.occ_net.proofs.Keys.{all_gone, all_here, all_other}
 use Rattle.occ_net.proofs.OneChange.{set_within, table_kept, table_enters, table_leaves, counts_kept, ordinary_again, clean_again}
 use Rattle.occ_net.proofs.ReadyLists.{ready_same, ready_put, ready_out}
 
@@ -43,16 +45,35 @@ key_here xs c d i h k = ap (slice_get (slice_set xs c (Some i))) (key_same c d k
 key_kept : (xs : List (Option ℕ)) (c d : ℕ) (v : Option ℕ) → nat_eq c d ≡ false → slice_get (slice_set xs c v) d ≡ slice_get xs d
 key_kept xs c d v k = set_other xs c d v (key_other c d k)
 
-pub awaits_is : (w : Wait) (c : ℕ) → IsTrue (awaits_on w c) → w ≡ W.Awaits c
-awaits_is W.Ready c h = absurd (true≢false (sym h))
-awaits_is (W.Took arm is m) c h = absurd (true≢false (sym h))
-awaits_is (W.Offers d m) c h = absurd (true≢false (sym h))
-awaits_is (W.Awaits d) c h = ap W.Awaits (eqb-true d c h)
-awaits_is (W.Chooses pri arms) c h = absurd (true≢false (sym h))
-awaits_is (W.Joins ns) c h = absurd (true≢false (sym h))
-awaits_is W.Halted c h = absurd (true≢false (sym h))
-awaits_is W.Done c h = absurd (true≢false (sym h))
-awaits_is (W.Faulted e) c h = absurd (true≢false (sym h))
+-- a wait that may be for a message
+pub data IsListener : Wait → Type 0 where
+  at_input : {c : ℕ} → IsListener (W.Awaits c)
+  at_choice : {pri : Bool} {arms : List Arm} → IsListener (W.Chooses pri arms)
+
+pub listener_is : (w : Wait) (c : ℕ) → IsTrue (listens_on w c) → IsListener w
+listener_is W.Ready c h = absurd (true≢false (sym h))
+listener_is (W.Took arm is m) c h = absurd (true≢false (sym h))
+listener_is (W.Offers d m) c h = absurd (true≢false (sym h))
+listener_is (W.Awaits d) c h = at_input
+listener_is (W.Chooses pri arms) c h = at_choice
+listener_is (W.Joins ns) c h = absurd (true≢false (sym h))
+listener_is W.Halted c h = absurd (true≢false (sym h))
+listener_is W.Done c h = absurd (true≢false (sym h))
+listener_is (W.Faulted e) c h = absurd (true≢false (sym h))
+
+-- such a wait is no other
+pub record ListensOnly (w : Wait) : Type 0 where
+  pub still : may_go w ≡ false
+  pub offers : (c : ℕ) → offers_on w c ≡ false
+  pub joins : (c : ℕ) → joins_on w c ≡ false
+  pub undone : is_done w ≡ false
+  pub unforked : (ns : List ℕ) → w ≡ W.Joins ns → ⊥
+  pub ordinary : IsOrdinary w
+  pub clean : fault_of w ≡ None
+
+pub listens_only : (w : Wait) → IsListener w → ListensOnly w
+listens_only w at_input = record { still = refl; offers = λ d. refl; joins = λ d. refl; undone = refl; unforked = λ ns q. cc; ordinary = tt; clean = refl }
+listens_only w at_choice = record { still = refl; offers = λ d. refl; joins = λ d. refl; undone = refl; unforked = λ ns q. cc; ordinary = tt; clean = refl }
 
 module _ (tasks : Tasks) (ready : List ℕ) (offering awaiting parents : List (Option ℕ)) (unfinished : List ℕ) (fault : Option Fault) (h : AreTrue tasks ready offering awaiting parents unfinished fault) (clean : first_fault tasks ≡ None) (i : ℕ) (t : Task) (there : HasTask tasks i t) where
   abbrev with_task : Task → Tasks
@@ -66,17 +87,17 @@ module _ (tasks : Tasks) (ready : List ℕ) (offering awaiting parents : List (O
   still_clean : (u : Task) (w v : Wait) → t.wait ≡ w → u.wait ≡ v → fault_of v ≡ None → fault ≡ first_fault (with_task u)
   still_clean u w v e f q = h.fault_is ∙ clean ∙ sym (clean_again tasks i t u there w v e f q clean)
 
-  pub wake_awaiter : (c : ℕ) (m : Message) → t.wait ≡ W.Awaits c → AreTrue (with_task (has_taken t m)) (put_in i ready) offering (slice_set awaiting c None) parents unfinished fault
-  wake_awaiter c m e =
-      let new : Task = has_taken t m in
-      let w : Wait = W.Awaits c in
-      let v : Wait = W.Took 0 [] (Some m) in
+  pub wake_listener : (w : Wait) (k : ℕ) (is : List ℤ) (m : Option Message) → IsListener w → t.wait ≡ w → AreTrue (with_task (ready_with t (W.Took k is m))) (put_in i ready) offering (set_all (channels_at w) None awaiting) parents unfinished fault
+  wake_listener w k is m l e =
+      let new : Task = ready_with t (W.Took k is m) in
+      let v : Wait = W.Took k is m in
+      let o = listens_only w l in
       record {
-        ready_is = woken new (ap may_go e) refl;
-        offers = table_kept tasks i t new there w v e refl offers_on (λ d. refl) (λ d. refl) offering h.offers;
-        awaits = table_leaves tasks i t new there w v e refl awaits_on (nat_eq c) (λ d. refl) (λ d. refl) awaiting (slice_set awaiting c None) (λ d j k. key_gone awaiting c d j k) (λ d k. key_kept awaiting c d None k) h.awaits;
-        joins = table_kept tasks i t new there w v e refl joins_on (λ d. refl) (λ d. refl) parents h.joins;
-        counted = counts_kept tasks i t new there w v e refl refl (λ ns q. cc) unfinished h.counted;
+        ready_is = woken new (ap may_go e ∙ o.still) refl;
+        offers = table_kept tasks i t new there w v e refl offers_on o.offers (λ d. refl) offering h.offers;
+        awaits = table_leaves tasks i t new there w v e refl listens_on (is_held (channels_at w)) (λ d. refl) (λ d. refl) awaiting (set_all (channels_at w) None awaiting) (λ d j x. all_gone (channels_at w) awaiting d j x) (λ d x. all_other (channels_at w) None awaiting d x) h.awaits;
+        joins = table_kept tasks i t new there w v e refl joins_on o.joins (λ d. refl) parents h.joins;
+        counted = counts_kept tasks i t new there w v e refl (sym o.undone) (λ ns q. cc) unfinished h.counted;
         ordinary = ordinary_again tasks i t new there w v e refl tt h.ordinary;
         fault_is = still_clean new w v e refl refl;
       }
@@ -89,7 +110,7 @@ module _ (tasks : Tasks) (ready : List ℕ) (offering awaiting parents : List (O
       record {
         ready_is = woken new (ap may_go e) refl;
         offers = table_leaves tasks i t new there w v e refl offers_on (nat_eq c) (λ d. refl) (λ d. refl) offering (slice_set offering c None) (λ d j k. key_gone offering c d j k) (λ d k. key_kept offering c d None k) h.offers;
-        awaits = table_kept tasks i t new there w v e refl awaits_on (λ d. refl) (λ d. refl) awaiting h.awaits;
+        awaits = table_kept tasks i t new there w v e refl listens_on (λ d. refl) (λ d. refl) awaiting h.awaits;
         joins = table_kept tasks i t new there w v e refl joins_on (λ d. refl) (λ d. refl) parents h.joins;
         counted = counts_kept tasks i t new there w v e refl refl (λ ns q. cc) unfinished h.counted;
         ordinary = ordinary_again tasks i t new there w v e refl tt h.ordinary;
@@ -99,14 +120,14 @@ module _ (tasks : Tasks) (ready : List ℕ) (offering awaiting parents : List (O
   -- ---- a process that may go on
 
   module _ (e : t.wait ≡ W.Ready) where
-    pub takes : (m : Message) → AreTrue (with_task (has_taken t m)) ready offering awaiting parents unfinished fault
-    takes m =
-        let new : Task = has_taken t m in
-        let v : Wait = W.Took 0 [] (Some m) in
+    pub takes : (k : ℕ) (is : List ℤ) (m : Option Message) → AreTrue (with_task (ready_with t (W.Took k is m))) ready offering awaiting parents unfinished fault
+    takes k is m =
+        let new : Task = ready_with t (W.Took k is m) in
+        let v : Wait = W.Took k is m in
         record {
           ready_is = h.ready_is ∙ sym (ready_same 0 tasks i (Some t) (Some new) there (ap may_go e));
           offers = table_kept tasks i t new there W.Ready v e refl offers_on (λ d. refl) (λ d. refl) offering h.offers;
-          awaits = table_kept tasks i t new there W.Ready v e refl awaits_on (λ d. refl) (λ d. refl) awaiting h.awaits;
+          awaits = table_kept tasks i t new there W.Ready v e refl listens_on (λ d. refl) (λ d. refl) awaiting h.awaits;
           joins = table_kept tasks i t new there W.Ready v e refl joins_on (λ d. refl) (λ d. refl) parents h.joins;
           counted = counts_kept tasks i t new there W.Ready v e refl refl (λ ns q. cc) unfinished h.counted;
           ordinary = ordinary_again tasks i t new there W.Ready v e refl tt h.ordinary;
@@ -125,24 +146,24 @@ module _ (tasks : Tasks) (ready : List ℕ) (offering awaiting parents : List (O
           record {
             ready_is = rested v f refl;
             offers = table_enters tasks i t new there W.Ready v e f offers_on (nat_eq c) (λ d. refl) (λ d. refl) offering (slice_set offering c (Some i)) (λ d j u k g s. let x = offers_is u.wait d s in alone j u x.0 g (x.1 ∙ ap (λ z. W.Offers z x.0) (key_same c d k))) (λ d k. key_here offering c d i within k) (λ d k. key_kept offering c d (Some i) k) h.offers;
-            awaits = table_kept tasks i t new there W.Ready v e f awaits_on (λ d. refl) (λ d. refl) awaiting h.awaits;
+            awaits = table_kept tasks i t new there W.Ready v e f listens_on (λ d. refl) (λ d. refl) awaiting h.awaits;
             joins = table_kept tasks i t new there W.Ready v e f joins_on (λ d. refl) (λ d. refl) parents h.joins;
             counted = counts_kept tasks i t new there W.Ready v e f refl (λ ns q. cc) unfinished h.counted;
             ordinary = ordinary_again tasks i t new there W.Ready v e f tt h.ordinary;
             fault_is = still_clean new W.Ready v e f refl;
           }
 
-      pub rest_await : (c : ℕ) → new.wait ≡ W.Awaits c → c < length awaiting → ((j : ℕ) (u : Task) → HasTask tasks j u → u.wait ≡ W.Awaits c → ⊥) → AreTrue (with_task new) (remove ready place) offering (slice_set awaiting c (Some i)) parents unfinished fault
-      rest_await c f within alone =
-          let v : Wait = W.Awaits c in
+      pub rest_listener : (v : Wait) → IsListener v → new.wait ≡ v → ((c : ℕ) → IsTrue (listens_on v c) → c < length awaiting) → ((c j : ℕ) (u : Task) → IsTrue (listens_on v c) → HasTask tasks j u → IsTrue (listens_on u.wait c) → ⊥) → AreTrue (with_task new) (remove ready place) offering (set_all (channels_at v) (Some i) awaiting) parents unfinished fault
+      rest_listener v l f within alone =
+          let o = listens_only v l in
           record {
-            ready_is = rested v f refl;
-            offers = table_kept tasks i t new there W.Ready v e f offers_on (λ d. refl) (λ d. refl) offering h.offers;
-            awaits = table_enters tasks i t new there W.Ready v e f awaits_on (nat_eq c) (λ d. refl) (λ d. refl) awaiting (slice_set awaiting c (Some i)) (λ d j u k g s. alone j u g (awaits_is u.wait d s ∙ ap W.Awaits (key_same c d k))) (λ d k. key_here awaiting c d i within k) (λ d k. key_kept awaiting c d (Some i) k) h.awaits;
-            joins = table_kept tasks i t new there W.Ready v e f joins_on (λ d. refl) (λ d. refl) parents h.joins;
-            counted = counts_kept tasks i t new there W.Ready v e f refl (λ ns q. cc) unfinished h.counted;
-            ordinary = ordinary_again tasks i t new there W.Ready v e f tt h.ordinary;
-            fault_is = still_clean new W.Ready v e f refl;
+            ready_is = rested v f o.still;
+            offers = table_kept tasks i t new there W.Ready v e f offers_on (λ d. refl) o.offers offering h.offers;
+            awaits = table_enters tasks i t new there W.Ready v e f listens_on (is_held (channels_at v)) (λ d. refl) (λ d. refl) awaiting (set_all (channels_at v) (Some i) awaiting) (λ d j u k g s. alone d j u k g s) (λ d k. all_here (channels_at v) (Some i) awaiting d k (within d k)) (λ d k. all_other (channels_at v) (Some i) awaiting d k) h.awaits;
+            joins = table_kept tasks i t new there W.Ready v e f joins_on (λ d. refl) o.joins parents h.joins;
+            counted = counts_kept tasks i t new there W.Ready v e f o.undone o.unforked unfinished h.counted;
+            ordinary = ordinary_again tasks i t new there W.Ready v e f o.ordinary h.ordinary;
+            fault_is = still_clean new W.Ready v e f o.clean;
           }
 
       pub rest_halted : new.wait ≡ W.Halted → AreTrue (with_task new) (remove ready place) offering awaiting parents unfinished fault
@@ -150,7 +171,7 @@ module _ (tasks : Tasks) (ready : List ℕ) (offering awaiting parents : List (O
           record {
             ready_is = rested W.Halted f refl;
             offers = table_kept tasks i t new there W.Ready W.Halted e f offers_on (λ d. refl) (λ d. refl) offering h.offers;
-            awaits = table_kept tasks i t new there W.Ready W.Halted e f awaits_on (λ d. refl) (λ d. refl) awaiting h.awaits;
+            awaits = table_kept tasks i t new there W.Ready W.Halted e f listens_on (λ d. refl) (λ d. refl) awaiting h.awaits;
             joins = table_kept tasks i t new there W.Ready W.Halted e f joins_on (λ d. refl) (λ d. refl) parents h.joins;
             counted = counts_kept tasks i t new there W.Ready W.Halted e f refl (λ ns q. cc) unfinished h.counted;
             ordinary = ordinary_again tasks i t new there W.Ready W.Halted e f tt h.ordinary;
@@ -163,7 +184,7 @@ module _ (tasks : Tasks) (ready : List ℕ) (offering awaiting parents : List (O
           record {
             ready_is = rested v f refl;
             offers = table_kept tasks i t new there W.Ready v e f offers_on (λ d. refl) (λ d. refl) offering h.offers;
-            awaits = table_kept tasks i t new there W.Ready v e f awaits_on (λ d. refl) (λ d. refl) awaiting h.awaits;
+            awaits = table_kept tasks i t new there W.Ready v e f listens_on (λ d. refl) (λ d. refl) awaiting h.awaits;
             joins = table_kept tasks i t new there W.Ready v e f joins_on (λ d. refl) (λ d. refl) parents h.joins;
             counted = counts_kept tasks i t new there W.Ready v e f refl (λ ns q. cc) unfinished h.counted;
             ordinary = ordinary_again tasks i t new there W.Ready v e f tt h.ordinary;
@@ -175,7 +196,7 @@ module _ (tasks : Tasks) (ready : List ℕ) (offering awaiting parents : List (O
           record {
             ready_is = rested W.Done f refl;
             offers = table_kept tasks i t new there W.Ready W.Done e f offers_on (λ d. refl) (λ d. refl) offering h.offers;
-            awaits = table_kept tasks i t new there W.Ready W.Done e f awaits_on (λ d. refl) (λ d. refl) awaiting h.awaits;
+            awaits = table_kept tasks i t new there W.Ready W.Done e f listens_on (λ d. refl) (λ d. refl) awaiting h.awaits;
             joins = table_kept tasks i t new there W.Ready W.Done e f joins_on (λ d. refl) (λ d. refl) parents h.joins;
             counted = counted;
             ordinary = ordinary_again tasks i t new there W.Ready W.Done e f tt h.ordinary;
@@ -191,7 +212,7 @@ module _ (tasks : Tasks) (ready : List ℕ) (offering awaiting parents : List (O
       record {
         ready_is = woken new (ap may_go e) refl;
         offers = table_kept tasks i t new there w W.Ready e refl offers_on (λ d. refl) (λ d. refl) offering h.offers;
-        awaits = table_kept tasks i t new there w W.Ready e refl awaits_on (λ d. refl) (λ d. refl) awaiting h.awaits;
+        awaits = table_kept tasks i t new there w W.Ready e refl listens_on (λ d. refl) (λ d. refl) awaiting h.awaits;
         joins = table_leaves tasks i t new there w W.Ready e refl joins_on (is_held ns) (λ d. refl) (λ d. refl) parents (set_all ns None parents) (λ d j k. all_gone ns parents d j k) (λ d k. all_other ns None parents d k) h.joins;
         counted = counts_kept tasks i t new there w W.Ready e refl refl (λ ms q. cc) unfinished h.counted;
         ordinary = ordinary_again tasks i t new there w W.Ready e refl tt h.ordinary;

@@ -1,27 +1,30 @@
 -- The chosen process takes a turn.
 use Rattle.std.proofs.Common.{◌≡◌, ◌∙◌, refl, sym, ap, subst, Bool, true, false, IsTrue, ℕ, zero, suc, ◌+◌, ◌<◌, ◌≤◌, ◌^◌, ◌%◌, List, [], ◌∷◌, Option, Some, None, get_or, length, map, drop, arith}
-use Rattle.std.specs.Prelude.{slice_get, slice_set}
+use Rattle.std.specs.Prelude.{slice_get, slice_set, ◌||◌}
 use Rattle.std.proofs.lemmas.Option.{get_or_from_slice_get, slice_get_within}
 use mathlib.Core.Bool.{true≢false}
 use Rattle.occ_term.specs.declared.fault.Fault.{Fault}
+use Rattle.occ_term.specs.System.{has_byte}
+use Rattle.occ_code.specs.Alike.{IsRising}
 use Rattle.occ_code.specs.Sequential.Compiled.{Program, IsCompiled, instructions_in}
 use Rattle.occ_code.specs.Sequential.Machine.{Body}
+use Rattle.occ_code.specs.declared.task.Arm.{Arm}
 use Rattle.occ_code.specs.declared.task.Task.{Task}
 use Rattle.occ_code.specs.declared.task.Wait.{Wait}
 use Rattle.occ_code.specs.declared.task.Wait.TheVariants as W
 use Rattle.occ_net_replay.specs.declared.choice.Choice.{Choice}
 use Rattle.occ_net_replay.specs.Following.{AreBytes}
-use Rattle.occ_net_replay.specs.Replay.{Net, Tasks, HasTask, ending_by, first_fault, is_done, main_done, made_ready, may_go, offers_on, ready_from, selected}
-use Rattle.occ_net_replay.specs.Waiting.{IsReplay, IsTurn, OffersAlone, AwaitsAlone, ForksAlone}
-use Rattle.occ_net_replay.proofs.Alone.{turns_are_few, turns_await_alone, turns_fork_alone, turns_offer_alone}
+use Rattle.occ_net_replay.specs.Replay.{Net, Tasks, HasTask, ending_by, first_fault, is_done, main_done, made_ready, may_go, offers_among, offers_on, ready_from, selected, standing}
+use Rattle.occ_net_replay.specs.Moments.{NoneReady, Quiet}
+use Rattle.occ_net_replay.specs.Waiting.{IsReplay, IsTurn, OffersAlone, ListensAlone, ForksAlone, listens_on}
+use Rattle.occ_net_replay.proofs.Alone.{replays_are_quiet, turns_are_few, turns_fork_alone, turns_listen_alone, turns_never_take, turns_offer_alone}
 use Rattle.occ_net_replay.proofs.Law.{ready_tasks_stop}
 use Rattle.occ_net_replay.proofs.Tables.{ready_at}
 use Rattle.occ_net.specs.declared.network.Network.{Network}
-use Rattle.occ_net.specs.Holding.{AreTrue, Holds, awaits_on, communication_of, joins_on}
+use Rattle.occ_net.specs.Holding.{AreTrue, Holds, IsOrdinary, communication_of, joins_on}
 use Rattle.occ_net.specs.Settling.{Mid, SettlesTo, Standing, TurnsTo}
 use Rattle.occ_net.specs.Tasks.{Advanced, HasTurn}
 use Rattle.occ_net.proofs.OneChange.{clean_again, counts_kept, get_some, ordinary_again, set_length, table_kept, true_as}
-use Rattle.occ_net.proofs.PlainStops.{ordinary_turn, untaken_turn}
 use Rattle.occ_net.proofs.ReadyLists.{ready_same}
 
 -- ---- bodies, and bytes
@@ -51,16 +54,32 @@ going_offers W.Halted c g = refl
 going_offers W.Done c g = refl
 going_offers (W.Faulted e) c g = refl
 
-going_awaits : (w : Wait) (c : ℕ) → IsTrue (may_go w) → awaits_on w c ≡ false
-going_awaits W.Ready c g = refl
-going_awaits (W.Took arm is m) c g = refl
-going_awaits (W.Offers d m) c g = refl
-going_awaits (W.Awaits d) c g = absurd (true≢false (sym g))
-going_awaits (W.Chooses pri arms) c g = refl
-going_awaits (W.Joins ns) c g = refl
-going_awaits W.Halted c g = refl
-going_awaits W.Done c g = refl
-going_awaits (W.Faulted e) c g = refl
+going_listens : (w : Wait) (c : ℕ) → IsTrue (may_go w) → listens_on w c ≡ false
+going_listens W.Ready c g = refl
+going_listens (W.Took arm is m) c g = refl
+going_listens (W.Offers d m) c g = refl
+going_listens (W.Awaits d) c g = absurd (true≢false (sym g))
+going_listens (W.Chooses pri arms) c g = absurd (true≢false (sym g))
+going_listens (W.Joins ns) c g = refl
+going_listens W.Halted c g = refl
+going_listens W.Done c g = refl
+going_listens (W.Faulted e) c g = refl
+
+-- branches alone are asked for their order
+ordinary_is : (w : Wait) → ((ns : List ℕ) → w ≡ W.Joins ns → IsRising ns) → IsOrdinary w
+ordinary_is W.Ready g = tt
+ordinary_is (W.Took arm is m) g = tt
+ordinary_is (W.Offers c m) g = tt
+ordinary_is (W.Awaits c) g = tt
+ordinary_is (W.Chooses pri arms) g = tt
+ordinary_is (W.Joins ns) g = g ns refl
+ordinary_is W.Halted g = tt
+ordinary_is W.Done g = tt
+ordinary_is (W.Faulted e) g = tt
+
+-- arms are ready by the tasks and by the keyboard alone
+unready_as : (a b : Net) (arms : List Arm) → a.tasks ≡ b.tasks → a.keyboard ≡ b.keyboard → NoneReady (λ x. x.chan) (standing a) arms → NoneReady (λ x. x.chan) (standing b) arms
+unready_as a b arms e f h = subst (λ k. NoneReady (λ (x : Arm). x.chan) (λ c. has_byte k c || offers_among b.tasks c) arms) f (subst (λ l. NoneReady (λ (x : Arm). x.chan) (λ c. has_byte a.keyboard c || offers_among l c) arms) e h)
 
 going_joins : (w : Wait) (c : ℕ) → IsTrue (may_go w) → joins_on w c ≡ false
 going_joins W.Ready c g = refl
@@ -90,7 +109,7 @@ module _ (tasks : Tasks) (ready : List ℕ) (offering awaiting parents : List (O
       record {
         ready_is = h.ready_is ∙ sym (ready_same 0 tasks i (Some t) (Some new) there (may ∙ sym (ap may_go is)));
         offers = table_kept tasks i t new there t.wait W.Ready refl is offers_on (λ d. going_offers t.wait d may) (λ d. refl) offering h.offers;
-        awaits = table_kept tasks i t new there t.wait W.Ready refl is awaits_on (λ d. going_awaits t.wait d may) (λ d. refl) awaiting h.awaits;
+        awaits = table_kept tasks i t new there t.wait W.Ready refl is listens_on (λ d. going_listens t.wait d may) (λ d. refl) awaiting h.awaits;
         joins = table_kept tasks i t new there t.wait W.Ready refl is joins_on (λ d. going_joins t.wait d may) (λ d. refl) parents h.joins;
         counted = counts_kept tasks i t new there t.wait W.Ready refl is (sym (going_undone t.wait may)) (λ ns q. cc) unfinished h.counted;
         ordinary = ordinary_again tasks i t new there t.wait W.Ready refl is tt h.ordinary;
@@ -173,6 +192,9 @@ module _ (p : Program) (kb : List ℕ) (n : Network) (s : Standing p kb n) where
       is_turn : IsTurn p s.net.tasks number adv.after
       is_turn = record { body = body; before = t; has_body = has; has_task = ap (λ l. slice_get l number) s.holds.tasks ∙ there; may = may; stops = adv.stops }
 
+      quiet : Quiet s.net
+      quiet = replays_are_quiet compiled.source p compiled.quantum kb s.choices s.net is_replay
+
       pub mid_for : (net : Net) → Holds p kb n net → new.ready ≡ n.ready → new.offering ≡ n.offering → new.awaiting ≡ n.awaiting → new.parents ≡ n.parents → new.unfinished ≡ n.unfinished → new.fault ≡ n.fault → new.used ≡ n.used → new.trace ≡ n.trace → Mid p kb new number place adv.after net
       mid_for net h e1 e2 e3 e4 e5 e6 e7 e8 =
           let fork = turns_fork_alone compiled.source p compiled.quantum kb s.choices s.net number adv.after in
@@ -182,8 +204,8 @@ module _ (p : Program) (kb : List ℕ) (n : Network) (s : Standing p kb n) where
             may = may;
             clean = ap first_fault h.tasks ∙ open_now.clean;
             at_place = ap (λ z. slice_get z.items place) e1 ∙ at;
-            ordinary = ordinary_turn body t adv.after adv.stops (λ ns q. (fork ns is_replay is_turn q).rising);
-            untaken = untaken_turn body t adv.after adv.stops;
+            ordinary = ordinary_is adv.after.wait (λ ns q. (fork ns is_replay is_turn q).rising);
+            untaken = λ arm is m q. turns_never_take compiled.source p compiled.quantum kb s.choices s.net number adv.after arm is m is_replay is_turn q;
             tasks = adv.is ∙ ap (λ l. slice_set l number (Some (made_ready adv.after))) (sym h.tasks);
             bytes = h.bytes ∙ ap (λ k. drop k kb) (sym e7);
             trace = h.trace ∙ ap (λ z. map communication_of z.items) (sym e8);
@@ -197,8 +219,9 @@ module _ (p : Program) (kb : List ℕ) (n : Network) (s : Standing p kb n) where
               unfinished_are = ap (λ z. length z.items) e5 ∙ h.sized.unfinished_are;
             };
             offers = λ c m q. subst (λ l. OffersAlone p l c) (same_tasks net h) (turns_offer_alone compiled.source p compiled.quantum kb s.choices s.net number adv.after c m is_replay is_turn q);
-            awaits = λ c q. subst (λ l. AwaitsAlone p l c) (same_tasks net h) (turns_await_alone compiled.source p compiled.quantum kb s.choices s.net number adv.after c is_replay is_turn q);
+            listens = λ c q. subst (λ l. ListensAlone p l c) (same_tasks net h) (turns_listen_alone compiled.source p compiled.quantum kb s.choices s.net number adv.after c is_replay is_turn q);
             forks = λ ns q. subst (λ l. ForksAlone p l number ns) (same_tasks net h) (fork ns is_replay is_turn q);
+            unready = λ i u pri arms g q. unready_as s.net net arms (same_tasks net h) (s.holds.bytes ∙ sym h.bytes) (quiet.unready i u pri arms (ap (λ l. slice_get l i) (same_tasks net h) ∙ g) q);
           }
 
       pub turns_to : (choice : Choice) (net : Net) (last : Network) → Holds p kb n net → place ≡ choice.which % length n.ready.items → SettlesTo p kb choice.pick number adv.after net last → TurnsTo p kb choice net last

@@ -1,5 +1,5 @@
 -- What a state between says to the calls in it, and what is kept where the process rests.
-use Rattle.std.proofs.Common.{◌≡◌, ◌∙◌, refl, sym, ap, subst, ℕ, ◌<◌, List, Option, Some, length, arith}
+use Rattle.std.proofs.Common.{◌≡◌, ◌∙◌, refl, sym, ap, subst, IsTrue, ℕ, ◌<◌, List, Option, Some, length, arith}
 use Rattle.std.specs.Prelude.{slice_set, remove}
 use Rattle.std.specs.Vec.{vec_len}
 use Rattle.std.proofs.lemmas.Option.{slice_get_within}
@@ -11,14 +11,17 @@ use Rattle.occ_code.specs.declared.task.Task.{Task}
 use Rattle.occ_code.specs.declared.task.Wait.{Wait}
 use Rattle.occ_code.specs.declared.task.Wait.TheVariants as W
 use Rattle.occ_net_replay.specs.Replay.{Net, Tasks, may_go, made_ready}
+use Rattle.occ_net_replay.specs.Waiting.{ListensAlone, channels_at, listens_on}
 use Rattle.occ_net.specs.declared.network.Network.{Network}
 use Rattle.occ_net.specs.Holding.{AreTrue, AreSized}
 use Rattle.occ_net.specs.Settling.{Mid, HasMid}
+use Rattle.occ_net.specs.Tables.{set_all}
 use Rattle.occ_net.specs.Tasks.{IsThere}
 use Rattle.occ_net.proofs.Between.{there_old, clean_old, waiting_old}
+use Rattle.occ_net.proofs.Keys.{all_length}
 use Rattle.occ_net.proofs.OneChange.{set_length, true_as}
 use Rattle.occ_net.proofs.ReadyLists.{ready_rising}
-use Rattle.occ_net.proofs.Steps.{rest_offer, rest_await, rest_halted, rest_faulted}
+use Rattle.occ_net.proofs.Steps.{IsListener, listener_is, listens_only, rest_offer, rest_listener, rest_halted, rest_faulted}
 
 module _ (p : Program) (n : Network) (number place : ℕ) (wait : Wait) (h : HasMid p n number place wait) where
   pub rising_of : IsRising n.ready.items
@@ -51,19 +54,19 @@ module _ (p : Program) (kb : List ℕ) (old : Network) (number place : ℕ) (aft
         unfinished_are = mid.sized.unfinished_are;
       }
 
-  pub rests_at_await : {tasks : Tasks} {ready : List ℕ} {awaiting : List (Option ℕ)} (c : ℕ) → after.wait ≡ W.Awaits c → tasks ≡ rested (W.Awaits c) → ready ≡ remove old.ready.items place → awaiting ≡ slice_set old.awaiting.items c (Some number) → AreTrue tasks ready old.offering.items awaiting old.parents.items old.unfinished.items old.fault
-  rests_at_await c w t r o =
-      let a = mid.awaits c w in
+  pub rests_listening : {tasks : Tasks} {ready : List ℕ} {awaiting : List (Option ℕ)} (v : Wait) → IsListener v → after.wait ≡ v → tasks ≡ rested v → ready ≡ remove old.ready.items place → awaiting ≡ set_all (channels_at v) (Some number) old.awaiting.items → AreTrue tasks ready old.offering.items awaiting old.parents.items old.unfinished.items old.fault
+  rests_listening v l w t r o =
+      let alone : (c : ℕ) → IsTrue (listens_on v c) → ListensAlone p net.tasks c = (λ c q. mid.listens c (subst (λ z. IsTrue (listens_on z c)) (sym w) q)) in
       true_as t r refl o refl refl refl
-      (rest_await old.tasks.items old.ready.items old.offering.items old.awaiting.items old.parents.items old.unfinished.items old.fault mid.sound (clean_old p kb old number place after net mid) number (made_ready after) (there_old p kb old number place after net mid) refl place mid.at_place (ready_with (made_ready after) (W.Awaits c)) c refl
-      (let d = a.declared in let s = mid.sized.awaiting_is in omega (arith, d, s)) (λ j u h e. a.alone j u (waiting_old p kb old number place after net mid j u h (ap may_go e)).1 e))
+      (rest_listener old.tasks.items old.ready.items old.offering.items old.awaiting.items old.parents.items old.unfinished.items old.fault mid.sound (clean_old p kb old number place after net mid) number (made_ready after) (there_old p kb old number place after net mid) refl place mid.at_place (ready_with (made_ready after) v) v l refl
+      (λ c q. let d = (alone c q).declared in let s = mid.sized.awaiting_is in omega (arith, d, s)) (λ c j u q h e. (alone c q).alone j u (waiting_old p kb old number place after net mid j u h (listens_only u.wait (listener_is u.wait c e)).still).1 e))
 
-  pub sized_at_await : {tasks : Tasks} {awaiting : List (Option ℕ)} (c : ℕ) → tasks ≡ rested (W.Awaits c) → awaiting ≡ slice_set old.awaiting.items c (Some number) → AreSized p tasks old.offering.items awaiting old.parents.items old.unfinished.items
-  sized_at_await c t o =
+  pub sized_listening : {tasks : Tasks} {awaiting : List (Option ℕ)} (v : Wait) → tasks ≡ rested v → awaiting ≡ set_all (channels_at v) (Some number) old.awaiting.items → AreSized p tasks old.offering.items awaiting old.parents.items old.unfinished.items
+  sized_listening v t o =
       record {
-        tasks_are = ap length t ∙ set_length old.tasks.items number (Some (ready_with (made_ready after) (W.Awaits c))) ∙ mid.sized.tasks_are;
+        tasks_are = ap length t ∙ set_length old.tasks.items number (Some (ready_with (made_ready after) v)) ∙ mid.sized.tasks_are;
         offering_is = mid.sized.offering_is;
-        awaiting_is = ap length o ∙ set_length old.awaiting.items c (Some number) ∙ mid.sized.awaiting_is;
+        awaiting_is = ap length o ∙ all_length (channels_at v) (Some number) old.awaiting.items ∙ mid.sized.awaiting_is;
         parents_are = mid.sized.parents_are;
         unfinished_are = mid.sized.unfinished_are;
       }

@@ -1,5 +1,5 @@
 -- The network of the code holds a state of the replay.
-use Rattle.std.specs.Prelude.{Bool, IsTrue, List, Option, Some, [], drop, false, if◌then◌else◌, length, map, nat_eq, slice_get, ℕ, ⊤, ◌+◌, ◌∷◌, ◌≡◌}
+use Rattle.std.specs.Prelude.{Bool, IsTrue, List, Option, Some, [], drop, false, if◌then◌else◌, length, map, slice_get, ℕ, ⊤, ◌+◌, ◌∷◌, ◌≡◌}
 use Rattle.std.specs.Option.{option_map_or}
 use Rattle.occ_term.specs.declared.fault.Fault.{Fault}
 use Rattle.occ_term.specs.Frames.{is_held}
@@ -10,6 +10,7 @@ use Rattle.occ_code.specs.declared.task.Task.{Task}
 use Rattle.occ_code.specs.declared.task.Wait.{Wait}
 use Rattle.occ_code.specs.declared.task.Wait.TheVariants.{Ready, Took, Offers, Awaits, Chooses, Joins, Halted, Done, Faulted}
 use Rattle.occ_net_replay.specs.Replay.{Net, Tasks, HasTask, ended, first_fault, offers_on, ready_from}
+use Rattle.occ_net_replay.specs.Waiting.{listens_on}
 use Rattle.occ_net.specs.declared.trace.End.{End}
 use Rattle.occ_net.specs.declared.trace.End.TheVariants.{Process, Keyboard, Screen, Error}
 use Rattle.occ_net.specs.declared.trace.Communication.{Communication}
@@ -28,18 +29,6 @@ communication_of x = S.communication x.chan (end_of x.sender) (end_of x.receiver
 
 -- ---- who waits for what
 
--- the channels on which an input waits
-abbrev pub awaits_on : Wait → ℕ → Bool
-awaits_on Ready c = false
-awaits_on (Took arm indices m) c = false
-awaits_on (Offers d m) c = false
-awaits_on (Awaits d) c = nat_eq d c
-awaits_on (Chooses pri arms) c = false
-awaits_on (Joins ns) c = false
-awaits_on Halted c = false
-awaits_on Done c = false
-awaits_on (Faulted e) c = false
-
 -- the processes whose end is waited for
 abbrev pub joins_on : Wait → ℕ → Bool
 joins_on Ready i = false
@@ -52,13 +41,13 @@ joins_on Halted i = false
 joins_on Done i = false
 joins_on (Faulted e) i = false
 
--- branches in rising order, and no choice among alternatives
+-- branches are in rising order
 abbrev pub IsOrdinary : Wait → Type 0
 IsOrdinary Ready = ⊤
 IsOrdinary (Took arm indices m) = ⊤
 IsOrdinary (Offers d m) = ⊤
 IsOrdinary (Awaits d) = ⊤
-IsOrdinary (Chooses pri arms) = ⊥
+IsOrdinary (Chooses pri arms) = ⊤
 IsOrdinary (Joins ns) = IsRising ns
 IsOrdinary Halted = ⊤
 IsOrdinary Done = ⊤
@@ -90,7 +79,7 @@ AreCounted tasks counts = (m : ℕ) (t : Task) (ns : List ℕ) → HasTask tasks
 pub record AreTrue (tasks : Tasks) (ready : List ℕ) (offering awaiting parents : List (Option ℕ)) (unfinished : List ℕ) (fault : Option Fault) : Type 0 where
   pub ready_is : ready ≡ ready_from 0 tasks
   pub offers : IsTable offers_on tasks offering
-  pub awaits : IsTable awaits_on tasks awaiting
+  pub awaits : IsTable listens_on tasks awaiting
   pub joins : IsTable joins_on tasks parents
   pub counted : AreCounted tasks unfinished
   pub ordinary : (i : ℕ) (t : Task) → HasTask tasks i t → IsOrdinary t.wait

@@ -1,6 +1,7 @@
 pub mod Tables
 pub mod Ready
 pub mod Tasks
+pub mod Choosing
 pub mod Holding
 pub mod Settling
 pub mod Running

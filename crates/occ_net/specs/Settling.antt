@@ -1,20 +1,23 @@
 -- What happens when a process has taken a turn.
-use Rattle.std.specs.Prelude.{false, IsTrue, List, None, Option, Some, [], drop, if◌then◌else◌, length, map, nat_eq, slice_get, slice_set, ℕ, ℤ, ◌+◌, ◌<◌, ◌^◌, ◌++◌, ◌∷◌, ◌≡◌}
+use Rattle.std.specs.Prelude.{Bool, false, IsTrue, List, None, Option, Some, [], drop, if◌then◌else◌, length, map, nat_eq, slice_get, slice_set, ℕ, ℤ, ◌+◌, ◌<◌, ◌^◌, ◌++◌, ◌∷◌, ◌≡◌}
 use Rattle.occ_term.specs.declared.message.Message.{Message}
 use Rattle.occ_term.specs.Frames.{Variables, is_held}
 use Rattle.occ_code.specs.Alike.{IsRising, joined_with}
 use Rattle.occ_code.specs.Sequential.Compiled.{Program}
+use Rattle.occ_code.specs.declared.task.Arm.{Arm}
 use Rattle.occ_code.specs.declared.task.Task.{Task}
 use Rattle.occ_code.specs.declared.task.Wait.{Wait}
-use Rattle.occ_code.specs.declared.task.Wait.TheVariants.{Took, Offers, Awaits, Joins}
+use Rattle.occ_code.specs.declared.task.Wait.TheVariants.{Took, Offers, Chooses, Joins}
 use Rattle.occ_net_replay.specs.declared.choice.Choice.{Choice}
-use Rattle.occ_net_replay.specs.Replay.{Net, Tasks, HasTask, OneTurn, Replays, Settled, branch_task, byte_message, ending_of, first_fault, goes, has_taken, made_ready, may_go, merged, ready_from, took_turn, with_branches}
-use Rattle.occ_net_replay.specs.Waiting.{OffersAlone, AwaitsAlone, ForksAlone}
+use Rattle.occ_net_replay.specs.Replay.{Net, Tasks, HasTask, OneTurn, Replays, Settled, branch_task, byte_message, ending_of, first_fault, goes, made_ready, may_go, merged, ready_from, standing, took_arm, took_turn, with_branches}
+use Rattle.occ_net_replay.specs.Moments.{NoneReady}
+use Rattle.occ_net_replay.specs.Waiting.{OffersAlone, ListensAlone, ForksAlone, channels_at, listens_on}
 use Rattle.occ_net.specs.declared.trace.End.{End}
 use Rattle.occ_net.specs.declared.trace.End.TheVariants.{Process, Keyboard, Screen, Error}
 use Rattle.occ_net.specs.declared.trace.Communication.{Communication}
 use Rattle.occ_net.specs.declared.network.Network.{Network}
 use Rattle.occ_net.specs.Holding.{Holds, IsOrdinary, Sized, Sound, communication_of}
+use Rattle.occ_net.specs.Choosing.{TakesBy, offered_by}
 use Rattle.occ_net.specs.Ready.{put_in}
 use Rattle.occ_net.specs.Tables.{set_all}
 
@@ -50,8 +53,9 @@ pub record Mid (p : Program) (keyboard : List ℕ) (n : Network) (number place :
   pub sound : Sound n
   pub sized : Sized p n
   pub offers : (c : ℕ) (m : Message) → after.wait ≡ Offers c m → OffersAlone p net.tasks c
-  pub awaits : (c : ℕ) → after.wait ≡ Awaits c → AwaitsAlone p net.tasks c
+  pub listens : (c : ℕ) → IsTrue (listens_on after.wait c) → ListensAlone p net.tasks c
   pub forks : (ns : List ℕ) → after.wait ≡ Joins ns → ForksAlone p net.tasks number ns
+  pub unready : (i : ℕ) (t : Task) (pri : Bool) (arms : List Arm) → HasTask net.tasks i t → t.wait ≡ Chooses pri arms → NoneReady (λ a. a.chan) (standing net) arms
 
 -- it stands at this
 pub record HasMid (p : Program) (n : Network) (number place : ℕ) (wait : Wait) : Type 0 where
@@ -67,9 +71,9 @@ pub record SettlesTo (p : Program) (keyboard : List ℕ) (pick number : ℕ) (af
   pub settles : Settled p.bodies number pick (took_turn net number after) next
   pub holds : Holds p keyboard new next
 
-abbrev pub Settles : Program → List ℕ → ℕ → ℕ → Wait → Network → Network → Type 0
-Settles p keyboard number place wait old new =
-    (pick : ℕ) (after : Task) (net : Net) → Mid p keyboard old number place after net → after.wait ≡ wait → SettlesTo p keyboard pick number after net new
+abbrev pub Settles : Program → List ℕ → ℕ → ℕ → ℕ → Wait → Network → Network → Type 0
+Settles p keyboard pick number place wait old new =
+    (after : Task) (net : Net) → Mid p keyboard old number place after net → after.wait ≡ wait → SettlesTo p keyboard pick number after net new
 
 -- the end that always takes what is offered on a channel
 abbrev pub reader_of : ℕ → Option End
@@ -83,11 +87,34 @@ byte_on c keyboard used = if nat_eq c 0 then slice_get keyboard used else None
 abbrev pub sent : ℕ → End → End → Message → Communication
 sent c x y m = record { chan = c; sender = x; receiver = y; message = m }
 
--- a process that awaited a message has it, and may go on
-pub record Gave (old : Network) (number taker chan : ℕ) (m : Message) (new : Network) : Type 0 where
-  pub tasks : (t : Task) → HasTask old.tasks.items taker t → new.tasks.items ≡ slice_set old.tasks.items taker (Some (has_taken t m))
+-- A process waits for a message on the channel, and takes it by this arm, where no other offer stands.
+abbrev pub TakesAlone : ℕ → ℕ → Wait → Arm → Type 0
+TakesAlone pick c w a = TakesBy pick (offered_by (Some c) []) c w a
+
+-- some process does
+pub record IsTaking (tasks : Tasks) (taker chan pick : ℕ) : Type 0 where
+  pub task : Task
+  pub there : HasTask tasks taker task
+  pub arm : Arm
+  pub takes : TakesAlone pick chan task.wait arm
+
+-- it stands at none of its channels any more
+pub record LeftChannels (old : Network) (taker : ℕ) (t : Task) (new : Network) : Type 0 where
+  pub tasks : new.tasks.items ≡ slice_set old.tasks.items taker (Some (made_ready t))
+  pub awaiting : new.awaiting.items ≡ set_all (channels_at t.wait) None old.awaiting.items
+  pub ready : new.ready ≡ old.ready
+  pub offering : new.offering ≡ old.offering
+  pub parents : new.parents ≡ old.parents
+  pub unfinished : new.unfinished ≡ old.unfinished
+  pub fault : new.fault ≡ old.fault
+  pub used : new.used ≡ old.used
+  pub trace : new.trace ≡ old.trace
+
+-- a process that waited for a message has it by this arm, stands at none of its channels any more, and may go on
+pub record Gave (old : Network) (number taker chan : ℕ) (t : Task) (a : Arm) (m : Message) (new : Network) : Type 0 where
+  pub tasks : new.tasks.items ≡ slice_set old.tasks.items taker (Some (took_arm t a (Some m)))
   pub ready : new.ready.items ≡ put_in taker old.ready.items
-  pub awaiting : new.awaiting.items ≡ slice_set old.awaiting.items chan None
+  pub awaiting : new.awaiting.items ≡ set_all (channels_at t.wait) None old.awaiting.items
   pub trace : new.trace.items ≡ old.trace.items ++ sent chan (Process number) (Process taker) m ∷ []
   pub offering : new.offering ≡ old.offering
   pub parents : new.parents ≡ old.parents
@@ -95,9 +122,9 @@ pub record Gave (old : Network) (number taker chan : ℕ) (m : Message) (new : N
   pub fault : new.fault ≡ old.fault
   pub used : new.used ≡ old.used
 
--- a process that awaited a message has the keyboard's next byte, and may go on
-pub record TookByte (old : Network) (number byte : ℕ) (new : Network) : Type 0 where
-  pub tasks : (t : Task) → HasTask old.tasks.items number t → new.tasks.items ≡ slice_set old.tasks.items number (Some (has_taken t (byte_message byte)))
+-- a process has the keyboard's next byte by this arm, and may go on
+pub record TookByte (old : Network) (number : ℕ) (a : Arm) (byte : ℕ) (new : Network) : Type 0 where
+  pub tasks : (t : Task) → HasTask old.tasks.items number t → new.tasks.items ≡ slice_set old.tasks.items number (Some (took_arm t a (Some (byte_message byte))))
   pub trace : new.trace.items ≡ old.trace.items ++ sent 0 Keyboard (Process number) (byte_message byte) ∷ []
   pub used : new.used ≡ old.used + 1
   pub ready : new.ready ≡ old.ready
@@ -114,9 +141,9 @@ pub record IsOffering (tasks : Tasks) (giver chan : ℕ) : Type 0 where
   pub message : Message
   pub waits : task.wait ≡ Offers chan message
 
--- a process has the message that another one offered, and both may go on
-pub record TookFrom (old : Network) (number giver chan : ℕ) (t : Task) (m : Message) (new : Network) : Type 0 where
-  pub tasks : (u : Task) → HasTask old.tasks.items number u → new.tasks.items ≡ slice_set (slice_set old.tasks.items giver (Some (made_ready t))) number (Some (has_taken u m))
+-- a process has by this arm the message that another one offered, and both may go on
+pub record TookFrom (old : Network) (number giver chan : ℕ) (a : Arm) (t : Task) (m : Message) (new : Network) : Type 0 where
+  pub tasks : (u : Task) → HasTask old.tasks.items number u → new.tasks.items ≡ slice_set (slice_set old.tasks.items giver (Some (made_ready t))) number (Some (took_arm u a (Some m)))
   pub ready : new.ready.items ≡ put_in giver old.ready.items
   pub offering : new.offering.items ≡ slice_set old.offering.items chan None
   pub trace : new.trace.items ≡ old.trace.items ++ sent chan (Process giver) (Process number) m ∷ []

@@ -83,7 +83,7 @@ impl Network {
         branches: Items<u32>,
     ) -> Result<(), AllocError>
         requires { HasMid code.now self.old number place (Wait.Joins branches) }
-        ensures { OnOk result ((keyboard : List ℕ) → Settles code.now keyboard number place (Wait.Joins branches) self.old self.new) }
+        ensures { OnOk result ((keyboard : List ℕ) (pick : ℕ) → Settles code.now keyboard pick number place (Wait.Joins branches) self.old self.new) }
     {
         self.ready.remove(place);
         let mut task = take_task(&mut self.tasks, number);

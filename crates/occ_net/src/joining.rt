@@ -39,7 +39,7 @@ impl Network {
         number: u32,
     ) -> Result<(), AllocError>
         requires { HasMid code.now self.old number place Wait.Done }
-        ensures { OnOk result ((keyboard : List ℕ) → Settles code.now keyboard number place Wait.Done self.old self.new) }
+        ensures { OnOk result ((keyboard : List ℕ) (pick : ℕ) → Settles code.now keyboard pick number place Wait.Done self.old self.new) }
     {
         rest(&mut self.tasks, &mut self.ready, place, number, Wait::Done);
         if let Some(parent) = entry(&self.parents, number) {

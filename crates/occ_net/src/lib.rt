@@ -2,6 +2,7 @@
 //! when one has taken a turn.
 #![tactic(auto)]
 
+mod choosing;
 mod copying;
 mod forking;
 mod joining;

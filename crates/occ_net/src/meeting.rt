@@ -1,18 +1,21 @@
 //! Offers and inputs: the two ends of a channel meet, or one waits for the other.
-ghost use Rattle.std.specs.Prelude.{◌≡◌, ◌≢◌, ◌+◌, ◌<◌, ◌^◌, ◌++◌, ◌∷◌, [], IfOk, List, None, OnOk, Some, length, remove, slice_get, slice_set, vec_len, ℕ};
+ghost use Rattle.std.specs.Prelude.{◌≡◌, ◌≢◌, ◌+◌, ◌<◌, ◌^◌, ◌++◌, ◌∷◌, [], IfOk, List, None, OnOk, Option, Some, length, remove, slice_get, slice_set, vec_len, ℕ};
 ghost use Rattle.occ_code.specs.Alike.{IsRising, ready_with};
 ghost use Rattle.occ_code.specs.Sequential.Compiled.{Program};
+ghost use Rattle.occ_code.specs.declared.task.Arm.{Arm};
 ghost use Rattle.occ_code.specs.declared.task.Task.{Task};
 ghost use Rattle.occ_net_replay.specs.Replay.{HasTask, byte_message};
-ghost use Rattle.occ_net.specs.Settling.{Gave, HasMid, IsOffering, Settles, TookByte, TookFrom, byte_on, reader_of};
+ghost use Rattle.occ_net.specs.Choosing.{input_arm, keyboard_at};
+ghost use Rattle.occ_net.specs.Settling.{Gave, HasMid, IsOffering, IsTaking, LeftChannels, Settles, TakesAlone, TookByte, TookFrom, byte_on, reader_of};
 ghost use Rattle.occ_net.specs.Tasks.{IsThere};
 
+use crate::choosing::{choose_arm, set_arms};
 use crate::network::Network;
 use crate::ready::insert;
 use crate::tables::{entry, set_entry};
 use crate::tasks::{set_wait, take_wait};
 use crate::trace::{Communication, End};
-use occ_code::{Task, Wait};
+use occ_code::{Arm, Task, Wait};
 use occ_term::{Fault, Message, Part, Primitive};
 use sqlite_items::Items;
 use std::alloc::{AllocError, Global};
@@ -65,6 +68,17 @@ fn next_byte(chan: u32, keyboard: &[u8], used: usize) -> Option<u8>
     }
 }
 
+/// The keyboard's channel, where not all of its bytes are taken.
+fn keyboard_channel(keyboard: &[u8], used: usize) -> Option<u32>
+    ensures { result ≡ keyboard_at keyboard.now used }
+{
+    if used < keyboard.len() {
+        Some(KEYBOARD)
+    } else {
+        None
+    }
+}
+
 /// The message of one byte.
 fn one_byte(alloc: Global, byte: u8) -> Result<Message, AllocError>
     ensures { IfOk result (λ m. m ≡ byte_message byte) }
@@ -74,19 +88,54 @@ fn one_byte(alloc: Global, byte: u8) -> Result<Message, AllocError>
     Ok(Message { tag: None, items })
 }
 
-/// What a process stands at that has this message.
-fn took(alloc: Global, message: Message) -> Wait
-    ensures { result ≡ Wait.Took 0 [] (Some message) }
+/// The arm by which an input takes its message.
+fn input_arm(alloc: Global, chan: u32) -> Arm
+    ensures { result ≡ input_arm chan }
 {
-    Wait::Took {
-        arm: 0,
+    Arm {
+        place: 0,
+        chan: Some(chan),
         indices: Items::new(alloc),
-        message: Some(message),
+    }
+}
+
+/// What a process stands at that took this arm, with its message.
+fn took(arm: Arm, message: Option<Message>) -> Wait
+    ensures { result ≡ Wait.Took arm.place arm.indices message }
+{
+    let Arm { place, indices, .. } = arm;
+    Wait::Took {
+        arm: place,
+        indices,
+        message,
     }
 }
 
 impl Network {
-    /// The message goes to a process that awaits it.
+    /// A process that waits for a message on this channel, where no other offer stands, leaves its
+    /// channels. The arm by which it takes the message is handed out.
+    fn leave(&mut self, alloc: Global, taker: u32, chan: u32, pick: u32) -> Arm
+        requires { IsTaking self.old.tasks.items taker chan pick }
+        ensures arm { (t : Task) (a : Arm) → HasTask self.old.tasks.items taker t → TakesAlone pick chan t.wait a → result ≡ a }
+        ensures left { (t : Task) → HasTask self.old.tasks.items taker t → LeftChannels self.old taker t self.new }
+    {
+        match take_wait(&mut self.tasks, taker) {
+            Wait::Awaits { chan: own } => {
+                set_entry(&mut self.awaiting, own, None);
+                input_arm(alloc, own)
+            }
+            Wait::Chooses { pri, mut arms } => {
+                set_arms(&mut self.awaiting, arms.as_slice(), None);
+                match choose_arm(Some(chan), &[], pri, pick, arms.as_slice()) {
+                    Some(at) => arms.remove(at),
+                    None => unreachable!(),
+                }
+            }
+            _ => unreachable!(),
+        }
+    }
+
+    /// The message goes to a process that waits for one on its channel.
     fn give(
         &mut self,
         alloc: Global,
@@ -94,10 +143,11 @@ impl Network {
         taker: u32,
         chan: u32,
         message: Message,
+        pick: u32,
     ) -> Result<(), AllocError>
-        requires there { IsThere self.old.tasks.items taker }
+        requires takes { IsTaking self.old.tasks.items taker chan pick }
         requires rising { IsRising self.old.ready.items }
-        ensures { OnOk result (Gave self.old number taker chan message self.new) }
+        ensures { OnOk result ((t : Task) (a : Arm) → HasTask self.old.tasks.items taker t → TakesAlone pick chan t.wait a → Gave self.old number taker chan t a message self.new) }
     {
         let copy = message.copy(alloc)?;
         self.trace.push(Communication {
@@ -106,16 +156,23 @@ impl Network {
             receiver: End::Process(taker),
             message: copy,
         })?;
-        set_entry(&mut self.awaiting, chan, None);
-        set_wait(&mut self.tasks, taker, took(alloc, message));
         insert(&mut self.ready, taker)?;
+        let arm = self.leave(alloc, taker, chan, pick);
+        set_wait(&mut self.tasks, taker, took(arm, Some(message)));
         Ok(())
     }
+
     /// The process takes this byte, which is the keyboard's next one.
-    fn take_byte(&mut self, alloc: Global, number: u32, byte: u8) -> Result<(), AllocError>
+    fn take_byte(
+        &mut self,
+        alloc: Global,
+        number: u32,
+        arm: Arm,
+        byte: u8,
+    ) -> Result<(), AllocError>
         requires there { IsThere self.old.tasks.items number }
         requires counts { self.old.used + 1 < 2 ^ 64 }
-        ensures { OnOk result (TookByte self.old number byte self.new) }
+        ensures { OnOk result (TookByte self.old number arm byte self.new) }
     {
         let message = one_byte(alloc, byte)?;
         let received = one_byte(alloc, byte)?;
@@ -126,7 +183,7 @@ impl Network {
             message,
         })?;
         self.used += 1;
-        set_wait(&mut self.tasks, number, took(alloc, received));
+        set_wait(&mut self.tasks, number, took(arm, Some(received)));
         Ok(())
     }
 
@@ -137,12 +194,13 @@ impl Network {
         number: u32,
         giver: u32,
         chan: u32,
+        arm: Arm,
     ) -> Result<(), AllocError>
         requires there { IsThere self.old.tasks.items number }
         requires offers { IsOffering self.old.tasks.items giver chan }
         requires apart { number ≢ giver }
         requires rising { IsRising self.old.ready.items }
-        ensures { OnOk result ((t : Task) (m : Message) → HasTask self.old.tasks.items giver t → t.wait ≡ Wait.Offers chan m → TookFrom self.old number giver chan t m self.new) }
+        ensures { OnOk result ((t : Task) (m : Message) → HasTask self.old.tasks.items giver t → t.wait ≡ Wait.Offers chan m → TookFrom self.old number giver chan arm t m self.new) }
     {
         let Wait::Offers { message, .. } = take_wait(&mut self.tasks, giver) else {
             unreachable!()
@@ -155,7 +213,7 @@ impl Network {
             message: copy,
         })?;
         set_entry(&mut self.offering, chan, None);
-        set_wait(&mut self.tasks, number, took(alloc, message));
+        set_wait(&mut self.tasks, number, took(arm, Some(message)));
         insert(&mut self.ready, giver)?;
         Ok(())
     }
@@ -168,9 +226,10 @@ impl Network {
         number: u32,
         chan: u32,
         message: Message,
+        pick: u32,
     ) -> Result<(), AllocError>
         requires { (p : Program) × HasMid p self.old number place (Wait.Offers chan message) }
-        ensures { OnOk result ((p : Program) (keyboard : List ℕ) → Settles p keyboard number place (Wait.Offers chan message) self.old self.new) }
+        ensures { OnOk result ((p : Program) (keyboard : List ℕ) → Settles p keyboard pick number place (Wait.Offers chan message) self.old self.new) }
     {
         if let Some(receiver) = reader(chan) {
             self.trace.push(Communication {
@@ -182,7 +241,7 @@ impl Network {
             return Ok(());
         }
         match entry(&self.awaiting, chan) {
-            Some(taker) => self.give(alloc, number, taker, chan, message)?,
+            Some(taker) => self.give(alloc, number, taker, chan, message, pick)?,
             None => {
                 set_entry(&mut self.offering, chan, Some(number));
                 let wait = Wait::Offers { chan, message };
@@ -202,14 +261,14 @@ impl Network {
         chan: u32,
     ) -> Result<(), AllocError>
         requires { (p : Program) × HasMid p self.old number place (Wait.Awaits chan) }
-        ensures { OnOk result ((p : Program) → Settles p keyboard.now number place (Wait.Awaits chan) self.old self.new) }
+        ensures { OnOk result ((p : Program) (pick : ℕ) → Settles p keyboard.now pick number place (Wait.Awaits chan) self.old self.new) }
     {
         if let Some(byte) = next_byte(chan, keyboard, self.used) {
-            self.take_byte(alloc, number, byte)?;
+            self.take_byte(alloc, number, input_arm(alloc, chan), byte)?;
             return Ok(());
         }
         match entry(&self.offering, chan) {
-            Some(giver) => self.take_from(alloc, number, giver, chan)?,
+            Some(giver) => self.take_from(alloc, number, giver, chan, input_arm(alloc, chan))?,
             None => {
                 set_entry(&mut self.awaiting, chan, Some(number));
                 let wait = Wait::Awaits { chan };
@@ -219,10 +278,47 @@ impl Network {
         Ok(())
     }
 
+    /// The process takes a ready arm, or it waits at the channels of its arms.
+    pub(crate) fn choose(
+        &mut self,
+        alloc: Global,
+        keyboard: &[u8],
+        place: usize,
+        number: u32,
+        pri: bool,
+        mut arms: Items<Arm>,
+        pick: u32,
+    ) -> Result<(), AllocError>
+        requires { (p : Program) × HasMid p self.old number place (Wait.Chooses pri arms) }
+        ensures { OnOk result ((p : Program) → Settles p keyboard.now pick number place (Wait.Chooses pri arms) self.old self.new) }
+    {
+        let named = keyboard_channel(keyboard, self.used);
+        let Some(at) = choose_arm(named, &self.offering, pri, pick, arms.as_slice()) else {
+            set_arms(&mut self.awaiting, arms.as_slice(), Some(number));
+            let wait = Wait::Chooses { pri, arms };
+            rest(&mut self.tasks, &mut self.ready, place, number, wait);
+            return Ok(());
+        };
+        let arm = arms.remove(at);
+        let Some(chan) = arm.chan else {
+            set_wait(&mut self.tasks, number, took(arm, None));
+            return Ok(());
+        };
+        if let Some(byte) = next_byte(chan, keyboard, self.used) {
+            self.take_byte(alloc, number, arm, byte)?;
+            return Ok(());
+        }
+        let Some(giver) = entry(&self.offering, chan) else {
+            unreachable!()
+        };
+        self.take_from(alloc, number, giver, chan, arm)?;
+        Ok(())
+    }
+
     /// The process halts, for good.
     pub(crate) fn halt(&mut self, place: usize, number: u32)
         requires { (p : Program) × HasMid p self.old number place Wait.Halted }
-        ensures { (p : Program) (keyboard : List ℕ) → Settles p keyboard number place Wait.Halted self.old self.new }
+        ensures { (p : Program) (keyboard : List ℕ) (pick : ℕ) → Settles p keyboard pick number place Wait.Halted self.old self.new }
     {
         rest(
             &mut self.tasks,
@@ -236,7 +332,7 @@ impl Network {
     /// The process fails, which ends the run.
     pub(crate) fn fail(&mut self, place: usize, number: u32, fault: Fault)
         requires { (p : Program) × HasMid p self.old number place (Wait.Faulted fault) }
-        ensures { (p : Program) (keyboard : List ℕ) → Settles p keyboard number place (Wait.Faulted fault) self.old self.new }
+        ensures { (p : Program) (keyboard : List ℕ) (pick : ℕ) → Settles p keyboard pick number place (Wait.Faulted fault) self.old self.new }
     {
         rest(
             &mut self.tasks,

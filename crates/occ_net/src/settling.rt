@@ -32,7 +32,7 @@ impl Network {
             unreachable!()
         };
         let wait = advance_task(alloc, body, scratch, &mut self.tasks, number)?;
-        self.settle(alloc, code, keyboard, place, number, wait)?;
+        self.settle(alloc, code, keyboard, place, number, wait, choice.pick)?;
         Ok(())
     }
 
@@ -45,19 +45,25 @@ impl Network {
         place: usize,
         number: u32,
         wait: Wait,
+        pick: u32,
     ) -> Result<(), AllocError>
         requires { HasMid code.now self.old number place wait }
-        ensures { OnOk result (Settles code.now keyboard.now number place wait self.old self.new) }
+        ensures { OnOk result (Settles code.now keyboard.now pick number place wait self.old self.new) }
     {
         match wait {
             Wait::Ready => {}
-            Wait::Offers { chan, message } => self.offer(alloc, place, number, chan, message)?,
+            Wait::Offers { chan, message } => self.offer(
+                alloc, place, number, chan, message, pick,
+            )?,
             Wait::Awaits { chan } => self.await_on(alloc, keyboard, place, number, chan)?,
+            Wait::Chooses { pri, arms } => self.choose(
+                alloc, keyboard, place, number, pri, arms, pick,
+            )?,
             Wait::Joins { branches } => self.fork(alloc, code, place, number, branches)?,
             Wait::Done => self.finish(code, place, number)?,
             Wait::Halted => self.halt(place, number),
             Wait::Faulted(fault) => self.fail(place, number, fault),
-            Wait::Took { .. } | Wait::Chooses { .. } => unreachable!(),
+            Wait::Took { .. } => unreachable!(),
         }
         Ok(())
     }

@@ -1,5 +1,5 @@
--- A turn that ends at an offer, at an input or at a fork.
-use Rattle.std.proofs.Common.{◌≡◌, ◌∙◌, refl, sym, ap, subst, false, IsTrue, ℕ, zero, suc, ◌+◌, ◌<◌, ◌≤◌, ◌⊎◌, inl, inr, List, [], ◌∷◌, Some, length, arith}
+-- A turn that ends at an offer, at an input, at a choice or at a fork.
+use Rattle.std.proofs.Common.{◌≡◌, ◌∙◌, refl, sym, ap, subst, false, IsTrue, ℕ, ℤ, zero, suc, ◌+◌, ◌<◌, ◌≤◌, ◌⊎◌, inl, inr, List, [], ◌∷◌, Option, Some, None, length, arith}
 use Rattle.std.specs.Prelude.{All, slice_get, nat_eq, map}
 use Rattle.std.proofs.lemmas.Bool.{eq-eqb, eqb-true}
 use Rattle.std.proofs.lemmas.Option.{slice_get_within}
@@ -11,23 +11,27 @@ use Rattle.occ_term.specs.declared.protocol.Protocol.{Protocol}
 use Rattle.occ_term.specs.declared.protocol.Protocol.TheVariants.{Simple}
 use Rattle.occ_term.specs.Frames.{is_held}
 use Rattle.occ_term.specs.Processes.{Numbered, numbered}
-use Rattle.occ_term.specs.StepUses.{uses_of_left, uses_of_contexts}
-use Rattle.occ_term.specs.Steps.{Offering, Awaiting, Forking, Context, Left, left}
+use Rattle.occ_term.specs.Selecting.{Enabled, SkipArm, InputArm}
+use Rattle.occ_term.specs.StepUses.{uses_of_left, uses_of_contexts, uses_of_all, uses_of_enabled, uses_of_settings}
+use Rattle.occ_term.specs.Steps.{Offering, Awaiting, Choosing, Forking, Context, Left, left}
 use Rattle.occ_term.specs.System.{Processes, no_processes, System}
 use Rattle.occ_term.specs.TermTyping.{Declared}
 use Rattle.occ_term.specs.Terms.{Term, Branches, no_branches, and_branch, Reception}
-use Rattle.occ_term.specs.TypedSteps.{LeftHas}
+use Rattle.occ_term.specs.TypedSteps.{LeftHas, EnabledHave}
+use Rattle.occ_term.specs.Unfolding.{Unfolding}
 use Rattle.occ_term.specs.Uses.{uses_of, uses_of_reception}
-use Rattle.occ_code.specs.Alike.{AreAbove, IsRising, SameStop, numbers_of}
+use Rattle.occ_code.specs.Alike.{AreAbove, IsRising, SameArms, SameStop, numbers_of}
 use Rattle.occ_code.specs.Sequential.Alike.{Alike}
 use Rattle.occ_code.specs.Sequential.Compiled.{Program}
 use Rattle.occ_code.specs.Sequential.Machine.{Body, Stopping}
+use Rattle.occ_code.specs.declared.task.Arm.{Arm}
 use Rattle.occ_code.specs.declared.task.Task.{Task}
 use Rattle.occ_code.specs.declared.task.Wait.{Wait}
 use Rattle.occ_code.specs.declared.task.Wait.TheVariants as W
+use Rattle.occ_net_replay.specs.declared.choice.Choice.{Choice}
 use Rattle.occ_net_replay.specs.Replay.{Net, HasTask, may_go}
-use Rattle.occ_net_replay.specs.Waiting.{IsTurn, TurnsAreFew, OffersAlone, TurnsOfferAlone, AwaitsAlone, TurnsAwaitAlone, ForksAlone, TurnsForkAlone}
-use Rattle.occ_net_replay.specs.Moments.{Among, below}
+use Rattle.occ_net_replay.specs.Waiting.{IsReplay, IsTurn, TurnsAreFew, OffersAlone, TurnsOfferAlone, and_channel, channels_of, listens_on, ListensAlone, TurnsListenAlone, TurnsNeverTake, ForksAlone, TurnsForkAlone}
+use Rattle.occ_net_replay.specs.Moments.{Among, Quiet, below}
 use Rattle.occ_net_replay.proofs.Beside.{ChannelsApart, Related, are_one, is_inside, is_around, are_beside, related}
 use Rattle.occ_net_replay.proofs.Holding.{Belongs, Stands, Own, branches_placed}
 use Rattle.occ_net_replay.proofs.Joining.{JoinsAs, joins_as}
@@ -36,8 +40,8 @@ use Rattle.occ_net_replay.proofs.Parents.{number_within, not_inside}
 use Rattle.occ_net_replay.proofs.Placed.{size, BranchesPlaced, LeftPlaced}
 use Rattle.occ_net_replay.proofs.Putting.{In, mine, within}
 use Rattle.occ_net_replay.proofs.Settling.{Follows}
-use Rattle.occ_net_replay.proofs.States.{gives_as, gets_as, Live, live_at}
-use Rattle.occ_net_replay.proofs.Tables.{or_else, or_first, task_once}
+use Rattle.occ_net_replay.proofs.States.{gives_as, gets_as, chooses_as, Live, live_at}
+use Rattle.occ_net_replay.proofs.Tables.{or_else, or_first, or_second, task_once}
 use Rattle.occ_net_replay.proofs.TakingTurns.{Ran, ran}
 use Rattle.occ_net_replay.proofs.Whole.{all_at}
 
@@ -70,6 +74,36 @@ output_on c m j = or_first (nat_eq c c) ((uses_of_contexts j).outs c) (eq-eqb c 
 
 input_on : (c : ℕ) (list : Reception) (j : List Context) → IsTrue ((uses_of_left (left (Awaiting c list) j)).ins c)
 input_on c list j = or_first _ ((uses_of_contexts j).ins c) (or_first (nat_eq c c) ((uses_of_reception list).ins c) (eq-eqb c c refl))
+
+-- an arm that inputs on the channel is an enabled one that does
+record InputArmOn (d : Declared) (es : List Enabled) (c : ℕ) : Type 0 where
+  pub on : IsTrue ((uses_of_all es).ins c)
+  pub declared : EnabledHave d es → (x : Protocol) × (d.protocols c ≡ Some x)
+
+arms_on : (d : Declared) (Go : Task → Left → Type 0) (t : Task) (j : List Context) (arms : List Arm) (es : List Enabled) (c : ℕ) → SameArms d Go t j arms es → IsTrue (is_held (channels_of arms) c) → InputArmOn d es c
+arms_on d Go t j [] [] c h q = absurd (true≢false (sym q))
+arms_on d Go t j [] (e ∷ es) c h q = absurd h
+arms_on d Go t j (a ∷ arms) [] c h q = absurd h
+arms_on d Go t j (a ∷ arms) (SkipArm again body ∷ es) c h q = later (arms_on d Go t j arms es c h.1 (skipped a.chan h.0.0 q))
+  where
+    skipped : (x : Option ℕ) → x ≡ None → IsTrue (is_held (and_channel x (channels_of arms)) c) → IsTrue (is_held (channels_of arms) c)
+    skipped None e q = q
+    skipped (Some k) e q = absurd cc
+
+    later : InputArmOn d es c → InputArmOn d (SkipArm again body ∷ es) c
+    later x = record { on = or_second ((uses_of_enabled (SkipArm again body)).ins c) ((uses_of_all es).ins c) x.on; declared = λ y. x.declared y.1 }
+arms_on d Go t j (a ∷ arms) (InputArm again k list ∷ es) c h q = by (or_else (nat_eq k c) (is_held (channels_of arms) c) (subst (λ x. IsTrue (is_held (and_channel x (channels_of arms)) c)) h.0.0 q)) (arms_on d Go t j arms es c h.1)
+  where
+    by : IsTrue (nat_eq k c) ⊎ IsTrue (is_held (channels_of arms) c) → (IsTrue (is_held (channels_of arms) c) → InputArmOn d es c) → InputArmOn d (InputArm again k list ∷ es) c
+    by (inl e) r = record { on = or_first ((uses_of_enabled (InputArm again k list)).ins c) ((uses_of_all es).ins c) (or_second ((uses_of_settings again).ins c) _ (or_first (nat_eq k c) ((uses_of_reception list).ins c) e)); declared = λ y. (y.0.1.0, ap d.protocols (sym (eqb-true k c e)) ∙ y.0.1.1) }
+    by (inr e) r = let x = r e in record { on = or_second ((uses_of_enabled (InputArm again k list)).ins c) ((uses_of_all es).ins c) x.on; declared = λ y. x.declared y.1 }
+
+one_channel : (c k : ℕ) → IsTrue (is_held (k ∷ []) c) → k ≡ c
+one_channel c k h = by (or_else (nat_eq k c) false h)
+  where
+    by : IsTrue (nat_eq k c) ⊎ IsTrue false → k ≡ c
+    by (inl e) = eqb-true k c e
+    by (inr e) = absurd (true≢false (sym e))
 
 declared_within : (cs : List Channel) (c : ℕ) (x : Protocol) → slice_get (map (λ y. y.protocol) cs) c ≡ Some x → c < length cs
 declared_within [] c x e = absurd cc
@@ -135,19 +169,75 @@ module _ (d : Declared) (p : Program) (procs : List Numbered) (protocol : d.prot
           a.outs c (r.uses.outs c (subst (λ z. IsTrue ((uses_of_left z).outs c)) (sym q) (output_on c v j)))
           (y.mine.uses.outs c (subst (λ z. IsTrue ((uses_of_left z).outs c)) (sym g.own_is) (output_on c u g.rest)))
 
-  pub awaits_alone : (c : ℕ) → after.wait ≡ W.Awaits c → (channels : ℕ) → ((x : Protocol) → d.protocols c ≡ Some x → c < channels) → channels ≡ length p.channels → AwaitsAlone p net.tasks c
-  awaits_alone c e channels bound many =
-      let x = at_wait (W.Awaits c) e in
-      let typed : LeftHas d (left (Awaiting c x.1) x.0) = subst (LeftHas d) x.2 r.typed in
-      record { declared = subst (λ z. c < z) many (bound typed.0.0 typed.0.1); alone = λ i t h w. others x.0 x.1 x.2 i t h w }
+  -- ---- an input, or a choice
+
+  -- a task that listens on the channel is that of a process which inputs on it
+  record Hearer (i c : ℕ) (t : Task) : Type 0 where
+    pub live : Live d p procs 1 net.tasks f.proc f.store i t
+    pub none : live.branches ≡ no_processes
+    pub ins : IsTrue ((uses_of live.mine.belongs.term).ins c)
+    pub still : may_go t.wait ≡ false
+    pub undone : t.wait ≡ W.Done → ⊥
+
+  hears : (i c : ℕ) (t : Task) → HasTask net.tasks i t → (w : Wait) → t.wait ≡ w → IsTrue (listens_on w c) → Hearer i c t
+  hears i c t h W.Ready e q = absurd (true≢false (sym q))
+  hears i c t h (W.Took arm is v) e q = absurd (true≢false (sym q))
+  hears i c t h (W.Offers k v) e q = absurd (true≢false (sym q))
+  hears i c t h (W.Awaits k) e q =
+      let undone : t.wait ≡ W.Done → ⊥ = (λ z. let r : W.Awaits k ≡ W.Done = sym e ∙ z in cc) in
+      let y = live_at d p procs 1 net.tasks f.proc f.store i t f.state h undone in
+      let g = gets_as d p procs 1 y.mine.belongs.body t y.own y.branches y.mine.but k (subst (λ z. Stands d p procs 1 y.mine.belongs.body z y.own y.branches y.mine.but) y.same y.mine.stands) e in
+      record { live = y; none = g.none; ins = y.mine.uses.ins c (subst (λ z. IsTrue ((uses_of_left z).ins c)) (sym g.own_is) (subst (λ z. IsTrue ((uses_of_left (left (Awaiting z g.list) g.rest)).ins c)) (sym (one_channel c k q)) (input_on c g.list g.rest))); still = ap may_go e; undone = undone }
+  hears i c t h (W.Chooses pri arms) e q =
+      let undone : t.wait ≡ W.Done → ⊥ = (λ z. let r : W.Chooses pri arms ≡ W.Done = sym e ∙ z in cc) in
+      let y = live_at d p procs 1 net.tasks f.proc f.store i t f.state h undone in
+      let g = chooses_as d p procs 1 y.mine.belongs.body t y.own y.branches y.mine.but pri arms (subst (λ z. Stands d p procs 1 y.mine.belongs.body z y.own y.branches y.mine.but) y.same y.mine.stands) e in
+      let on = (arms_on d (Alike 1 d y.mine.belongs.body) t g.rest arms g.enabled c g.same q).on in
+      record { live = y; none = g.none; ins = y.mine.uses.ins c (subst (λ z. IsTrue ((uses_of_left z).ins c)) (sym g.own_is) (or_first ((uses_of_all g.enabled).ins c) ((uses_of_contexts g.rest).ins c) on)); still = ap may_go e; undone = undone }
+  hears i c t h (W.Joins ns) e q = absurd (true≢false (sym q))
+  hears i c t h W.Halted e q = absurd (true≢false (sym q))
+  hears i c t h W.Done e q = absurd (true≢false (sym q))
+  hears i c t h (W.Faulted x) e q = absurd (true≢false (sym q))
+
+  -- what is left after the turn inputs on the channel, which has a protocol
+  record Listener (c : ℕ) : Type 0 where
+    pub ins : IsTrue ((uses_of_left r.rest).ins c)
+    pub of : Protocol
+    pub has : d.protocols c ≡ Some of
+
+  listener : (c : ℕ) (w : Wait) → after.wait ≡ w → IsTrue (listens_on w c) → Listener c
+  listener c W.Ready e q = absurd (true≢false (sym q))
+  listener c (W.Took arm is v) e q = absurd (true≢false (sym q))
+  listener c (W.Offers k v) e q = absurd (true≢false (sym q))
+  listener c (W.Awaits k) e q =
+      let x = at_wait (W.Awaits k) e in
+      let typed : LeftHas d (left (Awaiting k x.1) x.0) = subst (LeftHas d) x.2 r.typed in
+      let one = one_channel c k q in
+      record { ins = subst (λ z. IsTrue ((uses_of_left z).ins c)) (sym x.2) (subst (λ z. IsTrue ((uses_of_left (left (Awaiting z x.1) x.0)).ins c)) (sym one) (input_on c x.1 x.0)); of = typed.0.0; has = ap d.protocols (sym one) ∙ typed.0.1 }
+  listener c (W.Chooses pri arms) e q =
+      let x = at_wait (W.Chooses pri arms) e in
+      let typed : LeftHas d (left (Choosing pri x.1) x.0) = subst (LeftHas d) x.2 r.typed in
+      let y = arms_on d (Alike 0 d m.belongs.body) after x.0 arms x.1 c x.3 q in
+      let declared = y.declared typed.0 in
+      record { ins = subst (λ z. IsTrue ((uses_of_left z).ins c)) (sym x.2) (or_first ((uses_of_all x.1).ins c) ((uses_of_contexts x.0).ins c) y.on); of = declared.0; has = declared.1 }
+  listener c (W.Joins ns) e q = absurd (true≢false (sym q))
+  listener c W.Halted e q = absurd (true≢false (sym q))
+  listener c W.Done e q = absurd (true≢false (sym q))
+  listener c (W.Faulted x) e q = absurd (true≢false (sym q))
+
+  pub listens_alone : (c : ℕ) → IsTrue (listens_on after.wait c) → (channels : ℕ) → ((x : Protocol) → d.protocols c ≡ Some x → c < channels) → channels ≡ length p.channels → ListensAlone p net.tasks c
+  listens_alone c q channels bound many =
+      let x = listener c after.wait refl q in
+      record { declared = subst (λ z. c < z) many (bound x.of x.has); alone = λ i t h w. others x.ins i t h w }
     where
-      others : (j : List Context) (list : Reception) → r.rest ≡ left (Awaiting c list) j → (i : ℕ) (t : Task) → HasTask net.tasks i t → t.wait ≡ W.Awaits c → ⊥
-      others j list q i t h w =
-          let y = live_at d p procs 1 net.tasks f.proc f.store i t f.state h (λ z. let k = sym w ∙ z in cc) in
-          let g = gets_as d p procs 1 y.mine.belongs.body t y.own y.branches y.mine.but c (subst (λ z. Stands d p procs 1 y.mine.belongs.body z y.own y.branches y.mine.but) y.same y.mine.stands) w in
-          let a = apart_from i t (W.Awaits c) h w refl (λ z. cc) y g.none in
-          a.ins c (r.uses.ins c (subst (λ z. IsTrue ((uses_of_left z).ins c)) (sym q) (input_on c list j)))
-          (y.mine.uses.ins c (subst (λ z. IsTrue ((uses_of_left z).ins c)) (sym g.own_is) (input_on c g.list g.rest)))
+      others : IsTrue ((uses_of_left r.rest).ins c) → (i : ℕ) (t : Task) → HasTask net.tasks i t → IsTrue (listens_on t.wait c) → ⊥
+      others ins i t h w =
+          let y = hears i c t h t.wait refl w in
+          let a = apart_from i t t.wait h refl y.still y.undone y.live y.none in
+          a.ins c (r.uses.ins c ins) y.ins
+
+  pub never_takes : (arm : ℕ) (is : List ℤ) (x : Option Message) → after.wait ≡ W.Took arm is x → ⊥
+  never_takes arm is x e = at_wait (W.Took arm is x) e
 
   -- ---- a fork
 
@@ -237,11 +327,21 @@ turns_offer_alone u p quantum kb cs net n after c m z o e =
     offers_alone (d u p quantum kb z.well_formed z.lawful z.compiled z.bytes) p (procs u p quantum kb z.well_formed z.lawful z.compiled z.bytes) (keyboard_protocol u z.well_formed) quantum z.compiled.quanta
     (belongs u p quantum kb z.well_formed z.lawful z.compiled z.bytes) net x.now x.follows n after o c m e (length u.channels) (λ y q. declared_within u.channels c y q) (sym (ap (λ l. length l) z.compiled.channels))
 
-pub turns_await_alone : TurnsAwaitAlone
-turns_await_alone u p quantum kb cs net n after c z o e =
+pub turns_listen_alone : TurnsListenAlone
+turns_listen_alone u p quantum kb cs net n after c z o e =
     let x = all_followed u p quantum kb z.well_formed z.lawful z.compiled z.bytes cs net 1 z.few z.replays in
-    awaits_alone (d u p quantum kb z.well_formed z.lawful z.compiled z.bytes) p (procs u p quantum kb z.well_formed z.lawful z.compiled z.bytes) (keyboard_protocol u z.well_formed) quantum z.compiled.quanta
+    listens_alone (d u p quantum kb z.well_formed z.lawful z.compiled z.bytes) p (procs u p quantum kb z.well_formed z.lawful z.compiled z.bytes) (keyboard_protocol u z.well_formed) quantum z.compiled.quanta
     (belongs u p quantum kb z.well_formed z.lawful z.compiled z.bytes) net x.now x.follows n after o c e (length u.channels) (λ y q. declared_within u.channels c y q) (sym (ap (λ l. length l) z.compiled.channels))
+
+pub turns_never_take : TurnsNeverTake
+turns_never_take u p quantum kb cs net n after arm is m z o e =
+    let x = all_followed u p quantum kb z.well_formed z.lawful z.compiled z.bytes cs net 1 z.few z.replays in
+    never_takes (d u p quantum kb z.well_formed z.lawful z.compiled z.bytes) p (procs u p quantum kb z.well_formed z.lawful z.compiled z.bytes) (keyboard_protocol u z.well_formed) quantum z.compiled.quanta
+    (belongs u p quantum kb z.well_formed z.lawful z.compiled z.bytes) net x.now x.follows n after o arm is m e
+
+-- between two turns nothing can happen that needs none
+pub replays_are_quiet : (u : Unfolding) (p : Program) (quantum : ℕ) (kb : List ℕ) (cs : List Choice) (net : Net) → IsReplay u p quantum kb cs net → Quiet net
+replays_are_quiet u p quantum kb cs net z = (all_followed u p quantum kb z.well_formed z.lawful z.compiled z.bytes cs net 1 z.few z.replays).follows.quiet
 
 pub turns_fork_alone : TurnsForkAlone
 turns_fork_alone u p quantum kb cs net n after ns z o e =

@@ -1,5 +1,5 @@
 -- What happens in small networks.
-use Rattle.std.proofs.Common.{◌≡◌, ◌∙◌, refl, sym, ap, subst, Bool, true, IsFalse, ℕ, zero, suc, inl, inr, List, [], ◌∷◌, Some, None, arith}
+use Rattle.std.proofs.Common.{◌≡◌, ◌∙◌, refl, sym, ap, subst, Bool, true, false, IsFalse, ℕ, zero, suc, inl, inr, List, [], ◌∷◌, Some, None, arith}
 use Rattle.std.specs.Prelude.{slice_set}
 use mathlib.Core.Bool.{true≢false}
 use Rattle.occ_term.specs.System.{End, communication}
@@ -9,7 +9,7 @@ use Rattle.occ_code.specs.declared.task.Arm.{Arm}
 use Rattle.occ_code.specs.declared.task.Task.{Task}
 use Rattle.occ_code.specs.declared.task.Wait.{Wait}
 use Rattle.occ_code.specs.declared.task.Wait.TheVariants as W
-use Rattle.occ_net_replay.specs.Examples.{ChoiceRows, EndingRows, ForkRows, LeadsTo, MeetingRows, FirstWithPriority, TurnRows, apart, arm, bodies, branches, choosing, net_of, task, waiting, whole_number}
+use Rattle.occ_net_replay.specs.Examples.{ChoiceRows, ClosedRows, EndingRows, ForkRows, LateOfferRows, LeadsTo, ListenRows, MeetingRows, FirstWithPriority, SkipRows, TurnRows, apart, arm, bodies, branches, choosing, closed, net_of, task, waiting, whole_number}
 use Rattle.occ_net_replay.specs.Replay.{Net, Tasks, HasTask, AreDone, is_done, made_ready, took_arm, arm_chosen, standing, Gets, joined, Settled, settles, stays, Happens, meets, skips, forks, joins, task_gives, keyboard_gives, task_gets, arm_gets, screen_gets, error_gets, one_more}
 use Rattle.occ_net_replay.proofs.Faults.{part_waits}
 use Rattle.occ_net_replay.proofs.Runs.{one_more_at}
@@ -90,8 +90,73 @@ choice_rows = (
   leads_by _ (settles (meets (inr refl) (joined (task_gives {n = 1} refl refl) (arm_gets {n = 2} refl refl refl refl)))) refl refl refl,
   leads_by _ (settles (meets (inr refl) (joined (task_gives {n = 0} refl refl) (arm_gets {n = 2} refl refl refl refl)))) refl refl refl,
   record { net = _; settles = settles (skips refl refl refl refl); tasks_are = refl; trace = refl; output = λ c. refl; input = λ c. refl },
-  leads_by _ (settles (meets (inl refl) (joined (task_gives {n = 0} refl refl) (arm_gets {n = 1} refl refl refl refl)))) refl refl refl,
 )
+
+-- a closed arm is not taken
+closed_stays : (b : Net) → Happens [] 1 0 (net_of [] closed) b → ⊥
+closed_stays b (meets part (joined {c = c} (task_gives {n = zero} {t = t} h w) (arm_gets {n = n} {t = u} {pri = pri} {arms = xs} {a = x} g v q f))) = by n g
+  where
+    at_four : W.Chooses false (arm 10 (Some 4) ∷ []) ≡ W.Chooses pri xs → ⊥
+    at_four e =
+        let same : pri ≡ false = cc in
+        let list : xs ≡ arm 10 (Some 4) ∷ [] = cc in
+        let r : None ≡ Some x = sym (ap (λ l. arm_chosen false 0 (standing (net_of [] closed)) l) list) ∙ sym (ap (λ z. arm_chosen z 0 (standing (net_of [] closed)) xs) same) ∙ q in
+        cc
+
+    by : (n : ℕ) → HasTask (slice_set closed 0 (Some (made_ready t))) n u → ⊥
+    by zero k = let r = waits_at k v in cc
+    by (suc zero) k = at_four (waits_at k v)
+    by (suc (suc n)) k = cc
+closed_stays b (meets part (joined {c = c} (task_gives {n = zero} {t = t} h w) (task_gets {n = n} {t = u} g v))) = by n g
+  where
+    by : (n : ℕ) → HasTask (slice_set closed 0 (Some (made_ready t))) n u → ⊥
+    by zero k = let r = waits_at k v in cc
+    by (suc zero) k = let r = waits_at k v in cc
+    by (suc (suc n)) k = cc
+closed_stays b (meets part (joined {c = c} (task_gives {n = zero} h w) (screen_gets f))) = let r = waits_at h w in let z : 3 ≡ c = cc in omega (arith, z, f)
+closed_stays b (meets part (joined {c = c} (task_gives {n = zero} h w) (error_gets f))) = let r = waits_at h w in let z : 3 ≡ c = cc in omega (arith, z, f)
+closed_stays b (meets part (joined (task_gives {n = suc zero} h w) g)) = let q = waits_at h w in cc
+closed_stays b (meets part (joined (task_gives {n = suc (suc n)} h w) g)) = cc
+closed_stays b (meets part (joined (keyboard_gives e f i) g)) = cc
+closed_stays b (skips {pri = pri} {arms = xs} {arm = x} h w q e) =
+    let k = waits_at h w in
+    let same : pri ≡ false = cc in
+    let list : xs ≡ arm 10 (Some 4) ∷ [] = cc in
+    let r : None ≡ Some x = sym (ap (λ l. arm_chosen false 0 (standing (net_of [] closed)) l) list) ∙ sym (ap (λ z. arm_chosen z 0 (standing (net_of [] closed)) xs) same) ∙ q in
+    cc
+closed_stays b (forks h w) = let r = waits_at h w in cc
+closed_stays b (joins zero h w i d) = let r = waits_at h w in cc
+closed_stays b (joins (suc zero) h w i d) = let r = waits_at h w in cc
+closed_stays b (joins (suc (suc m)) h w i d) = cc
+
+pub closed_rows : ClosedRows
+closed_rows = (
+  λ pick. leads_by _ (settles (meets (inr refl) (joined (task_gives {n = 1} refl refl) (arm_gets {n = 2} refl refl refl refl)))) refl refl refl,
+  leads_by _ (settles (meets (inr refl) (joined (task_gives {n = 0} refl refl) (arm_gets {n = 2} refl refl refl refl)))) refl refl refl,
+  leads_by _ (settles (meets (inr refl) (joined (task_gives {n = 1} refl refl) (arm_gets {n = 2} refl refl refl refl)))) refl refl refl,
+  record { net = _; settles = stays closed_stays; tasks_are = refl; trace = refl; output = λ c. refl; input = λ c. refl },
+)
+
+pub skip_rows : SkipRows
+skip_rows = (
+  λ pick. leads_by _ (settles (meets (inr refl) (joined (task_gives {n = 0} refl refl) (arm_gets {n = 1} refl refl refl refl)))) refl refl refl,
+  λ pick. record { net = _; settles = settles (skips refl refl refl refl); tasks_are = refl; trace = refl; output = λ c. refl; input = λ c. refl },
+  leads_by _ (settles (meets (inr refl) (joined (task_gives {n = 0} refl refl) (arm_gets {n = 1} refl refl refl refl)))) refl refl refl,
+  record { net = _; settles = settles (skips refl refl refl refl); tasks_are = refl; trace = refl; output = λ c. refl; input = λ c. refl },
+)
+
+pub late_offer_rows : LateOfferRows
+late_offer_rows = (
+  leads_by _ (settles (meets (inl refl) (joined (task_gives {n = 0} refl refl) (arm_gets {n = 1} refl refl refl refl)))) refl refl refl,
+  leads_by _ (settles (meets (inl refl) (joined (task_gives {n = 0} refl refl) (arm_gets {n = 1} refl refl refl refl)))) refl refl refl,
+  leads_by _ (settles (meets (inl refl) (joined (task_gives {n = 0} refl refl) (arm_gets {n = 1} refl refl refl refl)))) refl refl refl,
+  λ pick. leads_by _ (settles (meets (inl refl) (joined (task_gives {n = 0} refl refl) (arm_gets {n = 1} refl refl refl refl)))) refl refl refl,
+  leads_by _ (settles (meets (inl refl) (joined (task_gives {n = 0} refl refl) (arm_gets {n = 1} refl refl refl refl)))) refl refl refl,
+  leads_by _ (settles (meets (inr refl) (joined (keyboard_gives refl refl refl) (arm_gets {n = 0} refl refl refl refl)))) refl refl refl,
+)
+
+pub listen_rows : ListenRows
+listen_rows = (refl, refl, refl, refl)
 
 abbrev both_offer : Net
 both_offer = net_of [] (choosing true)

@@ -29,3 +29,7 @@ mod Beside
 pub mod Alone
 mod Orderly
 pub mod Same
+pub mod MomentExamples
+pub mod Arms
+pub mod Choosing
+pub mod Earlier

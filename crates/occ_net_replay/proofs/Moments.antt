@@ -1,5 +1,5 @@
 -- Between two turns each process stands at the same stop in the network and in the system.
-use Rattle.std.proofs.Common.{◌≡◌, refl, sym, ap, subst, IsTrue, ℕ, ◌⊎◌, inl, inr, List, [], ◌∷◌}
+use Rattle.std.proofs.Common.{◌≡◌, sym, ap, subst, IsTrue, ℕ, ◌⊎◌, inl, inr, List, [], ◌∷◌}
 use Rattle.occ_term.specs.Processes.{Numbered}
 use Rattle.occ_term.specs.Selecting.{Enabled, SkipArm, InputArm}
 use Rattle.occ_term.specs.Steps.{Context, Left}
@@ -13,7 +13,6 @@ use Rattle.occ_code.specs.Sequential.Compiled.{Program}
 use Rattle.occ_code.specs.Sequential.Machine.{Body}
 use Rattle.occ_code.specs.declared.task.Arm.{Arm}
 use Rattle.occ_code.specs.declared.task.Task.{Task}
-use Rattle.occ_code.specs.declared.task.Wait.{Wait}
 use Rattle.occ_code.specs.declared.task.Wait.TheVariants as W
 use Rattle.occ_net_replay.specs.Replay.{Tasks, HasTask, is_done}
 use Rattle.occ_net_replay.specs.Moments.{At, OnSameChannels, StopsAlike, both_go, both_join, both_offer, both_await, both_choose, both_fork, both_halt, both_fail, both_done, StandAlike}

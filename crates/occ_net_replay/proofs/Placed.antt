@@ -5,7 +5,7 @@ use Rattle.std.specs.Bool.{⊤}
 use Rattle.occ_term.specs.Messages.{message}
 use Rattle.occ_term.specs.declared.message.Part.{Part}
 use Rattle.occ_term.specs.declared.message.Message.{Message}
-use Rattle.occ_term.specs.Terms.{Expression, Term, Skip, Stop, Assign, Input, Output, VariantInput, Seq, Par, Alt, If, Case, While, Each, Clear, Local, Terms, no_terms, then_term, Branches, no_branches, and_branch, Arms, no_arms, skip_arm, input_arm, declared_arms, each_arm, Reception, Plain, Tagged, Variants, no_variants, or_variant, Choices, no_choices, or_choice, declared_choices, each_choice, Options, no_options, or_option, or_else}
+use Rattle.occ_term.specs.Terms.{Expression, Term, Skip, Stop, Assign, Input, Output, VariantInput, Seq, Par, Alt, If, Case, While, Each, Clear, Local, Terms, no_terms, then_term, Branches, no_branches, and_branch, Arms, no_arms, skip_arm, input_arm, declared_arms, each_arm, Reception, Plain, Tagged, Variants, no_variants, or_variant, Choices, no_choices, or_choice, declared_choices, each_choice, Options, no_options, or_option, or_else, tested}
 use Rattle.occ_term.specs.Values.{Store, store_with, Evaluated, Value, Fails, after, holds, Span, first_of, value_of, span_of, parts_of}
 use Rattle.occ_term.specs.Uses.{uses_of, ApartFromAll}
 use Rattle.occ_term.specs.Processes.{Numbered, numbered, branches_in}
@@ -248,7 +248,7 @@ module _ (p : List Numbered) (lo hi : ℕ) where
       only_if Open (holds v) (and_arm (SkipArm ds body) (enabled others ds s')) (enabled others ds s')
       (and_placed (SkipArm ds body) (enabled others ds s') h.0 (enabled_placed others ds s' h.1)) (enabled_placed others ds s' h.1))
   enabled_placed (input_arm test channel list others) ds s h =
-      then_any Open (in_store (value_of test s) s) _ (λ v s'.
+      then_any Open (in_store (value_of (tested test) s) s) _ (λ v s'.
       only_if Open (holds v) (then_in (in_store (span_of channel s') s') (λ c s''. and_arm (InputArm ds (first_of c) list) (enabled others ds s''))) (enabled others ds s')
       (then_any Open (in_store (span_of channel s') s') _ (λ c s''. and_placed (InputArm ds (first_of c) list) (enabled others ds s'') h.0 (enabled_placed others ds s'' h.1))) (enabled_placed others ds s' h.1))
   enabled_placed (declared_arms d within others) ds s h =

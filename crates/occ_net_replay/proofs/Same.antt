@@ -1,6 +1,6 @@
 -- The same choices have one replay.
 use Rattle.std.proofs.Common.{◌≡◌, ◌∙◌, refl, sym, ap, subst, Bool, IsTrue, ℕ, ◌+◌, ◌<◌, ◌^◌, ◌⊎◌, inl, inr, List, [], ◌∷◌, ◌++◌, Some, None, length, arith, length-append}
-use Rattle.std.specs.Prelude.{All, slice_get}
+use Rattle.std.specs.Prelude.{slice_get}
 use Rattle.std.proofs.lemmas.List.{append_assoc}
 use Rattle.occ_term.specs.declared.message.Message.{Message}
 use Rattle.occ_term.specs.Frames.{is_held}
@@ -18,6 +18,7 @@ use Rattle.occ_net_replay.specs.declared.choice.Choice.{Choice}
 use Rattle.occ_net_replay.specs.Following.{AreBytes}
 use Rattle.occ_net_replay.specs.OneReplay.{OneReplay}
 use Rattle.occ_net_replay.specs.Replay.{Net, Tasks, HasTask, made_ready, has_taken, took_arm, byte_message, took_turn, with_task, with_branches, standing, arm_chosen, Gives, task_gives, keyboard_gives, Gets, task_gets, arm_gets, screen_gets, error_gets, joined, traced, one_more, is_done, merged, Happens, meets, skips, forks, joins, Settled, settles, stays, OneTurn, Replays, begins, goes_on, ending_of}
+use Rattle.occ_net_replay.specs.Waiting.{IsReplay}
 use Rattle.occ_net_replay.proofs.Law.{all_followed, d, procs}
 use Rattle.occ_net_replay.proofs.OneStop.{stopping_once}
 use Rattle.occ_net_replay.proofs.Orderly.{Hears, by_input, by_arm, Speaks, Listens, WaitsFor, Orderly, orderly}
@@ -306,6 +307,12 @@ module _ (u : Unfolding) (p : Program) (quantum : ℕ) (kb : List ℕ) (w : IsWe
       let fewer : 1 + length xs < 2 ^ 64 = omega (arith, small, length-append xs (x ∷ [])) in
       let net : a ≡ a' = replayed_once xs ys parts.0 (omega (arith, fewer)) r s in
       turn_once p x a (ordered xs a fewer r) o (subst (λ l. OneTurn p x l b') (sym net) (subst (λ l. OneTurn p l a' b') (sym parts.1) t))
+
+-- what may happen after a turn is where the turn comes to
+pub turn_comes_to : (u : Unfolding) (p : Program) (quantum : ℕ) (kb : List ℕ) (cs : List Choice) (net : Net) → IsReplay u p quantum kb cs net → (c : Choice) {b e : Net} → (o : OneTurn p c net b) → Settled p.bodies o.number c.pick (took_turn net o.number o.after) e → b ≡ e
+turn_comes_to u p quantum kb cs net z c {e = e} o s =
+    let other : OneTurn p c net e = record { number = o.number; body = o.body; before = o.before; after = o.after; selects = o.selects; has_body = o.has_body; has_task = o.has_task; stops = o.stops; settles = s } in
+    turn_once p c net (ordered u p quantum kb z.well_formed z.lawful z.compiled z.bytes cs net z.few z.replays) o other
 
 pub one_replay : OneReplay
 one_replay u p quantum kb cs a b w lawful from bytes small r s = replayed_once u p quantum kb w lawful from bytes cs cs refl small r s

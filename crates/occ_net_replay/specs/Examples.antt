@@ -1,5 +1,5 @@
 -- Small networks of tasks, and what happens in them after a turn.
-use Rattle.std.specs.Prelude.{Bool, List, None, Option, Some, [], false, map, pos, true, ℕ, ◌∷◌, ◌≡◌}
+use Rattle.std.specs.Prelude.{Bool, List, None, Option, Some, [], false, map, pos, true, ℕ, ℤ, ◌∷◌, ◌≡◌}
 use Rattle.occ_term.specs.Messages.{fault, message}
 use Rattle.occ_term.specs.declared.fault.FaultKind.TheVariants.{Arith}
 use Rattle.occ_term.specs.declared.message.Message.{Message}
@@ -15,6 +15,7 @@ use Rattle.occ_code.specs.declared.task.Wait.{Wait}
 use Rattle.occ_code.specs.declared.task.Wait.TheVariants.{Ready, Took, Offers, Awaits, Chooses, Joins, Halted, Done, Faulted}
 use Rattle.occ_net_replay.specs.declared.ending.Ending.TheVariants as ending
 use Rattle.occ_net_replay.specs.Replay.{Net, Tasks, Settled, byte_message, ending_of, ready_from, selected}
+use Rattle.occ_net_replay.specs.Waiting.{channels_at, listens_on}
 
 -- ---- tasks and networks
 
@@ -78,25 +79,53 @@ MeetingRows =
     × LeadsTo [] 0 0 (net_of (104 ∷ 105 ∷ []) (task 0 (Awaits 0) ∷ [])) (task 0 (Took 0 [] (Some (byte_message 104))) ∷ []) (communication 0 Keyboard (OfProcess 0) (byte_message 104) ∷ [])
     × LeadsTo [] 0 0 (net_of [] (task 0 (Offers 1 (byte_message 104)) ∷ [])) (task 0 Ready ∷ []) (communication 1 (OfProcess 0) Screen (byte_message 104) ∷ [])
 
--- ---- two standing offers and a process that chooses; an arm with SKIP; an offer that comes to two arms that wait for it
+-- ---- choices: with standing offers; with SKIP; with the keyboard; an offer that comes to a process that waits
 
 abbrev pub arm : ℕ → Option ℕ → Arm
 arm place channel = record { place = place; chan = channel; indices = [] }
 
+-- an arm from 3, for this value of its index
+abbrev pub replicated : ℕ → Arm
+replicated v = record { place = 10; chan = Some 3; indices = pos v ∷ [] }
+
+-- two processes offer, on 3 and on 4, and one chooses
+abbrev pub choosing_among : Bool → List Arm → Tasks
+choosing_among pri arms = task 0 (Offers 3 (whole_number 5)) ∷ task 1 (Offers 4 (whole_number 6)) ∷ task 2 (Chooses pri arms) ∷ []
+
 abbrev pub choosing : Bool → Tasks
-choosing pri = task 0 (Offers 3 (whole_number 5)) ∷ task 1 (Offers 4 (whole_number 6)) ∷ task 2 (Chooses pri (arm 10 (Some 3) ∷ arm 20 (Some 4) ∷ [])) ∷ []
+choosing pri = choosing_among pri (arm 10 (Some 3) ∷ arm 20 (Some 4) ∷ [])
+
+-- the message from 3, or from 4, by this arm
+abbrev pub first_by : ℕ → Tasks
+first_by place = task 0 Ready ∷ task 1 (Offers 4 (whole_number 6)) ∷ task 2 (Took place [] (Some (whole_number 5))) ∷ []
+
+abbrev pub second_by : ℕ → Tasks
+second_by place = task 0 (Offers 3 (whole_number 5)) ∷ task 1 Ready ∷ task 2 (Took place [] (Some (whole_number 6))) ∷ []
 
 abbrev pub took_first : Tasks
-took_first = task 0 Ready ∷ task 1 (Offers 4 (whole_number 6)) ∷ task 2 (Took 10 [] (Some (whole_number 5))) ∷ []
+took_first = first_by 10
 
 abbrev pub took_second : Tasks
-took_second = task 0 (Offers 3 (whole_number 5)) ∷ task 1 Ready ∷ task 2 (Took 20 [] (Some (whole_number 6))) ∷ []
+took_second = second_by 20
+
+-- one process offers on 3, and one chooses
+abbrev pub offer_to : Bool → List Arm → Tasks
+offer_to pri arms = task 0 (Offers 3 (whole_number 5)) ∷ task 1 (Chooses pri arms) ∷ []
+
+abbrev pub got_by : ℕ → List ℤ → Tasks
+got_by place indices = task 0 Ready ∷ task 1 (Took place indices (Some (whole_number 5))) ∷ []
+
+abbrev pub skipped_by : ℕ → Tasks
+skipped_by place = task 0 (Offers 3 (whole_number 5)) ∷ task 1 (Took place [] None) ∷ []
 
 abbrev pub or_skip : Tasks
 or_skip = task 0 (Chooses true (arm 10 (Some 3) ∷ arm 20 None ∷ [])) ∷ []
 
-abbrev pub twice : Tasks
-twice = task 0 (Offers 3 (whole_number 5)) ∷ task 1 (Chooses false (arm 10 (Some 3) ∷ arm 20 (Some 3) ∷ [])) ∷ []
+abbrev pub from_keyboard : Tasks
+from_keyboard = task 0 (Chooses false (arm 10 (Some 3) ∷ arm 20 (Some 0) ∷ [])) ∷ []
+
+abbrev pub closed : Tasks
+closed = offer_to false (arm 10 (Some 4) ∷ [])
 
 abbrev pub ChoiceRows : Type 0
 ChoiceRows =
@@ -105,7 +134,40 @@ ChoiceRows =
     × LeadsTo [] 2 1 (net_of [] (choosing false)) took_second (from_to 4 1 2 6 ∷ [])
     × LeadsTo [] 2 2 (net_of [] (choosing false)) took_first (from_to 3 0 2 5 ∷ [])
     × LeadsTo [] 0 0 (net_of [] or_skip) (task 0 (Took 20 [] None) ∷ []) []
-    × LeadsTo [] 0 1 (net_of [] twice) (task 0 Ready ∷ task 1 (Took 20 [] (Some (whole_number 5))) ∷ []) (from_to 3 0 1 5 ∷ [])
+
+-- an arm that is not ready is not counted
+abbrev pub ClosedRows : Type 0
+ClosedRows =
+    ((pick : ℕ) → LeadsTo [] 2 pick (net_of [] (choosing_among true (arm 15 (Some 5) ∷ arm 20 (Some 4) ∷ arm 10 (Some 3) ∷ []))) (second_by 20) (from_to 4 1 2 6 ∷ []))
+    × LeadsTo [] 2 2 (net_of [] (choosing_among false (arm 10 (Some 3) ∷ arm 15 (Some 5) ∷ arm 20 (Some 4) ∷ []))) (first_by 10) (from_to 3 0 2 5 ∷ [])
+    × LeadsTo [] 2 3 (net_of [] (choosing_among false (arm 10 (Some 3) ∷ arm 15 (Some 5) ∷ arm 20 (Some 4) ∷ []))) (second_by 20) (from_to 4 1 2 6 ∷ [])
+    × LeadsTo [] 1 0 (net_of [] closed) closed []
+
+-- SKIP is ready as an offer is, and its offers stand on
+abbrev pub SkipRows : Type 0
+SkipRows =
+    ((pick : ℕ) → LeadsTo [] 1 pick (net_of [] (offer_to true (arm 10 (Some 3) ∷ arm 20 None ∷ []))) (got_by 10 []) (from_to 3 0 1 5 ∷ []))
+    × ((pick : ℕ) → LeadsTo [] 1 pick (net_of [] (offer_to true (arm 20 None ∷ arm 10 (Some 3) ∷ []))) (skipped_by 20) [])
+    × LeadsTo [] 1 0 (net_of [] (offer_to false (arm 10 (Some 3) ∷ arm 20 None ∷ []))) (got_by 10 []) (from_to 3 0 1 5 ∷ [])
+    × LeadsTo [] 1 1 (net_of [] (offer_to false (arm 10 (Some 3) ∷ arm 20 None ∷ []))) (skipped_by 20) []
+
+-- after a turn of the offering process, the pick counts among the arms of the one that waits
+abbrev pub LateOfferRows : Type 0
+LateOfferRows =
+    LeadsTo [] 0 1 (net_of [] (offer_to false (arm 10 (Some 3) ∷ arm 20 (Some 3) ∷ []))) (got_by 20 []) (from_to 3 0 1 5 ∷ [])
+    × LeadsTo [] 0 2 (net_of [] (offer_to false (arm 10 (Some 3) ∷ arm 20 (Some 3) ∷ []))) (got_by 10 []) (from_to 3 0 1 5 ∷ [])
+    × LeadsTo [] 0 1 (net_of [] (offer_to false (arm 30 (Some 4) ∷ arm 10 (Some 3) ∷ arm 20 (Some 3) ∷ []))) (got_by 20 []) (from_to 3 0 1 5 ∷ [])
+    × ((pick : ℕ) → LeadsTo [] 0 pick (net_of [] (offer_to true (arm 30 (Some 4) ∷ arm 10 (Some 3) ∷ arm 20 (Some 3) ∷ []))) (got_by 10 []) (from_to 3 0 1 5 ∷ []))
+    × LeadsTo [] 0 1 (net_of [] (offer_to false (replicated 7 ∷ replicated 8 ∷ []))) (got_by 10 (pos 8 ∷ [])) (from_to 3 0 1 5 ∷ [])
+    × LeadsTo [] 0 0 (net_of (104 ∷ 105 ∷ []) from_keyboard) (task 0 (Took 20 [] (Some (byte_message 104))) ∷ []) (communication 0 Keyboard (OfProcess 0) (byte_message 104) ∷ [])
+
+-- on which channels a process waits for a message
+abbrev pub ListenRows : Type 0
+ListenRows =
+    (channels_at (Chooses false (arm 10 (Some 3) ∷ arm 20 None ∷ arm 30 (Some 5) ∷ [])) ≡ 3 ∷ 5 ∷ [])
+    × (channels_at (Awaits 4) ≡ 4 ∷ [])
+    × (channels_at (Offers 3 (whole_number 5)) ≡ [])
+    × (listens_on (Chooses true (arm 20 None ∷ arm 30 (Some 5) ∷ [])) 5 ≡ true)
 
 -- with priority the first arm alone
 abbrev pub FirstWithPriority : Type 0

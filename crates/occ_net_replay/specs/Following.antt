@@ -1,5 +1,5 @@
 -- A run of the source that a replay of its compiled code follows.
-use Rattle.std.specs.Prelude.{All, IsTrue, List, None, Option, Some, [], length, map, slice_get, ℕ, ⊤, ◌+◌, ◌<◌, ◌^◌, ◌∷◌, ◌≡◌}
+use Rattle.std.specs.Prelude.{IsTrue, List, None, Option, Some, [], length, map, slice_get, ℕ, ⊤, ◌+◌, ◌<◌, ◌^◌, ◌∷◌, ◌≡◌}
 use Rattle.occ_term.specs.declared.message.Message.{Message}
 use Rattle.occ_term.specs.declared.protocol.Protocol.{Protocol}
 use Rattle.occ_term.specs.Unfolding.{Unfolding, IsWellFormed, Lawful, declared, meaning}

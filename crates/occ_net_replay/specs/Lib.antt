@@ -6,3 +6,5 @@ pub mod Examples
 pub mod Sharing
 pub mod OneReplay
 pub mod Moments
+pub mod MomentExamples
+pub mod Choosing

@@ -98,3 +98,19 @@ OneRunThroughout =
     (u : Unfolding) (p : Program) (quantum : ℕ) (keyboard : List ℕ) (cs : List Choice) (net : Net)
     → IsWellFormed u → Lawful u → IsCompiledFrom u quantum p → AreBytes keyboard → length cs < 2 ^ 64
     → Replays p keyboard cs net → (f : Followed u keyboard quantum net) × Accompanies u p quantum keyboard cs net f
+
+-- what a run has come to by the first of some choices; the turns since are `later`
+pub record EarlierMoment (u : Unfolding) (p : Program) (quantum : ℕ) (keyboard : List ℕ) (first since : List Choice) (events : List Event) : Type 0 where
+  pub net : Net
+  pub follows : Followed u keyboard quantum net
+  pub later : List Event
+  pub accompanies : Accompanies u p quantum keyboard first net follows
+  pub moment : IsMoment net follows.system
+  pub goes_on : events ≡ follows.events ++ later
+  pub as_many : length later ≡ length since
+
+-- the run of some choices begins with that of the first of them, and has one turn more for each of the others
+abbrev pub RunsGoOn : Type 0
+RunsGoOn =
+    (u : Unfolding) (p : Program) (quantum : ℕ) (keyboard : List ℕ) (first since : List Choice) (net : Net) (f : Followed u keyboard quantum net)
+    → Accompanies u p quantum keyboard (first ++ since) net f → EarlierMoment u p quantum keyboard first since f.events

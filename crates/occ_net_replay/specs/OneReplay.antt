@@ -1,5 +1,5 @@
 -- The choices, the code and the keyboard determine a replay.
-use Rattle.std.specs.Prelude.{All, List, length, ℕ, ◌<◌, ◌^◌, ◌≡◌}
+use Rattle.std.specs.Prelude.{List, length, ℕ, ◌<◌, ◌^◌, ◌≡◌}
 use Rattle.occ_term.specs.Unfolding.{Unfolding, IsWellFormed, Lawful}
 use Rattle.occ_code.specs.Sequential.Compiled.{Program, IsCompiledFrom}
 use Rattle.occ_net_replay.specs.declared.choice.Choice.{Choice}

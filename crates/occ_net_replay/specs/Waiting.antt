@@ -1,13 +1,15 @@
--- What a turn that ends at an offer, at an input or at a fork finds among the other processes.
-use Rattle.std.specs.Prelude.{All, IsTrue, List, Some, length, slice_get, ℕ, ◌+◌, ◌<◌, ◌^◌, ◌≡◌}
+-- What a turn that ends at an offer, at an input, at a choice or at a fork finds among the other processes.
+use Rattle.std.specs.Prelude.{Bool, IsTrue, List, None, Option, Some, [], length, slice_get, ℕ, ℤ, ◌+◌, ◌<◌, ◌^◌, ◌∷◌, ◌≡◌}
 use Rattle.occ_term.specs.declared.message.Message.{Message}
 use Rattle.occ_term.specs.Frames.{is_held}
 use Rattle.occ_term.specs.Unfolding.{Unfolding, IsWellFormed, Lawful}
 use Rattle.occ_code.specs.Alike.{IsRising}
 use Rattle.occ_code.specs.Sequential.Compiled.{Program, IsCompiledFrom}
 use Rattle.occ_code.specs.Sequential.Machine.{Body, Stopping}
+use Rattle.occ_code.specs.declared.task.Arm.{Arm}
 use Rattle.occ_code.specs.declared.task.Task.{Task}
-use Rattle.occ_code.specs.declared.task.Wait.TheVariants.{Offers, Awaits, Joins, Done}
+use Rattle.occ_code.specs.declared.task.Wait.{Wait}
+use Rattle.occ_code.specs.declared.task.Wait.TheVariants.{Ready, Took, Offers, Awaits, Chooses, Joins, Halted, Done, Faulted}
 use Rattle.occ_net_replay.specs.declared.choice.Choice.{Choice}
 use Rattle.occ_net_replay.specs.Following.{AreBytes}
 use Rattle.occ_net_replay.specs.Replay.{Net, Tasks, HasTask, may_go, Replays}
@@ -46,15 +48,47 @@ TurnsOfferAlone =
     (u : Unfolding) (p : Program) (quantum : ℕ) (keyboard : List ℕ) (cs : List Choice) (net : Net) (n : ℕ) (after : Task) (c : ℕ) (m : Message)
     → IsReplay u p quantum keyboard cs net → IsTurn p net.tasks n after → after.wait ≡ Offers c m → OffersAlone p net.tasks c
 
--- the channel is declared, and no other process awaits a message on it
-pub record AwaitsAlone (p : Program) (tasks : Tasks) (c : ℕ) : Type 0 where
-  pub declared : c < length p.channels
-  pub alone : (i : ℕ) (t : Task) → HasTask tasks i t → t.wait ≡ Awaits c → ⊥
+-- ---- who waits for a message
 
-abbrev pub TurnsAwaitAlone : Type 0
-TurnsAwaitAlone =
+abbrev pub and_channel : Option ℕ → List ℕ → List ℕ
+and_channel None cs = cs
+and_channel (Some c) cs = c ∷ cs
+
+-- the channels that arms input from; SKIP has none
+abbrev pub channels_of : List Arm → List ℕ
+channels_of [] = []
+channels_of (a ∷ arms) = and_channel a.chan (channels_of arms)
+
+-- the channels on which a process waits for a message, by an input or by the arms of a choice
+abbrev pub channels_at : Wait → List ℕ
+channels_at Ready = []
+channels_at (Took arm indices m) = []
+channels_at (Offers c m) = []
+channels_at (Awaits c) = c ∷ []
+channels_at (Chooses pri arms) = channels_of arms
+channels_at (Joins ns) = []
+channels_at Halted = []
+channels_at Done = []
+channels_at (Faulted e) = []
+
+abbrev pub listens_on : Wait → ℕ → Bool
+listens_on w c = is_held (channels_at w) c
+
+-- the channel is declared, and no other process waits for a message on it
+pub record ListensAlone (p : Program) (tasks : Tasks) (c : ℕ) : Type 0 where
+  pub declared : c < length p.channels
+  pub alone : (i : ℕ) (t : Task) → HasTask tasks i t → IsTrue (listens_on t.wait c) → ⊥
+
+abbrev pub TurnsListenAlone : Type 0
+TurnsListenAlone =
     (u : Unfolding) (p : Program) (quantum : ℕ) (keyboard : List ℕ) (cs : List Choice) (net : Net) (n : ℕ) (after : Task) (c : ℕ)
-    → IsReplay u p quantum keyboard cs net → IsTurn p net.tasks n after → after.wait ≡ Awaits c → AwaitsAlone p net.tasks c
+    → IsReplay u p quantum keyboard cs net → IsTurn p net.tasks n after → IsTrue (listens_on after.wait c) → ListensAlone p net.tasks c
+
+-- no turn ends with a message taken: what is taken is taken between turns
+abbrev pub TurnsNeverTake : Type 0
+TurnsNeverTake =
+    (u : Unfolding) (p : Program) (quantum : ℕ) (keyboard : List ℕ) (cs : List Choice) (net : Net) (n : ℕ) (after : Task) (arm : ℕ) (indices : List ℤ) (m : Option Message)
+    → IsReplay u p quantum keyboard cs net → IsTurn p net.tasks n after → after.wait ≡ Took arm indices m → ⊥
 
 -- The branches are numbered behind their process, in rising order, and have bodies. None has begun but those that are done, and
 -- nobody else waits for one.

@@ -2,12 +2,14 @@
 
 ghost use Rattle.occ_term.specs.Examples.{PriorityTakesFirst};
 ghost use Rattle.occ_code.specs.declared.task.Arm.{Arm};
-ghost use Rattle.occ_net_replay.specs.Examples.{ChoiceRows, EndingRows, ForkRows, MeetingRows, FirstWithPriority, TurnRows};
+ghost use Rattle.occ_net_replay.specs.Choosing.{ChoicesTakeReadyArms, OffersReachChoices};
+ghost use Rattle.occ_net_replay.specs.Examples.{ChoiceRows, ClosedRows, EndingRows, ForkRows, LateOfferRows, ListenRows, MeetingRows, FirstWithPriority, SkipRows, TurnRows};
 ghost use Rattle.occ_net_replay.specs.Following.{OneNeverForks, ReadyTasksStop, ReplaysAreRuns};
-ghost use Rattle.occ_net_replay.specs.Moments.{OneRunThroughout};
+ghost use Rattle.occ_net_replay.specs.MomentExamples.{MissingRows, OtherStopRows, SameStopRows, UnquietRows};
+ghost use Rattle.occ_net_replay.specs.Moments.{OneRunThroughout, RunsGoOn};
 ghost use Rattle.occ_net_replay.specs.OneReplay.{OneReplay};
 ghost use Rattle.occ_net_replay.specs.Sharing.{ReplaysShareStore};
-ghost use Rattle.occ_net_replay.specs.Waiting.{TurnsAreFew, TurnsAwaitAlone, TurnsForkAlone, TurnsOfferAlone};
+ghost use Rattle.occ_net_replay.specs.Waiting.{TurnsAreFew, TurnsForkAlone, TurnsListenAlone, TurnsNeverTake, TurnsOfferAlone};
 
 /// A replay of the code of a lawful program is a run of the program.
 pub fn replays_are_runs()
@@ -35,6 +37,35 @@ pub fn small_networks()
     ensures endings { EndingRows }
 {}
 
+/// Which arm is taken in small networks: where arms are closed, where there is SKIP, where an offer or
+/// a byte comes to a process that waits; and on which channels that one waits.
+pub fn small_choices()
+    ensures closed { ClosedRows }
+    ensures skip { SkipRows }
+    ensures late { LateOfferRows }
+    ensures listening { ListenRows }
+{}
+
+/// Stops that are alike and stops that are not, and networks in which something is possible that needs
+/// no turn.
+pub fn small_moments()
+    ensures same { SameStopRows }
+    ensures other { OtherStopRows }
+    ensures missing { MissingRows }
+    ensures unquiet { UnquietRows }
+{}
+
+/// A process that comes to a choice takes a ready arm at once, by the number of its turn.
+pub fn choices_take_ready_arms()
+    ensures { ChoicesTakeReadyArms }
+{}
+
+/// An offer that reaches a process which waits at a choice is taken by an arm on its channel, by the
+/// number of the turn of the one that offers.
+pub fn offers_reach_choices()
+    ensures { OffersReachChoices }
+{}
+
 /// In a replay each task can count one turn more.
 pub fn turns_are_few()
     ensures { TurnsAreFew }
@@ -45,9 +76,14 @@ pub fn turns_offer_alone()
     ensures { TurnsOfferAlone }
 {}
 
-/// No two processes await a message on one channel.
-pub fn turns_await_alone()
-    ensures { TurnsAwaitAlone }
+/// No two processes wait for a message on one channel, by an input or by an arm.
+pub fn turns_listen_alone()
+    ensures { TurnsListenAlone }
+{}
+
+/// No turn ends with a message taken.
+pub fn turns_never_take()
+    ensures { TurnsNeverTake }
 {}
 
 /// The branches of a fork are nobody's but its own.
@@ -74,4 +110,10 @@ pub fn one_replay()
 /// where nothing is possible that needs no turn.
 pub fn one_run_throughout()
     ensures { OneRunThroughout }
+{}
+
+/// The run that follows a replay of some choices begins with the one that follows that of the first of
+/// them.
+pub fn runs_go_on()
+    ensures { RunsGoOn }
 {}

@@ -1,21 +1,17 @@
 -- A run that is played again has the same answer.
-use Rattle.std.proofs.Common.{◌≡◌, ◌∙◌, ◌<◌, ◌≤◌, ◌^◌, ◌+◌, ℕ, Bool, List, [], ◌∷◌, ◌++◌, Option, Some, None, refl, sym, ap, subst, length, map, arith, length-append, append-nil}
-use Rattle.occ_text.specs.Words.{Row}
+use Rattle.std.proofs.Common.{◌≡◌, ◌∙◌, ◌<◌, ◌≤◌, ◌^◌, ◌+◌, ℕ, Bool, List, [], ◌∷◌, ◌++◌, Option, Some, refl, sym, ap, subst, length, arith, length-append, append-nil}
 use Rattle.occ_text.proofs.LineLaws.{one_reading}
 use Rattle.occ_tree_grammar.specs.Processes.Trees.{Item}
 use Rattle.occ_tree_laws.proofs.Whole.{one_tree}
 use Rattle.occ_term.specs.Runs.{shown, shown_by}
 use Rattle.occ_term.specs.Terms.{Term}
-use Rattle.occ_term.specs.Unfolding.{Unfolding, IsWellFormed, Lawful, meaning}
+use Rattle.occ_term.specs.Unfolding.{Unfolding, meaning}
 use Rattle.occ_term.specs.declared.names.Channel.{Channel}
 use Rattle.occ_check_meaning.specs.Numbers.{Numbers}
 use Rattle.occ_check_meaning.specs.ProgramUnfolding.{UnfoldsTo}
-use Rattle.occ_check_meaning.specs.Programs.{program_unfolded}
 use Rattle.occ_check_meaning.proofs.Complete.{program_complete}
-use Rattle.occ_code.specs.Sequential.Compiled.{Program}
 use Rattle.occ_code.proofs.OneCode.{one_code}
 use Rattle.occ_net_replay.specs.declared.choice.Choice.{Choice}
-use Rattle.occ_net_replay.specs.declared.ending.Ending.TheVariants as E
 use Rattle.occ_net_replay.specs.Following.{AreBytes, or_limit}
 use Rattle.occ_net_replay.specs.Replay.{Net, Replays, ending_of}
 use Rattle.occ_net_replay.proofs.Same.{Passed, one_replay, passed}

@@ -1,9 +1,8 @@
 -- The answer of an outcome is shown by a run of the source.
-use Rattle.std.proofs.Common.{inl, inr, ◌≡◌, ◌∙◌, ◌<◌, ◌^◌, ℕ, ℤ, List, [], ◌∷◌, ◌++◌, Option, Some, None, Bool, true, false, IsTrue, length, map, refl, sym, ap, subst, arith}
-use Rattle.std.specs.Prelude.{All, if◌then◌else◌, nat_eq, slice_get}
+use Rattle.std.proofs.Common.{◌≡◌, ◌∙◌, ◌<◌, ◌^◌, ℕ, ℤ, List, [], ◌∷◌, ◌++◌, Option, Some, None, Bool, true, false, IsTrue, length, map, refl, sym, ap, subst, arith}
+use Rattle.std.specs.Prelude.{if◌then◌else◌, nat_eq, slice_get}
 use Rattle.std.proofs.lemmas.Bool.{eq-eqb}
 use Rattle.occ_term.specs.Messages.{Fits, FitsAfter, is_of, message, parts_after}
-use Rattle.occ_term.specs.Processes.{Numbered, numbered, branches_in}
 use Rattle.occ_term.specs.declared.message.Message.{Message}
 use Rattle.occ_term.specs.declared.message.Part.{Part}
 use Rattle.occ_term.specs.declared.message.Part.TheVariants.{One, Many, Counted}
@@ -16,11 +15,9 @@ use Rattle.occ_term.specs.declared.usage.UsageFault.TheVariants as usage
 use Rattle.occ_term.specs.Refusals.{UsageRefuses}
 use Rattle.occ_term.specs.System.{HaltMode}
 use Rattle.occ_term.specs.Runs.{communications, messages_on, shown, shown_by, EndsBy}
-use Rattle.occ_term.specs.TermTyping.{Declared}
-use Rattle.occ_term.specs.Unfolding.{Unfolding, IsWellFormed, declared, meaning, Lawful}
+use Rattle.occ_term.specs.Unfolding.{Unfolding, IsWellFormed, declared, Lawful}
 use Rattle.occ_code.specs.Alike.{FitsProtocol}
-use Rattle.occ_code.specs.Sequential.Compiled.{Program, IsCodeOf, IsCompiledFrom, AllDo, CodeRefuses}
-use Rattle.occ_code.specs.Sequential.Machine.{Body}
+use Rattle.occ_code.specs.Sequential.Compiled.{Program, IsCodeOf, IsCompiledFrom, CodeRefuses}
 use Rattle.occ_code.specs.declared.compiler.code.CodeFault.{CodeFault}
 use Rattle.occ_code.specs.declared.compiler.code.CodeFault.TheVariants as code
 use Rattle.occ_net_replay.specs.declared.choice.Choice.{Choice}
@@ -142,6 +139,5 @@ usage_refuses u usage.Memory x h = tt
 -- a quantum of 1 is refused by none
 pub code_refuses : {source : List ℕ} (u : Unfolding) (fault : CodeFault) → Unfolds source u → CodeRefuses fault 1 u → CodeRefusesText fault source
 code_refuses u code.TooLarge x h = (u, x, h.1)
-code_refuses u (code.Early line) x h = (u, x, h.1)
 code_refuses u code.BadQuantum x h = h (omega arith, omega arith)
 code_refuses u code.Memory x h = tt

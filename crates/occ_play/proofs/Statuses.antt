@@ -1,5 +1,5 @@
 -- Exit statuses are at most 7, and what they come from.
-use Rattle.std.proofs.Common.{ℕ, ◌≤◌, Bool, List, arith}
+use Rattle.std.proofs.Common.{ℕ, ◌≤◌, ◌≡◌, ◌⊎◌, inl, inr, Bool, List, arith, subst, sym}
 use Rattle.std.specs.Prelude.{Result, Ok, Err, IfOk, IfErr, Option}
 use Rattle.occ_text.specs.declared.fault.TextFault.TheVariants as text
 use Rattle.occ_tree_grammar.specs.declared.fault.ParseFault.TheVariants as tree
@@ -13,12 +13,14 @@ use Rattle.occ_play.specs.declared.playing.Played.{Played}
 use Rattle.occ_play.specs.declared.counted.Counted.{Counted}
 use Rattle.occ_play.specs.declared.fault.PlayFault.{PlayFault}
 use Rattle.occ_play.specs.declared.fault.PlayFault.TheVariants as play
-use Rattle.occ_play.specs.declared.program.Failure.{Failure}
-use Rattle.occ_play.specs.declared.program.Failure.TheVariants.{Help, Words, Arguments, Read, Write, Memory}
+use Rattle.occ_choices.specs.declared.fault.ChoiceFault.TheVariants as choice
+use Rattle.occ_play.specs.declared.failure.Failure.{Failure}
+use Rattle.occ_play.specs.declared.failure.Failure.TheVariants.{Help, Words, Arguments, Read, Choices, Write, Memory}
 use Rattle.occ_play.specs.Playing.{AfterFault, IsAnswer, IsSomeAnswer, Wrote}
 use Rattle.occ_play.specs.Status.{ending_status, fault_status, status}
 use Rattle.occ_play.specs.Failures.{failure_status}
-use Rattle.occ_play.specs.Coming.{CameTo}
+use Rattle.occ_play.specs.declared.words.Words.{Words as Asked}
+use Rattle.occ_play.specs.Coming.{CameTo, IsStatusFor, ProgramStatus, of_play, of_failure, of_help}
 
 ending_small : (e : Ending) → ending_status e ≤ 7
 ending_small Ended = omega arith
@@ -49,6 +51,8 @@ pub failure_small : (f : Failure) → failure_status f ≤ 7
 failure_small (Help error) = omega arith
 failure_small Memory = omega arith
 failure_small Read = omega arith
+failure_small (Choices choice.Memory) = omega arith
+failure_small (Choices fault) = omega arith
 failure_small Write = omega arith
 failure_small (Words error) = omega arith
 failure_small Arguments = omega arith
@@ -69,3 +73,12 @@ pub came_to : {W : Type 0} (contents : W → Option (List ℕ)) (source keyboard
     → CameTo source keyboard list trace r
 came_to contents source keyboard list trace old new (Ok played) h g = (h.0, h.1)
 came_to contents source keyboard list trace old new (Err f) h g = came_from_fault contents source keyboard list trace old new f g
+
+-- what was played has its status, and so has a failure
+pub played_status : (words : Asked) (r : Result ℕ Failure) → IfOk r (IsStatusFor words) → IfOk r ProgramStatus
+played_status words (Ok s) h = of_play words h
+played_status words (Err f) h = tt
+
+pub failed_status : (f : Failure) (s : ℕ) → (s ≡ failure_status f) ⊎ ((failure_status f ≡ 0) × (s ≡ 6)) → ProgramStatus s
+failed_status f s (inl e) = subst ProgramStatus (sym e) (of_failure f)
+failed_status f s (inr h) = subst ProgramStatus (sym h.1) (of_help f h.0)

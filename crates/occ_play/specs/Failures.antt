@@ -1,12 +1,15 @@
--- Exit statuses of a program that played nothing.
+-- Exit statuses of a program that played nothing, or could not write what it played.
 use Rattle.std.specs.Prelude.{ℕ}
-use Rattle.occ_play.specs.declared.program.Failure.{Failure}
-use Rattle.occ_play.specs.declared.program.Failure.TheVariants.{Help, Words, Arguments, Read, Write, Memory}
+use Rattle.occ_choices.specs.declared.fault.ChoiceFault.TheVariants as choice
+use Rattle.occ_play.specs.declared.failure.Failure.{Failure}
+use Rattle.occ_play.specs.declared.failure.Failure.TheVariants.{Help, Words, Arguments, Read, Choices, Write, Memory}
 
 abbrev pub failure_status : Failure → ℕ
 failure_status (Help text) = 0
 failure_status Memory = 5
 failure_status Read = 6
+failure_status (Choices choice.Memory) = 5
+failure_status (Choices fault) = 7
 failure_status Write = 6
 failure_status (Words error) = 7
 failure_status Arguments = 7

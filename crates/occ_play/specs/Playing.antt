@@ -1,5 +1,5 @@
 -- What `play` promises: the answer of an accepted program is shown by a run of its source, with that run's ending.
-use Rattle.std.specs.Prelude.{Bool, List, Option, false, length, map, take, ℕ, ⊤, ◌*◌, ◌<◌, ◌≡◌}
+use Rattle.std.specs.Prelude.{Bool, List, Option, length, map, take, ℕ, ⊤, ◌*◌, ◌<◌, ◌≡◌}
 use Rattle.std.specs.Io.KnownBytes.{Appends}
 use Rattle.occ_text.specs.Words.{Row}
 use Rattle.occ_text.specs.Lines.{LinesOf}
@@ -17,7 +17,6 @@ use Rattle.occ_term.specs.Refusals.{UsageRefuses}
 use Rattle.occ_term.specs.Unfolding.{Unfolding, declared, meaning, IsWellFormed, Lawful}
 use Rattle.occ_term.specs.System.{System, start, HaltMode}
 use Rattle.occ_term.specs.Runs.{Event, Run, communications, shown, EndsBy}
-use Rattle.occ_code.specs.Sequential.Emitted.{has_no_alt}
 use Rattle.occ_code.specs.Sequential.Compiled.{Program, IsCodeOf, most_instructions}
 use Rattle.occ_check_meaning.specs.ProgramUnfolding.{UnfoldsTo}
 use Rattle.occ_check_names.specs.declared.fault.CheckFault.{CheckFault}
@@ -103,10 +102,8 @@ abbrev pub UsageRefusesText : UsageFault → List ℕ → Type 0
 UsageRefusesText usage.Memory source = ⊤
 UsageRefusesText fault source = (u : Unfolding) × Unfolds source u × UsageRefuses fault u
 
--- 61 only where there is an ALT
 abbrev pub CodeRefusesText : CodeFault → List ℕ → Type 0
 CodeRefusesText code.Memory source = ⊤
-CodeRefusesText (code.Early line) source = (u : Unfolding) × Unfolds source u × (has_no_alt (meaning u) ≡ false)
 CodeRefusesText code.BadQuantum source = ⊥
 CodeRefusesText code.TooLarge source = (u : Unfolding) × Unfolds source u × (most_instructions < 32 * (size_of (meaning u)).nodes)
 

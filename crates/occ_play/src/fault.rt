@@ -25,7 +25,7 @@ pub enum PlayFault {
     /// The program breaks the usage rules.
     #[error("{0}")]
     Usage(UsageFault),
-    /// The program is too large, or it has an ALT.
+    /// The program is too large.
     #[error("{0}")]
     Code(CodeFault),
     /// A write failed, after the first `written` bytes of the answer were written.

@@ -3,16 +3,20 @@
 
 mod answer;
 pub mod counted;
+mod failure;
 pub mod fault;
+mod inputs;
 pub mod laws;
 pub mod plan;
 pub mod playing;
 pub mod program;
+mod recording;
 mod running;
 pub mod words;
 
 pub use counted::Counted;
 pub use fault::PlayFault;
+pub use occ_choices::{ChoiceFault, choices_text, read_choices};
 pub use occ_net::{Communication, End};
 pub use occ_net_replay::{Choice, Ending};
 pub use plan::Plan;

@@ -1,62 +1,28 @@
 //! The program around `play`: what it reads and prints, and its exit status.
-ghost use Rattle.std.specs.Prelude.{◌≡◌, ◌≢◌, ◌≤◌, ◌<◌, ◌-◌, ◌^◌, ◌⊎◌, IfOk, IfSome, take};
-ghost use Rattle.std.specs.IoError.{error_kind};
-ghost use Rattle.clap.specs.Values.{kind_of};
-ghost use Rattle.occ_play.specs.Coming.{CameTo, IsStatusOf};
+ghost use Rattle.std.specs.Prelude.{◌≡◌, ◌≤◌, ◌<◌, ◌-◌, ◌^◌, ◌⊎◌, IfOk};
+ghost use Rattle.occ_play.specs.Coming.{CameTo, IsStatusFor, IsStatusOf, ProgramStatus};
 ghost use Rattle.occ_play.specs.Counting.{failures_of};
 ghost use Rattle.occ_play.specs.Failures.{failure_status};
 ghost use Rattle.occ_play.specs.Plans.{choices_of};
 
 use crate::counted::Counted;
+use crate::failure::{Failure, of_arguments, of_words};
 use crate::fault::PlayFault;
-use crate::plan::Plan;
+use crate::inputs::{Inputs, read_inputs};
 use crate::playing::{Played, play, status_of};
+use crate::recording::record;
 use crate::words::{Words, read_words};
-use clap::error::ErrorKind as WordsErrorKind;
-use std::alloc::{AllocError, Global};
-use std::io::{ErrorKind, Read, Write};
+use std::alloc::Global;
+use std::io::Write;
 use std::rt::{Env, Files};
-use std::{env, fs, io};
-use thiserror::Error;
-
-/// How many bytes of a source are read: one more than it may have.
-const MOST_SOURCE: u64 = 1_048_577;
-
-/// What the program plays.
-#[derive(Drop)]
-struct Inputs {
-    source: Vec<u8>,
-    keyboard: Vec<u8>,
-}
-
-/// Why nothing was played.
-#[derive(Debug, Drop, Error)]
-enum Failure {
-    /// The words ask for help, which this is.
-    #[error("{0}")]
-    Help(clap::Error),
-    /// The words are wrong.
-    #[error("{0}")]
-    Words(clap::Error),
-    /// An argument is no UTF-8.
-    #[error("an argument is no text")]
-    Arguments,
-    /// A file or standard input could not be read.
-    #[error("read failed")]
-    Read,
-    /// Standard output could not be written.
-    #[error("write failed")]
-    Write,
-    /// A growth was refused.
-    #[error("memory")]
-    Memory,
-}
+use std::{env, io};
 
 /// Runs the program on the arguments, the files and the streams of `rt`, and answers its exit status: 0 ended or
 /// help, 1 source refused, 2 stopped, 3 fault, 4 limit, 5 want of memory, 6 a file or stream that couldn't be
-/// read or written, 7 wrong words.
+/// read or written, 7 wrong words or a refused file of choices.
 pub fn run<R: Files + Input + Print + Eprint + Env + AllocGlobal>(rt: &R) -> u8
-    ensures { result ≤ 7 }
+    ensures came { ProgramStatus result }
+    ensures small { result ≤ 7 }
 {
     match run_arguments(rt, rt.alloc()) {
         Ok(status) => status,
@@ -68,7 +34,8 @@ fn run_arguments<R: Files + Input + Print + Eprint + Env + AllocGlobal>(
     rt: &R,
     alloc: Global,
 ) -> Result<u8, Failure>
-    ensures { IfOk result (λ status. status ≤ 7) }
+    ensures came { IfOk result (λ status. ProgramStatus status) }
+    ensures small { IfOk result (λ status. status ≤ 7) }
 {
     let arguments: Vec<String> = env::args(rt).map_err(of_arguments)?.collect(alloc)?;
     let words: Vec<&str> = arguments
@@ -76,54 +43,42 @@ fn run_arguments<R: Files + Input + Print + Eprint + Env + AllocGlobal>(
         .map(|argument| argument.as_str())
         .collect(alloc)?;
     let words = read_words(alloc, words.as_slice()).map_err(of_words)?;
-    let inputs = read_inputs(rt, alloc, &words)?;
-    Ok(run_inputs(rt, alloc, &words, &inputs))
+    run_words(rt, alloc, &words)
 }
 
-/// The file and standard input, or standard input and an empty keyboard.
-fn read_inputs<R: Files + Input>(
+/// Reads what the words name, plays it, and records the used choices where the words ask for it.
+fn run_words<R: Files + Input + Print + Eprint>(
     rt: &R,
     alloc: Global,
     words: &Words<'_>,
-) -> Result<Inputs, Failure> {
-    match words.file {
-        None => Ok(Inputs {
-            source: read_most(alloc, rt.reader(), MOST_SOURCE)?,
-            keyboard: Vec::new(alloc),
-        }),
-        Some(path) => {
-            let file = fs::open(rt, path).map_err(of_read)?;
-            Ok(Inputs {
-                source: read_most(alloc, file, MOST_SOURCE)?,
-                keyboard: read_most(alloc, rt.reader(), u64::MAX)?,
-            })
-        }
-    }
-}
-
-/// All bytes of a reader, or so many where there are more.
-fn read_most<R: Read + Drop>(alloc: Global, reader: R, most: u64) -> Result<Vec<u8>, Failure>
-    ensures { IfSome (R.remaining reader) (λ xs. IfOk result (λ bytes. bytes.items ≡ take most xs)) }
+) -> Result<u8, Failure>
+    ensures came { IfOk result (IsStatusFor words.now) }
+    ensures small { IfOk result (λ status. status ≤ 7) }
 {
-    let mut bytes = Vec::new(alloc);
-    reader.take(most).read_to_end(&mut bytes).map_err(of_read)?;
-    Ok(bytes)
+    let inputs = read_inputs(rt, alloc, words)?;
+    let played = run_inputs(rt, alloc, words, &inputs);
+    record(rt, alloc, words, &played)?;
+    Ok(status_of(&played))
 }
 
 /// Plays the source; the answer goes to standard output, a fault's line to standard error.
-fn run_inputs<R: Print + Eprint>(rt: &R, alloc: Global, words: &Words<'_>, inputs: &Inputs) -> u8
-    ensures came { IsStatusOf inputs.now.source.items inputs.now.keyboard.items (choices_of (Plan.Turns words.now.limit)) words.now.trace result }
-    ensures small { result ≤ 7 }
+fn run_inputs<R: Print + Eprint>(
+    rt: &R,
+    alloc: Global,
+    words: &Words<'_>,
+    inputs: &Inputs,
+) -> Result<Played, PlayFault>
+    ensures { CameTo inputs.now.source.items inputs.now.keyboard.items (choices_of inputs.now.plan) words.now.trace result }
 {
     let mut out = Counted::new(io::writer(rt));
     let played = play_inputs(alloc, words, inputs, &mut out);
     if let Err(fault) = &played {
         let _ = eprintln!(rt; "{fault}");
     }
-    status_of(&played)
+    played
 }
 
-/// Plays the source for the turns that the words allow.
+/// Plays the source by the plan.
 fn play_inputs<W: Write>(
     alloc: Global,
     words: &Words<'_>,
@@ -131,14 +86,13 @@ fn play_inputs<W: Write>(
     out: &mut Counted<W>,
 ) -> Result<Played, PlayFault>
     requires room { failures_of out.old < 2 ^ 64 - 1 }
-    ensures { CameTo inputs.now.source.items inputs.now.keyboard.items (choices_of (Plan.Turns words.now.limit)) words.now.trace result }
+    ensures { CameTo inputs.now.source.items inputs.now.keyboard.items (choices_of inputs.now.plan) words.now.trace result }
 {
-    let plan = Plan::Turns(words.limit);
     play(
         alloc,
         inputs.source.as_slice(),
         inputs.keyboard.as_slice(),
-        &plan,
+        &inputs.plan,
         words.trace,
         out,
     )
@@ -147,7 +101,7 @@ fn play_inputs<W: Write>(
 /// Prints why nothing was played, and answers the exit status. Help goes to standard output, and
 /// all else to standard error.
 fn report<R: Print + Eprint>(rt: &R, failure: &Failure) -> u8
-    ensures { (result ≡ failure_status failure.now) ⊎ (result ≡ 6) }
+    ensures { (result ≡ failure_status failure.now) ⊎ ((failure_status failure.now ≡ 0) × (result ≡ 6)) }
 {
     match failure {
         Failure::Help(help) => {
@@ -168,56 +122,4 @@ fn report_line<R: Eprint>(rt: &R, failure: &Failure) -> u8
 {
     let _ = eprintln!(rt; "{failure}");
     failure.status()
-}
-
-impl Failure {
-    /// The exit status.
-    fn status(&self) -> u8
-        ensures { result ≡ failure_status self.now }
-    {
-        match self {
-            Failure::Help(_) => 0,
-            Failure::Memory => 5,
-            Failure::Read | Failure::Write => 6,
-            Failure::Words(_) | Failure::Arguments => 7,
-        }
-    }
-}
-
-impl From<AllocError> for Failure {
-    fn from(_: AllocError) -> Failure {
-        Failure::Memory
-    }
-}
-
-fn of_words(error: clap::Error) -> Failure
-    ensures help { kind_of error ≡ WordsErrorKind.DisplayHelp → result ≡ Failure.Help error }
-    ensures memory { kind_of error ≡ WordsErrorKind.OutOfMemory → result ≡ Failure.Memory }
-    ensures wrong { kind_of error ≢ WordsErrorKind.DisplayHelp → kind_of error ≢ WordsErrorKind.OutOfMemory → result ≡ Failure.Words error }
-{
-    match error.kind() {
-        WordsErrorKind::DisplayHelp => Failure::Help(error),
-        WordsErrorKind::OutOfMemory => Failure::Memory,
-        _ => Failure::Words(error),
-    }
-}
-
-fn of_read(error: io::Error) -> Failure
-    ensures memory { error_kind error ≡ ErrorKind.OutOfMemory → result ≡ Failure.Memory }
-    ensures other { error_kind error ≢ ErrorKind.OutOfMemory → result ≡ Failure.Read }
-{
-    match error.kind() {
-        ErrorKind::OutOfMemory => Failure::Memory,
-        _ => Failure::Read,
-    }
-}
-
-fn of_arguments(error: io::Error) -> Failure
-    ensures memory { error_kind error ≡ ErrorKind.OutOfMemory → result ≡ Failure.Memory }
-    ensures other { error_kind error ≢ ErrorKind.OutOfMemory → result ≡ Failure.Arguments }
-{
-    match error.kind() {
-        ErrorKind::OutOfMemory => Failure::Memory,
-        _ => Failure::Arguments,
-    }
 }

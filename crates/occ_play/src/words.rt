@@ -18,6 +18,10 @@ pub struct Words<'a> {
     pub limit: u32,
     /// Whether each communication is printed.
     pub trace: bool,
+    /// The path of a file of choices, by which the run is played; then the limit says nothing.
+    pub choices: Option<&'a str>,
+    /// The path of the file into which the used choices are written.
+    pub record: Option<&'a str>,
     /// The path of the source; none where standard input is the source.
     pub file: Option<&'a str>,
     ghost limit_in_range: { limit ≤ 10000000 },
@@ -39,6 +43,8 @@ pub fn read_words<'a>(alloc: Global, words: &'a [&'a str]) -> Result<Words<'a>, 
     Ok(Words {
         limit,
         trace: matches.get_flag("trace"),
+        choices: matches.get_str("choices"),
+        record: matches.get_str("record"),
         file: matches.get_str("FILE"),
     })
 }
@@ -55,6 +61,8 @@ fn command<'a>(alloc: Global) -> Result<Command<'a>, Error> {
     let command = Command::new(alloc, "occam")
         .about("Compiles and runs an occam 2 program.")
         .arg(limit_word(alloc))?
+        .arg(choices_word(alloc))?
+        .arg(record_word(alloc))?
         .arg(trace_word(alloc))?
         .arg(file_word(alloc))?;
     Ok(command)
@@ -66,6 +74,20 @@ fn limit_word<'a>(alloc: Global) -> Arg<'a> {
         .value_name("N")
         .help("Ends the run after N turns, 0 to 10000000 [default: 1000000]")
         .value_parser(value_parser!(u32).range(0..=10_000_000))
+}
+
+fn choices_word<'a>(alloc: Global) -> Arg<'a> {
+    Arg::new(alloc, "choices")
+        .long("choices")
+        .value_name("FILE")
+        .help("Plays the run by the choices of FILE; --limit says nothing then")
+}
+
+fn record_word<'a>(alloc: Global) -> Arg<'a> {
+    Arg::new(alloc, "record")
+        .long("record")
+        .value_name("FILE")
+        .help("Writes the choices that the run used into FILE")
 }
 
 fn trace_word<'a>(alloc: Global) -> Arg<'a> {

@@ -1,6 +1,7 @@
 //! The turn of a process: its instructions, from one stop to the next.
 #![tactic(auto)]
 
+mod arms;
 mod choices;
 mod common;
 mod counting;

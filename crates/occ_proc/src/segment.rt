@@ -129,20 +129,34 @@ fn copy_wait(alloc: Global, wait: &Wait) -> Result<Wait, AllocError>
         Wait::Took {
             arm,
             indices,
-            message: Some(message),
+            message,
         } => took(alloc, *arm, indices.as_slice(), message),
         _ => unreachable!(),
     }
 }
 
-fn took(alloc: Global, arm: u32, indices: &[i64], message: &Message) -> Result<Wait, AllocError>
-    ensures { IfOk result (λ wait. wait ≡ Wait.Took arm indices.now (Some message.now)) }
+fn took(
+    alloc: Global,
+    arm: u32,
+    indices: &[i64],
+    message: &Option<Message>,
+) -> Result<Wait, AllocError>
+    ensures { IfOk result (λ wait. wait ≡ Wait.Took arm indices.now message.now) }
 {
     let indices = Items::from_slice(alloc, indices)?;
-    let message = Some(message.copy(alloc)?);
+    let message = copy_message(alloc, message)?;
     Ok(Wait::Took {
         arm,
         indices,
         message,
     })
+}
+
+fn copy_message(alloc: Global, message: &Option<Message>) -> Result<Option<Message>, AllocError>
+    ensures { IfOk result (λ copy. copy ≡ message.now) }
+{
+    match message {
+        Some(message) => Ok(Some(message.copy(alloc)?)),
+        None => Ok(None),
+    }
 }

@@ -3,7 +3,7 @@ use Rattle.std.proofs.Common.{◌≡◌, subst, refl, Bool, true, false, IsTrue,
 use Rattle.std.proofs.lemmas.Bool.Decides.{nat_tests}
 use Rattle.std.specs.Bool.{⊤}
 use Rattle.occ_term.specs.Messages.{Primitive, Fault, Part, PartType, product, Message, message, Protocol, parts_after}
-use Rattle.occ_term.specs.Terms.{Expression, Place, place, Item, Target, Declaration, Clearing, Naming, Replicator, replicator, Term, Skip, Stop, Assign, Input, Output, VariantInput, Seq, Par, Alt, If, Case, While, Each, Clear, Local, no_terms, then_term, no_branches, and_branch, Arms, no_arms, skip_arm, input_arm, declared_arms, each_arm, Reception, Plain, Tagged, Variants, no_variants, or_variant, Choices, no_choices, or_choice, declared_choices, each_choice, Options, no_options, or_option, or_else}
+use Rattle.occ_term.specs.Terms.{Expression, Place, place, Item, Target, Declaration, Clearing, Naming, Replicator, replicator, Term, Skip, Stop, Assign, Input, Output, VariantInput, Seq, Par, Alt, If, Case, While, Each, Clear, Local, no_terms, then_term, no_branches, and_branch, Arms, no_arms, skip_arm, input_arm, declared_arms, each_arm, Reception, Plain, Tagged, Variants, no_variants, or_variant, Choices, no_choices, or_choice, declared_choices, each_choice, Options, no_options, or_option, or_else, tested}
 use Rattle.occ_term.specs.Values.{Store, store_with, Evaluated, Value, Fails, after, holds, Span, span, first_of, value_of, span_of, parts_of}
 use Rattle.occ_term.specs.Uses.{Numbers, Uses, no_use, with_use, reading, writing, inputting, outputting, only, named_by, reads_of, reads_of_items, input_place, output_place, uses_of, uses_of_terms, uses_of_arms, uses_of_reception, uses_of_variants, uses_of_choices, uses_of_options, uses_of_targets, uses_of_declaration, uses_of_declarations, uses_of_replicator}
 use Rattle.occ_term.specs.TermTyping.{Declared, ChannelHas, TargetsHave, DeclarationsHave, TermHas, ArmsHave, ReceptionHas, VariantsHave, ChoicesHave, OptionsHave}
@@ -245,14 +245,14 @@ module _ (d : Declared) (u : Uses) (s : Store) where
       arms_or (holds v) (and_arm (SkipArm ds body) (enabled others ds s'')) (enabled others ds s'') (goes_arm (SkipArm ds body) (enabled others ds s'') arm rest) rest)
   enabled_goes (input_arm test channel list others) h m ds s' g k =
       let a = with_use (uses_of_reception list) (uses_of_arms others) in
-      let r = right_part (reading (reads_of test)) (with_use (input_place channel) a) u m in
+      let r = right_part (reading (reads_of (tested test))) (with_use (input_place channel) a) u m in
       let c = left_part (input_place channel) a u r in
       let r2 = right_part (input_place channel) a u r in
       let l = left_part (uses_of_reception list) (uses_of_arms others) u r2 in
       let later = right_part (uses_of_reception list) (uses_of_arms others) u r2 in
-      goes_then u.writes s Any (λ arms. IsPartOf (uses_of_all arms) u) (in_store (value_of test s') s')
+      goes_then u.writes s Any (λ arms. IsPartOf (uses_of_all arms) u) (in_store (value_of (tested test) s') s')
       (λ v s''. if holds v then then_in (in_store (span_of channel s'') s'') (λ c z. and_arm (InputArm ds (first_of c) list) (enabled others ds z)) else enabled others ds s'')
-      (goes_in u.writes s Any (value_of test s') s' (any_part (value_of test s')) k)
+      (goes_in u.writes s Any (value_of (tested test) s') s' (any_part (value_of (tested test) s')) k)
       (λ v s'' w k'.
       arms_or (holds v) (then_in (in_store (span_of channel s'') s'') (λ c z. and_arm (InputArm ds (first_of c) list) (enabled others ds z))) (enabled others ds s'')
       (goes_then u.writes s (λ at. IsTrue (u.ins (first_of at))) (λ arms. IsPartOf (uses_of_all arms) u) (in_store (span_of channel s'') s'') (λ c z. and_arm (InputArm ds (first_of c) list) (enabled others ds z))

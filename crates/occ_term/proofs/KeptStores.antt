@@ -157,14 +157,14 @@ array_components : (d : Declared) (s : Store) (a : Array) (t : Primitive) (sizes
 array_components d s (Cells p) t sizes h = place_components d s p t sizes (span_of p s) refl h
 array_components d s (Text bytes) t sizes h = refl
 
-abbrev FillsCells : Item → Part → Type 0
+abbrev pub FillsCells : Item → Part → Type 0
 FillsCells i p = length (values_in p) ≡ cells_of_item i
 
 one_component : (u : Primitive) (e : Expression) (v : Evaluated ℤ) → Has (FillsCells (OfOne u e)) (after v (λ x. Value (One u x)))
 one_component u e (Value x) = refl
 one_component u e (Fails f) = tt
 
-item_fills : (d : Declared) (s : Store) (i : Item) (sizes : List ℕ) (t : Primitive) → ItemHas d.types i (simple_part sizes t) → Has (FillsCells i) (part_of i s)
+pub item_fills : (d : Declared) (s : Store) (i : Item) (sizes : List ℕ) (t : Primitive) → ItemHas d.types i (simple_part sizes t) → Has (FillsCells i) (part_of i s)
 item_fills d s (OfOne u e) sizes t h = one_component u e (value_of e s)
 item_fills d s (OfMany u a) [] t h = absurd h
 item_fills d s (OfMany u a) (n ∷ ns) t h =

@@ -25,3 +25,7 @@ pub mod KeptSteps
 pub mod RestOnReads
 pub mod MoreRuns
 pub mod FrameWrites
+pub mod Chains
+pub mod AltRuns
+pub mod AgainSame
+pub mod AllOpened

@@ -4,7 +4,7 @@ use Rattle.std.proofs.lemmas.Bool.Decides.{nat_tests}
 use Rattle.std.proofs.lemmas.Int.{ints}
 use Rattle.std.specs.Bool.{⊤}
 use Rattle.occ_term.specs.Messages.{Primitive, Int, Count, Fault, is_of, Part, PartType, PartsFit, Message, message, Protocol, Simple, CountedArray, Sequential, Variant, parts_after, Fits, FitsAfter}
-use Rattle.occ_term.specs.Terms.{Expression, Place, place, Item, Target, Declaration, Clearing, Naming, Replicator, replicator, Term, Skip, Output, Arms, no_arms, skip_arm, input_arm, declared_arms, each_arm, Reception, Plain, Tagged, Variants, no_variants, or_variant, Choices, no_choices, or_choice, declared_choices, each_choice, Options, no_options, or_option, or_else}
+use Rattle.occ_term.specs.Terms.{Expression, Place, place, Item, Target, Declaration, Clearing, Naming, Replicator, replicator, Term, Skip, Output, Arms, no_arms, skip_arm, input_arm, declared_arms, each_arm, Reception, Plain, Tagged, Variants, no_variants, or_variant, Choices, no_choices, or_choice, declared_choices, each_choice, Options, no_options, or_option, or_else, tested}
 use Rattle.occ_term.specs.Values.{Store, store_with, Evaluated, Value, Fails, after, checked, holds, Span, span, first_of, value_of, span_of, parts_of}
 use Rattle.occ_term.specs.Uses.{uses_of}
 use Rattle.occ_term.specs.TermTyping.{Declared, ChannelHas, TargetsHave, DeclarationsHave, ReplicatorHas, IsKept, TermHas, ArmsHave, ReceptionHas, VariantsHave, ChoicesHave, OptionsHave}
@@ -212,9 +212,9 @@ enabled_keeps d (skip_arm test body others) h ds s g k =
     let rest = enabled_keeps d others h.2 ds s' g k' in
     enabled_or d (holds v) (and_arm (SkipArm ds body) (enabled others ds s')) (enabled others ds s') (keeps_arm d (SkipArm ds body) (enabled others ds s') (g, h.1) rest) rest)
 enabled_keeps d (input_arm test channel list others) h ds s g k =
-    keeps_then d Any (EnabledHave d) (in_store (value_of test s) s)
+    keeps_then d Any (EnabledHave d) (in_store (value_of (tested test) s) s)
     (λ v s'. if holds v then then_in (in_store (span_of channel s') s') (λ c s''. and_arm (InputArm ds (first_of c) list) (enabled others ds s'')) else enabled others ds s')
-    (keeps_in d Any (value_of test s) s (any_has (value_of test s)) k)
+    (keeps_in d Any (value_of (tested test) s) s (any_has (value_of (tested test) s)) k)
     (λ v s' u k'.
     enabled_or d (holds v) (then_in (in_store (span_of channel s') s') (λ c s''. and_arm (InputArm ds (first_of c) list) (enabled others ds s''))) (enabled others ds s')
     (keeps_then d (λ at. d.protocols (first_of at) ≡ Some h.1.0) (EnabledHave d) (in_store (span_of channel s') s') (λ c s''. and_arm (InputArm ds (first_of c) list) (enabled others ds s''))

@@ -81,14 +81,14 @@ ChosenRows =
 abbrev pub closed_arms : Arms
 closed_arms =
     declared_arms (Naming 7 (OfOne Int (number (pos 9))))
-    (input_arm (number (pos 0)) (place 2 3 (2 ∷ []) (then_subscript (number (pos 5)) no_subscripts)) (Plain [] Skip) no_arms)
+    (input_arm (Some (number (pos 0))) (place 2 3 (2 ∷ []) (then_subscript (number (pos 5)) no_subscripts)) (Plain [] Skip) no_arms)
     no_arms
 
 -- ALT i = 0 FOR 2, with the arm c[i] ? x
 abbrev pub copied_arms : Arms
 copied_arms =
     each_arm (replicator 2 0 (number (pos 0)) (number (pos 2)))
-    (input_arm (number (pos 1)) (place 2 3 (2 ∷ []) (then_subscript (Cell 0) no_subscripts)) (Plain [] Skip) no_arms)
+    (input_arm None (place 2 3 (2 ∷ []) (then_subscript (Cell 0) no_subscripts)) (Plain [] Skip) no_arms)
     no_arms
 
 abbrev pub zeros : Store
@@ -221,9 +221,12 @@ UseRows =
     × ((uses_of (Local 5 two_of_three)).writes 8 ≡ false)
     × (cell_in 6 (declared (Naming 5 two_of_three) zeros) ≡ pos 8)
     × (cell_in 7 (declared (Naming 5 two_of_three) zeros) ≡ pos 0)
-    × ((size_of (Each two_values Skip)).nodes ≡ 5)
-    × ((size_of (If (each_choice two_values no_choices no_choices))).nodes ≡ 4)
-    × ((size_of (Alt false (each_arm two_values no_arms no_arms))).depth ≡ 3)
+    × ((size_of (Each two_values Skip)).nodes ≡ 4)
+    × ((size_of (If (each_choice two_values no_choices no_choices))).nodes ≡ 3)
+    × ((size_of (Alt false (each_arm two_values no_arms no_arms))).depth ≡ 2)
+    × ((size_of (Alt false (input_arm None (single 3 3) (Plain [] Skip) no_arms))).nodes ≡ 3)
+    × ((size_of (Alt false (input_arm (Some (number (pos 1))) (single 3 3) (Plain [] Skip) no_arms))).nodes ≡ 4)
+    × ((size_of (Case (number (pos 1)) (or_option (pos 1 ∷ pos 2 ∷ []) [] Skip no_options))).nodes ≡ 6)
     × ((size_of (Input (single 1 3) count_and_two)).nodes ≡ 2)
 
 -- ---- a program: screen ! 'A'
@@ -288,7 +291,7 @@ abbrev pub writes_x : Term
 writes_x = Output (single 13 1) None (OfOne Byte (Conversion Byte 13 (Binary Plus Int 13 (Cell 0) (number (pos 48)))) ∷ [])
 
 abbrev pub both_arms : Arms
-both_arms = input_arm (number (pos 1)) (single 9 3) into_x (input_arm (number (pos 1)) (single 11 4) into_x no_arms)
+both_arms = input_arm (Some (number (pos 1))) (single 9 3) into_x (input_arm None (single 11 4) into_x no_arms)
 
 abbrev pub chooser : Bool → Term
 chooser pri = Seq (then_term (Clear 0 1) (then_term (Seq (then_term (Alt pri both_arms) (then_term writes_x no_terms))) no_terms))
@@ -406,7 +409,7 @@ reading_terms =
     ∷ If (or_choice (Cell 0) Skip no_choices)
     ∷ If (each_choice (replicator 2 9 (number (pos 1)) (Cell 0)) no_choices no_choices)
     ∷ Alt false (skip_arm (Cell 0) Skip no_arms)
-    ∷ Alt false (input_arm (Cell 0) (single 3 3) (Plain [] Skip) no_arms)
+    ∷ Alt false (input_arm (Some (Cell 0)) (single 3 3) (Plain [] Skip) no_arms)
     ∷ Alt false (each_arm (replicator 2 9 (Cell 0) (number (pos 1))) no_arms no_arms)
     ∷ Output (single 4 1) None (OfOne Int (Cell 0) ∷ [])
     ∷ Output (place 4 3 (2 ∷ []) (then_subscript (Cell 0) no_subscripts)) None []

@@ -30,3 +30,5 @@ pub mod OneResult
 pub mod LimitRows
 pub mod WorkedRows
 pub mod MoreRows
+pub mod AltRows
+pub mod Again

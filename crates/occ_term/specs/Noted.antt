@@ -1,9 +1,9 @@
 -- Uses as the code notes them: a list, each of cells or channels in a row.
 -- Manual: nothing; this is (own).
-use Rattle.std.specs.Prelude.{Bool, Err, IsTrue, List, None, Ok, Option, Result, Some, [], false, length, map, nat_le, nat_lt, true, ℕ, ℤ, ⊤, ◌&&◌, ◌*◌, ◌+◌, ◌/◌, ◌||◌, ◌∷◌, ◌≡◌, ◌⊎◌}
+use Rattle.std.specs.Prelude.{Bool, Err, IsTrue, List, None, Ok, Option, Result, Some, [], false, if◌then◌else◌, nat_le, nat_lt, true, ℕ, ℤ, ⊤, ◌&&◌, ◌*◌, ◌+◌, ◌/◌, ◌||◌, ◌∷◌, ◌≡◌, ◌⊎◌}
 use Rattle.occ_term.specs.Terms.{Place, place, Branches, no_branches, and_branch}
-use Rattle.occ_term.specs.Messages.{Int, is_of, product}
-use Rattle.occ_term.specs.Values.{Evaluated, Value, Fails, Span, span}
+use Rattle.occ_term.specs.Messages.{Fault, Int, is_of, product}
+use Rattle.occ_term.specs.Values.{Evaluated, Value, Fails, holds, Span, span}
 use Rattle.occ_term.specs.Uses.{Numbers, Uses, no_use, with_use, reading, writing, inputting, outputting, part_named, uses_of}
 use Rattle.occ_term.specs.Clashes.{Clash, clash_in, shared_variable, two_inputs, two_outputs}
 use Rattle.occ_term.specs.declared.usage.noted.Use.{Use}
@@ -49,6 +49,18 @@ abbrev pub Settles : Result ℤ NoValue → Evaluated ℤ → Type 0
 Settles (Ok v) e = e ≡ Value v
 Settles (Err (Faulty f)) e = e ≡ Fails f
 Settles (Err Unfit) e = ⊤
+
+-- a value or a fault, where one of them is known
+abbrev pub Reckons : Result (Result ℤ Fault) NoValue → Result ℤ NoValue → Type 0
+Reckons (Ok (Ok x)) v = v ≡ Ok x
+Reckons (Ok (Err f)) v = v ≡ Err (Faulty f)
+Reckons (Err (Faulty f)) v = ⊥
+Reckons (Err Unfit) v = ⊤
+
+-- the one where a value is TRUE, and the other where it is FALSE
+abbrev pub chosen : Evaluated ℤ → Evaluated ℤ → Evaluated ℤ → Evaluated ℤ
+chosen (Value v) on_true on_false = if holds v then on_true else on_false
+chosen (Fails f) on_true on_false = Fails f
 
 -- an INT as it is
 abbrev pub Answers : Result ℤ NoValue → ℤ → Type 0

@@ -2,7 +2,7 @@
 -- Manual: combining processes; channels and protocols.
 use Rattle.std.specs.Prelude.{Bool, List, None, Option, Some, [], false, if◌then◌else◌, length, nat_eq, pos, slice_get, suc, true, zero, ℕ, ℤ, ◌%◌, ◌++◌, ◌+ℤ◌, ◌||◌, ◌∷◌}
 use Rattle.occ_term.specs.Messages.{Part, Message}
-use Rattle.occ_term.specs.Terms.{Expression, Declaration, Term, Arms, no_arms, skip_arm, input_arm, declared_arms, each_arm, Reception, Plain, Tagged, Variants, no_variants, or_variant, Choices, no_choices, or_choice, declared_choices, each_choice, Options, no_options, or_option, or_else}
+use Rattle.occ_term.specs.Terms.{Expression, Declaration, Term, Arms, no_arms, skip_arm, input_arm, declared_arms, each_arm, Reception, Plain, Tagged, Variants, no_variants, or_variant, Choices, no_choices, or_choice, declared_choices, each_choice, Options, no_options, or_option, or_else, tested}
 use Rattle.occ_term.specs.Values.{Store, store_with, holds, int_eq, first_of, value_of, span_of}
 use Rattle.occ_term.specs.Storing.{Outcome, Gives, Faults, then_in, in_store, Nothing, nothing, store_into, declared, all_declared, Indices, indices, indices_of, index_of}
 
@@ -122,7 +122,7 @@ enabled no_arms ds s = Gives [] s
 enabled (skip_arm test body others) ds s =
     then_in (in_store (value_of test s) s) (λ v s'. if holds v then and_arm (SkipArm ds body) (enabled others ds s') else enabled others ds s')
 enabled (input_arm test channel list others) ds s =
-    then_in (in_store (value_of test s) s) (λ v s'.
+    then_in (in_store (value_of (tested test) s) s) (λ v s'.
     if holds v
     then then_in (in_store (span_of channel s') s') (λ c s''. and_arm (InputArm ds (first_of c) list) (enabled others ds s''))
     else enabled others ds s')

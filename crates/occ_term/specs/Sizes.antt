@@ -1,10 +1,10 @@
 -- How many nodes a term has, how far they stand within one another, and how many cells it declares.
 -- A node is each term, of which each declaration is one; each expression, of which a whole array is one, also where it is named
--- or output; each target, of which `count::array` is one; each choice, arm, option and variant; each constant of an option; and
--- each replicator. Subscripts are expressions. What a replicator replicates stands within it.
+-- or output; each target, of which `count::array` is one; each choice, arm, option and variant. Subscripts, the base and the count
+-- of a replicator and the constants of an option are expressions; a Boolean that is not written is none.
 -- Cells are the components of declared variables and of named values, and each index.
 -- Manual: nothing; the limits of sizes are (own).
-use Rattle.std.specs.Prelude.{List, [], max, ℕ, ℤ, ◌+◌, ◌∷◌}
+use Rattle.std.specs.Prelude.{List, None, Option, Some, [], max, ℕ, ℤ, ◌+◌, ◌∷◌}
 use Rattle.occ_term.specs.Terms.{Expression, Constant, Cell, Component, Letter, Binary, Unary, And, Or, Conversion, Place, place, Subscripts, no_subscripts, then_subscript, Array, Cells, Text, Item, OfOne, OfMany, OfCounted, Target, Into, IntoCounted, Declaration, Clearing, Naming, Replicator, replicator, Term, Skip, Stop, Assign, Input, Output, VariantInput, Seq, Par, Alt, If, Case, While, Each, Clear, Local, Terms, no_terms, then_term, Branches, no_branches, and_branch, Arms, no_arms, skip_arm, input_arm, declared_arms, each_arm, Reception, Plain, Tagged, Variants, no_variants, or_variant, Choices, no_choices, or_choice, declared_choices, each_choice, Options, no_options, or_option, or_else}
 use Rattle.occ_term.specs.Uses.{cells_of_item}
 
@@ -76,10 +76,15 @@ abbrev pub size_of_declarations : List Declaration → Size
 size_of_declarations [] = no_size
 size_of_declarations (d ∷ ds) = beside (size_of_declaration d) (size_of_declarations ds)
 
--- with what it replicates
+-- with what it replicates: its base and its count are nodes, it is none
 abbrev pub size_of_replicator : Replicator → Size → Size
 size_of_replicator (replicator line index base count) within =
-    node (beside (cells 1) (beside (size_of_expression base) (beside (size_of_expression count) within)))
+    beside (cells 1) (beside (size_of_expression base) (beside (size_of_expression count) within))
+
+-- of an arm's Boolean
+abbrev pub size_of_test : Option Expression → Size
+size_of_test None = no_size
+size_of_test (Some e) = size_of_expression e
 
 abbrev pub size_of_constants : List ℤ → Size
 size_of_constants [] = no_size
@@ -115,7 +120,7 @@ abbrev mutual
   size_of_arms no_arms = no_size
   size_of_arms (skip_arm e t arms) = beside (node (beside (size_of_expression e) (size_of t))) (size_of_arms arms)
   size_of_arms (input_arm e c list arms) =
-      beside (node (beside (size_of_expression e) (beside (size_of_place c) (size_of_reception list)))) (size_of_arms arms)
+      beside (node (beside (size_of_test e) (beside (size_of_place c) (size_of_reception list)))) (size_of_arms arms)
   size_of_arms (declared_arms d arms others) = beside (size_of_declaration d) (beside (size_of_arms arms) (size_of_arms others))
   size_of_arms (each_arm r arms others) = beside (size_of_replicator r (size_of_arms arms)) (size_of_arms others)
 

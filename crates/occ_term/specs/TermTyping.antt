@@ -2,7 +2,7 @@
 -- Manual: primitive processes; combining processes; channels and protocols; scope.
 use Rattle.std.specs.Prelude.{false, IsTrue, List, None, Option, Some, [], ℕ, ⊤, ◌∷◌, ◌≡◌}
 use Rattle.occ_term.specs.Messages.{Primitive, Boolean, Int, PartType, Protocol, Simple, CountedArray, Sequential, Variant, AllOf, parts_after, simple_part, product}
-use Rattle.occ_term.specs.Terms.{Place, place, Item, Target, Declaration, Clearing, Naming, Replicator, replicator, Term, Skip, Stop, Assign, Input, Output, VariantInput, Seq, Par, Alt, If, Case, While, Each, Clear, Local, Terms, no_terms, then_term, Branches, no_branches, and_branch, Arms, no_arms, skip_arm, input_arm, declared_arms, each_arm, Reception, Plain, Tagged, Variants, no_variants, or_variant, Choices, no_choices, or_choice, declared_choices, each_choice, Options, no_options, or_option, or_else}
+use Rattle.occ_term.specs.Terms.{Place, place, Item, Target, Declaration, Clearing, Naming, Replicator, replicator, Term, Skip, Stop, Assign, Input, Output, VariantInput, Seq, Par, Alt, If, Case, While, Each, Clear, Local, Terms, no_terms, then_term, Branches, no_branches, and_branch, Arms, no_arms, skip_arm, input_arm, declared_arms, each_arm, Reception, Plain, Tagged, Variants, no_variants, or_variant, Choices, no_choices, or_choice, declared_choices, each_choice, Options, no_options, or_option, or_else, tested}
 use Rattle.occ_term.specs.Values.{span}
 use Rattle.occ_term.specs.Uses.{Uses, numbers_in, uses_of, uses_of_arms, uses_of_choices}
 use Rattle.occ_term.specs.Typing.{is_number, CellsHave, HasType, SubscriptsLeave, ItemHas, TargetHas}
@@ -90,7 +90,7 @@ abbrev mutual
   pub ArmsHave : Declared → Arms → Type 0
   ArmsHave d no_arms = ⊤
   ArmsHave d (skip_arm e t arms) = HasType d.types e Boolean × TermHas d t × ArmsHave d arms
-  ArmsHave d (input_arm e c list arms) = HasType d.types e Boolean × ((p : Protocol) × ChannelHas d c p × ReceptionHas d p list) × ArmsHave d arms
+  ArmsHave d (input_arm e c list arms) = HasType d.types (tested e) Boolean × ((p : Protocol) × ChannelHas d c p × ReceptionHas d p list) × ArmsHave d arms
   ArmsHave d (declared_arms x arms others) = DeclarationHas d x × ArmsHave d arms × ArmsHave d others
   ArmsHave d (each_arm r arms others) = ReplicatorHas d r × IsKept r (uses_of_arms arms) × ArmsHave d arms × ArmsHave d others
 

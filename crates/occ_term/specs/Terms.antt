@@ -2,7 +2,7 @@
 -- Cells and channels are numbers. An array is a row of cells, or of channels, from its first on.
 -- Manual: expressions; variables and values; primitive processes; combining processes. Calls and replicated PARs are unfolded
 -- by now (manual: scope, procedures); that all variables are cells in one row is (own).
-use Rattle.std.specs.Prelude.{Bool, List, Option, ℕ, ℤ}
+use Rattle.std.specs.Prelude.{Bool, List, None, Option, Some, pos, ℕ, ℤ}
 use Rattle.occ_term.specs.Messages.{Primitive}
 pub use Rattle.occ_term.specs.declared.expression.Operator.{Operator}
 pub use Rattle.occ_term.specs.declared.expression.Operator.TheVariants.{Plus, Minus, Times, Divide, Remainder, PlusModulo, MinusModulo, TimesModulo, BitAnd, BitOr, BitXor, ShiftLeft, ShiftRight, After, Equal, Unequal, Less, Greater, AtMost, AtLeast}
@@ -83,11 +83,11 @@ mutual
     no_branches : Branches
     and_branch : (number : ℕ) (body : Term) (others : Branches) → Branches
 
-  -- An arm without a Boolean has the constant TRUE. A nested ALT's arms stand in its place, under what declares or replicates them.
+  -- An arm that inputs may have no Boolean. A nested ALT's arms stand in its place, under what declares or replicates them.
   pub data Arms : Type 0 where
     no_arms : Arms
     skip_arm : (test : Expression) (body : Term) (others : Arms) → Arms
-    input_arm : (test : Expression) (channel : Place) (list : Reception) (others : Arms) → Arms
+    input_arm : (test : Option Expression) (channel : Place) (list : Reception) (others : Arms) → Arms
     declared_arms : (declaration : Declaration) (within others : Arms) → Arms
     each_arm : (over : Replicator) (within others : Arms) → Arms
 
@@ -110,3 +110,8 @@ mutual
     no_options : Options
     or_option : (constants : List ℤ) (declarations : List Declaration) (body : Term) (others : Options) → Options
     or_else : (declarations : List Declaration) (body : Term) (others : Options) → Options
+
+-- an arm without a Boolean is as one with TRUE
+abbrev pub tested : Option Expression → Expression
+tested None = Constant (pos 1)
+tested (Some test) = test

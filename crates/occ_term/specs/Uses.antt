@@ -2,7 +2,7 @@
 -- Manual: the usage rules check list; combining processes (PAR).
 use Rattle.std.specs.Prelude.{Bool, IsTrue, List, None, Option, Some, [], false, if◌then◌else◌, int_le, int_lt, length, nat_abs, nat_eq, nat_le, nat_lt, pos, set, true, ℕ, ℤ, ⊤, ◌&&◌, ◌*◌, ◌+◌, ◌||◌, ◌∷◌}
 use Rattle.occ_term.specs.Messages.{product}
-use Rattle.occ_term.specs.Terms.{Expression, Constant, Cell, Component, Letter, Binary, Unary, And, Or, Conversion, Place, place, Subscripts, no_subscripts, then_subscript, Array, Cells, Text, Item, OfOne, OfMany, OfCounted, Target, Into, IntoCounted, Declaration, Clearing, Naming, Replicator, replicator, Term, Skip, Stop, Assign, Input, Output, VariantInput, Seq, Par, Alt, If, Case, While, Each, Clear, Local, Terms, no_terms, then_term, Branches, no_branches, and_branch, Arms, no_arms, skip_arm, input_arm, declared_arms, each_arm, Reception, Plain, Tagged, Variants, no_variants, or_variant, Choices, no_choices, or_choice, declared_choices, each_choice, Options, no_options, or_option, or_else}
+use Rattle.occ_term.specs.Terms.{Expression, Constant, Cell, Component, Letter, Binary, Unary, And, Or, Conversion, Place, place, Subscripts, no_subscripts, then_subscript, Array, Cells, Text, Item, OfOne, OfMany, OfCounted, Target, Into, IntoCounted, Declaration, Clearing, Naming, Replicator, replicator, Term, Skip, Stop, Assign, Input, Output, VariantInput, Seq, Par, Alt, If, Case, While, Each, Clear, Local, Terms, no_terms, then_term, Branches, no_branches, and_branch, Arms, no_arms, skip_arm, input_arm, declared_arms, each_arm, Reception, Plain, Tagged, Variants, no_variants, or_variant, Choices, no_choices, or_choice, declared_choices, each_choice, Options, no_options, or_option, or_else, tested}
 use Rattle.occ_term.specs.Values.{Evaluated, Value, Fails, Span, span, value_of}
 
 -- a set of cells or of channels
@@ -188,7 +188,7 @@ abbrev mutual
   uses_of_arms no_arms = no_use
   uses_of_arms (skip_arm e t arms) = with_use (reading (reads_of e)) (with_use (uses_of t) (uses_of_arms arms))
   uses_of_arms (input_arm e c list arms) =
-      with_use (reading (reads_of e)) (with_use (input_place c) (with_use (uses_of_reception list) (uses_of_arms arms)))
+      with_use (reading (reads_of (tested e))) (with_use (input_place c) (with_use (uses_of_reception list) (uses_of_arms arms)))
   uses_of_arms (declared_arms d arms others) = with_use (uses_of_declaration d) (with_use (uses_of_arms arms) (uses_of_arms others))
   uses_of_arms (each_arm r arms others) = with_use (uses_of_replicator r) (with_use (uses_of_arms arms) (uses_of_arms others))
 

@@ -1,7 +1,7 @@
 -- The expressions and terms of the code as those of the definitions. The line of a cell that is read, and of a declaration, are
 -- for messages alone.
 -- Manual: nothing; this is (own).
-use Rattle.std.specs.Prelude.{List, [], map, pos, ◌∷◌}
+use Rattle.std.specs.Prelude.{List, None, Option, Some, [], map, pos, ◌∷◌}
 use Rattle.occ_term.specs.Terms as T
 use Rattle.occ_term.specs.declared.expression.TermExpr.{TermExpr, fold-TermExpr}
 use Rattle.occ_term.specs.declared.expression.TermExpr.TheOpen.{TermExpr-F, Place-F}
@@ -107,9 +107,14 @@ options = joined T.no_options
 abbrev pub Seen : (Type 0 → Type 0 → Type 0 → Type 0 → Type 0 → Type 0 → Type 0 → Type 0) → Type 0
 Seen F = F (T.Arms → T.Arms) (T.Choices → T.Choices) T.Reception (T.Options → T.Options) T.Term (T.Branches → T.Branches) (T.Variants → T.Variants)
 
+-- an arm's Boolean, where it has one
+abbrev pub test_of : Option TermExpr → Option T.Expression
+test_of None = None
+test_of (Some e) = Some (expression_of e)
+
 abbrev pub arm_step : Seen Arm-F → T.Arms → T.Arms
 arm_step (Arm-F.SkipArm test body) others = T.skip_arm (expression_of test) body others
-arm_step (Arm-F.InputArm test channel list) others = T.input_arm (expression_of test) (place_of channel) list others
+arm_step (Arm-F.InputArm test channel list) others = T.input_arm (test_of test) (place_of channel) list others
 arm_step (Arm-F.DeclaredArms d within) others = T.declared_arms (declaration_of d) (arms within) others
 arm_step (Arm-F.EachArm over within) others = T.each_arm (replicator_of over) (arms within) others
 

@@ -1,7 +1,8 @@
 //! Expressions, and what is named, output, assigned and set by them.
 
 use crate::primitive::Primitive;
-use sqlite_items::{Boxed, Items};
+use occ_held::parts::{Listed, Nested};
+use sqlite_items::Items;
 
 /// An operator with two operands, both of which are evaluated.
 #[derive(Clone, Copy)]
@@ -62,7 +63,6 @@ pub enum Monadic {
 /// An expression of one value. Lines are numbers of logical lines, and an operator has the type of
 /// its left operand.
 #[cycle(expression)]
-#[derive(Drop)]
 pub enum TermExpr {
     /// A value; TRUE is 1 and FALSE is 0.
     Constant(i64),
@@ -71,22 +71,41 @@ pub enum TermExpr {
     /// The value of a component, or of a variable.
     Component(Place),
     /// A component of a string: the line, the string and the subscript.
-    Letter(u32, Items<u8>, Boxed<TermExpr>),
+    Letter(u32, Items<u8>, Nested<TermExpr>),
     /// An operator with its type, its line and its two operands.
-    Binary(Operator, Primitive, u32, Boxed<TermExpr>, Boxed<TermExpr>),
+    Binary(Operator, Primitive, u32, Nested<TermExpr>, Nested<TermExpr>),
     /// An operator with its type, its line and its operand.
-    Unary(Monadic, Primitive, u32, Boxed<TermExpr>),
+    Unary(Monadic, Primitive, u32, Nested<TermExpr>),
     /// `AND`: the right operand is evaluated only where the left one is TRUE.
-    And(Boxed<TermExpr>, Boxed<TermExpr>),
+    And(Nested<TermExpr>, Nested<TermExpr>),
     /// `OR`: the right operand is evaluated only where the left one is FALSE.
-    Or(Boxed<TermExpr>, Boxed<TermExpr>),
+    Or(Nested<TermExpr>, Nested<TermExpr>),
     /// A conversion to the type, its line and its operand.
-    Conversion(Primitive, u32, Boxed<TermExpr>),
+    Conversion(Primitive, u32, Nested<TermExpr>),
+}
+
+/// A chain of AND and OR, which nests to the left, is let go in a loop.
+impl Drop for TermExpr {
+    #[cycle(expression)]
+    fn drop(mut self) {
+        loop {
+            match self {
+                TermExpr::Constant(_) => return,
+                TermExpr::Cell(_, _) => return,
+                TermExpr::Component(_) => return,
+                TermExpr::Letter(_, _, _) => return,
+                TermExpr::Binary(_, _, _, _, _) => return,
+                TermExpr::Unary(_, _, _, _) => return,
+                TermExpr::And(left, _) => self = left.into_inner(),
+                TermExpr::Or(left, _) => self = left.into_inner(),
+                TermExpr::Conversion(_, _, _) => return,
+            }
+        }
+    }
 }
 
 /// A variable or a channel with its subscripts. Fewer subscripts than sizes name an array.
 #[cycle(expression)]
-#[derive(Drop)]
 pub struct Place {
     /// The line of its use.
     pub line: u32,
@@ -95,7 +114,19 @@ pub struct Place {
     /// The sizes of the whole array: none for a single variable or channel.
     pub sizes: Items<u32>,
     /// The subscripts, in order.
-    pub subscripts: Items<TermExpr>,
+    pub subscripts: Listed<TermExpr>,
+}
+
+impl Drop for Place {
+    #[cycle(expression)]
+    fn drop(self) {
+        let Place {
+            line: _,
+            first: _,
+            sizes: _,
+            subscripts: _,
+        } = self;
+    }
 }
 
 /// A whole array.

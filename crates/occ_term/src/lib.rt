@@ -3,6 +3,7 @@
 //! The definitions stand in `specs/`, over pure data. This crate's types are seen through them.
 #![tactic(auto)]
 
+pub mod alt_rows;
 pub mod expression;
 pub mod fault;
 pub mod first_rows;

@@ -55,8 +55,8 @@ pub struct Branch {
 pub enum Arm {
     /// SKIP behind a Boolean, and its process.
     SkipArm(TermExpr, Term),
-    /// An input: the Boolean, the channel, and the list that takes the message.
-    InputArm(TermExpr, Place, Reception),
+    /// An input: the Boolean, where there is one, the channel, and the list that takes the message.
+    InputArm(Option<TermExpr>, Place, Reception),
     /// Arms behind a declaration.
     DeclaredArms(Declaration, Items<Arm>),
     /// Arms for each value of an index.

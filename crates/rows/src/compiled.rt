@@ -80,14 +80,10 @@ const PROGRAMS: [Compiled; 24] = [
     Compiled(
         "  BYTE b:\n  PAR\n    SKIP\n    ALT\n      keyboard ? b\n        SKIP\n",
         1,
-        "refused 61 Early line 2",
+        "bodies: 3",
     ),
     Compiled("  PAR\n    SKIP\n    SKIP\n", 0, "refused 62 BadQuantum"),
-    Compiled(
-        "  BYTE b:\n  ALT\n    keyboard ? b\n      SKIP\n",
-        1,
-        "refused 61 Early line 2",
-    ),
+    Compiled("  BYTE b:\n  ALT\n    keyboard ? b\n      SKIP\n", 1, CODE),
     Compiled(
         "  SEQ i = 0 FOR 2\n    SEQ j = 0 FOR 2\n      INT x:\n      x := i + j\n",
         7,

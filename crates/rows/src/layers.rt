@@ -34,12 +34,20 @@ fn lines_are_read(rt: HostRuntime) -> Result<(), Fail> {
     Ok(())
 }
 
+/// Whether a letter alone is output.
+fn is_letter(items: &[Item]) -> bool {
+    match items {
+        [Item::One(Primitive::Byte, value)] => matches!(value, TermExpr::Constant(65)),
+        _ => false,
+    }
+}
+
 /// Whether the program is the letter on this channel, with the first three channels alone.
 fn check_letter(rt: &impl Abort, unfolded: &Unfolded, channel: u32) {
     assert!(rt;
         matches!(
         unfolded.term(),
-        Term::Output(place, None, items) if place.line == 4 && place.first == channel && matches!(items.as_slice(), [Item::One(Primitive::Byte, TermExpr::Constant(65))])
+        Term::Output(place, None, items) if place.line == 4 && place.first == channel && is_letter(items.as_slice())
     )
     );
     assert!(rt; unfolded.cells().is_empty());
@@ -158,7 +166,7 @@ fn instructions_of(rt: &impl Abort, alloc: Global, count: u32) -> Result<Option<
     match compile(alloc, &checked) {
         Ok(code) => Ok(code.body(0).map(|body| body.code().len())),
         Err(CodeFault::TooLarge) => Ok(None),
-        Err(CodeFault::Early { .. }) | Err(CodeFault::BadQuantum) | Err(CodeFault::Memory) => {
+        Err(CodeFault::BadQuantum) | Err(CodeFault::Memory) => {
             assert!(rt; false, "not compiled");
             Ok(None)
         }

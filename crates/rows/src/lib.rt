@@ -4,6 +4,8 @@
 #[cfg(test)]
 mod choices;
 #[cfg(test)]
+mod choosing_networks;
+#[cfg(test)]
 mod command_line;
 #[cfg(test)]
 mod compiled;
@@ -14,8 +16,9 @@ mod examples;
 #[cfg(test)]
 mod first_programs;
 #[cfg(test)]
-mod laws;
+mod large;
 #[cfg(test)]
+mod laws;
 mod layers;
 #[cfg(test)]
 mod lexing;
@@ -29,6 +32,8 @@ mod outcomes;
 mod refusals;
 #[cfg(test)]
 mod row;
+#[cfg(test)]
+mod selection;
 #[cfg(test)]
 mod sequential;
 #[cfg(test)]

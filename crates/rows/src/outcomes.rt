@@ -127,8 +127,6 @@ fn faults_of_programs_are_told(rt: HostRuntime) -> Result<(), Fail> {
     check_fault(&rt, alloc, no_main, "refused 42 NoMain", 1)?;
     let large = PlayFault::Code(CodeFault::TooLarge);
     check_fault(&rt, alloc, large, "refused 60 TooLarge", 1)?;
-    let early = PlayFault::Code(CodeFault::Early { line: 4 });
-    check_fault(&rt, alloc, early, "refused 61 Early line 4", 1)?;
     let quantum = PlayFault::Code(CodeFault::BadQuantum);
     check_fault(&rt, alloc, quantum, "refused 62 BadQuantum", 7)?;
     let write = PlayFault::Write { written: 3 };

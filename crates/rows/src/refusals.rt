@@ -561,7 +561,7 @@ fn long_conjunctions(rt: HostRuntime) -> Result<(), Fail> {
         (190, ""),
         (300, "refused 43 TooLarge"),
         (1_000, "refused 43 TooLarge"),
-        (100_000, "memory"),
+        (100_000, "refused 43 TooLarge"),
     ] {
         let source = conjunction(alloc, operands)?;
         let found = refusal(alloc, source.as_str())?;

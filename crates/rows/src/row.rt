@@ -11,6 +11,8 @@ pub(crate) enum Given {
     Turns(u32),
     /// So many choices of the first ready process.
     Zeros(u32),
+    /// So many choices of the first ready process and of the second ready arm.
+    Picks(u32),
     /// These choices.
     Choices(&'static [Choice]),
 }
@@ -56,16 +58,20 @@ impl<'a> Row<'a> {
     }
 }
 
+fn same_choices(choices: &mut Vec<Choice>, count: u32, pick: u32) -> Result<(), AllocError> {
+    for _choice in 0..count {
+        choices.push(Choice { which: 0, pick })?;
+    }
+    Ok(())
+}
+
 fn plan_of(alloc: Global, given: Given) -> Result<Plan, AllocError> {
     let mut choices = Vec::new(alloc);
     match given {
         Given::Turns(turns) => return Ok(Plan::Turns(turns)),
         Given::Choices(listed) => choices.extend_from_slice(listed)?,
-        Given::Zeros(count) => {
-            for _choice in 0..count {
-                choices.push(Choice { which: 0, pick: 0 })?;
-            }
-        }
+        Given::Zeros(count) => same_choices(&mut choices, count, 0)?,
+        Given::Picks(count) => same_choices(&mut choices, count, 1)?,
     }
     Ok(Plan::Choices(choices))
 }

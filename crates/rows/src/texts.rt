@@ -16,7 +16,7 @@ const LETTERS: [&[u8]; 6] = [
 ];
 
 /// Texts that are refused, and how.
-const REFUSALS: [(&[u8], &str); 23] = [
+const REFUSALS: [(&[u8], &str); 22] = [
     (b"SKIP\t\n", "refused 2 BadByte line 1"),
     (b"x,\n  @", "refused 2 BadByte line 1"),
     (
@@ -66,10 +66,6 @@ const REFUSALS: [(&[u8], &str); 23] = [
     ),
     (b"", "refused 42 NoMain"),
     (b"-- no program", "refused 42 NoMain"),
-    (
-        b"PROC main (CHAN OF BYTE keyboard, screen)\n  BYTE b:\n  ALT\n    keyboard ? b\n      SKIP\n:\n",
-        "refused 61 Early line 2",
-    ),
 ];
 
 #[test]

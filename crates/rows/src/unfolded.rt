@@ -5,6 +5,7 @@ ghost use Rattle.occ_term.specs.View.{term_of};
 ghost use Rattle.occ_term.specs.declared.term.Term.TheVariants as terms;
 ghost use Rattle.rows.specs.SmallPrograms.{IsPlain, letter_on, par_of_none, stops_in_sequence};
 
+use occ_held::parts::Listed;
 use occ_term::{Cell, Channel, Item, Place, Primitive, Protocol, Term, TermExpr, Unfolded};
 use sqlite_items::Items;
 use std::alloc::{AllocError, Global};
@@ -55,7 +56,7 @@ fn letter_term(alloc: Global, channel: u32) -> Result<Term, AllocError>
         line: 4,
         first: channel,
         sizes: Items::new(alloc),
-        subscripts: Items::new(alloc),
+        subscripts: Listed::new(alloc),
     };
     let mut items = Items::new(alloc);
     items.push(Item::One(Primitive::Byte, TermExpr::Constant(65)))?;

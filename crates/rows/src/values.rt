@@ -4,10 +4,10 @@ ghost use Rattle.occ_term.specs.Evaluation.{CanBeEvaluated};
 ghost use Rattle.occ_term.specs.Frames.{zero_frame};
 ghost use Rattle.occ_term.specs.View.{expression_of};
 
+use occ_held::parts::Nested;
 use occ_term::{
     Fault, Frame, Monadic, NoValue, Operator, Primitive, TermExpr, constant_value, value_of,
 };
-use sqlite_items::Boxed;
 use std::alloc::{AllocError, Global};
 use std::process::Abort;
 use std::test::Fail;
@@ -140,8 +140,8 @@ fn two(
     a: TermExpr,
     b: TermExpr,
 ) -> Result<TermExpr, AllocError> {
-    let a = Boxed::new(alloc, a)?;
-    let b = Boxed::new(alloc, b)?;
+    let a = Nested::new(alloc, a)?;
+    let b = Nested::new(alloc, b)?;
     Ok(TermExpr::Binary(operator, primitive, line, a, b))
 }
 
@@ -151,24 +151,24 @@ fn one(
     primitive: Primitive,
     a: TermExpr,
 ) -> Result<TermExpr, AllocError> {
-    let a = Boxed::new(alloc, a)?;
+    let a = Nested::new(alloc, a)?;
     Ok(TermExpr::Unary(operator, primitive, 7, a))
 }
 
 fn conversion(alloc: Global, to: Primitive, a: TermExpr) -> Result<TermExpr, AllocError> {
-    let a = Boxed::new(alloc, a)?;
+    let a = Nested::new(alloc, a)?;
     Ok(TermExpr::Conversion(to, 7, a))
 }
 
 fn and(alloc: Global, a: TermExpr, b: TermExpr) -> Result<TermExpr, AllocError> {
-    let a = Boxed::new(alloc, a)?;
-    let b = Boxed::new(alloc, b)?;
+    let a = Nested::new(alloc, a)?;
+    let b = Nested::new(alloc, b)?;
     Ok(TermExpr::And(a, b))
 }
 
 fn or(alloc: Global, a: TermExpr, b: TermExpr) -> Result<TermExpr, AllocError> {
-    let a = Boxed::new(alloc, a)?;
-    let b = Boxed::new(alloc, b)?;
+    let a = Nested::new(alloc, a)?;
+    let b = Nested::new(alloc, b)?;
     Ok(TermExpr::Or(a, b))
 }
 
@@ -176,8 +176,8 @@ fn or(alloc: Global, a: TermExpr, b: TermExpr) -> Result<TermExpr, AllocError> {
 fn sum(alloc: Global, a: i32, b: i32) -> Result<TermExpr, AllocError>
     ensures { IfOk result (λ e. CanBeEvaluated (expression_of e) (zero_frame [] 0)) }
 {
-    let a = Boxed::new(alloc, TermExpr::Constant(i64::from(a)))?;
-    let b = Boxed::new(alloc, TermExpr::Constant(i64::from(b)))?;
+    let a = Nested::new(alloc, TermExpr::Constant(i64::from(a)))?;
+    let b = Nested::new(alloc, TermExpr::Constant(i64::from(b)))?;
     Ok(TermExpr::Binary(Operator::Plus, Primitive::Int, 7, a, b))
 }
 

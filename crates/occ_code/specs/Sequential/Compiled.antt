@@ -1,6 +1,6 @@
 -- Compiled programs: a body for each process, which does what the process's term does.
 -- Manual: nothing; this is (own).
-use Rattle.std.specs.Prelude.{All, List, [], false, length, reverse, ℕ, ⊤, ◌*◌, ◌+◌, ◌++◌, ◌<◌, ◌≤◌, ◌∷◌, ◌≡◌}
+use Rattle.std.specs.Prelude.{All, List, [], length, reverse, ℕ, ⊤, ◌*◌, ◌+◌, ◌++◌, ◌<◌, ◌≤◌, ◌∷◌, ◌≡◌}
 use Rattle.occ_term.specs.Terms.{Term}
 use Rattle.occ_term.specs.Unfolding.{Unfolding, IsWellFormed, Lawful, declared, meaning}
 use Rattle.occ_term.specs.Processes.{Numbered, processes_of}
@@ -11,9 +11,9 @@ use Rattle.occ_term.specs.declared.names.Channel.{Channel}
 use Rattle.occ_code.specs.Alike.{Lists, used_by}
 use Rattle.occ_code.specs.Sequential.Machine.{Body}
 use Rattle.occ_code.specs.Sequential.Alike.{DoesAs}
-use Rattle.occ_code.specs.Sequential.Emitted.{body_of, has_no_alt, instructions_of}
+use Rattle.occ_code.specs.Sequential.Emitted.{body_of, instructions_of}
 use Rattle.occ_code.specs.declared.compiler.code.CodeFault.{CodeFault}
-use Rattle.occ_code.specs.declared.compiler.code.CodeFault.TheVariants.{TooLarge, Early, BadQuantum, Memory}
+use Rattle.occ_code.specs.declared.compiler.code.CodeFault.TheVariants.{TooLarge, BadQuantum, Memory}
 
 -- the code of a program: a body for each process number, and the channels
 pub record Program : Type 0 where
@@ -77,11 +77,10 @@ pub record IsCompiled (p : Program) : Type 0 where
 abbrev pub IsQuantum : ℕ → Type 0
 IsQuantum quantum = (0 < quantum) × (quantum ≤ 65536)
 
--- A quantum that is none is refused before all else. Want of memory says nothing more. The others say that 32 instructions for
--- each node are more than a program may have, and that there is an ALT.
+-- A quantum that is none is refused before all else. Want of memory says nothing more. The other says that 32 instructions for
+-- each node are more than a program may have.
 abbrev pub CodeRefuses : CodeFault → ℕ → Unfolding → Type 0
 CodeRefuses TooLarge quantum u = IsQuantum quantum × (most_instructions < 32 * (size_of (meaning u)).nodes)
-CodeRefuses (Early line) quantum u = IsQuantum quantum × (has_no_alt (meaning u) ≡ false)
 CodeRefuses BadQuantum quantum u = IsQuantum quantum → ⊥
 CodeRefuses Memory quantum u = IsQuantum quantum
 
@@ -95,6 +94,5 @@ pub record AddsBodies (quantum : ℕ) (before : List Body) (ps : List Numbered) 
 
 abbrev pub IsRefused : CodeFault → Term → Type 0
 IsRefused TooLarge t = most_instructions < instructions_of (processes_of t)
-IsRefused (Early line) t = has_no_alt t ≡ false
 IsRefused BadQuantum t = ⊥
 IsRefused Memory t = ⊤

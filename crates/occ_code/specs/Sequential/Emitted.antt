@@ -1,63 +1,38 @@
--- The instructions that a term becomes. ALT has none yet.
+-- The instructions that a term becomes.
 -- Manual: nothing; this is (own).
-use Rattle.std.specs.Prelude.{Bool, IsTrue, List, [], false, length, map, max, true, ℕ, ◌&&◌, ◌*◌, ◌+◌, ◌++◌, ◌<◌, ◌≤◌, ◌∷◌}
-use Rattle.occ_term.specs.Terms.{Term, Skip, Stop, Assign, Input, Output, VariantInput, Seq, Par, Alt, If, Case, While, Each, Clear, Local, Terms, no_terms, then_term, Branches, no_branches, and_branch, Variants, no_variants, or_variant, Choices, no_choices, or_choice, declared_choices, each_choice, Options, no_options, or_option, or_else, Clearing, Naming}
+use Rattle.std.specs.Prelude.{List, [], length, map, max, pos, ℕ, ◌*◌, ◌+◌, ◌++◌, ◌<◌, ◌≤◌, ◌∷◌}
+use Rattle.occ_term.specs.Terms.{Term, Skip, Stop, Assign, Input, Output, VariantInput, Seq, Par, Alt, If, Case, While, Each, Clear, Local, Terms, no_terms, then_term, Arms, no_arms, skip_arm, input_arm, declared_arms, each_arm, Reception, Plain, Tagged, Variants, no_variants, or_variant, Choices, no_choices, or_choice, declared_choices, each_choice, Options, no_options, or_option, or_else, Clearing, Naming}
 use Rattle.occ_term.specs.Storing.{index_of}
 use Rattle.occ_term.specs.Uses.{uses_of}
 use Rattle.occ_term.specs.Sizes.{size_of}
 use Rattle.occ_term.specs.Processes.{Numbered, processes_of}
 use Rattle.occ_term.specs.TermTyping.{Declared, TermHas}
 use Rattle.occ_code.specs.Alike.{Lists, used_by}
-use Rattle.occ_code.specs.Sequential.Machine.{Instruction, Body, placed, Jump, Choose, IfAmong, IfTag, DropOne, NextChoice, BackToChoice, Begin, Pass, LoopBack, Send, Receive, Halt, End}
-use Rattle.occ_code.specs.Sequential.Expressions.{expression_code, place_code, items_code, declaration_code, declarations_code, storing_code, counting_code, assignment_code, par_code}
+use Rattle.occ_code.specs.Sequential.Machine.{Instruction, Body, placed, Push, Jump, Choose, IfAmong, IfTag, DropOne, NextChoice, BackToChoice, PassArms, IfTaken, SetAgain, ChooseArm, Begin, Pass, LoopBack, Send, Receive, Halt, End}
+use Rattle.occ_code.specs.Sequential.Expressions.{expression_code, place_code, items_code, declaration_code, declarations_code, storing_code, counting_code, assignment_code, par_code, skip_opening, input_opening}
 use Rattle.occ_code.specs.Sequential.Alike.{DoesAs}
 
-abbrev mutual
-  pub has_no_alt : Term → Bool
-  has_no_alt Skip = true
-  has_no_alt Stop = true
-  has_no_alt (Assign ts vs) = true
-  has_no_alt (Input c ts) = true
-  has_no_alt (Output c tag is) = true
-  has_no_alt (VariantInput c vs) = variants_have_no_alt vs
-  has_no_alt (Seq ts) = have_no_alt ts
-  has_no_alt (Par bs) = branches_have_no_alt bs
-  has_no_alt (Alt pri arms) = false
-  has_no_alt (If cs) = choices_have_no_alt cs
-  has_no_alt (Case e os) = options_have_no_alt os
-  has_no_alt (While e b) = has_no_alt b
-  has_no_alt (Each r b) = has_no_alt b
-  has_no_alt (Clear first count) = true
-  has_no_alt (Local first value) = true
+-- An arm of an ALT before others, of which so many instructions stand up to the end of the ALT: what is done once it is taken, and
+-- what opens it. A number that is no greater than that of the last of the others passes on to them.
+abbrev pub arm_code : List Instruction → List Instruction → List Instruction → ℕ → List Instruction
+arm_code body opens others after =
+    PassArms (length others + after) (length body + length opens + 2)
+    ∷ IfTaken (length body + 1) ∷ (body ++ Jump (length opens + (length others + after)) ∷ (opens ++ others))
 
-  pub have_no_alt : Terms → Bool
-  have_no_alt no_terms = true
-  have_no_alt (then_term t ts) = has_no_alt t && have_no_alt ts
+-- arms behind a declaration, before others
+abbrev pub declared_arms_code : List Instruction → List Instruction → List Instruction → ℕ → List Instruction
+declared_arms_code declares within others after =
+    PassArms (length others + after) (length declares + length within) ∷ (declares ++ (within ++ others))
 
-  pub branches_have_no_alt : Branches → Bool
-  branches_have_no_alt no_branches = true
-  branches_have_no_alt (and_branch n t bs) = has_no_alt t && branches_have_no_alt bs
+-- arms for each value of an index, before others
+abbrev pub each_arm_code : ℕ → List Instruction → List Instruction → List Instruction → ℕ → List Instruction
+each_arm_code index counts within others after =
+    PassArms (length others + after) (length counts + length within + 5)
+    ∷ SetAgain index (length counts + 2)
+    ∷ (counts ++ NextChoice index (length within + 3) ∷ Push (pos 0) ∷ (within ++ DropOne ∷ BackToChoice (length within + 3) ∷ others))
 
-  pub variants_have_no_alt : Variants → Bool
-  variants_have_no_alt no_variants = true
-  variants_have_no_alt (or_variant tag ds ts t vs) = has_no_alt t && variants_have_no_alt vs
-
-  pub choices_have_no_alt : Choices → Bool
-  choices_have_no_alt no_choices = true
-  choices_have_no_alt (or_choice e t cs) = has_no_alt t && choices_have_no_alt cs
-  choices_have_no_alt (declared_choices d within others) = choices_have_no_alt within && choices_have_no_alt others
-  choices_have_no_alt (each_choice r within others) = choices_have_no_alt within && choices_have_no_alt others
-
-  pub options_have_no_alt : Options → Bool
-  options_have_no_alt no_options = true
-  options_have_no_alt (or_option constants ds t os) = has_no_alt t && options_have_no_alt os
-  options_have_no_alt (or_else ds t os) = has_no_alt t && options_have_no_alt os
-
--- without ALT, also in the branches of a PAR
-abbrev pub HasNoAlt : Term → Type 0
-HasNoAlt t = IsTrue (has_no_alt t)
-
--- A replicated SEQ has its two counters from the slot on, and what stands in it has later ones. `after` is how many instructions stand between the choices, or the options, and where their bodies go on
+-- A replicated SEQ has its two counters from the slot on, and what stands in it has later ones. `after` is how many instructions stand between
+-- the choices, options or arms and where their bodies go on. The number of an arm is how many stand from what comes after it on to there, and one.
 abbrev mutual
   pub term_code : ℕ → Term → List Instruction
   term_code slot Skip = []
@@ -68,7 +43,7 @@ abbrev mutual
   term_code slot (VariantInput c vs) = (place_code c ++ Receive ∷ []) ++ variants_code slot vs
   term_code slot (Seq ts) = terms_code slot ts
   term_code slot (Par bs) = par_code bs
-  term_code slot (Alt pri arms) = []
+  term_code slot (Alt pri arms) = Push (pos 0) ∷ (arms_code slot arms 1 ++ ChooseArm pri (length (arms_code slot arms 1)) ∷ [])
   term_code slot (If cs) = choices_code slot cs 1 ++ Halt ∷ []
   term_code slot (Case e os) = expression_code e ++ (options_code slot os (length (else_code slot os)) ++ else_code slot os)
   term_code slot (While e b) =
@@ -82,6 +57,21 @@ abbrev mutual
   pub terms_code : ℕ → Terms → List Instruction
   terms_code slot no_terms = []
   terms_code slot (then_term t ts) = term_code slot t ++ terms_code slot ts
+
+  pub arms_code : ℕ → Arms → ℕ → List Instruction
+  arms_code slot no_arms after = []
+  arms_code slot (skip_arm e t others) after =
+      arm_code (term_code slot t) (skip_opening e (length (arms_code slot others after) + after + 1)) (arms_code slot others after) after
+  arms_code slot (input_arm e c list others) after =
+      arm_code (list_code slot list) (input_opening e c (length (arms_code slot others after) + after + 1)) (arms_code slot others after) after
+  arms_code slot (declared_arms d within others) after =
+      declared_arms_code (declaration_code d) (arms_code slot within (length (arms_code slot others after) + after)) (arms_code slot others after) after
+  arms_code slot (each_arm r within others) after =
+      each_arm_code (index_of r) (counting_code r) (arms_code slot within (2 + length (arms_code slot others after) + after)) (arms_code slot others after) after
+
+  pub list_code : ℕ → Reception → List Instruction
+  list_code slot (Plain ts t) = storing_code ts ++ term_code slot t
+  list_code slot (Tagged vs) = variants_code slot vs
 
   pub variants_code : ℕ → Variants → List Instruction
   variants_code slot no_variants = Halt ∷ []
@@ -123,7 +113,7 @@ abbrev mutual
   counters_of (VariantInput c vs) = counters_of_variants vs
   counters_of (Seq ts) = counters_of_terms ts
   counters_of (Par bs) = 0
-  counters_of (Alt pri arms) = 0
+  counters_of (Alt pri arms) = counters_of_arms arms
   counters_of (If cs) = counters_of_choices cs
   counters_of (Case e os) = counters_of_options os
   counters_of (While e b) = counters_of b
@@ -134,6 +124,17 @@ abbrev mutual
   pub counters_of_terms : Terms → ℕ
   counters_of_terms no_terms = 0
   counters_of_terms (then_term t ts) = max (counters_of t) (counters_of_terms ts)
+
+  pub counters_of_arms : Arms → ℕ
+  counters_of_arms no_arms = 0
+  counters_of_arms (skip_arm e t arms) = max (counters_of t) (counters_of_arms arms)
+  counters_of_arms (input_arm e c list arms) = max (counters_of_list list) (counters_of_arms arms)
+  counters_of_arms (declared_arms d within others) = max (counters_of_arms within) (counters_of_arms others)
+  counters_of_arms (each_arm r within others) = max (counters_of_arms within) (counters_of_arms others)
+
+  pub counters_of_list : Reception → ℕ
+  counters_of_list (Plain ts t) = counters_of t
+  counters_of_list (Tagged vs) = counters_of_variants vs
 
   pub counters_of_variants : Variants → ℕ
   counters_of_variants no_variants = 0
@@ -158,10 +159,10 @@ whole_code t = term_code 0 t ++ End ∷ []
 abbrev pub body_of : Term → List ℕ → List ℕ → ℕ → Body
 body_of t cells writes quantum = record { code = map (placed cells) (whole_code t); cells = cells; writes = writes; loops = counters_of t; quantum = quantum }
 
--- the body of a typed term without ALT does what the term does
+-- the body of a typed term does what the term does
 abbrev pub CompiledDo : Type 0
 CompiledDo =
-    (d : Declared) (t : Term) (cells writes : List ℕ) (quantum : ℕ) → HasNoAlt t → TermHas d t → Lists cells (used_by (uses_of t)) → Lists writes (uses_of t).writes
+    (d : Declared) (t : Term) (cells writes : List ℕ) (quantum : ℕ) → TermHas d t → Lists cells (used_by (uses_of t)) → Lists writes (uses_of t).writes
     → 0 < quantum → DoesAs d (body_of t cells writes quantum) t
 
 -- how many instructions the processes have in all

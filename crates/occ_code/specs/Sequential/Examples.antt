@@ -1,9 +1,9 @@
--- Loops that count, one of them round a PAR, and their bodies.
+-- Loops that count, one of them round a PAR, and an ALT with a declaration for each value of an index; and their bodies.
 -- Manual: combining processes.
-use Rattle.std.specs.Prelude.{None, Some, [], pos, ◌∷◌}
+use Rattle.std.specs.Prelude.{None, Some, [], pos, true, ◌∷◌}
 use Rattle.occ_term.specs.declared.primitive.Primitive.TheVariants.{Int}
 use Rattle.occ_term.specs.declared.expression.Operator.TheVariants.{Plus, Less}
-use Rattle.occ_term.specs.Terms.{Constant, Cell, Binary, place, no_subscripts, OfOne, Into, replicator, Term, Skip, Assign, Par, While, Each, no_branches, and_branch}
+use Rattle.occ_term.specs.Terms.{Constant, Cell, Binary, place, no_subscripts, OfOne, Into, replicator, Term, Skip, Assign, Par, Alt, While, Each, no_branches, and_branch, no_arms, skip_arm, declared_arms, each_arm, Naming}
 use Rattle.occ_term.specs.TermTyping.{Declared}
 use Rattle.occ_code.specs.Sequential.Emitted.{body_of}
 use Rattle.occ_code.specs.Sequential.Alike.{DoesAs}
@@ -39,3 +39,16 @@ twice_two = Each (replicator 1 0 (Constant (pos 0)) (Constant (pos 2))) (Par (an
 
 abbrev pub TwiceTwoAsCompiled : Type 0
 TwiceTwoAsCompiled = DoesAs whole_numbers (body_of twice_two (0 ∷ []) (0 ∷ []) 1) twice_two
+
+-- PRI ALT i = 0 FOR 2
+--   VAL b IS i:
+--   TRUE & SKIP
+--     n := b
+abbrev pub first_of_two : Term
+first_of_two =
+    Alt true
+    (each_arm (replicator 1 0 (Constant (pos 0)) (Constant (pos 2)))
+    (declared_arms (Naming 1 (OfOne Int (Cell 0))) (skip_arm (Constant (pos 1)) (Assign (Into (place 4 2 [] no_subscripts) ∷ []) (OfOne Int (Cell 1) ∷ [])) no_arms) no_arms) no_arms)
+
+abbrev pub FirstOfTwoAsCompiled : Type 0
+FirstOfTwoAsCompiled = DoesAs whole_numbers (body_of first_of_two (0 ∷ 1 ∷ 2 ∷ []) (0 ∷ 1 ∷ 2 ∷ []) 1) first_of_two

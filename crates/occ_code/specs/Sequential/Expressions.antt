@@ -4,7 +4,7 @@ use Rattle.std.specs.Prelude.{List, None, Option, Some, [], length, pos, ℕ, �
 use Rattle.occ_term.specs.Messages.{product}
 use Rattle.occ_term.specs.Terms.{Expression, Constant, Cell, Component, Letter, Binary, Unary, And, Or, Conversion, Place, place, Subscripts, no_subscripts, then_subscript, Cells, Text, Item, OfOne, OfMany, OfCounted, Target, Into, IntoCounted, Declaration, Clearing, Naming, Replicator, replicator, Branches, no_branches, and_branch}
 use Rattle.occ_term.specs.Uses.{components}
-use Rattle.occ_code.specs.Sequential.Machine.{Instruction, Push, Load, LoadAt, LoadLetter, Subscript, Operate, OperateOne, ConvertTo, AndThen, OrElse, PartOne, PartMany, PartText, PartCounted, PartCountedText, SpotOne, SpotCounted, StoreParts, StoreNamed, StoreOne, ClearCells, CountedFrom, Fork}
+use Rattle.occ_code.specs.Sequential.Machine.{Instruction, Push, Load, LoadAt, LoadLetter, Subscript, Operate, OperateOne, ConvertTo, AndThen, OrElse, PartOne, PartMany, PartText, PartCounted, PartCountedText, SpotOne, SpotCounted, StoreParts, StoreNamed, StoreOne, ClearCells, CountedFrom, Fork, IfTrue, OpenSkip, OpenInput}
 use Rattle.occ_code.specs.Alike.{numbers_of}
 
 abbrev mutual
@@ -65,6 +65,17 @@ storing_code ts = targets_code ts ++ StoreParts ∷ []
 
 abbrev pub counting_code : Replicator → List Instruction
 counting_code (replicator line index base count) = expression_code base ++ (expression_code count ++ CountedFrom line ∷ [])
+
+-- what opens an arm of an ALT with this number where its test is TRUE; one without a test is always open
+abbrev pub opening_code : Option Expression → List Instruction → List Instruction
+opening_code None opens = opens
+opening_code (Some test) opens = expression_code test ++ IfTrue (length opens) ∷ opens
+
+abbrev pub skip_opening : Expression → ℕ → List Instruction
+skip_opening test number = opening_code (Some test) (OpenSkip number ∷ [])
+
+abbrev pub input_opening : Option Expression → Place → ℕ → List Instruction
+input_opening test channel number = opening_code test (place_code channel ++ OpenInput number ∷ [])
 
 -- a single variable
 abbrev pub single_target : List Target → Option ℕ

@@ -1,11 +1,11 @@
 -- How the code of a term stands in a body. Jumps alone lead from the end of a piece to where it goes on.
 -- Manual: nothing; this is (own).
-use Rattle.std.specs.Prelude.{List, Some, [], pos, slice_get, ℕ, ℤ, ◌+ℤ◌, ◌+◌, ◌++◌, ◌-◌, ◌<◌, ◌∷◌, ◌≡◌}
-use Rattle.occ_term.specs.Terms.{Term, Skip, Stop, Assign, Input, Output, VariantInput, Seq, Par, Alt, If, Case, While, Each, Clear, Local, Terms, no_terms, then_term, Reception, Plain, Tagged, Variants, no_variants, or_variant, Choices, no_choices, or_choice, declared_choices, each_choice, Options, no_options, or_option, or_else, Clearing, Naming}
+use Rattle.std.specs.Prelude.{List, Some, [], pos, slice_get, ℕ, ℤ, ◌+ℤ◌, ◌+◌, ◌++◌, ◌-◌, ◌<◌, ◌≤◌, ◌∷◌, ◌≡◌}
+use Rattle.occ_term.specs.Terms.{Term, Skip, Stop, Assign, Input, Output, VariantInput, Seq, Par, Alt, If, Case, While, Each, Clear, Local, Terms, no_terms, then_term, Arms, no_arms, skip_arm, input_arm, declared_arms, each_arm, Reception, Plain, Tagged, Variants, no_variants, or_variant, Choices, no_choices, or_choice, declared_choices, each_choice, Options, no_options, or_option, or_else, Clearing, Naming}
 use Rattle.occ_term.specs.Storing.{index_of}
 use Rattle.occ_term.specs.Steps.{Loop, WhileLoop, EachLoop, Context, Then, Within}
-use Rattle.occ_code.specs.Sequential.Machine.{Instruction, Jump, Choose, IfAmong, IfTag, DropOne, NextChoice, BackToChoice, Begin, Pass, LoopBack, Send, Receive, Halt, counter_at, kept_value}
-use Rattle.occ_code.specs.Sequential.Expressions.{expression_code, place_code, items_code, declaration_code, declarations_code, storing_code, counting_code, assignment_code, par_code}
+use Rattle.occ_code.specs.Sequential.Machine.{Instruction, Push, Jump, Choose, IfAmong, IfTag, DropOne, NextChoice, BackToChoice, PassArms, IfTaken, SetAgain, ChooseArm, Begin, Pass, LoopBack, Send, Receive, Halt, counter_at, kept_value}
+use Rattle.occ_code.specs.Sequential.Expressions.{expression_code, place_code, items_code, declaration_code, declarations_code, storing_code, counting_code, assignment_code, par_code, skip_opening, input_opening}
 use Rattle.occ_code.specs.Sequential.Laws.{StandsAt}
 
 -- from one place to another by jumps alone
@@ -17,9 +17,13 @@ pub data Ways (code : List Instruction) : ℕ → ℕ → Type 0 where
 abbrev pub LeadsBack : List Instruction → ℕ → ℕ → Type 0
 LeadsBack code pc head = (back : ℕ) × (slice_get code pc ≡ Some (LoopBack back)) × (pc - back ≡ head)
 
+-- Numbers above the low one, up to the last one, pass on to the place of other arms; those above it, up to the high one, go in.
+abbrev pub PassesArms : List Instruction → ℕ → ℕ → ℕ → ℕ → ℕ → Type 0
+PassesArms code pc low last high out = (skip : ℕ) × (slice_get code pc ≡ Some (PassArms last skip)) × (pc + 1 + skip ≡ out) × (low ≤ last) × (last < high)
+
 abbrev mutual
   -- From the place on stands the code of the term, after which it goes on at the other place. A replicated SEQ has the counters
-  -- from the slot on, of which there are `loops`; what stands in it has later ones. ALT has no code yet.
+  -- from the slot on, of which there are `loops`; what stands in it has later ones.
   pub TermAt : List Instruction → ℕ → ℕ → ℕ → Term → ℕ → Type 0
   TermAt code loops slot pc Skip pc' = Ways code pc pc'
   TermAt code loops slot pc Stop pc' = slice_get code pc ≡ Some Halt
@@ -30,7 +34,9 @@ abbrev mutual
   TermAt code loops slot pc (VariantInput c vs) pc' = (n : ℕ) × StandsAt code pc (place_code c ++ Receive ∷ []) n × VariantsAt code loops slot n vs pc'
   TermAt code loops slot pc (Seq ts) pc' = TermsAt code loops slot pc ts pc'
   TermAt code loops slot pc (Par bs) pc' = (m : ℕ) × StandsAt code pc (par_code bs) m × Ways code m pc'
-  TermAt code loops slot pc (Alt pri arms) pc' = ⊥
+  TermAt code loops slot pc (Alt pri arms) pc' =
+      (high : ℕ) × (n : ℕ) × (back : ℕ) × (slice_get code pc ≡ Some (Push (pos 0))) × ArmsAt code loops slot (pc + 1) 0 high arms n pc'
+      × (slice_get code n ≡ Some (ChooseArm pri back)) × (n - back ≡ pc + 1)
   TermAt code loops slot pc (If cs) pc' = (m : ℕ) × ChoicesAt code loops slot pc cs m pc' × (slice_get code m ≡ Some Halt)
   TermAt code loops slot pc (Case e os) pc' = (m : ℕ) × (n : ℕ) × StandsAt code pc (expression_code e) m × OptionsAt code loops slot m os n pc' × ElseAt code loops slot n os pc'
   TermAt code loops slot pc (While e b) pc' =
@@ -46,6 +52,33 @@ abbrev mutual
   pub TermsAt : List Instruction → ℕ → ℕ → ℕ → Terms → ℕ → Type 0
   TermsAt code loops slot pc no_terms pc' = Ways code pc pc'
   TermsAt code loops slot pc (then_term t ts) pc' = (m : ℕ) × TermAt code loops slot pc t m × TermsAt code loops slot m ts pc'
+
+  -- Arms with numbers above the low one, up to the high one. Once they are evaluated it goes on at `next`, after what is done once one is
+  -- taken at the last place.
+  pub ArmsAt : List Instruction → ℕ → ℕ → ℕ → ℕ → ℕ → Arms → ℕ → ℕ → Type 0
+  ArmsAt code loops slot pc low high no_arms next pc' = Ways code pc next
+  ArmsAt code loops slot pc low high (skip_arm e t others) next pc' =
+      (last : ℕ) × (out : ℕ) × (skip : ℕ) × PassesArms code pc low last high out × (slice_get code (pc + 1) ≡ Some (IfTaken skip))
+      × TermAt code loops slot (pc + 1 + 1) t pc' × StandsAt code (pc + 1 + 1 + skip) (skip_opening e (last + 1)) out
+      × ArmsAt code loops slot out low last others next pc'
+  ArmsAt code loops slot pc low high (input_arm e c list others) next pc' =
+      (last : ℕ) × (out : ℕ) × (skip : ℕ) × PassesArms code pc low last high out × (slice_get code (pc + 1) ≡ Some (IfTaken skip))
+      × ListAt code loops slot (pc + 1 + 1) list pc' × StandsAt code (pc + 1 + 1 + skip) (input_opening e c (last + 1)) out
+      × ArmsAt code loops slot out low last others next pc'
+  ArmsAt code loops slot pc low high (declared_arms d within others) next pc' =
+      (last : ℕ) × (out : ℕ) × (m : ℕ) × PassesArms code pc low last high out × StandsAt code (pc + 1) (declaration_code d) m
+      × ArmsAt code loops slot m last high within out pc' × ArmsAt code loops slot out low last others next pc'
+  ArmsAt code loops slot pc low high (each_arm r within others) next pc' =
+      (last : ℕ) × (out : ℕ) × (m : ℕ) × (n : ℕ) × (again : ℕ) × (skip : ℕ) × (back : ℕ) × PassesArms code pc low last high out
+      × (slice_get code (pc + 1) ≡ Some (SetAgain (index_of r) again)) × (pc + 1 + 1 + again ≡ m + 1 + 1) × StandsAt code (pc + 1 + 1) (counting_code r) m
+      × (slice_get code m ≡ Some (NextChoice (index_of r) skip)) × (m + 1 + skip ≡ out) × (slice_get code (m + 1) ≡ Some (Push (pos 0)))
+      × ArmsAt code loops slot (m + 1 + 1) last high within n pc' × (slice_get code n ≡ Some DropOne) × (slice_get code (n + 1) ≡ Some (BackToChoice back))
+      × (n + 1 - back ≡ m) × ArmsAt code loops slot out low last others next pc'
+
+  -- what takes a message, and what is done then
+  pub ListAt : List Instruction → ℕ → ℕ → ℕ → Reception → ℕ → Type 0
+  ListAt code loops slot pc (Plain ts t) pc' = (m : ℕ) × StandsAt code pc (storing_code ts) m × TermAt code loops slot m t pc'
+  ListAt code loops slot pc (Tagged vs) pc' = VariantsAt code loops slot pc vs pc'
 
   -- a tag that is listed goes on with its variant, another one comes to the halt at the end
   pub VariantsAt : List Instruction → ℕ → ℕ → ℕ → Variants → ℕ → Type 0
@@ -79,11 +112,6 @@ abbrev mutual
   ElseAt code loops slot pc no_options pc' = slice_get code pc ≡ Some Halt
   ElseAt code loops slot pc (or_option constants ds t os) pc' = ElseAt code loops slot pc os pc'
   ElseAt code loops slot pc (or_else ds t os) pc' = (m : ℕ) × (slice_get code pc ≡ Some DropOne) × StandsAt code (pc + 1) (declarations_code ds) m × TermAt code loops slot m t pc'
-
--- what takes a message, and what is done then
-abbrev pub ListAt : List Instruction → ℕ → ℕ → ℕ → Reception → ℕ → Type 0
-ListAt code loops slot pc (Plain ts t) pc' = (m : ℕ) × StandsAt code pc (storing_code ts) m × TermAt code loops slot m t pc'
-ListAt code loops slot pc (Tagged vs) pc' = VariantsAt code loops slot pc vs pc'
 
 -- how a replicated SEQ goes on after one of its bodies
 abbrev pub EachAt : List Instruction → ℕ → ℕ → ℕ → ℕ → Term → ℕ → Type 0

@@ -6,12 +6,9 @@ ghost use Rattle.occ_term.specs.Unfolding.{meaning};
 ghost use Rattle.occ_term.specs.View.{term_of};
 ghost use Rattle.occ_code.specs.Sequential.Compiled.{AreBodiesOf, IsCodeOf, IsCompiled, IsQuantum, IsRefused, CodeRefuses, most_instructions};
 ghost use Rattle.occ_code.specs.Sequential.Compiled as compiled;
-ghost use Rattle.occ_code.specs.Sequential.Emitted.{HasNoAlt};
 
-use crate::compiler::alts::has_no_alt;
 use crate::compiler::body::Body;
 use crate::compiler::processes::bodies_of;
-use crate::early::early_line;
 use occ_term::{Channel, Checked, Term};
 use std::alloc::{AllocError, AllocFailed, Global};
 use std::marker::Model;
@@ -30,9 +27,6 @@ pub enum CodeFault {
     /// It has more than `MOST_INSTRUCTIONS` instructions, as only a program can of which 32 times the nodes are more.
     #[error("refused 60 TooLarge")]
     TooLarge,
-    /// There is an ALT, which isn't compiled yet; the line is one of the program's, and it isn't promised which.
-    #[error("refused 61 Early line {line}")]
-    Early { line: u32 },
     /// The quantum is not from 1 to 65,536.
     #[error("refused 62 BadQuantum")]
     BadQuantum,
@@ -121,7 +115,6 @@ impl Code {
 /// As of `compile_for`, but for `BadQuantum`.
 pub fn compile(alloc: Global, checked: &Checked) -> Result<Code, CodeFault>
     ensures compiled { IfOk result (λ c. IsCodeOf checked.now 1 c) }
-    ensures no_alt { IfOk result (λ c. HasNoAlt (meaning checked.now)) }
     ensures refused { IfErr result (λ fault. CodeRefuses fault 1 checked.now) }
 {
     compile_for(alloc, checked, 1)
@@ -131,11 +124,10 @@ pub fn compile(alloc: Global, checked: &Checked) -> Result<Code, CodeFault>
 ///
 /// # Errors
 ///
-/// `BadQuantum` for a quantum that isn't from 1 to 65,536, before all else; then `Early` for an ALT,
-/// `TooLarge` past the limit of instructions, and `Memory` for a refused growth.
+/// `BadQuantum` for a quantum that isn't from 1 to 65,536, before all else; then `TooLarge` past the
+/// limit of instructions, and `Memory` for a refused growth.
 pub fn compile_for(alloc: Global, checked: &Checked, quantum: u32) -> Result<Code, CodeFault>
     ensures compiled { IfOk result (λ c. IsCodeOf checked.now quantum c) }
-    ensures no_alt { IfOk result (λ c. HasNoAlt (meaning checked.now)) }
     ensures refused { IfErr result (λ fault. CodeRefuses fault quantum checked.now) }
 {
     if quantum == 0 || quantum > MOST_QUANTUM {
@@ -159,15 +151,9 @@ fn program_bodies(
     quantum: u32,
 ) -> Result<Vec<Arc<Body, Global>>, CodeFault>
     ensures bodies { IfOk result (λ bodies. AreBodiesOf (processes_of (term_of term.now)) quantum (map arc_value bodies.items)) }
-    ensures no_alt { IfOk result (λ bodies. HasNoAlt (term_of term.now)) }
     ensures small { IfOk result (λ bodies. compiled.instructions_in (map arc_value bodies.items) ≤ most_instructions) }
     ensures refused { IfErr result (λ fault. IsRefused fault (term_of term.now)) }
 {
-    if !has_no_alt(term) {
-        return Err(CodeFault::Early {
-            line: early_line(term),
-        });
-    }
     let bodies = bodies_of(alloc, quantum, term)?;
     if instructions_in(&bodies)? > MOST_INSTRUCTIONS {
         return Err(CodeFault::TooLarge);

@@ -1,10 +1,10 @@
 //! How many counters a term wants.
 ghost use Rattle.std.specs.Prelude.{◌≡◌, ◌+◌, IfOk, max};
 ghost use Rattle.occ_term.specs.Terms as terms;
-ghost use Rattle.occ_term.specs.View.{choice_of, choices_of, option_of, options_of, term_of, terms_of, variant_of, variants_of};
-ghost use Rattle.occ_code.specs.Sequential.Emitted.{counters_of, counters_of_choices, counters_of_options, counters_of_terms, counters_of_variants};
+ghost use Rattle.occ_term.specs.View.{arm_of, arms_of, reception_of, choice_of, choices_of, option_of, options_of, term_of, terms_of, variant_of, variants_of};
+ghost use Rattle.occ_code.specs.Sequential.Emitted.{counters_of, counters_of_arms, counters_of_list, counters_of_choices, counters_of_options, counters_of_terms, counters_of_variants};
 
-use occ_term::{Choice, Selection, Term, Variant};
+use occ_term::{Arm, Choice, Reception, Selection, Term, Variant};
 use std::alloc::AllocError;
 
 /// How many counters the replicated SEQs of a term have, within one another. The error is that of too many.
@@ -21,7 +21,7 @@ pub(crate) fn counters_in(term: &Term) -> Result<u32, AllocError>
         Term::VariantInput(_, variants) => counters_in_variants(variants.as_slice()),
         Term::Seq(parts) => counters_in_terms(parts.as_slice()),
         Term::Par(_) => Ok(0),
-        Term::Alt(_, _) => Ok(0),
+        Term::Alt(_, arms) => counters_in_arms(arms.as_slice()),
         Term::If(choices) => counters_in_choices(choices.as_slice()),
         Term::Case(_, options) => counters_in_options(options.as_slice()),
         Term::While(_, body) => counters_in(body.get()),
@@ -57,6 +57,54 @@ fn counters_in_terms(parts: &[Term]) -> Result<u32, AllocError>
         most = larger(counters_in(&parts[count])?, most);
     }
     Ok(most)
+}
+
+#[cycle(counters)]
+fn counters_in_arms(arms: &[Arm]) -> Result<u32, AllocError>
+    ensures { IfOk result (λ n. n ≡ counters_of_arms (arms_of arms.now)) }
+{
+    let mut most = 0;
+    let mut count = arms.len();
+    while count > 0 {
+        count -= 1;
+        most = counters_in_arm(&arms[count], most)?;
+    }
+    Ok(most)
+}
+
+/// Of an arm before others, which have so many.
+#[cycle(counters)]
+fn counters_in_arm(arm: &Arm, most: u32) -> Result<u32, AllocError>
+    ensures { IfOk result (λ n. (others : terms.Arms) → most ≡ counters_of_arms others → n ≡ counters_of_arms (arm_of arm.now others)) }
+{
+    match arm {
+        Arm::SkipArm(_, body) => {
+            let own = counters_in(body)?;
+            Ok(larger(own, most))
+        }
+        Arm::InputArm(_, _, list) => {
+            let own = counters_in_list(list)?;
+            Ok(larger(own, most))
+        }
+        Arm::DeclaredArms(_, within) => {
+            let own = counters_in_arms(within.as_slice())?;
+            Ok(larger(own, most))
+        }
+        Arm::EachArm(_, within) => {
+            let own = counters_in_arms(within.as_slice())?;
+            Ok(larger(own, most))
+        }
+    }
+}
+
+#[cycle(counters)]
+fn counters_in_list(list: &Reception) -> Result<u32, AllocError>
+    ensures { IfOk result (λ n. n ≡ counters_of_list (reception_of list.now)) }
+{
+    match list {
+        Reception::Plain(_, body) => counters_in(body),
+        Reception::Tagged(variants) => counters_in_variants(variants.as_slice()),
+    }
 }
 
 #[cycle(counters)]

@@ -6,8 +6,8 @@ use sqlite_items::Items;
 /// One instruction. A skip counts the instructions that are jumped over, and a `back` is how far a
 /// jump leads back. Lines are for faults.
 ///
-/// In a body, `Load`, `StoreOne` and the index of `NextChoice`, `Begin` and `Pass` name a cell by its
-/// place among the body's cells; they are emitted with its number. All other cells go by their numbers.
+/// In a body, `Load`, `StoreOne` and the index of `NextChoice`, `SetAgain`, `Begin` and `Pass` name a cell by
+/// its place among the body's cells; they are emitted with its number. All other cells go by their numbers.
 #[derive(Drop)]
 pub enum Instr {
     /// Puts a value on the stack.
@@ -71,6 +71,23 @@ pub enum Instr {
     NextChoice(u32, usize),
     /// Back to the next value.
     BackToChoice(usize),
+    /// In an ALT, of which 0 stands on the stack while its arms are evaluated, and the number of the arm
+    /// once one was taken: goes on behind the skip with a number from 1 to the last one that stands there.
+    PassArms(u32, usize),
+    /// Takes the number of an arm, with which it goes on; with 0 it goes on behind the skip.
+    IfTaken(usize),
+    /// With the number of an arm, takes the value below it, sets the index to it and goes on behind the skip:
+    /// the place of the index's cell and the skip.
+    SetAgain(u32, usize),
+    /// Takes a truth value: FALSE goes on behind the skip.
+    IfTrue(usize),
+    /// Opens the arm with this number, which is SKIP, for the values that the indices have.
+    OpenSkip(u32),
+    /// Takes a channel, and opens the arm with this number, which inputs from it.
+    OpenInput(u32),
+    /// Chooses among the open arms, by priority where the truth value says so, and goes on so far back; halts
+    /// where none is open.
+    ChooseArm(bool, usize),
     /// The first value of the index of a replicated SEQ, or behind the skip where there is none: the first
     /// of its two counters, the place of the index's cell and the skip.
     Begin(u32, u32, usize),

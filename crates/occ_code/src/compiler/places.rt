@@ -36,6 +36,7 @@ fn name_place(held: &Held, instr: &mut Instr)
         Instr::Load(cell) => *cell = place_of(held, *cell),
         Instr::StoreOne(cell) => *cell = place_of(held, *cell),
         Instr::NextChoice(index, _) => *index = place_of(held, *index),
+        Instr::SetAgain(index, _) => *index = place_of(held, *index),
         Instr::Begin(_, index, _) => *index = place_of(held, *index),
         Instr::Pass(_, index, _) => *index = place_of(held, *index),
         _ => {}

@@ -2,13 +2,17 @@
 ghost use Rattle.std.specs.Prelude.{◌≡◌, ◌∷◌, [], ◌++◌, ◌-◌, ◌+◌, ◌≤◌, ◌<◌, IfOk, OnOk, List, length, map};
 ghost use Rattle.occ_term.specs.Storing.{index_of};
 ghost use Rattle.occ_term.specs.Terms as terms;
-ghost use Rattle.occ_term.specs.View.{branches_of, choice_of, choices_of, declaration_of, declarations_of, expression_of, items_of, option_of, options_of, place_of, replicator_of, targets_of, term_of, terms_of, variant_of, variants_of};
+ghost use Rattle.occ_term.specs.View.{arm_of, arms_of, branches_of, choice_of, choices_of, declaration_of, declarations_of, expression_of, items_of, option_of, options_of, place_of, reception_of, replicator_of, targets_of, term_of, terms_of, variant_of, variants_of};
 ghost use Rattle.occ_code.specs.Sequential.Machine as machine;
 ghost use Rattle.occ_code.specs.Sequential.Expressions.{counting_code, declaration_code, declarations_code, expression_code, items_code, par_code, place_code, storing_code};
-ghost use Rattle.occ_code.specs.Sequential.Emitted.{choices_code, else_code, options_code, term_code, terms_code, variants_code};
+ghost use Rattle.occ_code.specs.Sequential.Emitted.{arms_code, list_code, choices_code, else_code, options_code, term_code, terms_code, variants_code};
 ghost use Rattle.occ_code.specs.Sequential.View.{Behind, Emits};
 ghost use Rattle.occ_code.specs.declared.compiler.instr.Instr.{Instr};
 
+use crate::compiler::arms::{
+    emit_alt, emit_each_value, emit_input_opening, emit_next, emit_passing, emit_skip_opening,
+    emit_taken,
+};
 use crate::compiler::expressions::{
     emit_assignment, emit_counting, emit_declaration, emit_declarations, emit_expression,
     emit_items, emit_naming, emit_place, emit_place_before, emit_storing,
@@ -16,13 +20,13 @@ use crate::compiler::expressions::{
 use crate::compiler::instr::Instr;
 use crate::compiler::pieces::{emitted, put, put_at, since};
 use occ_term::{
-    Branch, Choice, Declaration, Item, Place, Replicator, Selection, Target, Term, TermExpr,
-    Variant,
+    Arm, Branch, Choice, Declaration, Item, Place, Reception, Replicator, Selection, Target, Term,
+    TermExpr, Variant,
 };
 use sqlite_items::Items;
 use std::alloc::{AllocError, Global};
 
-/// The code of a term, whose replicated SEQs have the counters from the slot on. ALT has none.
+/// The code of a term, whose replicated SEQs have the counters from the slot on.
 #[cycle(terms)]
 pub(crate) fn emit_term(
     alloc: Global,
@@ -49,7 +53,13 @@ pub(crate) fn emit_term(
         }
         Term::Seq(parts) => emit_terms(alloc, slot, parts.as_slice(), code),
         Term::Par(branches) => emit_par(alloc, branches.as_slice(), code),
-        Term::Alt(_, _) => Ok(()),
+        Term::Alt(pri, arms) => {
+            let end = emitted(code);
+            put(code, Instr::ChooseArm(*pri, 0))?;
+            emit_arms(alloc, slot, arms.as_slice(), end, code)?;
+            emit_alt(*pri, end, code)?;
+            Ok(())
+        }
         Term::If(choices) => {
             let end = emitted(code);
             put(code, Instr::Halt)?;
@@ -196,24 +206,6 @@ fn emit_passes(
     Ok(())
 }
 
-/// The start of choices for each value of an index, which were emitted behind the jump back at the place.
-fn emit_next(
-    alloc: Global,
-    over: &Replicator,
-    place: usize,
-    code: &mut Vec<Instr>,
-) -> Result<(), AllocError>
-    requires { place < length code.old.items }
-    ensures { OnOk result ((before : List Instr) (body : List machine.Instruction) → length before ≡ place → Behind before body code.old.items
-        → Emits before (counting_code (replicator_of over.now) ++ machine.NextChoice (index_of (replicator_of over.now)) (length body + 1) ∷ (body ++ machine.BackToChoice (length body + 1) ∷ [])) code.new.items) }
-{
-    let back = since(code, place);
-    put_at(code, place, Instr::BackToChoice(back));
-    put(code, Instr::NextChoice(over.index, back))?;
-    emit_counting(alloc, over, code)?;
-    Ok(())
-}
-
 /// Choices in order. Their bodies go on behind what there was of the code at the end.
 #[cycle(terms)]
 fn emit_choices(
@@ -282,6 +274,94 @@ fn emit_choose(
     put(code, Instr::Choose(since(code, before)))?;
     emit_expression(alloc, test, code)?;
     Ok(())
+}
+
+/// Arms in order. What is done once one is taken goes on behind what there was of the code at the end.
+#[cycle(terms)]
+fn emit_arms(
+    alloc: Global,
+    slot: u32,
+    arms: &[Arm],
+    end: usize,
+    code: &mut Vec<Instr>,
+) -> Result<(), AllocError>
+    requires { end ≤ length code.old.items }
+    ensures { OnOk result (Emits code.old.items (arms_code slot (arms_of arms.now) (length code.old.items - end)) code.new.items) }
+{
+    let mut count = arms.len();
+    while count > 0 {
+        count -= 1;
+        emit_arm(alloc, slot, &arms[count], end, code)?;
+    }
+    Ok(())
+}
+
+/// An arm before others.
+#[cycle(terms)]
+fn emit_arm(
+    alloc: Global,
+    slot: u32,
+    arm: &Arm,
+    end: usize,
+    code: &mut Vec<Instr>,
+) -> Result<(), AllocError>
+    requires { end ≤ length code.old.items }
+    ensures { OnOk result ((before : List Instr) (others : terms.Arms) → end ≤ length before → Emits before (arms_code slot others (length before - end)) code.old.items
+        → Emits before (arms_code slot (arm_of arm.now others) (length before - end)) code.new.items) }
+{
+    let before = emitted(code);
+    match arm {
+        Arm::SkipArm(test, body) => {
+            emit_skip_opening(alloc, test, end, code)?;
+            let opened = emitted(code);
+            put(code, Instr::Jump(since(code, end)))?;
+            emit_term(alloc, slot, body, code)?;
+            emit_taken(before, opened, end, code)?;
+            Ok(())
+        }
+        Arm::InputArm(test, channel, list) => {
+            emit_input_opening(alloc, test, channel, end, code)?;
+            let opened = emitted(code);
+            put(code, Instr::Jump(since(code, end)))?;
+            emit_list(alloc, slot, list, code)?;
+            emit_taken(before, opened, end, code)?;
+            Ok(())
+        }
+        Arm::DeclaredArms(declaration, within) => {
+            emit_arms(alloc, slot, within.as_slice(), end, code)?;
+            emit_declaration(alloc, declaration, code)?;
+            emit_passing(before, end, code)?;
+            Ok(())
+        }
+        Arm::EachArm(over, within) => {
+            put(code, Instr::BackToChoice(0))?;
+            put(code, Instr::DropOne)?;
+            emit_arms(alloc, slot, within.as_slice(), end, code)?;
+            emit_each_value(alloc, over, before, code)?;
+            emit_passing(before, end, code)?;
+            Ok(())
+        }
+    }
+}
+
+/// What takes a message, and what is done then.
+#[cycle(terms)]
+fn emit_list(
+    alloc: Global,
+    slot: u32,
+    list: &Reception,
+    code: &mut Vec<Instr>,
+) -> Result<(), AllocError>
+    ensures { OnOk result (Emits code.old.items (list_code slot (reception_of list.now)) code.new.items) }
+{
+    match list {
+        Reception::Plain(targets, body) => {
+            emit_term(alloc, slot, body, code)?;
+            emit_storing(alloc, targets.as_slice(), code)?;
+            Ok(())
+        }
+        Reception::Tagged(variants) => emit_variants(alloc, slot, variants.as_slice(), code),
+    }
 }
 
 /// Options in order, ELSE left out. Their bodies go on behind what there was of the code at the end.

@@ -1,10 +1,10 @@
 //! The uses of a term, and the first clash of the branches of its PARs.
 ghost use Rattle.std.specs.Prelude.{◌≡◌, ◌||◌, IfOk, map};
 ghost use Rattle.occ_term.specs.Terms as terms;
-ghost use Rattle.occ_term.specs.Uses.{with_use, reading, reads_of_items, uses_of, uses_of_targets, uses_of_terms, uses_of_branches, uses_of_arms, uses_of_reception, uses_of_variants, uses_of_choices, uses_of_options, input_place, output_place};
+ghost use Rattle.occ_term.specs.Uses.{with_use, reading, reads_of, reads_of_items, uses_of, uses_of_targets, uses_of_terms, uses_of_branches, uses_of_arms, uses_of_reception, uses_of_variants, uses_of_choices, uses_of_options, input_place, output_place};
 ghost use Rattle.occ_term.specs.Clashes.{Clash, clash_in, clash_in_terms, clash_in_branches, clash_in_arms, clash_in_reception, clash_in_variants, clash_in_choices, clash_in_options};
 ghost use Rattle.occ_term.specs.Noted.{Adds, Covers, FindsAfter, Leaves, all_uses, branch_uses, clash_among, clash_within, uses_in};
-ghost use Rattle.occ_term.specs.View.{arm_of, arms_of, branches_of, choice_of, choices_of, items_of, option_of, options_of, place_of, reception_of, targets_of, term_of, terms_of, variant_of, variants_of};
+ghost use Rattle.occ_term.specs.View.{arm_of, arms_of, branches_of, choice_of, choices_of, items_of, option_of, options_of, place_of, reception_of, targets_of, term_of, terms_of, test_of, variant_of, variants_of};
 
 use super::clashes::first_clash;
 use super::expressions::{
@@ -12,7 +12,7 @@ use super::expressions::{
     note_naming, note_output, note_replicator, note_targets,
 };
 use super::noted::{Found, Noted, Use, earlier};
-use crate::expression::{Item, Place, Target};
+use crate::expression::{Item, Place, Target, TermExpr};
 use crate::term::{Arm, Branch, Choice, Reception, Selection, Term, Variant};
 use sqlite_items::Items;
 use std::alloc::{AllocError, Global};
@@ -182,6 +182,16 @@ fn note_arms(
     Ok(())
 }
 
+// an arm without a Boolean reads nothing for it
+fn note_test(test: &Option<TermExpr>, noted: &mut Noted) -> Result<(), AllocError>
+    ensures { IfOk result (λ _. Adds noted.old.uses (reading (reads_of (terms.tested (test_of test.now)))) noted.new.uses) }
+{
+    match test {
+        None => Ok(()),
+        Some(test) => note_expression(test, noted),
+    }
+}
+
 #[cycle(walk)]
 fn note_arm(
     alloc: Global,
@@ -198,7 +208,7 @@ fn note_arm(
             Ok(())
         }
         Arm::InputArm(test, channel, list) => {
-            note_expression(test, noted)?;
+            note_test(test, noted)?;
             note_input(channel, noted)?;
             note_reception(alloc, list, noted, found)?;
             Ok(())

@@ -1,10 +1,7 @@
 use Rattle.std.proofs.Common.{◌≡◌, ◌∷◌, ◌∙◌, Some, ap, map, rules, sym}
 use Rattle.occ_tree_grammar.specs.Expressions.Trees.{expression_of}
 use Rattle.occ_tree_grammar.specs.Lines.Views.{var_of}
-use Rattle.occ_term.specs.Terms as T
 use Rattle.occ_term.specs.View as terms
-use Rattle.occ_term.specs.declared.term.Term as code
-use Rattle.occ_term.specs.declared.term.Term.{the_lemmas}
 use Rattle.occ_check_meaning.specs.Actions as meant
 use Rattle.occ_check_names.specs.View.{Refuses, names_in}
 use Rattle.occ_check_acting.proofs.Assigning.{all_assigned, no_sides, no_variables, not_apart}
@@ -39,7 +36,5 @@ pub returns : goal.returns
 returns c =
     let vs = var_of c.args.variables.now.first ∷ map var_of c.args.variables.now.others.items in
     let es = expression_of c.args.values.now.first ∷ map expression_of c.args.values.now.others.items in
-    let made : terms.term_of (code.Assign c.in_ok-targets.targets c.in_ok-items.items) ≡ T.Assign (terms.targets_of c.in_ok-targets.targets) (terms.items_of c.in_ok-items.items) = search (rules, the_lemmas) in
     all_assigned (names_in c.args.scope) c.args.line vs es c.in_ok-variables.variables.items c.in_ok-variables.ensures (terms.targets_of c.in_ok-targets.targets) c.in_ok-targets.ensures
     _ (rw c.as_slice.ensures at c.in_ok-apart.ensures) (terms.items_of c.in_ok-items.items) (rw c.deref.ensures.value at c.in_ok-items.ensures)
-    ∙ ap (λ t. Some t) (sym made)

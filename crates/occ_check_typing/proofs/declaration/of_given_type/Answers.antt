@@ -1,4 +1,5 @@
-use Rattle.std.proofs.Common.{◌≡◌, ap, map, false, rules}
+use Rattle.std.proofs.Common.{◌≡◌, ◌∙◌, Option, Some, ap, map, false, rules, sym, true}
+use Rattle.occ_tree_grammar.specs.Many.{◌>>=◌}
 use Rattle.occ_tree_grammar.specs.Lines.Views as lines
 use Rattle.occ_check_meaning.specs.Declarations as meant
 use Rattle.occ_check_meaning.specs.Operators.{primitive_of}
@@ -23,3 +24,13 @@ returns-else-has_type c =
     let other : meant.has_type sizes (primitive_of wanted.of) (typed_of c.args.value) ≡ false = search rules in
     then_none (λ o. keep (meant.has_type o (primitive_of wanted.of) (typed_of c.args.value)) (typed_of c.args.value)) (rw c.deref.ensures.value at c.in_ok-sizes.ensures)
     (ap (λ b. keep b (typed_of c.args.value)) other)
+
+pub returns-then-has_type : goal.returns-then-has_type
+returns-then-has_type c =
+    let wanted = c.args.wanted.now in
+    let sizes : Open = c.in_ok-sizes.sizes in
+    let same : meant.has_type sizes (primitive_of wanted.of) (typed_of c.args.value) ≡ true = search rules in
+    let held : c.into_inner.result ≡ c.args.value = cc in
+    ap (λ (r : Option Open). r >>= λ o. keep (meant.has_type o (primitive_of wanted.of) (typed_of c.args.value)) (typed_of c.args.value)) (rw c.deref.ensures.value at c.in_ok-sizes.ensures)
+    ∙ ap (λ b. keep b (typed_of c.args.value)) same
+    ∙ ap (λ t. Some (typed_of t)) (sym held)

@@ -1,4 +1,4 @@
-use Rattle.std.proofs.Common.{◌≡◌, ◌∙◌, ◌+◌, ◌<◌, ℕ, List, refl, sym, ap, subst, get_or, length, take, Some, None}
+use Rattle.std.proofs.Common.{◌≡◌, ◌∙◌, List, sym, subst, get_or, take, None}
 use Rattle.occ_net_replay.specs.declared.choice.Choice.{Choice}
 use Rattle.occ_net_replay.specs.Replay.{ending_of}
 use Rattle.occ_net.specs.Running.{HasReplayed}

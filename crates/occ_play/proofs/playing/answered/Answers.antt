@@ -1,4 +1,4 @@
-use Rattle.std.proofs.Common.{◌∙◌, ◌<◌, ◌^◌, sym, length, refl, rules}
+use Rattle.std.proofs.Common.{◌<◌, ◌^◌, length, refl, rules}
 use Rattle.occ_net_replay.specs.Following.{AreBytes}
 use Rattle.occ_play.specs.Plans.{choices_of}
 use Rattle.occ_play.proofs.Headline.{headline, outputs_are_bytes, code_refuses}

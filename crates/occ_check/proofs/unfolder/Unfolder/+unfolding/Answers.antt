@@ -8,7 +8,7 @@ use Rattle.occ_tree_grammar.specs.declared.tree.expr.Expr.{Expr}
 use Rattle.occ_tree_grammar.specs.declared.tree.line.OneOrMore.{OneOrMore}
 use Rattle.occ_tree_grammar.specs.declared.tree.line.VariantGuard.{VariantGuard}
 use Rattle.occ_tree_grammar.specs.declared.tree.process.Arm.TheBlock.{hidden-the_row-Variant-1}
-use Rattle.occ_term.specs.View.{arms_of, branch_of, branches_of, choices_of, declarations_of, expression_of, option_of, options_of, place_of, reception_of, term_of, terms_of, variant_of as term_variant_of, variants_of}
+use Rattle.occ_term.specs.View.{arms_of, branch_of, branches_of, choices_of, declarations_of, expression_of, option_of, options_of, place_of, reception_of, term_of, terms_of, variant_of as term_variant_of, variants_of, test_of as boolean_of}
 use Rattle.occ_check_meaning.specs.Actions.{as_reception, depth_behind, new_tag, none_chosen, opening}
 use Rattle.occ_tree_grammar.specs.Lines.Views as lines
 use Rattle.occ_check.proofs.Tags.{no_more_variants, no_tag, variant_done, variant_form, variant_refused, variant_size, variants_grown, variants_none, variants_step}
@@ -17,7 +17,7 @@ use Rattle.occ_check.specs.Prefixes.{guarding, guarding_variants, tested}
 use Rattle.occ_check_meaning.specs.Scope.{names_of}
 use Rattle.occ_check.proofs.Gathering.{gathered_first, gathered_last, gathered_next, gathered_refused, part_within}
 use Rattle.occ_check.proofs.Conditionals.{choice_done, choice_in, choice_not_declared, choice_refused, choices_grown, choices_none, choices_step, no_more_choices, when_refused, within_choice}
-use Rattle.occ_check.proofs.Alternatives.{arm_done, arm_in, arm_not_declared, arm_refused, arms_grown, arms_none, arms_step, input_done, input_not_guarded, input_refused, no_more_arms, variants_not_guarded, variants_refused, within_arm}
+use Rattle.occ_check.proofs.Alternatives.{arm_done, arm_in, arm_not_declared, arm_refused, arms_grown, arms_none, arms_step, input_done, input_not_guarded, input_refused, no_more_arms, variants_done, variants_not_guarded, variants_refused, within_arm}
 use Rattle.occ_check.proofs.Selections.{no_more_options, option_done, option_refused, options_grown, options_none, options_step, otherwise_form, otherwise_size, values_form, values_size}
 use Rattle.occ_tree_grammar.specs.Many.{◌>>=◌}
 use Rattle.occ_term.specs.Terms as T
@@ -27,6 +27,7 @@ use Rattle.occ_term.specs.declared.term.Term.{the_lemmas}
 use Rattle.occ_check.proofs.Listing.{before, listed_refused, listed_next, listed_last}
 use Rattle.occ_term.specs.declared.term.Branch.{the_lemmas as branch_lemmas}
 use Rattle.occ_term.specs.declared.term.Arm.{the_lemmas as arm_lemmas}
+use Rattle.occ_term.specs.declared.term.Reception.{the_lemmas as reception_lemmas}
 use Rattle.occ_check_meaning.specs.Numbers.{more_processes}
 use Rattle.occ_check.proofs.Beside.{all_branches, beside_done, beside_refused, beside_size, branch_none, branch_one, branch_step, branches_in, no_body, no_number, one_branch, put_branch}
 use Rattle.occ_check.proofs.InTurn.{all_terms, in_turn, in_turn_none, in_turn_one, in_turn_step, item_within, put_term, sequence_done, sequence_refused, sequence_size}
@@ -698,7 +699,7 @@ guarded-returns-in_err-body-in-Input-clause-arms t c =
     refused_with c.in_err-body-in-Input.field-0.0 (unfolded (process_of c.args.body.now) sc deep (counted c.guarding.new.self)) _
     (λ none. ap (λ g. performs.arm_of c.args.line (guard_of g) (unfolded (process_of c.args.body.now)) sc c.args.depth (counted c.args.self.now)) c.in-Input.is
     ∙ input_refused c.args.line (option_map tree_of c.in-Input.test) (lines.input_of c.in-Input.input) (unfolded (process_of c.args.body.now)) sc c.args.depth (counted c.args.self.now)
-    (expression_of c.in_ok-guarded-in-Input.guarded.test, (place_of c.in_ok-guarded-in-Input.guarded.channel, listed_of c.in_ok-guarded-in-Input.guarded.listed)) (counted c.guarding.new.self) c.in_ok-guarded-in-Input.ensures.guard none)
+    (boolean_of c.in_ok-guarded-in-Input.guarded.test, (place_of c.in_ok-guarded-in-Input.guarded.channel, listed_of c.in_ok-guarded-in-Input.guarded.listed)) (counted c.guarding.new.self) c.in_ok-guarded-in-Input.ensures.guard none)
     this in
     search rules
 
@@ -713,9 +714,9 @@ guarded-returns-in_ok-input_arm-in-Input-clause-arms t c =
     let held : c.into_inner.result ≡ c.in_ok-guarded-in-Input.guarded = cc in
     ap (λ g. performs.arm_of c.args.line (guard_of g) (unfolded (process_of c.args.body.now)) sc c.args.depth (counted c.args.self.now)) c.in-Input.is
     ∙ input_done c.args.line (option_map tree_of c.in-Input.test) (lines.input_of c.in-Input.input) (unfolded (process_of c.args.body.now)) sc c.args.depth (counted c.args.self.now)
-    (expression_of c.in_ok-guarded-in-Input.guarded.test, (place_of c.in_ok-guarded-in-Input.guarded.channel, listed_of c.in_ok-guarded-in-Input.guarded.listed)) (counted c.guarding.new.self) c.in_ok-guarded-in-Input.ensures.guard
+    (boolean_of c.in_ok-guarded-in-Input.guarded.test, (place_of c.in_ok-guarded-in-Input.guarded.channel, listed_of c.in_ok-guarded-in-Input.guarded.listed)) (counted c.guarding.new.self) c.in_ok-guarded-in-Input.ensures.guard
     (term_of c.in_ok-body-in-Input.body) (counted c.process.new.self) this
-    ∙ ap (λ g. Some (T.input_arm (expression_of g.test) (place_of g.channel) (as_reception (listed_of g.listed) (term_of c.in_ok-body-in-Input.body)) no_arms, counted c.process.new.self)) (sym held)
+    ∙ ap (λ g. Some (T.input_arm (boolean_of g.test) (place_of g.channel) (as_reception (listed_of g.listed) (term_of c.in_ok-body-in-Input.body)) no_arms, counted c.process.new.self)) (sym held)
     ∙ ap (λ a. Some (a, counted c.process.new.self)) (sym c.in_ok-input_arm-in-Input.ensures)
 
 pub listening-returns-in_err-test-in-OnVariant-clause-arms : goal.listening-returns-in_err-test-in-OnVariant-clause-arms
@@ -743,8 +744,25 @@ listening-returns-in_err-variants-in-OnVariant-clause-arms t c =
     refused_with c.in_err-variants-in-OnVariant.field-0.0 _ _
     (λ none. ap (λ a. listening a sc c.args.depth (counted c.args.self.now)) c.in-OnVariant.is
     ∙ variants_refused c.in-OnVariant.line (option_map tree_of c.in-OnVariant.guard.value.condition) (lines.var_of c.in-OnVariant.guard.value.channel) (λ p. all_variants (row_variants (hidden-the_row-Variant-1 c.in-OnVariant.variants)) p [])
-    sc c.args.depth (counted c.args.self.now) (expression_of c.in_ok-test-in-OnVariant.test, (c.in_ok-test-in-OnVariant.protocol, place_of c.in_ok-test-in-OnVariant.channel)) (counted c.guarding_variants.new.self)
+    sc c.args.depth (counted c.args.self.now) (boolean_of c.in_ok-test-in-OnVariant.test, (c.in_ok-test-in-OnVariant.protocol, place_of c.in_ok-test-in-OnVariant.channel)) (counted c.guarding_variants.new.self)
     (ap (λ (g : VariantGuard). guarding_variants (names_of sc) c.in-OnVariant.line c.args.depth (option_map tree_of g.condition) (lines.var_of g.channel) (counted c.args.self.now)) (sym c.deref-in-OnVariant.ensures)
     ∙ c.in_ok-test-in-OnVariant.ensures.guard) none)
     this in
     search rules
+
+pub listening-returns-in_ok-only_arm-in-OnVariant-clause-arms : goal.listening-returns-in_ok-only_arm-in-OnVariant-clause-arms
+listening-returns-in_ok-only_arm-in-OnVariant-clause-arms t c =
+    let sc = meant_at c.args.self.now c.args.at in
+    let vs = variants_of c.in_ok-variants-in-OnVariant.variants in
+    let this : all_variants (row_variants (hidden-the_row-Variant-1 c.in-OnVariant.variants)) c.in_ok-test-in-OnVariant.protocol [] sc (c.args.depth + 1) (counted c.guarding_variants.new.self) ≡ Some (vs, counted c.variants.new.self) =
+    subst (λ ns. all_variants ns c.in_ok-test-in-OnVariant.protocol [] sc (c.args.depth + 1) (counted c.guarding_variants.new.self) ≡ Some (vs, counted c.variants.new.self)) c.listed_variants.ensures
+    (subst (λ f. all_variants (nodes (map variant_of c.listed_variants.result.now)) c.in_ok-test-in-OnVariant.protocol []
+    (meant (scope_in (reverse f.frames.items) c.args.at)) (c.args.depth + 1) (counted c.guarding_variants.new.self) ≡ Some (vs, counted c.variants.new.self))
+    c.in_ok-test-in-OnVariant.ensures.kept c.in_ok-variants-in-OnVariant.ensures.variants) in
+    let made : arms_of c.in_ok-only_arm-in-OnVariant.field-0 ≡ T.input_arm (boolean_of c.in_ok-test-in-OnVariant.test) (place_of c.in_ok-test-in-OnVariant.channel) (T.Tagged vs) T.no_arms = search (rules, arm_lemmas, reception_lemmas) in
+    ap (λ a. listening a sc c.args.depth (counted c.args.self.now)) c.in-OnVariant.is
+    ∙ variants_done c.in-OnVariant.line (option_map tree_of c.in-OnVariant.guard.value.condition) (lines.var_of c.in-OnVariant.guard.value.channel) (λ p. all_variants (row_variants (hidden-the_row-Variant-1 c.in-OnVariant.variants)) p [])
+    sc c.args.depth (counted c.args.self.now) (boolean_of c.in_ok-test-in-OnVariant.test, (c.in_ok-test-in-OnVariant.protocol, place_of c.in_ok-test-in-OnVariant.channel)) (counted c.guarding_variants.new.self)
+    (ap (λ (g : VariantGuard). guarding_variants (names_of sc) c.in-OnVariant.line c.args.depth (option_map tree_of g.condition) (lines.var_of g.channel) (counted c.args.self.now)) (sym c.deref-in-OnVariant.ensures)
+    ∙ c.in_ok-test-in-OnVariant.ensures.guard) vs (counted c.variants.new.self) this
+    ∙ ap (λ a. Some (a, counted c.variants.new.self)) (sym made)

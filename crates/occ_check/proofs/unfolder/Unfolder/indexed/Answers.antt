@@ -7,9 +7,9 @@ use Rattle.occ_check_meaning.specs.Unfolding.{meant}
 use Rattle.occ_check_meaning.proofs.Names.{meant_within, same_names}
 use Rattle.occ_check_typing.specs.OpenedView.{indexed_of, pairs_of}
 use Rattle.occ_check.specs.Progress.{counted, meant_at, scope_at}
-use Rattle.occ_check_names.specs.View.{Refuses}
+use Rattle.occ_check_names.specs.View.{Refuses, names_in}
 use Rattle.occ_check.specs.Weights.{weight}
-use Rattle.occ_check.proofs.Scoping.{names_are, scope_is}
+use Rattle.occ_check.proofs.Scoping.{index_within, names_are, scope_is}
 use Rattle.occ_check.proofs.Weights.{same_weight}
 use Rattle.occ_check.proofs.unfolder.Unfolder.indexed.Goals as goal
 
@@ -38,3 +38,7 @@ returns-clause-indexed c =
 
 pub returns-clause-weight : goal.returns-clause-weight
 returns-clause-weight c = ap weight c.in_ok-inside.ensures.scope ∙ same_weight (pairs_of c.push.new.self.items) (scope_at c.args.self.now c.args.at)
+
+pub returns-clause-within : goal.returns-clause-within
+returns-clause-within c =
+    index_within (names_in c.scope-scope.result) c.args.line c.args.depth (replicator_of c.args.replicator.now) (counted c.args.self.now) (indexed_of c.in_ok-indexed.indexed c.index_replicator.new.numbers) c.in_ok-indexed.ensures

@@ -1,4 +1,4 @@
-use Rattle.std.proofs.Common.{◌≡◌, ◌<◌, ◌-◌, ◌+◌, refl, sym, ap, arith, length, drop}
+use Rattle.std.proofs.Common.{◌≡◌, ◌<◌, ◌-◌, ◌+◌, refl, sym, ap, arith, length}
 use Rattle.occ_code.specs.Sequential.Cells.{furthest}
 use Rattle.occ_code.proofs.CellRows.{furthest_next}
 use Rattle.occ_code.proofs.Emitting.{drop_all}

@@ -1,9 +1,8 @@
-use Rattle.std.proofs.Common.{◌<◌, map, IsTrue, ap, subst, arith, ◌∙◌}
+use Rattle.std.proofs.Common.{◌<◌, map, ap, subst, arith, ◌∙◌}
 use Rattle.std.specs.Arc.{arc_value}
 use Rattle.occ_term.specs.Processes.{processes_of}
 use Rattle.occ_term.specs.Unfolding.{IsWellFormed}
 use Rattle.occ_term.specs.View.{term_of}
-use Rattle.occ_code.specs.Sequential.Emitted.{has_no_alt}
 use Rattle.occ_code.specs.Sequential.Compiled.{AreBodiesOf, IsCompiledFrom, IsRefused}
 use Rattle.occ_code.proofs.CompilingTerms.{compiled_as, refused_as}
 use Rattle.occ_code.proofs.compiler.code.compile_for.Goals as goal
@@ -13,7 +12,7 @@ from c =
     let same = c.term.ensures ∙ ap (λ u. u.term) c.unfolded-unfolded.ensures in
     let some : 0 < c.args.quantum = omega (arith, c.if-quantum-eq0.false) in
     compiled_as c.args.checked.now c.args.quantum (map arc_value c.in-Ok.bodies.items) c.in_ok-channels.channels.items (subst (λ u. IsWellFormed u) c.unfolded-unfolded.ensures c.well_formed-2.ensures)
-    (subst (λ t. IsTrue (has_no_alt (term_of t))) same c.in-Ok.ensures.no_alt) (some, c.if-quantum-gt-MOST_QUANTUM.false)
+    (some, c.if-quantum-gt-MOST_QUANTUM.false)
     (subst (λ t. AreBodiesOf (processes_of (term_of t)) c.args.quantum (map arc_value c.in-Ok.bodies.items)) same c.in-Ok.ensures.bodies) c.in-Ok.ensures.small
     (c.in_ok-channels.ensures ∙ c.channels.ensures ∙ ap (λ u. u.channels) c.unfolded-unfolded.ensures)
 

@@ -1,6 +1,6 @@
 use Rattle.std.proofs.Common.{◌≡◌, ◌≤◌, length, drop}
-use Rattle.occ_term.specs.View.{choices_of, options_of, terms_of, variants_of}
-use Rattle.occ_code.specs.Sequential.Emitted.{counters_of_choices, counters_of_options, counters_of_terms, counters_of_variants}
+use Rattle.occ_term.specs.View.{arms_of, choices_of, options_of, terms_of, variants_of}
+use Rattle.occ_code.specs.Sequential.Emitted.{counters_of_arms, counters_of_choices, counters_of_options, counters_of_terms, counters_of_variants}
 use Rattle.occ_code.proofs.compiler.counters.+counters.Given as goal
 
 abbrev pub invariant-counters_in_terms-loop-count : goal.invariant-counters_in_terms-loop-count
@@ -8,6 +8,12 @@ invariant-counters_in_terms-loop-count l = (l.count ≤ length l.parts) × (l.mo
 
 abbrev pub decreases-counters_in_terms-loop-count : goal.decreases-counters_in_terms-loop-count
 decreases-counters_in_terms-loop-count l = l.count
+
+abbrev pub invariant-counters_in_arms-loop-count : goal.invariant-counters_in_arms-loop-count
+invariant-counters_in_arms-loop-count l = (l.count ≤ length l.arms) × (l.most ≡ counters_of_arms (arms_of (drop l.count l.arms)))
+
+abbrev pub decreases-counters_in_arms-loop-count : goal.decreases-counters_in_arms-loop-count
+decreases-counters_in_arms-loop-count l = l.count
 
 abbrev pub invariant-counters_in_variants-loop-count : goal.invariant-counters_in_variants-loop-count
 invariant-counters_in_variants-loop-count l = (l.count ≤ length l.variants) × (l.most ≡ counters_of_variants (variants_of (drop l.count l.variants)))

@@ -1,6 +1,6 @@
 use Rattle.std.proofs.Common.{◌≡◌, ◌≤◌, ◌-◌, length, drop}
-use Rattle.occ_term.specs.View.{choices_of, options_of, terms_of, variants_of}
-use Rattle.occ_code.specs.Sequential.Emitted.{choices_code, else_code, options_code, terms_code, variants_code}
+use Rattle.occ_term.specs.View.{arms_of, choices_of, options_of, terms_of, variants_of}
+use Rattle.occ_code.specs.Sequential.Emitted.{arms_code, choices_code, else_code, options_code, terms_code, variants_code}
 use Rattle.occ_code.specs.Sequential.View.{Emits}
 use Rattle.occ_code.proofs.compiler.statements.+terms.Given as goal
 
@@ -16,6 +16,13 @@ invariant-emit_choices-loop-count l =
 
 abbrev pub decreases-emit_choices-loop-count : goal.decreases-emit_choices-loop-count
 decreases-emit_choices-loop-count l = l.count
+
+abbrev pub invariant-emit_arms-loop-count : goal.invariant-emit_arms-loop-count
+invariant-emit_arms-loop-count l =
+    (l.count ≤ length l.arms) × Emits l.fn.code.items (arms_code l.slot (arms_of (drop l.count l.arms)) (length l.fn.code.items - l.end)) l.code.items
+
+abbrev pub decreases-emit_arms-loop-count : goal.decreases-emit_arms-loop-count
+decreases-emit_arms-loop-count l = l.count
 
 abbrev pub invariant-emit_options-loop-count : goal.invariant-emit_options-loop-count
 invariant-emit_options-loop-count l =

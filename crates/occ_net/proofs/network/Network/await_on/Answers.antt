@@ -1,9 +1,12 @@
-use Rattle.std.proofs.Common.{◌∙◌, refl, sym, ap, arith}
+use Rattle.std.proofs.Common.{◌∙◌, refl, sym, ap, subst, arith}
 use Rattle.occ_code.specs.declared.task.Wait.TheVariants as W
-use Rattle.occ_net_replay.specs.Replay.{made_ready}
+use Rattle.occ_net_replay.specs.Replay.{made_ready, standing}
+use Rattle.occ_net.specs.Choosing.{TakesBy, by_input, input_arm}
+use Rattle.occ_net.specs.Settling.{TookByte, TookFrom}
 use Rattle.occ_net.specs.Tables.{entry_in}
-use Rattle.occ_net.proofs.Between.{there_old, byte_within, giver_of, was_byte, was_taken, await_waits}
-use Rattle.occ_net.proofs.Waits.{rising_of, within_of, there_of, rests_at_await, sized_at_await}
+use Rattle.occ_net.proofs.Between.{now, there_old, byte_within, giver_of, was_byte, was_taken, await_waits}
+use Rattle.occ_net.proofs.Waits.{rising_of, within_of, there_of, rests_listening, sized_listening}
+use Rattle.occ_net.proofs.Steps.{at_input}
 use Rattle.occ_net.proofs.network.Network.await_on.Goals as goal
 
 pub take_byte-requires-clause-there : goal.take_byte-requires-clause-there
@@ -14,7 +17,8 @@ take_byte-requires-clause-counts c = let h = byte_within c.args.chan c.args.keyb
 
 pub returns-in-Some : goal.returns-in-Some
 returns-in-Some c = λ p pick after net mid w.
-    was_byte p c.args.keyboard.now c.args.self.now c.args.number c.args.place after net mid _ pick c.args.chan c.in-Some.byte w (sym c.next_byte.ensures ∙ c.in-Some.is) c.in_ok-take_byte.ensures
+    let by : TakesBy pick (standing (now p c.args.keyboard.now c.args.self.now c.args.number c.args.place after net mid)) c.args.chan after.wait (input_arm c.args.chan) = subst (λ z. TakesBy pick (standing (now p c.args.keyboard.now c.args.self.now c.args.number c.args.place after net mid)) c.args.chan z (input_arm c.args.chan)) (sym w) by_input in
+    was_byte p c.args.keyboard.now c.args.self.now c.args.number c.args.place after net mid _ pick c.args.chan c.in-Some.byte (input_arm c.args.chan) by (sym c.next_byte.ensures ∙ c.in-Some.is) (subst (λ a. TookByte c.args.self.now c.args.number a c.in-Some.byte c.take_byte.new.self) c.input_arm.ensures c.in_ok-take_byte.ensures)
 
 pub take_from-requires-clause-there : goal.take_from-requires-clause-there
 take_from-requires-clause-there c = there_of c.requires.0 c.args.self.now c.args.number c.args.place (W.Awaits c.args.chan) c.requires.1
@@ -40,7 +44,8 @@ rest-requires-clause-within c = within_of c.requires.0 c.args.self.now c.args.nu
 
 pub returns-in_ok-take_from-in-Some-entry : goal.returns-in_ok-take_from-in-Some-entry
 returns-in_ok-take_from-in-Some-entry c = λ p pick after net mid w.
-    was_taken p c.args.keyboard.now c.args.self.now c.args.number c.args.place after net mid _ pick c.args.chan c.in-Some-entry.giver w (ap (λ t. entry_in t c.args.chan) (sym c.deref.ensures.value) ∙ sym c.entry.ensures ∙ c.in-Some-entry.is) c.in_ok-take_from-in-Some-entry.ensures
+    let by : TakesBy pick (standing (now p c.args.keyboard.now c.args.self.now c.args.number c.args.place after net mid)) c.args.chan after.wait (input_arm c.args.chan) = subst (λ z. TakesBy pick (standing (now p c.args.keyboard.now c.args.self.now c.args.number c.args.place after net mid)) c.args.chan z (input_arm c.args.chan)) (sym w) by_input in
+    was_taken p c.args.keyboard.now c.args.self.now c.args.number c.args.place after net mid _ pick c.args.chan c.in-Some-entry.giver (input_arm c.args.chan) by (ap (λ t. entry_in t c.args.chan) (sym c.deref.ensures.value) ∙ sym c.entry.ensures ∙ c.in-Some-entry.is) (λ t m h q. subst (λ a. TookFrom c.args.self.now c.args.number c.in-Some-entry.giver c.args.chan a t m c.take_from.new.self) c.input_arm-in-Some-entry.ensures (c.in_ok-take_from-in-Some-entry.ensures t m h q))
 
 pub returns-in-None : goal.returns-in-None
 returns-in-None c = λ p pick after net mid w.
@@ -48,5 +53,5 @@ returns-in-None c = λ p pick after net mid w.
     let there = there_old p kb c.args.self.now c.args.number c.args.place after net mid in
     let tasks = c.rest.ensures.tasks (made_ready after) there in
     await_waits p kb c.args.self.now c.args.number c.args.place after net mid _ pick c.args.chan w (sym c.next_byte.ensures ∙ c.in_default.is) (ap (λ t. entry_in t c.args.chan) (sym c.deref.ensures.value) ∙ sym c.entry.ensures ∙ c.in-None.is) tasks refl refl
-    (rests_at_await p kb c.args.self.now c.args.number c.args.place after net mid c.args.chan w tasks c.rest.ensures.ready c.set_entry.ensures)
-    (sized_at_await p kb c.args.self.now c.args.number c.args.place after net mid c.args.chan tasks c.set_entry.ensures)
+    (rests_listening p kb c.args.self.now c.args.number c.args.place after net mid (W.Awaits c.args.chan) at_input w tasks c.rest.ensures.ready c.set_entry.ensures)
+    (sized_listening p kb c.args.self.now c.args.number c.args.place after net mid (W.Awaits c.args.chan) tasks c.set_entry.ensures)

@@ -65,4 +65,4 @@ returns c = λ net h.
     let bytes = are_bytes kb (λ k. (c.type_inv.keyboard k).fits) in
     let new : Network = record { tasks = c.advance_task.new.tasks; ready = n.ready; offering = n.offering; awaiting = n.awaiting; parents = n.parents; unfinished = n.unfinished; fault = n.fault; used = n.used; trace = n.trace } in
     let mid = mid_for p kb n c.requires c.compiled.ensures bytes place number c.deref.result.now at has x.task x.there x.may c.in_ok-wait.wait new adv net h refl refl refl refl refl refl refl refl in
-    turns_to p kb n c.requires c.compiled.ensures bytes place number c.deref.result.now at has x.task x.there x.may c.in_ok-wait.wait new adv c.args.choice net c.settle.new.self h (ap (λ (k : ℕ). c.args.choice.which % k) len) (c.in_ok-settle.ensures c.args.choice.pick adv.after net mid adv.waits)
+    turns_to p kb n c.requires c.compiled.ensures bytes place number c.deref.result.now at has x.task x.there x.may c.in_ok-wait.wait new adv c.args.choice net c.settle.new.self h (ap (λ (k : ℕ). c.args.choice.which % k) len) (c.in_ok-settle.ensures adv.after net mid adv.waits)

@@ -6,7 +6,7 @@ use Rattle.occ_term.specs.Uses.{reading, reads_of, with_use, input_place, uses_o
 use Rattle.occ_term.specs.Clashes.{Clash, clash_in, clash_in_arms, clash_in_branches, clash_in_choices, clash_in_options, clash_in_terms, clash_in_variants}
 use Rattle.occ_term.specs.Noted.{Covers, Leaves, branch_uses, uses_in}
 use Rattle.occ_term.specs.declared.usage.noted.Use.{Use}
-use Rattle.occ_term.specs.View.{arm_of, arms_of, branch_of, branches_of, choice_of, choices_of, declaration_of, declarations_of, expression_of, option_of, options_of, place_of, reception_of, replicator_of, targets_of, term_of, terms_of, variant_of, variants_of}
+use Rattle.occ_term.specs.View.{arm_of, arms_of, branch_of, branches_of, choice_of, choices_of, declaration_of, declarations_of, expression_of, option_of, options_of, place_of, reception_of, replicator_of, targets_of, term_of, terms_of, test_of, variant_of, variants_of}
 use Rattle.occ_term.specs.declared.term.Term.{the_lemmas}
 use Rattle.occ_term.proofs.UseSets.{adds_then}
 use Rattle.occ_term.proofs.Walks.{adds_covers, covers_adds, covers_at, covers_none, covers_par, each_first, each_next, each_none, leaves_arm, leaves_choice, leaves_one, leaves_option, leaves_three, leaves_two, leaves_variant, reception_at, rest_first, rest_next, rest_none}
@@ -54,8 +54,8 @@ note_arm-returns-in_ok-note_term-in-SkipArm t c = λ (others : T.Arms).
 
 pub note_arm-returns-in_ok-note_reception-in-InputArm : goal.note_arm-returns-in_ok-note_reception-in-InputArm
 note_arm-returns-in_ok-note_reception-in-InputArm t c = λ (others : T.Arms).
-    let seen : T.input_arm (expression_of c.in-InputArm.test) (place_of c.in-InputArm.channel) (reception_of c.in-InputArm.list) others ≡ arm_of c.args.arm.now others = search (rules, the_lemmas) in
-    leaves_arm others _ _ seen (leaves_three (reading (reads_of (expression_of c.in-InputArm.test))) (input_place (place_of c.in-InputArm.channel)) (uses_of_reception (reception_of c.in-InputArm.list)) (uses_of_arms others) (λ clash. clash_in_arms clash others) (adds_covers c.in_ok-note_expression-in-InputArm.ensures (adds_covers c.in_ok-note_input-in-InputArm.ensures c.in_ok-note_reception-in-InputArm.ensures)))
+    let seen : T.input_arm (test_of c.in-InputArm.test) (place_of c.in-InputArm.channel) (reception_of c.in-InputArm.list) others ≡ arm_of c.args.arm.now others = search (rules, the_lemmas) in
+    leaves_arm others _ _ seen (leaves_three (reading (reads_of (T.tested (test_of c.in-InputArm.test)))) (input_place (place_of c.in-InputArm.channel)) (uses_of_reception (reception_of c.in-InputArm.list)) (uses_of_arms others) (λ clash. clash_in_arms clash others) (adds_covers c.in_ok-note_test-in-InputArm.ensures (adds_covers c.in_ok-note_input-in-InputArm.ensures c.in_ok-note_reception-in-InputArm.ensures)))
 
 pub note_arm-returns-in_ok-note_arms-in-DeclaredArms : goal.note_arm-returns-in_ok-note_arms-in-DeclaredArms
 note_arm-returns-in_ok-note_arms-in-DeclaredArms t c = λ (others : T.Arms).

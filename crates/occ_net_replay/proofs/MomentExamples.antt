@@ -1,0 +1,93 @@
+-- Stops that are alike and stops that are not.
+use Rattle.std.proofs.Common.{◌≡◌, refl, sym, ap, Bool, true, false, ℕ, ◌⊎◌, inl, inr, List, [], ◌∷◌, arith}
+use mathlib.Core.Bool.{true≢false}
+use Rattle.occ_term.specs.declared.fault.Fault.{Fault}
+use Rattle.occ_term.specs.declared.message.Message.{Message}
+use Rattle.occ_term.specs.Selecting.{Enabled}
+use Rattle.occ_term.specs.Steps.{Do, Offering, Awaiting, Choosing, Forking, Halted, Faulted, Done, Left, left}
+use Rattle.occ_term.specs.System.{Processes, no_processes, process}
+use Rattle.occ_term.specs.Terms.{Branches, Reception, Skip}
+use Rattle.occ_code.specs.Alike.{numbers_of}
+use Rattle.occ_code.specs.declared.task.Arm.{Arm}
+use Rattle.occ_code.specs.declared.task.Wait.TheVariants as W
+use Rattle.occ_net_replay.specs.MomentExamples.{AtStop, SameStopRows, OtherStopRows, MissingRows, UnquietRows}
+use Rattle.occ_net_replay.specs.Moments.{At, Among, here, below, OnSameChannels, both_go, both_join, both_offer, both_await, both_choose, both_fork, both_fail}
+
+pub same_stop_rows : SameStopRows
+same_stop_rows = (both_go refl refl, both_offer, both_await, both_choose (refl, (refl, tt)), both_fork refl)
+
+-- ---- what stops alike has in common
+
+at_offer : {c d : ℕ} {m v : Message} → AtStop (W.Offers c m) (Offering d v) → (c ≡ d) × (m ≡ v)
+at_offer (both_go g h) = absurd (true≢false (sym g))
+at_offer both_offer = (refl, refl)
+
+at_await : {c d : ℕ} {list : Reception} → AtStop (W.Awaits c) (Awaiting d list) → c ≡ d
+at_await (both_go g h) = absurd (true≢false (sym g))
+at_await both_await = refl
+
+at_choice : {pri b : Bool} {arms : List Arm} {es : List Enabled} → AtStop (W.Chooses pri arms) (Choosing b es) → (pri ≡ b) × OnSameChannels arms es
+at_choice (both_go g h) = absurd (true≢false (sym g))
+at_choice (both_choose h) = (refl, h)
+
+at_fork : {ns : List ℕ} {bs : Branches} → AtStop (W.Joins ns) (Forking bs) → numbers_of bs ≡ ns
+at_fork (both_go g h) = absurd (true≢false (sym g))
+at_fork (both_join g h) = absurd (true≢false (sym g))
+at_fork (both_fork e) = e
+
+at_fault : {e f : Fault} → AtStop (W.Faulted e) (Faulted f) → e ≡ f
+at_fault (both_go g h) = absurd (true≢false (sym g))
+at_fault both_fail = refl
+
+not_halted : AtStop W.Done Halted → ⊥
+not_halted (both_go g h) = true≢false (sym g)
+
+not_done : AtStop W.Ready Done → ⊥
+not_done (both_go g h) = true≢false (sym h)
+
+pub other_stop_rows : OtherStopRows
+other_stop_rows = (
+  λ x. let e = (at_offer x).0 in omega (arith, e),
+  λ x. let e = ap (λ (m : Message). m.items) (at_offer x).1 in let z : ◌≡◌ {A = ℕ} 5 6 = cc in omega (arith, z),
+  λ x. let e = at_await x in omega (arith, e),
+  λ x. true≢false (at_choice x).0,
+  λ x. let e = (at_choice x).1.0 in cc,
+  λ x. let e = (at_choice x).1.0 in cc,
+  λ x. (at_choice x).1.1,
+  λ x. (at_choice x).1.1,
+  λ x. let e = at_fork x in let z : ◌≡◌ {A = ℕ} 4 5 = cc in omega (arith, z),
+  λ x. let z = ap (λ (f : Fault). f.line) (at_fault x) in omega (arith, z),
+  not_halted,
+  not_done,
+)
+
+-- ---- processes and tasks
+
+one_process : {n m : ℕ} {own l : Left} {ps : Processes} → At n own ps (process m l no_processes) → n ≡ m
+one_process here = refl
+one_process (below x) = absurd (none x)
+  where
+    none : {n : ℕ} {own : Left} {ps : Processes} → Among n own ps no_processes → ⊥
+    none x = elim x [ ]
+
+pub missing_rows : MissingRows
+missing_rows = (
+  λ x. let y = x.each 0 (left (Do Skip) []) no_processes here in let e = y.1 in cc,
+  λ x. by (x.others 1 _ refl),
+)
+  where
+    by : ((own : Left) × (ps : Processes) × At 1 own ps (process 0 (left (Do Skip) []) no_processes)) ⊎ (false ≡ true) → ⊥
+    by (inl y) = let e = one_process y.2 in omega (arith, e)
+    by (inr e) = true≢false (sym e)
+
+-- ---- what needs no turn
+
+pub unquiet_rows : UnquietRows
+unquiet_rows = (
+  λ q. true≢false (q.unread 0 _ 1 _ refl refl),
+  λ q. q.unheard 1 _ 3 refl refl refl,
+  λ q. q.unheard 0 _ 0 refl refl refl,
+  λ q. true≢false (q.unready 2 _ false _ refl refl).0,
+  λ q. true≢false (q.unready 0 _ true _ refl refl).1.0,
+  λ q. q.unjoined 0 _ (1 ∷ 2 ∷ []) refl refl (refl, (refl, tt)),
+)

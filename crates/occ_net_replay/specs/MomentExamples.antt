@@ -1,0 +1,58 @@
+-- What stands at the same stop and what does not, and networks in which something is possible that needs no turn.
+use Rattle.std.specs.Prelude.{None, Some, [], false, true, ◌∷◌}
+use Rattle.occ_term.specs.Examples.{taking_in}
+use Rattle.occ_term.specs.Messages.{fault}
+use Rattle.occ_term.specs.declared.fault.FaultKind.TheVariants.{Arith}
+use Rattle.occ_term.specs.Selecting.{SkipArm}
+use Rattle.occ_term.specs.Steps.{Doing, Do, Offering, Awaiting, Choosing, Forking, Halted, Faulted, Done, left}
+use Rattle.occ_term.specs.System.{process, no_processes}
+use Rattle.occ_term.specs.Terms.{Skip, Stop, Plain, and_branch, no_branches}
+use Rattle.occ_code.specs.declared.task.Wait.{Wait}
+use Rattle.occ_code.specs.declared.task.Wait.TheVariants as W
+use Rattle.occ_net_replay.specs.Examples.{arm, both_stand, branches, choosing, net_of, or_skip, task, waiting, whole_number}
+use Rattle.occ_net_replay.specs.Moments.{Quiet, StandAlike, StopsAlike}
+use Rattle.occ_net_replay.specs.Replay.{byte_message}
+
+-- of a process without branches, with nothing after what it is at
+abbrev pub AtStop : Wait → Doing → Type 0
+AtStop w x = StopsAlike w (left x []) no_processes
+
+abbrev pub SameStopRows : Type 0
+SameStopRows =
+    AtStop W.Ready (Do Skip)
+    × AtStop (W.Offers 3 (whole_number 5)) (Offering 3 (whole_number 5))
+    × AtStop (W.Awaits 3) (Awaiting 3 (Plain [] Skip))
+    × AtStop (W.Chooses true (arm 10 (Some 3) ∷ arm 20 None ∷ [])) (Choosing true (taking_in 3 ∷ SkipArm [] Stop ∷ []))
+    × AtStop (W.Joins (4 ∷ [])) (Forking (and_branch 4 Skip no_branches))
+
+-- another channel, another message, other arms, other branches, another end
+abbrev pub OtherStopRows : Type 0
+OtherStopRows =
+    (AtStop (W.Offers 3 (whole_number 5)) (Offering 4 (whole_number 5)) → ⊥)
+    × (AtStop (W.Offers 3 (whole_number 5)) (Offering 3 (whole_number 6)) → ⊥)
+    × (AtStop (W.Awaits 3) (Awaiting 4 (Plain [] Skip)) → ⊥)
+    × (AtStop (W.Chooses true (arm 10 (Some 3) ∷ [])) (Choosing false (taking_in 3 ∷ [])) → ⊥)
+    × (AtStop (W.Chooses true (arm 10 (Some 3) ∷ [])) (Choosing true (taking_in 4 ∷ [])) → ⊥)
+    × (AtStop (W.Chooses true (arm 10 None ∷ [])) (Choosing true (taking_in 3 ∷ [])) → ⊥)
+    × (AtStop (W.Chooses true (arm 10 (Some 3) ∷ [])) (Choosing true (taking_in 3 ∷ SkipArm [] Stop ∷ [])) → ⊥)
+    × (AtStop (W.Chooses true (arm 10 (Some 3) ∷ arm 20 None ∷ [])) (Choosing true (taking_in 3 ∷ [])) → ⊥)
+    × (AtStop (W.Joins (5 ∷ [])) (Forking (and_branch 4 Skip no_branches)) → ⊥)
+    × (AtStop (W.Faulted (fault Arith 4)) (Faulted (fault Arith 5)) → ⊥)
+    × (AtStop W.Done Halted → ⊥)
+    × (AtStop W.Ready Done → ⊥)
+
+-- a process without a task, and a task that is not done and has no process
+abbrev pub MissingRows : Type 0
+MissingRows =
+    (StandAlike [] (process 0 (left (Do Skip) []) no_processes) → ⊥)
+    × (StandAlike (task 0 W.Ready ∷ task 1 (W.Awaits 3) ∷ []) (process 0 (left (Do Skip) []) no_processes) → ⊥)
+
+-- An offer that is read; an offer or a byte for an input; an offer for a choice; SKIP; branches that are all done.
+abbrev pub UnquietRows : Type 0
+UnquietRows =
+    (Quiet (net_of [] (task 0 (W.Offers 1 (byte_message 104)) ∷ [])) → ⊥)
+    × (Quiet (net_of [] both_stand) → ⊥)
+    × (Quiet (net_of (104 ∷ []) (task 0 (W.Awaits 0) ∷ [])) → ⊥)
+    × (Quiet (net_of [] (choosing false)) → ⊥)
+    × (Quiet (net_of [] or_skip) → ⊥)
+    × (Quiet (net_of [] (waiting ∷ branches W.Done W.Done)) → ⊥)

@@ -1,0 +1,115 @@
+//! What the program plays: a source, the keyboard's bytes, and a plan.
+ghost use Rattle.std.specs.Prelude.{◌≡◌, IfOk, IfSome, take};
+ghost use Rattle.occ_choices.specs.Lines.{ChoiceLines};
+ghost use Rattle.occ_play.specs.Plans.{choices_of};
+ghost use Rattle.occ_play.specs.Coming.{IsAskedBy};
+
+use crate::failure::{Failure, of_read};
+use crate::plan::Plan;
+use crate::words::Words;
+use occ_choices::read_choices;
+use std::alloc::Global;
+use std::fs;
+use std::io::{Input, Read, empty};
+use std::rt::Files;
+
+/// How many bytes of a source are read: one more than it may have.
+const MOST_SOURCE: u64 = 1_048_577;
+
+/// What the program plays.
+#[derive(Drop)]
+pub(crate) struct Inputs {
+    /// The source's bytes.
+    pub(crate) source: Vec<u8>,
+    /// What is typed.
+    pub(crate) keyboard: Vec<u8>,
+    /// The choices of the run.
+    pub(crate) plan: Plan,
+}
+
+/// What the words name: first the source, then the keyboard, then the file of choices.
+pub(crate) fn read_inputs<R: Files + Input>(
+    rt: &R,
+    alloc: Global,
+    words: &Words<'_>,
+) -> Result<Inputs, Failure>
+    ensures { IfOk result (λ inputs. IsAskedBy words.now inputs.plan) }
+{
+    let (source, keyboard) = read_texts(rt, alloc, words)?;
+    let plan = read_plan(rt, alloc, words)?;
+    Ok(Inputs {
+        source,
+        keyboard,
+        plan,
+    })
+}
+
+/// The file and standard input, or standard input and an empty keyboard.
+fn read_texts<R: Files + Input>(
+    rt: &R,
+    alloc: Global,
+    words: &Words<'_>,
+) -> Result<(Vec<u8>, Vec<u8>), Failure> {
+    match words.file {
+        None => read_both(alloc, rt.reader(), empty()),
+        Some(path) => {
+            let file = fs::open(rt, path).map_err(of_read)?;
+            read_both(alloc, file, rt.reader())
+        }
+    }
+}
+
+/// The first bytes of a source, one more than it may have, and all that is typed.
+fn read_both<S: Read + Drop, K: Read + Drop>(
+    alloc: Global,
+    source: S,
+    keyboard: K,
+) -> Result<(Vec<u8>, Vec<u8>), Failure>
+    ensures source { IfSome (S.remaining source) (λ xs. IfOk result (λ r. r.0.items ≡ take 1048577 xs)) }
+    ensures keyboard { IfSome (K.remaining keyboard) (λ xs. IfOk result (λ r. r.1.items ≡ xs)) }
+{
+    let source = read_most(alloc, source, MOST_SOURCE)?;
+    let keyboard = read_all(alloc, keyboard)?;
+    Ok((source, keyboard))
+}
+
+/// All bytes of a reader, or so many where there are more.
+fn read_most<R: Read + Drop>(alloc: Global, reader: R, most: u64) -> Result<Vec<u8>, Failure>
+    ensures { IfSome (R.remaining reader) (λ xs. IfOk result (λ bytes. bytes.items ≡ take most xs)) }
+{
+    let mut bytes = Vec::new(alloc);
+    reader.take(most).read_to_end(&mut bytes).map_err(of_read)?;
+    Ok(bytes)
+}
+
+/// All bytes of a reader.
+fn read_all<R: Read + Drop>(alloc: Global, reader: R) -> Result<Vec<u8>, Failure>
+    ensures { IfSome (R.remaining reader) (λ xs. IfOk result (λ bytes. bytes.items ≡ xs)) }
+{
+    let mut reader = reader;
+    let mut bytes = Vec::new(alloc);
+    reader.read_to_end(&mut bytes).map_err(of_read)?;
+    Ok(bytes)
+}
+
+/// The choices of the file that the words name, or as many turns as they allow.
+fn read_plan<R: Files>(rt: &R, alloc: Global, words: &Words<'_>) -> Result<Plan, Failure>
+    ensures { IfOk result (λ plan. IsAskedBy words.now plan) }
+{
+    match words.choices {
+        None => Ok(Plan::Turns(words.limit)),
+        Some(path) => {
+            let file = fs::open(rt, path).map_err(of_read)?;
+            let text = read_all(alloc, file)?;
+            plan_of(alloc, text.as_slice())
+        }
+    }
+}
+
+/// The choices of a file's text.
+fn plan_of(alloc: Global, text: &[u8]) -> Result<Plan, Failure>
+    ensures { IfOk result (λ plan. ChoiceLines text.now (choices_of plan)) }
+{
+    let choices = read_choices(alloc, text)?;
+    Ok(Plan::Choices(choices))
+}
