@@ -19,6 +19,7 @@ mod first_programs;
 mod large;
 #[cfg(test)]
 mod laws;
+#[cfg(test)]
 mod layers;
 #[cfg(test)]
 mod lexing;
