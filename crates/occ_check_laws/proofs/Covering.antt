@@ -38,11 +38,28 @@ covers_before d n m g h = record {
   channels = λ c x e. h.channels c x (subst (λ xs. slice_get xs c ≡ Some x) (sym g.channels) (first_stays n.channels g.new_channels c x e));
 }
 
+-- all cells that are new since some numbers are among what is declared, and so are all channels
+pub record CoversSince (d : Declared) (n m : Numbers) : Type 0 where
+  pub cells : (c : ℕ) (x : Cell) → length n.cells ≤ c → slice_get m.cells c ≡ Some x → d.types c ≡ Some x.primitive
+  pub channels : (c : ℕ) (x : Channel) → slice_get m.channels c ≡ Some x → d.protocols c ≡ Some x.protocol
+
+pub since : (d : Declared) (n m : Numbers) → Covers d m → CoversSince d n m
+since d n m h = record { cells = λ c x l e. h.cells c x e; channels = h.channels }
+
 pub fewer_before : (n m : Numbers) → Grown n m → length n.cells ≤ length m.cells
 fewer_before n m g =
     let e = ap length g.cells in
     let f = length-append n.cells g.new_cells in
     omega (arith, e, f)
+
+pub since_before : (d : Declared) (n m l : Numbers) → Grown m l → CoversSince d n l → CoversSince d n m
+since_before d n m l g h = record {
+  cells = λ c x k e. h.cells c x k (subst (λ xs. slice_get xs c ≡ Some x) (sym g.cells) (first_stays m.cells g.new_cells c x e));
+  channels = λ c x e. h.channels c x (subst (λ xs. slice_get xs c ≡ Some x) (sym g.channels) (first_stays m.channels g.new_channels c x e));
+}
+
+pub since_later : (d : Declared) (n m l : Numbers) → Grown n m → CoversSince d n l → CoversSince d m l
+since_later d n m l g h = record { cells = λ c x k e. let f = fewer_before n m g in h.cells c x (omega (arith, k, f)) e; channels = h.channels }
 
 -- ---- what is new
 
@@ -59,16 +76,16 @@ in_span first count c h =
     (leb-true first c b.0, ltb-true c (first + count) b.1)
 
 module _ (d : Declared) where
-  pub new_cells_have : (type : Primitive) (x : Name) (sizes : List ℕ) (n m : Numbers) → more_cells type x sizes n ≡ Some m → Covers d m → CellsHave d.types (span (length n.cells) (product sizes)) type
+  pub new_cells_have : (type : Primitive) (x : Name) (sizes : List ℕ) (n m : Numbers) → more_cells type x sizes n ≡ Some m → CoversSince d n m → CellsHave d.types (span (length n.cells) (product sizes)) type
   new_cells_have type x sizes n m e h c i =
       let s = in_span (length n.cells) (product sizes) c i in
       let k = names_length x sizes in
       let p = s.0 in
       let q = s.1 in
       let a = new_one (cell type) n.cells (component_names x sizes) c p (omega (arith, q, k)) in
-      h.cells c (cell type a.0) (subst (λ (y : Numbers). slice_get y.cells c ≡ Some (cell type a.0)) (kept _ _ m e).1 a.1)
+      h.cells c (cell type a.0) p (subst (λ (y : Numbers). slice_get y.cells c ≡ Some (cell type a.0)) (kept _ _ m e).1 a.1)
 
-  pub new_channels_have : (p : Protocol) (x : Name) (sizes : List ℕ) (n m : Numbers) → more_channels p x sizes n ≡ Some m → Covers d m
+  pub new_channels_have : (p : Protocol) (x : Name) (sizes : List ℕ) (n m : Numbers) → more_channels p x sizes n ≡ Some m → CoversSince d n m
       → (c : ℕ) → IsTrue (numbers_in (span (length n.channels) (product sizes)) c) → d.protocols c ≡ Some p
   new_channels_have p x sizes n m e h c i =
       let s = in_span (length n.channels) (product sizes) c i in

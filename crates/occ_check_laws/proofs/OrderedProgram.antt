@@ -14,7 +14,7 @@ use Rattle.occ_check_meaning.specs.ProgramUnfolding.{DeclareItems, no_item, one_
 use Rattle.occ_check_meaning.specs.Unfolding.{Procedure, Procedures}
 use Rattle.occ_check_laws.proofs.Scopes.{each_within}
 use Rattle.occ_check_laws.proofs.Growth.{growing, processes_grown}
-use Rattle.occ_check_laws.proofs.Covering.{Covers, covers_before}
+use Rattle.occ_check_laws.proofs.Covering.{Covers, since, covers_before}
 use Rattle.occ_check_laws.proofs.Stepping.{opening_steps, item_steps, items_steps}
 use Rattle.occ_check_laws.proofs.TreeSteps.{unfolding_steps}
 use Rattle.occ_check_laws.proofs.TypedNames.{Fits}
@@ -35,7 +35,7 @@ module _ (d : Declared) where
   items_take : {sc : Procedures} {depth : ℕ} {n : Numbers} {is : List Item} {e : Entered Procedure} → DeclareItems sc depth n is e → In d sc n → Covers d e.numbers → Takes n (cells_of_all e.heads) e.numbers
   items_take no_item h c = refl
   items_take (one_item {n = n} {a = a} {b = b} x y) h c =
-      let k = item_has d x h (item_steps Grown growing x) (covers_before d a.numbers b.numbers (items_steps Grown growing y) c) in
+      let k = item_has d x h (item_steps Grown growing x) (since d n a.numbers (covers_before d a.numbers b.numbers (items_steps Grown growing y) c)) in
       heads_in_order a.heads b.heads (length n.cells) (length a.numbers.cells) (length b.numbers.cells) (item_takes d x h) (items_take y k.0 c)
 
   program_takes : {is : List Item} {t : Term} {m : Numbers} → ProgramUnfolding is t m → Covers d m → Takes at_start (cells_in t) m

@@ -26,7 +26,7 @@ use Rattle.occ_check_meaning.proofs.Steps.{bind_some, some_is}
 use Rattle.occ_check_laws.proofs.Counting.{kept}
 use Rattle.occ_check_laws.proofs.Scopes.{each_within, each_behind}
 use Rattle.occ_check_laws.proofs.Growth.{growing, processes_grown}
-use Rattle.occ_check_laws.proofs.Covering.{Covers, covers_before}
+use Rattle.occ_check_laws.proofs.Covering.{Covers, since, covers_before}
 use Rattle.occ_check_laws.proofs.Stepping.{bound_steps, indexed_steps, opening_steps, one_declared_steps, declared_steps}
 use Rattle.occ_check_laws.proofs.TreeSteps.{unfolding_steps, performs_steps, in_turn_steps, beside_steps, copies_steps, arm_steps, offers_steps, arms_steps, choice_steps, tests_steps, choices_steps, variant_steps, variants_steps, option_steps, options_steps}
 use Rattle.occ_check_laws.proofs.TypedNames.{Fits, bound_opens, indexed_opens}
@@ -156,14 +156,14 @@ module _ (d : Declared) where
   item_takes (declares_protocol {sc = sc} {n = n} {p = p} {o = o} e) h = protocol_ordered d (names_of sc) p n o e
   item_takes declares_procedure h = refl
 
-  one_takes : {sc : Procedures} {depth : ℕ} {n : Numbers} {x : Decl} {e : Entered Procedure} → Declares sc depth n x e → In d sc n → Takes n (cells_of_all e.heads) e.numbers
+  pub one_takes : {sc : Procedures} {depth : ℕ} {n : Numbers} {x : Decl} {e : Entered Procedure} → Declares sc depth n x e → In d sc n → Takes n (cells_of_all e.heads) e.numbers
   one_takes (declares_names {sc = sc} {depth = depth} {line = line} {n = n} {es = es} {sort = sort} {x = x} {xs = xs} {o = o} e) h = names_ordered (names_of sc) line depth es sort (x ∷ xs) n o e
   one_takes (declares_item i) h = item_takes i h
 
   all_take : {sc : Procedures} {depth : ℕ} {n : Numbers} {ds : Decls} {e : Entered Procedure} → DeclareAll sc depth n ds e → In d sc n → Covers d e.numbers → Takes n (cells_of_all e.heads) e.numbers
   all_take no_declaration h c = refl
   all_take (one_declaration {n = n} {a = a} {b = b} x y) h c =
-      let k = one_has d x h (one_declared_steps Grown growing x) (covers_before d a.numbers b.numbers (declared_steps Grown growing y) c) in
+      let k = one_has d x h (one_declared_steps Grown growing x) (since d n a.numbers (covers_before d a.numbers b.numbers (declared_steps Grown growing y) c)) in
       heads_in_order a.heads b.heads (length n.cells) (length a.numbers.cells) (length b.numbers.cells) (one_takes x h) (all_take y k.0 c)
 
   -- ---- all of the tree
@@ -200,7 +200,7 @@ module _ (d : Declared) where
     performs_takes (replicates_sequence {sc = sc} {line = line} {depth = depth} {n = n} {m = m} {l = l} {r = r} {i = i} {t = t} o x u) h c =
         let q = roomy d sc depth (Sizes.node no_size) n m o h in
         let b = covers_before d i.numbers l (unfolding_steps Grown growing processes_grown u) c in
-        let k = indexed_opens d (names_of sc) (length m.cells) (named d sc m q) line (depth + 1) r m i x b in
+        let k = indexed_opens d (names_of sc) (length m.cells) (named d sc m q) line (depth + 1) r m i x (since d m i.numbers b) in
         room_begins (index_cell i.replicator ∷ cells_in t) depth (Sizes.node no_size) n m l o
         (both (index_cell i.replicator ∷ []) (cells_in t) m i.numbers l (indexed_ordered (names_of sc) line (depth + 1) r m i x)
         (unfolding_takes u (within_index d sc m i q (indexed_steps Grown growing (names_of sc) line (depth + 1) r m i x) k.1) c))
@@ -256,14 +256,14 @@ module _ (d : Declared) where
     offers_take (nests_arms u) h c = arms_take u h c
     offers_take (replicates_arm u) h c = each_arm_takes u h c
 
-    each_arm_takes : {sc : Procedures} {line depth : ℕ} {n m : Numbers} {r : L.Replicator} {a : Node arm} {arms : Arms} → EachArm sc line depth n r a arms m → In d sc n → Covers d m → Takes n (cells_in_arms arms) m
+    pub each_arm_takes : {sc : Procedures} {line depth : ℕ} {n m : Numbers} {r : L.Replicator} {a : Node arm} {arms : Arms} → EachArm sc line depth n r a arms m → In d sc n → Covers d m → Takes n (cells_in_arms arms) m
     each_arm_takes (under_index {sc = sc} {line = line} {depth = depth} {n = n} {l = l} {r = r} {i = i} {arms = arms} x u) h c =
         let b = covers_before d i.numbers l (arm_steps Grown growing processes_grown u) c in
-        let k = indexed_opens d (names_of sc) (length n.cells) (named d sc n h) line depth r n i x b in
+        let k = indexed_opens d (names_of sc) (length n.cells) (named d sc n h) line depth r n i x (since d n i.numbers b) in
         both (index_cell i.replicator ∷ []) (cells_in_arms arms ++ []) n i.numbers l (indexed_ordered (names_of sc) line depth r n i x)
         (the_same (cells_in_arms arms) (cells_in_arms arms ++ []) i.numbers l (with_nil (cells_in_arms arms)) (arm_takes u (within_index d sc n i h (indexed_steps Grown growing (names_of sc) line depth r n i x) k.1) c))
 
-    arms_take : {sc : Procedures} {depth : ℕ} {n m : Numbers} {xs : Nodes arm} {arms : Arms} → AllArms sc depth n xs arms m → In d sc n → Covers d m → Takes n (cells_in_arms arms) m
+    pub arms_take : {sc : Procedures} {depth : ℕ} {n m : Numbers} {xs : Nodes arm} {arms : Arms} → AllArms sc depth n xs arms m → In d sc n → Covers d m → Takes n (cells_in_arms arms) m
     arms_take no_arm h c = refl
     arms_take (one_arm {sc = sc} {n = n} {m = m} {l = l} {arms = arms} {others = others} u us) h c =
         the_same (cells_in_arms arms ++ cells_in_arms others) (cells_in_arms (arms_then arms others)) n l (arms_then_cells arms others)
@@ -285,7 +285,7 @@ module _ (d : Declared) where
     each_choice_takes : {sc : Procedures} {line depth : ℕ} {n m : Numbers} {r : L.Replicator} {x : Node choice} {choices : Choices} → EachChoice sc line depth n r x choices m → In d sc n → Covers d m → Takes n (cells_in_choices choices) m
     each_choice_takes (under_choice_index {sc = sc} {line = line} {depth = depth} {n = n} {l = l} {r = r} {i = i} {choices = choices} x u) h c =
         let b = covers_before d i.numbers l (choice_steps Grown growing processes_grown u) c in
-        let k = indexed_opens d (names_of sc) (length n.cells) (named d sc n h) line depth r n i x b in
+        let k = indexed_opens d (names_of sc) (length n.cells) (named d sc n h) line depth r n i x (since d n i.numbers b) in
         both (index_cell i.replicator ∷ []) (cells_in_choices choices ++ []) n i.numbers l (indexed_ordered (names_of sc) line depth r n i x)
         (the_same (cells_in_choices choices) (cells_in_choices choices ++ []) i.numbers l (with_nil (cells_in_choices choices)) (choice_takes u (within_index d sc n i h (indexed_steps Grown growing (names_of sc) line depth r n i x) k.1) c))
 

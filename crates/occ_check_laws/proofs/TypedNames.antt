@@ -28,7 +28,7 @@ use Rattle.occ_check_meaning.proofs.Steps.{bind_some, some_is}
 use Rattle.occ_check_laws.proofs.Counting.{kept}
 use Rattle.occ_check_laws.proofs.Scopes.{EachPair, each_joined, pairs_mapped}
 use Rattle.occ_check_laws.proofs.Growth.{cells_length, growing}
-use Rattle.occ_check_laws.proofs.Covering.{Covers, covers_before, fewer_before, new_cells_have, new_channels_have, constant_typed}
+use Rattle.occ_check_laws.proofs.Covering.{Covers, CoversSince, since, since_before, since_later, covers_before, fewer_before, new_cells_have, new_channels_have, constant_typed}
 use Rattle.occ_check_laws.proofs.Stepping.{each_steps, variable_steps, channel_steps, evaluated_steps, actual_steps, actuals_steps}
 use Rattle.occ_check_laws.proofs.TypedExpressions.{typed_has, subscripts_have, leaves_joined, in_one}
 use Rattle.occ_check_laws.proofs.TypedLines.{variable_row, channels_row, typed_as_has}
@@ -74,7 +74,7 @@ module _ (d : Declared) where
 
   -- ---- new cells
 
-  pub cells_then_room : (type : Primitive) (x : Name) (sizes : List ℕ) (depth : ℕ) (z : Size) (n m o : Numbers) → more_cells type x sizes n ≡ Some m → room depth z m ≡ Some o → Covers d o
+  pub cells_then_room : (type : Primitive) (x : Name) (sizes : List ℕ) (depth : ℕ) (z : Size) (n m o : Numbers) → more_cells type x sizes n ≡ Some m → room depth z m ≡ Some o → CoversSince d n o
       → CellsHave d.types (span (length n.cells) (product sizes)) type × (length n.cells + product sizes ≤ length o.cells)
   cells_then_room type x sizes depth z n m o e g h =
       let r = growing.by_room depth z m o g in
@@ -82,35 +82,35 @@ module _ (d : Declared) where
       let a : length (n.cells ++ map (cell type) (component_names x sizes)) ≡ length m.cells = ap (λ (y : Numbers). length y.cells) (kept _ _ m e).1 in
       let b = length-append n.cells (map (cell type) (component_names x sizes)) in
       let k = cells_length type x sizes in
-      (new_cells_have d type x sizes n m e (covers_before d m o r h), omega (arith, f, a, b, k))
+      (new_cells_have d type x sizes n m e (since_before d n m o r h), omega (arith, f, a, b, k))
 
-  variable_opens : (depth : ℕ) (type : Primitive) (sizes : List ℕ) (x : Name) (n : Numbers) (o : Opened) → variable_declared depth type sizes x n ≡ Some o → Covers d o.numbers → OpenedHas d o
+  variable_opens : (depth : ℕ) (type : Primitive) (sizes : List ℕ) (x : Name) (n : Numbers) (o : Opened) → variable_declared depth type sizes x n ≡ Some o → CoversSince d n o.numbers → OpenedHas d o
   variable_opens depth type sizes x n o e =
       let m = bind_some (more_cells type x sizes n) _ o e in
       let r = bind_some (room depth (size_of_declaration (Clearing (length n.cells) (product sizes))) m.0) _ o m.2 in
-      subst (λ (y : Opened). Covers d y.numbers → OpenedHas d y) (some_is _ o r.2)
+      subst (λ (y : Opened). CoversSince d n y.numbers → OpenedHas d y) (some_is _ o r.2)
       (λ h. let c = cells_then_room type x sizes depth (size_of_declaration (Clearing (length n.cells) (product sizes))) n m.0 r.0 m.1 r.1 h in
       ((((c.0, refl), c.1), tt), ((type, c.0), tt)))
 
-  channel_opens : (c : Carried) (sizes : List ℕ) (x : Name) (n : Numbers) (o : Opened) → channel_declared c sizes x n ≡ Some o → Covers d o.numbers → OpenedHas d o
+  channel_opens : (c : Carried) (sizes : List ℕ) (x : Name) (n : Numbers) (o : Opened) → channel_declared c sizes x n ≡ Some o → CoversSince d n o.numbers → OpenedHas d o
   channel_opens c sizes x n o e =
       let m = bind_some (more_channels c.protocol x sizes n) _ o e in
-      subst (λ (y : Opened). Covers d y.numbers → OpenedHas d y) (some_is _ o m.2)
+      subst (λ (y : Opened). CoversSince d n y.numbers → OpenedHas d y) (some_is _ o m.2)
       (λ h. ((((new_channels_have d c.protocol x sizes n m.0 m.1 h, refl), tt), tt), tt))
 
   each_opens : (f : Name → Numbers → Option Opened) → ((x : Name) (n : Numbers) (o : Opened) → f x n ≡ Some o → Grown n o.numbers)
-      → ((x : Name) (n : Numbers) (o : Opened) → f x n ≡ Some o → Covers d o.numbers → OpenedHas d o)
-      → (xs : List Name) (n : Numbers) (o : Opened) → each_declared f xs n ≡ Some o → Covers d o.numbers → OpenedHas d o
+      → ((x : Name) (n : Numbers) (o : Opened) → f x n ≡ Some o → CoversSince d n o.numbers → OpenedHas d o)
+      → (xs : List Name) (n : Numbers) (o : Opened) → each_declared f xs n ≡ Some o → CoversSince d n o.numbers → OpenedHas d o
   unfolding each_declared
-  each_opens f s g [] n o e = subst (λ (y : Opened). Covers d y.numbers → OpenedHas d y) (some_is _ o e) (λ h. (tt, tt))
+  each_opens f s g [] n o e = subst (λ (y : Opened). CoversSince d n y.numbers → OpenedHas d y) (some_is _ o e) (λ h. (tt, tt))
   each_opens f s g (x ∷ xs) n o e =
       let a = bind_some (f x n) _ o e in
       let b = bind_some (each_declared f xs a.0.numbers) _ o a.2 in
-      subst (λ (y : Opened). Covers d y.numbers → OpenedHas d y) (some_is _ o b.2)
+      subst (λ (y : Opened). CoversSince d n y.numbers → OpenedHas d y) (some_is _ o b.2)
       (λ h. let k = each_steps Grown growing f s xs a.0.numbers b.0 b.1 in
-      both_have a.0 b.0 k (g x n a.0 a.1 (covers_before d a.0.numbers b.0.numbers k h)) (each_opens f s g xs a.0.numbers b.0 b.1 h))
+      both_have a.0 b.0 k (g x n a.0 a.1 (since_before d n a.0.numbers b.0.numbers k h)) (each_opens f s g xs a.0.numbers b.0 b.1 (since_later d n a.0.numbers b.0.numbers (s x n a.0 a.1) h)))
 
-  pub names_open : (ns : Names) (line depth : ℕ) (es : Expressions) (sort : L.Sort) (xs : List Name) (n : Numbers) (o : Opened) → names_declared ns line depth es sort xs n ≡ Some o → Covers d o.numbers → OpenedHas d o
+  pub names_open : (ns : Names) (line depth : ℕ) (es : Expressions) (sort : L.Sort) (xs : List Name) (n : Numbers) (o : Opened) → names_declared ns line depth es sort xs n ≡ Some o → CoversSince d n o.numbers → OpenedHas d o
   names_open ns line depth es (L.of_data type) xs n o e =
       let z = bind_some (sizes_of ns line es) _ o e in
       let y = bind_some (once xs) _ o z.2 in
@@ -123,24 +123,24 @@ module _ (d : Declared) where
 
   -- ---- named values
 
-  local_opens : (x : Name) (depth : ℕ) (type : Primitive) (sizes : List ℕ) (value : Item) (n : Numbers) (o : Opened) → ItemHas d.types value (simple_part sizes type) → local_of x depth type sizes value n ≡ Some o → Covers d o.numbers → OpenedHas d o
+  local_opens : (x : Name) (depth : ℕ) (type : Primitive) (sizes : List ℕ) (value : Item) (n : Numbers) (o : Opened) → ItemHas d.types value (simple_part sizes type) → local_of x depth type sizes value n ≡ Some o → CoversSince d n o.numbers → OpenedHas d o
   local_opens x depth type sizes value n o i e =
       let m = bind_some (more_cells type x sizes n) _ o e in
       let r = bind_some (room depth (size_of_declaration (Naming (length n.cells) value)) m.0) _ o m.2 in
-      subst (λ (y : Opened). Covers d y.numbers → OpenedHas d y) (some_is _ o r.2)
+      subst (λ (y : Opened). CoversSince d n y.numbers → OpenedHas d y) (some_is _ o r.2)
       (λ h. let c = cells_then_room type x sizes depth (size_of_declaration (Naming (length n.cells) value)) n m.0 r.0 m.1 r.1 h in
       ((((c.0, refl), tt), tt), ((type, sizes, i, c.0), tt)))
 
-  value_opens : (x : Name) (depth : ℕ) (type : Primitive) (e : T.Expression) (v : Option ℤ) (n : Numbers) (o : Opened) → constant e ≡ v → TypedHas d.types (single type e) → value_named x depth type e v n ≡ Some o → Covers d o.numbers → OpenedHas d o
-  value_opens x depth type e (Some v) n o k t g = subst (λ (y : Opened). Covers d y.numbers → OpenedHas d y) (some_is _ o g) (λ h. (((constant_typed d.types e type v t k, tt), tt), tt))
+  value_opens : (x : Name) (depth : ℕ) (type : Primitive) (e : T.Expression) (v : Option ℤ) (n : Numbers) (o : Opened) → constant e ≡ v → TypedHas d.types (single type e) → value_named x depth type e v n ≡ Some o → CoversSince d n o.numbers → OpenedHas d o
+  value_opens x depth type e (Some v) n o k t g = subst (λ (y : Opened). CoversSince d n y.numbers → OpenedHas d y) (some_is _ o g) (λ h. (((constant_typed d.types e type v t k, tt), tt), tt))
   value_opens x depth type e None n o k t g = local_opens x depth type [] (OfOne type e) n o (refl, t) g
 
-  array_opens : (x : Name) (depth : ℕ) (type : Primitive) (sizes : List ℕ) (a : Array) (n : Numbers) (o : Opened) → TypedHas d.types (whole type sizes a) → array_named x depth type sizes a n ≡ Some o → Covers d o.numbers → OpenedHas d o
+  array_opens : (x : Name) (depth : ℕ) (type : Primitive) (sizes : List ℕ) (a : Array) (n : Numbers) (o : Opened) → TypedHas d.types (whole type sizes a) → array_named x depth type sizes a n ≡ Some o → CoversSince d n o.numbers → OpenedHas d o
   array_opens x depth type [] a n o t g = absurd t
-  array_opens x depth type (k ∷ ks) (Text bytes) n o t g = subst (λ (y : Opened). Covers d y.numbers → OpenedHas d y) (some_is _ o g) (λ h. (((t.2, tt), tt), tt))
+  array_opens x depth type (k ∷ ks) (Text bytes) n o t g = subst (λ (y : Opened). CoversSince d n y.numbers → OpenedHas d y) (some_is _ o g) (λ h. (((t.2, tt), tt), tt))
   array_opens x depth type (k ∷ ks) (Cells p) n o t g = local_opens x depth type (k ∷ ks) (OfMany type (Cells p)) n o (refl, t) g
 
-  named_opens : (x : Name) (depth : ℕ) (t : Typed) (n : Numbers) (o : Opened) → TypedHas d.types t → named x depth t n ≡ Some o → Covers d o.numbers → OpenedHas d o
+  named_opens : (x : Name) (depth : ℕ) (t : Typed) (n : Numbers) (o : Opened) → TypedHas d.types t → named x depth t n ≡ Some o → CoversSince d n o.numbers → OpenedHas d o
   named_opens x depth (single type e) n o t g = value_opens x depth type e (constant e) n o refl t g
   named_opens x depth (whole type sizes a) n o t g = array_opens x depth type sizes a n o t g
 
@@ -164,7 +164,7 @@ module _ (d : Declared) where
       let m = bind_some (more_cells Int x [] n) _ a g in
       let r = bind_some (room depth (size_of_declaration (Naming (length n.cells) (OfOne Int e))) m.0) _ a m.2 in
       subst (λ (y : Evaluated). Covers d y.numbers → SubscriptsLeave d.types y.subscripts (size ∷ sizes) sizes × DeclarationsHave d y.heads) (some_is _ a r.2)
-      (λ h. let c = cells_then_room Int x [] depth (size_of_declaration (Naming (length n.cells) (OfOne Int e))) n m.0 r.0 m.1 r.1 h in
+      (λ h. let c = cells_then_room Int x [] depth (size_of_declaration (Naming (length n.cells) (OfOne Int e))) n m.0 r.0 m.1 r.1 (since d n r.0 h) in
       ((c.0 (length n.cells) (in_one (length n.cells)), refl), ((Int, [], (refl, t), c.0), tt)))
 
   evaluated_has : (x : Name) (depth : ℕ) (es : T.Subscripts) (sizes : List ℕ) (n : Numbers) (a : Evaluated) → SubscriptsHave d.types es → all_evaluated x depth es sizes n ≡ Some a → Covers d a.numbers
@@ -187,7 +187,7 @@ module _ (d : Declared) where
     have : NamesHave d ns
     have x k e = (h x k e).0
 
-    pub value_declared_opens : (depth : ℕ) (type : Option L.ValueType) (x : Name) (a : Expression) (n : Numbers) (o : Opened) → value_declared ns line depth type x a n ≡ Some o → Covers d o.numbers → OpenedHas d o
+    pub value_declared_opens : (depth : ℕ) (type : Option L.ValueType) (x : Name) (a : Expression) (n : Numbers) (o : Opened) → value_declared ns line depth type x a n ≡ Some o → CoversSince d n o.numbers → OpenedHas d o
     value_declared_opens depth type x a n o e =
         let v = bind_some (typed ns line a) _ o e in
         let w = bind_some (of_value_type ns line type v.0) _ o v.2 in
@@ -205,7 +205,7 @@ module _ (d : Declared) where
     actual_opens depth x (wants_value sizes type) e n o b g =
         let v = bind_some (typed ns line e) _ o g in
         let w = bind_some (keep (has_type sizes type v.0) v.0) _ o v.2 in
-        named_opens x depth w.0 n o (subst (TypedHas d.types) (kept _ _ w.0 w.1).1 (typed_has d ns have line e v.0 v.1)) w.2
+        λ c. named_opens x depth w.0 n o (subst (TypedHas d.types) (kept _ _ w.0 w.1).1 (typed_has d ns have line e v.0 v.1)) w.2 (since d n o.numbers c)
     actual_opens depth x (wants_variable sizes type) e n o b g =
         let v = bind_some (as_named e) _ o g in
         let k = bind_some (ns v.0.0) _ o v.2 in
@@ -249,13 +249,13 @@ module _ (d : Declared) where
 
     -- ---- replicators
 
-    pub indexed_opens : (depth : ℕ) (r : L.Replicator) (n : Numbers) (i : Indexed) → indexed ns line depth r n ≡ Some i → Covers d i.numbers
+    pub indexed_opens : (depth : ℕ) (r : L.Replicator) (n : Numbers) (i : Indexed) → indexed ns line depth r n ≡ Some i → CoversSince d n i.numbers
         → ReplicatorHas d i.replicator × EachPair (Fits d (length i.numbers.cells)) i.names
     indexed_opens depth (L.each x base count) n i e =
         let b = bind_some (typed_as ns line Int base) _ i e in
         let k = bind_some (typed_as ns line Int count) _ i b.2 in
         let m = bind_some (more_cells Int x [] n) _ i k.2 in
         let o = bind_some (room depth (size_of_replicator (replicator line (length n.cells) b.0 k.0) no_size) m.0) _ i m.2 in
-        subst (λ (y : Indexed). Covers d y.numbers → ReplicatorHas d y.replicator × EachPair (Fits d (length y.numbers.cells)) y.names) (some_is _ i o.2)
+        subst (λ (y : Indexed). CoversSince d n y.numbers → ReplicatorHas d y.replicator × EachPair (Fits d (length y.numbers.cells)) y.names) (some_is _ i o.2)
         (λ c. let s = cells_then_room Int x [] depth (size_of_replicator (replicator line (length n.cells) b.0 k.0) no_size) n m.0 o.0 m.1 o.1 c in
         ((s.0 (length n.cells) (in_one (length n.cells)), typed_as_has d ns have line Int base b.0 b.1, typed_as_has d ns have line Int count k.0 k.1), (((s.0, refl), tt), tt)))

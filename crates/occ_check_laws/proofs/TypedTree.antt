@@ -33,7 +33,7 @@ use Rattle.occ_check_meaning.proofs.Steps.{bind_some, some_is}
 use Rattle.occ_check_laws.proofs.Counting.{kept}
 use Rattle.occ_check_laws.proofs.Scopes.{EachKnown, EachPair, each_within, each_mapped, each_named, each_behind}
 use Rattle.occ_check_laws.proofs.Growth.{growing, processes_grown}
-use Rattle.occ_check_laws.proofs.Covering.{Covers, covers_before, fewer_before, in_span, constant_typed}
+use Rattle.occ_check_laws.proofs.Covering.{Covers, CoversSince, since, covers_before, fewer_before, in_span, constant_typed}
 use Rattle.occ_check_laws.proofs.Stepping.{bound_steps, indexed_steps, opening_steps, one_declared_steps, declared_steps}
 use Rattle.occ_check_laws.proofs.TreeSteps.{unfolding_steps, performs_steps, in_turn_steps, beside_steps, copies_steps, arm_steps, offers_steps, arms_steps, choice_steps, tests_steps, choices_steps, variant_steps, variants_steps, option_steps, options_steps}
 use Rattle.occ_check_laws.proofs.TypedExpressions.{single_has, typed_has}
@@ -106,7 +106,7 @@ module _ (d : Declared) where
   pub roomy : (sc : Procedures) (depth : ℕ) (s : Size) (n m : Numbers) → room depth s n ≡ Some m → In sc n → In sc m
   roomy sc depth s n m e h = later sc n m (growing.by_room depth s n m e) h
 
-  pub item_has : {sc : Procedures} {depth : ℕ} {n : Numbers} {i : Item} {e : Entered Procedure} → DeclaresItem sc depth n i e → In sc n → Grown n e.numbers → Covers d e.numbers → In e.scope e.numbers × DeclarationsHave d e.heads
+  pub item_has : {sc : Procedures} {depth : ℕ} {n : Numbers} {i : Item} {e : Entered Procedure} → DeclaresItem sc depth n i e → In sc n → Grown n e.numbers → CoversSince d n e.numbers → In e.scope e.numbers × DeclarationsHave d e.heads
   item_has (declares_value {sc = sc} {depth = depth} {line = line} {n = n} {type = type} {x = x} {e = a} {o = o} e) h g c =
       let k = value_declared_opens d (names_of sc) (length n.cells) (named sc n h) line depth type x a n o e c in
       (each_within (Fits d (length o.numbers.cells)) o.names sc k.0 (later sc n o.numbers g h), k.1)
@@ -115,7 +115,7 @@ module _ (d : Declared) where
       (each_within (Fits d (length o.numbers.cells)) o.names sc k.0 (later sc n o.numbers g h), k.1)
   item_has declares_procedure h g c = (h, tt)
 
-  pub one_has : {sc : Procedures} {depth : ℕ} {n : Numbers} {x : Decl} {e : Entered Procedure} → Declares sc depth n x e → In sc n → Grown n e.numbers → Covers d e.numbers → In e.scope e.numbers × DeclarationsHave d e.heads
+  pub one_has : {sc : Procedures} {depth : ℕ} {n : Numbers} {x : Decl} {e : Entered Procedure} → Declares sc depth n x e → In sc n → Grown n e.numbers → CoversSince d n e.numbers → In e.scope e.numbers × DeclarationsHave d e.heads
   one_has (declares_names {sc = sc} {depth = depth} {line = line} {n = n} {es = es} {sort = sort} {x = x} {xs = xs} {o = o} e) h g c =
       let k = names_open d (names_of sc) line depth es sort (x ∷ xs) n o e c in
       (each_within (Fits d (length o.numbers.cells)) o.names sc k.0 (later sc n o.numbers g h), k.1)
@@ -124,7 +124,7 @@ module _ (d : Declared) where
   pub all_have : {sc : Procedures} {depth : ℕ} {n : Numbers} {ds : Decls} {e : Entered Procedure} → DeclareAll sc depth n ds e → In sc n → Covers d e.numbers → In e.scope e.numbers × DeclarationsHave d e.heads
   all_have no_declaration h c = (h, tt)
   all_have (one_declaration {n = n} {a = a} {b = b} x y) h c =
-      let k = one_has x h (one_declared_steps Grown growing x) (covers_before d a.numbers b.numbers (declared_steps Grown growing y) c) in
+      let k = one_has x h (one_declared_steps Grown growing x) (since d n a.numbers (covers_before d a.numbers b.numbers (declared_steps Grown growing y) c)) in
       let q = all_have y k.0 c in
       (q.0, declarations_joined d a.heads b.heads k.1 q.1)
 
@@ -179,7 +179,7 @@ module _ (d : Declared) where
       let m = bind_some (more_cells Int x [] n) _ i k.2 in
       let o = bind_some (room depth (size_of_replicator (replicator line (length n.cells) b.0 k.0) no_size) m.0) _ i m.2 in
       subst (λ (y : Indexed). Covers d y.numbers → IndexIsNew n y) (some_is _ i o.2)
-      (λ c. let s = cells_then_room d Int x [] depth (size_of_replicator (replicator line (length n.cells) b.0 k.0) no_size) n m.0 o.0 m.1 o.1 c in
+      (λ c. let s = cells_then_room d Int x [] depth (size_of_replicator (replicator line (length n.cells) b.0 k.0) no_size) n m.0 o.0 m.1 o.1 (since d n o.0 c) in
       let l = s.1 in
       record { kept_in = λ u q. is_false (u.writes (length n.cells)) q; avoids = (tt, tt); later_cells = omega (arith, l) })
 
@@ -219,7 +219,7 @@ module _ (d : Declared) where
     performs_has (replicates_sequence {sc = sc} {line = line} {depth = depth} {n = n} {m = m} {l = l} {r = r} {i = i} {t = t} o x u) h c =
         let q = roomy sc depth (Sizes.node no_size) n m o h in
         let b = covers_before d i.numbers l (unfolding_steps Grown growing processes_grown u) c in
-        let k = indexed_opens d (names_of sc) (length m.cells) (named sc m q) line (depth + 1) r m i x b in
+        let k = indexed_opens d (names_of sc) (length m.cells) (named sc m q) line (depth + 1) r m i x (since d m i.numbers b) in
         let g = index_is_new (names_of sc) line (depth + 1) r m i x b in (
           k.0,
           g.kept_in (uses_of t) (unfolding_avoids (length m.cells) u (index_avoids sc m i q g) g.later_cells),
@@ -284,10 +284,10 @@ module _ (d : Declared) where
     offers_have (nests_arms u) h c = arms_have u h c
     offers_have (replicates_arm u) h c = each_arm_has u h c
 
-    each_arm_has : {sc : Procedures} {line depth : ℕ} {n m : Numbers} {r : L.Replicator} {a : Node arm} {arms : Arms} → EachArm sc line depth n r a arms m → In sc n → Covers d m → ArmsHave d arms
+    pub each_arm_has : {sc : Procedures} {line depth : ℕ} {n m : Numbers} {r : L.Replicator} {a : Node arm} {arms : Arms} → EachArm sc line depth n r a arms m → In sc n → Covers d m → ArmsHave d arms
     each_arm_has (under_index {sc = sc} {line = line} {depth = depth} {n = n} {l = l} {r = r} {i = i} {arms = arms} x u) h c =
         let b = covers_before d i.numbers l (arm_steps Grown growing processes_grown u) c in
-        let k = indexed_opens d (names_of sc) (length n.cells) (named sc n h) line depth r n i x b in
+        let k = indexed_opens d (names_of sc) (length n.cells) (named sc n h) line depth r n i x (since d n i.numbers b) in
         let g = index_is_new (names_of sc) line depth r n i x b in (
           k.0,
           g.kept_in (uses_of_arms arms) (arm_avoids (length n.cells) u (index_avoids sc n i h g) g.later_cells),
@@ -295,7 +295,7 @@ module _ (d : Declared) where
           tt,
         )
 
-    arms_have : {sc : Procedures} {depth : ℕ} {n m : Numbers} {xs : Nodes arm} {arms : Arms} → AllArms sc depth n xs arms m → In sc n → Covers d m → ArmsHave d arms
+    pub arms_have : {sc : Procedures} {depth : ℕ} {n m : Numbers} {xs : Nodes arm} {arms : Arms} → AllArms sc depth n xs arms m → In sc n → Covers d m → ArmsHave d arms
     arms_have no_arm h c = tt
     arms_have (one_arm {sc = sc} {n = n} {m = m} {l = l} {arms = arms} {others = others} u us) h c =
         arms_then_have arms others (arm_has u h (covers_before d m l (arms_steps Grown growing processes_grown us) c)) (arms_have us (later sc n m (arm_steps Grown growing processes_grown u) h) c)
@@ -314,7 +314,7 @@ module _ (d : Declared) where
     each_choice_has : {sc : Procedures} {line depth : ℕ} {n m : Numbers} {r : L.Replicator} {x : Node choice} {choices : Choices} → EachChoice sc line depth n r x choices m → In sc n → Covers d m → ChoicesHave d choices
     each_choice_has (under_choice_index {sc = sc} {line = line} {depth = depth} {n = n} {l = l} {r = r} {i = i} {choices = choices} x u) h c =
         let b = covers_before d i.numbers l (choice_steps Grown growing processes_grown u) c in
-        let k = indexed_opens d (names_of sc) (length n.cells) (named sc n h) line depth r n i x b in
+        let k = indexed_opens d (names_of sc) (length n.cells) (named sc n h) line depth r n i x (since d n i.numbers b) in
         let g = index_is_new (names_of sc) line depth r n i x b in (
           k.0,
           g.kept_in (uses_of_choices choices) (choice_avoids (length n.cells) u (index_avoids sc n i h g) g.later_cells),

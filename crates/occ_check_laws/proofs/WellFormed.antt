@@ -21,7 +21,7 @@ use Rattle.occ_check_meaning.proofs.Steps.{bind_some, some_is}
 use Rattle.occ_check_laws.proofs.Counting.{kept, both_true}
 use Rattle.occ_check_laws.proofs.Scopes.{EachPair, each_within}
 use Rattle.occ_check_laws.proofs.Growth.{growing, processes_grown, program_grown, start_limits}
-use Rattle.occ_check_laws.proofs.Covering.{Covers, covers_before, in_span}
+use Rattle.occ_check_laws.proofs.Covering.{Covers, since, covers_before, in_span}
 use Rattle.occ_check_laws.proofs.Stepping.{opening_steps, item_steps, items_steps}
 use Rattle.occ_check_laws.proofs.TreeSteps.{unfolding_steps}
 use Rattle.occ_check_laws.proofs.Numbering.{program_numbered}
@@ -56,7 +56,7 @@ module _ (d : Declared) where
   pub items_have : {sc : Procedures} {depth : ℕ} {n : Numbers} {is : List Item} {e : Entered Procedure} → DeclareItems sc depth n is e → In d sc n → Covers d e.numbers → In d e.scope e.numbers × DeclarationsHave d e.heads
   items_have no_item h c = (h, tt)
   items_have (one_item {n = n} {a = a} {b = b} x y) h c =
-      let k = item_has d x h (item_steps Grown growing x) (covers_before d a.numbers b.numbers (items_steps Grown growing y) c) in
+      let k = item_has d x h (item_steps Grown growing x) (since d n a.numbers (covers_before d a.numbers b.numbers (items_steps Grown growing y) c)) in
       let q = items_have y k.0 c in
       (q.0, declarations_joined d a.heads b.heads k.1 q.1)
 

@@ -79,7 +79,7 @@ module _ (c : ℕ) where
   index_avoids None part all h g = g
   index_avoids (Some i) part all h g = h i refl
 
-  part_avoids : (subs : Subscripts) (first : ℕ) (sizes : List ℕ) (all : Span) → Not (numbers_in (span first (product sizes)) c) → Not (numbers_in all c) → Not (numbers_in (part_named subs first sizes all) c)
+  pub part_avoids : (subs : Subscripts) (first : ℕ) (sizes : List ℕ) (all : Span) → Not (numbers_in (span first (product sizes)) c) → Not (numbers_in all c) → Not (numbers_in (part_named subs first sizes all) c)
   part_avoids no_subscripts first sizes all h g = h
   part_avoids (then_subscript e es) first [] all h g = g
   part_avoids (then_subscript e es) first (n ∷ ns) all h g =

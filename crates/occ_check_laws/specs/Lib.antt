@@ -3,3 +3,4 @@ pub mod Having
 pub mod Numbering
 pub mod Growth
 pub mod CellOrder
+pub mod Scoping
