@@ -18,3 +18,5 @@ pub mod OrderedNames
 pub mod OrderedTree
 pub mod OrderedProgram
 pub mod Tags
+pub mod Reading
+pub mod Heads
