@@ -20,3 +20,4 @@ pub mod OrderedProgram
 pub mod Tags
 pub mod Reading
 pub mod Heads
+pub mod ScopedArms
