@@ -21,3 +21,4 @@ pub mod Tags
 pub mod Reading
 pub mod Heads
 pub mod ScopedArms
+pub mod ScopedTree

@@ -24,10 +24,10 @@ use Rattle.occ_check_laws.proofs.OrderedNames.{heads_in_order}
 use Rattle.occ_check_laws.proofs.OrderedTree.{Takes, the_same, both, opening_begins, headed_cells, item_takes, unfolding_takes}
 
 -- what these numbers declare
-declared_by : Numbers → Declared
+pub declared_by : Numbers → Declared
 declared_by m = record { types = λ c. slice_get (map (λ x. x.primitive) m.cells) c; protocols = λ c. slice_get (map (λ x. x.protocol) m.channels) c }
 
-covered : (m : Numbers) → Covers (declared_by m) m
+pub covered : (m : Numbers) → Covers (declared_by m) m
 unfolding declared_by
 covered m = record { cells = λ c x e. mapped_get (λ y. y.primitive) m.cells c x e; channels = λ c x e. mapped_get (λ y. y.protocol) m.channels c x e }
 

@@ -15,6 +15,7 @@ ghost use Rattle.occ_check_meaning.specs.Expressions.{Typed, typed};
 ghost use Rattle.occ_check_laws.specs.Growth.{Grown, IsWithinLimits};
 ghost use Rattle.occ_check_laws.specs.Having.{NamesHave, TypedHas};
 ghost use Rattle.occ_check_laws.specs.Numbering.{NumberedUpTo};
+ghost use Rattle.occ_check_laws.specs.Scoping.{EachAlt, IsScoped, SetsTheSameAgain};
 ghost use Rattle.occ_check_meaning.specs.Numbers.{Numbers, at_start};
 ghost use Rattle.occ_check_meaning.specs.ProgramUnfolding.{ProgramUnfolding, UnfoldsTo};
 ghost use Rattle.occ_check_meaning.specs.Scope.{Names};
@@ -51,4 +52,14 @@ pub fn unfoldings_are_well_formed()
 /// The cells that a program's term declares, read from left to right, are all its cells, from 0 on in order and none twice.
 pub fn cells_in_order()
     ensures { (items : List Item) (t : Term) (m : Numbers) → ProgramUnfolding items t m → InOrder 0 (cells_in t) (length m.cells) }
+{}
+
+/// Within each ALT, what stands before an arm sets nothing that is set round it, and a declaration reads no cell of another arm.
+pub fn alternatives_are_scoped()
+    ensures { (items : List Item) (t : Term) (m : Numbers) → ProgramUnfolding items t m → EachAlt IsScoped t }
+{}
+
+/// In each ALT the arm that is taken sets its indices and declarations again to what they were when the arm was found open.
+pub fn arms_set_the_same_again()
+    ensures { (items : List Item) (t : Term) (m : Numbers) → ProgramUnfolding items t m → EachAlt SetsTheSameAgain t }
 {}
