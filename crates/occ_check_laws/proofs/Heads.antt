@@ -1,10 +1,10 @@
 -- The Clears and Locals of declarations, one after the other: what they set is new, and what they read is in scope.
-use Rattle.std.proofs.Common.{◌≡◌, ◌≤◌, ◌<◌, ℕ, zero, suc, ◌+◌, List, [], ◌∷◌, ◌++◌, length, Bool, true, false, Option, Some, None, IsTrue, refl, sym, subst, ap, arith}
+use Rattle.std.proofs.Common.{◌≡◌, ◌≤◌, ◌<◌, ℕ, zero, suc, ◌+◌, List, [], ◌∷◌, ◌++◌, length, Bool, true, false, Option, Some, None, IsTrue, refl, sym, subst, arith}
 use Rattle.std.proofs.lemmas.Bool.{le-leb, lt-ltb, ltb-true, ltb-false, eqb-true}
-use Rattle.std.specs.Prelude.{ℤ, nat_eq, nat_le, nat_lt, slice_get, ⊤, ◌||◌, ◌&&◌, if◌then◌else◌}
-use Rattle.occ_tree_grammar.specs.Expressions.Trees.{Expression, Expressions}
+use Rattle.std.specs.Prelude.{ℤ, nat_eq, nat_lt, slice_get, ⊤, ◌||◌, if◌then◌else◌}
+use Rattle.occ_tree_grammar.specs.Expressions.Trees.{Expressions}
 use Rattle.occ_tree_grammar.specs.Lines.Trees as L
-use Rattle.occ_tree_grammar.specs.Processes.Trees.{Decls, Decl, Item}
+use Rattle.occ_tree_grammar.specs.Processes.Trees.{Decl, Item}
 use Rattle.occ_term.specs.declared.names.Cell.{Cell}
 use Rattle.occ_term.specs.declared.primitive.Primitive.{Primitive}
 use Rattle.occ_term.specs.Messages.{product, simple_part}
@@ -23,7 +23,7 @@ use Rattle.occ_check_meaning.specs.Constants.{constant}
 use Rattle.occ_check_meaning.specs.Operators.{primitive_of}
 use Rattle.occ_check_meaning.specs.Expressions.{Typed, single, whole, typed}
 use Rattle.occ_check_meaning.specs.Types.{sizes_of, carried_of, protocol_of}
-use Rattle.occ_check_meaning.specs.Declarations.{Opened, variable_declared, channel_declared, each_declared, names_declared, local_of, value_named, array_named, named, of_value_type, value_declared, protocol_declared}
+use Rattle.occ_check_meaning.specs.Declarations.{Opened, variable_declared, channel_declared, each_declared, names_declared, local_of, value_named, array_named, named, of_value_type}
 use Rattle.occ_check_meaning.specs.Actions.{arms_behind, arms_then}
 use Rattle.occ_check_meaning.specs.Performing.{Entered}
 use Rattle.occ_check_meaning.specs.Unfolding.{Procedure, Procedures, DeclaresItem, declares_value, declares_protocol, declares_procedure, Declares, declares_names, declares_item}
@@ -34,7 +34,6 @@ use Rattle.occ_check_laws.proofs.Covering.{CoversSince, in_span}
 use Rattle.occ_check_laws.proofs.TypedExpressions.{typed_has, and_true}
 use Rattle.occ_check_laws.proofs.TypedLines.{All}
 use Rattle.occ_check_laws.proofs.TypedNames.{of_value_has}
-use Rattle.occ_check_laws.proofs.TypedTree.{In, have}
 use Rattle.occ_check_laws.proofs.Writes.{Not}
 use Rattle.occ_check_laws.proofs.Reading.{hidden, nothing_there, item_unread}
 
@@ -131,8 +130,8 @@ heads_scoped all (h ∷ hs) round n m o b r =
       r.0,
       λ c w q. let l = b c q in let g = (s.2 c (written h c w)).0 in omega (arith, l, g),
       heads_scoped all hs (union round (uses_of_declaration h).writes) s.0 m s.1
-      (λ j q. either (round j) ((uses_of_declaration h).writes j) (λ x. let l = b j x in let e = s.4 in omega (arith, l, e)) (λ w. (s.2 j (written h j w)).1) q)
-      (more hs r.1),
+          (λ j q. either (round j) ((uses_of_declaration h).writes j) (λ x. let l = b j x in let e = s.4 in omega (arith, l, e)) (λ w. (s.2 j (written h j w)).1) q)
+          (more hs r.1),
     )
   where
     more : (gs : List Declaration) → All (λ g. (c : ℕ) → IsTrue ((uses_of_declaration g).reads c) → IsTrue (all c) → IsTrue (round c)) gs

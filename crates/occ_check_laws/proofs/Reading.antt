@@ -10,8 +10,8 @@ use Rattle.occ_term.specs.Messages.{product, simple_part}
 use Rattle.occ_term.specs.Terms as T
 use Rattle.occ_term.specs.Terms.{Constant, Component, Letter, Binary, Unary, And, Or, Conversion, place, Subscripts, no_subscripts, then_subscript, Array, Cells, Text, Item, OfOne, OfMany, OfCounted}
 use Rattle.occ_term.specs.Values.{span}
-use Rattle.occ_term.specs.Uses.{numbers_in, named_by, part_named, reads_of, reads_in_place, reads_in_subscripts, reads_of_array, reads_of_item}
-use Rattle.occ_term.specs.Typing.{CellsHave, HasType, PlaceHas, SubscriptsLeave, ArrayHas, ItemHas}
+use Rattle.occ_term.specs.Uses.{numbers_in, part_named, reads_of, reads_in_subscripts, reads_of_array, reads_of_item}
+use Rattle.occ_term.specs.Typing.{CellsHave, HasType, SubscriptsLeave, ArrayHas, ItemHas}
 use Rattle.occ_term.specs.TermTyping.{Declared}
 use Rattle.occ_check_laws.proofs.Covering.{either_false}
 use Rattle.occ_check_laws.proofs.Writes.{Not, part_avoids}

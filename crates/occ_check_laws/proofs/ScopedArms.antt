@@ -19,10 +19,10 @@ use Rattle.occ_check_meaning.specs.Performing.{Entered}
 use Rattle.occ_check_meaning.specs.Declarations.{Indexed, indexed}
 use Rattle.occ_check_meaning.specs.Unfolding.{Procedure, Procedures, Declares, DeclareAll, no_declaration, one_declaration, Arm, behind_arm, Offers, awaits, is_ready, awaits_variants, nests_arms, replicates_arm, EachArm, under_index, AllArms, no_arm, one_arm}
 use Rattle.occ_check_laws.specs.Growth.{Grown}
-use Rattle.occ_check_laws.specs.CellOrder.{cells_of, cells_of_all, index_cell, cells_in, cells_in_arms, cells_in_reception, InOrder}
+use Rattle.occ_check_laws.specs.CellOrder.{cells_of, index_cell, cells_in, cells_in_arms, cells_in_reception, InOrder}
 use Rattle.occ_check_laws.specs.Scoping.{IsScoped}
 use Rattle.occ_check_laws.proofs.Growth.{growing, processes_grown}
-use Rattle.occ_check_laws.proofs.Covering.{Covers, CoversSince, since, covers_before, fewer_before, in_span}
+use Rattle.occ_check_laws.proofs.Covering.{Covers, since, covers_before, fewer_before, in_span}
 use Rattle.occ_check_laws.proofs.Stepping.{indexed_steps, one_declared_steps, declared_steps}
 use Rattle.occ_check_laws.proofs.TreeSteps.{offers_steps, each_arm_steps, arm_steps, arms_steps}
 use Rattle.occ_check_laws.proofs.TypedLines.{All}
@@ -60,11 +60,11 @@ module _ (d : Declared) (all : Uses.Numbers) (first : ℕ) (after : (c : ℕ) �
   one_round {sc = sc} {n = n} {e = e} round y h g c x =
       let t = one_takes d y h in (
         heads_scoped all e.heads round (length n.cells) (length e.numbers.cells) t x.before
-        (read e.heads (at_once (λ k. (first ≤ k) × Not (round k)) e.heads (λ k q. heads_unread k d y (have (hidden k d) sc n (x.unseen k q.0 q.1))))),
+            (read e.heads (at_once (λ k. (first ≤ k) × Not (round k)) e.heads (λ k q. heads_unread k d y (have (hidden k d) sc n (x.unseen k q.0 q.1))))),
         record {
           before = set_below e.heads round (length n.cells) (length e.numbers.cells) t x.before;
           unseen = λ k l q. (one_has (hidden k d) y (x.unseen k l (λ m. q (set_before e.heads round k m))) g
-          (hidden_since k d n e.numbers (since d n e.numbers c) (λ a b. q (set_between e.heads round (length n.cells) (length e.numbers.cells) t k a b)))).0;
+              (hidden_since k d n e.numbers (since d n e.numbers c) (λ a b. q (set_between e.heads round (length n.cells) (length e.numbers.cells) t k a b)))).0;
         },
       )
     where
@@ -99,10 +99,10 @@ module _ (d : Declared) (all : Uses.Numbers) (first : ℕ) (after : (c : ℕ) �
         record {
           before = λ k m. below k t.0 t.1 (round k) (x.before k) m;
           unseen = λ k l q.
-          let p = x.unseen k l (λ m. q (first_one (round k) (only (index_of i.replicator) k) m)) in
-          let o = indexed_opens (hidden k d) (names_of sc) (length n.cells) (named (hidden k d) sc n p) line depth r n i e
-          (hidden_since k d n i.numbers (since d n i.numbers c) (λ a b. q (other_one (round k) (only (index_of i.replicator) k) (same (index_of i.replicator) k (let y = t.0 in let z = t.1 in omega (arith, a, b, y, z)))))) in
-          within_index (hidden k d) sc n i p g o.1;
+              let p = x.unseen k l (λ m. q (first_one (round k) (only (index_of i.replicator) k) m)) in
+              let o = indexed_opens (hidden k d) (names_of sc) (length n.cells) (named (hidden k d) sc n p) line depth r n i e
+              (hidden_since k d n i.numbers (since d n i.numbers c) (λ a b. q (other_one (round k) (only (index_of i.replicator) k) (same (index_of i.replicator) k (let y = t.0 in let z = t.1 in omega (arith, a, b, y, z)))))) in
+              within_index (hidden k d) sc n i p g o.1;
         },
       )
     where

@@ -1,14 +1,13 @@
 -- What holds of each ALT's arms as they unfold, where they are scoped and of their types, holds of each ALT of a whole term.
-use Rattle.std.proofs.Common.{◌≡◌, ℕ, ◌+◌, List, [], ◌∷◌, ◌++◌, length, Some, refl, sym, subst, ap, ◌∙◌, arith}
+use Rattle.std.proofs.Common.{◌≡◌, ℕ, ◌+◌, List, [], ◌∷◌, length, Some, subst, arith}
 use Rattle.std.specs.Prelude.{ℤ, map}
 use Rattle.occ_tree_grammar.specs.Lines.Trees as L
 use Rattle.occ_tree_grammar.specs.Lines.Heads.{ProcessHead, ArmHead, ChoiceHead}
-use Rattle.occ_tree_grammar.specs.Processes.Trees.{process, choice, option, arm, variant, under, Node, Body, Nodes, Decls, Decl, Item}
+use Rattle.occ_tree_grammar.specs.Processes.Trees.{process, choice, option, arm, variant, under, Node, Body, Nodes, Decls, Item}
 use Rattle.occ_tree_grammar.specs.Expressions.Trees.{Expression}
 use Rattle.occ_term.specs.declared.primitive.Primitive.{Primitive}
 use Rattle.occ_term.specs.declared.protocol.Protocol.{Protocol}
-use Rattle.occ_term.specs.Terms as T
-use Rattle.occ_term.specs.Terms.{Term, Terms, Branches, Arms, no_arms, skip_arm, input_arm, declared_arms, each_arm, Choices, no_choices, or_choice, declared_choices, each_choice, Variants, no_variants, or_variant, Options, no_options, or_option, or_else, Declaration, Clearing, Naming, Place, replicator}
+use Rattle.occ_term.specs.Terms.{Term, Terms, Branches, Arms, no_arms, skip_arm, input_arm, declared_arms, each_arm, Choices, no_choices, or_choice, declared_choices, each_choice, Variants, no_variants, or_variant, Options, no_options, or_option, or_else, Declaration, Clearing, Naming, Place}
 use Rattle.occ_term.specs.Sizes as Sizes
 use Rattle.occ_term.specs.Sizes.{Size, no_size, size_of, size_of_expression, size_of_test, size_of_place, size_of_targets, size_of_constants, size_of_replicator}
 use Rattle.occ_term.specs.TypedSteps.{IndicesHave}
@@ -21,24 +20,21 @@ use Rattle.occ_check_meaning.specs.Declarations.{index_of}
 use Rattle.occ_check_meaning.specs.Actions.{opening, headed, followed, as_term, Listed, plain_list, tagged_list, as_reception, size_of_list, arms_behind, choices_behind, arms_then, choices_then, variants_then, options_then, with_tags, selector, Chosen}
 use Rattle.occ_check_laws.specs.Growth.{Grown}
 use Rattle.occ_check_meaning.specs.Performing.{Entered}
-use Rattle.occ_check_meaning.specs.Unfolding.{Procedure, procedure, Procedures, DeclaresItem, declares_value, declares_protocol, declares_procedure, Declares, declares_names, declares_item, DeclareAll, no_declaration, one_declaration, Unfolding, unfolds, Performs, skips, stops, assigns, inputs, outputs, calls, takes_variants, sequences, replicates_sequence, runs_beside, replicates_branch, alternates, replicates_alternation, conditions, replicates_conditional, selects, loops, InTurn, no_process, one_process, Beside, no_branch, one_branch, Copies, no_copy, one_copy, Arm, behind_arm, Offers, awaits, is_ready, awaits_variants, nests_arms, replicates_arm, EachArm, under_index, AllArms, no_arm, one_arm, Choice, behind_choice, Tests, tests, nests_choices, replicates_choice, EachChoice, under_choice_index, AllChoices, no_choice, one_choice, Variant, takes, AllVariants, no_variant, one_variant, OneOption, is_one_of, is_none_of, AllOptions, no_option, one_option}
+use Rattle.occ_check_meaning.specs.Unfolding.{Procedure, procedure, Procedures, DeclareAll, Unfolding, unfolds, Performs, skips, stops, assigns, inputs, outputs, calls, takes_variants, sequences, replicates_sequence, runs_beside, replicates_branch, alternates, replicates_alternation, conditions, replicates_conditional, selects, loops, InTurn, no_process, one_process, Beside, no_branch, one_branch, Copies, no_copy, one_copy, Arm, behind_arm, Offers, awaits, is_ready, awaits_variants, nests_arms, replicates_arm, EachArm, under_index, AllArms, no_arm, one_arm, Choice, behind_choice, Tests, tests, nests_choices, replicates_choice, EachChoice, under_choice_index, AllChoices, no_choice, one_choice, Variant, takes, AllVariants, no_variant, one_variant, OneOption, is_one_of, is_none_of, AllOptions, no_option, one_option}
 use Rattle.occ_check_meaning.proofs.Steps.{bind_some, some_is}
-use Rattle.occ_check_laws.proofs.Counting.{kept}
 use Rattle.occ_check_laws.proofs.Scopes.{each_within, each_behind}
 use Rattle.occ_check_laws.proofs.Growth.{growing, processes_grown}
 use Rattle.occ_check_laws.proofs.Covering.{Covers, since, covers_before}
-use Rattle.occ_check_laws.proofs.Stepping.{bound_steps, indexed_steps, opening_steps, one_declared_steps, declared_steps}
-use Rattle.occ_check_laws.proofs.TreeSteps.{unfolding_steps, performs_steps, in_turn_steps, beside_steps, copies_steps, arm_steps, offers_steps, arms_steps, choice_steps, tests_steps, choices_steps, variant_steps, variants_steps, option_steps, options_steps}
+use Rattle.occ_check_laws.proofs.Stepping.{bound_steps, indexed_steps, opening_steps, declared_steps}
+use Rattle.occ_check_laws.proofs.TreeSteps.{unfolding_steps, in_turn_steps, beside_steps, copies_steps, arm_steps, arms_steps, choice_steps, choices_steps, variant_steps, variants_steps, option_steps, options_steps}
 use Rattle.occ_check_laws.proofs.TypedNames.{Fits, bound_opens, indexed_opens}
 use Rattle.occ_term.specs.Terms.{Place}
 use Rattle.occ_check_meaning.specs.Actions.{as_input}
-use Rattle.occ_term.specs.Values.{Span}
 use Rattle.occ_check_meaning.specs.Items.{variable_of, sent, apart, assigned_items}
 use Rattle.occ_check_meaning.specs.Actions as A
 use Rattle.occ_check_meaning.specs.Actions.{assigned}
-use Rattle.occ_check_meaning.specs.Numbers.{more_processes}
 use Rattle.occ_check_laws.proofs.Copies.{copies_typed, first_typed, next_typed}
-use Rattle.occ_check_laws.proofs.TypedTree.{In, named, have, later, roomy, one_has, all_have, within_index}
+use Rattle.occ_check_laws.proofs.TypedTree.{named, have, later, all_have, within_index}
 use Rattle.occ_term.specs.TermTyping.{ArmsHave}
 use Rattle.occ_term.proofs.AgainSame.{same_again}
 use Rattle.occ_check_meaning.specs.Numbers.{at_start}
