@@ -1,0 +1,1 @@
+autocmd BufNewFile,BufRead *.occ setfiletype occam
