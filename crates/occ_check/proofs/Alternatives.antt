@@ -1,5 +1,5 @@
 -- The arms of an ALT, one after the other, and behind declarations.
-use Rattle.std.proofs.Common.{◌≡◌, ◌∙◌, ◌+◌, ℕ, List, [], ◌∷◌, ◌++◌, Option, Some, None, refl, ap, sym, map}
+use Rattle.std.proofs.Common.{◌≡◌, ◌∙◌, ◌+◌, ℕ, length, List, [], ◌∷◌, ◌++◌, Option, Some, None, refl, ap, sym, map}
 use Rattle.std.proofs.lemmas.List.{map-append}
 use Rattle.occ_tree_grammar.specs.Many.{◌>>=◌}
 use Rattle.occ_term.specs.declared.expression.Declaration.{Declaration}
@@ -15,7 +15,7 @@ use Rattle.occ_term.specs.declared.term.Arm.TheOpen.{Arm-F}
 use Rattle.occ_term.specs.declared.term.Arm.TheFolds.{fold_out-Arm}
 use Rattle.occ_check_meaning.specs.Actions.{Listed, arms_behind, arms_then, as_reception, depth_behind, received, size_of_list, test_of, with_tags}
 use Rattle.occ_check_meaning.specs.Items.{channel_of}
-use Rattle.occ_check_meaning.specs.Numbers.{Numbers, room}
+use Rattle.occ_check_meaning.specs.Numbers.{Numbers, deeper, room}
 use Rattle.occ_tree_grammar.specs.Expressions.Trees.{Expression}
 use Rattle.occ_tree_grammar.specs.Lines.Heads.{on_input, on_skip}
 use Rattle.occ_tree_grammar.specs.Lines.Trees as L
@@ -122,17 +122,27 @@ module _ (c : Arm) (sc : Scope Calling) (depth : ℕ) (n : Numbers) (ds : Decls)
   whole = behind_arm c sc depth n ∙ ap (λ d. arms_under (all_declared d) (listening c) sc depth n) (sym is)
 
   pub arm_not_declared : all_declared ds sc depth n ≡ None → arm_unfolded (trees.arm_of c) sc depth n ≡ None
-  arm_not_declared e = whole ∙ ap (λ r. r >>= λ d. listening c d.scope depth d.numbers >>= λ x. Some (arms_behind d.heads x.0, x.1)) e
+  arm_not_declared e = whole ∙ ap (λ r. r >>= λ d. deeper depth (length d.heads) >>= λ deep. listening c d.scope deep d.numbers >>= λ x. Some (arms_behind d.heads x.0, x.1)) e
 
-  module _ (inside : Scope Calling) (heads : List T.Declaration) (m : Numbers) (done : all_declared ds sc depth n ≡ Some (entered inside heads m)) where
-    behind_heads : arm_unfolded (trees.arm_of c) sc depth n ≡ (listening c inside depth m >>= λ x. Some (arms_behind heads x.0, x.1))
-    behind_heads = whole ∙ ap (λ r. r >>= λ d. listening c d.scope depth d.numbers >>= λ x. Some (arms_behind d.heads x.0, x.1)) done
+  module _ (inside : Scope Calling) (heads : List T.Declaration) (m : Numbers) (done : all_declared ds sc depth n ≡ Some (entered inside heads m)) (levels : ℕ) (so_many : levels ≡ length heads) where
+    behind_heads : arm_unfolded (trees.arm_of c) sc depth n ≡ (deeper depth levels >>= λ deep. listening c inside deep m >>= λ x. Some (arms_behind heads x.0, x.1))
+    behind_heads =
+        whole
+        ∙ ap (λ r. r >>= λ d. deeper depth (length d.heads) >>= λ deep. listening c d.scope deep d.numbers >>= λ x. Some (arms_behind d.heads x.0, x.1)) done
+        ∙ ap (λ k. deeper depth k >>= λ deep. listening c inside deep m >>= λ x. Some (arms_behind heads x.0, x.1)) (sym so_many)
 
-    pub arm_refused : listening c inside depth m ≡ None → arm_unfolded (trees.arm_of c) sc depth n ≡ None
-    arm_refused e = behind_heads ∙ ap (λ r. r >>= λ x. Some (arms_behind heads x.0, x.1)) e
+    pub arm_too_deep : deeper depth levels ≡ None → arm_unfolded (trees.arm_of c) sc depth n ≡ None
+    arm_too_deep e = behind_heads ∙ ap (λ r. r >>= λ deep. listening c inside deep m >>= λ x. Some (arms_behind heads x.0, x.1)) e
 
-    pub arm_done : (cs : Arms) (l : Numbers) → listening c inside depth m ≡ Some (cs, l) → arm_unfolded (trees.arm_of c) sc depth n ≡ Some (arms_behind heads cs, l)
-    arm_done cs l e = behind_heads ∙ ap (λ r. r >>= λ x. Some (arms_behind heads x.0, x.1)) e
+    module _ (deep : ℕ) (there : deeper depth levels ≡ Some deep) where
+      behind_levels : arm_unfolded (trees.arm_of c) sc depth n ≡ (listening c inside deep m >>= λ x. Some (arms_behind heads x.0, x.1))
+      behind_levels = behind_heads ∙ ap (λ r. r >>= λ deep. listening c inside deep m >>= λ x. Some (arms_behind heads x.0, x.1)) there
+
+      pub arm_refused : listening c inside deep m ≡ None → arm_unfolded (trees.arm_of c) sc depth n ≡ None
+      arm_refused e = behind_levels ∙ ap (λ r. r >>= λ x. Some (arms_behind heads x.0, x.1)) e
+
+      pub arm_done : (cs : Arms) (l : Numbers) → listening c inside deep m ≡ Some (cs, l) → arm_unfolded (trees.arm_of c) sc depth n ≡ Some (arms_behind heads cs, l)
+      arm_done cs l e = behind_levels ∙ ap (λ r. r >>= λ x. Some (arms_behind heads x.0, x.1)) e
 
 -- ---- an arm by its guard
 

@@ -1,5 +1,5 @@
 -- The choices of an IF, one after the other, and behind declarations.
-use Rattle.std.proofs.Common.{◌≡◌, ◌∙◌, ◌+◌, ℕ, List, [], ◌∷◌, ◌++◌, Option, Some, None, refl, ap, sym, map}
+use Rattle.std.proofs.Common.{◌≡◌, ◌∙◌, ◌+◌, ℕ, length, List, [], ◌∷◌, ◌++◌, Option, Some, None, refl, ap, sym, map}
 use Rattle.std.proofs.lemmas.List.{map-append}
 use Rattle.occ_tree_grammar.specs.Many.{◌>>=◌}
 use Rattle.occ_term.specs.declared.expression.Declaration.{Declaration}
@@ -15,7 +15,7 @@ use Rattle.occ_term.specs.declared.term.Choice.{Choice as TermChoice}
 use Rattle.occ_term.specs.declared.term.Arm.TheOpen.{Choice-F}
 use Rattle.occ_term.specs.declared.term.Arm.TheFolds.{fold_out-Choice}
 use Rattle.occ_check_meaning.specs.Actions.{choices_behind, choices_then}
-use Rattle.occ_check_meaning.specs.Numbers.{Numbers, room}
+use Rattle.occ_check_meaning.specs.Numbers.{Numbers, deeper, room}
 use Rattle.occ_tree_grammar.specs.Expressions.Trees.{Expression}
 use Rattle.occ_tree_grammar.specs.Processes.Trees.{Decls}
 use Rattle.occ_term.specs.Sizes as Sizes
@@ -117,17 +117,27 @@ module _ (c : Choice) (sc : Scope Calling) (depth : ℕ) (n : Numbers) (ds : Dec
   whole = behind_choice c sc depth n ∙ ap (λ d. choices_under (all_declared d) (choosing c) sc depth n) (sym is)
 
   pub choice_not_declared : all_declared ds sc depth n ≡ None → choice_unfolded (trees.choice_of c) sc depth n ≡ None
-  choice_not_declared e = whole ∙ ap (λ r. r >>= λ d. choosing c d.scope depth d.numbers >>= λ x. Some (choices_behind d.heads x.0, x.1)) e
+  choice_not_declared e = whole ∙ ap (λ r. r >>= λ d. deeper depth (length d.heads) >>= λ deep. choosing c d.scope deep d.numbers >>= λ x. Some (choices_behind d.heads x.0, x.1)) e
 
-  module _ (inside : Scope Calling) (heads : List T.Declaration) (m : Numbers) (done : all_declared ds sc depth n ≡ Some (entered inside heads m)) where
-    behind_heads : choice_unfolded (trees.choice_of c) sc depth n ≡ (choosing c inside depth m >>= λ x. Some (choices_behind heads x.0, x.1))
-    behind_heads = whole ∙ ap (λ r. r >>= λ d. choosing c d.scope depth d.numbers >>= λ x. Some (choices_behind d.heads x.0, x.1)) done
+  module _ (inside : Scope Calling) (heads : List T.Declaration) (m : Numbers) (done : all_declared ds sc depth n ≡ Some (entered inside heads m)) (levels : ℕ) (so_many : levels ≡ length heads) where
+    behind_heads : choice_unfolded (trees.choice_of c) sc depth n ≡ (deeper depth levels >>= λ deep. choosing c inside deep m >>= λ x. Some (choices_behind heads x.0, x.1))
+    behind_heads =
+        whole
+        ∙ ap (λ r. r >>= λ d. deeper depth (length d.heads) >>= λ deep. choosing c d.scope deep d.numbers >>= λ x. Some (choices_behind d.heads x.0, x.1)) done
+        ∙ ap (λ k. deeper depth k >>= λ deep. choosing c inside deep m >>= λ x. Some (choices_behind heads x.0, x.1)) (sym so_many)
 
-    pub choice_refused : choosing c inside depth m ≡ None → choice_unfolded (trees.choice_of c) sc depth n ≡ None
-    choice_refused e = behind_heads ∙ ap (λ r. r >>= λ x. Some (choices_behind heads x.0, x.1)) e
+    pub choice_too_deep : deeper depth levels ≡ None → choice_unfolded (trees.choice_of c) sc depth n ≡ None
+    choice_too_deep e = behind_heads ∙ ap (λ r. r >>= λ deep. choosing c inside deep m >>= λ x. Some (choices_behind heads x.0, x.1)) e
 
-    pub choice_done : (cs : Choices) (l : Numbers) → choosing c inside depth m ≡ Some (cs, l) → choice_unfolded (trees.choice_of c) sc depth n ≡ Some (choices_behind heads cs, l)
-    choice_done cs l e = behind_heads ∙ ap (λ r. r >>= λ x. Some (choices_behind heads x.0, x.1)) e
+    module _ (deep : ℕ) (there : deeper depth levels ≡ Some deep) where
+      behind_levels : choice_unfolded (trees.choice_of c) sc depth n ≡ (choosing c inside deep m >>= λ x. Some (choices_behind heads x.0, x.1))
+      behind_levels = behind_heads ∙ ap (λ r. r >>= λ deep. choosing c inside deep m >>= λ x. Some (choices_behind heads x.0, x.1)) there
+
+      pub choice_refused : choosing c inside deep m ≡ None → choice_unfolded (trees.choice_of c) sc depth n ≡ None
+      choice_refused e = behind_levels ∙ ap (λ r. r >>= λ x. Some (choices_behind heads x.0, x.1)) e
+
+      pub choice_done : (cs : Choices) (l : Numbers) → choosing c inside deep m ≡ Some (cs, l) → choice_unfolded (trees.choice_of c) sc depth n ≡ Some (choices_behind heads cs, l)
+      choice_done cs l e = behind_levels ∙ ap (λ r. r >>= λ x. Some (choices_behind heads x.0, x.1)) e
 
 module _ (line : ℕ) (e : Expression) (body : Under T.Term) (sc : Scope Calling) (depth : ℕ) (n : Numbers) where
   as_or_choice : T.Expression → T.Term × Numbers → Option (Choices × Numbers)

@@ -12,6 +12,7 @@ pub mod Scoping
 pub mod Gathering
 pub mod Rows
 pub mod Naming
+pub mod Nesting
 pub mod Conditionals
 pub mod Selections
 pub mod Tags

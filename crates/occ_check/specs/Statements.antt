@@ -19,7 +19,7 @@ use Rattle.occ_tree_grammar.specs.declared.tree.process.Variant.{Variant}
 use Rattle.occ_tree_grammar.specs.declared.tree.process.Variant.TheVariants as variants
 use Rattle.occ_term.specs.Terms.{Arms, Choices, Term}
 use Rattle.occ_check_meaning.specs.Actions.{none_chosen}
-use Rattle.occ_check_meaning.specs.Performing.{Under, acted, sequenced, each_sequenced, beside, copies_beside, alternated, conditioned, selected, looped, taken_by_variant, each_of_arms, each_of_choices, variants_arm}
+use Rattle.occ_check_meaning.specs.Performing.{nested, Under, acted, sequenced, each_sequenced, beside, copies_beside, alternated, conditioned, selected, looped, taken_by_variant, each_of_arms, each_of_choices, variants_arm}
 use Rattle.occ_check_meaning.specs.Performing as P
 use Rattle.occ_check_meaning.specs.Recursion.{unfolded, all_in_turn, all_beside, all_arms, arm_unfolded, all_choices, choice_unfolded, all_options, all_variants}
 
@@ -57,8 +57,8 @@ declarations_of_choice (choices.InnerIfFor' shape ds line r p c) = row_decls ds
 
 abbrev pub choosing : Choice → Under Choices
 choosing (choices.When' shape ds line e n) = P.choice_of line (expression_of e.value) (unfolded (process_of n))
-choosing (choices.InnerIf' shape ds line s cs) = all_choices (row_choices cs)
-choosing (choices.InnerIfFor' shape ds line r p c) = each_of_choices line (replicator_of r.value) (choice_unfolded (choice_of c))
+choosing (choices.InnerIf' shape ds line s cs) = nested (all_choices (row_choices cs))
+choosing (choices.InnerIfFor' shape ds line r p c) = nested (each_of_choices line (replicator_of r.value) (choice_unfolded (choice_of c)))
 
 -- ---- the arms of an ALT
 
@@ -72,8 +72,8 @@ declarations_of_arm (arms.InnerAltFor' shape ds line pri r p m) = row_decls ds
 abbrev pub listening : Arm → Under Arms
 listening (arms.Guarded' shape ds line g n) = P.arm_of line (guard_of g.value) (unfolded (process_of n))
 listening (arms.OnVariant' shape ds line g s vs) = variants_arm line (option_map expression_of g.value.condition) (var_of g.value.channel) (λ p. all_variants (row_variants vs) p [])
-listening (arms.InnerAlt' shape ds line pri s ms) = all_arms (row_arms ms)
-listening (arms.InnerAltFor' shape ds line pri r p m) = each_of_arms line (replicator_of r.value) (arm_unfolded (arm_of m))
+listening (arms.InnerAlt' shape ds line pri s ms) = nested (all_arms (row_arms ms))
+listening (arms.InnerAltFor' shape ds line pri r p m) = nested (each_of_arms line (replicator_of r.value) (arm_unfolded (arm_of m)))
 
 -- ---- the variants of an input: the parts of each
 

@@ -30,7 +30,7 @@ use crate::variants::listed_variants;
 use occ_check_acting::action::{Listed, as_reception, received, test_of, with_tags};
 use occ_check_names::fault::CheckFault;
 use occ_check_names::measuring::{count_place, count_targets, count_test};
-use occ_check_names::numbers::Numbers;
+use occ_check_names::numbers::{Numbers, deeper};
 use occ_check_names::scope::{Position, Scope};
 use occ_check_typing::item::channel_of;
 use occ_held::Held;
@@ -126,7 +126,8 @@ impl<'t> Unfolder<'t> {
     {
         let base = self.frames.len();
         let (heads, inside) = self.entering(alloc, at, depth, declarations_of(arm))?;
-        let arms = self.listening(alloc, inside, depth, arm)?;
+        let deep = deeper(depth, heads.len())?;
+        let arms = self.listening(alloc, inside, deep, arm)?;
         self.frames.close(base);
         Ok(arms_behind(alloc, heads, arms)?)
     }
@@ -162,9 +163,13 @@ impl<'t> Unfolder<'t> {
                 let arm = TermArm::InputArm(test, channel, Reception::Tagged(variants));
                 Ok(only_arm(alloc, arm)?)
             }
-            Arm::InnerAlt(_, _, _, arms) => self.arms(alloc, at, depth, listed_arms(arms)),
+            Arm::InnerAlt(_, _, _, arms) => {
+                let deep = deeper(depth, 1)?;
+                self.arms(alloc, at, deep, listed_arms(arms))
+            }
             Arm::InnerAltFor(_, line, _, replicator, arm) => {
-                self.each_arm(alloc, at, depth, *line, replicator, arm)
+                let deep = deeper(depth, 1)?;
+                self.each_arm(alloc, at, deep, *line, replicator, arm)
             }
         }
     }

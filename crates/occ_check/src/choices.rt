@@ -17,6 +17,7 @@ ghost use Rattle.occ_check.specs.Progress.{counted, meant_at};
 
 use crate::unfolder::Unfolder;
 use occ_check_names::fault::CheckFault;
+use occ_check_names::numbers::deeper;
 use occ_check_names::scope::Position;
 use occ_held::Held;
 use occ_term::{Choice as TermChoice, Declaration, Term};
@@ -100,7 +101,8 @@ impl<'t> Unfolder<'t> {
     {
         let base = self.frames.len();
         let (heads, inside) = self.entering(alloc, at, depth, declarations_of(choice))?;
-        let choices = self.chosen(alloc, inside, depth, choice)?;
+        let deep = deeper(depth, heads.len())?;
+        let choices = self.chosen(alloc, inside, deep, choice)?;
         self.frames.close(base);
         Ok(choices_behind(alloc, heads, choices)?)
     }
@@ -127,10 +129,12 @@ impl<'t> Unfolder<'t> {
                 Ok(only_choice(alloc, choice)?)
             }
             Choice::InnerIf(_, _, choices) => {
-                self.choices(alloc, at, depth, listed_choices(choices))
+                let deep = deeper(depth, 1)?;
+                self.choices(alloc, at, deep, listed_choices(choices))
             }
             Choice::InnerIfFor(_, line, replicator, choice) => {
-                self.each_choice(alloc, at, depth, *line, replicator, choice)
+                let deep = deeper(depth, 1)?;
+                self.each_choice(alloc, at, deep, *line, replicator, choice)
             }
         }
     }

@@ -7,7 +7,7 @@ use Rattle.occ_term.specs.declared.protocol.Protocol.{Protocol}
 use Rattle.occ_term.specs.Terms.{Declaration, Clearing, Naming, Term, Arms, no_arms, skip_arm, input_arm, declared_arms, each_arm, Choices, no_choices, or_choice, declared_choices, each_choice, Variants, no_variants, or_variant, Options, no_options, or_option, or_else}
 use Rattle.occ_term.specs.Sizes.{Size, no_size, node, size_of, size_of_terms, size_of_declaration, size_of_declarations, size_of_arms, size_of_choices, size_of_variants, size_of_options}
 use Rattle.occ_check_meaning.specs.Scope.{keep, Name}
-use Rattle.occ_check_meaning.specs.Numbers.{Numbers, more_cells, more_channels, more_processes, room}
+use Rattle.occ_check_meaning.specs.Numbers.{Numbers, deeper, more_cells, more_channels, more_processes, room}
 use Rattle.occ_check_meaning.specs.Actions.{headed, followed, as_term, opening, arms_behind, choices_behind, arms_then, choices_then, variants_then, options_then}
 use Rattle.occ_check_laws.specs.Counting.{Counted}
 use Rattle.occ_check_meaning.proofs.Steps.{bind_some, some_is}
@@ -46,6 +46,14 @@ module _ {depth : ℕ} {a b t : Size} {n m l : Numbers} where
       let p = h.deep in
       let q = g.deep in
       record { nodes = omega (arith, x, y, e); deep = omega (arith, p, q, f) }
+
+-- what stands deeper has no more room
+pub counted_deeper : {depth deep : ℕ} {s : Size} {n m : Numbers} (levels : ℕ) → deeper depth levels ≡ Some deep → Counted deep s n m → Counted depth s n m
+counted_deeper {depth} {deep} {s} {n} {m} levels e h =
+    let d : depth + levels ≡ deep = (kept _ _ deep e).1 in
+    let x = h.nodes in
+    let p = h.deep in
+    record { nodes = x; deep = omega (arith, d, p) }
 
 -- nothing is counted
 pub counted_none : {depth : ℕ} {n m : Numbers} → m.nodes ≡ n.nodes → Counted depth no_size n m

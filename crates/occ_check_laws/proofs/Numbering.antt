@@ -191,7 +191,7 @@ mutual
   copies_numbered (one_copy {n = n} {o = o} {m = m} {l = l} {t = t} {bs = bs} e u us) = branch_numbered n o m l t bs e (unfolding_numbered u) (copies_numbered us)
 
   arm_numbered : {sc : Procedures} {depth : ℕ} {n m : Numbers} {a : Node arm} {arms : Arms} → Arm sc depth n a arms m → NumberedUpTo n.processes (branches_in_arms arms) m.processes
-  arm_numbered (behind_arm {n = n} {l = l} {d = d} {arms = arms} ds p) =
+  arm_numbered (behind_arm {n = n} {l = l} {d = d} {arms = arms} ds v p) =
       the_same (branches_in_arms arms) (branches_in_arms (arms_behind d.heads arms)) n.processes l.processes (arms_behind_branches d.heads arms)
       (begin_at (branches_in_arms arms) n.processes d.numbers.processes l.processes (declared_steps Same same_processes ds) (offers_numbered p))
 
@@ -203,8 +203,8 @@ mutual
       the_same (branches_in t) (branches_in t ++ []) n.processes l.processes (with_nil (branches_in t)) (begin_at (branches_in t) n.processes m.processes l.processes (roomy depth (Sizes.node (size_of_expression e)) n m r) (unfolding_numbered u))
   offers_numbered (awaits_variants {depth = depth} {n = n} {m = m} {l = l} {e = e} {c = c} {xs = xs} x y p r u) =
       the_same (branches_in_variants xs) (branches_in_variants xs ++ []) n.processes l.processes (with_nil (branches_in_variants xs)) (begin_at (branches_in_variants xs) n.processes m.processes l.processes (roomy depth (Sizes.node (Sizes.beside (size_of_test e) (size_of_place c.1))) n m r) (variants_numbered u))
-  offers_numbered (nests_arms u) = arms_numbered u
-  offers_numbered (replicates_arm u) = each_arm_numbered u
+  offers_numbered (nests_arms v u) = arms_numbered u
+  offers_numbered (replicates_arm v u) = each_arm_numbered u
 
   each_arm_numbered : {sc : Procedures} {line depth : ℕ} {n m : Numbers} {r : L.Replicator} {a : Node arm} {arms : Arms} → EachArm sc line depth n r a arms m → NumberedUpTo n.processes (branches_in_arms arms) m.processes
   each_arm_numbered (under_index {sc = sc} {line = line} {depth = depth} {n = n} {l = l} {r = r} {i = i} {arms = arms} x u) =
@@ -218,15 +218,15 @@ mutual
       (both_numbered (branches_in_arms arms) (branches_in_arms others) n.processes m.processes l.processes (arm_numbered u) (arms_numbered us))
 
   choice_numbered : {sc : Procedures} {depth : ℕ} {n m : Numbers} {c : Node choice} {choices : Choices} → Choice sc depth n c choices m → NumberedUpTo n.processes (branches_in_choices choices) m.processes
-  choice_numbered (behind_choice {n = n} {l = l} {d = d} {choices = choices} ds p) =
+  choice_numbered (behind_choice {n = n} {l = l} {d = d} {choices = choices} ds v p) =
       the_same (branches_in_choices choices) (branches_in_choices (choices_behind d.heads choices)) n.processes l.processes (choices_behind_branches d.heads choices)
       (begin_at (branches_in_choices choices) n.processes d.numbers.processes l.processes (declared_steps Same same_processes ds) (tests_numbered p))
 
   tests_numbered : {sc : Procedures} {line depth : ℕ} {n m : Numbers} {h : ChoiceHead} {b : Body (under choice h)} {choices : Choices} → Tests sc line depth n h b choices m → NumberedUpTo n.processes (branches_in_choices choices) m.processes
   tests_numbered (tests {depth = depth} {n = n} {m = m} {l = l} {e = e} {t = t} x r u) =
       the_same (branches_in t) (branches_in t ++ []) n.processes l.processes (with_nil (branches_in t)) (begin_at (branches_in t) n.processes m.processes l.processes (roomy depth (Sizes.node (size_of_expression e)) n m r) (unfolding_numbered u))
-  tests_numbered (nests_choices u) = choices_numbered u
-  tests_numbered (replicates_choice u) = each_choice_numbered u
+  tests_numbered (nests_choices v u) = choices_numbered u
+  tests_numbered (replicates_choice v u) = each_choice_numbered u
 
   each_choice_numbered : {sc : Procedures} {line depth : ℕ} {n m : Numbers} {r : L.Replicator} {c : Node choice} {choices : Choices} → EachChoice sc line depth n r c choices m → NumberedUpTo n.processes (branches_in_choices choices) m.processes
   each_choice_numbered (under_choice_index {sc = sc} {line = line} {depth = depth} {n = n} {l = l} {r = r} {i = i} {choices = choices} x u) =

@@ -236,7 +236,7 @@ module _ (d : Declared) where
         (copies_take us (next_typed count i k) (later d sc o m (unfolding_steps Grown growing processes_grown u) q) c))
 
     arm_takes : {sc : Procedures} {depth : ℕ} {n m : Numbers} {a : Node arm} {arms : Arms} → Arm sc depth n a arms m → In d sc n → Covers d m → Takes n (cells_in_arms arms) m
-    arm_takes (behind_arm {n = n} {l = l} {d = e} {arms = arms} ds u) h c =
+    arm_takes (behind_arm {n = n} {l = l} {d = e} {arms = arms} ds v u) h c =
         let s = covers_before d e.numbers l (offers_steps Grown growing processes_grown u) c in
         let k = all_have d ds h s in
         the_same (cells_of_all e.heads ++ cells_in_arms arms) (cells_in_arms (arms_behind e.heads arms)) n l (arms_behind_cells e.heads arms)
@@ -253,8 +253,8 @@ module _ (d : Declared) where
         the_same (cells_in_variants xs) (cells_in_variants xs ++ []) n l (with_nil (cells_in_variants xs))
         (room_begins (cells_in_variants xs) depth (Sizes.node (Sizes.beside (size_of_test e) (size_of_place x.1))) n m l r
         (variants_take u (roomy d sc depth (Sizes.node (Sizes.beside (size_of_test e) (size_of_place x.1))) n m r h) c))
-    offers_take (nests_arms u) h c = arms_take u h c
-    offers_take (replicates_arm u) h c = each_arm_takes u h c
+    offers_take (nests_arms v u) h c = arms_take u h c
+    offers_take (replicates_arm v u) h c = each_arm_takes u h c
 
     pub each_arm_takes : {sc : Procedures} {line depth : ℕ} {n m : Numbers} {r : L.Replicator} {a : Node arm} {arms : Arms} → EachArm sc line depth n r a arms m → In d sc n → Covers d m → Takes n (cells_in_arms arms) m
     each_arm_takes (under_index {sc = sc} {line = line} {depth = depth} {n = n} {l = l} {r = r} {i = i} {arms = arms} x u) h c =
@@ -270,7 +270,7 @@ module _ (d : Declared) where
         (both (cells_in_arms arms) (cells_in_arms others) n m l (arm_takes u h (covers_before d m l (arms_steps Grown growing processes_grown us) c)) (arms_take us (later d sc n m (arm_steps Grown growing processes_grown u) h) c))
 
     choice_takes : {sc : Procedures} {depth : ℕ} {n m : Numbers} {x : Node choice} {choices : Choices} → Choice sc depth n x choices m → In d sc n → Covers d m → Takes n (cells_in_choices choices) m
-    choice_takes (behind_choice {n = n} {l = l} {d = e} {choices = choices} ds u) h c =
+    choice_takes (behind_choice {n = n} {l = l} {d = e} {choices = choices} ds v u) h c =
         let s = covers_before d e.numbers l (tests_steps Grown growing processes_grown u) c in
         let k = all_have d ds h s in
         the_same (cells_of_all e.heads ++ cells_in_choices choices) (cells_in_choices (choices_behind e.heads choices)) n l (choices_behind_cells e.heads choices)
@@ -279,8 +279,8 @@ module _ (d : Declared) where
     tests_take : {sc : Procedures} {line depth : ℕ} {n m : Numbers} {h : ChoiceHead} {b : Body (under choice h)} {choices : Choices} → Tests sc line depth n h b choices m → In d sc n → Covers d m → Takes n (cells_in_choices choices) m
     tests_take (tests {sc = sc} {depth = depth} {n = n} {m = m} {l = l} {e = e} {t = t} a r u) h c =
         the_same (cells_in t) (cells_in t ++ []) n l (with_nil (cells_in t)) (room_begins (cells_in t) depth (Sizes.node (size_of_expression e)) n m l r (unfolding_takes u (roomy d sc depth (Sizes.node (size_of_expression e)) n m r h) c))
-    tests_take (nests_choices u) h c = choices_take u h c
-    tests_take (replicates_choice u) h c = each_choice_takes u h c
+    tests_take (nests_choices v u) h c = choices_take u h c
+    tests_take (replicates_choice v u) h c = each_choice_takes u h c
 
     each_choice_takes : {sc : Procedures} {line depth : ℕ} {n m : Numbers} {r : L.Replicator} {x : Node choice} {choices : Choices} → EachChoice sc line depth n r x choices m → In d sc n → Covers d m → Takes n (cells_in_choices choices) m
     each_choice_takes (under_choice_index {sc = sc} {line = line} {depth = depth} {n = n} {l = l} {r = r} {i = i} {choices = choices} x u) h c =

@@ -117,7 +117,7 @@ module _ (d : Declared) (all : Uses.Numbers) (first : ℕ) (after : (c : ℕ) �
 
   mutual
     arm_scoped : {sc : Procedures} {depth : ℕ} {n m : Numbers} {a : Node arm} {arms : Arms} (round : Uses.Numbers) → Arm sc depth n a arms m → In d sc n → Covers d m → Round round sc n → Scoped all round arms
-    arm_scoped round (behind_arm {n = n} {l = l} {d = e} {arms = arms} ds u) h c x =
+    arm_scoped round (behind_arm {n = n} {l = l} {d = e} {arms = arms} ds v u) h c x =
         let s = covers_before d e.numbers l (offers_steps Grown growing processes_grown u) c in
         let k = all_have d ds h s in
         let o = all_round round ds h s x in
@@ -127,8 +127,8 @@ module _ (d : Declared) (all : Uses.Numbers) (first : ℕ) (after : (c : ℕ) �
     offers_scoped round (awaits a g r u) h c x = tt
     offers_scoped round (is_ready a r u) h c x = tt
     offers_scoped round (awaits_variants a g w r u) h c x = tt
-    offers_scoped round (nests_arms u) h c x = arms_scoped round u h c x
-    offers_scoped round (replicates_arm u) h c x = each_arm_scoped round u h c x
+    offers_scoped round (nests_arms v u) h c x = arms_scoped round u h c x
+    offers_scoped round (replicates_arm v u) h c x = each_arm_scoped round u h c x
 
     each_arm_scoped : {sc : Procedures} {line depth : ℕ} {n m : Numbers} {r : L.Replicator} {a : Node arm} {arms : Arms} (round : Uses.Numbers) → EachArm sc line depth n r a arms m → In d sc n → Covers d m → Round round sc n → Scoped all round arms
     each_arm_scoped round (under_index {sc = sc} {line = line} {depth = depth} {n = n} {l = l} {r = r} {i = i} {arms = arms} x u) h c q =

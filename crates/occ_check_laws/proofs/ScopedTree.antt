@@ -195,7 +195,7 @@ module _ (d : Declared) (P : Arms → Type 0) (f : (arms : Arms) → IsScoped ar
         )
 
     arm_each : {sc : Procedures} {depth : ℕ} {n m : Numbers} {a : Node arm} {arms : Arms} → Arm sc depth n a arms m → AllIn sc n → Covers d m → EachAltOfArms P arms
-    arm_each (behind_arm {d = e} {arms = arms} ds u) h c = arms_behind_each P e.heads arms (offers_each u (all_declared ds h) c)
+    arm_each (behind_arm {d = e} {arms = arms} ds v u) h c = arms_behind_each P e.heads arms (offers_each u (all_declared ds h) c)
 
     offers_each : {sc : Procedures} {line depth : ℕ} {n m : Numbers} {h : ArmHead} {b : Body (under arm h)} {arms : Arms} → Offers sc line depth n h b arms m → AllIn sc n → Covers d m → EachAltOfArms P arms
     offers_each (awaits {sc = sc} {depth = depth} {n = n} {m = m} {e = e} {c = x} {t = t} a g r u) h c =
@@ -203,8 +203,8 @@ module _ (d : Declared) (P : Arms → Type 0) (f : (arms : Arms) → IsScoped ar
     offers_each (is_ready {sc = sc} {depth = depth} {n = n} {m = m} {e = e} a r u) h c = (unfolding_each u (all_roomy sc depth (Sizes.node (size_of_expression e)) n m r h) c, tt)
     offers_each (awaits_variants {sc = sc} {depth = depth} {n = n} {m = m} {e = e} {c = x} a g w r u) h c =
         (variants_each u (all_roomy sc depth (Sizes.node (Sizes.beside (size_of_test e) (size_of_place x.1))) n m r h) c, tt)
-    offers_each (nests_arms u) h c = arms_each u h c
-    offers_each (replicates_arm u) h c = each_arm_each u h c
+    offers_each (nests_arms v u) h c = arms_each u h c
+    offers_each (replicates_arm v u) h c = each_arm_each u h c
 
     each_arm_each : {sc : Procedures} {line depth : ℕ} {n m : Numbers} {r : L.Replicator} {a : Node arm} {arms : Arms} → EachArm sc line depth n r a arms m → AllIn sc n → Covers d m → EachAltOfArms P arms
     each_arm_each (under_index {sc = sc} {line = line} {depth = depth} {n = n} {r = r} {i = i} x u) h c = (arm_each u (all_indexed sc line depth r n i x h) c, tt)
@@ -215,12 +215,12 @@ module _ (d : Declared) (P : Arms → Type 0) (f : (arms : Arms) → IsScoped ar
         arms_then_each P arms others (arm_each u h (covers_before d m l (arms_steps Grown growing processes_grown us) c)) (arms_each us (all_later sc n m (arm_steps Grown growing processes_grown u) h) c)
 
     choice_each : {sc : Procedures} {depth : ℕ} {n m : Numbers} {x : Node choice} {choices : Choices} → Choice sc depth n x choices m → AllIn sc n → Covers d m → EachAltOfChoices P choices
-    choice_each (behind_choice {d = e} {choices = choices} ds u) h c = choices_behind_each P e.heads choices (tests_each u (all_declared ds h) c)
+    choice_each (behind_choice {d = e} {choices = choices} ds v u) h c = choices_behind_each P e.heads choices (tests_each u (all_declared ds h) c)
 
     tests_each : {sc : Procedures} {line depth : ℕ} {n m : Numbers} {h : ChoiceHead} {b : Body (under choice h)} {choices : Choices} → Tests sc line depth n h b choices m → AllIn sc n → Covers d m → EachAltOfChoices P choices
     tests_each (tests {sc = sc} {depth = depth} {n = n} {m = m} {e = e} a r u) h c = (unfolding_each u (all_roomy sc depth (Sizes.node (size_of_expression e)) n m r h) c, tt)
-    tests_each (nests_choices u) h c = choices_each u h c
-    tests_each (replicates_choice u) h c = each_choice_each u h c
+    tests_each (nests_choices v u) h c = choices_each u h c
+    tests_each (replicates_choice v u) h c = each_choice_each u h c
 
     each_choice_each : {sc : Procedures} {line depth : ℕ} {n m : Numbers} {r : L.Replicator} {x : Node choice} {choices : Choices} → EachChoice sc line depth n r x choices m → AllIn sc n → Covers d m → EachAltOfChoices P choices
     each_choice_each (under_choice_index {sc = sc} {line = line} {depth = depth} {n = n} {r = r} {i = i} x u) h c = (choice_each u (all_indexed sc line depth r n i x h) c, tt)

@@ -57,7 +57,7 @@ module _ (R : Numbers → Numbers → Type 0) (s : Stepping R) (numbered : (n m 
     copies_steps (one_copy {n = n} {o = o} {m = m} {l = l} e u us) = s.chained n o l (numbered n o e) (s.chained o m l (unfolding_steps u) (copies_steps us))
 
     pub arm_steps : {sc : Procedures} {depth : ℕ} {n m : Numbers} {a : Node arm} {arms : Arms} → Arm sc depth n a arms m → R n m
-    arm_steps (behind_arm {n = n} {l = l} {d = d} ds u) = s.chained n d.numbers l (declared_steps R s ds) (offers_steps u)
+    arm_steps (behind_arm {n = n} {l = l} {d = d} ds v u) = s.chained n d.numbers l (declared_steps R s ds) (offers_steps u)
 
     pub offers_steps : {sc : Procedures} {line depth : ℕ} {n m : Numbers} {h : ArmHead} {b : Body (under arm h)} {arms : Arms} → Offers sc line depth n h b arms m → R n m
     offers_steps (awaits {depth = depth} {n = n} {m = m} {l = l} {e = e} {c = c} x g r u) =
@@ -65,8 +65,8 @@ module _ (R : Numbers → Numbers → Type 0) (s : Stepping R) (numbered : (n m 
     offers_steps (is_ready {depth = depth} {n = n} {m = m} {l = l} {e = e} x r u) = s.chained n m l (s.by_room depth (Sizes.node (size_of_expression e)) n m r) (unfolding_steps u)
     offers_steps (awaits_variants {depth = depth} {n = n} {m = m} {l = l} {e = e} {c = c} x g p r u) =
         s.chained n m l (s.by_room depth (Sizes.node (Sizes.beside (size_of_test e) (size_of_place c.1))) n m r) (variants_steps u)
-    offers_steps (nests_arms u) = arms_steps u
-    offers_steps (replicates_arm u) = each_arm_steps u
+    offers_steps (nests_arms v u) = arms_steps u
+    offers_steps (replicates_arm v u) = each_arm_steps u
 
     pub each_arm_steps : {sc : Procedures} {line depth : ℕ} {n m : Numbers} {r : L.Replicator} {a : Node arm} {arms : Arms} → EachArm sc line depth n r a arms m → R n m
     each_arm_steps (under_index {sc = sc} {line = line} {depth = depth} {n = n} {l = l} {r = r} {i = i} x u) = s.chained n i.numbers l (indexed_steps R s (names_of sc) line depth r n i x) (arm_steps u)
@@ -76,12 +76,12 @@ module _ (R : Numbers → Numbers → Type 0) (s : Stepping R) (numbered : (n m 
     arms_steps (one_arm {n = n} {m = m} {l = l} u us) = s.chained n m l (arm_steps u) (arms_steps us)
 
     pub choice_steps : {sc : Procedures} {depth : ℕ} {n m : Numbers} {c : Node choice} {choices : Choices} → Choice sc depth n c choices m → R n m
-    choice_steps (behind_choice {n = n} {l = l} {d = d} ds u) = s.chained n d.numbers l (declared_steps R s ds) (tests_steps u)
+    choice_steps (behind_choice {n = n} {l = l} {d = d} ds v u) = s.chained n d.numbers l (declared_steps R s ds) (tests_steps u)
 
     pub tests_steps : {sc : Procedures} {line depth : ℕ} {n m : Numbers} {h : ChoiceHead} {b : Body (under choice h)} {choices : Choices} → Tests sc line depth n h b choices m → R n m
     tests_steps (tests {depth = depth} {n = n} {m = m} {l = l} {e = e} x r u) = s.chained n m l (s.by_room depth (Sizes.node (size_of_expression e)) n m r) (unfolding_steps u)
-    tests_steps (nests_choices u) = choices_steps u
-    tests_steps (replicates_choice u) = each_choice_steps u
+    tests_steps (nests_choices v u) = choices_steps u
+    tests_steps (replicates_choice v u) = each_choice_steps u
 
     pub each_choice_steps : {sc : Procedures} {line depth : ℕ} {n m : Numbers} {r : L.Replicator} {c : Node choice} {choices : Choices} → EachChoice sc line depth n r c choices m → R n m
     each_choice_steps (under_choice_index {sc = sc} {line = line} {depth = depth} {n = n} {l = l} {r = r} {i = i} x u) = s.chained n i.numbers l (indexed_steps R s (names_of sc) line depth r n i x) (choice_steps u)

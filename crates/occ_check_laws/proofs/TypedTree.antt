@@ -259,7 +259,7 @@ module _ (d : Declared) where
         )
 
     arm_has : {sc : Procedures} {depth : ℕ} {n m : Numbers} {a : Node arm} {arms : Arms} → Arm sc depth n a arms m → In sc n → Covers d m → ArmsHave d arms
-    arm_has (behind_arm {n = n} {l = l} {d = e} {arms = arms} ds u) h c =
+    arm_has (behind_arm {n = n} {l = l} {d = e} {arms = arms} ds v u) h c =
         let k = all_have ds h (covers_before d e.numbers l (offers_steps Grown growing processes_grown u) c) in
         arms_behind_have e.heads arms k.1 (offers_have u k.0 c)
 
@@ -281,8 +281,8 @@ module _ (d : Declared) where
       ),
       tt,
     )
-    offers_have (nests_arms u) h c = arms_have u h c
-    offers_have (replicates_arm u) h c = each_arm_has u h c
+    offers_have (nests_arms v u) h c = arms_have u h c
+    offers_have (replicates_arm v u) h c = each_arm_has u h c
 
     pub each_arm_has : {sc : Procedures} {line depth : ℕ} {n m : Numbers} {r : L.Replicator} {a : Node arm} {arms : Arms} → EachArm sc line depth n r a arms m → In sc n → Covers d m → ArmsHave d arms
     each_arm_has (under_index {sc = sc} {line = line} {depth = depth} {n = n} {l = l} {r = r} {i = i} {arms = arms} x u) h c =
@@ -301,15 +301,15 @@ module _ (d : Declared) where
         arms_then_have arms others (arm_has u h (covers_before d m l (arms_steps Grown growing processes_grown us) c)) (arms_have us (later sc n m (arm_steps Grown growing processes_grown u) h) c)
 
     choice_has : {sc : Procedures} {depth : ℕ} {n m : Numbers} {x : Node choice} {choices : Choices} → Choice sc depth n x choices m → In sc n → Covers d m → ChoicesHave d choices
-    choice_has (behind_choice {n = n} {l = l} {d = e} {choices = choices} ds u) h c =
+    choice_has (behind_choice {n = n} {l = l} {d = e} {choices = choices} ds v u) h c =
         let k = all_have ds h (covers_before d e.numbers l (tests_steps Grown growing processes_grown u) c) in
         choices_behind_have e.heads choices k.1 (tests_have u k.0 c)
 
     tests_have : {sc : Procedures} {line depth : ℕ} {n m : Numbers} {h : ChoiceHead} {b : Body (under choice h)} {choices : Choices} → Tests sc line depth n h b choices m → In sc n → Covers d m → ChoicesHave d choices
     tests_have (tests {sc = sc} {line = line} {depth = depth} {n = n} {m = m} {test = test} {e = e} a r u) h c =
         (typed_as_has d (names_of sc) (have sc n h) line Boolean test e a, unfolding_has u (roomy sc depth (Sizes.node (size_of_expression e)) n m r h) c, tt)
-    tests_have (nests_choices u) h c = choices_have u h c
-    tests_have (replicates_choice u) h c = each_choice_has u h c
+    tests_have (nests_choices v u) h c = choices_have u h c
+    tests_have (replicates_choice v u) h c = each_choice_has u h c
 
     each_choice_has : {sc : Procedures} {line depth : ℕ} {n m : Numbers} {r : L.Replicator} {x : Node choice} {choices : Choices} → EachChoice sc line depth n r x choices m → In sc n → Covers d m → ChoicesHave d choices
     each_choice_has (under_choice_index {sc = sc} {line = line} {depth = depth} {n = n} {l = l} {r = r} {i = i} {choices = choices} x u) h c =

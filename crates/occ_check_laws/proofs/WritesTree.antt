@@ -216,7 +216,7 @@ module _ (c : ℕ) where
         either ((uses_of t).writes c) ((uses_of_branches bs).writes c) (unfolding_avoids u (each_within (Avoids c) (index_of r i) sc (tt, tt) h) q) (copies_avoid us h (grown o m (unfolding_steps Grown growing processes_grown u) q))
 
     pub arm_avoids : {sc : Procedures} {depth : ℕ} {n m : Numbers} {a : Node arm} {arms : Arms} → Arm sc depth n a arms m → In sc → c < length n.cells → Not ((uses_of_arms arms).writes c)
-    arm_avoids (behind_arm {n = n} {d = d} {arms = arms} ds u) h l =
+    arm_avoids (behind_arm {n = n} {d = d} {arms = arms} ds v u) h l =
         let k = all_avoid ds h l in
         arms_behind_not d.heads arms k.1 (offers_avoid u k.0 (grown n d.numbers (declared_steps Grown growing ds) l))
 
@@ -228,8 +228,8 @@ module _ (c : ℕ) where
         alone ((uses_of t).writes c) (unfolding_avoids u h (roomy depth (Sizes.node (size_of_expression e)) n m r l))
     offers_avoid (awaits_variants {depth = depth} {n = n} {m = m} {e = e} {c = p} {xs = xs} x g w r u) h l =
         alone ((uses_of_variants xs).writes c) (variants_avoid u h (roomy depth (Sizes.node (Sizes.beside (size_of_test e) (size_of_place p.1))) n m r l))
-    offers_avoid (nests_arms u) h l = arms_avoid u h l
-    offers_avoid (replicates_arm u) h l = each_arm_avoids u h l
+    offers_avoid (nests_arms v u) h l = arms_avoid u h l
+    offers_avoid (replicates_arm v u) h l = each_arm_avoids u h l
 
     each_arm_avoids : {sc : Procedures} {line depth : ℕ} {n m : Numbers} {r : L.Replicator} {a : Node arm} {arms : Arms} → EachArm sc line depth n r a arms m → In sc → c < length n.cells → Not ((uses_of_arms arms).writes c)
     each_arm_avoids (under_index {sc = sc} {line = line} {depth = depth} {n = n} {r = r} {i = i} {arms = arms} x u) h l =
@@ -243,14 +243,14 @@ module _ (c : ℕ) where
         arms_then_not arms others (arm_avoids u h l) (arms_avoid us h (grown n m (arm_steps Grown growing processes_grown u) l))
 
     pub choice_avoids : {sc : Procedures} {depth : ℕ} {n m : Numbers} {x : Node choice} {choices : Choices} → Choice sc depth n x choices m → In sc → c < length n.cells → Not ((uses_of_choices choices).writes c)
-    choice_avoids (behind_choice {n = n} {d = d} {choices = choices} ds u) h l =
+    choice_avoids (behind_choice {n = n} {d = d} {choices = choices} ds v u) h l =
         let k = all_avoid ds h l in
         choices_behind_not d.heads choices k.1 (tests_avoid u k.0 (grown n d.numbers (declared_steps Grown growing ds) l))
 
     tests_avoid : {sc : Procedures} {line depth : ℕ} {n m : Numbers} {h : ChoiceHead} {b : Body (under choice h)} {choices : Choices} → Tests sc line depth n h b choices m → In sc → c < length n.cells → Not ((uses_of_choices choices).writes c)
     tests_avoid (tests {depth = depth} {n = n} {m = m} {e = e} {t = t} x r u) h l = alone ((uses_of t).writes c) (unfolding_avoids u h (roomy depth (Sizes.node (size_of_expression e)) n m r l))
-    tests_avoid (nests_choices u) h l = choices_avoid u h l
-    tests_avoid (replicates_choice u) h l = each_choice_avoids u h l
+    tests_avoid (nests_choices v u) h l = choices_avoid u h l
+    tests_avoid (replicates_choice v u) h l = each_choice_avoids u h l
 
     each_choice_avoids : {sc : Procedures} {line depth : ℕ} {n m : Numbers} {r : L.Replicator} {x : Node choice} {choices : Choices} → EachChoice sc line depth n r x choices m → In sc → c < length n.cells → Not ((uses_of_choices choices).writes c)
     each_choice_avoids (under_choice_index {sc = sc} {line = line} {depth = depth} {n = n} {r = r} {i = i} {choices = choices} x u) h l =

@@ -17,7 +17,7 @@ use Rattle.occ_check_meaning.specs.Declarations.{Opened, names_declared, value_d
 use Rattle.occ_check_meaning.specs.Calls.{formals_of, bound}
 use Rattle.occ_check_meaning.specs.Actions as A
 use Rattle.occ_check_meaning.specs.Actions.{headed, opening, assigned, received, test_of, selector, Chosen, none_chosen, arms_behind, choices_behind}
-use Rattle.occ_check_meaning.specs.Performing.{Under, Calling, Entered, entered, behind, acted, sequenced, each_sequenced, beside, copied, copies_beside, alternated, conditioned, selected, looped, taken_by_variant, arms_under, arm_of, variants_arm, each_of_arms, choices_under, choice_of, each_of_choices}
+use Rattle.occ_check_meaning.specs.Performing.{nested, Under, Calling, Entered, entered, behind, acted, sequenced, each_sequenced, beside, copied, copies_beside, alternated, conditioned, selected, looped, taken_by_variant, arms_under, arm_of, variants_arm, each_of_arms, choices_under, choice_of, each_of_choices}
 use Rattle.occ_check_meaning.specs.Recursion.{unfolded, all_in_turn, all_beside, arm_unfolded, all_arms, choice_unfolded, all_choices, variant_unfolded, all_variants, option_unfolded, all_options, all_declared, declared, item_declared}
 use Rattle.occ_check_meaning.specs.Programs.{channels_from, items_declared, program_unfolded}
 use Rattle.occ_check_meaning.specs.ProgramUnfolding.{DeclareItems, no_item, one_item, ProgramUnfolding, program}
@@ -143,9 +143,9 @@ mutual
   copies_complete (one_copy {sc = sc} {r = r} {p = p} {i = i} o u us) = then_some _ _ _ o (then_some _ _ _ (inside (unfolded p) (index_of r i) sc (complete u)) (then_some _ _ _ (copies_complete us) refl))
 
   arm_complete : {sc : Procedures} {depth : ℕ} {n m : Numbers} {a : Node arm} {arms : Arms} → Arm sc depth n a arms m → arm_unfolded a (meant sc) depth n ≡ Some (arms, m)
-  arm_complete (behind_arm {sc = sc} {depth = depth} {n = n} {ds = ds} d p) =
+  arm_complete (behind_arm {sc = sc} {depth = depth} {n = n} {ds = ds} d w p) =
       let r = offers_complete p in
-      r.1 ds (meant sc) depth n ∙ then_some _ _ _ (all_declared_complete d) (then_some _ _ _ r.2 refl)
+      r.1 ds (meant sc) depth n ∙ then_some _ _ _ (all_declared_complete d) (then_some _ _ _ w (then_some _ _ _ r.2 refl))
 
   offers_complete : {sc : Procedures} {line depth : ℕ} {n m : Numbers} {h : ArmHead} {b : Body (under arm h)} {arms : Arms} → Offers sc line depth n h b arms m → ArmRead sc line depth n h b arms m
   offers_complete (awaits {sc = sc} {line = line} {test = test} {i = i} {p = p} e c m u) = (
@@ -161,8 +161,8 @@ mutual
     then_some _ _ _ (met sc (λ ns. test_of ns line test) e) (then_some _ _ _ (met sc (λ ns. channel_of ns line v) c)
         (then_some _ _ _ p (then_some _ _ _ m (then_some _ _ _ (variants_complete u) refl)))),
   )
-  offers_complete (nests_arms {xs = xs} u) = (all_arms xs, (λ ds s d k. refl), arms_complete u)
-  offers_complete (replicates_arm {line = line} {r = r} {a = a} u) = (each_of_arms line r (arm_unfolded a), (λ ds s d k. refl), each_arm_complete u)
+  offers_complete (nests_arms {xs = xs} w u) = (nested (all_arms xs), (λ ds s d k. refl), then_some _ _ _ w (arms_complete u))
+  offers_complete (replicates_arm {line = line} {r = r} {a = a} w u) = (nested (each_of_arms line r (arm_unfolded a)), (λ ds s d k. refl), then_some _ _ _ w (each_arm_complete u))
 
   each_arm_complete : {sc : Procedures} {line depth : ℕ} {n m : Numbers} {r : L.Replicator} {a : Node arm} {arms : Arms} → EachArm sc line depth n r a arms m
       → each_of_arms line r (arm_unfolded a) (meant sc) depth n ≡ Some (arms, m)
@@ -174,15 +174,15 @@ mutual
   arms_complete (one_arm u us) = then_some _ _ _ (arm_complete u) (then_some _ _ _ (arms_complete us) refl)
 
   choice_complete : {sc : Procedures} {depth : ℕ} {n m : Numbers} {c : Node choice} {choices : Choices} → Choice sc depth n c choices m → choice_unfolded c (meant sc) depth n ≡ Some (choices, m)
-  choice_complete (behind_choice {sc = sc} {depth = depth} {n = n} {ds = ds} d p) =
+  choice_complete (behind_choice {sc = sc} {depth = depth} {n = n} {ds = ds} d w p) =
       let r = tests_complete p in
-      r.1 ds (meant sc) depth n ∙ then_some _ _ _ (all_declared_complete d) (then_some _ _ _ r.2 refl)
+      r.1 ds (meant sc) depth n ∙ then_some _ _ _ (all_declared_complete d) (then_some _ _ _ w (then_some _ _ _ r.2 refl))
 
   tests_complete : {sc : Procedures} {line depth : ℕ} {n m : Numbers} {h : ChoiceHead} {b : Body (under choice h)} {choices : Choices} → Tests sc line depth n h b choices m → ChoiceRead sc line depth n h b choices m
   tests_complete (tests {sc = sc} {line = line} {test = test} {p = p} e m u) =
       (choice_of line test (unfolded p), (λ ds s d k. refl), then_some _ _ _ (met sc (λ ns. typed_as ns line Boolean test) e) (then_some _ _ _ m (then_some _ _ _ (complete u) refl)))
-  tests_complete (nests_choices {xs = xs} u) = (all_choices xs, (λ ds s d k. refl), choices_complete u)
-  tests_complete (replicates_choice {line = line} {r = r} {c = c} u) = (each_of_choices line r (choice_unfolded c), (λ ds s d k. refl), each_choice_complete u)
+  tests_complete (nests_choices {xs = xs} w u) = (nested (all_choices xs), (λ ds s d k. refl), then_some _ _ _ w (choices_complete u))
+  tests_complete (replicates_choice {line = line} {r = r} {c = c} w u) = (nested (each_of_choices line r (choice_unfolded c)), (λ ds s d k. refl), then_some _ _ _ w (each_choice_complete u))
 
   each_choice_complete : {sc : Procedures} {line depth : ℕ} {n m : Numbers} {r : L.Replicator} {c : Node choice} {choices : Choices} → EachChoice sc line depth n r c choices m
       → each_of_choices line r (choice_unfolded c) (meant sc) depth n ≡ Some (choices, m)

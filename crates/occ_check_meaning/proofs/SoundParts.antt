@@ -1,5 +1,5 @@
 -- What the recursion answers is an unfolding: the parts of ALTs, IFs, CASEs and inputs of variants, and what they stand in.
-use Rattle.std.proofs.Common.{◌≡◌, ℕ, ◌+◌, List, [], ◌∷◌, Bool, Option, Some, None, subst}
+use Rattle.std.proofs.Common.{◌≡◌, ℕ, ◌+◌, length, List, [], ◌∷◌, Bool, Option, Some, None, subst}
 use Rattle.occ_tree_grammar.specs.Many.{◌>>=◌}
 use Rattle.occ_tree_grammar.specs.Expressions.Trees.{Expression}
 use Rattle.occ_tree_grammar.specs.Lines.Trees as L
@@ -15,12 +15,12 @@ use Rattle.occ_term.specs.Terms.{Term, Terms, Branches, Arms, Choices, Variants,
 use Rattle.occ_term.specs.Sizes as Sizes
 use Rattle.occ_term.specs.Sizes.{no_size, size_of, size_of_test, size_of_expression, size_of_place, size_of_targets, size_of_constants}
 use Rattle.occ_check_meaning.specs.Scope.{each_of, Name, names_of, within}
-use Rattle.occ_check_meaning.specs.Numbers.{Numbers, room}
+use Rattle.occ_check_meaning.specs.Numbers.{Numbers, deeper, room}
 use Rattle.occ_check_meaning.specs.Expressions.{typed_as, constant_as}
 use Rattle.occ_check_meaning.specs.Items.{channel_of, stored}
 use Rattle.occ_check_meaning.specs.Declarations.{indexed}
 use Rattle.occ_check_meaning.specs.Actions.{received, size_of_list, test_of, with_tags, selector, Chosen, none_chosen, choosing, choosing_else}
-use Rattle.occ_check_meaning.specs.Performing.{Under, Calling, Entered, alternated, conditioned, selected, looped, taken_by_variant, arms_under, arm_of, variants_arm, each_of_arms, choices_under, choice_of, each_of_choices, variant_of, option_of, else_of}
+use Rattle.occ_check_meaning.specs.Performing.{Under, Calling, Entered, alternated, conditioned, selected, looped, taken_by_variant, nested, arms_under, arm_of, variants_arm, each_of_arms, choices_under, choice_of, each_of_choices, variant_of, option_of, else_of}
 use Rattle.occ_check_meaning.specs.Unfolding.{Procedures, DeclareAll, Unfolding, Performs, takes_variants, alternates, replicates_alternation, conditions, replicates_conditional, selects, loops, Arm, behind_arm, Offers, awaits, is_ready, awaits_variants, EachArm, under_index, AllArms, Choice, behind_choice, Tests, tests, EachChoice, under_choice_index, AllChoices, Variant, takes, AllVariants, OneOption, is_one_of, is_none_of, AllOptions, meant}
 use Rattle.occ_check_meaning.proofs.Steps.{bind_some, some_is}
 use Rattle.occ_check_meaning.proofs.Names.{plain}
@@ -86,6 +86,14 @@ taken_by_variant_sound line v vs f s sc h depth n x e =
     subst (λ y. Performs sc line depth n (input_variants v) (bodies vs) y.0 y.1) (some_is _ x t.2)
     (takes_variants (plain sc (λ ns. channel_of ns line v) c.1) p.1 m.1 (s p.0 sc h (depth + 1) m.0 t.0 t.1))
 
+-- ---- what stands within another of its kind
+
+pub nested_sound : {A : Type 0} (f : Under A) (P Q : Procedures → ℕ → Numbers → A → Numbers → Type 0) → Sound f P
+    → ((sc : Procedures) (depth deep : ℕ) (n m : Numbers) (a : A) → deeper depth 1 ≡ Some deep → P sc deep n a m → Q sc depth n a m) → Sound (nested f) Q
+nested_sound f P Q s g sc h depth n x e =
+    let w = bind_some (deeper depth 1) _ x e in
+    g sc depth w.0 n x.1 x.0 w.1 (s sc h w.0 n x w.2)
+
 -- ---- arms
 
 abbrev pub Offering : ℕ → (h : ArmHead) → Body (under arm h) → Procedures → ℕ → Numbers → Arms → Numbers → Type 0
@@ -93,7 +101,8 @@ Offering line h b sc depth n arms m = Offers sc line depth n h b arms m
 
 abbrev arms_rest : Under Arms → ℕ → Entered Calling → Option (Arms × Numbers)
 arms_rest f depth d = do
-  x ← f d.scope depth d.numbers
+  deep ← deeper depth (length d.heads)
+  x ← f d.scope deep d.numbers
   Some (arms_behind d.heads x.0, x.1)
 
 pub arms_under_sound : (ds : Decls) (line : ℕ) (h : ArmHead) (b : Body (under arm h)) (f : Under Arms)
@@ -102,8 +111,9 @@ pub arms_under_sound : (ds : Decls) (line : ℕ) (h : ArmHead) (b : Body (under 
 arms_under_sound ds line h b f declared_sound s sc a depth n x e =
     let d = bind_some (all_declared ds (meant sc) depth n) (arms_rest f depth) x e in
     let q = declared_sound sc a depth n d.0 d.1 in
-    let t = bind_some (f (meant q.0.scope) depth q.0.numbers) _ x (subst (λ y. arms_rest f depth y ≡ Some x) q.3 d.2) in
-    subst (λ y. Arm sc depth n (node ds line h b) y.0 y.1) (some_is _ x t.2) (behind_arm q.1 (s q.0.scope q.2 depth q.0.numbers t.0 t.1))
+    let w = bind_some (deeper depth (length q.0.heads)) _ x (subst (λ y. arms_rest f depth y ≡ Some x) q.3 d.2) in
+    let t = bind_some (f (meant q.0.scope) w.0 q.0.numbers) _ x w.2 in
+    subst (λ y. Arm sc depth n (node ds line h b) y.0 y.1) (some_is _ x t.2) (behind_arm q.1 w.1 (s q.0.scope q.2 w.0 q.0.numbers t.0 t.1))
 
 pub arm_of_sound : (line : ℕ) (g : Guard) (p : Node process) (f : Under Term) → Sound f (λ sc depth n t m. Unfolding sc depth n p t m)
     → Sound (arm_of line g f) (Offering line (guarded g) (single_body p))
@@ -148,7 +158,8 @@ Testing line h b sc depth n choices m = Tests sc line depth n h b choices m
 
 abbrev choices_rest : Under Choices → ℕ → Entered Calling → Option (Choices × Numbers)
 choices_rest f depth d = do
-  x ← f d.scope depth d.numbers
+  deep ← deeper depth (length d.heads)
+  x ← f d.scope deep d.numbers
   Some (choices_behind d.heads x.0, x.1)
 
 pub choices_under_sound : (ds : Decls) (line : ℕ) (h : ChoiceHead) (b : Body (under choice h)) (f : Under Choices)
@@ -157,8 +168,9 @@ pub choices_under_sound : (ds : Decls) (line : ℕ) (h : ChoiceHead) (b : Body (
 choices_under_sound ds line h b f declared_sound s sc a depth n x e =
     let d = bind_some (all_declared ds (meant sc) depth n) (choices_rest f depth) x e in
     let q = declared_sound sc a depth n d.0 d.1 in
-    let t = bind_some (f (meant q.0.scope) depth q.0.numbers) _ x (subst (λ y. choices_rest f depth y ≡ Some x) q.3 d.2) in
-    subst (λ y. Choice sc depth n (node ds line h b) y.0 y.1) (some_is _ x t.2) (behind_choice q.1 (s q.0.scope q.2 depth q.0.numbers t.0 t.1))
+    let w = bind_some (deeper depth (length q.0.heads)) _ x (subst (λ y. choices_rest f depth y ≡ Some x) q.3 d.2) in
+    let t = bind_some (f (meant q.0.scope) w.0 q.0.numbers) _ x w.2 in
+    subst (λ y. Choice sc depth n (node ds line h b) y.0 y.1) (some_is _ x t.2) (behind_choice q.1 w.1 (s q.0.scope q.2 w.0 q.0.numbers t.0 t.1))
 
 pub choice_of_sound : (line : ℕ) (test : Expression) (p : Node process) (f : Under Term) → Sound f (λ sc depth n t m. Unfolding sc depth n p t m)
     → Sound (choice_of line test f) (Testing line (chosen test) (single_body p))

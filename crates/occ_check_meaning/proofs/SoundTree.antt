@@ -10,15 +10,15 @@ use Rattle.occ_check_meaning.specs.Scope.{Pairs, known, proc, within}
 use Rattle.occ_check_meaning.specs.Numbers.{Numbers, at_start, more_processes}
 use Rattle.occ_check_meaning.specs.Declarations.{Opened, names_declared, value_declared, protocol_declared}
 use Rattle.occ_check_meaning.specs.Actions.{headed, opening, new_tag, Chosen, none_chosen}
-use Rattle.occ_check_meaning.specs.Performing.{Calling, Entered, entered, within_names, acted, sequenced, each_sequenced, beside, copies_beside, alternated, conditioned, selected, looped, taken_by_variant, arm_of, variants_arm, each_of_arms, choice_of, each_of_choices}
+use Rattle.occ_check_meaning.specs.Performing.{nested, Calling, Entered, entered, within_names, acted, sequenced, each_sequenced, beside, copies_beside, alternated, conditioned, selected, looped, taken_by_variant, arm_of, variants_arm, each_of_arms, choice_of, each_of_choices}
 use Rattle.occ_check_meaning.specs.Recursion.{variant_tag, unfolded, all_in_turn, all_beside, arm_unfolded, all_arms, choice_unfolded, all_choices, variant_unfolded, all_variants, option_unfolded, all_options, all_declared, declared, item_declared}
 use Rattle.occ_check_meaning.specs.Programs.{main_of, main_names, channels_from, items_declared, program_unfolded}
 use Rattle.occ_check_meaning.specs.ProgramUnfolding.{DeclareItems, no_item, one_item, ProgramUnfolding, program}
-use Rattle.occ_check_meaning.specs.Unfolding.{Procedure, procedure, Procedures, entered_by, DeclaresItem, declares_value, declares_protocol, declares_procedure, Declares, declares_names, declares_item, DeclareAll, no_declaration, one_declaration, Unfolding, InTurn, no_process, one_process, Beside, no_branch, one_branch, Arm, nests_arms, replicates_arm, AllArms, no_arm, one_arm, Choice, nests_choices, replicates_choice, AllChoices, no_choice, one_choice, Variant, AllVariants, no_variant, one_variant, AllOptions, no_option, one_option, meant}
+use Rattle.occ_check_meaning.specs.Unfolding.{Procedure, procedure, Procedures, entered_by, DeclaresItem, declares_value, declares_protocol, declares_procedure, Declares, declares_names, declares_item, DeclareAll, no_declaration, one_declaration, Unfolding, InTurn, no_process, one_process, Beside, no_branch, one_branch, Arm, nests_arms, replicates_arm, AllArms, no_arm, one_arm, Choice, nests_choices, replicates_choice, AllChoices, no_choice, one_choice, Variant, AllVariants, no_variant, one_variant, AllOptions, no_option, one_option, meant, EachArm, EachChoice}
 use Rattle.occ_check_meaning.proofs.Steps.{bind_some, some_is}
 use Rattle.occ_check_meaning.proofs.Names.{plain, meant_within}
 use Rattle.occ_check_meaning.proofs.Sound.{IsSound, AllSound, sound_within, Sound, inside, Enters, DeclaringSound, behind_sound, acted_sound, sequenced_sound, each_sequenced_sound, beside_sound, copies_sound}
-use Rattle.occ_check_meaning.proofs.SoundParts.{alternated_sound, each_alternated_sound, conditioned_sound, each_conditioned_sound, selected_sound, looped_sound, taken_by_variant_sound, arms_under_sound, arm_of_sound, variants_arm_sound, each_arm_sound, choices_under_sound, choice_of_sound, each_choice_sound, variant_of_sound, Opting, option_of_sound, else_of_sound}
+use Rattle.occ_check_meaning.proofs.SoundParts.{nested_sound, Offering, Testing, alternated_sound, each_alternated_sound, conditioned_sound, each_conditioned_sound, selected_sound, looped_sound, taken_by_variant_sound, arms_under_sound, arm_of_sound, variants_arm_sound, each_arm_sound, choices_under_sound, choice_of_sound, each_choice_sound, variant_of_sound, Opting, option_of_sound, else_of_sound}
 
 -- names that are entered, as a scope of PROCs
 names_entered : (D : Procedures → ℕ → Numbers → Entered Procedure → Type 0) (sc : Procedures) → AllSound sc → (depth : ℕ) (n : Numbers) (o : Option Opened) (x : Entered Calling)
@@ -89,10 +89,12 @@ mutual
       arms_under_sound ds line (guarded_variants test v) (bodies vs) (variants_arm line test v (λ p. all_variants vs p [])) (declared_sound ds)
       (variants_arm_sound line test v vs (λ p. all_variants vs p []) (λ p. variants_sound vs p [])) sc h depth n x e
   arm_sound (node ds line (nested_alternation pri None) (bodies xs)) sc h depth n x e =
-      arms_under_sound ds line (nested_alternation pri None) (bodies xs) (all_arms xs) (declared_sound ds) (λ s g d m y w. nests_arms (arms_sound xs s g d m y w)) sc h depth n x e
+      arms_under_sound ds line (nested_alternation pri None) (bodies xs) (nested (all_arms xs)) (declared_sound ds)
+      (nested_sound (all_arms xs) (λ sc depth n arms m. AllArms sc depth n xs arms m) (Offering line (nested_alternation pri None) (bodies xs)) (arms_sound xs) (λ sc depth deep n m a w u. nests_arms w u)) sc h depth n x e
   arm_sound (node ds line (nested_alternation pri (Some r)) (single_body a)) sc h depth n x e =
-      arms_under_sound ds line (nested_alternation pri (Some r)) (single_body a) (each_of_arms line r (arm_unfolded a)) (declared_sound ds)
-      (λ s g d m y w. replicates_arm (each_arm_sound line r a (arm_unfolded a) (arm_sound a) s g d m y w)) sc h depth n x e
+      arms_under_sound ds line (nested_alternation pri (Some r)) (single_body a) (nested (each_of_arms line r (arm_unfolded a))) (declared_sound ds)
+      (nested_sound (each_of_arms line r (arm_unfolded a)) (λ sc depth n arms m. EachArm sc line depth n r a arms m) (Offering line (nested_alternation pri (Some r)) (single_body a))
+      (each_arm_sound line r a (arm_unfolded a) (arm_sound a)) (λ sc depth deep n m a w u. replicates_arm w u)) sc h depth n x e
 
   pub arms_sound : (xs : Nodes arm) → Sound (all_arms xs) (λ sc depth n arms m. AllArms sc depth n xs arms m)
   arms_sound no_node sc h depth n x e = subst (λ y. AllArms sc depth n no_node y.0 y.1) (some_is _ x e) no_arm
@@ -105,10 +107,12 @@ mutual
   choice_sound (node ds line (chosen test) (single_body p)) sc h depth n x e =
       choices_under_sound ds line (chosen test) (single_body p) (choice_of line test (unfolded p)) (declared_sound ds) (choice_of_sound line test p (unfolded p) (unfolded_sound p)) sc h depth n x e
   choice_sound (node ds line (nested_conditional None) (bodies xs)) sc h depth n x e =
-      choices_under_sound ds line (nested_conditional None) (bodies xs) (all_choices xs) (declared_sound ds) (λ s g d m y w. nests_choices (choices_sound xs s g d m y w)) sc h depth n x e
+      choices_under_sound ds line (nested_conditional None) (bodies xs) (nested (all_choices xs)) (declared_sound ds)
+      (nested_sound (all_choices xs) (λ sc depth n choices m. AllChoices sc depth n xs choices m) (Testing line (nested_conditional None) (bodies xs)) (choices_sound xs) (λ sc depth deep n m a w u. nests_choices w u)) sc h depth n x e
   choice_sound (node ds line (nested_conditional (Some r)) (single_body c)) sc h depth n x e =
-      choices_under_sound ds line (nested_conditional (Some r)) (single_body c) (each_of_choices line r (choice_unfolded c)) (declared_sound ds)
-      (λ s g d m y w. replicates_choice (each_choice_sound line r c (choice_unfolded c) (choice_sound c) s g d m y w)) sc h depth n x e
+      choices_under_sound ds line (nested_conditional (Some r)) (single_body c) (nested (each_of_choices line r (choice_unfolded c))) (declared_sound ds)
+      (nested_sound (each_of_choices line r (choice_unfolded c)) (λ sc depth n choices m. EachChoice sc line depth n r c choices m) (Testing line (nested_conditional (Some r)) (single_body c))
+      (each_choice_sound line r c (choice_unfolded c) (choice_sound c)) (λ sc depth deep n m a w u. replicates_choice w u)) sc h depth n x e
 
   pub choices_sound : (xs : Nodes choice) → Sound (all_choices xs) (λ sc depth n choices m. AllChoices sc depth n xs choices m)
   choices_sound no_node sc h depth n x e = subst (λ y. AllChoices sc depth n no_node y.0 y.1) (some_is _ x e) no_choice

@@ -73,6 +73,10 @@ most_nodes = 100000
 abbrev pub most_depth : ℕ
 most_depth = 200
 
+-- (refusal: too large) so many levels more, none of which is a node, under so many that stand round them
+abbrev pub deeper : ℕ → (levels : ℕ) → Option ℕ
+deeper depth levels = keep (nat_le (depth + levels) most_depth) (depth + levels)
+
 -- (refusal: too large) nodes of this size, under so many nodes that stand round them
 abbrev pub room : ℕ → Size → Numbers → Option Numbers
 room depth size n = keep (nat_le (depth + size.depth) most_depth && nat_le (n.nodes + size.nodes) most_nodes)

@@ -1,6 +1,6 @@
 -- What each construct unfolds to, from what its parts unfold to. A PROC means a function: what a call of it unfolds to.
 -- Manual: scope; procedures; combining processes. Nested ALTs and IFs in the place of their parts, and the numbers: (own).
-use Rattle.std.specs.Prelude.{Bool, List, Option, Some, suc, zero, pos, ℕ, ℤ, ◌+◌, ◌+ℤ◌, ◌∷◌}
+use Rattle.std.specs.Prelude.{Bool, List, Option, Some, length, suc, zero, pos, ℕ, ℤ, ◌+◌, ◌+ℤ◌, ◌∷◌}
 use Rattle.occ_tree_grammar.specs.Many.{◌>>=◌}
 use Rattle.occ_tree_grammar.specs.Expressions.Trees.{Expression}
 use Rattle.occ_tree_grammar.specs.Lines.Trees as L
@@ -15,7 +15,7 @@ use Rattle.occ_term.specs.Terms.{Declaration, Term, Terms, Branches, no_branches
 use Rattle.occ_term.specs.Sizes as Sizes
 use Rattle.occ_term.specs.Sizes.{no_size, size_of_test, size_of_expression, size_of_place, size_of_targets, size_of_constants}
 use Rattle.occ_check_meaning.specs.Scope.{each_of, Names, Pairs, as_proc, Scope, find, names_of, within}
-use Rattle.occ_check_meaning.specs.Numbers.{Numbers, more_processes, room}
+use Rattle.occ_check_meaning.specs.Numbers.{Numbers, deeper, more_processes, room}
 use Rattle.occ_check_meaning.specs.Expressions.{typed_as, constant_as}
 use Rattle.occ_check_meaning.specs.Items.{channel_of, stored}
 use Rattle.occ_check_meaning.specs.Declarations.{Opened, indexed, copies_of, index_of}
@@ -160,10 +160,16 @@ taken_by_variant line v variants sc depth n = do
 
 -- ---- arms of an ALT; the depth is that at which they stand
 
+-- what stands within another of its kind, as a nested ALT, is no node, but stands one level deeper
+abbrev pub nested : {A : Type 0} → Under A → Under A
+nested parts sc depth n = deeper depth 1 >>= λ deep. parts sc deep n
+
+-- each Clear and each Local before an arm is a level more round it
 abbrev pub arms_under : Declaring → Under Arms → Under Arms
 arms_under declared arms sc depth n = do
   d ← declared sc depth n
-  x ← arms d.scope depth d.numbers
+  deep ← deeper depth (length d.heads)
+  x ← arms d.scope deep d.numbers
   Some (arms_behind d.heads x.0, x.1)
 
 abbrev pub arm_of : ℕ → Guard → Under Term → Under Arms
@@ -196,10 +202,12 @@ each_of_arms line r arms sc depth n = do
 
 -- ---- choices of an IF; the depth is that at which they stand
 
+-- each Clear and each Local before a choice is a level more round it
 abbrev pub choices_under : Declaring → Under Choices → Under Choices
 choices_under declared choices sc depth n = do
   d ← declared sc depth n
-  x ← choices d.scope depth d.numbers
+  deep ← deeper depth (length d.heads)
+  x ← choices d.scope deep d.numbers
   Some (choices_behind d.heads x.0, x.1)
 
 abbrev pub choice_of : ℕ → Expression → Under Term → Under Choices

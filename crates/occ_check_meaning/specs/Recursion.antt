@@ -11,7 +11,7 @@ use Rattle.occ_term.specs.Terms.{Term, Terms, no_terms, then_term, Branches, no_
 use Rattle.occ_check_meaning.specs.Scope.{Name, proc, names_of, within}
 use Rattle.occ_check_meaning.specs.Declarations.{names_declared, value_declared, protocol_declared}
 use Rattle.occ_check_meaning.specs.Actions.{new_tag, Chosen, none_chosen, arms_then, choices_then, variants_then, options_then}
-use Rattle.occ_check_meaning.specs.Performing.{Under, Declaring, entered, within_names, calling, behind, acted, sequenced, each_sequenced, beside, branch, copies_beside, alternated, conditioned, selected, looped, taken_by_variant, arms_under, arm_of, variants_arm, each_of_arms, choices_under, choice_of, each_of_choices, variant_of, option_of, else_of}
+use Rattle.occ_check_meaning.specs.Performing.{Under, Declaring, entered, within_names, calling, behind, acted, sequenced, each_sequenced, beside, branch, copies_beside, alternated, conditioned, selected, looped, taken_by_variant, nested, arms_under, arm_of, variants_arm, each_of_arms, choices_under, choice_of, each_of_choices, variant_of, option_of, else_of}
 
 -- the tag that a variant names
 abbrev pub variant_tag : Node variant → Name
@@ -48,8 +48,8 @@ unfoldable mutual
   pub arm_unfolded : Node arm → Under Arms
   arm_unfolded (node ds line (guarded g) (single_body p)) sc depth n = arms_under (all_declared ds) (arm_of line g (unfolded p)) sc depth n
   arm_unfolded (node ds line (guarded_variants test v) (bodies vs)) sc depth n = arms_under (all_declared ds) (variants_arm line test v (λ p. all_variants vs p [])) sc depth n
-  arm_unfolded (node ds line (nested_alternation pri None) (bodies xs)) sc depth n = arms_under (all_declared ds) (all_arms xs) sc depth n
-  arm_unfolded (node ds line (nested_alternation pri (Some r)) (single_body a)) sc depth n = arms_under (all_declared ds) (each_of_arms line r (arm_unfolded a)) sc depth n
+  arm_unfolded (node ds line (nested_alternation pri None) (bodies xs)) sc depth n = arms_under (all_declared ds) (nested (all_arms xs)) sc depth n
+  arm_unfolded (node ds line (nested_alternation pri (Some r)) (single_body a)) sc depth n = arms_under (all_declared ds) (nested (each_of_arms line r (arm_unfolded a))) sc depth n
 
   pub all_arms : Nodes arm → Under Arms
   all_arms no_node sc depth n = Some (no_arms, n)
@@ -61,8 +61,8 @@ unfoldable mutual
   -- ---- a nested IF's choices stand in its place
   pub choice_unfolded : Node choice → Under Choices
   choice_unfolded (node ds line (chosen test) (single_body p)) sc depth n = choices_under (all_declared ds) (choice_of line test (unfolded p)) sc depth n
-  choice_unfolded (node ds line (nested_conditional None) (bodies xs)) sc depth n = choices_under (all_declared ds) (all_choices xs) sc depth n
-  choice_unfolded (node ds line (nested_conditional (Some r)) (single_body c)) sc depth n = choices_under (all_declared ds) (each_of_choices line r (choice_unfolded c)) sc depth n
+  choice_unfolded (node ds line (nested_conditional None) (bodies xs)) sc depth n = choices_under (all_declared ds) (nested (all_choices xs)) sc depth n
+  choice_unfolded (node ds line (nested_conditional (Some r)) (single_body c)) sc depth n = choices_under (all_declared ds) (nested (each_of_choices line r (choice_unfolded c))) sc depth n
 
   pub all_choices : Nodes choice → Under Choices
   all_choices no_node sc depth n = Some (no_choices, n)

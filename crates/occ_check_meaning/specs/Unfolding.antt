@@ -1,7 +1,7 @@
 -- The unfoldings of a tree, by cases: the term that a process unfolds to under a scope, so many nodes deep, with the numbers before
 -- and after it. A PROC's pair holds its formals and its body; the scope that it sees is the rest of the list behind its pair.
 -- Manual: scope; procedures; combining processes. Nested ALTs and IFs in the place of their parts, and the numbers: (own).
-use Rattle.std.specs.Prelude.{Bool, List, None, Option, Some, [], bytes_eq, cond, pos, suc, zero, ℕ, ℤ, ◌+◌, ◌++◌, ◌+ℤ◌, ◌∷◌, ◌≡◌}
+use Rattle.std.specs.Prelude.{Bool, List, None, Option, Some, [], bytes_eq, cond, length, pos, suc, zero, ℕ, ℤ, ◌+◌, ◌++◌, ◌+ℤ◌, ◌∷◌, ◌≡◌}
 use Rattle.occ_tree_grammar.specs.Expressions.Trees.{Expression, Expressions}
 use Rattle.occ_tree_grammar.specs.Lines.Trees as L
 use Rattle.occ_tree_grammar.specs.Lines.Trees.{Var, Out, Actuals, Formals}
@@ -18,7 +18,7 @@ use Rattle.occ_term.specs.Terms.{Term, Place, Target, Terms, no_terms, then_term
 use Rattle.occ_term.specs.Sizes as Sizes
 use Rattle.occ_term.specs.Sizes.{no_size, size_of, size_of_test, size_of_expression, size_of_place, size_of_targets, size_of_constants}
 use Rattle.occ_check_meaning.specs.Scope.{each_of, Name, Binding, known, proc, Scope, names_of, within}
-use Rattle.occ_check_meaning.specs.Numbers.{Numbers, more_processes, room}
+use Rattle.occ_check_meaning.specs.Numbers.{Numbers, deeper, more_processes, room}
 use Rattle.occ_check_meaning.specs.Expressions.{typed_as, constant_as}
 use Rattle.occ_check_meaning.specs.Items.{channel_of, stored}
 use Rattle.occ_check_meaning.specs.Declarations.{Opened, names_declared, value_declared, protocol_declared, Indexed, indexed, copies_of, index_of}
@@ -153,8 +153,8 @@ mutual
 
   -- ---- arms; the depth is that at which they stand
   pub data Arm : Procedures → (depth : ℕ) → Numbers → Node arm → Arms → Numbers → Type 0 where
-    behind_arm : {sc : Procedures} {depth line : ℕ} {n l : Numbers} {ds : Decls} {h : ArmHead} {b : Body (under arm h)} {d : Entered Procedure} {arms : Arms}
-        → DeclareAll sc depth n ds d → Offers d.scope line depth d.numbers h b arms l → Arm sc depth n (node ds line h b) (arms_behind d.heads arms) l
+    behind_arm : {sc : Procedures} {depth deep line : ℕ} {n l : Numbers} {ds : Decls} {h : ArmHead} {b : Body (under arm h)} {d : Entered Procedure} {arms : Arms}
+        → DeclareAll sc depth n ds d → deeper depth (length d.heads) ≡ Some deep → Offers d.scope line deep d.numbers h b arms l → Arm sc depth n (node ds line h b) (arms_behind d.heads arms) l
 
   pub data Offers : Procedures → (line depth : ℕ) → Numbers → (h : ArmHead) → Body (under arm h) → Arms → Numbers → Type 0 where
     awaits : {sc : Procedures} {line depth : ℕ} {n m l : Numbers} {test : Option Expression} {i : L.Input} {p : Node process} {e : Option T.Expression} {c : Place × Listed} {t : Term}
@@ -171,11 +171,11 @@ mutual
         → room depth (Sizes.node (Sizes.beside (size_of_test e) (size_of_place c.1))) n ≡ Some m
         → AllVariants sc (depth + 1) m p [] vs xs l
         → Offers sc line depth n (guarded_variants test v) (bodies vs) (input_arm e c.1 (Tagged xs) no_arms) l
-    -- a nested ALT's arms stand in its place; the PRI of the outermost decides
-    nests_arms : {sc : Procedures} {line depth : ℕ} {n l : Numbers} {pri : Bool} {xs : Nodes arm} {arms : Arms}
-        → AllArms sc depth n xs arms l → Offers sc line depth n (nested_alternation pri None) (bodies xs) arms l
-    replicates_arm : {sc : Procedures} {line depth : ℕ} {n l : Numbers} {pri : Bool} {r : L.Replicator} {a : Node arm} {arms : Arms}
-        → EachArm sc line depth n r a arms l → Offers sc line depth n (nested_alternation pri (Some r)) (single_body a) arms l
+    -- a nested ALT's arms stand in its place, one level deeper; the PRI of the outermost decides
+    nests_arms : {sc : Procedures} {line depth deep : ℕ} {n l : Numbers} {pri : Bool} {xs : Nodes arm} {arms : Arms}
+        → deeper depth 1 ≡ Some deep → AllArms sc deep n xs arms l → Offers sc line depth n (nested_alternation pri None) (bodies xs) arms l
+    replicates_arm : {sc : Procedures} {line depth deep : ℕ} {n l : Numbers} {pri : Bool} {r : L.Replicator} {a : Node arm} {arms : Arms}
+        → deeper depth 1 ≡ Some deep → EachArm sc line deep n r a arms l → Offers sc line depth n (nested_alternation pri (Some r)) (single_body a) arms l
 
   pub data EachArm : Procedures → (line depth : ℕ) → Numbers → L.Replicator → Node arm → Arms → Numbers → Type 0 where
     under_index : {sc : Procedures} {line depth : ℕ} {n l : Numbers} {r : L.Replicator} {a : Node arm} {i : Indexed} {arms : Arms}
@@ -189,19 +189,19 @@ mutual
 
   -- ---- choices; the depth is that at which they stand
   pub data Choice : Procedures → (depth : ℕ) → Numbers → Node choice → Choices → Numbers → Type 0 where
-    behind_choice : {sc : Procedures} {depth line : ℕ} {n l : Numbers} {ds : Decls} {h : ChoiceHead} {b : Body (under choice h)} {d : Entered Procedure} {choices : Choices}
-        → DeclareAll sc depth n ds d → Tests d.scope line depth d.numbers h b choices l → Choice sc depth n (node ds line h b) (choices_behind d.heads choices) l
+    behind_choice : {sc : Procedures} {depth deep line : ℕ} {n l : Numbers} {ds : Decls} {h : ChoiceHead} {b : Body (under choice h)} {d : Entered Procedure} {choices : Choices}
+        → DeclareAll sc depth n ds d → deeper depth (length d.heads) ≡ Some deep → Tests d.scope line deep d.numbers h b choices l → Choice sc depth n (node ds line h b) (choices_behind d.heads choices) l
 
   pub data Tests : Procedures → (line depth : ℕ) → Numbers → (h : ChoiceHead) → Body (under choice h) → Choices → Numbers → Type 0 where
     tests : {sc : Procedures} {line depth : ℕ} {n m l : Numbers} {test : Expression} {p : Node process} {e : T.Expression} {t : Term}
         → typed_as (names_of sc) line Boolean test ≡ Some e → room depth (Sizes.node (size_of_expression e)) n ≡ Some m
         → Unfolding sc (depth + 1) m p t l
         → Tests sc line depth n (chosen test) (single_body p) (or_choice e t no_choices) l
-    -- a nested IF's choices stand in its place
-    nests_choices : {sc : Procedures} {line depth : ℕ} {n l : Numbers} {xs : Nodes choice} {choices : Choices}
-        → AllChoices sc depth n xs choices l → Tests sc line depth n (nested_conditional None) (bodies xs) choices l
-    replicates_choice : {sc : Procedures} {line depth : ℕ} {n l : Numbers} {r : L.Replicator} {c : Node choice} {choices : Choices}
-        → EachChoice sc line depth n r c choices l → Tests sc line depth n (nested_conditional (Some r)) (single_body c) choices l
+    -- a nested IF's choices stand in its place, one level deeper
+    nests_choices : {sc : Procedures} {line depth deep : ℕ} {n l : Numbers} {xs : Nodes choice} {choices : Choices}
+        → deeper depth 1 ≡ Some deep → AllChoices sc deep n xs choices l → Tests sc line depth n (nested_conditional None) (bodies xs) choices l
+    replicates_choice : {sc : Procedures} {line depth deep : ℕ} {n l : Numbers} {r : L.Replicator} {c : Node choice} {choices : Choices}
+        → deeper depth 1 ≡ Some deep → EachChoice sc line deep n r c choices l → Tests sc line depth n (nested_conditional (Some r)) (single_body c) choices l
 
   pub data EachChoice : Procedures → (line depth : ℕ) → Numbers → L.Replicator → Node choice → Choices → Numbers → Type 0 where
     under_choice_index : {sc : Procedures} {line depth : ℕ} {n l : Numbers} {r : L.Replicator} {c : Node choice} {i : Indexed} {choices : Choices}

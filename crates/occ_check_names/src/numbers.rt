@@ -4,7 +4,7 @@ ghost use Rattle.std.specs.Prelude.{◌≡◌, ◌<◌, ◌≤◌, ◌+◌, ◌+
 ghost use Rattle.occ_term.specs.Messages.{product};
 ghost use Rattle.occ_term.specs.Sizes.{no_size, node};
 ghost use Rattle.occ_term.specs.Unfolding.{byte_channel};
-ghost use Rattle.occ_check_meaning.specs.Numbers.{at_start, component_name, component_names, more_cells, more_channels, more_processes, more_protocols, most_depth, room};
+ghost use Rattle.occ_check_meaning.specs.Numbers.{at_start, component_name, component_names, deeper, more_cells, more_channels, more_processes, more_protocols, most_depth, room};
 ghost use Rattle.occ_check_meaning.specs.Scope.{keep};
 ghost use Rattle.occ_check_names.specs.View.{Counts, Gives, numbers_of};
 
@@ -173,6 +173,23 @@ impl Numbers {
         } else {
             Err(CheckFault::TooLarge)
         }
+    }
+}
+
+/// How deep it is so many levels further down, none of which is a node.
+///
+/// # Errors
+///
+/// `TooLarge` past a depth of 200.
+pub fn deeper(depth: u32, levels: usize) -> Result<u32, CheckFault>
+    requires { depth ≤ most_depth }
+    ensures deep { Gives (λ deep. deep) result (deeper depth levels) }
+    ensures within { IfOk result (λ deep. deep ≤ most_depth) }
+{
+    if levels <= (MOST_DEPTH - depth) as usize {
+        Ok(depth + levels as u32)
+    } else {
+        Err(CheckFault::TooLarge)
     }
 }
 

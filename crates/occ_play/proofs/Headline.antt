@@ -25,9 +25,9 @@ use Rattle.occ_net_replay.specs.declared.ending.Ending.{Ending}
 use Rattle.occ_net_replay.specs.declared.ending.Ending.TheVariants as E
 use Rattle.occ_play.specs.declared.playing.Played.{Played}
 use Rattle.occ_play.specs.declared.running.Outcome.{Outcome}
-use Rattle.occ_net.specs.declared.trace.Communication.{Communication as Made}
-use Rattle.occ_play.specs.Answers.{AreByteMessages, IsByteMessage, answer_text, names_of}
-use Rattle.occ_net.specs.Holding.{communication_of}
+use Rattle.occ_net_tables.specs.declared.trace.Communication.{Communication as Made}
+use Rattle.occ_shown.specs.Answers.{AreByteMessages, IsByteMessage, answer_text, names_of}
+use Rattle.occ_net_tables.specs.Holding.{communication_of}
 use Rattle.occ_net_replay.specs.Following.{AllFit, AreBytes, Followed, ending_as, or_limit}
 use Rattle.occ_play.specs.Outcomes.{Begins, IsOutcome}
 use Rattle.occ_play.specs.Playing.{IsAnswer, Unfolds, UsageRefusesText, CodeRefusesText}

@@ -8,10 +8,10 @@ use Rattle.occ_code.specs.Sequential.Compiled.{Program}
 use Rattle.occ_net_replay.specs.declared.choice.Choice.{Choice}
 use Rattle.occ_net_replay.specs.Following.{AreBytes, or_limit}
 use Rattle.occ_net_replay.specs.Replay.{Net, begins, ending_of, first_net, goes_on}
-use Rattle.occ_net.specs.declared.network.Network.{Network}
-use Rattle.occ_net.specs.Holding.{Holds, communication_of}
-use Rattle.occ_net.specs.Running.{HasReplayed}
-use Rattle.occ_net.specs.Settling.{Standing, TurnsTo}
+use Rattle.occ_net_tables.specs.declared.tables.Tables.{Tables}
+use Rattle.occ_net_tables.specs.Holding.{Holds, communication_of}
+use Rattle.occ_net_tables.specs.Running.{HasReplayed}
+use Rattle.occ_net_tables.specs.Settling.{Standing, TurnsTo}
 use Rattle.occ_play.specs.declared.running.Outcome.{Outcome}
 use Rattle.occ_play.specs.Outcomes.{Begins, IsOutcome}
 
@@ -22,18 +22,18 @@ are_bytes (b ∷ bs) h = (h 0, are_bytes bs (λ k. h (suc k)))
 
 -- ---- turn by turn
 
-pub starts : (p : Program) (kb : List ℕ) (n : Network) → ((k : List ℕ) → Holds p k n (first_net p k)) → HasReplayed p kb [] n
+pub starts : (p : Program) (kb : List ℕ) (n : Tables) → ((k : List ℕ) → Holds p k n (first_net p k)) → HasReplayed p kb [] n
 starts p kb n h = record { net = first_net p kb; replays = begins; holds = h kb }
 
-pub stands : (p : Program) (kb : List ℕ) (cs : List Choice) (n : Network) → 1 + length cs < 2 ^ 64 → (h : HasReplayed p kb cs n) → ending_of h.net ≡ None → Standing p kb n
+pub stands : (p : Program) (kb : List ℕ) (cs : List Choice) (n : Tables) → 1 + length cs < 2 ^ 64 → (h : HasReplayed p kb cs n) → ending_of h.net ≡ None → Standing p kb n
 stands p kb cs n few h going = record { choices = cs; few = few; net = h.net; replays = h.replays; open_end = going; holds = h.holds }
 
-pub one_more_turn : (p : Program) (kb : List ℕ) (cs : List Choice) (c : Choice) (old new : Network) (h : HasReplayed p kb cs old) → ending_of h.net ≡ None → ((net : Net) → Holds p kb old net → TurnsTo p kb c net new) → HasReplayed p kb (cs ++ c ∷ []) new
+pub one_more_turn : (p : Program) (kb : List ℕ) (cs : List Choice) (c : Choice) (old new : Tables) (h : HasReplayed p kb cs old) → ending_of h.net ≡ None → ((net : Net) → Holds p kb old net → TurnsTo p kb c net new) → HasReplayed p kb (cs ++ c ∷ []) new
 one_more_turn p kb cs c old new h going turns =
     let x = turns h.net h.holds in
     record { net = x.next; replays = goes_on h.replays going x.turn; holds = x.holds }
 
-pub outcome : (p : Program) (kb : List ℕ) (list : List Choice) (n : Network) (o : Outcome) (h : HasReplayed p kb o.choices.items n) → h.net.trace ≡ map communication_of o.trace.items → Begins o.choices.items list → o.ending ≡ or_limit (ending_of h.net)
+pub outcome : (p : Program) (kb : List ℕ) (list : List Choice) (n : Tables) (o : Outcome) (h : HasReplayed p kb o.choices.items n) → h.net.trace ≡ map communication_of o.trace.items → Begins o.choices.items list → o.ending ≡ or_limit (ending_of h.net)
     → (ending_of h.net ≡ None → o.choices.items ≡ list) → IsOutcome p kb list o
 outcome p kb list n o h t b e w = record { net = h.net; replays = h.replays; trace = t; used = b; ending = e; whole = w }
 

@@ -50,7 +50,7 @@ status_small (Err fault) = fault_small fault
 pub failure_small : (f : Failure) → failure_status f ≤ 7
 failure_small (Help error) = omega arith
 failure_small Memory = omega arith
-failure_small Read = omega arith
+failure_small (Read name error) = omega arith
 failure_small (Choices choice.Memory) = omega arith
 failure_small (Choices fault) = omega arith
 failure_small Write = omega arith

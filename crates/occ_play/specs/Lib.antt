@@ -1,7 +1,6 @@
 pub mod Counting
 pub mod Plans
 pub mod Outcomes
-pub mod Answers
 pub mod Status
 pub mod Playing
 pub mod Failures

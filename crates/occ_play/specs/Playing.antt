@@ -29,7 +29,7 @@ use Rattle.occ_play.specs.declared.playing.Played.{Played}
 use Rattle.occ_play.specs.declared.counted.Counted.{Counted}
 use Rattle.occ_play.specs.declared.fault.PlayFault.{PlayFault}
 use Rattle.occ_play.specs.declared.fault.PlayFault.TheVariants as play
-use Rattle.occ_play.specs.Answers.{answer_text, names_of}
+use Rattle.occ_shown.specs.Answers.{answer_text, names_of}
 use Rattle.occ_play.specs.Counting.{failures_of, writer_of}
 use Rattle.occ_net_replay.specs.Following.{AllFit, ending_as, or_limit, process_in}
 use Rattle.occ_play.specs.Outcomes.{Begins}

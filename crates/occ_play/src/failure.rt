@@ -1,12 +1,12 @@
 //! Why the program played nothing, or could not write what it played.
-ghost use Rattle.std.specs.Prelude.{◌≡◌, ◌≢◌};
+ghost use Rattle.std.specs.Prelude.{◌≡◌, ◌≢◌, ◌⊎◌};
 ghost use Rattle.std.specs.IoError.{error_kind};
 ghost use Rattle.clap.specs.Values.{kind_of};
-ghost use Rattle.occ_play.specs.Failures.{failure_status};
+ghost use Rattle.occ_play.specs.Failures.{failure_status, TellsRead};
 
 use clap::error::ErrorKind as WordsErrorKind;
 use occ_choices::ChoiceFault;
-use std::alloc::AllocError;
+use std::alloc::{AllocError, Global};
 use std::io;
 use std::io::ErrorKind;
 use thiserror::Error;
@@ -21,11 +21,11 @@ pub(crate) enum Failure {
     #[error("{0}")]
     Words(clap::Error),
     /// An argument is no UTF-8.
-    #[error("an argument is no text")]
+    #[error("an argument is no UTF-8")]
     Arguments,
-    /// A file or standard input could not be read.
-    #[error("read failed")]
-    Read,
+    /// What has this name could not be read.
+    #[error("cannot read {0}: {1}")]
+    Read(String, io::Error),
     /// The file of choices is none.
     #[error("{0}")]
     Choices(ChoiceFault),
@@ -45,7 +45,7 @@ impl Failure {
         match self {
             Failure::Help(_) => 0,
             Failure::Memory | Failure::Choices(ChoiceFault::Memory) => 5,
-            Failure::Read | Failure::Write => 6,
+            Failure::Read(_, _) | Failure::Write => 6,
             Failure::Words(_) | Failure::Arguments | Failure::Choices(_) => 7,
         }
     }
@@ -83,13 +83,14 @@ pub(crate) fn of_words(error: clap::Error) -> Failure
     }
 }
 
-pub(crate) fn of_read(error: io::Error) -> Failure
+/// Why what has this name was not read.
+pub(crate) fn of_read(alloc: Global, name: &str, error: io::Error) -> Failure
     ensures memory { error_kind error ≡ ErrorKind.OutOfMemory → result ≡ Failure.Memory }
-    ensures other { error_kind error ≢ ErrorKind.OutOfMemory → result ≡ Failure.Read }
+    ensures other { error_kind error ≢ ErrorKind.OutOfMemory → TellsRead name.now result ⊎ result ≡ Failure.Memory }
 {
-    match error.kind() {
-        ErrorKind::OutOfMemory => Failure::Memory,
-        _ => Failure::Read,
+    match (error.kind(), String::from_str(alloc, name)) {
+        (ErrorKind::OutOfMemory, _) | (_, Err(_)) => Failure::Memory,
+        (_, Ok(name)) => Failure::Read(name, error),
     }
 }
 

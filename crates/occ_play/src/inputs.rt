@@ -16,6 +16,9 @@ use std::rt::Files;
 /// How many bytes of a source are read: one more than it may have.
 const MOST_SOURCE: u64 = 1_048_577;
 
+/// What the keyboard's stream is called where it can't be read.
+const STANDARD_INPUT: &str = "standard input";
+
 /// What the program plays.
 #[derive(Drop)]
 pub(crate) struct Inputs {
@@ -51,45 +54,63 @@ fn read_texts<R: Files + Input>(
     words: &Words<'_>,
 ) -> Result<(Vec<u8>, Vec<u8>), Failure> {
     match words.file {
-        None => read_both(alloc, rt.reader(), empty()),
+        None => read_both(alloc, STANDARD_INPUT, rt.reader(), empty()),
         Some(path) => {
-            let file = fs::open(rt, path).map_err(of_read)?;
-            read_both(alloc, file, rt.reader())
+            let file = open(rt, alloc, path)?;
+            read_both(alloc, path, file, rt.reader())
         }
     }
 }
 
-/// The first bytes of a source, one more than it may have, and all that is typed.
+/// The file of this path, to be read.
+fn open<R: Files>(rt: &R, alloc: Global, path: &str) -> Result<R::File, Failure> {
+    match fs::open(rt, path) {
+        Ok(file) => Ok(file),
+        Err(error) => Err(of_read(alloc, path, error)),
+    }
+}
+
+/// The first bytes of a source of this name, one more than it may have, and all that is typed.
 fn read_both<S: Read + Drop, K: Read + Drop>(
     alloc: Global,
+    name: &str,
     source: S,
     keyboard: K,
 ) -> Result<(Vec<u8>, Vec<u8>), Failure>
     ensures source { IfSome (S.remaining source) (λ xs. IfOk result (λ r. r.0.items ≡ take 1048577 xs)) }
     ensures keyboard { IfSome (K.remaining keyboard) (λ xs. IfOk result (λ r. r.1.items ≡ xs)) }
 {
-    let source = read_most(alloc, source, MOST_SOURCE)?;
-    let keyboard = read_all(alloc, keyboard)?;
+    let source = read_most(alloc, name, source, MOST_SOURCE)?;
+    let keyboard = read_all(alloc, STANDARD_INPUT, keyboard)?;
     Ok((source, keyboard))
 }
 
 /// All bytes of a reader, or so many where there are more.
-fn read_most<R: Read + Drop>(alloc: Global, reader: R, most: u64) -> Result<Vec<u8>, Failure>
+fn read_most<R: Read + Drop>(
+    alloc: Global,
+    name: &str,
+    reader: R,
+    most: u64,
+) -> Result<Vec<u8>, Failure>
     ensures { IfSome (R.remaining reader) (λ xs. IfOk result (λ bytes. bytes.items ≡ take most xs)) }
 {
     let mut bytes = Vec::new(alloc);
-    reader.take(most).read_to_end(&mut bytes).map_err(of_read)?;
-    Ok(bytes)
+    match reader.take(most).read_to_end(&mut bytes) {
+        Ok(_) => Ok(bytes),
+        Err(error) => Err(of_read(alloc, name, error)),
+    }
 }
 
 /// All bytes of a reader.
-fn read_all<R: Read + Drop>(alloc: Global, reader: R) -> Result<Vec<u8>, Failure>
+fn read_all<R: Read + Drop>(alloc: Global, name: &str, reader: R) -> Result<Vec<u8>, Failure>
     ensures { IfSome (R.remaining reader) (λ xs. IfOk result (λ bytes. bytes.items ≡ xs)) }
 {
     let mut reader = reader;
     let mut bytes = Vec::new(alloc);
-    reader.read_to_end(&mut bytes).map_err(of_read)?;
-    Ok(bytes)
+    match reader.read_to_end(&mut bytes) {
+        Ok(_) => Ok(bytes),
+        Err(error) => Err(of_read(alloc, name, error)),
+    }
 }
 
 /// The choices of the file that the words name, or as many turns as they allow.
@@ -99,8 +120,8 @@ fn read_plan<R: Files>(rt: &R, alloc: Global, words: &Words<'_>) -> Result<Plan,
     match words.choices {
         None => Ok(Plan::Turns(words.limit)),
         Some(path) => {
-            let file = fs::open(rt, path).map_err(of_read)?;
-            let text = read_all(alloc, file)?;
+            let file = open(rt, alloc, path)?;
+            let text = read_all(alloc, path, file)?;
             plan_of(alloc, text.as_slice())
         }
     }

@@ -1,7 +1,6 @@
 //! Plays occam programs: from a source text and the keyboard's bytes to the answer's bytes.
 #![tactic(auto)]
 
-mod answer;
 pub mod counted;
 mod failure;
 pub mod fault;
@@ -17,8 +16,8 @@ pub mod words;
 pub use counted::Counted;
 pub use fault::PlayFault;
 pub use occ_choices::{ChoiceFault, choices_text, read_choices};
-pub use occ_net::{Communication, End};
 pub use occ_net_replay::{Choice, Ending};
+pub use occ_net_tables::{Communication, End};
 pub use plan::Plan;
 pub use playing::{Played, play, status_of};
 pub use program::run;

@@ -6,7 +6,6 @@ ghost use Rattle.occ_play.specs.Playing.{AfterFault, IsAnswer, IsSomeAnswer, Ref
 ghost use Rattle.occ_term.specs.Unfolding.{Lawful};
 ghost use Rattle.occ_play.specs.Status.{status};
 
-use crate::answer::answer;
 use crate::counted::{Counted, write_answer};
 use crate::fault::PlayFault;
 use crate::plan::Plan;
@@ -14,6 +13,7 @@ use crate::running::{Outcome, run};
 use occ_check::{CheckFault, unfold};
 use occ_code::{CodeFault, compile};
 use occ_net_replay::{Choice, Ending};
+use occ_shown::answer;
 use occ_term::{Checked, Refused, Unfolded, UsageFault, check_usage};
 use occ_text::{TextFault, read_lines};
 use occ_tree::parse;
@@ -79,7 +79,13 @@ fn answered(
         Err(fault) => return Err(PlayFault::Code(fault)),
     };
     let outcome = run(alloc, &code, keyboard, plan)?;
-    let bytes = answer(alloc, &outcome, code.channels(), trace)?;
+    let bytes = answer(
+        alloc,
+        outcome.trace.as_slice(),
+        code.channels(),
+        outcome.ending,
+        trace,
+    )?;
     let Outcome {
         ending,
         choices,

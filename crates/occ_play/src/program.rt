@@ -17,6 +17,10 @@ use std::io::Write;
 use std::rt::{Env, Files};
 use std::{env, io};
 
+/// What is told below wrong words.
+const ALLOWED: &str =
+    "Allowed are --limit N with N from 0 to 10000000, --choices FILE, --record FILE, --trace, --help, and one FILE.";
+
 /// Runs the program on the arguments, the files and the streams of `rt`, and answers its exit status: 0 ended or
 /// help, 1 source refused, 2 stopped, 3 fault, 4 limit, 5 want of memory, 6 a file or stream that couldn't be
 /// read or written, 7 wrong words or a refused file of choices.
@@ -111,6 +115,7 @@ fn report<R: Print + Eprint>(rt: &R, failure: &Failure) -> u8
         }
         Failure::Words(error) => {
             let _ = error.print(rt);
+            let _ = eprintln!(rt; "{ALLOWED}");
         }
         failure => return report_line(rt, failure),
     }

@@ -5,8 +5,8 @@ ghost use Rattle.occ_play.specs.Plans.{choices_of};
 
 use crate::plan::Plan;
 use occ_code::Code;
-use occ_net::{Communication, Network};
 use occ_net_replay::{Choice, Ending};
+use occ_net_tables::{Communication, Tables};
 use occ_proc::Scratch;
 use std::alloc::{AllocError, Global};
 
@@ -31,7 +31,7 @@ pub(crate) fn run(
     ensures { IfOk result (IsOutcome code.now keyboard.now (choices_of plan.now)) }
 {
     let mut scratch = Scratch::new(alloc);
-    let mut network = Network::new(alloc, code)?;
+    let mut network = Tables::new(alloc, code)?;
     let mut choices = Vec::new(alloc);
     loop {
         if let Some(ending) = network.ending() {

@@ -11,6 +11,24 @@ pub const DEFAULT_LIMIT: u32 = 1_000_000;
 /// The most turns that a word may ask for.
 pub const MOST_TURNS: u32 = 10_000_000;
 
+/// What is told below the words.
+const MORE_HELP: &str =
+    r#"A turn is what one process does up to its next stop: an output, an input, an ALT, a PAR,
+the end of a loop's body, STOP, a fault, or its end.
+
+Exit status:
+  0  the program ended, or this help
+  1  the source was refused
+  2  the program stopped: no process can go on
+  3  a fault in the run
+  4  the limit of turns came first
+  5  memory ran out
+  6  a file or a stream could not be read or written
+  7  wrong words, or a refused file of choices
+
+Example:
+  echo 'Hello, world.' | occam --trace examples/first_steps/capitals.occ"#;
+
 /// What the words of the command line say.
 #[derive(Debug, Drop)]
 pub struct Words<'a> {
@@ -38,7 +56,10 @@ pub fn read_words<'a>(alloc: Global, words: &'a [&'a str]) -> Result<Words<'a>, 
     let matches = command.try_get_matches_from_mut(words)?;
     let limit = limit_of(matches.get_one::<u32>("limit"));
     if limit > MOST_TURNS {
-        return Err(command.error(ErrorKind::ValueValidation, "the limit is too large")?);
+        return Err(command.error(
+            ErrorKind::ValueValidation,
+            "the limit is 0 to 10000000 turns",
+        )?);
     }
     Ok(Words {
         limit,
@@ -60,6 +81,7 @@ fn limit_of(given: Option<u32>) -> u32
 fn command<'a>(alloc: Global) -> Result<Command<'a>, Error> {
     let command = Command::new(alloc, "occam")
         .about("Compiles and runs an occam 2 program.")
+        .after_help(MORE_HELP)
         .arg(limit_word(alloc))?
         .arg(choices_word(alloc))?
         .arg(record_word(alloc))?

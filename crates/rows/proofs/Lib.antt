@@ -1,2 +1,1 @@
-mod WellFormed
 mod FirstTurns

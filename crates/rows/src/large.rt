@@ -1,4 +1,4 @@
-//! Large texts: sizes that take no cell, chains of AND and OR, and replicated SEQs.
+//! Large texts: sizes that take no cell, chains of AND and OR, replicated SEQs, and what nests.
 
 use occ_play::{Counted, Plan, PlayFault, play};
 use std::alloc::{AllocError, Global};
@@ -218,4 +218,113 @@ fn replicated_sequences(rt: HostRuntime) -> Result<(), Fail> {
     let row = joined(alloc, "    SEQ i = 0 FOR 1\n      SKIP\n", "", 20_100)?;
     let body = format!(in alloc; "  SEQ\n{row}    screen ! 'A'\n")?;
     check(&rt, alloc, source(alloc, "", body.as_str())?.as_str(), "A")
+}
+
+/// A source with so many declared variables between two of its parts.
+fn many_names(
+    alloc: Global,
+    before: &str,
+    first: &str,
+    name: &str,
+    count: u32,
+    last: &str,
+) -> Result<String, AllocError> {
+    let mut body = String::from_str(alloc, first)?;
+    body.push_str(joined(alloc, name, "", count)?.as_str())?;
+    body.push_str(last)?;
+    source(alloc, before, body.as_str())
+}
+
+#[test]
+fn names_before_one_part(rt: HostRuntime) -> Result<(), Fail> {
+    let alloc = rt.alloc();
+    let protocol = "PROTOCOL p\n  CASE\n    t\n:\n";
+    let waits = "  CHAN OF p c:\n  PAR\n    c ! t\n    c ? CASE\n";
+    for count in [1, 5_000] {
+        let variant = many_names(
+            alloc,
+            protocol,
+            waits,
+            "      INT x:\n",
+            count,
+            "      t\n        screen ! 'a'\n",
+        )?;
+        check(&rt, alloc, variant.as_str(), "a")?;
+        let branch = many_names(
+            alloc,
+            "",
+            "  PAR\n",
+            "    INT x:\n",
+            count,
+            "    screen ! 'a'\n",
+        )?;
+        check(&rt, alloc, branch.as_str(), "a")?;
+    }
+    for (count, wanted) in [
+        (1, "a"),
+        (190, "a"),
+        (300, "refused 43 TooLarge"),
+        (5_000, "refused 43 TooLarge"),
+    ] {
+        let arm = many_names(
+            alloc,
+            "",
+            "  ALT\n",
+            "    INT x:\n",
+            count,
+            "    TRUE & SKIP\n      screen ! 'a'\n",
+        )?;
+        check(&rt, alloc, arm.as_str(), wanted)?;
+        let choice = many_names(
+            alloc,
+            "",
+            "  IF\n",
+            "    INT x:\n",
+            count,
+            "    TRUE\n      screen ! 'a'\n",
+        )?;
+        check(&rt, alloc, choice.as_str(), wanted)?;
+    }
+    Ok(())
+}
+
+/// PROCs, each of which has so many of a construct within one another, the innermost round a call of the one before it.
+fn nested_calls(
+    alloc: Global,
+    construct: &str,
+    part: &str,
+    calls: u32,
+    levels: u32,
+) -> Result<String, AllocError> {
+    let mut procs = String::from_str(alloc, "PROC p (CHAN OF BYTE screen)\n  screen ! 'a'\n:\n")?;
+    for _ in 0..calls {
+        procs.push_str("PROC q (CHAN OF BYTE screen)\n")?;
+        for level in 1..levels + 1 {
+            procs.push_str(joined(alloc, "  ", "", level)?.as_str())?;
+            procs.push_str(construct)?;
+        }
+        procs.push_str(joined(alloc, "  ", "", levels + 1)?.as_str())?;
+        procs.push_str(part)?;
+        procs.push_str(joined(alloc, "  ", "", levels + 2)?.as_str())?;
+        procs.push_str("p (screen)\n:\nPROC p (CHAN OF BYTE screen)\n  q (screen)\n:\n")?;
+    }
+    source(alloc, procs.as_str(), "  p (screen)\n")
+}
+
+#[test]
+fn constructs_in_one_another_through_calls(rt: HostRuntime) -> Result<(), Fail> {
+    let alloc = rt.alloc();
+    for (construct, part) in [("ALT\n", "TRUE & SKIP\n"), ("IF\n", "TRUE\n")] {
+        for (calls, levels, wanted) in [
+            (1, 58, "a"),
+            (3, 58, "a"),
+            (17, 10, "a"),
+            (4, 58, "refused 43 TooLarge"),
+            (95, 58, "refused 43 TooLarge"),
+        ] {
+            let text = nested_calls(alloc, construct, part, calls, levels)?;
+            check(&rt, alloc, text.as_str(), wanted)?;
+        }
+    }
+    Ok(())
 }

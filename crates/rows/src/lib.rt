@@ -1,8 +1,8 @@
-//! Tests of whole runs and of public calls, and the small programs that they use.
+//! Tests of whole programs, from a text to its answer.
 #![tactic(auto)]
 
 #[cfg(test)]
-mod choices;
+mod answers;
 #[cfg(test)]
 mod choosing_networks;
 #[cfg(test)]
@@ -10,25 +10,23 @@ mod command_line;
 #[cfg(test)]
 mod compiled;
 #[cfg(test)]
-mod contents;
-#[cfg(test)]
 mod examples;
 #[cfg(test)]
 mod first_programs;
 #[cfg(test)]
+mod gallery;
+#[cfg(test)]
 mod large;
 #[cfg(test)]
 mod laws;
-#[cfg(test)]
-mod layers;
-#[cfg(test)]
-mod lexing;
 #[cfg(test)]
 mod memory;
 #[cfg(test)]
 mod networks;
 #[cfg(test)]
 mod outcomes;
+#[cfg(test)]
+mod reference;
 #[cfg(test)]
 mod refusals;
 #[cfg(test)]
@@ -42,14 +40,8 @@ mod sequential_programs;
 #[cfg(test)]
 mod texts;
 #[cfg(test)]
-mod trees;
-#[cfg(test)]
 mod turns;
 #[cfg(test)]
-mod unfolded;
-#[cfg(test)]
 mod usage;
-#[cfg(test)]
-mod values;
 #[cfg(test)]
 mod writers;

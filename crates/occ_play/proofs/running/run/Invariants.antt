@@ -1,5 +1,5 @@
 use Rattle.std.proofs.Common.{◌≡◌, ◌-◌, length, take}
-use Rattle.occ_net.specs.Running.{HasReplayed}
+use Rattle.occ_net_tables.specs.Running.{HasReplayed}
 use Rattle.occ_play.specs.Plans.{choices_of}
 use Rattle.occ_play.proofs.running.run.Given as goal
 

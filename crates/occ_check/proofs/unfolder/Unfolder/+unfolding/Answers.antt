@@ -16,8 +16,8 @@ use Rattle.occ_check_acting.specs.ActionView.{chosen_of, listed_of}
 use Rattle.occ_check.specs.Prefixes.{guarding, guarding_variants, tested}
 use Rattle.occ_check_meaning.specs.Scope.{names_of}
 use Rattle.occ_check.proofs.Gathering.{gathered_first, gathered_last, gathered_next, gathered_refused, part_within}
-use Rattle.occ_check.proofs.Conditionals.{choice_done, choice_in, choice_not_declared, choice_refused, choices_grown, choices_none, choices_step, no_more_choices, when_refused, within_choice}
-use Rattle.occ_check.proofs.Alternatives.{arm_done, arm_in, arm_not_declared, arm_refused, arms_grown, arms_none, arms_step, input_done, input_not_guarded, input_refused, no_more_arms, variants_done, variants_not_guarded, variants_refused, within_arm}
+use Rattle.occ_check.proofs.Conditionals.{choice_too_deep, choice_done, choice_in, choice_not_declared, choice_refused, choices_grown, choices_none, choices_step, no_more_choices, when_refused, within_choice}
+use Rattle.occ_check.proofs.Alternatives.{arm_too_deep, arm_done, arm_in, arm_not_declared, arm_refused, arms_grown, arms_none, arms_step, input_done, input_not_guarded, input_refused, no_more_arms, variants_done, variants_not_guarded, variants_refused, within_arm}
 use Rattle.occ_check.proofs.Selections.{no_more_options, option_done, option_refused, options_grown, options_none, options_step, otherwise_form, otherwise_size, values_form, values_size}
 use Rattle.occ_tree_grammar.specs.Many.{◌>>=◌}
 use Rattle.occ_term.specs.Terms as T
@@ -45,6 +45,7 @@ use Rattle.occ_check_meaning.specs.Performing.{copied}
 use Rattle.occ_check.specs.Numbered.{copy_for, numbered_copy}
 use Rattle.occ_check_meaning.specs.Declarations.{index_of}
 use Rattle.occ_check_meaning.specs.Scope.{within}
+use Rattle.occ_check.proofs.Nesting.{as_many, nested_there, nested_too_deep}
 use Rattle.occ_check.proofs.Numbered.{Copied, copied_first, copied_last, copied_next, copied_refused, copies_done, copies_refused, no_copy, no_number_left, one_copy}
 use Rattle.occ_check.proofs.unfolder.Unfolder.+unfolding.Goals as goal
 
@@ -353,12 +354,23 @@ choice-returns-in_err-heads-clause-choices t c =
     c.in_err-heads.ensures.entered in
     search rules
 
+pub choice-returns-in_err-deep-clause-choices : goal.choice-returns-in_err-deep-clause-choices
+choice-returns-in_err-deep-clause-choices t c =
+    let refused : Refuses c.in_err-deep.field-0.0 (choice_unfolded (choice_of c.args.choice.now) (meant_at c.args.self.now c.args.at) c.args.depth (counted c.args.self.now)) =
+    refused_with c.in_err-deep.field-0.0 _ _
+    (choice_too_deep c.args.choice.now (meant_at c.args.self.now c.args.at) c.args.depth (counted c.args.self.now) (decls (map decl_of c.declarations_of.result.now)) c.declarations_of.ensures
+    (meant_at c.entering.new.self c.in_ok-heads.inside) (declarations_of c.in_ok-heads.heads) (counted c.entering.new.self) c.in_ok-heads.ensures.entered
+    c.len.result (as_many _ _ c.len.ensures))
+    c.in_err-deep.ensures.deep in
+    search rules
+
 pub choice-returns-in_err-choices-clause-choices : goal.choice-returns-in_err-choices-clause-choices
 choice-returns-in_err-choices-clause-choices t c =
     let refused : Refuses c.in_err-choices.field-0.0 (choice_unfolded (choice_of c.args.choice.now) (meant_at c.args.self.now c.args.at) c.args.depth (counted c.args.self.now)) =
     refused_with c.in_err-choices.field-0.0 _ _
     (choice_refused c.args.choice.now (meant_at c.args.self.now c.args.at) c.args.depth (counted c.args.self.now) (decls (map decl_of c.declarations_of.result.now)) c.declarations_of.ensures
-    (meant_at c.entering.new.self c.in_ok-heads.inside) (declarations_of c.in_ok-heads.heads) (counted c.entering.new.self) c.in_ok-heads.ensures.entered)
+    (meant_at c.entering.new.self c.in_ok-heads.inside) (declarations_of c.in_ok-heads.heads) (counted c.entering.new.self) c.in_ok-heads.ensures.entered
+    c.len.result (as_many _ _ c.len.ensures) c.in_ok-deep.deep c.in_ok-deep.ensures.deep)
     c.in_err-choices.ensures.choices in
     search rules
 
@@ -366,6 +378,7 @@ pub choice-returns-clause-choices : goal.choice-returns-clause-choices
 choice-returns-clause-choices t c =
     choice_done c.args.choice.now (meant_at c.args.self.now c.args.at) c.args.depth (counted c.args.self.now) (decls (map decl_of c.declarations_of.result.now)) c.declarations_of.ensures
     (meant_at c.entering.new.self c.in_ok-heads.inside) (declarations_of c.in_ok-heads.heads) (counted c.entering.new.self) c.in_ok-heads.ensures.entered
+    c.len.result (as_many _ _ c.len.ensures) c.in_ok-deep.deep c.in_ok-deep.ensures.deep
     (choices_of c.in_ok-choices.choices) (counted c.chosen.new.self) c.in_ok-choices.ensures.choices
     ∙ ap (λ x. Some (x, counted c.chosen.new.self)) (sym c.in_ok-choices_behind.ensures)
 
@@ -374,7 +387,7 @@ choice-chosen-requires t c =
     let size = within_choice c.args.choice.now in
     let same : decls_size (decls (map decl_of c.declarations_of.result.now)) ≡ decls_size (declarations_of_choice c.args.choice.now) = ap decls_size c.declarations_of.ensures in
     let lighter : weight_at c.entering.new.self c.in_ok-heads.inside ≤ decls_size (decls (map decl_of c.declarations_of.result.now)) + weight_at c.args.self.now c.args.at = c.in_ok-heads.ensures.weight in
-    (subst (λ k. 8 * (choice_size c.args.choice.now + weight_at c.entering.new.self c.in_ok-heads.inside) < k) c.decreases (omega (arith, size, same, lighter)), c.requires)
+    (subst (λ k. 8 * (choice_size c.args.choice.now + weight_at c.entering.new.self c.in_ok-heads.inside) < k) c.decreases (omega (arith, size, same, lighter)), c.in_ok-deep.ensures.within)
 
 pub chosen-returns-in_err-body-in-When-clause-choices : goal.chosen-returns-in_err-body-in-When-clause-choices
 chosen-returns-in_err-body-in-When-clause-choices t c =
@@ -652,12 +665,23 @@ arm-returns-in_err-heads-clause-arms t c =
     c.in_err-heads.ensures.entered in
     search rules
 
+pub arm-returns-in_err-deep-clause-arms : goal.arm-returns-in_err-deep-clause-arms
+arm-returns-in_err-deep-clause-arms t c =
+    let refused : Refuses c.in_err-deep.field-0.0 (arm_unfolded (arm_of c.args.arm.now) (meant_at c.args.self.now c.args.at) c.args.depth (counted c.args.self.now)) =
+    refused_with c.in_err-deep.field-0.0 _ _
+    (arm_too_deep c.args.arm.now (meant_at c.args.self.now c.args.at) c.args.depth (counted c.args.self.now) (decls (map decl_of c.declarations_of.result.now)) c.declarations_of.ensures
+    (meant_at c.entering.new.self c.in_ok-heads.inside) (declarations_of c.in_ok-heads.heads) (counted c.entering.new.self) c.in_ok-heads.ensures.entered
+    c.len.result (as_many _ _ c.len.ensures))
+    c.in_err-deep.ensures.deep in
+    search rules
+
 pub arm-returns-in_err-arms-clause-arms : goal.arm-returns-in_err-arms-clause-arms
 arm-returns-in_err-arms-clause-arms t c =
     let refused : Refuses c.in_err-arms.field-0.0 (arm_unfolded (arm_of c.args.arm.now) (meant_at c.args.self.now c.args.at) c.args.depth (counted c.args.self.now)) =
     refused_with c.in_err-arms.field-0.0 _ _
     (arm_refused c.args.arm.now (meant_at c.args.self.now c.args.at) c.args.depth (counted c.args.self.now) (decls (map decl_of c.declarations_of.result.now)) c.declarations_of.ensures
-    (meant_at c.entering.new.self c.in_ok-heads.inside) (declarations_of c.in_ok-heads.heads) (counted c.entering.new.self) c.in_ok-heads.ensures.entered)
+    (meant_at c.entering.new.self c.in_ok-heads.inside) (declarations_of c.in_ok-heads.heads) (counted c.entering.new.self) c.in_ok-heads.ensures.entered
+    c.len.result (as_many _ _ c.len.ensures) c.in_ok-deep.deep c.in_ok-deep.ensures.deep)
     c.in_err-arms.ensures.arms in
     search rules
 
@@ -665,6 +689,7 @@ pub arm-returns-clause-arms : goal.arm-returns-clause-arms
 arm-returns-clause-arms t c =
     arm_done c.args.arm.now (meant_at c.args.self.now c.args.at) c.args.depth (counted c.args.self.now) (decls (map decl_of c.declarations_of.result.now)) c.declarations_of.ensures
     (meant_at c.entering.new.self c.in_ok-heads.inside) (declarations_of c.in_ok-heads.heads) (counted c.entering.new.self) c.in_ok-heads.ensures.entered
+    c.len.result (as_many _ _ c.len.ensures) c.in_ok-deep.deep c.in_ok-deep.ensures.deep
     (arms_of c.in_ok-arms.arms) (counted c.listening.new.self) c.in_ok-arms.ensures.arms
     ∙ ap (λ x. Some (x, counted c.listening.new.self)) (sym c.in_ok-arms_behind.ensures)
 
@@ -673,7 +698,7 @@ arm-listening-requires t c =
     let size = within_arm c.args.arm.now in
     let same : decls_size (decls (map decl_of c.declarations_of.result.now)) ≡ decls_size (declarations_of_arm c.args.arm.now) = ap decls_size c.declarations_of.ensures in
     let lighter : weight_at c.entering.new.self c.in_ok-heads.inside ≤ decls_size (decls (map decl_of c.declarations_of.result.now)) + weight_at c.args.self.now c.args.at = c.in_ok-heads.ensures.weight in
-    (subst (λ k. 8 * (arm_size c.args.arm.now + weight_at c.entering.new.self c.in_ok-heads.inside) + 1 < k) c.decreases (omega (arith, size, same, lighter)), c.requires)
+    (subst (λ k. 8 * (arm_size c.args.arm.now + weight_at c.entering.new.self c.in_ok-heads.inside) + 1 < k) c.decreases (omega (arith, size, same, lighter)), c.in_ok-deep.ensures.within)
 
 -- ---- one arm, by its guard
 

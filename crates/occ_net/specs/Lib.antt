@@ -1,7 +1,0 @@
-pub mod Tables
-pub mod Ready
-pub mod Tasks
-pub mod Choosing
-pub mod Holding
-pub mod Settling
-pub mod Running

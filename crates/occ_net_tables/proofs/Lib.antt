@@ -1,0 +1,17 @@
+pub mod ReadyLists
+pub mod OneChange
+pub mod Steps
+pub mod Arms
+pub mod Meetings
+pub mod Between
+pub mod Waits
+pub mod Choices
+pub mod Keys
+pub mod Undone
+pub mod Branches
+pub mod Ends
+pub mod Forked
+pub mod Turned
+pub mod Start
+pub mod Roomy
+pub mod Rerun

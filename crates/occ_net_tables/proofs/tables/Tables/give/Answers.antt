@@ -1,0 +1,37 @@
+use Rattle.std.proofs.Common.{◌≡◌, ◌∙◌, ◌∷◌, ◌++◌, [], ap, Some}
+use Rattle.std.specs.Prelude.{slice_get, slice_set}
+use Rattle.occ_code.specs.Alike.{ready_with}
+use Rattle.occ_code.specs.declared.task.Arm.{Arm}
+use Rattle.occ_code.specs.declared.task.Wait.TheVariants as W
+use Rattle.occ_net_replay.specs.Replay.{made_ready}
+use Rattle.occ_net_replay.proofs.Tables.{set_same}
+use Rattle.occ_net_tables.specs.declared.trace.End.TheVariants.{Process}
+use Rattle.occ_net_tables.specs.Settling.{sent}
+use Rattle.occ_net_tables.proofs.OneChange.{set_twice}
+use Rattle.occ_net_tables.proofs.tables.Tables.give.Goals as goal
+
+pub set_wait-requires : goal.set_wait-requires
+set_wait-requires c =
+    let r = c.requires.takes in
+    record { task = made_ready r.task; there = ap (λ l. slice_get l c.args.taker) (c.leave-arm.ensures.left r.task r.there).tasks ∙ set_same c.args.self.now.tasks.items c.args.taker (Some r.task) (Some (made_ready r.task)) r.there }
+
+pub returns-clause-ok : goal.returns-clause-ok
+returns-clause-ok c = λ t a there takes.
+    let n = c.args.taker in
+    let old = c.args.self.now.tasks.items in
+    let left = c.leave-arm.ensures.left t there in
+    let mine = ap (λ l. slice_get l n) left.tasks ∙ set_same old n (Some t) (Some (made_ready t)) there in
+    let wait : c.took.result ≡ W.Took a.place a.indices (Some c.args.message) = c.took.ensures ∙ ap (λ (x : Arm). W.Took x.place x.indices (Some c.args.message)) (c.leave-arm.ensures.arm t a there takes) in
+    record {
+      tasks =
+          c.set_wait.ensures (made_ready t) mine ∙ ap (λ l. slice_set l n (Some (ready_with t c.took.result))) left.tasks
+          ∙ set_twice old n (Some (made_ready t)) (Some (ready_with t c.took.result)) ∙ ap (λ w. slice_set old n (Some (ready_with t w))) wait;
+      ready = ap (λ z. z.items) left.ready ∙ c.insert.ensures.items;
+      awaiting = left.awaiting;
+      trace = ap (λ z. z.items) left.trace ∙ c.push_reserved.ensures.items ∙ ap (λ x. c.args.self.now.trace.items ++ sent c.args.chan (Process c.args.number) (Process c.args.taker) x ∷ []) c.in-Ok.ensures;
+      offering = left.offering;
+      parents = left.parents;
+      unfinished = left.unfinished;
+      fault = left.fault;
+      used = left.used;
+    }

@@ -1,0 +1,49 @@
+-- Room for what a turn makes possible, and what stays where a growth is refused.
+use Rattle.std.specs.Prelude.{List, length, map, slice_get, vec_capacity, vec_len, ℕ, ◌+◌, ◌<◌, ◌≡◌, ◌≤◌}
+use Rattle.std.specs.Option.{option_map_or}
+use Rattle.occ_term.specs.Frames.{Variables}
+use Rattle.occ_code.specs.Sequential.Machine.{Body}
+use Rattle.occ_code.specs.declared.task.Wait.{Wait}
+use Rattle.occ_code.specs.declared.task.Wait.TheVariants.{Ready, Took, Offers, Awaits, Chooses, Joins, Halted, Done, Faulted}
+use Rattle.occ_net_replay.specs.Replay.{copied}
+use Rattle.occ_net_tables.specs.declared.tables.Tables.{Tables}
+
+-- there is room for one more communication, and for so many more ready processes
+pub record HasRoom (n : Tables) (more : ℕ) : Type 0 where
+  pub trace : vec_len n.trace < vec_capacity n.trace
+  pub ready : vec_len n.ready + more ≤ vec_capacity n.ready
+
+-- how many more processes may be ready after a turn that ended so
+abbrev pub more_ready : Wait → ℕ
+more_ready Ready = 1
+more_ready (Took arm indices m) = 1
+more_ready (Offers c m) = 1
+more_ready (Awaits c) = 1
+more_ready (Chooses pri arms) = 1
+more_ready (Joins ns) = length ns
+more_ready Halted = 1
+more_ready Done = 1
+more_ready (Faulted e) = 1
+
+-- both hold the same
+pub record AreSame (old new : Tables) : Type 0 where
+  pub tasks : new.tasks.items ≡ old.tasks.items
+  pub ready : new.ready.items ≡ old.ready.items
+  pub offering : new.offering.items ≡ old.offering.items
+  pub awaiting : new.awaiting.items ≡ old.awaiting.items
+  pub parents : new.parents.items ≡ old.parents.items
+  pub unfinished : new.unfinished.items ≡ old.unfinished.items
+  pub fault : new.fault ≡ old.fault
+  pub used : new.used ≡ old.used
+  pub trace : new.trace.items ≡ old.trace.items
+
+-- ---- private contracts alone cite what follows
+
+-- the frame with which a branch begins
+abbrev pub first_frame : List Body → Variables → ℕ → Variables
+first_frame bodies f n = option_map_or (λ b. copied b f) (slice_get bodies n) f
+
+-- so begin the branches of a process with this frame
+pub record AreFirstFrames (bodies : List Body) (frames : List Variables) (ns : List ℕ) : Type 0 where
+  pub frame : Variables
+  pub are : frames ≡ map (first_frame bodies frame) ns

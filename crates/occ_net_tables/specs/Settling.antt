@@ -1,0 +1,226 @@
+-- What happens when a process has taken a turn.
+use Rattle.std.specs.Prelude.{Bool, false, IsTrue, List, None, Option, Some, [], drop, if◌then◌else◌, length, map, nat_eq, slice_get, slice_set, ℕ, ℤ, ◌+◌, ◌<◌, ◌^◌, ◌++◌, ◌∷◌, ◌≡◌}
+use Rattle.occ_term.specs.declared.message.Message.{Message}
+use Rattle.occ_term.specs.Frames.{Variables, is_held}
+use Rattle.occ_code.specs.Alike.{IsRising, joined_with}
+use Rattle.occ_code.specs.Sequential.Compiled.{Program}
+use Rattle.occ_code.specs.Sequential.Machine.{Body, Stopping}
+use Rattle.occ_code.specs.declared.task.Arm.{Arm}
+use Rattle.occ_code.specs.declared.task.Task.{Task}
+use Rattle.occ_code.specs.declared.task.Wait.{Wait}
+use Rattle.occ_code.specs.declared.task.Wait.TheVariants.{Took, Offers, Chooses, Joins}
+use Rattle.occ_net_replay.specs.declared.choice.Choice.{Choice}
+use Rattle.occ_net_replay.specs.Replay.{Net, Tasks, HasTask, OneTurn, Replays, Settled, branch_task, byte_message, ending_of, first_fault, goes, made_ready, may_go, merged, ready_from, standing, took_arm, took_turn, with_branches}
+use Rattle.occ_net_replay.specs.Moments.{NoneReady}
+use Rattle.occ_net_replay.specs.Waiting.{OffersAlone, ListensAlone, ForksAlone, channels_at, listens_on}
+use Rattle.occ_net_tables.specs.declared.trace.End.{End}
+use Rattle.occ_net_tables.specs.declared.trace.End.TheVariants.{Process, Keyboard, Screen, Error}
+use Rattle.occ_net_tables.specs.declared.trace.Communication.{Communication}
+use Rattle.occ_net_tables.specs.declared.tables.Tables.{Tables}
+use Rattle.occ_net_tables.specs.Holding.{Holds, IsOrdinary, Sized, Sound, communication_of}
+use Rattle.occ_net_tables.specs.Choosing.{TakesBy, offered_by}
+use Rattle.occ_net_tables.specs.Ready.{put_in}
+use Rattle.occ_net_tables.specs.Keys.{set_all}
+
+-- a turn of the network: whatever state it held, it holds the next one
+pub record TurnsTo (p : Program) (keyboard : List ℕ) (choice : Choice) (net : Net) (new : Tables) : Type 0 where
+  pub next : Net
+  pub turn : OneTurn p choice net next
+  pub holds : Holds p keyboard new next
+
+-- the network stands where a replay has come to that can go on
+pub record Standing (p : Program) (keyboard : List ℕ) (n : Tables) : Type 0 where
+  pub choices : List Choice
+  pub few : 1 + length choices < 2 ^ 64
+  pub net : Net
+  pub replays : Replays p keyboard choices net
+  pub open_end : ending_of net ≡ None
+  pub holds : Holds p keyboard n net
+
+-- the process at this place among the ready ones comes by a turn to this task
+pub record IsTurnAt (p : Program) (n : Tables) (place number : ℕ) (after : Task) : Type 0 where
+  pub body : Body
+  pub before : Task
+  pub at : slice_get n.ready.items place ≡ Some number
+  pub has_body : slice_get p.bodies number ≡ Some body
+  pub there : HasTask n.tasks.items number before
+  pub stops : Stopping body before after
+
+-- ---- private contracts alone cite what follows
+
+-- The process at this place among the ready ones has taken a turn, and is left as ready; this is its task after the turn.
+pub record Mid (p : Program) (keyboard : List ℕ) (n : Tables) (number place : ℕ) (after : Task) (net : Net) : Type 0 where
+  pub before : Task
+  pub has_task : HasTask net.tasks number before
+  pub may : IsTrue (may_go before.wait)
+  pub clean : first_fault net.tasks ≡ None
+  pub at_place : slice_get n.ready.items place ≡ Some number
+  pub ordinary : IsOrdinary after.wait
+  pub untaken : (arm : ℕ) (indices : List ℤ) (m : Option Message) → after.wait ≡ Took arm indices m → ⊥
+  pub tasks : n.tasks.items ≡ slice_set net.tasks number (Some (made_ready after))
+  pub bytes : net.keyboard ≡ drop n.used keyboard
+  pub trace : net.trace ≡ map communication_of n.trace.items
+  pub sound : Sound n
+  pub sized : Sized p n
+  pub offers : (c : ℕ) (m : Message) → after.wait ≡ Offers c m → OffersAlone p net.tasks c
+  pub listens : (c : ℕ) → IsTrue (listens_on after.wait c) → ListensAlone p net.tasks c
+  pub forks : (ns : List ℕ) → after.wait ≡ Joins ns → ForksAlone p net.tasks number ns
+  pub unready : (i : ℕ) (t : Task) (pri : Bool) (arms : List Arm) → HasTask net.tasks i t → t.wait ≡ Chooses pri arms → NoneReady (λ a. a.chan) (standing net) arms
+
+-- it stands at this
+pub record HasMid (p : Program) (n : Tables) (number place : ℕ) (wait : Wait) : Type 0 where
+  pub keyboard : List ℕ
+  pub after : Task
+  pub net : Net
+  pub mid : Mid p keyboard n number place after net
+  pub waits : after.wait ≡ wait
+
+-- what the turn made possible happens
+pub record SettlesTo (p : Program) (keyboard : List ℕ) (pick number : ℕ) (after : Task) (net : Net) (new : Tables) : Type 0 where
+  pub next : Net
+  pub settles : Settled p.bodies number pick (took_turn net number after) next
+  pub holds : Holds p keyboard new next
+
+abbrev pub Settles : Program → List ℕ → ℕ → ℕ → ℕ → Wait → Tables → Tables → Type 0
+Settles p keyboard pick number place wait old new =
+    (after : Task) (net : Net) → Mid p keyboard old number place after net → after.wait ≡ wait → SettlesTo p keyboard pick number after net new
+
+-- the end that always takes what is offered on a channel
+abbrev pub reader_of : ℕ → Option End
+reader_of c = if nat_eq c 1 then Some Screen else if nat_eq c 2 then Some Error else None
+
+-- what the keyboard gives on a channel, where so many of its bytes are taken
+abbrev pub byte_on : ℕ → List ℕ → ℕ → Option ℕ
+byte_on c keyboard used = if nat_eq c 0 then slice_get keyboard used else None
+
+-- who sent what to whom on which channel
+abbrev pub sent : ℕ → End → End → Message → Communication
+sent c x y m = record { chan = c; sender = x; receiver = y; message = m }
+
+-- A process waits for a message on the channel, and takes it by this arm, where no other offer stands.
+abbrev pub TakesAlone : ℕ → ℕ → Wait → Arm → Type 0
+TakesAlone pick c w a = TakesBy pick (offered_by (Some c) []) c w a
+
+-- some process does
+pub record IsTaking (tasks : Tasks) (taker chan pick : ℕ) : Type 0 where
+  pub task : Task
+  pub there : HasTask tasks taker task
+  pub arm : Arm
+  pub takes : TakesAlone pick chan task.wait arm
+
+-- it stands at none of its channels any more
+pub record LeftChannels (old : Tables) (taker : ℕ) (t : Task) (new : Tables) : Type 0 where
+  pub tasks : new.tasks.items ≡ slice_set old.tasks.items taker (Some (made_ready t))
+  pub awaiting : new.awaiting.items ≡ set_all (channels_at t.wait) None old.awaiting.items
+  pub ready : new.ready ≡ old.ready
+  pub offering : new.offering ≡ old.offering
+  pub parents : new.parents ≡ old.parents
+  pub unfinished : new.unfinished ≡ old.unfinished
+  pub fault : new.fault ≡ old.fault
+  pub used : new.used ≡ old.used
+  pub trace : new.trace ≡ old.trace
+
+-- a process that waited for a message has it by this arm, stands at none of its channels any more, and may go on
+pub record Gave (old : Tables) (number taker chan : ℕ) (t : Task) (a : Arm) (m : Message) (new : Tables) : Type 0 where
+  pub tasks : new.tasks.items ≡ slice_set old.tasks.items taker (Some (took_arm t a (Some m)))
+  pub ready : new.ready.items ≡ put_in taker old.ready.items
+  pub awaiting : new.awaiting.items ≡ set_all (channels_at t.wait) None old.awaiting.items
+  pub trace : new.trace.items ≡ old.trace.items ++ sent chan (Process number) (Process taker) m ∷ []
+  pub offering : new.offering ≡ old.offering
+  pub parents : new.parents ≡ old.parents
+  pub unfinished : new.unfinished ≡ old.unfinished
+  pub fault : new.fault ≡ old.fault
+  pub used : new.used ≡ old.used
+
+-- a process has the keyboard's next byte by this arm, and may go on
+pub record TookByte (old : Tables) (number : ℕ) (a : Arm) (byte : ℕ) (new : Tables) : Type 0 where
+  pub tasks : (t : Task) → HasTask old.tasks.items number t → new.tasks.items ≡ slice_set old.tasks.items number (Some (took_arm t a (Some (byte_message byte))))
+  pub trace : new.trace.items ≡ old.trace.items ++ sent 0 Keyboard (Process number) (byte_message byte) ∷ []
+  pub used : new.used ≡ old.used + 1
+  pub ready : new.ready ≡ old.ready
+  pub offering : new.offering ≡ old.offering
+  pub awaiting : new.awaiting ≡ old.awaiting
+  pub parents : new.parents ≡ old.parents
+  pub unfinished : new.unfinished ≡ old.unfinished
+  pub fault : new.fault ≡ old.fault
+
+-- a process offers a message on the channel
+pub record IsOffering (tasks : Tasks) (giver chan : ℕ) : Type 0 where
+  pub task : Task
+  pub there : HasTask tasks giver task
+  pub message : Message
+  pub waits : task.wait ≡ Offers chan message
+
+-- a process has by this arm the message that another one offered, and both may go on
+pub record TookFrom (old : Tables) (number giver chan : ℕ) (a : Arm) (t : Task) (m : Message) (new : Tables) : Type 0 where
+  pub tasks : (u : Task) → HasTask old.tasks.items number u → new.tasks.items ≡ slice_set (slice_set old.tasks.items giver (Some (made_ready t))) number (Some (took_arm u a (Some m)))
+  pub ready : new.ready.items ≡ put_in giver old.ready.items
+  pub offering : new.offering.items ≡ slice_set old.offering.items chan None
+  pub trace : new.trace.items ≡ old.trace.items ++ sent chan (Process giver) (Process number) m ∷ []
+  pub awaiting : new.awaiting ≡ old.awaiting
+  pub parents : new.parents ≡ old.parents
+  pub unfinished : new.unfinished ≡ old.unfinished
+  pub fault : new.fault ≡ old.fault
+  pub used : new.used ≡ old.used
+
+-- ---- forks
+
+-- the process has not begun, or is done
+pub record IsFree (tasks : Tasks) (i : ℕ) : Type 0 where
+  pub entry : Option Task
+  pub is : slice_get tasks i ≡ Some entry
+  pub still : goes entry ≡ false
+
+-- the branches that are to begin
+pub record MayBegin (p : Program) (n : Tables) (ns : List ℕ) : Type 0 where
+  pub ready_is : n.ready.items ≡ ready_from 0 n.tasks.items
+  pub rising : IsRising ns
+  pub have_bodies : (i : ℕ) → IsTrue (is_held ns i) → i < length p.bodies
+  pub free : (i : ℕ) → IsTrue (is_held ns i) → IsFree n.tasks.items i
+
+-- a branch begins
+pub record Began (p : Program) (parent : ℕ) (f : Variables) (old : Tables) (i : ℕ) (new : Tables) : Type 0 where
+  pub tasks : new.tasks.items ≡ slice_set old.tasks.items i (branch_task p.bodies f old.tasks.items i)
+  pub ready_is : new.ready.items ≡ ready_from 0 new.tasks.items
+  pub parents : new.parents.items ≡ slice_set old.parents.items i (Some parent)
+  pub offering : new.offering ≡ old.offering
+  pub awaiting : new.awaiting ≡ old.awaiting
+  pub unfinished : new.unfinished ≡ old.unfinished
+  pub fault : new.fault ≡ old.fault
+  pub used : new.used ≡ old.used
+  pub trace : new.trace ≡ old.trace
+
+-- branches begin
+pub record AllBegan (p : Program) (parent : ℕ) (f : Variables) (old : Tables) (ns : List ℕ) (new : Tables) : Type 0 where
+  pub tasks : new.tasks.items ≡ with_branches p.bodies f ns old.tasks.items
+  pub ready_is : new.ready.items ≡ ready_from 0 new.tasks.items
+  pub parents : new.parents.items ≡ set_all ns (Some parent) old.parents.items
+  pub offering : new.offering ≡ old.offering
+  pub awaiting : new.awaiting ≡ old.awaiting
+  pub unfinished : new.unfinished ≡ old.unfinished
+  pub fault : new.fault ≡ old.fault
+  pub used : new.used ≡ old.used
+  pub trace : new.trace ≡ old.trace
+
+-- ---- joins
+
+-- a process waits for these, and may go on
+pub record Joining (n : Tables) (m : ℕ) : Type 0 where
+  pub task : Task
+  pub there : HasTask n.tasks.items m task
+  pub branches : List ℕ
+  pub waits : task.wait ≡ Joins branches
+  pub apart : is_held branches m ≡ false
+  pub rising : IsRising n.ready.items
+
+-- what they can write is taken over, and nobody waits for them any more
+pub record JoinsBranches (p : Program) (old : Tables) (m : ℕ) (t : Task) (ns : List ℕ) (new : Tables) : Type 0 where
+  pub tasks : new.tasks.items ≡ slice_set old.tasks.items m (Some (joined_with t (merged p.bodies old.tasks.items ns t.frame)))
+  pub ready : new.ready.items ≡ put_in m old.ready.items
+  pub parents : new.parents.items ≡ set_all ns None old.parents.items
+  pub offering : new.offering ≡ old.offering
+  pub awaiting : new.awaiting ≡ old.awaiting
+  pub unfinished : new.unfinished ≡ old.unfinished
+  pub fault : new.fault ≡ old.fault
+  pub used : new.used ≡ old.used
+  pub trace : new.trace ≡ old.trace

@@ -1,0 +1,79 @@
+//! Frames at a fork and at a join.
+ghost use Rattle.std.specs.Prelude.{◌≡◌, IfOk, map, slice_get};
+ghost use Rattle.occ_code.specs.Alike.{IsRising};
+ghost use Rattle.occ_net_replay.specs.Replay.{copied, merged, taken_from, taken_over};
+ghost use Rattle.occ_net_tables.specs.Room.{first_frame};
+
+use occ_code::{Body, Code, Task};
+use occ_term::Frame;
+use std::alloc::{AllocError, Global};
+
+/// A frame of the body's cells, with the values that another frame has.
+fn branch_frame(alloc: Global, body: &Body, parent: &Frame) -> Result<Frame, AllocError>
+    requires { IsRising body.now.cells }
+    ensures { IfOk result (λ f. f ≡ copied body.now parent.now) }
+{
+    let cells = body.cells();
+    let mut frame = Frame::new(alloc, cells, body.loops() as usize)?;
+    for (place, cell) in cells.iter().enumerate() {
+        frame.set_in(place as u32, parent.value(*cell));
+    }
+    Ok(frame)
+}
+
+/// The frame with which a branch begins; a copy of the other one where it has no body.
+fn first_frame(alloc: Global, code: &Code, parent: &Frame, number: u32) -> Result<Frame, AllocError>
+    ensures { IfOk result (λ f. f ≡ first_frame code.now.bodies parent.now number) }
+{
+    code.compiled();
+    match code.body(number as usize) {
+        Some(body) => branch_frame(alloc, body, parent),
+        None => parent.copy(alloc),
+    }
+}
+
+/// The frames with which branches begin.
+pub(crate) fn branch_frames(
+    alloc: Global,
+    code: &Code,
+    parent: &Frame,
+    branches: &[u32],
+) -> Result<Vec<Frame>, AllocError>
+    ensures { IfOk result (λ frames. frames.items ≡ map (first_frame code.now.bodies parent.now) branches.now) }
+{
+    let mut frames = Vec::new(alloc);
+    for number in branches {
+        frames.push(first_frame(alloc, code, parent, *number)?)?;
+    }
+    Ok(frames)
+}
+
+/// Takes over the values of these cells.
+fn take_over(writes: &[u32], from: &Frame, to: &mut Frame)
+    ensures { to.new ≡ taken_over writes.now from.now to.old }
+{
+    for cell in writes {
+        to.set(u64::from(*cell), from.value(*cell));
+    }
+}
+
+/// Takes over what this branch can write.
+fn take_branch(code: &Code, tasks: &[Option<Task>], branch: u32, frame: &mut Frame)
+    ensures { frame.new ≡ taken_from (slice_get code.now.bodies branch) (slice_get tasks.now branch) frame.old }
+{
+    let Some(body) = code.body(branch as usize) else {
+        return;
+    };
+    if let Some(Some(task)) = tasks.get(branch as usize) {
+        take_over(body.writes(), &task.frame, frame);
+    }
+}
+
+/// Takes over what the branches can write.
+pub(crate) fn merge(code: &Code, tasks: &[Option<Task>], branches: &[u32], frame: &mut Frame)
+    ensures { frame.new ≡ merged code.now.bodies tasks.now branches.now frame.old }
+{
+    for branch in branches {
+        take_branch(code, tasks, *branch, frame);
+    }
+}

@@ -1,0 +1,21 @@
+//! The network of a program's processes: who may take a turn, who waits for whom, and what happens
+//! when one has taken a turn.
+#![tactic(auto)]
+
+mod choosing;
+mod copying;
+mod entries;
+mod forking;
+mod joining;
+mod meeting;
+mod ready;
+pub mod running;
+mod settling;
+pub mod tables;
+mod tasks;
+pub mod trace;
+mod turning;
+
+pub use running::{Run, run_choices};
+pub use tables::Tables;
+pub use trace::{Communication, End};

@@ -1,0 +1,397 @@
+//! Offers and inputs: the two ends of a channel meet, or one waits for the other.
+ghost use Rattle.std.specs.Prelude.{◌≡◌, ◌≢◌, ◌+◌, ◌<◌, ◌^◌, ◌++◌, ◌∷◌, [], IfErr, IfOk, List, None, OnErr, OnOk, Option, Some, length, remove, slice_get, slice_set, vec_capacity, vec_len, ℕ};
+ghost use Rattle.occ_code.specs.Alike.{IsRising, ready_with};
+ghost use Rattle.occ_code.specs.Sequential.Compiled.{Program};
+ghost use Rattle.occ_code.specs.declared.task.Arm.{Arm};
+ghost use Rattle.occ_code.specs.declared.task.Task.{Task};
+ghost use Rattle.occ_net_replay.specs.Replay.{HasTask, byte_message};
+ghost use Rattle.occ_net_tables.specs.Choosing.{input_arm, keyboard_at};
+ghost use Rattle.occ_net_tables.specs.Room.{HasRoom};
+ghost use Rattle.occ_net_tables.specs.Settling.{Gave, HasMid, IsOffering, IsTaking, LeftChannels, Settles, TakesAlone, TookByte, TookFrom, byte_on, reader_of};
+ghost use Rattle.occ_net_tables.specs.Tasks.{IsThere};
+
+use crate::choosing::{choose_arm, set_arms};
+use crate::entries::{entry, set_entry};
+use crate::ready::insert;
+use crate::tables::Tables;
+use crate::tasks::{set_wait, take_wait};
+use crate::trace::{Communication, End};
+use occ_code::{Arm, Task, Wait};
+use occ_term::{Fault, Message, Part, Primitive};
+use sqlite_items::Items;
+use std::alloc::{AllocError, Global};
+
+/// The keyboard's channel.
+const KEYBOARD: u32 = 0;
+
+/// The screen's channel.
+const SCREEN: u32 = 1;
+
+/// The error channel.
+const ERROR: u32 = 2;
+
+/// The process at this place among the ready ones is one no more, and stands at this.
+pub(crate) fn rest(
+    tasks: &mut Vec<Option<Task>>,
+    ready: &mut Vec<u32>,
+    place: usize,
+    number: u32,
+    wait: Wait,
+)
+    requires there { IsThere tasks.old.items number }
+    requires within { place < vec_len ready.old }
+    ensures tasks { (t : Task) → HasTask tasks.old.items number t → tasks.new.items ≡ slice_set tasks.old.items number (Some (ready_with t wait)) }
+    ensures ready { ready.new.items ≡ remove ready.old.items place }
+    ensures room { vec_len ready.new < vec_capacity ready.new }
+{
+    ready.remove(place);
+    set_wait(tasks, number, wait);
+}
+
+/// The end that always takes what is offered on this channel.
+fn reader(chan: u32) -> Option<End>
+    ensures { result ≡ reader_of chan }
+{
+    match chan {
+        SCREEN => Some(End::Screen),
+        ERROR => Some(End::Error),
+        _ => None,
+    }
+}
+
+/// What the keyboard gives on this channel, where so many of its bytes are taken.
+fn next_byte(chan: u32, keyboard: &[u8], used: usize) -> Option<u8>
+    ensures { result ≡ byte_on chan keyboard.now used }
+{
+    if chan == KEYBOARD {
+        keyboard.get(used).copied()
+    } else {
+        None
+    }
+}
+
+/// The keyboard's channel, where not all of its bytes are taken.
+fn keyboard_channel(keyboard: &[u8], used: usize) -> Option<u32>
+    ensures { result ≡ keyboard_at keyboard.now used }
+{
+    if used < keyboard.len() {
+        Some(KEYBOARD)
+    } else {
+        None
+    }
+}
+
+/// The message of one byte.
+fn one_byte(alloc: Global, byte: u8) -> Result<Message, AllocError>
+    ensures { IfOk result (λ m. m ≡ byte_message byte) }
+{
+    let mut items = Items::new(alloc);
+    items.push(Part::One(Primitive::Byte, i64::from(byte)))?;
+    Ok(Message { tag: None, items })
+}
+
+/// A copy of the message that the process offers.
+fn offered(alloc: Global, tasks: &[Option<Task>], giver: u32) -> Result<Message, AllocError>
+    requires { (chan : ℕ) × IsOffering tasks.now giver chan }
+    ensures { IfOk result (λ copy. (t : Task) (chan : ℕ) (m : Message) → HasTask tasks.now giver t → t.wait ≡ Wait.Offers chan m → copy ≡ m) }
+{
+    match &tasks[giver as usize] {
+        Some(task) => match &task.wait {
+            Wait::Offers { message, .. } => message.copy(alloc),
+            _ => unreachable!(),
+        },
+        None => unreachable!(),
+    }
+}
+
+/// A copy of the arm at this place.
+fn copied_arm(alloc: Global, arms: &[Arm], at: usize) -> Result<Arm, AllocError>
+    requires { at < length arms.now }
+    ensures { IfOk result (λ arm. slice_get arms.now at ≡ Some arm) }
+{
+    let arm = &arms[at];
+    let indices = Items::from_slice(alloc, arm.indices.as_slice())?;
+    Ok(Arm {
+        place: arm.place,
+        chan: arm.chan,
+        indices,
+    })
+}
+
+/// The arm by which an input takes its message.
+fn input_arm(alloc: Global, chan: u32) -> Arm
+    ensures { result ≡ input_arm chan }
+{
+    Arm {
+        place: 0,
+        chan: Some(chan),
+        indices: Items::new(alloc),
+    }
+}
+
+/// What a process stands at that took this arm, with its message.
+fn took(arm: Arm, message: Option<Message>) -> Wait
+    ensures { result ≡ Wait.Took arm.place arm.indices message }
+{
+    let Arm { place, indices, .. } = arm;
+    Wait::Took {
+        arm: place,
+        indices,
+        message,
+    }
+}
+
+impl Tables {
+    /// A process that waits for a message on this channel, where no other offer stands, leaves its
+    /// channels. The arm by which it takes the message is handed out.
+    fn leave(&mut self, alloc: Global, taker: u32, chan: u32, pick: u32) -> Arm
+        requires { IsTaking self.old.tasks.items taker chan pick }
+        ensures arm { (t : Task) (a : Arm) → HasTask self.old.tasks.items taker t → TakesAlone pick chan t.wait a → result ≡ a }
+        ensures left { (t : Task) → HasTask self.old.tasks.items taker t → LeftChannels self.old taker t self.new }
+    {
+        match take_wait(&mut self.tasks, taker) {
+            Wait::Awaits { chan: own } => {
+                set_entry(&mut self.awaiting, own, None);
+                input_arm(alloc, own)
+            }
+            Wait::Chooses { pri, mut arms } => {
+                set_arms(&mut self.awaiting, arms.as_slice(), None);
+                match choose_arm(Some(chan), &[], pri, pick, arms.as_slice()) {
+                    Some(at) => arms.remove(at),
+                    None => unreachable!(),
+                }
+            }
+            _ => unreachable!(),
+        }
+    }
+
+    /// The message goes to a process that waits for one on its channel.
+    fn give(
+        &mut self,
+        alloc: Global,
+        number: u32,
+        taker: u32,
+        chan: u32,
+        message: Message,
+        pick: u32,
+    ) -> Result<(), (Message, AllocError)>
+        requires takes { IsTaking self.old.tasks.items taker chan pick }
+        requires rising { IsRising self.old.ready.items }
+        requires room { HasRoom self.old 1 }
+        ensures ok { OnOk result ((t : Task) (a : Arm) → HasTask self.old.tasks.items taker t → TakesAlone pick chan t.wait a → Gave self.old number taker chan t a message self.new) }
+        ensures err { IfErr result (λ e. (self.new ≡ self.old) × (e.0 ≡ message)) }
+    {
+        let copy = match message.copy(alloc) {
+            Ok(copy) => copy,
+            Err(refused) => return Err((message, refused)),
+        };
+        self.trace.push_reserved(Communication {
+            chan,
+            sender: End::Process(number),
+            receiver: End::Process(taker),
+            message: copy,
+        });
+        insert(&mut self.ready, taker);
+        let arm = self.leave(alloc, taker, chan, pick);
+        set_wait(&mut self.tasks, taker, took(arm, Some(message)));
+        Ok(())
+    }
+
+    /// The process takes this byte, which is the keyboard's next one.
+    fn take_byte(
+        &mut self,
+        alloc: Global,
+        number: u32,
+        arm: Arm,
+        byte: u8,
+    ) -> Result<(), AllocError>
+        requires there { IsThere self.old.tasks.items number }
+        requires counts { self.old.used + 1 < 2 ^ 64 }
+        requires room { HasRoom self.old 1 }
+        ensures ok { OnOk result (TookByte self.old number arm byte self.new) }
+        ensures err { OnErr result (self.new ≡ self.old) }
+    {
+        let message = one_byte(alloc, byte)?;
+        let received = one_byte(alloc, byte)?;
+        self.trace.push_reserved(Communication {
+            chan: KEYBOARD,
+            sender: End::Keyboard,
+            receiver: End::Process(number),
+            message,
+        });
+        self.used += 1;
+        set_wait(&mut self.tasks, number, took(arm, Some(received)));
+        Ok(())
+    }
+
+    /// The process takes the message that another one offers.
+    fn take_from(
+        &mut self,
+        alloc: Global,
+        number: u32,
+        giver: u32,
+        chan: u32,
+        arm: Arm,
+    ) -> Result<(), AllocError>
+        requires there { IsThere self.old.tasks.items number }
+        requires offers { IsOffering self.old.tasks.items giver chan }
+        requires apart { number ≢ giver }
+        requires rising { IsRising self.old.ready.items }
+        requires room { HasRoom self.old 1 }
+        ensures ok { OnOk result ((t : Task) (m : Message) → HasTask self.old.tasks.items giver t → t.wait ≡ Wait.Offers chan m → TookFrom self.old number giver chan arm t m self.new) }
+        ensures err { OnErr result (self.new ≡ self.old) }
+    {
+        let copy = offered(alloc, &self.tasks, giver)?;
+        let Wait::Offers { message, .. } = take_wait(&mut self.tasks, giver) else {
+            unreachable!()
+        };
+        self.trace.push_reserved(Communication {
+            chan,
+            sender: End::Process(giver),
+            receiver: End::Process(number),
+            message: copy,
+        });
+        set_entry(&mut self.offering, chan, None);
+        set_wait(&mut self.tasks, number, took(arm, Some(message)));
+        insert(&mut self.ready, giver);
+        Ok(())
+    }
+
+    /// What the process offers is taken, or it waits until it is.
+    pub(crate) fn offer(
+        &mut self,
+        alloc: Global,
+        place: usize,
+        number: u32,
+        chan: u32,
+        message: Message,
+        pick: u32,
+    ) -> Result<(), (Message, AllocError)>
+        requires mid { (p : Program) × HasMid p self.old number place (Wait.Offers chan message) }
+        requires room { HasRoom self.old 1 }
+        ensures ok { OnOk result ((p : Program) (keyboard : List ℕ) → Settles p keyboard pick number place (Wait.Offers chan message) self.old self.new) }
+        ensures err { IfErr result (λ e. (self.new ≡ self.old) × (e.0 ≡ message)) }
+    {
+        if let Some(receiver) = reader(chan) {
+            self.trace.push_reserved(Communication {
+                chan,
+                sender: End::Process(number),
+                receiver,
+                message,
+            });
+            return Ok(());
+        }
+        if let Some(taker) = entry(&self.awaiting, chan) {
+            self.give(alloc, number, taker, chan, message, pick)?;
+            return Ok(());
+        }
+        set_entry(&mut self.offering, chan, Some(number));
+        let wait = Wait::Offers { chan, message };
+        rest(&mut self.tasks, &mut self.ready, place, number, wait);
+        Ok(())
+    }
+
+    /// The process takes a message that is there, or it waits for one.
+    pub(crate) fn await_on(
+        &mut self,
+        alloc: Global,
+        keyboard: &[u8],
+        place: usize,
+        number: u32,
+        chan: u32,
+    ) -> Result<(), AllocError>
+        requires mid { (p : Program) × HasMid p self.old number place (Wait.Awaits chan) }
+        requires room { HasRoom self.old 1 }
+        ensures ok { OnOk result ((p : Program) (pick : ℕ) → Settles p keyboard.now pick number place (Wait.Awaits chan) self.old self.new) }
+        ensures err { OnErr result (self.new ≡ self.old) }
+    {
+        if let Some(byte) = next_byte(chan, keyboard, self.used) {
+            self.take_byte(alloc, number, input_arm(alloc, chan), byte)?;
+            return Ok(());
+        }
+        match entry(&self.offering, chan) {
+            Some(giver) => self.take_from(alloc, number, giver, chan, input_arm(alloc, chan))?,
+            None => {
+                set_entry(&mut self.awaiting, chan, Some(number));
+                let wait = Wait::Awaits { chan };
+                rest(&mut self.tasks, &mut self.ready, place, number, wait);
+            }
+        }
+        Ok(())
+    }
+
+    /// The process takes a ready arm, or it waits at the channels of its arms.
+    pub(crate) fn choose(
+        &mut self,
+        alloc: Global,
+        keyboard: &[u8],
+        place: usize,
+        number: u32,
+        pri: bool,
+        arms: Items<Arm>,
+        pick: u32,
+    ) -> Result<(), (Items<Arm>, AllocError)>
+        requires mid { (p : Program) × HasMid p self.old number place (Wait.Chooses pri arms) }
+        requires room { HasRoom self.old 1 }
+        ensures ok { OnOk result ((p : Program) → Settles p keyboard.now pick number place (Wait.Chooses pri arms) self.old self.new) }
+        ensures err { IfErr result (λ e. (self.new ≡ self.old) × (e.0 ≡ arms)) }
+    {
+        let named = keyboard_channel(keyboard, self.used);
+        let Some(at) = choose_arm(named, &self.offering, pri, pick, arms.as_slice()) else {
+            set_arms(&mut self.awaiting, arms.as_slice(), Some(number));
+            let wait = Wait::Chooses { pri, arms };
+            rest(&mut self.tasks, &mut self.ready, place, number, wait);
+            return Ok(());
+        };
+        let arm = match copied_arm(alloc, arms.as_slice(), at) {
+            Ok(arm) => arm,
+            Err(refused) => return Err((arms, refused)),
+        };
+        let Some(chan) = arm.chan else {
+            set_wait(&mut self.tasks, number, took(arm, None));
+            return Ok(());
+        };
+        if let Some(byte) = next_byte(chan, keyboard, self.used) {
+            return match self.take_byte(alloc, number, arm, byte) {
+                Ok(()) => Ok(()),
+                Err(refused) => Err((arms, refused)),
+            };
+        }
+        let Some(giver) = entry(&self.offering, chan) else {
+            unreachable!()
+        };
+        match self.take_from(alloc, number, giver, chan, arm) {
+            Ok(()) => Ok(()),
+            Err(refused) => Err((arms, refused)),
+        }
+    }
+
+    /// The process halts, for good.
+    pub(crate) fn halt(&mut self, place: usize, number: u32)
+        requires { (p : Program) × HasMid p self.old number place Wait.Halted }
+        ensures { (p : Program) (keyboard : List ℕ) (pick : ℕ) → Settles p keyboard pick number place Wait.Halted self.old self.new }
+    {
+        rest(
+            &mut self.tasks,
+            &mut self.ready,
+            place,
+            number,
+            Wait::Halted,
+        );
+    }
+
+    /// The process fails, which ends the run.
+    pub(crate) fn fail(&mut self, place: usize, number: u32, fault: Fault)
+        requires { (p : Program) × HasMid p self.old number place (Wait.Faulted fault) }
+        ensures { (p : Program) (keyboard : List ℕ) (pick : ℕ) → Settles p keyboard pick number place (Wait.Faulted fault) self.old self.new }
+    {
+        rest(
+            &mut self.tasks,
+            &mut self.ready,
+            place,
+            number,
+            Wait::Faulted(fault),
+        );
+        self.fault = Some(fault);
+    }
+}

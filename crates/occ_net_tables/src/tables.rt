@@ -1,0 +1,138 @@
+//! The network: its parts, its start and its ending.
+ghost use Rattle.std.specs.Prelude.{◌≡◌, IfOk, List, None, map, replicate, ℕ};
+ghost use Rattle.occ_code.specs.Sequential.Compiled.{Program};
+ghost use Rattle.occ_net_replay.specs.Replay.{Net, ending_of, first_net, is_done, main_done};
+ghost use Rattle.occ_net_tables.specs.Holding.{Holds, communication_of};
+
+use crate::entries::{empty, no_counts};
+use crate::tasks::put_task;
+use crate::trace::Communication;
+use occ_code::{Code, Task, Wait};
+use occ_net_replay::Ending;
+use occ_term::{Fault, Frame};
+use std::alloc::{AllocError, Global};
+
+/// The processes of a program with their channels, the keyboard, the screen and the error channel.
+#[derive(Drop)]
+pub struct Tables {
+    /// By process number; none has not begun.
+    pub(crate) tasks: Vec<Option<Task>>,
+    /// The processes that may take a turn, in rising order.
+    pub(crate) ready: Vec<u32>,
+    /// By channel: who offers a message on it.
+    pub(crate) offering: Vec<Option<u32>>,
+    /// By channel: who awaits a message on it.
+    pub(crate) awaiting: Vec<Option<u32>>,
+    /// By process number: who waits for its end, among that of others.
+    pub(crate) parents: Vec<Option<u32>>,
+    /// By process number: for how many branches a process still waits that waits for some.
+    pub(crate) unfinished: Vec<usize>,
+    /// The fault that ended the run.
+    pub(crate) fault: Option<Fault>,
+    /// How many of the keyboard's bytes are taken.
+    pub(crate) used: usize,
+    /// The communications that there were.
+    pub(crate) trace: Vec<Communication>,
+}
+
+/// So many processes that have not begun.
+fn none_begun(alloc: Global, count: usize) -> Result<Vec<Option<Task>>, AllocError>
+    ensures { IfOk result (λ tasks. tasks.items ≡ replicate count None) }
+{
+    let mut tasks = Vec::new(alloc);
+    for _slot in 0..count {
+        tasks.push(None)?;
+    }
+    Ok(tasks)
+}
+
+/// Whether the main process is at its end.
+fn main_done(tasks: &[Option<Task>]) -> bool
+    ensures { result ≡ main_done tasks.now }
+{
+    match tasks.first() {
+        Some(Some(task)) => is_done(&task.wait),
+        _ => false,
+    }
+}
+
+fn is_done(wait: &Wait) -> bool
+    ensures { result ≡ is_done wait.now }
+{
+    match wait {
+        Wait::Done => true,
+        _ => false,
+    }
+}
+
+impl Tables {
+    /// The network before its first turn.
+    pub fn new(alloc: Global, code: &Code) -> Result<Tables, AllocError>
+        ensures { IfOk result (λ n. (keyboard : List ℕ) → Holds code.now keyboard n (first_net code.now keyboard)) }
+    {
+        code.compiled();
+        let Some(body) = code.body(0) else {
+            unreachable!()
+        };
+        let frame = Frame::new(alloc, body.cells(), body.loops() as usize)?;
+        let main = Task {
+            number: 0,
+            turns: 0,
+            place: 0,
+            frame,
+            wait: Wait::Ready,
+        };
+        let count = code.len();
+        let channels = code.channels().len();
+        let mut tasks = none_begun(alloc, count)?;
+        put_task(&mut tasks, 0, main);
+        let mut ready = Vec::new(alloc);
+        ready.push(0)?;
+        let offering = empty(alloc, channels)?;
+        let awaiting = empty(alloc, channels)?;
+        let parents = empty(alloc, count)?;
+        let unfinished = no_counts(alloc, count)?;
+        let trace = Vec::new(alloc);
+        Ok(Tables {
+            tasks,
+            ready,
+            offering,
+            awaiting,
+            parents,
+            unfinished,
+            fault: None,
+            used: 0,
+            trace,
+        })
+    }
+
+    /// How the run has ended, if it has.
+    pub fn ending(&self) -> Option<Ending>
+        ensures { (p : Program) (keyboard : List ℕ) (net : Net) → Holds p keyboard self.now net → result ≡ ending_of net }
+    {
+        if let Some(fault) = self.fault {
+            return Some(Ending::Fault(fault));
+        }
+        if main_done(&self.tasks) {
+            return Some(Ending::Ended);
+        }
+        if self.ready.is_empty() {
+            return Some(Ending::Stopped);
+        }
+        None
+    }
+
+    /// The communications that there were, in order.
+    pub fn trace(&self) -> &[Communication]
+        ensures { (p : Program) (keyboard : List ℕ) (net : Net) → Holds p keyboard self.now net → net.trace ≡ map communication_of result.now }
+    {
+        &self.trace
+    }
+
+    /// The same, where the network is no longer wanted.
+    pub fn into_trace(self) -> Vec<Communication>
+        ensures { (p : Program) (keyboard : List ℕ) (net : Net) → Holds p keyboard self net → net.trace ≡ map communication_of result.items }
+    {
+        self.trace
+    }
+}

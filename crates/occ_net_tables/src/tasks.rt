@@ -1,0 +1,86 @@
+//! Changes of one process's task, in its slot.
+ghost use Rattle.std.specs.Prelude.{◌≡◌, ◌+◌, ◌<◌, ◌^◌, IfOk, Some, length, slice_set};
+ghost use Rattle.occ_code.specs.Alike.{ready_with};
+ghost use Rattle.occ_code.specs.declared.task.Task.{Task};
+ghost use Rattle.occ_net_replay.specs.Replay.{HasTask};
+ghost use Rattle.occ_net_tables.specs.Tasks.{Advanced, HasTurn, IsTaken, IsThere};
+
+use occ_code::{Body, Task, Wait};
+use occ_proc::{Scratch, advance};
+use std::alloc::{AllocError, Global};
+use std::mem;
+
+/// The process goes on to its next stop, and is left as ready. What it stands at is handed out.
+pub(crate) fn advance_task(
+    alloc: Global,
+    body: &Body,
+    scratch: &mut Scratch,
+    tasks: &mut Vec<Option<Task>>,
+    number: u32,
+) -> Result<Wait, AllocError>
+    requires small { length body.now.code + 1 < 2 ^ 32 }
+    requires turn { HasTurn body.now tasks.old.items number }
+    ensures { IfOk result (λ wait. (t : Task) → HasTask tasks.old.items number t → Advanced body.now tasks.old.items number t wait tasks.new.items) }
+{
+    match &mut tasks[number as usize] {
+        Some(task) => {
+            advance(alloc, body, scratch, task)?;
+            Ok(mem::replace(&mut task.wait, Wait::Ready))
+        }
+        None => unreachable!(),
+    }
+}
+
+/// The process stands at this from now on.
+pub(crate) fn set_wait(tasks: &mut Vec<Option<Task>>, number: u32, wait: Wait)
+    requires { IsThere tasks.old.items number }
+    ensures { (t : Task) → HasTask tasks.old.items number t → tasks.new.items ≡ slice_set tasks.old.items number (Some (ready_with t wait)) }
+{
+    match &mut tasks[number as usize] {
+        Some(task) => task.wait = wait,
+        None => unreachable!(),
+    }
+}
+
+/// What the process stands at is handed out, and it is left as ready.
+pub(crate) fn take_wait(tasks: &mut Vec<Option<Task>>, number: u32) -> Wait
+    requires { IsThere tasks.old.items number }
+    ensures { (t : Task) → HasTask tasks.old.items number t → IsTaken tasks.old.items number t result tasks.new.items }
+{
+    match &mut tasks[number as usize] {
+        Some(task) => mem::replace(&mut task.wait, Wait::Ready),
+        None => unreachable!(),
+    }
+}
+
+/// Takes the task out of its slot.
+pub(crate) fn take_task(tasks: &mut Vec<Option<Task>>, number: u32) -> Task
+    requires { IsThere tasks.old.items number }
+    ensures task { HasTask tasks.old.items number result }
+    ensures empty { tasks.new.items ≡ slice_set tasks.old.items number None }
+{
+    match mem::replace(&mut tasks[number as usize], None) {
+        Some(task) => task,
+        None => unreachable!(),
+    }
+}
+
+/// Puts a task into its slot.
+pub(crate) fn put_task(tasks: &mut Vec<Option<Task>>, number: u32, task: Task)
+    requires { number < length tasks.old.items }
+    ensures { tasks.new.items ≡ slice_set tasks.old.items number (Some task) }
+{
+    tasks[number as usize] = Some(task);
+}
+
+/// Puts a task into a slot that has one, and hands that one out.
+pub(crate) fn swap_task(tasks: &mut Vec<Option<Task>>, number: u32, task: Task) -> Task
+    requires { IsThere tasks.old.items number }
+    ensures task { HasTask tasks.old.items number result }
+    ensures tasks { tasks.new.items ≡ slice_set tasks.old.items number (Some task) }
+{
+    match mem::replace(&mut tasks[number as usize], Some(task)) {
+        Some(task) => task,
+        None => unreachable!(),
+    }
+}

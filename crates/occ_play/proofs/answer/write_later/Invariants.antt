@@ -1,6 +1,0 @@
-use Rattle.std.proofs.Common.{◌≡◌, ◌++◌, take}
-use Rattle.occ_play.specs.Answers.{later_text}
-use Rattle.occ_play.proofs.answer.write_later.Given as goal
-
-abbrev pub invariant-loop-part : goal.invariant-loop-part
-invariant-loop-part l = l.out.items ≡ l.fn.out.items ++ later_text (take l.part-index l.parts)

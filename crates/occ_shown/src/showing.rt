@@ -1,0 +1,376 @@
+//! The answer's bytes, whole.
+ghost use Rattle.std.specs.Prelude.{◌≡◌, ◌++◌, ◌∷◌, [], ◌<◌, ◌+◌, ◌^◌, Some, None, Option, IfOk, OnOk, List, ℕ, length, map, codes, slice_get};
+ghost use Rattle.std.specs.Fmt.{decimal};
+ghost use Rattle.std.specs.Option.{option_copied};
+ghost use Rattle.occ_term.specs.Runs.{bytes_in, bytes_of, entry_of, entries, messages_on, sent_on, shown_by, tag_shown};
+ghost use Rattle.occ_shown.specs.Answers.{AreByteMessages, IsByteMessage, answer_text, value_text, spaced_text, values_text, array_text, part_text, later_text, items_text, end_text, head_text, ends_text, line_text, trace_text, line_break, ends_inside, names_of, name_at, tag_in, report_of};
+ghost use Rattle.occ_net_replay.specs.Endings.{ending_text};
+ghost use Rattle.occ_net_tables.specs.Holding.{communication_of, end_of};
+
+use occ_net_replay::Ending;
+use occ_net_tables::{Communication, End};
+use occ_term::{Channel, Message, Part, Primitive, Protocol};
+use std::alloc::{AllocError, Global};
+
+/// The screen's channel.
+const SCREEN: u32 = 1;
+
+/// The error channel.
+const ERROR: u32 = 2;
+
+/// Ends a line.
+const LINE_FEED: u8 = 10;
+
+fn write_value(
+    alloc: Global,
+    out: &mut Vec<u8>,
+    primitive: Primitive,
+    value: &i64,
+) -> Result<(), AllocError>
+    ensures { OnOk result (out.new.items ≡ out.old.items ++ value_text primitive value.now) }
+{
+    match primitive {
+        Primitive::Bool => {
+            if *value >= 1 {
+                out.extend_from_slice(b"TRUE")
+            } else {
+                out.extend_from_slice(b"FALSE")
+            }
+        }
+        Primitive::Byte | Primitive::Int => {
+            let text = format!(in alloc; "{value}")?;
+            out.extend_from_slice(text.as_bytes())
+        }
+    }
+}
+
+fn write_number(alloc: Global, out: &mut Vec<u8>, number: u64) -> Result<(), AllocError>
+    ensures { OnOk result (out.new.items ≡ out.old.items ++ decimal number) }
+{
+    let text = format!(in alloc; "{number}")?;
+    out.extend_from_slice(text.as_bytes())
+}
+
+/// The values of an array, each after a space.
+fn write_spaced(
+    alloc: Global,
+    out: &mut Vec<u8>,
+    primitive: Primitive,
+    values: &[i64],
+) -> Result<(), AllocError>
+    ensures { OnOk result (out.new.items ≡ out.old.items ++ spaced_text primitive values.now) }
+{
+    for value in values {
+        out.push(b' ')?;
+        write_value(alloc, out, primitive, value)?;
+    }
+    Ok(())
+}
+
+fn write_array(
+    alloc: Global,
+    out: &mut Vec<u8>,
+    primitive: Primitive,
+    values: &[i64],
+) -> Result<(), AllocError>
+    ensures { OnOk result (out.new.items ≡ out.old.items ++ array_text primitive values.now) }
+{
+    out.push(b'[')?;
+    if let Some((first, others)) = values.split_first() {
+        write_value(alloc, out, primitive, first)?;
+        write_spaced(alloc, out, primitive, others)?;
+    }
+    out.push(b']')?;
+    Ok(())
+}
+
+fn write_part(alloc: Global, out: &mut Vec<u8>, part: &Part) -> Result<(), AllocError>
+    ensures { OnOk result (out.new.items ≡ out.old.items ++ part_text part.now) }
+{
+    match part {
+        Part::One(primitive, value) => write_value(alloc, out, *primitive, value),
+        Part::Many(primitive, values) => write_array(alloc, out, *primitive, values.as_slice()),
+        Part::Counted(primitive, values) => {
+            write_number(alloc, out, values.len() as u64)?;
+            out.extend_from_slice(b"::")?;
+            write_array(alloc, out, *primitive, values.as_slice())
+        }
+    }
+}
+
+/// Items, each after a semicolon and a space.
+fn write_later(alloc: Global, out: &mut Vec<u8>, parts: &[Part]) -> Result<(), AllocError>
+    ensures { OnOk result (out.new.items ≡ out.old.items ++ later_text parts.now) }
+{
+    for part in parts {
+        out.extend_from_slice(b"; ")?;
+        write_part(alloc, out, part)?;
+    }
+    Ok(())
+}
+
+/// The items of a message, of which a tag's name is the first.
+fn write_items(
+    alloc: Global,
+    out: &mut Vec<u8>,
+    tag: Option<&[u8]>,
+    parts: &[Part],
+) -> Result<(), AllocError>
+    ensures { OnOk result (out.new.items ≡ out.old.items ++ items_text (option_copied tag.entry) parts.now) }
+{
+    match tag {
+        Some(name) => {
+            out.extend_from_slice(name)?;
+            write_later(alloc, out, parts)
+        }
+        None => match parts.split_first() {
+            Some((first, others)) => {
+                write_part(alloc, out, first)?;
+                write_later(alloc, out, others)
+            }
+            None => Ok(()),
+        },
+    }
+}
+
+/// The name of an end: `p` and a process's number, or what else it is.
+pub(crate) fn write_end(alloc: Global, out: &mut Vec<u8>, end: End) -> Result<(), AllocError>
+    ensures { OnOk result (out.new.items ≡ out.old.items ++ end_text (end_of end)) }
+{
+    match end {
+        End::Process(number) => {
+            out.push(b'p')?;
+            write_number(alloc, out, u64::from(number))
+        }
+        End::Keyboard => out.extend_from_slice(b"keyboard"),
+        End::Screen => out.extend_from_slice(b"screen"),
+        End::Error => out.extend_from_slice(b"error"),
+    }
+}
+
+/// The name of a channel; empty where there is no such channel.
+fn channel_name<'a>(channels: &'a [Channel], chan: u32) -> &'a [u8]
+    ensures { result.now ≡ name_at (slice_get channels.now chan) }
+{
+    match channels.get(chan as usize) {
+        Some(channel) => channel.name.as_slice(),
+        None => &[],
+    }
+}
+
+/// The number, the channel's number and its name.
+fn write_head(
+    alloc: Global,
+    out: &mut Vec<u8>,
+    number: u64,
+    chan: u32,
+    name: &[u8],
+) -> Result<(), AllocError>
+    ensures { OnOk result (out.new.items ≡ out.old.items ++ head_text number chan name.now) }
+{
+    write_number(alloc, out, number)?;
+    out.extend_from_slice(b" c")?;
+    write_number(alloc, out, u64::from(chan))?;
+    out.push(b' ')?;
+    out.extend_from_slice(name)
+}
+
+/// The two ends of a communication, between spaces.
+fn write_ends(
+    alloc: Global,
+    out: &mut Vec<u8>,
+    sender: End,
+    receiver: End,
+) -> Result<(), AllocError>
+    ensures { OnOk result (out.new.items ≡ out.old.items ++ ends_text (end_of sender) (end_of receiver)) }
+{
+    out.push(b' ')?;
+    write_end(alloc, out, sender)?;
+    out.push(b'>')?;
+    write_end(alloc, out, receiver)?;
+    out.push(b' ')?;
+    Ok(())
+}
+
+/// The name of a channel's tag; empty where there is no such tag.
+fn tag_name<'a>(channels: &'a [Channel], chan: u32, tag: u32) -> &'a [u8]
+    ensures { result.now ≡ (names_of channels.now).tag_name chan tag }
+{
+    match channels.get(chan as usize) {
+        Some(channel) => protocol_tag(&channel.protocol, tag),
+        None => &[],
+    }
+}
+
+/// The name of a protocol's tag; empty where there is no such tag.
+fn protocol_tag<'a>(protocol: &'a Protocol, tag: u32) -> &'a [u8]
+    ensures { result.now ≡ tag_in (Some protocol.now) tag }
+{
+    match protocol {
+        Protocol::Variant(tags) => match tags.as_slice().get(tag as usize) {
+            Some(found) => found.name.as_slice(),
+            None => &[],
+        },
+        _ => &[],
+    }
+}
+
+/// The tag's name and the items of a message on this channel.
+fn write_message(
+    alloc: Global,
+    out: &mut Vec<u8>,
+    message: &Message,
+    chan: u32,
+    channels: &[Channel],
+) -> Result<(), AllocError>
+    ensures { OnOk result (out.new.items ≡ out.old.items ++ items_text (tag_shown (names_of channels.now) chan message.now.tag) message.now.items) }
+{
+    let items = message.items.as_slice();
+    match message.tag {
+        Some(tag) => write_items(alloc, out, Some(tag_name(channels, chan, tag)), items),
+        None => write_items(alloc, out, None, items),
+    }
+}
+
+/// The channel's name and the message of a communication.
+pub(crate) fn write_label(
+    alloc: Global,
+    out: &mut Vec<u8>,
+    communication: &Communication,
+    channels: &[Channel],
+) -> Result<(), AllocError>
+    ensures { OnOk result (out.new.items ≡ out.old.items ++ (names_of channels.now).channel_name communication.now.chan ++ 32 ∷ items_text (tag_shown (names_of channels.now) communication.now.chan communication.now.message.tag) communication.now.message.items) }
+{
+    let chan = communication.chan;
+    out.extend_from_slice(channel_name(channels, chan))?;
+    out.push(b' ')?;
+    write_message(alloc, out, &communication.message, chan, channels)
+}
+
+/// The line of a communication, which has this number.
+fn write_line(
+    alloc: Global,
+    out: &mut Vec<u8>,
+    number: u64,
+    communication: &Communication,
+    channels: &[Channel],
+) -> Result<(), AllocError>
+    ensures { OnOk result (out.new.items ≡ out.old.items ++ line_text (entry_of (names_of channels.now) number (communication_of communication.now))) }
+{
+    let name = channel_name(channels, communication.chan);
+    write_head(alloc, out, number, communication.chan, name)?;
+    write_ends(alloc, out, communication.sender, communication.receiver)?;
+    write_message(
+        alloc,
+        out,
+        &communication.message,
+        communication.chan,
+        channels,
+    )?;
+    out.push(LINE_FEED)?;
+    Ok(())
+}
+
+/// The lines of all communications, numbered from 1.
+fn write_trace(
+    alloc: Global,
+    out: &mut Vec<u8>,
+    trace: &[Communication],
+    channels: &[Channel],
+) -> Result<(), AllocError>
+    ensures { OnOk result (out.new.items ≡ out.old.items ++ trace_text (entries (names_of channels.now) 1 (map communication_of trace.now))) }
+{
+    for i in 0..trace.len() {
+        write_line(alloc, out, i as u64 + 1, &trace[i], channels)?;
+    }
+    Ok(())
+}
+
+/// The byte that a message is.
+fn byte_of(message: &Message) -> u8
+    requires { IsByteMessage message.now }
+    ensures { bytes_in message.now.items ≡ result ∷ [] }
+{
+    match message.items.as_slice() {
+        [Part::One(_, value)] => *value as u8,
+        _ => unreachable!(),
+    }
+}
+
+/// The bytes of the messages of one channel.
+fn write_bytes(out: &mut Vec<u8>, trace: &[Communication], chan: u32) -> Result<(), AllocError>
+    requires { AreByteMessages chan trace.now }
+    ensures { OnOk result (out.new.items ≡ out.old.items ++ bytes_of (messages_on chan (map communication_of trace.now))) }
+{
+    for i in 0..trace.len() {
+        write_byte(out, &trace[i], chan)?;
+    }
+    Ok(())
+}
+
+/// The byte of a communication, if it is on this channel.
+fn write_byte(out: &mut Vec<u8>, communication: &Communication, chan: u32) -> Result<(), AllocError>
+    requires { communication.now.chan ≡ chan → IsByteMessage communication.now.message }
+    ensures { OnOk result (out.new.items ≡ out.old.items ++ bytes_of (sent_on chan (communication_of communication.now))) }
+{
+    if communication.chan == chan {
+        out.push(byte_of(&communication.message))?;
+    }
+    Ok(())
+}
+
+/// The trace's lines and the ending's line; without the trace the ending's line alone, and nothing where the run ended.
+fn report(
+    alloc: Global,
+    trace: Option<&[Communication]>,
+    channels: &[Channel],
+    ending: Ending,
+) -> Result<Vec<u8>, AllocError>
+    ensures { IfOk result (λ bytes. bytes.items ≡ report_of channels.now (option_copied trace.entry) ending) }
+{
+    let mut bytes = Vec::new(alloc);
+    if let Some(communications) = trace {
+        write_trace(alloc, &mut bytes, communications, channels)?;
+    }
+    if trace.is_some() || ending != Ending::Ended {
+        let line = format!(in alloc; "{ending}\n")?;
+        bytes.extend_from_slice(line.as_bytes())?;
+    }
+    Ok(bytes)
+}
+
+/// The bytes, and then the report, which stands on lines of its own.
+fn joined(bytes: &mut Vec<u8>, report: &[u8]) -> Result<(), AllocError>
+    ensures { OnOk result (bytes.new.items ≡ (bytes.old.items ++ line_break bytes.old.items report.now) ++ report.now) }
+{
+    if !report.is_empty() && bytes.last().is_some_and(|last| *last != LINE_FEED) {
+        bytes.push(LINE_FEED)?;
+    }
+    bytes.extend_from_slice(report)
+}
+
+/// The answer of a run: the screen's bytes, the error channel's bytes and the report, which has a line for each
+/// communication where the trace is wanted.
+///
+/// # Errors
+///
+/// A refused growth.
+pub fn answer(
+    alloc: Global,
+    trace: &[Communication],
+    channels: &[Channel],
+    ending: Ending,
+    with_trace: bool,
+) -> Result<Vec<u8>, AllocError>
+    requires screen { AreByteMessages SCREEN trace.now }
+    requires error { AreByteMessages ERROR trace.now }
+    ensures { IfOk result (λ bytes. bytes.items ≡ answer_text (shown_by (names_of channels.now) (map communication_of trace.now)) ending with_trace) }
+{
+    let lines = if with_trace { Some(trace) } else { None };
+    let report = report(alloc, lines, channels, ending)?;
+    let mut bytes = Vec::new(alloc);
+    write_bytes(&mut bytes, trace, SCREEN)?;
+    write_bytes(&mut bytes, trace, ERROR)?;
+    joined(&mut bytes, report.as_slice())?;
+    Ok(bytes)
+}

@@ -1,0 +1,1989 @@
+//! The programs of the folder `examples`, and what their first lines say. `tools/tables.py` writes this file.
+use crate::examples::Run;
+
+const CAPITALS: &str =
+    r#"-- Echoes what is typed in capital letters, up to the end of the line: a loop that inputs, chooses and outputs.
+--
+-- Keyboard:
+--   Hello, world.
+-- Screen:
+--   HELLO, WORLD.
+-- Ends: ended
+
+PROC main (CHAN OF BYTE keyboard, screen)
+  BYTE key:
+  SEQ
+    keyboard ? key
+    WHILE key <> '*n'
+      SEQ
+        IF
+          (key >= 'a') AND (key <= 'z')
+            screen ! key - ('a' - 'A')
+          TRUE
+            screen ! key
+        keyboard ? key
+    screen ! '*n'
+:
+"#;
+
+const HELLO: &str =
+    r#"-- A word, letter by letter: a named string, and a SEQ that is done once for each of its letters.
+--
+-- Keyboard: nothing
+-- Screen:
+--   Hello
+-- Ends: ended
+
+VAL greeting IS "Hello*n":
+
+PROC main (CHAN OF BYTE keyboard, screen)
+  SEQ i = 0 FOR SIZE greeting
+    screen ! greeting[i]
+:
+"#;
+
+const RELAY: &str =
+    r#"-- Two processes and a channel between them: one makes letters, the other takes each and prints it.
+--
+-- Keyboard: nothing
+-- Screen:
+--   abc
+-- Ends: ended
+
+PROC main (CHAN OF BYTE keyboard, screen)
+  CHAN OF BYTE link:
+  PAR
+    SEQ i = 0 FOR 3
+      link ! BYTE ((INT 'a') + i)
+    SEQ
+      SEQ i = 0 FOR 3
+        BYTE letter:
+        SEQ
+          link ? letter
+          screen ! letter
+      screen ! '*n'
+:
+"#;
+
+const TOGETHER: &str =
+    r#"-- Two processes side by side, each with a variable of its own; the third goes on when both have ended.
+--
+-- Keyboard: nothing
+-- Screen:
+--   7
+-- Ends: ended
+
+PROC main (CHAN OF BYTE keyboard, screen)
+  INT left, right:
+  SEQ
+    PAR
+      left := 3
+      right := 4
+    screen ! BYTE ((left + right) + (INT '0'))
+    screen ! '*n'
+:
+"#;
+
+const CALCULATOR: &str =
+    r#"-- A calculator without precedence: what is typed is reckoned from left to right, and printed at each `=`. A full stop ends it.
+-- A procedure has values, variables and channels as its formals.
+--
+-- Keyboard:
+--   12+30*2=
+--   7-10=
+--   0-2147483647-1=.
+-- Screen:
+--   84
+--   -3
+--   -2147483648
+-- Ends: ended
+
+-- Prints a number in decimal: the digits are found from the right, and output from the left.
+PROC number (VAL INT n, CHAN OF BYTE out)
+  [10]BYTE digits:
+  INT left, count, digit:
+  SEQ
+    left, count := n, 0
+    WHILE (left <> 0) OR (count = 0)
+      SEQ
+        digit := left \ 10
+        IF
+          digit < 0
+            digit := -digit
+          TRUE
+            SKIP
+        digits[count] := BYTE (digit + (INT '0'))
+        left, count := left / 10, count + 1
+    IF
+      n < 0
+        out ! '-'
+      TRUE
+        SKIP
+    SEQ i = 1 FOR count
+      out ! digits[count - i]
+:
+
+-- One more operand.
+PROC reckon (INT total, VAL BYTE operator, VAL INT entry)
+  CASE operator
+    '+'
+      total := total + entry
+    '-'
+      total := total - entry
+    '**'
+      total := total * entry
+    '/'
+      total := total / entry
+:
+
+PROC main (CHAN OF BYTE keyboard, screen)
+  BYTE key, operator:
+  INT total, entry:
+  SEQ
+    operator, total, entry := '+', 0, 0
+    keyboard ? key
+    WHILE key <> '.'
+      SEQ
+        CASE key
+          '0', '1', '2', '3', '4', '5', '6', '7', '8', '9'
+            entry := (entry * 10) + ((INT key) - (INT '0'))
+          '+', '-', '**', '/'
+            SEQ
+              reckon (total, operator, entry)
+              operator, entry := key, 0
+          '='
+            SEQ
+              reckon (total, operator, entry)
+              number (total, screen)
+              screen ! '*n'
+              operator, total, entry := '+', 0, 0
+          ELSE
+            SKIP
+        keyboard ? key
+:
+"#;
+
+const QUEENS: &str =
+    r#"-- Eight queens on a board, none of which attacks another: the first placing, by trying columns and going back. Printed is the
+-- column of the queen in each row.
+--
+-- Keyboard: nothing
+-- Screen:
+--   15863724
+-- Ends: ended
+
+VAL size IS 8:
+
+PROC main (CHAN OF BYTE keyboard, screen)
+  [size]INT column:
+  INT row:
+  SEQ
+    row, column[0] := 0, 0
+    WHILE row < size
+      IF
+        column[row] = size
+          -- no column is left in this row: the row before takes its next one
+          SEQ
+            row := row - 1
+            column[row] := column[row] + 1
+        IF i = 0 FOR row
+          (column[i] = column[row]) OR ((column[row] - column[i]) = (row - i)) OR
+            ((column[i] - column[row]) = (row - i))
+            column[row] := column[row] + 1
+        TRUE
+          SEQ
+            row := row + 1
+            IF
+              row < size
+                column[row] := 0
+              TRUE
+                SKIP
+    SEQ i = 0 FOR size
+      screen ! BYTE ((column[i] + 1) + (INT '0'))
+    screen ! '*n'
+:
+"#;
+
+const RUNS: &str =
+    r#"-- Run length coding: each run of equal letters, of nine at most, as the letter and how many there are, up to the end of the line.
+--
+-- Keyboard:
+--   aaabccdddd
+-- Screen:
+--   a3b1c2d4
+-- Ends: ended
+
+PROC main (CHAN OF BYTE keyboard, screen)
+  BYTE last, next:
+  SEQ
+    keyboard ? last
+    WHILE last <> '*n'
+      INT count:
+      SEQ
+        count := 1
+        keyboard ? next
+        WHILE (next = last) AND (count < 9)
+          SEQ
+            count := count + 1
+            keyboard ? next
+        screen ! last
+        screen ! BYTE (count + (INT '0'))
+        last := next
+    screen ! '*n'
+:
+"#;
+
+const SIEVE: &str =
+    r#"-- The primes below 30, by crossing out multiples in an array of truth values.
+--
+-- Keyboard: nothing
+-- Screen:
+--   02
+--   03
+--   05
+--   07
+--   11
+--   13
+--   17
+--   19
+--   23
+--   29
+-- Ends: ended
+
+VAL limit IS 30:
+
+PROC main (CHAN OF BYTE keyboard, screen)
+  [limit]BOOL crossed:
+  SEQ
+    SEQ n = 0 FOR limit
+      crossed[n] := FALSE
+    SEQ n = 2 FOR limit - 2
+      IF
+        crossed[n]
+          SKIP
+        TRUE
+          INT multiple:
+          SEQ
+            screen ! BYTE ((n / 10) + (INT '0'))
+            screen ! BYTE ((n \ 10) + (INT '0'))
+            screen ! '*n'
+            multiple := n * n
+            WHILE multiple < limit
+              SEQ
+                crossed[multiple] := TRUE
+                multiple := multiple + n
+:
+"#;
+
+const ADDER: &str =
+    r#"-- An adder for binary numbers of four digits, made of gates as a circuit is: networks within networks.
+--
+-- Keyboard:
+--   0110+0111
+-- Screen:
+--   01101
+-- Ends: ended
+
+VAL digits IS 4:
+
+PROC half.adder (CHAN OF BOOL left, right, sum, carry)
+  BOOL a, b:
+  SEQ
+    PAR
+      left ? a
+      right ? b
+    PAR
+      sum ! a <> b
+      carry ! a AND b
+:
+
+PROC or.gate (CHAN OF BOOL left, right, out)
+  BOOL a, b:
+  SEQ
+    PAR
+      left ? a
+      right ? b
+    out ! a OR b
+:
+
+PROC full.adder (CHAN OF BOOL left, right, in, sum, carry)
+  CHAN OF BOOL partial, first, second:
+  PAR
+    half.adder (left, right, partial, first)
+    half.adder (partial, in, sum, second)
+    or.gate (first, second, carry)
+:
+
+-- The digit on the right has the number 0.
+PROC read (CHAN OF BYTE keyboard, []CHAN OF BOOL digit)
+  BYTE key:
+  SEQ i = 1 FOR digits
+    SEQ
+      keyboard ? key
+      digit[digits - i] ! key = '1'
+:
+
+PROC print (CHAN OF BOOL carry, []CHAN OF BOOL sum, CHAN OF BYTE screen)
+  [digits + 1]BOOL bit:
+  SEQ
+    PAR
+      carry ? bit[digits]
+      PAR i = 0 FOR digits
+        sum[i] ? bit[i]
+    SEQ i = 0 FOR digits + 1
+      IF
+        bit[digits - i]
+          screen ! '1'
+        TRUE
+          screen ! '0'
+    screen ! '*n'
+:
+
+PROC main (CHAN OF BYTE keyboard, screen)
+  [digits]CHAN OF BOOL left, right, sum:
+  [digits + 1]CHAN OF BOOL carry:
+  PAR
+    BYTE plus:
+    SEQ
+      read (keyboard, left)
+      keyboard ? plus
+      read (keyboard, right)
+    carry[0] ! FALSE
+    PAR i = 0 FOR digits
+      full.adder (left[i], right[i], carry[i], sum[i], carry[i + 1])
+    print (carry[digits], sum, screen)
+:
+"#;
+
+const FIBONACCI: &str =
+    r#"-- The Fibonacci numbers from a ring: two processes that put a number in front, one that doubles the stream, and one that adds each
+-- number to the next. They would go on for ever; the run stops as nobody takes an eighth number.
+--
+-- Keyboard: nothing
+-- Screen:
+--   0112358
+-- Ends: stopped
+
+PROC prefix (VAL INT first, CHAN OF INT in, out)
+  INT number:
+  SEQ
+    out ! first
+    WHILE TRUE
+      SEQ
+        in ? number
+        out ! number
+:
+
+PROC delta (CHAN OF INT in, left, right)
+  INT number:
+  WHILE TRUE
+    SEQ
+      in ? number
+      PAR
+        left ! number
+        right ! number
+:
+
+PROC pairs (CHAN OF INT in, out)
+  INT last, next:
+  SEQ
+    in ? last
+    WHILE TRUE
+      SEQ
+        in ? next
+        out ! last + next
+        last := next
+:
+
+PROC main (CHAN OF BYTE keyboard, screen)
+  CHAN OF INT sums, one, both, back, taken:
+  PAR
+    prefix (1, sums, one)
+    prefix (0, one, both)
+    delta (both, back, taken)
+    pairs (back, sums)
+    SEQ i = 0 FOR 7
+      INT number:
+      SEQ
+        taken ? number
+        screen ! BYTE (number + (INT '0'))
+:
+"#;
+
+const PIPELINE: &str =
+    r#"-- A pipeline: a number goes through three processes, each of which adds one, and is printed at its end.
+--
+-- Keyboard: nothing
+-- Screen:
+--   4
+-- Ends: ended
+
+PROC successor (CHAN OF INT in, out)
+  INT number:
+  SEQ
+    in ? number
+    out ! number + 1
+:
+
+PROC main (CHAN OF BYTE keyboard, screen)
+  [4]CHAN OF INT link:
+  PAR
+    link[0] ! 1
+    PAR i = 0 FOR 3
+      successor (link[i], link[i + 1])
+    INT number:
+    SEQ
+      link[3] ? number
+      screen ! BYTE (number + (INT '0'))
+      screen ! '*n'
+:
+"#;
+
+const PRIMES: &str =
+    r#"-- The sieve of Eratosthenes as a pipeline: each filter keeps the first number that it gets, which is a prime, and hands on those
+-- that it does not divide.
+--
+-- Keyboard: nothing
+-- Screen:
+--   02
+--   03
+--   05
+--   07
+--   11
+--   13
+-- Ends: ended
+
+VAL filters IS 6:
+VAL last IS 13:
+VAL none IS 0:
+
+PROC numbers (CHAN OF INT out)
+  SEQ
+    SEQ n = 2 FOR last - 1
+      out ! n
+    out ! none
+:
+
+PROC filter (CHAN OF INT in, out, prime)
+  INT divisor, number:
+  SEQ
+    in ? divisor
+    prime ! divisor
+    in ? number
+    WHILE number <> none
+      SEQ
+        IF
+          (number \ divisor) = 0
+            SKIP
+          TRUE
+            out ! number
+        in ? number
+    out ! none
+:
+
+PROC print ([]CHAN OF INT prime, CHAN OF BYTE out)
+  SEQ i = 0 FOR filters
+    INT number:
+    SEQ
+      prime[i] ? number
+      out ! BYTE ((number / 10) + (INT '0'))
+      out ! BYTE ((number \ 10) + (INT '0'))
+      out ! '*n'
+:
+
+PROC main (CHAN OF BYTE keyboard, screen)
+  [filters + 1]CHAN OF INT link:
+  [filters]CHAN OF INT prime:
+  PAR
+    numbers (link[0])
+    PAR i = 0 FOR filters
+      filter (link[i], link[i + 1], prime[i])
+    INT end:
+    link[filters] ? end
+    print (prime, screen)
+:
+"#;
+
+const SORTER: &str =
+    r#"-- Sorts letters as they pass: each cell keeps the largest letter that it has seen, and hands it on at the end.
+--
+-- Keyboard:
+--   puzzle
+-- Screen:
+--   elpuzz
+-- Ends: ended
+
+VAL letters IS 6:
+
+PROC cell (CHAN OF BYTE in, out)
+  BYTE largest, next:
+  SEQ
+    in ? largest
+    SEQ i = 1 FOR letters - 1
+      SEQ
+        in ? next
+        IF
+          next > largest
+            SEQ
+              out ! largest
+              largest := next
+          TRUE
+            out ! next
+    out ! largest
+:
+
+PROC copy (CHAN OF BYTE in, out)
+  BYTE letter:
+  SEQ i = 0 FOR letters
+    SEQ
+      in ? letter
+      out ! letter
+:
+
+PROC main (CHAN OF BYTE keyboard, screen)
+  [letters]CHAN OF BYTE link:
+  PAR
+    copy (keyboard, link[0])
+    PAR i = 0 FOR letters - 1
+      cell (link[i], link[i + 1])
+    SEQ
+      copy (link[letters - 1], screen)
+      screen ! '*n'
+:
+"#;
+
+const SQUASH: &str =
+    r#"-- Makes one arrow of each two stars, in the middle of a pipeline, up to the end of the line.
+--
+-- Keyboard:
+--   x**2 + y*z
+-- Screen:
+--   x^2 + y*z
+-- Ends: ended
+
+VAL end IS '*n':
+
+PROC squash (CHAN OF BYTE in, out)
+  BYTE letter:
+  SEQ
+    in ? letter
+    WHILE letter <> end
+      SEQ
+        IF
+          letter = '**'
+            SEQ
+              in ? letter
+              IF
+                letter = '**'
+                  SEQ
+                    out ! '^'
+                    in ? letter
+                TRUE
+                  out ! '**'
+          TRUE
+            SEQ
+              out ! letter
+              in ? letter
+    out ! end
+:
+
+PROC copy (CHAN OF BYTE in, out)
+  BYTE letter:
+  SEQ
+    in ? letter
+    WHILE letter <> end
+      SEQ
+        out ! letter
+        in ? letter
+    out ! letter
+:
+
+PROC main (CHAN OF BYTE keyboard, screen)
+  CHAN OF BYTE before, after:
+  PAR
+    copy (keyboard, before)
+    squash (before, after)
+    copy (after, screen)
+:
+"#;
+
+const BUFFER: &str =
+    r#"-- A buffer of three places between a writer and a reader that asks for each value: a guard's Boolean closes its arm while it can't
+-- be served. The screen is the same by whatever choices.
+--
+-- Keyboard: nothing
+-- Screen:
+--   012345
+-- Ends: ended
+
+VAL places IS 3:
+VAL values IS 6:
+
+PROC buffer (CHAN OF INT in, CHAN OF BOOL request, CHAN OF INT out)
+  [places]INT kept:
+  INT first, count:
+  SEQ
+    first, count := 0, 0
+    SEQ n = 0 FOR 2 * values
+      BOOL any:
+      ALT
+        (count < places) & in ? kept[(first + count) \ places]
+          count := count + 1
+        (count > 0) & request ? any
+          SEQ
+            out ! kept[first]
+            first, count := (first + 1) \ places, count - 1
+:
+
+PROC main (CHAN OF BYTE keyboard, screen)
+  CHAN OF INT in, out:
+  CHAN OF BOOL request:
+  PAR
+    SEQ i = 0 FOR values
+      in ! i
+    buffer (in, request, out)
+    SEQ
+      SEQ i = 0 FOR values
+        INT value:
+        SEQ
+          request ! TRUE
+          out ? value
+          screen ! BYTE (value + (INT '0'))
+      screen ! '*n'
+:
+"#;
+
+const MERGE: &str =
+    r#"-- A fair merge: two writers, and a process that takes from whichever is ready. Each writer's letters come in order; the choices
+-- say how the two are merged.
+--
+-- Keyboard: nothing
+-- Screen:
+--   abcxyz
+-- Ends: ended
+--
+-- By merge.choices:
+--   axbycz
+-- Ends: ended
+
+PROC letters (VAL BYTE first, CHAN OF BYTE out)
+  SEQ i = 0 FOR 3
+    out ! BYTE ((INT first) + i)
+:
+
+PROC merge (CHAN OF BYTE left, right, out)
+  BYTE letter:
+  SEQ
+    SEQ i = 0 FOR 6
+      ALT
+        left ? letter
+          out ! letter
+        right ? letter
+          out ! letter
+    out ! '*n'
+:
+
+PROC main (CHAN OF BYTE keyboard, screen)
+  CHAN OF BYTE left, right:
+  PAR
+    letters ('a', left)
+    letters ('x', right)
+    merge (left, right, screen)
+:
+"#;
+
+const MULTIPLEXER: &str =
+    r#"-- A multiplexer: four sources of letters on one screen, each letter behind the number of its source. A replicated ALT takes from
+-- whichever source is ready.
+--
+-- Keyboard: nothing
+-- Screen:
+--   3d0a0a1b1b2c2c3d
+-- Ends: ended
+--
+-- By multiplexer.choices:
+--   0a0a1b1b2c2c3d3d
+-- Ends: ended
+
+VAL sources IS 4:
+
+PROC source (VAL INT number, CHAN OF BYTE out)
+  SEQ n = 0 FOR 2
+    out ! BYTE ((INT 'a') + number)
+:
+
+PROC multiplexer ([]CHAN OF BYTE in, CHAN OF BYTE out)
+  SEQ
+    SEQ n = 0 FOR 2 * sources
+      BYTE letter:
+      ALT i = 0 FOR sources
+        in[i] ? letter
+          SEQ
+            out ! BYTE ((INT '0') + i)
+            out ! letter
+    out ! '*n'
+:
+
+PROC main (CHAN OF BYTE keyboard, screen)
+  [sources]CHAN OF BYTE link:
+  PAR
+    PAR i = 0 FOR sources
+      source (i, link[i])
+    multiplexer (link, screen)
+:
+"#;
+
+const SIGNAL: &str =
+    r#"-- Work until a signal comes: PRI ALT looks for the signal first, and SKIP is an arm that is always ready. A dot is printed for each
+-- piece of work that is done before the signal.
+--
+-- Keyboard: nothing
+-- Screen:
+--   ..!
+-- Ends: ended
+--
+-- By signal.choices:
+--   !
+-- Ends: ended
+
+PROC main (CHAN OF BYTE keyboard, screen)
+  CHAN OF BOOL stop:
+  PAR
+    SEQ
+      SEQ i = 0 FOR 3
+        SKIP
+      stop ! TRUE
+    BOOL going, any:
+    SEQ
+      going := TRUE
+      WHILE going
+        PRI ALT
+          stop ? any
+            going := FALSE
+          TRUE & SKIP
+            screen ! '.'
+      screen ! '!'
+      screen ! '*n'
+:
+"#;
+
+const STACK: &str =
+    r#"-- A stack as a process: a protocol of tags says what can be asked of it, and an input by cases takes each request. What is typed comes
+-- back in turned order.
+--
+-- Keyboard:
+--   straw
+-- Screen:
+--   warts
+-- Ends: ended
+
+PROTOCOL request
+  CASE
+    push; BYTE
+    pop
+    quit
+:
+
+PROTOCOL reply
+  CASE
+    top; BYTE
+    empty
+:
+
+VAL size IS 10:
+
+PROC stack (CHAN OF request in, CHAN OF reply out)
+  [size]BYTE kept:
+  INT count:
+  BOOL going:
+  SEQ
+    count, going := 0, TRUE
+    WHILE going
+      in ? CASE
+        BYTE letter:
+        push; letter
+          SEQ
+            kept[count] := letter
+            count := count + 1
+        pop
+          IF
+            count = 0
+              out ! empty
+            TRUE
+              SEQ
+                count := count - 1
+                out ! top; kept[count]
+        quit
+          going := FALSE
+:
+
+PROC user (CHAN OF BYTE keyboard, screen, CHAN OF request out, CHAN OF reply in)
+  BYTE key:
+  BOOL going:
+  SEQ
+    keyboard ? key
+    WHILE key <> '*n'
+      SEQ
+        out ! push; key
+        keyboard ? key
+    going := TRUE
+    WHILE going
+      SEQ
+        out ! pop
+        in ? CASE
+          BYTE letter:
+          top; letter
+            screen ! letter
+          empty
+            going := FALSE
+    out ! quit
+    screen ! '*n'
+:
+
+PROC main (CHAN OF BYTE keyboard, screen)
+  CHAN OF request requests:
+  CHAN OF reply replies:
+  PAR
+    stack (requests, replies)
+    user (keyboard, screen, requests, replies)
+:
+"#;
+
+const FARM: &str =
+    r#"-- A farm: who has nothing to do gets the next piece of work, so that nobody waits for a slower one. The work is to make capitals of
+-- letters; printed is each with the number of the worker in front.
+--
+-- Keyboard: nothing
+-- Screen:
+--   0A0B0E0F1C2D
+-- Ends: ended
+--
+-- By farm.choices:
+--   0A1B2C0D1E2F
+-- Ends: ended
+
+VAL workers IS 3:
+VAL work IS "abcdef":
+
+PROTOCOL task
+  CASE
+    letter; BYTE
+    done
+:
+
+PROC worker (CHAN OF BOOL ask, CHAN OF task in, CHAN OF BYTE out)
+  BOOL going:
+  SEQ
+    going := TRUE
+    WHILE going
+      SEQ
+        ask ! TRUE
+        in ? CASE
+          BYTE letter:
+          letter; letter
+            out ! letter - ('a' - 'A')
+          done
+            going := FALSE
+:
+
+-- Hands out the work, and then says to each worker that there is no more.
+PROC farmer ([]CHAN OF BOOL ask, []CHAN OF task out)
+  BOOL any:
+  SEQ
+    SEQ n = 0 FOR SIZE work
+      ALT i = 0 FOR workers
+        ask[i] ? any
+          out[i] ! letter; work[n]
+    SEQ i = 0 FOR workers
+      SEQ
+        ask[i] ? any
+        out[i] ! done
+:
+
+PROC gather ([]CHAN OF BYTE in, CHAN OF BYTE screen)
+  SEQ
+    SEQ n = 0 FOR SIZE work
+      BYTE letter:
+      ALT i = 0 FOR workers
+        in[i] ? letter
+          SEQ
+            screen ! BYTE ((INT '0') + i)
+            screen ! letter
+    screen ! '*n'
+:
+
+PROC main (CHAN OF BYTE keyboard, screen)
+  [workers]CHAN OF BOOL ask:
+  [workers]CHAN OF task tasks:
+  [workers]CHAN OF BYTE results:
+  PAR
+    farmer (ask, tasks)
+    PAR i = 0 FOR workers
+      worker (ask[i], tasks[i], results[i])
+    gather (results, screen)
+:
+"#;
+
+const POOL: &str =
+    r#"-- A pool of two machines for three users: who asks gets a free one, and gives it back. Printed are each user's letter and the number
+-- of the machine that it got.
+--
+-- Keyboard: nothing
+-- Screen:
+--   a0b0c0
+-- Ends: ended
+--
+-- By pool.choices:
+--   a0b1c0
+-- Ends: ended
+
+VAL users IS 3:
+VAL machines IS 2:
+
+PROC user (CHAN OF BOOL ask, CHAN OF INT grant, release)
+  INT machine:
+  SEQ
+    ask ! TRUE
+    grant ? machine
+    release ! machine
+:
+
+PROC pool ([]CHAN OF BOOL ask, []CHAN OF INT grant, release, CHAN OF BYTE screen)
+  [machines]BOOL busy:
+  INT free:
+  SEQ
+    SEQ m = 0 FOR machines
+      busy[m] := FALSE
+    free := machines
+    SEQ n = 0 FOR 2 * users
+      ALT i = 0 FOR users
+        ALT
+          BOOL any:
+          (free > 0) & ask[i] ? any
+            SEQ
+              IF m = 0 FOR machines
+                NOT busy[m]
+                  SEQ
+                    busy[m] := TRUE
+                    grant[i] ! m
+                    screen ! BYTE ((INT 'a') + i)
+                    screen ! BYTE ((INT '0') + m)
+              free := free - 1
+          INT machine:
+          release[i] ? machine
+            busy[machine], free := FALSE, free + 1
+    screen ! '*n'
+:
+
+PROC main (CHAN OF BYTE keyboard, screen)
+  [users]CHAN OF BOOL ask:
+  [users]CHAN OF INT grant, release:
+  PAR
+    PAR i = 0 FOR users
+      user (ask[i], grant[i], release[i])
+    pool (ask, grant, release, screen)
+:
+"#;
+
+const TOKEN: &str =
+    r#"-- A token goes round a ring of stations, and who has it may speak. So the letters come in the same order by whatever choices.
+--
+-- Keyboard: nothing
+-- Screen:
+--   abcabc
+-- Ends: ended
+
+VAL stations IS 3:
+VAL rounds IS 2:
+
+PROC station (VAL INT number, CHAN OF BOOL in, CHAN OF BYTE say, CHAN OF BOOL out)
+  BOOL token:
+  SEQ round = 0 FOR rounds
+    SEQ
+      in ? token
+      say ! BYTE ((INT 'a') + number)
+      out ! token
+:
+
+PROC main (CHAN OF BYTE keyboard, screen)
+  [stations + 1]CHAN OF BOOL ring:
+  [stations]CHAN OF BYTE said:
+  PAR
+    PAR i = 0 FOR stations
+      station (i, ring[i], said[i], ring[i + 1])
+    -- the token is made, goes on from the last station to the first, and is taken away
+    SEQ round = 0 FOR rounds
+      BOOL token:
+      SEQ
+        ring[0] ! TRUE
+        ring[stations] ? token
+    SEQ
+      SEQ n = 0 FOR stations * rounds
+        BYTE letter:
+        ALT i = 0 FOR stations
+          said[i] ? letter
+            screen ! letter
+      screen ! '*n'
+:
+"#;
+
+const TREE: &str =
+    r#"-- A sum by a tree of processes: each node adds what the two below it send, and sends the sum up. The leaves are the numbers 1 to 8.
+--
+-- Keyboard: nothing
+-- Screen:
+--   36
+-- Ends: ended
+
+VAL leaves IS 8:
+
+PROC node (CHAN OF INT left, right, up)
+  INT first, second:
+  SEQ
+    PAR
+      left ? first
+      right ? second
+    up ! first + second
+:
+
+PROC main (CHAN OF BYTE keyboard, screen)
+  -- the root is 1, and what is below i is 2 * i and the one after it
+  [2 * leaves]CHAN OF INT link:
+  PAR
+    PAR i = 0 FOR leaves
+      link[leaves + i] ! i + 1
+    PAR i = 1 FOR leaves - 1
+      node (link[2 * i], link[(2 * i) + 1], link[i])
+    INT total:
+    SEQ
+      link[1] ? total
+      screen ! BYTE ((total / 10) + (INT '0'))
+      screen ! BYTE ((total \ 10) + (INT '0'))
+      screen ! '*n'
+:
+"#;
+
+const COLOURS: &str =
+    r#"-- A subscript beyond its array: there are three colours, and a fourth is asked for.
+--
+-- Keyboard:
+--   203
+-- Screen:
+--   br
+-- Ends: fault RANGE line 17
+
+VAL colours IS "rgb":
+
+PROC main (CHAN OF BYTE keyboard, screen)
+  SEQ i = 0 FOR 3
+    BYTE key:
+    SEQ
+      keyboard ? key
+      -- the first colour has the number 0
+      screen ! colours[(INT key) - (INT '0')]
+:
+"#;
+
+const DINING: &str =
+    r#"-- Three philosophers take the fork on their left and then the one on their right. Where each holds one fork, all of them starve:
+-- the choices say whether it comes to that. Printed are the numbers of those that have eaten.
+--
+-- Keyboard: nothing
+-- Screen: nothing
+-- Ends: stopped
+--
+-- By dining.choices:
+--   021
+-- Ends: ended
+
+VAL seats IS 3:
+
+PROC philosopher (VAL INT number, CHAN OF BOOL left, right, CHAN OF INT eaten)
+  SEQ
+    left ! TRUE
+    right ! TRUE
+    eaten ! number
+    left ! FALSE
+    right ! FALSE
+:
+
+-- Is taken and put back twice, by either of its neighbours.
+PROC fork (CHAN OF BOOL left, right)
+  BOOL taken:
+  SEQ i = 0 FOR 2
+    ALT
+      left ? taken
+        left ? taken
+      right ? taken
+        right ? taken
+:
+
+PROC main (CHAN OF BYTE keyboard, screen)
+  [seats]CHAN OF BOOL left, right:
+  [seats]CHAN OF INT eaten:
+  PAR
+    PAR i = 0 FOR seats
+      philosopher (i, left[i], right[i], eaten[i])
+    PAR i = 0 FOR seats
+      fork (left[i], right[(i + 2) \ seats])
+    SEQ
+      SEQ n = 0 FOR seats
+        INT who:
+        ALT i = 0 FOR seats
+          eaten[i] ? who
+            screen ! BYTE (who + (INT '0'))
+      screen ! '*n'
+:
+"#;
+
+const DIVISION: &str =
+    r#"-- A fault in one process halts the whole network, whatever is on its way to the screen: the third divisor is 0.
+--
+-- Keyboard: nothing
+-- Screen:
+--   36
+-- Ends: fault ARITH line 17
+--
+-- By division.choices:
+--   3
+-- Ends: fault ARITH line 17
+
+PROC divide (CHAN OF INT in, out)
+  INT divisor:
+  WHILE TRUE
+    SEQ
+      in ? divisor
+      out ! 6 / divisor
+:
+
+PROC main (CHAN OF BYTE keyboard, screen)
+  CHAN OF INT divisors, quotients:
+  PAR
+    SEQ i = 0 FOR 3
+      divisors ! 2 - i
+    divide (divisors, quotients)
+    SEQ i = 0 FOR 3
+      INT quotient:
+      SEQ
+        quotients ? quotient
+        screen ! BYTE (quotient + (INT '0'))
+:
+"#;
+
+const EMBRACE: &str =
+    r#"-- A deadly embrace: each of two processes wants to give before it takes, so neither ever takes. With the two lines of one of them
+-- in the other order, both would end.
+--
+-- Keyboard: nothing
+-- Screen:
+--   ?
+-- Ends: stopped
+
+PROC partner (CHAN OF INT in, out)
+  INT number:
+  SEQ
+    out ! 1
+    in ? number
+:
+
+PROC main (CHAN OF BYTE keyboard, screen)
+  CHAN OF INT left, right:
+  SEQ
+    screen ! '?'
+    PAR
+      partner (left, right)
+      partner (right, left)
+    screen ! '!' -- not printed
+:
+"#;
+
+const LETTERS: &str =
+    r#"-- Three letters, and then a process that halts: what comes after STOP is never done.
+--
+-- Keyboard: nothing
+-- Screen:
+--   abc
+-- Ends: stopped
+
+PROC main (CHAN OF BYTE keyboard, screen)
+  SEQ
+    screen ! 'a'
+    screen ! 'b'
+    screen ! 'c'
+    STOP
+    screen ! 'd' -- not printed
+:
+"#;
+
+const LIVELOCK: &str =
+    r#"-- Two processes that are busy with one another for ever: no turn is the last one, so the run ends by its limit of turns, whatever
+-- that is.
+--
+-- Keyboard: nothing
+-- Screen:
+--   .
+-- Ends: limit
+
+PROC player (CHAN OF INT in, out)
+  WHILE TRUE
+    INT ball:
+    SEQ
+      in ? ball
+      out ! ball
+:
+
+PROC main (CHAN OF BYTE keyboard, screen)
+  CHAN OF INT here, there:
+  SEQ
+    screen ! '.'
+    PAR
+      SEQ
+        here ! 0
+        player (there, here)
+      player (here, there)
+:
+"#;
+
+const WAITER: &str =
+    r#"-- The philosophers again, with a waiter who keeps the forks and gives both at once to one between two that are not eating: all eat,
+-- by whatever choices. Printed are their numbers, in the order in which they eat.
+--
+-- Keyboard: nothing
+-- Screen:
+--   012
+-- Ends: ended
+--
+-- By waiter.choices:
+--   120
+-- Ends: ended
+
+VAL seats IS 3:
+
+PROC philosopher (CHAN OF BOOL hungry, sated)
+  SEQ
+    hungry ! TRUE
+    sated ! TRUE
+:
+
+PROC waiter ([]CHAN OF BOOL hungry, sated, CHAN OF BYTE screen)
+  [seats]BOOL free:
+  BOOL any:
+  SEQ
+    SEQ i = 0 FOR seats
+      free[i] := TRUE
+    SEQ n = 0 FOR 2 * seats
+      ALT i = 0 FOR seats
+        VAL left IS i:
+        VAL right IS (i + 1) \ seats:
+        ALT
+          (free[left] AND free[right]) & hungry[i] ? any
+            SEQ
+              free[left], free[right] := FALSE, FALSE
+              screen ! BYTE (i + (INT '0'))
+          sated[i] ? any
+            free[left], free[right] := TRUE, TRUE
+    screen ! '*n'
+:
+
+PROC main (CHAN OF BYTE keyboard, screen)
+  [seats]CHAN OF BOOL hungry, sated:
+  PAR
+    PAR i = 0 FOR seats
+      philosopher (hungry[i], sated[i])
+    waiter (hungry, sated, screen)
+:
+"#;
+
+pub(crate) const IN_FIRST_STEPS: [Run; 4] = [
+    Run {
+        source: CAPITALS,
+        title: "Screen",
+        keyboard: "Hello, world.\n",
+        choices: "",
+        screen: "HELLO, WORLD.\n",
+        ending: "ended",
+    },
+    Run {
+        source: HELLO,
+        title: "Screen",
+        keyboard: "",
+        choices: "",
+        screen: "Hello\n",
+        ending: "ended",
+    },
+    Run {
+        source: RELAY,
+        title: "Screen",
+        keyboard: "",
+        choices: "",
+        screen: "abc\n",
+        ending: "ended",
+    },
+    Run {
+        source: TOGETHER,
+        title: "Screen",
+        keyboard: "",
+        choices: "",
+        screen: "7\n",
+        ending: "ended",
+    },
+];
+
+pub(crate) const IN_SEQUENCES: [Run; 4] = [
+    Run {
+        source: CALCULATOR,
+        title: "Screen",
+        keyboard: r#"12+30*2=
+7-10=
+0-2147483647-1=.
+"#,
+        choices: "",
+        screen: r#"84
+-3
+-2147483648
+"#,
+        ending: "ended",
+    },
+    Run {
+        source: QUEENS,
+        title: "Screen",
+        keyboard: "",
+        choices: "",
+        screen: "15863724\n",
+        ending: "ended",
+    },
+    Run {
+        source: RUNS,
+        title: "Screen",
+        keyboard: "aaabccdddd\n",
+        choices: "",
+        screen: "a3b1c2d4\n",
+        ending: "ended",
+    },
+    Run {
+        source: SIEVE,
+        title: "Screen",
+        keyboard: "",
+        choices: "",
+        screen: r#"02
+03
+05
+07
+11
+13
+17
+19
+23
+29
+"#,
+        ending: "ended",
+    },
+];
+
+pub(crate) const IN_PIPELINES: [Run; 6] = [
+    Run {
+        source: ADDER,
+        title: "Screen",
+        keyboard: "0110+0111\n",
+        choices: "",
+        screen: "01101\n",
+        ending: "ended",
+    },
+    Run {
+        source: FIBONACCI,
+        title: "Screen",
+        keyboard: "",
+        choices: "",
+        screen: "0112358\n",
+        ending: "stopped",
+    },
+    Run {
+        source: PIPELINE,
+        title: "Screen",
+        keyboard: "",
+        choices: "",
+        screen: "4\n",
+        ending: "ended",
+    },
+    Run {
+        source: PRIMES,
+        title: "Screen",
+        keyboard: "",
+        choices: "",
+        screen: r#"02
+03
+05
+07
+11
+13
+"#,
+        ending: "ended",
+    },
+    Run {
+        source: SORTER,
+        title: "Screen",
+        keyboard: "puzzle\n",
+        choices: "",
+        screen: "elpuzz\n",
+        ending: "ended",
+    },
+    Run {
+        source: SQUASH,
+        title: "Screen",
+        keyboard: "x**2 + y*z\n",
+        choices: "",
+        screen: "x^2 + y*z\n",
+        ending: "ended",
+    },
+];
+
+pub(crate) const IN_SELECTION: [Run; 8] = [
+    Run {
+        source: BUFFER,
+        title: "Screen",
+        keyboard: "",
+        choices: "",
+        screen: "012345\n",
+        ending: "ended",
+    },
+    Run {
+        source: MERGE,
+        title: "Screen",
+        keyboard: "",
+        choices: "",
+        screen: "abcxyz\n",
+        ending: "ended",
+    },
+    Run {
+        source: MERGE,
+        title: "By merge.choices",
+        keyboard: "",
+        choices: r#"1 0
+0 0
+1 0
+0 2
+1 2
+2 0
+0 1
+3 2
+2 1
+3 1
+2 0
+1 1
+2 0
+2 2
+3 0
+3 1
+3 0
+3 2
+2 1
+2 2
+3 1
+0 1
+0 0
+1 2
+1 2
+0 1
+3 0
+0 0
+3 0
+0 1
+2 1
+1 0
+2 0
+1 1
+2 0
+2 1
+"#,
+        screen: "axbycz\n",
+        ending: "ended",
+    },
+    Run {
+        source: MULTIPLEXER,
+        title: "Screen",
+        keyboard: "",
+        choices: "",
+        screen: "3d0a0a1b1b2c2c3d\n",
+        ending: "ended",
+    },
+    Run {
+        source: MULTIPLEXER,
+        title: "By multiplexer.choices",
+        keyboard: "",
+        choices: r#"0 0
+0 0
+0 0
+0 0
+0 0
+0 0
+0 0
+0 0
+0 0
+0 0
+0 0
+0 0
+0 0
+0 0
+0 0
+0 0
+0 0
+0 0
+0 0
+0 0
+0 0
+0 0
+0 0
+0 0
+0 0
+0 0
+0 0
+0 0
+0 0
+0 0
+0 0
+0 0
+0 0
+0 0
+0 0
+0 0
+0 0
+0 0
+0 0
+0 0
+0 0
+0 0
+0 0
+0 0
+0 0
+0 0
+0 0
+0 0
+0 0
+0 0
+0 0
+0 0
+0 0
+0 0
+0 0
+0 0
+0 0
+0 0
+"#,
+        screen: "0a0a1b1b2c2c3d3d\n",
+        ending: "ended",
+    },
+    Run {
+        source: SIGNAL,
+        title: "Screen",
+        keyboard: "",
+        choices: "",
+        screen: "..!\n",
+        ending: "ended",
+    },
+    Run {
+        source: SIGNAL,
+        title: "By signal.choices",
+        keyboard: "",
+        choices: r#"0 0
+0 0
+0 0
+0 0
+0 0
+0 0
+0 0
+0 0
+0 0
+0 0
+0 0
+0 0
+"#,
+        screen: "!\n",
+        ending: "ended",
+    },
+    Run {
+        source: STACK,
+        title: "Screen",
+        keyboard: "straw\n",
+        choices: "",
+        screen: "warts\n",
+        ending: "ended",
+    },
+];
+
+pub(crate) const IN_SHARING: [Run; 6] = [
+    Run {
+        source: FARM,
+        title: "Screen",
+        keyboard: "",
+        choices: "",
+        screen: "0A0B0E0F1C2D\n",
+        ending: "ended",
+    },
+    Run {
+        source: FARM,
+        title: "By farm.choices",
+        keyboard: "",
+        choices: r#"3 1
+0 0
+2 2
+3 1
+0 2
+1 2
+2 1
+2 2
+2 2
+2 1
+3 0
+0 2
+3 0
+3 2
+1 0
+3 1
+0 0
+3 0
+2 0
+1 1
+0 0
+3 1
+1 1
+3 1
+3 1
+2 0
+3 1
+1 2
+2 0
+1 2
+1 1
+0 0
+3 0
+2 0
+0 2
+2 2
+0 0
+3 0
+3 2
+0 0
+0 2
+3 0
+1 1
+1 2
+2 0
+0 1
+2 2
+0 0
+3 2
+1 1
+2 0
+3 0
+0 2
+2 2
+1 1
+0 0
+0 2
+3 2
+3 1
+0 1
+2 1
+3 1
+2 0
+1 1
+0 2
+2 2
+2 0
+0 2
+1 0
+2 0
+1 2
+0 1
+0 1
+3 0
+3 1
+1 2
+1 0
+2 1
+0 0
+2 1
+0 2
+0 0
+3 1
+2 1
+2 2
+3 0
+3 1
+3 2
+3 0
+1 2
+2 2
+1 1
+2 1
+2 0
+"#,
+        screen: "0A1B2C0D1E2F\n",
+        ending: "ended",
+    },
+    Run {
+        source: POOL,
+        title: "Screen",
+        keyboard: "",
+        choices: "",
+        screen: "a0b0c0\n",
+        ending: "ended",
+    },
+    Run {
+        source: POOL,
+        title: "By pool.choices",
+        keyboard: "",
+        choices: r#"1 2
+1 1
+3 2
+0 2
+0 1
+2 2
+1 0
+3 2
+3 1
+1 0
+1 2
+3 2
+0 2
+0 0
+0 1
+0 1
+3 2
+3 2
+3 1
+3 0
+2 0
+0 0
+3 0
+2 2
+3 2
+2 1
+3 2
+2 2
+3 2
+1 1
+0 1
+1 2
+2 2
+0 2
+1 2
+2 1
+0 0
+3 2
+3 0
+2 0
+3 0
+"#,
+        screen: "a0b1c0\n",
+        ending: "ended",
+    },
+    Run {
+        source: TOKEN,
+        title: "Screen",
+        keyboard: "",
+        choices: "",
+        screen: "abcabc\n",
+        ending: "ended",
+    },
+    Run {
+        source: TREE,
+        title: "Screen",
+        keyboard: "",
+        choices: "",
+        screen: "36\n",
+        ending: "ended",
+    },
+];
+
+pub(crate) const IN_FAULTS: [Run; 10] = [
+    Run {
+        source: COLOURS,
+        title: "Screen",
+        keyboard: "203\n",
+        choices: "",
+        screen: "br\n",
+        ending: "fault RANGE line 17",
+    },
+    Run {
+        source: DINING,
+        title: "Screen",
+        keyboard: "",
+        choices: "",
+        screen: "",
+        ending: "stopped",
+    },
+    Run {
+        source: DINING,
+        title: "By dining.choices",
+        keyboard: "",
+        choices: r#"0 1
+0 1
+0 1
+0 1
+0 1
+0 1
+0 1
+0 1
+0 1
+0 1
+0 1
+0 1
+0 1
+0 1
+0 1
+0 1
+0 1
+0 1
+0 1
+0 1
+0 1
+0 1
+0 1
+0 1
+0 1
+0 1
+0 1
+0 1
+0 1
+0 1
+0 1
+0 1
+0 1
+0 1
+0 1
+0 1
+0 1
+0 1
+0 1
+0 1
+0 1
+0 1
+0 1
+0 1
+0 1
+0 1
+0 1
+0 1
+0 1
+0 1
+0 1
+0 1
+0 1
+0 1
+0 1
+0 1
+"#,
+        screen: "021\n",
+        ending: "ended",
+    },
+    Run {
+        source: DIVISION,
+        title: "Screen",
+        keyboard: "",
+        choices: "",
+        screen: "36\n",
+        ending: "fault ARITH line 17",
+    },
+    Run {
+        source: DIVISION,
+        title: "By division.choices",
+        keyboard: "",
+        choices: r#"0 0
+0 0
+0 0
+0 0
+0 0
+0 0
+0 0
+0 0
+0 0
+0 0
+0 0
+0 0
+0 0
+0 0
+0 0
+0 0
+0 0
+0 0
+0 0
+0 0
+"#,
+        screen: "3\n",
+        ending: "fault ARITH line 17",
+    },
+    Run {
+        source: EMBRACE,
+        title: "Screen",
+        keyboard: "",
+        choices: "",
+        screen: "?\n",
+        ending: "stopped",
+    },
+    Run {
+        source: LETTERS,
+        title: "Screen",
+        keyboard: "",
+        choices: "",
+        screen: "abc\n",
+        ending: "stopped",
+    },
+    Run {
+        source: LIVELOCK,
+        title: "Screen",
+        keyboard: "",
+        choices: "",
+        screen: ".\n",
+        ending: "limit",
+    },
+    Run {
+        source: WAITER,
+        title: "Screen",
+        keyboard: "",
+        choices: "",
+        screen: "012\n",
+        ending: "ended",
+    },
+    Run {
+        source: WAITER,
+        title: "By waiter.choices",
+        keyboard: "",
+        choices: r#"0 1
+0 1
+0 1
+0 1
+0 1
+0 1
+0 1
+0 1
+0 1
+0 1
+0 1
+0 1
+0 1
+0 1
+0 1
+0 1
+0 1
+0 1
+0 1
+0 1
+0 1
+0 1
+0 1
+0 1
+0 1
+0 1
+0 1
+0 1
+0 1
+0 1
+0 1
+0 1
+0 1
+"#,
+        screen: "120\n",
+        ending: "ended",
+    },
+];

@@ -1,0 +1,19 @@
+//! Tests of single layers by their public calls: lines, trees, values, code and files of choices.
+#![tactic(auto)]
+
+#[cfg(test)]
+mod charts;
+#[cfg(test)]
+mod choices;
+#[cfg(test)]
+mod contents;
+#[cfg(test)]
+mod layers;
+#[cfg(test)]
+mod lexing;
+#[cfg(test)]
+mod trees;
+#[cfg(test)]
+mod unfolded;
+#[cfg(test)]
+mod values;
