@@ -1,3 +1,4 @@
 mod Cutting
 mod Digits
 mod Files
+mod PlanLemmas

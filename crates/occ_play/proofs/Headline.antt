@@ -14,7 +14,7 @@ use Rattle.occ_term.specs.declared.usage.UsageFault.{UsageFault}
 use Rattle.occ_term.specs.declared.usage.UsageFault.TheVariants as usage
 use Rattle.occ_term.specs.Refusals.{UsageRefuses}
 use Rattle.occ_term.specs.System.{HaltMode}
-use Rattle.occ_term.specs.Runs.{communications, messages_on, shown, shown_by, EndsBy}
+use Rattle.occ_term.specs.Runs.{communications, entries, messages_on, shown, shown_by, EndsBy}
 use Rattle.occ_term.specs.Unfolding.{Unfolding, IsWellFormed, declared, Lawful}
 use Rattle.occ_code.specs.Alike.{FitsProtocol}
 use Rattle.occ_code.specs.Sequential.Compiled.{Program, IsCodeOf, IsCompiledFrom, CodeRefuses}
@@ -27,10 +27,12 @@ use Rattle.occ_play.specs.declared.playing.Played.{Played}
 use Rattle.occ_play.specs.declared.running.Outcome.{Outcome}
 use Rattle.occ_net_tables.specs.declared.trace.Communication.{Communication as Made}
 use Rattle.occ_shown.specs.Answers.{AreByteMessages, IsByteMessage, answer_text, names_of}
+use Rattle.occ_shown.specs.Charts.{chart_text}
 use Rattle.occ_net_tables.specs.Holding.{communication_of}
 use Rattle.occ_net_replay.specs.Following.{AllFit, AreBytes, Followed, ending_as, or_limit}
 use Rattle.occ_play.specs.Outcomes.{Begins, IsOutcome}
-use Rattle.occ_play.specs.Playing.{IsAnswer, Unfolds, UsageRefusesText, CodeRefusesText}
+use Rattle.occ_play.specs.Charting.{IsChart}
+use Rattle.occ_play.specs.Playing.{IsAnswer, Ran, Unfolds, UsageRefusesText, CodeRefusesText}
 use Rattle.occ_net_replay.specs.Replay.{Replays, ending_of, ending_by}
 use Rattle.occ_net_replay.proofs.Law.{replays_are_runs}
 
@@ -96,37 +98,49 @@ pub headline : (quantum : ℕ) (source keyboard : List ℕ) (list : List Choice)
     → Unfolds source u → Lawful u → IsCodeOf u quantum p → AreBytes keyboard → channels ≡ p.channels → IsOutcome p keyboard list o → length o.choices.items < 2 ^ 64
     → played.ending ≡ o.ending → played.choices ≡ o.choices
     → bytes ≡ answer_text (shown_by (names_of channels) (map communication_of o.trace.items)) o.ending trace
-    → IsAnswer quantum source keyboard list trace played bytes
+    → (a : IsAnswer quantum source keyboard list trace played bytes) × (shown_by (names_of channels) (map communication_of o.trace.items) ≡ shown (names_of a.program.channels) a.events)
 headline quantum source keyboard list trace u p channels o played bytes x lawful from keys chan out small same_end same_choices is =
     let f = followed u quantum p keyboard list o x.well_formed lawful from.does keys out small in
     let ends : or_limit (ending_of out.net) ≡ played.ending = sym out.ending ∙ sym same_end in
     let choices : o.choices.items ≡ played.choices.items = ap (λ v. v.items) (sym same_choices) in
-    let shows : map communication_of o.trace.items ≡ communications f.events = sym out.trace ∙ sym f.communicates in
-    record {
-      program = u;
-      unfolds = x;
-      lawful = lawful;
-      events = f.events;
-      system = f.system;
-      run = f.run;
-      ends = subst (λ e. EndsBy HaltMode f.system (ending_as e)) ends f.ends;
-      is =
-          is ∙ ap (λ cs. answer_text (shown_by (names_of cs) (map communication_of o.trace.items)) o.ending trace) (chan ∙ from.does.channels)
-          ∙ ap (λ xs. answer_text (shown_by (names_of u.channels) xs) o.ending trace) shows
-          ∙ ap (λ e. answer_text (shown (names_of u.channels) f.events) e trace) (sym same_end);
-      used = subst (λ cs. Begins cs list) choices out.used;
-      whole = λ h. sym choices ∙ out.whole (none_if (ending_of out.net) (ends ∙ h) (never_limit _ _ _));
-      compiled = p;
-      from = from;
-      net = out.net;
-      replays = subst (λ cs. Replays p keyboard cs out.net) choices out.replays;
-      turns = f.turns;
-      communicates = f.communicates;
-      ending = same_end ∙ out.ending;
-      output = λ c. f.output c ∙ ap (messages_on c) (sym f.communicates);
-      input = λ c. f.input c ∙ ap (messages_on c) (sym f.communicates);
-      fits = λ c. subst (λ xs. AllFit ((declared u).protocols c) (messages_on c xs)) (sym f.communicates) (f.fits c);
-    }
+    let shows : map communication_of o.trace.items ≡ communications f.events = sym out.trace ∙ sym f.communicates in (
+      record {
+        program = u;
+        unfolds = x;
+        lawful = lawful;
+        events = f.events;
+        system = f.system;
+        run = f.run;
+        ends = subst (λ e. EndsBy HaltMode f.system (ending_as e)) ends f.ends;
+        is =
+            is ∙ ap (λ cs. answer_text (shown_by (names_of cs) (map communication_of o.trace.items)) o.ending trace) (chan ∙ from.does.channels)
+            ∙ ap (λ xs. answer_text (shown_by (names_of u.channels) xs) o.ending trace) shows
+            ∙ ap (λ e. answer_text (shown (names_of u.channels) f.events) e trace) (sym same_end);
+        used = subst (λ cs. Begins cs list) choices out.used;
+        whole = λ h. sym choices ∙ out.whole (none_if (ending_of out.net) (ends ∙ h) (never_limit _ _ _));
+        compiled = p;
+        from = from;
+        net = out.net;
+        replays = subst (λ cs. Replays p keyboard cs out.net) choices out.replays;
+        turns = f.turns;
+        communicates = f.communicates;
+        ending = same_end ∙ out.ending;
+        output = λ c. f.output c ∙ ap (messages_on c) (sym f.communicates);
+        input = λ c. f.input c ∙ ap (messages_on c) (sym f.communicates);
+        fits = λ c. subst (λ xs. AllFit ((declared u).protocols c) (messages_on c xs)) (sym f.communicates) (f.fits c);
+      },
+      ap (λ cs. shown_by (names_of cs) (map communication_of o.trace.items)) (chan ∙ from.does.channels) ∙ ap (λ xs. shown_by (names_of u.channels) xs) shows,
+    )
+
+pub charted : (source keyboard : List ℕ) (list : List Choice) (most : ℕ) (p : Program) (channels : List Channel) (o : Outcome) (bytes : List ℕ)
+    → Ran source keyboard list p o → AreBytes keyboard → channels ≡ p.channels → length o.choices.items < 2 ^ 64
+    → bytes ≡ chart_text (entries (names_of channels) 1 (map communication_of o.trace.items)) o.ending most
+    → IsChart source keyboard list most bytes
+charted source keyboard list most p channels o bytes ran keys chan small is =
+    let played : Played = record { ending = o.ending; choices = o.choices } in
+    let answer : List ℕ = answer_text (shown_by (names_of channels) (map communication_of o.trace.items)) o.ending true in
+    let h = headline 1 source keyboard list true ran.program p channels o played answer ran.unfolds ran.lawful ran.from keys chan ran.is small refl refl refl in
+    record { played = played; answer = answer; run = h.0; is = is ∙ ap (λ s. chart_text s.trace o.ending most) h.1 }
 
 -- ---- refusals
 

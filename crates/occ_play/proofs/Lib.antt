@@ -1,5 +1,3 @@
-mod Growth
-mod PlanLemmas
 mod Rerun
 mod Headline
 mod Statuses

@@ -10,16 +10,16 @@ use Rattle.occ_net_replay.specs.declared.choice.Choice.{Choice}
 use Rattle.occ_net_replay.specs.declared.ending.Ending.{Ending}
 use Rattle.occ_net_replay.specs.declared.ending.Ending.TheVariants.{Ended, Stopped, Fault, Limit}
 use Rattle.occ_play.specs.declared.playing.Played.{Played}
-use Rattle.occ_play.specs.declared.counted.Counted.{Counted}
+use Rattle.occ_shown.specs.declared.counted.Counted.{Counted}
 use Rattle.occ_play.specs.declared.fault.PlayFault.{PlayFault}
 use Rattle.occ_play.specs.declared.fault.PlayFault.TheVariants as play
 use Rattle.occ_choices.specs.declared.fault.ChoiceFault.TheVariants as choice
-use Rattle.occ_play.specs.declared.failure.Failure.{Failure}
-use Rattle.occ_play.specs.declared.failure.Failure.TheVariants.{Help, Words, Arguments, Read, Choices, Write, Memory}
+use Rattle.occ_play_inputs.specs.declared.failure.Failure.{Failure}
+use Rattle.occ_play_inputs.specs.declared.failure.Failure.TheVariants.{Help, Words, Arguments, Read, Choices, Write, Memory}
 use Rattle.occ_play.specs.Playing.{AfterFault, IsAnswer, IsSomeAnswer, Wrote}
 use Rattle.occ_play.specs.Status.{ending_status, fault_status, status}
-use Rattle.occ_play.specs.Failures.{failure_status}
-use Rattle.occ_play.specs.declared.words.Words.{Words as Asked}
+use Rattle.occ_play_inputs.specs.Failures.{failure_status}
+use Rattle.occ_play_inputs.specs.declared.words.Words.{Words as Asked}
 use Rattle.occ_play.specs.Coming.{CameTo, IsStatusFor, ProgramStatus, of_play, of_failure, of_help}
 
 ending_small : (e : Ending) → ending_status e ≤ 7

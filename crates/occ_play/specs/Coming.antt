@@ -1,17 +1,16 @@
 -- What an exit status says of the source, the keyboard and the choices that were played.
-use Rattle.std.specs.Prelude.{Bool, List, None, Option, Result, Ok, Err, Some, ℕ, ◌≡◌}
+use Rattle.std.specs.Prelude.{Bool, List, Result, Ok, Err, ℕ, ◌≡◌}
 use Rattle.occ_net_replay.specs.declared.choice.Choice.{Choice}
-use Rattle.occ_choices.specs.Lines.{ChoiceLines}
-use Rattle.occ_play.specs.declared.failure.Failure.{Failure}
-use Rattle.occ_play.specs.declared.plan.Plan.{Plan}
-use Rattle.occ_play.specs.declared.plan.Plan.TheVariants.{Turns}
+use Rattle.occ_play_inputs.specs.declared.failure.Failure.{Failure}
+use Rattle.occ_choices.specs.declared.plan.Plan.{Plan}
 use Rattle.occ_play.specs.declared.playing.Played.{Played}
 use Rattle.occ_play.specs.declared.fault.PlayFault.{PlayFault}
 use Rattle.occ_play.specs.declared.fault.PlayFault.TheVariants as play
 use Rattle.occ_play.specs.Playing.{IsAnswer, IsSomeAnswer, Refuses}
-use Rattle.occ_play.specs.declared.words.Words.{Words}
-use Rattle.occ_play.specs.Failures.{failure_status}
-use Rattle.occ_play.specs.Plans.{choices_of}
+use Rattle.occ_play_inputs.specs.declared.words.Words.{Words}
+use Rattle.occ_play_inputs.specs.Asked.{IsAskedBy}
+use Rattle.occ_play_inputs.specs.Failures.{failure_status}
+use Rattle.occ_choices.specs.Plans.{choices_of}
 use Rattle.occ_play.specs.Status.{status}
 
 -- a run of the source, with turns of quantum 1, has an answer; a write of one failed; or the source was refused
@@ -25,14 +24,6 @@ pub record IsStatusOf (source keyboard : List ℕ) (list : List Choice) (trace :
   pub played : Result Played PlayFault
   pub came : CameTo source keyboard list trace played
   pub is : s ≡ status played
-
--- the choices that the words ask for: those of the text of a file, or as many turns as the limit has
-abbrev pub IsAsked : {Path : Type 0} → ℕ → Option Path → Plan → Type 0
-IsAsked limit None plan = plan ≡ Turns limit
-IsAsked limit (Some path) plan = (text : List ℕ) × ChoiceLines text (choices_of plan)
-
-abbrev pub IsAskedBy : Words → Plan → Type 0
-IsAskedBy words plan = IsAsked words.limit words.choices plan
 
 -- the status of what a source came to, by the choices and with the trace that the words ask for
 pub record IsStatusFor (words : Words) (s : ℕ) : Type 0 where

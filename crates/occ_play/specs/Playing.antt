@@ -26,13 +26,14 @@ use Rattle.occ_code.specs.declared.compiler.code.CodeFault.TheVariants as code
 use Rattle.occ_net_replay.specs.declared.choice.Choice.{Choice}
 use Rattle.occ_net_replay.specs.declared.ending.Ending.TheVariants as E
 use Rattle.occ_play.specs.declared.playing.Played.{Played}
-use Rattle.occ_play.specs.declared.counted.Counted.{Counted}
+use Rattle.occ_play.specs.declared.running.Outcome.{Outcome}
+use Rattle.occ_shown.specs.declared.counted.Counted.{Counted}
 use Rattle.occ_play.specs.declared.fault.PlayFault.{PlayFault}
 use Rattle.occ_play.specs.declared.fault.PlayFault.TheVariants as play
 use Rattle.occ_shown.specs.Answers.{answer_text, names_of}
-use Rattle.occ_play.specs.Counting.{failures_of, writer_of}
+use Rattle.occ_shown.specs.Counting.{failures_of, writer_of}
 use Rattle.occ_net_replay.specs.Following.{AllFit, ending_as, or_limit, process_in}
-use Rattle.occ_play.specs.Outcomes.{Begins}
+use Rattle.occ_play.specs.Outcomes.{Begins, IsOutcome}
 use Rattle.occ_net_replay.specs.Replay.{Net, Replays, ending_of}
 
 -- ---- what a text is
@@ -50,6 +51,14 @@ pub record Unfolds (source : List ℕ) (u : Unfolding) : Type 0 where
   pub parsed : IsTreeOf lines items
   pub unfolds : UnfoldsTo items u
   pub well_formed : IsWellFormed u
+
+-- what the code of a text's program comes to by a list of choices, with turns of quantum 1; the program keeps the usage rules
+pub record Ran (source keyboard : List ℕ) (list : List Choice) (p : Program) (o : Outcome) : Type 0 where
+  pub program : Unfolding
+  pub unfolds : Unfolds source program
+  pub lawful : Lawful program
+  pub from : IsCodeOf program 1 p
+  pub is : IsOutcome p keyboard list o
 
 -- ---- the answer of an accepted program
 

@@ -1,19 +1,19 @@
 //! Plays a program, from its source's bytes to its answer's bytes.
 ghost use Rattle.std.specs.Prelude.{◌≡◌, ◌<◌, ◌-◌, ◌^◌, IfOk, IfErr};
-ghost use Rattle.occ_play.specs.Counting.{failures_of};
-ghost use Rattle.occ_play.specs.Plans.{choices_of};
-ghost use Rattle.occ_play.specs.Playing.{AfterFault, IsAnswer, IsSomeAnswer, Refuses, Unfolds, Wrote};
+ghost use Rattle.occ_shown.specs.Counting.{failures_of};
+ghost use Rattle.occ_choices.specs.Plans.{choices_of};
+ghost use Rattle.occ_play.specs.Charting.{IsChart};
+ghost use Rattle.occ_play.specs.Playing.{AfterFault, IsAnswer, IsSomeAnswer, Ran, Refuses, Unfolds, Wrote};
 ghost use Rattle.occ_term.specs.Unfolding.{Lawful};
 ghost use Rattle.occ_play.specs.Status.{status};
 
-use crate::counted::{Counted, write_answer};
 use crate::fault::PlayFault;
-use crate::plan::Plan;
 use crate::running::{Outcome, run};
 use occ_check::{CheckFault, unfold};
-use occ_code::{CodeFault, compile};
+use occ_choices::Plan;
+use occ_code::{Code, CodeFault, compile};
 use occ_net_replay::{Choice, Ending};
-use occ_shown::answer;
+use occ_shown::{Counted, answer, write_answer};
 use occ_term::{Checked, Refused, Unfolded, UsageFault, check_usage};
 use occ_text::{TextFault, read_lines};
 use occ_tree::parse;
@@ -73,12 +73,7 @@ fn answered(
     ensures answer { IfOk result (λ r. IsAnswer 1 source.now keyboard.now (choices_of plan.now) trace r.0 r.1.items) }
     ensures refused { IfErr result (Refuses source.now) }
 {
-    let checked = accepted(alloc, source)?;
-    let code = match compile(alloc, &checked) {
-        Ok(code) => code,
-        Err(fault) => return Err(PlayFault::Code(fault)),
-    };
-    let outcome = run(alloc, &code, keyboard, plan)?;
+    let (code, outcome) = ran(alloc, source, keyboard, plan)?;
     let bytes = answer(
         alloc,
         outcome.trace.as_slice(),
@@ -92,6 +87,53 @@ fn answered(
         trace: _,
     } = outcome;
     Ok((Played { ending, choices }, bytes))
+}
+
+/// The sequence chart of the run that `play` plays for this plan, as a text in SVG: a column for each process and each
+/// of the keyboard, the screen and the error channel that takes part, an arrow for each of the first `most`
+/// communications, how many more there were, and how the run ended.
+///
+/// # Errors
+///
+/// `Text`, `Parse`, `Check`, `Usage` and `Code` refuse the source, `Memory` tells of a refused growth.
+pub fn chart(
+    alloc: Global,
+    source: &[u8],
+    keyboard: &[u8],
+    plan: &Plan,
+    most: u32,
+) -> Result<Vec<u8>, PlayFault>
+    ensures drawn { IfOk result (λ bytes. IsChart source.now keyboard.now (choices_of plan.now) most bytes.items) }
+    ensures refused { IfErr result (Refuses source.now) }
+{
+    let (code, outcome) = ran(alloc, source, keyboard, plan)?;
+    let bytes = occ_shown::chart(
+        alloc,
+        outcome.trace.as_slice(),
+        code.channels(),
+        outcome.ending,
+        most,
+    )?;
+    Ok(bytes)
+}
+
+/// The code of a source's program, and what its run comes to.
+fn ran(
+    alloc: Global,
+    source: &[u8],
+    keyboard: &[u8],
+    plan: &Plan,
+) -> Result<(Code, Outcome), PlayFault>
+    ensures ran { IfOk result (λ r. Ran source.now keyboard.now (choices_of plan.now) r.0 r.1) }
+    ensures refused { IfErr result (Refuses source.now) }
+{
+    let checked = accepted(alloc, source)?;
+    let code = match compile(alloc, &checked) {
+        Ok(code) => code,
+        Err(fault) => return Err(PlayFault::Code(fault)),
+    };
+    let outcome = run(alloc, &code, keyboard, plan)?;
+    Ok((code, outcome))
 }
 
 /// The program of a source that keeps the usage rules.

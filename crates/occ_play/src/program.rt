@@ -1,17 +1,18 @@
 //! The program around `play`: what it reads and prints, and its exit status.
 ghost use Rattle.std.specs.Prelude.{◌≡◌, ◌≤◌, ◌<◌, ◌-◌, ◌^◌, ◌⊎◌, IfOk};
 ghost use Rattle.occ_play.specs.Coming.{CameTo, IsStatusFor, IsStatusOf, ProgramStatus};
-ghost use Rattle.occ_play.specs.Counting.{failures_of};
-ghost use Rattle.occ_play.specs.Failures.{failure_status};
-ghost use Rattle.occ_play.specs.Plans.{choices_of};
+ghost use Rattle.occ_shown.specs.Counting.{failures_of};
+ghost use Rattle.occ_play.specs.Status.{status};
+ghost use Rattle.occ_play_inputs.specs.Failures.{failure_status};
+ghost use Rattle.occ_choices.specs.Plans.{choices_of};
 
-use crate::counted::Counted;
-use crate::failure::{Failure, of_arguments, of_words};
+use crate::drawing::draw;
 use crate::fault::PlayFault;
-use crate::inputs::{Inputs, read_inputs};
 use crate::playing::{Played, play, status_of};
 use crate::recording::record;
-use crate::words::{Words, read_words};
+use occ_play_inputs::failure::{of_arguments, of_words};
+use occ_play_inputs::{Failure, Inputs, Words, read_inputs, read_words};
+use occ_shown::Counted;
 use std::alloc::Global;
 use std::io::Write;
 use std::rt::{Env, Files};
@@ -19,7 +20,7 @@ use std::{env, io};
 
 /// What is told below wrong words.
 const ALLOWED: &str =
-    "Allowed are --limit N with N from 0 to 10000000, --choices FILE, --record FILE, --trace, --help, and one FILE.";
+    "Allowed are --limit N with N from 0 to 10000000, --choices FILE, --record FILE, --chart FILE, --arrows N, --trace, --help, and one FILE.";
 
 /// Runs the program on the arguments, the files and the streams of `rt`, and answers its exit status: 0 ended or
 /// help, 1 source refused, 2 stopped, 3 fault, 4 limit, 5 want of memory, 6 a file or stream that couldn't be
@@ -50,7 +51,8 @@ fn run_arguments<R: Files + Input + Print + Eprint + Env + AllocGlobal>(
     run_words(rt, alloc, &words)
 }
 
-/// Reads what the words name, plays it, and records the used choices where the words ask for it.
+/// Reads what the words name, plays it, records the used choices and draws a chart where the words ask for that. The
+/// answer goes to standard output, and a fault's line to standard error.
 fn run_words<R: Files + Input + Print + Eprint>(
     rt: &R,
     alloc: Global,
@@ -60,26 +62,24 @@ fn run_words<R: Files + Input + Print + Eprint>(
     ensures small { IfOk result (λ status. status ≤ 7) }
 {
     let inputs = read_inputs(rt, alloc, words)?;
-    let played = run_inputs(rt, alloc, words, &inputs);
+    let mut out = Counted::new(io::writer(rt));
+    let played = play_inputs(alloc, words, &inputs, &mut out);
     record(rt, alloc, words, &played)?;
-    Ok(status_of(&played))
+    let drawn = match &played {
+        Ok(_) => draw(rt, alloc, words, &inputs)?,
+        Err(_) => Ok(()),
+    };
+    Ok(told(rt, &drawn.and(played)))
 }
 
-/// Plays the source; the answer goes to standard output, a fault's line to standard error.
-fn run_inputs<R: Print + Eprint>(
-    rt: &R,
-    alloc: Global,
-    words: &Words<'_>,
-    inputs: &Inputs,
-) -> Result<Played, PlayFault>
-    ensures { CameTo inputs.now.source.items inputs.now.keyboard.items (choices_of inputs.now.plan) words.now.trace result }
+/// Prints the line of a fault, and answers the exit status.
+fn told<R: Eprint>(rt: &R, came: &Result<Played, PlayFault>) -> u8
+    ensures { result ≡ status came.now }
 {
-    let mut out = Counted::new(io::writer(rt));
-    let played = play_inputs(alloc, words, inputs, &mut out);
-    if let Err(fault) = &played {
+    if let Err(fault) = came {
         let _ = eprintln!(rt; "{fault}");
     }
-    played
+    status_of(came)
 }
 
 /// Plays the source by the plan.

@@ -1,15 +1,14 @@
 //! Writes the choices of a run into a file, by which it can be played again.
-ghost use Rattle.std.specs.Prelude.{◌≡◌, OnOk};
+ghost use Rattle.std.specs.Prelude.{OnOk};
 ghost use Rattle.std.specs.Io.KnownBytes.{Appends};
 ghost use Rattle.occ_choices.specs.Lines.{choice_text};
 
-use crate::counted::{Counted, write_answer};
-use crate::failure::{Failure, of_write};
 use crate::fault::PlayFault;
 use crate::playing::Played;
-use crate::words::Words;
 use occ_choices::choices_text;
 use occ_net_replay::Choice;
+use occ_play_inputs::failure::of_write;
+use occ_play_inputs::{Failure, Words};
 use std::alloc::Global;
 use std::fs;
 use std::io::Write;

@@ -1,9 +1,9 @@
 //! A run of a plan.
 ghost use Rattle.std.specs.Prelude.{IfOk};
 ghost use Rattle.occ_play.specs.Outcomes.{IsOutcome};
-ghost use Rattle.occ_play.specs.Plans.{choices_of};
+ghost use Rattle.occ_choices.specs.Plans.{choices_of};
 
-use crate::plan::Plan;
+use occ_choices::Plan;
 use occ_code::Code;
 use occ_net_replay::{Choice, Ending};
 use occ_net_tables::{Communication, Tables};

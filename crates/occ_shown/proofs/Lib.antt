@@ -1,3 +1,4 @@
 mod Texts
 mod Traces
 mod Drawing
+mod Growth

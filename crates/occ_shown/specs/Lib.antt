@@ -1,3 +1,4 @@
 pub mod Answers
 pub mod Xml
 pub mod Charts
+pub mod Counting

@@ -6,8 +6,6 @@ mod answers;
 #[cfg(test)]
 mod choosing_networks;
 #[cfg(test)]
-mod command_line;
-#[cfg(test)]
 mod compiled;
 #[cfg(test)]
 mod examples;

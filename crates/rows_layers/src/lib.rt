@@ -6,6 +6,8 @@ mod charts;
 #[cfg(test)]
 mod choices;
 #[cfg(test)]
+mod command_line;
+#[cfg(test)]
 mod contents;
 #[cfg(test)]
 mod layers;

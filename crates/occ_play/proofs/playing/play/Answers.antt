@@ -1,5 +1,5 @@
 use Rattle.std.proofs.Common.{sym, subst}
-use Rattle.occ_play.specs.Plans.{choices_of}
+use Rattle.occ_choices.specs.Plans.{choices_of}
 use Rattle.occ_play.specs.Playing.{IsAnswer}
 use Rattle.occ_play.proofs.playing.play.Goals as goal
 

@@ -1,6 +1,6 @@
 use Rattle.std.proofs.Common.{subst}
 use Rattle.occ_play.specs.Coming.{CameTo}
-use Rattle.occ_play.specs.Plans.{choices_of}
+use Rattle.occ_choices.specs.Plans.{choices_of}
 use Rattle.occ_play.proofs.Statuses.{came_to}
 use Rattle.occ_play.proofs.program.play_inputs.Goals as goal
 

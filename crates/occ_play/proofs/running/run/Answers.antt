@@ -4,7 +4,7 @@ use Rattle.std.proofs.lemmas.Option.{slice_get_within}
 use Rattle.occ_net_replay.specs.Following.{or_limit}
 use Rattle.occ_net_replay.specs.Replay.{ending_of}
 use Rattle.occ_net_tables.specs.Running.{HasReplayed}
-use Rattle.occ_play.specs.Plans.{choices_of}
+use Rattle.occ_choices.specs.Plans.{choices_of}
 use Rattle.occ_play.proofs.Rerun.{starts, stands, one_more_turn, outcome, one_more_used, begins_by, all_used}
 use Rattle.occ_play.proofs.running.run.Goals as goal
 

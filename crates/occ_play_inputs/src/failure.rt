@@ -2,7 +2,7 @@
 ghost use Rattle.std.specs.Prelude.{◌≡◌, ◌≢◌, ◌⊎◌};
 ghost use Rattle.std.specs.IoError.{error_kind};
 ghost use Rattle.clap.specs.Values.{kind_of};
-ghost use Rattle.occ_play.specs.Failures.{failure_status, TellsRead};
+ghost use Rattle.occ_play_inputs.specs.Failures.{failure_status, TellsRead};
 
 use clap::error::ErrorKind as WordsErrorKind;
 use occ_choices::ChoiceFault;
@@ -13,7 +13,7 @@ use thiserror::Error;
 
 /// Why the program played nothing, or could not write what it played.
 #[derive(Debug, Drop, Error)]
-pub(crate) enum Failure {
+pub enum Failure {
     /// The words ask for help, which this is.
     #[error("{0}")]
     Help(clap::Error),
@@ -29,7 +29,7 @@ pub(crate) enum Failure {
     /// The file of choices is none.
     #[error("{0}")]
     Choices(ChoiceFault),
-    /// Standard output or the file of used choices could not be written.
+    /// Standard output, or a file that the words name to be written, could not be written.
     #[error("write failed")]
     Write,
     /// A growth was refused.
@@ -39,7 +39,7 @@ pub(crate) enum Failure {
 
 impl Failure {
     /// The exit status.
-    pub(crate) fn status(&self) -> u8
+    pub fn status(&self) -> u8
         ensures { result ≡ failure_status self.now }
     {
         match self {
@@ -52,7 +52,7 @@ impl Failure {
 }
 
 impl From<AllocError> for Failure {
-    ghost use Rattle.occ_play.specs.declared.failure.Failure.{Failure};
+    ghost use Rattle.occ_play_inputs.specs.declared.failure.Failure.{Failure};
 
     ghost from_gives = { λ _ failure. failure ≡ Failure.Memory };
 
@@ -62,7 +62,7 @@ impl From<AllocError> for Failure {
 }
 
 impl From<ChoiceFault> for Failure {
-    ghost use Rattle.occ_play.specs.declared.failure.Failure.{Failure};
+    ghost use Rattle.occ_play_inputs.specs.declared.failure.Failure.{Failure};
 
     ghost from_gives = { λ fault failure. failure ≡ Failure.Choices fault };
 
@@ -71,7 +71,8 @@ impl From<ChoiceFault> for Failure {
     }
 }
 
-pub(crate) fn of_words(error: clap::Error) -> Failure
+/// Why the words say that nothing is to be played.
+pub fn of_words(error: clap::Error) -> Failure
     ensures help { kind_of error ≡ WordsErrorKind.DisplayHelp → result ≡ Failure.Help error }
     ensures memory { kind_of error ≡ WordsErrorKind.OutOfMemory → result ≡ Failure.Memory }
     ensures wrong { kind_of error ≢ WordsErrorKind.DisplayHelp → kind_of error ≢ WordsErrorKind.OutOfMemory → result ≡ Failure.Words error }
@@ -84,7 +85,7 @@ pub(crate) fn of_words(error: clap::Error) -> Failure
 }
 
 /// Why what has this name was not read.
-pub(crate) fn of_read(alloc: Global, name: &str, error: io::Error) -> Failure
+pub fn of_read(alloc: Global, name: &str, error: io::Error) -> Failure
     ensures memory { error_kind error ≡ ErrorKind.OutOfMemory → result ≡ Failure.Memory }
     ensures other { error_kind error ≢ ErrorKind.OutOfMemory → TellsRead name.now result ⊎ result ≡ Failure.Memory }
 {
@@ -94,7 +95,8 @@ pub(crate) fn of_read(alloc: Global, name: &str, error: io::Error) -> Failure
     }
 }
 
-pub(crate) fn of_write(error: io::Error) -> Failure
+/// Why something was not written.
+pub fn of_write(error: io::Error) -> Failure
     ensures memory { error_kind error ≡ ErrorKind.OutOfMemory → result ≡ Failure.Memory }
     ensures other { error_kind error ≢ ErrorKind.OutOfMemory → result ≡ Failure.Write }
 {
@@ -104,7 +106,8 @@ pub(crate) fn of_write(error: io::Error) -> Failure
     }
 }
 
-pub(crate) fn of_arguments(error: io::Error) -> Failure
+/// Why the arguments were not read.
+pub fn of_arguments(error: io::Error) -> Failure
     ensures memory { error_kind error ≡ ErrorKind.OutOfMemory → result ≡ Failure.Memory }
     ensures other { error_kind error ≢ ErrorKind.OutOfMemory → result ≡ Failure.Arguments }
 {

@@ -1,7 +1,7 @@
 use Rattle.std.proofs.Common.{length, ◌-◌, ◌≡◌, ◌≤◌, take}
 use Rattle.std.specs.Io.KnownBytes.{Appends}
-use Rattle.occ_play.specs.Counting.{failures_of, writer_of}
-use Rattle.occ_play.proofs.counted.write_answer.Given as goal
+use Rattle.occ_shown.specs.Counting.{failures_of, writer_of}
+use Rattle.occ_shown.proofs.counted.write_answer.Given as goal
 
 abbrev pub invariant-loop-written : goal.invariant-loop-written
 invariant-loop-written g l = record {

@@ -1,8 +1,8 @@
 -- Exit statuses of a program that played nothing, or could not write what it played.
 use Rattle.std.specs.Prelude.{List, ℕ, ◌≡◌, string_bytes}
 use Rattle.occ_choices.specs.declared.fault.ChoiceFault.TheVariants as choice
-use Rattle.occ_play.specs.declared.failure.Failure.{Failure}
-use Rattle.occ_play.specs.declared.failure.Failure.TheVariants.{Help, Words, Arguments, Read, Choices, Write, Memory}
+use Rattle.occ_play_inputs.specs.declared.failure.Failure.{Failure}
+use Rattle.occ_play_inputs.specs.declared.failure.Failure.TheVariants.{Help, Words, Arguments, Read, Choices, Write, Memory}
 
 abbrev pub failure_status : Failure → ℕ
 failure_status (Help text) = 0

@@ -1,6 +1,6 @@
 use Rattle.std.proofs.Common.{◌∙◌}
-use Rattle.occ_play.proofs.Growth.{Appends-take, within-take}
-use Rattle.occ_play.proofs.counted.write_answer.Goals as goal
+use Rattle.occ_shown.proofs.Growth.{Appends-take, within-take}
+use Rattle.occ_shown.proofs.counted.write_answer.Goals as goal
 
 pub loop-written-preserved : goal.loop-written-preserved
 loop-written-preserved g c = record {

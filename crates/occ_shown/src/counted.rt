@@ -1,7 +1,7 @@
 //! A writer that counts the writes that fail.
 ghost use Rattle.std.specs.Prelude.{◌≡◌, ◌+◌, ◌-◌, ◌^◌, ◌<◌, ◌≤◌, OnOk, IfOk, IfErr, OnErr, IfSome, OnSome, IfNone, length, take};
 ghost use Rattle.std.specs.Io.KnownBytes.{Appends, Keeps};
-ghost use Rattle.occ_play.specs.Counting.{failures_of, writer_of};
+ghost use Rattle.occ_shown.specs.Counting.{failures_of, writer_of};
 
 use std::io::Write;
 

@@ -1,6 +1,6 @@
 -- What a counting writer shows.
 use Rattle.std.specs.Prelude.{ℕ}
-use Rattle.occ_play.specs.declared.counted.Counted.{Counted}
+use Rattle.occ_shown.specs.declared.counted.Counted.{Counted}
 
 -- how many writes have failed
 abbrev pub failures_of : {W : Type 0} → Counted W → ℕ

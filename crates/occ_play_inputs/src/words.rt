@@ -11,6 +11,9 @@ pub const DEFAULT_LIMIT: u32 = 1_000_000;
 /// The most turns that a word may ask for.
 pub const MOST_TURNS: u32 = 10_000_000;
 
+/// How many communications a chart shows where no word says so.
+pub const DEFAULT_ARROWS: u32 = 200;
+
 /// What is told below the words.
 const MORE_HELP: &str =
     r#"A turn is what one process does up to its next stop: an output, an input, an ALT, a PAR,
@@ -40,6 +43,10 @@ pub struct Words<'a> {
     pub choices: Option<&'a str>,
     /// The path of the file into which the used choices are written.
     pub record: Option<&'a str>,
+    /// The path of the file into which a chart of the trace is written.
+    pub chart: Option<&'a str>,
+    /// The most communications that the chart shows.
+    pub arrows: u32,
     /// The path of the source; none where standard input is the source.
     pub file: Option<&'a str>,
     ghost limit_in_range: { limit ≤ 10000000 },
@@ -66,6 +73,8 @@ pub fn read_words<'a>(alloc: Global, words: &'a [&'a str]) -> Result<Words<'a>, 
         trace: matches.get_flag("trace"),
         choices: matches.get_str("choices"),
         record: matches.get_str("record"),
+        chart: matches.get_str("chart"),
+        arrows: arrows_of(matches.get_one::<u32>("arrows")),
         file: matches.get_str("FILE"),
     })
 }
@@ -77,6 +86,13 @@ fn limit_of(given: Option<u32>) -> u32
     given.unwrap_or(DEFAULT_LIMIT)
 }
 
+/// How many communications a chart shows, where the words gave this number or none.
+fn arrows_of(given: Option<u32>) -> u32
+    ensures { result ≡ unwrap_or given 200 }
+{
+    given.unwrap_or(DEFAULT_ARROWS)
+}
+
 /// The words that the program takes.
 fn command<'a>(alloc: Global) -> Result<Command<'a>, Error> {
     let command = Command::new(alloc, "occam")
@@ -85,6 +101,8 @@ fn command<'a>(alloc: Global) -> Result<Command<'a>, Error> {
         .arg(limit_word(alloc))?
         .arg(choices_word(alloc))?
         .arg(record_word(alloc))?
+        .arg(chart_word(alloc))?
+        .arg(arrows_word(alloc))?
         .arg(trace_word(alloc))?
         .arg(file_word(alloc))?;
     Ok(command)
@@ -110,6 +128,21 @@ fn record_word<'a>(alloc: Global) -> Arg<'a> {
         .long("record")
         .value_name("FILE")
         .help("Writes the choices that the run used into FILE")
+}
+
+fn chart_word<'a>(alloc: Global) -> Arg<'a> {
+    Arg::new(alloc, "chart")
+        .long("chart")
+        .value_name("FILE")
+        .help("Draws the run's communications into FILE, a sequence chart in SVG")
+}
+
+fn arrows_word<'a>(alloc: Global) -> Arg<'a> {
+    Arg::new(alloc, "arrows")
+        .long("arrows")
+        .value_name("N")
+        .help("Draws at most the first N communications in the chart [default: 200]")
+        .value_parser(value_parser!(u32))
 }
 
 fn trace_word<'a>(alloc: Global) -> Arg<'a> {

@@ -1,6 +1,6 @@
 //! The words of the command line.
 use clap::error::ErrorKind;
-use occ_play::read_words;
+use occ_play_inputs::read_words;
 use std::test::Fail;
 
 #[test]

@@ -2,7 +2,7 @@
 use Rattle.std.proofs.Common.{◌≡◌, ℕ, zero, suc, ◌+◌, ◌<◌, ◌≤◌, length, Some, None, refl, ap, ◌∙◌, arith}
 use Rattle.std.specs.Prelude.{slice_get}
 use Rattle.occ_net_replay.specs.declared.choice.Choice.{Choice}
-use Rattle.occ_play.specs.Plans.{turns_from}
+use Rattle.occ_choices.specs.Plans.{turns_from}
 
 pub turns_length : (k n : ℕ) → length (turns_from k n) ≡ n
 turns_length k zero = refl

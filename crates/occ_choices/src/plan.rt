@@ -1,6 +1,6 @@
 //! The choices of a run.
 ghost use Rattle.std.specs.Prelude.{◌≡◌, Some, length, slice_get};
-ghost use Rattle.occ_play.specs.Plans.{choices_of, turns_from};
+ghost use Rattle.occ_choices.specs.Plans.{choices_of, turns_from};
 
 use occ_net_replay::Choice;
 

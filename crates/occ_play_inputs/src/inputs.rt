@@ -1,13 +1,12 @@
 //! What the program plays: a source, the keyboard's bytes, and a plan.
 ghost use Rattle.std.specs.Prelude.{◌≡◌, IfOk, IfSome, take};
 ghost use Rattle.occ_choices.specs.Lines.{ChoiceLines};
-ghost use Rattle.occ_play.specs.Plans.{choices_of};
-ghost use Rattle.occ_play.specs.Coming.{IsAskedBy};
+ghost use Rattle.occ_choices.specs.Plans.{choices_of};
+ghost use Rattle.occ_play_inputs.specs.Asked.{IsAskedBy};
 
 use crate::failure::{Failure, of_read};
-use crate::plan::Plan;
 use crate::words::Words;
-use occ_choices::read_choices;
+use occ_choices::{Plan, read_choices};
 use std::alloc::Global;
 use std::fs;
 use std::io::{Input, Read, empty};
@@ -21,17 +20,22 @@ const STANDARD_INPUT: &str = "standard input";
 
 /// What the program plays.
 #[derive(Drop)]
-pub(crate) struct Inputs {
+pub struct Inputs {
     /// The source's bytes.
-    pub(crate) source: Vec<u8>,
+    pub source: Vec<u8>,
     /// What is typed.
-    pub(crate) keyboard: Vec<u8>,
+    pub keyboard: Vec<u8>,
     /// The choices of the run.
-    pub(crate) plan: Plan,
+    pub plan: Plan,
 }
 
-/// What the words name: first the source, then the keyboard, then the file of choices.
-pub(crate) fn read_inputs<R: Files + Input>(
+/// Reads what the words name: first the source, then the keyboard, then the file of choices.
+///
+/// # Errors
+///
+/// `Read` names what could not be read, `Choices` tells what is wrong in the file of choices, and `Memory` of a
+/// refused growth.
+pub fn read_inputs<R: Files + Input>(
     rt: &R,
     alloc: Global,
     words: &Words<'_>,

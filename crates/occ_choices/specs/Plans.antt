@@ -1,8 +1,8 @@
 -- The choices of a plan.
 use Rattle.std.specs.Prelude.{List, [], suc, zero, ℕ, ◌+◌, ◌∷◌}
 use Rattle.occ_net_replay.specs.declared.choice.Choice.{Choice}
-use Rattle.occ_play.specs.declared.plan.Plan.{Plan}
-use Rattle.occ_play.specs.declared.plan.Plan.TheVariants.{Turns, Choices}
+use Rattle.occ_choices.specs.declared.plan.Plan.{Plan}
+use Rattle.occ_choices.specs.declared.plan.Plan.TheVariants.{Turns, Choices}
 
 -- so many choices from number k on: `which` is the number, `pick` is 0
 abbrev pub turns_from : ℕ → ℕ → List Choice

@@ -1,0 +1,56 @@
+//! Draws the communications of a run into a file.
+ghost use Rattle.std.specs.Prelude.{IfErr, IfOk};
+ghost use Rattle.occ_choices.specs.Plans.{choices_of};
+ghost use Rattle.occ_play.specs.Charting.{Draws};
+ghost use Rattle.occ_play.specs.Playing.{Refuses};
+
+use crate::fault::PlayFault;
+use crate::playing::chart;
+use occ_play_inputs::failure::of_write;
+use occ_play_inputs::{Failure, Inputs, Words};
+use std::alloc::Global;
+use std::fs;
+use std::io::Write;
+use std::rt::Files;
+
+/// Draws the run of these inputs into the file that the words name, if they name one.
+pub(crate) fn draw<R: Files>(
+    rt: &R,
+    alloc: Global,
+    words: &Words<'_>,
+    inputs: &Inputs,
+) -> Result<Result<(), PlayFault>, Failure>
+    ensures { IfOk result (λ drawn. IfErr drawn (Refuses inputs.now.source.items)) }
+{
+    match words.chart {
+        None => Ok(Ok(())),
+        Some(path) => {
+            let mut file = fs::create(rt, path).map_err(of_write)?;
+            write_chart(alloc, words, inputs, &mut file)
+        }
+    }
+}
+
+/// Writes the chart of the run of these inputs.
+fn write_chart<W: Write + Drop>(
+    alloc: Global,
+    words: &Words<'_>,
+    inputs: &Inputs,
+    out: &mut W,
+) -> Result<Result<(), PlayFault>, Failure>
+    ensures { IfOk result (Draws inputs.now.source.items inputs.now.keyboard.items (choices_of inputs.now.plan) words.now.arrows (W.contents out.old) (W.contents out.new)) }
+{
+    match chart(
+        alloc,
+        inputs.source.as_slice(),
+        inputs.keyboard.as_slice(),
+        &inputs.plan,
+        words.arrows,
+    ) {
+        Ok(bytes) => {
+            out.write_all(bytes.as_slice()).map_err(of_write)?;
+            Ok(Ok(()))
+        }
+        Err(fault) => Ok(Err(fault)),
+    }
+}
