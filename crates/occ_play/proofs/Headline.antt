@@ -32,7 +32,9 @@ use Rattle.occ_net_tables.specs.Holding.{communication_of}
 use Rattle.occ_net_replay.specs.Following.{AllFit, AreBytes, Followed, ending_as, or_limit}
 use Rattle.occ_play.specs.Outcomes.{Begins, IsOutcome}
 use Rattle.occ_play.specs.Charting.{IsChart}
-use Rattle.occ_play.specs.Playing.{IsAnswer, Ran, Unfolds, UsageRefusesText, CodeRefusesText}
+use Rattle.occ_play.specs.declared.fault.PlayFault.{PlayFault}
+use Rattle.occ_play.specs.declared.fault.PlayFault.TheVariants as play
+use Rattle.occ_play.specs.Playing.{IsAnswer, Ran, Refuses, RefusesText, Unfolds, UsageRefusesText, CodeRefusesText}
 use Rattle.occ_net_replay.specs.Replay.{Replays, ending_of, ending_by}
 use Rattle.occ_net_replay.proofs.Law.{replays_are_runs}
 
@@ -132,14 +134,14 @@ headline quantum source keyboard list trace u p channels o played bytes x lawful
       ap (λ cs. shown_by (names_of cs) (map communication_of o.trace.items)) (chan ∙ from.does.channels) ∙ ap (λ xs. shown_by (names_of u.channels) xs) shows,
     )
 
-pub charted : (source keyboard : List ℕ) (list : List Choice) (most : ℕ) (p : Program) (channels : List Channel) (o : Outcome) (bytes : List ℕ)
-    → Ran source keyboard list p o → AreBytes keyboard → channels ≡ p.channels → length o.choices.items < 2 ^ 64
+pub charted : (quantum : ℕ) (source keyboard : List ℕ) (list : List Choice) (most : ℕ) (p : Program) (channels : List Channel) (o : Outcome) (bytes : List ℕ)
+    → Ran quantum source keyboard list p o → AreBytes keyboard → channels ≡ p.channels → length o.choices.items < 2 ^ 64
     → bytes ≡ chart_text (entries (names_of channels) 1 (map communication_of o.trace.items)) o.ending most
-    → IsChart source keyboard list most bytes
-charted source keyboard list most p channels o bytes ran keys chan small is =
+    → IsChart quantum source keyboard list most bytes
+charted quantum source keyboard list most p channels o bytes ran keys chan small is =
     let played : Played = record { ending = o.ending; choices = o.choices } in
     let answer : List ℕ = answer_text (shown_by (names_of channels) (map communication_of o.trace.items)) o.ending true in
-    let h = headline 1 source keyboard list true ran.program p channels o played answer ran.unfolds ran.lawful ran.from keys chan ran.is small refl refl refl in
+    let h = headline quantum source keyboard list true ran.program p channels o played answer ran.unfolds ran.lawful ran.from keys chan ran.is small refl refl refl in
     record { played = played; answer = answer; run = h.0; is = is ∙ ap (λ s. chart_text s.trace o.ending most) h.1 }
 
 -- ---- refusals
@@ -150,8 +152,17 @@ usage_refuses u (usage.TwoInputs line name) x h = (u, x, h)
 usage_refuses u (usage.TwoOutputs line name) x h = (u, x, h)
 usage_refuses u usage.Memory x h = tt
 
--- a quantum of 1 is refused by none
-pub code_refuses : {source : List ℕ} (u : Unfolding) (fault : CodeFault) → Unfolds source u → CodeRefuses fault 1 u → CodeRefusesText fault source
-code_refuses u code.TooLarge x h = (u, x, h.1)
-code_refuses u code.BadQuantum x h = h (omega arith, omega arith)
-code_refuses u code.Memory x h = tt
+pub code_refuses : {source : List ℕ} (quantum : ℕ) (u : Unfolding) (fault : CodeFault) → Unfolds source u → CodeRefuses fault quantum u → CodeRefusesText quantum fault source
+code_refuses quantum u code.TooLarge x h = (u, x, h.1)
+code_refuses quantum u code.BadQuantum x h = h
+code_refuses quantum u code.Memory x h = tt
+
+-- a text that is refused before there is code is refused for each quantum
+pub refuses : (quantum : ℕ) (source : List ℕ) (fault : PlayFault) → RefusesText source fault → Refuses quantum source fault
+refuses quantum source (play.Text f) h = h
+refuses quantum source (play.Parse f) h = h
+refuses quantum source (play.Check f) h = h
+refuses quantum source (play.Usage f) h = h
+refuses quantum source (play.Code f) h = absurd h
+refuses quantum source (play.Write written) h = h
+refuses quantum source (play.Memory e) h = h

@@ -16,7 +16,8 @@ use Rattle.occ_play.specs.declared.fault.PlayFault.TheVariants as play
 use Rattle.occ_choices.specs.declared.fault.ChoiceFault.TheVariants as choice
 use Rattle.occ_play_inputs.specs.declared.failure.Failure.{Failure}
 use Rattle.occ_play_inputs.specs.declared.failure.Failure.TheVariants.{Help, Words, Arguments, Read, Choices, Write, Memory}
-use Rattle.occ_play.specs.Playing.{AfterFault, IsAnswer, IsSomeAnswer, Wrote}
+use Rattle.occ_play.specs.Charting.{Draws}
+use Rattle.occ_play.specs.Playing.{AfterFault, IsAnswer, IsSomeAnswer, Refuses, Wrote}
 use Rattle.occ_play.specs.Status.{ending_status, fault_status, status}
 use Rattle.occ_play_inputs.specs.Failures.{failure_status}
 use Rattle.occ_play_inputs.specs.declared.words.Words.{Words as Asked}
@@ -57,22 +58,42 @@ failure_small Write = omega arith
 failure_small (Words error) = omega arith
 failure_small Arguments = omega arith
 
-came_from_fault : {W : Type 0} (contents : W → Option (List ℕ)) (source keyboard : List ℕ) (list : List Choice) (trace : Bool) (old new : Counted W) (f : PlayFault)
-    → AfterFault contents (IsSomeAnswer 1 source keyboard list trace) source old new f → CameTo source keyboard list trace (Err f)
-came_from_fault contents source keyboard list trace old new (play.Text f) h = h.0
-came_from_fault contents source keyboard list trace old new (play.Parse f) h = h.0
-came_from_fault contents source keyboard list trace old new (play.Check f) h = h.0
-came_from_fault contents source keyboard list trace old new (play.Usage f) h = h.0
-came_from_fault contents source keyboard list trace old new (play.Code f) h = h.0
-came_from_fault contents source keyboard list trace old new (play.Write written) h = (h.1.0, h.1.1)
-came_from_fault contents source keyboard list trace old new (play.Memory e) h = h.0
+came_from_fault : {W : Type 0} (contents : W → Option (List ℕ)) (quantum : ℕ) (source keyboard : List ℕ) (list : List Choice) (trace : Bool) (old new : Counted W) (f : PlayFault)
+    → AfterFault contents (IsSomeAnswer quantum source keyboard list trace) quantum source old new f → CameTo quantum source keyboard list trace (Err f)
+came_from_fault contents quantum source keyboard list trace old new (play.Text f) h = h.0
+came_from_fault contents quantum source keyboard list trace old new (play.Parse f) h = h.0
+came_from_fault contents quantum source keyboard list trace old new (play.Check f) h = h.0
+came_from_fault contents quantum source keyboard list trace old new (play.Usage f) h = h.0
+came_from_fault contents quantum source keyboard list trace old new (play.Code f) h = h.0
+came_from_fault contents quantum source keyboard list trace old new (play.Write written) h = (h.1.0, h.1.1)
+came_from_fault contents quantum source keyboard list trace old new (play.Memory e) h = h.0
 
-pub came_to : {W : Type 0} (contents : W → Option (List ℕ)) (source keyboard : List ℕ) (list : List Choice) (trace : Bool) (old new : Counted W) (r : Result Played PlayFault)
-    → IfOk r (λ played. Wrote contents (IsAnswer 1 source keyboard list trace played) old new)
-    → IfErr r (AfterFault contents (IsSomeAnswer 1 source keyboard list trace) source old new)
-    → CameTo source keyboard list trace r
-came_to contents source keyboard list trace old new (Ok played) h g = (h.0, h.1)
-came_to contents source keyboard list trace old new (Err f) h g = came_from_fault contents source keyboard list trace old new f g
+pub came_to : {W : Type 0} (contents : W → Option (List ℕ)) (quantum : ℕ) (source keyboard : List ℕ) (list : List Choice) (trace : Bool) (old new : Counted W) (r : Result Played PlayFault)
+    → IfOk r (λ played. Wrote contents (IsAnswer quantum source keyboard list trace played) old new)
+    → IfErr r (AfterFault contents (IsSomeAnswer quantum source keyboard list trace) quantum source old new)
+    → CameTo quantum source keyboard list trace r
+came_to contents quantum source keyboard list trace old new (Ok played) h g = (h.0, h.1)
+came_to contents quantum source keyboard list trace old new (Err f) h g = came_from_fault contents quantum source keyboard list trace old new f g
+
+-- a refused text is what a run came to that was to be drawn
+came_of_refusal : (quantum : ℕ) (source keyboard : List ℕ) (list : List Choice) (trace : Bool) (f : PlayFault) → Refuses quantum source f → CameTo quantum source keyboard list trace (Err f)
+came_of_refusal quantum source keyboard list trace (play.Text f) h = h
+came_of_refusal quantum source keyboard list trace (play.Parse f) h = h
+came_of_refusal quantum source keyboard list trace (play.Check f) h = h
+came_of_refusal quantum source keyboard list trace (play.Usage f) h = h
+came_of_refusal quantum source keyboard list trace (play.Code f) h = h
+came_of_refusal quantum source keyboard list trace (play.Write written) h = absurd h
+came_of_refusal quantum source keyboard list trace (play.Memory e) h = h
+
+pub came_to_both : {Done : Type 0} (quantum : ℕ) (source keyboard : List ℕ) (list : List Choice) (trace : Bool) (drawn : Result Done PlayFault) (r : Result Played PlayFault)
+    → IfErr drawn (Refuses quantum source) → CameTo quantum source keyboard list trace r → CameTo quantum source keyboard list trace (result_and drawn r)
+came_to_both quantum source keyboard list trace (Ok done) r h g = g
+came_to_both quantum source keyboard list trace (Err f) r h g = came_of_refusal quantum source keyboard list trace f h
+
+-- a drawing that was refused wrote nothing, and the text is refused
+pub refused_drawing : {Done : Type 0} (quantum : ℕ) (source keyboard : List ℕ) (list : List Choice) (most : ℕ) (old new : Option (List ℕ)) (r : Result Done PlayFault) → Draws quantum source keyboard list most old new r → IfErr r (Refuses quantum source)
+refused_drawing quantum source keyboard list most old new (Ok done) h = tt
+refused_drawing quantum source keyboard list most old new (Err f) h = h.0
 
 -- what was played has its status, and so has a failure
 pub played_status : (words : Asked) (r : Result ℕ Failure) → IfOk r (IsStatusFor words) → IfOk r ProgramStatus

@@ -10,13 +10,13 @@ use Rattle.occ_shown.specs.Charts.{chart_text}
 use Rattle.occ_term.specs.Runs.{shown}
 
 -- An answer with its trace, and the chart of the first so many communications of the run that shows it.
-pub record IsChart (source keyboard : List ℕ) (list : List Choice) (most : ℕ) (bytes : List ℕ) : Type 0 where
+pub record IsChart (quantum : ℕ) (source keyboard : List ℕ) (list : List Choice) (most : ℕ) (bytes : List ℕ) : Type 0 where
   pub played : Played
   pub answer : List ℕ
-  pub run : IsAnswer 1 source keyboard list true played answer
+  pub run : IsAnswer quantum source keyboard list true played answer
   pub is : bytes ≡ chart_text (shown (names_of run.program.channels) run.events).trace played.ending most
 
 -- a chart was written, and nothing else; or the text was refused, and nothing was written
-abbrev pub Draws : {Done : Type 0} → (source keyboard : List ℕ) → List Choice → ℕ → (old new : Option (List ℕ)) → Result Done PlayFault → Type 0
-Draws source keyboard list most old new (Ok done) = (bytes : List ℕ) × IsChart source keyboard list most bytes × Appends old new bytes
-Draws source keyboard list most old new (Err fault) = Refuses source fault × (new ≡ old)
+abbrev pub Draws : {Done : Type 0} → ℕ → (source keyboard : List ℕ) → List Choice → ℕ → (old new : Option (List ℕ)) → Result Done PlayFault → Type 0
+Draws quantum source keyboard list most old new (Ok done) = (bytes : List ℕ) × IsChart quantum source keyboard list most bytes × Appends old new bytes
+Draws quantum source keyboard list most old new (Err fault) = Refuses quantum source fault × (new ≡ old)

@@ -13,16 +13,16 @@ use Rattle.occ_play_inputs.specs.Failures.{failure_status}
 use Rattle.occ_choices.specs.Plans.{choices_of}
 use Rattle.occ_play.specs.Status.{status}
 
--- a run of the source, with turns of quantum 1, has an answer; a write of one failed; or the source was refused
-abbrev pub CameTo : (source keyboard : List ℕ) → List Choice → Bool → Result Played PlayFault → Type 0
-CameTo source keyboard list trace (Ok played) = (bytes : List ℕ) × IsAnswer 1 source keyboard list trace played bytes
-CameTo source keyboard list trace (Err (play.Write written)) = (bytes : List ℕ) × IsSomeAnswer 1 source keyboard list trace bytes
-CameTo source keyboard list trace (Err fault) = Refuses source fault
+-- a run of the source, with turns of this quantum, has an answer; a write of one failed; or the source was refused
+abbrev pub CameTo : ℕ → (source keyboard : List ℕ) → List Choice → Bool → Result Played PlayFault → Type 0
+CameTo quantum source keyboard list trace (Ok played) = (bytes : List ℕ) × IsAnswer quantum source keyboard list trace played bytes
+CameTo quantum source keyboard list trace (Err (play.Write written)) = (bytes : List ℕ) × IsSomeAnswer quantum source keyboard list trace bytes
+CameTo quantum source keyboard list trace (Err fault) = Refuses quantum source fault
 
 -- the status of what playing them came to
-pub record IsStatusOf (source keyboard : List ℕ) (list : List Choice) (trace : Bool) (s : ℕ) : Type 0 where
+pub record IsStatusOf (quantum : ℕ) (source keyboard : List ℕ) (list : List Choice) (trace : Bool) (s : ℕ) : Type 0 where
   pub played : Result Played PlayFault
-  pub came : CameTo source keyboard list trace played
+  pub came : CameTo quantum source keyboard list trace played
   pub is : s ≡ status played
 
 -- the status of what a source came to, by the choices and with the trace that the words ask for
@@ -31,7 +31,7 @@ pub record IsStatusFor (words : Words) (s : ℕ) : Type 0 where
   pub keyboard : List ℕ
   pub plan : Plan
   pub asked : IsAskedBy words plan
-  pub is : IsStatusOf source keyboard (choices_of plan) words.trace s
+  pub is : IsStatusOf words.quantum source keyboard (choices_of plan) words.trace s
 
 -- What a status of the program says: that of what a source came to, or that of a failure, or 6 where help could not be printed.
 pub data ProgramStatus : ℕ → Type 0 where

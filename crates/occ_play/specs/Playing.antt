@@ -17,7 +17,7 @@ use Rattle.occ_term.specs.Refusals.{UsageRefuses}
 use Rattle.occ_term.specs.Unfolding.{Unfolding, declared, meaning, IsWellFormed, Lawful}
 use Rattle.occ_term.specs.System.{System, start, HaltMode}
 use Rattle.occ_term.specs.Runs.{Event, Run, communications, shown, EndsBy}
-use Rattle.occ_code.specs.Sequential.Compiled.{Program, IsCodeOf, most_instructions}
+use Rattle.occ_code.specs.Sequential.Compiled.{Program, IsCodeOf, IsQuantum, most_instructions}
 use Rattle.occ_check_meaning.specs.ProgramUnfolding.{UnfoldsTo}
 use Rattle.occ_check_names.specs.declared.fault.CheckFault.{CheckFault}
 use Rattle.occ_check.specs.CheckRefuses.{CheckRefuses}
@@ -52,12 +52,12 @@ pub record Unfolds (source : List ℕ) (u : Unfolding) : Type 0 where
   pub unfolds : UnfoldsTo items u
   pub well_formed : IsWellFormed u
 
--- what the code of a text's program comes to by a list of choices, with turns of quantum 1; the program keeps the usage rules
-pub record Ran (source keyboard : List ℕ) (list : List Choice) (p : Program) (o : Outcome) : Type 0 where
+-- what the code of a text's program comes to by a list of choices, with turns of this quantum; the program keeps the usage rules
+pub record Ran (quantum : ℕ) (source keyboard : List ℕ) (list : List Choice) (p : Program) (o : Outcome) : Type 0 where
   pub program : Unfolding
   pub unfolds : Unfolds source program
   pub lawful : Lawful program
-  pub from : IsCodeOf program 1 p
+  pub from : IsCodeOf program quantum p
   pub is : IsOutcome p keyboard list o
 
 -- ---- the answer of an accepted program
@@ -111,27 +111,33 @@ abbrev pub UsageRefusesText : UsageFault → List ℕ → Type 0
 UsageRefusesText usage.Memory source = ⊤
 UsageRefusesText fault source = (u : Unfolding) × Unfolds source u × UsageRefuses fault u
 
-abbrev pub CodeRefusesText : CodeFault → List ℕ → Type 0
-CodeRefusesText code.Memory source = ⊤
-CodeRefusesText code.BadQuantum source = ⊥
-CodeRefusesText code.TooLarge source = (u : Unfolding) × Unfolds source u × (most_instructions < 32 * (size_of (meaning u)).nodes)
+abbrev pub CodeRefusesText : ℕ → CodeFault → List ℕ → Type 0
+CodeRefusesText quantum code.Memory source = ⊤
+CodeRefusesText quantum code.BadQuantum source = IsQuantum quantum → ⊥
+CodeRefusesText quantum code.TooLarge source = (u : Unfolding) × Unfolds source u × (most_instructions < 32 * (size_of (meaning u)).nodes)
 
-abbrev pub Refuses : List ℕ → PlayFault → Type 0
-Refuses source (play.Text fault) = TextRefuses fault source
-Refuses source (play.Parse fault) = ParseRefuses fault source
-Refuses source (play.Check fault) = CheckRefusesText fault source
-Refuses source (play.Usage fault) = UsageRefusesText fault source
-Refuses source (play.Code fault) = CodeRefusesText fault source
-Refuses source (play.Write written) = ⊥
-Refuses source (play.Memory e) = ⊤
+-- before there is code
+abbrev pub RefusesText : List ℕ → PlayFault → Type 0
+RefusesText source (play.Text fault) = TextRefuses fault source
+RefusesText source (play.Parse fault) = ParseRefuses fault source
+RefusesText source (play.Check fault) = CheckRefusesText fault source
+RefusesText source (play.Usage fault) = UsageRefusesText fault source
+RefusesText source (play.Code fault) = ⊥
+RefusesText source (play.Write written) = ⊥
+RefusesText source (play.Memory e) = ⊤
+
+-- for turns of this quantum
+abbrev pub Refuses : ℕ → List ℕ → PlayFault → Type 0
+Refuses quantum source (play.Code fault) = CodeRefusesText quantum fault source
+Refuses quantum source fault = RefusesText source fault
 
 -- A failed write was met, and a beginning of an answer of length `written` was written and nothing else; any other fault
 -- leaves the writer as it was.
-abbrev pub AfterFault : {W : Type 0} → (W → Option (List ℕ)) → (List ℕ → Type 0) → List ℕ → Counted W → Counted W → PlayFault → Type 0
-AfterFault contents Answers source old new (play.Write written) =
+abbrev pub AfterFault : {W : Type 0} → (W → Option (List ℕ)) → (List ℕ → Type 0) → ℕ → List ℕ → Counted W → Counted W → PlayFault → Type 0
+AfterFault contents Answers quantum source old new (play.Write written) =
     (failures_of old < failures_of new)
     × ((bytes : List ℕ) × Answers bytes × (written < length bytes) × Appends (contents (writer_of old)) (contents (writer_of new)) (take written bytes))
-AfterFault contents Answers source old new fault = Refuses source fault × (new ≡ old)
+AfterFault contents Answers quantum source old new fault = Refuses quantum source fault × (new ≡ old)
 
 -- the answer was written, and nothing else
 abbrev pub Wrote : {W : Type 0} → (W → Option (List ℕ)) → (List ℕ → Type 0) → Counted W → Counted W → Type 0

@@ -5,7 +5,7 @@ ghost use Rattle.occ_play.specs.Charting.{Draws};
 ghost use Rattle.occ_play.specs.Playing.{Refuses};
 
 use crate::fault::PlayFault;
-use crate::playing::chart;
+use crate::playing::{chart, options_of};
 use occ_play_inputs::failure::of_write;
 use occ_play_inputs::{Failure, Inputs, Words};
 use std::alloc::Global;
@@ -20,7 +20,7 @@ pub(crate) fn draw<R: Files>(
     words: &Words<'_>,
     inputs: &Inputs,
 ) -> Result<Result<(), PlayFault>, Failure>
-    ensures { IfOk result (λ drawn. IfErr drawn (Refuses inputs.now.source.items)) }
+    ensures { IfOk result (λ drawn. IfErr drawn (Refuses words.now.quantum inputs.now.source.items)) }
 {
     match words.chart {
         None => Ok(Ok(())),
@@ -38,9 +38,10 @@ fn write_chart<W: Write + Drop>(
     inputs: &Inputs,
     out: &mut W,
 ) -> Result<Result<(), PlayFault>, Failure>
-    ensures { IfOk result (Draws inputs.now.source.items inputs.now.keyboard.items (choices_of inputs.now.plan) words.now.arrows (W.contents out.old) (W.contents out.new)) }
+    ensures { IfOk result (Draws words.now.quantum inputs.now.source.items inputs.now.keyboard.items (choices_of inputs.now.plan) words.now.arrows (W.contents out.old) (W.contents out.new)) }
 {
     match chart(
+        &options_of(words),
         alloc,
         inputs.source.as_slice(),
         inputs.keyboard.as_slice(),

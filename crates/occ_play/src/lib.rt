@@ -15,5 +15,5 @@ pub use occ_net_replay::{Choice, Ending};
 pub use occ_net_tables::{Communication, End};
 pub use occ_play_inputs::{Words, read_words};
 pub use occ_shown::Counted;
-pub use playing::{Played, chart, play, status_of};
+pub use playing::{Options, Played, chart, play, play_in, status_of};
 pub use program::run;

@@ -3,7 +3,7 @@ ghost use Rattle.std.specs.Prelude.{◌≡◌, ◌<◌, ◌-◌, ◌^◌, IfOk, 
 ghost use Rattle.occ_shown.specs.Counting.{failures_of};
 ghost use Rattle.occ_choices.specs.Plans.{choices_of};
 ghost use Rattle.occ_play.specs.Charting.{IsChart};
-ghost use Rattle.occ_play.specs.Playing.{AfterFault, IsAnswer, IsSomeAnswer, Ran, Refuses, Unfolds, Wrote};
+ghost use Rattle.occ_play.specs.Playing.{AfterFault, IsAnswer, IsSomeAnswer, Ran, Refuses, RefusesText, Unfolds, Wrote};
 ghost use Rattle.occ_term.specs.Unfolding.{Lawful};
 ghost use Rattle.occ_play.specs.Status.{status};
 
@@ -11,8 +11,9 @@ use crate::fault::PlayFault;
 use crate::running::{Outcome, run};
 use occ_check::{CheckFault, unfold};
 use occ_choices::Plan;
-use occ_code::{Code, CodeFault, compile};
+use occ_code::{Code, CodeFault, compile_for};
 use occ_net_replay::{Choice, Ending};
+use occ_play_inputs::Words;
 use occ_shown::{Counted, answer, write_answer};
 use occ_term::{Checked, Refused, Unfolded, UsageFault, check_usage};
 use occ_text::{TextFault, read_lines};
@@ -28,6 +29,31 @@ pub struct Played {
     pub ending: Ending,
     /// The choices that were used: a beginning of the plan's.
     pub choices: Vec<Choice>,
+}
+
+/// How turns are taken.
+#[derive(Clone, Copy, Debug, Drop)]
+pub struct Options {
+    /// How many ends of a loop's body a turn may pass before it stops there, 1 to 65,536.
+    pub quantum: u32,
+}
+
+impl Options {
+    /// Turns that stop at each end of a loop's body.
+    pub fn plain() -> Options
+        ensures { result.quantum ≡ 1 }
+    {
+        Options { quantum: 1 }
+    }
+}
+
+/// Turns of the quantum that the words say.
+pub(crate) fn options_of(words: &Words<'_>) -> Options
+    ensures { result.quantum ≡ words.now.quantum }
+{
+    Options {
+        quantum: words.quantum,
+    }
 }
 
 /// Plays a program: reads its source, runs it on the keyboard's bytes for the plan's choices, and
@@ -53,9 +79,32 @@ pub fn play<W: Write>(
     ensures played { IfOk result (λ played. Wrote W.contents
         (IsAnswer 1 source.now keyboard.now (choices_of plan.now) trace played) out.old out.new) }
     ensures fault { IfErr result (AfterFault W.contents
-        (IsSomeAnswer 1 source.now keyboard.now (choices_of plan.now) trace) source.now out.old out.new) }
+        (IsSomeAnswer 1 source.now keyboard.now (choices_of plan.now) trace) 1 source.now out.old out.new) }
 {
-    let (played, bytes) = answered(alloc, source, keyboard, plan, trace)?;
+    play_in(&Options::plain(), alloc, source, keyboard, plan, trace, out)
+}
+
+/// Plays a program as `play` does, by turns of these options.
+///
+/// # Errors
+///
+/// Those of `play`, and `Code` of `BadQuantum` for a quantum that isn't from 1 to 65,536.
+pub fn play_in<W: Write>(
+    options: &Options,
+    alloc: Global,
+    source: &[u8],
+    keyboard: &[u8],
+    plan: &Plan,
+    trace: bool,
+    out: &mut Counted<W>,
+) -> Result<Played, PlayFault>
+    requires room { failures_of out.old < 2 ^ 64 - 1 }
+    ensures played { IfOk result (λ played. Wrote W.contents
+        (IsAnswer options.now.quantum source.now keyboard.now (choices_of plan.now) trace played) out.old out.new) }
+    ensures fault { IfErr result (AfterFault W.contents
+        (IsSomeAnswer options.now.quantum source.now keyboard.now (choices_of plan.now) trace) options.now.quantum source.now out.old out.new) }
+{
+    let (played, bytes) = answered(options, alloc, source, keyboard, plan, trace)?;
     match write_answer(bytes.as_slice(), out) {
         Ok(()) => Ok(played),
         Err(written) => Err(PlayFault::Write { written }),
@@ -64,16 +113,17 @@ pub fn play<W: Write>(
 
 /// What a run of a source comes to, and the answer's bytes.
 fn answered(
+    options: &Options,
     alloc: Global,
     source: &[u8],
     keyboard: &[u8],
     plan: &Plan,
     trace: bool,
 ) -> Result<(Played, Vec<u8>), PlayFault>
-    ensures answer { IfOk result (λ r. IsAnswer 1 source.now keyboard.now (choices_of plan.now) trace r.0 r.1.items) }
-    ensures refused { IfErr result (Refuses source.now) }
+    ensures answer { IfOk result (λ r. IsAnswer options.now.quantum source.now keyboard.now (choices_of plan.now) trace r.0 r.1.items) }
+    ensures refused { IfErr result (Refuses options.now.quantum source.now) }
 {
-    let (code, outcome) = ran(alloc, source, keyboard, plan)?;
+    let (code, outcome) = ran(options, alloc, source, keyboard, plan)?;
     let bytes = answer(
         alloc,
         outcome.trace.as_slice(),
@@ -89,14 +139,15 @@ fn answered(
     Ok((Played { ending, choices }, bytes))
 }
 
-/// The sequence chart of the run that `play` plays for this plan, as a text in SVG: a column for each process and each
+/// The sequence chart of the run that `play_in` plays for this plan, as a text in SVG: a column for each process and each
 /// of the keyboard, the screen and the error channel that takes part, an arrow for each of the first `most`
 /// communications, how many more there were, and how the run ended.
 ///
 /// # Errors
 ///
-/// `Text`, `Parse`, `Check`, `Usage` and `Code` refuse the source, `Memory` tells of a refused growth.
+/// As of `play_in`, but for `Write`.
 pub fn chart(
+    options: &Options,
     alloc: Global,
     source: &[u8],
     keyboard: &[u8],
@@ -104,9 +155,9 @@ pub fn chart(
     most: u32,
 ) -> Result<Vec<u8>, PlayFault>
     ensures drawn { IfOk result (λ bytes. IsChart source.now keyboard.now (choices_of plan.now) most bytes.items) }
-    ensures refused { IfErr result (Refuses source.now) }
+    ensures refused { IfErr result (Refuses options.now.quantum source.now) }
 {
-    let (code, outcome) = ran(alloc, source, keyboard, plan)?;
+    let (code, outcome) = ran(options, alloc, source, keyboard, plan)?;
     let bytes = occ_shown::chart(
         alloc,
         outcome.trace.as_slice(),
@@ -119,16 +170,17 @@ pub fn chart(
 
 /// The code of a source's program, and what its run comes to.
 fn ran(
+    options: &Options,
     alloc: Global,
     source: &[u8],
     keyboard: &[u8],
     plan: &Plan,
 ) -> Result<(Code, Outcome), PlayFault>
-    ensures ran { IfOk result (λ r. Ran source.now keyboard.now (choices_of plan.now) r.0 r.1) }
-    ensures refused { IfErr result (Refuses source.now) }
+    ensures ran { IfOk result (λ r. Ran options.now.quantum source.now keyboard.now (choices_of plan.now) r.0 r.1) }
+    ensures refused { IfErr result (Refuses options.now.quantum source.now) }
 {
     let checked = accepted(alloc, source)?;
-    let code = match compile(alloc, &checked) {
+    let code = match compile_for(alloc, &checked, options.quantum) {
         Ok(code) => code,
         Err(fault) => return Err(PlayFault::Code(fault)),
     };
@@ -139,7 +191,7 @@ fn ran(
 /// The program of a source that keeps the usage rules.
 fn accepted(alloc: Global, source: &[u8]) -> Result<Checked, PlayFault>
     ensures found { IfOk result (λ c. Unfolds source.now c × Lawful c) }
-    ensures refused { IfErr result (Refuses source.now) }
+    ensures refused { IfErr result (RefusesText source.now) }
 {
     let unfolded = front(alloc, source)?;
     match check_usage(alloc, unfolded) {
@@ -158,7 +210,7 @@ fn reason(refused: Refused) -> UsageFault
 /// The unfolded program of a source.
 fn front(alloc: Global, source: &[u8]) -> Result<Unfolded, PlayFault>
     ensures found { IfOk result (λ u. Unfolds source.now u) }
-    ensures refused { IfErr result (Refuses source.now) }
+    ensures refused { IfErr result (RefusesText source.now) }
 {
     let lines = read_lines(alloc, source)?;
     let tree = parse(alloc, &lines)?;

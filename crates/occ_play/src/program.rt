@@ -8,7 +8,7 @@ ghost use Rattle.occ_choices.specs.Plans.{choices_of};
 
 use crate::drawing::draw;
 use crate::fault::PlayFault;
-use crate::playing::{Played, play, status_of};
+use crate::playing::{Played, options_of, play_in, status_of};
 use crate::recording::record;
 use occ_play_inputs::failure::{of_arguments, of_words};
 use occ_play_inputs::{Failure, Inputs, Words, read_inputs, read_words};
@@ -20,7 +20,7 @@ use std::{env, io};
 
 /// What is told below wrong words.
 const ALLOWED: &str =
-    "Allowed are --limit N with N from 0 to 10000000, --choices FILE, --record FILE, --chart FILE, --arrows N, --trace, --help, and one FILE.";
+    "Allowed are --limit N with N from 0 to 10000000, --quantum N with N from 1 to 65536, --choices FILE, --record FILE, --chart FILE, --arrows N, --trace, --help, and one FILE.";
 
 /// Runs the program on the arguments, the files and the streams of `rt`, and answers its exit status: 0 ended or
 /// help, 1 source refused, 2 stopped, 3 fault, 4 limit, 5 want of memory, 6 a file or stream that couldn't be
@@ -90,9 +90,10 @@ fn play_inputs<W: Write>(
     out: &mut Counted<W>,
 ) -> Result<Played, PlayFault>
     requires room { failures_of out.old < 2 ^ 64 - 1 }
-    ensures { CameTo inputs.now.source.items inputs.now.keyboard.items (choices_of inputs.now.plan) words.now.trace result }
+    ensures { CameTo words.now.quantum inputs.now.source.items inputs.now.keyboard.items (choices_of inputs.now.plan) words.now.trace result }
 {
-    play(
+    play_in(
+        &options_of(words),
         alloc,
         inputs.source.as_slice(),
         inputs.keyboard.as_slice(),

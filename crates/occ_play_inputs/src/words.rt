@@ -37,6 +37,8 @@ Example:
 pub struct Words<'a> {
     /// The most turns that the run may take, 0 to 10,000,000.
     pub limit: u32,
+    /// How many ends of a loop's body a turn may pass, 1 to 65,536.
+    pub quantum: u32,
     /// Whether each communication is printed.
     pub trace: bool,
     /// The path of a file of choices, by which the run is played; then the limit says nothing.
@@ -70,6 +72,7 @@ pub fn read_words<'a>(alloc: Global, words: &'a [&'a str]) -> Result<Words<'a>, 
     }
     Ok(Words {
         limit,
+        quantum: quantum_of(matches.get_one::<u32>("quantum")),
         trace: matches.get_flag("trace"),
         choices: matches.get_str("choices"),
         record: matches.get_str("record"),
@@ -86,6 +89,13 @@ fn limit_of(given: Option<u32>) -> u32
     given.unwrap_or(DEFAULT_LIMIT)
 }
 
+/// The quantum, where the words gave this one or none.
+fn quantum_of(given: Option<u32>) -> u32
+    ensures { result ≡ unwrap_or given 1 }
+{
+    given.unwrap_or(1)
+}
+
 /// How many communications a chart shows, where the words gave this number or none.
 fn arrows_of(given: Option<u32>) -> u32
     ensures { result ≡ unwrap_or given 200 }
@@ -99,6 +109,7 @@ fn command<'a>(alloc: Global) -> Result<Command<'a>, Error> {
         .about("Compiles and runs an occam 2 program.")
         .after_help(MORE_HELP)
         .arg(limit_word(alloc))?
+        .arg(quantum_word(alloc))?
         .arg(choices_word(alloc))?
         .arg(record_word(alloc))?
         .arg(chart_word(alloc))?
@@ -114,6 +125,14 @@ fn limit_word<'a>(alloc: Global) -> Arg<'a> {
         .value_name("N")
         .help("Ends the run after N turns, 0 to 10000000 [default: 1000000]")
         .value_parser(value_parser!(u32).range(0..=10_000_000))
+}
+
+fn quantum_word<'a>(alloc: Global) -> Arg<'a> {
+    Arg::new(alloc, "quantum")
+        .long("quantum")
+        .value_name("N")
+        .help("Lets a turn pass N ends of a loop's body, 1 to 65536 [default: 1]")
+        .value_parser(value_parser!(u32).range(1..=65_536))
 }
 
 fn choices_word<'a>(alloc: Global) -> Arg<'a> {

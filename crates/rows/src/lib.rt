@@ -8,6 +8,8 @@ mod choosing_networks;
 #[cfg(test)]
 mod compiled;
 #[cfg(test)]
+mod drawn;
+#[cfg(test)]
 mod examples;
 #[cfg(test)]
 mod first_programs;
@@ -23,6 +25,8 @@ mod memory;
 mod networks;
 #[cfg(test)]
 mod outcomes;
+#[cfg(test)]
+mod quanta;
 #[cfg(test)]
 mod reference;
 #[cfg(test)]
