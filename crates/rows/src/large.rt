@@ -220,111 +220,140 @@ fn replicated_sequences(rt: HostRuntime) -> Result<(), Fail> {
     check(&rt, alloc, source(alloc, "", body.as_str())?.as_str(), "A")
 }
 
-/// A source with so many declared variables between two of its parts.
-fn many_names(
+/// What stands round declared variables.
+#[derive(Clone, Copy)]
+struct Frame {
+    /// Before the last PROC.
+    before: &'static str,
+    /// Before the variables.
+    first: &'static str,
+    /// The declaration of a variable.
+    name: &'static str,
+    /// Behind the variables.
+    last: &'static str,
+}
+
+const VARIANT: Frame = Frame {
+    before: "PROTOCOL p\n  CASE\n    t\n:\n",
+    first: "  CHAN OF p c:\n  PAR\n    c ! t\n    c ? CASE\n",
+    name: "      INT x:\n",
+    last: "      t\n        screen ! 'a'\n",
+};
+
+const BRANCH: Frame = Frame {
+    before: "",
+    first: "  PAR\n",
+    name: "    INT x:\n",
+    last: "    screen ! 'a'\n",
+};
+
+const ARM: Frame = Frame {
+    before: "",
+    first: "  ALT\n",
+    name: "    INT x:\n",
+    last: "    TRUE & SKIP\n      screen ! 'a'\n",
+};
+
+const CHOICE: Frame = Frame {
+    before: "",
+    first: "  IF\n",
+    name: "    INT x:\n",
+    last: "    TRUE\n      screen ! 'a'\n",
+};
+
+/// A source with so many declared variables within this.
+fn many_names(alloc: Global, frame: &Frame, count: u32) -> Result<String, AllocError> {
+    let names = joined(alloc, frame.name, "", count)?;
+    let mut body = String::from_str(alloc, frame.first)?;
+    body.push_str(names.as_str())?;
+    body.push_str(frame.last)?;
+    source(alloc, frame.before, body.as_str())
+}
+
+/// Checks each of these numbers of variables.
+fn check_names(
+    rt: &impl Abort,
     alloc: Global,
-    before: &str,
-    first: &str,
-    name: &str,
-    count: u32,
-    last: &str,
-) -> Result<String, AllocError> {
-    let mut body = String::from_str(alloc, first)?;
-    body.push_str(joined(alloc, name, "", count)?.as_str())?;
-    body.push_str(last)?;
-    source(alloc, before, body.as_str())
+    frame: &Frame,
+    rows: &[(u32, &str)],
+) -> Result<(), Fail> {
+    for (count, wanted) in rows {
+        let text = many_names(alloc, frame, *count)?;
+        check(rt, alloc, text.as_str(), wanted)?;
+    }
+    Ok(())
 }
 
 #[test]
 fn names_before_one_part(rt: HostRuntime) -> Result<(), Fail> {
     let alloc = rt.alloc();
-    let protocol = "PROTOCOL p\n  CASE\n    t\n:\n";
-    let waits = "  CHAN OF p c:\n  PAR\n    c ! t\n    c ? CASE\n";
-    for count in [1, 5_000] {
-        let variant = many_names(
-            alloc,
-            protocol,
-            waits,
-            "      INT x:\n",
-            count,
-            "      t\n        screen ! 'a'\n",
-        )?;
-        check(&rt, alloc, variant.as_str(), "a")?;
-        let branch = many_names(
-            alloc,
-            "",
-            "  PAR\n",
-            "    INT x:\n",
-            count,
-            "    screen ! 'a'\n",
-        )?;
-        check(&rt, alloc, branch.as_str(), "a")?;
-    }
-    for (count, wanted) in [
+    let any = [(1, "a"), (5_000, "a")];
+    check_names(&rt, alloc, &VARIANT, &any)?;
+    check_names(&rt, alloc, &BRANCH, &any)?;
+    let few = [
         (1, "a"),
         (190, "a"),
         (300, "refused 43 TooLarge"),
         (5_000, "refused 43 TooLarge"),
-    ] {
-        let arm = many_names(
-            alloc,
-            "",
-            "  ALT\n",
-            "    INT x:\n",
-            count,
-            "    TRUE & SKIP\n      screen ! 'a'\n",
-        )?;
-        check(&rt, alloc, arm.as_str(), wanted)?;
-        let choice = many_names(
-            alloc,
-            "",
-            "  IF\n",
-            "    INT x:\n",
-            count,
-            "    TRUE\n      screen ! 'a'\n",
-        )?;
-        check(&rt, alloc, choice.as_str(), wanted)?;
-    }
-    Ok(())
+    ];
+    check_names(&rt, alloc, &ARM, &few)?;
+    check_names(&rt, alloc, &CHOICE, &few)
 }
 
-/// PROCs, each of which has so many of a construct within one another, the innermost round a call of the one before it.
-fn nested_calls(
-    alloc: Global,
-    construct: &str,
-    part: &str,
-    calls: u32,
-    levels: u32,
-) -> Result<String, AllocError> {
+/// So many of a construct within one another, the innermost round a call.
+fn nested(alloc: Global, construct: &str, part: &str, levels: u32) -> Result<String, AllocError> {
+    let mut text = String::new(alloc);
+    let mut blanks = String::from_str(alloc, "  ")?;
+    for _ in 0..levels {
+        text.push_str(blanks.as_str())?;
+        text.push_str(construct)?;
+        blanks.push_str("  ")?;
+    }
+    text.push_str(blanks.as_str())?;
+    text.push_str(part)?;
+    text.push_str(blanks.as_str())?;
+    text.push_str("  p (screen)\n")?;
+    Ok(text)
+}
+
+/// PROCs, each of which has these lines, with a call of the one before it.
+fn calls_within(alloc: Global, lines: &str, calls: u32) -> Result<String, AllocError> {
     let mut procs = String::from_str(alloc, "PROC p (CHAN OF BYTE screen)\n  screen ! 'a'\n:\n")?;
     for _ in 0..calls {
         procs.push_str("PROC q (CHAN OF BYTE screen)\n")?;
-        for level in 1..levels + 1 {
-            procs.push_str(joined(alloc, "  ", "", level)?.as_str())?;
-            procs.push_str(construct)?;
-        }
-        procs.push_str(joined(alloc, "  ", "", levels + 1)?.as_str())?;
-        procs.push_str(part)?;
-        procs.push_str(joined(alloc, "  ", "", levels + 2)?.as_str())?;
-        procs.push_str("p (screen)\n:\nPROC p (CHAN OF BYTE screen)\n  q (screen)\n:\n")?;
+        procs.push_str(lines)?;
+        procs.push_str(":\nPROC p (CHAN OF BYTE screen)\n  q (screen)\n:\n")?;
     }
-    source(alloc, procs.as_str(), "  p (screen)\n")
+    Ok(procs)
+}
+
+/// Checks so many calls of PROCs with so many of a construct within one another.
+fn check_nested(
+    rt: &impl Abort,
+    alloc: Global,
+    construct: &str,
+    part: &str,
+    rows: &[(u32, u32, &str)],
+) -> Result<(), Fail> {
+    for (calls, levels, wanted) in rows {
+        let lines = nested(alloc, construct, part, *levels)?;
+        let procs = calls_within(alloc, lines.as_str(), *calls)?;
+        let text = source(alloc, procs.as_str(), "  p (screen)\n")?;
+        check(rt, alloc, text.as_str(), wanted)?;
+    }
+    Ok(())
 }
 
 #[test]
 fn constructs_in_one_another_through_calls(rt: HostRuntime) -> Result<(), Fail> {
     let alloc = rt.alloc();
-    for (construct, part) in [("ALT\n", "TRUE & SKIP\n"), ("IF\n", "TRUE\n")] {
-        for (calls, levels, wanted) in [
-            (1, 58, "a"),
-            (3, 58, "a"),
-            (17, 10, "a"),
-            (4, 58, "refused 43 TooLarge"),
-            (95, 58, "refused 43 TooLarge"),
-        ] {
-            let text = nested_calls(alloc, construct, part, calls, levels)?;
-            check(&rt, alloc, text.as_str(), wanted)?;
-        }
-    }
-    Ok(())
+    let rows = [
+        (1, 58, "a"),
+        (3, 58, "a"),
+        (17, 10, "a"),
+        (4, 58, "refused 43 TooLarge"),
+        (95, 58, "refused 43 TooLarge"),
+    ];
+    check_nested(&rt, alloc, "ALT\n", "TRUE & SKIP\n", &rows)?;
+    check_nested(&rt, alloc, "IF\n", "TRUE\n", &rows)
 }
