@@ -1,3 +1,1 @@
 mod Arms
-pub mod ManyLoop
-pub mod Steps

@@ -1,6 +1,5 @@
-//! Reading what stands in one line: expressions, heads of processes and of their parts,
-//! declarations.
+//! Reading one line: the head of a process or of one of its parts, a declaration.
 #![tactic(auto)]
 
-pub mod expressions;
-pub mod lines;
+pub mod read_decl;
+pub mod read_head;

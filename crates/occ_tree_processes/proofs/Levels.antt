@@ -7,7 +7,7 @@ use Rattle.occ_tree_grammar.specs.Many.{◌>>=◌, Reader, as_many}
 use Rattle.occ_tree_grammar.specs.Expressions.Reading.{Fails}
 use Rattle.occ_tree_grammar.specs.Processes.Trees.{Kind, process, Head, Decl, Node}
 use Rattle.occ_tree_grammar.specs.Processes.Reading.{at_decl, line_at, head_at, decl_with, finished, node_with, node_at}
-use Rattle.occ_tree_lines.proofs.Steps.{next_node_at}
+use Rattle.occ_tree_parts.proofs.Steps.{next_node_at}
 use Rattle.occ_tree_processes.specs.Heads.{line_with}
 
 -- what follows a reading that fails

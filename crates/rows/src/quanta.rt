@@ -4,17 +4,9 @@ use std::alloc::{AllocError, Global};
 use std::process::Abort;
 use std::test::Fail;
 
-/// A run by choices of the first ready process.
-struct Row {
-    source: &'static str,
-    quantum: u32,
-    choices: u32,
-    /// What standard output gets; what is wrong where the quantum is none.
-    answer: &'static str,
-    status: u8,
-    /// How many choices are used.
-    used: usize,
-}
+/// A source, a quantum, how many choices of the first ready process there are, what standard output gets or the
+/// refusal of the quantum, and the exit status. An answer uses all choices.
+type Row = (&'static str, u32, u32, &'static str, u8);
 
 const COUNTING: &str = "PROC main (CHAN OF BYTE keyboard, screen)
   INT n:
@@ -32,41 +24,16 @@ const FOR_EVER: &str = "PROC main (CHAN OF BYTE keyboard, screen)
 :
 ";
 
-const fn counting(quantum: u32, choices: u32, answer: &'static str, status: u8) -> Row {
-    Row {
-        source: COUNTING,
-        quantum,
-        choices,
-        answer,
-        status,
-        used: choices as usize,
-    }
-}
-
 const ROWS: [Row; 9] = [
-    counting(1, 10, "8", 0),
-    counting(1, 9, "8\nlimit\n", 4),
-    counting(4, 4, "8", 0),
-    counting(4, 3, "8\nlimit\n", 4),
-    Row {
-        source: FOR_EVER,
-        quantum: 4,
-        choices: 10,
-        answer: "limit\n",
-        status: 4,
-        used: 10,
-    },
-    Row {
-        source: FOR_EVER,
-        quantum: 65_536,
-        choices: 2,
-        answer: "limit\n",
-        status: 4,
-        used: 2,
-    },
-    counting(0, 10, "refused 62 BadQuantum", 7),
-    counting(65_537, 10, "refused 62 BadQuantum", 7),
-    counting(8, 3, "8", 0),
+    (COUNTING, 1, 10, "8", 0),
+    (COUNTING, 1, 9, "8\nlimit\n", 4),
+    (COUNTING, 4, 4, "8", 0),
+    (COUNTING, 4, 3, "8\nlimit\n", 4),
+    (COUNTING, 8, 3, "8", 0),
+    (FOR_EVER, 4, 10, "limit\n", 4),
+    (FOR_EVER, 65_536, 2, "limit\n", 4),
+    (COUNTING, 0, 10, "refused 62 BadQuantum", 7),
+    (COUNTING, 65_537, 10, "refused 62 BadQuantum", 7),
 ];
 
 fn zeros(alloc: Global, count: u32) -> Result<Plan, AllocError> {
@@ -77,25 +44,31 @@ fn zeros(alloc: Global, count: u32) -> Result<Plan, AllocError> {
     Ok(Plan::Choices(choices))
 }
 
-fn check(rt: &impl Abort, alloc: Global, row: &Row) -> Result<(), Fail> {
-    let options = Options {
-        quantum: row.quantum,
-    };
-    let plan = zeros(alloc, row.choices)?;
+fn check(rt: &impl Abort, alloc: Global, row: Row) -> Result<(), Fail> {
+    let (source, quantum, choices, answer, status) = row;
+    let plan = zeros(alloc, choices)?;
     let mut bytes = Vec::new(alloc);
     let mut out = Counted::new(&mut bytes);
-    let source = row.source.as_bytes();
-    let played = play_in(&options, alloc, source, b"", &plan, false, &mut out);
+    let options = Options { quantum };
+    let played = play_in(
+        &options,
+        alloc,
+        source.as_bytes(),
+        b"",
+        &plan,
+        false,
+        &mut out,
+    );
     drop(out);
-    assert_eq!(rt; status_of(&played), row.status, "{}", row.quantum);
+    assert_eq!(rt; status_of(&played), status, "{quantum}");
     match played {
         Ok(played) => {
-            assert_eq!(rt; bytes.as_slice(), row.answer.as_bytes(), "{}", row.quantum);
-            assert_eq!(rt; played.choices.len(), row.used, "{}", row.quantum);
+            assert_eq!(rt; bytes.as_slice(), answer.as_bytes(), "{quantum}");
+            assert_eq!(rt; played.choices.len(), choices as usize, "{quantum}");
         }
         Err(fault) => {
             let line = fault.to_string(alloc)?;
-            assert_eq!(rt; line.as_str(), row.answer, "{}", row.quantum);
+            assert_eq!(rt; line.as_str(), answer, "{quantum}");
         }
     }
     Ok(())
@@ -103,7 +76,7 @@ fn check(rt: &impl Abort, alloc: Global, row: &Row) -> Result<(), Fail> {
 
 #[test]
 fn turns_pass_ends_of_loops(rt: HostRuntime) -> Result<(), Fail> {
-    for row in &ROWS {
+    for row in ROWS {
         check(&rt, rt.alloc(), row)?;
     }
     assert_eq!(rt; Options::plain().quantum, 1);

@@ -16,10 +16,8 @@ use occ_tree_grammar::lines::head::{
     ArmHead, ChoiceHead, DeclHead, OptionHead, ProcessHead, VariantHead,
 };
 use occ_tree_grammar::tree::process::{Decl, Process, Selection, Variant};
-use occ_tree_lines::lines::read_decl::decl_head;
-use occ_tree_lines::lines::read_head::{
-    arm_head, choice_head, option_head, process_head, variant_head,
-};
+use occ_tree_lines::read_decl::decl_head;
+use occ_tree_lines::read_head::{arm_head, choice_head, option_head, process_head, variant_head};
 use std::alloc::Global;
 
 /// The line of a process that must stand at this level: its number and what it says.

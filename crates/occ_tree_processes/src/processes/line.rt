@@ -7,7 +7,7 @@ ghost use Rattle.occ_tree_grammar.specs.Processes.Reading.{at_level, at_decl, li
 
 use occ_text::{Key, Line, Sym, Token};
 use occ_tree_grammar::ParseFault;
-use occ_tree_lines::lines::read_decl::begins_declaration;
+use occ_tree_lines::read_decl::begins_declaration;
 
 /// The lines, where the first is at this level.
 pub fn lines_at(level: u32, lines: &[Line]) -> Option<&[Line]>

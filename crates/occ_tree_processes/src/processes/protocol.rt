@@ -12,7 +12,7 @@ use crate::processes::line::{case_line, end_line, line_of, lines_at, too_deep};
 use occ_text::Line;
 use occ_tree_grammar::ParseFault;
 use occ_tree_grammar::tree::process::{Protocol, Tag};
-use occ_tree_lines::lines::read_decl::tag_head;
+use occ_tree_lines::read_decl::tag_head;
 use std::alloc::Global;
 
 fn tag_inside(

@@ -4,7 +4,7 @@ use Rattle.occ_tree_grammar.specs.Many.{as_many}
 use Rattle.occ_tree_grammar.specs.Processes.Trees.{Tag}
 use Rattle.occ_tree_grammar.specs.Processes.Views.{tag_of}
 use Rattle.occ_tree_grammar.specs.Processes.Reading.{at_level, tag_at}
-use Rattle.occ_tree_lines.proofs.ManyLoop.{SoFar}
+use Rattle.occ_tree_parts.proofs.ManyLoop.{SoFar}
 use Rattle.occ_tree_processes.proofs.processes.protocol.tag_list.Given as goal
 
 abbrev pub invariant-loop : goal.invariant-loop

@@ -1,5 +1,5 @@
 use Rattle.occ_text.specs.Words.{rows}
-use Rattle.occ_tree_lines.proofs.Steps.{no_tags, next_tags, fails_none}
+use Rattle.occ_tree_parts.proofs.Steps.{no_tags, next_tags, fails_none}
 use Rattle.occ_tree_processes.proofs.processes.protocol.tags.Goals as goal
 
 pub returns-then-left-eq0 : goal.returns-then-left-eq0

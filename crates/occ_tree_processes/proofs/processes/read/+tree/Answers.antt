@@ -6,8 +6,8 @@ use Rattle.occ_text.specs.Words.{rows}
 use Rattle.occ_tree_grammar.specs.Processes.Trees.{process as the_process, choice as the_choice, option as the_option, arm as the_arm, variant as the_variant}
 use Rattle.occ_tree_grammar.specs.Processes.Views.{process_of, choice_of, selection_of, arm_of, variant_of, decl_of}
 use Rattle.occ_tree_grammar.specs.Processes.Reading.{finished, node_at, item_with}
-use Rattle.occ_tree_lines.proofs.ManyLoop.{goes_on, ends, is_full, is_last}
-use Rattle.occ_tree_lines.proofs.Steps.{no_node_at, fails_none}
+use Rattle.occ_tree_parts.proofs.ManyLoop.{goes_on, ends, is_full, is_last}
+use Rattle.occ_tree_parts.proofs.Steps.{no_node_at, fails_none}
 use Rattle.occ_tree_grammar.specs.declared.tree.process.Process.TheVariants as processes
 use Rattle.occ_tree_grammar.specs.declared.tree.process.Stmt.TheVariants as stmts
 use Rattle.occ_tree_grammar.specs.declared.tree.process.Choice.TheVariants as choices
@@ -26,7 +26,7 @@ use Rattle.occ_tree_grammar.specs.Lines.Heads.{ProcessHead, ChoiceHead, ArmHead,
 use Rattle.occ_tree_grammar.specs.Lines.HeadViews.{process_head_of, choice_head_of, option_head_of, arm_head_of, variant_head_of, decl_head_of}
 use Rattle.occ_tree_grammar.specs.Processes.Trees.{Node, node, single_body, Decl, item}
 use Rattle.occ_tree_grammar.proofs.Made.{declared, process_action, process_seq, process_par, process_seq_for, process_par_for, process_alt, process_alt_for, process_if, process_if_for, process_case, process_while, process_variants, choice_when, choice_if, choice_if_for, arm_guarded, arm_variants, arm_alt, arm_alt_for, decl_names, decl_item, item_value, item_protocol, item_proc}
-use Rattle.occ_tree_lines.proofs.Steps.{fails_below}
+use Rattle.occ_tree_parts.proofs.Steps.{fails_below}
 use Rattle.occ_tree_processes.proofs.Levels.{no_declarations, no_line, node_is}
 use Rattle.occ_tree_processes.proofs.processes.read.+tree.Goals.{processes-else-loop-test, processes-then-loop-test+in_default, choices-else-loop-test, choices-then-loop-test+in_default, selections-else-loop-test, selections-then-loop-test+in_default, arms-else-loop-test, arms-then-loop-test+in_default, variants-else-loop-test, variants-then-loop-test+in_default, declarations-else-loop-test, declarations-then-loop-test+in_default}
 use Rattle.occ_tree_processes.proofs.processes.read.+tree.Goals as goal

@@ -4,7 +4,7 @@ use Rattle.occ_tree_grammar.specs.Many.{as_many}
 use Rattle.occ_tree_grammar.specs.Processes.Trees.{process, choice, option, arm, variant, Node, Decl}
 use Rattle.occ_tree_grammar.specs.Processes.Views.{process_of, choice_of, selection_of, arm_of, variant_of, decl_of}
 use Rattle.occ_tree_grammar.specs.Processes.Reading.{at_level, at_decl, node_at, decl_with}
-use Rattle.occ_tree_lines.proofs.ManyLoop.{SoFar}
+use Rattle.occ_tree_parts.proofs.ManyLoop.{SoFar}
 use Rattle.occ_tree_processes.proofs.processes.read.+tree.Given as goal
 
 abbrev pub decreases-process : goal.decreases-process

@@ -1,0 +1,2 @@
+pub mod ManyLoop
+pub mod Steps

@@ -1,0 +1,11 @@
+use Rattle.std.proofs.Common.{length, map}
+use Rattle.occ_text.specs.Words.{Word, words}
+use Rattle.occ_tree_grammar.specs.Lines.Trees.{Formal}
+use Rattle.occ_tree_grammar.specs.Lines.Views.{formal_of}
+use Rattle.occ_tree_grammar.specs.Lines.Reading.{after_separator, listed_at, formal_at}
+use Rattle.occ_tree_grammar.specs.declared.lines.separator.Separator.TheVariants as separators
+use Rattle.occ_tree_parts.proofs.ManyLoop.{SoFar}
+use Rattle.occ_tree_parts.proofs.list.formal_list.Given as goal
+
+abbrev pub invariant-loop : goal.invariant-loop
+invariant-loop l = SoFar Word Formal (after_separator separators.Comma) (formal_at 65) (map formal_of l.all.items) (length l.tokens) l.counter (words l.rest) (listed_at separators.Comma (formal_at 65) (words l.tokens))

@@ -1,0 +1,210 @@
+//! Types, parts of messages and formals.
+
+ghost use Rattle.std.specs.Prelude.{◌≡◌, map};
+ghost use Rattle.occ_text.specs.Words.{words};
+ghost use Rattle.occ_tree_grammar.specs.Expressions.Trees.{expression_of};
+ghost use Rattle.occ_tree_grammar.specs.Expressions.Reading.{Gives, indices_with, expression_at};
+ghost use Rattle.occ_tree_grammar.specs.Lines.Views.{part_of, carried_of, size_of, value_type_of, spec_of, formal_of, formals_of};
+ghost use Rattle.occ_tree_grammar.specs.Lines.Reading.{part_after, part_at, carried_at, size_with, sizes_at, value_type_at, spec_after, spec_at, formal_at, formals_at};
+
+use crate::expressions::read::{DIMENSIONS, index, indices};
+use crate::expressions::symbol::{close, open_bracket, prim};
+use crate::list::formal_list;
+use crate::word::name;
+use occ_text::{Key, Sym, Token};
+use occ_tree_grammar::ParseFault;
+use occ_tree_grammar::tree::expr::{Expr, Prim};
+use occ_tree_grammar::tree::line::{Carried, Formal, Formals, Part, Size, Spec, ValueType};
+use std::alloc::Global;
+
+/// How many brackets may stand open in a size, and one more.
+const OPEN: u32 = 65;
+
+/// The sizes of a declared type.
+pub fn declared_sizes(
+    alloc: Global,
+    line: u32,
+    tokens: &[Token],
+) -> Result<(Vec<Expr>, &[Token]), ParseFault>
+    ensures { Gives (λ x. (map expression_of x.0.items, words x.1.now)) result (indices_with (expression_at 65) (words tokens.now)) }
+{
+    indices(alloc, OPEN, line, tokens)
+}
+
+fn part_behind(
+    line: u32,
+    sizes: Vec<Expr>,
+    of: Prim,
+    tokens: &[Token],
+) -> Result<(Part, &[Token]), ParseFault>
+    ensures { Gives (λ x. (part_of x.0, words x.1.now)) result (part_after (map expression_of sizes.items) of (words tokens.now)) }
+{
+    match tokens {
+        [
+            Token::Sym(Sym::DoubleColon),
+            Token::Sym(Sym::OpenBracket),
+            Token::Sym(Sym::CloseBracket),
+            rest @ ..,
+        ] if sizes.is_empty() => {
+            let (components, rest) = prim(line, rest)?;
+            Ok((Part::Counted(of, components), rest))
+        }
+        _ => Ok((Part::Single(sizes, of), tokens)),
+    }
+}
+
+/// A part of a message.
+#[tactic(auto, unfolding(occ_tree_grammar::specs::Lines::Reading::part_at))]
+pub fn part(alloc: Global, line: u32, tokens: &[Token]) -> Result<(Part, &[Token]), ParseFault>
+    ensures { Gives (λ x. (part_of x.0, words x.1.now)) result (part_at 65 (words tokens.now)) }
+{
+    let (sizes, rest) = declared_sizes(alloc, line, tokens)?;
+    let (of, rest) = prim(line, rest)?;
+    part_behind(line, sizes, of, rest)
+}
+
+/// What a channel carries.
+#[tactic(auto, unfolding(occ_tree_grammar::specs::Lines::Reading::carried_at))]
+pub fn carried(
+    alloc: Global,
+    line: u32,
+    tokens: &[Token],
+) -> Result<(Carried, &[Token]), ParseFault>
+    ensures { Gives (λ x. (carried_of x.0, words x.1.now)) result (carried_at 65 (words tokens.now)) }
+{
+    match tokens {
+        [Token::Name(name), rest @ ..] => {
+            Ok((Carried::Named(Vec::from_slice(alloc, name)?), rest))
+        }
+        _ => {
+            let (part, rest) = part(alloc, line, tokens)?;
+            Ok((Carried::Part(part), rest))
+        }
+    }
+}
+
+fn size(alloc: Global, line: u32, tokens: &[Token]) -> Result<(Size, &[Token]), ParseFault>
+    ensures { Gives (λ x. (size_of x.0, words x.1.now)) result (size_with 65 (words tokens.now)) }
+{
+    match tokens {
+        [Token::Sym(Sym::CloseBracket), rest @ ..] => Ok((Size::Open, rest)),
+        _ => {
+            let (size, rest) = index(alloc, OPEN, line, tokens)?;
+            Ok((Size::Given(size), rest))
+        }
+    }
+}
+
+/// Sizes that may be left open.
+fn sizes(alloc: Global, line: u32, tokens: &[Token]) -> Result<(Vec<Size>, &[Token]), ParseFault>
+    ensures { Gives (λ x. (map size_of x.0.items, words x.1.now)) result (sizes_at 65 (words tokens.now)) }
+{
+    let mut all = Vec::new(alloc);
+    let mut rest = tokens;
+    for _ in 0..DIMENSIONS {
+        let Some(after) = open_bracket(rest) else {
+            break;
+        };
+        let (next, after) = size(alloc, line, after)?;
+        all.push(next)?;
+        rest = after;
+    }
+    Ok((all, rest))
+}
+
+/// The type of a named value or of a formal.
+#[tactic(auto, unfolding(occ_tree_grammar::specs::Lines::Reading::value_type_at))]
+pub fn value_type(
+    alloc: Global,
+    line: u32,
+    tokens: &[Token],
+) -> Result<(ValueType, &[Token]), ParseFault>
+    ensures { Gives (λ x. (value_type_of x.0, words x.1.now)) result (value_type_at 65 (words tokens.now)) }
+{
+    let (sizes, rest) = sizes(alloc, line, tokens)?;
+    let (of, rest) = prim(line, rest)?;
+    Ok((ValueType { sizes, of }, rest))
+}
+
+fn spec_behind(
+    alloc: Global,
+    line: u32,
+    sizes: Vec<Size>,
+    tokens: &[Token],
+) -> Result<(Spec, &[Token]), ParseFault>
+    ensures { Gives (λ x. (spec_of x.0, words x.1.now)) result (spec_after 65 (map size_of sizes.items) (words tokens.now)) }
+{
+    match tokens {
+        [Token::Key(Key::Chan), Token::Key(Key::Of), rest @ ..] => {
+            let (carried, rest) = carried(alloc, line, rest)?;
+            Ok((Spec::Channel(sizes, carried), rest))
+        }
+        _ => {
+            let (of, rest) = prim(line, tokens)?;
+            Ok((Spec::Variable(ValueType { sizes, of }), rest))
+        }
+    }
+}
+
+/// What a formal stands for.
+#[tactic(auto, unfolding(occ_tree_grammar::specs::Lines::Reading::spec_at))]
+fn spec(alloc: Global, line: u32, tokens: &[Token]) -> Result<(Spec, &[Token]), ParseFault>
+    ensures { Gives (λ x. (spec_of x.0, words x.1.now)) result (spec_at 65 (words tokens.now)) }
+{
+    match tokens {
+        [Token::Key(Key::Val), rest @ ..] => {
+            let (of, rest) = value_type(alloc, line, rest)?;
+            Ok((Spec::Value(of), rest))
+        }
+        _ => {
+            let (sizes, rest) = sizes(alloc, line, tokens)?;
+            spec_behind(alloc, line, sizes, rest)
+        }
+    }
+}
+
+/// A formal that isn't the first.
+#[tactic(auto, unfolding(occ_tree_grammar::specs::Lines::Reading::formal_at))]
+pub fn formal(alloc: Global, line: u32, tokens: &[Token]) -> Result<(Formal, &[Token]), ParseFault>
+    ensures { Gives (λ x. (formal_of x.0, words x.1.now)) result (formal_at 65 (words tokens.now)) }
+{
+    match tokens {
+        [Token::Name(name), rest @ ..] => {
+            let name = Vec::from_slice(alloc, name)?;
+            Ok((Formal { spec: None, name }, rest))
+        }
+        _ => {
+            let (spec, rest) = spec(alloc, line, tokens)?;
+            let (name, rest) = name(alloc, line, rest)?;
+            Ok((
+                Formal {
+                    spec: Some(spec),
+                    name,
+                },
+                rest,
+            ))
+        }
+    }
+}
+
+/// The formals of a procedure, behind the bracket that opens, and the bracket that closes.
+#[tactic(auto, unfolding(occ_tree_grammar::specs::Lines::Reading::formals_at))]
+pub fn formals(
+    alloc: Global,
+    line: u32,
+    tokens: &[Token],
+) -> Result<(Option<Box<Formals>>, &[Token]), ParseFault>
+    ensures { Gives (λ x. (formals_of x.0, words x.1.now)) result (formals_at 65 (words tokens.now)) }
+{
+    match tokens {
+        [Token::Sym(Sym::CloseParen), rest @ ..] => Ok((None, rest)),
+        _ => {
+            let (spec, rest) = spec(alloc, line, tokens)?;
+            let (name, rest) = name(alloc, line, rest)?;
+            let (others, rest) = formal_list(alloc, line, rest)?;
+            let rest = close(line, rest)?;
+            let formals = Box::new(alloc, Formals { spec, name, others })?;
+            Ok((Some(formals), rest))
+        }
+    }
+}
