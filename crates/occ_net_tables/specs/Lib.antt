@@ -6,3 +6,4 @@ pub mod Holding
 pub mod Settling
 pub mod Room
 pub mod Running
+pub mod Outcomes

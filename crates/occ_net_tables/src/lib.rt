@@ -16,6 +16,6 @@ mod tasks;
 pub mod trace;
 mod turning;
 
-pub use running::{Run, run_choices};
+pub use running::{Outcome, run};
 pub use tables::Tables;
 pub use trace::{Communication, End};

@@ -18,7 +18,7 @@ use Rattle.occ_net_replay.proofs.Same.{Passed, one_replay, passed}
 use Rattle.occ_play.specs.declared.playing.Played.{Played}
 use Rattle.occ_play.specs.Again.{IsSameAnswer, PlayedAgain}
 use Rattle.occ_shown.specs.Answers.{answer_text, names_of}
-use Rattle.occ_play.specs.Outcomes.{Begins}
+use Rattle.occ_net_tables.specs.Outcomes.{Begins}
 use Rattle.occ_play.specs.Playing.{IsAnswer, Unfolds}
 
 -- ---- a text has one program at most

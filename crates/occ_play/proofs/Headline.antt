@@ -1,6 +1,6 @@
 -- The answer of an outcome is shown by a run of the source.
-use Rattle.std.proofs.Common.{◌≡◌, ◌∙◌, ◌<◌, ◌^◌, ℕ, ℤ, List, [], ◌∷◌, ◌++◌, Option, Some, None, Bool, true, false, IsTrue, length, map, refl, sym, ap, subst, arith}
-use Rattle.std.specs.Prelude.{if◌then◌else◌, nat_eq, slice_get}
+use Rattle.std.proofs.Common.{◌≡◌, ◌∙◌, ◌<◌, ◌^◌, ℕ, suc, ℤ, List, [], ◌∷◌, ◌++◌, Option, Some, None, Bool, true, false, IsTrue, length, map, refl, sym, ap, subst, arith}
+use Rattle.std.specs.Prelude.{get_or, if◌then◌else◌, nat_eq, slice_get}
 use Rattle.std.proofs.lemmas.Bool.{eq-eqb}
 use Rattle.occ_term.specs.Messages.{Fits, FitsAfter, is_of, message, parts_after}
 use Rattle.occ_term.specs.declared.message.Message.{Message}
@@ -24,19 +24,24 @@ use Rattle.occ_net_replay.specs.declared.choice.Choice.{Choice}
 use Rattle.occ_net_replay.specs.declared.ending.Ending.{Ending}
 use Rattle.occ_net_replay.specs.declared.ending.Ending.TheVariants as E
 use Rattle.occ_play.specs.declared.playing.Played.{Played}
-use Rattle.occ_play.specs.declared.running.Outcome.{Outcome}
+use Rattle.occ_net_tables.specs.declared.running.Outcome.{Outcome}
 use Rattle.occ_net_tables.specs.declared.trace.Communication.{Communication as Made}
 use Rattle.occ_shown.specs.Answers.{AreByteMessages, IsByteMessage, answer_text, names_of}
 use Rattle.occ_shown.specs.Charts.{chart_text}
 use Rattle.occ_net_tables.specs.Holding.{communication_of}
 use Rattle.occ_net_replay.specs.Following.{AllFit, AreBytes, Followed, ending_as, or_limit}
-use Rattle.occ_play.specs.Outcomes.{Begins, IsOutcome}
+use Rattle.occ_net_tables.specs.Outcomes.{Begins, IsOutcome}
 use Rattle.occ_play.specs.Charting.{IsChart}
 use Rattle.occ_play.specs.declared.fault.PlayFault.{PlayFault}
 use Rattle.occ_play.specs.declared.fault.PlayFault.TheVariants as play
 use Rattle.occ_play.specs.Playing.{IsAnswer, Ran, Refuses, RefusesText, Unfolds, UsageRefusesText, CodeRefusesText}
 use Rattle.occ_net_replay.specs.Replay.{Replays, ending_of, ending_by}
 use Rattle.occ_net_replay.proofs.Law.{replays_are_runs}
+
+-- the bytes of a keyboard
+pub are_bytes : (kb : List ℕ) → ((k : ℕ) → get_or kb k 0 < 256) → AreBytes kb
+are_bytes [] h = tt
+are_bytes (b ∷ bs) h = (h 0, are_bytes bs (λ k. h (suc k)))
 
 -- ---- what is written to the screen and the error channel
 

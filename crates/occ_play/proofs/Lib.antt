@@ -1,4 +1,3 @@
-mod Rerun
 mod Headline
 mod Statuses
 mod Again

@@ -1,4 +1,3 @@
-pub mod Outcomes
 pub mod Status
 pub mod Playing
 pub mod Charting

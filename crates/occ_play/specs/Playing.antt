@@ -26,14 +26,14 @@ use Rattle.occ_code.specs.declared.compiler.code.CodeFault.TheVariants as code
 use Rattle.occ_net_replay.specs.declared.choice.Choice.{Choice}
 use Rattle.occ_net_replay.specs.declared.ending.Ending.TheVariants as E
 use Rattle.occ_play.specs.declared.playing.Played.{Played}
-use Rattle.occ_play.specs.declared.running.Outcome.{Outcome}
+use Rattle.occ_net_tables.specs.declared.running.Outcome.{Outcome}
 use Rattle.occ_shown.specs.declared.counted.Counted.{Counted}
 use Rattle.occ_play.specs.declared.fault.PlayFault.{PlayFault}
 use Rattle.occ_play.specs.declared.fault.PlayFault.TheVariants as play
 use Rattle.occ_shown.specs.Answers.{answer_text, names_of}
 use Rattle.occ_shown.specs.Counting.{failures_of, writer_of}
 use Rattle.occ_net_replay.specs.Following.{AllFit, ending_as, or_limit, process_in}
-use Rattle.occ_play.specs.Outcomes.{Begins, IsOutcome}
+use Rattle.occ_net_tables.specs.Outcomes.{Begins, IsOutcome}
 use Rattle.occ_net_replay.specs.Replay.{Net, Replays, ending_of}
 
 -- ---- what a text is

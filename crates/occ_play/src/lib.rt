@@ -7,7 +7,6 @@ pub mod laws;
 pub mod playing;
 pub mod program;
 mod recording;
-mod running;
 
 pub use fault::PlayFault;
 pub use occ_choices::{ChoiceFault, Plan, choices_text, read_choices};

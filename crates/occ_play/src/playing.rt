@@ -8,11 +8,11 @@ ghost use Rattle.occ_term.specs.Unfolding.{Lawful};
 ghost use Rattle.occ_play.specs.Status.{status};
 
 use crate::fault::PlayFault;
-use crate::running::{Outcome, run};
 use occ_check::{CheckFault, unfold};
 use occ_choices::Plan;
 use occ_code::{Code, CodeFault, compile_for};
 use occ_net_replay::{Choice, Ending};
+use occ_net_tables::{Outcome, run};
 use occ_play_inputs::Words;
 use occ_shown::{Counted, answer, write_answer};
 use occ_term::{Checked, Refused, Unfolded, UsageFault, check_usage};

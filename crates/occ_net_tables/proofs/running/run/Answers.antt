@@ -5,8 +5,8 @@ use Rattle.occ_net_replay.specs.Following.{or_limit}
 use Rattle.occ_net_replay.specs.Replay.{ending_of}
 use Rattle.occ_net_tables.specs.Running.{HasReplayed}
 use Rattle.occ_choices.specs.Plans.{choices_of}
-use Rattle.occ_play.proofs.Rerun.{starts, stands, one_more_turn, outcome, one_more_used, begins_by, all_used}
-use Rattle.occ_play.proofs.running.run.Goals as goal
+use Rattle.occ_net_tables.proofs.Rerun.{starts, stands, one_more_turn, outcome, one_more_used, begins_by, all_used}
+use Rattle.occ_net_tables.proofs.running.run.Goals as goal
 
 pub loop-ending-init : goal.loop-ending-init
 loop-ending-init c =

@@ -1,7 +1,7 @@
 use Rattle.std.proofs.Common.{◌≡◌, ◌-◌, length, take}
 use Rattle.occ_net_tables.specs.Running.{HasReplayed}
 use Rattle.occ_choices.specs.Plans.{choices_of}
-use Rattle.occ_play.proofs.running.run.Given as goal
+use Rattle.occ_net_tables.proofs.running.run.Given as goal
 
 abbrev pub invariant-loop-ending : goal.invariant-loop-ending
 invariant-loop-ending l = record {

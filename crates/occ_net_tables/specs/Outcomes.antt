@@ -2,7 +2,7 @@
 use Rattle.std.specs.Prelude.{List, None, map, ℕ, ◌++◌, ◌≡◌}
 use Rattle.occ_code.specs.Sequential.Compiled.{Program}
 use Rattle.occ_net_replay.specs.declared.choice.Choice.{Choice}
-use Rattle.occ_play.specs.declared.running.Outcome.{Outcome}
+use Rattle.occ_net_tables.specs.declared.running.Outcome.{Outcome}
 use Rattle.occ_net_tables.specs.Holding.{communication_of}
 use Rattle.occ_net_replay.specs.Replay.{Net, Replays, ending_of}
 use Rattle.occ_net_replay.specs.Following.{or_limit}
