@@ -1,0 +1,4 @@
+pub mod Clashes
+pub mod Noted
+pub mod Indexes
+pub mod Refusals
