@@ -1,23 +1,20 @@
 -- Clashes of two sets of uses: with parts of either, and among branches in a row.
-use Rattle.std.proofs.Common.{◌≡◌, ℕ, zero, suc, ◌+◌, ◌<◌, ◌≤◌, List, [], ◌∷◌, ◌++◌, take, drop, get_or, length, map, Bool, true, false, refl, sym, ap, ◌∙◌, subst, inl, inr, arith}
-use Rattle.std.specs.Prelude.{None, Option, Some, ◌&&◌, ◌||◌, ◌⊎◌}
+use Rattle.std.proofs.Common.{◌≡◌, ℕ, suc, ◌+◌, ◌<◌, ◌≤◌, List, [], ◌∷◌, ◌++◌, drop, get_or, length, map, Bool, true, false, refl, sym, ap, ◌∙◌, subst, inl, inr, arith}
+use Rattle.std.specs.Prelude.{None, Option, Some, ◌&&◌, ◌||◌}
 use Rattle.std.proofs.Math.Seq.{drop-cons}
 use Rattle.std.proofs.lemmas.List.{drop_all}
 use Rattle.std.proofs.lemmas.Bool.Decides.{nat_tests}
-use mathlib.Core.Path.{fun_ext}
-use Rattle.occ_term.specs.Terms as T
-use Rattle.occ_term.specs.Uses.{Numbers, Uses, empty_set, no_use, union, with_use, uses_of, uses_of_branches}
-use Rattle.occ_usage.specs.Clashes.{Clash, shared_variable, two_inputs, two_outputs, clash_in, clash_in_branches, with_a_later}
-use Rattle.occ_usage.specs.Noted.{Finds, FindsAfter, IsOneOf, all_uses, between, branch_uses, breaking, clash_among, clash_within, use_of, uses_in, with_one}
+use Rattle.occ_term.specs.Uses.{Numbers, Uses, no_use, with_use}
+use Rattle.occ_usage.specs.Clashes.{Clash}
+use Rattle.occ_usage.specs.Noted.{Finds, IsOneOf, all_uses, between, breaking, clash_among, use_of, uses_in, with_one}
 use Rattle.occ_usage.specs.Indexes.{IsOne, IsWithin, Tells}
 use Rattle.occ_usage.specs.declared.noted.Found.{Found}
 use Rattle.occ_usage.specs.declared.noted.Rule.{Rule}
 use Rattle.occ_usage.specs.declared.noted.Rule.TheVariants.{Variables, Inputs, Outputs}
-use Rattle.occ_usage.specs.declared.noted.Kind.{Kind}
 use Rattle.occ_usage.specs.declared.noted.Kind.TheVariants.{Read, Write, Input, Output}
 use Rattle.occ_usage.specs.declared.noted.Use.{Use}
-use Rattle.occ_usage.proofs.UseSets.{or_assoc, or_comm, or_none, use_none}
-use Rattle.occ_usage.proofs.Walks.{all_branches, neither, or_left, or_right}
+use Rattle.occ_usage.proofs.UseSets.{or_assoc}
+use Rattle.occ_usage.proofs.Walks.{neither, or_left, or_right}
 
 -- ---- a set of uses against two
 

@@ -1,7 +1,7 @@
 -- The components that constant subscripts name, step by step.
-use Rattle.std.proofs.Common.{◌≡◌, ℕ, ℤ, zero, suc, pos, negsuc, ◌+◌, ◌*◌, ◌/◌, ◌%◌, ◌<◌, ◌≤◌, ◌^◌, min, List, [], ◌∷◌, drop, get_or, map, length, Bool, true, false, int_le, int_lt, nat_abs, refl, sym, ap, ◌∙◌, subst, arith, rules, mul_assoc, mul-zero, inl, inr}
-use Rattle.std.specs.Prelude.{Option, Some, None, if◌then◌else◌, ◌&&◌, ◌⊎◌}
-use Rattle.std.proofs.Math.Nat.{mul-le-mul_right, mul-suc, suc-mul, mul-div_cancel_left}
+use Rattle.std.proofs.Common.{◌≡◌, ℕ, ℤ, suc, pos, negsuc, ◌+◌, ◌*◌, ◌/◌, ◌<◌, ◌≤◌, ◌^◌, List, [], ◌∷◌, drop, get_or, map, length, Bool, true, false, refl, sym, ap, ◌∙◌, subst, arith, rules}
+use Rattle.std.specs.Prelude.{Option, Some, None, if◌then◌else◌}
+use Rattle.std.proofs.Math.Nat.{mul-le-mul_right, suc-mul, mul-div_cancel_left}
 use Rattle.std.proofs.Math.Seq.{drop-cons}
 use Rattle.std.proofs.lemmas.Bool.Decides.{nat_tests}
 use Rattle.std.proofs.lemmas.List.{drop_all, length-map}

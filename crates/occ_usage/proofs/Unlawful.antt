@@ -1,10 +1,10 @@
 -- A term keeps the usage rules where no two branches clash, and only there.
-use Rattle.std.proofs.Common.{◌≡◌, ℕ, Bool, true, false, IsTrue, refl, sym, ap, ◌∙◌, subst, inl, inr}
-use Rattle.std.specs.Prelude.{None, Option, Some, ◌&&◌, ◌||◌, ◌⊎◌}
+use Rattle.std.proofs.Common.{◌≡◌, ℕ, Bool, true, false, IsTrue, refl, sym, ap, ◌∙◌, inl, inr}
+use Rattle.std.specs.Prelude.{None, Option, ◌&&◌, ◌||◌}
 use mathlib.Core.Bool.{true≢false}
 use Rattle.occ_term.specs.Terms as T
-use Rattle.occ_term.specs.Uses.{Numbers, Uses, Apart, ApartFromAll, Lawful, LawfulTerm, LawfulTerms, LawfulBranches, LawfulArms, LawfulReception, LawfulVariants, LawfulChoices, LawfulOptions, StayApart, inputting, only, outputting, union, uses_of, with_use}
-use Rattle.occ_usage.specs.Clashes.{Clash, clash_in, clash_in_arms, clash_in_branches, clash_in_choices, clash_in_options, clash_in_reception, clash_in_terms, clash_in_variants, clashes, shared_variable, two_inputs, two_outputs, with_a_later}
+use Rattle.occ_term.specs.Uses.{Uses, ApartFromAll, Lawful, LawfulTerm, LawfulTerms, LawfulBranches, LawfulArms, LawfulReception, LawfulVariants, LawfulChoices, LawfulOptions, StayApart, inputting, only, outputting, uses_of, with_use}
+use Rattle.occ_usage.specs.Clashes.{Clash, clash_in, clash_in_arms, clash_in_branches, clash_in_choices, clash_in_options, clash_in_reception, clash_in_terms, clash_in_variants, clashes, with_a_later}
 use Rattle.occ_usage.specs.Noted.{FaultFor, Finds, FindsAfter, IsOneOf, breaking}
 use Rattle.occ_usage.specs.Refusals.{UsageRefuses}
 use Rattle.occ_term.specs.Unfolding.{Unfolding, meaning}

@@ -1,10 +1,10 @@
 -- Sets of uses joined: in any order, and in any grouping.
 use Rattle.std.proofs.Common.{◌≡◌, ℕ, zero, suc, ◌+◌, ◌<◌, ◌≤◌, List, [], ◌∷◌, ◌++◌, drop, get_or, length, Bool, true, false, refl, sym, ap, ◌∙◌, arith}
-use Rattle.std.specs.Prelude.{nat_eq, nat_le, nat_lt, ◌&&◌, ◌||◌}
+use Rattle.std.specs.Prelude.{◌||◌}
 use Rattle.occ_term.specs.Values.{span}
 use Rattle.std.proofs.Math.Seq.{drop-cons}
 use mathlib.Core.Path.{fun_ext}
-use Rattle.occ_term.specs.Uses.{Numbers, Uses, numbers_in, only, union, no_use, with_use}
+use Rattle.occ_term.specs.Uses.{Uses, numbers_in, only, no_use, with_use}
 use Rattle.occ_usage.specs.Noted.{Adds, use_of, between, uses_in}
 use Rattle.occ_usage.specs.declared.noted.Use.{Use}
 

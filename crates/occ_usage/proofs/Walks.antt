@@ -1,19 +1,19 @@
 -- What is found in parts, one after the other.
-use Rattle.std.proofs.Common.{◌≡◌, ℕ, zero, suc, ◌+◌, ◌<◌, ◌≤◌, List, [], ◌∷◌, ◌++◌, drop, get_or, length, map, Bool, true, false, refl, sym, ap, ◌∙◌, subst, inl, inr, arith}
-use Rattle.std.specs.Prelude.{None, Option, Some, ◌||◌, ◌⊎◌}
+use Rattle.std.proofs.Common.{◌≡◌, ℕ, suc, ◌+◌, ◌<◌, ◌≤◌, List, [], ◌∷◌, ◌++◌, drop, get_or, length, map, Bool, true, false, refl, sym, ap, ◌∙◌, subst, inl, inr, arith}
+use Rattle.std.specs.Prelude.{Err, IfOk, Ok, Option, Result, ◌||◌}
 use Rattle.std.proofs.Math.Seq.{drop-cons}
 use Rattle.std.proofs.lemmas.List.{drop_all}
 use mathlib.Core.Path.{fun_ext}
 use Rattle.occ_term.specs.Terms as T
-use Rattle.occ_term.specs.Uses.{Uses, no_use, with_use, uses_of, uses_of_arms, uses_of_branches, uses_of_choices, uses_of_options, uses_of_reception, uses_of_variants}
-use Rattle.occ_usage.specs.Clashes.{Clash, clash_in, clash_in_arms, clash_in_branches, clash_in_choices, clash_in_options, clash_in_reception, clash_in_variants, with_a_later}
+use Rattle.occ_term.specs.Uses.{Uses, no_use, with_use, uses_of, uses_of_branches, uses_of_reception}
+use Rattle.occ_usage.specs.Clashes.{Clash, clash_in, clash_in_branches, clash_in_reception, with_a_later}
 use Rattle.occ_usage.specs.Noted.{Adds, Covers, Finds, FindsAfter, IsOneOf, Leaves, all_uses, branch_uses, breaking, clash_among, clash_within, uses_in, with_one}
+use Rattle.occ_usage.specs.Heads.{head_of}
 use Rattle.occ_usage.specs.declared.noted.Found.{Found}
-use Rattle.occ_usage.specs.declared.noted.Rule.{Rule}
 use Rattle.occ_usage.specs.declared.noted.Use.{Use}
 use Rattle.occ_term.specs.View.{branch_of, branches_of, term_of}
 use Rattle.occ_term.specs.declared.term.Branch.{Branch}
-use Rattle.occ_usage.proofs.UseSets.{adds_as, adds_none, adds_then, use_assoc, use_none, or_assoc, or_comm, or_none}
+use Rattle.occ_usage.proofs.UseSets.{adds_as, adds_none, adds_then, use_assoc, use_none}
 
 both_false : (a b : Bool) → a ≡ false → b ≡ false → (a || b) ≡ false
 both_false true b p q = absurd cc
@@ -86,16 +86,6 @@ pub leaves_two : {a b : List Use} {P : Clash → Bool} {s t : Option Found} (u v
 leaves_two {a} {b} u v others Q p =
     record {
       uses = ap (λ w. with_use w others) p.adds.is ∙ use_assoc (uses_in a) (with_use u v) others ∙ ap (λ w. with_use (uses_in a) w) (use_assoc u v others);
-      finds = λ last q. finds_then p.finds q;
-    }
-
-pub leaves_three : {a b : List Use} {P : Clash → Bool} {s t : Option Found} (u v w others : Uses) (Q : Clash → Bool) → Covers (with_use u (with_use v w)) P a b s t
-    → Leaves others Q (with_use u (with_use v (with_use w others))) (λ clash. P clash || Q clash) a b s t
-leaves_three {a} {b} u v w others Q p =
-    record {
-      uses =
-          ap (λ x. with_use x others) p.adds.is ∙ use_assoc (uses_in a) (with_use u (with_use v w)) others
-          ∙ ap (λ x. with_use (uses_in a) x) (use_assoc u (with_use v w) others ∙ ap (λ x. with_use u x) (use_assoc v w others));
       finds = λ last q. finds_then p.finds q;
     }
 
@@ -229,18 +219,71 @@ pub reception_at : (r q : T.Reception) {a b : List Use} {s f : Option Found} →
     → Covers (uses_of_reception q) (λ clash. clash_in_reception clash q) a b s f
 reception_at r q {a} {b} {s} {f} p e = subst (λ x. Covers (uses_of_reception x) (λ clash. clash_in_reception clash x) a b s f) e p
 
-pub leaves_arm : (others whole it : T.Arms) {a b : List Use} {s f : Option Found} → whole ≡ it → Leaves (uses_of_arms others) (λ clash. clash_in_arms clash others) (uses_of_arms whole) (λ clash. clash_in_arms clash whole) a b s f
-    → Leaves (uses_of_arms others) (λ clash. clash_in_arms clash others) (uses_of_arms it) (λ clash. clash_in_arms clash it) a b s f
-leaves_arm others whole it {a} {b} {s} {f} e p = subst (λ x. Leaves (uses_of_arms others) (λ clash. clash_in_arms clash others) (uses_of_arms x) (λ clash. clash_in_arms clash x) a b s f) e p
+-- ---- a head, and what stands within
 
-pub leaves_choice : (others whole it : T.Choices) {a b : List Use} {s f : Option Found} → whole ≡ it → Leaves (uses_of_choices others) (λ clash. clash_in_choices clash others) (uses_of_choices whole) (λ clash. clash_in_choices clash whole) a b s f
-    → Leaves (uses_of_choices others) (λ clash. clash_in_choices clash others) (uses_of_choices it) (λ clash. clash_in_choices clash it) a b s f
-leaves_choice others whole it {a} {b} {s} {f} e p = subst (λ x. Leaves (uses_of_choices others) (λ clash. clash_in_choices clash others) (uses_of_choices x) (λ clash. clash_in_choices clash x) a b s f) e p
+pub ok_with : {A E : Type 0} (r : Result A E) {P Q : A → Type 0} → IfOk r P → ((x : A) → P x → Q x) → IfOk r Q
+ok_with {A} {E} r {P} {Q} p f = by r p
+  where
+    by : (o : Result A E) → IfOk o P → IfOk o Q
+    by (Ok x) h = f x h
+    by (Err e) h = tt
 
-pub leaves_option : (others whole it : T.Options) {a b : List Use} {s f : Option Found} → whole ≡ it → Leaves (uses_of_options others) (λ clash. clash_in_options clash others) (uses_of_options whole) (λ clash. clash_in_options clash whole) a b s f
-    → Leaves (uses_of_options others) (λ clash. clash_in_options clash others) (uses_of_options it) (λ clash. clash_in_options clash it) a b s f
-leaves_option others whole it {a} {b} {s} {f} e p = subst (λ x. Leaves (uses_of_options others) (λ clash. clash_in_options clash others) (uses_of_options x) (λ clash. clash_in_options clash x) a b s f) e p
+-- nothing stands within
+abbrev pub is_alone : T.Term → Bool
+is_alone T.Skip = true
+is_alone T.Stop = true
+is_alone (T.Assign ts vs) = true
+is_alone (T.Input c ts) = true
+is_alone (T.Output c tag is) = true
+is_alone (T.VariantInput c vs) = false
+is_alone (T.Seq ts) = false
+is_alone (T.Par bs) = false
+is_alone (T.Alt pri arms) = false
+is_alone (T.If cs) = false
+is_alone (T.Case e os) = false
+is_alone (T.While e b) = false
+is_alone (T.Each r b) = false
+is_alone (T.Clear first count) = true
+is_alone (T.Local first value) = true
 
-pub leaves_variant : (others whole it : T.Variants) {a b : List Use} {s f : Option Found} → whole ≡ it → Leaves (uses_of_variants others) (λ clash. clash_in_variants clash others) (uses_of_variants whole) (λ clash. clash_in_variants clash whole) a b s f
-    → Leaves (uses_of_variants others) (λ clash. clash_in_variants clash others) (uses_of_variants it) (λ clash. clash_in_variants clash it) a b s f
-leaves_variant others whole it {a} {b} {s} {f} e p = subst (λ x. Leaves (uses_of_variants others) (λ clash. clash_in_variants clash others) (uses_of_variants x) (λ clash. clash_in_variants clash x) a b s f) e p
+pub alone : (t : T.Term) {a b : List Use} (f : Option Found) → is_alone t ≡ true → Adds a (head_of t) b → Covers (uses_of t) (λ clash. clash_in clash t) a b f f
+alone T.Skip f e h = covers_adds f h
+alone T.Stop f e h = covers_adds f h
+alone (T.Assign ts vs) f e h = covers_adds f h
+alone (T.Input c ts) f e h = covers_adds f h
+alone (T.Output c tag is) f e h = covers_adds f h
+alone (T.VariantInput c vs) f e h = absurd cc
+alone (T.Seq ts) f e h = absurd cc
+alone (T.Par bs) f e h = absurd cc
+alone (T.Alt pri arms) f e h = absurd cc
+alone (T.If cs) f e h = absurd cc
+alone (T.Case c os) f e h = absurd cc
+alone (T.While c b) f e h = absurd cc
+alone (T.Each r b) f e h = absurd cc
+alone (T.Clear first count) f e h = covers_adds f h
+alone (T.Local first value) f e h = covers_adds f h
+
+pub with_within : {A E : Type 0} (r : Result A E) (t u : T.Term) (within : Uses) (P : Clash → Bool) {a b : List Use} (c : List Use) (s f : Option Found) → t ≡ u → with_use (head_of t) within ≡ uses_of t → P ≡ (λ clash. clash_in clash t)
+    → Adds a (head_of u) b → IfOk r (λ _. Covers within P b c s f) → IfOk r (λ _. Covers (uses_of u) (λ clash. clash_in clash u) a c s f)
+with_within r t u within P {a} {b} c s f same uses clashes head ok =
+    let mine : Adds a (head_of t) b = subst (λ x. Adds a (head_of x) b) (sym same) head in
+    ok_with r ok (λ x covers.
+    covers_at t u (subst (λ v. Covers v (λ clash. clash_in clash t) a c s f) uses (subst (λ Q. Covers (with_use (head_of t) within) Q a c s f) clashes (adds_covers mine covers))) same)
+
+-- of a list of arms, choices, options or variants: its first one
+pub leaves_part : {X : Type 0} (U : X → Uses) (C : X → Clash → Bool) (H : X → Uses) (none : X) (whole part : X → X) (within : Uses) (P : Clash → Bool) {a b c : List Use} {s f : Option Found}
+    → ((others : X) → whole others ≡ part others) → ((others : X) → with_use (H (whole none)) (with_use within (U others)) ≡ U (whole others))
+    → ((others : X) → (λ clash. P clash || C others clash) ≡ C (whole others))
+    → Adds a (H (part none)) b → Covers within P b c s f → (others : X) → Leaves (U others) (C others) (U (part others)) (C (part others)) a c s f
+leaves_part U C H none whole part within P {a} {b} {c} {s} {f} same uses clashes head covers others =
+    let mine : Adds a (H (whole none)) b = subst (λ x. Adds a (H x) b) (sym (same none)) head in
+    subst (λ x. Leaves (U others) (C others) (U x) (C x) a c s f) (same others)
+    (subst (λ v. Leaves (U others) (C others) v (C (whole others)) a c s f) (uses others)
+    (subst (λ Q. Leaves (U others) (C others) (with_use (H (whole none)) (with_use within (U others))) Q a c s f) (clashes others)
+    (leaves_two (H (whole none)) within (U others) (C others) (adds_covers mine covers))))
+
+pub ok_part : {X A E : Type 0} (r : Result A E) (U : X → Uses) (C : X → Clash → Bool) (H : X → Uses) (none : X) (whole part : X → X) (within : Uses) (P : Clash → Bool) {a b : List Use} (c : List Use) (s f : Option Found)
+    → ((others : X) → whole others ≡ part others) → ((others : X) → with_use (H (whole none)) (with_use within (U others)) ≡ U (whole others))
+    → ((others : X) → (λ clash. P clash || C others clash) ≡ C (whole others))
+    → Adds a (H (part none)) b → IfOk r (λ _. Covers within P b c s f) → IfOk r (λ _. (others : X) → Leaves (U others) (C others) (U (part others)) (C (part others)) a c s f)
+ok_part r U C H none whole part within P c s f same uses clashes head ok = ok_with r ok (λ x covers. leaves_part U C H none whole part within P same uses clashes head covers)

@@ -1,6 +1,6 @@
 -- Uses sorted, so that the first number of a row that is among them is found at once.
 -- Manual: nothing; this is (own).
-use Rattle.std.specs.Prelude.{Bool, IsTrue, List, None, Option, Some, [], false, max, nat_lt, take, true, ℕ, ◌<◌, ◌≤◌, ◌∷◌, ◌≡◌, ◌||◌, ◌⊎◌}
+use Rattle.std.specs.Prelude.{Bool, List, None, Option, Some, [], false, max, nat_lt, take, true, ℕ, ◌<◌, ◌≤◌, ◌∷◌, ◌≡◌, ◌⊎◌}
 use Rattle.std.specs.List.{All, list_any}
 use Rattle.std.specs.List.Sorted.{IsNonDecreasingBy}
 use Rattle.occ_term.specs.Uses.{Numbers, Uses, empty_set}

@@ -6,6 +6,7 @@
 pub mod checked;
 mod clashes;
 mod expressions;
+mod heads;
 mod index;
 mod noted;
 mod places;

@@ -1,20 +1,18 @@
 //! The uses of a term, and the first clash of the branches of its PARs.
 ghost use Rattle.std.specs.Prelude.{◌≡◌, ◌||◌, IfOk, map};
 ghost use Rattle.occ_term.specs.Terms as terms;
-ghost use Rattle.occ_term.specs.Uses.{with_use, reading, reads_of, reads_of_items, uses_of, uses_of_targets, uses_of_terms, uses_of_branches, uses_of_arms, uses_of_reception, uses_of_variants, uses_of_choices, uses_of_options, input_place, output_place};
-ghost use Rattle.occ_usage.specs.Clashes.{Clash, clash_in, clash_in_terms, clash_in_branches, clash_in_arms, clash_in_reception, clash_in_variants, clash_in_choices, clash_in_options};
-ghost use Rattle.occ_usage.specs.Noted.{Adds, Covers, FindsAfter, Leaves, all_uses, branch_uses, clash_among, clash_within, uses_in};
-ghost use Rattle.occ_term.specs.View.{arm_of, arms_of, branches_of, choice_of, choices_of, items_of, option_of, options_of, place_of, reception_of, targets_of, term_of, terms_of, test_of, variant_of, variants_of};
+ghost use Rattle.occ_term.specs.Uses.{uses_of, uses_of_terms, uses_of_branches, uses_of_arms, uses_of_reception, uses_of_variants, uses_of_choices, uses_of_options};
+ghost use Rattle.occ_usage.specs.Clashes.{clash_in, clash_in_terms, clash_in_branches, clash_in_arms, clash_in_reception, clash_in_variants, clash_in_choices, clash_in_options};
+ghost use Rattle.occ_usage.specs.Noted.{Covers, FindsAfter, Leaves, all_uses, branch_uses, clash_among, clash_within, uses_in};
+ghost use Rattle.occ_term.specs.View.{arm_of, arms_of, branches_of, choice_of, choices_of, option_of, options_of, reception_of, term_of, terms_of, variants_of};
 
 use crate::clashes::first_clash;
-use crate::expressions::{
-    note_clearing, note_declaration, note_declarations, note_expression, note_input, note_items,
-    note_naming, note_output, note_replicator, note_targets,
+use crate::expressions::note_targets;
+use crate::heads::{
+    note_arm_head, note_choice_head, note_head, note_option_head, note_variant_head,
 };
 use crate::noted::{Found, Noted, Use, earlier};
-use occ_term::{
-    Arm, Branch, Choice, Item, Place, Reception, Selection, Target, Term, TermExpr, Variant,
-};
+use occ_term::{Arm, Branch, Choice, Reception, Selection, Term, Variant};
 use sqlite_items::Items;
 use std::alloc::{AllocError, Global};
 
@@ -28,92 +26,24 @@ pub fn note_term(
 ) -> Result<(), AllocError>
     ensures { IfOk result (λ _. Covers (uses_of (term_of term.now)) (λ clash. clash_in clash (term_of term.now)) noted.old.uses noted.new.uses found.old found.new) }
 {
+    note_head(term, noted)?;
     match term {
         Term::Skip => Ok(()),
         Term::Stop => Ok(()),
-        Term::Assign(targets, values) => {
-            note_assignment(targets.as_slice(), values.as_slice(), noted)?;
-            Ok(())
-        }
-        Term::Input(channel, targets) => {
-            note_input_to(channel, targets.as_slice(), noted)?;
-            Ok(())
-        }
-        Term::Output(channel, _, items) => {
-            note_output_of(channel, items.as_slice(), noted)?;
-            Ok(())
-        }
-        Term::VariantInput(channel, variants) => {
-            note_input(channel, noted)?;
-            note_variants(alloc, variants.as_slice(), noted, found)?;
-            Ok(())
-        }
-        Term::Seq(parts) => {
-            note_terms(alloc, parts.as_slice(), noted, found)?;
-            Ok(())
-        }
-        Term::Par(branches) => {
-            let lists = uses_of_each(alloc, branches.as_slice(), noted, found)?;
-            note_lists(alloc, &lists, noted, found)?;
-            Ok(())
-        }
-        Term::Alt(_, arms) => {
-            note_arms(alloc, arms.as_slice(), noted, found)?;
-            Ok(())
-        }
-        Term::If(choices) => {
-            note_choices(alloc, choices.as_slice(), noted, found)?;
-            Ok(())
-        }
-        Term::Case(selector, options) => {
-            note_expression(selector, noted)?;
-            note_options(alloc, options.as_slice(), noted, found)?;
-            Ok(())
-        }
-        Term::While(test, body) => {
-            note_expression(test, noted)?;
-            note_term(alloc, body.get(), noted, found)?;
-            Ok(())
-        }
-        Term::Each(over, body) => {
-            note_replicator(over, noted)?;
-            note_term(alloc, body.get(), noted, found)?;
-            Ok(())
-        }
-        Term::Clear(line, first, count) => {
-            note_clearing(*line, *first, *count, noted)?;
-            Ok(())
-        }
-        Term::Local(line, first, value) => {
-            note_naming(*line, *first, value, noted)?;
-            Ok(())
-        }
+        Term::Assign(_, _) => Ok(()),
+        Term::Input(_, _) => Ok(()),
+        Term::Output(_, _, _) => Ok(()),
+        Term::VariantInput(_, variants) => note_variants(alloc, variants.as_slice(), noted, found),
+        Term::Seq(parts) => note_terms(alloc, parts.as_slice(), noted, found),
+        Term::Par(branches) => note_branches(alloc, branches.as_slice(), noted, found),
+        Term::Alt(_, arms) => note_arms(alloc, arms.as_slice(), noted, found),
+        Term::If(choices) => note_choices(alloc, choices.as_slice(), noted, found),
+        Term::Case(_, options) => note_options(alloc, options.as_slice(), noted, found),
+        Term::While(_, body) => note_term(alloc, body.get(), noted, found),
+        Term::Each(_, body) => note_term(alloc, body.get(), noted, found),
+        Term::Clear(_, _, _) => Ok(()),
+        Term::Local(_, _, _) => Ok(()),
     }
-}
-
-/// The targets stand first, and so are told first.
-fn note_assignment(targets: &[Target], values: &[Item], noted: &mut Noted) -> Result<(), AllocError>
-    ensures { IfOk result (λ _. Adds noted.old.uses (with_use (reading (reads_of_items (items_of values.now))) (uses_of_targets (targets_of targets.now))) noted.new.uses) }
-{
-    note_targets(targets, noted)?;
-    note_items(values, noted)?;
-    Ok(())
-}
-
-fn note_input_to(channel: &Place, targets: &[Target], noted: &mut Noted) -> Result<(), AllocError>
-    ensures { IfOk result (λ _. Adds noted.old.uses (with_use (input_place (place_of channel.now)) (uses_of_targets (targets_of targets.now))) noted.new.uses) }
-{
-    note_input(channel, noted)?;
-    note_targets(targets, noted)?;
-    Ok(())
-}
-
-fn note_output_of(channel: &Place, items: &[Item], noted: &mut Noted) -> Result<(), AllocError>
-    ensures { IfOk result (λ _. Adds noted.old.uses (with_use (output_place (place_of channel.now)) (reading (reads_of_items (items_of items.now)))) noted.new.uses) }
-{
-    note_output(channel, noted)?;
-    note_items(items, noted)?;
-    Ok(())
 }
 
 #[cycle(walk)]
@@ -128,6 +58,21 @@ fn note_terms(
     for part in parts {
         note_term(alloc, part, noted, found)?;
     }
+    Ok(())
+}
+
+/// The uses of all branches, and the first clash within one of them, or of one with an earlier one.
+#[cycle(walk)]
+fn note_branches(
+    alloc: Global,
+    branches: &[Branch],
+    noted: &mut Noted,
+    found: &mut Option<Found>,
+) -> Result<(), AllocError>
+    ensures { IfOk result (λ _. Covers (uses_of_branches (branches_of branches.now)) (λ clash. clash_in_branches clash (branches_of branches.now)) noted.old.uses noted.new.uses found.old found.new) }
+{
+    let lists = uses_of_each(alloc, branches, noted, found)?;
+    note_lists(alloc, &lists, noted, found)?;
     Ok(())
 }
 
@@ -183,16 +128,6 @@ fn note_arms(
     Ok(())
 }
 
-// an arm without a Boolean reads nothing for it
-fn note_test(test: &Option<TermExpr>, noted: &mut Noted) -> Result<(), AllocError>
-    ensures { IfOk result (λ _. Adds noted.old.uses (reading (reads_of (terms.tested (test_of test.now)))) noted.new.uses) }
-{
-    match test {
-        None => Ok(()),
-        Some(test) => note_expression(test, noted),
-    }
-}
-
 #[cycle(walk)]
 fn note_arm(
     alloc: Global,
@@ -202,28 +137,12 @@ fn note_arm(
 ) -> Result<(), AllocError>
     ensures { IfOk result (λ _. (others : terms.Arms) → Leaves (uses_of_arms others) (λ clash. clash_in_arms clash others) (uses_of_arms (arm_of arm.now others)) (λ clash. clash_in_arms clash (arm_of arm.now others)) noted.old.uses noted.new.uses found.old found.new) }
 {
+    note_arm_head(arm, noted)?;
     match arm {
-        Arm::SkipArm(test, body) => {
-            note_expression(test, noted)?;
-            note_term(alloc, body, noted, found)?;
-            Ok(())
-        }
-        Arm::InputArm(test, channel, list) => {
-            note_test(test, noted)?;
-            note_input(channel, noted)?;
-            note_reception(alloc, list, noted, found)?;
-            Ok(())
-        }
-        Arm::DeclaredArms(declaration, within) => {
-            note_declaration(declaration, noted)?;
-            note_arms(alloc, within.as_slice(), noted, found)?;
-            Ok(())
-        }
-        Arm::EachArm(over, within) => {
-            note_replicator(over, noted)?;
-            note_arms(alloc, within.as_slice(), noted, found)?;
-            Ok(())
-        }
+        Arm::SkipArm(_, body) => note_term(alloc, body, noted, found),
+        Arm::InputArm(_, _, list) => note_reception(alloc, list, noted, found),
+        Arm::DeclaredArms(_, within) => note_arms(alloc, within.as_slice(), noted, found),
+        Arm::EachArm(_, within) => note_arms(alloc, within.as_slice(), noted, found),
     }
 }
 
@@ -239,13 +158,9 @@ fn note_reception(
     match list {
         Reception::Plain(targets, body) => {
             note_targets(targets.as_slice(), noted)?;
-            note_term(alloc, body, noted, found)?;
-            Ok(())
+            note_term(alloc, body, noted, found)
         }
-        Reception::Tagged(variants) => {
-            note_variants(alloc, variants.as_slice(), noted, found)?;
-            Ok(())
-        }
+        Reception::Tagged(variants) => note_variants(alloc, variants.as_slice(), noted, found),
     }
 }
 
@@ -259,8 +174,7 @@ fn note_variants(
     ensures { IfOk result (λ _. Covers (uses_of_variants (variants_of variants.now)) (λ clash. clash_in_variants clash (variants_of variants.now)) noted.old.uses noted.new.uses found.old found.new) }
 {
     for variant in variants {
-        note_declarations(variant.declarations.as_slice(), noted)?;
-        note_targets(variant.targets.as_slice(), noted)?;
+        note_variant_head(variant, noted)?;
         note_term(alloc, &variant.body, noted, found)?;
     }
     Ok(())
@@ -290,22 +204,11 @@ fn note_choice(
 ) -> Result<(), AllocError>
     ensures { IfOk result (λ _. (others : terms.Choices) → Leaves (uses_of_choices others) (λ clash. clash_in_choices clash others) (uses_of_choices (choice_of choice.now others)) (λ clash. clash_in_choices clash (choice_of choice.now others)) noted.old.uses noted.new.uses found.old found.new) }
 {
+    note_choice_head(choice, noted)?;
     match choice {
-        Choice::When(test, body) => {
-            note_expression(test, noted)?;
-            note_term(alloc, body, noted, found)?;
-            Ok(())
-        }
-        Choice::DeclaredChoices(declaration, within) => {
-            note_declaration(declaration, noted)?;
-            note_choices(alloc, within.as_slice(), noted, found)?;
-            Ok(())
-        }
-        Choice::EachChoice(over, within) => {
-            note_replicator(over, noted)?;
-            note_choices(alloc, within.as_slice(), noted, found)?;
-            Ok(())
-        }
+        Choice::When(_, body) => note_term(alloc, body, noted, found),
+        Choice::DeclaredChoices(_, within) => note_choices(alloc, within.as_slice(), noted, found),
+        Choice::EachChoice(_, within) => note_choices(alloc, within.as_slice(), noted, found),
     }
 }
 
@@ -333,16 +236,9 @@ fn note_option(
 ) -> Result<(), AllocError>
     ensures { IfOk result (λ _. (others : terms.Options) → Leaves (uses_of_options others) (λ clash. clash_in_options clash others) (uses_of_options (option_of option.now others)) (λ clash. clash_in_options clash (option_of option.now others)) noted.old.uses noted.new.uses found.old found.new) }
 {
+    note_option_head(option, noted)?;
     match option {
-        Selection::Among(_, declarations, body) => {
-            note_declarations(declarations.as_slice(), noted)?;
-            note_term(alloc, body, noted, found)?;
-            Ok(())
-        }
-        Selection::Otherwise(declarations, body) => {
-            note_declarations(declarations.as_slice(), noted)?;
-            note_term(alloc, body, noted, found)?;
-            Ok(())
-        }
+        Selection::Among(_, _, body) => note_term(alloc, body, noted, found),
+        Selection::Otherwise(_, body) => note_term(alloc, body, noted, found),
     }
 }

@@ -1,4 +1,4 @@
-use Rattle.std.proofs.Common.{◌≡◌, refl, sym, ap, ◌∙◌}
+use Rattle.std.proofs.Common.{refl, sym, ap, ◌∙◌}
 use Rattle.occ_usage.specs.Clashes.{clashes}
 use Rattle.occ_usage.specs.Noted.{breaking}
 use Rattle.occ_term.specs.View.{term_of}

@@ -1,4 +1,4 @@
-use Rattle.std.proofs.Common.{◌≡◌, List, sym, ap, ◌∙◌, subst}
+use Rattle.std.proofs.Common.{◌≡◌, List, ap, ◌∙◌, subst}
 use Rattle.occ_term.specs.Uses.{Uses, uses_of, with_use}
 use Rattle.occ_usage.specs.Clashes.{Clash}
 use Rattle.occ_usage.specs.Noted.{Finds, uses_in}

@@ -1,4 +1,4 @@
-use Rattle.std.proofs.Common.{◌≡◌, List, sym, ap, ◌∙◌}
+use Rattle.std.proofs.Common.{List, sym, ap, ◌∙◌}
 use Rattle.occ_term.specs.Uses.{Numbers, inputting, only, outputting, with_use}
 use Rattle.occ_usage.specs.Noted.{between, uses_in}
 use Rattle.occ_usage.specs.declared.noted.Use.{Use}

@@ -1,4 +1,4 @@
-use Rattle.std.proofs.Common.{◌≡◌, ℕ, get_or, ap, sym, ◌∙◌, subst}
+use Rattle.std.proofs.Common.{◌≡◌, ℕ, get_or, ap, sym, ◌∙◌}
 use Rattle.std.specs.Prelude.{false, true}
 use Rattle.occ_term.specs.Uses.{Uses}
 use Rattle.occ_usage.specs.Noted.{breaking, uses_in}

@@ -1,8 +1,8 @@
 use Rattle.std.proofs.Common.{◌≡◌, ap, map, refl, rules}
-use Rattle.occ_term.specs.Uses.{Numbers, reading, reads_of, reads_in_place, reads_in_subscripts, union}
+use Rattle.occ_term.specs.Uses.{reading, reads_of, reads_in_place, reads_in_subscripts, union}
 use Rattle.occ_term.specs.View.{expression_of, place_of, subscripts}
 use Rattle.occ_term.specs.declared.expression.TermExpr.{the_lemmas}
-use Rattle.occ_usage.proofs.UseSets.{adds_as, adds_then, left_first, left_next, left_none}
+use Rattle.occ_usage.proofs.UseSets.{adds_as, adds_then, left_next, left_none}
 use Rattle.occ_usage.proofs.expressions.+reads.Goals as goal
 
 pub note_expression-returns-in_ok-note_expression-in-Binary-2 : goal.note_expression-returns-in_ok-note_expression-in-Binary-2

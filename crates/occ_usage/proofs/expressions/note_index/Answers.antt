@@ -1,5 +1,5 @@
 use Rattle.std.proofs.Common.{sym, ◌∙◌, ap}
-use Rattle.occ_term.specs.Uses.{Numbers, writing, numbers_in}
+use Rattle.occ_term.specs.Uses.{writing, numbers_in}
 use Rattle.occ_term.specs.Values.{span}
 use Rattle.occ_usage.proofs.UseSets.{adds_as, only_between}
 use Rattle.occ_usage.proofs.expressions.note_index.Goals as goal

@@ -1,4 +1,4 @@
-use Rattle.std.proofs.Common.{◌≡◌, ◌*◌, ◌+◌, drop, get_or, min, ap, sym, ◌∙◌}
+use Rattle.std.proofs.Common.{◌*◌, ◌+◌, drop, min, ap, sym, ◌∙◌}
 use Rattle.occ_term.specs.Messages.{product}
 use Rattle.occ_term.proofs.Saturating.{saturates}
 use Rattle.occ_usage.proofs.Rows.{product_next}

@@ -1,4 +1,4 @@
-use Rattle.std.proofs.Common.{◌≡◌, ◌<◌, get_or, length, ap, subst, sym, ◌∙◌}
+use Rattle.std.proofs.Common.{◌<◌, get_or, length, ap, subst, sym, ◌∙◌}
 use Rattle.occ_usage.proofs.Rows.{names_next}
 use Rattle.occ_usage.proofs.places.named.Goals as goal
 

@@ -1,8 +1,6 @@
-use Rattle.std.proofs.Common.{◌≡◌, ◌++◌, drop, map}
 use Rattle.occ_term.specs.Uses.{uses_of_terms, uses_of_arms, uses_of_variants, uses_of_choices, uses_of_options}
 use Rattle.occ_usage.specs.Clashes.{clash_in_terms, clash_in_arms, clash_in_variants, clash_in_choices, clash_in_options}
-use Rattle.occ_usage.specs.Noted.{branch_uses, clash_within, uses_in}
-use Rattle.occ_term.specs.View.{terms_of, branches_of, arms_of, variants_of, choices_of, options_of}
+use Rattle.occ_term.specs.View.{terms_of, arms_of, variants_of, choices_of, options_of}
 use Rattle.occ_usage.proofs.Walks.{Each, Rest}
 use Rattle.occ_usage.proofs.terms.+walk.Given as goal
 

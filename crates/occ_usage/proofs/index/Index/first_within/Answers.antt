@@ -1,6 +1,4 @@
-use Rattle.std.proofs.Common.{◌≡◌, ℕ, ◌<◌, ◌≤◌, length, get_or, refl, sym, ap, ◌∙◌, subst, arith}
-use Rattle.std.specs.Prelude.{false}
-use Rattle.occ_usage.specs.Indexes.{reaches}
+use Rattle.std.proofs.Common.{◌≡◌, ◌<◌, length, get_or, sym, ap, ◌∙◌, arith}
 use Rattle.occ_usage.specs.declared.index.Span.{Span}
 use Rattle.occ_usage.proofs.Reaches.{covered_begun, covered_item, later_from, none_covered, within_none, within_some}
 use Rattle.occ_usage.proofs.index.Index.first_within.Goals as goal

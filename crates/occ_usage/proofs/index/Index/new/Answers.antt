@@ -1,4 +1,4 @@
-use Rattle.std.proofs.Common.{◌<◌, arith, rules, ap, ◌∙◌, subst}
+use Rattle.std.proofs.Common.{◌<◌, rules, ap, ◌∙◌}
 use Rattle.std.proofs.lemmas.List.Sorted.{IsNonDecreasingBy-from_sort_by_key, All-permutation}
 use Rattle.occ_usage.specs.declared.index.Span.{Span}
 use Rattle.occ_usage.specs.Indexes.{furthest}

@@ -1,4 +1,4 @@
-use Rattle.std.proofs.Common.{◌≡◌, ℕ, suc, ◌-◌, ◌<◌, get_or, length, nat_lt, ap, ◌∙◌, arith}
+use Rattle.std.proofs.Common.{◌≡◌, suc, ◌-◌, ◌<◌, get_or, length, nat_lt, ap, ◌∙◌, arith}
 use Rattle.occ_usage.specs.Indexes.{furthest, reaches}
 use Rattle.occ_usage.proofs.Reaches.{length-furthest, reaches_at}
 use Rattle.occ_usage.proofs.UseSets.{item_at}

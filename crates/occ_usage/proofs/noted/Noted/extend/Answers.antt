@@ -1,5 +1,5 @@
 use Rattle.std.proofs.Common.{get_or, refl}
-use Rattle.occ_usage.specs.Noted.{uses_in, use_of, between}
+use Rattle.occ_usage.specs.Noted.{use_of, between}
 use Rattle.occ_usage.specs.declared.noted.Use.{Use}
 use Rattle.occ_usage.specs.declared.noted.Kind.TheVariants.{Read}
 use Rattle.occ_usage.proofs.UseSets.{adds_one, item_at, left_next, left_none}
