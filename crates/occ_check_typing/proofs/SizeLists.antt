@@ -18,7 +18,7 @@ use Rattle.occ_term.specs.declared.protocol.PartType.{PartType}
 use Rattle.occ_term.specs.declared.protocol.Protocol.TheVariants.{Sequential, Variant}
 use Rattle.occ_term.specs.declared.protocol.Tag.{Tag}
 use Rattle.occ_term.specs.declared.primitive.Primitive.TheVariants.{Int}
-use Rattle.occ_term.proofs.Rows.{saturates}
+use Rattle.occ_term.proofs.Saturating.{saturates}
 use Rattle.occ_check_meaning.specs.Scope.{Names, each_of, once}
 use Rattle.occ_check_meaning.specs.Constants.{a_size}
 use Rattle.occ_check_meaning.specs.Expressions.{constant_as}

@@ -4,11 +4,11 @@ use Rattle.std.proofs.Common.{◌≡◌, ℕ, zero, suc, ◌+◌, ◌<◌, ◌�
 use Rattle.std.proofs.Math.Seq.{drop-cons}
 use Rattle.std.proofs.lemmas.Bool.Decides.{nat_tests}
 use Rattle.occ_term.specs.Uses.{Numbers}
-use Rattle.occ_term.specs.Noted.{between, use_of, uses_in}
+use Rattle.occ_usage.specs.Noted.{between, use_of, uses_in}
 use Rattle.occ_term.specs.Frames.{is_held}
-use Rattle.occ_term.specs.declared.usage.noted.Use.{Use}
-use Rattle.occ_term.specs.declared.usage.noted.Kind.{Kind}
-use Rattle.occ_term.specs.declared.usage.noted.Kind.TheVariants.{Read, Write, Input, Output}
+use Rattle.occ_usage.specs.declared.noted.Use.{Use}
+use Rattle.occ_usage.specs.declared.noted.Kind.{Kind}
+use Rattle.occ_usage.specs.declared.noted.Kind.TheVariants.{Read, Write, Input, Output}
 use Rattle.occ_code.proofs.Emitting.{drop_all}
 use Rattle.occ_code.specs.Alike.{AreAbove, IsRising, Lists}
 use Rattle.occ_code.specs.Sequential.Cells.{is_counted, counted, covers, end_of, furthest, reach, AreEnds, AreReached}

@@ -10,9 +10,9 @@ use Rattle.occ_term.specs.declared.names.Channel.{Channel}
 use Rattle.occ_term.specs.declared.primitive.Primitive.TheVariants.{Byte}
 use Rattle.occ_term.specs.declared.protocol.Protocol.{Protocol}
 use Rattle.occ_term.specs.declared.protocol.Protocol.TheVariants.{Simple}
-use Rattle.occ_term.specs.declared.usage.UsageFault.{UsageFault}
-use Rattle.occ_term.specs.declared.usage.UsageFault.TheVariants as usage
-use Rattle.occ_term.specs.Refusals.{UsageRefuses}
+use Rattle.occ_usage.specs.declared.checked.UsageFault.{UsageFault}
+use Rattle.occ_usage.specs.declared.checked.UsageFault.TheVariants as usage
+use Rattle.occ_usage.specs.Refusals.{UsageRefuses}
 use Rattle.occ_term.specs.System.{HaltMode}
 use Rattle.occ_term.specs.Runs.{communications, entries, messages_on, shown, shown_by, EndsBy}
 use Rattle.occ_term.specs.Unfolding.{Unfolding, IsWellFormed, declared, Lawful}

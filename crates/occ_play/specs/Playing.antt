@@ -10,10 +10,10 @@ use Rattle.occ_tree_grammar.specs.Processes.Shown.{show_program}
 use Rattle.occ_tree_grammar.specs.Processes.Fits.{InBounds}
 use Rattle.occ_tree_grammar.specs.declared.fault.ParseFault.{ParseFault}
 use Rattle.occ_tree_grammar.specs.declared.fault.ParseFault.TheVariants as tree
-use Rattle.occ_term.specs.declared.usage.UsageFault.{UsageFault}
-use Rattle.occ_term.specs.declared.usage.UsageFault.TheVariants as usage
+use Rattle.occ_usage.specs.declared.checked.UsageFault.{UsageFault}
+use Rattle.occ_usage.specs.declared.checked.UsageFault.TheVariants as usage
 use Rattle.occ_term.specs.Sizes.{size_of}
-use Rattle.occ_term.specs.Refusals.{UsageRefuses}
+use Rattle.occ_usage.specs.Refusals.{UsageRefuses}
 use Rattle.occ_term.specs.Unfolding.{Unfolding, declared, meaning, IsWellFormed, Lawful}
 use Rattle.occ_term.specs.System.{System, start, HaltMode}
 use Rattle.occ_term.specs.Runs.{Event, Run, communications, shown, EndsBy}

@@ -4,9 +4,9 @@ ghost use Rattle.std.specs.Prelude.{◌≡◌};
 
 use occ_check::CheckFault;
 use occ_code::CodeFault;
-use occ_term::UsageFault;
 use occ_text::TextFault;
 use occ_tree_grammar::ParseFault;
+use occ_usage::UsageFault;
 use std::alloc::AllocError;
 use thiserror::Error;
 

@@ -15,10 +15,11 @@ use occ_net_replay::{Choice, Ending};
 use occ_net_tables::{Outcome, run};
 use occ_play_inputs::Words;
 use occ_shown::{Counted, answer, write_answer};
-use occ_term::{Checked, Refused, Unfolded, UsageFault, check_usage};
+use occ_term::Unfolded;
 use occ_text::{TextFault, read_lines};
 use occ_tree::parse;
 use occ_tree_grammar::ParseFault;
+use occ_usage::{Checked, Refused, UsageFault, check_usage};
 use std::alloc::Global;
 use std::io::Write;
 

@@ -7,12 +7,7 @@ pub mod OneResult
 pub mod LawfulTerms
 pub mod Meetings
 pub mod WorkedRuns
-pub mod UseSets
-pub mod Rows
-pub mod Walks
-pub mod Reaches
-pub mod Branches
-pub mod Unlawful
+pub mod Saturating
 pub mod Words
 pub mod Bounds
 pub mod TypedOperators

@@ -18,10 +18,7 @@ pub mod StepUses
 pub mod ReadUses
 pub mod View
 pub mod Unfolding
-pub mod Clashes
-pub mod Noted
-pub mod Indexes
-pub mod Refusals
+pub mod ConstantValues
 pub mod Sizes
 pub mod Processes
 pub mod Examples

@@ -1,9 +1,10 @@
-//! What a program means: messages, terms, values, private steps, communication, runs, and the usage rules.
+//! What a program means: messages, terms, values, private steps, communication and runs, and when a program keeps the usage rules.
 //!
 //! The definitions stand in `specs/`, over pure data. This crate's types are seen through them.
 #![tactic(auto)]
 
 pub mod alt_rows;
+pub mod constant;
 pub mod expression;
 pub mod fault;
 pub mod first_rows;
@@ -20,10 +21,10 @@ pub mod primitive;
 pub mod protocol;
 pub mod term;
 pub mod unfolded;
-pub mod usage;
 pub mod value;
 pub mod worked_rows;
 
+pub use constant::{NoValue, constant_value};
 pub use expression::{
     Array, Declaration, Item, Monadic, Operator, Place, Replicator, Target, TermExpr,
 };
@@ -36,7 +37,4 @@ pub use primitive::{Prim, Primitive};
 pub use protocol::{PartType, Protocol, Tag};
 pub use term::{Arm, Branch, Choice, Reception, Selection, Term, Variant};
 pub use unfolded::Unfolded;
-pub use usage::{
-    Checked, Kind, NoValue, Refused, UsageFault, Use, check_usage, constant_value, term_uses,
-};
 pub use value::value_of;

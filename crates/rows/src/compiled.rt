@@ -1,9 +1,9 @@
 //! Programs without ALT have code, for every quantum that may be.
 use occ_check::unfold;
 use occ_code::{Code, CodeFault, Instr, compile_for};
-use occ_term::{Checked, check_usage};
 use occ_text::read_lines;
 use occ_tree::parse;
+use occ_usage::{Checked, check_usage};
 use std::alloc::{AllocError, Global};
 use std::process::Abort;
 use std::test::Fail;

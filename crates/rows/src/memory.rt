@@ -2,9 +2,9 @@
 use occ_check::CheckFault;
 use occ_code::CodeFault;
 use occ_play::{Counted, Plan, PlayFault, play, status_of};
-use occ_term::UsageFault;
 use occ_text::TextFault;
 use occ_tree_grammar::ParseFault;
+use occ_usage::UsageFault;
 use std::alloc::Global;
 use std::process::Abort;
 

@@ -2,9 +2,10 @@
 use occ_check::CheckFault;
 use occ_code::CodeFault;
 use occ_play::{Choice, Ending, Plan, PlayFault, Played, status_of};
-use occ_term::{Fault, FaultKind, UsageFault};
+use occ_term::{Fault, FaultKind};
 use occ_text::TextFault;
 use occ_tree_grammar::ParseFault;
+use occ_usage::UsageFault;
 use std::alloc::Global;
 use std::process::Abort;
 use std::test::Fail;

@@ -6,9 +6,10 @@ ghost use Rattle.occ_net_replay.specs.Replay.{first_task};
 use occ_check::unfold;
 use occ_code::{Body, Code, Task, Wait, compile_for};
 use occ_proc::{Scratch, Segment, advance, turn};
-use occ_term::{Checked, Frame, check_usage};
+use occ_term::Frame;
 use occ_text::read_lines;
 use occ_tree::parse;
+use occ_usage::{Checked, check_usage};
 use std::alloc::{AllocError, Global};
 use std::test::Fail;
 

@@ -1,8 +1,9 @@
 //! The layers below a run: the lines of a text, the usage check, and the code of a program.
 use crate::unfolded::{empty_par, letter, stops};
 use occ_code::{Code, CodeFault, Instr, MOST_INSTRUCTIONS, compile};
-use occ_term::{Checked, Item, Primitive, Protocol, Term, TermExpr, Unfolded, check_usage};
+use occ_term::{Item, Primitive, Protocol, Term, TermExpr, Unfolded};
 use occ_text::{Sym, Token, read_lines};
+use occ_usage::{Checked, check_usage};
 use std::alloc::Global;
 use std::process::Abort;
 use std::test::Fail;

@@ -2,11 +2,11 @@
 -- Manual: nothing; this is (own).
 use Rattle.std.specs.Prelude.{Bool, List, [], false, if◌then◌else◌, length, max, nat_lt, not, suc, true, zero, ℕ, ◌&&◌, ◌+◌, ◌≤◌, ◌||◌, ◌∷◌, ◌≡◌}
 use Rattle.occ_term.specs.Uses.{Numbers, Uses}
-use Rattle.occ_term.specs.Noted.{between}
+use Rattle.occ_usage.specs.Noted.{between}
 use Rattle.occ_term.specs.Frames.{is_held}
-use Rattle.occ_term.specs.declared.usage.noted.Use.{Use}
-use Rattle.occ_term.specs.declared.usage.noted.Kind.{Kind}
-use Rattle.occ_term.specs.declared.usage.noted.Kind.TheVariants.{Read, Write, Input, Output}
+use Rattle.occ_usage.specs.declared.noted.Use.{Use}
+use Rattle.occ_usage.specs.declared.noted.Kind.{Kind}
+use Rattle.occ_usage.specs.declared.noted.Kind.TheVariants.{Read, Write, Input, Output}
 use Rattle.occ_code.specs.Alike.{IsRising, used_by}
 
 -- what is written, or what is read as well

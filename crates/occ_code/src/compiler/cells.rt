@@ -1,11 +1,11 @@
 //! The cells that a process uses, and those that it writes.
 ghost use Rattle.std.specs.Prelude.{◌≡◌, ◌∷◌, [], ◌++◌, ◌<◌, ◌≤◌, IfOk, OnOk, get_or, if◌then◌else◌, List, length, max, nat_lt, set};
-ghost use Rattle.occ_term.specs.Noted.{uses_in};
-ghost use Rattle.occ_term.specs.declared.usage.noted.Use.{Use};
+ghost use Rattle.occ_usage.specs.Noted.{uses_in};
+ghost use Rattle.occ_usage.specs.declared.noted.Use.{Use};
 ghost use Rattle.occ_code.specs.Alike.{Lists};
 ghost use Rattle.occ_code.specs.Sequential.Cells.{AreEnds, AreReached, counted, covers, end_of, furthest, is_counted as is_counted_use};
 
-use occ_term::{Kind, Use};
+use occ_usage::{Kind, Use};
 use std::alloc::{AllocError, Global};
 
 /// How many cells a program may have.

@@ -9,7 +9,8 @@ ghost use Rattle.occ_code.specs.Sequential.Compiled as compiled;
 
 use crate::compiler::body::Body;
 use crate::compiler::processes::bodies_of;
-use occ_term::{Channel, Checked, Term};
+use occ_term::{Channel, Term};
+use occ_usage::Checked;
 use std::alloc::{AllocError, AllocFailed, Global};
 use std::marker::Model;
 use std::sync::Arc;

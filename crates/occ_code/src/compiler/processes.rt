@@ -16,7 +16,8 @@ use crate::compiler::instr::Instr;
 use crate::compiler::pieces::put;
 use crate::compiler::places::name_places;
 use crate::compiler::statements::emit_term;
-use occ_term::{Arm, Branch, Choice, Reception, Selection, Term, Variant, term_uses};
+use occ_term::{Arm, Branch, Choice, Reception, Selection, Term, Variant};
+use occ_usage::term_uses;
 use std::alloc::{AllocError, Global};
 use std::sync::Arc;
 

@@ -1,6 +1,6 @@
 use Rattle.std.specs.Prelude.{◌&&◌, ◌||◌}
 use Rattle.std.proofs.Common.{◌≡◌, ◌∙◌, true, sym, subst, length}
-use Rattle.occ_term.specs.Noted.{between}
+use Rattle.occ_usage.specs.Noted.{between}
 use Rattle.occ_code.specs.Sequential.Cells.{AreEnds, covers, is_counted}
 use Rattle.occ_code.proofs.CellRows.{noted_ends}
 use Rattle.occ_code.proofs.compiler.cells.note_use.Goals as goal

@@ -1,5 +1,0 @@
-use Rattle.std.proofs.Common.{length}
-use Rattle.occ_term.proofs.usage.clashes.+first_clash.Given as goal
-
-abbrev pub decreases-first_clash : goal.decreases-first_clash
-decreases-first_clash l = length l.lists.now

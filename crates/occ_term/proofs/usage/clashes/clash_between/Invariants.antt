@@ -1,6 +1,0 @@
-use Rattle.occ_term.specs.Noted.{uses_in}
-use Rattle.occ_term.proofs.Branches.{Scan}
-use Rattle.occ_term.proofs.usage.clashes.clash_between.Given as goal
-
-abbrev pub invariant-loop-one : goal.invariant-loop-one
-invariant-loop-one l = Scan (uses_in l.left) l.right l.one-index

@@ -1,8 +1,0 @@
-use Rattle.std.proofs.Common.{sym, ◌∙◌, ap}
-use Rattle.occ_term.specs.Uses.{Numbers, reading, numbers_in}
-use Rattle.occ_term.specs.Values.{span}
-use Rattle.occ_term.proofs.UseSets.{adds_as, only_between}
-use Rattle.occ_term.proofs.usage.expressions.note_cell.Goals as goal
-
-pub returns : goal.returns
-returns c = adds_as c.in_ok-note_row.ensures (ap (λ n. reading (numbers_in (span n 1))) c.from.ensures ∙ ap reading (sym (only_between c.args.cell)))

@@ -1,5 +1,0 @@
-use Rattle.std.proofs.Common.{rules}
-use Rattle.occ_term.proofs.usage.fault_of.Goals as goal
-
-pub returns-in-Inputs : goal.returns-in-Inputs
-returns-in-Inputs c = search rules

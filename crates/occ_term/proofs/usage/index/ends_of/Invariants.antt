@@ -1,6 +1,0 @@
-use Rattle.std.proofs.Common.{◌≡◌, ◌++◌, drop}
-use Rattle.occ_term.specs.Indexes.{furthest}
-use Rattle.occ_term.proofs.usage.index.ends_of.Given as goal
-
-abbrev pub invariant-loop-span : goal.invariant-loop-span
-invariant-loop-span l = l.ends.items ++ furthest l.furthest (drop l.span-index l.spans) ≡ furthest 0 l.spans

@@ -1,5 +1,0 @@
-use Rattle.occ_term.proofs.UseSets.{adds_before}
-use Rattle.occ_term.proofs.usage.terms.note_assignment.Goals as goal
-
-pub returns : goal.returns
-returns c = adds_before c.in_ok-note_targets.ensures c.in_ok-note_items.ensures

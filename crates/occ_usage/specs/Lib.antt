@@ -1,0 +1,5 @@
+pub mod Clashes
+pub mod Noted
+pub mod Indexes
+pub mod Heads
+pub mod Refusals

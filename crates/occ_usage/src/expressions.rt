@@ -1,0 +1,237 @@
+//! The uses of expressions, items, targets and declarations.
+ghost use Rattle.std.specs.Prelude.{◌≡◌, IfOk, map};
+ghost use Rattle.occ_term.specs.Uses.{with_use, reading, reads_of, reads_in_place, reads_in_subscripts, named_by, reads_of_array, reads_of_item, reads_of_items, uses_of_target, uses_of_targets, uses_of_declaration, uses_of_declarations, uses_of_replicator, union, written_place, input_place, output_place, only, writing, numbers_in};
+ghost use Rattle.occ_term.specs.Terms.{Clearing, Naming};
+ghost use Rattle.occ_term.specs.Values.{span};
+ghost use Rattle.occ_usage.specs.Noted.{use_of, Adds};
+ghost use Rattle.occ_term.specs.View.{expression_of, place_of, subscripts, array_of, item_of, items_of, target_of, targets_of, declaration_of, declarations_of, replicator_of};
+
+use crate::noted::{Kind, Noted};
+use crate::places::{cells_of, named};
+use occ_term::{Array, Declaration, Item, Place, Replicator, Target, TermExpr};
+use std::alloc::AllocError;
+
+#[cycle(reads)]
+pub fn note_expression(e: &TermExpr, noted: &mut Noted) -> Result<(), AllocError>
+    ensures { IfOk result (λ _. Adds noted.old.uses (reading (reads_of (expression_of e.now))) noted.new.uses) }
+{
+    match e {
+        TermExpr::Constant(_) => Ok(()),
+        TermExpr::Cell(line, cell) => note_cell(*line, *cell, noted),
+        TermExpr::Component(place) => note_value(place, noted),
+        TermExpr::Letter(_, _, subscript) => note_expression(subscript.get(), noted),
+        TermExpr::Binary(_, _, _, left, right) => {
+            note_expression(left.get(), noted)?;
+            note_expression(right.get(), noted)?;
+            Ok(())
+        }
+        TermExpr::Unary(_, _, _, operand) => note_expression(operand.get(), noted),
+        TermExpr::And(left, right) => {
+            note_expression(left.get(), noted)?;
+            note_expression(right.get(), noted)?;
+            Ok(())
+        }
+        TermExpr::Or(left, right) => {
+            note_expression(left.get(), noted)?;
+            note_expression(right.get(), noted)?;
+            Ok(())
+        }
+        TermExpr::Conversion(_, _, operand) => note_expression(operand.get(), noted),
+    }
+}
+
+/// The value of a place: what it names is read, and what its subscripts read.
+#[cycle(reads)]
+fn note_value(place: &Place, noted: &mut Noted) -> Result<(), AllocError>
+    ensures { IfOk result (λ _. Adds noted.old.uses (reading (union (named_by (place_of place.now)) (reads_in_place (place_of place.now)))) noted.new.uses) }
+{
+    note_place(Kind::Read, place, noted)?;
+    Ok(())
+}
+
+/// What the place names, used so, and then what its subscripts read.
+#[cycle(reads)]
+pub fn note_place(kind: Kind, place: &Place, noted: &mut Noted) -> Result<(), AllocError>
+    ensures { IfOk result (λ _. Adds noted.old.uses (with_use (use_of kind (named_by (place_of place.now))) (reading (reads_in_place (place_of place.now)))) noted.new.uses) }
+{
+    note_named(kind, place, noted)?;
+    note_subscripts(place.subscripts.as_slice(), noted)?;
+    Ok(())
+}
+
+#[cycle(reads)]
+fn note_subscripts(list: &[TermExpr], noted: &mut Noted) -> Result<(), AllocError>
+    ensures { IfOk result (λ _. Adds noted.old.uses (reading (reads_in_subscripts (subscripts (map expression_of list.now)))) noted.new.uses) }
+{
+    for subscript in list {
+        note_expression(subscript, noted)?;
+    }
+    Ok(())
+}
+
+fn note_cell(line: u32, cell: u32, noted: &mut Noted) -> Result<(), AllocError>
+    ensures { IfOk result (λ _. Adds noted.old.uses (reading (only cell)) noted.new.uses) }
+{
+    note_row(Kind::Read, line, u64::from(cell), 1, noted)?;
+    Ok(())
+}
+
+fn note_named(kind: Kind, place: &Place, noted: &mut Noted) -> Result<(), AllocError>
+    ensures { IfOk result (λ _. Adds noted.old.uses (use_of kind (named_by (place_of place.now))) noted.new.uses) }
+{
+    let row = named(place)?;
+    note_row(kind, place.line, row.first, row.count, noted)?;
+    Ok(())
+}
+
+/// Notes a use of numbers in a row.
+fn note_row(
+    kind: Kind,
+    line: u32,
+    first: u64,
+    count: u64,
+    noted: &mut Noted,
+) -> Result<(), AllocError>
+    ensures { IfOk result (λ _. Adds noted.old.uses (use_of kind (numbers_in (span first count))) noted.new.uses) }
+{
+    match first.checked_add(count) {
+        None => Err(AllocError),
+        Some(end) => noted.push(kind, first, end, line),
+    }
+}
+
+fn note_array(array: &Array, noted: &mut Noted) -> Result<(), AllocError>
+    ensures { IfOk result (λ _. Adds noted.old.uses (reading (reads_of_array (array_of array.now))) noted.new.uses) }
+{
+    match array {
+        Array::Cells(place) => note_value(place, noted),
+        Array::Text(_) => Ok(()),
+    }
+}
+
+fn note_item(item: &Item, noted: &mut Noted) -> Result<(), AllocError>
+    ensures { IfOk result (λ _. Adds noted.old.uses (reading (reads_of_item (item_of item.now))) noted.new.uses) }
+{
+    match item {
+        Item::One(_, value) => note_expression(value, noted),
+        Item::Many(_, array) => note_array(array, noted),
+        Item::Counted(_, _, count, array) => note_counted(count, array, noted),
+    }
+}
+
+fn note_counted(count: &TermExpr, array: &Array, noted: &mut Noted) -> Result<(), AllocError>
+    ensures { IfOk result (λ _. Adds noted.old.uses (reading (union (reads_of (expression_of count.now)) (reads_of_array (array_of array.now)))) noted.new.uses) }
+{
+    note_expression(count, noted)?;
+    note_array(array, noted)?;
+    Ok(())
+}
+
+pub fn note_items(items: &[Item], noted: &mut Noted) -> Result<(), AllocError>
+    ensures { IfOk result (λ _. Adds noted.old.uses (reading (reads_of_items (items_of items.now))) noted.new.uses) }
+{
+    for item in items {
+        note_item(item, noted)?;
+    }
+    Ok(())
+}
+
+fn note_target(target: &Target, noted: &mut Noted) -> Result<(), AllocError>
+    ensures { IfOk result (λ _. Adds noted.old.uses (uses_of_target (target_of target.now)) noted.new.uses) }
+{
+    match target {
+        Target::Into(place) => note_written(place, noted),
+        Target::IntoCounted(_, count, array) => note_both_written(count, array, noted),
+    }
+}
+
+fn note_written(place: &Place, noted: &mut Noted) -> Result<(), AllocError>
+    ensures { IfOk result (λ _. Adds noted.old.uses (written_place (place_of place.now)) noted.new.uses) }
+{
+    note_place(Kind::Write, place, noted)?;
+    Ok(())
+}
+
+fn note_both_written(count: &Place, array: &Place, noted: &mut Noted) -> Result<(), AllocError>
+    ensures { IfOk result (λ _. Adds noted.old.uses (with_use (written_place (place_of count.now)) (written_place (place_of array.now))) noted.new.uses) }
+{
+    note_place(Kind::Write, count, noted)?;
+    note_place(Kind::Write, array, noted)?;
+    Ok(())
+}
+
+pub fn note_input(channel: &Place, noted: &mut Noted) -> Result<(), AllocError>
+    ensures { IfOk result (λ _. Adds noted.old.uses (input_place (place_of channel.now)) noted.new.uses) }
+{
+    note_place(Kind::Input, channel, noted)?;
+    Ok(())
+}
+
+pub fn note_output(channel: &Place, noted: &mut Noted) -> Result<(), AllocError>
+    ensures { IfOk result (λ _. Adds noted.old.uses (output_place (place_of channel.now)) noted.new.uses) }
+{
+    note_place(Kind::Output, channel, noted)?;
+    Ok(())
+}
+
+pub fn note_targets(targets: &[Target], noted: &mut Noted) -> Result<(), AllocError>
+    ensures { IfOk result (λ _. Adds noted.old.uses (uses_of_targets (targets_of targets.now)) noted.new.uses) }
+{
+    for target in targets {
+        note_target(target, noted)?;
+    }
+    Ok(())
+}
+
+/// A declared variable, which is written where it begins.
+pub fn note_clearing(line: u32, first: u32, count: u32, noted: &mut Noted) -> Result<(), AllocError>
+    ensures { IfOk result (λ _. Adds noted.old.uses (uses_of_declaration (Clearing first count)) noted.new.uses) }
+{
+    note_row(Kind::Write, line, u64::from(first), u64::from(count), noted)?;
+    Ok(())
+}
+
+/// A named value, whose cells are written where it begins.
+pub fn note_naming(line: u32, first: u32, value: &Item, noted: &mut Noted) -> Result<(), AllocError>
+    ensures { IfOk result (λ _. Adds noted.old.uses (uses_of_declaration (Naming first (item_of value.now))) noted.new.uses) }
+{
+    note_item(value, noted)?;
+    let count = cells_of(value)?;
+    note_row(Kind::Write, line, u64::from(first), count, noted)?;
+    Ok(())
+}
+
+pub fn note_declaration(declaration: &Declaration, noted: &mut Noted) -> Result<(), AllocError>
+    ensures { IfOk result (λ _. Adds noted.old.uses (uses_of_declaration (declaration_of declaration.now)) noted.new.uses) }
+{
+    match declaration {
+        Declaration::Clearing(line, first, count) => note_clearing(*line, *first, *count, noted),
+        Declaration::Naming(line, first, value) => note_naming(*line, *first, value, noted),
+    }
+}
+
+pub fn note_declarations(declarations: &[Declaration], noted: &mut Noted) -> Result<(), AllocError>
+    ensures { IfOk result (λ _. Adds noted.old.uses (uses_of_declarations (declarations_of declarations.now)) noted.new.uses) }
+{
+    for declaration in declarations {
+        note_declaration(declaration, noted)?;
+    }
+    Ok(())
+}
+
+/// Base and count, and then the index.
+pub fn note_replicator(over: &Replicator, noted: &mut Noted) -> Result<(), AllocError>
+    ensures { IfOk result (λ _. Adds noted.old.uses (uses_of_replicator (replicator_of over.now)) noted.new.uses) }
+{
+    note_expression(&over.base, noted)?;
+    note_expression(&over.count, noted)?;
+    note_index(over.line, over.index, noted)?;
+    Ok(())
+}
+
+fn note_index(line: u32, index: u32, noted: &mut Noted) -> Result<(), AllocError>
+    ensures { IfOk result (λ _. Adds noted.old.uses (writing (only index)) noted.new.uses) }
+{
+    note_row(Kind::Write, line, u64::from(index), 1, noted)?;
+    Ok(())
+}

@@ -1,0 +1,127 @@
+//! What a term, or a part of one, uses before what stands within it.
+ghost use Rattle.std.specs.Prelude.{IfOk};
+ghost use Rattle.occ_term.specs.Terms as terms;
+ghost use Rattle.occ_term.specs.Uses.{with_use, reading, reads_of, reads_of_items, uses_of_targets, input_place, output_place};
+ghost use Rattle.occ_term.specs.View.{arm_of, choice_of, items_of, option_of, place_of, targets_of, term_of, test_of, variant_of};
+ghost use Rattle.occ_usage.specs.Noted.{Adds};
+ghost use Rattle.occ_usage.specs.Heads.{head_of, head_of_arms, head_of_choices, head_of_options, head_of_variants};
+
+use crate::expressions::{
+    note_clearing, note_declaration, note_declarations, note_expression, note_input, note_items,
+    note_naming, note_output, note_replicator, note_targets,
+};
+use crate::noted::Noted;
+use occ_term::{Arm, Choice, Item, Place, Selection, Target, Term, TermExpr, Variant};
+use std::alloc::AllocError;
+
+/// Notes what a term uses itself, before the terms that stand within it.
+pub fn note_head(term: &Term, noted: &mut Noted) -> Result<(), AllocError>
+    ensures { IfOk result (λ _. Adds noted.old.uses (head_of (term_of term.now)) noted.new.uses) }
+{
+    match term {
+        Term::Skip => Ok(()),
+        Term::Stop => Ok(()),
+        Term::Assign(targets, values) => note_assignment(
+            targets.as_slice(),
+            values.as_slice(),
+            noted,
+        ),
+        Term::Input(channel, targets) => note_input_to(channel, targets.as_slice(), noted),
+        Term::Output(channel, _, items) => note_output_of(channel, items.as_slice(), noted),
+        Term::VariantInput(channel, _) => note_input(channel, noted),
+        Term::Seq(_) => Ok(()),
+        Term::Par(_) => Ok(()),
+        Term::Alt(_, _) => Ok(()),
+        Term::If(_) => Ok(()),
+        Term::Case(selector, _) => note_expression(selector, noted),
+        Term::While(test, _) => note_expression(test, noted),
+        Term::Each(over, _) => note_replicator(over, noted),
+        Term::Clear(line, first, count) => note_clearing(*line, *first, *count, noted),
+        Term::Local(line, first, value) => note_naming(*line, *first, value, noted),
+    }
+}
+
+/// The targets stand first, and so are told first.
+fn note_assignment(targets: &[Target], values: &[Item], noted: &mut Noted) -> Result<(), AllocError>
+    ensures { IfOk result (λ _. Adds noted.old.uses (with_use (reading (reads_of_items (items_of values.now))) (uses_of_targets (targets_of targets.now))) noted.new.uses) }
+{
+    note_targets(targets, noted)?;
+    note_items(values, noted)?;
+    Ok(())
+}
+
+fn note_input_to(channel: &Place, targets: &[Target], noted: &mut Noted) -> Result<(), AllocError>
+    ensures { IfOk result (λ _. Adds noted.old.uses (with_use (input_place (place_of channel.now)) (uses_of_targets (targets_of targets.now))) noted.new.uses) }
+{
+    note_input(channel, noted)?;
+    note_targets(targets, noted)?;
+    Ok(())
+}
+
+fn note_output_of(channel: &Place, items: &[Item], noted: &mut Noted) -> Result<(), AllocError>
+    ensures { IfOk result (λ _. Adds noted.old.uses (with_use (output_place (place_of channel.now)) (reading (reads_of_items (items_of items.now)))) noted.new.uses) }
+{
+    note_output(channel, noted)?;
+    note_items(items, noted)?;
+    Ok(())
+}
+
+/// Notes what an arm uses before its process, or before the arms behind it.
+pub fn note_arm_head(arm: &Arm, noted: &mut Noted) -> Result<(), AllocError>
+    ensures { IfOk result (λ _. Adds noted.old.uses (head_of_arms (arm_of arm.now terms.no_arms)) noted.new.uses) }
+{
+    match arm {
+        Arm::SkipArm(test, _) => note_expression(test, noted),
+        Arm::InputArm(test, channel, _) => note_guard(test, channel, noted),
+        Arm::DeclaredArms(declaration, _) => note_declaration(declaration, noted),
+        Arm::EachArm(over, _) => note_replicator(over, noted),
+    }
+}
+
+fn note_guard(test: &Option<TermExpr>, channel: &Place, noted: &mut Noted) -> Result<(), AllocError>
+    ensures { IfOk result (λ _. Adds noted.old.uses (with_use (reading (reads_of (terms.tested (test_of test.now)))) (input_place (place_of channel.now))) noted.new.uses) }
+{
+    note_test(test, noted)?;
+    note_input(channel, noted)?;
+    Ok(())
+}
+
+// an arm without a Boolean reads nothing for it
+fn note_test(test: &Option<TermExpr>, noted: &mut Noted) -> Result<(), AllocError>
+    ensures { IfOk result (λ _. Adds noted.old.uses (reading (reads_of (terms.tested (test_of test.now)))) noted.new.uses) }
+{
+    match test {
+        None => Ok(()),
+        Some(test) => note_expression(test, noted),
+    }
+}
+
+/// Notes what a choice uses before its process, or before the choices behind it.
+pub fn note_choice_head(choice: &Choice, noted: &mut Noted) -> Result<(), AllocError>
+    ensures { IfOk result (λ _. Adds noted.old.uses (head_of_choices (choice_of choice.now terms.no_choices)) noted.new.uses) }
+{
+    match choice {
+        Choice::When(test, _) => note_expression(test, noted),
+        Choice::DeclaredChoices(declaration, _) => note_declaration(declaration, noted),
+        Choice::EachChoice(over, _) => note_replicator(over, noted),
+    }
+}
+
+/// Notes what is declared before the process of an option.
+pub fn note_option_head(option: &Selection, noted: &mut Noted) -> Result<(), AllocError>
+    ensures { IfOk result (λ _. Adds noted.old.uses (head_of_options (option_of option.now terms.no_options)) noted.new.uses) }
+{
+    match option {
+        Selection::Among(_, declarations, _) => note_declarations(declarations.as_slice(), noted),
+        Selection::Otherwise(declarations, _) => note_declarations(declarations.as_slice(), noted),
+    }
+}
+
+/// Notes what is declared before the process of a variant, and its targets.
+pub fn note_variant_head(variant: &Variant, noted: &mut Noted) -> Result<(), AllocError>
+    ensures { IfOk result (λ _. Adds noted.old.uses (head_of_variants (variant_of variant.now terms.no_variants)) noted.new.uses) }
+{
+    note_declarations(variant.declarations.as_slice(), noted)?;
+    note_targets(variant.targets.as_slice(), noted)?;
+    Ok(())
+}
