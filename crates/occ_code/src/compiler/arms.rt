@@ -87,10 +87,7 @@ pub(crate) fn emit_passing(
     ensures { OnOk result (Emits code.old.items (machine.PassArms (before - end) (length code.old.items - before) ∷ []) code.new.items) }
 {
     let last = before.saturating_sub(end);
-    if last > 4_294_967_295 {
-        return Err(AllocError);
-    }
-    put(code, Instr::PassArms(last as u32, since(code, before)))?;
+    put(code, Instr::PassArms(last, since(code, before)))?;
     Ok(())
 }
 

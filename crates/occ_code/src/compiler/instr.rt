@@ -73,7 +73,7 @@ pub enum Instr {
     BackToChoice(usize),
     /// In an ALT, of which 0 stands on the stack while its arms are evaluated, and the number of the arm
     /// once one was taken: goes on behind the skip with a number from 1 to the last one that stands there.
-    PassArms(u32, usize),
+    PassArms(usize, usize),
     /// Takes the number of an arm, with which it goes on; with 0 it goes on behind the skip.
     IfTaken(usize),
     /// With the number of an arm, takes the value below it, sets the index to it and goes on behind the skip:
