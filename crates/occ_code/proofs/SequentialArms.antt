@@ -165,25 +165,25 @@ module _ (code : List Instruction) (loops : ℕ) (cells : List ℕ) (d : Declare
     may_open f out next st q yes_ no_ None opens pc he ke at_place y n = y pc at_place
     may_open f out next st q yes_ no_ (Some e) opens pc he ke at_place y n = tests f out next st q yes_ no_ e opens pc he ke at_place y n
 
-    opens_skip : (f : Variables) (out next number m : ℕ) (st : List ℤ) (q : List Part) (e : Enabled) (others : Store → Outcome (List Enabled)) → ArmLaid code loops slot root (open_arm (open_skip number (indices_on (pos 0 ∷ st)))) e pc'
-        → ((r : List Part) → Opens f (point out (pos 0 ∷ st) r [] f) others st r next) → StandsAt code m (OpenSkip number ∷ []) out → Opens f (point m (pos 0 ∷ st) q [] f) (λ s. and_arm e (others s)) st q next
+    opens_skip : (f : Variables) (out next number m : ℕ) (st : List ℤ) (q : List Part) (e : Enabled) (others : Store → Outcome (List Enabled)) → ArmLaid code loops slot root (open_arm (open_skip (pos number) (indices_on (pos 0 ∷ st)))) e pc'
+        → ((r : List Part) → Opens f (point out (pos 0 ∷ st) r [] f) others st r next) → StandsAt code m (OpenSkip (pos number) ∷ []) out → Opens f (point m (pos 0 ∷ st) q [] f) (λ s. and_arm e (others s)) st q next
     opens_skip f out next number m st q e others x n at_place =
-        let p : Part = open_skip number (indices_on (pos 0 ∷ st)) in
+        let p : Part = open_skip (pos number) (indices_on (pos 0 ∷ st)) in
         opens_first e p others st q next x
-        (performs_on code cells (subst (λ c. Walks by_cell code (point m (pos 0 ∷ st) q [] f) (point c (pos 0 ∷ st) (q ++ open_skip number (indices_on (pos 0 ∷ st)) ∷ []) [] f)) at_place.1
-        (steps_to code f m (pos 0 ∷ st) q [] (OpenSkip number) (point (m + 1) (pos 0 ∷ st) (q ++ open_skip number (indices_on (pos 0 ∷ st)) ∷ []) [] f) at_place.0 refl)) (n (q ++ open_skip number (indices_on (pos 0 ∷ st)) ∷ [])))
+        (performs_on code cells (subst (λ c. Walks by_cell code (point m (pos 0 ∷ st) q [] f) (point c (pos 0 ∷ st) (q ++ open_skip (pos number) (indices_on (pos 0 ∷ st)) ∷ []) [] f)) at_place.1
+        (steps_to code f m (pos 0 ∷ st) q [] (OpenSkip (pos number)) (point (m + 1) (pos 0 ∷ st) (q ++ open_skip (pos number) (indices_on (pos 0 ∷ st)) ∷ []) [] f) at_place.0 refl)) (n (q ++ open_skip (pos number) (indices_on (pos 0 ∷ st)) ∷ [])))
 
     opens_input : (f : Variables) (out next number m : ℕ) (st : List ℤ) (q : List Part) (c : Place) (protocol : _) (e : ℕ → Enabled) (others : Store → Outcome (List Enabled)) → ChannelHas d c protocol → Has (reads_in_place c)
-        → ((n : ℕ) → ArmLaid code loops slot root (open_arm (open_input number (pos n) (indices_on (pos 0 ∷ st)))) (e n) pc') → ((r : List Part) → Opens f (point out (pos 0 ∷ st) r [] f) others st r next)
-        → StandsAt code m (place_code c ++ OpenInput number ∷ []) out → Opens f (point m (pos 0 ∷ st) q [] f) (λ s. then_in (in_store (span_of c s) s) (λ x s'. and_arm (e (first_of x)) (others s'))) st q next
+        → ((n : ℕ) → ArmLaid code loops slot root (open_arm (open_input (pos number) (pos n) (indices_on (pos 0 ∷ st)))) (e n) pc') → ((r : List Part) → Opens f (point out (pos 0 ∷ st) r [] f) others st r next)
+        → StandsAt code m (place_code c ++ OpenInput (pos number) ∷ []) out → Opens f (point m (pos 0 ∷ st) q [] f) (λ s. then_in (in_store (span_of c s) s) (λ x s'. and_arm (e (first_of x)) (others s'))) st q next
     opens_input f out next number m st q c protocol e others hc kc x n at_place =
-        let (a, l, r) = split code m out (place_code c) (OpenInput number ∷ []) at_place in
+        let (a, l, r) = split code m out (place_code c) (OpenInput (pos number) ∷ []) at_place in
         performs_by code cells (span_of c) (span_of c (at f)) (λ y. point a (pos (first_of y) ∷ pos 0 ∷ st) q [] f) (λ y s'. and_arm (e (first_of y)) (others s')) (place_runs code f q [] c m a (pos 0 ∷ st) l)
         (λ s hs. channel_same d s (at f) c protocol hc (agrees_on code cells d (reads_in_place c) f s kc hs))
-        (λ y same. opens_first (e (first_of y)) (open_input number (pos (first_of y)) (indices_on (pos 0 ∷ st))) others st q next (x (first_of y))
-        (performs_on code cells (subst (λ z. Walks by_cell code (point a (pos (first_of y) ∷ pos 0 ∷ st) q [] f) (point z (pos 0 ∷ st) (q ++ open_input number (pos (first_of y)) (indices_on (pos 0 ∷ st)) ∷ []) [] f)) r.1
-        (steps_to code f a (pos (first_of y) ∷ pos 0 ∷ st) q [] (OpenInput number) (point (a + 1) (pos 0 ∷ st) (q ++ open_input number (pos (first_of y)) (indices_on (pos 0 ∷ st)) ∷ []) [] f) r.0 refl))
-        (n (q ++ open_input number (pos (first_of y)) (indices_on (pos 0 ∷ st)) ∷ []))))
+        (λ y same. opens_first (e (first_of y)) (open_input (pos number) (pos (first_of y)) (indices_on (pos 0 ∷ st))) others st q next (x (first_of y))
+        (performs_on code cells (subst (λ z. Walks by_cell code (point a (pos (first_of y) ∷ pos 0 ∷ st) q [] f) (point z (pos 0 ∷ st) (q ++ open_input (pos number) (pos (first_of y)) (indices_on (pos 0 ∷ st)) ∷ []) [] f)) r.1
+        (steps_to code f a (pos (first_of y) ∷ pos 0 ∷ st) q [] (OpenInput (pos number)) (point (a + 1) (pos 0 ∷ st) (q ++ open_input (pos number) (pos (first_of y)) (indices_on (pos 0 ∷ st)) ∷ []) [] f) r.0 refl))
+        (n (q ++ open_input (pos number) (pos (first_of y)) (indices_on (pos 0 ∷ st)) ∷ []))))
 
     -- ---- arms for each value of an index
 
@@ -249,7 +249,7 @@ module _ (code : List Instruction) (loops : ℕ) (cells : List ℕ) (d : Declare
         let above = l.3.4 in
         let there = reaches_in pc low l.0 high l.1 ds l.3 reach l.0 (omega arith) (omega (arith, above)) in
         performs_on code cells (evaluates f pc low l.0 high l.1 l.2 st q l.3 l.4)
-        (may_open f l.1 next st q (λ s. and_arm (SkipArm ds t) (enabled others ds s)) (enabled others ds) (Some e) (OpenSkip (l.0 + 1) ∷ []) (pc + 1 + 1 + l.2) h.0 ke l.6
+        (may_open f l.1 next st q (λ s. and_arm (SkipArm ds t) (enabled others ds s)) (enabled others ds) (Some e) (OpenSkip (pos (l.0 + 1)) ∷ []) (pc + 1 + 1 + l.2) h.0 ke l.6
         (λ m at_place. opens_skip f l.1 next (l.0 + 1) m st q (SkipArm ds t) (enabled others ds) (l.0, pc + 1, l.2, add-one l.0, refl, is, there, l.4, l.5) later at_place)
         (later q))
     arms_run (input_arm e c list others) ds f pc low high next st q h k l is reach =
@@ -261,7 +261,7 @@ module _ (code : List Instruction) (loops : ℕ) (cells : List ℕ) (d : Declare
         let above = l.3.4 in
         let there = reaches_in pc low l.0 high l.1 ds l.3 reach l.0 (omega arith) (omega (arith, above)) in
         performs_on code cells (evaluates f pc low l.0 high l.1 l.2 st q l.3 l.4)
-        (may_open f l.1 next st q (λ s. then_in (in_store (span_of c s) s) (λ x s'. and_arm (InputArm ds (first_of x) list) (enabled others ds s'))) (enabled others ds) e (place_code c ++ OpenInput (l.0 + 1) ∷ []) (pc + 1 + 1 + l.2) h.0 ke l.6
+        (may_open f l.1 next st q (λ s. then_in (in_store (span_of c s) s) (λ x s'. and_arm (InputArm ds (first_of x) list) (enabled others ds s'))) (enabled others ds) e (place_code c ++ OpenInput (pos (l.0 + 1)) ∷ []) (pc + 1 + 1 + l.2) h.0 ke l.6
         (λ m at_place. opens_input f l.1 next (l.0 + 1) m st q c h.1.0 (λ n. InputArm ds n list) (enabled others ds) h.1.1 kc (λ n. (l.0, pc + 1, l.2, add-one l.0, refl, is, there, l.4, l.5)) later at_place)
         (later q))
     arms_run (declared_arms x within others) ds f pc low high next st q h k l is reach =

@@ -82,9 +82,9 @@ pub enum Instr {
     /// Takes a truth value: FALSE goes on behind the skip.
     IfTrue(usize),
     /// Opens the arm with this number, which is SKIP, for the values that the indices have.
-    OpenSkip(u32),
+    OpenSkip(i64),
     /// Takes a channel, and opens the arm with this number, which inputs from it.
-    OpenInput(u32),
+    OpenInput(i64),
     /// Chooses among the open arms, by priority where the truth value says so, and goes on so far back; halts
     /// where none is open.
     ChooseArm(bool, usize),
