@@ -1,6 +1,6 @@
 -- The cells of a process: the ends of rows, and the numbers that are reached.
 use Rattle.std.specs.Prelude.{nat_eq, nat_le, nat_lt, set, max, replicate, ◌&&◌, ◌||◌, if◌then◌else◌}
-use Rattle.std.proofs.Common.{◌≡◌, ℕ, zero, suc, ◌+◌, ◌<◌, ◌≤◌, Bool, true, false, IsTrue, List, [], ◌∷◌, ◌++◌, drop, get_or, length, refl, sym, ap, ◌∙◌, subst, arith, length-set}
+use Rattle.std.proofs.Common.{◌≡◌, ℕ, zero, suc, ◌+◌, ◌<◌, ◌≤◌, Bool, true, false, IsTrue, List, [], ◌∷◌, ◌++◌, drop, get_or, length, refl, sym, ap, ◌∙◌, subst, arith, length-append, length-set}
 use Rattle.std.proofs.Math.Seq.{drop-cons}
 use Rattle.std.proofs.lemmas.Bool.Decides.{nat_tests}
 use Rattle.occ_term.specs.Uses.{Numbers}
@@ -188,6 +188,37 @@ listed us writes_only es count xs ends reached =
     whole : (c : ℕ) (b : Bool) → nat_lt c (length es) ≡ b → (b && nat_lt c (reach es (c + 1))) ≡ nat_lt c (reach es (c + 1))
     whole c true e = refl
     whole c false e = let long = ends.long in let short = ends.short (c + 1) in grind (arith, nat_tests)
+
+-- each number is pushed once at most
+pub few_more : (n r : ℕ) (xs new : List ℕ) → length xs ≤ n → new ≡ xs ++ (if nat_lt n r then n ∷ [] else []) → length new ≤ n + 1
+few_more n r xs new h e =
+    let long = ap length e ∙ length-append xs (if nat_lt n r then n ∷ [] else []) in
+    let one = one_at_most (nat_lt n r) in
+    omega (arith, h, long, one)
+  where
+    one_at_most : (b : Bool) → length (if b then n ∷ [] else []) ≤ 1
+    one_at_most true = omega arith
+    one_at_most false = omega arith
+
+-- the end of each use lies within the furthest one
+first_within : (a b : ℕ) → a ≤ max a b
+first_within a b = omega arith
+
+second_within : (a b n : ℕ) → n ≤ b → n ≤ max a b
+second_within a b n h = omega (arith, h)
+
+end_within : (us : List Use) (i : ℕ) (one d : Use) (writes_only : Bool) → i < length us → one ≡ get_or us i d → end_of writes_only one ≤ furthest writes_only us
+end_within [] i one d writes_only h e = absurd (omega (arith, h))
+end_within (u ∷ us) zero one d writes_only h e =
+    subst (λ x. end_of writes_only x ≤ furthest writes_only (u ∷ us)) (sym e) (first_within (end_of writes_only u) (furthest writes_only us))
+end_within (u ∷ us) (suc i) one d writes_only h e =
+    second_within (end_of writes_only u) (furthest writes_only us) (end_of writes_only one) (end_within us i one d writes_only (omega (arith, h)) e)
+
+below_then : (a b c : ℕ) → a ≤ b → b ≤ c → a ≤ c
+below_then a b c h k = omega (arith, h, k)
+
+pub end_fits : (us : List Use) (i : ℕ) (one d : Use) (writes_only : Bool) (n : ℕ) → i < length us → one ≡ get_or us i d → furthest writes_only us ≤ n → end_of writes_only one ≤ n
+end_fits us i one d writes_only n lt is h = below_then (end_of writes_only one) (furthest writes_only us) n (end_within us i one d writes_only lt is) h
 
 -- one more use of a row
 pub covers_next : (us : List Use) (i k : ℕ) (one d : Use) (writes_only : Bool) (es : List ℕ) (count : ℕ) → k ≡ i + 1 → i < length us → one ≡ get_or us i d → AreEnds es count (covers writes_only (one ∷ drop k us)) → AreEnds es count (covers writes_only (drop i us))

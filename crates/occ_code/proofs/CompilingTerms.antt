@@ -1,5 +1,5 @@
 -- The bodies of a term's processes keep what the code of a program promises.
-use Rattle.std.specs.Prelude.{All, reverse, ⊤}
+use Rattle.std.specs.Prelude.{All, min, reverse, ⊤}
 use Rattle.std.proofs.Common.{◌≤◌, ◌<◌, ◌+◌, ◌*◌, ℕ, zero, suc, map, length, ◌≡◌, ◌++◌, ◌∷◌, [], List, ◌∙◌, refl, sym, ap, subst, arith, append_assoc, append-nil}
 use Rattle.std.proofs.lemmas.List.{length-map, map-append, reverse-append}
 use Rattle.occ_term.specs.Terms.{Term, Skip, Stop, Assign, Input, Output, VariantInput, Seq, Par, Alt, If, Case, While, Each, Clear, Local, Terms, no_terms, then_term, Branches, no_branches, and_branch, Arms, no_arms, skip_arm, input_arm, declared_arms, each_arm, Reception, Plain, Tagged, Variants, no_variants, or_variant, Choices, no_choices, or_choice, declared_choices, each_choice, Options, no_options, or_option, or_else}
@@ -128,6 +128,13 @@ as_many (p ∷ ps) quantum (b ∷ bs) h = let x = body_length p.term quantum b h
 
 pub too_many : (t : Term) (quantum : ℕ) (bs : List Body) → AreBodiesOf (processes_of t) quantum bs → most_instructions < instructions_in bs → most_instructions < instructions_of (processes_of t)
 too_many t quantum bs h more = subst (λ n. most_instructions < n) (as_many (processes_of t) quantum bs h) more
+
+-- the count stops at the most of a machine's word, which is past the limit
+pub past_limit : (n k : ℕ) → n ≡ min k 18446744073709551615 → most_instructions < n → most_instructions < k
+past_limit n k e h = omega (arith, e, h)
+
+pub within_limit : (n k : ℕ) → n ≡ min k 18446744073709551615 → n ≤ most_instructions → k ≤ most_instructions
+within_limit n k e h = omega (arith, e, h)
 
 pub refused_as : (u : Unfolding) (quantum : ℕ) (fault : CodeFault) → IsQuantum quantum → IsRefused fault (meaning u) → CodeRefuses fault quantum u
 refused_as u quantum TooLarge between h = (between, too_long u h)

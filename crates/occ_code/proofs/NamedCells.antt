@@ -1,5 +1,5 @@
 -- The instructions of a term name only cells that the term uses, and counters that are its own.
-use Rattle.std.specs.Prelude.{All, nat_eq, nat_le, nat_lt, ⊤, ◌&&◌, ◌||◌}
+use Rattle.std.specs.Prelude.{All, pos, nat_eq, nat_le, nat_lt, ⊤, ◌&&◌, ◌||◌}
 use Rattle.std.proofs.Common.{◌≡◌, ℕ, ◌+◌, ◌≤◌, Bool, true, false, IsTrue, List, [], ◌∷◌, ◌++◌, length, Option, None, Some, refl, subst, sym, arith}
 use Rattle.std.proofs.lemmas.Bool.Decides.{nat_tests}
 use Rattle.std.proofs.lemmas.List.Elements.{All-nil, All-cons}
@@ -209,13 +209,13 @@ module _ (cells : List ℕ) (loops : ℕ) where
     arms_names slot (skip_arm e t others) after_ o h =
         let a = right_used (reading (reads_of e)) (with_use (uses_of t) (uses_of_arms others)) h in
         arm_names (term_code slot t) (skip_opening e (length (arms_code slot others after_) + after_ + 1)) (arms_code slot others after_) after_ (term_names slot t (omega (arith, o)) (left_used (uses_of t) (uses_of_arms others) a))
-        (opening_names (Some e) (OpenSkip (length (arms_code slot others after_) + after_ + 1) ∷ []) (left_used (reading (reads_of e)) (with_use (uses_of t) (uses_of_arms others)) h).reads (tt, tt))
+        (opening_names (Some e) (OpenSkip (pos (length (arms_code slot others after_) + after_ + 1)) ∷ []) (left_used (reading (reads_of e)) (with_use (uses_of t) (uses_of_arms others)) h).reads (tt, tt))
         (arms_names slot others after_ (omega (arith, o)) (right_used (uses_of t) (uses_of_arms others) a))
     arms_names slot (input_arm e c list others) after_ o h =
         let a = right_used (reading (reads_of (tested e))) (with_use (input_place c) (with_use (uses_of_reception list) (uses_of_arms others))) h in
         let b = right_used (input_place c) (with_use (uses_of_reception list) (uses_of_arms others)) a in
         arm_names (list_code slot list) (input_opening e c (length (arms_code slot others after_) + after_ + 1)) (arms_code slot others after_) after_ (list_names slot list (omega (arith, o)) (left_used (uses_of_reception list) (uses_of_arms others) b))
-        (opening_names e (place_code c ++ OpenInput (length (arms_code slot others after_) + after_ + 1) ∷ []) (left_used (reading (reads_of (tested e))) (with_use (input_place c) (with_use (uses_of_reception list) (uses_of_arms others))) h).reads
+        (opening_names e (place_code c ++ OpenInput (pos (length (arms_code slot others after_) + after_ + 1)) ∷ []) (left_used (reading (reads_of (tested e))) (with_use (input_place c) (with_use (uses_of_reception list) (uses_of_arms others))) h).reads
         (both (place_code c) _ (place_names c (channel_in c (left_used (input_place c) (with_use (uses_of_reception list) (uses_of_arms others)) a))) (tt, tt)))
         (arms_names slot others after_ (omega (arith, o)) (right_used (uses_of_reception list) (uses_of_arms others) b))
     arms_names slot (declared_arms d within others) after_ o h =

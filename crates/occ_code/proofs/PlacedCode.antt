@@ -1,5 +1,5 @@
 -- Code that names cells by their places does what it does by their numbers, from any frame of the cells.
-use Rattle.std.specs.Prelude.{All, if◌then◌else◌, map, nat_abs, nat_eq, nat_le, nat_lt, option_map, pos, replicate, slice_get, slice_set, unwrap_or, ⊤, ◌+ℤ◌, ◌||◌}
+use Rattle.std.specs.Prelude.{All, if◌then◌else◌, int_le, map, nat_abs, nat_eq, nat_le, nat_lt, option_map, pos, replicate, slice_get, slice_set, unwrap_or, ⊤, ◌+ℤ◌, ◌||◌}
 use Rattle.std.proofs.Common.{IsTrue, ◌<◌, ◌≤◌, ◌≡◌, ◌∙◌, refl, ap, sym, subst, ℕ, zero, suc, ◌+◌, ℤ, Bool, true, false, Option, Some, None, List, [], ◌∷◌, length, get_or, arith}
 use Rattle.std.proofs.lemmas.List.{get_or_past, set_past}
 use Rattle.std.proofs.lemmas.Option.{slice_get-map, slice_get-get_or, slice_get_past}
@@ -74,7 +74,7 @@ module _ (cells : List ℕ) (loops : ℕ) where
   chosen_same : (n : ℕ) (v : ℤ) (pc index skip : ℕ) (st : List ℤ) (q : List Part) (sp : List Spot) (f : Variables) → Frames cells f
       → next_choice by_cell n v pc index skip st q sp f ≡ next_choice by_place n v pc (place_among cells index) skip st q sp f
   chosen_same zero v pc index skip st q sp f h = refl
-  chosen_same (suc n) v pc index skip st q sp f h = ap (point (pc + 1) (pos n ∷ (v +ℤ pos 1) ∷ st) q sp) (with_same f index v h)
+  chosen_same (suc n) v pc index skip st q sp f h = ap (point (pc + 1) (pos n ∷ v ∷ st) q sp) (with_same f index v h)
 
   -- a frame of the cells, with so many counters
   abbrev Shaped : Variables → Type 0
@@ -97,10 +97,10 @@ module _ (cells : List ℕ) (loops : ℕ) where
       let lies : slot + 1 < length f.left = omega (arith, k, as_many) in
       below_true (slot + 1) (length f.left) lies
 
-  again_same : (n c skip pc : ℕ) (st : List ℤ) (q : List Part) (sp : List Spot) (f : Variables) → Shaped f → IsTrue (is_held cells c) → again_set by_cell n c skip pc st q sp f ≡ again_set by_place n (place_among cells c) skip pc st q sp f
-  again_same zero c skip pc st q sp f h k = refl
-  again_same (suc n) c skip pc [] q sp f h k = refl
-  again_same (suc n) c skip pc (v ∷ st) q sp f h k = let there = is_place f c h k in rw there (ap (λ g. Moves (point (pc + 1 + skip) (pos (suc n) ∷ st) q sp g)) (with_same f c v h.0))
+  again_same : (arm : ℤ) (n c skip pc : ℕ) (st : List ℤ) (q : List Part) (sp : List Spot) (f : Variables) → Shaped f → IsTrue (is_held cells c) → again_set by_cell arm n c skip pc st q sp f ≡ again_set by_place arm n (place_among cells c) skip pc st q sp f
+  again_same arm zero c skip pc st q sp f h k = refl
+  again_same arm (suc n) c skip pc [] q sp f h k = refl
+  again_same arm (suc n) c skip pc (v ∷ st) q sp f h k = let there = is_place f c h k in rw there (ap (λ g. Moves (point (pc + 1 + skip) (arm ∷ st) q sp g)) (with_same f c v h.0))
 
   act_same : (o : Option Instruction) (pc : ℕ) (st : List ℤ) (q : List Part) (sp : List Spot) (f : Variables) → Shaped f → Within o → act by_cell o pc st q sp f ≡ act by_place (option_map (placed cells) o) pc st q sp f
   act_same None pc st q sp f h k = refl
@@ -139,7 +139,7 @@ module _ (cells : List ℕ) (loops : ℕ) where
   act_same (Some (PassArms last skip)) pc st q sp f h k = refl
   act_same (Some (IfTaken skip)) pc st q sp f h k = refl
   act_same (Some (SetAgain c skip)) pc [] q sp f h k = refl
-  act_same (Some (SetAgain c skip)) pc (n ∷ st) q sp f h k = again_same (nat_abs n) c skip pc st q sp f h k
+  act_same (Some (SetAgain c skip)) pc (n ∷ st) q sp f h k = again_same n (nat_abs n) c skip pc st q sp f h k
   act_same (Some (IfTrue skip)) pc st q sp f h k = refl
   act_same (Some (OpenSkip number)) pc st q sp f h k = refl
   act_same (Some (OpenInput number)) pc st q sp f h k = refl
@@ -200,6 +200,10 @@ module _ (cells : List ℕ) (loops : ℕ) where
   two_shapes (v ∷ []) g k = tt
   two_shapes (v ∷ w ∷ st) g k = k v w st
 
+  if_shapes : (b : Bool) (p : Point) → Shaped (frame_of p) → Shapes (if b then Moves p else Stuck)
+  if_shapes true p h = h
+  if_shapes false p h = tt
+
   going_shapes : {X : Type 0} (pc : ℕ) (f : Variables) (v : Evaluated X) (to : X → Point) → Shaped f → ((x : X) → Shaped (frame_of (to x))) → Shapes (going pc f v to)
   going_shapes pc f (Value x) to h k = k x
   going_shapes pc f (Fails e) to h k = h
@@ -236,9 +240,9 @@ module _ (cells : List ℕ) (loops : ℕ) where
   taken_shape zero skip pc st q sp f h = h
   taken_shape (suc n) skip pc st q sp f h = h
 
-  again_shapes : (n c skip pc : ℕ) (st : List ℤ) (q : List Part) (sp : List Spot) (f : Variables) → Shaped f → Shapes (again_set by_cell n c skip pc st q sp f)
-  again_shapes zero c skip pc st q sp f h = h
-  again_shapes (suc n) c skip pc st q sp f h = one_shapes st _ (λ v st'. with_shape f c v h)
+  again_shapes : (arm : ℤ) (n c skip pc : ℕ) (st : List ℤ) (q : List Part) (sp : List Spot) (f : Variables) → Shaped f → Shapes (again_set by_cell arm n c skip pc st q sp f)
+  again_shapes arm zero c skip pc st q sp f h = h
+  again_shapes arm (suc n) c skip pc st q sp f h = one_shapes st _ (λ v st'. with_shape f c v h)
 
   choosing_shapes : (pri : Bool) (back pc : ℕ) (arms : List Arm) (f : Variables) → Shaped f → Shapes (choosing_stop pri back pc arms f)
   choosing_shapes pri back pc [] f h = h
@@ -274,10 +278,10 @@ module _ (cells : List ℕ) (loops : ℕ) where
   act_shapes (Some DropOne) pc st q sp f h = one_shapes st _ (λ v st'. h)
   act_shapes (Some (CountedFrom line)) pc st q sp f h = two_shapes st _ (λ v w st'. going_shapes pc f _ _ h (λ x. h))
   act_shapes (Some (NextChoice c skip)) pc st q sp f h = two_shapes st _ (λ n v st'. chosen_shape (nat_abs n) v pc c skip st' q sp f h)
-  act_shapes (Some (BackToChoice back)) pc st q sp f h = h
-  act_shapes (Some (PassArms last skip)) pc st q sp f h = one_shapes st _ (λ n st'. passes_shape (nat_abs n) last skip pc st' q sp f h)
+  act_shapes (Some (BackToChoice back)) pc st q sp f h = two_shapes st _ (λ n v st'. if_shapes (int_le (v +ℤ pos 1) (pos 2147483648)) _ h)
+  act_shapes (Some (PassArms last skip)) pc st q sp f h = one_shapes st _ (λ n st'. passes_shape (nat_abs n) last skip pc (n ∷ st') q sp f h)
   act_shapes (Some (IfTaken skip)) pc st q sp f h = one_shapes st _ (λ n st'. taken_shape (nat_abs n) skip pc st' q sp f h)
-  act_shapes (Some (SetAgain c skip)) pc st q sp f h = one_shapes st _ (λ n st'. again_shapes (nat_abs n) c skip pc st' q sp f h)
+  act_shapes (Some (SetAgain c skip)) pc st q sp f h = one_shapes st _ (λ n st'. again_shapes n (nat_abs n) c skip pc st' q sp f h)
   act_shapes (Some (IfTrue skip)) pc st q sp f h = one_shapes st _ (λ x st'. either_shape (holds x) _ _ h h)
   act_shapes (Some (OpenSkip number)) pc st q sp f h = h
   act_shapes (Some (OpenInput number)) pc st q sp f h = one_shapes st _ (λ c st'. h)

@@ -1,12 +1,11 @@
 -- The code of an ALT's arms opens those that are enabled, and sets again for one that is taken what stands round it.
-use Rattle.std.specs.Prelude.{map, nat_le, negsuc, slice_get, if◌then◌else◌, ◌+ℤ◌, ◌-◌}
-use Rattle.std.proofs.Common.{add-one, append-nil, append_assoc, arith, ◌≡◌, ◌∙◌, ℕ, zero, suc, ℤ, pos, ◌+◌, Bool, true, false, ◌<◌, ◌≤◌, List, [], ◌∷◌, ◌++◌, length, Option, Some, None, refl, ap, subst, sym}
-use Rattle.std.proofs.Math.IntN.{+ℤ_assoc, +ℤ_idr}
+use Rattle.std.specs.Prelude.{int_le, map, nat_le, slice_get, if◌then◌else◌, ◌+ℤ◌, ◌-◌}
+use Rattle.std.proofs.Common.{add-one, append-nil, append_assoc, arith, ◌≡◌, ◌∙◌, ℕ, zero, suc, ℤ, pos, ◌+◌, Bool, IsTrue, true, false, ◌<◌, ◌≤◌, List, [], ◌∷◌, ◌++◌, length, Option, Some, None, refl, ap, subst, sym}
 use Rattle.std.proofs.lemmas.Bool.Decides.{nat_tests}
 use Rattle.occ_term.specs.declared.primitive.Primitive.TheVariants.{Bool as Boolean}
 use Rattle.occ_term.specs.declared.message.Part.{Part}
 use Rattle.occ_term.specs.Terms.{Expression, Place, Declaration, Arms, no_arms, skip_arm, input_arm, declared_arms, each_arm, tested}
-use Rattle.occ_term.specs.Values.{Store, store_with, holds, first_of, value_of, span_of}
+use Rattle.occ_term.specs.Values.{Store, Value, store_with, holds, first_of, value_of, span_of}
 use Rattle.occ_term.specs.Storing.{Outcome, Gives, then_in, in_store, nothing, declared, Indices, indices, indices_of, index_of}
 use Rattle.occ_term.specs.Selecting.{Setting, IndexTo, DeclaredAgain, set_again, Enabled, SkipArm, InputArm, and_arm, and_arms, each_over, arms_over, enabled}
 use Rattle.occ_term.specs.Uses.{Numbers, with_use, reads_of, reads_in_place, input_place, uses_of, uses_of_arms, uses_of_reception, uses_of_declaration, uses_of_replicator}
@@ -24,7 +23,7 @@ use Rattle.occ_code.proofs.SequentialPlaces.{split, place_after, walks_on}
 use Rattle.occ_code.proofs.SequentialExpressions.{expression_runs, place_runs, steps_to}
 use Rattle.occ_code.proofs.SequentialReads.{value_same, channel_same, indices_same}
 use Rattle.occ_code.proofs.SequentialFrames.{one_held, frame_of, Performs, performs, refuses, performs_on, performs_by}
-use Rattle.occ_code.proofs.SequentialStatements.{Held, held_left, held_right, agrees_on, Sets, sets_then, declaration_runs, counting_runs}
+use Rattle.occ_code.proofs.SequentialStatements.{Held, held_left, held_right, agrees_on, Sets, sets_then, declaration_runs, counted_fits, counting_runs, next_fits, still_fits}
 use Rattle.occ_code.proofs.SequentialResults.{ways_walk}
 use Rattle.occ_code.proofs.SequentialChoosing.{Sorts, arrives, goes_past, goes_in, SetsAgain, sets_on, sets_index, sets_declared, ArmLaid, ArmsLaid}
 
@@ -39,9 +38,6 @@ indices_then_declared : (again : List Setting) (e : Declaration) → indices_in 
 indices_then_declared [] e = refl
 indices_then_declared (IndexTo i w ∷ again) e = ap (λ l. w ∷ l) (indices_then_declared again e)
 indices_then_declared (DeclaredAgain x ∷ again) e = indices_then_declared again e
-
-value_before : (v : ℤ) → (v +ℤ pos 1) +ℤ negsuc 0 ≡ v
-value_before v = +ℤ_assoc v (pos 1) (negsuc 0) ∙ +ℤ_idr v
 
 at_most : (n m : ℕ) → n ≤ m → nat_le n m ≡ true
 at_most n m h = grind (arith, nat_tests)
@@ -169,53 +165,55 @@ module _ (code : List Instruction) (loops : ℕ) (cells : List ℕ) (d : Declare
     may_open f out next st q yes_ no_ None opens pc he ke at_place y n = y pc at_place
     may_open f out next st q yes_ no_ (Some e) opens pc he ke at_place y n = tests f out next st q yes_ no_ e opens pc he ke at_place y n
 
-    opens_skip : (f : Variables) (out next number m : ℕ) (st : List ℤ) (q : List Part) (e : Enabled) (others : Store → Outcome (List Enabled)) → ArmLaid code loops slot root (open_arm (open_skip number (indices_on (pos 0 ∷ st)))) e pc'
-        → ((r : List Part) → Opens f (point out (pos 0 ∷ st) r [] f) others st r next) → StandsAt code m (OpenSkip number ∷ []) out → Opens f (point m (pos 0 ∷ st) q [] f) (λ s. and_arm e (others s)) st q next
+    opens_skip : (f : Variables) (out next number m : ℕ) (st : List ℤ) (q : List Part) (e : Enabled) (others : Store → Outcome (List Enabled)) → ArmLaid code loops slot root (open_arm (open_skip (pos number) (indices_on (pos 0 ∷ st)))) e pc'
+        → ((r : List Part) → Opens f (point out (pos 0 ∷ st) r [] f) others st r next) → StandsAt code m (OpenSkip (pos number) ∷ []) out → Opens f (point m (pos 0 ∷ st) q [] f) (λ s. and_arm e (others s)) st q next
     opens_skip f out next number m st q e others x n at_place =
-        let p : Part = open_skip number (indices_on (pos 0 ∷ st)) in
+        let p : Part = open_skip (pos number) (indices_on (pos 0 ∷ st)) in
         opens_first e p others st q next x
-        (performs_on code cells (subst (λ c. Walks by_cell code (point m (pos 0 ∷ st) q [] f) (point c (pos 0 ∷ st) (q ++ open_skip number (indices_on (pos 0 ∷ st)) ∷ []) [] f)) at_place.1
-        (steps_to code f m (pos 0 ∷ st) q [] (OpenSkip number) (point (m + 1) (pos 0 ∷ st) (q ++ open_skip number (indices_on (pos 0 ∷ st)) ∷ []) [] f) at_place.0 refl)) (n (q ++ open_skip number (indices_on (pos 0 ∷ st)) ∷ [])))
+        (performs_on code cells (subst (λ c. Walks by_cell code (point m (pos 0 ∷ st) q [] f) (point c (pos 0 ∷ st) (q ++ open_skip (pos number) (indices_on (pos 0 ∷ st)) ∷ []) [] f)) at_place.1
+        (steps_to code f m (pos 0 ∷ st) q [] (OpenSkip (pos number)) (point (m + 1) (pos 0 ∷ st) (q ++ open_skip (pos number) (indices_on (pos 0 ∷ st)) ∷ []) [] f) at_place.0 refl)) (n (q ++ open_skip (pos number) (indices_on (pos 0 ∷ st)) ∷ [])))
 
     opens_input : (f : Variables) (out next number m : ℕ) (st : List ℤ) (q : List Part) (c : Place) (protocol : _) (e : ℕ → Enabled) (others : Store → Outcome (List Enabled)) → ChannelHas d c protocol → Has (reads_in_place c)
-        → ((n : ℕ) → ArmLaid code loops slot root (open_arm (open_input number (pos n) (indices_on (pos 0 ∷ st)))) (e n) pc') → ((r : List Part) → Opens f (point out (pos 0 ∷ st) r [] f) others st r next)
-        → StandsAt code m (place_code c ++ OpenInput number ∷ []) out → Opens f (point m (pos 0 ∷ st) q [] f) (λ s. then_in (in_store (span_of c s) s) (λ x s'. and_arm (e (first_of x)) (others s'))) st q next
+        → ((n : ℕ) → ArmLaid code loops slot root (open_arm (open_input (pos number) (pos n) (indices_on (pos 0 ∷ st)))) (e n) pc') → ((r : List Part) → Opens f (point out (pos 0 ∷ st) r [] f) others st r next)
+        → StandsAt code m (place_code c ++ OpenInput (pos number) ∷ []) out → Opens f (point m (pos 0 ∷ st) q [] f) (λ s. then_in (in_store (span_of c s) s) (λ x s'. and_arm (e (first_of x)) (others s'))) st q next
     opens_input f out next number m st q c protocol e others hc kc x n at_place =
-        let (a, l, r) = split code m out (place_code c) (OpenInput number ∷ []) at_place in
+        let (a, l, r) = split code m out (place_code c) (OpenInput (pos number) ∷ []) at_place in
         performs_by code cells (span_of c) (span_of c (at f)) (λ y. point a (pos (first_of y) ∷ pos 0 ∷ st) q [] f) (λ y s'. and_arm (e (first_of y)) (others s')) (place_runs code f q [] c m a (pos 0 ∷ st) l)
         (λ s hs. channel_same d s (at f) c protocol hc (agrees_on code cells d (reads_in_place c) f s kc hs))
-        (λ y same. opens_first (e (first_of y)) (open_input number (pos (first_of y)) (indices_on (pos 0 ∷ st))) others st q next (x (first_of y))
-        (performs_on code cells (subst (λ z. Walks by_cell code (point a (pos (first_of y) ∷ pos 0 ∷ st) q [] f) (point z (pos 0 ∷ st) (q ++ open_input number (pos (first_of y)) (indices_on (pos 0 ∷ st)) ∷ []) [] f)) r.1
-        (steps_to code f a (pos (first_of y) ∷ pos 0 ∷ st) q [] (OpenInput number) (point (a + 1) (pos 0 ∷ st) (q ++ open_input number (pos (first_of y)) (indices_on (pos 0 ∷ st)) ∷ []) [] f) r.0 refl))
-        (n (q ++ open_input number (pos (first_of y)) (indices_on (pos 0 ∷ st)) ∷ []))))
+        (λ y same. opens_first (e (first_of y)) (open_input (pos number) (pos (first_of y)) (indices_on (pos 0 ∷ st))) others st q next (x (first_of y))
+        (performs_on code cells (subst (λ z. Walks by_cell code (point a (pos (first_of y) ∷ pos 0 ∷ st) q [] f) (point z (pos 0 ∷ st) (q ++ open_input (pos number) (pos (first_of y)) (indices_on (pos 0 ∷ st)) ∷ []) [] f)) r.1
+        (steps_to code f a (pos (first_of y) ∷ pos 0 ∷ st) q [] (OpenInput (pos number)) (point (a + 1) (pos 0 ∷ st) (q ++ open_input (pos number) (pos (first_of y)) (indices_on (pos 0 ∷ st)) ∷ []) [] f) r.0 refl))
+        (n (q ++ open_input (pos number) (pos (first_of y)) (indices_on (pos 0 ∷ st)) ∷ []))))
 
     -- ---- arms for each value of an index
 
     over_opens : (within : List Setting → Store → Outcome (List Enabled)) (ds : List Setting) (index m skip back n out : ℕ) (st : List ℤ) → slice_get code m ≡ Some (NextChoice index skip) → m + 1 + skip ≡ out → slice_get code (m + 1) ≡ Some (Push (pos 0))
         → slice_get code n ≡ Some DropOne → slice_get code (n + 1) ≡ Some (BackToChoice back) → n + 1 - back ≡ m
-        → ((g : Variables) (count : ℕ) (v : ℤ) (r : List Part) → Opens g (point (m + 1 + 1) (pos 0 ∷ pos count ∷ (v +ℤ pos 1) ∷ pos 0 ∷ st) r [] g) (within (ds ++ IndexTo index v ∷ [])) (pos count ∷ (v +ℤ pos 1) ∷ pos 0 ∷ st) r n)
-        → (count : ℕ) (v : ℤ) (f : Variables) (q : List Part) → Opens f (point m (pos count ∷ v ∷ pos 0 ∷ st) q [] f) (λ s. each_over within index v count ds s) st q out
-    over_opens within ds index m skip back n out st h past hp hd hb eb k zero v f q =
+        → ((g : Variables) (count : ℕ) (v : ℤ) (r : List Part) → Opens g (point (m + 1 + 1) (pos 0 ∷ pos count ∷ v ∷ pos 0 ∷ st) r [] g) (within (ds ++ IndexTo index v ∷ [])) (pos count ∷ v ∷ pos 0 ∷ st) r n)
+        → (count : ℕ) (v : ℤ) → IsTrue (int_le (v +ℤ pos count) (pos 2147483648)) → (f : Variables) (q : List Part) → Opens f (point m (pos count ∷ v ∷ pos 0 ∷ st) q [] f) (λ s. each_over within index v count ds s) st q out
+    over_opens within ds index m skip back n out st h past hp hd hb eb k zero v fits f q =
         opens_none f (point m (pos 0 ∷ v ∷ pos 0 ∷ st) q [] f) st q out
         (subst (λ z. Walks by_cell code (point m (pos 0 ∷ v ∷ pos 0 ∷ st) q [] f) (point z (pos 0 ∷ st) q [] f)) past
         (steps_to code f m (pos 0 ∷ v ∷ pos 0 ∷ st) q [] (NextChoice index skip) (point (m + 1 + skip) (pos 0 ∷ st) q [] f) h refl))
-    over_opens within ds index m skip back n out st h past hp hd hb eb k (suc count) v f q =
-        let later = over_opens within ds index m skip back n out st h past hp hd hb eb k count (v +ℤ pos 1) in
+    over_opens within ds index m skip back n out st h past hp hd hb eb k (suc count) v fits f q =
+        let later = over_opens within ds index m skip back n out st h past hp hd hb eb k count (v +ℤ pos 1) (still_fits v count fits) in
+        let next = next_fits v count fits in
         let g = frame_with f index v in
         index_first (λ s. and_arms (within (ds ++ IndexTo index v ∷ []) s) (λ s'. each_over within index (v +ℤ pos 1) count ds s')) index v
-        (walks_on (steps_to code f m (pos (suc count) ∷ v ∷ pos 0 ∷ st) q [] (NextChoice index skip) (point (m + 1) (pos count ∷ (v +ℤ pos 1) ∷ pos 0 ∷ st) q [] (frame_with f index v)) h refl)
-        (steps_to code (frame_with f index v) (m + 1) (pos count ∷ (v +ℤ pos 1) ∷ pos 0 ∷ st) q [] (Push (pos 0)) (point (m + 1 + 1) (pos 0 ∷ pos count ∷ (v +ℤ pos 1) ∷ pos 0 ∷ st) q [] (frame_with f index v)) hp refl))
-        (opens_next (within (ds ++ IndexTo index v ∷ [])) (λ s'. each_over within index (v +ℤ pos 1) count ds s') (pos count ∷ (v +ℤ pos 1) ∷ pos 0 ∷ st) st q n out (k (frame_with f index v) count v q)
+        (walks_on (steps_to code f m (pos (suc count) ∷ v ∷ pos 0 ∷ st) q [] (NextChoice index skip) (point (m + 1) (pos count ∷ v ∷ pos 0 ∷ st) q [] (frame_with f index v)) h refl)
+        (steps_to code (frame_with f index v) (m + 1) (pos count ∷ v ∷ pos 0 ∷ st) q [] (Push (pos 0)) (point (m + 1 + 1) (pos 0 ∷ pos count ∷ v ∷ pos 0 ∷ st) q [] (frame_with f index v)) hp refl))
+        (opens_next (within (ds ++ IndexTo index v ∷ [])) (λ s'. each_over within index (v +ℤ pos 1) count ds s') (pos count ∷ v ∷ pos 0 ∷ st) st q n out (k (frame_with f index v) count v q)
         (λ g r. performs_on code cells
-        (walks_on (steps_to code g n (pos 0 ∷ pos count ∷ (v +ℤ pos 1) ∷ pos 0 ∷ st) r [] DropOne (point (n + 1) (pos count ∷ (v +ℤ pos 1) ∷ pos 0 ∷ st) r [] g) hd refl)
-        (subst (λ x. Walks by_cell code (point (n + 1) (pos count ∷ (v +ℤ pos 1) ∷ pos 0 ∷ st) r [] g) (point x (pos count ∷ (v +ℤ pos 1) ∷ pos 0 ∷ st) r [] g)) eb
-        (steps_to code g (n + 1) (pos count ∷ (v +ℤ pos 1) ∷ pos 0 ∷ st) r [] (BackToChoice back) (point (n + 1 - back) (pos count ∷ (v +ℤ pos 1) ∷ pos 0 ∷ st) r [] g) hb refl)))
+        (walks_on (steps_to code g n (pos 0 ∷ pos count ∷ v ∷ pos 0 ∷ st) r [] DropOne (point (n + 1) (pos count ∷ v ∷ pos 0 ∷ st) r [] g) hd refl)
+        (subst (λ x. Walks by_cell code (point (n + 1) (pos count ∷ v ∷ pos 0 ∷ st) r [] g) (point x (pos count ∷ (v +ℤ pos 1) ∷ pos 0 ∷ st) r [] g)) eb
+        (steps_to code g (n + 1) (pos count ∷ v ∷ pos 0 ∷ st) r [] (BackToChoice back) (point (n + 1 - back) (pos count ∷ (v +ℤ pos 1) ∷ pos 0 ∷ st) r [] g) hb (rw next refl))))
         (later g r)))
 
     counted_opens : (is : Indices) (within : List Setting → Store → Outcome (List Enabled)) (ds : List Setting) (index m out : ℕ) (st : List ℤ) (q : List Part) (f : Variables)
-        → ((count : ℕ) (v : ℤ) (f : Variables) (q : List Part) → Opens f (point m (pos count ∷ v ∷ pos 0 ∷ st) q [] f) (λ s. each_over within index v count ds s) st q out)
+        → ((count : ℕ) (v : ℤ) → IsTrue (int_le (v +ℤ pos count) (pos 2147483648)) → (f : Variables) (q : List Part) → Opens f (point m (pos count ∷ v ∷ pos 0 ∷ st) q [] f) (λ s. each_over within index v count ds s) st q out)
+        → ((base : ℤ) (count : ℕ) → is ≡ indices base count → IsTrue (int_le (base +ℤ pos count) (pos 2147483648)))
         → Opens f (point m (counting is (pos 0 ∷ st)) q [] f) (arms_over within index is ds) st q out
-    counted_opens (indices base count) within ds index m out st q f k = k count base f q
+    counted_opens (indices base count) within ds index m out st q f k fits = k count base (fits base count refl) f q
 
     -- ---- all arms
 
@@ -251,7 +249,7 @@ module _ (code : List Instruction) (loops : ℕ) (cells : List ℕ) (d : Declare
         let above = l.3.4 in
         let there = reaches_in pc low l.0 high l.1 ds l.3 reach l.0 (omega arith) (omega (arith, above)) in
         performs_on code cells (evaluates f pc low l.0 high l.1 l.2 st q l.3 l.4)
-        (may_open f l.1 next st q (λ s. and_arm (SkipArm ds t) (enabled others ds s)) (enabled others ds) (Some e) (OpenSkip (l.0 + 1) ∷ []) (pc + 1 + 1 + l.2) h.0 ke l.6
+        (may_open f l.1 next st q (λ s. and_arm (SkipArm ds t) (enabled others ds s)) (enabled others ds) (Some e) (OpenSkip (pos (l.0 + 1)) ∷ []) (pc + 1 + 1 + l.2) h.0 ke l.6
         (λ m at_place. opens_skip f l.1 next (l.0 + 1) m st q (SkipArm ds t) (enabled others ds) (l.0, pc + 1, l.2, add-one l.0, refl, is, there, l.4, l.5) later at_place)
         (later q))
     arms_run (input_arm e c list others) ds f pc low high next st q h k l is reach =
@@ -263,7 +261,7 @@ module _ (code : List Instruction) (loops : ℕ) (cells : List ℕ) (d : Declare
         let above = l.3.4 in
         let there = reaches_in pc low l.0 high l.1 ds l.3 reach l.0 (omega arith) (omega (arith, above)) in
         performs_on code cells (evaluates f pc low l.0 high l.1 l.2 st q l.3 l.4)
-        (may_open f l.1 next st q (λ s. then_in (in_store (span_of c s) s) (λ x s'. and_arm (InputArm ds (first_of x) list) (enabled others ds s'))) (enabled others ds) e (place_code c ++ OpenInput (l.0 + 1) ∷ []) (pc + 1 + 1 + l.2) h.0 ke l.6
+        (may_open f l.1 next st q (λ s. then_in (in_store (span_of c s) s) (λ x s'. and_arm (InputArm ds (first_of x) list) (enabled others ds s'))) (enabled others ds) e (place_code c ++ OpenInput (pos (l.0 + 1)) ∷ []) (pc + 1 + 1 + l.2) h.0 ke l.6
         (λ m at_place. opens_input f l.1 next (l.0 + 1) m st q c h.1.0 (λ n. InputArm ds n list) (enabled others ds) h.1.1 kc (λ n. (l.0, pc + 1, l.2, add-one l.0, refl, is, there, l.4, l.5)) later at_place)
         (later q))
     arms_run (declared_arms x within others) ds f pc low high next st q h k l is reach =
@@ -280,13 +278,14 @@ module _ (code : List Instruction) (loops : ℕ) (cells : List ℕ) (d : Declare
         let kx = held_left code cells d (uses_of_replicator over).reads (with_use (uses_of_arms within) (uses_of_arms others)).reads k in
         let r = held_right code cells d (uses_of_replicator over).reads (with_use (uses_of_arms within) (uses_of_arms others)).reads k in
         let inner = reaches_in pc low l.0 high l.1 ds l.7 reach in
-        let each_value = (λ (g : Variables) (count : ℕ) (v : ℤ) (q' : List Part). arms_run within (ds ++ IndexTo (index_of over) v ∷ []) g (l.2 + 1 + 1) l.0 high l.3 (pos count ∷ (v +ℤ pos 1) ∷ pos 0 ∷ st) q' h.2 (held_left code cells d (uses_of_arms within).reads (uses_of_arms others).reads r) l.14
-        (ap (λ xs. xs ++ ((v +ℤ pos 1) +ℤ negsuc 0) ∷ []) is ∙ ap (λ w. indices_in ds ++ w ∷ []) (value_before v) ∙ sym (indices_then_index ds (index_of over) v))
+        let each_value = (λ (g : Variables) (count : ℕ) (v : ℤ) (q' : List Part). arms_run within (ds ++ IndexTo (index_of over) v ∷ []) g (l.2 + 1 + 1) l.0 high l.3 (pos count ∷ v ∷ pos 0 ∷ st) q' h.2 (held_left code cells d (uses_of_arms within).reads (uses_of_arms others).reads r) l.14
+        (ap (λ xs. xs ++ v ∷ []) is ∙ sym (indices_then_index ds (index_of over) v))
         (λ n a b. subst (λ z. SetsAgain code n root (ds ++ IndexTo (index_of over) v ∷ []) z) l.9 (sets_index code n root (pc + 1) l.4 (index_of over) v ds (inner n a b) l.8))) in
         opens_next (λ s. then_in (in_store (indices_of over s) s) (λ x s'. arms_over (enabled within) (index_of over) x ds s')) (enabled others ds) st st q l.1 next
         (performs_on code cells
         (walks_on (passes_zero f pc low l.0 high l.1 st q l.7) (steps_to code f (pc + 1) (pos 0 ∷ st) q [] (SetAgain (index_of over) l.4) (point (pc + 1 + 1) (pos 0 ∷ st) q [] f) l.8 refl))
         (performs_by code cells (indices_of over) (indices_of over (at f)) (λ x. point l.2 (counting x (pos 0 ∷ st)) q [] f) (λ x s'. arms_over (enabled within) (index_of over) x ds s') (counting_runs code cells d over f (pc + 1 + 1) l.2 (pos 0 ∷ st) q l.10)
         (λ s hs. indices_same d s (at f) over h.0 (agrees_on code cells d (uses_of_replicator over).reads f s kx hs))
-        (λ x same. counted_opens x (enabled within) ds (index_of over) l.2 l.1 st q f (over_opens (enabled within) ds (index_of over) l.2 l.5 l.6 l.3 l.1 st l.11 l.12 l.13 l.15 l.16 l.17 each_value))))
+        (λ x same. counted_opens x (enabled within) ds (index_of over) l.2 l.1 st q f (over_opens (enabled within) ds (index_of over) l.2 l.5 l.6 l.3 l.1 st l.11 l.12 l.13 l.15 l.16 l.17 each_value)
+        (λ base count e. counted_fits over (at f) base count (same ∙ ap Value e)))))
         (λ g q'. arms_run others ds g l.1 low l.0 next st q' h.3 (held_right code cells d (uses_of_arms within).reads (uses_of_arms others).reads r) l.18 is (reaches_others pc low l.0 high l.1 ds l.7 reach))

@@ -1,6 +1,6 @@
 -- The code of each term does, within one turn, what the term does.
-use Rattle.std.specs.Prelude.{map, slice_get, if◌then◌else◌, nat_eq, ◌+ℤ◌, ◌-◌}
-use Rattle.std.proofs.Common.{arith, ◌≡◌, ◌∙◌, ℕ, zero, suc, ℤ, pos, ◌+◌, Bool, true, false, ◌<◌, List, [], ◌∷◌, ◌++◌, Option, Some, None, refl, ap, subst, sym}
+use Rattle.std.specs.Prelude.{int_le, map, slice_get, if◌then◌else◌, nat_eq, ◌+ℤ◌, ◌-◌}
+use Rattle.std.proofs.Common.{arith, ◌≡◌, ◌∙◌, ℕ, zero, suc, ℤ, pos, ◌+◌, Bool, IsTrue, true, false, ◌<◌, List, [], ◌∷◌, ◌++◌, Option, Some, None, refl, ap, subst, sym}
 use Rattle.occ_term.specs.declared.primitive.Primitive.{Primitive}
 use Rattle.occ_term.specs.declared.primitive.Primitive.TheVariants.{Bool as Boolean}
 use Rattle.occ_term.specs.declared.fault.Fault.{Fault}
@@ -32,7 +32,7 @@ use Rattle.occ_code.proofs.SequentialExpressions.{expression_runs, place_runs, s
 use Rattle.occ_code.proofs.SequentialItems.{items_run}
 use Rattle.occ_code.proofs.SequentialReads.{value_same, channel_same, indices_same, parts_same}
 use Rattle.occ_code.proofs.SequentialFrames.{HoldsAs, GivesAs, one_held, frame_of, Performs, performs, refuses, performs_on, performs_by}
-use Rattle.occ_code.proofs.SequentialStatements.{Held, held_left, held_right, agrees_on, Lands, sets_then, storing_runs, assigns, declaration_runs, declarations_run, counting_runs}
+use Rattle.occ_code.proofs.SequentialStatements.{Held, held_left, held_right, agrees_on, Lands, sets_then, storing_runs, assigns, declaration_runs, declarations_run, counted_fits, counting_runs, next_fits, still_fits}
 use Rattle.occ_code.proofs.SequentialResults.{Does as DoesFrom, steps_on, ways_walk, at_offer, at_await, at_choose, at_fork, at_halt, at_loop, finishes, pauses, result_after, result_within, faulted, outcome_result, comes_case}
 use Rattle.occ_code.proofs.SequentialChoosing.{arrives, ArmsLaid}
 use Rattle.occ_code.proofs.SequentialArms.{Opens, arms_run}
@@ -180,17 +180,18 @@ module _ (code : List Instruction) (loops : ℕ) (cells : List ℕ) (d : Declare
 
     over_runs : (select : Store → Outcome (Option Term)) (index m skip back n : ℕ) (st : List ℤ) (pc' : ℕ) → slice_get code m ≡ Some (NextChoice index skip) → slice_get code n ≡ Some (BackToChoice back) → n - back ≡ m
         → ((g : Variables) (st' : List ℤ) → Chooses g (point (m + 1) st' [] [] g) select st' n pc')
-        → (count : ℕ) (v : ℤ) (f : Variables) → Chooses f (point m (pos count ∷ v ∷ st) [] [] f) (λ s. first_over select index v count s) st (m + 1 + skip) pc'
-    over_runs select index m skip back n st pc' h hb eb k zero v f =
+        → (count : ℕ) (v : ℤ) → IsTrue (int_le (v +ℤ pos count) (pos 2147483648)) → (f : Variables) → Chooses f (point m (pos count ∷ v ∷ st) [] [] f) (λ s. first_over select index v count s) st (m + 1 + skip) pc'
+    over_runs select index m skip back n st pc' h hb eb k zero v fits f =
         performs None (point (m + 1 + skip) st [] [] f) (steps_to code f m (pos 0 ∷ v ∷ st) [] [] (NextChoice index skip) (point (m + 1 + skip) st [] [] f) h refl) refl refl
         (λ s hs. record { store = s; gives_it = refl; holds = hs })
-    over_runs select index m skip back n st pc' h hb eb k (suc count) v f =
-        let later = over_runs select index m skip back n st pc' h hb eb k count (v +ℤ pos 1) in
-        index_set (λ s. or_next (select s) (λ s'. first_over select index (v +ℤ pos 1) count s')) index v (point (m + 1) (pos count ∷ (v +ℤ pos 1) ∷ st) [] [] (frame_with f index v)) st (m + 1 + skip) pc'
-        (steps_to code f m (pos (suc count) ∷ v ∷ st) [] [] (NextChoice index skip) (point (m + 1) (pos count ∷ (v +ℤ pos 1) ∷ st) [] [] (frame_with f index v)) h refl)
-        (chooses_next select (λ s'. first_over select index (v +ℤ pos 1) count s') (pos count ∷ (v +ℤ pos 1) ∷ st) st n (m + 1 + skip) pc' (k (frame_with f index v) (pos count ∷ (v +ℤ pos 1) ∷ st))
-        (λ g. performs_on code cells (subst (λ x. Walks by_cell code (point n (pos count ∷ (v +ℤ pos 1) ∷ st) [] [] g) (point x (pos count ∷ (v +ℤ pos 1) ∷ st) [] [] g)) eb
-        (steps_to code g n (pos count ∷ (v +ℤ pos 1) ∷ st) [] [] (BackToChoice back) (point (n - back) (pos count ∷ (v +ℤ pos 1) ∷ st) [] [] g) hb refl)) (later g)))
+    over_runs select index m skip back n st pc' h hb eb k (suc count) v fits f =
+        let later = over_runs select index m skip back n st pc' h hb eb k count (v +ℤ pos 1) (still_fits v count fits) in
+        let next = next_fits v count fits in
+        index_set (λ s. or_next (select s) (λ s'. first_over select index (v +ℤ pos 1) count s')) index v (point (m + 1) (pos count ∷ v ∷ st) [] [] (frame_with f index v)) st (m + 1 + skip) pc'
+        (steps_to code f m (pos (suc count) ∷ v ∷ st) [] [] (NextChoice index skip) (point (m + 1) (pos count ∷ v ∷ st) [] [] (frame_with f index v)) h refl)
+        (chooses_next select (λ s'. first_over select index (v +ℤ pos 1) count s') (pos count ∷ v ∷ st) st n (m + 1 + skip) pc' (k (frame_with f index v) (pos count ∷ v ∷ st))
+        (λ g. performs_on code cells (subst (λ x. Walks by_cell code (point n (pos count ∷ v ∷ st) [] [] g) (point x (pos count ∷ (v +ℤ pos 1) ∷ st) [] [] g)) eb
+        (steps_to code g n (pos count ∷ v ∷ st) [] [] (BackToChoice back) (point (n - back) (pos count ∷ (v +ℤ pos 1) ∷ st) [] [] g) hb (rw next refl))) (later g)))
 
     -- ---- CASE and variants: where nothing is selected there is the halt
 
@@ -341,8 +342,9 @@ module _ (code : List Instruction) (loops : ℕ) (cells : List ℕ) (d : Declare
     chosen_runs (Some t) b next pc' h r = r
 
     counted_runs : (is : Indices) (select : Store → Outcome (Option Term)) (index m skip back n : ℕ) (st : List ℤ) (pc' : ℕ) → slice_get code m ≡ Some (NextChoice index skip) → slice_get code n ≡ Some (BackToChoice back) → n - back ≡ m
-        → ((g : Variables) (st' : List ℤ) → Chooses g (point (m + 1) st' [] [] g) select st' n pc') → (f : Variables) → Chooses f (point m (counting is st) [] [] f) (choice_over select index is) st (m + 1 + skip) pc'
-    counted_runs (indices base count) select index m skip back n st pc' h hb eb k f = over_runs select index m skip back n st pc' h hb eb k count base f
+        → ((g : Variables) (st' : List ℤ) → Chooses g (point (m + 1) st' [] [] g) select st' n pc') → (f : Variables)
+        → ((base : ℤ) (count : ℕ) → is ≡ indices base count → IsTrue (int_le (base +ℤ pos count) (pos 2147483648))) → Chooses f (point m (counting is st) [] [] f) (choice_over select index is) st (m + 1 + skip) pc'
+    counted_runs (indices base count) select index m skip back n st pc' h hb eb k f fits = over_runs select index m skip back n st pc' h hb eb k count base (fits base count refl) f
 
   mutual
     pub term_runs : (slot : ℕ) → (t : Term) (f : Variables) (pc pc' : ℕ) → TermHas d t → Has (uses_of t).reads → TermAt code loops slot pc t pc' → DoesFrom code loops cells slot (start pc f) f (Do t) pc'
@@ -424,7 +426,7 @@ module _ (code : List Instruction) (loops : ℕ) (cells : List ℕ) (d : Declare
         chooses_next slot (λ s. then_in (in_store (indices_of over s) s) (λ is s'. choice_over (choice_of within) (index_of over) is s')) (choice_of others) st st (l.0 + 1 + l.1) next pc'
         (performs_by code cells (indices_of over) (indices_of over (at f)) (λ is. point l.0 (counting is st) [] [] f) (λ is s'. choice_over (choice_of within) (index_of over) is s') (counting_runs code cells d over f pc l.0 st [] l.4)
         (λ s hs. indices_same d s (at f) over h.0 (agrees_on code cells d (uses_of_replicator over).reads f s kx hs))
-        (λ is q. counted_runs slot is (choice_of within) (index_of over) l.0 l.1 l.3 l.2 st pc' l.5 l.7.0 l.7.1 inner f))
+        (λ is q. counted_runs slot is (choice_of within) (index_of over) l.0 l.1 l.3 l.2 st pc' l.5 l.7.0 l.7.1 inner f (λ base count e. counted_fits over (at f) base count (q ∙ ap Value e))))
         (λ g. choices_run slot others g (l.0 + 1 + l.1) next pc' st h.3 (held_right code cells d (uses_of_choices within).reads (uses_of_choices others).reads r) l.8)
 
     options_run : (slot : ℕ) → (os : Options) (f : Variables) (v : ℤ) (pc next pc' : ℕ) (type : Primitive) (other : Option Selected) → OptionsHave d type os → Has (uses_of_options os).reads → OptionsAt code loops slot pc os next pc'

@@ -98,10 +98,10 @@ opening_small None opens = omega arith
 opening_small (Some e) opens = omega (arith, expression_small e, length-append (expression_code e) (IfTrue (length opens) ∷ opens))
 
 skip_small : (e : Expression) (number : ℕ) → length (skip_opening e number) ≤ 8 * (size_of_expression e).nodes + 1
-skip_small e number = omega (arith, opening_small (Some e) (OpenSkip number ∷ []))
+skip_small e number = omega (arith, opening_small (Some e) (OpenSkip (pos number) ∷ []))
 
 input_small : (e : Option Expression) (c : Place) (number : ℕ) → length (input_opening e c number) ≤ 8 * (size_of_test e).nodes + 8 * (size_of_place c).nodes + 2
-input_small e c number = omega (arith, opening_small e (place_code c ++ OpenInput number ∷ []), received_small c (OpenInput number))
+input_small e c number = omega (arith, opening_small e (place_code c ++ OpenInput (pos number) ∷ []), received_small c (OpenInput (pos number)))
 
 -- with the bodies of the branches of PARs
 mutual

@@ -1,6 +1,7 @@
 -- What the code of assignments, declarations and replicators does.
-use Rattle.std.specs.Prelude.{slice_get, ◌||◌, int_le, nat_abs, ◌&&◌, ◌+ℤ◌, replicate}
-use Rattle.std.proofs.Common.{◌≡◌, ◌∙◌, ℕ, ℤ, pos, ◌+◌, IsTrue, List, [], ◌∷◌, ◌++◌, Some, refl, ap, subst, sym}
+use Rattle.std.specs.Prelude.{slice_get, negsuc, ◌||◌, int_le, nat_abs, ◌&&◌, ◌+ℤ◌, replicate}
+use Rattle.std.proofs.Common.{◌≡◌, ◌∙◌, ℕ, suc, ℤ, pos, ◌+◌, Bool, true, false, IsTrue, List, [], ◌∷◌, ◌++◌, Some, refl, ap, subst, sym, arith}
+use Rattle.std.proofs.lemmas.Bool.Decides.{nat_tests}
 use Rattle.occ_term.specs.Values.{Evaluated, Value, Fails}
 use Rattle.occ_term.specs.Storing.{in_store}
 use Rattle.occ_code.specs.Sequential.Laws.{FaultsAt, comes, fails}
@@ -25,7 +26,7 @@ use Rattle.occ_term.specs.declared.protocol.PartType.{PartType}
 use Rattle.occ_term.specs.Messages.{simple_part}
 use Rattle.occ_term.specs.Terms.{Item, Target, Declaration, Clearing, Naming, Replicator, replicator}
 use Rattle.occ_term.specs.Values.{Store, after, checked, value_of, part_of, parts_of, AgreeOn}
-use Rattle.occ_term.specs.Storing.{Outcome, Gives, Faults, then_in, Nothing, nothing, store_from, values_in, Spot, spots_of, store_parts, store_into, assigned, declared, all_declared, indices, indices_of}
+use Rattle.occ_term.specs.Storing.{Outcome, Gives, Faults, then_in, Nothing, nothing, store_from, values_in, Spot, spots_of, store_parts, store_into, assigned, declared, all_declared, Indices, indices, indices_of}
 use Rattle.occ_term.specs.Uses.{Numbers, reads_of_item, reads_of_items, uses_of_targets, uses_of_declaration, uses_of_declarations}
 use Rattle.occ_term.specs.TermTyping.{Declared, ItemsHave, TargetsHave, DeclarationHas, DeclarationsHave}
 use Rattle.occ_term.specs.Frames.{Variables, is_held, at}
@@ -195,3 +196,40 @@ module _ (code : List Instruction) (cells : List ℕ) (d : Declared) where
       (λ x e. comes_then code f (value_of count (at f)) (λ y. checked (int_le (pos 0) y && int_le (x +ℤ y) (pos 2147483648)) (indices x (nat_abs y)) Count line) (expression_runs code f q [] count m n (x ∷ st) b)
       (λ y e'. let v = checked (int_le (pos 0) y && int_le (x +ℤ y) (pos 2147483648)) (indices x (nat_abs y)) Count line in
       comes_at code f _ v (n + 1) pc' (λ z is. point z (counting is st) q [] f) l.1 (comes_by code f n (y ∷ x ∷ st) q [] _ v (λ is. point (n + 1) (counting is st) q [] f) l.0 refl)))
+
+-- ---- how far the values of a replicator go
+
+checked_gives : (test : Bool) (x y : Indices) (line : ℕ) → checked test x Count line ≡ Value y → IsTrue test × (x ≡ y)
+checked_gives true x y line h = let e : x ≡ y = cc in (refl, e)
+checked_gives false x y line h = cc
+
+second_true : (a b : Bool) → IsTrue (a && b) → IsTrue b
+second_true true b h = h
+second_true false b h = cc
+
+checked_fits : (b n : ℤ) (line : ℕ) (base : ℤ) (count : ℕ) → checked (int_le (pos 0) n && int_le (b +ℤ n) (pos 2147483648)) (indices b (nat_abs n)) Count line ≡ Value (indices base count)
+    → IsTrue (int_le (base +ℤ pos count) (pos 2147483648))
+checked_fits b (pos k) line base count h =
+    let (t, e) = checked_gives (int_le (pos 0) (pos k) && int_le (b +ℤ pos k) (pos 2147483648)) (indices b k) (indices base count) line h in
+    let bases : b ≡ base = cc in
+    let counts : k ≡ count = cc in
+    let within : IsTrue (int_le (b +ℤ pos k) (pos 2147483648)) = second_true (int_le (pos 0) (pos k)) (int_le (b +ℤ pos k) (pos 2147483648)) t in
+    subst (λ z. IsTrue (int_le (z +ℤ pos count) (pos 2147483648))) bases (subst (λ m. IsTrue (int_le (b +ℤ pos m) (pos 2147483648))) counts within)
+checked_fits b (negsuc k) line base count h = cc
+
+-- the last index lies within INT
+pub counted_fits : (r : Replicator) (s : Store) (base : ℤ) (count : ℕ) → indices_of r s ≡ Value (indices base count) → IsTrue (int_le (base +ℤ pos count) (pos 2147483648))
+counted_fits (replicator line index b n) s base count h = by (value_of b s) (value_of n s) h
+  where
+    by : (x y : Evaluated ℤ) → after x (λ b. after y (λ n. checked (int_le (pos 0) n && int_le (b +ℤ n) (pos 2147483648)) (indices b (nat_abs n)) Count line)) ≡ Value (indices base count)
+        → IsTrue (int_le (base +ℤ pos count) (pos 2147483648))
+    by (Value x) (Value y) h = checked_fits x y line base count h
+    by (Value x) (Fails e) h = cc
+    by (Fails e) y h = cc
+
+-- so does the next one, where one is left, and the last one as well
+pub next_fits : (v : ℤ) (n : ℕ) → IsTrue (int_le (v +ℤ pos (suc n)) (pos 2147483648)) → int_le (v +ℤ pos 1) (pos 2147483648) ≡ true
+next_fits v n h = grind (arith, nat_tests)
+
+pub still_fits : (v : ℤ) (n : ℕ) → IsTrue (int_le (v +ℤ pos (suc n)) (pos 2147483648)) → IsTrue (int_le ((v +ℤ pos 1) +ℤ pos n) (pos 2147483648))
+still_fits v n h = grind (arith, nat_tests)

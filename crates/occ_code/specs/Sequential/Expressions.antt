@@ -72,10 +72,10 @@ opening_code None opens = opens
 opening_code (Some test) opens = expression_code test ++ IfTrue (length opens) ∷ opens
 
 abbrev pub skip_opening : Expression → ℕ → List Instruction
-skip_opening test number = opening_code (Some test) (OpenSkip number ∷ [])
+skip_opening test number = opening_code (Some test) (OpenSkip (pos number) ∷ [])
 
 abbrev pub input_opening : Option Expression → Place → ℕ → List Instruction
-input_opening test channel number = opening_code test (place_code channel ++ OpenInput number ∷ [])
+input_opening test channel number = opening_code test (place_code channel ++ OpenInput (pos number) ∷ [])
 
 -- a single variable
 abbrev pub single_target : List Target → Option ℕ

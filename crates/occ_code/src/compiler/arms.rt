@@ -1,5 +1,5 @@
 //! The code round the arms of an ALT, and round choices and arms for each value of an index.
-ghost use Rattle.std.specs.Prelude.{◌≡◌, ◌∷◌, [], ◌++◌, ◌-◌, ◌+◌, ◌<◌, IfOk, OnOk, List, length, pos};
+ghost use Rattle.std.specs.Prelude.{◌≡◌, ◌∷◌, [], ◌++◌, ◌-◌, ◌+◌, ◌<◌, OnOk, List, length, pos};
 ghost use Rattle.occ_term.specs.Storing.{index_of};
 ghost use Rattle.occ_term.specs.View.{expression_of, place_of, replicator_of, test_of};
 ghost use Rattle.occ_code.specs.Sequential.Machine as machine;
@@ -13,16 +13,12 @@ use crate::compiler::pieces::{emitted, put, put_at, since};
 use occ_term::{Place, Replicator, TermExpr};
 use std::alloc::{AllocError, Global};
 
-/// The number of an arm that stands before what was emitted since the end. The error is that of one past
-/// 2^32 - 1.
-fn arm_number(code: &Vec<Instr>, end: usize) -> Result<u32, AllocError>
-    ensures { IfOk result (λ number. number ≡ length code.now.items - end + 1) }
+/// The number of an arm that stands before what was emitted since the end.
+fn arm_number(code: &Vec<Instr>, end: usize) -> i64
+    ensures { result ≡ pos (length code.now.items - end + 1) }
 {
-    let behind = since(code, end);
-    if behind >= 4_294_967_295 {
-        return Err(AllocError);
-    }
-    Ok(behind as u32 + 1)
+    let behind = code.as_slice().len().saturating_sub(end);
+    behind as i64 + 1
 }
 
 /// What opens an arm whose process is behind SKIP.
@@ -34,7 +30,7 @@ pub(crate) fn emit_skip_opening(
 ) -> Result<(), AllocError>
     ensures { OnOk result (Emits code.old.items (skip_opening (expression_of test.now) (length code.old.items - end + 1)) code.new.items) }
 {
-    let number = arm_number(code, end)?;
+    let number = arm_number(code, end);
     put(code, Instr::OpenSkip(number))?;
     put(code, Instr::IfTrue(1))?;
     emit_expression(alloc, test, code)?;
@@ -51,7 +47,7 @@ pub(crate) fn emit_input_opening(
 ) -> Result<(), AllocError>
     ensures { OnOk result (Emits code.old.items (input_opening (test_of test.now) (place_of channel.now) (length code.old.items - end + 1)) code.new.items) }
 {
-    let number = arm_number(code, end)?;
+    let number = arm_number(code, end);
     let before = emitted(code);
     emit_place_before(alloc, channel, Instr::OpenInput(number), code)?;
     match test {
@@ -87,10 +83,7 @@ pub(crate) fn emit_passing(
     ensures { OnOk result (Emits code.old.items (machine.PassArms (before - end) (length code.old.items - before) ∷ []) code.new.items) }
 {
     let last = before.saturating_sub(end);
-    if last > 4_294_967_295 {
-        return Err(AllocError);
-    }
-    put(code, Instr::PassArms(last as u32, since(code, before)))?;
+    put(code, Instr::PassArms(last, since(code, before)))?;
     Ok(())
 }
 

@@ -9,7 +9,7 @@ use occ_usage::{Kind, Use};
 use std::alloc::{AllocError, Global};
 
 /// How many cells a program may have.
-pub(crate) const MOST_CELLS: usize = 65_536;
+const MOST_CELLS: usize = 65_536;
 
 /// The cells that are written, or also those that are read, rising. The error is a refused growth, or
 /// that of a cell past the limit.
@@ -18,7 +18,8 @@ pub(crate) fn rising_cells(
     uses: &[Use],
     writes_only: bool,
 ) -> Result<Vec<u32>, AllocError>
-    ensures { IfOk result (λ xs. Lists xs.items (counted writes_only (uses_in uses.now))) }
+    ensures lists { IfOk result (λ xs. Lists xs.items (counted writes_only (uses_in uses.now))) }
+    ensures few { IfOk result (λ xs. length xs.items ≤ 65536) }
 {
     let count = furthest_end(uses, writes_only);
     if count > MOST_CELLS {
@@ -71,40 +72,36 @@ fn ends_of(
     writes_only: bool,
     count: usize,
 ) -> Result<Vec<usize>, AllocError>
+    requires { furthest writes_only uses.now ≤ count }
     ensures { IfOk result (λ ends. AreEnds ends.items count (covers writes_only uses.now)) }
 {
     let mut ends = vec![in alloc; 0; count]?;
     let mut left = uses.len();
     while left > 0 {
         left -= 1;
-        note_use(&mut ends, uses[left], writes_only)?;
+        note_use(&mut ends, uses[left], writes_only);
     }
     Ok(ends)
 }
 
-fn note_use(ends: &mut Vec<usize>, one: Use, writes_only: bool) -> Result<(), AllocError>
+fn note_use(ends: &mut Vec<usize>, one: Use, writes_only: bool)
+    requires { end_of writes_only one ≤ length ends.old.items }
     ensures long { length ends.new.items ≡ length ends.old.items }
-    ensures noted { OnOk result ((uses : List Use) → AreEnds ends.old.items (length ends.old.items) (covers writes_only uses) → AreEnds ends.new.items (length ends.old.items) (covers writes_only (one ∷ uses))) }
+    ensures noted { (uses : List Use) → AreEnds ends.old.items (length ends.old.items) (covers writes_only uses) → AreEnds ends.new.items (length ends.old.items) (covers writes_only (one ∷ uses)) }
 {
     if is_counted(one.kind, writes_only) && one.first < one.end {
-        note_end(ends, one.first, one.end)?;
+        note_end(ends, one.first, one.end);
     }
-    Ok(())
 }
 
-/// The error is that of an end past the table.
-fn note_end(ends: &mut Vec<usize>, first: u64, end: u64) -> Result<(), AllocError>
-    requires { first < end }
+fn note_end(ends: &mut Vec<usize>, first: u64, end: u64)
+    requires some { first < end }
+    requires within { end ≤ length ends.old.items }
     ensures long { length ends.new.items ≡ length ends.old.items }
-    ensures within { OnOk result (end ≤ length ends.old.items) }
-    ensures set { OnOk result (ends.new.items ≡ set ends.old.items first (max (get_or ends.old.items first 0) end)) }
+    ensures set { ends.new.items ≡ set ends.old.items first (max (get_or ends.old.items first 0) end) }
 {
-    if end > ends.len() as u64 {
-        return Err(AllocError);
-    }
     let place = first as usize;
     ends[place] = larger(ends[place], end as usize);
-    Ok(())
 }
 
 fn larger(a: usize, b: usize) -> usize
@@ -116,7 +113,8 @@ fn larger(a: usize, b: usize) -> usize
 /// The numbers that are reached.
 fn reached(alloc: Global, ends: &[usize]) -> Result<Vec<u32>, AllocError>
     requires { length ends.now ≤ 65536 }
-    ensures { IfOk result (λ xs. AreReached ends.now (length ends.now) xs.items) }
+    ensures reached { IfOk result (λ xs. AreReached ends.now (length ends.now) xs.items) }
+    ensures few { IfOk result (λ xs. length xs.items ≤ length ends.now) }
 {
     let mut numbers = Vec::new(alloc);
     let mut furthest = 0;

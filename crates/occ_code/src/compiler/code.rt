@@ -1,5 +1,5 @@
 //! Compiled programs.
-ghost use Rattle.std.specs.Prelude.{◌≡◌, ◌<◌, ◌≤◌, IsTrue, IfOk, IfErr, IfSome, IfNone, None, Some, length, map, slice_get};
+ghost use Rattle.std.specs.Prelude.{◌≡◌, ◌<◌, ◌≤◌, ◌-◌, ◌^◌, IsTrue, IfOk, IfErr, IfSome, IfNone, None, Some, length, map, min, slice_get};
 ghost use Rattle.std.specs.Arc.{arc_value};
 ghost use Rattle.occ_term.specs.Processes.{processes_of};
 ghost use Rattle.occ_term.specs.Unfolding.{meaning};
@@ -156,24 +156,24 @@ fn program_bodies(
     ensures refused { IfErr result (λ fault. IsRefused fault (term_of term.now)) }
 {
     let bodies = bodies_of(alloc, quantum, term)?;
-    if instructions_in(&bodies)? > MOST_INSTRUCTIONS {
+    if instructions_in(&bodies) > MOST_INSTRUCTIONS {
         return Err(CodeFault::TooLarge);
     }
     Ok(bodies)
 }
 
-/// How many instructions there are. The error is that of more than a machine's word can count.
-fn instructions_in(bodies: &[Arc<Body, Global>]) -> Result<usize, AllocError>
-    ensures { IfOk result (λ n. n ≡ compiled.instructions_in (map arc_value bodies.now)) }
+/// How many instructions there are, or the most that a machine's word can count.
+fn instructions_in(bodies: &[Arc<Body, Global>]) -> usize
+    ensures { result ≡ min (compiled.instructions_in (map arc_value bodies.now)) (2 ^ 64 - 1) }
 {
     let mut all: usize = 0;
     let mut count = bodies.len();
     while count > 0 {
         count -= 1;
         let own = bodies[count].code().len();
-        all = own.checked_add(all).ok_or(AllocError)?;
+        all = own.saturating_add(all);
     }
-    Ok(all)
+    all
 }
 
 fn copy_channels(alloc: Global, channels: &[Channel]) -> Result<Vec<Channel>, AllocError>

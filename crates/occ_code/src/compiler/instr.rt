@@ -73,7 +73,7 @@ pub enum Instr {
     BackToChoice(usize),
     /// In an ALT, of which 0 stands on the stack while its arms are evaluated, and the number of the arm
     /// once one was taken: goes on behind the skip with a number from 1 to the last one that stands there.
-    PassArms(u32, usize),
+    PassArms(usize, usize),
     /// Takes the number of an arm, with which it goes on; with 0 it goes on behind the skip.
     IfTaken(usize),
     /// With the number of an arm, takes the value below it, sets the index to it and goes on behind the skip:
@@ -82,9 +82,9 @@ pub enum Instr {
     /// Takes a truth value: FALSE goes on behind the skip.
     IfTrue(usize),
     /// Opens the arm with this number, which is SKIP, for the values that the indices have.
-    OpenSkip(u32),
+    OpenSkip(i64),
     /// Takes a channel, and opens the arm with this number, which inputs from it.
-    OpenInput(u32),
+    OpenInput(i64),
     /// Chooses among the open arms, by priority where the truth value says so, and goes on so far back; halts
     /// where none is open.
     ChooseArm(bool, usize),

@@ -4,23 +4,19 @@ ghost use Rattle.occ_term.specs.Frames.{place_among};
 ghost use Rattle.occ_code.specs.Sequential.Machine.{placed};
 ghost use Rattle.occ_code.specs.Sequential.View.{instruction_of};
 
-use crate::compiler::cells::MOST_CELLS;
 use crate::compiler::instr::Instr;
 use occ_term::Held;
 use std::alloc::{AllocError, Global};
 
-/// Each instruction that names one cell names its place among these from now on. The error is a refused
-/// growth, or that of more cells than a program may have.
+/// Each instruction that names one cell names its place among these from now on.
 pub(crate) fn name_places(
     alloc: Global,
     cells: &[u32],
     code: &mut Vec<Instr>,
 ) -> Result<(), AllocError>
+    requires { length cells.now ≤ 65536 }
     ensures { OnOk result (map instruction_of code.new.items ≡ map (placed cells.now) (map instruction_of code.old.items)) }
 {
-    if cells.len() > MOST_CELLS {
-        return Err(AllocError);
-    }
     let held = Held::new(alloc, cells)?;
     for instr in code.iter_mut() {
         name_place(&held, instr);
