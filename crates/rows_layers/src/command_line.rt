@@ -3,101 +3,79 @@ use clap::error::ErrorKind;
 use occ_play_inputs::read_words;
 use std::test::Fail;
 
-#[test]
-fn every_word_is_read(rt: HostRuntime) -> Result<(), Fail> {
-    let list = [
-        "occam",
-        "--limit",
-        "10000000",
-        "--quantum",
-        "65536",
-        "--choices",
-        "c",
-        "--record",
-        "r",
-        "--chart",
-        "s.svg",
-        "--arrows",
-        "0",
-        "--trace",
-        "f.occ",
-    ];
-    let words = read_words(rt.alloc(), list.as_slice())?;
-    assert_eq!(rt; words.limit, 10_000_000);
-    assert_eq!(rt; words.quantum, 65_536);
-    assert_eq!(rt; words.choices.unwrap_or(""), "c");
-    assert_eq!(rt; words.record.unwrap_or(""), "r");
-    assert_eq!(rt; words.chart.unwrap_or(""), "s.svg");
-    assert_eq!(rt; words.arrows, 0);
-    assert!(rt; words.trace);
-    assert_eq!(rt; words.file.unwrap_or(""), "f.occ");
-    Ok(())
-}
+/// Words, and what is read of them.
+const READ: [(&[&str], &str); 4] = [
+    (
+        &["occam"],
+        "Words { limit: 1000000, quantum: 1, trace: false, choices: None, record: None, chart: None, arrows: 200, file: None }",
+    ),
+    (
+        &["occam", "--limit", "10000000", "--trace", "f.occ"],
+        "Words { limit: 10000000, quantum: 1, trace: true, choices: None, record: None, chart: None, arrows: 200, file: Some(\"f.occ\") }",
+    ),
+    (
+        &["occam", "f.occ", "--trace", "--limit=0"],
+        "Words { limit: 0, quantum: 1, trace: true, choices: None, record: None, chart: None, arrows: 200, file: Some(\"f.occ\") }",
+    ),
+    (
+        &[
+            "occam",
+            "--quantum=65536",
+            "--choices=c",
+            "--record=r",
+            "--chart=s.svg",
+            "--arrows=0",
+        ],
+        "Words { limit: 1000000, quantum: 65536, trace: false, choices: Some(\"c\"), record: Some(\"r\"), chart: Some(\"s.svg\"), arrows: 0, file: None }",
+    ),
+];
 
 #[test]
-fn words_come_in_any_order(rt: HostRuntime) -> Result<(), Fail> {
-    let list = ["occam", "f.occ", "--trace", "--limit=0"];
-    let words = read_words(rt.alloc(), list.as_slice())?;
-    assert_eq!(rt; words.limit, 0);
-    assert!(rt; words.trace);
-    assert_eq!(rt; words.file.unwrap_or(""), "f.occ");
-    Ok(())
-}
-
-#[test]
-fn words_have_defaults(rt: HostRuntime) -> Result<(), Fail> {
-    let list = ["occam"];
-    let words = read_words(rt.alloc(), list.as_slice())?;
-    assert_eq!(rt; words.limit, 1_000_000);
-    assert_eq!(rt; words.quantum, 1);
-    assert_eq!(rt; words.arrows, 200);
-    assert!(rt; words.choices.is_none());
-    assert!(rt; words.record.is_none());
-    assert!(rt; words.chart.is_none());
-    assert!(rt; !words.trace);
-    assert!(rt; words.file.is_none());
-    Ok(())
-}
-
-#[test]
-fn wrong_words_are_refused(rt: HostRuntime) -> Result<(), Fail> {
-    let rows = [
-        ("--limit=10000001", ErrorKind::ValueValidation),
-        ("--limit=4294967296", ErrorKind::ValueValidation),
-        ("--limit=-1", ErrorKind::ValueValidation),
-        ("--limit=x", ErrorKind::ValueValidation),
-        ("--limit=", ErrorKind::ValueValidation),
-        ("--limit", ErrorKind::InvalidValue),
-        ("--quantum=0", ErrorKind::ValueValidation),
-        ("--quantum=65537", ErrorKind::ValueValidation),
-        ("--arrows=4294967296", ErrorKind::ValueValidation),
-        ("--chart", ErrorKind::InvalidValue),
-        ("--trace=yes", ErrorKind::TooManyValues),
-        ("--nope", ErrorKind::UnknownArgument),
-        ("-t", ErrorKind::UnknownArgument),
-        ("--help", ErrorKind::DisplayHelp),
-        ("-h", ErrorKind::DisplayHelp),
-    ];
-    for (word, wanted) in rows {
-        let list = ["occam", word];
-        let refused = read_words(rt.alloc(), list.as_slice()).err();
-        assert_eq!(rt; refused.map(|error| error.kind()), Some(wanted), "{word}");
+fn words_are_read(rt: HostRuntime) -> Result<(), Fail> {
+    let alloc = rt.alloc();
+    for (list, wanted) in READ {
+        let words = read_words(alloc, list)?;
+        let read = format!(in alloc; "{words:?}")?;
+        assert_eq!(rt; read.as_str(), wanted);
     }
     Ok(())
 }
 
+/// Words, and why they are refused.
+const REFUSED: [(&[&str], ErrorKind); 18] = [
+    (&["occam", "--limit=10000001"], ErrorKind::ValueValidation),
+    (&["occam", "--limit=4294967296"], ErrorKind::ValueValidation),
+    (&["occam", "--limit=-1"], ErrorKind::ValueValidation),
+    (&["occam", "--limit=x"], ErrorKind::ValueValidation),
+    (&["occam", "--limit="], ErrorKind::ValueValidation),
+    (&["occam", "--limit"], ErrorKind::InvalidValue),
+    (&["occam", "--quantum=0"], ErrorKind::ValueValidation),
+    (&["occam", "--quantum=65537"], ErrorKind::ValueValidation),
+    (
+        &["occam", "--arrows=4294967296"],
+        ErrorKind::ValueValidation,
+    ),
+    (&["occam", "--chart"], ErrorKind::InvalidValue),
+    (&["occam", "--trace=yes"], ErrorKind::TooManyValues),
+    (&["occam", "--nope"], ErrorKind::UnknownArgument),
+    (&["occam", "-t"], ErrorKind::UnknownArgument),
+    (&["occam", "--help"], ErrorKind::DisplayHelp),
+    (&["occam", "-h"], ErrorKind::DisplayHelp),
+    (
+        &["occam", "--limit=1", "--limit=1"],
+        ErrorKind::ArgumentConflict,
+    ),
+    (
+        &["occam", "--trace", "--trace"],
+        ErrorKind::ArgumentConflict,
+    ),
+    (&["occam", "f.occ", "g.occ"], ErrorKind::UnknownArgument),
+];
+
 #[test]
-fn words_stand_once(rt: HostRuntime) -> Result<(), Fail> {
-    let rows = [
-        (
-            ["occam", "--limit=1", "--limit=1"],
-            ErrorKind::ArgumentConflict,
-        ),
-        (["occam", "--trace", "--trace"], ErrorKind::ArgumentConflict),
-        (["occam", "f.occ", "g.occ"], ErrorKind::UnknownArgument),
-    ];
-    for (list, wanted) in rows {
-        let refused = read_words(rt.alloc(), list.as_slice()).err();
+fn wrong_words_are_refused(rt: HostRuntime) -> Result<(), Fail> {
+    for (list, wanted) in REFUSED {
+        let refused = read_words(rt.alloc(), list).err();
         assert_eq!(rt; refused.map(|error| error.kind()), Some(wanted));
     }
     Ok(())
