@@ -155,7 +155,7 @@ pub fn chart(
     plan: &Plan,
     most: u32,
 ) -> Result<Vec<u8>, PlayFault>
-    ensures drawn { IfOk result (λ bytes. IsChart source.now keyboard.now (choices_of plan.now) most bytes.items) }
+    ensures drawn { IfOk result (λ bytes. IsChart options.now.quantum source.now keyboard.now (choices_of plan.now) most bytes.items) }
     ensures refused { IfErr result (Refuses options.now.quantum source.now) }
 {
     let (code, outcome) = ran(options, alloc, source, keyboard, plan)?;

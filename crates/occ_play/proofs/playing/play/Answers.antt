@@ -1,8 +1,13 @@
-use Rattle.std.proofs.Common.{sym, subst}
+use Rattle.std.proofs.Common.{subst}
+use Rattle.std.specs.Prelude.{IfOk, IfErr}
 use Rattle.occ_choices.specs.Plans.{choices_of}
-use Rattle.occ_play.specs.Playing.{IsAnswer}
+use Rattle.occ_play.specs.Playing.{AfterFault, IsAnswer, IsSomeAnswer, Wrote}
 use Rattle.occ_play.proofs.playing.play.Goals as goal
 
-pub returns-in-Err-clause-fault : goal.returns-in-Err-clause-fault
-returns-in-Err-clause-fault g c =
-    (c.in-Err.ensures.failed, (c.as_slice.result.now, (c.in_ok-played.played, subst (λ b. IsAnswer 1 c.args.source.now c.args.keyboard.now (choices_of c.args.plan.now) c.args.trace c.in_ok-played.played b) (sym c.as_slice.ensures.value) c.in_ok-played.ensures.answer), c.in-Err.ensures.beginning.0, c.in-Err.ensures.beginning.1))
+pub returns-clause-played : goal.returns-clause-played
+returns-clause-played g c =
+    subst (λ q. IfOk c.play_in.result (λ played. Wrote g.W.Write.contents (IsAnswer q c.args.source.now c.args.keyboard.now (choices_of c.args.plan.now) c.args.trace played) c.args.out.now c.play_in.new.out)) c.plain.ensures c.play_in.ensures.played
+
+pub returns-clause-fault : goal.returns-clause-fault
+returns-clause-fault g c =
+    subst (λ q. IfErr c.play_in.result (AfterFault g.W.Write.contents (IsSomeAnswer q c.args.source.now c.args.keyboard.now (choices_of c.args.plan.now) c.args.trace) q c.args.source.now c.args.out.now c.play_in.new.out)) c.plain.ensures c.play_in.ensures.fault
