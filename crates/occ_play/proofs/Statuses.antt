@@ -1,6 +1,6 @@
 -- Exit statuses are at most 7, and what they come from.
 use Rattle.std.proofs.Common.{ℕ, ◌≤◌, ◌≡◌, ◌⊎◌, inl, inr, Bool, List, arith, subst, sym}
-use Rattle.core.specs.Result.{result_and}
+use Rattle.std.specs.Result.{result_and}
 use Rattle.std.specs.Prelude.{Result, Ok, Err, IfOk, IfErr, Option}
 use Rattle.occ_text.specs.declared.fault.TextFault.TheVariants as text
 use Rattle.occ_tree_grammar.specs.declared.fault.ParseFault.TheVariants as tree

@@ -5,7 +5,7 @@ ghost use Rattle.occ_play.specs.Charting.{Draws};
 ghost use Rattle.occ_play.specs.Playing.{Refuses};
 
 use crate::fault::PlayFault;
-use crate::playing::{chart, options_of};
+use crate::playing::{Played, chart, options_of};
 use occ_play_inputs::failure::of_write;
 use occ_play_inputs::{Failure, Inputs, Words};
 use std::alloc::Global;
@@ -13,21 +13,22 @@ use std::fs;
 use std::io::Write;
 use std::rt::Files;
 
-/// Draws the run of these inputs into the file that the words name, if they name one.
+/// Draws the run of these inputs into the file that the words name, where it answered.
 pub(crate) fn draw<R: Files>(
     rt: &R,
     alloc: Global,
     words: &Words<'_>,
     inputs: &Inputs,
+    played: &Result<Played, PlayFault>,
 ) -> Result<Result<(), PlayFault>, Failure>
     ensures { IfOk result (λ drawn. IfErr drawn (Refuses words.now.quantum inputs.now.source.items)) }
 {
-    match words.chart {
-        None => Ok(Ok(())),
-        Some(path) => {
+    match (words.chart, played) {
+        (Some(path), Ok(_)) => {
             let mut file = fs::create(rt, path).map_err(of_write)?;
             write_chart(alloc, words, inputs, &mut file)
         }
+        _ => Ok(Ok(())),
     }
 }
 

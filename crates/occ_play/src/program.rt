@@ -65,10 +65,7 @@ fn run_words<R: Files + Input + Print + Eprint>(
     let mut out = Counted::new(io::writer(rt));
     let played = play_inputs(alloc, words, &inputs, &mut out);
     record(rt, alloc, words, &played)?;
-    let drawn = match &played {
-        Ok(_) => draw(rt, alloc, words, &inputs)?,
-        Err(_) => Ok(()),
-    };
+    let drawn = draw(rt, alloc, words, &inputs, &played)?;
     Ok(told(rt, &drawn.and(played)))
 }
 

@@ -1,11 +1,21 @@
-use Rattle.std.proofs.Common.{rules, ◌≡◌, ◌≤◌, ◌<◌, ◌-◌, ◌^◌, ◌⊎◌, IfOk, ℕ, ◌+◌, ◌*◌, length, ◌/◌, ◌%◌, Bool, true, false, nat_eq, nat_lt, List, [], ◌∷◌, ◌++◌, slice_index_or, slice_set, bit_and, bit_or, Fits, w8, w32, w64, Bor, MutBor}
-use Rattle.occ_play.specs.Coming.{CameTo, IsStatusFor, IsStatusOf, ProgramStatus}
-use Rattle.occ_shown.specs.Counting.{failures_of}
-use Rattle.occ_play.specs.Status.{status}
-use Rattle.occ_play_inputs.specs.Failures.{failure_status}
+use Rattle.std.proofs.Common.{subst, sym}
 use Rattle.occ_choices.specs.Plans.{choices_of}
+use Rattle.occ_play.specs.Coming.{CameTo}
+use Rattle.occ_play.proofs.Statuses.{came_to_both}
 use Rattle.occ_play.proofs.program.run_words.Goals as goal
 
--- src/program.rt:56:1
 pub returns-clause-came : goal.returns-clause-came
-returns-clause-came g c = ?
+returns-clause-came g c =
+    let inputs = c.in_ok-inputs.inputs in
+    let came = came_to_both c.args.words.now.quantum inputs.source.items inputs.keyboard.items (choices_of inputs.plan) c.args.words.now.trace c.in_ok-drawn.drawn c.play_inputs-played.result c.in_ok-drawn.ensures c.play_inputs-played.ensures in
+    record {
+      source = inputs.source.items;
+      keyboard = inputs.keyboard.items;
+      plan = inputs.plan;
+      asked = c.in_ok-inputs.ensures;
+      is = record {
+        played = c.and.result;
+        came = subst (CameTo c.args.words.now.quantum inputs.source.items inputs.keyboard.items (choices_of inputs.plan) c.args.words.now.trace) (sym c.and.ensures) came;
+        is = c.told.ensures;
+      };
+    }
