@@ -1,3 +1,2 @@
 mod Headline
-mod Statuses
 mod Again

@@ -1,5 +1,4 @@
 pub mod Status
 pub mod Playing
 pub mod Charting
-pub mod Coming
 pub mod Again

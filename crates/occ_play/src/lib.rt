@@ -1,18 +1,13 @@
 //! Plays occam programs: from a source text and the keyboard's bytes to the answer's bytes.
 #![tactic(auto)]
 
-mod drawing;
 pub mod fault;
 pub mod laws;
 pub mod playing;
-pub mod program;
-mod recording;
 
 pub use fault::PlayFault;
 pub use occ_choices::{ChoiceFault, Plan, choices_text, read_choices};
 pub use occ_net_replay::{Choice, Ending};
 pub use occ_net_tables::{Communication, End};
-pub use occ_play_inputs::{Words, read_words};
 pub use occ_shown::Counted;
 pub use playing::{Options, Played, chart, play, play_in, status_of};
-pub use program::run;

@@ -13,7 +13,6 @@ use occ_choices::Plan;
 use occ_code::{Code, CodeFault, compile_for};
 use occ_net_replay::{Choice, Ending};
 use occ_net_tables::{Outcome, run};
-use occ_play_inputs::Words;
 use occ_shown::{Counted, answer, write_answer};
 use occ_term::Unfolded;
 use occ_text::{TextFault, read_lines};
@@ -45,15 +44,6 @@ impl Options {
         ensures { result.quantum ≡ 1 }
     {
         Options { quantum: 1 }
-    }
-}
-
-/// Turns of the quantum that the words say.
-pub(crate) fn options_of(words: &Words<'_>) -> Options
-    ensures { result.quantum ≡ words.now.quantum }
-{
-    Options {
-        quantum: words.quantum,
     }
 }
 

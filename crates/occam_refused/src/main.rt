@@ -7,7 +7,7 @@ ghost use Rattle.std.specs.Process.{exit_status};
 use std::process::ExitCode;
 
 fn main(rt: HostRuntime) -> ExitCode {
-    exit_code(occ_play::run(&rt))
+    exit_code(occ_program::run(&rt))
 }
 
 fn exit_code(status: u8) -> ExitCode

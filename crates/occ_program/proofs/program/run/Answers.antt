@@ -1,5 +1,5 @@
-use Rattle.occ_play.proofs.Statuses.{failed_status}
-use Rattle.occ_play.proofs.program.run.Goals as goal
+use Rattle.occ_program.proofs.Statuses.{failed_status}
+use Rattle.occ_program.proofs.program.run.Goals as goal
 
 pub returns-in-Err-clause-came : goal.returns-in-Err-clause-came
 returns-in-Err-clause-came g c = failed_status c.in-Err.failure c.report.result c.report.ensures

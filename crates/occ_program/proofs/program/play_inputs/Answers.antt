@@ -1,8 +1,8 @@
 use Rattle.std.proofs.Common.{subst}
-use Rattle.occ_play.specs.Coming.{CameTo}
+use Rattle.occ_program.specs.Coming.{CameTo}
 use Rattle.occ_choices.specs.Plans.{choices_of}
-use Rattle.occ_play.proofs.Statuses.{came_to}
-use Rattle.occ_play.proofs.program.play_inputs.Goals as goal
+use Rattle.occ_program.proofs.Statuses.{came_to}
+use Rattle.occ_program.proofs.program.play_inputs.Goals as goal
 
 pub returns : goal.returns
 returns g c =

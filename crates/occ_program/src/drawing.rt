@@ -1,11 +1,11 @@
 //! Draws the communications of a run into a file.
 ghost use Rattle.std.specs.Prelude.{IfErr, IfOk};
 ghost use Rattle.occ_choices.specs.Plans.{choices_of};
-ghost use Rattle.occ_play.specs.Charting.{Draws};
+ghost use Rattle.occ_program.specs.Drawing.{Draws};
 ghost use Rattle.occ_play.specs.Playing.{Refuses};
 
-use crate::fault::PlayFault;
-use crate::playing::{Played, chart, options_of};
+use crate::program::options_of;
+use occ_play::{PlayFault, Played, chart};
 use occ_play_inputs::failure::of_write;
 use occ_play_inputs::{Failure, Inputs, Words};
 use std::alloc::Global;

@@ -3,10 +3,8 @@ ghost use Rattle.std.specs.Prelude.{OnOk};
 ghost use Rattle.std.specs.Io.KnownBytes.{Appends};
 ghost use Rattle.occ_choices.specs.Lines.{choice_text};
 
-use crate::fault::PlayFault;
-use crate::playing::Played;
 use occ_choices::choices_text;
-use occ_net_replay::Choice;
+use occ_play::{Choice, PlayFault, Played};
 use occ_play_inputs::failure::of_write;
 use occ_play_inputs::{Failure, Words};
 use std::alloc::Global;

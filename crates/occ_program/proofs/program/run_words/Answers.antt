@@ -1,8 +1,8 @@
 use Rattle.std.proofs.Common.{subst, sym}
 use Rattle.occ_choices.specs.Plans.{choices_of}
-use Rattle.occ_play.specs.Coming.{CameTo}
-use Rattle.occ_play.proofs.Statuses.{came_to_both}
-use Rattle.occ_play.proofs.program.run_words.Goals as goal
+use Rattle.occ_program.specs.Coming.{CameTo}
+use Rattle.occ_program.proofs.Statuses.{came_to_both}
+use Rattle.occ_program.proofs.program.run_words.Goals as goal
 
 pub returns-clause-came : goal.returns-clause-came
 returns-clause-came g c =

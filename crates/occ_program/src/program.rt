@@ -1,15 +1,14 @@
 //! The program around `play`: what it reads and prints, and its exit status.
 ghost use Rattle.std.specs.Prelude.{◌≡◌, ◌≤◌, ◌<◌, ◌-◌, ◌^◌, ◌⊎◌, IfOk};
-ghost use Rattle.occ_play.specs.Coming.{CameTo, IsStatusFor, IsStatusOf, ProgramStatus};
+ghost use Rattle.occ_program.specs.Coming.{CameTo, IsStatusFor, IsStatusOf, ProgramStatus};
 ghost use Rattle.occ_shown.specs.Counting.{failures_of};
 ghost use Rattle.occ_play.specs.Status.{status};
 ghost use Rattle.occ_play_inputs.specs.Failures.{failure_status};
 ghost use Rattle.occ_choices.specs.Plans.{choices_of};
 
 use crate::drawing::draw;
-use crate::fault::PlayFault;
-use crate::playing::{Played, options_of, play_in, status_of};
 use crate::recording::record;
+use occ_play::{Options, PlayFault, Played, play_in, status_of};
 use occ_play_inputs::failure::{of_arguments, of_words};
 use occ_play_inputs::{Failure, Inputs, Words, read_inputs, read_words};
 use occ_shown::Counted;
@@ -77,6 +76,15 @@ fn told<R: Eprint>(rt: &R, came: &Result<Played, PlayFault>) -> u8
         let _ = eprintln!(rt; "{fault}");
     }
     status_of(came)
+}
+
+/// Turns of the quantum that the words say.
+pub(crate) fn options_of(words: &Words<'_>) -> Options
+    ensures { result.quantum ≡ words.now.quantum }
+{
+    Options {
+        quantum: words.quantum,
+    }
 }
 
 /// Plays the source by the plan.

@@ -17,12 +17,12 @@ use Rattle.occ_play.specs.declared.fault.PlayFault.TheVariants as play
 use Rattle.occ_choices.specs.declared.fault.ChoiceFault.TheVariants as choice
 use Rattle.occ_play_inputs.specs.declared.failure.Failure.{Failure}
 use Rattle.occ_play_inputs.specs.declared.failure.Failure.TheVariants.{Help, Words, Arguments, Read, Choices, Write, Memory}
-use Rattle.occ_play.specs.Charting.{Draws}
+use Rattle.occ_program.specs.Drawing.{Draws}
 use Rattle.occ_play.specs.Playing.{AfterFault, IsAnswer, IsSomeAnswer, Refuses, Wrote}
 use Rattle.occ_play.specs.Status.{ending_status, fault_status, status}
 use Rattle.occ_play_inputs.specs.Failures.{failure_status}
 use Rattle.occ_play_inputs.specs.declared.words.Words.{Words as Asked}
-use Rattle.occ_play.specs.Coming.{CameTo, IsStatusFor, ProgramStatus, of_play, of_failure, of_help}
+use Rattle.occ_program.specs.Coming.{CameTo, IsStatusFor, ProgramStatus, of_play, of_failure, of_help}
 
 ending_small : (e : Ending) → ending_status e ≤ 7
 ending_small Ended = omega arith

@@ -1,0 +1,8 @@
+//! The program around `occ_play::play_in`: what it reads and writes, and its exit status, which is that of what was met.
+#![tactic(auto)]
+
+mod drawing;
+pub mod program;
+mod recording;
+
+pub use program::run;
