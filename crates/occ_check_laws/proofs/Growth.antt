@@ -10,7 +10,8 @@ use Rattle.occ_term.specs.Messages.{product}
 use Rattle.occ_term.specs.Terms.{Term}
 use Rattle.occ_term.specs.Unfolding.{most_cells, most_channels}
 use Rattle.occ_check_meaning.specs.Scope.{Name}
-use Rattle.occ_check_meaning.specs.Numbers.{Numbers, at_start, cell, channel, from_number, component_name, component_names, more_cells, more_channels, more_processes}
+use Rattle.occ_check_meaning.specs.Numbers.{Numbers, at_start, cell, channel, from_number, component_names, more_cells, more_channels, more_processes}
+use Rattle.occ_term.specs.Names.{component_name}
 use Rattle.occ_check_meaning.specs.ProgramUnfolding.{ProgramUnfolding}
 use Rattle.occ_check_laws.specs.Growth.{IsWithinLimits, Grown}
 use Rattle.occ_check_meaning.specs.Unfolding.{Procedures, Unfolding}

@@ -1,12 +1,12 @@
 -- The numbers that are given out while a tree is unfolded: each step gives out the next ones, and none where a limit is passed.
 -- Manual: nothing; the numbers and the limits are (own).
 use Rattle.std.specs.Prelude.{List, Option, [], length, map, nat_le, zero, suc, ℕ, ◌&&◌, ◌+◌, ◌++◌, ◌∷◌}
-use Rattle.std.specs.Fmt.{decimal}
 use Rattle.occ_term.specs.declared.primitive.Primitive.{Primitive}
 use Rattle.occ_term.specs.declared.names.Cell.{Cell}
 use Rattle.occ_term.specs.declared.names.Channel.{Channel}
 use Rattle.occ_term.specs.declared.protocol.Protocol.{Protocol}
 use Rattle.occ_term.specs.Messages.{product}
+use Rattle.occ_term.specs.Names.{component_name}
 use Rattle.occ_term.specs.Sizes.{Size}
 use Rattle.occ_term.specs.Unfolding.{first_channels, most_cells, most_channels}
 use Rattle.occ_check_meaning.specs.Scope.{Name, keep}
@@ -25,9 +25,6 @@ abbrev pub at_start : Numbers
 at_start = record { cells = []; channels = first_channels; processes = 1; protocols = 0; nodes = 0 }
 
 -- ---- the names of components: `a[2]`, and the last subscript moves fastest
-
-abbrev pub component_name : Name → ℕ → Name
-component_name x k = x ++ 91 ∷ (decimal k ++ 93 ∷ [])
 
 -- so many, from number k on
 unfoldable pub from_number : (ℕ → List Name) → (count k : ℕ) → List Name

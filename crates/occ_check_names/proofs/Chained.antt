@@ -1,5 +1,5 @@
 -- A chain is constant where each of its operands is.
-use Rattle.std.proofs.Common.{◌≡◌, true, false, refl, sym}
+use Rattle.std.proofs.Common.{◌≡◌, true, false, refl}
 use Rattle.std.specs.Prelude.{Bool, ◌&&◌}
 
 pub both : (a b : Bool) → b ≡ true → (a && b) ≡ a

@@ -1,6 +1,6 @@
 -- Look-ups in frames are look-ups in a list of pairs.
-use Rattle.std.proofs.Common.{option_map, inl, inr, ◌≡◌, ◌<◌, ◌≤◌, ◌+◌, ℕ, zero, suc, List, [], ◌∷◌, ◌++◌, Bool, true, false, cond, if◌then◌else◌, nat_eq, bytes_eq, Option, Some, None, is_some, refl, ap, sym, subst, ◌∙◌, take, drop, length, slice_get, get_or, arith, reverse}
-use Rattle.std.specs.Prelude.{Vec, ⊤}
+use Rattle.std.proofs.Common.{option_map, inl, inr, ◌≡◌, ◌<◌, ◌≤◌, ◌+◌, ℕ, zero, suc, List, [], ◌∷◌, ◌++◌, Bool, true, false, cond, if◌then◌else◌, nat_eq, bytes_eq, Option, Some, None, is_some, refl, ap, sym, subst, ◌∙◌, take, length, slice_get, get_or, arith, reverse}
+use Rattle.std.specs.Prelude.{Vec}
 use Rattle.std.specs.List.{IsDistinct, AllByRecursion}
 use Rattle.std.proofs.lemmas.Map.Keys.{IsDistinct-head, IsDistinct-tail}
 use Rattle.indexmap.specs.IndexMap.{insert_entry}

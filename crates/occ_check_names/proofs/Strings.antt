@@ -1,10 +1,8 @@
 -- Strings of the code are arrays of bytes.
-use Rattle.std.proofs.Common.{◌≡◌, ℕ, zero, suc, ◌<◌, ◌≤◌, List, [], ◌∷◌, get_or, length, map, pos, Bool, true, false, int_le, refl, ap, ◌∙◌, arith}
-use Rattle.std.specs.Prelude.{Option, Some, None, IsTrue, ◌&&◌, nat_le}
+use Rattle.std.proofs.Common.{◌≡◌, ℕ, suc, ◌<◌, ◌≤◌, List, [], ◌∷◌, get_or, length, map, pos, Bool, true, refl, ap, arith}
+use Rattle.std.specs.Prelude.{Some, ◌&&◌, nat_le}
 use Rattle.std.proofs.lemmas.Bool.{le-leb}
 use Rattle.std.proofs.lemmas.List.{length-map}
-use Rattle.occ_term.specs.declared.primitive.Primitive.TheVariants.{Byte, Int}
-use Rattle.occ_term.specs.Messages.{is_of}
 use Rattle.occ_check_meaning.specs.Scope.{keep}
 use Rattle.occ_check_meaning.specs.Expressions.{are_bytes, string_of}
 

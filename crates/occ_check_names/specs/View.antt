@@ -1,12 +1,11 @@
 -- The types of the code as those of the definitions.
 -- Manual: nothing; this is (own).
 use Rattle.std.specs.Borrow.{Bor}
-use Rattle.std.specs.Prelude.{List, bytes_eq, false, None, Option, Some, [], if◌then◌else◌, length, map, nat_eq, pos, reverse, suc, take, Vec, Result, Ok, Err, ℕ, ℤ, ⊤, ◌+◌, ◌++◌, ◌<◌, ◌≤◌, ◌∷◌, ◌≡◌}
+use Rattle.std.specs.Prelude.{List, bytes_eq, false, None, Option, Some, [], if◌then◌else◌, length, map, nat_eq, pos, reverse, suc, take, Vec, Result, Ok, Err, ℕ, ⊤, ◌++◌, ◌<◌, ◌≤◌, ◌∷◌, ◌≡◌}
 use Rattle.occ_tree_grammar.specs.Lines.Views.{formals_of}
 use Rattle.occ_tree_grammar.specs.Processes.Views.{process_of}
 use Rattle.occ_term.specs.Terms as T
 use Rattle.occ_term.specs.View.{subscripts, expression_of, array_of}
-use Rattle.occ_term.specs.declared.expression.Place.{Place}
 use Rattle.occ_check_meaning.specs.Scope as S
 use Rattle.occ_check_meaning.specs.Expressions as E
 use Rattle.occ_check_meaning.specs.Numbers as N
@@ -26,7 +25,6 @@ use Rattle.occ_check_names.specs.declared.numbers.Numbers.{Numbers}
 use Rattle.occ_check_names.specs.declared.typed.Typed.{Typed}
 use Rattle.occ_check_names.specs.declared.typed.Typed.TheVariants as typeds
 use Rattle.occ_check_names.specs.declared.typed.Part.{Part}
-use Rattle.occ_check_names.specs.declared.scope.Procedure.{Procedure}
 use Rattle.occ_check_names.specs.declared.scope.Binding.{Binding}
 use Rattle.occ_check_names.specs.declared.scope.Binding.TheVariants as bindings
 use Rattle.occ_check_names.specs.declared.scope.Position.{Position}

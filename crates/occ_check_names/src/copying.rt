@@ -67,7 +67,7 @@ impl Known {
         match self {
             Known::Value(primitive, value) => Ok(Known::Value(*primitive, *value)),
             Known::Text(bytes) => {
-                let bytes = Items::from_slice(alloc, bytes.as_slice())?;
+                let bytes = bytes.copy()?;
                 Ok(Known::Text(bytes))
             }
             Known::Cells(access, primitive, row) => {

@@ -1,6 +1,6 @@
 //! What names stand for.
 
-use occ_term::{Primitive, Protocol};
+use occ_term::{Primitive, Protocol, Text};
 use sqlite_items::Items;
 
 /// Whether a variable may be assigned to. A named value, a VAL formal and an index may not.
@@ -49,7 +49,7 @@ pub enum Known {
     /// A constant of the type.
     Value(Primitive, i64),
     /// A string.
-    Text(Items<u8>),
+    Text(Text),
     /// A variable, an array, or a part of one, of the type.
     Cells(Access, Primitive, Row),
     /// A channel, an array of channels, or a part of one.

@@ -9,7 +9,7 @@ use crate::constant::has_type;
 use crate::fault::CheckFault;
 use crate::operators::primitive_of;
 use crate::typed::Typed;
-use occ_term::{Array, Primitive, TermExpr};
+use occ_term::{Array, Primitive, TermExpr, Text};
 use occ_tree_grammar::tree::expr::{Literal, Primitive as PrimitiveTree};
 use sqlite_items::Items;
 use std::alloc::{AllocError, Global};
@@ -39,9 +39,9 @@ pub fn typed_literal(
         },
         Literal::Text(bytes) => match primitive {
             None => {
-                let size = string_size(line, bytes)?;
-                let bytes = Items::from_slice(alloc, bytes)?;
-                let string = whole_string(alloc, size, bytes)?;
+                string_size(line, bytes)?;
+                let bytes = Text::new(alloc, bytes)?;
+                let string = whole_string(alloc, bytes)?;
                 Ok(string)
             }
             Some(_) => Err(CheckFault::WrongType { line }),
@@ -81,12 +81,11 @@ pub fn string_size(line: u32, bytes: &[u8]) -> Result<u32, CheckFault>
     }
 }
 
-/// A string of this size as an array.
-pub fn whole_string(alloc: Global, size: u32, bytes: Items<u8>) -> Result<Typed, AllocError>
-    requires { size ≡ length bytes }
+/// A string as an array.
+pub fn whole_string(alloc: Global, bytes: Text) -> Result<Typed, AllocError>
     ensures { IfOk result (λ string. typed_of string ≡ meant.whole_string (map pos bytes)) }
 {
     let mut sizes = Items::new(alloc);
-    sizes.push(size)?;
+    sizes.push(bytes.len())?;
     Ok(Typed::Whole(Primitive::Byte, sizes, Array::Text(bytes)))
 }

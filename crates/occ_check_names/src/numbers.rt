@@ -4,12 +4,12 @@ ghost use Rattle.std.specs.Prelude.{◌≡◌, ◌<◌, ◌≤◌, ◌+◌, ◌+
 ghost use Rattle.occ_term.specs.Messages.{product};
 ghost use Rattle.occ_term.specs.Sizes.{no_size, node};
 ghost use Rattle.occ_term.specs.Unfolding.{byte_channel};
-ghost use Rattle.occ_check_meaning.specs.Numbers.{at_start, component_name, component_names, deeper, more_cells, more_channels, more_processes, more_protocols, most_depth, room};
+ghost use Rattle.occ_check_meaning.specs.Numbers.{at_start, component_names, deeper, more_cells, more_channels, more_processes, more_protocols, most_depth, room};
 ghost use Rattle.occ_check_meaning.specs.Scope.{keep};
 ghost use Rattle.occ_check_names.specs.View.{Counts, Gives, numbers_of};
 
 use crate::fault::CheckFault;
-use occ_term::{Cell, Channel, Primitive, Protocol};
+use occ_term::{Cell, Channel, Name, Primitive, Protocol};
 use sqlite_items::Items;
 use std::alloc::{AllocError, Global};
 
@@ -73,8 +73,9 @@ impl Numbers {
         ensures first { IfOk result (λ first. first ≡ length self.old.cells.items) }
     {
         let first = first_of_more(self.cells.len(), components(sizes), MOST_CELLS)?;
+        let name = Name::new(alloc, name)?;
         let mut names = Vec::new(alloc);
-        component_names(alloc, &mut names, name, sizes)?;
+        component_names(alloc, &mut names, &name, sizes)?;
         for name in names {
             self.cells.push(Cell { name, primitive })?;
         }
@@ -97,8 +98,9 @@ impl Numbers {
         ensures first { IfOk result (λ first. first ≡ length self.old.channels.items) }
     {
         let first = first_of_more(self.channels.len(), components(sizes), MOST_CHANNELS)?;
+        let name = Name::new(alloc, name)?;
         let mut names = Vec::new(alloc);
-        component_names(alloc, &mut names, name, sizes)?;
+        component_names(alloc, &mut names, &name, sizes)?;
         for name in names {
             let protocol = protocol.copy(alloc)?;
             self.channels.push(Channel { name, protocol })?;
@@ -196,7 +198,7 @@ pub fn deeper(depth: u32, levels: usize) -> Result<u32, CheckFault>
 fn channel_of_bytes(alloc: Global, name: &[u8]) -> Result<Channel, AllocError>
     ensures { IfOk result (λ channel. channel ≡ byte_channel name.now) }
 {
-    let name = Items::from_slice(alloc, name)?;
+    let name = Name::new(alloc, name)?;
     let protocol = Protocol::Simple(Items::new(alloc), Primitive::Byte);
     Ok(Channel { name, protocol })
 }
@@ -231,35 +233,23 @@ pub fn components(sizes: &[u32]) -> u32
 #[tactic(auto, unfolding(occ_check_meaning::specs::Numbers::component_names))]
 fn component_names(
     alloc: Global,
-    names: &mut Vec<Items<u8>>,
-    name: &[u8],
+    names: &mut Vec<Name>,
+    name: &Name,
     sizes: &[u32],
 ) -> Result<(), AllocError>
     ensures { IfOk result (λ _. names.new.items ≡ names.old.items ++ component_names name.now sizes.now) }
 {
     match sizes.split_first() {
         None => {
-            names.push(Items::from_slice(alloc, name)?)?;
+            names.push(name.copy(alloc)?)?;
             Ok(())
         }
         Some((size, others)) => {
             for k in 0..*size {
-                let component = component_name(alloc, name, k)?;
-                component_names(alloc, names, component.as_slice(), others)?;
+                let component = name.component(alloc, k)?;
+                component_names(alloc, names, &component, others)?;
             }
             Ok(())
         }
     }
-}
-
-/// The name of the component with this number.
-fn component_name(alloc: Global, name: &[u8], k: u32) -> Result<Items<u8>, AllocError>
-    ensures { IfOk result (λ component. component ≡ component_name name.now k) }
-{
-    let digits = format!(in alloc; "{k}")?;
-    let mut component = Vec::from_slice(alloc, name)?;
-    component.push(b'[')?;
-    component.extend_from_slice(digits.as_bytes())?;
-    component.push(b']')?;
-    Ok(Items::from_vec(component))
 }

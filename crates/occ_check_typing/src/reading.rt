@@ -16,7 +16,7 @@ use occ_check_names::literal::whole_string;
 use occ_check_names::typed::{Part, Typed};
 use occ_held::Held;
 use occ_held::parts::{Listed, Nested};
-use occ_term::{Array, Place, Primitive, TermExpr};
+use occ_term::{Array, Place, Primitive, TermExpr, Text};
 use sqlite_items::Items;
 use std::alloc::{AllocError, Global};
 
@@ -125,17 +125,17 @@ fn read_part(primitive: Primitive, part: Part) -> Typed
 fn read_string(
     alloc: Global,
     line: u32,
-    bytes: &[u8],
+    text: &Text,
     under_these: Listed<TermExpr>,
 ) -> Result<Typed, CheckFault>
-    ensures { Gives typed_of result (meant.read line (a_string (map pos bytes.now)) (subscripts (map expression_of under_these))) }
+    ensures { Gives typed_of result (meant.read line (a_string (map pos text.now)) (subscripts (map expression_of under_these))) }
 {
     let mut subscripts = under_these;
     match subscripts.pop() {
-        None => named_string(alloc, bytes),
+        None => Ok(whole_string(alloc, text.copy()?)?),
         Some(subscript) => {
             if subscripts.is_empty() {
-                letter(alloc, line, bytes, subscript)
+                letter(alloc, line, text, subscript)
             } else {
                 Err(CheckFault::WrongType { line })
             }
@@ -143,30 +143,17 @@ fn read_string(
     }
 }
 
-/// A whole string that is named.
-fn named_string(alloc: Global, bytes: &[u8]) -> Result<Typed, CheckFault>
-    ensures { Gives typed_of result (Some (meant.whole_string (map pos bytes.now))) }
-{
-    match u32::try_from(bytes.len()) {
-        Ok(size) => {
-            let bytes = Items::from_slice(alloc, bytes)?;
-            Ok(whole_string(alloc, size, bytes)?)
-        }
-        Err(_) => Err(CheckFault::Memory),
-    }
-}
-
 /// A component of a string.
-fn letter(alloc: Global, line: u32, bytes: &[u8], subscript: TermExpr) -> Result<Typed, CheckFault>
-    ensures { Gives typed_of result (meant.read line (a_string (map pos bytes.now)) (then_subscript (expression_of subscript) no_subscripts)) }
+fn letter(alloc: Global, line: u32, text: &Text, subscript: TermExpr) -> Result<Typed, CheckFault>
+    ensures { Gives typed_of result (meant.read line (a_string (map pos text.now)) (then_subscript (expression_of subscript) no_subscripts)) }
 {
     let subscript = Held::new(subscript);
-    if !is_within_size(&subscript.value, bytes.len() as u64)? {
+    if !is_within_size(&subscript.value, u64::from(text.len()))? {
         return Err(CheckFault::Subscript { line });
     }
-    let bytes = Items::from_slice(alloc, bytes)?;
+    let text = text.copy()?;
     let subscript = Nested::new(alloc, subscript.into_inner())?;
-    Ok(Typed::Single(Primitive::Byte, TermExpr::Letter(line, bytes, subscript)))
+    Ok(Typed::Single(Primitive::Byte, TermExpr::Letter(line, text, subscript)))
 }
 
 /// What a name under subscripts is, where it is read.
@@ -187,7 +174,7 @@ pub fn read(
         Known::Value(primitive, value) => {
             read_value(line, *primitive, *value, under_these.as_slice())
         }
-        Known::Text(bytes) => read_string(alloc, line, bytes.as_slice(), under_these),
+        Known::Text(text) => read_string(alloc, line, text, under_these),
         Known::Cells(_, primitive, row) => {
             let part = under(alloc, line, row, under_these)?;
             Ok(read_part(*primitive, part))
@@ -222,8 +209,8 @@ pub fn size_of_known(line: u32, known: &Known, under_these: &[TermExpr]) -> Resu
 {
     match known {
         Known::Value(_, _) => Err(CheckFault::WrongType { line }),
-        Known::Text(bytes) => match under_these.split_first() {
-            None => Ok(bytes.len() as u64),
+        Known::Text(text) => match under_these.split_first() {
+            None => Ok(u64::from(text.len())),
             Some(_) => Err(CheckFault::WrongType { line }),
         },
         Known::Cells(_, _, row) => size_of_row(line, row, under_these),

@@ -23,3 +23,4 @@ mod CellRows
 mod PlacedInstrs
 mod CompilingTerms
 pub mod OneCode
+mod SameCode

@@ -10,6 +10,7 @@ pub mod instr;
 mod pieces;
 mod places;
 mod processes;
+mod same_code;
 mod statements;
 
 pub use body::Body;

@@ -14,4 +14,5 @@ pub mod Forked
 pub mod Turned
 pub mod Start
 pub mod Roomy
+pub mod Placing
 pub mod Rerun

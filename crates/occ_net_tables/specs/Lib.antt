@@ -5,5 +5,6 @@ pub mod Choosing
 pub mod Holding
 pub mod Settling
 pub mod Room
+pub mod Places
 pub mod Running
 pub mod Outcomes

@@ -2,8 +2,11 @@
 use Rattle.std.specs.Prelude.{List, None, map, ℕ, ◌++◌, ◌≡◌}
 use Rattle.occ_code.specs.Sequential.Compiled.{Program}
 use Rattle.occ_net_replay.specs.declared.choice.Choice.{Choice}
+use Rattle.occ_net_tables.specs.declared.running.Keep.{Keep}
 use Rattle.occ_net_tables.specs.declared.running.Outcome.{Outcome}
+use Rattle.occ_net_tables.specs.declared.running.Ran.{Ran}
 use Rattle.occ_net_tables.specs.Holding.{communication_of}
+use Rattle.occ_net_tables.specs.Running.{HasRun}
 use Rattle.occ_net_replay.specs.Replay.{Net, Replays, ending_of}
 use Rattle.occ_net_replay.specs.Following.{or_limit}
 
@@ -20,3 +23,12 @@ pub record IsOutcome (p : Program) (keyboard : List ℕ) (list : List Choice) (o
   pub used : Begins o.choices.items list
   pub ending : o.ending ≡ or_limit (ending_of net)
   pub whole : ending_of net ≡ None → o.choices.items ≡ list
+
+-- A run has used the first choices of the list, and the tables hold what their replay comes to. Limit only where the whole list was used
+-- and no ending came.
+pub record IsRan (p : Program) (keyboard : List ℕ) (list : List Choice) (keep : Keep) (r : Ran) : Type 0 where
+  pub given : List Choice
+  pub run : HasRun p keyboard keep given r.kept.items r.tables
+  pub used : Begins given list
+  pub ending : r.ending ≡ or_limit (ending_of run.net)
+  pub whole : ending_of run.net ≡ None → given ≡ list

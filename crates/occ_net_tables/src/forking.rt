@@ -18,7 +18,7 @@ use sqlite_items::Items;
 use std::alloc::{AllocError, Global};
 
 /// How many turns the process has taken, in earlier forks.
-fn turns_at(tasks: &[Option<Task>], number: u32) -> u64
+pub(crate) fn turns_at(tasks: &[Option<Task>], number: u32) -> u64
     ensures { result ≡ turns_at tasks.now number }
 {
     match tasks.get(number as usize) {

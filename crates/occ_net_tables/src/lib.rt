@@ -8,6 +8,7 @@ mod entries;
 mod forking;
 mod joining;
 mod meeting;
+mod reading;
 mod ready;
 pub mod running;
 mod settling;
@@ -16,6 +17,6 @@ mod tasks;
 pub mod trace;
 mod turning;
 
-pub use running::{Outcome, run};
+pub use running::{Keep, Outcome, Ran, run, run_tables};
 pub use tables::Tables;
 pub use trace::{Communication, End};

@@ -17,7 +17,7 @@ use crate::tables::Tables;
 use crate::tasks::{set_wait, take_wait};
 use crate::trace::{Communication, End};
 use occ_code::{Arm, Task, Wait};
-use occ_term::{Fault, Message, Part, Primitive};
+use occ_term::{Fault, Message, Part, Parts, Primitive};
 use sqlite_items::Items;
 use std::alloc::{AllocError, Global};
 
@@ -82,12 +82,13 @@ fn keyboard_channel(keyboard: &[u8], used: usize) -> Option<u32>
 }
 
 /// The message of one byte.
-fn one_byte(alloc: Global, byte: u8) -> Result<Message, AllocError>
-    ensures { IfOk result (λ m. m ≡ byte_message byte) }
+fn one_byte(byte: u8) -> Message
+    ensures { result ≡ byte_message byte }
 {
-    let mut items = Items::new(alloc);
-    items.push(Part::One(Primitive::Byte, i64::from(byte)))?;
-    Ok(Message { tag: None, items })
+    Message {
+        tag: None,
+        items: Parts::one(Part::One(Primitive::Byte, i64::from(byte))),
+    }
 }
 
 /// A copy of the message that the process offers.
@@ -198,30 +199,20 @@ impl Tables {
     }
 
     /// The process takes this byte, which is the keyboard's next one.
-    fn take_byte(
-        &mut self,
-        alloc: Global,
-        number: u32,
-        arm: Arm,
-        byte: u8,
-    ) -> Result<(), AllocError>
+    fn take_byte(&mut self, number: u32, arm: Arm, byte: u8)
         requires there { IsThere self.old.tasks.items number }
         requires counts { self.old.used + 1 < 2 ^ 64 }
         requires room { HasRoom self.old 1 }
-        ensures ok { OnOk result (TookByte self.old number arm byte self.new) }
-        ensures err { OnErr result (self.new ≡ self.old) }
+        ensures { TookByte self.old number arm byte self.new }
     {
-        let message = one_byte(alloc, byte)?;
-        let received = one_byte(alloc, byte)?;
         self.trace.push_reserved(Communication {
             chan: KEYBOARD,
             sender: End::Keyboard,
             receiver: End::Process(number),
-            message,
+            message: one_byte(byte),
         });
         self.used += 1;
-        set_wait(&mut self.tasks, number, took(arm, Some(received)));
-        Ok(())
+        set_wait(&mut self.tasks, number, took(arm, Some(one_byte(byte))));
     }
 
     /// The process takes the message that another one offers.
@@ -306,7 +297,7 @@ impl Tables {
         ensures err { OnErr result (self.new ≡ self.old) }
     {
         if let Some(byte) = next_byte(chan, keyboard, self.used) {
-            self.take_byte(alloc, number, input_arm(alloc, chan), byte)?;
+            self.take_byte(number, input_arm(alloc, chan), byte);
             return Ok(());
         }
         match entry(&self.offering, chan) {
@@ -352,10 +343,8 @@ impl Tables {
             return Ok(());
         };
         if let Some(byte) = next_byte(chan, keyboard, self.used) {
-            return match self.take_byte(alloc, number, arm, byte) {
-                Ok(()) => Ok(()),
-                Err(refused) => Err((arms, refused)),
-            };
+            self.take_byte(number, arm, byte);
+            return Ok(());
         }
         let Some(giver) = entry(&self.offering, chan) else {
             unreachable!()

@@ -1,6 +1,7 @@
 //! A run of a plan.
-ghost use Rattle.std.specs.Prelude.{IfOk};
-ghost use Rattle.occ_net_tables.specs.Outcomes.{IsOutcome};
+ghost use Rattle.std.specs.Prelude.{◌≡◌, ◌<◌, IfOk, length};
+ghost use Rattle.occ_net_tables.specs.Outcomes.{IsOutcome, IsRan};
+ghost use Rattle.occ_net_tables.specs.Places.{kept_by};
 ghost use Rattle.occ_choices.specs.Plans.{choices_of};
 
 use crate::tables::Tables;
@@ -10,6 +11,26 @@ use occ_code::Code;
 use occ_net_replay::{Choice, Ending};
 use occ_proc::Scratch;
 use std::alloc::{AllocError, Global};
+
+/// What is kept of a choice that was used.
+#[derive(Clone, Copy, Debug, PartialEq, Eq)]
+pub enum Keep {
+    /// The choice as it was given.
+    Given,
+    /// The place among the ready processes that it selected, with its pick.
+    Places,
+}
+
+/// What a run came to, with its tables.
+#[derive(Drop)]
+pub struct Ran {
+    /// How it ended.
+    pub ending: Ending,
+    /// What was kept of the choices that were used.
+    pub kept: Vec<Choice>,
+    /// The tables after the last turn.
+    pub tables: Tables,
+}
 
 /// What a run came to.
 #[derive(Drop)]
@@ -22,7 +43,60 @@ pub struct Outcome {
     pub trace: Vec<Communication>,
 }
 
+/// What is kept of a choice among these ready processes.
+fn kept_choice(ready: &[u32], choice: Choice, keep: Keep) -> Choice
+    requires { 0 < length ready.now }
+    ensures { result ≡ kept_by keep ready.now choice }
+{
+    match keep {
+        Keep::Given => choice,
+        Keep::Places => Choice {
+            which: (choice.which as usize % ready.len()) as u32,
+            pick: choice.pick,
+        },
+    }
+}
+
 /// Takes a turn for each choice of the plan, until the network ends.
+///
+/// # Errors
+///
+/// A refused growth.
+pub fn run_tables(
+    alloc: Global,
+    code: &Code,
+    keyboard: &[u8],
+    plan: &Plan,
+    keep: Keep,
+) -> Result<Ran, AllocError>
+    ensures { IfOk result (IsRan code.now keyboard.now (choices_of plan.now) keep) }
+{
+    let mut scratch = Scratch::new(alloc);
+    let mut tables = Tables::new(alloc, code)?;
+    let mut kept = Vec::new(alloc);
+    loop {
+        if let Some(ending) = tables.ending() {
+            return Ok(Ran {
+                ending,
+                kept,
+                tables,
+            });
+        }
+        let Some(choice) = plan.at(kept.len()) else {
+            let ending = Ending::Limit;
+            return Ok(Ran {
+                ending,
+                kept,
+                tables,
+            });
+        };
+        let one = kept_choice(tables.ready(), choice, keep);
+        tables.take_turn(alloc, code, &mut scratch, keyboard, choice)?;
+        kept.push(one)?;
+    }
+}
+
+/// What a run of the plan comes to.
 ///
 /// # Errors
 ///
@@ -30,28 +104,15 @@ pub struct Outcome {
 pub fn run(alloc: Global, code: &Code, keyboard: &[u8], plan: &Plan) -> Result<Outcome, AllocError>
     ensures { IfOk result (IsOutcome code.now keyboard.now (choices_of plan.now)) }
 {
-    let mut scratch = Scratch::new(alloc);
-    let mut network = Tables::new(alloc, code)?;
-    let mut choices = Vec::new(alloc);
-    loop {
-        if let Some(ending) = network.ending() {
-            let trace = network.into_trace();
-            return Ok(Outcome {
-                ending,
-                choices,
-                trace,
-            });
-        }
-        let Some(choice) = plan.at(choices.len()) else {
-            let trace = network.into_trace();
-            let ending = Ending::Limit;
-            return Ok(Outcome {
-                ending,
-                choices,
-                trace,
-            });
-        };
-        network.take_turn(alloc, code, &mut scratch, keyboard, choice)?;
-        choices.push(choice)?;
-    }
+    let Ran {
+        ending,
+        kept,
+        tables,
+    } = run_tables(alloc, code, keyboard, plan, Keep::Given)?;
+    let trace = tables.into_trace();
+    Ok(Outcome {
+        ending,
+        choices: kept,
+        trace,
+    })
 }

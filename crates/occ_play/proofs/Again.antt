@@ -16,7 +16,7 @@ use Rattle.occ_net_replay.specs.Following.{AreBytes, or_limit}
 use Rattle.occ_net_replay.specs.Replay.{Net, Replays, ending_of}
 use Rattle.occ_net_replay.proofs.Same.{Passed, one_replay, passed}
 use Rattle.occ_play.specs.declared.playing.Played.{Played}
-use Rattle.occ_play.specs.Again.{IsSameAnswer, PlayedAgain}
+use Rattle.occ_play.specs.Again.{IsSameAnswer, PlayedAgain, PlayedAlone}
 use Rattle.occ_shown.specs.Answers.{answer_text, names_of}
 use Rattle.occ_net_tables.specs.Outcomes.{Begins}
 use Rattle.occ_play.specs.Playing.{IsAnswer, Unfolds}
@@ -136,3 +136,8 @@ played_again quantum source keyboard list trace a b bytes text keys small x = (b
         by : (more : List Choice) → a.choices.items ≡ b.choices.items ++ more → IsSameAnswer a b bytes text
         by [] q = by_used quantum source keyboard trace keys list a.choices.items a b bytes text x y (few _ x.used) (q ∙ append-nil b.choices.items)
         by (c ∷ rest) q = absurd (too_long a.choices.items b.choices.items a.choices.items c rest q (record { rest = []; is = sym (append-nil a.choices.items) }) (used_all quantum source keyboard trace keys list a.choices.items a b bytes text x y c rest (few _ x.used) q))
+
+pub played_alone : PlayedAlone
+played_alone quantum source keyboard limit trace a b bytes text keys small x y =
+    let few : length a.choices.items < 2 ^ 64 = omega (arith, x.few, small) in
+    (played_again quantum source keyboard a.choices.items trace a b bytes text keys few x.answer).0 y

@@ -1,22 +1,13 @@
 -- The answer of an outcome is shown by a run of the source.
-use Rattle.std.proofs.Common.{◌≡◌, ◌∙◌, ◌<◌, ◌^◌, ℕ, suc, ℤ, List, [], ◌∷◌, ◌++◌, Option, Some, None, Bool, true, false, IsTrue, length, map, refl, sym, ap, subst, arith}
-use Rattle.std.specs.Prelude.{get_or, if◌then◌else◌, nat_eq, slice_get}
-use Rattle.std.proofs.lemmas.Bool.{eq-eqb}
-use Rattle.occ_term.specs.Messages.{Fits, FitsAfter, is_of, message, parts_after}
-use Rattle.occ_term.specs.declared.message.Message.{Message}
-use Rattle.occ_term.specs.declared.message.Part.{Part}
-use Rattle.occ_term.specs.declared.message.Part.TheVariants.{One, Many, Counted}
+use Rattle.std.proofs.Common.{◌≡◌, ◌∙◌, ◌<◌, ◌^◌, ℕ, suc, List, [], ◌∷◌, Option, Some, None, Bool, true, false, length, map, refl, sym, ap, subst, append-nil}
+use Rattle.std.specs.Prelude.{get_or}
 use Rattle.occ_term.specs.declared.names.Channel.{Channel}
-use Rattle.occ_term.specs.declared.primitive.Primitive.TheVariants.{Byte}
-use Rattle.occ_term.specs.declared.protocol.Protocol.{Protocol}
-use Rattle.occ_term.specs.declared.protocol.Protocol.TheVariants.{Simple}
 use Rattle.occ_usage.specs.declared.checked.UsageFault.{UsageFault}
 use Rattle.occ_usage.specs.declared.checked.UsageFault.TheVariants as usage
 use Rattle.occ_usage.specs.Refusals.{UsageRefuses}
 use Rattle.occ_term.specs.System.{HaltMode}
 use Rattle.occ_term.specs.Runs.{communications, entries, messages_on, shown, shown_by, EndsBy}
 use Rattle.occ_term.specs.Unfolding.{Unfolding, IsWellFormed, declared, Lawful}
-use Rattle.occ_code.specs.Alike.{FitsProtocol}
 use Rattle.occ_code.specs.Sequential.Compiled.{Program, IsCodeOf, IsCompiledFrom, CodeRefuses}
 use Rattle.occ_code.specs.declared.compiler.code.CodeFault.{CodeFault}
 use Rattle.occ_code.specs.declared.compiler.code.CodeFault.TheVariants as code
@@ -25,9 +16,9 @@ use Rattle.occ_net_replay.specs.declared.ending.Ending.{Ending}
 use Rattle.occ_net_replay.specs.declared.ending.Ending.TheVariants as E
 use Rattle.occ_play.specs.declared.playing.Played.{Played}
 use Rattle.occ_net_tables.specs.declared.running.Outcome.{Outcome}
-use Rattle.occ_net_tables.specs.declared.trace.Communication.{Communication as Made}
-use Rattle.occ_shown.specs.Answers.{AreByteMessages, IsByteMessage, answer_text, names_of}
+use Rattle.occ_shown.specs.Answers.{AreByteMessages, answer_text, names_of}
 use Rattle.occ_shown.specs.Charts.{chart_text}
+use Rattle.occ_shown.proofs.ByteMessages as byte_messages
 use Rattle.occ_net_tables.specs.Holding.{communication_of}
 use Rattle.occ_net_replay.specs.Following.{AllFit, AreBytes, Followed, ending_as, or_limit}
 use Rattle.occ_net_tables.specs.Outcomes.{Begins, IsOutcome}
@@ -43,52 +34,34 @@ pub are_bytes : (kb : List ℕ) → ((k : ℕ) → get_or kb k 0 < 256) → AreB
 are_bytes [] h = tt
 are_bytes (b ∷ bs) h = (h 0, are_bytes bs (λ k. h (suc k)))
 
--- ---- what is written to the screen and the error channel
-
--- a message of the protocol of one byte
-record IsOneByte (tag : Option ℕ) (items : List Part) : Type 0 where
-  pub value : ℤ
-  pub untagged : tag ≡ None
-  pub one : items ≡ One Byte value ∷ []
-  pub typed : IsTrue (is_of Byte value)
-
-one_byte_of : (tag : Option ℕ) (items : List Part) → FitsAfter (parts_after (Simple [] Byte) tag) items → IsOneByte tag items
-one_byte_of (Some t) ps h = absurd h
-one_byte_of None [] h = absurd h
-one_byte_of None (One type v ∷ p ∷ ps) h = absurd h.1
-one_byte_of None (Many type vs ∷ ps) h = absurd h.0
-one_byte_of None (Counted type vs ∷ ps) h = absurd h.0
-one_byte_of None (One type v ∷ []) h = record { value = v; untagged = refl; one = ap (λ t. One t v ∷ []) h.0.0; typed = h.0.1 }
-
-byte_message_of : (m : Message) → Fits (Simple [] Byte) m → IsByteMessage m
-byte_message_of m h =
-    let x = one_byte_of m.tag m.items h in
-    record { value = x.value; is = ap (λ t. message t m.items) x.untagged ∙ ap (message None) x.one; typed = x.typed }
-
-bytes_on : (protocols : ℕ → Option Protocol) (c : ℕ) → protocols c ≡ Some (Simple [] Byte) → (xs : List Made) → AllFit (protocols c) (messages_on c (map communication_of xs)) → AreByteMessages c xs
-bytes_on protocols c e [] h = tt
-bytes_on protocols c e (x ∷ xs) h = by (λ f. bytes_on protocols c e xs f) (nat_eq x.chan c) refl h
-  where
-    by : (AllFit (protocols c) (messages_on c (map communication_of xs)) → AreByteMessages c xs) → (b : Bool) → nat_eq x.chan c ≡ b → AllFit (protocols c) ((if b then x.message ∷ [] else []) ++ messages_on c (map communication_of xs)) → AreByteMessages c (x ∷ xs)
-    by others true q f = ((λ s. byte_message_of x.message (subst (λ o. FitsProtocol o x.message) e f.0)), others f.1)
-    by others false q f = ((λ s. let r : true ≡ false = sym (eq-eqb x.chan c s) ∙ q in absurd cc), others f)
-
-first_protocols : (u : Unfolding) → IsWellFormed u → ((declared u).protocols 1 ≡ Some (Simple [] Byte)) × ((declared u).protocols 2 ≡ Some (Simple [] Byte))
-first_protocols u w = (ap (λ cs. slice_get (map (λ y. y.protocol) cs) 1) w.begins, ap (λ cs. slice_get (map (λ y. y.protocol) cs) 2) w.begins)
-
 -- ---- endings
 
-never_limit : (f : Option _) (b : Bool) (ready : List ℕ) → ending_by f b ready ≡ Some E.Limit → ⊥
+pub never_limit : (f : Option _) (b : Bool) (ready : List ℕ) → ending_by f b ready ≡ Some E.Limit → ⊥
 never_limit (Some e) b ready q = cc
 never_limit None true ready q = cc
 never_limit None false [] q = cc
 never_limit None false (n ∷ ns) q = cc
 
-none_if : (o : Option Ending) → or_limit o ≡ E.Limit → (o ≡ Some E.Limit → ⊥) → o ≡ None
+pub none_if : (o : Option Ending) → or_limit o ≡ E.Limit → (o ≡ Some E.Limit → ⊥) → o ≡ None
 none_if None q h = refl
 none_if (Some e) q h = absurd (h (ap (λ x. Some x) q))
 
 -- ---- the headline
+
+-- a run of a list is one of the choices that were used
+pub ran_alone : {quantum : ℕ} {source keyboard : List ℕ} {list : List Choice} {p : Program} (o : Outcome) → Ran quantum source keyboard list p o → Ran quantum source keyboard o.choices.items p o
+ran_alone o ran =
+    record {
+      code = ran.code;
+      is = record {
+        net = ran.is.net;
+        replays = ran.is.replays;
+        trace = ran.is.trace;
+        used = record { rest = []; is = sym (append-nil o.choices.items) };
+        ending = ran.is.ending;
+        whole = λ h. refl;
+      };
+    }
 
 followed : (u : Unfolding) (quantum : ℕ) (p : Program) (keyboard : List ℕ) (list : List Choice) (o : Outcome) → IsWellFormed u → Lawful u → IsCompiledFrom u quantum p → AreBytes keyboard → (out : IsOutcome p keyboard list o) → length o.choices.items < 2 ^ 64 → Followed u keyboard quantum out.net
 followed u quantum p keyboard list o w lawful from bytes out small = replays_are_runs u p quantum keyboard o.choices.items out.net w lawful from bytes small out.replays
@@ -96,10 +69,7 @@ followed u quantum p keyboard list o w lawful from bytes out small = replays_are
 -- what an outcome's communications carry on the screen's and the error channel
 pub outputs_are_bytes : (u : Unfolding) (quantum : ℕ) (p : Program) (keyboard : List ℕ) (list : List Choice) (o : Outcome) → IsWellFormed u → Lawful u → IsCompiledFrom u quantum p → AreBytes keyboard → IsOutcome p keyboard list o → length o.choices.items < 2 ^ 64 → AreByteMessages 1 o.trace.items × AreByteMessages 2 o.trace.items
 outputs_are_bytes u quantum p keyboard list o w lawful from bytes out small =
-    let f = followed u quantum p keyboard list o w lawful from bytes out small in
-    let first = first_protocols u w in
-    let fits : (c : ℕ) → AllFit ((declared u).protocols c) (messages_on c (map communication_of o.trace.items)) = λ c. subst (λ xs. AllFit ((declared u).protocols c) (messages_on c xs)) out.trace (f.fits c) in
-    (bytes_on (declared u).protocols 1 first.0 o.trace.items (fits 1), bytes_on (declared u).protocols 2 first.1 o.trace.items (fits 2))
+    byte_messages.outputs_are_bytes u quantum keyboard out.net o.trace.items w (followed u quantum p keyboard list o w lawful from bytes out small) out.trace
 
 pub headline : (quantum : ℕ) (source keyboard : List ℕ) (list : List Choice) (trace : Bool) (u : Unfolding) (p : Program) (channels : List Channel) (o : Outcome) (played : Played) (bytes : List ℕ)
     → Unfolds source u → Lawful u → IsCodeOf u quantum p → AreBytes keyboard → channels ≡ p.channels → IsOutcome p keyboard list o → length o.choices.items < 2 ^ 64
@@ -146,7 +116,7 @@ pub charted : (quantum : ℕ) (source keyboard : List ℕ) (list : List Choice) 
 charted quantum source keyboard list most p channels o bytes ran keys chan small is =
     let played : Played = record { ending = o.ending; choices = o.choices } in
     let answer : List ℕ = answer_text (shown_by (names_of channels) (map communication_of o.trace.items)) o.ending true in
-    let h = headline quantum source keyboard list true ran.program p channels o played answer ran.unfolds ran.lawful ran.from keys chan ran.is small refl refl refl in
+    let h = headline quantum source keyboard list true ran.code.program p channels o played answer ran.code.unfolds ran.code.lawful ran.code.from keys chan ran.is small refl refl refl in
     record { played = played; answer = answer; run = h.0; is = is ∙ ap (λ s. chart_text s.trace o.ending most) h.1 }
 
 -- ---- refusals
@@ -170,4 +140,5 @@ refuses quantum source (play.Check f) h = h
 refuses quantum source (play.Usage f) h = h
 refuses quantum source (play.Code f) h = absurd h
 refuses quantum source (play.Write written) h = h
+refuses quantum source (play.Run f) h = h
 refuses quantum source (play.Memory e) h = h

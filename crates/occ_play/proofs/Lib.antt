@@ -1,2 +1,3 @@
 mod Headline
 mod Again
+pub mod Working

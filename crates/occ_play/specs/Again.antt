@@ -4,6 +4,7 @@ use Rattle.occ_net_replay.specs.declared.choice.Choice.{Choice}
 use Rattle.occ_net_replay.specs.Following.{AreBytes}
 use Rattle.occ_play.specs.declared.playing.Played.{Played}
 use Rattle.occ_play.specs.Playing.{IsAnswer}
+use Rattle.occ_play.specs.Working.{IsAnswerWithin}
 
 -- one ending, one list of used choices, one text
 pub record IsSameAnswer (a b : Played) (text other : List ℕ) : Type 0 where
@@ -20,3 +21,12 @@ PlayedAgain =
     → IsAnswer quantum source keyboard list trace a bytes
     → (IsAnswer quantum source keyboard list trace b others → IsSameAnswer a b bytes others)
     × (IsAnswer quantum source keyboard a.choices.items trace b others → IsSameAnswer a b bytes others)
+
+-- What workers played and what one thread plays by the choices that they used is the same.
+abbrev pub PlayedAlone : Type 0
+PlayedAlone =
+    (quantum : ℕ) (source keyboard : List ℕ) (limit : ℕ) (trace : Bool) (a b : Played) (bytes others : List ℕ)
+    → AreBytes keyboard → limit < 2 ^ 64
+    → IsAnswerWithin quantum source keyboard limit trace a bytes
+    → IsAnswer quantum source keyboard a.choices.items trace b others
+    → IsSameAnswer a b bytes others

@@ -52,12 +52,16 @@ pub record Unfolds (source : List ℕ) (u : Unfolding) : Type 0 where
   pub unfolds : UnfoldsTo items u
   pub well_formed : IsWellFormed u
 
--- what the code of a text's program comes to by a list of choices, with turns of this quantum; the program keeps the usage rules
-pub record Ran (quantum : ℕ) (source keyboard : List ℕ) (list : List Choice) (p : Program) (o : Outcome) : Type 0 where
+-- the code of a text's program, for turns of this quantum; the program keeps the usage rules
+pub record IsTextsCode (quantum : ℕ) (source : List ℕ) (p : Program) : Type 0 where
   pub program : Unfolding
   pub unfolds : Unfolds source program
   pub lawful : Lawful program
   pub from : IsCodeOf program quantum p
+
+-- what the code of a text's program comes to by a list of choices
+pub record Ran (quantum : ℕ) (source keyboard : List ℕ) (list : List Choice) (p : Program) (o : Outcome) : Type 0 where
+  pub code : IsTextsCode quantum source p
   pub is : IsOutcome p keyboard list o
 
 -- ---- the answer of an accepted program
@@ -124,6 +128,7 @@ RefusesText source (play.Check fault) = CheckRefusesText fault source
 RefusesText source (play.Usage fault) = UsageRefusesText fault source
 RefusesText source (play.Code fault) = ⊥
 RefusesText source (play.Write written) = ⊥
+RefusesText source (play.Run fault) = ⊥
 RefusesText source (play.Memory e) = ⊤
 
 -- for turns of this quantum
@@ -131,13 +136,13 @@ abbrev pub Refuses : ℕ → List ℕ → PlayFault → Type 0
 Refuses quantum source (play.Code fault) = CodeRefusesText quantum fault source
 Refuses quantum source fault = RefusesText source fault
 
--- A failed write was met, and a beginning of an answer of length `written` was written and nothing else; any other fault
--- leaves the writer as it was.
-abbrev pub AfterFault : {W : Type 0} → (W → Option (List ℕ)) → (List ℕ → Type 0) → ℕ → List ℕ → Counted W → Counted W → PlayFault → Type 0
-AfterFault contents Answers quantum source old new (play.Write written) =
+-- A failed write was met, and a beginning of an answer of length `written` was written and nothing else; any other fault refuses
+-- what was asked for, and leaves the writer as it was.
+abbrev pub AfterFault : {W : Type 0} → (W → Option (List ℕ)) → (List ℕ → Type 0) → (PlayFault → Type 0) → Counted W → Counted W → PlayFault → Type 0
+AfterFault contents Answers Refusal old new (play.Write written) =
     (failures_of old < failures_of new)
     × ((bytes : List ℕ) × Answers bytes × (written < length bytes) × Appends (contents (writer_of old)) (contents (writer_of new)) (take written bytes))
-AfterFault contents Answers quantum source old new fault = Refuses quantum source fault × (new ≡ old)
+AfterFault contents Answers Refusal old new fault = Refusal fault × (new ≡ old)
 
 -- the answer was written, and nothing else
 abbrev pub Wrote : {W : Type 0} → (W → Option (List ℕ)) → (List ℕ → Type 0) → Counted W → Counted W → Type 0

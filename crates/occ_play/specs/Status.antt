@@ -5,6 +5,7 @@ use Rattle.occ_tree_grammar.specs.declared.fault.ParseFault.TheVariants as tree
 use Rattle.occ_usage.specs.declared.checked.UsageFault.TheVariants as usage
 use Rattle.occ_check_names.specs.declared.fault.CheckFault.TheVariants as check
 use Rattle.occ_code.specs.declared.compiler.code.CodeFault.TheVariants as code
+use Rattle.occ_run.specs.declared.fault.RunFault.TheVariants as run
 use Rattle.occ_net_replay.specs.declared.ending.Ending.{Ending}
 use Rattle.occ_net_replay.specs.declared.ending.Ending.TheVariants.{Ended, Stopped, Fault, Limit}
 use Rattle.occ_play.specs.declared.playing.Played.{Played}
@@ -17,7 +18,8 @@ ending_status Stopped = 2
 ending_status (Fault fault) = 3
 ending_status Limit = 4
 
--- 1 for a refused source, 5 for want of memory, 6 for a failed write, 7 for a quantum that is none
+-- 1 for a refused source, 5 for want of memory and for threads that gave no answer, 6 for a failed write, 7 for a quantum or a number
+-- of workers that is not from 1 to 64
 abbrev pub fault_status : PlayFault → ℕ
 fault_status (play.Text text.Memory) = 5
 fault_status (play.Text fault) = 1
@@ -31,6 +33,8 @@ fault_status (play.Code code.Memory) = 5
 fault_status (play.Code code.BadQuantum) = 7
 fault_status (play.Code fault) = 1
 fault_status (play.Write written) = 6
+fault_status (play.Run run.BadWorkers) = 7
+fault_status (play.Run fault) = 5
 fault_status (play.Memory e) = 5
 
 abbrev pub status : Result Played PlayFault → ℕ

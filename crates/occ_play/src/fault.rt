@@ -4,6 +4,7 @@ ghost use Rattle.std.specs.Prelude.{◌≡◌};
 
 use occ_check::CheckFault;
 use occ_code::CodeFault;
+use occ_run::RunFault;
 use occ_text::TextFault;
 use occ_tree_grammar::ParseFault;
 use occ_usage::UsageFault;
@@ -31,6 +32,9 @@ pub enum PlayFault {
     /// A write failed, after the first `written` bytes of the answer were written.
     #[error("write failed")]
     Write { written: u64 },
+    /// The workers gave no answer.
+    #[error("{0}")]
+    Run(RunFault),
     /// A growth was refused.
     #[error("memory")]
     Memory(AllocError),
@@ -73,6 +77,16 @@ impl From<CodeFault> for PlayFault {
 
     fn from(fault: CodeFault) -> PlayFault {
         PlayFault::Code(fault)
+    }
+}
+
+impl From<RunFault> for PlayFault {
+    ghost use Rattle.occ_play.specs.declared.fault.PlayFault.{PlayFault};
+
+    ghost from_gives = { λ fault made. made ≡ PlayFault.Run fault };
+
+    fn from(fault: RunFault) -> PlayFault {
+        PlayFault::Run(fault)
     }
 }
 

@@ -1,8 +1,13 @@
 //! Laws of what is promised. Each function's contract is the law; its body does nothing.
 
-ghost use Rattle.occ_play.specs.Again.{PlayedAgain};
+ghost use Rattle.occ_play.specs.Again.{PlayedAgain, PlayedAlone};
 
 /// A run that is played again, by the same choices or by those that it used, has the same answer.
 pub fn played_again()
     ensures { PlayedAgain }
+{}
+
+/// What workers play is what one thread plays by the choices that they used.
+pub fn played_alone()
+    ensures { PlayedAlone }
 {}

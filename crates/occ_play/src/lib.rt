@@ -4,10 +4,13 @@
 pub mod fault;
 pub mod laws;
 pub mod playing;
+pub mod workers;
 
 pub use fault::PlayFault;
 pub use occ_choices::{ChoiceFault, Plan, choices_text, read_choices};
 pub use occ_net_replay::{Choice, Ending};
 pub use occ_net_tables::{Communication, End};
+pub use occ_run::{FreeGate, Gate, RunFault};
 pub use occ_shown::Counted;
 pub use playing::{Options, Played, chart, play, play_in, status_of};
+pub use workers::{play_workers, play_workers_in};

@@ -1,9 +1,11 @@
 //! Plays a program, from its source's bytes to its answer's bytes.
-ghost use Rattle.std.specs.Prelude.{◌≡◌, ◌<◌, ◌-◌, ◌^◌, IfOk, IfErr};
+ghost use Rattle.std.specs.Prelude.{◌≡◌, ◌<◌, ◌-◌, ◌^◌, IfOk, IfErr, List};
 ghost use Rattle.occ_shown.specs.Counting.{failures_of};
 ghost use Rattle.occ_choices.specs.Plans.{choices_of};
+ghost use Rattle.occ_net_replay.specs.declared.choice.Choice.{Choice};
+ghost use Rattle.occ_net_tables.specs.Outcomes.{IsOutcome};
 ghost use Rattle.occ_play.specs.Charting.{IsChart};
-ghost use Rattle.occ_play.specs.Playing.{AfterFault, IsAnswer, IsSomeAnswer, Ran, Refuses, RefusesText, Unfolds, Wrote};
+ghost use Rattle.occ_play.specs.Playing.{AfterFault, IsAnswer, IsSomeAnswer, IsTextsCode, Ran, Refuses, RefusesText, Unfolds, Wrote};
 ghost use Rattle.occ_term.specs.Unfolding.{Lawful};
 ghost use Rattle.occ_play.specs.Status.{status};
 
@@ -13,6 +15,7 @@ use occ_choices::Plan;
 use occ_code::{Code, CodeFault, compile_for};
 use occ_net_replay::{Choice, Ending};
 use occ_net_tables::{Outcome, run};
+use occ_run::RunFault;
 use occ_shown::{Counted, answer, write_answer};
 use occ_term::Unfolded;
 use occ_text::{TextFault, read_lines};
@@ -70,7 +73,7 @@ pub fn play<W: Write>(
     ensures played { IfOk result (λ played. Wrote W.contents
         (IsAnswer 1 source.now keyboard.now (choices_of plan.now) trace played) out.old out.new) }
     ensures fault { IfErr result (AfterFault W.contents
-        (IsSomeAnswer 1 source.now keyboard.now (choices_of plan.now) trace) 1 source.now out.old out.new) }
+        (IsSomeAnswer 1 source.now keyboard.now (choices_of plan.now) trace) (Refuses 1 source.now) out.old out.new) }
 {
     play_in(&Options::plain(), alloc, source, keyboard, plan, trace, out)
 }
@@ -93,7 +96,7 @@ pub fn play_in<W: Write>(
     ensures played { IfOk result (λ played. Wrote W.contents
         (IsAnswer options.now.quantum source.now keyboard.now (choices_of plan.now) trace played) out.old out.new) }
     ensures fault { IfErr result (AfterFault W.contents
-        (IsSomeAnswer options.now.quantum source.now keyboard.now (choices_of plan.now) trace) options.now.quantum source.now out.old out.new) }
+        (IsSomeAnswer options.now.quantum source.now keyboard.now (choices_of plan.now) trace) (Refuses options.now.quantum source.now) out.old out.new) }
 {
     let (played, bytes) = answered(options, alloc, source, keyboard, plan, trace)?;
     match write_answer(bytes.as_slice(), out) {
@@ -115,6 +118,26 @@ fn answered(
     ensures refused { IfErr result (Refuses options.now.quantum source.now) }
 {
     let (code, outcome) = ran(options, alloc, source, keyboard, plan)?;
+    let (played, bytes) = told(options, alloc, source, keyboard, &code, outcome, trace)?;
+    Ok((played, bytes))
+}
+
+/// What an outcome of a source's code comes to, and the answer's bytes.
+pub(crate) fn told(
+    options: &Options,
+    alloc: Global,
+    source: &[u8],
+    keyboard: &[u8],
+    code: &Code,
+    outcome: Outcome,
+    trace: bool,
+) -> Result<(Played, Vec<u8>), PlayFault>
+    requires { Ran options.now.quantum source.now keyboard.now outcome.choices.items code.now outcome }
+    ensures answer { IfOk result (λ r. (list : List Choice) → IsOutcome code.now keyboard.now list outcome → IsAnswer options.now.quantum source.now keyboard.now list trace r.0 r.1.items) }
+    ensures choices { IfOk result (λ r. r.0.choices ≡ outcome.choices) }
+    ensures ending { IfOk result (λ r. r.0.ending ≡ outcome.ending) }
+    ensures refused { IfErr result (Refuses options.now.quantum source.now) }
+{
     let bytes = answer(
         alloc,
         outcome.trace.as_slice(),
@@ -170,13 +193,22 @@ fn ran(
     ensures ran { IfOk result (λ r. Ran options.now.quantum source.now keyboard.now (choices_of plan.now) r.0 r.1) }
     ensures refused { IfErr result (Refuses options.now.quantum source.now) }
 {
+    let code = code_of(options, alloc, source)?;
+    let outcome = run(alloc, &code, keyboard, plan)?;
+    Ok((code, outcome))
+}
+
+/// The code of a source's program.
+pub(crate) fn code_of(options: &Options, alloc: Global, source: &[u8]) -> Result<Code, PlayFault>
+    ensures code { IfOk result (IsTextsCode options.now.quantum source.now) }
+    ensures refused { IfErr result (Refuses options.now.quantum source.now) }
+{
     let checked = accepted(alloc, source)?;
     let code = match compile_for(alloc, &checked, options.quantum) {
         Ok(code) => code,
         Err(fault) => return Err(PlayFault::Code(fault)),
     };
-    let outcome = run(alloc, &code, keyboard, plan)?;
-    Ok((code, outcome))
+    Ok(code)
 }
 
 /// The program of a source that keeps the usage rules.
@@ -211,7 +243,8 @@ fn front(alloc: Global, source: &[u8]) -> Result<Unfolded, PlayFault>
 }
 
 /// The exit status of a program that played so: 0 ended, 1 refused, 2 stopped, 3 fault, 4 limit,
-/// 5 want of memory, 6 a failed write, 7 a quantum that is none.
+/// 5 want of memory or threads that gave no answer, 6 a failed write, 7 a quantum that isn't from 1 to
+/// 65,536 or a number of workers that isn't from 1 to 64.
 pub fn status_of(played: &Result<Played, PlayFault>) -> u8
     ensures { result ≡ status played.now }
 {
@@ -227,8 +260,10 @@ pub fn status_of(played: &Result<Played, PlayFault>) -> u8
         | Err(PlayFault::Check(CheckFault::Memory))
         | Err(PlayFault::Usage(UsageFault::Memory))
         | Err(PlayFault::Code(CodeFault::Memory))
+        | Err(PlayFault::Run(RunFault::Foreign | RunFault::Spawn | RunFault::Memory))
         | Err(PlayFault::Memory(_)) => 5,
-        Err(PlayFault::Code(CodeFault::BadQuantum)) => 7,
+        Err(PlayFault::Code(CodeFault::BadQuantum)) | Err(PlayFault::Run(RunFault::BadWorkers)) =>
+            7,
         Err(PlayFault::Text(_))
         | Err(PlayFault::Parse(_))
         | Err(PlayFault::Check(_))

@@ -25,7 +25,7 @@ Exit status:
   2  the program stopped: no process can go on
   3  a fault in the run
   4  the limit of turns came first
-  5  memory ran out
+  5  memory ran out, or threads gave no answer
   6  a file or a stream could not be read or written
   7  wrong words, or a refused file of choices
 
@@ -39,9 +39,12 @@ pub struct Words<'a> {
     pub limit: u32,
     /// How many ends of a loop's body a turn may pass, 1 to 65,536.
     pub quantum: u32,
+    /// How many threads take the turns, 1 to 64; none for the program's own alone.
+    pub workers: Option<u32>,
     /// Whether each communication is printed.
     pub trace: bool,
-    /// The path of a file of choices, by which the run is played; then the limit says nothing.
+    /// The path of a file of choices, by which the run is played; then the limit and the workers say
+    /// nothing.
     pub choices: Option<&'a str>,
     /// The path of the file into which the used choices are written.
     pub record: Option<&'a str>,
@@ -73,6 +76,7 @@ pub fn read_words<'a>(alloc: Global, words: &'a [&'a str]) -> Result<Words<'a>, 
     Ok(Words {
         limit,
         quantum: quantum_of(matches.get_one::<u32>("quantum")),
+        workers: matches.get_one::<u32>("workers"),
         trace: matches.get_flag("trace"),
         choices: matches.get_str("choices"),
         record: matches.get_str("record"),
@@ -110,6 +114,7 @@ fn command<'a>(alloc: Global) -> Result<Command<'a>, Error> {
         .after_help(MORE_HELP)
         .arg(limit_word(alloc))?
         .arg(quantum_word(alloc))?
+        .arg(workers_word(alloc))?
         .arg(choices_word(alloc))?
         .arg(record_word(alloc))?
         .arg(chart_word(alloc))?
@@ -135,11 +140,19 @@ fn quantum_word<'a>(alloc: Global) -> Arg<'a> {
         .value_parser(value_parser!(u32).range(1..=65_536))
 }
 
+fn workers_word<'a>(alloc: Global) -> Arg<'a> {
+    Arg::new(alloc, "workers")
+        .long("workers")
+        .value_name("N")
+        .help("Lets N threads take the turns, 1 to 64")
+        .value_parser(value_parser!(u32).range(1..=64))
+}
+
 fn choices_word<'a>(alloc: Global) -> Arg<'a> {
     Arg::new(alloc, "choices")
         .long("choices")
         .value_name("FILE")
-        .help("Plays the run by the choices of FILE; --limit says nothing then")
+        .help("Plays the run by the choices of FILE; --limit and --workers say nothing then")
 }
 
 fn record_word<'a>(alloc: Global) -> Arg<'a> {

@@ -2,8 +2,7 @@
 
 use crate::spots::Spots;
 use crate::stack::Stack;
-use occ_term::Part;
-use sqlite_items::Items;
+use occ_term::Parts;
 use std::alloc::Global;
 
 /// The evaluation stack, the parts of a message and the targets. One serves any number of turns, of
@@ -11,7 +10,7 @@ use std::alloc::Global;
 #[derive(Drop)]
 pub struct Scratch {
     pub(crate) stack: Stack,
-    pub(crate) queue: Items<Part>,
+    pub(crate) queue: Parts,
     pub(crate) spots: Spots,
 }
 
@@ -20,7 +19,7 @@ impl Scratch {
     pub fn new(alloc: Global) -> Scratch {
         Scratch {
             stack: Stack::new(alloc),
-            queue: Items::new(alloc),
+            queue: Parts::new(),
             spots: Spots::new(alloc),
         }
     }

@@ -1,14 +1,12 @@
 //! A turn that was taken.
-ghost use Rattle.std.specs.Prelude.{◌≡◌, ◌<◌, ◌+◌, ◌^◌, IfErr, IfOk, Some, length};
+ghost use Rattle.std.specs.Prelude.{◌≡◌, ◌<◌, ◌+◌, ◌^◌, IfErr, IfOk, length};
 ghost use Rattle.std.specs.Arc.{arc_value};
 ghost use Rattle.occ_code.specs.Sequential.Machine.{Stopping};
-ghost use Rattle.occ_proc.specs.Turns.{HasStop, MayBegin, Taken};
+ghost use Rattle.occ_proc.specs.Turns.{HasStop, Taken};
 
 use crate::scratch::Scratch;
 use crate::turns::advance;
-use occ_code::{Body, Task, Wait};
-use occ_term::Message;
-use sqlite_items::Items;
+use occ_code::{Body, Task};
 use std::alloc::{AllocError, Global};
 use std::marker::Model;
 use std::sync::Arc;
@@ -57,16 +55,31 @@ impl Segment {
         &self.after
     }
 
-    /// The task after the turn, where the rest is no longer wanted.
-    pub fn into_after(self) -> Task
-        ensures { result ≡ self.after }
+    /// The body, and the tasks before and after the turn.
+    pub fn into_parts(self) -> (Arc<Body, Global>, Task, Task)
+        ensures body { arc_value result.0 ≡ self.body }
+        ensures before { result.1 ≡ self.before }
+        ensures after { result.2 ≡ self.after }
+        ensures turn { Stopping (arc_value result.0) result.1 result.2 }
     {
         let Segment {
-            body: _,
-            before: _,
+            body,
+            before,
             after,
         } = self;
-        after
+        (body, before, after)
+    }
+
+    /// The turn that these are the parts of.
+    pub fn from_parts(body: Arc<Body, Global>, before: Task, after: Task) -> Segment
+        requires { Stopping (arc_value body) before after }
+        ensures { result ≡ record { body = arc_value body; before = before; after = after } }
+    {
+        Segment {
+            body,
+            before,
+            after,
+        }
     }
 }
 
@@ -101,62 +114,7 @@ fn task_after(alloc: Global, body: &Body, before: &Task) -> Result<Task, AllocEr
     ensures { IfOk result (λ after. Stopping body.now before.now after) }
 {
     let mut scratch = Scratch::new(alloc);
-    let mut after = copy_of(alloc, before)?;
+    let mut after = before.copy(alloc)?;
     advance(alloc, body, &mut scratch, &mut after)?;
     Ok(after)
-}
-
-/// A copy of a task that may take its next turn.
-fn copy_of(alloc: Global, task: &Task) -> Result<Task, AllocError>
-    requires { MayBegin task.now.wait }
-    ensures { IfOk result (λ copy. copy ≡ task.now) }
-{
-    Ok(Task {
-        number: task.number,
-        turns: task.turns,
-        place: task.place,
-        frame: task.frame.copy(alloc)?,
-        wait: copy_wait(alloc, &task.wait)?,
-    })
-}
-
-fn copy_wait(alloc: Global, wait: &Wait) -> Result<Wait, AllocError>
-    requires { MayBegin wait.now }
-    ensures { IfOk result (λ copy. copy ≡ wait.now) }
-{
-    match wait {
-        Wait::Ready => Ok(Wait::Ready),
-        Wait::Took {
-            arm,
-            indices,
-            message,
-        } => took(alloc, *arm, indices.as_slice(), message),
-        _ => unreachable!(),
-    }
-}
-
-fn took(
-    alloc: Global,
-    arm: u32,
-    indices: &[i64],
-    message: &Option<Message>,
-) -> Result<Wait, AllocError>
-    ensures { IfOk result (λ wait. wait ≡ Wait.Took arm indices.now message.now) }
-{
-    let indices = Items::from_slice(alloc, indices)?;
-    let message = copy_message(alloc, message)?;
-    Ok(Wait::Took {
-        arm,
-        indices,
-        message,
-    })
-}
-
-fn copy_message(alloc: Global, message: &Option<Message>) -> Result<Option<Message>, AllocError>
-    ensures { IfOk result (λ copy. copy ≡ message.now) }
-{
-    match message {
-        Some(message) => Ok(Some(message.copy(alloc)?)),
-        None => Ok(None),
-    }
 }

@@ -1,12 +1,13 @@
 -- Exit statuses are at most 7, and what they come from.
-use Rattle.std.proofs.Common.{ℕ, ◌≤◌, ◌≡◌, ◌⊎◌, inl, inr, Bool, List, arith, subst, sym}
+use Rattle.std.proofs.Common.{ℕ, ◌≤◌, ◌≡◌, ◌⊎◌, inl, inr, List, arith, subst, sym}
 use Rattle.std.specs.Result.{result_and}
-use Rattle.std.specs.Prelude.{Result, Ok, Err, IfOk, IfErr, Option}
+use Rattle.std.specs.Prelude.{Result, Ok, Err, IfOk, IfErr, None, Option, Some}
 use Rattle.occ_text.specs.declared.fault.TextFault.TheVariants as text
 use Rattle.occ_tree_grammar.specs.declared.fault.ParseFault.TheVariants as tree
 use Rattle.occ_usage.specs.declared.checked.UsageFault.TheVariants as usage
 use Rattle.occ_check_names.specs.declared.fault.CheckFault.TheVariants as check
 use Rattle.occ_code.specs.declared.compiler.code.CodeFault.TheVariants as code
+use Rattle.occ_run.specs.declared.fault.RunFault.TheVariants as run
 use Rattle.occ_net_replay.specs.declared.choice.Choice.{Choice}
 use Rattle.occ_net_replay.specs.declared.ending.Ending.{Ending}
 use Rattle.occ_net_replay.specs.declared.ending.Ending.TheVariants.{Ended, Stopped, Fault, Limit}
@@ -18,11 +19,13 @@ use Rattle.occ_choices.specs.declared.fault.ChoiceFault.TheVariants as choice
 use Rattle.occ_play_inputs.specs.declared.failure.Failure.{Failure}
 use Rattle.occ_play_inputs.specs.declared.failure.Failure.TheVariants.{Help, Words, Arguments, Read, Choices, Write, Memory}
 use Rattle.occ_program.specs.Drawing.{Draws}
-use Rattle.occ_play.specs.Playing.{AfterFault, IsAnswer, IsSomeAnswer, Refuses, Wrote}
+use Rattle.occ_play.specs.Playing.{AfterFault, IsAnswer, Refuses, Wrote}
+use Rattle.occ_play.specs.Working.{IsAnswerWithin, WorkersRefuse}
+use Rattle.occ_play.proofs.Working.{workers_refuse}
 use Rattle.occ_play.specs.Status.{ending_status, fault_status, status}
 use Rattle.occ_play_inputs.specs.Failures.{failure_status}
 use Rattle.occ_play_inputs.specs.declared.words.Words.{Words as Asked}
-use Rattle.occ_program.specs.Coming.{CameTo, IsStatusFor, ProgramStatus, of_play, of_failure, of_help}
+use Rattle.occ_program.specs.Coming.{CameTo, CameToBy, IsStatusFor, ProgramStatus, of_play, of_failure, of_help}
 
 ending_small : (e : Ending) → ending_status e ≤ 7
 ending_small Ended = omega arith
@@ -43,6 +46,8 @@ fault_small (play.Code code.Memory) = omega arith
 fault_small (play.Code code.BadQuantum) = omega arith
 fault_small (play.Code f) = omega arith
 fault_small (play.Write written) = omega arith
+fault_small (play.Run run.BadWorkers) = omega arith
+fault_small (play.Run f) = omega arith
 fault_small (play.Memory e) = omega arith
 
 pub status_small : (r : Result Played PlayFault) → status r ≤ 7
@@ -59,37 +64,44 @@ failure_small Write = omega arith
 failure_small (Words error) = omega arith
 failure_small Arguments = omega arith
 
-came_from_fault : {W : Type 0} (contents : W → Option (List ℕ)) (quantum : ℕ) (source keyboard : List ℕ) (list : List Choice) (trace : Bool) (old new : Counted W) (f : PlayFault)
-    → AfterFault contents (IsSomeAnswer quantum source keyboard list trace) quantum source old new f → CameTo quantum source keyboard list trace (Err f)
-came_from_fault contents quantum source keyboard list trace old new (play.Text f) h = h.0
-came_from_fault contents quantum source keyboard list trace old new (play.Parse f) h = h.0
-came_from_fault contents quantum source keyboard list trace old new (play.Check f) h = h.0
-came_from_fault contents quantum source keyboard list trace old new (play.Usage f) h = h.0
-came_from_fault contents quantum source keyboard list trace old new (play.Code f) h = h.0
-came_from_fault contents quantum source keyboard list trace old new (play.Write written) h = (h.1.0, h.1.1)
-came_from_fault contents quantum source keyboard list trace old new (play.Memory e) h = h.0
+came_from_fault : {W : Type 0} (contents : W → Option (List ℕ)) (Answers : Played → List ℕ → Type 0) (Refusal : PlayFault → Type 0) (old new : Counted W) (f : PlayFault)
+    → AfterFault contents (λ bytes. (played : Played) × Answers played bytes) Refusal old new f → CameTo Answers Refusal (Err f)
+came_from_fault contents Answers Refusal old new (play.Text f) h = h.0
+came_from_fault contents Answers Refusal old new (play.Parse f) h = h.0
+came_from_fault contents Answers Refusal old new (play.Check f) h = h.0
+came_from_fault contents Answers Refusal old new (play.Usage f) h = h.0
+came_from_fault contents Answers Refusal old new (play.Code f) h = h.0
+came_from_fault contents Answers Refusal old new (play.Write written) h = (h.1.0, h.1.1)
+came_from_fault contents Answers Refusal old new (play.Run f) h = h.0
+came_from_fault contents Answers Refusal old new (play.Memory e) h = h.0
 
-pub came_to : {W : Type 0} (contents : W → Option (List ℕ)) (quantum : ℕ) (source keyboard : List ℕ) (list : List Choice) (trace : Bool) (old new : Counted W) (r : Result Played PlayFault)
-    → IfOk r (λ played. Wrote contents (IsAnswer quantum source keyboard list trace played) old new)
-    → IfErr r (AfterFault contents (IsSomeAnswer quantum source keyboard list trace) quantum source old new)
-    → CameTo quantum source keyboard list trace r
-came_to contents quantum source keyboard list trace old new (Ok played) h g = (h.0, h.1)
-came_to contents quantum source keyboard list trace old new (Err f) h g = came_from_fault contents quantum source keyboard list trace old new f g
+pub came_to : {W : Type 0} (contents : W → Option (List ℕ)) (Answers : Played → List ℕ → Type 0) (Refusal : PlayFault → Type 0) (old new : Counted W) (r : Result Played PlayFault)
+    → IfOk r (λ played. Wrote contents (Answers played) old new)
+    → IfErr r (AfterFault contents (λ bytes. (played : Played) × Answers played bytes) Refusal old new)
+    → CameTo Answers Refusal r
+came_to contents Answers Refusal old new (Ok played) h g = (h.0, h.1)
+came_to contents Answers Refusal old new (Err f) h g = came_from_fault contents Answers Refusal old new f g
 
 -- a refused text is what a run came to that was to be drawn
-came_of_refusal : (quantum : ℕ) (source keyboard : List ℕ) (list : List Choice) (trace : Bool) (f : PlayFault) → Refuses quantum source f → CameTo quantum source keyboard list trace (Err f)
-came_of_refusal quantum source keyboard list trace (play.Text f) h = h
-came_of_refusal quantum source keyboard list trace (play.Parse f) h = h
-came_of_refusal quantum source keyboard list trace (play.Check f) h = h
-came_of_refusal quantum source keyboard list trace (play.Usage f) h = h
-came_of_refusal quantum source keyboard list trace (play.Code f) h = h
-came_of_refusal quantum source keyboard list trace (play.Write written) h = absurd h
-came_of_refusal quantum source keyboard list trace (play.Memory e) h = h
+came_of_refusal : (quantum : ℕ) (source : List ℕ) (Answers : Played → List ℕ → Type 0) (Refusal : PlayFault → Type 0) (f : PlayFault) → ((e : PlayFault) → Refuses quantum source e → Refusal e) → Refuses quantum source f → CameTo Answers Refusal (Err f)
+came_of_refusal quantum source Answers Refusal (play.Text f) as_well h = as_well (play.Text f) h
+came_of_refusal quantum source Answers Refusal (play.Parse f) as_well h = as_well (play.Parse f) h
+came_of_refusal quantum source Answers Refusal (play.Check f) as_well h = as_well (play.Check f) h
+came_of_refusal quantum source Answers Refusal (play.Usage f) as_well h = as_well (play.Usage f) h
+came_of_refusal quantum source Answers Refusal (play.Code f) as_well h = as_well (play.Code f) h
+came_of_refusal quantum source Answers Refusal (play.Write written) as_well h = absurd h
+came_of_refusal quantum source Answers Refusal (play.Run f) as_well h = absurd h
+came_of_refusal quantum source Answers Refusal (play.Memory e) as_well h = as_well (play.Memory e) h
 
-pub came_to_both : {Done : Type 0} (quantum : ℕ) (source keyboard : List ℕ) (list : List Choice) (trace : Bool) (drawn : Result Done PlayFault) (r : Result Played PlayFault)
-    → IfErr drawn (Refuses quantum source) → CameTo quantum source keyboard list trace r → CameTo quantum source keyboard list trace (result_and drawn r)
-came_to_both quantum source keyboard list trace (Ok done) r h g = g
-came_to_both quantum source keyboard list trace (Err f) r h g = came_of_refusal quantum source keyboard list trace f h
+refused_by : (workers : Option ℕ) (words : Asked) (source keyboard : List ℕ) (list : List Choice) (f : PlayFault) → Refuses words.quantum source f → CameToBy workers words source keyboard list (Err f)
+refused_by None words source keyboard list f h = came_of_refusal words.quantum source (IsAnswer words.quantum source keyboard list words.trace) (Refuses words.quantum source) f (λ e g. g) h
+refused_by (Some workers) words source keyboard list f h =
+    came_of_refusal words.quantum source (IsAnswerWithin words.quantum source keyboard words.limit words.trace) (WorkersRefuse workers words.quantum source) f (workers_refuse workers words.quantum source) h
+
+pub came_to_both : {Done : Type 0} (workers : Option ℕ) (words : Asked) (source keyboard : List ℕ) (list : List Choice) (drawn : Result Done PlayFault) (r : Result Played PlayFault)
+    → IfErr drawn (Refuses words.quantum source) → CameToBy workers words source keyboard list r → CameToBy workers words source keyboard list (result_and drawn r)
+came_to_both workers words source keyboard list (Ok done) r h g = g
+came_to_both workers words source keyboard list (Err f) r h g = refused_by workers words source keyboard list f h
 
 -- a drawing that was refused wrote nothing, and the text is refused
 pub refused_drawing : {Done : Type 0} (quantum : ℕ) (source keyboard : List ℕ) (list : List Choice) (most : ℕ) (old new : Option (List ℕ)) (r : Result Done PlayFault) → Draws quantum source keyboard list most old new r → IfErr r (Refuses quantum source)

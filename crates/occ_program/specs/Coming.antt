@@ -1,37 +1,45 @@
 -- What an exit status says of the source, the keyboard and the choices that were played.
-use Rattle.std.specs.Prelude.{Bool, List, Result, Ok, Err, ℕ, ◌≡◌}
+use Rattle.std.specs.Prelude.{List, None, Option, Some, Result, Ok, Err, ℕ, ◌≡◌}
 use Rattle.occ_net_replay.specs.declared.choice.Choice.{Choice}
 use Rattle.occ_play_inputs.specs.declared.failure.Failure.{Failure}
 use Rattle.occ_choices.specs.declared.plan.Plan.{Plan}
 use Rattle.occ_play.specs.declared.playing.Played.{Played}
 use Rattle.occ_play.specs.declared.fault.PlayFault.{PlayFault}
 use Rattle.occ_play.specs.declared.fault.PlayFault.TheVariants as play
-use Rattle.occ_play.specs.Playing.{IsAnswer, IsSomeAnswer, Refuses}
+use Rattle.occ_play.specs.Playing.{IsAnswer, Refuses}
+use Rattle.occ_play.specs.Working.{IsAnswerWithin, WorkersRefuse}
 use Rattle.occ_play_inputs.specs.declared.words.Words.{Words}
 use Rattle.occ_play_inputs.specs.Asked.{IsAskedBy}
 use Rattle.occ_play_inputs.specs.Failures.{failure_status}
 use Rattle.occ_choices.specs.Plans.{choices_of}
 use Rattle.occ_play.specs.Status.{status}
 
--- a run of the source, with turns of this quantum, has an answer; a write of one failed; or the source was refused
-abbrev pub CameTo : ℕ → (source keyboard : List ℕ) → List Choice → Bool → Result Played PlayFault → Type 0
-CameTo quantum source keyboard list trace (Ok played) = (bytes : List ℕ) × IsAnswer quantum source keyboard list trace played bytes
-CameTo quantum source keyboard list trace (Err (play.Write written)) = (bytes : List ℕ) × IsSomeAnswer quantum source keyboard list trace bytes
-CameTo quantum source keyboard list trace (Err fault) = Refuses quantum source fault
+-- an answer was written; a write of one failed; or what was asked for was refused
+abbrev pub CameTo : (Played → List ℕ → Type 0) → (PlayFault → Type 0) → Result Played PlayFault → Type 0
+CameTo Answers Refusal (Ok played) = (bytes : List ℕ) × Answers played bytes
+CameTo Answers Refusal (Err (play.Write written)) = (bytes : List ℕ) × ((played : Played) × Answers played bytes)
+CameTo Answers Refusal (Err fault) = Refusal fault
 
--- the status of what playing them came to
-pub record IsStatusOf (quantum : ℕ) (source keyboard : List ℕ) (list : List Choice) (trace : Bool) (s : ℕ) : Type 0 where
-  pub played : Result Played PlayFault
-  pub came : CameTo quantum source keyboard list trace played
-  pub is : s ≡ status played
+-- so many workers take the turns, where the words say so and name no file of choices
+abbrev pub workers_asked : {Path : Type 0} → Option ℕ → Option Path → Option ℕ
+workers_asked workers None = workers
+workers_asked workers (Some path) = None
 
--- the status of what a source came to, by the choices and with the trace that the words ask for
+-- what playing a source came to: by these choices, or by workers within the limit
+abbrev pub CameToBy : Option ℕ → Words → (source keyboard : List ℕ) → List Choice → Result Played PlayFault → Type 0
+CameToBy None words source keyboard list played = CameTo (IsAnswer words.quantum source keyboard list words.trace) (Refuses words.quantum source) played
+CameToBy (Some workers) words source keyboard list played =
+    CameTo (IsAnswerWithin words.quantum source keyboard words.limit words.trace) (WorkersRefuse workers words.quantum source) played
+
+-- the status of what a source came to, by the choices or the workers and with the trace that the words ask for
 pub record IsStatusFor (words : Words) (s : ℕ) : Type 0 where
   pub source : List ℕ
   pub keyboard : List ℕ
   pub plan : Plan
   pub asked : IsAskedBy words plan
-  pub is : IsStatusOf words.quantum source keyboard (choices_of plan) words.trace s
+  pub played : Result Played PlayFault
+  pub came : CameToBy (workers_asked words.workers words.choices) words source keyboard (choices_of plan) played
+  pub is : s ≡ status played
 
 -- What a status of the program says: that of what a source came to, or that of a failure, or 6 where help could not be printed.
 pub data ProgramStatus : ℕ → Type 0 where

@@ -5,7 +5,7 @@ ghost use Rattle.occ_program.specs.Drawing.{Draws};
 ghost use Rattle.occ_play.specs.Playing.{Refuses};
 
 use crate::program::options_of;
-use occ_play::{PlayFault, Played, chart};
+use occ_play::{Plan, PlayFault, Played, chart};
 use occ_play_inputs::failure::of_write;
 use occ_play_inputs::{Failure, Inputs, Words};
 use std::alloc::Global;
@@ -13,7 +13,7 @@ use std::fs;
 use std::io::Write;
 use std::rt::Files;
 
-/// Draws the run of these inputs into the file that the words name, where it answered.
+/// Draws the run of these inputs into the file that the words name, where it answered: the run by the choices that it used.
 pub(crate) fn draw<R: Files>(
     rt: &R,
     alloc: Global,
@@ -24,29 +24,31 @@ pub(crate) fn draw<R: Files>(
     ensures { IfOk result (λ drawn. IfErr drawn (Refuses words.now.quantum inputs.now.source.items)) }
 {
     match (words.chart, played) {
-        (Some(path), Ok(_)) => {
+        (Some(path), Ok(played)) => {
             let mut file = fs::create(rt, path).map_err(of_write)?;
-            write_chart(alloc, words, inputs, &mut file)
+            let used = Vec::from_slice(alloc, played.choices.as_slice())?;
+            write_chart(alloc, words, inputs, &Plan::Choices(used), &mut file)
         }
         _ => Ok(Ok(())),
     }
 }
 
-/// Writes the chart of the run of these inputs.
+/// Writes the chart of the run of these inputs by a plan.
 fn write_chart<W: Write + Drop>(
     alloc: Global,
     words: &Words<'_>,
     inputs: &Inputs,
+    plan: &Plan,
     out: &mut W,
 ) -> Result<Result<(), PlayFault>, Failure>
-    ensures { IfOk result (Draws words.now.quantum inputs.now.source.items inputs.now.keyboard.items (choices_of inputs.now.plan) words.now.arrows (W.contents out.old) (W.contents out.new)) }
+    ensures { IfOk result (Draws words.now.quantum inputs.now.source.items inputs.now.keyboard.items (choices_of plan.now) words.now.arrows (W.contents out.old) (W.contents out.new)) }
 {
     match chart(
         &options_of(words),
         alloc,
         inputs.source.as_slice(),
         inputs.keyboard.as_slice(),
-        &inputs.plan,
+        plan,
         words.arrows,
     ) {
         Ok(bytes) => {

@@ -1,6 +1,6 @@
 //! The program around `play`: what it reads and prints, and its exit status.
-ghost use Rattle.std.specs.Prelude.{◌≡◌, ◌≤◌, ◌<◌, ◌-◌, ◌^◌, ◌⊎◌, IfOk};
-ghost use Rattle.occ_program.specs.Coming.{CameTo, IsStatusFor, IsStatusOf, ProgramStatus};
+ghost use Rattle.std.specs.Prelude.{◌≡◌, ◌≤◌, ◌<◌, ◌-◌, ◌^◌, ◌⊎◌, IfOk, None, Some};
+ghost use Rattle.occ_program.specs.Coming.{CameToBy, IsStatusFor, ProgramStatus, workers_asked};
 ghost use Rattle.occ_shown.specs.Counting.{failures_of};
 ghost use Rattle.occ_play.specs.Status.{status};
 ghost use Rattle.occ_play_inputs.specs.Failures.{failure_status};
@@ -8,23 +8,30 @@ ghost use Rattle.occ_choices.specs.Plans.{choices_of};
 
 use crate::drawing::draw;
 use crate::recording::record;
-use occ_play::{Options, PlayFault, Played, play_in, status_of};
+use occ_play::{
+    FreeGate, Options, PlayFault, Played, RunFault, play_in, play_workers_in, status_of,
+};
 use occ_play_inputs::failure::{of_arguments, of_words};
 use occ_play_inputs::{Failure, Inputs, Words, read_inputs, read_words};
 use occ_shown::Counted;
 use std::alloc::Global;
 use std::io::Write;
 use std::rt::{Env, Files};
+use std::sync::Wait;
+use std::thread::Threads;
 use std::{env, io};
 
 /// What is told below wrong words.
 const ALLOWED: &str =
-    "Allowed are --limit N with N from 0 to 10000000, --quantum N with N from 1 to 65536, --choices FILE, --record FILE, --chart FILE, --arrows N, --trace, --help, and one FILE.";
+    "Allowed are --limit N with N from 0 to 10000000, --quantum N with N from 1 to 65536, --workers N with N from 1 to 64, --choices FILE, --record FILE, --chart FILE, --arrows N, --trace, --help, and one FILE.";
 
 /// Runs the program on the arguments, the files and the streams of `rt`, and answers its exit status: 0 ended or
-/// help, 1 source refused, 2 stopped, 3 fault, 4 limit, 5 want of memory, 6 a file or stream that couldn't be
+/// help, 1 source refused, 2 stopped, 3 fault, 4 limit, 5 want of memory or
+/// threads that gave no answer, 6 a file or stream that couldn't be
 /// read or written, 7 wrong words or a refused file of choices.
-pub fn run<R: Files + Input + Print + Eprint + Env + AllocGlobal>(rt: &R) -> u8
+pub fn run<R: Files + Input + Print + Eprint + Env + AllocGlobal + Threads + Wait + Sync>(
+    rt: &R,
+) -> u8
     ensures came { ProgramStatus result }
     ensures small { result ≤ 7 }
 {
@@ -34,7 +41,7 @@ pub fn run<R: Files + Input + Print + Eprint + Env + AllocGlobal>(rt: &R) -> u8
     }
 }
 
-fn run_arguments<R: Files + Input + Print + Eprint + Env + AllocGlobal>(
+fn run_arguments<R: Files + Input + Print + Eprint + Env + AllocGlobal + Threads + Wait + Sync>(
     rt: &R,
     alloc: Global,
 ) -> Result<u8, Failure>
@@ -52,7 +59,7 @@ fn run_arguments<R: Files + Input + Print + Eprint + Env + AllocGlobal>(
 
 /// Reads what the words name, plays it, records the used choices and draws a chart where the words ask for that. The
 /// answer goes to standard output, and a fault's line to standard error.
-fn run_words<R: Files + Input + Print + Eprint>(
+fn run_words<R: Files + Input + Print + Eprint + Threads + Wait + Sync>(
     rt: &R,
     alloc: Global,
     words: &Words<'_>,
@@ -62,7 +69,7 @@ fn run_words<R: Files + Input + Print + Eprint>(
 {
     let inputs = read_inputs(rt, alloc, words)?;
     let mut out = Counted::new(io::writer(rt));
-    let played = play_inputs(alloc, words, &inputs, &mut out);
+    let played = play_inputs(rt, alloc, words, &inputs, &mut out);
     record(rt, alloc, words, &played)?;
     let drawn = draw(rt, alloc, words, &inputs, &played)?;
     Ok(told(rt, &drawn.and(played)))
@@ -73,9 +80,19 @@ fn told<R: Eprint>(rt: &R, came: &Result<Played, PlayFault>) -> u8
     ensures { result ≡ status came.now }
 {
     if let Err(fault) = came {
-        let _ = eprintln!(rt; "{fault}");
+        tell(rt, fault);
     }
     status_of(came)
+}
+
+/// Prints the line of a fault.
+fn tell<R: Eprint>(rt: &R, fault: &PlayFault) {
+    let _ = match fault {
+        PlayFault::Run(RunFault::Foreign) => eprintln!(rt; "foreign outcome"),
+        PlayFault::Run(RunFault::Spawn) => eprintln!(rt; "thread refused"),
+        PlayFault::Run(RunFault::Memory) => eprintln!(rt; "memory"),
+        fault => eprintln!(rt; "{fault}"),
+    };
 }
 
 /// Turns of the quantum that the words say.
@@ -87,15 +104,42 @@ pub(crate) fn options_of(words: &Words<'_>) -> Options
     }
 }
 
-/// Plays the source by the plan.
-fn play_inputs<W: Write>(
+/// How many workers take the turns, where the words say so and name no file of choices.
+fn workers_of(words: &Words<'_>) -> Option<u32>
+    ensures { result ≡ workers_asked words.now.workers words.now.choices }
+{
+    match words.choices {
+        None => words.workers,
+        Some(_) => None,
+    }
+}
+
+/// Plays the source by the plan, or by workers.
+fn play_inputs<R: Threads + Wait + Sync, W: Write>(
+    rt: &R,
     alloc: Global,
     words: &Words<'_>,
     inputs: &Inputs,
     out: &mut Counted<W>,
 ) -> Result<Played, PlayFault>
     requires room { failures_of out.old < 2 ^ 64 - 1 }
-    ensures { CameTo words.now.quantum inputs.now.source.items inputs.now.keyboard.items (choices_of inputs.now.plan) words.now.trace result }
+    ensures { CameToBy (workers_asked words.now.workers words.now.choices) words.now inputs.now.source.items inputs.now.keyboard.items (choices_of inputs.now.plan) result }
+{
+    match workers_of(words) {
+        None => play_plan(alloc, words, inputs, out),
+        Some(workers) => play_by(rt, alloc, words, inputs, workers, out),
+    }
+}
+
+/// Plays the source by the plan.
+fn play_plan<W: Write>(
+    alloc: Global,
+    words: &Words<'_>,
+    inputs: &Inputs,
+    out: &mut Counted<W>,
+) -> Result<Played, PlayFault>
+    requires room { failures_of out.old < 2 ^ 64 - 1 }
+    ensures { CameToBy None words.now inputs.now.source.items inputs.now.keyboard.items (choices_of inputs.now.plan) result }
 {
     play_in(
         &options_of(words),
@@ -104,6 +148,33 @@ fn play_inputs<W: Write>(
         inputs.keyboard.as_slice(),
         &inputs.plan,
         words.trace,
+        out,
+    )
+}
+
+/// Plays the source by so many workers.
+fn play_by<R: Threads + Wait + Sync, W: Write>(
+    rt: &R,
+    alloc: Global,
+    words: &Words<'_>,
+    inputs: &Inputs,
+    workers: u32,
+    out: &mut Counted<W>,
+) -> Result<Played, PlayFault>
+    requires room { failures_of out.old < 2 ^ 64 - 1 }
+    ensures { CameToBy (Some workers) words.now inputs.now.source.items inputs.now.keyboard.items (choices_of inputs.now.plan) result }
+{
+    let (limit, trace) = (words.limit, words.trace);
+    play_workers_in(
+        rt,
+        &options_of(words),
+        alloc,
+        inputs.source.as_slice(),
+        inputs.keyboard.as_slice(),
+        workers,
+        limit,
+        trace,
+        &FreeGate,
         out,
     )
 }

@@ -2,3 +2,4 @@ mod Texts
 mod Traces
 mod Drawing
 mod Growth
+pub mod ByteMessages

@@ -9,4 +9,4 @@ mod xml;
 
 pub use charting::chart;
 pub use counted::{Counted, write_answer};
-pub use showing::answer;
+pub use showing::{answer, channel_bytes};

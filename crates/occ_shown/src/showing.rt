@@ -148,13 +148,18 @@ pub(crate) fn write_end(alloc: Global, out: &mut Vec<u8>, end: End) -> Result<()
     }
 }
 
-/// The name of a channel; empty where there is no such channel.
-fn channel_name<'a>(channels: &'a [Channel], chan: u32) -> &'a [u8]
-    ensures { result.now ≡ name_at (slice_get channels.now chan) }
+/// The name of a channel; nothing where there is no such channel.
+fn write_name(
+    alloc: Global,
+    out: &mut Vec<u8>,
+    channels: &[Channel],
+    chan: u32,
+) -> Result<(), AllocError>
+    ensures { OnOk result (out.new.items ≡ out.old.items ++ name_at (slice_get channels.now chan)) }
 {
     match channels.get(chan as usize) {
-        Some(channel) => channel.name.as_slice(),
-        None => &[],
+        Some(channel) => channel.name.write(alloc, out),
+        None => Ok(()),
     }
 }
 
@@ -164,15 +169,15 @@ fn write_head(
     out: &mut Vec<u8>,
     number: u64,
     chan: u32,
-    name: &[u8],
+    channels: &[Channel],
 ) -> Result<(), AllocError>
-    ensures { OnOk result (out.new.items ≡ out.old.items ++ head_text number chan name.now) }
+    ensures { OnOk result (out.new.items ≡ out.old.items ++ head_text number chan (name_at (slice_get channels.now chan))) }
 {
     write_number(alloc, out, number)?;
     out.extend_from_slice(b" c")?;
     write_number(alloc, out, u64::from(chan))?;
     out.push(b' ')?;
-    out.extend_from_slice(name)
+    write_name(alloc, out, channels, chan)
 }
 
 /// The two ends of a communication, between spaces.
@@ -242,7 +247,7 @@ pub(crate) fn write_label(
     ensures { OnOk result (out.new.items ≡ out.old.items ++ (names_of channels.now).channel_name communication.now.chan ++ 32 ∷ items_text (tag_shown (names_of channels.now) communication.now.chan communication.now.message.tag) communication.now.message.items) }
 {
     let chan = communication.chan;
-    out.extend_from_slice(channel_name(channels, chan))?;
+    write_name(alloc, out, channels, chan)?;
     out.push(b' ')?;
     write_message(alloc, out, &communication.message, chan, channels)
 }
@@ -257,8 +262,7 @@ fn write_line(
 ) -> Result<(), AllocError>
     ensures { OnOk result (out.new.items ≡ out.old.items ++ line_text (entry_of (names_of channels.now) number (communication_of communication.now))) }
 {
-    let name = channel_name(channels, communication.chan);
-    write_head(alloc, out, number, communication.chan, name)?;
+    write_head(alloc, out, number, communication.chan, channels)?;
     write_ends(alloc, out, communication.sender, communication.receiver)?;
     write_message(
         alloc,
@@ -317,6 +321,24 @@ fn write_byte(out: &mut Vec<u8>, communication: &Communication, chan: u32) -> Re
         out.push(byte_of(&communication.message))?;
     }
     Ok(())
+}
+
+/// The bytes of the messages of a channel, each of one byte.
+///
+/// # Errors
+///
+/// A refused growth.
+pub fn channel_bytes(
+    alloc: Global,
+    trace: &[Communication],
+    chan: u32,
+) -> Result<Vec<u8>, AllocError>
+    requires { AreByteMessages chan trace.now }
+    ensures { IfOk result (λ bytes. bytes.items ≡ bytes_of (messages_on chan (map communication_of trace.now))) }
+{
+    let mut bytes = Vec::new(alloc);
+    write_bytes(&mut bytes, trace, chan)?;
+    Ok(bytes)
 }
 
 /// The trace's lines and the ending's line; without the trace the ending's line alone, and nothing where the run ended.

@@ -24,3 +24,4 @@ pub mod Chains
 pub mod AltRuns
 pub mod AgainSame
 pub mod AllOpened
+pub mod Components

@@ -29,3 +29,5 @@ pub mod WorkedRows
 pub mod MoreRows
 pub mod AltRows
 pub mod Again
+pub mod Parts
+pub mod Names

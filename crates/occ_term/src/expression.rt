@@ -1,6 +1,7 @@
 //! Expressions, and what is named, output, assigned and set by them.
 
 use crate::primitive::Primitive;
+use crate::text::Text;
 use occ_held::parts::{Listed, Nested};
 use sqlite_items::Items;
 
@@ -71,7 +72,7 @@ pub enum TermExpr {
     /// The value of a component, or of a variable.
     Component(Place),
     /// A component of a string: the line, the string and the subscript.
-    Letter(u32, Items<u8>, Nested<TermExpr>),
+    Letter(u32, Text, Nested<TermExpr>),
     /// An operator with its type, its line and its two operands.
     Binary(Operator, Primitive, u32, Nested<TermExpr>, Nested<TermExpr>),
     /// An operator with its type, its line and its operand.
@@ -135,7 +136,7 @@ pub enum Array {
     /// The cells of a place.
     Cells(Place),
     /// A string.
-    Text(Items<u8>),
+    Text(Text),
 }
 
 /// What is output, assigned or named.

@@ -1,6 +1,7 @@
 //! Messages: what one communication carries.
 ghost use Rattle.std.specs.Prelude.{◌≡◌, ◌↔◌, IsTrue, IfOk, length, take};
 
+use crate::parts::Parts;
 use crate::primitive::Primitive;
 use sqlite_items::Items;
 use std::alloc::{AllocError, Global};
@@ -22,7 +23,7 @@ pub struct Message {
     /// The number, from 0, of a variant protocol's tag; none in every other protocol.
     pub tag: Option<u32>,
     /// The items, in order.
-    pub items: Items<Part>,
+    pub items: Parts,
 }
 
 impl Part {
@@ -63,13 +64,9 @@ impl Message {
     pub fn copy(&self, alloc: Global) -> Result<Message, AllocError>
         ensures { IfOk result (λ m. m ≡ self.now) }
     {
-        let mut items = Items::new(alloc);
-        for part in self.items.as_slice() {
-            items.push(part.copy(alloc)?)?;
-        }
         Ok(Message {
             tag: self.tag,
-            items,
+            items: self.items.copy(alloc)?,
         })
     }
 

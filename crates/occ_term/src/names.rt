@@ -1,26 +1,160 @@
 //! What is declared: cells and channels, with their names.
 
-ghost use Rattle.std.specs.Prelude.{◌≡◌, IfOk};
+ghost use Rattle.std.specs.Prelude.{◌≡◌, ◌↔◌, ◌++◌, IfOk, IsTrue, OnOk};
+ghost use Rattle.std.specs.Arc.{arc_value};
+ghost use Rattle.occ_term.specs.Names.{component_name, with_subscripts};
 
 use crate::primitive::Primitive;
 use crate::protocol::Protocol;
 use sqlite_items::Items;
 use std::alloc::{AllocError, Global};
+use std::marker::Model;
+use std::sync::Arc;
+
+/// A declared name; of a component with its subscripts, as `a[2]`. Contracts see its letters. The components of an array
+/// share the letters of its name.
+pub struct Name {
+    declared: Arc<Items<u8>, Global>,
+    subscripts: Items<u32>,
+}
+
+impl Model for Name {
+    ghost use Rattle.std.specs.Prelude.{List, ℕ};
+    ghost use Rattle.std.specs.Arc.{arc_value};
+    ghost use Rattle.occ_term.specs.Names.{with_subscripts};
+
+    ghost Value = { List ℕ };
+
+    ghost view = { λ n. with_subscripts (arc_value n.declared) n.subscripts };
+}
+
+impl Drop for Name {
+    fn drop(self) {
+        let Name {
+            declared: _,
+            subscripts: _,
+        } = self;
+    }
+}
+
+impl Name {
+    /// The name with these letters. The error is a refused growth.
+    #[tactic(auto, using(crate::proofs::Components::no_subscripts), unfolding(crate::specs::Names::with_subscripts))]
+    pub fn new(alloc: Global, letters: &[u8]) -> Result<Name, AllocError>
+        ensures { IfOk result (λ n. n ≡ letters.now) }
+    {
+        let declared = Arc::new(alloc, Items::from_slice(alloc, letters)?)?;
+        Ok(Name {
+            declared,
+            subscripts: Items::new(alloc),
+        })
+    }
+
+    /// The name of the component with this number. The error is a refused growth.
+    #[tactic(auto, using(crate::proofs::Components::one_more_subscript))]
+    pub fn component(&self, alloc: Global, number: u32) -> Result<Name, AllocError>
+        ensures { IfOk result (λ n. n ≡ component_name self.now number) }
+    {
+        let mut component = self.copy(alloc)?;
+        component.subscripts.push(number)?;
+        Ok(component)
+    }
+
+    /// A copy, which shares the letters. The error is a refused growth.
+    pub fn copy(&self, alloc: Global) -> Result<Name, AllocError>
+        ensures { IfOk result (λ n. n ≡ self.now) }
+    {
+        let declared = Arc::try_clone(&self.declared)?;
+        let subscripts = Items::from_slice(alloc, self.subscripts.as_slice())?;
+        Ok(Name {
+            declared,
+            subscripts,
+        })
+    }
+
+    /// Whether both have the same letters. The error is a refused growth, which is never asked for where they are components
+    /// of the same array.
+    pub fn is_same(&self, alloc: Global, other: &Name) -> Result<bool, AllocError>
+        ensures { IfOk result (λ same. IsTrue same ↔ (self.now ≡ other.now)) }
+    {
+        if self.has_parts_of(other) {
+            return Ok(true);
+        }
+        let mut letters = Vec::new(alloc);
+        self.write(alloc, &mut letters)?;
+        let mut others = Vec::new(alloc);
+        other.write(alloc, &mut others)?;
+        Ok(same_bytes(&letters, &others))
+    }
+
+    /// Whether both have the same declared letters and the same subscripts.
+    fn has_parts_of(&self, other: &Name) -> bool
+        ensures { IsTrue result → self.now ≡ other.now }
+    {
+        same_bytes(self.declared.as_slice(), other.declared.as_slice())
+            && same_numbers(self.subscripts.as_slice(), other.subscripts.as_slice())
+    }
+
+    /// Writes the letters behind others. The error is a refused growth.
+    #[tactic(auto, using(crate::proofs::Components::subscripts_behind))]
+    pub fn write(&self, alloc: Global, out: &mut Vec<u8>) -> Result<(), AllocError>
+        ensures { OnOk result (out.new.items ≡ out.old.items ++ self.now) }
+    {
+        out.extend_from_slice(self.declared.as_slice())?;
+        write_subscripts(alloc, out, self.subscripts.as_slice())
+    }
+}
+
+/// Whether both hold the same bytes.
+fn same_bytes(bytes: &[u8], others: &[u8]) -> bool
+    ensures { IsTrue result ↔ (bytes.now ≡ others.now) }
+{
+    bytes == others
+}
+
+/// Whether both hold the same numbers.
+fn same_numbers(numbers: &[u32], others: &[u32]) -> bool
+    ensures { IsTrue result ↔ (numbers.now ≡ others.now) }
+{
+    numbers == others
+}
+
+/// Writes subscripts, each in its brackets.
+#[tactic(auto, using(crate::proofs::Components::one_more_subscript), unfolding(crate::specs::Names::with_subscripts))]
+fn write_subscripts(alloc: Global, out: &mut Vec<u8>, subscripts: &[u32]) -> Result<(), AllocError>
+    ensures { OnOk result (out.new.items ≡ with_subscripts out.old.items subscripts.now) }
+{
+    for k in subscripts {
+        write_subscript(alloc, out, *k)?;
+    }
+    Ok(())
+}
+
+/// Writes a subscript in its brackets.
+fn write_subscript(alloc: Global, out: &mut Vec<u8>, k: u32) -> Result<(), AllocError>
+    ensures { OnOk result (out.new.items ≡ component_name out.old.items k) }
+{
+    let digits = format!(in alloc; "{k}")?;
+    out.push(b'[')?;
+    out.extend_from_slice(digits.as_bytes())?;
+    out.push(b']')?;
+    Ok(())
+}
 
 /// A cell: a variable, or one component of an array.
-#[derive(Debug, Drop)]
+#[derive(Drop)]
 pub struct Cell {
     /// The declared name; of a component with its subscript, as `a[2]`.
-    pub name: Items<u8>,
+    pub name: Name,
     /// The type of its values.
     pub primitive: Primitive,
 }
 
 /// A channel, or one component of an array of channels.
-#[derive(Debug, Drop)]
+#[derive(Drop)]
 pub struct Channel {
     /// The declared name; of a component with its subscript, as `c[2]`.
-    pub name: Items<u8>,
+    pub name: Name,
     /// What its messages look like.
     pub protocol: Protocol,
 }
@@ -31,7 +165,7 @@ impl Channel {
         ensures { IfOk result (λ c. c ≡ self.now) }
     {
         Ok(Channel {
-            name: Items::from_slice(alloc, self.name.as_slice())?,
+            name: self.name.copy(alloc)?,
             protocol: self.protocol.copy(alloc)?,
         })
     }

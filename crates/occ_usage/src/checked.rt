@@ -173,19 +173,21 @@ fn name_of(
     channels: &[Channel],
 ) -> Result<String, AllocError> {
     let number = found.number as usize;
-    let mut name = String::new(alloc);
+    let mut letters = Vec::new(alloc);
     match found.rule {
         Rule::Variables => {
             if let Some(cell) = cells.get(number) {
-                push_name(&mut name, cell.name.as_slice())?;
+                cell.name.write(alloc, &mut letters)?;
             }
         }
         Rule::Inputs | Rule::Outputs => {
             if let Some(channel) = channels.get(number) {
-                push_name(&mut name, channel.name.as_slice())?;
+                channel.name.write(alloc, &mut letters)?;
             }
         }
     }
+    let mut name = String::new(alloc);
+    push_name(&mut name, letters.as_slice())?;
     Ok(name)
 }
 

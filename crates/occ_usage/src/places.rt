@@ -131,7 +131,7 @@ fn cells_of_array(array: &Array) -> Result<u64, AllocError>
 {
     match array {
         Array::Cells(place) => cells_of_place(place),
-        Array::Text(text) => Ok(text.len() as u64),
+        Array::Text(text) => Ok(u64::from(text.len())),
     }
 }
 

@@ -46,4 +46,6 @@ mod turns;
 #[cfg(test)]
 mod usage;
 #[cfg(test)]
+mod workers;
+#[cfg(test)]
 mod writers;

@@ -2,7 +2,7 @@
 use crate::row::{Given, Row, check_rows};
 use std::test::Fail;
 
-const PIPELINE: &[u8] =
+pub(crate) const PIPELINE: &[u8] =
     b"PROC main (CHAN OF BYTE keyboard, screen)\n  [4]CHAN OF INT c:\n  PAR\n    c[0] ! 1\n    PAR i = 0 FOR 3\n      INT x:\n      SEQ\n        c[i] ? x\n        c[i + 1] ! x + 1\n    INT y:\n    SEQ\n      c[3] ? y\n      screen ! BYTE (y + 48)\n:\n";
 
 const MERGE: &[u8] =

@@ -3,9 +3,7 @@ use crate::unfolded::fixed_channels;
 use occ_net_replay::Ending;
 use occ_net_tables::{Communication, End};
 use occ_shown::chart;
-use occ_term::{Message, Part, Primitive};
-use sqlite_items::Items;
-use std::alloc::{AllocError, Global};
+use occ_term::{Message, Part, Parts, Primitive};
 use std::test::Fail;
 
 const CHART: &str =
@@ -22,22 +20,16 @@ const CHART: &str =
 ";
 
 /// A byte on a channel.
-fn sent(
-    alloc: Global,
-    chan: u32,
-    sender: End,
-    receiver: End,
-    byte: i64,
-) -> Result<Communication, AllocError> {
-    let mut items = Items::new(alloc);
-    items.push(Part::One(Primitive::Byte, byte))?;
-    let message = Message { tag: None, items };
-    Ok(Communication {
+fn sent(chan: u32, sender: End, receiver: End, byte: i64) -> Communication {
+    Communication {
         chan,
         sender,
         receiver,
-        message,
-    })
+        message: Message {
+            tag: None,
+            items: Parts::one(Part::One(Primitive::Byte, byte)),
+        },
+    }
 }
 
 #[test]
@@ -45,8 +37,8 @@ fn traces_are_drawn(rt: HostRuntime) -> Result<(), Fail> {
     let alloc = rt.alloc();
     let channels = fixed_channels(alloc)?;
     let trace = [
-        sent(alloc, 1, End::Process(0), End::Screen, 65)?,
-        sent(alloc, 0, End::Keyboard, End::Process(0), 10)?,
+        sent(1, End::Process(0), End::Screen, 65),
+        sent(0, End::Keyboard, End::Process(0), 10),
     ];
     let drawn = chart(alloc, &trace, channels.as_slice(), Ending::Ended, 1)?;
     assert_eq!(rt; drawn.as_slice(), CHART.as_bytes());

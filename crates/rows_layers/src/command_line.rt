@@ -7,26 +7,27 @@ use std::test::Fail;
 const READ: [(&[&str], &str); 4] = [
     (
         &["occam"],
-        "Words { limit: 1000000, quantum: 1, trace: false, choices: None, record: None, chart: None, arrows: 200, file: None }",
+        "Words { limit: 1000000, quantum: 1, workers: None, trace: false, choices: None, record: None, chart: None, arrows: 200, file: None }",
     ),
     (
         &["occam", "--limit", "10000000", "--trace", "f.occ"],
-        "Words { limit: 10000000, quantum: 1, trace: true, choices: None, record: None, chart: None, arrows: 200, file: Some(\"f.occ\") }",
+        "Words { limit: 10000000, quantum: 1, workers: None, trace: true, choices: None, record: None, chart: None, arrows: 200, file: Some(\"f.occ\") }",
     ),
     (
         &["occam", "f.occ", "--trace", "--limit=0"],
-        "Words { limit: 0, quantum: 1, trace: true, choices: None, record: None, chart: None, arrows: 200, file: Some(\"f.occ\") }",
+        "Words { limit: 0, quantum: 1, workers: None, trace: true, choices: None, record: None, chart: None, arrows: 200, file: Some(\"f.occ\") }",
     ),
     (
         &[
             "occam",
             "--quantum=65536",
+            "--workers=64",
             "--choices=c",
             "--record=r",
             "--chart=s.svg",
             "--arrows=0",
         ],
-        "Words { limit: 1000000, quantum: 65536, trace: false, choices: Some(\"c\"), record: Some(\"r\"), chart: Some(\"s.svg\"), arrows: 0, file: None }",
+        "Words { limit: 1000000, quantum: 65536, workers: Some(64), trace: false, choices: Some(\"c\"), record: Some(\"r\"), chart: Some(\"s.svg\"), arrows: 0, file: None }",
     ),
 ];
 
@@ -42,7 +43,7 @@ fn words_are_read(rt: HostRuntime) -> Result<(), Fail> {
 }
 
 /// Words, and why they are refused.
-const REFUSED: [(&[&str], ErrorKind); 18] = [
+const REFUSED: [(&[&str], ErrorKind); 20] = [
     (&["occam", "--limit=10000001"], ErrorKind::ValueValidation),
     (&["occam", "--limit=4294967296"], ErrorKind::ValueValidation),
     (&["occam", "--limit=-1"], ErrorKind::ValueValidation),
@@ -51,6 +52,8 @@ const REFUSED: [(&[&str], ErrorKind); 18] = [
     (&["occam", "--limit"], ErrorKind::InvalidValue),
     (&["occam", "--quantum=0"], ErrorKind::ValueValidation),
     (&["occam", "--quantum=65537"], ErrorKind::ValueValidation),
+    (&["occam", "--workers=0"], ErrorKind::ValueValidation),
+    (&["occam", "--workers=65"], ErrorKind::ValueValidation),
     (
         &["occam", "--arrows=4294967296"],
         ErrorKind::ValueValidation,
@@ -95,6 +98,7 @@ fn help_names_the_words(rt: HostRuntime) -> Result<(), Fail> {
                 "--limit <N>",
                 "1000000",
                 "--quantum <N>",
+                "--workers <N>",
                 "--chart <FILE>",
                 "--arrows <N>",
                 "--trace",

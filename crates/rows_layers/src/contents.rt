@@ -1,15 +1,23 @@
 //! Messages, frames and protocols: copies, and what is the same.
-use occ_term::{Channel, Frame, Message, Part, PartType, Primitive, Protocol, Tag};
+use occ_term::{
+    Channel, Frame, Message, Name, Part, PartType, Parts, Primitive, Protocol, Tag, Text,
+};
 use sqlite_items::Items;
 use std::alloc::{AllocError, Global};
 use std::test::Fail;
 
 /// A message of a value, an array and a counted array.
 fn message(alloc: Global, tag: Option<u32>, values: &[i64]) -> Result<Message, AllocError> {
-    let mut items = Items::new(alloc);
-    items.push(Part::One(Primitive::Byte, 65))?;
-    items.push(Part::Many(Primitive::Int, Items::from_slice(alloc, values)?))?;
-    items.push(Part::Counted(Primitive::Bool, Items::from_slice(alloc, &[1, 0])?))?;
+    let mut items = Parts::new();
+    items.push(alloc, Part::One(Primitive::Byte, 65))?;
+    items.push(
+        alloc,
+        Part::Many(Primitive::Int, Items::from_slice(alloc, values)?),
+    )?;
+    items.push(
+        alloc,
+        Part::Counted(Primitive::Bool, Items::from_slice(alloc, &[1, 0])?),
+    )?;
     Ok(Message { tag, items })
 }
 
@@ -107,15 +115,58 @@ fn channels_are_copied(rt: HostRuntime) -> Result<(), Fail> {
         Protocol::Variant(tags),
     ];
     for protocol in protocols.iter() {
-        let name = Items::from_slice(alloc, b"c[2]")?;
+        let name = Name::new(alloc, b"c")?.component(alloc, 2)?;
         let protocol = protocol.copy(alloc)?;
         let channel = Channel { name, protocol };
         let copy = channel.copy(alloc)?;
         assert_eq!(rt;
-            format!(in alloc; "{copy:?}")?,
-            format!(in alloc; "{channel:?}")?
+            format!(in alloc; "{:?}", copy.protocol)?,
+            format!(in alloc; "{:?}", channel.protocol)?
         );
-        assert_eq!(rt; copy.name.as_slice(), b"c[2]".as_slice());
+        assert!(rt; copy.name.is_same(alloc, &channel.name)?);
     }
+    Ok(())
+}
+
+#[test]
+fn names_of_components_are_written(rt: HostRuntime) -> Result<(), Fail> {
+    let alloc = rt.alloc();
+    let name = Name::new(alloc, b"a")?
+        .component(alloc, 10)?
+        .component(alloc, 0)?;
+    let mut letters = Vec::new(alloc);
+    name.write(alloc, &mut letters)?;
+    assert_eq!(rt; letters.as_slice(), b"a[10][0]".as_slice());
+    assert!(rt; name.is_same(alloc, &Name::new(alloc, b"a[10][0]")?)?);
+    assert!(rt; !name.is_same(alloc, &Name::new(alloc, b"a[10]")?)?);
+    Ok(())
+}
+
+#[test]
+fn parts_are_put_and_taken(rt: HostRuntime) -> Result<(), Fail> {
+    let alloc = rt.alloc();
+    let mut parts = Parts::one(Part::One(Primitive::Byte, 1));
+    parts.push(alloc, Part::One(Primitive::Byte, 2))?;
+    assert!(rt; parts.as_slice().len() == 2 && !parts.is_empty());
+    assert!(rt;
+        parts
+            .pop()
+            .is_some_and(|part| part.is_same(&Part::One(Primitive::Byte, 2)))
+    );
+    assert!(rt;
+        parts
+            .pop()
+            .is_some_and(|part| part.is_same(&Part::One(Primitive::Byte, 1)))
+    );
+    assert!(rt; parts.is_empty() && parts.pop().is_none());
+    Ok(())
+}
+
+#[test]
+fn copies_of_a_text_share_its_letters(rt: HostRuntime) -> Result<(), Fail> {
+    let text = Text::new(rt.alloc(), b"occam")?;
+    let copy = text.copy()?;
+    assert_eq!(rt; copy.as_slice(), b"occam".as_slice());
+    assert_eq!(rt; copy.len(), 5);
     Ok(())
 }

@@ -14,6 +14,8 @@ mod layers;
 #[cfg(test)]
 mod lexing;
 #[cfg(test)]
+mod same;
+#[cfg(test)]
 mod trees;
 #[cfg(test)]
 mod unfolded;

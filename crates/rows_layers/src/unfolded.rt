@@ -6,7 +6,7 @@ ghost use Rattle.occ_term.specs.declared.term.Term.TheVariants as terms;
 ghost use Rattle.rows_layers.specs.SmallPrograms.{IsPlain, letter_on, par_of_none, stops_in_sequence};
 
 use occ_held::parts::Listed;
-use occ_term::{Cell, Channel, Item, Place, Primitive, Protocol, Term, TermExpr, Unfolded};
+use occ_term::{Cell, Channel, Item, Name, Place, Primitive, Protocol, Term, TermExpr, Unfolded};
 use sqlite_items::Items;
 use std::alloc::{AllocError, Global};
 
@@ -98,7 +98,7 @@ fn channel_of_bytes(alloc: Global, name: &[u8]) -> Result<Channel, AllocError>
     ensures { IfOk result (λ channel. channel ≡ byte_channel name.now) }
 {
     Ok(Channel {
-        name: Items::from_slice(alloc, name)?,
+        name: Name::new(alloc, name)?,
         protocol: Protocol::Simple(Items::new(alloc), Primitive::Byte),
     })
 }

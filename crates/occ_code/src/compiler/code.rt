@@ -1,5 +1,5 @@
 //! Compiled programs.
-ghost use Rattle.std.specs.Prelude.{◌≡◌, ◌<◌, ◌≤◌, ◌-◌, ◌^◌, IsTrue, IfOk, IfErr, IfSome, IfNone, None, Some, length, map, min, slice_get};
+ghost use Rattle.std.specs.Prelude.{◌≡◌, ◌↔◌, ◌<◌, ◌≤◌, ◌-◌, ◌^◌, IsTrue, IfOk, IfErr, IfSome, IfNone, None, Some, length, map, min, slice_get};
 ghost use Rattle.std.specs.Arc.{arc_value};
 ghost use Rattle.occ_term.specs.Processes.{processes_of};
 ghost use Rattle.occ_term.specs.Unfolding.{meaning};
@@ -7,6 +7,7 @@ ghost use Rattle.occ_term.specs.View.{term_of};
 ghost use Rattle.occ_code.specs.Sequential.Compiled.{AreBodiesOf, IsCodeOf, IsCompiled, IsQuantum, IsRefused, CodeRefuses, most_instructions};
 ghost use Rattle.occ_code.specs.Sequential.Compiled as compiled;
 
+use crate::channels::same_channels;
 use crate::compiler::body::Body;
 use crate::compiler::processes::bodies_of;
 use occ_term::{Channel, Term};
@@ -107,6 +108,53 @@ impl Code {
     {
         &self.channels
     }
+
+    /// Whether both have the same content: the same bodies and channels, in the same order. The error is a refused growth.
+    pub fn is_same(&self, alloc: Global, other: &Code) -> Result<bool, AllocError>
+        ensures { IfOk result (λ same. IsTrue same ↔ (self.now ≡ other.now)) }
+    {
+        if !same_bodies(&self.bodies, &other.bodies) {
+            return Ok(false);
+        }
+        same_channels(alloc, &self.channels, &other.channels)
+    }
+
+    /// The same code once more, which shares its bodies with this one. The error is a refused growth.
+    pub fn again(&self, alloc: Global) -> Result<Code, AllocError>
+        ensures { IfOk result (λ c. c ≡ self.now) }
+    {
+        Ok(Code {
+            bodies: shared_bodies(alloc, &self.bodies)?,
+            channels: copy_channels(alloc, &self.channels)?,
+        })
+    }
+}
+
+fn same_bodies(bodies: &[Arc<Body, Global>], others: &[Arc<Body, Global>]) -> bool
+    ensures { IsTrue result ↔ (map arc_value bodies.now ≡ map arc_value others.now) }
+{
+    if bodies.len() != others.len() {
+        return false;
+    }
+    for i in 0..bodies.len() {
+        if !bodies[i].is_same(&others[i]) {
+            return false;
+        }
+    }
+    true
+}
+
+fn shared_bodies(
+    alloc: Global,
+    bodies: &[Arc<Body, Global>],
+) -> Result<Vec<Arc<Body, Global>>, AllocError>
+    ensures { IfOk result (λ shared. map arc_value shared.items ≡ map arc_value bodies.now) }
+{
+    let mut shared = Vec::new(alloc);
+    for body in bodies {
+        shared.push(Arc::try_clone(body)?)?;
+    }
+    Ok(shared)
 }
 
 /// Compiles a program, for turns that take one stop of a loop.

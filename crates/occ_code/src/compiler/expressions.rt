@@ -7,7 +7,7 @@ ghost use Rattle.occ_code.specs.Sequential.Expressions.{expression_code, place_c
 ghost use Rattle.occ_code.specs.Sequential.View.{instruction_of, Emits};
 
 use crate::compiler::instr::Instr;
-use crate::compiler::pieces::{copy_text, emitted, put, since};
+use crate::compiler::pieces::{emitted, put, since};
 use occ_term::{Array, Declaration, Item, Place, Primitive, Replicator, Target, TermExpr};
 use std::alloc::{AllocError, Global};
 
@@ -25,7 +25,7 @@ pub(crate) fn emit_expression(
         TermExpr::Cell(_, cell) => put(code, Instr::Load(*cell)),
         TermExpr::Component(place) => emit_place_before(alloc, place, Instr::LoadAt, code),
         TermExpr::Letter(line, text, subscript) => {
-            let text = copy_text(alloc, text)?;
+            let text = text.copy()?;
             emit_before(alloc, subscript.get(), Instr::LoadLetter(*line, text), code)
         }
         TermExpr::Binary(operator, primitive, line, left, right) => {
@@ -200,7 +200,7 @@ fn emit_array(
             emit_place_before(alloc, place, Instr::PartMany(primitive, count), code)
         }
         Array::Text(text) => {
-            let text = copy_text(alloc, text)?;
+            let text = text.copy()?;
             put(code, Instr::PartText(primitive, text))
         }
     }
@@ -222,7 +222,7 @@ fn emit_counted(
             emit_place_before(alloc, place, Instr::PartCounted(primitive, line, all), code)?;
         }
         Array::Text(text) => {
-            let text = copy_text(alloc, text)?;
+            let text = text.copy()?;
             put(code, Instr::PartCountedText(primitive, line, text))?;
         }
     }

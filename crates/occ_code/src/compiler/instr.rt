@@ -1,6 +1,6 @@
 //! The instructions of a process's code.
 
-use occ_term::{Monadic, Operator, Primitive};
+use occ_term::{Monadic, Operator, Primitive, Text};
 use sqlite_items::Items;
 
 /// One instruction. A skip counts the instructions that are jumped over, and a `back` is how far a
@@ -17,7 +17,7 @@ pub enum Instr {
     /// Takes a cell's number from the stack, and puts its value there.
     LoadAt,
     /// Takes a subscript, and puts that letter of the text: the line and the text.
-    LoadLetter(u32, Items<u8>),
+    LoadLetter(u32, Text),
     /// Takes a subscript and a number, and puts the number of that component: the line, the size that
     /// the subscript has to be below, and how many numbers a component has.
     Subscript(u32, u32, u64),
@@ -36,11 +36,11 @@ pub enum Instr {
     /// Takes the number of the first of so many cells, which become the last part.
     PartMany(Primitive, u64),
     /// A text becomes the last part.
-    PartText(Primitive, Items<u8>),
+    PartText(Primitive, Text),
     /// Takes the number of the first of so many cells, and how many of them become the last part.
     PartCounted(Primitive, u32, u64),
     /// Takes how many letters of the text become the last part.
-    PartCountedText(Primitive, u32, Items<u8>),
+    PartCountedText(Primitive, u32, Text),
     /// Takes the number of the first of so many cells, which are the last target.
     SpotOne(u64),
     /// Takes the number of the first component and that of the count's cell, which are the last target:

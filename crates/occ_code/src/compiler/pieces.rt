@@ -3,7 +3,6 @@ ghost use Rattle.std.specs.Prelude.{◌≡◌, ◌∷◌, [], ◌-◌, ◌<◌, 
 ghost use Rattle.occ_code.specs.Sequential.View.{instruction_of, Emits};
 
 use crate::compiler::instr::Instr;
-use sqlite_items::Items;
 use std::alloc::{AllocError, Global};
 
 /// Puts one instruction before what was emitted.
@@ -34,11 +33,4 @@ pub(crate) fn put_at(code: &mut Vec<Instr>, place: usize, instr: Instr)
     ensures { code.new.items ≡ set code.old.items place instr }
 {
     code[place] = instr;
-}
-
-/// A copy of a text.
-pub(crate) fn copy_text(alloc: Global, text: &Items<u8>) -> Result<Items<u8>, AllocError>
-    ensures { IfOk result (λ copy. copy ≡ text.now) }
-{
-    Items::from_slice(alloc, text.as_slice())
 }

@@ -1,21 +1,21 @@
 use Rattle.std.proofs.Common.{subst, sym}
 use Rattle.occ_choices.specs.Plans.{choices_of}
-use Rattle.occ_program.specs.Coming.{CameTo}
+use Rattle.occ_program.specs.Coming.{CameToBy, workers_asked}
 use Rattle.occ_program.proofs.Statuses.{came_to_both}
 use Rattle.occ_program.proofs.program.run_words.Goals as goal
 
 pub returns-clause-came : goal.returns-clause-came
 returns-clause-came g c =
     let inputs = c.in_ok-inputs.inputs in
-    let came = came_to_both c.args.words.now.quantum inputs.source.items inputs.keyboard.items (choices_of inputs.plan) c.args.words.now.trace c.in_ok-drawn.drawn c.play_inputs-played.result c.in_ok-drawn.ensures c.play_inputs-played.ensures in
+    let words = c.args.words.now in
+    let workers = workers_asked words.workers words.choices in
+    let came = came_to_both workers words inputs.source.items inputs.keyboard.items (choices_of inputs.plan) c.in_ok-drawn.drawn c.play_inputs-played.result c.in_ok-drawn.ensures c.play_inputs-played.ensures in
     record {
       source = inputs.source.items;
       keyboard = inputs.keyboard.items;
       plan = inputs.plan;
       asked = c.in_ok-inputs.ensures;
-      is = record {
-        played = c.and.result;
-        came = subst (CameTo c.args.words.now.quantum inputs.source.items inputs.keyboard.items (choices_of inputs.plan) c.args.words.now.trace) (sym c.and.ensures) came;
-        is = c.told.ensures;
-      };
+      played = c.and.result;
+      came = subst (CameToBy workers words inputs.source.items inputs.keyboard.items (choices_of inputs.plan)) (sym c.and.ensures) came;
+      is = c.told.ensures;
     }

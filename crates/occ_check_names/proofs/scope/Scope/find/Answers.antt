@@ -1,8 +1,6 @@
-use Rattle.std.proofs.Common.{◌≡◌, ◌++◌, ◌∙◌, [], List, Some, ap, refl, sym, subst, length, reverse}
-use Rattle.std.proofs.lemmas.List.{append-nil, append_assoc, length-append}
-use Rattle.occ_check_meaning.specs.Unfolding.{found}
-use Rattle.occ_check_names.specs.View.{scope_of, IsFound, IsWithin}
-use Rattle.occ_check_names.specs.declared.scope.Frame.{Frame}
+use Rattle.std.proofs.Common.{[], Some, refl, sym, subst, reverse}
+use Rattle.std.proofs.lemmas.List.{append-nil}
+use Rattle.occ_check_names.specs.View.{scope_of, IsFound}
 use Rattle.occ_check_names.proofs.Looking.{wider}
 use Rattle.occ_check_names.proofs.scope.Scope.find.Goals as goal
 

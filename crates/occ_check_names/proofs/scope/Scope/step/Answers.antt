@@ -1,6 +1,6 @@
-use Rattle.std.proofs.Common.{◌≡◌, Some, ap, sym, ◌∙◌, drop, length, reverse, take}
+use Rattle.std.proofs.Common.{Some, ap, sym, ◌∙◌, drop, reverse}
 use Rattle.occ_check_meaning.specs.Unfolding.{found}
-use Rattle.occ_check_names.specs.View.{binding_of, pairs_before, scope_in, scope_of}
+use Rattle.occ_check_names.specs.View.{binding_of, scope_in, scope_of}
 use Rattle.occ_check_names.specs.declared.scope.Position.{Position}
 use Rattle.occ_check_names.proofs.Looking.{bound_found, by_own}
 use Rattle.occ_check_names.proofs.scope.Scope.step.Goals as goal

@@ -1,0 +1,6 @@
+pub mod Numbers
+pub mod Ready
+pub mod States
+pub mod Leased
+pub mod Reading
+pub mod CameTo

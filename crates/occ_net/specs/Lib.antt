@@ -1,0 +1,6 @@
+pub mod Networks
+pub mod Keeping
+pub mod Leases
+pub mod Settling
+pub mod Histories
+pub mod Outcomes

@@ -1,0 +1,28 @@
+-- What a network came to.
+use Rattle.std.specs.Prelude.{List, None, ℕ, ◌≡◌}
+use Rattle.occ_term.specs.Runs.{bytes_of, messages_on}
+use Rattle.occ_code.specs.Sequential.Compiled.{Program}
+use Rattle.occ_net_replay.specs.declared.choice.Choice.{Choice}
+use Rattle.occ_net_replay.specs.Following.{or_limit}
+use Rattle.occ_net_replay.specs.Replay.{Net, ending_of}
+use Rattle.occ_net_tables.specs.Outcomes.{Begins}
+use Rattle.occ_net_tables.specs.Places.{Placed}
+use Rattle.occ_net.specs.Networks.{IsState, fresh}
+use Rattle.occ_net.specs.declared.outcome.Outcome.{Outcome}
+
+-- the ending of its network's state, Limit where there is none, and the bytes that were input from the screen's and the error channel
+pub record Shows (net : Net) (o : Outcome) : Type 0 where
+  pub ending : o.ending ≡ or_limit (ending_of net)
+  pub screen : o.screen.items ≡ bytes_of (messages_on 1 net.trace)
+  pub error : o.error.items ≡ bytes_of (messages_on 2 net.trace)
+
+-- A run of the listed choices: those that were used are the first ones, and the network has their places, whose replay is in the same
+-- state. Limit only where the whole list was used and no ending came.
+pub record IsOutcome (p : Program) (keyboard : List ℕ) (list : List Choice) (o : Outcome) : Type 0 where
+  pub net : Net
+  pub places : Placed p keyboard o.choices.items o.network.choices net
+  pub network : o.network ≡ record (fresh p keyboard) { choices = o.network.choices }
+  pub state : IsState o.network net
+  pub shows : Shows net o
+  pub used : Begins o.choices.items list
+  pub whole : ending_of net ≡ None → o.choices.items ≡ list

@@ -1,0 +1,130 @@
+//! What a network came to, and runs of plans.
+ghost use Rattle.std.specs.Prelude.{◌≡◌, ◌≤◌, ◌⊎◌, IfErr, IfOk, length, take, ℕ};
+ghost use Rattle.occ_term.specs.Runs.{bytes_of, messages_on};
+ghost use Rattle.occ_choices.specs.Plans.{choices_of};
+ghost use Rattle.occ_net_replay.specs.Replay.{Net};
+ghost use Rattle.occ_net.specs.Networks.{IsState};
+ghost use Rattle.occ_net.specs.Outcomes.{IsOutcome, Shows};
+
+use crate::fault::NetFault;
+use crate::network::{Network, no_marks};
+use occ_choices::Plan;
+use occ_code::Code;
+use occ_net_replay::{Choice, Ending};
+use occ_net_tables::{Keep, Ran, run_tables};
+use occ_shown::channel_bytes;
+use std::alloc::{AllocError, Global};
+
+/// The screen's channel.
+const SCREEN: u32 = 1;
+
+/// The error channel.
+const ERROR: u32 = 2;
+
+/// What a network came to.
+#[derive(Drop)]
+pub struct Outcome {
+    /// How it ended; `Limit` where it could go on.
+    pub ending: Ending,
+    /// The choices that were used.
+    pub choices: Vec<Choice>,
+    /// The bytes that were written to the screen.
+    pub screen: Vec<u8>,
+    /// The bytes that were written to the error channel.
+    pub error: Vec<u8>,
+    /// The network, with its trace and its histories.
+    pub network: Network,
+}
+
+/// The first choices of a plan.
+fn first_choices(alloc: Global, plan: &Plan, count: usize) -> Result<Vec<Choice>, AllocError>
+    ensures { IfOk result (λ choices. choices.items ≡ take count (choices_of plan.now)) }
+{
+    let mut choices = Vec::with_capacity(alloc, count)?;
+    for number in 0..count {
+        let Some(choice) = plan.at(number) else {
+            return Ok(choices);
+        };
+        choices.push(choice)?;
+    }
+    Ok(choices)
+}
+
+impl Network {
+    /// The bytes that were input from the screen's or the error channel.
+    fn bytes_on(&self, alloc: Global, chan: u32) -> Result<Vec<u8>, AllocError>
+        requires { (chan ≡ SCREEN) ⊎ (chan ≡ ERROR) }
+        ensures { IfOk result (λ bytes. (net : Net) → IsState self.now net → bytes.items ≡ bytes_of (messages_on chan net.trace)) }
+    {
+        self.code.compiled();
+        let bytes = channel_bytes(alloc, self.tables.trace(), chan)?;
+        Ok(bytes)
+    }
+
+    /// The outcome, with these choices.
+    fn came_to(self, alloc: Global, choices: Vec<Choice>) -> Result<Outcome, (Network, NetFault)>
+        ensures network { IfOk result (λ o. o.network ≡ self) }
+        ensures choices { IfOk result (λ o. o.choices ≡ choices) }
+        ensures shows { IfOk result (λ o. (net : Net) → IsState self net → Shows net o) }
+        ensures refused { IfErr result (λ e. (e.0 ≡ self) × (e.1 ≡ NetFault.Memory)) }
+    {
+        let Ok(screen) = self.bytes_on(alloc, SCREEN) else {
+            return Err((self, NetFault::Memory));
+        };
+        let Ok(error) = self.bytes_on(alloc, ERROR) else {
+            return Err((self, NetFault::Memory));
+        };
+        let ending = self.ending().unwrap_or(Ending::Limit);
+        Ok(Outcome {
+            ending,
+            choices,
+            screen,
+            error,
+            network: self,
+        })
+    }
+
+    /// What it came to.
+    ///
+    /// # Errors
+    ///
+    /// `Memory` alone, with the network as it was.
+    pub fn into_outcome(self, alloc: Global) -> Result<Outcome, (Network, NetFault)>
+        ensures network { IfOk result (λ o. o.network ≡ self) }
+        ensures choices { IfOk result (λ o. o.choices.items ≡ self.choices) }
+        ensures shows { IfOk result (λ o. (net : Net) → IsState self net → Shows net o) }
+        ensures refused { IfErr result (λ e. (e.0 ≡ self) × (e.1 ≡ NetFault.Memory)) }
+    {
+        let Ok(choices) = Vec::from_slice(alloc, self.choices()) else {
+            return Err((self, NetFault::Memory));
+        };
+        self.came_to(alloc, choices)
+    }
+}
+
+/// Takes a turn for each choice of the plan, until the network ends. The outcome has the choices as they
+/// are in the plan, and its network has the places that they selected.
+///
+/// # Errors
+///
+/// `Memory` alone.
+pub fn run(alloc: Global, code: Code, keyboard: Vec<u8>, plan: &Plan) -> Result<Outcome, NetFault>
+    ensures ok { IfOk result (IsOutcome code keyboard.items (choices_of plan.now)) }
+    ensures refused { IfErr result (λ fault. fault ≡ NetFault.Memory) }
+{
+    code.compiled();
+    let Ran { kept, tables, .. } = run_tables(alloc, &code, &keyboard, plan, Keep::Places)?;
+    let choices = first_choices(alloc, plan, kept.len())?;
+    let out = no_marks(alloc, code.len())?;
+    let network = Network {
+        code,
+        keyboard,
+        tables,
+        choices: kept,
+        out,
+    };
+    match network.came_to(alloc, choices) {
+        Ok(outcome) => Ok(outcome),
+        Err((_, fault)) => Err(fault),
+    }
+}

@@ -1,0 +1,13 @@
+use Rattle.occ_play.proofs.Working.{within}
+use Rattle.occ_play.proofs.workers.gathered.Goals as goal
+
+pub returns-clause-answer : goal.returns-clause-answer
+returns-clause-answer g c =
+    let gathered = c.in_ok-outcome.outcome in
+    let code = c.in_ok-code.code in
+    let run = c.in_ok-outcome.ensures.run in
+    let keyboard = c.args.keyboard.now in
+    let limit = c.args.limit in
+    within c.args.options.now.quantum c.args.source.now keyboard limit c.args.trace code gathered c.into_replay-outcome.result c.in_ok-played.played c.in_ok-played.bytes.items
+    run c.into_replay-outcome.ensures.choices c.into_replay-outcome.ensures.ending (c.into_replay-outcome.ensures.run code keyboard limit run)
+    c.in_ok-played.ensures.choices c.in_ok-played.ensures.ending c.in_ok-played.ensures.answer

@@ -1,0 +1,56 @@
+-- What the workers of a run gather.
+use Rattle.std.specs.Prelude.{IsSome, List, None, Some, length, ℕ, ◌<◌, ◌≡◌, ◌≤◌, ◌⊎◌}
+use Rattle.occ_code.specs.Sequential.Compiled.{Program}
+use Rattle.occ_net_replay.specs.Replay.{Net, Replays, ending_of}
+use Rattle.occ_net.specs.Networks.{IsState, Past}
+use Rattle.occ_net.specs.Outcomes.{Shows}
+use Rattle.occ_net.specs.declared.outcome.Outcome.{Outcome}
+use Rattle.occ_run.specs.declared.fault.RunFault.{RunFault}
+use Rattle.occ_run.specs.declared.fault.RunFault.TheVariants as fault
+use Rattle.occ_run.specs.declared.progress.Progress.{Progress}
+use Rattle.occ_run.specs.declared.progress.Stop.{Stop}
+use Rattle.occ_run.specs.declared.progress.Stop.TheVariants as stop
+
+-- The outcome of a run of this code on this keyboard is what the choices that it carries come to: its network has this code, this
+-- keyboard and these choices, and it shows the state of their replay. There are at most `limit` of them, and just so many where the
+-- replay goes on.
+pub record IsRunOf (p : Program) (keyboard : List ℕ) (limit : ℕ) (o : Outcome) : Type 0 where
+  pub program : o.network.program ≡ p
+  pub bytes : o.network.keyboard ≡ keyboard
+  pub choices : o.network.choices ≡ o.choices.items
+  pub net : Net
+  pub replays : Replays p keyboard o.choices.items net
+  pub shows : Shows net o
+  pub few : length o.choices.items ≤ limit
+  pub whole : ending_of net ≡ None → length o.choices.items ≡ limit
+
+-- the network was made of this code and this keyboard, and has at most `limit` choices
+pub record IsOfRun (p : Program) (keyboard : List ℕ) (limit : ℕ) (n : Past) : Type 0 where
+  pub program : n.program ≡ p
+  pub bytes : n.keyboard ≡ keyboard
+  pub few : length n.choices ≤ limit
+
+-- it has so many choices, or an ending
+abbrev pub IsWhole : ℕ → Past → Type 0
+IsWhole limit n = (limit ≤ length n.choices) ⊎ ((net : Net) → IsState n net → IsSome (ending_of net))
+
+-- it has fewer, and goes on
+abbrev pub IsUnfinished : ℕ → Past → Type 0
+IsUnfinished limit n = (length n.choices < limit) × ((net : Net) → IsState n net → ending_of net ≡ None)
+
+-- what a run that stopped so answers
+abbrev pub stop_fault : Stop → RunFault
+stop_fault stop.Foreign = fault.Foreign
+stop_fault stop.Spawn = fault.Spawn
+stop_fault stop.Memory = fault.Memory
+
+-- Why what was gathered gives no outcome: it is of another run, or it stopped, or it is unfinished. Want of memory says nothing of one
+-- that didn't stop.
+abbrev pub IsNoRun : Program → List ℕ → ℕ → Progress → RunFault → Type 0
+IsNoRun p keyboard limit b fault.BadWorkers = ⊥
+IsNoRun p keyboard limit b fault.Spawn = b.stop ≡ Some stop.Spawn
+IsNoRun p keyboard limit b fault.Foreign =
+    (IsOfRun p keyboard limit b.network → ⊥)
+    ⊎ (b.stop ≡ Some stop.Foreign)
+    ⊎ ((b.stop ≡ None) × IsUnfinished limit b.network)
+IsNoRun p keyboard limit b fault.Memory = (b.stop ≡ Some stop.Memory) ⊎ (b.stop ≡ None)

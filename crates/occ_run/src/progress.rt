@@ -1,0 +1,220 @@
+//! How far the workers have come: what lies under the lock, and the steps that they take there.
+ghost use Rattle.std.specs.Prelude.{◌≡◌, ◌-◌, IfErr, IfNone, IfOk, IfSome, None, false, length};
+ghost use Rattle.occ_net.specs.Networks.{with_out};
+ghost use Rattle.occ_run.specs.Steps.{IsOpen, IsOver, IsStep, IsWake, KeepsCounts, TakesIn, first_stop, stop_for};
+
+use occ_code::Task;
+use occ_net::{Lease, NetFault, Network};
+use occ_proc::Segment;
+use std::alloc::{AllocError, Global};
+
+/// A turn that was run, or the task of one that was refused.
+pub type Done = Result<Segment, (Task, AllocError)>;
+
+/// Why a run stops before its limit and before its network ends.
+#[derive(Clone, Copy, Debug, PartialEq, Eq)]
+pub enum Stop {
+    /// A turn was not the network's own.
+    Foreign,
+    /// A thread was refused.
+    Spawn,
+    /// A growth was refused.
+    Memory,
+}
+
+/// How far the workers have come.
+#[derive(Drop)]
+pub struct Progress {
+    /// What they run.
+    pub network: Network,
+    /// How many turns may be settled.
+    pub limit: u32,
+    /// Why the run stops before that, if it does.
+    pub stop: Option<Stop>,
+    /// How many processes are out.
+    pub out: u32,
+    /// At most so many workers that rest are still to be woken.
+    pub resting: u32,
+}
+
+/// What a worker does next.
+#[derive(Drop)]
+pub enum Next {
+    /// Runs this turn.
+    Run(Lease),
+    /// Rests until it is woken.
+    Rest,
+    /// Leaves.
+    Leave,
+}
+
+/// Which of the workers that rest are to be woken.
+#[derive(Clone, Copy, Debug, PartialEq, Eq)]
+pub enum Wake {
+    /// None of them.
+    Nobody,
+    /// One of them, for which there is a turn to run.
+    One,
+    /// All of them, since the run is over.
+    All,
+}
+
+impl Progress {
+    /// The start of a run.
+    pub fn new(network: Network, limit: u32) -> Progress
+        ensures network { result.network ≡ network }
+        ensures limit { result.limit ≡ limit }
+        ensures stop { result.stop ≡ None }
+        ensures out { result.out ≡ 0 }
+        ensures resting { result.resting ≡ 0 }
+    {
+        Progress {
+            network,
+            limit,
+            stop: None,
+            out: 0,
+            resting: 0,
+        }
+    }
+
+    /// The number of the next choice; none where the run is over.
+    pub fn next_pick(&self) -> Option<u32>
+        ensures open { IfSome result (λ pick. (pick ≡ length self.now.network.choices) × IsOpen self.now) }
+        ensures over { IfNone result (IsOver self.now) }
+    {
+        let settled = self.network.choices().len();
+        if self.stop.is_some() || settled >= self.limit as usize {
+            return None;
+        }
+        if self.network.ending().is_some() {
+            return None;
+        }
+        Some(settled as u32)
+    }
+
+    /// Stops the run. The first reason stands.
+    pub fn halt(&mut self, stop: Stop)
+        ensures network { self.new.network ≡ self.old.network }
+        ensures limit { self.new.limit ≡ self.old.limit }
+        ensures stop { self.new.stop ≡ first_stop self.old.stop stop }
+        ensures counts { KeepsCounts self.old self.new }
+    {
+        if self.stop.is_none() {
+            self.stop = Some(stop);
+        }
+    }
+
+    /// Takes out the next turn to run, where there is one.
+    pub fn next(&mut self, alloc: Global) -> Next
+        ensures step { IsStep self.old self.new result }
+        ensures limit { self.new.limit ≡ self.old.limit }
+    {
+        if self.next_pick().is_none() {
+            return Next::Leave;
+        }
+        match self.network.lease(alloc) {
+            Ok(Some(lease)) => {
+                self.out = self.out.saturating_add(1);
+                Next::Run(lease)
+            }
+            Ok(None) => {
+                self.resting = self.resting.saturating_add(1);
+                Next::Rest
+            }
+            Err(AllocError) => {
+                self.halt(Stop::Memory);
+                Next::Leave
+            }
+        }
+    }
+
+    /// Takes in a turn that was run, or gives its process back.
+    pub fn take_in(&mut self, alloc: Global, done: Done)
+        ensures limit { self.new.limit ≡ self.old.limit }
+        ensures ran { IfOk done (λ segment. TakesIn self.old self.new segment) }
+        ensures refused { IfErr done (λ e. (self.new.network ≡ with_out self.old.network e.0.number false) × (self.new.stop ≡ first_stop self.old.stop Stop.Memory)) }
+        ensures out { self.new.out ≡ self.old.out - 1 }
+        ensures resting { self.new.resting ≡ self.old.resting }
+    {
+        self.out = self.out.saturating_sub(1);
+        match done {
+            Ok(segment) => self.take_segment(alloc, segment),
+            Err((before, AllocError)) => self.give_back(number_of(before), Stop::Memory),
+        }
+    }
+
+    fn take_segment(&mut self, alloc: Global, segment: Segment)
+        ensures limit { self.new.limit ≡ self.old.limit }
+        ensures takes { TakesIn self.old self.new segment }
+        ensures counts { KeepsCounts self.old self.new }
+    {
+        let number = segment.before().number;
+        let Some(pick) = self.next_pick() else {
+            let_go(segment);
+            self.network.release(number);
+            return;
+        };
+        match self.network.settle(alloc, segment, pick) {
+            Ok(()) => {}
+            Err((segment, fault)) => {
+                let_go(segment);
+                self.give_back(number, stop_of(&fault));
+            }
+        }
+    }
+
+    /// The process is in again, and the run stops.
+    fn give_back(&mut self, number: u32, stop: Stop)
+        ensures network { self.new.network ≡ with_out self.old.network number false }
+        ensures limit { self.new.limit ≡ self.old.limit }
+        ensures stop { self.new.stop ≡ first_stop self.old.stop stop }
+        ensures counts { KeepsCounts self.old self.new }
+    {
+        self.network.release(number);
+        self.halt(stop);
+    }
+
+    /// Which workers are to be woken now; they count as woken.
+    pub fn wake(&mut self) -> Wake
+        ensures network { self.new.network ≡ self.old.network }
+        ensures limit { self.new.limit ≡ self.old.limit }
+        ensures stop { self.new.stop ≡ self.old.stop }
+        ensures out { self.new.out ≡ self.old.out }
+        ensures wakes { IsWake self.old self.new result }
+    {
+        if self.resting == 0 {
+            return Wake::Nobody;
+        }
+        if self.next_pick().is_none() {
+            self.resting = 0;
+            return Wake::All;
+        }
+        if self.network.ready_count() > self.out as usize {
+            self.resting -= 1;
+            return Wake::One;
+        }
+        Wake::Nobody
+    }
+}
+
+/// The number of a task that is no longer wanted.
+fn number_of(task: Task) -> u32
+    ensures { result ≡ task.number }
+{
+    task.number
+}
+
+/// A turn that is no longer wanted.
+fn let_go(segment: Segment) {
+    drop(segment);
+}
+
+/// Why a run stops where the network refuses a turn.
+fn stop_of(fault: &NetFault) -> Stop
+    ensures { result ≡ stop_for fault.now }
+{
+    match fault {
+        NetFault::Memory => Stop::Memory,
+        _ => Stop::Foreign,
+    }
+}

@@ -1,0 +1,93 @@
+//! The threads of a run.
+ghost use Rattle.std.specs.Prelude.{IfSome};
+ghost use Rattle.occ_net.specs.Leases.{CanTurn};
+
+use crate::gate::Gate;
+use crate::progress::{Done, Next, Progress, Stop, Wake};
+use occ_net::Lease;
+use std::alloc::Global;
+use std::sync::{Condvar, Mutex, Wait};
+use std::thread;
+use std::thread::Threads;
+
+/// What the workers share.
+struct Shared {
+    progress: Mutex<Progress>,
+    moved: Condvar,
+}
+
+impl Shared {
+    fn notify(&self, wake: Wake) {
+        match wake {
+            Wake::Nobody => {}
+            Wake::One => self.moved.notify_one(),
+            Wake::All => self.moved.notify_all(),
+        }
+    }
+}
+
+/// Takes in what was done, and then waits for a turn to run; none where the worker is to leave.
+fn next_lease<R: Wait>(rt: &R, alloc: Global, shared: &Shared, done: Option<Done>) -> Option<Lease>
+    ensures { IfSome result CanTurn }
+{
+    let mut progress = shared.progress.lock(rt);
+    if let Some(done) = done {
+        progress.take_in(alloc, done);
+    }
+    for _ in rt.forever() {
+        match progress.next(alloc) {
+            Next::Run(lease) => {
+                let wake = progress.wake();
+                drop(progress);
+                shared.notify(wake);
+                return Some(lease);
+            }
+            Next::Rest => progress = shared.moved.wait(rt, progress),
+            Next::Leave => {
+                let wake = progress.wake();
+                drop(progress);
+                shared.notify(wake);
+                return None;
+            }
+        }
+    }
+    unreachable!()
+}
+
+/// One worker: it takes a turn out under the lock, runs it outside, and takes it in with the next one under the lock.
+fn work<R: Wait, G: Gate>(rt: &R, alloc: Global, shared: &Shared, gate: &G) {
+    let mut done = None;
+    for _ in rt.forever() {
+        let Some(lease) = next_lease(rt, alloc, shared, done) else {
+            return;
+        };
+        let Lease { body, task } = lease;
+        done = Some(gate.run(alloc, body, task));
+    }
+}
+
+/// Lets so many workers run, and gives back how far they came when all have left.
+pub(crate) fn run_all<R: Threads + Wait + Sync, G: Gate + Sync>(
+    rt: &R,
+    alloc: Global,
+    progress: Progress,
+    workers: u32,
+    gate: &G,
+) -> Progress {
+    let shared = Shared {
+        progress: Mutex::new(progress),
+        moved: Condvar::new(),
+    };
+    let lent = &shared;
+    thread::scope(thread::scope_env(), rt, |scope| {
+        for _ in 0..workers {
+            if scope.spawn(move || work(rt, alloc, lent, gate)).is_err() {
+                lent.progress.lock(rt).halt(Stop::Spawn);
+                lent.moved.notify_all();
+                break;
+            }
+        }
+    });
+    let Shared { progress, moved: _ } = shared;
+    progress.into_inner()
+}

@@ -1,0 +1,11 @@
+//! Tests of networks whose turns are taken elsewhere.
+#![tactic(auto)]
+
+#[cfg(test)]
+mod networks;
+#[cfg(test)]
+mod refused;
+#[cfg(test)]
+mod runs;
+#[cfg(test)]
+mod turned;

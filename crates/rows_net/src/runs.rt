@@ -1,0 +1,53 @@
+//! Runs of plans.
+use crate::turned::code_of;
+use occ_choices::Plan;
+use occ_net::{Network, Outcome, run};
+use occ_net_replay::Choice;
+use std::alloc::Global;
+use std::process::Abort;
+use std::test::Fail;
+
+const LETTER: &[u8] = b"PROC main (CHAN OF BYTE keyboard, screen)\n  screen ! 'A'\n:\n";
+
+/// What a run of the plan comes to.
+fn outcome(rt: &impl Abort, alloc: Global, plan: &Plan) -> Result<Outcome, Fail> {
+    let code = code_of(alloc, LETTER).expect(rt, "refused");
+    Ok(run(alloc, code, Vec::new(alloc), plan)?)
+}
+
+/// What an outcome shows, and what its network has.
+fn check_outcome(rt: &impl Abort, alloc: Global, outcome: &Outcome) -> Result<(), Fail> {
+    let ending = outcome.ending.to_string(alloc)?;
+    assert_eq!(rt; ending.as_str(), "ended");
+    assert_eq!(rt; outcome.screen.as_slice(), b"A".as_slice());
+    assert_eq!(rt; outcome.choices.len(), 2);
+    for choice in outcome.network.choices() {
+        assert_eq!(rt; choice.which, 0);
+    }
+    Ok(())
+}
+
+/// How many messages a channel's history has.
+fn messages(network: &Network, chan: u32) -> Option<usize> {
+    match network.history(chan) {
+        Some(history) => Some(history.len()),
+        None => None,
+    }
+}
+
+fn check(rt: &impl Abort, alloc: Global, plan: &Plan) -> Result<(), Fail> {
+    let outcome = outcome(rt, alloc, plan)?;
+    check_outcome(rt, alloc, &outcome)?;
+    assert_eq!(rt; messages(&outcome.network, 1), Some(1));
+    assert_eq!(rt; messages(&outcome.network, 3), None);
+    Ok(())
+}
+
+#[test]
+fn a_letter_is_run(rt: HostRuntime) -> Result<(), Fail> {
+    let alloc = rt.alloc();
+    check(&rt, alloc, &Plan::Turns(2))?;
+    let zeros = [Choice { which: 0, pick: 0 }; 2];
+    let choices = Vec::from_slice(alloc, zeros.as_slice())?;
+    check(&rt, alloc, &Plan::Choices(choices))
+}

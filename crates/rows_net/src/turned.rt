@@ -1,0 +1,115 @@
+//! Networks of sources, and turns of their processes.
+ghost use Rattle.occ_net.specs.Leases.{CanTurn};
+
+use occ_check::unfold;
+use occ_code::{Code, compile};
+use occ_net::{Lease, NetFault, Network};
+use occ_proc::{Segment, turn};
+use occ_text::read_lines;
+use occ_tree::parse;
+use occ_usage::check_usage;
+use std::alloc::{AllocError, Global};
+use std::process::Abort;
+use std::test::Fail;
+
+/// The code of a source, where it is accepted.
+pub(crate) fn code_of(alloc: Global, source: &[u8]) -> Option<Code> {
+    let lines = read_lines(alloc, source).ok()?;
+    let tree = parse(alloc, &lines).ok()?;
+    let unfolded = unfold(alloc, &tree).ok()?;
+    let checked = check_usage(alloc, unfolded).ok()?;
+    compile(alloc, &checked).ok()
+}
+
+/// The network of a source before its first turn, with no keyboard.
+pub(crate) fn network_of(rt: &impl Abort, alloc: Global, source: &[u8]) -> Result<Network, Fail> {
+    let code = code_of(alloc, source).expect(rt, "refused");
+    Ok(Network::new(alloc, code, Vec::new(alloc))?)
+}
+
+/// The turn of a lease.
+fn turn_of(alloc: Global, lease: Lease) -> Result<Segment, AllocError>
+    requires { CanTurn lease }
+{
+    let Lease { body, task } = lease;
+    match turn(alloc, body, task) {
+        Ok(segment) => Ok(segment),
+        Err((_task, refused)) => Err(refused),
+    }
+}
+
+/// The turn of the process that is leased next, where there is one.
+pub(crate) fn next_turn(
+    alloc: Global,
+    network: &mut Network,
+) -> Result<Option<Segment>, AllocError> {
+    match network.lease(alloc)? {
+        Some(lease) => Ok(Some(turn_of(alloc, lease)?)),
+        None => Ok(None),
+    }
+}
+
+/// The turn of the process that is leased next, which has this number.
+pub(crate) fn turn_by(
+    rt: &impl Abort,
+    alloc: Global,
+    network: &mut Network,
+    number: u32,
+) -> Result<Segment, Fail> {
+    let segment = next_turn(alloc, network)?.expect(rt, "no process");
+    assert_eq!(rt; segment.before().number, number);
+    Ok(segment)
+}
+
+/// How many choices and how many communications a network has.
+pub(crate) fn counts(network: &Network) -> (usize, usize) {
+    (network.choices().len(), network.trace().len())
+}
+
+/// Takes a turn in.
+pub(crate) fn settle(rt: &impl Abort, alloc: Global, network: &mut Network, segment: Segment) {
+    let settled = network.settle(alloc, segment, 0).is_ok();
+    assert!(rt; settled);
+}
+
+/// The process that is leased next, which has this number, takes its turn, and it is taken in.
+pub(crate) fn step(
+    rt: &impl Abort,
+    alloc: Global,
+    network: &mut Network,
+    number: u32,
+) -> Result<(), Fail> {
+    let segment = turn_by(rt, alloc, network, number)?;
+    settle(rt, alloc, network, segment);
+    Ok(())
+}
+
+/// Why a turn is refused, and the number of the process of the turn that is handed back.
+pub(crate) fn refusal(
+    alloc: Global,
+    network: &mut Network,
+    segment: Segment,
+) -> Option<(u32, NetFault)> {
+    match network.settle(alloc, segment, 0) {
+        Ok(()) => None,
+        Err((segment, fault)) => Some((segment.before().number, fault)),
+    }
+}
+
+/// Whether a turn is refused so, and nothing changes.
+pub(crate) fn check_refused(
+    rt: &impl Abort,
+    alloc: Global,
+    network: &mut Network,
+    segment: Segment,
+    refused: &str,
+) -> Result<(), Fail> {
+    let before = counts(network);
+    let number = segment.before().number;
+    let (back, fault) = refusal(alloc, network, segment).expect(rt, "settled");
+    assert_eq!(rt; back, number);
+    assert_eq!(rt; counts(network), before);
+    let told = format!(in alloc; "{fault:?}")?;
+    assert_eq!(rt; told.as_str(), refused);
+    Ok(())
+}

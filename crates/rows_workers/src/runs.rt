@@ -1,0 +1,65 @@
+//! Runs by workers: their numbers, limits, picks and refusals.
+use crate::sources::{FOUR, LETTER, code_of};
+use occ_code::{Body, Task};
+use occ_net_replay::{Choice, Ending};
+use occ_proc::{Segment, turn};
+use occ_run::{FreeGate, Gate, RunFault, run_workers};
+use std::alloc::{AllocError, Global};
+use std::sync::Arc;
+use std::sync::atomic::{AtomicU64, Ordering};
+use std::test::Fail;
+
+#[test]
+fn workers_play_within_their_limit(rt: HostRuntime) -> Result<(), Fail> {
+    let Some(code) = code_of(rt.alloc(), LETTER) else {
+        assert!(rt; false, "no code");
+        return Ok(());
+    };
+    for workers in [0, 65] {
+        let refused = run_workers(&rt, rt.alloc(), &code, b"", workers, 10, &FreeGate).err();
+        assert_eq!(rt; refused, Some(RunFault::BadWorkers));
+    }
+    let none = run_workers(&rt, rt.alloc(), &code, b"", 1, 0, &FreeGate)?;
+    assert_eq!(rt; none.ending, Ending::Limit);
+    assert_eq!(rt; none.choices.len(), 0);
+    let all = run_workers(&rt, rt.alloc(), &code, b"", 3, 10, &FreeGate)?;
+    assert_eq!(rt; all.ending, Ending::Ended);
+    assert_eq!(rt; all.screen.as_slice(), b"A".as_slice());
+    let used = [Choice { which: 0, pick: 0 }, Choice { which: 0, pick: 1 }];
+    assert_eq!(rt; all.choices.as_slice(), used.as_slice());
+    Ok(())
+}
+
+/// A gate that refuses the third turn, as if memory had run out.
+#[derive(Drop)]
+struct Refusing {
+    runs: AtomicU64,
+}
+
+impl Gate for Refusing {
+    fn run(
+        &self,
+        alloc: Global,
+        body: Arc<Body, Global>,
+        before: Task,
+    ) -> Result<Segment, (Task, AllocError)> {
+        if self.runs.fetch_add(1, Ordering::SeqCst) == 2 {
+            return Err((before, AllocError));
+        }
+        turn(alloc, body, before)
+    }
+}
+
+#[test]
+fn a_refused_turn_ends_the_run(rt: HostRuntime) -> Result<(), Fail> {
+    let Some(code) = code_of(rt.alloc(), FOUR) else {
+        assert!(rt; false, "no code");
+        return Ok(());
+    };
+    let gate = Refusing {
+        runs: AtomicU64::new(0),
+    };
+    let refused = run_workers(&rt, rt.alloc(), &code, b"", 4, 100, &gate).err();
+    assert_eq!(rt; refused, Some(RunFault::Memory));
+    Ok(())
+}
