@@ -1,4 +1,13 @@
-//! Faults of a running program.
+//! Faults of a running program, and what they do.
+
+/// What a fault does.
+#[derive(Clone, Copy, Debug, PartialEq, Eq)]
+pub enum Errors {
+    /// It ends the whole run.
+    Halt,
+    /// It stops its process alone.
+    Stop,
+}
 
 /// What went wrong in an evaluation.
 #[derive(Clone, Copy, Debug, PartialEq, Eq)]

@@ -30,7 +30,7 @@ pub use constant::{NoValue, constant_value};
 pub use expression::{
     Array, Declaration, Item, Monadic, Operator, Place, Replicator, Target, TermExpr,
 };
-pub use fault::{Fault, FaultKind};
+pub use fault::{Errors, Fault, FaultKind};
 pub use frame::Frame;
 pub use held::Held;
 pub use message::{Message, Part};
