@@ -1,4 +1,6 @@
 //! Code and tasks with the same content.
+ghost use Rattle.std.specs.Prelude.{◌<◌};
+
 use crate::unfolded::letter;
 use occ_code::{Arm, Code, Task, Wait, compile_for};
 use occ_term::Frame;
@@ -8,7 +10,9 @@ use std::alloc::{AllocError, Global};
 use std::test::Fail;
 
 /// The code of a letter on this channel, for turns of this quantum.
-fn code_of(alloc: Global, channel: u32, quantum: u32) -> Result<Option<Code>, AllocError> {
+fn code_of(alloc: Global, channel: u32, quantum: u32) -> Result<Option<Code>, AllocError>
+    requires { channel < 3 }
+{
     match check_usage(alloc, letter(alloc, channel)?) {
         Ok(checked) => Ok(compile_for(alloc, &checked, quantum).ok()),
         Err(_) => Ok(None),
