@@ -18,3 +18,4 @@ pub mod Selections
 pub mod Tags
 pub mod Numbered
 pub mod Alternatives
+pub mod LastCopies

@@ -1,6 +1,6 @@
 //! The copies of a replicated PAR.
 
-ghost use Rattle.std.specs.Prelude.{◌≡◌, ◌<◌, ◌≤◌, ◌+ℤ◌, pos, IfErr, IfOk, OnOk, length, take};
+ghost use Rattle.std.specs.Prelude.{◌≡◌, ◌<◌, ◌≤◌, ◌-◌, ◌+ℤ◌, ◌≤ℤ◌, pos, IfErr, IfOk, OnOk, length, take};
 ghost use Rattle.occ_tree_grammar.specs.Processes.Views.{process_of};
 ghost use Rattle.occ_tree_grammar.specs.Lines.Views.{replicator_of};
 ghost use Rattle.occ_term.specs.View.{branch_of, branches_of, term_of};
@@ -59,7 +59,8 @@ impl<'t> Unfolder<'t> {
         count: u64,
         body: &'t Process,
     ) -> Result<Items<Branch>, CheckFault>
-        requires { depth ≤ 200 }
+        requires depth { depth ≤ 200 }
+        requires last { (first +ℤ pos count) ≤ℤ pos 2147483648 }
         ensures branches { Unfolds branches_of result self.new.numbers (copied (copy_for (replicator_of replicator.now) (process_of body.now) (meant_at self.old at) depth) count first (counted self.old)) }
         ensures kept { OnOk result (self.new.frames.frames.items ≡ self.old.frames.frames.items) }
     {
@@ -69,7 +70,7 @@ impl<'t> Unfolder<'t> {
         'copies: while left > 0 {
             let branch = self.copy(alloc, at, depth, replicator, value, body)?;
             branches.push(branch)?;
-            value = next_value(value)?;
+            value = next_value(value, left);
             left -= 1;
         }
         Ok(branches)
@@ -130,6 +131,7 @@ impl<'t> Unfolder<'t> {
         ensures counted { Unfolds (λ c. c) result self.new.numbers (copies_counted (names_of (meant_at self.old at)) line depth (replicator_of replicator.now) (counted self.old)) }
         ensures kept { OnOk result (self.new.frames ≡ self.old.frames) }
         ensures within { IfOk result (λ _. depth < 200) }
+        ensures last { IfOk result (λ c. (c.0 +ℤ pos c.1) ≤ℤ pos 2147483648) }
     {
         let scope = names_at(&self.frames, at);
         copies_counted(&mut self.numbers, alloc, scope, line, depth, replicator)
@@ -137,6 +139,7 @@ impl<'t> Unfolder<'t> {
 }
 
 /// The first value of the index and how many copies there are, with the node of the PAR.
+#[tactic(auto, using(crate::proofs::LastCopies::copies_within))]
 fn copies_counted(
     numbers: &mut Numbers,
     alloc: Global,
@@ -147,19 +150,19 @@ fn copies_counted(
 ) -> Result<(i64, u64), CheckFault>
     ensures counted { Unfolds (λ c. c) result numbers.new (copies_counted (names_in scope.entry) line depth (replicator_of replicator.now) (numbers_of numbers.old)) }
     ensures within { IfOk result (λ _. depth < 200) }
+    ensures last { IfOk result (λ c. (c.0 +ℤ pos c.1) ≤ℤ pos 2147483648) }
 {
     let copies = copies_of(alloc, scope, line, replicator)?;
     numbers.node(depth)?;
     Ok(copies)
 }
 
-/// The value of the index after this one.
-fn next_value(value: i64) -> Result<i64, CheckFault>
-    ensures next { IfOk result (λ v. v ≡ value +ℤ pos 1) }
-    ensures memory { IfErr result (λ e. e ≡ Memory) }
+/// The value of the index after this one, where so many copies are left.
+fn next_value(value: i64, left: u64) -> i64
+    requires some { 0 < left }
+    requires last { (value +ℤ pos left) ≤ℤ pos 2147483648 }
+    ensures next { result ≡ value +ℤ pos 1 }
+    ensures last { (result +ℤ pos (left - 1)) ≤ℤ pos 2147483648 }
 {
-    match value.checked_add(1) {
-        Some(next) => Ok(next),
-        None => Err(CheckFault::Memory),
-    }
+    value + 1
 }

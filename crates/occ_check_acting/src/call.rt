@@ -290,7 +290,7 @@ fn one_evaluated(
 ) -> Result<Given, CheckFault>
     ensures { Evaluates result numbers.new (meant.one_evaluated name.now depth size (expression_of e) (constant (expression_of e)) (numbers_of numbers.old)) }
 {
-    match constant_of(&e)? {
+    match constant_of(&e) {
         Some(value) => constant_given(alloc, line, size, value),
         None => cell_given(numbers, alloc, line, depth, name, e),
     }

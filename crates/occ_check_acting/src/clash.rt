@@ -1,7 +1,8 @@
 //! Targets of one list that clash: two share a component under constant subscripts, or one stands in a subscript of
 //! another.
 
-ghost use Rattle.std.specs.Prelude.{◌≡◌, ◌&&◌, IfOk, map};
+ghost use Rattle.std.specs.Prelude.{◌≡◌, ◌&&◌, ◌+◌, ◌<◌, ◌^◌, IfOk, IfSome, map};
+ghost use Rattle.occ_term.specs.Messages.{product};
 ghost use Rattle.occ_term.specs.Terms.{Component};
 ghost use Rattle.occ_term.specs.Uses as uses;
 ghost use Rattle.occ_term.specs.View.{expression_of, place_of, subscripts, targets_of};
@@ -12,7 +13,9 @@ ghost use Rattle.occ_check_acting.specs.Clashing.{any_in_subscripts, one_of_clas
 
 use occ_check_names::constant::constant_of;
 use occ_check_names::known::Evaluated;
-use occ_check_typing::overlap::{Span, all_components, index_within, meets, some_meet};
+use occ_check_typing::overlap::{
+    Span, all_components, first_of_component, index_within, meets, some_meet,
+};
 use occ_term::{Place, Target, TermExpr};
 use std::alloc::{AllocError, Global};
 
@@ -20,7 +23,7 @@ use std::alloc::{AllocError, Global};
 ///
 /// # Errors
 ///
-/// A refused growth, a row of more cells than a program may have, and a constant outside all types.
+/// A refused growth, and a row of more cells than a program may have.
 pub fn some_clash(alloc: Global, targets: &[Target]) -> Result<bool, AllocError>
     ensures { IfOk result (λ clash. clash ≡ meant.some_clash (rows_at (targets_of targets.now))) }
 {
@@ -53,7 +56,8 @@ fn some_places_clash(alloc: Global, places: &[&Place]) -> Result<bool, AllocErro
     let mut varying = Vec::new(alloc);
     let mut fixed = Vec::new(alloc);
     for place in places {
-        if are_constant(place.subscripts.as_slice())? {
+        let constant = are_constant(place.subscripts.as_slice());
+        if constant {
             fixed.push(*place)?;
         } else {
             varying.push(*place)?;
@@ -119,10 +123,10 @@ fn clash(a: &Place, b: &Place) -> Result<bool, AllocError>
 fn share_component(a: &Place, b: &Place) -> Result<bool, AllocError>
     ensures { IfOk result (λ share. share ≡ (meant.are_constant (row_at (place_of a.now)).subscripts && (meant.are_constant (row_at (place_of b.now)).subscripts && meant.have_common (meant.part_span (row_at (place_of a.now))) (meant.part_span (row_at (place_of b.now)))))) }
 {
-    if !are_constant(a.subscripts.as_slice())? {
+    if !are_constant(a.subscripts.as_slice()) {
         return Ok(false);
     }
-    if !are_constant(b.subscripts.as_slice())? {
+    if !are_constant(b.subscripts.as_slice()) {
         return Ok(false);
     }
     let first = span_named(a)?;
@@ -139,22 +143,23 @@ fn is_named_by(a: &Place, b: &Place) -> Result<bool, AllocError>
 }
 
 /// Whether all subscripts are constants without a fault.
-fn are_constant(list: &[TermExpr]) -> Result<bool, AllocError>
-    ensures { IfOk result (λ constant. constant ≡ meant.are_constant (subscripts (map expression_of list.now))) }
+fn are_constant(list: &[TermExpr]) -> bool
+    ensures { result ≡ meant.are_constant (subscripts (map expression_of list.now)) }
 {
     for subscript in list {
-        if constant_of(subscript)?.is_none() {
-            return Ok(false);
+        if constant_of(subscript).is_none() {
+            return false;
         }
     }
-    Ok(true)
+    true
 }
 
 // ---- what places name
 
 /// The whole variable.
 fn whole_of(place: &Place) -> Result<Span, AllocError>
-    ensures { IfOk result (λ span. span_of span ≡ meant.variable_span (row_at (place_of place.now))) }
+    ensures span { IfOk result (λ span. span_of span ≡ meant.variable_span (row_at (place_of place.now))) }
+    ensures few { IfOk result (λ span. span.first + product place.now.sizes < 2 ^ 33) }
 {
     let count = all_components(place.sizes.as_slice())?;
     let first = u64::from(place.first);
@@ -180,6 +185,7 @@ fn part_named(
     sizes: &[u32],
     whole: Span,
 ) -> Result<Span, AllocError>
+    requires { first + product sizes.now < 2 ^ 33 }
     ensures { IfOk result (λ span. span_of span ≡ uses.part_named (subscripts (map expression_of under.now)) first sizes.now (span_of whole)) }
 {
     match under.split_first() {
@@ -189,14 +195,12 @@ fn part_named(
         }
         Some((subscript, rest)) => match sizes.split_first() {
             None => Ok(whole),
-            Some((size, others)) => match constant_index(subscript, *size)? {
+            Some((size, others)) => match constant_index(subscript, *size) {
                 None => Ok(whole),
                 Some(index) => {
-                    let step = u64::from(index) * all_components(others)?;
-                    match first.checked_add(step) {
-                        None => Err(AllocError),
-                        Some(first) => part_named(rest, first, others, whole),
-                    }
+                    let count = all_components(others)?;
+                    let first = first_of_component(first, *size, index, count);
+                    part_named(rest, first, others, whole)
                 }
             },
         },
@@ -204,12 +208,13 @@ fn part_named(
 }
 
 /// A constant subscript within the size.
-fn constant_index(subscript: &TermExpr, size: u32) -> Result<Option<u32>, AllocError>
-    ensures { IfOk result (λ index. index ≡ uses.constant_subscript (expression_of subscript.now) size) }
+fn constant_index(subscript: &TermExpr, size: u32) -> Option<u32>
+    ensures index { result ≡ uses.constant_subscript (expression_of subscript.now) size }
+    ensures within { IfSome result (λ index. index < size) }
 {
-    match constant_of(subscript)? {
-        None => Ok(None),
-        Some(value) => Ok(index_within(Evaluated::Value(value), size)),
+    match constant_of(subscript) {
+        None => None,
+        Some(value) => index_within(Evaluated::Value(value), size),
     }
 }
 

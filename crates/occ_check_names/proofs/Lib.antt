@@ -1,4 +1,3 @@
 pub mod Looking
 pub mod Giving
 pub mod Strings
-pub mod Chained

@@ -10,3 +10,4 @@ pub mod Zipping
 pub mod Tagging
 pub mod AnyPair
 pub mod Meeting
+pub mod Components

@@ -1,10 +1,9 @@
 -- What two lists give together: what is made so far, and what is left of both.
-use Rattle.std.proofs.Common.{◌≡◌, ℕ, suc, ◌+◌, ◌<◌, ◌≤◌, List, [], ◌∷◌, ◌++◌, drop, get_or, length, map, Option, Some, None, append_assoc, refl, subst, sym, ap, ◌∙◌, arith}
+use Rattle.std.proofs.Common.{◌≡◌, ℕ, ◌+◌, ◌<◌, ◌≤◌, List, [], ◌∷◌, ◌++◌, drop, get_or, length, map, Option, Some, None, append_assoc, refl, subst, sym, ap, ◌∙◌, arith}
 use Rattle.std.proofs.lemmas.List.{drop_all, map-append}
 use mathlib.Core.List.{append-nil}
 use Rattle.occ_tree_grammar.specs.Many.{◌>>=◌}
 use Rattle.occ_tree_grammar.specs.Lines.Trees as L
-use Rattle.occ_term.specs.Terms as T
 use Rattle.occ_term.specs.declared.protocol.PartType.{PartType}
 use Rattle.occ_check_meaning.specs.Scope.{Names}
 use Rattle.occ_check_meaning.specs.Items.{Aim, sent_item, sent_items, target_of, targets_of}

@@ -336,7 +336,7 @@ fn name_single(
     ensures { Opens result numbers.new (meant.value_named name.now depth primitive (expression_of e) (constant (expression_of e)) (numbers_of numbers.old)) }
 {
     let e = Held::new(e);
-    match constant_of(&e.value)? {
+    match constant_of(&e.value) {
         Some(value) => Ok(Opened::one(alloc, name, Known::Value(primitive, value))?),
         None => {
             let value = Item::One(primitive, e.into_inner());

@@ -1,6 +1,6 @@
 //! Expressions under a scope: their types, and what they unfold to.
 
-ghost use Rattle.std.specs.Prelude.{◌≡◌, ◌∷◌, [], IfOk, IsTrue, None, map, pos};
+ghost use Rattle.std.specs.Prelude.{◌≡◌, ◌∷◌, [], IfErr, IfOk, IsTrue, None, map, pos};
 ghost use Rattle.occ_tree_grammar.specs.Expressions.Trees as trees;
 ghost use Rattle.occ_term.specs.Messages.{is_of};
 ghost use Rattle.occ_term.specs.Terms.{Conversion};
@@ -8,10 +8,11 @@ ghost use Rattle.occ_term.specs.View.{expression_of, subscripts};
 ghost use Rattle.occ_term.specs.declared.primitive.Primitive.TheVariants.{Bool as Boolean, Int};
 ghost use Rattle.occ_check_meaning.specs.Expressions as meant;
 ghost use Rattle.occ_check_names.specs.View.{Gives, known_of, names_in, typed_of};
+ghost use Rattle.occ_check_names.specs.declared.fault.CheckFault.TheVariants.{Memory};
 
 pub use crate::reading::under;
 use crate::reading::{read, size_of_known};
-use occ_check_names::constant::constant_of;
+use occ_check_names::constant::{constant_of, has_type};
 use occ_check_names::fault::{CheckFault, unknown};
 use occ_check_names::known::Known;
 use occ_check_names::literal::{constant_typed, string_size, typed_literal};
@@ -321,9 +322,26 @@ pub fn constant_as(
     ensures range { IfOk result (λ v. IsTrue (is_of Int v)) }
 {
     let e = Held::new(typed_as(alloc, scope, line, primitive, e)?);
-    match constant_of(&e.value)? {
-        Some(value) => Ok(value),
+    match constant_of(&e.value) {
+        Some(value) => int_of(value),
         None => Err(CheckFault::NotConstant { line }),
+    }
+}
+
+/// A value that is an INT.
+///
+/// # Errors
+///
+/// `Memory` for any other, which no expression of a tree has.
+fn int_of(value: i64) -> Result<i64, CheckFault>
+    ensures value { IfOk result (λ v. v ≡ value) }
+    ensures range { IfOk result (λ v. IsTrue (is_of Int v)) }
+    ensures memory { IfErr result (λ e. e ≡ Memory) }
+{
+    if has_type(Primitive::Int, value) {
+        Ok(value)
+    } else {
+        Err(CheckFault::Memory)
     }
 }
 

@@ -1,6 +1,6 @@
 //! Whether two reference actuals share a cell.
 
-ghost use Rattle.std.specs.Prelude.{◌≡◌, ◌<◌, ◌+◌, IfOk, map, nat_lt};
+ghost use Rattle.std.specs.Prelude.{◌≡◌, ◌<◌, ◌+◌, ◌*◌, ◌^◌, IfOk, IfSome, map, nat_lt};
 ghost use Rattle.occ_term.specs.Messages.{product};
 ghost use Rattle.occ_term.specs.Uses.{constant_subscript, part_named};
 ghost use Rattle.occ_term.specs.View.{subscripts};
@@ -164,6 +164,7 @@ fn part_named(
     sizes: &[u32],
     whole: Span,
 ) -> Result<Span, AllocError>
+    requires { first + product sizes.now < 2 ^ 33 }
     ensures { IfOk result (λ span. span_of span ≡ part_named (subscripts (map evaluated_of under.now)) first sizes.now (span_of whole)) }
 {
     match under.split_first() {
@@ -176,20 +177,30 @@ fn part_named(
             Some((size, others)) => match index_within(*subscript, *size) {
                 None => Ok(whole),
                 Some(index) => {
-                    let step = u64::from(index) * all_components(others)?;
-                    match first.checked_add(step) {
-                        None => Err(AllocError),
-                        Some(first) => part_named(rest, first, others, whole),
-                    }
+                    let count = all_components(others)?;
+                    let first = first_of_component(first, *size, index, count);
+                    part_named(rest, first, others, whole)
                 }
             },
         },
     }
 }
 
+/// The first cell of a component with so many cells, in an array of so many of them.
+#[tactic(auto, using(crate::proofs::Components::one_more))]
+pub fn first_of_component(first: u64, size: u32, index: u32, count: u64) -> u64
+    requires within { index < size }
+    requires few { first + size * count < 2 ^ 33 }
+    ensures first { result ≡ first + index * count }
+    ensures few { result + count < 2 ^ 33 }
+{
+    first + u64::from(index) * count
+}
+
 /// A constant subscript within the size.
 pub fn index_within(subscript: Evaluated, size: u32) -> Option<u32>
-    ensures { result ≡ constant_subscript (evaluated_of subscript) size }
+    ensures index { result ≡ constant_subscript (evaluated_of subscript) size }
+    ensures within { IfSome result (λ index. index < size) }
 {
     match subscript {
         Evaluated::Value(value) => {

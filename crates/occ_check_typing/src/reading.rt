@@ -53,7 +53,7 @@ fn left_by_one<'a>(
     match sizes.split_first() {
         None => Err(CheckFault::WrongType { line }),
         Some((size, others)) => {
-            if is_within_size(subscript, u64::from(*size))? {
+            if is_within_size(subscript, u64::from(*size)) {
                 Ok(others)
             } else {
                 Err(CheckFault::Subscript { line })
@@ -148,7 +148,7 @@ fn letter(alloc: Global, line: u32, text: &Text, subscript: TermExpr) -> Result<
     ensures { Gives typed_of result (meant.read line (a_string (map pos text.now)) (then_subscript (expression_of subscript) no_subscripts)) }
 {
     let subscript = Held::new(subscript);
-    if !is_within_size(&subscript.value, u64::from(text.len()))? {
+    if !is_within_size(&subscript.value, u64::from(text.len())) {
         return Err(CheckFault::Subscript { line });
     }
     let text = text.copy()?;

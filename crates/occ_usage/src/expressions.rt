@@ -1,5 +1,5 @@
 //! The uses of expressions, items, targets and declarations.
-ghost use Rattle.std.specs.Prelude.{◌≡◌, IfOk, map};
+ghost use Rattle.std.specs.Prelude.{◌≡◌, ◌+◌, ◌<◌, ◌^◌, IfOk, map};
 ghost use Rattle.occ_term.specs.Uses.{with_use, reading, reads_of, reads_in_place, reads_in_subscripts, named_by, reads_of_array, reads_of_item, reads_of_items, uses_of_target, uses_of_targets, uses_of_declaration, uses_of_declarations, uses_of_replicator, union, written_place, input_place, output_place, only, writing, numbers_in};
 ghost use Rattle.occ_term.specs.Terms.{Clearing, Naming};
 ghost use Rattle.occ_term.specs.Values.{span};
@@ -92,12 +92,10 @@ fn note_row(
     count: u64,
     noted: &mut Noted,
 ) -> Result<(), AllocError>
+    requires { first + count < 2 ^ 64 }
     ensures { IfOk result (λ _. Adds noted.old.uses (use_of kind (numbers_in (span first count))) noted.new.uses) }
 {
-    match first.checked_add(count) {
-        None => Err(AllocError),
-        Some(end) => noted.push(kind, first, end, line),
-    }
+    noted.push(kind, first, first + count, line)
 }
 
 fn note_array(array: &Array, noted: &mut Noted) -> Result<(), AllocError>

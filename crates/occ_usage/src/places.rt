@@ -2,13 +2,14 @@
 ghost use Rattle.std.specs.Prelude.{◌≡◌, ◌+◌, ◌≤◌, ◌<◌, ◌^◌, IfOk};
 ghost use Rattle.occ_term.specs.Messages.{product};
 ghost use Rattle.occ_term.specs.Values.{span, Value};
-ghost use Rattle.occ_term.specs.Uses.{constant_subscript, is_constant, cells_of_item, components_of};
+ghost use Rattle.occ_term.specs.Uses.{constant_subscript, cells_of_item, components_of};
 ghost use Rattle.occ_term.specs.Uses as uses;
 ghost use Rattle.occ_usage.specs.Noted.{on_component, span_named};
 ghost use Rattle.occ_term.specs.View.{array_of, expression_of, item_of, place_of};
 ghost use Rattle.occ_term.specs.Terms as terms;
 
-use occ_term::{Array, Item, NoValue, Place, TermExpr, constant_value};
+use occ_constants::{is_constant, value_of_constant};
+use occ_term::{Array, Item, Place, TermExpr};
 use std::alloc::AllocError;
 
 /// Numbers in a row.
@@ -22,7 +23,8 @@ pub struct Row {
 
 /// What the place names: with a constant subscript its components alone.
 pub fn named(place: &Place) -> Result<Row, AllocError>
-    ensures { IfOk result (λ row. span_named (place_of place.now) ≡ span row.first row.count) }
+    ensures named { IfOk result (λ row. span_named (place_of place.now) ≡ span row.first row.count) }
+    ensures bound { IfOk result (λ row. row.first + row.count < 2 ^ 33) }
 {
     let whole = Row {
         first: u64::from(place.first),
@@ -34,7 +36,7 @@ pub fn named(place: &Place) -> Result<Row, AllocError>
         let Some((size, others)) = sizes.split_first() else {
             return Ok(whole);
         };
-        let Some(part) = component(row, subscript, *size)? else {
+        let Some(part) = component(row, subscript, *size) else {
             return Ok(whole);
         };
         row = part;
@@ -44,31 +46,30 @@ pub fn named(place: &Place) -> Result<Row, AllocError>
 }
 
 /// The part of a row that a constant subscript names.
-fn component(row: Row, subscript: &TermExpr, size: u32) -> Result<Option<Row>, AllocError>
+fn component(row: Row, subscript: &TermExpr, size: u32) -> Option<Row>
     requires { row.first + row.count < 2 ^ 33 }
-    ensures { IfOk result (λ part. part ≡ on_component (constant_subscript (expression_of subscript.now) size) row size) }
+    ensures { result ≡ on_component (constant_subscript (expression_of subscript.now) size) row size }
 {
-    match constant_index(subscript, size)? {
-        None => Ok(None),
+    match constant_index(subscript, size) {
+        None => None,
         Some(index) => {
             let count = row.count / u64::from(size);
             let first = row.first + u64::from(index) * count;
-            Ok(Some(Row { first, count }))
+            Some(Row { first, count })
         }
     }
 }
 
 /// A constant subscript within the size.
-fn constant_index(subscript: &TermExpr, size: u32) -> Result<Option<u32>, AllocError>
-    ensures { IfOk result (λ index. index ≡ constant_subscript (expression_of subscript.now) size) }
+fn constant_index(subscript: &TermExpr, size: u32) -> Option<u32>
+    ensures { result ≡ constant_subscript (expression_of subscript.now) size }
 {
-    if !is_fixed(subscript) {
-        return Ok(None);
+    if !is_constant(subscript) {
+        return None;
     }
-    match constant_value(subscript) {
-        Ok(value) => Ok(within(value, size)),
-        Err(NoValue::Faulty(_)) => Ok(None),
-        Err(NoValue::Unfit) => Err(AllocError),
+    match value_of_constant(subscript) {
+        Ok(value) => within(value, size),
+        Err(_) => None,
     }
 }
 
@@ -80,23 +81,6 @@ fn within(value: i64, size: u32) -> Option<u32>
         Some(value as u32)
     } else {
         None
-    }
-}
-
-/// Whether it has no cell, no component and no string.
-fn is_fixed(e: &TermExpr) -> bool
-    ensures { result ≡ is_constant (expression_of e.now) }
-{
-    match e {
-        TermExpr::Constant(_) => true,
-        TermExpr::Cell(_, _) => false,
-        TermExpr::Component(_) => false,
-        TermExpr::Letter(_, _, _) => false,
-        TermExpr::Binary(_, _, _, left, right) => is_fixed(left.get()) && is_fixed(right.get()),
-        TermExpr::Unary(_, _, _, operand) => is_fixed(operand.get()),
-        TermExpr::And(left, right) => is_fixed(left.get()) && is_fixed(right.get()),
-        TermExpr::Or(left, right) => is_fixed(left.get()) && is_fixed(right.get()),
-        TermExpr::Conversion(_, _, operand) => is_fixed(operand.get()),
     }
 }
 
@@ -117,7 +101,8 @@ fn components(sizes: &[u32]) -> Result<u64, AllocError>
 
 /// How many cells a named value has.
 pub fn cells_of(value: &Item) -> Result<u64, AllocError>
-    ensures { IfOk result (λ cells. cells ≡ cells_of_item (item_of value.now)) }
+    ensures cells { IfOk result (λ cells. cells ≡ cells_of_item (item_of value.now)) }
+    ensures small { IfOk result (λ cells. cells < 2 ^ 32) }
 {
     match value {
         Item::One(_, _) => Ok(1),
@@ -127,7 +112,8 @@ pub fn cells_of(value: &Item) -> Result<u64, AllocError>
 }
 
 fn cells_of_array(array: &Array) -> Result<u64, AllocError>
-    ensures { IfOk result (λ cells. cells ≡ components_of (array_of array.now)) }
+    ensures cells { IfOk result (λ cells. cells ≡ components_of (array_of array.now)) }
+    ensures small { IfOk result (λ cells. cells < 2 ^ 32) }
 {
     match array {
         Array::Cells(place) => cells_of_place(place),
@@ -136,7 +122,8 @@ fn cells_of_array(array: &Array) -> Result<u64, AllocError>
 }
 
 fn cells_of_place(place: &Place) -> Result<u64, AllocError>
-    ensures { IfOk result (λ cells. cells ≡ components_of (terms.Cells (place_of place.now))) }
+    ensures cells { IfOk result (λ cells. cells ≡ components_of (terms.Cells (place_of place.now))) }
+    ensures small { IfOk result (λ cells. cells < 2 ^ 32) }
 {
     let sizes = place.sizes.as_slice();
     let subscripts = place.subscripts.len();

@@ -10,4 +10,4 @@ use Rattle.occ_check_acting.proofs.clash.is_named_by.Goals as goal
 pub returns : goal.returns
 returns c =
     let seen : subscripts (map expression_of c.as_slice.result.now) ≡ (row_at (place_of c.args.b.now)).subscripts = search (rules, the_lemmas) in
-    subst (λ (b : Bool). IfOk c.some_reads.result (λ named. named ≡ b)) (named_is _ _ (span_of c.in_ok-whole.whole) _ seen c.in_ok-whole.ensures) c.some_reads.ensures
+    subst (λ (b : Bool). IfOk c.some_reads.result (λ named. named ≡ b)) (named_is _ _ (span_of c.in_ok-whole.whole) _ seen c.in_ok-whole.ensures.span) c.some_reads.ensures

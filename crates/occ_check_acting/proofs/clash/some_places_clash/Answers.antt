@@ -7,7 +7,7 @@ use Rattle.occ_check_acting.specs.ActionView.{row_at}
 use Rattle.occ_check_acting.specs.Clashing.{are_all_constant, one_of_clashes, rows_of}
 use Rattle.occ_check_acting.proofs.Fixing.{left, more_fixed, none_found, one_fixed, one_found, one_varying}
 use Rattle.occ_check_acting.proofs.clash.some_places_clash.Goals as goal
-use Rattle.occ_check_acting.proofs.clash.some_places_clash.Goals.{then-branch+in_ok-push, else-branch+in_ok-push-2}
+use Rattle.occ_check_acting.proofs.clash.some_places_clash.Goals.{then-constant+in_ok-push, else-constant+in_ok-push-2}
 
 pub loop-place-preserved : goal.loop-place-preserved
 loop-place-preserved c =
@@ -16,28 +16,28 @@ loop-place-preserved c =
     let x = c.place-item.result in
     let inside = c.loop-place-test.true in
     let seen : subscripts (map expression_of c.as_slice.result.now) ≡ (row_at (place_of x.now)).subscripts = search (rules, the_lemmas) in
-    elim c.if-branch.branch [
-      | then-branch+in_ok-push w ↦
+    elim c.if-constant.branch [
+      | then-constant+in_ok-push w ↦
           let old = ap (λ v. v.items) w.varying-is in
           let more = ap (λ v. v.items) w.fixed-is ∙ w.in_ok-push.ensures.items in
-          let constant : are_constant (row_at (place_of x.now)).subscripts ≡ true = ap are_constant (sym seen) ∙ sym c.in_ok-are_constant.ensures ∙ w.if-branch.true in (
-            ap (λ vs. some_clash (left places vs c.if-branch.fixed.items (i + 1))) old
-                ∙ one_fixed places c.loop-place.varying.items c.loop-place.fixed.items c.if-branch.fixed.items i x inside c.place-item.is more
+          let constant : are_constant (row_at (place_of x.now)).subscripts ≡ true = ap are_constant (sym seen) ∙ sym c.are_constant-constant.ensures ∙ w.if-constant.true in (
+            ap (λ vs. some_clash (left places vs c.if-constant.fixed.items (i + 1))) old
+                ∙ one_fixed places c.loop-place.varying.items c.loop-place.fixed.items c.if-constant.fixed.items i x inside c.place-item.is more
                 ∙ c.loop-place.invariant.0,
-            more_fixed c.loop-place.fixed.items c.if-branch.fixed.items x more c.loop-place.invariant.1 constant,
+            more_fixed c.loop-place.fixed.items c.if-constant.fixed.items x more c.loop-place.invariant.1 constant,
           )
-      | else-branch+in_ok-push-2 w ↦
+      | else-constant+in_ok-push-2 w ↦
           let old = ap (λ v. v.items) w.fixed-is in
           let more = ap (λ v. v.items) w.varying-is ∙ w.in_ok-push-2.ensures.items in (
-            ap (λ fs. some_clash (left places c.if-branch.varying.items fs (i + 1))) old
-                ∙ one_varying places c.loop-place.varying.items c.loop-place.fixed.items c.if-branch.varying.items i x inside c.place-item.is more
+            ap (λ fs. some_clash (left places c.if-constant.varying.items fs (i + 1))) old
+                ∙ one_varying places c.loop-place.varying.items c.loop-place.fixed.items c.if-constant.varying.items i x inside c.place-item.is more
                 ∙ c.loop-place.invariant.0,
             ap (λ fs. are_all_constant (rows_of fs)) old ∙ c.loop-place.invariant.1,
           )
     ]
 
-pub returns-then-branch-2 : goal.returns-then-branch-2
-returns-then-branch-2 c =
+pub returns-then-branch : goal.returns-then-branch
+returns-then-branch c =
     let found : one_of_clashes (rows_of c.loop-place.varying.items) (rows_of c.loop-place.fixed.items) ≡ true = search rules in
     one_found c.args.places.now c.loop-place.varying.items c.loop-place.fixed.items c.loop-place.place-index c.loop-place-test.false c.loop-place.invariant.0 found
 

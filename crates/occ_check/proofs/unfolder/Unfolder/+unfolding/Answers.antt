@@ -1,6 +1,6 @@
 use Rattle.std.proofs.lemmas.Int.{to_z-of_z}
 use Rattle.std.proofs.lemmas.List.{map-append}
-use Rattle.std.proofs.Common.{rules, arith, option_map, w64, to_z, of_z, SFits, ◌-◌, ℤ, pos, ◌+ℤ◌, ◌∷◌, ◌++◌, drop, ◌≡◌, ◌<◌, ◌≤◌, ◌+◌, ◌*◌, ◌∙◌, ℕ, List, Some, None, Err, [], ap, map, refl, reverse, subst, sym, true}
+use Rattle.std.proofs.Common.{rules, arith, option_map, w64, to_z, of_z, SFits, ◌-◌, ℤ, pos, ◌+ℤ◌, ◌≤ℤ◌, ◌∷◌, ◌++◌, drop, ◌≡◌, ◌<◌, ◌≤◌, ◌+◌, ◌*◌, ◌∙◌, ℕ, List, Some, None, Err, [], ap, map, refl, reverse, subst, sym, true}
 use Rattle.occ_tree_grammar.specs.Processes.Trees.{decls, nodes}
 use Rattle.occ_tree_grammar.specs.Processes.Views.{arm_of, choice_of, decl_of, process_of, row_variants, selection_of, variant_of}
 use Rattle.occ_tree_grammar.specs.Lines.HeadViews.{guard_of}
@@ -506,13 +506,16 @@ pub copies-copies-init : goal.copies-copies-init
 copies-copies-init t c =
     let u = copy_for (lines.replicator_of c.args.replicator.now) (process_of c.args.body.now) (meant_at c.args.self.now c.args.at) c.args.depth in
     let n = counted c.args.self.now in
-    let first = to_z w64 (of_z w64 c.args.first) in
-    (subst (λ bs. Copied u (copied u c.args.count first n) c.args.count first (map branch_of bs) n) (sym c.new-branches.ensures) (copied_first u c.args.count first n), refl)
+    let first = to_z w64 (of_z w64 c.args.first) in (
+      subst (λ bs. Copied u (copied u c.args.count first n) c.args.count first (map branch_of bs) n) (sym c.new-branches.ensures) (copied_first u c.args.count first n),
+      refl,
+      subst (λ (v : ℤ). (v +ℤ pos c.args.count) ≤ℤ pos 2147483648) (sym (to_z-of_z w64 c.args.first c.ranges.first)) c.requires.last,
+    )
 
 pub copies-copy-requires : goal.copies-copy-requires
 copies-copy-requires t c =
     let same : weight_at c.copies.self c.args.at ≡ weight_at c.args.self.now c.args.at = ap (λ f. weight (scope_in (reverse f) c.args.at)) c.copies.invariant.1 in
-    (subst (λ k. 8 * (node_size (process_of c.args.body.now) + weight_at c.copies.self c.args.at) + 3 < k) c.decreases (omega (arith, same)), c.requires)
+    (subst (λ k. 8 * (node_size (process_of c.args.body.now) + weight_at c.copies.self c.args.at) + 3 < k) c.decreases (omega (arith, same)), c.requires.depth)
 
 pub copies-returns-in_err-branch-clause-branches : goal.copies-returns-in_err-branch-clause-branches
 copies-returns-in_err-branch-clause-branches t c =
@@ -537,10 +540,12 @@ copies-copies-preserved t c =
     subst (λ f. numbered_copy (copy_for r p (meant (scope_in (reverse f) c.args.at)) c.args.depth) value (counted c.copies.self) ≡ Some (branch_of c.in_ok-branch.branch, counted c.copy.new.self)) c.copies.invariant.1 c.in_ok-branch.ensures.branch in
     let more : map branch_of c.push.new.self ≡ map branch_of c.copies.branches ++ branch_of c.in_ok-branch.branch ∷ [] = ap (map branch_of) c.in_ok-push.ensures.ok ∙ map-append branch_of c.copies.branches (c.in_ok-branch.branch ∷ []) in
     let fewer : (c.copies.left - 1) + 1 ≡ c.copies.left = omega (arith, c.copies-test.true) in
-    let fits : SFits w64 c.in_ok-value.value = search rules in
-    let next : to_z w64 (of_z w64 c.in_ok-value.value) ≡ value +ℤ pos 1 = to_z-of_z w64 c.in_ok-value.value fits ∙ c.in_ok-value.ensures.next in (
+    let fits : SFits w64 c.next_value-value.result = search rules in
+    let same : to_z w64 (of_z w64 c.next_value-value.result) ≡ c.next_value-value.result = to_z-of_z w64 c.next_value-value.result fits in
+    let next : to_z w64 (of_z w64 c.next_value-value.result) ≡ value +ℤ pos 1 = same ∙ c.next_value-value.ensures.next in (
       copied_next u _ _ _ _ _ c.copies.invariant.0 _ fewer _ _ _ _ this next more,
       c.in_ok-branch.ensures.kept ∙ c.copies.invariant.1,
+      subst (λ (v : ℤ). (v +ℤ pos (c.copies.left - 1)) ≤ℤ pos 2147483648) (sym same) c.next_value-value.ensures.last,
     )
 
 pub copies-returns-clause-branches : goal.copies-returns-clause-branches

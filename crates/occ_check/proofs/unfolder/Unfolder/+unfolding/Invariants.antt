@@ -1,4 +1,4 @@
-use Rattle.std.proofs.Common.{◌≡◌, ◌+◌, ◌*◌, ◌≤◌, Some, [], drop, length, map, take}
+use Rattle.std.proofs.Common.{◌≡◌, ◌+◌, ◌*◌, ◌≤◌, ◌+ℤ◌, ◌≤ℤ◌, pos, Some, [], drop, length, map, take}
 use Rattle.occ_tree_grammar.specs.Many.{◌>>=◌}
 use Rattle.occ_tree_grammar.specs.Processes.Trees.{decls, nodes}
 use Rattle.occ_tree_grammar.specs.Processes.Views.{arm_of, choice_of, decl_of, process_of, selection_of, variant_of}
@@ -149,6 +149,7 @@ invariant-copies-copies l =
     Copied (copy_for (replicator_of l.replicator) (process_of l.body) (meant_at l.fn.self l.at) l.depth)
     (copied (copy_for (replicator_of l.replicator) (process_of l.body) (meant_at l.fn.self l.at) l.depth) l.count l.first (counted l.fn.self)) l.left l.value (map branch_of l.branches) (counted l.self)
     × (l.self.frames.frames.items ≡ l.fn.self.frames.frames.items)
+    × ((l.value +ℤ pos l.left) ≤ℤ pos 2147483648)
 
 abbrev pub decreases-copies-copies : goal.decreases-copies-copies
 decreases-copies-copies l = l.left

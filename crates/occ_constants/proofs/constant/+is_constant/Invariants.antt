@@ -2,7 +2,7 @@ use Rattle.std.proofs.Common.{◌≡◌, ◌≤◌}
 use Rattle.occ_term.specs.Uses.{is_constant}
 use Rattle.occ_term.specs.View.{expression_of}
 use Rattle.occ_term.proofs.expression.TermExpr.TheLaws.{the_size}
-use Rattle.occ_check_names.proofs.constant.+is_constant.Given as goal
+use Rattle.occ_constants.proofs.constant.+is_constant.Given as goal
 
 abbrev pub invariant-loop-rest : goal.invariant-loop-rest
 invariant-loop-rest l =
