@@ -10,6 +10,7 @@ import sys
 
 TOP = pathlib.Path(__file__).resolve().parent.parent
 ROWS = TOP / "crates/rows/src"
+STOPPING = "With --errors stop"
 FOLDERS = ["first_steps", "sequences", "pipelines", "selection", "sharing", "faults"]
 
 
@@ -37,6 +38,8 @@ def runs(path):
     choices = path.with_suffix(".choices")
     if choices.exists():
         told.append((f"By {choices.name}", choices.read_text()))
+    if f"-- {STOPPING}:" in head:
+        told.append((STOPPING, ""))
     for title, text in told:
         screen, ending = block(head, title)
         yield title, keyboard, text, screen, ending.removeprefix("-- Ends: ")

@@ -4,6 +4,7 @@ use Rattle.std.proofs.Common.{◌≤◌, ◌<◌, ◌+◌, ◌*◌, ℕ, zero, s
 use Rattle.std.proofs.lemmas.List.{length-map, map-append, reverse-append}
 use Rattle.occ_term.specs.Terms.{Term, Skip, Stop, Assign, Input, Output, VariantInput, Seq, Par, Alt, If, Case, While, Each, Clear, Local, Terms, no_terms, then_term, Branches, no_branches, and_branch, Arms, no_arms, skip_arm, input_arm, declared_arms, each_arm, Reception, Plain, Tagged, Variants, no_variants, or_variant, Choices, no_choices, or_choice, declared_choices, each_choice, Options, no_options, or_option, or_else}
 use Rattle.occ_term.specs.Unfolding.{Unfolding, IsWellFormed, NumberedFrom, declared, meaning}
+use Rattle.occ_term.specs.declared.fault.Errors.{Errors}
 use Rattle.occ_term.specs.declared.primitive.Primitive.{Primitive}
 use Rattle.occ_term.specs.declared.protocol.Protocol.{Protocol}
 use Rattle.occ_term.specs.TermTyping.{Declared, TermHas, TermsHave, BranchesHave, ArmsHave, ReceptionHas, VariantsHave, ChoicesHave, OptionsHave}
@@ -105,9 +106,9 @@ of_quantum (p ∷ ps) quantum [] h k d within = absurd h
 of_quantum (p ∷ ps) quantum (b ∷ bs) h zero d within = ap (λ x. x.quantum) h.0.is
 of_quantum (p ∷ ps) quantum (b ∷ bs) h (suc k) d within = of_quantum ps quantum bs h.1 k d (omega (arith, within))
 
-pub compiled_as : (u : Unfolding) (quantum : ℕ) (bodies : List Body) (channels : List Channel) → IsWellFormed u → IsQuantum quantum → AreBodiesOf (processes_of (meaning u)) quantum bodies
-    → instructions_in bodies ≤ most_instructions → channels ≡ u.channels → IsCompiledFrom u quantum (record { bodies = bodies; channels = channels })
-compiled_as u quantum bodies channels well between h small same =
+pub compiled_as : (u : Unfolding) (quantum : ℕ) (bodies : List Body) (channels : List Channel) (errors : Errors) → IsWellFormed u → IsQuantum quantum → AreBodiesOf (processes_of (meaning u)) quantum bodies
+    → instructions_in bodies ≤ most_instructions → channels ≡ u.channels → IsCompiledFrom u quantum (record { bodies = bodies; channels = channels; errors = errors })
+compiled_as u quantum bodies channels errors well between h small same =
     record {
       channels = same;
       bodies = all_do (declared u) 0 quantum (processes_of (meaning u)) bodies between.0 well.numbers (well.typed, within (declared u) (meaning u) well.typed) h;

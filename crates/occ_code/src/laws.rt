@@ -76,7 +76,7 @@ pub fn first_of_two_as_compiled()
     ensures { FirstOfTwoAsCompiled }
 {}
 
-/// What means the same on the same channels has one code for each quantum.
+/// What means the same on the same channels has one code for each quantum and mode of errors.
 pub fn one_code()
     ensures { OneCode }
 {}

@@ -57,7 +57,7 @@ pub will_turn : (n now : Past) (tables : Tables) (k : IsKept n tables) → n ≡
 will_turn n now tables k same i h =
     let state : IsState n k.net = placed_replays n.program n.keyboard k.places in
     let is : leased n k.net ≡ Some i = subst (λ (m : Past). leased m k.net ≡ Some i) (sym same) (h k.net (subst (λ (m : Past). IsState m k.net) same state)) in
-    may_turn k.net i (leased_there (ending_of k.net) n.out (ready_in k.net) i is).place
+    may_turn k.net i (leased_there (ending_of n.program.errors k.net) n.out (ready_in k.net) i is).place
 
 -- ---- it can take a turn
 

@@ -13,7 +13,7 @@ use Rattle.occ_net.specs.Networks.{Past, IsState}
 use Rattle.occ_net.specs.Histories.{IsHistory}
 
 module _ (n : Past) (compiled : IsCompiled n.program) (bytes : AreBytes n.keyboard) (few : length n.choices < 2 ^ 64) (net : Net) (state : IsState n net) where
-  pub followed : Followed compiled.source n.keyboard compiled.quantum net
+  pub followed : Followed compiled.source n.keyboard compiled.quantum n.program.errors net
   followed = replays_are_runs compiled.source n.program compiled.quantum n.keyboard n.choices net compiled.well_formed compiled.lawful compiled.compiled bytes few state
 
   pub history_is : (chan : ℕ) (messages : List _) → messages_on chan net.trace ≡ messages → IsHistory net chan messages

@@ -56,7 +56,7 @@ kept_marks n out tables e k = record { net = k.net; places = k.places; holds = k
 
 -- ---- a turn
 
-pub stands : (n : Past) (tables : Tables) (k : IsKept n tables) → 1 + length n.choices < 2 ^ 64 → ending_of k.net ≡ None → Standing n.program n.keyboard tables
+pub stands : (n : Past) (tables : Tables) (k : IsKept n tables) → 1 + length n.choices < 2 ^ 64 → ending_of n.program.errors k.net ≡ None → Standing n.program n.keyboard tables
 stands n tables k few going =
     let state = placed_replays n.program n.keyboard k.places in
     record { choices = n.choices; few = few; net = k.net; replays = state; open_end = going; holds = k.holds k.net state }
@@ -82,7 +82,7 @@ turn_at n net s tables h own place body before after at same_body same_before st
 abbrev pub with_turn : Past → ℕ → ℕ → ℕ → Past
 with_turn n place pick number = record n { choices = n.choices ++ record { which = place; pick = pick } ∷ []; out = slice_set n.out number false }
 
-pub kept_turn : (n : Past) (old new : Tables) (k : IsKept n old) → IsCompiled n.program → 1 + length n.choices < 2 ^ 64 → ending_of k.net ≡ None → (place pick number : ℕ) → slice_get (ready_from 0 k.net.tasks) place ≡ Some number
+pub kept_turn : (n : Past) (old new : Tables) (k : IsKept n old) → IsCompiled n.program → 1 + length n.choices < 2 ^ 64 → ending_of n.program.errors k.net ≡ None → (place pick number : ℕ) → slice_get (ready_from 0 k.net.tasks) place ≡ Some number
     → ((net : Net) (choice : Choice) → Holds n.program n.keyboard old net → place ≡ choice.which → pick ≡ choice.pick → TurnsTo n.program n.keyboard choice net new)
     → IsKept (with_turn n place pick number) new
 kept_turn n old new k compiled few going place pick number at turns =

@@ -71,4 +71,4 @@ leased_at None out ready = first_in out ready
 leased_at (Some ending) out ready = None
 
 abbrev pub leased : Past → Net → Option ℕ
-leased n net = leased_at (ending_of net) n.out (ready_in net)
+leased n net = leased_at (ending_of n.program.errors net) n.out (ready_in net)

@@ -12,7 +12,7 @@ use Rattle.occ_net.specs.declared.outcome.Outcome.{Outcome}
 
 -- the ending of its network's state, Limit where there is none, and the bytes that were input from the screen's and the error channel
 pub record Shows (net : Net) (o : Outcome) : Type 0 where
-  pub ending : o.ending ≡ or_limit (ending_of net)
+  pub ending : o.ending ≡ or_limit (ending_of o.network.program.errors net)
   pub screen : o.screen.items ≡ bytes_of (messages_on 1 net.trace)
   pub error : o.error.items ≡ bytes_of (messages_on 2 net.trace)
 
@@ -25,4 +25,4 @@ pub record IsOutcome (p : Program) (keyboard : List ℕ) (list : List Choice) (o
   pub state : IsState o.network net
   pub shows : Shows net o
   pub used : Begins o.choices.items list
-  pub whole : ending_of net ≡ None → o.choices.items ≡ list
+  pub whole : ending_of p.errors net ≡ None → o.choices.items ≡ list

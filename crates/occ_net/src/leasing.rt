@@ -53,7 +53,7 @@ impl Network {
     fn next_in(&self) -> Option<u32>
         ensures { (net : Net) → IsState self.now net → result ≡ leased self.now net }
     {
-        if self.tables.ending().is_some() {
+        if self.tables.ending(self.code.errors()).is_some() {
             return None;
         }
         first_in(&self.out, self.tables.ready())

@@ -118,9 +118,9 @@ impl Network {
 
     /// How it has ended, if it has.
     pub fn ending(&self) -> Option<Ending>
-        ensures { (net : Net) → IsState self.now net → result ≡ ending_of net }
+        ensures { (net : Net) → IsState self.now net → result ≡ ending_of self.now.program.errors net }
     {
-        self.tables.ending()
+        self.tables.ending(self.code.errors())
     }
 
     /// The communications that there were, in order.

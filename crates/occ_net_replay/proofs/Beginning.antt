@@ -3,6 +3,8 @@ use Rattle.std.proofs.Common.{◌≡◌, ◌∙◌, refl, sym, ap, subst, Bool, 
 use Rattle.std.specs.Prelude.{slice_get, pos, replicate, nat_eq, if◌then◌else◌}
 use Rattle.std.proofs.lemmas.List.{length-replicate}
 use mathlib.Core.Bool.{true≢false}
+use Rattle.occ_term.specs.declared.fault.Errors.{Errors}
+use Rattle.occ_term.specs.declared.fault.Errors.TheVariants.{Halt, Stop}
 use Rattle.occ_term.specs.declared.fault.Fault.{Fault}
 use Rattle.occ_term.specs.declared.primitive.Primitive.{Primitive}
 use Rattle.occ_term.specs.declared.primitive.Primitive.TheVariants.{Bool as Boolean, Byte, Int}
@@ -10,10 +12,11 @@ use Rattle.occ_term.specs.declared.protocol.Protocol.TheVariants.{Simple}
 use Rattle.occ_term.specs.Frames.{value_at, zero_frame}
 use Rattle.occ_term.specs.Messages.{is_of}
 use Rattle.occ_term.specs.Processes.{Numbered, processes_of}
-use Rattle.occ_term.specs.Runs.{main_ended, still_by, FaultEnds, EndsBy, by_fault, by_end, by_standing, goes_on, CanStep, own_step, join_step, branch_step, AnyCanStep, first_can, later_can, private_step}
+use Rattle.occ_term.specs.Runs.{main_ended, still_by, EndsBy, by_fault, by_end, by_standing, goes_on, CanStep, own_step, join_step, branch_step, AnyCanStep, first_can, later_can, private_step}
 use Rattle.occ_term.specs.StepUses.{IsPartOf, uses_of_left}
 use Rattle.occ_term.specs.Steps.{Do, Left, left, status, is_ended}
-use Rattle.occ_term.specs.System.{Process, process, Processes, no_processes, System, system, start, HaltMode}
+use Rattle.occ_term.specs.System.{Process, process, Processes, no_processes, System, system, start, HaltMode, StopMode, MayGo}
+use Rattle.occ_term.specs.System as S
 use Rattle.occ_term.specs.TermTyping.{Declared, TermHas}
 use Rattle.occ_term.specs.Terms.{Term}
 use Rattle.occ_term.specs.Unfolding.{NumberedFrom}
@@ -26,10 +29,9 @@ use Rattle.occ_code.specs.Sequential.Compiled.{Program}
 use Rattle.occ_code.specs.Sequential.Machine.{Body}
 use Rattle.occ_code.specs.declared.task.Task.{Task}
 use Rattle.occ_code.specs.declared.task.Wait.{Wait}
-use Rattle.occ_net_replay.specs.Following.{AreBytes, ending_as, or_limit}
-use Rattle.occ_net_replay.specs.Replay.{Net, Tasks, HasTask, first_task, first_net, at_start, none_begun, may_go, ready_from, first_fault, is_done, ended, main_done, ending_by, ending_of}
+use Rattle.occ_net_replay.specs.Following.{AreBytes, ending_as, mode_of, or_limit}
+use Rattle.occ_net_replay.specs.Replay.{Net, Tasks, HasTask, first_task, first_net, at_start, none_begun, may_go, ready_from, is_done, ended, main_done, ending_by, ending_of, first_noted, standing_by, stopped_by}
 use Rattle.occ_net_replay.specs.Moments.{At, Among, first, later, here, below}
-use Rattle.occ_net_replay.proofs.Faults.{noted_as, none_faulted, ready_no_fault}
 use Rattle.occ_net_replay.proofs.Holding.{number_of, Belongs, Stands, may_turn, Own, Holds}
 use Rattle.occ_net_replay.proofs.Merging.{done_stands}
 use Rattle.occ_net_replay.proofs.Placed.{size, Placed, LeftPlaced}
@@ -114,7 +116,7 @@ module _ (d : Declared) (p : Program) (procs : List Numbered) (protocol : d.prot
           unjoined = λ i u ns h w g. waits_not i u h _ w refl;
         };
         bytes = bytes;
-        faults = sym (ap noted_as (none_faulted (at_start p.bodies) (λ i u h. ready_no_fault u.wait (ready i u h))));
+        faults = refl;
       }
     where
       task : Task
@@ -159,49 +161,52 @@ module _ (d : Declared) (p : Program) (procs : List Numbered) (protocol : d.prot
   may_step k n body t own ps but s (begins_alone {x = x} {j = j} h a) = own_step (going x j s h).2
   may_step k n body t own ps but s (begins_joined e a) = join_step e
 
-  ends_by : (k : ℕ) (net : Net) (sys : System) → Follows d p procs protocol quantum k net sys → (fault : Option Fault) → first_fault net.tasks ≡ fault → (main : Bool) → main_done net.tasks ≡ main → (ready : List ℕ) → ready_from 0 net.tasks ≡ ready → EndsBy HaltMode sys (ending_as (or_limit (ending_by fault main ready)))
-  ends_by k net sys f (Some e) q main m ready r =
-      subst (λ z. EndsBy HaltMode z (FaultEnds e)) (sym f.is) (by_fault {es = []} refl (f.faults ∙ ap noted_as q))
-  ends_by k net sys f None q main m ready r = subst (λ z. EndsBy HaltMode z (ending_as (or_limit (ending_by None main ready)))) (sym f.is) (by main m ready r)
-    where
-      silent : f.noted ≡ []
-      silent = f.faults ∙ ap noted_as q
+  stopped_as : (noted : List Fault) → still_by noted ≡ ending_as (stopped_by (first_noted noted))
+  stopped_as [] = refl
+  stopped_as (e ∷ es) = refl
 
-      whole : System
-      whole = system net.keyboard f.proc f.store f.noted
+  module _ (k : ℕ) (net : Net) (sys : System) (f : Follows d p procs protocol quantum k net sys) where
+    abbrev whole : System
+    whole = system net.keyboard f.proc f.store f.noted
 
-      head_is : (tasks : Tasks) (t : Task) → HasTask tasks 0 t → main_done tasks ≡ is_done t.wait
-      head_is [] t h = absurd cc
-      head_is (x ∷ ts) t h = let same : x ≡ Some t = cc in ap ended same
+    head_is : (tasks : Tasks) (t : Task) → HasTask tasks 0 t → main_done tasks ≡ is_done t.wait
+    head_is [] t h = absurd cc
+    head_is (x ∷ ts) t h = let same : x ≡ Some t = cc in ap ended same
 
-      main_is : (q : Process) → number_of q ≡ 0 → Holds d p procs k f.store net.tasks q → main_ended (system net.keyboard q f.store f.noted) ≡ main_done net.tasks
-      main_is (process n own ps) e h =
-          let there : HasTask net.tasks 0 h.0.task = subst (λ z. HasTask net.tasks z h.0.task) e h.0.has_task in
-          both (is_ended (status own)) (is_done h.0.task.wait)
-          (ended_done d p procs k h.0.belongs.body h.0.task own ps h.0.but h.0.stands)
-          (λ g. (done_stands d p procs k f.store net.tasks h.0.belongs.body h.0.task own ps h.0.but h.0.stands (done_wait h.0.task.wait g)).0)
-          ∙ sym (head_is net.tasks h.0.task there)
-        where
-          both : (a b : Bool) → (IsTrue a → IsTrue b) → (IsTrue b → IsTrue a) → a ≡ b
-          both true b g h = sym (g refl)
-          both false true g h = h refl
-          both false false g h = refl
+    main_is : (q : Process) → number_of q ≡ 0 → Holds d p procs k f.store net.tasks q → main_ended (system net.keyboard q f.store f.noted) ≡ main_done net.tasks
+    main_is (process n own ps) e h =
+        let there : HasTask net.tasks 0 h.0.task = subst (λ z. HasTask net.tasks z h.0.task) e h.0.has_task in
+        both (is_ended (status own)) (is_done h.0.task.wait)
+        (ended_done d p procs k h.0.belongs.body h.0.task own ps h.0.but h.0.stands)
+        (λ g. (done_stands d p procs k f.store net.tasks h.0.belongs.body h.0.task own ps h.0.but h.0.stands (done_wait h.0.task.wait g)).0)
+        ∙ sym (head_is net.tasks h.0.task there)
+      where
+        both : (a b : Bool) → (IsTrue a → IsTrue b) → (IsTrue b → IsTrue a) → a ≡ b
+        both true b g h = sym (g refl)
+        both false true g h = h refl
+        both false false g h = refl
 
-      main_same : main_ended (system net.keyboard f.proc f.store f.noted) ≡ main_done net.tasks
-      main_same = main_is f.proc f.state.root f.state.holds
+    main_same : main_ended whole ≡ main_done net.tasks
+    main_same = main_is f.proc f.state.root f.state.holds
 
-      goes : (n : ℕ) (ns : List ℕ) → ready_from 0 net.tasks ≡ n ∷ ns → CanStep f.proc f.store
-      goes n ns e =
-          let y = ready_at 0 net.tasks 0 n (ap (λ xs. slice_get xs 0) e) in
-          let l = live_at d p procs k net.tasks f.proc f.store y.place y.task f.state y.there (λ z. true≢false (sym y.may ∙ ap may_go z)) in
-          step_at l.at (may_step k y.place l.mine.belongs.body y.task l.own l.branches l.mine.but f.store (begins_as d p procs k l.mine.belongs.body y.task l.own l.branches l.mine.but (subst (λ u. Stands d p procs k l.mine.belongs.body u l.own l.branches l.mine.but) l.same l.mine.stands) y.may))
+    goes : (n : ℕ) (ns : List ℕ) → ready_from 0 net.tasks ≡ n ∷ ns → CanStep f.proc f.store
+    goes n ns e =
+        let y = ready_at 0 net.tasks 0 n (ap (λ xs. slice_get xs 0) e) in
+        let l = live_at d p procs k net.tasks f.proc f.store y.place y.task f.state y.there (λ z. true≢false (sym y.may ∙ ap may_go z)) in
+        step_at l.at (may_step k y.place l.mine.belongs.body y.task l.own l.branches l.mine.but f.store (begins_as d p procs k l.mine.belongs.body y.task l.own l.branches l.mine.but (subst (λ u. Stands d p procs k l.mine.belongs.body u l.own l.branches l.mine.but) l.same l.mine.stands) y.may))
 
-      by : (main : Bool) → main_done net.tasks ≡ main → (ready : List ℕ) → ready_from 0 net.tasks ≡ ready → EndsBy HaltMode (system net.keyboard f.proc f.store f.noted) (ending_as (or_limit (ending_by None main ready)))
-      by true m ready r = by_end silent (main_same ∙ m)
-      by false m [] r =
-          subst (λ z. EndsBy HaltMode (system net.keyboard f.proc f.store f.noted) (still_by z)) silent
-          (by_standing silent (main_same ∙ m) (stands_still d p procs k net f.proc f.store f.noted f.state f.quiet (λ i t h g. none_ready 0 net.tasks r i t h g)))
-      by false m (n ∷ ns) r = goes_on silent (main_same ∙ m) (private_step (goes n ns r))
+    -- where a noted fault doesn't end the system
+    stands_by : (errors : S.Errors) → MayGo errors f.noted → (main : Bool) → main_done net.tasks ≡ main → (ready : List ℕ) → ready_from 0 net.tasks ≡ ready → EndsBy errors whole (ending_as (or_limit (standing_by (first_noted f.noted) main ready)))
+    stands_by errors may true m ready r = by_end may (main_same ∙ m)
+    stands_by errors may false m [] r =
+        subst (EndsBy errors whole) (stopped_as f.noted)
+        (by_standing may (main_same ∙ m) (stands_still d p procs k net f.proc f.store f.noted f.state f.quiet (λ i t h g. none_ready 0 net.tasks r i t h g)))
+    stands_by errors may false m (n ∷ ns) r = goes_on may (main_same ∙ m) (private_step (goes n ns r))
 
-  pub ends_as : (k : ℕ) (net : Net) (sys : System) → Follows d p procs protocol quantum k net sys → EndsBy HaltMode sys (ending_as (or_limit (ending_of net)))
-  ends_as k net sys f = ends_by k net sys f (first_fault net.tasks) refl (main_done net.tasks) refl (ready_from 0 net.tasks) refl
+    ends_by : (errors : Errors) (noted : List Fault) → f.noted ≡ noted → EndsBy (mode_of errors) whole (ending_as (or_limit (ending_by errors (first_noted noted) (main_done net.tasks) (ready_from 0 net.tasks))))
+    ends_by Halt (e ∷ es) q = by_fault refl q
+    ends_by Halt [] q = subst (λ z. EndsBy HaltMode whole (ending_as (or_limit (standing_by (first_noted z) (main_done net.tasks) (ready_from 0 net.tasks))))) q (stands_by HaltMode q (main_done net.tasks) refl (ready_from 0 net.tasks) refl)
+    ends_by Stop noted q = subst (λ z. EndsBy StopMode whole (ending_as (or_limit (standing_by (first_noted z) (main_done net.tasks) (ready_from 0 net.tasks))))) q (stands_by StopMode tt (main_done net.tasks) refl (ready_from 0 net.tasks) refl)
+
+    pub ends_as : EndsBy (mode_of p.errors) sys (ending_as (or_limit (ending_of p.errors net)))
+    ends_as = subst (λ z. EndsBy (mode_of p.errors) z (ending_as (or_limit (ending_of p.errors net)))) (sym f.is) (ends_by p.errors net.noted f.faults)

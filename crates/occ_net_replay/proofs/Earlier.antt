@@ -28,12 +28,12 @@ nothing_before [] y ys e = cc
 nothing_before (x ∷ xs) y ys e = cc
 
 module _ (u : Unfolding) (p : Program) (quantum : ℕ) (keyboard : List ℕ) where
-  moment_of : {cs : List Choice} {net : Net} {f : Followed u keyboard quantum net} → Accompanies u p quantum keyboard cs net f → IsMoment net f.system
+  moment_of : {cs : List Choice} {net : Net} {f : Followed u keyboard quantum p.errors net} → Accompanies u p quantum keyboard cs net f → IsMoment net f.system
   moment_of (at_start f e m) = m
   moment_of (after_turn g e a o q m) = m
 
   -- all of them are the first
-  whole : {cs : List Choice} (first : List Choice) {net : Net} {f : Followed u keyboard quantum net} → Accompanies u p quantum keyboard cs net f → cs ≡ first → EarlierMoment u p quantum keyboard first [] f.events
+  whole : {cs : List Choice} (first : List Choice) {net : Net} {f : Followed u keyboard quantum p.errors net} → Accompanies u p quantum keyboard cs net f → cs ≡ first → EarlierMoment u p quantum keyboard first [] f.events
   whole first {net = net} {f = f} x e =
       record {
         net = net;
@@ -57,7 +57,7 @@ module _ (u : Unfolding) (p : Program) (quantum : ℕ) (keyboard : List ℕ) whe
         as_many = length-append x.later (e ∷ []) ∙ ap (λ (k : ℕ). k + 1) x.as_many ∙ sym (length-append since (c ∷ [])) ∙ ap length (sym q);
       }
 
-  earlier : {cs : List Choice} (first since : List Choice) {net : Net} {f : Followed u keyboard quantum net} → Accompanies u p quantum keyboard cs net f → cs ≡ first ++ since → EarlierMoment u p quantum keyboard first since f.events
+  earlier : {cs : List Choice} (first since : List Choice) {net : Net} {f : Followed u keyboard quantum p.errors net} → Accompanies u p quantum keyboard cs net f → cs ≡ first ++ since → EarlierMoment u p quantum keyboard first since f.events
   earlier first [] x e = whole first x (e ∙ append_none first)
   earlier first (c ∷ since) (at_start f q m) e = absurd (nothing_before first c since e)
   earlier first (c ∷ since) (after_turn {cs = ds} {c = d} {f = f} g v a o q m) e =

@@ -9,7 +9,7 @@ use Rattle.occ_code.specs.declared.task.Arm.{Arm}
 use Rattle.occ_code.specs.declared.task.Task.{Task}
 use Rattle.occ_code.specs.declared.task.Wait.{Wait}
 use Rattle.occ_code.specs.declared.task.Wait.TheVariants as W
-use Rattle.occ_net_replay.specs.Examples.{ChoiceRows, ClosedRows, EndingRows, ForkRows, LateOfferRows, LeadsTo, ListenRows, MeetingRows, FirstWithPriority, SkipRows, TurnRows, apart, arm, bodies, branches, choosing, closed, net_of, task, waiting, whole_number}
+use Rattle.occ_net_replay.specs.Examples.{ChoiceRows, ClosedRows, EndingRows, ForkRows, LateOfferRows, LeadsTo, ListenRows, MeetingRows, NotedRows, FirstWithPriority, SkipRows, StopRows, TurnRows, apart, arm, bodies, branches, choosing, closed, net_of, task, waiting, whole_number}
 use Rattle.occ_net_replay.specs.Replay.{Net, Tasks, HasTask, AreDone, is_done, made_ready, took_arm, arm_chosen, standing, Gets, joined, Settled, settles, stays, Happens, meets, skips, forks, joins, task_gives, keyboard_gives, task_gets, arm_gets, screen_gets, error_gets, one_more}
 use Rattle.occ_net_replay.proofs.Faults.{part_waits}
 use Rattle.occ_net_replay.proofs.Runs.{one_more_at}
@@ -17,8 +17,14 @@ use Rattle.occ_net_replay.proofs.Runs.{one_more_at}
 pub turn_rows : TurnRows
 turn_rows = (refl, refl, refl, refl)
 
+pub noted_rows : NotedRows
+noted_rows = (refl, refl, refl, refl)
+
 pub ending_rows : EndingRows
 ending_rows = (refl, refl, refl, refl)
+
+pub stop_rows : StopRows
+stop_rows = (refl, refl, refl, refl, refl)
 
 -- ---- what leads where
 

@@ -1,8 +1,7 @@
--- The fault of a network, and who takes part in a communication.
-use Rattle.std.proofs.Common.{◌≡◌, ◌∙◌, refl, sym, ap, subst, Bool, false, IsTrue, IsFalse, ℕ, zero, suc, ◌⊎◌, inl, inr, List, [], ◌∷◌, Option, Some, None}
+-- The faults of a network, and who takes part in a communication.
+use Rattle.std.proofs.Common.{◌≡◌, ◌∙◌, refl, sym, ap, subst, Bool, false, IsTrue, IsFalse, ℕ, ◌⊎◌, inl, inr, List, [], Some}
 use Rattle.std.specs.Prelude.{slice_set}
 use mathlib.Core.Bool.{true≢false}
-use Rattle.occ_term.specs.declared.fault.Fault.{Fault}
 use Rattle.occ_term.specs.declared.message.Message.{Message}
 use Rattle.occ_term.specs.Examples.{IsGoing}
 use Rattle.occ_term.specs.Processes.{Numbered}
@@ -16,48 +15,14 @@ use Rattle.occ_code.specs.Sequential.Machine.{Body}
 use Rattle.occ_code.specs.declared.task.Task.{Task}
 use Rattle.occ_code.specs.declared.task.Wait.{Wait}
 use Rattle.occ_code.specs.declared.task.Wait.TheVariants as W
-use Rattle.occ_net_replay.specs.Replay.{Net, Tasks, HasTask, may_go, made_ready, fault_of, or_later, first_fault, task_gives, keyboard_gives, Gets, task_gets, arm_gets, screen_gets, error_gets, Joined, joined}
+use Rattle.occ_net_replay.specs.Replay.{Net, HasTask, may_go, made_ready, noted_at, task_gives, keyboard_gives, Gets, task_gets, arm_gets, screen_gets, error_gets, Joined, joined}
 use Rattle.occ_net_replay.proofs.Holding.{Stands, may_turn, may_join, offers, awaits, chooses, waits, is_halted, has_failed, has_ended}
 use Rattle.occ_net_replay.proofs.Quiet.{is_calm}
 use Rattle.occ_net_replay.proofs.Tables.{set_back, task_once}
 
-abbrev pub noted_as : Option Fault → List Fault
-noted_as None = []
-noted_as (Some e) = e ∷ []
+-- ---- what a turn notes
 
--- ---- of a table
-
-or_none : (a b : Option Fault) → or_later a b ≡ None → (a ≡ None) × (b ≡ None)
-or_none None b e = (refl, e)
-or_none (Some x) b e = absurd cc
-
-pub no_fault : (tasks : Tasks) (i : ℕ) (t : Task) → first_fault tasks ≡ None → HasTask tasks i t → fault_of t.wait ≡ None
-no_fault [] i t e h = absurd cc
-no_fault (None ∷ ts) zero t e h = absurd cc
-no_fault (None ∷ ts) (suc i) t e h = no_fault ts i t e h
-no_fault (Some u ∷ ts) zero t e h = let same : u ≡ t = cc in ap (λ z. fault_of z.wait) (sym same) ∙ (or_none (fault_of u.wait) (first_fault ts) e).0
-no_fault (Some u ∷ ts) (suc i) t e h = no_fault ts i t (or_none (fault_of u.wait) (first_fault ts) e).1 h
-
-pub none_faulted : (tasks : Tasks) → ((i : ℕ) (t : Task) → HasTask tasks i t → fault_of t.wait ≡ None) → first_fault tasks ≡ None
-none_faulted [] g = refl
-none_faulted (None ∷ ts) g = none_faulted ts (λ i t h. g (suc i) t h)
-none_faulted (Some u ∷ ts) g = ap (λ x. or_later x (first_fault ts)) (g 0 u refl) ∙ none_faulted ts (λ i t h. g (suc i) t h)
-
-or_only : (a : Option Fault) → or_later a None ≡ a
-or_only None = refl
-or_only (Some x) = refl
-
--- where no other task has failed
-pub fault_is : (tasks : Tasks) (n : ℕ) (t : Task) → HasTask tasks n t → ((i : ℕ) (u : Task) → (i ≡ n → ⊥) → HasTask tasks i u → fault_of u.wait ≡ None) → first_fault tasks ≡ fault_of t.wait
-fault_is [] n t h g = absurd cc
-fault_is (None ∷ ts) zero t h g = absurd cc
-fault_is (Some u ∷ ts) zero t h g =
-    let same : u ≡ t = cc in
-    ap (or_later (fault_of u.wait)) (none_faulted ts (λ i v k. g (suc i) v (λ e. cc) k)) ∙ or_only (fault_of u.wait) ∙ ap (λ z. fault_of z.wait) same
-fault_is (None ∷ ts) (suc n) t h g = fault_is ts n t h (λ i u k q. g (suc i) u (λ e. let r : i ≡ n = cc in k r) q)
-fault_is (Some v ∷ ts) (suc n) t h g = ap (λ x. or_later x (first_fault ts)) (g 0 v (λ e. cc) refl) ∙ fault_is ts n t h (λ i u k q. g (suc i) u (λ e. let r : i ≡ n = cc in k r) q)
-
-pub ready_no_fault : (w : Wait) → IsTrue (may_go w) → fault_of w ≡ None
+pub ready_no_fault : (w : Wait) → IsTrue (may_go w) → noted_at w ≡ []
 ready_no_fault W.Ready h = refl
 ready_no_fault (W.Took arm is m) h = refl
 ready_no_fault (W.Offers c m) h = refl
@@ -68,7 +33,7 @@ ready_no_fault W.Halted h = refl
 ready_no_fault W.Done h = refl
 ready_no_fault (W.Faulted e) h = absurd (true≢false (sym h))
 
-pub uncalm_no_fault : (w : Wait) → IsFalse (is_calm w) → fault_of w ≡ None
+pub uncalm_no_fault : (w : Wait) → IsFalse (is_calm w) → noted_at w ≡ []
 uncalm_no_fault W.Ready h = refl
 uncalm_no_fault (W.Took arm is m) h = refl
 uncalm_no_fault (W.Offers c m) h = refl
@@ -114,7 +79,7 @@ module _ (a : Net) (n : ℕ) (t : Task) (there : HasTask a.tasks n t) where
   part_waits (joined (task_gives {n = z} {t = u} h w) g) (inr e) = gets_part z u h refl g e
   part_waits (joined (keyboard_gives q r f) g) (inr e) = gets_alone refl g e
 
--- ---- what is noted
+-- ---- what the system notes
 
 going_noted : (x : Doing) → IsGoing x → fault_noted (status_of x) ≡ []
 going_noted (Do t) h = refl
@@ -129,13 +94,13 @@ going_noted Halted h = refl
 going_noted (Faulted e) h = absurd (true≢false (sym h))
 going_noted Done h = refl
 
-pub stands_noted : (d : Declared) (p : Program) (procs : List Numbered) (k : ℕ) (body : Body) (t : Task) (own : Left) (ps : Processes) (but : Numbers) → Stands d p procs k body t own ps but → fault_noted (status own) ≡ noted_as (fault_of t.wait)
-stands_noted d p procs k body t own ps but (may_turn {x = x} g h a) = going_noted x h ∙ sym (ap noted_as (ready_no_fault t.wait g))
-stands_noted d p procs k body t own ps but (may_join g m e a) = sym (ap noted_as (ready_no_fault t.wait g))
-stands_noted d p procs k body t own ps but (offers w a) = sym (ap (λ z. noted_as (fault_of z)) w)
-stands_noted d p procs k body t own ps but (awaits w a) = sym (ap (λ z. noted_as (fault_of z)) w)
-stands_noted d p procs k body t own ps but (chooses w a) = sym (ap (λ z. noted_as (fault_of z)) w)
-stands_noted d p procs k body t own ps but (waits w m e a) = sym (ap (λ z. noted_as (fault_of z)) w)
-stands_noted d p procs k body t own ps but (is_halted w) = sym (ap (λ z. noted_as (fault_of z)) w)
-stands_noted d p procs k body t own ps but (has_failed w) = sym (ap (λ z. noted_as (fault_of z)) w)
-stands_noted d p procs k body t own ps but (has_ended w) = sym (ap (λ z. noted_as (fault_of z)) w)
+pub stands_noted : (d : Declared) (p : Program) (procs : List Numbered) (k : ℕ) (body : Body) (t : Task) (own : Left) (ps : Processes) (but : Numbers) → Stands d p procs k body t own ps but → fault_noted (status own) ≡ noted_at t.wait
+stands_noted d p procs k body t own ps but (may_turn {x = x} g h a) = going_noted x h ∙ sym (ready_no_fault t.wait g)
+stands_noted d p procs k body t own ps but (may_join g m e a) = sym (ready_no_fault t.wait g)
+stands_noted d p procs k body t own ps but (offers w a) = sym (ap noted_at w)
+stands_noted d p procs k body t own ps but (awaits w a) = sym (ap noted_at w)
+stands_noted d p procs k body t own ps but (chooses w a) = sym (ap noted_at w)
+stands_noted d p procs k body t own ps but (waits w m e a) = sym (ap noted_at w)
+stands_noted d p procs k body t own ps but (is_halted w) = sym (ap noted_at w)
+stands_noted d p procs k body t own ps but (has_failed w) = sym (ap noted_at w)
+stands_noted d p procs k body t own ps but (has_ended w) = sym (ap noted_at w)

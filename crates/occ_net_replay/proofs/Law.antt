@@ -5,8 +5,8 @@ use mathlib.Core.Bool.{true≢false}
 use Rattle.occ_term.specs.declared.primitive.Primitive.TheVariants.{Byte}
 use Rattle.occ_term.specs.declared.protocol.Protocol.TheVariants.{Simple}
 use Rattle.occ_term.specs.Processes.{Numbered, numbered, processes_of}
-use Rattle.occ_term.specs.Runs.{Event, event, Run, no_turn, communications, messages_on}
-use Rattle.occ_term.specs.System.{System, start, HaltMode}
+use Rattle.occ_term.specs.Runs.{EndsBy, Event, event, Run, no_turn, communications, messages_on}
+use Rattle.occ_term.specs.System.{System, start, noted_in}
 use Rattle.occ_term.specs.TermTyping.{Declared}
 use Rattle.occ_term.specs.Terms.{Term, Branches, no_branches, and_branch}
 use Rattle.occ_term.specs.Unfolding.{Unfolding, IsWellFormed, Lawful, meaning, declared}
@@ -17,11 +17,12 @@ use Rattle.occ_code.specs.Sequential.Machine.{Body, Stopping}
 use Rattle.occ_code.specs.declared.task.Task.{Task}
 use Rattle.occ_code.specs.declared.task.Wait.TheVariants.{Joins}
 use Rattle.occ_net_replay.specs.declared.choice.Choice.{Choice}
-use Rattle.occ_net_replay.specs.Following.{AreBytes, Followed, OneNeverForks, ReplaysAreRuns, ReadyTasksStop, process_in}
+use Rattle.occ_net_replay.specs.Following.{AreBytes, Followed, NotedNeverEnd, OneNeverForks, ReplaysAreRuns, ReadyTasksStop, ending_as, mode_of, or_limit, process_in}
 use Rattle.occ_net_replay.specs.Replay.{Net, HasTask, may_go, Replays, begins, first_net, goes_on as replays_on}
 use Rattle.occ_net_replay.specs.Moments.{StandAlike, IsMoment, Accompanies, OneRunThroughout, at_start, after_turn, main_in}
 use Rattle.occ_net_replay.proofs.Moments.{stand_alike}
 use Rattle.occ_net_replay.proofs.Beginning.{first_follows, ends_as}
+use Rattle.occ_net_replay.proofs.EndedRuns.{ended_clean}
 use Rattle.occ_net_replay.proofs.Holding.{AgreesBut, agrees_all, Belongs, Stands, one_term}
 use Rattle.occ_net_replay.proofs.Runs.{listed, run_more, met_more, turns_more, on-append, FitAll, fit_append, fit_on}
 use Rattle.occ_net_replay.proofs.Settling.{Follows}
@@ -68,7 +69,7 @@ module _ (u : Unfolding) (p : Program) (quantum : ℕ) (kb : List ℕ) (w : IsWe
   pub record AllFollowed (k : ℕ) (net : Net) : Type 0 where
     pub events : List Event
     pub now : System
-    pub run : Run HaltMode quantum (start (meaning u) kb) events now
+    pub run : Run (mode_of p.errors) quantum (start (meaning u) kb) events now
     pub turns : map process_in events ≡ net.turns
     pub communicates : communications events ≡ net.trace
     pub follows : Follows d p procs (keyboard_protocol u w) quantum k net now
@@ -106,17 +107,17 @@ module _ (u : Unfolding) (p : Program) (quantum : ℕ) (kb : List ℕ) (w : IsWe
         input = λ i. x.input i ∙ ap (λ l. l ++ messages_on i (listed x.met)) (before.input i) ∙ sym (on-append i a.trace (listed x.met)) ∙ ap (messages_on i) (sym x.trace);
       }
 
-  abbrev followed_by : (k : ℕ) (net : Net) → AllFollowed k net → Followed u kb quantum net
+  abbrev followed_by : (k : ℕ) (net : Net) → AllFollowed k net → Followed u kb quantum p.errors net
   followed_by k net x =
-      record { events = x.events; system = x.now; run = x.run; turns = x.turns; communicates = x.communicates; output = x.output; input = x.input; fits = λ c. fit_on d.protocols c net.trace x.fits; ends = ends_as d p procs (keyboard_protocol u w) quantum k net x.now x.follows }
+      record { events = x.events; system = x.now; run = x.run; turns = x.turns; communicates = x.communicates; output = x.output; input = x.input; fits = λ c. fit_on d.protocols c net.trace x.fits; noted = ap noted_in x.follows.is ∙ x.follows.faults; ends = ends_as d p procs (keyboard_protocol u w) quantum k net x.now x.follows }
 
   from_start : (cs : List Choice) (net : Net) → length cs < 2 ^ 64 → Replays p kb cs net → AllFollowed 0 net
   from_start cs net small r = let bound : 0 + length cs < 2 ^ 64 = omega (arith, small) in all_followed cs net 0 bound r
 
-  followed : (cs : List Choice) (net : Net) → length cs < 2 ^ 64 → Replays p kb cs net → Followed u kb quantum net
+  followed : (cs : List Choice) (net : Net) → length cs < 2 ^ 64 → Replays p kb cs net → Followed u kb quantum p.errors net
   followed cs net small r = followed_by 0 net (from_start cs net small r)
 
-  shared : (cs : List Choice) (net : Net) → length cs < 2 ^ 64 → Replays p kb cs net → (f : Followed u kb quantum net) × SharesStore p net f.system
+  shared : (cs : List Choice) (net : Net) → length cs < 2 ^ 64 → Replays p kb cs net → (f : Followed u kb quantum p.errors net) × SharesStore p net f.system
   shared cs net small r = let x = from_start cs net small r in (followed_by 0 net x, shares_store d p procs (keyboard_protocol u w) quantum belongs 0 net x.now x.follows)
 
   is_moment : (k : ℕ) (net : Net) (x : AllFollowed k net) → IsMoment net x.now
@@ -130,7 +131,7 @@ module _ (u : Unfolding) (p : Program) (quantum : ℕ) (kb : List ℕ) (w : IsWe
       let bound : suc k + length ds < 2 ^ 64 = omega (arith, small, length-append ds (c ∷ [])) in
       after_turn (followed_by k net (all_followed cs net k small (replays_on r e o))) _ (accompanied ds a (suc k) bound r) o refl (is_moment k net (all_followed cs net k small (replays_on r e o)))
 
-  one_run : (cs : List Choice) (net : Net) → length cs < 2 ^ 64 → Replays p kb cs net → (f : Followed u kb quantum net) × Accompanies u p quantum kb cs net f
+  one_run : (cs : List Choice) (net : Net) → length cs < 2 ^ 64 → Replays p kb cs net → (f : Followed u kb quantum p.errors net) × Accompanies u p quantum kb cs net f
   one_run cs net small r = let bound : 0 + length cs < 2 ^ 64 = omega (arith, small) in (followed_by 0 net (all_followed cs net 0 bound r), accompanied cs net 0 bound r)
 
   stop_of : (n : ℕ) (net : Net) (now : System) (body : Body) (t : Task) → Follows d p procs (keyboard_protocol u w) quantum 1 net now → slice_get p.bodies n ≡ Some body → HasTask net.tasks n t → IsTrue (may_go t.wait) → (after : Task) × Stopping body t after
@@ -174,6 +175,11 @@ module _ (u : Unfolding) (p : Program) (quantum : ℕ) (kb : List ℕ) (w : IsWe
 
 pub replays_are_runs : ReplaysAreRuns
 replays_are_runs u p quantum kb cs net w lawful from bytes small r = followed u p quantum kb w lawful from bytes cs net small r
+
+pub noted_never_end : NotedNeverEnd
+noted_never_end u p quantum kb cs net w lawful from bytes small r e =
+    let f = followed u p quantum kb w lawful from bytes cs net small r in
+    sym f.noted ∙ ended_clean f.run (subst (λ z. EndsBy (mode_of p.errors) f.system (ending_as (or_limit z))) e f.ends)
 
 pub ready_tasks_stop : ReadyTasksStop
 ready_tasks_stop u p quantum kb cs net n body t w lawful from bytes small r code there may =

@@ -18,6 +18,7 @@ mod Joining
 mod Parents
 pub mod Faults
 mod Runs
+mod EndedRuns
 pub mod Settling
 mod Beginning
 mod Sharing

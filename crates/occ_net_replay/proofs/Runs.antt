@@ -8,7 +8,7 @@ use Rattle.occ_term.specs.declared.message.Message.{Message}
 use Rattle.occ_term.specs.declared.primitive.Primitive.TheVariants.{Byte}
 use Rattle.occ_term.specs.declared.protocol.Protocol.{Protocol}
 use Rattle.occ_term.specs.declared.protocol.Protocol.TheVariants.{Simple}
-use Rattle.occ_term.specs.System.{System, HaltMode, SystemTurn, End, Communication, communication}
+use Rattle.occ_term.specs.System.{Errors, System, SystemTurn, End, Communication, communication}
 use Rattle.occ_term.specs.Runs.{Event, event, Run, no_turn, goes, communications, sent_on, messages_on, MeetsAtMost}
 use Rattle.occ_code.specs.Alike.{FitsProtocol}
 use Rattle.occ_net_replay.specs.Following.{AllFit, process_in}
@@ -18,7 +18,7 @@ abbrev pub listed : Option Communication → List Communication
 listed None = []
 listed (Some x) = x ∷ []
 
-pub run_more : {q n : ℕ} {a b c d : System} {es : List Event} {x : Option Communication} → Run HaltMode q a es b → SystemTurn HaltMode q n b c → MeetsAtMost HaltMode n c x d → Run HaltMode q a (es ++ event n x ∷ []) d
+pub run_more : {errors : Errors} {q n : ℕ} {a b c d : System} {es : List Event} {x : Option Communication} → Run errors q a es b → SystemTurn errors q n b c → MeetsAtMost errors n c x d → Run errors q a (es ++ event n x ∷ []) d
 run_more no_turn t m = goes t m no_turn
 run_more (goes u k r) t m = goes u k (run_more r t m)
 

@@ -323,7 +323,7 @@ one_replay u p quantum kb cs a b w lawful from bytes small r s = replayed_once u
 pub record Passed (p : Program) (kb : List ℕ) (cs : List Choice) : Type 0 where
   pub net : Net
   pub replays : Replays p kb cs net
-  pub going : ending_of net ≡ None
+  pub going : ending_of p.errors net ≡ None
 
 -- a list is empty or has a last element
 ends_with : {X : Type 0} (xs : List X) → (xs ≡ []) ⊎ ((front : List X) × (x : X) × (xs ≡ front ++ x ∷ []))

@@ -11,7 +11,7 @@ use Rattle.occ_term.specs.declared.protocol.Protocol.TheVariants.{Simple}
 use Rattle.occ_term.specs.Frames.{is_held}
 use Rattle.occ_term.specs.Processes.{Numbered}
 use Rattle.occ_term.specs.Runs.{TakesPart, messages_on, MeetsAtMost, meets_none, meets_one, meets_skip}
-use Rattle.occ_term.specs.System.{Process, System, system, HaltMode, SystemTurn, End, OfProcess, Keyboard, Screen, Error, Communication, communication, has_byte, offers as offers_of, process_sends, keyboard_sends, Receives, process_receives, screen_receives, error_receives, Meets, meets as meets_in, passes_skip}
+use Rattle.occ_term.specs.System.{Process, System, system, MayGo, SystemTurn, End, OfProcess, Keyboard, Screen, Error, Communication, communication, has_byte, offers as offers_of, process_sends, keyboard_sends, Receives, process_receives, screen_receives, error_receives, Meets, meets as meets_in, passes_skip}
 use Rattle.occ_term.specs.TermTyping.{Declared}
 use Rattle.occ_term.specs.Values.{Store}
 use Rattle.occ_code.specs.Alike.{FitsProtocol, joined_with}
@@ -20,10 +20,10 @@ use Rattle.occ_code.specs.declared.task.Arm.{Arm}
 use Rattle.occ_code.specs.declared.task.Task.{Task}
 use Rattle.occ_code.specs.declared.task.Wait.{Wait}
 use Rattle.occ_code.specs.declared.task.Wait.TheVariants as W
-use Rattle.occ_net_replay.specs.Following.{AreBytes}
-use Rattle.occ_net_replay.specs.Replay.{Net, Tasks, HasTask, may_go, made_ready, has_taken, took_arm, byte_message, took_turn, with_task, standing, arm_chosen, task_gives, keyboard_gives, Gets, task_gets, arm_gets, screen_gets, error_gets, Joined, joined, traced, one_more, fault_of, first_fault, is_done, AreDone, merged, Happens, meets, skips, forks, joins, Settled, settles, stays}
+use Rattle.occ_net_replay.specs.Following.{AreBytes, mode_of}
+use Rattle.occ_net_replay.specs.Replay.{Net, Tasks, HasTask, may_go, made_ready, has_taken, took_arm, byte_message, took_turn, with_task, standing, arm_chosen, task_gives, keyboard_gives, Gets, task_gets, arm_gets, screen_gets, error_gets, Joined, joined, traced, one_more, noted_at, is_done, AreDone, merged, Happens, meets, skips, forks, joins, Settled, settles, stays}
 use Rattle.occ_net_replay.specs.Moments.{Quiet}
-use Rattle.occ_net_replay.proofs.Faults.{noted_as, no_fault, none_faulted, fault_is, ready_no_fault, uncalm_no_fault, part_waits}
+use Rattle.occ_net_replay.proofs.Faults.{uncalm_no_fault, part_waits}
 use Rattle.occ_net_replay.proofs.Holding.{Stands, branches_placed}
 use Rattle.occ_net_replay.proofs.Meeting.{gives_on, offered_fits, gets_on, arm_gets_by, arm_skips_by, chosen_same, offers_same}
 use Rattle.occ_net_replay.proofs.Quiet.{is_calm, still_not, done_at, done_map, done_is, done_has, done_still, quiet_again, quiet_stays}
@@ -34,7 +34,7 @@ use Rattle.occ_net_replay.proofs.Parents.{HasBranch, parent_once}
 use Rattle.occ_net_replay.proofs.Placed.{size}
 use Rattle.occ_net_replay.proofs.TakingTurns.{done_wait}
 use Rattle.occ_net_replay.proofs.Still.{meets_nobody}
-use Rattle.occ_net_replay.proofs.Tables.{set_same, set_other, set_back, same_or_not, task_once, or_else}
+use Rattle.occ_net_replay.proofs.Tables.{set_same, set_other, set_back, task_once, or_else}
 
 -- a branch of those that are all done
 pub done_among : (tasks : Tasks) (ns : List ℕ) → AreDone tasks ns → (i : ℕ) → IsTrue (is_held ns i) → IsTrue (done_at tasks i)
@@ -47,7 +47,7 @@ done_among tasks (x ∷ ns) g i h = by (or_else (nat_eq x i) (is_held ns i) h) (
 
 -- ---- where the process that took the turn may go on, and no task but those that may was changed
 
-module _ (old new : Net) (n : ℕ) (quiet : Quiet old) (clean : first_fault old.tasks ≡ None) (tasks : (i : ℕ) (t : Task) → HasTask new.tasks i t → IsTrue (may_go t.wait) ⊎ ((i ≡ n → ⊥) × HasTask old.tasks i t)) (bytes : (c : ℕ) → IsTrue (has_byte new.keyboard c) → IsTrue (has_byte old.keyboard c)) where
+module _ (old new : Net) (n : ℕ) (quiet : Quiet old) (tasks : (i : ℕ) (t : Task) → HasTask new.tasks i t → IsTrue (may_go t.wait) ⊎ ((i ≡ n → ⊥) × HasTask old.tasks i t)) (bytes : (c : ℕ) → IsTrue (has_byte new.keyboard c) → IsTrue (has_byte old.keyboard c)) where
   was : (i : ℕ) (t : Task) → HasTask new.tasks i t → IsFalse (may_go t.wait) → (i ≡ n → ⊥) × HasTask old.tasks i t
   was i t h f = by (tasks i t h)
     where
@@ -81,13 +81,6 @@ module _ (old new : Net) (n : ℕ) (quiet : Quiet old) (clean : first_fault old.
       quiet_again old new n quiet (λ i t h f k. (was i t h f).1) bytes mine_calm
       (λ i t ns h w g. quiet.unjoined i t ns (was i t h (still_not w refl)).1 w (done_before ns g))
 
-  pub clean_ready : first_fault new.tasks ≡ None
-  clean_ready = none_faulted new.tasks (λ i t h. by i t h (tasks i t h))
-    where
-      by : (i : ℕ) (t : Task) → HasTask new.tasks i t → IsTrue (may_go t.wait) ⊎ ((i ≡ n → ⊥) × HasTask old.tasks i t) → fault_of t.wait ≡ None
-      by i t h (inl g) = ready_no_fault t.wait g
-      by i t h (inr x) = no_fault old.tasks i t clean x.1
-
 -- ---- the steps of the replay
 
 module _ (d : Declared) (p : Program) (procs : List Numbered) (protocol : d.protocols 0 ≡ Some (Simple [] Byte)) (quantum : ℕ) where
@@ -100,7 +93,7 @@ module _ (d : Declared) (p : Program) (procs : List Numbered) (protocol : d.prot
     pub state : State d p procs k net.tasks proc store
     pub quiet : Quiet net
     pub bytes : AreBytes net.keyboard
-    pub faults : noted ≡ noted_as (first_fault net.tasks)
+    pub faults : noted ≡ net.noted
 
   -- the lists of all channels, after what was met
   abbrev pub Lists : (ℕ → List Message) → (ℕ → List Message) → Option Communication → Type 0
@@ -110,8 +103,8 @@ module _ (d : Declared) (p : Program) (procs : List Numbered) (protocol : d.prot
     pub met : Option Communication
     pub mid : System
     pub after : System
-    pub turn : SystemTurn HaltMode quantum n sys mid
-    pub meets_at : MeetsAtMost HaltMode n mid met after
+    pub turn : SystemTurn (mode_of p.errors) quantum n sys mid
+    pub meets_at : MeetsAtMost (mode_of p.errors) n mid met after
     pub follows : Follows k next after
     pub trace : next.trace ≡ net.trace ++ listed met
     pub turns : next.turns ≡ net.turns ++ n ∷ []
@@ -119,7 +112,7 @@ module _ (d : Declared) (p : Program) (procs : List Numbered) (protocol : d.prot
     pub output : Lists net.output next.output met
     pub input : Lists net.input next.input met
 
-  module _ (k n pick : ℕ) (net : Net) (sys : System) (before after : Task) (proc : Process) (s : Store) (noted : List Fault) (there : HasTask net.tasks n before) (quiet : Quiet net) (clean : first_fault net.tasks ≡ None) (bytes : AreBytes net.keyboard) (turn : SystemTurn HaltMode quantum n sys (system net.keyboard proc s noted)) (noted_is : noted ≡ noted_as (fault_of after.wait)) (st : State d p procs k (slice_set net.tasks n (Some after)) proc s) where
+  module _ (k n pick : ℕ) (net : Net) (sys : System) (before after : Task) (proc : Process) (s : Store) (noted : List Fault) (there : HasTask net.tasks n before) (quiet : Quiet net) (may : MayGo (mode_of p.errors) net.noted) (bytes : AreBytes net.keyboard) (turn : SystemTurn (mode_of p.errors) quantum n sys (system net.keyboard proc s noted)) (noted_is : noted ≡ net.noted ++ noted_at after.wait) (st : State d p procs k (slice_set net.tasks n (Some after)) proc s) where
     abbrev now : Net
     now = took_turn net n after
 
@@ -134,6 +127,10 @@ module _ (d : Declared) (p : Program) (procs : List Numbered) (protocol : d.prot
 
     standing_mid : (c : ℕ) → standing now c ≡ offers_of mid c
     standing_mid c = ap (λ b. has_byte net.keyboard c || b) (offers_same d p procs k now.tasks proc s st c)
+
+    -- where the turn ended with no fault, the system may go on
+    may_again : noted_at after.wait ≡ [] → MayGo (mode_of p.errors) noted
+    may_again e = subst (MayGo (mode_of p.errors)) (sym (noted_is ∙ ap (λ x. net.noted ++ x) e ∙ append-nil net.noted)) may
 
     -- ---- nothing happens
 
@@ -154,7 +151,7 @@ module _ (d : Declared) (p : Program) (procs : List Numbered) (protocol : d.prot
             state = st;
             quiet = q;
             bytes = bytes;
-            faults = noted_is ∙ sym (ap noted_as (fault_is now.tasks n after mine (λ i t e h. no_fault net.tasks i t clean (other i t h e))));
+            faults = noted_is;
           };
           trace = sym (append-nil net.trace);
           turns = refl;
@@ -165,15 +162,15 @@ module _ (d : Declared) (p : Program) (procs : List Numbered) (protocol : d.prot
 
     -- ---- a communication
 
-    next_met : (c : ℕ) (x y : End) (m : Message) (next : Net) (proc' : Process) → next.trace ≡ net.trace ++ communication c x y m ∷ [] → next.turns ≡ net.turns ++ n ∷ [] → next.output ≡ one_more net.output c m → next.input ≡ one_more net.input c m → noted ≡ [] → TakesPart n (communication c x y m) → Meets mid (communication c x y m) (system next.keyboard proc' s noted) → State d p procs k next.tasks proc' s → Quiet next → first_fault next.tasks ≡ None → AreBytes next.keyboard → FitsProtocol (d.protocols c) m → Next k n net next sys
-    next_met c x y m next proc' trace turns output input none part meets_mid state q calm bs fits =
+    next_met : (c : ℕ) (x y : End) (m : Message) (next : Net) (proc' : Process) → next.trace ≡ net.trace ++ communication c x y m ∷ [] → next.turns ≡ net.turns ++ n ∷ [] → next.output ≡ one_more net.output c m → next.input ≡ one_more net.input c m → MayGo (mode_of p.errors) noted → TakesPart n (communication c x y m) → Meets mid (communication c x y m) (system next.keyboard proc' s noted) → State d p procs k next.tasks proc' s → Quiet next → next.noted ≡ net.noted ++ noted_at after.wait → AreBytes next.keyboard → FitsProtocol (d.protocols c) m → Next k n net next sys
+    next_met c x y m next proc' trace turns output input again part meets_mid state q kept bs fits =
         record {
           met = Some (communication c x y m);
           mid = mid;
           after = system next.keyboard proc' s noted;
           turn = turn;
-          meets_at = meets_one none part meets_mid;
-          follows = record { proc = proc'; store = s; noted = noted; is = refl; state = state; quiet = q; bytes = bs; faults = none ∙ sym (ap noted_as calm) };
+          meets_at = meets_one again part meets_mid;
+          follows = record { proc = proc'; store = s; noted = noted; is = refl; state = state; quiet = q; bytes = bs; faults = noted_is ∙ sym kept };
           trace = trace;
           turns = turns;
           fits = (fits, tt);
@@ -232,7 +229,7 @@ module _ (d : Declared) (p : Program) (procs : List Numbered) (protocol : d.prot
     by_byte c b kb m e z q y proc' r =
         subst (λ x. Receives (offers_of (system x proc s noted)) c m y (system kb proc s noted) (system kb proc' s noted) → Meets (system x proc s noted) (communication c Keyboard y m) (system kb proc' s noted)) (sym e) (λ g. meets_in (keyboard_sends z q) g) r
 
-    module _ (none : noted ≡ []) where
+    module _ (again : MayGo (mode_of p.errors) noted) where
       -- a task gives
       given_to : (z c : ℕ) (u : Task) (m : Message) → (hz : HasTask now.tasks z u) → (wz : u.wait ≡ W.Offers c m) → (y : End) (b e : Net) → b ≡ record now { tasks = slice_set now.tasks z (Some (made_ready u)); output = one_more net.output c m } → Gets pick (standing now) c m y b e → TakesPart n (communication c (OfProcess z) y m) → Next k n net (traced e (communication c (OfProcess z) y m)) sys
       given_to z c u m hz wz y b e is (task_gets {n = w} {t = v} hw ww) part =
@@ -244,9 +241,9 @@ module _ (d : Declared) (p : Program) (procs : List Numbered) (protocol : d.prot
           let goal : Net → Net = λ x. traced (record x { tasks = slice_set x.tasks w (Some (has_taken v m)); input = one_more x.input c m }) (communication c (OfProcess z) (OfProcess w) m) in
           let new : Net = goal (record now { tasks = slice_set now.tasks z (Some (made_ready u)); output = one_more net.output c m }) in
           subst (λ x. Next k n net (goal x) sys) (sym is)
-          (next_met c (OfProcess z) (OfProcess w) m new two.proc' refl refl refl refl none part
+          (next_met c (OfProcess z) (OfProcess w) m new two.proc' refl refl refl refl again part
           (meets_in (process_sends one.changes) (process_receives two.changes)) two.state
-          (quiet_ready net new n quiet clean ready no_bytes_more) (clean_ready net new n quiet clean ready no_bytes_more) bytes fits)
+          (quiet_ready net new n quiet ready no_bytes_more) refl bytes fits)
       given_to z c u m hz wz y b e is (arm_gets {n = w} {t = v} {pri = pri} {arms = arms} {a = arm} hw ww q f) part =
           let one = gives_on d p procs k now.tasks proc s st z c u m hz wz in
           let fits = offered_fits d p procs k now.tasks proc s st z c u m hz wz in
@@ -257,9 +254,9 @@ module _ (d : Declared) (p : Program) (procs : List Numbered) (protocol : d.prot
           let goal : Net → Net = λ x. traced (record x { tasks = slice_set x.tasks w (Some (took_arm v arm (Some m))); input = one_more x.input c m }) (communication c (OfProcess z) (OfProcess w) m) in
           let new : Net = goal (record now { tasks = slice_set now.tasks z (Some (made_ready u)); output = one_more net.output c m }) in
           subst (λ x. Next k n net (goal x) sys) (sym is)
-          (next_met c (OfProcess z) (OfProcess w) m new two.proc' refl refl refl refl none part
+          (next_met c (OfProcess z) (OfProcess w) m new two.proc' refl refl refl refl again part
           (meets_in (process_sends one.changes) (process_receives two.changes)) two.state
-          (quiet_ready net new n quiet clean ready no_bytes_more) (clean_ready net new n quiet clean ready no_bytes_more) bytes fits)
+          (quiet_ready net new n quiet ready no_bytes_more) refl bytes fits)
       given_to z c u m hz wz y b e is (screen_gets g) part =
           let one = gives_on d p procs k now.tasks proc s st z c u m hz wz in
           let fits = offered_fits d p procs k now.tasks proc s st z c u m hz wz in
@@ -267,9 +264,9 @@ module _ (d : Declared) (p : Program) (procs : List Numbered) (protocol : d.prot
           let goal : Net → Net = λ x. traced (record x { input = one_more x.input c m }) (communication c (OfProcess z) Screen m) in
           let new : Net = goal (record now { tasks = slice_set now.tasks z (Some (made_ready u)); output = one_more net.output c m }) in
           subst (λ x. Next k n net (goal x) sys) (sym is)
-          (next_met c (OfProcess z) Screen m new one.proc' refl refl refl refl none part
+          (next_met c (OfProcess z) Screen m new one.proc' refl refl refl refl again part
           (meets_in (process_sends one.changes) (screen_receives g)) one.state
-          (quiet_ready net new n quiet clean ready no_bytes_more) (clean_ready net new n quiet clean ready no_bytes_more) bytes fits)
+          (quiet_ready net new n quiet ready no_bytes_more) refl bytes fits)
         where
           giver : TakesPart n (communication c (OfProcess z) Screen m) → z ≡ n
           giver (inl e) = number_is e
@@ -281,9 +278,9 @@ module _ (d : Declared) (p : Program) (procs : List Numbered) (protocol : d.prot
           let goal : Net → Net = λ x. traced (record x { input = one_more x.input c m }) (communication c (OfProcess z) Error m) in
           let new : Net = goal (record now { tasks = slice_set now.tasks z (Some (made_ready u)); output = one_more net.output c m }) in
           subst (λ x. Next k n net (goal x) sys) (sym is)
-          (next_met c (OfProcess z) Error m new one.proc' refl refl refl refl none part
+          (next_met c (OfProcess z) Error m new one.proc' refl refl refl refl again part
           (meets_in (process_sends one.changes) (error_receives g)) one.state
-          (quiet_ready net new n quiet clean ready no_bytes_more) (clean_ready net new n quiet clean ready no_bytes_more) bytes fits)
+          (quiet_ready net new n quiet ready no_bytes_more) refl bytes fits)
         where
           giver : TakesPart n (communication c (OfProcess z) Error m) → z ≡ n
           giver (inl e) = number_is e
@@ -299,9 +296,9 @@ module _ (d : Declared) (p : Program) (procs : List Numbered) (protocol : d.prot
           let goal : Net → Net = λ x. traced (record x { tasks = slice_set x.tasks w (Some (has_taken v m)); input = one_more x.input c m }) (communication c Keyboard (OfProcess w) m) in
           let new : Net = goal (record now { keyboard = kb; output = one_more net.output c m }) in
           subst (λ x. Next k n net (goal x) sys) (sym is)
-          (next_met c Keyboard (OfProcess w) m new two.proc' refl refl refl refl none part
+          (next_met c Keyboard (OfProcess w) m new two.proc' refl refl refl refl again part
           (by_byte c b kb m e z q (OfProcess w) two.proc' (process_receives two.changes)) two.state
-          (quiet_ready net new n quiet clean ready (fewer_bytes b kb e)) (clean_ready net new n quiet clean ready (fewer_bytes b kb e)) (subst AreBytes e bytes).1 fits)
+          (quiet_ready net new n quiet ready (fewer_bytes b kb e)) refl (subst AreBytes e bytes).1 fits)
       byte_to c b kb m e z q y a next is (arm_gets {n = w} {t = v} {pri = pri} {arms = arms} {a = arm} hw ww g f) part =
           let fits = byte_fit c b kb m e z q in
           let there' : HasTask now.tasks w v = subst (λ x. HasTask x.tasks w v) is hw in
@@ -311,9 +308,9 @@ module _ (d : Declared) (p : Program) (procs : List Numbered) (protocol : d.prot
           let goal : Net → Net = λ x. traced (record x { tasks = slice_set x.tasks w (Some (took_arm v arm (Some m))); input = one_more x.input c m }) (communication c Keyboard (OfProcess w) m) in
           let new : Net = goal (record now { keyboard = kb; output = one_more net.output c m }) in
           subst (λ x. Next k n net (goal x) sys) (sym is)
-          (next_met c Keyboard (OfProcess w) m new two.proc' refl refl refl refl none part
+          (next_met c Keyboard (OfProcess w) m new two.proc' refl refl refl refl again part
           (by_byte c b kb m e z q (OfProcess w) two.proc' (process_receives two.changes)) two.state
-          (quiet_ready net new n quiet clean ready (fewer_bytes b kb e)) (clean_ready net new n quiet clean ready (fewer_bytes b kb e)) (subst AreBytes e bytes).1 fits)
+          (quiet_ready net new n quiet ready (fewer_bytes b kb e)) refl (subst AreBytes e bytes).1 fits)
       byte_to c b kb m e z q y a next is (screen_gets g) part = let x = sym z ∙ g in absurd cc
       byte_to c b kb m e z q y a next is (error_gets g) part = let x = sym z ∙ g in absurd cc
 
@@ -322,7 +319,7 @@ module _ (d : Declared) (p : Program) (procs : List Numbered) (protocol : d.prot
     next_skips : (t : Task) (pri : Bool) (arms : List Arm) (arm : Arm) → HasTask now.tasks n t → t.wait ≡ W.Chooses pri arms → arm_chosen pri pick (standing now) arms ≡ Some arm → arm.chan ≡ None → Next k n net (with_task now n (took_arm t arm None)) sys
     next_skips t pri arms arm h w q f =
         let same : after ≡ t = task_once now.tasks n mine h in
-        let none : noted ≡ [] = noted_is ∙ ap (λ x. noted_as (fault_of x.wait)) same ∙ ap (λ x. noted_as (fault_of x)) w in
+        let again : MayGo (mode_of p.errors) noted = may_again (ap (λ x. noted_at x.wait) same ∙ ap noted_at w) in
         let chosen : arm_chosen pri pick (offers_of mid) arms ≡ Some arm = sym (chosen_same (λ a. a.chan) (standing now) (offers_of mid) standing_mid pri pick arms) ∙ q in
         let one = arm_skips_by d p procs k now.tasks proc s st n t pri pick arms arm (offers_of mid) h w chosen f in
         let new : Net = with_task now n (took_arm t arm None) in
@@ -332,8 +329,8 @@ module _ (d : Declared) (p : Program) (procs : List Numbered) (protocol : d.prot
           mid = mid;
           after = system net.keyboard one.proc' s noted;
           turn = turn;
-          meets_at = meets_skip none (passes_skip one.changes);
-          follows = record { proc = one.proc'; store = s; noted = noted; is = refl; state = one.state; quiet = quiet_ready net new n quiet clean ready no_bytes_more; bytes = bytes; faults = none ∙ sym (ap noted_as (clean_ready net new n quiet clean ready no_bytes_more)) };
+          meets_at = meets_skip again (passes_skip one.changes);
+          follows = record { proc = one.proc'; store = s; noted = noted; is = refl; state = one.state; quiet = quiet_ready net new n quiet ready no_bytes_more; bytes = bytes; faults = noted_is };
           trace = sym (append-nil net.trace);
           turns = refl;
           fits = tt;
@@ -404,27 +401,18 @@ module _ (d : Declared) (p : Program) (procs : List Numbered) (protocol : d.prot
           quiet_again net new n quiet (λ i u g f e. other i u (still_there i u g f).0 e) no_bytes_more
           (λ u g. ap (λ z. is_calm z.wait) (mine_after u g) ∙ ap is_calm (done_wait after.wait after_done)) join_unjoined
 
-      join_clean : first_fault new.tasks ≡ None
-      join_clean = none_faulted new.tasks (λ i u g. by i u g (same_or_not i n) (set_back now.tasks m i h g))
-        where
-          by : (i : ℕ) (u : Task) → HasTask new.tasks i u → (i ≡ n) ⊎ (i ≡ n → ⊥) → ((i ≡ m) × (u ≡ with_join)) ⊎ ((i ≡ m → ⊥) × HasTask now.tasks i u) → fault_of u.wait ≡ None
-          by i u g e (inl f) = ap (λ z. fault_of z.wait) f.1
-          by i u g (inl e) (inr f) = let same : u ≡ after = mine_after u (subst (λ z. HasTask new.tasks z u) e g) in ap (λ z. fault_of z.wait) same ∙ ap fault_of (done_wait after.wait after_done)
-          by i u g (inr e) (inr f) = no_fault net.tasks i u clean (other i u f.1 e)
-
       join_state : State d p procs k new.tasks proc s
       join_state = has_joined d p procs k now.tasks proc s st m t ns h w done
 
       next_joined : Next k n net new sys
       next_joined =
-          let none : noted ≡ [] = noted_is ∙ ap (λ x. noted_as (fault_of x)) (done_wait after.wait after_done) in
           record {
             met = None;
             mid = mid;
             after = mid;
             turn = turn;
             meets_at = meets_none (λ g x. meets_nobody d p procs k new proc s noted join_state join_quiet x);
-            follows = record { proc = proc; store = s; noted = noted; is = refl; state = join_state; quiet = join_quiet; bytes = bytes; faults = none ∙ sym (ap noted_as join_clean) };
+            follows = record { proc = proc; store = s; noted = noted; is = refl; state = join_state; quiet = join_quiet; bytes = bytes; faults = noted_is };
             trace = sym (append-nil net.trace);
             turns = refl;
             fits = tt;
@@ -434,13 +422,13 @@ module _ (d : Declared) (p : Program) (procs : List Numbered) (protocol : d.prot
 
     -- ---- what happens
 
-    joined_next : {x : Communication} {next : Net} → Joined pick now x next → TakesPart n x → noted ≡ [] → Next k n net next sys
-    joined_next (joined {c = c} {m = m} {y = y} {b = b} {d = e} (task_gives {n = z} {t = u} hz wz) g) part none = given_to none z c u m hz wz y b e refl g part
-    joined_next (joined {c = c} {m = m} {y = y} {b = a} {d = e} (keyboard_gives {b = b} {kb = kb} q z r) g) part none = byte_to none c b kb m q z r y a e refl g part
+    joined_next : {x : Communication} {next : Net} → Joined pick now x next → TakesPart n x → MayGo (mode_of p.errors) noted → Next k n net next sys
+    joined_next (joined {c = c} {m = m} {y = y} {b = b} {d = e} (task_gives {n = z} {t = u} hz wz) g) part again = given_to again z c u m hz wz y b e refl g part
+    joined_next (joined {c = c} {m = m} {y = y} {b = a} {d = e} (keyboard_gives {b = b} {kb = kb} q z r) g) part again = byte_to again c b kb m q z r y a e refl g part
 
     pub settle_next : {next : Net} → Settled p.bodies n pick now next → ((ns : List ℕ) → after.wait ≡ W.Joins ns → ⊥) → Next k n net next sys
     settle_next (stays none) no_fork = next_stays none
-    settle_next (settles (meets part j)) no_fork = joined_next j part (noted_is ∙ ap noted_as (uncalm_no_fault after.wait (part_waits now n after mine j part)))
+    settle_next (settles (meets part j)) no_fork = joined_next j part (may_again (uncalm_no_fault after.wait (part_waits now n after mine j part)))
     settle_next (settles (skips {t = t} {pri = pri} {arms = arms} {arm = arm} h w q f)) no_fork = next_skips t pri arms arm h w q f
     settle_next (settles (forks {t = t} {ns = ns} h w)) no_fork = let same : after ≡ t = task_once now.tasks n mine h in absurd (no_fork ns (ap (λ z. z.wait) same ∙ w))
     settle_next (settles (joins m {t = t} {ns = ns} h w among done)) no_fork = next_joined m t ns h w among done

@@ -1,8 +1,10 @@
 -- Each replay of the code of a program is followed by a run of the program.
-use Rattle.std.proofs.Common.{◌≡◌, ◌∙◌, refl, sym, ap, subst, Bool, IsTrue, IsFalse, ℕ, suc, ◌+◌, ◌<◌, ◌^◌, ◌%◌, ◌⊎◌, inl, inr, List, [], ◌++◌, Option, Some, None, length, arith, append-nil}
+use Rattle.std.proofs.Common.{◌≡◌, ◌∙◌, refl, sym, ap, subst, Bool, IsTrue, IsFalse, ℕ, suc, ◌+◌, ◌<◌, ◌^◌, ◌%◌, ◌⊎◌, inl, inr, List, [], ◌∷◌, ◌++◌, Some, None, length, arith, append-nil}
 use Rattle.std.specs.Prelude.{All, slice_get}
 use Rattle.std.proofs.lemmas.Option.{get_or_from_slice_get, slice_get_within}
 use mathlib.Core.Bool.{true≢false}
+use Rattle.occ_term.specs.declared.fault.Errors.{Errors}
+use Rattle.occ_term.specs.declared.fault.Errors.TheVariants.{Halt, Stop}
 use Rattle.occ_term.specs.declared.fault.Fault.{Fault}
 use Rattle.occ_term.specs.declared.primitive.Primitive.TheVariants.{Byte}
 use Rattle.occ_term.specs.declared.protocol.Protocol.TheVariants.{Simple}
@@ -10,7 +12,7 @@ use Rattle.occ_term.specs.Frames.{Variables, is_held}
 use Rattle.occ_term.specs.Processes.{Numbered, numbered}
 use Rattle.occ_term.specs.Runs.{meets_none}
 use Rattle.occ_term.specs.Steps.{Do, Forking, Context, Left, left, status}
-use Rattle.occ_term.specs.System.{no_processes, System, system, HaltMode, begun, branches_of, fault_noted, SystemTurn, system_turn, AllEnded}
+use Rattle.occ_term.specs.System.{no_processes, System, system, MayGo, begun, branches_of, fault_noted, SystemTurn, system_turn, AllEnded}
 use Rattle.occ_term.specs.TermTyping.{Declared}
 use Rattle.occ_term.specs.Terms.{Term, Skip, Branches, no_branches, and_branch}
 use Rattle.occ_term.specs.Uses.{empty_set, uses_of_branches}
@@ -22,9 +24,10 @@ use Rattle.occ_code.specs.declared.task.Task.{Task}
 use Rattle.occ_code.specs.declared.task.Wait.{Wait}
 use Rattle.occ_code.specs.declared.task.Wait.TheVariants as W
 use Rattle.occ_net_replay.specs.declared.choice.Choice.{Choice}
-use Rattle.occ_net_replay.specs.Replay.{Net, HasTask, may_go, ready_from, took_turn, with_branches, fault_of, first_fault, main_done, AreDone, ending_by, ending_of, OneTurn, Settled, settles, stays, meets, skips, forks, joins}
+use Rattle.occ_net_replay.specs.Replay.{Net, HasTask, may_go, ready_from, took_turn, with_branches, noted_at, first_noted, main_done, AreDone, ending_by, ending_of, OneTurn, Settled, settles, stays, meets, skips, forks, joins}
+use Rattle.occ_net_replay.specs.Following.{mode_of}
 use Rattle.occ_net_replay.specs.Moments.{Quiet}
-use Rattle.occ_net_replay.proofs.Faults.{noted_as, no_fault, none_faulted, ready_no_fault, part_waits, stands_noted}
+use Rattle.occ_net_replay.proofs.Faults.{part_waits, stands_noted}
 use Rattle.occ_net_replay.proofs.Forks.{Branch, branch_or_old, outside, same_branches}
 use Rattle.occ_net_replay.proofs.Holding.{SameNumbers, put, Belongs, Stands, Own}
 use Rattle.occ_net_replay.proofs.Joining.{forked, JoinsAs, joins_as}
@@ -40,9 +43,10 @@ use Rattle.occ_net_replay.proofs.TakingTurns.{Ran, ran, turned, small_now, Arriv
 
 -- ---- endings
 
-none_first : (f : Option Fault) (m : Bool) (r : List ℕ) → ending_by f m r ≡ None → f ≡ None
-none_first None m r e = refl
-none_first (Some x) m r e = cc
+may_take : (e : Errors) (noted : List Fault) (m : Bool) (r : List ℕ) → ending_by e (first_noted noted) m r ≡ None → MayGo (mode_of e) noted
+may_take Halt [] m r e = refl
+may_take Halt (x ∷ xs) m r e = cc
+may_take Stop noted m r e = tt
 
 joins_ready : (w : Wait) → IsTrue (may_go w) → w ≡ W.Done → ⊥
 joins_ready w g e = true≢false (sym g ∙ ap may_go e)
@@ -56,7 +60,7 @@ all_at P xs i x h e = subst P (get_or_from_slice_get xs i x x e) (h i x (slice_g
 module _ (d : Declared) (p : Program) (procs : List Numbered) (protocol : d.protocols 0 ≡ Some (Simple [] Byte)) (quantum : ℕ) (same_quantum : All (λ b. b.quantum ≡ quantum) p.bodies) (belongs_at : (n : ℕ) (t : Term) → slice_get procs n ≡ Some (numbered n t) → Belongs d p procs n) where
   -- ---- a turn
 
-  module _ (k n pick : ℕ) (net : Net) (sys : System) (f : Follows d p procs protocol quantum (suc k) net sys) (clean : first_fault net.tasks ≡ None) (before after : Task) (there : HasTask net.tasks n before) (may : IsTrue (may_go before.wait)) (body : Body) (has_body : slice_get p.bodies n ≡ Some body) (stop : Stopping body before after) where
+  module _ (k n pick : ℕ) (net : Net) (sys : System) (f : Follows d p procs protocol quantum (suc k) net sys) (going : MayGo (mode_of p.errors) net.noted) (before after : Task) (there : HasTask net.tasks n before) (may : IsTrue (may_go before.wait)) (body : Body) (has_body : slice_get p.bodies n ≡ Some body) (stop : Stopping body before after) where
     l : Live d p procs (suc k) net.tasks f.proc f.store n before
     l = live_at d p procs (suc k) net.tasks f.proc f.store n before f.state there (joins_ready before.wait may)
 
@@ -69,14 +73,11 @@ module _ (d : Declared) (p : Program) (procs : List Numbered) (protocol : d.prot
     r : Ran d p procs k quantum n net.tasks l.mine.belongs.body l.mine.belongs.term l.own l.branches f.store after
     r = ran d p procs k quantum n net.tasks f.proc f.store f.state l.own l.branches l.at l.mine l.all before after l.same there may its_quantum its_stop
 
-    silent : f.noted ≡ []
-    silent = f.faults ∙ ap noted_as clean
-
-    system_turns : SystemTurn HaltMode quantum n sys (system net.keyboard (put l.at r.rest (begun (status r.rest))) r.store (fault_noted (status r.rest)))
+    system_turns : SystemTurn (mode_of p.errors) quantum n sys (system net.keyboard (put l.at r.rest (begun (status r.rest))) r.store (net.noted ++ fault_noted (status r.rest)))
     system_turns =
-        subst (λ x. SystemTurn HaltMode quantum n x (system net.keyboard (put l.at r.rest (begun (status r.rest))) r.store (fault_noted (status r.rest)))) (sym f.is)
-        (subst (λ ns. SystemTurn HaltMode quantum n (system net.keyboard f.proc f.store f.noted) (system net.keyboard (put l.at r.rest (begun (status r.rest))) r.store (ns ++ fault_noted (status r.rest)))) silent
-        (system_turn silent (turn_put l.at r.goes r.turn)))
+        subst (λ x. SystemTurn (mode_of p.errors) quantum n x (system net.keyboard (put l.at r.rest (begun (status r.rest))) r.store (net.noted ++ fault_noted (status r.rest)))) (sym f.is)
+        (subst (λ ns. SystemTurn (mode_of p.errors) quantum n (system net.keyboard f.proc f.store f.noted) (system net.keyboard (put l.at r.rest (begun (status r.rest))) r.store (ns ++ fault_noted (status r.rest)))) f.faults
+        (system_turn (subst (MayGo (mode_of p.errors)) (sym f.faults) going) (turn_put l.at r.goes r.turn)))
 
     -- ---- a fork
 
@@ -157,25 +158,17 @@ module _ (d : Declared) (p : Program) (procs : List Numbered) (protocol : d.prot
       fork_quiet : Quiet new
       fork_quiet = quiet_again net new n f.quiet (λ i t h g e. other i t (was_there i t h g) e) (λ c h. h) (λ t h. ap (λ z. is_calm z.wait) (its_task t h) ∙ ap is_calm w) fork_unjoined
 
-      fork_clean : first_fault new.tasks ≡ None
-      fork_clean = none_faulted new.tasks (λ i t h. by i t h (same_or_not i n) (from i t h))
-        where
-          by : (i : ℕ) (t : Task) → HasTask new.tasks i t → (i ≡ n) ⊎ (i ≡ n → ⊥) → IsTrue (may_go t.wait) ⊎ HasTask now.tasks i t → fault_of t.wait ≡ None
-          by i t h (inl e) x = ap (λ z. fault_of z.wait) (its_task t (subst (λ z. HasTask new.tasks z t) e h)) ∙ ap fault_of w
-          by i t h (inr e) (inl g) = ready_no_fault t.wait g
-          by i t h (inr e) (inr x) = no_fault net.tasks i t clean (other i t x e)
-
       next_forked : Next d p procs protocol quantum k n net new sys
       next_forked =
-          let turn : SystemTurn HaltMode quantum n sys (system net.keyboard (put l.at (left (Forking bs) j) (branches_of bs)) r.store []) =
-          subst (λ z. SystemTurn HaltMode quantum n sys (system net.keyboard (put l.at z (begun (status z))) r.store (fault_noted (status z)))) is system_turns in
+          let turn : SystemTurn (mode_of p.errors) quantum n sys (system net.keyboard (put l.at (left (Forking bs) j) (branches_of bs)) r.store (net.noted ++ [])) =
+          subst (λ z. SystemTurn (mode_of p.errors) quantum n sys (system net.keyboard (put l.at z (begun (status z))) r.store (net.noted ++ fault_noted (status z)))) is system_turns in
           record {
             met = None;
-            mid = system net.keyboard (put l.at (left (Forking bs) j) (branches_of bs)) r.store [];
-            after = system net.keyboard (put l.at (left (Forking bs) j) (branches_of bs)) r.store [];
+            mid = system net.keyboard (put l.at (left (Forking bs) j) (branches_of bs)) r.store (net.noted ++ []);
+            after = system net.keyboard (put l.at (left (Forking bs) j) (branches_of bs)) r.store (net.noted ++ []);
             turn = turn;
-            meets_at = meets_none (λ g x. meets_nobody d p procs k new (put l.at (left (Forking bs) j) (branches_of bs)) r.store [] st fork_quiet x);
-            follows = record { proc = put l.at (left (Forking bs) j) (branches_of bs); store = r.store; noted = []; is = refl; state = st; quiet = fork_quiet; bytes = f.bytes; faults = sym (ap noted_as fork_clean) };
+            meets_at = meets_none (λ g x. meets_nobody d p procs k new (put l.at (left (Forking bs) j) (branches_of bs)) r.store (net.noted ++ []) st fork_quiet x);
+            follows = record { proc = put l.at (left (Forking bs) j) (branches_of bs); store = r.store; noted = net.noted ++ []; is = refl; state = st; quiet = fork_quiet; bytes = f.bytes; faults = ap (λ z. net.noted ++ noted_at z) (sym w) };
             trace = sym (append-nil net.trace);
             turns = refl;
             fits = tt;
@@ -203,29 +196,29 @@ module _ (d : Declared) (p : Program) (procs : List Numbered) (protocol : d.prot
 
   -- ---- any turn
 
-  pub one_turn : (k : ℕ) (c : Choice) (net next : Net) (sys : System) → Follows d p procs protocol quantum (suc k) net sys → ending_of net ≡ None → (o : OneTurn p c net next) → Next d p procs protocol quantum k o.number net next sys
+  pub one_turn : (k : ℕ) (c : Choice) (net next : Net) (sys : System) → Follows d p procs protocol quantum (suc k) net sys → ending_of p.errors net ≡ None → (o : OneTurn p c net next) → Next d p procs protocol quantum k o.number net next sys
   one_turn k c net next sys f e o =
-      let clean = none_first (first_fault net.tasks) (main_done net.tasks) (ready_from 0 net.tasks) e in
+      let going = may_take p.errors net.noted (main_done net.tasks) (ready_from 0 net.tasks) e in
       let y = ready_at 0 net.tasks (c.which % length (ready_from 0 net.tasks)) o.number o.selects in
       let place : y.place ≡ o.number = (let q = y.is in omega (arith, q)) in
       let same : y.task ≡ o.before = task_once net.tasks o.number (subst (λ z. HasTask net.tasks z y.task) place y.there) o.has_task in
       let may : IsTrue (may_go o.before.wait) = subst (λ z. IsTrue (may_go z.wait)) same y.may in
-      by clean may
+      by going may
     where
-      by : (clean : first_fault net.tasks ≡ None) → (may : IsTrue (may_go o.before.wait)) → Next d p procs protocol quantum k o.number net next sys
-      by clean may = arriving (r k o.number c.pick net sys f clean o.before o.after o.has_task may o.body o.has_body o.stops).rest refl (arrives d p procs k m.belongs.body o.after (r k o.number c.pick net sys f clean o.before o.after o.has_task may o.body o.has_body o.stops).rest o.after.wait refl (r k o.number c.pick net sys f clean o.before o.after o.has_task may o.body o.has_body o.stops).same)
+      by : (going : MayGo (mode_of p.errors) net.noted) → (may : IsTrue (may_go o.before.wait)) → Next d p procs protocol quantum k o.number net next sys
+      by going may = arriving (r k o.number c.pick net sys f going o.before o.after o.has_task may o.body o.has_body o.stops).rest refl (arrives d p procs k m.belongs.body o.after (r k o.number c.pick net sys f going o.before o.after o.has_task may o.body o.has_body o.stops).rest o.after.wait refl (r k o.number c.pick net sys f going o.before o.after o.has_task may o.body o.has_body o.stops).same)
         where
           live : Live d p procs (suc k) net.tasks f.proc f.store o.number o.before
-          live = l k o.number c.pick net sys f clean o.before o.after o.has_task may o.body o.has_body o.stops
+          live = l k o.number c.pick net sys f going o.before o.after o.has_task may o.body o.has_body o.stops
 
           m : Own d p procs (suc k) f.store net.tasks o.number live.own live.branches
           m = live.mine
 
           its : Ran d p procs k quantum o.number net.tasks m.belongs.body m.belongs.term live.own live.branches f.store o.after
-          its = r k o.number c.pick net sys f clean o.before o.after o.has_task may o.body o.has_body o.stops
+          its = r k o.number c.pick net sys f going o.before o.after o.has_task may o.body o.has_body o.stops
 
-          turns_to : SystemTurn HaltMode quantum o.number sys (system net.keyboard (put live.at its.rest (begun (status its.rest))) its.store (fault_noted (status its.rest)))
-          turns_to = system_turns k o.number c.pick net sys f clean o.before o.after o.has_task may o.body o.has_body o.stops
+          turns_to : SystemTurn (mode_of p.errors) quantum o.number sys (system net.keyboard (put live.at its.rest (begun (status its.rest))) its.store (net.noted ++ fault_noted (status its.rest)))
+          turns_to = system_turns k o.number c.pick net sys f going o.before o.after o.has_task may o.body o.has_body o.stops
 
           no_fork : (rest : Left) → its.rest ≡ rest → Stands d p procs k m.belongs.body o.after rest no_processes empty_set → (ns : List ℕ) → o.after.wait ≡ W.Joins ns → ⊥
           no_fork rest e' stands ns w = some_not x.branches x.same (subst (LeftPlaced procs (o.number + 1) (o.number + 1 + size m.belongs.term)) (e' ∙ x.own_is) its.placed).0.1
@@ -241,9 +234,9 @@ module _ (d : Declared) (p : Program) (procs : List Numbered) (protocol : d.prot
           arriving rest e' (arrived q stands) =
               let here_stands : Stands d p procs k m.belongs.body o.after its.rest no_processes empty_set = subst (λ z. Stands d p procs k m.belongs.body o.after z no_processes empty_set) (sym e') stands in
               let none : begun (status its.rest) ≡ no_processes = ap (λ z. begun (status z)) e' ∙ q in
-              let st = turned d p procs k quantum o.number net.tasks f.proc f.store f.state live.own live.branches live.at m live.all o.before o.after live.same o.has_task may (its_quantum k o.number c.pick net sys f clean o.before o.after o.has_task may o.body o.has_body o.stops) (its_stop k o.number c.pick net sys f clean o.before o.after o.has_task may o.body o.has_body o.stops) its here_stands in
-              settle_next d p procs protocol quantum k o.number c.pick net sys o.before o.after (put live.at its.rest no_processes) its.store (fault_noted (status its.rest)) o.has_task f.quiet clean f.bytes
-              (subst (λ z. SystemTurn HaltMode quantum o.number sys (system net.keyboard (put live.at its.rest z) its.store (fault_noted (status its.rest)))) none turns_to)
-              (stands_noted d p procs k m.belongs.body o.after its.rest no_processes empty_set here_stands) st o.settles (no_fork rest e' stands)
+              let st = turned d p procs k quantum o.number net.tasks f.proc f.store f.state live.own live.branches live.at m live.all o.before o.after live.same o.has_task may (its_quantum k o.number c.pick net sys f going o.before o.after o.has_task may o.body o.has_body o.stops) (its_stop k o.number c.pick net sys f going o.before o.after o.has_task may o.body o.has_body o.stops) its here_stands in
+              settle_next d p procs protocol quantum k o.number c.pick net sys o.before o.after (put live.at its.rest no_processes) its.store (net.noted ++ fault_noted (status its.rest)) o.has_task f.quiet going f.bytes
+              (subst (λ z. SystemTurn (mode_of p.errors) quantum o.number sys (system net.keyboard (put live.at its.rest z) its.store (net.noted ++ fault_noted (status its.rest)))) none turns_to)
+              (ap (λ z. net.noted ++ z) (stands_noted d p procs k m.belongs.body o.after its.rest no_processes empty_set here_stands)) st o.settles (no_fork rest e' stands)
           arriving rest e' (at_fork {ns = ns} {bs = bs} {j = j} w numbers go) =
-              fork_next k o.number c.pick net sys f clean o.before o.after o.has_task may o.body o.has_body o.stops bs j e' ns w numbers go o.settles
+              fork_next k o.number c.pick net sys f going o.before o.after o.has_task may o.body o.has_body o.stops bs j e' ns w numbers go o.settles

@@ -4,7 +4,7 @@ use Rattle.std.specs.Fmt.{decimal}
 use Rattle.occ_term.specs.declared.fault.FaultKind.{FaultKind}
 use Rattle.occ_term.specs.declared.fault.FaultKind.TheVariants.{Arith, Range, Convert, Shift, Count}
 use Rattle.occ_net_replay.specs.declared.ending.Ending.{Ending}
-use Rattle.occ_net_replay.specs.declared.ending.Ending.TheVariants.{Ended, Stopped, Fault, Limit}
+use Rattle.occ_net_replay.specs.declared.ending.Ending.TheVariants.{Ended, Stopped, Fault, StoppedBy, Limit}
 
 abbrev pub kind_text : FaultKind → List ℕ
 kind_text Arith = codes "ARITH"
@@ -17,4 +17,5 @@ abbrev pub ending_text : Ending → List ℕ
 ending_text Ended = codes "ended"
 ending_text Stopped = codes "stopped"
 ending_text (Fault fault) = codes "fault " ++ kind_text fault.kind ++ codes " line " ++ decimal fault.line
+ending_text (StoppedBy fault) = codes "stopped " ++ kind_text fault.kind ++ codes " line " ++ decimal fault.line
 ending_text Limit = codes "limit"

@@ -1,6 +1,8 @@
 -- Small networks of tasks, and what happens in them after a turn.
 use Rattle.std.specs.Prelude.{Bool, List, None, Option, Some, [], false, map, pos, true, ℕ, ℤ, ◌∷◌, ◌≡◌}
 use Rattle.occ_term.specs.Messages.{fault, message}
+use Rattle.occ_term.specs.declared.fault.Errors.TheVariants.{Halt, Stop}
+use Rattle.occ_term.specs.declared.fault.Fault.{Fault}
 use Rattle.occ_term.specs.declared.fault.FaultKind.TheVariants.{Arith}
 use Rattle.occ_term.specs.declared.message.Message.{Message}
 use Rattle.occ_term.specs.declared.message.Part.TheVariants.{One}
@@ -14,7 +16,7 @@ use Rattle.occ_code.specs.declared.task.Task.{Task}
 use Rattle.occ_code.specs.declared.task.Wait.{Wait}
 use Rattle.occ_code.specs.declared.task.Wait.TheVariants.{Ready, Took, Offers, Awaits, Chooses, Joins, Halted, Done, Faulted}
 use Rattle.occ_net_replay.specs.declared.ending.Ending.TheVariants as ending
-use Rattle.occ_net_replay.specs.Replay.{Net, Tasks, Settled, byte_message, ending_of, ready_from, selected}
+use Rattle.occ_net_replay.specs.Replay.{Net, Tasks, Settled, byte_message, ending_of, ready_from, selected, took_turn}
 use Rattle.occ_net_replay.specs.Waiting.{channels_at, listens_on}
 
 -- ---- tasks and networks
@@ -31,7 +33,11 @@ abbrev pub task : ℕ → Wait → Option Task
 task n w = after n 2 (variables [] [] []) w
 
 abbrev pub net_of : List ℕ → Tasks → Net
-net_of keyboard tasks = record { tasks = tasks; keyboard = keyboard; output = λ c. []; input = λ c. []; trace = []; turns = [] }
+net_of keyboard tasks = record { tasks = tasks; keyboard = keyboard; output = λ c. []; input = λ c. []; trace = []; turns = []; noted = [] }
+
+-- without a keyboard, where these faults were noted
+abbrev pub noting : List Fault → Tasks → Net
+noting faults tasks = record (net_of [] tasks) { noted = faults }
 
 -- After a turn of the process n these tasks come to those, with these communications; each is in the lists of its channel.
 pub record LeadsTo (bodies : List Body) (n pick : ℕ) (a : Net) (tasks : Tasks) (met : List Communication) : Type 0 where
@@ -202,11 +208,39 @@ ForkRows =
     × LeadsTo bodies 1 0 (net_of [] (waiting ∷ branches Done Ready)) (waiting ∷ branches Done Ready) []
     × LeadsTo bodies 2 0 (net_of [] (waiting ∷ branches Done Halted)) (waiting ∷ branches Done Halted) []
 
--- ---- endings: a fault before all else, then the end of process 0, then that nobody is ready
+-- ---- what a turn notes that ends with a fault, or with another stop
+
+abbrev pub faulted : ℕ → Option Task
+faulted line = task 1 (Faulted (fault Arith line))
+
+abbrev pub faults_at : List ℕ → List Fault
+faults_at lines = map (fault Arith) lines
+
+-- where these faults were noted, and a turn of process 0 ends so
+abbrev pub noted_after : List ℕ → Wait → List Fault
+noted_after lines w = (took_turn (noting (faults_at lines) (None ∷ [])) 0 (record { number = 0; turns = 1; place = 6; frame = variables [] [] []; wait = w })).noted
+
+abbrev pub NotedRows : Type 0
+NotedRows =
+    (noted_after [] (Faulted (fault Arith 4)) ≡ faults_at (4 ∷ []))
+    × (noted_after (9 ∷ []) (Faulted (fault Arith 4)) ≡ faults_at (9 ∷ 4 ∷ []))
+    × (noted_after (9 ∷ []) Ready ≡ faults_at (9 ∷ []))
+    × (noted_after [] Halted ≡ [])
+
+-- ---- endings: a fault before all else, or beside the others; then the end of process 0, then that nobody is ready
 
 abbrev pub EndingRows : Type 0
 EndingRows =
-    (ending_of (net_of [] (task 0 (Joins (1 ∷ 2 ∷ [])) ∷ task 1 (Faulted (fault Arith 4)) ∷ task 2 Ready ∷ [])) ≡ Some (ending.Fault (fault Arith 4)))
-    × (ending_of (net_of [] (task 0 Done ∷ task 1 Done ∷ [])) ≡ Some ending.Ended)
-    × (ending_of (net_of [] (task 0 (Joins (1 ∷ [])) ∷ task 1 Halted ∷ [])) ≡ Some ending.Stopped)
-    × (ending_of (net_of [] (task 0 (Joins (1 ∷ [])) ∷ task 1 Ready ∷ None ∷ [])) ≡ None)
+    (ending_of Halt (noting (faults_at (4 ∷ [])) (task 0 (Joins (1 ∷ 2 ∷ [])) ∷ faulted 4 ∷ task 2 Ready ∷ [])) ≡ Some (ending.Fault (fault Arith 4)))
+    × (ending_of Halt (net_of [] (task 0 Done ∷ task 1 Done ∷ [])) ≡ Some ending.Ended)
+    × (ending_of Halt (net_of [] (task 0 (Joins (1 ∷ [])) ∷ task 1 Halted ∷ [])) ≡ Some ending.Stopped)
+    × (ending_of Halt (net_of [] (task 0 (Joins (1 ∷ [])) ∷ task 1 Ready ∷ None ∷ [])) ≡ None)
+
+-- where a fault stops its process alone: the others go on; of more faults the first noted, whatever their processes' numbers
+abbrev pub StopRows : Type 0
+StopRows =
+    (ending_of Stop (noting (faults_at (4 ∷ [])) (task 0 (Joins (1 ∷ 2 ∷ [])) ∷ faulted 4 ∷ task 2 Ready ∷ [])) ≡ None)
+    × (ending_of Stop (noting (faults_at (4 ∷ [])) (task 0 (Joins (1 ∷ 2 ∷ [])) ∷ faulted 4 ∷ task 2 Done ∷ [])) ≡ Some (ending.StoppedBy (fault Arith 4)))
+    × (ending_of Stop (noting (faults_at (5 ∷ 4 ∷ [])) (task 0 (Joins (1 ∷ 2 ∷ [])) ∷ faulted 4 ∷ faulted 5 ∷ [])) ≡ Some (ending.StoppedBy (fault Arith 5)))
+    × (ending_of Stop (net_of [] (task 0 Done ∷ task 1 Done ∷ [])) ≡ Some ending.Ended)
+    × (ending_of Stop (net_of [] (task 0 (Joins (1 ∷ [])) ∷ task 1 Halted ∷ [])) ≡ Some ending.Stopped)

@@ -1,9 +1,12 @@
 -- A run of the source that a replay of its compiled code follows.
 use Rattle.std.specs.Prelude.{IsTrue, List, None, Option, Some, [], length, map, slice_get, ℕ, ⊤, ◌+◌, ◌<◌, ◌^◌, ◌∷◌, ◌≡◌}
+use Rattle.occ_term.specs.declared.fault.Errors.{Errors}
+use Rattle.occ_term.specs.declared.fault.Errors.TheVariants.{Halt, Stop}
 use Rattle.occ_term.specs.declared.message.Message.{Message}
 use Rattle.occ_term.specs.declared.protocol.Protocol.{Protocol}
 use Rattle.occ_term.specs.Unfolding.{Unfolding, IsWellFormed, Lawful, declared, meaning}
-use Rattle.occ_term.specs.System.{System, start, HaltMode}
+use Rattle.occ_term.specs.System.{System, start, HaltMode, StopMode, noted_in}
+use Rattle.occ_term.specs.System as S
 use Rattle.occ_term.specs.Runs.{Event, event, Run, communications, messages_on, EndsBy}
 use Rattle.occ_term.specs.Runs as R
 use Rattle.occ_code.specs.Alike.{FitsProtocol}
@@ -16,10 +19,16 @@ use Rattle.occ_net_replay.specs.declared.ending.Ending.{Ending}
 use Rattle.occ_net_replay.specs.declared.ending.Ending.TheVariants as E
 use Rattle.occ_net_replay.specs.Replay.{Net, HasTask, may_go, ending_of, Replays}
 
+-- what a fault does
+abbrev pub mode_of : Errors → S.Errors
+mode_of Halt = HaltMode
+mode_of Stop = StopMode
+
 abbrev pub ending_as : Ending → R.Ending
 ending_as E.Ended = R.Ended
 ending_as E.Stopped = R.Stopped
 ending_as (E.Fault e) = R.FaultEnds e
+ending_as (E.StoppedBy e) = R.StoppedBy e
 ending_as E.Limit = R.Limit
 
 -- the run's ending; where there is none, it goes on
@@ -35,18 +44,20 @@ abbrev pub AllFit : Option Protocol → List Message → Type 0
 AllFit p [] = ⊤
 AllFit p (m ∷ ms) = FitsProtocol p m × AllFit p ms
 
--- The run takes a turn for each of the replay's, by the same process; it has the same communications and the same ending.
--- On each channel the messages output and those input are the communicated ones, in order, each of the channel's protocol.
-pub record Followed (u : Unfolding) (keyboard : List ℕ) (quantum : ℕ) (net : Net) : Type 0 where
+-- The run takes a turn for each of the replay's, by the same process; it has the same communications, notes the same faults, and
+-- has the same ending. On each channel the messages output and those input are the communicated ones, in order, each of the
+-- channel's protocol.
+pub record Followed (u : Unfolding) (keyboard : List ℕ) (quantum : ℕ) (errors : Errors) (net : Net) : Type 0 where
   pub events : List Event
   pub system : System
-  pub run : Run HaltMode quantum (start (meaning u) keyboard) events system
+  pub run : Run (mode_of errors) quantum (start (meaning u) keyboard) events system
   pub turns : map process_in events ≡ net.turns
   pub communicates : communications events ≡ net.trace
   pub output : (c : ℕ) → net.output c ≡ messages_on c net.trace
   pub input : (c : ℕ) → net.input c ≡ messages_on c net.trace
   pub fits : (c : ℕ) → AllFit ((declared u).protocols c) (messages_on c net.trace)
-  pub ends : EndsBy HaltMode system (ending_as (or_limit (ending_of net)))
+  pub noted : noted_in system ≡ net.noted
+  pub ends : EndsBy (mode_of errors) system (ending_as (or_limit (ending_of errors net)))
 
 -- what a keyboard may have
 abbrev pub AreBytes : List ℕ → Type 0
@@ -58,7 +69,14 @@ abbrev pub ReplaysAreRuns : Type 0
 ReplaysAreRuns =
     (u : Unfolding) (p : Program) (quantum : ℕ) (keyboard : List ℕ) (cs : List Choice) (net : Net)
     → IsWellFormed u → Lawful u → IsCompiledFrom u quantum p → AreBytes keyboard → length cs < 2 ^ 64
-    → Replays p keyboard cs net → Followed u keyboard quantum net
+    → Replays p keyboard cs net → Followed u keyboard quantum p.errors net
+
+-- What has noted a fault never ends: the process that faulted stands where it is, and those above it wait for it.
+abbrev pub NotedNeverEnd : Type 0
+NotedNeverEnd =
+    (u : Unfolding) (p : Program) (quantum : ℕ) (keyboard : List ℕ) (cs : List Choice) (net : Net)
+    → IsWellFormed u → Lawful u → IsCompiledFrom u quantum p → AreBytes keyboard → length cs < 2 ^ 64
+    → Replays p keyboard cs net → ending_of p.errors net ≡ Some E.Ended → net.noted ≡ []
 
 -- a task that may take a turn then has one
 abbrev pub ReadyTasksStop : Type 0

@@ -7,7 +7,7 @@ use Rattle.occ_net_replay.specs.Following.{AreBytes}
 use Rattle.occ_net_replay.specs.Replay.{Net, Replays}
 
 -- Two replays of the code of a lawful program by the same choices come to one network: its tasks, the bytes left, what was output and
--- input on each channel, the communications and the turns.
+-- input on each channel, the communications, the turns and the faults.
 abbrev pub OneReplay : Type 0
 OneReplay =
     (u : Unfolding) (p : Program) (quantum : ℕ) (keyboard : List ℕ) (cs : List Choice) (a b : Net)

@@ -9,6 +9,8 @@ use Rattle.occ_term.specs.Messages.{message}
 use Rattle.occ_term.specs.declared.message.Part.TheVariants.{One}
 use Rattle.occ_term.specs.declared.primitive.Primitive.TheVariants.{Byte}
 use Rattle.occ_term.specs.declared.message.Message.{Message}
+use Rattle.occ_term.specs.declared.fault.Errors.{Errors}
+use Rattle.occ_term.specs.declared.fault.Errors.TheVariants.{Halt, Stop}
 use Rattle.occ_term.specs.declared.fault.Fault.{Fault}
 use Rattle.occ_term.specs.Frames.{Variables, zero_frame, is_held, at, frame_with}
 use Rattle.occ_term.specs.Selecting.{chosen_of}
@@ -30,7 +32,7 @@ abbrev pub Tasks : Type 0
 Tasks = List (Option Task)
 
 -- The tasks; the keyboard's bytes that are left; for each channel the messages whose output and whose input is complete; the
--- communications, and who took a turn, in order.
+-- communications, who took a turn, and the faults that turns ended with, in order.
 pub record Net : Type 0 where
   pub tasks : Tasks
   pub keyboard : List ℕ
@@ -38,6 +40,7 @@ pub record Net : Type 0 where
   pub input : ℕ → List Message
   pub trace : List Communication
   pub turns : List ℕ
+  pub noted : List Fault
 
 -- the process with that number has this task
 abbrev pub HasTask : Tasks → ℕ → Task → Type 0
@@ -62,7 +65,7 @@ at_start [] = []
 at_start (b ∷ bs) = Some (first_task 0 0 (zero_frame b.cells b.loops)) ∷ none_begun bs
 
 abbrev pub first_net : Program → List ℕ → Net
-first_net p keyboard = record { tasks = at_start p.bodies; keyboard = keyboard; output = λ c. []; input = λ c. []; trace = []; turns = [] }
+first_net p keyboard = record { tasks = at_start p.bodies; keyboard = keyboard; output = λ c. []; input = λ c. []; trace = []; turns = []; noted = [] }
 
 -- ---- who may take a turn
 
@@ -90,9 +93,21 @@ ready_from n (t ∷ ts) = if goes t then n ∷ ready_from (n + 1) ts else ready_
 abbrev pub selected : List ℕ → ℕ → Option ℕ
 selected ready which = slice_get ready (which % length ready)
 
+-- the fault that a turn ends with, if any
+abbrev pub noted_at : Wait → List Fault
+noted_at Ready = []
+noted_at (Took arm indices m) = []
+noted_at (Offers c m) = []
+noted_at (Awaits c) = []
+noted_at (Chooses pri arms) = []
+noted_at (Joins ns) = []
+noted_at Halted = []
+noted_at Done = []
+noted_at (Faulted e) = e ∷ []
+
 -- after a turn of the process with that number
 abbrev pub took_turn : Net → ℕ → Task → Net
-took_turn net n t = record net { tasks = slice_set net.tasks n (Some t); turns = net.turns ++ n ∷ [] }
+took_turn net n t = record net { tasks = slice_set net.tasks n (Some t); turns = net.turns ++ n ∷ []; noted = net.noted ++ noted_at t.wait }
 
 -- ---- communication
 
@@ -242,39 +257,31 @@ pub data Settled (bodies : List Body) (n pick : ℕ) : Net → Net → Type 0 wh
 
 -- ---- endings
 
-abbrev pub fault_of : Wait → Option Fault
-fault_of Ready = None
-fault_of (Took arm indices m) = None
-fault_of (Offers c m) = None
-fault_of (Awaits c) = None
-fault_of (Chooses pri arms) = None
-fault_of (Joins ns) = None
-fault_of Halted = None
-fault_of Done = None
-fault_of (Faulted e) = Some e
-
-abbrev pub or_later : Option Fault → Option Fault → Option Fault
-or_later None later = later
-or_later (Some e) later = Some e
-
-abbrev pub first_fault : Tasks → Option Fault
-first_fault [] = None
-first_fault (None ∷ ts) = first_fault ts
-first_fault (Some t ∷ ts) = or_later (fault_of t.wait) (first_fault ts)
-
 abbrev pub main_done : Tasks → Bool
 main_done [] = false
 main_done (t ∷ ts) = ended t
 
-abbrev pub ending_by : Option Fault → Bool → List ℕ → Option Ending
-ending_by (Some e) done ready = Some (ending.Fault e)
-ending_by None true ready = Some ending.Ended
-ending_by None false [] = Some ending.Stopped
-ending_by None false (n ∷ ns) = None
+abbrev pub first_noted : List Fault → Option Fault
+first_noted faults = slice_get faults 0
 
--- a fault ends the network; else the end of process 0; else it is stopped where no process may take a turn
-abbrev pub ending_of : Net → Option Ending
-ending_of net = ending_by (first_fault net.tasks) (main_done net.tasks) (ready_from 0 net.tasks)
+abbrev pub stopped_by : Option Fault → Ending
+stopped_by None = ending.Stopped
+stopped_by (Some e) = ending.StoppedBy e
+
+-- the end of process 0; else it is stopped where no process may take a turn
+abbrev pub standing_by : Option Fault → Bool → List ℕ → Option Ending
+standing_by fault true ready = Some ending.Ended
+standing_by fault false [] = Some (stopped_by fault)
+standing_by fault false (n ∷ ns) = None
+
+-- the first fault ends the network, or it stopped its process alone
+abbrev pub ending_by : Errors → Option Fault → Bool → List ℕ → Option Ending
+ending_by Halt None done ready = standing_by None done ready
+ending_by Halt (Some e) done ready = Some (ending.Fault e)
+ending_by Stop fault done ready = standing_by fault done ready
+
+abbrev pub ending_of : Errors → Net → Option Ending
+ending_of errors net = ending_by errors (first_noted net.noted) (main_done net.tasks) (ready_from 0 net.tasks)
 
 -- ---- replay
 
@@ -293,4 +300,4 @@ pub record OneTurn (p : Program) (c : Choice) (a b : Net) : Type 0 where
 -- a turn for each choice, none after an ending
 pub data Replays (p : Program) (keyboard : List ℕ) : List Choice → Net → Type 0 where
   begins : Replays p keyboard [] (first_net p keyboard)
-  goes_on : {cs : List Choice} {c : Choice} {a b : Net} → Replays p keyboard cs a → ending_of a ≡ None → OneTurn p c a b → Replays p keyboard (cs ++ c ∷ []) b
+  goes_on : {cs : List Choice} {c : Choice} {a b : Net} → Replays p keyboard cs a → ending_of p.errors a ≡ None → OneTurn p c a b → Replays p keyboard (cs ++ c ∷ []) b

@@ -36,4 +36,4 @@ abbrev pub ReplaysShareStore : Type 0
 ReplaysShareStore =
     (u : Unfolding) (p : Program) (quantum : ℕ) (keyboard : List ℕ) (cs : List Choice) (net : Net)
     → IsWellFormed u → Lawful u → IsCompiledFrom u quantum p → AreBytes keyboard → length cs < 2 ^ 64
-    → Replays p keyboard cs net → (f : Followed u keyboard quantum net) × SharesStore p net f.system
+    → Replays p keyboard cs net → (f : Followed u keyboard quantum p.errors net) × SharesStore p net f.system

@@ -10,10 +10,12 @@ use std::fmt;
 pub enum Ending {
     /// The main process came to its end.
     Ended,
-    /// No process can go on.
+    /// No process can go on, and no evaluation faulted.
     Stopped,
-    /// An evaluation faulted.
+    /// An evaluation faulted, which ends the run.
     Fault(Fault),
+    /// No process can go on. Evaluations faulted, this one first, and each stopped its process alone.
+    StoppedBy(Fault),
     /// The choices were used up, and the run could go on.
     Limit,
 }
@@ -47,6 +49,11 @@ impl fmt::Display for Ending {
                 let kind = KindName(fault.kind);
                 let line = fault.line;
                 write!(f, "fault {kind} line {line}")
+            }
+            Ending::StoppedBy(fault) => {
+                let kind = KindName(fault.kind);
+                let line = fault.line;
+                write!(f, "stopped {kind} line {line}")
             }
             Ending::Limit => write!(f, "limit"),
         }

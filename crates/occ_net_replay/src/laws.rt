@@ -3,8 +3,8 @@
 ghost use Rattle.occ_term.specs.Examples.{PriorityTakesFirst};
 ghost use Rattle.occ_code.specs.declared.task.Arm.{Arm};
 ghost use Rattle.occ_net_replay.specs.Choosing.{ChoicesTakeReadyArms, OffersReachChoices};
-ghost use Rattle.occ_net_replay.specs.Examples.{ChoiceRows, ClosedRows, EndingRows, ForkRows, LateOfferRows, ListenRows, MeetingRows, FirstWithPriority, SkipRows, TurnRows};
-ghost use Rattle.occ_net_replay.specs.Following.{OneNeverForks, ReadyTasksStop, ReplaysAreRuns};
+ghost use Rattle.occ_net_replay.specs.Examples.{ChoiceRows, ClosedRows, EndingRows, ForkRows, LateOfferRows, ListenRows, MeetingRows, NotedRows, FirstWithPriority, SkipRows, StopRows, TurnRows};
+ghost use Rattle.occ_net_replay.specs.Following.{NotedNeverEnd, OneNeverForks, ReadyTasksStop, ReplaysAreRuns};
 ghost use Rattle.occ_net_replay.specs.MomentExamples.{MissingRows, OtherStopRows, SameStopRows, UnquietRows};
 ghost use Rattle.occ_net_replay.specs.Moments.{OneRunThroughout, RunsGoOn};
 ghost use Rattle.occ_net_replay.specs.OneReplay.{OneReplay};
@@ -14,6 +14,11 @@ ghost use Rattle.occ_net_replay.specs.Waiting.{TurnsAreFew, TurnsForkAlone, Turn
 /// A replay of the code of a lawful program is a run of the program.
 pub fn replays_are_runs()
     ensures { ReplaysAreRuns }
+{}
+
+/// A replay that has noted a fault never comes to its end.
+pub fn noted_never_end()
+    ensures { NotedNeverEnd }
 {}
 
 /// In a replay each task that may take a turn has one.
@@ -26,15 +31,17 @@ pub fn one_never_forks()
     ensures { OneNeverForks }
 {}
 
-/// What happens in small networks: who takes a turn, what meets, which arm is taken, forks, joins and
-/// endings.
+/// What happens in small networks: who takes a turn, what meets, which arm is taken, forks, joins,
+/// faults and endings.
 pub fn small_networks()
     ensures turns { TurnRows }
     ensures meetings { MeetingRows }
     ensures choices { ChoiceRows }
     ensures priority { FirstWithPriority }
     ensures forks { ForkRows }
+    ensures noted { NotedRows }
     ensures endings { EndingRows }
+    ensures stops { StopRows }
 {}
 
 /// Which arm is taken in small networks: where arms are closed, where there is SKIP, where an offer or

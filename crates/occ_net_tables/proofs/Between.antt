@@ -1,5 +1,5 @@
 -- Between a turn and what it makes possible: the task has taken the turn, and is left as ready.
-use Rattle.std.proofs.Common.{◌≡◌, ◌∙◌, refl, sym, ap, subst, Bool, true, false, IsTrue, ℕ, zero, suc, ◌+◌, ◌<◌, ◌⊎◌, inl, inr, List, [], ◌∷◌, ◌++◌, Option, Some, None, length, map, drop, arith}
+use Rattle.std.proofs.Common.{◌≡◌, ◌∙◌, refl, sym, ap, subst, Bool, true, false, IsTrue, ℕ, zero, suc, ◌+◌, ◌<◌, ◌⊎◌, inl, inr, List, [], ◌∷◌, ◌++◌, Option, Some, None, length, map, drop, arith, append-nil}
 use Rattle.std.specs.Prelude.{slice_get, slice_set, nat_eq, if◌then◌else◌, ◌||◌}
 use Rattle.std.proofs.lemmas.Bool.{eqb-true, eq-eqb}
 use Rattle.std.proofs.lemmas.List.{map-append}
@@ -14,7 +14,7 @@ use Rattle.occ_code.specs.declared.task.Arm.{Arm}
 use Rattle.occ_code.specs.declared.task.Task.{Task}
 use Rattle.occ_code.specs.declared.task.Wait.{Wait}
 use Rattle.occ_code.specs.declared.task.Wait.TheVariants as W
-use Rattle.occ_net_replay.specs.Replay.{Net, HasTask, first_fault, may_go, made_ready, byte_message, offers_among, one_more, standing, took_arm, with_task, traced, took_turn, offers_on, task_gives, keyboard_gives, screen_gets, error_gets, joined, meets, Settled, settles, stays}
+use Rattle.occ_net_replay.specs.Replay.{Net, HasTask, may_go, noted_at, made_ready, byte_message, offers_among, one_more, standing, took_arm, with_task, traced, took_turn, offers_on, task_gives, keyboard_gives, screen_gets, error_gets, joined, meets, Settled, settles, stays}
 use Rattle.occ_net_replay.specs.Waiting.{channels_at, listens_on}
 use Rattle.occ_net_replay.proofs.Tables.{OffersOn, offers_found, offers_there, or_else, or_first, or_second, set_same, set_other, set_back, task_once}
 use Rattle.occ_net_replay.specs.Moments.{NoneReady, is_read}
@@ -24,13 +24,13 @@ use Rattle.occ_net_tables.specs.declared.trace.Communication.{Communication}
 use Rattle.occ_net_tables.specs.declared.tables.Tables.{Tables}
 use Rattle.occ_net_tables.specs.Ready.{put_in}
 use Rattle.occ_net_tables.specs.Keys.{flat, entry_in}
-use Rattle.occ_net_tables.specs.Choosing.{TakesBy, offered_by}
+use Rattle.occ_net_tables.specs.Choosing.{TakesBy, by_input, by_choice, offered_by}
 use Rattle.occ_net_tables.specs.Holding.{Sound, Sized, communication_of, end_of}
 use Rattle.occ_net_tables.specs.Settling.{Mid, SettlesTo, Gave, TakesAlone, TookByte, TookFrom, IsOffering, reader_of, byte_on, sent}
 use Rattle.occ_net_replay.proofs.Arms.{chosen_by_new}
 use Rattle.occ_net_tables.proofs.Arms.{alone_is, gets_by, takes_as, taking}
 use Rattle.occ_net_tables.proofs.Keys.{all_length}
-use Rattle.occ_net_tables.proofs.OneChange.{either_way, set_twice, set_swap, set_length, clean_again, true_as}
+use Rattle.occ_net_tables.proofs.OneChange.{either_way, set_twice, set_swap, set_length, true_as}
 use Rattle.occ_net_tables.proofs.Meetings.{mine, Unmet, nothing}
 use Rattle.occ_net_tables.proofs.Steps.{IsListener, listener_is, listens_only, wake_listener, wake_offerer, takes}
 use Rattle.occ_net_replay.proofs.Quiet.{offers_is}
@@ -118,6 +118,11 @@ byte_within c keyboard used b e = by (nat_eq c 0) e
     by true e = within keyboard used e
     by false e = absurd cc
 
+-- what takes a message ended its turn with no fault
+takes_quietly : {pick c : ℕ} {offers : ℕ → Bool} {w : Wait} {a : Arm} → TakesBy pick offers c w a → noted_at w ≡ []
+takes_quietly by_input = refl
+takes_quietly (by_choice e f) = refl
+
 -- ---- the state between
 
 module _ (p : Program) (kb : List ℕ) (old : Tables) (number place : ℕ) (after : Task) (net : Net) (mid : Mid p kb old number place after net) where
@@ -127,8 +132,9 @@ module _ (p : Program) (kb : List ℕ) (old : Tables) (number place : ℕ) (afte
   pub there_old : HasTask old.tasks.items number (made_ready after)
   there_old = ap (λ l. slice_get l number) mid.tasks ∙ set_same net.tasks number (Some mid.before) (Some (made_ready after)) mid.has_task
 
-  pub clean_old : first_fault old.tasks.items ≡ None
-  clean_old = ap first_fault mid.tasks ∙ clean_again net.tasks number mid.before (made_ready after) mid.has_task mid.before.wait W.Ready refl refl refl mid.clean
+  -- what was noted before is all, where the turn ended with no fault
+  pub kept_quiet : (new : Tables) (v : Wait) → after.wait ≡ v → noted_at v ≡ [] → Sound new net.noted → Sound new now.noted
+  kept_quiet new v w e s = subst (Sound new) (sym (ap (λ z. net.noted ++ noted_at z) w ∙ ap (λ l. net.noted ++ l) e ∙ append-nil net.noted)) s
 
   pub waiting_old : (i : ℕ) (u : Task) → HasTask old.tasks.items i u → may_go u.wait ≡ false → (i ≡ number → ⊥) × HasTask net.tasks i u
   waiting_old i u h f = by (set_back net.tasks number i mid.has_task (sym (ap (λ l. slice_get l i) mid.tasks) ∙ h))
@@ -171,7 +177,7 @@ module _ (p : Program) (kb : List ℕ) (old : Tables) (number place : ℕ) (afte
   read_settles pick c m r w screen_reads = settles (meets (inl refl) (joined (task_gives (mine p.bodies pick number net mid.before after mid.has_task) w) (screen_gets refl)))
   read_settles pick c m r w error_reads = settles (meets (inl refl) (joined (task_gives (mine p.bodies pick number net mid.before after mid.has_task) w) (error_gets refl)))
 
-  pub was_read : (new : Tables) (pick c : ℕ) (m : Message) (r : End) → after.wait ≡ W.Offers c m → reader_of c ≡ Some r → new.tasks.items ≡ old.tasks.items → new.used ≡ old.used → new.trace.items ≡ old.trace.items ++ sent c (Process number) r m ∷ [] → Sound new → Sized p new → SettlesTo p kb pick number after net new
+  pub was_read : (new : Tables) (pick c : ℕ) (m : Message) (r : End) → after.wait ≡ W.Offers c m → reader_of c ≡ Some r → new.tasks.items ≡ old.tasks.items → new.used ≡ old.used → new.trace.items ≡ old.trace.items ++ sent c (Process number) r m ∷ [] → Sound new net.noted → Sized p new → SettlesTo p kb pick number after net new
   was_read new pick c m r w e tasks used trace sound sized =
       record {
         next = traced (record (with_task now number (made_ready after)) { output = one_more net.output c m; input = one_more net.input c m }) (S.communication c (S.OfProcess number) (end_of r) m);
@@ -180,7 +186,7 @@ module _ (p : Program) (kb : List ℕ) (old : Tables) (number place : ℕ) (afte
           tasks = as_ready ∙ sym tasks;
           bytes = bytes_same new used;
           trace = traced_by new (sent c (Process number) r m) trace;
-          sound = sound;
+          sound = kept_quiet new (W.Offers c m) w refl sound;
           sized = sized;
         };
       }
@@ -251,7 +257,7 @@ module _ (p : Program) (kb : List ℕ) (old : Tables) (number place : ℕ) (afte
       let a = x.arm in
       let took : TakesBy pick (standing now) c x.task.wait a = takes_as pick c (offered_by (Some c) []) (standing now) x.task.wait a (λ pri arms q. sym (chosen_by_new (standing net) (standing now) (offered_by (Some c) []) (stands_new c m w) pri pick arms (x.unready pri arms q))) x.takes in
       let there : HasTask (slice_set now.tasks number (Some (made_ready after))) taker x.task = ap (λ l. slice_get l taker) as_ready ∙ x.there in
-      let s = wake_listener old.tasks.items old.ready.items old.offering.items old.awaiting.items old.parents.items old.unfinished.items old.fault mid.sound clean_old taker x.task x.there x.task.wait a.place a.indices (Some m) x.listener refl in
+      let s = wake_listener old.tasks.items old.ready.items old.offering.items old.awaiting.items old.parents.items old.unfinished.items old.fault mid.sound taker x.task x.there x.task.wait a.place a.indices (Some m) x.listener refl in
       let given : Net = record (with_task now number (made_ready after)) { output = one_more net.output c m } in
       record {
         next = traced (record (with_task given taker (took_arm x.task a (Some m))) { input = one_more net.input c m }) (S.communication c (S.OfProcess number) (S.OfProcess taker) m);
@@ -260,7 +266,7 @@ module _ (p : Program) (kb : List ℕ) (old : Tables) (number place : ℕ) (afte
           tasks = ap (λ l. slice_set l taker (Some (took_arm x.task a (Some m)))) as_ready ∙ sym g.tasks;
           bytes = bytes_same new g.used;
           trace = traced_by new (sent c (Process number) (Process taker) m) g.trace;
-          sound = true_as g.tasks g.ready (ap (λ z. z.items) g.offering) g.awaiting (ap (λ z. z.items) g.parents) (ap (λ z. z.items) g.unfinished) g.fault s;
+          sound = kept_quiet new (W.Offers c m) w refl (true_as g.tasks g.ready (ap (λ z. z.items) g.offering) g.awaiting (ap (λ z. z.items) g.parents) (ap (λ z. z.items) g.unfinished) g.fault s);
           sized = record {
             tasks_are = ap length g.tasks ∙ set_length old.tasks.items taker (Some (took_arm x.task a (Some m))) ∙ mid.sized.tasks_are;
             offering_is = ap (λ z. length z.items) g.offering ∙ mid.sized.offering_is;
@@ -276,7 +282,7 @@ module _ (p : Program) (kb : List ℕ) (old : Tables) (number place : ℕ) (afte
   abbrev pub Nobody : ℕ → Type 0
   Nobody pick = Unmet p.bodies pick number net mid.before after mid.has_task
 
-  pub stays_as : (new : Tables) (pick : ℕ) (v : Wait) → after.wait ≡ v → Nobody pick → new.tasks.items ≡ slice_set old.tasks.items number (Some (ready_with (made_ready after) v)) → new.used ≡ old.used → new.trace.items ≡ old.trace.items → Sound new → Sized p new → SettlesTo p kb pick number after net new
+  pub stays_as : (new : Tables) (pick : ℕ) (v : Wait) → after.wait ≡ v → Nobody pick → new.tasks.items ≡ slice_set old.tasks.items number (Some (ready_with (made_ready after) v)) → new.used ≡ old.used → new.trace.items ≡ old.trace.items → Sound new now.noted → Sized p new → SettlesTo p kb pick number after net new
   stays_as new pick v w none tasks used trace sound sized =
       record {
         next = now;
@@ -290,8 +296,8 @@ module _ (p : Program) (kb : List ℕ) (old : Tables) (number place : ℕ) (afte
         };
       }
 
-  pub offer_waits : (new : Tables) (pick c : ℕ) (m : Message) → after.wait ≡ W.Offers c m → reader_of c ≡ None → entry_in old.awaiting.items c ≡ None → new.tasks.items ≡ slice_set old.tasks.items number (Some (ready_with (made_ready after) (W.Offers c m))) → new.used ≡ old.used → new.trace.items ≡ old.trace.items → Sound new → Sized p new → SettlesTo p kb pick number after net new
-  offer_waits new pick c m w unread empty tasks used trace sound sized = stays_as new pick (W.Offers c m) w none tasks used trace sound sized
+  pub offer_waits : (new : Tables) (pick c : ℕ) (m : Message) → after.wait ≡ W.Offers c m → reader_of c ≡ None → entry_in old.awaiting.items c ≡ None → new.tasks.items ≡ slice_set old.tasks.items number (Some (ready_with (made_ready after) (W.Offers c m))) → new.used ≡ old.used → new.trace.items ≡ old.trace.items → Sound new net.noted → Sized p new → SettlesTo p kb pick number after net new
+  offer_waits new pick c m w unread empty tasks used trace sound sized = stays_as new pick (W.Offers c m) w none tasks used trace (kept_quiet new (W.Offers c m) w refl sound) sized
     where
       none : Nobody pick
       none =
@@ -313,7 +319,7 @@ module _ (p : Program) (kb : List ℕ) (old : Tables) (number place : ℕ) (afte
       let rest = drop (old.used + 1) kb in
       let tasks = g.tasks (made_ready after) there_old in
       let m = byte_message b in
-      let s = takes old.tasks.items old.ready.items old.offering.items old.awaiting.items old.parents.items old.unfinished.items old.fault mid.sound clean_old number (made_ready after) there_old refl a.place a.indices (Some m) in
+      let s = takes old.tasks.items old.ready.items old.offering.items old.awaiting.items old.parents.items old.unfinished.items old.fault mid.sound number (made_ready after) there_old refl a.place a.indices (Some m) in
       let given : Net = record now { keyboard = rest; output = one_more net.output 0 m } in
       record {
         next = traced (record (with_task given number (took_arm after a (Some m))) { input = one_more net.input 0 m }) (S.communication 0 S.Keyboard (S.OfProcess number) m);
@@ -322,7 +328,7 @@ module _ (p : Program) (kb : List ℕ) (old : Tables) (number place : ℕ) (afte
           tasks = as_took a (Some m) ∙ sym tasks;
           bytes = ap (λ n. drop n kb) (sym g.used);
           trace = traced_by new (sent 0 Keyboard (Process number) m) g.trace;
-          sound = true_as tasks (ap (λ z. z.items) g.ready) (ap (λ z. z.items) g.offering) (ap (λ z. z.items) g.awaiting) (ap (λ z. z.items) g.parents) (ap (λ z. z.items) g.unfinished) g.fault s;
+          sound = kept_quiet new after.wait refl (takes_quietly t) (true_as tasks (ap (λ z. z.items) g.ready) (ap (λ z. z.items) g.offering) (ap (λ z. z.items) g.awaiting) (ap (λ z. z.items) g.parents) (ap (λ z. z.items) g.unfinished) g.fault s);
           sized = record {
             tasks_are = ap length tasks ∙ set_length old.tasks.items number (Some (took_arm (made_ready after) a (Some m))) ∙ mid.sized.tasks_are;
             offering_is = ap (λ z. length z.items) g.offering ∙ mid.sized.offering_is;
@@ -352,10 +358,9 @@ module _ (p : Program) (kb : List ℕ) (old : Tables) (number place : ℕ) (afte
       let m = o.message in
       let g = took o.task m o.there o.waits in
       let tasks = g.tasks (made_ready after) there_old in
-      let s = wake_offerer old.tasks.items old.ready.items old.offering.items old.awaiting.items old.parents.items old.unfinished.items old.fault mid.sound clean_old giver o.task o.there c m o.waits in
+      let s = wake_offerer old.tasks.items old.ready.items old.offering.items old.awaiting.items old.parents.items old.unfinished.items old.fault mid.sound giver o.task o.there c m o.waits in
       let still : HasTask (slice_set old.tasks.items giver (Some (made_ready o.task))) number (made_ready after) = set_other old.tasks.items giver number (Some (made_ready o.task)) (λ q. x.apart (sym q)) ∙ there_old in
-      let clean = clean_again old.tasks.items giver o.task (made_ready o.task) o.there (W.Offers c m) W.Ready o.waits refl refl clean_old in
-      let s' = takes (slice_set old.tasks.items giver (Some (made_ready o.task))) (put_in giver old.ready.items) (slice_set old.offering.items c None) old.awaiting.items old.parents.items old.unfinished.items old.fault s clean number (made_ready after) still refl a.place a.indices (Some m) in
+      let s' = takes (slice_set old.tasks.items giver (Some (made_ready o.task))) (put_in giver old.ready.items) (slice_set old.offering.items c None) old.awaiting.items old.parents.items old.unfinished.items old.fault s number (made_ready after) still refl a.place a.indices (Some m) in
       let given : HasTask now.tasks giver o.task = set_other net.tasks number giver (Some after) x.apart ∙ (waiting_old giver o.task o.there (ap may_go o.waits)).1 in
       let got : HasTask (slice_set now.tasks giver (Some (made_ready o.task))) number after = set_other now.tasks giver number (Some (made_ready o.task)) (λ q. x.apart (sym q)) ∙ mine p.bodies pick number net mid.before after mid.has_task in
       let after_giving : Net = record (with_task now giver (made_ready o.task)) { output = one_more net.output c m } in
@@ -369,7 +374,7 @@ module _ (p : Program) (kb : List ℕ) (old : Tables) (number place : ℕ) (afte
               ∙ set_swap old.tasks.items number giver (Some (took_arm after a (Some m))) (Some (made_ready o.task)) (λ q. x.apart (sym q)) ∙ sym tasks;
           bytes = bytes_same new g.used;
           trace = traced_by new (sent c (Process giver) (Process number) m) g.trace;
-          sound = true_as tasks g.ready g.offering (ap (λ z. z.items) g.awaiting) (ap (λ z. z.items) g.parents) (ap (λ z. z.items) g.unfinished) g.fault s';
+          sound = kept_quiet new after.wait refl (takes_quietly by) (true_as tasks g.ready g.offering (ap (λ z. z.items) g.awaiting) (ap (λ z. z.items) g.parents) (ap (λ z. z.items) g.unfinished) g.fault s');
           sized = record {
             tasks_are = ap length tasks ∙ set_length (slice_set old.tasks.items giver (Some (made_ready o.task))) number (Some (took_arm (made_ready after) a (Some m))) ∙ set_length old.tasks.items giver (Some (made_ready o.task)) ∙ mid.sized.tasks_are;
             offering_is = ap length g.offering ∙ set_length old.offering.items c None ∙ mid.sized.offering_is;
@@ -382,8 +387,8 @@ module _ (p : Program) (kb : List ℕ) (old : Tables) (number place : ℕ) (afte
 
   -- ---- the process waits for a message
 
-  pub await_waits : (new : Tables) (pick c : ℕ) → after.wait ≡ W.Awaits c → byte_on c kb old.used ≡ None → entry_in old.offering.items c ≡ None → new.tasks.items ≡ slice_set old.tasks.items number (Some (ready_with (made_ready after) (W.Awaits c))) → new.used ≡ old.used → new.trace.items ≡ old.trace.items → Sound new → Sized p new → SettlesTo p kb pick number after net new
-  await_waits new pick c w no_byte empty tasks used trace sound sized = stays_as new pick (W.Awaits c) w none tasks used trace sound sized
+  pub await_waits : (new : Tables) (pick c : ℕ) → after.wait ≡ W.Awaits c → byte_on c kb old.used ≡ None → entry_in old.offering.items c ≡ None → new.tasks.items ≡ slice_set old.tasks.items number (Some (ready_with (made_ready after) (W.Awaits c))) → new.used ≡ old.used → new.trace.items ≡ old.trace.items → Sound new net.noted → Sized p new → SettlesTo p kb pick number after net new
+  await_waits new pick c w no_byte empty tasks used trace sound sized = stays_as new pick (W.Awaits c) w none tasks used trace (kept_quiet new (W.Awaits c) w refl sound) sized
     where
       none : Nobody pick
       none =
@@ -399,11 +404,11 @@ module _ (p : Program) (kb : List ℕ) (old : Tables) (number place : ℕ) (afte
 
   -- ---- the process halted, or failed
 
-  pub halts : (new : Tables) (pick : ℕ) → after.wait ≡ W.Halted → new.tasks.items ≡ slice_set old.tasks.items number (Some (ready_with (made_ready after) W.Halted)) → new.used ≡ old.used → new.trace.items ≡ old.trace.items → Sound new → Sized p new → SettlesTo p kb pick number after net new
-  halts new pick w tasks used trace sound sized = stays_as new pick W.Halted w (record { offers = λ d x e. let q = sym w ∙ e in absurd cc; awaits = λ d e. let q = sym w ∙ e in absurd cc; unforked = λ ns e. let q = sym w ∙ e in cc; unjoined = λ e. let q = sym w ∙ e in absurd cc; unchosen = λ pri arms a e f. let q = sym w ∙ e in cc }) tasks used trace sound sized
+  pub halts : (new : Tables) (pick : ℕ) → after.wait ≡ W.Halted → new.tasks.items ≡ slice_set old.tasks.items number (Some (ready_with (made_ready after) W.Halted)) → new.used ≡ old.used → new.trace.items ≡ old.trace.items → Sound new net.noted → Sized p new → SettlesTo p kb pick number after net new
+  halts new pick w tasks used trace sound sized = stays_as new pick W.Halted w (record { offers = λ d x e. let q = sym w ∙ e in absurd cc; awaits = λ d e. let q = sym w ∙ e in absurd cc; unforked = λ ns e. let q = sym w ∙ e in cc; unjoined = λ e. let q = sym w ∙ e in absurd cc; unchosen = λ pri arms a e f. let q = sym w ∙ e in cc }) tasks used trace (kept_quiet new W.Halted w refl sound) sized
 
-  pub fails : (new : Tables) (pick : ℕ) (x : Fault) → after.wait ≡ W.Faulted x → new.tasks.items ≡ slice_set old.tasks.items number (Some (ready_with (made_ready after) (W.Faulted x))) → new.used ≡ old.used → new.trace.items ≡ old.trace.items → Sound new → Sized p new → SettlesTo p kb pick number after net new
-  fails new pick x w tasks used trace sound sized = stays_as new pick (W.Faulted x) w (record { offers = λ d y e. let q = sym w ∙ e in absurd cc; awaits = λ d e. let q = sym w ∙ e in absurd cc; unforked = λ ns e. let q = sym w ∙ e in cc; unjoined = λ e. let q = sym w ∙ e in absurd cc; unchosen = λ pri arms a e f. let q = sym w ∙ e in cc }) tasks used trace sound sized
+  pub fails : (new : Tables) (pick : ℕ) (x : Fault) → after.wait ≡ W.Faulted x → new.tasks.items ≡ slice_set old.tasks.items number (Some (ready_with (made_ready after) (W.Faulted x))) → new.used ≡ old.used → new.trace.items ≡ old.trace.items → Sound new (net.noted ++ x ∷ []) → Sized p new → SettlesTo p kb pick number after net new
+  fails new pick x w tasks used trace sound sized = stays_as new pick (W.Faulted x) w (record { offers = λ d y e. let q = sym w ∙ e in absurd cc; awaits = λ d e. let q = sym w ∙ e in absurd cc; unforked = λ ns e. let q = sym w ∙ e in cc; unjoined = λ e. let q = sym w ∙ e in absurd cc; unchosen = λ pri arms a e f. let q = sym w ∙ e in cc }) tasks used trace (subst (λ z. Sound new (net.noted ++ noted_at z)) (sym w) sound) sized
 
-  pub goes_on : (new : Tables) (pick : ℕ) → after.wait ≡ W.Ready → new.tasks.items ≡ old.tasks.items → new.used ≡ old.used → new.trace.items ≡ old.trace.items → Sound new → Sized p new → SettlesTo p kb pick number after net new
-  goes_on new pick w tasks used trace sound sized = stays_as new pick W.Ready w (record { offers = λ d x e. let q = sym w ∙ e in absurd cc; awaits = λ d e. let q = sym w ∙ e in absurd cc; unforked = λ ns e. let q = sym w ∙ e in cc; unjoined = λ e. let q = sym w ∙ e in absurd cc; unchosen = λ pri arms a e f. let q = sym w ∙ e in cc }) (tasks ∙ mid.tasks ∙ sym (set_twice net.tasks number (Some (made_ready after)) (Some (made_ready after))) ∙ ap (λ l. slice_set l number (Some (made_ready after))) (sym mid.tasks)) used trace sound sized
+  pub goes_on : (new : Tables) (pick : ℕ) → after.wait ≡ W.Ready → new.tasks.items ≡ old.tasks.items → new.used ≡ old.used → new.trace.items ≡ old.trace.items → Sound new net.noted → Sized p new → SettlesTo p kb pick number after net new
+  goes_on new pick w tasks used trace sound sized = stays_as new pick W.Ready w (record { offers = λ d x e. let q = sym w ∙ e in absurd cc; awaits = λ d e. let q = sym w ∙ e in absurd cc; unforked = λ ns e. let q = sym w ∙ e in cc; unjoined = λ e. let q = sym w ∙ e in absurd cc; unchosen = λ pri arms a e f. let q = sym w ∙ e in cc }) (tasks ∙ mid.tasks ∙ sym (set_twice net.tasks number (Some (made_ready after)) (Some (made_ready after))) ∙ ap (λ l. slice_set l number (Some (made_ready after))) (sym mid.tasks)) used trace (kept_quiet new W.Ready w refl sound) sized

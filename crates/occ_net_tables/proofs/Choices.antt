@@ -20,7 +20,7 @@ use Rattle.occ_net_tables.specs.Holding.{Sound, Sized, communication_of}
 use Rattle.occ_net_tables.specs.Settling.{Mid, SettlesTo, byte_on}
 use Rattle.occ_net_tables.specs.Keys.{entry_in}
 use Rattle.occ_net_tables.proofs.Arms.{byte_named, chosen_same}
-use Rattle.occ_net_tables.proofs.Between.{bytes_same, as_took, clean_old, giver_of, no_entry, none_given, now, stays_as, there_old, waiting_net, waiting_old}
+use Rattle.occ_net_tables.proofs.Between.{bytes_same, as_took, giver_of, kept_quiet, no_entry, none_given, now, stays_as, there_old, waiting_net, waiting_old}
 use Rattle.occ_net_tables.proofs.Meetings.{mine}
 use Rattle.occ_net_tables.proofs.OneChange.{set_length, true_as}
 use Rattle.occ_net_tables.proofs.Steps.{takes}
@@ -87,7 +87,7 @@ module _ (p : Program) (kb : List ℕ) (old : Tables) (number place : ℕ) (afte
 
   pub was_skipped : (new : Tables) (pick : ℕ) (a : Arm) → arm_chosen pri pick tabled arms ≡ Some a → a.chan ≡ None → new.tasks.items ≡ slice_set old.tasks.items number (Some (took_arm (made_ready after) a None)) → new.used ≡ old.used → new.trace.items ≡ old.trace.items → new.ready.items ≡ old.ready.items → new.offering.items ≡ old.offering.items → new.awaiting.items ≡ old.awaiting.items → new.parents.items ≡ old.parents.items → new.unfinished.items ≡ old.unfinished.items → new.fault ≡ old.fault → SettlesTo p kb pick number after net new
   was_skipped new pick a e f tasks used trace e1 e2 e3 e4 e5 e6 =
-      let s = takes old.tasks.items old.ready.items old.offering.items old.awaiting.items old.parents.items old.unfinished.items old.fault mid.sound (clean_old p kb old number place after net mid) number (made_ready after) (there_old p kb old number place after net mid) refl a.place a.indices None in
+      let s = takes old.tasks.items old.ready.items old.offering.items old.awaiting.items old.parents.items old.unfinished.items old.fault mid.sound number (made_ready after) (there_old p kb old number place after net mid) refl a.place a.indices None in
       record {
         next = with_task then_ number (took_arm after a None);
         settles = settles (skips at_number w (chosen_now pick ∙ e) f);
@@ -95,7 +95,7 @@ module _ (p : Program) (kb : List ℕ) (old : Tables) (number place : ℕ) (afte
           tasks = as_took p kb old number place after net mid a None ∙ sym tasks;
           bytes = bytes_same p kb old number place after net mid new used;
           trace = mid.trace ∙ ap (map communication_of) (sym trace);
-          sound = true_as tasks e1 e2 e3 e4 e5 e6 s;
+          sound = kept_quiet p kb old number place after net mid new (W.Chooses pri arms) w refl (true_as tasks e1 e2 e3 e4 e5 e6 s);
           sized = record {
             tasks_are = ap length tasks ∙ set_length old.tasks.items number (Some (took_arm (made_ready after) a None)) ∙ mid.sized.tasks_are;
             offering_is = ap length e2 ∙ mid.sized.offering_is;
@@ -108,7 +108,7 @@ module _ (p : Program) (kb : List ℕ) (old : Tables) (number place : ℕ) (afte
 
   -- ---- no arm is ready
 
-  pub choice_waits : (new : Tables) (pick : ℕ) → arm_chosen pri pick tabled arms ≡ None → new.tasks.items ≡ slice_set old.tasks.items number (Some (ready_with (made_ready after) (W.Chooses pri arms))) → new.used ≡ old.used → new.trace.items ≡ old.trace.items → Sound new → Sized p new → SettlesTo p kb pick number after net new
+  pub choice_waits : (new : Tables) (pick : ℕ) → arm_chosen pri pick tabled arms ≡ None → new.tasks.items ≡ slice_set old.tasks.items number (Some (ready_with (made_ready after) (W.Chooses pri arms))) → new.used ≡ old.used → new.trace.items ≡ old.trace.items → Sound new net.noted → Sized p new → SettlesTo p kb pick number after net new
   choice_waits new pick none tasks used trace sound sized =
       stays_as p kb old number place after net mid new pick (W.Chooses pri arms) w
       (record {
@@ -119,4 +119,4 @@ module _ (p : Program) (kb : List ℕ) (old : Tables) (number place : ℕ) (afte
         unchosen = λ b xs a e f. let q = sym w ∙ e in let same : pri ≡ b = cc in let list : arms ≡ xs = cc in
             let g : arm_chosen pri pick (standing then_) arms ≡ Some a = ap (λ z. arm_chosen z pick (standing then_) arms) same ∙ ap (λ z. arm_chosen b pick (standing then_) z) list ∙ f in
             let r : Some a ≡ None = sym g ∙ chosen_now pick ∙ none in cc;
-      }) tasks used trace sound sized
+      }) tasks used trace (kept_quiet p kb old number place after net mid new (W.Chooses pri arms) w refl sound) sized

@@ -10,16 +10,16 @@ use Rattle.occ_code.specs.Sequential.Compiled.{Program}
 use Rattle.occ_code.specs.declared.task.Task.{Task}
 use Rattle.occ_code.specs.declared.task.Wait.{Wait}
 use Rattle.occ_code.specs.declared.task.Wait.TheVariants as W
-use Rattle.occ_net_replay.specs.Replay.{Net, Tasks, HasTask, AreDone, ended, first_fault, may_go, made_ready, merged, with_task, joins, settles}
+use Rattle.occ_net_replay.specs.Replay.{Net, Tasks, HasTask, AreDone, ended, first_noted, may_go, made_ready, merged, with_task, joins, settles}
 use Rattle.occ_net_replay.proofs.Tables.{set_same, set_other, set_back, same_or_not, task_once}
 use Rattle.occ_net_replay.proofs.Settling.{done_among}
 use Rattle.occ_net_tables.specs.declared.tables.Tables.{Tables}
 use Rattle.occ_net_tables.specs.Holding.{AreTrue, AreCounted, IsOrdinary, Sized, communication_of, is_over, joins_on, undone}
 use Rattle.occ_net_tables.specs.Settling.{Mid, SettlesTo, Joining, JoinsBranches}
 use Rattle.occ_net_tables.specs.Keys.{entry_in}
-use Rattle.occ_net_tables.proofs.Between.{Nobody, as_after, clean_old, entry_there, no_entry, now, stays_as, there_old, waiting_net, waiting_old}
+use Rattle.occ_net_tables.proofs.Between.{Nobody, as_after, entry_there, kept_quiet, no_entry, now, stays_as, there_old, waiting_net, waiting_old}
 use Rattle.occ_net_tables.proofs.Keys.{all_length}
-use Rattle.occ_net_tables.proofs.OneChange.{clean_again, either_way, set_length, set_within, true_as}
+use Rattle.occ_net_tables.proofs.OneChange.{either_way, set_length, set_within, true_as}
 use Rattle.occ_net_tables.proofs.ReadyLists.{ready_rising}
 use Rattle.occ_net_tables.proofs.Steps.{rejoins, rest_done}
 use Rattle.occ_net_tables.proofs.Undone.{done_zero, one_less, undone_same, undone_zero}
@@ -125,12 +125,9 @@ module _ (p : Program) (kb : List ℕ) (old : Tables) (number place : ℕ) (afte
           apart (inr r) = r
 
   -- what is kept beside the tasks
-  pub true_then : (counts : List ℕ) → AreCounted then_done counts → AreTrue then_done (remove old.ready.items place) old.offering.items old.awaiting.items old.parents.items counts old.fault
+  pub true_then : (counts : List ℕ) → AreCounted then_done counts → AreTrue then_done (remove old.ready.items place) old.offering.items old.awaiting.items old.parents.items counts old.fault (first_noted net.noted)
   true_then counts counted =
-      rest_done old.tasks.items old.ready.items old.offering.items old.awaiting.items old.parents.items old.unfinished.items old.fault mid.sound (clean_old p kb old number place after net mid) number (made_ready after) here refl place mid.at_place ended_task refl counts counted
-
-  clean_then : first_fault then_done ≡ None
-  clean_then = clean_again old.tasks.items number (made_ready after) ended_task here W.Ready W.Done refl refl refl (clean_old p kb old number place after net mid)
+      rest_done old.tasks.items old.ready.items old.offering.items old.awaiting.items old.parents.items old.unfinished.items old.fault mid.sound number (made_ready after) here refl place mid.at_place ended_task refl counts counted
 
   nobody : ((m : ℕ) (u : Task) (ns : List ℕ) → HasTask net.tasks m u → u.wait ≡ W.Joins ns → IsTrue (is_held ns number) → AreDone then_done ns → ⊥) → (pick : ℕ) → Nobody p kb old number place after net mid pick
   nobody g pick =
@@ -148,14 +145,14 @@ module _ (p : Program) (kb : List ℕ) (old : Tables) (number place : ℕ) (afte
   ends_alone new pick none tasks used trace e1 e2 e3 e4 e5 e6 sized =
       stays_as p kb old number place after net mid new pick W.Done w
       (nobody (λ m u ns h v a done. no_entry old.parents.items number m none (stands_there m u ns (waiting_net p kb old number place after net mid m u h (ap may_go v)) v a)) pick) tasks used trace
-      (true_as tasks e1 e2 e3 e4 e5 e6 (true_then old.unfinished.items (counted_alone none))) sized
+      (kept_quiet p kb old number place after net mid new W.Done w refl (true_as tasks e1 e2 e3 e4 e5 e6 (true_then old.unfinished.items (counted_alone none)))) sized
 
   -- ---- another process waits for others as well
 
   pub ends_before : (new : Tables) (pick m : ℕ) (some : entry_in old.parents.items number ≡ Some m) (x : Parent m) → (undone then_done x.branches ≡ 0 → ⊥) → new.tasks.items ≡ then_done → new.used ≡ old.used → new.trace.items ≡ old.trace.items → new.ready.items ≡ remove old.ready.items place → new.offering.items ≡ old.offering.items → new.awaiting.items ≡ old.awaiting.items → new.parents.items ≡ old.parents.items → new.unfinished.items ≡ slice_set old.unfinished.items m (undone then_done x.branches) → new.fault ≡ old.fault → Sized p new → SettlesTo p kb pick number after net new
   ends_before new pick m some x more tasks used trace e1 e2 e3 e4 e5 e6 sized =
       stays_as p kb old number place after net mid new pick W.Done w (nobody others pick) tasks used trace
-      (true_as tasks e1 e2 e3 e4 e5 e6 (true_then (slice_set old.unfinished.items m (undone then_done x.branches)) (counted_less m some x))) sized
+      (kept_quiet p kb old number place after net mid new W.Done w refl (true_as tasks e1 e2 e3 e4 e5 e6 (true_then (slice_set old.unfinished.items m (undone then_done x.branches)) (counted_less m some x)))) sized
     where
       others : (j : ℕ) (u : Task) (ns : List ℕ) → HasTask net.tasks j u → u.wait ≡ W.Joins ns → IsTrue (is_held ns number) → AreDone then_done ns → ⊥
       others j u ns h v a done =
@@ -193,7 +190,7 @@ module _ (p : Program) (kb : List ℕ) (old : Tables) (number place : ℕ) (afte
       let g = join x.task x.branches there x.waits in
       let t = true_as tasks e1 e2 e3 e4 e5 e6 (true_then (slice_set old.unfinished.items m (undone then_done x.branches)) (counted_less m some x)) in
       let frame : Variables = merged p.bodies between.tasks.items x.branches x.task.frame in
-      let s = rejoins between.tasks.items between.ready.items between.offering.items between.awaiting.items between.parents.items between.unfinished.items between.fault t (ap first_fault tasks ∙ clean_then) m x.task there x.branches frame x.waits in
+      let s = rejoins between.tasks.items between.ready.items between.offering.items between.awaiting.items between.parents.items between.unfinished.items between.fault t m x.task there x.branches frame x.waits in
       let same : between.tasks.items ≡ (now p kb old number place after net mid).tasks = tasks ∙ as_after p kb old number place after net mid W.Done w in
       let there_now : HasTask (now p kb old number place after net mid).tasks m x.task = ap (λ l. slice_get l m) (sym same) ∙ there in
       let done : AreDone (now p kb old number place after net mid).tasks x.branches = subst (λ l. AreDone l x.branches) (sym tasks ∙ same) (undone_zero then_done x.branches none) in
@@ -204,7 +201,7 @@ module _ (p : Program) (kb : List ℕ) (old : Tables) (number place : ℕ) (afte
           tasks = sym (g.tasks ∙ ap (λ l. slice_set l m (Some (joined_with x.task (merged p.bodies l x.branches x.task.frame)))) same);
           bytes = mid.bytes ∙ ap (λ n. drop n kb) (sym (g.used ∙ used));
           trace = mid.trace ∙ ap (map communication_of) (sym (ap (λ z. z.items) g.trace ∙ trace));
-          sound = true_as g.tasks g.ready (ap (λ z. z.items) g.offering) (ap (λ z. z.items) g.awaiting) g.parents (ap (λ z. z.items) g.unfinished) g.fault s;
+          sound = kept_quiet p kb old number place after net mid new W.Done w refl (true_as g.tasks g.ready (ap (λ z. z.items) g.offering) (ap (λ z. z.items) g.awaiting) g.parents (ap (λ z. z.items) g.unfinished) g.fault s);
           sized = record {
             tasks_are = ap length g.tasks ∙ set_length between.tasks.items m (Some (joined_with x.task frame)) ∙ ap length tasks ∙ set_length old.tasks.items number (Some ended_task) ∙ mid.sized.tasks_are;
             offering_is = ap (λ z. length z.items) g.offering ∙ ap length e2 ∙ mid.sized.offering_is;

@@ -9,16 +9,15 @@ use Rattle.occ_code.specs.Sequential.Compiled.{Program}
 use Rattle.occ_code.specs.declared.task.Task.{Task}
 use Rattle.occ_code.specs.declared.task.Wait.{Wait}
 use Rattle.occ_code.specs.declared.task.Wait.TheVariants as W
-use Rattle.occ_net_replay.specs.Replay.{Net, Tasks, HasTask, ended, fault_of, first_fault, forks, goes, is_done, made_ready, may_go, offers_on, ready_from, settles, took_turn, with_branches}
+use Rattle.occ_net_replay.specs.Replay.{Net, Tasks, HasTask, ended, forks, goes, is_done, made_ready, may_go, offers_on, ready_from, settles, took_turn, with_branches}
 use Rattle.occ_net_replay.specs.Waiting.{listens_on}
 use Rattle.occ_net_replay.specs.Waiting.{ForksAlone}
-use Rattle.occ_net_replay.proofs.Faults.{no_fault, none_faulted}
 use Rattle.occ_net_replay.proofs.Tables.{set_other, same_or_not, task_once}
 use Rattle.occ_net_tables.specs.declared.tables.Tables.{Tables}
 use Rattle.occ_net_tables.specs.Holding.{AreCounted, IsOrdinary, IsTable, Stands, communication_of, is_over, joins_on, undone}
 use Rattle.occ_net_tables.specs.Settling.{AllBegan, MayBegin, Mid, SettlesTo}
 use Rattle.occ_net_tables.specs.Keys.{set_all}
-use Rattle.occ_net_tables.proofs.Between.{there_old, waiting_old}
+use Rattle.occ_net_tables.proofs.Between.{kept_quiet, there_old, waiting_old}
 use Rattle.occ_net_tables.proofs.Branches.{IsBegun, branches_begun, branches_length, branches_other, branches_swap}
 use Rattle.occ_net_tables.proofs.Ends.{joins_is}
 use Rattle.occ_net_tables.proofs.Keys.{all_here, all_length, all_other}
@@ -235,21 +234,6 @@ module _ (p : Program) (kb : List ℕ) (old : Tables) (number place : ℕ) (afte
       by (the_parent q r) = subst IsOrdinary (ap (λ z. z.wait) (sym r)) mid.ordinary
       by (another q n r) = mid.sound.ordinary j u (old_other j n ∙ r)
 
-  clean_forked : first_fault forked ≡ None
-  clean_forked = none_faulted forked (λ j u h. by j u (which j u h))
-    where
-      by : (j : ℕ) (u : Task) → Which j u → fault_of u.wait ≡ None
-      by j u (a_branch q r) = ap fault_of r
-      by j u (the_parent q r) = ap fault_of (ap (λ z. z.wait) r ∙ w)
-      by j u (another q n r) = no_fault net.tasks j u mid.clean r
-
-  fault_old : old.fault ≡ None
-  fault_old = mid.sound.fault_is ∙ none_faulted old.tasks.items (λ j u h. by j u (same_or_not j number) h)
-    where
-      by : (j : ℕ) (u : Task) → (j ≡ number) ⊎ (j ≡ number → ⊥) → HasTask old.tasks.items j u → fault_of u.wait ≡ None
-      by j u (inl e) h = let same : u ≡ made_ready after = task_once old.tasks.items number (subst (λ z. HasTask old.tasks.items z u) e h) there in ap (λ z. fault_of z.wait) same
-      by j u (inr n) h = no_fault net.tasks j u mid.clean (sym (old_other j n) ∙ h)
-
   pub forks_to : (between begun new : Tables) (pick : ℕ) → between.tasks.items ≡ emptied → between.ready.items ≡ remove old.ready.items place → between.offering ≡ old.offering → between.awaiting ≡ old.awaiting → between.parents ≡ old.parents → between.unfinished ≡ old.unfinished → between.fault ≡ old.fault → between.used ≡ old.used → between.trace ≡ old.trace → AllBegan p number after.frame between ns begun → new.tasks.items ≡ slice_set begun.tasks.items number (Some after) → new.ready.items ≡ begun.ready.items → new.offering ≡ begun.offering → new.awaiting ≡ begun.awaiting → new.parents ≡ begun.parents → new.unfinished.items ≡ slice_set begun.unfinished.items number (length ns) → new.fault ≡ begun.fault → new.used ≡ begun.used → new.trace ≡ begun.trace → SettlesTo p kb pick number after net new
   forks_to between begun new pick b1 b2 b3 b4 b5 b6 b7 b8 b9 g n1 n2 n3 n4 n5 n6 n7 n8 n9 =
       let begun_is : begun.tasks.items ≡ with_branches p.bodies after.frame ns emptied = g.tasks ∙ ap (with_branches p.bodies after.frame ns) b1 in
@@ -260,7 +244,7 @@ module _ (p : Program) (kb : List ℕ) (old : Tables) (number place : ℕ) (afte
       let awaiting : new.awaiting ≡ old.awaiting = n4 ∙ g.awaiting ∙ b4 in
       let parents : new.parents.items ≡ set_all ns (Some number) old.parents.items = ap (λ z. z.items) n5 ∙ g.parents ∙ ap (λ z. set_all ns (Some number) z.items) b5 in
       let unfinished : new.unfinished.items ≡ slice_set old.unfinished.items number (length ns) = n6 ∙ ap (λ z. slice_set z.items number (length ns)) (g.unfinished ∙ b6) in
-      let fault : new.fault ≡ None = n7 ∙ g.fault ∙ b7 ∙ fault_old in
+      let fault : new.fault ≡ old.fault = n7 ∙ g.fault ∙ b7 in
       record {
         next = record now { tasks = forked };
         settles = settles (forks (mine p.bodies pick number net mid.before after mid.has_task) w);
@@ -268,7 +252,7 @@ module _ (p : Program) (kb : List ℕ) (old : Tables) (number place : ℕ) (afte
           tasks = sym tasks;
           bytes = mid.bytes ∙ ap (λ n. drop n kb) (sym (n8 ∙ g.used ∙ b8));
           trace = mid.trace ∙ ap (λ z. map communication_of z.items) (sym (n9 ∙ g.trace ∙ b9));
-          sound = true_as tasks (ready ∙ ap (ready_from 0) tasks) (ap (λ z. z.items) offering) (ap (λ z. z.items) awaiting) refl refl fault
+          sound = kept_quiet p kb old number place after net mid new (W.Joins ns) w refl (true_as tasks (ready ∙ ap (ready_from 0) tasks) (ap (λ z. z.items) offering) (ap (λ z. z.items) awaiting) refl refl fault
               (record {
                 ready_is = refl;
                 offers = table_forked offers_on (λ c. refl) (λ c. refl) (λ c. refl) old.offering.items mid.sound.offers;
@@ -276,8 +260,8 @@ module _ (p : Program) (kb : List ℕ) (old : Tables) (number place : ℕ) (afte
                 joins = parents_forked new.parents.items parents;
                 counted = counted_forked new.unfinished.items unfinished;
                 ordinary = ordinary_forked;
-                fault_is = sym clean_forked;
-              });
+                fault_is = mid.sound.fault_is;
+              }));
           sized = record {
             tasks_are = ap length tasks ∙ branches_length p.bodies after.frame ns now.tasks ∙ many;
             offering_is = ap (λ z. length z.items) offering ∙ mid.sized.offering_is;

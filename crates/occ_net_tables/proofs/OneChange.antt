@@ -1,5 +1,5 @@
 -- One task is changed: what is kept beside the tasks stays true, or is changed as well.
-use Rattle.std.proofs.Common.{◌≡◌, ◌∙◌, refl, sym, ap, subst, Bool, true, false, IsTrue, ℕ, zero, suc, ◌+◌, ◌<◌, ◌⊎◌, inl, inr, List, [], ◌∷◌, Option, Some, None, length, arith}
+use Rattle.std.proofs.Common.{◌≡◌, ◌∙◌, refl, sym, ap, subst, Bool, true, false, IsTrue, ℕ, zero, suc, ◌+◌, ◌<◌, ◌⊎◌, inl, inr, List, [], ◌∷◌, Option, Some, length, arith}
 use Rattle.std.specs.Prelude.{slice_get, slice_set, if◌then◌else◌}
 use Rattle.std.specs.Option.{option_map_or}
 use mathlib.Core.Bool.{true≢false}
@@ -7,9 +7,8 @@ use Rattle.occ_term.specs.declared.fault.Fault.{Fault}
 use Rattle.occ_code.specs.declared.task.Task.{Task}
 use Rattle.occ_code.specs.declared.task.Wait.{Wait}
 use Rattle.occ_code.specs.declared.task.Wait.TheVariants as W
-use Rattle.occ_net_replay.specs.Replay.{Tasks, HasTask, ended, fault_of, first_fault, is_done}
+use Rattle.occ_net_replay.specs.Replay.{Tasks, HasTask, ended, is_done}
 use Rattle.occ_net_replay.proofs.Tables.{set_same, set_other, set_back, same_or_not, task_once}
-use Rattle.occ_net_replay.proofs.Faults.{no_fault, none_faulted}
 use Rattle.occ_net_tables.specs.Holding.{Stands, IsTable, is_over, undone, AreCounted, IsOrdinary, AreTrue}
 
 -- ---- lists that are set
@@ -160,15 +159,8 @@ module _ (tasks : Tasks) (i : ℕ) (t new : Task) (there : HasTask tasks i t) (w
       by (inl x) = subst IsOrdinary (sym (ap (λ z. z.wait) x.1 ∙ is)) o
       by (inr x) = h j u x.1
 
-  pub clean_again : fault_of v ≡ None → first_fault tasks ≡ None → first_fault after ≡ None
-  clean_again f clean = none_faulted after (λ j u g. by j u (set_back tasks i j there g))
-    where
-      by : (j : ℕ) (u : Task) → ((j ≡ i) × (u ≡ new)) ⊎ ((j ≡ i → ⊥) × HasTask tasks j u) → fault_of u.wait ≡ None
-      by j u (inl x) = ap fault_of (ap (λ z. z.wait) x.1 ∙ is) ∙ f
-      by j u (inr x) = no_fault tasks j u clean x.1
-
 -- ---- the same by equations
 
-pub true_as : {tasks tasks' : Tasks} {ready ready' : List ℕ} {offering offering' awaiting awaiting' parents parents' : List (Option ℕ)} {unfinished unfinished' : List ℕ} {fault fault' : Option Fault} → tasks' ≡ tasks → ready' ≡ ready → offering' ≡ offering → awaiting' ≡ awaiting → parents' ≡ parents → unfinished' ≡ unfinished → fault' ≡ fault → AreTrue tasks ready offering awaiting parents unfinished fault → AreTrue tasks' ready' offering' awaiting' parents' unfinished' fault'
-true_as {tasks = t} {tasks' = t'} {ready = r} {ready' = r'} {offering = o} {offering' = o'} {awaiting = a} {awaiting' = a'} {parents = p} {parents' = p'} {unfinished = u} {unfinished' = u'} {fault = f} {fault' = f'} e1 e2 e3 e4 e5 e6 e7 h =
-    subst (λ z. AreTrue z r' o' a' p' u' f') (sym e1) (subst (λ z. AreTrue t z o' a' p' u' f') (sym e2) (subst (λ z. AreTrue t r z a' p' u' f') (sym e3) (subst (λ z. AreTrue t r o z p' u' f') (sym e4) (subst (λ z. AreTrue t r o a z u' f') (sym e5) (subst (λ z. AreTrue t r o a p z f') (sym e6) (subst (λ z. AreTrue t r o a p u z) (sym e7) h))))))
+pub true_as : {tasks tasks' : Tasks} {ready ready' : List ℕ} {offering offering' awaiting awaiting' parents parents' : List (Option ℕ)} {unfinished unfinished' : List ℕ} {fault fault' first : Option Fault} → tasks' ≡ tasks → ready' ≡ ready → offering' ≡ offering → awaiting' ≡ awaiting → parents' ≡ parents → unfinished' ≡ unfinished → fault' ≡ fault → AreTrue tasks ready offering awaiting parents unfinished fault first → AreTrue tasks' ready' offering' awaiting' parents' unfinished' fault' first
+true_as {tasks = t} {tasks' = t'} {ready = r} {ready' = r'} {offering = o} {offering' = o'} {awaiting = a} {awaiting' = a'} {parents = p} {parents' = p'} {unfinished = u} {unfinished' = u'} {fault = f} {fault' = f'} {first = first} e1 e2 e3 e4 e5 e6 e7 h =
+    subst (λ z. AreTrue z r' o' a' p' u' f' first) (sym e1) (subst (λ z. AreTrue t z o' a' p' u' f' first) (sym e2) (subst (λ z. AreTrue t r z a' p' u' f' first) (sym e3) (subst (λ z. AreTrue t r o z p' u' f' first) (sym e4) (subst (λ z. AreTrue t r o a z u' f' first) (sym e5) (subst (λ z. AreTrue t r o a p z f' first) (sym e6) (subst (λ z. AreTrue t r o a p u z first) (sym e7) h))))))

@@ -1,13 +1,14 @@
 -- A run in code is a replay.
-use Rattle.std.proofs.Common.{◌≡◌, ◌∙◌, ◌+◌, ◌<◌, ◌^◌, ◌≤◌, refl, sym, ap, subst, ℕ, suc, List, [], ◌∷◌, ◌++◌, Some, None, get_or, length, map, take, drop, inl, inr, arith, length-append, length-take}
+use Rattle.std.proofs.Common.{◌≡◌, ◌∙◌, ◌+◌, ◌<◌, ◌^◌, ◌≤◌, refl, sym, ap, subst, ℕ, suc, List, [], ◌∷◌, ◌++◌, Some, None, length, map, take, drop, inl, inr, arith, length-append, length-take}
 use Rattle.std.specs.Prelude.{slice_get}
 use Rattle.std.proofs.Math.Seq.{take-suc}
 use Rattle.std.proofs.lemmas.List.{take_all, take-append-drop}
 use Rattle.std.proofs.lemmas.Option.{slice_get_within, slice_get_cases, get_or_from_slice_get}
+use Rattle.occ_term.specs.declared.fault.Errors.{Errors}
 use Rattle.occ_code.specs.Sequential.Compiled.{Program}
 use Rattle.occ_net_replay.specs.declared.choice.Choice.{Choice}
-use Rattle.occ_net_replay.specs.Following.{AreBytes, or_limit}
-use Rattle.occ_net_replay.specs.Replay.{Net, Replays, ending_of, first_fault, first_net, main_done, ready_from}
+use Rattle.occ_net_replay.specs.Following.{or_limit}
+use Rattle.occ_net_replay.specs.Replay.{Net, Replays, ending_of, first_net, first_noted, main_done, ready_from}
 use Rattle.occ_net_tables.specs.declared.tables.Tables.{Tables}
 use Rattle.occ_net_tables.specs.Holding.{Holds, communication_of}
 use Rattle.occ_net_tables.specs.Running.{HasRun}
@@ -31,14 +32,14 @@ starts p kb keep n h = record { net = first_net p kb; places = []; placed = none
     none_kept Given = refl
     none_kept Places = refl
 
-pub stands : (p : Program) (kb : List ℕ) (keep : Keep) (given kept : List Choice) (n : Tables) → 1 + length given < 2 ^ 64 → (h : HasRun p kb keep given kept n) → ending_of h.net ≡ None → Standing p kb n
+pub stands : (p : Program) (kb : List ℕ) (keep : Keep) (given kept : List Choice) (n : Tables) → 1 + length given < 2 ^ 64 → (h : HasRun p kb keep given kept n) → ending_of p.errors h.net ≡ None → Standing p kb n
 stands p kb keep given kept n few h going = record { choices = given; few = few; net = h.net; replays = placed_replays p kb h.placed; open_end = going; holds = h.holds }
 
 one_more_kept : (keep : Keep) (given places kept ready : List _) (c : Choice) → kept ≡ all_kept keep given places → kept ++ kept_by keep ready c ∷ [] ≡ all_kept keep (given ++ c ∷ []) (places ++ placed_among ready c ∷ [])
 one_more_kept Given given places kept ready c e = ap (λ l. l ++ c ∷ []) e
 one_more_kept Places given places kept ready c e = ap (λ l. l ++ placed_among ready c ∷ []) e
 
-pub one_more_turn : (p : Program) (kb : List ℕ) (keep : Keep) (given kept : List Choice) (c : Choice) (old new : Tables) (h : HasRun p kb keep given kept old) → ending_of h.net ≡ None → ((net : Net) → Holds p kb old net → TurnsTo p kb c net new) → HasRun p kb keep (given ++ c ∷ []) (kept ++ kept_by keep (ready_from 0 h.net.tasks) c ∷ []) new
+pub one_more_turn : (p : Program) (kb : List ℕ) (keep : Keep) (given kept : List Choice) (c : Choice) (old new : Tables) (h : HasRun p kb keep given kept old) → ending_of p.errors h.net ≡ None → ((net : Net) → Holds p kb old net → TurnsTo p kb c net new) → HasRun p kb keep (given ++ c ∷ []) (kept ++ kept_by keep (ready_from 0 h.net.tasks) c ∷ []) new
 one_more_turn p kb keep given kept c old new h going turns =
     let x = turns h.net h.holds in
     record {
@@ -49,7 +50,7 @@ one_more_turn p kb keep given kept c old new h going turns =
       holds = x.holds;
     }
 
-pub run_is : (p : Program) (kb : List ℕ) (list : List Choice) (keep : Keep) (given : List Choice) (r : Ran) (h : HasRun p kb keep given r.kept.items r.tables) → Begins given list → r.ending ≡ or_limit (ending_of h.net) → (ending_of h.net ≡ None → given ≡ list) → IsRan p kb list keep r
+pub run_is : (p : Program) (kb : List ℕ) (list : List Choice) (keep : Keep) (given : List Choice) (r : Ran) (h : HasRun p kb keep given r.kept.items r.tables) → Begins given list → r.ending ≡ or_limit (ending_of p.errors h.net) → (ending_of p.errors h.net ≡ None → given ≡ list) → IsRan p kb list keep r
 run_is p kb list keep given r h b e w = record { given = given; run = h; used = b; ending = e; whole = w }
 
 -- where what was given was kept
@@ -92,10 +93,10 @@ some_long : (xs : List ℕ) → (xs ≡ [] → ⊥) → 0 < length xs
 some_long [] h = absurd (h refl)
 some_long (x ∷ xs) h = omega arith
 
-pub some_ready_in : (net : Net) → ending_of net ≡ None → 0 < length (ready_from 0 net.tasks)
-some_ready_in net e = some_long (ready_from 0 net.tasks) (is_open (first_fault net.tasks) (main_done net.tasks) (ready_from 0 net.tasks) e).some
+pub some_ready_in : (errors : Errors) (net : Net) → ending_of errors net ≡ None → 0 < length (ready_from 0 net.tasks)
+some_ready_in errors net e = some_long (ready_from 0 net.tasks) (is_open errors (first_noted net.noted) (main_done net.tasks) (ready_from 0 net.tasks) e).some
 
-pub next_run : (p : Program) (kb : List ℕ) (keep : Keep) (list kept : List Choice) (c : Choice) (old new : Tables) (h : HasRun p kb keep (take (length kept) list) kept old) → ending_of h.net ≡ None → ((net : Net) → Holds p kb old net → TurnsTo p kb c net new)
+pub next_run : (p : Program) (kb : List ℕ) (keep : Keep) (list kept : List Choice) (c : Choice) (old new : Tables) (h : HasRun p kb keep (take (length kept) list) kept old) → ending_of p.errors h.net ≡ None → ((net : Net) → Holds p kb old net → TurnsTo p kb c net new)
     → slice_get list (length kept) ≡ Some c → (one : Choice) → one ≡ kept_by keep (ready_from 0 h.net.tasks) c → (after : List Choice) → after ≡ kept ++ one ∷ [] → HasRun p kb keep (take (length after) list) after new
 next_run p kb keep list kept c old new h going turns at one own after grown =
     let now : List Choice = kept ++ kept_by keep (ready_from 0 h.net.tasks) c ∷ [] in

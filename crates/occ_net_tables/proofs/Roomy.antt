@@ -1,6 +1,7 @@
 -- The same contents with more room.
 use Rattle.std.proofs.Common.{◌≡◌, ◌∙◌, sym, ap, ℕ, zero, suc, List, [], ◌∷◌, Some, length, map, drop}
 use Rattle.std.specs.Prelude.{slice_get, slice_set}
+use Rattle.occ_term.specs.declared.fault.Fault.{Fault}
 use Rattle.occ_code.specs.Sequential.Compiled.{Program}
 use Rattle.occ_code.specs.declared.task.Task.{Task}
 use Rattle.occ_code.specs.declared.task.Wait.{Wait}
@@ -12,8 +13,8 @@ use Rattle.occ_net_tables.specs.Settling.{HasMid, Mid, Settles}
 use Rattle.occ_net_tables.proofs.OneChange.{set_twice, true_as}
 
 module _ (old new : Tables) (s : AreSame old new) where
-  sound_as : Sound old → Sound new
-  sound_as h = true_as s.tasks s.ready s.offering s.awaiting s.parents s.unfinished s.fault h
+  sound_as : (noted : List Fault) → Sound old noted → Sound new noted
+  sound_as noted h = true_as s.tasks s.ready s.offering s.awaiting s.parents s.unfinished s.fault h
 
   sized_as : (p : Program) → Sized p old → Sized p new
   sized_as p h =
@@ -31,7 +32,7 @@ module _ (old new : Tables) (s : AreSame old new) where
         tasks = h.tasks ∙ sym s.tasks;
         bytes = h.bytes ∙ ap (λ n. drop n kb) (sym s.used);
         trace = h.trace ∙ ap (map communication_of) (sym s.trace);
-        sound = sound_as h.sound;
+        sound = sound_as net.noted h.sound;
         sized = sized_as p h.sized;
       }
 
@@ -41,14 +42,13 @@ module _ (old new : Tables) (s : AreSame old new) where
         before = mid.before;
         has_task = mid.has_task;
         may = mid.may;
-        clean = mid.clean;
         at_place = ap (λ l. slice_get l place) s.ready ∙ mid.at_place;
         ordinary = mid.ordinary;
         untaken = mid.untaken;
         tasks = s.tasks ∙ mid.tasks;
         bytes = mid.bytes ∙ ap (λ n. drop n kb) (sym s.used);
         trace = mid.trace ∙ ap (map communication_of) (sym s.trace);
-        sound = sound_as mid.sound;
+        sound = sound_as net.noted mid.sound;
         sized = sized_as p mid.sized;
         offers = mid.offers;
         listens = mid.listens;

@@ -9,9 +9,8 @@ use Rattle.occ_code.specs.Sequential.Machine.{Body}
 use Rattle.occ_code.specs.declared.task.Task.{Task}
 use Rattle.occ_code.specs.declared.task.Wait.{Wait}
 use Rattle.occ_code.specs.declared.task.Wait.TheVariants as W
-use Rattle.occ_net_replay.specs.Replay.{HasTask, at_start, fault_of, first_net, first_task, none_begun, offers_on, ready_from}
+use Rattle.occ_net_replay.specs.Replay.{HasTask, at_start, first_net, first_noted, first_task, none_begun, offers_on, ready_from}
 use Rattle.occ_net_replay.specs.Waiting.{listens_on}
-use Rattle.occ_net_replay.proofs.Faults.{none_faulted}
 use Rattle.occ_net_tables.specs.declared.tables.Tables.{Tables}
 use Rattle.occ_net_tables.specs.Holding.{AreTrue, Holds, IsOrdinary, IsTable, communication_of, joins_on}
 use Rattle.occ_net_tables.proofs.OneChange.{not_both, set_length, true_as}
@@ -65,7 +64,7 @@ empty_table bs says n silent =
       whole = λ c i t h s. absurd (not_both (sym (ap (λ z. says z c) (all_ready bs i t h)) ∙ s) (silent c));
     }
 
-start_true : (bs : List Body) (b : Body) (channels : ℕ) → slice_get bs 0 ≡ Some b → AreTrue (at_start bs) (0 ∷ []) (replicate channels None) (replicate channels None) (replicate (length bs) None) (replicate (length bs) 0) None
+start_true : (bs : List Body) (b : Body) (channels : ℕ) → slice_get bs 0 ≡ Some b → AreTrue (at_start bs) (0 ∷ []) (replicate channels None) (replicate channels None) (replicate (length bs) None) (replicate (length bs) 0) None (first_noted [])
 start_true bs b channels e =
     record {
       ready_is = one_ready bs b e;
@@ -74,7 +73,7 @@ start_true bs b channels e =
       joins = empty_table bs joins_on (length bs) (λ c. refl);
       counted = λ m t ns h w. let q : W.Ready ≡ W.Joins ns = sym (all_ready bs m t h) ∙ w in absurd cc;
       ordinary = λ i t h. subst IsOrdinary (sym (all_ready bs i t h)) tt;
-      fault_is = sym (none_faulted (at_start bs) (λ i t h. ap fault_of (all_ready bs i t h)));
+      fault_is = refl;
     }
 
 pub starts : (p : Program) (kb : List ℕ) (n : Tables) (b : Body) → slice_get p.bodies 0 ≡ Some b → n.tasks.items ≡ slice_set (replicate (length p.bodies) None) 0 (Some (first_task 0 0 (zero_frame b.cells b.loops))) → n.ready.items ≡ 0 ∷ [] → n.offering.items ≡ replicate (length p.channels) None → n.awaiting.items ≡ replicate (length p.channels) None → n.parents.items ≡ replicate (length p.bodies) None → n.unfinished.items ≡ replicate (length p.bodies) 0 → n.fault ≡ None → n.used ≡ 0 → n.trace.items ≡ [] → Holds p kb n (first_net p kb)

@@ -11,16 +11,15 @@ use Rattle.occ_code.specs.declared.task.Arm.{Arm}
 use Rattle.occ_code.specs.declared.task.Task.{Task}
 use Rattle.occ_code.specs.declared.task.Wait.{Wait}
 use Rattle.occ_code.specs.declared.task.Wait.TheVariants as W
-use Rattle.occ_net_replay.specs.Replay.{Tasks, HasTask, fault_of, first_fault, is_done, made_ready, may_go, offers_on, ready_from}
+use Rattle.occ_net_replay.specs.Replay.{Tasks, HasTask, is_done, made_ready, may_go, offers_on, ready_from}
 use Rattle.occ_net_replay.specs.Waiting.{channels_at, listens_on}
-use Rattle.occ_net_replay.proofs.Tables.{set_same, set_other}
-use Rattle.occ_net_replay.proofs.Faults.{fault_is, no_fault}
+use Rattle.occ_net_replay.proofs.Tables.{set_other}
 use Rattle.occ_net_replay.proofs.Quiet.{offers_is}
 use Rattle.occ_net_tables.specs.Holding.{AreCounted, AreTrue, IsOrdinary, joins_on}
 use Rattle.occ_net_tables.specs.Ready.{put_in}
 use Rattle.occ_net_tables.specs.Keys.{set_all}
 use Rattle.occ_net_tables.proofs.Keys.{all_gone, all_here, all_other}
-use Rattle.occ_net_tables.proofs.OneChange.{set_within, table_kept, table_enters, table_leaves, counts_kept, ordinary_again, clean_again}
+use Rattle.occ_net_tables.proofs.OneChange.{set_within, table_kept, table_enters, table_leaves, counts_kept, ordinary_again}
 use Rattle.occ_net_tables.proofs.ReadyLists.{ready_same, ready_put, ready_out}
 
 -- ---- one key
@@ -69,13 +68,12 @@ pub record ListensOnly (w : Wait) : Type 0 where
   pub undone : is_done w ≡ false
   pub unforked : (ns : List ℕ) → w ≡ W.Joins ns → ⊥
   pub ordinary : IsOrdinary w
-  pub clean : fault_of w ≡ None
 
 pub listens_only : (w : Wait) → IsListener w → ListensOnly w
-listens_only w at_input = record { still = refl; offers = λ d. refl; joins = λ d. refl; undone = refl; unforked = λ ns q. cc; ordinary = tt; clean = refl }
-listens_only w at_choice = record { still = refl; offers = λ d. refl; joins = λ d. refl; undone = refl; unforked = λ ns q. cc; ordinary = tt; clean = refl }
+listens_only w at_input = record { still = refl; offers = λ d. refl; joins = λ d. refl; undone = refl; unforked = λ ns q. cc; ordinary = tt }
+listens_only w at_choice = record { still = refl; offers = λ d. refl; joins = λ d. refl; undone = refl; unforked = λ ns q. cc; ordinary = tt }
 
-module _ (tasks : Tasks) (ready : List ℕ) (offering awaiting parents : List (Option ℕ)) (unfinished : List ℕ) (fault : Option Fault) (h : AreTrue tasks ready offering awaiting parents unfinished fault) (clean : first_fault tasks ≡ None) (i : ℕ) (t : Task) (there : HasTask tasks i t) where
+module _ (tasks : Tasks) (ready : List ℕ) (offering awaiting parents : List (Option ℕ)) (unfinished : List ℕ) (fault : Option Fault) {first : Option Fault} (h : AreTrue tasks ready offering awaiting parents unfinished fault first) (i : ℕ) (t : Task) (there : HasTask tasks i t) where
   abbrev with_task : Task → Tasks
   with_task u = slice_set tasks i (Some u)
 
@@ -84,10 +82,7 @@ module _ (tasks : Tasks) (ready : List ℕ) (offering awaiting parents : List (O
   woken : (u : Task) → may_go t.wait ≡ false → IsTrue (may_go u.wait) → put_in i ready ≡ ready_from 0 (with_task u)
   woken u e f = ap (put_in i) h.ready_is ∙ sym (ready_put 0 tasks i i (Some t) (Some u) there e f (omega arith))
 
-  still_clean : (u : Task) (w v : Wait) → t.wait ≡ w → u.wait ≡ v → fault_of v ≡ None → fault ≡ first_fault (with_task u)
-  still_clean u w v e f q = h.fault_is ∙ clean ∙ sym (clean_again tasks i t u there w v e f q clean)
-
-  pub wake_listener : (w : Wait) (k : ℕ) (is : List ℤ) (m : Option Message) → IsListener w → t.wait ≡ w → AreTrue (with_task (ready_with t (W.Took k is m))) (put_in i ready) offering (set_all (channels_at w) None awaiting) parents unfinished fault
+  pub wake_listener : (w : Wait) (k : ℕ) (is : List ℤ) (m : Option Message) → IsListener w → t.wait ≡ w → AreTrue (with_task (ready_with t (W.Took k is m))) (put_in i ready) offering (set_all (channels_at w) None awaiting) parents unfinished fault first
   wake_listener w k is m l e =
       let new : Task = ready_with t (W.Took k is m) in
       let v : Wait = W.Took k is m in
@@ -99,10 +94,10 @@ module _ (tasks : Tasks) (ready : List ℕ) (offering awaiting parents : List (O
         joins = table_kept tasks i t new there w v e refl joins_on o.joins (λ d. refl) parents h.joins;
         counted = counts_kept tasks i t new there w v e refl (sym o.undone) (λ ns q. cc) unfinished h.counted;
         ordinary = ordinary_again tasks i t new there w v e refl tt h.ordinary;
-        fault_is = still_clean new w v e refl refl;
+        fault_is = h.fault_is;
       }
 
-  pub wake_offerer : (c : ℕ) (m : Message) → t.wait ≡ W.Offers c m → AreTrue (with_task (made_ready t)) (put_in i ready) (slice_set offering c None) awaiting parents unfinished fault
+  pub wake_offerer : (c : ℕ) (m : Message) → t.wait ≡ W.Offers c m → AreTrue (with_task (made_ready t)) (put_in i ready) (slice_set offering c None) awaiting parents unfinished fault first
   wake_offerer c m e =
       let new : Task = made_ready t in
       let w : Wait = W.Offers c m in
@@ -114,13 +109,13 @@ module _ (tasks : Tasks) (ready : List ℕ) (offering awaiting parents : List (O
         joins = table_kept tasks i t new there w v e refl joins_on (λ d. refl) (λ d. refl) parents h.joins;
         counted = counts_kept tasks i t new there w v e refl refl (λ ns q. cc) unfinished h.counted;
         ordinary = ordinary_again tasks i t new there w v e refl tt h.ordinary;
-        fault_is = still_clean new w v e refl refl;
+        fault_is = h.fault_is;
       }
 
   -- ---- a process that may go on
 
   module _ (e : t.wait ≡ W.Ready) where
-    pub takes : (k : ℕ) (is : List ℤ) (m : Option Message) → AreTrue (with_task (ready_with t (W.Took k is m))) ready offering awaiting parents unfinished fault
+    pub takes : (k : ℕ) (is : List ℤ) (m : Option Message) → AreTrue (with_task (ready_with t (W.Took k is m))) ready offering awaiting parents unfinished fault first
     takes k is m =
         let new : Task = ready_with t (W.Took k is m) in
         let v : Wait = W.Took k is m in
@@ -131,7 +126,7 @@ module _ (tasks : Tasks) (ready : List ℕ) (offering awaiting parents : List (O
           joins = table_kept tasks i t new there W.Ready v e refl joins_on (λ d. refl) (λ d. refl) parents h.joins;
           counted = counts_kept tasks i t new there W.Ready v e refl refl (λ ns q. cc) unfinished h.counted;
           ordinary = ordinary_again tasks i t new there W.Ready v e refl tt h.ordinary;
-          fault_is = still_clean new W.Ready v e refl refl;
+          fault_is = h.fault_is;
         }
 
     module _ (place : ℕ) (at_place : slice_get ready place ≡ Some i) (new : Task) where
@@ -140,7 +135,7 @@ module _ (tasks : Tasks) (ready : List ℕ) (offering awaiting parents : List (O
           ap (λ l. remove l place) h.ready_is
           ∙ sym (ready_out 0 tasks i i place (Some new) (ap (λ l. slice_get l place) (sym h.ready_is) ∙ at_place) (ap may_go f ∙ q) (omega arith))
 
-      pub rest_offer : (c : ℕ) (m : Message) → new.wait ≡ W.Offers c m → c < length offering → ((j : ℕ) (u : Task) (x : Message) → HasTask tasks j u → u.wait ≡ W.Offers c x → ⊥) → AreTrue (with_task new) (remove ready place) (slice_set offering c (Some i)) awaiting parents unfinished fault
+      pub rest_offer : (c : ℕ) (m : Message) → new.wait ≡ W.Offers c m → c < length offering → ((j : ℕ) (u : Task) (x : Message) → HasTask tasks j u → u.wait ≡ W.Offers c x → ⊥) → AreTrue (with_task new) (remove ready place) (slice_set offering c (Some i)) awaiting parents unfinished fault first
       rest_offer c m f within alone =
           let v : Wait = W.Offers c m in
           record {
@@ -150,10 +145,10 @@ module _ (tasks : Tasks) (ready : List ℕ) (offering awaiting parents : List (O
             joins = table_kept tasks i t new there W.Ready v e f joins_on (λ d. refl) (λ d. refl) parents h.joins;
             counted = counts_kept tasks i t new there W.Ready v e f refl (λ ns q. cc) unfinished h.counted;
             ordinary = ordinary_again tasks i t new there W.Ready v e f tt h.ordinary;
-            fault_is = still_clean new W.Ready v e f refl;
+            fault_is = h.fault_is;
           }
 
-      pub rest_listener : (v : Wait) → IsListener v → new.wait ≡ v → ((c : ℕ) → IsTrue (listens_on v c) → c < length awaiting) → ((c j : ℕ) (u : Task) → IsTrue (listens_on v c) → HasTask tasks j u → IsTrue (listens_on u.wait c) → ⊥) → AreTrue (with_task new) (remove ready place) offering (set_all (channels_at v) (Some i) awaiting) parents unfinished fault
+      pub rest_listener : (v : Wait) → IsListener v → new.wait ≡ v → ((c : ℕ) → IsTrue (listens_on v c) → c < length awaiting) → ((c j : ℕ) (u : Task) → IsTrue (listens_on v c) → HasTask tasks j u → IsTrue (listens_on u.wait c) → ⊥) → AreTrue (with_task new) (remove ready place) offering (set_all (channels_at v) (Some i) awaiting) parents unfinished fault first
       rest_listener v l f within alone =
           let o = listens_only v l in
           record {
@@ -163,10 +158,10 @@ module _ (tasks : Tasks) (ready : List ℕ) (offering awaiting parents : List (O
             joins = table_kept tasks i t new there W.Ready v e f joins_on (λ d. refl) o.joins parents h.joins;
             counted = counts_kept tasks i t new there W.Ready v e f o.undone o.unforked unfinished h.counted;
             ordinary = ordinary_again tasks i t new there W.Ready v e f o.ordinary h.ordinary;
-            fault_is = still_clean new W.Ready v e f o.clean;
+            fault_is = h.fault_is;
           }
 
-      pub rest_halted : new.wait ≡ W.Halted → AreTrue (with_task new) (remove ready place) offering awaiting parents unfinished fault
+      pub rest_halted : new.wait ≡ W.Halted → AreTrue (with_task new) (remove ready place) offering awaiting parents unfinished fault first
       rest_halted f =
           record {
             ready_is = rested W.Halted f refl;
@@ -175,11 +170,11 @@ module _ (tasks : Tasks) (ready : List ℕ) (offering awaiting parents : List (O
             joins = table_kept tasks i t new there W.Ready W.Halted e f joins_on (λ d. refl) (λ d. refl) parents h.joins;
             counted = counts_kept tasks i t new there W.Ready W.Halted e f refl (λ ns q. cc) unfinished h.counted;
             ordinary = ordinary_again tasks i t new there W.Ready W.Halted e f tt h.ordinary;
-            fault_is = still_clean new W.Ready W.Halted e f refl;
+            fault_is = h.fault_is;
           }
 
-      pub rest_faulted : (x : Fault) → new.wait ≡ W.Faulted x → AreTrue (with_task new) (remove ready place) offering awaiting parents unfinished (Some x)
-      rest_faulted x f =
+      pub rest_faulted : (x : Fault) {kept all : Option Fault} → kept ≡ all → new.wait ≡ W.Faulted x → AreTrue (with_task new) (remove ready place) offering awaiting parents unfinished kept all
+      rest_faulted x is f =
           let v : Wait = W.Faulted x in
           record {
             ready_is = rested v f refl;
@@ -188,10 +183,10 @@ module _ (tasks : Tasks) (ready : List ℕ) (offering awaiting parents : List (O
             joins = table_kept tasks i t new there W.Ready v e f joins_on (λ d. refl) (λ d. refl) parents h.joins;
             counted = counts_kept tasks i t new there W.Ready v e f refl (λ ns q. cc) unfinished h.counted;
             ordinary = ordinary_again tasks i t new there W.Ready v e f tt h.ordinary;
-            fault_is = ap fault_of (sym f) ∙ sym (fault_is (with_task new) i new (set_same tasks i (Some t) (Some new) there) (λ j u n g. no_fault tasks j u clean (sym (set_other tasks i j (Some new) n) ∙ g)));
+            fault_is = is;
           }
 
-      pub rest_done : new.wait ≡ W.Done → (counts : List ℕ) → AreCounted (with_task new) counts → AreTrue (with_task new) (remove ready place) offering awaiting parents counts fault
+      pub rest_done : new.wait ≡ W.Done → (counts : List ℕ) → AreCounted (with_task new) counts → AreTrue (with_task new) (remove ready place) offering awaiting parents counts fault first
       rest_done f counts counted =
           record {
             ready_is = rested W.Done f refl;
@@ -200,12 +195,12 @@ module _ (tasks : Tasks) (ready : List ℕ) (offering awaiting parents : List (O
             joins = table_kept tasks i t new there W.Ready W.Done e f joins_on (λ d. refl) (λ d. refl) parents h.joins;
             counted = counted;
             ordinary = ordinary_again tasks i t new there W.Ready W.Done e f tt h.ordinary;
-            fault_is = still_clean new W.Ready W.Done e f refl;
+            fault_is = h.fault_is;
           }
 
   -- ---- a process whose branches are done
 
-  pub rejoins : (ns : List ℕ) (g : Variables) → t.wait ≡ W.Joins ns → AreTrue (with_task (joined_with t g)) (put_in i ready) offering awaiting (set_all ns None parents) unfinished fault
+  pub rejoins : (ns : List ℕ) (g : Variables) → t.wait ≡ W.Joins ns → AreTrue (with_task (joined_with t g)) (put_in i ready) offering awaiting (set_all ns None parents) unfinished fault first
   rejoins ns g e =
       let new : Task = joined_with t g in
       let w : Wait = W.Joins ns in
@@ -216,5 +211,5 @@ module _ (tasks : Tasks) (ready : List ℕ) (offering awaiting parents : List (O
         joins = table_leaves tasks i t new there w W.Ready e refl joins_on (is_held ns) (λ d. refl) (λ d. refl) parents (set_all ns None parents) (λ d j k. all_gone ns parents d j k) (λ d k. all_other ns None parents d k) h.joins;
         counted = counts_kept tasks i t new there w W.Ready e refl refl (λ ms q. cc) unfinished h.counted;
         ordinary = ordinary_again tasks i t new there w W.Ready e refl tt h.ordinary;
-        fault_is = still_clean new w W.Ready e refl refl;
+        fault_is = h.fault_is;
       }

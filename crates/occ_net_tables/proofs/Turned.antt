@@ -3,6 +3,8 @@ use Rattle.std.proofs.Common.{◌≡◌, ◌∙◌, refl, sym, ap, subst, Bool, 
 use Rattle.std.specs.Prelude.{slice_get, slice_set, ◌||◌}
 use Rattle.std.proofs.lemmas.Option.{get_or_from_slice_get, slice_get_within}
 use mathlib.Core.Bool.{true≢false}
+use Rattle.occ_term.specs.declared.fault.Errors.{Errors}
+use Rattle.occ_term.specs.declared.fault.Errors.TheVariants.{Halt, Stop}
 use Rattle.occ_term.specs.declared.fault.Fault.{Fault}
 use Rattle.occ_term.specs.System.{has_byte}
 use Rattle.occ_code.specs.Alike.{IsRising}
@@ -14,7 +16,7 @@ use Rattle.occ_code.specs.declared.task.Wait.{Wait}
 use Rattle.occ_code.specs.declared.task.Wait.TheVariants as W
 use Rattle.occ_net_replay.specs.declared.choice.Choice.{Choice}
 use Rattle.occ_net_replay.specs.Following.{AreBytes}
-use Rattle.occ_net_replay.specs.Replay.{Net, Tasks, HasTask, ending_by, first_fault, is_done, main_done, made_ready, may_go, offers_among, offers_on, ready_from, selected, standing}
+use Rattle.occ_net_replay.specs.Replay.{Net, Tasks, HasTask, ending_by, first_noted, is_done, main_done, made_ready, may_go, offers_among, offers_on, ready_from, selected, standing, standing_by}
 use Rattle.occ_net_replay.specs.Moments.{NoneReady, Quiet}
 use Rattle.occ_net_replay.specs.Waiting.{IsReplay, IsTurn, OffersAlone, ListensAlone, ForksAlone, listens_on}
 use Rattle.occ_net_replay.proofs.Alone.{replays_are_quiet, turns_are_few, turns_fork_alone, turns_listen_alone, turns_never_take, turns_offer_alone}
@@ -24,7 +26,7 @@ use Rattle.occ_net_tables.specs.declared.tables.Tables.{Tables}
 use Rattle.occ_net_tables.specs.Holding.{AreTrue, Holds, IsOrdinary, communication_of, joins_on}
 use Rattle.occ_net_tables.specs.Settling.{Mid, SettlesTo, Standing, TurnsTo}
 use Rattle.occ_net_tables.specs.Tasks.{Advanced, HasTurn}
-use Rattle.occ_net_tables.proofs.OneChange.{clean_again, counts_kept, get_some, ordinary_again, set_length, table_kept, true_as}
+use Rattle.occ_net_tables.proofs.OneChange.{counts_kept, get_some, ordinary_again, set_length, table_kept, true_as}
 use Rattle.occ_net_tables.proofs.ReadyLists.{ready_same}
 
 -- ---- bodies, and bytes
@@ -103,8 +105,8 @@ going_undone W.Halted g = refl
 going_undone W.Done g = absurd (true≢false (sym g))
 going_undone (W.Faulted e) g = refl
 
-module _ (tasks : Tasks) (ready : List ℕ) (offering awaiting parents : List (Option ℕ)) (unfinished : List ℕ) (fault : Option Fault) (h : AreTrue tasks ready offering awaiting parents unfinished fault) (clean : first_fault tasks ≡ None) (i : ℕ) (t new : Task) (there : HasTask tasks i t) (may : IsTrue (may_go t.wait)) (is : new.wait ≡ W.Ready) where
-  pub again_ready : AreTrue (slice_set tasks i (Some new)) ready offering awaiting parents unfinished fault
+module _ (tasks : Tasks) (ready : List ℕ) (offering awaiting parents : List (Option ℕ)) (unfinished : List ℕ) (fault : Option Fault) {first : Option Fault} (h : AreTrue tasks ready offering awaiting parents unfinished fault first) (i : ℕ) (t new : Task) (there : HasTask tasks i t) (may : IsTrue (may_go t.wait)) (is : new.wait ≡ W.Ready) where
+  pub again_ready : AreTrue (slice_set tasks i (Some new)) ready offering awaiting parents unfinished fault first
   again_ready =
       record {
         ready_is = h.ready_is ∙ sym (ready_same 0 tasks i (Some t) (Some new) there (may ∙ sym (ap may_go is)));
@@ -113,21 +115,24 @@ module _ (tasks : Tasks) (ready : List ℕ) (offering awaiting parents : List (O
         joins = table_kept tasks i t new there t.wait W.Ready refl is joins_on (λ d. going_joins t.wait d may) (λ d. refl) parents h.joins;
         counted = counts_kept tasks i t new there t.wait W.Ready refl is (sym (going_undone t.wait may)) (λ ns q. cc) unfinished h.counted;
         ordinary = ordinary_again tasks i t new there t.wait W.Ready refl is tt h.ordinary;
-        fault_is = h.fault_is ∙ clean ∙ sym (clean_again tasks i t new there t.wait W.Ready refl is refl clean);
+        fault_is = h.fault_is;
       }
 
 -- ---- endings
 
-pub record IsOpen (f : Option Fault) (m : Bool) (r : List ℕ) : Type 0 where
-  pub clean : f ≡ None
+pub record IsOpen (m : Bool) (r : List ℕ) : Type 0 where
   pub going : m ≡ false
   pub some : r ≡ [] → ⊥
 
-pub is_open : (f : Option Fault) (m : Bool) (r : List ℕ) → ending_by f m r ≡ None → IsOpen f m r
-is_open None true r e = absurd cc
-is_open None false [] e = absurd cc
-is_open None false (n ∷ ns) e = record { clean = refl; going = refl; some = λ q. cc }
-is_open (Some x) m r e = absurd cc
+standing_open : (f : Option Fault) (m : Bool) (r : List ℕ) → standing_by f m r ≡ None → IsOpen m r
+standing_open f true r e = absurd cc
+standing_open f false [] e = absurd cc
+standing_open f false (n ∷ ns) e = record { going = refl; some = λ q. cc }
+
+pub is_open : (errors : Errors) (f : Option Fault) (m : Bool) (r : List ℕ) → ending_by errors f m r ≡ None → IsOpen m r
+is_open Halt None m r e = standing_open None m r e
+is_open Halt (Some x) m r e = absurd cc
+is_open Stop f m r e = standing_open f m r e
 
 some_long : (xs : List ℕ) → (xs ≡ [] → ⊥) → 0 < length xs
 some_long [] h = absurd (h refl)
@@ -143,10 +148,10 @@ place_within which len k e h = omega arith
 -- ---- the network stands where a replay can go on
 
 module _ (p : Program) (kb : List ℕ) (n : Tables) (s : Standing p kb n) where
-  open_now : IsOpen (first_fault n.tasks.items) (main_done n.tasks.items) n.ready.items
+  open_now : IsOpen (main_done n.tasks.items) n.ready.items
   open_now =
-      subst (IsOpen (first_fault n.tasks.items) (main_done n.tasks.items)) (sym s.holds.sound.ready_is)
-      (subst (λ t. IsOpen (first_fault t) (main_done t) (ready_from 0 t)) s.holds.tasks (is_open (first_fault s.net.tasks) (main_done s.net.tasks) (ready_from 0 s.net.tasks) s.open_end))
+      subst (IsOpen (main_done n.tasks.items)) (sym s.holds.sound.ready_is)
+      (subst (λ t. IsOpen (main_done t) (ready_from 0 t)) s.holds.tasks (is_open p.errors (first_noted s.net.noted) (main_done s.net.tasks) (ready_from 0 s.net.tasks) s.open_end))
 
   pub some_ready : 0 < length n.ready.items
   some_ready = some_long n.ready.items open_now.some
@@ -202,7 +207,6 @@ module _ (p : Program) (kb : List ℕ) (n : Tables) (s : Standing p kb n) where
             before = t;
             has_task = ap (λ l. slice_get l number) h.tasks ∙ there;
             may = may;
-            clean = ap first_fault h.tasks ∙ open_now.clean;
             at_place = ap (λ z. slice_get z.items place) e1 ∙ at;
             ordinary = ordinary_is adv.after.wait (λ ns q. (fork ns is_replay is_turn q).rising);
             untaken = λ arm is m q. turns_never_take compiled.source p compiled.quantum kb s.choices s.net number adv.after arm is m is_replay is_turn q;
@@ -210,7 +214,7 @@ module _ (p : Program) (kb : List ℕ) (n : Tables) (s : Standing p kb n) where
             bytes = h.bytes ∙ ap (λ k. drop k kb) (sym e7);
             trace = h.trace ∙ ap (λ z. map communication_of z.items) (sym e8);
             sound = true_as adv.is (ap (λ z. z.items) e1) (ap (λ z. z.items) e2) (ap (λ z. z.items) e3) (ap (λ z. z.items) e4) (ap (λ z. z.items) e5) e6
-                (again_ready n.tasks.items n.ready.items n.offering.items n.awaiting.items n.parents.items n.unfinished.items n.fault h.sound open_now.clean number t (made_ready adv.after) there may refl);
+                (again_ready n.tasks.items n.ready.items n.offering.items n.awaiting.items n.parents.items n.unfinished.items n.fault h.sound number t (made_ready adv.after) there may refl);
             sized = record {
               tasks_are = ap length adv.is ∙ set_length n.tasks.items number (Some (made_ready adv.after)) ∙ h.sized.tasks_are;
               offering_is = ap (λ z. length z.items) e2 ∙ h.sized.offering_is;

@@ -9,7 +9,7 @@ use Rattle.occ_code.specs.Sequential.Compiled.{Program}
 use Rattle.occ_code.specs.declared.task.Task.{Task}
 use Rattle.occ_code.specs.declared.task.Wait.{Wait}
 use Rattle.occ_code.specs.declared.task.Wait.TheVariants.{Ready, Took, Offers, Awaits, Chooses, Joins, Halted, Done, Faulted}
-use Rattle.occ_net_replay.specs.Replay.{Net, Tasks, HasTask, ended, first_fault, offers_on, ready_from}
+use Rattle.occ_net_replay.specs.Replay.{Net, Tasks, HasTask, ended, first_noted, offers_on, ready_from}
 use Rattle.occ_net_replay.specs.Waiting.{listens_on}
 use Rattle.occ_net_tables.specs.declared.trace.End.{End}
 use Rattle.occ_net_tables.specs.declared.trace.End.TheVariants.{Process, Keyboard, Screen, Error}
@@ -75,18 +75,19 @@ undone tasks (n ∷ ns) = (if is_over tasks n then 0 else 1) + undone tasks ns
 abbrev pub AreCounted : Tasks → List ℕ → Type 0
 AreCounted tasks counts = (m : ℕ) (t : Task) (ns : List ℕ) → HasTask tasks m t → t.wait ≡ Joins ns → slice_get counts m ≡ Some (undone tasks ns)
 
--- all that is kept beside the tasks is as they say
-pub record AreTrue (tasks : Tasks) (ready : List ℕ) (offering awaiting parents : List (Option ℕ)) (unfinished : List ℕ) (fault : Option Fault) : Type 0 where
+-- all that is kept beside the tasks is as they say; the fault is the first one
+pub record AreTrue (tasks : Tasks) (ready : List ℕ) (offering awaiting parents : List (Option ℕ)) (unfinished : List ℕ) (fault first : Option Fault) : Type 0 where
   pub ready_is : ready ≡ ready_from 0 tasks
   pub offers : IsTable offers_on tasks offering
   pub awaits : IsTable listens_on tasks awaiting
   pub joins : IsTable joins_on tasks parents
   pub counted : AreCounted tasks unfinished
   pub ordinary : (i : ℕ) (t : Task) → HasTask tasks i t → IsOrdinary t.wait
-  pub fault_is : fault ≡ first_fault tasks
+  pub fault_is : fault ≡ first
 
-abbrev pub Sound : Tables → Type 0
-Sound n = AreTrue n.tasks.items n.ready.items n.offering.items n.awaiting.items n.parents.items n.unfinished.items n.fault
+-- where these faults were noted
+abbrev pub Sound : Tables → List Fault → Type 0
+Sound n noted = AreTrue n.tasks.items n.ready.items n.offering.items n.awaiting.items n.parents.items n.unfinished.items n.fault (first_noted noted)
 
 -- a place for each process, and for each channel
 pub record AreSized (p : Program) (tasks : Tasks) (offering awaiting parents : List (Option ℕ)) (unfinished : List ℕ) : Type 0 where
@@ -104,5 +105,5 @@ pub record Holds (p : Program) (keyboard : List ℕ) (n : Tables) (net : Net) : 
   pub tasks : net.tasks ≡ n.tasks.items
   pub bytes : net.keyboard ≡ drop n.used keyboard
   pub trace : net.trace ≡ map communication_of n.trace.items
-  pub sound : Sound n
+  pub sound : Sound n net.noted
   pub sized : Sized p n

@@ -1,4 +1,5 @@
 pub mod Keys
+pub mod Endings
 pub mod Ready
 pub mod Tasks
 pub mod Choosing

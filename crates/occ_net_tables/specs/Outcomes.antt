@@ -21,8 +21,8 @@ pub record IsOutcome (p : Program) (keyboard : List ℕ) (list : List Choice) (o
   pub replays : Replays p keyboard o.choices.items net
   pub trace : net.trace ≡ map communication_of o.trace.items
   pub used : Begins o.choices.items list
-  pub ending : o.ending ≡ or_limit (ending_of net)
-  pub whole : ending_of net ≡ None → o.choices.items ≡ list
+  pub ending : o.ending ≡ or_limit (ending_of p.errors net)
+  pub whole : ending_of p.errors net ≡ None → o.choices.items ≡ list
 
 -- A run has used the first choices of the list, and the tables hold what their replay comes to. Limit only where the whole list was used
 -- and no ending came.
@@ -30,5 +30,5 @@ pub record IsRan (p : Program) (keyboard : List ℕ) (list : List Choice) (keep 
   pub given : List Choice
   pub run : HasRun p keyboard keep given r.kept.items r.tables
   pub used : Begins given list
-  pub ending : r.ending ≡ or_limit (ending_of run.net)
-  pub whole : ending_of run.net ≡ None → given ≡ list
+  pub ending : r.ending ≡ or_limit (ending_of p.errors run.net)
+  pub whole : ending_of p.errors run.net ≡ None → given ≡ list

@@ -14,7 +14,7 @@ placed_among ready c = record c { which = c.which % length ready }
 pub data Placed (p : Program) (keyboard : List ℕ) : List Choice → List Choice → Net → Type 0 where
   none_placed : Placed p keyboard [] [] (first_net p keyboard)
   one_placed : {cs ds : List Choice} {c : Choice} {a b : Net}
-      → Placed p keyboard cs ds a → ending_of a ≡ None → OneTurn p c a b → Placed p keyboard (cs ++ c ∷ []) (ds ++ placed_among (ready_from 0 a.tasks) c ∷ []) b
+      → Placed p keyboard cs ds a → ending_of p.errors a ≡ None → OneTurn p c a b → Placed p keyboard (cs ++ c ∷ []) (ds ++ placed_among (ready_from 0 a.tasks) c ∷ []) b
 
 -- For each replay there are such places. A replay by any such places comes to the same state.
 abbrev pub PlacesForNumbers : Type 0

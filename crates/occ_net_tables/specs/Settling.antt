@@ -10,7 +10,7 @@ use Rattle.occ_code.specs.declared.task.Task.{Task}
 use Rattle.occ_code.specs.declared.task.Wait.{Wait}
 use Rattle.occ_code.specs.declared.task.Wait.TheVariants.{Took, Offers, Chooses, Joins}
 use Rattle.occ_net_replay.specs.declared.choice.Choice.{Choice}
-use Rattle.occ_net_replay.specs.Replay.{Net, Tasks, HasTask, OneTurn, Replays, Settled, branch_task, byte_message, ending_of, first_fault, goes, made_ready, may_go, merged, ready_from, standing, took_arm, took_turn, with_branches}
+use Rattle.occ_net_replay.specs.Replay.{Net, Tasks, HasTask, OneTurn, Replays, Settled, branch_task, byte_message, ending_of, goes, made_ready, may_go, merged, ready_from, standing, took_arm, took_turn, with_branches}
 use Rattle.occ_net_replay.specs.Moments.{NoneReady}
 use Rattle.occ_net_replay.specs.Waiting.{OffersAlone, ListensAlone, ForksAlone, channels_at, listens_on}
 use Rattle.occ_net_tables.specs.declared.trace.End.{End}
@@ -34,7 +34,7 @@ pub record Standing (p : Program) (keyboard : List ℕ) (n : Tables) : Type 0 wh
   pub few : 1 + length choices < 2 ^ 64
   pub net : Net
   pub replays : Replays p keyboard choices net
-  pub open_end : ending_of net ≡ None
+  pub open_end : ending_of p.errors net ≡ None
   pub holds : Holds p keyboard n net
 
 -- the process at this place among the ready ones comes by a turn to this task
@@ -53,14 +53,13 @@ pub record Mid (p : Program) (keyboard : List ℕ) (n : Tables) (number place : 
   pub before : Task
   pub has_task : HasTask net.tasks number before
   pub may : IsTrue (may_go before.wait)
-  pub clean : first_fault net.tasks ≡ None
   pub at_place : slice_get n.ready.items place ≡ Some number
   pub ordinary : IsOrdinary after.wait
   pub untaken : (arm : ℕ) (indices : List ℤ) (m : Option Message) → after.wait ≡ Took arm indices m → ⊥
   pub tasks : n.tasks.items ≡ slice_set net.tasks number (Some (made_ready after))
   pub bytes : net.keyboard ≡ drop n.used keyboard
   pub trace : net.trace ≡ map communication_of n.trace.items
-  pub sound : Sound n
+  pub sound : Sound n net.noted
   pub sized : Sized p n
   pub offers : (c : ℕ) (m : Message) → after.wait ≡ Offers c m → OffersAlone p net.tasks c
   pub listens : (c : ℕ) → IsTrue (listens_on after.wait c) → ListensAlone p net.tasks c

@@ -1,10 +1,11 @@
 //! Offers and inputs: the two ends of a channel meet, or one waits for the other.
 ghost use Rattle.std.specs.Prelude.{◌≡◌, ◌≢◌, ◌+◌, ◌<◌, ◌^◌, ◌++◌, ◌∷◌, [], IfErr, IfOk, List, None, OnErr, OnOk, Option, Some, length, remove, slice_get, slice_set, vec_capacity, vec_len, ℕ};
+ghost use Rattle.occ_term.specs.declared.fault.Fault.{Fault};
 ghost use Rattle.occ_code.specs.Alike.{IsRising, ready_with};
 ghost use Rattle.occ_code.specs.Sequential.Compiled.{Program};
 ghost use Rattle.occ_code.specs.declared.task.Arm.{Arm};
 ghost use Rattle.occ_code.specs.declared.task.Task.{Task};
-ghost use Rattle.occ_net_replay.specs.Replay.{HasTask, byte_message};
+ghost use Rattle.occ_net_replay.specs.Replay.{HasTask, byte_message, first_noted};
 ghost use Rattle.occ_net_tables.specs.Choosing.{input_arm, keyboard_at};
 ghost use Rattle.occ_net_tables.specs.Room.{HasRoom};
 ghost use Rattle.occ_net_tables.specs.Settling.{Gave, HasMid, IsOffering, IsTaking, LeftChannels, Settles, TakesAlone, TookByte, TookFrom, byte_on, reader_of};
@@ -139,6 +140,16 @@ fn took(arm: Arm, message: Option<Message>) -> Wait
         arm: place,
         indices,
         message,
+    }
+}
+
+/// The first of the faults that were noted and of this one, which comes after them.
+fn first_of(noted: Option<Fault>, fault: Fault) -> Option<Fault>
+    ensures { (faults : List Fault) → noted ≡ first_noted faults → result ≡ first_noted (faults ++ fault ∷ []) }
+{
+    match noted {
+        Some(first) => Some(first),
+        None => Some(fault),
     }
 }
 
@@ -369,7 +380,7 @@ impl Tables {
         );
     }
 
-    /// The process fails, which ends the run.
+    /// The process fails, and stands so for good.
     pub(crate) fn fail(&mut self, place: usize, number: u32, fault: Fault)
         requires { (p : Program) × HasMid p self.old number place (Wait.Faulted fault) }
         ensures { (p : Program) (keyboard : List ℕ) (pick : ℕ) → Settles p keyboard pick number place (Wait.Faulted fault) self.old self.new }
@@ -381,6 +392,6 @@ impl Tables {
             number,
             Wait::Faulted(fault),
         );
-        self.fault = Some(fault);
+        self.fault = first_of(self.fault, fault);
     }
 }

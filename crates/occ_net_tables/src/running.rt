@@ -75,7 +75,7 @@ pub fn run_tables(
     let mut tables = Tables::new(alloc, code)?;
     let mut kept = Vec::new(alloc);
     loop {
-        if let Some(ending) = tables.ending() {
+        if let Some(ending) = tables.ending(code.errors()) {
             return Ok(Ran {
                 ending,
                 kept,

@@ -1,7 +1,8 @@
 //! The network: its parts, its start and its ending.
 ghost use Rattle.std.specs.Prelude.{◌≡◌, IfOk, List, None, map, replicate, ℕ};
 ghost use Rattle.occ_code.specs.Sequential.Compiled.{Program};
-ghost use Rattle.occ_net_replay.specs.Replay.{Net, ending_of, first_net, is_done, main_done};
+ghost use Rattle.occ_net_replay.specs.Replay.{Net, ending_of, first_net, is_done, main_done, stopped_by};
+ghost use Rattle.occ_net_tables.specs.Endings.{ends_by};
 ghost use Rattle.occ_net_tables.specs.Holding.{Holds, communication_of};
 
 use crate::entries::{empty, no_counts};
@@ -9,7 +10,7 @@ use crate::tasks::put_task;
 use crate::trace::Communication;
 use occ_code::{Code, Task, Wait};
 use occ_net_replay::Ending;
-use occ_term::{Fault, Frame};
+use occ_term::{Errors, Fault, Frame};
 use std::alloc::{AllocError, Global};
 
 /// The processes of a program with their channels, the keyboard, the screen and the error channel.
@@ -27,7 +28,7 @@ pub struct Tables {
     pub(crate) parents: Vec<Option<u32>>,
     /// By process number: for how many branches a process still waits that waits for some.
     pub(crate) unfinished: Vec<usize>,
-    /// The fault that ended the run.
+    /// The first fault that a turn ended with.
     pub(crate) fault: Option<Fault>,
     /// How many of the keyboard's bytes are taken.
     pub(crate) used: usize,
@@ -62,6 +63,26 @@ fn is_done(wait: &Wait) -> bool
     match wait {
         Wait::Done => true,
         _ => false,
+    }
+}
+
+/// The fault that ends the run, where this one was the first.
+fn ends_by(errors: Errors, fault: Option<Fault>) -> Option<Fault>
+    ensures { result ≡ ends_by errors fault }
+{
+    match errors {
+        Errors::Halt => fault,
+        Errors::Stop => None,
+    }
+}
+
+/// What stops a run in which no process may take a turn.
+fn stopped_by(fault: Option<Fault>) -> Ending
+    ensures { result ≡ stopped_by fault }
+{
+    match fault {
+        Some(fault) => Ending::StoppedBy(fault),
+        None => Ending::Stopped,
     }
 }
 
@@ -106,18 +127,18 @@ impl Tables {
         })
     }
 
-    /// How the run has ended, if it has.
-    pub fn ending(&self) -> Option<Ending>
-        ensures { (p : Program) (keyboard : List ℕ) (net : Net) → Holds p keyboard self.now net → result ≡ ending_of net }
+    /// How the run has ended, if it has, where a fault does this.
+    pub fn ending(&self, errors: Errors) -> Option<Ending>
+        ensures { (p : Program) (keyboard : List ℕ) (net : Net) → Holds p keyboard self.now net → result ≡ ending_of errors net }
     {
-        if let Some(fault) = self.fault {
+        if let Some(fault) = ends_by(errors, self.fault) {
             return Some(Ending::Fault(fault));
         }
         if main_done(&self.tasks) {
             return Some(Ending::Ended);
         }
         if self.ready.is_empty() {
-            return Some(Ending::Stopped);
+            return Some(stopped_by(self.fault));
         }
         None
     }

@@ -15,6 +15,7 @@ use Rattle.occ_net_replay.specs.declared.choice.Choice.{Choice}
 use Rattle.occ_net_replay.specs.Following.{AreBytes, or_limit}
 use Rattle.occ_net_replay.specs.Replay.{Net, Replays, ending_of}
 use Rattle.occ_net_replay.proofs.Same.{Passed, one_replay, passed}
+use Rattle.occ_play.specs.declared.playing.Options.{Options}
 use Rattle.occ_play.specs.declared.playing.Played.{Played}
 use Rattle.occ_play.specs.Again.{IsSameAnswer, PlayedAgain, PlayedAlone}
 use Rattle.occ_shown.specs.Answers.{answer_text, names_of}
@@ -43,22 +44,22 @@ one_meaning source u v x y =
 
 -- ---- one list of used choices, one answer
 
-module _ (quantum : ℕ) (source keyboard : List ℕ) (trace : Bool) (bytes_are : AreBytes keyboard) where
-  module _ (list others : List Choice) (a b : Played) (bytes text : List ℕ) (x : IsAnswer quantum source keyboard list trace a bytes) (y : IsAnswer quantum source keyboard others trace b text) where
+module _ (options : Options) (source keyboard : List ℕ) (trace : Bool) (bytes_are : AreBytes keyboard) where
+  module _ (list others : List Choice) (a b : Played) (bytes text : List ℕ) (x : IsAnswer options source keyboard list trace a bytes) (y : IsAnswer options source keyboard others trace b text) where
     same_program : MeansSame x.program y.program
     same_program = one_meaning source x.program y.program x.unfolds y.unfolds
 
     same_code : x.compiled ≡ y.compiled
-    same_code = one_code x.program y.program quantum x.compiled y.compiled same_program.term same_program.channels x.from y.from
+    same_code = one_code x.program y.program options.quantum x.compiled y.compiled same_program.term same_program.channels (x.errors ∙ sym y.errors) x.from y.from
 
     one_net : (cs : List Choice) (m n : Net) → length cs < 2 ^ 64 → Replays x.compiled keyboard cs m → Replays y.compiled keyboard cs n → m ≡ n
     one_net cs m n small r s =
-        one_replay x.program x.compiled quantum keyboard cs m n x.unfolds.well_formed x.lawful x.from.does bytes_are small r (subst (λ p. Replays p keyboard cs n) (sym same_code) s)
+        one_replay x.program x.compiled options.quantum keyboard cs m n x.unfolds.well_formed x.lawful x.from.does bytes_are small r (subst (λ p. Replays p keyboard cs n) (sym same_code) s)
 
     pub by_used : length a.choices.items < 2 ^ 64 → a.choices.items ≡ b.choices.items → IsSameAnswer a b bytes text
     by_used small used =
         let net : x.net ≡ y.net = one_net a.choices.items x.net y.net small x.replays (subst (λ cs. Replays y.compiled keyboard cs y.net) (sym used) y.replays) in
-        let ending : a.ending ≡ b.ending = x.ending ∙ ap (λ n. or_limit (ending_of n)) net ∙ sym y.ending in
+        let ending : a.ending ≡ b.ending = x.ending ∙ ap (λ n. or_limit (ending_of options.errors n)) net ∙ sym y.ending in
         let trace_is = x.communicates ∙ ap (λ n. n.trace) net ∙ sym y.communicates in
         record {
           ending = ending;
@@ -75,7 +76,7 @@ module _ (quantum : ℕ) (source keyboard : List ℕ) (trace : Bool) (bytes_are 
         let there : Passed x.compiled keyboard b.choices.items = passed x.compiled keyboard a.choices.items b.choices.items c rest x.net x.replays e in
         let fewer : length b.choices.items < 2 ^ 64 = (let q : length a.choices.items ≡ length b.choices.items + length (c ∷ rest) = ap length e ∙ length-append b.choices.items (c ∷ rest) in omega (arith, q, small)) in
         let net : there.net ≡ y.net = one_net b.choices.items there.net y.net fewer there.replays y.replays in
-        y.whole (y.ending ∙ ap or_limit (ap ending_of (sym net) ∙ there.going))
+        y.whole (y.ending ∙ ap or_limit (ap (ending_of options.errors) (sym net) ∙ ap (λ e. ending_of e there.net) (sym x.errors) ∙ there.going))
 
 -- ---- beginnings of one list
 
@@ -117,27 +118,27 @@ too_long xs ys whole c rest e begun all =
 -- ---- played again
 
 pub played_again : PlayedAgain
-played_again quantum source keyboard list trace a b bytes text keys small x = (by_list, by_own)
+played_again options source keyboard list trace a b bytes text keys small x = (by_list, by_own)
   where
     few : (front : List Choice) → Begins front list → length front < 2 ^ 64
     few front h = let q = begins_short front list h in omega (arith, q, small)
 
-    by_list : IsAnswer quantum source keyboard list trace b text → IsSameAnswer a b bytes text
+    by_list : IsAnswer options source keyboard list trace b text → IsSameAnswer a b bytes text
     by_list y = by (compared a.choices.items b.choices.items x.used.rest y.used.rest (sym x.used.is ∙ y.used.is))
       where
         by : Compared a.choices.items b.choices.items → IsSameAnswer a b bytes text
-        by (same q) = by_used quantum source keyboard trace keys list list a b bytes text x y (few _ x.used) q
-        by (longer c rest q) = absurd (too_long a.choices.items b.choices.items list c rest q x.used (used_all quantum source keyboard trace keys list list a b bytes text x y c rest (few _ x.used) q))
-        by (shorter c rest q) = absurd (too_long b.choices.items a.choices.items list c rest q y.used (used_all quantum source keyboard trace keys list list b a text bytes y x c rest (few _ y.used) q))
+        by (same q) = by_used options source keyboard trace keys list list a b bytes text x y (few _ x.used) q
+        by (longer c rest q) = absurd (too_long a.choices.items b.choices.items list c rest q x.used (used_all options source keyboard trace keys list list a b bytes text x y c rest (few _ x.used) q))
+        by (shorter c rest q) = absurd (too_long b.choices.items a.choices.items list c rest q y.used (used_all options source keyboard trace keys list list b a text bytes y x c rest (few _ y.used) q))
 
-    by_own : IsAnswer quantum source keyboard a.choices.items trace b text → IsSameAnswer a b bytes text
+    by_own : IsAnswer options source keyboard a.choices.items trace b text → IsSameAnswer a b bytes text
     by_own y = by y.used.rest y.used.is
       where
         by : (more : List Choice) → a.choices.items ≡ b.choices.items ++ more → IsSameAnswer a b bytes text
-        by [] q = by_used quantum source keyboard trace keys list a.choices.items a b bytes text x y (few _ x.used) (q ∙ append-nil b.choices.items)
-        by (c ∷ rest) q = absurd (too_long a.choices.items b.choices.items a.choices.items c rest q (record { rest = []; is = sym (append-nil a.choices.items) }) (used_all quantum source keyboard trace keys list a.choices.items a b bytes text x y c rest (few _ x.used) q))
+        by [] q = by_used options source keyboard trace keys list a.choices.items a b bytes text x y (few _ x.used) (q ∙ append-nil b.choices.items)
+        by (c ∷ rest) q = absurd (too_long a.choices.items b.choices.items a.choices.items c rest q (record { rest = []; is = sym (append-nil a.choices.items) }) (used_all options source keyboard trace keys list a.choices.items a b bytes text x y c rest (few _ x.used) q))
 
 pub played_alone : PlayedAlone
-played_alone quantum source keyboard limit trace a b bytes text keys small x y =
+played_alone options source keyboard limit trace a b bytes text keys small x y =
     let few : length a.choices.items < 2 ^ 64 = omega (arith, x.few, small) in
-    (played_again quantum source keyboard a.choices.items trace a b bytes text keys few x.answer).0 y
+    (played_again options source keyboard a.choices.items trace a b bytes text keys few x.answer).0 y

@@ -5,7 +5,10 @@ use Rattle.occ_term.specs.declared.names.Channel.{Channel}
 use Rattle.occ_usage.specs.declared.checked.UsageFault.{UsageFault}
 use Rattle.occ_usage.specs.declared.checked.UsageFault.TheVariants as usage
 use Rattle.occ_usage.specs.Refusals.{UsageRefuses}
-use Rattle.occ_term.specs.System.{HaltMode}
+use Rattle.occ_term.specs.declared.fault.Errors.{Errors}
+use Rattle.occ_term.specs.declared.fault.Errors.TheVariants.{Halt, Stop}
+use Rattle.occ_term.specs.declared.fault.Fault.{Fault}
+use Rattle.occ_term.specs.System.{noted_in}
 use Rattle.occ_term.specs.Runs.{communications, entries, messages_on, shown, shown_by, EndsBy}
 use Rattle.occ_term.specs.Unfolding.{Unfolding, IsWellFormed, declared, Lawful}
 use Rattle.occ_code.specs.Sequential.Compiled.{Program, IsCodeOf, IsCompiledFrom, CodeRefuses}
@@ -20,14 +23,15 @@ use Rattle.occ_shown.specs.Answers.{AreByteMessages, answer_text, names_of}
 use Rattle.occ_shown.specs.Charts.{chart_text}
 use Rattle.occ_shown.proofs.ByteMessages as byte_messages
 use Rattle.occ_net_tables.specs.Holding.{communication_of}
-use Rattle.occ_net_replay.specs.Following.{AllFit, AreBytes, Followed, ending_as, or_limit}
+use Rattle.occ_net_replay.specs.Following.{AllFit, AreBytes, Followed, ending_as, mode_of, or_limit}
 use Rattle.occ_net_tables.specs.Outcomes.{Begins, IsOutcome}
 use Rattle.occ_play.specs.Charting.{IsChart}
+use Rattle.occ_play.specs.declared.playing.Options.{Options}
 use Rattle.occ_play.specs.declared.fault.PlayFault.{PlayFault}
 use Rattle.occ_play.specs.declared.fault.PlayFault.TheVariants as play
-use Rattle.occ_play.specs.Playing.{IsAnswer, Ran, Refuses, RefusesText, Unfolds, UsageRefusesText, CodeRefusesText}
-use Rattle.occ_net_replay.specs.Replay.{Replays, ending_of, ending_by}
-use Rattle.occ_net_replay.proofs.Law.{replays_are_runs}
+use Rattle.occ_play.specs.Playing.{IsAnswer, IsTextsCode, Ran, Refuses, RefusesText, Unfolds, UsageRefusesText, CodeRefusesText}
+use Rattle.occ_net_replay.specs.Replay.{Net, Replays, ending_of, ending_by, standing_by, stopped_by}
+use Rattle.occ_net_replay.proofs.Law.{noted_never_end, replays_are_runs}
 
 -- the bytes of a keyboard
 pub are_bytes : (kb : List ℕ) → ((k : ℕ) → get_or kb k 0 < 256) → AreBytes kb
@@ -36,20 +40,35 @@ are_bytes (b ∷ bs) h = (h 0, are_bytes bs (λ k. h (suc k)))
 
 -- ---- endings
 
-pub never_limit : (f : Option _) (b : Bool) (ready : List ℕ) → ending_by f b ready ≡ Some E.Limit → ⊥
-never_limit (Some e) b ready q = cc
-never_limit None true ready q = cc
-never_limit None false [] q = cc
-never_limit None false (n ∷ ns) q = cc
+stopped_never_limit : (fault : Option Fault) → stopped_by fault ≡ E.Limit → ⊥
+stopped_never_limit None q = cc
+stopped_never_limit (Some e) q = cc
+
+one_ending : {a b : Ending} → ◌≡◌ {A = Option Ending} (Some a) (Some b) → a ≡ b
+one_ending q = cc
+
+standing_never_limit : (fault : Option Fault) (b : Bool) (ready : List ℕ) → standing_by fault b ready ≡ Some E.Limit → ⊥
+standing_never_limit fault true ready q = cc
+standing_never_limit fault false [] q = stopped_never_limit fault (one_ending q)
+standing_never_limit fault false (n ∷ ns) q = cc
+
+pub never_limit : (errors : Errors) (fault : Option Fault) (b : Bool) (ready : List ℕ) → ending_by errors fault b ready ≡ Some E.Limit → ⊥
+never_limit Halt None b ready q = standing_never_limit None b ready q
+never_limit Halt (Some e) b ready q = cc
+never_limit Stop fault b ready q = standing_never_limit fault b ready q
 
 pub none_if : (o : Option Ending) → or_limit o ≡ E.Limit → (o ≡ Some E.Limit → ⊥) → o ≡ None
 none_if None q h = refl
 none_if (Some e) q h = absurd (h (ap (λ x. Some x) q))
 
+ended_if : (o : Option Ending) → or_limit o ≡ E.Ended → o ≡ Some E.Ended
+ended_if None q = cc
+ended_if (Some e) q = ap (λ x. Some x) q
+
 -- ---- the headline
 
 -- a run of a list is one of the choices that were used
-pub ran_alone : {quantum : ℕ} {source keyboard : List ℕ} {list : List Choice} {p : Program} (o : Outcome) → Ran quantum source keyboard list p o → Ran quantum source keyboard o.choices.items p o
+pub ran_alone : {options : Options} {source keyboard : List ℕ} {list : List Choice} {p : Program} (o : Outcome) → Ran options source keyboard list p o → Ran options source keyboard o.choices.items p o
 ran_alone o ran =
     record {
       code = ran.code;
@@ -63,7 +82,7 @@ ran_alone o ran =
       };
     }
 
-followed : (u : Unfolding) (quantum : ℕ) (p : Program) (keyboard : List ℕ) (list : List Choice) (o : Outcome) → IsWellFormed u → Lawful u → IsCompiledFrom u quantum p → AreBytes keyboard → (out : IsOutcome p keyboard list o) → length o.choices.items < 2 ^ 64 → Followed u keyboard quantum out.net
+followed : (u : Unfolding) (quantum : ℕ) (p : Program) (keyboard : List ℕ) (list : List Choice) (o : Outcome) → IsWellFormed u → Lawful u → IsCompiledFrom u quantum p → AreBytes keyboard → (out : IsOutcome p keyboard list o) → length o.choices.items < 2 ^ 64 → Followed u keyboard quantum p.errors out.net
 followed u quantum p keyboard list o w lawful from bytes out small = replays_are_runs u p quantum keyboard o.choices.items out.net w lawful from bytes small out.replays
 
 -- what an outcome's communications carry on the screen's and the error channel
@@ -71,52 +90,83 @@ pub outputs_are_bytes : (u : Unfolding) (quantum : ℕ) (p : Program) (keyboard 
 outputs_are_bytes u quantum p keyboard list o w lawful from bytes out small =
     byte_messages.outputs_are_bytes u quantum keyboard out.net o.trace.items w (followed u quantum p keyboard list o w lawful from bytes out small) out.trace
 
-pub headline : (quantum : ℕ) (source keyboard : List ℕ) (list : List Choice) (trace : Bool) (u : Unfolding) (p : Program) (channels : List Channel) (o : Outcome) (played : Played) (bytes : List ℕ)
-    → Unfolds source u → Lawful u → IsCodeOf u quantum p → AreBytes keyboard → channels ≡ p.channels → IsOutcome p keyboard list o → length o.choices.items < 2 ^ 64
+-- a code with another mode of faults is one of the same source
+pub code_with : (u : Unfolding) (quantum : ℕ) (p : Program) (errors : Errors) → IsCodeOf u quantum p → IsCodeOf u quantum (record p { errors = errors })
+code_with u quantum p errors h =
+    record {
+      does = record { channels = h.does.channels; bodies = h.does.bodies; quanta = h.does.quanta; small = h.does.small };
+      emitted = h.emitted;
+    }
+
+-- the run that an outcome of a text's code follows, and what it says of faults
+record Shown (options : Options) (keyboard : List ℕ) (u : Unfolding) (net : Net) (ending : Ending) : Type 0 where
+  run : Followed u keyboard options.quantum options.errors net
+  ends : or_limit (ending_of options.errors net) ≡ ending
+  clean : ending ≡ E.Ended → noted_in run.system ≡ []
+
+shown_by_run : (options : Options) (keyboard : List ℕ) (list : List Choice) (u : Unfolding) (p : Program) (o : Outcome)
+    → IsWellFormed u → Lawful u → IsCodeOf u options.quantum p → p.errors ≡ options.errors → AreBytes keyboard → (out : IsOutcome p keyboard list o) → length o.choices.items < 2 ^ 64
+    → Shown options keyboard u out.net o.ending
+shown_by_run options keyboard list u p o well lawful from mode keys out small =
+    let f : Followed u keyboard options.quantum options.errors out.net = subst (λ e. Followed u keyboard options.quantum e out.net) mode (followed u options.quantum p keyboard list o well lawful from.does keys out small) in
+    record {
+      run = f;
+      ends = ap (λ e. or_limit (ending_of e out.net)) (sym mode) ∙ sym out.ending;
+      clean = λ h. f.noted ∙ noted_never_end u p options.quantum keyboard o.choices.items out.net well lawful from.does keys small out.replays (ended_if (ending_of p.errors out.net) (sym out.ending ∙ h));
+    }
+
+pub headline : (options : Options) (source keyboard : List ℕ) (list : List Choice) (trace : Bool) (p : Program) (channels : List Channel) (o : Outcome) (played : Played) (bytes : List ℕ)
+    → IsTextsCode options source p → AreBytes keyboard → channels ≡ p.channels → IsOutcome p keyboard list o → length o.choices.items < 2 ^ 64
     → played.ending ≡ o.ending → played.choices ≡ o.choices
     → bytes ≡ answer_text (shown_by (names_of channels) (map communication_of o.trace.items)) o.ending trace
-    → (a : IsAnswer quantum source keyboard list trace played bytes) × (shown_by (names_of channels) (map communication_of o.trace.items) ≡ shown (names_of a.program.channels) a.events)
-headline quantum source keyboard list trace u p channels o played bytes x lawful from keys chan out small same_end same_choices is =
-    let f = followed u quantum p keyboard list o x.well_formed lawful from.does keys out small in
-    let ends : or_limit (ending_of out.net) ≡ played.ending = sym out.ending ∙ sym same_end in
+    → (a : IsAnswer options source keyboard list trace played bytes) × (shown_by (names_of channels) (map communication_of o.trace.items) ≡ shown (names_of a.program.channels) a.events)
+headline options source keyboard list trace p channels o played bytes code keys chan out small same_end same_choices is =
+    let u = code.program in
+    let s = shown_by_run options keyboard list u p o code.unfolds.well_formed code.lawful code.from code.errors keys out small in
+    let f = s.run in
+    let ends : or_limit (ending_of options.errors out.net) ≡ played.ending = s.ends ∙ sym same_end in
     let choices : o.choices.items ≡ played.choices.items = ap (λ v. v.items) (sym same_choices) in
-    let shows : map communication_of o.trace.items ≡ communications f.events = sym out.trace ∙ sym f.communicates in (
+    let shows : map communication_of o.trace.items ≡ communications f.events = sym out.trace ∙ sym f.communicates in
+    let channels_are : channels ≡ u.channels = chan ∙ code.from.does.channels in (
       record {
         program = u;
-        unfolds = x;
-        lawful = lawful;
+        unfolds = code.unfolds;
+        lawful = code.lawful;
         events = f.events;
         system = f.system;
         run = f.run;
-        ends = subst (λ e. EndsBy HaltMode f.system (ending_as e)) ends f.ends;
+        ends = subst (λ e. EndsBy (mode_of options.errors) f.system (ending_as e)) ends f.ends;
+        clean = λ h. s.clean (sym same_end ∙ h);
         is =
-            is ∙ ap (λ cs. answer_text (shown_by (names_of cs) (map communication_of o.trace.items)) o.ending trace) (chan ∙ from.does.channels)
+            is ∙ ap (λ cs. answer_text (shown_by (names_of cs) (map communication_of o.trace.items)) o.ending trace) channels_are
             ∙ ap (λ xs. answer_text (shown_by (names_of u.channels) xs) o.ending trace) shows
             ∙ ap (λ e. answer_text (shown (names_of u.channels) f.events) e trace) (sym same_end);
         used = subst (λ cs. Begins cs list) choices out.used;
-        whole = λ h. sym choices ∙ out.whole (none_if (ending_of out.net) (ends ∙ h) (never_limit _ _ _));
+        whole = λ h. sym choices ∙ out.whole (none_if (ending_of p.errors out.net) (sym out.ending ∙ sym same_end ∙ h) (never_limit p.errors _ _ _));
         compiled = p;
-        from = from;
+        from = code.from;
+        errors = code.errors;
         net = out.net;
         replays = subst (λ cs. Replays p keyboard cs out.net) choices out.replays;
         turns = f.turns;
         communicates = f.communicates;
-        ending = same_end ∙ out.ending;
+        noted = f.noted;
+        ending = sym ends;
         output = λ c. f.output c ∙ ap (messages_on c) (sym f.communicates);
         input = λ c. f.input c ∙ ap (messages_on c) (sym f.communicates);
         fits = λ c. subst (λ xs. AllFit ((declared u).protocols c) (messages_on c xs)) (sym f.communicates) (f.fits c);
       },
-      ap (λ cs. shown_by (names_of cs) (map communication_of o.trace.items)) (chan ∙ from.does.channels) ∙ ap (λ xs. shown_by (names_of u.channels) xs) shows,
+      ap (λ cs. shown_by (names_of cs) (map communication_of o.trace.items)) channels_are ∙ ap (λ xs. shown_by (names_of u.channels) xs) shows,
     )
 
-pub charted : (quantum : ℕ) (source keyboard : List ℕ) (list : List Choice) (most : ℕ) (p : Program) (channels : List Channel) (o : Outcome) (bytes : List ℕ)
-    → Ran quantum source keyboard list p o → AreBytes keyboard → channels ≡ p.channels → length o.choices.items < 2 ^ 64
+pub charted : (options : Options) (source keyboard : List ℕ) (list : List Choice) (most : ℕ) (p : Program) (channels : List Channel) (o : Outcome) (bytes : List ℕ)
+    → Ran options source keyboard list p o → AreBytes keyboard → channels ≡ p.channels → length o.choices.items < 2 ^ 64
     → bytes ≡ chart_text (entries (names_of channels) 1 (map communication_of o.trace.items)) o.ending most
-    → IsChart quantum source keyboard list most bytes
-charted quantum source keyboard list most p channels o bytes ran keys chan small is =
+    → IsChart options source keyboard list most bytes
+charted options source keyboard list most p channels o bytes ran keys chan small is =
     let played : Played = record { ending = o.ending; choices = o.choices } in
     let answer : List ℕ = answer_text (shown_by (names_of channels) (map communication_of o.trace.items)) o.ending true in
-    let h = headline quantum source keyboard list true ran.code.program p channels o played answer ran.code.unfolds ran.code.lawful ran.code.from keys chan ran.is small refl refl refl in
+    let h = headline options source keyboard list true p channels o played answer ran.code keys chan ran.is small refl refl refl in
     record { played = played; answer = answer; run = h.0; is = is ∙ ap (λ s. chart_text s.trace o.ending most) h.1 }
 
 -- ---- refusals
@@ -132,13 +182,13 @@ code_refuses quantum u code.TooLarge x h = (u, x, h.1)
 code_refuses quantum u code.BadQuantum x h = h
 code_refuses quantum u code.Memory x h = tt
 
--- a text that is refused before there is code is refused for each quantum
-pub refuses : (quantum : ℕ) (source : List ℕ) (fault : PlayFault) → RefusesText source fault → Refuses quantum source fault
-refuses quantum source (play.Text f) h = h
-refuses quantum source (play.Parse f) h = h
-refuses quantum source (play.Check f) h = h
-refuses quantum source (play.Usage f) h = h
-refuses quantum source (play.Code f) h = absurd h
-refuses quantum source (play.Write written) h = h
-refuses quantum source (play.Run f) h = h
-refuses quantum source (play.Memory e) h = h
+-- a text that is refused before there is code is refused for any options
+pub refuses : (options : Options) (source : List ℕ) (fault : PlayFault) → RefusesText source fault → Refuses options source fault
+refuses options source (play.Text f) h = h
+refuses options source (play.Parse f) h = h
+refuses options source (play.Check f) h = h
+refuses options source (play.Usage f) h = h
+refuses options source (play.Code f) h = absurd h
+refuses options source (play.Write written) h = h
+refuses options source (play.Run f) h = h
+refuses options source (play.Memory e) h = h

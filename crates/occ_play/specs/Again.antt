@@ -2,6 +2,7 @@
 use Rattle.std.specs.Prelude.{Bool, List, length, ℕ, ◌<◌, ◌^◌, ◌≡◌}
 use Rattle.occ_net_replay.specs.declared.choice.Choice.{Choice}
 use Rattle.occ_net_replay.specs.Following.{AreBytes}
+use Rattle.occ_play.specs.declared.playing.Options.{Options}
 use Rattle.occ_play.specs.declared.playing.Played.{Played}
 use Rattle.occ_play.specs.Playing.{IsAnswer}
 use Rattle.occ_play.specs.Working.{IsAnswerWithin}
@@ -12,21 +13,21 @@ pub record IsSameAnswer (a b : Played) (text other : List ℕ) : Type 0 where
   pub choices : a.choices.items ≡ b.choices.items
   pub bytes : text ≡ other
 
--- Two answers of one source, keyboard, word for the trace and quantum are the same where both are by one list of choices, and where
+-- Two answers of one source, keyboard, word for the trace and options are the same where both are by one list of choices, and where
 -- the one is by the choices that the other used.
 abbrev pub PlayedAgain : Type 0
 PlayedAgain =
-    (quantum : ℕ) (source keyboard : List ℕ) (list : List Choice) (trace : Bool) (a b : Played) (bytes others : List ℕ)
+    (options : Options) (source keyboard : List ℕ) (list : List Choice) (trace : Bool) (a b : Played) (bytes others : List ℕ)
     → AreBytes keyboard → length list < 2 ^ 64
-    → IsAnswer quantum source keyboard list trace a bytes
-    → (IsAnswer quantum source keyboard list trace b others → IsSameAnswer a b bytes others)
-    × (IsAnswer quantum source keyboard a.choices.items trace b others → IsSameAnswer a b bytes others)
+    → IsAnswer options source keyboard list trace a bytes
+    → (IsAnswer options source keyboard list trace b others → IsSameAnswer a b bytes others)
+    × (IsAnswer options source keyboard a.choices.items trace b others → IsSameAnswer a b bytes others)
 
 -- What workers played and what one thread plays by the choices that they used is the same.
 abbrev pub PlayedAlone : Type 0
 PlayedAlone =
-    (quantum : ℕ) (source keyboard : List ℕ) (limit : ℕ) (trace : Bool) (a b : Played) (bytes others : List ℕ)
+    (options : Options) (source keyboard : List ℕ) (limit : ℕ) (trace : Bool) (a b : Played) (bytes others : List ℕ)
     → AreBytes keyboard → limit < 2 ^ 64
-    → IsAnswerWithin quantum source keyboard limit trace a bytes
-    → IsAnswer quantum source keyboard a.choices.items trace b others
+    → IsAnswerWithin options source keyboard limit trace a bytes
+    → IsAnswer options source keyboard a.choices.items trace b others
     → IsSameAnswer a b bytes others

@@ -1,5 +1,5 @@
 -- What `play` promises: the answer of an accepted program is shown by a run of its source, with that run's ending.
-use Rattle.std.specs.Prelude.{Bool, List, Option, length, map, take, ℕ, ⊤, ◌*◌, ◌<◌, ◌≡◌}
+use Rattle.std.specs.Prelude.{Bool, List, [], Option, length, map, take, ℕ, ⊤, ◌*◌, ◌<◌, ◌≡◌}
 use Rattle.std.specs.Io.KnownBytes.{Appends}
 use Rattle.occ_text.specs.Words.{Row}
 use Rattle.occ_text.specs.Lines.{LinesOf}
@@ -15,7 +15,7 @@ use Rattle.occ_usage.specs.declared.checked.UsageFault.TheVariants as usage
 use Rattle.occ_term.specs.Sizes.{size_of}
 use Rattle.occ_usage.specs.Refusals.{UsageRefuses}
 use Rattle.occ_term.specs.Unfolding.{Unfolding, declared, meaning, IsWellFormed, Lawful}
-use Rattle.occ_term.specs.System.{System, start, HaltMode}
+use Rattle.occ_term.specs.System.{System, start, noted_in}
 use Rattle.occ_term.specs.Runs.{Event, Run, communications, shown, EndsBy}
 use Rattle.occ_code.specs.Sequential.Compiled.{Program, IsCodeOf, IsQuantum, most_instructions}
 use Rattle.occ_check_meaning.specs.ProgramUnfolding.{UnfoldsTo}
@@ -25,6 +25,8 @@ use Rattle.occ_code.specs.declared.compiler.code.CodeFault.{CodeFault}
 use Rattle.occ_code.specs.declared.compiler.code.CodeFault.TheVariants as code
 use Rattle.occ_net_replay.specs.declared.choice.Choice.{Choice}
 use Rattle.occ_net_replay.specs.declared.ending.Ending.TheVariants as E
+use Rattle.occ_term.specs.declared.fault.Errors.TheVariants.{Halt}
+use Rattle.occ_play.specs.declared.playing.Options.{Options}
 use Rattle.occ_play.specs.declared.playing.Played.{Played}
 use Rattle.occ_net_tables.specs.declared.running.Outcome.{Outcome}
 use Rattle.occ_shown.specs.declared.counted.Counted.{Counted}
@@ -32,7 +34,7 @@ use Rattle.occ_play.specs.declared.fault.PlayFault.{PlayFault}
 use Rattle.occ_play.specs.declared.fault.PlayFault.TheVariants as play
 use Rattle.occ_shown.specs.Answers.{answer_text, names_of}
 use Rattle.occ_shown.specs.Counting.{failures_of, writer_of}
-use Rattle.occ_net_replay.specs.Following.{AllFit, ending_as, or_limit, process_in}
+use Rattle.occ_net_replay.specs.Following.{AllFit, ending_as, mode_of, or_limit, process_in}
 use Rattle.occ_net_tables.specs.Outcomes.{Begins, IsOutcome}
 use Rattle.occ_net_replay.specs.Replay.{Net, Replays, ending_of}
 
@@ -52,50 +54,58 @@ pub record Unfolds (source : List ℕ) (u : Unfolding) : Type 0 where
   pub unfolds : UnfoldsTo items u
   pub well_formed : IsWellFormed u
 
--- the code of a text's program, for turns of this quantum; the program keeps the usage rules
-pub record IsTextsCode (quantum : ℕ) (source : List ℕ) (p : Program) : Type 0 where
+-- turns that stop at each end of a loop's body, and faults that end the whole run
+abbrev pub plain : Options
+plain = record { quantum = 1; errors = Halt }
+
+-- the code of a text's program, for turns of this quantum and with faults that do this; the program keeps the usage rules
+pub record IsTextsCode (options : Options) (source : List ℕ) (p : Program) : Type 0 where
   pub program : Unfolding
   pub unfolds : Unfolds source program
   pub lawful : Lawful program
-  pub from : IsCodeOf program quantum p
+  pub from : IsCodeOf program options.quantum p
+  pub errors : p.errors ≡ options.errors
 
 -- what the code of a text's program comes to by a list of choices
-pub record Ran (quantum : ℕ) (source keyboard : List ℕ) (list : List Choice) (p : Program) (o : Outcome) : Type 0 where
-  pub code : IsTextsCode quantum source p
+pub record Ran (options : Options) (source keyboard : List ℕ) (list : List Choice) (p : Program) (o : Outcome) : Type 0 where
+  pub code : IsTextsCode options source p
   pub is : IsOutcome p keyboard list o
 
 -- ---- the answer of an accepted program
 
 -- There is an unfolding of the text that keeps the usage rules, and a run of its system, with one turn of this quantum for
--- each used choice by the process that the choice selects, whose answer the bytes are, with that run's ending. The used
--- choices are a beginning of the list, and all of it where the run goes on. Which process a choice selects is what the
--- replay of the used choices says, over the program's code for that quantum: it has the run's turns, communications and
--- ending. On each channel the messages output and those input are, in order, the communicated ones, each of the channel's
--- protocol.
-pub record IsAnswer (quantum : ℕ) (source keyboard : List ℕ) (list : List Choice) (trace : Bool) (played : Played) (bytes : List ℕ) : Type 0 where
+-- each used choice by the process that the choice selects, whose answer the bytes are, with that run's ending. In the run a
+-- fault does what the options say, and a run that has noted a fault never ends. The used choices are a beginning of the list,
+-- and all of it where the run goes on. Which process a choice selects is what the replay of the used choices says, over the
+-- program's code for that quantum: it has the run's turns, communications, faults and ending. On each channel the messages
+-- output and those input are, in order, the communicated ones, each of the channel's protocol.
+pub record IsAnswer (options : Options) (source keyboard : List ℕ) (list : List Choice) (trace : Bool) (played : Played) (bytes : List ℕ) : Type 0 where
   pub program : Unfolding
   pub unfolds : Unfolds source program
   pub lawful : Lawful program
   pub events : List Event
   pub system : System
-  pub run : Run HaltMode quantum (start (meaning program) keyboard) events system
-  pub ends : EndsBy HaltMode system (ending_as played.ending)
+  pub run : Run (mode_of options.errors) options.quantum (start (meaning program) keyboard) events system
+  pub ends : EndsBy (mode_of options.errors) system (ending_as played.ending)
+  pub clean : played.ending ≡ E.Ended → noted_in system ≡ []
   pub is : bytes ≡ answer_text (shown (names_of program.channels) events) played.ending trace
   pub used : Begins played.choices.items list
   pub whole : played.ending ≡ E.Limit → played.choices.items ≡ list
   pub compiled : Program
-  pub from : IsCodeOf program quantum compiled
+  pub from : IsCodeOf program options.quantum compiled
+  pub errors : compiled.errors ≡ options.errors
   pub net : Net
   pub replays : Replays compiled keyboard played.choices.items net
   pub turns : map process_in events ≡ net.turns
   pub communicates : communications events ≡ net.trace
-  pub ending : played.ending ≡ or_limit (ending_of net)
+  pub noted : noted_in system ≡ net.noted
+  pub ending : played.ending ≡ or_limit (ending_of options.errors net)
   pub output : (c : ℕ) → net.output c ≡ (shown (names_of program.channels) events).messages c
   pub input : (c : ℕ) → net.input c ≡ (shown (names_of program.channels) events).messages c
   pub fits : (c : ℕ) → AllFit ((declared program).protocols c) ((shown (names_of program.channels) events).messages c)
 
-abbrev pub IsSomeAnswer : ℕ → (source keyboard : List ℕ) → List Choice → Bool → List ℕ → Type 0
-IsSomeAnswer quantum source keyboard list trace bytes = (played : Played) × IsAnswer quantum source keyboard list trace played bytes
+abbrev pub IsSomeAnswer : Options → (source keyboard : List ℕ) → List Choice → Bool → List ℕ → Type 0
+IsSomeAnswer options source keyboard list trace bytes = (played : Played) × IsAnswer options source keyboard list trace played bytes
 
 -- ---- refusals
 
@@ -131,10 +141,10 @@ RefusesText source (play.Write written) = ⊥
 RefusesText source (play.Run fault) = ⊥
 RefusesText source (play.Memory e) = ⊤
 
--- for turns of this quantum
-abbrev pub Refuses : ℕ → List ℕ → PlayFault → Type 0
-Refuses quantum source (play.Code fault) = CodeRefusesText quantum fault source
-Refuses quantum source fault = RefusesText source fault
+-- for turns of these options
+abbrev pub Refuses : Options → List ℕ → PlayFault → Type 0
+Refuses options source (play.Code fault) = CodeRefusesText options.quantum fault source
+Refuses options source fault = RefusesText source fault
 
 -- A failed write was met, and a beginning of an answer of length `written` was written and nothing else; any other fault refuses
 -- what was asked for, and leaves the writer as it was.

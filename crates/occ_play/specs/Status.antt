@@ -7,7 +7,7 @@ use Rattle.occ_check_names.specs.declared.fault.CheckFault.TheVariants as check
 use Rattle.occ_code.specs.declared.compiler.code.CodeFault.TheVariants as code
 use Rattle.occ_run.specs.declared.fault.RunFault.TheVariants as run
 use Rattle.occ_net_replay.specs.declared.ending.Ending.{Ending}
-use Rattle.occ_net_replay.specs.declared.ending.Ending.TheVariants.{Ended, Stopped, Fault, Limit}
+use Rattle.occ_net_replay.specs.declared.ending.Ending.TheVariants.{Ended, Stopped, Fault, StoppedBy, Limit}
 use Rattle.occ_play.specs.declared.playing.Played.{Played}
 use Rattle.occ_play.specs.declared.fault.PlayFault.{PlayFault}
 use Rattle.occ_play.specs.declared.fault.PlayFault.TheVariants as play
@@ -16,6 +16,7 @@ abbrev pub ending_status : Ending → ℕ
 ending_status Ended = 0
 ending_status Stopped = 2
 ending_status (Fault fault) = 3
+ending_status (StoppedBy fault) = 2
 ending_status Limit = 4
 
 -- 1 for a refused source, 5 for want of memory and for threads that gave no answer, 6 for a failed write, 7 for a quantum or a number

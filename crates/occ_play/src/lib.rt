@@ -12,5 +12,6 @@ pub use occ_net_replay::{Choice, Ending};
 pub use occ_net_tables::{Communication, End};
 pub use occ_run::{FreeGate, Gate, RunFault};
 pub use occ_shown::Counted;
+pub use occ_term::Errors;
 pub use playing::{Options, Played, chart, play, play_in, status_of};
 pub use workers::{play_workers, play_workers_in};

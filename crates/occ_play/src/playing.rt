@@ -5,7 +5,7 @@ ghost use Rattle.occ_choices.specs.Plans.{choices_of};
 ghost use Rattle.occ_net_replay.specs.declared.choice.Choice.{Choice};
 ghost use Rattle.occ_net_tables.specs.Outcomes.{IsOutcome};
 ghost use Rattle.occ_play.specs.Charting.{IsChart};
-ghost use Rattle.occ_play.specs.Playing.{AfterFault, IsAnswer, IsSomeAnswer, IsTextsCode, Ran, Refuses, RefusesText, Unfolds, Wrote};
+ghost use Rattle.occ_play.specs.Playing.{AfterFault, IsAnswer, IsSomeAnswer, IsTextsCode, Ran, Refuses, RefusesText, Unfolds, Wrote, plain};
 ghost use Rattle.occ_term.specs.Unfolding.{Lawful};
 ghost use Rattle.occ_play.specs.Status.{status};
 
@@ -17,7 +17,7 @@ use occ_net_replay::{Choice, Ending};
 use occ_net_tables::{Outcome, run};
 use occ_run::RunFault;
 use occ_shown::{Counted, answer, write_answer};
-use occ_term::Unfolded;
+use occ_term::{Errors, Unfolded};
 use occ_text::{TextFault, read_lines};
 use occ_tree::parse;
 use occ_tree_grammar::ParseFault;
@@ -39,14 +39,19 @@ pub struct Played {
 pub struct Options {
     /// How many ends of a loop's body a turn may pass before it stops there, 1 to 65,536.
     pub quantum: u32,
+    /// What a fault does.
+    pub errors: Errors,
 }
 
 impl Options {
-    /// Turns that stop at each end of a loop's body.
+    /// Turns that stop at each end of a loop's body, and faults that end the whole run.
     pub fn plain() -> Options
-        ensures { result.quantum ≡ 1 }
+        ensures { result ≡ plain }
     {
-        Options { quantum: 1 }
+        Options {
+            quantum: 1,
+            errors: Errors::Halt,
+        }
     }
 }
 
@@ -71,9 +76,9 @@ pub fn play<W: Write>(
 ) -> Result<Played, PlayFault>
     requires room { failures_of out.old < 2 ^ 64 - 1 }
     ensures played { IfOk result (λ played. Wrote W.contents
-        (IsAnswer 1 source.now keyboard.now (choices_of plan.now) trace played) out.old out.new) }
+        (IsAnswer plain source.now keyboard.now (choices_of plan.now) trace played) out.old out.new) }
     ensures fault { IfErr result (AfterFault W.contents
-        (IsSomeAnswer 1 source.now keyboard.now (choices_of plan.now) trace) (Refuses 1 source.now) out.old out.new) }
+        (IsSomeAnswer plain source.now keyboard.now (choices_of plan.now) trace) (Refuses plain source.now) out.old out.new) }
 {
     play_in(&Options::plain(), alloc, source, keyboard, plan, trace, out)
 }
@@ -94,9 +99,9 @@ pub fn play_in<W: Write>(
 ) -> Result<Played, PlayFault>
     requires room { failures_of out.old < 2 ^ 64 - 1 }
     ensures played { IfOk result (λ played. Wrote W.contents
-        (IsAnswer options.now.quantum source.now keyboard.now (choices_of plan.now) trace played) out.old out.new) }
+        (IsAnswer options.now source.now keyboard.now (choices_of plan.now) trace played) out.old out.new) }
     ensures fault { IfErr result (AfterFault W.contents
-        (IsSomeAnswer options.now.quantum source.now keyboard.now (choices_of plan.now) trace) (Refuses options.now.quantum source.now) out.old out.new) }
+        (IsSomeAnswer options.now source.now keyboard.now (choices_of plan.now) trace) (Refuses options.now source.now) out.old out.new) }
 {
     let (played, bytes) = answered(options, alloc, source, keyboard, plan, trace)?;
     match write_answer(bytes.as_slice(), out) {
@@ -114,8 +119,8 @@ fn answered(
     plan: &Plan,
     trace: bool,
 ) -> Result<(Played, Vec<u8>), PlayFault>
-    ensures answer { IfOk result (λ r. IsAnswer options.now.quantum source.now keyboard.now (choices_of plan.now) trace r.0 r.1.items) }
-    ensures refused { IfErr result (Refuses options.now.quantum source.now) }
+    ensures answer { IfOk result (λ r. IsAnswer options.now source.now keyboard.now (choices_of plan.now) trace r.0 r.1.items) }
+    ensures refused { IfErr result (Refuses options.now source.now) }
 {
     let (code, outcome) = ran(options, alloc, source, keyboard, plan)?;
     let (played, bytes) = told(options, alloc, source, keyboard, &code, outcome, trace)?;
@@ -132,11 +137,11 @@ pub(crate) fn told(
     outcome: Outcome,
     trace: bool,
 ) -> Result<(Played, Vec<u8>), PlayFault>
-    requires { Ran options.now.quantum source.now keyboard.now outcome.choices.items code.now outcome }
-    ensures answer { IfOk result (λ r. (list : List Choice) → IsOutcome code.now keyboard.now list outcome → IsAnswer options.now.quantum source.now keyboard.now list trace r.0 r.1.items) }
+    requires { Ran options.now source.now keyboard.now outcome.choices.items code.now outcome }
+    ensures answer { IfOk result (λ r. (list : List Choice) → IsOutcome code.now keyboard.now list outcome → IsAnswer options.now source.now keyboard.now list trace r.0 r.1.items) }
     ensures choices { IfOk result (λ r. r.0.choices ≡ outcome.choices) }
     ensures ending { IfOk result (λ r. r.0.ending ≡ outcome.ending) }
-    ensures refused { IfErr result (Refuses options.now.quantum source.now) }
+    ensures refused { IfErr result (Refuses options.now source.now) }
 {
     let bytes = answer(
         alloc,
@@ -168,8 +173,8 @@ pub fn chart(
     plan: &Plan,
     most: u32,
 ) -> Result<Vec<u8>, PlayFault>
-    ensures drawn { IfOk result (λ bytes. IsChart options.now.quantum source.now keyboard.now (choices_of plan.now) most bytes.items) }
-    ensures refused { IfErr result (Refuses options.now.quantum source.now) }
+    ensures drawn { IfOk result (λ bytes. IsChart options.now source.now keyboard.now (choices_of plan.now) most bytes.items) }
+    ensures refused { IfErr result (Refuses options.now source.now) }
 {
     let (code, outcome) = ran(options, alloc, source, keyboard, plan)?;
     let bytes = occ_shown::chart(
@@ -190,8 +195,8 @@ fn ran(
     keyboard: &[u8],
     plan: &Plan,
 ) -> Result<(Code, Outcome), PlayFault>
-    ensures ran { IfOk result (λ r. Ran options.now.quantum source.now keyboard.now (choices_of plan.now) r.0 r.1) }
-    ensures refused { IfErr result (Refuses options.now.quantum source.now) }
+    ensures ran { IfOk result (λ r. Ran options.now source.now keyboard.now (choices_of plan.now) r.0 r.1) }
+    ensures refused { IfErr result (Refuses options.now source.now) }
 {
     let code = code_of(options, alloc, source)?;
     let outcome = run(alloc, &code, keyboard, plan)?;
@@ -200,15 +205,15 @@ fn ran(
 
 /// The code of a source's program.
 pub(crate) fn code_of(options: &Options, alloc: Global, source: &[u8]) -> Result<Code, PlayFault>
-    ensures code { IfOk result (IsTextsCode options.now.quantum source.now) }
-    ensures refused { IfErr result (Refuses options.now.quantum source.now) }
+    ensures code { IfOk result (IsTextsCode options.now source.now) }
+    ensures refused { IfErr result (Refuses options.now source.now) }
 {
     let checked = accepted(alloc, source)?;
     let code = match compile_for(alloc, &checked, options.quantum) {
         Ok(code) => code,
         Err(fault) => return Err(PlayFault::Code(fault)),
     };
-    Ok(code)
+    Ok(code.with_errors(options.errors))
 }
 
 /// The program of a source that keeps the usage rules.
@@ -251,7 +256,7 @@ pub fn status_of(played: &Result<Played, PlayFault>) -> u8
     match played {
         Ok(Played { ending, .. }) => match ending {
             Ending::Ended => 0,
-            Ending::Stopped => 2,
+            Ending::Stopped | Ending::StoppedBy(_) => 2,
             Ending::Fault(_) => 3,
             Ending::Limit => 4,
         },

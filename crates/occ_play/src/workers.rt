@@ -1,7 +1,7 @@
 //! Plays a program by several threads.
 ghost use Rattle.std.specs.Prelude.{◌≡◌, ◌<◌, ◌-◌, ◌^◌, IfOk, IfErr};
 ghost use Rattle.occ_shown.specs.Counting.{failures_of};
-ghost use Rattle.occ_play.specs.Playing.{AfterFault, Wrote};
+ghost use Rattle.occ_play.specs.Playing.{AfterFault, Wrote, plain};
 ghost use Rattle.occ_play.specs.Working.{IsAnswerWithin, IsCrew, IsSomeAnswerWithin, WorkersRefuse};
 
 use crate::fault::PlayFault;
@@ -33,10 +33,10 @@ pub fn play_workers<R: Threads + Wait + Sync, G: Gate + Sync, W: Write>(
 ) -> Result<Played, PlayFault>
     requires room { failures_of out.old < 2 ^ 64 - 1 }
     ensures played { IfOk result (λ played. Wrote W.contents
-        (IsAnswerWithin 1 source.now keyboard.now limit trace played) out.old out.new) }
+        (IsAnswerWithin plain source.now keyboard.now limit trace played) out.old out.new) }
     ensures crew { IfOk result (λ _. IsCrew workers) }
     ensures fault { IfErr result (AfterFault W.contents
-        (IsSomeAnswerWithin 1 source.now keyboard.now limit trace) (WorkersRefuse workers 1 source.now) out.old out.new) }
+        (IsSomeAnswerWithin plain source.now keyboard.now limit trace) (WorkersRefuse workers plain source.now) out.old out.new) }
 {
     let options = Options::plain();
     play_workers_in(
@@ -63,10 +63,10 @@ pub fn play_workers_in<R: Threads + Wait + Sync, G: Gate + Sync, W: Write>(
 ) -> Result<Played, PlayFault>
     requires room { failures_of out.old < 2 ^ 64 - 1 }
     ensures played { IfOk result (λ played. Wrote W.contents
-        (IsAnswerWithin options.now.quantum source.now keyboard.now limit trace played) out.old out.new) }
+        (IsAnswerWithin options.now source.now keyboard.now limit trace played) out.old out.new) }
     ensures crew { IfOk result (λ _. IsCrew workers) }
     ensures fault { IfErr result (AfterFault W.contents
-        (IsSomeAnswerWithin options.now.quantum source.now keyboard.now limit trace) (WorkersRefuse workers options.now.quantum source.now) out.old out.new) }
+        (IsSomeAnswerWithin options.now source.now keyboard.now limit trace) (WorkersRefuse workers options.now source.now) out.old out.new) }
 {
     let (played, bytes) = gathered(
         rt, options, alloc, source, keyboard, workers, limit, trace, gate,
@@ -89,9 +89,9 @@ fn gathered<R: Threads + Wait + Sync, G: Gate + Sync>(
     trace: bool,
     gate: &G,
 ) -> Result<(Played, Vec<u8>), PlayFault>
-    ensures answer { IfOk result (λ r. IsAnswerWithin options.now.quantum source.now keyboard.now limit trace r.0 r.1.items) }
+    ensures answer { IfOk result (λ r. IsAnswerWithin options.now source.now keyboard.now limit trace r.0 r.1.items) }
     ensures crew { IfOk result (λ _. IsCrew workers) }
-    ensures refused { IfErr result (WorkersRefuse workers options.now.quantum source.now) }
+    ensures refused { IfErr result (WorkersRefuse workers options.now source.now) }
 {
     let code = code_of(options, alloc, source)?;
     let outcome = run_workers(rt, alloc, &code, keyboard, workers, limit, gate)?;

@@ -1,8 +1,12 @@
 //! The words of the command line.
-ghost use Rattle.std.specs.Prelude.{◌≡◌, ◌≤◌, unwrap_or};
+ghost use Rattle.std.specs.Prelude.{◌≡◌, ◌≤◌, ◌<◌, IsTrue, unwrap_or};
+ghost use Rattle.std.specs.Option.{ForSome, option_copied};
+ghost use Rattle.occ_play_inputs.specs.Modes.{IsMode};
 
+use clap::builder::ValueParser;
 use clap::error::ErrorKind;
 use clap::{Arg, ArgAction, Command, Error, value_parser};
+use occ_term::Errors;
 use std::alloc::Global;
 
 /// How many turns a run may take where no word says so.
@@ -10,6 +14,15 @@ pub const DEFAULT_LIMIT: u32 = 1_000_000;
 
 /// The most turns that a word may ask for.
 pub const MOST_TURNS: u32 = 10_000_000;
+
+/// The most ends of a loop's body that a word may let a turn pass.
+pub const MOST_QUANTUM: u32 = 65_536;
+
+/// The most workers that a word may ask for.
+pub const MOST_WORKERS: u32 = 64;
+
+/// What a word may say that a fault does.
+static MODES: [&str; 2] = ["halt", "stop"];
 
 /// How many communications a chart shows where no word says so.
 pub const DEFAULT_ARROWS: u32 = 200;
@@ -22,8 +35,8 @@ the end of a loop's body, STOP, a fault, or its end.
 Exit status:
   0  the program ended, or this help
   1  the source was refused
-  2  the program stopped: no process can go on
-  3  a fault in the run
+  2  the program stopped: no process can go on, or one stopped by a fault is waited for
+  3  a fault ended the run
   4  the limit of turns came first
   5  memory ran out, or threads gave no answer
   6  a file or a stream could not be read or written
@@ -39,6 +52,8 @@ pub struct Words<'a> {
     pub limit: u32,
     /// How many ends of a loop's body a turn may pass, 1 to 65,536.
     pub quantum: u32,
+    /// What a fault does.
+    pub errors: Errors,
     /// How many threads take the turns, 1 to 64; none for the program's own alone.
     pub workers: Option<u32>,
     /// Whether each communication is printed.
@@ -55,6 +70,8 @@ pub struct Words<'a> {
     /// The path of the source; none where standard input is the source.
     pub file: Option<&'a str>,
     ghost limit_in_range: { limit ≤ 10000000 },
+    ghost quantum_in_range: { (0 < quantum) × (quantum ≤ 65536) },
+    ghost workers_in_range: { ForSome workers (λ n. (0 < n) × (n ≤ 64)) },
 }
 
 /// Reads the words, of which the first is the program's name.
@@ -73,10 +90,22 @@ pub fn read_words<'a>(alloc: Global, words: &'a [&'a str]) -> Result<Words<'a>, 
             "the limit is 0 to 10000000 turns",
         )?);
     }
+    let quantum = quantum_of(matches.get_one::<u32>("quantum"));
+    if quantum == 0 || quantum > MOST_QUANTUM {
+        return Err(command.error(ErrorKind::ValueValidation, "the quantum is 1 to 65536")?);
+    }
+    let workers = matches.get_one::<u32>("workers");
+    if !are_workers(workers) {
+        return Err(command.error(
+            ErrorKind::ValueValidation,
+            "the number of workers is 1 to 64",
+        )?);
+    }
     Ok(Words {
         limit,
-        quantum: quantum_of(matches.get_one::<u32>("quantum")),
-        workers: matches.get_one::<u32>("workers"),
+        quantum,
+        errors: errors_of(matches.get_str("errors")),
+        workers,
         trace: matches.get_flag("trace"),
         choices: matches.get_str("choices"),
         record: matches.get_str("record"),
@@ -100,6 +129,26 @@ fn quantum_of(given: Option<u32>) -> u32
     given.unwrap_or(1)
 }
 
+/// Whether there may be so many workers; none are the program's own thread.
+fn are_workers(given: Option<u32>) -> bool
+    ensures { IsTrue result → ForSome given (λ n. (0 < n) × (n ≤ 64)) }
+{
+    match given {
+        Some(workers) => workers > 0 && workers <= MOST_WORKERS,
+        None => true,
+    }
+}
+
+/// What a fault does, where the words gave this name or none.
+fn errors_of(given: Option<&str>) -> Errors
+    ensures { IsMode (option_copied given.entry) result }
+{
+    match given {
+        Some("stop") => Errors::Stop,
+        _ => Errors::Halt,
+    }
+}
+
 /// How many communications a chart shows, where the words gave this number or none.
 fn arrows_of(given: Option<u32>) -> u32
     ensures { result ≡ unwrap_or given 200 }
@@ -114,6 +163,7 @@ fn command<'a>(alloc: Global) -> Result<Command<'a>, Error> {
         .after_help(MORE_HELP)
         .arg(limit_word(alloc))?
         .arg(quantum_word(alloc))?
+        .arg(errors_word(alloc))?
         .arg(workers_word(alloc))?
         .arg(choices_word(alloc))?
         .arg(record_word(alloc))?
@@ -138,6 +188,14 @@ fn quantum_word<'a>(alloc: Global) -> Arg<'a> {
         .value_name("N")
         .help("Lets a turn pass N ends of a loop's body, 1 to 65536 [default: 1]")
         .value_parser(value_parser!(u32).range(1..=65_536))
+}
+
+fn errors_word<'a>(alloc: Global) -> Arg<'a> {
+    Arg::new(alloc, "errors")
+        .long("errors")
+        .value_name("MODE")
+        .help("Says what a fault does: halt ends the run, stop its process alone [default: halt]")
+        .value_parser(ValueParser::Names(MODES.as_slice()))
 }
 
 fn workers_word<'a>(alloc: Global) -> Arg<'a> {

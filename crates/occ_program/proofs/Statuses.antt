@@ -10,7 +10,7 @@ use Rattle.occ_code.specs.declared.compiler.code.CodeFault.TheVariants as code
 use Rattle.occ_run.specs.declared.fault.RunFault.TheVariants as run
 use Rattle.occ_net_replay.specs.declared.choice.Choice.{Choice}
 use Rattle.occ_net_replay.specs.declared.ending.Ending.{Ending}
-use Rattle.occ_net_replay.specs.declared.ending.Ending.TheVariants.{Ended, Stopped, Fault, Limit}
+use Rattle.occ_net_replay.specs.declared.ending.Ending.TheVariants.{Ended, Stopped, Fault, StoppedBy, Limit}
 use Rattle.occ_play.specs.declared.playing.Played.{Played}
 use Rattle.occ_shown.specs.declared.counted.Counted.{Counted}
 use Rattle.occ_play.specs.declared.fault.PlayFault.{PlayFault}
@@ -25,12 +25,14 @@ use Rattle.occ_play.proofs.Working.{workers_refuse}
 use Rattle.occ_play.specs.Status.{ending_status, fault_status, status}
 use Rattle.occ_play_inputs.specs.Failures.{failure_status}
 use Rattle.occ_play_inputs.specs.declared.words.Words.{Words as Asked}
-use Rattle.occ_program.specs.Coming.{CameTo, CameToBy, IsStatusFor, ProgramStatus, of_play, of_failure, of_help}
+use Rattle.occ_play.specs.declared.playing.Options.{Options}
+use Rattle.occ_program.specs.Coming.{CameTo, CameToBy, options_in, IsStatusFor, ProgramStatus, of_play, of_failure, of_help}
 
 ending_small : (e : Ending) → ending_status e ≤ 7
 ending_small Ended = omega arith
 ending_small Stopped = omega arith
 ending_small (Fault fault) = omega arith
+ending_small (StoppedBy fault) = omega arith
 ending_small Limit = omega arith
 
 fault_small : (f : PlayFault) → fault_status f ≤ 7
@@ -83,30 +85,30 @@ came_to contents Answers Refusal old new (Ok played) h g = (h.0, h.1)
 came_to contents Answers Refusal old new (Err f) h g = came_from_fault contents Answers Refusal old new f g
 
 -- a refused text is what a run came to that was to be drawn
-came_of_refusal : (quantum : ℕ) (source : List ℕ) (Answers : Played → List ℕ → Type 0) (Refusal : PlayFault → Type 0) (f : PlayFault) → ((e : PlayFault) → Refuses quantum source e → Refusal e) → Refuses quantum source f → CameTo Answers Refusal (Err f)
-came_of_refusal quantum source Answers Refusal (play.Text f) as_well h = as_well (play.Text f) h
-came_of_refusal quantum source Answers Refusal (play.Parse f) as_well h = as_well (play.Parse f) h
-came_of_refusal quantum source Answers Refusal (play.Check f) as_well h = as_well (play.Check f) h
-came_of_refusal quantum source Answers Refusal (play.Usage f) as_well h = as_well (play.Usage f) h
-came_of_refusal quantum source Answers Refusal (play.Code f) as_well h = as_well (play.Code f) h
-came_of_refusal quantum source Answers Refusal (play.Write written) as_well h = absurd h
-came_of_refusal quantum source Answers Refusal (play.Run f) as_well h = absurd h
-came_of_refusal quantum source Answers Refusal (play.Memory e) as_well h = as_well (play.Memory e) h
+came_of_refusal : (options : Options) (source : List ℕ) (Answers : Played → List ℕ → Type 0) (Refusal : PlayFault → Type 0) (f : PlayFault) → ((e : PlayFault) → Refuses options source e → Refusal e) → Refuses options source f → CameTo Answers Refusal (Err f)
+came_of_refusal options source Answers Refusal (play.Text f) as_well h = as_well (play.Text f) h
+came_of_refusal options source Answers Refusal (play.Parse f) as_well h = as_well (play.Parse f) h
+came_of_refusal options source Answers Refusal (play.Check f) as_well h = as_well (play.Check f) h
+came_of_refusal options source Answers Refusal (play.Usage f) as_well h = as_well (play.Usage f) h
+came_of_refusal options source Answers Refusal (play.Code f) as_well h = as_well (play.Code f) h
+came_of_refusal options source Answers Refusal (play.Write written) as_well h = absurd h
+came_of_refusal options source Answers Refusal (play.Run f) as_well h = absurd h
+came_of_refusal options source Answers Refusal (play.Memory e) as_well h = as_well (play.Memory e) h
 
-refused_by : (workers : Option ℕ) (words : Asked) (source keyboard : List ℕ) (list : List Choice) (f : PlayFault) → Refuses words.quantum source f → CameToBy workers words source keyboard list (Err f)
-refused_by None words source keyboard list f h = came_of_refusal words.quantum source (IsAnswer words.quantum source keyboard list words.trace) (Refuses words.quantum source) f (λ e g. g) h
+refused_by : (workers : Option ℕ) (words : Asked) (source keyboard : List ℕ) (list : List Choice) (f : PlayFault) → Refuses (options_in words) source f → CameToBy workers words source keyboard list (Err f)
+refused_by None words source keyboard list f h = came_of_refusal (options_in words) source (IsAnswer (options_in words) source keyboard list words.trace) (Refuses (options_in words) source) f (λ e g. g) h
 refused_by (Some workers) words source keyboard list f h =
-    came_of_refusal words.quantum source (IsAnswerWithin words.quantum source keyboard words.limit words.trace) (WorkersRefuse workers words.quantum source) f (workers_refuse workers words.quantum source) h
+    came_of_refusal (options_in words) source (IsAnswerWithin (options_in words) source keyboard words.limit words.trace) (WorkersRefuse workers (options_in words) source) f (workers_refuse workers (options_in words) source) h
 
 pub came_to_both : {Done : Type 0} (workers : Option ℕ) (words : Asked) (source keyboard : List ℕ) (list : List Choice) (drawn : Result Done PlayFault) (r : Result Played PlayFault)
-    → IfErr drawn (Refuses words.quantum source) → CameToBy workers words source keyboard list r → CameToBy workers words source keyboard list (result_and drawn r)
+    → IfErr drawn (Refuses (options_in words) source) → CameToBy workers words source keyboard list r → CameToBy workers words source keyboard list (result_and drawn r)
 came_to_both workers words source keyboard list (Ok done) r h g = g
 came_to_both workers words source keyboard list (Err f) r h g = refused_by workers words source keyboard list f h
 
 -- a drawing that was refused wrote nothing, and the text is refused
-pub refused_drawing : {Done : Type 0} (quantum : ℕ) (source keyboard : List ℕ) (list : List Choice) (most : ℕ) (old new : Option (List ℕ)) (r : Result Done PlayFault) → Draws quantum source keyboard list most old new r → IfErr r (Refuses quantum source)
-refused_drawing quantum source keyboard list most old new (Ok done) h = tt
-refused_drawing quantum source keyboard list most old new (Err f) h = h.0
+pub refused_drawing : {Done : Type 0} (options : Options) (source keyboard : List ℕ) (list : List Choice) (most : ℕ) (old new : Option (List ℕ)) (r : Result Done PlayFault) → Draws options source keyboard list most old new r → IfErr r (Refuses options source)
+refused_drawing options source keyboard list most old new (Ok done) h = tt
+refused_drawing options source keyboard list most old new (Err f) h = h.0
 
 -- what was played has its status, and so has a failure
 pub played_status : (words : Asked) (r : Result ℕ Failure) → IfOk r (IsStatusFor words) → IfOk r ProgramStatus

@@ -3,6 +3,7 @@ use Rattle.std.specs.Prelude.{List, None, Option, Some, Result, Ok, Err, ℕ, �
 use Rattle.occ_net_replay.specs.declared.choice.Choice.{Choice}
 use Rattle.occ_play_inputs.specs.declared.failure.Failure.{Failure}
 use Rattle.occ_choices.specs.declared.plan.Plan.{Plan}
+use Rattle.occ_play.specs.declared.playing.Options.{Options}
 use Rattle.occ_play.specs.declared.playing.Played.{Played}
 use Rattle.occ_play.specs.declared.fault.PlayFault.{PlayFault}
 use Rattle.occ_play.specs.declared.fault.PlayFault.TheVariants as play
@@ -25,11 +26,15 @@ abbrev pub workers_asked : {Path : Type 0} → Option ℕ → Option Path → Op
 workers_asked workers None = workers
 workers_asked workers (Some path) = None
 
+-- the length of turns and what a fault does, as the words say
+abbrev pub options_in : Words → Options
+options_in words = record { quantum = words.quantum; errors = words.errors }
+
 -- what playing a source came to: by these choices, or by workers within the limit
 abbrev pub CameToBy : Option ℕ → Words → (source keyboard : List ℕ) → List Choice → Result Played PlayFault → Type 0
-CameToBy None words source keyboard list played = CameTo (IsAnswer words.quantum source keyboard list words.trace) (Refuses words.quantum source) played
+CameToBy None words source keyboard list played = CameTo (IsAnswer (options_in words) source keyboard list words.trace) (Refuses (options_in words) source) played
 CameToBy (Some workers) words source keyboard list played =
-    CameTo (IsAnswerWithin words.quantum source keyboard words.limit words.trace) (WorkersRefuse workers words.quantum source) played
+    CameTo (IsAnswerWithin (options_in words) source keyboard words.limit words.trace) (WorkersRefuse workers (options_in words) source) played
 
 -- the status of what a source came to, by the choices or the workers and with the trace that the words ask for
 pub record IsStatusFor (words : Words) (s : ℕ) : Type 0 where

@@ -1,14 +1,15 @@
 //! Draws the communications of a run into a file.
-ghost use Rattle.std.specs.Prelude.{IfErr, IfOk};
+ghost use Rattle.std.specs.Prelude.{◌≡◌, IfErr, IfOk};
 ghost use Rattle.occ_choices.specs.Plans.{choices_of};
+ghost use Rattle.occ_program.specs.Coming.{options_in};
 ghost use Rattle.occ_program.specs.Drawing.{Draws};
 ghost use Rattle.occ_play.specs.Playing.{Refuses};
 
 use crate::program::options_of;
-use occ_play::{Plan, PlayFault, Played, chart};
+use occ_play::{Choice, Plan, PlayFault, Played, chart};
 use occ_play_inputs::failure::of_write;
 use occ_play_inputs::{Failure, Inputs, Words};
-use std::alloc::Global;
+use std::alloc::{AllocError, Global};
 use std::fs;
 use std::io::Write;
 use std::rt::Files;
@@ -21,34 +22,34 @@ pub(crate) fn draw<R: Files>(
     inputs: &Inputs,
     played: &Result<Played, PlayFault>,
 ) -> Result<Result<(), PlayFault>, Failure>
-    ensures { IfOk result (λ drawn. IfErr drawn (Refuses words.now.quantum inputs.now.source.items)) }
+    ensures { IfOk result (λ drawn. IfErr drawn (Refuses (options_in words.now) inputs.now.source.items)) }
 {
     match (words.chart, played) {
         (Some(path), Ok(played)) => {
             let mut file = fs::create(rt, path).map_err(of_write)?;
-            let used = Vec::from_slice(alloc, played.choices.as_slice())?;
-            write_chart(alloc, words, inputs, &Plan::Choices(used), &mut file)
+            write_chart(alloc, words, inputs, played, &mut file)
         }
         _ => Ok(Ok(())),
     }
 }
 
-/// Writes the chart of the run of these inputs by a plan.
+/// Writes the chart of the run of these inputs by the choices that were used.
 fn write_chart<W: Write + Drop>(
     alloc: Global,
     words: &Words<'_>,
     inputs: &Inputs,
-    plan: &Plan,
+    played: &Played,
     out: &mut W,
 ) -> Result<Result<(), PlayFault>, Failure>
-    ensures { IfOk result (Draws words.now.quantum inputs.now.source.items inputs.now.keyboard.items (choices_of plan.now) words.now.arrows (W.contents out.old) (W.contents out.new)) }
+    ensures { IfOk result (Draws (options_in words.now) inputs.now.source.items inputs.now.keyboard.items played.now.choices.items words.now.arrows (W.contents out.old) (W.contents out.new)) }
 {
+    let plan = plan_of(alloc, played.choices.as_slice())?;
     match chart(
         &options_of(words),
         alloc,
         inputs.source.as_slice(),
         inputs.keyboard.as_slice(),
-        plan,
+        &plan,
         words.arrows,
     ) {
         Ok(bytes) => {
@@ -57,4 +58,11 @@ fn write_chart<W: Write + Drop>(
         }
         Err(fault) => Ok(Err(fault)),
     }
+}
+
+/// The plan of these choices.
+fn plan_of(alloc: Global, choices: &[Choice]) -> Result<Plan, AllocError>
+    ensures { IfOk result (λ plan. choices_of plan ≡ choices.now) }
+{
+    Ok(Plan::Choices(Vec::from_slice(alloc, choices)?))
 }

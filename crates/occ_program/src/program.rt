@@ -1,9 +1,10 @@
 //! The program around `play`: what it reads and prints, and its exit status.
 ghost use Rattle.std.specs.Prelude.{◌≡◌, ◌≤◌, ◌<◌, ◌-◌, ◌^◌, ◌⊎◌, IfOk, None, Some};
-ghost use Rattle.occ_program.specs.Coming.{CameToBy, IsStatusFor, ProgramStatus, workers_asked};
+ghost use Rattle.occ_program.specs.Coming.{CameToBy, IsStatusFor, ProgramStatus, options_in, workers_asked};
 ghost use Rattle.occ_shown.specs.Counting.{failures_of};
 ghost use Rattle.occ_play.specs.Status.{status};
 ghost use Rattle.occ_play_inputs.specs.Failures.{failure_status};
+ghost use Rattle.occ_program.specs.Lines.{run_line};
 ghost use Rattle.occ_choices.specs.Plans.{choices_of};
 
 use crate::drawing::draw;
@@ -23,7 +24,7 @@ use std::{env, io};
 
 /// What is told below wrong words.
 const ALLOWED: &str =
-    "Allowed are --limit N with N from 0 to 10000000, --quantum N with N from 1 to 65536, --workers N with N from 1 to 64, --choices FILE, --record FILE, --chart FILE, --arrows N, --trace, --help, and one FILE.";
+    "Allowed are --limit N with N from 0 to 10000000, --quantum N with N from 1 to 65536, --errors halt or stop, --workers N with N from 1 to 64, --choices FILE, --record FILE, --chart FILE, --arrows N, --trace, --help, and one FILE.";
 
 /// Runs the program on the arguments, the files and the streams of `rt`, and answers its exit status: 0 ended or
 /// help, 1 source refused, 2 stopped, 3 fault, 4 limit, 5 want of memory or
@@ -88,19 +89,30 @@ fn told<R: Eprint>(rt: &R, came: &Result<Played, PlayFault>) -> u8
 /// Prints the line of a fault.
 fn tell<R: Eprint>(rt: &R, fault: &PlayFault) {
     let _ = match fault {
-        PlayFault::Run(RunFault::Foreign) => eprintln!(rt; "foreign outcome"),
-        PlayFault::Run(RunFault::Spawn) => eprintln!(rt; "thread refused"),
-        PlayFault::Run(RunFault::Memory) => eprintln!(rt; "memory"),
+        PlayFault::Run(fault) => eprintln!(rt; "{}", line_of(*fault)),
         fault => eprintln!(rt; "{fault}"),
     };
 }
 
-/// Turns of the quantum that the words say.
+/// What is printed where the workers gave no answer.
+fn line_of(fault: RunFault) -> &'static str
+    ensures { result.now ≡ run_line fault }
+{
+    match fault {
+        RunFault::Foreign => "foreign outcome",
+        RunFault::BadWorkers => "the number of workers is 1 to 64",
+        RunFault::Spawn => "thread refused",
+        RunFault::Memory => "memory",
+    }
+}
+
+/// The length of turns and what a fault does, as the words say.
 pub(crate) fn options_of(words: &Words<'_>) -> Options
-    ensures { result.quantum ≡ words.now.quantum }
+    ensures { result ≡ options_in words.now }
 {
     Options {
         quantum: words.quantum,
+        errors: words.errors,
     }
 }
 

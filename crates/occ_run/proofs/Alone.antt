@@ -1,7 +1,8 @@
 -- The outcome of a run is one of its own choices.
 use Rattle.std.proofs.Common.{◌≡◌, ◌∙◌, ℕ, List, [], ap, append-nil, map, subst, sym}
 use Rattle.occ_code.specs.Sequential.Compiled.{Program}
-use Rattle.occ_net_replay.specs.Replay.{Net, Replays}
+use Rattle.occ_net_replay.specs.Following.{or_limit}
+use Rattle.occ_net_replay.specs.Replay.{Net, Replays, ending_of}
 use Rattle.occ_net_tables.specs.declared.running.Outcome.{Outcome as Alone}
 use Rattle.occ_net_tables.specs.Holding.{communication_of}
 use Rattle.occ_net_tables.specs.Outcomes.{IsOutcome}
@@ -26,6 +27,6 @@ is_outcome p keyboard limit o a choices ending trace run =
       replays = subst (λ cs. Replays p keyboard cs run.net) used run.replays;
       trace = trace run.net (state_of p keyboard limit o run);
       used = record { rest = []; is = used ∙ sym (append-nil a.choices.items) };
-      ending = ending ∙ run.shows.ending;
+      ending = ending ∙ run.shows.ending ∙ ap (λ (q : Program). or_limit (ending_of q.errors run.net)) run.program;
       whole = λ h. sym used;
     }

@@ -22,7 +22,7 @@ pub record IsRunOf (p : Program) (keyboard : List ℕ) (limit : ℕ) (o : Outcom
   pub replays : Replays p keyboard o.choices.items net
   pub shows : Shows net o
   pub few : length o.choices.items ≤ limit
-  pub whole : ending_of net ≡ None → length o.choices.items ≡ limit
+  pub whole : ending_of p.errors net ≡ None → length o.choices.items ≡ limit
 
 -- the network was made of this code and this keyboard, and has at most `limit` choices
 pub record IsOfRun (p : Program) (keyboard : List ℕ) (limit : ℕ) (n : Past) : Type 0 where
@@ -32,11 +32,11 @@ pub record IsOfRun (p : Program) (keyboard : List ℕ) (limit : ℕ) (n : Past) 
 
 -- it has so many choices, or an ending
 abbrev pub IsWhole : ℕ → Past → Type 0
-IsWhole limit n = (limit ≤ length n.choices) ⊎ ((net : Net) → IsState n net → IsSome (ending_of net))
+IsWhole limit n = (limit ≤ length n.choices) ⊎ ((net : Net) → IsState n net → IsSome (ending_of n.program.errors net))
 
 -- it has fewer, and goes on
 abbrev pub IsUnfinished : ℕ → Past → Type 0
-IsUnfinished limit n = (length n.choices < limit) × ((net : Net) → IsState n net → ending_of net ≡ None)
+IsUnfinished limit n = (length n.choices < limit) × ((net : Net) → IsState n net → ending_of n.program.errors net ≡ None)
 
 -- what a run that stopped so answers
 abbrev pub stop_fault : Stop → RunFault

@@ -20,14 +20,14 @@ use Rattle.occ_run.specs.declared.progress.Wake.TheVariants.{Nobody, One, All}
 pub record IsOpen (b : Progress) : Type 0 where
   pub unrefused : b.stop ≡ None
   pub below : length b.network.choices < b.limit
-  pub goes_on : (net : Net) → IsState b.network net → ending_of net ≡ None
+  pub goes_on : (net : Net) → IsState b.network net → ending_of b.network.program.errors net ≡ None
 
 -- none may: something was refused, or the limit is reached, or the network has an ending
 abbrev pub IsOver : Progress → Type 0
 IsOver b =
     IsSome b.stop
     ⊎ (b.limit ≤ length b.network.choices)
-    ⊎ ((net : Net) → IsState b.network net → IsSome (ending_of net))
+    ⊎ ((net : Net) → IsState b.network net → IsSome (ending_of b.network.program.errors net))
 
 -- a count goes up by one, to 2 ^ 32 - 1 at most
 abbrev pub one_more : ℕ → ℕ

@@ -2,6 +2,7 @@
 use Rattle.std.proofs.Common.{◌≡◌, ◌∙◌, ℕ, ℤ, List, [], ◌∷◌, ◌++◌, Option, Some, None, Bool, true, false, IsTrue, map, refl, sym, ap, subst}
 use Rattle.std.specs.Prelude.{if◌then◌else◌, nat_eq, slice_get}
 use Rattle.std.proofs.lemmas.Bool.{eq-eqb}
+use Rattle.occ_term.specs.declared.fault.Errors.{Errors}
 use Rattle.occ_term.specs.Messages.{Fits, FitsAfter, is_of, message, parts_after}
 use Rattle.occ_term.specs.declared.message.Message.{Message}
 use Rattle.occ_term.specs.declared.message.Part.{Part}
@@ -50,7 +51,7 @@ first_protocols : (u : Unfolding) → IsWellFormed u → ((declared u).protocols
 first_protocols u w = (ap (λ cs. slice_get (map (λ y. y.protocol) cs) 1) w.begins, ap (λ cs. slice_get (map (λ y. y.protocol) cs) 2) w.begins)
 
 -- where a run follows a replay whose communications these are
-pub outputs_are_bytes : (u : Unfolding) (quantum : ℕ) (keyboard : List ℕ) (net : Net) (xs : List Made) → IsWellFormed u → Followed u keyboard quantum net → net.trace ≡ map communication_of xs → AreByteMessages 1 xs × AreByteMessages 2 xs
+pub outputs_are_bytes : (u : Unfolding) (quantum : ℕ) (keyboard : List ℕ) {errors : Errors} (net : Net) (xs : List Made) → IsWellFormed u → Followed u keyboard quantum errors net → net.trace ≡ map communication_of xs → AreByteMessages 1 xs × AreByteMessages 2 xs
 outputs_are_bytes u quantum keyboard net xs w f trace =
     let first = first_protocols u w in
     let fits : (c : ℕ) → AllFit ((declared u).protocols c) (messages_on c (map communication_of xs)) = λ c. subst (λ ms. AllFit ((declared u).protocols c) (messages_on c ms)) trace (f.fits c) in

@@ -14,7 +14,7 @@ use Rattle.occ_term.specs.declared.names.Channel.{Channel}
 use Rattle.occ_term.specs.System.{End, OfProcess, Keyboard, Screen, Error}
 use Rattle.occ_term.specs.Runs.{Names, Entry, AllShown, entries}
 use Rattle.occ_net_replay.specs.declared.ending.Ending.{Ending}
-use Rattle.occ_net_replay.specs.declared.ending.Ending.TheVariants.{Ended, Stopped, Fault, Limit}
+use Rattle.occ_net_replay.specs.declared.ending.Ending.TheVariants.{Ended, Stopped, Fault, StoppedBy, Limit}
 use Rattle.occ_net_tables.specs.declared.trace.Communication.{Communication as Made}
 use Rattle.occ_net_tables.specs.Holding.{communication_of}
 use Rattle.occ_net_replay.specs.Endings.{ending_text}
@@ -86,6 +86,7 @@ report_text true es e = trace_text es ++ ending_text e ++ 10 ∷ []
 report_text false es Ended = []
 report_text false es Stopped = ending_text Stopped ++ 10 ∷ []
 report_text false es (Fault f) = ending_text (Fault f) ++ 10 ∷ []
+report_text false es (StoppedBy f) = ending_text (StoppedBy f) ++ 10 ∷ []
 report_text false es Limit = ending_text Limit ++ 10 ∷ []
 
 -- the bytes are some, and the last is no line feed
@@ -139,5 +140,6 @@ abbrev pub report_of : List Channel → Option (List Made) → Ending → List �
 report_of cs None Ended = []
 report_of cs None Stopped = ending_text Stopped ++ 10 ∷ []
 report_of cs None (Fault f) = ending_text (Fault f) ++ 10 ∷ []
+report_of cs None (StoppedBy f) = ending_text (StoppedBy f) ++ 10 ∷ []
 report_of cs None Limit = ending_text Limit ++ 10 ∷ []
 report_of cs (Some xs) e = trace_text (entries (names_of cs) 1 (map communication_of xs)) ++ ending_text e ++ 10 ∷ []

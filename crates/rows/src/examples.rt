@@ -2,7 +2,7 @@
 use crate::gallery::{
     IN_FAULTS, IN_FIRST_STEPS, IN_PIPELINES, IN_SELECTION, IN_SEQUENCES, IN_SHARING,
 };
-use occ_play::{Counted, Plan, play, read_choices};
+use occ_play::{Counted, Errors, Options, Plan, play_in, read_choices};
 use std::alloc::{AllocError, Global};
 use std::process::Abort;
 use std::test::Fail;
@@ -20,6 +20,9 @@ pub(crate) struct Run {
     /// The line of the ending.
     pub(crate) ending: &'static str,
 }
+
+/// What the program's first lines call the screen where a fault stops its process alone.
+const STOPPING: &str = "With --errors stop";
 
 /// How many turns a program is given: more than any needs that ends.
 const TURNS: u32 = 10_000;
@@ -55,20 +58,32 @@ fn wanted(alloc: Global, run: &Run) -> Result<String, AllocError> {
     }
 }
 
+/// What a fault does in the run of this title.
+fn errors_of(title: &str) -> Errors {
+    if title == STOPPING {
+        Errors::Stop
+    } else {
+        Errors::Halt
+    }
+}
+
 /// What standard output gets, or the line of the refusal.
 pub(crate) fn answer_of(
     alloc: Global,
     source: &str,
     keyboard: &str,
     choices: &str,
+    errors: Errors,
 ) -> Result<String, Fail> {
     let plan = match choices {
         "" => Plan::Turns(TURNS),
         text => Plan::Choices(read_choices(alloc, text.as_bytes())?),
     };
+    let options = Options { quantum: 1, errors };
     let mut answer = Vec::new(alloc);
     let mut out = Counted::new(&mut answer);
-    let played = play(
+    let played = play_in(
+        &options,
         alloc,
         source.as_bytes(),
         keyboard.as_bytes(),
@@ -90,7 +105,8 @@ fn check_runs(rt: &impl Abort, alloc: Global, runs: &[Run]) -> Result<(), Fail> 
         let promise = promise(alloc, run)?;
         assert!(rt; run.source.contains(keyboard.as_str()), "{}", run.source);
         assert!(rt; run.source.contains(promise.as_str()), "{}", run.source);
-        let answer = answer_of(alloc, run.source, run.keyboard, run.choices)?;
+        let errors = errors_of(run.title);
+        let answer = answer_of(alloc, run.source, run.keyboard, run.choices, errors)?;
         let wanted = wanted(alloc, run)?;
         assert_eq!(rt; answer.as_str(), wanted.as_str(), "{}", run.source);
     }

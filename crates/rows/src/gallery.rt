@@ -1137,16 +1137,20 @@ PROC main (CHAN OF BYTE keyboard, screen)
 "#;
 
 const DIVISION: &str =
-    r#"-- A fault in one process halts the whole network, whatever is on its way to the screen: the third divisor is 0.
+    r#"-- A fault in one process halts the whole network, whatever is on its way to the screen, or that process alone: the third divisor is 0.
 --
 -- Keyboard: nothing
 -- Screen:
 --   36
--- Ends: fault ARITH line 17
+-- Ends: fault ARITH line 21
 --
 -- By division.choices:
 --   3
--- Ends: fault ARITH line 17
+-- Ends: fault ARITH line 21
+--
+-- With --errors stop:
+--   36
+-- Ends: stopped ARITH line 21
 
 PROC divide (CHAN OF INT in, out)
   INT divisor:
@@ -1796,7 +1800,7 @@ pub(crate) const IN_SHARING: [Run; 6] = [
     },
 ];
 
-pub(crate) const IN_FAULTS: [Run; 10] = [
+pub(crate) const IN_FAULTS: [Run; 11] = [
     Run {
         source: COLOURS,
         title: "Screen",
@@ -1883,7 +1887,7 @@ pub(crate) const IN_FAULTS: [Run; 10] = [
         keyboard: "",
         choices: "",
         screen: "36\n",
-        ending: "fault ARITH line 17",
+        ending: "fault ARITH line 21",
     },
     Run {
         source: DIVISION,
@@ -1911,7 +1915,15 @@ pub(crate) const IN_FAULTS: [Run; 10] = [
 0 0
 "#,
         screen: "3\n",
-        ending: "fault ARITH line 17",
+        ending: "fault ARITH line 21",
+    },
+    Run {
+        source: DIVISION,
+        title: "With --errors stop",
+        keyboard: "",
+        choices: "",
+        screen: "36\n",
+        ending: "stopped ARITH line 21",
     },
     Run {
         source: EMBRACE,

@@ -40,6 +40,8 @@ mod sequential;
 #[cfg(test)]
 mod sequential_programs;
 #[cfg(test)]
+mod stopping;
+#[cfg(test)]
 mod texts;
 #[cfg(test)]
 mod turns;

@@ -39,7 +39,7 @@ fn plans_have_choices(rt: HostRuntime) -> Result<(), Fail> {
 }
 
 /// How runs end, the line that says so, and the exit status.
-const ENDINGS: [(Ending, &str, u8); 8] = [
+const ENDINGS: [(Ending, &str, u8); 9] = [
     (Ending::Ended, "ended", 0),
     (Ending::Stopped, "stopped", 2),
     (Ending::Limit, "limit", 4),
@@ -82,6 +82,14 @@ const ENDINGS: [(Ending, &str, u8); 8] = [
         }),
         "fault COUNT line 10",
         3,
+    ),
+    (
+        Ending::StoppedBy(Fault {
+            kind: FaultKind::Arith,
+            line: 7,
+        }),
+        "stopped ARITH line 7",
+        2,
     ),
 ];
 

@@ -1,5 +1,5 @@
 //! Turns that pass several ends of a loop's body.
-use occ_play::{Choice, Counted, Options, Plan, play_in, status_of};
+use occ_play::{Choice, Counted, Errors, Options, Plan, play_in, status_of};
 use std::alloc::{AllocError, Global};
 use std::process::Abort;
 use std::test::Fail;
@@ -49,7 +49,10 @@ fn check(rt: &impl Abort, alloc: Global, row: Row) -> Result<(), Fail> {
     let plan = zeros(alloc, choices)?;
     let mut bytes = Vec::new(alloc);
     let mut out = Counted::new(&mut bytes);
-    let options = Options { quantum };
+    let options = Options {
+        quantum,
+        errors: Errors::Halt,
+    };
     let played = play_in(
         &options,
         alloc,
@@ -80,5 +83,6 @@ fn turns_pass_ends_of_loops(rt: HostRuntime) -> Result<(), Fail> {
         check(&rt, rt.alloc(), row)?;
     }
     assert_eq!(rt; Options::plain().quantum, 1);
+    assert_eq!(rt; Options::plain().errors, Errors::Halt);
     Ok(())
 }

@@ -1,5 +1,5 @@
 //! A worked row: what a run is given, and what it comes to.
-use occ_play::{Choice, Counted, Plan, play, status_of};
+use occ_play::{Choice, Counted, Errors, Options, Plan, play, play_in, status_of};
 use std::alloc::{AllocError, Global};
 use std::process::Abort;
 use std::test::Fail;
@@ -24,6 +24,8 @@ pub(crate) struct Row<'a> {
     pub(crate) keyboard: &'a [u8],
     pub(crate) plan: Given,
     pub(crate) trace: bool,
+    /// What a fault does.
+    pub(crate) errors: Errors,
     /// The bytes of the answer; none where there is a refusal.
     pub(crate) answer: &'a [u8],
     /// The text of the refusal; empty where the source is played.
@@ -41,6 +43,7 @@ impl<'a> Row<'a> {
             keyboard: b"",
             plan: Given::Turns(100),
             trace: false,
+            errors: Errors::Halt,
             answer,
             refusal: "",
             status: 0,
@@ -82,7 +85,21 @@ pub(crate) fn check_row(rt: &impl Abort, alloc: Global, row: &Row<'_>) -> Result
     let plan = plan_of(alloc, row.plan)?;
     let mut answer = Vec::new(alloc);
     let mut out = Counted::new(&mut answer);
-    let played = play(alloc, row.source, row.keyboard, &plan, row.trace, &mut out);
+    let played = match row.errors {
+        Errors::Halt => play(alloc, row.source, row.keyboard, &plan, row.trace, &mut out),
+        errors => {
+            let options = Options { quantum: 1, errors };
+            play_in(
+                &options,
+                alloc,
+                row.source,
+                row.keyboard,
+                &plan,
+                row.trace,
+                &mut out,
+            )
+        }
+    };
     assert_eq!(rt; out.failures(), 0, "{source}");
     drop(out);
     assert_eq!(rt; status_of(&played), row.status, "{source}");

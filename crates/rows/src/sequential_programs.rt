@@ -1,5 +1,6 @@
 //! Runs of programs without PAR and ALT: the keyboard, loops, faults, and channels that no other process has.
 use crate::row::{Given, Row, check_rows};
+use occ_play::Errors;
 use std::test::Fail;
 
 const ECHO: &[u8] =
@@ -59,6 +60,7 @@ fn the_keyboard_is_read(rt: HostRuntime) -> Result<(), Fail> {
         },
         Row {
             trace: true,
+            errors: Errors::Halt,
             answer: b"xy\n1 c0 keyboard keyboard>p0 120\n2 c1 screen p0>screen 120\n3 c0 keyboard keyboard>p0 121\n4 c1 screen p0>screen 121\nended\n",
             ..echo
         },

@@ -4,30 +4,35 @@ use occ_play_inputs::read_words;
 use std::test::Fail;
 
 /// Words, and what is read of them.
-const READ: [(&[&str], &str); 4] = [
+const READ: [(&[&str], &str); 5] = [
     (
         &["occam"],
-        "Words { limit: 1000000, quantum: 1, workers: None, trace: false, choices: None, record: None, chart: None, arrows: 200, file: None }",
+        "Words { limit: 1000000, quantum: 1, errors: Halt, workers: None, trace: false, choices: None, record: None, chart: None, arrows: 200, file: None }",
     ),
     (
         &["occam", "--limit", "10000000", "--trace", "f.occ"],
-        "Words { limit: 10000000, quantum: 1, workers: None, trace: true, choices: None, record: None, chart: None, arrows: 200, file: Some(\"f.occ\") }",
+        "Words { limit: 10000000, quantum: 1, errors: Halt, workers: None, trace: true, choices: None, record: None, chart: None, arrows: 200, file: Some(\"f.occ\") }",
     ),
     (
         &["occam", "f.occ", "--trace", "--limit=0"],
-        "Words { limit: 0, quantum: 1, workers: None, trace: true, choices: None, record: None, chart: None, arrows: 200, file: Some(\"f.occ\") }",
+        "Words { limit: 0, quantum: 1, errors: Halt, workers: None, trace: true, choices: None, record: None, chart: None, arrows: 200, file: Some(\"f.occ\") }",
+    ),
+    (
+        &["occam", "--errors", "halt"],
+        "Words { limit: 1000000, quantum: 1, errors: Halt, workers: None, trace: false, choices: None, record: None, chart: None, arrows: 200, file: None }",
     ),
     (
         &[
             "occam",
             "--quantum=65536",
+            "--errors=stop",
             "--workers=64",
             "--choices=c",
             "--record=r",
             "--chart=s.svg",
             "--arrows=0",
         ],
-        "Words { limit: 1000000, quantum: 65536, workers: Some(64), trace: false, choices: Some(\"c\"), record: Some(\"r\"), chart: Some(\"s.svg\"), arrows: 0, file: None }",
+        "Words { limit: 1000000, quantum: 65536, errors: Stop, workers: Some(64), trace: false, choices: Some(\"c\"), record: Some(\"r\"), chart: Some(\"s.svg\"), arrows: 0, file: None }",
     ),
 ];
 
@@ -43,7 +48,7 @@ fn words_are_read(rt: HostRuntime) -> Result<(), Fail> {
 }
 
 /// Words, and why they are refused.
-const REFUSED: [(&[&str], ErrorKind); 20] = [
+const REFUSED: [(&[&str], ErrorKind); 22] = [
     (&["occam", "--limit=10000001"], ErrorKind::ValueValidation),
     (&["occam", "--limit=4294967296"], ErrorKind::ValueValidation),
     (&["occam", "--limit=-1"], ErrorKind::ValueValidation),
@@ -54,6 +59,8 @@ const REFUSED: [(&[&str], ErrorKind); 20] = [
     (&["occam", "--quantum=65537"], ErrorKind::ValueValidation),
     (&["occam", "--workers=0"], ErrorKind::ValueValidation),
     (&["occam", "--workers=65"], ErrorKind::ValueValidation),
+    (&["occam", "--errors=both"], ErrorKind::InvalidValue),
+    (&["occam", "--errors=STOP"], ErrorKind::InvalidValue),
     (
         &["occam", "--arrows=4294967296"],
         ErrorKind::ValueValidation,
@@ -98,6 +105,7 @@ fn help_names_the_words(rt: HostRuntime) -> Result<(), Fail> {
                 "--limit <N>",
                 "1000000",
                 "--quantum <N>",
+                "--errors <MODE>",
                 "--workers <N>",
                 "--chart <FILE>",
                 "--arrows <N>",

@@ -3,7 +3,7 @@ ghost use Rattle.std.specs.Prelude.{◌<◌};
 
 use crate::unfolded::letter;
 use occ_code::{Arm, Code, Task, Wait, compile_for};
-use occ_term::Frame;
+use occ_term::{Errors, Frame};
 use occ_usage::check_usage;
 use sqlite_items::Items;
 use std::alloc::{AllocError, Global};
@@ -30,6 +30,10 @@ fn code_is_the_same_by_content(rt: HostRuntime) -> Result<(), Fail> {
     assert!(rt; !code.is_same(alloc, &on_another_channel)?);
     let of_another_quantum = code_of(alloc, 1, 2)?.expect(&rt, "no code");
     assert!(rt; !code.is_same(alloc, &of_another_quantum)?);
+    assert!(rt; code.errors() == Errors::Halt);
+    let of_the_other_mode = code.again(alloc)?.with_errors(Errors::Stop);
+    assert!(rt; of_the_other_mode.errors() == Errors::Stop);
+    assert!(rt; !code.is_same(alloc, &of_the_other_mode)?);
     Ok(())
 }
 

@@ -1,17 +1,22 @@
 //! Turns run at once, outside the lock: four of them look for one another.
 use crate::sources::{FOUR, code_of};
-use occ_code::{Body, Task};
+use occ_code::{Body, Code, Task};
 use occ_net_replay::Ending;
 use occ_proc::{Segment, turn};
 use occ_run::{Gate, run_workers};
 use std::alloc::{AllocError, Global};
 use std::hint::spin_loop;
-use std::sync::Arc;
+use std::process::Abort;
+use std::sync::{Arc, Wait};
 use std::sync::atomic::{AtomicBool, AtomicU64, Ordering};
 use std::test::Fail;
+use std::thread::Threads;
 
 /// How often a turn looks for the others.
 const LOOKS: u32 = 100_000_000;
+
+/// How many runs there are.
+const RUNS: u32 = 200;
 
 /// A gate in which the first turn of each of the processes 1 to 4 looks for the other three.
 #[derive(Drop)]
@@ -75,17 +80,28 @@ impl Gate for Meeting {
     }
 }
 
+/// One run, in which the four turns meet.
+fn check_meeting<R: Threads + Wait + Abort + Sync + AllocGlobal>(
+    rt: &R,
+    code: &Code,
+) -> Result<(), Fail> {
+    let gate = Meeting::new();
+    let outcome = run_workers(rt, rt.alloc(), code, b"", 4, 100, &gate)?;
+    assert!(rt; !gate.is_missed(), "a flag was not seen");
+    assert_eq!(rt; gate.runs.load(Ordering::SeqCst), 6);
+    assert_eq!(rt; outcome.choices.len(), 6);
+    assert_eq!(rt; outcome.ending, Ending::Ended);
+    Ok(())
+}
+
 #[test]
 fn turns_run_at_once(rt: HostRuntime) -> Result<(), Fail> {
     let Some(code) = code_of(rt.alloc(), FOUR) else {
         assert!(rt; false, "no code");
         return Ok(());
     };
-    let gate = Meeting::new();
-    let outcome = run_workers(&rt, rt.alloc(), &code, b"", 4, 100, &gate)?;
-    assert!(rt; !gate.is_missed(), "a flag was not seen");
-    assert_eq!(rt; gate.runs.load(Ordering::SeqCst), 6);
-    assert_eq!(rt; outcome.choices.len(), 6);
-    assert_eq!(rt; outcome.ending, Ending::Ended);
+    for _run in 0..RUNS {
+        check_meeting(&rt, &code)?;
+    }
     Ok(())
 }

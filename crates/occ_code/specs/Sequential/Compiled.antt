@@ -7,6 +7,7 @@ use Rattle.occ_term.specs.Processes.{Numbered, processes_of}
 use Rattle.occ_term.specs.Uses.{uses_of}
 use Rattle.occ_term.specs.TermTyping.{Declared}
 use Rattle.occ_term.specs.Sizes.{size_of}
+use Rattle.occ_term.specs.declared.fault.Errors.{Errors}
 use Rattle.occ_term.specs.declared.names.Channel.{Channel}
 use Rattle.occ_code.specs.Alike.{Lists, used_by}
 use Rattle.occ_code.specs.Sequential.Machine.{Body}
@@ -15,10 +16,11 @@ use Rattle.occ_code.specs.Sequential.Emitted.{body_of, instructions_of}
 use Rattle.occ_code.specs.declared.compiler.code.CodeFault.{CodeFault}
 use Rattle.occ_code.specs.declared.compiler.code.CodeFault.TheVariants.{TooLarge, BadQuantum, Memory}
 
--- the code of a program: a body for each process number, and the channels
+-- the code of a program: a body for each process number, the channels, and what a fault does
 pub record Program : Type 0 where
   pub bodies : List Body
   pub channels : List Channel
+  pub errors : Errors
 
 -- the body at each place does what the process with that number does
 abbrev pub AllDo : Declared → ℕ → List Body → List Numbered → Type 0
@@ -61,9 +63,9 @@ pub record IsCodeOf (u : Unfolding) (quantum : ℕ) (p : Program) : Type 0 where
   pub does : IsCompiledFrom u quantum p
   pub emitted : AreBodiesOf (processes_of (meaning u)) quantum p.bodies
 
--- what means the same on the same channels has one code for each quantum
+-- what means the same on the same channels has one code for each quantum and mode of errors
 abbrev pub OneCode : Type 0
-OneCode = (u v : Unfolding) (quantum : ℕ) (p q : Program) → meaning u ≡ meaning v → u.channels ≡ v.channels → IsCodeOf u quantum p → IsCodeOf v quantum q → p ≡ q
+OneCode = (u v : Unfolding) (quantum : ℕ) (p q : Program) → meaning u ≡ meaning v → u.channels ≡ v.channels → p.errors ≡ q.errors → IsCodeOf u quantum p → IsCodeOf v quantum q → p ≡ q
 
 -- compiled from some source that is well-formed and keeps the usage rules
 pub record IsCompiled (p : Program) : Type 0 where

@@ -2,6 +2,7 @@
 ghost use Rattle.std.specs.Prelude.{◌≡◌, ◌↔◌, ◌<◌, ◌≤◌, ◌-◌, ◌^◌, IsTrue, IfOk, IfErr, IfSome, IfNone, None, Some, length, map, min, slice_get};
 ghost use Rattle.std.specs.Arc.{arc_value};
 ghost use Rattle.occ_term.specs.Processes.{processes_of};
+ghost use Rattle.occ_term.specs.declared.fault.Errors.{Errors};
 ghost use Rattle.occ_term.specs.Unfolding.{meaning};
 ghost use Rattle.occ_term.specs.View.{term_of};
 ghost use Rattle.occ_code.specs.Sequential.Compiled.{AreBodiesOf, IsCodeOf, IsCompiled, IsQuantum, IsRefused, CodeRefuses, most_instructions};
@@ -10,7 +11,7 @@ ghost use Rattle.occ_code.specs.Sequential.Compiled as compiled;
 use crate::channels::same_channels;
 use crate::compiler::body::Body;
 use crate::compiler::processes::bodies_of;
-use occ_term::{Channel, Term};
+use occ_term::{Channel, Errors, Term};
 use occ_usage::Checked;
 use std::alloc::{AllocError, AllocFailed, Global};
 use std::marker::Model;
@@ -57,7 +58,7 @@ impl<T: Drop> From<AllocFailed<T>> for CodeFault {
     }
 }
 
-/// A compiled program: a body for each process number, and the channels.
+/// A compiled program: a body for each process number, the channels, and what a fault does.
 ///
 /// Each body does what its process's term does, in some program that keeps the usage rules and has
 /// these channels: no other value of this type can be made.
@@ -65,6 +66,7 @@ impl<T: Drop> From<AllocFailed<T>> for CodeFault {
 pub struct Code {
     bodies: Vec<Arc<Body, Global>>,
     channels: Vec<Channel>,
+    errors: Errors,
 }
 
 impl Model for Code {
@@ -74,9 +76,9 @@ impl Model for Code {
 
     ghost Value = { Program };
 
-    ghost view = { λ c. record { bodies = map arc_value c.bodies.items; channels = c.channels.items } };
+    ghost view = { λ c. record { bodies = map arc_value c.bodies.items; channels = c.channels.items; errors = c.errors } };
 
-    ghost invariant = { λ c. IsCompiled (record { bodies = map arc_value c.bodies.items; channels = c.channels.items }) };
+    ghost invariant = { λ c. IsCompiled (record { bodies = map arc_value c.bodies.items; channels = c.channels.items; errors = c.errors }) };
 }
 
 impl Code {
@@ -109,10 +111,32 @@ impl Code {
         &self.channels
     }
 
-    /// Whether both have the same content: the same bodies and channels, in the same order. The error is a refused growth.
+    /// What a fault does.
+    pub fn errors(&self) -> Errors
+        ensures { result ≡ self.now.errors }
+    {
+        self.errors
+    }
+
+    /// The same code, with this for what a fault does.
+    pub fn with_errors(self, errors: Errors) -> Code
+        ensures { result ≡ record self { errors = errors } }
+    {
+        Code {
+            bodies: self.bodies,
+            channels: self.channels,
+            errors,
+        }
+    }
+
+    /// Whether both have the same content: the same bodies and channels, in the same order, and the same for what a
+    /// fault does. The error is a refused growth.
     pub fn is_same(&self, alloc: Global, other: &Code) -> Result<bool, AllocError>
         ensures { IfOk result (λ same. IsTrue same ↔ (self.now ≡ other.now)) }
     {
+        if self.errors != other.errors {
+            return Ok(false);
+        }
         if !same_bodies(&self.bodies, &other.bodies) {
             return Ok(false);
         }
@@ -126,6 +150,7 @@ impl Code {
         Ok(Code {
             bodies: shared_bodies(alloc, &self.bodies)?,
             channels: copy_channels(alloc, &self.channels)?,
+            errors: self.errors,
         })
     }
 }
@@ -157,19 +182,20 @@ fn shared_bodies(
     Ok(shared)
 }
 
-/// Compiles a program, for turns that take one stop of a loop.
+/// Compiles a program, for turns that take one stop of a loop. A fault ends the whole run.
 ///
 /// # Errors
 ///
 /// As of `compile_for`, but for `BadQuantum`.
 pub fn compile(alloc: Global, checked: &Checked) -> Result<Code, CodeFault>
     ensures compiled { IfOk result (λ c. IsCodeOf checked.now 1 c) }
+    ensures halts { IfOk result (λ c. c.errors ≡ Errors.Halt) }
     ensures refused { IfErr result (λ fault. CodeRefuses fault 1 checked.now) }
 {
     compile_for(alloc, checked, 1)
 }
 
-/// Compiles a program, for turns that take so many stops of loops at most.
+/// Compiles a program, for turns that take so many stops of loops at most. A fault ends the whole run.
 ///
 /// # Errors
 ///
@@ -177,6 +203,7 @@ pub fn compile(alloc: Global, checked: &Checked) -> Result<Code, CodeFault>
 /// limit of instructions, and `Memory` for a refused growth.
 pub fn compile_for(alloc: Global, checked: &Checked, quantum: u32) -> Result<Code, CodeFault>
     ensures compiled { IfOk result (λ c. IsCodeOf checked.now quantum c) }
+    ensures halts { IfOk result (λ c. c.errors ≡ Errors.Halt) }
     ensures refused { IfErr result (λ fault. CodeRefuses fault quantum checked.now) }
 {
     if quantum == 0 || quantum > MOST_QUANTUM {
@@ -190,7 +217,11 @@ pub fn compile_for(alloc: Global, checked: &Checked, quantum: u32) -> Result<Cod
         Err(fault) => return Err(fault),
     };
     let channels = copy_channels(alloc, unfolded.channels())?;
-    Ok(Code { bodies, channels })
+    Ok(Code {
+        bodies,
+        channels,
+        errors: Errors::Halt,
+    })
 }
 
 /// The bodies of a program's processes, in the order of their numbers, within the limit.

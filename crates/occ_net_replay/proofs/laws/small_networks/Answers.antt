@@ -1,4 +1,4 @@
-use Rattle.occ_net_replay.proofs.Examples.{choice_rows, ending_rows, fork_rows, meeting_rows, priority, turn_rows}
+use Rattle.occ_net_replay.proofs.Examples.{choice_rows, ending_rows, fork_rows, meeting_rows, noted_rows, priority, stop_rows, turn_rows}
 use Rattle.occ_net_replay.proofs.laws.small_networks.Goals as goal
 
 pub returns-clause-turns : goal.returns-clause-turns
@@ -16,5 +16,11 @@ returns-clause-priority c = priority
 pub returns-clause-forks : goal.returns-clause-forks
 returns-clause-forks c = fork_rows
 
+pub returns-clause-noted : goal.returns-clause-noted
+returns-clause-noted c = noted_rows
+
 pub returns-clause-endings : goal.returns-clause-endings
 returns-clause-endings c = ending_rows
+
+pub returns-clause-stops : goal.returns-clause-stops
+returns-clause-stops c = stop_rows

@@ -17,16 +17,16 @@ loop-ending-init c =
 pub kept_choice-one-requires : goal.kept_choice-one-requires
 kept_choice-one-requires c =
     let h = c.loop-ending.invariant in
-    let going : ending_of h.net ≡ None = sym (c.ending.ensures c.args.code.now c.args.keyboard.now h.net h.holds) ∙ c.in_default.is in
+    let going : ending_of c.args.code.now.errors h.net ≡ None = sym (c.ending.ensures c.args.code.now c.args.keyboard.now h.net h.holds ∙ ap (λ e. ending_of e h.net) c.errors.ensures) ∙ c.in_default.is in
     let same = c.ready.ensures c.args.code.now c.args.keyboard.now h.net h.holds in
-    omega (arith, some_ready_in h.net going, ap length same)
+    omega (arith, some_ready_in c.args.code.now.errors h.net going, ap length same)
 
 pub take_turn-requires : goal.take_turn-requires
 take_turn-requires c =
     let h = c.loop-ending.invariant in
     let small : 1 + length c.loop-ending.kept.items < 2 ^ 64 = search rules in
     let fewer : 1 + length (take (length c.loop-ending.kept.items) (choices_of c.args.plan.now)) < 2 ^ 64 = omega (arith, small, taken_short (choices_of c.args.plan.now) (length c.loop-ending.kept.items)) in
-    let going : ending_of h.net ≡ None = sym (c.ending.ensures c.args.code.now c.args.keyboard.now h.net h.holds) ∙ c.in_default.is in
+    let going : ending_of c.args.code.now.errors h.net ≡ None = sym (c.ending.ensures c.args.code.now c.args.keyboard.now h.net h.holds ∙ ap (λ e. ending_of e h.net) c.errors.ensures) ∙ c.in_default.is in
     stands c.args.code.now c.args.keyboard.now c.args.keep (take (length c.loop-ending.kept.items) (choices_of c.args.plan.now)) c.loop-ending.kept.items c.loop-ending.tables fewer h going
 
 pub loop-ending-smaller : goal.loop-ending-smaller
@@ -41,7 +41,7 @@ loop-ending-smaller c =
 pub loop-ending-preserved : goal.loop-ending-preserved
 loop-ending-preserved c =
     let h = c.loop-ending.invariant in
-    let going : ending_of h.net ≡ None = sym (c.ending.ensures c.args.code.now c.args.keyboard.now h.net h.holds) ∙ c.in_default.is in
+    let going : ending_of c.args.code.now.errors h.net ≡ None = sym (c.ending.ensures c.args.code.now c.args.keyboard.now h.net h.holds ∙ ap (λ e. ending_of e h.net) c.errors.ensures) ∙ c.in_default.is in
     let count : c.len.result ≡ length c.loop-ending.kept.items = c.len.ensures ∙ c.loop-ending.kept.ok.0 in
     let at = ap (slice_get (choices_of c.args.plan.now)) (sym count) ∙ sym c.at.ensures ∙ c.in-Some-at.is in
     let same = c.ready.ensures c.args.code.now c.args.keyboard.now h.net h.holds in
@@ -52,7 +52,7 @@ loop-ending-preserved c =
 pub returns-in-Some : goal.returns-in-Some
 returns-in-Some c =
     let h = c.loop-ending.invariant in
-    let ends = sym (c.in-Some.is) ∙ c.ending.ensures c.args.code.now c.args.keyboard.now h.net h.holds in
+    let ends = sym (c.in-Some.is) ∙ c.ending.ensures c.args.code.now c.args.keyboard.now h.net h.holds ∙ ap (λ e. ending_of e h.net) c.errors.ensures in
     run_is c.args.code.now c.args.keyboard.now (choices_of c.args.plan.now) c.args.keep (take (length c.loop-ending.kept.items) (choices_of c.args.plan.now)) _ h
     (begins_taken (choices_of c.args.plan.now) (length c.loop-ending.kept.items)) (ap or_limit ends) (λ q. let never : Some c.in-Some.ending ≡ None = ends ∙ q in absurd cc)
 
@@ -61,6 +61,6 @@ returns-in_default-at c =
     let h = c.loop-ending.invariant in
     let count : c.len.result ≡ length c.loop-ending.kept.items = c.len.ensures ∙ c.loop-ending.kept.ok.0 in
     let at = ap (slice_get (choices_of c.args.plan.now)) (sym count) ∙ sym c.at.ensures ∙ c.in_default-at.is in
-    let open_end : None ≡ ending_of h.net = sym c.in_default.is ∙ c.ending.ensures c.args.code.now c.args.keyboard.now h.net h.holds in
+    let open_end : None ≡ ending_of c.args.code.now.errors h.net = sym c.in_default.is ∙ c.ending.ensures c.args.code.now c.args.keyboard.now h.net h.holds ∙ ap (λ e. ending_of e h.net) c.errors.ensures in
     run_is c.args.code.now c.args.keyboard.now (choices_of c.args.plan.now) c.args.keep (take (length c.loop-ending.kept.items) (choices_of c.args.plan.now)) _ h
     (begins_taken (choices_of c.args.plan.now) (length c.loop-ending.kept.items)) (ap or_limit open_end) (λ q. all_taken (choices_of c.args.plan.now) (length c.loop-ending.kept.items) at)

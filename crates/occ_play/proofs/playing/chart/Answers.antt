@@ -13,5 +13,5 @@ returns-clause-drawn c =
     let ran = c.in_ok-code.ensures.ran in
     let small : length c.in_ok-code.outcome.choices.items < 2 ^ 64 = search rules in
     let keys : AreBytes c.args.keyboard.now = are_bytes c.args.keyboard.now (λ k. (c.type_inv.keyboard k).fits) in
-    charted c.args.options.now.quantum c.args.source.now c.args.keyboard.now (choices_of c.args.plan.now) c.args.most c.in_ok-code.code c.channels.result.now c.in_ok-code.outcome _ ran keys c.channels.ensures small
+    charted c.args.options.now c.args.source.now c.args.keyboard.now (choices_of c.args.plan.now) c.args.most c.in_ok-code.code c.channels.result.now c.in_ok-code.outcome _ ran keys c.channels.ensures small
     (c.in_ok-bytes.ensures ∙ ap (λ xs. chart_text (entries (names_of c.channels.result.now) 1 (map communication_of xs)) c.in_ok-code.outcome.ending c.args.most) c.as_slice.ensures.value)

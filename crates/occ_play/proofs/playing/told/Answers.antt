@@ -22,9 +22,8 @@ answer-requires-clause-error c =
 
 pub returns-clause-answer : goal.returns-clause-answer
 returns-clause-answer c = λ list is.
-    let code = c.requires.code in
     let small : length c.args.outcome.choices.items < 2 ^ 64 = search rules in
     let keys : AreBytes c.args.keyboard.now = are_bytes c.args.keyboard.now (λ k. (c.type_inv.keyboard k).fits) in
-    (headline c.args.options.now.quantum c.args.source.now c.args.keyboard.now list c.args.trace code.program c.args.code.now c.channels.result.now c.args.outcome _ _
-    code.unfolds code.lawful code.from keys c.channels.ensures is small refl refl
+    (headline c.args.options.now c.args.source.now c.args.keyboard.now list c.args.trace c.args.code.now c.channels.result.now c.args.outcome _ _
+    c.requires.code keys c.channels.ensures is small refl refl
     (c.in_ok-bytes.ensures ∙ ap (λ xs. answer_text (shown_by (names_of c.channels.result.now) (map communication_of xs)) c.args.outcome.ending c.args.trace) c.as_slice.ensures.value)).0

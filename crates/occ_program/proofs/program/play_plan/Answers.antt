@@ -9,7 +9,7 @@ pub returns : goal.returns
 returns g c =
     let list = choices_of c.args.inputs.now.plan in
     let trace = c.args.words.now.trace in
-    let came = came_to g.W.Write.contents (IsAnswer c.options_of.result.quantum c.as_slice.result.now c.as_slice-2.result.now list trace) (Refuses c.options_of.result.quantum c.as_slice.result.now) _ _ c.play_in.result c.play_in.ensures.played c.play_in.ensures.fault in
-    let source = subst (λ xs. CameTo (IsAnswer c.options_of.result.quantum xs c.as_slice-2.result.now list trace) (Refuses c.options_of.result.quantum xs) c.play_in.result) c.as_slice.ensures.value came in
-    let keyboard = subst (λ ks. CameTo (IsAnswer c.options_of.result.quantum c.args.inputs.now.source.items ks list trace) (Refuses c.options_of.result.quantum c.args.inputs.now.source.items) c.play_in.result) c.as_slice-2.ensures.value source in
+    let came = came_to g.W.Write.contents (IsAnswer c.options_of.result c.as_slice.result.now c.as_slice-2.result.now list trace) (Refuses c.options_of.result c.as_slice.result.now) _ _ c.play_in.result c.play_in.ensures.played c.play_in.ensures.fault in
+    let source = subst (λ xs. CameTo (IsAnswer c.options_of.result xs c.as_slice-2.result.now list trace) (Refuses c.options_of.result xs) c.play_in.result) c.as_slice.ensures.value came in
+    let keyboard = subst (λ ks. CameTo (IsAnswer c.options_of.result c.args.inputs.now.source.items ks list trace) (Refuses c.options_of.result c.args.inputs.now.source.items) c.play_in.result) c.as_slice-2.ensures.value source in
     subst (λ q. CameTo (IsAnswer q c.args.inputs.now.source.items c.args.inputs.now.keyboard.items list trace) (Refuses q c.args.inputs.now.source.items) c.play_in.result) c.options_of.ensures keyboard

@@ -1,17 +1,18 @@
 use Rattle.std.proofs.Common.{◌<◌, map, ap, subst, arith, ◌∙◌}
 use Rattle.std.specs.Arc.{arc_value}
 use Rattle.occ_term.specs.Processes.{processes_of}
+use Rattle.occ_term.specs.declared.fault.Errors.TheVariants.{Halt}
 use Rattle.occ_term.specs.Unfolding.{IsWellFormed}
 use Rattle.occ_term.specs.View.{term_of}
 use Rattle.occ_code.specs.Sequential.Compiled.{AreBodiesOf, IsCompiledFrom, IsRefused}
 use Rattle.occ_code.proofs.CompilingTerms.{compiled_as, refused_as}
 use Rattle.occ_code.proofs.compiler.code.compile_for.Goals as goal
 
-from : (c : goal.In_ok-channels) → IsCompiledFrom c.args.checked.now c.args.quantum (record { bodies = map arc_value c.in-Ok.bodies.items; channels = c.in_ok-channels.channels.items })
+from : (c : goal.In_ok-channels) → IsCompiledFrom c.args.checked.now c.args.quantum (record { bodies = map arc_value c.in-Ok.bodies.items; channels = c.in_ok-channels.channels.items; errors = Halt })
 from c =
     let same = c.term.ensures ∙ ap (λ u. u.term) c.unfolded-unfolded.ensures in
     let some : 0 < c.args.quantum = omega (arith, c.if-quantum-eq0.false) in
-    compiled_as c.args.checked.now c.args.quantum (map arc_value c.in-Ok.bodies.items) c.in_ok-channels.channels.items (subst (λ u. IsWellFormed u) c.unfolded-unfolded.ensures c.well_formed-2.ensures)
+    compiled_as c.args.checked.now c.args.quantum (map arc_value c.in-Ok.bodies.items) c.in_ok-channels.channels.items Halt (subst (λ u. IsWellFormed u) c.unfolded-unfolded.ensures c.well_formed-2.ensures)
     (some, c.if-quantum-gt-MOST_QUANTUM.false)
     (subst (λ t. AreBodiesOf (processes_of (term_of t)) c.args.quantum (map arc_value c.in-Ok.bodies.items)) same c.in-Ok.ensures.bodies) c.in-Ok.ensures.small
     (c.in_ok-channels.ensures ∙ c.channels.ensures ∙ ap (λ u. u.channels) c.unfolded-unfolded.ensures)

@@ -14,4 +14,4 @@ rest-requires-clause-within c = within_of c.requires.0 c.args.self.now c.args.nu
 pub returns : goal.returns
 returns c = λ p kb pick after net mid w.
     let tasks = c.rest.ensures.tasks (made_ready after) (there_old p kb c.args.self.now c.args.number c.args.place after net mid) in
-    fails p kb c.args.self.now c.args.number c.args.place after net mid _ pick c.args.fault w tasks refl refl (rests_faulted p kb c.args.self.now c.args.number c.args.place after net mid c.args.fault tasks c.rest.ensures.ready) (sized_at_rest p kb c.args.self.now c.args.number c.args.place after net mid (W.Faulted c.args.fault) tasks)
+    fails p kb c.args.self.now c.args.number c.args.place after net mid _ pick c.args.fault w tasks refl refl (rests_faulted p kb c.args.self.now c.args.number c.args.place after net mid c.args.fault tasks c.rest.ensures.ready (c.first_of-self.ensures net.noted mid.sound.fault_is)) (sized_at_rest p kb c.args.self.now c.args.number c.args.place after net mid (W.Faulted c.args.fault) tasks)
