@@ -1,0 +1,4 @@
+pub mod Flat
+pub mod Kept
+pub mod Room
+pub mod Views

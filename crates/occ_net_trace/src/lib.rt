@@ -1,0 +1,15 @@
+//! The communications of a run, in a few shared lists: none has a block of memory of its own.
+#![tactic(auto)]
+
+pub mod communication;
+pub mod entries;
+mod lists;
+pub mod messages;
+mod pieces;
+mod shapes;
+pub mod trace;
+
+pub use communication::{Communication, End};
+pub use entries::{Entries, Entry};
+pub use messages::{MessageView, PartView, PartViews};
+pub use trace::Trace;

@@ -1,0 +1,26 @@
+//! What is kept of a communication beside its values.
+
+use crate::communication::End;
+use occ_term::Primitive;
+
+/// How an item of a message is kept.
+#[derive(Clone, Copy, Debug)]
+pub(crate) enum Shape {
+    /// A single value, which is one word.
+    One(Primitive),
+    /// All components of an array: their number among the lengths, and as many words.
+    Many(Primitive),
+    /// The first components of an array, kept in the same way.
+    Counted(Primitive),
+    /// The message has no more items.
+    Done,
+}
+
+/// What a communication has beside its items.
+#[derive(Clone, Copy, Debug)]
+pub(crate) struct Head {
+    pub(crate) chan: u32,
+    pub(crate) sender: End,
+    pub(crate) receiver: End,
+    pub(crate) tag: Option<u32>,
+}

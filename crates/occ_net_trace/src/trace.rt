@@ -1,0 +1,101 @@
+//! The trace of a run.
+ghost use Rattle.std.specs.Prelude.{◌≡◌, ◌↔◌, ◌<◌, ◌^◌, ◌++◌, ◌∷◌, [], IsTrue, OnErr, OnOk, length};
+ghost use Rattle.occ_net_trace.specs.Views.{communication};
+
+use crate::communication::End;
+use crate::entries::Entries;
+use crate::lists::Lists;
+use crate::pieces::Pieces;
+use crate::shapes::Head;
+use occ_term::Message;
+use std::alloc::{AllocError, Global};
+use std::marker::Model;
+
+/// The communications of a run, in order. Contracts see their list.
+#[derive(Drop)]
+pub struct Trace {
+    lists: Lists,
+}
+
+impl Model for Trace {
+    ghost use Rattle.std.specs.Prelude.{List};
+    ghost use Rattle.occ_net_trace.specs.declared.communication.Communication.{Communication};
+    ghost use Rattle.occ_net_trace.specs.Kept.{IsKept, kept_in};
+
+    ghost Value = { List Communication };
+
+    ghost view = { λ t. kept_in t.lists };
+
+    ghost invariant = { λ t. IsKept (kept_in t.lists) t.lists };
+}
+
+impl Trace {
+    /// No communications.
+    pub fn new(alloc: Global) -> Trace
+        ensures { result ≡ [] }
+    {
+        Trace {
+            lists: Lists {
+                heads: Vec::new(alloc),
+                shapes: Vec::new(alloc),
+                lengths: Vec::new(alloc),
+                words: Vec::new(alloc),
+            },
+        }
+    }
+
+    /// How many there are.
+    pub fn len(&self) -> usize
+        ensures len { result ≡ length self.now }
+        ensures few { result < 2 ^ 63 }
+    {
+        self.lists.heads.len()
+    }
+
+    /// Whether there is none.
+    pub fn is_empty(&self) -> bool
+        ensures { IsTrue result ↔ (self.now ≡ []) }
+    {
+        self.lists.heads.is_empty()
+    }
+
+    /// The communications one after another.
+    pub fn entries(&self) -> Entries<'_>
+        ensures { result ≡ self.now }
+    {
+        let pieces = Pieces {
+            shapes: self.lists.shapes.as_slice(),
+            lengths: self.lists.lengths.as_slice(),
+            words: self.lists.words.as_slice(),
+        };
+        Entries::new(self.lists.heads.as_slice(), pieces)
+    }
+
+    /// Puts the communication of this message on this channel, between these ends, behind the others. All growths that it
+    /// needs come first: after a refused one the trace is as it was.
+    ///
+    /// # Errors
+    ///
+    /// A refused growth.
+    pub fn push(
+        &mut self,
+        chan: u32,
+        sender: End,
+        receiver: End,
+        message: &Message,
+    ) -> Result<(), AllocError>
+        ensures pushed { OnOk result (self.new ≡ self.old ++ communication chan sender receiver message.now ∷ []) }
+        ensures same { OnErr result (self.new ≡ self.old) }
+    {
+        let parts = message.items.as_slice();
+        self.lists.reserve(parts)?;
+        let head = Head {
+            chan,
+            sender,
+            receiver,
+            tag: message.tag,
+        };
+        self.lists.put(head, parts);
+        Ok(())
+    }
+}
