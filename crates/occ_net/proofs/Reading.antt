@@ -5,7 +5,7 @@ use Rattle.occ_code.specs.Sequential.Compiled.{IsCompiled}
 use Rattle.occ_net_replay.specs.Following.{AreBytes, Followed}
 use Rattle.occ_net_replay.specs.Replay.{Net}
 use Rattle.occ_net_replay.proofs.Law.{replays_are_runs}
-use Rattle.occ_net_tables.specs.declared.trace.Communication.{Communication as Made}
+use Rattle.occ_net_trace.specs.declared.communication.Communication.{Communication as Made}
 use Rattle.occ_net_tables.specs.Holding.{communication_of}
 use Rattle.occ_shown.specs.Answers.{AreByteMessages}
 use Rattle.occ_shown.proofs.ByteMessages.{outputs_are_bytes}

@@ -3,7 +3,7 @@ use Rattle.std.specs.Prelude.{List, map, ℕ, ◌≡◌}
 use Rattle.occ_term.specs.declared.message.Message.{Message}
 use Rattle.occ_term.specs.Runs.{messages_on}
 use Rattle.occ_net_replay.specs.Replay.{Net}
-use Rattle.occ_net_tables.specs.declared.trace.Communication.{Communication}
+use Rattle.occ_net_trace.specs.declared.communication.Communication.{Communication}
 use Rattle.occ_net_tables.specs.Holding.{communication_of}
 
 -- those of these communications

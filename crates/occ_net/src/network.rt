@@ -9,7 +9,8 @@ use crate::fault::NetFault;
 use crate::history::History;
 use occ_code::{Code, Task};
 use occ_net_replay::{Choice, Ending};
-use occ_net_tables::{Communication, Tables};
+use occ_net_tables::Tables;
+use occ_net_trace::Trace;
 use std::alloc::{AllocError, Global};
 use std::marker::Model;
 
@@ -124,15 +125,15 @@ impl Network {
     }
 
     /// The communications that there were, in order.
-    pub fn trace(&self) -> &[Communication]
+    pub fn trace(&self) -> &Trace
         ensures { (net : Net) → IsState self.now net → net.trace ≡ map communication_of result.now }
     {
         self.tables.trace()
     }
 
     /// The same, where the network is no longer wanted.
-    pub fn into_trace(self) -> Vec<Communication>
-        ensures { (net : Net) → IsState self net → net.trace ≡ map communication_of result.items }
+    pub fn into_trace(self) -> Trace
+        ensures { (net : Net) → IsState self net → net.trace ≡ map communication_of result }
     {
         let Network { tables, .. } = self;
         tables.into_trace()
@@ -148,6 +149,6 @@ impl Network {
         if chan as usize >= self.code.channels().len() {
             return None;
         }
-        Some(History::new(self.tables.trace(), chan))
+        Some(History::new(self.tables.trace().entries(), chan))
     }
 }

@@ -18,9 +18,9 @@ use Rattle.occ_net_replay.specs.Replay.{Net, HasTask, may_go, noted_at, made_rea
 use Rattle.occ_net_replay.specs.Waiting.{channels_at, listens_on}
 use Rattle.occ_net_replay.proofs.Tables.{OffersOn, offers_found, offers_there, or_else, or_first, or_second, set_same, set_other, set_back, task_once}
 use Rattle.occ_net_replay.specs.Moments.{NoneReady, is_read}
-use Rattle.occ_net_tables.specs.declared.trace.End.{End}
-use Rattle.occ_net_tables.specs.declared.trace.End.TheVariants.{Process, Keyboard, Screen, Error}
-use Rattle.occ_net_tables.specs.declared.trace.Communication.{Communication}
+use Rattle.occ_net_trace.specs.declared.communication.End.{End}
+use Rattle.occ_net_trace.specs.declared.communication.End.TheVariants.{Process, Keyboard, Screen, Error}
+use Rattle.occ_net_trace.specs.declared.communication.Communication.{Communication}
 use Rattle.occ_net_tables.specs.declared.tables.Tables.{Tables}
 use Rattle.occ_net_tables.specs.Ready.{put_in}
 use Rattle.occ_net_tables.specs.Keys.{flat, entry_in}
@@ -162,8 +162,8 @@ module _ (p : Program) (kb : List ℕ) (old : Tables) (number place : ℕ) (afte
   pub as_ready : slice_set now.tasks number (Some (made_ready after)) ≡ old.tasks.items
   as_ready = set_twice net.tasks number (Some after) (Some (made_ready after)) ∙ sym mid.tasks
 
-  pub traced_by : (new : Tables) (x : Communication) → new.trace.items ≡ old.trace.items ++ x ∷ [] → net.trace ++ communication_of x ∷ [] ≡ map communication_of new.trace.items
-  traced_by new x e = ap (λ l. l ++ communication_of x ∷ []) mid.trace ∙ sym (map-append communication_of old.trace.items (x ∷ [])) ∙ ap (map communication_of) (sym e)
+  pub traced_by : (new : Tables) (x : Communication) → new.trace ≡ old.trace ++ x ∷ [] → net.trace ++ communication_of x ∷ [] ≡ map communication_of new.trace
+  traced_by new x e = ap (λ l. l ++ communication_of x ∷ []) mid.trace ∙ sym (map-append communication_of old.trace (x ∷ [])) ∙ ap (map communication_of) (sym e)
 
   pub bytes_same : (new : Tables) → new.used ≡ old.used → net.keyboard ≡ drop new.used kb
   bytes_same new e = mid.bytes ∙ ap (λ n. drop n kb) (sym e)
@@ -177,7 +177,7 @@ module _ (p : Program) (kb : List ℕ) (old : Tables) (number place : ℕ) (afte
   read_settles pick c m r w screen_reads = settles (meets (inl refl) (joined (task_gives (mine p.bodies pick number net mid.before after mid.has_task) w) (screen_gets refl)))
   read_settles pick c m r w error_reads = settles (meets (inl refl) (joined (task_gives (mine p.bodies pick number net mid.before after mid.has_task) w) (error_gets refl)))
 
-  pub was_read : (new : Tables) (pick c : ℕ) (m : Message) (r : End) → after.wait ≡ W.Offers c m → reader_of c ≡ Some r → new.tasks.items ≡ old.tasks.items → new.used ≡ old.used → new.trace.items ≡ old.trace.items ++ sent c (Process number) r m ∷ [] → Sound new net.noted → Sized p new → SettlesTo p kb pick number after net new
+  pub was_read : (new : Tables) (pick c : ℕ) (m : Message) (r : End) → after.wait ≡ W.Offers c m → reader_of c ≡ Some r → new.tasks.items ≡ old.tasks.items → new.used ≡ old.used → new.trace ≡ old.trace ++ sent c (Process number) r m ∷ [] → Sound new net.noted → Sized p new → SettlesTo p kb pick number after net new
   was_read new pick c m r w e tasks used trace sound sized =
       record {
         next = traced (record (with_task now number (made_ready after)) { output = one_more net.output c m; input = one_more net.input c m }) (S.communication c (S.OfProcess number) (end_of r) m);
@@ -282,7 +282,7 @@ module _ (p : Program) (kb : List ℕ) (old : Tables) (number place : ℕ) (afte
   abbrev pub Nobody : ℕ → Type 0
   Nobody pick = Unmet p.bodies pick number net mid.before after mid.has_task
 
-  pub stays_as : (new : Tables) (pick : ℕ) (v : Wait) → after.wait ≡ v → Nobody pick → new.tasks.items ≡ slice_set old.tasks.items number (Some (ready_with (made_ready after) v)) → new.used ≡ old.used → new.trace.items ≡ old.trace.items → Sound new now.noted → Sized p new → SettlesTo p kb pick number after net new
+  pub stays_as : (new : Tables) (pick : ℕ) (v : Wait) → after.wait ≡ v → Nobody pick → new.tasks.items ≡ slice_set old.tasks.items number (Some (ready_with (made_ready after) v)) → new.used ≡ old.used → new.trace ≡ old.trace → Sound new now.noted → Sized p new → SettlesTo p kb pick number after net new
   stays_as new pick v w none tasks used trace sound sized =
       record {
         next = now;
@@ -296,7 +296,7 @@ module _ (p : Program) (kb : List ℕ) (old : Tables) (number place : ℕ) (afte
         };
       }
 
-  pub offer_waits : (new : Tables) (pick c : ℕ) (m : Message) → after.wait ≡ W.Offers c m → reader_of c ≡ None → entry_in old.awaiting.items c ≡ None → new.tasks.items ≡ slice_set old.tasks.items number (Some (ready_with (made_ready after) (W.Offers c m))) → new.used ≡ old.used → new.trace.items ≡ old.trace.items → Sound new net.noted → Sized p new → SettlesTo p kb pick number after net new
+  pub offer_waits : (new : Tables) (pick c : ℕ) (m : Message) → after.wait ≡ W.Offers c m → reader_of c ≡ None → entry_in old.awaiting.items c ≡ None → new.tasks.items ≡ slice_set old.tasks.items number (Some (ready_with (made_ready after) (W.Offers c m))) → new.used ≡ old.used → new.trace ≡ old.trace → Sound new net.noted → Sized p new → SettlesTo p kb pick number after net new
   offer_waits new pick c m w unread empty tasks used trace sound sized = stays_as new pick (W.Offers c m) w none tasks used trace (kept_quiet new (W.Offers c m) w refl sound) sized
     where
       none : Nobody pick
@@ -387,7 +387,7 @@ module _ (p : Program) (kb : List ℕ) (old : Tables) (number place : ℕ) (afte
 
   -- ---- the process waits for a message
 
-  pub await_waits : (new : Tables) (pick c : ℕ) → after.wait ≡ W.Awaits c → byte_on c kb old.used ≡ None → entry_in old.offering.items c ≡ None → new.tasks.items ≡ slice_set old.tasks.items number (Some (ready_with (made_ready after) (W.Awaits c))) → new.used ≡ old.used → new.trace.items ≡ old.trace.items → Sound new net.noted → Sized p new → SettlesTo p kb pick number after net new
+  pub await_waits : (new : Tables) (pick c : ℕ) → after.wait ≡ W.Awaits c → byte_on c kb old.used ≡ None → entry_in old.offering.items c ≡ None → new.tasks.items ≡ slice_set old.tasks.items number (Some (ready_with (made_ready after) (W.Awaits c))) → new.used ≡ old.used → new.trace ≡ old.trace → Sound new net.noted → Sized p new → SettlesTo p kb pick number after net new
   await_waits new pick c w no_byte empty tasks used trace sound sized = stays_as new pick (W.Awaits c) w none tasks used trace (kept_quiet new (W.Awaits c) w refl sound) sized
     where
       none : Nobody pick
@@ -404,11 +404,11 @@ module _ (p : Program) (kb : List ℕ) (old : Tables) (number place : ℕ) (afte
 
   -- ---- the process halted, or failed
 
-  pub halts : (new : Tables) (pick : ℕ) → after.wait ≡ W.Halted → new.tasks.items ≡ slice_set old.tasks.items number (Some (ready_with (made_ready after) W.Halted)) → new.used ≡ old.used → new.trace.items ≡ old.trace.items → Sound new net.noted → Sized p new → SettlesTo p kb pick number after net new
+  pub halts : (new : Tables) (pick : ℕ) → after.wait ≡ W.Halted → new.tasks.items ≡ slice_set old.tasks.items number (Some (ready_with (made_ready after) W.Halted)) → new.used ≡ old.used → new.trace ≡ old.trace → Sound new net.noted → Sized p new → SettlesTo p kb pick number after net new
   halts new pick w tasks used trace sound sized = stays_as new pick W.Halted w (record { offers = λ d x e. let q = sym w ∙ e in absurd cc; awaits = λ d e. let q = sym w ∙ e in absurd cc; unforked = λ ns e. let q = sym w ∙ e in cc; unjoined = λ e. let q = sym w ∙ e in absurd cc; unchosen = λ pri arms a e f. let q = sym w ∙ e in cc }) tasks used trace (kept_quiet new W.Halted w refl sound) sized
 
-  pub fails : (new : Tables) (pick : ℕ) (x : Fault) → after.wait ≡ W.Faulted x → new.tasks.items ≡ slice_set old.tasks.items number (Some (ready_with (made_ready after) (W.Faulted x))) → new.used ≡ old.used → new.trace.items ≡ old.trace.items → Sound new (net.noted ++ x ∷ []) → Sized p new → SettlesTo p kb pick number after net new
+  pub fails : (new : Tables) (pick : ℕ) (x : Fault) → after.wait ≡ W.Faulted x → new.tasks.items ≡ slice_set old.tasks.items number (Some (ready_with (made_ready after) (W.Faulted x))) → new.used ≡ old.used → new.trace ≡ old.trace → Sound new (net.noted ++ x ∷ []) → Sized p new → SettlesTo p kb pick number after net new
   fails new pick x w tasks used trace sound sized = stays_as new pick (W.Faulted x) w (record { offers = λ d y e. let q = sym w ∙ e in absurd cc; awaits = λ d e. let q = sym w ∙ e in absurd cc; unforked = λ ns e. let q = sym w ∙ e in cc; unjoined = λ e. let q = sym w ∙ e in absurd cc; unchosen = λ pri arms a e f. let q = sym w ∙ e in cc }) tasks used trace (subst (λ z. Sound new (net.noted ++ noted_at z)) (sym w) sound) sized
 
-  pub goes_on : (new : Tables) (pick : ℕ) → after.wait ≡ W.Ready → new.tasks.items ≡ old.tasks.items → new.used ≡ old.used → new.trace.items ≡ old.trace.items → Sound new net.noted → Sized p new → SettlesTo p kb pick number after net new
+  pub goes_on : (new : Tables) (pick : ℕ) → after.wait ≡ W.Ready → new.tasks.items ≡ old.tasks.items → new.used ≡ old.used → new.trace ≡ old.trace → Sound new net.noted → Sized p new → SettlesTo p kb pick number after net new
   goes_on new pick w tasks used trace sound sized = stays_as new pick W.Ready w (record { offers = λ d x e. let q = sym w ∙ e in absurd cc; awaits = λ d e. let q = sym w ∙ e in absurd cc; unforked = λ ns e. let q = sym w ∙ e in cc; unjoined = λ e. let q = sym w ∙ e in absurd cc; unchosen = λ pri arms a e f. let q = sym w ∙ e in cc }) (tasks ∙ mid.tasks ∙ sym (set_twice net.tasks number (Some (made_ready after)) (Some (made_ready after))) ∙ ap (λ l. slice_set l number (Some (made_ready after))) (sym mid.tasks)) used trace (kept_quiet new W.Ready w refl sound) sized

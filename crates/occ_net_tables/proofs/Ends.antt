@@ -141,7 +141,7 @@ module _ (p : Program) (kb : List ℕ) (old : Tables) (number place : ℕ) (afte
 
   -- ---- nobody waited
 
-  pub ends_alone : (new : Tables) (pick : ℕ) → entry_in old.parents.items number ≡ None → new.tasks.items ≡ then_done → new.used ≡ old.used → new.trace.items ≡ old.trace.items → new.ready.items ≡ remove old.ready.items place → new.offering.items ≡ old.offering.items → new.awaiting.items ≡ old.awaiting.items → new.parents.items ≡ old.parents.items → new.unfinished.items ≡ old.unfinished.items → new.fault ≡ old.fault → Sized p new → SettlesTo p kb pick number after net new
+  pub ends_alone : (new : Tables) (pick : ℕ) → entry_in old.parents.items number ≡ None → new.tasks.items ≡ then_done → new.used ≡ old.used → new.trace ≡ old.trace → new.ready.items ≡ remove old.ready.items place → new.offering.items ≡ old.offering.items → new.awaiting.items ≡ old.awaiting.items → new.parents.items ≡ old.parents.items → new.unfinished.items ≡ old.unfinished.items → new.fault ≡ old.fault → Sized p new → SettlesTo p kb pick number after net new
   ends_alone new pick none tasks used trace e1 e2 e3 e4 e5 e6 sized =
       stays_as p kb old number place after net mid new pick W.Done w
       (nobody (λ m u ns h v a done. no_entry old.parents.items number m none (stands_there m u ns (waiting_net p kb old number place after net mid m u h (ap may_go v)) v a)) pick) tasks used trace
@@ -149,7 +149,7 @@ module _ (p : Program) (kb : List ℕ) (old : Tables) (number place : ℕ) (afte
 
   -- ---- another process waits for others as well
 
-  pub ends_before : (new : Tables) (pick m : ℕ) (some : entry_in old.parents.items number ≡ Some m) (x : Parent m) → (undone then_done x.branches ≡ 0 → ⊥) → new.tasks.items ≡ then_done → new.used ≡ old.used → new.trace.items ≡ old.trace.items → new.ready.items ≡ remove old.ready.items place → new.offering.items ≡ old.offering.items → new.awaiting.items ≡ old.awaiting.items → new.parents.items ≡ old.parents.items → new.unfinished.items ≡ slice_set old.unfinished.items m (undone then_done x.branches) → new.fault ≡ old.fault → Sized p new → SettlesTo p kb pick number after net new
+  pub ends_before : (new : Tables) (pick m : ℕ) (some : entry_in old.parents.items number ≡ Some m) (x : Parent m) → (undone then_done x.branches ≡ 0 → ⊥) → new.tasks.items ≡ then_done → new.used ≡ old.used → new.trace ≡ old.trace → new.ready.items ≡ remove old.ready.items place → new.offering.items ≡ old.offering.items → new.awaiting.items ≡ old.awaiting.items → new.parents.items ≡ old.parents.items → new.unfinished.items ≡ slice_set old.unfinished.items m (undone then_done x.branches) → new.fault ≡ old.fault → Sized p new → SettlesTo p kb pick number after net new
   ends_before new pick m some x more tasks used trace e1 e2 e3 e4 e5 e6 sized =
       stays_as p kb old number place after net mid new pick W.Done w (nobody others pick) tasks used trace
       (kept_quiet p kb old number place after net mid new W.Done w refl (true_as tasks e1 e2 e3 e4 e5 e6 (true_then (slice_set old.unfinished.items m (undone then_done x.branches)) (counted_less m some x)))) sized
@@ -184,7 +184,7 @@ module _ (p : Program) (kb : List ℕ) (old : Tables) (number place : ℕ) (afte
           absurd (true≢false (sym over ∙ not))
       by there (inr q) = q
 
-  pub ends_join : (new between : Tables) (pick m : ℕ) (some : entry_in old.parents.items number ≡ Some m) (x : Parent m) → undone then_done x.branches ≡ 0 → between.tasks.items ≡ then_done → between.used ≡ old.used → between.trace.items ≡ old.trace.items → between.ready.items ≡ remove old.ready.items place → between.offering.items ≡ old.offering.items → between.awaiting.items ≡ old.awaiting.items → between.parents.items ≡ old.parents.items → between.unfinished.items ≡ slice_set old.unfinished.items m (undone then_done x.branches) → between.fault ≡ old.fault → ((t : Task) (ns : List ℕ) → HasTask between.tasks.items m t → t.wait ≡ W.Joins ns → JoinsBranches p between m t ns new) → SettlesTo p kb pick number after net new
+  pub ends_join : (new between : Tables) (pick m : ℕ) (some : entry_in old.parents.items number ≡ Some m) (x : Parent m) → undone then_done x.branches ≡ 0 → between.tasks.items ≡ then_done → between.used ≡ old.used → between.trace ≡ old.trace → between.ready.items ≡ remove old.ready.items place → between.offering.items ≡ old.offering.items → between.awaiting.items ≡ old.awaiting.items → between.parents.items ≡ old.parents.items → between.unfinished.items ≡ slice_set old.unfinished.items m (undone then_done x.branches) → between.fault ≡ old.fault → ((t : Task) (ns : List ℕ) → HasTask between.tasks.items m t → t.wait ≡ W.Joins ns → JoinsBranches p between m t ns new) → SettlesTo p kb pick number after net new
   ends_join new between pick m some x none tasks used trace e1 e2 e3 e4 e5 e6 join =
       let there : HasTask between.tasks.items m x.task = ap (λ l. slice_get l m) tasks ∙ set_other old.tasks.items number m (Some ended_task) x.apart ∙ x.there in
       let g = join x.task x.branches there x.waits in
@@ -200,7 +200,7 @@ module _ (p : Program) (kb : List ℕ) (old : Tables) (number place : ℕ) (afte
         holds = record {
           tasks = sym (g.tasks ∙ ap (λ l. slice_set l m (Some (joined_with x.task (merged p.bodies l x.branches x.task.frame)))) same);
           bytes = mid.bytes ∙ ap (λ n. drop n kb) (sym (g.used ∙ used));
-          trace = mid.trace ∙ ap (map communication_of) (sym (ap (λ z. z.items) g.trace ∙ trace));
+          trace = mid.trace ∙ ap (map communication_of) (sym (g.trace ∙ trace));
           sound = kept_quiet p kb old number place after net mid new W.Done w refl (true_as g.tasks g.ready (ap (λ z. z.items) g.offering) (ap (λ z. z.items) g.awaiting) g.parents (ap (λ z. z.items) g.unfinished) g.fault s);
           sized = record {
             tasks_are = ap length g.tasks ∙ set_length between.tasks.items m (Some (joined_with x.task frame)) ∙ ap length tasks ∙ set_length old.tasks.items number (Some ended_task) ∙ mid.sized.tasks_are;

@@ -251,7 +251,7 @@ module _ (p : Program) (kb : List ℕ) (old : Tables) (number place : ℕ) (afte
         holds = record {
           tasks = sym tasks;
           bytes = mid.bytes ∙ ap (λ n. drop n kb) (sym (n8 ∙ g.used ∙ b8));
-          trace = mid.trace ∙ ap (λ z. map communication_of z.items) (sym (n9 ∙ g.trace ∙ b9));
+          trace = mid.trace ∙ ap (map communication_of) (sym (n9 ∙ g.trace ∙ b9));
           sound = kept_quiet p kb old number place after net mid new (W.Joins ns) w refl (true_as tasks (ready ∙ ap (ready_from 0) tasks) (ap (λ z. z.items) offering) (ap (λ z. z.items) awaiting) refl refl fault
               (record {
                 ready_is = refl;

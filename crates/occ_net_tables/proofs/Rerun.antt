@@ -16,7 +16,7 @@ use Rattle.occ_net_tables.specs.Places.{all_kept, kept_by, none_placed, one_plac
 use Rattle.occ_net_tables.specs.declared.running.Keep.{Keep}
 use Rattle.occ_net_tables.specs.declared.running.Keep.TheVariants.{Given, Places}
 use Rattle.occ_net_tables.specs.declared.running.Ran.{Ran}
-use Rattle.occ_net_tables.specs.declared.trace.Communication.{Communication}
+use Rattle.occ_net_trace.specs.declared.communication.Communication.{Communication}
 use Rattle.occ_net_tables.proofs.Placing.{placed_replays}
 use Rattle.occ_net_tables.proofs.Turned.{is_open}
 use Rattle.occ_net_tables.specs.Settling.{Standing, TurnsTo}
@@ -55,7 +55,7 @@ run_is p kb list keep given r h b e w = record { given = given; run = h; used = 
 
 -- where what was given was kept
 pub outcome : (p : Program) (kb : List ℕ) (list : List Choice) (r : Ran) (trace : List Communication) (h : IsRan p kb list Given r) → ((k : List ℕ) (net : Net) → Holds p k r.tables net → net.trace ≡ map communication_of trace)
-    → (o : Outcome) → o.ending ≡ r.ending → o.choices ≡ r.kept → o.trace.items ≡ trace → IsOutcome p kb list o
+    → (o : Outcome) → o.ending ≡ r.ending → o.choices ≡ r.kept → o.trace ≡ trace → IsOutcome p kb list o
 outcome p kb list r trace h shows o same_end same_choices same_trace =
     let used : h.given ≡ o.choices.items = sym h.run.kept_is ∙ ap (λ v. v.items) (sym same_choices) in
     record {

@@ -76,7 +76,7 @@ start_true bs b channels e =
       fault_is = refl;
     }
 
-pub starts : (p : Program) (kb : List ℕ) (n : Tables) (b : Body) → slice_get p.bodies 0 ≡ Some b → n.tasks.items ≡ slice_set (replicate (length p.bodies) None) 0 (Some (first_task 0 0 (zero_frame b.cells b.loops))) → n.ready.items ≡ 0 ∷ [] → n.offering.items ≡ replicate (length p.channels) None → n.awaiting.items ≡ replicate (length p.channels) None → n.parents.items ≡ replicate (length p.bodies) None → n.unfinished.items ≡ replicate (length p.bodies) 0 → n.fault ≡ None → n.used ≡ 0 → n.trace.items ≡ [] → Holds p kb n (first_net p kb)
+pub starts : (p : Program) (kb : List ℕ) (n : Tables) (b : Body) → slice_get p.bodies 0 ≡ Some b → n.tasks.items ≡ slice_set (replicate (length p.bodies) None) 0 (Some (first_task 0 0 (zero_frame b.cells b.loops))) → n.ready.items ≡ 0 ∷ [] → n.offering.items ≡ replicate (length p.channels) None → n.awaiting.items ≡ replicate (length p.channels) None → n.parents.items ≡ replicate (length p.bodies) None → n.unfinished.items ≡ replicate (length p.bodies) 0 → n.fault ≡ None → n.used ≡ 0 → n.trace ≡ [] → Holds p kb n (first_net p kb)
 starts p kb n b e t r o a ps u f k s =
     record {
       tasks = sym (t ∙ start_is p.bodies b e);

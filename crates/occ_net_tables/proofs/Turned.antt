@@ -212,7 +212,7 @@ module _ (p : Program) (kb : List ℕ) (n : Tables) (s : Standing p kb n) where
             untaken = λ arm is m q. turns_never_take compiled.source p compiled.quantum kb s.choices s.net number adv.after arm is m is_replay is_turn q;
             tasks = adv.is ∙ ap (λ l. slice_set l number (Some (made_ready adv.after))) (sym h.tasks);
             bytes = h.bytes ∙ ap (λ k. drop k kb) (sym e7);
-            trace = h.trace ∙ ap (λ z. map communication_of z.items) (sym e8);
+            trace = h.trace ∙ ap (map communication_of) (sym e8);
             sound = true_as adv.is (ap (λ z. z.items) e1) (ap (λ z. z.items) e2) (ap (λ z. z.items) e3) (ap (λ z. z.items) e4) (ap (λ z. z.items) e5) e6
                 (again_ready n.tasks.items n.ready.items n.offering.items n.awaiting.items n.parents.items n.unfinished.items n.fault h.sound number t (made_ready adv.after) there may refl);
             sized = record {

@@ -11,9 +11,9 @@ use Rattle.occ_code.specs.declared.task.Wait.{Wait}
 use Rattle.occ_code.specs.declared.task.Wait.TheVariants.{Ready, Took, Offers, Awaits, Chooses, Joins, Halted, Done, Faulted}
 use Rattle.occ_net_replay.specs.Replay.{Net, Tasks, HasTask, ended, first_noted, offers_on, ready_from}
 use Rattle.occ_net_replay.specs.Waiting.{listens_on}
-use Rattle.occ_net_tables.specs.declared.trace.End.{End}
-use Rattle.occ_net_tables.specs.declared.trace.End.TheVariants.{Process, Keyboard, Screen, Error}
-use Rattle.occ_net_tables.specs.declared.trace.Communication.{Communication}
+use Rattle.occ_net_trace.specs.declared.communication.End.{End}
+use Rattle.occ_net_trace.specs.declared.communication.End.TheVariants.{Process, Keyboard, Screen, Error}
+use Rattle.occ_net_trace.specs.declared.communication.Communication.{Communication}
 use Rattle.occ_net_tables.specs.declared.tables.Tables.{Tables}
 
 -- ---- the trace
@@ -104,6 +104,6 @@ Sized p n = AreSized p n.tasks.items n.offering.items n.awaiting.items n.parents
 pub record Holds (p : Program) (keyboard : List ℕ) (n : Tables) (net : Net) : Type 0 where
   pub tasks : net.tasks ≡ n.tasks.items
   pub bytes : net.keyboard ≡ drop n.used keyboard
-  pub trace : net.trace ≡ map communication_of n.trace.items
+  pub trace : net.trace ≡ map communication_of n.trace
   pub sound : Sound n net.noted
   pub sized : Sized p n

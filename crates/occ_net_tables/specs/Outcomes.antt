@@ -19,7 +19,7 @@ pub record Begins {X : Type 0} (front whole : List X) : Type 0 where
 pub record IsOutcome (p : Program) (keyboard : List ℕ) (list : List Choice) (o : Outcome) : Type 0 where
   pub net : Net
   pub replays : Replays p keyboard o.choices.items net
-  pub trace : net.trace ≡ map communication_of o.trace.items
+  pub trace : net.trace ≡ map communication_of o.trace
   pub used : Begins o.choices.items list
   pub ending : o.ending ≡ or_limit (ending_of p.errors net)
   pub whole : ending_of p.errors net ≡ None → o.choices.items ≡ list

@@ -8,9 +8,8 @@ use Rattle.occ_code.specs.declared.task.Wait.TheVariants.{Ready, Took, Offers, A
 use Rattle.occ_net_replay.specs.Replay.{copied}
 use Rattle.occ_net_tables.specs.declared.tables.Tables.{Tables}
 
--- there is room for one more communication, and for so many more ready processes
+-- there is room for so many more ready processes
 pub record HasRoom (n : Tables) (more : ℕ) : Type 0 where
-  pub trace : vec_len n.trace < vec_capacity n.trace
   pub ready : vec_len n.ready + more ≤ vec_capacity n.ready
 
 -- how many more processes may be ready after a turn that ended so
@@ -35,7 +34,7 @@ pub record AreSame (old new : Tables) : Type 0 where
   pub unfinished : new.unfinished.items ≡ old.unfinished.items
   pub fault : new.fault ≡ old.fault
   pub used : new.used ≡ old.used
-  pub trace : new.trace.items ≡ old.trace.items
+  pub trace : new.trace ≡ old.trace
 
 -- ---- private contracts alone cite what follows
 

@@ -13,9 +13,9 @@ use Rattle.occ_net_replay.specs.declared.choice.Choice.{Choice}
 use Rattle.occ_net_replay.specs.Replay.{Net, Tasks, HasTask, OneTurn, Replays, Settled, branch_task, byte_message, ending_of, goes, made_ready, may_go, merged, ready_from, standing, took_arm, took_turn, with_branches}
 use Rattle.occ_net_replay.specs.Moments.{NoneReady}
 use Rattle.occ_net_replay.specs.Waiting.{OffersAlone, ListensAlone, ForksAlone, channels_at, listens_on}
-use Rattle.occ_net_tables.specs.declared.trace.End.{End}
-use Rattle.occ_net_tables.specs.declared.trace.End.TheVariants.{Process, Keyboard, Screen, Error}
-use Rattle.occ_net_tables.specs.declared.trace.Communication.{Communication}
+use Rattle.occ_net_trace.specs.declared.communication.End.{End}
+use Rattle.occ_net_trace.specs.declared.communication.End.TheVariants.{Process, Keyboard, Screen, Error}
+use Rattle.occ_net_trace.specs.declared.communication.Communication.{Communication}
 use Rattle.occ_net_tables.specs.declared.tables.Tables.{Tables}
 use Rattle.occ_net_tables.specs.Holding.{Holds, IsOrdinary, Sized, Sound, communication_of}
 use Rattle.occ_net_tables.specs.Choosing.{TakesBy, offered_by}
@@ -58,7 +58,7 @@ pub record Mid (p : Program) (keyboard : List ℕ) (n : Tables) (number place : 
   pub untaken : (arm : ℕ) (indices : List ℤ) (m : Option Message) → after.wait ≡ Took arm indices m → ⊥
   pub tasks : n.tasks.items ≡ slice_set net.tasks number (Some (made_ready after))
   pub bytes : net.keyboard ≡ drop n.used keyboard
-  pub trace : net.trace ≡ map communication_of n.trace.items
+  pub trace : net.trace ≡ map communication_of n.trace
   pub sound : Sound n net.noted
   pub sized : Sized p n
   pub offers : (c : ℕ) (m : Message) → after.wait ≡ Offers c m → OffersAlone p net.tasks c
@@ -124,7 +124,7 @@ pub record Gave (old : Tables) (number taker chan : ℕ) (t : Task) (a : Arm) (m
   pub tasks : new.tasks.items ≡ slice_set old.tasks.items taker (Some (took_arm t a (Some m)))
   pub ready : new.ready.items ≡ put_in taker old.ready.items
   pub awaiting : new.awaiting.items ≡ set_all (channels_at t.wait) None old.awaiting.items
-  pub trace : new.trace.items ≡ old.trace.items ++ sent chan (Process number) (Process taker) m ∷ []
+  pub trace : new.trace ≡ old.trace ++ sent chan (Process number) (Process taker) m ∷ []
   pub offering : new.offering ≡ old.offering
   pub parents : new.parents ≡ old.parents
   pub unfinished : new.unfinished ≡ old.unfinished
@@ -134,7 +134,7 @@ pub record Gave (old : Tables) (number taker chan : ℕ) (t : Task) (a : Arm) (m
 -- a process has the keyboard's next byte by this arm, and may go on
 pub record TookByte (old : Tables) (number : ℕ) (a : Arm) (byte : ℕ) (new : Tables) : Type 0 where
   pub tasks : (t : Task) → HasTask old.tasks.items number t → new.tasks.items ≡ slice_set old.tasks.items number (Some (took_arm t a (Some (byte_message byte))))
-  pub trace : new.trace.items ≡ old.trace.items ++ sent 0 Keyboard (Process number) (byte_message byte) ∷ []
+  pub trace : new.trace ≡ old.trace ++ sent 0 Keyboard (Process number) (byte_message byte) ∷ []
   pub used : new.used ≡ old.used + 1
   pub ready : new.ready ≡ old.ready
   pub offering : new.offering ≡ old.offering
@@ -155,7 +155,7 @@ pub record TookFrom (old : Tables) (number giver chan : ℕ) (a : Arm) (t : Task
   pub tasks : (u : Task) → HasTask old.tasks.items number u → new.tasks.items ≡ slice_set (slice_set old.tasks.items giver (Some (made_ready t))) number (Some (took_arm u a (Some m)))
   pub ready : new.ready.items ≡ put_in giver old.ready.items
   pub offering : new.offering.items ≡ slice_set old.offering.items chan None
-  pub trace : new.trace.items ≡ old.trace.items ++ sent chan (Process giver) (Process number) m ∷ []
+  pub trace : new.trace ≡ old.trace ++ sent chan (Process giver) (Process number) m ∷ []
   pub awaiting : new.awaiting ≡ old.awaiting
   pub parents : new.parents ≡ old.parents
   pub unfinished : new.unfinished ≡ old.unfinished

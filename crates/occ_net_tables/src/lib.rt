@@ -14,9 +14,7 @@ pub mod running;
 mod settling;
 pub mod tables;
 mod tasks;
-pub mod trace;
 mod turning;
 
 pub use running::{Keep, Outcome, Ran, run, run_tables};
 pub use tables::Tables;
-pub use trace::{Communication, End};

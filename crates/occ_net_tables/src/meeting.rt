@@ -16,8 +16,8 @@ use crate::entries::{entry, set_entry};
 use crate::ready::insert;
 use crate::tables::Tables;
 use crate::tasks::{set_wait, take_wait};
-use crate::trace::{Communication, End};
 use occ_code::{Arm, Task, Wait};
+use occ_net_trace::End;
 use occ_term::{Fault, Message, Part, Parts, Primitive};
 use sqlite_items::Items;
 use std::alloc::{AllocError, Global};
@@ -92,14 +92,14 @@ fn one_byte(byte: u8) -> Message
     }
 }
 
-/// A copy of the message that the process offers.
-fn offered(alloc: Global, tasks: &[Option<Task>], giver: u32) -> Result<Message, AllocError>
+/// The message that the process offers.
+fn offered(tasks: &[Option<Task>], giver: u32) -> &Message
     requires { (chan : ℕ) × IsOffering tasks.now giver chan }
-    ensures { IfOk result (λ copy. (t : Task) (chan : ℕ) (m : Message) → HasTask tasks.now giver t → t.wait ≡ Wait.Offers chan m → copy ≡ m) }
+    ensures { (t : Task) (chan : ℕ) (m : Message) → HasTask tasks.now giver t → t.wait ≡ Wait.Offers chan m → result.now ≡ m }
 {
     match &tasks[giver as usize] {
         Some(task) => match &task.wait {
-            Wait::Offers { message, .. } => message.copy(alloc),
+            Wait::Offers { message, .. } => message,
             _ => unreachable!(),
         },
         None => unreachable!(),
@@ -193,16 +193,11 @@ impl Tables {
         ensures ok { OnOk result ((t : Task) (a : Arm) → HasTask self.old.tasks.items taker t → TakesAlone pick chan t.wait a → Gave self.old number taker chan t a message self.new) }
         ensures err { IfErr result (λ e. (self.new ≡ self.old) × (e.0 ≡ message)) }
     {
-        let copy = match message.copy(alloc) {
-            Ok(copy) => copy,
+        let (sender, receiver) = (End::Process(number), End::Process(taker));
+        match self.trace.push(chan, sender, receiver, &message) {
+            Ok(()) => {}
             Err(refused) => return Err((message, refused)),
-        };
-        self.trace.push_reserved(Communication {
-            chan,
-            sender: End::Process(number),
-            receiver: End::Process(taker),
-            message: copy,
-        });
+        }
         insert(&mut self.ready, taker);
         let arm = self.leave(alloc, taker, chan, pick);
         set_wait(&mut self.tasks, taker, took(arm, Some(message)));
@@ -210,26 +205,23 @@ impl Tables {
     }
 
     /// The process takes this byte, which is the keyboard's next one.
-    fn take_byte(&mut self, number: u32, arm: Arm, byte: u8)
+    fn take_byte(&mut self, number: u32, arm: Arm, byte: u8) -> Result<(), AllocError>
         requires there { IsThere self.old.tasks.items number }
         requires counts { self.old.used + 1 < 2 ^ 64 }
-        requires room { HasRoom self.old 1 }
-        ensures { TookByte self.old number arm byte self.new }
+        ensures ok { OnOk result (TookByte self.old number arm byte self.new) }
+        ensures err { OnErr result (self.new ≡ self.old) }
     {
-        self.trace.push_reserved(Communication {
-            chan: KEYBOARD,
-            sender: End::Keyboard,
-            receiver: End::Process(number),
-            message: one_byte(byte),
-        });
+        let message = one_byte(byte);
+        let receiver = End::Process(number);
+        self.trace.push(KEYBOARD, End::Keyboard, receiver, &message)?;
         self.used += 1;
-        set_wait(&mut self.tasks, number, took(arm, Some(one_byte(byte))));
+        set_wait(&mut self.tasks, number, took(arm, Some(message)));
+        Ok(())
     }
 
     /// The process takes the message that another one offers.
     fn take_from(
         &mut self,
-        alloc: Global,
         number: u32,
         giver: u32,
         chan: u32,
@@ -243,16 +235,12 @@ impl Tables {
         ensures ok { OnOk result ((t : Task) (m : Message) → HasTask self.old.tasks.items giver t → t.wait ≡ Wait.Offers chan m → TookFrom self.old number giver chan arm t m self.new) }
         ensures err { OnErr result (self.new ≡ self.old) }
     {
-        let copy = offered(alloc, &self.tasks, giver)?;
+        let (sender, receiver) = (End::Process(giver), End::Process(number));
+        let message = offered(&self.tasks, giver);
+        self.trace.push(chan, sender, receiver, message)?;
         let Wait::Offers { message, .. } = take_wait(&mut self.tasks, giver) else {
             unreachable!()
         };
-        self.trace.push_reserved(Communication {
-            chan,
-            sender: End::Process(giver),
-            receiver: End::Process(number),
-            message: copy,
-        });
         set_entry(&mut self.offering, chan, None);
         set_wait(&mut self.tasks, number, took(arm, Some(message)));
         insert(&mut self.ready, giver);
@@ -275,13 +263,10 @@ impl Tables {
         ensures err { IfErr result (λ e. (self.new ≡ self.old) × (e.0 ≡ message)) }
     {
         if let Some(receiver) = reader(chan) {
-            self.trace.push_reserved(Communication {
-                chan,
-                sender: End::Process(number),
-                receiver,
-                message,
-            });
-            return Ok(());
+            match self.trace.push(chan, End::Process(number), receiver, &message) {
+                Ok(()) => return Ok(()),
+                Err(refused) => return Err((message, refused)),
+            }
         }
         if let Some(taker) = entry(&self.awaiting, chan) {
             self.give(alloc, number, taker, chan, message, pick)?;
@@ -308,11 +293,11 @@ impl Tables {
         ensures err { OnErr result (self.new ≡ self.old) }
     {
         if let Some(byte) = next_byte(chan, keyboard, self.used) {
-            self.take_byte(number, input_arm(alloc, chan), byte);
+            self.take_byte(number, input_arm(alloc, chan), byte)?;
             return Ok(());
         }
         match entry(&self.offering, chan) {
-            Some(giver) => self.take_from(alloc, number, giver, chan, input_arm(alloc, chan))?,
+            Some(giver) => self.take_from(number, giver, chan, input_arm(alloc, chan))?,
             None => {
                 set_entry(&mut self.awaiting, chan, Some(number));
                 let wait = Wait::Awaits { chan };
@@ -354,13 +339,15 @@ impl Tables {
             return Ok(());
         };
         if let Some(byte) = next_byte(chan, keyboard, self.used) {
-            self.take_byte(number, arm, byte);
-            return Ok(());
+            match self.take_byte(number, arm, byte) {
+                Ok(()) => return Ok(()),
+                Err(refused) => return Err((arms, refused)),
+            }
         }
         let Some(giver) = entry(&self.offering, chan) else {
             unreachable!()
         };
-        match self.take_from(alloc, number, giver, chan, arm) {
+        match self.take_from(number, giver, chan, arm) {
             Ok(()) => Ok(()),
             Err(refused) => Err((arms, refused)),
         }

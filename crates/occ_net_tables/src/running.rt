@@ -5,10 +5,10 @@ ghost use Rattle.occ_net_tables.specs.Places.{kept_by};
 ghost use Rattle.occ_choices.specs.Plans.{choices_of};
 
 use crate::tables::Tables;
-use crate::trace::Communication;
 use occ_choices::Plan;
 use occ_code::Code;
 use occ_net_replay::{Choice, Ending};
+use occ_net_trace::Trace;
 use occ_proc::Scratch;
 use std::alloc::{AllocError, Global};
 
@@ -40,7 +40,7 @@ pub struct Outcome {
     /// The choices that were used: a beginning of the plan's.
     pub choices: Vec<Choice>,
     /// The communications that there were, in order.
-    pub trace: Vec<Communication>,
+    pub trace: Trace,
 }
 
 /// What is kept of a choice among these ready processes.

@@ -59,13 +59,11 @@ impl Tables {
         Ok(())
     }
 
-    /// Room for one more communication, and for the processes that may be ready after a turn that
-    /// ended so.
+    /// Room for the processes that may be ready after a turn that ended so.
     fn make_room(&mut self, wait: &Wait) -> Result<(), AllocError>
         ensures same { AreSame self.old self.new }
         ensures room { OnOk result (HasRoom self.new (more_ready wait.now)) }
     {
-        self.trace.reserve(1)?;
         self.ready.reserve(more_ready(wait))?;
         Ok(())
     }

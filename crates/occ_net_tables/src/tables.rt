@@ -7,9 +7,9 @@ ghost use Rattle.occ_net_tables.specs.Holding.{Holds, communication_of};
 
 use crate::entries::{empty, no_counts};
 use crate::tasks::put_task;
-use crate::trace::Communication;
 use occ_code::{Code, Task, Wait};
 use occ_net_replay::Ending;
+use occ_net_trace::Trace;
 use occ_term::{Errors, Fault, Frame};
 use std::alloc::{AllocError, Global};
 
@@ -33,7 +33,7 @@ pub struct Tables {
     /// How many of the keyboard's bytes are taken.
     pub(crate) used: usize,
     /// The communications that there were.
-    pub(crate) trace: Vec<Communication>,
+    pub(crate) trace: Trace,
 }
 
 /// So many processes that have not begun.
@@ -113,7 +113,7 @@ impl Tables {
         let awaiting = empty(alloc, channels)?;
         let parents = empty(alloc, count)?;
         let unfinished = no_counts(alloc, count)?;
-        let trace = Vec::new(alloc);
+        let trace = Trace::new(alloc);
         Ok(Tables {
             tasks,
             ready,
@@ -144,15 +144,15 @@ impl Tables {
     }
 
     /// The communications that there were, in order.
-    pub fn trace(&self) -> &[Communication]
+    pub fn trace(&self) -> &Trace
         ensures { (p : Program) (keyboard : List ℕ) (net : Net) → Holds p keyboard self.now net → net.trace ≡ map communication_of result.now }
     {
         &self.trace
     }
 
     /// The same, where the network is no longer wanted.
-    pub fn into_trace(self) -> Vec<Communication>
-        ensures { (p : Program) (keyboard : List ℕ) (net : Net) → Holds p keyboard self net → net.trace ≡ map communication_of result.items }
+    pub fn into_trace(self) -> Trace
+        ensures { (p : Program) (keyboard : List ℕ) (net : Net) → Holds p keyboard self net → net.trace ≡ map communication_of result }
     {
         self.trace
     }

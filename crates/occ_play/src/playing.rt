@@ -145,7 +145,7 @@ pub(crate) fn told(
 {
     let bytes = answer(
         alloc,
-        outcome.trace.as_slice(),
+        &outcome.trace,
         code.channels(),
         outcome.ending,
         trace,
@@ -179,7 +179,7 @@ pub fn chart(
     let (code, outcome) = ran(options, alloc, source, keyboard, plan)?;
     let bytes = occ_shown::chart(
         alloc,
-        outcome.trace.as_slice(),
+        &outcome.trace,
         code.channels(),
         outcome.ending,
         most,

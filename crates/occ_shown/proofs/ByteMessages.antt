@@ -15,7 +15,7 @@ use Rattle.occ_term.specs.Unfolding.{Unfolding, IsWellFormed, declared}
 use Rattle.occ_code.specs.Alike.{FitsProtocol}
 use Rattle.occ_net_replay.specs.Following.{AllFit, Followed}
 use Rattle.occ_net_replay.specs.Replay.{Net}
-use Rattle.occ_net_tables.specs.declared.trace.Communication.{Communication as Made}
+use Rattle.occ_net_trace.specs.declared.communication.Communication.{Communication as Made}
 use Rattle.occ_net_tables.specs.Holding.{communication_of}
 use Rattle.occ_shown.specs.Answers.{AreByteMessages, IsByteMessage}
 

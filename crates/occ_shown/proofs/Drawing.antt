@@ -5,9 +5,9 @@ use Rattle.std.proofs.Math.Nat.{min_comm, sub-add-min_cancel}
 use Rattle.std.proofs.lemmas.List.{length-map, length-take-le}
 use Rattle.occ_term.specs.Runs.{Entry, Names, entries, entry_of}
 use Rattle.occ_term.specs.System.{End}
-use Rattle.occ_net_tables.specs.declared.trace.Communication.{Communication}
+use Rattle.occ_net_trace.specs.declared.communication.Communication.{Communication}
 use Rattle.occ_net_tables.specs.Holding.{communication_of, end_of}
-use Rattle.occ_net_tables.specs.declared.trace.End.{End as Made}
+use Rattle.occ_net_trace.specs.declared.communication.End.{End as Made}
 use Rattle.occ_net_replay.specs.declared.ending.Ending.{Ending}
 use Rattle.occ_net_replay.specs.Endings.{ending_text}
 use Rattle.occ_shown.specs.Charts.{arrow, arrows, chart_text, column, drawn, left_out, lifelines, opening, parties_after, picture, row, text_at}

@@ -4,7 +4,7 @@ use Rattle.std.proofs.Math.Seq.{take-suc}
 use Rattle.std.proofs.lemmas.List.{length-take-le}
 use Rattle.occ_term.specs.declared.message.Message.{Message}
 use Rattle.occ_term.specs.Runs.{Names, bytes_in, bytes_of, messages_on, sent_on, entries, entry_of}
-use Rattle.occ_net_tables.specs.declared.trace.Communication.{Communication}
+use Rattle.occ_net_trace.specs.declared.communication.Communication.{Communication}
 use Rattle.occ_shown.specs.Answers.{AreByteMessages, IsByteMessage, line_text, trace_text}
 use Rattle.occ_net_tables.specs.Holding.{communication_of}
 use Rattle.occ_shown.proofs.Texts.{IsText}

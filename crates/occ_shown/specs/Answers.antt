@@ -15,7 +15,7 @@ use Rattle.occ_term.specs.System.{End, OfProcess, Keyboard, Screen, Error}
 use Rattle.occ_term.specs.Runs.{Names, Entry, AllShown, entries}
 use Rattle.occ_net_replay.specs.declared.ending.Ending.{Ending}
 use Rattle.occ_net_replay.specs.declared.ending.Ending.TheVariants.{Ended, Stopped, Fault, StoppedBy, Limit}
-use Rattle.occ_net_tables.specs.declared.trace.Communication.{Communication as Made}
+use Rattle.occ_net_trace.specs.declared.communication.Communication.{Communication as Made}
 use Rattle.occ_net_tables.specs.Holding.{communication_of}
 use Rattle.occ_net_replay.specs.Endings.{ending_text}
 

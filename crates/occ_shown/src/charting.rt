@@ -10,7 +10,7 @@ ghost use Rattle.occ_net_replay.specs.Endings.{ending_text};
 use crate::showing::{write_end, write_label};
 use crate::xml::{write_number, write_path, write_text};
 use occ_net_replay::Ending;
-use occ_net_tables::{Communication, End};
+use occ_net_trace::{End, Entries, Entry, Trace};
 use occ_term::Channel;
 use std::alloc::{AllocError, Global};
 
@@ -51,14 +51,14 @@ fn add(parties: &mut Vec<End>, end: End) -> Result<(), AllocError>
 }
 
 /// Who takes part, each where it first does.
-fn parties(alloc: Global, trace: &[Communication]) -> Result<Vec<End>, AllocError>
-    ensures found { IfOk result (λ parties. (names : Names) (n : ℕ) → map end_of parties.items ≡ parties_after [] (entries names n (map communication_of trace.now))) }
-    ensures few { IfOk result (λ parties. length parties.items ≤ 2 * length trace.now) }
+fn parties(alloc: Global, shown: &Entries<'_>) -> Result<Vec<End>, AllocError>
+    ensures found { IfOk result (λ parties. (names : Names) (n : ℕ) → map end_of parties.items ≡ parties_after [] (entries names n (map communication_of shown.now))) }
+    ensures few { IfOk result (λ parties. length parties.items ≤ 2 * length shown.now) }
 {
     let mut parties = Vec::new(alloc);
-    for i in 0..trace.len() {
-        add(&mut parties, trace[i].sender)?;
-        add(&mut parties, trace[i].receiver)?;
+    for communication in shown.copy() {
+        add(&mut parties, communication.sender())?;
+        add(&mut parties, communication.receiver())?;
     }
     Ok(parties)
 }
@@ -153,15 +153,15 @@ fn write_arrow(
     out: &mut Vec<u8>,
     parties: &[End],
     number: usize,
-    communication: &Communication,
+    communication: &Entry<'_>,
     channels: &[Channel],
 ) -> Result<(), AllocError>
     requires few { length parties.now ≤ 2 ^ 40 }
     requires near { number ≤ 2 ^ 40 }
     ensures { OnOk result ((n : ℕ) → out.new.items ≡ out.old.items ++ elements_text (arrow (map end_of parties.now) number (entry_of (names_of channels.now) n (communication_of communication.now)))) }
 {
-    let from = place_of(parties, communication.sender);
-    let to = place_of(parties, communication.receiver);
+    let from = place_of(parties, communication.sender());
+    let to = place_of(parties, communication.receiver());
     let course = along(alloc, column(from), column(to), row(number))?;
     write_path(out, course.as_bytes(), b"black")?;
     let mut label = Vec::new(alloc);
@@ -181,15 +181,17 @@ fn write_arrows(
     alloc: Global,
     out: &mut Vec<u8>,
     parties: &[End],
-    trace: &[Communication],
+    shown: &Entries<'_>,
     channels: &[Channel],
 ) -> Result<(), AllocError>
     requires few { length parties.now ≤ 2 ^ 40 }
-    requires near { length trace.now ≤ 2 ^ 40 }
-    ensures { OnOk result (out.new.items ≡ out.old.items ++ elements_text (arrows (map end_of parties.now) 0 (entries (names_of channels.now) 1 (map communication_of trace.now)))) }
+    requires near { length shown.now ≤ 2 ^ 40 }
+    ensures { OnOk result (out.new.items ≡ out.old.items ++ elements_text (arrows (map end_of parties.now) 0 (entries (names_of channels.now) 1 (map communication_of shown.now)))) }
 {
-    for i in 0..trace.len() {
-        write_arrow(alloc, out, parties, i, &trace[i], channels)?;
+    let mut number = 0;
+    for communication in shown.copy() {
+        write_arrow(alloc, out, parties, number, &communication, channels)?;
+        number += 1;
     }
     Ok(())
 }
@@ -255,7 +257,7 @@ fn write_ending(
 /// A refused growth.
 pub fn chart(
     alloc: Global,
-    trace: &[Communication],
+    trace: &Trace,
     channels: &[Channel],
     ending: Ending,
     most: u32,
@@ -263,14 +265,14 @@ pub fn chart(
     ensures { IfOk result (λ bytes. bytes.items ≡ chart_text (entries (names_of channels.now) 1 (map communication_of trace.now)) ending most) }
 {
     let count = (most as usize).min(trace.len());
-    let shown = &trace[..count];
-    let parties = parties(alloc, shown)?;
+    let shown = trace.entries().first(count);
+    let parties = parties(alloc, &shown)?;
     let ends = parties.as_slice();
     let bottom = row(count);
     let mut out = Vec::new(alloc);
     write_opening(alloc, &mut out, column(ends.len()), bottom + 60)?;
     write_lifelines(alloc, &mut out, ends, bottom)?;
-    write_arrows(alloc, &mut out, ends, shown, channels)?;
+    write_arrows(alloc, &mut out, ends, &shown, channels)?;
     write_left_out(alloc, &mut out, bottom, trace.len() - count)?;
     write_ending(alloc, &mut out, bottom, ending)?;
     out.extend_from_slice(b"</svg>\n")?;

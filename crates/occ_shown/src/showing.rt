@@ -6,10 +6,11 @@ ghost use Rattle.occ_term.specs.Runs.{bytes_in, bytes_of, entry_of, entries, mes
 ghost use Rattle.occ_shown.specs.Answers.{AreByteMessages, IsByteMessage, answer_text, value_text, spaced_text, values_text, array_text, part_text, later_text, items_text, end_text, head_text, ends_text, line_text, trace_text, line_break, ends_inside, names_of, name_at, tag_in, report_of};
 ghost use Rattle.occ_net_replay.specs.Endings.{ending_text};
 ghost use Rattle.occ_net_tables.specs.Holding.{communication_of, end_of};
+ghost use Rattle.occ_net_trace.specs.Views.{part_of};
 
 use occ_net_replay::Ending;
-use occ_net_tables::{Communication, End};
-use occ_term::{Channel, Message, Part, Primitive, Protocol};
+use occ_net_trace::{End, Entry, MessageView, PartView, PartViews, Trace};
+use occ_term::{Channel, Primitive, Protocol};
 use std::alloc::{AllocError, Global};
 
 /// The screen's channel.
@@ -84,27 +85,27 @@ fn write_array(
     Ok(())
 }
 
-fn write_part(alloc: Global, out: &mut Vec<u8>, part: &Part) -> Result<(), AllocError>
-    ensures { OnOk result (out.new.items ≡ out.old.items ++ part_text part.now) }
+fn write_part(alloc: Global, out: &mut Vec<u8>, part: &PartView<'_>) -> Result<(), AllocError>
+    ensures { OnOk result (out.new.items ≡ out.old.items ++ part_text (part_of part.now)) }
 {
     match part {
-        Part::One(primitive, value) => write_value(alloc, out, *primitive, value),
-        Part::Many(primitive, values) => write_array(alloc, out, *primitive, values.as_slice()),
-        Part::Counted(primitive, values) => {
+        PartView::One(primitive, value) => write_value(alloc, out, *primitive, value),
+        PartView::Many(primitive, values) => write_array(alloc, out, *primitive, values),
+        PartView::Counted(primitive, values) => {
             write_number(alloc, out, values.len() as u64)?;
             out.extend_from_slice(b"::")?;
-            write_array(alloc, out, *primitive, values.as_slice())
+            write_array(alloc, out, *primitive, values)
         }
     }
 }
 
 /// Items, each after a semicolon and a space.
-fn write_later(alloc: Global, out: &mut Vec<u8>, parts: &[Part]) -> Result<(), AllocError>
-    ensures { OnOk result (out.new.items ≡ out.old.items ++ later_text parts.now) }
+fn write_later(alloc: Global, out: &mut Vec<u8>, parts: PartViews<'_>) -> Result<(), AllocError>
+    ensures { OnOk result (out.new.items ≡ out.old.items ++ later_text parts.entry) }
 {
     for part in parts {
         out.extend_from_slice(b"; ")?;
-        write_part(alloc, out, part)?;
+        write_part(alloc, out, &part)?;
     }
     Ok(())
 }
@@ -114,19 +115,19 @@ fn write_items(
     alloc: Global,
     out: &mut Vec<u8>,
     tag: Option<&[u8]>,
-    parts: &[Part],
+    mut parts: PartViews<'_>,
 ) -> Result<(), AllocError>
-    ensures { OnOk result (out.new.items ≡ out.old.items ++ items_text (option_copied tag.entry) parts.now) }
+    ensures { OnOk result (out.new.items ≡ out.old.items ++ items_text (option_copied tag.entry) parts.entry) }
 {
     match tag {
         Some(name) => {
             out.extend_from_slice(name)?;
             write_later(alloc, out, parts)
         }
-        None => match parts.split_first() {
-            Some((first, others)) => {
-                write_part(alloc, out, first)?;
-                write_later(alloc, out, others)
+        None => match parts.next() {
+            Some(first) => {
+                write_part(alloc, out, &first)?;
+                write_later(alloc, out, parts)
             }
             None => Ok(()),
         },
@@ -224,14 +225,14 @@ fn protocol_tag<'a>(protocol: &'a Protocol, tag: u32) -> &'a [u8]
 fn write_message(
     alloc: Global,
     out: &mut Vec<u8>,
-    message: &Message,
+    message: &MessageView<'_>,
     chan: u32,
     channels: &[Channel],
 ) -> Result<(), AllocError>
     ensures { OnOk result (out.new.items ≡ out.old.items ++ items_text (tag_shown (names_of channels.now) chan message.now.tag) message.now.items) }
 {
-    let items = message.items.as_slice();
-    match message.tag {
+    let items = message.items();
+    match message.tag() {
         Some(tag) => write_items(alloc, out, Some(tag_name(channels, chan, tag)), items),
         None => write_items(alloc, out, None, items),
     }
@@ -241,15 +242,15 @@ fn write_message(
 pub(crate) fn write_label(
     alloc: Global,
     out: &mut Vec<u8>,
-    communication: &Communication,
+    communication: &Entry<'_>,
     channels: &[Channel],
 ) -> Result<(), AllocError>
     ensures { OnOk result (out.new.items ≡ out.old.items ++ (names_of channels.now).channel_name communication.now.chan ++ 32 ∷ items_text (tag_shown (names_of channels.now) communication.now.chan communication.now.message.tag) communication.now.message.items) }
 {
-    let chan = communication.chan;
+    let chan = communication.chan();
     write_name(alloc, out, channels, chan)?;
     out.push(b' ')?;
-    write_message(alloc, out, &communication.message, chan, channels)
+    write_message(alloc, out, &communication.message(), chan, channels)
 }
 
 /// The line of a communication, which has this number.
@@ -257,20 +258,20 @@ fn write_line(
     alloc: Global,
     out: &mut Vec<u8>,
     number: u64,
-    communication: &Communication,
+    communication: &Entry<'_>,
     channels: &[Channel],
 ) -> Result<(), AllocError>
     ensures { OnOk result (out.new.items ≡ out.old.items ++ line_text (entry_of (names_of channels.now) number (communication_of communication.now))) }
 {
-    write_head(alloc, out, number, communication.chan, channels)?;
-    write_ends(alloc, out, communication.sender, communication.receiver)?;
-    write_message(
+    let chan = communication.chan();
+    write_head(alloc, out, number, chan, channels)?;
+    write_ends(
         alloc,
         out,
-        &communication.message,
-        communication.chan,
-        channels,
+        communication.sender(),
+        communication.receiver(),
     )?;
+    write_message(alloc, out, &communication.message(), chan, channels)?;
     out.push(LINE_FEED)?;
     Ok(())
 }
@@ -279,46 +280,48 @@ fn write_line(
 fn write_trace(
     alloc: Global,
     out: &mut Vec<u8>,
-    trace: &[Communication],
+    trace: &Trace,
     channels: &[Channel],
 ) -> Result<(), AllocError>
     ensures { OnOk result (out.new.items ≡ out.old.items ++ trace_text (entries (names_of channels.now) 1 (map communication_of trace.now))) }
 {
-    for i in 0..trace.len() {
-        write_line(alloc, out, i as u64 + 1, &trace[i], channels)?;
+    let mut number = 0;
+    for communication in trace.entries() {
+        number += 1;
+        write_line(alloc, out, number, &communication, channels)?;
     }
     Ok(())
 }
 
 /// The byte that a message is.
-fn byte_of(message: &Message) -> u8
+fn byte_of(message: &MessageView<'_>) -> u8
     requires { IsByteMessage message.now }
     ensures { bytes_in message.now.items ≡ result ∷ [] }
 {
-    match message.items.as_slice() {
-        [Part::One(_, value)] => *value as u8,
+    match message.items().next() {
+        Some(PartView::One(_, value)) => value as u8,
         _ => unreachable!(),
     }
 }
 
 /// The bytes of the messages of one channel.
-fn write_bytes(out: &mut Vec<u8>, trace: &[Communication], chan: u32) -> Result<(), AllocError>
+fn write_bytes(out: &mut Vec<u8>, trace: &Trace, chan: u32) -> Result<(), AllocError>
     requires { AreByteMessages chan trace.now }
     ensures { OnOk result (out.new.items ≡ out.old.items ++ bytes_of (messages_on chan (map communication_of trace.now))) }
 {
-    for i in 0..trace.len() {
-        write_byte(out, &trace[i], chan)?;
+    for communication in trace.entries() {
+        write_byte(out, &communication, chan)?;
     }
     Ok(())
 }
 
 /// The byte of a communication, if it is on this channel.
-fn write_byte(out: &mut Vec<u8>, communication: &Communication, chan: u32) -> Result<(), AllocError>
+fn write_byte(out: &mut Vec<u8>, communication: &Entry<'_>, chan: u32) -> Result<(), AllocError>
     requires { communication.now.chan ≡ chan → IsByteMessage communication.now.message }
     ensures { OnOk result (out.new.items ≡ out.old.items ++ bytes_of (sent_on chan (communication_of communication.now))) }
 {
-    if communication.chan == chan {
-        out.push(byte_of(&communication.message))?;
+    if communication.chan() == chan {
+        out.push(byte_of(&communication.message()))?;
     }
     Ok(())
 }
@@ -330,7 +333,7 @@ fn write_byte(out: &mut Vec<u8>, communication: &Communication, chan: u32) -> Re
 /// A refused growth.
 pub fn channel_bytes(
     alloc: Global,
-    trace: &[Communication],
+    trace: &Trace,
     chan: u32,
 ) -> Result<Vec<u8>, AllocError>
     requires { AreByteMessages chan trace.now }
@@ -344,7 +347,7 @@ pub fn channel_bytes(
 /// The trace's lines and the ending's line; without the trace the ending's line alone, and nothing where the run ended.
 fn report(
     alloc: Global,
-    trace: Option<&[Communication]>,
+    trace: Option<&Trace>,
     channels: &[Channel],
     ending: Ending,
 ) -> Result<Vec<u8>, AllocError>
@@ -379,7 +382,7 @@ fn joined(bytes: &mut Vec<u8>, report: &[u8]) -> Result<(), AllocError>
 /// A refused growth.
 pub fn answer(
     alloc: Global,
-    trace: &[Communication],
+    trace: &Trace,
     channels: &[Channel],
     ending: Ending,
     with_trace: bool,

@@ -1,7 +1,7 @@
 //! The picture of a trace.
 use crate::unfolded::fixed_channels;
 use occ_net_replay::Ending;
-use occ_net_tables::{Communication, End};
+use occ_net_trace::{End, Trace};
 use occ_shown::chart;
 use occ_term::{Message, Part, Parts, Primitive};
 use std::test::Fail;
@@ -19,16 +19,11 @@ const CHART: &str =
 </svg>
 ";
 
-/// A byte on a channel.
-fn sent(chan: u32, sender: End, receiver: End, byte: i64) -> Communication {
-    Communication {
-        chan,
-        sender,
-        receiver,
-        message: Message {
-            tag: None,
-            items: Parts::one(Part::One(Primitive::Byte, byte)),
-        },
+/// A message of one byte.
+fn byte(value: i64) -> Message {
+    Message {
+        tag: None,
+        items: Parts::one(Part::One(Primitive::Byte, value)),
     }
 }
 
@@ -36,10 +31,9 @@ fn sent(chan: u32, sender: End, receiver: End, byte: i64) -> Communication {
 fn traces_are_drawn(rt: HostRuntime) -> Result<(), Fail> {
     let alloc = rt.alloc();
     let channels = fixed_channels(alloc)?;
-    let trace = [
-        sent(1, End::Process(0), End::Screen, 65),
-        sent(0, End::Keyboard, End::Process(0), 10),
-    ];
+    let mut trace = Trace::new(alloc);
+    trace.push(1, End::Process(0), End::Screen, &byte(65))?;
+    trace.push(0, End::Keyboard, End::Process(0), &byte(10))?;
     let drawn = chart(alloc, &trace, channels.as_slice(), Ending::Ended, 1)?;
     assert_eq!(rt; drawn.as_slice(), CHART.as_bytes());
     Ok(())

@@ -5,7 +5,7 @@ use Rattle.occ_code.specs.declared.task.Arm.{Arm}
 use Rattle.occ_code.specs.declared.task.Wait.TheVariants as W
 use Rattle.occ_net_replay.specs.Replay.{made_ready}
 use Rattle.occ_net_replay.proofs.Tables.{set_same}
-use Rattle.occ_net_tables.specs.declared.trace.End.TheVariants.{Process}
+use Rattle.occ_net_trace.specs.declared.communication.End.TheVariants.{Process}
 use Rattle.occ_net_tables.specs.Settling.{sent}
 use Rattle.occ_net_tables.proofs.OneChange.{set_twice}
 use Rattle.occ_net_tables.proofs.tables.Tables.give.Goals as goal
@@ -28,7 +28,7 @@ returns-clause-ok c = λ t a there takes.
           ∙ set_twice old n (Some (made_ready t)) (Some (ready_with t c.took.result)) ∙ ap (λ w. slice_set old n (Some (ready_with t w))) wait;
       ready = ap (λ z. z.items) left.ready ∙ c.insert.ensures.items;
       awaiting = left.awaiting;
-      trace = ap (λ z. z.items) left.trace ∙ c.push_reserved.ensures.items ∙ ap (λ x. c.args.self.now.trace.items ++ sent c.args.chan (Process c.args.number) (Process c.args.taker) x ∷ []) c.in-Ok.ensures;
+      trace = left.trace ∙ c.push_reserved.ensures.items ∙ ap (λ x. c.args.self.now.trace ++ sent c.args.chan (Process c.args.number) (Process c.args.taker) x ∷ []) c.in-Ok.ensures;
       offering = left.offering;
       parents = left.parents;
       unfinished = left.unfinished;

@@ -24,4 +24,4 @@ returns c = λ kb.
     let channels = λ (l : List Channel). replicate {A = Option ℕ} (length l) None in
     let ready = c.in_ok-push.ensures.items ∙ ap (λ (l : List ℕ). l ++ 0 ∷ []) c.new-ready.ensures.items in
     let empty = λ (k : ℕ). replicate {A = Option ℕ} k None in
-    starts p kb _ body has tasks ready (c.in_ok-offering.ensures ∙ ap channels c.channels-channels.ensures) (c.in_ok-awaiting.ensures ∙ ap channels c.channels-channels.ensures) (c.in_ok-parents.ensures ∙ ap empty c.len-count.ensures) (c.in_ok-unfinished.ensures ∙ ap (λ (k : ℕ). replicate {A = ℕ} k 0) c.len-count.ensures) refl refl c.new-trace.ensures.items
+    starts p kb _ body has tasks ready (c.in_ok-offering.ensures ∙ ap channels c.channels-channels.ensures) (c.in_ok-awaiting.ensures ∙ ap channels c.channels-channels.ensures) (c.in_ok-parents.ensures ∙ ap empty c.len-count.ensures) (c.in_ok-unfinished.ensures ∙ ap (λ (k : ℕ). replicate {A = ℕ} k 0) c.len-count.ensures) refl refl c.new-trace.ensures
