@@ -18,7 +18,7 @@ take_byte-requires-clause-counts c = let h = byte_within c.args.chan c.args.keyb
 pub returns-in-Some-clause-ok : goal.returns-in-Some-clause-ok
 returns-in-Some-clause-ok c = λ p pick after net mid w.
     let by : TakesBy pick (standing (now p c.args.keyboard.now c.args.self.now c.args.number c.args.place after net mid)) c.args.chan after.wait (input_arm c.args.chan) = subst (λ z. TakesBy pick (standing (now p c.args.keyboard.now c.args.self.now c.args.number c.args.place after net mid)) c.args.chan z (input_arm c.args.chan)) (sym w) by_input in
-    was_byte p c.args.keyboard.now c.args.self.now c.args.number c.args.place after net mid _ pick c.args.chan c.in-Some.byte (input_arm c.args.chan) by (sym c.next_byte.ensures ∙ c.in-Some.is) (subst (λ a. TookByte c.args.self.now c.args.number a c.in-Some.byte c.take_byte.new.self) c.input_arm.ensures c.take_byte.ensures)
+    was_byte p c.args.keyboard.now c.args.self.now c.args.number c.args.place after net mid _ pick c.args.chan c.in-Some.byte (input_arm c.args.chan) by (sym c.next_byte.ensures ∙ c.in-Some.is) (subst (λ a. TookByte c.args.self.now c.args.number a c.in-Some.byte c.take_byte.new.self) c.input_arm.ensures c.in_ok-take_byte.ensures.ok)
 
 pub take_from-requires-clause-there : goal.take_from-requires-clause-there
 take_from-requires-clause-there c = there_of c.requires.mid.0 c.args.self.now c.args.number c.args.place (W.Awaits c.args.chan) c.requires.mid.1

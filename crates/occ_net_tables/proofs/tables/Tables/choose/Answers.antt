@@ -52,15 +52,15 @@ take_byte-requires-clause-there c = there_of c.requires.mid.0 c.args.self.now c.
 pub take_byte-requires-clause-counts : goal.take_byte-requires-clause-counts
 take_byte-requires-clause-counts c = let h = byte_within c.in-Some-chan.chan c.args.keyboard.now c.args.self.now.used c.in-Some-next_byte.byte (sym c.next_byte.ensures ∙ c.in-Some-next_byte.is) in omega (arith, h)
 
-pub returns-in-Some-next_byte-clause-ok : goal.returns-in-Some-next_byte-clause-ok
-returns-in-Some-next_byte-clause-ok c = λ p after net mid w.
+pub returns-in-Ok-take_byte-clause-ok : goal.returns-in-Ok-take_byte-clause-ok
+returns-in-Ok-take_byte-clause-ok c = λ p after net mid w.
     let kb = c.args.keyboard.now in
     let old = c.args.self.now in
     let n = c.args.number in
     let a = c.in-Ok.arm in
     let item = sym c.in-Ok.ensures ∙ ap (λ l. slice_get l c.in-Some.at) (c.as_slice-2.ensures ∙ sym c.as_slice.ensures) ∙ c.in-Some.ensures.arm in
     let some : arm_chosen c.args.pri c.args.pick (offered_by (keyboard_at kb old.used) old.offering.items) c.args.arms ≡ Some a = chosen_where c.args.pri c.args.pick c.keyboard_channel-named.result (keyboard_at kb old.used) c.deref.result.now old.offering.items c.as_slice.result.now c.args.arms (Some a) item c.keyboard_channel-named.ensures c.deref.ensures.value c.as_slice.ensures in
-    was_byte p kb old n c.args.place after net mid _ c.args.pick c.in-Some-chan.chan c.in-Some-next_byte.byte a (takes_it p kb old n c.args.place after net mid c.args.pri c.args.arms w c.args.pick c.in-Some-chan.chan a some c.in-Some-chan.is) (sym c.next_byte.ensures ∙ c.in-Some-next_byte.is) c.take_byte.ensures
+    was_byte p kb old n c.args.place after net mid _ c.args.pick c.in-Some-chan.chan c.in-Some-next_byte.byte a (takes_it p kb old n c.args.place after net mid c.args.pri c.args.arms w c.args.pick c.in-Some-chan.chan a some c.in-Some-chan.is) (sym c.next_byte.ensures ∙ c.in-Some-next_byte.is) c.in-Ok-take_byte.ensures.ok
 
 pub unreachable-requires : goal.unreachable-requires
 unreachable-requires c =

@@ -28,7 +28,7 @@ returns-clause-ok c = λ t a there takes.
           ∙ set_twice old n (Some (made_ready t)) (Some (ready_with t c.took.result)) ∙ ap (λ w. slice_set old n (Some (ready_with t w))) wait;
       ready = ap (λ z. z.items) left.ready ∙ c.insert.ensures.items;
       awaiting = left.awaiting;
-      trace = left.trace ∙ c.push_reserved.ensures.items ∙ ap (λ x. c.args.self.now.trace ++ sent c.args.chan (Process c.args.number) (Process c.args.taker) x ∷ []) c.in-Ok.ensures;
+      trace = left.trace ∙ c.in-Ok.ensures.pushed;
       offering = left.offering;
       parents = left.parents;
       unfinished = left.unfinished;

@@ -6,9 +6,9 @@ use Rattle.occ_net_tables.proofs.Between.{there_old, taker_of, was_read, was_giv
 use Rattle.occ_net_tables.proofs.Waits.{rising_of, within_of, there_of, rests_at_offer, sized_at_offer}
 use Rattle.occ_net_tables.proofs.tables.Tables.offer.Goals as goal
 
-pub returns-in-Some-clause-ok : goal.returns-in-Some-clause-ok
-returns-in-Some-clause-ok c = λ p kb after net mid w.
-    was_read p kb c.args.self.now c.args.number c.args.place after net mid _ c.args.pick c.args.chan c.args.message c.in-Some.receiver w (sym c.reader.ensures ∙ c.in-Some.is) refl refl c.push_reserved.ensures.items mid.sound mid.sized
+pub returns-in-Ok-clause-ok : goal.returns-in-Ok-clause-ok
+returns-in-Ok-clause-ok c = λ p kb after net mid w.
+    was_read p kb c.args.self.now c.args.number c.args.place after net mid _ c.args.pick c.args.chan c.args.message c.in-Some.receiver w (sym c.reader.ensures ∙ c.in-Some.is) refl refl c.in-Ok.ensures.pushed mid.sound mid.sized
 
 pub give-requires-clause-takes : goal.give-requires-clause-takes
 give-requires-clause-takes c =
