@@ -1,5 +1,5 @@
 //! The communications of a trace, one after another.
-ghost use Rattle.std.specs.Prelude.{◌≡◌, IfOk, take};
+ghost use Rattle.std.specs.Prelude.{◌≡◌, ◌<◌, ◌^◌, IfOk, length, take};
 ghost use Rattle.std.specs.Iterator.{YieldsFirst, item_count};
 ghost use Rattle.occ_net_trace.specs.Flat.{communications_in};
 
@@ -96,7 +96,8 @@ impl<'a> Entries<'a> {
 
     /// The same once more.
     pub fn copy(&self) -> Entries<'a>
-        ensures { result ≡ self.now }
+        ensures same { result ≡ self.now }
+        ensures few { length self.now < 2 ^ 64 }
     {
         Entries {
             heads: self.heads,

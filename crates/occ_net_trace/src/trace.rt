@@ -61,7 +61,8 @@ impl Trace {
 
     /// The communications one after another.
     pub fn entries(&self) -> Entries<'_>
-        ensures { result ≡ self.now }
+        ensures entries { result ≡ self.now }
+        ensures few { length self.now < 2 ^ 63 }
     {
         let pieces = Pieces {
             shapes: self.lists.shapes.as_slice(),

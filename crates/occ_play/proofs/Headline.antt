@@ -86,9 +86,9 @@ followed : (u : Unfolding) (quantum : ℕ) (p : Program) (keyboard : List ℕ) (
 followed u quantum p keyboard list o w lawful from bytes out small = replays_are_runs u p quantum keyboard o.choices.items out.net w lawful from bytes small out.replays
 
 -- what an outcome's communications carry on the screen's and the error channel
-pub outputs_are_bytes : (u : Unfolding) (quantum : ℕ) (p : Program) (keyboard : List ℕ) (list : List Choice) (o : Outcome) → IsWellFormed u → Lawful u → IsCompiledFrom u quantum p → AreBytes keyboard → IsOutcome p keyboard list o → length o.choices.items < 2 ^ 64 → AreByteMessages 1 o.trace.items × AreByteMessages 2 o.trace.items
+pub outputs_are_bytes : (u : Unfolding) (quantum : ℕ) (p : Program) (keyboard : List ℕ) (list : List Choice) (o : Outcome) → IsWellFormed u → Lawful u → IsCompiledFrom u quantum p → AreBytes keyboard → IsOutcome p keyboard list o → length o.choices.items < 2 ^ 64 → AreByteMessages 1 o.trace × AreByteMessages 2 o.trace
 outputs_are_bytes u quantum p keyboard list o w lawful from bytes out small =
-    byte_messages.outputs_are_bytes u quantum keyboard out.net o.trace.items w (followed u quantum p keyboard list o w lawful from bytes out small) out.trace
+    byte_messages.outputs_are_bytes u quantum keyboard out.net o.trace w (followed u quantum p keyboard list o w lawful from bytes out small) out.trace
 
 -- a code with another mode of faults is one of the same source
 pub code_with : (u : Unfolding) (quantum : ℕ) (p : Program) (errors : Errors) → IsCodeOf u quantum p → IsCodeOf u quantum (record p { errors = errors })
@@ -118,15 +118,15 @@ shown_by_run options keyboard list u p o well lawful from mode keys out small =
 pub headline : (options : Options) (source keyboard : List ℕ) (list : List Choice) (trace : Bool) (p : Program) (channels : List Channel) (o : Outcome) (played : Played) (bytes : List ℕ)
     → IsTextsCode options source p → AreBytes keyboard → channels ≡ p.channels → IsOutcome p keyboard list o → length o.choices.items < 2 ^ 64
     → played.ending ≡ o.ending → played.choices ≡ o.choices
-    → bytes ≡ answer_text (shown_by (names_of channels) (map communication_of o.trace.items)) o.ending trace
-    → (a : IsAnswer options source keyboard list trace played bytes) × (shown_by (names_of channels) (map communication_of o.trace.items) ≡ shown (names_of a.program.channels) a.events)
+    → bytes ≡ answer_text (shown_by (names_of channels) (map communication_of o.trace)) o.ending trace
+    → (a : IsAnswer options source keyboard list trace played bytes) × (shown_by (names_of channels) (map communication_of o.trace) ≡ shown (names_of a.program.channels) a.events)
 headline options source keyboard list trace p channels o played bytes code keys chan out small same_end same_choices is =
     let u = code.program in
     let s = shown_by_run options keyboard list u p o code.unfolds.well_formed code.lawful code.from code.errors keys out small in
     let f = s.run in
     let ends : or_limit (ending_of options.errors out.net) ≡ played.ending = s.ends ∙ sym same_end in
     let choices : o.choices.items ≡ played.choices.items = ap (λ v. v.items) (sym same_choices) in
-    let shows : map communication_of o.trace.items ≡ communications f.events = sym out.trace ∙ sym f.communicates in
+    let shows : map communication_of o.trace ≡ communications f.events = sym out.trace ∙ sym f.communicates in
     let channels_are : channels ≡ u.channels = chan ∙ code.from.does.channels in (
       record {
         program = u;
@@ -138,7 +138,7 @@ headline options source keyboard list trace p channels o played bytes code keys 
         ends = subst (λ e. EndsBy (mode_of options.errors) f.system (ending_as e)) ends f.ends;
         clean = λ h. s.clean (sym same_end ∙ h);
         is =
-            is ∙ ap (λ cs. answer_text (shown_by (names_of cs) (map communication_of o.trace.items)) o.ending trace) channels_are
+            is ∙ ap (λ cs. answer_text (shown_by (names_of cs) (map communication_of o.trace)) o.ending trace) channels_are
             ∙ ap (λ xs. answer_text (shown_by (names_of u.channels) xs) o.ending trace) shows
             ∙ ap (λ e. answer_text (shown (names_of u.channels) f.events) e trace) (sym same_end);
         used = subst (λ cs. Begins cs list) choices out.used;
@@ -156,16 +156,16 @@ headline options source keyboard list trace p channels o played bytes code keys 
         input = λ c. f.input c ∙ ap (messages_on c) (sym f.communicates);
         fits = λ c. subst (λ xs. AllFit ((declared u).protocols c) (messages_on c xs)) (sym f.communicates) (f.fits c);
       },
-      ap (λ cs. shown_by (names_of cs) (map communication_of o.trace.items)) channels_are ∙ ap (λ xs. shown_by (names_of u.channels) xs) shows,
+      ap (λ cs. shown_by (names_of cs) (map communication_of o.trace)) channels_are ∙ ap (λ xs. shown_by (names_of u.channels) xs) shows,
     )
 
 pub charted : (options : Options) (source keyboard : List ℕ) (list : List Choice) (most : ℕ) (p : Program) (channels : List Channel) (o : Outcome) (bytes : List ℕ)
     → Ran options source keyboard list p o → AreBytes keyboard → channels ≡ p.channels → length o.choices.items < 2 ^ 64
-    → bytes ≡ chart_text (entries (names_of channels) 1 (map communication_of o.trace.items)) o.ending most
+    → bytes ≡ chart_text (entries (names_of channels) 1 (map communication_of o.trace)) o.ending most
     → IsChart options source keyboard list most bytes
 charted options source keyboard list most p channels o bytes ran keys chan small is =
     let played : Played = record { ending = o.ending; choices = o.choices } in
-    let answer : List ℕ = answer_text (shown_by (names_of channels) (map communication_of o.trace.items)) o.ending true in
+    let answer : List ℕ = answer_text (shown_by (names_of channels) (map communication_of o.trace)) o.ending true in
     let h = headline options source keyboard list true p channels o played answer ran.code keys chan ran.is small refl refl refl in
     record { played = played; answer = answer; run = h.0; is = is ∙ ap (λ s. chart_text s.trace o.ending most) h.1 }
 

@@ -18,7 +18,7 @@ state_of p keyboard limit o run =
     subst (λ q. Replays q n.keyboard n.choices run.net) (sym run.program) with_bytes
 
 pub is_outcome : (p : Program) (keyboard : List ℕ) (limit : ℕ) (o : Outcome) (a : Alone)
-    → a.choices ≡ o.choices → a.ending ≡ o.ending → ((net : Net) → IsState o.network net → net.trace ≡ map communication_of a.trace.items)
+    → a.choices ≡ o.choices → a.ending ≡ o.ending → ((net : Net) → IsState o.network net → net.trace ≡ map communication_of a.trace)
     → IsRunOf p keyboard limit o → IsOutcome p keyboard o.choices.items a
 is_outcome p keyboard limit o a choices ending trace run =
     let used : o.choices.items ≡ a.choices.items = ap (λ v. v.items) (sym choices) in

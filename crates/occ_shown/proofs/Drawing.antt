@@ -10,7 +10,7 @@ use Rattle.occ_net_tables.specs.Holding.{communication_of, end_of}
 use Rattle.occ_net_trace.specs.declared.communication.End.{End as Made}
 use Rattle.occ_net_replay.specs.declared.ending.Ending.{Ending}
 use Rattle.occ_net_replay.specs.Endings.{ending_text}
-use Rattle.occ_shown.specs.Charts.{arrow, arrows, chart_text, column, drawn, left_out, lifelines, opening, parties_after, picture, row, text_at}
+use Rattle.occ_shown.specs.Charts.{arrow, arrows, chart_text, column, drawn, left_out, lifelines, opening, parties_after, picture, row, text_at, with_end}
 use Rattle.occ_shown.specs.Xml.{Element, element_text, elements_text}
 
 -- what is left begins with the one at this place
@@ -31,18 +31,31 @@ written start before part after left all so_far now is =
 left_to_draw : Names → List End → ℕ → List Communication → List ℕ
 left_to_draw names parties i xs = elements_text (arrows parties i (entries names (1 + i) (map communication_of xs)))
 
-pub arrows_step : (names : Names) (parties : List End) (xs : List Communication) (i : ℕ) (x : Communication) → i < length xs → x ≡ get_or xs i x → (start before after : List ℕ)
-    → before ++ elements_text (arrows parties i (entries names (1 + i) (map communication_of (drop i xs)))) ≡ start
+pub arrows_step : (names : Names) (parties : List End) (xs rest : List Communication) (i : ℕ) (x : Communication) → xs ≡ x ∷ rest → (start before after : List ℕ)
+    → before ++ elements_text (arrows parties i (entries names (1 + i) (map communication_of xs))) ≡ start
     → after ≡ before ++ elements_text (arrow parties i (entry_of names (1 + i) (communication_of x)))
-    → after ++ elements_text (arrows parties (i + 1) (entries names (1 + (i + 1)) (map communication_of (drop (i + 1) xs)))) ≡ start
+    → after ++ elements_text (arrows parties (i + 1) (entries names (1 + (i + 1)) (map communication_of rest))) ≡ start
 unfolding left_to_draw
-arrows_step names parties xs i x below here start before after so_far now =
+arrows_step names parties xs rest i x first start before after so_far now =
     let next : 1 + i + 1 ≡ 1 + (i + 1) = omega arith in
-    let all : left_to_draw names parties i (drop i xs) ≡ elements_text (arrow parties i (entry_of names (1 + i) (communication_of x))) ++ left_to_draw names parties (i + 1) (drop (i + 1) xs) =
-    ap (left_to_draw names parties i) (from_here xs i x below here)
-    ∙ elements-append (arrow parties i (entry_of names (1 + i) (communication_of x))) (arrows parties (i + 1) (entries names (1 + i + 1) (map communication_of (drop (i + 1) xs))))
-    ∙ ap (λ k. elements_text (arrow parties i (entry_of names (1 + i) (communication_of x))) ++ elements_text (arrows parties (i + 1) (entries names k (map communication_of (drop (i + 1) xs))))) next in
+    let all : left_to_draw names parties i xs ≡ elements_text (arrow parties i (entry_of names (1 + i) (communication_of x))) ++ left_to_draw names parties (i + 1) rest =
+    ap (left_to_draw names parties i) first
+    ∙ elements-append (arrow parties i (entry_of names (1 + i) (communication_of x))) (arrows parties (i + 1) (entries names (1 + i + 1) (map communication_of rest)))
+    ∙ ap (λ k. elements_text (arrow parties i (entry_of names (1 + i) (communication_of x))) ++ elements_text (arrows parties (i + 1) (entries names k (map communication_of rest)))) next in
     written start before _ after _ _ so_far now all
+
+-- the numbers say nothing of who takes part
+same_parties : (names : Names) (n m : ℕ) (xs : List Communication) (ps : List End) → parties_after ps (entries names n (map communication_of xs)) ≡ parties_after ps (entries names m (map communication_of xs))
+same_parties names n m [] ps = refl
+same_parties names n m (x ∷ xs) ps = same_parties names (n + 1) (m + 1) xs (with_end (end_of x.receiver) (with_end (end_of x.sender) ps))
+
+pub parties_step : (names : Names) (n : ℕ) (xs rest : List Communication) (x : Communication) (ps qs rs all : List End) → xs ≡ x ∷ rest → qs ≡ with_end (end_of x.sender) ps → rs ≡ with_end (end_of x.receiver) qs
+    → parties_after ps (entries names n (map communication_of xs)) ≡ all → parties_after rs (entries names n (map communication_of rest)) ≡ all
+parties_step names n xs rest x ps qs rs all first one two so_far =
+    same_parties names n (n + 1) rest rs
+    ∙ ap (λ ys. parties_after ys (entries names (n + 1) (map communication_of rest))) (two ∙ ap (with_end (end_of x.receiver)) one)
+    ∙ ap (λ ys. parties_after ps (entries names n (map communication_of ys))) (sym first)
+    ∙ so_far
 
 pub four_more : (o a b c d x y z w : List ℕ) → x ≡ o ++ a → y ≡ x ++ b → z ≡ y ++ c → w ≡ z ++ d → w ≡ o ++ (((a ++ b) ++ c) ++ d)
 four_more o a b c d x y z w e f g h =

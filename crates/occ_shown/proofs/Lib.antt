@@ -1,5 +1,4 @@
 mod Texts
-mod Traces
 mod Drawing
 mod Growth
 pub mod ByteMessages

@@ -1,8 +1,4 @@
-use Rattle.std.proofs.Common.{◌∙◌, ◌<◌, ◌^◌, ap, length, map, rules}
-use Rattle.occ_term.specs.Runs.{entries}
-use Rattle.occ_net_tables.specs.Holding.{communication_of}
-use Rattle.occ_shown.specs.Answers.{names_of}
-use Rattle.occ_shown.specs.Charts.{chart_text}
+use Rattle.std.proofs.Common.{◌<◌, ◌^◌, length, rules}
 use Rattle.occ_net_replay.specs.Following.{AreBytes}
 use Rattle.occ_choices.specs.Plans.{choices_of}
 use Rattle.occ_play.proofs.Headline.{are_bytes, charted}
@@ -14,4 +10,4 @@ returns-clause-drawn c =
     let small : length c.in_ok-code.outcome.choices.items < 2 ^ 64 = search rules in
     let keys : AreBytes c.args.keyboard.now = are_bytes c.args.keyboard.now (λ k. (c.type_inv.keyboard k).fits) in
     charted c.args.options.now c.args.source.now c.args.keyboard.now (choices_of c.args.plan.now) c.args.most c.in_ok-code.code c.channels.result.now c.in_ok-code.outcome _ ran keys c.channels.ensures small
-    (c.in_ok-bytes.ensures ∙ ap (λ xs. chart_text (entries (names_of c.channels.result.now) 1 (map communication_of xs)) c.in_ok-code.outcome.ending c.args.most) c.as_slice.ensures.value)
+    c.in_ok-bytes.ensures

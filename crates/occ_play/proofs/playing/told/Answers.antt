@@ -1,7 +1,4 @@
-use Rattle.std.proofs.Common.{◌∙◌, ◌<◌, ◌^◌, ap, length, map, refl, rules, subst, sym}
-use Rattle.occ_term.specs.Runs.{shown_by}
-use Rattle.occ_net_tables.specs.Holding.{communication_of}
-use Rattle.occ_shown.specs.Answers.{AreByteMessages, answer_text, names_of}
+use Rattle.std.proofs.Common.{◌<◌, ◌^◌, length, refl, rules}
 use Rattle.occ_net_replay.specs.Following.{AreBytes}
 use Rattle.occ_play.proofs.Headline.{are_bytes, headline, outputs_are_bytes}
 use Rattle.occ_play.proofs.playing.told.Goals as goal
@@ -11,14 +8,14 @@ answer-requires-clause-screen c =
     let code = c.requires.code in
     let small : length c.args.outcome.choices.items < 2 ^ 64 = search rules in
     let keys : AreBytes c.args.keyboard.now = are_bytes c.args.keyboard.now (λ k. (c.type_inv.keyboard k).fits) in
-    subst (λ xs. AreByteMessages 1 xs) (sym c.as_slice.ensures.value) (outputs_are_bytes code.program c.args.options.now.quantum c.args.code.now c.args.keyboard.now c.args.outcome.choices.items c.args.outcome code.unfolds.well_formed code.lawful code.from.does keys c.requires.is small).0
+    (outputs_are_bytes code.program c.args.options.now.quantum c.args.code.now c.args.keyboard.now c.args.outcome.choices.items c.args.outcome code.unfolds.well_formed code.lawful code.from.does keys c.requires.is small).0
 
 pub answer-requires-clause-error : goal.answer-requires-clause-error
 answer-requires-clause-error c =
     let code = c.requires.code in
     let small : length c.args.outcome.choices.items < 2 ^ 64 = search rules in
     let keys : AreBytes c.args.keyboard.now = are_bytes c.args.keyboard.now (λ k. (c.type_inv.keyboard k).fits) in
-    subst (λ xs. AreByteMessages 2 xs) (sym c.as_slice.ensures.value) (outputs_are_bytes code.program c.args.options.now.quantum c.args.code.now c.args.keyboard.now c.args.outcome.choices.items c.args.outcome code.unfolds.well_formed code.lawful code.from.does keys c.requires.is small).1
+    (outputs_are_bytes code.program c.args.options.now.quantum c.args.code.now c.args.keyboard.now c.args.outcome.choices.items c.args.outcome code.unfolds.well_formed code.lawful code.from.does keys c.requires.is small).1
 
 pub returns-clause-answer : goal.returns-clause-answer
 returns-clause-answer c = λ list is.
@@ -26,4 +23,4 @@ returns-clause-answer c = λ list is.
     let keys : AreBytes c.args.keyboard.now = are_bytes c.args.keyboard.now (λ k. (c.type_inv.keyboard k).fits) in
     (headline c.args.options.now c.args.source.now c.args.keyboard.now list c.args.trace c.args.code.now c.channels.result.now c.args.outcome _ _
     c.requires.code keys c.channels.ensures is small refl refl
-    (c.in_ok-bytes.ensures ∙ ap (λ xs. answer_text (shown_by (names_of c.channels.result.now) (map communication_of xs)) c.args.outcome.ending c.args.trace) c.as_slice.ensures.value)).0
+    c.in_ok-bytes.ensures).0
