@@ -129,3 +129,7 @@ lengths_count [] = omega arith
 lengths_count (One t v ∷ ps) = omega (arith, lengths_count ps)
 lengths_count (Many t vs ∷ ps) = omega (arith, lengths_count ps)
 lengths_count (Counted t vs ∷ ps) = omega (arith, lengths_count ps)
+
+pub count_read : (hs : List Head) (ss : List Shape) (ns : List ℕ) (ws : List ℤ) → length (communications_in hs ss ns ws) ≡ length hs
+count_read [] ss ns ws = refl
+count_read (h ∷ hs) ss ns ws = ap (λ n. suc n) (count_read hs (shapes_behind ss) (lengths_behind ss ns) (words_behind ss ns ws))

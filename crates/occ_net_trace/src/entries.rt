@@ -1,5 +1,5 @@
 //! The communications of a trace, one after another.
-ghost use Rattle.std.specs.Prelude.{◌≡◌, ◌<◌, ◌^◌, IfOk, length, take};
+ghost use Rattle.std.specs.Prelude.{◌≡◌, ◌↔◌, ◌<◌, ◌^◌, [], IfOk, IsTrue, length, take};
 ghost use Rattle.std.specs.Iterator.{YieldsFirst, item_count};
 ghost use Rattle.occ_net_trace.specs.Flat.{communications_in};
 
@@ -94,15 +94,26 @@ impl<'a> Entries<'a> {
         Entries { heads, pieces }
     }
 
+    /// How many are left.
+    pub fn len(&self) -> usize
+        ensures { result ≡ length self.now }
+    {
+        self.heads.len()
+    }
+
+    /// Whether none is left.
+    pub fn is_empty(&self) -> bool
+        ensures { IsTrue result ↔ (self.now ≡ []) }
+    {
+        self.len() == 0
+    }
+
     /// The same once more.
     pub fn copy(&self) -> Entries<'a>
         ensures same { result ≡ self.now }
         ensures few { length self.now < 2 ^ 64 }
     {
-        Entries {
-            heads: self.heads,
-            pieces: self.pieces,
-        }
+        self.first(self.len())
     }
 
     /// The first so many of them.
