@@ -212,21 +212,15 @@ impl Tables {
         ensures err { OnErr result (self.new ≡ self.old) }
     {
         let message = one_byte(byte);
-        let receiver = End::Process(number);
-        self.trace.push(KEYBOARD, End::Keyboard, receiver, &message)?;
+        let (sender, receiver) = (End::Keyboard, End::Process(number));
+        self.trace.push(KEYBOARD, sender, receiver, &message)?;
         self.used += 1;
         set_wait(&mut self.tasks, number, took(arm, Some(message)));
         Ok(())
     }
 
     /// The process takes the message that another one offers.
-    fn take_from(
-        &mut self,
-        number: u32,
-        giver: u32,
-        chan: u32,
-        arm: Arm,
-    ) -> Result<(), AllocError>
+    fn take_from(&mut self, number: u32, giver: u32, chan: u32, arm: Arm) -> Result<(), AllocError>
         requires there { IsThere self.old.tasks.items number }
         requires offers { IsOffering self.old.tasks.items giver chan }
         requires apart { number ≢ giver }
@@ -263,7 +257,8 @@ impl Tables {
         ensures err { IfErr result (λ e. (self.new ≡ self.old) × (e.0 ≡ message)) }
     {
         if let Some(receiver) = reader(chan) {
-            match self.trace.push(chan, End::Process(number), receiver, &message) {
+            let sender = End::Process(number);
+            match self.trace.push(chan, sender, receiver, &message) {
                 Ok(()) => return Ok(()),
                 Err(refused) => return Err((message, refused)),
             }

@@ -9,7 +9,7 @@ pub mod workers;
 pub use fault::PlayFault;
 pub use occ_choices::{ChoiceFault, Plan, choices_text, read_choices};
 pub use occ_net_replay::{Choice, Ending};
-pub use occ_net_tables::{Communication, End};
+pub use occ_net_trace::{Communication, End};
 pub use occ_run::{FreeGate, Gate, RunFault};
 pub use occ_shown::Counted;
 pub use occ_term::Errors;

@@ -177,13 +177,7 @@ pub fn chart(
     ensures refused { IfErr result (Refuses options.now source.now) }
 {
     let (code, outcome) = ran(options, alloc, source, keyboard, plan)?;
-    let bytes = occ_shown::chart(
-        alloc,
-        &outcome.trace,
-        code.channels(),
-        outcome.ending,
-        most,
-    )?;
+    let bytes = occ_shown::chart(alloc, &outcome.trace, code.channels(), outcome.ending, most)?;
     Ok(bytes)
 }
 

@@ -265,12 +265,7 @@ fn write_line(
 {
     let chan = communication.chan();
     write_head(alloc, out, number, chan, channels)?;
-    write_ends(
-        alloc,
-        out,
-        communication.sender(),
-        communication.receiver(),
-    )?;
+    write_ends(alloc, out, communication.sender(), communication.receiver())?;
     write_message(alloc, out, &communication.message(), chan, channels)?;
     out.push(LINE_FEED)?;
     Ok(())
@@ -331,11 +326,7 @@ fn write_byte(out: &mut Vec<u8>, communication: &Entry<'_>, chan: u32) -> Result
 /// # Errors
 ///
 /// A refused growth.
-pub fn channel_bytes(
-    alloc: Global,
-    trace: &Trace,
-    chan: u32,
-) -> Result<Vec<u8>, AllocError>
+pub fn channel_bytes(alloc: Global, trace: &Trace, chan: u32) -> Result<Vec<u8>, AllocError>
     requires { AreByteMessages chan trace.now }
     ensures { IfOk result (λ bytes. bytes.items ≡ bytes_of (messages_on chan (map communication_of trace.now))) }
 {

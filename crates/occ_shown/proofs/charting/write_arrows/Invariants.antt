@@ -10,6 +10,6 @@ abbrev pub invariant-loop-communication : goal.invariant-loop-communication
 invariant-loop-communication l = record {
   counted : l.number + length l.communication-iterator ≡ length l.shown;
   written :
-    l.out.items ++ elements_text (arrows (map end_of l.parties) l.number (entries (names_of l.channels) (1 + l.number) (map communication_of l.communication-iterator)))
-    ≡ l.fn.out.items ++ elements_text (arrows (map end_of l.parties) 0 (entries (names_of l.channels) 1 (map communication_of l.shown)));
+      l.out.items ++ elements_text (arrows (map end_of l.parties) l.number (entries (names_of l.channels) (1 + l.number) (map communication_of l.communication-iterator)))
+      ≡ l.fn.out.items ++ elements_text (arrows (map end_of l.parties) 0 (entries (names_of l.channels) 1 (map communication_of l.shown)));
 }
