@@ -6,7 +6,7 @@ use Rattle.occ_term.specs.Runs.{Entry}
 use Rattle.occ_net_replay.specs.declared.ending.Ending.{Ending}
 use Rattle.occ_net_replay.specs.Endings.{ending_text}
 use Rattle.occ_shown.specs.Answers.{end_text, items_text}
-use Rattle.occ_shown.specs.Xml.{Attribute, Element, attribute, attribute_text, element, elements_text}
+use Rattle.occ_shown.specs.Xml.{Element, attribute, attribute_text, element, elements_text}
 
 -- ---- who takes part
 

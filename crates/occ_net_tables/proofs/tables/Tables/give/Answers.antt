@@ -1,12 +1,10 @@
-use Rattle.std.proofs.Common.{◌≡◌, ◌∙◌, ◌∷◌, ◌++◌, [], ap, Some}
+use Rattle.std.proofs.Common.{◌≡◌, ◌∙◌, ap, Some}
 use Rattle.std.specs.Prelude.{slice_get, slice_set}
 use Rattle.occ_code.specs.Alike.{ready_with}
 use Rattle.occ_code.specs.declared.task.Arm.{Arm}
 use Rattle.occ_code.specs.declared.task.Wait.TheVariants as W
 use Rattle.occ_net_replay.specs.Replay.{made_ready}
 use Rattle.occ_net_replay.proofs.Tables.{set_same}
-use Rattle.occ_net_trace.specs.declared.communication.End.TheVariants.{Process}
-use Rattle.occ_net_tables.specs.Settling.{sent}
 use Rattle.occ_net_tables.proofs.OneChange.{set_twice}
 use Rattle.occ_net_tables.proofs.tables.Tables.give.Goals as goal
 
