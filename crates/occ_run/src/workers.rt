@@ -12,10 +12,11 @@ use std::thread;
 use std::thread::Threads;
 
 /// How often a worker looks for the lock before it sleeps until it has it.
-const LOOKS: u32 = 500;
+const LOOKS: u32 = 100;
 
-/// How long it pauses between two looks.
-const PAUSES: u32 = 20;
+/// How long it pauses between two looks. That is some microseconds, in which another worker can take several short turns while
+/// the network is near its processor.
+const PAUSES: u32 = 1000;
 
 /// What the workers share.
 struct Shared {
