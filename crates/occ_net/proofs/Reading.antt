@@ -1,5 +1,5 @@
 -- What was communicated, by channel.
-use Rattle.std.proofs.Common.{◌≡◌, ◌∙◌, refl, sym, subst, ℕ, ◌<◌, ◌^◌, ◌⊎◌, inl, inr, List, Option, None, Some, [], ap, length, map}
+use Rattle.std.proofs.Common.{◌≡◌, ◌∙◌, sym, subst, ℕ, ◌<◌, ◌^◌, ◌⊎◌, inl, inr, List, Option, None, Some, [], ap, length, map}
 use Rattle.std.specs.Prelude.{slice_get}
 use Rattle.occ_term.specs.declared.names.Channel.{Channel}
 use Rattle.occ_term.specs.Runs.{messages_on}
