@@ -4,3 +4,4 @@ pub mod States
 pub mod Leased
 pub mod Reading
 pub mod CameTo
+pub mod Marks

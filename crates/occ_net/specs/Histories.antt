@@ -1,7 +1,10 @@
 -- The messages of a channel, read from the trace.
-use Rattle.std.specs.Prelude.{List, map, ℕ, ◌≡◌}
+use Rattle.std.specs.Prelude.{List, Option, map, slice_get, ℕ, ◌≡◌}
 use Rattle.occ_term.specs.declared.message.Message.{Message}
+use Rattle.occ_term.specs.declared.protocol.Protocol.{Protocol}
 use Rattle.occ_term.specs.Runs.{messages_on}
+use Rattle.occ_code.specs.Sequential.Compiled.{Program}
+use Rattle.occ_net_replay.specs.Following.{AllFit}
 use Rattle.occ_net_replay.specs.Replay.{Net}
 use Rattle.occ_net_trace.specs.declared.communication.Communication.{Communication}
 use Rattle.occ_net_tables.specs.Holding.{communication_of}
@@ -10,8 +13,13 @@ use Rattle.occ_net_tables.specs.Holding.{communication_of}
 abbrev pub messages_in : List Communication → ℕ → List Message
 messages_in trace chan = messages_on chan (map communication_of trace)
 
--- the messages that were output on the channel, which are those that were input on it
-pub record IsHistory (net : Net) (chan : ℕ) (messages : List Message) : Type 0 where
+-- the protocol of the program's channel with this number; none past its last channel
+abbrev pub protocol_on : Program → ℕ → Option Protocol
+protocol_on p chan = slice_get (map (λ x. x.protocol) p.channels) chan
+
+-- The messages that were output on the channel, which are those that were input on it, in order. Each is of the channel's protocol.
+pub record IsHistory (p : Program) (net : Net) (chan : ℕ) (messages : List Message) : Type 0 where
   pub output : net.output chan ≡ messages
   pub input : net.input chan ≡ messages
   pub trace : messages_on chan net.trace ≡ messages
+  pub fits : AllFit (protocol_on p chan) messages

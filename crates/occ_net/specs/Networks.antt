@@ -65,6 +65,10 @@ first_in out (n ∷ ns) = if is_out out n then first_in out ns else Some n
 abbrev pub with_out : Past → ℕ → Bool → Past
 with_out n number b = record n { out = slice_set n.out number b }
 
+-- no process is out
+abbrev pub all_in : Past → Past
+all_in n = record n { out = replicate (length n.out) false }
+
 -- what a lease gives: none where there is an ending, else the least ready number that is not out
 abbrev pub leased_at : Option Ending → List Bool → List ℕ → Option ℕ
 leased_at None out ready = first_in out ready

@@ -1,20 +1,25 @@
 -- What a network came to.
-use Rattle.std.specs.Prelude.{List, None, ℕ, ◌≡◌}
+use Rattle.std.specs.Prelude.{List, None, [], ℕ, ◌≡◌}
 use Rattle.occ_term.specs.Runs.{bytes_of, messages_on}
 use Rattle.occ_code.specs.Sequential.Compiled.{Program}
 use Rattle.occ_net_replay.specs.declared.choice.Choice.{Choice}
+use Rattle.occ_net_replay.specs.declared.ending.Ending.TheVariants as E
 use Rattle.occ_net_replay.specs.Following.{or_limit}
 use Rattle.occ_net_replay.specs.Replay.{Net, ending_of}
 use Rattle.occ_net_tables.specs.Outcomes.{Begins}
 use Rattle.occ_net_tables.specs.Places.{Placed}
+use Rattle.occ_net.specs.Histories.{IsHistory}
 use Rattle.occ_net.specs.Networks.{IsState, fresh}
 use Rattle.occ_net.specs.declared.outcome.Outcome.{Outcome}
 
--- the ending of its network's state, Limit where there is none, and the bytes that were input from the screen's and the error channel
+-- The ending of its network's state, Limit where there is none, and the bytes that were input from the screen's and the error channel.
+-- It has ended only where no fault was noted. On each channel the messages output are those input, in order, each of its protocol.
 pub record Shows (net : Net) (o : Outcome) : Type 0 where
   pub ending : o.ending ≡ or_limit (ending_of o.network.program.errors net)
+  pub clean : o.ending ≡ E.Ended → net.noted ≡ []
   pub screen : o.screen.items ≡ bytes_of (messages_on 1 net.trace)
   pub error : o.error.items ≡ bytes_of (messages_on 2 net.trace)
+  pub histories : (chan : ℕ) → IsHistory o.network.program net chan (messages_on chan net.trace)
 
 -- A run of the listed choices: those that were used are the first ones, and the network has their places, whose replay is in the same
 -- state. Limit only where the whole list was used and no ending came.

@@ -1,7 +1,7 @@
 //! Processes go out for a turn.
-ghost use Rattle.std.specs.Prelude.{◌≡◌, IfErr, IfOk, IfSome, Some, false, slice_set};
+ghost use Rattle.std.specs.Prelude.{◌≡◌, IfErr, IfOk, IfSome, Some, false, length, replicate, slice_set};
 ghost use Rattle.occ_net_replay.specs.Replay.{Net};
-ghost use Rattle.occ_net.specs.Networks.{IsState, first_in, is_out, leased, with_out};
+ghost use Rattle.occ_net.specs.Networks.{IsState, all_in, first_in, is_out, leased, with_out};
 ghost use Rattle.occ_net.specs.Leases.{CanTurn, IsOwnLease, Leases};
 
 use crate::network::Network;
@@ -33,6 +33,15 @@ pub(crate) fn mark(out: &mut Vec<bool>, number: u32, is: bool)
     let place = number as usize;
     if place < out.len() {
         out[place] = is;
+    }
+}
+
+/// Sets all marks back.
+fn unmark(out: &mut Vec<bool>)
+    ensures { out.new.items ≡ replicate (length out.old.items) false }
+{
+    for place in 0..out.len() {
+        out[place] = false;
     }
 }
 
@@ -104,5 +113,12 @@ impl Network {
         let was = is_out(&self.out, number);
         mark(&mut self.out, number, false);
         was
+    }
+
+    /// No process is out any more.
+    pub fn recall(&mut self)
+        ensures { self.new ≡ all_in self.old }
+    {
+        unmark(&mut self.out);
     }
 }

@@ -1,5 +1,7 @@
 //! A network, and what is read from it.
-ghost use Rattle.std.specs.Prelude.{◌≡◌, ◌↔◌, ◌<◌, IfErr, IfNone, IfOk, IfSome, IsSome, None, Some, length, map, replicate, false, ℕ};
+ghost use Rattle.std.specs.Prelude.{◌≡◌, ◌↔◌, ◌<◌, [], IfErr, IfNone, IfOk, IfSome, IsSome, None, Some, length, map, replicate, false, ℕ};
+ghost use Rattle.occ_term.specs.Runs.{messages_on};
+ghost use Rattle.occ_net_replay.specs.Following.{or_limit};
 ghost use Rattle.occ_net_replay.specs.Replay.{Net, ending_of};
 ghost use Rattle.occ_net_tables.specs.Holding.{communication_of};
 ghost use Rattle.occ_net.specs.Networks.{IsNetwork, IsState, fresh, ready_in, ready_task};
@@ -77,6 +79,15 @@ impl Network {
         self.code.compiled();
     }
 
+    /// What every state of a network keeps: on each channel the messages output are those input, in
+    /// order, each of the channel's protocol, and no fault was noted where it has ended.
+    pub fn obeyed(&self)
+        ensures histories { (net : Net) → IsState self.now net → (chan : ℕ) → IsHistory self.now.program net chan (messages_on chan net.trace) }
+        ensures clean { (net : Net) → IsState self.now net → or_limit (ending_of self.now.program.errors net) ≡ Ending.Ended → net.noted ≡ [] }
+    {
+        self.code.compiled();
+    }
+
     /// Its code.
     pub fn code(&self) -> &Code
         ensures { result.now ≡ self.now.program }
@@ -139,10 +150,10 @@ impl Network {
         tables.into_trace()
     }
 
-    /// The messages that were output, and input, on this channel; none past the last channel. A message
-    /// that is offered and not yet taken is not among them.
+    /// The messages that were output, and input, on this channel, each of the channel's protocol; none
+    /// past the last channel. A message that is offered and not yet taken is not among them.
     pub fn history(&self, chan: u32) -> Option<History<'_>>
-        ensures some { IfSome result (λ h. (net : Net) → IsState self.now net → IsHistory net chan h) }
+        ensures some { IfSome result (λ h. (net : Net) → IsState self.now net → IsHistory self.now.program net chan h) }
         ensures there { IsSome result ↔ (chan < length self.now.program.channels) }
     {
         self.code.compiled();

@@ -75,6 +75,7 @@ impl Network {
             return Err((self, NetFault::Memory));
         };
         let ending = self.ending().unwrap_or(Ending::Limit);
+        self.obeyed();
         Ok(Outcome {
             ending,
             choices,

@@ -1,12 +1,13 @@
 //! Turns that were taken elsewhere are taken in.
-ghost use Rattle.std.specs.Prelude.{◌≡◌, IfErr, OnOk, Some, slice_get, ℕ};
+ghost use Rattle.std.specs.Prelude.{◌≡◌, IfErr, IfOk, OnOk, Some, slice_get, ℕ};
+ghost use Rattle.std.specs.Arc.{arc_value};
 ghost use Rattle.occ_code.specs.Alike.{IsRising};
 ghost use Rattle.occ_net_replay.specs.Replay.{Net};
 ghost use Rattle.occ_net.specs.Networks.{IsState};
 ghost use Rattle.occ_net.specs.Settling.{IsAmong, Refuses, Settles, TakesIn};
 
 use crate::fault::NetFault;
-use crate::leasing::mark;
+use crate::leasing::{Lease, mark};
 use crate::network::Network;
 use occ_net_replay::Choice;
 use occ_proc::Segment;
@@ -44,6 +45,30 @@ impl Network {
         ensures back { IfErr result (λ e. e.0 ≡ segment) }
         ensures same { IfErr result (λ _. self.new ≡ self.old) }
     {
+        match self.settle_spent(alloc, segment, pick) {
+            Ok(_spent) => Ok(()),
+            Err(refused) => Err(refused),
+        }
+    }
+
+    /// Takes a turn in as `settle` does, and hands out what it was leased with, which is no longer
+    /// wanted. So it can be let go outside a lock.
+    ///
+    /// # Errors
+    ///
+    /// Those of `settle`.
+    pub fn settle_spent(
+        &mut self,
+        alloc: Global,
+        segment: Segment,
+        pick: u32,
+    ) -> Result<Lease, (Segment, NetFault)>
+        ensures settled { IfOk result (λ _. (net : Net) → IsState self.old net → Settles self.old net segment pick self.new) }
+        ensures spent { IfOk result (λ l. (arc_value l.body ≡ segment.body) × (l.task ≡ segment.before)) }
+        ensures refused { IfErr result (λ e. (net : Net) → IsState self.old net → Refuses self.old net segment e.1) }
+        ensures back { IfErr result (λ e. e.0 ≡ segment) }
+        ensures same { IfErr result (λ _. self.new ≡ self.old) }
+    {
         if let Some(ending) = self.ending() {
             return Err((segment, NetFault::Over { ending }));
         }
@@ -53,15 +78,16 @@ impl Network {
             return Err((segment, NetFault::Stale { number, turns }));
         }
         match self.take_in(alloc, segment, pick) {
-            Ok(()) => Ok(()),
+            Ok(spent) => Ok(spent),
             Err(segment) => Err((segment, NetFault::Memory)),
         }
     }
 
-    /// Takes in a turn of the network's own.
-    fn take_in(&mut self, alloc: Global, segment: Segment, pick: u32) -> Result<(), Segment>
+    /// Takes in a turn of the network's own, and hands out what it was leased with.
+    fn take_in(&mut self, alloc: Global, segment: Segment, pick: u32) -> Result<Lease, Segment>
         requires { (net : Net) → IsState self.old net → TakesIn self.old net segment }
-        ensures settled { OnOk result ((net : Net) → IsState self.old net → Settles self.old net segment pick self.new) }
+        ensures settled { IfOk result (λ _. (net : Net) → IsState self.old net → Settles self.old net segment pick self.new) }
+        ensures spent { IfOk result (λ l. (arc_value l.body ≡ segment.body) × (l.task ≡ segment.before)) }
         ensures back { IfErr result (λ s. s ≡ segment) }
         ensures same { IfErr result (λ _. self.new ≡ self.old) }
     {
@@ -87,6 +113,6 @@ impl Network {
         let which = place as u32;
         self.choices.push_reserved(Choice { which, pick });
         mark(&mut self.out, number, false);
-        Ok(())
+        Ok(Lease { body, task: before })
     }
 }

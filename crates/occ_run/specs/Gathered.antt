@@ -1,5 +1,5 @@
 -- What the workers of a run gather.
-use Rattle.std.specs.Prelude.{IsSome, List, None, Some, length, ℕ, ◌<◌, ◌≡◌, ◌≤◌, ◌⊎◌}
+use Rattle.std.specs.Prelude.{IsSome, List, None, Some, false, length, replicate, ℕ, ◌<◌, ◌≡◌, ◌≤◌, ◌⊎◌}
 use Rattle.occ_code.specs.Sequential.Compiled.{Program}
 use Rattle.occ_net_replay.specs.Replay.{Net, Replays, ending_of}
 use Rattle.occ_net.specs.Networks.{IsState, Past}
@@ -12,12 +12,13 @@ use Rattle.occ_run.specs.declared.progress.Stop.{Stop}
 use Rattle.occ_run.specs.declared.progress.Stop.TheVariants as stop
 
 -- The outcome of a run of this code on this keyboard is what the choices that it carries come to: its network has this code, this
--- keyboard and these choices, and it shows the state of their replay. There are at most `limit` of them, and just so many where the
--- replay goes on.
+-- keyboard and these choices, no process of it is out, and it shows the state of their replay. There are at most `limit` of them, and just
+-- so many where the replay goes on.
 pub record IsRunOf (p : Program) (keyboard : List ℕ) (limit : ℕ) (o : Outcome) : Type 0 where
   pub program : o.network.program ≡ p
   pub bytes : o.network.keyboard ≡ keyboard
   pub choices : o.network.choices ≡ o.choices.items
+  pub none_out : o.network.out ≡ replicate (length p.bodies) false
   pub net : Net
   pub replays : Replays p keyboard o.choices.items net
   pub shows : Shows net o

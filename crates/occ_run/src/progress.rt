@@ -1,5 +1,6 @@
 //! How far the workers have come: what lies under the lock, and the steps that they take there.
 ghost use Rattle.std.specs.Prelude.{◌≡◌, ◌-◌, IfErr, IfNone, IfOk, IfSome, None, false, length};
+ghost use Rattle.std.specs.Arc.{arc_value};
 ghost use Rattle.occ_net.specs.Networks.{with_out};
 ghost use Rattle.occ_run.specs.Steps.{IsOpen, IsOver, IsStep, IsWake, KeepsCounts, TakesIn, first_stop, stop_for};
 
@@ -128,37 +129,44 @@ impl Progress {
         }
     }
 
-    /// Takes in a turn that was run, or gives its process back.
-    pub fn take_in(&mut self, alloc: Global, done: Done)
+    /// Takes in a turn that was run, or gives its process back. What a turn that was settled had been
+    /// leased with is handed out.
+    pub fn take_in(&mut self, alloc: Global, done: Done) -> Option<Lease>
         ensures limit { self.new.limit ≡ self.old.limit }
         ensures ran { IfOk done (λ segment. TakesIn self.old self.new segment) }
         ensures refused { IfErr done (λ e. (self.new.network ≡ with_out self.old.network e.0.number false) × (self.new.stop ≡ first_stop self.old.stop Stop.Memory)) }
         ensures out { self.new.out ≡ self.old.out - 1 }
         ensures resting { self.new.resting ≡ self.old.resting }
+        ensures spent { IfSome result (λ l. IfOk done (λ segment. (arc_value l.body ≡ segment.body) × (l.task ≡ segment.before))) }
     {
         self.out = self.out.saturating_sub(1);
         match done {
             Ok(segment) => self.take_segment(alloc, segment),
-            Err((before, AllocError)) => self.give_back(number_of(before), Stop::Memory),
+            Err((before, AllocError)) => {
+                self.give_back(number_of(before), Stop::Memory);
+                None
+            }
         }
     }
 
-    fn take_segment(&mut self, alloc: Global, segment: Segment)
+    fn take_segment(&mut self, alloc: Global, segment: Segment) -> Option<Lease>
         ensures limit { self.new.limit ≡ self.old.limit }
         ensures takes { TakesIn self.old self.new segment }
         ensures counts { KeepsCounts self.old self.new }
+        ensures spent { IfSome result (λ l. (arc_value l.body ≡ segment.body) × (l.task ≡ segment.before)) }
     {
         let number = segment.before().number;
         let Some(pick) = self.next_pick() else {
             let_go(segment);
             self.network.release(number);
-            return;
+            return None;
         };
-        match self.network.settle(alloc, segment, pick) {
-            Ok(()) => {}
+        match self.network.settle_spent(alloc, segment, pick) {
+            Ok(spent) => Some(spent),
             Err((segment, fault)) => {
                 let_go(segment);
                 self.give_back(number, stop_of(&fault));
+                None
             }
         }
     }

@@ -23,7 +23,7 @@ pub const MOST_WORKERS: u32 = 64;
 ///
 /// `BadWorkers` for a number that is not from 1 to 64, before all else. When all workers have left, `Foreign` where what they
 /// gathered is no run of this code on this keyboard within the limit; `Spawn` where a thread was refused, and `Memory` where a
-/// growth was. The contract leaves open which of the outcome's processes are out.
+/// growth was. In an outcome no process is out.
 pub fn run_workers<R: Threads + Wait + Sync, G: Gate + Sync>(
     rt: &R,
     alloc: Global,
@@ -68,7 +68,11 @@ fn gathered(
     ensures unstopped { IfOk result (λ _. progress.stop ≡ None) }
     ensures fault { IfErr result (IsNoRun code.now keyboard.now limit progress) }
 {
-    let Progress { network, stop, .. } = progress;
+    let Progress {
+        mut network,
+        stop,
+        ..
+    } = progress;
     if let Some(stop) = stop {
         return Err(fault_of(stop));
     }
@@ -79,6 +83,7 @@ fn gathered(
     if !is_whole(&network, most) {
         return Err(RunFault::Foreign);
     }
+    network.recall();
     network.replayed();
     match network.into_outcome(alloc) {
         Ok(outcome) => Ok(outcome),

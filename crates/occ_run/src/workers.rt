@@ -6,9 +6,17 @@ use crate::gate::Gate;
 use crate::progress::{Done, Next, Progress, Stop, Wake};
 use occ_net::Lease;
 use std::alloc::Global;
-use std::sync::{Condvar, Mutex, Wait};
+use std::hint::spin_loop;
+use std::sync::{Condvar, Mutex, MutexGuard, Wait};
 use std::thread;
 use std::thread::Threads;
+
+/// How often a worker looks for the lock before it sleeps until it has it.
+const LOOKS: u32 = 100;
+
+/// How long it pauses between two looks. That is some microseconds, in which another worker can take several short turns while
+/// the network is near its processor.
+const PAUSES: u32 = 1000;
 
 /// What the workers share.
 struct Shared {
@@ -17,6 +25,19 @@ struct Shared {
 }
 
 impl Shared {
+    /// Takes the lock. Turns are short, so a worker looks for it for a while before it sleeps.
+    fn enter<R: Wait>(&self, rt: &R) -> MutexGuard<'_, Progress> {
+        for _ in 0..LOOKS {
+            if let Some(progress) = self.progress.try_lock() {
+                return progress;
+            }
+            for _ in 0..PAUSES {
+                spin_loop();
+            }
+        }
+        self.progress.lock(rt)
+    }
+
     fn notify(&self, wake: Wake) {
         match wake {
             Wake::Nobody => {}
@@ -26,14 +47,16 @@ impl Shared {
     }
 }
 
-/// Takes in what was done, and then waits for a turn to run; none where the worker is to leave.
+/// Takes in what was done, and then waits for a turn to run; none where the worker is to leave. What is no longer wanted is let
+/// go when the lock is free again.
 fn next_lease<R: Wait>(rt: &R, alloc: Global, shared: &Shared, done: Option<Done>) -> Option<Lease>
     ensures { IfSome result CanTurn }
 {
-    let mut progress = shared.progress.lock(rt);
-    if let Some(done) = done {
-        progress.take_in(alloc, done);
-    }
+    let mut progress = shared.enter(rt);
+    let _spent = match done {
+        Some(done) => progress.take_in(alloc, done),
+        None => None,
+    };
     for _ in rt.forever() {
         match progress.next(alloc) {
             Next::Run(lease) => {
