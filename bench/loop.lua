@@ -1,0 +1,5 @@
+local i, m = 0, 0
+while i < 9000000 do
+  m = (m + i * 3) % 65521
+  i = i + 1
+end
