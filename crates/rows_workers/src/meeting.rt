@@ -7,8 +7,8 @@ use occ_run::{Gate, run_workers};
 use std::alloc::{AllocError, Global};
 use std::hint::spin_loop;
 use std::process::Abort;
-use std::sync::{Arc, Wait};
 use std::sync::atomic::{AtomicBool, AtomicU64, Ordering};
+use std::sync::{Arc, Wait};
 use std::test::Fail;
 use std::thread::Threads;
 
