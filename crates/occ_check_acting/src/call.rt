@@ -3,6 +3,7 @@
 ghost use Rattle.std.specs.Prelude.{◌≡◌, ◌∷◌, ◌++◌, [], IfOk, map, None, option_map, Some, ℕ};
 ghost use Rattle.occ_tree_grammar.specs.Expressions.Trees as trees;
 ghost use Rattle.occ_tree_grammar.specs.Lines.Views as lines;
+ghost use Rattle.occ_term.specs.Rows.{AreFew};
 ghost use Rattle.occ_term.specs.View.{expression_of, subscripts};
 ghost use Rattle.occ_check_meaning.specs.Calls as meant;
 ghost use Rattle.occ_check_meaning.specs.Constants.{constant};
@@ -28,7 +29,7 @@ use occ_check_typing::overlap::some_overlap;
 use occ_check_typing::types::{carried_by, open_sizes_of};
 use occ_held::Held;
 use occ_held::parts::Listed;
-use occ_term::{Declaration, Item, Primitive, Protocol, TermExpr};
+use occ_term::{Declaration, Item, Primitive, Protocol, Sizes, TermExpr};
 use occ_tree_grammar::tree::expr::{Expr, Operand};
 use occ_tree_grammar::tree::line::{
     Carried as CarriedTree, Formal, Formals, OneOrMore, Size, Spec,
@@ -62,7 +63,7 @@ pub struct Given {
     /// The subscripts.
     pub subscripts: Items<Evaluated>,
     /// The sizes that they leave.
-    pub left: Items<u32>,
+    pub left: Sizes,
     /// The Locals that hold them.
     pub heads: Items<Declaration>,
 }
@@ -334,7 +335,7 @@ impl Given {
     {
         Given {
             subscripts: Items::new(alloc),
-            left: Items::new(alloc),
+            left: Sizes::none(alloc),
             heads: Items::new(alloc),
         }
     }
@@ -363,11 +364,12 @@ fn all_evaluated(
     under: Listed<TermExpr>,
     sizes: &[u32],
 ) -> Result<Given, CheckFault>
+    requires { AreFew sizes.now }
     ensures { Evaluates result numbers.new (meant.all_evaluated name.now depth (subscripts (map expression_of under)) sizes.now (numbers_of numbers.old)) }
 {
     if under.is_empty() {
         let mut given = Given::new(alloc);
-        given.left = Items::from_slice(alloc, sizes)?;
+        given.left = Sizes::new(alloc, sizes)?;
         return Ok(given);
     }
     let mut others = under;
@@ -406,7 +408,7 @@ fn part_of(
     alloc: Global,
     row: &Row,
     under: Items<Evaluated>,
-    left: Items<u32>,
+    left: Sizes,
 ) -> Result<Row, AllocError>
     ensures { IfOk result (λ part. row_of part ≡ part_under (row_of row.now) (subscripts (map evaluated_of under)) left) }
 {
@@ -414,7 +416,7 @@ fn part_of(
     all.append(under)?;
     Ok(Row {
         first: row.first,
-        sizes: Items::from_slice(alloc, row.sizes.as_slice())?,
+        sizes: row.sizes.copy(alloc)?,
         subscripts: all,
         left,
     })
@@ -549,6 +551,7 @@ fn variable_actual(
     let known = known_name(alloc, scope, line, x)?;
     let (own, row) = as_variable(line, known)?;
     let under = typed_subscripts(alloc, scope, line, es)?;
+    row.left.few();
     let given = all_evaluated(
         numbers,
         alloc,
@@ -579,6 +582,7 @@ fn channels_actual(
     let known = known_name(alloc, scope, line, x)?;
     let (own, row) = as_channels(line, known)?;
     let under = typed_subscripts(alloc, scope, line, es)?;
+    row.left.few();
     let given = all_evaluated(
         numbers,
         alloc,

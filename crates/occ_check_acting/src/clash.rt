@@ -3,6 +3,7 @@
 
 ghost use Rattle.std.specs.Prelude.{◌≡◌, ◌&&◌, ◌+◌, ◌<◌, ◌^◌, IfOk, IfSome, map};
 ghost use Rattle.occ_term.specs.Messages.{product};
+ghost use Rattle.occ_term.specs.Rows.{AreFew};
 ghost use Rattle.occ_term.specs.Terms.{Component};
 ghost use Rattle.occ_term.specs.Uses as uses;
 ghost use Rattle.occ_term.specs.View.{expression_of, place_of, subscripts, targets_of};
@@ -13,9 +14,8 @@ ghost use Rattle.occ_check_acting.specs.Clashing.{any_in_subscripts, one_of_clas
 
 use occ_check_names::constant::constant_of;
 use occ_check_names::known::Evaluated;
-use occ_check_typing::overlap::{
-    Span, all_components, first_of_component, index_within, meets, some_meet,
-};
+use occ_check_names::numbers::components;
+use occ_check_typing::overlap::{Span, first_of_component, index_within, meets, some_meet};
 use occ_term::{Place, Target, TermExpr};
 use std::alloc::{AllocError, Global};
 
@@ -23,7 +23,7 @@ use std::alloc::{AllocError, Global};
 ///
 /// # Errors
 ///
-/// A refused growth, and a row of more cells than a program may have.
+/// A refused growth.
 pub fn some_clash(alloc: Global, targets: &[Target]) -> Result<bool, AllocError>
     ensures { IfOk result (λ clash. clash ≡ meant.some_clash (rows_at (targets_of targets.now))) }
 {
@@ -63,7 +63,7 @@ fn some_places_clash(alloc: Global, places: &[&Place]) -> Result<bool, AllocErro
             varying.push(*place)?;
         }
     }
-    if one_clashes(&varying, &fixed)? {
+    if one_clashes(&varying, &fixed) {
         return Ok(true);
     }
     let parts = parts_named(alloc, &fixed)?;
@@ -71,18 +71,18 @@ fn some_places_clash(alloc: Global, places: &[&Place]) -> Result<bool, AllocErro
 }
 
 /// Whether one of the first places clashes with a later one of them or with one of the others.
-fn one_clashes(places: &[&Place], others: &[&Place]) -> Result<bool, AllocError>
-    ensures { IfOk result (λ clash. clash ≡ one_of_clashes (rows_of places.now) (rows_of others.now)) }
+fn one_clashes(places: &[&Place], others: &[&Place]) -> bool
+    ensures { result ≡ one_of_clashes (rows_of places.now) (rows_of others.now) }
 {
     for (index, place) in places.iter().enumerate() {
-        if clashes_with_one(place, &places[index + 1..])? {
-            return Ok(true);
+        if clashes_with_one(place, &places[index + 1..]) {
+            return true;
         }
-        if clashes_with_one(place, others)? {
-            return Ok(true);
+        if clashes_with_one(place, others) {
+            return true;
         }
     }
-    Ok(false)
+    false
 }
 
 /// The parts that places name.
@@ -91,54 +91,48 @@ fn parts_named(alloc: Global, places: &[&Place]) -> Result<Vec<Span>, AllocError
 {
     let mut parts = Vec::new(alloc);
     for place in places {
-        parts.push(span_named(place)?)?;
+        parts.push(span_named(place))?;
     }
     Ok(parts)
 }
 
-fn clashes_with_one(place: &Place, others: &[&Place]) -> Result<bool, AllocError>
-    ensures { IfOk result (λ clash. clash ≡ meant.clashes_with_one (row_at (place_of place.now)) (rows_of others.now)) }
+fn clashes_with_one(place: &Place, others: &[&Place]) -> bool
+    ensures { result ≡ meant.clashes_with_one (row_at (place_of place.now)) (rows_of others.now) }
 {
     for other in others {
-        if clash(place, other)? {
-            return Ok(true);
+        if clash(place, other) {
+            return true;
         }
     }
-    Ok(false)
+    false
 }
 
-fn clash(a: &Place, b: &Place) -> Result<bool, AllocError>
-    ensures { IfOk result (λ clash. clash ≡ meant.clash (row_at (place_of a.now)) (row_at (place_of b.now))) }
+fn clash(a: &Place, b: &Place) -> bool
+    ensures { result ≡ meant.clash (row_at (place_of a.now)) (row_at (place_of b.now)) }
 {
-    if share_component(a, b)? {
-        return Ok(true);
-    }
-    if is_named_by(a, b)? {
-        return Ok(true);
-    }
-    is_named_by(b, a)
+    share_component(a, b) || is_named_by(a, b) || is_named_by(b, a)
 }
 
 /// Whether two places share a component under constant subscripts.
-fn share_component(a: &Place, b: &Place) -> Result<bool, AllocError>
-    ensures { IfOk result (λ share. share ≡ (meant.are_constant (row_at (place_of a.now)).subscripts && (meant.are_constant (row_at (place_of b.now)).subscripts && meant.have_common (meant.part_span (row_at (place_of a.now))) (meant.part_span (row_at (place_of b.now)))))) }
+fn share_component(a: &Place, b: &Place) -> bool
+    ensures { result ≡ (meant.are_constant (row_at (place_of a.now)).subscripts && (meant.are_constant (row_at (place_of b.now)).subscripts && meant.have_common (meant.part_span (row_at (place_of a.now))) (meant.part_span (row_at (place_of b.now))))) }
 {
     if !are_constant(a.subscripts.as_slice()) {
-        return Ok(false);
+        return false;
     }
     if !are_constant(b.subscripts.as_slice()) {
-        return Ok(false);
+        return false;
     }
-    let first = span_named(a)?;
-    let second = span_named(b)?;
-    Ok(meets(first, second))
+    let first = span_named(a);
+    let second = span_named(b);
+    meets(first, second)
 }
 
 /// Whether a subscript of the second place names the variable of the first.
-fn is_named_by(a: &Place, b: &Place) -> Result<bool, AllocError>
-    ensures { IfOk result (λ named. named ≡ meant.is_named_by (row_at (place_of a.now)) (row_at (place_of b.now))) }
+fn is_named_by(a: &Place, b: &Place) -> bool
+    ensures { result ≡ meant.is_named_by (row_at (place_of a.now)) (row_at (place_of b.now)) }
 {
-    let whole = whole_of(a)?;
+    let whole = whole_of(a);
     some_reads(b.subscripts.as_slice(), whole)
 }
 
@@ -157,20 +151,22 @@ fn are_constant(list: &[TermExpr]) -> bool
 // ---- what places name
 
 /// The whole variable.
-fn whole_of(place: &Place) -> Result<Span, AllocError>
-    ensures span { IfOk result (λ span. span_of span ≡ meant.variable_span (row_at (place_of place.now))) }
-    ensures few { IfOk result (λ span. span.first + product place.now.sizes < 2 ^ 33) }
+fn whole_of(place: &Place) -> Span
+    ensures span { span_of result ≡ meant.variable_span (row_at (place_of place.now)) }
+    ensures few { result.first + product place.now.sizes < 2 ^ 33 }
 {
-    let count = all_components(place.sizes.as_slice())?;
+    place.sizes.few();
+    let count = u64::from(components(place.sizes.as_slice()));
     let first = u64::from(place.first);
-    Ok(Span { first, count })
+    Span { first, count }
 }
 
 /// The part of it that constant subscripts name.
-fn span_named(place: &Place) -> Result<Span, AllocError>
-    ensures { IfOk result (λ span. span_of span ≡ meant.part_span (row_at (place_of place.now))) }
+fn span_named(place: &Place) -> Span
+    ensures { span_of result ≡ meant.part_span (row_at (place_of place.now)) }
 {
-    let whole = whole_of(place)?;
+    let whole = whole_of(place);
+    place.sizes.few();
     part_named(
         place.subscripts.as_slice(),
         whole.first,
@@ -179,32 +175,25 @@ fn span_named(place: &Place) -> Result<Span, AllocError>
     )
 }
 
-fn part_named(
-    under: &[TermExpr],
-    first: u64,
-    sizes: &[u32],
-    whole: Span,
-) -> Result<Span, AllocError>
-    requires { first + product sizes.now < 2 ^ 33 }
-    ensures { IfOk result (λ span. span_of span ≡ uses.part_named (subscripts (map expression_of under.now)) first sizes.now (span_of whole)) }
+fn part_named(under: &[TermExpr], first: u64, sizes: &[u32], whole: Span) -> Span
+    requires few { AreFew sizes.now }
+    requires all { product sizes.now < 2 ^ 32 }
+    requires last { first + product sizes.now < 2 ^ 33 }
+    ensures { span_of result ≡ uses.part_named (subscripts (map expression_of under.now)) first sizes.now (span_of whole) }
 {
-    match under.split_first() {
-        None => {
-            let count = all_components(sizes)?;
-            Ok(Span { first, count })
-        }
-        Some((subscript, rest)) => match sizes.split_first() {
-            None => Ok(whole),
-            Some((size, others)) => match constant_index(subscript, *size) {
-                None => Ok(whole),
-                Some(index) => {
-                    let count = all_components(others)?;
-                    let first = first_of_component(first, *size, index, count);
-                    part_named(rest, first, others, whole)
-                }
-            },
-        },
-    }
+    let Some((subscript, rest)) = under.split_first() else {
+        let count = u64::from(components(sizes));
+        return Span { first, count };
+    };
+    let Some((size, others)) = sizes.split_first() else {
+        return whole;
+    };
+    let Some(index) = constant_index(subscript, *size) else {
+        return whole;
+    };
+    let count = u64::from(components(others));
+    let first = first_of_component(first, *size, index, count);
+    part_named(rest, first, others, whole)
 }
 
 /// A constant subscript within the size.
@@ -223,32 +212,32 @@ fn constant_index(subscript: &TermExpr, size: u32) -> Option<u32>
 /// Whether an expression reads one of so many cells. A chain of AND and OR is a loop.
 #[cycle(reading)]
 #[tactic(auto, using(crate::proofs::ReadCells::read_by_right, crate::proofs::ReadCells::read_by_left))]
-fn reads(e: &TermExpr, cells: Span) -> Result<bool, AllocError>
-    ensures { IfOk result (λ reads. reads ≡ reads_any (expression_of e.now) (span_of cells)) }
+fn reads(e: &TermExpr, cells: Span) -> bool
+    ensures { result ≡ reads_any (expression_of e.now) (span_of cells) }
 {
     let mut rest = e;
     loop {
         match rest {
-            TermExpr::Constant(_) => return Ok(false),
-            TermExpr::Cell(_, cell) => return Ok(is_in(u64::from(*cell), cells)),
+            TermExpr::Constant(_) => return false,
+            TermExpr::Cell(_, cell) => return is_in(u64::from(*cell), cells),
             TermExpr::Component(place) => return reads_component(place, cells),
             TermExpr::Letter(_, _, subscript) => return reads(subscript.get(), cells),
             TermExpr::Binary(_, _, _, left, right) => {
-                if reads(left.get(), cells)? {
-                    return Ok(true);
+                if reads(left.get(), cells) {
+                    return true;
                 }
                 return reads(right.get(), cells);
             }
             TermExpr::Unary(_, _, _, operand) => return reads(operand.get(), cells),
             TermExpr::And(left, right) => {
-                if reads(right.get(), cells)? {
-                    return Ok(true);
+                if reads(right.get(), cells) {
+                    return true;
                 }
                 rest = left.get();
             }
             TermExpr::Or(left, right) => {
-                if reads(right.get(), cells)? {
-                    return Ok(true);
+                if reads(right.get(), cells) {
+                    return true;
                 }
                 rest = left.get();
             }
@@ -259,27 +248,27 @@ fn reads(e: &TermExpr, cells: Span) -> Result<bool, AllocError>
 
 /// Whether a component or one of its subscripts does.
 #[cycle(reading)]
-fn reads_component(place: &Place, cells: Span) -> Result<bool, AllocError>
-    ensures { IfOk result (λ reads. reads ≡ reads_any (Component (place_of place.now)) (span_of cells)) }
+fn reads_component(place: &Place, cells: Span) -> bool
+    ensures { result ≡ reads_any (Component (place_of place.now)) (span_of cells) }
 {
-    let named = span_named(place)?;
+    let named = span_named(place);
     if are_shared(named, cells) {
-        return Ok(true);
+        return true;
     }
     some_reads(place.subscripts.as_slice(), cells)
 }
 
 /// Whether one of the subscripts does.
 #[cycle(reading)]
-fn some_reads(list: &[TermExpr], cells: Span) -> Result<bool, AllocError>
-    ensures { IfOk result (λ reads. reads ≡ any_in_subscripts (subscripts (map expression_of list.now)) (span_of cells)) }
+fn some_reads(list: &[TermExpr], cells: Span) -> bool
+    ensures { result ≡ any_in_subscripts (subscripts (map expression_of list.now)) (span_of cells) }
 {
     for subscript in list {
-        if reads(subscript, cells)? {
-            return Ok(true);
+        if reads(subscript, cells) {
+            return true;
         }
     }
-    Ok(false)
+    false
 }
 
 /// Whether a cell is one of so many.

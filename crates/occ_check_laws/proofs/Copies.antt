@@ -9,14 +9,13 @@ use Rattle.std.proofs.lemmas.Int.{ints}
 use Rattle.occ_term.specs.TypedSteps.{IndicesHave}
 use Rattle.occ_term.specs.TermTyping.{Declared}
 use Rattle.occ_check_meaning.specs.Scope.{Names}
-use Rattle.occ_check_meaning.specs.Constants.{a_count}
+use Rattle.occ_tree_grammar.specs.Many.{◌>>=◌}
+use Rattle.occ_check_meaning.specs.Constants.{a_count, constant}
 use Rattle.occ_check_meaning.specs.Expressions.{typed_as, constant_as}
 use Rattle.occ_check_meaning.specs.Declarations.{copies_of}
 use Rattle.occ_check_laws.specs.Having.{NamesHave}
 use Rattle.occ_check_meaning.proofs.Steps.{bind_some, some_is}
 use Rattle.occ_check_laws.proofs.Counting.{kept}
-use Rattle.occ_check_laws.proofs.Covering.{constant_typed}
-use Rattle.occ_check_laws.proofs.TypedLines.{typed_as_has}
 
 -- an index, and those of the copies after it, are INTs
 pub first_typed : (k : ℕ) (i : ℤ) → IndicesHave i (suc k) → IsTrue (is_of Int i)
@@ -36,6 +35,7 @@ module _ (d : Declared) (ns : Names) (h : NamesHave d ns) (line : ℕ) where
       let k = bind_some (constant_as ns line Int count) _ c b.2 in
       let n = bind_some (a_count b.0 k.0) _ c k.2 in
       let q = kept _ _ n.0 n.1 in
-      let t = bind_some (typed_as ns line Int base) _ b.0 b.1 in
-      let i = constant_typed d.types t.0 Int b.0 (typed_as_has d ns h line Int base t.0 t.1) t.2 in
+      let w = bind_some (typed_as ns line Int base >>= constant) _ b.0 b.1 in
+      let t = kept _ _ b.0 w.2 in
+      let i = subst (λ x. IsTrue (is_of Int x)) t.1 t.0 in
       subst (λ (y : ℤ × ℕ). IndicesHave y.0 y.1) (some_is (b.0, n.0) c n.2) (subst (λ m. IndicesHave b.0 m) q.1 (counted_typed b.0 k.0 q.0 i))

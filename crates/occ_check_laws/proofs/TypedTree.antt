@@ -19,6 +19,7 @@ use Rattle.occ_term.specs.Uses.{Uses, uses_of, uses_of_arms, uses_of_choices}
 use Rattle.occ_term.specs.Typing.{is_number, HasType}
 use Rattle.occ_term.specs.TypedSteps.{IndicesHave}
 use Rattle.occ_term.specs.TermTyping.{HasTags, Declared, ChannelHas, DeclarationHas, DeclarationsHave, IsKept, ReceptionHas, TermHas, TermsHave, BranchesHave, ArmsHave, ChoicesHave, VariantsHave, OptionsHave}
+use Rattle.occ_check_meaning.specs.Constants.{constant}
 use Rattle.occ_check_meaning.specs.Scope.{names_of, within, proc, Names, Known, a_value, a_string, some_cells, some_channels, a_protocol, assignable, kept as unassignable}
 use Rattle.occ_check_meaning.specs.Numbers.{Numbers, more_cells, room}
 use Rattle.occ_check_meaning.specs.Expressions.{typed, typed_as, constant_as, as_single}
@@ -33,7 +34,7 @@ use Rattle.occ_check_meaning.proofs.Steps.{bind_some, some_is}
 use Rattle.occ_check_laws.proofs.Counting.{kept}
 use Rattle.occ_check_laws.proofs.Scopes.{EachKnown, EachPair, each_within, each_mapped, each_named, each_behind}
 use Rattle.occ_check_laws.proofs.Growth.{growing, processes_grown}
-use Rattle.occ_check_laws.proofs.Covering.{Covers, CoversSince, since, covers_before, fewer_before, in_span, constant_typed}
+use Rattle.occ_check_laws.proofs.Covering.{Covers, CoversSince, since, covers_before, fewer_before, in_span}
 use Rattle.occ_check_laws.proofs.Stepping.{bound_steps, indexed_steps, opening_steps, one_declared_steps, declared_steps}
 use Rattle.occ_check_laws.proofs.TreeSteps.{unfolding_steps, performs_steps, in_turn_steps, beside_steps, copies_steps, arm_steps, offers_steps, arms_steps, choice_steps, tests_steps, choices_steps, variant_steps, variants_steps, option_steps, options_steps}
 use Rattle.occ_check_laws.proofs.TypedExpressions.{single_has, typed_has}
@@ -145,8 +146,9 @@ module _ (d : Declared) where
 
   constant_has : (ns : Names) (h : NamesHave d ns) (line : ℕ) (type : Primitive) (e : Expression) (v : ℤ) → constant_as ns line type e ≡ Some v → IsTrue (is_of type v)
   constant_has ns h line type e v g =
-      let t = bind_some (typed_as ns line type e) _ v g in
-      constant_typed d.types t.0 type v (typed_as_has d ns h line type e t.0 t.1) t.2
+      let w = bind_some (typed_as ns line type e >>= constant) _ v g in
+      let k = kept _ _ v w.2 in
+      subst (λ x. IsTrue (is_of type x)) k.1 k.0
 
   all_of_type : (type : Primitive) (vs : List ℤ) → All (λ v. IsTrue (is_of type v)) vs → AllOf type vs
   all_of_type type [] h = tt

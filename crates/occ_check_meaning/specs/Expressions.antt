@@ -204,6 +204,6 @@ unfoldable mutual
 abbrev pub typed_as : Names → ℕ → Primitive → Expression → Option T.Expression
 typed_as ns line type e = typed ns line e >>= of_type type
 
--- (refusals: wrong type; not constant) a constant of this type, which does not fault
+-- (refusals: wrong type; not constant) a constant of this type, which does not fault, and whose value is in it
 abbrev pub constant_as : Names → ℕ → Primitive → Expression → Option ℤ
-constant_as ns line type e = typed_as ns line type e >>= constant
+constant_as ns line type e = typed_as ns line type e >>= constant >>= λ v. keep (is_of type v) v

@@ -101,9 +101,9 @@ unfoldable pub tag_number : List Tag → Name → ℕ → Option ℕ
 tag_number [] x k = None
 tag_number (t ∷ ts) x k = cond (bytes_eq x t.name) (Some k) (tag_number ts x (k + 1))
 
--- (refusals: protocol, where it has no tags; tag)
+-- (refusals: protocol, where it has no tags; tag, also of one behind 2 to the 32 others)
 abbrev pub tag_in : Protocol → Name → Option ℕ
-tag_in (Variant tags) x = tag_number tags x 0
+tag_in (Variant tags) x = tag_number tags x 0 >>= λ k. keep (nat_lt k 4294967296) k
 tag_in (Simple sizes type) x = None
 tag_in (CountedArray count type) x = None
 tag_in (Sequential ps) x = None

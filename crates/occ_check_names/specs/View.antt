@@ -118,7 +118,7 @@ part_of p = record { first = p.place.first; sizes = p.place.sizes; subscripts = 
 -- ---- numbers
 
 abbrev pub numbers_of : Numbers → N.Numbers
-numbers_of n = record { cells = n.cells.items; channels = n.channels.items; processes = n.processes; protocols = n.protocols; nodes = n.nodes }
+numbers_of n = record { cells = n.cells.items; channels = n.channels.items; processes = n.processes; protocols = length n.protocols.items; nodes = n.nodes }
 
 -- a step that gives out numbers leaves those that the definition gives
 abbrev pub Counts : {X : Type 0} → Result X CheckFault → Numbers → Option N.Numbers → Type 0

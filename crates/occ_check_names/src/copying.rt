@@ -40,9 +40,9 @@ impl Row {
     {
         Ok(Row {
             first: self.first,
-            sizes: Items::from_slice(alloc, self.sizes.as_slice())?,
+            sizes: self.sizes.copy(alloc)?,
             subscripts: Items::from_slice(alloc, self.subscripts.as_slice())?,
-            left: Items::from_slice(alloc, self.left.as_slice())?,
+            left: self.left.copy(alloc)?,
         })
     }
 }

@@ -1,6 +1,6 @@
 //! What names stand for.
 
-use occ_term::{Primitive, Protocol, Text};
+use occ_term::{Primitive, Protocol, Sizes, Text};
 use sqlite_items::Items;
 
 /// Whether a variable may be assigned to. A named value, a VAL formal and an index may not.
@@ -27,11 +27,11 @@ pub struct Row {
     /// The number of the first of the whole array.
     pub first: u32,
     /// The sizes of the whole array: none for a single cell or channel.
-    pub sizes: Items<u32>,
+    pub sizes: Sizes,
     /// The subscripts that name the part.
     pub subscripts: Items<Evaluated>,
     /// The sizes of the part.
-    pub left: Items<u32>,
+    pub left: Sizes,
 }
 
 /// What a channel carries.

@@ -9,9 +9,8 @@ use crate::constant::has_type;
 use crate::fault::CheckFault;
 use crate::operators::primitive_of;
 use crate::typed::Typed;
-use occ_term::{Array, Primitive, TermExpr, Text};
+use occ_term::{Array, Primitive, Sizes, TermExpr, Text};
 use occ_tree_grammar::tree::expr::{Literal, Primitive as PrimitiveTree};
-use sqlite_items::Items;
 use std::alloc::{AllocError, Global};
 
 /// What a literal stands for. A number is an INT and a byte is a BYTE where no type is given; none can be given to
@@ -85,7 +84,6 @@ pub fn string_size(line: u32, bytes: &[u8]) -> Result<u32, CheckFault>
 pub fn whole_string(alloc: Global, bytes: Text) -> Result<Typed, AllocError>
     ensures { IfOk result (λ string. typed_of string ≡ meant.whole_string (map pos bytes)) }
 {
-    let mut sizes = Items::new(alloc);
-    sizes.push(bytes.len())?;
+    let sizes = Sizes::new(alloc, &[bytes.len()])?;
     Ok(Typed::Whole(Primitive::Byte, sizes, Array::Text(bytes)))
 }

@@ -33,8 +33,8 @@ pub struct Numbers {
     pub channels: Vec<Channel>,
     /// How many processes there are.
     pub processes: u32,
-    /// How many protocols with names are declared.
-    pub protocols: u64,
+    /// The lines at which protocols with names are declared.
+    pub protocols: Vec<u32>,
     /// How many nodes there are.
     pub nodes: u32,
 }
@@ -52,7 +52,7 @@ impl Numbers {
             cells: Vec::new(alloc),
             channels,
             processes: 1,
-            protocols: 0,
+            protocols: Vec::new(alloc),
             nodes: 0,
         })
     }
@@ -126,23 +126,18 @@ impl Numbers {
         }
     }
 
-    /// Counts a protocol with a name, and answers its number.
+    /// Counts a protocol with a name, which is declared at this line, and answers its number.
     ///
     /// # Errors
     ///
-    /// `Memory` where no further one can be counted.
-    pub fn more_protocols(&mut self) -> Result<u64, CheckFault>
+    /// `Memory`.
+    pub fn more_protocols(&mut self, line: u32) -> Result<u64, CheckFault>
         ensures counts { Counts result self.new (Some (more_protocols (numbers_of self.old))) }
-        ensures number { IfOk result (λ number. number ≡ self.old.protocols) }
+        ensures number { IfOk result (λ number. number ≡ length self.old.protocols.items) }
     {
-        let number = self.protocols;
-        match number.checked_add(1) {
-            None => Err(CheckFault::Memory),
-            Some(next) => {
-                self.protocols = next;
-                Ok(number)
-            }
-        }
+        let number = self.protocols.len();
+        self.protocols.push(line)?;
+        Ok(number as u64)
     }
 
     /// Counts one node, under so many nodes that stand round it.

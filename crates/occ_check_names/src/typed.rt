@@ -1,7 +1,6 @@
 //! What expressions unfold to.
 
-use occ_term::{Array, Place, Primitive, TermExpr};
-use sqlite_items::Items;
+use occ_term::{Array, Place, Primitive, Sizes, TermExpr};
 
 /// What an expression unfolds to.
 #[derive(Drop)]
@@ -9,7 +8,7 @@ pub enum Typed {
     /// One value of the type.
     Single(Primitive, TermExpr),
     /// A whole array with components of the type: its sizes, and the array.
-    Whole(Primitive, Items<u32>, Array),
+    Whole(Primitive, Sizes, Array),
 }
 
 /// A row under subscripts: its place, and the sizes that are left.
@@ -18,5 +17,5 @@ pub struct Part {
     /// The place.
     pub place: Place,
     /// The sizes of the part: none for a single cell or channel.
-    pub left: Items<u32>,
+    pub left: Sizes,
 }

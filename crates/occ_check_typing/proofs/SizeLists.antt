@@ -1,6 +1,9 @@
 -- Lists of sizes, and of tags.
 use Rattle.std.specs.declared.boxed.Box.{Box}
-use Rattle.std.proofs.Common.{◌≡◌, ℕ, ℤ, zero, suc, ◌+◌, ◌*◌, ◌<◌, ◌≤◌, min, List, [], ◌∷◌, drop, take, get_or, length, map, Option, Some, None, option_map, refl, sym, ap, ◌∙◌, arith, Vec, Global}
+use Rattle.std.proofs.Common.{◌≡◌, ℕ, ℤ, pos, negsuc, zero, suc, ◌+◌, ◌*◌, ◌<◌, ◌≤◌, min, List, [], ◌∷◌, drop, take, get_or, length, map, Option, Some, None, option_map, refl, subst, sym, ap, ◌∙◌, true, false, arith, Vec, Global}
+use Rattle.std.specs.Prelude.{Bool, if◌then◌else◌, int_le, nat_abs, nat_le}
+use Rattle.std.proofs.lemmas.Int.{ints}
+use Rattle.std.proofs.lemmas.Bool.Decides.{nat_tests}
 use Rattle.std.proofs.Math.Seq.{drop-cons}
 use Rattle.std.proofs.lemmas.List.{drop_all}
 use Rattle.occ_tree_grammar.specs.Many.{◌>>=◌}
@@ -19,12 +22,16 @@ use Rattle.occ_term.specs.declared.protocol.Protocol.TheVariants.{Sequential, Va
 use Rattle.occ_term.specs.declared.protocol.Tag.{Tag}
 use Rattle.occ_term.specs.declared.primitive.Primitive.TheVariants.{Int}
 use Rattle.occ_term.proofs.Saturating.{saturates}
+use Rattle.occ_term.specs.Messages.{product}
+use Rattle.occ_term.specs.Rows.{AreFew}
 use Rattle.occ_check_meaning.specs.Scope.{Names, each_of, once}
 use Rattle.occ_check_meaning.specs.Constants.{a_size}
 use Rattle.occ_check_meaning.specs.Expressions.{constant_as}
 use Rattle.occ_check_meaning.specs.Types.{Open, each_size, given_product, open_size, part_of, protocol_of, tag_names, tag_of}
 use Rattle.occ_check_names.specs.View.{Refuses}
 use Rattle.occ_check_names.specs.declared.fault.CheckFault.{CheckFault}
+use Rattle.occ_check_typing.specs.Positive.{ArePositive}
+use Rattle.occ_check_typing.proofs.Components.{one_more}
 use Rattle.occ_check_typing.proofs.Refusals.{none_then, refused_with}
 
 -- ---- sizes that are given
@@ -63,6 +70,55 @@ given_none ns line e f = refused_with f _ _ (λ h. by (one_size ns line e) (sym 
     by : (r : Option ℕ) → (r >>= λ n. Some (Some n)) ≡ None → r ≡ None
     by None h = refl
     by (Some m) h = absurd cc
+
+-- ---- sizes are from 1 on
+
+abs_positive : (v : ℤ) → int_le (pos 1) v ≡ true → 1 ≤ nat_abs v
+abs_positive (pos n) h = grind (arith, ints)
+abs_positive (negsuc n) h = grind (arith, ints)
+
+size_positive : (v : ℤ) (n : ℕ) → a_size v ≡ Some n → 1 ≤ n
+size_positive v n h = by (int_le (pos 1) v) refl h
+  where
+    by : (b : Bool) → int_le (pos 1) v ≡ b → (if b then Some (nat_abs v) else None) ≡ Some n → 1 ≤ n
+    by true e h = let same : nat_abs v ≡ n = cc in subst (λ k. 1 ≤ k) same (abs_positive v e)
+    by false e h = absurd cc
+
+one_positive : (ns : Names) (line : ℕ) (e : Expression) (n : ℕ) → one_size ns line e ≡ Some n → 1 ≤ n
+unfolding one_size
+one_positive ns line e n h = by (constant_as ns line Int e) h
+  where
+    by : (r : Option ℤ) → (r >>= a_size) ≡ Some n → 1 ≤ n
+    by None h = absurd cc
+    by (Some v) h = size_positive v n h
+
+each_positive : (ns : Names) (line : ℕ) (es : List Expression) (sizes : List ℕ) → each_of (one_size ns line) es ≡ Some sizes → ArePositive sizes
+unfolding each_of
+each_positive ns line [] sizes h = let same : [] ≡ sizes = cc in subst ArePositive same tt
+each_positive ns line (e ∷ es) sizes h = by (one_size ns line e) refl (each_of (one_size ns line) es) (λ rest q. each_positive ns line es rest q) h
+  where
+    by : (r : Option ℕ) → one_size ns line e ≡ r → (s : Option (List ℕ)) → ((rest : List ℕ) → s ≡ Some rest → ArePositive rest) → (r >>= λ n. s >>= λ rest. Some (n ∷ rest)) ≡ Some sizes → ArePositive sizes
+    by None p s q h = absurd cc
+    by (Some n) p None q h = absurd cc
+    by (Some n) p (Some rest) q h = let same : n ∷ rest ≡ sizes = cc in subst ArePositive same (one_positive ns line e n p, q rest refl)
+
+pub sizes_positive : (ns : Names) (line : ℕ) (es : List Expression) (sizes : List ℕ) → each_size ns line (trees.expressions es) ≡ Some sizes → ArePositive sizes
+sizes_positive ns line es sizes h = each_positive ns line es sizes (sym (sizes_each ns line es) ∙ h)
+
+rest_below : (n k : ℕ) → 1 ≤ n → n * k < 4294967296 → k < 4294967296
+rest_below n k some h = omega (arith, one_more n 0 k (omega arith))
+
+pub positive_few : (ns : List ℕ) → ArePositive ns → product ns < 4294967296 → AreFew ns
+positive_few [] some h = tt
+positive_few (n ∷ ns) some h = (h, positive_few ns some.1 (rest_below n (product ns) some.0 h))
+
+pub one_few : (ns : List ℕ) → length ns < 2 → get_or ns 0 0 < 4294967296 → AreFew ns
+one_few [] h k = tt
+one_few (n ∷ []) h k = (omega (arith, k), tt)
+one_few (n ∷ m ∷ ns) h k = absurd (omega (arith, h))
+
+pub many_few : (ns : List ℕ) (n : ℕ) → ArePositive ns → n ≡ min (product ns) 4294967295 → nat_le n 65536 ≡ true → AreFew ns
+many_few ns n some e h = let small : n ≤ 65536 = grind (arith, nat_tests) in positive_few ns some (omega (arith, e, small))
 
 -- ---- how many components there are, where all sizes are given
 

@@ -1,4 +1,5 @@
 pub mod OpenedView
 pub mod Meeting
 pub mod Spans
+pub mod Positive
 pub mod Zipped

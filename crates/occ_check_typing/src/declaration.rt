@@ -24,7 +24,7 @@ use occ_check_names::operators::{is_same_type, primitive_of};
 use occ_check_names::scope::Scope;
 use occ_check_names::typed::Typed;
 use occ_held::Held;
-use occ_term::{Array, Declaration, Item, Primitive, Replicator, TermExpr};
+use occ_term::{Array, Declaration, Item, Primitive, Replicator, Sizes, TermExpr};
 use occ_tree_grammar::tree::expr::Expr;
 use occ_tree_grammar::tree::line::{OneOrMore, Replicator as ReplicatorTree, Sort, ValueType};
 use occ_tree_grammar::tree::process::Protocol as ProtocolTree;
@@ -134,14 +134,14 @@ impl Opened {
 }
 
 /// An array from its first on, or a single one.
-pub fn row_from(alloc: Global, first: u32, sizes: &[u32]) -> Result<Row, AllocError>
+pub fn row_from(alloc: Global, first: u32, sizes: &Sizes) -> Result<Row, AllocError>
     ensures { IfOk result (λ row. row_of row ≡ scopes.row_from first sizes.now) }
 {
     Ok(Row {
         first,
-        sizes: Items::from_slice(alloc, sizes)?,
+        sizes: sizes.copy(alloc)?,
         subscripts: Items::new(alloc),
-        left: Items::from_slice(alloc, sizes)?,
+        left: sizes.copy(alloc)?,
     })
 }
 
@@ -201,6 +201,7 @@ pub fn names_declared(
         Sort::Data(primitive) => {
             let primitive = primitive_of(*primitive);
             let sizes = sizes_of(alloc, scope, line, sizes)?;
+            let sizes = Sizes::new(alloc, sizes.as_slice())?;
             let names = names_of(alloc, names)?;
             once(alloc, line, names.as_slice())?;
             variables_declared(
@@ -209,17 +210,18 @@ pub fn names_declared(
                 line,
                 depth,
                 primitive,
-                sizes.as_slice(),
+                &sizes,
                 names.as_slice(),
             )
         }
         Sort::Channel(carried) => {
             let sizes = sizes_of(alloc, scope, line, sizes)?;
+            let sizes = Sizes::new(alloc, sizes.as_slice())?;
             let carried = Held::new(carried_by(alloc, scope, line, carried)?);
             let names = names_of(alloc, names)?;
             once(alloc, line, names.as_slice())?;
             let carried = &carried.value;
-            channels_declared(numbers, alloc, carried, sizes.as_slice(), names.as_slice())
+            channels_declared(numbers, alloc, carried, &sizes, names.as_slice())
         }
     }
 }
@@ -230,7 +232,7 @@ fn variables_declared(
     line: u32,
     depth: u32,
     primitive: Primitive,
-    sizes: &[u32],
+    sizes: &Sizes,
     names: &[Items<u8>],
 ) -> Result<Opened, CheckFault>
     ensures { Opens result numbers.new (meant.each_declared (meant.variable_declared depth primitive sizes.now) names.now (numbers_of numbers.old)) }
@@ -248,7 +250,7 @@ fn channels_declared(
     numbers: &mut Numbers,
     alloc: Global,
     carried: &Carried,
-    sizes: &[u32],
+    sizes: &Sizes,
     names: &[Items<u8>],
 ) -> Result<Opened, CheckFault>
     ensures { Opens result numbers.new (meant.each_declared (meant.channel_declared (carried_of carried.now) sizes.now) names.now (numbers_of numbers.old)) }
@@ -267,16 +269,16 @@ fn variable_declared(
     line: u32,
     depth: u32,
     primitive: Primitive,
-    sizes: &[u32],
+    sizes: &Sizes,
     name: &[u8],
 ) -> Result<Opened, CheckFault>
     ensures { Opens result numbers.new (meant.variable_declared depth primitive sizes.now name.now (numbers_of numbers.old)) }
 {
-    let first = numbers.more_cells(alloc, primitive, name, sizes)?;
+    let first = numbers.more_cells(alloc, primitive, name, sizes.as_slice())?;
     numbers.node(depth)?;
     let row = row_from(alloc, first, sizes)?;
     let known = Known::Cells(Access::Assignable, primitive, row);
-    let clearing = Declaration::Clearing(line, first, components(sizes));
+    let clearing = Declaration::Clearing(line, first, components(sizes.as_slice()));
     Ok(Opened::one_with(alloc, name, known, clearing)?)
 }
 
@@ -284,12 +286,12 @@ fn channel_declared(
     numbers: &mut Numbers,
     alloc: Global,
     carried: &Carried,
-    sizes: &[u32],
+    sizes: &Sizes,
     name: &[u8],
 ) -> Result<Opened, CheckFault>
     ensures { Opens result numbers.new (meant.channel_declared (carried_of carried.now) sizes.now name.now (numbers_of numbers.old)) }
 {
-    let first = numbers.more_channels(alloc, &carried.protocol, name, sizes)?;
+    let first = numbers.more_channels(alloc, &carried.protocol, name, sizes.as_slice())?;
     let row = row_from(alloc, first, sizes)?;
     let known = Known::Channels(carried.copy(alloc)?, row);
     Ok(Opened::one(alloc, name, known)?)
@@ -347,7 +349,7 @@ fn name_single(
                 depth,
                 name,
                 primitive,
-                Items::new(alloc),
+                Sizes::none(alloc),
                 value,
             )
         }
@@ -361,7 +363,7 @@ fn local_of(
     depth: u32,
     name: &[u8],
     primitive: Primitive,
-    sizes: Items<u32>,
+    sizes: Sizes,
     value: Item,
 ) -> Result<Opened, CheckFault>
     ensures { Opens result numbers.new (meant.local_of name.now depth primitive sizes (item_of value) (numbers_of numbers.old)) }
@@ -370,7 +372,7 @@ fn local_of(
     let first = numbers.more_cells(alloc, primitive, name, sizes.as_slice())?;
     let naming = Held::new(Declaration::Naming(line, first, value.into_inner()));
     count_declaration(numbers, depth, &naming.value)?;
-    let row = row_from(alloc, first, sizes.as_slice())?;
+    let row = row_from(alloc, first, &sizes)?;
     let known = Known::Cells(Access::Kept, primitive, row);
     Ok(Opened::one_with(alloc, name, known, naming.into_inner())?)
 }
@@ -480,12 +482,19 @@ pub fn protocol_declared(
     ensures { Opens result numbers.new (meant.protocol_declared (names_in scope.entry) (processes.protocol_of protocol.now) (numbers_of numbers.old)) }
 {
     let carried = protocol_of(alloc, scope, protocol)?;
-    let number = numbers.more_protocols()?;
+    let number = numbers.more_protocols(protocol_line(protocol))?;
     let known = Known::Protocol(Carried {
         declared: Some(number),
         protocol: carried,
     });
     Ok(Opened::one(alloc, protocol_name(protocol), known)?)
+}
+
+fn protocol_line(protocol: &ProtocolTree) -> u32 {
+    match protocol {
+        ProtocolTree::Parts(line, _, _) => *line,
+        ProtocolTree::Tags(line, _, _, _, _) => *line,
+    }
 }
 
 fn protocol_name(protocol: &ProtocolTree) -> &[u8]
@@ -524,7 +533,7 @@ pub fn index_replicator(
         count: count.into_inner(),
     });
     count_replicator(numbers, depth, &over.value)?;
-    let row = row_from(alloc, index, &[])?;
+    let row = row_from(alloc, index, &Sizes::none(alloc))?;
     let known = Known::Cells(Access::Kept, Primitive::Int, row);
     let name = Named::new(alloc, &replicator.name, known)?;
     Ok(Indexed {

@@ -1,14 +1,14 @@
 //! Expressions under a scope: their types, and what they unfold to.
 
-ghost use Rattle.std.specs.Prelude.{◌≡◌, ◌∷◌, [], IfErr, IfOk, IsTrue, None, map, pos};
+ghost use Rattle.std.specs.Prelude.{◌≡◌, ◌∷◌, [], IfOk, IsTrue, None, map, pos};
 ghost use Rattle.occ_tree_grammar.specs.Expressions.Trees as trees;
 ghost use Rattle.occ_term.specs.Messages.{is_of};
 ghost use Rattle.occ_term.specs.Terms.{Conversion};
 ghost use Rattle.occ_term.specs.View.{expression_of, subscripts};
 ghost use Rattle.occ_term.specs.declared.primitive.Primitive.TheVariants.{Bool as Boolean, Int};
 ghost use Rattle.occ_check_meaning.specs.Expressions as meant;
+ghost use Rattle.occ_check_meaning.specs.Scope.{keep};
 ghost use Rattle.occ_check_names.specs.View.{Gives, known_of, names_in, typed_of};
-ghost use Rattle.occ_check_names.specs.declared.fault.CheckFault.TheVariants.{Memory};
 
 pub use crate::reading::under;
 use crate::reading::{read, size_of_known};
@@ -310,7 +310,7 @@ pub fn typed_as(
 ///
 /// # Errors
 ///
-/// As `typed_as`, and `NotConstant`.
+/// As `typed_as`, `NotConstant`, and `WrongType` for a value outside the type.
 pub fn constant_as(
     alloc: Global,
     scope: Scope<'_, '_>,
@@ -319,29 +319,28 @@ pub fn constant_as(
     e: &Expr,
 ) -> Result<i64, CheckFault>
     ensures value { Gives (λ v. v) result (meant.constant_as (names_in scope.entry) line primitive (trees.expression_of e.now)) }
-    ensures range { IfOk result (λ v. IsTrue (is_of Int v)) }
+    ensures range { IfOk result (λ v. IsTrue (is_of primitive v)) }
 {
     let e = Held::new(typed_as(alloc, scope, line, primitive, e)?);
     match constant_of(&e.value) {
-        Some(value) => int_of(value),
+        Some(value) => within_type(line, primitive, value),
         None => Err(CheckFault::NotConstant { line }),
     }
 }
 
-/// A value that is an INT.
+/// A value that is in the type.
 ///
 /// # Errors
 ///
-/// `Memory` for any other, which no expression of a tree has.
-fn int_of(value: i64) -> Result<i64, CheckFault>
-    ensures value { IfOk result (λ v. v ≡ value) }
-    ensures range { IfOk result (λ v. IsTrue (is_of Int v)) }
-    ensures memory { IfErr result (λ e. e ≡ Memory) }
+/// `WrongType` for any other.
+fn within_type(line: u32, primitive: Primitive, value: i64) -> Result<i64, CheckFault>
+    ensures value { Gives (λ v. v) result (keep (is_of primitive value) value) }
+    ensures range { IfOk result (λ v. IsTrue (is_of primitive v)) }
 {
-    if has_type(Primitive::Int, value) {
+    if has_type(primitive, value) {
         Ok(value)
     } else {
-        Err(CheckFault::Memory)
+        Err(CheckFault::WrongType { line })
     }
 }
 

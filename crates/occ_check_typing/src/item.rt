@@ -1,6 +1,6 @@
 //! Variables and channels of a line, and what is output.
 
-ghost use Rattle.std.specs.Prelude.{◌≡◌, ◌∷◌, [], IfOk, Some, map};
+ghost use Rattle.std.specs.Prelude.{◌≡◌, ◌∷◌, [], IfOk, Some, map, nat_lt};
 ghost use Rattle.occ_tree_grammar.specs.Expressions.Trees as trees;
 ghost use Rattle.occ_tree_grammar.specs.Lines.Trees.{from};
 ghost use Rattle.occ_tree_grammar.specs.Lines.Views as lines;
@@ -10,6 +10,7 @@ ghost use Rattle.occ_term.specs.declared.primitive.Primitive.TheVariants.{Int};
 ghost use Rattle.occ_term.specs.declared.protocol.PartType.TheVariants.{One as OneOf, Many as ManyOf, Counted as CountedOf};
 ghost use Rattle.occ_check_meaning.specs.Expressions.{single};
 ghost use Rattle.occ_check_meaning.specs.Items as meant;
+ghost use Rattle.occ_check_meaning.specs.Scope.{keep};
 ghost use Rattle.occ_check_names.specs.View.{Gives, carried_of, known_of, names_in, part_of, row_of, typed_of};
 
 use crate::expression::{known_name, typed, typed_subscripts};
@@ -283,12 +284,15 @@ fn sent_list(
 ///
 /// # Errors
 ///
-/// `Protocol` where the protocol has no tags, `Tag` where it has not this one.
+/// `Protocol` where the protocol has no tags, `Tag` where it has not this one, or has it behind 2 to the 32 others.
 pub fn tag_in(line: u32, protocol: &Protocol, name: &[u8]) -> Result<u32, CheckFault>
     ensures { Gives (λ k. k) result (meant.tag_in protocol.now name.now) }
 {
     match protocol {
-        Protocol::Variant(tags) => tag_number(line, tags.as_slice(), name),
+        Protocol::Variant(tags) => match tag_number(tags.as_slice(), name) {
+            Some(number) => word_of(line, number),
+            None => Err(CheckFault::Tag { line }),
+        },
         Protocol::Simple(_, _) => Err(CheckFault::Protocol { line }),
         Protocol::CountedArray(_, _) => Err(CheckFault::Protocol { line }),
         Protocol::Sequential(_) => Err(CheckFault::Protocol { line }),
@@ -296,20 +300,32 @@ pub fn tag_in(line: u32, protocol: &Protocol, name: &[u8]) -> Result<u32, CheckF
 }
 
 /// The place of a tag among the tags.
-fn tag_number(line: u32, tags: &[Tag], name: &[u8]) -> Result<u32, CheckFault>
-    ensures { Gives (λ k. k) result (meant.tag_number tags.now name.now 0) }
+fn tag_number(tags: &[Tag], name: &[u8]) -> Option<usize>
+    ensures { result ≡ meant.tag_number tags.now name.now 0 }
 {
-    let mut number = 0_u32;
+    let mut number = 0;
     for tag in tags {
         if name == tag.name.as_slice() {
-            return Ok(number);
+            return Some(number);
         }
-        match number.checked_add(1) {
-            Some(next) => number = next,
-            None => return Err(CheckFault::Memory),
-        }
+        number += 1;
     }
-    Err(CheckFault::Tag { line })
+    None
+}
+
+/// A number below 2 to the 32.
+///
+/// # Errors
+///
+/// `Tag` for any other.
+fn word_of(line: u32, number: usize) -> Result<u32, CheckFault>
+    ensures { Gives (λ k. k) result (keep (nat_lt number 4294967296) number) }
+{
+    if number < 4_294_967_296 {
+        Ok(number as u32)
+    } else {
+        Err(CheckFault::Tag { line })
+    }
 }
 
 /// The parts that follow a tag, or those of a message without one.

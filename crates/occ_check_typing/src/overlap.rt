@@ -2,6 +2,7 @@
 
 ghost use Rattle.std.specs.Prelude.{◌≡◌, ◌<◌, ◌+◌, ◌*◌, ◌^◌, IfOk, IfSome, map, nat_lt};
 ghost use Rattle.occ_term.specs.Messages.{product};
+ghost use Rattle.occ_term.specs.Rows.{AreFew};
 ghost use Rattle.occ_term.specs.Uses.{constant_subscript, part_named};
 ghost use Rattle.occ_term.specs.View.{subscripts};
 ghost use Rattle.occ_check_meaning.specs.Calls as meant;
@@ -29,7 +30,7 @@ pub struct Span {
 ///
 /// # Errors
 ///
-/// A refused growth, and a row of more cells than a program may have.
+/// A refused growth.
 pub fn some_overlap(alloc: Global, names: &[Named]) -> Result<bool, AllocError>
     ensures { IfOk result (λ overlap. overlap ≡ meant.some_meet (meant.reference_spans (pairs_of names.now))) }
 {
@@ -43,7 +44,7 @@ fn reference_spans(alloc: Global, names: &[Named]) -> Result<Vec<Span>, AllocErr
     let mut spans = Vec::new(alloc);
     for named in names {
         if let Known::Cells(Access::Assignable, _, row) = &named.known {
-            spans.push(span_of(row)?)?;
+            spans.push(span_of(row))?;
         }
     }
     Ok(spans)
@@ -143,12 +144,13 @@ fn begins_in(a: Span, b: Span) -> bool
 }
 
 /// The cells that a row names with its constant subscripts.
-fn span_of(row: &Row) -> Result<Span, AllocError>
-    ensures { IfOk result (λ span. span_of span ≡ part_span (row_of row.now)) }
+fn span_of(row: &Row) -> Span
+    ensures { span_of result ≡ part_span (row_of row.now) }
 {
+    row.sizes.few();
     let whole = Span {
         first: u64::from(row.first),
-        count: all_components(row.sizes.as_slice())?,
+        count: u64::from(components(row.sizes.as_slice())),
     };
     part_named(
         row.subscripts.as_slice(),
@@ -158,32 +160,25 @@ fn span_of(row: &Row) -> Result<Span, AllocError>
     )
 }
 
-fn part_named(
-    under: &[Evaluated],
-    first: u64,
-    sizes: &[u32],
-    whole: Span,
-) -> Result<Span, AllocError>
-    requires { first + product sizes.now < 2 ^ 33 }
-    ensures { IfOk result (λ span. span_of span ≡ part_named (subscripts (map evaluated_of under.now)) first sizes.now (span_of whole)) }
+fn part_named(under: &[Evaluated], first: u64, sizes: &[u32], whole: Span) -> Span
+    requires few { AreFew sizes.now }
+    requires all { product sizes.now < 2 ^ 32 }
+    requires last { first + product sizes.now < 2 ^ 33 }
+    ensures { span_of result ≡ part_named (subscripts (map evaluated_of under.now)) first sizes.now (span_of whole) }
 {
-    match under.split_first() {
-        None => {
-            let count = all_components(sizes)?;
-            Ok(Span { first, count })
-        }
-        Some((subscript, rest)) => match sizes.split_first() {
-            None => Ok(whole),
-            Some((size, others)) => match index_within(*subscript, *size) {
-                None => Ok(whole),
-                Some(index) => {
-                    let count = all_components(others)?;
-                    let first = first_of_component(first, *size, index, count);
-                    part_named(rest, first, others, whole)
-                }
-            },
-        },
-    }
+    let Some((subscript, rest)) = under.split_first() else {
+        let count = u64::from(components(sizes));
+        return Span { first, count };
+    };
+    let Some((size, others)) = sizes.split_first() else {
+        return whole;
+    };
+    let Some(index) = index_within(*subscript, *size) else {
+        return whole;
+    };
+    let count = u64::from(components(others));
+    let first = first_of_component(first, *size, index, count);
+    part_named(rest, first, others, whole)
 }
 
 /// The first cell of a component with so many cells, in an array of so many of them.
@@ -211,22 +206,5 @@ pub fn index_within(subscript: Evaluated, size: u32) -> Option<u32>
             }
         }
         Evaluated::Cell(_, _) => None,
-    }
-}
-
-/// How many components an array of these sizes has.
-///
-/// # Errors
-///
-/// More than a program may have.
-pub fn all_components(sizes: &[u32]) -> Result<u64, AllocError>
-    ensures product { IfOk result (λ all. all ≡ product sizes.now) }
-    ensures small { IfOk result (λ all. all < 4294967296) }
-{
-    let count = components(sizes);
-    if count < 4_294_967_295 {
-        Ok(u64::from(count))
-    } else {
-        Err(AllocError)
     }
 }

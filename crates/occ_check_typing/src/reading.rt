@@ -1,6 +1,7 @@
 //! Names under subscripts.
 
 ghost use Rattle.std.specs.Prelude.{◌≡◌, ◌∷◌, [], IfOk, Some, map, pos};
+ghost use Rattle.occ_term.specs.Rows.{AreFew};
 ghost use Rattle.occ_term.specs.Terms.{no_subscripts, then_subscript};
 ghost use Rattle.occ_term.specs.View.{expression_of, subscripts};
 ghost use Rattle.occ_term.specs.declared.primitive.Primitive.TheVariants.{Int};
@@ -16,8 +17,7 @@ use occ_check_names::literal::whole_string;
 use occ_check_names::typed::{Part, Typed};
 use occ_held::Held;
 use occ_held::parts::{Listed, Nested};
-use occ_term::{Array, Place, Primitive, TermExpr, Text};
-use sqlite_items::Items;
+use occ_term::{Array, Place, Primitive, Sizes, TermExpr, Text};
 use std::alloc::{AllocError, Global};
 
 /// The sizes that subscripts leave.
@@ -30,7 +30,9 @@ fn left_by<'a>(
     under_these: &[TermExpr],
     sizes: &'a [u32],
 ) -> Result<&'a [u32], CheckFault>
-    ensures { Gives (λ left. left.now) result (meant.left_by (subscripts (map expression_of under_these.now)) sizes.now) }
+    requires few { AreFew sizes.now }
+    ensures left { Gives (λ left. left.now) result (meant.left_by (subscripts (map expression_of under_these.now)) sizes.now) }
+    ensures few { IfOk result (λ left. AreFew left.now) }
 {
     let mut left = sizes;
     for subscript in under_these {
@@ -48,7 +50,9 @@ fn left_by_one<'a>(
     subscript: &TermExpr,
     sizes: &'a [u32],
 ) -> Result<&'a [u32], CheckFault>
-    ensures { Gives (λ left. left.now) result (meant.left_by (subscripts (expression_of subscript.now ∷ [])) sizes.now) }
+    requires few { AreFew sizes.now }
+    ensures left { Gives (λ left. left.now) result (meant.left_by (subscripts (expression_of subscript.now ∷ [])) sizes.now) }
+    ensures few { IfOk result (λ left. AreFew left.now) }
 {
     match sizes.split_first() {
         None => Err(CheckFault::WrongType { line }),
@@ -76,9 +80,10 @@ pub fn under(
     ensures part { Gives part_of result (meant.under (row_of row.now) (subscripts (map expression_of under_these))) }
     ensures line { IfOk result (λ part. part.place.line ≡ line) }
 {
+    row.left.few();
     let left = left_by(line, under_these.as_slice(), row.left.as_slice())?;
-    let left = Items::from_slice(alloc, left)?;
-    let sizes = Items::from_slice(alloc, row.sizes.as_slice())?;
+    let left = Sizes::new(alloc, left)?;
+    let sizes = row.sizes.copy(alloc)?;
     let subscripts = joined(alloc, row, under_these)?;
     let place = Place {
         line,
@@ -223,6 +228,7 @@ pub fn size_of_known(line: u32, known: &Known, under_these: &[TermExpr]) -> Resu
 fn size_of_row(line: u32, row: &Row, under_these: &[TermExpr]) -> Result<u64, CheckFault>
     ensures { Gives (λ n. n) result (meant.size_of_known (some_cells kept Int (row_of row.now)) (subscripts (map expression_of under_these.now))) }
 {
+    row.left.few();
     let left = left_by(line, under_these, row.left.as_slice())?;
     match left.first() {
         Some(size) => Ok(u64::from(*size)),

@@ -1,16 +1,18 @@
 //! Sizes, parts of messages, and protocols.
 
-ghost use Rattle.std.specs.Prelude.{◌≡◌, ◌∷◌, IfOk, IsTrue, Some, map, min, option_map};
+ghost use Rattle.std.specs.Prelude.{◌≡◌, ◌∷◌, IfOk, IsTrue, Some, map, min, option_map, true};
 ghost use Rattle.occ_tree_grammar.specs.Expressions.Trees as trees;
 ghost use Rattle.occ_tree_grammar.specs.Lines.Trees.{given};
 ghost use Rattle.occ_tree_grammar.specs.Lines.Views as lines;
 ghost use Rattle.occ_tree_grammar.specs.Processes.Views as processes;
 ghost use Rattle.occ_term.specs.Messages.{is_of, simple_part};
+ghost use Rattle.occ_term.specs.Rows.{AreFew};
 ghost use Rattle.occ_term.specs.declared.primitive.Primitive.TheVariants.{Int};
 ghost use Rattle.occ_check_meaning.specs.Constants as constants;
 ghost use Rattle.occ_check_meaning.specs.Scope.{each_of, keep, once};
 ghost use Rattle.occ_check_meaning.specs.Types as meant;
 ghost use Rattle.occ_check_names.specs.View.{Gives, carried_of, known_of, names_in};
+ghost use Rattle.occ_check_typing.specs.Positive.{ArePositive};
 
 use crate::declaration::once as names_once;
 use crate::expression::{constant_as, known_name};
@@ -42,7 +44,8 @@ pub fn sizes_of(
     line: u32,
     sizes: &[Expr],
 ) -> Result<Items<u32>, CheckFault>
-    ensures { Gives (λ sizes. sizes) result (meant.sizes_of (names_in scope.entry) line (trees.expressions (map trees.expression_of sizes.now))) }
+    ensures sizes { Gives (λ sizes. sizes) result (meant.sizes_of (names_in scope.entry) line (trees.expressions (map trees.expression_of sizes.now))) }
+    ensures few { IfOk result (λ sizes. AreFew sizes) }
 {
     let sizes = each_size(alloc, scope, line, sizes)?;
     not_too_large(sizes)
@@ -95,7 +98,9 @@ fn a_size(line: u32, value: i64) -> Result<u32, CheckFault>
 
 /// One size, or several that do not multiply to more than there may be cells.
 fn not_too_large(sizes: Items<u32>) -> Result<Items<u32>, CheckFault>
-    ensures { Gives (λ sizes. sizes) result (meant.not_too_large sizes) }
+    requires { ArePositive sizes }
+    ensures sizes { Gives (λ sizes. sizes) result (meant.not_too_large sizes) }
+    ensures few { IfOk result (λ sizes. AreFew sizes) }
 {
     if are_few(sizes.as_slice()) {
         Ok(sizes)
@@ -106,7 +111,9 @@ fn not_too_large(sizes: Items<u32>) -> Result<Items<u32>, CheckFault>
 
 /// Whether there is at most one size, or several do not multiply to more than there may be cells.
 fn are_few(sizes: &[u32]) -> bool
-    ensures { meant.not_too_large sizes.now ≡ keep result sizes.now }
+    requires { ArePositive sizes.now }
+    ensures kept { meant.not_too_large sizes.now ≡ keep result sizes.now }
+    ensures few { result ≡ true → AreFew sizes.now }
 {
     match sizes {
         [] => true,

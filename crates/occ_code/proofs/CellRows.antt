@@ -1,6 +1,6 @@
 -- The cells of a process: the ends of rows, and the numbers that are reached.
 use Rattle.std.specs.Prelude.{nat_eq, nat_le, nat_lt, set, max, replicate, ◌&&◌, ◌||◌, if◌then◌else◌}
-use Rattle.std.proofs.Common.{◌≡◌, ℕ, zero, suc, ◌+◌, ◌<◌, ◌≤◌, Bool, true, false, IsTrue, List, [], ◌∷◌, ◌++◌, drop, get_or, length, refl, sym, ap, ◌∙◌, subst, arith, length-append, length-set}
+use Rattle.std.proofs.Common.{◌≡◌, ℕ, zero, suc, ◌+◌, ◌-◌, ◌<◌, ◌≤◌, Bool, true, false, IsTrue, List, [], ◌∷◌, ◌++◌, drop, get_or, length, refl, sym, ap, ◌∙◌, subst, arith, length-append, length-set}
 use Rattle.std.proofs.Math.Seq.{drop-cons}
 use Rattle.std.proofs.lemmas.Bool.Decides.{nat_tests}
 use Rattle.occ_term.specs.Uses.{Numbers}
@@ -11,6 +11,7 @@ use Rattle.occ_usage.specs.declared.noted.Kind.{Kind}
 use Rattle.occ_usage.specs.declared.noted.Kind.TheVariants.{Read, Write, Input, Output}
 use Rattle.occ_code.proofs.Emitting.{drop_all}
 use Rattle.occ_code.specs.Alike.{AreAbove, IsRising, Lists}
+use Rattle.occ_code.specs.Sequential.Within.{AreWithin}
 use Rattle.occ_code.specs.Sequential.Cells.{is_counted, counted, covers, end_of, furthest, reach, AreEnds, AreReached}
 
 -- ---- tests of numbers
@@ -235,3 +236,35 @@ furthest_next us i k one d writes_only e lt is h m =
 
 pub no_uses : (us : List Use) (i : ℕ) (writes_only : Bool) (es : List ℕ) (count : ℕ) → length us ≤ i → AreEnds es count (covers writes_only []) → AreEnds es count (covers writes_only (drop i us))
 no_uses us i writes_only es count h ends = subst (λ l. AreEnds es count (covers writes_only l)) (sym (drop_all us i h)) ends
+
+-- ---- where no number is past the limit, the furthest end is within it
+
+covers_first : (u : Use) (us : List Use) (writes_only : Bool) → AreWithin (covers writes_only (u ∷ us)) → (b : Bool) → (is_counted writes_only u.kind && nat_lt u.first u.end) ≡ b → (if b then u.end else 0) ≤ 65536
+covers_first u us writes_only h true e =
+    let counts : is_counted writes_only u.kind ≡ true = first_true (is_counted writes_only u.kind) (nat_lt u.first u.end) e in
+    let some : nat_lt u.first u.end ≡ true = second_true (is_counted writes_only u.kind) (nat_lt u.first u.end) e in
+    let lt : u.first < u.end = grind (arith, nat_tests) in
+    let begun : nat_le u.first (u.end - 1) ≡ true = grind (arith, nat_tests) in
+    let last : nat_lt (u.end - 1) u.end ≡ true = grind (arith, nat_tests) in
+    let there : IsTrue (covers writes_only (u ∷ us) (u.end - 1)) = rw (counts, begun, last) refl in
+    let below = h (u.end - 1) there in
+    omega (arith, below, lt)
+  where
+    first_true : (a b : Bool) → (a && b) ≡ true → a ≡ true
+    first_true true b h = refl
+    first_true false b h = absurd cc
+
+    second_true : (a b : Bool) → (a && b) ≡ true → b ≡ true
+    second_true true b h = h
+    second_true false b h = absurd cc
+covers_first u us writes_only h false e = omega arith
+
+pub furthest_within : (us : List Use) (writes_only : Bool) → AreWithin (covers writes_only us) → furthest writes_only us ≤ 65536
+furthest_within [] writes_only h = omega arith
+furthest_within (u ∷ us) writes_only h =
+    let one = covers_first u us writes_only h (is_counted writes_only u.kind && nat_lt u.first u.end) refl in
+    let others = furthest_within us writes_only (λ c m. h c (or_second (is_counted writes_only u.kind && between u.first u.end c) (covers writes_only us c) m)) in
+    omega (arith, one, others)
+
+pub uses_furthest : (us : List Use) (writes_only : Bool) → AreWithin (counted writes_only (uses_in us)) → furthest writes_only us ≤ 65536
+uses_furthest us writes_only h = furthest_within us writes_only (λ c m. h c (subst IsTrue (covers_all us writes_only c) m))

@@ -1,5 +1,5 @@
 -- The bodies of a term's processes keep what the code of a program promises.
-use Rattle.std.specs.Prelude.{All, min, reverse, ⊤}
+use Rattle.std.specs.Prelude.{All, min, reverse, slice_get, Option, Some, None, ⊤}
 use Rattle.std.proofs.Common.{◌≤◌, ◌<◌, ◌+◌, ◌*◌, ℕ, zero, suc, map, length, ◌≡◌, ◌++◌, ◌∷◌, [], List, ◌∙◌, refl, sym, ap, subst, arith, append_assoc, append-nil}
 use Rattle.std.proofs.lemmas.List.{length-map, map-append, reverse-append}
 use Rattle.occ_term.specs.Terms.{Term, Skip, Stop, Assign, Input, Output, VariantInput, Seq, Par, Alt, If, Case, While, Each, Clear, Local, Terms, no_terms, then_term, Branches, no_branches, and_branch, Arms, no_arms, skip_arm, input_arm, declared_arms, each_arm, Reception, Plain, Tagged, Variants, no_variants, or_variant, Choices, no_choices, or_choice, declared_choices, each_choice, Options, no_options, or_option, or_else}
@@ -17,6 +17,8 @@ use Rattle.occ_code.specs.Sequential.Emitted.{instructions_of, whole_code}
 use Rattle.occ_code.specs.Sequential.Compiled.{AddsBodies, AllDo, AreBodiesOf, IsCompiledFrom, IsQuantum, CodeRefuses, IsBodyOf, IsRefused, instructions_in, most_instructions}
 use Rattle.occ_code.specs.declared.compiler.code.CodeFault.{CodeFault}
 use Rattle.occ_code.specs.declared.compiler.code.CodeFault.TheVariants.{TooLarge, BadQuantum, Memory}
+use Rattle.occ_code.specs.Sequential.Within.{AllWithin, KeepsWithin}
+use Rattle.occ_code.proofs.UsedCells.{keeps_within}
 use Rattle.occ_code.proofs.SequentialLayout.{compiled_do}
 use Rattle.occ_code.proofs.SequentialSizes.{programs_are_small}
 
@@ -106,6 +108,23 @@ of_quantum (p ∷ ps) quantum [] h k d within = absurd h
 of_quantum (p ∷ ps) quantum (b ∷ bs) h zero d within = ap (λ x. x.quantum) h.0.is
 of_quantum (p ∷ ps) quantum (b ∷ bs) h (suc k) d within = of_quantum ps quantum bs h.1 k d (omega (arith, within))
 
+-- ---- no process uses a cell past the limit
+
+there_below : {A : Type 0} (xs : List A) (c : ℕ) (x : A) → slice_get xs c ≡ Some x → c < length xs
+there_below [] zero x h = absurd cc
+there_below [] (suc c) x h = absurd cc
+there_below (y ∷ ys) zero x h = omega arith
+there_below (y ∷ ys) (suc c) x h = let lt = there_below ys c x h in omega (arith, lt)
+
+all_keep : (d : Declared) → ((c : ℕ) (t : Primitive) → d.types c ≡ Some t → c < 65536) → (ps : List Numbered) → AllCompile d ps → AllWithin ps
+all_keep d known [] h = tt
+all_keep d known (p ∷ ps) h = (keeps_within d known p.term h.0, all_keep d known ps h.1)
+
+pub all_within : (u : Unfolding) → IsWellFormed u → AllWithin (processes_of (meaning u))
+all_within u well =
+    let known : (c : ℕ) (t : Primitive) → (declared u).types c ≡ Some t → c < 65536 = λ c t h. (let lt = there_below (map (λ x. x.primitive) u.cells) c t h in omega (arith, lt, length-map u.cells (λ x. x.primitive), well.few_cells)) in
+    all_keep (declared u) known (processes_of (meaning u)) (well.typed, within (declared u) (meaning u) well.typed)
+
 pub compiled_as : (u : Unfolding) (quantum : ℕ) (bodies : List Body) (channels : List Channel) (errors : Errors) → IsWellFormed u → IsQuantum quantum → AreBodiesOf (processes_of (meaning u)) quantum bodies
     → instructions_in bodies ≤ most_instructions → channels ≡ u.channels → IsCompiledFrom u quantum (record { bodies = bodies; channels = channels; errors = errors })
 compiled_as u quantum bodies channels errors well between h small same =
@@ -152,7 +171,10 @@ map-reverse f [] = refl
 map-reverse f (x ∷ xs) = ap (map f) (reverse-append (x ∷ []) xs) ∙ map-append f (reverse xs) (x ∷ []) ∙ ap (λ l. l ++ f x ∷ []) (map-reverse f xs) ∙ sym (reverse-append (f x ∷ []) (map f xs))
 
 pub adds_none : (quantum : ℕ) (a : List Body) → AddsBodies quantum a [] a
-adds_none quantum a = record { more = []; added = sym (append-nil a); are = tt }
+adds_none quantum a = record { more = []; added = sym (append-nil a); are = λ all. tt }
+
+pub adds_one : {quantum : ℕ} (a b : List Body) (x : Body) (p : Numbered) → b ≡ a ++ x ∷ [] → (KeepsWithin p.term → IsBodyOf p.term quantum x) → AddsBodies quantum a (p ∷ []) b
+adds_one {quantum} a b x p e h = record { more = x ∷ []; added = e; are = λ all. (h all.0, tt) }
 
 bodies_then : (ps qs : List Numbered) (quantum : ℕ) (cs bs : List Body) → AreBodiesOf ps quantum cs → AreBodiesOf qs quantum bs → AreBodiesOf (ps ++ qs) quantum (cs ++ bs)
 bodies_then [] qs quantum [] bs h k = k
@@ -160,17 +182,25 @@ bodies_then [] qs quantum (c ∷ cs) bs h k = absurd h
 bodies_then (p ∷ ps) qs quantum [] bs h k = absurd h
 bodies_then (p ∷ ps) qs quantum (c ∷ cs) bs h k = (h.0, bodies_then ps qs quantum cs bs h.1 k)
 
+within_first : (ps qs : List Numbered) → AllWithin (ps ++ qs) → AllWithin ps
+within_first [] qs h = tt
+within_first (p ∷ ps) qs h = (h.0, within_first ps qs h.1)
+
+within_second : (ps qs : List Numbered) → AllWithin (ps ++ qs) → AllWithin qs
+within_second [] qs h = h
+within_second (p ∷ ps) qs h = within_second ps qs h.1
+
 pub adds_then : {quantum : ℕ} {a b c : List Body} {ps qs : List Numbered} → AddsBodies quantum a ps b → AddsBodies quantum b qs c → AddsBodies quantum a (qs ++ ps) c
 adds_then {quantum} {a} {b} {c} {ps} {qs} x y =
     record {
       more = x.more ++ y.more;
       added = y.added ∙ ap (λ l. l ++ y.more) x.added ∙ append_assoc a x.more y.more;
-      are = subst (λ l. AreBodiesOf (qs ++ ps) quantum l) (sym (reverse-append x.more y.more)) (bodies_then qs ps quantum (reverse y.more) (reverse x.more) y.are x.are);
+      are = λ all. subst (λ l. AreBodiesOf (qs ++ ps) quantum l) (sym (reverse-append x.more y.more)) (bodies_then qs ps quantum (reverse y.more) (reverse x.more) (y.are (within_first qs ps all)) (x.are (within_second qs ps all)));
     }
 
 pub adds_as : {quantum : ℕ} {a b : List Body} {ps qs : List Numbered} → AddsBodies quantum a ps b → ps ≡ qs → AddsBodies quantum a qs b
-adds_as {quantum} x e = record { more = x.more; added = x.added; are = subst (λ rs. AreBodiesOf rs quantum (reverse x.more)) e x.are }
+adds_as {quantum} x e = record { more = x.more; added = x.added; are = subst (λ rs. AllWithin rs → AreBodiesOf rs quantum (reverse x.more)) e x.are }
 
 -- from none
-pub added_bodies : {quantum : ℕ} {b : List Body} {ps : List Numbered} → AddsBodies quantum [] ps b → AreBodiesOf ps quantum (reverse b)
-added_bodies {quantum} {b} {ps} x = subst (λ l. AreBodiesOf ps quantum (reverse l)) (sym x.added) x.are
+pub added_bodies : {quantum : ℕ} {b : List Body} {ps : List Numbered} → AddsBodies quantum [] ps b → AllWithin ps → AreBodiesOf ps quantum (reverse b)
+added_bodies {quantum} {b} {ps} x all = subst (λ l. AreBodiesOf ps quantum (reverse l)) (sym x.added) (x.are all)

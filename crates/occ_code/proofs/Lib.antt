@@ -24,3 +24,4 @@ mod PlacedInstrs
 mod CompilingTerms
 pub mod OneCode
 mod SameCode
+mod UsedCells

@@ -1,4 +1,5 @@
 pub mod Machine
+pub mod Quick
 pub mod Expressions
 pub mod Laws
 pub mod Layout
@@ -7,4 +8,5 @@ pub mod Emitted
 pub mod Examples
 pub mod View
 pub mod Cells
+pub mod Within
 pub mod Compiled

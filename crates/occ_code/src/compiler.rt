@@ -10,9 +10,11 @@ pub mod instr;
 mod pieces;
 mod places;
 mod processes;
+pub mod quick;
 mod same_code;
 mod statements;
 
 pub use body::Body;
 pub use code::{Code, CodeFault, MOST_INSTRUCTIONS, MOST_QUANTUM, compile, compile_for};
 pub use instr::Instr;
+pub use quick::Quick;

@@ -4,6 +4,6 @@
 #![tactic(auto)]
 
 mod constant;
-mod operator;
+pub mod operator;
 
 pub use constant::{is_constant, value_of_constant};

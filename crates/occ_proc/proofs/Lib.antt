@@ -2,3 +2,4 @@ pub mod Messages
 pub mod Stacks
 pub mod Walking
 pub mod Moving
+pub mod Quickly

@@ -7,6 +7,7 @@ mod common;
 mod counting;
 mod operators;
 mod parts;
+mod quick;
 pub mod scratch;
 pub mod segment;
 mod spots;

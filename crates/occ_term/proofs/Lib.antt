@@ -25,3 +25,4 @@ pub mod AltRuns
 pub mod AgainSame
 pub mod AllOpened
 pub mod Components
+pub mod Few

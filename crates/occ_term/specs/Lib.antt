@@ -30,4 +30,5 @@ pub mod MoreRows
 pub mod AltRows
 pub mod Again
 pub mod Parts
+pub mod Rows
 pub mod Names

@@ -1,9 +1,9 @@
 //! Expressions, and what is named, output, assigned and set by them.
 
 use crate::primitive::Primitive;
+use crate::sizes::Sizes;
 use crate::text::Text;
 use occ_held::parts::{Listed, Nested};
-use sqlite_items::Items;
 
 /// An operator with two operands, both of which are evaluated.
 #[derive(Clone, Copy)]
@@ -113,7 +113,7 @@ pub struct Place {
     /// The number of its first cell, or of its first channel.
     pub first: u32,
     /// The sizes of the whole array: none for a single variable or channel.
-    pub sizes: Items<u32>,
+    pub sizes: Sizes,
     /// The subscripts, in order.
     pub subscripts: Listed<TermExpr>,
 }

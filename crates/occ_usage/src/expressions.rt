@@ -79,7 +79,7 @@ fn note_cell(line: u32, cell: u32, noted: &mut Noted) -> Result<(), AllocError>
 fn note_named(kind: Kind, place: &Place, noted: &mut Noted) -> Result<(), AllocError>
     ensures { IfOk result (λ _. Adds noted.old.uses (use_of kind (named_by (place_of place.now))) noted.new.uses) }
 {
-    let row = named(place)?;
+    let row = named(place);
     note_row(kind, place.line, row.first, row.count, noted)?;
     Ok(())
 }
@@ -194,7 +194,7 @@ pub fn note_naming(line: u32, first: u32, value: &Item, noted: &mut Noted) -> Re
     ensures { IfOk result (λ _. Adds noted.old.uses (uses_of_declaration (Naming first (item_of value.now))) noted.new.uses) }
 {
     note_item(value, noted)?;
-    let count = cells_of(value)?;
+    let count = cells_of(value);
     note_row(Kind::Write, line, u64::from(first), count, noted)?;
     Ok(())
 }

@@ -1,5 +1,5 @@
 //! Which cells or channels a place names.
-ghost use Rattle.std.specs.Prelude.{◌≡◌, ◌+◌, ◌≤◌, ◌<◌, ◌^◌, IfOk};
+ghost use Rattle.std.specs.Prelude.{◌≡◌, ◌+◌, ◌≤◌, ◌<◌, ◌^◌};
 ghost use Rattle.occ_term.specs.Messages.{product};
 ghost use Rattle.occ_term.specs.Values.{span, Value};
 ghost use Rattle.occ_term.specs.Uses.{constant_subscript, cells_of_item, components_of};
@@ -10,7 +10,6 @@ ghost use Rattle.occ_term.specs.Terms as terms;
 
 use occ_constants::{is_constant, value_of_constant};
 use occ_term::{Array, Item, Place, TermExpr};
-use std::alloc::AllocError;
 
 /// Numbers in a row.
 #[derive(Clone, Copy)]
@@ -22,27 +21,28 @@ pub struct Row {
 }
 
 /// What the place names: with a constant subscript its components alone.
-pub fn named(place: &Place) -> Result<Row, AllocError>
-    ensures named { IfOk result (λ row. span_named (place_of place.now) ≡ span row.first row.count) }
-    ensures bound { IfOk result (λ row. row.first + row.count < 2 ^ 33) }
+pub fn named(place: &Place) -> Row
+    ensures named { span_named (place_of place.now) ≡ span result.first result.count }
+    ensures bound { result.first + result.count < 2 ^ 33 }
 {
+    place.sizes.few();
     let whole = Row {
         first: u64::from(place.first),
-        count: components(place.sizes.as_slice())?,
+        count: components(place.sizes.as_slice()),
     };
     let mut row = whole;
     let mut sizes = place.sizes.as_slice();
     for subscript in place.subscripts.as_slice() {
         let Some((size, others)) = sizes.split_first() else {
-            return Ok(whole);
+            return whole;
         };
         let Some(part) = component(row, subscript, *size) else {
-            return Ok(whole);
+            return whole;
         };
         row = part;
         sizes = others;
     }
-    Ok(row)
+    row
 }
 
 /// The part of a row that a constant subscript names.
@@ -85,52 +85,50 @@ fn within(value: i64, size: u32) -> Option<u32>
 }
 
 /// How many components an array with these sizes has.
-fn components(sizes: &[u32]) -> Result<u64, AllocError>
-    ensures { IfOk result (λ all. (all ≡ product sizes.now) × (all < 2 ^ 32)) }
+fn components(sizes: &[u32]) -> u64
+    requires { product sizes.now < 2 ^ 32 }
+    ensures all { result ≡ product sizes.now }
+    ensures small { result < 2 ^ 32 }
 {
     let mut all = 1u64;
     for size in sizes {
         all = all.saturating_mul(u64::from(*size));
     }
-    if all < 4_294_967_296 {
-        Ok(all)
-    } else {
-        Err(AllocError)
-    }
+    all
 }
 
 /// How many cells a named value has.
-pub fn cells_of(value: &Item) -> Result<u64, AllocError>
-    ensures cells { IfOk result (λ cells. cells ≡ cells_of_item (item_of value.now)) }
-    ensures small { IfOk result (λ cells. cells < 2 ^ 32) }
+pub fn cells_of(value: &Item) -> u64
+    ensures cells { result ≡ cells_of_item (item_of value.now) }
+    ensures small { result < 2 ^ 32 }
 {
     match value {
-        Item::One(_, _) => Ok(1),
+        Item::One(_, _) => 1,
         Item::Many(_, array) => cells_of_array(array),
         Item::Counted(_, _, _, array) => cells_of_array(array),
     }
 }
 
-fn cells_of_array(array: &Array) -> Result<u64, AllocError>
-    ensures cells { IfOk result (λ cells. cells ≡ components_of (array_of array.now)) }
-    ensures small { IfOk result (λ cells. cells < 2 ^ 32) }
+fn cells_of_array(array: &Array) -> u64
+    ensures cells { result ≡ components_of (array_of array.now) }
+    ensures small { result < 2 ^ 32 }
 {
     match array {
         Array::Cells(place) => cells_of_place(place),
-        Array::Text(text) => Ok(u64::from(text.len())),
+        Array::Text(text) => u64::from(text.len()),
     }
 }
 
-fn cells_of_place(place: &Place) -> Result<u64, AllocError>
-    ensures cells { IfOk result (λ cells. cells ≡ components_of (terms.Cells (place_of place.now))) }
-    ensures small { IfOk result (λ cells. cells < 2 ^ 32) }
+fn cells_of_place(place: &Place) -> u64
+    ensures cells { result ≡ components_of (terms.Cells (place_of place.now)) }
+    ensures small { result < 2 ^ 32 }
 {
+    place.sizes.few();
     let sizes = place.sizes.as_slice();
     let subscripts = place.subscripts.len();
     if subscripts < sizes.len() {
-        let cells = components(&sizes[subscripts..])?;
-        Ok(cells)
+        components(&sizes[subscripts..])
     } else {
-        Ok(1)
+        1
     }
 }

@@ -6,7 +6,9 @@ ghost use Rattle.occ_term.specs.declared.term.Term.TheVariants as terms;
 ghost use Rattle.rows_layers.specs.SmallPrograms.{IsPlain, letter_on, par_of_none, stops_in_sequence};
 
 use occ_held::parts::Listed;
-use occ_term::{Cell, Channel, Item, Name, Place, Primitive, Protocol, Term, TermExpr, Unfolded};
+use occ_term::{
+    Cell, Channel, Item, Name, Place, Primitive, Protocol, Sizes, Term, TermExpr, Unfolded,
+};
 use sqlite_items::Items;
 use std::alloc::{AllocError, Global};
 
@@ -55,7 +57,7 @@ fn letter_term(alloc: Global, channel: u32) -> Result<Term, AllocError>
     let place = Place {
         line: 4,
         first: channel,
-        sizes: Items::new(alloc),
+        sizes: Sizes::none(alloc),
         subscripts: Listed::new(alloc),
     };
     let mut items = Items::new(alloc);

@@ -24,9 +24,9 @@ abbrev pub covers : Bool → List Use → Numbers
 covers writes_only [] c = false
 covers writes_only (u ∷ us) c = (is_counted writes_only u.kind && between u.first u.end c) || covers writes_only us c
 
--- the end of a use that is counted
+-- the end of a use that is counted and has a number
 abbrev pub end_of : Bool → Use → ℕ
-end_of writes_only u = if is_counted writes_only u.kind then u.end else 0
+end_of writes_only u = if is_counted writes_only u.kind && nat_lt u.first u.end then u.end else 0
 
 -- the furthest of them
 abbrev pub furthest : Bool → List Use → ℕ

@@ -13,6 +13,7 @@ use Rattle.occ_code.specs.Alike.{Lists, used_by}
 use Rattle.occ_code.specs.Sequential.Machine.{Body}
 use Rattle.occ_code.specs.Sequential.Alike.{DoesAs}
 use Rattle.occ_code.specs.Sequential.Emitted.{body_of, instructions_of}
+use Rattle.occ_code.specs.Sequential.Within.{AllWithin}
 use Rattle.occ_code.specs.declared.compiler.code.CodeFault.{CodeFault}
 use Rattle.occ_code.specs.declared.compiler.code.CodeFault.TheVariants.{TooLarge, BadQuantum, Memory}
 
@@ -88,11 +89,11 @@ CodeRefuses Memory quantum u = IsQuantum quantum
 
 -- ---- private contracts alone cite what follows
 
--- Bodies were added for these processes, the one of the last process first.
+-- Bodies were added for these processes, the one of the last process first; they are theirs where no cell is past the limit.
 pub record AddsBodies (quantum : ℕ) (before : List Body) (ps : List Numbered) (after : List Body) : Type 0 where
   pub more : List Body
   pub added : after ≡ before ++ more
-  pub are : AreBodiesOf ps quantum (reverse more)
+  pub are : AllWithin ps → AreBodiesOf ps quantum (reverse more)
 
 abbrev pub IsRefused : CodeFault → Term → Type 0
 IsRefused TooLarge t = most_instructions < instructions_of (processes_of t)

@@ -4,6 +4,7 @@ ghost use Rattle.occ_usage.specs.Noted.{uses_in};
 ghost use Rattle.occ_usage.specs.declared.noted.Use.{Use};
 ghost use Rattle.occ_code.specs.Alike.{Lists};
 ghost use Rattle.occ_code.specs.Sequential.Cells.{AreEnds, AreReached, counted, covers, end_of, furthest, is_counted as is_counted_use};
+ghost use Rattle.occ_code.specs.Sequential.Within.{AreWithin};
 
 use occ_usage::{Kind, Use};
 use std::alloc::{AllocError, Global};
@@ -11,19 +12,19 @@ use std::alloc::{AllocError, Global};
 /// How many cells a program may have.
 const MOST_CELLS: usize = 65_536;
 
-/// The cells that are written, or also those that are read, rising. The error is a refused growth, or
-/// that of a cell past the limit.
+/// The cells that are written, or also those that are read, rising. They are all where none is past the limit, as in every
+/// well-formed program. The error is a refused growth.
 pub(crate) fn rising_cells(
     alloc: Global,
     uses: &[Use],
     writes_only: bool,
 ) -> Result<Vec<u32>, AllocError>
-    ensures lists { IfOk result (λ xs. Lists xs.items (counted writes_only (uses_in uses.now))) }
+    ensures lists { IfOk result (λ xs. AreWithin (counted writes_only (uses_in uses.now)) → Lists xs.items (counted writes_only (uses_in uses.now))) }
     ensures few { IfOk result (λ xs. length xs.items ≤ 65536) }
 {
     let count = furthest_end(uses, writes_only);
     if count > MOST_CELLS {
-        return Err(AllocError);
+        return Ok(Vec::new(alloc));
     }
     let ends = ends_of(alloc, uses, writes_only, count)?;
     let cells = reached(alloc, &ends)?;
@@ -41,7 +42,7 @@ fn is_counted(kind: Kind, writes_only: bool) -> bool
     }
 }
 
-/// The furthest end of a use that is counted. It says how long a table has to be.
+/// The furthest end of a use that is counted and has a number. It says how long a table has to be.
 fn furthest_end(uses: &[Use], writes_only: bool) -> usize
     ensures { result ≡ furthest writes_only uses.now }
 {
@@ -58,10 +59,17 @@ fn furthest_end(uses: &[Use], writes_only: bool) -> usize
 fn further(end: u64, one: Use, writes_only: bool) -> u64
     ensures { result ≡ max (end_of writes_only one) end }
 {
-    if is_counted(one.kind, writes_only) && end < one.end {
+    let own = end_of(one, writes_only);
+    if end < own { own } else { end }
+}
+
+fn end_of(one: Use, writes_only: bool) -> u64
+    ensures { result ≡ end_of writes_only one }
+{
+    if is_counted(one.kind, writes_only) && one.first < one.end {
         one.end
     } else {
-        end
+        0
     }
 }
 

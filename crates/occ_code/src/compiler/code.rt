@@ -7,6 +7,7 @@ ghost use Rattle.occ_term.specs.Unfolding.{meaning};
 ghost use Rattle.occ_term.specs.View.{term_of};
 ghost use Rattle.occ_code.specs.Sequential.Compiled.{AreBodiesOf, IsCodeOf, IsCompiled, IsQuantum, IsRefused, CodeRefuses, most_instructions};
 ghost use Rattle.occ_code.specs.Sequential.Compiled as compiled;
+ghost use Rattle.occ_code.specs.Sequential.Within.{AllWithin};
 
 use crate::channels::same_channels;
 use crate::compiler::body::Body;
@@ -230,9 +231,9 @@ fn program_bodies(
     term: &Term,
     quantum: u32,
 ) -> Result<Vec<Arc<Body, Global>>, CodeFault>
-    ensures bodies { IfOk result (λ bodies. AreBodiesOf (processes_of (term_of term.now)) quantum (map arc_value bodies.items)) }
+    ensures bodies { IfOk result (λ bodies. AllWithin (processes_of (term_of term.now)) → AreBodiesOf (processes_of (term_of term.now)) quantum (map arc_value bodies.items)) }
     ensures small { IfOk result (λ bodies. compiled.instructions_in (map arc_value bodies.items) ≤ most_instructions) }
-    ensures refused { IfErr result (λ fault. IsRefused fault (term_of term.now)) }
+    ensures refused { IfErr result (λ fault. AllWithin (processes_of (term_of term.now)) → IsRefused fault (term_of term.now)) }
 {
     let bodies = bodies_of(alloc, quantum, term)?;
     if instructions_in(&bodies) > MOST_INSTRUCTIONS {

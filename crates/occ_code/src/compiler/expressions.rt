@@ -1,6 +1,7 @@
 //! The code of expressions, items, targets and declarations.
-ghost use Rattle.std.specs.Prelude.{◌≡◌, ◌∷◌, [], ◌++◌, ◌*◌, IfOk, OnOk, length, map, min, option_map};
+ghost use Rattle.std.specs.Prelude.{◌≡◌, ◌∷◌, [], ◌++◌, ◌*◌, ◌<◌, ◌^◌, OnOk, length, map, min, option_map};
 ghost use Rattle.occ_term.specs.Messages.{product as product_of};
+ghost use Rattle.occ_term.specs.Rows.{AreFew};
 ghost use Rattle.occ_term.specs.Terms.{OfOne, OfMany, OfCounted, Into, IntoCounted, Naming};
 ghost use Rattle.occ_term.specs.View.{expression_of, place_of, subscripts, array_of, item_of, items_of, target_of, targets_of, declaration_of, declarations_of, replicator_of};
 ghost use Rattle.occ_code.specs.Sequential.Expressions.{expression_code, place_code, subscripts_code, components_at, item_code, items_code, target_code, targets_code, declaration_code, declarations_code, storing_code, counting_code, assignment_code, single_target, single_value};
@@ -97,6 +98,7 @@ pub(crate) fn emit_place(
 ) -> Result<(), AllocError>
     ensures { OnOk result (Emits code.old.items (place_code (place_of place.now)) code.new.items) }
 {
+    place.sizes.few();
     let sizes = place.sizes.as_slice();
     emit_subscripts(alloc, place.line, sizes, place.subscripts.as_slice(), code)?;
     put(code, Instr::Push(i64::from(place.first)))?;
@@ -111,15 +113,16 @@ fn emit_subscripts(
     list: &[TermExpr],
     code: &mut Vec<Instr>,
 ) -> Result<(), AllocError>
+    requires { AreFew sizes.now }
     ensures { OnOk result (Emits code.old.items (subscripts_code (subscripts (map expression_of list.now)) line sizes.now) code.new.items) }
 {
     let mut count = shorter(list.len(), sizes.len());
-    let mut stride = product(&sizes[count..])?;
+    let mut stride = product(&sizes[count..]);
     while count > 0 {
         count -= 1;
         put(code, Instr::Subscript(line, sizes[count], stride))?;
         emit_expression(alloc, &list[count], code)?;
-        stride = times(stride, sizes[count])?;
+        stride = times(stride, sizes[count]);
     }
     Ok(())
 }
@@ -130,34 +133,36 @@ fn shorter(a: usize, b: usize) -> usize
     if a < b { a } else { b }
 }
 
-/// The product of two sizes. The error is that of too large a number.
-fn times(product: u64, size: u32) -> Result<u64, AllocError>
-    ensures { IfOk result (λ all. all ≡ size * product) }
+/// The product of two sizes.
+fn times(product: u64, size: u32) -> u64
+    requires { size * product < 2 ^ 32 }
+    ensures { result ≡ size * product }
 {
-    product.checked_mul(u64::from(size)).ok_or(AllocError)
+    u64::from(size) * product
 }
 
-/// How many components an array with these sizes has. The error is that of too large a number.
-fn product(sizes: &[u32]) -> Result<u64, AllocError>
-    ensures { IfOk result (λ all. all ≡ product_of sizes.now) }
+/// How many components an array with these sizes has.
+fn product(sizes: &[u32]) -> u64
+    requires { AreFew sizes.now }
+    ensures { result ≡ product_of sizes.now }
 {
     let mut all = 1;
     let mut count = sizes.len();
     while count > 0 {
         count -= 1;
-        all = times(all, sizes[count])?;
+        all = times(all, sizes[count]);
     }
-    Ok(all)
+    all
 }
 
 /// How many cells or channels a place names.
-fn components(place: &Place) -> Result<u64, AllocError>
-    ensures { IfOk result (λ all. all ≡ components_at (place_of place.now)) }
+fn components(place: &Place) -> u64
+    ensures { result ≡ components_at (place_of place.now) }
 {
+    place.sizes.few();
     let sizes = place.sizes.as_slice();
     let count = shorter(place.subscripts.len(), sizes.len());
-    let all = product(&sizes[count..])?;
-    Ok(all)
+    product(&sizes[count..])
 }
 
 /// A part of a message.
@@ -196,7 +201,7 @@ fn emit_array(
 {
     match array {
         Array::Cells(place) => {
-            let count = components(place)?;
+            let count = components(place);
             emit_place_before(alloc, place, Instr::PartMany(primitive, count), code)
         }
         Array::Text(text) => {
@@ -218,7 +223,7 @@ fn emit_counted(
 {
     match array {
         Array::Cells(place) => {
-            let all = components(place)?;
+            let all = components(place);
             emit_place_before(alloc, place, Instr::PartCounted(primitive, line, all), code)?;
         }
         Array::Text(text) => {
@@ -252,7 +257,7 @@ fn emit_target(alloc: Global, target: &Target, code: &mut Vec<Instr>) -> Result<
 {
     match target {
         Target::Into(place) => {
-            let count = components(place)?;
+            let count = components(place);
             emit_place_before(alloc, place, Instr::SpotOne(count), code)
         }
         Target::IntoCounted(line, count, array) => {
@@ -270,8 +275,8 @@ fn emit_both_places(
 ) -> Result<(), AllocError>
     ensures { OnOk result (Emits code.old.items (target_code (IntoCounted line (place_of count.now) (place_of array.now))) code.new.items) }
 {
-    let counts = components(count)?;
-    let all = components(array)?;
+    let counts = components(count);
+    let all = components(array);
     emit_place_before(alloc, array, Instr::SpotCounted(line, counts, all), code)?;
     emit_place(alloc, count, code)?;
     Ok(())

@@ -8,6 +8,7 @@ ghost use Rattle.occ_code.specs.Sequential.Compiled.{AddsBodies, AreBodiesOf, Is
 ghost use Rattle.occ_code.specs.Sequential.Emitted.{whole_code};
 ghost use Rattle.occ_code.specs.Sequential.Machine as machine;
 ghost use Rattle.occ_code.specs.Sequential.View.{instruction_of};
+ghost use Rattle.occ_code.specs.Sequential.Within.{AllWithin, KeepsWithin};
 
 use crate::compiler::body::Body;
 use crate::compiler::cells::rising_cells;
@@ -27,7 +28,7 @@ pub(crate) fn bodies_of(
     quantum: u32,
     term: &Term,
 ) -> Result<Vec<Arc<Body, Global>>, AllocError>
-    ensures { IfOk result (λ bodies. AreBodiesOf (processes_of (term_of term.now)) quantum (map arc_value bodies.items)) }
+    ensures { IfOk result (λ bodies. AllWithin (processes_of (term_of term.now)) → AreBodiesOf (processes_of (term_of term.now)) quantum (map arc_value bodies.items)) }
 {
     let mut bodies = Vec::new(alloc);
     add_branches(alloc, quantum, term, &mut bodies)?;
@@ -52,7 +53,7 @@ fn add_body(
 
 /// The body of one process.
 fn body_of(alloc: Global, quantum: u32, term: &Term) -> Result<Body, AllocError>
-    ensures { IfOk result (λ b. IsBodyOf (term_of term.now) quantum b) }
+    ensures { IfOk result (λ b. KeepsWithin (term_of term.now) → IsBodyOf (term_of term.now) quantum b) }
 {
     let loops = counters_in(term)?;
     let uses = term_uses(alloc, term)?;
@@ -60,7 +61,8 @@ fn body_of(alloc: Global, quantum: u32, term: &Term) -> Result<Body, AllocError>
     let writes = rising_cells(alloc, uses.as_slice(), true)?;
     let mut code = code_of(alloc, term)?;
     name_places(alloc, &cells, &mut code)?;
-    Ok(Body::new(code, cells, writes, loops, quantum))
+    let body = Body::new(alloc, code, cells, writes, loops, quantum)?;
+    Ok(body)
 }
 
 /// The code of a process, with the numbers of cells.

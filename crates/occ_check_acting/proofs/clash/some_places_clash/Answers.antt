@@ -36,8 +36,8 @@ loop-place-preserved c =
           )
     ]
 
-pub returns-then-branch : goal.returns-then-branch
-returns-then-branch c =
+pub returns-then-one_clashes : goal.returns-then-one_clashes
+returns-then-one_clashes c =
     let found : one_of_clashes (rows_of c.loop-place.varying.items) (rows_of c.loop-place.fixed.items) ≡ true = search rules in
     one_found c.args.places.now c.loop-place.varying.items c.loop-place.fixed.items c.loop-place.place-index c.loop-place-test.false c.loop-place.invariant.0 found
 

@@ -1,5 +1,7 @@
-use Rattle.std.proofs.Common.{rules, ◌≡◌, ◌∷◌, [], ◌++◌, ◌-◌, ◌<◌, ◌+◌, length, refl, ap, ◌∙◌, arith}
+use Rattle.std.proofs.Common.{rules, ◌≡◌, ◌∷◌, [], ◌++◌, ◌-◌, ◌<◌, ◌+◌, length, refl, ap, subst, sym, ◌∙◌, arith}
 use Rattle.occ_term.specs.Messages.{product}
+use Rattle.occ_term.specs.Rows.{AreFew}
+use Rattle.occ_term.proofs.Few.{few_behind, few_product}
 use Rattle.occ_term.specs.View.{expression_of}
 use Rattle.occ_term.specs.declared.expression.TermExpr.{the_lemmas}
 use Rattle.occ_code.specs.Sequential.Machine.{AndThen, OrElse, Operate}
@@ -27,11 +29,23 @@ emit_expression-returns-in_ok-emit_expression-in-Or-2 t c =
     search (rules, the_lemmas) in
     emits_as (emits_then (emits_then c.in_ok-emit_expression-in-Or.ensures (emits_as c.in_ok-put-in-Or.ensures (ap (λ n. OrElse n ∷ []) skip))) c.in_ok-emit_expression-in-Or-2.ensures) seen
 
+pub emit_subscripts-product-stride-requires : goal.emit_subscripts-product-stride-requires
+emit_subscripts-product-stride-requires t c = subst AreFew (sym (whole_rest c.args.sizes.now c.shorter-count.result)) (few_behind c.shorter-count.result c.args.sizes.now c.requires)
+
+pub emit_subscripts-times-stride-requires : goal.emit_subscripts-times-stride-requires
+emit_subscripts-times-stride-requires t c =
+    let (within, within', strides, others) = c.loop-count.invariant in
+    let some : 0 < c.loop-count.count = c.loop-count-test.true in
+    let next : c.loop-count.count ≡ c.loop-count.count - 1 + 1 = omega (arith, some) in
+    let lt' : c.loop-count.count - 1 < length c.args.sizes.now = omega (arith, some, within') in
+    subst (λ n. n < 4294967296) (sym (product_before c.args.sizes.now (c.loop-count.count - 1) c.loop-count.count _ c.loop-count.stride next lt' refl strides))
+    (few_product _ (few_behind (c.loop-count.count - 1) c.args.sizes.now c.requires))
+
 pub emit_subscripts-loop-count-init : goal.emit_subscripts-loop-count-init
 emit_subscripts-loop-count-init t c = (
   omega (arith, c.shorter-count.ensures),
   omega (arith, c.shorter-count.ensures),
-  c.in_ok-stride.ensures ∙ ap product (whole_rest c.args.sizes.now c.shorter-count.result),
+  c.product-stride.ensures ∙ ap product (whole_rest c.args.sizes.now c.shorter-count.result),
   subscripts_first c.args.line c.args.list.now c.args.sizes.now c.shorter-count.result c.args.code.now.items c.shorter-count.ensures,
 )
 
@@ -44,6 +58,6 @@ emit_subscripts-loop-count-preserved t c =
     let lt' : c.loop-count.count - 1 < length c.args.sizes.now = omega (arith, some, within') in (
       omega (arith, within),
       omega (arith, within'),
-      c.in_ok-stride-2.ensures ∙ product_before c.args.sizes.now (c.loop-count.count - 1) c.loop-count.count _ c.loop-count.stride next lt' refl strides,
+      c.times-stride.ensures ∙ product_before c.args.sizes.now (c.loop-count.count - 1) c.loop-count.count _ c.loop-count.stride next lt' refl strides,
       subscripts_next c.args.line c.args.list.now c.args.sizes.now (c.loop-count.count - 1) c.loop-count.count c.index-list-count.result _ c.loop-count.stride next lt lt' c.index-list-count.is refl strides others c.in_ok-put.ensures c.in_ok-emit_expression.ensures,
     )

@@ -1,5 +1,21 @@
-use Rattle.std.proofs.Common.{rules}
+use Rattle.std.proofs.Common.{◌≡◌, ap, rules, sym, subst}
+use Rattle.occ_term.specs.Uses.{Uses, uses_of}
+use Rattle.occ_term.specs.View.{term_of}
+use Rattle.occ_usage.specs.Noted.{uses_in}
+use Rattle.occ_code.specs.Alike.{Lists, used_by}
+use Rattle.occ_code.specs.Sequential.Within.{AreWithin}
+use Rattle.occ_code.proofs.UsedCells.{writes_within}
 use Rattle.occ_code.proofs.compiler.processes.body_of.Goals as goal
 
 pub returns : goal.returns
-returns c = search rules
+returns c = λ within.
+    let same : uses_in c.in_ok-uses.uses ≡ uses_of (term_of c.args.term.now) = c.in_ok-uses.ensures in
+    let used : AreWithin (used_by (uses_in c.in_ok-uses.uses)) = subst (λ u. AreWithin (used_by u)) (sym same) within in
+    let written : AreWithin (uses_in c.in_ok-uses.uses).writes = writes_within (uses_in c.in_ok-uses.uses) used in
+    let cells : Lists c.in_ok-cells.cells.items (used_by (uses_of (term_of c.args.term.now))) =
+    subst (λ u. Lists c.in_ok-cells.cells.items (used_by u)) same
+    (subst (λ us. AreWithin (used_by (uses_in us)) → Lists c.in_ok-cells.cells.items (used_by (uses_in us))) c.as_slice.ensures c.in_ok-cells.ensures.lists used) in
+    let writes : Lists c.in_ok-writes.writes.items (uses_of (term_of c.args.term.now)).writes =
+    subst (λ (u : Uses). Lists c.in_ok-writes.writes.items u.writes) same
+    (subst (λ us. AreWithin (uses_in us).writes → Lists c.in_ok-writes.writes.items (uses_in us).writes) c.as_slice-2.ensures c.in_ok-writes.ensures.lists written) in
+    search rules
