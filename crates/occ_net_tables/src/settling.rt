@@ -1,12 +1,12 @@
 //! A turn of the network: the chosen process goes on, and what that makes possible happens.
-ghost use Rattle.std.specs.Prelude.{◌≡◌, ◌↔◌, IfErr, IsTrue, OnOk};
+ghost use Rattle.std.specs.Prelude.{◌≡◌, IfErr, OnOk};
 ghost use Rattle.occ_net_replay.specs.Replay.{Net};
 ghost use Rattle.occ_net_tables.specs.Holding.{Holds};
 ghost use Rattle.occ_net_tables.specs.Room.{AreSame, HasRoom, more_ready};
 ghost use Rattle.occ_net_tables.specs.Settling.{HasMid, Settles, Standing, TurnsTo};
 
 use crate::tables::Tables;
-use crate::tasks::advance_task;
+use crate::tasks::{advance_task, is_ready};
 use occ_code::{Code, Wait};
 use occ_net_replay::Choice;
 use occ_proc::Scratch;
@@ -19,15 +19,6 @@ fn more_ready(wait: &Wait) -> usize
     match wait {
         Wait::Joins { branches } => branches.len(),
         _ => 1,
-    }
-}
-
-fn is_ready(wait: &Wait) -> bool
-    ensures { IsTrue result ↔ (wait.now ≡ Wait.Ready) }
-{
-    match wait {
-        Wait::Ready => true,
-        _ => false,
     }
 }
 
@@ -51,7 +42,9 @@ impl Tables {
         let Some(body) = code.body(number as usize) else {
             unreachable!()
         };
-        let wait = advance_task(alloc, body, scratch, &mut self.tasks, number)?;
+        let Some(wait) = advance_task(alloc, body, scratch, &mut self.tasks, number)? else {
+            return Ok(());
+        };
         match self.settle(alloc, code, keyboard, place, number, wait, choice.pick) {
             Ok(()) => {}
             Err((_, refused)) => return Err(refused),

@@ -1,33 +1,46 @@
 //! Changes of one process's task, in its slot.
-ghost use Rattle.std.specs.Prelude.{◌≡◌, ◌+◌, ◌<◌, ◌^◌, IfOk, Some, length, slice_set};
+ghost use Rattle.std.specs.Prelude.{◌≡◌, ◌↔◌, ◌+◌, ◌<◌, ◌^◌, IfOk, IsTrue, Some, length, slice_set};
 ghost use Rattle.occ_code.specs.Alike.{ready_with};
 ghost use Rattle.occ_code.specs.declared.task.Task.{Task};
 ghost use Rattle.occ_net_replay.specs.Replay.{HasTask};
-ghost use Rattle.occ_net_tables.specs.Tasks.{Advanced, HasTurn, IsTaken, IsThere};
+ghost use Rattle.occ_net_tables.specs.Tasks.{Advanced, HasTurn, IsTaken, IsThere, or_ready};
 
 use occ_code::{Body, Task, Wait};
 use occ_proc::{Scratch, advance};
 use std::alloc::{AllocError, Global};
 use std::mem;
 
-/// The process goes on to its next stop, and is left as ready. What it stands at is handed out.
+/// The process goes on to its next stop, and is left as ready. What it stands at is handed out, where it isn't ready there.
 pub(crate) fn advance_task(
     alloc: Global,
     body: &Body,
     scratch: &mut Scratch,
     tasks: &mut Vec<Option<Task>>,
     number: u32,
-) -> Result<Wait, AllocError>
+) -> Result<Option<Wait>, AllocError>
     requires small { length body.now.code + 1 < 2 ^ 32 }
     requires turn { HasTurn body.now tasks.old.items number }
-    ensures { IfOk result (λ wait. (t : Task) → HasTask tasks.old.items number t → Advanced body.now tasks.old.items number t wait tasks.new.items) }
+    ensures { IfOk result (λ wait. (t : Task) → HasTask tasks.old.items number t → Advanced body.now tasks.old.items number t (or_ready wait) tasks.new.items) }
 {
     match &mut tasks[number as usize] {
         Some(task) => {
             advance(alloc, body, scratch, task)?;
-            Ok(mem::replace(&mut task.wait, Wait::Ready))
+            if is_ready(&task.wait) {
+                return Ok(None);
+            }
+            Ok(Some(mem::replace(&mut task.wait, Wait::Ready)))
         }
         None => unreachable!(),
+    }
+}
+
+/// Whether a process that stands at this is ready.
+pub(crate) fn is_ready(wait: &Wait) -> bool
+    ensures { IsTrue result ↔ (wait.now ≡ Wait.Ready) }
+{
+    match wait {
+        Wait::Ready => true,
+        _ => false,
     }
 }
 
