@@ -150,6 +150,9 @@ module _ (line : ℕ) (r : L.Replicator) (p : Node process) (sc : Scope Calling)
       by None = refl
       by (Some c) = then_by c (room depth (node no_size) n)
 
+  pub counting_refused : (e : CheckFault) → Refuses e (copies_counted (names_of sc) line depth r n) → Refuses e (copies_beside line r (unfolded p) sc depth n)
+  counting_refused e = refused_with e (copies_counted (names_of sc) line depth r n) (copies_beside line r (unfolded p) sc depth n) (λ h. counted_first ∙ none_then (λ c. copies_from c >>= put_beside) h)
+
   module _ (i : ℤ) (k : ℕ) (m : Numbers) (counts : copies_counted (names_of sc) line depth r n ≡ Some ((i, k), m)) where
     begun : copies_beside line r (unfolded p) sc depth n ≡ (copied (copy_for r p sc (depth + 1)) k i m >>= put_beside)
     begun = counted_first ∙ ap (λ o. o >>= λ c. copies_from c >>= put_beside) counts

@@ -25,7 +25,7 @@ use Rattle.occ_net_replay.proofs.Tables.{ready_at}
 use Rattle.occ_net_tables.specs.declared.tables.Tables.{Tables}
 use Rattle.occ_net_tables.specs.Holding.{AreTrue, Holds, IsOrdinary, communication_of, joins_on}
 use Rattle.occ_net_tables.specs.Settling.{Mid, SettlesTo, Standing, TurnsTo}
-use Rattle.occ_net_tables.specs.Tasks.{Advanced, HasTurn}
+use Rattle.occ_net_tables.specs.Tasks.{Advanced, HasTurn, or_ready}
 use Rattle.occ_net_tables.proofs.OneChange.{counts_kept, get_some, ordinary_again, set_length, table_kept, true_as}
 use Rattle.occ_net_tables.proofs.ReadyLists.{ready_same}
 
@@ -144,6 +144,11 @@ read_at xs i n h e = let x = get_some xs i h in x.1 ∙ ap Some (sym (e ∙ get_
 
 pub place_within : (which len k : ℕ) → len ≡ k → 0 < k → which % len < k
 place_within which len k e h = omega arith
+
+-- a process of which nothing is said is ready
+pub ready_unsaid : (o : Option Wait) → ((w : Wait) → o ≡ Some w → ⊥) → or_ready o ≡ W.Ready
+ready_unsaid None h = refl
+ready_unsaid (Some w) h = absurd (h w refl)
 
 -- ---- the network stands where a replay can go on
 

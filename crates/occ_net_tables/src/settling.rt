@@ -42,7 +42,8 @@ impl Tables {
         let Some(body) = code.body(number as usize) else {
             unreachable!()
         };
-        let Some(wait) = advance_task(alloc, body, scratch, &mut self.tasks, number)? else {
+        let told = advance_task(alloc, body, scratch, &mut self.tasks, number)?;
+        let Some(wait) = told else {
             return Ok(());
         };
         match self.settle(alloc, code, keyboard, place, number, wait, choice.pick) {

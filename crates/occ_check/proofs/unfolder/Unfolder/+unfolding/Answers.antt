@@ -46,7 +46,7 @@ use Rattle.occ_check.specs.Numbered.{copy_for, numbered_copy}
 use Rattle.occ_check_meaning.specs.Declarations.{index_of}
 use Rattle.occ_check_meaning.specs.Scope.{within}
 use Rattle.occ_check.proofs.Nesting.{as_many, nested_there, nested_too_deep}
-use Rattle.occ_check.proofs.Numbered.{Copied, copied_first, copied_last, copied_next, copied_refused, copies_done, copies_refused, no_copy, no_number_left, one_copy}
+use Rattle.occ_check.proofs.Numbered.{Copied, copied_first, copied_last, copied_next, copied_refused, copies_done, copies_refused, counting_refused, no_copy, no_number_left, one_copy}
 use Rattle.occ_check.proofs.unfolder.Unfolder.+unfolding.Goals as goal
 
 pub entered-returns-in_err-heads-clause-step : goal.entered-returns-in_err-heads-clause-step
@@ -592,6 +592,12 @@ copy-returns-clause-branch t c =
     let made : branch_of (record { number = c.in_ok-number.number; body = c.in_ok-body.body }) ≡ T.and_branch (counted c.args.self.now).processes (term_of c.in_ok-body.body) = search (rules, the_lemmas, branch_lemmas) in
     one_copy u c.args.value (counted c.args.self.now) (numbers_of c.more_processes.new.self) c.in_ok-number.ensures.counts (term_of c.in_ok-body.body) (counted c.process.new.self) this
     ∙ ap (λ b. Some (b, counted c.process.new.self)) (sym made)
+
+pub copied-returns-in_err-first-clause-term : goal.copied-returns-in_err-first-clause-term
+copied-returns-in_err-first-clause-term t c =
+    let refused : Refuses c.in_err-first.field-0.0 (performs.copies_beside c.args.line (lines.replicator_of c.args.replicator.now) (unfolded (process_of c.args.body.now)) (meant_at c.args.self.now c.args.at) c.args.depth (counted c.args.self.now)) =
+    counting_refused c.args.line (lines.replicator_of c.args.replicator.now) (process_of c.args.body.now) (meant_at c.args.self.now c.args.at) c.args.depth (counted c.args.self.now) c.in_err-first.field-0.0 c.in_err-first.ensures.counted in
+    search rules
 
 pub copied-returns-in_err-branches-clause-term : goal.copied-returns-in_err-branches-clause-term
 copied-returns-in_err-branches-clause-term t c =
