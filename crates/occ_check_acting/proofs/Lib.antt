@@ -7,3 +7,4 @@ pub mod Receiving
 pub mod ReadCells
 pub mod Assigning
 pub mod Fixing
+pub mod Others

@@ -7,7 +7,7 @@ use Rattle.occ_term.specs.Terms.{Expression, Constant, Cell, Component, Letter, 
 use Rattle.occ_term.specs.Uses.{Numbers, empty_set, named_by, numbers_in, part_named, reads_in_place, reads_in_subscripts, reads_of, union}
 use Rattle.occ_term.specs.Values.{Span, span}
 use Rattle.occ_check_meaning.specs.Items.{has_of, has_some}
-use Rattle.occ_check_acting.specs.Clashing.{any_in_place, any_in_subscripts, reads_any, shares}
+use Rattle.occ_check_acting.specs.Clashing.{reads_some, shares, some_in_place, some_in_subscripts}
 
 -- ---- one of so many numbers
 
@@ -31,7 +31,7 @@ misses set a (suc n) none =
     ap (λ b. b || has_some set (a + 1) n) (none a (omega arith) (omega arith))
     ∙ misses set (a + 1) n (λ c low high. none c (omega arith) (omega arith))
 
-either_of : (a b c d : Bool) → ((a || b) || (c || d)) ≡ ((a || c) || (b || d))
+pub either_of : (a b c d : Bool) → ((a || b) || (c || d)) ≡ ((a || c) || (b || d))
 either_of true b c d = refl
 either_of false true true d = refl
 either_of false true false d = refl
@@ -44,18 +44,29 @@ has_either s t a (suc n) = ap (λ b. (s a || t a) || b) (has_either s t (a + 1) 
 has_none : (a n : ℕ) → has_some empty_set a n ≡ false
 has_none a n = misses empty_set a n (λ c low high. refl)
 
-has_one : (x a n : ℕ) → (nat_le a x && nat_lt x (a + n)) ≡ has_some (λ c. nat_eq x c) a n
-has_one x a n = by (nat_le a x && nat_lt x (a + n)) refl
-  where
-    by : (b : Bool) → (nat_le a x && nat_lt x (a + n)) ≡ b → b ≡ has_some (λ c. nat_eq x c) a n
-    by true e =
-        let low : a ≤ x = grind (arith, nat_tests, e) in
-        let high : x < a + n = grind (arith, nat_tests, e) in
-        let same : nat_eq x x ≡ true = grind (arith, nat_tests) in
-        sym (hits (λ c. nat_eq x c) a n x low high same)
-    by false e = sym (misses (λ c. nat_eq x c) a n (λ c low high. grind (arith, nat_tests, e, low, high)))
-
 -- ---- two rows
+
+pub share_none : (f k a n : ℕ) → k ≡ 0 → shares (span f k) (span a n) ≡ false
+share_none f k a n none = misses (numbers_in (span f k)) a n (λ c low high. grind (arith, nat_tests, none))
+
+pub none_share : (f k a n : ℕ) → n ≡ 0 → shares (span f k) (span a n) ≡ false
+none_share f k a n none = misses (numbers_in (span f k)) a n (λ c low high. absurd (omega (arith, none, low, high)))
+
+-- rows with cells share one where each begins before the other ends
+pub share_is : (f k a n : ℕ) → 0 < k → 0 < n → shares (span f k) (span a n) ≡ (nat_lt a (f + k) && nat_lt f (a + n))
+share_is f k a n some others = by (nat_lt a (f + k) && nat_lt f (a + n)) refl
+  where
+    by : (b : Bool) → (nat_lt a (f + k) && nat_lt f (a + n)) ≡ b → has_some (numbers_in (span f k)) a n ≡ b
+    by true e = at (nat_le f a) refl
+      where
+        at : (c : Bool) → nat_le f a ≡ c → has_some (numbers_in (span f k)) a n ≡ true
+        at true g = hits (numbers_in (span f k)) a n a (omega arith) (omega (arith, others)) (grind (arith, nat_tests, e, g))
+        at false g = hits (numbers_in (span f k)) a n f (grind (arith, nat_tests, g)) (grind (arith, nat_tests, e)) (grind (arith, nat_tests, some))
+    by false e = misses (numbers_in (span f k)) a n (λ c low high. out c low high (nat_le f c && nat_lt c (f + k)) refl)
+      where
+        out : (c : ℕ) → a ≤ c → c < a + n → (b : Bool) → (nat_le f c && nat_lt c (f + k)) ≡ b → (nat_le f c && nat_lt c (f + k)) ≡ false
+        out c low high false g = g
+        out c low high true g = absurd (grind (arith, nat_tests, e, g, low, high))
 
 pub common : (f k a n m : ℕ) → f ≤ m → a ≤ m → ((c : ℕ) → f ≤ c → a ≤ c → m ≤ c)
     → ((nat_le f m && nat_lt m (f + k)) && (nat_le a m && nat_lt m (a + n))) ≡ shares (span f k) (span a n)
@@ -78,10 +89,20 @@ common f k a n m over_f over_a least = by ((nat_le f m && nat_lt m (f + k)) && (
 
 -- ---- what is read
 
+abbrev pub sharing : Span → Span → Bool
+sharing v s = shares s v
+
+alone : (c x : ℕ) → numbers_in (span c 1) x ≡ nat_eq c x
+alone c x = by (nat_eq c x) refl
+  where
+    by : (b : Bool) → nat_eq c x ≡ b → (nat_le c x && nat_lt x (c + 1)) ≡ b
+    by true e = grind (arith, nat_tests, e)
+    by false e = grind (arith, nat_tests, e)
+
 mutual
-  pub reads_is : (e : Expression) (a n : ℕ) → reads_any e (span a n) ≡ has_some (reads_of e) a n
+  reads_is : (e : Expression) (a n : ℕ) → reads_some (sharing (span a n)) e ≡ has_some (reads_of e) a n
   reads_is (Constant v) a n = sym (has_none a n)
-  reads_is (Cell c) a n = has_one c a n
+  reads_is (Cell c) a n = λ i. has_some (λ x. alone c x i) a n
   reads_is (Component p) a n = in_place_is p a n
   reads_is (Letter line text e) a n = reads_is e a n
   reads_is (Binary op type line x y) a n = (λ i. reads_is x a n i || reads_is y a n i) ∙ sym (has_either (reads_of x) (reads_of y) a n)
@@ -90,19 +111,19 @@ mutual
   reads_is (Or x y) a n = (λ i. reads_is x a n i || reads_is y a n i) ∙ sym (has_either (reads_of x) (reads_of y) a n)
   reads_is (Conversion to line x) a n = reads_is x a n
 
-  in_place_is : (p : Place) (a n : ℕ) → any_in_place p (span a n) ≡ has_some (union (named_by p) (reads_in_place p)) a n
+  in_place_is : (p : Place) (a n : ℕ) → some_in_place (sharing (span a n)) p ≡ has_some (union (named_by p) (reads_in_place p)) a n
   in_place_is (place line first sizes subs) a n =
       ap (λ b. shares (part_named subs first sizes (span first (product sizes))) (span a n) || b) (subscripts_is subs a n)
       ∙ sym (has_either (numbers_in (part_named subs first sizes (span first (product sizes)))) (reads_in_subscripts subs) a n)
 
-  pub subscripts_is : (es : Subscripts) (a n : ℕ) → any_in_subscripts es (span a n) ≡ has_some (reads_in_subscripts es) a n
+  subscripts_is : (es : Subscripts) (a n : ℕ) → some_in_subscripts (sharing (span a n)) es ≡ has_some (reads_in_subscripts es) a n
   subscripts_is no_subscripts a n = sym (has_none a n)
   subscripts_is (then_subscript e es) a n = (λ i. reads_is e a n i || subscripts_is es a n i) ∙ sym (has_either (reads_of e) (reads_in_subscripts es) a n)
 
--- ---- a place that a subscript names
+-- ---- a variable that a subscript names
 
-pub named_is : (es fs : Subscripts) (a b : Span) → es ≡ fs → a ≡ b → any_in_subscripts es a ≡ has_of (reads_in_subscripts fs) b
-named_is es fs (span first count) b is at = subscripts_is es first count ∙ (λ i. has_of (reads_in_subscripts (is i)) (at i))
+pub named_is : (es : Subscripts) (v : Span) → some_in_subscripts (sharing v) es ≡ has_of (reads_in_subscripts es) v
+named_is es (span first count) = subscripts_is es first count
 
 -- ---- the operands of a chain, from the last to the first
 

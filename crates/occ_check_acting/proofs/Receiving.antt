@@ -1,5 +1,5 @@
 -- Inputs, from the channel, its parts and the targets.
-use Rattle.std.proofs.Common.{◌≡◌, ℕ, List, ◌∷◌, map, Option, Some, None, sym, ap, ◌∙◌, Vec, Global}
+use Rattle.std.proofs.Common.{◌≡◌, ℕ, List, ◌∷◌, map, Some, None, sym, ap, ◌∙◌, Vec, Global}
 use Rattle.occ_tree_grammar.specs.Many.{◌>>=◌}
 use Rattle.occ_tree_grammar.specs.Lines.Views as lines
 use Rattle.occ_tree_grammar.specs.declared.tree.line.Input.{Input as InputTree}

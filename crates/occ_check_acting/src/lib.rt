@@ -4,4 +4,6 @@
 pub mod action;
 pub mod call;
 pub mod clash;
+mod named;
+mod naming;
 pub mod target;

@@ -4,7 +4,7 @@ use Rattle.occ_term.specs.Uses as uses
 use Rattle.occ_check_typing.specs.Spans.{span_of}
 use Rattle.occ_check_acting.specs.Clashing.{shares}
 use Rattle.occ_check_acting.proofs.ReadCells.{common}
-use Rattle.occ_check_acting.proofs.clash.are_shared.Goals as goal
+use Rattle.occ_check_acting.proofs.naming.are_shared.Goals as goal
 
 pub returns-then-is_in : goal.returns-then-is_in
 returns-then-is_in c =
