@@ -22,6 +22,9 @@ const PIPELINE: &[u8] =
 const CHOOSES: &[u8] =
     b"PROC main (CHAN OF BYTE keyboard, screen)\n  CHAN OF INT a, b:\n  PAR\n    a ! 1\n    b ! 2\n    INT x:\n    SEQ\n      PRI ALT\n        a ? x\n          SKIP\n        b ? x\n          SKIP\n      screen ! BYTE (x + 48)\n:\n";
 
+const WAITS: &[u8] =
+    b"PROC main (CHAN OF BYTE keyboard, screen)\n  CHAN OF INT c:\n  PAR\n    SEQ i = 0 FOR 4\n      INT n:\n      ALT\n        c ? n\n          screen ! BYTE (n + 48)\n    SEQ i = 0 FOR 4\n      c ! i\n:\n";
+
 const TAGGED: &[u8] =
     b"PROTOCOL msg\n  CASE\n    data; INT\n    quit\n:\nPROC main (CHAN OF BYTE keyboard, screen)\n  CHAN OF msg c:\n  PAR\n    SEQ\n      c ! data; 5\n      c ! quit\n    INT x:\n    SEQ\n      c ? CASE data; x\n      screen ! BYTE (x + 48)\n      c ? CASE data; x\n:\n";
 
@@ -31,10 +34,11 @@ const COUNTED: &[u8] =
 const ECHOES: &[u8] =
     b"PROC main (CHAN OF BYTE keyboard, screen)\n  SEQ i = 0 FOR 3\n    BYTE b:\n    SEQ\n      keyboard ? b\n      screen ! b\n:\n";
 
-const ROWS: [Row; 7] = [
+const ROWS: [Row; 8] = [
     Row(PIPELINE, b"", b"4", Ending::Ended),
     Row(HALVES, b"", b"3", Ending::Ended),
     Row(CHOOSES, b"", b"1", Ending::Stopped),
+    Row(WAITS, b"", b"0123", Ending::Ended),
     Row(TAGGED, b"", b"5", Ending::Stopped),
     Row(COUNTED, b"", b"b", Ending::Ended),
     Row(ECHOES, b"hi", b"hi", Ending::Stopped),
