@@ -69,3 +69,16 @@ fn choices_are_written(rt: HostRuntime) -> Result<(), Fail> {
     assert_eq!(&rt; text.as_slice(), b"0 0\n4294967295 7\n".as_slice());
     Ok(())
 }
+
+/// A line more than a file may have. The build of `rt try` takes some minutes for it: `--seconds 600`.
+#[test]
+fn long_files_are_refused(rt: HostRuntime) -> Result<(), Fail> {
+    let alloc = rt.alloc();
+    let mut text = Vec::with_capacity(alloc, 40_000_004)?;
+    for _ in 0..10_000_001 {
+        text.extend_from_slice(b"0 0\n")?;
+    }
+    let refused = shown(alloc, &text)?;
+    assert_eq!(&rt; refused.as_slice(), b"refused 91 TooMany".as_slice());
+    Ok(())
+}

@@ -8,4 +8,6 @@ mod refused;
 #[cfg(test)]
 mod runs;
 #[cfg(test)]
+mod same;
+#[cfg(test)]
 mod turned;

@@ -1,72 +1,125 @@
 //! Turns that are settled, and turns that are not.
 use crate::turned::{check_refused, network_of, next_turn, settle, step, turn_by};
 use occ_net::Network;
-use occ_net_replay::Ending;
+use occ_proc::Segment;
 use std::alloc::Global;
 use std::process::Abort;
 use std::test::Fail;
 
-const DIVIDES: &[u8] =
+/// A fault beside a process that has something to say.
+pub(crate) const DIVIDES: &[u8] =
     b"PROC main (CHAN OF BYTE keyboard, screen)\n  INT z:\n  PAR\n    z := 1 / z\n    screen ! 'a'\n:\n";
 
-/// Two branches have taken their turns, of which the first one faults. The second turn comes too late.
-fn check_late(rt: &impl Abort, alloc: Global, network: &mut Network) -> Result<(), Fail> {
-    let first = turn_by(rt, alloc, network, 1)?;
-    let second = turn_by(rt, alloc, network, 2)?;
-    settle(rt, alloc, network, first);
-    let over = "Over { ending: Fault(Fault { kind: Arith, line: 4 }) }";
-    check_refused(rt, alloc, network, second, over)
+/// Two branches have taken their turns, and the first one has failed. The second one's turn is left.
+fn faulted(rt: &impl Abort, alloc: Global) -> Result<(Network, Segment), Fail> {
+    let mut network = network_of(rt, alloc, DIVIDES, b"");
+    step(rt, alloc, &mut network, 0)?;
+    let first = turn_by(rt, alloc, &mut network, 1)?;
+    let second = turn_by(rt, alloc, &mut network, 2)?;
+    settle(rt, alloc, &mut network, first);
+    Ok((network, second))
 }
 
-/// The ending, and that no process can be leased.
-fn check_ending(rt: &impl Abort, alloc: Global, network: &mut Network) -> Result<(), Fail> {
-    let ending = network.ending().unwrap_or(Ending::Limit).to_string(alloc)?;
-    assert_eq!(rt; ending.as_str(), "fault ARITH line 4");
-    assert!(rt; next_turn(alloc, network)?.is_none());
-    assert!(rt; network.trace().is_empty());
+/// What a network in which nothing was communicated came to, and in how many turns.
+fn check_outcome(
+    rt: &impl Abort,
+    alloc: Global,
+    network: Network,
+    ending: &str,
+    turns: usize,
+) -> Result<(), Fail> {
+    let Ok(outcome) = network.into_outcome(alloc) else {
+        assert!(rt; false, "no outcome");
+        return Ok(());
+    };
+    let told = outcome.ending.to_string(alloc)?;
+    assert_eq!(rt; told.as_str(), ending);
+    assert_eq!(rt; outcome.choices.len(), turns);
+    assert!(rt; outcome.network.trace().is_empty());
     Ok(())
-}
-
-/// How many choices the outcome has.
-fn used(alloc: Global, network: Network) -> Option<usize> {
-    match network.into_outcome(alloc) {
-        Ok(outcome) => Some(outcome.choices.len()),
-        Err(_) => None,
-    }
 }
 
 #[test]
 fn a_fault_ends_a_network(rt: HostRuntime) -> Result<(), Fail> {
     let alloc = rt.alloc();
-    let mut network = network_of(&rt, alloc, DIVIDES)?;
-    step(&rt, alloc, &mut network, 0)?;
-    check_late(&rt, alloc, &mut network)?;
-    check_ending(&rt, alloc, &mut network)?;
-    assert_eq!(&rt; used(alloc, network), Some(2));
-    Ok(())
+    let (mut network, late) = faulted(&rt, alloc)?;
+    let (twin, _) = faulted(&rt, alloc)?;
+    let over = "Over { ending: Fault(Fault { kind: Arith, line: 4 }) }";
+    check_refused(&rt, alloc, &mut network, &twin, late, over)?;
+    assert!(&rt; next_turn(alloc, &mut network)?.is_none());
+    check_outcome(&rt, alloc, network, "fault ARITH line 4", 2)
 }
+
+/// A source of one process, how many turns it has taken when it takes one twice, and how the second of these is refused.
+struct Twice(&'static [u8], u32, &'static str);
 
 const LOOPS: &[u8] = b"PROC main (CHAN OF BYTE keyboard, screen)\n  WHILE TRUE\n    SKIP\n:\n";
 
-/// A turn that was taken twice is settled once.
-fn check_twice(rt: &impl Abort, alloc: Global, network: &mut Network) -> Result<(), Fail> {
-    let first = turn_by(rt, alloc, network, 0)?;
+const LETTER: &[u8] = b"PROC main (CHAN OF BYTE keyboard, screen)\n  screen ! 'A'\n:\n";
+
+const TWICE: [Twice; 7] = [
+    Twice(LOOPS, 0, "Stale { number: 0, turns: 1 }"),
+    Twice(LETTER, 0, "Stale { number: 0, turns: 1 }"),
+    Twice(LETTER, 1, "Over { ending: Ended }"),
+    Twice(
+        b"PROC main (CHAN OF BYTE keyboard, screen)\n  INT x:\n  x := 2147483647 + 1\n:\n",
+        0,
+        "Over { ending: Fault(Fault { kind: Arith, line: 3 }) }",
+    ),
+    Twice(
+        b"PROC main (CHAN OF BYTE keyboard, screen)\n  BYTE x:\n  ALT\n    FALSE & keyboard ? x\n      SKIP\n:\n",
+        0,
+        "Over { ending: Stopped }",
+    ),
+    Twice(
+        b"PROC main (CHAN OF BYTE keyboard, screen)\n  IF\n    FALSE\n      SKIP\n:\n",
+        0,
+        "Over { ending: Stopped }",
+    ),
+    Twice(
+        b"PROC main (CHAN OF BYTE keyboard, screen)\n  CASE 3\n    1\n      SKIP\n:\n",
+        0,
+        "Over { ending: Stopped }",
+    ),
+];
+
+/// The main process has taken so many turns, and one more twice, of which the second is left.
+fn turned_twice(
+    rt: &impl Abort,
+    alloc: Global,
+    source: &[u8],
+    turns: u32,
+) -> Result<(Network, Segment), Fail> {
+    let mut network = network_of(rt, alloc, source, b"");
+    for _ in 0..turns {
+        step(rt, alloc, &mut network, 0)?;
+    }
+    let first = turn_by(rt, alloc, &mut network, 0)?;
     assert!(rt; network.release(0));
     assert!(rt; !network.release(0));
-    let again = turn_by(rt, alloc, network, 0)?;
-    assert_eq!(rt; again.before().turns, 0);
-    settle(rt, alloc, network, first);
-    check_refused(rt, alloc, network, again, "Stale { number: 0, turns: 1 }")
+    let again = turn_by(rt, alloc, &mut network, 0)?;
+    assert_eq!(rt; again.before().turns, u64::from(turns));
+    settle(rt, alloc, &mut network, first);
+    Ok((network, again))
+}
+
+/// A turn that was taken twice is settled once.
+fn check_twice(rt: &impl Abort, alloc: Global, row: &Twice) -> Result<(), Fail> {
+    let (mut network, again) = turned_twice(rt, alloc, row.0, row.1)?;
+    let (twin, _) = turned_twice(rt, alloc, row.0, row.1)?;
+    check_refused(rt, alloc, &mut network, &twin, again, row.2)
 }
 
 #[test]
 fn a_turn_is_settled_once(rt: HostRuntime) -> Result<(), Fail> {
-    let alloc = rt.alloc();
-    let mut network = network_of(&rt, alloc, LOOPS)?;
-    check_twice(&rt, alloc, &mut network)
+    for row in &TWICE {
+        check_twice(&rt, rt.alloc(), row)?;
+    }
+    Ok(())
 }
 
-const HALVES: &[u8] =
+/// A loop round a PAR, whose branches have cells of their own.
+pub(crate) const HALVES: &[u8] =
     b"PROC main (CHAN OF BYTE keyboard, screen)\n  [2]INT a:\n  INT n:\n  SEQ\n    n := 0\n    WHILE n < 2\n      SEQ\n        PAR\n          a[0] := a[0] + 1\n          a[1] := a[1] + n\n        n := n + 1\n    screen ! BYTE ((a[0] + a[1]) + 48)\n:\n";
 
 /// How many cells the ready process at this place has.
@@ -88,7 +141,7 @@ fn check_fork(rt: &impl Abort, alloc: Global, network: &mut Network) -> Result<(
 #[test]
 fn branches_have_their_own_cells(rt: HostRuntime) -> Result<(), Fail> {
     let alloc = rt.alloc();
-    let mut network = network_of(&rt, alloc, HALVES)?;
+    let mut network = network_of(&rt, alloc, HALVES, b"");
     check_fork(&rt, alloc, &mut network)?;
     assert_eq!(&rt; network.ready_count(), 2);
     assert_eq!(&rt; cells_at(&network, 0), Some(1));
@@ -97,36 +150,30 @@ fn branches_have_their_own_cells(rt: HostRuntime) -> Result<(), Fail> {
     Ok(())
 }
 
-/// A turn of the next process of a network is not one of another.
-fn check_foreign(
+/// The network of a source, whose main process has taken so many turns, and the next turn of this network.
+fn foreign(
     rt: &impl Abort,
     alloc: Global,
-    network: &mut Network,
-    other: &mut Network,
-    stale: &str,
-) -> Result<(), Fail> {
-    let foreign = next_turn(alloc, other)?.expect(rt, "no process");
-    check_refused(rt, alloc, network, foreign, stale)
+    source: &[u8],
+    turns: u32,
+) -> Result<(Network, Segment), Fail> {
+    let mut network = network_of(rt, alloc, source, b"");
+    for _ in 0..turns {
+        step(rt, alloc, &mut network, 0)?;
+    }
+    let next = next_turn(alloc, &mut network)?.expect(rt, "no process");
+    Ok((network, next))
 }
 
 #[test]
 fn foreign_turns_are_stale(rt: HostRuntime) -> Result<(), Fail> {
     let alloc = rt.alloc();
-    let mut network = network_of(&rt, alloc, DIVIDES)?;
-    step(&rt, alloc, &mut network, 0)?;
-    let mut other = network_of(&rt, alloc, LOOPS)?;
-    check_foreign(
-        &rt,
-        alloc,
-        &mut network,
-        &mut other,
-        "Stale { number: 0, turns: 1 }",
-    )?;
-    check_foreign(
-        &rt,
-        alloc,
-        &mut other,
-        &mut network,
-        "Stale { number: 1, turns: 0 }",
-    )
+    let (mut network, branch) = foreign(&rt, alloc, DIVIDES, 1)?;
+    let (network_twin, _) = foreign(&rt, alloc, DIVIDES, 1)?;
+    let (mut other, main) = foreign(&rt, alloc, LOOPS, 0)?;
+    let (other_twin, _) = foreign(&rt, alloc, LOOPS, 0)?;
+    let forked = "Stale { number: 0, turns: 1 }";
+    check_refused(&rt, alloc, &mut network, &network_twin, main, forked)?;
+    let absent = "Stale { number: 1, turns: 0 }";
+    check_refused(&rt, alloc, &mut other, &other_twin, branch, absent)
 }

@@ -9,6 +9,9 @@ use std::test::Fail;
 
 const LETTER: &[u8] = b"PROC main (CHAN OF BYTE keyboard, screen)\n  screen ! 'A'\n:\n";
 
+/// Twice the first process.
+const ZEROS: [Choice; 2] = [Choice { which: 0, pick: 0 }; 2];
+
 /// What a run of the plan comes to.
 fn outcome(rt: &impl Abort, alloc: Global, plan: &Plan) -> Result<Outcome, Fail> {
     let code = code_of(alloc, LETTER).expect(rt, "refused");
@@ -16,14 +19,18 @@ fn outcome(rt: &impl Abort, alloc: Global, plan: &Plan) -> Result<Outcome, Fail>
 }
 
 /// What an outcome shows, and what its network has.
-fn check_outcome(rt: &impl Abort, alloc: Global, outcome: &Outcome) -> Result<(), Fail> {
+fn check_outcome(
+    rt: &impl Abort,
+    alloc: Global,
+    outcome: &Outcome,
+    used: &[Choice],
+) -> Result<(), Fail> {
     let ending = outcome.ending.to_string(alloc)?;
     assert_eq!(rt; ending.as_str(), "ended");
     assert_eq!(rt; outcome.screen.as_slice(), b"A".as_slice());
-    assert_eq!(rt; outcome.choices.len(), 2);
-    for choice in outcome.network.choices() {
-        assert_eq!(rt; choice.which, 0);
-    }
+    assert!(rt; outcome.error.is_empty());
+    assert_eq!(rt; outcome.choices.as_slice(), used);
+    assert_eq!(rt; outcome.network.choices(), ZEROS.as_slice());
     Ok(())
 }
 
@@ -35,9 +42,9 @@ fn messages(network: &Network, chan: u32) -> Option<usize> {
     }
 }
 
-fn check(rt: &impl Abort, alloc: Global, plan: &Plan) -> Result<(), Fail> {
+fn check(rt: &impl Abort, alloc: Global, plan: &Plan, used: &[Choice]) -> Result<(), Fail> {
     let outcome = outcome(rt, alloc, plan)?;
-    check_outcome(rt, alloc, &outcome)?;
+    check_outcome(rt, alloc, &outcome, used)?;
     assert_eq!(rt; messages(&outcome.network, 1), Some(1));
     assert_eq!(rt; messages(&outcome.network, 3), None);
     Ok(())
@@ -46,8 +53,8 @@ fn check(rt: &impl Abort, alloc: Global, plan: &Plan) -> Result<(), Fail> {
 #[test]
 fn a_letter_is_run(rt: HostRuntime) -> Result<(), Fail> {
     let alloc = rt.alloc();
-    check(&rt, alloc, &Plan::Turns(2))?;
-    let zeros = [Choice { which: 0, pick: 0 }; 2];
-    let choices = Vec::from_slice(alloc, zeros.as_slice())?;
-    check(&rt, alloc, &Plan::Choices(choices))
+    let turns = [Choice { which: 0, pick: 0 }, Choice { which: 1, pick: 0 }];
+    check(&rt, alloc, &Plan::Turns(2), &turns)?;
+    let choices = Vec::from_slice(alloc, ZEROS.as_slice())?;
+    check(&rt, alloc, &Plan::Choices(choices), &ZEROS)
 }

@@ -1,6 +1,7 @@
 //! Networks of sources, and turns of their processes.
 ghost use Rattle.occ_net.specs.Leases.{CanTurn};
 
+use crate::same::check_same;
 use occ_check::unfold;
 use occ_code::{Code, compile};
 use occ_net::{Lease, NetFault, Network};
@@ -21,14 +22,28 @@ pub(crate) fn code_of(alloc: Global, source: &[u8]) -> Option<Code> {
     compile(alloc, &checked).ok()
 }
 
-/// The network of a source before its first turn, with no keyboard.
-pub(crate) fn network_of(rt: &impl Abort, alloc: Global, source: &[u8]) -> Result<Network, Fail> {
-    let code = code_of(alloc, source).expect(rt, "refused");
-    Ok(Network::new(alloc, code, Vec::new(alloc))?)
+/// The network of a source before its first turn, where the source is accepted and no growth is refused.
+fn new_network(alloc: Global, source: &[u8], keyboard: &[u8]) -> Option<Network> {
+    let code = code_of(alloc, source)?;
+    let keyboard = Vec::from_slice(alloc, keyboard).ok()?;
+    Network::new(alloc, code, keyboard).ok()
+}
+
+/// The network of a source before its first turn. One growth may be refused.
+pub(crate) fn network_of(
+    rt: &impl Abort,
+    alloc: Global,
+    source: &[u8],
+    keyboard: &[u8],
+) -> Network {
+    match new_network(alloc, source, keyboard) {
+        Some(network) => network,
+        None => new_network(alloc, source, keyboard).expect(rt, "refused"),
+    }
 }
 
 /// The turn of a lease.
-fn turn_of(alloc: Global, lease: Lease) -> Result<Segment, AllocError>
+pub(crate) fn turn_of(alloc: Global, lease: Lease) -> Result<Segment, AllocError>
     requires { CanTurn lease }
 {
     let Lease { body, task } = lease;
@@ -61,11 +76,6 @@ pub(crate) fn turn_by(
     Ok(segment)
 }
 
-/// How many choices and how many communications a network has.
-pub(crate) fn counts(network: &Network) -> (usize, usize) {
-    (network.choices().len(), network.trace().len())
-}
-
 /// Takes a turn in.
 pub(crate) fn settle(rt: &impl Abort, alloc: Global, network: &mut Network, segment: Segment) {
     let settled = network.settle(alloc, segment, 0).is_ok();
@@ -96,19 +106,19 @@ pub(crate) fn refusal(
     }
 }
 
-/// Whether a turn is refused so, and nothing changes.
+/// A turn is refused so, and the network stays the same as its twin.
 pub(crate) fn check_refused(
     rt: &impl Abort,
     alloc: Global,
     network: &mut Network,
+    twin: &Network,
     segment: Segment,
     refused: &str,
 ) -> Result<(), Fail> {
-    let before = counts(network);
     let number = segment.before().number;
     let (back, fault) = refusal(alloc, network, segment).expect(rt, "settled");
     assert_eq!(rt; back, number);
-    assert_eq!(rt; counts(network), before);
+    check_same(rt, network, twin);
     let told = format!(in alloc; "{fault:?}")?;
     assert_eq!(rt; told.as_str(), refused);
     Ok(())
