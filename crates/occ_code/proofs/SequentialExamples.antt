@@ -8,7 +8,11 @@ use Rattle.occ_term.specs.Uses.{uses_of}
 use Rattle.occ_term.specs.Frames.{is_held}
 use Rattle.occ_code.specs.Alike.{Lists, used_by}
 use Rattle.occ_code.specs.Sequential.Examples.{counts, whole_numbers, CountsAsCompiled, first_of_two, FirstOfTwoAsCompiled, twice, TwiceAsCompiled, twice_two, TwiceTwoAsCompiled}
+use Rattle.occ_code.specs.Sequential.Within.{AreNumbered}
 use Rattle.occ_code.proofs.SequentialLayout.{compiled_do}
+
+few : AreNumbered whole_numbers
+few = record { channels = λ c p h. cc }
 
 below : (n : ℕ) → nat_le 0 (suc n) ≡ true
 below n = grind (arith, nat_tests)
@@ -35,7 +39,7 @@ written = record { rising = tt; members = λ n. of_cell n }
 
 pub counts_as_compiled : CountsAsCompiled
 counts_as_compiled =
-    compiled_do whole_numbers counts (0 ∷ []) (0 ∷ []) 1
+    compiled_do whole_numbers counts (0 ∷ []) (0 ∷ []) 1 few (omega arith)
     ((Int, takes_order refl refl, refl, refl), ((Int, []) ∷ [], ((refl, (Int, takes_arithmetic refl refl, refl, refl)), tt), (((λ c m. refl), refl), tt)))
     used written (omega arith)
 
@@ -54,7 +58,7 @@ twice_written = record { rising = tt; members = λ n. of_cell n }
     of_cell (suc n) = rw (other n) refl
 
 pub twice_as_compiled : TwiceAsCompiled
-twice_as_compiled = compiled_do whole_numbers twice (0 ∷ []) (0 ∷ []) 1 ((refl, refl, refl), refl, tt) twice_used twice_written (omega arith)
+twice_as_compiled = compiled_do whole_numbers twice (0 ∷ []) (0 ∷ []) 1 few (omega arith) ((refl, refl, refl), refl, tt) twice_used twice_written (omega arith)
 
 two_used : Lists (0 ∷ []) (used_by (uses_of twice_two))
 two_used = record { rising = tt; members = λ n. of_cell n }
@@ -71,7 +75,7 @@ two_written = record { rising = tt; members = λ n. of_cell n }
     of_cell (suc n) = rw (other n) refl
 
 pub twice_two_as_compiled : TwiceTwoAsCompiled
-twice_two_as_compiled = compiled_do whole_numbers twice_two (0 ∷ []) (0 ∷ []) 1 ((refl, refl, refl), refl, (tt, (tt, tt))) two_used two_written (omega arith)
+twice_two_as_compiled = compiled_do whole_numbers twice_two (0 ∷ []) (0 ∷ []) 1 few (omega arith) ((refl, refl, refl), refl, (tt, (tt, tt))) two_used two_written (omega arith)
 
 no_more : (a n : ℕ) → a < 3 → nat_eq a (suc (suc (suc n))) ≡ false
 no_more a n h = grind (arith, nat_tests)
@@ -104,5 +108,5 @@ three_written = record { rising = (omega arith, (omega arith, tt)); members = λ
 
 pub first_of_two_as_compiled : FirstOfTwoAsCompiled
 first_of_two_as_compiled =
-    compiled_do whole_numbers first_of_two (0 ∷ 1 ∷ 2 ∷ []) (0 ∷ 1 ∷ 2 ∷ []) 1
+    compiled_do whole_numbers first_of_two (0 ∷ 1 ∷ 2 ∷ []) (0 ∷ 1 ∷ 2 ∷ []) 1 few (omega arith)
     ((refl, refl, refl), refl, ((Int, [], (refl, refl), (λ c m. refl)), (refl, ((Int, []) ∷ [], ((refl, refl), tt), (((λ c m. refl), refl), tt)), tt), tt), tt) three_used three_written (omega arith)

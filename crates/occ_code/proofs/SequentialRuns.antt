@@ -7,11 +7,12 @@ use Rattle.occ_term.specs.declared.fault.Fault.{Fault}
 use Rattle.occ_term.specs.declared.message.Part.{Part}
 use Rattle.occ_term.specs.declared.protocol.Protocol.{Protocol}
 use Rattle.occ_term.specs.declared.protocol.PartType.{PartType}
-use Rattle.occ_term.specs.TypedSteps.{LoopHas}
+use Rattle.std.proofs.lemmas.Bool.Decides.{nat_tests}
+use Rattle.occ_term.specs.TypedSteps.{IndicesHave, LoopHas}
 use Rattle.occ_term.specs.StepUses.{uses_of_loop}
 use Rattle.occ_term.specs.Messages.{message}
 use Rattle.occ_term.specs.Terms.{Expression, Place, Item, Declaration, Clearing, Naming, Arms, Term, Skip, Stop, Assign, Input, Output, VariantInput, Seq, Par, Alt, If, Case, While, Each, Clear, Local, Terms, no_terms, then_term, Branches, no_branches, and_branch, Reception, Plain, Tagged, Variants, no_variants, or_variant, Choices, no_choices, or_choice, declared_choices, each_choice, Options, no_options, or_option, or_else}
-use Rattle.occ_term.specs.Values.{Store, store_with, Value, Fails, after, holds, first_of, value_of, span_of, parts_of}
+use Rattle.occ_term.specs.Values.{Store, store_with, Value, Fails, after, holds, Span, first_of, value_of, span_of, parts_of}
 use Rattle.occ_term.specs.Storing.{Outcome, Gives, then_in, in_store, Nothing, nothing, store_into, declared, all_declared, Indices, indices, indices_of, index_of}
 use Rattle.occ_term.specs.Selecting.{Enabled, enabled, or_next, first_over, choice_over, choice_of, Selected, selected, is_among, matching, else_of, either, enters, variant_taken}
 use Rattle.occ_term.specs.Steps.{Loop, WhileLoop, EachLoop, each, each_loop, in_each, Doing, Do, Passing, Again, Offering, Awaiting, Taken, SkipTaken, Choosing, choosing, alt, in_alt, taken_by, after_taken, Taking, MessageTaken, Forking, Context, Then, Within, left, or_stop, pass, pass_of, offer_of, await_of, Step, ends, stop, assign, clear, local, output, input, variant, take_in, seq_empty, seq, drops, par_empty, par, if_step, case, while, passes_again, leaves, body_ends, again, FaultsIn, in_assign, in_local, in_output, in_input, in_variant, in_take, in_if, in_case, in_loop}
@@ -23,22 +24,27 @@ use Rattle.occ_term.specs.TermTyping.{Declared, ChannelHas, value_parts, ItemsHa
 use Rattle.occ_term.specs.Frames.{Variables, at}
 use Rattle.occ_code.specs.declared.task.Wait.TheVariants.{Ready, Offers, Awaits, Chooses as ChoosesAmong, Joins, Halted}
 use Rattle.occ_code.specs.Alike.{numbers_of}
-use Rattle.occ_code.specs.Sequential.Machine.{by_cell, Instruction, Push, ChooseArm, open_arm, Choose, IfAmong, IfTag, DropOne, NextChoice, BackToChoice, Begin, Pass, passed, turning, Moves, Send, Receive, Halt, Point, point, Stops, act, effect, Walks, here, frame_with, counting}
+use Rattle.occ_code.specs.Sequential.Machine.{by_cell, Instruction, Push, ChooseArm, open_arm, Choose, IfAmong, IfTag, DropOne, NextChoice, BackToChoice, Begin, Pass, passed, turned, is_next, is_number, turning, Moves, Stuck, Send, Receive, Halt, Point, point, Stops, act, effect, Walks, here, frame_with, counting}
 use Rattle.occ_code.specs.Sequential.Expressions.{expression_code, place_code, items_code, declarations_code, par_code}
 use Rattle.occ_code.specs.Sequential.Laws.{StandsAt, FaultsAt}
 use Rattle.occ_code.specs.Sequential.Layout.{Ways, stays, Counts, EachAt, TermAt, TermsAt, VariantsAt, ChoicesAt, OptionsAt, ElseAt, ListAt, LoopAt, LeadsBack}
 use Rattle.occ_code.proofs.SequentialPlaces.{split, walks_on}
 use Rattle.occ_code.proofs.SequentialExpressions.{expression_runs, place_runs, steps_to}
 use Rattle.occ_code.proofs.SequentialItems.{items_run}
-use Rattle.occ_code.proofs.SequentialReads.{value_same, channel_same, indices_same, parts_same}
+use Rattle.occ_code.proofs.SequentialReads.{value_same, channel_same, channel_declared, indices_same, parts_same}
 use Rattle.occ_code.proofs.SequentialFrames.{HoldsAs, GivesAs, one_held, frame_of, Performs, performs, refuses, performs_on, performs_by}
 use Rattle.occ_code.proofs.SequentialStatements.{Held, held_left, held_right, agrees_on, Lands, sets_then, storing_runs, assigns, declaration_runs, declarations_run, counted_fits, counting_runs, next_fits, still_fits}
 use Rattle.occ_code.proofs.SequentialResults.{Does as DoesFrom, steps_on, ways_walk, at_offer, at_await, at_choose, at_fork, at_halt, at_loop, finishes, pauses, result_after, result_within, faulted, outcome_result, comes_case}
-use Rattle.occ_code.proofs.SequentialChoosing.{arrives, ArmsLaid}
+use Rattle.occ_code.proofs.SequentialChoosing.{arrives, ArmsLaid, laid_numbered}
+use Rattle.occ_code.specs.Sequential.Within.{AreNumbered}
 use Rattle.occ_code.proofs.SequentialArms.{Opens, arms_run}
 use Rattle.occ_code.proofs.SequentialCounters.{KeepsBelow, keeps_all, keeps_on, keeps_less, counts_kept, turning_keeps, turning_counts, turning_held}
 
-module _ (code : List Instruction) (loops : ℕ) (cells : List ℕ) (d : Declared) where
+-- the next index of a replicator with a value left
+next_is : (v : ℤ) (n : ℕ) → IndicesHave v (suc n) → is_next v ≡ true
+next_is v n h = grind (arith, nat_tests)
+
+module _ (code : List Instruction) (loops : ℕ) (cells : List ℕ) (d : Declared) (few : AreNumbered d) where
   abbrev Has : Numbers → Type 0
   Has u = Held code cells d u
 
@@ -80,6 +86,10 @@ module _ (code : List Instruction) (loops : ℕ) (cells : List ℕ) (d : Declare
     channel_agrees : (c : Place) (p : Protocol) (f : Variables) → ChannelHas d c p → Has (reads_in_place c) → (s : Store) → HoldsAs cells f s → span_of c s ≡ span_of c (at f)
     channel_agrees c p f h k s hs = channel_same d s (at f) c p h (agrees_on code cells d (reads_in_place c) f s k hs)
 
+    -- a channel that a place names has a number of the machine's
+    has_its_number : (c : Place) (p : Protocol) (f : Variables) → ChannelHas d c p → (a : Span) → span_of c (at f) ≡ Value a → is_number (first_of a) ≡ true
+    has_its_number c p f hc a e = few.channels (first_of a) p (channel_declared d (at f) c p a hc e)
+
     outputs : (c : Place) (tag : Option ℕ) (is : List Item) (p : Protocol) (types : List PartType) (f : Variables) (pc m pc' : ℕ) → ChannelHas d c p → ItemsHave d is types → Has (reads_in_place c) → Has (reads_of_items is)
         → StandsAt code pc (place_code c ++ (items_code is ++ Send tag ∷ [])) m → Ways code m pc' → Does (start pc f) f (Do (Output c tag is)) pc'
     outputs c tag is p types f pc m pc' hc hi kc ki at_place w =
@@ -88,7 +98,7 @@ module _ (code : List Instruction) (loops : ℕ) (cells : List ℕ) (d : Declare
         comes_case code (span_of c (at f)) (place_runs code f [] [] c pc a [] h)
         (λ x e v. comes_case code (parts_of is (at f)) (items_run code f (pos (first_of x) ∷ []) [] is [] a b h')
         (λ ps e' v' room. pauses (b + 1) (Offers (first_of x) (message tag ps)) (Offering (first_of x) (message tag ps)) [] f
-        (record { last = point b (pos (first_of x) ∷ []) ps [] f; walks = walks_on v v'; stops = ap (λ o. act by_cell o b (pos (first_of x) ∷ []) ps [] f) l.0 })
+        (record { last = point b (pos (first_of x) ∷ []) ps [] f; walks = walks_on v v'; stops = ap (λ o. act by_cell o b (pos (first_of x) ∷ []) ps [] f) l.0 ∙ ap (λ t. if t then Stops (b + 1) f (Offers (first_of x) (message tag ps)) else Stuck) (has_its_number c p f hc x e) })
         (keeps_all slot refl) (at_offer slot (refl, subst (λ n. Ways code n pc') (sym l.1) w))
         (λ s hs. record {
           store = s;
@@ -126,7 +136,7 @@ module _ (code : List Instruction) (loops : ℕ) (cells : List ℕ) (d : Declare
         let (a, h, r) = split code pc n (place_code c) _ at_place in
         comes_case code (span_of c (at f)) (place_runs code f [] [] c pc a [] h)
         (λ y e v room. pauses (a + 1) (Awaits (first_of y)) (Awaiting (first_of y) list) [] f
-        (record { last = point a (pos (first_of y) ∷ []) [] [] f; walks = v; stops = ap (λ o. act by_cell o a (pos (first_of y) ∷ []) [] [] f) r.0 })
+        (record { last = point a (pos (first_of y) ∷ []) [] [] f; walks = v; stops = ap (λ o. act by_cell o a (pos (first_of y) ∷ []) [] [] f) r.0 ∙ ap (λ t. if t then Stops (a + 1) f (Awaits (first_of y)) else Stuck) (has_its_number c p f hc y e) })
         (keeps_all slot refl) (at_await slot pc' (subst (λ m. ListAt code loops slot m list pc') (sym r.1) l) (refl, stays))
         (λ s hs. record { store = s; turn = λ k. single_turn none (step s (Awaiting (first_of y) list) k (ap (λ z. after z (λ w. Value (Awaiting (first_of w) list))) (channel_agrees c p f hc kc s hs ∙ e))) refl; holds = hs }))
         (λ err e z. faulted code loops cells slot z refl (λ s hs. record { store = s; fault_in = fault s err (ap (λ z. after z (λ w. Value (Awaiting (first_of w) list))) (channel_agrees c p f hc kc s hs ∙ e)); holds = hs }))
@@ -258,7 +268,8 @@ module _ (code : List Instruction) (loops : ℕ) (cells : List ℕ) (d : Declare
         by_arms (e ∷ es) [] x lands given = absurd x
         by_arms (e ∷ es) (p ∷ ps) x lands given = λ room.
             pauses (pc + 1) (ChoosesAmong pri (map open_arm (p ∷ ps))) (Choosing pri (e ∷ es)) [] (frame_of b)
-            (record { last = b; walks = walk; stops = ap (λ z. effect by_cell code z) lands ∙ ap (λ o. act by_cell o n (pos 0 ∷ []) (p ∷ ps) [] (frame_of b)) hc ∙ ap (λ m. Stops m (frame_of b) (ChoosesAmong pri (map open_arm (p ∷ ps)))) root })
+            (record { last = b; walks = walk; stops = ap (λ z. effect by_cell code z) lands ∙ ap (λ o. act by_cell o n (pos 0 ∷ []) (p ∷ ps) [] (frame_of b)) hc
+            ∙ ap (λ t. if t then Stops (n - back) (frame_of b) (ChoosesAmong pri (map open_arm (p ∷ ps))) else Stuck) (laid_numbered code loops slot (pc + 1) pc' (map open_arm (p ∷ ps)) (e ∷ es) x) ∙ ap (λ m. Stops m (frame_of b) (ChoosesAmong pri (map open_arm (p ∷ ps)))) root })
             (keeps_all slot l) (at_choose slot pc' x (refl, stays))
             (λ s hs. let r = given s hs in record { store = r.store; turn = λ k. single_turn none (alt r.gives_it) refl; holds = r.holds })
 
@@ -303,14 +314,15 @@ module _ (code : List Instruction) (loops : ℕ) (cells : List ℕ) (d : Declare
 
     -- a replicated SEQ with its counters: its next body, or the end
     passes : (f : Variables) (pc pc' index : ℕ) (b : Term) (l : EachAt code loops slot pc index b pc') → ((g : Variables) → DoesFrom code loops cells (slot + 2) (start (pc + 1) g) g (Do b) l.1)
-        → (n : ℕ) (v : ℤ) → Counts f.left slot v n → Does (start pc f) f (Passing (EachLoop index v n b)) pc'
-    passes f pc pc' index b l r zero v counts =
-        result_after code loops cells slot (steps_to code f pc [] [] [] (Pass slot index l.0) (start (pc + 1 + l.0) f) l.3 (ap (λ c. Moves (passed by_cell c pc slot index l.0 [] [] [] f)) counts.0)) (keeps_all slot refl)
+        → (n : ℕ) (v : ℤ) → Counts f.left slot v n → IndicesHave v n → Does (start pc f) f (Passing (EachLoop index v n b)) pc'
+    passes f pc pc' index b l r zero v counts have =
+        result_after code loops cells slot (steps_to code f pc [] [] [] (Pass slot index l.0) (start (pc + 1 + l.0) f) l.3 (ap (λ c. passed by_cell c pc slot index l.0 [] [] [] f) counts.0)) (keeps_all slot refl)
         (λ s hs. record { store = s; steps = λ k. more (leaves refl) refl none; holds = hs }) (skips f (pc + 1 + l.0) pc' l.4)
-    passes f pc pc' index b l r (suc n) v counts =
+    passes f pc pc' index b l r (suc n) v counts have =
         turns f pc pc' index b l r n v
         (steps_to code f pc [] [] [] (Pass slot index l.0) (start (pc + 1) (turning by_cell f slot index n v)) l.3
-        (ap (λ c. Moves (passed by_cell c pc slot index l.0 [] [] [] f)) counts.0 ∙ ap (λ x. Moves (start (pc + 1) (turning by_cell f slot index n x))) counts.1))
+        (ap (λ c. passed by_cell c pc slot index l.0 [] [] [] f) counts.0 ∙ ap (λ x. turned by_cell n x pc slot index [] [] [] f) counts.1
+        ∙ ap (λ t. if t then Moves (start (pc + 1) (turning by_cell f slot index n v)) else Stuck) (next_is v n have)))
 
     -- the first body, or none
     begins : (f : Variables) (m skip pc' index : ℕ) (b : Term) (l : EachAt code loops slot (m + 1) index b pc') → slice_get code m ≡ Some (Begin slot index skip) → Ways code (m + 1 + skip) pc'
@@ -364,7 +376,7 @@ module _ (code : List Instruction) (loops : ℕ) (cells : List ℕ) (d : Declare
     term_runs slot (Par bs) f pc pc' h k l = forks slot bs f pc l.0 pc' l.1 l.2
     term_runs slot (Alt pri arms) f pc pc' h k l =
         alts slot pri arms f pc l.1 l.2 pc' l.3 l.5 l.6
-        (arms_run code loops cells d slot (pc + 1) pc' arms [] f (pc + 1) 0 l.0 l.1 [] [] h k l.4 refl (λ n a b. arrives))
+        (arms_run code loops cells d slot (pc + 1) pc' few arms [] f (pc + 1) 0 l.0 l.1 [] [] l.7 h k l.4 refl (λ n a b. arrives))
     term_runs slot (If cs) f pc pc' h k l =
         outcome_result code loops cells slot (λ t. Do (or_stop t)) (λ x ks. refl) (λ x s s' ks e. if_step e) (λ e s s' q. in_if q) (choices_run slot cs f pc l.0 pc' [] h k l.1)
         (λ x b e. chosen_runs slot x b l.0 pc' l.2 e)
@@ -469,4 +481,4 @@ module _ (code : List Instruction) (loops : ℕ) (cells : List ℕ) (d : Declare
       tests slot f pc l.0 l.1 l.2 pc' e b h.0 (held_left code cells d (reads_of e) (uses_of b).reads k) l.3 l.4 l.5 l.7 l
       (term_runs slot b f (l.0 + 1) l.2 h.1 (held_right code cells d (reads_of e) (uses_of b).reads k) l.6)
   loop_runs slot (EachLoop index v n b) f pc pc' h k l =
-      passes slot f pc pc' index b l.1 (λ g. term_runs (slot + 2) b g (pc + 1) l.1.1 h.3 (held_right code cells d (λ c. false) (uses_of b).reads k) l.1.5) n v l.0
+      passes slot f pc pc' index b l.1 (λ g. term_runs (slot + 2) b g (pc + 1) l.1.1 h.3 (held_right code cells d (λ c. false) (uses_of b).reads k) l.1.5) n v l.0 h.1
