@@ -129,6 +129,10 @@ all_within u well =
 all_numbered : (u : Unfolding) → IsWellFormed u → AreNumbered (declared u)
 all_numbered u well =
     record {
+      cells = λ c t h. (
+          let lt = there_below (map (λ x. x.primitive) u.cells) c t h in
+          let inside : c < 4294967296 = omega (arith, lt, length-map u.cells (λ x. x.primitive), well.few_cells) in
+          number_below c inside);
       channels = λ c p h. (
           let lt = there_below (map (λ x. x.protocol) u.channels) c p h in
           let inside : c < 4294967296 = omega (arith, lt, length-map u.channels (λ x. x.protocol), well.few_channels) in

@@ -1,12 +1,12 @@
 -- Code that names cells by their places does what it does by their numbers, from any frame of the cells.
 use Rattle.std.specs.Prelude.{All, if◌then◌else◌, int_le, map, nat_abs, nat_eq, nat_le, nat_lt, option_map, pos, replicate, slice_get, slice_set, unwrap_or, ⊤, ◌+ℤ◌, ◌-◌, ◌||◌}
-use Rattle.std.proofs.Common.{IsTrue, ◌<◌, ◌≤◌, ◌≡◌, ◌∙◌, refl, ap, sym, subst, ℕ, zero, suc, ◌+◌, ℤ, Bool, true, false, Option, Some, None, List, [], ◌∷◌, length, get_or, arith}
+use Rattle.std.proofs.Common.{IsTrue, ◌<◌, ◌≤◌, ◌≡◌, ◌∙◌, refl, ap, sym, subst, ℕ, zero, suc, ◌+◌, ◌*◌, ℤ, Bool, true, false, Option, Some, None, List, [], ◌∷◌, length, get_or, arith}
 use Rattle.std.proofs.lemmas.List.{get_or_past, set_past}
 use Rattle.std.proofs.lemmas.Option.{slice_get-map, slice_get-get_or, slice_get_past}
 use Rattle.std.proofs.lemmas.Bool.Decides.{nat_tests}
 use Rattle.occ_term.specs.declared.message.Part.{Part}
 use Rattle.occ_term.specs.Messages.{message}
-use Rattle.occ_term.specs.Values.{Evaluated, Value, Fails, holds}
+use Rattle.occ_term.specs.Values.{Evaluated, Value, Fails, holds, subscript}
 use Rattle.occ_term.specs.Storing.{Spot, Outcome, Gives, Faults, Nothing, Indices, indices, values_in}
 use Rattle.occ_term.specs.Selecting.{is_among}
 use Rattle.occ_term.specs.Frames.{Variables, at, in_place, with_place, place_among, place_in, value_at, is_held}
@@ -16,7 +16,7 @@ use Rattle.occ_code.specs.declared.task.Task.{Task}
 use Rattle.occ_code.specs.declared.task.Arm.{Arm}
 use Rattle.occ_code.specs.declared.task.Wait.{Wait}
 use Rattle.occ_code.specs.declared.task.Wait.TheVariants.{Ready, Took, Offers, Awaits, Chooses, Joins, Halted, Done, Faulted}
-use Rattle.occ_code.specs.Sequential.Machine.{by_cell, by_place, NamesWithin, placed, counters_with, Instruction, Push, Load, LoadAt, LoadLetter, Subscript, Operate, OperateOne, ConvertTo, AndThen, OrElse, PartOne, PartMany, PartText, PartCounted, PartCountedText, SpotOne, SpotCounted, StoreParts, StoreNamed, StoreOne, ClearCells, Jump, Choose, IfAmong, IfTag, DropOne, CountedFrom, NextChoice, BackToChoice, PassArms, IfTaken, SetAgain, IfTrue, OpenSkip, OpenInput, ChooseArm, pass_arms, if_taken, again_set, open_arm, choosing_stop, Begin, Pass, LoopBack, Send, Receive, Fork, Halt, End, Point, point, Effect, Moves, Stops, Stuck, with_one, with_two, going, going_stored, act, effect, Walks, here, on, begins_at, SingleStop, StopsIn, stops_here, passes_on, turning, begun, passed, next_choice, tag_step, last_part, named_from, Stored, Stays, Refused, frame_with, frame_from, frame_parts, values_with, with_counter, counter_at, kept_as, kept_value, is_next, is_number, are_numbered}
+use Rattle.occ_code.specs.Sequential.Machine.{by_cell, by_place, NamesWithin, placed, counters_with, Instruction, Push, Load, LoadAt, LoadLetter, Subscript, Operate, OperateOne, ConvertTo, AndThen, OrElse, PartOne, PartMany, PartText, PartCounted, PartCountedText, SpotOne, SpotCounted, StoreParts, StoreNamed, StoreOne, ClearCells, Jump, Choose, IfAmong, IfTag, DropOne, CountedFrom, NextChoice, BackToChoice, PassArms, IfTaken, SetAgain, IfTrue, OpenSkip, OpenInput, ChooseArm, pass_arms, if_taken, again_set, open_arm, choosing_stop, Begin, Pass, LoopBack, Send, Receive, Fork, Halt, End, Point, point, Effect, Moves, Stops, Stuck, with_one, with_two, going, going_if, going_stored, act, effect, Walks, here, on, begins_at, SingleStop, StopsIn, stops_here, passes_on, turning, begun, passed, next_choice, tag_step, last_part, named_from, Stored, Stays, Refused, frame_with, frame_from, frame_parts, values_with, with_counter, counter_at, kept_as, kept_value, is_next, is_number, is_component, are_numbered}
 use Rattle.occ_code.specs.Sequential.Laws.{PlacesDo}
 use Rattle.occ_code.proofs.SequentialFrames.{HoldsAs, one_held, row_held, parts_held, StoresAs, stored_frame, frame_of, row_left, parts_left}
 use Rattle.occ_code.proofs.SequentialCounters.{length-counters_with}
@@ -215,6 +215,10 @@ module _ (cells : List ℕ) (loops : ℕ) where
   going_shapes pc f (Value x) to h k = k x
   going_shapes pc f (Fails e) to h k = h
 
+  going_if_shapes : {X : Type 0} (pc : ℕ) (f : Variables) (v : Evaluated X) (may : X → Bool) (to : X → Point) → Shaped f → ((x : X) → Shaped (frame_of (to x))) → Shapes (going_if pc f v may to)
+  going_if_shapes pc f (Value x) may to h k = if_shapes (may x) (to x) (k x)
+  going_if_shapes pc f (Fails e) may to h k = h
+
   stored_shapes : (pc : ℕ) (a : Stored) (to : Variables → Point) → Shaped (stored_frame a) → ((g : Variables) → Shaped g → Shaped (frame_of (to g))) → Shapes (going_stored pc a to)
   stored_shapes pc (Stays f) to h k = k f h
   stored_shapes pc (Refused e f) to h k = h
@@ -263,7 +267,7 @@ module _ (cells : List ℕ) (loops : ℕ) where
   act_shapes (Some (Load c)) pc st q sp f h = h
   act_shapes (Some LoadAt) pc st q sp f h = one_shapes st _ (λ v st'. h)
   act_shapes (Some (LoadLetter line text)) pc st q sp f h = one_shapes st _ (λ v st'. going_shapes pc f _ _ h (λ x. h))
-  act_shapes (Some (Subscript line size stride)) pc st q sp f h = two_shapes st _ (λ v w st'. going_shapes pc f _ _ h (λ x. h))
+  act_shapes (Some (Subscript line size stride)) pc st q sp f h = two_shapes st _ (λ v w st'. going_if_shapes pc f (subscript line size v) (λ i. is_component w (i * stride)) (λ i. point (pc + 1) (pos (nat_abs w + i * stride) ∷ st') q sp f) h (λ x. h))
   act_shapes (Some (Operate operator type line)) pc st q sp f h = two_shapes st _ (λ v w st'. going_shapes pc f _ _ h (λ x. h))
   act_shapes (Some (OperateOne operator type line)) pc st q sp f h = one_shapes st _ (λ v st'. going_shapes pc f _ _ h (λ x. h))
   act_shapes (Some (ConvertTo to line)) pc st q sp f h = one_shapes st _ (λ v st'. going_shapes pc f _ _ h (λ x. h))

@@ -21,7 +21,7 @@ use Rattle.occ_code.specs.Sequential.Laws.{StandsAt}
 use Rattle.occ_code.specs.Sequential.Layout.{ArmsAt, PassesArms}
 use Rattle.occ_code.specs.Sequential.Within.{AreNumbered}
 use Rattle.occ_code.proofs.SequentialPlaces.{split, place_after, walks_on}
-use Rattle.occ_code.proofs.SequentialExpressions.{expression_runs, place_runs, steps_to}
+use Rattle.occ_code.proofs.SequentialExpressions.{channel_fits, expression_runs, place_runs, steps_to}
 use Rattle.occ_code.proofs.SequentialReads.{value_same, channel_same, channel_declared, indices_same}
 use Rattle.occ_code.proofs.SequentialFrames.{one_held, frame_of, Performs, performs, refuses, performs_on, performs_by}
 use Rattle.occ_code.proofs.SequentialStatements.{Held, held_left, held_right, agrees_on, Sets, sets_then, declaration_runs, counted_fits, counting_runs, next_fits, still_fits}
@@ -84,19 +84,19 @@ module _ (code : List Instruction) (loops : ℕ) (cells : List ℕ) (d : Declare
 
   -- ---- what is set again for an arm that was taken
 
-  pub again_runs : (again : List Setting) (f : Variables) (a b n : ℕ) (st : List ℤ) (q : List Part) → SettingsHave d again → Has (uses_of_settings again).reads → SetsAgain code n a again b
+  pub again_runs : (few : AreNumbered d) (again : List Setting) (f : Variables) (a b n : ℕ) (st : List ℤ) (q : List Part) → SettingsHave d again → Has (uses_of_settings again).reads → SetsAgain code n a again b
       → Sets code cells d f (point a (pos (suc n) ∷ (indices_in again ++ st)) q [] f) (set_again again) b (pos (suc n) ∷ st) q []
-  again_runs [] f a b n st q h k x = performs nothing (point b (pos (suc n) ∷ st) q [] f) (sorts_walk code n a b st q f x) refl refl (λ s hs. record { store = s; gives_it = refl; holds = hs })
-  again_runs (IndexTo c v ∷ again) f a b n st q h k x =
+  again_runs few [] f a b n st q h k x = performs nothing (point b (pos (suc n) ∷ st) q [] f) (sorts_walk code n a b st q f x) refl refl (λ s hs. record { store = s; gives_it = refl; holds = hs })
+  again_runs few (IndexTo c v ∷ again) f a b n st q h k x =
       index_first (set_again again) c v
       (walks_on (sorts_walk code n a x.0 (v ∷ (indices_in again ++ st)) q f x.2)
       (steps_to code f x.0 (pos (suc n) ∷ v ∷ (indices_in again ++ st)) q [] (SetAgain c x.1) (point (x.0 + 1 + x.1) (pos (suc n) ∷ (indices_in again ++ st)) q [] (frame_with f c v)) x.3 refl))
-      (again_runs again (frame_with f c v) (x.0 + 1 + x.1) b n st q h.1 (held_right code cells d (uses_of_setting (IndexTo c v)).reads (uses_of_settings again).reads k) x.4)
-  again_runs (DeclaredAgain e ∷ again) f a b n st q h k x =
+      (again_runs few again (frame_with f c v) (x.0 + 1 + x.1) b n st q h.1 (held_right code cells d (uses_of_setting (IndexTo c v)).reads (uses_of_settings again).reads k) x.4)
+  again_runs few (DeclaredAgain e ∷ again) f a b n st q h k x =
       performs_on code cells (sorts_walk code n a x.0 (indices_in again ++ st) q f x.2)
       (sets_then code cells d (declared e) x.1 (pos (suc n) ∷ (indices_in again ++ st)) q [] (set_again again)
-      (declaration_runs code cells d e f x.0 x.1 (pos (suc n) ∷ (indices_in again ++ st)) q h.0 (held_left code cells d (uses_of_declaration e).reads (uses_of_settings again).reads k) x.3)
-      (λ g. again_runs again g x.1 b n st q h.1 (held_right code cells d (uses_of_declaration e).reads (uses_of_settings again).reads k) x.4))
+      (declaration_runs code cells d few e f x.0 x.1 (pos (suc n) ∷ (indices_in again ++ st)) q h.0 (held_left code cells d (uses_of_declaration e).reads (uses_of_settings again).reads k) x.3)
+      (λ g. again_runs few again g x.1 b n st q h.1 (held_right code cells d (uses_of_declaration e).reads (uses_of_settings again).reads k) x.4))
 
   -- ---- the arms that are opened
 
@@ -147,49 +147,49 @@ module _ (code : List Instruction) (loops : ℕ) (cells : List ℕ) (d : Declare
     opens_next o k st st' q mid next (refuses e g x l h) n =
         refuses e g x l (λ s hs. let r = h s hs in record { store = r.store; faults_by = ap (λ z. and_arms z k) r.faults_by; holds = r.holds })
 
-    -- ---- what opens an arm
-
-    module _ (f : Variables) (out next : ℕ) (st : List ℤ) (q : List Part) (yes_ no_ : Store → Outcome (List Enabled)) where
-      tests : (e : Expression) (opens : List Instruction) (pc : ℕ) → HasType d.types e Boolean → Has (reads_of e) → StandsAt code pc (opening_code (Some e) opens) out
-          → ((m : ℕ) → StandsAt code m opens out → Opens f (point m (pos 0 ∷ st) q [] f) yes_ st q next) → Opens f (point out (pos 0 ∷ st) q [] f) no_ st q next
-          → Opens f (point pc (pos 0 ∷ st) q [] f) (λ s. then_in (in_store (value_of e s) s) (λ v s'. if holds v then yes_ s' else no_ s')) st q next
-      tests e opens pc he ke at_place y n =
-          let (m, a, r) = split code pc out (expression_code e) (IfTrue (length opens) ∷ opens) at_place in
-          performs_by code cells (value_of e) (value_of e (at f)) (λ v. point m (v ∷ pos 0 ∷ st) q [] f) (λ v s'. if holds v then yes_ s' else no_ s') (expression_runs code f q [] e pc m (pos 0 ∷ st) a)
-          (λ s hs. value_same d.types s (at f) e Boolean he (agrees_on code cells d (reads_of e) f s ke hs))
-          (λ v x. by_holds m v (holds v) refl r)
-        where
-          by_holds : (m : ℕ) (v : ℤ) (b : Bool) → holds v ≡ b → StandsAt code m (IfTrue (length opens) ∷ opens) out → Opens f (point m (v ∷ pos 0 ∷ st) q [] f) (λ s'. if holds v then yes_ s' else no_ s') st q next
-          by_holds m v true h r =
-              performs_as yes_ (λ s'. if holds v then yes_ s' else no_ s') (λ s. rw h refl)
-              (performs_on code cells (steps_to code f m (v ∷ pos 0 ∷ st) q [] (IfTrue (length opens)) (point (m + 1) (pos 0 ∷ st) q [] f) r.0 (rw h refl)) (y (m + 1) r.1))
-          by_holds m v false h r =
-              performs_as no_ (λ s'. if holds v then yes_ s' else no_ s') (λ s. rw h refl)
-              (performs_on code cells (subst (λ c. Walks by_cell code (point m (v ∷ pos 0 ∷ st) q [] f) (point c (pos 0 ∷ st) q [] f)) (place_after code (m + 1) out opens r.1)
-              (steps_to code f m (v ∷ pos 0 ∷ st) q [] (IfTrue (length opens)) (point (m + 1 + length opens) (pos 0 ∷ st) q [] f) r.0 (rw h refl))) n)
-
-    -- one without a test is open
-    may_open : (f : Variables) (out next : ℕ) (st : List ℤ) (q : List Part) (yes_ no_ : Store → Outcome (List Enabled)) (e : Option Expression) (opens : List Instruction) (pc : ℕ) → HasType d.types (tested e) Boolean → Has (reads_of (tested e))
-        → StandsAt code pc (opening_code e opens) out → ((m : ℕ) → StandsAt code m opens out → Opens f (point m (pos 0 ∷ st) q [] f) yes_ st q next) → Opens f (point out (pos 0 ∷ st) q [] f) no_ st q next
-        → Opens f (point pc (pos 0 ∷ st) q [] f) (λ s. then_in (in_store (value_of (tested e) s) s) (λ v s'. if holds v then yes_ s' else no_ s')) st q next
-    may_open f out next st q yes_ no_ None opens pc he ke at_place y n = y pc at_place
-    may_open f out next st q yes_ no_ (Some e) opens pc he ke at_place y n = tests f out next st q yes_ no_ e opens pc he ke at_place y n
-
-    opens_skip : (f : Variables) (out next number m : ℕ) (st : List ℤ) (q : List Part) (e : Enabled) (others : Store → Outcome (List Enabled)) → ArmLaid code loops slot root (open_arm (open_skip (pos number) (indices_on (pos 0 ∷ st)))) e pc'
-        → ((r : List Part) → Opens f (point out (pos 0 ∷ st) r [] f) others st r next) → StandsAt code m (OpenSkip (pos number) ∷ []) out → Opens f (point m (pos 0 ∷ st) q [] f) (λ s. and_arm e (others s)) st q next
-    opens_skip f out next number m st q e others x n at_place =
-        let p : Part = open_skip (pos number) (indices_on (pos 0 ∷ st)) in
-        opens_first e p others st q next x
-        (performs_on code cells (subst (λ c. Walks by_cell code (point m (pos 0 ∷ st) q [] f) (point c (pos 0 ∷ st) (q ++ open_skip (pos number) (indices_on (pos 0 ∷ st)) ∷ []) [] f)) at_place.1
-        (steps_to code f m (pos 0 ∷ st) q [] (OpenSkip (pos number)) (point (m + 1) (pos 0 ∷ st) (q ++ open_skip (pos number) (indices_on (pos 0 ∷ st)) ∷ []) [] f) at_place.0 refl)) (n (q ++ open_skip (pos number) (indices_on (pos 0 ∷ st)) ∷ [])))
-
     module _ (few : AreNumbered d) where
+      -- ---- what opens an arm
+
+      module _ (f : Variables) (out next : ℕ) (st : List ℤ) (q : List Part) (yes_ no_ : Store → Outcome (List Enabled)) where
+        tests : (e : Expression) (opens : List Instruction) (pc : ℕ) → HasType d.types e Boolean → Has (reads_of e) → StandsAt code pc (opening_code (Some e) opens) out
+            → ((m : ℕ) → StandsAt code m opens out → Opens f (point m (pos 0 ∷ st) q [] f) yes_ st q next) → Opens f (point out (pos 0 ∷ st) q [] f) no_ st q next
+            → Opens f (point pc (pos 0 ∷ st) q [] f) (λ s. then_in (in_store (value_of e s) s) (λ v s'. if holds v then yes_ s' else no_ s')) st q next
+        tests e opens pc he ke at_place y n =
+            let (m, a, r) = split code pc out (expression_code e) (IfTrue (length opens) ∷ opens) at_place in
+            performs_by code cells (value_of e) (value_of e (at f)) (λ v. point m (v ∷ pos 0 ∷ st) q [] f) (λ v s'. if holds v then yes_ s' else no_ s') (expression_runs code f q [] d.types few.cells e Boolean he pc m (pos 0 ∷ st) a)
+            (λ s hs. value_same d.types s (at f) e Boolean he (agrees_on code cells d (reads_of e) f s ke hs))
+            (λ v x. by_holds m v (holds v) refl r)
+          where
+            by_holds : (m : ℕ) (v : ℤ) (b : Bool) → holds v ≡ b → StandsAt code m (IfTrue (length opens) ∷ opens) out → Opens f (point m (v ∷ pos 0 ∷ st) q [] f) (λ s'. if holds v then yes_ s' else no_ s') st q next
+            by_holds m v true h r =
+                performs_as yes_ (λ s'. if holds v then yes_ s' else no_ s') (λ s. rw h refl)
+                (performs_on code cells (steps_to code f m (v ∷ pos 0 ∷ st) q [] (IfTrue (length opens)) (point (m + 1) (pos 0 ∷ st) q [] f) r.0 (rw h refl)) (y (m + 1) r.1))
+            by_holds m v false h r =
+                performs_as no_ (λ s'. if holds v then yes_ s' else no_ s') (λ s. rw h refl)
+                (performs_on code cells (subst (λ c. Walks by_cell code (point m (v ∷ pos 0 ∷ st) q [] f) (point c (pos 0 ∷ st) q [] f)) (place_after code (m + 1) out opens r.1)
+                (steps_to code f m (v ∷ pos 0 ∷ st) q [] (IfTrue (length opens)) (point (m + 1 + length opens) (pos 0 ∷ st) q [] f) r.0 (rw h refl))) n)
+
+      -- one without a test is open
+      may_open : (f : Variables) (out next : ℕ) (st : List ℤ) (q : List Part) (yes_ no_ : Store → Outcome (List Enabled)) (e : Option Expression) (opens : List Instruction) (pc : ℕ) → HasType d.types (tested e) Boolean → Has (reads_of (tested e))
+          → StandsAt code pc (opening_code e opens) out → ((m : ℕ) → StandsAt code m opens out → Opens f (point m (pos 0 ∷ st) q [] f) yes_ st q next) → Opens f (point out (pos 0 ∷ st) q [] f) no_ st q next
+          → Opens f (point pc (pos 0 ∷ st) q [] f) (λ s. then_in (in_store (value_of (tested e) s) s) (λ v s'. if holds v then yes_ s' else no_ s')) st q next
+      may_open f out next st q yes_ no_ None opens pc he ke at_place y n = y pc at_place
+      may_open f out next st q yes_ no_ (Some e) opens pc he ke at_place y n = tests f out next st q yes_ no_ e opens pc he ke at_place y n
+
+      opens_skip : (f : Variables) (out next number m : ℕ) (st : List ℤ) (q : List Part) (e : Enabled) (others : Store → Outcome (List Enabled)) → ArmLaid code loops slot root (open_arm (open_skip (pos number) (indices_on (pos 0 ∷ st)))) e pc'
+          → ((r : List Part) → Opens f (point out (pos 0 ∷ st) r [] f) others st r next) → StandsAt code m (OpenSkip (pos number) ∷ []) out → Opens f (point m (pos 0 ∷ st) q [] f) (λ s. and_arm e (others s)) st q next
+      opens_skip f out next number m st q e others x n at_place =
+          let p : Part = open_skip (pos number) (indices_on (pos 0 ∷ st)) in
+          opens_first e p others st q next x
+          (performs_on code cells (subst (λ c. Walks by_cell code (point m (pos 0 ∷ st) q [] f) (point c (pos 0 ∷ st) (q ++ open_skip (pos number) (indices_on (pos 0 ∷ st)) ∷ []) [] f)) at_place.1
+          (steps_to code f m (pos 0 ∷ st) q [] (OpenSkip (pos number)) (point (m + 1) (pos 0 ∷ st) (q ++ open_skip (pos number) (indices_on (pos 0 ∷ st)) ∷ []) [] f) at_place.0 refl)) (n (q ++ open_skip (pos number) (indices_on (pos 0 ∷ st)) ∷ [])))
+
       opens_input : (f : Variables) (out next number m : ℕ) (st : List ℤ) (q : List Part) (c : Place) (protocol : _) (e : ℕ → Enabled) (others : Store → Outcome (List Enabled)) → ChannelHas d c protocol → Has (reads_in_place c)
           → ((n : ℕ) → IsTrue (is_number n) → ArmLaid code loops slot root (open_arm (open_input (pos number) (pos n) (indices_on (pos 0 ∷ st)))) (e n) pc') → ((r : List Part) → Opens f (point out (pos 0 ∷ st) r [] f) others st r next)
           → StandsAt code m (place_code c ++ OpenInput (pos number) ∷ []) out → Opens f (point m (pos 0 ∷ st) q [] f) (λ s. then_in (in_store (span_of c s) s) (λ x s'. and_arm (e (first_of x)) (others s'))) st q next
       opens_input f out next number m st q c protocol e others hc kc x n at_place =
           let (a, l, r) = split code m out (place_code c) (OpenInput (pos number) ∷ []) at_place in
-          performs_by code cells (span_of c) (span_of c (at f)) (λ y. point a (pos (first_of y) ∷ pos 0 ∷ st) q [] f) (λ y s'. and_arm (e (first_of y)) (others s')) (place_runs code f q [] c m a (pos 0 ∷ st) l)
+          performs_by code cells (span_of c) (span_of c (at f)) (λ y. point a (pos (first_of y) ∷ pos 0 ∷ st) q [] f) (λ y s'. and_arm (e (first_of y)) (others s')) (place_runs code f q [] d.types few.cells c [] (channel_fits d few c protocol hc) m a (pos 0 ∷ st) l)
           (λ s hs. channel_same d s (at f) c protocol hc (agrees_on code cells d (reads_in_place c) f s kc hs))
           (λ y same. opens_first (e (first_of y)) (open_input (pos number) (pos (first_of y)) (indices_on (pos 0 ∷ st))) others st q next (x (first_of y) (few.channels (first_of y) protocol (channel_declared d (at f) c protocol y hc same)))
           (performs_on code cells (subst (λ z. Walks by_cell code (point a (pos (first_of y) ∷ pos 0 ∷ st) q [] f) (point z (pos 0 ∷ st) (q ++ open_input (pos number) (pos (first_of y)) (indices_on (pos 0 ∷ st)) ∷ []) [] f)) r.1
@@ -284,7 +284,7 @@ module _ (code : List Instruction) (loops : ℕ) (cells : List ℕ) (d : Declare
           let inner = reaches_in pc low l.0 high l.1 ds l.3 reach in
           opens_next (λ s. then_in (declared x s) (λ y s'. enabled within (ds ++ DeclaredAgain x ∷ []) s')) (enabled others ds) st st q l.1 next
           (performs_on code cells (passes_zero f pc low l.0 high l.1 st q l.3)
-          (sets_then code cells d (declared x) l.2 (pos 0 ∷ st) q [] (enabled within (ds ++ DeclaredAgain x ∷ [])) (declaration_runs code cells d x f (pc + 1) l.2 (pos 0 ∷ st) q h.0 kx l.4)
+          (sets_then code cells d (declared x) l.2 (pos 0 ∷ st) q [] (enabled within (ds ++ DeclaredAgain x ∷ [])) (declaration_runs code cells d few x f (pc + 1) l.2 (pos 0 ∷ st) q h.0 kx l.4)
           (λ g. arms_run within (ds ++ DeclaredAgain x ∷ []) g l.2 l.0 high l.1 st q fits h.1 (held_left code cells d (uses_of_arms within).reads (uses_of_arms others).reads r) l.5 (is ∙ sym (indices_then_declared ds x))
           (λ n a b. sets_declared code n root (pc + 1) l.2 x ds (inner n a b) l.4))))
           (λ g q'. arms_run others ds g l.1 low l.0 next st q' fewer h.2 (held_right code cells d (uses_of_arms within).reads (uses_of_arms others).reads r) l.6 is (reaches_others pc low l.0 high l.1 ds l.3 reach))
@@ -299,7 +299,7 @@ module _ (code : List Instruction) (loops : ℕ) (cells : List ℕ) (d : Declare
           opens_next (λ s. then_in (in_store (indices_of over s) s) (λ x s'. arms_over (enabled within) (index_of over) x ds s')) (enabled others ds) st st q l.1 next
           (performs_on code cells
           (walks_on (passes_zero f pc low l.0 high l.1 st q l.7) (steps_to code f (pc + 1) (pos 0 ∷ st) q [] (SetAgain (index_of over) l.4) (point (pc + 1 + 1) (pos 0 ∷ st) q [] f) l.8 refl))
-          (performs_by code cells (indices_of over) (indices_of over (at f)) (λ x. point l.2 (counting x (pos 0 ∷ st)) q [] f) (λ x s'. arms_over (enabled within) (index_of over) x ds s') (counting_runs code cells d over f (pc + 1 + 1) l.2 (pos 0 ∷ st) q l.10)
+          (performs_by code cells (indices_of over) (indices_of over (at f)) (λ x. point l.2 (counting x (pos 0 ∷ st)) q [] f) (λ x s'. arms_over (enabled within) (index_of over) x ds s') (counting_runs code cells d few over h.0 f (pc + 1 + 1) l.2 (pos 0 ∷ st) q l.10)
           (λ s hs. indices_same d s (at f) over h.0 (agrees_on code cells d (uses_of_replicator over).reads f s kx hs))
           (λ x same. counted_opens x (enabled within) ds (index_of over) l.2 l.1 st q f (over_opens (enabled within) ds (index_of over) l.2 l.5 l.6 l.3 l.1 st l.11 l.12 l.13 l.15 l.16 l.17 each_value)
           (λ base count e. counted_fits over (at f) base count (same ∙ ap Value e)))))

@@ -38,7 +38,7 @@ after_each (Fails e) f g k = refl
 pub after_same : {X Y : Type 0} (v v' : Evaluated X) (f g : X → Evaluated Y) → v ≡ v' → ((x : X) → v' ≡ Value x → f x ≡ g x) → after v f ≡ after v' g
 after_same v v' f g e k = ap (λ w. after w f) e ∙ after_each v' f g k
 
-operand : (types : ℕ → Option Primitive) (op : Monadic) (type : Primitive) (line : ℕ) (a : Expression) (t : Primitive) → HasType types (Unary op type line a) t → (u : Primitive) × HasType types a u
+pub operand : (types : ℕ → Option Primitive) (op : Monadic) (type : Primitive) (line : ℕ) (a : Expression) (t : Primitive) → HasType types (Unary op type line a) t → (u : Primitive) × HasType types a u
 operand types Negate type line a t h = (type, h.2)
 operand types BitNot type line a t h = (type, h.2)
 operand types Not type line a t h = (_, h.2)

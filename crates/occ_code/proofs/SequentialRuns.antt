@@ -29,7 +29,7 @@ use Rattle.occ_code.specs.Sequential.Expressions.{expression_code, place_code, i
 use Rattle.occ_code.specs.Sequential.Laws.{StandsAt, FaultsAt}
 use Rattle.occ_code.specs.Sequential.Layout.{Ways, stays, Counts, EachAt, TermAt, TermsAt, VariantsAt, ChoicesAt, OptionsAt, ElseAt, ListAt, LoopAt, LeadsBack}
 use Rattle.occ_code.proofs.SequentialPlaces.{split, walks_on}
-use Rattle.occ_code.proofs.SequentialExpressions.{expression_runs, place_runs, steps_to}
+use Rattle.occ_code.proofs.SequentialExpressions.{channel_fits, expression_runs, place_runs, steps_to}
 use Rattle.occ_code.proofs.SequentialItems.{items_run}
 use Rattle.occ_code.proofs.SequentialReads.{value_same, channel_same, channel_declared, indices_same, parts_same}
 use Rattle.occ_code.proofs.SequentialFrames.{HoldsAs, GivesAs, one_held, frame_of, Performs, performs, refuses, performs_on, performs_by}
@@ -95,8 +95,8 @@ module _ (code : List Instruction) (loops : ℕ) (cells : List ℕ) (d : Declare
     outputs c tag is p types f pc m pc' hc hi kc ki at_place w =
         let (a, h, r) = split code pc m (place_code c) _ at_place in
         let (b, h', l) = split code a m (items_code is) _ r in
-        comes_case code (span_of c (at f)) (place_runs code f [] [] c pc a [] h)
-        (λ x e v. comes_case code (parts_of is (at f)) (items_run code f (pos (first_of x) ∷ []) [] is [] a b h')
+        comes_case code (span_of c (at f)) (place_runs code f [] [] d.types few.cells c [] (channel_fits d few c p hc) pc a [] h)
+        (λ x e v. comes_case code (parts_of is (at f)) (items_run code f (pos (first_of x) ∷ []) [] d few is types hi [] a b h')
         (λ ps e' v' room. pauses (b + 1) (Offers (first_of x) (message tag ps)) (Offering (first_of x) (message tag ps)) [] f
         (record { last = point b (pos (first_of x) ∷ []) ps [] f; walks = walks_on v v'; stops = ap (λ o. act by_cell o b (pos (first_of x) ∷ []) ps [] f) l.0 ∙ ap (λ t. if t then Stops (b + 1) f (Offers (first_of x) (message tag ps)) else Stuck) (has_its_number c p f hc x e) })
         (keeps_all slot refl) (at_offer slot (refl, subst (λ n. Ways code n pc') (sym l.1) w))
@@ -134,7 +134,7 @@ module _ (code : List Instruction) (loops : ℕ) (cells : List ℕ) (d : Declare
         → Does (start pc f) f x pc'
     awaits c list x p f pc n pc' hc kc at_place l step fault =
         let (a, h, r) = split code pc n (place_code c) _ at_place in
-        comes_case code (span_of c (at f)) (place_runs code f [] [] c pc a [] h)
+        comes_case code (span_of c (at f)) (place_runs code f [] [] d.types few.cells c [] (channel_fits d few c p hc) pc a [] h)
         (λ y e v room. pauses (a + 1) (Awaits (first_of y)) (Awaiting (first_of y) list) [] f
         (record { last = point a (pos (first_of y) ∷ []) [] [] f; walks = v; stops = ap (λ o. act by_cell o a (pos (first_of y) ∷ []) [] [] f) r.0 ∙ ap (λ t. if t then Stops (a + 1) f (Awaits (first_of y)) else Stuck) (has_its_number c p f hc y e) })
         (keeps_all slot refl) (at_await slot pc' (subst (λ m. ListAt code loops slot m list pc') (sym r.1) l) (refl, stays))
@@ -278,7 +278,7 @@ module _ (code : List Instruction) (loops : ℕ) (cells : List ℕ) (d : Declare
     tests : (f : Variables) (pc m skip n pc' : ℕ) (e : Expression) (body : Term) → HasType d.types e Boolean → Has (reads_of e) → StandsAt code pc (expression_code e) m → slice_get code m ≡ Some (Choose skip) → Ways code (m + 1 + skip) pc'
         → LeadsBack code n pc → TermAt code loops slot pc (While e body) pc' → Does (start (m + 1) f) f (Do body) n → Does (start pc f) f (Passing (WhileLoop e body)) pc'
     tests f pc m skip n pc' e body he ke at_place hm w back whole r =
-        comes_case code (value_of e (at f)) (expression_runs code f [] [] e pc m [] at_place)
+        comes_case code (value_of e (at f)) (expression_runs code f [] [] d.types few.cells e Boolean he pc m [] at_place)
         (λ v q walk. by_value v (holds v) refl q walk)
         (λ err q z. faulted code loops cells slot z refl (λ s hs. record { store = s; fault_in = in_loop (ap (λ y. then_in (in_store y s) (λ v s'. Gives (if holds v then Some (pass body (WhileLoop e body)) else None) s')) (value_agrees e Boolean f he ke s hs ∙ q)); holds = hs }))
       where
@@ -343,7 +343,7 @@ module _ (code : List Instruction) (loops : ℕ) (cells : List ℕ) (d : Declare
 
     selected_runs : (ds : List Declaration) (t : Term) (f : Variables) (pc m pc' : ℕ) → DeclarationsHave d ds → Has (uses_of_declarations ds).reads → StandsAt code pc (declarations_code ds) m → ((g : Variables) → Does (start m g) g (Do t) pc')
         → Enters f (start pc f) (enters (Some (selected ds t))) pc'
-    selected_runs ds t f pc m pc' h k l r = sets_then code cells d (all_declared ds) m [] [] [] (λ s. Gives (Some t) s) (declarations_run code cells d ds f pc m [] [] h k l) (λ g. enters_body t g m pc' (r g))
+    selected_runs ds t f pc m pc' h k l r = sets_then code cells d (all_declared ds) m [] [] [] (λ s. Gives (Some t) s) (declarations_run code cells d few ds f pc m [] [] h k l) (λ g. enters_body t g m pc' (r g))
 
     pub entered : (x : Option Term) (b : Point) (pc' : ℕ) → EntersTo pc' x b → Does b (frame_of b) (Do (or_stop x)) pc'
     entered None b pc' h = h
@@ -364,7 +364,7 @@ module _ (code : List Instruction) (loops : ℕ) (cells : List ℕ) (d : Declare
     term_runs slot Stop f pc pc' h k l = halts slot f pc pc' [] [] l
     term_runs slot (Assign ts vs) f pc pc' h k l =
         outcome_result code loops cells slot (λ x. Do Skip) (λ x ks. refl) (λ x s s' ks e. assign (only_nothing slot x e)) (λ e s s' q. in_assign q)
-        (assigns code cells d ts vs (value_parts h.0) f pc l.0 h.1 h.2 (held_left code cells d (reads_of_items vs) (uses_of_targets ts).reads k) (held_right code cells d (reads_of_items vs) (uses_of_targets ts).reads k) l.1)
+        (assigns code cells d few ts vs (value_parts h.0) f pc l.0 h.1 h.2 (held_left code cells d (reads_of_items vs) (uses_of_targets ts).reads k) (held_right code cells d (reads_of_items vs) (uses_of_targets ts).reads k) l.1)
         (λ x b e. lands_skips slot x b l.0 pc' l.2 e)
     term_runs slot (Input c ts) f pc pc' h k l =
         awaits slot c (Plain ts Skip) (Do (Input c ts)) h.0 f pc l.0 pc' h.2 (held_left code cells d (reads_in_place c) (uses_of_targets ts).reads k) l.2 (l.1, l.3, l.4) (λ s y ks e. input e) (λ s e q. in_input q)
@@ -382,7 +382,7 @@ module _ (code : List Instruction) (loops : ℕ) (cells : List ℕ) (d : Declare
         (λ x b e. chosen_runs slot x b l.0 pc' l.2 e)
     term_runs slot (Case e os) f pc pc' h k l =
         outcome_result code loops cells slot (λ t. Do (or_stop t)) (λ x ks. refl) (λ x s s' ks q. case q) (λ x s s' q. in_case q)
-        (performs_by code cells (value_of e) (value_of e (at f)) (λ v. point l.0 (v ∷ []) [] [] f) (λ v s'. enters (either (matching v os) (else_of os)) s') (expression_runs code f [] [] e pc l.0 [] l.2)
+        (performs_by code cells (value_of e) (value_of e (at f)) (λ v. point l.0 (v ∷ []) [] [] f) (λ v s'. enters (either (matching v os) (else_of os)) s') (expression_runs code f [] [] d.types few.cells e h.0 h.2 pc l.0 [] l.2)
         (value_agrees slot e h.0 f h.2 (held_left code cells d (reads_of e) (uses_of_options os).reads k))
         (λ v q. options_run slot os f v l.0 l.1 pc' h.0 (else_of os) h.3 (held_right code cells d (reads_of e) (uses_of_options os).reads k) l.3
         (λ g. else_runs slot os g v l.1 pc' h.0 h.3 (held_right code cells d (reads_of e) (uses_of_options os).reads k) l.4)))
@@ -393,7 +393,7 @@ module _ (code : List Instruction) (loops : ℕ) (cells : List ℕ) (d : Declare
         (term_runs slot b f (l.0 + 1) l.2 h.1 (held_right code cells d (reads_of e) (uses_of b).reads k) l.6))
     term_runs slot (Each r b) f pc pc' h k l =
         let at_pass : EachAt code loops slot (l.0 + 1) (index_of r) b pc' = l.5 in
-        comes_case code (indices_of r (at f)) (counting_runs code cells d r f pc l.0 [] [] l.2)
+        comes_case code (indices_of r (at f)) (counting_runs code cells d few r h.0 f pc l.0 [] [] l.2)
         (λ is e walk. result_after code loops cells slot walk (keeps_all slot refl) (λ s hs. record { store = s; steps = λ ks. more (each (indices_agree s hs ∙ e)) refl none; holds = hs })
         (begins slot f l.0 l.1 pc' (index_of r) b at_pass l.3 l.4 (λ g. term_runs (slot + 2) b g (l.0 + 1 + 1) at_pass.1 h.2 (held_right code cells d (uses_of_replicator r).reads (uses_of b).reads k) at_pass.5) is))
         (λ err e z. faulted code loops cells slot z refl (λ s hs. record { store = s; fault_in = in_each (indices_agree s hs ∙ e); holds = hs }))
@@ -402,10 +402,10 @@ module _ (code : List Instruction) (loops : ℕ) (cells : List ℕ) (d : Declare
         indices_agree s hs = indices_same d s (at f) r h.0 (agrees_on code cells d (uses_of_replicator r).reads f s (held_left code cells d (uses_of_replicator r).reads (uses_of b).reads k) hs)
     term_runs slot (Clear first count) f pc pc' h k l =
         outcome_result code loops cells slot (λ x. Do Skip) (λ x ks. refl) (λ x s s' ks e. clear (only_nothing slot x e)) (λ e s s' q. cc)
-        (declaration_runs code cells d (Clearing first count) f pc l.0 [] [] h k l.1) (λ x b e. lands_skips slot x b l.0 pc' l.2 e)
+        (declaration_runs code cells d few (Clearing first count) f pc l.0 [] [] h k l.1) (λ x b e. lands_skips slot x b l.0 pc' l.2 e)
     term_runs slot (Local first value) f pc pc' h k l =
         outcome_result code loops cells slot (λ x. Do Skip) (λ x ks. refl) (λ x s s' ks e. local (only_nothing slot x e)) (λ e s s' q. in_local q)
-        (declaration_runs code cells d (Naming first value) f pc l.0 [] [] h k l.1) (λ x b e. lands_skips slot x b l.0 pc' l.2 e)
+        (declaration_runs code cells d few (Naming first value) f pc l.0 [] [] h k l.1) (λ x b e. lands_skips slot x b l.0 pc' l.2 e)
 
     pub terms_run : (slot : ℕ) → (ts : Terms) (f : Variables) (pc pc' : ℕ) → TermsHave d ts → Has (uses_of_terms ts).reads → TermsAt code loops slot pc ts pc' → DoesFrom code loops cells slot (start pc f) f (Do (Seq ts)) pc'
     terms_run slot no_terms f pc pc' h k l = result_after code loops cells slot here (keeps_all slot refl) (λ s hs. record { store = s; steps = λ ks. more seq_empty refl none; holds = hs }) (skips slot f pc pc' l)
@@ -420,7 +420,7 @@ module _ (code : List Instruction) (loops : ℕ) (cells : List ℕ) (d : Declare
     choices_run slot (or_choice e t cs) f pc next pc' st h k l =
         let ke = held_left code cells d (reads_of e) (with_use (uses_of t) (uses_of_choices cs)).reads k in
         let r = held_right code cells d (reads_of e) (with_use (uses_of t) (uses_of_choices cs)).reads k in
-        performs_by code cells (value_of e) (value_of e (at f)) (λ v. point l.0 (v ∷ st) [] [] f) (λ v s'. if holds v then Gives (Some t) s' else choice_of cs s') (expression_runs code f [] [] e pc l.0 st l.2)
+        performs_by code cells (value_of e) (value_of e (at f)) (λ v. point l.0 (v ∷ st) [] [] f) (λ v s'. if holds v then Gives (Some t) s' else choice_of cs s') (expression_runs code f [] [] d.types few.cells e Boolean h.0 pc l.0 st l.2)
         (value_agrees slot e Boolean f h.0 ke)
         (λ v q. by_test slot f l.0 l.1 next pc' st v t (choice_of cs) (holds v) refl l.3 (term_runs slot t f (l.0 + 1) pc' h.1 (held_left code cells d (uses_of t).reads (uses_of_choices cs).reads r) l.4)
         (choices_run slot cs f (l.0 + 1 + l.1) next pc' st h.2 (held_right code cells d (uses_of t).reads (uses_of_choices cs).reads r) l.5))
@@ -428,7 +428,7 @@ module _ (code : List Instruction) (loops : ℕ) (cells : List ℕ) (d : Declare
         let kx = held_left code cells d (uses_of_declaration x).reads (with_use (uses_of_choices within) (uses_of_choices others)).reads k in
         let r = held_right code cells d (uses_of_declaration x).reads (with_use (uses_of_choices within) (uses_of_choices others)).reads k in
         chooses_next slot (λ s. then_in (declared x s) (λ y s'. choice_of within s')) (choice_of others) st st l.1 next pc'
-        (sets_then code cells d (declared x) l.0 st [] [] (choice_of within) (declaration_runs code cells d x f pc l.0 st [] h.0 kx l.2)
+        (sets_then code cells d (declared x) l.0 st [] [] (choice_of within) (declaration_runs code cells d few x f pc l.0 st [] h.0 kx l.2)
         (λ g. choices_run slot within g l.0 l.1 pc' st h.1 (held_left code cells d (uses_of_choices within).reads (uses_of_choices others).reads r) l.3))
         (λ g. choices_run slot others g l.1 next pc' st h.2 (held_right code cells d (uses_of_choices within).reads (uses_of_choices others).reads r) l.4)
     choices_run slot (each_choice over within others) f pc next pc' st h k l =
@@ -436,7 +436,7 @@ module _ (code : List Instruction) (loops : ℕ) (cells : List ℕ) (d : Declare
         let r = held_right code cells d (uses_of_replicator over).reads (with_use (uses_of_choices within) (uses_of_choices others)).reads k in
         let inner = (λ (g : Variables) (st' : List ℤ). choices_run slot within g (l.0 + 1) l.2 pc' st' h.2 (held_left code cells d (uses_of_choices within).reads (uses_of_choices others).reads r) l.6) in
         chooses_next slot (λ s. then_in (in_store (indices_of over s) s) (λ is s'. choice_over (choice_of within) (index_of over) is s')) (choice_of others) st st (l.0 + 1 + l.1) next pc'
-        (performs_by code cells (indices_of over) (indices_of over (at f)) (λ is. point l.0 (counting is st) [] [] f) (λ is s'. choice_over (choice_of within) (index_of over) is s') (counting_runs code cells d over f pc l.0 st [] l.4)
+        (performs_by code cells (indices_of over) (indices_of over (at f)) (λ is. point l.0 (counting is st) [] [] f) (λ is s'. choice_over (choice_of within) (index_of over) is s') (counting_runs code cells d few over h.0 f pc l.0 st [] l.4)
         (λ s hs. indices_same d s (at f) over h.0 (agrees_on code cells d (uses_of_replicator over).reads f s kx hs))
         (λ is q. counted_runs slot is (choice_of within) (index_of over) l.0 l.1 l.3 l.2 st pc' l.5 l.7.0 l.7.1 inner f (λ base count e. counted_fits over (at f) base count (q ∙ ap Value e))))
         (λ g. choices_run slot others g (l.0 + 1 + l.1) next pc' st h.3 (held_right code cells d (uses_of_choices within).reads (uses_of_choices others).reads r) l.8)
@@ -471,8 +471,8 @@ module _ (code : List Instruction) (loops : ℕ) (cells : List ℕ) (d : Declare
         let kt = held_left code cells d (uses_of_targets ts).reads (with_use (uses_of body) (uses_of_variants vs)).reads kr in
         let kb = held_right code cells d (uses_of_targets ts).reads (with_use (uses_of body) (uses_of_variants vs)).reads kr in
         tagged slot f pc l.0 pc' tag t ps (λ s. then_in (all_declared ds s) (λ x s'. then_in (store_into ts ps s') (λ y s''. Gives (Some body) s''))) (variant_taken tag ps vs) (nat_eq tag t) refl l.3
-        (sets_then code cells d (all_declared ds) l.1 [] ps [] (λ s'. then_in (store_into ts ps s') (λ y s''. Gives (Some body) s'')) (declarations_run code cells d ds f (pc + 1) l.1 [] ps h.1 kd l.4)
-        (λ g. sets_then code cells d (store_into ts ps) l.2 [] [] [] (λ s''. Gives (Some body) s'') (storing_runs code cells d ts h.0.0 ps g l.1 l.2 [] h.0.2 kt l.5)
+        (sets_then code cells d (all_declared ds) l.1 [] ps [] (λ s'. then_in (store_into ts ps s') (λ y s''. Gives (Some body) s'')) (declarations_run code cells d few ds f (pc + 1) l.1 [] ps h.1 kd l.4)
+        (λ g. sets_then code cells d (store_into ts ps) l.2 [] [] [] (λ s''. Gives (Some body) s'') (storing_runs code cells d few ts h.0.0 ps g l.1 l.2 [] h.0.2 kt l.5)
         (λ g'. enters_body slot body g' l.2 pc' (term_runs slot body g' l.2 pc' h.2 (held_left code cells d (uses_of body).reads (uses_of_variants vs).reads kb) l.6))))
         (variants_run slot vs f tag (pc + 1 + l.0) pc' ps p h.3 (held_right code cells d (uses_of body).reads (uses_of_variants vs).reads kb) l.7)
 

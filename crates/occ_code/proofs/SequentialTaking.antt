@@ -48,7 +48,7 @@ module _ (code : List Instruction) (loops : ℕ) (cells : List ℕ) (d : Declare
       → Enters code loops cells d few slot f (point pc (tag_stack m.tag) m.items [] f) (taken list m) pc'
   list_enters slot (Plain ts t) m p f pc pc' h fit k l =
       subst (λ st. Enters code loops cells d few slot f (point pc st m.items [] f) (taken (Plain ts t) m) pc') (sym (ap tag_stack (tag_none p m.tag h.0.0 m.items h.0.1 fit)))
-      (sets_then code cells d (store_into ts m.items) l.0 [] [] [] (λ s'. Gives (Some t) s') (storing_runs code cells d ts h.0.0 m.items f pc l.0 [] h.0.2 (held_left code cells d (uses_of_targets ts).reads (uses_of t).reads k) l.1)
+      (sets_then code cells d (store_into ts m.items) l.0 [] [] [] (λ s'. Gives (Some t) s') (storing_runs code cells d few ts h.0.0 m.items f pc l.0 [] h.0.2 (held_left code cells d (uses_of_targets ts).reads (uses_of t).reads k) l.1)
       (λ g. enters_body code loops cells d few slot t g l.0 pc' (term_runs code loops cells d few slot t g l.0 pc' h.1 (held_right code cells d (uses_of_targets ts).reads (uses_of t).reads k) l.2)))
   list_enters slot (Tagged vs) m p f pc pc' h fit k l = by_tag slot vs f m.tag pc pc' m.items p h k l
 
@@ -82,7 +82,7 @@ module _ (code : List Instruction) (loops : ℕ) (cells : List ℕ) (d : Declare
   arm_runs slot n root b skip settings what f pc' hs ht ks kt x h l =
       outcome_result code loops cells slot (λ y. Do (or_stop y)) (λ y k. refl) (λ y s s' k e. take_in e) (λ e s s' q. in_take q)
       (sets_then code cells d (set_again settings) b (pos (suc n) ∷ tag_of what) (items_of_taken what) [] (after_taken what)
-      (again_runs code loops cells d settings f root b n (tag_of what) (items_of_taken what) hs ks x)
+      (again_runs code loops cells d few settings f root b n (tag_of what) (items_of_taken what) hs ks x)
       (λ g. performs_on code cells (steps_to code g b (pos (suc n) ∷ tag_of what) (items_of_taken what) [] (IfTaken skip) (point (b + 1) (tag_of what) (items_of_taken what) [] g) h refl)
       (taken_enters slot what g (b + 1) pc' ht kt l)))
       (λ y c e. entered code loops cells d few slot y c pc' e)

@@ -5,6 +5,7 @@ use Rattle.occ_term.specs.Terms.{Term}
 use Rattle.occ_term.specs.Uses.{Numbers, uses_of}
 use Rattle.occ_term.specs.Unfolding.{most_cells}
 use Rattle.occ_term.specs.TermTyping.{Declared}
+use Rattle.occ_term.specs.declared.primitive.Primitive.{Primitive}
 use Rattle.occ_term.specs.declared.protocol.Protocol.{Protocol}
 use Rattle.occ_term.specs.Processes.{Numbered}
 use Rattle.occ_code.specs.Alike.{used_by}
@@ -21,6 +22,7 @@ abbrev pub AllWithin : List Numbered → Type 0
 AllWithin [] = ⊤
 AllWithin (p ∷ ps) = KeepsWithin p.term × AllWithin ps
 
--- each channel that is declared has such a number
+-- each cell and each channel that is declared has such a number
 pub record AreNumbered (d : Declared) : Type 0 where
+  pub cells : (c : ℕ) (t : Primitive) → d.types c ≡ Some t → IsTrue (is_number c)
   pub channels : (c : ℕ) (p : Protocol) → d.protocols c ≡ Some p → IsTrue (is_number c)
