@@ -17,10 +17,15 @@ use Rattle.occ_code.specs.Sequential.Emitted.{instructions_of, whole_code}
 use Rattle.occ_code.specs.Sequential.Compiled.{AddsBodies, AllDo, AreBodiesOf, IsCompiledFrom, IsQuantum, CodeRefuses, IsBodyOf, IsRefused, instructions_in, most_instructions}
 use Rattle.occ_code.specs.declared.compiler.code.CodeFault.{CodeFault}
 use Rattle.occ_code.specs.declared.compiler.code.CodeFault.TheVariants.{TooLarge, BadQuantum, Memory}
-use Rattle.occ_code.specs.Sequential.Within.{AllWithin, KeepsWithin}
+use Rattle.occ_code.specs.Sequential.Within.{AllWithin, AreNumbered, KeepsWithin}
 use Rattle.occ_code.proofs.UsedCells.{keeps_within}
-use Rattle.occ_code.proofs.SequentialLayout.{compiled_do}
+use Rattle.occ_code.proofs.SequentialChoosing.{number_below}
+use Rattle.occ_code.proofs.SequentialLayout.{compiled_do, there_below}
 use Rattle.occ_code.proofs.SequentialSizes.{programs_are_small}
+
+-- a body has as many instructions as the code of its term
+body_length : (t : Term) (quantum : ℕ) (b : Body) → IsBodyOf t quantum b → length b.code ≡ length (whole_code t)
+body_length t quantum b h = ap (λ x. length x.code) h.is ∙ length-map (whole_code t) (placed b.cells)
 
 -- ---- every process of a typed term is typed
 
@@ -92,14 +97,16 @@ module _ (d : Declared) where
 
   -- ---- every body does what its process's term does
 
-  body_does : (t : Term) (quantum : ℕ) (b : Body) → TermHas d t → 0 < quantum → IsBodyOf t quantum b → DoesAs d b t
-  body_does t quantum b typed some h = subst (λ x. DoesAs d x t) (sym h.is) (compiled_do d t b.cells b.writes quantum typed h.cells h.writes some)
+  body_does : (t : Term) (quantum : ℕ) (b : Body) → AreNumbered d → length b.code ≤ most_instructions → TermHas d t → 0 < quantum → IsBodyOf t quantum b → DoesAs d b t
+  body_does t quantum b few small typed some h =
+      let long = body_length t quantum b h in
+      subst (λ x. DoesAs d x t) (sym h.is) (compiled_do d t b.cells b.writes quantum few (omega (arith, long, small)) typed h.cells h.writes some)
 
-  all_do : (n quantum : ℕ) (ps : List Numbered) (bs : List Body) → 0 < quantum → NumberedFrom n ps → AllCompile d ps → AreBodiesOf ps quantum bs → AllDo d n bs ps
-  all_do n quantum [] [] some m h k = tt
-  all_do n quantum [] (b ∷ bs) some m h k = absurd k
-  all_do n quantum (p ∷ ps) [] some m h k = absurd k
-  all_do n quantum (p ∷ ps) (b ∷ bs) some m h k = (m.0, body_does p.term quantum b h.0 some k.0, all_do (n + 1) quantum ps bs some m.1 h.1 k.1)
+  all_do : (n quantum : ℕ) (ps : List Numbered) (bs : List Body) → AreNumbered d → instructions_in bs ≤ most_instructions → 0 < quantum → NumberedFrom n ps → AllCompile d ps → AreBodiesOf ps quantum bs → AllDo d n bs ps
+  all_do n quantum [] [] few small some m h k = tt
+  all_do n quantum [] (b ∷ bs) few small some m h k = absurd k
+  all_do n quantum (p ∷ ps) [] few small some m h k = absurd k
+  all_do n quantum (p ∷ ps) (b ∷ bs) few small some m h k = (m.0, body_does p.term quantum b few (omega (arith, small)) h.0 some k.0, all_do (n + 1) quantum ps bs few (omega (arith, small)) some m.1 h.1 k.1)
 
 of_quantum : (ps : List Numbered) (quantum : ℕ) (bs : List Body) → AreBodiesOf ps quantum bs → All (λ b. b.quantum ≡ quantum) bs
 of_quantum [] quantum [] h k d within = absurd (omega (arith, within))
@@ -110,12 +117,6 @@ of_quantum (p ∷ ps) quantum (b ∷ bs) h (suc k) d within = of_quantum ps quan
 
 -- ---- no process uses a cell past the limit
 
-there_below : {A : Type 0} (xs : List A) (c : ℕ) (x : A) → slice_get xs c ≡ Some x → c < length xs
-there_below [] zero x h = absurd cc
-there_below [] (suc c) x h = absurd cc
-there_below (y ∷ ys) zero x h = omega arith
-there_below (y ∷ ys) (suc c) x h = let lt = there_below ys c x h in omega (arith, lt)
-
 all_keep : (d : Declared) → ((c : ℕ) (t : Primitive) → d.types c ≡ Some t → c < 65536) → (ps : List Numbered) → AllCompile d ps → AllWithin ps
 all_keep d known [] h = tt
 all_keep d known (p ∷ ps) h = (keeps_within d known p.term h.0, all_keep d known ps h.1)
@@ -125,20 +126,30 @@ all_within u well =
     let known : (c : ℕ) (t : Primitive) → (declared u).types c ≡ Some t → c < 65536 = λ c t h. (let lt = there_below (map (λ x. x.primitive) u.cells) c t h in omega (arith, lt, length-map u.cells (λ x. x.primitive), well.few_cells)) in
     all_keep (declared u) known (processes_of (meaning u)) (well.typed, within (declared u) (meaning u) well.typed)
 
+all_numbered : (u : Unfolding) → IsWellFormed u → AreNumbered (declared u)
+all_numbered u well =
+    record {
+      cells = λ c t h. (
+          let lt = there_below (map (λ x. x.primitive) u.cells) c t h in
+          let inside : c < 4294967296 = omega (arith, lt, length-map u.cells (λ x. x.primitive), well.few_cells) in
+          number_below c inside);
+      channels = λ c p h. (
+          let lt = there_below (map (λ x. x.protocol) u.channels) c p h in
+          let inside : c < 4294967296 = omega (arith, lt, length-map u.channels (λ x. x.protocol), well.few_channels) in
+          number_below c inside);
+    }
+
 pub compiled_as : (u : Unfolding) (quantum : ℕ) (bodies : List Body) (channels : List Channel) (errors : Errors) → IsWellFormed u → IsQuantum quantum → AreBodiesOf (processes_of (meaning u)) quantum bodies
     → instructions_in bodies ≤ most_instructions → channels ≡ u.channels → IsCompiledFrom u quantum (record { bodies = bodies; channels = channels; errors = errors })
 compiled_as u quantum bodies channels errors well between h small same =
     record {
       channels = same;
-      bodies = all_do (declared u) 0 quantum (processes_of (meaning u)) bodies between.0 well.numbers (well.typed, within (declared u) (meaning u) well.typed) h;
+      bodies = all_do (declared u) 0 quantum (processes_of (meaning u)) bodies (all_numbered u well) small between.0 well.numbers (well.typed, within (declared u) (meaning u) well.typed) h;
       quanta = of_quantum (processes_of (meaning u)) quantum bodies h;
       small = small;
     }
 
 -- ---- how many instructions there are
-
-body_length : (t : Term) (quantum : ℕ) (b : Body) → IsBodyOf t quantum b → length b.code ≡ length (whole_code t)
-body_length t quantum b h = ap (λ x. length x.code) h.is ∙ length-map (whole_code t) (placed b.cells)
 
 pub as_many : (ps : List Numbered) (quantum : ℕ) (bs : List Body) → AreBodiesOf ps quantum bs → instructions_in bs ≡ instructions_of ps
 as_many [] quantum [] h = refl

@@ -1,11 +1,12 @@
 -- Code that names cells by their places does what it does by their numbers, from any frame of the cells.
-use Rattle.std.specs.Prelude.{All, if◌then◌else◌, int_le, map, nat_abs, nat_eq, nat_le, nat_lt, option_map, pos, replicate, slice_get, slice_set, unwrap_or, ⊤, ◌+ℤ◌, ◌||◌}
-use Rattle.std.proofs.Common.{IsTrue, ◌<◌, ◌≤◌, ◌≡◌, ◌∙◌, refl, ap, sym, subst, ℕ, zero, suc, ◌+◌, ℤ, Bool, true, false, Option, Some, None, List, [], ◌∷◌, length, get_or, arith}
+use Rattle.std.specs.Prelude.{All, if◌then◌else◌, int_le, map, nat_abs, nat_eq, nat_le, nat_lt, option_map, pos, replicate, slice_get, slice_set, unwrap_or, ⊤, ◌+ℤ◌, ◌-◌, ◌||◌}
+use Rattle.std.proofs.Common.{IsTrue, ◌<◌, ◌≤◌, ◌≡◌, ◌∙◌, refl, ap, sym, subst, ℕ, zero, suc, ◌+◌, ◌*◌, ℤ, Bool, true, false, Option, Some, None, List, [], ◌∷◌, length, get_or, arith}
 use Rattle.std.proofs.lemmas.List.{get_or_past, set_past}
 use Rattle.std.proofs.lemmas.Option.{slice_get-map, slice_get-get_or, slice_get_past}
 use Rattle.std.proofs.lemmas.Bool.Decides.{nat_tests}
 use Rattle.occ_term.specs.declared.message.Part.{Part}
-use Rattle.occ_term.specs.Values.{Evaluated, Value, Fails, holds}
+use Rattle.occ_term.specs.Messages.{message}
+use Rattle.occ_term.specs.Values.{Evaluated, Value, Fails, holds, subscript}
 use Rattle.occ_term.specs.Storing.{Spot, Outcome, Gives, Faults, Nothing, Indices, indices, values_in}
 use Rattle.occ_term.specs.Selecting.{is_among}
 use Rattle.occ_term.specs.Frames.{Variables, at, in_place, with_place, place_among, place_in, value_at, is_held}
@@ -15,7 +16,7 @@ use Rattle.occ_code.specs.declared.task.Task.{Task}
 use Rattle.occ_code.specs.declared.task.Arm.{Arm}
 use Rattle.occ_code.specs.declared.task.Wait.{Wait}
 use Rattle.occ_code.specs.declared.task.Wait.TheVariants.{Ready, Took, Offers, Awaits, Chooses, Joins, Halted, Done, Faulted}
-use Rattle.occ_code.specs.Sequential.Machine.{by_cell, by_place, NamesWithin, placed, counters_with, Instruction, Push, Load, LoadAt, LoadLetter, Subscript, Operate, OperateOne, ConvertTo, AndThen, OrElse, PartOne, PartMany, PartText, PartCounted, PartCountedText, SpotOne, SpotCounted, StoreParts, StoreNamed, StoreOne, ClearCells, Jump, Choose, IfAmong, IfTag, DropOne, CountedFrom, NextChoice, BackToChoice, PassArms, IfTaken, SetAgain, IfTrue, OpenSkip, OpenInput, ChooseArm, pass_arms, if_taken, again_set, open_arm, choosing_stop, Begin, Pass, LoopBack, Send, Receive, Fork, Halt, End, Point, point, Effect, Moves, Stops, Stuck, with_one, with_two, going, going_stored, act, effect, Walks, here, on, begins_at, SingleStop, StopsIn, stops_here, passes_on, turning, begun, passed, next_choice, tag_step, last_part, named_from, Stored, Stays, Refused, frame_with, frame_from, frame_parts, values_with, with_counter, counter_at, kept_as}
+use Rattle.occ_code.specs.Sequential.Machine.{by_cell, by_place, NamesWithin, placed, counters_with, Instruction, Push, Load, LoadAt, LoadLetter, Subscript, Operate, OperateOne, ConvertTo, AndThen, OrElse, PartOne, PartMany, PartText, PartCounted, PartCountedText, SpotOne, SpotCounted, StoreParts, StoreNamed, StoreOne, ClearCells, Jump, Choose, IfAmong, IfTag, DropOne, CountedFrom, NextChoice, BackToChoice, PassArms, IfTaken, SetAgain, IfTrue, OpenSkip, OpenInput, ChooseArm, pass_arms, if_taken, again_set, open_arm, choosing_stop, Begin, Pass, LoopBack, Send, Receive, Fork, Halt, End, Point, point, Effect, Moves, Stops, Stuck, with_one, with_two, going, going_if, going_stored, act, effect, Walks, here, on, begins_at, SingleStop, StopsIn, stops_here, passes_on, turning, begun, passed, next_choice, tag_step, last_part, named_from, Stored, Stays, Refused, frame_with, frame_from, frame_parts, values_with, with_counter, counter_at, kept_as, kept_value, is_next, is_number, is_component, are_numbered}
 use Rattle.occ_code.specs.Sequential.Laws.{PlacesDo}
 use Rattle.occ_code.proofs.SequentialFrames.{HoldsAs, one_held, row_held, parts_held, StoresAs, stored_frame, frame_of, row_left, parts_left}
 use Rattle.occ_code.proofs.SequentialCounters.{length-counters_with}
@@ -69,7 +70,9 @@ module _ (cells : List ℕ) (loops : ℕ) where
   passed_same : (n pc slot index skip : ℕ) (st : List ℤ) (q : List Part) (sp : List Spot) (f : Variables) → Frames cells f
       → passed by_cell n pc slot index skip st q sp f ≡ passed by_place n pc slot (place_among cells index) skip st q sp f
   passed_same zero pc slot index skip st q sp f h = refl
-  passed_same (suc n) pc slot index skip st q sp f h = ap (point (pc + 1) st q sp) (turning_same f slot index n _ h)
+  passed_same (suc n) pc slot index skip st q sp f h =
+      let v = kept_value (counter_at f.left (slot + 1)) +ℤ pos 1 in
+      ap (λ g. if is_next v then Moves (point (pc + 1) st q sp g) else Stuck) (turning_same f slot index n v h)
 
   chosen_same : (n : ℕ) (v : ℤ) (pc index skip : ℕ) (st : List ℤ) (q : List Part) (sp : List Spot) (f : Variables) → Frames cells f
       → next_choice by_cell n v pc index skip st q sp f ≡ next_choice by_place n v pc (place_among cells index) skip st q sp f
@@ -147,7 +150,7 @@ module _ (cells : List ℕ) (loops : ℕ) where
   act_same (Some (Begin slot c skip)) pc [] q sp f h k = refl
   act_same (Some (Begin slot c skip)) pc (n ∷ []) q sp f h k = refl
   act_same (Some (Begin slot c skip)) pc (n ∷ b ∷ st) q sp f h k = let there = is_place f c h k.0 in let room = is_slot f slot h k.1 in rw (there, room) (ap Moves (begun_same (indices b (nat_abs n)) pc slot c skip st q sp f h.0))
-  act_same (Some (Pass slot c skip)) pc st q sp f h k = let there = is_place f c h k.0 in let room = is_slot f slot h k.1 in rw (there, room) (ap Moves (passed_same (counter_at f.left slot) pc slot c skip st q sp f h.0))
+  act_same (Some (Pass slot c skip)) pc st q sp f h k = let there = is_place f c h k.0 in let room = is_slot f slot h k.1 in rw (there, room) (passed_same (counter_at f.left slot) pc slot c skip st q sp f h.0)
   act_same (Some (LoopBack back)) pc st q sp f h k = refl
   act_same (Some (Send tag)) pc st q sp f h k = refl
   act_same (Some Receive) pc st q sp f h k = refl
@@ -204,9 +207,17 @@ module _ (cells : List ℕ) (loops : ℕ) where
   if_shapes true p h = h
   if_shapes false p h = tt
 
+  stops_shapes : (b : Bool) (pc : ℕ) (w : Wait) (f : Variables) → Shaped f → Shapes (if b then Stops pc f w else Stuck)
+  stops_shapes true pc w f h = h
+  stops_shapes false pc w f h = tt
+
   going_shapes : {X : Type 0} (pc : ℕ) (f : Variables) (v : Evaluated X) (to : X → Point) → Shaped f → ((x : X) → Shaped (frame_of (to x))) → Shapes (going pc f v to)
   going_shapes pc f (Value x) to h k = k x
   going_shapes pc f (Fails e) to h k = h
+
+  going_if_shapes : {X : Type 0} (pc : ℕ) (f : Variables) (v : Evaluated X) (may : X → Bool) (to : X → Point) → Shaped f → ((x : X) → Shaped (frame_of (to x))) → Shapes (going_if pc f v may to)
+  going_if_shapes pc f (Value x) may to h k = if_shapes (may x) (to x) (k x)
+  going_if_shapes pc f (Fails e) may to h k = h
 
   stored_shapes : (pc : ℕ) (a : Stored) (to : Variables → Point) → Shaped (stored_frame a) → ((g : Variables) → Shaped g → Shaped (frame_of (to g))) → Shapes (going_stored pc a to)
   stored_shapes pc (Stays f) to h k = k f h
@@ -220,9 +231,11 @@ module _ (cells : List ℕ) (loops : ℕ) where
   begun_shape (indices b zero) pc slot index skip st q sp f h = h
   begun_shape (indices b (suc n)) pc slot index skip st q sp f h = turning_shape f slot index n b h
 
-  passed_shape : (n pc slot index skip : ℕ) (st : List ℤ) (q : List Part) (sp : List Spot) (f : Variables) → Shaped f → Shaped (frame_of (passed by_cell n pc slot index skip st q sp f))
-  passed_shape zero pc slot index skip st q sp f h = h
-  passed_shape (suc n) pc slot index skip st q sp f h = turning_shape f slot index n _ h
+  passed_shapes : (n pc slot index skip : ℕ) (st : List ℤ) (q : List Part) (sp : List Spot) (f : Variables) → Shaped f → Shapes (passed by_cell n pc slot index skip st q sp f)
+  passed_shapes zero pc slot index skip st q sp f h = h
+  passed_shapes (suc n) pc slot index skip st q sp f h =
+      let v = kept_value (counter_at f.left (slot + 1)) +ℤ pos 1 in
+      if_shapes (is_next v) (point (pc + 1) st q sp (turning by_cell f slot index n v)) (turning_shape f slot index n v h)
 
   chosen_shape : (n : ℕ) (v : ℤ) (pc index skip : ℕ) (st : List ℤ) (q : List Part) (sp : List Spot) (f : Variables) → Shaped f → Shaped (frame_of (next_choice by_cell n v pc index skip st q sp f))
   chosen_shape zero v pc index skip st q sp f h = h
@@ -246,7 +259,7 @@ module _ (cells : List ℕ) (loops : ℕ) where
 
   choosing_shapes : (pri : Bool) (back pc : ℕ) (arms : List Arm) (f : Variables) → Shaped f → Shapes (choosing_stop pri back pc arms f)
   choosing_shapes pri back pc [] f h = h
-  choosing_shapes pri back pc (a ∷ arms) f h = h
+  choosing_shapes pri back pc (a ∷ arms) f h = stops_shapes (are_numbered (a ∷ arms)) (pc - back) (Chooses pri (a ∷ arms)) f h
 
   act_shapes : (o : Option Instruction) (pc : ℕ) (st : List ℤ) (q : List Part) (sp : List Spot) (f : Variables) → Shaped f → Shapes (act by_cell o pc st q sp f)
   act_shapes None pc st q sp f h = tt
@@ -254,7 +267,7 @@ module _ (cells : List ℕ) (loops : ℕ) where
   act_shapes (Some (Load c)) pc st q sp f h = h
   act_shapes (Some LoadAt) pc st q sp f h = one_shapes st _ (λ v st'. h)
   act_shapes (Some (LoadLetter line text)) pc st q sp f h = one_shapes st _ (λ v st'. going_shapes pc f _ _ h (λ x. h))
-  act_shapes (Some (Subscript line size stride)) pc st q sp f h = two_shapes st _ (λ v w st'. going_shapes pc f _ _ h (λ x. h))
+  act_shapes (Some (Subscript line size stride)) pc st q sp f h = two_shapes st _ (λ v w st'. going_if_shapes pc f (subscript line size v) (λ i. is_component w (i * stride)) (λ i. point (pc + 1) (pos (nat_abs w + i * stride) ∷ st') q sp f) h (λ x. h))
   act_shapes (Some (Operate operator type line)) pc st q sp f h = two_shapes st _ (λ v w st'. going_shapes pc f _ _ h (λ x. h))
   act_shapes (Some (OperateOne operator type line)) pc st q sp f h = one_shapes st _ (λ v st'. going_shapes pc f _ _ h (λ x. h))
   act_shapes (Some (ConvertTo to line)) pc st q sp f h = one_shapes st _ (λ v st'. going_shapes pc f _ _ h (λ x. h))
@@ -278,7 +291,7 @@ module _ (cells : List ℕ) (loops : ℕ) where
   act_shapes (Some DropOne) pc st q sp f h = one_shapes st _ (λ v st'. h)
   act_shapes (Some (CountedFrom line)) pc st q sp f h = two_shapes st _ (λ v w st'. going_shapes pc f _ _ h (λ x. h))
   act_shapes (Some (NextChoice c skip)) pc st q sp f h = two_shapes st _ (λ n v st'. chosen_shape (nat_abs n) v pc c skip st' q sp f h)
-  act_shapes (Some (BackToChoice back)) pc st q sp f h = two_shapes st _ (λ n v st'. if_shapes (int_le (v +ℤ pos 1) (pos 2147483648)) _ h)
+  act_shapes (Some (BackToChoice back)) pc st q sp f h = two_shapes st _ (λ n v st'. if_shapes (is_next (v +ℤ pos 1)) _ h)
   act_shapes (Some (PassArms last skip)) pc st q sp f h = one_shapes st _ (λ n st'. passes_shape (nat_abs n) last skip pc (n ∷ st') q sp f h)
   act_shapes (Some (IfTaken skip)) pc st q sp f h = one_shapes st _ (λ n st'. taken_shape (nat_abs n) skip pc st' q sp f h)
   act_shapes (Some (SetAgain c skip)) pc st q sp f h = one_shapes st _ (λ n st'. again_shapes n (nat_abs n) c skip pc st' q sp f h)
@@ -287,10 +300,10 @@ module _ (cells : List ℕ) (loops : ℕ) where
   act_shapes (Some (OpenInput number)) pc st q sp f h = one_shapes st _ (λ c st'. h)
   act_shapes (Some (ChooseArm pri back)) pc st q sp f h = choosing_shapes pri back pc (map open_arm q) f h
   act_shapes (Some (Begin slot c skip)) pc st q sp f h = two_shapes st _ (λ n b st'. begun_shape (indices b (nat_abs n)) pc slot c skip st' q sp f h)
-  act_shapes (Some (Pass slot c skip)) pc st q sp f h = passed_shape (counter_at f.left slot) pc slot c skip st q sp f h
+  act_shapes (Some (Pass slot c skip)) pc st q sp f h = passed_shapes (counter_at f.left slot) pc slot c skip st q sp f h
   act_shapes (Some (LoopBack back)) pc st q sp f h = h
-  act_shapes (Some (Send tag)) pc st q sp f h = one_shapes st _ (λ v st'. h)
-  act_shapes (Some Receive) pc st q sp f h = one_shapes st _ (λ v st'. h)
+  act_shapes (Some (Send tag)) pc st q sp f h = one_shapes st _ (λ v st'. stops_shapes (is_number (nat_abs v)) (pc + 1) (Offers (nat_abs v) (message tag q)) f h)
+  act_shapes (Some Receive) pc st q sp f h = one_shapes st _ (λ v st'. stops_shapes (is_number (nat_abs v)) (pc + 1) (Awaits (nat_abs v)) f h)
   act_shapes (Some (Fork ns)) pc st q sp f h = h
   act_shapes (Some Halt) pc st q sp f h = h
   act_shapes (Some End) pc st q sp f h = h

@@ -1,13 +1,21 @@
 -- How the number of an arm leads from an ALT to what is done once the arm is taken, over what is set again.
 use Rattle.std.specs.Prelude.{slice_get, ⊤}
-use Rattle.std.proofs.Common.{◌≡◌, ℕ, suc, ◌+◌, ◌<◌, ◌≤◌, List, [], ◌∷◌, ◌++◌, None, Some}
+use Rattle.std.proofs.Common.{arith, ◌≡◌, ℕ, suc, ◌+◌, ◌<◌, ◌≤◌, Bool, true, false, IsTrue, ◌&&◌, List, [], ◌∷◌, ◌++◌, None, Some, refl}
 use Rattle.occ_term.specs.Selecting.{Setting, IndexTo, DeclaredAgain, Enabled, SkipArm, InputArm}
 use Rattle.occ_code.specs.declared.task.Arm.{Arm}
 use Rattle.occ_code.specs.Alike.{indices_in}
-use Rattle.occ_code.specs.Sequential.Machine.{Instruction, PassArms, IfTaken, SetAgain}
+use Rattle.occ_code.specs.Sequential.Machine.{Instruction, PassArms, IfTaken, SetAgain, is_number, is_numbered, are_numbered}
+use Rattle.std.proofs.lemmas.Bool.Decides.{nat_tests}
 use Rattle.occ_code.specs.Sequential.Expressions.{declaration_code}
 use Rattle.occ_code.specs.Sequential.Laws.{StandsAt}
 use Rattle.occ_code.specs.Sequential.Layout.{TermAt, ListAt}
+
+pub both_true : (a b : Bool) → IsTrue a → IsTrue b → IsTrue (a && b)
+both_true true b h k = k
+both_true false b h k = cc
+
+pub number_below : (n : ℕ) → n < 4294967296 → IsTrue (is_number n)
+number_below n h = grind (arith, nat_tests)
 
 module _ (code : List Instruction) where
   -- the number after this one goes from one place to another by passing arms, or going in
@@ -48,10 +56,10 @@ module _ (code : List Instruction) where
     abbrev pub ArmLaid : Arm → Enabled → ℕ → Type 0
     ArmLaid a (SkipArm again t) mid =
         (n : ℕ) × (b : ℕ) × (skip : ℕ) × (a.place ≡ suc n) × (a.chan ≡ None) × (a.indices ≡ indices_in again) × SetsAgain n root again b
-        × (slice_get code b ≡ Some (IfTaken skip)) × TermAt code loops slot (b + 1) t mid
+        × (slice_get code b ≡ Some (IfTaken skip)) × TermAt code loops slot (b + 1) t mid × IsTrue (is_numbered a)
     ArmLaid a (InputArm again c list) mid =
         (n : ℕ) × (b : ℕ) × (skip : ℕ) × (a.place ≡ suc n) × (a.chan ≡ Some c) × (a.indices ≡ indices_in again) × SetsAgain n root again b
-        × (slice_get code b ≡ Some (IfTaken skip)) × ListAt code loops slot (b + 1) list mid
+        × (slice_get code b ≡ Some (IfTaken skip)) × ListAt code loops slot (b + 1) list mid × IsTrue (is_numbered a)
 
     abbrev pub ArmsLaid : List Arm → List Enabled → ℕ → Type 0
     ArmsLaid [] [] mid = ⊤
@@ -64,3 +72,10 @@ module _ (code : List Instruction) where
     both_laid mid [] ys (e ∷ es) es' h k = absurd h
     both_laid mid (x ∷ xs) ys [] es' h k = absurd h
     both_laid mid (x ∷ xs) ys (e ∷ es) es' h k = (h.0, both_laid mid xs ys es es' h.1 k)
+
+    -- so all open arms have their numbers
+    pub laid_numbered : (mid : ℕ) (arms : List Arm) (es : List Enabled) → ArmsLaid arms es mid → IsTrue (are_numbered arms)
+    laid_numbered mid [] es h = refl
+    laid_numbered mid (a ∷ arms) [] h = absurd h
+    laid_numbered mid (a ∷ arms) (SkipArm again t ∷ es) h = both_true (is_numbered a) (are_numbered arms) h.0.9 (laid_numbered mid arms es h.1)
+    laid_numbered mid (a ∷ arms) (InputArm again c list ∷ es) h = both_true (is_numbered a) (are_numbered arms) h.0.9 (laid_numbered mid arms es h.1)

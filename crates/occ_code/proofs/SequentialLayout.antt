@@ -1,6 +1,6 @@
 -- The code of a term stands in its body as it should.
 use Rattle.std.specs.Prelude.{slice_get, ◌-◌}
-use Rattle.std.proofs.Common.{◌≡◌, ◌∙◌, ℕ, ◌+◌, ◌<◌, ◌≤◌, List, [], ◌∷◌, ◌++◌, length, Some, refl, ap, sym, subst, arith, append_assoc, length-append}
+use Rattle.std.proofs.Common.{◌≡◌, ◌∙◌, ℕ, zero, suc, ◌+◌, ◌<◌, ◌≤◌, List, [], ◌∷◌, ◌++◌, length, Some, refl, ap, sym, subst, arith, append_assoc, length-append}
 use Rattle.std.proofs.Math.Seq.{get_or-append_seam}
 use Rattle.std.proofs.lemmas.Option.{slice_get-get_or}
 use Rattle.occ_term.specs.Terms.{Term, Skip, Stop, Assign, Input, Output, VariantInput, Seq, Par, Alt, If, Case, While, Each, Clear, Local, Terms, no_terms, then_term, Arms, no_arms, skip_arm, input_arm, declared_arms, each_arm, Reception, Plain, Tagged, Variants, no_variants, or_variant, Choices, no_choices, or_choice, declared_choices, each_choice, Options, no_options, or_option, or_else}
@@ -25,7 +25,14 @@ stands_all (i ∷ is) pre =
     let rest' = subst (λ l. StandsAt l (length (pre ++ i ∷ [])) is (length l)) (append_assoc pre (i ∷ []) is) rest in
     (first, subst (λ m. StandsAt (pre ++ i ∷ is) m is (length (pre ++ i ∷ is))) n rest')
 
-module _ (code : List Instruction) (loops : ℕ) where
+-- an element of a list has a place below its length
+pub there_below : {A : Type 0} (xs : List A) (c : ℕ) (x : A) → slice_get xs c ≡ Some x → c < length xs
+there_below [] zero x h = absurd cc
+there_below [] (suc c) x h = absurd cc
+there_below (y ∷ ys) zero x h = omega arith
+there_below (y ∷ ys) (suc c) x h = let lt = there_below ys c x h in omega (arith, lt)
+
+module _ (code : List Instruction) (loops : ℕ) (short : length code < 4294967296) where
   from_place : (a b c : ℕ) → a ≡ b → Ways code b c → Ways code a c
   from_place a b c e w = subst (λ n. Ways code n c) (sym e) w
 
@@ -78,7 +85,9 @@ module _ (code : List Instruction) (loops : ℕ) where
         let x : pc + 1 + length (arms_code slot arms 1) ≡ r.0 = place_after code (pc + 1) r.0 (arms_code slot arms 1) r.1 in
         let y : r.0 + 1 ≡ m = r.2.1 in
         let back : r.0 - length (arms_code slot arms 1) ≡ pc + 1 = omega (arith, x) in
-        (length (arms_code slot arms 1) + 1, r.0, length (arms_code slot arms 1), h.0, arms_laid slot arms 1 (pc + 1) r.0 m r.0 pc' 0 (length (arms_code slot arms 1) + 1) (omega (arith, o)) (omega arith) (omega arith) r.1 y stays w, r.2.0, back)
+        let inside : r.0 < length code = there_below code r.0 _ r.2.0 in
+        let fits : length (arms_code slot arms 1) + 1 < 4294967296 = omega (arith, x, inside, short) in
+        (length (arms_code slot arms 1) + 1, r.0, length (arms_code slot arms 1), h.0, arms_laid slot arms 1 (pc + 1) r.0 m r.0 pc' 0 (length (arms_code slot arms 1) + 1) (omega (arith, o)) (omega arith) (omega arith) r.1 y stays w, r.2.0, back, fits)
     laid slot (If cs) pc m pc' o h w =
         let r = split code pc m (choices_code slot cs 1) (_ ∷ []) h in
         (r.0, choices_laid slot cs 1 pc r.0 m r.0 pc' (omega (arith, o)) r.1 r.2.1 stays w, r.2.0)
@@ -298,8 +307,8 @@ module _ (code : List Instruction) (loops : ℕ) where
     else_laid slot (or_else ds t os) pc m pc' o h w = let r = split code (pc + 1) m (declarations_code ds) (term_code slot t) h.1 in (r.0, h.0, r.1, laid slot t r.0 m pc' (omega (arith, o)) r.2 w)
 
 pub compiled_do : CompiledDo
-compiled_do d t cells writes quantum typed held written h =
+compiled_do d t cells writes quantum few short typed held written h =
     let code = whole_code t in
     let r = split code 0 (length code) (term_code 0 t) (End ∷ []) (stands_all code []) in
     bodies_do d (body_of t cells writes quantum) t
-    (record { by_cells = code; last = r.0; typed = typed; lays_out = laid code (counters_of t) 0 t 0 r.0 r.0 (omega arith) r.1 stays; ends_there = r.2.0; names = whole_names t cells held; code = refl; cells = held; writes = written; quantum = omega (arith, h) })
+    (record { by_cells = code; last = r.0; numbered = few; typed = typed; lays_out = laid code (counters_of t) short 0 t 0 r.0 r.0 (omega arith) r.1 stays; ends_there = r.2.0; names = whole_names t cells held; code = refl; cells = held; writes = written; quantum = omega (arith, h) })

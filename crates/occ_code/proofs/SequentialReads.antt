@@ -1,7 +1,7 @@
 -- Evaluation looks only at cells that are read.
 use Rattle.std.specs.Prelude.{nat_eq, get_or, nat_abs, int_le, ◌&&◌, ◌+ℤ◌, ◌||◌, if◌then◌else◌}
 use Rattle.std.proofs.lemmas.Bool.Decides.{nat_tests}
-use Rattle.std.proofs.Common.{◌≡◌, ◌∙◌, ℕ, zero, suc, pos, ◌+◌, ◌*◌, Bool, true, false, IsTrue, List, [], ◌∷◌, length, Option, refl, ap, arith}
+use Rattle.std.proofs.Common.{◌≡◌, ◌∙◌, ℕ, zero, suc, pos, ◌+◌, ◌*◌, Bool, true, false, IsTrue, List, [], ◌∷◌, length, Option, Some, refl, ap, arith}
 use Rattle.occ_term.specs.Messages.{product}
 use Rattle.occ_term.specs.declared.primitive.Primitive.{Primitive}
 use Rattle.occ_term.specs.declared.primitive.Primitive.TheVariants.{Int}
@@ -9,6 +9,7 @@ use Rattle.occ_term.specs.declared.fault.FaultKind.TheVariants.{Count}
 use Rattle.occ_term.specs.declared.expression.Monadic.{Monadic}
 use Rattle.occ_term.specs.declared.expression.Monadic.TheVariants.{Negate, BitNot, Not}
 use Rattle.occ_term.specs.declared.protocol.PartType.{PartType}
+use Rattle.occ_term.specs.declared.protocol.Protocol.{Protocol}
 use Rattle.occ_term.specs.declared.protocol.PartType.TheVariants.{One as OneOf, Many as ManyOf, Counted as CountedOf}
 use Rattle.occ_term.specs.declared.message.Part.TheVariants.{One, Many}
 use Rattle.occ_term.specs.Terms.{Expression, Constant, Cell, Component, Letter, Binary, Unary, And, Or, Conversion, Place, place, Subscripts, no_subscripts, then_subscript, Array, Cells, Text, Item, OfOne, OfMany, OfCounted, Target, Into, IntoCounted, Replicator, replicator}
@@ -17,7 +18,7 @@ use Rattle.occ_term.specs.Storing.{At, AtCounted, spot_of, spots_of, indices, in
 use Rattle.occ_term.specs.Uses.{Numbers, union, numbers_in, named_by, reads_of, reads_in_place, reads_in_subscripts, reads_of_array, reads_of_item, reads_of_items, uses_of_target, uses_of_targets, uses_of_replicator}
 use Rattle.occ_term.specs.Typing.{HasType, PlaceHas, SubscriptsLeave, ArrayHas, ItemHas, TargetHas}
 use Rattle.occ_term.specs.TermTyping.{Declared, ItemsHave, TargetsHave, ReplicatorHas, ChannelHas}
-use Rattle.occ_term.proofs.TypedPlaces.{places_lie_within, to_row, in_row}
+use Rattle.occ_term.proofs.TypedPlaces.{offset_within, places_lie_within, to_row, in_row}
 
 pub same_cell : (c : ℕ) → IsTrue (nat_eq c c)
 same_cell c = grind (arith, nat_tests)
@@ -37,7 +38,7 @@ after_each (Fails e) f g k = refl
 pub after_same : {X Y : Type 0} (v v' : Evaluated X) (f g : X → Evaluated Y) → v ≡ v' → ((x : X) → v' ≡ Value x → f x ≡ g x) → after v f ≡ after v' g
 after_same v v' f g e k = ap (λ w. after w f) e ∙ after_each v' f g k
 
-operand : (types : ℕ → Option Primitive) (op : Monadic) (type : Primitive) (line : ℕ) (a : Expression) (t : Primitive) → HasType types (Unary op type line a) t → (u : Primitive) × HasType types a u
+pub operand : (types : ℕ → Option Primitive) (op : Monadic) (type : Primitive) (line : ℕ) (a : Expression) (t : Primitive) → HasType types (Unary op type line a) t → (u : Primitive) × HasType types a u
 operand types Negate type line a t h = (type, h.2)
 operand types BitNot type line a t h = (type, h.2)
 operand types Not type line a t h = (_, h.2)
@@ -172,3 +173,10 @@ module _ (d : Declared) (s s' : Store) where
 
   pub channel_same : (p : Place) (q : _) → ChannelHas d p q → AgreeOn (reads_in_place p) s s' → span_of p s ≡ span_of p s'
   channel_same (place line first sizes subs) q h k = offset_same d.types s s' subs line first sizes [] h.1 k
+
+-- a channel's place names one that is declared, with its protocol
+pub channel_declared : (d : Declared) (s : Store) (c : Place) (p : Protocol) (a : Span) → ChannelHas d c p → span_of c s ≡ Value a → d.protocols (first_of a) ≡ Some p
+channel_declared d s (place line first sizes subs) p (span f n) h q =
+    let (many, in_it) = offset_within d.types s subs line first sizes [] (span f n) h.1 q in
+    let one : n ≡ 1 = many in
+    h.0 f (in_it f (to_row f n f (omega arith) (omega (arith, one))))

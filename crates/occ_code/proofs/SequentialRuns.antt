@@ -7,11 +7,12 @@ use Rattle.occ_term.specs.declared.fault.Fault.{Fault}
 use Rattle.occ_term.specs.declared.message.Part.{Part}
 use Rattle.occ_term.specs.declared.protocol.Protocol.{Protocol}
 use Rattle.occ_term.specs.declared.protocol.PartType.{PartType}
-use Rattle.occ_term.specs.TypedSteps.{LoopHas}
+use Rattle.std.proofs.lemmas.Bool.Decides.{nat_tests}
+use Rattle.occ_term.specs.TypedSteps.{IndicesHave, LoopHas}
 use Rattle.occ_term.specs.StepUses.{uses_of_loop}
 use Rattle.occ_term.specs.Messages.{message}
 use Rattle.occ_term.specs.Terms.{Expression, Place, Item, Declaration, Clearing, Naming, Arms, Term, Skip, Stop, Assign, Input, Output, VariantInput, Seq, Par, Alt, If, Case, While, Each, Clear, Local, Terms, no_terms, then_term, Branches, no_branches, and_branch, Reception, Plain, Tagged, Variants, no_variants, or_variant, Choices, no_choices, or_choice, declared_choices, each_choice, Options, no_options, or_option, or_else}
-use Rattle.occ_term.specs.Values.{Store, store_with, Value, Fails, after, holds, first_of, value_of, span_of, parts_of}
+use Rattle.occ_term.specs.Values.{Store, store_with, Value, Fails, after, holds, Span, first_of, value_of, span_of, parts_of}
 use Rattle.occ_term.specs.Storing.{Outcome, Gives, then_in, in_store, Nothing, nothing, store_into, declared, all_declared, Indices, indices, indices_of, index_of}
 use Rattle.occ_term.specs.Selecting.{Enabled, enabled, or_next, first_over, choice_over, choice_of, Selected, selected, is_among, matching, else_of, either, enters, variant_taken}
 use Rattle.occ_term.specs.Steps.{Loop, WhileLoop, EachLoop, each, each_loop, in_each, Doing, Do, Passing, Again, Offering, Awaiting, Taken, SkipTaken, Choosing, choosing, alt, in_alt, taken_by, after_taken, Taking, MessageTaken, Forking, Context, Then, Within, left, or_stop, pass, pass_of, offer_of, await_of, Step, ends, stop, assign, clear, local, output, input, variant, take_in, seq_empty, seq, drops, par_empty, par, if_step, case, while, passes_again, leaves, body_ends, again, FaultsIn, in_assign, in_local, in_output, in_input, in_variant, in_take, in_if, in_case, in_loop}
@@ -23,22 +24,27 @@ use Rattle.occ_term.specs.TermTyping.{Declared, ChannelHas, value_parts, ItemsHa
 use Rattle.occ_term.specs.Frames.{Variables, at}
 use Rattle.occ_code.specs.declared.task.Wait.TheVariants.{Ready, Offers, Awaits, Chooses as ChoosesAmong, Joins, Halted}
 use Rattle.occ_code.specs.Alike.{numbers_of}
-use Rattle.occ_code.specs.Sequential.Machine.{by_cell, Instruction, Push, ChooseArm, open_arm, Choose, IfAmong, IfTag, DropOne, NextChoice, BackToChoice, Begin, Pass, passed, turning, Moves, Send, Receive, Halt, Point, point, Stops, act, effect, Walks, here, frame_with, counting}
+use Rattle.occ_code.specs.Sequential.Machine.{by_cell, Instruction, Push, ChooseArm, open_arm, Choose, IfAmong, IfTag, DropOne, NextChoice, BackToChoice, Begin, Pass, passed, turned, is_next, is_number, turning, Moves, Stuck, Send, Receive, Halt, Point, point, Stops, act, effect, Walks, here, frame_with, counting}
 use Rattle.occ_code.specs.Sequential.Expressions.{expression_code, place_code, items_code, declarations_code, par_code}
 use Rattle.occ_code.specs.Sequential.Laws.{StandsAt, FaultsAt}
 use Rattle.occ_code.specs.Sequential.Layout.{Ways, stays, Counts, EachAt, TermAt, TermsAt, VariantsAt, ChoicesAt, OptionsAt, ElseAt, ListAt, LoopAt, LeadsBack}
 use Rattle.occ_code.proofs.SequentialPlaces.{split, walks_on}
-use Rattle.occ_code.proofs.SequentialExpressions.{expression_runs, place_runs, steps_to}
+use Rattle.occ_code.proofs.SequentialExpressions.{channel_fits, expression_runs, place_runs, steps_to}
 use Rattle.occ_code.proofs.SequentialItems.{items_run}
-use Rattle.occ_code.proofs.SequentialReads.{value_same, channel_same, indices_same, parts_same}
+use Rattle.occ_code.proofs.SequentialReads.{value_same, channel_same, channel_declared, indices_same, parts_same}
 use Rattle.occ_code.proofs.SequentialFrames.{HoldsAs, GivesAs, one_held, frame_of, Performs, performs, refuses, performs_on, performs_by}
 use Rattle.occ_code.proofs.SequentialStatements.{Held, held_left, held_right, agrees_on, Lands, sets_then, storing_runs, assigns, declaration_runs, declarations_run, counted_fits, counting_runs, next_fits, still_fits}
 use Rattle.occ_code.proofs.SequentialResults.{Does as DoesFrom, steps_on, ways_walk, at_offer, at_await, at_choose, at_fork, at_halt, at_loop, finishes, pauses, result_after, result_within, faulted, outcome_result, comes_case}
-use Rattle.occ_code.proofs.SequentialChoosing.{arrives, ArmsLaid}
+use Rattle.occ_code.proofs.SequentialChoosing.{arrives, ArmsLaid, laid_numbered}
+use Rattle.occ_code.specs.Sequential.Within.{AreNumbered}
 use Rattle.occ_code.proofs.SequentialArms.{Opens, arms_run}
 use Rattle.occ_code.proofs.SequentialCounters.{KeepsBelow, keeps_all, keeps_on, keeps_less, counts_kept, turning_keeps, turning_counts, turning_held}
 
-module _ (code : List Instruction) (loops : ℕ) (cells : List ℕ) (d : Declared) where
+-- the next index of a replicator with a value left
+next_is : (v : ℤ) (n : ℕ) → IndicesHave v (suc n) → is_next v ≡ true
+next_is v n h = grind (arith, nat_tests)
+
+module _ (code : List Instruction) (loops : ℕ) (cells : List ℕ) (d : Declared) (few : AreNumbered d) where
   abbrev Has : Numbers → Type 0
   Has u = Held code cells d u
 
@@ -80,15 +86,19 @@ module _ (code : List Instruction) (loops : ℕ) (cells : List ℕ) (d : Declare
     channel_agrees : (c : Place) (p : Protocol) (f : Variables) → ChannelHas d c p → Has (reads_in_place c) → (s : Store) → HoldsAs cells f s → span_of c s ≡ span_of c (at f)
     channel_agrees c p f h k s hs = channel_same d s (at f) c p h (agrees_on code cells d (reads_in_place c) f s k hs)
 
+    -- a channel that a place names has a number of the machine's
+    has_its_number : (c : Place) (p : Protocol) (f : Variables) → ChannelHas d c p → (a : Span) → span_of c (at f) ≡ Value a → is_number (first_of a) ≡ true
+    has_its_number c p f hc a e = few.channels (first_of a) p (channel_declared d (at f) c p a hc e)
+
     outputs : (c : Place) (tag : Option ℕ) (is : List Item) (p : Protocol) (types : List PartType) (f : Variables) (pc m pc' : ℕ) → ChannelHas d c p → ItemsHave d is types → Has (reads_in_place c) → Has (reads_of_items is)
         → StandsAt code pc (place_code c ++ (items_code is ++ Send tag ∷ [])) m → Ways code m pc' → Does (start pc f) f (Do (Output c tag is)) pc'
     outputs c tag is p types f pc m pc' hc hi kc ki at_place w =
         let (a, h, r) = split code pc m (place_code c) _ at_place in
         let (b, h', l) = split code a m (items_code is) _ r in
-        comes_case code (span_of c (at f)) (place_runs code f [] [] c pc a [] h)
-        (λ x e v. comes_case code (parts_of is (at f)) (items_run code f (pos (first_of x) ∷ []) [] is [] a b h')
+        comes_case code (span_of c (at f)) (place_runs code f [] [] d.types few.cells c [] (channel_fits d few c p hc) pc a [] h)
+        (λ x e v. comes_case code (parts_of is (at f)) (items_run code f (pos (first_of x) ∷ []) [] d few is types hi [] a b h')
         (λ ps e' v' room. pauses (b + 1) (Offers (first_of x) (message tag ps)) (Offering (first_of x) (message tag ps)) [] f
-        (record { last = point b (pos (first_of x) ∷ []) ps [] f; walks = walks_on v v'; stops = ap (λ o. act by_cell o b (pos (first_of x) ∷ []) ps [] f) l.0 })
+        (record { last = point b (pos (first_of x) ∷ []) ps [] f; walks = walks_on v v'; stops = ap (λ o. act by_cell o b (pos (first_of x) ∷ []) ps [] f) l.0 ∙ ap (λ t. if t then Stops (b + 1) f (Offers (first_of x) (message tag ps)) else Stuck) (has_its_number c p f hc x e) })
         (keeps_all slot refl) (at_offer slot (refl, subst (λ n. Ways code n pc') (sym l.1) w))
         (λ s hs. record {
           store = s;
@@ -124,9 +134,9 @@ module _ (code : List Instruction) (loops : ℕ) (cells : List ℕ) (d : Declare
         → Does (start pc f) f x pc'
     awaits c list x p f pc n pc' hc kc at_place l step fault =
         let (a, h, r) = split code pc n (place_code c) _ at_place in
-        comes_case code (span_of c (at f)) (place_runs code f [] [] c pc a [] h)
+        comes_case code (span_of c (at f)) (place_runs code f [] [] d.types few.cells c [] (channel_fits d few c p hc) pc a [] h)
         (λ y e v room. pauses (a + 1) (Awaits (first_of y)) (Awaiting (first_of y) list) [] f
-        (record { last = point a (pos (first_of y) ∷ []) [] [] f; walks = v; stops = ap (λ o. act by_cell o a (pos (first_of y) ∷ []) [] [] f) r.0 })
+        (record { last = point a (pos (first_of y) ∷ []) [] [] f; walks = v; stops = ap (λ o. act by_cell o a (pos (first_of y) ∷ []) [] [] f) r.0 ∙ ap (λ t. if t then Stops (a + 1) f (Awaits (first_of y)) else Stuck) (has_its_number c p f hc y e) })
         (keeps_all slot refl) (at_await slot pc' (subst (λ m. ListAt code loops slot m list pc') (sym r.1) l) (refl, stays))
         (λ s hs. record { store = s; turn = λ k. single_turn none (step s (Awaiting (first_of y) list) k (ap (λ z. after z (λ w. Value (Awaiting (first_of w) list))) (channel_agrees c p f hc kc s hs ∙ e))) refl; holds = hs }))
         (λ err e z. faulted code loops cells slot z refl (λ s hs. record { store = s; fault_in = fault s err (ap (λ z. after z (λ w. Value (Awaiting (first_of w) list))) (channel_agrees c p f hc kc s hs ∙ e)); holds = hs }))
@@ -258,7 +268,8 @@ module _ (code : List Instruction) (loops : ℕ) (cells : List ℕ) (d : Declare
         by_arms (e ∷ es) [] x lands given = absurd x
         by_arms (e ∷ es) (p ∷ ps) x lands given = λ room.
             pauses (pc + 1) (ChoosesAmong pri (map open_arm (p ∷ ps))) (Choosing pri (e ∷ es)) [] (frame_of b)
-            (record { last = b; walks = walk; stops = ap (λ z. effect by_cell code z) lands ∙ ap (λ o. act by_cell o n (pos 0 ∷ []) (p ∷ ps) [] (frame_of b)) hc ∙ ap (λ m. Stops m (frame_of b) (ChoosesAmong pri (map open_arm (p ∷ ps)))) root })
+            (record { last = b; walks = walk; stops = ap (λ z. effect by_cell code z) lands ∙ ap (λ o. act by_cell o n (pos 0 ∷ []) (p ∷ ps) [] (frame_of b)) hc
+            ∙ ap (λ t. if t then Stops (n - back) (frame_of b) (ChoosesAmong pri (map open_arm (p ∷ ps))) else Stuck) (laid_numbered code loops slot (pc + 1) pc' (map open_arm (p ∷ ps)) (e ∷ es) x) ∙ ap (λ m. Stops m (frame_of b) (ChoosesAmong pri (map open_arm (p ∷ ps)))) root })
             (keeps_all slot l) (at_choose slot pc' x (refl, stays))
             (λ s hs. let r = given s hs in record { store = r.store; turn = λ k. single_turn none (alt r.gives_it) refl; holds = r.holds })
 
@@ -267,7 +278,7 @@ module _ (code : List Instruction) (loops : ℕ) (cells : List ℕ) (d : Declare
     tests : (f : Variables) (pc m skip n pc' : ℕ) (e : Expression) (body : Term) → HasType d.types e Boolean → Has (reads_of e) → StandsAt code pc (expression_code e) m → slice_get code m ≡ Some (Choose skip) → Ways code (m + 1 + skip) pc'
         → LeadsBack code n pc → TermAt code loops slot pc (While e body) pc' → Does (start (m + 1) f) f (Do body) n → Does (start pc f) f (Passing (WhileLoop e body)) pc'
     tests f pc m skip n pc' e body he ke at_place hm w back whole r =
-        comes_case code (value_of e (at f)) (expression_runs code f [] [] e pc m [] at_place)
+        comes_case code (value_of e (at f)) (expression_runs code f [] [] d.types few.cells e Boolean he pc m [] at_place)
         (λ v q walk. by_value v (holds v) refl q walk)
         (λ err q z. faulted code loops cells slot z refl (λ s hs. record { store = s; fault_in = in_loop (ap (λ y. then_in (in_store y s) (λ v s'. Gives (if holds v then Some (pass body (WhileLoop e body)) else None) s')) (value_agrees e Boolean f he ke s hs ∙ q)); holds = hs }))
       where
@@ -303,14 +314,15 @@ module _ (code : List Instruction) (loops : ℕ) (cells : List ℕ) (d : Declare
 
     -- a replicated SEQ with its counters: its next body, or the end
     passes : (f : Variables) (pc pc' index : ℕ) (b : Term) (l : EachAt code loops slot pc index b pc') → ((g : Variables) → DoesFrom code loops cells (slot + 2) (start (pc + 1) g) g (Do b) l.1)
-        → (n : ℕ) (v : ℤ) → Counts f.left slot v n → Does (start pc f) f (Passing (EachLoop index v n b)) pc'
-    passes f pc pc' index b l r zero v counts =
-        result_after code loops cells slot (steps_to code f pc [] [] [] (Pass slot index l.0) (start (pc + 1 + l.0) f) l.3 (ap (λ c. Moves (passed by_cell c pc slot index l.0 [] [] [] f)) counts.0)) (keeps_all slot refl)
+        → (n : ℕ) (v : ℤ) → Counts f.left slot v n → IndicesHave v n → Does (start pc f) f (Passing (EachLoop index v n b)) pc'
+    passes f pc pc' index b l r zero v counts have =
+        result_after code loops cells slot (steps_to code f pc [] [] [] (Pass slot index l.0) (start (pc + 1 + l.0) f) l.3 (ap (λ c. passed by_cell c pc slot index l.0 [] [] [] f) counts.0)) (keeps_all slot refl)
         (λ s hs. record { store = s; steps = λ k. more (leaves refl) refl none; holds = hs }) (skips f (pc + 1 + l.0) pc' l.4)
-    passes f pc pc' index b l r (suc n) v counts =
+    passes f pc pc' index b l r (suc n) v counts have =
         turns f pc pc' index b l r n v
         (steps_to code f pc [] [] [] (Pass slot index l.0) (start (pc + 1) (turning by_cell f slot index n v)) l.3
-        (ap (λ c. Moves (passed by_cell c pc slot index l.0 [] [] [] f)) counts.0 ∙ ap (λ x. Moves (start (pc + 1) (turning by_cell f slot index n x))) counts.1))
+        (ap (λ c. passed by_cell c pc slot index l.0 [] [] [] f) counts.0 ∙ ap (λ x. turned by_cell n x pc slot index [] [] [] f) counts.1
+        ∙ ap (λ t. if t then Moves (start (pc + 1) (turning by_cell f slot index n v)) else Stuck) (next_is v n have)))
 
     -- the first body, or none
     begins : (f : Variables) (m skip pc' index : ℕ) (b : Term) (l : EachAt code loops slot (m + 1) index b pc') → slice_get code m ≡ Some (Begin slot index skip) → Ways code (m + 1 + skip) pc'
@@ -331,7 +343,7 @@ module _ (code : List Instruction) (loops : ℕ) (cells : List ℕ) (d : Declare
 
     selected_runs : (ds : List Declaration) (t : Term) (f : Variables) (pc m pc' : ℕ) → DeclarationsHave d ds → Has (uses_of_declarations ds).reads → StandsAt code pc (declarations_code ds) m → ((g : Variables) → Does (start m g) g (Do t) pc')
         → Enters f (start pc f) (enters (Some (selected ds t))) pc'
-    selected_runs ds t f pc m pc' h k l r = sets_then code cells d (all_declared ds) m [] [] [] (λ s. Gives (Some t) s) (declarations_run code cells d ds f pc m [] [] h k l) (λ g. enters_body t g m pc' (r g))
+    selected_runs ds t f pc m pc' h k l r = sets_then code cells d (all_declared ds) m [] [] [] (λ s. Gives (Some t) s) (declarations_run code cells d few ds f pc m [] [] h k l) (λ g. enters_body t g m pc' (r g))
 
     pub entered : (x : Option Term) (b : Point) (pc' : ℕ) → EntersTo pc' x b → Does b (frame_of b) (Do (or_stop x)) pc'
     entered None b pc' h = h
@@ -352,7 +364,7 @@ module _ (code : List Instruction) (loops : ℕ) (cells : List ℕ) (d : Declare
     term_runs slot Stop f pc pc' h k l = halts slot f pc pc' [] [] l
     term_runs slot (Assign ts vs) f pc pc' h k l =
         outcome_result code loops cells slot (λ x. Do Skip) (λ x ks. refl) (λ x s s' ks e. assign (only_nothing slot x e)) (λ e s s' q. in_assign q)
-        (assigns code cells d ts vs (value_parts h.0) f pc l.0 h.1 h.2 (held_left code cells d (reads_of_items vs) (uses_of_targets ts).reads k) (held_right code cells d (reads_of_items vs) (uses_of_targets ts).reads k) l.1)
+        (assigns code cells d few ts vs (value_parts h.0) f pc l.0 h.1 h.2 (held_left code cells d (reads_of_items vs) (uses_of_targets ts).reads k) (held_right code cells d (reads_of_items vs) (uses_of_targets ts).reads k) l.1)
         (λ x b e. lands_skips slot x b l.0 pc' l.2 e)
     term_runs slot (Input c ts) f pc pc' h k l =
         awaits slot c (Plain ts Skip) (Do (Input c ts)) h.0 f pc l.0 pc' h.2 (held_left code cells d (reads_in_place c) (uses_of_targets ts).reads k) l.2 (l.1, l.3, l.4) (λ s y ks e. input e) (λ s e q. in_input q)
@@ -364,13 +376,13 @@ module _ (code : List Instruction) (loops : ℕ) (cells : List ℕ) (d : Declare
     term_runs slot (Par bs) f pc pc' h k l = forks slot bs f pc l.0 pc' l.1 l.2
     term_runs slot (Alt pri arms) f pc pc' h k l =
         alts slot pri arms f pc l.1 l.2 pc' l.3 l.5 l.6
-        (arms_run code loops cells d slot (pc + 1) pc' arms [] f (pc + 1) 0 l.0 l.1 [] [] h k l.4 refl (λ n a b. arrives))
+        (arms_run code loops cells d slot (pc + 1) pc' few arms [] f (pc + 1) 0 l.0 l.1 [] [] l.7 h k l.4 refl (λ n a b. arrives))
     term_runs slot (If cs) f pc pc' h k l =
         outcome_result code loops cells slot (λ t. Do (or_stop t)) (λ x ks. refl) (λ x s s' ks e. if_step e) (λ e s s' q. in_if q) (choices_run slot cs f pc l.0 pc' [] h k l.1)
         (λ x b e. chosen_runs slot x b l.0 pc' l.2 e)
     term_runs slot (Case e os) f pc pc' h k l =
         outcome_result code loops cells slot (λ t. Do (or_stop t)) (λ x ks. refl) (λ x s s' ks q. case q) (λ x s s' q. in_case q)
-        (performs_by code cells (value_of e) (value_of e (at f)) (λ v. point l.0 (v ∷ []) [] [] f) (λ v s'. enters (either (matching v os) (else_of os)) s') (expression_runs code f [] [] e pc l.0 [] l.2)
+        (performs_by code cells (value_of e) (value_of e (at f)) (λ v. point l.0 (v ∷ []) [] [] f) (λ v s'. enters (either (matching v os) (else_of os)) s') (expression_runs code f [] [] d.types few.cells e h.0 h.2 pc l.0 [] l.2)
         (value_agrees slot e h.0 f h.2 (held_left code cells d (reads_of e) (uses_of_options os).reads k))
         (λ v q. options_run slot os f v l.0 l.1 pc' h.0 (else_of os) h.3 (held_right code cells d (reads_of e) (uses_of_options os).reads k) l.3
         (λ g. else_runs slot os g v l.1 pc' h.0 h.3 (held_right code cells d (reads_of e) (uses_of_options os).reads k) l.4)))
@@ -381,7 +393,7 @@ module _ (code : List Instruction) (loops : ℕ) (cells : List ℕ) (d : Declare
         (term_runs slot b f (l.0 + 1) l.2 h.1 (held_right code cells d (reads_of e) (uses_of b).reads k) l.6))
     term_runs slot (Each r b) f pc pc' h k l =
         let at_pass : EachAt code loops slot (l.0 + 1) (index_of r) b pc' = l.5 in
-        comes_case code (indices_of r (at f)) (counting_runs code cells d r f pc l.0 [] [] l.2)
+        comes_case code (indices_of r (at f)) (counting_runs code cells d few r h.0 f pc l.0 [] [] l.2)
         (λ is e walk. result_after code loops cells slot walk (keeps_all slot refl) (λ s hs. record { store = s; steps = λ ks. more (each (indices_agree s hs ∙ e)) refl none; holds = hs })
         (begins slot f l.0 l.1 pc' (index_of r) b at_pass l.3 l.4 (λ g. term_runs (slot + 2) b g (l.0 + 1 + 1) at_pass.1 h.2 (held_right code cells d (uses_of_replicator r).reads (uses_of b).reads k) at_pass.5) is))
         (λ err e z. faulted code loops cells slot z refl (λ s hs. record { store = s; fault_in = in_each (indices_agree s hs ∙ e); holds = hs }))
@@ -390,10 +402,10 @@ module _ (code : List Instruction) (loops : ℕ) (cells : List ℕ) (d : Declare
         indices_agree s hs = indices_same d s (at f) r h.0 (agrees_on code cells d (uses_of_replicator r).reads f s (held_left code cells d (uses_of_replicator r).reads (uses_of b).reads k) hs)
     term_runs slot (Clear first count) f pc pc' h k l =
         outcome_result code loops cells slot (λ x. Do Skip) (λ x ks. refl) (λ x s s' ks e. clear (only_nothing slot x e)) (λ e s s' q. cc)
-        (declaration_runs code cells d (Clearing first count) f pc l.0 [] [] h k l.1) (λ x b e. lands_skips slot x b l.0 pc' l.2 e)
+        (declaration_runs code cells d few (Clearing first count) f pc l.0 [] [] h k l.1) (λ x b e. lands_skips slot x b l.0 pc' l.2 e)
     term_runs slot (Local first value) f pc pc' h k l =
         outcome_result code loops cells slot (λ x. Do Skip) (λ x ks. refl) (λ x s s' ks e. local (only_nothing slot x e)) (λ e s s' q. in_local q)
-        (declaration_runs code cells d (Naming first value) f pc l.0 [] [] h k l.1) (λ x b e. lands_skips slot x b l.0 pc' l.2 e)
+        (declaration_runs code cells d few (Naming first value) f pc l.0 [] [] h k l.1) (λ x b e. lands_skips slot x b l.0 pc' l.2 e)
 
     pub terms_run : (slot : ℕ) → (ts : Terms) (f : Variables) (pc pc' : ℕ) → TermsHave d ts → Has (uses_of_terms ts).reads → TermsAt code loops slot pc ts pc' → DoesFrom code loops cells slot (start pc f) f (Do (Seq ts)) pc'
     terms_run slot no_terms f pc pc' h k l = result_after code loops cells slot here (keeps_all slot refl) (λ s hs. record { store = s; steps = λ ks. more seq_empty refl none; holds = hs }) (skips slot f pc pc' l)
@@ -408,7 +420,7 @@ module _ (code : List Instruction) (loops : ℕ) (cells : List ℕ) (d : Declare
     choices_run slot (or_choice e t cs) f pc next pc' st h k l =
         let ke = held_left code cells d (reads_of e) (with_use (uses_of t) (uses_of_choices cs)).reads k in
         let r = held_right code cells d (reads_of e) (with_use (uses_of t) (uses_of_choices cs)).reads k in
-        performs_by code cells (value_of e) (value_of e (at f)) (λ v. point l.0 (v ∷ st) [] [] f) (λ v s'. if holds v then Gives (Some t) s' else choice_of cs s') (expression_runs code f [] [] e pc l.0 st l.2)
+        performs_by code cells (value_of e) (value_of e (at f)) (λ v. point l.0 (v ∷ st) [] [] f) (λ v s'. if holds v then Gives (Some t) s' else choice_of cs s') (expression_runs code f [] [] d.types few.cells e Boolean h.0 pc l.0 st l.2)
         (value_agrees slot e Boolean f h.0 ke)
         (λ v q. by_test slot f l.0 l.1 next pc' st v t (choice_of cs) (holds v) refl l.3 (term_runs slot t f (l.0 + 1) pc' h.1 (held_left code cells d (uses_of t).reads (uses_of_choices cs).reads r) l.4)
         (choices_run slot cs f (l.0 + 1 + l.1) next pc' st h.2 (held_right code cells d (uses_of t).reads (uses_of_choices cs).reads r) l.5))
@@ -416,7 +428,7 @@ module _ (code : List Instruction) (loops : ℕ) (cells : List ℕ) (d : Declare
         let kx = held_left code cells d (uses_of_declaration x).reads (with_use (uses_of_choices within) (uses_of_choices others)).reads k in
         let r = held_right code cells d (uses_of_declaration x).reads (with_use (uses_of_choices within) (uses_of_choices others)).reads k in
         chooses_next slot (λ s. then_in (declared x s) (λ y s'. choice_of within s')) (choice_of others) st st l.1 next pc'
-        (sets_then code cells d (declared x) l.0 st [] [] (choice_of within) (declaration_runs code cells d x f pc l.0 st [] h.0 kx l.2)
+        (sets_then code cells d (declared x) l.0 st [] [] (choice_of within) (declaration_runs code cells d few x f pc l.0 st [] h.0 kx l.2)
         (λ g. choices_run slot within g l.0 l.1 pc' st h.1 (held_left code cells d (uses_of_choices within).reads (uses_of_choices others).reads r) l.3))
         (λ g. choices_run slot others g l.1 next pc' st h.2 (held_right code cells d (uses_of_choices within).reads (uses_of_choices others).reads r) l.4)
     choices_run slot (each_choice over within others) f pc next pc' st h k l =
@@ -424,7 +436,7 @@ module _ (code : List Instruction) (loops : ℕ) (cells : List ℕ) (d : Declare
         let r = held_right code cells d (uses_of_replicator over).reads (with_use (uses_of_choices within) (uses_of_choices others)).reads k in
         let inner = (λ (g : Variables) (st' : List ℤ). choices_run slot within g (l.0 + 1) l.2 pc' st' h.2 (held_left code cells d (uses_of_choices within).reads (uses_of_choices others).reads r) l.6) in
         chooses_next slot (λ s. then_in (in_store (indices_of over s) s) (λ is s'. choice_over (choice_of within) (index_of over) is s')) (choice_of others) st st (l.0 + 1 + l.1) next pc'
-        (performs_by code cells (indices_of over) (indices_of over (at f)) (λ is. point l.0 (counting is st) [] [] f) (λ is s'. choice_over (choice_of within) (index_of over) is s') (counting_runs code cells d over f pc l.0 st [] l.4)
+        (performs_by code cells (indices_of over) (indices_of over (at f)) (λ is. point l.0 (counting is st) [] [] f) (λ is s'. choice_over (choice_of within) (index_of over) is s') (counting_runs code cells d few over h.0 f pc l.0 st [] l.4)
         (λ s hs. indices_same d s (at f) over h.0 (agrees_on code cells d (uses_of_replicator over).reads f s kx hs))
         (λ is q. counted_runs slot is (choice_of within) (index_of over) l.0 l.1 l.3 l.2 st pc' l.5 l.7.0 l.7.1 inner f (λ base count e. counted_fits over (at f) base count (q ∙ ap Value e))))
         (λ g. choices_run slot others g (l.0 + 1 + l.1) next pc' st h.3 (held_right code cells d (uses_of_choices within).reads (uses_of_choices others).reads r) l.8)
@@ -459,8 +471,8 @@ module _ (code : List Instruction) (loops : ℕ) (cells : List ℕ) (d : Declare
         let kt = held_left code cells d (uses_of_targets ts).reads (with_use (uses_of body) (uses_of_variants vs)).reads kr in
         let kb = held_right code cells d (uses_of_targets ts).reads (with_use (uses_of body) (uses_of_variants vs)).reads kr in
         tagged slot f pc l.0 pc' tag t ps (λ s. then_in (all_declared ds s) (λ x s'. then_in (store_into ts ps s') (λ y s''. Gives (Some body) s''))) (variant_taken tag ps vs) (nat_eq tag t) refl l.3
-        (sets_then code cells d (all_declared ds) l.1 [] ps [] (λ s'. then_in (store_into ts ps s') (λ y s''. Gives (Some body) s'')) (declarations_run code cells d ds f (pc + 1) l.1 [] ps h.1 kd l.4)
-        (λ g. sets_then code cells d (store_into ts ps) l.2 [] [] [] (λ s''. Gives (Some body) s'') (storing_runs code cells d ts h.0.0 ps g l.1 l.2 [] h.0.2 kt l.5)
+        (sets_then code cells d (all_declared ds) l.1 [] ps [] (λ s'. then_in (store_into ts ps s') (λ y s''. Gives (Some body) s'')) (declarations_run code cells d few ds f (pc + 1) l.1 [] ps h.1 kd l.4)
+        (λ g. sets_then code cells d (store_into ts ps) l.2 [] [] [] (λ s''. Gives (Some body) s'') (storing_runs code cells d few ts h.0.0 ps g l.1 l.2 [] h.0.2 kt l.5)
         (λ g'. enters_body slot body g' l.2 pc' (term_runs slot body g' l.2 pc' h.2 (held_left code cells d (uses_of body).reads (uses_of_variants vs).reads kb) l.6))))
         (variants_run slot vs f tag (pc + 1 + l.0) pc' ps p h.3 (held_right code cells d (uses_of body).reads (uses_of_variants vs).reads kb) l.7)
 
@@ -469,4 +481,4 @@ module _ (code : List Instruction) (loops : ℕ) (cells : List ℕ) (d : Declare
       tests slot f pc l.0 l.1 l.2 pc' e b h.0 (held_left code cells d (reads_of e) (uses_of b).reads k) l.3 l.4 l.5 l.7 l
       (term_runs slot b f (l.0 + 1) l.2 h.1 (held_right code cells d (reads_of e) (uses_of b).reads k) l.6)
   loop_runs slot (EachLoop index v n b) f pc pc' h k l =
-      passes slot f pc pc' index b l.1 (λ g. term_runs (slot + 2) b g (pc + 1) l.1.1 h.3 (held_right code cells d (λ c. false) (uses_of b).reads k) l.1.5) n v l.0
+      passes slot f pc pc' index b l.1 (λ g. term_runs (slot + 2) b g (pc + 1) l.1.1 h.3 (held_right code cells d (λ c. false) (uses_of b).reads k) l.1.5) n v l.0 h.1

@@ -28,7 +28,9 @@ use Rattle.occ_term.specs.Terms.{Item, Target, Declaration, Clearing, Naming, Re
 use Rattle.occ_term.specs.Values.{Store, after, checked, value_of, part_of, parts_of, AgreeOn}
 use Rattle.occ_term.specs.Storing.{Outcome, Gives, Faults, then_in, Nothing, nothing, store_from, values_in, Spot, spots_of, store_parts, store_into, assigned, declared, all_declared, Indices, indices, indices_of}
 use Rattle.occ_term.specs.Uses.{Numbers, reads_of_item, reads_of_items, uses_of_targets, uses_of_declaration, uses_of_declarations}
-use Rattle.occ_term.specs.TermTyping.{Declared, ItemsHave, TargetsHave, DeclarationHas, DeclarationsHave}
+use Rattle.occ_term.specs.TermTyping.{Declared, ItemsHave, TargetsHave, DeclarationHas, DeclarationsHave, ReplicatorHas}
+use Rattle.occ_code.specs.Sequential.Within.{AreNumbered}
+use Rattle.occ_term.specs.declared.primitive.Primitive.TheVariants.{Int}
 use Rattle.occ_term.specs.Frames.{Variables, is_held, at}
 use Rattle.occ_code.specs.Sequential.Machine.{Instruction, StoreParts, StoreNamed, Point, point, Moves, act, here, on, frame_from, Stored, Stays, Refused, frame_parts, last_part, without_last, named_from, going_stored, counting}
 use Rattle.occ_code.specs.Sequential.Expressions.{expression_code, item_code, items_code, targets_code, declaration_code, declarations_code, storing_code, counting_code}
@@ -93,109 +95,115 @@ module _ (code : List Instruction) (cells : List ℕ) (d : Declared) where
       (sym (ap (λ z. (stored_frame z).left) e) ∙ parts_left xs ps f)
       (λ s hs. as_faults x g (store_parts xs ps s) (subst (λ z. StoresAs cells z (store_parts xs ps s)) e (parts_held cells xs ps f s hs)))
 
-  pub storing_runs : (ts : List Target) (types : List PartType) (ps : List Part) (f : Variables) (pc pc' : ℕ) (st : List ℤ) → TargetsHave d ts types → Held (uses_of_targets ts).reads → StandsAt code pc (storing_code ts) pc'
-      → Sets f (point pc st ps [] f) (store_into ts ps) pc' st [] []
-  storing_runs ts types ps f pc pc' st h k at_place =
-      let (m, a, l) = split code pc pc' (targets_code ts) _ at_place in
-      performs_by code cells (spots_of ts) (spots_of ts (at f)) (λ xs. point m st ps xs f) (λ ats s'. store_parts ats ps s') (targets_run code f st ps ts [] pc m a)
-      (λ s hs. spots_same d s (at f) ts types h (agrees_on (uses_of_targets ts).reads f s k hs))
-      (λ xs e. stores_run xs ps f m pc' st (frame_parts xs ps f) refl l.0 l.1)
-
-  pub assignment_runs : (ts : List Target) (vs : List Item) (types : List PartType) (f : Variables) (pc pc' : ℕ) → ItemsHave d vs types → TargetsHave d ts types → Held (reads_of_items vs) → Held (uses_of_targets ts).reads
-      → StandsAt code pc (items_code vs ++ storing_code ts) pc' → Sets f (point pc [] [] [] f) (assigned ts vs) pc' [] [] []
-  assignment_runs ts vs types f pc pc' hv ht kv kt at_place =
-      let (m, a, l) = split code pc pc' (items_code vs) _ at_place in
-      performs_by code cells (parts_of vs) (parts_of vs (at f)) (λ ps. point m [] ps [] f) (λ ps s'. store_into ts ps s') (items_run code f [] [] vs [] pc m a)
-      (λ s hs. parts_same d s (at f) vs types hv (agrees_on (reads_of_items vs) f s kv hs))
-      (λ ps e. storing_runs ts types ps f m pc' [] ht kt l)
-
-  -- one value into one variable
-  one_store_runs : (type : Primitive) (t : PartType) (line c : ℕ) (e : Expression) (f : Variables) (pc pc' : ℕ) → ItemHas d.types (OfOne type e) t → Held (reads_of e)
-      → StandsAt code pc (expression_code e ++ StoreOne c ∷ []) pc' → Sets f (point pc [] [] [] f) (assigned (Into (place line c [] no_subscripts) ∷ []) (OfOne type e ∷ [])) pc' [] [] []
-  one_store_runs type t line c e f pc pc' h k at_place =
-      let (m, a, l) = split code pc pc' (expression_code e) _ at_place in
-      by_value m (value_of e (at f)) refl (expression_runs code f [] [] e pc m [] a) l.0 l.1
-    where
-      stored_by : (v : Evaluated ℤ) (s : Store) → Outcome Nothing
-      stored_by v s = then_in (in_store (after (after v (λ x. Value (One type x))) (λ p. after (Value []) (λ ps. Value (p ∷ ps)))) s) (λ ps s'. store_into (Into (place line c [] no_subscripts) ∷ []) ps s')
-
-      typed_value : (u : PartType) → ItemHas d.types (OfOne type e) u → (s : Store) → HoldsAs cells f s → value_of e s ≡ value_of e (at f)
-      typed_value (OneOf u) g s hs = value_same d.types s (at f) e u g.1 (agrees_on (reads_of e) f s k hs)
-      typed_value (ManyOf sizes u) g s hs = absurd g
-      typed_value (CountedOf n u) g s hs = absurd g
-
-      by_value : (m : ℕ) (v : Evaluated ℤ) → value_of e (at f) ≡ v → Comes code f (point pc [] [] [] f) (value_of e (at f)) (λ x. point m (x ∷ []) [] [] f) → slice_get code m ≡ Some (StoreOne c) → m + 1 ≡ pc'
-          → Sets f (point pc [] [] [] f) (assigned (Into (place line c [] no_subscripts) ∷ []) (OfOne type e ∷ [])) pc' [] [] []
-      by_value m (Value x) q w l n =
-          let walk = came (subst (λ v. Comes code f (point pc [] [] [] f) v (λ x. point m (x ∷ []) [] [] f)) q w) in
-          performs nothing (point (m + 1) [] [] [] (frame_with f c x)) (walks_on walk (steps_to code f m (x ∷ []) [] [] (StoreOne c) (point (m + 1) [] [] [] (frame_with f c x)) l refl))
-          (ap (λ y. point y [] [] [] (frame_with f c x)) n) refl
-          (λ s hs. record { store = store_with s c x; gives_it = ap (λ v. stored_by v s) (typed_value t h s hs ∙ q); holds = one_held cells f s c x hs })
-        where
-          came : {y : ℤ} {to : ℤ → Point} → Comes code f (point pc [] [] [] f) (Value y) to → Walks by_cell code (point pc [] [] [] f) (to y)
-          came (comes u) = u
-      by_value m (Fails err) q w l n =
-          refuses err f (failed (subst (λ v. Comes code f (point pc [] [] [] f) v (λ x. point m (x ∷ []) [] [] f)) q w)) refl
-          (λ s hs. record { store = s; faults_by = ap (λ v. stored_by v s) (typed_value t h s hs ∙ q); holds = hs })
-        where
-          failed : {y : Fault} {to : ℤ → Point} → Comes code f (point pc [] [] [] f) (Fails y) to → FaultsAt code (point pc [] [] [] f) f y
-          failed (fails u) = u
-
-  pub assigns : (ts : List Target) (vs : List Item) (types : List PartType) (f : Variables) (pc pc' : ℕ) → ItemsHave d vs types → TargetsHave d ts types → Held (reads_of_items vs) → Held (uses_of_targets ts).reads
-      → StandsAt code pc (assignment_code ts vs) pc' → Sets f (point pc [] [] [] f) (assigned ts vs) pc' [] [] []
-  assigns (Into (place line c [] no_subscripts) ∷ []) (OfOne type e ∷ []) [] f pc pc' hv ht kv kt l = absurd hv
-  assigns (Into (place line c [] no_subscripts) ∷ []) (OfOne type e ∷ []) (t ∷ types) f pc pc' hv ht kv kt l = one_store_runs type t line c e f pc pc' hv.0 (held_left (reads_of e) (reads_of_items []) kv) l
-  assigns (Into (place line c [] no_subscripts) ∷ []) [] types f pc pc' hv ht kv kt l = assignment_runs (Into (place line c [] no_subscripts) ∷ []) [] types f pc pc' hv ht kv kt l
-  assigns (Into (place line c [] no_subscripts) ∷ []) (OfOne type e ∷ v ∷ vs) types f pc pc' hv ht kv kt l = assignment_runs (Into (place line c [] no_subscripts) ∷ []) (OfOne type e ∷ v ∷ vs) types f pc pc' hv ht kv kt l
-  assigns (Into (place line c [] no_subscripts) ∷ []) (OfMany type a ∷ vs) types f pc pc' hv ht kv kt l = assignment_runs (Into (place line c [] no_subscripts) ∷ []) (OfMany type a ∷ vs) types f pc pc' hv ht kv kt l
-  assigns (Into (place line c [] no_subscripts) ∷ []) (OfCounted type line' n a ∷ vs) types f pc pc' hv ht kv kt l = assignment_runs (Into (place line c [] no_subscripts) ∷ []) (OfCounted type line' n a ∷ vs) types f pc pc' hv ht kv kt l
-  assigns [] vs types f pc pc' hv ht kv kt l = assignment_runs [] vs types f pc pc' hv ht kv kt l
-  assigns (Into (place line c [] no_subscripts) ∷ t ∷ ts) vs types f pc pc' hv ht kv kt l = assignment_runs (Into (place line c [] no_subscripts) ∷ t ∷ ts) vs types f pc pc' hv ht kv kt l
-  assigns (Into (place line c [] (then_subscript x xs)) ∷ ts) vs types f pc pc' hv ht kv kt l = assignment_runs (Into (place line c [] (then_subscript x xs)) ∷ ts) vs types f pc pc' hv ht kv kt l
-  assigns (Into (place line c (n ∷ ns) subs) ∷ ts) vs types f pc pc' hv ht kv kt l = assignment_runs (Into (place line c (n ∷ ns) subs) ∷ ts) vs types f pc pc' hv ht kv kt l
-  assigns (IntoCounted line n a ∷ ts) vs types f pc pc' hv ht kv kt l = assignment_runs (IntoCounted line n a ∷ ts) vs types f pc pc' hv ht kv kt l
-
-  -- ---- declarations
-
-  pub declaration_runs : (x : Declaration) (f : Variables) (pc pc' : ℕ) (st : List ℤ) (q : List Part) → DeclarationHas d x → Held (uses_of_declaration x).reads → StandsAt code pc (declaration_code x) pc'
-      → Sets f (point pc st q [] f) (declared x) pc' st q []
-  declaration_runs (Clearing first count) f pc pc' st q h k l =
-      performs nothing (point (pc + 1) st q [] (frame_from first (replicate count (pos 0)) f)) (steps_to code f pc st q [] _ _ l.0 refl) (ap (λ m. point m st q [] (frame_from first (replicate count (pos 0)) f)) l.1)
-      (row_left (replicate count (pos 0)) first f)
-      (λ s hs. record { store = store_from first (replicate count (pos 0)) s; gives_it = refl; holds = row_held cells (replicate count (pos 0)) first f s hs })
-  declaration_runs (Naming first value) f pc pc' st q h k at_place =
-      let (m, a, l) = split code pc pc' (item_code value) _ at_place in
-      performs_by code cells (part_of value) (part_of value (at f)) (λ p. point m st (q ++ p ∷ []) [] f) (λ p s'. Gives nothing (store_from first (values_in p) s')) (item_runs code f st [] value q pc m a)
-      (λ s hs. part_as d s (at f) value (simple_part h.1 h.0) h.2 (agrees_on (reads_of_item value) f s (λ c n. k c (or_left (reads_of_item value c) _ n)) hs))
-      (λ p e. performs nothing (point (m + 1) st q [] (frame_from first (values_in p) f))
-      (steps_to code f m st (q ++ p ∷ []) [] (StoreNamed first) _ l.0 (ap (λ r. Moves (point (m + 1) st r [] (named_from first (last_part (q ++ p ∷ [])) f))) (others_are q p) ∙ ap (λ r. Moves (point (m + 1) st q [] (named_from first r f))) (last_is q p)))
-      (ap (λ n. point n st q [] (frame_from first (values_in p) f)) l.1)
-      (row_left (values_in p) first f)
-      (λ s hs. record { store = store_from first (values_in p) s; gives_it = refl; holds = row_held cells (values_in p) first f s hs }))
-
   -- what was set, and then something else from there
   pub sets_then : {Y : Type 0} {f : Variables} {a : Point} (o : Store → Outcome Nothing) (pc : ℕ) (st : List ℤ) (q : List Part) (sp : List Spot) (k : Store → Outcome Y) {To : Y → Point → Type 0}
       → Sets f a o pc st q sp → ((g : Variables) → Performs code cells g (point pc st q sp g) k To) → Performs code cells f a (λ s. then_in (o s) (λ x s'. k s')) To
   sets_then o pc st q sp k {To = To} x n = performs_then code cells (λ y s'. k s') x (λ y b e. subst (λ z. Performs code cells (frame_of b) z k To) (sym e) (n (frame_of b)))
 
-  pub declarations_run : (xs : List Declaration) (f : Variables) (pc pc' : ℕ) (st : List ℤ) (q : List Part) → DeclarationsHave d xs → Held (uses_of_declarations xs).reads → StandsAt code pc (declarations_code xs) pc'
-      → Sets f (point pc st q [] f) (all_declared xs) pc' st q []
-  declarations_run [] f pc pc' st q h k l = performs nothing (point pc st q [] f) here (ap (λ m. point m st q [] f) l) refl (λ s hs. record { store = s; gives_it = refl; holds = hs })
-  declarations_run (x ∷ xs) f pc pc' st q h k at_place =
-      let (m, a, l) = split code pc pc' (declaration_code x) _ at_place in
-      sets_then (declared x) m st q [] (all_declared xs) (declaration_runs x f pc m st q h.0 (held_left (uses_of_declaration x).reads (uses_of_declarations xs).reads k) a)
-      (λ g. declarations_run xs g m pc' st q h.1 (held_right (uses_of_declaration x).reads (uses_of_declarations xs).reads k) l)
+  module _ (few : AreNumbered d) where
+    pub storing_runs : (ts : List Target) (types : List PartType) (ps : List Part) (f : Variables) (pc pc' : ℕ) (st : List ℤ) → TargetsHave d ts types → Held (uses_of_targets ts).reads → StandsAt code pc (storing_code ts) pc'
+        → Sets f (point pc st ps [] f) (store_into ts ps) pc' st [] []
+    storing_runs ts types ps f pc pc' st h k at_place =
+        let (m, a, l) = split code pc pc' (targets_code ts) _ at_place in
+        performs_by code cells (spots_of ts) (spots_of ts (at f)) (λ xs. point m st ps xs f) (λ ats s'. store_parts ats ps s') (targets_run code f st ps d few ts types h [] pc m a)
+        (λ s hs. spots_same d s (at f) ts types h (agrees_on (uses_of_targets ts).reads f s k hs))
+        (λ xs e. stores_run xs ps f m pc' st (frame_parts xs ps f) refl l.0 l.1)
 
-  -- ---- replicators
+    pub assignment_runs : (ts : List Target) (vs : List Item) (types : List PartType) (f : Variables) (pc pc' : ℕ) → ItemsHave d vs types → TargetsHave d ts types → Held (reads_of_items vs) → Held (uses_of_targets ts).reads
+        → StandsAt code pc (items_code vs ++ storing_code ts) pc' → Sets f (point pc [] [] [] f) (assigned ts vs) pc' [] [] []
+    assignment_runs ts vs types f pc pc' hv ht kv kt at_place =
+        let (m, a, l) = split code pc pc' (items_code vs) _ at_place in
+        performs_by code cells (parts_of vs) (parts_of vs (at f)) (λ ps. point m [] ps [] f) (λ ps s'. store_into ts ps s') (items_run code f [] [] d few vs types hv [] pc m a)
+        (λ s hs. parts_same d s (at f) vs types hv (agrees_on (reads_of_items vs) f s kv hs))
+        (λ ps e. storing_runs ts types ps f m pc' [] ht kt l)
 
-  pub counting_runs : (r : Replicator) (f : Variables) (pc pc' : ℕ) (st : List ℤ) (q : List Part) → StandsAt code pc (counting_code r) pc' → Comes code f (point pc st q [] f) (indices_of r (at f)) (λ is. point pc' (counting is st) q [] f)
-  counting_runs (replicator line index base count) f pc pc' st q at_place =
-      let (m, a, r) = split code pc pc' (expression_code base) _ at_place in
-      let (n, b, l) = split code m pc' (expression_code count) _ r in
-      comes_then code f (value_of base (at f)) (λ x. after (value_of count (at f)) (λ y. checked (int_le (pos 0) y && int_le (x +ℤ y) (pos 2147483648)) (indices x (nat_abs y)) Count line)) (expression_runs code f q [] base pc m st a)
-      (λ x e. comes_then code f (value_of count (at f)) (λ y. checked (int_le (pos 0) y && int_le (x +ℤ y) (pos 2147483648)) (indices x (nat_abs y)) Count line) (expression_runs code f q [] count m n (x ∷ st) b)
-      (λ y e'. let v = checked (int_le (pos 0) y && int_le (x +ℤ y) (pos 2147483648)) (indices x (nat_abs y)) Count line in
-      comes_at code f _ v (n + 1) pc' (λ z is. point z (counting is st) q [] f) l.1 (comes_by code f n (y ∷ x ∷ st) q [] _ v (λ is. point (n + 1) (counting is st) q [] f) l.0 refl)))
+    -- one value into one variable
+    one_store_runs : (type : Primitive) (t : PartType) (line c : ℕ) (e : Expression) (f : Variables) (pc pc' : ℕ) → ItemHas d.types (OfOne type e) t → Held (reads_of e)
+        → StandsAt code pc (expression_code e ++ StoreOne c ∷ []) pc' → Sets f (point pc [] [] [] f) (assigned (Into (place line c [] no_subscripts) ∷ []) (OfOne type e ∷ [])) pc' [] [] []
+    one_store_runs type t line c e f pc pc' h k at_place =
+        let (m, a, l) = split code pc pc' (expression_code e) _ at_place in
+        by_value m (value_of e (at f)) refl (runs t h m a) l.0 l.1
+      where
+        runs : (u : PartType) → ItemHas d.types (OfOne type e) u → (m : ℕ) → StandsAt code pc (expression_code e) m → Comes code f (point pc [] [] [] f) (value_of e (at f)) (λ x. point m (x ∷ []) [] [] f)
+        runs (OneOf u) g m a = expression_runs code f [] [] d.types few.cells e u g.1 pc m [] a
+        runs (ManyOf sizes u) g m a = absurd g
+        runs (CountedOf n u) g m a = absurd g
+
+        stored_by : (v : Evaluated ℤ) (s : Store) → Outcome Nothing
+        stored_by v s = then_in (in_store (after (after v (λ x. Value (One type x))) (λ p. after (Value []) (λ ps. Value (p ∷ ps)))) s) (λ ps s'. store_into (Into (place line c [] no_subscripts) ∷ []) ps s')
+
+        typed_value : (u : PartType) → ItemHas d.types (OfOne type e) u → (s : Store) → HoldsAs cells f s → value_of e s ≡ value_of e (at f)
+        typed_value (OneOf u) g s hs = value_same d.types s (at f) e u g.1 (agrees_on (reads_of e) f s k hs)
+        typed_value (ManyOf sizes u) g s hs = absurd g
+        typed_value (CountedOf n u) g s hs = absurd g
+
+        by_value : (m : ℕ) (v : Evaluated ℤ) → value_of e (at f) ≡ v → Comes code f (point pc [] [] [] f) (value_of e (at f)) (λ x. point m (x ∷ []) [] [] f) → slice_get code m ≡ Some (StoreOne c) → m + 1 ≡ pc'
+            → Sets f (point pc [] [] [] f) (assigned (Into (place line c [] no_subscripts) ∷ []) (OfOne type e ∷ [])) pc' [] [] []
+        by_value m (Value x) q w l n =
+            let walk = came (subst (λ v. Comes code f (point pc [] [] [] f) v (λ x. point m (x ∷ []) [] [] f)) q w) in
+            performs nothing (point (m + 1) [] [] [] (frame_with f c x)) (walks_on walk (steps_to code f m (x ∷ []) [] [] (StoreOne c) (point (m + 1) [] [] [] (frame_with f c x)) l refl))
+            (ap (λ y. point y [] [] [] (frame_with f c x)) n) refl
+            (λ s hs. record { store = store_with s c x; gives_it = ap (λ v. stored_by v s) (typed_value t h s hs ∙ q); holds = one_held cells f s c x hs })
+          where
+            came : {y : ℤ} {to : ℤ → Point} → Comes code f (point pc [] [] [] f) (Value y) to → Walks by_cell code (point pc [] [] [] f) (to y)
+            came (comes u) = u
+        by_value m (Fails err) q w l n =
+            refuses err f (failed (subst (λ v. Comes code f (point pc [] [] [] f) v (λ x. point m (x ∷ []) [] [] f)) q w)) refl
+            (λ s hs. record { store = s; faults_by = ap (λ v. stored_by v s) (typed_value t h s hs ∙ q); holds = hs })
+          where
+            failed : {y : Fault} {to : ℤ → Point} → Comes code f (point pc [] [] [] f) (Fails y) to → FaultsAt code (point pc [] [] [] f) f y
+            failed (fails u) = u
+
+    pub assigns : (ts : List Target) (vs : List Item) (types : List PartType) (f : Variables) (pc pc' : ℕ) → ItemsHave d vs types → TargetsHave d ts types → Held (reads_of_items vs) → Held (uses_of_targets ts).reads
+        → StandsAt code pc (assignment_code ts vs) pc' → Sets f (point pc [] [] [] f) (assigned ts vs) pc' [] [] []
+    assigns (Into (place line c [] no_subscripts) ∷ []) (OfOne type e ∷ []) [] f pc pc' hv ht kv kt l = absurd hv
+    assigns (Into (place line c [] no_subscripts) ∷ []) (OfOne type e ∷ []) (t ∷ types) f pc pc' hv ht kv kt l = one_store_runs type t line c e f pc pc' hv.0 (held_left (reads_of e) (reads_of_items []) kv) l
+    assigns (Into (place line c [] no_subscripts) ∷ []) [] types f pc pc' hv ht kv kt l = assignment_runs (Into (place line c [] no_subscripts) ∷ []) [] types f pc pc' hv ht kv kt l
+    assigns (Into (place line c [] no_subscripts) ∷ []) (OfOne type e ∷ v ∷ vs) types f pc pc' hv ht kv kt l = assignment_runs (Into (place line c [] no_subscripts) ∷ []) (OfOne type e ∷ v ∷ vs) types f pc pc' hv ht kv kt l
+    assigns (Into (place line c [] no_subscripts) ∷ []) (OfMany type a ∷ vs) types f pc pc' hv ht kv kt l = assignment_runs (Into (place line c [] no_subscripts) ∷ []) (OfMany type a ∷ vs) types f pc pc' hv ht kv kt l
+    assigns (Into (place line c [] no_subscripts) ∷ []) (OfCounted type line' n a ∷ vs) types f pc pc' hv ht kv kt l = assignment_runs (Into (place line c [] no_subscripts) ∷ []) (OfCounted type line' n a ∷ vs) types f pc pc' hv ht kv kt l
+    assigns [] vs types f pc pc' hv ht kv kt l = assignment_runs [] vs types f pc pc' hv ht kv kt l
+    assigns (Into (place line c [] no_subscripts) ∷ t ∷ ts) vs types f pc pc' hv ht kv kt l = assignment_runs (Into (place line c [] no_subscripts) ∷ t ∷ ts) vs types f pc pc' hv ht kv kt l
+    assigns (Into (place line c [] (then_subscript x xs)) ∷ ts) vs types f pc pc' hv ht kv kt l = assignment_runs (Into (place line c [] (then_subscript x xs)) ∷ ts) vs types f pc pc' hv ht kv kt l
+    assigns (Into (place line c (n ∷ ns) subs) ∷ ts) vs types f pc pc' hv ht kv kt l = assignment_runs (Into (place line c (n ∷ ns) subs) ∷ ts) vs types f pc pc' hv ht kv kt l
+    assigns (IntoCounted line n a ∷ ts) vs types f pc pc' hv ht kv kt l = assignment_runs (IntoCounted line n a ∷ ts) vs types f pc pc' hv ht kv kt l
+
+    -- ---- declarations
+
+    pub declaration_runs : (x : Declaration) (f : Variables) (pc pc' : ℕ) (st : List ℤ) (q : List Part) → DeclarationHas d x → Held (uses_of_declaration x).reads → StandsAt code pc (declaration_code x) pc'
+        → Sets f (point pc st q [] f) (declared x) pc' st q []
+    declaration_runs (Clearing first count) f pc pc' st q h k l =
+        performs nothing (point (pc + 1) st q [] (frame_from first (replicate count (pos 0)) f)) (steps_to code f pc st q [] _ _ l.0 refl) (ap (λ m. point m st q [] (frame_from first (replicate count (pos 0)) f)) l.1)
+        (row_left (replicate count (pos 0)) first f)
+        (λ s hs. record { store = store_from first (replicate count (pos 0)) s; gives_it = refl; holds = row_held cells (replicate count (pos 0)) first f s hs })
+    declaration_runs (Naming first value) f pc pc' st q h k at_place =
+        let (m, a, l) = split code pc pc' (item_code value) _ at_place in
+        performs_by code cells (part_of value) (part_of value (at f)) (λ p. point m st (q ++ p ∷ []) [] f) (λ p s'. Gives nothing (store_from first (values_in p) s')) (item_runs code f st [] d few value (simple_part h.1 h.0) h.2 q pc m a)
+        (λ s hs. part_as d s (at f) value (simple_part h.1 h.0) h.2 (agrees_on (reads_of_item value) f s (λ c n. k c (or_left (reads_of_item value c) _ n)) hs))
+        (λ p e. performs nothing (point (m + 1) st q [] (frame_from first (values_in p) f))
+        (steps_to code f m st (q ++ p ∷ []) [] (StoreNamed first) _ l.0 (ap (λ r. Moves (point (m + 1) st r [] (named_from first (last_part (q ++ p ∷ [])) f))) (others_are q p) ∙ ap (λ r. Moves (point (m + 1) st q [] (named_from first r f))) (last_is q p)))
+        (ap (λ n. point n st q [] (frame_from first (values_in p) f)) l.1)
+        (row_left (values_in p) first f)
+        (λ s hs. record { store = store_from first (values_in p) s; gives_it = refl; holds = row_held cells (values_in p) first f s hs }))
+
+    pub declarations_run : (xs : List Declaration) (f : Variables) (pc pc' : ℕ) (st : List ℤ) (q : List Part) → DeclarationsHave d xs → Held (uses_of_declarations xs).reads → StandsAt code pc (declarations_code xs) pc'
+        → Sets f (point pc st q [] f) (all_declared xs) pc' st q []
+    declarations_run [] f pc pc' st q h k l = performs nothing (point pc st q [] f) here (ap (λ m. point m st q [] f) l) refl (λ s hs. record { store = s; gives_it = refl; holds = hs })
+    declarations_run (x ∷ xs) f pc pc' st q h k at_place =
+        let (m, a, l) = split code pc pc' (declaration_code x) _ at_place in
+        sets_then (declared x) m st q [] (all_declared xs) (declaration_runs x f pc m st q h.0 (held_left (uses_of_declaration x).reads (uses_of_declarations xs).reads k) a)
+        (λ g. declarations_run xs g m pc' st q h.1 (held_right (uses_of_declaration x).reads (uses_of_declarations xs).reads k) l)
+
+    -- ---- replicators
+
+    pub counting_runs : (r : Replicator) → ReplicatorHas d r → (f : Variables) (pc pc' : ℕ) (st : List ℤ) (q : List Part) → StandsAt code pc (counting_code r) pc' → Comes code f (point pc st q [] f) (indices_of r (at f)) (λ is. point pc' (counting is st) q [] f)
+    counting_runs (replicator line index base count) h f pc pc' st q at_place =
+        let (m, a, r) = split code pc pc' (expression_code base) _ at_place in
+        let (n, b, l) = split code m pc' (expression_code count) _ r in
+        comes_then code f (value_of base (at f)) (λ x. after (value_of count (at f)) (λ y. checked (int_le (pos 0) y && int_le (x +ℤ y) (pos 2147483648)) (indices x (nat_abs y)) Count line)) (expression_runs code f q [] d.types few.cells base Int h.1 pc m st a)
+        (λ x e. comes_then code f (value_of count (at f)) (λ y. checked (int_le (pos 0) y && int_le (x +ℤ y) (pos 2147483648)) (indices x (nat_abs y)) Count line) (expression_runs code f q [] d.types few.cells count Int h.2 m n (x ∷ st) b)
+        (λ y e'. let v = checked (int_le (pos 0) y && int_le (x +ℤ y) (pos 2147483648)) (indices x (nat_abs y)) Count line in
+        comes_at code f _ v (n + 1) pc' (λ z is. point z (counting is st) q [] f) l.1 (comes_by code f n (y ∷ x ∷ st) q [] _ v (λ is. point (n + 1) (counting is st) q [] f) l.0 refl)))
 
 -- ---- how far the values of a replicator go
 

@@ -29,6 +29,7 @@ use Rattle.occ_code.specs.Alike.{Agrees, FitsProtocol, indices_in, SameArm, Same
 use Rattle.occ_code.specs.Sequential.Machine.{by_cell, NamesWithin, placed, Body, Instruction, IfTaken, End, Point, point, Stops, act, here, begins_at, SingleStop, StopsIn, stops_here, passes_on, IsReady, counted_turn, tag_stack}
 use Rattle.occ_code.specs.Sequential.Layout.{stays, TermAt, ListAt, LoopAt, ContextsAt}
 use Rattle.occ_code.specs.Sequential.Alike.{SameTurn, Alike, DoesAs, BodiesDo}
+use Rattle.occ_code.specs.Sequential.Within.{AreNumbered}
 use Rattle.occ_code.proofs.SequentialReads.{or_left}
 use Rattle.occ_code.proofs.SequentialFrames.{HoldsAs}
 use Rattle.occ_code.proofs.PlacedCode.{stops_placed}
@@ -96,7 +97,7 @@ module _ (d : Declared) (cells : List ℕ) where
 
 -- ---- a turn
 
-module _ (d : Declared) (code : List Instruction) (loops : ℕ) (cells : List ℕ) where
+module _ (d : Declared) (few : AreNumbered d) (code : List Instruction) (loops : ℕ) (cells : List ℕ) where
   -- from a place and its slot to the end, with these counters
   record ToEnd (left_ : List ℕ) (slot pc : ℕ) (k : List Context) : Type 0 where
     last : ℕ
@@ -185,7 +186,7 @@ module _ (d : Declared) (code : List Instruction) (loops : ℕ) (cells : List �
   contexts_run (Then ts ∷ k) slot pc h u f room e =
       let (inner, a, b, same, way, at_ts, others) = e.codes in
       let later : ToEnd f.left inner b k = record { last = e.last; codes = others; ends_there = e.ends_there } in
-      let r = continued inner b k room later (terms_run code loops cells d inner ts f a b h.0 (held_left code cells d (uses_of_terms ts).reads (uses_of_contexts k).reads u) at_ts)
+      let r = continued inner b k room later (terms_run code loops cells d few inner ts f a b h.0 (held_left code cells d (uses_of_terms ts).reads (uses_of_contexts k).reads u) at_ts)
       (contexts_run k inner b h.1 (held_right code cells d (uses_of_terms ts).reads (uses_of_contexts k).reads u)) in
       record {
         stands = r.stands;
@@ -215,7 +216,7 @@ module _ (d : Declared) (code : List Instruction) (loops : ℕ) (cells : List �
   message_in (SkipTaken t) = None
   message_in (MessageTaken list m) = Some m
 
-  begins_taken : (what : Taken) (n : ℕ) (is : List ℤ) (pc : ℕ) (f : Variables) → begins_at (Took (suc n) is (message_in what)) pc f ≡ Some (point pc (pos (suc n) ∷ (is ++ tag_of code loops cells d what)) (items_of_taken code loops cells d what) [] f)
+  begins_taken : (what : Taken) (n : ℕ) (is : List ℤ) (pc : ℕ) (f : Variables) → begins_at (Took (suc n) is (message_in what)) pc f ≡ Some (point pc (pos (suc n) ∷ (is ++ tag_of code loops cells d few what)) (items_of_taken code loops cells d few what) [] f)
   begins_taken (SkipTaken t) n is pc f = refl
   begins_taken (MessageTaken list m) n is pc f = refl
 
@@ -224,7 +225,7 @@ module _ (d : Declared) (code : List Instruction) (loops : ℕ) (cells : List �
     does : {t : Term} (k : List Context) (slot pc' : ℕ) → TermAt code loops slot pc t pc' → ToEnd left_ slot pc' k → Starting left_ pc Ready (left (Do t) k)
     turns_again : {l : Loop} (k : List Context) (slot pc' : ℕ) → LoopAt code loops left_ slot pc l pc' → ToEnd left_ slot pc' k → Starting left_ pc Ready (left (Again l) k)
     takes : {list : Reception} {m : Message} (k : List Context) (slot pc' : ℕ) → ListAt code loops slot pc list pc' → ToEnd left_ slot pc' k → Starting left_ pc (Took 0 [] (Some m)) (left (Taking [] (MessageTaken list m)) k)
-    takes_arm : {settings : List Setting} {what : Taken} (k : List Context) (slot mid n b skip : ℕ) → SetsAgain code n pc settings b → slice_get code b ≡ Some (IfTaken skip) → TakenAt code loops cells d slot (b + 1) what mid → ToEnd left_ slot mid k
+    takes_arm : {settings : List Setting} {what : Taken} (k : List Context) (slot mid n b skip : ℕ) → SetsAgain code n pc settings b → slice_get code b ≡ Some (IfTaken skip) → TakenAt code loops cells d few slot (b + 1) what mid → ToEnd left_ slot mid k
         → Starting left_ pc (Took (suc n) (indices_in settings) (message_in what)) (left (Taking settings what) k)
 
   record Begun (w : Wait) (pc : ℕ) (f : Variables) (l : Left) : Type 0 where
@@ -237,7 +238,7 @@ module _ (d : Declared) (code : List Instruction) (loops : ℕ) (cells : List �
       record {
         first = point pc [] [] [] f;
         begins = refl;
-        runs = continued slot pc' k room e (term_runs code loops cells d slot t f pc pc' h.0 (held_left code cells d (uses_of t).reads (uses_of_contexts k).reads u) l)
+        runs = continued slot pc' k room e (term_runs code loops cells d few slot t f pc pc' h.0 (held_left code cells d (uses_of t).reads (uses_of_contexts k).reads u) l)
             (contexts_run k slot pc' h.1 (held_right code cells d (uses_of t).reads (uses_of_contexts k).reads u));
       }
   begun_turn {pc = pc} f room (turns_again {l = x} k slot pc' l e) h u =
@@ -245,26 +246,26 @@ module _ (d : Declared) (code : List Instruction) (loops : ℕ) (cells : List �
         first = point pc [] [] [] f;
         begins = refl;
         runs = continued slot pc' k room e (result_after code loops cells slot here (keeps_all slot refl) (λ s hs. record { store = s; steps = λ ks. more again refl none; holds = hs })
-            (loop_runs code loops cells d slot x f pc pc' h.0 (held_left code cells d (uses_of_doing (Again x)).reads (uses_of_contexts k).reads u) l))
+            (loop_runs code loops cells d few slot x f pc pc' h.0 (held_left code cells d (uses_of_doing (Again x)).reads (uses_of_contexts k).reads u) l))
             (contexts_run k slot pc' h.1 (held_right code cells d (uses_of_doing (Again x)).reads (uses_of_contexts k).reads u));
       }
   begun_turn {pc = pc} f room (takes {list = list} {m = m} k slot pc' l e) h u =
       record {
         first = point pc (tag_stack m.tag) m.items [] f;
         begins = refl;
-        runs = continued slot pc' k room e (list_runs code loops cells d slot list m h.0.1.0 f pc pc' h.0.1.1 h.0.1.2 (held_left code cells d (uses_of_doing (Taking [] (MessageTaken list m))).reads (uses_of_contexts k).reads u) l)
+        runs = continued slot pc' k room e (list_runs code loops cells d few slot list m h.0.1.0 f pc pc' h.0.1.1 h.0.1.2 (held_left code cells d (uses_of_doing (Taking [] (MessageTaken list m))).reads (uses_of_contexts k).reads u) l)
             (contexts_run k slot pc' h.1 (held_right code cells d (uses_of_doing (Taking [] (MessageTaken list m))).reads (uses_of_contexts k).reads u));
       }
   begun_turn {pc = pc} f room (takes_arm {settings = settings} {what = what} k slot mid n b skip x at_b l e) h u =
       let own = held_left code cells d (uses_of_doing (Taking settings what)).reads (uses_of_contexts k).reads u in
       record {
-        first = point pc (pos (suc n) ∷ (indices_in settings ++ tag_of code loops cells d what)) (items_of_taken code loops cells d what) [] f;
+        first = point pc (pos (suc n) ∷ (indices_in settings ++ tag_of code loops cells d few what)) (items_of_taken code loops cells d few what) [] f;
         begins = begins_taken what n (indices_in settings) pc f;
-        runs = continued slot mid k room e (arm_runs code loops cells d slot n pc b skip settings what f mid h.0.0 h.0.1 (held_left code cells d (uses_of_settings settings).reads (uses_of_taken what).reads own) (held_right code cells d (uses_of_settings settings).reads (uses_of_taken what).reads own) x at_b l)
+        runs = continued slot mid k room e (arm_runs code loops cells d few slot n pc b skip settings what f mid h.0.0 h.0.1 (held_left code cells d (uses_of_settings settings).reads (uses_of_taken what).reads own) (held_right code cells d (uses_of_settings settings).reads (uses_of_taken what).reads own) x at_b l)
             (contexts_run k slot mid h.1 (held_right code cells d (uses_of_doing (Taking settings what)).reads (uses_of_contexts k).reads u));
       }
 
-module _ (d : Declared) (code : List Instruction) (cells writes : List ℕ) (loops_ : ℕ) where
+module _ (d : Declared) (few : AreNumbered d) (code : List Instruction) (cells writes : List ℕ) (loops_ : ℕ) where
   abbrev task : ℕ → ℕ → ℕ → Variables → Wait → Task
   task number turns pc f w = record { number = number; turns = turns; place = pc; frame = f; wait = w }
 
@@ -289,23 +290,23 @@ module _ (d : Declared) (code : List Instruction) (cells writes : List ℕ) (loo
     types : LeftHas d rest
     held : Held code cells d (uses_of_left rest).reads
     room : length frame.left ≡ loops_
-    rests : Rested d code loops_ cells frame.left stands wait rest
+    rests : Rested d few code loops_ cells frame.left stands wait rest
 
   abbrev GoesFor : ℕ → ℕ → ℕ → Type 0
   GoesFor q number turns =
-      (pc : ℕ) (f : Variables) (w : Wait) (l : Left) → length f.left ≡ loops_ → Starting d code loops_ cells f.left pc w l → LeftHas d l → Held code cells d (uses_of_left l).reads
+      (pc : ℕ) (f : Variables) (w : Wait) (l : Left) → length f.left ≡ loops_ → Starting d few code loops_ cells f.left pc w l → LeftHas d l → Held code cells d (uses_of_left l).reads
       → (s : Store) → Agrees d cells f s → LongTurn (suc q) number turns pc f w l s
 
   module _ (q number turns pc : ℕ) (f : Variables) (w : Wait) (l : Left) (s : Store) (pc' : ℕ) (f' : Variables) (s' : Store) where
     -- after one stop that is no loop's
     stays_there : {w' : Wait} {r : Left} → (IsReady w' → ⊥) → IsFalse (is_looping (status r)) → SingleStop by_cell code (task number turns pc f w) (task number turns pc' f' w') → SingleTurn l s r s' → Agrees d cells f' s' → LeftHas d r
-        → Held code cells d (uses_of_left r).reads → length f'.left ≡ loops_ → Rested d code loops_ cells f'.left pc' w' r → LongTurn (suc (suc q)) number turns pc f w l s
+        → Held code cells d (uses_of_left r).reads → length f'.left ≡ loops_ → Rested d few code loops_ cells f'.left pc' w' r → LongTurn (suc (suc q)) number turns pc f w l s
     stays_there {w'} {r} no_loop no_stop single t ag h u room rests =
         record { stands = pc'; frame = f'; wait = w'; rest = r; store = s'; stops_in = stops_here single (inr no_loop); turn = stops t (inr no_stop); agrees = ag; types = h; held = u; room = room; rests = rests }
 
     -- after the first stop: a loop's is passed
     further : {w' : Wait} {r : Left} → SingleStop by_cell code (task number turns pc f w) (task number turns pc' f' w') → SingleTurn l s r s' → Agrees d cells f' s' → LeftHas d r → Held code cells d (uses_of_left r).reads → length f'.left ≡ loops_
-        → Rested d code loops_ cells f'.left pc' w' r → GoesFor q number turns → LongTurn (suc (suc q)) number turns pc f w l s
+        → Rested d few code loops_ cells f'.left pc' w' r → GoesFor q number turns → LongTurn (suc (suc q)) number turns pc f w l s
     further single t ag h u room (offers k slot e) go = stays_there (λ x. absurd cc) refl single t ag h u room (offers k slot e)
     further single t ag h u room (awaits k slot mid a e) go = stays_there (λ x. absurd cc) refl single t ag h u room (awaits k slot mid a e)
     further single t ag h u room (stands_again {l = x} k slot mid a e) go =
@@ -330,9 +331,9 @@ module _ (d : Declared) (code : List Instruction) (cells writes : List ℕ) (loo
     types : LeftHas d rest
     held : Held code cells d (uses_of_left rest).reads
     room : length frame.left ≡ loops_
-    rests : Rested d code loops_ cells frame.left stands wait rest
+    rests : Rested d few code loops_ cells frame.left stands wait rest
 
-  one_turn : (number turns pc : ℕ) (f : Variables) (w : Wait) (l : Left) → LeftHas d l → Held code cells d (uses_of_left l).reads → Begun d code loops_ cells w pc f l → (s : Store) → Agrees d cells f s → OneTurn number turns pc f w l s
+  one_turn : (number turns pc : ℕ) (f : Variables) (w : Wait) (l : Left) → LeftHas d l → Held code cells d (uses_of_left l).reads → Begun d few code loops_ cells w pc f l → (s : Store) → Agrees d cells f s → OneTurn number turns pc f w l s
   one_turn number turns pc f w l h u b s ag =
       let r = b.runs in
       let x = r.turn s (holds_as f s ag) in
@@ -355,19 +356,19 @@ module _ (d : Declared) (code : List Instruction) (cells writes : List ℕ) (loo
 
   long_turn : (q number turns : ℕ) → GoesFor q number turns
   long_turn zero number turns pc f w l room x h u s ag =
-      let o = one_turn number turns pc f w l h u (begun_turn d code loops_ cells f room x h u) s ag in
+      let o = one_turn number turns pc f w l h u (begun_turn d few code loops_ cells f room x h u) s ag in
       record { stands = o.stands; frame = o.frame; wait = o.wait; rest = o.rest; store = o.store; stops_in = stops_here o.single (inl refl); turn = stops o.turn (inl refl); agrees = o.agrees; types = o.types; held = o.held; room = o.room; rests = o.rests }
   long_turn (suc q) number turns pc f w l room x h u s ag =
-      let o = one_turn number turns pc f w l h u (begun_turn d code loops_ cells f room x h u) s ag in
+      let o = one_turn number turns pc f w l h u (begun_turn d few code loops_ cells f room x h u) s ag in
       further q number turns pc f w l s o.stands o.frame o.store o.single o.turn o.agrees o.types o.held o.room o.rests (long_turn q number turns)
 
-module _ (d : Declared) (code : List Instruction) (cells writes : List ℕ) (loops_ q : ℕ) (names : All (NamesWithin cells loops_) code) where
+module _ (d : Declared) (few : AreNumbered d) (code : List Instruction) (cells writes : List ℕ) (loops_ q : ℕ) (names : All (NamesWithin cells loops_) code) where
   -- of a quantum above 0
   abbrev the_body : Body
   the_body = record { code = map (placed cells) code; cells = cells; writes = writes; loops = loops_; quantum = suc q }
 
   abbrev the_task : ℕ → ℕ → ℕ → Variables → Wait → Task
-  the_task number turns pc f w = task d code cells writes loops_ number turns pc f w
+  the_task number turns pc f w = task d few code cells writes loops_ number turns pc f w
 
   held_both : (a b : ℕ → Bool) → Held code cells d a → Held code cells d b → Held code cells d (λ c. a c || b c)
   held_both a b h k c m = by_first (a c) (b c) m (h c) (k c)
@@ -379,7 +380,7 @@ module _ (d : Declared) (code : List Instruction) (cells writes : List ℕ) (loo
   -- what begins a turn is alike for so many turns
   abbrev GoesOn : ℕ → Type 0
   GoesOn n =
-      (number turns pc : ℕ) (f : Variables) (w : Wait) (l : Left) → length f.left ≡ loops_ → Starting d code loops_ cells f.left pc w l → LeftHas d l → Held code cells d (uses_of_left l).reads
+      (number turns pc : ℕ) (f : Variables) (w : Wait) (l : Left) → length f.left ≡ loops_ → Starting d few code loops_ cells f.left pc w l → LeftHas d l → Held code cells d (uses_of_left l).reads
       → Alike n d the_body (the_task number turns pc f w) l
 
   fits_protocol : (o : Option Protocol) (p : Protocol) (m : Message) → o ≡ Some p → FitsProtocol o m → Fits p m
@@ -387,7 +388,7 @@ module _ (d : Declared) (code : List Instruction) (cells writes : List ℕ) (loo
 
   -- each arm that is open goes on as the term does
   same_arm : (n number turns pc : ℕ) (f : Variables) (k : List Context) (slot mid : ℕ) (pri : Bool) (all : List Arm) (a : Arm) (e : Enabled) → GoesOn n → length f.left ≡ loops_ → EnabledHave d (e ∷ []) → ContextsHave d k
-      → Held code cells d (uses_of_enabled e).reads → Held code cells d (uses_of_contexts k).reads → ArmLaid code loops_ slot pc a e mid → ToEnd d code loops_ cells f.left slot mid k
+      → Held code cells d (uses_of_enabled e).reads → Held code cells d (uses_of_contexts k).reads → ArmLaid code loops_ slot pc a e mid → ToEnd d few code loops_ cells f.left slot mid k
       → SameArm d (Alike n d the_body) (the_task number turns pc f (Chooses pri all)) k a e
   same_arm n number turns pc f k slot mid pri all a (SkipArm settings t) go room h hk u uk l e =
       let w : Took a.place a.indices None ≡ Took (suc l.0) (indices_in settings) None = ap (λ p. Took p a.indices None) l.3 ∙ ap (λ is. Took (suc l.0) is None) l.5 in (
@@ -407,7 +408,7 @@ module _ (d : Declared) (code : List Instruction) (cells writes : List ℕ) (loo
   )
 
   same_arms : (n number turns pc : ℕ) (f : Variables) (k : List Context) (slot mid : ℕ) (pri : Bool) (all arms : List Arm) (es : List Enabled) → GoesOn n → length f.left ≡ loops_ → EnabledHave d es → ContextsHave d k
-      → Held code cells d (uses_of_all es).reads → Held code cells d (uses_of_contexts k).reads → ArmsLaid code loops_ slot pc arms es mid → ToEnd d code loops_ cells f.left slot mid k
+      → Held code cells d (uses_of_all es).reads → Held code cells d (uses_of_contexts k).reads → ArmsLaid code loops_ slot pc arms es mid → ToEnd d few code loops_ cells f.left slot mid k
       → SameArms d (Alike n d the_body) (the_task number turns pc f (Chooses pri all)) k arms es
   same_arms n number turns pc f k slot mid pri all [] [] go room h hk u uk l e = tt
   same_arms n number turns pc f k slot mid pri all [] (x ∷ es) go room h hk u uk l e = absurd l
@@ -417,7 +418,7 @@ module _ (d : Declared) (code : List Instruction) (cells writes : List ℕ) (loo
     same_arms n number turns pc f k slot mid pri all arms es go room h.1 hk (held_right code cells d (uses_of_enabled x).reads (uses_of_all es).reads u) uk l.1 e,
   )
 
-  same_stop : (n number turns pc : ℕ) (f : Variables) {w : Wait} {r : Left} → GoesOn n → length f.left ≡ loops_ → LeftHas d r → Held code cells d (uses_of_left r).reads → Rested d code loops_ cells f.left pc w r
+  same_stop : (n number turns pc : ℕ) (f : Variables) {w : Wait} {r : Left} → GoesOn n → length f.left ≡ loops_ → LeftHas d r → Held code cells d (uses_of_left r).reads → Rested d few code loops_ cells f.left pc w r
       → SameStop d (Alike n d the_body) (the_task number turns pc f w) r w
   same_stop n number turns pc f go room h u (offers k slot e) = (k, refl, go number turns pc f Ready (left (Do Skip) k) room (does k slot pc stays e) (tt, h.1) u)
   same_stop n number turns pc f go room h u (awaits {c = c} {list = list} k slot mid l e) =
@@ -431,13 +432,13 @@ module _ (d : Declared) (code : List Instruction) (cells writes : List ℕ) (loo
     refl,
     refl,
     λ g j. go number turns pc g Ready (left (Do Skip) k) (ap length j.left_is ∙ room)
-        (does k slot pc stays (subst (λ l. ToEnd d code loops_ cells l slot pc k) (sym j.left_is) e)) (tt, h.1) (held_right code cells d (uses_of_branches bs).reads (uses_of_contexts k).reads u),
+        (does k slot pc stays (subst (λ l. ToEnd d few code loops_ cells l slot pc k) (sym j.left_is) e)) (tt, h.1) (held_right code cells d (uses_of_branches bs).reads (uses_of_contexts k).reads u),
   )
   same_stop n number turns pc f go room h u (halts k) = (k, refl)
   same_stop n number turns pc f go room h u (fails k) = (k, refl)
   same_stop n number turns pc f go room h u finished = ([], refl)
 
-  same_turn : (n number turns pc : ℕ) (f : Variables) (w : Wait) (l : Left) (s : Store) → GoesOn n → length f.left ≡ loops_ → Agrees d cells f s → LongTurn d code cells writes loops_ (suc q) number turns pc f w l s → SameTurn d the_body (Alike n d the_body) (the_task number turns pc f w) l s
+  same_turn : (n number turns pc : ℕ) (f : Variables) (w : Wait) (l : Left) (s : Store) → GoesOn n → length f.left ≡ loops_ → Agrees d cells f s → LongTurn d few code cells writes loops_ (suc q) number turns pc f w l s → SameTurn d the_body (Alike n d the_body) (the_task number turns pc f w) l s
   same_turn n number turns pc f w l s go room ag r =
       record {
         after = counted_turn (the_task number turns r.stands r.frame r.wait);
@@ -451,7 +452,7 @@ module _ (d : Declared) (code : List Instruction) (cells writes : List ℕ) (loo
 
   alike_all : (n : ℕ) → GoesOn n
   alike_all zero number turns pc f w l room x h u = tt
-  alike_all (suc n) number turns pc f w l room x h u = λ s ag. same_turn n number turns pc f w l s (alike_all n) room ag (long_turn d code cells writes loops_ q number turns pc f w l room x h u s ag)
+  alike_all (suc n) number turns pc f w l room x h u = λ s ag. same_turn n number turns pc f w l s (alike_all n) room ag (long_turn d few code cells writes loops_ q number turns pc f w l room x h u s ag)
 
   body_does : (t : Term) (last : ℕ) → TermHas d t → TermAt code loops_ 0 0 t last → slice_get code last ≡ Some End → Lists cells (used_by (uses_of t)) → Lists writes (uses_of t).writes → DoesAs d the_body t
   body_does t last typed lays_out ends_there used written =
@@ -478,5 +479,5 @@ bodies_do d body t h = by_quantum body.quantum refl h.quantum
     by_quantum : (q : ℕ) → body.quantum ≡ q → 0 < q → DoesAs d body t
     by_quantum zero e m = absurd (omega (arith, m))
     by_quantum (suc q) e m =
-        let does = body_does d h.by_cells body.cells body.writes body.loops q h.names t h.last h.typed h.lays_out h.ends_there h.cells h.writes in
+        let does = body_does d h.numbered h.by_cells body.cells body.writes body.loops q h.names t h.last h.typed h.lays_out h.ends_there h.cells h.writes in
         subst (λ n. DoesAs d (with_code body body.code n) t) (sym e) (subst (λ code. DoesAs d (with_code body code (suc q)) t) (sym h.code) does)

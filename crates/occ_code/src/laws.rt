@@ -6,17 +6,17 @@ ghost use Rattle.occ_code.specs.Sequential.Emitted.{BodiesAreSmall, CompiledDo, 
 ghost use Rattle.occ_code.specs.Sequential.Examples.{CountsAsCompiled, FirstOfTwoAsCompiled, TwiceAsCompiled, TwiceTwoAsCompiled};
 ghost use Rattle.occ_code.specs.Sequential.Laws.{CountersAreApart, ExpressionsRun, IndexesAreKept, ItemsRun, PlacesDo, TargetsRun};
 
-/// The code of an expression brings its value to the top of the stack, or comes to its fault.
+/// The code of a typed expression brings its value to the top of the stack, or comes to its fault.
 pub fn expressions_run()
     ensures { ExpressionsRun }
 {}
 
-/// The code of items makes the parts of a message, or comes to their first fault.
+/// The code of typed items makes the parts of a message, or comes to their first fault.
 pub fn items_run()
     ensures { ItemsRun }
 {}
 
-/// The code of targets makes their spots, or comes to their first fault.
+/// The code of typed targets makes their spots, or comes to their first fault.
 pub fn targets_run()
     ensures { TargetsRun }
 {}

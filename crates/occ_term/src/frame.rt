@@ -13,7 +13,7 @@ use std::marker::Model;
 pub struct Frame {
     cells: Held,
     values: Vec<i64>,
-    left: Vec<u32>,
+    left: Vec<u64>,
 }
 
 impl Model for Frame {
@@ -109,7 +109,7 @@ impl Frame {
 
     /// A counter of the replicated SEQs.
     #[inline(always)]
-    pub fn left(&self, slot: u64) -> u32
+    pub fn left(&self, slot: u64) -> u64
         requires { slot < length self.now.left }
         ensures { result ≡ counter_at self.now.left slot }
     {
@@ -118,7 +118,7 @@ impl Frame {
 
     /// Sets a counter of the replicated SEQs.
     #[inline(always)]
-    pub fn set_left(&mut self, slot: u64, count: u32)
+    pub fn set_left(&mut self, slot: u64, count: u64)
         requires { slot < length self.old.left }
         ensures { self.new ≡ with_counter self.old slot count }
     {
@@ -147,7 +147,7 @@ impl Frame {
     }
 }
 
-fn same_numbers(numbers: &[u32], others: &[u32]) -> bool
+fn same_numbers(numbers: &[u64], others: &[u64]) -> bool
     ensures { IsTrue result ↔ (numbers.now ≡ others.now) }
 {
     numbers == others
@@ -209,7 +209,7 @@ fn clear_values(cells: &Held, held: &mut [i64], first: u32, count: u32)
 }
 
 #[inline(always)]
-fn counter_at(counters: &[u32], slot: u64) -> u32
+fn counter_at(counters: &[u64], slot: u64) -> u64
     requires { slot < length counters.now }
     ensures { result ≡ counter_at counters.now slot }
 {

@@ -12,6 +12,7 @@ use Rattle.occ_code.specs.declared.task.Task.{Task}
 use Rattle.occ_code.specs.declared.task.Wait.TheVariants.{Ready}
 use Rattle.occ_code.specs.Sequential.Machine.{Body, End, Instruction, NamesWithin, Stopping, placed}
 use Rattle.occ_code.specs.Sequential.Layout.{TermAt}
+use Rattle.occ_code.specs.Sequential.Within.{AreNumbered}
 
 -- the next turn of both, from a store that agrees with the frame
 pub record SameTurn (d : Declared) (body : Body) (Go : Task → Left → Type 0) (before : Task) (r : Left) (s : Store) : Type 0 where
@@ -41,10 +42,11 @@ pub record DoesAs (d : Declared) (body : Body) (t : Term) : Type 0 where
   pub writes : Lists body.writes (uses_of t).writes
   pub alike : (n : ℕ) (first : Task) → first.turns + n < 2 ^ 64 → IsFirst body first → Alike n d body first (left (Do t) [])
 
--- the code of a typed term, and the end after it: laid out with the numbers of cells, and then with their places
+-- the code of a typed term over few channels, and the end after it: laid out with the numbers of cells, and then with their places
 pub record IsLaidOut (d : Declared) (body : Body) (t : Term) : Type 0 where
   pub by_cells : List Instruction
   pub last : ℕ
+  pub numbered : AreNumbered d
   pub typed : TermHas d t
   pub lays_out : TermAt by_cells body.loops 0 0 t last
   pub ends_there : slice_get by_cells last ≡ Some End

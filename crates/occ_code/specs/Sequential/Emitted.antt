@@ -11,6 +11,7 @@ use Rattle.occ_code.specs.Alike.{Lists, used_by}
 use Rattle.occ_code.specs.Sequential.Machine.{Instruction, Body, placed, Push, Jump, Choose, IfAmong, IfTag, DropOne, NextChoice, BackToChoice, PassArms, IfTaken, SetAgain, ChooseArm, Begin, Pass, LoopBack, Send, Receive, Halt, End}
 use Rattle.occ_code.specs.Sequential.Expressions.{expression_code, place_code, items_code, declaration_code, declarations_code, storing_code, counting_code, assignment_code, par_code, skip_opening, input_opening}
 use Rattle.occ_code.specs.Sequential.Alike.{DoesAs}
+use Rattle.occ_code.specs.Sequential.Within.{AreNumbered}
 
 -- An arm of an ALT before others, of which so many instructions stand up to the end of the ALT: what is done once it is taken, and
 -- what opens it. A number that is no greater than that of the last of the others passes on to them.
@@ -159,10 +160,10 @@ whole_code t = term_code 0 t ++ End ∷ []
 abbrev pub body_of : Term → List ℕ → List ℕ → ℕ → Body
 body_of t cells writes quantum = record { code = map (placed cells) (whole_code t); cells = cells; writes = writes; loops = counters_of t; quantum = quantum }
 
--- the body of a typed term does what the term does
+-- the body of a typed term does what the term does, where channels and arms have numbers that the machine has
 abbrev pub CompiledDo : Type 0
 CompiledDo =
-    (d : Declared) (t : Term) (cells writes : List ℕ) (quantum : ℕ) → TermHas d t → Lists cells (used_by (uses_of t)) → Lists writes (uses_of t).writes
+    (d : Declared) (t : Term) (cells writes : List ℕ) (quantum : ℕ) → AreNumbered d → length (whole_code t) < 4294967296 → TermHas d t → Lists cells (used_by (uses_of t)) → Lists writes (uses_of t).writes
     → 0 < quantum → DoesAs d (body_of t cells writes quantum) t
 
 -- how many instructions the processes have in all

@@ -1,6 +1,6 @@
 -- Loops that count, one of them round a PAR, and an ALT with a declaration for each value of an index; and their bodies.
 -- Manual: combining processes.
-use Rattle.std.specs.Prelude.{None, Some, [], pos, true, ◌∷◌}
+use Rattle.std.specs.Prelude.{if◌then◌else◌, None, Some, [], nat_lt, pos, true, ◌∷◌}
 use Rattle.occ_term.specs.declared.primitive.Primitive.TheVariants.{Int}
 use Rattle.occ_term.specs.declared.expression.Operator.TheVariants.{Plus, Less}
 use Rattle.occ_term.specs.Terms.{Constant, Cell, Binary, place, no_subscripts, OfOne, Into, replicator, Term, Skip, Assign, Par, Alt, While, Each, no_branches, and_branch, no_arms, skip_arm, declared_arms, each_arm, Naming}
@@ -15,9 +15,9 @@ counts =
     While (Binary Less Int 1 (Cell 0) (Constant (pos 10)))
     (Assign (Into (place 2 0 [] no_subscripts) ∷ []) (OfOne Int (Binary Plus Int 2 (Cell 0) (Constant (pos 1))) ∷ []))
 
--- each cell is of INT
+-- three cells are of INT
 abbrev pub whole_numbers : Declared
-whole_numbers = record { types = λ c. Some Int; protocols = λ c. None }
+whole_numbers = record { types = λ c. if nat_lt c 3 then Some Int else None; protocols = λ c. None }
 
 abbrev pub CountsAsCompiled : Type 0
 CountsAsCompiled = DoesAs whole_numbers (body_of counts (0 ∷ []) (0 ∷ []) 1) counts

@@ -7,11 +7,16 @@ use Rattle.occ_term.specs.Terms.{Expression, Item, Target}
 use Rattle.occ_term.specs.Values.{Evaluated, Value, Fails, value_of, parts_of}
 use Rattle.occ_term.specs.Storing.{Spot, spots_of}
 use Rattle.occ_term.specs.Frames.{Variables, at}
+use Rattle.occ_term.specs.Typing.{HasType}
+use Rattle.occ_term.specs.TermTyping.{Declared, ItemsHave, TargetsHave}
+use Rattle.occ_term.specs.declared.primitive.Primitive.{Primitive}
+use Rattle.occ_term.specs.declared.protocol.PartType.{PartType}
 use Rattle.occ_code.specs.Alike.{Frames}
 use Rattle.occ_code.specs.declared.task.Task.{Task}
 use Rattle.occ_code.specs.declared.task.Wait.TheVariants.{Faulted}
 use Rattle.occ_code.specs.Sequential.Machine.{Instruction, by_cell, by_place, NamesWithin, placed, StopsIn, Point, point, Stops, effect, Walks, counter_at, counters_with, kept_as, kept_value}
 use Rattle.occ_code.specs.Sequential.Expressions.{expression_code, items_code, targets_code}
+use Rattle.occ_code.specs.Sequential.Within.{AreNumbered}
 
 -- these instructions stand from the one place to the other
 abbrev pub StandsAt : List Instruction → ℕ → List Instruction → ℕ → Type 0
@@ -30,25 +35,25 @@ pub data Comes {X : Type 0} (code : List Instruction) (f : Variables) (a : Point
   comes : {x : X} {to : X → Point} → Walks by_cell code a (to x) → Comes code f a (Value x) to
   fails : {e : Fault} {to : X → Point} → FaultsAt code a f e → Comes code f a (Fails e) to
 
--- an expression's code brings its value to the top of the stack
+-- the code of a typed expression brings its value to the top of the stack
 abbrev pub ExpressionsRun : Type 0
 ExpressionsRun =
-    (code : List Instruction) (f : Variables) (e : Expression) (pc pc' : ℕ) (st : List ℤ) (q : List Part) (sp : List Spot)
-    → StandsAt code pc (expression_code e) pc'
+    (code : List Instruction) (f : Variables) (d : Declared) (e : Expression) (t : Primitive) (pc pc' : ℕ) (st : List ℤ) (q : List Part) (sp : List Spot)
+    → AreNumbered d → HasType d.types e t → StandsAt code pc (expression_code e) pc'
     → Comes code f (point pc st q sp f) (value_of e (at f)) (λ v. point pc' (v ∷ st) q sp f)
 
--- the code of items puts their parts at the end of the queue
+-- the code of typed items puts their parts at the end of the queue
 abbrev pub ItemsRun : Type 0
 ItemsRun =
-    (code : List Instruction) (f : Variables) (is : List Item) (pc pc' : ℕ) (st : List ℤ) (q : List Part) (sp : List Spot)
-    → StandsAt code pc (items_code is) pc'
+    (code : List Instruction) (f : Variables) (d : Declared) (is : List Item) (types : List PartType) (pc pc' : ℕ) (st : List ℤ) (q : List Part) (sp : List Spot)
+    → AreNumbered d → ItemsHave d is types → StandsAt code pc (items_code is) pc'
     → Comes code f (point pc st q sp f) (parts_of is (at f)) (λ ps. point pc' st (q ++ ps) sp f)
 
--- the code of targets puts their spots at the end of those that there are
+-- the code of typed targets puts their spots at the end of those that there are
 abbrev pub TargetsRun : Type 0
 TargetsRun =
-    (code : List Instruction) (f : Variables) (ts : List Target) (pc pc' : ℕ) (st : List ℤ) (q : List Part) (sp : List Spot)
-    → StandsAt code pc (targets_code ts) pc'
+    (code : List Instruction) (f : Variables) (d : Declared) (ts : List Target) (types : List PartType) (pc pc' : ℕ) (st : List ℤ) (q : List Part) (sp : List Spot)
+    → AreNumbered d → TargetsHave d ts types → StandsAt code pc (targets_code ts) pc'
     → Comes code f (point pc st q sp f) (spots_of ts (at f)) (λ xs. point pc' st q (sp ++ xs) f)
 
 -- Code that names single cells by their places comes to the stops of a turn that it has with the numbers of cells, from each frame

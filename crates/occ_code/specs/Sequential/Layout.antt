@@ -36,7 +36,7 @@ abbrev mutual
   TermAt code loops slot pc (Par bs) pc' = (m : ℕ) × StandsAt code pc (par_code bs) m × Ways code m pc'
   TermAt code loops slot pc (Alt pri arms) pc' =
       (high : ℕ) × (n : ℕ) × (back : ℕ) × (slice_get code pc ≡ Some (Push (pos 0))) × ArmsAt code loops slot (pc + 1) 0 high arms n pc'
-      × (slice_get code n ≡ Some (ChooseArm pri back)) × (n - back ≡ pc + 1)
+      × (slice_get code n ≡ Some (ChooseArm pri back)) × (n - back ≡ pc + 1) × (high < 4294967296)
   TermAt code loops slot pc (If cs) pc' = (m : ℕ) × ChoicesAt code loops slot pc cs m pc' × (slice_get code m ≡ Some Halt)
   TermAt code loops slot pc (Case e os) pc' = (m : ℕ) × (n : ℕ) × StandsAt code pc (expression_code e) m × OptionsAt code loops slot m os n pc' × ElseAt code loops slot n os pc'
   TermAt code loops slot pc (While e b) pc' =

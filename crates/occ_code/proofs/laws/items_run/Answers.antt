@@ -2,4 +2,4 @@ use Rattle.occ_code.proofs.SequentialItems as items
 use Rattle.occ_code.proofs.laws.items_run.Goals as goal
 
 pub returns : goal.returns
-returns c = λ code f xs pc pc' st q sp h. items.items_run code f st sp xs q pc pc' h
+returns c = λ code f d xs types pc pc' st q sp few typed h. items.items_run code f st sp d few xs types typed q pc pc' h
