@@ -3,3 +3,4 @@ pub mod Stacks
 pub mod Walking
 pub mod Moving
 pub mod Quickly
+mod Opened
