@@ -24,5 +24,5 @@ returns c = λ within.
     subst (λ (u : Uses). Lists c.in_ok-writes.writes.items u.writes) same
     (subst (λ us. AreWithin (uses_in us).writes → Lists c.in_ok-writes.writes.items (uses_in us).writes) c.as_slice-2.ensures c.in_ok-writes.ensures.lists written) in
     let long : length (whole_code (term_of c.args.term.now)) < 18446744073709551616 = subst (λ (is : List Instruction). length is < 18446744073709551616) c.in_ok-code.ensures (omega (arith, length-map c.in_ok-code.code.items instruction_of, c.in_ok-code.code.ok)) in
-    let loops : c.counters_in.result ≡ counters_of (term_of c.args.term.now) = all_counted (term_of c.args.term.now) c.counters_in.result c.counters_in.ensures long in
+    let loops : c.counters_in-loops.result ≡ counters_of (term_of c.args.term.now) = all_counted (term_of c.args.term.now) c.counters_in-loops.result c.counters_in-loops.ensures long in
     search rules
