@@ -25,3 +25,4 @@ mod CompilingTerms
 pub mod OneCode
 mod SameCode
 mod UsedCells
+mod FewCounters

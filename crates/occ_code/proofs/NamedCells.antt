@@ -10,7 +10,7 @@ use Rattle.occ_term.specs.Frames.{is_held}
 use Rattle.occ_code.specs.Alike.{Lists, used_by}
 use Rattle.occ_code.specs.Sequential.Machine.{Instruction, NamesWithin, End, OpenSkip, OpenInput}
 use Rattle.occ_code.specs.Sequential.Expressions.{expression_code, place_code, subscripts_code, item_code, items_code, target_code, targets_code, declaration_code, declarations_code, storing_code, counting_code, assignment_code, par_code, opening_code, skip_opening, input_opening}
-use Rattle.occ_code.specs.Sequential.Emitted.{counters_of, counters_of_terms, counters_of_arms, counters_of_list, counters_of_variants, counters_of_choices, counters_of_options, term_code, terms_code, arm_code, arms_code, list_code, variants_code, choices_code, options_code, else_code, whole_code}
+use Rattle.occ_code.specs.Sequential.Emitted.{counters_of, counters_of_terms, counters_of_arms, counters_of_list, counters_of_variants, counters_of_choices, counters_of_options, counters_of_else, term_code, terms_code, arm_code, arms_code, list_code, variants_code, choices_code, options_code, else_code, whole_code}
 
 in_first : (a b : Bool) → IsTrue a → IsTrue (a || b)
 in_first true b h = refl
@@ -291,7 +291,7 @@ module _ (cells : List ℕ) (loops : ℕ) where
     options_names slot (or_else ds t os) after_ o h =
         options_names slot os after_ (omega (arith, o)) (right_used (uses_of t) (uses_of_options os) (right_used (uses_of_declarations ds) (with_use (uses_of t) (uses_of_options os)) h))
 
-    else_names : (slot : ℕ) (os : Options) → slot + counters_of_options os ≤ loops → UsedIn (uses_of_options os) → Names (else_code slot os)
+    else_names : (slot : ℕ) (os : Options) → slot + counters_of_else os ≤ loops → UsedIn (uses_of_options os) → Names (else_code slot os)
     else_names slot no_options o h = (tt, tt)
     else_names slot (or_option constants ds t os) o h = else_names slot os (omega (arith, o)) (right_used (uses_of t) (uses_of_options os) (right_used (uses_of_declarations ds) (with_use (uses_of t) (uses_of_options os)) h))
     else_names slot (or_else ds t os) o h =

@@ -9,7 +9,7 @@ use Rattle.occ_code.specs.Sequential.Machine.{Instruction, End, IfTaken, Jump}
 use Rattle.occ_code.specs.Sequential.Expressions.{expression_code, place_code, declaration_code, declarations_code, storing_code, counting_code, skip_opening, input_opening}
 use Rattle.occ_code.specs.Sequential.Laws.{StandsAt}
 use Rattle.occ_code.specs.Sequential.Layout.{Ways, stays, jumps, TermAt, TermsAt, ArmsAt, PassesArms, ListAt, VariantsAt, ChoicesAt, OptionsAt, ElseAt}
-use Rattle.occ_code.specs.Sequential.Emitted.{counters_of, counters_of_terms, counters_of_variants, counters_of_choices, counters_of_options, arm_code, arms_code, list_code, counters_of_arms, counters_of_list, term_code, terms_code, variants_code, choices_code, options_code, else_code, whole_code, body_of, CompiledDo}
+use Rattle.occ_code.specs.Sequential.Emitted.{counters_of, counters_of_terms, counters_of_variants, counters_of_choices, counters_of_options, counters_of_else, arm_code, arms_code, list_code, counters_of_arms, counters_of_list, term_code, terms_code, variants_code, choices_code, options_code, else_code, whole_code, body_of, CompiledDo}
 use Rattle.occ_code.proofs.SequentialPlaces.{split, place_after}
 use Rattle.occ_code.proofs.SequentialSizes.{each_arm_length}
 use Rattle.occ_code.proofs.SequentialTurns.{bodies_do}
@@ -301,7 +301,7 @@ module _ (code : List Instruction) (loops : ℕ) (short : length code < 42949672
         )
     options_laid slot (or_else ds t os) after_ pc m out next pc' o h past v w = options_laid slot os after_ pc m out next pc' (omega (arith, o)) h past v w
 
-    else_laid : (slot : ℕ) (os : Options) (pc m pc' : ℕ) → slot + counters_of_options os ≤ loops → StandsAt code pc (else_code slot os) m → Ways code m pc' → ElseAt code loops slot pc os pc'
+    else_laid : (slot : ℕ) (os : Options) (pc m pc' : ℕ) → slot + counters_of_else os ≤ loops → StandsAt code pc (else_code slot os) m → Ways code m pc' → ElseAt code loops slot pc os pc'
     else_laid slot no_options pc m pc' o h w = h.0
     else_laid slot (or_option constants ds t os) pc m pc' o h w = else_laid slot os pc m pc' (omega (arith, o)) h w
     else_laid slot (or_else ds t os) pc m pc' o h w = let r = split code (pc + 1) m (declarations_code ds) (term_code slot t) h.1 in (r.0, h.0, r.1, laid slot t r.0 m pc' (omega (arith, o)) r.2 w)

@@ -86,7 +86,7 @@ instructions-append (p ∷ ps) qs = let e = instructions-append ps qs in omega (
 
 -- ---- arms
 
-arm_length : (body opens others : List Instruction) (after : ℕ) → length (arm_code body opens others after) ≡ length body + length opens + length others + 3
+pub arm_length : (body opens others : List Instruction) (after : ℕ) → length (arm_code body opens others after) ≡ length body + length opens + length others + 3
 arm_length body opens others after = omega (arith, length-append body (Jump (length opens + (length others + after)) ∷ (opens ++ others)), length-append opens others)
 
 pub each_arm_length : (index : ℕ) (counts within others : List Instruction) (after : ℕ) → length (each_arm_code index counts within others after) ≡ length counts + length within + length others + 6

@@ -116,7 +116,7 @@ abbrev mutual
   counters_of (Par bs) = 0
   counters_of (Alt pri arms) = counters_of_arms arms
   counters_of (If cs) = counters_of_choices cs
-  counters_of (Case e os) = counters_of_options os
+  counters_of (Case e os) = max (counters_of_options os) (counters_of_else os)
   counters_of (While e b) = counters_of b
   counters_of (Each r b) = counters_of b + 2
   counters_of (Clear first count) = 0
@@ -150,7 +150,13 @@ abbrev mutual
   pub counters_of_options : Options → ℕ
   counters_of_options no_options = 0
   counters_of_options (or_option constants ds t os) = max (counters_of t) (counters_of_options os)
-  counters_of_options (or_else ds t os) = max (counters_of t) (counters_of_options os)
+  counters_of_options (or_else ds t os) = counters_of_options os
+
+  -- of the first ELSE alone, as no other one is done
+  pub counters_of_else : Options → ℕ
+  counters_of_else no_options = 0
+  counters_of_else (or_option constants ds t os) = counters_of_else os
+  counters_of_else (or_else ds t os) = counters_of t
 
 -- the code of a whole process, with the numbers of cells
 abbrev pub whole_code : Term → List Instruction

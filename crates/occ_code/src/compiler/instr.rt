@@ -90,9 +90,9 @@ pub enum Instr {
     ChooseArm(bool, usize),
     /// The first value of the index of a replicated SEQ, or behind the skip where there is none: the first
     /// of its two counters, the place of the index's cell and the skip.
-    Begin(u32, u32, usize),
+    Begin(u64, u32, usize),
     /// The next value of the index, or behind the skip where none is left.
-    Pass(u32, u32, usize),
+    Pass(u64, u32, usize),
     /// The stop at the end of a loop's body, and back.
     LoopBack(usize),
     /// Takes a channel, and offers the message on it, with its tag where it has one.

@@ -55,7 +55,7 @@ fn add_body(
 fn body_of(alloc: Global, quantum: u32, term: &Term) -> Result<Body, AllocError>
     ensures { IfOk result (λ b. KeepsWithin (term_of term.now) → IsBodyOf (term_of term.now) quantum b) }
 {
-    let loops = counters_in(term)?;
+    let loops = counters_in(term);
     let uses = term_uses(alloc, term)?;
     let cells = rising_cells(alloc, uses.as_slice(), false)?;
     let writes = rising_cells(alloc, uses.as_slice(), true)?;

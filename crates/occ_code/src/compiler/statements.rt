@@ -1,5 +1,5 @@
 //! The code of terms.
-ghost use Rattle.std.specs.Prelude.{◌≡◌, ◌∷◌, [], ◌++◌, ◌-◌, ◌+◌, ◌≤◌, ◌<◌, IfOk, OnOk, List, length, map};
+ghost use Rattle.std.specs.Prelude.{◌≡◌, ◌∷◌, [], ◌++◌, ◌-◌, ◌+◌, ◌*◌, ◌≤◌, ◌<◌, IfOk, OnOk, List, length, map};
 ghost use Rattle.occ_term.specs.Storing.{index_of};
 ghost use Rattle.occ_term.specs.Terms as terms;
 ghost use Rattle.occ_term.specs.View.{arm_of, arms_of, branches_of, choice_of, choices_of, declaration_of, declarations_of, expression_of, items_of, option_of, options_of, place_of, reception_of, replicator_of, targets_of, term_of, terms_of, variant_of, variants_of};
@@ -26,14 +26,16 @@ use occ_term::{
 use sqlite_items::Items;
 use std::alloc::{AllocError, Global};
 
-/// The code of a term, whose replicated SEQs have the counters from the slot on.
+/// The code of a term, whose replicated SEQs have the counters from the slot on. Each replicated SEQ round it has put an
+/// instruction, so the slots stay within their words.
 #[cycle(terms)]
 pub(crate) fn emit_term(
     alloc: Global,
-    slot: u32,
+    slot: u64,
     term: &Term,
     code: &mut Vec<Instr>,
 ) -> Result<(), AllocError>
+    requires room { slot + 2 ≤ 2 * length code.old.items }
     ensures { OnOk result (Emits code.old.items (term_code slot (term_of term.now)) code.new.items) }
 {
     match term {
@@ -82,9 +84,8 @@ pub(crate) fn emit_term(
         }
         Term::Each(over, body) => {
             let place = emitted(code);
-            let inner = inner_slot(slot)?;
             put(code, Instr::LoopBack(0))?;
-            emit_term(alloc, inner, body.get(), code)?;
+            emit_term(alloc, slot + 2, body.get(), code)?;
             emit_passes(alloc, slot, over, place, code)?;
             Ok(())
         }
@@ -93,21 +94,15 @@ pub(crate) fn emit_term(
     }
 }
 
-/// The slot of what stands in a replicated SEQ. The error is that of too many.
-fn inner_slot(slot: u32) -> Result<u32, AllocError>
-    ensures { IfOk result (λ inner. inner ≡ slot + 2) }
-{
-    slot.checked_add(2).ok_or(AllocError)
-}
-
 /// Parts in order.
 #[cycle(terms)]
 fn emit_terms(
     alloc: Global,
-    slot: u32,
+    slot: u64,
     parts: &[Term],
     code: &mut Vec<Instr>,
 ) -> Result<(), AllocError>
+    requires room { slot + 2 ≤ 2 * length code.old.items }
     ensures { OnOk result (Emits code.old.items (terms_code slot (terms_of parts.now)) code.new.items) }
 {
     let mut count = parts.len();
@@ -189,7 +184,7 @@ fn emit_test(
 /// The start of a replicated SEQ whose body was emitted behind the jump back at the place.
 fn emit_passes(
     alloc: Global,
-    slot: u32,
+    slot: u64,
     over: &Replicator,
     place: usize,
     code: &mut Vec<Instr>,
@@ -210,12 +205,13 @@ fn emit_passes(
 #[cycle(terms)]
 fn emit_choices(
     alloc: Global,
-    slot: u32,
+    slot: u64,
     choices: &[Choice],
     end: usize,
     code: &mut Vec<Instr>,
 ) -> Result<(), AllocError>
-    requires { end ≤ length code.old.items }
+    requires room { slot + 2 ≤ 2 * length code.old.items }
+    requires end { end ≤ length code.old.items }
     ensures { OnOk result (Emits code.old.items (choices_code slot (choices_of choices.now) (length code.old.items - end)) code.new.items) }
 {
     let mut count = choices.len();
@@ -230,12 +226,13 @@ fn emit_choices(
 #[cycle(terms)]
 fn emit_choice(
     alloc: Global,
-    slot: u32,
+    slot: u64,
     choice: &Choice,
     end: usize,
     code: &mut Vec<Instr>,
 ) -> Result<(), AllocError>
-    requires { end ≤ length code.old.items }
+    requires room { slot + 2 ≤ 2 * length code.old.items }
+    requires end { end ≤ length code.old.items }
     ensures { OnOk result ((before : List Instr) (others : terms.Choices) → end ≤ length before → Emits before (choices_code slot others (length before - end)) code.old.items
         → Emits before (choices_code slot (choice_of choice.now others) (length before - end)) code.new.items) }
 {
@@ -280,12 +277,13 @@ fn emit_choose(
 #[cycle(terms)]
 fn emit_arms(
     alloc: Global,
-    slot: u32,
+    slot: u64,
     arms: &[Arm],
     end: usize,
     code: &mut Vec<Instr>,
 ) -> Result<(), AllocError>
-    requires { end ≤ length code.old.items }
+    requires room { slot + 2 ≤ 2 * length code.old.items }
+    requires end { end ≤ length code.old.items }
     ensures { OnOk result (Emits code.old.items (arms_code slot (arms_of arms.now) (length code.old.items - end)) code.new.items) }
 {
     let mut count = arms.len();
@@ -300,12 +298,13 @@ fn emit_arms(
 #[cycle(terms)]
 fn emit_arm(
     alloc: Global,
-    slot: u32,
+    slot: u64,
     arm: &Arm,
     end: usize,
     code: &mut Vec<Instr>,
 ) -> Result<(), AllocError>
-    requires { end ≤ length code.old.items }
+    requires room { slot + 2 ≤ 2 * length code.old.items }
+    requires end { end ≤ length code.old.items }
     ensures { OnOk result ((before : List Instr) (others : terms.Arms) → end ≤ length before → Emits before (arms_code slot others (length before - end)) code.old.items
         → Emits before (arms_code slot (arm_of arm.now others) (length before - end)) code.new.items) }
 {
@@ -348,10 +347,11 @@ fn emit_arm(
 #[cycle(terms)]
 fn emit_list(
     alloc: Global,
-    slot: u32,
+    slot: u64,
     list: &Reception,
     code: &mut Vec<Instr>,
 ) -> Result<(), AllocError>
+    requires room { slot + 2 ≤ 2 * length code.old.items }
     ensures { OnOk result (Emits code.old.items (list_code slot (reception_of list.now)) code.new.items) }
 {
     match list {
@@ -368,12 +368,13 @@ fn emit_list(
 #[cycle(terms)]
 fn emit_options(
     alloc: Global,
-    slot: u32,
+    slot: u64,
     options: &[Selection],
     end: usize,
     code: &mut Vec<Instr>,
 ) -> Result<(), AllocError>
-    requires { end ≤ length code.old.items }
+    requires room { slot + 2 ≤ 2 * length code.old.items }
+    requires end { end ≤ length code.old.items }
     ensures { OnOk result (Emits code.old.items (options_code slot (options_of options.now) (length code.old.items - end)) code.new.items) }
 {
     let mut count = options.len();
@@ -388,11 +389,12 @@ fn emit_options(
 #[cycle(terms)]
 fn emit_option(
     alloc: Global,
-    slot: u32,
+    slot: u64,
     option: &Selection,
     end: usize,
     code: &mut Vec<Instr>,
 ) -> Result<(), AllocError>
+    requires room { slot + 2 ≤ 2 * length code.old.items }
     ensures { OnOk result ((before : List Instr) (others : terms.Options) → end ≤ length before → Emits before (options_code slot others (length before - end)) code.old.items
         → Emits before (options_code slot (option_of option.now others) (length before - end)) code.new.items) }
 {
@@ -429,10 +431,11 @@ fn emit_among(
 #[cycle(terms)]
 fn emit_else(
     alloc: Global,
-    slot: u32,
+    slot: u64,
     options: &[Selection],
     code: &mut Vec<Instr>,
 ) -> Result<(), AllocError>
+    requires room { slot + 2 ≤ 2 * length code.old.items }
     ensures { OnOk result (Emits code.old.items (else_code slot (options_of options.now)) code.new.items) }
 {
     for option in options {
@@ -454,10 +457,11 @@ fn emit_else(
 #[cycle(terms)]
 fn emit_variants(
     alloc: Global,
-    slot: u32,
+    slot: u64,
     variants: &[Variant],
     code: &mut Vec<Instr>,
 ) -> Result<(), AllocError>
+    requires room { slot + 2 ≤ 2 * length code.old.items }
     ensures { OnOk result (Emits code.old.items (variants_code slot (variants_of variants.now)) code.new.items) }
 {
     let end = emitted(code);
@@ -474,11 +478,12 @@ fn emit_variants(
 #[cycle(terms)]
 fn emit_variant(
     alloc: Global,
-    slot: u32,
+    slot: u64,
     variant: &Variant,
     end: usize,
     code: &mut Vec<Instr>,
 ) -> Result<(), AllocError>
+    requires room { slot + 2 ≤ 2 * length code.old.items }
     ensures { OnOk result ((before : List Instr) (others : terms.Variants) → length before ≡ end → Emits before (variants_code slot others) code.old.items
         → Emits before (variants_code slot (variant_of variant.now others)) code.new.items) }
 {

@@ -166,5 +166,4 @@ emit_term-returns-in_ok-emit_passes-in-Each t c =
     let seen : counting_code (replicator_of c.in-Each.over) ++ Begin c.args.slot (index_of (replicator_of c.in-Each.over)) (length (term_code (c.args.slot + 2) (term_of c.get-in-Each.result.now)) + 2)
     ∷ Pass c.args.slot (index_of (replicator_of c.in-Each.over)) (length (term_code (c.args.slot + 2) (term_of c.get-in-Each.result.now)) + 1)
     ∷ (term_code (c.args.slot + 2) (term_of c.get-in-Each.result.now) ++ LoopBack (length (term_code (c.args.slot + 2) (term_of c.get-in-Each.result.now)) + 1) ∷ []) ≡ term_code c.args.slot (term_of c.args.term.now) = search (rules, the_lemmas) in
-    let body = emits_as c.in_ok-emit_term-in-Each.ensures (ap (λ n. term_code n (term_of c.get-in-Each.result.now)) c.in_ok-inner-in-Each.ensures) in
-    emits_as (c.in_ok-emit_passes-in-Each.ensures c.args.code.now.items B (sym c.emitted-place-in-Each.ensures) (behind c.in_ok-put-in-Each.ensures body)) seen
+    emits_as (c.in_ok-emit_passes-in-Each.ensures c.args.code.now.items B (sym c.emitted-place-in-Each.ensures) (behind c.in_ok-put-in-Each.ensures c.in_ok-emit_term-in-Each.ensures)) seen
