@@ -69,7 +69,10 @@ fn is_same_history(one: History<'_>, other: History<'_>) -> bool {
 
 /// Whether two networks of the same code have the same messages on each channel.
 fn have_same_histories(one: &Network, other: &Network) -> bool {
-    for chan in 0..one.code().channels().len() as u32 {
+    let Ok(channels) = u32::try_from(one.code().channels().len()) else {
+        return false;
+    };
+    for chan in 0..channels {
         match (one.history(chan), other.history(chan)) {
             (Some(first), Some(second)) => {
                 if !is_same_history(first, second) {
