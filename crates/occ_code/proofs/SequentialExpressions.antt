@@ -1,5 +1,5 @@
 -- An expression's code brings its value to the top of the stack, or comes to its fault.
-use Rattle.std.specs.Prelude.{slice_get, get_or, if◌then◌else◌, int_le, nat_eq, nat_abs, ◌||◌}
+use Rattle.std.specs.Prelude.{slice_get, get_or, if◌then◌else◌, int_le, nat_eq, ◌||◌}
 use Rattle.std.proofs.Common.{arith, mul-zero, ◌≡◌, ℕ, zero, suc, ℤ, pos, ◌+◌, ◌*◌, ◌<◌, ◌≤◌, Bool, true, false, IsTrue, List, [], ◌∷◌, length, Option, Some, refl, ap, ◌∙◌, subst}
 use Rattle.std.proofs.lemmas.Bool.Decides.{nat_tests}
 use Rattle.occ_term.specs.Messages.{product}

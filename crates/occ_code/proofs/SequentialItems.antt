@@ -115,6 +115,7 @@ module _ (code : List Instruction) (f : Variables) where
         comes_then code f (span_of p (at f)) (λ a. Value (At a)) (place_runs code f q sp d.types few.cells p rest g pc m st c)
         (λ a y. comes_at code f _ (Value (At a)) (m + 1) pc' (spotted sp) l.1 (comes_by code f m (pos (first_of a) ∷ st) q sp _ (Value (At a)) (spotted sp (m + 1)) l.0
         (ap (λ x. Moves (spotted sp (m + 1) (At x))) (same_span a (components_at p) (count_is p (at f) a y)))))
+
     pub target_runs : (t : Target) (type : PartType) → TargetHas d.types t type → (sp : List Spot) (pc pc' : ℕ) → StandsAt code pc (target_code t) pc' → Comes code f (point pc st q sp f) (spot_of t (at f)) (spotted sp pc')
     target_runs (Into p) (OneOf t) g sp pc pc' h = into_runs p [] (cells_fit d.types few.cells p t [] g) sp pc pc' h
     target_runs (Into p) (ManyOf sizes t) g sp pc pc' h = into_runs p sizes (cells_fit d.types few.cells p t sizes g) sp pc pc' h

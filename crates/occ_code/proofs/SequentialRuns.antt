@@ -268,8 +268,12 @@ module _ (code : List Instruction) (loops : ℕ) (cells : List ℕ) (d : Declare
         by_arms (e ∷ es) [] x lands given = absurd x
         by_arms (e ∷ es) (p ∷ ps) x lands given = λ room.
             pauses (pc + 1) (ChoosesAmong pri (map open_arm (p ∷ ps))) (Choosing pri (e ∷ es)) [] (frame_of b)
-            (record { last = b; walks = walk; stops = ap (λ z. effect by_cell code z) lands ∙ ap (λ o. act by_cell o n (pos 0 ∷ []) (p ∷ ps) [] (frame_of b)) hc
-            ∙ ap (λ t. if t then Stops (n - back) (frame_of b) (ChoosesAmong pri (map open_arm (p ∷ ps))) else Stuck) (laid_numbered code loops slot (pc + 1) pc' (map open_arm (p ∷ ps)) (e ∷ es) x) ∙ ap (λ m. Stops m (frame_of b) (ChoosesAmong pri (map open_arm (p ∷ ps)))) root })
+            (record {
+              last = b;
+              walks = walk;
+              stops = ap (λ z. effect by_cell code z) lands ∙ ap (λ o. act by_cell o n (pos 0 ∷ []) (p ∷ ps) [] (frame_of b)) hc
+                  ∙ ap (λ t. if t then Stops (n - back) (frame_of b) (ChoosesAmong pri (map open_arm (p ∷ ps))) else Stuck) (laid_numbered code loops slot (pc + 1) pc' (map open_arm (p ∷ ps)) (e ∷ es) x) ∙ ap (λ m. Stops m (frame_of b) (ChoosesAmong pri (map open_arm (p ∷ ps)))) root;
+            })
             (keeps_all slot l) (at_choose slot pc' x (refl, stays))
             (λ s hs. let r = given s hs in record { store = r.store; turn = λ k. single_turn none (alt r.gives_it) refl; holds = r.holds })
 

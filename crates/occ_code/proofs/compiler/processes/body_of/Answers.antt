@@ -1,4 +1,4 @@
-use Rattle.std.proofs.Common.{◌≡◌, ◌<◌, List, ap, arith, length, rules, sym, subst}
+use Rattle.std.proofs.Common.{◌≡◌, ◌<◌, List, arith, length, rules, sym, subst}
 use Rattle.std.proofs.lemmas.List.{length-map}
 use Rattle.occ_code.specs.Sequential.Emitted.{counters_of, whole_code}
 use Rattle.occ_code.specs.Sequential.Machine.{Instruction}
