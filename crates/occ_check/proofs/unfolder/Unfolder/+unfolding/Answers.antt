@@ -440,14 +440,14 @@ variants-loop-variant-init t c =
 pub variants-variant-requires : goal.variants-variant-requires
 variants-variant-requires t c =
     let less = part_within variant_of c.args.list.now c.loop-variant.variant-index c.variant-item.result c.loop-variant-test.true c.variant-item.is in
-    let same : weight_at c.loop-variant.self c.args.at ≡ weight_at c.args.self.now c.args.at = ap (λ f. weight (scope_in (reverse f) c.args.at)) c.loop-variant.invariant.1.0 in
+    let same : weight_at c.loop-variant.self c.args.at ≡ weight_at c.args.self.now c.args.at = ap (λ f. weight (scope_in (reverse f) c.args.at)) c.loop-variant.invariant.1 in
     (subst (λ k. 8 * (node_size (variant_of c.variant-item.result) + weight_at c.loop-variant.self c.args.at) + 2 < k) c.decreases (omega (arith, less, same)), c.requires)
 
 pub variants-returns-in_err-tag-clause-variants : goal.variants-returns-in_err-tag-clause-variants
 variants-returns-in_err-tag-clause-variants t c =
     let sc = meant_at c.args.self.now c.args.at in
     let this : Refuses c.in_err-tag.field-0.0 (new_tag c.args.protocol.now c.tag_of.result.now (listed_in c.loop-variant.tags)) =
-    c.in_err-tag.ensures.tag c.args.protocol.now c.loop-variant.invariant.1.1 in
+    c.in_err-tag.ensures.tag c.args.protocol.now c.loop-variant.invariant.2 in
     let refused : Refuses c.in_err-tag.field-0.0 (all_variants (nodes (map variant_of c.args.list.now)) c.args.protocol.now [] sc c.args.depth (counted c.args.self.now)) =
     gathered_refused _ _ _ (variants_step c.args.protocol.now sc c.args.depth) _ _ _ _ _ c.loop-variant.invariant.0 _ c.loop-variant-test.true c.variant-item.is _
     (no_tag c.args.protocol.now sc c.args.depth c.variant-item.result (listed_in c.loop-variant.tags) (counted c.loop-variant.self) c.tag_of.result.now c.tag_of.ensures _ this) in
@@ -457,10 +457,10 @@ pub variants-returns-in_err-made-clause-variants : goal.variants-returns-in_err-
 variants-returns-in_err-made-clause-variants t c =
     let sc = meant_at c.args.self.now c.args.at in
     let tag : new_tag c.args.protocol.now c.tag_of.result.now (listed_in c.loop-variant.tags) ≡ Some c.in_ok-tag.tag =
-    c.in_ok-tag.ensures.tag c.args.protocol.now c.loop-variant.invariant.1.1 in
+    c.in_ok-tag.ensures.tag c.args.protocol.now c.loop-variant.invariant.2 in
     let this : Refuses c.in_err-made.field-0.0 (variant_unfolded (variant_of c.variant-item.result) c.args.protocol.now c.in_ok-tag.tag sc c.args.depth (counted c.loop-variant.self)) =
     subst (λ f. Refuses c.in_err-made.field-0.0 (variant_unfolded (variant_of c.variant-item.result) c.args.protocol.now c.in_ok-tag.tag (meant (scope_in (reverse f) c.args.at)) c.args.depth (counted c.loop-variant.self)))
-    c.loop-variant.invariant.1.0 c.in_err-made.ensures.variant in
+    c.loop-variant.invariant.1 c.in_err-made.ensures.variant in
     let refused : Refuses c.in_err-made.field-0.0 (all_variants (nodes (map variant_of c.args.list.now)) c.args.protocol.now [] sc c.args.depth (counted c.args.self.now)) =
     gathered_refused _ _ _ (variants_step c.args.protocol.now sc c.args.depth) _ _ _ _ _ c.loop-variant.invariant.0 _ c.loop-variant-test.true c.variant-item.is _
     (variant_refused c.args.protocol.now sc c.args.depth c.variant-item.result (listed_in c.loop-variant.tags) (counted c.loop-variant.self) c.tag_of.result.now c.tag_of.ensures c.in_ok-tag.tag tag _ this) in
@@ -470,15 +470,15 @@ pub variants-loop-variant-preserved : goal.variants-loop-variant-preserved
 variants-loop-variant-preserved t c =
     let sc = meant_at c.args.self.now c.args.at in
     let tag : new_tag c.args.protocol.now c.tag_of.result.now (listed_in c.loop-variant.tags) ≡ Some c.in_ok-tag.tag =
-    c.in_ok-tag.ensures.tag c.args.protocol.now c.loop-variant.invariant.1.1 in
+    c.in_ok-tag.ensures.tag c.args.protocol.now c.loop-variant.invariant.2 in
     let this : variant_unfolded (variant_of c.variant-item.result) c.args.protocol.now c.in_ok-tag.tag sc c.args.depth (counted c.loop-variant.self) ≡ Some (term_variant_of c.in_ok-made.made no_variants, counted c.variant.new.self) =
     subst (λ f. variant_unfolded (variant_of c.variant-item.result) c.args.protocol.now c.in_ok-tag.tag (meant (scope_in (reverse f) c.args.at)) c.args.depth (counted c.loop-variant.self)
-    ≡ Some (term_variant_of c.in_ok-made.made no_variants, counted c.variant.new.self)) c.loop-variant.invariant.1.0 c.in_ok-made.ensures.variant in (
+    ≡ Some (term_variant_of c.in_ok-made.made no_variants, counted c.variant.new.self)) c.loop-variant.invariant.1 c.in_ok-made.ensures.variant in (
       gathered_next _ _ _ (variants_step c.args.protocol.now sc c.args.depth) _ _ _ _ _ c.loop-variant.invariant.0 _ c.loop-variant-test.true c.variant-item.is _ _ _
           (variant_done c.args.protocol.now sc c.args.depth c.variant-item.result (listed_in c.loop-variant.tags) (counted c.loop-variant.self) c.tag_of.result.now c.tag_of.ensures c.in_ok-tag.tag tag _ _ (listed_in c.next.new.self) c.in_ok-tag.ensures.listed this)
           (λ r. variants_grown c.loop-variant.variants c.in_ok-made.made c.push.new.self r c.in_ok-push.ensures.ok),
-      c.in_ok-made.ensures.kept ∙ c.loop-variant.invariant.1.0,
-      tags_kept c.args.protocol.now c.loop-variant.tags c.next.new.self c.in_ok-tag.ensures.numbers c.loop-variant.invariant.1.1,
+      c.in_ok-made.ensures.kept ∙ c.loop-variant.invariant.1,
+      tags_kept c.args.protocol.now c.loop-variant.tags c.next.new.self c.in_ok-tag.ensures.numbers c.loop-variant.invariant.2,
     )
 
 pub variants-returns-clause-variants : goal.variants-returns-clause-variants
