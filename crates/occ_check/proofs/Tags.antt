@@ -24,6 +24,8 @@ use Rattle.occ_check_meaning.specs.Performing.{Calling}
 use Rattle.occ_check_meaning.specs.Recursion.{all_declared, all_variants, unfolded, variant_tag, variant_unfolded}
 use Rattle.occ_check_meaning.specs.Scope.{Scope}
 use Rattle.occ_check_names.specs.View.{Refuses}
+use Rattle.occ_check_acting.specs.TagView.{AreTagsOf, number_at}
+use Rattle.occ_check_acting.specs.declared.tags.Tags.{Tags}
 use Rattle.occ_check_names.specs.declared.fault.CheckFault.{CheckFault}
 use Rattle.occ_check_typing.proofs.Refusing.{then_refused}
 
@@ -113,6 +115,10 @@ module _ (p : Protocol) (sc : Scope Calling) (depth : ℕ) (x : Variant) (before
     pub variant_done : (v : Variants) (m : Numbers) (after : List ℕ) → after ≡ k ∷ before → variant_unfolded (trees.variant_of x) p k sc depth n ≡ Some (v, m) → variant_in p sc depth x (before, n) ≡ Some (v, (after, m))
     unfolding behind_tag
     variant_done v m after is e = tagged_so ∙ ap (λ o. o >>= with_tag k before) e ∙ ap (λ (l : List ℕ). Some (v, (l, m))) (sym is)
+
+-- the names keep their numbers
+pub tags_kept : (p : Protocol) (t u : Tags) → u.numbers ≡ t.numbers → AreTagsOf p t → AreTagsOf p u
+tags_kept p t u same are x = ap (λ ns. number_at x ns.entries) same ∙ are x
 
 -- ---- one variant, by its parts
 

@@ -1,6 +1,6 @@
 //! Inputs of variants.
 
-ghost use Rattle.std.specs.Prelude.{◌≡◌, ◌<◌, ◌≤◌, ◌∷◌, [], IfOk, OnOk, map};
+ghost use Rattle.std.specs.Prelude.{◌≡◌, ◌<◌, ◌≤◌, [], IfOk, OnOk, map};
 ghost use Rattle.occ_tree_grammar.specs.Processes.Trees.{nodes, decls};
 ghost use Rattle.occ_tree_grammar.specs.Processes.Views as trees;
 ghost use Rattle.occ_tree_grammar.specs.Processes.Views.{decl_of, process_of, row_decls, row_variants};
@@ -18,7 +18,8 @@ ghost use Rattle.occ_check.specs.Progress.{counted, meant_at};
 
 use crate::acting::names_at;
 use crate::unfolder::Unfolder;
-use occ_check_acting::action::{new_tag, with_tags};
+use occ_check_acting::action::with_tags;
+use occ_check_acting::tags::Tags;
 use occ_check_acting::target::stored;
 use occ_check_names::fault::CheckFault;
 use occ_check_names::measuring::{count_place, count_targets};
@@ -30,7 +31,7 @@ use occ_term::{Place, Protocol, Target, Term, Variant as TermVariant};
 use occ_tree_grammar::tree::line::{Target as TargetTree, Var};
 use occ_tree_grammar::tree::process::{Decl, Process, Variant};
 use sqlite_items::Items;
-use std::alloc::{AllocError, Global};
+use std::alloc::Global;
 
 impl<'t> Unfolder<'t> {
     /// What an input of variants unfolds to.
@@ -67,16 +68,10 @@ impl<'t> Unfolder<'t> {
         ensures variants { Unfolds variants_of result self.new.numbers (all_variants (nodes (map trees.variant_of list.now)) protocol.now [] (meant_at self.old at) depth (counted self.old)) }
         ensures kept { OnOk result (self.new.frames.frames.items ≡ self.old.frames.frames.items) }
     {
-        let mut before = Vec::new(alloc);
+        let mut tags = Tags::new(alloc, protocol)?;
         let mut variants = Items::new(alloc);
         for variant in list {
-            let tag = new_tag(
-                line_of(variant),
-                protocol,
-                tag_of(variant),
-                before.as_slice(),
-            )?;
-            put_first(&mut before, tag)?;
+            let tag = tags.next(line_of(variant), tag_of(variant))?;
             let made = self.variant(alloc, at, depth, protocol, tag, variant)?;
             variants.push(made)?;
         }
@@ -233,14 +228,6 @@ fn storing(
     };
     count_targets(numbers, depth, targets.as_slice())?;
     Ok(targets)
-}
-
-/// The number of a tag before those of the tags listed so far.
-fn put_first(before: &mut Vec<u32>, tag: u32) -> Result<(), AllocError>
-    ensures { OnOk result (before.new.items ≡ tag ∷ before.old.items) }
-{
-    before.insert(0, tag)?;
-    Ok(())
 }
 
 /// The line of a variant.

@@ -1,18 +1,17 @@
 -- Whether a number stands in a list.
-use Rattle.std.proofs.Common.{◌≡◌, ℕ, ℤ, zero, suc, ◌+◌, ◌<◌, ◌≤◌, List, [], ◌∷◌, ◌++◌, drop, get_or, length, reverse, Bool, true, false, cond, refl, subst, sym, ap, ◌∙◌, arith}
+use Rattle.std.proofs.Common.{◌≡◌, ℕ, ℤ, List, [], ◌∷◌, ◌++◌, reverse, Bool, true, false, cond, refl, sym, ap, ◌∙◌}
 use Rattle.std.specs.List.{list_any}
 use Rattle.std.specs.Prelude.{nat_eq, not, ◌||◌}
 use Rattle.std.specs.Ordering.{int_eq}
-use Rattle.std.proofs.Math.Seq.{drop-cons}
 use Rattle.std.proofs.lemmas.Grind.{reverse_onto}
-use Rattle.std.proofs.lemmas.List.{drop_all, reverse-append}
+use Rattle.std.proofs.lemmas.List.{reverse-append}
 use Rattle.occ_check_meaning.specs.Actions.{has_constant, has_number}
 
 pub among : {A : Type 0} → (A → Bool) → List A → Bool
 among test [] = false
 among test (a ∷ rest) = cond (test a) true (among test rest)
 
-pub number_among : (k : ℕ) (ms : List ℕ) → has_number k ms ≡ among (nat_eq k) ms
+number_among : (k : ℕ) (ms : List ℕ) → has_number k ms ≡ among (nat_eq k) ms
 unfolding among
 number_among k [] = refl
 number_among k (m ∷ ms) = ap (cond (nat_eq k m) true) (number_among k ms)
@@ -21,35 +20,6 @@ constant_among : (v : ℤ) (ws : List ℤ) → has_constant v ws ≡ among (int_
 unfolding among
 constant_among v [] = refl
 constant_among v (w ∷ ws) = ap (cond (int_eq v w) true) (constant_among v ws)
-
--- what is left of the list decides
-pub record Sought {A : Type 0} (test : A → Bool) (xs : List A) (i : ℕ) : Type 0 where
-  pub is : among test xs ≡ among test (drop i xs)
-
-module _ {A : Type 0} (test : A → Bool) (xs : List A) where
-  pub sought_first : Sought test xs 0
-  sought_first = by xs
-    where
-      by : (xs : List A) → Sought test xs 0
-      by [] = record { is = refl }
-      by (x ∷ xs) = record { is = refl }
-
-  module _ (i : ℕ) (d : A) (below : i < length xs) (so_far : Sought test xs i) where
-    first : among test xs ≡ cond (test (get_or xs i d)) true (among test (drop (i + 1) xs))
-    unfolding among
-    first =
-        let next : suc i ≡ i + 1 = omega arith in
-        so_far.is ∙ ap (among test) (drop-cons xs i d below) ∙ ap (λ k. cond (test (get_or xs i d)) true (among test (drop k xs))) next
-
-    pub sought_next : test (get_or xs i d) ≡ false → Sought test xs (i + 1)
-    sought_next h = record { is = first ∙ ap (λ b. cond b true (among test (drop (i + 1) xs))) h }
-
-    pub sought_here : test (get_or xs i d) ≡ true → true ≡ among test xs
-    sought_here h = sym (first ∙ ap (λ b. cond b true (among test (drop (i + 1) xs))) h)
-
-  pub sought_none : (i : ℕ) → length xs ≤ i → Sought test xs i → false ≡ among test xs
-  unfolding among
-  sought_none i past so_far = sym (so_far.is ∙ ap (among test) (drop_all i xs past))
 
 -- ---- constants, the last of which stands first
 
@@ -69,28 +39,42 @@ unfolding among
 among_reverse test [] = refl
 among_reverse test (x ∷ xs) = ap (among test) (reverse_onto xs x []) ∙ at_end test (reverse xs) x ∙ ap (cond (test x) true) (among_reverse test xs)
 
-any_among : (v : ℤ) (ws : List ℤ) → list_any (λ y. int_eq v y) ws ≡ among (int_eq v) ws
+any_among : {A : Type 0} (test : A → Bool) (xs : List A) → list_any test xs ≡ among test xs
 unfolding among
-any_among v [] = refl
-any_among v (w ∷ ws) = by (int_eq v w) ∙ ap (cond (int_eq v w) true) (any_among v ws)
+any_among test [] = refl
+any_among test (x ∷ xs) = by (test x) ∙ ap (cond (test x) true) (any_among test xs)
   where
-    by : (b : Bool) → (b || list_any (λ y. int_eq v y) ws) ≡ cond b true (list_any (λ y. int_eq v y) ws)
+    by : (b : Bool) → (b || list_any test xs) ≡ cond b true (list_any test xs)
     by true = refl
     by false = refl
 
+twice_not : (b : Bool) → b ≡ not (not b)
+twice_not true = refl
+twice_not false = refl
+
 any_constant : (v : ℤ) (ws : List ℤ) → list_any (λ y. int_eq v y) ws ≡ has_constant v (reverse ws)
-any_constant v ws = any_among v ws ∙ sym (among_reverse (int_eq v) ws) ∙ sym (constant_among v (reverse ws))
+any_constant v ws = any_among (int_eq v) ws ∙ sym (among_reverse (int_eq v) ws) ∙ sym (constant_among v (reverse ws))
 
 -- what a set of constants tells of one that is put in, and what it has then
 pub constant_told : (v u : ℤ) (ws : List ℤ) (added : Bool) → u ≡ v → added ≡ not (list_any (λ y. int_eq u y) ws) → has_constant v (reverse ws) ≡ not added
 constant_told v u ws added same e =
     ap (λ w. has_constant w (reverse ws)) (sym same) ∙ sym (any_constant u ws) ∙ twice_not (list_any (λ y. int_eq u y) ws) ∙ ap not (sym e)
-  where
-    twice_not : (b : Bool) → b ≡ not (not b)
-    twice_not true = refl
-    twice_not false = refl
 
 pub constants_more : (v u : ℤ) (ws now : List ℤ) → u ≡ v → has_constant v (reverse ws) ≡ false → now ≡ cond (list_any (λ y. int_eq u y) ws) ws (ws ++ u ∷ []) → reverse now ≡ v ∷ reverse ws
 constants_more v u ws now same lacks is =
     let none : list_any (λ y. int_eq u y) ws ≡ false = any_constant u ws ∙ ap (λ w. has_constant w (reverse ws)) same ∙ lacks in
     ap reverse (is ∙ ap (λ b. cond b ws (ws ++ u ∷ [])) none) ∙ reverse-append ws (u ∷ []) ∙ ap (λ w. w ∷ reverse ws) same
+
+-- ---- numbers, the last of which stands first
+
+any_number : (k : ℕ) (ks : List ℕ) → list_any (λ n. nat_eq k n) ks ≡ has_number k (reverse ks)
+any_number k ks = any_among (nat_eq k) ks ∙ sym (among_reverse (nat_eq k) ks) ∙ sym (number_among k (reverse ks))
+
+-- what a set of numbers tells of one that is put in, and what it has then
+pub number_told : (k : ℕ) (ks : List ℕ) (added : Bool) → added ≡ not (list_any (λ n. nat_eq k n) ks) → has_number k (reverse ks) ≡ not added
+number_told k ks added e = sym (any_number k ks) ∙ twice_not (list_any (λ n. nat_eq k n) ks) ∙ ap not (sym e)
+
+pub numbers_more : (k : ℕ) (ks now : List ℕ) → has_number k (reverse ks) ≡ false → now ≡ cond (list_any (λ n. nat_eq k n) ks) ks (ks ++ k ∷ []) → reverse now ≡ k ∷ reverse ks
+numbers_more k ks now lacks is =
+    let none : list_any (λ n. nat_eq k n) ks ≡ false = any_number k ks ∙ lacks in
+    ap reverse (is ∙ ap (λ b. cond b ks (ks ++ k ∷ [])) none) ∙ reverse-append ks (k ∷ [])

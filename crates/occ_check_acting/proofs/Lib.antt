@@ -8,3 +8,4 @@ pub mod ReadCells
 pub mod Assigning
 pub mod Fixing
 pub mod Others
+pub mod Tagging

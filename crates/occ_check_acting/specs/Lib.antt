@@ -1,3 +1,4 @@
 pub mod ActionView
 pub mod CallView
 pub mod Clashing
+pub mod TagView

@@ -327,39 +327,6 @@ pub fn with_tags(line: u32, protocol: &Protocol) -> Result<&Protocol, CheckFault
     }
 }
 
-/// The number of a tag that was not listed before.
-///
-/// # Errors
-///
-/// As `tag_in`, and `Tag` for one that was.
-pub fn new_tag(
-    line: u32,
-    protocol: &Protocol,
-    name: &[u8],
-    before: &[u32],
-) -> Result<u32, CheckFault>
-    ensures { Gives (λ k. k) result (meant.new_tag protocol.now name.now before.now) }
-{
-    let tag = tag_in(line, protocol, name)?;
-    if has_number(tag, before) {
-        Err(CheckFault::Tag { line })
-    } else {
-        Ok(tag)
-    }
-}
-
-/// Whether a number stands in a list.
-fn has_number(number: u32, list: &[u32]) -> bool
-    ensures { result ≡ meant.has_number number list.now }
-{
-    for other in list {
-        if number == *other {
-            return true;
-        }
-    }
-    false
-}
-
 /// Constants of one option more.
 ///
 /// # Errors

@@ -6,4 +6,5 @@ pub mod call;
 pub mod clash;
 mod named;
 mod naming;
+pub mod tags;
 pub mod target;

@@ -318,7 +318,7 @@ fn tag_number(tags: &[Tag], name: &[u8]) -> Option<usize>
 /// # Errors
 ///
 /// `Tag` for any other.
-fn word_of(line: u32, number: usize) -> Result<u32, CheckFault>
+pub fn word_of(line: u32, number: usize) -> Result<u32, CheckFault>
     ensures { Gives (λ k. k) result (keep (nat_lt number 4294967296) number) }
 {
     if number < 4_294_967_296 {

@@ -1,7 +1,7 @@
-use Rattle.std.proofs.Common.{◌≡◌, ◌∷◌, ◌∙◌, ap, false, reverse, rules, sym, true, w64, List, ℤ, Some}
+use Rattle.std.proofs.Common.{◌≡◌, ◌∙◌, ap, false, reverse, rules, sym, true, w64, List, ℤ, Some}
 use Rattle.std.specs.Prelude.{not}
 use Rattle.std.proofs.lemmas.Int.{to_z-of_z}
-use Rattle.occ_check_meaning.specs.Actions.{Chosen, has_constant}
+use Rattle.occ_check_meaning.specs.Actions.{has_constant}
 use Rattle.occ_check_acting.specs.ActionView.{chosen_of}
 use Rattle.occ_check_acting.proofs.Among.{constant_told, constants_more}
 use Rattle.occ_check_acting.proofs.Choosing.{chosen_before, chosen_now}

@@ -11,7 +11,8 @@ use Rattle.occ_tree_grammar.specs.declared.tree.process.Arm.TheBlock.{hidden-the
 use Rattle.occ_term.specs.View.{arms_of, branch_of, branches_of, choices_of, declarations_of, expression_of, option_of, options_of, place_of, reception_of, term_of, terms_of, variant_of as term_variant_of, variants_of, test_of as boolean_of}
 use Rattle.occ_check_meaning.specs.Actions.{as_reception, depth_behind, new_tag, none_chosen, opening}
 use Rattle.occ_tree_grammar.specs.Lines.Views as lines
-use Rattle.occ_check.proofs.Tags.{no_more_variants, no_tag, variant_done, variant_form, variant_refused, variant_size, variants_grown, variants_none, variants_step}
+use Rattle.occ_check_acting.specs.TagView.{listed_in}
+use Rattle.occ_check.proofs.Tags.{no_more_variants, no_tag, tags_kept, variant_done, variant_form, variant_refused, variant_size, variants_grown, variants_none, variants_step}
 use Rattle.occ_check_acting.specs.ActionView.{chosen_of, listed_of}
 use Rattle.occ_check.specs.Prefixes.{guarding, guarding_variants, tested}
 use Rattle.occ_check_meaning.specs.Scope.{names_of}
@@ -434,7 +435,7 @@ option-returns-in-Else-clause-option t c =
 
 pub variants-loop-variant-init : goal.variants-loop-variant-init
 variants-loop-variant-init t c =
-    (gathered_first _ _ _ (variants_step c.args.protocol.now (meant_at c.args.self.now c.args.at) c.args.depth) _ _ _ no_variants _ (ap variants_of c.new-variants.ensures) (ap (λ (l : List ℕ). (l, counted c.args.self.now)) (search rules)) (λ r. refl), refl)
+    (gathered_first _ _ _ (variants_step c.args.protocol.now (meant_at c.args.self.now c.args.at) c.args.depth) _ _ _ no_variants _ (ap variants_of c.new-variants.ensures) (ap (λ (l : List ℕ). (l, counted c.args.self.now)) c.in_ok-tags.ensures.listed) (λ r. refl), refl, c.in_ok-tags.ensures.tags)
 
 pub variants-variant-requires : goal.variants-variant-requires
 variants-variant-requires t c =
@@ -445,45 +446,46 @@ variants-variant-requires t c =
 pub variants-returns-in_err-tag-clause-variants : goal.variants-returns-in_err-tag-clause-variants
 variants-returns-in_err-tag-clause-variants t c =
     let sc = meant_at c.args.self.now c.args.at in
-    let this : Refuses c.in_err-tag.field-0.0 (new_tag c.args.protocol.now c.tag_of.result.now c.loop-variant.before.items) =
-    subst (λ b. Refuses c.in_err-tag.field-0.0 (new_tag c.args.protocol.now c.tag_of.result.now b)) c.as_slice.ensures.value c.in_err-tag.ensures in
+    let this : Refuses c.in_err-tag.field-0.0 (new_tag c.args.protocol.now c.tag_of.result.now (listed_in c.loop-variant.tags)) =
+    c.in_err-tag.ensures.tag c.args.protocol.now c.loop-variant.invariant.2 in
     let refused : Refuses c.in_err-tag.field-0.0 (all_variants (nodes (map variant_of c.args.list.now)) c.args.protocol.now [] sc c.args.depth (counted c.args.self.now)) =
     gathered_refused _ _ _ (variants_step c.args.protocol.now sc c.args.depth) _ _ _ _ _ c.loop-variant.invariant.0 _ c.loop-variant-test.true c.variant-item.is _
-    (no_tag c.args.protocol.now sc c.args.depth c.variant-item.result c.loop-variant.before.items (counted c.loop-variant.self) c.tag_of.result.now c.tag_of.ensures _ this) in
+    (no_tag c.args.protocol.now sc c.args.depth c.variant-item.result (listed_in c.loop-variant.tags) (counted c.loop-variant.self) c.tag_of.result.now c.tag_of.ensures _ this) in
     search rules
 
 pub variants-returns-in_err-made-clause-variants : goal.variants-returns-in_err-made-clause-variants
 variants-returns-in_err-made-clause-variants t c =
     let sc = meant_at c.args.self.now c.args.at in
-    let tag : new_tag c.args.protocol.now c.tag_of.result.now c.loop-variant.before.items ≡ Some c.in_ok-tag.tag =
-    subst (λ b. new_tag c.args.protocol.now c.tag_of.result.now b ≡ Some c.in_ok-tag.tag) c.as_slice.ensures.value c.in_ok-tag.ensures in
+    let tag : new_tag c.args.protocol.now c.tag_of.result.now (listed_in c.loop-variant.tags) ≡ Some c.in_ok-tag.tag =
+    c.in_ok-tag.ensures.tag c.args.protocol.now c.loop-variant.invariant.2 in
     let this : Refuses c.in_err-made.field-0.0 (variant_unfolded (variant_of c.variant-item.result) c.args.protocol.now c.in_ok-tag.tag sc c.args.depth (counted c.loop-variant.self)) =
     subst (λ f. Refuses c.in_err-made.field-0.0 (variant_unfolded (variant_of c.variant-item.result) c.args.protocol.now c.in_ok-tag.tag (meant (scope_in (reverse f) c.args.at)) c.args.depth (counted c.loop-variant.self)))
     c.loop-variant.invariant.1 c.in_err-made.ensures.variant in
     let refused : Refuses c.in_err-made.field-0.0 (all_variants (nodes (map variant_of c.args.list.now)) c.args.protocol.now [] sc c.args.depth (counted c.args.self.now)) =
     gathered_refused _ _ _ (variants_step c.args.protocol.now sc c.args.depth) _ _ _ _ _ c.loop-variant.invariant.0 _ c.loop-variant-test.true c.variant-item.is _
-    (variant_refused c.args.protocol.now sc c.args.depth c.variant-item.result c.loop-variant.before.items (counted c.loop-variant.self) c.tag_of.result.now c.tag_of.ensures c.in_ok-tag.tag tag _ this) in
+    (variant_refused c.args.protocol.now sc c.args.depth c.variant-item.result (listed_in c.loop-variant.tags) (counted c.loop-variant.self) c.tag_of.result.now c.tag_of.ensures c.in_ok-tag.tag tag _ this) in
     search rules
 
 pub variants-loop-variant-preserved : goal.variants-loop-variant-preserved
 variants-loop-variant-preserved t c =
     let sc = meant_at c.args.self.now c.args.at in
-    let tag : new_tag c.args.protocol.now c.tag_of.result.now c.loop-variant.before.items ≡ Some c.in_ok-tag.tag =
-    subst (λ b. new_tag c.args.protocol.now c.tag_of.result.now b ≡ Some c.in_ok-tag.tag) c.as_slice.ensures.value c.in_ok-tag.ensures in
+    let tag : new_tag c.args.protocol.now c.tag_of.result.now (listed_in c.loop-variant.tags) ≡ Some c.in_ok-tag.tag =
+    c.in_ok-tag.ensures.tag c.args.protocol.now c.loop-variant.invariant.2 in
     let this : variant_unfolded (variant_of c.variant-item.result) c.args.protocol.now c.in_ok-tag.tag sc c.args.depth (counted c.loop-variant.self) ≡ Some (term_variant_of c.in_ok-made.made no_variants, counted c.variant.new.self) =
     subst (λ f. variant_unfolded (variant_of c.variant-item.result) c.args.protocol.now c.in_ok-tag.tag (meant (scope_in (reverse f) c.args.at)) c.args.depth (counted c.loop-variant.self)
     ≡ Some (term_variant_of c.in_ok-made.made no_variants, counted c.variant.new.self)) c.loop-variant.invariant.1 c.in_ok-made.ensures.variant in (
       gathered_next _ _ _ (variants_step c.args.protocol.now sc c.args.depth) _ _ _ _ _ c.loop-variant.invariant.0 _ c.loop-variant-test.true c.variant-item.is _ _ _
-          (variant_done c.args.protocol.now sc c.args.depth c.variant-item.result c.loop-variant.before.items (counted c.loop-variant.self) c.tag_of.result.now c.tag_of.ensures c.in_ok-tag.tag tag _ _ c.put_first.new.before.items c.in_ok-put_first.ensures this)
+          (variant_done c.args.protocol.now sc c.args.depth c.variant-item.result (listed_in c.loop-variant.tags) (counted c.loop-variant.self) c.tag_of.result.now c.tag_of.ensures c.in_ok-tag.tag tag _ _ (listed_in c.next.new.self) c.in_ok-tag.ensures.listed this)
           (λ r. variants_grown c.loop-variant.variants c.in_ok-made.made c.push.new.self r c.in_ok-push.ensures.ok),
       c.in_ok-made.ensures.kept ∙ c.loop-variant.invariant.1,
+      tags_kept c.args.protocol.now c.loop-variant.tags c.next.new.self c.in_ok-tag.ensures.numbers c.loop-variant.invariant.2,
     )
 
 pub variants-returns-clause-variants : goal.variants-returns-clause-variants
 variants-returns-clause-variants t c =
     let sc = meant_at c.args.self.now c.args.at in
     gathered_last _ _ _ (variants_step c.args.protocol.now sc c.args.depth) _ _ _ _ _ c.loop-variant.invariant.0 c.loop-variant-test.false (no_variants, counted c.loop-variant.self)
-    (variants_none c.args.protocol.now sc c.args.depth (c.loop-variant.before.items, counted c.loop-variant.self))
+    (variants_none c.args.protocol.now sc c.args.depth (listed_in c.loop-variant.tags, counted c.loop-variant.self))
     ∙ ap (λ a. Some (a, counted c.loop-variant.self)) (no_more_variants (variants_of c.loop-variant.variants))
 
 pub variant-tagged-requires : goal.variant-tagged-requires

@@ -13,6 +13,7 @@ use Rattle.occ_check.proofs.Gathering.{Gathered}
 use Rattle.occ_check.proofs.Conditionals.{choices_in, put_choices}
 use Rattle.occ_check.proofs.Alternatives.{arms_in, put_arms}
 use Rattle.occ_check.proofs.Selections.{options_in, put_options}
+use Rattle.occ_check_acting.specs.TagView.{AreTagsOf, listed_in}
 use Rattle.occ_check.proofs.Tags.{put_variants, variants_in}
 use Rattle.occ_term.specs.View.{branch_of}
 use Rattle.occ_check.proofs.Beside.{branches_in, branch_one, branch_step, put_branch}
@@ -130,8 +131,8 @@ decreases-tagged l = 8 * ((decls_size (decls (map decl_of l.declarations.now)) +
 abbrev pub invariant-variants-loop-variant : goal.invariant-variants-loop-variant
 invariant-variants-loop-variant l =
     Gathered (variants_in l.protocol (meant_at l.fn.self l.at) l.depth) put_variants (variants_in l.protocol (meant_at l.fn.self l.at) l.depth l.list ([], counted l.fn.self))
-    l.list l.variant-index (variants_of l.variants) (l.before.items, counted l.self)
-    × (l.self.frames.frames.items ≡ l.fn.self.frames.frames.items)
+    l.list l.variant-index (variants_of l.variants) (listed_in l.tags, counted l.self)
+    × (l.self.frames.frames.items ≡ l.fn.self.frames.frames.items) × AreTagsOf l.protocol l.tags
 
 -- ---- the copies of a replicated PAR
 
