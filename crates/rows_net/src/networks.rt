@@ -39,13 +39,26 @@ fn check_outcome(
     Ok(())
 }
 
+/// The same network alone.
+fn faulted_network(rt: &impl Abort, alloc: Global) -> Result<Network, Fail> {
+    let (network, _second) = faulted(rt, alloc)?;
+    Ok(network)
+}
+
+const OVER: &str = "Over { ending: Fault(Fault { kind: Arith, line: 4 }) }";
+
+/// The same network, which has refused the turn that was left.
+fn late_turn_refused(rt: &impl Abort, alloc: Global) -> Result<Network, Fail> {
+    let twin = faulted_network(rt, alloc)?;
+    let (mut network, late) = faulted(rt, alloc)?;
+    check_refused(rt, alloc, &mut network, &twin, late, OVER)?;
+    Ok(network)
+}
+
 #[test]
 fn a_fault_ends_a_network(rt: HostRuntime) -> Result<(), Fail> {
     let alloc = rt.alloc();
-    let (mut network, late) = faulted(&rt, alloc)?;
-    let (twin, _) = faulted(&rt, alloc)?;
-    let over = "Over { ending: Fault(Fault { kind: Arith, line: 4 }) }";
-    check_refused(&rt, alloc, &mut network, &twin, late, over)?;
+    let mut network = late_turn_refused(&rt, alloc)?;
     assert!(&rt; next_turn(alloc, &mut network)?.is_none());
     check_outcome(&rt, alloc, network, "fault ARITH line 4", 2)
 }
@@ -150,30 +163,47 @@ fn branches_have_their_own_cells(rt: HostRuntime) -> Result<(), Fail> {
     Ok(())
 }
 
-/// The network of a source, whose main process has taken so many turns, and the next turn of this network.
-fn foreign(
-    rt: &impl Abort,
-    alloc: Global,
-    source: &[u8],
-    turns: u32,
-) -> Result<(Network, Segment), Fail> {
-    let mut network = network_of(rt, alloc, source, b"");
-    for _ in 0..turns {
+/// A source whose main process has taken so many turns.
+struct Stepped(&'static [u8], u32);
+
+const DIVIDING: Stepped = Stepped(DIVIDES, 1);
+
+const LOOPING: Stepped = Stepped(LOOPS, 0);
+
+/// Its network.
+fn network_at(rt: &impl Abort, alloc: Global, source: &Stepped) -> Result<Network, Fail> {
+    let mut network = network_of(rt, alloc, source.0, b"");
+    for _ in 0..source.1 {
         step(rt, alloc, &mut network, 0)?;
     }
+    Ok(network)
+}
+
+/// The next turn of its network.
+fn turn_at(rt: &impl Abort, alloc: Global, source: &Stepped) -> Result<Segment, Fail> {
+    let mut network = network_at(rt, alloc, source)?;
     let next = next_turn(alloc, &mut network)?.expect(rt, "no process");
-    Ok((network, next))
+    Ok(next)
+}
+
+/// A network refuses the next turn of another one.
+fn check_foreign(
+    rt: &impl Abort,
+    alloc: Global,
+    source: &Stepped,
+    other: &Stepped,
+    refused: &str,
+) -> Result<(), Fail> {
+    let foreign = turn_at(rt, alloc, other)?;
+    let mut network = network_at(rt, alloc, source)?;
+    let twin = network_at(rt, alloc, source)?;
+    check_refused(rt, alloc, &mut network, &twin, foreign, refused)
 }
 
 #[test]
 fn foreign_turns_are_stale(rt: HostRuntime) -> Result<(), Fail> {
-    let alloc = rt.alloc();
-    let (mut network, branch) = foreign(&rt, alloc, DIVIDES, 1)?;
-    let (network_twin, _) = foreign(&rt, alloc, DIVIDES, 1)?;
-    let (mut other, main) = foreign(&rt, alloc, LOOPS, 0)?;
-    let (other_twin, _) = foreign(&rt, alloc, LOOPS, 0)?;
     let forked = "Stale { number: 0, turns: 1 }";
-    check_refused(&rt, alloc, &mut network, &network_twin, main, forked)?;
+    check_foreign(&rt, rt.alloc(), &DIVIDING, &LOOPING, forked)?;
     let absent = "Stale { number: 1, turns: 0 }";
-    check_refused(&rt, alloc, &mut other, &other_twin, branch, absent)
+    check_foreign(&rt, rt.alloc(), &LOOPING, &DIVIDING, absent)
 }
