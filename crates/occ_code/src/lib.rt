@@ -1,4 +1,5 @@
-//! Flat code for the processes of a program, and what it has in common with the program's terms.
+//! Flat code for the processes of a program. [`compile`] answers a [`Code`] whose bodies do as the terms of
+//! a lawful program do, stop by stop, and refuses one only for its size, its quantum or want of memory.
 #![tactic(auto)]
 
 mod channels;

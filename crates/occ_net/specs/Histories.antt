@@ -1,4 +1,5 @@
 -- The messages of a channel, read from the trace.
+-- Manual: nothing; this is (own).
 use Rattle.std.specs.Prelude.{List, Option, map, slice_get, ℕ, ◌≡◌}
 use Rattle.occ_term.specs.declared.message.Message.{Message}
 use Rattle.occ_term.specs.declared.protocol.Protocol.{Protocol}

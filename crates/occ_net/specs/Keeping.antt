@@ -1,4 +1,5 @@
 -- What a network keeps.
+-- Manual: nothing; this is (own).
 use Rattle.std.specs.Prelude.{length, ◌≡◌}
 use Rattle.occ_net_replay.specs.Following.{AreBytes}
 use Rattle.occ_net_replay.specs.Replay.{Net}

@@ -1,4 +1,5 @@
 -- Leases: a process goes out with its body and its task.
+-- Manual: nothing; this is (own).
 use Rattle.std.specs.Prelude.{None, Option, Some, length, slice_get, true, ℕ, ◌+◌, ◌<◌, ◌^◌, ◌≡◌}
 use Rattle.std.specs.Arc.{arc_value}
 use Rattle.occ_proc.specs.Turns.{HasStop}

@@ -1,4 +1,5 @@
 -- What a network came to.
+-- Manual: nothing; this is (own).
 use Rattle.std.specs.Prelude.{List, None, [], ℕ, ◌≡◌}
 use Rattle.occ_term.specs.Runs.{bytes_of, messages_on}
 use Rattle.occ_code.specs.Sequential.Compiled.{Program}

@@ -1,4 +1,5 @@
 -- Turns that were taken elsewhere.
+-- Manual: nothing; this is (own).
 use Rattle.std.specs.Prelude.{List, None, Some, [], false, slice_get, slice_set, ℕ, ◌++◌, ◌∷◌, ◌≡◌}
 use Rattle.occ_proc.specs.Turns.{Taken}
 use Rattle.occ_net_replay.specs.Replay.{Net, HasTask, ending_of, turns_at}

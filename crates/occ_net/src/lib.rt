@@ -1,5 +1,6 @@
-//! The network of a program's processes as one value: what it was made of determines its state. Turns
-//! go out and are taken in one by one, a plan is run, and what was communicated is read.
+//! The network of a program's processes as one value, [`Network`]: what it was made of determines its
+//! state. Its turns go out by `lease` and are taken in by `settle`, [`run`] takes those of a plan, and
+//! what was communicated is read from its trace and its histories.
 #![tactic(auto)]
 
 pub mod fault;

@@ -1,4 +1,5 @@
 -- A choice among alternatives in a replay: which arm is taken, and by whose number.
+-- Manual: nothing; this is (own).
 use Rattle.std.specs.Prelude.{Bool, IsTrue, List, Option, Some, nat_eq, ℕ, ◌≡◌}
 use Rattle.occ_term.specs.declared.message.Message.{Message}
 use Rattle.occ_term.specs.Unfolding.{Unfolding}

@@ -1,4 +1,5 @@
 -- The lines that say how a run ended.
+-- Manual: nothing; this is (own).
 use Rattle.std.specs.Prelude.{List, ℕ, ◌++◌, codes}
 use Rattle.std.specs.Fmt.{decimal}
 use Rattle.occ_term.specs.declared.fault.FaultKind.{FaultKind}

@@ -1,4 +1,5 @@
 -- Small networks of tasks, and what happens in them after a turn.
+-- Manual: nothing; this is (own).
 use Rattle.std.specs.Prelude.{Bool, List, None, Option, Some, [], false, map, pos, true, ℕ, ℤ, ◌∷◌, ◌≡◌}
 use Rattle.occ_term.specs.Messages.{fault, message}
 use Rattle.occ_term.specs.declared.fault.Errors.TheVariants.{Halt, Stop}

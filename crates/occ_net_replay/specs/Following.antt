@@ -1,4 +1,5 @@
 -- A run of the source that a replay of its compiled code follows.
+-- Manual: nothing; this is (own).
 use Rattle.std.specs.Prelude.{IsTrue, List, None, Option, Some, [], length, map, slice_get, ℕ, ⊤, ◌+◌, ◌<◌, ◌^◌, ◌∷◌, ◌≡◌}
 use Rattle.occ_term.specs.declared.fault.Errors.{Errors}
 use Rattle.occ_term.specs.declared.fault.Errors.TheVariants.{Halt, Stop}

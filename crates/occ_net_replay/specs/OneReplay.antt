@@ -1,4 +1,5 @@
 -- The choices, the code and the keyboard determine a replay.
+-- Manual: nothing; this is (own).
 use Rattle.std.specs.Prelude.{List, length, ℕ, ◌<◌, ◌^◌, ◌≡◌}
 use Rattle.occ_term.specs.Unfolding.{Unfolding, IsWellFormed, Lawful}
 use Rattle.occ_code.specs.Sequential.Compiled.{Program, IsCompiledFrom}

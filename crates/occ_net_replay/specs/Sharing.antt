@@ -1,4 +1,5 @@
 -- The one store of the run that a replay is followed by, beside the frames of its tasks.
+-- Manual: nothing; this is (own).
 use Rattle.std.specs.Prelude.{Bool, IsFalse, IsTrue, List, Some, [], false, length, slice_get, ℕ, ◌^◌, ◌<◌, ◌||◌, ◌∷◌, ◌≡◌}
 use Rattle.std.specs.Option.{option_map_or}
 use Rattle.occ_term.specs.Frames.{is_held, at}

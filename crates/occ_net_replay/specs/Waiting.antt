@@ -1,4 +1,5 @@
 -- What a turn that ends at an offer, at an input, at a choice or at a fork finds among the other processes.
+-- Manual: nothing; this is (own).
 use Rattle.std.specs.Prelude.{Bool, IsTrue, List, None, Option, Some, [], length, slice_get, ℕ, ℤ, ◌+◌, ◌<◌, ◌^◌, ◌∷◌, ◌≡◌}
 use Rattle.occ_term.specs.declared.message.Message.{Message}
 use Rattle.occ_term.specs.Frames.{is_held}

@@ -1,5 +1,6 @@
-//! The network of a program's processes: what its replay of choices is, and the run of the source that
-//! it follows.
+//! What the replay of a list of choices is, by the code of a program's processes, and the run of the
+//! source that it follows. The definitions stand in specs/; [`laws`] has that every replay of compiled
+//! code is followed by a run, with its communications and its ending.
 #![tactic(auto)]
 
 pub mod choice;

@@ -11,6 +11,7 @@ pub mod Undone
 pub mod Branches
 pub mod Ends
 pub mod Forked
+pub mod Ended
 pub mod Turned
 pub mod Start
 pub mod Roomy

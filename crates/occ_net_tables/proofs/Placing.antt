@@ -1,10 +1,12 @@
 -- A replay by choices, and by the places that they select.
-use Rattle.std.proofs.Common.{◌≡◌, ◌∙◌, refl, ap, subst, ℕ, List, [], ◌∷◌, ◌++◌, length, arith, length-append}
+use Rattle.std.proofs.Common.{◌≡◌, ◌∙◌, refl, sym, ap, subst, ℕ, List, [], ◌∷◌, ◌++◌, length, arith, length-append}
 use Rattle.std.specs.Prelude.{slice_get}
 use Rattle.std.proofs.Math.Nat.{mod-mod}
 use Rattle.occ_code.specs.Sequential.Compiled.{Program}
 use Rattle.occ_net_replay.specs.declared.choice.Choice.{Choice}
 use Rattle.occ_net_replay.specs.Replay.{Net, OneTurn, Replays, begins, goes_on, ready_from}
+use Rattle.occ_net_tables.specs.declared.tables.Tables.{Tables}
+use Rattle.occ_net_tables.specs.Settling.{TurnsTo}
 use Rattle.occ_net_tables.specs.Places.{Placed, none_placed, one_placed, placed_among, PlacesForNumbers}
 
 -- a place selects itself
@@ -24,6 +26,23 @@ turn_by_place p c a b o =
       stops = o.stops;
       settles = o.settles;
     }
+
+turn_by_number : (p : Program) (c : Choice) (a b : Net) → OneTurn p (placed_among (ready_from 0 a.tasks) c) a b → OneTurn p c a b
+turn_by_number p c a b o =
+    record {
+      number = o.number;
+      body = o.body;
+      before = o.before;
+      after = o.after;
+      selects = ap (slice_get (ready_from 0 a.tasks)) (sym (mod-mod c.which (length (ready_from 0 a.tasks)))) ∙ o.selects;
+      has_body = o.has_body;
+      has_task = o.has_task;
+      stops = o.stops;
+      settles = o.settles;
+    }
+
+pub turns_by_number : (p : Program) (kb : List ℕ) (c placed : Choice) (net : Net) (new : Tables) → placed ≡ placed_among (ready_from 0 net.tasks) c → TurnsTo p kb placed net new → TurnsTo p kb c net new
+turns_by_number p kb c placed net new e x = record { next = x.next; turn = turn_by_number p c net x.next (subst (λ d. OneTurn p d net x.next) e x.turn); holds = x.holds }
 
 module _ (p : Program) (kb : List ℕ) where
   pub placed_replays : {cs ds : List Choice} {net : Net} → Placed p kb cs ds net → Replays p kb cs net

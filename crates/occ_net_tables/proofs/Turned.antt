@@ -1,6 +1,7 @@
 -- The chosen process takes a turn.
 use Rattle.std.proofs.Common.{◌≡◌, ◌∙◌, refl, sym, ap, subst, Bool, true, false, IsTrue, ℕ, zero, suc, ◌+◌, ◌<◌, ◌≤◌, ◌^◌, ◌%◌, List, [], ◌∷◌, Option, Some, None, get_or, length, map, drop, arith}
 use Rattle.std.specs.Prelude.{slice_get, slice_set, ◌||◌}
+use Rattle.std.proofs.lemmas.Nat.{mod_below}
 use Rattle.std.proofs.lemmas.Option.{get_or_from_slice_get, slice_get_within}
 use mathlib.Core.Bool.{true≢false}
 use Rattle.occ_term.specs.declared.fault.Errors.{Errors}
@@ -23,9 +24,10 @@ use Rattle.occ_net_replay.proofs.Alone.{replays_are_quiet, turns_are_few, turns_
 use Rattle.occ_net_replay.proofs.Law.{ready_tasks_stop}
 use Rattle.occ_net_replay.proofs.Tables.{ready_at}
 use Rattle.occ_net_tables.specs.declared.tables.Tables.{Tables}
+use Rattle.occ_net_tables.specs.Endings.{GoesOn}
 use Rattle.occ_net_tables.specs.Holding.{AreTrue, Holds, IsOrdinary, communication_of, joins_on}
 use Rattle.occ_net_tables.specs.Settling.{Mid, SettlesTo, Standing, TurnsTo}
-use Rattle.occ_net_tables.specs.Tasks.{Advanced, HasTurn, or_ready}
+use Rattle.occ_net_tables.specs.Tasks.{Advanced, HasTurn}
 use Rattle.occ_net_tables.proofs.OneChange.{counts_kept, get_some, ordinary_again, set_length, table_kept, true_as}
 use Rattle.occ_net_tables.proofs.ReadyLists.{ready_same}
 
@@ -142,13 +144,13 @@ some_long (x ∷ xs) h = omega arith
 pub read_at : (xs : List ℕ) (i n : ℕ) → i < length xs → n ≡ get_or xs i n → slice_get xs i ≡ Some n
 read_at xs i n h e = let x = get_some xs i h in x.1 ∙ ap Some (sym (e ∙ get_or_from_slice_get xs i x.0 n x.1))
 
-pub place_within : (which len k : ℕ) → len ≡ k → 0 < k → which % len < k
-place_within which len k e h = omega arith
+pub place_within : (which place k : ℕ) → place ≡ which % k → 0 < k → place < k
+place_within which place k e h = let below = mod_below which k h in omega (arith, e, below)
 
--- a process of which nothing is said is ready
-pub ready_unsaid : (o : Option Wait) → ((w : Wait) → o ≡ Some w → ⊥) → or_ready o ≡ W.Ready
-ready_unsaid None h = refl
-ready_unsaid (Some w) h = absurd (h w refl)
+main_goes : (tasks : Tasks) (number : ℕ) (after : Task) → main_done tasks ≡ false → is_done after.wait ≡ false → main_done (slice_set tasks number (Some after)) ≡ false
+main_goes [] number after e h = refl
+main_goes (t ∷ ts) zero after e h = h
+main_goes (t ∷ ts) (suc n) after e h = e
 
 -- ---- the network stands where a replay can go on
 
@@ -160,6 +162,16 @@ module _ (p : Program) (kb : List ℕ) (n : Tables) (s : Standing p kb n) where
 
   pub some_ready : 0 < length n.ready.items
   some_ready = some_long n.ready.items open_now.some
+
+  -- where one task is changed, and isn't done
+  pub still_open : (new : Tables) (number : ℕ) (after : Task) → new.tasks.items ≡ slice_set n.tasks.items number (Some after) → is_done after.wait ≡ false → new.ready ≡ n.ready → new.fault ≡ n.fault → GoesOn p new
+  still_open new number after tasks undone ready fault = λ keyboard net h.
+      let noted : first_noted net.noted ≡ first_noted s.net.noted = sym h.sound.fault_is ∙ fault ∙ s.holds.sound.fault_is in
+      let before : main_done s.net.tasks ≡ false = (is_open p.errors (first_noted s.net.noted) (main_done s.net.tasks) (ready_from 0 s.net.tasks) s.open_end).going in
+      let main : main_done net.tasks ≡ main_done s.net.tasks = ap main_done (h.tasks ∙ tasks ∙ ap (λ l. slice_set l number (Some after)) (sym s.holds.tasks)) ∙ main_goes s.net.tasks number after before undone ∙ sym before in
+      let may : ready_from 0 net.tasks ≡ ready_from 0 s.net.tasks = ap (ready_from 0) h.tasks ∙ sym h.sound.ready_is ∙ ap (λ r. r.items) ready ∙ s.holds.sound.ready_is ∙ ap (ready_from 0) (sym s.holds.tasks) in
+      ap (λ f. ending_by p.errors f (main_done net.tasks) (ready_from 0 net.tasks)) noted ∙ ap (λ m. ending_by p.errors (first_noted s.net.noted) m (ready_from 0 net.tasks)) main
+      ∙ ap (ending_by p.errors (first_noted s.net.noted) (main_done s.net.tasks)) may ∙ s.open_end
 
   pub record Chosen (number : ℕ) : Type 0 where
     pub task : Task

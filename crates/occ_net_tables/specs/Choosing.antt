@@ -1,4 +1,5 @@
 -- Where offers stand, which arm is taken, and how a process takes a message.
+-- Manual: nothing; this is (own).
 use Rattle.std.specs.Prelude.{Bool, List, None, Option, Some, [], false, if◌then◌else◌, length, nat_eq, nat_lt, slice_get, true, ℕ, ◌||◌, ◌≡◌}
 use Rattle.occ_code.specs.declared.task.Arm.{Arm}
 use Rattle.occ_code.specs.declared.task.Wait.{Wait}

@@ -1,4 +1,5 @@
 -- The network of the code holds a state of the replay.
+-- Manual: nothing; this is (own).
 use Rattle.std.specs.Prelude.{Bool, IsTrue, List, Option, Some, [], drop, false, if◌then◌else◌, length, map, slice_get, ℕ, ⊤, ◌+◌, ◌∷◌, ◌≡◌}
 use Rattle.std.specs.Option.{option_map_or}
 use Rattle.occ_term.specs.declared.fault.Fault.{Fault}

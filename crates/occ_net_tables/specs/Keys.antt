@@ -1,4 +1,5 @@
 -- Tables of process numbers, and of counts.
+-- Manual: nothing; this is (own).
 use Rattle.std.specs.Prelude.{List, None, Option, Some, [], slice_get, slice_set, ℕ, ◌+◌, ◌∷◌, ◌≡◌}
 
 abbrev pub flat : Option (Option ℕ) → Option ℕ

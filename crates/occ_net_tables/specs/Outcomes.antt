@@ -1,4 +1,5 @@
 -- What a run of a plan comes to.
+-- Manual: nothing; this is (own).
 use Rattle.std.specs.Prelude.{List, None, map, ℕ, ◌++◌, ◌≡◌}
 use Rattle.occ_code.specs.Sequential.Compiled.{Program}
 use Rattle.occ_net_replay.specs.declared.choice.Choice.{Choice}

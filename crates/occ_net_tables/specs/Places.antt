@@ -1,4 +1,5 @@
 -- Choices by the places that they select.
+-- Manual: nothing; this is (own).
 use Rattle.std.specs.Prelude.{List, None, [], length, ℕ, ◌%◌, ◌++◌, ◌∷◌, ◌≡◌}
 use Rattle.occ_code.specs.Sequential.Compiled.{Program}
 use Rattle.occ_net_replay.specs.declared.choice.Choice.{Choice}

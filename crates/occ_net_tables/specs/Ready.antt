@@ -1,4 +1,5 @@
 -- Rising lists of numbers.
+-- Manual: nothing; this is (own).
 use Rattle.std.specs.Prelude.{List, [], if◌then◌else◌, nat_lt, ℕ, ◌∷◌}
 
 -- before the first number that isn't smaller

@@ -1,4 +1,5 @@
 -- Room for what a turn makes possible, and what stays where a growth is refused.
+-- Manual: nothing; this is (own).
 use Rattle.std.specs.Prelude.{List, length, map, slice_get, vec_capacity, vec_len, ℕ, ◌+◌, ◌≡◌, ◌≤◌}
 use Rattle.std.specs.Option.{option_map_or}
 use Rattle.occ_term.specs.Frames.{Variables}

@@ -1,4 +1,5 @@
 -- What tables hold in the middle of a run.
+-- Manual: nothing; this is (own).
 use Rattle.std.specs.Prelude.{List, ℕ, ◌≡◌}
 use Rattle.occ_code.specs.Sequential.Compiled.{Program}
 use Rattle.occ_net_replay.specs.declared.choice.Choice.{Choice}

@@ -1,4 +1,5 @@
 -- What happens when a process has taken a turn.
+-- Manual: nothing; this is (own).
 use Rattle.std.specs.Prelude.{Bool, false, IsTrue, List, None, Option, Some, [], drop, if◌then◌else◌, length, map, nat_eq, slice_get, slice_set, ℕ, ℤ, ◌+◌, ◌<◌, ◌^◌, ◌++◌, ◌∷◌, ◌≡◌}
 use Rattle.occ_term.specs.declared.message.Message.{Message}
 use Rattle.occ_term.specs.Frames.{Variables, is_held}
@@ -83,6 +84,30 @@ pub record SettlesTo (p : Program) (keyboard : List ℕ) (pick number : ℕ) (af
 abbrev pub Settles : Program → List ℕ → ℕ → ℕ → ℕ → Wait → Tables → Tables → Type 0
 Settles p keyboard pick number place wait old new =
     (after : Task) (net : Net) → Mid p keyboard old number place after net → after.wait ≡ wait → SettlesTo p keyboard pick number after net new
+
+-- its task is left as ready, and nothing else is changed
+pub record LeftReady (old : Tables) (number : ℕ) (t : Task) (new : Tables) : Type 0 where
+  pub tasks : new.tasks.items ≡ slice_set old.tasks.items number (Some (made_ready t))
+  pub ready : new.ready ≡ old.ready
+  pub offering : new.offering ≡ old.offering
+  pub awaiting : new.awaiting ≡ old.awaiting
+  pub parents : new.parents ≡ old.parents
+  pub unfinished : new.unfinished ≡ old.unfinished
+  pub fault : new.fault ≡ old.fault
+  pub used : new.used ≡ old.used
+  pub trace : new.trace ≡ old.trace
+
+-- it has taken a turn, and what it stands at is in its task
+pub record HasStopped (p : Program) (n : Tables) (number place : ℕ) : Type 0 where
+  pub task : Task
+  pub there : HasTask n.tasks.items number task
+  pub mid : (between : Tables) → LeftReady n number task between → HasMid p between number place task.wait
+
+-- what its turn made possible happens
+pub record SettlesFrom (p : Program) (keyboard : List ℕ) (pick number place : ℕ) (t : Task) (old new : Tables) : Type 0 where
+  pub between : Tables
+  pub left : LeftReady old number t between
+  pub settles : Settles p keyboard pick number place t.wait between new
 
 -- the end that always takes what is offered on a channel
 abbrev pub reader_of : ℕ → Option End

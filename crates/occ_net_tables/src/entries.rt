@@ -5,6 +5,7 @@ ghost use Rattle.occ_net_tables.specs.Keys.{CountsDown, HasCount, entry_in, set_
 use std::alloc::{AllocError, Global};
 
 /// Who stands at this key.
+#[inline(always)]
 pub(crate) fn entry(table: &[Option<u32>], key: u32) -> Option<u32>
     ensures { result ≡ entry_in table.now key }
 {
@@ -15,6 +16,7 @@ pub(crate) fn entry(table: &[Option<u32>], key: u32) -> Option<u32>
 }
 
 /// Lets somebody stand at this key, or nobody.
+#[inline(always)]
 pub(crate) fn set_entry(table: &mut Vec<Option<u32>>, key: u32, value: Option<u32>)
     ensures { table.new.items ≡ slice_set table.old.items key value }
 {

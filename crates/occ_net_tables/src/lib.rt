@@ -1,5 +1,6 @@
-//! The network of a program's processes: who may take a turn, who waits for whom, and what happens
-//! when one has taken a turn.
+//! The network of a program's processes in code: who may take a turn, who waits for whom, and what happens
+//! when one has taken a turn. [`run`] promises the replay of a plan's choices, with its ending and its
+//! communications.
 #![tactic(auto)]
 
 mod choosing;

@@ -32,6 +32,7 @@ const SCREEN: u32 = 1;
 const ERROR: u32 = 2;
 
 /// The process at this place among the ready ones is one no more, and stands at this.
+#[inline(always)]
 pub(crate) fn rest(
     tasks: &mut Vec<Option<Task>>,
     ready: &mut Vec<u32>,
@@ -50,6 +51,7 @@ pub(crate) fn rest(
 }
 
 /// The end that always takes what is offered on this channel.
+#[inline(always)]
 fn reader(chan: u32) -> Option<End>
     ensures { result ≡ reader_of chan }
 {
@@ -61,6 +63,7 @@ fn reader(chan: u32) -> Option<End>
 }
 
 /// What the keyboard gives on this channel, where so many of its bytes are taken.
+#[inline(always)]
 fn next_byte(chan: u32, keyboard: &[u8], used: usize) -> Option<u8>
     ensures { result ≡ byte_on chan keyboard.now used }
 {
@@ -121,6 +124,7 @@ fn copied_arm(alloc: Global, arms: &[Arm], at: usize) -> Result<Arm, AllocError>
 }
 
 /// The arm by which an input takes its message.
+#[inline(always)]
 fn input_arm(alloc: Global, chan: u32) -> Arm
     ensures { result ≡ input_arm chan }
 {
@@ -132,6 +136,7 @@ fn input_arm(alloc: Global, chan: u32) -> Arm
 }
 
 /// What a process stands at that took this arm, with its message.
+#[inline(always)]
 fn took(arm: Arm, message: Option<Message>) -> Wait
     ensures { result ≡ Wait.Took arm.place arm.indices message }
 {

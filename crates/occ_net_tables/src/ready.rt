@@ -1,5 +1,5 @@
 //! The numbers of the processes that may take a turn, in rising order.
-ghost use Rattle.std.specs.Prelude.{◌≡◌, ◌≤◌, ◌<◌, ◌+◌, insert, length, vec_capacity, vec_len};
+ghost use Rattle.std.specs.Prelude.{◌≡◌, ◌≤◌, ◌<◌, ◌+◌, ◌%◌, insert, length, vec_capacity, vec_len};
 ghost use Rattle.occ_code.specs.Alike.{IsRising};
 ghost use Rattle.occ_net_tables.specs.Ready.{put_in};
 
@@ -33,4 +33,20 @@ fn place_for(ready: &[u32], number: u32) -> usize
         }
     }
     low
+}
+
+/// The place that a choice of `which` selects among so many.
+#[inline(always)]
+pub(crate) fn place_among(which: u32, count: usize) -> usize
+    requires { 0 < count }
+    ensures { result ≡ which % count }
+{
+    let which = which as usize;
+    if which < count {
+        return which;
+    }
+    if count == 1 {
+        return 0;
+    }
+    which % count
 }

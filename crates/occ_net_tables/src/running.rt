@@ -1,9 +1,13 @@
 //! A run of a plan.
-ghost use Rattle.std.specs.Prelude.{◌≡◌, ◌<◌, IfOk, length};
+ghost use Rattle.std.specs.Prelude.{◌≡◌, ◌<◌, IfOk, IsTrue, List, length, ℕ};
+ghost use Rattle.occ_net_replay.specs.Replay.{Net, ending_of};
+ghost use Rattle.occ_net_tables.specs.Endings.{GoesOn};
+ghost use Rattle.occ_net_tables.specs.Holding.{Holds};
 ghost use Rattle.occ_net_tables.specs.Outcomes.{IsOutcome, IsRan};
-ghost use Rattle.occ_net_tables.specs.Places.{kept_by};
+ghost use Rattle.occ_net_tables.specs.Places.{kept_by, placed_among};
 ghost use Rattle.occ_choices.specs.Plans.{choices_of};
 
+use crate::ready::place_among;
 use crate::tables::Tables;
 use occ_choices::Plan;
 use occ_code::Code;
@@ -43,18 +47,39 @@ pub struct Outcome {
     pub trace: Trace,
 }
 
-/// What is kept of a choice among these ready processes.
-fn kept_choice(ready: &[u32], choice: Choice, keep: Keep) -> Choice
+/// The choice of the same process by its place among these ready processes.
+#[inline(always)]
+fn placed_choice(ready: &[u32], choice: Choice) -> Choice
     requires { 0 < length ready.now }
-    ensures { result ≡ kept_by keep ready.now choice }
+    ensures { result ≡ placed_among ready.now choice }
+{
+    Choice {
+        which: place_among(choice.which, ready.len()) as u32,
+        pick: choice.pick,
+    }
+}
+
+/// What is kept of a choice, which selects this place.
+#[inline(always)]
+fn kept_choice(choice: Choice, placed: Choice, keep: Keep) -> Choice
+    ensures { (ready : List ℕ) → placed ≡ placed_among ready choice → result ≡ kept_by keep ready choice }
 {
     match keep {
         Keep::Given => choice,
-        Keep::Places => Choice {
-            which: (choice.which as usize % ready.len()) as u32,
-            pick: choice.pick,
-        },
+        Keep::Places => placed,
     }
+}
+
+/// How the run has ended, if it has. Where it is known to go on, nothing is looked at.
+#[inline(always)]
+fn ending_now(tables: &Tables, code: &Code, going: bool) -> Option<Ending>
+    requires { IsTrue going → GoesOn code.now tables.now }
+    ensures { (keyboard : List ℕ) (net : Net) → Holds code.now keyboard tables.now net → result ≡ ending_of code.now.errors net }
+{
+    if going {
+        return None;
+    }
+    tables.ending(code.errors())
 }
 
 /// Takes a turn for each choice of the plan, until the network ends.
@@ -74,8 +99,9 @@ pub fn run_tables(
     let mut scratch = Scratch::new(alloc);
     let mut tables = Tables::new(alloc, code)?;
     let mut kept = Vec::new(alloc);
+    let mut going = false;
     loop {
-        if let Some(ending) = tables.ending(code.errors()) {
+        if let Some(ending) = ending_now(&tables, code, going) {
             return Ok(Ran {
                 ending,
                 kept,
@@ -90,9 +116,9 @@ pub fn run_tables(
                 tables,
             });
         };
-        let one = kept_choice(tables.ready(), choice, keep);
-        tables.take_turn(alloc, code, &mut scratch, keyboard, choice)?;
-        kept.push(one)?;
+        let placed = placed_choice(tables.ready(), choice);
+        going = tables.take_turn(alloc, code, &mut scratch, keyboard, placed)?;
+        kept.push(kept_choice(choice, placed, keep))?;
     }
 }
 

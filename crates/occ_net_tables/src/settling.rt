@@ -1,15 +1,21 @@
 //! A turn of the network: the chosen process goes on, and what that makes possible happens.
-ghost use Rattle.std.specs.Prelude.{◌≡◌, IfErr, OnOk};
-ghost use Rattle.occ_net_replay.specs.Replay.{Net};
+ghost use Rattle.std.specs.Prelude.{◌≡◌, IfErr, IfOk, IsTrue, List, OnOk, ℕ};
+ghost use Rattle.occ_term.specs.Messages.{message};
+ghost use Rattle.occ_code.specs.Sequential.Compiled.{Program};
+ghost use Rattle.occ_code.specs.declared.task.Task.{Task};
+ghost use Rattle.occ_proc.specs.Turns.{left_message};
+ghost use Rattle.occ_net_replay.specs.Replay.{HasTask, Net};
+ghost use Rattle.occ_net_tables.specs.Endings.{GoesOn};
 ghost use Rattle.occ_net_tables.specs.Holding.{Holds};
 ghost use Rattle.occ_net_tables.specs.Room.{AreSame, HasRoom, more_ready};
-ghost use Rattle.occ_net_tables.specs.Settling.{HasMid, Settles, Standing, TurnsTo};
+ghost use Rattle.occ_net_tables.specs.Settling.{HasMid, HasStopped, Settles, SettlesFrom, Standing, TurnsTo};
 
+use crate::ready::place_among;
 use crate::tables::Tables;
-use crate::tasks::{advance_task, is_ready};
+use crate::tasks::{advance_task, is_ready, take_wait};
 use occ_code::{Code, Wait};
 use occ_net_replay::Choice;
-use occ_proc::Scratch;
+use occ_proc::{Scratch, TurnEnd};
 use std::alloc::{AllocError, Global};
 
 /// How many more processes may be ready after a turn that ended so.
@@ -23,8 +29,8 @@ fn more_ready(wait: &Wait) -> usize
 }
 
 impl Tables {
-    /// The process that the choice selects takes a turn, and what that makes possible happens. After
-    /// a refused growth the network is not to be used.
+    /// The process that the choice selects takes a turn, and what that makes possible happens. It is TRUE only where the
+    /// run hasn't ended by it. After a refused growth the network is not to be used.
     pub fn take_turn(
         &mut self,
         alloc: Global,
@@ -32,33 +38,104 @@ impl Tables {
         scratch: &mut Scratch,
         keyboard: &[u8],
         choice: Choice,
-    ) -> Result<(), AllocError>
+    ) -> Result<bool, AllocError>
         requires { Standing code.now keyboard.now self.old }
-        ensures { OnOk result ((net : Net) → Holds code.now keyboard.now self.old net → TurnsTo code.now keyboard.now choice net self.new) }
+        ensures turn { OnOk result ((net : Net) → Holds code.now keyboard.now self.old net → TurnsTo code.now keyboard.now choice net self.new) }
+        ensures going { IfOk result (λ going. IsTrue going → GoesOn code.now self.new) }
     {
         code.compiled();
-        let place = choice.which as usize % self.ready.len();
+        let place = place_among(choice.which, self.ready.len());
         let number = self.ready[place];
         let Some(body) = code.body(number as usize) else {
             unreachable!()
         };
-        let told = advance_task(alloc, body, scratch, &mut self.tasks, number)?;
-        let Some(wait) = told else {
-            return Ok(());
-        };
-        match self.settle(alloc, code, keyboard, place, number, wait, choice.pick) {
+        match advance_task(alloc, body, scratch, &mut self.tasks, number)? {
+            TurnEnd::Ready => Ok(true),
+            TurnEnd::Offers(tag, chan) => {
+                self.settle_offer(alloc, scratch, place, number, chan, tag, choice.pick)?;
+                Ok(false)
+            }
+            TurnEnd::Awaits(chan) => {
+                self.settle_input(alloc, keyboard, place, number, chan)?;
+                Ok(false)
+            }
+            TurnEnd::Other => {
+                self.settle_wait(alloc, code, keyboard, place, number, choice.pick)?;
+                Ok(false)
+            }
+        }
+    }
+
+    /// What happens at once where a process offers the message that its turn left, with this tag where it has one.
+    #[inline(never)]
+    fn settle_offer(
+        &mut self,
+        alloc: Global,
+        scratch: &mut Scratch,
+        place: usize,
+        number: u32,
+        chan: u32,
+        tag: Option<u32>,
+        pick: u32,
+    ) -> Result<(), AllocError>
+        requires { (p : Program) × HasMid p self.old number place (Wait.Offers chan (message tag (left_message scratch.old))) }
+        ensures { OnOk result ((p : Program) (keyboard : List ℕ) → Settles p keyboard pick number place (Wait.Offers chan (message tag (left_message scratch.old))) self.old self.new) }
+    {
+        self.make_room(1)?;
+        let message = scratch.take_message(tag);
+        match self.offer(alloc, place, number, chan, message, pick) {
             Ok(()) => {}
             Err((_, refused)) => return Err(refused),
         }
         Ok(())
     }
 
-    /// Room for the processes that may be ready after a turn that ended so.
-    fn make_room(&mut self, wait: &Wait) -> Result<(), AllocError>
-        ensures same { AreSame self.old self.new }
-        ensures room { OnOk result (HasRoom self.new (more_ready wait.now)) }
+    /// What happens at once where a process awaits a message after its turn.
+    #[inline(never)]
+    fn settle_input(
+        &mut self,
+        alloc: Global,
+        keyboard: &[u8],
+        place: usize,
+        number: u32,
+        chan: u32,
+    ) -> Result<(), AllocError>
+        requires { (p : Program) × HasMid p self.old number place (Wait.Awaits chan) }
+        ensures { OnOk result ((p : Program) (pick : ℕ) → Settles p keyboard.now pick number place (Wait.Awaits chan) self.old self.new) }
     {
-        self.ready.reserve(more_ready(wait))?;
+        self.make_room(1)?;
+        self.await_on(alloc, keyboard, place, number, chan)?;
+        Ok(())
+    }
+
+    /// What happens at once where a process stands at what is in its task after its turn.
+    #[inline(never)]
+    fn settle_wait(
+        &mut self,
+        alloc: Global,
+        code: &Code,
+        keyboard: &[u8],
+        place: usize,
+        number: u32,
+        pick: u32,
+    ) -> Result<(), AllocError>
+        requires { HasStopped code.now self.old number place }
+        ensures { OnOk result ((t : Task) → HasTask self.old.tasks.items number t → SettlesFrom code.now keyboard.now pick number place t self.old self.new) }
+    {
+        let wait = take_wait(&mut self.tasks, number);
+        match self.settle(alloc, code, keyboard, place, number, wait, pick) {
+            Ok(()) => {}
+            Err((_, refused)) => return Err(refused),
+        }
+        Ok(())
+    }
+
+    /// Room for so many more processes that may be ready.
+    fn make_room(&mut self, more: usize) -> Result<(), AllocError>
+        ensures same { AreSame self.old self.new }
+        ensures room { OnOk result (HasRoom self.new more) }
+    {
+        self.ready.reserve(more)?;
         Ok(())
     }
 
@@ -81,7 +158,7 @@ impl Tables {
         if is_ready(&wait) {
             return Ok(());
         }
-        match self.make_room(&wait) {
+        match self.make_room(more_ready(&wait)) {
             Ok(()) => {}
             Err(refused) => return Err((wait, refused)),
         }

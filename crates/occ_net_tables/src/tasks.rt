@@ -3,38 +3,39 @@ ghost use Rattle.std.specs.Prelude.{◌≡◌, ◌↔◌, ◌+◌, ◌<◌, ◌^
 ghost use Rattle.occ_code.specs.Alike.{ready_with};
 ghost use Rattle.occ_code.specs.declared.task.Task.{Task};
 ghost use Rattle.occ_net_replay.specs.Replay.{HasTask};
-ghost use Rattle.occ_net_tables.specs.Tasks.{Advanced, HasTurn, IsTaken, IsThere, or_ready};
+ghost use Rattle.occ_net_tables.specs.Tasks.{EndedBy, HasTurn, IsTaken, IsThere};
+ghost use Rattle.occ_proc.specs.Turns.{left_message};
 
 use occ_code::{Body, Task, Wait};
-use occ_proc::{Scratch, advance};
+use occ_proc::{Scratch, TurnEnd, advance_to_end};
 use std::alloc::{AllocError, Global};
 use std::mem;
 
-/// The process goes on to its next stop, and is left as ready. What it stands at is handed out, where it isn't ready there.
+/// The process goes on to its next stop. What it stands at there is handed over where it is light, and then it is left as
+/// ready.
+#[inline(always)]
 pub(crate) fn advance_task(
     alloc: Global,
     body: &Body,
     scratch: &mut Scratch,
     tasks: &mut Vec<Option<Task>>,
     number: u32,
-) -> Result<Option<Wait>, AllocError>
+) -> Result<TurnEnd, AllocError>
     requires small { length body.now.code + 1 < 2 ^ 32 }
     requires turn { HasTurn body.now tasks.old.items number }
-    ensures { IfOk result (λ wait. (t : Task) → HasTask tasks.old.items number t → Advanced body.now tasks.old.items number t (or_ready wait) tasks.new.items) }
+    ensures { IfOk result (λ end. (t : Task) → HasTask tasks.old.items number t → EndedBy body.now tasks.old.items number t end (left_message scratch.new) tasks.new.items) }
 {
     match &mut tasks[number as usize] {
         Some(task) => {
-            advance(alloc, body, scratch, task)?;
-            if is_ready(&task.wait) {
-                return Ok(None);
-            }
-            Ok(Some(mem::replace(&mut task.wait, Wait::Ready)))
+            let end = advance_to_end(alloc, body, scratch, task)?;
+            Ok(end)
         }
         None => unreachable!(),
     }
 }
 
 /// Whether a process that stands at this is ready.
+#[inline(always)]
 pub(crate) fn is_ready(wait: &Wait) -> bool
     ensures { IsTrue result ↔ (wait.now ≡ Wait.Ready) }
 {
@@ -45,6 +46,7 @@ pub(crate) fn is_ready(wait: &Wait) -> bool
 }
 
 /// The process stands at this from now on.
+#[inline(always)]
 pub(crate) fn set_wait(tasks: &mut Vec<Option<Task>>, number: u32, wait: Wait)
     requires { IsThere tasks.old.items number }
     ensures { (t : Task) → HasTask tasks.old.items number t → tasks.new.items ≡ slice_set tasks.old.items number (Some (ready_with t wait)) }
@@ -56,6 +58,7 @@ pub(crate) fn set_wait(tasks: &mut Vec<Option<Task>>, number: u32, wait: Wait)
 }
 
 /// What the process stands at is handed out, and it is left as ready.
+#[inline(always)]
 pub(crate) fn take_wait(tasks: &mut Vec<Option<Task>>, number: u32) -> Wait
     requires { IsThere tasks.old.items number }
     ensures { (t : Task) → HasTask tasks.old.items number t → IsTaken tasks.old.items number t result tasks.new.items }

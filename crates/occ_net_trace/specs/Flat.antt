@@ -1,4 +1,5 @@
 -- Communications as a few lists: heads, the shapes of items, the lengths of arrays, and values.
+-- Manual: nothing; this is (own).
 use Rattle.std.specs.Prelude.{List, [], drop, length, pos, take, ℕ, ℤ, ◌++◌, ◌∷◌}
 use Rattle.occ_term.specs.declared.message.Part.{Part}
 use Rattle.occ_term.specs.declared.message.Part.TheVariants.{One, Many, Counted}

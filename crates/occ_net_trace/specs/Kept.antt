@@ -1,4 +1,5 @@
 -- The communications that the lists of a trace keep.
+-- Manual: nothing; this is (own).
 use Rattle.std.specs.Prelude.{List, map, ◌≡◌}
 use Rattle.occ_net_trace.specs.declared.communication.Communication.{Communication}
 use Rattle.occ_net_trace.specs.declared.lists.Lists.{Lists}

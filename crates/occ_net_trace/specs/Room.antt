@@ -1,4 +1,5 @@
 -- Room in the lists of a trace, and what is put into them.
+-- Manual: nothing; this is (own).
 use Rattle.std.specs.Prelude.{List, [], length, vec_capacity, vec_len, ◌+◌, ◌<◌, ◌≡◌, ◌≤◌, ◌++◌, ◌∷◌}
 use Rattle.occ_term.specs.declared.message.Part.{Part}
 use Rattle.occ_net_trace.specs.declared.lists.Lists.{Lists}

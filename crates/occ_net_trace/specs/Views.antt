@@ -1,4 +1,5 @@
 -- What is read from a trace, and what is put into it.
+-- Manual: nothing; this is (own).
 use Rattle.std.specs.Prelude.{ℕ}
 use Rattle.occ_term.specs.declared.message.Message.{Message}
 use Rattle.occ_term.specs.declared.message.Part.{Part}

@@ -1,4 +1,5 @@
-//! The communications of a run, in a few shared lists: none has a block of memory of its own.
+//! The communications of a run, in a few shared lists: none has a block of memory of its own. A [`Trace`]
+//! keeps them in order, and its [`Entries`] give each back as it was put in.
 #![tactic(auto)]
 
 pub mod communication;

@@ -3,4 +3,5 @@ pub mod Stacks
 pub mod Walking
 pub mod Moving
 pub mod Quickly
+pub mod Parted
 mod Opened

@@ -1,10 +1,13 @@
-//! The turn of a process: its instructions, from one stop to the next.
+//! The turn of a process: its instructions, from one stop to the next. [`turn`] answers the task after it,
+//! as the machine of `occ_code` has it, and [`advance`] takes it in place.
 #![tactic(auto)]
 
 mod arms;
 mod choices;
 mod common;
 mod counting;
+mod entries;
+mod jumps;
 mod operands;
 mod operators;
 mod parts;
@@ -16,10 +19,12 @@ mod spots;
 mod stack;
 mod step;
 mod stores;
+pub mod turn_end;
 mod turns;
 mod values;
 mod went;
 
 pub use scratch::Scratch;
 pub use segment::{Segment, turn};
-pub use turns::advance;
+pub use turn_end::TurnEnd;
+pub use turns::{advance, advance_to_end};

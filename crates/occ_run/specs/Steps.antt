@@ -1,4 +1,5 @@
 -- What a worker's steps under the lock do.
+-- Manual: nothing; this is (own).
 use Rattle.std.specs.Prelude.{IsSome, None, Option, Some, false, if◌then◌else◌, is_some, length, min, ℕ, ◌+◌, ◌-◌, ◌<◌, ◌^◌, ◌≤◌, ◌≡◌, ◌⊎◌}
 use Rattle.occ_proc.specs.Turns.{Taken}
 use Rattle.occ_net_replay.specs.Replay.{Net, ending_of}

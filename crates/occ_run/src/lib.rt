@@ -1,4 +1,5 @@
-//! A network run by several threads: one lock round it, and the turns outside the lock.
+//! A network run by several threads: one lock round it, and the turns outside the lock. [`run_workers`]
+//! promises that its outcome is the replay of the choices that it answers, whatever the threads did.
 #![tactic(auto)]
 
 pub mod fault;

@@ -1,4 +1,5 @@
 -- The bytes of an answer.
+-- Manual: nothing; this is (own).
 use Rattle.std.specs.Prelude.{Bool, IsTrue, List, None, Option, Some, [], codes, false, if◌then◌else◌, int_le, length, map, not, pos, slice_get, true, ℕ, ℤ, ⊤, ◌≡◌, ◌&&◌, ◌++◌, ◌-◌, ◌==◌, ◌∷◌}
 use Rattle.std.specs.Option.{option_map_or}
 use Rattle.std.specs.Fmt.{decimal, signed_decimal}

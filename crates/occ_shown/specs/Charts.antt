@@ -1,4 +1,5 @@
 -- The sequence chart of a trace, in SVG: a column for each end, and from top to bottom an arrow for each communication.
+-- Manual: nothing; this is (own).
 use Rattle.std.specs.Prelude.{Bool, List, [], codes, false, if◌then◌else◌, length, nat_eq, nat_lt, take, true, ℕ, ◌++◌, ◌+◌, ◌-◌, ◌*◌, ◌∷◌}
 use Rattle.std.specs.Fmt.{decimal}
 use Rattle.occ_term.specs.System.{End, OfProcess, Keyboard, Screen, Error}

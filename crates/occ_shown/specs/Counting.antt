@@ -1,4 +1,5 @@
 -- What a counting writer shows.
+-- Manual: nothing; this is (own).
 use Rattle.std.specs.Prelude.{ℕ}
 use Rattle.occ_shown.specs.declared.counted.Counted.{Counted}
 

@@ -1,4 +1,5 @@
 -- Elements of XML that hold text alone, and how they are written.
+-- Manual: nothing; this is (own).
 use Rattle.std.specs.Prelude.{List, [], codes, if◌then◌else◌, nat_lt, ℕ, ◌&&◌, ◌++◌, ◌==◌, ◌∷◌}
 
 -- what marks XML is written by its name, and what is no printed ASCII as a question mark

@@ -1,5 +1,6 @@
-//! What a run shows, in bytes: those of the screen and of the error channel, the trace's lines, the line of the ending,
-//! and a picture of the trace; and how they are written.
+//! What a run shows, in bytes: [`answer`] has those of the screen and of the error channel, the trace's
+//! lines and the line of the ending, [`chart`] a picture of the trace, and [`write_answer`] writes them and
+//! counts refused writes.
 #![tactic(auto)]
 
 mod charting;
