@@ -21,13 +21,15 @@ ghost use Rattle.occ_check_names.specs.declared.fault.CheckFault.TheVariants.{Me
 
 use crate::frames::Frames;
 use crate::unfolder::{Call, Unfolder};
-use occ_check_acting::call::{bound, formals_of};
+use occ_check_acting::call::bound;
+use occ_check_acting::formals::formals_of;
 use occ_check_names::fault::{CheckFault, unknown};
 use occ_check_names::numbers::Numbers;
 use occ_check_names::scope::{Binding, Found, Position, Procedure, Scope};
 use occ_check_typing::declaration::{
-    Indexed, Named, Opened, index_replicator, names_declared, protocol_declared, value_declared,
+    Named, Opened, names_declared, protocol_declared, value_declared,
 };
+use occ_check_typing::replicator::{Indexed, index_replicator};
 use occ_held::Held;
 use occ_term::{Declaration, Replicator, Term};
 use occ_tree_grammar::tree::expr::Expr;

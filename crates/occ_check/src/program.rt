@@ -19,7 +19,7 @@ ghost use Rattle.occ_check_names.specs.View.{Gives, Unfolds, known_of, numbers_o
 use crate::entering::headed;
 use crate::frames::Frames;
 use crate::unfolder::Unfolder;
-use occ_check_acting::call::spec_after;
+use occ_check_acting::formals::spec_after;
 use occ_check_names::fault::CheckFault;
 use occ_check_names::known::{Carried, Known};
 use occ_check_names::numbers::Numbers;

@@ -23,7 +23,7 @@ use Rattle.occ_check_acting.specs.CallView.{formal_of, formals_of, listed_formal
 use Rattle.occ_check_names.specs.declared.fault.CheckFault.{CheckFault}
 use Rattle.occ_check_names.specs.declared.numbers.Numbers.{Numbers}
 use Rattle.occ_check_typing.specs.declared.declaration.Opened.{Opened}
-use Rattle.occ_check_acting.specs.declared.call.WantedFormal.{WantedFormal}
+use Rattle.occ_check_acting.specs.declared.formals.WantedFormal.{WantedFormal}
 use Rattle.occ_check_typing.proofs.Refusals.{refused_with}
 use Rattle.occ_check_typing.proofs.Declaring.{after_these, joined, nothing_after, these_and_those}
 

@@ -17,7 +17,7 @@ use Rattle.occ_check_acting.specs.CallView.{given_of}
 use Rattle.occ_check_names.specs.declared.fault.CheckFault.{CheckFault}
 use Rattle.occ_check_names.specs.declared.known.Evaluated.{Evaluated}
 use Rattle.occ_check_names.specs.declared.numbers.Numbers.{Numbers}
-use Rattle.occ_check_acting.specs.declared.call.Given.{Given}
+use Rattle.occ_check_acting.specs.declared.given.Given.{Given}
 use Rattle.occ_check_typing.proofs.Refusals.{refused_with}
 
 pub head_and_rest : {X : Type 0} (xs : List X) (x : X) (rest : List X) → slice_get xs 0 ≡ Some x → rest ≡ remove xs 0 → xs ≡ x ∷ rest

@@ -1,11 +1,6 @@
 pub mod Evaluating
-pub mod Among
 pub mod Choosing
 pub mod Binding
 pub mod Storing
 pub mod Receiving
-pub mod ReadCells
 pub mod Assigning
-pub mod Fixing
-pub mod Others
-pub mod Tagging

@@ -11,7 +11,8 @@ use Rattle.occ_term.specs.Terms.{Subscripts}
 use Rattle.occ_check_meaning.specs.Scope.{Names, Row, each_of, keep}
 use Rattle.occ_check_meaning.specs.Expressions.{place_of}
 use Rattle.occ_check_meaning.specs.Items.{Aim, aim, aim_of, apart, clash, clashes_with_one, counted_aim, rows_of, some_clash, stored, target_of, targets_of}
-use Rattle.occ_check_acting.specs.ActionView.{rows_at, stored_one}
+use Rattle.occ_check_acting.specs.ActionView.{stored_one}
+use Rattle.occ_check_clashes.specs.Clashing.{rows_at}
 use Rattle.occ_check_typing.specs.Zipped.{zipped}
 use Rattle.occ_check_names.specs.View.{Refuses}
 use Rattle.occ_check_names.specs.declared.fault.CheckFault.{CheckFault}

@@ -54,12 +54,3 @@ abbrev pub takes : PartType → Primitive → List ℕ → Bool
 takes (OneOf type) t sizes = is_same_type t type && are_same_sizes sizes []
 takes (ManyOf ns type) t sizes = is_same_type t type && are_same_sizes sizes ns
 takes (CountedOf count type) t sizes = false
-
--- the row that a place is of, without the sizes that are left
-abbrev pub row_at : T.Place → Row
-row_at (T.place line first sizes subs) = record { first = first; sizes = sizes; subscripts = subs; left = [] }
-
-abbrev pub rows_at : List T.Target → List Row
-rows_at [] = []
-rows_at (T.Into p ∷ ts) = row_at p ∷ rows_at ts
-rows_at (T.IntoCounted line n a ∷ ts) = row_at n ∷ row_at a ∷ rows_at ts

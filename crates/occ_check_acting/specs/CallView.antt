@@ -17,10 +17,10 @@ use Rattle.occ_term.specs.Terms as T
 use Rattle.occ_check_names.specs.View.{Refuses, carried_of, evaluated_of, numbers_of}
 use Rattle.occ_check_names.specs.declared.fault.CheckFault.{CheckFault}
 use Rattle.occ_check_names.specs.declared.numbers.Numbers.{Numbers}
-use Rattle.occ_check_acting.specs.declared.call.Wanted.{Wanted}
-use Rattle.occ_check_acting.specs.declared.call.Wanted.TheVariants as wanteds
-use Rattle.occ_check_acting.specs.declared.call.WantedFormal.{WantedFormal}
-use Rattle.occ_check_acting.specs.declared.call.Given.{Given}
+use Rattle.occ_check_acting.specs.declared.formals.Wanted.{Wanted}
+use Rattle.occ_check_acting.specs.declared.formals.Wanted.TheVariants as wanteds
+use Rattle.occ_check_acting.specs.declared.formals.WantedFormal.{WantedFormal}
+use Rattle.occ_check_acting.specs.declared.given.Given.{Given}
 
 abbrev pub wanted_of : Wanted → C.Wanted
 wanted_of (wanteds.Value sizes type) = C.wants_value sizes type

@@ -1,4 +1,2 @@
 pub mod ActionView
 pub mod CallView
-pub mod Clashing
-pub mod TagView

@@ -3,13 +3,14 @@
 ghost use Rattle.std.specs.Prelude.{◌≡◌, ◌∷◌, [], map};
 ghost use Rattle.occ_tree_grammar.specs.Lines.Views as lines;
 ghost use Rattle.occ_term.specs.View as terms;
-ghost use Rattle.occ_check_acting.specs.ActionView.{rows_at, stored_one, takes};
+ghost use Rattle.occ_check_acting.specs.ActionView.{stored_one, takes};
+ghost use Rattle.occ_check_clashes.specs.Clashing.{rows_at};
 ghost use Rattle.occ_check_typing.specs.Zipped.{zipped};
 ghost use Rattle.occ_check_meaning.specs.Expressions as expressions;
 ghost use Rattle.occ_check_meaning.specs.Items as meant;
 ghost use Rattle.occ_check_names.specs.View.{Gives, names_in, part_of};
 
-use crate::clash::some_clash;
+use occ_check_clashes::clash::some_clash;
 use occ_check_names::fault::CheckFault;
 use occ_check_names::operators::is_same_type;
 use occ_check_names::scope::Scope;

@@ -1,4 +1,5 @@
 -- Small programs with a call, a constant or a loop, and what they unfold to.
+-- Manual: procedures; the programs are (own).
 use Rattle.std.specs.Prelude.{List, None, [], codes, false, pos, true, ◌∷◌}
 use Rattle.occ_tree_grammar.specs.declared.tree.expr.Primitive.TheVariants as p
 use Rattle.occ_tree_grammar.specs.declared.tree.expr.Dyadic.TheVariants as d

@@ -1,4 +1,5 @@
 -- Small programs as trees, and what they unfold to.
+-- Manual: scope; the programs are (own).
 use Rattle.std.specs.Prelude.{List, None, Option, Some, [], codes, false, map, option_map, pos, true, ℕ, ℤ, ◌∷◌}
 use Rattle.occ_text.specs.Words.{number}
 use Rattle.occ_tree_grammar.specs.declared.tree.expr.Primitive.TheVariants as p

@@ -1,7 +1,6 @@
-//! What the tree of a text unfolds to: names, types, protocols, calls and replicators.
-//!
-//! The definitions stand in specs/, as a relation and as a function; the laws say that the two
-//! agree, and [`rows`] has small programs with what they unfold to.
+//! What the tree of a text unfolds to: names, types, protocols, calls and replicators. The definitions
+//! stand in specs/, as a relation and as a function; [`laws`] says that the two agree, and [`rows`] has
+//! small programs with what they unfold to.
 #![tactic(auto)]
 
 pub mod laws;

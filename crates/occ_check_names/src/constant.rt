@@ -1,12 +1,11 @@
 //! Constants: their values while a tree is unfolded.
 
 ghost use Rattle.std.specs.Prelude.{◌≡◌, Some};
-ghost use Rattle.occ_term.specs.Messages.{is_of};
 ghost use Rattle.occ_term.specs.View.{expression_of};
 ghost use Rattle.occ_check_meaning.specs.Constants.{constant, is_within};
 
 use occ_constants::{is_constant, value_of_constant};
-use occ_term::{Primitive, TermExpr};
+use occ_term::TermExpr;
 
 /// The value of a constant that does not fault; none of any other expression.
 pub fn constant_of(e: &TermExpr) -> Option<i64>
@@ -18,17 +17,6 @@ pub fn constant_of(e: &TermExpr) -> Option<i64>
     match value_of_constant(e) {
         Ok(value) => Some(value),
         Err(_) => None,
-    }
-}
-
-/// Whether a value is one of the type.
-pub fn has_type(primitive: Primitive, value: i64) -> bool
-    ensures { result ≡ is_of primitive value }
-{
-    match primitive {
-        Primitive::Bool => 0 <= value && value <= 1,
-        Primitive::Byte => 0 <= value && value <= 255,
-        Primitive::Int => -2147483648 <= value && value <= 2147483647,
     }
 }
 

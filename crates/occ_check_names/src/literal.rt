@@ -5,10 +5,10 @@ ghost use Rattle.occ_tree_grammar.specs.Expressions.Trees as trees;
 ghost use Rattle.occ_check_meaning.specs.Expressions as meant;
 ghost use Rattle.occ_check_names.specs.View.{Gives, typed_of};
 
-use crate::constant::has_type;
 use crate::fault::CheckFault;
 use crate::operators::primitive_of;
 use crate::typed::Typed;
+use occ_term::operator::is_of;
 use occ_term::{Array, Primitive, Sizes, TermExpr, Text};
 use occ_tree_grammar::tree::expr::{Literal, Primitive as PrimitiveTree};
 use std::alloc::{AllocError, Global};
@@ -56,7 +56,7 @@ pub fn typed_literal(
 pub fn constant_typed(line: u32, primitive: Primitive, value: i64) -> Result<Typed, CheckFault>
     ensures { Gives typed_of result (meant.constant_of primitive value) }
 {
-    if has_type(primitive, value) {
+    if is_of(primitive, value) {
         Ok(Typed::Single(primitive, TermExpr::Constant(value)))
     } else {
         Err(CheckFault::WrongType { line })

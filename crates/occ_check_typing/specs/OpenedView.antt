@@ -9,7 +9,7 @@ use Rattle.occ_check_names.specs.declared.fault.CheckFault.{CheckFault}
 use Rattle.occ_check_names.specs.declared.numbers.Numbers.{Numbers}
 use Rattle.occ_check_typing.specs.declared.declaration.Named.{Named}
 use Rattle.occ_check_typing.specs.declared.declaration.Opened.{Opened}
-use Rattle.occ_check_typing.specs.declared.declaration.Indexed.{Indexed}
+use Rattle.occ_check_typing.specs.declared.replicator.Indexed.{Indexed}
 
 -- a name and what it stands for
 abbrev pub pair_of : Named → Name × Known

@@ -5,28 +5,28 @@ ghost use Rattle.occ_tree_grammar.specs.Expressions.Trees as trees;
 ghost use Rattle.occ_tree_grammar.specs.Lines.Views as lines;
 ghost use Rattle.occ_tree_grammar.specs.Processes.Views as processes;
 ghost use Rattle.occ_term.specs.View.{expression_of, item_of};
-ghost use Rattle.occ_check_meaning.specs.Constants.{a_count, constant};
+ghost use Rattle.occ_check_meaning.specs.Constants.{constant};
 ghost use Rattle.occ_check_meaning.specs.Declarations as meant;
 ghost use Rattle.occ_check_meaning.specs.Scope as scopes;
 ghost use Rattle.occ_check_meaning.specs.Types as types;
 ghost use Rattle.occ_check_names.specs.View.{Gives, carried_of, known_of, names_in, numbers_of, row_of, typed_of};
-ghost use Rattle.occ_check_typing.specs.OpenedView.{Indexes, Opens, pair_of, pairs_of};
+ghost use Rattle.occ_check_typing.specs.OpenedView.{Opens, pair_of, pairs_of};
 
-use crate::expression::{constant_as, typed, typed_as};
+use crate::expression::typed;
 use crate::types::{carried_by, open_sizes_of, protocol_of, sizes_of};
 use indexmap::IndexSet;
 use occ_check_names::constant::constant_of;
 use occ_check_names::fault::{CheckFault, twice};
 use occ_check_names::known::{Access, Carried, Known, Row};
-use occ_check_names::measuring::{count_declaration, count_replicator};
+use occ_check_names::measuring::count_declaration;
 use occ_check_names::numbers::{Numbers, components};
 use occ_check_names::operators::{is_same_type, primitive_of};
 use occ_check_names::scope::Scope;
 use occ_check_names::typed::Typed;
 use occ_held::Held;
-use occ_term::{Array, Declaration, Item, Primitive, Replicator, Sizes, TermExpr};
+use occ_term::{Array, Declaration, Item, Primitive, Sizes, TermExpr};
 use occ_tree_grammar::tree::expr::Expr;
-use occ_tree_grammar::tree::line::{OneOrMore, Replicator as ReplicatorTree, Sort, ValueType};
+use occ_tree_grammar::tree::line::{OneOrMore, Sort, ValueType};
 use occ_tree_grammar::tree::process::Protocol as ProtocolTree;
 use sqlite_items::Items;
 use std::alloc::{AllocError, Global};
@@ -47,15 +47,6 @@ pub struct Opened {
     pub names: Vec<Named>,
     /// The Clears and Locals, in order.
     pub heads: Items<Declaration>,
-}
-
-/// A replicator with its index.
-#[derive(Drop)]
-pub struct Indexed {
-    /// The replicator.
-    pub replicator: Replicator,
-    /// The index, and its cell.
-    pub name: Named,
 }
 
 impl Named {
@@ -504,76 +495,4 @@ fn protocol_name(protocol: &ProtocolTree) -> &[u8]
         ProtocolTree::Parts(_, name, _) => name,
         ProtocolTree::Tags(_, name, _, _, _) => name,
     }
-}
-
-// ---- replicators
-
-/// A replicator of a SEQ, an IF or an ALT, with its index. It stands at this depth.
-///
-/// # Errors
-///
-/// As `typed_as` of an INT, `TooLarge` for too many cells or nodes, and `Memory`.
-pub fn index_replicator(
-    numbers: &mut Numbers,
-    alloc: Global,
-    scope: Scope<'_, '_>,
-    line: u32,
-    depth: u32,
-    replicator: &ReplicatorTree,
-) -> Result<Indexed, CheckFault>
-    ensures { Indexes result numbers.new (meant.indexed (names_in scope.entry) line depth (lines.replicator_of replicator.now) (numbers_of numbers.old)) }
-{
-    let base = Held::new(typed_as(alloc, scope, line, Primitive::Int, &replicator.base)?);
-    let count = Held::new(typed_as(alloc, scope, line, Primitive::Int, &replicator.count)?);
-    let index = numbers.more_cells(alloc, Primitive::Int, &replicator.name, &[])?;
-    let over = Held::new(Replicator {
-        line,
-        index,
-        base: base.into_inner(),
-        count: count.into_inner(),
-    });
-    count_replicator(numbers, depth, &over.value)?;
-    let row = row_from(alloc, index, &Sizes::none(alloc))?;
-    let known = Known::Cells(Access::Kept, Primitive::Int, row);
-    let name = Named::new(alloc, &replicator.name, known)?;
-    Ok(Indexed {
-        replicator: over.into_inner(),
-        name,
-    })
-}
-
-/// The base of a replicated PAR, and how many copies it has.
-///
-/// # Errors
-///
-/// As `constant_as` of an INT, and `BadCount` for a negative count or an index that is no INT.
-pub fn copies_of(
-    alloc: Global,
-    scope: Scope<'_, '_>,
-    line: u32,
-    replicator: &ReplicatorTree,
-) -> Result<(i64, u64), CheckFault>
-    ensures { Gives (λ x. x) result (meant.copies_of (names_in scope.entry) line (lines.replicator_of replicator.now)) }
-{
-    let base = constant_as(alloc, scope, line, Primitive::Int, &replicator.base)?;
-    let count = constant_as(alloc, scope, line, Primitive::Int, &replicator.count)?;
-    let copies = count_of(line, base, count)?;
-    Ok((base, copies))
-}
-
-fn count_of(line: u32, base: i64, count: i64) -> Result<u64, CheckFault>
-    ensures { Gives (λ n. n) result (a_count base count) }
-{
-    if 0 <= count && count <= 2147483648_i64.saturating_sub(base) {
-        Ok(count as u64)
-    } else {
-        Err(CheckFault::BadCount { line })
-    }
-}
-
-/// The index of a copy, which is a constant there.
-pub fn index_of(alloc: Global, replicator: &ReplicatorTree, i: i64) -> Result<Named, AllocError>
-    ensures { IfOk result (λ x. pair_of x ∷ [] ≡ meant.index_of (lines.replicator_of replicator.now) i) }
-{
-    Named::new(alloc, &replicator.name, Known::Value(Primitive::Int, i))
 }

@@ -12,7 +12,7 @@ ghost use Rattle.occ_check_names.specs.View.{Gives, known_of, names_in, typed_of
 
 pub use crate::reading::under;
 use crate::reading::{read, size_of_known};
-use occ_check_names::constant::{constant_of, has_type};
+use occ_check_names::constant::constant_of;
 use occ_check_names::fault::{CheckFault, unknown};
 use occ_check_names::known::Known;
 use occ_check_names::literal::{constant_typed, string_size, typed_literal};
@@ -23,6 +23,7 @@ use occ_check_names::scope::{Found, Scope};
 use occ_check_names::typed::Typed;
 use occ_held::Held;
 use occ_held::parts::{Listed, Nested};
+use occ_term::operator::is_of;
 use occ_term::{Monadic, Operator, Primitive, TermExpr};
 use occ_tree_grammar::tree::expr::{Expr, Literal, Logic, Monadic as Sign, Operand};
 use std::alloc::{AllocError, Global};
@@ -337,7 +338,7 @@ fn within_type(line: u32, primitive: Primitive, value: i64) -> Result<i64, Check
     ensures value { Gives (λ v. v) result (keep (is_of primitive value) value) }
     ensures range { IfOk result (λ v. IsTrue (is_of primitive v)) }
 {
-    if has_type(primitive, value) {
+    if is_of(primitive, value) {
         Ok(value)
     } else {
         Err(CheckFault::WrongType { line })

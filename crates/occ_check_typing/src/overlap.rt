@@ -130,7 +130,7 @@ fn meets_one(span: Span, others: &[Span]) -> bool
 }
 
 /// Whether two rows share a cell, where both have some.
-pub fn meets(a: Span, b: Span) -> bool
+fn meets(a: Span, b: Span) -> bool
     ensures { result ≡ have_common (span_of a) (span_of b) }
 {
     begins_in(a, b) && begins_in(b, a)

@@ -1,4 +1,5 @@
 -- The choices of a plan.
+-- Manual: nothing; this is (own).
 use Rattle.std.specs.Prelude.{List, [], suc, zero, ℕ, ◌+◌, ◌∷◌}
 use Rattle.occ_net_replay.specs.declared.choice.Choice.{Choice}
 use Rattle.occ_choices.specs.declared.plan.Plan.{Plan}

@@ -1,4 +1,5 @@
 -- How the lines of a file of choices are read. No contract of a public call cites this.
+-- Manual: nothing; the format is (own).
 use Rattle.std.specs.Prelude.{Bool, IsTrue, List, None, Option, Some, [], drop, false, if◌then◌else◌, length, nat_eq, nat_le, nat_lt, slice_get, suc, take, true, zero, ℕ, ⊤, ◌&&◌, ◌++◌, ◌+◌, ◌<◌, ◌^◌, ◌∷◌, ◌≡◌}
 use Rattle.std.specs.Str.Parse.{digits_value}
 use Rattle.occ_net_replay.specs.declared.choice.Choice.{Choice}

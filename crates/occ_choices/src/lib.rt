@@ -1,4 +1,5 @@
-//! The choices of a run: plans of them, and files of them, by which a run is played again.
+//! The choices of a run: a [`Plan`] of them, and files of them, by which a run is played again.
+//! [`read_choices`] reads back just what [`choices_text`] writes, and names the line of anything else.
 #![tactic(auto)]
 
 pub mod fault;

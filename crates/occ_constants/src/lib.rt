@@ -1,6 +1,6 @@
 //! The values of constants: expressions without a cell, a component and a letter of a string.
-//!
-//! The operands may be any numbers, also those that are no INT, as the definitions in [`occ_term`] have it.
+//! [`value_of_constant`] answers what the definitions in [`occ_term`] have, also where an operand is a
+//! number that is no INT, and [`is_constant`] says of which expressions.
 #![tactic(auto)]
 
 mod constant;

@@ -1,4 +1,5 @@
 -- A run that is played again by the same choices, or by those that it used, has the same answer.
+-- Manual: nothing; this is (own).
 use Rattle.std.specs.Prelude.{Bool, List, length, ℕ, ◌<◌, ◌^◌, ◌≡◌}
 use Rattle.occ_net_replay.specs.declared.choice.Choice.{Choice}
 use Rattle.occ_net_replay.specs.Following.{AreBytes}

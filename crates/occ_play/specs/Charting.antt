@@ -1,4 +1,5 @@
 -- What `chart` promises: the sequence chart of a run that an answer shows.
+-- Manual: nothing; this is (own).
 use Rattle.std.specs.Prelude.{List, true, ℕ, ◌≡◌}
 use Rattle.occ_net_replay.specs.declared.choice.Choice.{Choice}
 use Rattle.occ_play.specs.declared.playing.Options.{Options}

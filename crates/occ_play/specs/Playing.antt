@@ -1,4 +1,5 @@
 -- What `play` promises: the answer of an accepted program is shown by a run of its source, with that run's ending.
+-- Manual: nothing; this is (own).
 use Rattle.std.specs.Prelude.{Bool, List, [], Option, length, map, take, ℕ, ⊤, ◌*◌, ◌<◌, ◌≡◌}
 use Rattle.std.specs.Io.KnownBytes.{Appends}
 use Rattle.occ_text.specs.Words.{Row}

@@ -1,4 +1,5 @@
 -- The exit status of a program that played so.
+-- Manual: nothing; this is (own).
 use Rattle.std.specs.Prelude.{ℕ, Result, Ok, Err}
 use Rattle.occ_text.specs.declared.fault.TextFault.TheVariants as text
 use Rattle.occ_tree_grammar.specs.declared.fault.ParseFault.TheVariants as tree

@@ -1,4 +1,5 @@
 -- What `play_workers` promises: the answer of `play` for the choices that it answers.
+-- Manual: nothing; this is (own).
 use Rattle.std.specs.Prelude.{Bool, List, length, ℕ, ◌<◌, ◌≤◌, ◌≡◌, ◌⊎◌}
 use Rattle.occ_net_replay.specs.declared.ending.Ending.TheVariants as E
 use Rattle.occ_run.specs.declared.fault.RunFault.TheVariants as run

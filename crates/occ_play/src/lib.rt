@@ -1,4 +1,7 @@
-//! Plays occam programs: from a source text and the keyboard's bytes to the answer's bytes.
+//! Plays occam programs: from a source text and the keyboard's bytes to the answer's bytes. [`play_in`]
+//! and [`play_workers_in`] promise that the answer of an accepted program is shown by a run of its source
+//! under the rules of the language, with that run's ending, and that a text is refused only where the
+//! definitions refuse it.
 #![tactic(auto)]
 
 pub mod fault;

@@ -1,4 +1,5 @@
 -- Which choices the words of the command line ask for.
+-- Manual: nothing; this is (own).
 use Rattle.std.specs.Prelude.{List, None, Option, Some, ℕ, ◌≡◌}
 use Rattle.occ_choices.specs.Lines.{ChoiceLines}
 use Rattle.occ_choices.specs.Plans.{choices_of}

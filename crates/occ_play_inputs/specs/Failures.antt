@@ -1,4 +1,5 @@
 -- Exit statuses of a program that played nothing, or could not write what it played.
+-- Manual: nothing; this is (own).
 use Rattle.std.specs.Prelude.{List, ℕ, ◌≡◌, string_bytes}
 use Rattle.occ_choices.specs.declared.fault.ChoiceFault.TheVariants as choice
 use Rattle.occ_play_inputs.specs.declared.failure.Failure.{Failure}

@@ -1,4 +1,5 @@
 -- What the words of the command line say that a fault does.
+-- Manual: invalid processes. The words are (own).
 use Rattle.std.specs.Prelude.{List, Option, Some, codes, ℕ, ◌≡◌}
 use Rattle.occ_term.specs.declared.fault.Errors.{Errors}
 use Rattle.occ_term.specs.declared.fault.Errors.TheVariants.{Halt, Stop}

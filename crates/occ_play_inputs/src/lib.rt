@@ -1,4 +1,5 @@
-//! What the command line asks for: its words, the texts and the choices that they name, and why nothing came of them.
+//! What the command line asks for: [`read_words`] reads its words, [`read_inputs`] the texts and the
+//! choices that they name, and a [`Failure`] says why nothing came of them.
 #![tactic(auto)]
 
 pub mod failure;

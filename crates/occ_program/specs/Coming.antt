@@ -1,4 +1,5 @@
 -- What an exit status says of the source, the keyboard and the choices that were played.
+-- Manual: nothing; this is (own).
 use Rattle.std.specs.Prelude.{List, None, Option, Some, Result, Ok, Err, ℕ, ◌≡◌}
 use Rattle.occ_net_replay.specs.declared.choice.Choice.{Choice}
 use Rattle.occ_play_inputs.specs.declared.failure.Failure.{Failure}

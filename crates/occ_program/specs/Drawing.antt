@@ -1,4 +1,5 @@
 -- What drawing a chart into a file comes to.
+-- Manual: nothing; this is (own).
 use Rattle.std.specs.Prelude.{List, Ok, Err, Option, Result, ℕ, ◌≡◌}
 use Rattle.std.specs.Io.KnownBytes.{Appends}
 use Rattle.occ_net_replay.specs.declared.choice.Choice.{Choice}

@@ -1,4 +1,5 @@
 -- What is printed where the workers gave no answer.
+-- Manual: nothing; this is (own).
 use Rattle.std.specs.Prelude.{List, codes, ℕ}
 use Rattle.occ_run.specs.declared.fault.RunFault.{RunFault}
 use Rattle.occ_run.specs.declared.fault.RunFault.TheVariants.{Foreign, BadWorkers, Spawn, Memory}

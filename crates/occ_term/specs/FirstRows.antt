@@ -1,4 +1,5 @@
 -- The simplest programs, from their start: what so many turns show, and how the run stands then.
+-- Manual: nothing; the programs are (own).
 use Rattle.std.specs.Prelude.{List, None, Some, [], pos, ℕ, ◌∷◌, ◌≡◌}
 use Rattle.occ_term.specs.Messages.{Byte, One, message}
 use Rattle.occ_term.specs.Terms.{Constant, OfOne, Output, Seq, Stop, Term, no_subscripts, no_terms, place, then_term}

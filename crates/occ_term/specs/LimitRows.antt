@@ -1,4 +1,5 @@
 -- Operators and conversions at the limits of their types, and terms that keep the usage rules.
+-- Manual: nothing; this is (own).
 use Rattle.std.specs.Prelude.{pos, true, ℤ, ◌≡◌}
 use Rattle.occ_term.specs.Messages.{Primitive, Boolean, Byte, Int, Arith, Convert, Shift, fault}
 use Rattle.occ_term.specs.Terms.{Minus, Times, Divide, Remainder, PlusModulo, MinusModulo, TimesModulo, BitAnd, BitOr, ShiftLeft, ShiftRight, After, Unequal, Less, AtLeast, Negate, BitNot, Not, Monadic, Unary, Conversion, Par}

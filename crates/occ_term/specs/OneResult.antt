@@ -1,4 +1,5 @@
 -- A step, a turn and an ending are one: from the same place nothing else follows.
+-- Manual: nothing; this is (own).
 use Rattle.std.specs.Prelude.{ℕ, ◌≡◌}
 use Rattle.occ_term.specs.Values.{Store}
 use Rattle.occ_term.specs.Steps.{Left, Step}

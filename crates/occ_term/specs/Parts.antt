@@ -1,4 +1,5 @@
 -- The items of a message in code, as the list that they are.
+-- Manual: nothing; this is (own).
 use Rattle.std.specs.Prelude.{List, [], ◌∷◌}
 use Rattle.occ_term.specs.declared.message.Part.{Part}
 use Rattle.occ_term.specs.declared.parts.Kept.{Kept}

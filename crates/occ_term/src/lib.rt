@@ -1,6 +1,7 @@
-//! What a program means: messages, terms, values, private steps, communication and runs, and when a program keeps the usage rules.
-//!
-//! The definitions stand in `specs/`, over pure data. This crate's types are seen through them.
+//! What a program means: messages, terms, values, private steps, communication and runs, and when a
+//! program keeps the usage rules. The definitions stand in `specs/`, over pure data, through which this
+//! crate's types are seen; [`laws`] and the small programs beside it check them, and [`value_of`] answers
+//! what an expression is worth.
 #![tactic(auto)]
 
 pub mod alt_rows;

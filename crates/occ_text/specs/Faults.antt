@@ -1,4 +1,5 @@
 -- Faults and the lines that they carry.
+-- Manual: nothing; the faults are (own).
 use Rattle.std.specs.Prelude.{◌≡◌, ◌≤◌, ℕ, List, length, Option, Some, None, IfSome}
 use Rattle.std.specs.Str.Lines.{lines}
 use Rattle.occ_text.specs.declared.fault.TextFault.{TextFault}

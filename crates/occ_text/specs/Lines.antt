@@ -1,4 +1,5 @@
 -- The logical lines of a text, as a relation. Bytes are numbers: 32 is a space, 45 is `-`.
+-- Manual: continuation lines, comments and indentation. What is dropped, and the limits: (own).
 use Rattle.std.specs.Prelude.{◌≡◌, ◌≤◌, ℕ, ◌-◌, ◌*◌, Bool, true, false, ◌&&◌, ◌==◌, IsTrue, IsFalse, List, [], ◌∷◌, ◌++◌, length, slice_get, Result, Ok, Err}
 use Rattle.std.specs.List.{enumerate_from, prefix_len}
 use Rattle.std.specs.Option.{option_map_or}

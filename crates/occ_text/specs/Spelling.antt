@@ -1,4 +1,5 @@
 -- How words are spelled. Bytes are numbers: 34 is `"`, 35 is `#`, 39 is `'`, 42 is `*`.
+-- Manual: names, literals and special characters. Escapes beyond the manual's, and the limits: (own).
 use Rattle.std.specs.Prelude.{◌≡◌, ◌≢◌, ◌≤◌, ℕ, ◌+◌, ◌-◌, ◌*◌, Bool, false, not, ◌&&◌, ◌||◌, ◌==◌, nat_le, if◌then◌else◌, List, [], ◌∷◌, ◌++◌, length, Option, Some, None, IsTrue, IsFalse, pos, codes}
 use Rattle.std.specs.Char.{is_ascii_alphabetic, is_ascii_alphanumeric, is_ascii_digit, is_ascii_hexdigit}
 use Rattle.std.specs.Int.{w32, cast_signed, is_in_range}

@@ -1,4 +1,5 @@
 -- The words of a line and the lines of a text, without where they lie in memory.
+-- Manual: the elements of a text; names, literals and keywords. Where a line goes on, and the limits: (own).
 use Rattle.std.specs.Prelude.{ℕ, ℤ, List, map}
 use Rattle.occ_text.specs.declared.token.Key.{Key}
 use Rattle.occ_text.specs.declared.token.Sym.{Sym}

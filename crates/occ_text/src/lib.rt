@@ -1,4 +1,5 @@
-//! The words and logical lines of a text.
+//! The words and logical lines of a text. [`read_lines`] answers the lines that the definitions have for
+//! the text's bytes, and refuses only a text that has none.
 #![tactic(auto)]
 
 mod class;

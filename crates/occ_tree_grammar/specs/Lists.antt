@@ -1,4 +1,5 @@
 -- Lists of parts of one kind.
+-- Manual: nothing; this is (own).
 use Rattle.std.specs.Prelude.{List, [], ◌∷◌, ◌++◌}
 
 -- the written forms of all, one after the other

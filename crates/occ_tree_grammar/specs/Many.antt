@@ -1,4 +1,5 @@
 -- Reading from the front of a list, and reading as many of one kind as there are.
+-- Manual: nothing; this is (own).
 use Rattle.std.specs.Prelude.{ℕ, zero, suc, List, [], ◌∷◌, length, Option, Some, None}
 
 infixl 10 ◌>>=◌

@@ -1,4 +1,5 @@
-//! Reading one line: the head of a process or of one of its parts, a declaration.
+//! Reading one line: [`read_head`] has the heads of processes and of their parts, [`read_decl`] those of
+//! declarations. Each answers what the grammar reads there, and refuses only where it reads nothing.
 #![tactic(auto)]
 
 pub mod read_decl;

@@ -1,4 +1,5 @@
 -- The lines at the head of processes, of their parts and of declarations, with fewer than 65 brackets open at one place.
+-- Manual: the syntax summary. The limit of brackets: (own).
 use Rattle.std.specs.Prelude.{ℕ, Some}
 use Rattle.occ_text.specs.Words.{Row}
 use Rattle.occ_tree_grammar.specs.Many.{◌>>=◌, Reader}

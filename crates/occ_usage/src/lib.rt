@@ -1,6 +1,6 @@
 //! The usage rules: what a term uses, and whether branches of its PARs share what they may not.
-//!
-//! What lawful means stands in [`occ_term`]'s `Uses`; what a clash is, and what a refusal says, in `specs/`.
+//! [`check_usage`] answers a [`Checked`] program, which is lawful as [`occ_term`]'s `Uses` has it, or the
+//! first clash in the order of the text.
 #![tactic(auto)]
 
 pub mod checked;

@@ -22,14 +22,14 @@ pub(crate) const TWO_FAULTS: &[u8] = b"PROC main (CHAN OF BYTE keyboard, screen)
 ";
 
 /// A sum that is no INT.
-const MAIN_FAULT: &[u8] = b"PROC main (CHAN OF BYTE keyboard, screen)
+pub(crate) const MAIN_FAULT: &[u8] = b"PROC main (CHAN OF BYTE keyboard, screen)
   INT x:
   x := 2147483647 + 1
 :
 ";
 
 /// More components than the array has.
-const TOO_MANY: &[u8] = b"PROC main (CHAN OF BYTE keyboard, screen)
+pub(crate) const TOO_MANY: &[u8] = b"PROC main (CHAN OF BYTE keyboard, screen)
   CHAN OF INT::[]BYTE c:
   [4]BYTE buf:
   PAR
@@ -44,7 +44,7 @@ const TOO_MANY: &[u8] = b"PROC main (CHAN OF BYTE keyboard, screen)
 ";
 
 /// What stands for good without a fault.
-const HALTS: [&[u8]; 3] = [
+pub(crate) const HALTS: [&[u8]; 3] = [
     b"PROC main (CHAN OF BYTE keyboard, screen)
   BYTE x:
   ALT

@@ -1,18 +1,18 @@
 //! A run by several threads is the run on one thread by the choices that they used.
 use crate::networks::PIPELINE;
-use crate::stopping::{ONE_FAULT, TWO_FAULTS};
+use crate::stopping::{HALTS, MAIN_FAULT, ONE_FAULT, TOO_MANY, TWO_FAULTS};
 use occ_play::{Counted, Errors, FreeGate, Options, Plan, play_in, play_workers_in};
 use std::process::Abort;
 use std::sync::Wait;
 use std::test::Fail;
 use std::thread::Threads;
 
-/// Plays a source by four workers, and once more by what they chose. The answer ends so.
+/// Plays a source by four workers, and once more by what they chose. The answer ends in one of these.
 fn check_source<R: Threads + Wait + Abort + Sync + AllocGlobal>(
     rt: &R,
     options: Options,
     source: &[u8],
-    last: &[u8],
+    lasts: &[&[u8]],
 ) -> Result<(), Fail> {
     let alloc = rt.alloc();
     let mut first = Vec::new(alloc);
@@ -29,9 +29,65 @@ fn check_source<R: Threads + Wait + Abort + Sync + AllocGlobal>(
     assert_eq!(rt; first.as_slice(), second.as_slice());
     assert_eq!(rt; played.ending, again.ending);
     assert_eq!(rt; played.choices.as_slice(), again.choices.as_slice());
-    assert!(rt; first.as_slice().ends_with(last));
+    let answer = first.as_slice();
+    let mut found = false;
+    for last in lasts {
+        found = found || answer.ends_with(last);
+    }
+    assert!(rt; found);
     Ok(())
 }
+
+/// What a fault does, a source, and the lines in one of which its answer ends.
+struct Faulty<'a> {
+    errors: Errors,
+    source: &'a [u8],
+    lasts: &'a [&'a [u8]],
+}
+
+/// Sources in which a process is stopped, in both modes.
+const FAULTY: &[Faulty<'static>] = &[
+    Faulty {
+        errors: Errors::Halt,
+        source: MAIN_FAULT,
+        lasts: &[b"fault ARITH line 3\n"],
+    },
+    Faulty {
+        errors: Errors::Stop,
+        source: MAIN_FAULT,
+        lasts: &[b"stopped ARITH line 3\n"],
+    },
+    Faulty {
+        errors: Errors::Halt,
+        source: ONE_FAULT,
+        lasts: &[b"fault ARITH line 4\n"],
+    },
+    Faulty {
+        errors: Errors::Stop,
+        source: ONE_FAULT,
+        lasts: &[b"stopped ARITH line 4\n"],
+    },
+    Faulty {
+        errors: Errors::Halt,
+        source: TWO_FAULTS,
+        lasts: &[b"fault ARITH line 4\n", b"fault ARITH line 5\n"],
+    },
+    Faulty {
+        errors: Errors::Stop,
+        source: TWO_FAULTS,
+        lasts: &[b"stopped ARITH line 4\n", b"stopped ARITH line 5\n"],
+    },
+    Faulty {
+        errors: Errors::Halt,
+        source: TOO_MANY,
+        lasts: &[b"fault RANGE line 5\n"],
+    },
+    Faulty {
+        errors: Errors::Stop,
+        source: TOO_MANY,
+        lasts: &[b"stopped RANGE line 5\n"],
+    },
+];
 
 #[test]
 fn workers_play_what_one_thread_plays(rt: HostRuntime) -> Result<(), Fail> {
@@ -40,13 +96,30 @@ fn workers_play_what_one_thread_plays(rt: HostRuntime) -> Result<(), Fail> {
             quantum,
             errors: Errors::Halt,
         };
-        check_source(&rt, options, PIPELINE, b"ended\n")?;
+        check_source(&rt, options, PIPELINE, &[b"ended\n"])?;
     }
-    let stop = Options {
-        quantum: 1,
-        errors: Errors::Stop,
-    };
-    check_source(&rt, Options::plain(), ONE_FAULT, b"fault ARITH line 4\n")?;
-    check_source(&rt, stop, ONE_FAULT, b"stopped ARITH line 4\n")?;
-    check_source(&rt, stop, TWO_FAULTS, b"\n")
+    Ok(())
+}
+
+#[test]
+fn workers_stop_at_faults_in_both_modes(rt: HostRuntime) -> Result<(), Fail> {
+    for row in FAULTY {
+        let options = Options {
+            quantum: 1,
+            errors: row.errors,
+        };
+        check_source(&rt, options, row.source, row.lasts)?;
+    }
+    Ok(())
+}
+
+#[test]
+fn workers_stop_without_a_fault_in_both_modes(rt: HostRuntime) -> Result<(), Fail> {
+    for errors in [Errors::Halt, Errors::Stop] {
+        for source in HALTS {
+            let options = Options { quantum: 1, errors };
+            check_source(&rt, options, source, &[b"stopped\n"])?;
+        }
+    }
+    Ok(())
 }

@@ -1,4 +1,5 @@
 -- What may follow an expression: no operator, and no bracket that opens.
+-- Manual: nothing; this is (own).
 use Rattle.std.specs.Prelude.{◌≡◌, List, [], ◌∷◌, Bool, true, false}
 use Rattle.occ_text.specs.declared.token.Sym.TheVariants as s
 use Rattle.occ_text.specs.Words.{Word, mark}

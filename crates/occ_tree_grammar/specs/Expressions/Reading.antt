@@ -1,4 +1,5 @@
 -- Reading expressions, as functions on lists of words.
+-- Manual: expressions, which have no priorities of operators. The limit of brackets: (own).
 use Rattle.std.specs.Prelude.{◌≡◌, ℕ, zero, suc, List, [], ◌∷◌, length, true, false, Option, Some, None, Result, Ok, Err}
 use Rattle.occ_text.specs.declared.token.Key.TheVariants as k
 use Rattle.occ_text.specs.declared.token.Sym.TheVariants as s

@@ -1,4 +1,5 @@
 -- The written form of an expression: one case for each alternative of the grammar.
+-- Manual: expressions. Chains of AND and OR as in the syntax summary.
 use Rattle.std.specs.Prelude.{ℕ, suc, max, ◌≤◌, List, [], ◌∷◌, ◌++◌, Bool, true, false, Option, Some, None}
 use Rattle.occ_text.specs.declared.token.Key.TheVariants as k
 use Rattle.occ_text.specs.declared.token.Sym.TheVariants as s

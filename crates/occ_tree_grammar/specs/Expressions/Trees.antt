@@ -1,4 +1,5 @@
 -- The tree of an expression.
+-- Manual: expressions; literals.
 use Rattle.std.specs.Prelude.{ℕ, List, [], ◌∷◌, Bool, true, false, Option}
 use Rattle.occ_text.specs.Words.{Lit, number, byte, text}
 use Rattle.occ_tree_grammar.specs.declared.tree.expr.Primitive.{Primitive}

@@ -1,4 +1,5 @@
 -- What keeps to the bounds: fewer than b brackets open at one place, and no more sizes or subscripts than there may be.
+-- Manual: nothing; this is (own).
 use Rattle.std.specs.Prelude.{ℕ, ◌<◌, ◌≤◌, ◌-◌, List, length, Option, Some, None}
 use Rattle.occ_tree_grammar.specs.Lists.{Each}
 use Rattle.occ_tree_grammar.specs.Expressions.Trees.{Expression, Expressions}

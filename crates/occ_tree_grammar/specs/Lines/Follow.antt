@@ -1,4 +1,5 @@
 -- What may follow a part of a line.
+-- Manual: nothing; this is (own).
 use Rattle.std.specs.Prelude.{◌≡◌, List, [], ◌∷◌, Bool, true, false}
 use Rattle.occ_text.specs.declared.token.Key.TheVariants as k
 use Rattle.occ_text.specs.declared.token.Sym.TheVariants as s

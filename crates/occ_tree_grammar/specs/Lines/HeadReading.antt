@@ -1,4 +1,5 @@
 -- Reading the lines at the head of processes and of their parts. Each reads a whole line.
+-- Manual: the syntax summary; primitive and combining processes; declarations.
 use Rattle.std.specs.Prelude.{ℕ, List, [], ◌∷◌, Bool, true, false, Option, Some, None}
 use Rattle.occ_text.specs.declared.token.Key.TheVariants as k
 use Rattle.occ_text.specs.declared.token.Sym.TheVariants as s

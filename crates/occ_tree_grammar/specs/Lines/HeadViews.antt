@@ -1,4 +1,5 @@
 -- The heads that the code reads, without where they lie in memory.
+-- Manual: nothing; this is (own).
 use Rattle.std.specs.Prelude.{map, option_map}
 use Rattle.occ_tree_grammar.specs.declared.tree.line.Action.{Action as ActionTree}
 use Rattle.occ_tree_grammar.specs.declared.tree.line.Action.TheVariants as actions

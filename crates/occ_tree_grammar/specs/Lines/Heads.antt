@@ -1,4 +1,5 @@
 -- The lines at the head of processes and of their parts: what they say, their written form and their bounds.
+-- Manual: primitive and combining processes; declarations. The bounds are (own).
 use Rattle.std.specs.Prelude.{ℕ, List, [], ◌∷◌, ◌++◌, Bool, true, false, Option, Some, None}
 use Rattle.occ_text.specs.declared.token.Key.TheVariants as k
 use Rattle.occ_text.specs.declared.token.Sym.TheVariants as s

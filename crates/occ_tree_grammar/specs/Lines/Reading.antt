@@ -1,4 +1,5 @@
 -- Reading what stands in one line, with fewer than b brackets open at one place.
+-- Manual: the syntax summary. The limit of brackets: (own).
 use Rattle.std.specs.Prelude.{ℕ, ◌-◌, List, [], ◌∷◌, length, Option, Some, None}
 use Rattle.occ_text.specs.declared.token.Key.TheVariants as k
 use Rattle.occ_text.specs.declared.token.Sym.TheVariants as s

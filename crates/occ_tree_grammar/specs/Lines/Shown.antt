@@ -1,4 +1,5 @@
 -- The written form of what stands in one line: one case for each alternative of the grammar.
+-- Manual: the syntax summary; variables, channels and protocols; procedures.
 use Rattle.std.specs.Prelude.{ℕ, List, [], ◌∷◌, ◌++◌, Option, Some, None}
 use Rattle.occ_text.specs.declared.token.Key.TheVariants as k
 use Rattle.occ_text.specs.declared.token.Sym.TheVariants as s

@@ -1,4 +1,5 @@
 -- The trees of what stands in one line.
+-- Manual: variables, channels and protocols; procedures.
 use Rattle.std.specs.Prelude.{ℕ, List, Option}
 use Rattle.occ_tree_grammar.specs.declared.tree.expr.Primitive.{Primitive}
 use Rattle.occ_tree_grammar.specs.Expressions.Trees.{Expression, Expressions}

@@ -1,4 +1,5 @@
 -- The values of the code that stand in one line, without where they lie in memory.
+-- Manual: nothing; this is (own).
 use Rattle.std.specs.Prelude.{map, Option, Some, None, option_map}
 use Rattle.std.specs.Global.{Global}
 use Rattle.std.specs.declared.boxed.Box.{Box}

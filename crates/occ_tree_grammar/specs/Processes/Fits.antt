@@ -1,4 +1,5 @@
 -- What keeps to the bounds: fewer than b brackets open at one place, and fewer than n levels, its own and those under it.
+-- Manual: nothing; this is (own).
 use Rattle.std.specs.Prelude.{ℕ, zero, suc, ◌<◌, List}
 use Rattle.occ_tree_grammar.specs.Lists.{Each}
 use Rattle.occ_tree_grammar.specs.Lines.Heads.{names, value, parts, procedure, tag_parts, FitsProcessHead, FitsChoiceHead, FitsOptionHead, FitsArmHead, FitsVariantHead, FitsDeclHead, FitsTagHead}

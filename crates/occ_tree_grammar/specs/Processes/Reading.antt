@@ -1,4 +1,5 @@
 -- Reading processes, their parts and a text, with fewer than b brackets open at one place.
+-- Manual: the syntax summary; combining processes; procedures. The limits of levels and brackets: (own).
 use Rattle.std.specs.Prelude.{ℕ, zero, suc, ◌+◌, List, [], ◌∷◌, nat_eq, cond, Option, Some, None}
 use Rattle.occ_text.specs.declared.token.Key.TheVariants as k
 use Rattle.occ_text.specs.declared.token.Sym.TheVariants as s

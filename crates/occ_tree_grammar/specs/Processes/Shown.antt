@@ -1,4 +1,5 @@
 -- The written form of processes, of their parts and of a text, line by line.
+-- Manual: the syntax summary; combining processes; procedures; channels and protocols.
 use Rattle.std.specs.Prelude.{ℕ, ◌+◌, List, [], ◌∷◌, ◌++◌}
 use Rattle.occ_text.specs.declared.token.Key.TheVariants as k
 use Rattle.occ_text.specs.declared.token.Sym.TheVariants as s

@@ -1,4 +1,5 @@
 -- The tree of processes and of their parts.
+-- Manual: the syntax summary; combining processes; procedures; channels and protocols.
 use Rattle.std.specs.Prelude.{ℕ, List, [], ◌∷◌, Option, Some, None}
 use Rattle.occ_tree_grammar.specs.Expressions.Trees.{Expression, Expressions}
 use Rattle.occ_tree_grammar.specs.Lines.Trees.{Replicator, Part, Sort, ValueType, Formals}

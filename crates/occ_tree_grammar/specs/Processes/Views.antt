@@ -1,4 +1,5 @@
 -- The processes of the code and their parts, without where they lie in memory.
+-- Manual: nothing; this is (own).
 use Rattle.std.specs.Prelude.{List, map, Some, None, option_map}
 use Rattle.occ_tree_grammar.specs.declared.tree.process.Process.{Process as ProcessTree}
 use Rattle.occ_tree_grammar.specs.declared.tree.process.Process.TheVariants as processes

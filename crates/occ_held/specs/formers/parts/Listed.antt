@@ -1,4 +1,5 @@
 -- `Listed` as a type that may hold the type that holds it.
+-- Manual: nothing; this is (own).
 use mathlib.Core.Path.{◌≡◌, refl, sym}
 use mathlib.Core.List.{List, []}
 use mathlib.Core.Former.{Former, this, list, via, children}

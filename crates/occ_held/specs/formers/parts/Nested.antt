@@ -1,4 +1,5 @@
 -- `Nested` as a type that may hold the type that holds it.
+-- Manual: nothing; this is (own).
 use mathlib.Core.Path.{refl}
 use mathlib.Core.Former.{Former, this, const, pair, via}
 use base.Stored.{gnil}

@@ -11,7 +11,7 @@ use Rattle.occ_tree_grammar.specs.declared.tree.process.Arm.TheBlock.{hidden-the
 use Rattle.occ_term.specs.View.{arms_of, branch_of, branches_of, choices_of, declarations_of, expression_of, option_of, options_of, place_of, reception_of, term_of, terms_of, variant_of as term_variant_of, variants_of, test_of as boolean_of}
 use Rattle.occ_check_meaning.specs.Actions.{as_reception, depth_behind, new_tag, none_chosen, opening}
 use Rattle.occ_tree_grammar.specs.Lines.Views as lines
-use Rattle.occ_check_acting.specs.TagView.{listed_in}
+use Rattle.occ_check_clashes.specs.TagView.{listed_in}
 use Rattle.occ_check.proofs.Tags.{no_more_variants, no_tag, tags_kept, variant_done, variant_form, variant_refused, variant_size, variants_grown, variants_none, variants_step}
 use Rattle.occ_check_acting.specs.ActionView.{chosen_of, listed_of}
 use Rattle.occ_check.specs.Prefixes.{guarding, guarding_variants, tested}

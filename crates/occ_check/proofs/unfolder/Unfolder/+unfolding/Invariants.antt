@@ -13,7 +13,7 @@ use Rattle.occ_check.proofs.Gathering.{Gathered}
 use Rattle.occ_check.proofs.Conditionals.{choices_in, put_choices}
 use Rattle.occ_check.proofs.Alternatives.{arms_in, put_arms}
 use Rattle.occ_check.proofs.Selections.{options_in, put_options}
-use Rattle.occ_check_acting.specs.TagView.{AreTagsOf, listed_in}
+use Rattle.occ_check_clashes.specs.TagView.{AreTagsOf, listed_in}
 use Rattle.occ_check.proofs.Tags.{put_variants, variants_in}
 use Rattle.occ_term.specs.View.{branch_of}
 use Rattle.occ_check.proofs.Beside.{branches_in, branch_one, branch_step, put_branch}

@@ -1,6 +1,0 @@
-use Rattle.occ_check_names.specs.View.{names_in}
-use Rattle.occ_check_acting.proofs.Binding.{Lists}
-use Rattle.occ_check_acting.proofs.call.other_formals.Given as goal
-
-abbrev pub invariant-loop-formal : goal.invariant-loop-formal
-invariant-loop-formal l = Lists (names_in l.scope) l.line l.spec l.formals l.formal-index l.all.items l.before

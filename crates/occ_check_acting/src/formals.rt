@@ -1,0 +1,206 @@
+//! What the formals of a procedure want.
+
+ghost use Rattle.std.specs.Prelude.{◌≡◌, IfOk, map, option_map};
+ghost use Rattle.occ_tree_grammar.specs.Lines.Trees.{by_channel};
+ghost use Rattle.occ_tree_grammar.specs.Lines.Views as lines;
+ghost use Rattle.occ_check_meaning.specs.Calls as meant;
+ghost use Rattle.occ_check_meaning.specs.Types.{open_sizes_of};
+ghost use Rattle.occ_check_names.specs.View.{Gives, names_in};
+ghost use Rattle.occ_check_acting.specs.CallView.{formal_of, formals_of, listed_formals, named_formal, wanted_of, wants_a_value, wants_a_variable};
+
+use occ_check_names::fault::CheckFault;
+use occ_check_names::known::Carried;
+use occ_check_names::operators::primitive_of;
+use occ_check_names::scope::Scope;
+use occ_check_typing::declaration::once;
+use occ_check_typing::types::{carried_by, open_sizes_of};
+use occ_term::Primitive;
+use occ_tree_grammar::tree::line::{Carried as CarriedTree, Formal, Formals, Size, Spec};
+use sqlite_items::Items;
+use std::alloc::{AllocError, Global};
+
+/// What a formal wants, with its sizes, where none stands for any size.
+#[derive(Drop)]
+pub enum Wanted {
+    /// A value of the type.
+    Value(Items<Option<u32>>, Primitive),
+    /// A variable of the type.
+    Variable(Items<Option<u32>>, Primitive),
+    /// Channels that carry this.
+    Channels(Items<Option<u32>>, Carried),
+}
+
+/// A formal, and what it wants.
+#[derive(Drop)]
+pub struct WantedFormal {
+    /// The name.
+    pub name: Items<u8>,
+    /// What it wants.
+    pub wanted: Wanted,
+}
+
+/// What a formal of this spec wants.
+fn wanted_by(
+    alloc: Global,
+    scope: Scope<'_, '_>,
+    line: u32,
+    spec: &Spec,
+) -> Result<Wanted, CheckFault>
+    ensures { Gives wanted_of result (meant.wanted (names_in scope.entry) line (lines.spec_of spec.now)) }
+{
+    match spec {
+        Spec::Value(value_type) => {
+            let primitive = primitive_of(value_type.of);
+            value_wanted(alloc, scope, line, &value_type.sizes, primitive)
+        }
+        Spec::Variable(value_type) => {
+            let primitive = primitive_of(value_type.of);
+            variable_wanted(alloc, scope, line, &value_type.sizes, primitive)
+        }
+        Spec::Channel(sizes, carried) => channels_wanted(alloc, scope, line, sizes, carried),
+    }
+}
+
+fn value_wanted(
+    alloc: Global,
+    scope: Scope<'_, '_>,
+    line: u32,
+    sizes: &[Size],
+    primitive: Primitive,
+) -> Result<Wanted, CheckFault>
+    ensures { Gives wanted_of result (wants_a_value primitive (open_sizes_of (names_in scope.entry) line (map lines.size_of sizes.now))) }
+{
+    let sizes = open_sizes_of(alloc, scope, line, sizes)?;
+    Ok(Wanted::Value(sizes, primitive))
+}
+
+fn variable_wanted(
+    alloc: Global,
+    scope: Scope<'_, '_>,
+    line: u32,
+    sizes: &[Size],
+    primitive: Primitive,
+) -> Result<Wanted, CheckFault>
+    ensures { Gives wanted_of result (wants_a_variable primitive (open_sizes_of (names_in scope.entry) line (map lines.size_of sizes.now))) }
+{
+    let sizes = open_sizes_of(alloc, scope, line, sizes)?;
+    Ok(Wanted::Variable(sizes, primitive))
+}
+
+fn channels_wanted(
+    alloc: Global,
+    scope: Scope<'_, '_>,
+    line: u32,
+    sizes: &[Size],
+    carried: &CarriedTree,
+) -> Result<Wanted, CheckFault>
+    ensures { Gives wanted_of result (meant.wanted (names_in scope.entry) line (by_channel (map lines.size_of sizes.now) (lines.carried_of carried.now))) }
+{
+    let sizes = open_sizes_of(alloc, scope, line, sizes)?;
+    let carried = carried_by(alloc, scope, line, carried)?;
+    Ok(Wanted::Channels(sizes, carried))
+}
+
+/// What the formals of a procedure want, under the names in the scope of its declaration. They are looked at where the
+/// procedure is called.
+///
+/// # Errors
+///
+/// As `open_sizes_of` and `carried_by`, `Twice` for a name that stands twice, and `Memory`.
+pub fn formals_of(
+    alloc: Global,
+    scope: Scope<'_, '_>,
+    line: u32,
+    formals: &Option<Box<Formals>>,
+) -> Result<Vec<WantedFormal>, CheckFault>
+    ensures { Gives (λ fs. formals_of fs.items) result (meant.formals_of (names_in scope.entry) line (lines.formals_of formals.now)) }
+{
+    match formals {
+        None => Ok(Vec::new(alloc)),
+        Some(formals) => some_formals(alloc, scope, line, formals),
+    }
+}
+
+fn some_formals(
+    alloc: Global,
+    scope: Scope<'_, '_>,
+    line: u32,
+    formals: &Formals,
+) -> Result<Vec<WantedFormal>, CheckFault>
+    ensures { Gives (λ fs. formals_of fs.items) result (meant.formals_of (names_in scope.entry) line (lines.some_formals_of formals.now)) }
+{
+    let all = listed_formals(alloc, scope, line, formals)?;
+    let names = formal_names(alloc, &all)?;
+    once(alloc, line, names.as_slice())?;
+    Ok(all)
+}
+
+fn formal_names(alloc: Global, formals: &[WantedFormal]) -> Result<Items<Items<u8>>, AllocError>
+    ensures { IfOk result (λ names. names ≡ meant.formal_names (formals_of formals.now)) }
+{
+    let mut names = Items::new(alloc);
+    for formal in formals {
+        names.push(Items::from_slice(alloc, formal.name.as_slice())?)?;
+    }
+    Ok(names)
+}
+
+fn listed_formals(
+    alloc: Global,
+    scope: Scope<'_, '_>,
+    line: u32,
+    formals: &Formals,
+) -> Result<Vec<WantedFormal>, CheckFault>
+    ensures { Gives (λ fs. formals_of fs.items) result (listed_formals (names_in scope.entry) line (lines.spec_of formals.now.spec) formals.now.name.items (map lines.formal_of formals.now.others.items)) }
+{
+    let first = wanted_formal(alloc, scope, line, &formals.spec, &formals.name)?;
+    let mut others = other_formals(alloc, scope, line, &formals.spec, &formals.others)?;
+    let mut all = Vec::new(alloc);
+    all.push(first)?;
+    all.append(&mut others)?;
+    Ok(all)
+}
+
+fn wanted_formal(
+    alloc: Global,
+    scope: Scope<'_, '_>,
+    line: u32,
+    spec: &Spec,
+    name: &[u8],
+) -> Result<WantedFormal, CheckFault>
+    ensures { Gives formal_of result (named_formal name.now (meant.wanted (names_in scope.entry) line (lines.spec_of spec.now))) }
+{
+    let wanted = wanted_by(alloc, scope, line, spec)?;
+    let name = Items::from_slice(alloc, name)?;
+    Ok(WantedFormal { name, wanted })
+}
+
+/// The formals after one with this spec, which is that of those that have none of their own.
+fn other_formals(
+    alloc: Global,
+    scope: Scope<'_, '_>,
+    line: u32,
+    spec: &Spec,
+    formals: &[Formal],
+) -> Result<Vec<WantedFormal>, CheckFault>
+    ensures { Gives (λ fs. formals_of fs.items) result (meant.other_formals (names_in scope.entry) line (lines.spec_of spec.now) (map lines.formal_of formals.now)) }
+{
+    let mut all = Vec::new(alloc);
+    let mut before = spec;
+    for formal in formals {
+        before = spec_after(before, &formal.spec);
+        let one = wanted_formal(alloc, scope, line, before, &formal.name)?;
+        all.push(one)?;
+    }
+    Ok(all)
+}
+
+/// The spec of a formal behind one of this spec.
+pub fn spec_after<'a>(before: &'a Spec, own: &'a Option<Spec>) -> &'a Spec
+    ensures { lines.spec_of result.now ≡ meant.spec_after (lines.spec_of before.now) (option_map lines.spec_of own.now) }
+{
+    match own {
+        None => before,
+        Some(spec) => spec,
+    }
+}

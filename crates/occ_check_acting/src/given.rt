@@ -1,0 +1,175 @@
+//! The subscripts of an actual, evaluated where the call begins.
+
+ghost use Rattle.std.specs.Prelude.{ℕ, ◌≡◌, ◌∷◌, ◌++◌, [], IfOk, map, None};
+ghost use Rattle.occ_term.specs.Rows.{AreFew};
+ghost use Rattle.occ_term.specs.View.{expression_of, subscripts};
+ghost use Rattle.occ_check_meaning.specs.Calls as meant;
+ghost use Rattle.occ_check_meaning.specs.Constants.{constant};
+ghost use Rattle.occ_check_names.specs.View.{evaluated_of, numbers_of, row_of};
+ghost use Rattle.occ_check_names.specs.declared.numbers.Numbers.{Numbers};
+ghost use Rattle.occ_check_acting.specs.CallView.{Evaluates, one_constant, part_under};
+
+use occ_check_names::constant::{constant_of, is_below};
+use occ_check_names::fault::CheckFault;
+use occ_check_names::known::{Evaluated, Row};
+use occ_check_names::measuring::count_declaration;
+use occ_check_names::numbers::Numbers;
+use occ_held::Held;
+use occ_held::parts::Listed;
+use occ_term::{Declaration, Item, Primitive, Sizes, TermExpr};
+use sqlite_items::Items;
+use std::alloc::{AllocError, Global};
+
+/// Subscripts of an actual that are evaluated.
+#[derive(Drop)]
+pub struct Given {
+    /// The subscripts.
+    pub subscripts: Items<Evaluated>,
+    /// The sizes that they leave.
+    pub left: Sizes,
+    /// The Locals that hold them.
+    pub heads: Items<Declaration>,
+}
+
+/// A subscript of an actual, and the Local that holds it where it is no constant. The Local stands at this depth.
+fn one_evaluated(
+    numbers: &mut Numbers,
+    alloc: Global,
+    line: u32,
+    depth: u32,
+    name: &[u8],
+    size: u32,
+    e: TermExpr,
+) -> Result<Given, CheckFault>
+    ensures { Evaluates result numbers.new (meant.one_evaluated name.now depth size (expression_of e) (constant (expression_of e)) (numbers_of numbers.old)) }
+{
+    match constant_of(&e) {
+        Some(value) => constant_given(alloc, line, size, value),
+        None => cell_given(numbers, alloc, line, depth, name, e),
+    }
+}
+
+fn constant_given(alloc: Global, line: u32, size: u32, value: i64) -> Result<Given, CheckFault>
+    ensures { (n : Numbers) → Evaluates result n (one_constant size value (numbers_of n)) }
+{
+    if !is_below(value, u64::from(size)) {
+        return Err(CheckFault::Subscript { line });
+    }
+    let mut given = Given::new(alloc);
+    given.subscripts.push(Evaluated::Value(value))?;
+    Ok(given)
+}
+
+fn cell_given(
+    numbers: &mut Numbers,
+    alloc: Global,
+    line: u32,
+    depth: u32,
+    name: &[u8],
+    e: TermExpr,
+) -> Result<Given, CheckFault>
+    ensures { (size : ℕ) → Evaluates result numbers.new (meant.one_evaluated name.now depth size (expression_of e) None (numbers_of numbers.old)) }
+{
+    let e = Held::new(e);
+    let cell = numbers.more_cells(alloc, Primitive::Int, name, &[])?;
+    let value = Item::One(Primitive::Int, e.into_inner());
+    let naming = Held::new(Declaration::Naming(line, cell, value));
+    count_declaration(numbers, depth, &naming.value)?;
+    let given = Given::held(alloc, Evaluated::Cell(line, cell), naming.into_inner())?;
+    Ok(given)
+}
+
+impl Given {
+    fn new(alloc: Global) -> Given
+        ensures subscripts { result.subscripts ≡ [] }
+        ensures left { result.left ≡ [] }
+        ensures heads { result.heads ≡ [] }
+    {
+        Given {
+            subscripts: Items::new(alloc),
+            left: Sizes::none(alloc),
+            heads: Items::new(alloc),
+        }
+    }
+
+    /// A subscript that a Local holds.
+    fn held(alloc: Global, subscript: Evaluated, head: Declaration) -> Result<Given, AllocError>
+        ensures subscripts { IfOk result (λ g. g.subscripts ≡ subscript ∷ []) }
+        ensures left { IfOk result (λ g. g.left ≡ []) }
+        ensures heads { IfOk result (λ g. g.heads ≡ head ∷ []) }
+    {
+        let mut given = Given::new(alloc);
+        given.heads.push(head)?;
+        given.subscripts.push(subscript)?;
+        Ok(given)
+    }
+}
+
+/// Subscripts of an actual, from left to right, and the sizes that they leave.
+#[tactic(auto, unfolding(occ_check_meaning::specs::Calls::all_evaluated))]
+pub(crate) fn all_evaluated(
+    numbers: &mut Numbers,
+    alloc: Global,
+    line: u32,
+    depth: u32,
+    name: &[u8],
+    under: Listed<TermExpr>,
+    sizes: &[u32],
+) -> Result<Given, CheckFault>
+    requires { AreFew sizes.now }
+    ensures { Evaluates result numbers.new (meant.all_evaluated name.now depth (subscripts (map expression_of under)) sizes.now (numbers_of numbers.old)) }
+{
+    if under.is_empty() {
+        let mut given = Given::new(alloc);
+        given.left = Sizes::new(alloc, sizes)?;
+        return Ok(given);
+    }
+    let mut others = under;
+    let e = others.remove(0);
+    let Some((size, rest)) = sizes.split_first() else {
+        return Err(CheckFault::WrongType { line });
+    };
+    let first = one_evaluated(numbers, alloc, line, depth, name, *size, e)?;
+    let then = all_evaluated(numbers, alloc, line, depth, name, others, rest)?;
+    Ok(joined(first, then)?)
+}
+
+/// The second after the first, with the sizes that the second leaves.
+fn joined(first: Given, then: Given) -> Result<Given, AllocError>
+    ensures subscripts { IfOk result (λ g. g.subscripts ≡ first.subscripts ++ then.subscripts) }
+    ensures left { IfOk result (λ g. g.left ≡ then.left) }
+    ensures heads { IfOk result (λ g. g.heads ≡ first.heads ++ then.heads) }
+{
+    let Given {
+        mut subscripts,
+        mut heads,
+        ..
+    } = first;
+    subscripts.append(then.subscripts)?;
+    heads.append(then.heads)?;
+    Ok(Given {
+        subscripts,
+        left: then.left,
+        heads,
+    })
+}
+
+/// A row under the subscripts of an actual.
+#[tactic(auto, using(crate::proofs::Evaluating::joined_evaluated))]
+pub(crate) fn part_of(
+    alloc: Global,
+    row: &Row,
+    under: Items<Evaluated>,
+    left: Sizes,
+) -> Result<Row, AllocError>
+    ensures { IfOk result (λ part. row_of part ≡ part_under (row_of row.now) (subscripts (map evaluated_of under)) left) }
+{
+    let mut all = Items::from_slice(alloc, row.subscripts.as_slice())?;
+    all.append(under)?;
+    Ok(Row {
+        first: row.first,
+        sizes: row.sizes.copy(alloc)?,
+        subscripts: all,
+        left,
+    })
+}

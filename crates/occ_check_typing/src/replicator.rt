@@ -1,0 +1,92 @@
+//! Replicators: an index with its cell, or the copies of a PAR.
+
+ghost use Rattle.std.specs.Prelude.{◌≡◌};
+ghost use Rattle.occ_tree_grammar.specs.Lines.Views as lines;
+ghost use Rattle.occ_check_meaning.specs.Constants.{a_count};
+ghost use Rattle.occ_check_meaning.specs.Declarations as meant;
+ghost use Rattle.occ_check_names.specs.View.{Gives, names_in, numbers_of};
+ghost use Rattle.occ_check_typing.specs.OpenedView.{Indexes};
+
+use crate::declaration::{Named, row_from};
+use crate::expression::{constant_as, typed_as};
+use occ_check_names::fault::CheckFault;
+use occ_check_names::known::{Access, Known};
+use occ_check_names::measuring::count_replicator;
+use occ_check_names::numbers::Numbers;
+use occ_check_names::scope::Scope;
+use occ_held::Held;
+use occ_term::{Primitive, Replicator, Sizes};
+use occ_tree_grammar::tree::line::Replicator as ReplicatorTree;
+use std::alloc::Global;
+
+/// A replicator with its index.
+#[derive(Drop)]
+pub struct Indexed {
+    /// The replicator.
+    pub replicator: Replicator,
+    /// The index, and its cell.
+    pub name: Named,
+}
+
+/// A replicator of a SEQ, an IF or an ALT, with its index. It stands at this depth.
+///
+/// # Errors
+///
+/// As `typed_as` of an INT, `TooLarge` for too many cells or nodes, and `Memory`.
+pub fn index_replicator(
+    numbers: &mut Numbers,
+    alloc: Global,
+    scope: Scope<'_, '_>,
+    line: u32,
+    depth: u32,
+    replicator: &ReplicatorTree,
+) -> Result<Indexed, CheckFault>
+    ensures { Indexes result numbers.new (meant.indexed (names_in scope.entry) line depth (lines.replicator_of replicator.now) (numbers_of numbers.old)) }
+{
+    let base = Held::new(typed_as(alloc, scope, line, Primitive::Int, &replicator.base)?);
+    let count = Held::new(typed_as(alloc, scope, line, Primitive::Int, &replicator.count)?);
+    let index = numbers.more_cells(alloc, Primitive::Int, &replicator.name, &[])?;
+    let over = Held::new(Replicator {
+        line,
+        index,
+        base: base.into_inner(),
+        count: count.into_inner(),
+    });
+    count_replicator(numbers, depth, &over.value)?;
+    let row = row_from(alloc, index, &Sizes::none(alloc))?;
+    let known = Known::Cells(Access::Kept, Primitive::Int, row);
+    let name = Named::new(alloc, &replicator.name, known)?;
+    Ok(Indexed {
+        replicator: over.into_inner(),
+        name,
+    })
+}
+
+/// The base of a replicated PAR, and how many copies it has.
+///
+/// # Errors
+///
+/// As `constant_as` of an INT, and `BadCount` for a negative count or an index that is no INT.
+pub fn copies_of(
+    alloc: Global,
+    scope: Scope<'_, '_>,
+    line: u32,
+    replicator: &ReplicatorTree,
+) -> Result<(i64, u64), CheckFault>
+    ensures { Gives (λ x. x) result (meant.copies_of (names_in scope.entry) line (lines.replicator_of replicator.now)) }
+{
+    let base = constant_as(alloc, scope, line, Primitive::Int, &replicator.base)?;
+    let count = constant_as(alloc, scope, line, Primitive::Int, &replicator.count)?;
+    let copies = count_of(line, base, count)?;
+    Ok((base, copies))
+}
+
+fn count_of(line: u32, base: i64, count: i64) -> Result<u64, CheckFault>
+    ensures { Gives (λ n. n) result (a_count base count) }
+{
+    if 0 <= count && count <= 2147483648_i64.saturating_sub(base) {
+        Ok(count as u64)
+    } else {
+        Err(CheckFault::BadCount { line })
+    }
+}
