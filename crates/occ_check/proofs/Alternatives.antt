@@ -3,7 +3,7 @@ use Rattle.std.proofs.Common.{◌≡◌, ◌∙◌, ◌+◌, ℕ, length, List, 
 use Rattle.std.proofs.lemmas.List.{map-append}
 use Rattle.occ_tree_grammar.specs.Many.{◌>>=◌}
 use Rattle.occ_term.specs.declared.expression.Declaration.{Declaration}
-use Rattle.occ_tree_grammar.specs.Processes.Trees.{nodes}
+use Rattle.occ_tree_grammar.specs.Processes.Trees.{Node, arm, more_nodes, no_node, nodes}
 use Rattle.occ_tree_grammar.specs.Processes.Views as trees
 use Rattle.occ_tree_grammar.specs.declared.tree.process.Arm.{Arm}
 use Rattle.occ_tree_grammar.specs.declared.tree.process.Arm.TheVariants as arms
@@ -31,6 +31,7 @@ use Rattle.occ_check.specs.Prefixes.{guarding, guarding_variants, tested}
 use Rattle.occ_check_meaning.specs.Recursion.{all_arms, all_declared, arm_unfolded}
 use Rattle.occ_check_meaning.specs.Scope.{Scope, names_of}
 use Rattle.occ_check.specs.Statements.{listening, declarations_of_arm}
+use Rattle.occ_check.specs.Opened.{put}
 use Rattle.occ_check.specs.Weights.{body_size, arm_size, decls_size, node_size}
 
 -- ---- one arm
@@ -135,14 +136,8 @@ module _ (c : Arm) (sc : Scope Calling) (depth : ℕ) (n : Numbers) (ds : Decls)
     arm_too_deep e = behind_heads ∙ ap (λ r. r >>= λ deep. listening c inside deep m >>= λ x. Some (arms_behind heads x.0, x.1)) e
 
     module _ (deep : ℕ) (there : deeper depth levels ≡ Some deep) where
-      behind_levels : arm_unfolded (trees.arm_of c) sc depth n ≡ (listening c inside deep m >>= λ x. Some (arms_behind heads x.0, x.1))
-      behind_levels = behind_heads ∙ ap (λ r. r >>= λ deep. listening c inside deep m >>= λ x. Some (arms_behind heads x.0, x.1)) there
-
-      pub arm_refused : listening c inside deep m ≡ None → arm_unfolded (trees.arm_of c) sc depth n ≡ None
-      arm_refused e = behind_levels ∙ ap (λ r. r >>= λ x. Some (arms_behind heads x.0, x.1)) e
-
-      pub arm_done : (cs : Arms) (l : Numbers) → listening c inside deep m ≡ Some (cs, l) → arm_unfolded (trees.arm_of c) sc depth n ≡ Some (arms_behind heads cs, l)
-      arm_done cs l e = behind_levels ∙ ap (λ r. r >>= λ x. Some (arms_behind heads x.0, x.1)) e
+      pub arm_behind : arm_unfolded (trees.arm_of c) sc depth n ≡ put (arms_behind heads) (listening c inside deep m)
+      arm_behind = behind_heads ∙ ap (λ r. r >>= λ deep. listening c inside deep m >>= λ x. Some (arms_behind heads x.0, x.1)) there
 
 -- ---- an arm by its guard
 
@@ -179,15 +174,10 @@ module _ (line : ℕ) (test : Option Expression) (i : L.Input) (body : Under T.T
   pub input_not_guarded : guarding (names_of sc) line depth test i n ≡ None → P.arm_of line (on_input test i) body sc depth n ≡ None
   input_not_guarded h = by_guard ∙ ap (λ o. o >>= then_input) h
 
-  module _ (g : Option T.Expression × (T.Place × Listed)) (m : Numbers) (h : guarding (names_of sc) line depth test i n ≡ Some (g, m)) where
-    pub input_refused : body sc (depth_behind g.1.1 (depth + 1)) m ≡ None → P.arm_of line (on_input test i) body sc depth n ≡ None
-    unfolding then_input
-    input_refused none = by_guard ∙ ap (λ o. o >>= then_input) h ∙ ap (λ o. o >>= as_input_arm g) none
-
-    pub input_done : (t : T.Term) (l : Numbers) → body sc (depth_behind g.1.1 (depth + 1)) m ≡ Some (t, l)
-        → P.arm_of line (on_input test i) body sc depth n ≡ Some (input_arm g.0 g.1.0 (as_reception g.1.1 t) no_arms, l)
-    unfolding then_input as_input_arm
-    input_done t l done = by_guard ∙ ap (λ o. o >>= then_input) h ∙ ap (λ o. o >>= as_input_arm g) done
+  pub input_opens : (g : Option T.Expression × (T.Place × Listed)) (m : Numbers) → guarding (names_of sc) line depth test i n ≡ Some (g, m)
+      → P.arm_of line (on_input test i) body sc depth n ≡ put (λ t. input_arm g.0 g.1.0 (as_reception g.1.1 t) no_arms) (body sc (depth_behind g.1.1 (depth + 1)) m)
+  unfolding then_input as_input_arm
+  input_opens g m h = by_guard ∙ ap (λ o. o >>= then_input) h
 
 module _ (line : ℕ) (test : Option Expression) (v : L.Var) (variants : Protocol → Under T.Variants) (sc : Scope Calling) (depth : ℕ) (n : Numbers) where
   as_variants_arm : Option T.Expression × (Protocol × T.Place) → T.Variants × Numbers → Option (Arms × Numbers)
@@ -228,15 +218,10 @@ module _ (line : ℕ) (test : Option Expression) (v : L.Var) (variants : Protoco
   pub variants_not_guarded : guarding_variants (names_of sc) line depth test v n ≡ None → variants_arm line test v variants sc depth n ≡ None
   variants_not_guarded h = by_variants ∙ ap (λ o. o >>= then_variants) h
 
-  module _ (g : Option T.Expression × (Protocol × T.Place)) (m : Numbers) (h : guarding_variants (names_of sc) line depth test v n ≡ Some (g, m)) where
-    pub variants_refused : variants g.1.0 sc (depth + 1) m ≡ None → variants_arm line test v variants sc depth n ≡ None
-    unfolding then_variants
-    variants_refused none = by_variants ∙ ap (λ o. o >>= then_variants) h ∙ ap (λ o. o >>= as_variants_arm g) none
-
-    pub variants_done : (vs : T.Variants) (l : Numbers) → variants g.1.0 sc (depth + 1) m ≡ Some (vs, l)
-        → variants_arm line test v variants sc depth n ≡ Some (input_arm g.0 g.1.1 (T.Tagged vs) no_arms, l)
-    unfolding then_variants as_variants_arm
-    variants_done vs l done = by_variants ∙ ap (λ o. o >>= then_variants) h ∙ ap (λ o. o >>= as_variants_arm g) done
+  pub variants_open : (g : Option T.Expression × (Protocol × T.Place)) (m : Numbers) → guarding_variants (names_of sc) line depth test v n ≡ Some (g, m)
+      → variants_arm line test v variants sc depth n ≡ put (λ vs. input_arm g.0 g.1.1 (T.Tagged vs) no_arms) (variants g.1.0 sc (depth + 1) m)
+  unfolding then_variants as_variants_arm
+  variants_open g m h = by_variants ∙ ap (λ o. o >>= then_variants) h
 
 module _ (line : ℕ) (test : Expression) (body : Under T.Term) (sc : Scope Calling) (depth : ℕ) (n : Numbers) where
   as_skip_arm : T.Expression → T.Term × Numbers → Option (Arms × Numbers)
@@ -258,9 +243,25 @@ module _ (line : ℕ) (test : Expression) (body : Under T.Term) (sc : Scope Call
       by None = refl
       by (Some e) = then_by e (room depth (Sizes.node (size_of_expression e)) n)
 
-  pub skip_refused : (e : T.Expression) (m : Numbers) → tested (names_of sc) line depth test n ≡ Some (e, m) → body sc (depth + 1) m ≡ None → P.arm_of line (on_skip test) body sc depth n ≡ None
-  unfolding then_skip
-  skip_refused e m h none = by_test ∙ ap (λ o. o >>= then_skip) h ∙ ap (λ o. o >>= as_skip_arm e) none
+  pub skip_not_tested : tested (names_of sc) line depth test n ≡ None → P.arm_of line (on_skip test) body sc depth n ≡ None
+  skip_not_tested none = by_test ∙ ap (λ o. o >>= then_skip) none
+
+  pub skip_opens : (e : T.Expression) (m : Numbers) → tested (names_of sc) line depth test n ≡ Some (e, m) → P.arm_of line (on_skip test) body sc depth n ≡ put (λ t. skip_arm e t no_arms) (body sc (depth + 1) m)
+  unfolding then_skip as_skip_arm
+  skip_opens e m h = by_test ∙ ap (λ o. o >>= then_skip) h
+
+-- ---- one arm as a list
+
+abbrev nothing_more : Numbers → Option (Arms × Numbers)
+nothing_more n = Some (no_arms, n)
+
+pub single_arm : (c : Node arm) (sc : Scope Calling) (depth : ℕ) (n : Numbers) → all_arms (more_nodes c no_node) sc depth n ≡ arm_unfolded c sc depth n
+unfolding all_arms
+single_arm c sc depth n = by (arm_unfolded c sc depth n)
+  where
+    by : (o : Option (Arms × Numbers)) → (o >>= λ x. nothing_more x.1 >>= λ r. Some (arms_then x.0 r.0, r.1)) ≡ o
+    by None = refl
+    by (Some x) = ap (λ a. Some (a, x.1)) (no_more_arms x.0)
 
 -- ---- in the code
 

@@ -13,20 +13,10 @@ use Rattle.occ_tree_grammar.specs.declared.tree.process.Stmt.{Stmt}
 use Rattle.occ_check_meaning.specs.Recursion.{all_declared, unfolded}
 use Rattle.occ_check.specs.Statements.{declarations_in, line_in, performing, statement_in}
 use Rattle.occ_check_meaning.specs.Unfolding.{Procedures, meant}
-use Rattle.std.specs.Prelude.{IfOk, Result, Ok, Err}
-use Rattle.occ_check.specs.Progress.{IsFalling}
+use Rattle.occ_check.specs.Opened.{put}
 use Rattle.occ_check.specs.Weights.{decls_size, node_size, statement_size, weight}
-use Rattle.occ_check_names.specs.declared.fault.CheckFault.{CheckFault}
-use Rattle.occ_check.specs.declared.unfolder.Unfolder.{Unfolder}
-use Rattle.occ_check.specs.declared.unfolder.Step.{Step}
-use Rattle.occ_check.specs.declared.unfolder.Step.TheVariants as steps
 use Rattle.occ_check.proofs.Parts.{behind_declarations, within_process}
 use Rattle.occ_check_meaning.proofs.Steps.{then_some}
-
--- an answer that is taken apart and put together again
-same_pair : {A B : Type 0} (r : Option (A × B)) → (r >>= λ t. Some (t.0, t.1)) ≡ r
-same_pair (Some t) = refl
-same_pair None = refl
 
 module _ (declared : Declaring) (performed : Under Term) (sc : Scope Calling) (depth : ℕ) (n : Numbers) where
   pub not_declared : declared sc (depth + 1) n ≡ None → behind declared performed sc depth n ≡ None
@@ -36,21 +26,12 @@ module _ (declared : Declaring) (performed : Under Term) (sc : Scope Calling) (d
     behind_these : behind declared performed sc depth n ≡ (opening heads depth m >>= λ o. performed inside o.0 o.1 >>= λ t. Some (headed heads t.0, t.1))
     behind_these = ap (λ r. r >>= λ d. opening d.heads depth d.numbers >>= λ o. performed d.scope o.0 o.1 >>= λ t. Some (headed d.heads t.0, t.1)) done
 
-    pub nothing_set : heads ≡ [] → behind declared performed sc depth n ≡ performed inside depth m
-    nothing_set none = behind_these ∙ ap (λ hs. opening hs depth m >>= λ o. performed inside o.0 o.1 >>= λ t. Some (headed hs t.0, t.1)) none ∙ same_pair (performed inside depth m)
-
     pub not_opened : opening heads depth m ≡ None → behind declared performed sc depth n ≡ None
     not_opened e = behind_these ∙ ap (λ r. r >>= λ o. performed inside o.0 o.1 >>= λ t. Some (headed heads t.0, t.1)) e
 
     module _ (deep : ℕ) (l : Numbers) (stands : opening heads depth m ≡ Some (deep, l)) where
-      behind_open : behind declared performed sc depth n ≡ (performed inside deep l >>= λ t. Some (headed heads t.0, t.1))
+      pub behind_open : behind declared performed sc depth n ≡ (performed inside deep l >>= λ t. Some (headed heads t.0, t.1))
       behind_open = behind_these ∙ ap (λ r. r >>= λ o. performed inside o.0 o.1 >>= λ t. Some (headed heads t.0, t.1)) stands
-
-      pub not_performed : performed inside deep l ≡ None → behind declared performed sc depth n ≡ None
-      not_performed e = behind_open ∙ ap (λ r. r >>= λ t. Some (headed heads t.0, t.1)) e
-
-      pub all_performed : (t : Term) (r : Numbers) → performed inside deep l ≡ Some (t, r) → behind declared performed sc depth n ≡ Some (headed heads t, r)
-      all_performed t r e = behind_open ∙ ap (λ r. r >>= λ t. Some (headed heads t.0, t.1)) e
 
 -- ---- a process that is entered
 
@@ -70,21 +51,15 @@ module _ (p : Process) (sc outer : Procedures) (depth : ℕ) (n : Numbers) (ds :
     as_performed : (deep : ℕ) (l : Numbers) → performing line s (meant inside) deep l ≡ performing (line_in p) (statement_in p) (meant within) deep l
     as_performed deep l = λ i. performing (is_line i) (is_s i) (meant (is_inside i)) deep l
 
-    pub no_heads : heads ≡ [] → unfolded (process_of p) (meant sc) depth n ≡ performing line s (meant inside) depth m
-    no_heads none = whole ∙ nothing_set (all_declared (declarations_in p)) (performing (line_in p) (statement_in p)) (meant sc) depth n (meant within) heads m (sym as_declared ∙ done) none
-        ∙ sym (as_performed depth m)
-
     pub opening_refused : opening heads depth m ≡ None → unfolded (process_of p) (meant sc) depth n ≡ None
     opening_refused e = whole ∙ not_opened (all_declared (declarations_in p)) (performing (line_in p) (statement_in p)) (meant sc) depth n (meant within) heads m (sym as_declared ∙ done) e
 
     module _ (deep : ℕ) (l : Numbers) (stands : opening heads depth m ≡ Some (deep, l)) where
-      pub statement_refused : performing line s (meant inside) deep l ≡ None → unfolded (process_of p) (meant sc) depth n ≡ None
-      statement_refused e = whole ∙ not_performed (all_declared (declarations_in p)) (performing (line_in p) (statement_in p)) (meant sc) depth n (meant within) heads m (sym as_declared ∙ done)
-          deep l stands (sym (as_performed deep l) ∙ e)
-
-      pub statement_done : (t : Term) (r : Numbers) → performing line s (meant inside) deep l ≡ Some (t, r) → unfolded (process_of p) (meant sc) depth n ≡ Some (headed heads t, r)
-      statement_done t r e = whole ∙ all_performed (all_declared (declarations_in p)) (performing (line_in p) (statement_in p)) (meant sc) depth n (meant within) heads m (sym as_declared ∙ done)
-          deep l stands t r (sym (as_performed deep l) ∙ e)
+      pub statement_behind : unfolded (process_of p) (meant sc) depth n ≡ put (headed heads) (performing line s (meant inside) deep l)
+      statement_behind =
+          whole
+          ∙ behind_open (all_declared (declarations_in p)) (performing (line_in p) (statement_in p)) (meant sc) depth n (meant within) heads m (sym as_declared ∙ done) deep l stands
+          ∙ ap (put (headed heads)) (sym (as_performed deep l))
 
 -- ---- what is entered is smaller
 
@@ -97,8 +72,3 @@ smaller p sc outer inside within ds s is_ds is_s is_outer is_inside lighter =
     let d : weight outer ≡ weight sc = ap weight is_outer in
     let e : weight inside ≡ weight within = ap weight is_inside in
     omega (arith, a, b, c, d, e, lighter)
-
-pub falls_further : (u : Unfolder) (a b : ℕ) (r : Result Step CheckFault) → a ≤ b → IfOk r (IsFalling u a) → IfOk r (IsFalling u b)
-falls_further u a b (Ok (steps.Term t)) le h = tt
-falls_further u a b (Ok (steps.Call body at)) le h = omega (arith, le, h)
-falls_further u a b (Err e) le h = tt

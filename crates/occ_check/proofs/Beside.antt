@@ -70,23 +70,3 @@ module _ (sc : Scope Calling) (depth : ℕ) (x : Process) (n : Numbers) where
 
     pub one_branch : (t : Term) (l : Numbers) → unfolded (process_of x) sc depth m ≡ Some (t, l) → branch_one sc depth x n ≡ Some (and_branch n.processes t, l)
     one_branch t l e = ap (λ o. o >>= λ m. unfolded (process_of x) sc depth m >>= λ t. numbered_as n.processes t) numbered ∙ ap (λ o. o >>= λ t. numbered_as n.processes t) e
-
--- ---- the statement
-
-pub beside_size : (s : Stmt) (v : Vec Process Global) (xs : List Process) → s ≡ stmts.Par v → xs ≡ v.items → statement_size s ≡ nodes_size (nodes (map process_of xs)) + 1
-beside_size s v xs is items =
-    ap statement_size is ∙ ap (λ (ns : Nodes process). nodes_size ns + 1) (processes_made v ∙ ap (λ (l : List Process). nodes (map process_of l)) (sym items))
-
-module _ (s : Stmt) (v : Vec Process Global) (xs : List Process) (line : ℕ) (is : s ≡ stmts.Par v) (items : xs ≡ v.items) (sc : Scope Calling) (depth : ℕ) (n m : Numbers)
-    (counts : room depth (node no_size) n ≡ Some m) where
-  beside_form : performing line s ≡ beside (all_beside (nodes (map process_of xs)))
-  beside_form = ap (performing line) is ∙ ap (λ (ns : Nodes process). beside (all_beside ns)) (processes_made v ∙ ap (λ (l : List Process). nodes (map process_of l)) (sym items))
-
-  beside_is : performing line s sc depth n ≡ (all_beside (nodes (map process_of xs)) sc (depth + 1) m >>= λ x. Some (Par x.0, x.1))
-  beside_is = ap (λ (u : Under Term). u sc depth n) beside_form ∙ ap (λ r. r >>= λ l. all_beside (nodes (map process_of xs)) sc (depth + 1) l >>= λ x. Some (Par x.0, x.1)) counts
-
-  pub beside_refused : all_beside (nodes (map process_of xs)) sc (depth + 1) m ≡ None → performing line s sc depth n ≡ None
-  beside_refused e = beside_is ∙ ap (λ r. r >>= λ x. Some (Par x.0, x.1)) e
-
-  pub beside_done : (bs : Branches) (l : Numbers) → all_beside (nodes (map process_of xs)) sc (depth + 1) m ≡ Some (bs, l) → performing line s sc depth n ≡ Some (Par bs, l)
-  beside_done bs l e = beside_is ∙ ap (λ r. r >>= λ x. Some (Par x.0, x.1)) e

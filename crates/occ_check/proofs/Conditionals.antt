@@ -1,9 +1,9 @@
 -- The choices of an IF, one after the other, and behind declarations.
-use Rattle.std.proofs.Common.{◌≡◌, ◌∙◌, ◌+◌, ℕ, length, List, [], ◌∷◌, ◌++◌, Option, Some, None, refl, ap, sym, map}
+use Rattle.std.proofs.Common.{arith, ◌≡◌, ◌∙◌, ◌+◌, ℕ, length, List, [], ◌∷◌, ◌++◌, Option, Some, None, refl, ap, sym, map}
 use Rattle.std.proofs.lemmas.List.{map-append}
 use Rattle.occ_tree_grammar.specs.Many.{◌>>=◌}
 use Rattle.occ_term.specs.declared.expression.Declaration.{Declaration}
-use Rattle.occ_tree_grammar.specs.Processes.Trees.{nodes}
+use Rattle.occ_tree_grammar.specs.Processes.Trees.{Kind, Node, choice, more_nodes, no_node, nodes}
 use Rattle.occ_tree_grammar.specs.Processes.Views as trees
 use Rattle.occ_tree_grammar.specs.Processes.Views.{process_of, row_decls}
 use Rattle.occ_tree_grammar.specs.declared.tree.process.Choice.{Choice}
@@ -28,7 +28,8 @@ use Rattle.occ_check.specs.Prefixes.{tested}
 use Rattle.occ_check_meaning.specs.Recursion.{all_choices, all_declared, choice_unfolded}
 use Rattle.occ_check_meaning.specs.Scope.{Scope, names_of}
 use Rattle.occ_check.specs.Statements.{choosing, declarations_of_choice}
-use Rattle.occ_check.specs.Weights.{body_size, choice_size, decls_size, node_size}
+use Rattle.occ_check.specs.Opened.{put}
+use Rattle.occ_check.specs.Weights.{body_size, choice_size, decls_size, node_size, nodes_size}
 
 abbrev pairing : T.Expression → Numbers → Option (T.Expression × Numbers)
 pairing test m = Some (test, m)
@@ -130,14 +131,8 @@ module _ (c : Choice) (sc : Scope Calling) (depth : ℕ) (n : Numbers) (ds : Dec
     choice_too_deep e = behind_heads ∙ ap (λ r. r >>= λ deep. choosing c inside deep m >>= λ x. Some (choices_behind heads x.0, x.1)) e
 
     module _ (deep : ℕ) (there : deeper depth levels ≡ Some deep) where
-      behind_levels : choice_unfolded (trees.choice_of c) sc depth n ≡ (choosing c inside deep m >>= λ x. Some (choices_behind heads x.0, x.1))
-      behind_levels = behind_heads ∙ ap (λ r. r >>= λ deep. choosing c inside deep m >>= λ x. Some (choices_behind heads x.0, x.1)) there
-
-      pub choice_refused : choosing c inside deep m ≡ None → choice_unfolded (trees.choice_of c) sc depth n ≡ None
-      choice_refused e = behind_levels ∙ ap (λ r. r >>= λ x. Some (choices_behind heads x.0, x.1)) e
-
-      pub choice_done : (cs : Choices) (l : Numbers) → choosing c inside deep m ≡ Some (cs, l) → choice_unfolded (trees.choice_of c) sc depth n ≡ Some (choices_behind heads cs, l)
-      choice_done cs l e = behind_levels ∙ ap (λ r. r >>= λ x. Some (choices_behind heads x.0, x.1)) e
+      pub choice_behind : choice_unfolded (trees.choice_of c) sc depth n ≡ put (choices_behind heads) (choosing c inside deep m)
+      choice_behind = behind_heads ∙ ap (λ r. r >>= λ deep. choosing c inside deep m >>= λ x. Some (choices_behind heads x.0, x.1)) there
 
 module _ (line : ℕ) (e : Expression) (body : Under T.Term) (sc : Scope Calling) (depth : ℕ) (n : Numbers) where
   as_or_choice : T.Expression → T.Term × Numbers → Option (Choices × Numbers)
@@ -159,9 +154,29 @@ module _ (line : ℕ) (e : Expression) (body : Under T.Term) (sc : Scope Calling
       by None = refl
       by (Some test) = then_by test (room depth (Sizes.node (size_of_expression test)) n)
 
-  pub when_refused : (test : T.Expression) (m : Numbers) → tested (names_of sc) line depth e n ≡ Some (test, m) → body sc (depth + 1) m ≡ None → P.choice_of line e body sc depth n ≡ None
+  pub when_not_tested : tested (names_of sc) line depth e n ≡ None → P.choice_of line e body sc depth n ≡ None
+  when_not_tested none = by_test ∙ ap (λ o. o >>= then_body) none
+
+  pub when_opens : (test : T.Expression) (m : Numbers) → tested (names_of sc) line depth e n ≡ Some (test, m) → P.choice_of line e body sc depth n ≡ put (λ t. or_choice test t no_choices) (body sc (depth + 1) m)
   unfolding then_body as_or_choice
-  when_refused test m h none = by_test ∙ ap (λ o. o >>= then_body) h ∙ ap (λ o. o >>= as_or_choice test) none
+  when_opens test m h = by_test ∙ ap (λ o. o >>= then_body) h
+
+-- ---- one choice as a list
+
+abbrev nothing_more : Numbers → Option (Choices × Numbers)
+nothing_more n = Some (no_choices, n)
+
+pub single_choice : (c : Node choice) (sc : Scope Calling) (depth : ℕ) (n : Numbers) → all_choices (more_nodes c no_node) sc depth n ≡ choice_unfolded c sc depth n
+unfolding all_choices
+single_choice c sc depth n = by (choice_unfolded c sc depth n)
+  where
+    by : (o : Option (Choices × Numbers)) → (o >>= λ x. nothing_more x.1 >>= λ r. Some (choices_then x.0 r.0, r.1)) ≡ o
+    by None = refl
+    by (Some x) = ap (λ a. Some (a, x.1)) (no_more_choices x.0)
+
+pub single_size : {k : Kind} (c : Node k) → nodes_size (more_nodes c no_node) ≡ node_size c + 1
+unfolding nodes_size
+single_size c = omega arith
 
 -- ---- in the code
 

@@ -59,26 +59,3 @@ unfolding nodes_size
 item_within [] i x h is = absurd (omega (arith, h))
 item_within (y ∷ ys) zero x h is = let e : node_size (process_of x) ≡ node_size (process_of y) = ap (λ z. node_size (process_of z)) is in omega (arith, e)
 item_within (y ∷ ys) (suc i) x h is = let e = item_within ys i x (omega (arith, h)) is in omega (arith, e)
-
--- ---- the statement
-
-pub sequence_form : (s : Stmt) (v : Vec Process Global) (xs : List Process) (line : ℕ) → s ≡ stmts.Seq v → xs ≡ v.items
-    → performing line s ≡ sequenced (all_in_turn (nodes (map process_of xs)))
-sequence_form s v xs line is items =
-    ap (performing line) is ∙ ap (λ (ns : Nodes process). sequenced (all_in_turn ns)) (processes_made v ∙ ap (λ (l : List Process). nodes (map process_of l)) (sym items))
-
-pub sequence_size : (s : Stmt) (v : Vec Process Global) (xs : List Process) → s ≡ stmts.Seq v → xs ≡ v.items → statement_size s ≡ nodes_size (nodes (map process_of xs)) + 1
-sequence_size s v xs is items =
-    ap statement_size is ∙ ap (λ (ns : Nodes process). nodes_size ns + 1) (processes_made v ∙ ap (λ (l : List Process). nodes (map process_of l)) (sym items))
-
-module _ (s : Stmt) (v : Vec Process Global) (xs : List Process) (line : ℕ) (is : s ≡ stmts.Seq v) (items : xs ≡ v.items) (sc : Scope Calling) (depth : ℕ) (n m : Numbers)
-    (counts : room depth (node no_size) n ≡ Some m) where
-  sequence_is : performing line s sc depth n ≡ (all_in_turn (nodes (map process_of xs)) sc (depth + 1) m >>= λ x. Some (Seq x.0, x.1))
-  sequence_is = ap (λ (u : Under Term). u sc depth n) (sequence_form s v xs line is items)
-      ∙ ap (λ r. r >>= λ l. all_in_turn (nodes (map process_of xs)) sc (depth + 1) l >>= λ x. Some (Seq x.0, x.1)) counts
-
-  pub sequence_refused : all_in_turn (nodes (map process_of xs)) sc (depth + 1) m ≡ None → performing line s sc depth n ≡ None
-  sequence_refused e = sequence_is ∙ ap (λ r. r >>= λ x. Some (Seq x.0, x.1)) e
-
-  pub sequence_done : (ts : Terms) (l : Numbers) → all_in_turn (nodes (map process_of xs)) sc (depth + 1) m ≡ Some (ts, l) → performing line s sc depth n ≡ Some (Seq ts, l)
-  sequence_done ts l e = sequence_is ∙ ap (λ r. r >>= λ x. Some (Seq x.0, x.1)) e

@@ -19,3 +19,4 @@ pub mod Tags
 pub mod Numbered
 pub mod Alternatives
 pub mod LastCopies
+pub mod Putting

@@ -15,6 +15,7 @@ use Rattle.occ_check_meaning.specs.Recursion.{unfolded}
 use Rattle.occ_check_meaning.specs.Scope.{Scope, a_value, known, names_of, within}
 use Rattle.occ_check_meaning.specs.Unfolding.{Procedures, meant}
 use Rattle.occ_check.specs.Numbered.{copies_counted, copy_for, numbered_copy}
+use Rattle.occ_check.specs.Opened.{put}
 use Rattle.occ_check_names.specs.View.{Refuses}
 use Rattle.occ_check.specs.Weights.{weight}
 use Rattle.occ_check_names.specs.declared.fault.CheckFault.{CheckFault}
@@ -97,11 +98,8 @@ module _ (u : ℤ → Unfolds Term) (i : ℤ) (n : Numbers) where
   no_number_left e = then_refused e (more_processes n) (λ m. u i m >>= λ t. numbered_as n.processes t)
 
   module _ (m : Numbers) (numbered : more_processes n ≡ Some m) where
-    pub no_copy : (e : CheckFault) → Refuses e (u i m) → Refuses e (numbered_copy u i n)
-    no_copy e = refused_with e (u i m) (numbered_copy u i n) (λ h. ap (λ o. o >>= λ m. u i m >>= λ t. numbered_as n.processes t) numbered ∙ ap (λ o. o >>= λ t. numbered_as n.processes t) h)
-
-    pub one_copy : (t : Term) (l : Numbers) → u i m ≡ Some (t, l) → numbered_copy u i n ≡ Some (and_branch n.processes t, l)
-    one_copy t l h = ap (λ o. o >>= λ m. u i m >>= λ t. numbered_as n.processes t) numbered ∙ ap (λ o. o >>= λ t. numbered_as n.processes t) h
+    pub copy_opens : numbered_copy u i n ≡ put (λ t. and_branch n.processes t) (u i m)
+    copy_opens = ap (λ o. o >>= λ m. u i m >>= λ t. numbered_as n.processes t) numbered
 
 -- ---- the scope of a copy
 
@@ -154,11 +152,5 @@ module _ (line : ℕ) (r : L.Replicator) (p : Node process) (sc : Scope Calling)
   counting_refused e = refused_with e (copies_counted (names_of sc) line depth r n) (copies_beside line r (unfolded p) sc depth n) (λ h. counted_first ∙ none_then (λ c. copies_from c >>= put_beside) h)
 
   module _ (i : ℤ) (k : ℕ) (m : Numbers) (counts : copies_counted (names_of sc) line depth r n ≡ Some ((i, k), m)) where
-    begun : copies_beside line r (unfolded p) sc depth n ≡ (copied (copy_for r p sc (depth + 1)) k i m >>= put_beside)
-    begun = counted_first ∙ ap (λ o. o >>= λ c. copies_from c >>= put_beside) counts
-
-    pub copies_refused : (e : CheckFault) → Refuses e (copied (copy_for r p sc (depth + 1)) k i m) → Refuses e (copies_beside line r (unfolded p) sc depth n)
-    copies_refused e = refused_with e (copied (copy_for r p sc (depth + 1)) k i m) (copies_beside line r (unfolded p) sc depth n) (λ h. begun ∙ none_then put_beside h)
-
-    pub copies_done : (bs : Branches) (l : Numbers) → copied (copy_for r p sc (depth + 1)) k i m ≡ Some (bs, l) → copies_beside line r (unfolded p) sc depth n ≡ Some (Par bs, l)
-    copies_done bs l h = begun ∙ ap (λ o. o >>= put_beside) h
+    pub copies_open : copies_beside line r (unfolded p) sc depth n ≡ put Par (copied (copy_for r p sc (depth + 1)) k i m)
+    copies_open = counted_first ∙ ap (λ o. o >>= λ c. copies_from c >>= put_beside) counts

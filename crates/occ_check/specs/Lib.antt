@@ -6,3 +6,4 @@ pub mod CheckRefuses
 pub mod ProgramView
 pub mod Entering
 pub mod Numbered
+pub mod Opened

@@ -1,22 +1,17 @@
 -- What the code of processes answers.
 -- Manual: nothing; this is (own).
-use Rattle.std.specs.Prelude.{List, map, None, Option, Some, reverse, Result, Ok, Err, ℕ, ℤ, ⊤, ◌+◌, ◌<◌, ◌≡◌}
-use Rattle.occ_tree_grammar.specs.Processes.Views.{decl_of, process_of}
-use Rattle.occ_tree_grammar.specs.Processes.Trees.{decls}
-use Rattle.occ_tree_grammar.specs.declared.tree.process.Decl.{Decl as DeclTree}
-use Rattle.occ_tree_grammar.specs.declared.tree.process.Stmt.{Stmt}
+use Rattle.std.specs.Prelude.{List, Option, Some, reverse, Result, Ok, Err, ℕ, ℤ, ◌≡◌}
+use Rattle.occ_tree_grammar.specs.Processes.Views.{process_of}
 use Rattle.occ_tree_grammar.specs.declared.tree.process.Process.{Process}
 use Rattle.occ_term.specs.Terms as T
 use Rattle.occ_term.specs.declared.expression.Declaration.{Declaration}
-use Rattle.occ_term.specs.View.{declarations_of, option_of, replicator_of, term_of}
-use Rattle.occ_term.specs.declared.term.Selection.{Selection}
+use Rattle.occ_term.specs.View.{declarations_of, replicator_of}
 use Rattle.occ_term.specs.declared.expression.Replicator.{Replicator}
 use Rattle.occ_check_meaning.specs.Declarations.{Indexed}
 use Rattle.occ_check_meaning.specs.Numbers as N
-use Rattle.occ_check_meaning.specs.Performing.{behind, Calling, Entered, entered}
+use Rattle.occ_check_meaning.specs.Performing.{Calling, Entered, entered}
 use Rattle.occ_check_meaning.specs.Scope as S
-use Rattle.occ_check_meaning.specs.Recursion.{all_declared, unfolded}
-use Rattle.occ_check.specs.Statements.{performing}
+use Rattle.occ_check_meaning.specs.Recursion.{unfolded}
 use Rattle.occ_check_meaning.specs.Unfolding.{Procedures, meant}
 use Rattle.occ_tree_grammar.specs.Many.{◌>>=◌}
 use Rattle.occ_check_meaning.specs.Actions as A
@@ -24,14 +19,12 @@ use Rattle.occ_check_meaning.specs.Actions.{headed, opening}
 use Rattle.occ_check_acting.specs.ActionView.{chosen_of}
 use Rattle.occ_check_acting.specs.declared.action.Chosen.{Chosen}
 use Rattle.occ_check_names.specs.declared.numbers.Numbers.{Numbers}
-use Rattle.occ_check.specs.Weights.{decls_size, node_size, statement_size, weight}
+use Rattle.occ_check.specs.Weights.{weight}
 use Rattle.occ_check.specs.declared.unfolder.Call.{Call}
 use Rattle.occ_check_names.specs.View.{numbers_of, innermost, scope_in, Refuses}
 use Rattle.occ_check_names.specs.declared.fault.CheckFault.{CheckFault}
 use Rattle.occ_check_names.specs.declared.scope.Position.{Position}
 use Rattle.occ_check.specs.declared.unfolder.Unfolder.{Unfolder}
-use Rattle.occ_check.specs.declared.unfolder.Step.{Step}
-use Rattle.occ_check.specs.declared.unfolder.Step.TheVariants as steps
 
 -- what is in scope at a position of the open frames
 abbrev pub scope_at : Unfolder → Position → Procedures
@@ -43,12 +36,6 @@ meant_at u at = meant (scope_at u at)
 
 abbrev pub counted : Unfolder → N.Numbers
 counted u = numbers_of u.numbers
-
--- a step tells what a process unfolds to: the term, or what a body unfolds to
-abbrev pub Steps : ℕ → Result Step CheckFault → Unfolder → Option (T.Term × N.Numbers) → Type 0
-Steps depth (Ok (steps.Term t)) after given = given ≡ Some (term_of t, counted after)
-Steps depth (Ok (steps.Call body at)) after given = given ≡ unfolded (process_of body.now) (meant_at after at) depth (counted after)
-Steps depth (Err e) after given = Refuses e given
 
 -- all that is in scope at the end
 abbrev pub innermost_at : Unfolder → Procedures
@@ -82,11 +69,6 @@ abbrev pub Calls : ℕ → Result Call CheckFault → Unfolder → Option (T.Ter
 Calls depth (Ok c) after given = given ≡ called_body c.heads c.body.now after c.inside depth
 Calls depth (Err e) after given = Refuses e given
 
--- a body that is still to be unfolded is smaller than so much
-abbrev pub IsFalling : Unfolder → ℕ → Step → Type 0
-IsFalling after n (steps.Term t) = ⊤
-IsFalling after n (steps.Call body at) = node_size (process_of body.now) + weight_at after at < n
-
 -- a replicator with its index, under the names of which something is read
 abbrev pub Indexes : Result (Replicator × Position) CheckFault → Unfolder → S.Scope Calling → Option Indexed → Type 0
 Indexes (Ok r) after sc given =
@@ -99,8 +81,3 @@ Indexes (Err e) after sc given = Refuses e given
 abbrev pub Lists : Result (List ℤ) CheckFault → Chosen → Numbers → Option ((List ℤ × A.Chosen) × N.Numbers) → Type 0
 Lists (Ok vs) chosen after given = given ≡ Some ((vs, chosen_of chosen), numbers_of after)
 Lists (Err e) chosen after given = Refuses e given
-
--- an option, with what is chosen then
-abbrev pub Selects : Result Selection CheckFault → Chosen → Unfolder → Option ((T.Options × A.Chosen) × N.Numbers) → Type 0
-Selects (Ok s) chosen after given = given ≡ Some ((option_of s T.no_options, chosen_of chosen), counted after)
-Selects (Err e) chosen after given = Refuses e given

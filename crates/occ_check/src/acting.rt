@@ -25,6 +25,7 @@ ghost use Rattle.occ_check.specs.Progress.{EntersAt, counted, meant_at, weight_a
 use crate::frames::Frames;
 use crate::unfolder::Unfolder;
 use occ_check_acting::action::{Listed, as_input, assigned, output, received};
+use occ_check_names::context::Context;
 use occ_check_names::fault::CheckFault;
 use occ_check_names::measuring::{
     count_assignment, count_expression, count_input, count_output, count_tagged_input,
@@ -73,7 +74,7 @@ impl<'t> Unfolder<'t> {
         ensures within { IfOk result (λ _. depth < 200) }
     {
         let scope = names_at(&self.frames, at);
-        condition(&mut self.numbers, alloc, scope, line, depth, e)
+        condition(&mut self.numbers, Context { alloc, scope, line }, depth, e)
     }
 
     /// SKIP.
@@ -110,9 +111,7 @@ impl<'t> Unfolder<'t> {
         let scope = names_at(&self.frames, at);
         assigning(
             &mut self.numbers,
-            alloc,
-            scope,
-            line,
+            Context { alloc, scope, line },
             depth,
             variables,
             values,
@@ -132,7 +131,12 @@ impl<'t> Unfolder<'t> {
         ensures kept { OnOk result (self.new.frames ≡ self.old.frames) }
     {
         let scope = names_at(&self.frames, at);
-        receiving(&mut self.numbers, alloc, scope, line, depth, input)
+        receiving(
+            &mut self.numbers,
+            Context { alloc, scope, line },
+            depth,
+            input,
+        )
     }
 
     /// What an output unfolds to.
@@ -149,7 +153,13 @@ impl<'t> Unfolder<'t> {
         ensures kept { OnOk result (self.new.frames ≡ self.old.frames) }
     {
         let scope = names_at(&self.frames, at);
-        outputting(&mut self.numbers, alloc, scope, line, depth, channel, outs)
+        outputting(
+            &mut self.numbers,
+            Context { alloc, scope, line },
+            depth,
+            channel,
+            outs,
+        )
     }
 }
 
@@ -163,16 +173,14 @@ pub(crate) fn names_at<'a, 't>(frames: &'a Frames<'t>, at: Position) -> Scope<'a
 /// A condition, and the node that it heads.
 fn condition(
     numbers: &mut Numbers,
-    alloc: Global,
-    scope: Scope<'_, '_>,
-    line: u32,
+    context: Context<'_, '_>,
     depth: u32,
     e: &Expr,
 ) -> Result<TermExpr, CheckFault>
-    ensures tested { Unfolds expression_of result numbers.new (tested (names_in scope.entry) line depth (tree_of e.now) (numbers_of numbers.old)) }
+    ensures tested { Unfolds expression_of result numbers.new (tested (names_in context.entry.scope) context.entry.line depth (tree_of e.now) (numbers_of numbers.old)) }
     ensures within { IfOk result (λ _. depth < 200) }
 {
-    let e = typed_as(alloc, scope, line, Primitive::Bool, e)?;
+    let e = typed_as(context, Primitive::Bool, e)?;
     counted_expression(numbers, depth, e)
 }
 
@@ -194,16 +202,14 @@ pub(crate) fn counted_expression(
 /// An assignment with its nodes.
 fn assigning(
     numbers: &mut Numbers,
-    alloc: Global,
-    scope: Scope<'_, '_>,
-    line: u32,
+    context: Context<'_, '_>,
     depth: u32,
     variables: &OneOrMore<Var>,
     values: &OneOrMore<Expr>,
 ) -> Result<Term, CheckFault>
-    ensures { Unfolds term_of result numbers.new (assigning (names_in scope.entry) line depth (lines.var_of variables.now.first ∷ map lines.var_of variables.now.others.items) (tree_of values.now.first ∷ map tree_of values.now.others.items) (numbers_of numbers.old)) }
+    ensures { Unfolds term_of result numbers.new (assigning (names_in context.entry.scope) context.entry.line depth (lines.var_of variables.now.first ∷ map lines.var_of variables.now.others.items) (tree_of values.now.first ∷ map tree_of values.now.others.items) (numbers_of numbers.old)) }
 {
-    let (targets, items) = assigned(alloc, scope, line, variables, values)?;
+    let (targets, items) = assigned(context, variables, values)?;
     count_assignment(numbers, depth, targets.as_slice(), items.as_slice())?;
     Ok(Term::Assign(targets, items))
 }
@@ -211,16 +217,14 @@ fn assigning(
 /// An output with its nodes.
 fn outputting(
     numbers: &mut Numbers,
-    alloc: Global,
-    scope: Scope<'_, '_>,
-    line: u32,
+    context: Context<'_, '_>,
     depth: u32,
     channel: &Var,
     outs: &OneOrMore<Out>,
 ) -> Result<Term, CheckFault>
-    ensures { Unfolds term_of result numbers.new (outputting (names_in scope.entry) line depth (lines.var_of channel.now) (lines.out_of outs.now.first) (map lines.out_of outs.now.others.items) (numbers_of numbers.old)) }
+    ensures { Unfolds term_of result numbers.new (outputting (names_in context.entry.scope) context.entry.line depth (lines.var_of channel.now) (lines.out_of outs.now.first) (map lines.out_of outs.now.others.items) (numbers_of numbers.old)) }
 {
-    let (channel, tag, items) = output(alloc, scope, line, channel, outs)?;
+    let (channel, tag, items) = output(context, channel, outs)?;
     counted_output(numbers, depth, &channel, tag, items.as_slice())?;
     Ok(Term::Output(channel, tag, items))
 }
@@ -242,18 +246,16 @@ fn counted_output(
 /// An input with its nodes.
 fn receiving(
     numbers: &mut Numbers,
-    alloc: Global,
-    scope: Scope<'_, '_>,
-    line: u32,
+    context: Context<'_, '_>,
     depth: u32,
     input: &Input,
 ) -> Result<Term, CheckFault>
-    ensures { Unfolds term_of result numbers.new (receiving (names_in scope.entry) line depth (lines.input_of input.now) (numbers_of numbers.old)) }
+    ensures { Unfolds term_of result numbers.new (receiving (names_in context.entry.scope) context.entry.line depth (lines.input_of input.now) (numbers_of numbers.old)) }
 {
-    let (channel, listed) = received(alloc, scope, line, input)?;
+    let (channel, listed) = received(context, input)?;
     let (channel, listed) = (Held::new(channel), Held::new(listed));
     count_received(numbers, depth, &channel.value, &listed.value)?;
-    let term = as_input(alloc, channel.into_inner(), listed.into_inner())?;
+    let term = as_input(context.alloc, channel.into_inner(), listed.into_inner())?;
     Ok(term)
 }
 

@@ -1,77 +1,157 @@
 //! The arms of an ALT.
 
-ghost use Rattle.std.specs.Prelude.{◌≡◌, ◌<◌, ◌≤◌, ◌+◌, IfOk, OnOk, map, option_map};
-ghost use Rattle.occ_tree_grammar.specs.Expressions.Trees.{expression_of as tree_of};
-ghost use Rattle.occ_tree_grammar.specs.Processes.Trees.{nodes, decls};
+ghost use Rattle.std.specs.Prelude.{◌≡◌, ◌<◌, ◌≤◌, ◌+◌, IfOk, OnOk, length, map, take};
+ghost use Rattle.occ_tree_grammar.specs.Processes.Trees.{decls, more_nodes, no_node, nodes};
 ghost use Rattle.occ_tree_grammar.specs.Processes.Views as trees;
 ghost use Rattle.occ_tree_grammar.specs.Processes.Views.{decl_of, process_of, row_arms, row_decls};
 ghost use Rattle.occ_tree_grammar.specs.declared.tree.process.Arm.TheBlock.{hidden-the_row-Arm-2, hidden-the_row-Decl-0};
 ghost use Rattle.occ_tree_grammar.specs.Lines.HeadViews.{guard_of};
-ghost use Rattle.occ_tree_grammar.specs.Lines.Views as lines;
 ghost use Rattle.occ_tree_grammar.specs.Lines.Views.{replicator_of};
-ghost use Rattle.occ_term.specs.Sizes.{beside, node, size_of_place, size_of_test};
-ghost use Rattle.occ_term.specs.Terms.{input_arm, no_arms};
-ghost use Rattle.occ_term.specs.View.{arm_of, arms_of, declarations_of, place_of, term_of, test_of as boolean_of};
+ghost use Rattle.occ_term.specs.Terms.{no_arms};
+ghost use Rattle.occ_term.specs.View.{arm_of, arms_of, declarations_of, term_of, variants_of};
 ghost use Rattle.occ_check_meaning.specs.Actions as meant;
 ghost use Rattle.occ_check_meaning.specs.Performing as performing;
 ghost use Rattle.occ_check_meaning.specs.Performing.{alternated, each_of_arms};
 ghost use Rattle.occ_check_meaning.specs.Recursion.{all_arms, arm_unfolded, unfolded};
-ghost use Rattle.occ_check_meaning.specs.Scope.{names_of};
-ghost use Rattle.occ_check_acting.specs.ActionView.{listed_of};
-ghost use Rattle.occ_check.specs.Prefixes.{guarding, guarding_variants};
-ghost use Rattle.occ_check_meaning.specs.Numbers.{room};
-ghost use Rattle.occ_check_names.specs.View.{Counts, Unfolds, names_in, numbers_of};
+ghost use Rattle.occ_check_names.specs.View.{Unfolds};
+ghost use Rattle.occ_check.specs.Opened.{IsReady, Opens, arm_depth, arm_left, arm_weight, arm_with, arms_within, left_weight, put, statement_left, variants_within};
+ghost use Rattle.occ_check.specs.Progress.{counted, meant_at, weight_at};
 ghost use Rattle.occ_check.specs.Statements.{declarations_of_arm, listening};
-ghost use Rattle.occ_check.specs.Progress.{counted, meant_at};
+ghost use Rattle.occ_check.specs.Weights.{arm_size, node_size, nodes_size};
 
-use crate::acting::names_at;
+use crate::guards::{ArmGuard, depth_behind};
+use crate::opened::{Left, Opened, Over};
 use crate::unfolder::Unfolder;
 use crate::variants::listed_variants;
-use occ_check_acting::action::{Listed, as_reception, received, test_of, with_tags};
 use occ_check_names::fault::CheckFault;
-use occ_check_names::measuring::{count_place, count_targets, count_test};
-use occ_check_names::numbers::{Numbers, deeper};
-use occ_check_names::scope::{Position, Scope};
-use occ_check_typing::item::channel_of;
-use occ_held::Held;
-use occ_term::{Arm as TermArm, Declaration, Place, Protocol, Reception, Term, TermExpr};
-use occ_tree_grammar::tree::expr::Expr;
-use occ_tree_grammar::tree::line::{Guard, Input, Replicator, VariantGuard};
-use occ_tree_grammar::tree::process::{Arm, Decl, Process};
+use occ_check_names::numbers::deeper;
+use occ_check_names::scope::Position;
+use occ_term::{
+    Arm as TermArm, Declaration, Place, Protocol, Reception, Term, TermExpr, Variant as TermVariant,
+};
+use occ_tree_grammar::tree::line::{Guard, Replicator};
+use occ_tree_grammar::tree::process::{Arm, Decl, Process, Variant};
 use sqlite_items::Items;
 use std::alloc::{AllocError, Global};
 
-/// The guard of an arm with an input: its Boolean, its channel and what it stores.
+/// An arm whose first steps are done: what is left of it, what that is put into, and where and how deep it stands.
 #[derive(Drop)]
-struct Guarded {
+pub(crate) enum OpenedArm<'t> {
+    /// Its process is left.
+    Guarded(GuardedHead, &'t Process, Position, u32),
+    /// The variants of an input are left, from a channel with this protocol.
+    OnVariant(VariantsHead, Protocol, &'t [Variant], Position, u32),
+    /// The arms of a nested ALT are left.
+    Inner(ArmsHead, &'t [Arm], Position, u32),
+}
+
+/// What the process of an arm is put into: what is set for its declarations, and its guard.
+pub(crate) struct GuardedHead {
+    heads: Items<Declaration>,
+    guard: ArmGuard,
+}
+
+impl Drop for GuardedHead {
+    fn drop(self) {
+        let GuardedHead { heads: _, guard: _ } = self;
+    }
+}
+
+impl GuardedHead {
+    /// The arm with its process.
+    fn with_process(self, alloc: Global, body: Term) -> Result<Items<TermArm>, AllocError>
+        ensures { IfOk result (λ xs. arms_of xs ≡ arm_with self (term_of body)) }
+    {
+        let GuardedHead { heads, guard } = self;
+        let arms = guard.with_process(alloc, body)?;
+        arms_behind(alloc, heads, arms)
+    }
+}
+
+/// What the variants of an arm are put into: what is set for its declarations, its Boolean and its channel.
+pub(crate) struct VariantsHead {
+    heads: Items<Declaration>,
     test: Option<TermExpr>,
     channel: Place,
-    listed: Listed,
+}
+
+impl Drop for VariantsHead {
+    fn drop(self) {
+        let VariantsHead {
+            heads: _,
+            test: _,
+            channel: _,
+        } = self;
+    }
+}
+
+impl VariantsHead {
+    /// The arm with its variants.
+    fn with_variants(
+        self,
+        alloc: Global,
+        variants: Items<TermVariant>,
+    ) -> Result<Items<TermArm>, AllocError>
+        ensures { IfOk result (λ xs. arms_of xs ≡ variants_within self (variants_of variants)) }
+    {
+        let VariantsHead {
+            heads,
+            test,
+            channel,
+        } = self;
+        let arm = TermArm::InputArm(test, channel, Reception::Tagged(variants));
+        let arms = only_arm(alloc, arm)?;
+        arms_behind(alloc, heads, arms)
+    }
+}
+
+/// What the arms of a nested ALT are put into: what is set for its declarations, and its replicator.
+pub(crate) struct ArmsHead {
+    heads: Items<Declaration>,
+    over: Over,
+}
+
+impl Drop for ArmsHead {
+    fn drop(self) {
+        let ArmsHead { heads: _, over: _ } = self;
+    }
+}
+
+impl ArmsHead {
+    /// The arms in it.
+    fn with_arms(self, alloc: Global, arms: Items<TermArm>) -> Result<Items<TermArm>, AllocError>
+        ensures { IfOk result (λ xs. arms_of xs ≡ arms_within self (arms_of arms)) }
+    {
+        let ArmsHead { heads, over } = self;
+        let arms = over.with_arms(alloc, arms)?;
+        arms_behind(alloc, heads, arms)
+    }
 }
 
 impl<'t> Unfolder<'t> {
-    /// What an ALT unfolds to.
-    #[cycle(unfolding)]
-    pub fn alternation(
+    /// Opens an ALT.
+    pub fn arms_opened(
         &mut self,
-        alloc: Global,
         at: Position,
         depth: u32,
         by_priority: bool,
         arms: &'t [Arm],
-    ) -> Result<Term, CheckFault>
-        requires { depth ≤ 200 }
-        ensures term { Unfolds term_of result self.new.numbers (alternated by_priority (all_arms (nodes (map trees.arm_of arms.now))) (meant_at self.old at) depth (counted self.old)) }
-        ensures kept { OnOk result (self.new.frames.frames.items ≡ self.old.frames.frames.items) }
+    ) -> Result<Opened<'t>, CheckFault>
+        ensures opens { Opens statement_left result self.new (alternated by_priority (all_arms (nodes (map trees.arm_of arms.now))) (meant_at self.old at) depth (counted self.old)) }
+        ensures kept { OnOk result (take (length self.old.frames.frames.items) self.new.frames.frames.items ≡ self.old.frames.frames.items) }
+        ensures weight { IfOk result (λ o. left_weight self.new o ≤ nodes_size (nodes (map trees.arm_of arms.now)) + weight_at self.old at) }
+        ensures ready { IfOk result IsReady }
     {
         self.numbers.node(depth)?;
-        let arms = self.arms(alloc, at, depth + 1, arms)?;
-        Ok(Term::Alt(by_priority, arms))
+        Ok(Opened {
+            left: Left::Arms(by_priority, Over::Once, arms),
+            at,
+            depth: depth + 1,
+        })
     }
 
-    /// What a replicated ALT unfolds to.
-    #[cycle(unfolding)]
-    pub fn each_alternation(
+    /// Opens a replicated ALT.
+    pub fn each_arm_opened(
         &mut self,
         alloc: Global,
         at: Position,
@@ -80,19 +160,24 @@ impl<'t> Unfolder<'t> {
         by_priority: bool,
         replicator: &Replicator,
         arm: &'t Arm,
-    ) -> Result<Term, CheckFault>
-        requires { depth ≤ 200 }
-        ensures term { Unfolds term_of result self.new.numbers (alternated by_priority (each_of_arms line (replicator_of replicator.now) (arm_unfolded (trees.arm_of arm.now))) (meant_at self.old at) depth (counted self.old)) }
-        ensures kept { OnOk result (self.new.frames.frames.items ≡ self.old.frames.frames.items) }
+    ) -> Result<Opened<'t>, CheckFault>
+        ensures opens { Opens statement_left result self.new (alternated by_priority (each_of_arms line (replicator_of replicator.now) (arm_unfolded (trees.arm_of arm.now))) (meant_at self.old at) depth (counted self.old)) }
+        ensures kept { OnOk result (take (length self.old.frames.frames.items) self.new.frames.frames.items ≡ self.old.frames.frames.items) }
+        ensures weight { IfOk result (λ o. left_weight self.new o ≤ (node_size (trees.arm_of arm.now) + 1) + weight_at self.old at) }
+        ensures ready { IfOk result IsReady }
     {
         self.numbers.node(depth)?;
-        let arms = self.each_arm(alloc, at, depth + 1, line, replicator, arm)?;
-        Ok(Term::Alt(by_priority, arms))
+        let (over, inside) = self.indexed(alloc, at, depth + 1, line, replicator)?;
+        Ok(Opened {
+            left: Left::Arms(by_priority, Over::Each(over), one_arm(arm)),
+            at: inside,
+            depth: depth + 1,
+        })
     }
 
     /// What arms unfold to, those of a nested ALT in its place.
     #[cycle(unfolding)]
-    fn arms(
+    pub fn arms(
         &mut self,
         alloc: Global,
         at: Position,
@@ -105,78 +190,103 @@ impl<'t> Unfolder<'t> {
     {
         let mut arms = Items::new(alloc);
         for arm in list {
-            let made = self.arm(alloc, at, depth, arm)?;
-            arms.append(made)?;
+            let base = self.frames.len();
+            let opened = self.arm_opened(alloc, at, depth, arm)?;
+            match opened {
+                OpenedArm::Guarded(head, body, inside, deep) => {
+                    let body = self.process(alloc, inside, deep, body)?;
+                    self.frames.close(base);
+                    let made = head.with_process(alloc, body)?;
+                    arms.append(made)?;
+                    continue;
+                }
+                OpenedArm::OnVariant(head, protocol, list, inside, deep) => {
+                    let variants = self.variants(alloc, inside, deep, &protocol, list)?;
+                    self.frames.close(base);
+                    let made = head.with_variants(alloc, variants)?;
+                    arms.append(made)?;
+                    continue;
+                }
+                OpenedArm::Inner(head, list, inside, deep) => {
+                    let within = self.arms(alloc, inside, deep, list)?;
+                    self.frames.close(base);
+                    let made = head.with_arms(alloc, within)?;
+                    arms.append(made)?;
+                    continue;
+                }
+            }
         }
         Ok(arms)
     }
 
-    /// What an arm unfolds to.
-    #[cycle(unfolding)]
-    fn arm(
+    /// Opens an arm.
+    fn arm_opened(
         &mut self,
         alloc: Global,
         at: Position,
         depth: u32,
         arm: &'t Arm,
-    ) -> Result<Items<TermArm>, CheckFault>
+    ) -> Result<OpenedArm<'t>, CheckFault>
         requires { depth ≤ 200 }
-        ensures arms { Unfolds arms_of result self.new.numbers (arm_unfolded (trees.arm_of arm.now) (meant_at self.old at) depth (counted self.old)) }
-        ensures kept { OnOk result (self.new.frames.frames.items ≡ self.old.frames.frames.items) }
+        ensures opens { Opens arm_left result self.new (arm_unfolded (trees.arm_of arm.now) (meant_at self.old at) depth (counted self.old)) }
+        ensures kept { OnOk result (take (length self.old.frames.frames.items) self.new.frames.frames.items ≡ self.old.frames.frames.items) }
+        ensures weight { IfOk result (λ o. arm_weight self.new o < node_size (trees.arm_of arm.now) + weight_at self.old at) }
+        ensures within { IfOk result (λ o. arm_depth o ≤ 200) }
     {
-        let base = self.frames.len();
         let (heads, inside) = self.entering(alloc, at, depth, declarations_of(arm))?;
         let deep = deeper(depth, heads.len())?;
-        let arms = self.listening(alloc, inside, deep, arm)?;
-        self.frames.close(base);
-        Ok(arms_behind(alloc, heads, arms)?)
+        self.listening_opened(alloc, inside, deep, arm, heads)
     }
 
-    /// What an arm unfolds to behind its declarations.
-    #[cycle(unfolding)]
-    fn listening(
+    /// Opens an arm behind its declarations, for which this is set.
+    fn listening_opened(
         &mut self,
         alloc: Global,
         at: Position,
         depth: u32,
         arm: &'t Arm,
-    ) -> Result<Items<TermArm>, CheckFault>
+        heads: Items<Declaration>,
+    ) -> Result<OpenedArm<'t>, CheckFault>
         requires { depth ≤ 200 }
-        ensures arms { Unfolds arms_of result self.new.numbers (listening arm.now (meant_at self.old at) depth (counted self.old)) }
-        ensures kept { OnOk result (self.new.frames.frames.items ≡ self.old.frames.frames.items) }
+        ensures opens { Opens arm_left result self.new (put (meant.arms_behind (declarations_of heads)) (listening arm.now (meant_at self.old at) depth (counted self.old))) }
+        ensures kept { OnOk result (take (length self.old.frames.frames.items) self.new.frames.frames.items ≡ self.old.frames.frames.items) }
+        ensures weight { IfOk result (λ o. arm_weight self.new o ≤ arm_size arm.now + weight_at self.old at) }
+        ensures within { IfOk result (λ o. arm_depth o ≤ 200) }
     {
         match arm {
             Arm::Guarded(_, line, guard, body) => {
-                self.guarded(alloc, at, depth, *line, guard, body)
+                self.guard_opened(alloc, at, depth, *line, guard, body, heads)
             }
             Arm::OnVariant(_, line, guard, variants) => {
                 let (test, protocol, channel) = self.guarding_variants(
                     alloc, at, depth, *line, guard,
                 )?;
-                let variants = self.variants(
-                    alloc,
-                    at,
-                    depth + 1,
-                    &protocol,
-                    listed_variants(variants),
-                )?;
-                let arm = TermArm::InputArm(test, channel, Reception::Tagged(variants));
-                Ok(only_arm(alloc, arm)?)
+                let head = VariantsHead {
+                    heads,
+                    test,
+                    channel,
+                };
+                let variants = listed_variants(variants);
+                Ok(OpenedArm::OnVariant(head, protocol, variants, at, depth + 1))
             }
             Arm::InnerAlt(_, _, _, arms) => {
                 let deep = deeper(depth, 1)?;
-                self.arms(alloc, at, deep, listed_arms(arms))
+                let over = Over::Once;
+                let head = ArmsHead { heads, over };
+                Ok(OpenedArm::Inner(head, listed_arms(arms), at, deep))
             }
             Arm::InnerAltFor(_, line, _, replicator, arm) => {
                 let deep = deeper(depth, 1)?;
-                self.each_arm(alloc, at, deep, *line, replicator, arm)
+                let (over, inside) = self.indexed(alloc, at, deep, *line, replicator)?;
+                let over = Over::Each(over);
+                let head = ArmsHead { heads, over };
+                Ok(OpenedArm::Inner(head, one_arm(arm), inside, deep))
             }
         }
     }
 
-    /// What an arm with a guard in one line unfolds to.
-    #[cycle(unfolding)]
-    fn guarded(
+    /// Opens an arm with a guard in one line, behind its declarations, for which this is set.
+    fn guard_opened(
         &mut self,
         alloc: Global,
         at: Position,
@@ -184,206 +294,33 @@ impl<'t> Unfolder<'t> {
         line: u32,
         guard: &Guard,
         body: &'t Process,
-    ) -> Result<Items<TermArm>, CheckFault>
+        heads: Items<Declaration>,
+    ) -> Result<OpenedArm<'t>, CheckFault>
         requires { depth ≤ 200 }
-        ensures arms { Unfolds arms_of result self.new.numbers (performing.arm_of line (guard_of guard.now) (unfolded (process_of body.now)) (meant_at self.old at) depth (counted self.old)) }
-        ensures kept { OnOk result (self.new.frames.frames.items ≡ self.old.frames.frames.items) }
+        ensures opens { Opens arm_left result self.new (put (meant.arms_behind (declarations_of heads)) (performing.arm_of line (guard_of guard.now) (unfolded (process_of body.now)) (meant_at self.old at) depth (counted self.old))) }
+        ensures kept { OnOk result (take (length self.old.frames.frames.items) self.new.frames.frames.items ≡ self.old.frames.frames.items) }
+        ensures weight { IfOk result (λ o. arm_weight self.new o ≤ node_size (process_of body.now) + weight_at self.old at) }
+        ensures within { IfOk result (λ o. arm_depth o ≤ 200) }
     {
         match guard {
             Guard::Input(test, input) => {
                 let guarded = self.guarding(alloc, at, depth, line, test, input)?;
                 let deep = depth_behind(&guarded.listed, depth + 1);
-                let guarded = Held::new(guarded);
-                let body = self.process(alloc, at, deep, body)?;
-                Ok(input_arm(alloc, guarded.into_inner(), body)?)
+                let guard = ArmGuard::Input(guarded);
+                let head = GuardedHead { heads, guard };
+                Ok(OpenedArm::Guarded(head, body, at, deep))
             }
             Guard::Skip(test) => {
-                let test = Held::new(self.tested(alloc, at, depth, line, test)?);
-                let body = self.process(alloc, at, depth + 1, body)?;
-                Ok(only_arm(alloc, TermArm::SkipArm(test.into_inner(), body))?)
+                let guard = ArmGuard::Skip(self.tested(alloc, at, depth, line, test)?);
+                let head = GuardedHead { heads, guard };
+                Ok(OpenedArm::Guarded(head, body, at, depth + 1))
             }
         }
     }
-
-    /// What an arm unfolds to for each value of an index.
-    #[cycle(unfolding)]
-    fn each_arm(
-        &mut self,
-        alloc: Global,
-        at: Position,
-        depth: u32,
-        line: u32,
-        replicator: &Replicator,
-        arm: &'t Arm,
-    ) -> Result<Items<TermArm>, CheckFault>
-        requires { depth ≤ 200 }
-        ensures arms { Unfolds arms_of result self.new.numbers (each_of_arms line (replicator_of replicator.now) (arm_unfolded (trees.arm_of arm.now)) (meant_at self.old at) depth (counted self.old)) }
-        ensures kept { OnOk result (self.new.frames.frames.items ≡ self.old.frames.frames.items) }
-    {
-        let base = self.frames.len();
-        let (over, inside) = self.indexed(alloc, at, depth, line, replicator)?;
-        let over = Held::new(over);
-        let within = self.arm(alloc, inside, depth, arm)?;
-        self.frames.close(base);
-        Ok(only_arm(alloc, TermArm::EachArm(over.into_inner(), within))?)
-    }
-
-    /// A guard with an input, with the node that it heads.
-    fn guarding(
-        &mut self,
-        alloc: Global,
-        at: Position,
-        depth: u32,
-        line: u32,
-        test: &Option<Expr>,
-        input: &Input,
-    ) -> Result<Guarded, CheckFault>
-        ensures guard { Unfolds (λ g. (boolean_of g.test, (place_of g.channel, listed_of g.listed))) result self.new.numbers (guarding (names_of (meant_at self.old at)) line depth (option_map tree_of test.now) (lines.input_of input.now) (counted self.old)) }
-        ensures kept { OnOk result (self.new.frames ≡ self.old.frames) }
-        ensures within { IfOk result (λ g. meant.depth_behind (listed_of g.listed) (depth + 1) ≤ 200) }
-    {
-        let scope = names_at(&self.frames, at);
-        guarding(&mut self.numbers, alloc, scope, line, depth, test, input)
-    }
-
-    /// A guard with an input of variants, with the node that it heads, and what its channel carries.
-    fn guarding_variants(
-        &mut self,
-        alloc: Global,
-        at: Position,
-        depth: u32,
-        line: u32,
-        guard: &VariantGuard,
-    ) -> Result<(Option<TermExpr>, Protocol, Place), CheckFault>
-        ensures guard { Unfolds (λ g. (boolean_of g.0, (g.1, place_of g.2))) result self.new.numbers (guarding_variants (names_of (meant_at self.old at)) line depth (option_map tree_of guard.now.condition) (lines.var_of guard.now.channel) (counted self.old)) }
-        ensures kept { OnOk result (self.new.frames ≡ self.old.frames) }
-        ensures within { IfOk result (λ _. depth < 200) }
-    {
-        let scope = names_at(&self.frames, at);
-        guarding_variants(&mut self.numbers, alloc, scope, line, depth, guard)
-    }
-}
-
-/// The arm of a guard with an input, and the process behind it.
-fn input_arm(alloc: Global, guarded: Guarded, body: Term) -> Result<Items<TermArm>, AllocError>
-    ensures { IfOk result (λ arms. arms_of arms ≡ input_arm (boolean_of guarded.test) (place_of guarded.channel) (meant.as_reception (listed_of guarded.listed) (term_of body)) no_arms) }
-{
-    let Guarded {
-        test,
-        channel,
-        listed,
-    } = guarded;
-    let (test, channel) = (Held::new(test), Held::new(channel));
-    let reception = as_reception(alloc, listed, body)?;
-    let arm = TermArm::InputArm(test.into_inner(), channel.into_inner(), reception);
-    only_arm(alloc, arm)
-}
-
-/// A guard with an input, with the node that it heads.
-fn guarding(
-    numbers: &mut Numbers,
-    alloc: Global,
-    scope: Scope<'_, '_>,
-    line: u32,
-    depth: u32,
-    test: &Option<Expr>,
-    input: &Input,
-) -> Result<Guarded, CheckFault>
-    ensures guard { Unfolds (λ g. (boolean_of g.test, (place_of g.channel, listed_of g.listed))) result numbers.new (guarding (names_in scope.entry) line depth (option_map tree_of test.now) (lines.input_of input.now) (numbers_of numbers.old)) }
-    ensures within { IfOk result (λ g. meant.depth_behind (listed_of g.listed) (depth + 1) ≤ 200) }
-{
-    let test = Held::new(test_of(alloc, scope, line, test)?);
-    let (channel, listed) = received(alloc, scope, line, input)?;
-    let (channel, listed) = (Held::new(channel), Held::new(listed));
-    count_guard(numbers, depth, &test.value, &channel.value, &listed.value)?;
-    Ok(Guarded {
-        test: test.into_inner(),
-        channel: channel.into_inner(),
-        listed: listed.into_inner(),
-    })
-}
-
-/// Counts a guard with an input.
-fn count_guard(
-    numbers: &mut Numbers,
-    depth: u32,
-    test: &Option<TermExpr>,
-    channel: &Place,
-    listed: &Listed,
-) -> Result<(), CheckFault>
-    ensures counts { Counts result numbers.new (room depth (node (beside (size_of_test (boolean_of test.now)) (beside (size_of_place (place_of channel.now)) (meant.size_of_list (listed_of listed.now))))) (numbers_of numbers.old)) }
-    ensures within { IfOk result (λ _. meant.depth_behind (listed_of listed.now) (depth + 1) ≤ 200) }
-{
-    numbers.node(depth)?;
-    count_test(numbers, depth + 1, test)?;
-    count_place(numbers, depth + 1, channel)?;
-    count_listed(numbers, depth + 1, listed)
-}
-
-/// Counts what an input stores.
-fn count_listed(numbers: &mut Numbers, depth: u32, listed: &Listed) -> Result<(), CheckFault>
-    requires { depth ≤ 200 }
-    ensures counts { Counts result numbers.new (room depth (meant.size_of_list (listed_of listed.now)) (numbers_of numbers.old)) }
-    ensures within { IfOk result (λ _. meant.depth_behind (listed_of listed.now) depth ≤ 200) }
-{
-    match listed {
-        Listed::Plain(targets) => count_targets(numbers, depth, targets.as_slice()),
-        Listed::Tagged(_, targets) => {
-            numbers.node(depth)?;
-            count_targets(numbers, depth + 1, targets.as_slice())
-        }
-    }
-}
-
-/// How deep a process behind an input is.
-fn depth_behind(listed: &Listed, depth: u32) -> u32
-    requires { depth ≤ 200 }
-    ensures { result ≡ meant.depth_behind (listed_of listed.now) depth }
-{
-    match listed {
-        Listed::Plain(_) => depth,
-        Listed::Tagged(_, _) => depth + 1,
-    }
-}
-
-/// A guard with an input of variants, with the node that it heads.
-fn guarding_variants(
-    numbers: &mut Numbers,
-    alloc: Global,
-    scope: Scope<'_, '_>,
-    line: u32,
-    depth: u32,
-    guard: &VariantGuard,
-) -> Result<(Option<TermExpr>, Protocol, Place), CheckFault>
-    ensures guard { Unfolds (λ g. (boolean_of g.0, (g.1, place_of g.2))) result numbers.new (guarding_variants (names_in scope.entry) line depth (option_map tree_of guard.now.condition) (lines.var_of guard.now.channel) (numbers_of numbers.old)) }
-    ensures within { IfOk result (λ _. depth < 200) }
-{
-    let test = Held::new(test_of(alloc, scope, line, &guard.condition)?);
-    let (protocol, channel) = channel_of(alloc, scope, line, &guard.channel)?;
-    let channel = Held::new(channel);
-    let protocol = with_tags(line, protocol)?;
-    count_guarded_channel(numbers, depth, &test.value, &channel.value)?;
-    let protocol = protocol.copy(alloc)?;
-    Ok((test.into_inner(), protocol, channel.into_inner()))
-}
-
-/// Counts a guard with an input of variants.
-fn count_guarded_channel(
-    numbers: &mut Numbers,
-    depth: u32,
-    test: &Option<TermExpr>,
-    channel: &Place,
-) -> Result<(), CheckFault>
-    ensures counts { Counts result numbers.new (room depth (node (beside (size_of_test (boolean_of test.now)) (size_of_place (place_of channel.now)))) (numbers_of numbers.old)) }
-    ensures within { IfOk result (λ _. depth < 200) }
-{
-    numbers.node(depth)?;
-    count_test(numbers, depth + 1, test)?;
-    count_place(numbers, depth + 1, channel)
 }
 
 /// An arm alone.
-fn only_arm(alloc: Global, arm: TermArm) -> Result<Items<TermArm>, AllocError>
+pub(crate) fn only_arm(alloc: Global, arm: TermArm) -> Result<Items<TermArm>, AllocError>
     ensures { IfOk result (λ xs. arms_of xs ≡ arm_of arm no_arms) }
 {
     let mut arms = Items::new(alloc);
@@ -405,6 +342,13 @@ fn arms_behind(
         arms = only_arm(alloc, TermArm::DeclaredArms(head, arms))?;
     }
     Ok(arms)
+}
+
+/// An arm as a list.
+fn one_arm(arm: &Arm) -> &[Arm]
+    ensures { nodes (map trees.arm_of result.now) ≡ more_nodes (trees.arm_of arm.now) no_node }
+{
+    std::slice::from_ref(arm)
 }
 
 /// The arms of an ALT, as a slice.

@@ -1,7 +1,7 @@
 //! The choices of an IF.
 
-ghost use Rattle.std.specs.Prelude.{◌≡◌, ◌≤◌, ◌+◌, IfOk, OnOk, map};
-ghost use Rattle.occ_tree_grammar.specs.Processes.Trees.{nodes, decls};
+ghost use Rattle.std.specs.Prelude.{◌≡◌, ◌<◌, ◌≤◌, ◌+◌, IfOk, OnOk, length, map, take};
+ghost use Rattle.occ_tree_grammar.specs.Processes.Trees.{decls, more_nodes, no_node, nodes};
 ghost use Rattle.occ_tree_grammar.specs.Processes.Views as trees;
 ghost use Rattle.occ_tree_grammar.specs.Processes.Views.{decl_of, row_choices, row_decls};
 ghost use Rattle.occ_tree_grammar.specs.declared.tree.process.Arm.TheBlock.{hidden-the_row-Choice-3, hidden-the_row-Decl-0};
@@ -12,42 +12,104 @@ ghost use Rattle.occ_check_meaning.specs.Actions as meant;
 ghost use Rattle.occ_check_meaning.specs.Performing.{conditioned, each_of_choices};
 ghost use Rattle.occ_check_meaning.specs.Recursion.{all_choices, choice_unfolded};
 ghost use Rattle.occ_check_names.specs.View.{Unfolds};
+ghost use Rattle.occ_check.specs.Opened.{IsReady, Opens, choice_depth, choice_left, choice_weight, choice_with, choices_within, left_weight, put, statement_left};
+ghost use Rattle.occ_check.specs.Progress.{counted, meant_at, weight_at};
 ghost use Rattle.occ_check.specs.Statements.{choosing, declarations_of_choice};
-ghost use Rattle.occ_check.specs.Progress.{counted, meant_at};
+ghost use Rattle.occ_check.specs.Weights.{choice_size, node_size, nodes_size};
 
+use crate::opened::{Left, Opened, Over};
 use crate::unfolder::Unfolder;
 use occ_check_names::fault::CheckFault;
 use occ_check_names::numbers::deeper;
 use occ_check_names::scope::Position;
-use occ_held::Held;
-use occ_term::{Choice as TermChoice, Declaration, Term};
+use occ_term::{Choice as TermChoice, Declaration, Term, TermExpr};
 use occ_tree_grammar::tree::line::Replicator;
-use occ_tree_grammar::tree::process::{Choice, Decl};
+use occ_tree_grammar::tree::process::{Choice, Decl, Process};
 use sqlite_items::Items;
 use std::alloc::{AllocError, Global};
 
-impl<'t> Unfolder<'t> {
-    /// What an IF unfolds to.
-    #[cycle(unfolding)]
-    pub fn conditional(
-        &mut self,
+/// A choice whose first steps are done: what is left of it, what that is put into, and where and how deep it stands.
+#[derive(Drop)]
+pub(crate) enum OpenedChoice<'t> {
+    /// Its process is left.
+    When(WhenHead, &'t Process, Position, u32),
+    /// The choices of a nested IF are left.
+    Inner(ChoicesHead, &'t [Choice], Position, u32),
+}
+
+/// What the process of a choice is put into: what is set for its declarations, and its condition.
+pub(crate) struct WhenHead {
+    heads: Items<Declaration>,
+    test: TermExpr,
+}
+
+impl Drop for WhenHead {
+    fn drop(self) {
+        let WhenHead { heads: _, test: _ } = self;
+    }
+}
+
+impl WhenHead {
+    /// The choice with its process.
+    fn with_process(self, alloc: Global, body: Term) -> Result<Items<TermChoice>, AllocError>
+        ensures { IfOk result (λ cs. choices_of cs ≡ choice_with self (term_of body)) }
+    {
+        let WhenHead { heads, test } = self;
+        let choices = only_choice(alloc, TermChoice::When(test, body))?;
+        choices_behind(alloc, heads, choices)
+    }
+}
+
+/// What the choices of a nested IF are put into: what is set for its declarations, and its replicator.
+pub(crate) struct ChoicesHead {
+    heads: Items<Declaration>,
+    over: Over,
+}
+
+impl Drop for ChoicesHead {
+    fn drop(self) {
+        let ChoicesHead { heads: _, over: _ } = self;
+    }
+}
+
+impl ChoicesHead {
+    /// The choices in it.
+    fn with_choices(
+        self,
         alloc: Global,
+        choices: Items<TermChoice>,
+    ) -> Result<Items<TermChoice>, AllocError>
+        ensures { IfOk result (λ cs. choices_of cs ≡ choices_within self (choices_of choices)) }
+    {
+        let ChoicesHead { heads, over } = self;
+        let choices = over.with_choices(alloc, choices)?;
+        choices_behind(alloc, heads, choices)
+    }
+}
+
+impl<'t> Unfolder<'t> {
+    /// Opens an IF.
+    pub fn choices_opened(
+        &mut self,
         at: Position,
         depth: u32,
         choices: &'t [Choice],
-    ) -> Result<Term, CheckFault>
-        requires { depth ≤ 200 }
-        ensures term { Unfolds term_of result self.new.numbers (conditioned (all_choices (nodes (map trees.choice_of choices.now))) (meant_at self.old at) depth (counted self.old)) }
-        ensures kept { OnOk result (self.new.frames.frames.items ≡ self.old.frames.frames.items) }
+    ) -> Result<Opened<'t>, CheckFault>
+        ensures opens { Opens statement_left result self.new (conditioned (all_choices (nodes (map trees.choice_of choices.now))) (meant_at self.old at) depth (counted self.old)) }
+        ensures kept { OnOk result (take (length self.old.frames.frames.items) self.new.frames.frames.items ≡ self.old.frames.frames.items) }
+        ensures weight { IfOk result (λ o. left_weight self.new o ≤ nodes_size (nodes (map trees.choice_of choices.now)) + weight_at self.old at) }
+        ensures ready { IfOk result IsReady }
     {
         self.numbers.node(depth)?;
-        let choices = self.choices(alloc, at, depth + 1, choices)?;
-        Ok(Term::If(choices))
+        Ok(Opened {
+            left: Left::Choices(Over::Once, choices),
+            at,
+            depth: depth + 1,
+        })
     }
 
-    /// What a replicated IF unfolds to.
-    #[cycle(unfolding)]
-    pub fn each_conditional(
+    /// Opens a replicated IF.
+    pub fn each_choice_opened(
         &mut self,
         alloc: Global,
         at: Position,
@@ -55,19 +117,24 @@ impl<'t> Unfolder<'t> {
         line: u32,
         replicator: &Replicator,
         choice: &'t Choice,
-    ) -> Result<Term, CheckFault>
-        requires { depth ≤ 200 }
-        ensures term { Unfolds term_of result self.new.numbers (conditioned (each_of_choices line (replicator_of replicator.now) (choice_unfolded (trees.choice_of choice.now))) (meant_at self.old at) depth (counted self.old)) }
-        ensures kept { OnOk result (self.new.frames.frames.items ≡ self.old.frames.frames.items) }
+    ) -> Result<Opened<'t>, CheckFault>
+        ensures opens { Opens statement_left result self.new (conditioned (each_of_choices line (replicator_of replicator.now) (choice_unfolded (trees.choice_of choice.now))) (meant_at self.old at) depth (counted self.old)) }
+        ensures kept { OnOk result (take (length self.old.frames.frames.items) self.new.frames.frames.items ≡ self.old.frames.frames.items) }
+        ensures weight { IfOk result (λ o. left_weight self.new o ≤ (node_size (trees.choice_of choice.now) + 1) + weight_at self.old at) }
+        ensures ready { IfOk result IsReady }
     {
         self.numbers.node(depth)?;
-        let choices = self.each_choice(alloc, at, depth + 1, line, replicator, choice)?;
-        Ok(Term::If(choices))
+        let (over, inside) = self.indexed(alloc, at, depth + 1, line, replicator)?;
+        Ok(Opened {
+            left: Left::Choices(Over::Each(over), one_choice(choice)),
+            at: inside,
+            depth: depth + 1,
+        })
     }
 
     /// What choices unfold to, those of a nested IF in its place.
     #[cycle(unfolding)]
-    fn choices(
+    pub fn choices(
         &mut self,
         alloc: Global,
         at: Position,
@@ -80,92 +147,90 @@ impl<'t> Unfolder<'t> {
     {
         let mut choices = Items::new(alloc);
         for choice in list {
-            let made = self.choice(alloc, at, depth, choice)?;
-            choices.append(made)?;
+            let base = self.frames.len();
+            let opened = self.choice_opened(alloc, at, depth, choice)?;
+            match opened {
+                OpenedChoice::When(head, body, inside, deep) => {
+                    let body = self.process(alloc, inside, deep, body)?;
+                    self.frames.close(base);
+                    let made = head.with_process(alloc, body)?;
+                    choices.append(made)?;
+                    continue;
+                }
+                OpenedChoice::Inner(head, list, inside, deep) => {
+                    let within = self.choices(alloc, inside, deep, list)?;
+                    self.frames.close(base);
+                    let made = head.with_choices(alloc, within)?;
+                    choices.append(made)?;
+                    continue;
+                }
+            }
         }
         Ok(choices)
     }
 
-    /// What a choice unfolds to.
-    #[cycle(unfolding)]
-    fn choice(
+    /// Opens a choice.
+    fn choice_opened(
         &mut self,
         alloc: Global,
         at: Position,
         depth: u32,
         choice: &'t Choice,
-    ) -> Result<Items<TermChoice>, CheckFault>
+    ) -> Result<OpenedChoice<'t>, CheckFault>
         requires { depth ≤ 200 }
-        ensures choices { Unfolds choices_of result self.new.numbers (choice_unfolded (trees.choice_of choice.now) (meant_at self.old at) depth (counted self.old)) }
-        ensures kept { OnOk result (self.new.frames.frames.items ≡ self.old.frames.frames.items) }
+        ensures opens { Opens choice_left result self.new (choice_unfolded (trees.choice_of choice.now) (meant_at self.old at) depth (counted self.old)) }
+        ensures kept { OnOk result (take (length self.old.frames.frames.items) self.new.frames.frames.items ≡ self.old.frames.frames.items) }
+        ensures weight { IfOk result (λ o. choice_weight self.new o < node_size (trees.choice_of choice.now) + weight_at self.old at) }
+        ensures within { IfOk result (λ o. choice_depth o ≤ 200) }
     {
-        let base = self.frames.len();
         let (heads, inside) = self.entering(alloc, at, depth, declarations_of(choice))?;
         let deep = deeper(depth, heads.len())?;
-        let choices = self.chosen(alloc, inside, deep, choice)?;
-        self.frames.close(base);
-        Ok(choices_behind(alloc, heads, choices)?)
+        self.chosen_opened(alloc, inside, deep, choice, heads)
     }
 
-    /// What a choice unfolds to behind its declarations.
-    #[cycle(unfolding)]
-    fn chosen(
+    /// Opens a choice behind its declarations, for which this is set.
+    fn chosen_opened(
         &mut self,
         alloc: Global,
         at: Position,
         depth: u32,
         choice: &'t Choice,
-    ) -> Result<Items<TermChoice>, CheckFault>
+        heads: Items<Declaration>,
+    ) -> Result<OpenedChoice<'t>, CheckFault>
         requires { depth ≤ 200 }
-        ensures choices { Unfolds choices_of result self.new.numbers (choosing choice.now (meant_at self.old at) depth (counted self.old)) }
-        ensures kept { OnOk result (self.new.frames.frames.items ≡ self.old.frames.frames.items) }
+        ensures opens { Opens choice_left result self.new (put (meant.choices_behind (declarations_of heads)) (choosing choice.now (meant_at self.old at) depth (counted self.old))) }
+        ensures kept { OnOk result (take (length self.old.frames.frames.items) self.new.frames.frames.items ≡ self.old.frames.frames.items) }
+        ensures weight { IfOk result (λ o. choice_weight self.new o ≤ choice_size choice.now + weight_at self.old at) }
+        ensures within { IfOk result (λ o. choice_depth o ≤ 200) }
     {
         match choice {
             Choice::When(_, line, test, body) => {
                 let test = self.tested(alloc, at, depth, *line, test)?;
-                let test = Held::new(test);
-                let body = self.process(alloc, at, depth + 1, body)?;
-                let choice = TermChoice::When(test.into_inner(), body);
-                Ok(only_choice(alloc, choice)?)
+                let head = WhenHead { heads, test };
+                Ok(OpenedChoice::When(head, body, at, depth + 1))
             }
             Choice::InnerIf(_, _, choices) => {
                 let deep = deeper(depth, 1)?;
-                self.choices(alloc, at, deep, listed_choices(choices))
+                let over = Over::Once;
+                let head = ChoicesHead { heads, over };
+                Ok(OpenedChoice::Inner(head, listed_choices(choices), at, deep))
             }
             Choice::InnerIfFor(_, line, replicator, choice) => {
                 let deep = deeper(depth, 1)?;
-                self.each_choice(alloc, at, deep, *line, replicator, choice)
+                let (over, inside) = self.indexed(alloc, at, deep, *line, replicator)?;
+                let over = Over::Each(over);
+                let head = ChoicesHead { heads, over };
+                Ok(OpenedChoice::Inner(head, one_choice(choice), inside, deep))
             }
         }
-    }
-
-    /// What a choice unfolds to for each value of an index.
-    #[cycle(unfolding)]
-    fn each_choice(
-        &mut self,
-        alloc: Global,
-        at: Position,
-        depth: u32,
-        line: u32,
-        replicator: &Replicator,
-        choice: &'t Choice,
-    ) -> Result<Items<TermChoice>, CheckFault>
-        requires { depth ≤ 200 }
-        ensures choices { Unfolds choices_of result self.new.numbers (each_of_choices line (replicator_of replicator.now) (choice_unfolded (trees.choice_of choice.now)) (meant_at self.old at) depth (counted self.old)) }
-        ensures kept { OnOk result (self.new.frames.frames.items ≡ self.old.frames.frames.items) }
-    {
-        let base = self.frames.len();
-        let (over, inside) = self.indexed(alloc, at, depth, line, replicator)?;
-        let over = Held::new(over);
-        let within = self.choice(alloc, inside, depth, choice)?;
-        self.frames.close(base);
-        let choice = TermChoice::EachChoice(over.into_inner(), within);
-        Ok(only_choice(alloc, choice)?)
     }
 }
 
 /// A choice alone.
-fn only_choice(alloc: Global, choice: TermChoice) -> Result<Items<TermChoice>, AllocError>
+pub(crate) fn only_choice(
+    alloc: Global,
+    choice: TermChoice,
+) -> Result<Items<TermChoice>, AllocError>
     ensures { IfOk result (λ cs. choices_of cs ≡ choice_of choice no_choices) }
 {
     let mut choices = Items::new(alloc);
@@ -187,6 +252,13 @@ fn choices_behind(
         choices = only_choice(alloc, TermChoice::DeclaredChoices(head, choices))?;
     }
     Ok(choices)
+}
+
+/// A choice as a list.
+fn one_choice(choice: &Choice) -> &[Choice]
+    ensures { nodes (map trees.choice_of result.now) ≡ more_nodes (trees.choice_of choice.now) no_node }
+{
+    std::slice::from_ref(choice)
 }
 
 /// The choices of an IF, as a slice.

@@ -1,55 +1,71 @@
 //! The copies of a replicated PAR.
 
-ghost use Rattle.std.specs.Prelude.{◌≡◌, ◌<◌, ◌≤◌, ◌-◌, ◌+ℤ◌, ◌≤ℤ◌, pos, IfErr, IfOk, OnOk, length, take};
+ghost use Rattle.std.specs.Prelude.{◌≡◌, ◌<◌, ◌≤◌, ◌+◌, ◌-◌, ◌+ℤ◌, ◌≤ℤ◌, pos, IfErr, IfOk, OnOk, length, take};
 ghost use Rattle.occ_tree_grammar.specs.Processes.Views.{process_of};
 ghost use Rattle.occ_tree_grammar.specs.Lines.Views.{replicator_of};
-ghost use Rattle.occ_term.specs.View.{branch_of, branches_of, term_of};
+ghost use Rattle.occ_term.specs.View.{branches_of};
 ghost use Rattle.occ_check_meaning.specs.Declarations.{index_of};
 ghost use Rattle.occ_check_meaning.specs.Performing.{copied, copies_beside};
 ghost use Rattle.occ_check_meaning.specs.Recursion.{unfolded};
 ghost use Rattle.occ_check_meaning.specs.Scope.{names_of, within};
 ghost use Rattle.occ_check.specs.Numbered.{copies_counted, copy_for, numbered_copy};
+ghost use Rattle.occ_check.specs.Opened.{IsReady, Opens, copy_left, left_weight, statement_left};
+ghost use Rattle.occ_check.specs.Weights.{node_size};
 ghost use Rattle.occ_check_names.specs.View.{Unfolds, names_in, numbers_of};
 ghost use Rattle.occ_check.specs.Progress.{counted, meant_at, weight_at};
 ghost use Rattle.occ_check_names.specs.declared.fault.CheckFault.TheVariants.{Memory};
 
 use crate::acting::names_at;
+use crate::opened::{Left, Opened};
 use crate::unfolder::Unfolder;
+use occ_check_names::context::Context;
 use occ_check_names::fault::CheckFault;
 use occ_check_names::known::Known;
 use occ_check_names::numbers::Numbers;
 use occ_check_names::scope::{Binding, Position, Scope};
-use occ_check_typing::declaration::copies_of;
-use occ_term::{Branch, Primitive, Term};
+use occ_check_typing::replicator::copies_of;
+use occ_term::{Branch, Primitive};
 use occ_tree_grammar::tree::line::Replicator;
 use occ_tree_grammar::tree::process::Process;
 use sqlite_items::Items;
 use std::alloc::Global;
 
+/// A copy whose first steps are done: its process is left, and the number that the copy has.
+#[derive(Drop)]
+pub(crate) struct OpenedCopy<'t> {
+    number: u32,
+    body: &'t Process,
+    at: Position,
+    depth: u32,
+}
+
 impl<'t> Unfolder<'t> {
-    /// What a replicated PAR unfolds to.
-    #[cycle(unfolding)]
-    pub fn copied(
+    /// Opens a replicated PAR.
+    pub fn copies_opened(
         &mut self,
         alloc: Global,
         at: Position,
         depth: u32,
         line: u32,
-        replicator: &Replicator,
+        replicator: &'t Replicator,
         body: &'t Process,
-    ) -> Result<Term, CheckFault>
-        requires { depth ≤ 200 }
-        ensures term { Unfolds term_of result self.new.numbers (copies_beside line (replicator_of replicator.now) (unfolded (process_of body.now)) (meant_at self.old at) depth (counted self.old)) }
-        ensures kept { OnOk result (self.new.frames.frames.items ≡ self.old.frames.frames.items) }
+    ) -> Result<Opened<'t>, CheckFault>
+        ensures opens { Opens statement_left result self.new (copies_beside line (replicator_of replicator.now) (unfolded (process_of body.now)) (meant_at self.old at) depth (counted self.old)) }
+        ensures kept { OnOk result (take (length self.old.frames.frames.items) self.new.frames.frames.items ≡ self.old.frames.frames.items) }
+        ensures weight { IfOk result (λ o. left_weight self.new o ≤ node_size (process_of body.now) + weight_at self.old at) }
+        ensures ready { IfOk result IsReady }
     {
         let (first, count) = self.copies_counted(alloc, at, depth, line, replicator)?;
-        let branches = self.copies(alloc, at, depth + 1, replicator, first, count, body)?;
-        Ok(Term::Par(branches))
+        Ok(Opened {
+            left: Left::Copies(replicator, first, count, body),
+            at,
+            depth: depth + 1,
+        })
     }
 
     /// So many copies beside each other, from a value of the index on.
     #[cycle(unfolding)]
-    fn copies(
+    pub fn copies(
         &mut self,
         alloc: Global,
         at: Position,
@@ -68,17 +84,25 @@ impl<'t> Unfolder<'t> {
         let mut value = first;
         let mut left = count;
         'copies: while left > 0 {
-            let branch = self.copy(alloc, at, depth, replicator, value, body)?;
-            branches.push(branch)?;
+            let base = self.frames.len();
+            let opened = self.copy_opened(alloc, at, depth, replicator, value, body)?;
+            let OpenedCopy {
+                number,
+                body: copy,
+                at: inside,
+                depth: deep,
+            } = opened;
+            let body = self.process(alloc, inside, deep, copy)?;
+            self.frames.close(base);
+            branches.push(Branch { number, body })?;
             value = next_value(value, left);
             left -= 1;
         }
         Ok(branches)
     }
 
-    /// The copy for a value of the index, with its number.
-    #[cycle(unfolding)]
-    fn copy(
+    /// Opens the copy for a value of the index.
+    fn copy_opened(
         &mut self,
         alloc: Global,
         at: Position,
@@ -86,17 +110,21 @@ impl<'t> Unfolder<'t> {
         replicator: &Replicator,
         value: i64,
         body: &'t Process,
-    ) -> Result<Branch, CheckFault>
+    ) -> Result<OpenedCopy<'t>, CheckFault>
         requires { depth ≤ 200 }
-        ensures branch { Unfolds branch_of result self.new.numbers (numbered_copy (copy_for (replicator_of replicator.now) (process_of body.now) (meant_at self.old at) depth) value (counted self.old)) }
-        ensures kept { OnOk result (self.new.frames.frames.items ≡ self.old.frames.frames.items) }
+        ensures opens { Opens copy_left result self.new (numbered_copy (copy_for (replicator_of replicator.now) (process_of body.now) (meant_at self.old at) depth) value (counted self.old)) }
+        ensures kept { OnOk result (take (length self.old.frames.frames.items) self.new.frames.frames.items ≡ self.old.frames.frames.items) }
+        ensures weight { IfOk result (λ o. node_size (process_of o.body.now) + weight_at self.new o.at ≡ node_size (process_of body.now) + weight_at self.old at) }
+        ensures within { IfOk result (λ o. o.depth ≤ 200) }
     {
-        let base = self.frames.len();
         let number = self.numbers.more_processes()?;
         let inside = self.at_value(alloc, at, replicator, value)?;
-        let body = self.process(alloc, inside, depth, body)?;
-        self.frames.close(base);
-        Ok(Branch { number, body })
+        Ok(OpenedCopy {
+            number,
+            body,
+            at: inside,
+            depth,
+        })
     }
 
     /// Enters the index of a copy, which is a constant there, and answers the position at which it is in scope.
@@ -134,7 +162,12 @@ impl<'t> Unfolder<'t> {
         ensures last { IfOk result (λ c. (c.0 +ℤ pos c.1) ≤ℤ pos 2147483648) }
     {
         let scope = names_at(&self.frames, at);
-        copies_counted(&mut self.numbers, alloc, scope, line, depth, replicator)
+        copies_counted(
+            &mut self.numbers,
+            Context { alloc, scope, line },
+            depth,
+            replicator,
+        )
     }
 }
 
@@ -142,17 +175,15 @@ impl<'t> Unfolder<'t> {
 #[tactic(auto, using(crate::proofs::LastCopies::copies_within))]
 fn copies_counted(
     numbers: &mut Numbers,
-    alloc: Global,
-    scope: Scope<'_, '_>,
-    line: u32,
+    context: Context<'_, '_>,
     depth: u32,
     replicator: &Replicator,
 ) -> Result<(i64, u64), CheckFault>
-    ensures counted { Unfolds (λ c. c) result numbers.new (copies_counted (names_in scope.entry) line depth (replicator_of replicator.now) (numbers_of numbers.old)) }
+    ensures counted { Unfolds (λ c. c) result numbers.new (copies_counted (names_in context.entry.scope) context.entry.line depth (replicator_of replicator.now) (numbers_of numbers.old)) }
     ensures within { IfOk result (λ _. depth < 200) }
     ensures last { IfOk result (λ c. (c.0 +ℤ pos c.1) ≤ℤ pos 2147483648) }
 {
-    let copies = copies_of(alloc, scope, line, replicator)?;
+    let copies = copies_of(context, replicator)?;
     numbers.node(depth)?;
     Ok(copies)
 }

@@ -23,6 +23,7 @@ use crate::frames::Frames;
 use crate::unfolder::{Call, Unfolder};
 use occ_check_acting::call::bound;
 use occ_check_acting::formals::formals_of;
+use occ_check_names::context::Context;
 use occ_check_names::fault::{CheckFault, unknown};
 use occ_check_names::numbers::Numbers;
 use occ_check_names::scope::{Binding, Found, Position, Procedure, Scope};
@@ -156,9 +157,11 @@ impl<'t> Unfolder<'t> {
             Decl::Names(line, sizes, sort, names) => {
                 let opened = names_declared(
                     &mut self.numbers,
-                    alloc,
-                    self.frames.inside(),
-                    *line,
+                    Context {
+                        alloc,
+                        scope: self.frames.inside(),
+                        line: *line,
+                    },
                     depth,
                     sizes,
                     sort,
@@ -187,9 +190,11 @@ impl<'t> Unfolder<'t> {
             Item::Value(line, value_type, name, e) => {
                 let opened = value_declared(
                     &mut self.numbers,
-                    alloc,
-                    self.frames.inside(),
-                    *line,
+                    Context {
+                        alloc,
+                        scope: self.frames.inside(),
+                        line: *line,
+                    },
                     depth,
                     value_type,
                     name,
@@ -269,7 +274,14 @@ impl<'t> Unfolder<'t> {
         ensures kept { OnOk result (take (length self.old.frames.frames.items) self.new.frames.frames.items ≡ self.old.frames.frames.items) }
         ensures weight { IfOk result (λ c. node_size (process_of c.body.now) + weight_at self.new c.inside < weight_at self.old at) }
     {
-        let (procedure, outer) = procedure_of(alloc, self.frames.scope(at), line, name)?;
+        let (procedure, outer) = procedure_of(
+            Context {
+                alloc,
+                scope: self.frames.scope(at),
+                line,
+            },
+            name,
+        )?;
         self.called(alloc, at, outer, depth, line, procedure, actuals)
     }
 
@@ -290,12 +302,15 @@ impl<'t> Unfolder<'t> {
         ensures body { IfOk result (λ c. c.body.now ≡ procedure.entry.body.now) }
         ensures weight { IfOk result (λ c. weight_at self.new c.inside ≡ weight_at self.old outer) }
     {
+        let context = Context {
+            alloc,
+            scope: self.frames.scope(at),
+            line,
+        };
         let opened = formals_bound(
             &mut self.numbers,
-            alloc,
+            context,
             self.frames.scope(outer),
-            self.frames.scope(at),
-            line,
             depth + 1,
             procedure,
             actuals,
@@ -326,7 +341,12 @@ impl<'t> Unfolder<'t> {
         ensures within { IfOk result (λ _. depth < 200) }
     {
         let scope = self.frames.scope(at);
-        let indexed = index_replicator(&mut self.numbers, alloc, scope, line, depth, replicator)?;
+        let indexed = index_replicator(
+            &mut self.numbers,
+            Context { alloc, scope, line },
+            depth,
+            replicator,
+        )?;
         let Indexed {
             replicator: over,
             name,
@@ -345,17 +365,15 @@ impl<'t> Unfolder<'t> {
 ///
 /// `Unknown` for a name that stands for nothing, `WrongKind` for one of another kind, and `Memory`.
 fn procedure_of<'t>(
-    alloc: Global,
-    scope: Scope<'_, 't>,
-    line: u32,
+    context: Context<'_, 't>,
     name: &[u8],
 ) -> Result<(Procedure<'t>, Position), CheckFault>
-    ensures { Gives (procedure_in scope.entry.frames.now) result (procedure_found (scope_of scope.entry) name.now) }
+    ensures { Gives (procedure_in context.entry.scope.frames.now) result (procedure_found (scope_of context.entry.scope) name.now) }
 {
-    match scope.find(name) {
+    match context.scope.find(name) {
         Some(Found::Procedure(procedure, outer)) => Ok((procedure, outer)),
-        Some(Found::Known(_)) => Err(CheckFault::WrongKind { line }),
-        None => Err(unknown(alloc, line, name)),
+        Some(Found::Known(_)) => Err(CheckFault::WrongKind { line: context.line }),
+        None => Err(unknown(context.alloc, context.line, name)),
     }
 }
 
@@ -366,16 +384,19 @@ fn procedure_of<'t>(
 /// As `formals_of` and `bound`.
 fn formals_bound(
     numbers: &mut Numbers,
-    alloc: Global,
+    context: Context<'_, '_>,
     outer: Scope<'_, '_>,
-    scope: Scope<'_, '_>,
-    line: u32,
     depth: u32,
     procedure: Procedure<'_>,
     actuals: &Option<OneOrMore<Expr>>,
 ) -> Result<Opened, CheckFault>
-    ensures { Opens result numbers.new (formals_bound (names_in outer.entry) procedure.entry.line (formals_of procedure.entry.formals.now) (names_in scope.entry) line depth (actuals_of actuals.now) (numbers_of numbers.old)) }
+    ensures { Opens result numbers.new (formals_bound (names_in outer.entry) procedure.entry.line (formals_of procedure.entry.formals.now) (names_in context.entry.scope) context.entry.line depth (actuals_of actuals.now) (numbers_of numbers.old)) }
 {
-    let formals = formals_of(alloc, outer, procedure.line, procedure.formals)?;
-    bound(numbers, alloc, scope, line, depth, &formals, actuals)
+    let declared = Context {
+        alloc: context.alloc,
+        scope: outer,
+        line: procedure.line,
+    };
+    let formals = formals_of(declared, procedure.formals)?;
+    bound(numbers, context, depth, &formals, actuals)
 }

@@ -1,11 +1,12 @@
 //! The options of a CASE.
 
-ghost use Rattle.std.specs.Prelude.{◌≡◌, ◌<◌, ◌≤◌, ◌∷◌, IfOk, OnOk, map};
+ghost use Rattle.std.specs.Prelude.{◌≡◌, ◌<◌, ◌≤◌, ◌+◌, ◌∷◌, IfOk, OnOk, length, map, take};
 ghost use Rattle.occ_tree_grammar.specs.Processes.Trees.{nodes, decls};
 ghost use Rattle.occ_tree_grammar.specs.Processes.Views.{decl_of, process_of, row_selections, selection_of};
 ghost use Rattle.occ_tree_grammar.specs.declared.tree.process.Arm.TheBlock.{hidden-the_row-Selection-5};
 ghost use Rattle.occ_tree_grammar.specs.Expressions.Trees.{expression_of as tree_of};
-ghost use Rattle.occ_term.specs.View.{expression_of, options_of, term_of};
+ghost use Rattle.occ_term.specs.Terms.{no_options};
+ghost use Rattle.occ_term.specs.View.{expression_of, option_of, options_of, term_of};
 ghost use Rattle.occ_check_meaning.specs.Actions as meant;
 ghost use Rattle.occ_check_meaning.specs.Expressions.{constant_as};
 ghost use Rattle.occ_check_meaning.specs.Performing as performing;
@@ -14,29 +15,69 @@ ghost use Rattle.occ_check_meaning.specs.Scope.{each_of, names_of};
 ghost use Rattle.occ_check_acting.specs.ActionView.{chosen_of};
 ghost use Rattle.occ_check.specs.Prefixes.{choosing_values, listing, selecting};
 ghost use Rattle.occ_check_names.specs.View.{Gives, Unfolds, names_in, numbers_of};
-ghost use Rattle.occ_check.specs.Progress.{Lists, Selects, counted, meant_at};
+ghost use Rattle.occ_check.specs.Opened.{IsReady, Opens, left_weight, option_left, option_with, statement_left};
+ghost use Rattle.occ_check.specs.Progress.{Lists, counted, meant_at, weight_at};
+ghost use Rattle.occ_check.specs.Weights.{decls_size, node_size, nodes_size};
 
 use crate::acting::{counted_expression, listed_declarations, names_at};
+use crate::opened::{Left, Opened};
 use crate::unfolder::Unfolder;
 use indexmap::IndexSet;
 use occ_check_acting::action::{Chosen, choosing, choosing_else, selector};
+use occ_check_names::context::Context;
 use occ_check_names::fault::CheckFault;
 use occ_check_names::measuring::count_constants;
 use occ_check_names::numbers::Numbers;
 use occ_check_names::scope::{Position, Scope};
 use occ_check_typing::expression::constant_as;
-use occ_held::Held;
-use occ_term::{Primitive, Selection as TermSelection, Term, TermExpr};
+use occ_term::{Declaration, Primitive, Selection as TermSelection, Term, TermExpr};
 use occ_tree_grammar::tree::expr::Expr;
 use occ_tree_grammar::tree::line::OneOrMore;
 use occ_tree_grammar::tree::process::{Decl, Process, Selection};
 use sqlite_items::Items;
 use std::alloc::Global;
 
+/// An option whose first steps are done: its process is left.
+#[derive(Drop)]
+pub(crate) struct OpenedOption<'t> {
+    head: OptionHead,
+    body: &'t Process,
+    at: Position,
+    depth: u32,
+}
+
+/// What the process of an option is put into: its constants, and what is set for its declarations.
+pub(crate) enum OptionHead {
+    /// An option with constants.
+    Among(Items<i64>, Items<Declaration>),
+    /// ELSE.
+    Otherwise(Items<Declaration>),
+}
+
+impl Drop for OptionHead {
+    fn drop(self) {
+        match self {
+            OptionHead::Among(_, _) => {}
+            OptionHead::Otherwise(_) => {}
+        }
+    }
+}
+
+impl OptionHead {
+    /// The option with its process.
+    fn with_process(self, body: Term) -> TermSelection
+        ensures { option_of result no_options ≡ option_with self (term_of body) }
+    {
+        match self {
+            OptionHead::Among(constants, heads) => TermSelection::Among(constants, heads, body),
+            OptionHead::Otherwise(heads) => TermSelection::Otherwise(heads, body),
+        }
+    }
+}
+
 impl<'t> Unfolder<'t> {
-    /// What a CASE unfolds to.
-    #[cycle(unfolding)]
-    pub fn selection(
+    /// Opens a CASE.
+    pub fn options_opened(
         &mut self,
         alloc: Global,
         at: Position,
@@ -44,20 +85,23 @@ impl<'t> Unfolder<'t> {
         line: u32,
         e: &Expr,
         selections: &'t [Selection],
-    ) -> Result<Term, CheckFault>
-        requires { depth ≤ 200 }
-        ensures term { Unfolds term_of result self.new.numbers (performing.selected line (tree_of e.now) (λ type. all_options (nodes (map selection_of selections.now)) type meant.none_chosen) (meant_at self.old at) depth (counted self.old)) }
-        ensures kept { OnOk result (self.new.frames.frames.items ≡ self.old.frames.frames.items) }
+    ) -> Result<Opened<'t>, CheckFault>
+        ensures opens { Opens statement_left result self.new (performing.selected line (tree_of e.now) (λ type. all_options (nodes (map selection_of selections.now)) type meant.none_chosen) (meant_at self.old at) depth (counted self.old)) }
+        ensures kept { OnOk result (take (length self.old.frames.frames.items) self.new.frames.frames.items ≡ self.old.frames.frames.items) }
+        ensures weight { IfOk result (λ o. left_weight self.new o ≤ nodes_size (nodes (map selection_of selections.now)) + weight_at self.old at) }
+        ensures ready { IfOk result IsReady }
     {
         let (primitive, selector) = self.selecting(alloc, at, depth, line, e)?;
-        let selector = Held::new(selector);
-        let options = self.options(alloc, at, depth + 1, primitive, selections)?;
-        Ok(Term::Case(selector.into_inner(), options))
+        Ok(Opened {
+            left: Left::Options(selector, primitive, selections),
+            at,
+            depth: depth + 1,
+        })
     }
 
     /// What options unfold to.
     #[cycle(unfolding)]
-    fn options(
+    pub fn options(
         &mut self,
         alloc: Global,
         at: Position,
@@ -72,16 +116,23 @@ impl<'t> Unfolder<'t> {
         let mut chosen = none_chosen(alloc);
         let mut options = Items::new(alloc);
         for selection in selections {
-            let option = self.option(alloc, at, depth, primitive, &mut chosen, selection)?;
-            options.push(option)?;
+            let base = self.frames.len();
+            let opened = self.option_opened(alloc, at, depth, primitive, &mut chosen, selection)?;
+            let OpenedOption {
+                head,
+                body,
+                at: inside,
+                depth: deep,
+            } = opened;
+            let body = self.process(alloc, inside, deep, body)?;
+            self.frames.close(base);
+            options.push(head.with_process(body))?;
         }
         Ok(options)
     }
 
-    /// What an option unfolds to.
-    #[cycle(unfolding)]
-    #[tactic(auto, unfolding(occ_tree_grammar::specs::Processes::Views::selection_of, occ_check_meaning::specs::Recursion::option_unfolded))]
-    fn option(
+    /// Opens an option.
+    fn option_opened(
         &mut self,
         alloc: Global,
         at: Position,
@@ -89,15 +140,17 @@ impl<'t> Unfolder<'t> {
         primitive: Primitive,
         chosen: &mut Chosen,
         selection: &'t Selection,
-    ) -> Result<TermSelection, CheckFault>
+    ) -> Result<OpenedOption<'t>, CheckFault>
         requires { depth ≤ 200 }
-        ensures option { Selects result chosen.new self.new (option_unfolded (selection_of selection.now) primitive (chosen_of chosen.old) (meant_at self.old at) depth (counted self.old)) }
-        ensures kept { OnOk result (self.new.frames.frames.items ≡ self.old.frames.frames.items) }
+        ensures opens { Opens (option_left chosen.new) result self.new (option_unfolded (selection_of selection.now) primitive (chosen_of chosen.old) (meant_at self.old at) depth (counted self.old)) }
+        ensures kept { OnOk result (take (length self.old.frames.frames.items) self.new.frames.frames.items ≡ self.old.frames.frames.items) }
+        ensures weight { IfOk result (λ o. node_size (process_of o.body.now) + weight_at self.new o.at < node_size (selection_of selection.now) + weight_at self.old at) }
+        ensures within { IfOk result (λ o. o.depth ≤ 200) }
     {
         match selection {
             Selection::Values(declarations, line, values, body) => {
                 let declarations = listed_declarations(declarations);
-                self.values(
+                self.values_opened(
                     alloc,
                     at,
                     depth,
@@ -111,14 +164,13 @@ impl<'t> Unfolder<'t> {
             }
             Selection::Else(declarations, line, body) => {
                 let declarations = listed_declarations(declarations);
-                self.otherwise(alloc, at, depth, *line, chosen, declarations, body)
+                self.else_opened(alloc, at, depth, *line, chosen, declarations, body)
             }
         }
     }
 
-    /// What an option with values unfolds to.
-    #[cycle(unfolding)]
-    fn values(
+    /// Opens an option with values.
+    fn values_opened(
         &mut self,
         alloc: Global,
         at: Position,
@@ -129,12 +181,12 @@ impl<'t> Unfolder<'t> {
         declarations: &'t [Decl],
         values: &OneOrMore<Expr>,
         body: &'t Process,
-    ) -> Result<TermSelection, CheckFault>
-        requires { depth ≤ 200 }
-        ensures option { Selects result chosen.new self.new (performing.option_of line (tree_of values.now.first ∷ map tree_of values.now.others.items) (all_declared (decls (map decl_of declarations.now))) (unfolded (process_of body.now)) primitive (chosen_of chosen.old) (meant_at self.old at) depth (counted self.old)) }
-        ensures kept { OnOk result (self.new.frames.frames.items ≡ self.old.frames.frames.items) }
+    ) -> Result<OpenedOption<'t>, CheckFault>
+        ensures opens { Opens (option_left chosen.new) result self.new (performing.option_of line (tree_of values.now.first ∷ map tree_of values.now.others.items) (all_declared (decls (map decl_of declarations.now))) (unfolded (process_of body.now)) primitive (chosen_of chosen.old) (meant_at self.old at) depth (counted self.old)) }
+        ensures kept { OnOk result (take (length self.old.frames.frames.items) self.new.frames.frames.items ≡ self.old.frames.frames.items) }
+        ensures weight { IfOk result (λ o. node_size (process_of o.body.now) + weight_at self.new o.at ≤ (decls_size (decls (map decl_of declarations.now)) + node_size (process_of body.now)) + weight_at self.old at) }
+        ensures within { IfOk result (λ o. o.depth ≤ 200) }
     {
-        let base = self.frames.len();
         self.numbers.node(depth)?;
         let (heads, inside) = self.entering(alloc, at, depth + 1, declarations)?;
         let constants = self.choosing_values(
@@ -146,14 +198,16 @@ impl<'t> Unfolder<'t> {
             chosen,
             values,
         )?;
-        let body = self.process(alloc, inside, depth + 1, body)?;
-        self.frames.close(base);
-        Ok(TermSelection::Among(constants, heads, body))
+        Ok(OpenedOption {
+            head: OptionHead::Among(constants, heads),
+            body,
+            at: inside,
+            depth: depth + 1,
+        })
     }
 
-    /// What ELSE unfolds to.
-    #[cycle(unfolding)]
-    fn otherwise(
+    /// Opens ELSE.
+    fn else_opened(
         &mut self,
         alloc: Global,
         at: Position,
@@ -162,18 +216,21 @@ impl<'t> Unfolder<'t> {
         chosen: &mut Chosen,
         declarations: &'t [Decl],
         body: &'t Process,
-    ) -> Result<TermSelection, CheckFault>
-        requires { depth ≤ 200 }
-        ensures option { Selects result chosen.new self.new (performing.else_of (all_declared (decls (map decl_of declarations.now))) (unfolded (process_of body.now)) (chosen_of chosen.old) (meant_at self.old at) depth (counted self.old)) }
-        ensures kept { OnOk result (self.new.frames.frames.items ≡ self.old.frames.frames.items) }
+    ) -> Result<OpenedOption<'t>, CheckFault>
+        ensures opens { Opens (option_left chosen.new) result self.new (performing.else_of (all_declared (decls (map decl_of declarations.now))) (unfolded (process_of body.now)) (chosen_of chosen.old) (meant_at self.old at) depth (counted self.old)) }
+        ensures kept { OnOk result (take (length self.old.frames.frames.items) self.new.frames.frames.items ≡ self.old.frames.frames.items) }
+        ensures weight { IfOk result (λ o. node_size (process_of o.body.now) + weight_at self.new o.at ≤ (decls_size (decls (map decl_of declarations.now)) + node_size (process_of body.now)) + weight_at self.old at) }
+        ensures within { IfOk result (λ o. o.depth ≤ 200) }
     {
-        let base = self.frames.len();
         self.numbers.node(depth)?;
         let (heads, inside) = self.entering(alloc, at, depth + 1, declarations)?;
         choosing_else(line, chosen)?;
-        let body = self.process(alloc, inside, depth + 1, body)?;
-        self.frames.close(base);
-        Ok(TermSelection::Otherwise(heads, body))
+        Ok(OpenedOption {
+            head: OptionHead::Otherwise(heads),
+            body,
+            at: inside,
+            depth: depth + 1,
+        })
     }
 
     /// What a CASE selects by, with the node that it heads.
@@ -190,7 +247,7 @@ impl<'t> Unfolder<'t> {
         ensures within { IfOk result (λ _. depth < 200) }
     {
         let scope = names_at(&self.frames, at);
-        selecting(&mut self.numbers, alloc, scope, line, depth, e)
+        selecting(&mut self.numbers, Context { alloc, scope, line }, depth, e)
     }
 
     /// The constants of an option, none of which stands in one before it, with their nodes.
@@ -208,7 +265,7 @@ impl<'t> Unfolder<'t> {
         ensures kept { OnOk result (self.new.frames ≡ self.old.frames) }
     {
         let scope = names_at(&self.frames, at);
-        let constants = constants(alloc, scope, line, primitive, values)?;
+        let constants = constants(Context { alloc, scope, line }, primitive, values)?;
         chosen_constants(&mut self.numbers, alloc, line, depth, chosen, constants)
     }
 }
@@ -216,16 +273,14 @@ impl<'t> Unfolder<'t> {
 /// What a CASE selects by, with the node that it heads.
 fn selecting(
     numbers: &mut Numbers,
-    alloc: Global,
-    scope: Scope<'_, '_>,
-    line: u32,
+    context: Context<'_, '_>,
     depth: u32,
     e: &Expr,
 ) -> Result<(Primitive, TermExpr), CheckFault>
-    ensures selector { Unfolds (λ s. (s.0, expression_of s.1)) result numbers.new (selecting (names_in scope.entry) line depth (tree_of e.now) (numbers_of numbers.old)) }
+    ensures selector { Unfolds (λ s. (s.0, expression_of s.1)) result numbers.new (selecting (names_in context.entry.scope) context.entry.line depth (tree_of e.now) (numbers_of numbers.old)) }
     ensures within { IfOk result (λ _. depth < 200) }
 {
-    let (primitive, e) = selector(alloc, scope, line, e)?;
+    let (primitive, e) = selector(context, e)?;
     let e = counted_expression(numbers, depth, e)?;
     Ok((primitive, e))
 }
@@ -259,17 +314,15 @@ fn chosen_constants(
 /// The values of an option.
 #[tactic(auto, unfolding(occ_check_meaning::specs::Scope::each_of))]
 fn constants(
-    alloc: Global,
-    scope: Scope<'_, '_>,
-    line: u32,
+    context: Context<'_, '_>,
     primitive: Primitive,
     values: &OneOrMore<Expr>,
 ) -> Result<Items<i64>, CheckFault>
-    ensures { Gives (λ vs. vs) result (each_of (constant_as (names_in scope.entry) line primitive) (tree_of values.now.first ∷ map tree_of values.now.others.items)) }
+    ensures { Gives (λ vs. vs) result (each_of (constant_as (names_in context.entry.scope) context.entry.line primitive) (tree_of values.now.first ∷ map tree_of values.now.others.items)) }
 {
-    let first = constant_as(alloc, scope, line, primitive, &values.first)?;
-    let others = each_constant(alloc, scope, line, primitive, &values.others)?;
-    let mut all = Items::new(alloc);
+    let first = constant_as(context, primitive, &values.first)?;
+    let others = each_constant(context, primitive, &values.others)?;
+    let mut all = Items::new(context.alloc);
     all.push(first)?;
     all.append(others)?;
     Ok(all)
@@ -277,17 +330,15 @@ fn constants(
 
 /// Values, each a constant of the type.
 fn each_constant(
-    alloc: Global,
-    scope: Scope<'_, '_>,
-    line: u32,
+    context: Context<'_, '_>,
     primitive: Primitive,
     values: &[Expr],
 ) -> Result<Items<i64>, CheckFault>
-    ensures { Gives (λ vs. vs) result (each_of (constant_as (names_in scope.entry) line primitive) (map tree_of values.now)) }
+    ensures { Gives (λ vs. vs) result (each_of (constant_as (names_in context.entry.scope) context.entry.line primitive) (map tree_of values.now)) }
 {
-    let mut made = Items::new(alloc);
+    let mut made = Items::new(context.alloc);
     for value in values {
-        let value = match constant_as(alloc, scope, line, primitive, value) {
+        let value = match constant_as(context, primitive, value) {
             Ok(value) => value,
             Err(e) => return Err(e),
         };

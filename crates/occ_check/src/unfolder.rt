@@ -3,7 +3,7 @@
 use crate::frames::Frames;
 use occ_check_names::numbers::Numbers;
 use occ_check_names::scope::Position;
-use occ_term::{Declaration, Term};
+use occ_term::Declaration;
 use occ_tree_grammar::tree::process::Process;
 use sqlite_items::Items;
 
@@ -14,15 +14,6 @@ pub(crate) struct Unfolder<'t> {
     pub frames: Frames<'t>,
     /// The numbers.
     pub numbers: Numbers,
-}
-
-/// What a process unfolds to: its term, or what the body of a PROC unfolds to that it calls and does nothing beside.
-#[derive(Drop)]
-pub(crate) enum Step<'t> {
-    /// The term.
-    Term(Term),
-    /// The body, and the position at which it is read.
-    Call(&'t Process, Position),
 }
 
 /// A call: what is set for the formals, the body that is called, and the position at which it is read.

@@ -1,6 +1,6 @@
 //! Inputs of variants.
 
-ghost use Rattle.std.specs.Prelude.{◌≡◌, ◌<◌, ◌≤◌, [], IfOk, OnOk, map};
+ghost use Rattle.std.specs.Prelude.{◌≡◌, ◌<◌, ◌≤◌, ◌+◌, [], IfOk, OnOk, length, map, take};
 ghost use Rattle.occ_tree_grammar.specs.Processes.Trees.{nodes, decls};
 ghost use Rattle.occ_tree_grammar.specs.Processes.Views as trees;
 ghost use Rattle.occ_tree_grammar.specs.Processes.Views.{decl_of, process_of, row_decls, row_variants};
@@ -14,29 +14,77 @@ ghost use Rattle.occ_check_meaning.specs.Scope.{names_of};
 ghost use Rattle.occ_check.specs.Prefixes.{storing, variants_taken};
 ghost use Rattle.occ_check_names.specs.View.{Unfolds, names_in, numbers_of};
 ghost use Rattle.occ_check.specs.Statements.{body_of_variant, declarations_of_variant, line_of_variant, targets_of_variant};
-ghost use Rattle.occ_check.specs.Progress.{counted, meant_at};
+ghost use Rattle.occ_check.specs.Opened.{IsReady, Opens, left_weight, statement_left, variant_left, variant_with};
+ghost use Rattle.occ_check.specs.Progress.{counted, meant_at, weight_at};
+ghost use Rattle.occ_check.specs.Weights.{decls_size, node_size, nodes_size};
 
 use crate::acting::names_at;
+use crate::opened::{Left, Opened};
 use crate::unfolder::Unfolder;
 use occ_check_acting::action::with_tags;
 use occ_check_acting::target::stored;
 use occ_check_clashes::tags::Tags;
+use occ_check_names::context::Context;
 use occ_check_names::fault::CheckFault;
 use occ_check_names::measuring::{count_place, count_targets};
 use occ_check_names::numbers::Numbers;
 use occ_check_names::scope::{Position, Scope};
 use occ_check_typing::item::{channel_of, parts_after};
 use occ_held::Held;
-use occ_term::{Place, Protocol, Target, Term, Variant as TermVariant};
+use occ_term::{Declaration, Place, Protocol, Target, Term, Variant as TermVariant};
 use occ_tree_grammar::tree::line::{Target as TargetTree, Var};
 use occ_tree_grammar::tree::process::{Decl, Process, Variant};
 use sqlite_items::Items;
 use std::alloc::Global;
 
+/// A variant whose first steps are done: its process is left.
+#[derive(Drop)]
+pub(crate) struct OpenedVariant<'t> {
+    head: VariantHead,
+    body: &'t Process,
+    at: Position,
+    depth: u32,
+}
+
+/// What the process of a variant is put into: the number of its tag, what is set for its declarations, and its targets.
+pub(crate) struct VariantHead {
+    tag: u32,
+    declarations: Items<Declaration>,
+    targets: Items<Target>,
+}
+
+impl Drop for VariantHead {
+    fn drop(self) {
+        let VariantHead {
+            tag: _,
+            declarations: _,
+            targets: _,
+        } = self;
+    }
+}
+
+impl VariantHead {
+    /// The variant with its process.
+    fn with_process(self, body: Term) -> TermVariant
+        ensures { variant_of result no_variants ≡ variant_with self (term_of body) }
+    {
+        let VariantHead {
+            tag,
+            declarations,
+            targets,
+        } = self;
+        TermVariant {
+            tag,
+            declarations,
+            targets,
+            body,
+        }
+    }
+}
+
 impl<'t> Unfolder<'t> {
-    /// What an input of variants unfolds to.
-    #[cycle(unfolding)]
-    pub fn taken_by_variant(
+    /// Opens an input of variants.
+    pub fn variants_opened(
         &mut self,
         alloc: Global,
         at: Position,
@@ -44,14 +92,18 @@ impl<'t> Unfolder<'t> {
         line: u32,
         channel: &Var,
         list: &'t [Variant],
-    ) -> Result<Term, CheckFault>
-        requires { depth ≤ 200 }
-        ensures term { Unfolds term_of result self.new.numbers (performing.taken_by_variant line (lines.var_of channel.now) (λ p. all_variants (nodes (map trees.variant_of list.now)) p []) (meant_at self.old at) depth (counted self.old)) }
-        ensures kept { OnOk result (self.new.frames.frames.items ≡ self.old.frames.frames.items) }
+    ) -> Result<Opened<'t>, CheckFault>
+        ensures opens { Opens statement_left result self.new (performing.taken_by_variant line (lines.var_of channel.now) (λ p. all_variants (nodes (map trees.variant_of list.now)) p []) (meant_at self.old at) depth (counted self.old)) }
+        ensures kept { OnOk result (take (length self.old.frames.frames.items) self.new.frames.frames.items ≡ self.old.frames.frames.items) }
+        ensures weight { IfOk result (λ o. left_weight self.new o ≤ nodes_size (nodes (map trees.variant_of list.now)) + weight_at self.old at) }
+        ensures ready { IfOk result IsReady }
     {
         let (protocol, channel) = self.variants_taken(alloc, at, depth, line, channel)?;
-        let variants = self.variants(alloc, at, depth + 1, &protocol, list)?;
-        Ok(Term::VariantInput(channel, variants))
+        Ok(Opened {
+            left: Left::Variants(channel, protocol, list),
+            at,
+            depth: depth + 1,
+        })
     }
 
     /// What variants unfold to.
@@ -71,16 +123,24 @@ impl<'t> Unfolder<'t> {
         let mut tags = Tags::new(alloc, protocol)?;
         let mut variants = Items::new(alloc);
         for variant in list {
+            let base = self.frames.len();
             let tag = tags.next(line_of(variant), tag_of(variant))?;
-            let made = self.variant(alloc, at, depth, protocol, tag, variant)?;
-            variants.push(made)?;
+            let opened = self.variant_opened(alloc, at, depth, protocol, tag, variant)?;
+            let OpenedVariant {
+                head,
+                body,
+                at: inside,
+                depth: deep,
+            } = opened;
+            let body = self.process(alloc, inside, deep, body)?;
+            self.frames.close(base);
+            variants.push(head.with_process(body))?;
         }
         Ok(variants)
     }
 
-    /// What a variant unfolds to, with the number of its tag.
-    #[cycle(unfolding)]
-    fn variant(
+    /// Opens a variant, with the number of its tag.
+    fn variant_opened(
         &mut self,
         alloc: Global,
         at: Position,
@@ -88,16 +148,18 @@ impl<'t> Unfolder<'t> {
         protocol: &Protocol,
         tag: u32,
         variant: &'t Variant,
-    ) -> Result<TermVariant, CheckFault>
+    ) -> Result<OpenedVariant<'t>, CheckFault>
         requires { depth ≤ 200 }
-        ensures variant { Unfolds (λ v. variant_of v no_variants) result self.new.numbers (variant_unfolded (trees.variant_of variant.now) protocol.now tag (meant_at self.old at) depth (counted self.old)) }
-        ensures kept { OnOk result (self.new.frames.frames.items ≡ self.old.frames.frames.items) }
+        ensures opens { Opens variant_left result self.new (variant_unfolded (trees.variant_of variant.now) protocol.now tag (meant_at self.old at) depth (counted self.old)) }
+        ensures kept { OnOk result (take (length self.old.frames.frames.items) self.new.frames.frames.items ≡ self.old.frames.frames.items) }
+        ensures weight { IfOk result (λ o. node_size (process_of o.body.now) + weight_at self.new o.at < node_size (trees.variant_of variant.now) + weight_at self.old at) }
+        ensures within { IfOk result (λ o. o.depth ≤ 200) }
     {
         let line = line_of(variant);
         let declarations = declarations_of(variant);
         let targets = targets_of(variant);
         let body = body_of(variant);
-        self.tagged(
+        self.tagged_opened(
             alloc,
             at,
             depth,
@@ -110,9 +172,8 @@ impl<'t> Unfolder<'t> {
         )
     }
 
-    /// What a variant of these parts unfolds to.
-    #[cycle(unfolding)]
-    fn tagged(
+    /// Opens a variant of these parts.
+    fn tagged_opened(
         &mut self,
         alloc: Global,
         at: Position,
@@ -123,22 +184,25 @@ impl<'t> Unfolder<'t> {
         declarations: &'t [Decl],
         targets: &[TargetTree],
         body: &'t Process,
-    ) -> Result<TermVariant, CheckFault>
-        requires { depth ≤ 200 }
-        ensures variant { Unfolds (λ v. variant_of v no_variants) result self.new.numbers (performing.variant_of line (map lines.target_of targets.now) (all_declared (decls (map decl_of declarations.now))) (unfolded (process_of body.now)) protocol.now tag (meant_at self.old at) depth (counted self.old)) }
-        ensures kept { OnOk result (self.new.frames.frames.items ≡ self.old.frames.frames.items) }
+    ) -> Result<OpenedVariant<'t>, CheckFault>
+        ensures opens { Opens variant_left result self.new (performing.variant_of line (map lines.target_of targets.now) (all_declared (decls (map decl_of declarations.now))) (unfolded (process_of body.now)) protocol.now tag (meant_at self.old at) depth (counted self.old)) }
+        ensures kept { OnOk result (take (length self.old.frames.frames.items) self.new.frames.frames.items ≡ self.old.frames.frames.items) }
+        ensures weight { IfOk result (λ o. node_size (process_of o.body.now) + weight_at self.new o.at ≤ (decls_size (decls (map decl_of declarations.now)) + node_size (process_of body.now)) + weight_at self.old at) }
+        ensures within { IfOk result (λ o. o.depth ≤ 200) }
     {
-        let base = self.frames.len();
         self.numbers.node(depth)?;
         let (heads, inside) = self.entering(alloc, at, depth + 1, declarations)?;
         let targets = self.storing(alloc, inside, depth + 1, line, protocol, tag, targets)?;
-        let body = self.process(alloc, inside, depth + 1, body)?;
-        self.frames.close(base);
-        Ok(TermVariant {
+        let head = VariantHead {
             tag,
             declarations: heads,
             targets,
+        };
+        Ok(OpenedVariant {
+            head,
             body,
+            at: inside,
+            depth: depth + 1,
         })
     }
 
@@ -156,7 +220,12 @@ impl<'t> Unfolder<'t> {
         ensures within { IfOk result (λ _. depth < 200) }
     {
         let scope = names_at(&self.frames, at);
-        variants_taken(&mut self.numbers, alloc, scope, line, depth, channel)
+        variants_taken(
+            &mut self.numbers,
+            Context { alloc, scope, line },
+            depth,
+            channel,
+        )
     }
 
     /// The targets behind a tag, with their nodes.
@@ -176,9 +245,7 @@ impl<'t> Unfolder<'t> {
         let scope = names_at(&self.frames, at);
         storing(
             &mut self.numbers,
-            alloc,
-            scope,
-            line,
+            Context { alloc, scope, line },
             depth,
             protocol,
             tag,
@@ -190,39 +257,35 @@ impl<'t> Unfolder<'t> {
 /// The channel of an input of variants with what it carries, and the node that it heads.
 fn variants_taken(
     numbers: &mut Numbers,
-    alloc: Global,
-    scope: Scope<'_, '_>,
-    line: u32,
+    context: Context<'_, '_>,
     depth: u32,
     channel: &Var,
 ) -> Result<(Protocol, Place), CheckFault>
-    ensures taken { Unfolds (λ c. (c.0, place_of c.1)) result numbers.new (variants_taken (names_in scope.entry) line depth (lines.var_of channel.now) (numbers_of numbers.old)) }
+    ensures taken { Unfolds (λ c. (c.0, place_of c.1)) result numbers.new (variants_taken (names_in context.entry.scope) context.entry.line depth (lines.var_of channel.now) (numbers_of numbers.old)) }
     ensures within { IfOk result (λ _. depth < 200) }
 {
-    let (protocol, channel) = channel_of(alloc, scope, line, channel)?;
+    let (protocol, channel) = channel_of(context, channel)?;
     let channel = Held::new(channel);
-    let protocol = with_tags(line, protocol)?;
+    let protocol = with_tags(context.line, protocol)?;
     numbers.node(depth)?;
     count_place(numbers, depth + 1, &channel.value)?;
-    let protocol = protocol.copy(alloc)?;
+    let protocol = protocol.copy(context.alloc)?;
     Ok((protocol, channel.into_inner()))
 }
 
 /// The targets behind a tag, with their nodes.
 fn storing(
     numbers: &mut Numbers,
-    alloc: Global,
-    scope: Scope<'_, '_>,
-    line: u32,
+    context: Context<'_, '_>,
     depth: u32,
     protocol: &Protocol,
     tag: u32,
     targets: &[TargetTree],
 ) -> Result<Items<Target>, CheckFault>
-    ensures { Unfolds targets_of result numbers.new (storing (names_in scope.entry) line depth protocol.now tag (map lines.target_of targets.now) (numbers_of numbers.old)) }
+    ensures { Unfolds targets_of result numbers.new (storing (names_in context.entry.scope) context.entry.line depth protocol.now tag (map lines.target_of targets.now) (numbers_of numbers.old)) }
 {
-    let parts = parts_after(alloc, line, protocol, Some(tag))?;
-    let targets = match stored(alloc, scope, line, parts.as_slice(), targets) {
+    let parts = parts_after(context.alloc, context.line, protocol, Some(tag))?;
+    let targets = match stored(context, parts.as_slice(), targets) {
         Ok(targets) => targets,
         Err(e) => return Err(e),
     };

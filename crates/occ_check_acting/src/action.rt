@@ -14,6 +14,7 @@ ghost use Rattle.occ_check_names.specs.View.{Gives, names_in, part_of, typed_of}
 
 use crate::target::{apart, placed, stored, stored_list};
 use indexmap::IndexSet;
+use occ_check_names::context::Context;
 use occ_check_names::fault::CheckFault;
 use occ_check_names::operators::{is_number, is_same_type};
 use occ_check_names::scope::Scope;
@@ -53,49 +54,43 @@ pub struct Chosen {
 /// As `typed` and `variable_of`, `WrongType` for sides of different types or numbers, `ListTarget` for two targets that
 /// clash, and `Memory`.
 pub fn assigned(
-    alloc: Global,
-    scope: Scope<'_, '_>,
-    line: u32,
+    context: Context<'_, '_>,
     variables: &OneOrMore<Var>,
     values: &OneOrMore<Expr>,
 ) -> Result<(Items<Target>, Items<Item>), CheckFault>
-    ensures { Gives (λ x. Assign (terms.targets_of x.0) (terms.items_of x.1)) result (meant.assigned (names_in scope.entry) line (lines.var_of variables.now.first ∷ map lines.var_of variables.now.others.items) (trees.expression_of values.now.first ∷ map trees.expression_of values.now.others.items)) }
+    ensures { Gives (λ x. Assign (terms.targets_of x.0) (terms.items_of x.1)) result (meant.assigned (names_in context.entry.scope) context.entry.line (lines.var_of variables.now.first ∷ map lines.var_of variables.now.others.items) (trees.expression_of values.now.first ∷ map trees.expression_of values.now.others.items)) }
 {
-    let variables = all_variables(alloc, scope, line, variables)?;
-    let items = all_sides(alloc, scope, line, &variables, values)?;
-    let targets = targets_of(alloc, line, variables)?;
-    apart(alloc, line, targets.as_slice())?;
+    let variables = all_variables(context, variables)?;
+    let items = all_sides(context, &variables, values)?;
+    let targets = targets_of(context.alloc, context.line, variables)?;
+    apart(context.alloc, context.line, targets.as_slice())?;
     Ok((targets, items))
 }
 
 /// The left side, where there is one variable at least.
 #[tactic(auto, unfolding(occ_check_meaning::specs::Scope::each_of))]
 fn all_variables(
-    alloc: Global,
-    scope: Scope<'_, '_>,
-    line: u32,
+    context: Context<'_, '_>,
     variables: &OneOrMore<Var>,
 ) -> Result<Vec<(Primitive, Part)>, CheckFault>
-    ensures { Gives (λ xs. map side_of xs.items) result (each_of (items.variable_of (names_in scope.entry) line) (lines.var_of variables.now.first ∷ map lines.var_of variables.now.others.items)) }
+    ensures { Gives (λ xs. map side_of xs.items) result (each_of (items.variable_of (names_in context.entry.scope) context.entry.line) (lines.var_of variables.now.first ∷ map lines.var_of variables.now.others.items)) }
 {
-    let mut all = Vec::new(alloc);
-    all.push(variable_of(alloc, scope, line, &variables.first)?)?;
-    let mut others = each_variable(alloc, scope, line, &variables.others)?;
+    let mut all = Vec::new(context.alloc);
+    all.push(variable_of(context, &variables.first)?)?;
+    let mut others = each_variable(context, &variables.others)?;
     all.append(&mut others)?;
     Ok(all)
 }
 
 fn each_variable(
-    alloc: Global,
-    scope: Scope<'_, '_>,
-    line: u32,
+    context: Context<'_, '_>,
     variables: &[Var],
 ) -> Result<Vec<(Primitive, Part)>, CheckFault>
-    ensures { Gives (λ xs. map side_of xs.items) result (each_of (items.variable_of (names_in scope.entry) line) (map lines.var_of variables.now)) }
+    ensures { Gives (λ xs. map side_of xs.items) result (each_of (items.variable_of (names_in context.entry.scope) context.entry.line) (map lines.var_of variables.now)) }
 {
-    let mut all = Vec::new(alloc);
+    let mut all = Vec::new(context.alloc);
     for variable in variables {
-        let one = match variable_of(alloc, scope, line, variable) {
+        let one = match variable_of(context, variable) {
             Ok(one) => one,
             Err(e) => return Err(e),
         };
@@ -107,20 +102,18 @@ fn each_variable(
 /// As many values as variables, where there is one value at least.
 #[tactic(auto, unfolding(occ_check_typing::specs::Zipped::zipped))]
 fn all_sides(
-    alloc: Global,
-    scope: Scope<'_, '_>,
-    line: u32,
+    context: Context<'_, '_>,
     variables: &[(Primitive, Part)],
     values: &OneOrMore<Expr>,
 ) -> Result<Items<Item>, CheckFault>
-    ensures { Gives terms.items_of result (zipped (side_assigned (names_in scope.entry) line) variables.now (trees.expression_of values.now.first ∷ map trees.expression_of values.now.others.items)) }
+    ensures { Gives terms.items_of result (zipped (side_assigned (names_in context.entry.scope) context.entry.line) variables.now (trees.expression_of values.now.first ∷ map trees.expression_of values.now.others.items)) }
 {
     match variables.split_first() {
-        None => Err(CheckFault::WrongType { line }),
+        None => Err(CheckFault::WrongType { line: context.line }),
         Some((variable, rest)) => {
-            let mut all = Items::new(alloc);
-            all.push(one_side(alloc, scope, line, variable, &values.first)?)?;
-            all.append(each_side(alloc, scope, line, rest, &values.others)?)?;
+            let mut all = Items::new(context.alloc);
+            all.push(one_side(context, variable, &values.first)?)?;
+            all.append(each_side(context, rest, &values.others)?)?;
             Ok(all)
         }
     }
@@ -128,21 +121,19 @@ fn all_sides(
 
 /// As many values as variables.
 fn each_side(
-    alloc: Global,
-    scope: Scope<'_, '_>,
-    line: u32,
+    context: Context<'_, '_>,
     variables: &[(Primitive, Part)],
     values: &[Expr],
 ) -> Result<Items<Item>, CheckFault>
-    ensures { Gives terms.items_of result (zipped (side_assigned (names_in scope.entry) line) variables.now (map trees.expression_of values.now)) }
+    ensures { Gives terms.items_of result (zipped (side_assigned (names_in context.entry.scope) context.entry.line) variables.now (map trees.expression_of values.now)) }
 {
-    let mut made = Items::new(alloc);
+    let mut made = Items::new(context.alloc);
     let mut left = values;
     for variable in variables {
         let Some((value, others)) = left.split_first() else {
-            return Err(CheckFault::WrongType { line });
+            return Err(CheckFault::WrongType { line: context.line });
         };
-        let item = match one_side(alloc, scope, line, variable, value) {
+        let item = match one_side(context, variable, value) {
             Ok(item) => item,
             Err(e) => return Err(e),
         };
@@ -151,22 +142,20 @@ fn each_side(
     }
     match left.split_first() {
         None => Ok(made),
-        Some(_) => Err(CheckFault::WrongType { line }),
+        Some(_) => Err(CheckFault::WrongType { line: context.line }),
     }
 }
 
 /// A value for a variable.
 fn one_side(
-    alloc: Global,
-    scope: Scope<'_, '_>,
-    line: u32,
+    context: Context<'_, '_>,
     variable: &(Primitive, Part),
     value: &Expr,
 ) -> Result<Item, CheckFault>
-    ensures { Gives terms.item_of result (side_assigned (names_in scope.entry) line variable.now (trees.expression_of value.now)) }
+    ensures { Gives terms.item_of result (side_assigned (names_in context.entry.scope) context.entry.line variable.now (trees.expression_of value.now)) }
 {
-    let value = typed(alloc, scope, line, value)?;
-    assigned_item(line, variable.0, &variable.1, value)
+    let value = typed(context, value)?;
+    assigned_item(context.line, variable.0, &variable.1, value)
 }
 
 /// The variables as targets.
@@ -218,16 +207,14 @@ fn assigned_item(
 ///
 /// As `channel_of` and `sent`.
 pub fn output(
-    alloc: Global,
-    scope: Scope<'_, '_>,
-    line: u32,
+    context: Context<'_, '_>,
     channel: &Var,
     outs: &OneOrMore<Out>,
 ) -> Result<(Place, Option<u32>, Items<Item>), CheckFault>
-    ensures { Gives (λ x. Output (terms.place_of x.0) x.1 (terms.items_of x.2)) result (meant.output (names_in scope.entry) line (lines.var_of channel.now) (lines.out_of outs.now.first) (map lines.out_of outs.now.others.items)) }
+    ensures { Gives (λ x. Output (terms.place_of x.0) x.1 (terms.items_of x.2)) result (meant.output (names_in context.entry.scope) context.entry.line (lines.var_of channel.now) (lines.out_of outs.now.first) (map lines.out_of outs.now.others.items)) }
 {
-    let (protocol, channel) = channel_of(alloc, scope, line, channel)?;
-    let (tag, items) = sent(alloc, scope, line, protocol, outs)?;
+    let (protocol, channel) = channel_of(context, channel)?;
+    let (tag, items) = sent(context, protocol, outs)?;
     Ok((channel, tag, items))
 }
 
@@ -237,30 +224,25 @@ pub fn output(
 ///
 /// As `channel_of` and `stored`, `Protocol` for a message that the channel does not carry, and `Tag` for a tag that
 /// its protocol has not.
-pub fn received(
-    alloc: Global,
-    scope: Scope<'_, '_>,
-    line: u32,
-    input: &Input,
-) -> Result<(Place, Listed), CheckFault>
-    ensures { Gives (λ x. (terms.place_of x.0, listed_of x.1)) result (meant.received (names_in scope.entry) line (lines.input_of input.now)) }
+pub fn received(context: Context<'_, '_>, input: &Input) -> Result<(Place, Listed), CheckFault>
+    ensures { Gives (λ x. (terms.place_of x.0, listed_of x.1)) result (meant.received (names_in context.entry.scope) context.entry.line (lines.input_of input.now)) }
 {
     match input {
         Input::Items(channel, targets) => {
-            let (protocol, channel) = channel_of(alloc, scope, line, channel)?;
+            let (protocol, channel) = channel_of(context, channel)?;
             let channel = Held::new(channel);
-            let parts = parts_after(alloc, line, protocol, None)?;
-            match stored_list(alloc, scope, line, parts.as_slice(), targets) {
+            let parts = parts_after(context.alloc, context.line, protocol, None)?;
+            match stored_list(context, parts.as_slice(), targets) {
                 Ok(targets) => Ok((channel.into_inner(), Listed::Plain(targets))),
                 Err(e) => Err(e),
             }
         }
         Input::Tagged(channel, name, targets) => {
-            let (protocol, channel) = channel_of(alloc, scope, line, channel)?;
+            let (protocol, channel) = channel_of(context, channel)?;
             let channel = Held::new(channel);
-            let tag = tag_in(line, protocol, name)?;
-            let parts = parts_after(alloc, line, protocol, Some(tag))?;
-            match stored(alloc, scope, line, parts.as_slice(), targets) {
+            let tag = tag_in(context.line, protocol, name)?;
+            let parts = parts_after(context.alloc, context.line, protocol, Some(tag))?;
+            match stored(context, parts.as_slice(), targets) {
                 Ok(targets) => Ok((channel.into_inner(), Listed::Tagged(tag, targets))),
                 Err(e) => Err(e),
             }
@@ -274,17 +256,15 @@ pub fn received(
 ///
 /// As `typed_as` of a BOOL.
 pub fn test_of(
-    alloc: Global,
-    scope: Scope<'_, '_>,
-    line: u32,
+    context: Context<'_, '_>,
     test: &Option<Expr>,
 ) -> Result<Option<TermExpr>, CheckFault>
-    ensures { Gives terms.test_of result (meant.test_of (names_in scope.entry) line (option_map trees.expression_of test.now)) }
+    ensures { Gives terms.test_of result (meant.test_of (names_in context.entry.scope) context.entry.line (option_map trees.expression_of test.now)) }
 {
     match test {
         None => Ok(None),
         Some(e) => {
-            let test = typed_as(alloc, scope, line, Primitive::Bool, e)?;
+            let test = typed_as(context, Primitive::Bool, e)?;
             Ok(Some(test))
         }
     }
@@ -295,19 +275,14 @@ pub fn test_of(
 /// # Errors
 ///
 /// As `typed`, and `WrongType` for an array and for a BOOL.
-pub fn selector(
-    alloc: Global,
-    scope: Scope<'_, '_>,
-    line: u32,
-    e: &Expr,
-) -> Result<(Primitive, TermExpr), CheckFault>
-    ensures { Gives (λ x. (x.0, terms.expression_of x.1)) result (meant.selector (names_in scope.entry) line (trees.expression_of e.now)) }
+pub fn selector(context: Context<'_, '_>, e: &Expr) -> Result<(Primitive, TermExpr), CheckFault>
+    ensures { Gives (λ x. (x.0, terms.expression_of x.1)) result (meant.selector (names_in context.entry.scope) context.entry.line (trees.expression_of e.now)) }
 {
-    let (primitive, e) = as_single(line, typed(alloc, scope, line, e)?)?;
+    let (primitive, e) = as_single(context.line, typed(context, e)?)?;
     if is_number(primitive) {
         Ok((primitive, e))
     } else {
-        Err(CheckFault::WrongType { line })
+        Err(CheckFault::WrongType { line: context.line })
     }
 }
 

@@ -12,11 +12,11 @@ ghost use Rattle.occ_check_acting.specs.CallView.{channels_bound, formals_of, gi
 
 use crate::formals::{Wanted, WantedFormal};
 use crate::given::{Given, all_evaluated, part_of};
+use occ_check_names::context::Context;
 use occ_check_names::fault::CheckFault;
 use occ_check_names::known::{Access, Carried, Known, Row};
 use occ_check_names::numbers::Numbers;
 use occ_check_names::operators::is_same_type;
-use occ_check_names::scope::Scope;
 use occ_check_typing::declaration::{Opened, has_type, name_value, takes_sizes};
 use occ_check_typing::expression::{known_name, typed, typed_subscripts};
 use occ_check_typing::overlap::some_overlap;
@@ -150,182 +150,189 @@ fn is_same_protocol(a: &Protocol, b: &Protocol) -> bool
 /// What a formal stands for that wants a value.
 fn value_actual(
     numbers: &mut Numbers,
-    alloc: Global,
-    scope: Scope<'_, '_>,
-    line: u32,
+    context: Context<'_, '_>,
     depth: u32,
     name: &[u8],
     sizes: &[Option<u32>],
     primitive: Primitive,
     e: &Expr,
 ) -> Result<Opened, CheckFault>
-    ensures { Opens result numbers.new (meant.actual_of (names_in scope.entry) line depth name.now (meant.wants_value sizes.now primitive) (trees.expression_of e.now) (numbers_of numbers.old)) }
+    ensures { Opens result numbers.new (meant.actual_of (names_in context.entry.scope) context.entry.line depth name.now (meant.wants_value sizes.now primitive) (trees.expression_of e.now) (numbers_of numbers.old)) }
 {
-    let value = Held::new(typed(alloc, scope, line, e)?);
+    let value = Held::new(typed(context, e)?);
     if has_type(sizes, primitive, &value.value) {
-        name_value(numbers, alloc, line, depth, name, value.into_inner())
+        name_value(
+            numbers,
+            context.alloc,
+            context.line,
+            depth,
+            name,
+            value.into_inner(),
+        )
     } else {
-        Err(CheckFault::Arguments { line })
+        Err(CheckFault::Arguments { line: context.line })
     }
 }
 
 /// What a formal stands for that wants a variable.
 fn variable_actual(
     numbers: &mut Numbers,
-    alloc: Global,
-    scope: Scope<'_, '_>,
-    line: u32,
+    context: Context<'_, '_>,
     depth: u32,
     name: &[u8],
     sizes: &[Option<u32>],
     primitive: Primitive,
     e: &Expr,
 ) -> Result<Opened, CheckFault>
-    ensures { Opens result numbers.new (meant.actual_of (names_in scope.entry) line depth name.now (meant.wants_variable sizes.now primitive) (trees.expression_of e.now) (numbers_of numbers.old)) }
+    ensures { Opens result numbers.new (meant.actual_of (names_in context.entry.scope) context.entry.line depth name.now (meant.wants_variable sizes.now primitive) (trees.expression_of e.now) (numbers_of numbers.old)) }
 {
-    let (x, es) = as_named(line, e)?;
-    let known = known_name(alloc, scope, line, x)?;
-    let (own, row) = given_variable(line, known)?;
-    let under = typed_subscripts(alloc, scope, line, es)?;
+    let (x, es) = as_named(context.line, e)?;
+    let known = known_name(context, x)?;
+    let (own, row) = given_variable(context.line, known)?;
+    let under = typed_subscripts(context, es)?;
     row.left.few();
     let given = all_evaluated(
         numbers,
-        alloc,
-        line,
+        context.alloc,
+        context.line,
         depth,
         name,
         under,
         row.left.as_slice(),
     )?;
-    variable_given(alloc, line, name, sizes, primitive, own, row, given)
+    variable_given(
+        context.alloc,
+        context.line,
+        name,
+        sizes,
+        primitive,
+        own,
+        row,
+        given,
+    )
 }
 
 /// What a formal stands for that wants channels.
 fn channels_actual(
     numbers: &mut Numbers,
-    alloc: Global,
-    scope: Scope<'_, '_>,
-    line: u32,
+    context: Context<'_, '_>,
     depth: u32,
     name: &[u8],
     sizes: &[Option<u32>],
     carried: &Carried,
     e: &Expr,
 ) -> Result<Opened, CheckFault>
-    ensures { Opens result numbers.new (meant.actual_of (names_in scope.entry) line depth name.now (meant.wants_channels sizes.now (carried_of carried.now)) (trees.expression_of e.now) (numbers_of numbers.old)) }
+    ensures { Opens result numbers.new (meant.actual_of (names_in context.entry.scope) context.entry.line depth name.now (meant.wants_channels sizes.now (carried_of carried.now)) (trees.expression_of e.now) (numbers_of numbers.old)) }
 {
-    let (x, es) = as_named(line, e)?;
-    let known = known_name(alloc, scope, line, x)?;
-    let (own, row) = given_channels(line, known)?;
-    let under = typed_subscripts(alloc, scope, line, es)?;
+    let (x, es) = as_named(context.line, e)?;
+    let known = known_name(context, x)?;
+    let (own, row) = given_channels(context.line, known)?;
+    let under = typed_subscripts(context, es)?;
     row.left.few();
     let given = all_evaluated(
         numbers,
-        alloc,
-        line,
+        context.alloc,
+        context.line,
         depth,
         name,
         under,
         row.left.as_slice(),
     )?;
-    channels_given(alloc, line, name, sizes, carried, own, row, given)
+    channels_given(
+        context.alloc,
+        context.line,
+        name,
+        sizes,
+        carried,
+        own,
+        row,
+        given,
+    )
 }
 
 /// What a formal stands for under its actual.
 fn actual_of(
     numbers: &mut Numbers,
-    alloc: Global,
-    scope: Scope<'_, '_>,
-    line: u32,
+    context: Context<'_, '_>,
     depth: u32,
     formal: &WantedFormal,
     e: &Expr,
 ) -> Result<Opened, CheckFault>
-    ensures { Opens result numbers.new (meant.actual_of (names_in scope.entry) line depth formal.now.name (wanted_of formal.now.wanted) (trees.expression_of e.now) (numbers_of numbers.old)) }
+    ensures { Opens result numbers.new (meant.actual_of (names_in context.entry.scope) context.entry.line depth formal.now.name (wanted_of formal.now.wanted) (trees.expression_of e.now) (numbers_of numbers.old)) }
 {
     let name = formal.name.as_slice();
     match &formal.wanted {
         Wanted::Value(sizes, primitive) => {
             let sizes = sizes.as_slice();
-            value_actual(
-                numbers, alloc, scope, line, depth, name, sizes, *primitive, e,
-            )
+            value_actual(numbers, context, depth, name, sizes, *primitive, e)
         }
         Wanted::Variable(sizes, primitive) => {
             let sizes = sizes.as_slice();
-            variable_actual(
-                numbers, alloc, scope, line, depth, name, sizes, *primitive, e,
-            )
+            variable_actual(numbers, context, depth, name, sizes, *primitive, e)
         }
         Wanted::Channels(sizes, carried) => {
             let sizes = sizes.as_slice();
-            channels_actual(numbers, alloc, scope, line, depth, name, sizes, carried, e)
+            channels_actual(numbers, context, depth, name, sizes, carried, e)
         }
     }
 }
 
 fn all_actuals(
     numbers: &mut Numbers,
-    alloc: Global,
-    scope: Scope<'_, '_>,
-    line: u32,
+    context: Context<'_, '_>,
     depth: u32,
     formals: &[WantedFormal],
     actuals: &[Expr],
 ) -> Result<Opened, CheckFault>
-    ensures { Opens result numbers.new (meant.all_actuals (names_in scope.entry) line depth (formals_of formals.now) (map trees.expression_of actuals.now) (numbers_of numbers.old)) }
+    ensures { Opens result numbers.new (meant.all_actuals (names_in context.entry.scope) context.entry.line depth (formals_of formals.now) (map trees.expression_of actuals.now) (numbers_of numbers.old)) }
 {
-    let mut opened = Opened::new(alloc);
+    let mut opened = Opened::new(context.alloc);
     let mut others = actuals;
     for formal in formals {
         let Some((e, rest)) = others.split_first() else {
-            return Err(CheckFault::Arguments { line });
+            return Err(CheckFault::Arguments { line: context.line });
         };
-        let one = actual_of(numbers, alloc, scope, line, depth, formal, e)?;
+        let one = actual_of(numbers, context, depth, formal, e)?;
         opened.append(one)?;
         others = rest;
     }
     if others.is_empty() {
         Ok(opened)
     } else {
-        Err(CheckFault::Arguments { line })
+        Err(CheckFault::Arguments { line: context.line })
     }
 }
 
 /// What the formals stand for under all actuals of a call.
 fn actuals_of(
     numbers: &mut Numbers,
-    alloc: Global,
-    scope: Scope<'_, '_>,
-    line: u32,
+    context: Context<'_, '_>,
     depth: u32,
     formals: &[WantedFormal],
     actuals: &Option<OneOrMore<Expr>>,
 ) -> Result<Opened, CheckFault>
-    ensures { Opens result numbers.new (meant.all_actuals (names_in scope.entry) line depth (formals_of formals.now) (meant.actual_list (lines.actuals_of actuals.now)) (numbers_of numbers.old)) }
+    ensures { Opens result numbers.new (meant.all_actuals (names_in context.entry.scope) context.entry.line depth (formals_of formals.now) (meant.actual_list (lines.actuals_of actuals.now)) (numbers_of numbers.old)) }
 {
     match actuals {
-        None => all_actuals(numbers, alloc, scope, line, depth, formals, &[]),
-        Some(actuals) => some_actuals(numbers, alloc, scope, line, depth, formals, actuals),
+        None => all_actuals(numbers, context, depth, formals, &[]),
+        Some(actuals) => some_actuals(numbers, context, depth, formals, actuals),
     }
 }
 
 fn some_actuals(
     numbers: &mut Numbers,
-    alloc: Global,
-    scope: Scope<'_, '_>,
-    line: u32,
+    context: Context<'_, '_>,
     depth: u32,
     formals: &[WantedFormal],
     actuals: &OneOrMore<Expr>,
 ) -> Result<Opened, CheckFault>
-    ensures { Opens result numbers.new (meant.all_actuals (names_in scope.entry) line depth (formals_of formals.now) (trees.expression_of actuals.now.first ∷ map trees.expression_of actuals.now.others.items) (numbers_of numbers.old)) }
+    ensures { Opens result numbers.new (meant.all_actuals (names_in context.entry.scope) context.entry.line depth (formals_of formals.now) (trees.expression_of actuals.now.first ∷ map trees.expression_of actuals.now.others.items) (numbers_of numbers.old)) }
 {
     let Some((formal, rest)) = formals.split_first() else {
-        return Err(CheckFault::Arguments { line });
+        return Err(CheckFault::Arguments { line: context.line });
     };
-    let mut opened = actual_of(numbers, alloc, scope, line, depth, formal, &actuals.first)?;
-    let others = all_actuals(numbers, alloc, scope, line, depth, rest, &actuals.others)?;
+    let mut opened = actual_of(numbers, context, depth, formal, &actuals.first)?;
+    let others = all_actuals(numbers, context, depth, rest, &actuals.others)?;
     opened.append(others)?;
     Ok(opened)
 }
@@ -339,18 +346,16 @@ fn some_actuals(
 /// `TooLarge` for too many cells or nodes, and `Memory`.
 pub fn bound(
     numbers: &mut Numbers,
-    alloc: Global,
-    scope: Scope<'_, '_>,
-    line: u32,
+    context: Context<'_, '_>,
     depth: u32,
     formals: &[WantedFormal],
     actuals: &Option<OneOrMore<Expr>>,
 ) -> Result<Opened, CheckFault>
-    ensures { Opens result numbers.new (meant.bound (names_in scope.entry) line depth (formals_of formals.now) (lines.actuals_of actuals.now) (numbers_of numbers.old)) }
+    ensures { Opens result numbers.new (meant.bound (names_in context.entry.scope) context.entry.line depth (formals_of formals.now) (lines.actuals_of actuals.now) (numbers_of numbers.old)) }
 {
-    let opened = actuals_of(numbers, alloc, scope, line, depth, formals, actuals)?;
-    if some_overlap(alloc, &opened.names)? {
-        Err(CheckFault::Overlap { line })
+    let opened = actuals_of(numbers, context, depth, formals, actuals)?;
+    if some_overlap(context.alloc, &opened.names)? {
+        Err(CheckFault::Overlap { line: context.line })
     } else {
         Ok(opened)
     }

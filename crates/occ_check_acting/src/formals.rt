@@ -8,10 +8,10 @@ ghost use Rattle.occ_check_meaning.specs.Types.{open_sizes_of};
 ghost use Rattle.occ_check_names.specs.View.{Gives, names_in};
 ghost use Rattle.occ_check_acting.specs.CallView.{formal_of, formals_of, listed_formals, named_formal, wanted_of, wants_a_value, wants_a_variable};
 
+use occ_check_names::context::Context;
 use occ_check_names::fault::CheckFault;
 use occ_check_names::known::Carried;
 use occ_check_names::operators::primitive_of;
-use occ_check_names::scope::Scope;
 use occ_check_typing::declaration::once;
 use occ_check_typing::types::{carried_by, open_sizes_of};
 use occ_term::Primitive;
@@ -40,64 +40,53 @@ pub struct WantedFormal {
 }
 
 /// What a formal of this spec wants.
-fn wanted_by(
-    alloc: Global,
-    scope: Scope<'_, '_>,
-    line: u32,
-    spec: &Spec,
-) -> Result<Wanted, CheckFault>
-    ensures { Gives wanted_of result (meant.wanted (names_in scope.entry) line (lines.spec_of spec.now)) }
+fn wanted_by(context: Context<'_, '_>, spec: &Spec) -> Result<Wanted, CheckFault>
+    ensures { Gives wanted_of result (meant.wanted (names_in context.entry.scope) context.entry.line (lines.spec_of spec.now)) }
 {
     match spec {
         Spec::Value(value_type) => {
             let primitive = primitive_of(value_type.of);
-            value_wanted(alloc, scope, line, &value_type.sizes, primitive)
+            value_wanted(context, &value_type.sizes, primitive)
         }
         Spec::Variable(value_type) => {
             let primitive = primitive_of(value_type.of);
-            variable_wanted(alloc, scope, line, &value_type.sizes, primitive)
+            variable_wanted(context, &value_type.sizes, primitive)
         }
-        Spec::Channel(sizes, carried) => channels_wanted(alloc, scope, line, sizes, carried),
+        Spec::Channel(sizes, carried) => channels_wanted(context, sizes, carried),
     }
 }
 
 fn value_wanted(
-    alloc: Global,
-    scope: Scope<'_, '_>,
-    line: u32,
+    context: Context<'_, '_>,
     sizes: &[Size],
     primitive: Primitive,
 ) -> Result<Wanted, CheckFault>
-    ensures { Gives wanted_of result (wants_a_value primitive (open_sizes_of (names_in scope.entry) line (map lines.size_of sizes.now))) }
+    ensures { Gives wanted_of result (wants_a_value primitive (open_sizes_of (names_in context.entry.scope) context.entry.line (map lines.size_of sizes.now))) }
 {
-    let sizes = open_sizes_of(alloc, scope, line, sizes)?;
+    let sizes = open_sizes_of(context, sizes)?;
     Ok(Wanted::Value(sizes, primitive))
 }
 
 fn variable_wanted(
-    alloc: Global,
-    scope: Scope<'_, '_>,
-    line: u32,
+    context: Context<'_, '_>,
     sizes: &[Size],
     primitive: Primitive,
 ) -> Result<Wanted, CheckFault>
-    ensures { Gives wanted_of result (wants_a_variable primitive (open_sizes_of (names_in scope.entry) line (map lines.size_of sizes.now))) }
+    ensures { Gives wanted_of result (wants_a_variable primitive (open_sizes_of (names_in context.entry.scope) context.entry.line (map lines.size_of sizes.now))) }
 {
-    let sizes = open_sizes_of(alloc, scope, line, sizes)?;
+    let sizes = open_sizes_of(context, sizes)?;
     Ok(Wanted::Variable(sizes, primitive))
 }
 
 fn channels_wanted(
-    alloc: Global,
-    scope: Scope<'_, '_>,
-    line: u32,
+    context: Context<'_, '_>,
     sizes: &[Size],
     carried: &CarriedTree,
 ) -> Result<Wanted, CheckFault>
-    ensures { Gives wanted_of result (meant.wanted (names_in scope.entry) line (by_channel (map lines.size_of sizes.now) (lines.carried_of carried.now))) }
+    ensures { Gives wanted_of result (meant.wanted (names_in context.entry.scope) context.entry.line (by_channel (map lines.size_of sizes.now) (lines.carried_of carried.now))) }
 {
-    let sizes = open_sizes_of(alloc, scope, line, sizes)?;
-    let carried = carried_by(alloc, scope, line, carried)?;
+    let sizes = open_sizes_of(context, sizes)?;
+    let carried = carried_by(context, carried)?;
     Ok(Wanted::Channels(sizes, carried))
 }
 
@@ -108,30 +97,26 @@ fn channels_wanted(
 ///
 /// As `open_sizes_of` and `carried_by`, `Twice` for a name that stands twice, and `Memory`.
 pub fn formals_of(
-    alloc: Global,
-    scope: Scope<'_, '_>,
-    line: u32,
+    context: Context<'_, '_>,
     formals: &Option<Box<Formals>>,
 ) -> Result<Vec<WantedFormal>, CheckFault>
-    ensures { Gives (λ fs. formals_of fs.items) result (meant.formals_of (names_in scope.entry) line (lines.formals_of formals.now)) }
+    ensures { Gives (λ fs. formals_of fs.items) result (meant.formals_of (names_in context.entry.scope) context.entry.line (lines.formals_of formals.now)) }
 {
     match formals {
-        None => Ok(Vec::new(alloc)),
-        Some(formals) => some_formals(alloc, scope, line, formals),
+        None => Ok(Vec::new(context.alloc)),
+        Some(formals) => some_formals(context, formals),
     }
 }
 
 fn some_formals(
-    alloc: Global,
-    scope: Scope<'_, '_>,
-    line: u32,
+    context: Context<'_, '_>,
     formals: &Formals,
 ) -> Result<Vec<WantedFormal>, CheckFault>
-    ensures { Gives (λ fs. formals_of fs.items) result (meant.formals_of (names_in scope.entry) line (lines.some_formals_of formals.now)) }
+    ensures { Gives (λ fs. formals_of fs.items) result (meant.formals_of (names_in context.entry.scope) context.entry.line (lines.some_formals_of formals.now)) }
 {
-    let all = listed_formals(alloc, scope, line, formals)?;
-    let names = formal_names(alloc, &all)?;
-    once(alloc, line, names.as_slice())?;
+    let all = listed_formals(context, formals)?;
+    let names = formal_names(context.alloc, &all)?;
+    once(context.alloc, context.line, names.as_slice())?;
     Ok(all)
 }
 
@@ -146,50 +131,44 @@ fn formal_names(alloc: Global, formals: &[WantedFormal]) -> Result<Items<Items<u
 }
 
 fn listed_formals(
-    alloc: Global,
-    scope: Scope<'_, '_>,
-    line: u32,
+    context: Context<'_, '_>,
     formals: &Formals,
 ) -> Result<Vec<WantedFormal>, CheckFault>
-    ensures { Gives (λ fs. formals_of fs.items) result (listed_formals (names_in scope.entry) line (lines.spec_of formals.now.spec) formals.now.name.items (map lines.formal_of formals.now.others.items)) }
+    ensures { Gives (λ fs. formals_of fs.items) result (listed_formals (names_in context.entry.scope) context.entry.line (lines.spec_of formals.now.spec) formals.now.name.items (map lines.formal_of formals.now.others.items)) }
 {
-    let first = wanted_formal(alloc, scope, line, &formals.spec, &formals.name)?;
-    let mut others = other_formals(alloc, scope, line, &formals.spec, &formals.others)?;
-    let mut all = Vec::new(alloc);
+    let first = wanted_formal(context, &formals.spec, &formals.name)?;
+    let mut others = other_formals(context, &formals.spec, &formals.others)?;
+    let mut all = Vec::new(context.alloc);
     all.push(first)?;
     all.append(&mut others)?;
     Ok(all)
 }
 
 fn wanted_formal(
-    alloc: Global,
-    scope: Scope<'_, '_>,
-    line: u32,
+    context: Context<'_, '_>,
     spec: &Spec,
     name: &[u8],
 ) -> Result<WantedFormal, CheckFault>
-    ensures { Gives formal_of result (named_formal name.now (meant.wanted (names_in scope.entry) line (lines.spec_of spec.now))) }
+    ensures { Gives formal_of result (named_formal name.now (meant.wanted (names_in context.entry.scope) context.entry.line (lines.spec_of spec.now))) }
 {
-    let wanted = wanted_by(alloc, scope, line, spec)?;
-    let name = Items::from_slice(alloc, name)?;
+    let wanted = wanted_by(context, spec)?;
+    let name = Items::from_slice(context.alloc, name)?;
     Ok(WantedFormal { name, wanted })
 }
 
 /// The formals after one with this spec, which is that of those that have none of their own.
 fn other_formals(
-    alloc: Global,
-    scope: Scope<'_, '_>,
-    line: u32,
+    context: Context<'_, '_>,
     spec: &Spec,
     formals: &[Formal],
 ) -> Result<Vec<WantedFormal>, CheckFault>
-    ensures { Gives (λ fs. formals_of fs.items) result (meant.other_formals (names_in scope.entry) line (lines.spec_of spec.now) (map lines.formal_of formals.now)) }
+    ensures { Gives (λ fs. formals_of fs.items) result (meant.other_formals (names_in context.entry.scope) context.entry.line (lines.spec_of spec.now) (map lines.formal_of formals.now)) }
 {
-    let mut all = Vec::new(alloc);
+    let mut all = Vec::new(context.alloc);
     let mut before = spec;
     for formal in formals {
         before = spec_after(before, &formal.spec);
-        let one = wanted_formal(alloc, scope, line, before, &formal.name)?;
+        let one = wanted_formal(context, before, &formal.name)?;
         all.push(one)?;
     }
     Ok(all)

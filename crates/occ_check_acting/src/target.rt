@@ -11,9 +11,9 @@ ghost use Rattle.occ_check_meaning.specs.Items as meant;
 ghost use Rattle.occ_check_names.specs.View.{Gives, names_in, part_of};
 
 use occ_check_clashes::clash::some_clash;
+use occ_check_names::context::Context;
 use occ_check_names::fault::CheckFault;
 use occ_check_names::operators::is_same_type;
-use occ_check_names::scope::Scope;
 use occ_check_names::typed::Part;
 use occ_check_typing::item::variable_of;
 use occ_check_typing::types::are_same_sizes;
@@ -98,44 +98,40 @@ fn counted_target(
 
 /// One target of a list.
 fn one_stored(
-    alloc: Global,
-    scope: Scope<'_, '_>,
-    line: u32,
+    context: Context<'_, '_>,
     part: &PartType,
     target: &TargetTree,
 ) -> Result<Target, CheckFault>
-    ensures { Gives terms.target_of result (stored_one (names_in scope.entry) line part.now (lines.target_of target.now)) }
+    ensures { Gives terms.target_of result (stored_one (names_in context.entry.scope) context.entry.line part.now (lines.target_of target.now)) }
 {
     match target {
         TargetTree::Whole(variable) => {
-            let (primitive, variable) = variable_of(alloc, scope, line, variable)?;
-            target_of(line, part, primitive, variable)
+            let (primitive, variable) = variable_of(context, variable)?;
+            target_of(context.line, part, primitive, variable)
         }
         TargetTree::Counted(number, array) => {
-            let number = variable_of(alloc, scope, line, number)?;
-            let array = variable_of(alloc, scope, line, array)?;
-            counted_target(line, part, number, array)
+            let number = variable_of(context, number)?;
+            let array = variable_of(context, array)?;
+            counted_target(context.line, part, number, array)
         }
     }
 }
 
 /// As many targets as parts.
 fn each_stored(
-    alloc: Global,
-    scope: Scope<'_, '_>,
-    line: u32,
+    context: Context<'_, '_>,
     parts: &[PartType],
     targets: &[TargetTree],
 ) -> Result<Items<Target>, CheckFault>
-    ensures { Gives terms.targets_of result (zipped (stored_one (names_in scope.entry) line) parts.now (map lines.target_of targets.now)) }
+    ensures { Gives terms.targets_of result (zipped (stored_one (names_in context.entry.scope) context.entry.line) parts.now (map lines.target_of targets.now)) }
 {
-    let mut made = Items::new(alloc);
+    let mut made = Items::new(context.alloc);
     let mut left = targets;
     for part in parts {
         let Some((target, others)) = left.split_first() else {
-            return Err(CheckFault::Protocol { line });
+            return Err(CheckFault::Protocol { line: context.line });
         };
-        let target = match one_stored(alloc, scope, line, part, target) {
+        let target = match one_stored(context, part, target) {
             Ok(target) => target,
             Err(e) => return Err(e),
         };
@@ -144,7 +140,7 @@ fn each_stored(
     }
     match left.split_first() {
         None => Ok(made),
-        Some(_) => Err(CheckFault::Protocol { line }),
+        Some(_) => Err(CheckFault::Protocol { line: context.line }),
     }
 }
 
@@ -169,19 +165,17 @@ pub fn apart(alloc: Global, line: u32, targets: &[Target]) -> Result<(), CheckFa
 ///
 /// As `variable_of`, `Protocol` for targets that are not of the parts, and `ListTarget` for two that are not apart.
 pub fn stored(
-    alloc: Global,
-    scope: Scope<'_, '_>,
-    line: u32,
+    context: Context<'_, '_>,
     parts: &[PartType],
     targets: &[TargetTree],
 ) -> Result<Items<Target>, CheckFault>
-    ensures { Gives terms.targets_of result (meant.stored (names_in scope.entry) line parts.now (map lines.target_of targets.now)) }
+    ensures { Gives terms.targets_of result (meant.stored (names_in context.entry.scope) context.entry.line parts.now (map lines.target_of targets.now)) }
 {
-    let made = match each_stored(alloc, scope, line, parts, targets) {
+    let made = match each_stored(context, parts, targets) {
         Ok(made) => made,
         Err(e) => return Err(e),
     };
-    match apart(alloc, line, made.as_slice()) {
+    match apart(context.alloc, context.line, made.as_slice()) {
         Ok(()) => Ok(made),
         Err(e) => Err(e),
     }
@@ -193,19 +187,17 @@ pub fn stored(
 ///
 /// As `stored`.
 pub fn stored_list(
-    alloc: Global,
-    scope: Scope<'_, '_>,
-    line: u32,
+    context: Context<'_, '_>,
     parts: &[PartType],
     targets: &OneOrMore<TargetTree>,
 ) -> Result<Items<Target>, CheckFault>
-    ensures { Gives terms.targets_of result (meant.stored (names_in scope.entry) line parts.now (lines.target_of targets.now.first ∷ map lines.target_of targets.now.others.items)) }
+    ensures { Gives terms.targets_of result (meant.stored (names_in context.entry.scope) context.entry.line parts.now (lines.target_of targets.now.first ∷ map lines.target_of targets.now.others.items)) }
 {
-    let made = match list_stored(alloc, scope, line, parts, targets) {
+    let made = match list_stored(context, parts, targets) {
         Ok(made) => made,
         Err(e) => return Err(e),
     };
-    match apart(alloc, line, made.as_slice()) {
+    match apart(context.alloc, context.line, made.as_slice()) {
         Ok(()) => Ok(made),
         Err(e) => Err(e),
     }
@@ -214,20 +206,18 @@ pub fn stored_list(
 /// As many targets as parts, where there is one at least.
 #[tactic(auto, unfolding(occ_check_typing::specs::Zipped::zipped))]
 fn list_stored(
-    alloc: Global,
-    scope: Scope<'_, '_>,
-    line: u32,
+    context: Context<'_, '_>,
     parts: &[PartType],
     targets: &OneOrMore<TargetTree>,
 ) -> Result<Items<Target>, CheckFault>
-    ensures { Gives terms.targets_of result (zipped (stored_one (names_in scope.entry) line) parts.now (lines.target_of targets.now.first ∷ map lines.target_of targets.now.others.items)) }
+    ensures { Gives terms.targets_of result (zipped (stored_one (names_in context.entry.scope) context.entry.line) parts.now (lines.target_of targets.now.first ∷ map lines.target_of targets.now.others.items)) }
 {
     match parts.split_first() {
-        None => Err(CheckFault::Protocol { line }),
+        None => Err(CheckFault::Protocol { line: context.line }),
         Some((part, parts)) => {
-            let mut all = Items::new(alloc);
-            all.push(one_stored(alloc, scope, line, part, &targets.first)?)?;
-            all.append(each_stored(alloc, scope, line, parts, &targets.others)?)?;
+            let mut all = Items::new(context.alloc);
+            all.push(one_stored(context, part, &targets.first)?)?;
+            all.append(each_stored(context, parts, &targets.others)?)?;
             Ok(all)
         }
     }

@@ -4,6 +4,7 @@
 #![tactic(auto)]
 
 pub mod constant;
+pub mod context;
 pub mod copying;
 pub mod fault;
 pub mod known;

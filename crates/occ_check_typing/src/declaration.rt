@@ -16,6 +16,7 @@ use crate::expression::typed;
 use crate::types::{carried_by, open_sizes_of, protocol_of, sizes_of};
 use indexmap::IndexSet;
 use occ_check_names::constant::constant_of;
+use occ_check_names::context::Context;
 use occ_check_names::fault::{CheckFault, twice};
 use occ_check_names::known::{Access, Carried, Known, Row};
 use occ_check_names::measuring::count_declaration;
@@ -178,27 +179,25 @@ pub fn once(alloc: Global, line: u32, names: &[Items<u8>]) -> Result<(), CheckFa
 /// nodes, and `Memory`.
 pub fn names_declared(
     numbers: &mut Numbers,
-    alloc: Global,
-    scope: Scope<'_, '_>,
-    line: u32,
+    context: Context<'_, '_>,
     depth: u32,
     sizes: &[Expr],
     sort: &Sort,
     names: &OneOrMore<Vec<u8>>,
 ) -> Result<Opened, CheckFault>
-    ensures { Opens result numbers.new (meant.names_declared (names_in scope.entry) line depth (trees.expressions (map trees.expression_of sizes.now)) (lines.sort_of sort.now) (names.now.first.items ∷ map (λ v. v.items) names.now.others.items) (numbers_of numbers.old)) }
+    ensures { Opens result numbers.new (meant.names_declared (names_in context.entry.scope) context.entry.line depth (trees.expressions (map trees.expression_of sizes.now)) (lines.sort_of sort.now) (names.now.first.items ∷ map (λ v. v.items) names.now.others.items) (numbers_of numbers.old)) }
 {
     match sort {
         Sort::Data(primitive) => {
             let primitive = primitive_of(*primitive);
-            let sizes = sizes_of(alloc, scope, line, sizes)?;
-            let sizes = Sizes::new(alloc, sizes.as_slice())?;
-            let names = names_of(alloc, names)?;
-            once(alloc, line, names.as_slice())?;
+            let sizes = sizes_of(context, sizes)?;
+            let sizes = Sizes::new(context.alloc, sizes.as_slice())?;
+            let names = names_of(context.alloc, names)?;
+            once(context.alloc, context.line, names.as_slice())?;
             variables_declared(
                 numbers,
-                alloc,
-                line,
+                context.alloc,
+                context.line,
                 depth,
                 primitive,
                 &sizes,
@@ -206,13 +205,13 @@ pub fn names_declared(
             )
         }
         Sort::Channel(carried) => {
-            let sizes = sizes_of(alloc, scope, line, sizes)?;
-            let sizes = Sizes::new(alloc, sizes.as_slice())?;
-            let carried = Held::new(carried_by(alloc, scope, line, carried)?);
-            let names = names_of(alloc, names)?;
-            once(alloc, line, names.as_slice())?;
+            let sizes = sizes_of(context, sizes)?;
+            let sizes = Sizes::new(context.alloc, sizes.as_slice())?;
+            let carried = Held::new(carried_by(context, carried)?);
+            let names = names_of(context.alloc, names)?;
+            once(context.alloc, context.line, names.as_slice())?;
             let carried = &carried.value;
-            channels_declared(numbers, alloc, carried, &sizes, names.as_slice())
+            channels_declared(numbers, context.alloc, carried, &sizes, names.as_slice())
         }
     }
 }
@@ -375,51 +374,45 @@ fn local_of(
 /// As `typed` and `open_sizes_of`, `WrongType` where the value has not the type that is given, and as `name_value`.
 pub fn value_declared(
     numbers: &mut Numbers,
-    alloc: Global,
-    scope: Scope<'_, '_>,
-    line: u32,
+    context: Context<'_, '_>,
     depth: u32,
     value_type: &Option<ValueType>,
     name: &[u8],
     e: &Expr,
 ) -> Result<Opened, CheckFault>
-    ensures { Opens result numbers.new (meant.value_declared (names_in scope.entry) line depth (option_map lines.value_type_of value_type.now) name.now (trees.expression_of e.now) (numbers_of numbers.old)) }
+    ensures { Opens result numbers.new (meant.value_declared (names_in context.entry.scope) context.entry.line depth (option_map lines.value_type_of value_type.now) name.now (trees.expression_of e.now) (numbers_of numbers.old)) }
 {
-    let value = typed(alloc, scope, line, e)?;
-    let value = of_value_type(alloc, scope, line, value_type, value)?;
-    name_value(numbers, alloc, line, depth, name, value)
+    let value = typed(context, e)?;
+    let value = of_value_type(context, value_type, value)?;
+    name_value(numbers, context.alloc, context.line, depth, name, value)
 }
 
 fn of_value_type(
-    alloc: Global,
-    scope: Scope<'_, '_>,
-    line: u32,
+    context: Context<'_, '_>,
     value_type: &Option<ValueType>,
     value: Typed,
 ) -> Result<Typed, CheckFault>
-    ensures { Gives typed_of result (meant.of_value_type (names_in scope.entry) line (option_map lines.value_type_of value_type.now) (typed_of value)) }
+    ensures { Gives typed_of result (meant.of_value_type (names_in context.entry.scope) context.entry.line (option_map lines.value_type_of value_type.now) (typed_of value)) }
 {
     match value_type {
         None => Ok(value),
-        Some(wanted) => of_given_type(alloc, scope, line, wanted, value),
+        Some(wanted) => of_given_type(context, wanted, value),
     }
 }
 
 fn of_given_type(
-    alloc: Global,
-    scope: Scope<'_, '_>,
-    line: u32,
+    context: Context<'_, '_>,
     wanted: &ValueType,
     value: Typed,
 ) -> Result<Typed, CheckFault>
-    ensures { Gives typed_of result (meant.of_value_type (names_in scope.entry) line (Some (lines.value_type_of wanted.now)) (typed_of value)) }
+    ensures { Gives typed_of result (meant.of_value_type (names_in context.entry.scope) context.entry.line (Some (lines.value_type_of wanted.now)) (typed_of value)) }
 {
     let value = Held::new(value);
-    let sizes = open_sizes_of(alloc, scope, line, &wanted.sizes)?;
+    let sizes = open_sizes_of(context, &wanted.sizes)?;
     if has_type(sizes.as_slice(), primitive_of(wanted.of), &value.value) {
         Ok(value.into_inner())
     } else {
-        Err(CheckFault::WrongType { line })
+        Err(CheckFault::WrongType { line: context.line })
     }
 }
 

@@ -13,6 +13,7 @@ ghost use Rattle.occ_check_names.specs.View.{Gives, known_of, names_in, typed_of
 pub use crate::reading::under;
 use crate::reading::{read, size_of_known};
 use occ_check_names::constant::constant_of;
+use occ_check_names::context::Context;
 use occ_check_names::fault::{CheckFault, unknown};
 use occ_check_names::known::Known;
 use occ_check_names::literal::{constant_typed, string_size, typed_literal};
@@ -35,31 +36,37 @@ use std::alloc::{AllocError, Global};
 /// `Unknown`, `WrongKind`, `WrongType` and `Subscript` refuse it, `Memory` tells of a refused growth.
 #[cycle(typing)]
 #[tactic(auto, unfolding(occ_check_meaning::specs::Expressions::typed))]
-pub fn typed(alloc: Global, scope: Scope<'_, '_>, line: u32, e: &Expr) -> Result<Typed, CheckFault>
-    ensures { Gives typed_of result (meant.typed (names_in scope.entry) line (trees.expression_of e.now)) }
+pub fn typed(context: Context<'_, '_>, e: &Expr) -> Result<Typed, CheckFault>
+    ensures { Gives typed_of result (meant.typed (names_in context.entry.scope) context.entry.line (trees.expression_of e.now)) }
 {
     match e {
-        Expr::Operand(a) => typed_operand(alloc, scope, line, a),
+        Expr::Operand(a) => typed_operand(context, a),
         Expr::Two(a, spelling, b) => {
-            let x = as_single(line, typed_operand(alloc, scope, line, a)?)?;
+            let x = as_single(context.line, typed_operand(context, a)?)?;
             let x = Held::new(x);
-            let y = as_single(line, typed_operand(alloc, scope, line, b)?)?;
-            two_typed(alloc, line, operator_of(*spelling), x.into_inner(), y)
+            let y = as_single(context.line, typed_operand(context, b)?)?;
+            two_typed(
+                context.alloc,
+                context.line,
+                operator_of(*spelling),
+                x.into_inner(),
+                y,
+            )
         }
-        Expr::One(sign, a) => typed_one(alloc, scope, line, *sign, a),
+        Expr::One(sign, a) => typed_one(context, *sign, a),
         Expr::Convert(to, a) => {
-            let x = as_single(line, typed_operand(alloc, scope, line, a)?)?;
-            let e = converted(alloc, line, primitive_of(*to), x)?;
+            let x = as_single(context.line, typed_operand(context, a)?)?;
+            let e = converted(context.alloc, context.line, primitive_of(*to), x)?;
             Ok(e)
         }
         Expr::MostPos => Ok(Typed::Single(Primitive::Int, TermExpr::Constant(2_147_483_647))),
         Expr::MostNeg => Ok(Typed::Single(Primitive::Int, TermExpr::Constant(-2_147_483_648))),
         Expr::Chain(logic, a, b, others) => {
-            let x = typed_truth(alloc, scope, line, a)?;
+            let x = typed_truth(context, a)?;
             let x = Held::new(x);
-            let y = typed_truth(alloc, scope, line, b)?;
-            let left = logic_of(alloc, *logic, x.into_inner(), y)?;
-            match typed_chain(alloc, scope, line, *logic, others, left) {
+            let y = typed_truth(context, b)?;
+            let left = logic_of(context.alloc, *logic, x.into_inner(), y)?;
+            match typed_chain(context, *logic, others, left) {
                 Ok(e) => Ok(Typed::Single(Primitive::Bool, e)),
                 Err(e) => Err(e),
             }
@@ -70,35 +77,29 @@ pub fn typed(alloc: Global, scope: Scope<'_, '_>, line: u32, e: &Expr) -> Result
 /// An operator and its operand.
 #[cycle(typing)]
 #[tactic(auto, unfolding(occ_check_meaning::specs::Expressions::typed))]
-fn typed_one(
-    alloc: Global,
-    scope: Scope<'_, '_>,
-    line: u32,
-    sign: Sign,
-    a: &Operand,
-) -> Result<Typed, CheckFault>
-    ensures { Gives typed_of result (meant.typed (names_in scope.entry) line (trees.one sign (trees.operand_of a.now))) }
+fn typed_one(context: Context<'_, '_>, sign: Sign, a: &Operand) -> Result<Typed, CheckFault>
+    ensures { Gives typed_of result (meant.typed (names_in context.entry.scope) context.entry.line (trees.one sign (trees.operand_of a.now))) }
 {
     match sign {
         Sign::Minus => {
-            let x = as_single(line, typed_operand(alloc, scope, line, a)?)?;
-            one_typed(alloc, line, Monadic::Negate, x)
+            let x = as_single(context.line, typed_operand(context, a)?)?;
+            one_typed(context.alloc, context.line, Monadic::Negate, x)
         }
         Sign::Tilde => {
-            let x = as_single(line, typed_operand(alloc, scope, line, a)?)?;
-            one_typed(alloc, line, Monadic::BitNot, x)
+            let x = as_single(context.line, typed_operand(context, a)?)?;
+            one_typed(context.alloc, context.line, Monadic::BitNot, x)
         }
         Sign::BitNot => {
-            let x = as_single(line, typed_operand(alloc, scope, line, a)?)?;
-            one_typed(alloc, line, Monadic::BitNot, x)
+            let x = as_single(context.line, typed_operand(context, a)?)?;
+            one_typed(context.alloc, context.line, Monadic::BitNot, x)
         }
         Sign::Not => {
-            let x = as_single(line, typed_operand(alloc, scope, line, a)?)?;
-            one_typed(alloc, line, Monadic::Not, x)
+            let x = as_single(context.line, typed_operand(context, a)?)?;
+            one_typed(context.alloc, context.line, Monadic::Not, x)
         }
         Sign::Size => {
-            let size = size_of_operand(alloc, scope, line, a)?;
-            size_typed(line, size)
+            let size = size_of_operand(context, a)?;
+            size_typed(context.line, size)
         }
     }
 }
@@ -106,15 +107,10 @@ fn typed_one(
 /// An operand of type BOOL.
 #[cycle(typing)]
 #[tactic(auto, unfolding(occ_check_meaning::specs::Expressions::typed))]
-fn typed_truth(
-    alloc: Global,
-    scope: Scope<'_, '_>,
-    line: u32,
-    a: &Operand,
-) -> Result<TermExpr, CheckFault>
-    ensures { Gives expression_of result (meant.typed_as (names_in scope.entry) line Boolean (trees.alone (trees.operand_of a.now))) }
+fn typed_truth(context: Context<'_, '_>, a: &Operand) -> Result<TermExpr, CheckFault>
+    ensures { Gives expression_of result (meant.typed_as (names_in context.entry.scope) context.entry.line Boolean (trees.alone (trees.operand_of a.now))) }
 {
-    of_type(line, Primitive::Bool, typed_operand(alloc, scope, line, a)?)
+    of_type(context.line, Primitive::Bool, typed_operand(context, a)?)
 }
 
 /// Further operands of a chain, which groups to the left.
@@ -124,18 +120,16 @@ fn typed_truth(
 /// The first fault of an operand, and `Memory`.
 #[cycle(typing)]
 fn typed_chain(
-    alloc: Global,
-    scope: Scope<'_, '_>,
-    line: u32,
+    context: Context<'_, '_>,
     logic: Logic,
     operands: &[Operand],
     first: TermExpr,
 ) -> Result<TermExpr, CheckFault>
-    ensures { Gives expression_of result (meant.typed_chain (names_in scope.entry) line logic (expression_of first) (trees.operands (map trees.operand_of operands.now))) }
+    ensures { Gives expression_of result (meant.typed_chain (names_in context.entry.scope) context.entry.line logic (expression_of first) (trees.operands (map trees.operand_of operands.now))) }
 {
     let mut left = first;
     for operand in operands {
-        left = match chained(alloc, scope, line, logic, operand, left) {
+        left = match chained(context, logic, operand, left) {
             Ok(e) => e,
             Err(e) => return Err(e),
         };
@@ -147,42 +141,38 @@ fn typed_chain(
 #[cycle(typing)]
 #[tactic(auto, unfolding(occ_check_meaning::specs::Expressions::typed, occ_check_meaning::specs::Expressions::typed_chain))]
 fn chained(
-    alloc: Global,
-    scope: Scope<'_, '_>,
-    line: u32,
+    context: Context<'_, '_>,
     logic: Logic,
     operand: &Operand,
     left: TermExpr,
 ) -> Result<TermExpr, CheckFault>
-    ensures { Gives expression_of result (meant.typed_chain (names_in scope.entry) line logic (expression_of left) (trees.operands (trees.operand_of operand.now ∷ []))) }
+    ensures { Gives expression_of result (meant.typed_chain (names_in context.entry.scope) context.entry.line logic (expression_of left) (trees.operands (trees.operand_of operand.now ∷ []))) }
 {
     let left = Held::new(left);
-    let right = typed_truth(alloc, scope, line, operand)?;
-    let e = logic_of(alloc, logic, left.into_inner(), right)?;
+    let right = typed_truth(context, operand)?;
+    let e = logic_of(context.alloc, logic, left.into_inner(), right)?;
     Ok(e)
 }
 
 /// What an operand unfolds to.
 #[cycle(typing)]
 #[tactic(auto, unfolding(occ_check_meaning::specs::Expressions::typed_operand))]
-fn typed_operand(
-    alloc: Global,
-    scope: Scope<'_, '_>,
-    line: u32,
-    a: &Operand,
-) -> Result<Typed, CheckFault>
-    ensures { Gives typed_of result (meant.typed_operand (names_in scope.entry) line (trees.operand_of a.now)) }
+fn typed_operand(context: Context<'_, '_>, a: &Operand) -> Result<Typed, CheckFault>
+    ensures { Gives typed_of result (meant.typed_operand (names_in context.entry.scope) context.entry.line (trees.operand_of a.now)) }
 {
     match a {
-        Operand::Variable(name, subscripts) => {
-            typed_variable(alloc, scope, line, name, subscripts)
-        }
-        Operand::Literal(literal, primitive) => typed_literal(alloc, line, literal, *primitive),
+        Operand::Variable(name, subscripts) => { typed_variable(context, name, subscripts) }
+        Operand::Literal(literal, primitive) => typed_literal(
+            context.alloc,
+            context.line,
+            literal,
+            *primitive,
+        ),
         Operand::Truth(truth) => Ok(Typed::Single(
             Primitive::Bool,
             TermExpr::Constant(i64::from(*truth)),
         )),
-        Operand::Parens(e) => typed(alloc, scope, line, e),
+        Operand::Parens(e) => typed(context, e),
     }
 }
 
@@ -190,17 +180,15 @@ fn typed_operand(
 #[cycle(typing)]
 #[tactic(auto, unfolding(occ_check_meaning::specs::Expressions::typed_operand))]
 fn typed_variable(
-    alloc: Global,
-    scope: Scope<'_, '_>,
-    line: u32,
+    context: Context<'_, '_>,
     name: &[u8],
     subscripts: &[Expr],
 ) -> Result<Typed, CheckFault>
-    ensures { Gives typed_of result (meant.typed_operand (names_in scope.entry) line (trees.variable name.now (trees.expressions (map trees.expression_of subscripts.now)))) }
+    ensures { Gives typed_of result (meant.typed_operand (names_in context.entry.scope) context.entry.line (trees.variable name.now (trees.expressions (map trees.expression_of subscripts.now)))) }
 {
-    let known = known_name(alloc, scope, line, name)?;
-    let subscripts = typed_subscripts(alloc, scope, line, subscripts)?;
-    read(alloc, line, known, subscripts)
+    let known = known_name(context, name)?;
+    let subscripts = typed_subscripts(context, subscripts)?;
+    read(context.alloc, context.line, known, subscripts)
 }
 
 /// What subscripts unfold to, in order.
@@ -210,16 +198,14 @@ fn typed_variable(
 /// As `typed_as` of an INT.
 #[cycle(typing)]
 pub fn typed_subscripts(
-    alloc: Global,
-    scope: Scope<'_, '_>,
-    line: u32,
+    context: Context<'_, '_>,
     es: &[Expr],
 ) -> Result<Listed<TermExpr>, CheckFault>
-    ensures { Gives (λ es. subscripts (map expression_of es)) result (meant.typed_subscripts (names_in scope.entry) line (trees.expressions (map trees.expression_of es.now))) }
+    ensures { Gives (λ es. subscripts (map expression_of es)) result (meant.typed_subscripts (names_in context.entry.scope) context.entry.line (trees.expressions (map trees.expression_of es.now))) }
 {
-    let mut made = Listed::new(alloc);
+    let mut made = Listed::new(context.alloc);
     for e in es {
-        let subscript = match typed_as(alloc, scope, line, Primitive::Int, e) {
+        let subscript = match typed_as(context, Primitive::Int, e) {
             Ok(subscript) => subscript,
             Err(e) => return Err(e),
         };
@@ -231,22 +217,15 @@ pub fn typed_subscripts(
 /// The SIZE of an operand. It reads nothing, but the subscripts under it are checked.
 #[cycle(typing)]
 #[tactic(auto, unfolding(occ_check_meaning::specs::Expressions::size_of_operand))]
-fn size_of_operand(
-    alloc: Global,
-    scope: Scope<'_, '_>,
-    line: u32,
-    a: &Operand,
-) -> Result<u64, CheckFault>
-    ensures { Gives (λ n. n) result (meant.size_of_operand (names_in scope.entry) line (trees.operand_of a.now)) }
+fn size_of_operand(context: Context<'_, '_>, a: &Operand) -> Result<u64, CheckFault>
+    ensures { Gives (λ n. n) result (meant.size_of_operand (names_in context.entry.scope) context.entry.line (trees.operand_of a.now)) }
 {
     match a {
-        Operand::Variable(name, subscripts) => {
-            size_of_variable(alloc, scope, line, name, subscripts)
-        }
-        Operand::Literal(literal, None) => size_of_literal(line, literal),
-        Operand::Literal(_, Some(_)) => Err(CheckFault::WrongType { line }),
-        Operand::Truth(_) => Err(CheckFault::WrongType { line }),
-        Operand::Parens(e) => size_of_expression(alloc, scope, line, e),
+        Operand::Variable(name, subscripts) => { size_of_variable(context, name, subscripts) }
+        Operand::Literal(literal, None) => size_of_literal(context.line, literal),
+        Operand::Literal(_, Some(_)) => Err(CheckFault::WrongType { line: context.line }),
+        Operand::Truth(_) => Err(CheckFault::WrongType { line: context.line }),
+        Operand::Parens(e) => size_of_expression(context, e),
     }
 }
 
@@ -254,38 +233,31 @@ fn size_of_operand(
 #[cycle(typing)]
 #[tactic(auto, unfolding(occ_check_meaning::specs::Expressions::size_of_operand))]
 fn size_of_variable(
-    alloc: Global,
-    scope: Scope<'_, '_>,
-    line: u32,
+    context: Context<'_, '_>,
     name: &[u8],
     subscripts: &[Expr],
 ) -> Result<u64, CheckFault>
-    ensures { Gives (λ n. n) result (meant.size_of_operand (names_in scope.entry) line (trees.variable name.now (trees.expressions (map trees.expression_of subscripts.now)))) }
+    ensures { Gives (λ n. n) result (meant.size_of_operand (names_in context.entry.scope) context.entry.line (trees.variable name.now (trees.expressions (map trees.expression_of subscripts.now)))) }
 {
-    let known = known_name(alloc, scope, line, name)?;
-    let subscripts = typed_subscripts(alloc, scope, line, subscripts)?;
-    size_of_known(line, known, subscripts.as_slice())
+    let known = known_name(context, name)?;
+    let subscripts = typed_subscripts(context, subscripts)?;
+    size_of_known(context.line, known, subscripts.as_slice())
 }
 
 /// The SIZE of an array in parentheses.
 #[cycle(typing)]
 #[tactic(auto, unfolding(occ_check_meaning::specs::Expressions::size_of_expression))]
-fn size_of_expression(
-    alloc: Global,
-    scope: Scope<'_, '_>,
-    line: u32,
-    e: &Expr,
-) -> Result<u64, CheckFault>
-    ensures { Gives (λ n. n) result (meant.size_of_expression (names_in scope.entry) line (trees.expression_of e.now)) }
+fn size_of_expression(context: Context<'_, '_>, e: &Expr) -> Result<u64, CheckFault>
+    ensures { Gives (λ n. n) result (meant.size_of_expression (names_in context.entry.scope) context.entry.line (trees.expression_of e.now)) }
 {
     match e {
-        Expr::Operand(a) => size_of_operand(alloc, scope, line, a),
-        Expr::Two(_, _, _) => Err(CheckFault::WrongType { line }),
-        Expr::One(_, _) => Err(CheckFault::WrongType { line }),
-        Expr::Convert(_, _) => Err(CheckFault::WrongType { line }),
-        Expr::MostPos => Err(CheckFault::WrongType { line }),
-        Expr::MostNeg => Err(CheckFault::WrongType { line }),
-        Expr::Chain(_, _, _, _) => Err(CheckFault::WrongType { line }),
+        Expr::Operand(a) => size_of_operand(context, a),
+        Expr::Two(_, _, _) => Err(CheckFault::WrongType { line: context.line }),
+        Expr::One(_, _) => Err(CheckFault::WrongType { line: context.line }),
+        Expr::Convert(_, _) => Err(CheckFault::WrongType { line: context.line }),
+        Expr::MostPos => Err(CheckFault::WrongType { line: context.line }),
+        Expr::MostNeg => Err(CheckFault::WrongType { line: context.line }),
+        Expr::Chain(_, _, _, _) => Err(CheckFault::WrongType { line: context.line }),
     }
 }
 
@@ -296,15 +268,13 @@ fn size_of_expression(
 /// As `typed`, and `WrongType` for another type or an array.
 #[cycle(typing)]
 pub fn typed_as(
-    alloc: Global,
-    scope: Scope<'_, '_>,
-    line: u32,
+    context: Context<'_, '_>,
     primitive: Primitive,
     e: &Expr,
 ) -> Result<TermExpr, CheckFault>
-    ensures { Gives expression_of result (meant.typed_as (names_in scope.entry) line primitive (trees.expression_of e.now)) }
+    ensures { Gives expression_of result (meant.typed_as (names_in context.entry.scope) context.entry.line primitive (trees.expression_of e.now)) }
 {
-    of_type(line, primitive, typed(alloc, scope, line, e)?)
+    of_type(context.line, primitive, typed(context, e)?)
 }
 
 /// The value of a constant of this type.
@@ -313,19 +283,17 @@ pub fn typed_as(
 ///
 /// As `typed_as`, `NotConstant`, and `WrongType` for a value outside the type.
 pub fn constant_as(
-    alloc: Global,
-    scope: Scope<'_, '_>,
-    line: u32,
+    context: Context<'_, '_>,
     primitive: Primitive,
     e: &Expr,
 ) -> Result<i64, CheckFault>
-    ensures value { Gives (λ v. v) result (meant.constant_as (names_in scope.entry) line primitive (trees.expression_of e.now)) }
+    ensures value { Gives (λ v. v) result (meant.constant_as (names_in context.entry.scope) context.entry.line primitive (trees.expression_of e.now)) }
     ensures range { IfOk result (λ v. IsTrue (is_of primitive v)) }
 {
-    let e = Held::new(typed_as(alloc, scope, line, primitive, e)?);
+    let e = Held::new(typed_as(context, primitive, e)?);
     match constant_of(&e.value) {
-        Some(value) => within_type(line, primitive, value),
-        None => Err(CheckFault::NotConstant { line }),
+        Some(value) => within_type(context.line, primitive, value),
+        None => Err(CheckFault::NotConstant { line: context.line }),
     }
 }
 
@@ -351,25 +319,20 @@ fn within_type(line: u32, primitive: Primitive, value: i64) -> Result<i64, Check
 ///
 /// `Unknown` where it stands for nothing, `WrongKind` where it is a procedure's, and `Memory`.
 #[tactic(auto, using(crate::proofs::Refusals::refused))]
-pub fn known_name<'a>(
-    alloc: Global,
-    scope: Scope<'a, '_>,
-    line: u32,
-    name: &[u8],
-) -> Result<&'a Known, CheckFault>
-    ensures { Gives (λ k. known_of k.now) result (names_in scope.entry name.now) }
+pub fn known_name<'a>(context: Context<'a, '_>, name: &[u8]) -> Result<&'a Known, CheckFault>
+    ensures { Gives (λ k. known_of k.now) result (names_in context.entry.scope name.now) }
 {
-    match scope.known(name) {
+    match context.scope.known(name) {
         Some(known) => Ok(known),
-        None => Err(no_value(alloc, scope, line, name)),
+        None => Err(no_value(context, name)),
     }
 }
 
 /// The fault of a name that stands for no value.
-fn no_value(alloc: Global, scope: Scope<'_, '_>, line: u32, name: &[u8]) -> CheckFault {
-    match scope.find(name) {
-        Some(Found::Procedure(_, _)) => CheckFault::WrongKind { line },
-        _ => unknown(alloc, line, name),
+fn no_value(context: Context<'_, '_>, name: &[u8]) -> CheckFault {
+    match context.scope.find(name) {
+        Some(Found::Procedure(_, _)) => CheckFault::WrongKind { line: context.line },
+        _ => unknown(context.alloc, context.line, name),
     }
 }
 

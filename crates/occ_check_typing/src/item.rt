@@ -16,6 +16,7 @@ ghost use Rattle.occ_check_names.specs.View.{Gives, carried_of, known_of, names_
 use crate::expression::{known_name, typed, typed_subscripts};
 use crate::reading::under;
 use crate::types::{are_same_sizes, simple_part};
+use occ_check_names::context::Context;
 use occ_check_names::fault::CheckFault;
 use occ_check_names::known::{Access, Carried, Known, Row};
 use occ_check_names::operators::is_same_type;
@@ -71,18 +72,16 @@ pub fn as_channels(line: u32, known: &Known) -> Result<(&Carried, &Row), CheckFa
 ///
 /// As `typed_subscripts` and `under`, and `Unknown` and `WrongKind` for a name that is no variable's.
 pub fn variable_of(
-    alloc: Global,
-    scope: Scope<'_, '_>,
-    line: u32,
+    context: Context<'_, '_>,
     variable: &Var,
 ) -> Result<(Primitive, Part), CheckFault>
-    ensures variable { Gives (λ x. (x.0, part_of x.1)) result (meant.variable_of (names_in scope.entry) line (lines.var_of variable.now)) }
-    ensures line { IfOk result (λ x. x.1.place.line ≡ line) }
+    ensures variable { Gives (λ x. (x.0, part_of x.1)) result (meant.variable_of (names_in context.entry.scope) context.entry.line (lines.var_of variable.now)) }
+    ensures line { IfOk result (λ x. x.1.place.line ≡ context.entry.line) }
 {
-    let known = known_name(alloc, scope, line, &variable.name)?;
-    let (primitive, row) = as_variable(line, known)?;
-    let subscripts = typed_subscripts(alloc, scope, line, &variable.subscripts)?;
-    let part = under(alloc, line, row, subscripts)?;
+    let known = known_name(context, &variable.name)?;
+    let (primitive, row) = as_variable(context.line, known)?;
+    let subscripts = typed_subscripts(context, &variable.subscripts)?;
+    let part = under(context.alloc, context.line, row, subscripts)?;
     Ok((primitive, part))
 }
 
@@ -92,20 +91,18 @@ pub fn variable_of(
 ///
 /// As `variable_of`, and `WrongType` for an array of channels.
 pub fn channel_of<'a>(
-    alloc: Global,
-    scope: Scope<'a, '_>,
-    line: u32,
+    context: Context<'a, '_>,
     channel: &Var,
 ) -> Result<(&'a Protocol, Place), CheckFault>
-    ensures { Gives (λ x. (x.0.now, terms.place_of x.1)) result (meant.channel_of (names_in scope.entry) line (lines.var_of channel.now)) }
+    ensures { Gives (λ x. (x.0.now, terms.place_of x.1)) result (meant.channel_of (names_in context.entry.scope) context.entry.line (lines.var_of channel.now)) }
 {
-    let known = known_name(alloc, scope, line, &channel.name)?;
-    let (carried, row) = as_channels(line, known)?;
-    let subscripts = typed_subscripts(alloc, scope, line, &channel.subscripts)?;
-    let part = under(alloc, line, row, subscripts)?;
+    let known = known_name(context, &channel.name)?;
+    let (carried, row) = as_channels(context.line, known)?;
+    let subscripts = typed_subscripts(context, &channel.subscripts)?;
+    let part = under(context.alloc, context.line, row, subscripts)?;
     match part.left.as_slice().split_first() {
         None => Ok((&carried.protocol, part.place)),
-        Some(_) => Err(CheckFault::WrongType { line }),
+        Some(_) => Err(CheckFault::WrongType { line: context.line }),
     }
 }
 
@@ -210,42 +207,34 @@ fn counted_array(
 }
 
 /// An item of the part's type.
-fn sent_item(
-    alloc: Global,
-    scope: Scope<'_, '_>,
-    line: u32,
-    part: &PartType,
-    out: &Out,
-) -> Result<Item, CheckFault>
-    ensures { Gives terms.item_of result (meant.sent_item (names_in scope.entry) line part.now (lines.out_of out.now)) }
+fn sent_item(context: Context<'_, '_>, part: &PartType, out: &Out) -> Result<Item, CheckFault>
+    ensures { Gives terms.item_of result (meant.sent_item (names_in context.entry.scope) context.entry.line part.now (lines.out_of out.now)) }
 {
     match out {
-        Out::Whole(e) => item_of(line, part, typed(alloc, scope, line, e)?),
+        Out::Whole(e) => item_of(context.line, part, typed(context, e)?),
         Out::Counted(number, e) => {
-            let number = Held::new(typed(alloc, scope, line, number)?);
-            let value = typed(alloc, scope, line, e)?;
-            counted_item(line, part, number.into_inner(), value)
+            let number = Held::new(typed(context, number)?);
+            let value = typed(context, e)?;
+            counted_item(context.line, part, number.into_inner(), value)
         }
     }
 }
 
 /// As many items as parts.
 fn sent_items(
-    alloc: Global,
-    scope: Scope<'_, '_>,
-    line: u32,
+    context: Context<'_, '_>,
     parts: &[PartType],
     outs: &[Out],
 ) -> Result<Items<Item>, CheckFault>
-    ensures { Gives terms.items_of result (meant.sent_items (names_in scope.entry) line parts.now (map lines.out_of outs.now)) }
+    ensures { Gives terms.items_of result (meant.sent_items (names_in context.entry.scope) context.entry.line parts.now (map lines.out_of outs.now)) }
 {
-    let mut made = Items::new(alloc);
+    let mut made = Items::new(context.alloc);
     let mut left = outs;
     for part in parts {
         let Some((out, others)) = left.split_first() else {
-            return Err(CheckFault::Protocol { line });
+            return Err(CheckFault::Protocol { line: context.line });
         };
-        let item = match sent_item(alloc, scope, line, part, out) {
+        let item = match sent_item(context, part, out) {
             Ok(item) => item,
             Err(e) => return Err(e),
         };
@@ -254,27 +243,25 @@ fn sent_items(
     }
     match left.split_first() {
         None => Ok(made),
-        Some(_) => Err(CheckFault::Protocol { line }),
+        Some(_) => Err(CheckFault::Protocol { line: context.line }),
     }
 }
 
 /// As many items as parts, where there is one at least.
 #[tactic(auto, unfolding(occ_check_meaning::specs::Items::sent_items))]
 fn sent_list(
-    alloc: Global,
-    scope: Scope<'_, '_>,
-    line: u32,
+    context: Context<'_, '_>,
     parts: &[PartType],
     outs: &OneOrMore<Out>,
 ) -> Result<Items<Item>, CheckFault>
-    ensures { Gives terms.items_of result (meant.sent_items (names_in scope.entry) line parts.now (lines.out_of outs.now.first ∷ map lines.out_of outs.now.others.items)) }
+    ensures { Gives terms.items_of result (meant.sent_items (names_in context.entry.scope) context.entry.line parts.now (lines.out_of outs.now.first ∷ map lines.out_of outs.now.others.items)) }
 {
     match parts.split_first() {
-        None => Err(CheckFault::Protocol { line }),
+        None => Err(CheckFault::Protocol { line: context.line }),
         Some((part, parts)) => {
-            let mut all = Items::new(alloc);
-            all.push(sent_item(alloc, scope, line, part, &outs.first)?)?;
-            all.append(sent_items(alloc, scope, line, parts, &outs.others)?)?;
+            let mut all = Items::new(context.alloc);
+            all.push(sent_item(context, part, &outs.first)?)?;
+            all.append(sent_items(context, parts, &outs.others)?)?;
             Ok(all)
         }
     }
@@ -436,25 +423,23 @@ fn name_without<'a>(line: u32, name: &'a [u8], subscripts: &[Expr]) -> Result<&'
 ///
 /// As `typed`, `Protocol` for items that are not of the protocol, and `Tag` for a tag that it has not.
 pub fn sent(
-    alloc: Global,
-    scope: Scope<'_, '_>,
-    line: u32,
+    context: Context<'_, '_>,
     protocol: &Protocol,
     outs: &OneOrMore<Out>,
 ) -> Result<(Option<u32>, Items<Item>), CheckFault>
-    ensures { Gives (λ x. (x.0, terms.items_of x.1)) result (meant.sent (names_in scope.entry) line protocol.now (lines.out_of outs.now.first) (map lines.out_of outs.now.others.items)) }
+    ensures { Gives (λ x. (x.0, terms.items_of x.1)) result (meant.sent (names_in context.entry.scope) context.entry.line protocol.now (lines.out_of outs.now.first) (map lines.out_of outs.now.others.items)) }
 {
     match protocol {
         Protocol::Variant(_) => {
-            let name = as_name(line, &outs.first)?;
-            let tag = tag_in(line, protocol, name)?;
-            let parts = parts_after(alloc, line, protocol, Some(tag))?;
-            let items = sent_items(alloc, scope, line, parts.as_slice(), &outs.others)?;
+            let name = as_name(context.line, &outs.first)?;
+            let tag = tag_in(context.line, protocol, name)?;
+            let parts = parts_after(context.alloc, context.line, protocol, Some(tag))?;
+            let items = sent_items(context, parts.as_slice(), &outs.others)?;
             Ok((Some(tag), items))
         }
         _ => {
-            let parts = parts_after(alloc, line, protocol, None)?;
-            let items = sent_list(alloc, scope, line, parts.as_slice(), outs)?;
+            let parts = parts_after(context.alloc, context.line, protocol, None)?;
+            let items = sent_list(context, parts.as_slice(), outs)?;
             Ok((None, items))
         }
     }

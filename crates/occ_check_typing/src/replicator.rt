@@ -9,15 +9,14 @@ ghost use Rattle.occ_check_typing.specs.OpenedView.{Indexes};
 
 use crate::declaration::{Named, row_from};
 use crate::expression::{constant_as, typed_as};
+use occ_check_names::context::Context;
 use occ_check_names::fault::CheckFault;
 use occ_check_names::known::{Access, Known};
 use occ_check_names::measuring::count_replicator;
 use occ_check_names::numbers::Numbers;
-use occ_check_names::scope::Scope;
 use occ_held::Held;
 use occ_term::{Primitive, Replicator, Sizes};
 use occ_tree_grammar::tree::line::Replicator as ReplicatorTree;
-use std::alloc::Global;
 
 /// A replicator with its index.
 #[derive(Drop)]
@@ -35,27 +34,25 @@ pub struct Indexed {
 /// As `typed_as` of an INT, `TooLarge` for too many cells or nodes, and `Memory`.
 pub fn index_replicator(
     numbers: &mut Numbers,
-    alloc: Global,
-    scope: Scope<'_, '_>,
-    line: u32,
+    context: Context<'_, '_>,
     depth: u32,
     replicator: &ReplicatorTree,
 ) -> Result<Indexed, CheckFault>
-    ensures { Indexes result numbers.new (meant.indexed (names_in scope.entry) line depth (lines.replicator_of replicator.now) (numbers_of numbers.old)) }
+    ensures { Indexes result numbers.new (meant.indexed (names_in context.entry.scope) context.entry.line depth (lines.replicator_of replicator.now) (numbers_of numbers.old)) }
 {
-    let base = Held::new(typed_as(alloc, scope, line, Primitive::Int, &replicator.base)?);
-    let count = Held::new(typed_as(alloc, scope, line, Primitive::Int, &replicator.count)?);
-    let index = numbers.more_cells(alloc, Primitive::Int, &replicator.name, &[])?;
+    let base = Held::new(typed_as(context, Primitive::Int, &replicator.base)?);
+    let count = Held::new(typed_as(context, Primitive::Int, &replicator.count)?);
+    let index = numbers.more_cells(context.alloc, Primitive::Int, &replicator.name, &[])?;
     let over = Held::new(Replicator {
-        line,
+        line: context.line,
         index,
         base: base.into_inner(),
         count: count.into_inner(),
     });
     count_replicator(numbers, depth, &over.value)?;
-    let row = row_from(alloc, index, &Sizes::none(alloc))?;
+    let row = row_from(context.alloc, index, &Sizes::none(context.alloc))?;
     let known = Known::Cells(Access::Kept, Primitive::Int, row);
-    let name = Named::new(alloc, &replicator.name, known)?;
+    let name = Named::new(context.alloc, &replicator.name, known)?;
     Ok(Indexed {
         replicator: over.into_inner(),
         name,
@@ -68,16 +65,14 @@ pub fn index_replicator(
 ///
 /// As `constant_as` of an INT, and `BadCount` for a negative count or an index that is no INT.
 pub fn copies_of(
-    alloc: Global,
-    scope: Scope<'_, '_>,
-    line: u32,
+    context: Context<'_, '_>,
     replicator: &ReplicatorTree,
 ) -> Result<(i64, u64), CheckFault>
-    ensures { Gives (λ x. x) result (meant.copies_of (names_in scope.entry) line (lines.replicator_of replicator.now)) }
+    ensures { Gives (λ x. x) result (meant.copies_of (names_in context.entry.scope) context.entry.line (lines.replicator_of replicator.now)) }
 {
-    let base = constant_as(alloc, scope, line, Primitive::Int, &replicator.base)?;
-    let count = constant_as(alloc, scope, line, Primitive::Int, &replicator.count)?;
-    let copies = count_of(line, base, count)?;
+    let base = constant_as(context, Primitive::Int, &replicator.base)?;
+    let count = constant_as(context, Primitive::Int, &replicator.count)?;
+    let copies = count_of(context.line, base, count)?;
     Ok((base, copies))
 }
 

@@ -16,6 +16,7 @@ ghost use Rattle.occ_check_typing.specs.Positive.{ArePositive};
 
 use crate::declaration::once as names_once;
 use crate::expression::{constant_as, known_name};
+use occ_check_names::context::Context;
 use occ_check_names::fault::CheckFault;
 use occ_check_names::known::{Carried, Known};
 use occ_check_names::numbers::components;
@@ -38,31 +39,21 @@ const MOST: u32 = 65_536;
 /// # Errors
 ///
 /// As `constant_as` of an INT, `BadCount` for one below 1, and `TooLarge` for more components than a program may have.
-pub fn sizes_of(
-    alloc: Global,
-    scope: Scope<'_, '_>,
-    line: u32,
-    sizes: &[Expr],
-) -> Result<Items<u32>, CheckFault>
-    ensures sizes { Gives (λ sizes. sizes) result (meant.sizes_of (names_in scope.entry) line (trees.expressions (map trees.expression_of sizes.now))) }
+pub fn sizes_of(context: Context<'_, '_>, sizes: &[Expr]) -> Result<Items<u32>, CheckFault>
+    ensures sizes { Gives (λ sizes. sizes) result (meant.sizes_of (names_in context.entry.scope) context.entry.line (trees.expressions (map trees.expression_of sizes.now))) }
     ensures few { IfOk result (λ sizes. AreFew sizes) }
 {
-    let sizes = each_size(alloc, scope, line, sizes)?;
+    let sizes = each_size(context, sizes)?;
     not_too_large(sizes)
 }
 
 /// Sizes, in order.
-fn each_size(
-    alloc: Global,
-    scope: Scope<'_, '_>,
-    line: u32,
-    sizes: &[Expr],
-) -> Result<Items<u32>, CheckFault>
-    ensures { Gives (λ sizes. sizes) result (meant.each_size (names_in scope.entry) line (trees.expressions (map trees.expression_of sizes.now))) }
+fn each_size(context: Context<'_, '_>, sizes: &[Expr]) -> Result<Items<u32>, CheckFault>
+    ensures { Gives (λ sizes. sizes) result (meant.each_size (names_in context.entry.scope) context.entry.line (trees.expressions (map trees.expression_of sizes.now))) }
 {
-    let mut made = Items::new(alloc);
+    let mut made = Items::new(context.alloc);
     for size in sizes {
-        let size = match given_size(alloc, scope, line, size) {
+        let size = match given_size(context, size) {
             Ok(size) => size,
             Err(e) => return Err(e),
         };
@@ -72,16 +63,11 @@ fn each_size(
 }
 
 /// A size that is given.
-fn given_size(
-    alloc: Global,
-    scope: Scope<'_, '_>,
-    line: u32,
-    size: &Expr,
-) -> Result<u32, CheckFault>
-    ensures { Gives (λ n. Some n) result (meant.open_size (names_in scope.entry) line (given (trees.expression_of size.now))) }
+fn given_size(context: Context<'_, '_>, size: &Expr) -> Result<u32, CheckFault>
+    ensures { Gives (λ n. Some n) result (meant.open_size (names_in context.entry.scope) context.entry.line (given (trees.expression_of size.now))) }
 {
-    let value = constant_as(alloc, scope, line, Primitive::Int, size)?;
-    a_size(line, value)
+    let value = constant_as(context, Primitive::Int, size)?;
+    a_size(context.line, value)
 }
 
 /// A size, at least 1.
@@ -128,29 +114,25 @@ fn are_few(sizes: &[u32]) -> bool
 ///
 /// As `sizes_of`.
 pub fn open_sizes_of(
-    alloc: Global,
-    scope: Scope<'_, '_>,
-    line: u32,
+    context: Context<'_, '_>,
     sizes: &[Size],
 ) -> Result<Items<Option<u32>>, CheckFault>
-    ensures { Gives (λ sizes. sizes) result (meant.open_sizes_of (names_in scope.entry) line (map lines.size_of sizes.now)) }
+    ensures { Gives (λ sizes. sizes) result (meant.open_sizes_of (names_in context.entry.scope) context.entry.line (map lines.size_of sizes.now)) }
 {
-    let sizes = each_open_size(alloc, scope, line, sizes)?;
+    let sizes = each_open_size(context, sizes)?;
     few(sizes)
 }
 
 /// Sizes that may be open, in order.
 fn each_open_size(
-    alloc: Global,
-    scope: Scope<'_, '_>,
-    line: u32,
+    context: Context<'_, '_>,
     sizes: &[Size],
 ) -> Result<Items<Option<u32>>, CheckFault>
-    ensures { Gives (λ sizes. sizes) result (each_of (meant.open_size (names_in scope.entry) line) (map lines.size_of sizes.now)) }
+    ensures { Gives (λ sizes. sizes) result (each_of (meant.open_size (names_in context.entry.scope) context.entry.line) (map lines.size_of sizes.now)) }
 {
-    let mut made = Items::new(alloc);
+    let mut made = Items::new(context.alloc);
     for size in sizes {
-        let size = match open_size(alloc, scope, line, size) {
+        let size = match open_size(context, size) {
             Ok(size) => size,
             Err(e) => return Err(e),
         };
@@ -160,17 +142,12 @@ fn each_open_size(
 }
 
 /// A size that may be open.
-fn open_size(
-    alloc: Global,
-    scope: Scope<'_, '_>,
-    line: u32,
-    size: &Size,
-) -> Result<Option<u32>, CheckFault>
-    ensures { Gives (λ size. size) result (meant.open_size (names_in scope.entry) line (lines.size_of size.now)) }
+fn open_size(context: Context<'_, '_>, size: &Size) -> Result<Option<u32>, CheckFault>
+    ensures { Gives (λ size. size) result (meant.open_size (names_in context.entry.scope) context.entry.line (lines.size_of size.now)) }
 {
     match size {
         Size::Open => Ok(None),
-        Size::Given(size) => Ok(Some(given_size(alloc, scope, line, size)?)),
+        Size::Given(size) => Ok(Some(given_size(context, size)?)),
     }
 }
 
@@ -227,21 +204,16 @@ fn count_type(line: u32, primitive: Primitive) -> Result<Primitive, CheckFault>
 }
 
 /// A part of a message.
-fn part_of(
-    alloc: Global,
-    scope: Scope<'_, '_>,
-    line: u32,
-    part: &Part,
-) -> Result<PartType, CheckFault>
-    ensures { Gives (λ t. t) result (meant.part_of (names_in scope.entry) line (lines.part_of part.now)) }
+fn part_of(context: Context<'_, '_>, part: &Part) -> Result<PartType, CheckFault>
+    ensures { Gives (λ t. t) result (meant.part_of (names_in context.entry.scope) context.entry.line (lines.part_of part.now)) }
 {
     match part {
         Part::Single(sizes, primitive) => {
-            let sizes = sizes_of(alloc, scope, line, sizes)?;
+            let sizes = sizes_of(context, sizes)?;
             Ok(simple_part(sizes, primitive_of(*primitive)))
         }
         Part::Counted(count, primitive) => {
-            let count = count_type(line, primitive_of(*count))?;
+            let count = count_type(context.line, primitive_of(*count))?;
             Ok(PartType::Counted(count, primitive_of(*primitive)))
         }
     }
@@ -258,17 +230,12 @@ pub fn simple_part(sizes: Items<u32>, primitive: Primitive) -> PartType
 }
 
 /// Parts of a message, in order.
-fn each_part(
-    alloc: Global,
-    scope: Scope<'_, '_>,
-    line: u32,
-    parts: &[Part],
-) -> Result<Items<PartType>, CheckFault>
-    ensures { Gives (λ ts. ts) result (each_of (meant.part_of (names_in scope.entry) line) (map lines.part_of parts.now)) }
+fn each_part(context: Context<'_, '_>, parts: &[Part]) -> Result<Items<PartType>, CheckFault>
+    ensures { Gives (λ ts. ts) result (each_of (meant.part_of (names_in context.entry.scope) context.entry.line) (map lines.part_of parts.now)) }
 {
-    let mut made = Items::new(alloc);
+    let mut made = Items::new(context.alloc);
     for part in parts {
-        let part = match part_of(alloc, scope, line, part) {
+        let part = match part_of(context, part) {
             Ok(part) => part,
             Err(e) => return Err(e),
         };
@@ -280,16 +247,14 @@ fn each_part(
 /// One or more parts, in order.
 #[tactic(auto, unfolding(occ_check_meaning::specs::Scope::each_of))]
 fn parts_of(
-    alloc: Global,
-    scope: Scope<'_, '_>,
-    line: u32,
+    context: Context<'_, '_>,
     parts: &OneOrMore<Part>,
 ) -> Result<Items<PartType>, CheckFault>
-    ensures { Gives (λ ts. ts) result (each_of (meant.part_of (names_in scope.entry) line) (lines.part_of parts.now.first ∷ map lines.part_of parts.now.others.items)) }
+    ensures { Gives (λ ts. ts) result (each_of (meant.part_of (names_in context.entry.scope) context.entry.line) (lines.part_of parts.now.first ∷ map lines.part_of parts.now.others.items)) }
 {
-    let first = part_of(alloc, scope, line, &parts.first)?;
-    let others = each_part(alloc, scope, line, &parts.others)?;
-    let mut all = Items::new(alloc);
+    let first = part_of(context, &parts.first)?;
+    let others = each_part(context, &parts.others)?;
+    let mut all = Items::new(context.alloc);
     all.push(first)?;
     all.append(others)?;
     Ok(all)
@@ -300,45 +265,35 @@ fn parts_of(
 /// # Errors
 ///
 /// As `sizes_of`, `Unknown` and `WrongKind` for a name that is no protocol's, and `WrongType` for a count of BOOL.
-pub fn carried_by(
-    alloc: Global,
-    scope: Scope<'_, '_>,
-    line: u32,
-    carried: &CarriedTree,
-) -> Result<Carried, CheckFault>
-    ensures { Gives carried_of result (meant.carried_of (names_in scope.entry) line (lines.carried_of carried.now)) }
+pub fn carried_by(context: Context<'_, '_>, carried: &CarriedTree) -> Result<Carried, CheckFault>
+    ensures { Gives carried_of result (meant.carried_of (names_in context.entry.scope) context.entry.line (lines.carried_of carried.now)) }
 {
     match carried {
         CarriedTree::Part(part) => {
-            let protocol = plain_protocol(alloc, scope, line, part)?;
+            let protocol = plain_protocol(context, part)?;
             Ok(Carried {
                 declared: None,
                 protocol,
             })
         }
         CarriedTree::Named(name) => {
-            let known = known_name(alloc, scope, line, name)?;
-            as_protocol(alloc, line, known)
+            let known = known_name(context, name)?;
+            as_protocol(context.alloc, context.line, known)
         }
     }
 }
 
 /// What a channel carries that has no protocol's name.
-fn plain_protocol(
-    alloc: Global,
-    scope: Scope<'_, '_>,
-    line: u32,
-    part: &Part,
-) -> Result<Protocol, CheckFault>
-    ensures { Gives (λ p. p) result (meant.plain_protocol (names_in scope.entry) line (lines.part_of part.now)) }
+fn plain_protocol(context: Context<'_, '_>, part: &Part) -> Result<Protocol, CheckFault>
+    ensures { Gives (λ p. p) result (meant.plain_protocol (names_in context.entry.scope) context.entry.line (lines.part_of part.now)) }
 {
     match part {
         Part::Single(sizes, primitive) => {
-            let sizes = sizes_of(alloc, scope, line, sizes)?;
+            let sizes = sizes_of(context, sizes)?;
             Ok(Protocol::Simple(sizes, primitive_of(*primitive)))
         }
         Part::Counted(count, primitive) => {
-            let count = count_type(line, primitive_of(*count))?;
+            let count = count_type(context.line, primitive_of(*count))?;
             Ok(Protocol::CountedArray(count, primitive_of(*primitive)))
         }
     }
@@ -374,7 +329,14 @@ pub fn protocol_of(
 {
     match protocol {
         ProtocolTree::Parts(line, _, parts) => {
-            match parts_of(alloc, scope, *line, parts) {
+            match parts_of(
+                Context {
+                    alloc,
+                    scope,
+                    line: *line,
+                },
+                parts,
+            ) {
                 Ok(parts) => Ok(Protocol::Sequential(parts)),
                 Err(e) => Err(e),
             }
@@ -396,7 +358,14 @@ pub fn protocol_of(
 fn tag_of(alloc: Global, scope: Scope<'_, '_>, tag: &TagTree) -> Result<Tag, CheckFault>
     ensures { Gives (λ t. t) result (meant.tag_of (names_in scope.entry) (processes.tag_of tag.now)) }
 {
-    let parts = each_part(alloc, scope, tag.line, &tag.parts)?;
+    let parts = each_part(
+        Context {
+            alloc,
+            scope,
+            line: tag.line,
+        },
+        &tag.parts,
+    )?;
     let name = Items::from_slice(alloc, &tag.name)?;
     Ok(Tag { name, parts })
 }

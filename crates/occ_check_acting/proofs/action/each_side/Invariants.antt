@@ -6,4 +6,4 @@ use Rattle.occ_check_typing.proofs.Zipping.{Zipping}
 use Rattle.occ_check_acting.proofs.action.each_side.Given as goal
 
 abbrev pub invariant-loop-variable : goal.invariant-loop-variable
-invariant-loop-variable l = Zipping (side_assigned (names_in l.scope) l.line) expression_of item_of l.variables l.variable-index l.values l.left l.made
+invariant-loop-variable l = Zipping (side_assigned (names_in l.context.scope) l.context.line) expression_of item_of l.variables l.variable-index l.values l.left l.made

@@ -6,4 +6,4 @@ use Rattle.occ_check_typing.proofs.EachOf.{SoFar}
 use Rattle.occ_check_acting.proofs.action.each_variable.Given as goal
 
 abbrev pub invariant-loop-variable : goal.invariant-loop-variable
-invariant-loop-variable l = SoFar (variable_of (names_in l.scope) l.line) var_of side_of l.variables l.variable-index l.all.items
+invariant-loop-variable l = SoFar (variable_of (names_in l.context.scope) l.context.line) var_of side_of l.variables l.variable-index l.all.items

@@ -3,4 +3,4 @@ use Rattle.occ_check_acting.proofs.Binding.{Binds}
 use Rattle.occ_check_acting.proofs.call.all_actuals.Given as goal
 
 abbrev pub invariant-loop-formal : goal.invariant-loop-formal
-invariant-loop-formal l = Binds (names_in l.scope) l.line l.depth l.formals l.actuals l.formal-index l.initial.numbers l.opened l.others l.numbers
+invariant-loop-formal l = Binds (names_in l.context.scope) l.context.line l.depth l.formals l.actuals l.formal-index l.initial.numbers l.opened l.others l.numbers

@@ -6,4 +6,4 @@ use Rattle.occ_check_typing.proofs.Zipping.{Zipping}
 use Rattle.occ_check_acting.proofs.target.each_stored.Given as goal
 
 abbrev pub invariant-loop-part : goal.invariant-loop-part
-invariant-loop-part l = Zipping (stored_one (names_in l.scope) l.line) seen_target target_of l.parts l.part-index l.targets l.left l.made
+invariant-loop-part l = Zipping (stored_one (names_in l.context.scope) l.context.line) seen_target target_of l.parts l.part-index l.targets l.left l.made

@@ -13,7 +13,7 @@ pub returns-in_err-sizes : goal.returns-in_err-sizes
 returns-in_err-sizes c =
     let wanted = c.args.wanted.now in
     let r =
-    then_refused c.in_err-sizes.field-0.0 (open_sizes_of (names_in c.args.scope) c.args.line (map lines.size_of wanted.sizes.items))
+    then_refused c.in_err-sizes.field-0.0 (open_sizes_of (names_in c.args.context.scope) c.args.context.line (map lines.size_of wanted.sizes.items))
     (λ o. keep (meant.has_type o (primitive_of wanted.of) (typed_of c.args.value)) (typed_of c.args.value)) (rw c.deref.ensures.value at c.in_err-sizes.ensures) in
     search rules
 

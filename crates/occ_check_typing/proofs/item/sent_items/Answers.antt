@@ -17,7 +17,7 @@ returns-in_default c =
 
 pub returns-in-Err : goal.returns-in-Err
 returns-in-Err c =
-    subst (Refuses c.in-Err.e) (sent_zipped (names_in c.args.scope) c.args.line c.args.parts.now (map out_of c.args.outs.now))
+    subst (Refuses c.in-Err.e) (sent_zipped (names_in c.args.context.scope) c.args.context.line c.args.parts.now (map out_of c.args.outs.now))
     (zipping_nothing _ _ _ _ _ _ _ _ c.loop-part.invariant _ c.loop-part-test.true c.part-item.is _ _ c.in-Some.ensures.cases.0 _ c.in-Err.ensures)
 
 pub returns-in-None : goal.returns-in-None

@@ -6,4 +6,4 @@ use Rattle.occ_check_typing.proofs.Zipping.{Zipping}
 use Rattle.occ_check_typing.proofs.item.sent_items.Given as goal
 
 abbrev pub invariant-loop-part : goal.invariant-loop-part
-invariant-loop-part l = Zipping (sent_item (names_in l.scope) l.line) out_of item_of l.parts l.part-index l.outs l.left l.made
+invariant-loop-part l = Zipping (sent_item (names_in l.context.scope) l.context.line) out_of item_of l.parts l.part-index l.outs l.left l.made

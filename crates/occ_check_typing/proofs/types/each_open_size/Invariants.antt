@@ -5,4 +5,4 @@ use Rattle.occ_check_typing.proofs.EachOf.{SoFar}
 use Rattle.occ_check_typing.proofs.types.each_open_size.Given as goal
 
 abbrev pub invariant-loop-size : goal.invariant-loop-size
-invariant-loop-size l = SoFar (open_size (names_in l.scope) l.line) size_of (λ z. z) l.sizes l.size-index l.made
+invariant-loop-size l = SoFar (open_size (names_in l.context.scope) l.context.line) size_of (λ z. z) l.sizes l.size-index l.made

@@ -13,7 +13,7 @@ loop-size-preserved c = so_far_next _ _ _ _ _ _ _ c.loop-size-test.true c.size-i
 
 pub returns-in-Err : goal.returns-in-Err
 returns-in-Err c =
-    subst (Refuses c.in-Err.e) (sym (sizes_each (names_in c.args.scope) c.args.line (map expression_of c.args.sizes.now)))
+    subst (Refuses c.in-Err.e) (sym (sizes_each (names_in c.args.context.scope) c.args.context.line (map expression_of c.args.sizes.now)))
     (so_far_nothing _ _ _ _ _ _ _ c.loop-size-test.true c.size-item.is c.loop-size.invariant _ (given_none _ _ _ _ c.in-Err.ensures))
 
 pub returns : goal.returns

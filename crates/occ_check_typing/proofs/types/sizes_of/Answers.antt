@@ -5,4 +5,4 @@ use Rattle.occ_check_typing.proofs.SizeLists.{sizes_positive}
 use Rattle.occ_check_typing.proofs.types.sizes_of.Goals as goal
 
 pub not_too_large-requires : goal.not_too_large-requires
-not_too_large-requires c = sizes_positive (names_in c.args.scope) c.args.line (map expression_of c.args.sizes.now) c.in_ok-sizes.sizes c.in_ok-sizes.ensures
+not_too_large-requires c = sizes_positive (names_in c.args.context.scope) c.args.context.line (map expression_of c.args.sizes.now) c.in_ok-sizes.sizes c.in_ok-sizes.ensures

@@ -1,12 +1,13 @@
 use Rattle.std.proofs.Common.{◌≡◌, ◌+◌, ◌*◌, ◌≤◌, ◌+ℤ◌, ◌≤ℤ◌, pos, Some, [], drop, length, map, take}
 use Rattle.occ_tree_grammar.specs.Many.{◌>>=◌}
-use Rattle.occ_tree_grammar.specs.Processes.Trees.{decls, nodes}
-use Rattle.occ_tree_grammar.specs.Processes.Views.{arm_of, choice_of, decl_of, process_of, selection_of, variant_of}
+use Rattle.occ_tree_grammar.specs.Processes.Trees.{nodes}
+use Rattle.occ_tree_grammar.specs.Processes.Views.{arm_of, choice_of, process_of, selection_of, variant_of}
 use Rattle.occ_term.specs.View.{arms_of, choices_of, options_of, term_of, variants_of}
 use Rattle.occ_check_meaning.specs.Actions.{none_chosen}
 use Rattle.occ_check_acting.specs.ActionView.{chosen_of}
 use Rattle.occ_check_meaning.specs.Recursion.{unfolded, all_in_turn}
-use Rattle.occ_check.specs.Weights.{arm_size, choice_size, decls_size, node_size, nodes_size, statement_size}
+use Rattle.occ_check.specs.Opened.{left_weight}
+use Rattle.occ_check.specs.Weights.{node_size, nodes_size}
 use Rattle.occ_check.specs.Progress.{counted, meant_at, weight_at}
 use Rattle.occ_check.proofs.Listing.{Listed}
 use Rattle.occ_check.proofs.Gathering.{Gathered}
@@ -25,25 +26,20 @@ use Rattle.occ_check.proofs.Numbered.{Copied}
 use Rattle.occ_check.proofs.unfolder.Unfolder.+unfolding.Given as goal
 
 abbrev pub decreases-process : goal.decreases-process
-decreases-process l = 8 * (node_size (process_of l.process.now) + weight_at l.self.now l.at) + 2
-
-abbrev pub decreases-entered : goal.decreases-entered
-decreases-entered l = 8 * (node_size (process_of l.process.now) + weight_at l.self.now l.at) + 1
-
-abbrev pub decreases-stepped : goal.decreases-stepped
-decreases-stepped l = 8 * (statement_size l.statement.now + weight_at l.self.now l.at) + 2
+decreases-process l = 4 * (node_size (process_of l.process.now) + weight_at l.self.now l.at)
 
 abbrev pub decreases-performed : goal.decreases-performed
-decreases-performed l = 8 * (statement_size l.statement.now + weight_at l.self.now l.at) + 1
+decreases-performed l = 4 * left_weight l.self.now l.opened + 2
 
 abbrev pub decreases-in_turn : goal.decreases-in_turn
-decreases-in_turn l = 8 * (nodes_size (nodes (map process_of l.processes.now)) + weight_at l.self.now l.at)
+decreases-in_turn l = 4 * (nodes_size (nodes (map process_of l.processes.now)) + weight_at l.self.now l.at) + 1
 
 abbrev pub invariant-process-calls : goal.invariant-process-calls
 invariant-process-calls l =
-    (unfolded (process_of l.process) (meant_at l.fn.self l.fn.at) l.depth (counted l.fn.self) ≡ unfolded (process_of l.body) (meant_at l.self l.place) l.depth (counted l.self))
+    (unfolded (process_of l.process) (meant_at l.fn.self l.fn.at) l.depth (counted l.fn.self) ≡ unfolded (process_of l.body) (meant_at l.self l.place) l.deep (counted l.self))
     × (take (length l.fn.self.frames.frames.items) l.self.frames.frames.items ≡ l.fn.self.frames.frames.items)
     × (node_size (process_of l.body) + weight_at l.self l.place ≤ node_size (process_of l.process) + weight_at l.fn.self l.fn.at)
+    × (l.deep ≤ 200)
 
 abbrev pub decreases-process-calls : goal.decreases-process-calls
 decreases-process-calls l = node_size (process_of l.body) + weight_at l.self l.place
@@ -55,7 +51,7 @@ invariant-in_turn-loop-process l =
     × (l.self.frames.frames.items ≡ l.fn.self.frames.frames.items)
 
 abbrev pub decreases-beside : goal.decreases-beside
-decreases-beside l = 8 * (nodes_size (nodes (map process_of l.processes.now)) + weight_at l.self.now l.at)
+decreases-beside l = 4 * (nodes_size (nodes (map process_of l.processes.now)) + weight_at l.self.now l.at) + 1
 
 abbrev pub invariant-beside-loop-process : goal.invariant-beside-loop-process
 invariant-beside-loop-process l =
@@ -63,28 +59,10 @@ invariant-beside-loop-process l =
     (branches_in (meant_at l.fn.self l.at) l.depth l.processes (counted l.fn.self)) l.processes l.process-index (map branch_of l.branches) (counted l.self)
     × (l.self.frames.frames.items ≡ l.fn.self.frames.frames.items)
 
-abbrev pub decreases-acted : goal.decreases-acted
-decreases-acted l = 8 * weight_at l.self.now l.at
-
 -- ---- the choices of an IF
 
-abbrev pub decreases-conditional : goal.decreases-conditional
-decreases-conditional l = 8 * (nodes_size (nodes (map choice_of l.choices.now)) + weight_at l.self.now l.at) + 2
-
-abbrev pub decreases-each_conditional : goal.decreases-each_conditional
-decreases-each_conditional l = 8 * (node_size (choice_of l.choice.now) + weight_at l.self.now l.at) + 4
-
 abbrev pub decreases-choices : goal.decreases-choices
-decreases-choices l = 8 * (nodes_size (nodes (map choice_of l.list.now)) + weight_at l.self.now l.at) + 1
-
-abbrev pub decreases-each_choice : goal.decreases-each_choice
-decreases-each_choice l = 8 * (node_size (choice_of l.choice.now) + weight_at l.self.now l.at) + 3
-
-abbrev pub decreases-choice : goal.decreases-choice
-decreases-choice l = 8 * (node_size (choice_of l.choice.now) + weight_at l.self.now l.at) + 2
-
-abbrev pub decreases-chosen : goal.decreases-chosen
-decreases-chosen l = 8 * (choice_size l.choice.now + weight_at l.self.now l.at)
+decreases-choices l = 4 * (nodes_size (nodes (map choice_of l.list.now)) + weight_at l.self.now l.at) + 1
 
 abbrev pub invariant-choices-loop-choice : goal.invariant-choices-loop-choice
 invariant-choices-loop-choice l =
@@ -93,20 +71,8 @@ invariant-choices-loop-choice l =
 
 -- ---- the options of a CASE
 
-abbrev pub decreases-selection : goal.decreases-selection
-decreases-selection l = 8 * (nodes_size (nodes (map selection_of l.selections.now)) + weight_at l.self.now l.at) + 2
-
 abbrev pub decreases-options : goal.decreases-options
-decreases-options l = 8 * (nodes_size (nodes (map selection_of l.selections.now)) + weight_at l.self.now l.at) + 1
-
-abbrev pub decreases-option : goal.decreases-option
-decreases-option l = 8 * (node_size (selection_of l.selection.now) + weight_at l.self.now l.at) + 2
-
-abbrev pub decreases-values : goal.decreases-values
-decreases-values l = 8 * ((decls_size (decls (map decl_of l.declarations.now)) + node_size (process_of l.body.now)) + weight_at l.self.now l.at) + 3
-
-abbrev pub decreases-otherwise : goal.decreases-otherwise
-decreases-otherwise l = 8 * ((decls_size (decls (map decl_of l.declarations.now)) + node_size (process_of l.body.now)) + weight_at l.self.now l.at) + 3
+decreases-options l = 4 * (nodes_size (nodes (map selection_of l.selections.now)) + weight_at l.self.now l.at) + 1
 
 abbrev pub invariant-options-loop-selection : goal.invariant-options-loop-selection
 invariant-options-loop-selection l =
@@ -116,17 +82,8 @@ invariant-options-loop-selection l =
 
 -- ---- inputs of variants
 
-abbrev pub decreases-taken_by_variant : goal.decreases-taken_by_variant
-decreases-taken_by_variant l = 8 * (nodes_size (nodes (map variant_of l.list.now)) + weight_at l.self.now l.at) + 2
-
 abbrev pub decreases-variants : goal.decreases-variants
-decreases-variants l = 8 * (nodes_size (nodes (map variant_of l.list.now)) + weight_at l.self.now l.at) + 1
-
-abbrev pub decreases-variant : goal.decreases-variant
-decreases-variant l = 8 * (node_size (variant_of l.variant.now) + weight_at l.self.now l.at) + 2
-
-abbrev pub decreases-tagged : goal.decreases-tagged
-decreases-tagged l = 8 * ((decls_size (decls (map decl_of l.declarations.now)) + node_size (process_of l.body.now)) + weight_at l.self.now l.at) + 3
+decreases-variants l = 4 * (nodes_size (nodes (map variant_of l.list.now)) + weight_at l.self.now l.at) + 1
 
 abbrev pub invariant-variants-loop-variant : goal.invariant-variants-loop-variant
 invariant-variants-loop-variant l =
@@ -136,14 +93,8 @@ invariant-variants-loop-variant l =
 
 -- ---- the copies of a replicated PAR
 
-abbrev pub decreases-copied : goal.decreases-copied
-decreases-copied l = 8 * (node_size (process_of l.body.now) + weight_at l.self.now l.at) + 5
-
 abbrev pub decreases-copies : goal.decreases-copies
-decreases-copies l = 8 * (node_size (process_of l.body.now) + weight_at l.self.now l.at) + 4
-
-abbrev pub decreases-copy : goal.decreases-copy
-decreases-copy l = 8 * (node_size (process_of l.body.now) + weight_at l.self.now l.at) + 3
+decreases-copies l = 4 * (node_size (process_of l.body.now) + weight_at l.self.now l.at) + 1
 
 abbrev pub invariant-copies-copies : goal.invariant-copies-copies
 invariant-copies-copies l =
@@ -157,26 +108,8 @@ decreases-copies-copies l = l.left
 
 -- ---- the arms of an ALT
 
-abbrev pub decreases-alternation : goal.decreases-alternation
-decreases-alternation l = 8 * (nodes_size (nodes (map arm_of l.arms.now)) + weight_at l.self.now l.at) + 2
-
-abbrev pub decreases-each_alternation : goal.decreases-each_alternation
-decreases-each_alternation l = 8 * (node_size (arm_of l.arm.now) + weight_at l.self.now l.at) + 4
-
 abbrev pub decreases-arms : goal.decreases-arms
-decreases-arms l = 8 * (nodes_size (nodes (map arm_of l.list.now)) + weight_at l.self.now l.at) + 1
-
-abbrev pub decreases-each_arm : goal.decreases-each_arm
-decreases-each_arm l = 8 * (node_size (arm_of l.arm.now) + weight_at l.self.now l.at) + 3
-
-abbrev pub decreases-arm : goal.decreases-arm
-decreases-arm l = 8 * (node_size (arm_of l.arm.now) + weight_at l.self.now l.at) + 2
-
-abbrev pub decreases-listening : goal.decreases-listening
-decreases-listening l = 8 * (arm_size l.arm.now + weight_at l.self.now l.at) + 1
-
-abbrev pub decreases-guarded : goal.decreases-guarded
-decreases-guarded l = 8 * (node_size (process_of l.body.now) + weight_at l.self.now l.at) + 4
+decreases-arms l = 4 * (nodes_size (nodes (map arm_of l.list.now)) + weight_at l.self.now l.at) + 1
 
 abbrev pub invariant-arms-loop-arm : goal.invariant-arms-loop-arm
 invariant-arms-loop-arm l =

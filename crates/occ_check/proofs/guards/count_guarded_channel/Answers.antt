@@ -1,6 +1,6 @@
 use Rattle.std.proofs.Common.{arith}
 use Rattle.std.proofs.lemmas.Grind.{common_steps}
-use Rattle.occ_check.proofs.arms.count_guarded_channel.Goals as goal
+use Rattle.occ_check.proofs.guards.count_guarded_channel.Goals as goal
 
 pub returns-in_err-node-clause-counts : goal.returns-in_err-node-clause-counts
 returns-in_err-node-clause-counts c = grind (arith, common_steps)
