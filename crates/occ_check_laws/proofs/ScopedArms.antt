@@ -12,7 +12,7 @@ use Rattle.occ_term.specs.Uses as Uses
 use Rattle.occ_term.specs.Uses.{union, only, empty_set, numbers_in, uses_of_declaration}
 use Rattle.occ_term.specs.Storing.{index_of}
 use Rattle.occ_term.specs.TermTyping.{Declared}
-use Rattle.occ_term.specs.Again.{sets_of, Scoped}
+use Rattle.occ_term.specs.TakenArms.{sets_of, Scoped}
 use Rattle.occ_check_meaning.specs.Scope.{names_of, within}
 use Rattle.occ_check_meaning.specs.Numbers.{Numbers}
 use Rattle.occ_check_meaning.specs.Performing.{Entered}

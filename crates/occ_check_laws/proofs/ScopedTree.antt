@@ -36,7 +36,7 @@ use Rattle.occ_check_meaning.specs.Actions.{assigned}
 use Rattle.occ_check_laws.proofs.Copies.{copies_typed, first_typed, next_typed}
 use Rattle.occ_check_laws.proofs.TypedTree.{named, have, later, all_have, within_index}
 use Rattle.occ_term.specs.TermTyping.{ArmsHave}
-use Rattle.occ_term.proofs.AgainSame.{same_again}
+use Rattle.occ_term.proofs.TakenArms.{same_again}
 use Rattle.occ_check_meaning.specs.Numbers.{at_start}
 use Rattle.occ_check_meaning.specs.Actions.{as_term}
 use Rattle.occ_check_meaning.specs.Declarations.{Indexed, indexed}

@@ -20,10 +20,10 @@ use Rattle.occ_term.specs.Terms.{Term, Branches, no_branches, and_branch, Recept
 use Rattle.occ_term.specs.TypedSteps.{LeftHas, EnabledHave}
 use Rattle.occ_term.specs.Unfolding.{Unfolding}
 use Rattle.occ_term.specs.Uses.{uses_of, uses_of_reception}
-use Rattle.occ_code.specs.Alike.{AreAbove, IsRising, SameArms, SameStop, numbers_of}
-use Rattle.occ_code.specs.Sequential.Alike.{Alike}
-use Rattle.occ_code.specs.Sequential.Compiled.{Program}
-use Rattle.occ_code.specs.Sequential.Machine.{Body, Stopping}
+use Rattle.occ_code.specs.SameStop.{AreAbove, IsRising, SameArms, SameStop, numbers_of}
+use Rattle.occ_code.specs.Alike.{Alike}
+use Rattle.occ_code.specs.Compiled.{Program}
+use Rattle.occ_code.specs.Machine.{Body, Stopping}
 use Rattle.occ_code.specs.declared.task.Arm.{Arm}
 use Rattle.occ_code.specs.declared.task.Task.{Task}
 use Rattle.occ_code.specs.declared.task.Wait.{Wait}

@@ -24,9 +24,9 @@ use Rattle.occ_term.specs.Uses.{Numbers, empty_set, no_use, uses_of, LawfulTerm}
 use Rattle.occ_term.specs.Values.{Store, is_of_declared}
 use Rattle.occ_term.proofs.Going.{going}
 use Rattle.occ_term.proofs.KeptStores.{both_parts, no_part, whole_part}
-use Rattle.occ_code.specs.Sequential.Alike.{Alike, IsFirst}
-use Rattle.occ_code.specs.Sequential.Compiled.{Program}
-use Rattle.occ_code.specs.Sequential.Machine.{Body}
+use Rattle.occ_code.specs.Alike.{Alike, IsFirst}
+use Rattle.occ_code.specs.Compiled.{Program}
+use Rattle.occ_code.specs.Machine.{Body}
 use Rattle.occ_code.specs.declared.task.Task.{Task}
 use Rattle.occ_code.specs.declared.task.Wait.{Wait}
 use Rattle.occ_net_replay.specs.Following.{AreBytes, ending_as, mode_of, or_limit}

@@ -3,7 +3,7 @@ use Rattle.std.proofs.Common.{◌≡◌, ◌∙◌, refl, sym, ap, subst, ℕ, �
 use Rattle.std.proofs.lemmas.List.{append_assoc}
 use Rattle.occ_term.specs.Runs.{Event}
 use Rattle.occ_term.specs.Unfolding.{Unfolding}
-use Rattle.occ_code.specs.Sequential.Compiled.{Program}
+use Rattle.occ_code.specs.Compiled.{Program}
 use Rattle.occ_net_replay.specs.declared.choice.Choice.{Choice}
 use Rattle.occ_net_replay.specs.Following.{Followed}
 use Rattle.occ_net_replay.specs.Moments.{Accompanies, EarlierMoment, IsMoment, RunsGoOn, at_start, after_turn}

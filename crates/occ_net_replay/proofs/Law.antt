@@ -10,10 +10,10 @@ use Rattle.occ_term.specs.System.{System, start, noted_in}
 use Rattle.occ_term.specs.TermTyping.{Declared}
 use Rattle.occ_term.specs.Terms.{Term, Branches, no_branches, and_branch}
 use Rattle.occ_term.specs.Unfolding.{Unfolding, IsWellFormed, Lawful, meaning, declared}
-use Rattle.occ_code.specs.Alike.{SameStop}
-use Rattle.occ_code.specs.Sequential.Alike.{Alike, DoesAs}
-use Rattle.occ_code.specs.Sequential.Compiled.{Program, IsCompiledFrom, AllDo}
-use Rattle.occ_code.specs.Sequential.Machine.{Body, Stopping}
+use Rattle.occ_code.specs.SameStop.{SameStop}
+use Rattle.occ_code.specs.Alike.{Alike, DoesAs}
+use Rattle.occ_code.specs.Compiled.{Program, IsCompiledFrom, AllDo}
+use Rattle.occ_code.specs.Machine.{Body, Stopping}
 use Rattle.occ_code.specs.declared.task.Task.{Task}
 use Rattle.occ_code.specs.declared.task.Wait.TheVariants.{Joins}
 use Rattle.occ_net_replay.specs.declared.choice.Choice.{Choice}

@@ -3,7 +3,7 @@
 use Rattle.std.specs.Prelude.{Bool, IsTrue, List, Option, Some, nat_eq, ℕ, ◌≡◌}
 use Rattle.occ_term.specs.declared.message.Message.{Message}
 use Rattle.occ_term.specs.Unfolding.{Unfolding}
-use Rattle.occ_code.specs.Sequential.Compiled.{Program}
+use Rattle.occ_code.specs.Compiled.{Program}
 use Rattle.occ_code.specs.declared.task.Arm.{Arm}
 use Rattle.occ_code.specs.declared.task.Task.{Task}
 use Rattle.occ_code.specs.declared.task.Wait.TheVariants.{Offers, Chooses}

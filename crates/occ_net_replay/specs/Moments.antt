@@ -3,15 +3,15 @@
 use Rattle.std.specs.Prelude.{Bool, IsTrue, List, Option, [], false, length, nat_eq, ℕ, ⊤, ◌<◌, ◌^◌, ◌++◌, ◌||◌, ◌∷◌, ◌≡◌, ◌⊎◌}
 use Rattle.occ_term.specs.declared.fault.Fault.{Fault}
 use Rattle.occ_term.specs.declared.message.Message.{Message}
-use Rattle.occ_term.specs.Examples.{IsGoing}
+use Rattle.occ_term.specs.Going.{IsGoing}
 use Rattle.occ_term.specs.Runs.{Event}
 use Rattle.occ_term.specs.Selecting.{Enabled, is_ready_on, waits_for}
 use Rattle.occ_term.specs.Steps.{Doing, Offering, Awaiting, Choosing, Forking, Halted, Faulted, Done, Context, Left, left}
 use Rattle.occ_term.specs.System.{Process, process, Processes, no_processes, and_process, System, system, AllEnded}
 use Rattle.occ_term.specs.Terms.{Branches, Reception}
 use Rattle.occ_term.specs.Unfolding.{Unfolding, IsWellFormed, Lawful}
-use Rattle.occ_code.specs.Alike.{numbers_of}
-use Rattle.occ_code.specs.Sequential.Compiled.{Program, IsCompiledFrom}
+use Rattle.occ_code.specs.SameStop.{numbers_of}
+use Rattle.occ_code.specs.Compiled.{Program, IsCompiledFrom}
 use Rattle.occ_code.specs.declared.task.Arm.{Arm}
 use Rattle.occ_code.specs.declared.task.Task.{Task}
 use Rattle.occ_code.specs.declared.task.Wait.{Wait}

@@ -6,8 +6,8 @@ use Rattle.occ_term.specs.Frames.{is_held, at}
 use Rattle.occ_term.specs.System.{System, system, offers}
 use Rattle.occ_term.specs.Unfolding.{Unfolding, IsWellFormed, Lawful}
 use Rattle.occ_term.specs.Values.{Store}
-use Rattle.occ_code.specs.Sequential.Compiled.{Program, IsCompiledFrom}
-use Rattle.occ_code.specs.Sequential.Machine.{Body}
+use Rattle.occ_code.specs.Compiled.{Program, IsCompiledFrom}
+use Rattle.occ_code.specs.Machine.{Body}
 use Rattle.occ_code.specs.declared.task.Task.{Task}
 use Rattle.occ_code.specs.declared.task.Wait.TheVariants.{Joins, Done}
 use Rattle.occ_net_replay.specs.declared.choice.Choice.{Choice}

@@ -4,9 +4,9 @@ use Rattle.std.specs.Prelude.{Bool, IsTrue, List, None, Option, Some, [], length
 use Rattle.occ_term.specs.declared.message.Message.{Message}
 use Rattle.occ_term.specs.Frames.{is_held}
 use Rattle.occ_term.specs.Unfolding.{Unfolding, IsWellFormed, Lawful}
-use Rattle.occ_code.specs.Alike.{IsRising}
-use Rattle.occ_code.specs.Sequential.Compiled.{Program, IsCompiledFrom}
-use Rattle.occ_code.specs.Sequential.Machine.{Body, Stopping}
+use Rattle.occ_code.specs.SameStop.{IsRising}
+use Rattle.occ_code.specs.Compiled.{Program, IsCompiledFrom}
+use Rattle.occ_code.specs.Machine.{Body, Stopping}
 use Rattle.occ_code.specs.declared.task.Arm.{Arm}
 use Rattle.occ_code.specs.declared.task.Task.{Task}
 use Rattle.occ_code.specs.declared.task.Wait.{Wait}

@@ -1,6 +1,6 @@
 //! Changes of one process's task, in its slot.
 ghost use Rattle.std.specs.Prelude.{◌≡◌, ◌↔◌, ◌+◌, ◌<◌, ◌^◌, IfOk, IsTrue, Some, length, slice_set};
-ghost use Rattle.occ_code.specs.Alike.{ready_with};
+ghost use Rattle.occ_code.specs.SameStop.{ready_with};
 ghost use Rattle.occ_code.specs.declared.task.Task.{Task};
 ghost use Rattle.occ_net_replay.specs.Replay.{HasTask};
 ghost use Rattle.occ_net_tables.specs.Tasks.{EndedBy, HasTurn, IsTaken, IsThere};

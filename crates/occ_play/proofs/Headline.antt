@@ -11,7 +11,7 @@ use Rattle.occ_term.specs.declared.fault.Fault.{Fault}
 use Rattle.occ_term.specs.System.{noted_in}
 use Rattle.occ_term.specs.Runs.{communications, entries, messages_on, shown, shown_by, EndsBy}
 use Rattle.occ_term.specs.Unfolding.{Unfolding, IsWellFormed, declared, Lawful}
-use Rattle.occ_code.specs.Sequential.Compiled.{Program, IsCodeOf, IsCompiledFrom, CodeRefuses}
+use Rattle.occ_code.specs.Compiled.{Program, IsCodeOf, IsCompiledFrom, CodeRefuses}
 use Rattle.occ_code.specs.declared.compiler.code.CodeFault.{CodeFault}
 use Rattle.occ_code.specs.declared.compiler.code.CodeFault.TheVariants as code
 use Rattle.occ_net_replay.specs.declared.choice.Choice.{Choice}

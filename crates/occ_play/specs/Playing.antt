@@ -18,7 +18,7 @@ use Rattle.occ_usage.specs.Refusals.{UsageRefuses}
 use Rattle.occ_term.specs.Unfolding.{Unfolding, declared, meaning, IsWellFormed, Lawful}
 use Rattle.occ_term.specs.System.{System, start, noted_in}
 use Rattle.occ_term.specs.Runs.{Event, Run, communications, shown, EndsBy}
-use Rattle.occ_code.specs.Sequential.Compiled.{Program, IsCodeOf, IsQuantum, most_instructions}
+use Rattle.occ_code.specs.Compiled.{Program, IsCodeOf, IsQuantum, most_instructions}
 use Rattle.occ_check_meaning.specs.ProgramUnfolding.{UnfoldsTo}
 use Rattle.occ_check_names.specs.declared.fault.CheckFault.{CheckFault}
 use Rattle.occ_check.specs.CheckRefuses.{CheckRefuses}

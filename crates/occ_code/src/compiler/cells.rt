@@ -2,9 +2,9 @@
 ghost use Rattle.std.specs.Prelude.{◌≡◌, ◌∷◌, [], ◌++◌, ◌<◌, ◌≤◌, IfOk, OnOk, get_or, if◌then◌else◌, List, length, max, nat_lt, set};
 ghost use Rattle.occ_usage.specs.Noted.{uses_in};
 ghost use Rattle.occ_usage.specs.declared.noted.Use.{Use};
-ghost use Rattle.occ_code.specs.Alike.{Lists};
-ghost use Rattle.occ_code.specs.Sequential.Cells.{AreEnds, AreReached, counted, covers, end_of, furthest, is_counted as is_counted_use};
-ghost use Rattle.occ_code.specs.Sequential.Within.{AreWithin};
+ghost use Rattle.occ_code.specs.SameStop.{Lists};
+ghost use Rattle.occ_code.specs.Cells.{AreEnds, AreReached, counted, covers, end_of, furthest, is_counted as is_counted_use};
+ghost use Rattle.occ_code.specs.Within.{AreWithin};
 
 use occ_usage::{Kind, Use};
 use std::alloc::{AllocError, Global};

@@ -5,9 +5,9 @@ ghost use Rattle.occ_term.specs.Processes.{processes_of};
 ghost use Rattle.occ_term.specs.declared.fault.Errors.{Errors};
 ghost use Rattle.occ_term.specs.Unfolding.{meaning};
 ghost use Rattle.occ_term.specs.View.{term_of};
-ghost use Rattle.occ_code.specs.Sequential.Compiled.{AreBodiesOf, IsCodeOf, IsCompiled, IsQuantum, IsRefused, CodeRefuses, most_instructions};
-ghost use Rattle.occ_code.specs.Sequential.Compiled as compiled;
-ghost use Rattle.occ_code.specs.Sequential.Within.{AllWithin};
+ghost use Rattle.occ_code.specs.Compiled.{AreBodiesOf, IsCodeOf, IsCompiled, IsQuantum, IsRefused, CodeRefuses, most_instructions};
+ghost use Rattle.occ_code.specs.Compiled as compiled;
+ghost use Rattle.occ_code.specs.Within.{AllWithin};
 
 use crate::channels::same_channels;
 use crate::compiler::body::Body;
@@ -73,7 +73,7 @@ pub struct Code {
 impl Model for Code {
     ghost use Rattle.std.specs.Prelude.{map};
     ghost use Rattle.std.specs.Arc.{arc_value};
-    ghost use Rattle.occ_code.specs.Sequential.Compiled.{Program, IsCompiled};
+    ghost use Rattle.occ_code.specs.Compiled.{Program, IsCompiled};
 
     ghost Value = { Program };
 

@@ -1,8 +1,8 @@
 //! Places for the cells that instructions name.
 ghost use Rattle.std.specs.Prelude.{◌≡◌, ◌≤◌, OnOk, length, map};
 ghost use Rattle.occ_term.specs.Frames.{place_among};
-ghost use Rattle.occ_code.specs.Sequential.Machine.{placed};
-ghost use Rattle.occ_code.specs.Sequential.View.{instruction_of};
+ghost use Rattle.occ_code.specs.Machine.{placed};
+ghost use Rattle.occ_code.specs.View.{instruction_of};
 
 use crate::compiler::instr::Instr;
 use occ_term::Held;
