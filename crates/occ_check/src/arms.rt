@@ -138,7 +138,7 @@ impl<'t> Unfolder<'t> {
         arms: &'t [Arm],
     ) -> Result<Opened<'t>, CheckFault>
         ensures opens { Opens statement_left result self.new (alternated by_priority (all_arms (nodes (map trees.arm_of arms.now))) (meant_at self.old at) depth (counted self.old)) }
-        ensures kept { OnOk result (take (length self.old.frames.frames.items) self.new.frames.frames.items ≡ self.old.frames.frames.items) }
+        ensures kept { OnOk result (take (length self.old.blocks.blocks.items) self.new.blocks.blocks.items ≡ self.old.blocks.blocks.items) }
         ensures weight { IfOk result (λ o. left_weight self.new o ≤ nodes_size (nodes (map trees.arm_of arms.now)) + weight_at self.old at) }
         ensures ready { IfOk result IsReady }
     {
@@ -162,7 +162,7 @@ impl<'t> Unfolder<'t> {
         arm: &'t Arm,
     ) -> Result<Opened<'t>, CheckFault>
         ensures opens { Opens statement_left result self.new (alternated by_priority (each_of_arms line (replicator_of replicator.now) (arm_unfolded (trees.arm_of arm.now))) (meant_at self.old at) depth (counted self.old)) }
-        ensures kept { OnOk result (take (length self.old.frames.frames.items) self.new.frames.frames.items ≡ self.old.frames.frames.items) }
+        ensures kept { OnOk result (take (length self.old.blocks.blocks.items) self.new.blocks.blocks.items ≡ self.old.blocks.blocks.items) }
         ensures weight { IfOk result (λ o. left_weight self.new o ≤ (node_size (trees.arm_of arm.now) + 1) + weight_at self.old at) }
         ensures ready { IfOk result IsReady }
     {
@@ -186,30 +186,30 @@ impl<'t> Unfolder<'t> {
     ) -> Result<Items<TermArm>, CheckFault>
         requires { depth ≤ 200 }
         ensures arms { Unfolds arms_of result self.new.numbers (all_arms (nodes (map trees.arm_of list.now)) (meant_at self.old at) depth (counted self.old)) }
-        ensures kept { OnOk result (self.new.frames.frames.items ≡ self.old.frames.frames.items) }
+        ensures kept { OnOk result (self.new.blocks.blocks.items ≡ self.old.blocks.blocks.items) }
     {
         let mut arms = Items::new(alloc);
         for arm in list {
-            let base = self.frames.len();
+            let base = self.blocks.len();
             let opened = self.arm_opened(alloc, at, depth, arm)?;
             match opened {
                 OpenedArm::Guarded(head, body, inside, deep) => {
                     let body = self.process(alloc, inside, deep, body)?;
-                    self.frames.close(base);
+                    self.blocks.close(base);
                     let made = head.with_process(alloc, body)?;
                     arms.append(made)?;
                     continue;
                 }
                 OpenedArm::OnVariant(head, protocol, list, inside, deep) => {
                     let variants = self.variants(alloc, inside, deep, &protocol, list)?;
-                    self.frames.close(base);
+                    self.blocks.close(base);
                     let made = head.with_variants(alloc, variants)?;
                     arms.append(made)?;
                     continue;
                 }
                 OpenedArm::Inner(head, list, inside, deep) => {
                     let within = self.arms(alloc, inside, deep, list)?;
-                    self.frames.close(base);
+                    self.blocks.close(base);
                     let made = head.with_arms(alloc, within)?;
                     arms.append(made)?;
                     continue;
@@ -229,7 +229,7 @@ impl<'t> Unfolder<'t> {
     ) -> Result<OpenedArm<'t>, CheckFault>
         requires { depth ≤ 200 }
         ensures opens { Opens arm_left result self.new (arm_unfolded (trees.arm_of arm.now) (meant_at self.old at) depth (counted self.old)) }
-        ensures kept { OnOk result (take (length self.old.frames.frames.items) self.new.frames.frames.items ≡ self.old.frames.frames.items) }
+        ensures kept { OnOk result (take (length self.old.blocks.blocks.items) self.new.blocks.blocks.items ≡ self.old.blocks.blocks.items) }
         ensures weight { IfOk result (λ o. arm_weight self.new o < node_size (trees.arm_of arm.now) + weight_at self.old at) }
         ensures within { IfOk result (λ o. arm_depth o ≤ 200) }
     {
@@ -249,7 +249,7 @@ impl<'t> Unfolder<'t> {
     ) -> Result<OpenedArm<'t>, CheckFault>
         requires { depth ≤ 200 }
         ensures opens { Opens arm_left result self.new (put (meant.arms_behind (declarations_of heads)) (listening arm.now (meant_at self.old at) depth (counted self.old))) }
-        ensures kept { OnOk result (take (length self.old.frames.frames.items) self.new.frames.frames.items ≡ self.old.frames.frames.items) }
+        ensures kept { OnOk result (take (length self.old.blocks.blocks.items) self.new.blocks.blocks.items ≡ self.old.blocks.blocks.items) }
         ensures weight { IfOk result (λ o. arm_weight self.new o ≤ arm_size arm.now + weight_at self.old at) }
         ensures within { IfOk result (λ o. arm_depth o ≤ 200) }
     {
@@ -298,7 +298,7 @@ impl<'t> Unfolder<'t> {
     ) -> Result<OpenedArm<'t>, CheckFault>
         requires { depth ≤ 200 }
         ensures opens { Opens arm_left result self.new (put (meant.arms_behind (declarations_of heads)) (performing.arm_of line (guard_of guard.now) (unfolded (process_of body.now)) (meant_at self.old at) depth (counted self.old))) }
-        ensures kept { OnOk result (take (length self.old.frames.frames.items) self.new.frames.frames.items ≡ self.old.frames.frames.items) }
+        ensures kept { OnOk result (take (length self.old.blocks.blocks.items) self.new.blocks.blocks.items ≡ self.old.blocks.blocks.items) }
         ensures weight { IfOk result (λ o. arm_weight self.new o ≤ node_size (process_of body.now) + weight_at self.old at) }
         ensures within { IfOk result (λ o. arm_depth o ≤ 200) }
     {

@@ -8,15 +8,15 @@ ghost use Rattle.occ_term.specs.Terms.{input_arm, no_arms};
 ghost use Rattle.occ_term.specs.View.{arms_of, place_of, term_of, test_of as boolean_of};
 ghost use Rattle.occ_check_meaning.specs.Actions as meant;
 ghost use Rattle.occ_check_meaning.specs.Scope.{names_of};
-ghost use Rattle.occ_check_acting.specs.ActionView.{listed_of};
+ghost use Rattle.occ_check_acting.specs.Action.{listed_of};
 ghost use Rattle.occ_check.specs.Opened.{guarded_by};
 ghost use Rattle.occ_check.specs.Prefixes.{guarding, guarding_variants};
 ghost use Rattle.occ_check_meaning.specs.Numbers.{room};
 ghost use Rattle.occ_check_names.specs.View.{Counts, Unfolds, names_in, numbers_of};
 ghost use Rattle.occ_check.specs.Progress.{counted, meant_at};
 
-use crate::acting::names_at;
 use crate::arms::only_arm;
+use crate::one_line::names_at;
 use crate::unfolder::Unfolder;
 use occ_check_acting::action::{Listed, as_reception, received, test_of, with_tags};
 use occ_check_names::context::Context;
@@ -84,10 +84,10 @@ impl<'t> Unfolder<'t> {
         input: &Input,
     ) -> Result<Guarded, CheckFault>
         ensures guard { Unfolds (λ g. (boolean_of g.test, (place_of g.channel, listed_of g.listed))) result self.new.numbers (guarding (names_of (meant_at self.old at)) line depth (option_map tree_of test.now) (lines.input_of input.now) (counted self.old)) }
-        ensures kept { OnOk result (self.new.frames ≡ self.old.frames) }
+        ensures kept { OnOk result (self.new.blocks ≡ self.old.blocks) }
         ensures within { IfOk result (λ g. meant.depth_behind (listed_of g.listed) (depth + 1) ≤ 200) }
     {
-        let scope = names_at(&self.frames, at);
+        let scope = names_at(&self.blocks, at);
         guarding(
             &mut self.numbers,
             Context { alloc, scope, line },
@@ -107,10 +107,10 @@ impl<'t> Unfolder<'t> {
         guard: &VariantGuard,
     ) -> Result<(Option<TermExpr>, Protocol, Place), CheckFault>
         ensures guard { Unfolds (λ g. (boolean_of g.0, (g.1, place_of g.2))) result self.new.numbers (guarding_variants (names_of (meant_at self.old at)) line depth (option_map tree_of guard.now.condition) (lines.var_of guard.now.channel) (counted self.old)) }
-        ensures kept { OnOk result (self.new.frames ≡ self.old.frames) }
+        ensures kept { OnOk result (self.new.blocks ≡ self.old.blocks) }
         ensures within { IfOk result (λ _. depth < 200) }
     {
-        let scope = names_at(&self.frames, at);
+        let scope = names_at(&self.blocks, at);
         guarding_variants(
             &mut self.numbers,
             Context { alloc, scope, line },

@@ -1,13 +1,13 @@
 //! The unfolding of a tree: names, types, protocols, calls and replicators.
 #![tactic(auto)]
 
-mod acting;
 mod arms;
+mod blocks;
 mod choices;
 mod copies;
 mod entering;
-mod frames;
 mod guards;
+mod one_line;
 mod opened;
 mod opening;
 mod options;

@@ -18,7 +18,7 @@ ghost use Rattle.occ_check.specs.Opened.{IsReady, Opens, left_weight, statement_
 ghost use Rattle.occ_check.specs.Progress.{counted, meant_at, weight_at};
 ghost use Rattle.occ_check.specs.Weights.{decls_size, node_size, nodes_size};
 
-use crate::acting::names_at;
+use crate::one_line::names_at;
 use crate::opened::{Left, Opened};
 use crate::unfolder::Unfolder;
 use occ_check_acting::action::with_tags;
@@ -94,7 +94,7 @@ impl<'t> Unfolder<'t> {
         list: &'t [Variant],
     ) -> Result<Opened<'t>, CheckFault>
         ensures opens { Opens statement_left result self.new (performing.taken_by_variant line (lines.var_of channel.now) (λ p. all_variants (nodes (map trees.variant_of list.now)) p []) (meant_at self.old at) depth (counted self.old)) }
-        ensures kept { OnOk result (take (length self.old.frames.frames.items) self.new.frames.frames.items ≡ self.old.frames.frames.items) }
+        ensures kept { OnOk result (take (length self.old.blocks.blocks.items) self.new.blocks.blocks.items ≡ self.old.blocks.blocks.items) }
         ensures weight { IfOk result (λ o. left_weight self.new o ≤ nodes_size (nodes (map trees.variant_of list.now)) + weight_at self.old at) }
         ensures ready { IfOk result IsReady }
     {
@@ -118,12 +118,12 @@ impl<'t> Unfolder<'t> {
     ) -> Result<Items<TermVariant>, CheckFault>
         requires { depth ≤ 200 }
         ensures variants { Unfolds variants_of result self.new.numbers (all_variants (nodes (map trees.variant_of list.now)) protocol.now [] (meant_at self.old at) depth (counted self.old)) }
-        ensures kept { OnOk result (self.new.frames.frames.items ≡ self.old.frames.frames.items) }
+        ensures kept { OnOk result (self.new.blocks.blocks.items ≡ self.old.blocks.blocks.items) }
     {
         let mut tags = Tags::new(alloc, protocol)?;
         let mut variants = Items::new(alloc);
         for variant in list {
-            let base = self.frames.len();
+            let base = self.blocks.len();
             let tag = tags.next(line_of(variant), tag_of(variant))?;
             let opened = self.variant_opened(alloc, at, depth, protocol, tag, variant)?;
             let OpenedVariant {
@@ -133,7 +133,7 @@ impl<'t> Unfolder<'t> {
                 depth: deep,
             } = opened;
             let body = self.process(alloc, inside, deep, body)?;
-            self.frames.close(base);
+            self.blocks.close(base);
             variants.push(head.with_process(body))?;
         }
         Ok(variants)
@@ -151,7 +151,7 @@ impl<'t> Unfolder<'t> {
     ) -> Result<OpenedVariant<'t>, CheckFault>
         requires { depth ≤ 200 }
         ensures opens { Opens variant_left result self.new (variant_unfolded (trees.variant_of variant.now) protocol.now tag (meant_at self.old at) depth (counted self.old)) }
-        ensures kept { OnOk result (take (length self.old.frames.frames.items) self.new.frames.frames.items ≡ self.old.frames.frames.items) }
+        ensures kept { OnOk result (take (length self.old.blocks.blocks.items) self.new.blocks.blocks.items ≡ self.old.blocks.blocks.items) }
         ensures weight { IfOk result (λ o. node_size (process_of o.body.now) + weight_at self.new o.at < node_size (trees.variant_of variant.now) + weight_at self.old at) }
         ensures within { IfOk result (λ o. o.depth ≤ 200) }
     {
@@ -186,7 +186,7 @@ impl<'t> Unfolder<'t> {
         body: &'t Process,
     ) -> Result<OpenedVariant<'t>, CheckFault>
         ensures opens { Opens variant_left result self.new (performing.variant_of line (map lines.target_of targets.now) (all_declared (decls (map decl_of declarations.now))) (unfolded (process_of body.now)) protocol.now tag (meant_at self.old at) depth (counted self.old)) }
-        ensures kept { OnOk result (take (length self.old.frames.frames.items) self.new.frames.frames.items ≡ self.old.frames.frames.items) }
+        ensures kept { OnOk result (take (length self.old.blocks.blocks.items) self.new.blocks.blocks.items ≡ self.old.blocks.blocks.items) }
         ensures weight { IfOk result (λ o. node_size (process_of o.body.now) + weight_at self.new o.at ≤ (decls_size (decls (map decl_of declarations.now)) + node_size (process_of body.now)) + weight_at self.old at) }
         ensures within { IfOk result (λ o. o.depth ≤ 200) }
     {
@@ -216,10 +216,10 @@ impl<'t> Unfolder<'t> {
         channel: &Var,
     ) -> Result<(Protocol, Place), CheckFault>
         ensures taken { Unfolds (λ c. (c.0, place_of c.1)) result self.new.numbers (variants_taken (names_of (meant_at self.old at)) line depth (lines.var_of channel.now) (counted self.old)) }
-        ensures kept { OnOk result (self.new.frames ≡ self.old.frames) }
+        ensures kept { OnOk result (self.new.blocks ≡ self.old.blocks) }
         ensures within { IfOk result (λ _. depth < 200) }
     {
-        let scope = names_at(&self.frames, at);
+        let scope = names_at(&self.blocks, at);
         variants_taken(
             &mut self.numbers,
             Context { alloc, scope, line },
@@ -240,9 +240,9 @@ impl<'t> Unfolder<'t> {
         targets: &[TargetTree],
     ) -> Result<Items<Target>, CheckFault>
         ensures targets { Unfolds targets_of result self.new.numbers (storing (names_of (meant_at self.old at)) line depth protocol.now tag (map lines.target_of targets.now) (counted self.old)) }
-        ensures kept { OnOk result (self.new.frames ≡ self.old.frames) }
+        ensures kept { OnOk result (self.new.blocks ≡ self.old.blocks) }
     {
-        let scope = names_at(&self.frames, at);
+        let scope = names_at(&self.blocks, at);
         storing(
             &mut self.numbers,
             Context { alloc, scope, line },

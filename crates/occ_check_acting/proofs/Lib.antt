@@ -1,6 +1,6 @@
-pub mod Evaluating
+pub mod Given
 pub mod Choosing
-pub mod Binding
-pub mod Storing
+pub mod Call
+pub mod Target
 pub mod Receiving
 pub mod Assigning

@@ -7,7 +7,7 @@ ghost use Rattle.occ_check_meaning.specs.Calls as meant;
 ghost use Rattle.occ_check_meaning.specs.Constants.{constant};
 ghost use Rattle.occ_check_names.specs.View.{evaluated_of, numbers_of, row_of};
 ghost use Rattle.occ_check_names.specs.declared.numbers.Numbers.{Numbers};
-ghost use Rattle.occ_check_acting.specs.CallView.{Evaluates, one_constant, part_under};
+ghost use Rattle.occ_check_acting.specs.Call.{Evaluates, one_constant, part_under};
 
 use occ_check_names::constant::{constant_of, is_below};
 use occ_check_names::fault::CheckFault;

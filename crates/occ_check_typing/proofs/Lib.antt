@@ -1,13 +1,13 @@
 pub mod Refusals
 pub mod Leaving
-pub mod Chains
+pub mod Expression
 pub mod EachOf
 pub mod Refusing
-pub mod Declaring
+pub mod Declaration
 pub mod Twice
-pub mod SizeLists
+pub mod Types
 pub mod Zipping
 pub mod Tagging
 pub mod AnyPair
-pub mod Meeting
+pub mod Overlap
 pub mod Components

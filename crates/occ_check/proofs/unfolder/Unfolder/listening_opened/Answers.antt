@@ -22,10 +22,10 @@ use Rattle.occ_check.specs.Prefixes.{guarding_variants}
 use Rattle.occ_check.specs.Progress.{counted, meant_at, weight_at}
 use Rattle.occ_check.specs.Weights.{arm_size, node_size, nodes_size}
 use Rattle.occ_check.specs.Statements.{listening}
-use Rattle.occ_check.proofs.Alternatives.{single_arm, variants_not_guarded, variants_open}
-use Rattle.occ_check.proofs.Conditionals.{single_size}
+use Rattle.occ_check.proofs.Arms.{single_arm, variants_not_guarded, variants_open}
+use Rattle.occ_check.proofs.Choices.{single_size}
 use Rattle.occ_check.proofs.Nesting.{nested_there}
-use Rattle.occ_check.proofs.Putting.{each_part, put_put}
+use Rattle.occ_check.proofs.Opened.{each_part, put_put}
 use Rattle.occ_check.proofs.unfolder.Unfolder.listening_opened.Goals as goal
 
 pub returns-in_err-test-in-OnVariant-clause-opens : goal.returns-in_err-test-in-OnVariant-clause-opens
@@ -58,7 +58,7 @@ returns-in_ok-test-in-OnVariant-clause-opens c =
     ∙ c.in_ok-test-in-OnVariant.ensures.guard))
     ∙ put_put behind (λ vs. T.input_arm test place (T.Tagged vs) T.no_arms) (all_variants rows p [] sc deep m)
     ∙ ap (λ ns. put (λ vs. behind (T.input_arm test place (T.Tagged vs) T.no_arms)) (all_variants ns p [] sc deep m)) (sym c.listed_variants-variants.ensures)
-    ∙ ap (λ f. put (λ vs. behind (T.input_arm test place (T.Tagged vs) T.no_arms)) (all_variants (nodes (map variant_of c.listed_variants-variants.result.now)) p [] (meant (scope_in (reverse f.frames.items) c.args.at)) deep m))
+    ∙ ap (λ f. put (λ vs. behind (T.input_arm test place (T.Tagged vs) T.no_arms)) (all_variants (nodes (map variant_of c.listed_variants-variants.result.now)) p [] (meant (scope_in (reverse f.blocks.items) c.args.at)) deep m))
     (sym c.in_ok-test-in-OnVariant.ensures.kept)
 
 pub returns-in_ok-deep-in-InnerAlt-clause-opens : goal.returns-in_ok-deep-in-InnerAlt-clause-opens
