@@ -158,16 +158,16 @@ module _ (line : ℕ) (test : Option Expression) (i : L.Input) (body : Under T.T
       then_by e c (Some m) = refl
 
       with_channel : (e : Option T.Expression) (o : Option (T.Place × Listed))
-          → (o >>= λ c. room depth (Sizes.node (Sizes.beside (size_of_test e) (Sizes.beside (size_of_place c.0) (size_of_list c.1)))) n >>= λ m.
+          → (o >>= λ c. room depth (Sizes.with_node (Sizes.together (size_of_test e) (Sizes.together (size_of_place c.0) (size_of_list c.1)))) n >>= λ m.
           body sc (depth_behind c.1 (depth + 1)) m >>= λ x. Some (input_arm e c.0 (as_reception c.1 x.0) no_arms, x.1))
-          ≡ ((o >>= λ c. room depth (Sizes.node (Sizes.beside (size_of_test e) (Sizes.beside (size_of_place c.0) (size_of_list c.1)))) n >>= λ m. Some ((e, c), m)) >>= then_input)
+          ≡ ((o >>= λ c. room depth (Sizes.with_node (Sizes.together (size_of_test e) (Sizes.together (size_of_place c.0) (size_of_list c.1)))) n >>= λ m. Some ((e, c), m)) >>= then_input)
       with_channel e None = refl
-      with_channel e (Some c) = then_by e c (room depth (Sizes.node (Sizes.beside (size_of_test e) (Sizes.beside (size_of_place c.0) (size_of_list c.1)))) n)
+      with_channel e (Some c) = then_by e c (room depth (Sizes.with_node (Sizes.together (size_of_test e) (Sizes.together (size_of_place c.0) (size_of_list c.1)))) n)
 
       by : (o : Option (Option T.Expression))
-          → (o >>= λ e. received (names_of sc) line i >>= λ c. room depth (Sizes.node (Sizes.beside (size_of_test e) (Sizes.beside (size_of_place c.0) (size_of_list c.1)))) n >>= λ m.
+          → (o >>= λ e. received (names_of sc) line i >>= λ c. room depth (Sizes.with_node (Sizes.together (size_of_test e) (Sizes.together (size_of_place c.0) (size_of_list c.1)))) n >>= λ m.
           body sc (depth_behind c.1 (depth + 1)) m >>= λ x. Some (input_arm e c.0 (as_reception c.1 x.0) no_arms, x.1))
-          ≡ ((o >>= λ e. received (names_of sc) line i >>= λ c. room depth (Sizes.node (Sizes.beside (size_of_test e) (Sizes.beside (size_of_place c.0) (size_of_list c.1)))) n >>= λ m. Some ((e, c), m)) >>= then_input)
+          ≡ ((o >>= λ e. received (names_of sc) line i >>= λ c. room depth (Sizes.with_node (Sizes.together (size_of_test e) (Sizes.together (size_of_place c.0) (size_of_list c.1)))) n >>= λ m. Some ((e, c), m)) >>= then_input)
       by None = refl
       by (Some e) = with_channel e (received (names_of sc) line i)
 
@@ -196,22 +196,22 @@ module _ (line : ℕ) (test : Option Expression) (v : L.Var) (variants : Protoco
       then_by e p c (Some m) = refl
 
       with_protocol : (e : Option T.Expression) (c : T.Place) (o : Option Protocol)
-          → (o >>= λ p. room depth (Sizes.node (Sizes.beside (size_of_test e) (size_of_place c))) n >>= λ m. variants p sc (depth + 1) m >>= λ x. Some (input_arm e c (T.Tagged x.0) no_arms, x.1))
-          ≡ ((o >>= λ p. room depth (Sizes.node (Sizes.beside (size_of_test e) (size_of_place c))) n >>= λ m. Some ((e, (p, c)), m)) >>= then_variants)
+          → (o >>= λ p. room depth (Sizes.with_node (Sizes.together (size_of_test e) (size_of_place c))) n >>= λ m. variants p sc (depth + 1) m >>= λ x. Some (input_arm e c (T.Tagged x.0) no_arms, x.1))
+          ≡ ((o >>= λ p. room depth (Sizes.with_node (Sizes.together (size_of_test e) (size_of_place c))) n >>= λ m. Some ((e, (p, c)), m)) >>= then_variants)
       with_protocol e c None = refl
-      with_protocol e c (Some p) = then_by e p c (room depth (Sizes.node (Sizes.beside (size_of_test e) (size_of_place c))) n)
+      with_protocol e c (Some p) = then_by e p c (room depth (Sizes.with_node (Sizes.together (size_of_test e) (size_of_place c))) n)
 
       with_channel : (e : Option T.Expression) (o : Option (Protocol × T.Place))
-          → (o >>= λ c. with_tags c.0 >>= λ p. room depth (Sizes.node (Sizes.beside (size_of_test e) (size_of_place c.1))) n >>= λ m.
+          → (o >>= λ c. with_tags c.0 >>= λ p. room depth (Sizes.with_node (Sizes.together (size_of_test e) (size_of_place c.1))) n >>= λ m.
           variants p sc (depth + 1) m >>= λ x. Some (input_arm e c.1 (T.Tagged x.0) no_arms, x.1))
-          ≡ ((o >>= λ c. with_tags c.0 >>= λ p. room depth (Sizes.node (Sizes.beside (size_of_test e) (size_of_place c.1))) n >>= λ m. Some ((e, (p, c.1)), m)) >>= then_variants)
+          ≡ ((o >>= λ c. with_tags c.0 >>= λ p. room depth (Sizes.with_node (Sizes.together (size_of_test e) (size_of_place c.1))) n >>= λ m. Some ((e, (p, c.1)), m)) >>= then_variants)
       with_channel e None = refl
       with_channel e (Some c) = with_protocol e c.1 (with_tags c.0)
 
       by : (o : Option (Option T.Expression))
-          → (o >>= λ e. channel_of (names_of sc) line v >>= λ c. with_tags c.0 >>= λ p. room depth (Sizes.node (Sizes.beside (size_of_test e) (size_of_place c.1))) n >>= λ m.
+          → (o >>= λ e. channel_of (names_of sc) line v >>= λ c. with_tags c.0 >>= λ p. room depth (Sizes.with_node (Sizes.together (size_of_test e) (size_of_place c.1))) n >>= λ m.
           variants p sc (depth + 1) m >>= λ x. Some (input_arm e c.1 (T.Tagged x.0) no_arms, x.1))
-          ≡ ((o >>= λ e. channel_of (names_of sc) line v >>= λ c. with_tags c.0 >>= λ p. room depth (Sizes.node (Sizes.beside (size_of_test e) (size_of_place c.1))) n >>= λ m. Some ((e, (p, c.1)), m)) >>= then_variants)
+          ≡ ((o >>= λ e. channel_of (names_of sc) line v >>= λ c. with_tags c.0 >>= λ p. room depth (Sizes.with_node (Sizes.together (size_of_test e) (size_of_place c.1))) n >>= λ m. Some ((e, (p, c.1)), m)) >>= then_variants)
       by None = refl
       by (Some e) = with_channel e (channel_of (names_of sc) line v)
 
@@ -238,10 +238,10 @@ module _ (line : ℕ) (test : Expression) (body : Under T.Term) (sc : Scope Call
       then_by e None = refl
       then_by e (Some m) = refl
 
-      by : (o : Option T.Expression) → (o >>= λ e. room depth (Sizes.node (size_of_expression e)) n >>= λ m. body sc (depth + 1) m >>= λ x. Some (skip_arm e x.0 no_arms, x.1))
-          ≡ ((o >>= λ e. room depth (Sizes.node (size_of_expression e)) n >>= λ m. Some (e, m)) >>= then_skip)
+      by : (o : Option T.Expression) → (o >>= λ e. room depth (Sizes.with_node (size_of_expression e)) n >>= λ m. body sc (depth + 1) m >>= λ x. Some (skip_arm e x.0 no_arms, x.1))
+          ≡ ((o >>= λ e. room depth (Sizes.with_node (size_of_expression e)) n >>= λ m. Some (e, m)) >>= then_skip)
       by None = refl
-      by (Some e) = then_by e (room depth (Sizes.node (size_of_expression e)) n)
+      by (Some e) = then_by e (room depth (Sizes.with_node (size_of_expression e)) n)
 
   pub skip_not_tested : tested (names_of sc) line depth test n ≡ None → P.arm_of line (on_skip test) body sc depth n ≡ None
   skip_not_tested none = by_test ∙ ap (λ o. o >>= then_skip) none

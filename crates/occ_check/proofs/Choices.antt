@@ -149,10 +149,10 @@ module _ (line : ℕ) (e : Expression) (body : Under T.Term) (sc : Scope Calling
       then_by test None = refl
       then_by test (Some m) = refl
 
-      by : (o : Option T.Expression) → (o >>= λ test. room depth (Sizes.node (size_of_expression test)) n >>= λ m. body sc (depth + 1) m >>= λ x. Some (or_choice test x.0 no_choices, x.1))
-          ≡ ((o >>= λ test. room depth (Sizes.node (size_of_expression test)) n >>= λ m. pairing test m) >>= then_body)
+      by : (o : Option T.Expression) → (o >>= λ test. room depth (Sizes.with_node (size_of_expression test)) n >>= λ m. body sc (depth + 1) m >>= λ x. Some (or_choice test x.0 no_choices, x.1))
+          ≡ ((o >>= λ test. room depth (Sizes.with_node (size_of_expression test)) n >>= λ m. pairing test m) >>= then_body)
       by None = refl
-      by (Some test) = then_by test (room depth (Sizes.node (size_of_expression test)) n)
+      by (Some test) = then_by test (room depth (Sizes.with_node (size_of_expression test)) n)
 
   pub when_not_tested : tested (names_of sc) line depth e n ≡ None → P.choice_of line e body sc depth n ≡ None
   when_not_tested none = by_test ∙ ap (λ o. o >>= then_body) none

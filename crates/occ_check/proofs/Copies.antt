@@ -5,7 +5,7 @@ use Rattle.occ_tree_grammar.specs.Many.{◌>>=◌}
 use Rattle.occ_tree_grammar.specs.Lines.Trees as L
 use Rattle.occ_tree_grammar.specs.Processes.Trees.{Node, process}
 use Rattle.occ_term.specs.declared.primitive.Primitive.TheVariants.{Int}
-use Rattle.occ_term.specs.Sizes.{no_size, node}
+use Rattle.occ_term.specs.Sizes.{no_size, with_node}
 use Rattle.occ_term.specs.Terms.{Term, Branches, Par, no_branches, and_branch}
 use Rattle.occ_term.specs.View.{branches}
 use Rattle.occ_check_meaning.specs.Declarations.{copies_of, index_name, index_of}
@@ -143,10 +143,10 @@ module _ (line : ℕ) (r : L.Replicator) (p : Node process) (sc : Scope Calling)
       then_by c None = refl
       then_by c (Some m) = refl
 
-      by : (o : Option (ℤ × ℕ)) → (o >>= λ c. room depth (node no_size) n >>= λ m. copies_from (c, m) >>= put_beside)
-          ≡ ((o >>= λ c. room depth (node no_size) n >>= counted_as c) >>= λ d. copies_from d >>= put_beside)
+      by : (o : Option (ℤ × ℕ)) → (o >>= λ c. room depth (with_node no_size) n >>= λ m. copies_from (c, m) >>= put_beside)
+          ≡ ((o >>= λ c. room depth (with_node no_size) n >>= counted_as c) >>= λ d. copies_from d >>= put_beside)
       by None = refl
-      by (Some c) = then_by c (room depth (node no_size) n)
+      by (Some c) = then_by c (room depth (with_node no_size) n)
 
   pub counting_refused : (e : CheckFault) → Refuses e (copies_counted (names_of sc) line depth r n) → Refuses e (copies_beside line r (unfolded p) sc depth n)
   counting_refused e = refused_with e (copies_counted (names_of sc) line depth r n) (copies_beside line r (unfolded p) sc depth n) (λ h. counted_first ∙ none_then (λ c. copies_from c >>= put_beside) h)

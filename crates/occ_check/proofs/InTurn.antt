@@ -7,7 +7,7 @@ use Rattle.occ_tree_grammar.specs.declared.tree.process.Process.{Process}
 use Rattle.occ_tree_grammar.specs.declared.tree.process.Stmt.{Stmt, Row_of-Process, end_of-Process, more_of-Process, items-the_row-Process, items_hidden-the_row-Process-4}
 use Rattle.occ_tree_grammar.specs.declared.tree.process.Stmt.TheVariants as stmts
 use Rattle.occ_tree_grammar.specs.declared.tree.process.Arm.TheBlock.{hidden-the_row-Process-4}
-use Rattle.occ_term.specs.Sizes.{node, no_size}
+use Rattle.occ_term.specs.Sizes.{with_node, no_size}
 use Rattle.occ_term.specs.Terms.{Term, Terms, no_terms, then_term, Seq}
 use Rattle.occ_term.specs.View.{terms}
 use Rattle.occ_check_meaning.specs.Numbers.{Numbers, room}

@@ -16,7 +16,7 @@ use Rattle.occ_check_meaning.specs.Scope.{Names, Scope, within}
 abbrev pub copies_counted : Names → ℕ → ℕ → L.Replicator → Numbers → Option ((ℤ × ℕ) × Numbers)
 copies_counted ns line depth r n = do
   c ← copies_of ns line r
-  m ← room depth (Sizes.node Sizes.no_size) n
+  m ← room depth (Sizes.with_node Sizes.no_size) n
   Some (c, m)
 
 -- what the copy for a value of the index unfolds to

@@ -3,7 +3,7 @@
 ghost use Rattle.std.specs.Prelude.{◌≡◌, ◌<◌, ◌≤◌, ◌+◌, IfOk, OnOk, option_map};
 ghost use Rattle.occ_tree_grammar.specs.Expressions.Trees.{expression_of as tree_of};
 ghost use Rattle.occ_tree_grammar.specs.Lines.Views as lines;
-ghost use Rattle.occ_term.specs.Sizes.{beside, node, size_of_place, size_of_test};
+ghost use Rattle.occ_term.specs.Sizes.{together, with_node, size_of_place, size_of_test};
 ghost use Rattle.occ_term.specs.Terms.{input_arm, no_arms};
 ghost use Rattle.occ_term.specs.View.{arms_of, place_of, term_of, test_of as boolean_of};
 ghost use Rattle.occ_check_meaning.specs.Actions as meant;
@@ -165,7 +165,7 @@ fn count_guard(
     channel: &Place,
     listed: &Listed,
 ) -> Result<(), CheckFault>
-    ensures counts { Counts result numbers.new (room depth (node (beside (size_of_test (boolean_of test.now)) (beside (size_of_place (place_of channel.now)) (meant.size_of_list (listed_of listed.now))))) (numbers_of numbers.old)) }
+    ensures counts { Counts result numbers.new (room depth (with_node (together (size_of_test (boolean_of test.now)) (together (size_of_place (place_of channel.now)) (meant.size_of_list (listed_of listed.now))))) (numbers_of numbers.old)) }
     ensures within { IfOk result (λ _. meant.depth_behind (listed_of listed.now) (depth + 1) ≤ 200) }
 {
     numbers.node(depth)?;
@@ -226,7 +226,7 @@ fn count_guarded_channel(
     test: &Option<TermExpr>,
     channel: &Place,
 ) -> Result<(), CheckFault>
-    ensures counts { Counts result numbers.new (room depth (node (beside (size_of_test (boolean_of test.now)) (size_of_place (place_of channel.now)))) (numbers_of numbers.old)) }
+    ensures counts { Counts result numbers.new (room depth (with_node (together (size_of_test (boolean_of test.now)) (size_of_place (place_of channel.now)))) (numbers_of numbers.old)) }
     ensures within { IfOk result (λ _. depth < 200) }
 {
     numbers.node(depth)?;

@@ -14,7 +14,7 @@ use Rattle.occ_term.specs.Messages.{parts_after}
 use Rattle.occ_term.specs.Typing.{is_number}
 use Rattle.occ_term.specs.Terms as T
 use Rattle.occ_term.specs.Terms.{Constant, Place, Target, Declaration, Clearing, Naming, Term, Skip, Assign, Input, Output, VariantInput, Seq, Clear, Local, Terms, no_terms, then_term, Arms, no_arms, skip_arm, input_arm, declared_arms, each_arm, Reception, Plain, Tagged, Variants, no_variants, or_variant, Choices, no_choices, or_choice, declared_choices, each_choice, Options, no_options, or_option, or_else}
-use Rattle.occ_term.specs.Sizes.{Size, no_size, node, size_of, size_of_targets}
+use Rattle.occ_term.specs.Sizes.{Size, no_size, with_node, size_of, size_of_targets}
 use Rattle.occ_check_meaning.specs.Scope.{keep, each_of, Name, Names}
 use Rattle.occ_check_meaning.specs.Numbers.{Numbers, room}
 use Rattle.occ_check_meaning.specs.Expressions.{as_single, typed, typed_as}
@@ -38,7 +38,7 @@ headed (h ∷ hs) t = Seq (followed (h ∷ hs) t)
 -- the depth behind that SEQ, which is a node
 abbrev pub opening : List Declaration → ℕ → Numbers → Option (ℕ × Numbers)
 opening [] depth n = Some (depth, n)
-opening (h ∷ hs) depth n = room depth (node no_size) n >>= λ m. Some (depth + 1, m)
+opening (h ∷ hs) depth n = room depth (with_node no_size) n >>= λ m. Some (depth + 1, m)
 
 -- a term of one line takes its nodes
 abbrev pub taken : ℕ → Numbers → Term → Option (Term × Numbers)
@@ -92,7 +92,7 @@ as_input (c, tagged_list k targets) = VariantInput c (or_variant k [] targets Sk
 -- its nodes without the process that follows, and the depth of that process
 abbrev pub size_of_list : Listed → Size
 size_of_list (plain_list targets) = size_of_targets targets
-size_of_list (tagged_list k targets) = node (size_of_targets targets)
+size_of_list (tagged_list k targets) = with_node (size_of_targets targets)
 
 abbrev pub depth_behind : Listed → ℕ → ℕ
 depth_behind (plain_list targets) depth = depth

@@ -2,7 +2,7 @@
 -- Manual: nothing; this is (own).
 use Rattle.std.specs.Prelude.{All, List, [], length, reverse, ℕ, ⊤, ◌*◌, ◌+◌, ◌++◌, ◌<◌, ◌≤◌, ◌∷◌, ◌≡◌}
 use Rattle.occ_term.specs.Terms.{Term}
-use Rattle.occ_term.specs.Unfolding.{Unfolding, IsWellFormed, Lawful, declared, meaning}
+use Rattle.occ_term.specs.UnfoldedProgram.{UnfoldedProgram, IsWellFormed, Lawful, declared, meaning}
 use Rattle.occ_term.specs.Processes.{Numbered, processes_of}
 use Rattle.occ_term.specs.Uses.{uses_of}
 use Rattle.occ_term.specs.TermTyping.{Declared}
@@ -53,24 +53,24 @@ AreBodiesOf (p ∷ ps) quantum [] = ⊥
 AreBodiesOf (p ∷ ps) quantum (b ∷ bs) = IsBodyOf p.term quantum b × AreBodiesOf ps quantum bs
 
 -- compiled from this source, for turns that take so many stops of loops at most, within the limit of instructions
-pub record IsCompiledFrom (u : Unfolding) (quantum : ℕ) (p : Program) : Type 0 where
+pub record IsCompiledFrom (u : UnfoldedProgram) (quantum : ℕ) (p : Program) : Type 0 where
   pub channels : p.channels ≡ u.channels
   pub bodies : AllDo (declared u) 0 p.bodies (processes_of (meaning u))
   pub quanta : All (λ b. b.quantum ≡ quantum) p.bodies
   pub small : instructions_in p.bodies ≤ most_instructions
 
 -- the code of this source: it does what the source does, and each body is what the code of its term is
-pub record IsCodeOf (u : Unfolding) (quantum : ℕ) (p : Program) : Type 0 where
+pub record IsCodeOf (u : UnfoldedProgram) (quantum : ℕ) (p : Program) : Type 0 where
   pub does : IsCompiledFrom u quantum p
   pub emitted : AreBodiesOf (processes_of (meaning u)) quantum p.bodies
 
 -- what means the same on the same channels has one code for each quantum and mode of errors
 abbrev pub OneCode : Type 0
-OneCode = (u v : Unfolding) (quantum : ℕ) (p q : Program) → meaning u ≡ meaning v → u.channels ≡ v.channels → p.errors ≡ q.errors → IsCodeOf u quantum p → IsCodeOf v quantum q → p ≡ q
+OneCode = (u v : UnfoldedProgram) (quantum : ℕ) (p q : Program) → meaning u ≡ meaning v → u.channels ≡ v.channels → p.errors ≡ q.errors → IsCodeOf u quantum p → IsCodeOf v quantum q → p ≡ q
 
 -- compiled from some source that is well-formed and keeps the usage rules
 pub record IsCompiled (p : Program) : Type 0 where
-  pub source : Unfolding
+  pub source : UnfoldedProgram
   pub well_formed : IsWellFormed source
   pub lawful : Lawful source
   pub quantum : ℕ
@@ -82,7 +82,7 @@ IsQuantum quantum = (0 < quantum) × (quantum ≤ 65536)
 
 -- A quantum that is none is refused before all else. Want of memory says nothing more. The other says that 32 instructions for
 -- each node are more than a program may have.
-abbrev pub CodeRefuses : CodeFault → ℕ → Unfolding → Type 0
+abbrev pub CodeRefuses : CodeFault → ℕ → UnfoldedProgram → Type 0
 CodeRefuses TooLarge quantum u = IsQuantum quantum × (most_instructions < 32 * (size_of (meaning u)).nodes)
 CodeRefuses BadQuantum quantum u = IsQuantum quantum → ⊥
 CodeRefuses Memory quantum u = IsQuantum quantum

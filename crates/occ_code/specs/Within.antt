@@ -3,7 +3,7 @@
 use Rattle.std.specs.Prelude.{IsTrue, List, Some, [], ℕ, ⊤, ◌<◌, ◌∷◌, ◌≡◌}
 use Rattle.occ_term.specs.Terms.{Term}
 use Rattle.occ_term.specs.Uses.{Numbers, uses_of}
-use Rattle.occ_term.specs.Unfolding.{most_cells}
+use Rattle.occ_term.specs.UnfoldedProgram.{most_cells}
 use Rattle.occ_term.specs.TermTyping.{Declared}
 use Rattle.occ_term.specs.declared.primitive.Primitive.{Primitive}
 use Rattle.occ_term.specs.declared.protocol.Protocol.{Protocol}

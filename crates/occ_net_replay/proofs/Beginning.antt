@@ -19,7 +19,7 @@ use Rattle.occ_term.specs.System.{Process, process, Processes, no_processes, Sys
 use Rattle.occ_term.specs.System as S
 use Rattle.occ_term.specs.TermTyping.{Declared, TermHas}
 use Rattle.occ_term.specs.Terms.{Term}
-use Rattle.occ_term.specs.Unfolding.{NumberedFrom}
+use Rattle.occ_term.specs.UnfoldedProgram.{NumberedFrom}
 use Rattle.occ_term.specs.Uses.{Numbers, empty_set, no_use, uses_of, LawfulTerm}
 use Rattle.occ_term.specs.Values.{Store, is_of_declared}
 use Rattle.occ_term.proofs.Going.{going}

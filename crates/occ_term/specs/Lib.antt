@@ -17,7 +17,7 @@ pub mod TypedSteps
 pub mod StepUses
 pub mod ReadUses
 pub mod View
-pub mod Unfolding
+pub mod UnfoldedProgram
 pub mod ConstantValues
 pub mod Sizes
 pub mod Processes

@@ -9,7 +9,7 @@ pub mod examples;
 pub mod expression;
 pub mod fault;
 pub mod frame;
-pub mod held;
+pub mod frame_cells;
 pub mod laws;
 pub mod message;
 pub mod names;
@@ -29,7 +29,7 @@ pub use expression::{
 };
 pub use fault::{Errors, Fault, FaultKind};
 pub use frame::Frame;
-pub use held::Held;
+pub use frame_cells::FrameCells;
 pub use message::{Message, Part};
 pub use names::{Cell, Channel, Name};
 pub use parts::Parts;

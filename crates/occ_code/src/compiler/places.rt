@@ -5,7 +5,7 @@ ghost use Rattle.occ_code.specs.Machine.{placed};
 ghost use Rattle.occ_code.specs.View.{instruction_of};
 
 use crate::compiler::instr::Instr;
-use occ_term::Held;
+use occ_term::FrameCells;
 use std::alloc::{AllocError, Global};
 
 /// Each instruction that names one cell names its place among these from now on.
@@ -17,14 +17,14 @@ pub(crate) fn name_places(
     requires { length cells.now ≤ 65536 }
     ensures { OnOk result (map instruction_of code.new.items ≡ map (placed cells.now) (map instruction_of code.old.items)) }
 {
-    let held = Held::new(alloc, cells)?;
+    let held = FrameCells::new(alloc, cells)?;
     for instr in code.iter_mut() {
         name_place(&held, instr);
     }
     Ok(())
 }
 
-fn name_place(held: &Held, instr: &mut Instr)
+fn name_place(held: &FrameCells, instr: &mut Instr)
     requires { length held.now ≤ 65536 }
     ensures { instruction_of instr.new ≡ placed held.now (instruction_of instr.old) }
 {
@@ -39,7 +39,7 @@ fn name_place(held: &Held, instr: &mut Instr)
     }
 }
 
-fn place_of(held: &Held, cell: u32) -> u32
+fn place_of(held: &FrameCells, cell: u32) -> u32
     requires { length held.now ≤ 65536 }
     ensures { result ≡ place_among held.now cell }
 {

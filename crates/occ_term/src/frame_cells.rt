@@ -10,12 +10,12 @@ use std::marker::Model;
 /// The place of a cell is found at once where no number is missing before it, and else by halving,
 /// if the numbers are rising.
 #[derive(Drop)]
-pub struct Held {
+pub struct FrameCells {
     cells: Vec<u32>,
     rising: bool,
 }
 
-impl Model for Held {
+impl Model for FrameCells {
     ghost use Rattle.std.specs.Prelude.{List, ℕ, IsTrue};
     ghost use Rattle.occ_term.specs.Frames.{Ascends};
 
@@ -26,29 +26,29 @@ impl Model for Held {
     ghost invariant = { λ h. IsTrue h.rising → Ascends h.cells.items };
 }
 
-impl Held {
+impl FrameCells {
     /// These cells. The error is a refused growth.
-    pub fn new(alloc: Global, cells: &[u32]) -> Result<Held, AllocError>
+    pub fn new(alloc: Global, cells: &[u32]) -> Result<FrameCells, AllocError>
         ensures { IfOk result (λ h. h ≡ cells.now) }
     {
         let rising = is_rising(cells);
         let cells = Vec::from_slice(alloc, cells)?;
-        Ok(Held { cells, rising })
+        Ok(FrameCells { cells, rising })
     }
 
     /// A copy. The error is a refused growth.
-    pub(crate) fn copy(&self, alloc: Global) -> Result<Held, AllocError>
+    pub(crate) fn copy(&self, alloc: Global) -> Result<FrameCells, AllocError>
         ensures { IfOk result (λ h. h ≡ self.now) }
     {
         let cells = Vec::from_slice(alloc, &self.cells)?;
-        Ok(Held {
+        Ok(FrameCells {
             cells,
             rising: self.rising,
         })
     }
 
     /// Whether both are the same cells.
-    pub(crate) fn is_same(&self, other: &Held) -> bool
+    pub(crate) fn is_same(&self, other: &FrameCells) -> bool
         ensures { IsTrue result ↔ (self.now ≡ other.now) }
     {
         let cells: &[u32] = &self.cells;

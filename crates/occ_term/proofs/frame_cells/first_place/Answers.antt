@@ -1,6 +1,6 @@
 use Rattle.std.proofs.Common.{sym, ◌≡◌, get_or, arith, rules}
 use Rattle.occ_term.proofs.FrameWrites.{place_first, place_none}
-use Rattle.occ_term.proofs.held.first_place.Goals as goal
+use Rattle.occ_term.proofs.frame_cells.first_place.Goals as goal
 
 pub returns-then-from-cell : goal.returns-then-from-cell
 returns-then-from-cell c =

@@ -11,16 +11,16 @@ use Rattle.occ_term.specs.declared.term.Term.{Term}
 use Rattle.occ_term.specs.declared.names.Cell.{Cell}
 use Rattle.occ_term.specs.declared.names.Channel.{Channel}
 
-pub record Unfolding : Type 0 where
+pub record UnfoldedProgram : Type 0 where
   pub term : Term
   pub cells : List Cell
   pub channels : List Channel
 
 -- the term as the definitions have it
-abbrev pub meaning : Unfolding → T.Term
+abbrev pub meaning : UnfoldedProgram → T.Term
 meaning u = term_of u.term
 
-abbrev pub declared : Unfolding → Declared
+abbrev pub declared : UnfoldedProgram → Declared
 declared u = record { types = λ c. slice_get (map (λ x. x.primitive) u.cells) c; protocols = λ c. slice_get (map (λ x. x.protocol) u.channels) c }
 
 -- a channel of bytes
@@ -45,7 +45,7 @@ most_channels = 4096
 
 -- Every expression, target and item has the type of its place; the first three channels are there, and no more cells and
 -- channels than there may be; processes have their numbers in the order in which they begin in the term.
-pub record IsWellFormed (u : Unfolding) : Type 0 where
+pub record IsWellFormed (u : UnfoldedProgram) : Type 0 where
   pub others : List Channel
   pub begins : u.channels ≡ first_channels ++ others
   pub few_cells : length u.cells ≤ most_cells
@@ -54,5 +54,5 @@ pub record IsWellFormed (u : Unfolding) : Type 0 where
   pub numbers : NumberedFrom 0 (processes_of (meaning u))
 
 -- the usage rules hold of its term
-abbrev pub Lawful : Unfolding → Type 0
+abbrev pub Lawful : UnfoldedProgram → Type 0
 Lawful u = Uses.Lawful (meaning u)

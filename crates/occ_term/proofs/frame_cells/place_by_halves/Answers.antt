@@ -1,6 +1,6 @@
 use Rattle.std.proofs.Common.{◌≡◌, ◌+◌, ◌-◌, ◌/◌, ◌<◌, ℕ, sym, slice_index, length, arith, rules}
 use Rattle.occ_term.proofs.FrameWrites.{none_between, place_first, place_none}
-use Rattle.occ_term.proofs.held.place_by_halves.Goals as goal
+use Rattle.occ_term.proofs.frame_cells.place_by_halves.Goals as goal
 
 pub returns-then-held-cell : goal.returns-then-held-cell
 returns-then-held-cell c =

@@ -1,6 +1,6 @@
 use Rattle.std.proofs.Common.{◌≡◌, ◌-◌, ◌<◌, ℕ, sym, slice_index, length, arith, rules}
 use Rattle.occ_term.proofs.FrameWrites.{place_first}
-use Rattle.occ_term.proofs.held.place_among_rising.Goals as goal
+use Rattle.occ_term.proofs.frame_cells.place_among_rising.Goals as goal
 
 pub returns-then-from-cell : goal.returns-then-from-cell
 returns-then-from-cell c =

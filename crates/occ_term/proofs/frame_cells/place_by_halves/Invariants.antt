@@ -1,5 +1,5 @@
 use Rattle.std.proofs.Common.{ℕ, ◌<◌, ◌≤◌, ◌-◌, length, slice_index}
-use Rattle.occ_term.proofs.held.place_by_halves.Given as goal
+use Rattle.occ_term.proofs.frame_cells.place_by_halves.Given as goal
 
 abbrev pub invariant-loop-low : goal.invariant-loop-low
 invariant-loop-low l = record {

@@ -2,7 +2,7 @@ use Rattle.std.proofs.Common.{◌≡◌, ◌∙◌, ap, sym, length, Some, arith
 use Rattle.std.specs.Prelude.{unwrap_or}
 use Rattle.occ_term.specs.Frames.{place_among, place_in}
 use Rattle.occ_term.proofs.FrameWrites.{place_among_within}
-use Rattle.occ_term.proofs.held.Held.place_among.Goals as goal
+use Rattle.occ_term.proofs.frame_cells.FrameCells.place_among.Goals as goal
 
 pub returns-in-Some-clause-within : goal.returns-in-Some-clause-within
 returns-in-Some-clause-within c =
