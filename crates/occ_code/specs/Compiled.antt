@@ -76,9 +76,13 @@ pub record IsCompiled (p : Program) : Type 0 where
   pub quantum : ℕ
   pub compiled : IsCompiledFrom source quantum p
 
+-- the greatest quantum
+abbrev pub most_quantum : ℕ
+most_quantum = 65536
+
 -- how many stops of loops a turn may take at most
 abbrev pub IsQuantum : ℕ → Type 0
-IsQuantum quantum = (0 < quantum) × (quantum ≤ 65536)
+IsQuantum quantum = (0 < quantum) × (quantum ≤ most_quantum)
 
 -- A quantum that is none is refused before all else. Want of memory says nothing more. The other says that 32 instructions for
 -- each node are more than a program may have.

@@ -18,18 +18,9 @@ use crate::tables::Tables;
 use crate::tasks::{set_wait, take_wait};
 use occ_code::{Arm, Task, Wait};
 use occ_net_trace::End;
-use occ_term::{Fault, Message, Part, Parts, Primitive};
+use occ_term::{ERROR, Fault, KEYBOARD, Message, Part, Parts, Primitive, SCREEN};
 use sqlite_items::Items;
 use std::alloc::{AllocError, Global};
-
-/// The keyboard's channel.
-const KEYBOARD: u32 = 0;
-
-/// The screen's channel.
-const SCREEN: u32 = 1;
-
-/// The error channel.
-const ERROR: u32 = 2;
 
 /// The process at this place among the ready ones is one no more, and stands at this.
 #[inline(always)]

@@ -31,7 +31,7 @@ pub use fault::{Errors, Fault, FaultKind};
 pub use frame::Frame;
 pub use frame_cells::FrameCells;
 pub use message::{Message, Part};
-pub use names::{Cell, Channel, Name};
+pub use names::{Cell, Channel, ERROR, KEYBOARD, MOST_CELLS, Name, SCREEN};
 pub use parts::Parts;
 pub use primitive::{Prim, Primitive};
 pub use protocol::{PartType, Protocol, Tag};

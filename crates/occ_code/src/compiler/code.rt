@@ -31,7 +31,7 @@ pub enum CodeFault {
     /// It has more than `MOST_INSTRUCTIONS` instructions, as only a program can of which 32 times the nodes are more.
     #[error("refused 60 TooLarge")]
     TooLarge,
-    /// The quantum is not from 1 to 65,536.
+    /// The quantum is not from 1 to `MOST_QUANTUM`.
     #[error("refused 62 BadQuantum")]
     BadQuantum,
     /// A growth was refused.
@@ -200,7 +200,7 @@ pub fn compile(alloc: Global, checked: &Checked) -> Result<Code, CodeFault>
 ///
 /// # Errors
 ///
-/// `BadQuantum` for a quantum that isn't from 1 to 65,536, before all else; then `TooLarge` past the
+/// `BadQuantum` for a quantum that isn't from 1 to `MOST_QUANTUM`, before all else; then `TooLarge` past the
 /// limit of instructions, and `Memory` for a refused growth.
 pub fn compile_for(alloc: Global, checked: &Checked, quantum: u32) -> Result<Code, CodeFault>
     ensures compiled { IfOk result (λ c. IsCodeOf checked.now quantum c) }

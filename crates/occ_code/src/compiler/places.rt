@@ -1,6 +1,7 @@
 //! Places for the cells that instructions name.
 ghost use Rattle.std.specs.Prelude.{◌≡◌, ◌≤◌, OnOk, length, map};
 ghost use Rattle.occ_term.specs.Frames.{place_among};
+ghost use Rattle.occ_term.specs.Unfolding.{most_cells};
 ghost use Rattle.occ_code.specs.Machine.{placed};
 ghost use Rattle.occ_code.specs.View.{instruction_of};
 
@@ -14,7 +15,7 @@ pub(crate) fn name_places(
     cells: &[u32],
     code: &mut Vec<Instr>,
 ) -> Result<(), AllocError>
-    requires { length cells.now ≤ 65536 }
+    requires { length cells.now ≤ most_cells }
     ensures { OnOk result (map instruction_of code.new.items ≡ map (placed cells.now) (map instruction_of code.old.items)) }
 {
     let held = FrameCells::new(alloc, cells)?;
@@ -25,7 +26,7 @@ pub(crate) fn name_places(
 }
 
 fn name_place(held: &FrameCells, instr: &mut Instr)
-    requires { length held.now ≤ 65536 }
+    requires { length held.now ≤ most_cells }
     ensures { instruction_of instr.new ≡ placed held.now (instruction_of instr.old) }
 {
     match instr {
@@ -40,7 +41,7 @@ fn name_place(held: &FrameCells, instr: &mut Instr)
 }
 
 fn place_of(held: &FrameCells, cell: u32) -> u32
-    requires { length held.now ≤ 65536 }
+    requires { length held.now ≤ most_cells }
     ensures { result ≡ place_among held.now cell }
 {
     held.place_among(cell) as u32
