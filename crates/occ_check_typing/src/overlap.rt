@@ -2,7 +2,7 @@
 
 ghost use Rattle.std.specs.Prelude.{◌≡◌, ◌<◌, ◌+◌, ◌*◌, ◌^◌, IfOk, IfSome, map, nat_lt};
 ghost use Rattle.occ_term.specs.Messages.{product};
-ghost use Rattle.occ_term.specs.Rows.{AreFew};
+ghost use Rattle.occ_term.specs.ArraySizes.{AreFew};
 ghost use Rattle.occ_term.specs.Uses.{constant_subscript, part_named};
 ghost use Rattle.occ_term.specs.View.{subscripts};
 ghost use Rattle.occ_check_meaning.specs.Calls as meant;

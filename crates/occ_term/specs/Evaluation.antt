@@ -7,7 +7,7 @@ use Rattle.occ_term.specs.Values.{Store, Evaluated, Value, Fails, after, subscri
 use Rattle.occ_term.specs.Uses.{reads_of}
 use Rattle.occ_term.specs.Typing.{HasType}
 use Rattle.occ_term.specs.Frames.{Variables, holds_cell, at}
-use Rattle.occ_term.specs.Unfolding.{most_cells}
+use Rattle.occ_term.specs.UnfoldedProgram.{most_cells}
 
 -- the code's answer: a value or a fault
 abbrev pub evaluated : {X : Type 0} → Result X Fault → Evaluated X

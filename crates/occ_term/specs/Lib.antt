@@ -26,7 +26,7 @@ pub mod Priority
 pub mod TakenArms
 pub mod OneResult
 pub mod Parts
-pub mod Rows
+pub mod ArraySizes
 pub mod Names
 pub mod ExampleParts
 pub mod ValueExamples

@@ -3,7 +3,7 @@ ghost use Rattle.std.specs.Prelude.{◌≡◌, ◌<◌, ◌≤◌, ◌+◌, ◌*
 ghost use Rattle.occ_term.specs.Messages as messages;
 ghost use Rattle.occ_term.specs.Values as values;
 ghost use Rattle.occ_term.specs.Frames.{at};
-ghost use Rattle.occ_term.specs.Unfolding.{most_cells};
+ghost use Rattle.occ_term.specs.UnfoldedProgram.{most_cells};
 ghost use Rattle.occ_term.specs.View.{expression_of, place_of};
 ghost use Rattle.occ_term.specs.Evaluation.{evaluated, CanBeEvaluated, Bounded, BoundedPlace, FewCells, first_named, first_of_row, letter};
 

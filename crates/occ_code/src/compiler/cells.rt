@@ -1,6 +1,6 @@
 //! The cells that a process uses, and those that it writes.
 ghost use Rattle.std.specs.Prelude.{◌≡◌, ◌∷◌, [], ◌++◌, ◌<◌, ◌≤◌, IfOk, OnOk, get_or, if◌then◌else◌, List, length, max, nat_lt, set};
-ghost use Rattle.occ_term.specs.Unfolding.{most_cells};
+ghost use Rattle.occ_term.specs.UnfoldedProgram.{most_cells};
 ghost use Rattle.occ_usage.specs.Noted.{uses_in};
 ghost use Rattle.occ_usage.specs.declared.noted.Use.{Use};
 ghost use Rattle.occ_code.specs.SameStop.{Lists};

@@ -1,7 +1,7 @@
 //! Places for the cells that instructions name.
 ghost use Rattle.std.specs.Prelude.{◌≡◌, ◌≤◌, OnOk, length, map};
 ghost use Rattle.occ_term.specs.Frames.{place_among};
-ghost use Rattle.occ_term.specs.Unfolding.{most_cells};
+ghost use Rattle.occ_term.specs.UnfoldedProgram.{most_cells};
 ghost use Rattle.occ_code.specs.Machine.{placed};
 ghost use Rattle.occ_code.specs.View.{instruction_of};
 
