@@ -1,4 +1,6 @@
-//! The unfolding of a tree: names, types, protocols, calls and replicators.
+//! The unfolding of a tree: names, types, protocols, calls and replicators. [`unfold`] answers the one
+//! program that the definitions of `occ_check_meaning` have for the tree, and refuses only a tree for which they
+//! have none.
 #![tactic(auto)]
 
 mod arms;
