@@ -18,7 +18,7 @@ use Rattle.occ_check_names.specs.View.{Refuses}
 use Rattle.occ_check_names.specs.declared.fault.CheckFault.{CheckFault}
 use Rattle.occ_check_names.specs.declared.typed.Part.{Part}
 use Rattle.occ_check_typing.proofs.Refusals.{none_then, refused_with}
-use Rattle.occ_check_acting.proofs.Target.{bare, bare_clash}
+use Rattle.occ_check_acting.proofs.Targets.{bare, bare_clash}
 
 abbrev no_items : Option (List T.Item)
 no_items = None

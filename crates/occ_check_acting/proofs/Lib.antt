@@ -1,6 +1,6 @@
-pub mod Given
+pub mod GivenSubscripts
 pub mod Choosing
-pub mod Call
-pub mod Target
+pub mod Calls
+pub mod Targets
 pub mod Receiving
 pub mod Assigning

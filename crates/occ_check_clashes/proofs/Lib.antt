@@ -1,5 +1,5 @@
 pub mod Among
-pub mod Named
-pub mod Clash
-pub mod Naming
-pub mod Tags
+pub mod NamedCells
+pub mod Clashes
+pub mod NamingOthers
+pub mod TagLists

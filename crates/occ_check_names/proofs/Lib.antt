@@ -1,3 +1,3 @@
-pub mod Scope
-pub mod Numbers
-pub mod Literal
+pub mod Scopes
+pub mod ComponentNames
+pub mod Literals

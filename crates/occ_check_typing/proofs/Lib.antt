@@ -1,13 +1,13 @@
 pub mod Refusals
 pub mod Leaving
-pub mod Expression
+pub mod Expressions
 pub mod EachOf
 pub mod Refusing
-pub mod Declaration
+pub mod Declarations
 pub mod Twice
-pub mod Types
+pub mod SizeLists
 pub mod Zipping
 pub mod Tagging
 pub mod AnyPair
-pub mod Overlap
+pub mod Overlaps
 pub mod Components

@@ -2,7 +2,7 @@ use Rattle.std.proofs.Common.{rules}
 use Rattle.occ_tree_grammar.specs.Processes.Views.{program_of}
 use Rattle.occ_check_laws.proofs.WellFormed.{well_formed}
 use Rattle.occ_check.specs.CheckRefuses.{CheckRefuses}
-use Rattle.occ_check.proofs.Program.{all_refused, found_unfolds}
+use Rattle.occ_check.proofs.WholePrograms.{all_refused, found_unfolds}
 use Rattle.occ_check.proofs.program.unfold.Goals as goal
 
 pub returns-in_err-term-clause-refused : goal.returns-in_err-term-clause-refused

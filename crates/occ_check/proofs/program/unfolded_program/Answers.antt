@@ -5,7 +5,7 @@ use Rattle.occ_check_meaning.specs.Programs as programs
 use Rattle.occ_check_typing.specs.Declaration.{pairs_of}
 use Rattle.occ_check.specs.Program.{main_in}
 use Rattle.occ_check_names.specs.View.{Refuses, numbers_of}
-use Rattle.occ_check.proofs.Program.{at_nowhere, body_done, body_refused}
+use Rattle.occ_check.proofs.WholePrograms.{at_nowhere, body_done, body_refused}
 use Rattle.occ_check.proofs.program.unfolded_program.Goals as goal
 
 pub returns-in_err-term : goal.returns-in_err-term

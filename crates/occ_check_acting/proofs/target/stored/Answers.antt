@@ -3,7 +3,7 @@ use Rattle.occ_term.specs.View.{targets_of}
 use Rattle.occ_check_meaning.specs.Items.{apart}
 use Rattle.occ_check_clashes.specs.Clash.{rows_at}
 use Rattle.occ_check_names.specs.View.{Refuses}
-use Rattle.occ_check_acting.proofs.Target.{stored_clashes, stored_gives, stored_nothing}
+use Rattle.occ_check_acting.proofs.Targets.{stored_clashes, stored_gives, stored_nothing}
 use Rattle.occ_check_acting.proofs.target.stored.Goals as goal
 
 pub returns-in-Err : goal.returns-in-Err

@@ -1,4 +1,4 @@
-use Rattle.occ_check_typing.proofs.Types.{many_few, one_few}
+use Rattle.occ_check_typing.proofs.SizeLists.{many_few, one_few}
 use Rattle.occ_check_typing.proofs.types.are_few.Goals as goal
 
 pub returns-in-len1-clause-few : goal.returns-in-len1-clause-few

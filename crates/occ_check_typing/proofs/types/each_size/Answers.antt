@@ -2,7 +2,7 @@ use Rattle.std.proofs.Common.{map, subst, sym, ◌∙◌}
 use Rattle.occ_tree_grammar.specs.Expressions.Trees.{expression_of}
 use Rattle.occ_check_names.specs.View.{names_in, Refuses}
 use Rattle.occ_check_typing.proofs.EachOf.{so_far_first, so_far_next, so_far_nothing, so_far_same}
-use Rattle.occ_check_typing.proofs.Types.{given_none, given_one, sizes_each}
+use Rattle.occ_check_typing.proofs.SizeLists.{given_none, given_one, sizes_each}
 use Rattle.occ_check_typing.proofs.types.each_size.Goals as goal
 
 pub loop-size-init : goal.loop-size-init

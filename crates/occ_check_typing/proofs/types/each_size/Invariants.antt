@@ -1,7 +1,7 @@
 use Rattle.occ_tree_grammar.specs.Expressions.Trees.{expression_of}
 use Rattle.occ_check_names.specs.View.{names_in}
 use Rattle.occ_check_typing.proofs.EachOf.{SoFar}
-use Rattle.occ_check_typing.proofs.Types.{one_size}
+use Rattle.occ_check_typing.proofs.SizeLists.{one_size}
 use Rattle.occ_check_typing.proofs.types.each_size.Given as goal
 
 abbrev pub invariant-loop-size : goal.invariant-loop-size

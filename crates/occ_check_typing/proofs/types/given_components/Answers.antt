@@ -1,4 +1,4 @@
-use Rattle.occ_check_typing.proofs.Types.{counted_first, counted_next, counted_open, counted_last}
+use Rattle.occ_check_typing.proofs.SizeLists.{counted_first, counted_next, counted_open, counted_last}
 use Rattle.occ_check_typing.proofs.types.given_components.Goals as goal
 
 pub loop-size-init : goal.loop-size-init

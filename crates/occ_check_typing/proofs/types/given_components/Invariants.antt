@@ -1,4 +1,4 @@
-use Rattle.occ_check_typing.proofs.Types.{Counted}
+use Rattle.occ_check_typing.proofs.SizeLists.{Counted}
 use Rattle.occ_check_typing.proofs.types.given_components.Given as goal
 
 abbrev pub invariant-loop-size : goal.invariant-loop-size

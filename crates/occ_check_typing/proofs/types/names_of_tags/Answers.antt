@@ -1,5 +1,5 @@
 use Rattle.std.proofs.Common.{◌∙◌}
-use Rattle.occ_check_typing.proofs.Types.{names_taken}
+use Rattle.occ_check_typing.proofs.SizeLists.{names_taken}
 use Rattle.occ_check_typing.proofs.types.names_of_tags.Goals as goal
 
 pub returns : goal.returns

@@ -1,4 +1,4 @@
-use Rattle.occ_check_typing.proofs.Types.{sequential_is, sequential_none, tags_are, tags_none}
+use Rattle.occ_check_typing.proofs.SizeLists.{sequential_is, sequential_none, tags_are, tags_none}
 use Rattle.occ_check_typing.proofs.types.protocol_of.Goals as goal
 
 pub returns-in-Ok : goal.returns-in-Ok

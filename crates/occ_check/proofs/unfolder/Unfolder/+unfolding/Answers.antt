@@ -7,12 +7,12 @@ use Rattle.occ_term.specs.View.{arms_of, branch_of, branches_of, choices_of, dec
 use Rattle.occ_check_meaning.specs.Actions.{headed, new_tag, none_chosen}
 use Rattle.occ_tree_grammar.specs.Lines.Views as lines
 use Rattle.occ_check_clashes.specs.Tags.{listed_in}
-use Rattle.occ_check.proofs.Variants.{no_more_variants, no_tag, tags_kept, variant_done, variant_refused, variants_grown, variants_none, variants_step}
+use Rattle.occ_check.proofs.VariantLists.{no_more_variants, no_tag, tags_kept, variant_done, variant_refused, variants_grown, variants_none, variants_step}
 use Rattle.occ_check_acting.specs.Action.{chosen_of}
 use Rattle.occ_check.proofs.Gathering.{gathered_first, gathered_last, gathered_next, gathered_refused, part_within}
-use Rattle.occ_check.proofs.Choices.{choice_in, choices_grown, choices_none, choices_step, no_more_choices}
-use Rattle.occ_check.proofs.Arms.{arm_in, arms_grown, arms_none, arms_step, no_more_arms}
-use Rattle.occ_check.proofs.Options.{no_more_options, option_done, option_refused, options_grown, options_none, options_step}
+use Rattle.occ_check.proofs.ChoiceLists.{choice_in, choices_grown, choices_none, choices_step, no_more_choices}
+use Rattle.occ_check.proofs.ArmLists.{arm_in, arms_grown, arms_none, arms_step, no_more_arms}
+use Rattle.occ_check.proofs.OptionLists.{no_more_options, option_done, option_refused, options_grown, options_none, options_step}
 use Rattle.occ_tree_grammar.specs.Many.{◌>>=◌}
 use Rattle.occ_term.specs.Terms as T
 use Rattle.occ_term.specs.Terms.{no_arms, no_choices, no_options, no_terms, no_variants}
@@ -31,8 +31,8 @@ use Rattle.occ_check_typing.proofs.Refusals.{refused_with}
 use Rattle.occ_check_meaning.specs.Performing.{copied}
 use Rattle.occ_check.specs.Copies.{copy_for, numbered_copy}
 use Rattle.occ_check_meaning.specs.Scope.{within}
-use Rattle.occ_check.proofs.Copies.{Copied, copied_first, copied_last, copied_next, copied_refused}
-use Rattle.occ_check.proofs.Opened.{blocks_kept, put_done, put_refused}
+use Rattle.occ_check.proofs.CopyLists.{Copied, copied_first, copied_last, copied_next, copied_refused}
+use Rattle.occ_check.proofs.OpenedParts.{blocks_kept, put_done, put_refused}
 use Rattle.occ_check.specs.Opened.{IsStepReady, arm_depth, arm_left, arm_weight, arm_with, arms_within, choice_depth, choice_left, choice_weight, choice_with, choices_within, copy_left, left_weight, option_left, option_with, put, statement_left, step_left, step_weight, variant_left, variant_with, variants_within}
 use Rattle.occ_check.specs.declared.arms.OpenedArm.TheVariants as arms
 use Rattle.occ_check.specs.declared.choices.OpenedChoice.TheVariants as choices

@@ -11,18 +11,18 @@ use Rattle.occ_check.specs.Weights.{node_size, nodes_size}
 use Rattle.occ_check.specs.Progress.{counted, meant_at, weight_at}
 use Rattle.occ_check.proofs.Listing.{Listed}
 use Rattle.occ_check.proofs.Gathering.{Gathered}
-use Rattle.occ_check.proofs.Choices.{choices_in, put_choices}
-use Rattle.occ_check.proofs.Arms.{arms_in, put_arms}
-use Rattle.occ_check.proofs.Options.{options_in, put_options}
+use Rattle.occ_check.proofs.ChoiceLists.{choices_in, put_choices}
+use Rattle.occ_check.proofs.ArmLists.{arms_in, put_arms}
+use Rattle.occ_check.proofs.OptionLists.{options_in, put_options}
 use Rattle.occ_check_clashes.specs.Tags.{AreTagsOf, listed_in}
-use Rattle.occ_check.proofs.Variants.{put_variants, variants_in}
+use Rattle.occ_check.proofs.VariantLists.{put_variants, variants_in}
 use Rattle.occ_term.specs.View.{branch_of}
 use Rattle.occ_check.proofs.Beside.{branches_in, branch_one, branch_step, put_branch}
 use Rattle.occ_check.proofs.InTurn.{in_turn, in_turn_one, in_turn_step, put_term}
 use Rattle.occ_tree_grammar.specs.Lines.Views.{replicator_of}
 use Rattle.occ_check_meaning.specs.Performing.{copied}
 use Rattle.occ_check.specs.Copies.{copy_for}
-use Rattle.occ_check.proofs.Copies.{Copied}
+use Rattle.occ_check.proofs.CopyLists.{Copied}
 use Rattle.occ_check.proofs.unfolder.Unfolder.+unfolding.Given as goal
 
 abbrev pub decreases-process : goal.decreases-process

@@ -9,9 +9,9 @@ use Rattle.occ_check.specs.Opened.{Opens, arm_left, arm_weight}
 use Rattle.occ_check.specs.Progress.{counted, meant_at, weight_at}
 use Rattle.occ_check.specs.Statements.{declarations_of_arm}
 use Rattle.occ_check.specs.Weights.{arm_size, decls_size, node_size}
-use Rattle.occ_check.proofs.Arms.{arm_behind, arm_not_declared, arm_too_deep, within_arm}
+use Rattle.occ_check.proofs.ArmLists.{arm_behind, arm_not_declared, arm_too_deep, within_arm}
 use Rattle.occ_check.proofs.Nesting.{as_many}
-use Rattle.occ_check.proofs.Opened.{kept_on, lighter_on}
+use Rattle.occ_check.proofs.OpenedParts.{kept_on, lighter_on}
 use Rattle.occ_check.proofs.unfolder.Unfolder.arm_opened.Goals as goal
 
 pub returns-in_err-heads-clause-opens : goal.returns-in_err-heads-clause-opens

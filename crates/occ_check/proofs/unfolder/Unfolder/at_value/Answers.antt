@@ -7,7 +7,7 @@ use Rattle.occ_check_meaning.specs.Unfolding.{meant}
 use Rattle.occ_check.specs.Progress.{scope_at}
 use Rattle.occ_check_names.specs.View.{scope_in}
 use Rattle.occ_check.specs.Weights.{weight}
-use Rattle.occ_check.proofs.Copies.{copy_scope, index_meant, index_weight}
+use Rattle.occ_check.proofs.CopyLists.{copy_scope, index_meant, index_weight}
 use Rattle.occ_check.proofs.unfolder.Unfolder.at_value.Goals as goal
 
 pub returns-clause-scope : goal.returns-clause-scope

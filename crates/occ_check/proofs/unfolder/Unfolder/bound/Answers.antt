@@ -7,7 +7,7 @@ use Rattle.occ_check.specs.Entering.{procedure_found, procedure_of}
 use Rattle.occ_check.specs.Progress.{Calls, counted, meant_at, scope_at, weight_at}
 use Rattle.occ_check_names.specs.View.{Refuses}
 use Rattle.occ_check_typing.proofs.Refusals.{refused_with}
-use Rattle.occ_check.proofs.Entering.{a_procedure, called_falls, called_lighter, found_here, no_procedure, scope_is}
+use Rattle.occ_check.proofs.EnteringScopes.{a_procedure, called_falls, called_lighter, found_here, no_procedure, scope_is}
 use Rattle.occ_check.proofs.unfolder.Unfolder.bound.Goals as goal
 
 pub returns-in_err-procedure-clause-call : goal.returns-in_err-procedure-clause-call

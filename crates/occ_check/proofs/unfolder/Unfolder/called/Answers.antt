@@ -10,7 +10,7 @@ use Rattle.occ_check.specs.Progress.{counted, meant_at, scope_at}
 use Rattle.occ_check_names.specs.View.{Refuses, names_in, numbers_of, scope_in}
 use Rattle.occ_check.specs.Weights.{weight}
 use Rattle.occ_check_typing.proofs.Refusals.{refused_with}
-use Rattle.occ_check.proofs.Entering.{call_bound, call_refused, names_are, scope_is}
+use Rattle.occ_check.proofs.EnteringScopes.{call_bound, call_refused, names_are, scope_is}
 use Rattle.occ_check.proofs.Weights.{same_weight}
 use Rattle.occ_check.proofs.unfolder.Unfolder.called.Goals as goal
 

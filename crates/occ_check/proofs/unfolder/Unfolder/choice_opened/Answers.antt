@@ -9,9 +9,9 @@ use Rattle.occ_check.specs.Opened.{Opens, choice_left, choice_weight}
 use Rattle.occ_check.specs.Progress.{counted, meant_at, weight_at}
 use Rattle.occ_check.specs.Statements.{declarations_of_choice}
 use Rattle.occ_check.specs.Weights.{choice_size, decls_size, node_size}
-use Rattle.occ_check.proofs.Choices.{choice_behind, choice_not_declared, choice_too_deep, within_choice}
+use Rattle.occ_check.proofs.ChoiceLists.{choice_behind, choice_not_declared, choice_too_deep, within_choice}
 use Rattle.occ_check.proofs.Nesting.{as_many}
-use Rattle.occ_check.proofs.Opened.{kept_on, lighter_on}
+use Rattle.occ_check.proofs.OpenedParts.{kept_on, lighter_on}
 use Rattle.occ_check.proofs.unfolder.Unfolder.choice_opened.Goals as goal
 
 pub returns-in_err-heads-clause-opens : goal.returns-in_err-heads-clause-opens

@@ -20,9 +20,9 @@ use Rattle.occ_check.specs.Prefixes.{tested}
 use Rattle.occ_check.specs.Progress.{counted, meant_at, weight_at}
 use Rattle.occ_check.specs.Statements.{choosing}
 use Rattle.occ_check.specs.Weights.{choice_size, node_size, nodes_size}
-use Rattle.occ_check.proofs.Choices.{single_choice, single_size, when_not_tested, when_opens}
+use Rattle.occ_check.proofs.ChoiceLists.{single_choice, single_size, when_not_tested, when_opens}
 use Rattle.occ_check.proofs.Nesting.{nested_there}
-use Rattle.occ_check.proofs.Opened.{each_part, put_put}
+use Rattle.occ_check.proofs.OpenedParts.{each_part, put_put}
 use Rattle.occ_check.proofs.unfolder.Unfolder.chosen_opened.Goals as goal
 
 pub returns-in_err-test-in-When-clause-opens : goal.returns-in_err-test-in-When-clause-opens

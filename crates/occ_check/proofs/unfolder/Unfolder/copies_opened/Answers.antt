@@ -11,7 +11,7 @@ use Rattle.occ_check_names.specs.View.{Refuses, scope_in}
 use Rattle.occ_check.specs.Copies.{copy_for}
 use Rattle.occ_check.specs.Opened.{put}
 use Rattle.occ_check.specs.Progress.{counted, meant_at}
-use Rattle.occ_check.proofs.Copies.{copies_open, counting_refused}
+use Rattle.occ_check.proofs.CopyLists.{copies_open, counting_refused}
 use Rattle.occ_check.proofs.unfolder.Unfolder.copies_opened.Goals as goal
 
 pub returns-in_err-first-clause-opens : goal.returns-in_err-first-clause-opens

@@ -11,7 +11,7 @@ use Rattle.occ_check.specs.Copies.{copy_for, numbered_copy}
 use Rattle.occ_check.specs.Opened.{put}
 use Rattle.occ_check.specs.Progress.{counted, meant_at, weight_at}
 use Rattle.occ_check.specs.Weights.{node_size}
-use Rattle.occ_check.proofs.Copies.{copy_opens, no_number_left}
+use Rattle.occ_check.proofs.CopyLists.{copy_opens, no_number_left}
 use Rattle.occ_check.proofs.unfolder.Unfolder.copy_opened.Goals as goal
 
 pub returns-in_err-number-clause-opens : goal.returns-in_err-number-clause-opens

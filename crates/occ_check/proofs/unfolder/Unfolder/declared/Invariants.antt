@@ -5,7 +5,7 @@ use Rattle.occ_term.specs.View.{declarations_of}
 use Rattle.occ_check_meaning.specs.Recursion.{all_declared}
 use Rattle.occ_check.specs.Progress.{counted, innermost_at, meant_innermost}
 use Rattle.occ_check.specs.Weights.{decls_size, weight}
-use Rattle.occ_check.proofs.Entering.{Declares}
+use Rattle.occ_check.proofs.EnteringScopes.{Declares}
 use Rattle.occ_check.proofs.unfolder.Unfolder.declared.Given as goal
 
 abbrev pub invariant-loop-declaration : goal.invariant-loop-declaration

@@ -16,8 +16,8 @@ use Rattle.occ_check_typing.proofs.Refusals.{refused_with}
 use Rattle.occ_check.specs.Opened.{put}
 use Rattle.occ_check.specs.Prefixes.{guarding, tested}
 use Rattle.occ_check.specs.Progress.{counted, meant_at}
-use Rattle.occ_check.proofs.Arms.{input_not_guarded, input_opens, skip_not_tested, skip_opens}
-use Rattle.occ_check.proofs.Opened.{put_put}
+use Rattle.occ_check.proofs.ArmLists.{input_not_guarded, input_opens, skip_not_tested, skip_opens}
+use Rattle.occ_check.proofs.OpenedParts.{put_put}
 use Rattle.occ_check.proofs.unfolder.Unfolder.guard_opened.Goals as goal
 
 pub returns-in_err-guarded-in-Input-clause-opens : goal.returns-in_err-guarded-in-Input-clause-opens

@@ -9,7 +9,7 @@ use Rattle.occ_check_typing.specs.Declaration.{indexed_of, pairs_of}
 use Rattle.occ_check.specs.Progress.{counted, meant_at, scope_at}
 use Rattle.occ_check_names.specs.View.{Refuses, names_in}
 use Rattle.occ_check.specs.Weights.{weight}
-use Rattle.occ_check.proofs.Entering.{index_within, names_are, scope_is}
+use Rattle.occ_check.proofs.EnteringScopes.{index_within, names_are, scope_is}
 use Rattle.occ_check.proofs.Weights.{same_weight}
 use Rattle.occ_check.proofs.unfolder.Unfolder.indexed.Goals as goal
 

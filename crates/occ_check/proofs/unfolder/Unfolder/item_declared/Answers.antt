@@ -12,7 +12,7 @@ use Rattle.occ_check_meaning.specs.Unfolding as unfoldings
 use Rattle.occ_check.specs.Progress.{Enters, counted, innermost_at, meant_innermost}
 use Rattle.occ_check_names.specs.View.{Refuses, innermost, names_in}
 use Rattle.occ_check_typing.proofs.Refusals.{refused_with}
-use Rattle.occ_check.proofs.Entering.{enters_names, names_are, names_refused, proc_form, proc_within, protocol_form, value_form}
+use Rattle.occ_check.proofs.EnteringScopes.{enters_names, names_are, names_refused, proc_form, proc_within, protocol_form, value_form}
 use Rattle.occ_check.proofs.unfolder.Unfolder.item_declared.Goals as goal
 
 pub returns-in_err-opened-in-Value-clause-entered : goal.returns-in_err-opened-in-Value-clause-entered

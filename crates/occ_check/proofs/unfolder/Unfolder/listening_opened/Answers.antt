@@ -22,10 +22,10 @@ use Rattle.occ_check.specs.Prefixes.{guarding_variants}
 use Rattle.occ_check.specs.Progress.{counted, meant_at, weight_at}
 use Rattle.occ_check.specs.Weights.{arm_size, node_size, nodes_size}
 use Rattle.occ_check.specs.Statements.{listening}
-use Rattle.occ_check.proofs.Arms.{single_arm, variants_not_guarded, variants_open}
-use Rattle.occ_check.proofs.Choices.{single_size}
+use Rattle.occ_check.proofs.ArmLists.{single_arm, variants_not_guarded, variants_open}
+use Rattle.occ_check.proofs.ChoiceLists.{single_size}
 use Rattle.occ_check.proofs.Nesting.{nested_there}
-use Rattle.occ_check.proofs.Opened.{each_part, put_put}
+use Rattle.occ_check.proofs.OpenedParts.{each_part, put_put}
 use Rattle.occ_check.proofs.unfolder.Unfolder.listening_opened.Goals as goal
 
 pub returns-in_err-test-in-OnVariant-clause-opens : goal.returns-in_err-test-in-OnVariant-clause-opens

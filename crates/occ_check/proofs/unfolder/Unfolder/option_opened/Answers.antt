@@ -11,8 +11,8 @@ use Rattle.occ_check.specs.Opened.{Opens, option_left}
 use Rattle.occ_check.specs.Progress.{counted, meant_at, weight_at}
 use Rattle.occ_check.specs.Weights.{decls_size, node_size}
 use Rattle.occ_check.specs.declared.options.OpenedOption.{OpenedOption}
-use Rattle.occ_check.proofs.Opened.{lighter_on}
-use Rattle.occ_check.proofs.Options.{otherwise_form, otherwise_size, values_form, values_size}
+use Rattle.occ_check.proofs.OpenedParts.{lighter_on}
+use Rattle.occ_check.proofs.OptionLists.{otherwise_form, otherwise_size, values_form, values_size}
 use Rattle.occ_check.proofs.unfolder.Unfolder.option_opened.Goals as goal
 
 pub returns-in-Values-clause-opens : goal.returns-in-Values-clause-opens

@@ -9,7 +9,7 @@ use Rattle.occ_check_typing.proofs.Refusals.{refused_with}
 use Rattle.occ_check.specs.Opened.{left_weight, put, statement_left, step_weight}
 use Rattle.occ_check.specs.Progress.{counted, innermost_at, meant_at, scope_at, weight_at}
 use Rattle.occ_check.specs.Weights.{node_size, statement_size}
-use Rattle.occ_check.proofs.Opening.{heads_refused, opening_refused, smaller, statement_behind}
+use Rattle.occ_check.proofs.OpeningSteps.{heads_refused, opening_refused, smaller, statement_behind}
 use Rattle.occ_check.proofs.unfolder.Unfolder.process_opened.Goals as goal
 
 pub returns-in_err-heads-clause-step : goal.returns-in_err-heads-clause-step

@@ -1,7 +1,7 @@
 use Rattle.std.proofs.Common.{[], Some, refl, sym, subst, reverse}
 use Rattle.std.proofs.lemmas.List.{append-nil}
 use Rattle.occ_check_names.specs.View.{scope_of, IsFound}
-use Rattle.occ_check_names.proofs.Scope.{wider}
+use Rattle.occ_check_names.proofs.Scopes.{wider}
 use Rattle.occ_check_names.proofs.scope.Scope.find.Goals as goal
 
 pub outwards-init : goal.outwards-init

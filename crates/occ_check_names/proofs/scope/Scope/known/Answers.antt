@@ -1,7 +1,7 @@
 use Rattle.std.proofs.Common.{Some, reverse, subst, sym}
 use Rattle.occ_check_meaning.specs.Unfolding.{found}
 use Rattle.occ_check_names.specs.View.{scope_of, IsFound}
-use Rattle.occ_check_names.proofs.Scope.{known_found, no_known, nothing_found}
+use Rattle.occ_check_names.proofs.Scopes.{known_found, no_known, nothing_found}
 use Rattle.occ_check_names.proofs.scope.Scope.known.Goals as goal
 
 pub returns-in-Some-Known : goal.returns-in-Some-Known

@@ -2,7 +2,7 @@ use Rattle.std.proofs.Common.{Some, ap, sym, ◌∙◌, drop, reverse}
 use Rattle.occ_check_meaning.specs.Unfolding.{found}
 use Rattle.occ_check_names.specs.View.{binding_of, scope_in, scope_of}
 use Rattle.occ_check_names.specs.declared.scope.Position.{Position}
-use Rattle.occ_check_names.proofs.Scope.{bound_found, by_own}
+use Rattle.occ_check_names.proofs.Scopes.{bound_found, by_own}
 use Rattle.occ_check_names.proofs.scope.Scope.step.Goals as goal
 
 pub returns-in-None-clause-found : goal.returns-in-None-clause-found

@@ -25,7 +25,7 @@ use Rattle.occ_check_names.specs.declared.numbers.Numbers.{Numbers}
 use Rattle.occ_check_typing.specs.declared.declaration.Opened.{Opened}
 use Rattle.occ_check_acting.specs.declared.formals.WantedFormal.{WantedFormal}
 use Rattle.occ_check_typing.proofs.Refusals.{refused_with}
-use Rattle.occ_check_typing.proofs.Declaration.{after_these, joined, nothing_after, these_and_those}
+use Rattle.occ_check_typing.proofs.Declarations.{after_these, joined, nothing_after, these_and_those}
 
 abbrev pub Listed : Type 0
 Listed = Option (List (Name × C.Wanted))

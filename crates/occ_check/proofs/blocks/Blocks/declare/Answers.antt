@@ -2,7 +2,7 @@ use Rattle.std.proofs.Common.{rules, ◌≡◌, ◌+◌, ◌++◌, ◌∷◌, �
 use Rattle.occ_check_meaning.specs.Unfolding.{Procedures}
 use Rattle.occ_check_names.specs.View.{binding_of, innermost, pairs_before}
 use Rattle.occ_check_names.specs.declared.scope.Block.{Block}
-use Rattle.occ_check_names.proofs.Scope.{declared_outside, declared_within}
+use Rattle.occ_check_names.proofs.Scopes.{declared_outside, declared_within}
 use Rattle.occ_check.proofs.blocks.Blocks.declare.Goals as goal
 
 pub returns-then-has-clause-scope : goal.returns-then-has-clause-scope

@@ -13,7 +13,7 @@ use Rattle.occ_term.specs.Values.{Span, span}
 use Rattle.occ_check_meaning.specs.Items.{is_named_by, variable_span}
 use Rattle.occ_check_meaning.specs.Scope.{Row}
 use Rattle.occ_check_clashes.specs.Clash.{begins_at, below, ends_at, is_named_with, is_one_named, meets_another, one_names_another, reads_some, shares, some_in_place, some_in_subscripts, variable_spans}
-use Rattle.occ_check_clashes.proofs.Named.{either_of, named_is, none_share, share_is, share_none, sharing}
+use Rattle.occ_check_clashes.proofs.NamedCells.{either_of, named_is, none_share, share_is, share_none, sharing}
 
 -- ---- each row with those before it and those behind it
 

@@ -1,6 +1,6 @@
 use Rattle.std.proofs.Common.{rules, ◌≡◌, ◌∷◌, List, ap, subst, sym, ◌∙◌, ℕ}
 use Rattle.occ_check_names.specs.View.{pairs_before, binding_of, Lacks}
-use Rattle.occ_check_names.proofs.Scope.{one_more, added}
+use Rattle.occ_check_names.proofs.Scopes.{one_more, added}
 use Rattle.occ_check_names.proofs.scope.Block.with.Goals as goal
 
 pub returns-clause-names : goal.returns-clause-names

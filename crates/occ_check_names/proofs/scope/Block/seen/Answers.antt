@@ -1,5 +1,5 @@
 use Rattle.std.proofs.Common.{rules}
-use Rattle.occ_check_names.proofs.Scope.{not_there, not_yet, is_there}
+use Rattle.occ_check_names.proofs.Scopes.{not_there, not_yet, is_there}
 use Rattle.occ_check_names.proofs.scope.Block.seen.Goals as goal
 
 pub returns-in-None : goal.returns-in-None
