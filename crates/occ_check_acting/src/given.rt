@@ -155,7 +155,7 @@ fn joined(first: Given, then: Given) -> Result<Given, AllocError>
 }
 
 /// A row under the subscripts of an actual.
-#[tactic(auto, using(crate::proofs::Evaluating::joined_evaluated))]
+#[tactic(auto, using(crate::proofs::GivenSubscripts::joined_evaluated))]
 pub(crate) fn part_of(
     alloc: Global,
     row: &Row,

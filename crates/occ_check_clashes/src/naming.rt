@@ -108,7 +108,7 @@ struct Others<'a> {
 
 /// Whether an expression reads a cell of another variable. A chain of AND and OR is a loop.
 #[cycle(reading)]
-#[tactic(auto, using(crate::proofs::ReadCells::read_by_right, crate::proofs::ReadCells::read_by_left))]
+#[tactic(auto, using(crate::proofs::NamedCells::read_by_right, crate::proofs::NamedCells::read_by_left))]
 fn reads(e: &TermExpr, others: Others<'_>) -> bool
     requires sorted { AreSorted others }
     ensures { result ≡ reads_some (met_by others.entry) (expression_of e.now) }

@@ -148,7 +148,7 @@ fn found_there<'a, 't>(binding: &'a Binding<'t>, at: Position) -> Found<'a, 't>
 }
 
 /// The block of a position, and those before it.
-#[tactic(auto, using(crate::proofs::Looking::beyond_all, crate::proofs::Looking::top_all))]
+#[tactic(auto, using(crate::proofs::Scopes::beyond_all, crate::proofs::Scopes::top_all))]
 fn own_block<'a, 't>(
     blocks: &'a [Block<'t>],
     at: Position,
@@ -184,7 +184,7 @@ impl<'t> Block<'t> {
     }
 
     /// Whether it has the name.
-    #[tactic(auto, using(crate::proofs::Looking::absent))]
+    #[tactic(auto, using(crate::proofs::Scopes::absent))]
     pub fn has(&self, name: &[u8]) -> bool
         ensures { IsFalse result → Lacks name.now self.now.names.entries }
     {
