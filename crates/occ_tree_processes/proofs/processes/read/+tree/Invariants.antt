@@ -1,4 +1,4 @@
-use Rattle.std.proofs.Common.{length, ◌+◌, ◌*◌, map}
+use Rattle.std.proofs.Common.{length, ◌+◌, ◌-◌, ◌*◌, map}
 use Rattle.occ_text.specs.Words.{Row, rows}
 use Rattle.occ_tree_grammar.specs.Many.{as_many}
 use Rattle.occ_tree_grammar.specs.Processes.Trees.{process, choice, option, arm, variant, Node, Decl}
@@ -8,52 +8,34 @@ use Rattle.occ_tree_parts.proofs.ManyLoop.{SoFar}
 use Rattle.occ_tree_processes.proofs.processes.read.+tree.Given as goal
 
 abbrev pub decreases-process : goal.decreases-process
-decreases-process l = 5 * l.left
+decreases-process l = 4 * l.left + 2
 
 abbrev pub decreases-choice : goal.decreases-choice
-decreases-choice l = 5 * l.left
-
-abbrev pub decreases-selection : goal.decreases-selection
-decreases-selection l = 5 * l.left
+decreases-choice l = 4 * l.left + 2
 
 abbrev pub decreases-arm : goal.decreases-arm
-decreases-arm l = 5 * l.left
-
-abbrev pub decreases-variant : goal.decreases-variant
-decreases-variant l = 5 * l.left
+decreases-arm l = 4 * l.left + 2
 
 abbrev pub decreases-processes : goal.decreases-processes
-decreases-processes l = 5 * l.left + 1
+decreases-processes l = 4 * l.left + 3
 
 abbrev pub decreases-choices : goal.decreases-choices
-decreases-choices l = 5 * l.left + 1
+decreases-choices l = 4 * l.left + 3
 
 abbrev pub decreases-selections : goal.decreases-selections
-decreases-selections l = 5 * l.left + 1
+decreases-selections l = 4 * l.left + 3
 
 abbrev pub decreases-arms : goal.decreases-arms
-decreases-arms l = 5 * l.left + 1
+decreases-arms l = 4 * l.left + 3
 
 abbrev pub decreases-variants : goal.decreases-variants
-decreases-variants l = 5 * l.left + 1
-
-abbrev pub decreases-statement : goal.decreases-statement
-decreases-statement l = 5 * l.left + 2
-
-abbrev pub decreases-chosen : goal.decreases-chosen
-decreases-chosen l = 5 * l.left + 2
-
-abbrev pub decreases-armed : goal.decreases-armed
-decreases-armed l = 5 * l.left + 2
-
-abbrev pub decreases-declared : goal.decreases-declared
-decreases-declared l = 5 * l.left + 1
-
-abbrev pub decreases-declaration : goal.decreases-declaration
-decreases-declaration l = 5 * l.left + 2
+decreases-variants l = 4 * l.left + 3
 
 abbrev pub decreases-declarations : goal.decreases-declarations
-decreases-declarations l = 5 * l.left + 3
+decreases-declarations l = 4 * l.left + 1
+
+abbrev pub decreases-declaration : goal.decreases-declaration
+decreases-declaration l = 4 * l.left + 3
 
 abbrev pub invariant-processes-loop : goal.invariant-processes-loop
 invariant-processes-loop l = SoFar Row (Node process) (at_level l.level) (node_at 65 l.left l.level process) (map process_of l.all.items) (length l.lines) l.counter (rows l.rest) (as_many (at_level l.level) (node_at 65 l.left l.level process) (rows l.lines))
@@ -71,4 +53,4 @@ abbrev pub invariant-variants-loop : goal.invariant-variants-loop
 invariant-variants-loop l = SoFar Row (Node variant) (at_level l.level) (node_at 65 l.left l.level variant) (map variant_of l.all.items) (length l.lines) l.counter (rows l.rest) (as_many (at_level l.level) (node_at 65 l.left l.level variant) (rows l.lines))
 
 abbrev pub invariant-declarations-loop : goal.invariant-declarations-loop
-invariant-declarations-loop l = SoFar Row Decl (at_decl l.level) (decl_with 65 l.left l.level (node_at 65 l.left (l.level + 1) process)) (map decl_of l.all.items) (length l.lines) l.counter (rows l.rest) (as_many (at_decl l.level) (decl_with 65 l.left l.level (node_at 65 l.left (l.level + 1) process)) (rows l.lines))
+invariant-declarations-loop l = SoFar Row Decl (at_decl l.level) (decl_with 65 (l.left - 1) l.level (node_at 65 (l.left - 1) (l.level + 1) process)) (map decl_of l.all.items) (length l.lines) l.counter (rows l.rest) (as_many (at_decl l.level) (decl_with 65 (l.left - 1) l.level (node_at 65 (l.left - 1) (l.level + 1) process)) (rows l.lines))
