@@ -1,6 +1,6 @@
 -- What is left of a process and of a declaration once their first lines are read.
 -- Manual: the syntax summary. The limits of levels and brackets: (own).
-use Rattle.std.specs.Prelude.{ℕ, zero, suc, ◌+◌, List, Option, Some, None}
+use Rattle.std.specs.Prelude.{ℕ, zero, suc, ◌+◌, List, Some, None}
 use Rattle.occ_text.specs.Words.{Row}
 use Rattle.occ_tree_grammar.specs.Many.{◌>>=◌, Reader, as_many}
 use Rattle.occ_tree_grammar.specs.Expressions.Trees.{expression_of}
