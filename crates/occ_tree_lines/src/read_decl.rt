@@ -13,12 +13,13 @@ ghost use Rattle.occ_tree_grammar.specs.Lines.HeadReading.{names_at, sort_at, na
 use occ_text::{Key, Sym, Token};
 use occ_tree_grammar::ParseFault;
 use occ_tree_grammar::lines::head::{DeclHead, TagHead};
+use occ_tree_grammar::lines::separator::Separator;
 use occ_tree_grammar::tree::expr::Expr;
 use occ_tree_grammar::tree::line::{OneOrMore, Part, Sort, ValueType};
 use occ_tree_parts::expressions::symbol::prim;
 use occ_tree_parts::item::expression;
 use occ_tree_parts::kind::{carried, declared_sizes, formals, part, value_type};
-use occ_tree_parts::list::{names, parts};
+use occ_tree_parts::list::further;
 use occ_tree_parts::word::{colon, is, name};
 use std::alloc::Global;
 
@@ -83,7 +84,7 @@ fn declared_names(
     ensures { Gives decl_head_of result (names_at 65 (expressions (map expression_of sizes.items)) (sort_of sort) (words tokens.now)) }
 {
     let (first, rest) = name(alloc, line, tokens)?;
-    let (others, rest) = names(alloc, line, rest)?;
+    let (others, rest) = further::<Vec<u8>>(alloc, Separator::Comma, line, rest)?;
     let rest = colon(line, rest)?;
     only_names(alloc, line, sizes, sort, OneOrMore { first, others }, rest)
 }
@@ -145,7 +146,7 @@ fn behind_protocol(alloc: Global, line: u32, tokens: &[Token]) -> Result<DeclHea
         [Token::Name(name)] => Ok(DeclHead::Tags(Vec::from_slice(alloc, name)?)),
         [Token::Name(name), Token::Key(Key::Is), rest @ ..] => {
             let (first, rest) = part(alloc, line, rest)?;
-            let (others, rest) = parts(alloc, line, rest)?;
+            let (others, rest) = further::<Part>(alloc, Separator::Semicolon, line, rest)?;
             let rest = colon(line, rest)?;
             let name = Vec::from_slice(alloc, name)?;
             only_parts(alloc, line, name, OneOrMore { first, others }, rest)
@@ -198,7 +199,7 @@ pub fn tag_head(alloc: Global, line: u32, tokens: &[Token]) -> Result<TagHead, P
 {
     match tokens {
         [Token::Name(tag), rest @ ..] => {
-            let (parts, rest) = parts(alloc, line, rest)?;
+            let (parts, rest) = further::<Part>(alloc, Separator::Semicolon, line, rest)?;
             let tag = Vec::from_slice(alloc, tag)?;
             match rest {
                 [] => Ok(TagHead { tag, parts }),

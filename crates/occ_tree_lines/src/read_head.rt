@@ -15,12 +15,13 @@ use occ_tree_grammar::ParseFault;
 use occ_tree_grammar::lines::head::{
     ArmHead, ChoiceHead, OptionHead, ProcessHead, Received, VariantHead,
 };
+use occ_tree_grammar::lines::separator::Separator;
 use occ_tree_grammar::tree::expr::Expr;
-use occ_tree_grammar::tree::line::{Action, Guard, OneOrMore, Var, VariantGuard};
+use occ_tree_grammar::tree::line::{Action, Guard, OneOrMore, Out, Target, Var, VariantGuard};
 use occ_tree_parts::item::{
     actuals, behind_question, expression, out, replicator, var, var_behind,
 };
-use occ_tree_parts::list::{expressions, outs, targets, variables};
+use occ_tree_parts::list::further;
 use occ_tree_parts::word::{assign, question};
 use std::alloc::Global;
 
@@ -47,11 +48,11 @@ fn assignment(
 ) -> Result<ProcessHead, ParseFault>
     ensures { Gives process_head_of result (assignment_at 65 (var_of first) (words tokens.now)) }
 {
-    let (others, rest) = variables(alloc, line, tokens)?;
+    let (others, rest) = further::<Var>(alloc, Separator::Comma, line, tokens)?;
     let targets = OneOrMore { first, others };
     let rest = assign(line, rest)?;
     let (first, rest) = expression(alloc, line, rest)?;
-    let (others, rest) = expressions(alloc, line, rest)?;
+    let (others, rest) = further::<Expr>(alloc, Separator::Comma, line, rest)?;
     only_action(
         alloc,
         line,
@@ -90,7 +91,7 @@ fn behind_var(
         [Token::Sym(Sym::Exclamation), rest @ ..] => {
             let channel = first;
             let (first, rest) = out(alloc, line, rest)?;
-            let (others, rest) = outs(alloc, line, rest)?;
+            let (others, rest) = further::<Out>(alloc, Separator::Semicolon, line, rest)?;
             only_action(
                 alloc,
                 line,
@@ -246,7 +247,7 @@ pub fn option_head(alloc: Global, line: u32, tokens: &[Token]) -> Result<OptionH
         [Token::Key(Key::Else), ..] => Err(ParseFault::Unexpected { line }),
         _ => {
             let (first, rest) = expression(alloc, line, tokens)?;
-            let (others, rest) = expressions(alloc, line, rest)?;
+            let (others, rest) = further::<Expr>(alloc, Separator::Comma, line, rest)?;
             only_values(alloc, line, OneOrMore { first, others }, rest)
         }
     }
@@ -398,7 +399,7 @@ pub fn variant_head(alloc: Global, line: u32, tokens: &[Token]) -> Result<Varian
 {
     match tokens {
         [Token::Name(tag), rest @ ..] => {
-            let (targets, rest) = targets(alloc, line, rest)?;
+            let (targets, rest) = further::<Target>(alloc, Separator::Semicolon, line, rest)?;
             let tag = Vec::from_slice(alloc, tag)?;
             match rest {
                 [] => Ok(VariantHead { tag, targets }),

@@ -10,11 +10,12 @@ ghost use Rattle.occ_tree_grammar.specs.Lines.Reading.{var_named, var_at, target
 
 use crate::expressions::read::{expr, indices};
 use crate::expressions::symbol::close;
-use crate::list::{expressions, targets};
+use crate::list::further;
 use crate::word::for_count;
 use occ_text::{Key, Sym, Token};
 use occ_tree_grammar::ParseFault;
 use occ_tree_grammar::lines::head::Received;
+use occ_tree_grammar::lines::separator::Separator;
 use occ_tree_grammar::tree::expr::Expr;
 use occ_tree_grammar::tree::line::{Input, OneOrMore, Out, Replicator, Target, Var};
 use std::alloc::Global;
@@ -92,7 +93,7 @@ fn items(alloc: Global, line: u32, channel: Var, tokens: &[Token]) -> Result<Rec
     ensures { Gives received_of result (targets_whole 65 (var_of channel) (words tokens.now)) }
 {
     let (first, rest) = target(alloc, line, tokens)?;
-    let (others, rest) = targets(alloc, line, rest)?;
+    let (others, rest) = further::<Target>(alloc, Separator::Semicolon, line, rest)?;
     match rest {
         [] => { Ok(Received::Input(Input::Items(channel, OneOrMore { first, others }))) }
         _ => Err(ParseFault::Unexpected { line }),
@@ -112,7 +113,7 @@ pub fn behind_question(
     match tokens {
         [Token::Key(Key::Case)] => Ok(Received::Variants(channel)),
         [Token::Key(Key::Case), Token::Name(tag), rest @ ..] => {
-            let (into, rest) = targets(alloc, line, rest)?;
+            let (into, rest) = further::<Target>(alloc, Separator::Semicolon, line, rest)?;
             let tag = Vec::from_slice(alloc, tag)?;
             match rest {
                 [] => Ok(Received::Input(Input::Tagged(channel, tag, into))),
@@ -173,7 +174,7 @@ pub fn actuals(
         [Token::Sym(Sym::CloseParen), rest @ ..] => Ok((None, rest)),
         _ => {
             let (first, rest) = expression(alloc, line, tokens)?;
-            let (others, rest) = expressions(alloc, line, rest)?;
+            let (others, rest) = further::<Expr>(alloc, Separator::Comma, line, rest)?;
             let rest = close(line, rest)?;
             Ok((Some(OneOrMore { first, others }), rest))
         }

@@ -9,10 +9,11 @@ ghost use Rattle.occ_tree_grammar.specs.Lines.Reading.{part_after, part_at, carr
 
 use crate::expressions::read::{DIMENSIONS, index, indices};
 use crate::expressions::symbol::{close, open_bracket, prim};
-use crate::list::formal_list;
+use crate::list::further;
 use crate::word::name;
 use occ_text::{Key, Sym, Token};
 use occ_tree_grammar::ParseFault;
+use occ_tree_grammar::lines::separator::Separator;
 use occ_tree_grammar::tree::expr::{Expr, Prim};
 use occ_tree_grammar::tree::line::{Carried, Formal, Formals, Part, Size, Spec, ValueType};
 use std::alloc::Global;
@@ -201,7 +202,7 @@ pub fn formals(
         _ => {
             let (spec, rest) = spec(alloc, line, tokens)?;
             let (name, rest) = name(alloc, line, rest)?;
-            let (others, rest) = formal_list(alloc, line, rest)?;
+            let (others, rest) = further::<Formal>(alloc, Separator::Comma, line, rest)?;
             let rest = close(line, rest)?;
             let formals = Box::new(alloc, Formals { spec, name, others })?;
             Ok((Some(formals), rest))
