@@ -1,6 +1,6 @@
 //! Reading whole texts.
 
-ghost use Rattle.std.specs.Prelude.{◌≡◌, IfOk, List, Some, map, option_map};
+ghost use Rattle.std.specs.Prelude.{◌≡◌, ◌+◌, IfOk, List, Some, map, option_map};
 ghost use Rattle.occ_text.specs.Words.{rows};
 ghost use Rattle.occ_tree_grammar.specs.Many.{as_many};
 ghost use Rattle.occ_tree_grammar.specs.Expressions.Reading.{Gives};
@@ -9,15 +9,14 @@ ghost use Rattle.occ_tree_grammar.specs.Processes.Views.{item_of, program_of};
 ghost use Rattle.occ_tree_grammar.specs.Processes.Shown.{show_program};
 ghost use Rattle.occ_tree_grammar.specs.Processes.Fits.{InBounds};
 ghost use Rattle.occ_tree_grammar.specs.Processes.Reading.{at_any, item_at, program_at};
+ghost use Rattle.occ_tree_grammar.specs.declared.limits.TheConstants.{MOST_LEVELS};
 
 use occ_text::{Line, Source};
 use occ_tree_grammar::ParseFault;
+use occ_tree_grammar::limits::MOST_LEVELS;
 use occ_tree_grammar::tree::process::{Item, Program};
 use occ_tree_processes::processes::read::declaration;
 use std::alloc::Global;
-
-/// How many levels may stand below the level of the items.
-const LEVELS: u32 = 64;
 
 /// The lines, where there is one.
 fn lines_left(lines: &[Line]) -> Option<&[Line]>
@@ -31,14 +30,14 @@ fn lines_left(lines: &[Line]) -> Option<&[Line]>
 
 #[tactic(auto, unfolding(occ_tree_grammar::specs::Processes::Reading::item_at))]
 fn item(alloc: Global, last: u32, lines: &[Line]) -> Result<(Item, &[Line]), ParseFault>
-    ensures { Gives (λ x. (item_of x.0, rows x.1.now)) result (item_at 65 64 (rows lines.now)) }
+    ensures { Gives (λ x. (item_of x.0, rows x.1.now)) result (item_at (MOST_LEVELS + 1) MOST_LEVELS (rows lines.now)) }
 {
-    let (declaration, rest) = declaration(alloc, last, LEVELS, 0, lines)?;
+    let (declaration, rest) = declaration(alloc, last, MOST_LEVELS, 0, lines)?;
     Ok((declaration.into_item()?, rest))
 }
 
 fn items(alloc: Global, last: u32, lines: &[Line]) -> Result<(Vec<Item>, &[Line]), ParseFault>
-    ensures { Gives (λ x. (map item_of x.0.items, rows x.1.now)) result (as_many at_any (item_at 65 64) (rows lines.now)) }
+    ensures { Gives (λ x. (map item_of x.0.items, rows x.1.now)) result (as_many at_any (item_at (MOST_LEVELS + 1) MOST_LEVELS) (rows lines.now)) }
 {
     let mut all = Vec::new(alloc);
     let mut rest = lines;
@@ -55,7 +54,7 @@ fn items(alloc: Global, last: u32, lines: &[Line]) -> Result<(Vec<Item>, &[Line]
 
 #[tactic(auto, unfolding(occ_tree_grammar::specs::Processes::Reading::program_at))]
 fn program(alloc: Global, last: u32, lines: &[Line]) -> Result<Program, ParseFault>
-    ensures { Gives program_of result (program_at 65 64 (rows lines.now)) }
+    ensures { Gives program_of result (program_at (MOST_LEVELS + 1) MOST_LEVELS (rows lines.now)) }
 {
     let (items, rest) = items(alloc, last, lines)?;
     match rest {

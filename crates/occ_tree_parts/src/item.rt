@@ -1,12 +1,13 @@
 //! Variables, targets and items of a line.
 
-ghost use Rattle.std.specs.Prelude.{◌≡◌, map, option_map};
+ghost use Rattle.std.specs.Prelude.{◌≡◌, ◌+◌, map, option_map};
 ghost use Rattle.occ_text.specs.Words.{words};
 ghost use Rattle.occ_tree_grammar.specs.Many.{ended};
 ghost use Rattle.occ_tree_grammar.specs.Expressions.Trees.{expression_of};
 ghost use Rattle.occ_tree_grammar.specs.Expressions.Reading.{Gives, expression_at};
 ghost use Rattle.occ_tree_grammar.specs.Lines.Views.{var_of, target_of, out_of, received_of, replicator_of, optional_replicator_of, actuals_of};
 ghost use Rattle.occ_tree_grammar.specs.Lines.Reading.{var_named, var_at, target_at, target_after, out_at, out_after, received_at, targets_whole, replicator_at, actuals_at};
+ghost use Rattle.occ_tree_grammar.specs.declared.limits.TheConstants.{MOST_LEVELS};
 
 use crate::expressions::read::{expr, indices};
 use crate::expressions::symbol::close;
@@ -14,14 +15,12 @@ use crate::list::further;
 use crate::word::for_count;
 use occ_text::{Key, Sym, Token};
 use occ_tree_grammar::ParseFault;
+use occ_tree_grammar::limits::MOST_LEVELS;
 use occ_tree_grammar::lines::head::Received;
 use occ_tree_grammar::lines::separator::Separator;
 use occ_tree_grammar::tree::expr::Expr;
 use occ_tree_grammar::tree::line::{Input, OneOrMore, Out, Replicator, Target, Var};
 use std::alloc::Global;
-
-/// How many brackets may stand open at one place.
-const OPEN: u32 = 64;
 
 /// An expression that stands in no bracket.
 pub fn expression(
@@ -29,9 +28,9 @@ pub fn expression(
     line: u32,
     tokens: &[Token],
 ) -> Result<(Expr, &[Token]), ParseFault>
-    ensures { Gives (λ x. (expression_of x.0, words x.1.now)) result (expression_at 65 (words tokens.now)) }
+    ensures { Gives (λ x. (expression_of x.0, words x.1.now)) result (expression_at (MOST_LEVELS + 1) (words tokens.now)) }
 {
-    expr(alloc, OPEN + 1, line, tokens)
+    expr(alloc, MOST_LEVELS + 1, line, tokens)
 }
 
 /// The rest of a variable or a channel, behind its name.
@@ -41,9 +40,9 @@ pub fn var_behind<'a>(
     name: &[u8],
     tokens: &'a [Token],
 ) -> Result<(Var, &'a [Token]), ParseFault>
-    ensures { Gives (λ x. (var_of x.0, words x.1.now)) result (var_named 65 name.now (words tokens.now)) }
+    ensures { Gives (λ x. (var_of x.0, words x.1.now)) result (var_named (MOST_LEVELS + 1) name.now (words tokens.now)) }
 {
-    let (subscripts, rest) = indices(alloc, OPEN, line, tokens)?;
+    let (subscripts, rest) = indices(alloc, MOST_LEVELS, line, tokens)?;
     let name = Vec::from_slice(alloc, name)?;
     Ok((Var { name, subscripts }, rest))
 }
@@ -51,7 +50,7 @@ pub fn var_behind<'a>(
 /// A name with its subscripts.
 #[tactic(auto, unfolding(occ_tree_grammar::specs::Lines::Reading::var_at))]
 pub fn var(alloc: Global, line: u32, tokens: &[Token]) -> Result<(Var, &[Token]), ParseFault>
-    ensures { Gives (λ x. (var_of x.0, words x.1.now)) result (var_at 65 (words tokens.now)) }
+    ensures { Gives (λ x. (var_of x.0, words x.1.now)) result (var_at (MOST_LEVELS + 1) (words tokens.now)) }
 {
     match tokens {
         [Token::Name(name), rest @ ..] => var_behind(alloc, line, name, rest),
@@ -62,7 +61,7 @@ pub fn var(alloc: Global, line: u32, tokens: &[Token]) -> Result<(Var, &[Token])
 /// What an input puts an item into.
 #[tactic(auto, unfolding(occ_tree_grammar::specs::Lines::Reading::target_at))]
 pub fn target(alloc: Global, line: u32, tokens: &[Token]) -> Result<(Target, &[Token]), ParseFault>
-    ensures { Gives (λ x. (target_of x.0, words x.1.now)) result (target_at 65 (words tokens.now)) }
+    ensures { Gives (λ x. (target_of x.0, words x.1.now)) result (target_at (MOST_LEVELS + 1) (words tokens.now)) }
 {
     let (first, rest) = var(alloc, line, tokens)?;
     match rest {
@@ -77,7 +76,7 @@ pub fn target(alloc: Global, line: u32, tokens: &[Token]) -> Result<(Target, &[T
 /// An item of an output.
 #[tactic(auto, unfolding(occ_tree_grammar::specs::Lines::Reading::out_at))]
 pub fn out(alloc: Global, line: u32, tokens: &[Token]) -> Result<(Out, &[Token]), ParseFault>
-    ensures { Gives (λ x. (out_of x.0, words x.1.now)) result (out_at 65 (words tokens.now)) }
+    ensures { Gives (λ x. (out_of x.0, words x.1.now)) result (out_at (MOST_LEVELS + 1) (words tokens.now)) }
 {
     let (first, rest) = expression(alloc, line, tokens)?;
     match rest {
@@ -90,7 +89,7 @@ pub fn out(alloc: Global, line: u32, tokens: &[Token]) -> Result<(Out, &[Token])
 }
 
 fn items(alloc: Global, line: u32, channel: Var, tokens: &[Token]) -> Result<Received, ParseFault>
-    ensures { Gives received_of result (targets_whole 65 (var_of channel) (words tokens.now)) }
+    ensures { Gives received_of result (targets_whole (MOST_LEVELS + 1) (var_of channel) (words tokens.now)) }
 {
     let (first, rest) = target(alloc, line, tokens)?;
     let (others, rest) = further::<Target>(alloc, Separator::Semicolon, line, rest)?;
@@ -108,7 +107,7 @@ pub fn behind_question(
     channel: Var,
     tokens: &[Token],
 ) -> Result<Received, ParseFault>
-    ensures { Gives received_of result (received_at 65 (var_of channel) (words tokens.now)) }
+    ensures { Gives received_of result (received_at (MOST_LEVELS + 1) (var_of channel) (words tokens.now)) }
 {
     match tokens {
         [Token::Key(Key::Case)] => Ok(Received::Variants(channel)),
@@ -146,7 +145,7 @@ pub fn replicator(
     line: u32,
     tokens: &[Token],
 ) -> Result<Option<Box<Replicator>>, ParseFault>
-    ensures { Gives optional_replicator_of result (replicator_at 65 (words tokens.now)) }
+    ensures { Gives optional_replicator_of result (replicator_at (MOST_LEVELS + 1) (words tokens.now)) }
 {
     match tokens {
         [] => Ok(None),
@@ -168,7 +167,7 @@ pub fn actuals(
     line: u32,
     tokens: &[Token],
 ) -> Result<(Option<OneOrMore<Expr>>, &[Token]), ParseFault>
-    ensures { Gives (λ x. (actuals_of x.0, words x.1.now)) result (actuals_at 65 (words tokens.now)) }
+    ensures { Gives (λ x. (actuals_of x.0, words x.1.now)) result (actuals_at (MOST_LEVELS + 1) (words tokens.now)) }
 {
     match tokens {
         [Token::Sym(Sym::CloseParen), rest @ ..] => Ok((None, rest)),

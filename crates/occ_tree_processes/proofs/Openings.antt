@@ -1,6 +1,7 @@
 -- What is left once first lines are read, and the whole.
 use Rattle.std.proofs.Common.{◌≡◌, ℕ, ◌+◌, List, Option, Some, None, refl, subst}
 use Rattle.occ_text.specs.Words.{Word, Row}
+use Rattle.occ_tree_grammar.specs.declared.limits.TheConstants.{MOST_LEVELS}
 use Rattle.occ_tree_grammar.specs.declared.fault.ParseFault.{ParseFault}
 use Rattle.occ_tree_grammar.specs.Many.{◌>>=◌, Reader, as_many}
 use Rattle.occ_tree_grammar.specs.Expressions.Reading.{Fails}
@@ -63,31 +64,31 @@ module _ (n level : ℕ) (inner : Reader Row (Node process)) where
   closed_tags None = refl
   closed_tags (Some p) = refl
 
-  closed_item : (l : ℕ) (h : DeclHead) (rows : List Row) → item_with 65 n level inner l h rows ≡ (left_behind n level l h rows >>= closing)
+  closed_item : (l : ℕ) (h : DeclHead) (rows : List Row) → item_with (MOST_LEVELS + 1) n level inner l h rows ≡ (left_behind n level l h rows >>= closing)
   closed_item l (names es t v vs) rows = refl
   closed_item l (value t v e) rows = refl
   closed_item l (parts v p ps) rows = refl
-  closed_item l (tags v) rows = closed_tags (tags_at 65 n level l v rows)
+  closed_item l (tags v) rows = closed_tags (tags_at (MOST_LEVELS + 1) n level l v rows)
   closed_item l (procedure v fs) rows = refl
 
   closed_head : (l : (ℕ × List Word) × List Row) (read : Option DeclHead)
-      → (read >>= λ h. item_with 65 n level inner l.0.0 h l.1) ≡ (((read >>= with_head l) >>= behind_head n level) >>= closing)
+      → (read >>= λ h. item_with (MOST_LEVELS + 1) n level inner l.0.0 h l.1) ≡ (((read >>= with_head l) >>= behind_head n level) >>= closing)
   closed_head l None = refl
   closed_head l (Some h) = closed_item l.0.0 h l.1
 
   closed_line : (read : Option ((ℕ × List Word) × List Row))
-      → (read >>= λ l. decl_head_at 65 l.0.1 >>= λ h. item_with 65 n level inner l.0.0 h l.1) ≡ (((read >>= λ l. decl_head_at 65 l.0.1 >>= with_head l) >>= behind_head n level) >>= closing)
+      → (read >>= λ l. decl_head_at (MOST_LEVELS + 1) l.0.1 >>= λ h. item_with (MOST_LEVELS + 1) n level inner l.0.0 h l.1) ≡ (((read >>= λ l. decl_head_at (MOST_LEVELS + 1) l.0.1 >>= with_head l) >>= behind_head n level) >>= closing)
   closed_line None = refl
-  closed_line (Some l) = closed_head l (decl_head_at 65 l.0.1)
+  closed_line (Some l) = closed_head l (decl_head_at (MOST_LEVELS + 1) l.0.1)
 
-  decl_step : (rows : List Row) → decl_with 65 n level inner rows ≡ (decl_left_at n level rows >>= closing)
+  decl_step : (rows : List Row) → decl_with (MOST_LEVELS + 1) n level inner rows ≡ (decl_left_at n level rows >>= closing)
   unfolding decl_with
   decl_step rows = closed_line (line_at level rows)
 
-  pub no_declaration : (e : ParseFault) (rows : List Row) → Fails e (decl_left_at n level rows) → Fails e (decl_with 65 n level inner rows)
+  pub no_declaration : (e : ParseFault) (rows : List Row) → Fails e (decl_left_at n level rows) → Fails e (decl_with (MOST_LEVELS + 1) n level inner rows)
   no_declaration e rows h = rw (decl_step rows) (fails_then e (decl_left_at n level rows) _ h)
 
   -- o is how the code has what is left, and g is o as a case of a match knows it
-  pub declaration_is : (rows : List Row) (o g : OpenedDecl) (rest : List Row) → decl_left_at n level rows ≡ Some (decl_left_of o, rest) → o ≡ g → decl_with 65 n level inner rows ≡ closed level inner (decl_left_of g) rest
+  pub declaration_is : (rows : List Row) (o g : OpenedDecl) (rest : List Row) → decl_left_at n level rows ≡ Some (decl_left_of o, rest) → o ≡ g → decl_with (MOST_LEVELS + 1) n level inner rows ≡ closed level inner (decl_left_of g) rest
   declaration_is rows o g rest read is =
-      subst (λ (x : OpenedDecl). decl_with 65 n level inner rows ≡ closed level inner (decl_left_of x) rest) is (rw (decl_step rows, read) refl)
+      subst (λ (x : OpenedDecl). decl_with (MOST_LEVELS + 1) n level inner rows ≡ closed level inner (decl_left_of x) rest) is (rw (decl_step rows, read) refl)

@@ -2,6 +2,7 @@
 -- Manual: the syntax summary. The limits of levels and brackets: (own).
 use Rattle.std.specs.Prelude.{ℕ, zero, suc, ◌+◌, List, Some, None}
 use Rattle.occ_text.specs.Words.{Row}
+use Rattle.occ_tree_grammar.specs.declared.limits.TheConstants.{MOST_LEVELS}
 use Rattle.occ_tree_grammar.specs.Many.{◌>>=◌, Reader, as_many}
 use Rattle.occ_tree_grammar.specs.Expressions.Trees.{expression_of}
 use Rattle.occ_tree_grammar.specs.Lines.Trees.{Formals}
@@ -60,7 +61,7 @@ opened_head (openings.Variants v) = input_variants (var_of v)
 -- the declarations before a node, where n levels are left, its own among them
 abbrev pub begun : ℕ → ℕ → Reader Row (List Decl)
 begun zero level rows = None
-begun (suc n) level rows = as_many (at_decl level) (decl_with 65 n level (node_at 65 n (level + 1) process)) rows
+begun (suc n) level rows = as_many (at_decl level) (decl_with (MOST_LEVELS + 1) n level (node_at (MOST_LEVELS + 1) n (level + 1) process)) rows
 
 -- a declaration whose first lines are read: it is whole, or the body of a procedure is left
 pub data DeclLeft : Type 0 where
@@ -76,7 +77,7 @@ left_behind n level l (names es t v vs) rows = Some (whole (declares l es t v vs
 left_behind n level l (value t v e) rows = Some (whole (item (value_item l t v e)), rows)
 left_behind n level l (parts v p ps) rows = Some (whole (item (protocol_item (of_parts l v p ps))), rows)
 left_behind n level l (tags v) rows = do
-  p ← tags_at 65 n level l v rows
+  p ← tags_at (MOST_LEVELS + 1) n level l v rows
   Some (whole (item (protocol_item p.0)), p.1)
 left_behind n level l (procedure v fs) rows = Some (body_of l v fs, rows)
 

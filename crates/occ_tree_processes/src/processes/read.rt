@@ -11,6 +11,7 @@ ghost use Rattle.occ_tree_grammar.specs.Expressions.Reading.{Gives};
 ghost use Rattle.occ_tree_grammar.specs.Processes.Trees.{process as the_process, choice as the_choice, option as the_option, arm as the_arm, variant as the_variant};
 ghost use Rattle.occ_tree_grammar.specs.Processes.Views.{process_of, choice_of, selection_of, arm_of, variant_of, decl_of};
 ghost use Rattle.occ_tree_grammar.specs.Processes.Reading.{at_level, node_at, decl_with};
+ghost use Rattle.occ_tree_grammar.specs.declared.limits.TheConstants.{MOST_LEVELS};
 ghost use Rattle.occ_tree_processes.specs.Opened.{begun};
 
 use crate::processes::declaration::{declaration_opened, procedure_ended};
@@ -34,8 +35,8 @@ pub fn process(
     level: u32,
     lines: &[Line],
 ) -> Result<(Process, &[Line]), ParseFault>
-    requires { level + left ≤ 65 }
-    ensures { Gives (λ x. (process_of x.0, rows x.1.now)) result (node_at 65 left level the_process (rows lines.now)) }
+    requires { level + left ≤ MOST_LEVELS + 1 }
+    ensures { Gives (λ x. (process_of x.0, rows x.1.now)) result (node_at (MOST_LEVELS + 1) left level the_process (rows lines.now)) }
 {
     let (declarations, rest) = declarations(alloc, last, left, level, lines)?;
     let (line, opened, rest) = process_line(alloc, last, level, rest)?;
@@ -107,8 +108,8 @@ fn processes(
     level: u32,
     lines: &[Line],
 ) -> Result<(Vec<Process>, &[Line]), ParseFault>
-    requires { level + left ≤ 65 }
-    ensures { Gives (λ x. (map process_of x.0.items, rows x.1.now)) result (as_many (at_level level) (node_at 65 left level the_process) (rows lines.now)) }
+    requires { level + left ≤ MOST_LEVELS + 1 }
+    ensures { Gives (λ x. (map process_of x.0.items, rows x.1.now)) result (as_many (at_level level) (node_at (MOST_LEVELS + 1) left level the_process) (rows lines.now)) }
 {
     let mut all = Vec::new(alloc);
     let mut rest = lines;
@@ -132,8 +133,8 @@ fn choice(
     level: u32,
     lines: &[Line],
 ) -> Result<(Choice, &[Line]), ParseFault>
-    requires { level + left ≤ 65 }
-    ensures { Gives (λ x. (choice_of x.0, rows x.1.now)) result (node_at 65 left level the_choice (rows lines.now)) }
+    requires { level + left ≤ MOST_LEVELS + 1 }
+    ensures { Gives (λ x. (choice_of x.0, rows x.1.now)) result (node_at (MOST_LEVELS + 1) left level the_choice (rows lines.now)) }
 {
     let (declarations, rest) = declarations(alloc, last, left, level, lines)?;
     let (line, head, rest) = choice_line(alloc, last, level, rest)?;
@@ -167,8 +168,8 @@ fn choices(
     level: u32,
     lines: &[Line],
 ) -> Result<(Vec<Choice>, &[Line]), ParseFault>
-    requires { level + left ≤ 65 }
-    ensures { Gives (λ x. (map choice_of x.0.items, rows x.1.now)) result (as_many (at_level level) (node_at 65 left level the_choice) (rows lines.now)) }
+    requires { level + left ≤ MOST_LEVELS + 1 }
+    ensures { Gives (λ x. (map choice_of x.0.items, rows x.1.now)) result (as_many (at_level level) (node_at (MOST_LEVELS + 1) left level the_choice) (rows lines.now)) }
 {
     let mut all = Vec::new(alloc);
     let mut rest = lines;
@@ -192,8 +193,8 @@ fn selections(
     level: u32,
     lines: &[Line],
 ) -> Result<(Vec<Selection>, &[Line]), ParseFault>
-    requires { level + left ≤ 65 }
-    ensures { Gives (λ x. (map selection_of x.0.items, rows x.1.now)) result (as_many (at_level level) (node_at 65 left level the_option) (rows lines.now)) }
+    requires { level + left ≤ MOST_LEVELS + 1 }
+    ensures { Gives (λ x. (map selection_of x.0.items, rows x.1.now)) result (as_many (at_level level) (node_at (MOST_LEVELS + 1) left level the_option) (rows lines.now)) }
 {
     let mut all = Vec::new(alloc);
     let mut rest = lines;
@@ -219,8 +220,8 @@ fn arm(
     level: u32,
     lines: &[Line],
 ) -> Result<(Arm, &[Line]), ParseFault>
-    requires { level + left ≤ 65 }
-    ensures { Gives (λ x. (arm_of x.0, rows x.1.now)) result (node_at 65 left level the_arm (rows lines.now)) }
+    requires { level + left ≤ MOST_LEVELS + 1 }
+    ensures { Gives (λ x. (arm_of x.0, rows x.1.now)) result (node_at (MOST_LEVELS + 1) left level the_arm (rows lines.now)) }
 {
     let (declarations, rest) = declarations(alloc, last, left, level, lines)?;
     let (line, head, rest) = arm_line(alloc, last, level, rest)?;
@@ -261,8 +262,8 @@ fn arms(
     level: u32,
     lines: &[Line],
 ) -> Result<(Vec<Arm>, &[Line]), ParseFault>
-    requires { level + left ≤ 65 }
-    ensures { Gives (λ x. (map arm_of x.0.items, rows x.1.now)) result (as_many (at_level level) (node_at 65 left level the_arm) (rows lines.now)) }
+    requires { level + left ≤ MOST_LEVELS + 1 }
+    ensures { Gives (λ x. (map arm_of x.0.items, rows x.1.now)) result (as_many (at_level level) (node_at (MOST_LEVELS + 1) left level the_arm) (rows lines.now)) }
 {
     let mut all = Vec::new(alloc);
     let mut rest = lines;
@@ -286,8 +287,8 @@ fn variants(
     level: u32,
     lines: &[Line],
 ) -> Result<(Vec<Variant>, &[Line]), ParseFault>
-    requires { level + left ≤ 65 }
-    ensures { Gives (λ x. (map variant_of x.0.items, rows x.1.now)) result (as_many (at_level level) (node_at 65 left level the_variant) (rows lines.now)) }
+    requires { level + left ≤ MOST_LEVELS + 1 }
+    ensures { Gives (λ x. (map variant_of x.0.items, rows x.1.now)) result (as_many (at_level level) (node_at (MOST_LEVELS + 1) left level the_variant) (rows lines.now)) }
 {
     let mut all = Vec::new(alloc);
     let mut rest = lines;
@@ -313,7 +314,7 @@ fn declarations(
     level: u32,
     lines: &[Line],
 ) -> Result<(Vec<Decl>, &[Line]), ParseFault>
-    requires { level + left ≤ 65 }
+    requires { level + left ≤ MOST_LEVELS + 1 }
     ensures read { Gives (λ x. (map decl_of x.0.items, rows x.1.now)) result (begun left level (rows lines.now)) }
     ensures left { OnOk result (0 < left) }
 {
@@ -342,8 +343,8 @@ pub fn declaration(
     level: u32,
     lines: &[Line],
 ) -> Result<(Decl, &[Line]), ParseFault>
-    requires { level + left ≤ 64 }
-    ensures { Gives (λ x. (decl_of x.0, rows x.1.now)) result (decl_with 65 left level (node_at 65 left (level + 1) the_process) (rows lines.now)) }
+    requires { level + left ≤ MOST_LEVELS }
+    ensures { Gives (λ x. (decl_of x.0, rows x.1.now)) result (decl_with (MOST_LEVELS + 1) left level (node_at (MOST_LEVELS + 1) left (level + 1) the_process) (rows lines.now)) }
 {
     let (opened, rest) = declaration_opened(alloc, last, left, level, lines)?;
     match opened {
