@@ -1,7 +1,7 @@
 -- What is left of a process and of a declaration once their first lines are read.
 -- Manual: the syntax summary. The limits of levels and brackets: (own).
 use Rattle.std.specs.Prelude.{ℕ, zero, suc, ◌+◌, List, Some, None}
-use Rattle.occ_text.specs.Words.{Row}
+use Rattle.occ_text.specs.Words.{LogicalLine}
 use Rattle.occ_tree_grammar.specs.declared.limits.TheConstants.{MOST_LEVELS}
 use Rattle.occ_tree_grammar.specs.Many.{◌>>=◌, Reader, as_many}
 use Rattle.occ_tree_grammar.specs.Expressions.Trees.{expression_of}
@@ -59,9 +59,9 @@ opened_head (openings.Variants v) = input_variants (var_of v)
 -- ---- declarations
 
 -- the declarations before a node, where n levels are left, its own among them
-abbrev pub begun : ℕ → ℕ → Reader Row (List Decl)
-begun zero level rows = None
-begun (suc n) level rows = as_many (at_decl level) (decl_with (MOST_LEVELS + 1) n level (node_at (MOST_LEVELS + 1) n (level + 1) process)) rows
+abbrev pub begun : ℕ → ℕ → Reader LogicalLine (List Decl)
+begun zero level lines = None
+begun (suc n) level lines = as_many (at_decl level) (decl_with (MOST_LEVELS + 1) n level (node_at (MOST_LEVELS + 1) n (level + 1) process)) lines
 
 -- a declaration whose first lines are read: it is whole, or the body of a procedure is left
 pub data DeclLeft : Type 0 where
@@ -72,22 +72,22 @@ abbrev pub decl_left_of : OpenedDecl → DeclLeft
 decl_left_of (declarations.Whole d) = whole (decl_of d)
 decl_left_of (declarations.Proc l v fs) = body_of l v.items (formals_of fs)
 
-abbrev pub left_behind : ℕ → ℕ → ℕ → DeclHead → Reader Row DeclLeft
-left_behind n level l (names es t v vs) rows = Some (whole (declares l es t v vs), rows)
-left_behind n level l (value t v e) rows = Some (whole (item (value_item l t v e)), rows)
-left_behind n level l (parts v p ps) rows = Some (whole (item (protocol_item (of_parts l v p ps))), rows)
-left_behind n level l (tags v) rows = do
-  p ← tags_at (MOST_LEVELS + 1) n level l v rows
+abbrev pub left_behind : ℕ → ℕ → ℕ → DeclHead → Reader LogicalLine DeclLeft
+left_behind n level l (names es t v vs) lines = Some (whole (declares l es t v vs), lines)
+left_behind n level l (value t v e) lines = Some (whole (item (value_item l t v e)), lines)
+left_behind n level l (parts v p ps) lines = Some (whole (item (protocol_item (of_parts l v p ps))), lines)
+left_behind n level l (tags v) lines = do
+  p ← tags_at (MOST_LEVELS + 1) n level l v lines
   Some (whole (item (protocol_item p.0)), p.1)
-left_behind n level l (procedure v fs) rows = Some (body_of l v fs, rows)
+left_behind n level l (procedure v fs) lines = Some (body_of l v fs, lines)
 
-abbrev pub decl_left_at : ℕ → ℕ → Reader Row DeclLeft
-decl_left_at n level rows = do
-  h ← declaration_line_with level rows
+abbrev pub decl_left_at : ℕ → ℕ → Reader LogicalLine DeclLeft
+decl_left_at n level lines = do
+  h ← declaration_line_with level lines
   left_behind n level h.0.0 h.0.1 h.1
 
 -- the line that ends a procedure, and the whole
-abbrev pub procedure_with : ℕ → ℕ → List ℕ → Formals → Node process → Reader Row Decl
-procedure_with level l v fs body rows = do
-  last ← end_at level rows
+abbrev pub procedure_with : ℕ → ℕ → List ℕ → Formals → Node process → Reader LogicalLine Decl
+procedure_with level l v fs body lines = do
+  last ← end_at level lines
   Some (item (proc_item l v fs body last.0), last.1)

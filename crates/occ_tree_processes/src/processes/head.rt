@@ -2,7 +2,7 @@
 //! them.
 
 ghost use Rattle.std.specs.Prelude.{◌≡◌, map};
-ghost use Rattle.occ_text.specs.Words.{rows};
+ghost use Rattle.occ_text.specs.Words.{logical_lines};
 ghost use Rattle.occ_tree_grammar.specs.Expressions.Reading.{Gives};
 ghost use Rattle.occ_tree_grammar.specs.Lines.HeadViews.{choice_head_of, option_head_of, arm_head_of, variant_head_of};
 ghost use Rattle.occ_tree_grammar.specs.Processes.Trees.{decls, node, single_body, process as the_process, choice as the_choice, option as the_option, arm as the_arm, variant as the_variant};
@@ -26,7 +26,7 @@ pub fn process_line(
     level: u32,
     lines: &[Line],
 ) -> Result<(u32, Opened, &[Line]), ParseFault>
-    ensures { Gives (λ x. ((x.0, opened_head x.1), rows x.2.now)) result (line_with the_process level (rows lines.now)) }
+    ensures { Gives (λ x. ((x.0, opened_head x.1), logical_lines x.2.now)) result (line_with the_process level (logical_lines lines.now)) }
 {
     let (first, rest) = line_of(last, level, lines)?;
     let line = first.number;
@@ -41,7 +41,7 @@ pub fn choice_line(
     level: u32,
     lines: &[Line],
 ) -> Result<(u32, ChoiceHead, &[Line]), ParseFault>
-    ensures { Gives (λ x. ((x.0, choice_head_of x.1), rows x.2.now)) result (line_with the_choice level (rows lines.now)) }
+    ensures { Gives (λ x. ((x.0, choice_head_of x.1), logical_lines x.2.now)) result (line_with the_choice level (logical_lines lines.now)) }
 {
     let (first, rest) = line_of(last, level, lines)?;
     let line = first.number;
@@ -56,7 +56,7 @@ pub fn selection_line(
     level: u32,
     lines: &[Line],
 ) -> Result<(u32, OptionHead, &[Line]), ParseFault>
-    ensures { Gives (λ x. ((x.0, option_head_of x.1), rows x.2.now)) result (line_with the_option level (rows lines.now)) }
+    ensures { Gives (λ x. ((x.0, option_head_of x.1), logical_lines x.2.now)) result (line_with the_option level (logical_lines lines.now)) }
 {
     let (first, rest) = line_of(last, level, lines)?;
     let line = first.number;
@@ -71,7 +71,7 @@ pub fn arm_line(
     level: u32,
     lines: &[Line],
 ) -> Result<(u32, ArmHead, &[Line]), ParseFault>
-    ensures { Gives (λ x. ((x.0, arm_head_of x.1), rows x.2.now)) result (line_with the_arm level (rows lines.now)) }
+    ensures { Gives (λ x. ((x.0, arm_head_of x.1), logical_lines x.2.now)) result (line_with the_arm level (logical_lines lines.now)) }
 {
     let (first, rest) = line_of(last, level, lines)?;
     let line = first.number;
@@ -86,7 +86,7 @@ pub fn variant_line(
     level: u32,
     lines: &[Line],
 ) -> Result<(u32, VariantHead, &[Line]), ParseFault>
-    ensures { Gives (λ x. ((x.0, variant_head_of x.1), rows x.2.now)) result (line_with the_variant level (rows lines.now)) }
+    ensures { Gives (λ x. ((x.0, variant_head_of x.1), logical_lines x.2.now)) result (line_with the_variant level (logical_lines lines.now)) }
 {
     let (first, rest) = line_of(last, level, lines)?;
     let line = first.number;

@@ -1,7 +1,7 @@
 //! Protocols of variants.
 
 ghost use Rattle.std.specs.Prelude.{◌≡◌, ◌≤◌, ◌+◌, map};
-ghost use Rattle.occ_text.specs.Words.{rows};
+ghost use Rattle.occ_text.specs.Words.{logical_lines};
 ghost use Rattle.occ_tree_grammar.specs.Many.{as_many};
 ghost use Rattle.occ_tree_grammar.specs.Expressions.Reading.{Gives};
 ghost use Rattle.occ_tree_grammar.specs.Lines.HeadViews.{tag_head_of};
@@ -22,7 +22,7 @@ fn tag_inside(
     level: u32,
     lines: &[Line],
 ) -> Result<(Tag, &[Line]), ParseFault>
-    ensures { Gives (λ x. (tag_of x.0, rows x.1.now)) result (tag_with (MOST_LEVELS + 1) level (rows lines.now)) }
+    ensures { Gives (λ x. (tag_of x.0, logical_lines x.1.now)) result (tag_with (MOST_LEVELS + 1) level (logical_lines lines.now)) }
 {
     let (first, rest) = line_of(last, level, lines)?;
     let line = first.number;
@@ -45,7 +45,7 @@ fn tag(
     level: u32,
     lines: &[Line],
 ) -> Result<(Tag, &[Line]), ParseFault>
-    ensures { Gives (λ x. (tag_of x.0, rows x.1.now)) result (tag_at (MOST_LEVELS + 1) left level (rows lines.now)) }
+    ensures { Gives (λ x. (tag_of x.0, logical_lines x.1.now)) result (tag_at (MOST_LEVELS + 1) left level (logical_lines lines.now)) }
 {
     if left == 0 {
         return Err(too_deep(last, level, lines));
@@ -60,7 +60,7 @@ fn tag_list(
     level: u32,
     lines: &[Line],
 ) -> Result<(Vec<Tag>, &[Line]), ParseFault>
-    ensures { Gives (λ x. (map tag_of x.0.items, rows x.1.now)) result (as_many (at_level level) (tag_at (MOST_LEVELS + 1) left level) (rows lines.now)) }
+    ensures { Gives (λ x. (map tag_of x.0.items, logical_lines x.1.now)) result (as_many (at_level level) (tag_at (MOST_LEVELS + 1) left level) (logical_lines lines.now)) }
 {
     let mut all = Vec::new(alloc);
     let mut rest = lines;
@@ -85,7 +85,7 @@ fn tags_inside(
     lines: &[Line],
 ) -> Result<(Protocol, &[Line]), ParseFault>
     requires { level + left ≤ MOST_LEVELS }
-    ensures { Gives (λ x. (protocol_of x.0, rows x.1.now)) result (tags_with (MOST_LEVELS + 1) left level line name.items (rows lines.now)) }
+    ensures { Gives (λ x. (protocol_of x.0, logical_lines x.1.now)) result (tags_with (MOST_LEVELS + 1) left level line name.items (logical_lines lines.now)) }
 {
     let below = level + 1;
     let (case, rest) = case_line(last, below, lines)?;
@@ -105,7 +105,7 @@ pub fn tags(
     lines: &[Line],
 ) -> Result<(Protocol, &[Line]), ParseFault>
     requires { level + left ≤ MOST_LEVELS }
-    ensures { Gives (λ x. (protocol_of x.0, rows x.1.now)) result (tags_at (MOST_LEVELS + 1) left level line name.items (rows lines.now)) }
+    ensures { Gives (λ x. (protocol_of x.0, logical_lines x.1.now)) result (tags_at (MOST_LEVELS + 1) left level line name.items (logical_lines lines.now)) }
 {
     if left == 0 {
         return Err(too_deep(last, level + 1, lines));

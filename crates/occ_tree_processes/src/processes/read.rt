@@ -5,7 +5,7 @@
 //! by loops. The first line of each, and what it is in the end, stand in other files.
 
 ghost use Rattle.std.specs.Prelude.{◌≡◌, ◌≤◌, ◌<◌, ◌+◌, OnOk, map};
-ghost use Rattle.occ_text.specs.Words.{rows};
+ghost use Rattle.occ_text.specs.Words.{logical_lines};
 ghost use Rattle.occ_tree_grammar.specs.Many.{as_many};
 ghost use Rattle.occ_tree_grammar.specs.Expressions.Reading.{Gives};
 ghost use Rattle.occ_tree_grammar.specs.Processes.Trees.{process as the_process, choice as the_choice, option as the_option, arm as the_arm, variant as the_variant};
@@ -36,7 +36,7 @@ pub fn process(
     lines: &[Line],
 ) -> Result<(Process, &[Line]), ParseFault>
     requires { level + left ≤ MOST_LEVELS + 1 }
-    ensures { Gives (λ x. (process_of x.0, rows x.1.now)) result (node_at (MOST_LEVELS + 1) left level the_process (rows lines.now)) }
+    ensures { Gives (λ x. (process_of x.0, logical_lines x.1.now)) result (node_at (MOST_LEVELS + 1) left level the_process (logical_lines lines.now)) }
 {
     let (declarations, rest) = declarations(alloc, last, left, level, lines)?;
     let (line, opened, rest) = process_line(alloc, last, level, rest)?;
@@ -109,7 +109,7 @@ fn processes(
     lines: &[Line],
 ) -> Result<(Vec<Process>, &[Line]), ParseFault>
     requires { level + left ≤ MOST_LEVELS + 1 }
-    ensures { Gives (λ x. (map process_of x.0.items, rows x.1.now)) result (as_many (at_level level) (node_at (MOST_LEVELS + 1) left level the_process) (rows lines.now)) }
+    ensures { Gives (λ x. (map process_of x.0.items, logical_lines x.1.now)) result (as_many (at_level level) (node_at (MOST_LEVELS + 1) left level the_process) (logical_lines lines.now)) }
 {
     let mut all = Vec::new(alloc);
     let mut rest = lines;
@@ -134,7 +134,7 @@ fn choice(
     lines: &[Line],
 ) -> Result<(Choice, &[Line]), ParseFault>
     requires { level + left ≤ MOST_LEVELS + 1 }
-    ensures { Gives (λ x. (choice_of x.0, rows x.1.now)) result (node_at (MOST_LEVELS + 1) left level the_choice (rows lines.now)) }
+    ensures { Gives (λ x. (choice_of x.0, logical_lines x.1.now)) result (node_at (MOST_LEVELS + 1) left level the_choice (logical_lines lines.now)) }
 {
     let (declarations, rest) = declarations(alloc, last, left, level, lines)?;
     let (line, head, rest) = choice_line(alloc, last, level, rest)?;
@@ -169,7 +169,7 @@ fn choices(
     lines: &[Line],
 ) -> Result<(Vec<Choice>, &[Line]), ParseFault>
     requires { level + left ≤ MOST_LEVELS + 1 }
-    ensures { Gives (λ x. (map choice_of x.0.items, rows x.1.now)) result (as_many (at_level level) (node_at (MOST_LEVELS + 1) left level the_choice) (rows lines.now)) }
+    ensures { Gives (λ x. (map choice_of x.0.items, logical_lines x.1.now)) result (as_many (at_level level) (node_at (MOST_LEVELS + 1) left level the_choice) (logical_lines lines.now)) }
 {
     let mut all = Vec::new(alloc);
     let mut rest = lines;
@@ -194,7 +194,7 @@ fn selections(
     lines: &[Line],
 ) -> Result<(Vec<Selection>, &[Line]), ParseFault>
     requires { level + left ≤ MOST_LEVELS + 1 }
-    ensures { Gives (λ x. (map selection_of x.0.items, rows x.1.now)) result (as_many (at_level level) (node_at (MOST_LEVELS + 1) left level the_option) (rows lines.now)) }
+    ensures { Gives (λ x. (map selection_of x.0.items, logical_lines x.1.now)) result (as_many (at_level level) (node_at (MOST_LEVELS + 1) left level the_option) (logical_lines lines.now)) }
 {
     let mut all = Vec::new(alloc);
     let mut rest = lines;
@@ -221,7 +221,7 @@ fn arm(
     lines: &[Line],
 ) -> Result<(Arm, &[Line]), ParseFault>
     requires { level + left ≤ MOST_LEVELS + 1 }
-    ensures { Gives (λ x. (arm_of x.0, rows x.1.now)) result (node_at (MOST_LEVELS + 1) left level the_arm (rows lines.now)) }
+    ensures { Gives (λ x. (arm_of x.0, logical_lines x.1.now)) result (node_at (MOST_LEVELS + 1) left level the_arm (logical_lines lines.now)) }
 {
     let (declarations, rest) = declarations(alloc, last, left, level, lines)?;
     let (line, head, rest) = arm_line(alloc, last, level, rest)?;
@@ -263,7 +263,7 @@ fn arms(
     lines: &[Line],
 ) -> Result<(Vec<Arm>, &[Line]), ParseFault>
     requires { level + left ≤ MOST_LEVELS + 1 }
-    ensures { Gives (λ x. (map arm_of x.0.items, rows x.1.now)) result (as_many (at_level level) (node_at (MOST_LEVELS + 1) left level the_arm) (rows lines.now)) }
+    ensures { Gives (λ x. (map arm_of x.0.items, logical_lines x.1.now)) result (as_many (at_level level) (node_at (MOST_LEVELS + 1) left level the_arm) (logical_lines lines.now)) }
 {
     let mut all = Vec::new(alloc);
     let mut rest = lines;
@@ -288,7 +288,7 @@ fn variants(
     lines: &[Line],
 ) -> Result<(Vec<Variant>, &[Line]), ParseFault>
     requires { level + left ≤ MOST_LEVELS + 1 }
-    ensures { Gives (λ x. (map variant_of x.0.items, rows x.1.now)) result (as_many (at_level level) (node_at (MOST_LEVELS + 1) left level the_variant) (rows lines.now)) }
+    ensures { Gives (λ x. (map variant_of x.0.items, logical_lines x.1.now)) result (as_many (at_level level) (node_at (MOST_LEVELS + 1) left level the_variant) (logical_lines lines.now)) }
 {
     let mut all = Vec::new(alloc);
     let mut rest = lines;
@@ -315,7 +315,7 @@ fn declarations(
     lines: &[Line],
 ) -> Result<(Vec<Decl>, &[Line]), ParseFault>
     requires { level + left ≤ MOST_LEVELS + 1 }
-    ensures read { Gives (λ x. (map decl_of x.0.items, rows x.1.now)) result (begun left level (rows lines.now)) }
+    ensures read { Gives (λ x. (map decl_of x.0.items, logical_lines x.1.now)) result (begun left level (logical_lines lines.now)) }
     ensures left { OnOk result (0 < left) }
 {
     if left == 0 {
@@ -344,7 +344,7 @@ pub fn declaration(
     lines: &[Line],
 ) -> Result<(Decl, &[Line]), ParseFault>
     requires { level + left ≤ MOST_LEVELS }
-    ensures { Gives (λ x. (decl_of x.0, rows x.1.now)) result (decl_with (MOST_LEVELS + 1) left level (node_at (MOST_LEVELS + 1) left (level + 1) the_process) (rows lines.now)) }
+    ensures { Gives (λ x. (decl_of x.0, logical_lines x.1.now)) result (decl_with (MOST_LEVELS + 1) left level (node_at (MOST_LEVELS + 1) left (level + 1) the_process) (logical_lines lines.now)) }
 {
     let (opened, rest) = declaration_opened(alloc, last, left, level, lines)?;
     match opened {
