@@ -5,7 +5,7 @@ use Rattle.occ_tree_grammar.specs.Many.{◌>>=◌}
 use Rattle.occ_term.specs.declared.expression.Declaration.{Declaration}
 use Rattle.occ_tree_grammar.specs.Processes.Trees.{Kind, Node, choice, more_nodes, no_node, nodes}
 use Rattle.occ_tree_grammar.specs.Processes.Views as trees
-use Rattle.occ_tree_grammar.specs.Processes.Views.{process_of, row_decls}
+use Rattle.occ_tree_grammar.specs.Processes.Views.{process_of, held_decls}
 use Rattle.occ_tree_grammar.specs.declared.tree.process.Choice.{Choice}
 use Rattle.occ_tree_grammar.specs.declared.tree.process.Choice.TheVariants as choices
 use Rattle.occ_term.specs.Terms as T

@@ -4,7 +4,7 @@ use Rattle.std.specs.declared.boxed.Box.{Box}
 use Rattle.occ_tree_grammar.specs.Many.{◌>>=◌}
 use Rattle.occ_tree_grammar.specs.Processes.Trees.{nodes}
 use Rattle.occ_tree_grammar.specs.Processes.Trees.{Decls}
-use Rattle.occ_tree_grammar.specs.Processes.Views.{process_of, row_decls, selection_of}
+use Rattle.occ_tree_grammar.specs.Processes.Views.{process_of, held_decls, selection_of}
 use Rattle.occ_tree_grammar.specs.Expressions.Trees.{expression_of as tree_of}
 use Rattle.occ_tree_grammar.specs.declared.tree.expr.Expr.{Expr}
 use Rattle.occ_tree_grammar.specs.declared.tree.line.OneOrMore.{OneOrMore}
@@ -102,7 +102,7 @@ module _ (type : Primitive) (sc : Scope Calling) (depth : ℕ) (x : Selection) (
 
 -- ---- one option, by its cases
 
-module _ (s : Selection) (ds : Vec Decl Global) (line : ℕ) (es : Box (OneOrMore Expr) Global) (p : Process) (xs : Decls) (is : s ≡ selections.Values ds line es p) (same : xs ≡ row_decls (hidden-the_row-Decl-0 ds)) where
+module _ (s : Selection) (ds : Vec Decl Global) (line : ℕ) (es : Box (OneOrMore Expr) Global) (p : Process) (xs : Decls) (is : s ≡ selections.Values ds line es p) (same : xs ≡ held_decls (hidden-the_row-Decl-0 ds)) where
   pub values_size : node_size (selection_of s) ≡ (decls_size xs + (node_size (process_of p) + 1)) + 2
   unfolding selection_of node_size
   values_size = ap (λ x. node_size (selection_of x)) is ∙ ap (λ d. (decls_size d + (node_size (process_of p) + 1)) + 2) (sym same)
@@ -114,7 +114,7 @@ module _ (s : Selection) (ds : Vec Decl Global) (line : ℕ) (es : Box (OneOrMor
       ap (λ x. option_unfolded (selection_of x) type before sc depth n) is
       ∙ ap (λ d. P.option_of line (tree_of es.value.first ∷ map tree_of es.value.others.items) (all_declared d) (unfolded (process_of p)) type before sc depth n) (sym same)
 
-module _ (s : Selection) (ds : Vec Decl Global) (line : ℕ) (p : Process) (xs : Decls) (is : s ≡ selections.Else ds line p) (same : xs ≡ row_decls (hidden-the_row-Decl-0 ds)) where
+module _ (s : Selection) (ds : Vec Decl Global) (line : ℕ) (p : Process) (xs : Decls) (is : s ≡ selections.Else ds line p) (same : xs ≡ held_decls (hidden-the_row-Decl-0 ds)) where
   pub otherwise_size : node_size (selection_of s) ≡ (decls_size xs + (node_size (process_of p) + 1)) + 2
   unfolding selection_of node_size
   otherwise_size = ap (λ x. node_size (selection_of x)) is ∙ ap (λ d. (decls_size d + (node_size (process_of p) + 1)) + 2) (sym same)

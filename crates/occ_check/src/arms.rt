@@ -3,7 +3,7 @@
 ghost use Rattle.std.specs.Prelude.{◌≡◌, ◌<◌, ◌≤◌, ◌+◌, IfOk, OnOk, length, map, take};
 ghost use Rattle.occ_tree_grammar.specs.Processes.Trees.{decls, more_nodes, no_node, nodes};
 ghost use Rattle.occ_tree_grammar.specs.Processes.Views as trees;
-ghost use Rattle.occ_tree_grammar.specs.Processes.Views.{decl_of, process_of, row_arms, row_decls};
+ghost use Rattle.occ_tree_grammar.specs.Processes.Views.{decl_of, process_of, held_arms, held_decls};
 ghost use Rattle.occ_tree_grammar.specs.declared.tree.process.Arm.TheBlock.{hidden-the_row-Arm-2, hidden-the_row-Decl-0};
 ghost use Rattle.occ_tree_grammar.specs.Lines.HeadViews.{guard_of};
 ghost use Rattle.occ_tree_grammar.specs.Lines.Views.{replicator_of};
@@ -354,14 +354,14 @@ fn one_arm(arm: &Arm) -> &[Arm]
 /// The arms of an ALT, as a slice.
 #[tactic(auto, using(crate::proofs::Rows::arms_made))]
 pub(crate) fn listed_arms(arms: &Vec<Arm>) -> &[Arm]
-    ensures { nodes (map trees.arm_of result.now) ≡ row_arms (hidden-the_row-Arm-2 arms.now) }
+    ensures { nodes (map trees.arm_of result.now) ≡ held_arms (hidden-the_row-Arm-2 arms.now) }
 {
     arms.as_slice()
 }
 
 /// The declarations of an arm, as they are kept.
 fn kept_declarations(arm: &Arm) -> &Vec<Decl>
-    ensures { row_decls (hidden-the_row-Decl-0 result.now) ≡ declarations_of_arm arm.now }
+    ensures { held_decls (hidden-the_row-Decl-0 result.now) ≡ declarations_of_arm arm.now }
 {
     match arm {
         Arm::Guarded(declarations, _, _, _) => declarations,

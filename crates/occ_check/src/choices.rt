@@ -3,7 +3,7 @@
 ghost use Rattle.std.specs.Prelude.{◌≡◌, ◌<◌, ◌≤◌, ◌+◌, IfOk, OnOk, length, map, take};
 ghost use Rattle.occ_tree_grammar.specs.Processes.Trees.{decls, more_nodes, no_node, nodes};
 ghost use Rattle.occ_tree_grammar.specs.Processes.Views as trees;
-ghost use Rattle.occ_tree_grammar.specs.Processes.Views.{decl_of, row_choices, row_decls};
+ghost use Rattle.occ_tree_grammar.specs.Processes.Views.{decl_of, held_choices, held_decls};
 ghost use Rattle.occ_tree_grammar.specs.declared.tree.process.Arm.TheBlock.{hidden-the_row-Choice-3, hidden-the_row-Decl-0};
 ghost use Rattle.occ_tree_grammar.specs.Lines.Views.{replicator_of};
 ghost use Rattle.occ_term.specs.Terms.{no_choices};
@@ -264,14 +264,14 @@ fn one_choice(choice: &Choice) -> &[Choice]
 /// The choices of an IF, as a slice.
 #[tactic(auto, using(crate::proofs::Rows::choices_made))]
 pub(crate) fn listed_choices(choices: &Vec<Choice>) -> &[Choice]
-    ensures { nodes (map trees.choice_of result.now) ≡ row_choices (hidden-the_row-Choice-3 choices.now) }
+    ensures { nodes (map trees.choice_of result.now) ≡ held_choices (hidden-the_row-Choice-3 choices.now) }
 {
     choices.as_slice()
 }
 
 /// The declarations of a choice, as they are kept.
 fn kept_declarations(choice: &Choice) -> &Vec<Decl>
-    ensures { row_decls (hidden-the_row-Decl-0 result.now) ≡ declarations_of_choice choice.now }
+    ensures { held_decls (hidden-the_row-Decl-0 result.now) ≡ declarations_of_choice choice.now }
 {
     match choice {
         Choice::When(declarations, _, _, _) => declarations,

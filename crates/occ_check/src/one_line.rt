@@ -2,7 +2,7 @@
 
 ghost use Rattle.std.specs.Prelude.{◌≡◌, ◌<◌, ◌≤◌, ◌+◌, ◌∷◌, IfOk, OnOk, length, map, reverse, take};
 ghost use Rattle.occ_tree_grammar.specs.Processes.Trees.{decls};
-ghost use Rattle.occ_tree_grammar.specs.Processes.Views.{decl_of, row_decls};
+ghost use Rattle.occ_tree_grammar.specs.Processes.Views.{decl_of, held_decls};
 ghost use Rattle.occ_tree_grammar.specs.declared.tree.process.Arm.TheBlock.{hidden-the_row-Decl-0};
 ghost use Rattle.occ_tree_grammar.specs.Expressions.Trees.{expression_of as tree_of};
 ghost use Rattle.occ_tree_grammar.specs.Lines.Views as lines;
@@ -279,7 +279,7 @@ fn count_received(
 /// Declarations, as a slice.
 #[tactic(auto, using(crate::proofs::Parts::decls_made))]
 pub(crate) fn listed_declarations(declarations: &Vec<Decl>) -> &[Decl]
-    ensures { decls (map decl_of result.now) ≡ row_decls (hidden-the_row-Decl-0 declarations.now) }
+    ensures { decls (map decl_of result.now) ≡ held_decls (hidden-the_row-Decl-0 declarations.now) }
 {
     declarations.as_slice()
 }

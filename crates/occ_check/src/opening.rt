@@ -6,7 +6,7 @@ ghost use Rattle.occ_tree_grammar.specs.Lines.HeadViews.{action_of};
 ghost use Rattle.occ_tree_grammar.specs.Lines.Heads.{call};
 ghost use Rattle.occ_tree_grammar.specs.Lines.Views.{actuals_of, replicator_of};
 ghost use Rattle.occ_tree_grammar.specs.Processes.Trees.{decls, nodes};
-ghost use Rattle.occ_tree_grammar.specs.Processes.Views.{decl_of, process_of, row_decls, row_processes};
+ghost use Rattle.occ_tree_grammar.specs.Processes.Views.{decl_of, process_of, held_decls, held_processes};
 ghost use Rattle.occ_tree_grammar.specs.declared.tree.process.Arm.TheBlock.{hidden-the_row-Decl-0, hidden-the_row-Process-4};
 ghost use Rattle.occ_term.specs.View.{term_of};
 ghost use Rattle.occ_check_meaning.specs.Performing as performing;
@@ -271,7 +271,7 @@ fn done<'t>(at: Position, depth: u32, term: Term) -> Opened<'t>
 
 /// The declarations of a process, as they are kept.
 fn kept_declarations(process: &Process) -> &Vec<Decl>
-    ensures { row_decls (hidden-the_row-Decl-0 result.now) ≡ declarations_in process.now }
+    ensures { held_decls (hidden-the_row-Decl-0 result.now) ≡ declarations_in process.now }
 {
     match process {
         Process::Declared(declarations, _, _) => declarations,
@@ -307,7 +307,7 @@ fn statement_of(process: &Process) -> &Stmt
 /// The processes of a SEQ or a PAR, as a slice.
 #[tactic(auto, using(crate::proofs::InTurn::processes_made))]
 fn listed_processes(processes: &Vec<Process>) -> &[Process]
-    ensures { nodes (map process_of result.now) ≡ row_processes (hidden-the_row-Process-4 processes.now) }
+    ensures { nodes (map process_of result.now) ≡ held_processes (hidden-the_row-Process-4 processes.now) }
 {
     processes.as_slice()
 }

@@ -2,7 +2,7 @@
 
 ghost use Rattle.std.specs.Prelude.{◌≡◌, ◌<◌, ◌≤◌, ◌+◌, ◌∷◌, IfOk, OnOk, length, map, take};
 ghost use Rattle.occ_tree_grammar.specs.Processes.Trees.{nodes, decls};
-ghost use Rattle.occ_tree_grammar.specs.Processes.Views.{decl_of, process_of, row_selections, selection_of};
+ghost use Rattle.occ_tree_grammar.specs.Processes.Views.{decl_of, process_of, held_selections, selection_of};
 ghost use Rattle.occ_tree_grammar.specs.declared.tree.process.Arm.TheBlock.{hidden-the_row-Selection-5};
 ghost use Rattle.occ_tree_grammar.specs.Expressions.Trees.{expression_of as tree_of};
 ghost use Rattle.occ_term.specs.Terms.{no_options};
@@ -350,7 +350,7 @@ fn each_constant(
 /// The options of a CASE, as a slice.
 #[tactic(auto, using(crate::proofs::Rows::selections_made))]
 pub(crate) fn listed_selections(selections: &Vec<Selection>) -> &[Selection]
-    ensures { nodes (map selection_of result.now) ≡ row_selections (hidden-the_row-Selection-5 selections.now) }
+    ensures { nodes (map selection_of result.now) ≡ held_selections (hidden-the_row-Selection-5 selections.now) }
 {
     selections.as_slice()
 }

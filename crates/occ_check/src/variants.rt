@@ -3,7 +3,7 @@
 ghost use Rattle.std.specs.Prelude.{◌≡◌, ◌<◌, ◌≤◌, ◌+◌, [], IfOk, OnOk, length, map, take};
 ghost use Rattle.occ_tree_grammar.specs.Processes.Trees.{nodes, decls};
 ghost use Rattle.occ_tree_grammar.specs.Processes.Views as trees;
-ghost use Rattle.occ_tree_grammar.specs.Processes.Views.{decl_of, process_of, row_decls, row_variants};
+ghost use Rattle.occ_tree_grammar.specs.Processes.Views.{decl_of, process_of, held_decls, held_variants};
 ghost use Rattle.occ_tree_grammar.specs.declared.tree.process.Arm.TheBlock.{hidden-the_row-Decl-0, hidden-the_row-Variant-1};
 ghost use Rattle.occ_tree_grammar.specs.Lines.Views as lines;
 ghost use Rattle.occ_term.specs.Terms.{no_variants};
@@ -304,7 +304,7 @@ fn line_of(variant: &Variant) -> u32
 
 /// The declarations of a variant, as they are kept.
 fn kept_declarations(variant: &Variant) -> &Vec<Decl>
-    ensures { row_decls (hidden-the_row-Decl-0 result.now) ≡ declarations_of_variant variant.now }
+    ensures { held_decls (hidden-the_row-Decl-0 result.now) ≡ declarations_of_variant variant.now }
 {
     match variant {
         Variant::Tagged(declarations, _, _, _, _) => declarations,
@@ -350,7 +350,7 @@ fn tag_of(variant: &Variant) -> &[u8]
 /// The variants of an input, as a slice.
 #[tactic(auto, using(crate::proofs::Rows::variants_made))]
 pub(crate) fn listed_variants(variants: &Vec<Variant>) -> &[Variant]
-    ensures { nodes (map trees.variant_of result.now) ≡ row_variants (hidden-the_row-Variant-1 variants.now) }
+    ensures { nodes (map trees.variant_of result.now) ≡ held_variants (hidden-the_row-Variant-1 variants.now) }
 {
     variants.as_slice()
 }

@@ -9,7 +9,7 @@ use Rattle.occ_tree_grammar.specs.declared.tree.expr.Operand.{Operand as Operand
 use Rattle.occ_tree_grammar.specs.declared.tree.expr.Operand.TheVariants as operandTrees
 use Rattle.occ_tree_grammar.specs.declared.tree.expr.Logic.{Logic}
 use Rattle.occ_tree_grammar.specs.Expressions.Trees as trees
-use Rattle.occ_tree_grammar.proofs.Rows.{operands_made, expressions_made}
+use Rattle.occ_tree_grammar.proofs.Children.{operands_made, expressions_made}
 use Rattle.occ_term.specs.declared.primitive.Primitive.TheVariants.{Bool as Boolean, Int}
 use Rattle.occ_term.specs.Terms as T
 use Rattle.occ_term.specs.Terms.{Subscripts, no_subscripts, then_subscript}

@@ -2,7 +2,7 @@
 -- Manual: combining processes.
 use Rattle.std.specs.Prelude.{if◌then◌else◌, None, Some, [], nat_lt, pos, true, ◌∷◌}
 use Rattle.occ_term.specs.declared.primitive.Primitive.TheVariants.{Int}
-use Rattle.occ_term.specs.declared.expression.Operator.TheVariants.{Plus, Less}
+use Rattle.occ_term.specs.declared.expression.Operator.TheVariants.{Add, Less}
 use Rattle.occ_term.specs.Terms.{Constant, Cell, Binary, place, no_subscripts, OfOne, Into, replicator, Term, Skip, Assign, Par, Alt, While, Each, no_branches, and_branch, no_arms, skip_arm, declared_arms, each_arm, Naming}
 use Rattle.occ_term.specs.TermTyping.{Declared}
 use Rattle.occ_code.specs.Emitted.{body_of}
@@ -13,7 +13,7 @@ use Rattle.occ_code.specs.Alike.{DoesAs}
 abbrev pub counts : Term
 counts =
     While (Binary Less Int 1 (Cell 0) (Constant (pos 10)))
-    (Assign (Into (place 2 0 [] no_subscripts) ∷ []) (OfOne Int (Binary Plus Int 2 (Cell 0) (Constant (pos 1))) ∷ []))
+    (Assign (Into (place 2 0 [] no_subscripts) ∷ []) (OfOne Int (Binary Add Int 2 (Cell 0) (Constant (pos 1))) ∷ []))
 
 -- three cells are of INT
 abbrev pub whole_numbers : Declared

@@ -2,7 +2,7 @@
 -- Manual: nothing; this is (own).
 use Rattle.std.specs.Prelude.{Bool, List, [], Option, length, map, take, ℕ, ⊤, ◌*◌, ◌<◌, ◌≡◌}
 use Rattle.std.specs.Io.KnownBytes.{Appends}
-use Rattle.occ_text.specs.Words.{Row}
+use Rattle.occ_text.specs.Words.{LogicalLine}
 use Rattle.occ_text.specs.Lines.{LinesOf}
 use Rattle.occ_text.specs.declared.fault.TextFault.{TextFault}
 use Rattle.occ_text.specs.declared.fault.TextFault.TheVariants as text
@@ -42,13 +42,13 @@ use Rattle.occ_net_replay.specs.Replay.{Net, Replays, ending_of}
 -- ---- what a text is
 
 -- a tree within the bounds, whose written form the lines are
-pub record IsTreeOf (lines : List Row) (items : List Item) : Type 0 where
+pub record IsTreeOf (lines : List LogicalLine) (items : List Item) : Type 0 where
   pub shown : show_program items ≡ lines
   pub bounded : InBounds items
 
 -- the program of a text: its logical lines have a tree, and their unfolding is this one, typed, with its processes numbered
 pub record Unfolds (source : List ℕ) (u : UnfoldedProgram) : Type 0 where
-  pub lines : List Row
+  pub lines : List LogicalLine
   pub read : LinesOf source lines
   pub items : List Item
   pub parsed : IsTreeOf lines items
@@ -113,14 +113,14 @@ IsSomeAnswer options source keyboard list trace bytes = (played : Played) × IsA
 -- a text is refused only where the definitions refuse it; want of memory says nothing
 abbrev pub TextRefuses : TextFault → List ℕ → Type 0
 TextRefuses text.Memory source = ⊤
-TextRefuses fault source = (lines : List Row) → LinesOf source lines → ⊥
+TextRefuses fault source = (lines : List LogicalLine) → LinesOf source lines → ⊥
 
 abbrev pub ParseRefuses : ParseFault → List ℕ → Type 0
 ParseRefuses tree.Memory source = ⊤
-ParseRefuses fault source = (lines : List Row) (items : List Item) → LinesOf source lines → IsTreeOf lines items → ⊥
+ParseRefuses fault source = (lines : List LogicalLine) (items : List Item) → LinesOf source lines → IsTreeOf lines items → ⊥
 
 abbrev pub CheckRefusesText : CheckFault → List ℕ → Type 0
-CheckRefusesText fault source = (lines : List Row) (items : List Item) → LinesOf source lines → IsTreeOf lines items → CheckRefuses fault items
+CheckRefusesText fault source = (lines : List LogicalLine) (items : List Item) → LinesOf source lines → IsTreeOf lines items → CheckRefuses fault items
 
 abbrev pub UsageRefusesText : UsageFault → List ℕ → Type 0
 UsageRefusesText usage.Memory source = ⊤

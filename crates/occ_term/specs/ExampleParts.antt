@@ -1,7 +1,7 @@
 -- What the examples are made of: parts of terms by short names, and the runs that play them.
 -- Manual: nothing; the programs are (own).
 use Rattle.std.specs.Prelude.{ℤ, neg_ℤ, pos, ℕ, List, [], ◌∷◌, None}
-use Rattle.occ_term.specs.Terms.{Expression, Constant, place, no_subscripts, Target, IntoCounted, Place, Term, Terms, no_terms, then_term, Seq, Into, Plus, Binary, Item, OfOne, Output, Conversion, then_subscript, Negate, Unary}
+use Rattle.occ_term.specs.Terms.{Expression, Constant, place, no_subscripts, Target, IntoCounted, Place, Term, Terms, no_terms, then_term, Seq, Into, Add, Binary, Item, OfOne, Output, Conversion, then_subscript, Negate, Unary}
 use Rattle.occ_term.specs.Values.{Store}
 use Rattle.occ_term.specs.Storing.{Outcome, Gives, Faults}
 use Rattle.occ_term.specs.Messages.{Message, Int, Byte}
@@ -45,7 +45,7 @@ abbrev pub into : (line cell : ℕ) → Target
 into line cell = Into (single line cell)
 
 abbrev pub plus : ℕ → Expression → Expression → Expression
-plus line a b = Binary Plus Int line a b
+plus line a b = Binary Add Int line a b
 
 abbrev pub one_int : Expression → List Item
 one_int e = OfOne Int e ∷ []

@@ -3,7 +3,7 @@
 use Rattle.std.specs.Prelude.{[], ◌∷◌, List, None, Some, pos}
 use Rattle.occ_term.specs.ExampleParts.{least_int, minus_one, in_order, into, one_int, shows_digit, Plays, number, shows, component}
 use Rattle.occ_term.specs.Messages.{Int, Byte, One, message, Boolean}
-use Rattle.occ_term.specs.Terms.{Remainder, Cell, Binary, Term, Assign, Clear, Plus, And, OfOne, Component, Into}
+use Rattle.occ_term.specs.Terms.{Remainder, Cell, Binary, Term, Assign, Clear, Add, And, OfOne, Component, Into}
 use Rattle.occ_term.specs.System.{OfProcess, Screen, communication}
 use Rattle.occ_term.specs.Runs.{Event, event, Ended}
 
@@ -22,7 +22,7 @@ RemainderPlays = Plays remainder [] remainder_events Ended
 
 -- `'a' + 1(BYTE)` is `b`.
 abbrev pub next_letter : Term
-next_letter = shows 2 (Binary Plus Byte 2 (number (pos 97)) (number (pos 1)))
+next_letter = shows 2 (Binary Add Byte 2 (number (pos 97)) (number (pos 1)))
 
 abbrev pub next_letter_events : List Event
 next_letter_events =

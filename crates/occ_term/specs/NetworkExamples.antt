@@ -4,7 +4,7 @@
 use Rattle.std.specs.Prelude.{None, [], ℕ, ℤ, ◌∷◌, pos, Some, Bool, List, ◌+ℤ◌, false, true, ◌+◌}
 use Rattle.occ_term.specs.ExampleParts.{number, single, to_screen, component, in_order, into, one_int, plus, shows_digit, Plays, shows}
 use Rattle.occ_term.specs.Messages.{Int, Byte, One, Message, message, Counted}
-use Rattle.occ_term.specs.Terms.{OfOne, Term, Output, Into, Skip, Reception, Plain, Plus, Cell, Binary, Conversion, Arms, no_arms, input_arm, Seq, Alt, Clear, no_terms, then_term, Branches, no_branches, and_branch, Par, Input, Expression, Component, Assign, Less, While, VariantInput, no_variants, or_variant, place, no_subscripts, IntoCounted, Cells, OfCounted, replicator, Each}
+use Rattle.occ_term.specs.Terms.{OfOne, Term, Output, Into, Skip, Reception, Plain, Add, Cell, Binary, Conversion, Arms, no_arms, input_arm, Seq, Alt, Clear, no_terms, then_term, Branches, no_branches, and_branch, Par, Input, Expression, Component, Assign, Less, While, VariantInput, no_variants, or_variant, place, no_subscripts, IntoCounted, Cells, OfCounted, replicator, Each}
 use Rattle.occ_term.specs.System.{OfProcess, communication, System, start, HaltMode, process, no_processes, and_process, system, SystemTurn, Screen, Keyboard}
 use Rattle.occ_term.specs.Runs.{Event, event, Run, Ended, EndsBy, Stopped}
 use Rattle.occ_term.specs.Steps.{Do, Forking, Done, left}
@@ -19,7 +19,7 @@ abbrev pub into_x : Reception
 into_x = Plain (Into (single 9 0) ∷ []) Skip
 
 abbrev pub writes_x : Term
-writes_x = Output (single 13 1) None (OfOne Byte (Conversion Byte 13 (Binary Plus Int 13 (Cell 0) (number (pos 48)))) ∷ [])
+writes_x = Output (single 13 1) None (OfOne Byte (Conversion Byte 13 (Binary Add Int 13 (Cell 0) (number (pos 48)))) ∷ [])
 
 abbrev pub both_arms : Arms
 both_arms = input_arm (Some (number (pos 1))) (single 9 3) into_x (input_arm None (single 11 4) into_x no_arms)

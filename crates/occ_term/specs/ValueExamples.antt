@@ -3,7 +3,7 @@
 use Rattle.std.specs.Prelude.{ℤ, pos, ◌≡◌, [], ◌∷◌, None, Option, Some, List, ℕ}
 use Rattle.occ_term.specs.ExampleParts.{minus, number, cell_in, count_and_two, zeros}
 use Rattle.occ_term.specs.Messages.{Primitive, Int, Byte, Arith, Convert, Shift, fault, Range, Fault, Counted, Message, message, PartType, Tag, OneOf, CountedArray, Variant, Fits, Boolean}
-use Rattle.occ_term.specs.Terms.{Operator, Binary, Divide, Expression, Plus, Remainder, PlusModulo, MinusModulo, TimesModulo, BitXor, ShiftLeft, ShiftRight, After, Equal, BitNot, Unary, And, Conversion, Place, place, no_subscripts, then_subscript, Array, Cells, OfCounted, Skip, Plain, Tagged, no_variants, or_variant, Text, Item, OfMany, Target, Into, Cell, OfOne, Monadic, Minus, Times, BitAnd, BitOr, Unequal, Less, AtLeast, Negate, Not}
+use Rattle.occ_term.specs.Terms.{Operator, Binary, Divide, Expression, Add, Remainder, Plus, Minus, Times, BitXor, ShiftLeft, ShiftRight, After, Equal, BitNot, Unary, And, Conversion, Place, place, no_subscripts, then_subscript, Array, Cells, OfCounted, Skip, Plain, Tagged, no_variants, or_variant, Text, Item, OfMany, Target, Into, Cell, OfOne, Monadic, Subtract, Multiply, BitAnd, BitOr, Unequal, Less, AtLeast, Negate, Not}
 use Rattle.occ_term.specs.Values.{Evaluated, value_of, Value, Fails, span, span_of, part_of, store_with}
 use Rattle.occ_term.specs.Storing.{Outcome, Gives, Faults, assigned}
 use Rattle.occ_term.specs.Selecting.{taken}
@@ -20,7 +20,7 @@ divides_by_zero = Binary Divide Int 1 (number (pos 1)) (number (pos 0))
 
 abbrev pub ValueRows : Type 0
 ValueRows =
-    (on_two Plus Int (pos 2147483647) (pos 1) ≡ Fails (fault Arith 1))
+    (on_two Add Int (pos 2147483647) (pos 1) ≡ Fails (fault Arith 1))
     × (on_two Divide Int (minus 7) (pos 2) ≡ Value (minus 3))
     × (on_two Remainder Int (minus 7) (pos 2) ≡ Value (minus 1))
     × (on_two Divide Int most_neg (minus 1) ≡ Fails (fault Arith 1))
@@ -28,10 +28,10 @@ ValueRows =
     × (on_two ShiftLeft Int (pos 1) (pos 32) ≡ Value (pos 0))
     × (on_two ShiftLeft Int (pos 1) (pos 33) ≡ Fails (fault Shift 1))
     × (on_two ShiftRight Int most_neg (pos 31) ≡ Value (pos 1))
-    × (on_two Plus Byte (pos 200) (pos 100) ≡ Fails (fault Arith 1))
-    × (on_two PlusModulo Byte (pos 200) (pos 100) ≡ Value (pos 44))
-    × (on_two TimesModulo Int (pos 65536) (pos 65536) ≡ Value (pos 0))
-    × (on_two MinusModulo Int most_neg (pos 1) ≡ Value (pos 2147483647))
+    × (on_two Add Byte (pos 200) (pos 100) ≡ Fails (fault Arith 1))
+    × (on_two Plus Byte (pos 200) (pos 100) ≡ Value (pos 44))
+    × (on_two Times Int (pos 65536) (pos 65536) ≡ Value (pos 0))
+    × (on_two Minus Int most_neg (pos 1) ≡ Value (pos 2147483647))
     × (on_two After Int most_neg (pos 2147483647) ≡ Value (pos 1))
     × (on_two BitXor Int (minus 1) (pos 255) ≡ Value (minus 256))
     × (value_of (Unary BitNot Byte 1 (number (pos 1))) (λ c. pos 0) ≡ Value (pos 254))
@@ -114,13 +114,13 @@ Limits =
     × (on_two Remainder Int (pos 7) (minus 2) ≡ Value (pos 1))
     × (on_two Remainder Int (minus 7) (minus 2) ≡ Value (minus 1))
     × (on_two Remainder Int (pos 7) (pos 0) ≡ Fails (fault Arith 1))
-    × (on_two Minus Byte (pos 0) (pos 1) ≡ Fails (fault Arith 1))
-    × (on_two Times Byte (pos 16) (pos 16) ≡ Fails (fault Arith 1))
-    × (on_two Times Byte (pos 15) (pos 17) ≡ Value (pos 255))
-    × (on_two MinusModulo Byte (pos 0) (pos 1) ≡ Value (pos 255))
-    × (on_two TimesModulo Byte (pos 255) (pos 255) ≡ Value (pos 1))
-    × (on_two PlusModulo Int most_pos (pos 1) ≡ Value most_neg)
-    × (on_two TimesModulo Int most_neg (minus 1) ≡ Value most_neg)
+    × (on_two Subtract Byte (pos 0) (pos 1) ≡ Fails (fault Arith 1))
+    × (on_two Multiply Byte (pos 16) (pos 16) ≡ Fails (fault Arith 1))
+    × (on_two Multiply Byte (pos 15) (pos 17) ≡ Value (pos 255))
+    × (on_two Minus Byte (pos 0) (pos 1) ≡ Value (pos 255))
+    × (on_two Times Byte (pos 255) (pos 255) ≡ Value (pos 1))
+    × (on_two Plus Int most_pos (pos 1) ≡ Value most_neg)
+    × (on_two Times Int most_neg (minus 1) ≡ Value most_neg)
     × (on_two ShiftLeft Byte (pos 129) (pos 1) ≡ Value (pos 2))
     × (on_two ShiftLeft Byte (pos 129) (pos 8) ≡ Value (pos 0))
     × (on_two ShiftLeft Byte (pos 129) (pos 9) ≡ Fails (fault Shift 1))

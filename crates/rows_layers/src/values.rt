@@ -20,21 +20,21 @@ const MOST_POS: i32 = i32::MAX;
 struct OnTwo(Operator, Primitive, i32, i32, &'static str);
 
 const TWO: [OnTwo; 44] = [
-    OnTwo(Operator::Plus, Primitive::Int, MOST_POS, 1, "Arith 7"),
-    OnTwo(Operator::Plus, Primitive::Int, MOST_POS, -1, "2147483646"),
-    OnTwo(Operator::Minus, Primitive::Int, MOST_NEG, 1, "Arith 7"),
-    OnTwo(Operator::Minus, Primitive::Byte, 0, 1, "Arith 7"),
-    OnTwo(Operator::Times, Primitive::Int, 46341, 46341, "Arith 7"),
+    OnTwo(Operator::Add, Primitive::Int, MOST_POS, 1, "Arith 7"),
+    OnTwo(Operator::Add, Primitive::Int, MOST_POS, -1, "2147483646"),
+    OnTwo(Operator::Subtract, Primitive::Int, MOST_NEG, 1, "Arith 7"),
+    OnTwo(Operator::Subtract, Primitive::Byte, 0, 1, "Arith 7"),
+    OnTwo(Operator::Multiply, Primitive::Int, 46341, 46341, "Arith 7"),
     OnTwo(
-        Operator::Times,
+        Operator::Multiply,
         Primitive::Int,
         MOST_NEG,
         MOST_NEG,
         "Arith 7",
     ),
-    OnTwo(Operator::Times, Primitive::Byte, 15, 17, "255"),
-    OnTwo(Operator::Plus, Primitive::Byte, 200, 100, "Arith 7"),
-    OnTwo(Operator::PlusModulo, Primitive::Byte, 200, 100, "44"),
+    OnTwo(Operator::Multiply, Primitive::Byte, 15, 17, "255"),
+    OnTwo(Operator::Add, Primitive::Byte, 200, 100, "Arith 7"),
+    OnTwo(Operator::Plus, Primitive::Byte, 200, 100, "44"),
     OnTwo(Operator::Divide, Primitive::Int, -7, 2, "-3"),
     OnTwo(Operator::Divide, Primitive::Int, 7, -2, "-3"),
     OnTwo(Operator::Divide, Primitive::Int, -7, -2, "3"),
@@ -44,29 +44,11 @@ const TWO: [OnTwo; 44] = [
     OnTwo(Operator::Remainder, Primitive::Int, 7, -2, "1"),
     OnTwo(Operator::Remainder, Primitive::Int, 1, 0, "Arith 7"),
     OnTwo(Operator::Remainder, Primitive::Int, MOST_NEG, -1, "0"),
-    OnTwo(
-        Operator::PlusModulo,
-        Primitive::Int,
-        MOST_POS,
-        1,
-        "-2147483648",
-    ),
-    OnTwo(
-        Operator::MinusModulo,
-        Primitive::Int,
-        MOST_NEG,
-        1,
-        "2147483647",
-    ),
-    OnTwo(Operator::MinusModulo, Primitive::Byte, 0, 1, "255"),
-    OnTwo(Operator::TimesModulo, Primitive::Int, 65536, 65536, "0"),
-    OnTwo(
-        Operator::TimesModulo,
-        Primitive::Int,
-        MOST_NEG,
-        -1,
-        "-2147483648",
-    ),
+    OnTwo(Operator::Plus, Primitive::Int, MOST_POS, 1, "-2147483648"),
+    OnTwo(Operator::Minus, Primitive::Int, MOST_NEG, 1, "2147483647"),
+    OnTwo(Operator::Minus, Primitive::Byte, 0, 1, "255"),
+    OnTwo(Operator::Times, Primitive::Int, 65536, 65536, "0"),
+    OnTwo(Operator::Times, Primitive::Int, MOST_NEG, -1, "-2147483648"),
     OnTwo(Operator::BitAnd, Primitive::Int, -1, 255, "255"),
     OnTwo(Operator::BitOr, Primitive::Byte, 128, 127, "255"),
     OnTwo(Operator::BitXor, Primitive::Int, -1, 255, "-256"),
@@ -178,7 +160,7 @@ fn sum(alloc: Global, a: i32, b: i32) -> Result<TermExpr, AllocError>
 {
     let a = Nested::new(alloc, TermExpr::Constant(i64::from(a)))?;
     let b = Nested::new(alloc, TermExpr::Constant(i64::from(b)))?;
-    Ok(TermExpr::Binary(Operator::Plus, Primitive::Int, 7, a, b))
+    Ok(TermExpr::Binary(Operator::Add, Primitive::Int, 7, a, b))
 }
 
 /// `(1 / 0) = 0`, with the division in line 3.
@@ -274,10 +256,10 @@ fn lazy_operators(rt: HostRuntime) -> Result<(), Fail> {
 fn first_fault_from_the_left(rt: HostRuntime) -> Result<(), Fail> {
     let alloc = rt.alloc();
     let (a, b) = (divides_by_zero(alloc)?, shifts_too_far(alloc)?);
-    let e = two(alloc, Operator::Plus, Primitive::Int, 9, a, b)?;
+    let e = two(alloc, Operator::Add, Primitive::Int, 9, a, b)?;
     check(&rt, alloc, &e, "Arith 3")?;
     let (a, b) = (shifts_too_far(alloc)?, divides_by_zero(alloc)?);
-    let e = two(alloc, Operator::Plus, Primitive::Int, 9, a, b)?;
+    let e = two(alloc, Operator::Add, Primitive::Int, 9, a, b)?;
     check(&rt, alloc, &e, "Shift 4")
 }
 
