@@ -13,7 +13,7 @@ struct Compiled(&'static str, u32, &'static str);
 
 const CODE: &str = "bodies: 1";
 
-const PROGRAMS: [Compiled; 24] = [
+static PROGRAMS: [Compiled; 24] = [
     Compiled("  SKIP\n", 1, CODE),
     Compiled("  INT x:\n  x := 1 + 2\n", 1, CODE),
     Compiled(

@@ -39,7 +39,7 @@ fn plans_have_choices(rt: HostRuntime) -> Result<(), Fail> {
 }
 
 /// How runs end, the line that says so, and the exit status.
-const ENDINGS: [(Ending, &str, u8); 9] = [
+static ENDINGS: [(Ending, &str, u8); 9] = [
     (Ending::Ended, "ended", 0),
     (Ending::Stopped, "stopped", 2),
     (Ending::Limit, "limit", 4),
@@ -96,7 +96,8 @@ const ENDINGS: [(Ending, &str, u8); 9] = [
 #[test]
 fn endings_have_texts(rt: HostRuntime) -> Result<(), Fail> {
     let alloc = rt.alloc();
-    for (ending, text, status) in ENDINGS {
+    for row in &ENDINGS {
+        let (ending, text, status) = *row;
         assert_eq!(rt; ending.to_string(alloc)?.as_str(), text);
         let choices = Vec::new(alloc);
         let played = Ok(Played { ending, choices });

@@ -24,7 +24,7 @@ const FOR_EVER: &str = "PROC main (CHAN OF BYTE keyboard, screen)
 :
 ";
 
-const ROWS: [Row; 9] = [
+static ROWS: [Row; 9] = [
     (COUNTING, 1, 10, "8", 0),
     (COUNTING, 1, 9, "8\nlimit\n", 4),
     (COUNTING, 4, 4, "8", 0),
@@ -79,8 +79,8 @@ fn check(rt: &impl Abort, alloc: Global, row: Row) -> Result<(), Fail> {
 
 #[test]
 fn turns_pass_ends_of_loops(rt: HostRuntime) -> Result<(), Fail> {
-    for row in ROWS {
-        check(&rt, rt.alloc(), row)?;
+    for row in &ROWS {
+        check(&rt, rt.alloc(), *row)?;
     }
     assert_eq!(rt; Options::plain().quantum, 1);
     assert_eq!(rt; Options::plain().errors, Errors::Halt);

@@ -10,7 +10,7 @@ pub(crate) struct Body(pub(crate) &'static str, pub(crate) &'static str);
 /// The text before `main` and, where it has the usual first line, what stands below that; and the refusal.
 struct Whole(&'static str, Option<&'static str>, &'static str);
 
-const NAMES: [Body; 22] = [
+static NAMES: [Body; 22] = [
     // 30: a name that isn't in scope
     Body("  screen ! x\n", "refused 30 Unknown line 2 x"),
     Body(
@@ -65,7 +65,7 @@ const NAMES: [Body; 22] = [
     Body("  INT i:\n  SEQ i = 0 FOR 2\n    SKIP\n", ""),
 ];
 
-const KINDS: [Body; 10] = [
+static KINDS: [Body; 10] = [
     Body("  INT x:\n  x ()\n", "refused 32 WrongKind line 3"),
     Body(
         "  INT x:\n  CHAN OF x c:\n  SKIP\n",
@@ -90,7 +90,7 @@ const KINDS: [Body; 10] = [
     Body("  INT x:\n  SEQ i = 0 FOR 2\n    x := i\n", ""),
 ];
 
-const TYPES: [Body; 24] = [
+static TYPES: [Body; 24] = [
     // 33: operands and sides
     Body("  INT x:\n  x := TRUE\n", "refused 33 WrongType line 3"),
     Body("  INT x:\n  x := 1 + 'a'\n", "refused 33 WrongType line 3"),
@@ -136,7 +136,7 @@ const TYPES: [Body; 24] = [
     Body("  VAL BYTE n IS 1(BYTE):\n  SKIP\n", ""),
 ];
 
-const CONSTANTS: [Body; 22] = [
+static CONSTANTS: [Body; 22] = [
     // 34: what must be constant
     Body(
         "  INT n:\n  [n]INT a:\n  SKIP\n",
@@ -191,7 +191,7 @@ const CONSTANTS: [Body; 22] = [
     Body("  [2]INT v:\n  v[1 / 0] := 0\n", ""),
 ];
 
-const PROTOCOLS: [Body; 20] = [
+static PROTOCOLS: [Body; 20] = [
     Body(
         "  VAL s IS \"ab\":\n  screen ! s[2]\n",
         "refused 36 Subscript line 3",
@@ -258,7 +258,7 @@ const PROTOCOLS: [Body; 20] = [
     ),
 ];
 
-const CALLS: [Whole; 25] = [
+static CALLS: [Whole; 25] = [
     // names of another kind
     Whole(
         "PROC g ()\n  SKIP\n:\nPROC f (INT a)\n  SKIP\n:\n",
@@ -387,7 +387,7 @@ const CALLS: [Whole; 25] = [
     ),
 ];
 
-const LISTS: [Body; 12] = [
+static LISTS: [Body; 12] = [
     // 41: lists of targets
     Body(
         "  INT i:\n  [2]INT v:\n  i, v[i] := 1, 2\n",
@@ -416,7 +416,7 @@ const LISTS: [Body; 12] = [
     Body("  PAR i = 0 FOR 4096\n    SKIP\n", "refused 43 TooLarge"),
 ];
 
-const MAINS: [Whole; 12] = [
+static MAINS: [Whole; 12] = [
     // 42: the main process
     Whole("", None, "refused 42 NoMain"),
     Whole("VAL n IS 1:\n", None, "refused 42 NoMain"),

@@ -1,5 +1,5 @@
 //! A worked row: what a run is given, and what it comes to.
-use occ_play::{Choice, Counted, Errors, Options, Plan, play, play_in, status_of};
+use occ_play::{Choice, Counted, Errors, Options, Plan, PlayFault, Played, play_in, status_of};
 use std::alloc::{AllocError, Global};
 use std::process::Abort;
 use std::test::Fail;
@@ -61,59 +61,90 @@ impl<'a> Row<'a> {
     }
 }
 
-fn same_choices(choices: &mut Vec<Choice>, count: u32, pick: u32) -> Result<(), AllocError> {
+fn same_choices(alloc: Global, count: u32, pick: u32) -> Result<Vec<Choice>, AllocError> {
+    let mut choices = Vec::new(alloc);
     for _choice in 0..count {
         choices.push(Choice { which: 0, pick })?;
     }
-    Ok(())
+    Ok(choices)
 }
 
 fn plan_of(alloc: Global, given: Given) -> Result<Plan, AllocError> {
-    let mut choices = Vec::new(alloc);
-    match given {
+    let choices = match given {
         Given::Turns(turns) => return Ok(Plan::Turns(turns)),
-        Given::Choices(listed) => choices.extend_from_slice(listed)?,
-        Given::Zeros(count) => same_choices(&mut choices, count, 0)?,
-        Given::Picks(count) => same_choices(&mut choices, count, 1)?,
-    }
-    Ok(Plan::Choices(choices))
+        Given::Choices(listed) => Vec::from_slice(alloc, listed),
+        Given::Zeros(count) => same_choices(alloc, count, 0),
+        Given::Picks(count) => same_choices(alloc, count, 1),
+    };
+    Ok(Plan::Choices(choices?))
 }
 
-/// Plays a row, and compares all that comes of it.
-pub(crate) fn check_row(rt: &impl Abort, alloc: Global, row: &Row<'_>) -> Result<(), Fail> {
-    let source = String::from_utf8_lossy(alloc, row.source)?;
-    let plan = plan_of(alloc, row.plan)?;
-    let mut answer = Vec::new(alloc);
-    let mut out = Counted::new(&mut answer);
-    let played = match row.errors {
-        Errors::Halt => play(alloc, row.source, row.keyboard, &plan, row.trace, &mut out),
-        errors => {
-            let options = Options { quantum: 1, errors };
-            play_in(
-                &options,
-                alloc,
-                row.source,
-                row.keyboard,
-                &plan,
-                row.trace,
-                &mut out,
-            )
-        }
+/// Plays a row.
+fn played(
+    rt: &impl Abort,
+    alloc: Global,
+    row: &Row<'_>,
+    plan: &Plan,
+    answer: &mut Vec<u8>,
+) -> Result<Played, PlayFault> {
+    let options = Options {
+        quantum: 1,
+        errors: row.errors,
     };
-    assert_eq!(rt; out.failures(), 0, "{source}");
-    drop(out);
-    assert_eq!(rt; status_of(&played), row.status, "{source}");
-    let (refusal, used) = match played {
-        Ok(played) => (String::new(alloc), played.choices),
-        Err(fault) => (fault.to_string(alloc)?, Vec::new(alloc)),
-    };
-    assert_eq!(rt; refusal.as_str(), row.refusal, "{source}");
-    assert_eq!(rt; answer.as_slice(), row.answer, "{source}");
+    let mut out = Counted::new(answer);
+    let played = play_in(
+        &options,
+        alloc,
+        row.source,
+        row.keyboard,
+        plan,
+        row.trace,
+        &mut out,
+    );
+    assert_eq!(rt; out.failures(), 0);
+    played
+}
+
+/// The choices that are used are the first of the plan's, and as many as the row says.
+fn check_used(rt: &impl Abort, source: &str, row: &Row<'_>, plan: &Plan, used: &[Choice]) {
     assert_eq!(rt; used.len(), row.used.unwrap_or(used.len()), "{source}");
     for (number, choice) in used.iter().enumerate() {
         assert_eq!(rt; plan.at(number), Some(*choice), "{source}");
     }
+}
+
+/// Compares what came of a row.
+fn check_played(
+    rt: &impl Abort,
+    alloc: Global,
+    row: &Row<'_>,
+    plan: &Plan,
+    played: &Result<Played, PlayFault>,
+    answer: &[u8],
+) -> Result<(), Fail> {
+    let text = String::from_utf8_lossy(alloc, row.source)?;
+    let source = text.as_str();
+    assert_eq!(rt; status_of(played), row.status, "{source}");
+    assert_eq!(rt; answer, row.answer, "{source}");
+    match played {
+        Ok(played) => {
+            assert_eq!(rt; "", row.refusal, "{source}");
+            check_used(rt, source, row, plan, played.choices.as_slice());
+        }
+        Err(fault) => {
+            check_used(rt, source, row, plan, &[]);
+            assert_eq!(rt; fault.to_string(alloc)?.as_str(), row.refusal, "{source}");
+        }
+    }
     Ok(())
+}
+
+/// Plays a row, and compares all that comes of it.
+pub(crate) fn check_row(rt: &impl Abort, alloc: Global, row: &Row<'_>) -> Result<(), Fail> {
+    let plan = plan_of(alloc, row.plan)?;
+    let mut answer = Vec::new(alloc);
+    let played = played(rt, alloc, row, &plan, &mut answer);
+    check_played(rt, alloc, row, &plan, &played, answer.as_slice())
 }
 
 /// Plays each row.

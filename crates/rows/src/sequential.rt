@@ -3,7 +3,7 @@ use crate::row::{Given, Row, check_rows};
 use occ_play::Errors;
 use std::test::Fail;
 
-const RUNS: [Row; 27] = [
+static RUNS: [Row; 27] = [
     // arithmetic, with the line of its fault
     Row {
         source: b"PROC main (CHAN OF BYTE keyboard, screen)\n  INT x:\n  x := 2147483647 + 1\n:\n",

@@ -24,7 +24,7 @@ const STOPS: &str = "  INT n:\n  SEQ\n    n := 7\n    STOP\n";
 /// process may then take another one.
 struct Turned(&'static str, u32, i64, bool);
 
-const TURNS: [Turned; 11] = [
+static TURNS: [Turned; 11] = [
     Turned(COUNTS, 1, 1, true),
     Turned(COUNTS, 2, 2, true),
     Turned(COUNTS, 4, 4, true),

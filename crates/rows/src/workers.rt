@@ -46,7 +46,7 @@ struct Faulty<'a> {
 }
 
 /// Sources in which a process is stopped, in both modes.
-const FAULTY: &[Faulty<'static>] = &[
+static FAULTY: &[Faulty<'static>] = &[
     Faulty {
         errors: Errors::Halt,
         source: MAIN_FAULT,
@@ -116,7 +116,7 @@ fn workers_stop_at_faults_in_both_modes(rt: HostRuntime) -> Result<(), Fail> {
 #[test]
 fn workers_stop_without_a_fault_in_both_modes(rt: HostRuntime) -> Result<(), Fail> {
     for errors in [Errors::Halt, Errors::Stop] {
-        for source in HALTS {
+        for source in &HALTS {
             let options = Options { quantum: 1, errors };
             check_source(&rt, options, source, &[b"stopped\n"])?;
         }
