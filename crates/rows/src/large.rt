@@ -70,12 +70,7 @@ fn check_around(
 }
 
 /// Checks the same text in each of these sources.
-fn check_each(
-    rt: &impl Abort,
-    alloc: Global,
-    rows: &[Answered],
-    text: &str,
-) -> Result<(), Fail> {
+fn check_each(rt: &impl Abort, alloc: Global, rows: &[Answered], text: &str) -> Result<(), Fail> {
     for row in rows {
         check_around(rt, alloc, &row.0, text, row.1)?;
     }
@@ -286,12 +281,7 @@ static DEEP: [Answered; 3] = [
 ];
 
 /// Checks chains of so many levels.
-fn check_levels(
-    rt: &impl Abort,
-    alloc: Global,
-    rows: &[Answered],
-    deep: u32,
-) -> Result<(), Fail> {
+fn check_levels(rt: &impl Abort, alloc: Global, rows: &[Answered], deep: u32) -> Result<(), Fail> {
     for between in BETWEEN {
         let chain = levels(alloc, between, 1_000, deep)?;
         check_each(rt, alloc, rows, chain.as_str())?;
@@ -448,12 +438,7 @@ static NESTED: [(usize, u32, &str); 5] = [
 ];
 
 /// Checks calls of PROCs with levels of a construct within one another.
-fn check_nested(
-    rt: &impl Abort,
-    alloc: Global,
-    construct: &str,
-    part: &str,
-) -> Result<(), Fail> {
+fn check_nested(rt: &impl Abort, alloc: Global, construct: &str, part: &str) -> Result<(), Fail> {
     for (calls, levels, wanted) in &NESTED {
         let lines = round_a_call(alloc, construct, part, *levels)?;
         let source = calls_within(alloc, lines.as_str(), *calls)?;

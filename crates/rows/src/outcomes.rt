@@ -6,7 +6,7 @@ use occ_term::{Fault, FaultKind};
 use occ_text::TextFault;
 use occ_tree_grammar::ParseFault;
 use occ_usage::UsageFault;
-use std::alloc::Global;
+use std::alloc::{AllocError, Global};
 use std::process::Abort;
 use std::test::Fail;
 
@@ -96,13 +96,37 @@ static ENDINGS: [(Ending, &str, u8); 9] = [
 #[test]
 fn endings_have_texts(rt: HostRuntime) -> Result<(), Fail> {
     let alloc = rt.alloc();
-    for row in &ENDINGS {
-        let (ending, text, status) = *row;
-        assert_eq!(rt; ending.to_string(alloc)?.as_str(), text);
+    for (ending, text, status) in &ENDINGS {
+        let told = ending.to_string(alloc)?;
+        assert_eq!(rt; told.as_str(), *text);
         let choices = Vec::new(alloc);
-        let played = Ok(Played { ending, choices });
-        assert_eq!(rt; status_of(&played), status, "{text}");
+        let played = Ok(Played {
+            ending: *ending,
+            choices,
+        });
+        assert_eq!(rt; status_of(&played), *status, "{text}");
     }
+    Ok(())
+}
+
+/// The text of a fault.
+fn told(alloc: Global, played: &Result<Played, PlayFault>) -> Result<String, AllocError> {
+    match played {
+        Ok(_) => Ok(String::new(alloc)),
+        Err(fault) => fault.to_string(alloc),
+    }
+}
+
+fn check_played(
+    rt: &impl Abort,
+    alloc: Global,
+    played: &Result<Played, PlayFault>,
+    text: &str,
+    status: u8,
+) -> Result<(), Fail> {
+    let told = told(alloc, played)?;
+    assert_eq!(rt; told.as_str(), text);
+    assert_eq!(rt; status_of(played), status);
     Ok(())
 }
 
@@ -113,10 +137,7 @@ fn check_fault(
     text: &str,
     status: u8,
 ) -> Result<(), Fail> {
-    let told = fault.to_string(alloc)?;
-    assert_eq!(rt; told.as_str(), text);
-    assert_eq!(rt; status_of(&Err(fault)), status);
-    Ok(())
+    check_played(rt, alloc, &Err(fault), text, status)
 }
 
 #[test]

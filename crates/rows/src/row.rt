@@ -105,46 +105,78 @@ fn played(
     played
 }
 
-/// The choices that are used are the first of the plan's, and as many as the row says.
-fn check_used(rt: &impl Abort, source: &str, row: &Row<'_>, plan: &Plan, used: &[Choice]) {
-    assert_eq!(rt; used.len(), row.used.unwrap_or(used.len()), "{source}");
+/// The choices that are used are the first of the plan's.
+fn check_first(rt: &impl Abort, source: &str, plan: &Plan, used: &[Choice]) {
     for (number, choice) in used.iter().enumerate() {
         assert_eq!(rt; plan.at(number), Some(*choice), "{source}");
     }
 }
 
-/// Compares what came of a row.
+/// Compares what came of a row: its exit status, the text of the refusal and the answer's bytes.
+fn check_told(
+    rt: &impl Abort,
+    source: &str,
+    row: &Row<'_>,
+    status: u8,
+    refusal: &str,
+    answer: &[u8],
+) {
+    assert_eq!(rt; status, row.status, "{source}");
+    assert_eq!(rt; refusal, row.refusal, "{source}");
+    assert_eq!(rt; answer, row.answer, "{source}");
+}
+
+/// The text of the refusal; empty where the source is played.
+fn refusal_of(alloc: Global, played: &Result<Played, PlayFault>) -> Result<String, AllocError> {
+    match played {
+        Ok(_) => Ok(String::new(alloc)),
+        Err(fault) => fault.to_string(alloc),
+    }
+}
+
+/// The choices that are used.
+fn used_of(played: &Result<Played, PlayFault>) -> &[Choice] {
+    match played {
+        Ok(played) => played.choices.as_slice(),
+        Err(_) => &[],
+    }
+}
+
+/// Compares all that came of a row.
 fn check_played(
     rt: &impl Abort,
     alloc: Global,
+    source: &str,
     row: &Row<'_>,
-    plan: &Plan,
     played: &Result<Played, PlayFault>,
     answer: &[u8],
 ) -> Result<(), Fail> {
-    let text = String::from_utf8_lossy(alloc, row.source)?;
-    let source = text.as_str();
-    assert_eq!(rt; status_of(played), row.status, "{source}");
-    assert_eq!(rt; answer, row.answer, "{source}");
-    match played {
-        Ok(played) => {
-            assert_eq!(rt; "", row.refusal, "{source}");
-            check_used(rt, source, row, plan, played.choices.as_slice());
-        }
-        Err(fault) => {
-            check_used(rt, source, row, plan, &[]);
-            assert_eq!(rt; fault.to_string(alloc)?.as_str(), row.refusal, "{source}");
-        }
-    }
+    let refusal = refusal_of(alloc, played)?;
+    check_told(rt, source, row, status_of(played), refusal.as_str(), answer);
+    let used = used_of(played).len();
+    assert_eq!(rt; used, row.used.unwrap_or(used), "{source}");
     Ok(())
+}
+
+/// Plays a row by a plan, and compares all that comes of it.
+fn check_by(
+    rt: &impl Abort,
+    alloc: Global,
+    source: &str,
+    row: &Row<'_>,
+    plan: &Plan,
+) -> Result<(), Fail> {
+    let mut answer = Vec::new(alloc);
+    let played = played(rt, alloc, row, plan, &mut answer);
+    check_first(rt, source, plan, used_of(&played));
+    check_played(rt, alloc, source, row, &played, answer.as_slice())
 }
 
 /// Plays a row, and compares all that comes of it.
 pub(crate) fn check_row(rt: &impl Abort, alloc: Global, row: &Row<'_>) -> Result<(), Fail> {
+    let source = String::from_utf8_lossy(alloc, row.source)?;
     let plan = plan_of(alloc, row.plan)?;
-    let mut answer = Vec::new(alloc);
-    let played = played(rt, alloc, row, &plan, &mut answer);
-    check_played(rt, alloc, row, &plan, &played, answer.as_slice())
+    check_by(rt, alloc, source.as_str(), row, &plan)
 }
 
 /// Plays each row.
