@@ -13,7 +13,8 @@ use Rattle.occ_check_meaning.specs.Numbers.{Numbers, more_processes, room}
 use Rattle.occ_check_meaning.specs.Performing.{Calling, Unfolds, copied, copies_beside}
 use Rattle.occ_check_meaning.specs.Recursion.{unfolded}
 use Rattle.occ_check_meaning.specs.Scope.{Scope, a_value, known, names_of, within}
-use Rattle.occ_check_meaning.specs.Unfolding.{Procedures, meant}
+use Rattle.occ_check_meaning.specs.Unfolding.{Procedures}
+use Rattle.occ_check_meaning.specs.Meant.{meant}
 use Rattle.occ_check.specs.Copies.{copies_counted, copy_for, numbered_copy}
 use Rattle.occ_check.specs.Opened.{put}
 use Rattle.occ_check_names.specs.View.{Refuses}

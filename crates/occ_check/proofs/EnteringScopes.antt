@@ -34,7 +34,8 @@ use Rattle.occ_check_meaning.specs.Numbers.{Numbers, more_cells, room}
 use Rattle.occ_check_meaning.specs.Performing.{acted, Calling, calling, Entered, entered, within_names}
 use Rattle.occ_check_meaning.specs.Recursion.{all_declared, declared, item_declared, unfolded}
 use Rattle.occ_check_meaning.specs.Scope.{as_proc, Binding, Known, known, keep, Name, Names, names_of, Pairs, proc, Scope, within}
-use Rattle.occ_check_meaning.specs.Unfolding.{found, meaning_of, meant, Procedure, procedure, Procedures}
+use Rattle.occ_check_meaning.specs.Unfolding.{found, Procedure, procedure, Procedures}
+use Rattle.occ_check_meaning.specs.Meant.{meaning_of, meant}
 use Rattle.occ_check_meaning.proofs.Names.{found_means, meant_within, means_of, same_names}
 use Rattle.occ_check_meaning.proofs.Steps.{bind_some, some_is}
 use Rattle.occ_check.specs.Entering.{as_procedure, formals_bound, procedure_found, procedure_in}

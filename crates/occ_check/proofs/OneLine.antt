@@ -1,7 +1,7 @@
 -- Names at a position are those of the scope with meanings.
 use Rattle.std.proofs.Common.{◌≡◌, ◌∙◌, List, reverse, sym}
 use Rattle.occ_check_meaning.specs.Scope.{names_of}
-use Rattle.occ_check_meaning.specs.Unfolding.{meant}
+use Rattle.occ_check_meaning.specs.Meant.{meant}
 use Rattle.occ_check_meaning.proofs.Names.{same_names}
 use Rattle.occ_check_names.specs.View.{names_in, scope_in}
 use Rattle.occ_check_names.specs.declared.scope.Block.{Block}

@@ -12,7 +12,8 @@ use Rattle.occ_tree_grammar.specs.declared.tree.process.Process.{Process}
 use Rattle.occ_tree_grammar.specs.declared.tree.process.Stmt.{Stmt}
 use Rattle.occ_check_meaning.specs.Recursion.{all_declared, unfolded}
 use Rattle.occ_check.specs.Statements.{declarations_in, line_in, performing, statement_in}
-use Rattle.occ_check_meaning.specs.Unfolding.{Procedures, meant}
+use Rattle.occ_check_meaning.specs.Unfolding.{Procedures}
+use Rattle.occ_check_meaning.specs.Meant.{meant}
 use Rattle.occ_check.specs.Opened.{put}
 use Rattle.occ_check.specs.Weights.{decls_size, node_size, statement_size, weight}
 use Rattle.occ_check.proofs.Parts.{behind_declarations, within_process}

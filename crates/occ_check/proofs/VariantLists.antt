@@ -21,7 +21,8 @@ use Rattle.occ_term.specs.declared.term.Arm.TheFolds.{fold_out-Variant}
 use Rattle.occ_check_meaning.specs.Actions.{new_tag, variants_then}
 use Rattle.occ_check_meaning.specs.Numbers.{Numbers}
 use Rattle.occ_check_meaning.specs.Performing.{Calling}
-use Rattle.occ_check_meaning.specs.Recursion.{all_declared, all_variants, unfolded, variant_tag, variant_unfolded}
+use Rattle.occ_check_meaning.specs.Recursion.{all_declared, all_variants, unfolded, variant_unfolded}
+use Rattle.occ_check_meaning.specs.Actions.{variant_tag}
 use Rattle.occ_check_meaning.specs.Scope.{Scope}
 use Rattle.occ_check_names.specs.View.{Refuses}
 use Rattle.occ_check_clashes.specs.Tags.{AreTagsOf, number_at}

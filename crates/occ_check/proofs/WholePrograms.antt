@@ -12,7 +12,8 @@ use Rattle.occ_check_meaning.specs.Programs.{Main, channels_from, items_declared
 use Rattle.occ_check_meaning.specs.ProgramUnfolding.{UnfoldsTo}
 use Rattle.occ_check_meaning.specs.Recursion.{unfolded}
 use Rattle.occ_check_meaning.specs.Scope.{Name, Pairs, Scope, within}
-use Rattle.occ_check_meaning.specs.Unfolding.{meant, Procedures}
+use Rattle.occ_check_meaning.specs.Unfolding.{Procedures}
+use Rattle.occ_check_meaning.specs.Meant.{meant}
 use Rattle.occ_check_meaning.proofs.Complete.{program_complete}
 use Rattle.occ_check_meaning.proofs.Names.{meant_within}
 use Rattle.occ_check_meaning.proofs.SoundTree.{program_sound}

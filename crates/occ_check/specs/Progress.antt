@@ -12,7 +12,8 @@ use Rattle.occ_check_meaning.specs.Numbers as N
 use Rattle.occ_check_meaning.specs.Performing.{Calling, Entered, entered}
 use Rattle.occ_check_meaning.specs.Scope as S
 use Rattle.occ_check_meaning.specs.Recursion.{unfolded}
-use Rattle.occ_check_meaning.specs.Unfolding.{Procedures, meant}
+use Rattle.occ_check_meaning.specs.Unfolding.{Procedures}
+use Rattle.occ_check_meaning.specs.Meant.{meant}
 use Rattle.occ_tree_grammar.specs.Many.{◌>>=◌}
 use Rattle.occ_check_meaning.specs.Actions as A
 use Rattle.occ_check_meaning.specs.Actions.{headed, opening}

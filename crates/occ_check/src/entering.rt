@@ -11,7 +11,7 @@ ghost use Rattle.occ_check_meaning.specs.Declarations.{indexed};
 ghost use Rattle.occ_check_meaning.specs.Performing.{acted};
 ghost use Rattle.occ_check_meaning.specs.Scope.{names_of, within};
 ghost use Rattle.occ_check_meaning.specs.Recursion.{all_declared, declared, item_declared};
-ghost use Rattle.occ_check_meaning.specs.Unfolding.{meaning_of};
+ghost use Rattle.occ_check_meaning.specs.Meant.{meaning_of};
 ghost use Rattle.occ_check.specs.Entering.{formals_bound, procedure_found, procedure_in, procedure_of};
 ghost use Rattle.occ_check_typing.specs.Declaration.{Opens, pairs_of};
 ghost use Rattle.occ_check.specs.Weights.{decl_size, decls_size, item_size, node_size, weight};

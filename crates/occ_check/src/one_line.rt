@@ -15,7 +15,7 @@ ghost use Rattle.occ_check_meaning.specs.Performing.{acted};
 ghost use Rattle.occ_check_meaning.specs.Actions as meant;
 ghost use Rattle.occ_check_meaning.specs.Recursion.{all_declared};
 ghost use Rattle.occ_check_meaning.specs.Scope.{names_of};
-ghost use Rattle.occ_check_meaning.specs.Unfolding.{meant as with_meanings};
+ghost use Rattle.occ_check_meaning.specs.Meant.{meant as with_meanings};
 ghost use Rattle.occ_check_acting.specs.Action.{listed_of};
 ghost use Rattle.occ_check.specs.Prefixes.{assigning, heading, outputting, receiving, tested};
 ghost use Rattle.occ_check_names.specs.View.{Counts, Unfolds, names_in, numbers_of, scope_in};

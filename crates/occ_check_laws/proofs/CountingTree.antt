@@ -27,7 +27,7 @@ use Rattle.occ_check_meaning.specs.Actions.{Listed, plain_list, tagged_list, siz
 use Rattle.occ_check_meaning.specs.Performing.{Entered}
 use Rattle.occ_check_laws.specs.Counting.{Counted}
 use Rattle.occ_check_meaning.specs.ProgramUnfolding.{DeclareItems, no_item, one_item, ProgramUnfolding, program}
-use Rattle.occ_check_meaning.specs.Unfolding.{Procedure, Procedures, DeclaresItem, declares_value, declares_protocol, declares_procedure, Declares, declares_names, declares_item, DeclareAll, no_declaration, one_declaration, Unfolding, unfolds, Performs, skips, stops, assigns, inputs, outputs, calls, takes_variants, sequences, replicates_sequence, runs_beside, replicates_branch, alternates, replicates_alternation, conditions, replicates_conditional, selects, loops, InTurn, no_process, one_process, Beside, no_branch, one_branch, Copies, no_copy, one_copy, Arm, behind_arm, Offers, awaits, is_ready, awaits_variants, nests_arms, replicates_arm, EachArm, under_index, AllArms, no_arm, one_arm, Choice, behind_choice, Tests, tests, nests_choices, replicates_choice, EachChoice, under_choice_index, AllChoices, no_choice, one_choice, Variant, takes, AllVariants, no_variant, one_variant, OneOption, is_one_of, is_none_of, AllOptions, no_option, one_option}
+use Rattle.occ_check_meaning.specs.Unfolding.{Procedure, Procedures, DeclaresItem, declares_value, declares_protocol, declares_procedure, Declares, declares_names, declares_item, DeclareAll, no_declaration, one_declaration, Unfolding, unfolds, Performs, skips, stops, assigns, inputs, outputs, calls, takes_variants, sequences, replicates_sequence, runs_beside, replicates_branch, alternates, replicates_alternation, conditions, replicates_conditional, selects, loops, InTurn, no_process, one_process, Beside, no_branch, one_branch, Copies, no_copy, one_copy, Arm, behind_arm, Guards, awaits, is_ready, awaits_variants, nests_arms, replicates_arm, EachArm, under_index, AllArms, no_arm, one_arm, Choice, behind_choice, Tests, tests, nests_choices, replicates_choice, EachChoice, under_choice_index, AllChoices, no_choice, one_choice, Variant, takes, AllVariants, no_variant, one_variant, OneOption, is_one_of, is_none_of, AllOptions, no_option, one_option}
 use Rattle.occ_check_meaning.proofs.Steps.{bind_some, some_is}
 use Rattle.occ_check_laws.proofs.Counting.{kept, room_nodes, room_deep, cells_nodes, channels_nodes, processes_nodes, counted_both, counted_deeper, counted_none, counted_node, counted_room, declarations_nodes, declarations_depth, counted_headed, arms_behind_nodes, arms_behind_depth, choices_behind_nodes, choices_behind_depth, arms_then_nodes, arms_then_depth, choices_then_nodes, choices_then_depth, variants_then_nodes, variants_then_depth, options_then_nodes, options_then_depth}
 
@@ -281,15 +281,15 @@ mutual
   copies_counted (one_copy {n = n} {o = o} e u us) = branch_counted n.processes _ _ (processes_nodes n o e) (unfolding_counted u) (copies_counted us)
 
   arm_counted : {sc : Procedures} {depth : ℕ} {n m : Numbers} {a : Node arm} {arms : Arms} → Arm sc depth n a arms m → Counted depth (size_of_arms arms) n m
-  arm_counted (behind_arm {d = d} {arms = arms} ds v p) = counted_both (declared_counted ds) (counted_deeper _ v (offers_counted p)) (arms_behind_nodes d.heads arms) (arms_behind_depth d.heads arms)
+  arm_counted (behind_arm {d = d} {arms = arms} ds v p) = counted_both (declared_counted ds) (counted_deeper _ v (guards_counted p)) (arms_behind_nodes d.heads arms) (arms_behind_depth d.heads arms)
 
-  offers_counted : {sc : Procedures} {line depth : ℕ} {n m : Numbers} {h : ArmHead} {b : Body (under arm h)} {arms : Arms} → Offers sc line depth n h b arms m → Counted depth (size_of_arms arms) n m
-  offers_counted (awaits {depth = depth} {n = n} {m = m} {l = l} {e = e} {c = c} {t = t} x y r u) = awaited depth n m l e c.0 c.1 t r (unfolding_counted u)
-  offers_counted (is_ready {e = e} {t = t} x r u) = counted_node (size_of_expression e) (size_of t) (size_of_arms (T.skip_arm e t T.no_arms)) r (unfolding_counted u) (omega arith) (omega arith)
-  offers_counted (awaits_variants {e = e} {c = c} {xs = xs} x y p r u) =
+  guards_counted : {sc : Procedures} {line depth : ℕ} {n m : Numbers} {h : ArmHead} {b : Body (under arm h)} {arms : Arms} → Guards sc line depth n h b arms m → Counted depth (size_of_arms arms) n m
+  guards_counted (awaits {depth = depth} {n = n} {m = m} {l = l} {e = e} {c = c} {t = t} x y r u) = awaited depth n m l e c.0 c.1 t r (unfolding_counted u)
+  guards_counted (is_ready {e = e} {t = t} x r u) = counted_node (size_of_expression e) (size_of t) (size_of_arms (T.skip_arm e t T.no_arms)) r (unfolding_counted u) (omega arith) (omega arith)
+  guards_counted (awaits_variants {e = e} {c = c} {xs = xs} x y p r u) =
       counted_node (together (size_of_test e) (size_of_place c.1)) (size_of_variants xs) (size_of_arms (T.input_arm e c.1 (T.Tagged xs) T.no_arms)) r (variants_counted u) (omega arith) (omega arith)
-  offers_counted (nests_arms v u) = counted_deeper _ v (arms_counted u)
-  offers_counted (replicates_arm v u) = counted_deeper _ v (each_arm_counted u)
+  guards_counted (nests_arms v u) = counted_deeper _ v (arms_counted u)
+  guards_counted (replicates_arm v u) = counted_deeper _ v (each_arm_counted u)
 
   each_arm_counted : {sc : Procedures} {line depth : ℕ} {n m : Numbers} {r : L.Replicator} {a : Node arm} {arms : Arms} → EachArm sc line depth n r a arms m → Counted depth (size_of_arms arms) n m
   each_arm_counted (under_index {sc = sc} {line = line} {depth = depth} {n = n} {l = l} {r = r} {i = i} {arms = arms} x u) =

@@ -21,7 +21,7 @@ use Rattle.occ_check_meaning.specs.Numbers.{Numbers, at_start, more_processes, r
 use Rattle.occ_check_meaning.specs.Actions.{headed, followed, as_term, Listed, plain_list, tagged_list, as_reception, as_input, size_of_list, arms_behind, choices_behind, arms_then, choices_then, variants_then, options_then, Chosen, assigned}
 use Rattle.occ_check_laws.specs.Numbering.{NumberedUpTo}
 use Rattle.occ_check_meaning.specs.ProgramUnfolding.{ProgramUnfolding, program}
-use Rattle.occ_check_meaning.specs.Unfolding.{Procedures, Unfolding, unfolds, Performs, skips, stops, assigns, inputs, outputs, calls, takes_variants, sequences, replicates_sequence, runs_beside, replicates_branch, alternates, replicates_alternation, conditions, replicates_conditional, selects, loops, InTurn, no_process, one_process, Beside, no_branch, one_branch, Copies, no_copy, one_copy, Arm, behind_arm, Offers, awaits, is_ready, awaits_variants, nests_arms, replicates_arm, EachArm, under_index, AllArms, no_arm, one_arm, Choice, behind_choice, Tests, tests, nests_choices, replicates_choice, EachChoice, under_choice_index, AllChoices, no_choice, one_choice, Variant, takes, AllVariants, no_variant, one_variant, OneOption, is_one_of, is_none_of, AllOptions, no_option, one_option}
+use Rattle.occ_check_meaning.specs.Unfolding.{Procedures, Unfolding, unfolds, Performs, skips, stops, assigns, inputs, outputs, calls, takes_variants, sequences, replicates_sequence, runs_beside, replicates_branch, alternates, replicates_alternation, conditions, replicates_conditional, selects, loops, InTurn, no_process, one_process, Beside, no_branch, one_branch, Copies, no_copy, one_copy, Arm, behind_arm, Guards, awaits, is_ready, awaits_variants, nests_arms, replicates_arm, EachArm, under_index, AllArms, no_arm, one_arm, Choice, behind_choice, Tests, tests, nests_choices, replicates_choice, EachChoice, under_choice_index, AllChoices, no_choice, one_choice, Variant, takes, AllVariants, no_variant, one_variant, OneOption, is_one_of, is_none_of, AllOptions, no_option, one_option}
 use Rattle.occ_check_meaning.proofs.Steps.{bind_some, some_is}
 use Rattle.occ_check_laws.proofs.Counting.{kept}
 use Rattle.occ_check_laws.proofs.Stepping.{Stepping, bound_steps, indexed_steps, opening_steps, declared_steps, items_steps}
@@ -193,18 +193,18 @@ mutual
   arm_numbered : {sc : Procedures} {depth : ℕ} {n m : Numbers} {a : Node arm} {arms : Arms} → Arm sc depth n a arms m → NumberedUpTo n.processes (branches_in_arms arms) m.processes
   arm_numbered (behind_arm {n = n} {l = l} {d = d} {arms = arms} ds v p) =
       the_same (branches_in_arms arms) (branches_in_arms (arms_behind d.heads arms)) n.processes l.processes (arms_behind_branches d.heads arms)
-      (begin_at (branches_in_arms arms) n.processes d.numbers.processes l.processes (declared_steps Same same_processes ds) (offers_numbered p))
+      (begin_at (branches_in_arms arms) n.processes d.numbers.processes l.processes (declared_steps Same same_processes ds) (guards_numbered p))
 
-  offers_numbered : {sc : Procedures} {line depth : ℕ} {n m : Numbers} {h : ArmHead} {b : Body (under arm h)} {arms : Arms} → Offers sc line depth n h b arms m → NumberedUpTo n.processes (branches_in_arms arms) m.processes
-  offers_numbered (awaits {depth = depth} {n = n} {m = m} {l = l} {e = e} {c = c} {t = t} x y r u) =
+  guards_numbered : {sc : Procedures} {line depth : ℕ} {n m : Numbers} {h : ArmHead} {b : Body (under arm h)} {arms : Arms} → Guards sc line depth n h b arms m → NumberedUpTo n.processes (branches_in_arms arms) m.processes
+  guards_numbered (awaits {depth = depth} {n = n} {m = m} {l = l} {e = e} {c = c} {t = t} x y r u) =
       the_same (branches_in t) (branches_in_reception (as_reception c.1 t) ++ []) n.processes l.processes (with_nil (branches_in_reception (as_reception c.1 t)) ∙ reception_branches c.1 t)
       (begin_at (branches_in t) n.processes m.processes l.processes (roomy depth (Sizes.with_node (Sizes.together (size_of_test e) (Sizes.together (size_of_place c.0) (size_of_list c.1)))) n m r) (unfolding_numbered u))
-  offers_numbered (is_ready {depth = depth} {n = n} {m = m} {l = l} {e = e} {t = t} x r u) =
+  guards_numbered (is_ready {depth = depth} {n = n} {m = m} {l = l} {e = e} {t = t} x r u) =
       the_same (branches_in t) (branches_in t ++ []) n.processes l.processes (with_nil (branches_in t)) (begin_at (branches_in t) n.processes m.processes l.processes (roomy depth (Sizes.with_node (size_of_expression e)) n m r) (unfolding_numbered u))
-  offers_numbered (awaits_variants {depth = depth} {n = n} {m = m} {l = l} {e = e} {c = c} {xs = xs} x y p r u) =
+  guards_numbered (awaits_variants {depth = depth} {n = n} {m = m} {l = l} {e = e} {c = c} {xs = xs} x y p r u) =
       the_same (branches_in_variants xs) (branches_in_variants xs ++ []) n.processes l.processes (with_nil (branches_in_variants xs)) (begin_at (branches_in_variants xs) n.processes m.processes l.processes (roomy depth (Sizes.with_node (Sizes.together (size_of_test e) (size_of_place c.1))) n m r) (variants_numbered u))
-  offers_numbered (nests_arms v u) = arms_numbered u
-  offers_numbered (replicates_arm v u) = each_arm_numbered u
+  guards_numbered (nests_arms v u) = arms_numbered u
+  guards_numbered (replicates_arm v u) = each_arm_numbered u
 
   each_arm_numbered : {sc : Procedures} {line depth : ℕ} {n m : Numbers} {r : L.Replicator} {a : Node arm} {arms : Arms} → EachArm sc line depth n r a arms m → NumberedUpTo n.processes (branches_in_arms arms) m.processes
   each_arm_numbered (under_index {sc = sc} {line = line} {depth = depth} {n = n} {l = l} {r = r} {i = i} {arms = arms} x u) =

@@ -21,14 +21,14 @@ use Rattle.occ_check_meaning.specs.Declarations.{index_of}
 use Rattle.occ_check_meaning.specs.Actions.{opening, headed, followed, as_term, Listed, plain_list, tagged_list, as_reception, size_of_list, arms_behind, choices_behind, arms_then, choices_then, variants_then, options_then, with_tags, selector, Chosen}
 use Rattle.occ_check_laws.specs.Growth.{Grown}
 use Rattle.occ_check_meaning.specs.Performing.{Entered}
-use Rattle.occ_check_meaning.specs.Unfolding.{Procedure, procedure, Procedures, DeclaresItem, declares_value, declares_protocol, declares_procedure, Declares, declares_names, declares_item, DeclareAll, no_declaration, one_declaration, Unfolding, unfolds, Performs, skips, stops, assigns, inputs, outputs, calls, takes_variants, sequences, replicates_sequence, runs_beside, replicates_branch, alternates, replicates_alternation, conditions, replicates_conditional, selects, loops, InTurn, no_process, one_process, Beside, no_branch, one_branch, Copies, no_copy, one_copy, Arm, behind_arm, Offers, awaits, is_ready, awaits_variants, nests_arms, replicates_arm, EachArm, under_index, AllArms, no_arm, one_arm, Choice, behind_choice, Tests, tests, nests_choices, replicates_choice, EachChoice, under_choice_index, AllChoices, no_choice, one_choice, Variant, takes, AllVariants, no_variant, one_variant, OneOption, is_one_of, is_none_of, AllOptions, no_option, one_option}
+use Rattle.occ_check_meaning.specs.Unfolding.{Procedure, procedure, Procedures, DeclaresItem, declares_value, declares_protocol, declares_procedure, Declares, declares_names, declares_item, DeclareAll, no_declaration, one_declaration, Unfolding, unfolds, Performs, skips, stops, assigns, inputs, outputs, calls, takes_variants, sequences, replicates_sequence, runs_beside, replicates_branch, alternates, replicates_alternation, conditions, replicates_conditional, selects, loops, InTurn, no_process, one_process, Beside, no_branch, one_branch, Copies, no_copy, one_copy, Arm, behind_arm, Guards, awaits, is_ready, awaits_variants, nests_arms, replicates_arm, EachArm, under_index, AllArms, no_arm, one_arm, Choice, behind_choice, Tests, tests, nests_choices, replicates_choice, EachChoice, under_choice_index, AllChoices, no_choice, one_choice, Variant, takes, AllVariants, no_variant, one_variant, OneOption, is_one_of, is_none_of, AllOptions, no_option, one_option}
 use Rattle.occ_check_meaning.proofs.Steps.{bind_some, some_is}
 use Rattle.occ_check_laws.proofs.Counting.{kept}
 use Rattle.occ_check_laws.proofs.Scopes.{each_within, each_behind}
 use Rattle.occ_check_laws.proofs.Growth.{growing, processes_grown}
 use Rattle.occ_check_laws.proofs.Covering.{Covers, since, covers_before}
 use Rattle.occ_check_laws.proofs.Stepping.{bound_steps, indexed_steps, opening_steps, one_declared_steps, declared_steps}
-use Rattle.occ_check_laws.proofs.TreeSteps.{unfolding_steps, performs_steps, in_turn_steps, beside_steps, copies_steps, arm_steps, offers_steps, arms_steps, choice_steps, tests_steps, choices_steps, variant_steps, variants_steps, option_steps, options_steps}
+use Rattle.occ_check_laws.proofs.TreeSteps.{unfolding_steps, performs_steps, in_turn_steps, beside_steps, copies_steps, arm_steps, guards_steps, arms_steps, choice_steps, tests_steps, choices_steps, variant_steps, variants_steps, option_steps, options_steps}
 use Rattle.occ_check_laws.proofs.TypedNames.{Fits, bound_opens, indexed_opens}
 use Rattle.std.proofs.Common.{append_assoc}
 use Rattle.occ_term.specs.Terms.{Place}
@@ -237,24 +237,24 @@ module _ (d : Declared) where
 
     arm_takes : {sc : Procedures} {depth : ℕ} {n m : Numbers} {a : Node arm} {arms : Arms} → Arm sc depth n a arms m → In d sc n → Covers d m → Takes n (cells_in_arms arms) m
     arm_takes (behind_arm {n = n} {l = l} {d = e} {arms = arms} ds v u) h c =
-        let s = covers_before d e.numbers l (offers_steps Grown growing processes_grown u) c in
+        let s = covers_before d e.numbers l (guards_steps Grown growing processes_grown u) c in
         let k = all_have d ds h s in
         the_same (cells_of_all e.heads ++ cells_in_arms arms) (cells_in_arms (arms_behind e.heads arms)) n l (arms_behind_cells e.heads arms)
-        (both (cells_of_all e.heads) (cells_in_arms arms) n e.numbers l (all_take ds h s) (offers_take u k.0 c))
+        (both (cells_of_all e.heads) (cells_in_arms arms) n e.numbers l (all_take ds h s) (guards_take u k.0 c))
 
-    offers_take : {sc : Procedures} {line depth : ℕ} {n m : Numbers} {h : ArmHead} {b : Body (under arm h)} {arms : Arms} → Offers sc line depth n h b arms m → In d sc n → Covers d m → Takes n (cells_in_arms arms) m
-    offers_take (awaits {sc = sc} {depth = depth} {n = n} {m = m} {l = l} {e = e} {c = x} {t = t} a g r u) h c =
+    guards_take : {sc : Procedures} {line depth : ℕ} {n m : Numbers} {h : ArmHead} {b : Body (under arm h)} {arms : Arms} → Guards sc line depth n h b arms m → In d sc n → Covers d m → Takes n (cells_in_arms arms) m
+    guards_take (awaits {sc = sc} {depth = depth} {n = n} {m = m} {l = l} {e = e} {c = x} {t = t} a g r u) h c =
         the_same (cells_in t) (cells_in_reception (as_reception x.1 t) ++ []) n l (with_nil (cells_in_reception (as_reception x.1 t)) ∙ reception_cells x.1 t)
         (room_begins (cells_in t) depth (Sizes.with_node (Sizes.together (size_of_test e) (Sizes.together (size_of_place x.0) (size_of_list x.1)))) n m l r
         (unfolding_takes u (roomy d sc depth (Sizes.with_node (Sizes.together (size_of_test e) (Sizes.together (size_of_place x.0) (size_of_list x.1)))) n m r h) c))
-    offers_take (is_ready {sc = sc} {depth = depth} {n = n} {m = m} {l = l} {e = e} {t = t} a r u) h c =
+    guards_take (is_ready {sc = sc} {depth = depth} {n = n} {m = m} {l = l} {e = e} {t = t} a r u) h c =
         the_same (cells_in t) (cells_in t ++ []) n l (with_nil (cells_in t)) (room_begins (cells_in t) depth (Sizes.with_node (size_of_expression e)) n m l r (unfolding_takes u (roomy d sc depth (Sizes.with_node (size_of_expression e)) n m r h) c))
-    offers_take (awaits_variants {sc = sc} {depth = depth} {n = n} {m = m} {l = l} {e = e} {c = x} {xs = xs} a g w r u) h c =
+    guards_take (awaits_variants {sc = sc} {depth = depth} {n = n} {m = m} {l = l} {e = e} {c = x} {xs = xs} a g w r u) h c =
         the_same (cells_in_variants xs) (cells_in_variants xs ++ []) n l (with_nil (cells_in_variants xs))
         (room_begins (cells_in_variants xs) depth (Sizes.with_node (Sizes.together (size_of_test e) (size_of_place x.1))) n m l r
         (variants_take u (roomy d sc depth (Sizes.with_node (Sizes.together (size_of_test e) (size_of_place x.1))) n m r h) c))
-    offers_take (nests_arms v u) h c = arms_take u h c
-    offers_take (replicates_arm v u) h c = each_arm_takes u h c
+    guards_take (nests_arms v u) h c = arms_take u h c
+    guards_take (replicates_arm v u) h c = each_arm_takes u h c
 
     pub each_arm_takes : {sc : Procedures} {line depth : ℕ} {n m : Numbers} {r : L.Replicator} {a : Node arm} {arms : Arms} → EachArm sc line depth n r a arms m → In d sc n → Covers d m → Takes n (cells_in_arms arms) m
     each_arm_takes (under_index {sc = sc} {line = line} {depth = depth} {n = n} {l = l} {r = r} {i = i} {arms = arms} x u) h c =

@@ -20,7 +20,7 @@ use Rattle.occ_check_meaning.specs.Declarations.{index_of}
 use Rattle.occ_check_meaning.specs.Actions.{opening, headed, followed, as_term, Listed, plain_list, tagged_list, as_reception, size_of_list, arms_behind, choices_behind, arms_then, choices_then, variants_then, options_then, with_tags, selector, Chosen}
 use Rattle.occ_check_laws.specs.Growth.{Grown}
 use Rattle.occ_check_meaning.specs.Performing.{Entered}
-use Rattle.occ_check_meaning.specs.Unfolding.{Procedure, procedure, Procedures, DeclareAll, Unfolding, unfolds, Performs, skips, stops, assigns, inputs, outputs, calls, takes_variants, sequences, replicates_sequence, runs_beside, replicates_branch, alternates, replicates_alternation, conditions, replicates_conditional, selects, loops, InTurn, no_process, one_process, Beside, no_branch, one_branch, Copies, no_copy, one_copy, Arm, behind_arm, Offers, awaits, is_ready, awaits_variants, nests_arms, replicates_arm, EachArm, under_index, AllArms, no_arm, one_arm, Choice, behind_choice, Tests, tests, nests_choices, replicates_choice, EachChoice, under_choice_index, AllChoices, no_choice, one_choice, Variant, takes, AllVariants, no_variant, one_variant, OneOption, is_one_of, is_none_of, AllOptions, no_option, one_option}
+use Rattle.occ_check_meaning.specs.Unfolding.{Procedure, procedure, Procedures, DeclareAll, Unfolding, unfolds, Performs, skips, stops, assigns, inputs, outputs, calls, takes_variants, sequences, replicates_sequence, runs_beside, replicates_branch, alternates, replicates_alternation, conditions, replicates_conditional, selects, loops, InTurn, no_process, one_process, Beside, no_branch, one_branch, Copies, no_copy, one_copy, Arm, behind_arm, Guards, awaits, is_ready, awaits_variants, nests_arms, replicates_arm, EachArm, under_index, AllArms, no_arm, one_arm, Choice, behind_choice, Tests, tests, nests_choices, replicates_choice, EachChoice, under_choice_index, AllChoices, no_choice, one_choice, Variant, takes, AllVariants, no_variant, one_variant, OneOption, is_one_of, is_none_of, AllOptions, no_option, one_option}
 use Rattle.occ_check_meaning.proofs.Steps.{bind_some, some_is}
 use Rattle.occ_check_laws.proofs.Scopes.{each_within, each_behind}
 use Rattle.occ_check_laws.proofs.Growth.{growing, processes_grown}
@@ -195,16 +195,16 @@ module _ (d : Declared) (P : Arms → Type 0) (f : (arms : Arms) → IsScoped ar
         )
 
     arm_each : {sc : Procedures} {depth : ℕ} {n m : Numbers} {a : Node arm} {arms : Arms} → Arm sc depth n a arms m → AllIn sc n → Covers d m → EachAltOfArms P arms
-    arm_each (behind_arm {d = e} {arms = arms} ds v u) h c = arms_behind_each P e.heads arms (offers_each u (all_declared ds h) c)
+    arm_each (behind_arm {d = e} {arms = arms} ds v u) h c = arms_behind_each P e.heads arms (guards_each u (all_declared ds h) c)
 
-    offers_each : {sc : Procedures} {line depth : ℕ} {n m : Numbers} {h : ArmHead} {b : Body (under arm h)} {arms : Arms} → Offers sc line depth n h b arms m → AllIn sc n → Covers d m → EachAltOfArms P arms
-    offers_each (awaits {sc = sc} {depth = depth} {n = n} {m = m} {e = e} {c = x} {t = t} a g r u) h c =
+    guards_each : {sc : Procedures} {line depth : ℕ} {n m : Numbers} {h : ArmHead} {b : Body (under arm h)} {arms : Arms} → Guards sc line depth n h b arms m → AllIn sc n → Covers d m → EachAltOfArms P arms
+    guards_each (awaits {sc = sc} {depth = depth} {n = n} {m = m} {e = e} {c = x} {t = t} a g r u) h c =
         (reception_each P x.1 t (unfolding_each u (all_roomy sc depth (Sizes.with_node (Sizes.together (size_of_test e) (Sizes.together (size_of_place x.0) (size_of_list x.1)))) n m r h) c), tt)
-    offers_each (is_ready {sc = sc} {depth = depth} {n = n} {m = m} {e = e} a r u) h c = (unfolding_each u (all_roomy sc depth (Sizes.with_node (size_of_expression e)) n m r h) c, tt)
-    offers_each (awaits_variants {sc = sc} {depth = depth} {n = n} {m = m} {e = e} {c = x} a g w r u) h c =
+    guards_each (is_ready {sc = sc} {depth = depth} {n = n} {m = m} {e = e} a r u) h c = (unfolding_each u (all_roomy sc depth (Sizes.with_node (size_of_expression e)) n m r h) c, tt)
+    guards_each (awaits_variants {sc = sc} {depth = depth} {n = n} {m = m} {e = e} {c = x} a g w r u) h c =
         (variants_each u (all_roomy sc depth (Sizes.with_node (Sizes.together (size_of_test e) (size_of_place x.1))) n m r h) c, tt)
-    offers_each (nests_arms v u) h c = arms_each u h c
-    offers_each (replicates_arm v u) h c = each_arm_each u h c
+    guards_each (nests_arms v u) h c = arms_each u h c
+    guards_each (replicates_arm v u) h c = each_arm_each u h c
 
     each_arm_each : {sc : Procedures} {line depth : ℕ} {n m : Numbers} {r : L.Replicator} {a : Node arm} {arms : Arms} → EachArm sc line depth n r a arms m → AllIn sc n → Covers d m → EachAltOfArms P arms
     each_arm_each (under_index {sc = sc} {line = line} {depth = depth} {n = n} {r = r} {i = i} x u) h c = (arm_each u (all_indexed sc line depth r n i x h) c, tt)

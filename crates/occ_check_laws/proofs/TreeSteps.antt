@@ -14,7 +14,7 @@ use Rattle.occ_check_meaning.specs.Scope.{names_of}
 use Rattle.occ_check_meaning.specs.Numbers.{Numbers, at_start, more_processes}
 use Rattle.occ_check_meaning.specs.Actions.{as_input, size_of_list, Chosen}
 use Rattle.occ_check_meaning.specs.ProgramUnfolding.{ProgramUnfolding, program}
-use Rattle.occ_check_meaning.specs.Unfolding.{Procedures, Unfolding, unfolds, Performs, skips, stops, assigns, inputs, outputs, calls, takes_variants, sequences, replicates_sequence, runs_beside, replicates_branch, alternates, replicates_alternation, conditions, replicates_conditional, selects, loops, InTurn, no_process, one_process, Beside, no_branch, one_branch, Copies, no_copy, one_copy, Arm, behind_arm, Offers, awaits, is_ready, awaits_variants, nests_arms, replicates_arm, EachArm, under_index, AllArms, no_arm, one_arm, Choice, behind_choice, Tests, tests, nests_choices, replicates_choice, EachChoice, under_choice_index, AllChoices, no_choice, one_choice, Variant, takes, AllVariants, no_variant, one_variant, OneOption, is_one_of, is_none_of, AllOptions, no_option, one_option}
+use Rattle.occ_check_meaning.specs.Unfolding.{Procedures, Unfolding, unfolds, Performs, skips, stops, assigns, inputs, outputs, calls, takes_variants, sequences, replicates_sequence, runs_beside, replicates_branch, alternates, replicates_alternation, conditions, replicates_conditional, selects, loops, InTurn, no_process, one_process, Beside, no_branch, one_branch, Copies, no_copy, one_copy, Arm, behind_arm, Guards, awaits, is_ready, awaits_variants, nests_arms, replicates_arm, EachArm, under_index, AllArms, no_arm, one_arm, Choice, behind_choice, Tests, tests, nests_choices, replicates_choice, EachChoice, under_choice_index, AllChoices, no_choice, one_choice, Variant, takes, AllVariants, no_variant, one_variant, OneOption, is_one_of, is_none_of, AllOptions, no_option, one_option}
 use Rattle.occ_check_laws.proofs.Stepping.{Stepping, bound_steps, indexed_steps, opening_steps, declared_steps, items_steps}
 
 module _ (R : Numbers → Numbers → Type 0) (s : Stepping R) (numbered : (n m : Numbers) → more_processes n ≡ Some m → R n m) where
@@ -57,16 +57,16 @@ module _ (R : Numbers → Numbers → Type 0) (s : Stepping R) (numbered : (n m 
     copies_steps (one_copy {n = n} {o = o} {m = m} {l = l} e u us) = s.chained n o l (numbered n o e) (s.chained o m l (unfolding_steps u) (copies_steps us))
 
     pub arm_steps : {sc : Procedures} {depth : ℕ} {n m : Numbers} {a : Node arm} {arms : Arms} → Arm sc depth n a arms m → R n m
-    arm_steps (behind_arm {n = n} {l = l} {d = d} ds v u) = s.chained n d.numbers l (declared_steps R s ds) (offers_steps u)
+    arm_steps (behind_arm {n = n} {l = l} {d = d} ds v u) = s.chained n d.numbers l (declared_steps R s ds) (guards_steps u)
 
-    pub offers_steps : {sc : Procedures} {line depth : ℕ} {n m : Numbers} {h : ArmHead} {b : Body (under arm h)} {arms : Arms} → Offers sc line depth n h b arms m → R n m
-    offers_steps (awaits {depth = depth} {n = n} {m = m} {l = l} {e = e} {c = c} x g r u) =
+    pub guards_steps : {sc : Procedures} {line depth : ℕ} {n m : Numbers} {h : ArmHead} {b : Body (under arm h)} {arms : Arms} → Guards sc line depth n h b arms m → R n m
+    guards_steps (awaits {depth = depth} {n = n} {m = m} {l = l} {e = e} {c = c} x g r u) =
         s.chained n m l (s.by_room depth (Sizes.with_node (Sizes.together (size_of_test e) (Sizes.together (size_of_place c.0) (size_of_list c.1)))) n m r) (unfolding_steps u)
-    offers_steps (is_ready {depth = depth} {n = n} {m = m} {l = l} {e = e} x r u) = s.chained n m l (s.by_room depth (Sizes.with_node (size_of_expression e)) n m r) (unfolding_steps u)
-    offers_steps (awaits_variants {depth = depth} {n = n} {m = m} {l = l} {e = e} {c = c} x g p r u) =
+    guards_steps (is_ready {depth = depth} {n = n} {m = m} {l = l} {e = e} x r u) = s.chained n m l (s.by_room depth (Sizes.with_node (size_of_expression e)) n m r) (unfolding_steps u)
+    guards_steps (awaits_variants {depth = depth} {n = n} {m = m} {l = l} {e = e} {c = c} x g p r u) =
         s.chained n m l (s.by_room depth (Sizes.with_node (Sizes.together (size_of_test e) (size_of_place c.1))) n m r) (variants_steps u)
-    offers_steps (nests_arms v u) = arms_steps u
-    offers_steps (replicates_arm v u) = each_arm_steps u
+    guards_steps (nests_arms v u) = arms_steps u
+    guards_steps (replicates_arm v u) = each_arm_steps u
 
     pub each_arm_steps : {sc : Procedures} {line depth : ℕ} {n m : Numbers} {r : L.Replicator} {a : Node arm} {arms : Arms} → EachArm sc line depth n r a arms m → R n m
     each_arm_steps (under_index {sc = sc} {line = line} {depth = depth} {n = n} {l = l} {r = r} {i = i} x u) = s.chained n i.numbers l (indexed_steps R s (names_of sc) line depth r n i x) (arm_steps u)

@@ -28,7 +28,7 @@ use Rattle.occ_check_meaning.specs.Actions.{headed, followed, as_term, Listed, p
 use Rattle.occ_check_laws.specs.Growth.{Grown}
 use Rattle.occ_check_laws.specs.Having.{NamesHave}
 use Rattle.occ_check_meaning.specs.Performing.{Entered}
-use Rattle.occ_check_meaning.specs.Unfolding.{Procedure, procedure, Procedures, DeclaresItem, declares_value, declares_protocol, declares_procedure, Declares, declares_names, declares_item, DeclareAll, no_declaration, one_declaration, Unfolding, unfolds, Performs, skips, stops, assigns, inputs, outputs, calls, takes_variants, sequences, replicates_sequence, runs_beside, replicates_branch, alternates, replicates_alternation, conditions, replicates_conditional, selects, loops, InTurn, no_process, one_process, Beside, no_branch, one_branch, Copies, no_copy, one_copy, Arm, behind_arm, Offers, awaits, is_ready, awaits_variants, nests_arms, replicates_arm, EachArm, under_index, AllArms, no_arm, one_arm, Choice, behind_choice, Tests, tests, nests_choices, replicates_choice, EachChoice, under_choice_index, AllChoices, no_choice, one_choice, Variant, takes, AllVariants, no_variant, one_variant, OneOption, is_one_of, is_none_of, AllOptions, no_option, one_option}
+use Rattle.occ_check_meaning.specs.Unfolding.{Procedure, procedure, Procedures, DeclaresItem, declares_value, declares_protocol, declares_procedure, Declares, declares_names, declares_item, DeclareAll, no_declaration, one_declaration, Unfolding, unfolds, Performs, skips, stops, assigns, inputs, outputs, calls, takes_variants, sequences, replicates_sequence, runs_beside, replicates_branch, alternates, replicates_alternation, conditions, replicates_conditional, selects, loops, InTurn, no_process, one_process, Beside, no_branch, one_branch, Copies, no_copy, one_copy, Arm, behind_arm, Guards, awaits, is_ready, awaits_variants, nests_arms, replicates_arm, EachArm, under_index, AllArms, no_arm, one_arm, Choice, behind_choice, Tests, tests, nests_choices, replicates_choice, EachChoice, under_choice_index, AllChoices, no_choice, one_choice, Variant, takes, AllVariants, no_variant, one_variant, OneOption, is_one_of, is_none_of, AllOptions, no_option, one_option}
 use Rattle.occ_check_laws.proofs.Tags.{tagged_by, tagged_with}
 use Rattle.occ_check_meaning.proofs.Steps.{bind_some, some_is}
 use Rattle.occ_check_laws.proofs.Counting.{kept}
@@ -36,7 +36,7 @@ use Rattle.occ_check_laws.proofs.Scopes.{EachKnown, EachPair, each_within, each_
 use Rattle.occ_check_laws.proofs.Growth.{growing, processes_grown}
 use Rattle.occ_check_laws.proofs.Covering.{Covers, CoversSince, since, covers_before, fewer_before, in_span}
 use Rattle.occ_check_laws.proofs.Stepping.{bound_steps, indexed_steps, opening_steps, one_declared_steps, declared_steps}
-use Rattle.occ_check_laws.proofs.TreeSteps.{unfolding_steps, performs_steps, in_turn_steps, beside_steps, copies_steps, arm_steps, offers_steps, arms_steps, choice_steps, tests_steps, choices_steps, variant_steps, variants_steps, option_steps, options_steps}
+use Rattle.occ_check_laws.proofs.TreeSteps.{unfolding_steps, performs_steps, in_turn_steps, beside_steps, copies_steps, arm_steps, guards_steps, arms_steps, choice_steps, tests_steps, choices_steps, variant_steps, variants_steps, option_steps, options_steps}
 use Rattle.occ_check_laws.proofs.TypedExpressions.{single_has, typed_has}
 use Rattle.occ_check_laws.proofs.TypedLines.{All, all_of, channel_has, output_has, stored_has, ListedHas, received_has, input_has, assigned_has, test_has, typed_as_has}
 use Rattle.occ_check_laws.proofs.TypedNames.{Fits, fits_later, declarations_joined, names_open, protocol_opens, value_declared_opens, bound_opens, indexed_opens, cells_then_room}
@@ -262,19 +262,19 @@ module _ (d : Declared) where
 
     arm_has : {sc : Procedures} {depth : ℕ} {n m : Numbers} {a : Node arm} {arms : Arms} → Arm sc depth n a arms m → In sc n → Covers d m → ArmsHave d arms
     arm_has (behind_arm {n = n} {l = l} {d = e} {arms = arms} ds v u) h c =
-        let k = all_have ds h (covers_before d e.numbers l (offers_steps Grown growing processes_grown u) c) in
-        arms_behind_have e.heads arms k.1 (offers_have u k.0 c)
+        let k = all_have ds h (covers_before d e.numbers l (guards_steps Grown growing processes_grown u) c) in
+        arms_behind_have e.heads arms k.1 (guards_have u k.0 c)
 
-    offers_have : {sc : Procedures} {line depth : ℕ} {n m : Numbers} {h : ArmHead} {b : Body (under arm h)} {arms : Arms} → Offers sc line depth n h b arms m → In sc n → Covers d m → ArmsHave d arms
-    offers_have (awaits {sc = sc} {line = line} {depth = depth} {n = n} {m = m} {test = test} {i = i} {e = e} {c = x} {t = t} a g r u) h c =
+    guards_have : {sc : Procedures} {line depth : ℕ} {n m : Numbers} {h : ArmHead} {b : Body (under arm h)} {arms : Arms} → Guards sc line depth n h b arms m → In sc n → Covers d m → ArmsHave d arms
+    guards_have (awaits {sc = sc} {line = line} {depth = depth} {n = n} {m = m} {test = test} {i = i} {e = e} {c = x} {t = t} a g r u) h c =
         let k = received_has d (names_of sc) (have sc n h) line i x g in (
           test_has d (names_of sc) (have sc n h) line test e a,
           (k.0, k.1, reception_has k.0 x.1 t k.2 (unfolding_has u (roomy sc depth (Sizes.with_node (Sizes.together (size_of_test e) (Sizes.together (size_of_place x.0) (size_of_list x.1)))) n m r h) c)),
           tt,
         )
-    offers_have (is_ready {sc = sc} {line = line} {depth = depth} {n = n} {m = m} {test = test} {e = e} a r u) h c =
+    guards_have (is_ready {sc = sc} {line = line} {depth = depth} {n = n} {m = m} {test = test} {e = e} a r u) h c =
         (typed_as_has d (names_of sc) (have sc n h) line Boolean test e a, unfolding_has u (roomy sc depth (Sizes.with_node (size_of_expression e)) n m r h) c, tt)
-    offers_have (awaits_variants {sc = sc} {line = line} {depth = depth} {n = n} {m = m} {test = test} {v = v} {e = e} {c = x} {p = p} a g w r u) h c = (
+    guards_have (awaits_variants {sc = sc} {line = line} {depth = depth} {n = n} {m = m} {test = test} {v = v} {e = e} {c = x} {p = p} a g w r u) h c = (
       test_has d (names_of sc) (have sc n h) line test e a,
       (
         p,
@@ -283,8 +283,8 @@ module _ (d : Declared) where
       ),
       tt,
     )
-    offers_have (nests_arms v u) h c = arms_have u h c
-    offers_have (replicates_arm v u) h c = each_arm_has u h c
+    guards_have (nests_arms v u) h c = arms_have u h c
+    guards_have (replicates_arm v u) h c = each_arm_has u h c
 
     pub each_arm_has : {sc : Procedures} {line depth : ℕ} {n m : Numbers} {r : L.Replicator} {a : Node arm} {arms : Arms} → EachArm sc line depth n r a arms m → In sc n → Covers d m → ArmsHave d arms
     each_arm_has (under_index {sc = sc} {line = line} {depth = depth} {n = n} {l = l} {r = r} {i = i} {arms = arms} x u) h c =

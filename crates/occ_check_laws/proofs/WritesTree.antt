@@ -17,7 +17,7 @@ use Rattle.occ_check_meaning.specs.Declarations.{index_of}
 use Rattle.occ_check_meaning.specs.Actions.{headed, followed, as_term, Listed, plain_list, tagged_list, as_reception, as_input, size_of_list, arms_behind, choices_behind, arms_then, choices_then, variants_then, options_then, Chosen}
 use Rattle.occ_check_laws.specs.Growth.{Grown}
 use Rattle.occ_check_meaning.specs.Performing.{Entered}
-use Rattle.occ_check_meaning.specs.Unfolding.{Procedure, procedure, Procedures, DeclaresItem, declares_value, declares_protocol, declares_procedure, Declares, declares_names, declares_item, DeclareAll, no_declaration, one_declaration, Unfolding, unfolds, Performs, skips, stops, assigns, inputs, outputs, calls, takes_variants, sequences, replicates_sequence, runs_beside, replicates_branch, alternates, replicates_alternation, conditions, replicates_conditional, selects, loops, InTurn, no_process, one_process, Beside, no_branch, one_branch, Copies, no_copy, one_copy, Arm, behind_arm, Offers, awaits, is_ready, awaits_variants, nests_arms, replicates_arm, EachArm, under_index, AllArms, no_arm, one_arm, Choice, behind_choice, Tests, tests, nests_choices, replicates_choice, EachChoice, under_choice_index, AllChoices, no_choice, one_choice, Variant, takes, AllVariants, no_variant, one_variant, OneOption, is_one_of, is_none_of, AllOptions, no_option, one_option}
+use Rattle.occ_check_meaning.specs.Unfolding.{Procedure, procedure, Procedures, DeclaresItem, declares_value, declares_protocol, declares_procedure, Declares, declares_names, declares_item, DeclareAll, no_declaration, one_declaration, Unfolding, unfolds, Performs, skips, stops, assigns, inputs, outputs, calls, takes_variants, sequences, replicates_sequence, runs_beside, replicates_branch, alternates, replicates_alternation, conditions, replicates_conditional, selects, loops, InTurn, no_process, one_process, Beside, no_branch, one_branch, Copies, no_copy, one_copy, Arm, behind_arm, Guards, awaits, is_ready, awaits_variants, nests_arms, replicates_arm, EachArm, under_index, AllArms, no_arm, one_arm, Choice, behind_choice, Tests, tests, nests_choices, replicates_choice, EachChoice, under_choice_index, AllChoices, no_choice, one_choice, Variant, takes, AllVariants, no_variant, one_variant, OneOption, is_one_of, is_none_of, AllOptions, no_option, one_option}
 use Rattle.occ_check_meaning.specs.Scope.{proc}
 use Rattle.occ_check_laws.proofs.Scopes.{EachKnown, each_within, each_named, each_behind}
 use Rattle.occ_check_laws.proofs.Growth.{growing, processes_grown}
@@ -218,18 +218,18 @@ module _ (c : ℕ) where
     pub arm_avoids : {sc : Procedures} {depth : ℕ} {n m : Numbers} {a : Node arm} {arms : Arms} → Arm sc depth n a arms m → In sc → c < length n.cells → Not ((uses_of_arms arms).writes c)
     arm_avoids (behind_arm {n = n} {d = d} {arms = arms} ds v u) h l =
         let k = all_avoid ds h l in
-        arms_behind_not d.heads arms k.1 (offers_avoid u k.0 (grown n d.numbers (declared_steps Grown growing ds) l))
+        arms_behind_not d.heads arms k.1 (guards_avoid u k.0 (grown n d.numbers (declared_steps Grown growing ds) l))
 
-    offers_avoid : {sc : Procedures} {line depth : ℕ} {n m : Numbers} {h : ArmHead} {b : Body (under arm h)} {arms : Arms} → Offers sc line depth n h b arms m → In sc → c < length n.cells → Not ((uses_of_arms arms).writes c)
-    offers_avoid (awaits {sc = sc} {line = line} {depth = depth} {n = n} {m = m} {i = i} {e = e} {c = p} {t = t} x g r u) h l =
+    guards_avoid : {sc : Procedures} {line depth : ℕ} {n m : Numbers} {h : ArmHead} {b : Body (under arm h)} {arms : Arms} → Guards sc line depth n h b arms m → In sc → c < length n.cells → Not ((uses_of_arms arms).writes c)
+    guards_avoid (awaits {sc = sc} {line = line} {depth = depth} {n = n} {m = m} {i = i} {e = e} {c = p} {t = t} x g r u) h l =
         alone ((uses_of_reception (as_reception p.1 t)).writes c) (reception_not p.1 t (received_avoids c (names_of sc) (named sc h) line i p g)
         (unfolding_avoids u h (roomy depth (Sizes.with_node (Sizes.together (size_of_test e) (Sizes.together (size_of_place p.0) (size_of_list p.1)))) n m r l)))
-    offers_avoid (is_ready {depth = depth} {n = n} {m = m} {e = e} {t = t} x r u) h l =
+    guards_avoid (is_ready {depth = depth} {n = n} {m = m} {e = e} {t = t} x r u) h l =
         alone ((uses_of t).writes c) (unfolding_avoids u h (roomy depth (Sizes.with_node (size_of_expression e)) n m r l))
-    offers_avoid (awaits_variants {depth = depth} {n = n} {m = m} {e = e} {c = p} {xs = xs} x g w r u) h l =
+    guards_avoid (awaits_variants {depth = depth} {n = n} {m = m} {e = e} {c = p} {xs = xs} x g w r u) h l =
         alone ((uses_of_variants xs).writes c) (variants_avoid u h (roomy depth (Sizes.with_node (Sizes.together (size_of_test e) (size_of_place p.1))) n m r l))
-    offers_avoid (nests_arms v u) h l = arms_avoid u h l
-    offers_avoid (replicates_arm v u) h l = each_arm_avoids u h l
+    guards_avoid (nests_arms v u) h l = arms_avoid u h l
+    guards_avoid (replicates_arm v u) h l = each_arm_avoids u h l
 
     each_arm_avoids : {sc : Procedures} {line depth : ℕ} {n m : Numbers} {r : L.Replicator} {a : Node arm} {arms : Arms} → EachArm sc line depth n r a arms m → In sc → c < length n.cells → Not ((uses_of_arms arms).writes c)
     each_arm_avoids (under_index {sc = sc} {line = line} {depth = depth} {n = n} {r = r} {i = i} {arms = arms} x u) h l =

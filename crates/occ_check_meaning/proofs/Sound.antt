@@ -18,7 +18,8 @@ use Rattle.occ_check_meaning.specs.Actions as A
 use Rattle.occ_check_meaning.specs.Actions.{headed, opening, taken, assigned, received, as_input, size_of_list, test_of, with_tags, selector, Chosen, none_chosen, choosing, choosing_else}
 use Rattle.occ_check_meaning.specs.Performing.{Under, Calling, Entered, entered, Declaring, behind, acted, sequenced, each_sequenced, beside, copied, copies_beside}
 use Rattle.occ_check_meaning.specs.Recursion.{unfolded, all_declared}
-use Rattle.occ_check_meaning.specs.Unfolding.{Procedure, procedure, Procedures, found, DeclareAll, Unfolding, unfolds, Performs, skips, stops, assigns, inputs, outputs, calls, sequences, replicates_sequence, runs_beside, replicates_branch, InTurn, Beside, Copies, no_copy, one_copy, meant}
+use Rattle.occ_check_meaning.specs.Unfolding.{Procedure, procedure, Procedures, found, DeclareAll, Unfolding, unfolds, Performs, skips, stops, assigns, inputs, outputs, calls, sequences, replicates_sequence, runs_beside, replicates_branch, InTurn, Beside, Copies, no_copy, one_copy}
+use Rattle.occ_check_meaning.specs.Meant.{meant}
 use Rattle.occ_check_meaning.proofs.Steps.{bind_some, some_is}
 use Rattle.occ_check_meaning.proofs.Names.{plain, meant_within, found_means, means_of}
 

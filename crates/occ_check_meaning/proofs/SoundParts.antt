@@ -21,7 +21,8 @@ use Rattle.occ_check_meaning.specs.Items.{channel_of, stored}
 use Rattle.occ_check_meaning.specs.Declarations.{indexed}
 use Rattle.occ_check_meaning.specs.Actions.{received, size_of_list, test_of, with_tags, selector, Chosen, none_chosen, choosing, choosing_else}
 use Rattle.occ_check_meaning.specs.Performing.{Under, Calling, Entered, alternated, conditioned, selected, looped, taken_by_variant, nested, arms_under, arm_of, variants_arm, each_of_arms, choices_under, choice_of, each_of_choices, variant_of, option_of, else_of}
-use Rattle.occ_check_meaning.specs.Unfolding.{Procedures, DeclareAll, Unfolding, Performs, takes_variants, alternates, replicates_alternation, conditions, replicates_conditional, selects, loops, Arm, behind_arm, Offers, awaits, is_ready, awaits_variants, EachArm, under_index, AllArms, Choice, behind_choice, Tests, tests, EachChoice, under_choice_index, AllChoices, Variant, takes, AllVariants, OneOption, is_one_of, is_none_of, AllOptions, meant}
+use Rattle.occ_check_meaning.specs.Unfolding.{Procedures, DeclareAll, Unfolding, Performs, takes_variants, alternates, replicates_alternation, conditions, replicates_conditional, selects, loops, Arm, behind_arm, Guards, awaits, is_ready, awaits_variants, EachArm, under_index, AllArms, Choice, behind_choice, Tests, tests, EachChoice, under_choice_index, AllChoices, Variant, takes, AllVariants, OneOption, is_one_of, is_none_of, AllOptions}
+use Rattle.occ_check_meaning.specs.Meant.{meant}
 use Rattle.occ_check_meaning.proofs.Steps.{bind_some, some_is}
 use Rattle.occ_check_meaning.proofs.Names.{plain}
 use Rattle.occ_check_meaning.specs.Actions.{arms_behind, choices_behind, depth_behind}
@@ -97,7 +98,7 @@ nested_sound f P Q s g sc h depth n x e =
 -- ---- arms
 
 abbrev pub Offering : ℕ → (h : ArmHead) → Body (under arm h) → Procedures → ℕ → Numbers → Arms → Numbers → Type 0
-Offering line h b sc depth n arms m = Offers sc line depth n h b arms m
+Offering line h b sc depth n arms m = Guards sc line depth n h b arms m
 
 abbrev arms_rest : Under Arms → ℕ → Entered Calling → Option (Arms × Numbers)
 arms_rest f depth d = do
@@ -122,13 +123,13 @@ arm_of_sound line (on_input test i) p f s sc h depth n x e =
     let c = bind_some (received (names_of (meant sc)) line i) _ x b.2 in
     let m = bind_some (room depth (Sizes.with_node (Sizes.together (size_of_test b.0) (Sizes.together (size_of_place c.0.0) (size_of_list c.0.1)))) n) _ x c.2 in
     let t = bind_some (f (meant sc) (depth_behind c.0.1 (depth + 1)) m.0) _ x m.2 in
-    subst (λ y. Offers sc line depth n (guarded (on_input test i)) (single_body p) y.0 y.1) (some_is _ x t.2)
+    subst (λ y. Guards sc line depth n (guarded (on_input test i)) (single_body p) y.0 y.1) (some_is _ x t.2)
     (awaits (plain sc (λ ns. test_of ns line test) b.1) (plain sc (λ ns. received ns line i) c.1) m.1 (s sc h (depth_behind c.0.1 (depth + 1)) m.0 t.0 t.1))
 arm_of_sound line (on_skip test) p f s sc h depth n x e =
     let b = bind_some (typed_as (names_of (meant sc)) line Boolean test) _ x e in
     let m = bind_some (room depth (Sizes.with_node (size_of_expression b.0)) n) _ x b.2 in
     let t = bind_some (f (meant sc) (depth + 1) m.0) _ x m.2 in
-    subst (λ y. Offers sc line depth n (guarded (on_skip test)) (single_body p) y.0 y.1) (some_is _ x t.2)
+    subst (λ y. Guards sc line depth n (guarded (on_skip test)) (single_body p) y.0 y.1) (some_is _ x t.2)
     (is_ready (plain sc (λ ns. typed_as ns line Boolean test) b.1) m.1 (s sc h (depth + 1) m.0 t.0 t.1))
 
 pub variants_arm_sound : (line : ℕ) (test : Option Expression) (v : Var) (vs : Nodes variant) (f : Protocol → Under Variants)
@@ -140,7 +141,7 @@ variants_arm_sound line test v vs f s sc h depth n x e =
     let p = bind_some (with_tags c.0.0) _ x c.2 in
     let m = bind_some (room depth (Sizes.with_node (Sizes.together (size_of_test b.0) (size_of_place c.0.1))) n) _ x p.2 in
     let t = bind_some (f p.0 (meant sc) (depth + 1) m.0) _ x m.2 in
-    subst (λ y. Offers sc line depth n (guarded_variants test v) (bodies vs) y.0 y.1) (some_is _ x t.2)
+    subst (λ y. Guards sc line depth n (guarded_variants test v) (bodies vs) y.0 y.1) (some_is _ x t.2)
     (awaits_variants (plain sc (λ ns. test_of ns line test) b.1) (plain sc (λ ns. channel_of ns line v) c.1) p.1 m.1 (s p.0 sc h (depth + 1) m.0 t.0 t.1))
 
 pub each_arm_sound : (line : ℕ) (r : L.Replicator) (a : Node arm) (f : Under Arms) → Sound f (λ sc depth n arms m. Arm sc depth n a arms m)

@@ -23,7 +23,7 @@ use Rattle.occ_check_meaning.specs.Numbers.{more_processes}
 use Rattle.occ_check.proofs.Beside.{all_branches, branch_none, branch_one, branch_step, branches_in, no_body, no_number, one_branch, put_branch}
 use Rattle.occ_check.proofs.InTurn.{all_terms, in_turn, in_turn_none, in_turn_one, in_turn_step, item_within, put_term}
 use Rattle.occ_check_meaning.specs.Recursion.{all_arms, all_beside, all_choices, all_in_turn, all_options, all_variants, option_unfolded, unfolded, variant_unfolded}
-use Rattle.occ_check_meaning.specs.Unfolding.{meant}
+use Rattle.occ_check_meaning.specs.Meant.{meant}
 use Rattle.occ_check_names.specs.View.{Refuses, numbers_of, scope_in}
 use Rattle.occ_check.specs.Progress.{counted, meant_at, weight_at}
 use Rattle.occ_check.specs.Weights.{node_size, nodes_size, weight}

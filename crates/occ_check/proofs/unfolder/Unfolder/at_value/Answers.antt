@@ -3,7 +3,7 @@ use Rattle.std.proofs.lemmas.Int.{to_z-of_z}
 use Rattle.occ_tree_grammar.specs.Lines.Views.{replicator_of}
 use Rattle.occ_check_meaning.specs.Declarations.{index_of}
 use Rattle.occ_check_meaning.specs.Scope.{within}
-use Rattle.occ_check_meaning.specs.Unfolding.{meant}
+use Rattle.occ_check_meaning.specs.Meant.{meant}
 use Rattle.occ_check.specs.Progress.{scope_at}
 use Rattle.occ_check_names.specs.View.{scope_in}
 use Rattle.occ_check.specs.Weights.{weight}

@@ -3,7 +3,7 @@ use Rattle.occ_tree_grammar.specs.Lines.Views.{actuals_of, formals_of}
 use Rattle.occ_tree_grammar.specs.Processes.Views.{process_of}
 use Rattle.occ_term.specs.View.{declarations_of}
 use Rattle.occ_check_meaning.specs.Scope.{names_of}
-use Rattle.occ_check_meaning.specs.Unfolding.{meaning_of}
+use Rattle.occ_check_meaning.specs.Meant.{meaning_of}
 use Rattle.occ_check.specs.Entering.{procedure_of}
 use Rattle.occ_check_typing.specs.Declaration.{pairs_of}
 use Rattle.occ_check.specs.Progress.{counted, meant_at, scope_at}

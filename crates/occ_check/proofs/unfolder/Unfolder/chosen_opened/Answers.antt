@@ -12,7 +12,7 @@ use Rattle.occ_check_meaning.specs.Declarations.{indexed}
 use Rattle.occ_check_meaning.specs.Performing.{each_of_choices, nested}
 use Rattle.occ_check_meaning.specs.Recursion.{all_choices, choice_unfolded, unfolded}
 use Rattle.occ_check_meaning.specs.Scope.{names_of}
-use Rattle.occ_check_meaning.specs.Unfolding.{meant}
+use Rattle.occ_check_meaning.specs.Meant.{meant}
 use Rattle.occ_check_names.specs.View.{Refuses, scope_in}
 use Rattle.occ_check_typing.proofs.Refusals.{refused_with}
 use Rattle.occ_check.specs.Opened.{put}

@@ -6,7 +6,7 @@ use Rattle.occ_term.specs.Terms as T
 use Rattle.occ_check_meaning.specs.Performing as performs
 use Rattle.occ_check_meaning.specs.Performing.{copied}
 use Rattle.occ_check_meaning.specs.Recursion.{unfolded}
-use Rattle.occ_check_meaning.specs.Unfolding.{meant}
+use Rattle.occ_check_meaning.specs.Meant.{meant}
 use Rattle.occ_check_names.specs.View.{Refuses, scope_in}
 use Rattle.occ_check.specs.Copies.{copy_for}
 use Rattle.occ_check.specs.Opened.{put}

@@ -10,7 +10,7 @@ use Rattle.occ_check_meaning.specs.Actions.{arms_behind, as_reception, depth_beh
 use Rattle.occ_check_meaning.specs.Performing as performs
 use Rattle.occ_check_meaning.specs.Recursion.{unfolded}
 use Rattle.occ_check_meaning.specs.Scope.{names_of}
-use Rattle.occ_check_meaning.specs.Unfolding.{meant}
+use Rattle.occ_check_meaning.specs.Meant.{meant}
 use Rattle.occ_check_names.specs.View.{Refuses, scope_in}
 use Rattle.occ_check_typing.proofs.Refusals.{refused_with}
 use Rattle.occ_check.specs.Opened.{put}

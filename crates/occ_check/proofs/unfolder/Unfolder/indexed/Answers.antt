@@ -3,7 +3,7 @@ use Rattle.occ_tree_grammar.specs.Lines.Views.{replicator_of}
 use Rattle.occ_term.specs.View.{replicator_of as over_of}
 use Rattle.occ_check_meaning.specs.Declarations.{indexed}
 use Rattle.occ_check_meaning.specs.Scope.{names_of, within}
-use Rattle.occ_check_meaning.specs.Unfolding.{meant}
+use Rattle.occ_check_meaning.specs.Meant.{meant}
 use Rattle.occ_check_meaning.proofs.Names.{meant_within, same_names}
 use Rattle.occ_check_typing.specs.Declaration.{indexed_of, pairs_of}
 use Rattle.occ_check.specs.Progress.{counted, meant_at, scope_at}
