@@ -8,7 +8,7 @@ use Rattle.occ_check_meaning.specs.Performing.{entered}
 use Rattle.occ_check_meaning.specs.Recursion.{item_declared}
 use Rattle.occ_check_meaning.specs.Scope.{proc}
 use Rattle.occ_check_meaning.specs.Unfolding.{procedure}
-use Rattle.occ_check_meaning.specs.Unfolding as unfoldings
+use Rattle.occ_check_meaning.specs.Meant as scopes
 use Rattle.occ_check.specs.Progress.{Enters, counted, innermost_at, meant_innermost}
 use Rattle.occ_check_names.specs.View.{Refuses, innermost, names_in}
 use Rattle.occ_check_typing.proofs.Refusals.{refused_with}
@@ -69,7 +69,7 @@ returns-in_ok-declare-in-Proc-clause-entered c =
     let is = c.in_ok-declare-in-Proc.ensures.scope
     ∙ ap (λ x. (x, proc (procedure p.line (formals_of p.formals) (process_of p.body))) ∷ innermost_at u) c.deref-in-Proc.ensures.value in
     proc_form c.args.item.now p.line p.name p.formals p.body p.field-4 p.is (innermost_at u) inside is c.args.depth (counted u)
-    ∙ ap (λ heads. Some (entered (unfoldings.meant inside) (declarations_of heads) (counted u))) (sym c.new.ensures)
+    ∙ ap (λ heads. Some (entered (scopes.meant inside) (declarations_of heads) (counted u))) (sym c.new.ensures)
 
 pub returns-in_ok-declare-in-Proc-clause-weight : goal.returns-in_ok-declare-in-Proc-clause-weight
 returns-in_ok-declare-in-Proc-clause-weight c =
