@@ -57,7 +57,7 @@ def gallery():
                 fields = {"title": title, "keyboard": keyboard, "choices": choices, "screen": screen, "ending": ending}
                 told = "".join(f"        {key}: {literal(text)},\n" for key, text in fields.items())
                 rows.append(f"    Run {{\n        source: {name},\n{told}    }},\n")
-        tables.append(f"pub(crate) const IN_{folder.upper()}: [Run; {len(rows)}] = [\n{''.join(rows)}];\n")
+        tables.append(f"pub(crate) static IN_{folder.upper()}: [Run; {len(rows)}] = [\n{''.join(rows)}];\n")
     return (
         "//! The programs of the folder `examples`, and what their first lines say. `tools/tables.py` writes this file.\n"
         "use crate::examples::Run;\n\n" + "\n".join([*sources, *tables])
@@ -77,7 +77,7 @@ def answers():
     return (
         "//! The table of answers in `docs/language.md`. `tools/tables.py` writes this file.\n"
         "use crate::reference::Answer;\n\n"
-        f"pub(crate) const ANSWERS: [Answer; {len(rows)}] = [\n{''.join(rows)}];\n"
+        f"pub(crate) static ANSWERS: [Answer; {len(rows)}] = [\n{''.join(rows)}];\n"
     )
 
 

@@ -6,7 +6,7 @@ use Rattle.occ_tree_grammar.specs.Processes.Views.{process_of}
 use Rattle.occ_tree_grammar.specs.declared.tree.process.Process.{Process}
 use Rattle.occ_tree_grammar.specs.declared.tree.process.Stmt.{Stmt}
 use Rattle.occ_tree_grammar.specs.declared.tree.process.Stmt.TheVariants as stmts
-use Rattle.occ_term.specs.Sizes.{node, no_size}
+use Rattle.occ_term.specs.Sizes.{with_node, no_size}
 use Rattle.occ_term.specs.Terms.{Term, Branches, no_branches, and_branch, Par}
 use Rattle.occ_term.specs.View.{branches}
 use Rattle.occ_check_meaning.specs.Numbers.{Numbers, more_processes, room}

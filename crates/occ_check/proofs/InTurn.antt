@@ -2,12 +2,12 @@
 use Rattle.std.proofs.Common.{◌≡◌, ◌<◌, ◌≤◌, ◌+◌, ◌∙◌, ℕ, List, [], ◌∷◌, ◌++◌, Option, Some, None, refl, ap, sym, map, drop, get_or, length, arith, Vec, Global, zero, suc}
 use Rattle.occ_tree_grammar.specs.Many.{◌>>=◌}
 use Rattle.occ_tree_grammar.specs.Processes.Trees.{nodes, Nodes, process, more_nodes}
-use Rattle.occ_tree_grammar.specs.Processes.Views.{process_of, row_processes}
+use Rattle.occ_tree_grammar.specs.Processes.Views.{process_of, held_processes}
 use Rattle.occ_tree_grammar.specs.declared.tree.process.Process.{Process}
 use Rattle.occ_tree_grammar.specs.declared.tree.process.Stmt.{Stmt, Row_of-Process, end_of-Process, more_of-Process, items-the_row-Process, items_hidden-the_row-Process-4}
 use Rattle.occ_tree_grammar.specs.declared.tree.process.Stmt.TheVariants as stmts
 use Rattle.occ_tree_grammar.specs.declared.tree.process.Arm.TheBlock.{hidden-the_row-Process-4}
-use Rattle.occ_term.specs.Sizes.{node, no_size}
+use Rattle.occ_term.specs.Sizes.{with_node, no_size}
 use Rattle.occ_term.specs.Terms.{Term, Terms, no_terms, then_term, Seq}
 use Rattle.occ_term.specs.View.{terms}
 use Rattle.occ_check_meaning.specs.Numbers.{Numbers, room}
@@ -20,13 +20,13 @@ use Rattle.occ_check.proofs.Listing.{before}
 
 -- ---- vectors
 
-processes_of_row : {m : _} (k : Row_of-Process m) → row_processes k ≡ nodes (map process_of (items-the_row-Process m k))
-unfolding process_of row_processes
-processes_of_row end_of-Process = refl
-processes_of_row (more_of-Process x k) = ap (more_nodes (process_of x)) (processes_of_row k)
+held_processes_are : {m : _} (k : Row_of-Process m) → held_processes k ≡ nodes (map process_of (items-the_row-Process m k))
+unfolding process_of held_processes
+held_processes_are end_of-Process = refl
+held_processes_are (more_of-Process x k) = ap (more_nodes (process_of x)) (held_processes_are k)
 
-pub processes_made : (v : Vec Process Global) → row_processes (hidden-the_row-Process-4 v) ≡ nodes (map process_of v.items)
-processes_made v = processes_of_row (hidden-the_row-Process-4 v) ∙ ap (λ (xs : List Process). nodes (map process_of xs)) (items_hidden-the_row-Process-4 v)
+pub processes_made : (v : Vec Process Global) → held_processes (hidden-the_row-Process-4 v) ≡ nodes (map process_of v.items)
+processes_made v = held_processes_are (hidden-the_row-Process-4 v) ∙ ap (λ (xs : List Process). nodes (map process_of xs)) (items_hidden-the_row-Process-4 v)
 
 -- ---- the list, part by part
 

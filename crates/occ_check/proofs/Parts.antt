@@ -1,7 +1,7 @@
 -- The parts of a process.
 use Rattle.std.proofs.Common.{◌≡◌, ◌+◌, ◌∙◌, ℕ, List, ap, map, refl, subst, sym, Vec, Global}
 use Rattle.occ_tree_grammar.specs.Processes.Trees.{Decls, more_decls, decls}
-use Rattle.occ_tree_grammar.specs.Processes.Views.{process_of, decl_of, row_decls, arm_of, choice_of, selection_of, variant_of}
+use Rattle.occ_tree_grammar.specs.Processes.Views.{process_of, decl_of, held_decls, arm_of, choice_of, selection_of, variant_of}
 use Rattle.occ_tree_grammar.specs.declared.tree.process.Process.{Process}
 use Rattle.occ_tree_grammar.specs.declared.tree.process.Process.TheVariants as processes
 use Rattle.occ_tree_grammar.specs.declared.tree.process.Choice.{Row_of-Decl, end_of-Decl, more_of-Decl, items-the_row-Decl, items_hidden-the_row-Decl-0}
@@ -18,13 +18,13 @@ use Rattle.occ_check.specs.Weights.{decls_size, node_size, body_size, statement_
 
 -- ---- vectors
 
-decls_of_row : {m : _} (k : Row_of-Decl m) → row_decls k ≡ decls (map decl_of (items-the_row-Decl m k))
-unfolding decl_of row_decls
-decls_of_row end_of-Decl = refl
-decls_of_row (more_of-Decl x k) = ap (more_decls (decl_of x)) (decls_of_row k)
+held_decls_are : {m : _} (k : Row_of-Decl m) → held_decls k ≡ decls (map decl_of (items-the_row-Decl m k))
+unfolding decl_of held_decls
+held_decls_are end_of-Decl = refl
+held_decls_are (more_of-Decl x k) = ap (more_decls (decl_of x)) (held_decls_are k)
 
-pub decls_made : (v : Vec Decl Global) → row_decls (hidden-the_row-Decl-0 v) ≡ decls (map decl_of v.items)
-decls_made v = decls_of_row (hidden-the_row-Decl-0 v) ∙ ap (λ (xs : List Decl). decls (map decl_of xs)) (items_hidden-the_row-Decl-0 v)
+pub decls_made : (v : Vec Decl Global) → held_decls (hidden-the_row-Decl-0 v) ≡ decls (map decl_of v.items)
+decls_made v = held_decls_are (hidden-the_row-Decl-0 v) ∙ ap (λ (xs : List Decl). decls (map decl_of xs)) (items_hidden-the_row-Decl-0 v)
 
 -- ---- processes
 

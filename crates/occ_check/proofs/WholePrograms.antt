@@ -12,15 +12,16 @@ use Rattle.occ_check_meaning.specs.Programs.{Main, channels_from, items_declared
 use Rattle.occ_check_meaning.specs.ProgramUnfolding.{UnfoldsTo}
 use Rattle.occ_check_meaning.specs.Recursion.{unfolded}
 use Rattle.occ_check_meaning.specs.Scope.{Name, Pairs, Scope, within}
-use Rattle.occ_check_meaning.specs.Unfolding.{meant, Procedures}
+use Rattle.occ_check_meaning.specs.Unfolding.{Procedures}
+use Rattle.occ_check_meaning.specs.Meant.{meant}
 use Rattle.occ_check_meaning.proofs.Complete.{program_complete}
 use Rattle.occ_check_meaning.proofs.Names.{meant_within}
 use Rattle.occ_check_meaning.proofs.SoundTree.{program_sound}
 use Rattle.occ_check.specs.CheckRefuses.{CheckRefuses, HasNoUnfolding}
-use Rattle.occ_check.specs.ProgramView.{items_within}
+use Rattle.occ_check.specs.Program.{items_within}
 use Rattle.occ_check_names.specs.View.{Refuses, numbers_of, scope_in}
 use Rattle.occ_check_names.specs.declared.numbers.Numbers.{Numbers as Given}
-use Rattle.occ_check_names.specs.declared.scope.Frame.{Frame}
+use Rattle.occ_check_names.specs.declared.scope.Block.{Block}
 use Rattle.occ_check_names.specs.declared.scope.Position.{Position}
 use Rattle.occ_check_names.specs.declared.fault.CheckFault.{CheckFault}
 use Rattle.occ_check_names.specs.declared.fault.CheckFault.TheVariants.{Unknown, Twice, WrongKind, WrongType, NotConstant, BadCount, Subscript, Protocol, Tag, Arguments, Overlap, ListTarget, NoMain, TooLarge, Memory}
@@ -73,10 +74,10 @@ module _ (items : List Item) where
         pub body_done : (t : Term × Numbers) → whole sc n ≡ Some t → program_unfolded items ≡ Some t
         body_done t h = begun ∙ h
 
--- nothing is in scope where no frame is open
-pub at_nowhere : (frames : List Frame) (at : Position) → frames ≡ [] → meant (scope_in (reverse frames) at) ≡ []
+-- nothing is in scope where no block is open
+pub at_nowhere : (blocks : List Block) (at : Position) → blocks ≡ [] → meant (scope_in (reverse blocks) at) ≡ []
 unfolding meant
-at_nowhere frames at none = ap (λ fs. meant (scope_in (reverse fs) at)) none
+at_nowhere blocks at none = ap (λ fs. meant (scope_in (reverse fs) at)) none
 
 -- names inside of items
 pub names_inside : (items : List Item) (names : Pairs) (sc : Scope Calling) (depth : ℕ) (n m : Numbers) (old new : Procedures) (heads : List Declaration)

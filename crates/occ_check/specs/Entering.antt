@@ -12,7 +12,7 @@ use Rattle.occ_check_meaning.specs.Scope as S
 use Rattle.occ_check_meaning.specs.Unfolding as U
 use Rattle.occ_check_meaning.specs.Unfolding.{Procedures, procedure}
 use Rattle.occ_check_names.specs.View.{scope_in}
-use Rattle.occ_check_names.specs.declared.scope.Frame.{Frame}
+use Rattle.occ_check_names.specs.declared.scope.Block.{Block}
 use Rattle.occ_check_names.specs.declared.scope.Position.{Position}
 use Rattle.occ_check_names.specs.declared.scope.Procedure.{Procedure}
 
@@ -20,8 +20,8 @@ abbrev pub procedure_of : Procedure → U.Procedure
 procedure_of p = procedure p.line (lines.formals_of p.formals.now) (process_of p.body.now)
 
 -- a PROC with what is in scope where it stands
-abbrev pub procedure_in : List Frame → Procedure × Position → U.Procedure × Procedures
-procedure_in frames x = (procedure_of x.0, scope_in (reverse frames) x.1)
+abbrev pub procedure_in : List Block → Procedure × Position → U.Procedure × Procedures
+procedure_in blocks x = (procedure_of x.0, scope_in (reverse blocks) x.1)
 
 -- (refusal: wrong kind) a PROC that is found
 abbrev pub as_procedure : S.Binding U.Procedure × Procedures → Option (U.Procedure × Procedures)

@@ -3,7 +3,7 @@ pub mod Statements
 pub mod Weights
 pub mod Prefixes
 pub mod CheckRefuses
-pub mod ProgramView
+pub mod Program
 pub mod Entering
-pub mod Numbered
+pub mod Copies
 pub mod Opened

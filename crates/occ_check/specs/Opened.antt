@@ -13,12 +13,12 @@ use Rattle.occ_check_meaning.specs.Actions.{headed}
 use Rattle.occ_check_meaning.specs.Numbers as N
 use Rattle.occ_check_meaning.specs.Performing.{copied}
 use Rattle.occ_check_meaning.specs.Recursion.{all_arms, all_beside, all_choices, all_in_turn, all_options, all_variants, unfolded}
-use Rattle.occ_check_acting.specs.ActionView.{chosen_of, listed_of}
+use Rattle.occ_check_acting.specs.Action.{chosen_of, listed_of}
 use Rattle.occ_check_acting.specs.declared.action.Chosen.{Chosen}
 use Rattle.occ_check_names.specs.View.{Refuses}
 use Rattle.occ_check_names.specs.declared.fault.CheckFault.{CheckFault}
 use Rattle.occ_check_names.specs.declared.scope.Position.{Position}
-use Rattle.occ_check.specs.Numbered.{copy_for}
+use Rattle.occ_check.specs.Copies.{copy_for}
 use Rattle.occ_check.specs.Progress.{counted, meant_at, weight_at}
 use Rattle.occ_check.specs.Weights.{node_size, nodes_size}
 use Rattle.occ_check.specs.declared.arms.ArmsHead.{ArmsHead}

@@ -20,20 +20,20 @@ use Rattle.occ_check_meaning.specs.Scope.{Names, each_of}
 
 -- an expression with the node that it heads
 abbrev pub heading : T.Expression → ℕ → Numbers → Option (T.Expression × Numbers)
-heading e depth n = room depth (Sizes.node (size_of_expression e)) n >>= λ m. Some (e, m)
+heading e depth n = room depth (Sizes.with_node (size_of_expression e)) n >>= λ m. Some (e, m)
 
 -- a condition, and the node that it heads
 abbrev pub tested : Names → ℕ → ℕ → Expression → Numbers → Option (T.Expression × Numbers)
 tested ns line depth e n = do
   c ← typed_as ns line Boolean e
-  m ← room depth (Sizes.node (size_of_expression c)) n
+  m ← room depth (Sizes.with_node (size_of_expression c)) n
   Some (c, m)
 
 -- the selector of a CASE, and the node that it heads
 abbrev pub selecting : Names → ℕ → ℕ → Expression → Numbers → Option ((Primitive × T.Expression) × Numbers)
 selecting ns line depth e n = do
   s ← selector ns line e
-  m ← room depth (Sizes.node (size_of_expression s.1)) n
+  m ← room depth (Sizes.with_node (size_of_expression s.1)) n
   Some (s, m)
 
 -- ---- processes of one line, with their nodes
@@ -66,7 +66,7 @@ abbrev pub variants_taken : Names → ℕ → ℕ → Var → Numbers → Option
 variants_taken ns line depth v n = do
   c ← channel_of ns line v
   p ← with_tags c.0
-  m ← room depth (Sizes.node (size_of_place c.1)) n
+  m ← room depth (Sizes.with_node (size_of_place c.1)) n
   Some ((p, c.1), m)
 
 abbrev pub storing : Names → ℕ → ℕ → Protocol → (tag : ℕ) → List L.Target → Numbers → Option (List T.Target × Numbers)
@@ -82,7 +82,7 @@ abbrev pub guarding : Names → ℕ → ℕ → Option Expression → L.Input �
 guarding ns line depth test i n = do
   e ← test_of ns line test
   c ← received ns line i
-  m ← room depth (Sizes.node (Sizes.beside (size_of_test e) (Sizes.beside (size_of_place c.0) (size_of_list c.1)))) n
+  m ← room depth (Sizes.with_node (Sizes.together (size_of_test e) (Sizes.together (size_of_place c.0) (size_of_list c.1)))) n
   Some ((e, c), m)
 
 abbrev pub guarding_variants : Names → ℕ → ℕ → Option Expression → Var → Numbers → Option ((Option T.Expression × (Protocol × T.Place)) × Numbers)
@@ -90,5 +90,5 @@ guarding_variants ns line depth test v n = do
   e ← test_of ns line test
   c ← channel_of ns line v
   p ← with_tags c.0
-  m ← room depth (Sizes.node (Sizes.beside (size_of_test e) (size_of_place c.1))) n
+  m ← room depth (Sizes.with_node (Sizes.together (size_of_test e) (size_of_place c.1))) n
   Some ((e, (p, c.1)), m)

@@ -12,11 +12,12 @@ use Rattle.occ_check_meaning.specs.Numbers as N
 use Rattle.occ_check_meaning.specs.Performing.{Calling, Entered, entered}
 use Rattle.occ_check_meaning.specs.Scope as S
 use Rattle.occ_check_meaning.specs.Recursion.{unfolded}
-use Rattle.occ_check_meaning.specs.Unfolding.{Procedures, meant}
+use Rattle.occ_check_meaning.specs.Unfolding.{Procedures}
+use Rattle.occ_check_meaning.specs.Meant.{meant}
 use Rattle.occ_tree_grammar.specs.Many.{◌>>=◌}
 use Rattle.occ_check_meaning.specs.Actions as A
 use Rattle.occ_check_meaning.specs.Actions.{headed, opening}
-use Rattle.occ_check_acting.specs.ActionView.{chosen_of}
+use Rattle.occ_check_acting.specs.Action.{chosen_of}
 use Rattle.occ_check_acting.specs.declared.action.Chosen.{Chosen}
 use Rattle.occ_check_names.specs.declared.numbers.Numbers.{Numbers}
 use Rattle.occ_check.specs.Weights.{weight}
@@ -26,9 +27,9 @@ use Rattle.occ_check_names.specs.declared.fault.CheckFault.{CheckFault}
 use Rattle.occ_check_names.specs.declared.scope.Position.{Position}
 use Rattle.occ_check.specs.declared.unfolder.Unfolder.{Unfolder}
 
--- what is in scope at a position of the open frames
+-- what is in scope at a position of the open blocks
 abbrev pub scope_at : Unfolder → Position → Procedures
-scope_at u at = scope_in (reverse u.frames.frames.items) at
+scope_at u at = scope_in (reverse u.blocks.blocks.items) at
 
 -- with what each PROC means
 abbrev pub meant_at : Unfolder → Position → S.Scope Calling
@@ -39,7 +40,7 @@ counted u = numbers_of u.numbers
 
 -- all that is in scope at the end
 abbrev pub innermost_at : Unfolder → Procedures
-innermost_at u = innermost (reverse u.frames.frames.items)
+innermost_at u = innermost (reverse u.blocks.blocks.items)
 
 abbrev pub meant_innermost : Unfolder → S.Scope Calling
 meant_innermost u = meant (innermost_at u)

@@ -5,7 +5,7 @@ use Rattle.occ_tree_grammar.specs.Expressions.Trees.{expression_of}
 use Rattle.occ_tree_grammar.specs.Lines.Trees as L
 use Rattle.occ_tree_grammar.specs.Lines.Views.{replicator_of, target_of, var_of}
 use Rattle.occ_tree_grammar.specs.Lines.HeadViews.{action_of, guard_of}
-use Rattle.occ_tree_grammar.specs.Processes.Views.{process_of, arm_of, choice_of, row_processes, row_arms, row_choices, row_selections, row_variants, row_decls}
+use Rattle.occ_tree_grammar.specs.Processes.Views.{process_of, arm_of, choice_of, held_processes, held_arms, held_choices, held_selections, held_variants, held_decls}
 use Rattle.occ_tree_grammar.specs.Processes.Trees.{Decls}
 use Rattle.occ_tree_grammar.specs.declared.tree.process.Process.{Process}
 use Rattle.occ_tree_grammar.specs.declared.tree.process.Process.TheVariants as processes
@@ -25,21 +25,21 @@ use Rattle.occ_check_meaning.specs.Recursion.{unfolded, all_in_turn, all_beside,
 
 abbrev pub performing : ℕ → Stmt → Under Term
 performing line (stmts.Action a) = acted line (action_of a.value)
-performing line (stmts.Seq' s ps) = sequenced (all_in_turn (row_processes ps))
+performing line (stmts.Seq' s ps) = sequenced (all_in_turn (held_processes ps))
 performing line (stmts.SeqFor' r p n) = each_sequenced line (replicator_of r.value) (unfolded (process_of n))
-performing line (stmts.Par' s ps) = beside (all_beside (row_processes ps))
+performing line (stmts.Par' s ps) = beside (all_beside (held_processes ps))
 performing line (stmts.ParFor' r p n) = copies_beside line (replicator_of r.value) (unfolded (process_of n))
-performing line (stmts.Alt' pri s ms) = alternated pri (all_arms (row_arms ms))
+performing line (stmts.Alt' pri s ms) = alternated pri (all_arms (held_arms ms))
 performing line (stmts.AltFor' pri r p m) = alternated pri (each_of_arms line (replicator_of r.value) (arm_unfolded (arm_of m)))
-performing line (stmts.If' s cs) = conditioned (all_choices (row_choices cs))
+performing line (stmts.If' s cs) = conditioned (all_choices (held_choices cs))
 performing line (stmts.IfFor' r p c) = conditioned (each_of_choices line (replicator_of r.value) (choice_unfolded (choice_of c)))
-performing line (stmts.Case' e s os) = selected line (expression_of e.value) (λ type. all_options (row_selections os) type none_chosen)
+performing line (stmts.Case' e s os) = selected line (expression_of e.value) (λ type. all_options (held_selections os) type none_chosen)
 performing line (stmts.While' e p n) = looped line (expression_of e.value) (unfolded (process_of n))
-performing line (stmts.Variants' v s vs) = taken_by_variant line (var_of v) (λ p. all_variants (row_variants vs) p [])
+performing line (stmts.Variants' v s vs) = taken_by_variant line (var_of v) (λ p. all_variants (held_variants vs) p [])
 
 -- the declarations of a process, its line and its statement
 abbrev pub declarations_in : Process → Decls
-declarations_in (processes.Declared' shape ds line s) = row_decls ds
+declarations_in (processes.Declared' shape ds line s) = held_decls ds
 
 abbrev pub line_in : Process → ℕ
 line_in (processes.Declared' shape ds line s) = line
@@ -51,34 +51,34 @@ statement_in (processes.Declared' shape ds line s) = s
 
 -- the declarations of a choice, and what it unfolds to behind them
 abbrev pub declarations_of_choice : Choice → Decls
-declarations_of_choice (choices.When' shape ds line e n) = row_decls ds
-declarations_of_choice (choices.InnerIf' shape ds line s cs) = row_decls ds
-declarations_of_choice (choices.InnerIfFor' shape ds line r p c) = row_decls ds
+declarations_of_choice (choices.When' shape ds line e n) = held_decls ds
+declarations_of_choice (choices.InnerIf' shape ds line s cs) = held_decls ds
+declarations_of_choice (choices.InnerIfFor' shape ds line r p c) = held_decls ds
 
 abbrev pub choosing : Choice → Under Choices
 choosing (choices.When' shape ds line e n) = P.choice_of line (expression_of e.value) (unfolded (process_of n))
-choosing (choices.InnerIf' shape ds line s cs) = nested (all_choices (row_choices cs))
+choosing (choices.InnerIf' shape ds line s cs) = nested (all_choices (held_choices cs))
 choosing (choices.InnerIfFor' shape ds line r p c) = nested (each_of_choices line (replicator_of r.value) (choice_unfolded (choice_of c)))
 
 -- ---- the arms of an ALT
 
 -- the declarations of an arm, and what it unfolds to behind them
 abbrev pub declarations_of_arm : Arm → Decls
-declarations_of_arm (arms.Guarded' shape ds line g n) = row_decls ds
-declarations_of_arm (arms.OnVariant' shape ds line g s vs) = row_decls ds
-declarations_of_arm (arms.InnerAlt' shape ds line pri s ms) = row_decls ds
-declarations_of_arm (arms.InnerAltFor' shape ds line pri r p m) = row_decls ds
+declarations_of_arm (arms.Guarded' shape ds line g n) = held_decls ds
+declarations_of_arm (arms.OnVariant' shape ds line g s vs) = held_decls ds
+declarations_of_arm (arms.InnerAlt' shape ds line pri s ms) = held_decls ds
+declarations_of_arm (arms.InnerAltFor' shape ds line pri r p m) = held_decls ds
 
 abbrev pub listening : Arm → Under Arms
 listening (arms.Guarded' shape ds line g n) = P.arm_of line (guard_of g.value) (unfolded (process_of n))
-listening (arms.OnVariant' shape ds line g s vs) = variants_arm line (option_map expression_of g.value.condition) (var_of g.value.channel) (λ p. all_variants (row_variants vs) p [])
-listening (arms.InnerAlt' shape ds line pri s ms) = nested (all_arms (row_arms ms))
+listening (arms.OnVariant' shape ds line g s vs) = variants_arm line (option_map expression_of g.value.condition) (var_of g.value.channel) (λ p. all_variants (held_variants vs) p [])
+listening (arms.InnerAlt' shape ds line pri s ms) = nested (all_arms (held_arms ms))
 listening (arms.InnerAltFor' shape ds line pri r p m) = nested (each_of_arms line (replicator_of r.value) (arm_unfolded (arm_of m)))
 
 -- ---- the variants of an input: the parts of each
 
 abbrev pub declarations_of_variant : Variant → Decls
-declarations_of_variant (variants.Tagged' shape ds line x ts n) = row_decls ds
+declarations_of_variant (variants.Tagged' shape ds line x ts n) = held_decls ds
 
 abbrev pub line_of_variant : Variant → ℕ
 line_of_variant (variants.Tagged' shape ds line x ts n) = line

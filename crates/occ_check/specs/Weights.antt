@@ -3,7 +3,7 @@
 -- Manual: nothing; this is (own).
 use Rattle.std.specs.Prelude.{List, [], ℕ, ◌+◌, ◌∷◌}
 use Rattle.occ_tree_grammar.specs.Processes.Trees.{Kind, process, Node, node, Body, no_body, single_body, bodies, Nodes, no_node, more_nodes, Decls, no_decl, more_decls, Decl, declares, item, Item, value_item, protocol_item, proc_item, Under}
-use Rattle.occ_tree_grammar.specs.Processes.Views.{process_of, arm_of, choice_of, row_processes, row_arms, row_choices, row_selections, row_variants}
+use Rattle.occ_tree_grammar.specs.Processes.Views.{process_of, arm_of, choice_of, held_processes, held_arms, held_choices, held_selections, held_variants}
 use Rattle.occ_tree_grammar.specs.declared.tree.process.Stmt.{Stmt}
 use Rattle.occ_tree_grammar.specs.declared.tree.process.Stmt.TheVariants as stmts
 use Rattle.occ_tree_grammar.specs.declared.tree.process.Choice.{Choice}
@@ -49,26 +49,26 @@ weight ((f, proc (procedure line fs body)) ∷ sc) = (node_size body + weight sc
 -- the size of what stands under a statement
 abbrev pub statement_size : Stmt → ℕ
 statement_size (stmts.Action a) = 0
-statement_size (stmts.Seq' s ps) = nodes_size (row_processes ps) + 1
+statement_size (stmts.Seq' s ps) = nodes_size (held_processes ps) + 1
 statement_size (stmts.SeqFor' r p n) = node_size (process_of n) + 1
-statement_size (stmts.Par' s ps) = nodes_size (row_processes ps) + 1
+statement_size (stmts.Par' s ps) = nodes_size (held_processes ps) + 1
 statement_size (stmts.ParFor' r p n) = node_size (process_of n) + 1
-statement_size (stmts.Alt' pri s ms) = nodes_size (row_arms ms) + 1
+statement_size (stmts.Alt' pri s ms) = nodes_size (held_arms ms) + 1
 statement_size (stmts.AltFor' pri r p m) = node_size (arm_of m) + 1
-statement_size (stmts.If' s cs) = nodes_size (row_choices cs) + 1
+statement_size (stmts.If' s cs) = nodes_size (held_choices cs) + 1
 statement_size (stmts.IfFor' r p c) = node_size (choice_of c) + 1
-statement_size (stmts.Case' e s os) = nodes_size (row_selections os) + 1
+statement_size (stmts.Case' e s os) = nodes_size (held_selections os) + 1
 statement_size (stmts.While' e p n) = node_size (process_of n) + 1
-statement_size (stmts.Variants' v s vs) = nodes_size (row_variants vs) + 1
+statement_size (stmts.Variants' v s vs) = nodes_size (held_variants vs) + 1
 
 -- the size of what stands under a choice, and under an arm
 abbrev pub choice_size : Choice → ℕ
 choice_size (choices.When' shape ds line e n) = node_size (process_of n) + 1
-choice_size (choices.InnerIf' shape ds line s cs) = nodes_size (row_choices cs) + 1
+choice_size (choices.InnerIf' shape ds line s cs) = nodes_size (held_choices cs) + 1
 choice_size (choices.InnerIfFor' shape ds line r p c) = node_size (choice_of c) + 1
 
 abbrev pub arm_size : Arm → ℕ
 arm_size (arms.Guarded' shape ds line g n) = node_size (process_of n) + 1
-arm_size (arms.OnVariant' shape ds line g s vs) = nodes_size (row_variants vs) + 1
-arm_size (arms.InnerAlt' shape ds line pri s ms) = nodes_size (row_arms ms) + 1
+arm_size (arms.OnVariant' shape ds line g s vs) = nodes_size (held_variants vs) + 1
+arm_size (arms.InnerAlt' shape ds line pri s ms) = nodes_size (held_arms ms) + 1
 arm_size (arms.InnerAltFor' shape ds line pri r p m) = node_size (arm_of m) + 1

@@ -3,7 +3,7 @@
 ghost use Rattle.std.specs.Prelude.{◌≡◌, ◌<◌, ◌≤◌, ◌+◌, IfOk, OnOk, length, map, take};
 ghost use Rattle.occ_tree_grammar.specs.Processes.Trees.{decls, more_nodes, no_node, nodes};
 ghost use Rattle.occ_tree_grammar.specs.Processes.Views as trees;
-ghost use Rattle.occ_tree_grammar.specs.Processes.Views.{decl_of, process_of, row_arms, row_decls};
+ghost use Rattle.occ_tree_grammar.specs.Processes.Views.{decl_of, process_of, held_arms, held_decls};
 ghost use Rattle.occ_tree_grammar.specs.declared.tree.process.Arm.TheBlock.{hidden-the_row-Arm-2, hidden-the_row-Decl-0};
 ghost use Rattle.occ_tree_grammar.specs.Lines.HeadViews.{guard_of};
 ghost use Rattle.occ_tree_grammar.specs.Lines.Views.{replicator_of};
@@ -138,7 +138,7 @@ impl<'t> Unfolder<'t> {
         arms: &'t [Arm],
     ) -> Result<Opened<'t>, CheckFault>
         ensures opens { Opens statement_left result self.new (alternated by_priority (all_arms (nodes (map trees.arm_of arms.now))) (meant_at self.old at) depth (counted self.old)) }
-        ensures kept { OnOk result (take (length self.old.frames.frames.items) self.new.frames.frames.items ≡ self.old.frames.frames.items) }
+        ensures kept { OnOk result (take (length self.old.blocks.blocks.items) self.new.blocks.blocks.items ≡ self.old.blocks.blocks.items) }
         ensures weight { IfOk result (λ o. left_weight self.new o ≤ nodes_size (nodes (map trees.arm_of arms.now)) + weight_at self.old at) }
         ensures ready { IfOk result IsReady }
     {
@@ -162,7 +162,7 @@ impl<'t> Unfolder<'t> {
         arm: &'t Arm,
     ) -> Result<Opened<'t>, CheckFault>
         ensures opens { Opens statement_left result self.new (alternated by_priority (each_of_arms line (replicator_of replicator.now) (arm_unfolded (trees.arm_of arm.now))) (meant_at self.old at) depth (counted self.old)) }
-        ensures kept { OnOk result (take (length self.old.frames.frames.items) self.new.frames.frames.items ≡ self.old.frames.frames.items) }
+        ensures kept { OnOk result (take (length self.old.blocks.blocks.items) self.new.blocks.blocks.items ≡ self.old.blocks.blocks.items) }
         ensures weight { IfOk result (λ o. left_weight self.new o ≤ (node_size (trees.arm_of arm.now) + 1) + weight_at self.old at) }
         ensures ready { IfOk result IsReady }
     {
@@ -186,30 +186,30 @@ impl<'t> Unfolder<'t> {
     ) -> Result<Items<TermArm>, CheckFault>
         requires { depth ≤ 200 }
         ensures arms { Unfolds arms_of result self.new.numbers (all_arms (nodes (map trees.arm_of list.now)) (meant_at self.old at) depth (counted self.old)) }
-        ensures kept { OnOk result (self.new.frames.frames.items ≡ self.old.frames.frames.items) }
+        ensures kept { OnOk result (self.new.blocks.blocks.items ≡ self.old.blocks.blocks.items) }
     {
         let mut arms = Items::new(alloc);
         for arm in list {
-            let base = self.frames.len();
+            let base = self.blocks.len();
             let opened = self.arm_opened(alloc, at, depth, arm)?;
             match opened {
                 OpenedArm::Guarded(head, body, inside, deep) => {
                     let body = self.process(alloc, inside, deep, body)?;
-                    self.frames.close(base);
+                    self.blocks.close(base);
                     let made = head.with_process(alloc, body)?;
                     arms.append(made)?;
                     continue;
                 }
                 OpenedArm::OnVariant(head, protocol, list, inside, deep) => {
                     let variants = self.variants(alloc, inside, deep, &protocol, list)?;
-                    self.frames.close(base);
+                    self.blocks.close(base);
                     let made = head.with_variants(alloc, variants)?;
                     arms.append(made)?;
                     continue;
                 }
                 OpenedArm::Inner(head, list, inside, deep) => {
                     let within = self.arms(alloc, inside, deep, list)?;
-                    self.frames.close(base);
+                    self.blocks.close(base);
                     let made = head.with_arms(alloc, within)?;
                     arms.append(made)?;
                     continue;
@@ -229,7 +229,7 @@ impl<'t> Unfolder<'t> {
     ) -> Result<OpenedArm<'t>, CheckFault>
         requires { depth ≤ 200 }
         ensures opens { Opens arm_left result self.new (arm_unfolded (trees.arm_of arm.now) (meant_at self.old at) depth (counted self.old)) }
-        ensures kept { OnOk result (take (length self.old.frames.frames.items) self.new.frames.frames.items ≡ self.old.frames.frames.items) }
+        ensures kept { OnOk result (take (length self.old.blocks.blocks.items) self.new.blocks.blocks.items ≡ self.old.blocks.blocks.items) }
         ensures weight { IfOk result (λ o. arm_weight self.new o < node_size (trees.arm_of arm.now) + weight_at self.old at) }
         ensures within { IfOk result (λ o. arm_depth o ≤ 200) }
     {
@@ -249,7 +249,7 @@ impl<'t> Unfolder<'t> {
     ) -> Result<OpenedArm<'t>, CheckFault>
         requires { depth ≤ 200 }
         ensures opens { Opens arm_left result self.new (put (meant.arms_behind (declarations_of heads)) (listening arm.now (meant_at self.old at) depth (counted self.old))) }
-        ensures kept { OnOk result (take (length self.old.frames.frames.items) self.new.frames.frames.items ≡ self.old.frames.frames.items) }
+        ensures kept { OnOk result (take (length self.old.blocks.blocks.items) self.new.blocks.blocks.items ≡ self.old.blocks.blocks.items) }
         ensures weight { IfOk result (λ o. arm_weight self.new o ≤ arm_size arm.now + weight_at self.old at) }
         ensures within { IfOk result (λ o. arm_depth o ≤ 200) }
     {
@@ -298,7 +298,7 @@ impl<'t> Unfolder<'t> {
     ) -> Result<OpenedArm<'t>, CheckFault>
         requires { depth ≤ 200 }
         ensures opens { Opens arm_left result self.new (put (meant.arms_behind (declarations_of heads)) (performing.arm_of line (guard_of guard.now) (unfolded (process_of body.now)) (meant_at self.old at) depth (counted self.old))) }
-        ensures kept { OnOk result (take (length self.old.frames.frames.items) self.new.frames.frames.items ≡ self.old.frames.frames.items) }
+        ensures kept { OnOk result (take (length self.old.blocks.blocks.items) self.new.blocks.blocks.items ≡ self.old.blocks.blocks.items) }
         ensures weight { IfOk result (λ o. arm_weight self.new o ≤ node_size (process_of body.now) + weight_at self.old at) }
         ensures within { IfOk result (λ o. arm_depth o ≤ 200) }
     {
@@ -354,14 +354,14 @@ fn one_arm(arm: &Arm) -> &[Arm]
 /// The arms of an ALT, as a slice.
 #[tactic(auto, using(crate::proofs::Rows::arms_made))]
 pub(crate) fn listed_arms(arms: &Vec<Arm>) -> &[Arm]
-    ensures { nodes (map trees.arm_of result.now) ≡ row_arms (hidden-the_row-Arm-2 arms.now) }
+    ensures { nodes (map trees.arm_of result.now) ≡ held_arms (hidden-the_row-Arm-2 arms.now) }
 {
     arms.as_slice()
 }
 
 /// The declarations of an arm, as they are kept.
 fn kept_declarations(arm: &Arm) -> &Vec<Decl>
-    ensures { row_decls (hidden-the_row-Decl-0 result.now) ≡ declarations_of_arm arm.now }
+    ensures { held_decls (hidden-the_row-Decl-0 result.now) ≡ declarations_of_arm arm.now }
 {
     match arm {
         Arm::Guarded(declarations, _, _, _) => declarations,

@@ -3,7 +3,7 @@
 ghost use Rattle.std.specs.Prelude.{◌≡◌, ◌<◌, ◌≤◌, ◌+◌, IfOk, OnOk, length, map, take};
 ghost use Rattle.occ_tree_grammar.specs.Processes.Trees.{decls, more_nodes, no_node, nodes};
 ghost use Rattle.occ_tree_grammar.specs.Processes.Views as trees;
-ghost use Rattle.occ_tree_grammar.specs.Processes.Views.{decl_of, row_choices, row_decls};
+ghost use Rattle.occ_tree_grammar.specs.Processes.Views.{decl_of, held_choices, held_decls};
 ghost use Rattle.occ_tree_grammar.specs.declared.tree.process.Arm.TheBlock.{hidden-the_row-Choice-3, hidden-the_row-Decl-0};
 ghost use Rattle.occ_tree_grammar.specs.Lines.Views.{replicator_of};
 ghost use Rattle.occ_term.specs.Terms.{no_choices};
@@ -96,7 +96,7 @@ impl<'t> Unfolder<'t> {
         choices: &'t [Choice],
     ) -> Result<Opened<'t>, CheckFault>
         ensures opens { Opens statement_left result self.new (conditioned (all_choices (nodes (map trees.choice_of choices.now))) (meant_at self.old at) depth (counted self.old)) }
-        ensures kept { OnOk result (take (length self.old.frames.frames.items) self.new.frames.frames.items ≡ self.old.frames.frames.items) }
+        ensures kept { OnOk result (take (length self.old.blocks.blocks.items) self.new.blocks.blocks.items ≡ self.old.blocks.blocks.items) }
         ensures weight { IfOk result (λ o. left_weight self.new o ≤ nodes_size (nodes (map trees.choice_of choices.now)) + weight_at self.old at) }
         ensures ready { IfOk result IsReady }
     {
@@ -119,7 +119,7 @@ impl<'t> Unfolder<'t> {
         choice: &'t Choice,
     ) -> Result<Opened<'t>, CheckFault>
         ensures opens { Opens statement_left result self.new (conditioned (each_of_choices line (replicator_of replicator.now) (choice_unfolded (trees.choice_of choice.now))) (meant_at self.old at) depth (counted self.old)) }
-        ensures kept { OnOk result (take (length self.old.frames.frames.items) self.new.frames.frames.items ≡ self.old.frames.frames.items) }
+        ensures kept { OnOk result (take (length self.old.blocks.blocks.items) self.new.blocks.blocks.items ≡ self.old.blocks.blocks.items) }
         ensures weight { IfOk result (λ o. left_weight self.new o ≤ (node_size (trees.choice_of choice.now) + 1) + weight_at self.old at) }
         ensures ready { IfOk result IsReady }
     {
@@ -143,23 +143,23 @@ impl<'t> Unfolder<'t> {
     ) -> Result<Items<TermChoice>, CheckFault>
         requires { depth ≤ 200 }
         ensures choices { Unfolds choices_of result self.new.numbers (all_choices (nodes (map trees.choice_of list.now)) (meant_at self.old at) depth (counted self.old)) }
-        ensures kept { OnOk result (self.new.frames.frames.items ≡ self.old.frames.frames.items) }
+        ensures kept { OnOk result (self.new.blocks.blocks.items ≡ self.old.blocks.blocks.items) }
     {
         let mut choices = Items::new(alloc);
         for choice in list {
-            let base = self.frames.len();
+            let base = self.blocks.len();
             let opened = self.choice_opened(alloc, at, depth, choice)?;
             match opened {
                 OpenedChoice::When(head, body, inside, deep) => {
                     let body = self.process(alloc, inside, deep, body)?;
-                    self.frames.close(base);
+                    self.blocks.close(base);
                     let made = head.with_process(alloc, body)?;
                     choices.append(made)?;
                     continue;
                 }
                 OpenedChoice::Inner(head, list, inside, deep) => {
                     let within = self.choices(alloc, inside, deep, list)?;
-                    self.frames.close(base);
+                    self.blocks.close(base);
                     let made = head.with_choices(alloc, within)?;
                     choices.append(made)?;
                     continue;
@@ -179,7 +179,7 @@ impl<'t> Unfolder<'t> {
     ) -> Result<OpenedChoice<'t>, CheckFault>
         requires { depth ≤ 200 }
         ensures opens { Opens choice_left result self.new (choice_unfolded (trees.choice_of choice.now) (meant_at self.old at) depth (counted self.old)) }
-        ensures kept { OnOk result (take (length self.old.frames.frames.items) self.new.frames.frames.items ≡ self.old.frames.frames.items) }
+        ensures kept { OnOk result (take (length self.old.blocks.blocks.items) self.new.blocks.blocks.items ≡ self.old.blocks.blocks.items) }
         ensures weight { IfOk result (λ o. choice_weight self.new o < node_size (trees.choice_of choice.now) + weight_at self.old at) }
         ensures within { IfOk result (λ o. choice_depth o ≤ 200) }
     {
@@ -199,7 +199,7 @@ impl<'t> Unfolder<'t> {
     ) -> Result<OpenedChoice<'t>, CheckFault>
         requires { depth ≤ 200 }
         ensures opens { Opens choice_left result self.new (put (meant.choices_behind (declarations_of heads)) (choosing choice.now (meant_at self.old at) depth (counted self.old))) }
-        ensures kept { OnOk result (take (length self.old.frames.frames.items) self.new.frames.frames.items ≡ self.old.frames.frames.items) }
+        ensures kept { OnOk result (take (length self.old.blocks.blocks.items) self.new.blocks.blocks.items ≡ self.old.blocks.blocks.items) }
         ensures weight { IfOk result (λ o. choice_weight self.new o ≤ choice_size choice.now + weight_at self.old at) }
         ensures within { IfOk result (λ o. choice_depth o ≤ 200) }
     {
@@ -264,14 +264,14 @@ fn one_choice(choice: &Choice) -> &[Choice]
 /// The choices of an IF, as a slice.
 #[tactic(auto, using(crate::proofs::Rows::choices_made))]
 pub(crate) fn listed_choices(choices: &Vec<Choice>) -> &[Choice]
-    ensures { nodes (map trees.choice_of result.now) ≡ row_choices (hidden-the_row-Choice-3 choices.now) }
+    ensures { nodes (map trees.choice_of result.now) ≡ held_choices (hidden-the_row-Choice-3 choices.now) }
 {
     choices.as_slice()
 }
 
 /// The declarations of a choice, as they are kept.
 fn kept_declarations(choice: &Choice) -> &Vec<Decl>
-    ensures { row_decls (hidden-the_row-Decl-0 result.now) ≡ declarations_of_choice choice.now }
+    ensures { held_decls (hidden-the_row-Decl-0 result.now) ≡ declarations_of_choice choice.now }
 {
     match choice {
         Choice::When(declarations, _, _, _) => declarations,

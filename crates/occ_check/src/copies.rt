@@ -8,14 +8,14 @@ ghost use Rattle.occ_check_meaning.specs.Declarations.{index_of};
 ghost use Rattle.occ_check_meaning.specs.Performing.{copied, copies_beside};
 ghost use Rattle.occ_check_meaning.specs.Recursion.{unfolded};
 ghost use Rattle.occ_check_meaning.specs.Scope.{names_of, within};
-ghost use Rattle.occ_check.specs.Numbered.{copies_counted, copy_for, numbered_copy};
+ghost use Rattle.occ_check.specs.Copies.{copies_counted, copy_for, numbered_copy};
 ghost use Rattle.occ_check.specs.Opened.{IsReady, Opens, copy_left, left_weight, statement_left};
 ghost use Rattle.occ_check.specs.Weights.{node_size};
 ghost use Rattle.occ_check_names.specs.View.{Unfolds, names_in, numbers_of};
 ghost use Rattle.occ_check.specs.Progress.{counted, meant_at, weight_at};
 ghost use Rattle.occ_check_names.specs.declared.fault.CheckFault.TheVariants.{Memory};
 
-use crate::acting::names_at;
+use crate::one_line::names_at;
 use crate::opened::{Left, Opened};
 use crate::unfolder::Unfolder;
 use occ_check_names::context::Context;
@@ -51,7 +51,7 @@ impl<'t> Unfolder<'t> {
         body: &'t Process,
     ) -> Result<Opened<'t>, CheckFault>
         ensures opens { Opens statement_left result self.new (copies_beside line (replicator_of replicator.now) (unfolded (process_of body.now)) (meant_at self.old at) depth (counted self.old)) }
-        ensures kept { OnOk result (take (length self.old.frames.frames.items) self.new.frames.frames.items ≡ self.old.frames.frames.items) }
+        ensures kept { OnOk result (take (length self.old.blocks.blocks.items) self.new.blocks.blocks.items ≡ self.old.blocks.blocks.items) }
         ensures weight { IfOk result (λ o. left_weight self.new o ≤ node_size (process_of body.now) + weight_at self.old at) }
         ensures ready { IfOk result IsReady }
     {
@@ -78,13 +78,13 @@ impl<'t> Unfolder<'t> {
         requires depth { depth ≤ 200 }
         requires last { (first +ℤ pos count) ≤ℤ pos 2147483648 }
         ensures branches { Unfolds branches_of result self.new.numbers (copied (copy_for (replicator_of replicator.now) (process_of body.now) (meant_at self.old at) depth) count first (counted self.old)) }
-        ensures kept { OnOk result (self.new.frames.frames.items ≡ self.old.frames.frames.items) }
+        ensures kept { OnOk result (self.new.blocks.blocks.items ≡ self.old.blocks.blocks.items) }
     {
         let mut branches = Items::new(alloc);
         let mut value = first;
         let mut left = count;
         'copies: while left > 0 {
-            let base = self.frames.len();
+            let base = self.blocks.len();
             let opened = self.copy_opened(alloc, at, depth, replicator, value, body)?;
             let OpenedCopy {
                 number,
@@ -93,7 +93,7 @@ impl<'t> Unfolder<'t> {
                 depth: deep,
             } = opened;
             let body = self.process(alloc, inside, deep, copy)?;
-            self.frames.close(base);
+            self.blocks.close(base);
             branches.push(Branch { number, body })?;
             value = next_value(value, left);
             left -= 1;
@@ -113,7 +113,7 @@ impl<'t> Unfolder<'t> {
     ) -> Result<OpenedCopy<'t>, CheckFault>
         requires { depth ≤ 200 }
         ensures opens { Opens copy_left result self.new (numbered_copy (copy_for (replicator_of replicator.now) (process_of body.now) (meant_at self.old at) depth) value (counted self.old)) }
-        ensures kept { OnOk result (take (length self.old.frames.frames.items) self.new.frames.frames.items ≡ self.old.frames.frames.items) }
+        ensures kept { OnOk result (take (length self.old.blocks.blocks.items) self.new.blocks.blocks.items ≡ self.old.blocks.blocks.items) }
         ensures weight { IfOk result (λ o. node_size (process_of o.body.now) + weight_at self.new o.at ≡ node_size (process_of body.now) + weight_at self.old at) }
         ensures within { IfOk result (λ o. o.depth ≤ 200) }
     {
@@ -137,14 +137,14 @@ impl<'t> Unfolder<'t> {
     ) -> Result<Position, CheckFault>
         ensures scope { IfOk result (λ p. meant_at self.new p ≡ within (index_of (replicator_of replicator.now) value) (meant_at self.old at)) }
         ensures weight { IfOk result (λ p. weight_at self.new p ≡ weight_at self.old at) }
-        ensures kept { OnOk result (take (length self.old.frames.frames.items) self.new.frames.frames.items ≡ self.old.frames.frames.items) }
+        ensures kept { OnOk result (take (length self.old.blocks.blocks.items) self.new.blocks.blocks.items ≡ self.old.blocks.blocks.items) }
         ensures numbers { OnOk result (self.new.numbers ≡ self.old.numbers) }
         ensures memory { IfErr result (λ e. e ≡ Memory) }
     {
-        self.frames.open(alloc, at)?;
+        self.blocks.open(alloc, at)?;
         let index = Binding::Known(Known::Value(Primitive::Int, value));
-        self.frames.declare(alloc, &replicator.name, index)?;
-        Ok(self.frames.end())
+        self.blocks.declare(alloc, &replicator.name, index)?;
+        Ok(self.blocks.end())
     }
 
     /// The first value of the index and how many copies there are, with the node of the PAR.
@@ -157,11 +157,11 @@ impl<'t> Unfolder<'t> {
         replicator: &Replicator,
     ) -> Result<(i64, u64), CheckFault>
         ensures counted { Unfolds (λ c. c) result self.new.numbers (copies_counted (names_of (meant_at self.old at)) line depth (replicator_of replicator.now) (counted self.old)) }
-        ensures kept { OnOk result (self.new.frames ≡ self.old.frames) }
+        ensures kept { OnOk result (self.new.blocks ≡ self.old.blocks) }
         ensures within { IfOk result (λ _. depth < 200) }
         ensures last { IfOk result (λ c. (c.0 +ℤ pos c.1) ≤ℤ pos 2147483648) }
     {
-        let scope = names_at(&self.frames, at);
+        let scope = names_at(&self.blocks, at);
         copies_counted(
             &mut self.numbers,
             Context { alloc, scope, line },

@@ -11,15 +11,15 @@ ghost use Rattle.occ_check_meaning.specs.Declarations.{indexed};
 ghost use Rattle.occ_check_meaning.specs.Performing.{acted};
 ghost use Rattle.occ_check_meaning.specs.Scope.{names_of, within};
 ghost use Rattle.occ_check_meaning.specs.Recursion.{all_declared, declared, item_declared};
-ghost use Rattle.occ_check_meaning.specs.Unfolding.{meaning_of};
+ghost use Rattle.occ_check_meaning.specs.Meant.{meaning_of};
 ghost use Rattle.occ_check.specs.Entering.{formals_bound, procedure_found, procedure_in, procedure_of};
-ghost use Rattle.occ_check_typing.specs.OpenedView.{Opens, pairs_of};
+ghost use Rattle.occ_check_typing.specs.Declaration.{Opens, pairs_of};
 ghost use Rattle.occ_check.specs.Weights.{decl_size, decls_size, item_size, node_size, weight};
 ghost use Rattle.occ_check_names.specs.View.{Gives, Unfolds, innermost, names_in, numbers_of, scope_in, scope_of};
 ghost use Rattle.occ_check.specs.Progress.{Calls, Enters, Indexes, counted, innermost_at, meant_at, meant_innermost, weight_at};
 ghost use Rattle.occ_check_names.specs.declared.fault.CheckFault.TheVariants.{Memory};
 
-use crate::frames::Frames;
+use crate::blocks::Blocks;
 use crate::unfolder::{Call, Unfolder};
 use occ_check_acting::call::bound;
 use occ_check_acting::formals::formals_of;
@@ -75,20 +75,20 @@ fn set(declaration: Declaration) -> Term
 
 // ---- names
 
-impl<'t> Frames<'t> {
+impl<'t> Blocks<'t> {
     /// All that is in scope at the end.
     fn inside(&self) -> Scope<'_, 't>
-        ensures { scope_of result ≡ innermost (reverse self.now.frames.items) }
+        ensures { scope_of result ≡ innermost (reverse self.now.blocks.items) }
     {
         self.scope(self.end())
     }
 
     /// Declares names, the first of which is the innermost.
     pub(crate) fn enter(&mut self, alloc: Global, names: Vec<Named>) -> Result<(), CheckFault>
-        requires { 0 < length self.old.frames.items }
-        ensures scope { OnOk result (innermost (reverse self.new.frames.items) ≡ within (pairs_of names.items) (innermost (reverse self.old.frames.items))) }
-        ensures kept { OnOk result ((n : ℕ) → n < length self.old.frames.items → take n self.new.frames.items ≡ take n self.old.frames.items) }
-        ensures more { OnOk result (length self.old.frames.items ≤ length self.new.frames.items) }
+        requires { 0 < length self.old.blocks.items }
+        ensures scope { OnOk result (innermost (reverse self.new.blocks.items) ≡ within (pairs_of names.items) (innermost (reverse self.old.blocks.items))) }
+        ensures kept { OnOk result ((n : ℕ) → n < length self.old.blocks.items → take n self.new.blocks.items ≡ take n self.old.blocks.items) }
+        ensures more { OnOk result (length self.old.blocks.items ≤ length self.new.blocks.items) }
         ensures memory { IfErr result (λ e. e ≡ Memory) }
     {
         let mut left = names;
@@ -99,15 +99,15 @@ impl<'t> Frames<'t> {
         Ok(())
     }
 
-    /// Opens a frame with names inside of a position.
+    /// Opens a block with names inside of a position.
     fn open_with(
         &mut self,
         alloc: Global,
         outer: Position,
         names: Vec<Named>,
     ) -> Result<Position, CheckFault>
-        ensures scope { IfOk result (λ at. scope_in (reverse self.new.frames.items) at ≡ within (pairs_of names.items) (scope_in (reverse self.old.frames.items) outer)) }
-        ensures kept { OnOk result (take (length self.old.frames.items) self.new.frames.items ≡ self.old.frames.items) }
+        ensures scope { IfOk result (λ at. scope_in (reverse self.new.blocks.items) at ≡ within (pairs_of names.items) (scope_in (reverse self.old.blocks.items) outer)) }
+        ensures kept { OnOk result (take (length self.old.blocks.items) self.new.blocks.items ≡ self.old.blocks.items) }
         ensures memory { IfErr result (λ e. e ≡ Memory) }
     {
         self.open(alloc, outer)?;
@@ -119,17 +119,17 @@ impl<'t> Frames<'t> {
 // ---- declarations
 
 impl<'t> Unfolder<'t> {
-    /// Enters declarations into the last frame, and answers what is set for them.
+    /// Enters declarations into the last block, and answers what is set for them.
     pub(crate) fn declared(
         &mut self,
         alloc: Global,
         depth: u32,
         declarations: &'t [Decl],
     ) -> Result<Items<Declaration>, CheckFault>
-        requires { 0 < length self.old.frames.frames.items }
+        requires { 0 < length self.old.blocks.blocks.items }
         ensures entered { Enters result self.new (all_declared (decls (map decl_of declarations.now)) (meant_innermost self.old) depth (counted self.old)) }
-        ensures kept { OnOk result ((n : ℕ) → n < length self.old.frames.frames.items → take n self.new.frames.frames.items ≡ take n self.old.frames.frames.items) }
-        ensures more { OnOk result (length self.old.frames.frames.items ≤ length self.new.frames.frames.items) }
+        ensures kept { OnOk result ((n : ℕ) → n < length self.old.blocks.blocks.items → take n self.new.blocks.blocks.items ≡ take n self.old.blocks.blocks.items) }
+        ensures more { OnOk result (length self.old.blocks.blocks.items ≤ length self.new.blocks.blocks.items) }
         ensures weight { OnOk result (weight (innermost_at self.new) ≤ decls_size (decls (map decl_of declarations.now)) + weight (innermost_at self.old)) }
     {
         let mut heads = Items::new(alloc);
@@ -147,10 +147,10 @@ impl<'t> Unfolder<'t> {
         depth: u32,
         declaration: &'t Decl,
     ) -> Result<Items<Declaration>, CheckFault>
-        requires { 0 < length self.old.frames.frames.items }
+        requires { 0 < length self.old.blocks.blocks.items }
         ensures entered { Enters result self.new (declared (decl_of declaration.now) (meant_innermost self.old) depth (counted self.old)) }
-        ensures kept { OnOk result ((n : ℕ) → n < length self.old.frames.frames.items → take n self.new.frames.frames.items ≡ take n self.old.frames.frames.items) }
-        ensures more { OnOk result (length self.old.frames.frames.items ≤ length self.new.frames.frames.items) }
+        ensures kept { OnOk result ((n : ℕ) → n < length self.old.blocks.blocks.items → take n self.new.blocks.blocks.items ≡ take n self.old.blocks.blocks.items) }
+        ensures more { OnOk result (length self.old.blocks.blocks.items ≤ length self.new.blocks.blocks.items) }
         ensures weight { OnOk result (weight (innermost_at self.new) ≤ decl_size (decl_of declaration.now) + weight (innermost_at self.old)) }
     {
         match declaration {
@@ -159,7 +159,7 @@ impl<'t> Unfolder<'t> {
                     &mut self.numbers,
                     Context {
                         alloc,
-                        scope: self.frames.inside(),
+                        scope: self.blocks.inside(),
                         line: *line,
                     },
                     depth,
@@ -180,10 +180,10 @@ impl<'t> Unfolder<'t> {
         depth: u32,
         item: &'t Item,
     ) -> Result<Items<Declaration>, CheckFault>
-        requires { 0 < length self.old.frames.frames.items }
+        requires { 0 < length self.old.blocks.blocks.items }
         ensures entered { Enters result self.new (item_declared (item_of item.now) (meant_innermost self.old) depth (counted self.old)) }
-        ensures kept { OnOk result ((n : ℕ) → n < length self.old.frames.frames.items → take n self.new.frames.frames.items ≡ take n self.old.frames.frames.items) }
-        ensures more { OnOk result (length self.old.frames.frames.items ≤ length self.new.frames.frames.items) }
+        ensures kept { OnOk result ((n : ℕ) → n < length self.old.blocks.blocks.items → take n self.new.blocks.blocks.items ≡ take n self.old.blocks.blocks.items) }
+        ensures more { OnOk result (length self.old.blocks.blocks.items ≤ length self.new.blocks.blocks.items) }
         ensures weight { OnOk result (weight (innermost_at self.new) ≤ item_size (item_of item.now) + weight (innermost_at self.old)) }
     {
         match item {
@@ -192,7 +192,7 @@ impl<'t> Unfolder<'t> {
                     &mut self.numbers,
                     Context {
                         alloc,
-                        scope: self.frames.inside(),
+                        scope: self.blocks.inside(),
                         line: *line,
                     },
                     depth,
@@ -206,7 +206,7 @@ impl<'t> Unfolder<'t> {
                 let opened = protocol_declared(
                     &mut self.numbers,
                     alloc,
-                    self.frames.inside(),
+                    self.blocks.inside(),
                     protocol,
                 )?;
                 self.opened_names(alloc, opened)
@@ -217,7 +217,7 @@ impl<'t> Unfolder<'t> {
                     formals,
                     body,
                 };
-                self.frames
+                self.blocks
                     .declare(alloc, name, Binding::Procedure(procedure))?;
                 Ok(Items::new(alloc))
             }
@@ -230,24 +230,24 @@ impl<'t> Unfolder<'t> {
         alloc: Global,
         opened: Opened,
     ) -> Result<Items<Declaration>, CheckFault>
-        requires { 0 < length self.old.frames.frames.items }
+        requires { 0 < length self.old.blocks.blocks.items }
         ensures scope { OnOk result (innermost_at self.new ≡ within (pairs_of opened.names.items) (innermost_at self.old)) }
         ensures heads { IfOk result (λ heads. heads ≡ opened.heads) }
         ensures numbers { self.new.numbers ≡ self.old.numbers }
-        ensures kept { OnOk result ((n : ℕ) → n < length self.old.frames.frames.items → take n self.new.frames.frames.items ≡ take n self.old.frames.frames.items) }
-        ensures more { OnOk result (length self.old.frames.frames.items ≤ length self.new.frames.frames.items) }
+        ensures kept { OnOk result ((n : ℕ) → n < length self.old.blocks.blocks.items → take n self.new.blocks.blocks.items ≡ take n self.old.blocks.blocks.items) }
+        ensures more { OnOk result (length self.old.blocks.blocks.items ≤ length self.new.blocks.blocks.items) }
         ensures weight { OnOk result (weight (innermost_at self.new) ≡ weight (innermost_at self.old)) }
         ensures memory { IfErr result (λ e. e ≡ Memory) }
     {
         let Opened { names, heads } = opened;
-        self.frames.enter(alloc, names)?;
+        self.blocks.enter(alloc, names)?;
         Ok(heads)
     }
 
     /// Counts the SEQ that declarations head where there are some, and answers how deep what stands behind them is.
     pub(crate) fn opened(&mut self, depth: u32, heads: &[Declaration]) -> Result<u32, CheckFault>
         ensures opening { Unfolds (λ deep. deep) result self.new.numbers (opening (declarations_of heads.now) depth (counted self.old)) }
-        ensures kept { OnOk result (self.new.frames ≡ self.old.frames) }
+        ensures kept { OnOk result (self.new.blocks ≡ self.old.blocks) }
         ensures small { IfOk result (λ deep. depth ≤ 200 → deep ≤ 200) }
     {
         if heads.is_empty() {
@@ -271,13 +271,13 @@ impl<'t> Unfolder<'t> {
     ) -> Result<Call<'t>, CheckFault>
         requires { depth ≤ 200 }
         ensures call { Calls depth result self.new (acted line (call name.now (actuals_of actuals.now)) (meant_at self.old at) depth (counted self.old)) }
-        ensures kept { OnOk result (take (length self.old.frames.frames.items) self.new.frames.frames.items ≡ self.old.frames.frames.items) }
+        ensures kept { OnOk result (take (length self.old.blocks.blocks.items) self.new.blocks.blocks.items ≡ self.old.blocks.blocks.items) }
         ensures weight { IfOk result (λ c. node_size (process_of c.body.now) + weight_at self.new c.inside < weight_at self.old at) }
     {
         let (procedure, outer) = procedure_of(
             Context {
                 alloc,
-                scope: self.frames.scope(at),
+                scope: self.blocks.scope(at),
                 line,
             },
             name,
@@ -298,25 +298,25 @@ impl<'t> Unfolder<'t> {
     ) -> Result<Call<'t>, CheckFault>
         requires { depth ≤ 200 }
         ensures call { Calls depth result self.new (meaning_of (procedure_of procedure.entry) (meant_at self.old outer) (names_of (meant_at self.old at)) line depth (actuals_of actuals.now) (counted self.old)) }
-        ensures kept { OnOk result (take (length self.old.frames.frames.items) self.new.frames.frames.items ≡ self.old.frames.frames.items) }
+        ensures kept { OnOk result (take (length self.old.blocks.blocks.items) self.new.blocks.blocks.items ≡ self.old.blocks.blocks.items) }
         ensures body { IfOk result (λ c. c.body.now ≡ procedure.entry.body.now) }
         ensures weight { IfOk result (λ c. weight_at self.new c.inside ≡ weight_at self.old outer) }
     {
         let context = Context {
             alloc,
-            scope: self.frames.scope(at),
+            scope: self.blocks.scope(at),
             line,
         };
         let opened = formals_bound(
             &mut self.numbers,
             context,
-            self.frames.scope(outer),
+            self.blocks.scope(outer),
             depth + 1,
             procedure,
             actuals,
         )?;
         let Opened { names, heads } = opened;
-        let inside = self.frames.open_with(alloc, outer, names)?;
+        let inside = self.blocks.open_with(alloc, outer, names)?;
         Ok(Call {
             heads,
             body: procedure.body,
@@ -336,11 +336,11 @@ impl<'t> Unfolder<'t> {
         replicator: &ReplicatorTree,
     ) -> Result<(Replicator, Position), CheckFault>
         ensures indexed { Indexes result self.new (meant_at self.old at) (indexed (names_of (meant_at self.old at)) line depth (replicator_of replicator.now) (counted self.old)) }
-        ensures kept { OnOk result (take (length self.old.frames.frames.items) self.new.frames.frames.items ≡ self.old.frames.frames.items) }
+        ensures kept { OnOk result (take (length self.old.blocks.blocks.items) self.new.blocks.blocks.items ≡ self.old.blocks.blocks.items) }
         ensures weight { IfOk result (λ r. weight_at self.new r.1 ≡ weight_at self.old at) }
         ensures within { IfOk result (λ _. depth < 200) }
     {
-        let scope = self.frames.scope(at);
+        let scope = self.blocks.scope(at);
         let indexed = index_replicator(
             &mut self.numbers,
             Context { alloc, scope, line },
@@ -354,7 +354,7 @@ impl<'t> Unfolder<'t> {
         let over = Held::new(over);
         let mut names = Vec::new(alloc);
         names.push(name)?;
-        let inside = self.frames.open_with(alloc, at, names)?;
+        let inside = self.blocks.open_with(alloc, at, names)?;
         Ok((over.into_inner(), inside))
     }
 }
@@ -368,7 +368,7 @@ fn procedure_of<'t>(
     context: Context<'_, 't>,
     name: &[u8],
 ) -> Result<(Procedure<'t>, Position), CheckFault>
-    ensures { Gives (procedure_in context.entry.scope.frames.now) result (procedure_found (scope_of context.entry.scope) name.now) }
+    ensures { Gives (procedure_in context.entry.scope.blocks.now) result (procedure_found (scope_of context.entry.scope) name.now) }
 {
     match context.scope.find(name) {
         Some(Found::Procedure(procedure, outer)) => Ok((procedure, outer)),

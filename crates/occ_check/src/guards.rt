@@ -3,20 +3,20 @@
 ghost use Rattle.std.specs.Prelude.{◌≡◌, ◌<◌, ◌≤◌, ◌+◌, IfOk, OnOk, option_map};
 ghost use Rattle.occ_tree_grammar.specs.Expressions.Trees.{expression_of as tree_of};
 ghost use Rattle.occ_tree_grammar.specs.Lines.Views as lines;
-ghost use Rattle.occ_term.specs.Sizes.{beside, node, size_of_place, size_of_test};
+ghost use Rattle.occ_term.specs.Sizes.{together, with_node, size_of_place, size_of_test};
 ghost use Rattle.occ_term.specs.Terms.{input_arm, no_arms};
 ghost use Rattle.occ_term.specs.View.{arms_of, place_of, term_of, test_of as boolean_of};
 ghost use Rattle.occ_check_meaning.specs.Actions as meant;
 ghost use Rattle.occ_check_meaning.specs.Scope.{names_of};
-ghost use Rattle.occ_check_acting.specs.ActionView.{listed_of};
+ghost use Rattle.occ_check_acting.specs.Action.{listed_of};
 ghost use Rattle.occ_check.specs.Opened.{guarded_by};
 ghost use Rattle.occ_check.specs.Prefixes.{guarding, guarding_variants};
 ghost use Rattle.occ_check_meaning.specs.Numbers.{room};
 ghost use Rattle.occ_check_names.specs.View.{Counts, Unfolds, names_in, numbers_of};
 ghost use Rattle.occ_check.specs.Progress.{counted, meant_at};
 
-use crate::acting::names_at;
 use crate::arms::only_arm;
+use crate::one_line::names_at;
 use crate::unfolder::Unfolder;
 use occ_check_acting::action::{Listed, as_reception, received, test_of, with_tags};
 use occ_check_names::context::Context;
@@ -84,10 +84,10 @@ impl<'t> Unfolder<'t> {
         input: &Input,
     ) -> Result<Guarded, CheckFault>
         ensures guard { Unfolds (λ g. (boolean_of g.test, (place_of g.channel, listed_of g.listed))) result self.new.numbers (guarding (names_of (meant_at self.old at)) line depth (option_map tree_of test.now) (lines.input_of input.now) (counted self.old)) }
-        ensures kept { OnOk result (self.new.frames ≡ self.old.frames) }
+        ensures kept { OnOk result (self.new.blocks ≡ self.old.blocks) }
         ensures within { IfOk result (λ g. meant.depth_behind (listed_of g.listed) (depth + 1) ≤ 200) }
     {
-        let scope = names_at(&self.frames, at);
+        let scope = names_at(&self.blocks, at);
         guarding(
             &mut self.numbers,
             Context { alloc, scope, line },
@@ -107,10 +107,10 @@ impl<'t> Unfolder<'t> {
         guard: &VariantGuard,
     ) -> Result<(Option<TermExpr>, Protocol, Place), CheckFault>
         ensures guard { Unfolds (λ g. (boolean_of g.0, (g.1, place_of g.2))) result self.new.numbers (guarding_variants (names_of (meant_at self.old at)) line depth (option_map tree_of guard.now.condition) (lines.var_of guard.now.channel) (counted self.old)) }
-        ensures kept { OnOk result (self.new.frames ≡ self.old.frames) }
+        ensures kept { OnOk result (self.new.blocks ≡ self.old.blocks) }
         ensures within { IfOk result (λ _. depth < 200) }
     {
-        let scope = names_at(&self.frames, at);
+        let scope = names_at(&self.blocks, at);
         guarding_variants(
             &mut self.numbers,
             Context { alloc, scope, line },
@@ -165,7 +165,7 @@ fn count_guard(
     channel: &Place,
     listed: &Listed,
 ) -> Result<(), CheckFault>
-    ensures counts { Counts result numbers.new (room depth (node (beside (size_of_test (boolean_of test.now)) (beside (size_of_place (place_of channel.now)) (meant.size_of_list (listed_of listed.now))))) (numbers_of numbers.old)) }
+    ensures counts { Counts result numbers.new (room depth (with_node (together (size_of_test (boolean_of test.now)) (together (size_of_place (place_of channel.now)) (meant.size_of_list (listed_of listed.now))))) (numbers_of numbers.old)) }
     ensures within { IfOk result (λ _. meant.depth_behind (listed_of listed.now) (depth + 1) ≤ 200) }
 {
     numbers.node(depth)?;
@@ -226,7 +226,7 @@ fn count_guarded_channel(
     test: &Option<TermExpr>,
     channel: &Place,
 ) -> Result<(), CheckFault>
-    ensures counts { Counts result numbers.new (room depth (node (beside (size_of_test (boolean_of test.now)) (size_of_place (place_of channel.now)))) (numbers_of numbers.old)) }
+    ensures counts { Counts result numbers.new (room depth (with_node (together (size_of_test (boolean_of test.now)) (size_of_place (place_of channel.now)))) (numbers_of numbers.old)) }
     ensures within { IfOk result (λ _. depth < 200) }
 {
     numbers.node(depth)?;

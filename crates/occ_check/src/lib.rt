@@ -1,13 +1,15 @@
-//! The unfolding of a tree: names, types, protocols, calls and replicators.
+//! The unfolding of a tree: names, types, protocols, calls and replicators. [`unfold`] answers the one
+//! program that the definitions of `occ_check_meaning` have for the tree, and refuses only a tree for which they
+//! have none.
 #![tactic(auto)]
 
-mod acting;
 mod arms;
+mod blocks;
 mod choices;
 mod copies;
 mod entering;
-mod frames;
 mod guards;
+mod one_line;
 mod opened;
 mod opening;
 mod options;

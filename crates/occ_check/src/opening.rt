@@ -6,7 +6,7 @@ ghost use Rattle.occ_tree_grammar.specs.Lines.HeadViews.{action_of};
 ghost use Rattle.occ_tree_grammar.specs.Lines.Heads.{call};
 ghost use Rattle.occ_tree_grammar.specs.Lines.Views.{actuals_of, replicator_of};
 ghost use Rattle.occ_tree_grammar.specs.Processes.Trees.{decls, nodes};
-ghost use Rattle.occ_tree_grammar.specs.Processes.Views.{decl_of, process_of, row_decls, row_processes};
+ghost use Rattle.occ_tree_grammar.specs.Processes.Views.{decl_of, process_of, held_decls, held_processes};
 ghost use Rattle.occ_tree_grammar.specs.declared.tree.process.Arm.TheBlock.{hidden-the_row-Decl-0, hidden-the_row-Process-4};
 ghost use Rattle.occ_term.specs.View.{term_of};
 ghost use Rattle.occ_check_meaning.specs.Performing as performing;
@@ -43,15 +43,15 @@ impl<'t> Unfolder<'t> {
     ) -> Result<Step<'t>, CheckFault>
         requires { depth ≤ 200 }
         ensures step { Opens step_left result self.new (unfolded (process_of process.now) (meant_at self.old at) depth (counted self.old)) }
-        ensures kept { OnOk result (take (length self.old.frames.frames.items) self.new.frames.frames.items ≡ self.old.frames.frames.items) }
+        ensures kept { OnOk result (take (length self.old.blocks.blocks.items) self.new.blocks.blocks.items ≡ self.old.blocks.blocks.items) }
         ensures weight { IfOk result (λ s. step_weight self.new s + 2 ≤ node_size (process_of process.now) + weight_at self.old at) }
         ensures ready { IfOk result IsStepReady }
     {
         let line = line_of(process);
         let statement = statement_of(process);
-        self.frames.open(alloc, at)?;
+        self.blocks.open(alloc, at)?;
         let heads = self.declared(alloc, depth + 1, declarations_of(process))?;
-        let inside = self.frames.end();
+        let inside = self.blocks.end();
         let deep = self.opened(depth, heads.as_slice())?;
         let opened = self.statement_opened(alloc, inside, deep, line, statement)?;
         Ok(opened.behind(heads))
@@ -68,7 +68,7 @@ impl<'t> Unfolder<'t> {
     ) -> Result<Opened<'t>, CheckFault>
         requires { depth ≤ 200 }
         ensures opens { Opens statement_left result self.new (statement_unfolded line statement.now (meant_at self.old at) depth (counted self.old)) }
-        ensures kept { OnOk result (take (length self.old.frames.frames.items) self.new.frames.frames.items ≡ self.old.frames.frames.items) }
+        ensures kept { OnOk result (take (length self.old.blocks.blocks.items) self.new.blocks.blocks.items ≡ self.old.blocks.blocks.items) }
         ensures weight { IfOk result (λ o. left_weight self.new o ≤ statement_size statement.now + weight_at self.old at) }
         ensures ready { IfOk result IsReady }
     {
@@ -115,7 +115,7 @@ impl<'t> Unfolder<'t> {
     ) -> Result<Opened<'t>, CheckFault>
         requires { depth ≤ 200 }
         ensures opens { Opens statement_left result self.new (acted line (action_of action.now) (meant_at self.old at) depth (counted self.old)) }
-        ensures kept { OnOk result (take (length self.old.frames.frames.items) self.new.frames.frames.items ≡ self.old.frames.frames.items) }
+        ensures kept { OnOk result (take (length self.old.blocks.blocks.items) self.new.blocks.blocks.items ≡ self.old.blocks.blocks.items) }
         ensures weight { IfOk result (λ o. left_weight self.new o ≤ weight_at self.old at) }
         ensures ready { IfOk result IsReady }
     {
@@ -150,7 +150,7 @@ impl<'t> Unfolder<'t> {
     ) -> Result<Opened<'t>, CheckFault>
         requires { depth ≤ 200 }
         ensures opens { Opens statement_left result self.new (acted line (call name.now (actuals_of actuals.now)) (meant_at self.old at) depth (counted self.old)) }
-        ensures kept { OnOk result (take (length self.old.frames.frames.items) self.new.frames.frames.items ≡ self.old.frames.frames.items) }
+        ensures kept { OnOk result (take (length self.old.blocks.blocks.items) self.new.blocks.blocks.items ≡ self.old.blocks.blocks.items) }
         ensures weight { IfOk result (λ o. left_weight self.new o ≤ weight_at self.old at) }
         ensures ready { IfOk result IsReady }
     {
@@ -176,7 +176,7 @@ impl<'t> Unfolder<'t> {
         processes: &'t [Process],
     ) -> Result<Opened<'t>, CheckFault>
         ensures opens { Opens statement_left result self.new (sequenced (all_in_turn (nodes (map process_of processes.now))) (meant_at self.old at) depth (counted self.old)) }
-        ensures kept { OnOk result (take (length self.old.frames.frames.items) self.new.frames.frames.items ≡ self.old.frames.frames.items) }
+        ensures kept { OnOk result (take (length self.old.blocks.blocks.items) self.new.blocks.blocks.items ≡ self.old.blocks.blocks.items) }
         ensures weight { IfOk result (λ o. left_weight self.new o ≤ nodes_size (nodes (map process_of processes.now)) + weight_at self.old at) }
         ensures ready { IfOk result IsReady }
     {
@@ -196,7 +196,7 @@ impl<'t> Unfolder<'t> {
         processes: &'t [Process],
     ) -> Result<Opened<'t>, CheckFault>
         ensures opens { Opens statement_left result self.new (performing.beside (all_beside (nodes (map process_of processes.now))) (meant_at self.old at) depth (counted self.old)) }
-        ensures kept { OnOk result (take (length self.old.frames.frames.items) self.new.frames.frames.items ≡ self.old.frames.frames.items) }
+        ensures kept { OnOk result (take (length self.old.blocks.blocks.items) self.new.blocks.blocks.items ≡ self.old.blocks.blocks.items) }
         ensures weight { IfOk result (λ o. left_weight self.new o ≤ nodes_size (nodes (map process_of processes.now)) + weight_at self.old at) }
         ensures ready { IfOk result IsReady }
     {
@@ -219,7 +219,7 @@ impl<'t> Unfolder<'t> {
         body: &'t Process,
     ) -> Result<Opened<'t>, CheckFault>
         ensures opens { Opens statement_left result self.new (each_sequenced line (replicator_of replicator.now) (unfolded (process_of body.now)) (meant_at self.old at) depth (counted self.old)) }
-        ensures kept { OnOk result (take (length self.old.frames.frames.items) self.new.frames.frames.items ≡ self.old.frames.frames.items) }
+        ensures kept { OnOk result (take (length self.old.blocks.blocks.items) self.new.blocks.blocks.items ≡ self.old.blocks.blocks.items) }
         ensures weight { IfOk result (λ o. left_weight self.new o ≤ node_size (process_of body.now) + weight_at self.old at) }
         ensures ready { IfOk result IsReady }
     {
@@ -243,7 +243,7 @@ impl<'t> Unfolder<'t> {
         body: &'t Process,
     ) -> Result<Opened<'t>, CheckFault>
         ensures opens { Opens statement_left result self.new (looped line (tree_of condition.now) (unfolded (process_of body.now)) (meant_at self.old at) depth (counted self.old)) }
-        ensures kept { OnOk result (take (length self.old.frames.frames.items) self.new.frames.frames.items ≡ self.old.frames.frames.items) }
+        ensures kept { OnOk result (take (length self.old.blocks.blocks.items) self.new.blocks.blocks.items ≡ self.old.blocks.blocks.items) }
         ensures weight { IfOk result (λ o. left_weight self.new o ≤ node_size (process_of body.now) + weight_at self.old at) }
         ensures ready { IfOk result IsReady }
     {
@@ -271,7 +271,7 @@ fn done<'t>(at: Position, depth: u32, term: Term) -> Opened<'t>
 
 /// The declarations of a process, as they are kept.
 fn kept_declarations(process: &Process) -> &Vec<Decl>
-    ensures { row_decls (hidden-the_row-Decl-0 result.now) ≡ declarations_in process.now }
+    ensures { held_decls (hidden-the_row-Decl-0 result.now) ≡ declarations_in process.now }
 {
     match process {
         Process::Declared(declarations, _, _) => declarations,
@@ -307,7 +307,7 @@ fn statement_of(process: &Process) -> &Stmt
 /// The processes of a SEQ or a PAR, as a slice.
 #[tactic(auto, using(crate::proofs::InTurn::processes_made))]
 fn listed_processes(processes: &Vec<Process>) -> &[Process]
-    ensures { nodes (map process_of result.now) ≡ row_processes (hidden-the_row-Process-4 processes.now) }
+    ensures { nodes (map process_of result.now) ≡ held_processes (hidden-the_row-Process-4 processes.now) }
 {
     processes.as_slice()
 }

@@ -2,7 +2,7 @@
 
 ghost use Rattle.std.specs.Prelude.{◌≡◌, ◌<◌, ◌≤◌, ◌+◌, ◌∷◌, IfOk, OnOk, length, map, take};
 ghost use Rattle.occ_tree_grammar.specs.Processes.Trees.{nodes, decls};
-ghost use Rattle.occ_tree_grammar.specs.Processes.Views.{decl_of, process_of, row_selections, selection_of};
+ghost use Rattle.occ_tree_grammar.specs.Processes.Views.{decl_of, process_of, held_selections, selection_of};
 ghost use Rattle.occ_tree_grammar.specs.declared.tree.process.Arm.TheBlock.{hidden-the_row-Selection-5};
 ghost use Rattle.occ_tree_grammar.specs.Expressions.Trees.{expression_of as tree_of};
 ghost use Rattle.occ_term.specs.Terms.{no_options};
@@ -12,14 +12,14 @@ ghost use Rattle.occ_check_meaning.specs.Expressions.{constant_as};
 ghost use Rattle.occ_check_meaning.specs.Performing as performing;
 ghost use Rattle.occ_check_meaning.specs.Recursion.{all_declared, all_options, option_unfolded, unfolded};
 ghost use Rattle.occ_check_meaning.specs.Scope.{each_of, names_of};
-ghost use Rattle.occ_check_acting.specs.ActionView.{chosen_of};
+ghost use Rattle.occ_check_acting.specs.Action.{chosen_of};
 ghost use Rattle.occ_check.specs.Prefixes.{choosing_values, listing, selecting};
 ghost use Rattle.occ_check_names.specs.View.{Gives, Unfolds, names_in, numbers_of};
 ghost use Rattle.occ_check.specs.Opened.{IsReady, Opens, left_weight, option_left, option_with, statement_left};
 ghost use Rattle.occ_check.specs.Progress.{Lists, counted, meant_at, weight_at};
 ghost use Rattle.occ_check.specs.Weights.{decls_size, node_size, nodes_size};
 
-use crate::acting::{counted_expression, listed_declarations, names_at};
+use crate::one_line::{counted_expression, listed_declarations, names_at};
 use crate::opened::{Left, Opened};
 use crate::unfolder::Unfolder;
 use indexmap::IndexSet;
@@ -87,7 +87,7 @@ impl<'t> Unfolder<'t> {
         selections: &'t [Selection],
     ) -> Result<Opened<'t>, CheckFault>
         ensures opens { Opens statement_left result self.new (performing.selected line (tree_of e.now) (λ type. all_options (nodes (map selection_of selections.now)) type meant.none_chosen) (meant_at self.old at) depth (counted self.old)) }
-        ensures kept { OnOk result (take (length self.old.frames.frames.items) self.new.frames.frames.items ≡ self.old.frames.frames.items) }
+        ensures kept { OnOk result (take (length self.old.blocks.blocks.items) self.new.blocks.blocks.items ≡ self.old.blocks.blocks.items) }
         ensures weight { IfOk result (λ o. left_weight self.new o ≤ nodes_size (nodes (map selection_of selections.now)) + weight_at self.old at) }
         ensures ready { IfOk result IsReady }
     {
@@ -111,12 +111,12 @@ impl<'t> Unfolder<'t> {
     ) -> Result<Items<TermSelection>, CheckFault>
         requires { depth ≤ 200 }
         ensures options { Unfolds options_of result self.new.numbers (all_options (nodes (map selection_of selections.now)) primitive meant.none_chosen (meant_at self.old at) depth (counted self.old)) }
-        ensures kept { OnOk result (self.new.frames.frames.items ≡ self.old.frames.frames.items) }
+        ensures kept { OnOk result (self.new.blocks.blocks.items ≡ self.old.blocks.blocks.items) }
     {
         let mut chosen = none_chosen(alloc);
         let mut options = Items::new(alloc);
         for selection in selections {
-            let base = self.frames.len();
+            let base = self.blocks.len();
             let opened = self.option_opened(alloc, at, depth, primitive, &mut chosen, selection)?;
             let OpenedOption {
                 head,
@@ -125,7 +125,7 @@ impl<'t> Unfolder<'t> {
                 depth: deep,
             } = opened;
             let body = self.process(alloc, inside, deep, body)?;
-            self.frames.close(base);
+            self.blocks.close(base);
             options.push(head.with_process(body))?;
         }
         Ok(options)
@@ -143,7 +143,7 @@ impl<'t> Unfolder<'t> {
     ) -> Result<OpenedOption<'t>, CheckFault>
         requires { depth ≤ 200 }
         ensures opens { Opens (option_left chosen.new) result self.new (option_unfolded (selection_of selection.now) primitive (chosen_of chosen.old) (meant_at self.old at) depth (counted self.old)) }
-        ensures kept { OnOk result (take (length self.old.frames.frames.items) self.new.frames.frames.items ≡ self.old.frames.frames.items) }
+        ensures kept { OnOk result (take (length self.old.blocks.blocks.items) self.new.blocks.blocks.items ≡ self.old.blocks.blocks.items) }
         ensures weight { IfOk result (λ o. node_size (process_of o.body.now) + weight_at self.new o.at < node_size (selection_of selection.now) + weight_at self.old at) }
         ensures within { IfOk result (λ o. o.depth ≤ 200) }
     {
@@ -183,7 +183,7 @@ impl<'t> Unfolder<'t> {
         body: &'t Process,
     ) -> Result<OpenedOption<'t>, CheckFault>
         ensures opens { Opens (option_left chosen.new) result self.new (performing.option_of line (tree_of values.now.first ∷ map tree_of values.now.others.items) (all_declared (decls (map decl_of declarations.now))) (unfolded (process_of body.now)) primitive (chosen_of chosen.old) (meant_at self.old at) depth (counted self.old)) }
-        ensures kept { OnOk result (take (length self.old.frames.frames.items) self.new.frames.frames.items ≡ self.old.frames.frames.items) }
+        ensures kept { OnOk result (take (length self.old.blocks.blocks.items) self.new.blocks.blocks.items ≡ self.old.blocks.blocks.items) }
         ensures weight { IfOk result (λ o. node_size (process_of o.body.now) + weight_at self.new o.at ≤ (decls_size (decls (map decl_of declarations.now)) + node_size (process_of body.now)) + weight_at self.old at) }
         ensures within { IfOk result (λ o. o.depth ≤ 200) }
     {
@@ -218,7 +218,7 @@ impl<'t> Unfolder<'t> {
         body: &'t Process,
     ) -> Result<OpenedOption<'t>, CheckFault>
         ensures opens { Opens (option_left chosen.new) result self.new (performing.else_of (all_declared (decls (map decl_of declarations.now))) (unfolded (process_of body.now)) (chosen_of chosen.old) (meant_at self.old at) depth (counted self.old)) }
-        ensures kept { OnOk result (take (length self.old.frames.frames.items) self.new.frames.frames.items ≡ self.old.frames.frames.items) }
+        ensures kept { OnOk result (take (length self.old.blocks.blocks.items) self.new.blocks.blocks.items ≡ self.old.blocks.blocks.items) }
         ensures weight { IfOk result (λ o. node_size (process_of o.body.now) + weight_at self.new o.at ≤ (decls_size (decls (map decl_of declarations.now)) + node_size (process_of body.now)) + weight_at self.old at) }
         ensures within { IfOk result (λ o. o.depth ≤ 200) }
     {
@@ -243,10 +243,10 @@ impl<'t> Unfolder<'t> {
         e: &Expr,
     ) -> Result<(Primitive, TermExpr), CheckFault>
         ensures selector { Unfolds (λ s. (s.0, expression_of s.1)) result self.new.numbers (selecting (names_of (meant_at self.old at)) line depth (tree_of e.now) (counted self.old)) }
-        ensures kept { OnOk result (self.new.frames ≡ self.old.frames) }
+        ensures kept { OnOk result (self.new.blocks ≡ self.old.blocks) }
         ensures within { IfOk result (λ _. depth < 200) }
     {
-        let scope = names_at(&self.frames, at);
+        let scope = names_at(&self.blocks, at);
         selecting(&mut self.numbers, Context { alloc, scope, line }, depth, e)
     }
 
@@ -262,9 +262,9 @@ impl<'t> Unfolder<'t> {
         values: &OneOrMore<Expr>,
     ) -> Result<Items<i64>, CheckFault>
         ensures constants { Lists result chosen.new self.new.numbers (choosing_values (names_of (meant_at self.old at)) line depth primitive (tree_of values.now.first ∷ map tree_of values.now.others.items) (chosen_of chosen.old) (counted self.old)) }
-        ensures kept { OnOk result (self.new.frames ≡ self.old.frames) }
+        ensures kept { OnOk result (self.new.blocks ≡ self.old.blocks) }
     {
-        let scope = names_at(&self.frames, at);
+        let scope = names_at(&self.blocks, at);
         let constants = constants(Context { alloc, scope, line }, primitive, values)?;
         chosen_constants(&mut self.numbers, alloc, line, depth, chosen, constants)
     }
@@ -350,7 +350,7 @@ fn each_constant(
 /// The options of a CASE, as a slice.
 #[tactic(auto, using(crate::proofs::Rows::selections_made))]
 pub(crate) fn listed_selections(selections: &Vec<Selection>) -> &[Selection]
-    ensures { nodes (map selection_of result.now) ≡ row_selections (hidden-the_row-Selection-5 selections.now) }
+    ensures { nodes (map selection_of result.now) ≡ held_selections (hidden-the_row-Selection-5 selections.now) }
 {
     selections.as_slice()
 }

@@ -32,9 +32,9 @@ impl<'t> Unfolder<'t> {
     ) -> Result<Term, CheckFault>
         requires { depth ≤ 200 }
         ensures term { Unfolds term_of result self.new.numbers (unfolded (process_of process.now) (meant_at self.old at) depth (counted self.old)) }
-        ensures kept { OnOk result (self.new.frames.frames.items ≡ self.old.frames.frames.items) }
+        ensures kept { OnOk result (self.new.blocks.blocks.items ≡ self.old.blocks.blocks.items) }
     {
-        let base = self.frames.len();
+        let base = self.blocks.len();
         let mut body = process;
         let mut place = at;
         let mut deep = depth;
@@ -44,7 +44,7 @@ impl<'t> Unfolder<'t> {
                 Step::Behind(heads, opened) => {
                     let heads = Held::new(heads);
                     let term = self.performed(alloc, opened)?;
-                    self.frames.close(base);
+                    self.blocks.close(base);
                     return headed(alloc, heads.into_inner(), term);
                 }
                 Step::Call(called, inside, under) => {
@@ -61,7 +61,7 @@ impl<'t> Unfolder<'t> {
     fn performed(&mut self, alloc: Global, opened: Opened<'t>) -> Result<Term, CheckFault>
         requires { IsReady opened }
         ensures term { Unfolds term_of result self.new.numbers (statement_left self.old opened.entry) }
-        ensures kept { OnOk result (self.new.frames.frames.items ≡ self.old.frames.frames.items) }
+        ensures kept { OnOk result (self.new.blocks.blocks.items ≡ self.old.blocks.blocks.items) }
     {
         let Opened { left, at, depth } = opened;
         match left {
@@ -114,7 +114,7 @@ impl<'t> Unfolder<'t> {
     ) -> Result<Items<Branch>, CheckFault>
         requires { depth ≤ 200 }
         ensures branches { Unfolds branches_of result self.new.numbers (all_beside (nodes (map process_of processes.now)) (meant_at self.old at) depth (counted self.old)) }
-        ensures kept { OnOk result (self.new.frames.frames.items ≡ self.old.frames.frames.items) }
+        ensures kept { OnOk result (self.new.blocks.blocks.items ≡ self.old.blocks.blocks.items) }
     {
         let mut branches = Items::new(alloc);
         for process in processes {
@@ -136,7 +136,7 @@ impl<'t> Unfolder<'t> {
     ) -> Result<Items<Term>, CheckFault>
         requires { depth ≤ 200 }
         ensures terms { Unfolds terms_of result self.new.numbers (all_in_turn (nodes (map process_of processes.now)) (meant_at self.old at) depth (counted self.old)) }
-        ensures kept { OnOk result (self.new.frames.frames.items ≡ self.old.frames.frames.items) }
+        ensures kept { OnOk result (self.new.blocks.blocks.items ≡ self.old.blocks.blocks.items) }
     {
         let mut terms = Items::new(alloc);
         for process in processes {

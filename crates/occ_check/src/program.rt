@@ -11,13 +11,13 @@ ghost use Rattle.occ_check_meaning.specs.ProgramUnfolding.{UnfoldsTo};
 ghost use Rattle.occ_check_meaning.specs.Programs as programs;
 ghost use Rattle.occ_check_meaning.specs.Recursion.{unfolded};
 ghost use Rattle.occ_check.specs.CheckRefuses.{CheckRefuses};
-ghost use Rattle.occ_check_typing.specs.OpenedView.{pairs_of};
-ghost use Rattle.occ_check.specs.ProgramView.{byte_channel, items_within, main_at, main_in};
+ghost use Rattle.occ_check_typing.specs.Declaration.{pairs_of};
+ghost use Rattle.occ_check.specs.Program.{byte_channel, items_within, main_at, main_in};
 ghost use Rattle.occ_check.specs.Progress.{Enters, counted, meant_at, meant_innermost};
 ghost use Rattle.occ_check_names.specs.View.{Gives, Unfolds, known_of, numbers_of};
 
+use crate::blocks::Blocks;
 use crate::entering::headed;
-use crate::frames::Frames;
 use crate::unfolder::Unfolder;
 use occ_check_acting::formals::spec_after;
 use occ_check_names::fault::CheckFault;
@@ -71,10 +71,10 @@ fn unfolded_program(alloc: Global, program: &Program) -> Result<(Term, Numbers),
     let names = main_names(alloc, main.line, main.formals)?;
     let names = channels_from(alloc, names.as_slice())?;
     let mut unfolder = Unfolder {
-        frames: Frames::new(alloc),
+        blocks: Blocks::new(alloc),
         numbers: Numbers::at_start(alloc)?,
     };
-    let nowhere = Position { frames: 0, seen: 0 };
+    let nowhere = Position { blocks: 0, seen: 0 };
     let term = unfolder.behind_items(alloc, nowhere, main.before, names, main.body)?;
     Ok((term, unfolder.numbers))
 }
@@ -244,9 +244,9 @@ impl<'t> Unfolder<'t> {
     ) -> Result<Term, CheckFault>
         ensures { Unfolds term_of result self.new.numbers (behind (items_within (map item_of items.now) (pairs_of names.items)) (unfolded (process_of body.now)) (meant_at self.old at) 0 (counted self.old)) }
     {
-        self.frames.open(alloc, at)?;
+        self.blocks.open(alloc, at)?;
         let heads = self.entered_items(alloc, items, names)?;
-        let inside = self.frames.end();
+        let inside = self.blocks.end();
         let deep = self.opened(0, heads.as_slice())?;
         let term = self.process(alloc, inside, deep, body)?;
         headed(alloc, heads, term)
@@ -259,11 +259,11 @@ impl<'t> Unfolder<'t> {
         items: &'t [Item],
         names: Vec<Named>,
     ) -> Result<Items<Declaration>, CheckFault>
-        requires { 0 < length self.old.frames.frames.items }
+        requires { 0 < length self.old.blocks.blocks.items }
         ensures { Enters result self.new (items_within (map item_of items.now) (pairs_of names.items) (meant_innermost self.old) 1 (counted self.old)) }
     {
         let heads = self.items_declared(alloc, 1, items)?;
-        self.frames.enter(alloc, names)?;
+        self.blocks.enter(alloc, names)?;
         Ok(heads)
     }
 
@@ -274,9 +274,9 @@ impl<'t> Unfolder<'t> {
         depth: u32,
         items: &'t [Item],
     ) -> Result<Items<Declaration>, CheckFault>
-        requires { 0 < length self.old.frames.frames.items }
+        requires { 0 < length self.old.blocks.blocks.items }
         ensures entered { Enters result self.new (programs.items_declared (map item_of items.now) (meant_innermost self.old) depth (counted self.old)) }
-        ensures more { OnOk result (length self.old.frames.frames.items ≤ length self.new.frames.frames.items) }
+        ensures more { OnOk result (length self.old.blocks.blocks.items ≤ length self.new.blocks.blocks.items) }
     {
         let mut heads = Items::new(alloc);
         for item in items {

@@ -1,6 +1,6 @@
 //! What is kept while a program is unfolded.
 
-use crate::frames::Frames;
+use crate::blocks::Blocks;
 use occ_check_names::numbers::Numbers;
 use occ_check_names::scope::Position;
 use occ_term::Declaration;
@@ -11,7 +11,7 @@ use sqlite_items::Items;
 #[derive(Drop)]
 pub(crate) struct Unfolder<'t> {
     /// The scopes.
-    pub frames: Frames<'t>,
+    pub blocks: Blocks<'t>,
     /// The numbers.
     pub numbers: Numbers,
 }

@@ -3,13 +3,14 @@
 ghost use Rattle.std.specs.Prelude.{◌≡◌, ◌<◌, ◌≤◌, ◌+◌, [], IfOk, OnOk, length, map, take};
 ghost use Rattle.occ_tree_grammar.specs.Processes.Trees.{nodes, decls};
 ghost use Rattle.occ_tree_grammar.specs.Processes.Views as trees;
-ghost use Rattle.occ_tree_grammar.specs.Processes.Views.{decl_of, process_of, row_decls, row_variants};
+ghost use Rattle.occ_tree_grammar.specs.Processes.Views.{decl_of, process_of, held_decls, held_variants};
 ghost use Rattle.occ_tree_grammar.specs.declared.tree.process.Arm.TheBlock.{hidden-the_row-Decl-0, hidden-the_row-Variant-1};
 ghost use Rattle.occ_tree_grammar.specs.Lines.Views as lines;
 ghost use Rattle.occ_term.specs.Terms.{no_variants};
 ghost use Rattle.occ_term.specs.View.{place_of, targets_of, term_of, variant_of, variants_of};
 ghost use Rattle.occ_check_meaning.specs.Performing as performing;
-ghost use Rattle.occ_check_meaning.specs.Recursion.{all_declared, all_variants, unfolded, variant_tag, variant_unfolded};
+ghost use Rattle.occ_check_meaning.specs.Recursion.{all_declared, all_variants, unfolded, variant_unfolded};
+ghost use Rattle.occ_check_meaning.specs.Actions.{variant_tag};
 ghost use Rattle.occ_check_meaning.specs.Scope.{names_of};
 ghost use Rattle.occ_check.specs.Prefixes.{storing, variants_taken};
 ghost use Rattle.occ_check_names.specs.View.{Unfolds, names_in, numbers_of};
@@ -18,7 +19,7 @@ ghost use Rattle.occ_check.specs.Opened.{IsReady, Opens, left_weight, statement_
 ghost use Rattle.occ_check.specs.Progress.{counted, meant_at, weight_at};
 ghost use Rattle.occ_check.specs.Weights.{decls_size, node_size, nodes_size};
 
-use crate::acting::names_at;
+use crate::one_line::names_at;
 use crate::opened::{Left, Opened};
 use crate::unfolder::Unfolder;
 use occ_check_acting::action::with_tags;
@@ -94,7 +95,7 @@ impl<'t> Unfolder<'t> {
         list: &'t [Variant],
     ) -> Result<Opened<'t>, CheckFault>
         ensures opens { Opens statement_left result self.new (performing.taken_by_variant line (lines.var_of channel.now) (λ p. all_variants (nodes (map trees.variant_of list.now)) p []) (meant_at self.old at) depth (counted self.old)) }
-        ensures kept { OnOk result (take (length self.old.frames.frames.items) self.new.frames.frames.items ≡ self.old.frames.frames.items) }
+        ensures kept { OnOk result (take (length self.old.blocks.blocks.items) self.new.blocks.blocks.items ≡ self.old.blocks.blocks.items) }
         ensures weight { IfOk result (λ o. left_weight self.new o ≤ nodes_size (nodes (map trees.variant_of list.now)) + weight_at self.old at) }
         ensures ready { IfOk result IsReady }
     {
@@ -118,12 +119,12 @@ impl<'t> Unfolder<'t> {
     ) -> Result<Items<TermVariant>, CheckFault>
         requires { depth ≤ 200 }
         ensures variants { Unfolds variants_of result self.new.numbers (all_variants (nodes (map trees.variant_of list.now)) protocol.now [] (meant_at self.old at) depth (counted self.old)) }
-        ensures kept { OnOk result (self.new.frames.frames.items ≡ self.old.frames.frames.items) }
+        ensures kept { OnOk result (self.new.blocks.blocks.items ≡ self.old.blocks.blocks.items) }
     {
         let mut tags = Tags::new(alloc, protocol)?;
         let mut variants = Items::new(alloc);
         for variant in list {
-            let base = self.frames.len();
+            let base = self.blocks.len();
             let tag = tags.next(line_of(variant), tag_of(variant))?;
             let opened = self.variant_opened(alloc, at, depth, protocol, tag, variant)?;
             let OpenedVariant {
@@ -133,7 +134,7 @@ impl<'t> Unfolder<'t> {
                 depth: deep,
             } = opened;
             let body = self.process(alloc, inside, deep, body)?;
-            self.frames.close(base);
+            self.blocks.close(base);
             variants.push(head.with_process(body))?;
         }
         Ok(variants)
@@ -151,7 +152,7 @@ impl<'t> Unfolder<'t> {
     ) -> Result<OpenedVariant<'t>, CheckFault>
         requires { depth ≤ 200 }
         ensures opens { Opens variant_left result self.new (variant_unfolded (trees.variant_of variant.now) protocol.now tag (meant_at self.old at) depth (counted self.old)) }
-        ensures kept { OnOk result (take (length self.old.frames.frames.items) self.new.frames.frames.items ≡ self.old.frames.frames.items) }
+        ensures kept { OnOk result (take (length self.old.blocks.blocks.items) self.new.blocks.blocks.items ≡ self.old.blocks.blocks.items) }
         ensures weight { IfOk result (λ o. node_size (process_of o.body.now) + weight_at self.new o.at < node_size (trees.variant_of variant.now) + weight_at self.old at) }
         ensures within { IfOk result (λ o. o.depth ≤ 200) }
     {
@@ -186,7 +187,7 @@ impl<'t> Unfolder<'t> {
         body: &'t Process,
     ) -> Result<OpenedVariant<'t>, CheckFault>
         ensures opens { Opens variant_left result self.new (performing.variant_of line (map lines.target_of targets.now) (all_declared (decls (map decl_of declarations.now))) (unfolded (process_of body.now)) protocol.now tag (meant_at self.old at) depth (counted self.old)) }
-        ensures kept { OnOk result (take (length self.old.frames.frames.items) self.new.frames.frames.items ≡ self.old.frames.frames.items) }
+        ensures kept { OnOk result (take (length self.old.blocks.blocks.items) self.new.blocks.blocks.items ≡ self.old.blocks.blocks.items) }
         ensures weight { IfOk result (λ o. node_size (process_of o.body.now) + weight_at self.new o.at ≤ (decls_size (decls (map decl_of declarations.now)) + node_size (process_of body.now)) + weight_at self.old at) }
         ensures within { IfOk result (λ o. o.depth ≤ 200) }
     {
@@ -216,10 +217,10 @@ impl<'t> Unfolder<'t> {
         channel: &Var,
     ) -> Result<(Protocol, Place), CheckFault>
         ensures taken { Unfolds (λ c. (c.0, place_of c.1)) result self.new.numbers (variants_taken (names_of (meant_at self.old at)) line depth (lines.var_of channel.now) (counted self.old)) }
-        ensures kept { OnOk result (self.new.frames ≡ self.old.frames) }
+        ensures kept { OnOk result (self.new.blocks ≡ self.old.blocks) }
         ensures within { IfOk result (λ _. depth < 200) }
     {
-        let scope = names_at(&self.frames, at);
+        let scope = names_at(&self.blocks, at);
         variants_taken(
             &mut self.numbers,
             Context { alloc, scope, line },
@@ -240,9 +241,9 @@ impl<'t> Unfolder<'t> {
         targets: &[TargetTree],
     ) -> Result<Items<Target>, CheckFault>
         ensures targets { Unfolds targets_of result self.new.numbers (storing (names_of (meant_at self.old at)) line depth protocol.now tag (map lines.target_of targets.now) (counted self.old)) }
-        ensures kept { OnOk result (self.new.frames ≡ self.old.frames) }
+        ensures kept { OnOk result (self.new.blocks ≡ self.old.blocks) }
     {
-        let scope = names_at(&self.frames, at);
+        let scope = names_at(&self.blocks, at);
         storing(
             &mut self.numbers,
             Context { alloc, scope, line },
@@ -304,7 +305,7 @@ fn line_of(variant: &Variant) -> u32
 
 /// The declarations of a variant, as they are kept.
 fn kept_declarations(variant: &Variant) -> &Vec<Decl>
-    ensures { row_decls (hidden-the_row-Decl-0 result.now) ≡ declarations_of_variant variant.now }
+    ensures { held_decls (hidden-the_row-Decl-0 result.now) ≡ declarations_of_variant variant.now }
 {
     match variant {
         Variant::Tagged(declarations, _, _, _, _) => declarations,
@@ -350,7 +351,7 @@ fn tag_of(variant: &Variant) -> &[u8]
 /// The variants of an input, as a slice.
 #[tactic(auto, using(crate::proofs::Rows::variants_made))]
 pub(crate) fn listed_variants(variants: &Vec<Variant>) -> &[Variant]
-    ensures { nodes (map trees.variant_of result.now) ≡ row_variants (hidden-the_row-Variant-1 variants.now) }
+    ensures { nodes (map trees.variant_of result.now) ≡ held_variants (hidden-the_row-Variant-1 variants.now) }
 {
     variants.as_slice()
 }

@@ -11,14 +11,14 @@ use Rattle.occ_check_meaning.specs.Expressions.{Typed, typed}
 use Rattle.occ_check_meaning.specs.Items.{apart, as_target, assigned_item, assigned_items, some_clash, variable_of}
 use Rattle.occ_check_meaning.specs.Scope.{Names, Row, each_of, keep}
 use Rattle.occ_check_meaning.proofs.Steps.{bind_some, some_is}
-use Rattle.occ_check_acting.specs.ActionView.{side_assigned, side_of}
-use Rattle.occ_check_clashes.specs.Clashing.{rows_at}
+use Rattle.occ_check_acting.specs.Action.{side_assigned, side_of}
+use Rattle.occ_check_clashes.specs.Clash.{rows_at}
 use Rattle.occ_check_typing.specs.Zipped.{zipped}
 use Rattle.occ_check_names.specs.View.{Refuses}
 use Rattle.occ_check_names.specs.declared.fault.CheckFault.{CheckFault}
 use Rattle.occ_check_names.specs.declared.typed.Part.{Part}
 use Rattle.occ_check_typing.proofs.Refusals.{none_then, refused_with}
-use Rattle.occ_check_acting.proofs.Storing.{bare, bare_clash}
+use Rattle.occ_check_acting.proofs.Targets.{bare, bare_clash}
 
 abbrev no_items : Option (List T.Item)
 no_items = None

@@ -1,6 +1,6 @@
-pub mod Evaluating
+pub mod GivenSubscripts
 pub mod Choosing
-pub mod Binding
-pub mod Storing
+pub mod Calls
+pub mod Targets
 pub mod Receiving
 pub mod Assigning

@@ -1,2 +1,2 @@
-pub mod ActionView
-pub mod CallView
+pub mod Action
+pub mod Call

@@ -8,7 +8,7 @@ ghost use Rattle.occ_term.specs.View as terms;
 ghost use Rattle.occ_check_meaning.specs.Actions as meant;
 ghost use Rattle.occ_check_meaning.specs.Items as items;
 ghost use Rattle.occ_check_meaning.specs.Scope.{each_of};
-ghost use Rattle.occ_check_acting.specs.ActionView.{Chooses, chosen_of, listed_of, side_assigned, side_of};
+ghost use Rattle.occ_check_acting.specs.Action.{Chooses, chosen_of, listed_of, side_assigned, side_of};
 ghost use Rattle.occ_check_typing.specs.Zipped.{zipped};
 ghost use Rattle.occ_check_names.specs.View.{Gives, names_in, part_of, typed_of};
 

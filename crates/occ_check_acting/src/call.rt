@@ -7,8 +7,8 @@ ghost use Rattle.occ_check_meaning.specs.Calls as meant;
 ghost use Rattle.occ_check_meaning.specs.Items as items;
 ghost use Rattle.occ_check_names.specs.View.{Gives, carried_of, known_of, names_in, numbers_of, row_of};
 ghost use Rattle.occ_check_names.specs.declared.numbers.Numbers.{Numbers};
-ghost use Rattle.occ_check_typing.specs.OpenedView.{Opens};
-ghost use Rattle.occ_check_acting.specs.CallView.{channels_bound, formals_of, given_of, variable_bound, wanted_of};
+ghost use Rattle.occ_check_typing.specs.Declaration.{Opens};
+ghost use Rattle.occ_check_acting.specs.Call.{channels_bound, formals_of, given_of, variable_bound, wanted_of};
 
 use crate::formals::{Wanted, WantedFormal};
 use crate::given::{Given, all_evaluated, part_of};

@@ -6,7 +6,7 @@ ghost use Rattle.occ_tree_grammar.specs.Lines.Views as lines;
 ghost use Rattle.occ_check_meaning.specs.Calls as meant;
 ghost use Rattle.occ_check_meaning.specs.Types.{open_sizes_of};
 ghost use Rattle.occ_check_names.specs.View.{Gives, names_in};
-ghost use Rattle.occ_check_acting.specs.CallView.{formal_of, formals_of, listed_formals, named_formal, wanted_of, wants_a_value, wants_a_variable};
+ghost use Rattle.occ_check_acting.specs.Call.{formal_of, formals_of, listed_formals, named_formal, wanted_of, wants_a_value, wants_a_variable};
 
 use occ_check_names::context::Context;
 use occ_check_names::fault::CheckFault;

@@ -1,13 +1,13 @@
 //! The subscripts of an actual, evaluated where the call begins.
 
 ghost use Rattle.std.specs.Prelude.{ℕ, ◌≡◌, ◌∷◌, ◌++◌, [], IfOk, map, None};
-ghost use Rattle.occ_term.specs.Rows.{AreFew};
+ghost use Rattle.occ_term.specs.ArraySizes.{AreFew};
 ghost use Rattle.occ_term.specs.View.{expression_of, subscripts};
 ghost use Rattle.occ_check_meaning.specs.Calls as meant;
 ghost use Rattle.occ_check_meaning.specs.Constants.{constant};
 ghost use Rattle.occ_check_names.specs.View.{evaluated_of, numbers_of, row_of};
 ghost use Rattle.occ_check_names.specs.declared.numbers.Numbers.{Numbers};
-ghost use Rattle.occ_check_acting.specs.CallView.{Evaluates, one_constant, part_under};
+ghost use Rattle.occ_check_acting.specs.Call.{Evaluates, one_constant, part_under};
 
 use occ_check_names::constant::{constant_of, is_below};
 use occ_check_names::fault::CheckFault;
@@ -155,7 +155,7 @@ fn joined(first: Given, then: Given) -> Result<Given, AllocError>
 }
 
 /// A row under the subscripts of an actual.
-#[tactic(auto, using(crate::proofs::Evaluating::joined_evaluated))]
+#[tactic(auto, using(crate::proofs::GivenSubscripts::joined_evaluated))]
 pub(crate) fn part_of(
     alloc: Global,
     row: &Row,

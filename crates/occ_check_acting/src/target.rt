@@ -3,8 +3,8 @@
 ghost use Rattle.std.specs.Prelude.{◌≡◌, ◌∷◌, [], map};
 ghost use Rattle.occ_tree_grammar.specs.Lines.Views as lines;
 ghost use Rattle.occ_term.specs.View as terms;
-ghost use Rattle.occ_check_acting.specs.ActionView.{stored_one, takes};
-ghost use Rattle.occ_check_clashes.specs.Clashing.{rows_at};
+ghost use Rattle.occ_check_acting.specs.Action.{stored_one, takes};
+ghost use Rattle.occ_check_clashes.specs.Clash.{rows_at};
 ghost use Rattle.occ_check_typing.specs.Zipped.{zipped};
 ghost use Rattle.occ_check_meaning.specs.Expressions as expressions;
 ghost use Rattle.occ_check_meaning.specs.Items as meant;

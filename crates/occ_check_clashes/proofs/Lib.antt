@@ -1,5 +1,5 @@
 pub mod Among
-pub mod ReadCells
-pub mod Fixing
-pub mod Others
-pub mod Tagging
+pub mod NamedCells
+pub mod Clashes
+pub mod NamingOthers
+pub mod TagLists

@@ -1,2 +1,2 @@
-pub mod Clashing
-pub mod TagView
+pub mod Clash
+pub mod Tags

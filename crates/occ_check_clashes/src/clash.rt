@@ -4,9 +4,9 @@
 ghost use Rattle.std.specs.Prelude.{◌≡◌, IfOk, map};
 ghost use Rattle.occ_term.specs.View.{expression_of, subscripts, targets_of};
 ghost use Rattle.occ_check_meaning.specs.Items as meant;
-ghost use Rattle.occ_check_clashes.specs.Clashing.{rows_at};
+ghost use Rattle.occ_check_clashes.specs.Clash.{rows_at};
 ghost use Rattle.occ_check_typing.specs.Spans.{span_of};
-ghost use Rattle.occ_check_clashes.specs.Clashing.{fixed_spans, rows_of};
+ghost use Rattle.occ_check_clashes.specs.Clash.{fixed_spans, rows_of};
 
 use crate::named::span_named;
 use crate::naming::some_names_another;

@@ -2,11 +2,11 @@
 
 ghost use Rattle.std.specs.Prelude.{◌≡◌, ◌+◌, ◌<◌, ◌^◌, IfSome, map};
 ghost use Rattle.occ_term.specs.Messages.{product};
-ghost use Rattle.occ_term.specs.Rows.{AreFew};
+ghost use Rattle.occ_term.specs.ArraySizes.{AreFew};
 ghost use Rattle.occ_term.specs.Uses as uses;
 ghost use Rattle.occ_term.specs.View.{expression_of, place_of, subscripts};
 ghost use Rattle.occ_check_meaning.specs.Items as meant;
-ghost use Rattle.occ_check_clashes.specs.Clashing.{row_at};
+ghost use Rattle.occ_check_clashes.specs.Clash.{row_at};
 ghost use Rattle.occ_check_typing.specs.Spans.{span_of};
 
 use occ_check_names::constant::constant_of;

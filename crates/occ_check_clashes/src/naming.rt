@@ -6,8 +6,8 @@ ghost use Rattle.occ_term.specs.Terms.{Component};
 ghost use Rattle.occ_term.specs.Uses as uses;
 ghost use Rattle.occ_term.specs.Values.{span};
 ghost use Rattle.occ_term.specs.View.{expression_of, place_of, subscripts};
-ghost use Rattle.occ_check_clashes.specs.Clashing.{row_at};
-ghost use Rattle.occ_check_clashes.specs.Clashing.{AreSorted, begins_at, below, ends_at, is_one_named, met_by, names_another, reads_some, rows_of, shares, some_in_subscripts, one_names_another, variable_spans};
+ghost use Rattle.occ_check_clashes.specs.Clash.{row_at};
+ghost use Rattle.occ_check_clashes.specs.Clash.{AreSorted, begins_at, below, ends_at, is_one_named, met_by, names_another, reads_some, rows_of, shares, some_in_subscripts, one_names_another, variable_spans};
 ghost use Rattle.occ_check_typing.specs.Spans.{span_of};
 
 use crate::named::{span_named, whole_of};
@@ -108,7 +108,7 @@ struct Others<'a> {
 
 /// Whether an expression reads a cell of another variable. A chain of AND and OR is a loop.
 #[cycle(reading)]
-#[tactic(auto, using(crate::proofs::ReadCells::read_by_right, crate::proofs::ReadCells::read_by_left))]
+#[tactic(auto, using(crate::proofs::NamedCells::read_by_right, crate::proofs::NamedCells::read_by_left))]
 fn reads(e: &TermExpr, others: Others<'_>) -> bool
     requires sorted { AreSorted others }
     ensures { result ≡ reads_some (met_by others.entry) (expression_of e.now) }

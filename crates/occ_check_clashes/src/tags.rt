@@ -6,7 +6,7 @@ ghost use Rattle.occ_check_meaning.specs.Actions as meant;
 ghost use Rattle.occ_check_meaning.specs.Items.{tag_number};
 ghost use Rattle.occ_check_names.specs.View.{Gives};
 ghost use Rattle.occ_check_names.specs.declared.fault.CheckFault.TheVariants.{Memory};
-ghost use Rattle.occ_check_clashes.specs.TagView.{AreTagsOf, listed_in, number_at, tags_of};
+ghost use Rattle.occ_check_clashes.specs.Tags.{AreTagsOf, listed_in, number_at, tags_of};
 
 use indexmap::{IndexMap, IndexSet};
 use occ_check_names::fault::CheckFault;

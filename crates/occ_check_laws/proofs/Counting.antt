@@ -5,7 +5,7 @@ use Rattle.std.proofs.lemmas.Bool.{leb-true}
 use Rattle.occ_term.specs.declared.primitive.Primitive.{Primitive}
 use Rattle.occ_term.specs.declared.protocol.Protocol.{Protocol}
 use Rattle.occ_term.specs.Terms.{Declaration, Clearing, Naming, Term, Arms, no_arms, skip_arm, input_arm, declared_arms, each_arm, Choices, no_choices, or_choice, declared_choices, each_choice, Variants, no_variants, or_variant, Options, no_options, or_option, or_else}
-use Rattle.occ_term.specs.Sizes.{Size, no_size, node, size_of, size_of_terms, size_of_declaration, size_of_declarations, size_of_arms, size_of_choices, size_of_variants, size_of_options}
+use Rattle.occ_term.specs.Sizes.{Size, no_size, with_node, size_of, size_of_terms, size_of_declaration, size_of_declarations, size_of_arms, size_of_choices, size_of_variants, size_of_options}
 use Rattle.occ_check_meaning.specs.Scope.{keep, Name}
 use Rattle.occ_check_meaning.specs.Numbers.{Numbers, deeper, more_cells, more_channels, more_processes, room}
 use Rattle.occ_check_meaning.specs.Actions.{headed, followed, as_term, opening, arms_behind, choices_behind, arms_then, choices_then, variants_then, options_then}
@@ -60,11 +60,11 @@ pub counted_none : {depth : ℕ} {n m : Numbers} → m.nodes ≡ n.nodes → Cou
 counted_none e = record { nodes = omega (arith, e); deep = omega arith }
 
 -- a line of its own with its parts
-pub counted_node : {depth : ℕ} {n m l : Numbers} (s a t : Size) → room depth (node s) n ≡ Some m → Counted (depth + 1) a m l
+pub counted_node : {depth : ℕ} {n m l : Numbers} (s a t : Size) → room depth (with_node s) n ≡ Some m → Counted (depth + 1) a m l
     → t.nodes ≡ (s.nodes + a.nodes) + 1 → t.depth ≤ max s.depth a.depth + 1 → Counted depth t n l
 counted_node {depth} {n} {m} s a t e h g f =
-    let x = room_nodes depth (node s) n m e in
-    let y = room_deep depth (node s) n m e in
+    let x = room_nodes depth (with_node s) n m e in
+    let y = room_deep depth (with_node s) n m e in
     let p = h.nodes in
     let q = h.deep in
     record { nodes = omega (arith, x, p, g); deep = omega (arith, y, q, f) }
@@ -114,11 +114,11 @@ counted_headed {depth} {deep} {n} {m} {o} {l} [] t e h g =
     let q = g.deep in
     record { nodes = omega (arith, x, k, p); deep = omega (arith, d, q) }
 counted_headed {depth} {deep} {n} {m} {o} {l} (h ∷ hs) t e c g =
-    let r = bind_some (room depth (node no_size) m) _ (deep, o) e in
+    let r = bind_some (room depth (with_node no_size) m) _ (deep, o) e in
     let d : depth + 1 ≡ deep = ap (λ (y : ℕ × Numbers). y.0) (some_is _ _ r.2) in
     let k : r.0.nodes ≡ o.nodes = ap (λ (y : ℕ × Numbers). y.1.nodes) (some_is _ _ r.2) in
-    let x = room_nodes depth (node no_size) m r.0 r.1 in
-    let y = room_deep depth (node no_size) m r.0 r.1 in
+    let x = room_nodes depth (with_node no_size) m r.0 r.1 in
+    let y = room_deep depth (with_node no_size) m r.0 r.1 in
     let z = followed_nodes (h ∷ hs) t in
     let w = followed_depth (h ∷ hs) t in
     let p = c.nodes in

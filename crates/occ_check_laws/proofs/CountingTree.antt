@@ -13,7 +13,7 @@ use Rattle.occ_term.specs.Messages.{product}
 use Rattle.occ_term.specs.Terms as T
 use Rattle.occ_term.specs.Terms.{Term, Terms, Branches, Arms, Choices, Variants, Options, Array, Cells, Text, Item as TermItem, OfOne, OfMany, Clearing, Naming, replicator, Declaration, Place}
 use Rattle.occ_term.specs.Sizes as Sizes
-use Rattle.occ_term.specs.Sizes.{Size, no_size, beside, size_of, size_of_terms, size_of_branches, size_of_arms, size_of_choices, size_of_variants, size_of_options, size_of_expression, size_of_test, size_of_place, size_of_targets, size_of_constants, size_of_declaration, size_of_declarations, size_of_replicator}
+use Rattle.occ_term.specs.Sizes.{Size, no_size, together, size_of, size_of_terms, size_of_branches, size_of_arms, size_of_choices, size_of_variants, size_of_options, size_of_expression, size_of_test, size_of_place, size_of_targets, size_of_constants, size_of_declaration, size_of_declarations, size_of_replicator}
 use Rattle.occ_check_meaning.specs.Scope.{keep, once, Name, Names, names_of, Carried}
 use Rattle.occ_check_meaning.specs.Numbers.{Numbers, at_start, more_cells, more_channels, room}
 use Rattle.occ_check_meaning.specs.Constants.{constant}
@@ -27,7 +27,7 @@ use Rattle.occ_check_meaning.specs.Actions.{Listed, plain_list, tagged_list, siz
 use Rattle.occ_check_meaning.specs.Performing.{Entered}
 use Rattle.occ_check_laws.specs.Counting.{Counted}
 use Rattle.occ_check_meaning.specs.ProgramUnfolding.{DeclareItems, no_item, one_item, ProgramUnfolding, program}
-use Rattle.occ_check_meaning.specs.Unfolding.{Procedure, Procedures, DeclaresItem, declares_value, declares_protocol, declares_procedure, Declares, declares_names, declares_item, DeclareAll, no_declaration, one_declaration, Unfolding, unfolds, Performs, skips, stops, assigns, inputs, outputs, calls, takes_variants, sequences, replicates_sequence, runs_beside, replicates_branch, alternates, replicates_alternation, conditions, replicates_conditional, selects, loops, InTurn, no_process, one_process, Beside, no_branch, one_branch, Copies, no_copy, one_copy, Arm, behind_arm, Offers, awaits, is_ready, awaits_variants, nests_arms, replicates_arm, EachArm, under_index, AllArms, no_arm, one_arm, Choice, behind_choice, Tests, tests, nests_choices, replicates_choice, EachChoice, under_choice_index, AllChoices, no_choice, one_choice, Variant, takes, AllVariants, no_variant, one_variant, OneOption, is_one_of, is_none_of, AllOptions, no_option, one_option}
+use Rattle.occ_check_meaning.specs.Unfolding.{Procedure, Procedures, DeclaresItem, declares_value, declares_protocol, declares_procedure, Declares, declares_names, declares_item, DeclareAll, no_declaration, one_declaration, Unfolding, unfolds, Performs, skips, stops, assigns, inputs, outputs, calls, takes_variants, sequences, replicates_sequence, runs_beside, replicates_branch, alternates, replicates_alternation, conditions, replicates_conditional, selects, loops, InTurn, no_process, one_process, Beside, no_branch, one_branch, Copies, no_copy, one_copy, Arm, behind_arm, Guards, awaits, is_ready, awaits_variants, nests_arms, replicates_arm, EachArm, under_index, AllArms, no_arm, one_arm, Choice, behind_choice, Tests, tests, nests_choices, replicates_choice, EachChoice, under_choice_index, AllChoices, no_choice, one_choice, Variant, takes, AllVariants, no_variant, one_variant, OneOption, is_one_of, is_none_of, AllOptions, no_option, one_option}
 use Rattle.occ_check_meaning.proofs.Steps.{bind_some, some_is}
 use Rattle.occ_check_laws.proofs.Counting.{kept, room_nodes, room_deep, cells_nodes, channels_nodes, processes_nodes, counted_both, counted_deeper, counted_none, counted_node, counted_room, declarations_nodes, declarations_depth, counted_headed, arms_behind_nodes, arms_behind_depth, choices_behind_nodes, choices_behind_depth, arms_then_nodes, arms_then_depth, choices_then_nodes, choices_then_depth, variants_then_nodes, variants_then_depth, options_then_nodes, options_then_depth}
 
@@ -204,17 +204,17 @@ items_counted (one_item {a = a} {b = b} x y) = counted_both (item_counted x) (it
 -- ---- all of the tree
 
 awaited : (depth : ℕ) (n m l : Numbers) (e : Option T.Expression) (c : Place) (list : Listed) (t : Term)
-    → room depth (Sizes.node (beside (size_of_test e) (beside (size_of_place c) (size_of_list list)))) n ≡ Some m → Counted (depth_behind list (depth + 1)) (size_of t) m l
+    → room depth (Sizes.with_node (together (size_of_test e) (together (size_of_place c) (size_of_list list)))) n ≡ Some m → Counted (depth_behind list (depth + 1)) (size_of t) m l
     → Counted depth (size_of_arms (T.input_arm e c (as_reception list t) T.no_arms)) n l
 awaited depth n m l e c (plain_list ts) t h g =
-    let x = room_nodes depth (Sizes.node (beside (size_of_test e) (beside (size_of_place c) (size_of_targets ts)))) n m h in
-    let y = room_deep depth (Sizes.node (beside (size_of_test e) (beside (size_of_place c) (size_of_targets ts)))) n m h in
+    let x = room_nodes depth (Sizes.with_node (together (size_of_test e) (together (size_of_place c) (size_of_targets ts)))) n m h in
+    let y = room_deep depth (Sizes.with_node (together (size_of_test e) (together (size_of_place c) (size_of_targets ts)))) n m h in
     let p = g.nodes in
     let q = g.deep in
     record { nodes = omega (arith, x, p); deep = omega (arith, y, q) }
 awaited depth n m l e c (tagged_list k ts) t h g =
-    let x = room_nodes depth (Sizes.node (beside (size_of_test e) (beside (size_of_place c) (Sizes.node (size_of_targets ts))))) n m h in
-    let y = room_deep depth (Sizes.node (beside (size_of_test e) (beside (size_of_place c) (Sizes.node (size_of_targets ts))))) n m h in
+    let x = room_nodes depth (Sizes.with_node (together (size_of_test e) (together (size_of_place c) (Sizes.with_node (size_of_targets ts))))) n m h in
+    let y = room_deep depth (Sizes.with_node (together (size_of_test e) (together (size_of_place c) (Sizes.with_node (size_of_targets ts))))) n m h in
     let p = g.nodes in
     let q = g.deep in
     record { nodes = omega (arith, x, p); deep = omega (arith, y, q) }
@@ -229,11 +229,11 @@ branch_counted k t bs e h g =
     record { nodes = omega (arith, e, x, z); deep = omega (arith, y, w) }
 
 -- declarations, what stands in the line, and the body, under one node
-three_counted : {depth : ℕ} {n o p m l : Numbers} (a b c t : Size) → room depth (Sizes.node no_size) n ≡ Some o → Counted (depth + 1) a o p → room (depth + 1) b p ≡ Some m → Counted (depth + 1) c m l
+three_counted : {depth : ℕ} {n o p m l : Numbers} (a b c t : Size) → room depth (Sizes.with_node no_size) n ≡ Some o → Counted (depth + 1) a o p → room (depth + 1) b p ≡ Some m → Counted (depth + 1) c m l
     → t.nodes ≡ ((a.nodes + b.nodes) + c.nodes) + 1 → t.depth ≤ max a.depth (max b.depth c.depth) + 1 → Counted depth t n l
 three_counted {depth} {n} {o} {p} {m} {l} a b c t r h s g e f =
-    let x = room_nodes depth (Sizes.node no_size) n o r in
-    let y = room_deep depth (Sizes.node no_size) n o r in
+    let x = room_nodes depth (Sizes.with_node no_size) n o r in
+    let y = room_deep depth (Sizes.with_node no_size) n o r in
     let z = room_nodes (depth + 1) b p m s in
     let w = room_deep (depth + 1) b p m s in
     let hn = h.nodes in
@@ -281,15 +281,15 @@ mutual
   copies_counted (one_copy {n = n} {o = o} e u us) = branch_counted n.processes _ _ (processes_nodes n o e) (unfolding_counted u) (copies_counted us)
 
   arm_counted : {sc : Procedures} {depth : ℕ} {n m : Numbers} {a : Node arm} {arms : Arms} → Arm sc depth n a arms m → Counted depth (size_of_arms arms) n m
-  arm_counted (behind_arm {d = d} {arms = arms} ds v p) = counted_both (declared_counted ds) (counted_deeper _ v (offers_counted p)) (arms_behind_nodes d.heads arms) (arms_behind_depth d.heads arms)
+  arm_counted (behind_arm {d = d} {arms = arms} ds v p) = counted_both (declared_counted ds) (counted_deeper _ v (guards_counted p)) (arms_behind_nodes d.heads arms) (arms_behind_depth d.heads arms)
 
-  offers_counted : {sc : Procedures} {line depth : ℕ} {n m : Numbers} {h : ArmHead} {b : Body (under arm h)} {arms : Arms} → Offers sc line depth n h b arms m → Counted depth (size_of_arms arms) n m
-  offers_counted (awaits {depth = depth} {n = n} {m = m} {l = l} {e = e} {c = c} {t = t} x y r u) = awaited depth n m l e c.0 c.1 t r (unfolding_counted u)
-  offers_counted (is_ready {e = e} {t = t} x r u) = counted_node (size_of_expression e) (size_of t) (size_of_arms (T.skip_arm e t T.no_arms)) r (unfolding_counted u) (omega arith) (omega arith)
-  offers_counted (awaits_variants {e = e} {c = c} {xs = xs} x y p r u) =
-      counted_node (beside (size_of_test e) (size_of_place c.1)) (size_of_variants xs) (size_of_arms (T.input_arm e c.1 (T.Tagged xs) T.no_arms)) r (variants_counted u) (omega arith) (omega arith)
-  offers_counted (nests_arms v u) = counted_deeper _ v (arms_counted u)
-  offers_counted (replicates_arm v u) = counted_deeper _ v (each_arm_counted u)
+  guards_counted : {sc : Procedures} {line depth : ℕ} {n m : Numbers} {h : ArmHead} {b : Body (under arm h)} {arms : Arms} → Guards sc line depth n h b arms m → Counted depth (size_of_arms arms) n m
+  guards_counted (awaits {depth = depth} {n = n} {m = m} {l = l} {e = e} {c = c} {t = t} x y r u) = awaited depth n m l e c.0 c.1 t r (unfolding_counted u)
+  guards_counted (is_ready {e = e} {t = t} x r u) = counted_node (size_of_expression e) (size_of t) (size_of_arms (T.skip_arm e t T.no_arms)) r (unfolding_counted u) (omega arith) (omega arith)
+  guards_counted (awaits_variants {e = e} {c = c} {xs = xs} x y p r u) =
+      counted_node (together (size_of_test e) (size_of_place c.1)) (size_of_variants xs) (size_of_arms (T.input_arm e c.1 (T.Tagged xs) T.no_arms)) r (variants_counted u) (omega arith) (omega arith)
+  guards_counted (nests_arms v u) = counted_deeper _ v (arms_counted u)
+  guards_counted (replicates_arm v u) = counted_deeper _ v (each_arm_counted u)
 
   each_arm_counted : {sc : Procedures} {line depth : ℕ} {n m : Numbers} {r : L.Replicator} {a : Node arm} {arms : Arms} → EachArm sc line depth n r a arms m → Counted depth (size_of_arms arms) n m
   each_arm_counted (under_index {sc = sc} {line = line} {depth = depth} {n = n} {l = l} {r = r} {i = i} {arms = arms} x u) =
@@ -327,7 +327,7 @@ mutual
   option_counted (is_one_of {d = d} {vs = vs} {t = t} o ds e c m u) =
       three_counted (size_of_declarations d.heads) (size_of_constants vs) (size_of t) (size_of_options (T.or_option vs d.heads t T.no_options)) o (declared_counted ds) m (unfolding_counted u) (omega arith) (omega arith)
   option_counted (is_none_of {d = d} {t = t} o ds c u) =
-      counted_node no_size (beside (size_of_declarations d.heads) (size_of t)) (size_of_options (T.or_else d.heads t T.no_options)) o (counted_both (declared_counted ds) (unfolding_counted u) refl (omega arith)) (omega arith) (omega arith)
+      counted_node no_size (together (size_of_declarations d.heads) (size_of t)) (size_of_options (T.or_else d.heads t T.no_options)) o (counted_both (declared_counted ds) (unfolding_counted u) refl (omega arith)) (omega arith) (omega arith)
 
   options_counted : {sc : Procedures} {depth : ℕ} {n m : Numbers} {type : Primitive} {before : Chosen} {os : Nodes option} {options : Options} → AllOptions sc depth n type before os options m → Counted depth (size_of_options options) n m
   options_counted no_option = counted_none refl

@@ -8,7 +8,7 @@ use Rattle.occ_term.specs.declared.primitive.Primitive.{Primitive}
 use Rattle.occ_term.specs.declared.protocol.Protocol.{Protocol}
 use Rattle.occ_term.specs.Messages.{product}
 use Rattle.occ_term.specs.Terms.{Term}
-use Rattle.occ_term.specs.Unfolding.{most_cells, most_channels}
+use Rattle.occ_term.specs.UnfoldedProgram.{most_cells, most_channels}
 use Rattle.occ_check_meaning.specs.Scope.{Name}
 use Rattle.occ_check_meaning.specs.Numbers.{Numbers, at_start, cell, channel, from_number, component_names, more_cells, more_channels, more_processes}
 use Rattle.occ_term.specs.Names.{component_name}

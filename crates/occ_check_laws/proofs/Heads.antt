@@ -16,7 +16,7 @@ use Rattle.occ_term.specs.Uses as Uses
 use Rattle.occ_term.specs.Uses.{union, numbers_in, uses_of_declaration}
 use Rattle.occ_term.specs.Typing.{ItemHas}
 use Rattle.occ_term.specs.TermTyping.{Declared}
-use Rattle.occ_term.specs.Again.{Scoped}
+use Rattle.occ_term.specs.TakenArms.{Scoped}
 use Rattle.occ_check_meaning.specs.Scope.{names_of, once, Carried, Name, Names}
 use Rattle.occ_check_meaning.specs.Numbers.{Numbers, more_cells, more_channels, room}
 use Rattle.occ_check_meaning.specs.Constants.{constant}

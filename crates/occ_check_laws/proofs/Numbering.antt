@@ -12,7 +12,7 @@ use Rattle.occ_term.specs.Terms.{Term, Terms, no_terms, then_term, Branches, and
 use Rattle.occ_term.specs.Processes.{Numbered, branches_in, branches_in_terms, branches_among, branches_in_arms, branches_in_reception, branches_in_variants, branches_in_choices, branches_in_options, processes_of}
 use Rattle.occ_term.specs.Sizes as Sizes
 use Rattle.occ_term.specs.Sizes.{Size, no_size, size_of, size_of_expression, size_of_test, size_of_place, size_of_targets, size_of_constants}
-use Rattle.occ_term.specs.Unfolding.{NumberedFrom}
+use Rattle.occ_term.specs.UnfoldedProgram.{NumberedFrom}
 use Rattle.occ_check_meaning.specs.Scope.{each_of, Names, names_of}
 use Rattle.occ_check_meaning.specs.Expressions.{typed}
 use Rattle.occ_check_meaning.specs.Items.{variable_of, channel_of, sent, apart, assigned_items}
@@ -21,7 +21,7 @@ use Rattle.occ_check_meaning.specs.Numbers.{Numbers, at_start, more_processes, r
 use Rattle.occ_check_meaning.specs.Actions.{headed, followed, as_term, Listed, plain_list, tagged_list, as_reception, as_input, size_of_list, arms_behind, choices_behind, arms_then, choices_then, variants_then, options_then, Chosen, assigned}
 use Rattle.occ_check_laws.specs.Numbering.{NumberedUpTo}
 use Rattle.occ_check_meaning.specs.ProgramUnfolding.{ProgramUnfolding, program}
-use Rattle.occ_check_meaning.specs.Unfolding.{Procedures, Unfolding, unfolds, Performs, skips, stops, assigns, inputs, outputs, calls, takes_variants, sequences, replicates_sequence, runs_beside, replicates_branch, alternates, replicates_alternation, conditions, replicates_conditional, selects, loops, InTurn, no_process, one_process, Beside, no_branch, one_branch, Copies, no_copy, one_copy, Arm, behind_arm, Offers, awaits, is_ready, awaits_variants, nests_arms, replicates_arm, EachArm, under_index, AllArms, no_arm, one_arm, Choice, behind_choice, Tests, tests, nests_choices, replicates_choice, EachChoice, under_choice_index, AllChoices, no_choice, one_choice, Variant, takes, AllVariants, no_variant, one_variant, OneOption, is_one_of, is_none_of, AllOptions, no_option, one_option}
+use Rattle.occ_check_meaning.specs.Unfolding.{Procedures, Unfolding, unfolds, Performs, skips, stops, assigns, inputs, outputs, calls, takes_variants, sequences, replicates_sequence, runs_beside, replicates_branch, alternates, replicates_alternation, conditions, replicates_conditional, selects, loops, InTurn, no_process, one_process, Beside, no_branch, one_branch, Copies, no_copy, one_copy, Arm, behind_arm, Guards, awaits, is_ready, awaits_variants, nests_arms, replicates_arm, EachArm, under_index, AllArms, no_arm, one_arm, Choice, behind_choice, Tests, tests, nests_choices, replicates_choice, EachChoice, under_choice_index, AllChoices, no_choice, one_choice, Variant, takes, AllVariants, no_variant, one_variant, OneOption, is_one_of, is_none_of, AllOptions, no_option, one_option}
 use Rattle.occ_check_meaning.proofs.Steps.{bind_some, some_is}
 use Rattle.occ_check_laws.proofs.Counting.{kept}
 use Rattle.occ_check_laws.proofs.Stepping.{Stepping, bound_steps, indexed_steps, opening_steps, declared_steps, items_steps}
@@ -165,18 +165,18 @@ mutual
   performs_numbered (calls {sc = sc} {line = line} {depth = depth} {deep = deep} {n = n} {m = m} {l = l} {es = es} {ws = ws} {b = b} {t = t} f w a o u) =
       the_same (branches_in t) (branches_in (headed b.heads t)) n.processes l.processes (headed_branches b.heads t)
       (begin_at (branches_in t) n.processes m.processes l.processes (opening_steps Same same_processes b.heads depth b.numbers deep m o ∙ bound_steps Same same_processes (names_of sc) line (depth + 1) ws es n b a) (unfolding_numbered u))
-  performs_numbered (takes_variants {depth = depth} {n = n} {m = m} {l = l} {c = c} {xs = xs} e p r u) = begin_at (branches_in_variants xs) n.processes m.processes l.processes (roomy depth (Sizes.node (size_of_place c.1)) n m r) (variants_numbered u)
-  performs_numbered (sequences {depth = depth} {n = n} {m = m} {l = l} {ts = ts} r u) = begin_at (branches_in_terms ts) n.processes m.processes l.processes (roomy depth (Sizes.node no_size) n m r) (in_turn_numbered u)
+  performs_numbered (takes_variants {depth = depth} {n = n} {m = m} {l = l} {c = c} {xs = xs} e p r u) = begin_at (branches_in_variants xs) n.processes m.processes l.processes (roomy depth (Sizes.with_node (size_of_place c.1)) n m r) (variants_numbered u)
+  performs_numbered (sequences {depth = depth} {n = n} {m = m} {l = l} {ts = ts} r u) = begin_at (branches_in_terms ts) n.processes m.processes l.processes (roomy depth (Sizes.with_node no_size) n m r) (in_turn_numbered u)
   performs_numbered (replicates_sequence {sc = sc} {line = line} {depth = depth} {n = n} {m = m} {l = l} {r = r} {i = i} {t = t} o x u) =
-      begin_at (branches_in t) n.processes i.numbers.processes l.processes (indexed_steps Same same_processes (names_of sc) line (depth + 1) r m i x ∙ roomy depth (Sizes.node no_size) n m o) (unfolding_numbered u)
-  performs_numbered (runs_beside {depth = depth} {n = n} {m = m} {l = l} {bs = bs} r u) = begin_at (branches_among bs) n.processes m.processes l.processes (roomy depth (Sizes.node no_size) n m r) (beside_numbered u)
-  performs_numbered (replicates_branch {depth = depth} {n = n} {m = m} {l = l} {bs = bs} c r u) = begin_at (branches_among bs) n.processes m.processes l.processes (roomy depth (Sizes.node no_size) n m r) (copies_numbered u)
-  performs_numbered (alternates {depth = depth} {n = n} {m = m} {l = l} {arms = arms} r u) = begin_at (branches_in_arms arms) n.processes m.processes l.processes (roomy depth (Sizes.node no_size) n m r) (arms_numbered u)
-  performs_numbered (replicates_alternation {depth = depth} {n = n} {m = m} {l = l} {arms = arms} r u) = begin_at (branches_in_arms arms) n.processes m.processes l.processes (roomy depth (Sizes.node no_size) n m r) (each_arm_numbered u)
-  performs_numbered (conditions {depth = depth} {n = n} {m = m} {l = l} {choices = choices} r u) = begin_at (branches_in_choices choices) n.processes m.processes l.processes (roomy depth (Sizes.node no_size) n m r) (choices_numbered u)
-  performs_numbered (replicates_conditional {depth = depth} {n = n} {m = m} {l = l} {choices = choices} r u) = begin_at (branches_in_choices choices) n.processes m.processes l.processes (roomy depth (Sizes.node no_size) n m r) (each_choice_numbered u)
-  performs_numbered (selects {depth = depth} {n = n} {m = m} {l = l} {s = s} {os = os} e r u) = begin_at (branches_in_options os) n.processes m.processes l.processes (roomy depth (Sizes.node (size_of_expression s.1)) n m r) (options_numbered u)
-  performs_numbered (loops {depth = depth} {n = n} {m = m} {l = l} {c = c} {t = t} e r u) = begin_at (branches_in t) n.processes m.processes l.processes (roomy depth (Sizes.node (size_of_expression c)) n m r) (unfolding_numbered u)
+      begin_at (branches_in t) n.processes i.numbers.processes l.processes (indexed_steps Same same_processes (names_of sc) line (depth + 1) r m i x ∙ roomy depth (Sizes.with_node no_size) n m o) (unfolding_numbered u)
+  performs_numbered (runs_beside {depth = depth} {n = n} {m = m} {l = l} {bs = bs} r u) = begin_at (branches_among bs) n.processes m.processes l.processes (roomy depth (Sizes.with_node no_size) n m r) (beside_numbered u)
+  performs_numbered (replicates_branch {depth = depth} {n = n} {m = m} {l = l} {bs = bs} c r u) = begin_at (branches_among bs) n.processes m.processes l.processes (roomy depth (Sizes.with_node no_size) n m r) (copies_numbered u)
+  performs_numbered (alternates {depth = depth} {n = n} {m = m} {l = l} {arms = arms} r u) = begin_at (branches_in_arms arms) n.processes m.processes l.processes (roomy depth (Sizes.with_node no_size) n m r) (arms_numbered u)
+  performs_numbered (replicates_alternation {depth = depth} {n = n} {m = m} {l = l} {arms = arms} r u) = begin_at (branches_in_arms arms) n.processes m.processes l.processes (roomy depth (Sizes.with_node no_size) n m r) (each_arm_numbered u)
+  performs_numbered (conditions {depth = depth} {n = n} {m = m} {l = l} {choices = choices} r u) = begin_at (branches_in_choices choices) n.processes m.processes l.processes (roomy depth (Sizes.with_node no_size) n m r) (choices_numbered u)
+  performs_numbered (replicates_conditional {depth = depth} {n = n} {m = m} {l = l} {choices = choices} r u) = begin_at (branches_in_choices choices) n.processes m.processes l.processes (roomy depth (Sizes.with_node no_size) n m r) (each_choice_numbered u)
+  performs_numbered (selects {depth = depth} {n = n} {m = m} {l = l} {s = s} {os = os} e r u) = begin_at (branches_in_options os) n.processes m.processes l.processes (roomy depth (Sizes.with_node (size_of_expression s.1)) n m r) (options_numbered u)
+  performs_numbered (loops {depth = depth} {n = n} {m = m} {l = l} {c = c} {t = t} e r u) = begin_at (branches_in t) n.processes m.processes l.processes (roomy depth (Sizes.with_node (size_of_expression c)) n m r) (unfolding_numbered u)
 
   in_turn_numbered : {sc : Procedures} {depth : ℕ} {n m : Numbers} {ps : Nodes process} {ts : Terms} → InTurn sc depth n ps ts m → NumberedUpTo n.processes (branches_in_terms ts) m.processes
   in_turn_numbered (no_process {n = n}) = none_numbered n.processes n.processes refl
@@ -193,18 +193,18 @@ mutual
   arm_numbered : {sc : Procedures} {depth : ℕ} {n m : Numbers} {a : Node arm} {arms : Arms} → Arm sc depth n a arms m → NumberedUpTo n.processes (branches_in_arms arms) m.processes
   arm_numbered (behind_arm {n = n} {l = l} {d = d} {arms = arms} ds v p) =
       the_same (branches_in_arms arms) (branches_in_arms (arms_behind d.heads arms)) n.processes l.processes (arms_behind_branches d.heads arms)
-      (begin_at (branches_in_arms arms) n.processes d.numbers.processes l.processes (declared_steps Same same_processes ds) (offers_numbered p))
+      (begin_at (branches_in_arms arms) n.processes d.numbers.processes l.processes (declared_steps Same same_processes ds) (guards_numbered p))
 
-  offers_numbered : {sc : Procedures} {line depth : ℕ} {n m : Numbers} {h : ArmHead} {b : Body (under arm h)} {arms : Arms} → Offers sc line depth n h b arms m → NumberedUpTo n.processes (branches_in_arms arms) m.processes
-  offers_numbered (awaits {depth = depth} {n = n} {m = m} {l = l} {e = e} {c = c} {t = t} x y r u) =
+  guards_numbered : {sc : Procedures} {line depth : ℕ} {n m : Numbers} {h : ArmHead} {b : Body (under arm h)} {arms : Arms} → Guards sc line depth n h b arms m → NumberedUpTo n.processes (branches_in_arms arms) m.processes
+  guards_numbered (awaits {depth = depth} {n = n} {m = m} {l = l} {e = e} {c = c} {t = t} x y r u) =
       the_same (branches_in t) (branches_in_reception (as_reception c.1 t) ++ []) n.processes l.processes (with_nil (branches_in_reception (as_reception c.1 t)) ∙ reception_branches c.1 t)
-      (begin_at (branches_in t) n.processes m.processes l.processes (roomy depth (Sizes.node (Sizes.beside (size_of_test e) (Sizes.beside (size_of_place c.0) (size_of_list c.1)))) n m r) (unfolding_numbered u))
-  offers_numbered (is_ready {depth = depth} {n = n} {m = m} {l = l} {e = e} {t = t} x r u) =
-      the_same (branches_in t) (branches_in t ++ []) n.processes l.processes (with_nil (branches_in t)) (begin_at (branches_in t) n.processes m.processes l.processes (roomy depth (Sizes.node (size_of_expression e)) n m r) (unfolding_numbered u))
-  offers_numbered (awaits_variants {depth = depth} {n = n} {m = m} {l = l} {e = e} {c = c} {xs = xs} x y p r u) =
-      the_same (branches_in_variants xs) (branches_in_variants xs ++ []) n.processes l.processes (with_nil (branches_in_variants xs)) (begin_at (branches_in_variants xs) n.processes m.processes l.processes (roomy depth (Sizes.node (Sizes.beside (size_of_test e) (size_of_place c.1))) n m r) (variants_numbered u))
-  offers_numbered (nests_arms v u) = arms_numbered u
-  offers_numbered (replicates_arm v u) = each_arm_numbered u
+      (begin_at (branches_in t) n.processes m.processes l.processes (roomy depth (Sizes.with_node (Sizes.together (size_of_test e) (Sizes.together (size_of_place c.0) (size_of_list c.1)))) n m r) (unfolding_numbered u))
+  guards_numbered (is_ready {depth = depth} {n = n} {m = m} {l = l} {e = e} {t = t} x r u) =
+      the_same (branches_in t) (branches_in t ++ []) n.processes l.processes (with_nil (branches_in t)) (begin_at (branches_in t) n.processes m.processes l.processes (roomy depth (Sizes.with_node (size_of_expression e)) n m r) (unfolding_numbered u))
+  guards_numbered (awaits_variants {depth = depth} {n = n} {m = m} {l = l} {e = e} {c = c} {xs = xs} x y p r u) =
+      the_same (branches_in_variants xs) (branches_in_variants xs ++ []) n.processes l.processes (with_nil (branches_in_variants xs)) (begin_at (branches_in_variants xs) n.processes m.processes l.processes (roomy depth (Sizes.with_node (Sizes.together (size_of_test e) (size_of_place c.1))) n m r) (variants_numbered u))
+  guards_numbered (nests_arms v u) = arms_numbered u
+  guards_numbered (replicates_arm v u) = each_arm_numbered u
 
   each_arm_numbered : {sc : Procedures} {line depth : ℕ} {n m : Numbers} {r : L.Replicator} {a : Node arm} {arms : Arms} → EachArm sc line depth n r a arms m → NumberedUpTo n.processes (branches_in_arms arms) m.processes
   each_arm_numbered (under_index {sc = sc} {line = line} {depth = depth} {n = n} {l = l} {r = r} {i = i} {arms = arms} x u) =
@@ -224,7 +224,7 @@ mutual
 
   tests_numbered : {sc : Procedures} {line depth : ℕ} {n m : Numbers} {h : ChoiceHead} {b : Body (under choice h)} {choices : Choices} → Tests sc line depth n h b choices m → NumberedUpTo n.processes (branches_in_choices choices) m.processes
   tests_numbered (tests {depth = depth} {n = n} {m = m} {l = l} {e = e} {t = t} x r u) =
-      the_same (branches_in t) (branches_in t ++ []) n.processes l.processes (with_nil (branches_in t)) (begin_at (branches_in t) n.processes m.processes l.processes (roomy depth (Sizes.node (size_of_expression e)) n m r) (unfolding_numbered u))
+      the_same (branches_in t) (branches_in t ++ []) n.processes l.processes (with_nil (branches_in t)) (begin_at (branches_in t) n.processes m.processes l.processes (roomy depth (Sizes.with_node (size_of_expression e)) n m r) (unfolding_numbered u))
   tests_numbered (nests_choices v u) = choices_numbered u
   tests_numbered (replicates_choice v u) = each_choice_numbered u
 
@@ -242,7 +242,7 @@ mutual
   variant_numbered : {sc : Procedures} {depth k : ℕ} {n m : Numbers} {p : Protocol} {v : Node variant} {xs : Variants} → Variant sc depth n p k v xs m → NumberedUpTo n.processes (branches_in_variants xs) m.processes
   variant_numbered (takes {depth = depth} {n = n} {o = o} {m = m} {l = l} {d = d} {targets = targets} {t = t} r ds g e q u) =
       the_same (branches_in t) (branches_in t ++ []) n.processes l.processes (with_nil (branches_in t))
-      (begin_at (branches_in t) n.processes m.processes l.processes (roomy (depth + 1) (size_of_targets targets) d.numbers m q ∙ (declared_steps Same same_processes ds ∙ roomy depth (Sizes.node no_size) n o r)) (unfolding_numbered u))
+      (begin_at (branches_in t) n.processes m.processes l.processes (roomy (depth + 1) (size_of_targets targets) d.numbers m q ∙ (declared_steps Same same_processes ds ∙ roomy depth (Sizes.with_node no_size) n o r)) (unfolding_numbered u))
 
   variants_numbered : {sc : Procedures} {depth : ℕ} {n m : Numbers} {p : Protocol} {before : List ℕ} {vs : Nodes variant} {xs : Variants} → AllVariants sc depth n p before vs xs m → NumberedUpTo n.processes (branches_in_variants xs) m.processes
   variants_numbered (no_variant {n = n}) = none_numbered n.processes n.processes refl
@@ -253,10 +253,10 @@ mutual
   option_numbered : {sc : Procedures} {depth : ℕ} {n m : Numbers} {type : Primitive} {before c : Chosen} {o : Node option} {options : Options} → OneOption sc depth n type before o options c m → NumberedUpTo n.processes (branches_in_options options) m.processes
   option_numbered (is_one_of {depth = depth} {n = n} {o = o} {m = m} {l = l} {d = d} {vs = vs} {t = t} r ds e c q u) =
       the_same (branches_in t) (branches_in t ++ []) n.processes l.processes (with_nil (branches_in t))
-      (begin_at (branches_in t) n.processes m.processes l.processes (roomy (depth + 1) (size_of_constants vs) d.numbers m q ∙ (declared_steps Same same_processes ds ∙ roomy depth (Sizes.node no_size) n o r)) (unfolding_numbered u))
+      (begin_at (branches_in t) n.processes m.processes l.processes (roomy (depth + 1) (size_of_constants vs) d.numbers m q ∙ (declared_steps Same same_processes ds ∙ roomy depth (Sizes.with_node no_size) n o r)) (unfolding_numbered u))
   option_numbered (is_none_of {depth = depth} {n = n} {o = o} {l = l} {d = d} {t = t} r ds c u) =
       the_same (branches_in t) (branches_in t ++ []) n.processes l.processes (with_nil (branches_in t))
-      (begin_at (branches_in t) n.processes d.numbers.processes l.processes (declared_steps Same same_processes ds ∙ roomy depth (Sizes.node no_size) n o r) (unfolding_numbered u))
+      (begin_at (branches_in t) n.processes d.numbers.processes l.processes (declared_steps Same same_processes ds ∙ roomy depth (Sizes.with_node no_size) n o r) (unfolding_numbered u))
 
   options_numbered : {sc : Procedures} {depth : ℕ} {n m : Numbers} {type : Primitive} {before : Chosen} {os : Nodes option} {options : Options} → AllOptions sc depth n type before os options m → NumberedUpTo n.processes (branches_in_options options) m.processes
   options_numbered (no_option {n = n}) = none_numbered n.processes n.processes refl

@@ -21,14 +21,14 @@ use Rattle.occ_check_meaning.specs.Declarations.{index_of}
 use Rattle.occ_check_meaning.specs.Actions.{opening, headed, followed, as_term, Listed, plain_list, tagged_list, as_reception, size_of_list, arms_behind, choices_behind, arms_then, choices_then, variants_then, options_then, with_tags, selector, Chosen}
 use Rattle.occ_check_laws.specs.Growth.{Grown}
 use Rattle.occ_check_meaning.specs.Performing.{Entered}
-use Rattle.occ_check_meaning.specs.Unfolding.{Procedure, procedure, Procedures, DeclaresItem, declares_value, declares_protocol, declares_procedure, Declares, declares_names, declares_item, DeclareAll, no_declaration, one_declaration, Unfolding, unfolds, Performs, skips, stops, assigns, inputs, outputs, calls, takes_variants, sequences, replicates_sequence, runs_beside, replicates_branch, alternates, replicates_alternation, conditions, replicates_conditional, selects, loops, InTurn, no_process, one_process, Beside, no_branch, one_branch, Copies, no_copy, one_copy, Arm, behind_arm, Offers, awaits, is_ready, awaits_variants, nests_arms, replicates_arm, EachArm, under_index, AllArms, no_arm, one_arm, Choice, behind_choice, Tests, tests, nests_choices, replicates_choice, EachChoice, under_choice_index, AllChoices, no_choice, one_choice, Variant, takes, AllVariants, no_variant, one_variant, OneOption, is_one_of, is_none_of, AllOptions, no_option, one_option}
+use Rattle.occ_check_meaning.specs.Unfolding.{Procedure, procedure, Procedures, DeclaresItem, declares_value, declares_protocol, declares_procedure, Declares, declares_names, declares_item, DeclareAll, no_declaration, one_declaration, Unfolding, unfolds, Performs, skips, stops, assigns, inputs, outputs, calls, takes_variants, sequences, replicates_sequence, runs_beside, replicates_branch, alternates, replicates_alternation, conditions, replicates_conditional, selects, loops, InTurn, no_process, one_process, Beside, no_branch, one_branch, Copies, no_copy, one_copy, Arm, behind_arm, Guards, awaits, is_ready, awaits_variants, nests_arms, replicates_arm, EachArm, under_index, AllArms, no_arm, one_arm, Choice, behind_choice, Tests, tests, nests_choices, replicates_choice, EachChoice, under_choice_index, AllChoices, no_choice, one_choice, Variant, takes, AllVariants, no_variant, one_variant, OneOption, is_one_of, is_none_of, AllOptions, no_option, one_option}
 use Rattle.occ_check_meaning.proofs.Steps.{bind_some, some_is}
 use Rattle.occ_check_laws.proofs.Counting.{kept}
 use Rattle.occ_check_laws.proofs.Scopes.{each_within, each_behind}
 use Rattle.occ_check_laws.proofs.Growth.{growing, processes_grown}
 use Rattle.occ_check_laws.proofs.Covering.{Covers, since, covers_before}
 use Rattle.occ_check_laws.proofs.Stepping.{bound_steps, indexed_steps, opening_steps, one_declared_steps, declared_steps}
-use Rattle.occ_check_laws.proofs.TreeSteps.{unfolding_steps, performs_steps, in_turn_steps, beside_steps, copies_steps, arm_steps, offers_steps, arms_steps, choice_steps, tests_steps, choices_steps, variant_steps, variants_steps, option_steps, options_steps}
+use Rattle.occ_check_laws.proofs.TreeSteps.{unfolding_steps, performs_steps, in_turn_steps, beside_steps, copies_steps, arm_steps, guards_steps, arms_steps, choice_steps, tests_steps, choices_steps, variant_steps, variants_steps, option_steps, options_steps}
 use Rattle.occ_check_laws.proofs.TypedNames.{Fits, bound_opens, indexed_opens}
 use Rattle.std.proofs.Common.{append_assoc}
 use Rattle.occ_term.specs.Terms.{Place}
@@ -142,8 +142,8 @@ process_begins xs n o m e h = begins xs n o m (ap (λ (y : Numbers). length y.ce
 pub opening_begins : (xs : List Span) (hs : List Declaration) (depth : ℕ) (n : Numbers) (deep : ℕ) (o m : Numbers) → opening hs depth n ≡ Some (deep, o) → Takes o xs m → Takes n xs m
 opening_begins xs [] depth n deep o m e h = subst (λ (y : ℕ × Numbers). Takes y.1 xs m → Takes n xs m) (some_is _ (deep, o) e) (λ k. k) h
 opening_begins xs (x ∷ hs) depth n deep o m e h =
-    let r = bind_some (room depth (Sizes.node no_size) n) _ (deep, o) e in
-    subst (λ (y : ℕ × Numbers). Takes y.1 xs m → Takes n xs m) (some_is _ (deep, o) r.2) (room_begins xs depth (Sizes.node no_size) n r.0 m r.1) h
+    let r = bind_some (room depth (Sizes.with_node no_size) n) _ (deep, o) e in
+    subst (λ (y : ℕ × Numbers). Takes y.1 xs m → Takes n xs m) (some_is _ (deep, o) r.2) (room_begins xs depth (Sizes.with_node no_size) n r.0 m r.1) h
 
 nothing : (t : Term) (depth : ℕ) (n m : Numbers) → cells_in t ≡ [] → room depth (size_of t) n ≡ Some m → Takes n (cells_in t) m
 nothing t depth n m e r = the_same [] (cells_in t) n m e (ap (λ (y : Numbers). length y.cells) (sym (kept _ _ m r).1))
@@ -195,24 +195,24 @@ module _ (d : Declared) where
         (unfolding_takes u (later d (within b.names outer) b.numbers m g
         (each_within (Fits d (length b.numbers.cells)) b.names outer k.0 (later d outer n b.numbers s (each_behind (Fits d (length n.cells)) sc f (proc (procedure declared fs body)) outer h e)))) c)))
     performs_takes (takes_variants {sc = sc} {depth = depth} {n = n} {m = m} {l = l} {c = x} {xs = xs} e w r u) h c =
-        room_begins (cells_in_variants xs) depth (Sizes.node (size_of_place x.1)) n m l r (variants_take u (roomy d sc depth (Sizes.node (size_of_place x.1)) n m r h) c)
-    performs_takes (sequences {sc = sc} {depth = depth} {n = n} {m = m} {l = l} {ts = ts} r u) h c = room_begins (cells_in_terms ts) depth (Sizes.node no_size) n m l r (in_turn_takes u (roomy d sc depth (Sizes.node no_size) n m r h) c)
+        room_begins (cells_in_variants xs) depth (Sizes.with_node (size_of_place x.1)) n m l r (variants_take u (roomy d sc depth (Sizes.with_node (size_of_place x.1)) n m r h) c)
+    performs_takes (sequences {sc = sc} {depth = depth} {n = n} {m = m} {l = l} {ts = ts} r u) h c = room_begins (cells_in_terms ts) depth (Sizes.with_node no_size) n m l r (in_turn_takes u (roomy d sc depth (Sizes.with_node no_size) n m r h) c)
     performs_takes (replicates_sequence {sc = sc} {line = line} {depth = depth} {n = n} {m = m} {l = l} {r = r} {i = i} {t = t} o x u) h c =
-        let q = roomy d sc depth (Sizes.node no_size) n m o h in
+        let q = roomy d sc depth (Sizes.with_node no_size) n m o h in
         let b = covers_before d i.numbers l (unfolding_steps Grown growing processes_grown u) c in
         let k = indexed_opens d (names_of sc) (length m.cells) (named d sc m q) line (depth + 1) r m i x (since d m i.numbers b) in
-        room_begins (index_cell i.replicator ∷ cells_in t) depth (Sizes.node no_size) n m l o
+        room_begins (index_cell i.replicator ∷ cells_in t) depth (Sizes.with_node no_size) n m l o
         (both (index_cell i.replicator ∷ []) (cells_in t) m i.numbers l (indexed_ordered (names_of sc) line (depth + 1) r m i x)
         (unfolding_takes u (within_index d sc m i q (indexed_steps Grown growing (names_of sc) line (depth + 1) r m i x) k.1) c))
-    performs_takes (runs_beside {sc = sc} {depth = depth} {n = n} {m = m} {l = l} {bs = bs} r u) h c = room_begins (cells_in_branches bs) depth (Sizes.node no_size) n m l r (beside_takes u (roomy d sc depth (Sizes.node no_size) n m r h) c)
+    performs_takes (runs_beside {sc = sc} {depth = depth} {n = n} {m = m} {l = l} {bs = bs} r u) h c = room_begins (cells_in_branches bs) depth (Sizes.with_node no_size) n m l r (beside_takes u (roomy d sc depth (Sizes.with_node no_size) n m r h) c)
     performs_takes (replicates_branch {sc = sc} {line = line} {depth = depth} {n = n} {m = m} {l = l} {r = r} {c = x} {bs = bs} e o u) h c =
-        room_begins (cells_in_branches bs) depth (Sizes.node no_size) n m l o (copies_take u (copies_typed d (names_of sc) (have d sc n h) line r x e) (roomy d sc depth (Sizes.node no_size) n m o h) c)
-    performs_takes (alternates {sc = sc} {depth = depth} {n = n} {m = m} {l = l} {arms = arms} r u) h c = room_begins (cells_in_arms arms) depth (Sizes.node no_size) n m l r (arms_take u (roomy d sc depth (Sizes.node no_size) n m r h) c)
-    performs_takes (replicates_alternation {sc = sc} {depth = depth} {n = n} {m = m} {l = l} {arms = arms} r u) h c = room_begins (cells_in_arms arms) depth (Sizes.node no_size) n m l r (each_arm_takes u (roomy d sc depth (Sizes.node no_size) n m r h) c)
-    performs_takes (conditions {sc = sc} {depth = depth} {n = n} {m = m} {l = l} {choices = choices} r u) h c = room_begins (cells_in_choices choices) depth (Sizes.node no_size) n m l r (choices_take u (roomy d sc depth (Sizes.node no_size) n m r h) c)
-    performs_takes (replicates_conditional {sc = sc} {depth = depth} {n = n} {m = m} {l = l} {choices = choices} r u) h c = room_begins (cells_in_choices choices) depth (Sizes.node no_size) n m l r (each_choice_takes u (roomy d sc depth (Sizes.node no_size) n m r h) c)
-    performs_takes (selects {sc = sc} {depth = depth} {n = n} {m = m} {l = l} {s = s} {os = os} v r u) h c = room_begins (cells_in_options os) depth (Sizes.node (size_of_expression s.1)) n m l r (options_take u (roomy d sc depth (Sizes.node (size_of_expression s.1)) n m r h) c)
-    performs_takes (loops {sc = sc} {depth = depth} {n = n} {m = m} {l = l} {c = x} {t = t} v r u) h c = room_begins (cells_in t) depth (Sizes.node (size_of_expression x)) n m l r (unfolding_takes u (roomy d sc depth (Sizes.node (size_of_expression x)) n m r h) c)
+        room_begins (cells_in_branches bs) depth (Sizes.with_node no_size) n m l o (copies_take u (copies_typed d (names_of sc) (have d sc n h) line r x e) (roomy d sc depth (Sizes.with_node no_size) n m o h) c)
+    performs_takes (alternates {sc = sc} {depth = depth} {n = n} {m = m} {l = l} {arms = arms} r u) h c = room_begins (cells_in_arms arms) depth (Sizes.with_node no_size) n m l r (arms_take u (roomy d sc depth (Sizes.with_node no_size) n m r h) c)
+    performs_takes (replicates_alternation {sc = sc} {depth = depth} {n = n} {m = m} {l = l} {arms = arms} r u) h c = room_begins (cells_in_arms arms) depth (Sizes.with_node no_size) n m l r (each_arm_takes u (roomy d sc depth (Sizes.with_node no_size) n m r h) c)
+    performs_takes (conditions {sc = sc} {depth = depth} {n = n} {m = m} {l = l} {choices = choices} r u) h c = room_begins (cells_in_choices choices) depth (Sizes.with_node no_size) n m l r (choices_take u (roomy d sc depth (Sizes.with_node no_size) n m r h) c)
+    performs_takes (replicates_conditional {sc = sc} {depth = depth} {n = n} {m = m} {l = l} {choices = choices} r u) h c = room_begins (cells_in_choices choices) depth (Sizes.with_node no_size) n m l r (each_choice_takes u (roomy d sc depth (Sizes.with_node no_size) n m r h) c)
+    performs_takes (selects {sc = sc} {depth = depth} {n = n} {m = m} {l = l} {s = s} {os = os} v r u) h c = room_begins (cells_in_options os) depth (Sizes.with_node (size_of_expression s.1)) n m l r (options_take u (roomy d sc depth (Sizes.with_node (size_of_expression s.1)) n m r h) c)
+    performs_takes (loops {sc = sc} {depth = depth} {n = n} {m = m} {l = l} {c = x} {t = t} v r u) h c = room_begins (cells_in t) depth (Sizes.with_node (size_of_expression x)) n m l r (unfolding_takes u (roomy d sc depth (Sizes.with_node (size_of_expression x)) n m r h) c)
 
     in_turn_takes : {sc : Procedures} {depth : ℕ} {n m : Numbers} {ps : Nodes process} {ts : Terms} → InTurn sc depth n ps ts m → In d sc n → Covers d m → Takes n (cells_in_terms ts) m
     in_turn_takes no_process h c = refl
@@ -237,24 +237,24 @@ module _ (d : Declared) where
 
     arm_takes : {sc : Procedures} {depth : ℕ} {n m : Numbers} {a : Node arm} {arms : Arms} → Arm sc depth n a arms m → In d sc n → Covers d m → Takes n (cells_in_arms arms) m
     arm_takes (behind_arm {n = n} {l = l} {d = e} {arms = arms} ds v u) h c =
-        let s = covers_before d e.numbers l (offers_steps Grown growing processes_grown u) c in
+        let s = covers_before d e.numbers l (guards_steps Grown growing processes_grown u) c in
         let k = all_have d ds h s in
         the_same (cells_of_all e.heads ++ cells_in_arms arms) (cells_in_arms (arms_behind e.heads arms)) n l (arms_behind_cells e.heads arms)
-        (both (cells_of_all e.heads) (cells_in_arms arms) n e.numbers l (all_take ds h s) (offers_take u k.0 c))
+        (both (cells_of_all e.heads) (cells_in_arms arms) n e.numbers l (all_take ds h s) (guards_take u k.0 c))
 
-    offers_take : {sc : Procedures} {line depth : ℕ} {n m : Numbers} {h : ArmHead} {b : Body (under arm h)} {arms : Arms} → Offers sc line depth n h b arms m → In d sc n → Covers d m → Takes n (cells_in_arms arms) m
-    offers_take (awaits {sc = sc} {depth = depth} {n = n} {m = m} {l = l} {e = e} {c = x} {t = t} a g r u) h c =
+    guards_take : {sc : Procedures} {line depth : ℕ} {n m : Numbers} {h : ArmHead} {b : Body (under arm h)} {arms : Arms} → Guards sc line depth n h b arms m → In d sc n → Covers d m → Takes n (cells_in_arms arms) m
+    guards_take (awaits {sc = sc} {depth = depth} {n = n} {m = m} {l = l} {e = e} {c = x} {t = t} a g r u) h c =
         the_same (cells_in t) (cells_in_reception (as_reception x.1 t) ++ []) n l (with_nil (cells_in_reception (as_reception x.1 t)) ∙ reception_cells x.1 t)
-        (room_begins (cells_in t) depth (Sizes.node (Sizes.beside (size_of_test e) (Sizes.beside (size_of_place x.0) (size_of_list x.1)))) n m l r
-        (unfolding_takes u (roomy d sc depth (Sizes.node (Sizes.beside (size_of_test e) (Sizes.beside (size_of_place x.0) (size_of_list x.1)))) n m r h) c))
-    offers_take (is_ready {sc = sc} {depth = depth} {n = n} {m = m} {l = l} {e = e} {t = t} a r u) h c =
-        the_same (cells_in t) (cells_in t ++ []) n l (with_nil (cells_in t)) (room_begins (cells_in t) depth (Sizes.node (size_of_expression e)) n m l r (unfolding_takes u (roomy d sc depth (Sizes.node (size_of_expression e)) n m r h) c))
-    offers_take (awaits_variants {sc = sc} {depth = depth} {n = n} {m = m} {l = l} {e = e} {c = x} {xs = xs} a g w r u) h c =
+        (room_begins (cells_in t) depth (Sizes.with_node (Sizes.together (size_of_test e) (Sizes.together (size_of_place x.0) (size_of_list x.1)))) n m l r
+        (unfolding_takes u (roomy d sc depth (Sizes.with_node (Sizes.together (size_of_test e) (Sizes.together (size_of_place x.0) (size_of_list x.1)))) n m r h) c))
+    guards_take (is_ready {sc = sc} {depth = depth} {n = n} {m = m} {l = l} {e = e} {t = t} a r u) h c =
+        the_same (cells_in t) (cells_in t ++ []) n l (with_nil (cells_in t)) (room_begins (cells_in t) depth (Sizes.with_node (size_of_expression e)) n m l r (unfolding_takes u (roomy d sc depth (Sizes.with_node (size_of_expression e)) n m r h) c))
+    guards_take (awaits_variants {sc = sc} {depth = depth} {n = n} {m = m} {l = l} {e = e} {c = x} {xs = xs} a g w r u) h c =
         the_same (cells_in_variants xs) (cells_in_variants xs ++ []) n l (with_nil (cells_in_variants xs))
-        (room_begins (cells_in_variants xs) depth (Sizes.node (Sizes.beside (size_of_test e) (size_of_place x.1))) n m l r
-        (variants_take u (roomy d sc depth (Sizes.node (Sizes.beside (size_of_test e) (size_of_place x.1))) n m r h) c))
-    offers_take (nests_arms v u) h c = arms_take u h c
-    offers_take (replicates_arm v u) h c = each_arm_takes u h c
+        (room_begins (cells_in_variants xs) depth (Sizes.with_node (Sizes.together (size_of_test e) (size_of_place x.1))) n m l r
+        (variants_take u (roomy d sc depth (Sizes.with_node (Sizes.together (size_of_test e) (size_of_place x.1))) n m r h) c))
+    guards_take (nests_arms v u) h c = arms_take u h c
+    guards_take (replicates_arm v u) h c = each_arm_takes u h c
 
     pub each_arm_takes : {sc : Procedures} {line depth : ℕ} {n m : Numbers} {r : L.Replicator} {a : Node arm} {arms : Arms} → EachArm sc line depth n r a arms m → In d sc n → Covers d m → Takes n (cells_in_arms arms) m
     each_arm_takes (under_index {sc = sc} {line = line} {depth = depth} {n = n} {l = l} {r = r} {i = i} {arms = arms} x u) h c =
@@ -278,7 +278,7 @@ module _ (d : Declared) where
 
     tests_take : {sc : Procedures} {line depth : ℕ} {n m : Numbers} {h : ChoiceHead} {b : Body (under choice h)} {choices : Choices} → Tests sc line depth n h b choices m → In d sc n → Covers d m → Takes n (cells_in_choices choices) m
     tests_take (tests {sc = sc} {depth = depth} {n = n} {m = m} {l = l} {e = e} {t = t} a r u) h c =
-        the_same (cells_in t) (cells_in t ++ []) n l (with_nil (cells_in t)) (room_begins (cells_in t) depth (Sizes.node (size_of_expression e)) n m l r (unfolding_takes u (roomy d sc depth (Sizes.node (size_of_expression e)) n m r h) c))
+        the_same (cells_in t) (cells_in t ++ []) n l (with_nil (cells_in t)) (room_begins (cells_in t) depth (Sizes.with_node (size_of_expression e)) n m l r (unfolding_takes u (roomy d sc depth (Sizes.with_node (size_of_expression e)) n m r h) c))
     tests_take (nests_choices v u) h c = choices_take u h c
     tests_take (replicates_choice v u) h c = each_choice_takes u h c
 
@@ -300,9 +300,9 @@ module _ (d : Declared) where
         let b = covers_before d m l (unfolding_steps Grown growing processes_grown u) c in
         let a = growing.by_room (depth + 1) (size_of_targets targets) e.numbers m q in
         let s = covers_before d e.numbers m a b in
-        let j = roomy d sc depth (Sizes.node no_size) n o r h in
+        let j = roomy d sc depth (Sizes.with_node no_size) n o r h in
         let k = all_have d ds j s in
-        room_begins (cells_of_all e.heads ++ (cells_in t ++ [])) depth (Sizes.node no_size) n o l r
+        room_begins (cells_of_all e.heads ++ (cells_in t ++ [])) depth (Sizes.with_node no_size) n o l r
         (both (cells_of_all e.heads) (cells_in t ++ []) o e.numbers l (all_take ds j s)
         (the_same (cells_in t) (cells_in t ++ []) e.numbers l (with_nil (cells_in t)) (room_begins (cells_in t) (depth + 1) (size_of_targets targets) e.numbers m l q (unfolding_takes u (later d e.scope e.numbers m a k.0) c))))
 
@@ -317,16 +317,16 @@ module _ (d : Declared) where
         let b = covers_before d m l (unfolding_steps Grown growing processes_grown u) c in
         let a = growing.by_room (depth + 1) (size_of_constants vs) e.numbers m q in
         let s = covers_before d e.numbers m a b in
-        let j = roomy d sc depth (Sizes.node no_size) n o r h in
+        let j = roomy d sc depth (Sizes.with_node no_size) n o r h in
         let k = all_have d ds j s in
-        room_begins (cells_of_all e.heads ++ (cells_in t ++ [])) depth (Sizes.node no_size) n o l r
+        room_begins (cells_of_all e.heads ++ (cells_in t ++ [])) depth (Sizes.with_node no_size) n o l r
         (both (cells_of_all e.heads) (cells_in t ++ []) o e.numbers l (all_take ds j s)
         (the_same (cells_in t) (cells_in t ++ []) e.numbers l (with_nil (cells_in t)) (room_begins (cells_in t) (depth + 1) (size_of_constants vs) e.numbers m l q (unfolding_takes u (later d e.scope e.numbers m a k.0) c))))
     option_takes (is_none_of {sc = sc} {depth = depth} {n = n} {o = o} {l = l} {d = e} {t = t} r ds f u) h c =
         let s = covers_before d e.numbers l (unfolding_steps Grown growing processes_grown u) c in
-        let j = roomy d sc depth (Sizes.node no_size) n o r h in
+        let j = roomy d sc depth (Sizes.with_node no_size) n o r h in
         let k = all_have d ds j s in
-        room_begins (cells_of_all e.heads ++ (cells_in t ++ [])) depth (Sizes.node no_size) n o l r
+        room_begins (cells_of_all e.heads ++ (cells_in t ++ [])) depth (Sizes.with_node no_size) n o l r
         (both (cells_of_all e.heads) (cells_in t ++ []) o e.numbers l (all_take ds j s) (the_same (cells_in t) (cells_in t ++ []) e.numbers l (with_nil (cells_in t)) (unfolding_takes u k.0 c)))
 
     options_take : {sc : Procedures} {depth : ℕ} {n m : Numbers} {type : Primitive} {before : Chosen} {os : Nodes option} {options : Options} → AllOptions sc depth n type before os options m → In d sc n → Covers d m → Takes n (cells_in_options options) m

@@ -12,19 +12,19 @@ use Rattle.occ_term.specs.Uses as Uses
 use Rattle.occ_term.specs.Uses.{union, only, empty_set, numbers_in, uses_of_declaration}
 use Rattle.occ_term.specs.Storing.{index_of}
 use Rattle.occ_term.specs.TermTyping.{Declared}
-use Rattle.occ_term.specs.Again.{sets_of, Scoped}
+use Rattle.occ_term.specs.TakenArms.{sets_of, Scoped}
 use Rattle.occ_check_meaning.specs.Scope.{names_of, within}
 use Rattle.occ_check_meaning.specs.Numbers.{Numbers}
 use Rattle.occ_check_meaning.specs.Performing.{Entered}
 use Rattle.occ_check_meaning.specs.Declarations.{Indexed, indexed}
-use Rattle.occ_check_meaning.specs.Unfolding.{Procedure, Procedures, Declares, DeclareAll, no_declaration, one_declaration, Arm, behind_arm, Offers, awaits, is_ready, awaits_variants, nests_arms, replicates_arm, EachArm, under_index, AllArms, no_arm, one_arm}
+use Rattle.occ_check_meaning.specs.Unfolding.{Procedure, Procedures, Declares, DeclareAll, no_declaration, one_declaration, Arm, behind_arm, Guards, awaits, is_ready, awaits_variants, nests_arms, replicates_arm, EachArm, under_index, AllArms, no_arm, one_arm}
 use Rattle.occ_check_laws.specs.Growth.{Grown}
 use Rattle.occ_check_laws.specs.CellOrder.{cells_of, index_cell, cells_in, cells_in_arms, cells_in_reception, InOrder}
 use Rattle.occ_check_laws.specs.Scoping.{IsScoped}
 use Rattle.occ_check_laws.proofs.Growth.{growing, processes_grown}
 use Rattle.occ_check_laws.proofs.Covering.{Covers, since, covers_before, fewer_before, in_span}
 use Rattle.occ_check_laws.proofs.Stepping.{indexed_steps, one_declared_steps, declared_steps}
-use Rattle.occ_check_laws.proofs.TreeSteps.{offers_steps, each_arm_steps, arm_steps, arms_steps}
+use Rattle.occ_check_laws.proofs.TreeSteps.{guards_steps, each_arm_steps, arm_steps, arms_steps}
 use Rattle.occ_check_laws.proofs.TypedLines.{All}
 use Rattle.occ_check_laws.proofs.TypedNames.{indexed_opens}
 use Rattle.occ_check_laws.proofs.TypedTree.{In, named, have, later, one_has, all_have, within_index}
@@ -118,17 +118,17 @@ module _ (d : Declared) (all : Uses.Numbers) (first : ℕ) (after : (c : ℕ) �
   mutual
     arm_scoped : {sc : Procedures} {depth : ℕ} {n m : Numbers} {a : Node arm} {arms : Arms} (round : Uses.Numbers) → Arm sc depth n a arms m → In d sc n → Covers d m → Round round sc n → Scoped all round arms
     arm_scoped round (behind_arm {n = n} {l = l} {d = e} {arms = arms} ds v u) h c x =
-        let s = covers_before d e.numbers l (offers_steps Grown growing processes_grown u) c in
+        let s = covers_before d e.numbers l (guards_steps Grown growing processes_grown u) c in
         let k = all_have d ds h s in
         let o = all_round round ds h s x in
-        behind_scoped all e.heads round arms o.0 (offers_scoped (set_by round e.heads) u k.0 c o.1)
+        behind_scoped all e.heads round arms o.0 (guards_scoped (set_by round e.heads) u k.0 c o.1)
 
-    offers_scoped : {sc : Procedures} {line depth : ℕ} {n m : Numbers} {h : ArmHead} {b : Body (under arm h)} {arms : Arms} (round : Uses.Numbers) → Offers sc line depth n h b arms m → In d sc n → Covers d m → Round round sc n → Scoped all round arms
-    offers_scoped round (awaits a g r u) h c x = tt
-    offers_scoped round (is_ready a r u) h c x = tt
-    offers_scoped round (awaits_variants a g w r u) h c x = tt
-    offers_scoped round (nests_arms v u) h c x = arms_scoped round u h c x
-    offers_scoped round (replicates_arm v u) h c x = each_arm_scoped round u h c x
+    guards_scoped : {sc : Procedures} {line depth : ℕ} {n m : Numbers} {h : ArmHead} {b : Body (under arm h)} {arms : Arms} (round : Uses.Numbers) → Guards sc line depth n h b arms m → In d sc n → Covers d m → Round round sc n → Scoped all round arms
+    guards_scoped round (awaits a g r u) h c x = tt
+    guards_scoped round (is_ready a r u) h c x = tt
+    guards_scoped round (awaits_variants a g w r u) h c x = tt
+    guards_scoped round (nests_arms v u) h c x = arms_scoped round u h c x
+    guards_scoped round (replicates_arm v u) h c x = each_arm_scoped round u h c x
 
     each_arm_scoped : {sc : Procedures} {line depth : ℕ} {n m : Numbers} {r : L.Replicator} {a : Node arm} {arms : Arms} (round : Uses.Numbers) → EachArm sc line depth n r a arms m → In d sc n → Covers d m → Round round sc n → Scoped all round arms
     each_arm_scoped round (under_index {sc = sc} {line = line} {depth = depth} {n = n} {l = l} {r = r} {i = i} {arms = arms} x u) h c q =

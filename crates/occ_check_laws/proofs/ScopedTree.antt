@@ -20,7 +20,7 @@ use Rattle.occ_check_meaning.specs.Declarations.{index_of}
 use Rattle.occ_check_meaning.specs.Actions.{opening, headed, followed, as_term, Listed, plain_list, tagged_list, as_reception, size_of_list, arms_behind, choices_behind, arms_then, choices_then, variants_then, options_then, with_tags, selector, Chosen}
 use Rattle.occ_check_laws.specs.Growth.{Grown}
 use Rattle.occ_check_meaning.specs.Performing.{Entered}
-use Rattle.occ_check_meaning.specs.Unfolding.{Procedure, procedure, Procedures, DeclareAll, Unfolding, unfolds, Performs, skips, stops, assigns, inputs, outputs, calls, takes_variants, sequences, replicates_sequence, runs_beside, replicates_branch, alternates, replicates_alternation, conditions, replicates_conditional, selects, loops, InTurn, no_process, one_process, Beside, no_branch, one_branch, Copies, no_copy, one_copy, Arm, behind_arm, Offers, awaits, is_ready, awaits_variants, nests_arms, replicates_arm, EachArm, under_index, AllArms, no_arm, one_arm, Choice, behind_choice, Tests, tests, nests_choices, replicates_choice, EachChoice, under_choice_index, AllChoices, no_choice, one_choice, Variant, takes, AllVariants, no_variant, one_variant, OneOption, is_one_of, is_none_of, AllOptions, no_option, one_option}
+use Rattle.occ_check_meaning.specs.Unfolding.{Procedure, procedure, Procedures, DeclareAll, Unfolding, unfolds, Performs, skips, stops, assigns, inputs, outputs, calls, takes_variants, sequences, replicates_sequence, runs_beside, replicates_branch, alternates, replicates_alternation, conditions, replicates_conditional, selects, loops, InTurn, no_process, one_process, Beside, no_branch, one_branch, Copies, no_copy, one_copy, Arm, behind_arm, Guards, awaits, is_ready, awaits_variants, nests_arms, replicates_arm, EachArm, under_index, AllArms, no_arm, one_arm, Choice, behind_choice, Tests, tests, nests_choices, replicates_choice, EachChoice, under_choice_index, AllChoices, no_choice, one_choice, Variant, takes, AllVariants, no_variant, one_variant, OneOption, is_one_of, is_none_of, AllOptions, no_option, one_option}
 use Rattle.occ_check_meaning.proofs.Steps.{bind_some, some_is}
 use Rattle.occ_check_laws.proofs.Scopes.{each_within, each_behind}
 use Rattle.occ_check_laws.proofs.Growth.{growing, processes_grown}
@@ -36,7 +36,7 @@ use Rattle.occ_check_meaning.specs.Actions.{assigned}
 use Rattle.occ_check_laws.proofs.Copies.{copies_typed, first_typed, next_typed}
 use Rattle.occ_check_laws.proofs.TypedTree.{named, have, later, all_have, within_index}
 use Rattle.occ_term.specs.TermTyping.{ArmsHave}
-use Rattle.occ_term.proofs.AgainSame.{same_again}
+use Rattle.occ_term.proofs.TakenArms.{same_again}
 use Rattle.occ_check_meaning.specs.Numbers.{at_start}
 use Rattle.occ_check_meaning.specs.Actions.{as_term}
 use Rattle.occ_check_meaning.specs.Declarations.{Indexed, indexed}
@@ -155,25 +155,25 @@ module _ (d : Declared) (P : Arms → Type 0) (f : (arms : Arms) → IsScoped ar
         let i = h k (covers_before k n b.numbers s q) in
         let y = bound_opens k (names_of sc) (length n.cells) (named k sc n i) line (depth + 1) ws es n b (omega arith) a q in
         each_within (Fits k (length b.numbers.cells)) b.names outer y.0 (later k outer n b.numbers s (each_behind (Fits k (length n.cells)) sc g (proc (procedure declared fs body)) outer i e)))) c)
-    performs_each (takes_variants {sc = sc} {depth = depth} {n = n} {m = m} {c = x} e w r u) h c = variants_each u (all_roomy sc depth (Sizes.node (size_of_place x.1)) n m r h) c
-    performs_each (sequences {sc = sc} {depth = depth} {n = n} {m = m} r u) h c = in_turn_each u (all_roomy sc depth (Sizes.node no_size) n m r h) c
+    performs_each (takes_variants {sc = sc} {depth = depth} {n = n} {m = m} {c = x} e w r u) h c = variants_each u (all_roomy sc depth (Sizes.with_node (size_of_place x.1)) n m r h) c
+    performs_each (sequences {sc = sc} {depth = depth} {n = n} {m = m} r u) h c = in_turn_each u (all_roomy sc depth (Sizes.with_node no_size) n m r h) c
     performs_each (replicates_sequence {sc = sc} {line = line} {depth = depth} {n = n} {m = m} {r = r} {i = i} o x u) h c =
-        unfolding_each u (all_indexed sc line (depth + 1) r m i x (all_roomy sc depth (Sizes.node no_size) n m o h)) c
-    performs_each (runs_beside {sc = sc} {depth = depth} {n = n} {m = m} r u) h c = beside_each u (all_roomy sc depth (Sizes.node no_size) n m r h) c
+        unfolding_each u (all_indexed sc line (depth + 1) r m i x (all_roomy sc depth (Sizes.with_node no_size) n m o h)) c
+    performs_each (runs_beside {sc = sc} {depth = depth} {n = n} {m = m} r u) h c = beside_each u (all_roomy sc depth (Sizes.with_node no_size) n m r h) c
     performs_each (replicates_branch {sc = sc} {line = line} {depth = depth} {n = n} {m = m} {l = l} {r = r} {c = x} e o u) h c =
         let g = copies_steps Grown growing processes_grown u in
-        let b = covers_before d n m (growing.by_room depth (Sizes.node no_size) n m o) (covers_before d m l g c) in
-        copies_each u (copies_typed d (names_of sc) (have d sc n (h d b)) line r x e) (all_roomy sc depth (Sizes.node no_size) n m o h) c
+        let b = covers_before d n m (growing.by_room depth (Sizes.with_node no_size) n m o) (covers_before d m l g c) in
+        copies_each u (copies_typed d (names_of sc) (have d sc n (h d b)) line r x e) (all_roomy sc depth (Sizes.with_node no_size) n m o h) c
     performs_each (alternates {sc = sc} {depth = depth} {n = n} {m = m} {l = l} {arms = arms} r u) h c =
-        let q = all_roomy sc depth (Sizes.node no_size) n m r h in
+        let q = all_roomy sc depth (Sizes.with_node no_size) n m r h in
         (f arms (arms_are_scoped d u q c) (arms_have d u (q d (covers_before d m l (arms_steps Grown growing processes_grown u) c)) c), arms_each u q c)
     performs_each (replicates_alternation {sc = sc} {depth = depth} {n = n} {m = m} {l = l} {arms = arms} r u) h c =
-        let q = all_roomy sc depth (Sizes.node no_size) n m r h in
+        let q = all_roomy sc depth (Sizes.with_node no_size) n m r h in
         (f arms (one_arm_is_scoped d u q c) (each_arm_has d u (q d (covers_before d m l (each_arm_steps Grown growing processes_grown u) c)) c), each_arm_each u q c)
-    performs_each (conditions {sc = sc} {depth = depth} {n = n} {m = m} r u) h c = choices_each u (all_roomy sc depth (Sizes.node no_size) n m r h) c
-    performs_each (replicates_conditional {sc = sc} {depth = depth} {n = n} {m = m} r u) h c = each_choice_each u (all_roomy sc depth (Sizes.node no_size) n m r h) c
-    performs_each (selects {sc = sc} {depth = depth} {n = n} {m = m} {s = s} v r u) h c = options_each u (all_roomy sc depth (Sizes.node (size_of_expression s.1)) n m r h) c
-    performs_each (loops {sc = sc} {depth = depth} {n = n} {m = m} {c = x} v r u) h c = unfolding_each u (all_roomy sc depth (Sizes.node (size_of_expression x)) n m r h) c
+    performs_each (conditions {sc = sc} {depth = depth} {n = n} {m = m} r u) h c = choices_each u (all_roomy sc depth (Sizes.with_node no_size) n m r h) c
+    performs_each (replicates_conditional {sc = sc} {depth = depth} {n = n} {m = m} r u) h c = each_choice_each u (all_roomy sc depth (Sizes.with_node no_size) n m r h) c
+    performs_each (selects {sc = sc} {depth = depth} {n = n} {m = m} {s = s} v r u) h c = options_each u (all_roomy sc depth (Sizes.with_node (size_of_expression s.1)) n m r h) c
+    performs_each (loops {sc = sc} {depth = depth} {n = n} {m = m} {c = x} v r u) h c = unfolding_each u (all_roomy sc depth (Sizes.with_node (size_of_expression x)) n m r h) c
 
     in_turn_each : {sc : Procedures} {depth : ℕ} {n m : Numbers} {ps : Nodes process} {ts : Terms} → InTurn sc depth n ps ts m → AllIn sc n → Covers d m → EachAltOfTerms P ts
     in_turn_each no_process h c = tt
@@ -195,16 +195,16 @@ module _ (d : Declared) (P : Arms → Type 0) (f : (arms : Arms) → IsScoped ar
         )
 
     arm_each : {sc : Procedures} {depth : ℕ} {n m : Numbers} {a : Node arm} {arms : Arms} → Arm sc depth n a arms m → AllIn sc n → Covers d m → EachAltOfArms P arms
-    arm_each (behind_arm {d = e} {arms = arms} ds v u) h c = arms_behind_each P e.heads arms (offers_each u (all_declared ds h) c)
+    arm_each (behind_arm {d = e} {arms = arms} ds v u) h c = arms_behind_each P e.heads arms (guards_each u (all_declared ds h) c)
 
-    offers_each : {sc : Procedures} {line depth : ℕ} {n m : Numbers} {h : ArmHead} {b : Body (under arm h)} {arms : Arms} → Offers sc line depth n h b arms m → AllIn sc n → Covers d m → EachAltOfArms P arms
-    offers_each (awaits {sc = sc} {depth = depth} {n = n} {m = m} {e = e} {c = x} {t = t} a g r u) h c =
-        (reception_each P x.1 t (unfolding_each u (all_roomy sc depth (Sizes.node (Sizes.beside (size_of_test e) (Sizes.beside (size_of_place x.0) (size_of_list x.1)))) n m r h) c), tt)
-    offers_each (is_ready {sc = sc} {depth = depth} {n = n} {m = m} {e = e} a r u) h c = (unfolding_each u (all_roomy sc depth (Sizes.node (size_of_expression e)) n m r h) c, tt)
-    offers_each (awaits_variants {sc = sc} {depth = depth} {n = n} {m = m} {e = e} {c = x} a g w r u) h c =
-        (variants_each u (all_roomy sc depth (Sizes.node (Sizes.beside (size_of_test e) (size_of_place x.1))) n m r h) c, tt)
-    offers_each (nests_arms v u) h c = arms_each u h c
-    offers_each (replicates_arm v u) h c = each_arm_each u h c
+    guards_each : {sc : Procedures} {line depth : ℕ} {n m : Numbers} {h : ArmHead} {b : Body (under arm h)} {arms : Arms} → Guards sc line depth n h b arms m → AllIn sc n → Covers d m → EachAltOfArms P arms
+    guards_each (awaits {sc = sc} {depth = depth} {n = n} {m = m} {e = e} {c = x} {t = t} a g r u) h c =
+        (reception_each P x.1 t (unfolding_each u (all_roomy sc depth (Sizes.with_node (Sizes.together (size_of_test e) (Sizes.together (size_of_place x.0) (size_of_list x.1)))) n m r h) c), tt)
+    guards_each (is_ready {sc = sc} {depth = depth} {n = n} {m = m} {e = e} a r u) h c = (unfolding_each u (all_roomy sc depth (Sizes.with_node (size_of_expression e)) n m r h) c, tt)
+    guards_each (awaits_variants {sc = sc} {depth = depth} {n = n} {m = m} {e = e} {c = x} a g w r u) h c =
+        (variants_each u (all_roomy sc depth (Sizes.with_node (Sizes.together (size_of_test e) (size_of_place x.1))) n m r h) c, tt)
+    guards_each (nests_arms v u) h c = arms_each u h c
+    guards_each (replicates_arm v u) h c = each_arm_each u h c
 
     each_arm_each : {sc : Procedures} {line depth : ℕ} {n m : Numbers} {r : L.Replicator} {a : Node arm} {arms : Arms} → EachArm sc line depth n r a arms m → AllIn sc n → Covers d m → EachAltOfArms P arms
     each_arm_each (under_index {sc = sc} {line = line} {depth = depth} {n = n} {r = r} {i = i} x u) h c = (arm_each u (all_indexed sc line depth r n i x h) c, tt)
@@ -218,7 +218,7 @@ module _ (d : Declared) (P : Arms → Type 0) (f : (arms : Arms) → IsScoped ar
     choice_each (behind_choice {d = e} {choices = choices} ds v u) h c = choices_behind_each P e.heads choices (tests_each u (all_declared ds h) c)
 
     tests_each : {sc : Procedures} {line depth : ℕ} {n m : Numbers} {h : ChoiceHead} {b : Body (under choice h)} {choices : Choices} → Tests sc line depth n h b choices m → AllIn sc n → Covers d m → EachAltOfChoices P choices
-    tests_each (tests {sc = sc} {depth = depth} {n = n} {m = m} {e = e} a r u) h c = (unfolding_each u (all_roomy sc depth (Sizes.node (size_of_expression e)) n m r h) c, tt)
+    tests_each (tests {sc = sc} {depth = depth} {n = n} {m = m} {e = e} a r u) h c = (unfolding_each u (all_roomy sc depth (Sizes.with_node (size_of_expression e)) n m r h) c, tt)
     tests_each (nests_choices v u) h c = choices_each u h c
     tests_each (replicates_choice v u) h c = each_choice_each u h c
 
@@ -232,7 +232,7 @@ module _ (d : Declared) (P : Arms → Type 0) (f : (arms : Arms) → IsScoped ar
 
     variant_each : {sc : Procedures} {depth k : ℕ} {n m : Numbers} {p : Protocol} {v : Node variant} {xs : Variants} → Variant sc depth n p k v xs m → AllIn sc n → Covers d m → EachAltOfVariants P xs
     variant_each (takes {sc = sc} {depth = depth} {n = n} {o = o} {m = m} {d = e} {targets = targets} r ds g x q u) h c =
-        (unfolding_each u (all_roomy e.scope (depth + 1) (size_of_targets targets) e.numbers m q (all_declared ds (all_roomy sc depth (Sizes.node no_size) n o r h))) c, tt)
+        (unfolding_each u (all_roomy e.scope (depth + 1) (size_of_targets targets) e.numbers m q (all_declared ds (all_roomy sc depth (Sizes.with_node no_size) n o r h))) c, tt)
 
     variants_each : {sc : Procedures} {depth : ℕ} {n m : Numbers} {p : Protocol} {before : List ℕ} {vs : Nodes variant} {xs : Variants} → AllVariants sc depth n p before vs xs m → AllIn sc n → Covers d m → EachAltOfVariants P xs
     variants_each no_variant h c = tt
@@ -241,8 +241,8 @@ module _ (d : Declared) (P : Arms → Type 0) (f : (arms : Arms) → IsScoped ar
 
     option_each : {sc : Procedures} {depth : ℕ} {n m : Numbers} {type : Primitive} {before q : Chosen} {o : Node option} {options : Options} → OneOption sc depth n type before o options q m → AllIn sc n → Covers d m → EachAltOfOptions P options
     option_each (is_one_of {sc = sc} {depth = depth} {n = n} {o = o} {m = m} {d = e} {vs = vs} r ds g x q u) h c =
-        (unfolding_each u (all_roomy e.scope (depth + 1) (size_of_constants vs) e.numbers m q (all_declared ds (all_roomy sc depth (Sizes.node no_size) n o r h))) c, tt)
-    option_each (is_none_of {sc = sc} {depth = depth} {n = n} {o = o} r ds x u) h c = (unfolding_each u (all_declared ds (all_roomy sc depth (Sizes.node no_size) n o r h)) c, tt)
+        (unfolding_each u (all_roomy e.scope (depth + 1) (size_of_constants vs) e.numbers m q (all_declared ds (all_roomy sc depth (Sizes.with_node no_size) n o r h))) c, tt)
+    option_each (is_none_of {sc = sc} {depth = depth} {n = n} {o = o} r ds x u) h c = (unfolding_each u (all_declared ds (all_roomy sc depth (Sizes.with_node no_size) n o r h)) c, tt)
 
     options_each : {sc : Procedures} {depth : ℕ} {n m : Numbers} {type : Primitive} {before : Chosen} {os : Nodes option} {options : Options} → AllOptions sc depth n type before os options m → AllIn sc n → Covers d m → EachAltOfOptions P options
     options_each no_option h c = tt

@@ -12,7 +12,7 @@ use Rattle.occ_term.specs.Messages.{product}
 use Rattle.occ_term.specs.Terms as T
 use Rattle.occ_term.specs.Terms.{Term, Terms, Branches, Arms, Choices, Variants, Options, Array, Cells, Text, Item as TermItem, OfOne, OfMany, Clearing, Naming, replicator, Declaration, Place}
 use Rattle.occ_term.specs.Sizes as Sizes
-use Rattle.occ_term.specs.Sizes.{Size, no_size, beside, size_of, size_of_terms, size_of_branches, size_of_arms, size_of_choices, size_of_variants, size_of_options, size_of_expression, size_of_place, size_of_targets, size_of_constants, size_of_declaration, size_of_declarations, size_of_replicator}
+use Rattle.occ_term.specs.Sizes.{Size, no_size, together, size_of, size_of_terms, size_of_branches, size_of_arms, size_of_choices, size_of_variants, size_of_options, size_of_expression, size_of_place, size_of_targets, size_of_constants, size_of_declaration, size_of_declarations, size_of_replicator}
 use Rattle.occ_check_meaning.specs.Scope.{keep, once, Name, Names, names_of, Carried}
 use Rattle.occ_check_meaning.specs.Numbers.{Numbers, more_cells, more_channels, room}
 use Rattle.occ_check_meaning.specs.Constants.{constant}
@@ -169,8 +169,8 @@ module _ (R : Numbers → Numbers → Type 0) (s : Stepping R) where
   pub opening_steps : (hs : List Declaration) (depth : ℕ) (n : Numbers) (deep : ℕ) (m : Numbers) → opening hs depth n ≡ Some (deep, m) → R n m
   opening_steps [] depth n deep m e = subst (λ (y : ℕ × Numbers). R n y.1) (some_is _ (deep, m) e) (s.same n)
   opening_steps (h ∷ hs) depth n deep m e =
-      let r = bind_some (room depth (Sizes.node no_size) n) _ (deep, m) e in
-      subst (λ (y : ℕ × Numbers). R n y.1) (some_is _ (deep, m) r.2) (s.by_room depth (Sizes.node no_size) n r.0 r.1)
+      let r = bind_some (room depth (Sizes.with_node no_size) n) _ (deep, m) e in
+      subst (λ (y : ℕ × Numbers). R n y.1) (some_is _ (deep, m) r.2) (s.by_room depth (Sizes.with_node no_size) n r.0 r.1)
 
   pub item_steps : {sc : Procedures} {depth : ℕ} {n : Numbers} {i : Item} {d : Entered Procedure} → DeclaresItem sc depth n i d → R n d.numbers
   item_steps (declares_value {sc = sc} {depth = depth} {line = line} {n = n} {type = type} {x = x} {e = a} {o = o} e) = value_steps (names_of sc) line depth type x a n o e

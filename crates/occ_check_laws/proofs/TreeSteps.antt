@@ -14,7 +14,7 @@ use Rattle.occ_check_meaning.specs.Scope.{names_of}
 use Rattle.occ_check_meaning.specs.Numbers.{Numbers, at_start, more_processes}
 use Rattle.occ_check_meaning.specs.Actions.{as_input, size_of_list, Chosen}
 use Rattle.occ_check_meaning.specs.ProgramUnfolding.{ProgramUnfolding, program}
-use Rattle.occ_check_meaning.specs.Unfolding.{Procedures, Unfolding, unfolds, Performs, skips, stops, assigns, inputs, outputs, calls, takes_variants, sequences, replicates_sequence, runs_beside, replicates_branch, alternates, replicates_alternation, conditions, replicates_conditional, selects, loops, InTurn, no_process, one_process, Beside, no_branch, one_branch, Copies, no_copy, one_copy, Arm, behind_arm, Offers, awaits, is_ready, awaits_variants, nests_arms, replicates_arm, EachArm, under_index, AllArms, no_arm, one_arm, Choice, behind_choice, Tests, tests, nests_choices, replicates_choice, EachChoice, under_choice_index, AllChoices, no_choice, one_choice, Variant, takes, AllVariants, no_variant, one_variant, OneOption, is_one_of, is_none_of, AllOptions, no_option, one_option}
+use Rattle.occ_check_meaning.specs.Unfolding.{Procedures, Unfolding, unfolds, Performs, skips, stops, assigns, inputs, outputs, calls, takes_variants, sequences, replicates_sequence, runs_beside, replicates_branch, alternates, replicates_alternation, conditions, replicates_conditional, selects, loops, InTurn, no_process, one_process, Beside, no_branch, one_branch, Copies, no_copy, one_copy, Arm, behind_arm, Guards, awaits, is_ready, awaits_variants, nests_arms, replicates_arm, EachArm, under_index, AllArms, no_arm, one_arm, Choice, behind_choice, Tests, tests, nests_choices, replicates_choice, EachChoice, under_choice_index, AllChoices, no_choice, one_choice, Variant, takes, AllVariants, no_variant, one_variant, OneOption, is_one_of, is_none_of, AllOptions, no_option, one_option}
 use Rattle.occ_check_laws.proofs.Stepping.{Stepping, bound_steps, indexed_steps, opening_steps, declared_steps, items_steps}
 
 module _ (R : Numbers → Numbers → Type 0) (s : Stepping R) (numbered : (n m : Numbers) → more_processes n ≡ Some m → R n m) where
@@ -31,18 +31,18 @@ module _ (R : Numbers → Numbers → Type 0) (s : Stepping R) (numbered : (n m 
     performs_steps (outputs {depth = depth} {n = n} {m = m} {t = t} a r) = s.by_room depth (size_of t) n m r
     performs_steps (calls {sc = sc} {line = line} {depth = depth} {deep = deep} {n = n} {m = m} {l = l} {es = es} {ws = ws} {b = b} f w a o u) =
         s.chained n b.numbers l (bound_steps R s (names_of sc) line (depth + 1) ws es n b a) (s.chained b.numbers m l (opening_steps R s b.heads depth b.numbers deep m o) (unfolding_steps u))
-    performs_steps (takes_variants {depth = depth} {n = n} {m = m} {l = l} {c = c} e p r u) = s.chained n m l (s.by_room depth (Sizes.node (size_of_place c.1)) n m r) (variants_steps u)
-    performs_steps (sequences {depth = depth} {n = n} {m = m} {l = l} r u) = s.chained n m l (s.by_room depth (Sizes.node no_size) n m r) (in_turn_steps u)
+    performs_steps (takes_variants {depth = depth} {n = n} {m = m} {l = l} {c = c} e p r u) = s.chained n m l (s.by_room depth (Sizes.with_node (size_of_place c.1)) n m r) (variants_steps u)
+    performs_steps (sequences {depth = depth} {n = n} {m = m} {l = l} r u) = s.chained n m l (s.by_room depth (Sizes.with_node no_size) n m r) (in_turn_steps u)
     performs_steps (replicates_sequence {sc = sc} {line = line} {depth = depth} {n = n} {m = m} {l = l} {r = r} {i = i} o x u) =
-        s.chained n m l (s.by_room depth (Sizes.node no_size) n m o) (s.chained m i.numbers l (indexed_steps R s (names_of sc) line (depth + 1) r m i x) (unfolding_steps u))
-    performs_steps (runs_beside {depth = depth} {n = n} {m = m} {l = l} r u) = s.chained n m l (s.by_room depth (Sizes.node no_size) n m r) (beside_steps u)
-    performs_steps (replicates_branch {depth = depth} {n = n} {m = m} {l = l} c r u) = s.chained n m l (s.by_room depth (Sizes.node no_size) n m r) (copies_steps u)
-    performs_steps (alternates {depth = depth} {n = n} {m = m} {l = l} r u) = s.chained n m l (s.by_room depth (Sizes.node no_size) n m r) (arms_steps u)
-    performs_steps (replicates_alternation {depth = depth} {n = n} {m = m} {l = l} r u) = s.chained n m l (s.by_room depth (Sizes.node no_size) n m r) (each_arm_steps u)
-    performs_steps (conditions {depth = depth} {n = n} {m = m} {l = l} r u) = s.chained n m l (s.by_room depth (Sizes.node no_size) n m r) (choices_steps u)
-    performs_steps (replicates_conditional {depth = depth} {n = n} {m = m} {l = l} r u) = s.chained n m l (s.by_room depth (Sizes.node no_size) n m r) (each_choice_steps u)
-    performs_steps (selects {depth = depth} {n = n} {m = m} {l = l} {s = e} v r u) = s.chained n m l (s.by_room depth (Sizes.node (size_of_expression e.1)) n m r) (options_steps u)
-    performs_steps (loops {depth = depth} {n = n} {m = m} {l = l} {c = c} v r u) = s.chained n m l (s.by_room depth (Sizes.node (size_of_expression c)) n m r) (unfolding_steps u)
+        s.chained n m l (s.by_room depth (Sizes.with_node no_size) n m o) (s.chained m i.numbers l (indexed_steps R s (names_of sc) line (depth + 1) r m i x) (unfolding_steps u))
+    performs_steps (runs_beside {depth = depth} {n = n} {m = m} {l = l} r u) = s.chained n m l (s.by_room depth (Sizes.with_node no_size) n m r) (beside_steps u)
+    performs_steps (replicates_branch {depth = depth} {n = n} {m = m} {l = l} c r u) = s.chained n m l (s.by_room depth (Sizes.with_node no_size) n m r) (copies_steps u)
+    performs_steps (alternates {depth = depth} {n = n} {m = m} {l = l} r u) = s.chained n m l (s.by_room depth (Sizes.with_node no_size) n m r) (arms_steps u)
+    performs_steps (replicates_alternation {depth = depth} {n = n} {m = m} {l = l} r u) = s.chained n m l (s.by_room depth (Sizes.with_node no_size) n m r) (each_arm_steps u)
+    performs_steps (conditions {depth = depth} {n = n} {m = m} {l = l} r u) = s.chained n m l (s.by_room depth (Sizes.with_node no_size) n m r) (choices_steps u)
+    performs_steps (replicates_conditional {depth = depth} {n = n} {m = m} {l = l} r u) = s.chained n m l (s.by_room depth (Sizes.with_node no_size) n m r) (each_choice_steps u)
+    performs_steps (selects {depth = depth} {n = n} {m = m} {l = l} {s = e} v r u) = s.chained n m l (s.by_room depth (Sizes.with_node (size_of_expression e.1)) n m r) (options_steps u)
+    performs_steps (loops {depth = depth} {n = n} {m = m} {l = l} {c = c} v r u) = s.chained n m l (s.by_room depth (Sizes.with_node (size_of_expression c)) n m r) (unfolding_steps u)
 
     pub in_turn_steps : {sc : Procedures} {depth : ℕ} {n m : Numbers} {ps : Nodes process} {ts : Terms} → InTurn sc depth n ps ts m → R n m
     in_turn_steps (no_process {n = n}) = s.same n
@@ -57,16 +57,16 @@ module _ (R : Numbers → Numbers → Type 0) (s : Stepping R) (numbered : (n m 
     copies_steps (one_copy {n = n} {o = o} {m = m} {l = l} e u us) = s.chained n o l (numbered n o e) (s.chained o m l (unfolding_steps u) (copies_steps us))
 
     pub arm_steps : {sc : Procedures} {depth : ℕ} {n m : Numbers} {a : Node arm} {arms : Arms} → Arm sc depth n a arms m → R n m
-    arm_steps (behind_arm {n = n} {l = l} {d = d} ds v u) = s.chained n d.numbers l (declared_steps R s ds) (offers_steps u)
+    arm_steps (behind_arm {n = n} {l = l} {d = d} ds v u) = s.chained n d.numbers l (declared_steps R s ds) (guards_steps u)
 
-    pub offers_steps : {sc : Procedures} {line depth : ℕ} {n m : Numbers} {h : ArmHead} {b : Body (under arm h)} {arms : Arms} → Offers sc line depth n h b arms m → R n m
-    offers_steps (awaits {depth = depth} {n = n} {m = m} {l = l} {e = e} {c = c} x g r u) =
-        s.chained n m l (s.by_room depth (Sizes.node (Sizes.beside (size_of_test e) (Sizes.beside (size_of_place c.0) (size_of_list c.1)))) n m r) (unfolding_steps u)
-    offers_steps (is_ready {depth = depth} {n = n} {m = m} {l = l} {e = e} x r u) = s.chained n m l (s.by_room depth (Sizes.node (size_of_expression e)) n m r) (unfolding_steps u)
-    offers_steps (awaits_variants {depth = depth} {n = n} {m = m} {l = l} {e = e} {c = c} x g p r u) =
-        s.chained n m l (s.by_room depth (Sizes.node (Sizes.beside (size_of_test e) (size_of_place c.1))) n m r) (variants_steps u)
-    offers_steps (nests_arms v u) = arms_steps u
-    offers_steps (replicates_arm v u) = each_arm_steps u
+    pub guards_steps : {sc : Procedures} {line depth : ℕ} {n m : Numbers} {h : ArmHead} {b : Body (under arm h)} {arms : Arms} → Guards sc line depth n h b arms m → R n m
+    guards_steps (awaits {depth = depth} {n = n} {m = m} {l = l} {e = e} {c = c} x g r u) =
+        s.chained n m l (s.by_room depth (Sizes.with_node (Sizes.together (size_of_test e) (Sizes.together (size_of_place c.0) (size_of_list c.1)))) n m r) (unfolding_steps u)
+    guards_steps (is_ready {depth = depth} {n = n} {m = m} {l = l} {e = e} x r u) = s.chained n m l (s.by_room depth (Sizes.with_node (size_of_expression e)) n m r) (unfolding_steps u)
+    guards_steps (awaits_variants {depth = depth} {n = n} {m = m} {l = l} {e = e} {c = c} x g p r u) =
+        s.chained n m l (s.by_room depth (Sizes.with_node (Sizes.together (size_of_test e) (size_of_place c.1))) n m r) (variants_steps u)
+    guards_steps (nests_arms v u) = arms_steps u
+    guards_steps (replicates_arm v u) = each_arm_steps u
 
     pub each_arm_steps : {sc : Procedures} {line depth : ℕ} {n m : Numbers} {r : L.Replicator} {a : Node arm} {arms : Arms} → EachArm sc line depth n r a arms m → R n m
     each_arm_steps (under_index {sc = sc} {line = line} {depth = depth} {n = n} {l = l} {r = r} {i = i} x u) = s.chained n i.numbers l (indexed_steps R s (names_of sc) line depth r n i x) (arm_steps u)
@@ -79,7 +79,7 @@ module _ (R : Numbers → Numbers → Type 0) (s : Stepping R) (numbered : (n m 
     choice_steps (behind_choice {n = n} {l = l} {d = d} ds v u) = s.chained n d.numbers l (declared_steps R s ds) (tests_steps u)
 
     pub tests_steps : {sc : Procedures} {line depth : ℕ} {n m : Numbers} {h : ChoiceHead} {b : Body (under choice h)} {choices : Choices} → Tests sc line depth n h b choices m → R n m
-    tests_steps (tests {depth = depth} {n = n} {m = m} {l = l} {e = e} x r u) = s.chained n m l (s.by_room depth (Sizes.node (size_of_expression e)) n m r) (unfolding_steps u)
+    tests_steps (tests {depth = depth} {n = n} {m = m} {l = l} {e = e} x r u) = s.chained n m l (s.by_room depth (Sizes.with_node (size_of_expression e)) n m r) (unfolding_steps u)
     tests_steps (nests_choices v u) = choices_steps u
     tests_steps (replicates_choice v u) = each_choice_steps u
 
@@ -92,7 +92,7 @@ module _ (R : Numbers → Numbers → Type 0) (s : Stepping R) (numbered : (n m 
 
     pub variant_steps : {sc : Procedures} {depth k : ℕ} {n m : Numbers} {p : Protocol} {v : Node variant} {xs : Variants} → Variant sc depth n p k v xs m → R n m
     variant_steps (takes {depth = depth} {n = n} {o = o} {m = m} {l = l} {d = d} {targets = targets} r ds g e q u) =
-        s.chained n o l (s.by_room depth (Sizes.node no_size) n o r) (s.chained o d.numbers l (declared_steps R s ds)
+        s.chained n o l (s.by_room depth (Sizes.with_node no_size) n o r) (s.chained o d.numbers l (declared_steps R s ds)
         (s.chained d.numbers m l (s.by_room (depth + 1) (size_of_targets targets) d.numbers m q) (unfolding_steps u)))
 
     pub variants_steps : {sc : Procedures} {depth : ℕ} {n m : Numbers} {p : Protocol} {before : List ℕ} {vs : Nodes variant} {xs : Variants} → AllVariants sc depth n p before vs xs m → R n m
@@ -101,10 +101,10 @@ module _ (R : Numbers → Numbers → Type 0) (s : Stepping R) (numbered : (n m 
 
     pub option_steps : {sc : Procedures} {depth : ℕ} {n m : Numbers} {type : Primitive} {before c : Chosen} {o : Node option} {options : Options} → OneOption sc depth n type before o options c m → R n m
     option_steps (is_one_of {depth = depth} {n = n} {o = o} {m = m} {l = l} {d = d} {vs = vs} r ds e c q u) =
-        s.chained n o l (s.by_room depth (Sizes.node no_size) n o r) (s.chained o d.numbers l (declared_steps R s ds)
+        s.chained n o l (s.by_room depth (Sizes.with_node no_size) n o r) (s.chained o d.numbers l (declared_steps R s ds)
         (s.chained d.numbers m l (s.by_room (depth + 1) (size_of_constants vs) d.numbers m q) (unfolding_steps u)))
     option_steps (is_none_of {depth = depth} {n = n} {o = o} {l = l} {d = d} r ds c u) =
-        s.chained n o l (s.by_room depth (Sizes.node no_size) n o r) (s.chained o d.numbers l (declared_steps R s ds) (unfolding_steps u))
+        s.chained n o l (s.by_room depth (Sizes.with_node no_size) n o r) (s.chained o d.numbers l (declared_steps R s ds) (unfolding_steps u))
 
     pub options_steps : {sc : Procedures} {depth : ℕ} {n m : Numbers} {type : Primitive} {before : Chosen} {os : Nodes option} {options : Options} → AllOptions sc depth n type before os options m → R n m
     options_steps (no_option {n = n}) = s.same n

@@ -13,7 +13,7 @@ use Rattle.occ_tree_grammar.specs.Expressions.Trees.{Expression, alone, two, one
 use Rattle.occ_term.specs.declared.primitive.Primitive.{Primitive}
 use Rattle.occ_term.specs.declared.primitive.Primitive.TheVariants.{Bool as Boolean, Byte, Int}
 use Rattle.occ_term.specs.declared.expression.Operator.{Operator}
-use Rattle.occ_term.specs.declared.expression.Operator.TheVariants.{Plus, Minus, Times, Divide, Remainder, PlusModulo, MinusModulo, TimesModulo, BitAnd, BitOr, BitXor, ShiftLeft, ShiftRight, After, Equal, Unequal, Less, Greater, AtMost, AtLeast}
+use Rattle.occ_term.specs.declared.expression.Operator.TheVariants.{Add, Subtract, Multiply, Divide, Remainder, Plus, Minus, Times, BitAnd, BitOr, BitXor, ShiftLeft, ShiftRight, After, Equal, Unequal, Less, Greater, AtMost, AtLeast}
 use Rattle.occ_term.specs.declared.expression.Monadic.{Monadic}
 use Rattle.occ_term.specs.declared.expression.Monadic.TheVariants.{Negate, BitNot, Not}
 use Rattle.occ_term.specs.Messages.{is_of, product, AllOf}
@@ -74,14 +74,14 @@ after_takes a b t e =
     subst (λ y. Takes After y b t) (sym (same_type a Int g.0)) (subst (λ y. Takes After Int y t) (sym (same_type b Int g.1)) (subst (λ y. Takes After Int Int y) k.1 takes_after))
 
 pub result_takes : (op : Operator) (a b t : Primitive) → result_of op a b ≡ Some t → Takes op a b t
+result_takes Add a b t e = arithmetic_takes Add a b t refl e
+result_takes Subtract a b t e = arithmetic_takes Subtract a b t refl e
+result_takes Multiply a b t e = arithmetic_takes Multiply a b t refl e
+result_takes Divide a b t e = arithmetic_takes Divide a b t refl e
+result_takes Remainder a b t e = arithmetic_takes Remainder a b t refl e
 result_takes Plus a b t e = arithmetic_takes Plus a b t refl e
 result_takes Minus a b t e = arithmetic_takes Minus a b t refl e
 result_takes Times a b t e = arithmetic_takes Times a b t refl e
-result_takes Divide a b t e = arithmetic_takes Divide a b t refl e
-result_takes Remainder a b t e = arithmetic_takes Remainder a b t refl e
-result_takes PlusModulo a b t e = arithmetic_takes PlusModulo a b t refl e
-result_takes MinusModulo a b t e = arithmetic_takes MinusModulo a b t refl e
-result_takes TimesModulo a b t e = arithmetic_takes TimesModulo a b t refl e
 result_takes BitAnd a b t e = arithmetic_takes BitAnd a b t refl e
 result_takes BitOr a b t e = arithmetic_takes BitOr a b t refl e
 result_takes BitXor a b t e = arithmetic_takes BitXor a b t refl e
@@ -227,7 +227,7 @@ module _ (d : Declared) (ns : Names) (h : NamesHave d ns) (line : ℕ) where
         let x = bind_some (typed_operand ns line a >>= as_single) _ t e in
         let y = bind_some (typed_operand ns line b >>= as_single) _ t x.2 in
         two_has d.types line (operator_of op) x.0 y.0 t (value_has a (operand_has a) x.0 x.1) (value_has b (operand_has b) y.0 y.1) y.2
-    typed_has (one m.Minus a) t e = let x = bind_some (typed_operand ns line a >>= as_single) _ t e in one_has d.types line Negate x.0 t (value_has a (operand_has a) x.0 x.1) x.2
+    typed_has (one m.Negate a) t e = let x = bind_some (typed_operand ns line a >>= as_single) _ t e in one_has d.types line Negate x.0 t (value_has a (operand_has a) x.0 x.1) x.2
     typed_has (one m.Tilde a) t e = let x = bind_some (typed_operand ns line a >>= as_single) _ t e in one_has d.types line BitNot x.0 t (value_has a (operand_has a) x.0 x.1) x.2
     typed_has (one m.BitNot a) t e = let x = bind_some (typed_operand ns line a >>= as_single) _ t e in one_has d.types line BitNot x.0 t (value_has a (operand_has a) x.0 x.1) x.2
     typed_has (one m.Not a) t e = let x = bind_some (typed_operand ns line a >>= as_single) _ t e in one_has d.types line Not x.0 t (value_has a (operand_has a) x.0 x.1) x.2

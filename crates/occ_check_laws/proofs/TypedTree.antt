@@ -28,7 +28,7 @@ use Rattle.occ_check_meaning.specs.Actions.{headed, followed, as_term, Listed, p
 use Rattle.occ_check_laws.specs.Growth.{Grown}
 use Rattle.occ_check_laws.specs.Having.{NamesHave}
 use Rattle.occ_check_meaning.specs.Performing.{Entered}
-use Rattle.occ_check_meaning.specs.Unfolding.{Procedure, procedure, Procedures, DeclaresItem, declares_value, declares_protocol, declares_procedure, Declares, declares_names, declares_item, DeclareAll, no_declaration, one_declaration, Unfolding, unfolds, Performs, skips, stops, assigns, inputs, outputs, calls, takes_variants, sequences, replicates_sequence, runs_beside, replicates_branch, alternates, replicates_alternation, conditions, replicates_conditional, selects, loops, InTurn, no_process, one_process, Beside, no_branch, one_branch, Copies, no_copy, one_copy, Arm, behind_arm, Offers, awaits, is_ready, awaits_variants, nests_arms, replicates_arm, EachArm, under_index, AllArms, no_arm, one_arm, Choice, behind_choice, Tests, tests, nests_choices, replicates_choice, EachChoice, under_choice_index, AllChoices, no_choice, one_choice, Variant, takes, AllVariants, no_variant, one_variant, OneOption, is_one_of, is_none_of, AllOptions, no_option, one_option}
+use Rattle.occ_check_meaning.specs.Unfolding.{Procedure, procedure, Procedures, DeclaresItem, declares_value, declares_protocol, declares_procedure, Declares, declares_names, declares_item, DeclareAll, no_declaration, one_declaration, Unfolding, unfolds, Performs, skips, stops, assigns, inputs, outputs, calls, takes_variants, sequences, replicates_sequence, runs_beside, replicates_branch, alternates, replicates_alternation, conditions, replicates_conditional, selects, loops, InTurn, no_process, one_process, Beside, no_branch, one_branch, Copies, no_copy, one_copy, Arm, behind_arm, Guards, awaits, is_ready, awaits_variants, nests_arms, replicates_arm, EachArm, under_index, AllArms, no_arm, one_arm, Choice, behind_choice, Tests, tests, nests_choices, replicates_choice, EachChoice, under_choice_index, AllChoices, no_choice, one_choice, Variant, takes, AllVariants, no_variant, one_variant, OneOption, is_one_of, is_none_of, AllOptions, no_option, one_option}
 use Rattle.occ_check_laws.proofs.Tags.{tagged_by, tagged_with}
 use Rattle.occ_check_meaning.proofs.Steps.{bind_some, some_is}
 use Rattle.occ_check_laws.proofs.Counting.{kept}
@@ -36,7 +36,7 @@ use Rattle.occ_check_laws.proofs.Scopes.{EachKnown, EachPair, each_within, each_
 use Rattle.occ_check_laws.proofs.Growth.{growing, processes_grown}
 use Rattle.occ_check_laws.proofs.Covering.{Covers, CoversSince, since, covers_before, fewer_before, in_span}
 use Rattle.occ_check_laws.proofs.Stepping.{bound_steps, indexed_steps, opening_steps, one_declared_steps, declared_steps}
-use Rattle.occ_check_laws.proofs.TreeSteps.{unfolding_steps, performs_steps, in_turn_steps, beside_steps, copies_steps, arm_steps, offers_steps, arms_steps, choice_steps, tests_steps, choices_steps, variant_steps, variants_steps, option_steps, options_steps}
+use Rattle.occ_check_laws.proofs.TreeSteps.{unfolding_steps, performs_steps, in_turn_steps, beside_steps, copies_steps, arm_steps, guards_steps, arms_steps, choice_steps, tests_steps, choices_steps, variant_steps, variants_steps, option_steps, options_steps}
 use Rattle.occ_check_laws.proofs.TypedExpressions.{single_has, typed_has}
 use Rattle.occ_check_laws.proofs.TypedLines.{All, all_of, channel_has, output_has, stored_has, ListedHas, received_has, input_has, assigned_has, test_has, typed_as_has}
 use Rattle.occ_check_laws.proofs.TypedNames.{Fits, fits_later, declarations_joined, names_open, protocol_opens, value_declared_opens, bound_opens, indexed_opens, cells_then_room}
@@ -216,10 +216,10 @@ module _ (d : Declared) where
         (unfolding_has u (later (within b.names outer) b.numbers m g
         (each_within (Fits d (length b.numbers.cells)) b.names outer k.0 (later outer n b.numbers s (each_behind (Fits d (length n.cells)) sc f (proc (procedure declared fs body)) outer h e)))) c)
     performs_has (takes_variants {sc = sc} {line = line} {depth = depth} {n = n} {m = m} {v = v} {c = x} {p = p} {xs = xs} e w r u) h c =
-        (p, subst (λ y. ChannelHas d x.1 y) (tags_same x.0 p w) (channel_has d (names_of sc) (have sc n h) line v x e), variants_have u (tagged_with x.0 p w) (roomy sc depth (Sizes.node (size_of_place x.1)) n m r h) c)
-    performs_has (sequences {sc = sc} {depth = depth} {n = n} {m = m} r u) h c = in_turn_have u (roomy sc depth (Sizes.node no_size) n m r h) c
+        (p, subst (λ y. ChannelHas d x.1 y) (tags_same x.0 p w) (channel_has d (names_of sc) (have sc n h) line v x e), variants_have u (tagged_with x.0 p w) (roomy sc depth (Sizes.with_node (size_of_place x.1)) n m r h) c)
+    performs_has (sequences {sc = sc} {depth = depth} {n = n} {m = m} r u) h c = in_turn_have u (roomy sc depth (Sizes.with_node no_size) n m r h) c
     performs_has (replicates_sequence {sc = sc} {line = line} {depth = depth} {n = n} {m = m} {l = l} {r = r} {i = i} {t = t} o x u) h c =
-        let q = roomy sc depth (Sizes.node no_size) n m o h in
+        let q = roomy sc depth (Sizes.with_node no_size) n m o h in
         let b = covers_before d i.numbers l (unfolding_steps Grown growing processes_grown u) c in
         let k = indexed_opens d (names_of sc) (length m.cells) (named sc m q) line (depth + 1) r m i x (since d m i.numbers b) in
         let g = index_is_new (names_of sc) line (depth + 1) r m i x b in (
@@ -227,18 +227,18 @@ module _ (d : Declared) where
           g.kept_in (uses_of t) (unfolding_avoids (length m.cells) u (index_avoids sc m i q g) g.later_cells),
           unfolding_has u (within_index sc m i q (indexed_steps Grown growing (names_of sc) line (depth + 1) r m i x) k.1) c,
         )
-    performs_has (runs_beside {sc = sc} {depth = depth} {n = n} {m = m} r u) h c = beside_have u (roomy sc depth (Sizes.node no_size) n m r h) c
+    performs_has (runs_beside {sc = sc} {depth = depth} {n = n} {m = m} r u) h c = beside_have u (roomy sc depth (Sizes.with_node no_size) n m r h) c
     performs_has (replicates_branch {sc = sc} {line = line} {depth = depth} {n = n} {m = m} {r = r} {c = x} e o u) h c =
-        copies_have u (copies_typed d (names_of sc) (have sc n h) line r x e) (roomy sc depth (Sizes.node no_size) n m o h) c
-    performs_has (alternates {sc = sc} {depth = depth} {n = n} {m = m} r u) h c = arms_have u (roomy sc depth (Sizes.node no_size) n m r h) c
-    performs_has (replicates_alternation {sc = sc} {depth = depth} {n = n} {m = m} r u) h c = each_arm_has u (roomy sc depth (Sizes.node no_size) n m r h) c
-    performs_has (conditions {sc = sc} {depth = depth} {n = n} {m = m} r u) h c = choices_have u (roomy sc depth (Sizes.node no_size) n m r h) c
-    performs_has (replicates_conditional {sc = sc} {depth = depth} {n = n} {m = m} r u) h c = each_choice_has u (roomy sc depth (Sizes.node no_size) n m r h) c
+        copies_have u (copies_typed d (names_of sc) (have sc n h) line r x e) (roomy sc depth (Sizes.with_node no_size) n m o h) c
+    performs_has (alternates {sc = sc} {depth = depth} {n = n} {m = m} r u) h c = arms_have u (roomy sc depth (Sizes.with_node no_size) n m r h) c
+    performs_has (replicates_alternation {sc = sc} {depth = depth} {n = n} {m = m} r u) h c = each_arm_has u (roomy sc depth (Sizes.with_node no_size) n m r h) c
+    performs_has (conditions {sc = sc} {depth = depth} {n = n} {m = m} r u) h c = choices_have u (roomy sc depth (Sizes.with_node no_size) n m r h) c
+    performs_has (replicates_conditional {sc = sc} {depth = depth} {n = n} {m = m} r u) h c = each_choice_has u (roomy sc depth (Sizes.with_node no_size) n m r h) c
     performs_has (selects {sc = sc} {line = line} {depth = depth} {n = n} {m = m} {e = e} {s = s} v r u) h c =
         let k = selected (names_of sc) (have sc n h) line e s v in
-        (s.0, k.0, k.1, options_have u (roomy sc depth (Sizes.node (size_of_expression s.1)) n m r h) c)
+        (s.0, k.0, k.1, options_have u (roomy sc depth (Sizes.with_node (size_of_expression s.1)) n m r h) c)
     performs_has (loops {sc = sc} {line = line} {depth = depth} {n = n} {m = m} {e = e} {c = x} v r u) h c =
-        (typed_as_has d (names_of sc) (have sc n h) line Boolean e x v, unfolding_has u (roomy sc depth (Sizes.node (size_of_expression x)) n m r h) c)
+        (typed_as_has d (names_of sc) (have sc n h) line Boolean e x v, unfolding_has u (roomy sc depth (Sizes.with_node (size_of_expression x)) n m r h) c)
 
     in_turn_have : {sc : Procedures} {depth : ℕ} {n m : Numbers} {ps : Nodes process} {ts : Terms} → InTurn sc depth n ps ts m → In sc n → Covers d m → TermsHave d ts
     in_turn_have no_process h c = tt
@@ -262,29 +262,29 @@ module _ (d : Declared) where
 
     arm_has : {sc : Procedures} {depth : ℕ} {n m : Numbers} {a : Node arm} {arms : Arms} → Arm sc depth n a arms m → In sc n → Covers d m → ArmsHave d arms
     arm_has (behind_arm {n = n} {l = l} {d = e} {arms = arms} ds v u) h c =
-        let k = all_have ds h (covers_before d e.numbers l (offers_steps Grown growing processes_grown u) c) in
-        arms_behind_have e.heads arms k.1 (offers_have u k.0 c)
+        let k = all_have ds h (covers_before d e.numbers l (guards_steps Grown growing processes_grown u) c) in
+        arms_behind_have e.heads arms k.1 (guards_have u k.0 c)
 
-    offers_have : {sc : Procedures} {line depth : ℕ} {n m : Numbers} {h : ArmHead} {b : Body (under arm h)} {arms : Arms} → Offers sc line depth n h b arms m → In sc n → Covers d m → ArmsHave d arms
-    offers_have (awaits {sc = sc} {line = line} {depth = depth} {n = n} {m = m} {test = test} {i = i} {e = e} {c = x} {t = t} a g r u) h c =
+    guards_have : {sc : Procedures} {line depth : ℕ} {n m : Numbers} {h : ArmHead} {b : Body (under arm h)} {arms : Arms} → Guards sc line depth n h b arms m → In sc n → Covers d m → ArmsHave d arms
+    guards_have (awaits {sc = sc} {line = line} {depth = depth} {n = n} {m = m} {test = test} {i = i} {e = e} {c = x} {t = t} a g r u) h c =
         let k = received_has d (names_of sc) (have sc n h) line i x g in (
           test_has d (names_of sc) (have sc n h) line test e a,
-          (k.0, k.1, reception_has k.0 x.1 t k.2 (unfolding_has u (roomy sc depth (Sizes.node (Sizes.beside (size_of_test e) (Sizes.beside (size_of_place x.0) (size_of_list x.1)))) n m r h) c)),
+          (k.0, k.1, reception_has k.0 x.1 t k.2 (unfolding_has u (roomy sc depth (Sizes.with_node (Sizes.together (size_of_test e) (Sizes.together (size_of_place x.0) (size_of_list x.1)))) n m r h) c)),
           tt,
         )
-    offers_have (is_ready {sc = sc} {line = line} {depth = depth} {n = n} {m = m} {test = test} {e = e} a r u) h c =
-        (typed_as_has d (names_of sc) (have sc n h) line Boolean test e a, unfolding_has u (roomy sc depth (Sizes.node (size_of_expression e)) n m r h) c, tt)
-    offers_have (awaits_variants {sc = sc} {line = line} {depth = depth} {n = n} {m = m} {test = test} {v = v} {e = e} {c = x} {p = p} a g w r u) h c = (
+    guards_have (is_ready {sc = sc} {line = line} {depth = depth} {n = n} {m = m} {test = test} {e = e} a r u) h c =
+        (typed_as_has d (names_of sc) (have sc n h) line Boolean test e a, unfolding_has u (roomy sc depth (Sizes.with_node (size_of_expression e)) n m r h) c, tt)
+    guards_have (awaits_variants {sc = sc} {line = line} {depth = depth} {n = n} {m = m} {test = test} {v = v} {e = e} {c = x} {p = p} a g w r u) h c = (
       test_has d (names_of sc) (have sc n h) line test e a,
       (
         p,
         subst (λ y. ChannelHas d x.1 y) (tags_same x.0 p w) (channel_has d (names_of sc) (have sc n h) line v x g),
-        variants_have u (tagged_with x.0 p w) (roomy sc depth (Sizes.node (Sizes.beside (size_of_test e) (size_of_place x.1))) n m r h) c,
+        variants_have u (tagged_with x.0 p w) (roomy sc depth (Sizes.with_node (Sizes.together (size_of_test e) (size_of_place x.1))) n m r h) c,
       ),
       tt,
     )
-    offers_have (nests_arms v u) h c = arms_have u h c
-    offers_have (replicates_arm v u) h c = each_arm_has u h c
+    guards_have (nests_arms v u) h c = arms_have u h c
+    guards_have (replicates_arm v u) h c = each_arm_has u h c
 
     pub each_arm_has : {sc : Procedures} {line depth : ℕ} {n m : Numbers} {r : L.Replicator} {a : Node arm} {arms : Arms} → EachArm sc line depth n r a arms m → In sc n → Covers d m → ArmsHave d arms
     each_arm_has (under_index {sc = sc} {line = line} {depth = depth} {n = n} {l = l} {r = r} {i = i} {arms = arms} x u) h c =
@@ -309,7 +309,7 @@ module _ (d : Declared) where
 
     tests_have : {sc : Procedures} {line depth : ℕ} {n m : Numbers} {h : ChoiceHead} {b : Body (under choice h)} {choices : Choices} → Tests sc line depth n h b choices m → In sc n → Covers d m → ChoicesHave d choices
     tests_have (tests {sc = sc} {line = line} {depth = depth} {n = n} {m = m} {test = test} {e = e} a r u) h c =
-        (typed_as_has d (names_of sc) (have sc n h) line Boolean test e a, unfolding_has u (roomy sc depth (Sizes.node (size_of_expression e)) n m r h) c, tt)
+        (typed_as_has d (names_of sc) (have sc n h) line Boolean test e a, unfolding_has u (roomy sc depth (Sizes.with_node (size_of_expression e)) n m r h) c, tt)
     tests_have (nests_choices v u) h c = choices_have u h c
     tests_have (replicates_choice v u) h c = each_choice_has u h c
 
@@ -333,7 +333,7 @@ module _ (d : Declared) where
     variant_has (takes {sc = sc} {depth = depth} {line = line} {n = n} {o = o} {m = m} {l = l} {ts = ts} {d = e} {parts = parts} {targets = targets} r ds g f q u) h c =
         let b = covers_before d m l (unfolding_steps Grown growing processes_grown u) c in
         let a = growing.by_room (depth + 1) (size_of_targets targets) e.numbers m q in
-        let k = all_have ds (roomy sc depth (Sizes.node no_size) n o r h) (covers_before d e.numbers m a b) in
+        let k = all_have ds (roomy sc depth (Sizes.with_node no_size) n o r h) (covers_before d e.numbers m a b) in
         ((parts, g, stored_has d (names_of e.scope) (have e.scope e.numbers k.0) line parts ts targets f), k.1, unfolding_has u (later e.scope e.numbers m a k.0) c, tagged_by _ _ parts g)
 
     variants_have : {sc : Procedures} {depth : ℕ} {n m : Numbers} {p : Protocol} {before : List ℕ} {vs : Nodes variant} {xs : Variants} → AllVariants sc depth n p before vs xs m → HasTags p → In sc n → Covers d m → VariantsHave d p xs
@@ -345,14 +345,14 @@ module _ (d : Declared) where
     option_has (is_one_of {sc = sc} {depth = depth} {line = line} {n = n} {o = o} {m = m} {l = l} {type = type} {e = x} {es = es} {d = e} {vs = vs} r ds g f q u) h c =
         let b = covers_before d m l (unfolding_steps Grown growing processes_grown u) c in
         let a = growing.by_room (depth + 1) (size_of_constants vs) e.numbers m q in
-        let k = all_have ds (roomy sc depth (Sizes.node no_size) n o r h) (covers_before d e.numbers m a b) in (
+        let k = all_have ds (roomy sc depth (Sizes.with_node no_size) n o r h) (covers_before d e.numbers m a b) in (
           all_of_type type vs (all_of (λ v. IsTrue (is_of type v)) (constant_as (names_of e.scope) line type) (constant_has (names_of e.scope) (have e.scope e.numbers k.0) line type) (x ∷ es) vs g),
           k.1,
           unfolding_has u (later e.scope e.numbers m a k.0) c,
           tt,
         )
     option_has (is_none_of {sc = sc} {depth = depth} {n = n} {o = o} {l = l} {d = e} r ds f u) h c =
-        let k = all_have ds (roomy sc depth (Sizes.node no_size) n o r h) (covers_before d e.numbers l (unfolding_steps Grown growing processes_grown u) c) in
+        let k = all_have ds (roomy sc depth (Sizes.with_node no_size) n o r h) (covers_before d e.numbers l (unfolding_steps Grown growing processes_grown u) c) in
         (k.1, unfolding_has u k.0 c, tt)
 
     options_have : {sc : Procedures} {depth : ℕ} {n m : Numbers} {type : Primitive} {before : Chosen} {os : Nodes option} {options : Options} → AllOptions sc depth n type before os options m → In sc n → Covers d m → OptionsHave d type options

@@ -8,8 +8,8 @@ use Rattle.occ_term.specs.declared.primitive.Primitive.TheVariants.{Byte}
 use Rattle.occ_term.specs.declared.protocol.Protocol.TheVariants.{Simple}
 use Rattle.occ_term.specs.Terms.{Term}
 use Rattle.occ_term.specs.TermTyping.{Declared, DeclarationsHave, TermHas}
-use Rattle.occ_term.specs.Unfolding.{declared, byte_channel, first_channels, IsWellFormed}
-use Rattle.occ_term.specs.Unfolding as Unfolded
+use Rattle.occ_term.specs.UnfoldedProgram.{declared, byte_channel, first_channels, IsWellFormed}
+use Rattle.occ_term.specs.UnfoldedProgram as Unfolded
 use Rattle.occ_check_meaning.specs.Scope.{Name}
 use Rattle.occ_check_meaning.specs.Numbers.{Numbers, at_start}
 use Rattle.occ_check_meaning.specs.Programs.{is_byte_channel, other_names, byte_channels, main_names, channels_from}
@@ -79,13 +79,13 @@ mapped_get f [] c x e = absurd cc
 mapped_get f (y ∷ xs) zero x e = ap (λ z. Some (f z)) (some_is y x e)
 mapped_get f (y ∷ xs) (suc c) x e = mapped_get f xs c x e
 
-covers_all : (u : Unfolded.Unfolding) (m : Numbers) → m.cells ≡ u.cells → m.channels ≡ u.channels → Covers (declared u) m
+covers_all : (u : Unfolded.UnfoldedProgram) (m : Numbers) → m.cells ≡ u.cells → m.channels ≡ u.channels → Covers (declared u) m
 covers_all u m e g = record {
   cells = λ c x q. mapped_get (λ y. y.primitive) u.cells c x (subst (λ xs. slice_get xs c ≡ Some x) e q);
   channels = λ c x q. mapped_get (λ y. y.protocol) u.channels c x (subst (λ xs. slice_get xs c ≡ Some x) g q);
 }
 
-pub well_formed : (items : List Item) (u : Unfolded.Unfolding) → UnfoldsTo items u → IsWellFormed u
+pub well_formed : (items : List Item) (u : Unfolded.UnfoldedProgram) → UnfoldsTo items u → IsWellFormed u
 well_formed items u (m, p, e, g) =
     let w = program_grown p in
     let l = w.limits start_limits in

@@ -17,7 +17,7 @@ use Rattle.occ_check_meaning.specs.Declarations.{index_of}
 use Rattle.occ_check_meaning.specs.Actions.{headed, followed, as_term, Listed, plain_list, tagged_list, as_reception, as_input, size_of_list, arms_behind, choices_behind, arms_then, choices_then, variants_then, options_then, Chosen}
 use Rattle.occ_check_laws.specs.Growth.{Grown}
 use Rattle.occ_check_meaning.specs.Performing.{Entered}
-use Rattle.occ_check_meaning.specs.Unfolding.{Procedure, procedure, Procedures, DeclaresItem, declares_value, declares_protocol, declares_procedure, Declares, declares_names, declares_item, DeclareAll, no_declaration, one_declaration, Unfolding, unfolds, Performs, skips, stops, assigns, inputs, outputs, calls, takes_variants, sequences, replicates_sequence, runs_beside, replicates_branch, alternates, replicates_alternation, conditions, replicates_conditional, selects, loops, InTurn, no_process, one_process, Beside, no_branch, one_branch, Copies, no_copy, one_copy, Arm, behind_arm, Offers, awaits, is_ready, awaits_variants, nests_arms, replicates_arm, EachArm, under_index, AllArms, no_arm, one_arm, Choice, behind_choice, Tests, tests, nests_choices, replicates_choice, EachChoice, under_choice_index, AllChoices, no_choice, one_choice, Variant, takes, AllVariants, no_variant, one_variant, OneOption, is_one_of, is_none_of, AllOptions, no_option, one_option}
+use Rattle.occ_check_meaning.specs.Unfolding.{Procedure, procedure, Procedures, DeclaresItem, declares_value, declares_protocol, declares_procedure, Declares, declares_names, declares_item, DeclareAll, no_declaration, one_declaration, Unfolding, unfolds, Performs, skips, stops, assigns, inputs, outputs, calls, takes_variants, sequences, replicates_sequence, runs_beside, replicates_branch, alternates, replicates_alternation, conditions, replicates_conditional, selects, loops, InTurn, no_process, one_process, Beside, no_branch, one_branch, Copies, no_copy, one_copy, Arm, behind_arm, Guards, awaits, is_ready, awaits_variants, nests_arms, replicates_arm, EachArm, under_index, AllArms, no_arm, one_arm, Choice, behind_choice, Tests, tests, nests_choices, replicates_choice, EachChoice, under_choice_index, AllChoices, no_choice, one_choice, Variant, takes, AllVariants, no_variant, one_variant, OneOption, is_one_of, is_none_of, AllOptions, no_option, one_option}
 use Rattle.occ_check_meaning.specs.Scope.{proc}
 use Rattle.occ_check_laws.proofs.Scopes.{EachKnown, each_within, each_named, each_behind}
 use Rattle.occ_check_laws.proofs.Growth.{growing, processes_grown}
@@ -182,21 +182,21 @@ module _ (c : ℕ) where
         headed_not b.heads t k.1
         (unfolding_avoids u (each_within (Avoids c) b.names outer k.0 (each_behind (Avoids c) sc f (proc (procedure declared fs body)) outer h e))
         (grown b.numbers m (opening_steps Grown growing b.heads depth b.numbers deep m o) (grown n b.numbers (bound_steps Grown growing (names_of sc) line (depth + 1) ws es n b a) l)))
-    performs_avoids (takes_variants {depth = depth} {n = n} {m = m} {c = p} e w r u) h l = variants_avoid u h (roomy depth (Sizes.node (size_of_place p.1)) n m r l)
-    performs_avoids (sequences {depth = depth} {n = n} {m = m} r u) h l = in_turn_avoids u h (roomy depth (Sizes.node no_size) n m r l)
+    performs_avoids (takes_variants {depth = depth} {n = n} {m = m} {c = p} e w r u) h l = variants_avoid u h (roomy depth (Sizes.with_node (size_of_place p.1)) n m r l)
+    performs_avoids (sequences {depth = depth} {n = n} {m = m} r u) h l = in_turn_avoids u h (roomy depth (Sizes.with_node no_size) n m r l)
     performs_avoids (replicates_sequence {sc = sc} {line = line} {depth = depth} {n = n} {m = m} {r = r} {i = i} {t = t} o x u) h l =
-        let q = roomy depth (Sizes.node no_size) n m o l in
+        let q = roomy depth (Sizes.with_node no_size) n m o l in
         let k = kept_index c (names_of sc) line (depth + 1) r m i q x in
         either ((uses_of_replicator i.replicator).writes c) ((uses_of t).writes c) k.1
         (unfolding_avoids u (each_within (Avoids c) i.names sc k.0 h) (grown m i.numbers (indexed_steps Grown growing (names_of sc) line (depth + 1) r m i x) q))
-    performs_avoids (runs_beside {depth = depth} {n = n} {m = m} r u) h l = beside_avoids u h (roomy depth (Sizes.node no_size) n m r l)
-    performs_avoids (replicates_branch {depth = depth} {n = n} {m = m} e r u) h l = copies_avoid u h (roomy depth (Sizes.node no_size) n m r l)
-    performs_avoids (alternates {depth = depth} {n = n} {m = m} r u) h l = arms_avoid u h (roomy depth (Sizes.node no_size) n m r l)
-    performs_avoids (replicates_alternation {depth = depth} {n = n} {m = m} r u) h l = each_arm_avoids u h (roomy depth (Sizes.node no_size) n m r l)
-    performs_avoids (conditions {depth = depth} {n = n} {m = m} r u) h l = choices_avoid u h (roomy depth (Sizes.node no_size) n m r l)
-    performs_avoids (replicates_conditional {depth = depth} {n = n} {m = m} r u) h l = each_choice_avoids u h (roomy depth (Sizes.node no_size) n m r l)
-    performs_avoids (selects {depth = depth} {n = n} {m = m} {s = s} v r u) h l = options_avoid u h (roomy depth (Sizes.node (size_of_expression s.1)) n m r l)
-    performs_avoids (loops {depth = depth} {n = n} {m = m} {c = e} v r u) h l = unfolding_avoids u h (roomy depth (Sizes.node (size_of_expression e)) n m r l)
+    performs_avoids (runs_beside {depth = depth} {n = n} {m = m} r u) h l = beside_avoids u h (roomy depth (Sizes.with_node no_size) n m r l)
+    performs_avoids (replicates_branch {depth = depth} {n = n} {m = m} e r u) h l = copies_avoid u h (roomy depth (Sizes.with_node no_size) n m r l)
+    performs_avoids (alternates {depth = depth} {n = n} {m = m} r u) h l = arms_avoid u h (roomy depth (Sizes.with_node no_size) n m r l)
+    performs_avoids (replicates_alternation {depth = depth} {n = n} {m = m} r u) h l = each_arm_avoids u h (roomy depth (Sizes.with_node no_size) n m r l)
+    performs_avoids (conditions {depth = depth} {n = n} {m = m} r u) h l = choices_avoid u h (roomy depth (Sizes.with_node no_size) n m r l)
+    performs_avoids (replicates_conditional {depth = depth} {n = n} {m = m} r u) h l = each_choice_avoids u h (roomy depth (Sizes.with_node no_size) n m r l)
+    performs_avoids (selects {depth = depth} {n = n} {m = m} {s = s} v r u) h l = options_avoid u h (roomy depth (Sizes.with_node (size_of_expression s.1)) n m r l)
+    performs_avoids (loops {depth = depth} {n = n} {m = m} {c = e} v r u) h l = unfolding_avoids u h (roomy depth (Sizes.with_node (size_of_expression e)) n m r l)
 
     in_turn_avoids : {sc : Procedures} {depth : ℕ} {n m : Numbers} {ps : Nodes process} {ts : Terms} → InTurn sc depth n ps ts m → In sc → c < length n.cells → Not ((uses_of_terms ts).writes c)
     in_turn_avoids no_process h l = λ k. absurd cc
@@ -218,18 +218,18 @@ module _ (c : ℕ) where
     pub arm_avoids : {sc : Procedures} {depth : ℕ} {n m : Numbers} {a : Node arm} {arms : Arms} → Arm sc depth n a arms m → In sc → c < length n.cells → Not ((uses_of_arms arms).writes c)
     arm_avoids (behind_arm {n = n} {d = d} {arms = arms} ds v u) h l =
         let k = all_avoid ds h l in
-        arms_behind_not d.heads arms k.1 (offers_avoid u k.0 (grown n d.numbers (declared_steps Grown growing ds) l))
+        arms_behind_not d.heads arms k.1 (guards_avoid u k.0 (grown n d.numbers (declared_steps Grown growing ds) l))
 
-    offers_avoid : {sc : Procedures} {line depth : ℕ} {n m : Numbers} {h : ArmHead} {b : Body (under arm h)} {arms : Arms} → Offers sc line depth n h b arms m → In sc → c < length n.cells → Not ((uses_of_arms arms).writes c)
-    offers_avoid (awaits {sc = sc} {line = line} {depth = depth} {n = n} {m = m} {i = i} {e = e} {c = p} {t = t} x g r u) h l =
+    guards_avoid : {sc : Procedures} {line depth : ℕ} {n m : Numbers} {h : ArmHead} {b : Body (under arm h)} {arms : Arms} → Guards sc line depth n h b arms m → In sc → c < length n.cells → Not ((uses_of_arms arms).writes c)
+    guards_avoid (awaits {sc = sc} {line = line} {depth = depth} {n = n} {m = m} {i = i} {e = e} {c = p} {t = t} x g r u) h l =
         alone ((uses_of_reception (as_reception p.1 t)).writes c) (reception_not p.1 t (received_avoids c (names_of sc) (named sc h) line i p g)
-        (unfolding_avoids u h (roomy depth (Sizes.node (Sizes.beside (size_of_test e) (Sizes.beside (size_of_place p.0) (size_of_list p.1)))) n m r l)))
-    offers_avoid (is_ready {depth = depth} {n = n} {m = m} {e = e} {t = t} x r u) h l =
-        alone ((uses_of t).writes c) (unfolding_avoids u h (roomy depth (Sizes.node (size_of_expression e)) n m r l))
-    offers_avoid (awaits_variants {depth = depth} {n = n} {m = m} {e = e} {c = p} {xs = xs} x g w r u) h l =
-        alone ((uses_of_variants xs).writes c) (variants_avoid u h (roomy depth (Sizes.node (Sizes.beside (size_of_test e) (size_of_place p.1))) n m r l))
-    offers_avoid (nests_arms v u) h l = arms_avoid u h l
-    offers_avoid (replicates_arm v u) h l = each_arm_avoids u h l
+        (unfolding_avoids u h (roomy depth (Sizes.with_node (Sizes.together (size_of_test e) (Sizes.together (size_of_place p.0) (size_of_list p.1)))) n m r l)))
+    guards_avoid (is_ready {depth = depth} {n = n} {m = m} {e = e} {t = t} x r u) h l =
+        alone ((uses_of t).writes c) (unfolding_avoids u h (roomy depth (Sizes.with_node (size_of_expression e)) n m r l))
+    guards_avoid (awaits_variants {depth = depth} {n = n} {m = m} {e = e} {c = p} {xs = xs} x g w r u) h l =
+        alone ((uses_of_variants xs).writes c) (variants_avoid u h (roomy depth (Sizes.with_node (Sizes.together (size_of_test e) (size_of_place p.1))) n m r l))
+    guards_avoid (nests_arms v u) h l = arms_avoid u h l
+    guards_avoid (replicates_arm v u) h l = each_arm_avoids u h l
 
     each_arm_avoids : {sc : Procedures} {line depth : ℕ} {n m : Numbers} {r : L.Replicator} {a : Node arm} {arms : Arms} → EachArm sc line depth n r a arms m → In sc → c < length n.cells → Not ((uses_of_arms arms).writes c)
     each_arm_avoids (under_index {sc = sc} {line = line} {depth = depth} {n = n} {r = r} {i = i} {arms = arms} x u) h l =
@@ -248,7 +248,7 @@ module _ (c : ℕ) where
         choices_behind_not d.heads choices k.1 (tests_avoid u k.0 (grown n d.numbers (declared_steps Grown growing ds) l))
 
     tests_avoid : {sc : Procedures} {line depth : ℕ} {n m : Numbers} {h : ChoiceHead} {b : Body (under choice h)} {choices : Choices} → Tests sc line depth n h b choices m → In sc → c < length n.cells → Not ((uses_of_choices choices).writes c)
-    tests_avoid (tests {depth = depth} {n = n} {m = m} {e = e} {t = t} x r u) h l = alone ((uses_of t).writes c) (unfolding_avoids u h (roomy depth (Sizes.node (size_of_expression e)) n m r l))
+    tests_avoid (tests {depth = depth} {n = n} {m = m} {e = e} {t = t} x r u) h l = alone ((uses_of t).writes c) (unfolding_avoids u h (roomy depth (Sizes.with_node (size_of_expression e)) n m r l))
     tests_avoid (nests_choices v u) h l = choices_avoid u h l
     tests_avoid (replicates_choice v u) h l = each_choice_avoids u h l
 
@@ -265,7 +265,7 @@ module _ (c : ℕ) where
 
     variant_avoids : {sc : Procedures} {depth k : ℕ} {n m : Numbers} {p : Protocol} {v : Node variant} {xs : Variants} → Variant sc depth n p k v xs m → In sc → c < length n.cells → Not ((uses_of_variants xs).writes c)
     variant_avoids (takes {depth = depth} {line = line} {n = n} {o = o} {m = m} {ts = ts} {d = d} {parts = parts} {targets = targets} {t = t} r ds g e q u) h l =
-        let b = roomy depth (Sizes.node no_size) n o r l in
+        let b = roomy depth (Sizes.with_node no_size) n o r l in
         let k = all_avoid ds h b in
         let a = grown o d.numbers (declared_steps Grown growing ds) b in
         either ((uses_of_declarations d.heads).writes c) _ (heads_not d.heads k.1)
@@ -279,12 +279,12 @@ module _ (c : ℕ) where
 
     option_avoids : {sc : Procedures} {depth : ℕ} {n m : Numbers} {type : Primitive} {before q : Chosen} {o : Node option} {options : Options} → OneOption sc depth n type before o options q m → In sc → c < length n.cells → Not ((uses_of_options options).writes c)
     option_avoids (is_one_of {depth = depth} {n = n} {o = o} {m = m} {d = d} {vs = vs} {t = t} r ds e x q u) h l =
-        let b = roomy depth (Sizes.node no_size) n o r l in
+        let b = roomy depth (Sizes.with_node no_size) n o r l in
         let k = all_avoid ds h b in
         let a = grown o d.numbers (declared_steps Grown growing ds) b in
         either ((uses_of_declarations d.heads).writes c) _ (heads_not d.heads k.1) (alone ((uses_of t).writes c) (unfolding_avoids u k.0 (roomy (depth + 1) (size_of_constants vs) d.numbers m q a)))
     option_avoids (is_none_of {depth = depth} {n = n} {o = o} {d = d} {t = t} r ds x u) h l =
-        let b = roomy depth (Sizes.node no_size) n o r l in
+        let b = roomy depth (Sizes.with_node no_size) n o r l in
         let k = all_avoid ds h b in
         let a = grown o d.numbers (declared_steps Grown growing ds) b in
         either ((uses_of_declarations d.heads).writes c) _ (heads_not d.heads k.1) (alone ((uses_of t).writes c) (unfolding_avoids u k.0 a))

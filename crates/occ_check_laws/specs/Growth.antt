@@ -3,7 +3,7 @@
 use Rattle.std.specs.Prelude.{List, length, ◌++◌, ◌≡◌, ◌≤◌}
 use Rattle.occ_term.specs.declared.names.Cell.{Cell}
 use Rattle.occ_term.specs.declared.names.Channel.{Channel}
-use Rattle.occ_term.specs.Unfolding.{most_cells, most_channels}
+use Rattle.occ_term.specs.UnfoldedProgram.{most_cells, most_channels}
 use Rattle.occ_check_meaning.specs.Numbers.{Numbers}
 
 -- no more cells and channels than there may be

@@ -2,7 +2,7 @@
 -- Manual: combining processes (PAR). The numbers are (own).
 use Rattle.std.specs.Prelude.{List, length, ℕ, ◌+◌, ◌≡◌}
 use Rattle.occ_term.specs.Processes.{Numbered}
-use Rattle.occ_term.specs.Unfolding.{NumberedFrom}
+use Rattle.occ_term.specs.UnfoldedProgram.{NumberedFrom}
 
 -- numbered from n on, and the next number is m
 pub record NumberedUpTo (n : ℕ) (ps : List Numbered) (m : ℕ) : Type 0 where

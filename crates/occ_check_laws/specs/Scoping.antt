@@ -7,7 +7,7 @@ use Rattle.occ_term.specs.Storing.{Gives, nothing}
 use Rattle.occ_term.specs.Uses.{empty_set}
 use Rattle.occ_term.specs.Selecting.{Enabled, set_again, enabled}
 use Rattle.occ_term.specs.StepUses.{uses_of_settings}
-use Rattle.occ_term.specs.Again.{sets_of, Scoped, Opens, again_of}
+use Rattle.occ_term.specs.TakenArms.{sets_of, Scoped, Opens, again_of}
 
 -- this holds of the arms of each ALT that stands in the term
 abbrev mutual

@@ -5,8 +5,8 @@ ghost use Rattle.occ_tree_grammar.specs.Processes.Trees.{process, Node, Item};
 ghost use Rattle.occ_term.specs.Terms.{Term};
 ghost use Rattle.occ_term.specs.Processes.{branches_in, processes_of};
 ghost use Rattle.occ_term.specs.Sizes.{size_of};
-ghost use Rattle.occ_term.specs.Unfolding as Unfolded;
-ghost use Rattle.occ_term.specs.Unfolding.{IsWellFormed, NumberedFrom};
+ghost use Rattle.occ_term.specs.UnfoldedProgram as Unfolded;
+ghost use Rattle.occ_term.specs.UnfoldedProgram.{IsWellFormed, NumberedFrom};
 ghost use Rattle.occ_term.specs.TermTyping.{Declared};
 ghost use Rattle.occ_tree_grammar.specs.Expressions.Trees.{Expression};
 ghost use Rattle.occ_check_laws.specs.CellOrder.{cells_in, InOrder};
@@ -46,7 +46,7 @@ pub fn only_grows()
 
 /// Whatever a program unfolds to is well-formed.
 pub fn unfoldings_are_well_formed()
-    ensures { (items : List Item) (u : Unfolded.Unfolding) → UnfoldsTo items u → IsWellFormed u }
+    ensures { (items : List Item) (u : Unfolded.UnfoldedProgram) → UnfoldsTo items u → IsWellFormed u }
 {}
 
 /// The cells that a program's term declares, read from left to right, are all its cells, from 0 on in order and none twice.

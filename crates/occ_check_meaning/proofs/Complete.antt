@@ -21,7 +21,8 @@ use Rattle.occ_check_meaning.specs.Performing.{nested, Under, Calling, Entered, 
 use Rattle.occ_check_meaning.specs.Recursion.{unfolded, all_in_turn, all_beside, arm_unfolded, all_arms, choice_unfolded, all_choices, variant_unfolded, all_variants, option_unfolded, all_options, all_declared, declared, item_declared}
 use Rattle.occ_check_meaning.specs.Programs.{channels_from, items_declared, program_unfolded}
 use Rattle.occ_check_meaning.specs.ProgramUnfolding.{DeclareItems, no_item, one_item, ProgramUnfolding, program}
-use Rattle.occ_check_meaning.specs.Unfolding.{Procedure, Procedures, entered_by, DeclaresItem, declares_value, declares_protocol, declares_procedure, Declares, declares_names, declares_item, DeclareAll, no_declaration, one_declaration, Unfolding, unfolds, Performs, skips, stops, assigns, inputs, outputs, calls, takes_variants, sequences, replicates_sequence, runs_beside, replicates_branch, alternates, replicates_alternation, conditions, replicates_conditional, selects, loops, InTurn, no_process, one_process, Beside, no_branch, one_branch, Copies, no_copy, one_copy, Arm, behind_arm, Offers, awaits, is_ready, awaits_variants, nests_arms, replicates_arm, EachArm, under_index, AllArms, no_arm, one_arm, Choice, behind_choice, Tests, tests, nests_choices, replicates_choice, EachChoice, under_choice_index, AllChoices, no_choice, one_choice, Variant, takes, AllVariants, no_variant, one_variant, OneOption, is_one_of, is_none_of, AllOptions, no_option, one_option, meant}
+use Rattle.occ_check_meaning.specs.Unfolding.{Procedure, Procedures, entered_by, DeclaresItem, declares_value, declares_protocol, declares_procedure, Declares, declares_names, declares_item, DeclareAll, no_declaration, one_declaration, Unfolding, unfolds, Performs, skips, stops, assigns, inputs, outputs, calls, takes_variants, sequences, replicates_sequence, runs_beside, replicates_branch, alternates, replicates_alternation, conditions, replicates_conditional, selects, loops, InTurn, no_process, one_process, Beside, no_branch, one_branch, Copies, no_copy, one_copy, Arm, behind_arm, Guards, awaits, is_ready, awaits_variants, nests_arms, replicates_arm, EachArm, under_index, AllArms, no_arm, one_arm, Choice, behind_choice, Tests, tests, nests_choices, replicates_choice, EachChoice, under_choice_index, AllChoices, no_choice, one_choice, Variant, takes, AllVariants, no_variant, one_variant, OneOption, is_one_of, is_none_of, AllOptions, no_option, one_option}
+use Rattle.occ_check_meaning.specs.Meant.{meant}
 use Rattle.occ_check_meaning.proofs.Steps.{then_some}
 use Rattle.occ_check_meaning.proofs.Names.{met, meant_within, found_means, means_of}
 
@@ -144,25 +145,25 @@ mutual
 
   arm_complete : {sc : Procedures} {depth : ℕ} {n m : Numbers} {a : Node arm} {arms : Arms} → Arm sc depth n a arms m → arm_unfolded a (meant sc) depth n ≡ Some (arms, m)
   arm_complete (behind_arm {sc = sc} {depth = depth} {n = n} {ds = ds} d w p) =
-      let r = offers_complete p in
+      let r = guards_complete p in
       r.1 ds (meant sc) depth n ∙ then_some _ _ _ (all_declared_complete d) (then_some _ _ _ w (then_some _ _ _ r.2 refl))
 
-  offers_complete : {sc : Procedures} {line depth : ℕ} {n m : Numbers} {h : ArmHead} {b : Body (under arm h)} {arms : Arms} → Offers sc line depth n h b arms m → ArmRead sc line depth n h b arms m
-  offers_complete (awaits {sc = sc} {line = line} {test = test} {i = i} {p = p} e c m u) = (
+  guards_complete : {sc : Procedures} {line depth : ℕ} {n m : Numbers} {h : ArmHead} {b : Body (under arm h)} {arms : Arms} → Guards sc line depth n h b arms m → ArmRead sc line depth n h b arms m
+  guards_complete (awaits {sc = sc} {line = line} {test = test} {i = i} {p = p} e c m u) = (
     arm_of line (on_input test i) (unfolded p),
     (λ ds s d k. refl),
     then_some _ _ _ (met sc (λ ns. test_of ns line test) e) (then_some _ _ _ (met sc (λ ns. received ns line i) c) (then_some _ _ _ m (then_some _ _ _ (complete u) refl))),
   )
-  offers_complete (is_ready {sc = sc} {line = line} {test = test} {p = p} e m u) =
+  guards_complete (is_ready {sc = sc} {line = line} {test = test} {p = p} e m u) =
       (arm_of line (on_skip test) (unfolded p), (λ ds s d k. refl), then_some _ _ _ (met sc (λ ns. typed_as ns line Boolean test) e) (then_some _ _ _ m (then_some _ _ _ (complete u) refl)))
-  offers_complete (awaits_variants {sc = sc} {line = line} {test = test} {v = v} {vs = vs} e c p m u) = (
+  guards_complete (awaits_variants {sc = sc} {line = line} {test = test} {v = v} {vs = vs} e c p m u) = (
     variants_arm line test v (λ q. all_variants vs q []),
     (λ ds s d k. refl),
     then_some _ _ _ (met sc (λ ns. test_of ns line test) e) (then_some _ _ _ (met sc (λ ns. channel_of ns line v) c)
         (then_some _ _ _ p (then_some _ _ _ m (then_some _ _ _ (variants_complete u) refl)))),
   )
-  offers_complete (nests_arms {xs = xs} w u) = (nested (all_arms xs), (λ ds s d k. refl), then_some _ _ _ w (arms_complete u))
-  offers_complete (replicates_arm {line = line} {r = r} {a = a} w u) = (nested (each_of_arms line r (arm_unfolded a)), (λ ds s d k. refl), then_some _ _ _ w (each_arm_complete u))
+  guards_complete (nests_arms {xs = xs} w u) = (nested (all_arms xs), (λ ds s d k. refl), then_some _ _ _ w (arms_complete u))
+  guards_complete (replicates_arm {line = line} {r = r} {a = a} w u) = (nested (each_of_arms line r (arm_unfolded a)), (λ ds s d k. refl), then_some _ _ _ w (each_arm_complete u))
 
   each_arm_complete : {sc : Procedures} {line depth : ℕ} {n m : Numbers} {r : L.Replicator} {a : Node arm} {arms : Arms} → EachArm sc line depth n r a arms m
       → each_of_arms line r (arm_unfolded a) (meant sc) depth n ≡ Some (arms, m)

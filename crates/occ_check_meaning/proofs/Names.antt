@@ -3,7 +3,8 @@ use Rattle.std.proofs.Common.{◌≡◌, [], ◌∷◌, Bool, true, false, cond,
 use Rattle.occ_tree_grammar.specs.Many.{◌>>=◌}
 use Rattle.occ_check_meaning.specs.Scope.{Name, Names, Pairs, Binding, known, proc, find, as_known, names_of, within}
 use Rattle.occ_check_meaning.specs.Performing.{Calling}
-use Rattle.occ_check_meaning.specs.Unfolding.{Procedure, Procedures, found, meant, meaning_of}
+use Rattle.occ_check_meaning.specs.Unfolding.{Procedure, Procedures, found}
+use Rattle.occ_check_meaning.specs.Meant.{meant, meaning_of}
 
 same_name : (sc : Procedures) (x : Name) → names_of (meant sc) x ≡ names_of sc x
 unfolding find meant

@@ -18,7 +18,8 @@ use Rattle.occ_check_meaning.specs.Actions as A
 use Rattle.occ_check_meaning.specs.Actions.{headed, opening, taken, assigned, received, as_input, size_of_list, test_of, with_tags, selector, Chosen, none_chosen, choosing, choosing_else}
 use Rattle.occ_check_meaning.specs.Performing.{Under, Calling, Entered, entered, Declaring, behind, acted, sequenced, each_sequenced, beside, copied, copies_beside}
 use Rattle.occ_check_meaning.specs.Recursion.{unfolded, all_declared}
-use Rattle.occ_check_meaning.specs.Unfolding.{Procedure, procedure, Procedures, found, DeclareAll, Unfolding, unfolds, Performs, skips, stops, assigns, inputs, outputs, calls, sequences, replicates_sequence, runs_beside, replicates_branch, InTurn, Beside, Copies, no_copy, one_copy, meant}
+use Rattle.occ_check_meaning.specs.Unfolding.{Procedure, procedure, Procedures, found, DeclareAll, Unfolding, unfolds, Performs, skips, stops, assigns, inputs, outputs, calls, sequences, replicates_sequence, runs_beside, replicates_branch, InTurn, Beside, Copies, no_copy, one_copy}
+use Rattle.occ_check_meaning.specs.Meant.{meant}
 use Rattle.occ_check_meaning.proofs.Steps.{bind_some, some_is}
 use Rattle.occ_check_meaning.proofs.Names.{plain, meant_within, found_means, means_of}
 
@@ -143,14 +144,14 @@ acted_sound line (call f es) sc h depth n x e =
 pub sequenced_sound : (line : ℕ) (ps : Nodes process) (f : Under Terms) → Sound f (λ sc depth n ts m. InTurn sc depth n ps ts m)
     → Sound (sequenced f) (Performing line (sequence None) (bodies ps))
 sequenced_sound line ps f s sc h depth n x e =
-    let m = bind_some (room depth (Sizes.node no_size) n) _ x e in
+    let m = bind_some (room depth (Sizes.with_node no_size) n) _ x e in
     let t = bind_some (f (meant sc) (depth + 1) m.0) _ x m.2 in
     subst (λ y. Performs sc line depth n (sequence None) (bodies ps) y.0 y.1) (some_is _ x t.2) (sequences m.1 (s sc h (depth + 1) m.0 t.0 t.1))
 
 pub each_sequenced_sound : (line : ℕ) (r : L.Replicator) (p : Node process) (f : Under Term) → Sound f (λ sc depth n t m. Unfolding sc depth n p t m)
     → Sound (each_sequenced line r f) (Performing line (sequence (Some r)) (single_body p))
 each_sequenced_sound line r p f s sc h depth n x e =
-    let m = bind_some (room depth (Sizes.node no_size) n) _ x e in
+    let m = bind_some (room depth (Sizes.with_node no_size) n) _ x e in
     let i = bind_some (indexed (names_of (meant sc)) line (depth + 1) r m.0) _ x m.2 in
     let t = bind_some (f (within i.0.names (meant sc)) (depth + 1) i.0.numbers) _ x i.2 in
     subst (λ y. Performs sc line depth n (sequence (Some r)) (single_body p) y.0 y.1) (some_is _ x t.2)
@@ -160,7 +161,7 @@ each_sequenced_sound line r p f s sc h depth n x e =
 pub beside_sound : (line : ℕ) (ps : Nodes process) (f : Under Branches) → Sound f (λ sc depth n bs m. Beside sc depth n ps bs m)
     → Sound (beside f) (Performing line (parallel None) (bodies ps))
 beside_sound line ps f s sc h depth n x e =
-    let m = bind_some (room depth (Sizes.node no_size) n) _ x e in
+    let m = bind_some (room depth (Sizes.with_node no_size) n) _ x e in
     let t = bind_some (f (meant sc) (depth + 1) m.0) _ x m.2 in
     subst (λ y. Performs sc line depth n (parallel None) (bodies ps) y.0 y.1) (some_is _ x t.2) (runs_beside m.1 (s sc h (depth + 1) m.0 t.0 t.1))
 
@@ -179,7 +180,7 @@ pub copies_sound : (line : ℕ) (r : L.Replicator) (p : Node process) (f : Under
     → Sound (copies_beside line r f) (Performing line (parallel (Some r)) (single_body p))
 copies_sound line r p f s sc h depth n x e =
     let c = bind_some (copies_of (names_of (meant sc)) line r) _ x e in
-    let m = bind_some (room depth (Sizes.node no_size) n) _ x c.2 in
+    let m = bind_some (room depth (Sizes.with_node no_size) n) _ x c.2 in
     let t = bind_some (copied (λ i. f (within (index_of r i) (meant sc)) (depth + 1)) c.0.1 c.0.0 m.0) _ x m.2 in
     subst (λ y. Performs sc line depth n (parallel (Some r)) (single_body p) y.0 y.1) (some_is _ x t.2)
     (replicates_branch (plain sc (λ ns. copies_of ns line r) c.1) m.1 (copied_sound r p f s sc h (depth + 1) c.0.1 c.0.0 m.0 t.0 t.1))

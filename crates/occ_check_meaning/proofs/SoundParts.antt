@@ -21,7 +21,8 @@ use Rattle.occ_check_meaning.specs.Items.{channel_of, stored}
 use Rattle.occ_check_meaning.specs.Declarations.{indexed}
 use Rattle.occ_check_meaning.specs.Actions.{received, size_of_list, test_of, with_tags, selector, Chosen, none_chosen, choosing, choosing_else}
 use Rattle.occ_check_meaning.specs.Performing.{Under, Calling, Entered, alternated, conditioned, selected, looped, taken_by_variant, nested, arms_under, arm_of, variants_arm, each_of_arms, choices_under, choice_of, each_of_choices, variant_of, option_of, else_of}
-use Rattle.occ_check_meaning.specs.Unfolding.{Procedures, DeclareAll, Unfolding, Performs, takes_variants, alternates, replicates_alternation, conditions, replicates_conditional, selects, loops, Arm, behind_arm, Offers, awaits, is_ready, awaits_variants, EachArm, under_index, AllArms, Choice, behind_choice, Tests, tests, EachChoice, under_choice_index, AllChoices, Variant, takes, AllVariants, OneOption, is_one_of, is_none_of, AllOptions, meant}
+use Rattle.occ_check_meaning.specs.Unfolding.{Procedures, DeclareAll, Unfolding, Performs, takes_variants, alternates, replicates_alternation, conditions, replicates_conditional, selects, loops, Arm, behind_arm, Guards, awaits, is_ready, awaits_variants, EachArm, under_index, AllArms, Choice, behind_choice, Tests, tests, EachChoice, under_choice_index, AllChoices, Variant, takes, AllVariants, OneOption, is_one_of, is_none_of, AllOptions}
+use Rattle.occ_check_meaning.specs.Meant.{meant}
 use Rattle.occ_check_meaning.proofs.Steps.{bind_some, some_is}
 use Rattle.occ_check_meaning.proofs.Names.{plain}
 use Rattle.occ_check_meaning.specs.Actions.{arms_behind, choices_behind, depth_behind}
@@ -31,28 +32,28 @@ use Rattle.occ_check_meaning.proofs.Sound.{Sound, inside, DeclaringSound, Perfor
 pub alternated_sound : (line : ℕ) (pri : Bool) (xs : Nodes arm) (f : Under Arms) → Sound f (λ sc depth n arms m. AllArms sc depth n xs arms m)
     → Sound (alternated pri f) (Performing line (alternation pri None) (bodies xs))
 alternated_sound line pri xs f s sc h depth n x e =
-    let m = bind_some (room depth (Sizes.node no_size) n) _ x e in
+    let m = bind_some (room depth (Sizes.with_node no_size) n) _ x e in
     let t = bind_some (f (meant sc) (depth + 1) m.0) _ x m.2 in
     subst (λ y. Performs sc line depth n (alternation pri None) (bodies xs) y.0 y.1) (some_is _ x t.2) (alternates m.1 (s sc h (depth + 1) m.0 t.0 t.1))
 
 pub each_alternated_sound : (line : ℕ) (pri : Bool) (r : L.Replicator) (a : Node arm) (f : Under Arms) → Sound f (λ sc depth n arms m. EachArm sc line depth n r a arms m)
     → Sound (alternated pri f) (Performing line (alternation pri (Some r)) (single_body a))
 each_alternated_sound line pri r a f s sc h depth n x e =
-    let m = bind_some (room depth (Sizes.node no_size) n) _ x e in
+    let m = bind_some (room depth (Sizes.with_node no_size) n) _ x e in
     let t = bind_some (f (meant sc) (depth + 1) m.0) _ x m.2 in
     subst (λ y. Performs sc line depth n (alternation pri (Some r)) (single_body a) y.0 y.1) (some_is _ x t.2) (replicates_alternation m.1 (s sc h (depth + 1) m.0 t.0 t.1))
 
 pub conditioned_sound : (line : ℕ) (xs : Nodes choice) (f : Under Choices) → Sound f (λ sc depth n choices m. AllChoices sc depth n xs choices m)
     → Sound (conditioned f) (Performing line (conditional None) (bodies xs))
 conditioned_sound line xs f s sc h depth n x e =
-    let m = bind_some (room depth (Sizes.node no_size) n) _ x e in
+    let m = bind_some (room depth (Sizes.with_node no_size) n) _ x e in
     let t = bind_some (f (meant sc) (depth + 1) m.0) _ x m.2 in
     subst (λ y. Performs sc line depth n (conditional None) (bodies xs) y.0 y.1) (some_is _ x t.2) (conditions m.1 (s sc h (depth + 1) m.0 t.0 t.1))
 
 pub each_conditioned_sound : (line : ℕ) (r : L.Replicator) (c : Node choice) (f : Under Choices) → Sound f (λ sc depth n choices m. EachChoice sc line depth n r c choices m)
     → Sound (conditioned f) (Performing line (conditional (Some r)) (single_body c))
 each_conditioned_sound line r c f s sc h depth n x e =
-    let m = bind_some (room depth (Sizes.node no_size) n) _ x e in
+    let m = bind_some (room depth (Sizes.with_node no_size) n) _ x e in
     let t = bind_some (f (meant sc) (depth + 1) m.0) _ x m.2 in
     subst (λ y. Performs sc line depth n (conditional (Some r)) (single_body c) y.0 y.1) (some_is _ x t.2) (replicates_conditional m.1 (s sc h (depth + 1) m.0 t.0 t.1))
 
@@ -61,7 +62,7 @@ pub selected_sound : (line : ℕ) (a : Expression) (xs : Nodes option) (f : Prim
     → Sound (selected line a f) (Performing line (selection a) (bodies xs))
 selected_sound line a xs f s sc h depth n x e =
     let c = bind_some (selector (names_of (meant sc)) line a) _ x e in
-    let m = bind_some (room depth (Sizes.node (size_of_expression c.0.1)) n) _ x c.2 in
+    let m = bind_some (room depth (Sizes.with_node (size_of_expression c.0.1)) n) _ x c.2 in
     let t = bind_some (f c.0.0 (meant sc) (depth + 1) m.0) _ x m.2 in
     subst (λ y. Performs sc line depth n (selection a) (bodies xs) y.0 y.1) (some_is _ x t.2)
     (selects (plain sc (λ ns. selector ns line a) c.1) m.1 (s c.0.0 sc h (depth + 1) m.0 t.0 t.1))
@@ -70,7 +71,7 @@ pub looped_sound : (line : ℕ) (a : Expression) (p : Node process) (f : Under T
     → Sound (looped line a f) (Performing line (loop a) (single_body p))
 looped_sound line a p f s sc h depth n x e =
     let c = bind_some (typed_as (names_of (meant sc)) line Boolean a) _ x e in
-    let m = bind_some (room depth (Sizes.node (size_of_expression c.0)) n) _ x c.2 in
+    let m = bind_some (room depth (Sizes.with_node (size_of_expression c.0)) n) _ x c.2 in
     let t = bind_some (f (meant sc) (depth + 1) m.0) _ x m.2 in
     subst (λ y. Performs sc line depth n (loop a) (single_body p) y.0 y.1) (some_is _ x t.2)
     (loops (plain sc (λ ns. typed_as ns line Boolean a) c.1) m.1 (s sc h (depth + 1) m.0 t.0 t.1))
@@ -81,7 +82,7 @@ pub taken_by_variant_sound : (line : ℕ) (v : Var) (vs : Nodes variant) (f : Pr
 taken_by_variant_sound line v vs f s sc h depth n x e =
     let c = bind_some (channel_of (names_of (meant sc)) line v) _ x e in
     let p = bind_some (with_tags c.0.0) _ x c.2 in
-    let m = bind_some (room depth (Sizes.node (size_of_place c.0.1)) n) _ x p.2 in
+    let m = bind_some (room depth (Sizes.with_node (size_of_place c.0.1)) n) _ x p.2 in
     let t = bind_some (f p.0 (meant sc) (depth + 1) m.0) _ x m.2 in
     subst (λ y. Performs sc line depth n (input_variants v) (bodies vs) y.0 y.1) (some_is _ x t.2)
     (takes_variants (plain sc (λ ns. channel_of ns line v) c.1) p.1 m.1 (s p.0 sc h (depth + 1) m.0 t.0 t.1))
@@ -97,7 +98,7 @@ nested_sound f P Q s g sc h depth n x e =
 -- ---- arms
 
 abbrev pub Offering : ℕ → (h : ArmHead) → Body (under arm h) → Procedures → ℕ → Numbers → Arms → Numbers → Type 0
-Offering line h b sc depth n arms m = Offers sc line depth n h b arms m
+Offering line h b sc depth n arms m = Guards sc line depth n h b arms m
 
 abbrev arms_rest : Under Arms → ℕ → Entered Calling → Option (Arms × Numbers)
 arms_rest f depth d = do
@@ -120,15 +121,15 @@ pub arm_of_sound : (line : ℕ) (g : Guard) (p : Node process) (f : Under Term) 
 arm_of_sound line (on_input test i) p f s sc h depth n x e =
     let b = bind_some (test_of (names_of (meant sc)) line test) _ x e in
     let c = bind_some (received (names_of (meant sc)) line i) _ x b.2 in
-    let m = bind_some (room depth (Sizes.node (Sizes.beside (size_of_test b.0) (Sizes.beside (size_of_place c.0.0) (size_of_list c.0.1)))) n) _ x c.2 in
+    let m = bind_some (room depth (Sizes.with_node (Sizes.together (size_of_test b.0) (Sizes.together (size_of_place c.0.0) (size_of_list c.0.1)))) n) _ x c.2 in
     let t = bind_some (f (meant sc) (depth_behind c.0.1 (depth + 1)) m.0) _ x m.2 in
-    subst (λ y. Offers sc line depth n (guarded (on_input test i)) (single_body p) y.0 y.1) (some_is _ x t.2)
+    subst (λ y. Guards sc line depth n (guarded (on_input test i)) (single_body p) y.0 y.1) (some_is _ x t.2)
     (awaits (plain sc (λ ns. test_of ns line test) b.1) (plain sc (λ ns. received ns line i) c.1) m.1 (s sc h (depth_behind c.0.1 (depth + 1)) m.0 t.0 t.1))
 arm_of_sound line (on_skip test) p f s sc h depth n x e =
     let b = bind_some (typed_as (names_of (meant sc)) line Boolean test) _ x e in
-    let m = bind_some (room depth (Sizes.node (size_of_expression b.0)) n) _ x b.2 in
+    let m = bind_some (room depth (Sizes.with_node (size_of_expression b.0)) n) _ x b.2 in
     let t = bind_some (f (meant sc) (depth + 1) m.0) _ x m.2 in
-    subst (λ y. Offers sc line depth n (guarded (on_skip test)) (single_body p) y.0 y.1) (some_is _ x t.2)
+    subst (λ y. Guards sc line depth n (guarded (on_skip test)) (single_body p) y.0 y.1) (some_is _ x t.2)
     (is_ready (plain sc (λ ns. typed_as ns line Boolean test) b.1) m.1 (s sc h (depth + 1) m.0 t.0 t.1))
 
 pub variants_arm_sound : (line : ℕ) (test : Option Expression) (v : Var) (vs : Nodes variant) (f : Protocol → Under Variants)
@@ -138,9 +139,9 @@ variants_arm_sound line test v vs f s sc h depth n x e =
     let b = bind_some (test_of (names_of (meant sc)) line test) _ x e in
     let c = bind_some (channel_of (names_of (meant sc)) line v) _ x b.2 in
     let p = bind_some (with_tags c.0.0) _ x c.2 in
-    let m = bind_some (room depth (Sizes.node (Sizes.beside (size_of_test b.0) (size_of_place c.0.1))) n) _ x p.2 in
+    let m = bind_some (room depth (Sizes.with_node (Sizes.together (size_of_test b.0) (size_of_place c.0.1))) n) _ x p.2 in
     let t = bind_some (f p.0 (meant sc) (depth + 1) m.0) _ x m.2 in
-    subst (λ y. Offers sc line depth n (guarded_variants test v) (bodies vs) y.0 y.1) (some_is _ x t.2)
+    subst (λ y. Guards sc line depth n (guarded_variants test v) (bodies vs) y.0 y.1) (some_is _ x t.2)
     (awaits_variants (plain sc (λ ns. test_of ns line test) b.1) (plain sc (λ ns. channel_of ns line v) c.1) p.1 m.1 (s p.0 sc h (depth + 1) m.0 t.0 t.1))
 
 pub each_arm_sound : (line : ℕ) (r : L.Replicator) (a : Node arm) (f : Under Arms) → Sound f (λ sc depth n arms m. Arm sc depth n a arms m)
@@ -176,7 +177,7 @@ pub choice_of_sound : (line : ℕ) (test : Expression) (p : Node process) (f : U
     → Sound (choice_of line test f) (Testing line (chosen test) (single_body p))
 choice_of_sound line test p f s sc h depth n x e =
     let b = bind_some (typed_as (names_of (meant sc)) line Boolean test) _ x e in
-    let m = bind_some (room depth (Sizes.node (size_of_expression b.0)) n) _ x b.2 in
+    let m = bind_some (room depth (Sizes.with_node (size_of_expression b.0)) n) _ x b.2 in
     let t = bind_some (f (meant sc) (depth + 1) m.0) _ x m.2 in
     subst (λ y. Tests sc line depth n (chosen test) (single_body p) y.0 y.1) (some_is _ x t.2)
     (tests (plain sc (λ ns. typed_as ns line Boolean test) b.1) m.1 (s sc h (depth + 1) m.0 t.0 t.1))
@@ -203,7 +204,7 @@ pub variant_of_sound : (ds : Decls) (line : ℕ) (y : Name) (ts : List L.Target)
     → DeclaringSound (all_declared ds) (λ sc depth n d. DeclareAll sc depth n ds d) → Sound f (λ sc depth n t m. Unfolding sc depth n q t m)
     → Sound (variant_of line ts (all_declared ds) f p k) (λ sc depth n xs m. Variant sc depth n p k (node ds line (tag y ts) (single_body q)) xs m)
 variant_of_sound ds line v ts q f p k declared_sound s sc a depth n x e =
-    let o = bind_some (room depth (Sizes.node no_size) n) _ x e in
+    let o = bind_some (room depth (Sizes.with_node no_size) n) _ x e in
     let d = bind_some (all_declared ds (meant sc) (depth + 1) o.0) (variant_rest line ts f p k depth) x o.2 in
     let w = declared_sound sc a (depth + 1) o.0 d.0 d.1 in
     let parts = bind_some (parts_after p (Some k)) _ x (subst (λ y. variant_rest line ts f p k depth y ≡ Some x) w.3 d.2) in
@@ -229,7 +230,7 @@ pub option_of_sound : (ds : Decls) (line : ℕ) (a : Expression) (es : List Expr
     → DeclaringSound (all_declared ds) (λ sc depth n d. DeclareAll sc depth n ds d) → Sound f (λ sc depth n t m. Unfolding sc depth n p t m)
     → Sound (option_of line (a ∷ es) (all_declared ds) f type before) (Opting type before (node ds line (values a es) (single_body p)))
 option_of_sound ds line a es p f type before declared_sound s sc h depth n x e =
-    let o = bind_some (room depth (Sizes.node no_size) n) _ x e in
+    let o = bind_some (room depth (Sizes.with_node no_size) n) _ x e in
     let d = bind_some (all_declared ds (meant sc) (depth + 1) o.0) (option_rest line (a ∷ es) f type before depth) x o.2 in
     let w = declared_sound sc h (depth + 1) o.0 d.0 d.1 in
     let vs = bind_some (each_of (constant_as (names_of (meant w.0.scope)) line type) (a ∷ es)) _ x (subst (λ y. option_rest line (a ∷ es) f type before depth y ≡ Some x) w.3 d.2) in
@@ -249,7 +250,7 @@ pub else_of_sound : (ds : Decls) (line : ℕ) (p : Node process) (f : Under Term
     → DeclaringSound (all_declared ds) (λ sc depth n d. DeclareAll sc depth n ds d) → Sound f (λ sc depth n t m. Unfolding sc depth n p t m)
     → Sound (else_of (all_declared ds) f before) (Opting type before (node ds line otherwise (single_body p)))
 else_of_sound ds line p f type before declared_sound s sc h depth n x e =
-    let o = bind_some (room depth (Sizes.node no_size) n) _ x e in
+    let o = bind_some (room depth (Sizes.with_node no_size) n) _ x e in
     let d = bind_some (all_declared ds (meant sc) (depth + 1) o.0) (else_rest f before depth) x o.2 in
     let w = declared_sound sc h (depth + 1) o.0 d.0 d.1 in
     let c = bind_some (choosing_else before) _ x (subst (λ y. else_rest f before depth y ≡ Some x) w.3 d.2) in

@@ -11,10 +11,12 @@ use Rattle.occ_check_meaning.specs.Numbers.{Numbers, at_start, more_processes}
 use Rattle.occ_check_meaning.specs.Declarations.{Opened, names_declared, value_declared, protocol_declared}
 use Rattle.occ_check_meaning.specs.Actions.{headed, opening, new_tag, Chosen, none_chosen}
 use Rattle.occ_check_meaning.specs.Performing.{nested, Calling, Entered, entered, within_names, acted, sequenced, each_sequenced, beside, copies_beside, alternated, conditioned, selected, looped, taken_by_variant, arm_of, variants_arm, each_of_arms, choice_of, each_of_choices}
-use Rattle.occ_check_meaning.specs.Recursion.{variant_tag, unfolded, all_in_turn, all_beside, arm_unfolded, all_arms, choice_unfolded, all_choices, variant_unfolded, all_variants, option_unfolded, all_options, all_declared, declared, item_declared}
+use Rattle.occ_check_meaning.specs.Recursion.{unfolded, all_in_turn, all_beside, arm_unfolded, all_arms, choice_unfolded, all_choices, variant_unfolded, all_variants, option_unfolded, all_options, all_declared, declared, item_declared}
+use Rattle.occ_check_meaning.specs.Actions.{variant_tag}
 use Rattle.occ_check_meaning.specs.Programs.{main_of, main_names, channels_from, items_declared, program_unfolded}
 use Rattle.occ_check_meaning.specs.ProgramUnfolding.{DeclareItems, no_item, one_item, ProgramUnfolding, program}
-use Rattle.occ_check_meaning.specs.Unfolding.{Procedure, procedure, Procedures, entered_by, DeclaresItem, declares_value, declares_protocol, declares_procedure, Declares, declares_names, declares_item, DeclareAll, no_declaration, one_declaration, Unfolding, InTurn, no_process, one_process, Beside, no_branch, one_branch, Arm, nests_arms, replicates_arm, AllArms, no_arm, one_arm, Choice, nests_choices, replicates_choice, AllChoices, no_choice, one_choice, Variant, AllVariants, no_variant, one_variant, AllOptions, no_option, one_option, meant, EachArm, EachChoice}
+use Rattle.occ_check_meaning.specs.Unfolding.{Procedure, procedure, Procedures, entered_by, DeclaresItem, declares_value, declares_protocol, declares_procedure, Declares, declares_names, declares_item, DeclareAll, no_declaration, one_declaration, Unfolding, InTurn, no_process, one_process, Beside, no_branch, one_branch, Arm, nests_arms, replicates_arm, AllArms, no_arm, one_arm, Choice, nests_choices, replicates_choice, AllChoices, no_choice, one_choice, Variant, AllVariants, no_variant, one_variant, AllOptions, no_option, one_option, EachArm, EachChoice}
+use Rattle.occ_check_meaning.specs.Meant.{meant}
 use Rattle.occ_check_meaning.proofs.Steps.{bind_some, some_is}
 use Rattle.occ_check_meaning.proofs.Names.{plain, meant_within}
 use Rattle.occ_check_meaning.proofs.Sound.{IsSound, AllSound, sound_within, Sound, inside, Enters, DeclaringSound, behind_sound, acted_sound, sequenced_sound, each_sequenced_sound, beside_sound, copies_sound}

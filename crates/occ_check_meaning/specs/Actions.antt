@@ -1,11 +1,13 @@
 -- Processes that stand in one line, and the parts of the others that declare nothing: each answers nothing where it is refused.
 -- Manual: primitive processes; combining processes.
-use Rattle.std.specs.Prelude.{Bool, List, None, Option, Some, [], cond, false, map, nat_eq, not, pos, true, ℕ, ℤ, ◌+◌, ◌∷◌}
+use Rattle.std.specs.Prelude.{Bool, List, None, Option, Some, [], cond, false, map, nat_eq, not, true, ℕ, ℤ, ◌+◌, ◌∷◌}
 use Rattle.std.specs.Ordering.{int_eq}
 use Rattle.occ_tree_grammar.specs.Many.{◌>>=◌}
 use Rattle.occ_tree_grammar.specs.Expressions.Trees.{Expression}
 use Rattle.occ_tree_grammar.specs.Lines.Trees as L
 use Rattle.occ_tree_grammar.specs.Lines.Trees.{Var, Out}
+use Rattle.occ_tree_grammar.specs.Lines.Heads.{tag}
+use Rattle.occ_tree_grammar.specs.Processes.Trees.{variant, Node, node}
 use Rattle.occ_term.specs.declared.primitive.Primitive.{Primitive}
 use Rattle.occ_term.specs.declared.primitive.Primitive.TheVariants.{Bool as Boolean}
 use Rattle.occ_term.specs.declared.protocol.Protocol.{Protocol}
@@ -13,8 +15,8 @@ use Rattle.occ_term.specs.declared.protocol.Protocol.TheVariants.{Simple, Counte
 use Rattle.occ_term.specs.Messages.{parts_after}
 use Rattle.occ_term.specs.Typing.{is_number}
 use Rattle.occ_term.specs.Terms as T
-use Rattle.occ_term.specs.Terms.{Constant, Place, Target, Declaration, Clearing, Naming, Term, Skip, Assign, Input, Output, VariantInput, Seq, Clear, Local, Terms, no_terms, then_term, Arms, no_arms, skip_arm, input_arm, declared_arms, each_arm, Reception, Plain, Tagged, Variants, no_variants, or_variant, Choices, no_choices, or_choice, declared_choices, each_choice, Options, no_options, or_option, or_else}
-use Rattle.occ_term.specs.Sizes.{Size, no_size, node, size_of, size_of_targets}
+use Rattle.occ_term.specs.Terms.{Place, Target, Declaration, Clearing, Naming, Term, Skip, Assign, Input, Output, VariantInput, Seq, Clear, Local, Terms, no_terms, then_term, Arms, no_arms, skip_arm, input_arm, declared_arms, each_arm, Reception, Plain, Tagged, Variants, no_variants, or_variant, Choices, no_choices, or_choice, declared_choices, each_choice, Options, no_options, or_option, or_else}
+use Rattle.occ_term.specs.Sizes.{Size, no_size, with_node, size_of, size_of_targets}
 use Rattle.occ_check_meaning.specs.Scope.{keep, each_of, Name, Names}
 use Rattle.occ_check_meaning.specs.Numbers.{Numbers, room}
 use Rattle.occ_check_meaning.specs.Expressions.{as_single, typed, typed_as}
@@ -38,7 +40,7 @@ headed (h ∷ hs) t = Seq (followed (h ∷ hs) t)
 -- the depth behind that SEQ, which is a node
 abbrev pub opening : List Declaration → ℕ → Numbers → Option (ℕ × Numbers)
 opening [] depth n = Some (depth, n)
-opening (h ∷ hs) depth n = room depth (node no_size) n >>= λ m. Some (depth + 1, m)
+opening (h ∷ hs) depth n = room depth (with_node no_size) n >>= λ m. Some (depth + 1, m)
 
 -- a term of one line takes its nodes
 abbrev pub taken : ℕ → Numbers → Term → Option (Term × Numbers)
@@ -92,7 +94,7 @@ as_input (c, tagged_list k targets) = VariantInput c (or_variant k [] targets Sk
 -- its nodes without the process that follows, and the depth of that process
 abbrev pub size_of_list : Listed → Size
 size_of_list (plain_list targets) = size_of_targets targets
-size_of_list (tagged_list k targets) = node (size_of_targets targets)
+size_of_list (tagged_list k targets) = with_node (size_of_targets targets)
 
 abbrev pub depth_behind : Listed → ℕ → ℕ
 depth_behind (plain_list targets) depth = depth
@@ -104,6 +106,10 @@ test_of ns line None = Some None
 test_of ns line (Some e) = typed_as ns line Boolean e >>= λ test. Some (Some test)
 
 -- ---- inputs of variants
+
+-- the tag that a variant names
+abbrev pub variant_tag : Node variant → Name
+variant_tag (node ds line (tag x ts) b) = x
 
 -- (refusal: protocol) a protocol with tags
 abbrev pub with_tags : Protocol → Option Protocol

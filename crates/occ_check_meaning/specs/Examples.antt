@@ -9,7 +9,7 @@ use Rattle.occ_tree_grammar.specs.Lines.Trees.{Var, var, into, from, items, each
 use Rattle.occ_tree_grammar.specs.Lines.Heads.{act, skip, assign, output, call, sequence, parallel, alternation, guarded, on_input, nested_alternation}
 use Rattle.occ_tree_grammar.specs.Processes.Trees.{process, arm, Node, node, no_body, single_body, bodies, no_node, more_nodes, Decls, no_decl, more_decls, declares, item, Item, value_item, proc_item}
 use Rattle.occ_term.specs.declared.primitive.Primitive.TheVariants.{Int}
-use Rattle.occ_term.specs.declared.expression.Operator.TheVariants.{Plus}
+use Rattle.occ_term.specs.declared.expression.Operator.TheVariants.{Add}
 use Rattle.occ_term.specs.declared.names.Channel.{Channel}
 use Rattle.occ_term.specs.Terms as T
 use Rattle.occ_term.specs.Terms.{Place, place, Subscripts, no_subscripts, then_subscript, OfOne, Into, Term, Terms, no_terms, then_term, Branches, no_branches, and_branch, no_arms, input_arm, each_arm, Plain, replicator}
@@ -108,7 +108,7 @@ naming = main 1 (node (ints 2 no_expression (codes "x") (more_decls (item (value
     4 (act (assign (whole (codes "x")) [] (alone (name (codes "y"))) [])) no_body) ∷ []
 
 abbrev pub named : Term
-named = in_turn (T.Clear 0 1 ∷ T.Local 1 (OfOne Int (T.Binary Plus Int 3 (T.Cell 0) (T.Constant (pos 1)))) ∷ into_cell 4 0 (T.Cell 1) ∷ [])
+named = in_turn (T.Clear 0 1 ∷ T.Local 1 (OfOne Int (T.Binary Add Int 3 (T.Cell 0) (T.Constant (pos 1)))) ∷ into_cell 4 0 (T.Cell 1) ∷ [])
 
 -- ---- an ALT in an arm under a replicator, under PRI ALT
 

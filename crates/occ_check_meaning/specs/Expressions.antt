@@ -138,7 +138,7 @@ unfoldable mutual
     x ← typed_operand ns line a >>= as_single
     y ← typed_operand ns line b >>= as_single
     two_typed line (operator_of op) x y
-  typed ns line (one m.Minus a) = typed_operand ns line a >>= as_single >>= one_typed line Negate
+  typed ns line (one m.Negate a) = typed_operand ns line a >>= as_single >>= one_typed line Negate
   typed ns line (one m.Tilde a) = typed_operand ns line a >>= as_single >>= one_typed line BitNot
   typed ns line (one m.BitNot a) = typed_operand ns line a >>= as_single >>= one_typed line BitNot
   typed ns line (one m.Not a) = typed_operand ns line a >>= as_single >>= one_typed line Not

@@ -12,6 +12,7 @@ pub mod Performing
 pub mod Recursion
 pub mod Programs
 pub mod Unfolding
+pub mod Meant
 pub mod ProgramUnfolding
 pub mod Examples
 pub mod CallExamples

@@ -8,7 +8,7 @@ use Rattle.occ_term.specs.declared.protocol.Protocol.{Protocol}
 use Rattle.occ_term.specs.Messages.{product}
 use Rattle.occ_term.specs.Names.{component_name}
 use Rattle.occ_term.specs.Sizes.{Size}
-use Rattle.occ_term.specs.Unfolding.{first_channels, most_cells, most_channels}
+use Rattle.occ_term.specs.UnfoldedProgram.{first_channels, most_cells, most_channels}
 use Rattle.occ_check_meaning.specs.Scope.{Name, keep}
 
 -- The cells and the channels that are declared so far, each with its name, and how many processes, named protocols and nodes

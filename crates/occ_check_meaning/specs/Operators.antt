@@ -8,7 +8,7 @@ use Rattle.occ_tree_grammar.specs.declared.tree.expr.Dyadic.TheVariants as d
 use Rattle.occ_term.specs.declared.primitive.Primitive.{Primitive}
 use Rattle.occ_term.specs.declared.primitive.Primitive.TheVariants.{Bool as Boolean, Byte, Int}
 use Rattle.occ_term.specs.declared.expression.Operator.{Operator}
-use Rattle.occ_term.specs.declared.expression.Operator.TheVariants.{Plus, Minus, Times, Divide, Remainder, PlusModulo, MinusModulo, TimesModulo, BitAnd, BitOr, BitXor, ShiftLeft, ShiftRight, After, Equal, Unequal, Less, Greater, AtMost, AtLeast}
+use Rattle.occ_term.specs.declared.expression.Operator.TheVariants.{Add, Subtract, Multiply, Divide, Remainder, Plus, Minus, Times, BitAnd, BitOr, BitXor, ShiftLeft, ShiftRight, After, Equal, Unequal, Less, Greater, AtMost, AtLeast}
 use Rattle.occ_term.specs.declared.expression.Monadic.{Monadic}
 use Rattle.occ_term.specs.declared.expression.Monadic.TheVariants.{Negate, BitNot, Not}
 use Rattle.occ_term.specs.Typing.{is_number, is_arithmetic, is_shift, is_equality, is_order}
@@ -31,15 +31,15 @@ is_same_type Int Byte = false
 is_same_type Int Int = true
 
 abbrev pub operator_of : Dyadic → Operator
-operator_of d.Add = Plus
-operator_of d.Subtract = Minus
-operator_of d.Multiply = Times
+operator_of d.Add = Add
+operator_of d.Subtract = Subtract
+operator_of d.Multiply = Multiply
 operator_of d.Divide = Divide
 operator_of d.Remainder = Remainder
 operator_of d.Rem = Remainder
-operator_of d.Plus = PlusModulo
-operator_of d.Minus = MinusModulo
-operator_of d.Times = TimesModulo
+operator_of d.Plus = Plus
+operator_of d.Minus = Minus
+operator_of d.Times = Times
 operator_of d.BitAndSign = BitAnd
 operator_of d.BitAnd = BitAnd
 operator_of d.BitOrSign = BitOr
@@ -49,11 +49,11 @@ operator_of d.ShiftLeft = ShiftLeft
 operator_of d.ShiftRight = ShiftRight
 operator_of d.After = After
 operator_of d.Equal = Equal
-operator_of d.NotEqual = Unequal
+operator_of d.Unequal = Unequal
 operator_of d.Less = Less
 operator_of d.Greater = Greater
-operator_of d.LessEqual = AtMost
-operator_of d.GreaterEqual = AtLeast
+operator_of d.AtMost = AtMost
+operator_of d.AtLeast = AtLeast
 
 -- (refusal: wrong type) The type of the result, from those of the two operands. Only AFTER is of none of the first four kinds.
 abbrev pub result_of : Operator → Primitive → Primitive → Option Primitive

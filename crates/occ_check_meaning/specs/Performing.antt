@@ -86,20 +86,20 @@ acted line (call f es) sc depth n = do
 
 abbrev pub sequenced : Under Terms → Under Term
 sequenced parts sc depth n = do
-  m ← room depth (Sizes.node no_size) n
+  m ← room depth (Sizes.with_node no_size) n
   x ← parts sc (depth + 1) m
   Some (T.Seq x.0, x.1)
 
 abbrev pub each_sequenced : ℕ → L.Replicator → Under Term → Under Term
 each_sequenced line r body sc depth n = do
-  m ← room depth (Sizes.node no_size) n
+  m ← room depth (Sizes.with_node no_size) n
   i ← indexed (names_of sc) line (depth + 1) r m
   x ← body (within i.names sc) (depth + 1) i.numbers
   Some (T.Each i.replicator x.0, x.1)
 
 abbrev pub beside : Under Branches → Under Term
 beside branches sc depth n = do
-  m ← room depth (Sizes.node no_size) n
+  m ← room depth (Sizes.with_node no_size) n
   x ← branches sc (depth + 1) m
   Some (T.Par x.0, x.1)
 
@@ -120,33 +120,33 @@ copied u (suc k) i n = branch (u i) (copied u k (i +ℤ pos 1)) n
 abbrev pub copies_beside : ℕ → L.Replicator → Under Term → Under Term
 copies_beside line r body sc depth n = do
   c ← copies_of (names_of sc) line r
-  m ← room depth (Sizes.node no_size) n
+  m ← room depth (Sizes.with_node no_size) n
   x ← copied (λ i. body (within (index_of r i) sc) (depth + 1)) c.1 c.0 m
   Some (T.Par x.0, x.1)
 
 abbrev pub alternated : Bool → Under Arms → Under Term
 alternated pri arms sc depth n = do
-  m ← room depth (Sizes.node no_size) n
+  m ← room depth (Sizes.with_node no_size) n
   x ← arms sc (depth + 1) m
   Some (T.Alt pri x.0, x.1)
 
 abbrev pub conditioned : Under Choices → Under Term
 conditioned choices sc depth n = do
-  m ← room depth (Sizes.node no_size) n
+  m ← room depth (Sizes.with_node no_size) n
   x ← choices sc (depth + 1) m
   Some (T.If x.0, x.1)
 
 abbrev pub selected : ℕ → Expression → (Primitive → Under Options) → Under Term
 selected line e options sc depth n = do
   s ← selector (names_of sc) line e
-  m ← room depth (Sizes.node (size_of_expression s.1)) n
+  m ← room depth (Sizes.with_node (size_of_expression s.1)) n
   x ← options s.0 sc (depth + 1) m
   Some (T.Case s.1 x.0, x.1)
 
 abbrev pub looped : ℕ → Expression → Under Term → Under Term
 looped line e body sc depth n = do
   c ← typed_as (names_of sc) line Boolean e
-  m ← room depth (Sizes.node (size_of_expression c)) n
+  m ← room depth (Sizes.with_node (size_of_expression c)) n
   x ← body sc (depth + 1) m
   Some (T.While c x.0, x.1)
 
@@ -154,7 +154,7 @@ abbrev pub taken_by_variant : ℕ → Var → (Protocol → Under Variants) → 
 taken_by_variant line v variants sc depth n = do
   c ← channel_of (names_of sc) line v
   p ← with_tags c.0
-  m ← room depth (Sizes.node (size_of_place c.1)) n
+  m ← room depth (Sizes.with_node (size_of_place c.1)) n
   x ← variants p sc (depth + 1) m
   Some (T.VariantInput c.1 x.0, x.1)
 
@@ -176,12 +176,12 @@ abbrev pub arm_of : ℕ → Guard → Under Term → Under Arms
 arm_of line (on_input test i) body sc depth n = do
   e ← test_of (names_of sc) line test
   c ← received (names_of sc) line i
-  m ← room depth (Sizes.node (Sizes.beside (size_of_test e) (Sizes.beside (size_of_place c.0) (size_of_list c.1)))) n
+  m ← room depth (Sizes.with_node (Sizes.together (size_of_test e) (Sizes.together (size_of_place c.0) (size_of_list c.1)))) n
   x ← body sc (depth_behind c.1 (depth + 1)) m
   Some (input_arm e c.0 (as_reception c.1 x.0) no_arms, x.1)
 arm_of line (on_skip test) body sc depth n = do
   e ← typed_as (names_of sc) line Boolean test
-  m ← room depth (Sizes.node (size_of_expression e)) n
+  m ← room depth (Sizes.with_node (size_of_expression e)) n
   x ← body sc (depth + 1) m
   Some (skip_arm e x.0 no_arms, x.1)
 
@@ -190,7 +190,7 @@ variants_arm line test v variants sc depth n = do
   e ← test_of (names_of sc) line test
   c ← channel_of (names_of sc) line v
   p ← with_tags c.0
-  m ← room depth (Sizes.node (Sizes.beside (size_of_test e) (size_of_place c.1))) n
+  m ← room depth (Sizes.with_node (Sizes.together (size_of_test e) (size_of_place c.1))) n
   x ← variants p sc (depth + 1) m
   Some (input_arm e c.1 (Tagged x.0) no_arms, x.1)
 
@@ -213,7 +213,7 @@ choices_under declared choices sc depth n = do
 abbrev pub choice_of : ℕ → Expression → Under Term → Under Choices
 choice_of line test body sc depth n = do
   e ← typed_as (names_of sc) line Boolean test
-  m ← room depth (Sizes.node (size_of_expression e)) n
+  m ← room depth (Sizes.with_node (size_of_expression e)) n
   x ← body sc (depth + 1) m
   Some (or_choice e x.0 no_choices, x.1)
 
@@ -227,7 +227,7 @@ each_of_choices line r choices sc depth n = do
 
 abbrev pub variant_of : ℕ → List L.Target → Declaring → Under Term → Protocol → (tag : ℕ) → Under Variants
 variant_of line ts declared body p k sc depth n = do
-  m ← room depth (Sizes.node no_size) n
+  m ← room depth (Sizes.with_node no_size) n
   d ← declared sc (depth + 1) m
   parts ← parts_after p (Some k)
   targets ← stored (names_of d.scope) line parts ts
@@ -238,7 +238,7 @@ variant_of line ts declared body p k sc depth n = do
 -- an option, and what is chosen with it
 abbrev pub option_of : ℕ → List Expression → Declaring → Under Term → Primitive → Chosen → Under (Options × Chosen)
 option_of line es declared body type before sc depth n = do
-  m ← room depth (Sizes.node no_size) n
+  m ← room depth (Sizes.with_node no_size) n
   d ← declared sc (depth + 1) m
   vs ← each_of (constant_as (names_of d.scope) line type) es
   c ← choosing vs before
@@ -248,7 +248,7 @@ option_of line es declared body type before sc depth n = do
 
 abbrev pub else_of : Declaring → Under Term → Chosen → Under (Options × Chosen)
 else_of declared body before sc depth n = do
-  m ← room depth (Sizes.node no_size) n
+  m ← room depth (Sizes.with_node no_size) n
   d ← declared sc (depth + 1) m
   c ← choosing_else before
   t ← body d.scope (depth + 1) d.numbers

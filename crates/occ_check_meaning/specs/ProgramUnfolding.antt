@@ -3,7 +3,7 @@
 use Rattle.std.specs.Prelude.{List, Some, [], ℕ, ◌++◌, ◌∷◌, ◌≡◌}
 use Rattle.occ_tree_grammar.specs.Processes.Trees.{Item}
 use Rattle.occ_term.specs.Terms.{Term}
-use Rattle.occ_term.specs.Unfolding as Unfolded
+use Rattle.occ_term.specs.UnfoldedProgram as Unfolded
 use Rattle.occ_check_meaning.specs.Scope.{Name, within}
 use Rattle.occ_check_meaning.specs.Numbers.{Numbers, at_start}
 use Rattle.occ_check_meaning.specs.Actions.{headed, opening}
@@ -25,5 +25,5 @@ pub data ProgramUnfolding : List Item → Term → Numbers → Type 0 where
       → ProgramUnfolding items (headed d.heads t) l
 
 -- the same as a program with the cells and channels that it declares
-abbrev pub UnfoldsTo : List Item → Unfolded.Unfolding → Type 0
+abbrev pub UnfoldsTo : List Item → Unfolded.UnfoldedProgram → Type 0
 UnfoldsTo items u = (m : Numbers) × ProgramUnfolding items (Unfolded.meaning u) m × (m.cells ≡ u.cells) × (m.channels ≡ u.channels)

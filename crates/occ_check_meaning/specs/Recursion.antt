@@ -8,14 +8,10 @@ use Rattle.occ_tree_grammar.specs.Processes.Trees.{process, choice, option, arm,
 use Rattle.occ_term.specs.declared.primitive.Primitive.{Primitive}
 use Rattle.occ_term.specs.declared.protocol.Protocol.{Protocol}
 use Rattle.occ_term.specs.Terms.{Term, Terms, no_terms, then_term, Branches, no_branches, Arms, no_arms, Variants, no_variants, Choices, no_choices, Options, no_options}
-use Rattle.occ_check_meaning.specs.Scope.{Name, proc, names_of, within}
+use Rattle.occ_check_meaning.specs.Scope.{proc, names_of, within}
 use Rattle.occ_check_meaning.specs.Declarations.{names_declared, value_declared, protocol_declared}
-use Rattle.occ_check_meaning.specs.Actions.{new_tag, Chosen, none_chosen, arms_then, choices_then, variants_then, options_then}
+use Rattle.occ_check_meaning.specs.Actions.{variant_tag, new_tag, Chosen, none_chosen, arms_then, choices_then, variants_then, options_then}
 use Rattle.occ_check_meaning.specs.Performing.{Under, Declaring, entered, within_names, calling, behind, acted, sequenced, each_sequenced, beside, branch, copies_beside, alternated, conditioned, selected, looped, taken_by_variant, nested, arms_under, arm_of, variants_arm, each_of_arms, choices_under, choice_of, each_of_choices, variant_of, option_of, else_of}
-
--- the tag that a variant names
-abbrev pub variant_tag : Node variant → Name
-variant_tag (node ds line (tag x ts) b) = x
 
 unfoldable mutual
   pub unfolded : Node process → Under Term

@@ -14,7 +14,7 @@ use Rattle.occ_term.specs.declared.protocol.Protocol.TheVariants.{Simple, Counte
 use Rattle.occ_term.specs.declared.protocol.Tag.{Tag}
 use Rattle.occ_term.specs.Messages.{product, simple_part}
 use Rattle.occ_term.specs.Typing.{is_number}
-use Rattle.occ_term.specs.Unfolding.{most_cells}
+use Rattle.occ_term.specs.UnfoldedProgram.{most_cells}
 use Rattle.occ_check_meaning.specs.Scope.{keep, each_of, Name, Names, once, Carried, Known, a_protocol}
 use Rattle.occ_check_meaning.specs.Constants.{a_size}
 use Rattle.occ_check_meaning.specs.Operators.{primitive_of}

@@ -1,5 +1,10 @@
 -- The unfoldings of a tree, by cases: the term that a process unfolds to under a scope, so many nodes deep, with the numbers before
 -- and after it. A PROC's pair holds its formals and its body; the scope that it sees is the rest of the list behind its pair.
+-- What no case allows has no unfolding, and its text is refused.
+-- How to read a case: `sc` is the scope, `line` the line of the process, `depth` the number of nodes that stand round it. Numbers
+-- are given out in order, `n` before and `l` after, with `m` and `o` between. `room` takes the nodes of what stands in the case's own
+-- line, and its depth; declarations stand a node deeper, below the SEQ that they head, which `opening` takes and `headed` puts round
+-- them; `deeper` takes a level that is no node. Each of these, and each step that gives out a number, refuses past its limit.
 -- Manual: scope; procedures; combining processes. Nested ALTs and IFs in the place of their parts, and the numbers: (own).
 use Rattle.std.specs.Prelude.{Bool, List, None, Option, Some, [], bytes_eq, cond, length, pos, suc, zero, ℕ, ℤ, ◌+◌, ◌++◌, ◌+ℤ◌, ◌∷◌, ◌≡◌}
 use Rattle.occ_tree_grammar.specs.Expressions.Trees.{Expression, Expressions}
@@ -17,16 +22,15 @@ use Rattle.occ_term.specs.Terms as T
 use Rattle.occ_term.specs.Terms.{Term, Place, Target, Terms, no_terms, then_term, Branches, no_branches, and_branch, Arms, no_arms, skip_arm, input_arm, each_arm, Tagged, Variants, no_variants, or_variant, Choices, no_choices, or_choice, each_choice, Options, no_options, or_option, or_else}
 use Rattle.occ_term.specs.Sizes as Sizes
 use Rattle.occ_term.specs.Sizes.{no_size, size_of, size_of_test, size_of_expression, size_of_place, size_of_targets, size_of_constants}
-use Rattle.occ_check_meaning.specs.Scope.{each_of, Name, Binding, known, proc, Scope, names_of, within}
+use Rattle.occ_check_meaning.specs.Scope.{each_of, Name, Binding, proc, Scope, names_of, within}
 use Rattle.occ_check_meaning.specs.Numbers.{Numbers, deeper, more_processes, room}
 use Rattle.occ_check_meaning.specs.Expressions.{typed_as, constant_as}
 use Rattle.occ_check_meaning.specs.Items.{channel_of, stored}
 use Rattle.occ_check_meaning.specs.Declarations.{Opened, names_declared, value_declared, protocol_declared, Indexed, indexed, copies_of, index_of}
 use Rattle.occ_check_meaning.specs.Calls.{Wanted, formals_of, bound}
 use Rattle.occ_check_meaning.specs.Actions as A
-use Rattle.occ_check_meaning.specs.Actions.{headed, opening, assigned, received, Listed, as_reception, as_input, size_of_list, depth_behind, test_of, with_tags, new_tag, selector, Chosen, none_chosen, choosing, choosing_else, arms_behind, choices_behind, arms_then, choices_then, variants_then, options_then}
-use Rattle.occ_check_meaning.specs.Performing.{Entered, entered, Calling, calling}
-use Rattle.occ_check_meaning.specs.Recursion.{unfolded, variant_tag}
+use Rattle.occ_check_meaning.specs.Actions.{headed, opening, assigned, received, Listed, as_reception, as_input, size_of_list, depth_behind, test_of, with_tags, variant_tag, new_tag, selector, Chosen, none_chosen, choosing, choosing_else, arms_behind, choices_behind, arms_then, choices_then, variants_then, options_then}
+use Rattle.occ_check_meaning.specs.Performing.{Entered, entered}
 
 -- a PROC: the line of its declaration, its formals and its body
 pub data Procedure : Type 0 where
@@ -93,41 +97,41 @@ mutual
         → Unfolding (within b.names outer) deep m body t l
         → Performs sc line depth n (act (call f es)) no_body (headed b.heads t) l
     takes_variants : {sc : Procedures} {line depth : ℕ} {n m l : Numbers} {v : Var} {vs : Nodes variant} {c : Protocol × Place} {p : Protocol} {xs : Variants}
-        → channel_of (names_of sc) line v ≡ Some c → with_tags c.0 ≡ Some p → room depth (Sizes.node (size_of_place c.1)) n ≡ Some m
+        → channel_of (names_of sc) line v ≡ Some c → with_tags c.0 ≡ Some p → room depth (Sizes.with_node (size_of_place c.1)) n ≡ Some m
         → AllVariants sc (depth + 1) m p [] vs xs l
         → Performs sc line depth n (input_variants v) (bodies vs) (T.VariantInput c.1 xs) l
     sequences : {sc : Procedures} {line depth : ℕ} {n m l : Numbers} {ps : Nodes process} {ts : Terms}
-        → room depth (Sizes.node no_size) n ≡ Some m → InTurn sc (depth + 1) m ps ts l
+        → room depth (Sizes.with_node no_size) n ≡ Some m → InTurn sc (depth + 1) m ps ts l
         → Performs sc line depth n (sequence None) (bodies ps) (T.Seq ts) l
     replicates_sequence : {sc : Procedures} {line depth : ℕ} {n m l : Numbers} {r : L.Replicator} {p : Node process} {i : Indexed} {t : Term}
-        → room depth (Sizes.node no_size) n ≡ Some m → indexed (names_of sc) line (depth + 1) r m ≡ Some i
+        → room depth (Sizes.with_node no_size) n ≡ Some m → indexed (names_of sc) line (depth + 1) r m ≡ Some i
         → Unfolding (within i.names sc) (depth + 1) i.numbers p t l
         → Performs sc line depth n (sequence (Some r)) (single_body p) (T.Each i.replicator t) l
     runs_beside : {sc : Procedures} {line depth : ℕ} {n m l : Numbers} {ps : Nodes process} {bs : Branches}
-        → room depth (Sizes.node no_size) n ≡ Some m → Beside sc (depth + 1) m ps bs l
+        → room depth (Sizes.with_node no_size) n ≡ Some m → Beside sc (depth + 1) m ps bs l
         → Performs sc line depth n (parallel None) (bodies ps) (T.Par bs) l
     replicates_branch : {sc : Procedures} {line depth : ℕ} {n m l : Numbers} {r : L.Replicator} {p : Node process} {c : ℤ × ℕ} {bs : Branches}
-        → copies_of (names_of sc) line r ≡ Some c → room depth (Sizes.node no_size) n ≡ Some m
+        → copies_of (names_of sc) line r ≡ Some c → room depth (Sizes.with_node no_size) n ≡ Some m
         → Copies sc (depth + 1) r p c.1 c.0 m bs l
         → Performs sc line depth n (parallel (Some r)) (single_body p) (T.Par bs) l
     alternates : {sc : Procedures} {line depth : ℕ} {n m l : Numbers} {pri : Bool} {xs : Nodes arm} {arms : Arms}
-        → room depth (Sizes.node no_size) n ≡ Some m → AllArms sc (depth + 1) m xs arms l
+        → room depth (Sizes.with_node no_size) n ≡ Some m → AllArms sc (depth + 1) m xs arms l
         → Performs sc line depth n (alternation pri None) (bodies xs) (T.Alt pri arms) l
     replicates_alternation : {sc : Procedures} {line depth : ℕ} {n m l : Numbers} {pri : Bool} {r : L.Replicator} {a : Node arm} {arms : Arms}
-        → room depth (Sizes.node no_size) n ≡ Some m → EachArm sc line (depth + 1) m r a arms l
+        → room depth (Sizes.with_node no_size) n ≡ Some m → EachArm sc line (depth + 1) m r a arms l
         → Performs sc line depth n (alternation pri (Some r)) (single_body a) (T.Alt pri arms) l
     conditions : {sc : Procedures} {line depth : ℕ} {n m l : Numbers} {xs : Nodes choice} {choices : Choices}
-        → room depth (Sizes.node no_size) n ≡ Some m → AllChoices sc (depth + 1) m xs choices l
+        → room depth (Sizes.with_node no_size) n ≡ Some m → AllChoices sc (depth + 1) m xs choices l
         → Performs sc line depth n (conditional None) (bodies xs) (T.If choices) l
     replicates_conditional : {sc : Procedures} {line depth : ℕ} {n m l : Numbers} {r : L.Replicator} {c : Node choice} {choices : Choices}
-        → room depth (Sizes.node no_size) n ≡ Some m → EachChoice sc line (depth + 1) m r c choices l
+        → room depth (Sizes.with_node no_size) n ≡ Some m → EachChoice sc line (depth + 1) m r c choices l
         → Performs sc line depth n (conditional (Some r)) (single_body c) (T.If choices) l
     selects : {sc : Procedures} {line depth : ℕ} {n m l : Numbers} {e : Expression} {xs : Nodes option} {s : Primitive × T.Expression} {os : Options}
-        → selector (names_of sc) line e ≡ Some s → room depth (Sizes.node (size_of_expression s.1)) n ≡ Some m
+        → selector (names_of sc) line e ≡ Some s → room depth (Sizes.with_node (size_of_expression s.1)) n ≡ Some m
         → AllOptions sc (depth + 1) m s.0 none_chosen xs os l
         → Performs sc line depth n (selection e) (bodies xs) (T.Case s.1 os) l
     loops : {sc : Procedures} {line depth : ℕ} {n m l : Numbers} {e : Expression} {p : Node process} {c : T.Expression} {t : Term}
-        → typed_as (names_of sc) line Boolean e ≡ Some c → room depth (Sizes.node (size_of_expression c)) n ≡ Some m
+        → typed_as (names_of sc) line Boolean e ≡ Some c → room depth (Sizes.with_node (size_of_expression c)) n ≡ Some m
         → Unfolding sc (depth + 1) m p t l
         → Performs sc line depth n (loop e) (single_body p) (T.While c t) l
 
@@ -154,28 +158,28 @@ mutual
   -- ---- arms; the depth is that at which they stand
   pub data Arm : Procedures → (depth : ℕ) → Numbers → Node arm → Arms → Numbers → Type 0 where
     behind_arm : {sc : Procedures} {depth deep line : ℕ} {n l : Numbers} {ds : Decls} {h : ArmHead} {b : Body (under arm h)} {d : Entered Procedure} {arms : Arms}
-        → DeclareAll sc depth n ds d → deeper depth (length d.heads) ≡ Some deep → Offers d.scope line deep d.numbers h b arms l → Arm sc depth n (node ds line h b) (arms_behind d.heads arms) l
+        → DeclareAll sc depth n ds d → deeper depth (length d.heads) ≡ Some deep → Guards d.scope line deep d.numbers h b arms l → Arm sc depth n (node ds line h b) (arms_behind d.heads arms) l
 
-  pub data Offers : Procedures → (line depth : ℕ) → Numbers → (h : ArmHead) → Body (under arm h) → Arms → Numbers → Type 0 where
+  pub data Guards : Procedures → (line depth : ℕ) → Numbers → (h : ArmHead) → Body (under arm h) → Arms → Numbers → Type 0 where
     awaits : {sc : Procedures} {line depth : ℕ} {n m l : Numbers} {test : Option Expression} {i : L.Input} {p : Node process} {e : Option T.Expression} {c : Place × Listed} {t : Term}
         → test_of (names_of sc) line test ≡ Some e → received (names_of sc) line i ≡ Some c
-        → room depth (Sizes.node (Sizes.beside (size_of_test e) (Sizes.beside (size_of_place c.0) (size_of_list c.1)))) n ≡ Some m
+        → room depth (Sizes.with_node (Sizes.together (size_of_test e) (Sizes.together (size_of_place c.0) (size_of_list c.1)))) n ≡ Some m
         → Unfolding sc (depth_behind c.1 (depth + 1)) m p t l
-        → Offers sc line depth n (guarded (on_input test i)) (single_body p) (input_arm e c.0 (as_reception c.1 t) no_arms) l
+        → Guards sc line depth n (guarded (on_input test i)) (single_body p) (input_arm e c.0 (as_reception c.1 t) no_arms) l
     is_ready : {sc : Procedures} {line depth : ℕ} {n m l : Numbers} {test : Expression} {p : Node process} {e : T.Expression} {t : Term}
-        → typed_as (names_of sc) line Boolean test ≡ Some e → room depth (Sizes.node (size_of_expression e)) n ≡ Some m
+        → typed_as (names_of sc) line Boolean test ≡ Some e → room depth (Sizes.with_node (size_of_expression e)) n ≡ Some m
         → Unfolding sc (depth + 1) m p t l
-        → Offers sc line depth n (guarded (on_skip test)) (single_body p) (skip_arm e t no_arms) l
+        → Guards sc line depth n (guarded (on_skip test)) (single_body p) (skip_arm e t no_arms) l
     awaits_variants : {sc : Procedures} {line depth : ℕ} {n m l : Numbers} {test : Option Expression} {v : Var} {vs : Nodes variant} {e : Option T.Expression} {c : Protocol × Place} {p : Protocol} {xs : Variants}
         → test_of (names_of sc) line test ≡ Some e → channel_of (names_of sc) line v ≡ Some c → with_tags c.0 ≡ Some p
-        → room depth (Sizes.node (Sizes.beside (size_of_test e) (size_of_place c.1))) n ≡ Some m
+        → room depth (Sizes.with_node (Sizes.together (size_of_test e) (size_of_place c.1))) n ≡ Some m
         → AllVariants sc (depth + 1) m p [] vs xs l
-        → Offers sc line depth n (guarded_variants test v) (bodies vs) (input_arm e c.1 (Tagged xs) no_arms) l
+        → Guards sc line depth n (guarded_variants test v) (bodies vs) (input_arm e c.1 (Tagged xs) no_arms) l
     -- a nested ALT's arms stand in its place, one level deeper; the PRI of the outermost decides
     nests_arms : {sc : Procedures} {line depth deep : ℕ} {n l : Numbers} {pri : Bool} {xs : Nodes arm} {arms : Arms}
-        → deeper depth 1 ≡ Some deep → AllArms sc deep n xs arms l → Offers sc line depth n (nested_alternation pri None) (bodies xs) arms l
+        → deeper depth 1 ≡ Some deep → AllArms sc deep n xs arms l → Guards sc line depth n (nested_alternation pri None) (bodies xs) arms l
     replicates_arm : {sc : Procedures} {line depth deep : ℕ} {n l : Numbers} {pri : Bool} {r : L.Replicator} {a : Node arm} {arms : Arms}
-        → deeper depth 1 ≡ Some deep → EachArm sc line deep n r a arms l → Offers sc line depth n (nested_alternation pri (Some r)) (single_body a) arms l
+        → deeper depth 1 ≡ Some deep → EachArm sc line deep n r a arms l → Guards sc line depth n (nested_alternation pri (Some r)) (single_body a) arms l
 
   pub data EachArm : Procedures → (line depth : ℕ) → Numbers → L.Replicator → Node arm → Arms → Numbers → Type 0 where
     under_index : {sc : Procedures} {line depth : ℕ} {n l : Numbers} {r : L.Replicator} {a : Node arm} {i : Indexed} {arms : Arms}
@@ -194,7 +198,7 @@ mutual
 
   pub data Tests : Procedures → (line depth : ℕ) → Numbers → (h : ChoiceHead) → Body (under choice h) → Choices → Numbers → Type 0 where
     tests : {sc : Procedures} {line depth : ℕ} {n m l : Numbers} {test : Expression} {p : Node process} {e : T.Expression} {t : Term}
-        → typed_as (names_of sc) line Boolean test ≡ Some e → room depth (Sizes.node (size_of_expression e)) n ≡ Some m
+        → typed_as (names_of sc) line Boolean test ≡ Some e → room depth (Sizes.with_node (size_of_expression e)) n ≡ Some m
         → Unfolding sc (depth + 1) m p t l
         → Tests sc line depth n (chosen test) (single_body p) (or_choice e t no_choices) l
     -- a nested IF's choices stand in its place, one level deeper
@@ -216,7 +220,7 @@ mutual
   -- ---- variants of an input, each with the number of its tag, none of which stands before
   pub data Variant : Procedures → (depth : ℕ) → Numbers → Protocol → (tag : ℕ) → Node variant → Variants → Numbers → Type 0 where
     takes : {sc : Procedures} {depth line k : ℕ} {n o m l : Numbers} {p : Protocol} {ds : Decls} {x : Name} {ts : List L.Target} {q : Node process} {d : Entered Procedure} {parts : List PartType} {targets : List Target} {t : Term}
-        → room depth (Sizes.node no_size) n ≡ Some o → DeclareAll sc (depth + 1) o ds d
+        → room depth (Sizes.with_node no_size) n ≡ Some o → DeclareAll sc (depth + 1) o ds d
         → parts_after p (Some k) ≡ Some parts → stored (names_of d.scope) line parts ts ≡ Some targets
         → room (depth + 1) (size_of_targets targets) d.numbers ≡ Some m → Unfolding d.scope (depth + 1) m q t l
         → Variant sc depth n p k (node ds line (tag x ts) (single_body q)) (or_variant k d.heads targets t no_variants) l
@@ -230,12 +234,12 @@ mutual
   -- ---- options of a CASE, with what is chosen before and with them
   pub data OneOption : Procedures → (depth : ℕ) → Numbers → Primitive → Chosen → Node option → Options → Chosen → Numbers → Type 0 where
     is_one_of : {sc : Procedures} {depth line : ℕ} {n o m l : Numbers} {type : Primitive} {before c : Chosen} {ds : Decls} {e : Expression} {es : List Expression} {p : Node process} {d : Entered Procedure} {vs : List ℤ} {t : Term}
-        → room depth (Sizes.node no_size) n ≡ Some o → DeclareAll sc (depth + 1) o ds d
+        → room depth (Sizes.with_node no_size) n ≡ Some o → DeclareAll sc (depth + 1) o ds d
         → each_of (constant_as (names_of d.scope) line type) (e ∷ es) ≡ Some vs → choosing vs before ≡ Some c
         → room (depth + 1) (size_of_constants vs) d.numbers ≡ Some m → Unfolding d.scope (depth + 1) m p t l
         → OneOption sc depth n type before (node ds line (values e es) (single_body p)) (or_option vs d.heads t no_options) c l
     is_none_of : {sc : Procedures} {depth line : ℕ} {n o l : Numbers} {type : Primitive} {before c : Chosen} {ds : Decls} {p : Node process} {d : Entered Procedure} {t : Term}
-        → room depth (Sizes.node no_size) n ≡ Some o → DeclareAll sc (depth + 1) o ds d → choosing_else before ≡ Some c
+        → room depth (Sizes.with_node no_size) n ≡ Some o → DeclareAll sc (depth + 1) o ds d → choosing_else before ≡ Some c
         → Unfolding d.scope (depth + 1) d.numbers p t l
         → OneOption sc depth n type before (node ds line otherwise (single_body p)) (or_else d.heads t no_options) c l
 
@@ -244,13 +248,3 @@ mutual
     one_option : {sc : Procedures} {depth : ℕ} {n m l : Numbers} {type : Primitive} {before c : Chosen} {o : Node option} {os : Nodes option} {options others : Options}
         → OneOption sc depth n type before o options c m → AllOptions sc depth m type c os others l
         → AllOptions sc depth n type before (more_nodes o os) (options_then options others) l
-
--- ---- a scope with what each PROC means
-
-abbrev pub meaning_of : Procedure → Scope Calling → Calling
-meaning_of (procedure line fs body) meanings = calling (names_of meanings) line fs (λ bs. unfolded body (within bs meanings))
-
-unfoldable pub meant : Procedures → Scope Calling
-meant [] = []
-meant ((x, known k) ∷ sc) = (x, known k) ∷ meant sc
-meant ((f, proc p) ∷ sc) = (f, proc (meaning_of p (meant sc))) ∷ meant sc

@@ -7,7 +7,8 @@ ghost use Rattle.occ_check_meaning.specs.Numbers.{Numbers};
 ghost use Rattle.occ_check_meaning.specs.Programs.{program_unfolded};
 ghost use Rattle.occ_check_meaning.specs.ProgramUnfolding.{ProgramUnfolding};
 ghost use Rattle.occ_check_meaning.specs.Recursion.{unfolded};
-ghost use Rattle.occ_check_meaning.specs.Unfolding.{Procedures, Unfolding, meant};
+ghost use Rattle.occ_check_meaning.specs.Unfolding.{Procedures, Unfolding};
+ghost use Rattle.occ_check_meaning.specs.Meant.{meant};
 
 /// What the recursion answers is an unfolding.
 pub fn sound()

@@ -1,3 +1,3 @@
-pub mod Looking
-pub mod Giving
-pub mod Strings
+pub mod Scopes
+pub mod ComponentNames
+pub mod Literals

@@ -28,7 +28,7 @@ use Rattle.occ_check_names.specs.declared.typed.Part.{Part}
 use Rattle.occ_check_names.specs.declared.scope.Binding.{Binding}
 use Rattle.occ_check_names.specs.declared.scope.Binding.TheVariants as bindings
 use Rattle.occ_check_names.specs.declared.scope.Position.{Position}
-use Rattle.occ_check_names.specs.declared.scope.Frame.{Frame}
+use Rattle.occ_check_names.specs.declared.scope.Block.{Block}
 use Rattle.occ_check_names.specs.declared.scope.Scope.{Scope}
 use Rattle.occ_check_names.specs.declared.scope.Looked.{Looked}
 use Rattle.occ_check_names.specs.declared.scope.Looked.TheVariants as lookeds
@@ -89,18 +89,18 @@ binding_of (bindings.Procedure p) = S.proc (procedure p.line (formals_of p.forma
 
 -- ---- scopes
 
--- names of a frame before a scope, each before those that are declared before it
+-- names of a block before a scope, each before those that are declared before it
 abbrev pub pairs_before : {A : Type 0} → List (Vec ℕ A × Binding) → Procedures → Procedures
 pairs_before [] sc = sc
 pairs_before (e ∷ es) sc = pairs_before es ((e.0.items, binding_of e.1) ∷ sc)
 
--- what is in scope at a position, where the last frame stands first
-abbrev pub scope_in : List Frame → Position → Procedures
+-- what is in scope at a position, where the last block stands first
+abbrev pub scope_in : List Block → Position → Procedures
 scope_in [] at = []
-scope_in (f ∷ older) at = if nat_eq at.frames (suc (length older)) then pairs_before (take at.seen f.names.entries) (scope_in older f.outer) else scope_in older at
+scope_in (f ∷ older) at = if nat_eq at.blocks (suc (length older)) then pairs_before (take at.seen f.names.entries) (scope_in older f.outer) else scope_in older at
 
 abbrev pub scope_of : Scope → Procedures
-scope_of s = scope_in (reverse s.frames.now) s.at
+scope_of s = scope_in (reverse s.blocks.now) s.at
 
 -- what names stand for there, but for procedures
 abbrev pub names_in : Scope → S.Names
@@ -132,7 +132,7 @@ Unfolds view (Err e) after given = Refuses e given
 
 -- ---- look-ups
 
--- what the first names of a frame hide: the binding with the number of those before it, or nothing
+-- what the first names of a block hide: the binding with the number of those before it, or nothing
 abbrev pub IsSeen : {A : Type 0} → ℕ → List (Vec ℕ A × Binding) → List ℕ → Option (Bor Binding × ℕ) → Type 0
 IsSeen seen es x None = (sc : Procedures) → U.found (pairs_before (take seen es) sc) x ≡ U.found sc x
 IsSeen seen es x (Some (b, i)) = (sc : Procedures) → U.found (pairs_before (take seen es) sc) x ≡ Some (binding_of b.now, pairs_before (take i es) sc)
@@ -143,42 +143,42 @@ IsBound b at (founds.Known k) = b ≡ S.known (known_of k.now)
 IsBound b at (founds.Procedure p place) = (b ≡ binding_of (bindings.Procedure p)) × (place ≡ at)
 
 -- what a look-up answers is what is found
-abbrev pub IsFound : List Frame → Option (S.Binding U.Procedure × Procedures) → Option Found → Type 0
-IsFound frames there None = there ≡ None
-IsFound frames there (Some (founds.Known k)) = (outer : Procedures) × (there ≡ Some (S.known (known_of k.now), outer))
-IsFound frames there (Some (founds.Procedure p at)) = there ≡ Some (binding_of (bindings.Procedure p), scope_in frames at)
+abbrev pub IsFound : List Block → Option (S.Binding U.Procedure × Procedures) → Option Found → Type 0
+IsFound blocks there None = there ≡ None
+IsFound blocks there (Some (founds.Known k)) = (outer : Procedures) × (there ≡ Some (S.known (known_of k.now), outer))
+IsFound blocks there (Some (founds.Procedure p at)) = there ≡ Some (binding_of (bindings.Procedure p), scope_in blocks at)
 
--- all that is in scope, where the last frame stands first
-abbrev pub innermost : List Frame → Procedures
+-- all that is in scope, where the last block stands first
+abbrev pub innermost : List Block → Procedures
 innermost [] = []
 innermost (f ∷ older) = pairs_before f.names.entries (scope_in older f.outer)
 
--- no name of a frame is this one
+-- no name of a block is this one
 abbrev pub Lacks : {A : Type 0} → List ℕ → List (Vec ℕ A × Binding) → Type 0
 Lacks x [] = ⊤
 Lacks x (e ∷ es) = (bytes_eq x e.0.items ≡ false) × Lacks x es
 
--- what is found among frames, or behind the innermost of them
-abbrev pub IsLooked : Option (S.Binding U.Procedure × Procedures) → List Frame → List ℕ → Looked → Type 0
-IsLooked there frames x (lookeds.Found f) = IsFound frames there (Some f)
-IsLooked there frames x (lookeds.Outside s) = there ≡ U.found (scope_of s) x
-IsLooked there frames x lookeds.Nowhere = there ≡ None
+-- what is found among blocks, or behind the innermost of them
+abbrev pub IsLooked : Option (S.Binding U.Procedure × Procedures) → List Block → List ℕ → Looked → Type 0
+IsLooked there blocks x (lookeds.Found f) = IsFound blocks there (Some f)
+IsLooked there blocks x (lookeds.Outside s) = there ≡ U.found (scope_of s) x
+IsLooked there blocks x lookeds.Nowhere = there ≡ None
 
 abbrev pub IsFewer : ℕ → Looked → Type 0
 IsFewer n (lookeds.Found f) = ⊤
-IsFewer n (lookeds.Outside s) = length s.frames.now < n
+IsFewer n (lookeds.Outside s) = length s.blocks.now < n
 IsFewer n lookeds.Nowhere = ⊤
 
--- the frames outside are the first of all
-abbrev pub IsPart : List Frame → Looked → Type 0
-IsPart frames (lookeds.Found f) = ⊤
-IsPart frames (lookeds.Outside s) = (rest : List Frame) × (frames ≡ s.frames.now ++ rest)
-IsPart frames lookeds.Nowhere = ⊤
+-- the blocks outside are the first of all
+abbrev pub IsPart : List Block → Looked → Type 0
+IsPart blocks (lookeds.Found f) = ⊤
+IsPart blocks (lookeds.Outside s) = (rest : List Block) × (blocks ≡ s.blocks.now ++ rest)
+IsPart blocks lookeds.Nowhere = ⊤
 
--- a procedure that is found stands in one of so many frames
+-- a procedure that is found stands in one of so many blocks
 abbrev pub IsWithin : ℕ → Found → Type 0
 IsWithin n (founds.Known k) = ⊤
-IsWithin n (founds.Procedure p at) = at.frames ≤ n
+IsWithin n (founds.Procedure p at) = at.blocks ≤ n
 
 abbrev pub AreWithin : ℕ → Looked → Type 0
 AreWithin n (lookeds.Found f) = IsWithin n f

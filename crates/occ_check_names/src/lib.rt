@@ -5,7 +5,6 @@
 
 pub mod constant;
 pub mod context;
-pub mod copying;
 pub mod fault;
 pub mod known;
 pub mod literal;

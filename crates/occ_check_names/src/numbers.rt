@@ -2,8 +2,8 @@
 
 ghost use Rattle.std.specs.Prelude.{◌≡◌, ◌<◌, ◌≤◌, ◌+◌, ◌++◌, IfOk, length, min, nat_le, Some};
 ghost use Rattle.occ_term.specs.Messages.{product};
-ghost use Rattle.occ_term.specs.Sizes.{no_size, node};
-ghost use Rattle.occ_term.specs.Unfolding.{byte_channel};
+ghost use Rattle.occ_term.specs.Sizes.{no_size, with_node};
+ghost use Rattle.occ_term.specs.UnfoldedProgram.{byte_channel};
 ghost use Rattle.occ_check_meaning.specs.Numbers.{at_start, component_names, deeper, more_cells, more_channels, more_processes, more_protocols, most_depth, room};
 ghost use Rattle.occ_check_meaning.specs.Scope.{keep};
 ghost use Rattle.occ_check_names.specs.View.{Counts, Gives, numbers_of};
@@ -146,7 +146,7 @@ impl Numbers {
     ///
     /// `TooLarge` past 100,000 nodes, and where it would stand deeper than 200.
     pub fn node(&mut self, depth: u32) -> Result<(), CheckFault>
-        ensures counts { Counts result self.new (room depth (node no_size) (numbers_of self.old)) }
+        ensures counts { Counts result self.new (room depth (with_node no_size) (numbers_of self.old)) }
         ensures within { IfOk result (λ _. depth < most_depth) }
     {
         if depth < MOST_DEPTH && self.nodes < MOST_NODES {

@@ -37,15 +37,15 @@ pub fn operator_of(spelling: Dyadic) -> Operator
     ensures { result ≡ meant.operator_of spelling }
 {
     match spelling {
-        Dyadic::Add => Operator::Plus,
-        Dyadic::Subtract => Operator::Minus,
-        Dyadic::Multiply => Operator::Times,
+        Dyadic::Add => Operator::Add,
+        Dyadic::Subtract => Operator::Subtract,
+        Dyadic::Multiply => Operator::Multiply,
         Dyadic::Divide => Operator::Divide,
         Dyadic::Remainder => Operator::Remainder,
         Dyadic::Rem => Operator::Remainder,
-        Dyadic::Plus => Operator::PlusModulo,
-        Dyadic::Minus => Operator::MinusModulo,
-        Dyadic::Times => Operator::TimesModulo,
+        Dyadic::Plus => Operator::Plus,
+        Dyadic::Minus => Operator::Minus,
+        Dyadic::Times => Operator::Times,
         Dyadic::BitAndSign => Operator::BitAnd,
         Dyadic::BitAnd => Operator::BitAnd,
         Dyadic::BitOrSign => Operator::BitOr,
@@ -55,11 +55,11 @@ pub fn operator_of(spelling: Dyadic) -> Operator
         Dyadic::ShiftRight => Operator::ShiftRight,
         Dyadic::After => Operator::After,
         Dyadic::Equal => Operator::Equal,
-        Dyadic::NotEqual => Operator::Unequal,
+        Dyadic::Unequal => Operator::Unequal,
         Dyadic::Less => Operator::Less,
         Dyadic::Greater => Operator::Greater,
-        Dyadic::LessEqual => Operator::AtMost,
-        Dyadic::GreaterEqual => Operator::AtLeast,
+        Dyadic::AtMost => Operator::AtMost,
+        Dyadic::AtLeast => Operator::AtLeast,
     }
 }
 
@@ -77,14 +77,14 @@ pub fn result_of(
     ensures { Gives (λ t. t) result (meant.result_of operator a b) }
 {
     match operator {
-        Operator::Plus
-        | Operator::Minus
-        | Operator::Times
+        Operator::Add
+        | Operator::Subtract
+        | Operator::Multiply
         | Operator::Divide
         | Operator::Remainder
-        | Operator::PlusModulo
-        | Operator::MinusModulo
-        | Operator::TimesModulo
+        | Operator::Plus
+        | Operator::Minus
+        | Operator::Times
         | Operator::BitAnd
         | Operator::BitOr
         | Operator::BitXor => typed_if(line, is_number(a) && is_same_type(a, b), a),

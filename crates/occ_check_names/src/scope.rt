@@ -1,7 +1,7 @@
 //! Scopes: what names stand for at a place of the text.
 //!
-//! Names stand in frames, each in the order of its declarations, so that a place in a frame tells what is in
-//! scope there. A procedure sees what stands before it in its frame, and what is outside of that.
+//! Names stand in blocks, each in the order of its declarations, so that a place in a block tells what is in
+//! scope there. A procedure sees what stands before it in its block, and what is outside of that.
 
 ghost use Rattle.std.specs.Prelude.{ℕ, ◌≡◌, ◌≤◌, ◌+◌, ◌++◌, ◌∷◌, [], IfErr, IfOk, IfSome, IfNone, IsFalse, drop, length, option_map, reverse};
 ghost use Rattle.occ_check_meaning.specs.Unfolding.{found, Procedures};
@@ -36,18 +36,18 @@ pub enum Binding<'t> {
     Procedure(Procedure<'t>),
 }
 
-/// A place in the frames: what is in scope there.
+/// A place in the blocks: what is in scope there.
 #[derive(Clone, Copy)]
 pub struct Position {
-    /// How many frames stand up to its own: none where nothing is in scope.
-    pub frames: usize,
-    /// How many names of its own frame are in scope.
+    /// How many blocks stand up to its own: none where nothing is in scope.
+    pub blocks: usize,
+    /// How many names of its own block are in scope.
     pub seen: usize,
 }
 
 /// Names that are declared one after the other, none twice.
 #[derive(Drop)]
-pub struct Frame<'t> {
+pub struct Block<'t> {
     /// The names, in order.
     pub names: IndexMap<Vec<u8>, Binding<'t>>,
     /// What is in scope outside of it.
@@ -57,8 +57,8 @@ pub struct Frame<'t> {
 /// What is in scope at a position.
 #[derive(Clone, Copy)]
 pub struct Scope<'a, 't> {
-    /// The frames.
-    pub frames: &'a [Frame<'t>],
+    /// The blocks.
+    pub blocks: &'a [Block<'t>],
     /// The position.
     pub at: Position,
 }
@@ -72,22 +72,22 @@ pub enum Found<'a, 't> {
     Procedure(Procedure<'t>, Position),
 }
 
-/// What the innermost frame tells of a name.
+/// What the innermost block tells of a name.
 #[derive(Clone, Copy)]
 pub enum Looked<'a, 't> {
     /// It has the name.
     Found(Found<'a, 't>),
     /// It has it not, and this is in scope outside of it.
     Outside(Scope<'a, 't>),
-    /// There is no frame.
+    /// There is no block.
     Nowhere,
 }
 
 impl<'a, 't> Scope<'a, 't> {
     /// What a name stands for.
     pub fn find(self, name: &[u8]) -> Option<Found<'a, 't>>
-        ensures found { IsFound (reverse self.entry.frames.now) (found (scope_of self.entry) name.now) result }
-        ensures within { IfSome result (IsWithin (length self.entry.frames.now)) }
+        ensures found { IsFound (reverse self.entry.blocks.now) (found (scope_of self.entry) name.now) result }
+        ensures within { IfSome result (IsWithin (length self.entry.blocks.now)) }
     {
         let mut place = self;
         'outwards: loop {
@@ -99,26 +99,26 @@ impl<'a, 't> Scope<'a, 't> {
         }
     }
 
-    /// Looks at the innermost frame.
+    /// Looks at the innermost block.
     fn step(self, name: &[u8]) -> Looked<'a, 't>
-        ensures found { IsLooked (found (scope_of self.entry) name.now) (reverse self.entry.frames.now) name.now result }
-        ensures fewer { IsFewer (length self.entry.frames.now) result }
-        ensures part { IsPart self.entry.frames.now result }
-        ensures within { AreWithin (length self.entry.frames.now) result }
+        ensures found { IsLooked (found (scope_of self.entry) name.now) (reverse self.entry.blocks.now) name.now result }
+        ensures fewer { IsFewer (length self.entry.blocks.now) result }
+        ensures part { IsPart self.entry.blocks.now result }
+        ensures within { AreWithin (length self.entry.blocks.now) result }
     {
-        match own_frame(self.frames, self.at) {
+        match own_block(self.blocks, self.at) {
             None => Looked::Nowhere,
-            Some((older, frame)) => match frame.seen(self.at.seen, name) {
+            Some((older, block)) => match block.seen(self.at.seen, name) {
                 Some((binding, seen)) => {
                     let at = Position {
-                        frames: self.at.frames,
+                        blocks: self.at.blocks,
                         seen,
                     };
                     Looked::Found(found_there(binding, at))
                 }
                 None => Looked::Outside(Scope {
-                    frames: older,
-                    at: frame.outer,
+                    blocks: older,
+                    at: block.outer,
                 }),
             },
         }
@@ -139,7 +139,7 @@ impl<'a, 't> Scope<'a, 't> {
 /// A binding that is found at this position.
 fn found_there<'a, 't>(binding: &'a Binding<'t>, at: Position) -> Found<'a, 't>
     ensures bound { IsBound (binding_of binding.now) at result }
-    ensures within { (n : ℕ) → at.frames ≤ n → IsWithin n result }
+    ensures within { (n : ℕ) → at.blocks ≤ n → IsWithin n result }
 {
     match binding {
         Binding::Known(known) => Found::Known(known),
@@ -147,30 +147,30 @@ fn found_there<'a, 't>(binding: &'a Binding<'t>, at: Position) -> Found<'a, 't>
     }
 }
 
-/// The frame of a position, and those before it.
-#[tactic(auto, using(crate::proofs::Looking::beyond_all, crate::proofs::Looking::top_all))]
-fn own_frame<'a, 't>(
-    frames: &'a [Frame<'t>],
+/// The block of a position, and those before it.
+#[tactic(auto, using(crate::proofs::Scopes::beyond_all, crate::proofs::Scopes::top_all))]
+fn own_block<'a, 't>(
+    blocks: &'a [Block<'t>],
     at: Position,
-) -> Option<(&'a [Frame<'t>], &'a Frame<'t>)>
-    ensures own { IfSome result (λ x. frames.now ≡ x.0.now ++ x.1.now ∷ drop at.frames frames.now) }
-    ensures number { IfSome result (λ x. at.frames ≡ length x.0.now + 1) }
-    ensures none { IfNone result (scope_in (reverse frames.now) at ≡ []) }
+) -> Option<(&'a [Block<'t>], &'a Block<'t>)>
+    ensures own { IfSome result (λ x. blocks.now ≡ x.0.now ++ x.1.now ∷ drop at.blocks blocks.now) }
+    ensures number { IfSome result (λ x. at.blocks ≡ length x.0.now + 1) }
+    ensures none { IfNone result (scope_in (reverse blocks.now) at ≡ []) }
 {
-    if at.frames == 0 || at.frames > frames.len() {
+    if at.blocks == 0 || at.blocks > blocks.len() {
         return None;
     }
-    let index = at.frames - 1;
-    Some((&frames[..index], &frames[index]))
+    let index = at.blocks - 1;
+    Some((&blocks[..index], &blocks[index]))
 }
 
-impl<'t> Frame<'t> {
-    /// A frame without names.
-    pub fn new(alloc: Global, outer: Position) -> Frame<'t>
+impl<'t> Block<'t> {
+    /// A block without names.
+    pub fn new(alloc: Global, outer: Position) -> Block<'t>
         ensures names { result.names.entries ≡ [] }
         ensures outer { result.outer ≡ outer }
     {
-        Frame {
+        Block {
             names: IndexMap::new(alloc),
             outer,
         }
@@ -184,30 +184,30 @@ impl<'t> Frame<'t> {
     }
 
     /// Whether it has the name.
-    #[tactic(auto, using(crate::proofs::Looking::absent))]
+    #[tactic(auto, using(crate::proofs::Scopes::absent))]
     pub fn has(&self, name: &[u8]) -> bool
         ensures { IsFalse result → Lacks name.now self.now.names.entries }
     {
         self.names.get_index_of(name).is_some()
     }
 
-    /// The frame with one name more.
+    /// The block with one name more.
     pub fn with(
         self,
         alloc: Global,
         name: &[u8],
         binding: Binding<'t>,
-    ) -> Result<Frame<'t>, CheckFault>
+    ) -> Result<Block<'t>, CheckFault>
         requires { Lacks name.now self.names.entries }
         ensures names { IfOk result (λ f. (sc : Procedures) → pairs_before f.names.entries sc ≡ (name.now, binding_of binding.entry) ∷ pairs_before self.entry.names.entries sc) }
         ensures outer { IfOk result (λ f. f.outer ≡ self.entry.outer) }
         ensures memory { IfErr result (λ e. e ≡ Memory) }
     {
         let binding = Held::new(binding);
-        let mut frame = self;
+        let mut block = self;
         let name = Vec::from_slice(alloc, name)?;
-        let _before = Held::new(frame.names.insert(name, binding.into_inner())?);
-        Ok(frame)
+        let _before = Held::new(block.names.insert(name, binding.into_inner())?);
+        Ok(block)
     }
 
     /// What a name stands for among the first so many names, and how many stand before it.

@@ -1,13 +1,13 @@
 pub mod Refusals
 pub mod Leaving
-pub mod Chains
+pub mod Expressions
 pub mod EachOf
 pub mod Refusing
-pub mod Declaring
+pub mod Declarations
 pub mod Twice
 pub mod SizeLists
 pub mod Zipping
 pub mod Tagging
 pub mod AnyPair
-pub mod Meeting
+pub mod Overlaps
 pub mod Components

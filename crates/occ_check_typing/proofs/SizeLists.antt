@@ -23,7 +23,7 @@ use Rattle.occ_term.specs.declared.protocol.Tag.{Tag}
 use Rattle.occ_term.specs.declared.primitive.Primitive.TheVariants.{Int}
 use Rattle.occ_term.proofs.Saturating.{saturates}
 use Rattle.occ_term.specs.Messages.{product}
-use Rattle.occ_term.specs.Rows.{AreFew}
+use Rattle.occ_term.specs.ArraySizes.{AreFew}
 use Rattle.occ_check_meaning.specs.Scope.{Names, each_of, once}
 use Rattle.occ_check_meaning.specs.Constants.{a_size}
 use Rattle.occ_check_meaning.specs.Expressions.{constant_as}

@@ -9,7 +9,7 @@ use Rattle.std.proofs.lemmas.List.Folds.{list_any-append, list_any_more, list_an
 use Rattle.std.proofs.Math.ListN.{drop_of_length-le}
 use mathlib.Core.List.{map-append}
 use Rattle.occ_check_meaning.specs.Scope.{Name, are_once, is_among}
-use Rattle.occ_check_typing.specs.OpenedView.{none_among}
+use Rattle.occ_check_typing.specs.Declaration.{none_among}
 
 -- both together
 abbrev pub apart_from : List Name → List Name → Bool

@@ -1,5 +1,5 @@
-pub mod OpenedView
-pub mod Meeting
+pub mod Declaration
+pub mod Overlap
 pub mod Spans
 pub mod Positive
 pub mod Zipped

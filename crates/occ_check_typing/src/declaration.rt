@@ -10,7 +10,7 @@ ghost use Rattle.occ_check_meaning.specs.Declarations as meant;
 ghost use Rattle.occ_check_meaning.specs.Scope as scopes;
 ghost use Rattle.occ_check_meaning.specs.Types as types;
 ghost use Rattle.occ_check_names.specs.View.{Gives, carried_of, known_of, names_in, numbers_of, row_of, typed_of};
-ghost use Rattle.occ_check_typing.specs.OpenedView.{Opens, pair_of, pairs_of};
+ghost use Rattle.occ_check_typing.specs.Declaration.{Opens, pair_of, pairs_of};
 
 use crate::expression::typed;
 use crate::types::{carried_by, open_sizes_of, protocol_of, sizes_of};

@@ -81,7 +81,7 @@ fn typed_one(context: Context<'_, '_>, sign: Sign, a: &Operand) -> Result<Typed,
     ensures { Gives typed_of result (meant.typed (names_in context.entry.scope) context.entry.line (trees.one sign (trees.operand_of a.now))) }
 {
     match sign {
-        Sign::Minus => {
+        Sign::Negate => {
             let x = as_single(context.line, typed_operand(context, a)?)?;
             one_typed(context.alloc, context.line, Monadic::Negate, x)
         }

@@ -23,7 +23,7 @@ use occ_check_names::operators::is_same_type;
 use occ_check_names::scope::Scope;
 use occ_check_names::typed::{Part, Typed};
 use occ_held::Held;
-use occ_term::{Array, Item, PartType, Place, Primitive, Protocol, Tag, TermExpr};
+use occ_term::{Array, Item, PartType, Place, Primitive, Protocol, Tag, TermExpr, copy_parts};
 use occ_tree_grammar::tree::expr::{Expr, Operand};
 use occ_tree_grammar::tree::line::{OneOrMore, Out, Var};
 use sqlite_items::Items;
@@ -359,16 +359,6 @@ fn only_part(alloc: Global, part: PartType) -> Result<Items<PartType>, AllocErro
     let mut parts = Items::new(alloc);
     parts.push(part)?;
     Ok(parts)
-}
-
-fn copy_parts(alloc: Global, parts: &[PartType]) -> Result<Items<PartType>, AllocError>
-    ensures { IfOk result (λ copies. copies ≡ parts.now) }
-{
-    let mut copies = Items::new(alloc);
-    for part in parts {
-        copies.push(part.copy(alloc)?)?;
-    }
-    Ok(copies)
 }
 
 /// The name of a tag, which an output on a channel with tags begins with.

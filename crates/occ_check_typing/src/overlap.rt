@@ -2,15 +2,15 @@
 
 ghost use Rattle.std.specs.Prelude.{◌≡◌, ◌<◌, ◌+◌, ◌*◌, ◌^◌, IfOk, IfSome, map, nat_lt};
 ghost use Rattle.occ_term.specs.Messages.{product};
-ghost use Rattle.occ_term.specs.Rows.{AreFew};
+ghost use Rattle.occ_term.specs.ArraySizes.{AreFew};
 ghost use Rattle.occ_term.specs.Uses.{constant_subscript, part_named};
 ghost use Rattle.occ_term.specs.View.{subscripts};
 ghost use Rattle.occ_check_meaning.specs.Calls as meant;
 ghost use Rattle.occ_check_meaning.specs.Items.{have_common, part_span};
 ghost use Rattle.occ_check_names.specs.View.{evaluated_of, row_of};
 ghost use Rattle.occ_check_typing.specs.Spans.{span_of};
-ghost use Rattle.occ_check_typing.specs.Meeting.{end_in_turn, ends_before, neighbours_meet};
-ghost use Rattle.occ_check_typing.specs.OpenedView.{pairs_of};
+ghost use Rattle.occ_check_typing.specs.Overlap.{end_in_turn, ends_before, neighbours_meet};
+ghost use Rattle.occ_check_typing.specs.Declaration.{pairs_of};
 
 use crate::declaration::Named;
 use occ_check_names::known::{Access, Evaluated, Known, Row};

@@ -1,7 +1,7 @@
 //! Names under subscripts.
 
 ghost use Rattle.std.specs.Prelude.{◌≡◌, ◌∷◌, [], IfOk, Some, map, pos};
-ghost use Rattle.occ_term.specs.Rows.{AreFew};
+ghost use Rattle.occ_term.specs.ArraySizes.{AreFew};
 ghost use Rattle.occ_term.specs.Terms.{no_subscripts, then_subscript};
 ghost use Rattle.occ_term.specs.View.{expression_of, subscripts};
 ghost use Rattle.occ_term.specs.declared.primitive.Primitive.TheVariants.{Int};
@@ -10,9 +10,8 @@ ghost use Rattle.occ_check_meaning.specs.Scope.{a_string, a_value, kept, some_ce
 ghost use Rattle.occ_check_names.specs.View.{Gives, known_of, part_of, row_of, typed_of};
 
 use occ_check_names::constant::is_within_size;
-use occ_check_names::copying::evaluated_subscripts;
 use occ_check_names::fault::CheckFault;
-use occ_check_names::known::{Known, Row};
+use occ_check_names::known::{Known, Row, evaluated_subscripts};
 use occ_check_names::literal::whole_string;
 use occ_check_names::typed::{Part, Typed};
 use occ_held::Held;

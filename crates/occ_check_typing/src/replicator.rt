@@ -5,7 +5,7 @@ ghost use Rattle.occ_tree_grammar.specs.Lines.Views as lines;
 ghost use Rattle.occ_check_meaning.specs.Constants.{a_count};
 ghost use Rattle.occ_check_meaning.specs.Declarations as meant;
 ghost use Rattle.occ_check_names.specs.View.{Gives, names_in, numbers_of};
-ghost use Rattle.occ_check_typing.specs.OpenedView.{Indexes};
+ghost use Rattle.occ_check_typing.specs.Declaration.{Indexes};
 
 use crate::declaration::{Named, row_from};
 use crate::expression::{constant_as, typed_as};

@@ -6,7 +6,7 @@ ghost use Rattle.occ_tree_grammar.specs.Lines.Trees.{given};
 ghost use Rattle.occ_tree_grammar.specs.Lines.Views as lines;
 ghost use Rattle.occ_tree_grammar.specs.Processes.Views as processes;
 ghost use Rattle.occ_term.specs.Messages.{is_of, simple_part};
-ghost use Rattle.occ_term.specs.Rows.{AreFew};
+ghost use Rattle.occ_term.specs.ArraySizes.{AreFew};
 ghost use Rattle.occ_term.specs.declared.primitive.Primitive.TheVariants.{Int};
 ghost use Rattle.occ_check_meaning.specs.Constants as constants;
 ghost use Rattle.occ_check_meaning.specs.Scope.{each_of, keep, once};

@@ -10,9 +10,9 @@ use Rattle.occ_usage.specs.declared.noted.Use.{Use}
 use Rattle.occ_usage.specs.declared.noted.Kind.{Kind}
 use Rattle.occ_usage.specs.declared.noted.Kind.TheVariants.{Read, Write, Input, Output}
 use Rattle.occ_code.proofs.Emitting.{drop_all}
-use Rattle.occ_code.specs.Alike.{AreAbove, IsRising, Lists}
-use Rattle.occ_code.specs.Sequential.Within.{AreWithin}
-use Rattle.occ_code.specs.Sequential.Cells.{is_counted, counted, covers, end_of, furthest, reach, AreEnds, AreReached}
+use Rattle.occ_code.specs.SameStop.{AreAbove, IsRising, Lists}
+use Rattle.occ_code.specs.Within.{AreWithin}
+use Rattle.occ_code.specs.Cells.{is_counted, counted, covers, end_of, furthest, reach, AreEnds, AreReached}
 
 -- ---- tests of numbers
 

@@ -3,7 +3,7 @@ use Rattle.std.specs.Prelude.{All, min, reverse, Some, ⊤}
 use Rattle.std.proofs.Common.{◌≤◌, ◌<◌, ◌+◌, ◌*◌, ℕ, zero, suc, map, length, ◌≡◌, ◌++◌, ◌∷◌, [], List, ◌∙◌, refl, sym, ap, subst, arith, append_assoc, append-nil}
 use Rattle.std.proofs.lemmas.List.{length-map, map-append, reverse-append}
 use Rattle.occ_term.specs.Terms.{Term, Skip, Stop, Assign, Input, Output, VariantInput, Seq, Par, Alt, If, Case, While, Each, Clear, Local, Terms, no_terms, then_term, Branches, no_branches, and_branch, Arms, no_arms, skip_arm, input_arm, declared_arms, each_arm, Reception, Plain, Tagged, Variants, no_variants, or_variant, Choices, no_choices, or_choice, declared_choices, each_choice, Options, no_options, or_option, or_else}
-use Rattle.occ_term.specs.Unfolding.{Unfolding, IsWellFormed, NumberedFrom, declared, meaning}
+use Rattle.occ_term.specs.UnfoldedProgram.{UnfoldedProgram, IsWellFormed, NumberedFrom, declared, meaning}
 use Rattle.occ_term.specs.declared.fault.Errors.{Errors}
 use Rattle.occ_term.specs.declared.primitive.Primitive.{Primitive}
 use Rattle.occ_term.specs.declared.protocol.Protocol.{Protocol}
@@ -11,17 +11,17 @@ use Rattle.occ_term.specs.TermTyping.{Declared, TermHas, TermsHave, BranchesHave
 use Rattle.occ_term.specs.Sizes.{size_of}
 use Rattle.occ_term.specs.Processes.{Numbered, branches_in, branches_in_terms, branches_among, branches_in_arms, branches_in_reception, branches_in_variants, branches_in_choices, branches_in_options, processes_of}
 use Rattle.occ_term.specs.declared.names.Channel.{Channel}
-use Rattle.occ_code.specs.Sequential.Machine.{Body, placed}
-use Rattle.occ_code.specs.Sequential.Alike.{DoesAs}
-use Rattle.occ_code.specs.Sequential.Emitted.{instructions_of, whole_code}
-use Rattle.occ_code.specs.Sequential.Compiled.{AddsBodies, AllDo, AreBodiesOf, IsCompiledFrom, IsQuantum, CodeRefuses, IsBodyOf, IsRefused, instructions_in, most_instructions}
+use Rattle.occ_code.specs.Machine.{Body, placed}
+use Rattle.occ_code.specs.Alike.{DoesAs}
+use Rattle.occ_code.specs.Emitted.{instructions_of, whole_code}
+use Rattle.occ_code.specs.Compiled.{AddsBodies, AllDo, AreBodiesOf, IsCompiledFrom, IsQuantum, CodeRefuses, IsBodyOf, IsRefused, instructions_in, most_instructions}
 use Rattle.occ_code.specs.declared.compiler.code.CodeFault.{CodeFault}
 use Rattle.occ_code.specs.declared.compiler.code.CodeFault.TheVariants.{TooLarge, BadQuantum, Memory}
-use Rattle.occ_code.specs.Sequential.Within.{AllWithin, AreNumbered, KeepsWithin}
+use Rattle.occ_code.specs.Within.{AllWithin, AreNumbered, KeepsWithin}
 use Rattle.occ_code.proofs.UsedCells.{keeps_within}
-use Rattle.occ_code.proofs.SequentialChoosing.{number_below}
-use Rattle.occ_code.proofs.SequentialLayout.{compiled_do, there_below}
-use Rattle.occ_code.proofs.SequentialSizes.{programs_are_small}
+use Rattle.occ_code.proofs.PassingArms.{number_below}
+use Rattle.occ_code.proofs.LaidOut.{compiled_do, there_below}
+use Rattle.occ_code.proofs.CodeSizes.{programs_are_small}
 
 -- a body has as many instructions as the code of its term
 body_length : (t : Term) (quantum : ℕ) (b : Body) → IsBodyOf t quantum b → length b.code ≡ length (whole_code t)
@@ -121,12 +121,12 @@ all_keep : (d : Declared) → ((c : ℕ) (t : Primitive) → d.types c ≡ Some 
 all_keep d known [] h = tt
 all_keep d known (p ∷ ps) h = (keeps_within d known p.term h.0, all_keep d known ps h.1)
 
-pub all_within : (u : Unfolding) → IsWellFormed u → AllWithin (processes_of (meaning u))
+pub all_within : (u : UnfoldedProgram) → IsWellFormed u → AllWithin (processes_of (meaning u))
 all_within u well =
     let known : (c : ℕ) (t : Primitive) → (declared u).types c ≡ Some t → c < 65536 = λ c t h. (let lt = there_below (map (λ x. x.primitive) u.cells) c t h in omega (arith, lt, length-map u.cells (λ x. x.primitive), well.few_cells)) in
     all_keep (declared u) known (processes_of (meaning u)) (well.typed, within (declared u) (meaning u) well.typed)
 
-all_numbered : (u : Unfolding) → IsWellFormed u → AreNumbered (declared u)
+all_numbered : (u : UnfoldedProgram) → IsWellFormed u → AreNumbered (declared u)
 all_numbered u well =
     record {
       cells = λ c t h. (
@@ -139,7 +139,7 @@ all_numbered u well =
           number_below c inside);
     }
 
-pub compiled_as : (u : Unfolding) (quantum : ℕ) (bodies : List Body) (channels : List Channel) (errors : Errors) → IsWellFormed u → IsQuantum quantum → AreBodiesOf (processes_of (meaning u)) quantum bodies
+pub compiled_as : (u : UnfoldedProgram) (quantum : ℕ) (bodies : List Body) (channels : List Channel) (errors : Errors) → IsWellFormed u → IsQuantum quantum → AreBodiesOf (processes_of (meaning u)) quantum bodies
     → instructions_in bodies ≤ most_instructions → channels ≡ u.channels → IsCompiledFrom u quantum (record { bodies = bodies; channels = channels; errors = errors })
 compiled_as u quantum bodies channels errors well between h small same =
     record {
@@ -167,10 +167,10 @@ past_limit n k e h = omega (arith, e, h)
 pub within_limit : (n k : ℕ) → n ≡ min k 18446744073709551615 → n ≤ most_instructions → k ≤ most_instructions
 within_limit n k e h = omega (arith, e, h)
 
-pub refused_as : (u : Unfolding) (quantum : ℕ) (fault : CodeFault) → IsQuantum quantum → IsRefused fault (meaning u) → CodeRefuses fault quantum u
+pub refused_as : (u : UnfoldedProgram) (quantum : ℕ) (fault : CodeFault) → IsQuantum quantum → IsRefused fault (meaning u) → CodeRefuses fault quantum u
 refused_as u quantum TooLarge between h = (between, too_long u h)
   where
-    too_long : (u : Unfolding) → IsRefused TooLarge (meaning u) → most_instructions < 32 * (size_of (meaning u)).nodes
+    too_long : (u : UnfoldedProgram) → IsRefused TooLarge (meaning u) → most_instructions < 32 * (size_of (meaning u)).nodes
     too_long u h = let g = programs_are_small (meaning u) in omega (arith, h, g)
 refused_as u quantum BadQuantum between h = absurd h
 refused_as u quantum Memory between h = between

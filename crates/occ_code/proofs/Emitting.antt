@@ -10,9 +10,9 @@ use Rattle.occ_term.specs.Uses.{components}
 use Rattle.occ_term.specs.View.{expression_of, place_of, subscripts}
 use Rattle.occ_term.specs.declared.expression.TermExpr.{TermExpr, the_lemmas}
 use Rattle.occ_term.specs.declared.expression.Place.{Place}
-use Rattle.occ_code.specs.Sequential.Expressions.{expression_code, subscripts_code, components_at}
-use Rattle.occ_code.specs.Sequential.Machine.{Instruction, Subscript}
-use Rattle.occ_code.specs.Sequential.View.{instruction_of, emitted, Emits}
+use Rattle.occ_code.specs.Expressions.{expression_code, subscripts_code, components_at}
+use Rattle.occ_code.specs.Machine.{Instruction, Subscript}
+use Rattle.occ_code.specs.View.{instruction_of, emitted, Emits}
 use Rattle.occ_code.specs.declared.compiler.instr.Instr.{Instr}
 
 pub emits_none : (a : List Instr) → Emits a [] a

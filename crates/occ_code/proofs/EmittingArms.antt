@@ -4,9 +4,9 @@ use Rattle.std.proofs.Common.{◌≡◌, ℕ, pos, ◌+◌, ◌<◌, ◌≤◌, 
 use Rattle.std.proofs.Math.Seq.{drop-cons}
 use Rattle.occ_term.specs.View.{arm_of, arms_of}
 use Rattle.occ_term.specs.declared.term.Arm.{Arm}
-use Rattle.occ_code.specs.Sequential.Machine.{Instruction, Push, Jump, DropOne, NextChoice, BackToChoice, PassArms, IfTaken, SetAgain, ChooseArm}
-use Rattle.occ_code.specs.Sequential.Emitted.{arm_code, declared_arms_code, each_arm_code}
-use Rattle.occ_code.specs.Sequential.View.{instruction_of, Emits, Behind}
+use Rattle.occ_code.specs.Machine.{Instruction, Push, Jump, DropOne, NextChoice, BackToChoice, PassArms, IfTaken, SetAgain, ChooseArm}
+use Rattle.occ_code.specs.Emitted.{arm_code, declared_arms_code, each_arm_code}
+use Rattle.occ_code.specs.View.{instruction_of, Emits, Behind}
 use Rattle.occ_code.specs.declared.compiler.instr.Instr.{Instr}
 use Rattle.occ_code.proofs.Emitting.{emits_then, emits_as, emits_length}
 use Rattle.occ_code.proofs.EmittingTerms.{behind_length, behind_set, behind_then}

@@ -10,10 +10,10 @@ use Rattle.occ_term.specs.declared.term.Term.{Term, the_lemmas}
 use Rattle.occ_term.specs.declared.term.Choice.{Choice}
 use Rattle.occ_term.specs.declared.term.Selection.{Selection}
 use Rattle.occ_term.specs.declared.term.Variant.{Variant}
-use Rattle.occ_code.specs.Sequential.Machine.{Instruction, Jump, Choose, LoopBack, Fork}
-use Rattle.occ_code.specs.Sequential.Expressions.{par_code}
-use Rattle.occ_code.specs.Alike.{numbers_of}
-use Rattle.occ_code.specs.Sequential.View.{instruction_of, emitted, Emits, Behind}
+use Rattle.occ_code.specs.Machine.{Instruction, Jump, Choose, LoopBack, Fork}
+use Rattle.occ_code.specs.Expressions.{par_code}
+use Rattle.occ_code.specs.SameStop.{numbers_of}
+use Rattle.occ_code.specs.View.{instruction_of, emitted, Emits, Behind}
 use Rattle.occ_code.specs.declared.compiler.instr.Instr.{Instr}
 use Rattle.occ_code.proofs.Emitting.{emitted-append, emits_then, emits_as, emits_length}
 

@@ -2,8 +2,8 @@
 use Rattle.std.specs.Prelude.{map}
 use Rattle.std.proofs.Common.{◌≡◌, ◌∙◌, refl, ap, sym, ℕ, zero, suc, ◌<◌, ◌≤◌, ◌+◌, List, [], ◌∷◌, length, get_or, add-one, arith}
 use Rattle.std.proofs.Math.ListN.{set}
-use Rattle.occ_code.specs.Sequential.Machine.{Instruction, placed}
-use Rattle.occ_code.specs.Sequential.View.{instruction_of}
+use Rattle.occ_code.specs.Machine.{Instruction, placed}
+use Rattle.occ_code.specs.View.{instruction_of}
 use Rattle.occ_code.specs.declared.compiler.instr.Instr.{Instr}
 
 -- so many of them have places

@@ -2,8 +2,8 @@
 use Rattle.std.specs.Prelude.{nat_abs, pos}
 use Rattle.std.proofs.Common.{◌≡◌, ◌∙◌, ◌<◌, ap, refl, sym, subst, ℕ, List, [], ◌∷◌, length, get_or, map}
 use Rattle.std.proofs.lemmas.List.{get_or-map}
-use Rattle.occ_code.specs.Sequential.Machine as M
-use Rattle.occ_code.specs.Sequential.View.{instruction_of}
+use Rattle.occ_code.specs.Machine as M
+use Rattle.occ_code.specs.View.{instruction_of}
 use Rattle.occ_code.specs.declared.compiler.instr.Instr.{Instr}
 use Rattle.occ_code.specs.declared.compiler.instr.Instr.TheVariants.{Push, Load, LoadAt, LoadLetter, Subscript, Operate, OperateOne, ConvertTo, AndThen, OrElse, PartOne, PartMany, PartText, PartCounted, PartCountedText, SpotOne, SpotCounted, StoreParts, StoreNamed, StoreOne, ClearCells, Jump, Choose, IfAmong, IfTag, DropOne, CountedFrom, NextChoice, BackToChoice, PassArms, IfTaken, SetAgain, IfTrue, OpenSkip, OpenInput, ChooseArm, Begin, Pass, LoopBack, Send, Receive, Fork, Halt, End}
 

@@ -17,8 +17,8 @@ use Rattle.occ_term.specs.TermTyping.{ArmsHave, BranchesHave, ChannelHas, Choice
 use Rattle.occ_term.proofs.Bounds.{one_more}
 use Rattle.occ_term.proofs.TypedPlaces.{in_row, to_row}
 use Rattle.occ_usage.proofs.Rows.{constant_below}
-use Rattle.occ_code.specs.Alike.{used_by}
-use Rattle.occ_code.specs.Sequential.Within.{AreWithin, KeepsWithin}
+use Rattle.occ_code.specs.SameStop.{used_by}
+use Rattle.occ_code.specs.Within.{AreWithin, KeepsWithin}
 
 -- ---- sets
 

@@ -1,2 +1,13 @@
+pub mod SameStop
+pub mod Machine
+pub mod Quick
+pub mod Expressions
+pub mod Laws
+pub mod Layout
 pub mod Alike
-pub mod Sequential
+pub mod Emitted
+pub mod Examples
+pub mod View
+pub mod Cells
+pub mod Within
+pub mod Compiled

@@ -1,10 +1,10 @@
-//! Laws of the code of single processes. Each function's contract is the law; its body does nothing.
+//! Laws of the code of processes. Each function's contract is the law; its body does nothing.
 
-ghost use Rattle.occ_code.specs.Sequential.Alike.{BodiesDo};
-ghost use Rattle.occ_code.specs.Sequential.Compiled.{OneCode};
-ghost use Rattle.occ_code.specs.Sequential.Emitted.{BodiesAreSmall, CompiledDo, ProgramsAreSmall};
-ghost use Rattle.occ_code.specs.Sequential.Examples.{CountsAsCompiled, FirstOfTwoAsCompiled, TwiceAsCompiled, TwiceTwoAsCompiled};
-ghost use Rattle.occ_code.specs.Sequential.Laws.{CountersAreApart, ExpressionsRun, IndexesAreKept, ItemsRun, PlacesDo, TargetsRun};
+ghost use Rattle.occ_code.specs.Alike.{BodiesDo};
+ghost use Rattle.occ_code.specs.Compiled.{OneCode};
+ghost use Rattle.occ_code.specs.Emitted.{BodiesAreSmall, CompiledDo, ProgramsAreSmall};
+ghost use Rattle.occ_code.specs.Examples.{CountsAsCompiled, FirstOfTwoAsCompiled, TwiceAsCompiled, TwiceTwoAsCompiled};
+ghost use Rattle.occ_code.specs.Laws.{CountersAreApart, ExpressionsRun, IndexesAreKept, ItemsRun, PlacesDo, TargetsRun};
 
 /// The code of a typed expression brings its value to the top of the stack, or comes to its fault.
 pub fn expressions_run()

@@ -21,14 +21,14 @@ pub fn binary(
     let x = i128::from(a);
     let y = i128::from(b);
     match operator {
-        Operator::Plus => in_type(primitive, line, sum(a, b)),
-        Operator::Minus => in_type(primitive, line, difference(a, b)),
-        Operator::Times => in_type(primitive, line, product(a, b)),
+        Operator::Add => in_type(primitive, line, sum(a, b)),
+        Operator::Subtract => in_type(primitive, line, difference(a, b)),
+        Operator::Multiply => in_type(primitive, line, product(a, b)),
         Operator::Divide => divide(primitive, line, a, b),
         Operator::Remainder => remainder(primitive, line, a, b),
-        Operator::PlusModulo => Ok(wrapped(primitive, sum(a, b))),
-        Operator::MinusModulo => Ok(wrapped(primitive, difference(a, b))),
-        Operator::TimesModulo => Ok(wrapped(primitive, product(a, b))),
+        Operator::Plus => Ok(wrapped(primitive, sum(a, b))),
+        Operator::Minus => Ok(wrapped(primitive, difference(a, b))),
+        Operator::Times => Ok(wrapped(primitive, product(a, b))),
         Operator::BitAnd => Ok(of_bits(primitive, bits_of(primitive, x) & bits_of(primitive, y))),
         Operator::BitOr => Ok(of_bits(primitive, bits_of(primitive, x) | bits_of(primitive, y))),
         Operator::BitXor => Ok(of_bits(primitive, bits_of(primitive, x) ^ bits_of(primitive, y))),

@@ -13,13 +13,8 @@ use occ_code::Code;
 use occ_net_replay::{Choice, Ending};
 use occ_net_tables::{Keep, Ran, run_tables};
 use occ_shown::channel_bytes;
+use occ_term::{ERROR, SCREEN};
 use std::alloc::{AllocError, Global};
-
-/// The screen's channel.
-const SCREEN: u32 = 1;
-
-/// The error channel.
-const ERROR: u32 = 2;
 
 /// What a network came to.
 #[derive(Drop)]

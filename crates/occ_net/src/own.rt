@@ -1,6 +1,6 @@
 //! Whether a turn is of the network's own.
 ghost use Rattle.std.specs.Prelude.{◌≡◌, ◌↔◌, IsTrue, List, Some, slice_get, ℕ};
-ghost use Rattle.occ_code.specs.Sequential.Compiled.{Program};
+ghost use Rattle.occ_code.specs.Compiled.{Program};
 ghost use Rattle.occ_net_replay.specs.Replay.{HasTask, Net, turns_at};
 ghost use Rattle.occ_net_tables.specs.Holding.{Holds};
 ghost use Rattle.occ_net.specs.Networks.{IsState};

@@ -18,12 +18,12 @@ use Rattle.occ_term.specs.System.{Processes, no_processes, System}
 use Rattle.occ_term.specs.TermTyping.{Declared}
 use Rattle.occ_term.specs.Terms.{Term, Branches, no_branches, and_branch, Reception}
 use Rattle.occ_term.specs.TypedSteps.{LeftHas, EnabledHave}
-use Rattle.occ_term.specs.Unfolding.{Unfolding}
+use Rattle.occ_term.specs.UnfoldedProgram.{UnfoldedProgram}
 use Rattle.occ_term.specs.Uses.{uses_of, uses_of_reception}
-use Rattle.occ_code.specs.Alike.{AreAbove, IsRising, SameArms, SameStop, numbers_of}
-use Rattle.occ_code.specs.Sequential.Alike.{Alike}
-use Rattle.occ_code.specs.Sequential.Compiled.{Program}
-use Rattle.occ_code.specs.Sequential.Machine.{Body, Stopping}
+use Rattle.occ_code.specs.SameStop.{AreAbove, IsRising, SameArms, SameStop, numbers_of}
+use Rattle.occ_code.specs.Alike.{Alike}
+use Rattle.occ_code.specs.Compiled.{Program}
+use Rattle.occ_code.specs.Machine.{Body, Stopping}
 use Rattle.occ_code.specs.declared.task.Arm.{Arm}
 use Rattle.occ_code.specs.declared.task.Task.{Task}
 use Rattle.occ_code.specs.declared.task.Wait.{Wait}
@@ -340,7 +340,7 @@ turns_never_take u p quantum kb cs net n after arm is m z o e =
     (belongs u p quantum kb z.well_formed z.lawful z.compiled z.bytes) net x.now x.follows n after o arm is m e
 
 -- between two turns nothing can happen that needs none
-pub replays_are_quiet : (u : Unfolding) (p : Program) (quantum : ℕ) (kb : List ℕ) (cs : List Choice) (net : Net) → IsReplay u p quantum kb cs net → Quiet net
+pub replays_are_quiet : (u : UnfoldedProgram) (p : Program) (quantum : ℕ) (kb : List ℕ) (cs : List Choice) (net : Net) → IsReplay u p quantum kb cs net → Quiet net
 replays_are_quiet u p quantum kb cs net z = (all_followed u p quantum kb z.well_formed z.lawful z.compiled z.bytes cs net 1 z.few z.replays).follows.quiet
 
 pub turns_fork_alone : TurnsForkAlone

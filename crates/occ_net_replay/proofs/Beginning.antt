@@ -19,14 +19,14 @@ use Rattle.occ_term.specs.System.{Process, process, Processes, no_processes, Sys
 use Rattle.occ_term.specs.System as S
 use Rattle.occ_term.specs.TermTyping.{Declared, TermHas}
 use Rattle.occ_term.specs.Terms.{Term}
-use Rattle.occ_term.specs.Unfolding.{NumberedFrom}
+use Rattle.occ_term.specs.UnfoldedProgram.{NumberedFrom}
 use Rattle.occ_term.specs.Uses.{Numbers, empty_set, no_use, uses_of, LawfulTerm}
 use Rattle.occ_term.specs.Values.{Store, is_of_declared}
 use Rattle.occ_term.proofs.Going.{going}
 use Rattle.occ_term.proofs.KeptStores.{both_parts, no_part, whole_part}
-use Rattle.occ_code.specs.Sequential.Alike.{Alike, IsFirst}
-use Rattle.occ_code.specs.Sequential.Compiled.{Program}
-use Rattle.occ_code.specs.Sequential.Machine.{Body}
+use Rattle.occ_code.specs.Alike.{Alike, IsFirst}
+use Rattle.occ_code.specs.Compiled.{Program}
+use Rattle.occ_code.specs.Machine.{Body}
 use Rattle.occ_code.specs.declared.task.Task.{Task}
 use Rattle.occ_code.specs.declared.task.Wait.{Wait}
 use Rattle.occ_net_replay.specs.Following.{AreBytes, ending_as, mode_of, or_limit}

@@ -6,7 +6,7 @@ use mathlib.Core.Bool.{true≢false}
 use Rattle.occ_term.specs.declared.message.Message.{Message}
 use Rattle.occ_term.specs.Selecting.{is_ready_on}
 use Rattle.occ_term.specs.System.{has_byte}
-use Rattle.occ_code.specs.Sequential.Machine.{Body}
+use Rattle.occ_code.specs.Machine.{Body}
 use Rattle.occ_code.specs.declared.task.Arm.{Arm}
 use Rattle.occ_code.specs.declared.task.Task.{Task}
 use Rattle.occ_code.specs.declared.task.Wait.TheVariants as W

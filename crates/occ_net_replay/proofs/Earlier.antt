@@ -2,8 +2,8 @@
 use Rattle.std.proofs.Common.{◌≡◌, ◌∙◌, refl, sym, ap, subst, ℕ, ◌+◌, List, [], ◌∷◌, ◌++◌, length, length-append}
 use Rattle.std.proofs.lemmas.List.{append_assoc}
 use Rattle.occ_term.specs.Runs.{Event}
-use Rattle.occ_term.specs.Unfolding.{Unfolding}
-use Rattle.occ_code.specs.Sequential.Compiled.{Program}
+use Rattle.occ_term.specs.UnfoldedProgram.{UnfoldedProgram}
+use Rattle.occ_code.specs.Compiled.{Program}
 use Rattle.occ_net_replay.specs.declared.choice.Choice.{Choice}
 use Rattle.occ_net_replay.specs.Following.{Followed}
 use Rattle.occ_net_replay.specs.Moments.{Accompanies, EarlierMoment, IsMoment, RunsGoOn, at_start, after_turn}
@@ -27,7 +27,7 @@ nothing_before : {X : Type 0} (xs : List X) (y : X) (ys : List X) → [] ≡ xs 
 nothing_before [] y ys e = cc
 nothing_before (x ∷ xs) y ys e = cc
 
-module _ (u : Unfolding) (p : Program) (quantum : ℕ) (keyboard : List ℕ) where
+module _ (u : UnfoldedProgram) (p : Program) (quantum : ℕ) (keyboard : List ℕ) where
   moment_of : {cs : List Choice} {net : Net} {f : Followed u keyboard quantum p.errors net} → Accompanies u p quantum keyboard cs net f → IsMoment net f.system
   moment_of (at_start f e m) = m
   moment_of (after_turn g e a o q m) = m

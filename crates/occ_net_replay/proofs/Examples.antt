@@ -4,7 +4,7 @@ use Rattle.std.specs.Prelude.{slice_set}
 use mathlib.Core.Bool.{true≢false}
 use Rattle.occ_term.specs.System.{End, communication}
 use Rattle.occ_term.specs.declared.message.Message.{Message}
-use Rattle.occ_code.specs.Sequential.Machine.{Body}
+use Rattle.occ_code.specs.Machine.{Body}
 use Rattle.occ_code.specs.declared.task.Arm.{Arm}
 use Rattle.occ_code.specs.declared.task.Task.{Task}
 use Rattle.occ_code.specs.declared.task.Wait.{Wait}

@@ -3,9 +3,9 @@ use Rattle.std.proofs.Common.{ℕ, zero, suc, List, [], ◌∷◌}
 use Rattle.occ_term.specs.TermTyping.{Declared}
 use Rattle.occ_term.specs.Selecting.{Enabled, SkipArm, InputArm}
 use Rattle.occ_term.specs.Steps.{Context, Left}
-use Rattle.occ_code.specs.Alike.{SameArm, SameArms, SameStop}
-use Rattle.occ_code.specs.Sequential.Machine.{Body}
-use Rattle.occ_code.specs.Sequential.Alike.{Alike}
+use Rattle.occ_code.specs.SameStop.{SameArm, SameArms, SameStop}
+use Rattle.occ_code.specs.Machine.{Body}
+use Rattle.occ_code.specs.Alike.{Alike}
 use Rattle.occ_code.specs.declared.task.Arm.{Arm}
 use Rattle.occ_code.specs.declared.task.Task.{Task}
 use Rattle.occ_code.specs.declared.task.Wait.{Wait}

@@ -4,7 +4,7 @@ use Rattle.std.specs.Prelude.{slice_get, ◌||◌}
 use Rattle.std.specs.Bool.{⊤}
 use Rattle.occ_term.specs.declared.fault.Fault.{Fault}
 use Rattle.occ_term.specs.declared.message.Message.{Message}
-use Rattle.occ_term.specs.Examples.{IsGoing}
+use Rattle.occ_term.specs.Going.{IsGoing}
 use Rattle.occ_term.specs.Frames.{Variables, is_held, at}
 use Rattle.occ_term.specs.Processes.{Numbered, numbered}
 use Rattle.occ_term.specs.Selecting.{Enabled}
@@ -18,10 +18,10 @@ use Rattle.occ_term.specs.Uses.{Uses, Numbers, empty_set, uses_of, uses_of_branc
 use Rattle.occ_term.specs.Values.{Store, is_of_declared}
 use Rattle.occ_term.proofs.KeptStores.{left_part, right_part, whole_part}
 use Rattle.occ_term.proofs.TypedValues.{or_left, or_right}
-use Rattle.occ_code.specs.Alike.{Agrees, Frames, FitsProtocol, SameArms, Joined, joined_with, numbers_of, used_by}
-use Rattle.occ_code.specs.Sequential.Alike.{Alike, DoesAs}
-use Rattle.occ_code.specs.Sequential.Compiled.{Program}
-use Rattle.occ_code.specs.Sequential.Machine.{Body}
+use Rattle.occ_code.specs.SameStop.{Agrees, Frames, FitsProtocol, SameArms, Joined, joined_with, numbers_of, used_by}
+use Rattle.occ_code.specs.Alike.{Alike, DoesAs}
+use Rattle.occ_code.specs.Compiled.{Program}
+use Rattle.occ_code.specs.Machine.{Body}
 use Rattle.occ_code.specs.declared.task.Arm.{Arm}
 use Rattle.occ_code.specs.declared.task.Task.{Task}
 use Rattle.occ_code.specs.declared.task.Wait.TheVariants as W

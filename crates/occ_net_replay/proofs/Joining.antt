@@ -11,10 +11,10 @@ use Rattle.occ_term.specs.Terms.{Term, Skip, Branches}
 use Rattle.occ_term.specs.TypedSteps.{LeftHas}
 use Rattle.occ_term.specs.Uses.{Numbers, empty_set, uses_of, uses_of_branches}
 use Rattle.occ_term.specs.Values.{Store}
-use Rattle.occ_code.specs.Alike.{Frames, Joined, joined_with, numbers_of, used_by}
-use Rattle.occ_code.specs.Sequential.Alike.{Alike}
-use Rattle.occ_code.specs.Sequential.Compiled.{Program}
-use Rattle.occ_code.specs.Sequential.Machine.{Body, Stopping}
+use Rattle.occ_code.specs.SameStop.{Frames, Joined, joined_with, numbers_of, used_by}
+use Rattle.occ_code.specs.Alike.{Alike}
+use Rattle.occ_code.specs.Compiled.{Program}
+use Rattle.occ_code.specs.Machine.{Body, Stopping}
 use Rattle.occ_code.specs.declared.task.Task.{Task}
 use Rattle.occ_code.specs.declared.task.Wait.TheVariants as W
 use Rattle.occ_net_replay.specs.Replay.{Tasks, HasTask, may_go, AreDone, with_branches, merged}

@@ -9,11 +9,11 @@ use Rattle.occ_term.specs.Runs.{EndsBy, Event, event, Run, no_turn, communicatio
 use Rattle.occ_term.specs.System.{System, start, noted_in}
 use Rattle.occ_term.specs.TermTyping.{Declared}
 use Rattle.occ_term.specs.Terms.{Term, Branches, no_branches, and_branch}
-use Rattle.occ_term.specs.Unfolding.{Unfolding, IsWellFormed, Lawful, meaning, declared}
-use Rattle.occ_code.specs.Alike.{SameStop}
-use Rattle.occ_code.specs.Sequential.Alike.{Alike, DoesAs}
-use Rattle.occ_code.specs.Sequential.Compiled.{Program, IsCompiledFrom, AllDo}
-use Rattle.occ_code.specs.Sequential.Machine.{Body, Stopping}
+use Rattle.occ_term.specs.UnfoldedProgram.{UnfoldedProgram, IsWellFormed, Lawful, meaning, declared}
+use Rattle.occ_code.specs.SameStop.{SameStop}
+use Rattle.occ_code.specs.Alike.{Alike, DoesAs}
+use Rattle.occ_code.specs.Compiled.{Program, IsCompiledFrom, AllDo}
+use Rattle.occ_code.specs.Machine.{Body, Stopping}
 use Rattle.occ_code.specs.declared.task.Task.{Task}
 use Rattle.occ_code.specs.declared.task.Wait.TheVariants.{Joins}
 use Rattle.occ_net_replay.specs.declared.choice.Choice.{Choice}
@@ -47,10 +47,10 @@ does_at d n (b ∷ bs) [] i q h e = absurd h
 does_at d n (b ∷ bs) (x ∷ ps) zero q h e = let same : x ≡ q = cc in record { body = b; code = refl; does = subst (λ z. DoesAs d b z.term) same h.1 }
 does_at d n (b ∷ bs) (x ∷ ps) (suc i) q h e = let y = does_at d (n + 1) bs ps i q h.2 e in record { body = y.body; code = y.code; does = y.does }
 
-pub keyboard_protocol : (u : Unfolding) → IsWellFormed u → (declared u).protocols 0 ≡ Some (Simple [] Byte)
+pub keyboard_protocol : (u : UnfoldedProgram) → IsWellFormed u → (declared u).protocols 0 ≡ Some (Simple [] Byte)
 keyboard_protocol u w = ap (λ cs. slice_get (map (λ y. y.protocol) cs) 0) w.begins
 
-module _ (u : Unfolding) (p : Program) (quantum : ℕ) (kb : List ℕ) (w : IsWellFormed u) (lawful : Lawful u) (from : IsCompiledFrom u quantum p) (bytes : AreBytes kb) where
+module _ (u : UnfoldedProgram) (p : Program) (quantum : ℕ) (kb : List ℕ) (w : IsWellFormed u) (lawful : Lawful u) (from : IsCompiledFrom u quantum p) (bytes : AreBytes kb) where
   abbrev pub d : Declared
   d = declared u
 

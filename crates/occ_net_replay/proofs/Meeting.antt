@@ -4,7 +4,7 @@ use Rattle.std.specs.Prelude.{slice_get, slice_set, if◌then◌else◌}
 use Rattle.std.proofs.lemmas.Bool.{eq-eqb}
 use mathlib.Core.Bool.{true≢false}
 use Rattle.occ_term.specs.declared.message.Message.{Message}
-use Rattle.occ_term.specs.Examples.{IsGoing}
+use Rattle.occ_term.specs.Going.{IsGoing}
 use Rattle.occ_term.specs.Processes.{Numbered}
 use Rattle.occ_term.specs.Selecting.{Enabled, SkipArm, InputArm, waits_for, is_ready_on, ready_among, chosen, chosen_of}
 use Rattle.occ_term.specs.StepUses.{IsPartOf, uses_of_left, uses_of_contexts, uses_of_settings, uses_of_enabled, uses_of_all, uses_of_doing}
@@ -16,10 +16,10 @@ use Rattle.occ_term.specs.TypedSteps.{LeftHas, EnabledHas, EnabledHave}
 use Rattle.occ_term.specs.Uses.{Uses, Numbers, empty_set, no_use, with_use, inputting, only, uses_of, uses_of_reception}
 use Rattle.occ_term.specs.Values.{Store}
 use Rattle.occ_term.proofs.KeptStores.{left_part, right_part, both_parts, no_part, whole_part}
-use Rattle.occ_code.specs.Alike.{SameArm, SameArms, FitsProtocol}
-use Rattle.occ_code.specs.Sequential.Alike.{Alike}
-use Rattle.occ_code.specs.Sequential.Compiled.{Program}
-use Rattle.occ_code.specs.Sequential.Machine.{Body}
+use Rattle.occ_code.specs.SameStop.{SameArm, SameArms, FitsProtocol}
+use Rattle.occ_code.specs.Alike.{Alike}
+use Rattle.occ_code.specs.Compiled.{Program}
+use Rattle.occ_code.specs.Machine.{Body}
 use Rattle.occ_code.specs.declared.task.Arm.{Arm}
 use Rattle.occ_code.specs.declared.task.Task.{Task}
 use Rattle.occ_code.specs.declared.task.Wait.TheVariants as W

@@ -7,7 +7,7 @@ use Rattle.occ_term.specs.Selecting.{Enabled}
 use Rattle.occ_term.specs.Steps.{Do, Offering, Awaiting, Choosing, Forking, Halted, Faulted, Done, Left, left}
 use Rattle.occ_term.specs.System.{Processes, no_processes, process}
 use Rattle.occ_term.specs.Terms.{Branches, Reception, Skip}
-use Rattle.occ_code.specs.Alike.{numbers_of}
+use Rattle.occ_code.specs.SameStop.{numbers_of}
 use Rattle.occ_code.specs.declared.task.Arm.{Arm}
 use Rattle.occ_code.specs.declared.task.Wait.TheVariants as W
 use Rattle.occ_net_replay.specs.MomentExamples.{AtStop, SameStopRows, OtherStopRows, MissingRows, UnquietRows}

@@ -14,9 +14,9 @@ use Rattle.occ_term.specs.Terms.{Term}
 use Rattle.occ_term.specs.Uses.{Lawful, uses_of, uses_of_reception}
 use Rattle.occ_term.specs.Values.{Store}
 use Rattle.occ_term.proofs.KeptStores.{whole_part}
-use Rattle.occ_code.specs.Alike.{SameArm}
-use Rattle.occ_code.specs.Sequential.Alike.{Alike}
-use Rattle.occ_code.specs.Sequential.Compiled.{Program}
+use Rattle.occ_code.specs.SameStop.{SameArm}
+use Rattle.occ_code.specs.Alike.{Alike}
+use Rattle.occ_code.specs.Compiled.{Program}
 use Rattle.occ_code.specs.declared.task.Arm.{Arm}
 use Rattle.occ_code.specs.declared.task.Task.{Task}
 use Rattle.occ_code.specs.declared.task.Wait.{Wait}

@@ -4,7 +4,7 @@ use Rattle.std.specs.Prelude.{slice_get}
 use Rattle.occ_term.specs.Terms.{Term, Skip, Stop, Assign, Input, Output, VariantInput, Seq, Par, Alt, If, Case, While, Each, Clear, Local, Terms, no_terms, then_term, Branches, no_branches, and_branch, Arms, no_arms, skip_arm, input_arm, declared_arms, each_arm, Reception, Plain, Tagged, Variants, no_variants, or_variant, Choices, no_choices, or_choice, declared_choices, each_choice, Options, no_options, or_option, or_else}
 use Rattle.occ_term.specs.Uses.{LawfulTerm, LawfulTerms, LawfulBranches, LawfulArms, LawfulReception, LawfulVariants, LawfulChoices, LawfulOptions}
 use Rattle.occ_term.specs.Processes.{Numbered, numbered, branches_in, branches_in_terms, branches_among, branches_in_arms, branches_in_reception, branches_in_variants, branches_in_choices, branches_in_options, processes_of}
-use Rattle.occ_term.specs.Unfolding.{NumberedFrom}
+use Rattle.occ_term.specs.UnfoldedProgram.{NumberedFrom}
 use Rattle.occ_net_replay.proofs.Placed.{size, Placed, TermsPlaced, BranchesPlaced, ArmsPlaced, ReceptionPlaced, VariantsPlaced, ChoicesPlaced, OptionsPlaced}
 
 get_left : {X : Type 0} (xs ys : List X) (i : ℕ) (x : X) → slice_get xs i ≡ Some x → slice_get (xs ++ ys) i ≡ Some x

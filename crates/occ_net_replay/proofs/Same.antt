@@ -6,10 +6,10 @@ use Rattle.occ_term.specs.declared.message.Message.{Message}
 use Rattle.occ_term.specs.Frames.{is_held}
 use Rattle.occ_term.specs.Runs.{TakesPart}
 use Rattle.occ_term.specs.System.{End, OfProcess, communication}
-use Rattle.occ_term.specs.Unfolding.{Unfolding, IsWellFormed, Lawful, meaning}
-use Rattle.occ_code.specs.Alike.{joined_with}
-use Rattle.occ_code.specs.Sequential.Compiled.{Program, IsCompiledFrom}
-use Rattle.occ_code.specs.Sequential.Machine.{Body, Stopping}
+use Rattle.occ_term.specs.UnfoldedProgram.{UnfoldedProgram, IsWellFormed, Lawful, meaning}
+use Rattle.occ_code.specs.SameStop.{joined_with}
+use Rattle.occ_code.specs.Compiled.{Program, IsCompiledFrom}
+use Rattle.occ_code.specs.Machine.{Body, Stopping}
 use Rattle.occ_code.specs.declared.task.Arm.{Arm}
 use Rattle.occ_code.specs.declared.task.Task.{Task}
 use Rattle.occ_code.specs.declared.task.Wait.{Wait}
@@ -292,7 +292,7 @@ same_last (z ∷ xs) (w ∷ ys) x y e =
     let rest = same_last xs ys x y cc in
     (ap (λ l. l ∷ xs) first ∙ ap (λ l. w ∷ l) rest.0, rest.1)
 
-module _ (u : Unfolding) (p : Program) (quantum : ℕ) (kb : List ℕ) (w : IsWellFormed u) (lawful : Lawful u) (from : IsCompiledFrom u quantum p) (bytes : AreBytes kb) where
+module _ (u : UnfoldedProgram) (p : Program) (quantum : ℕ) (kb : List ℕ) (w : IsWellFormed u) (lawful : Lawful u) (from : IsCompiledFrom u quantum p) (bytes : AreBytes kb) where
   ordered : (cs : List Choice) (net : Net) → 1 + length cs < 2 ^ 64 → Replays p kb cs net → Orderly net.tasks
   ordered cs net small r =
       let x = all_followed u p quantum kb w lawful from bytes cs net 1 small r in
@@ -309,7 +309,7 @@ module _ (u : Unfolding) (p : Program) (quantum : ℕ) (kb : List ℕ) (w : IsWe
       turn_once p x a (ordered xs a fewer r) o (subst (λ l. OneTurn p x l b') (sym net) (subst (λ l. OneTurn p l a' b') (sym parts.1) t))
 
 -- what may happen after a turn is where the turn comes to
-pub turn_comes_to : (u : Unfolding) (p : Program) (quantum : ℕ) (kb : List ℕ) (cs : List Choice) (net : Net) → IsReplay u p quantum kb cs net → (c : Choice) {b e : Net} → (o : OneTurn p c net b) → Settled p.bodies o.number c.pick (took_turn net o.number o.after) e → b ≡ e
+pub turn_comes_to : (u : UnfoldedProgram) (p : Program) (quantum : ℕ) (kb : List ℕ) (cs : List Choice) (net : Net) → IsReplay u p quantum kb cs net → (c : Choice) {b e : Net} → (o : OneTurn p c net b) → Settled p.bodies o.number c.pick (took_turn net o.number o.after) e → b ≡ e
 turn_comes_to u p quantum kb cs net z c {e = e} o s =
     let other : OneTurn p c net e = record { number = o.number; body = o.body; before = o.before; after = o.after; selects = o.selects; has_body = o.has_body; has_task = o.has_task; stops = o.stops; settles = s } in
     turn_once p c net (ordered u p quantum kb z.well_formed z.lawful z.compiled z.bytes cs net z.few z.replays) o other

@@ -14,8 +14,8 @@ use Rattle.occ_term.specs.Runs.{TakesPart, messages_on, MeetsAtMost, meets_none,
 use Rattle.occ_term.specs.System.{Process, System, system, MayGo, SystemTurn, End, OfProcess, Keyboard, Screen, Error, Communication, communication, has_byte, offers as offers_of, process_sends, keyboard_sends, Receives, process_receives, screen_receives, error_receives, Meets, meets as meets_in, passes_skip}
 use Rattle.occ_term.specs.TermTyping.{Declared}
 use Rattle.occ_term.specs.Values.{Store}
-use Rattle.occ_code.specs.Alike.{FitsProtocol, joined_with}
-use Rattle.occ_code.specs.Sequential.Compiled.{Program}
+use Rattle.occ_code.specs.SameStop.{FitsProtocol, joined_with}
+use Rattle.occ_code.specs.Compiled.{Program}
 use Rattle.occ_code.specs.declared.task.Arm.{Arm}
 use Rattle.occ_code.specs.declared.task.Task.{Task}
 use Rattle.occ_code.specs.declared.task.Wait.{Wait}

@@ -13,9 +13,9 @@ use Rattle.occ_term.specs.Terms.{Term, Branches, no_branches, and_branch}
 use Rattle.occ_term.specs.Uses.{Numbers, uses_of, uses_of_branches}
 use Rattle.occ_term.specs.declared.primitive.Primitive.TheVariants.{Byte}
 use Rattle.occ_term.specs.declared.protocol.Protocol.TheVariants.{Simple}
-use Rattle.occ_code.specs.Alike.{numbers_of}
-use Rattle.occ_code.specs.Sequential.Compiled.{Program}
-use Rattle.occ_code.specs.Sequential.Machine.{Body}
+use Rattle.occ_code.specs.SameStop.{numbers_of}
+use Rattle.occ_code.specs.Compiled.{Program}
+use Rattle.occ_code.specs.Machine.{Body}
 use Rattle.occ_code.specs.declared.task.Task.{Task}
 use Rattle.occ_code.specs.declared.task.Wait.TheVariants as W
 use Rattle.occ_net_replay.specs.Replay.{Net, HasTask}

@@ -3,7 +3,7 @@ use Rattle.std.proofs.Common.{◌≡◌, ◌∙◌, refl, sym, ap, subst, Bool, 
 use Rattle.std.specs.Prelude.{slice_get, slice_set}
 use mathlib.Core.Bool.{true≢false}
 use Rattle.occ_term.specs.declared.message.Message.{Message}
-use Rattle.occ_term.specs.Examples.{IsGoing}
+use Rattle.occ_term.specs.Going.{IsGoing}
 use Rattle.occ_term.specs.Processes.{Numbered}
 use Rattle.occ_term.specs.Selecting.{Enabled}
 use Rattle.occ_term.specs.StepUses.{IsPartOf, uses_of_left}
@@ -14,10 +14,10 @@ use Rattle.occ_term.specs.Terms.{Skip, Reception}
 use Rattle.occ_term.specs.TypedSteps.{StoreHas, LeftHas}
 use Rattle.occ_term.specs.Uses.{Numbers, empty_set, uses_of}
 use Rattle.occ_term.specs.Values.{Store}
-use Rattle.occ_code.specs.Alike.{SameArms, FitsProtocol}
-use Rattle.occ_code.specs.Sequential.Alike.{Alike}
-use Rattle.occ_code.specs.Sequential.Compiled.{Program}
-use Rattle.occ_code.specs.Sequential.Machine.{Body}
+use Rattle.occ_code.specs.SameStop.{SameArms, FitsProtocol}
+use Rattle.occ_code.specs.Alike.{Alike}
+use Rattle.occ_code.specs.Compiled.{Program}
+use Rattle.occ_code.specs.Machine.{Body}
 use Rattle.occ_code.specs.declared.task.Arm.{Arm}
 use Rattle.occ_code.specs.declared.task.Task.{Task}
 use Rattle.occ_code.specs.declared.task.Wait.{Wait}

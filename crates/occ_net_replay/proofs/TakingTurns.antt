@@ -2,7 +2,7 @@
 use Rattle.std.proofs.Common.{◌≡◌, ◌∙◌, refl, sym, ap, subst, IsTrue, IsFalse, ℕ, suc, ◌+◌, ◌<◌, ◌^◌, ◌⊎◌, inl, inr, List, Some, arith}
 use Rattle.std.specs.Prelude.{slice_set}
 use mathlib.Core.Bool.{true≢false}
-use Rattle.occ_term.specs.Examples.{IsGoing}
+use Rattle.occ_term.specs.Going.{IsGoing}
 use Rattle.occ_term.specs.Frames.{Variables}
 use Rattle.occ_term.specs.Processes.{Numbered}
 use Rattle.occ_term.specs.StepUses.{IsPartOf, ChangesOnly, uses_of_left, uses_of_contexts}
@@ -15,10 +15,10 @@ use Rattle.occ_term.specs.TypedSteps.{StoreHas, LeftHas}
 use Rattle.occ_term.specs.Uses.{Numbers, empty_set, uses_of, uses_of_branches}
 use Rattle.occ_term.specs.Values.{Store}
 use Rattle.occ_term.proofs.KeptStores.{right_part, both_parts, no_part, whole_part}
-use Rattle.occ_code.specs.Alike.{Agrees, Joined, SameStop, joined_with, numbers_of}
-use Rattle.occ_code.specs.Sequential.Alike.{Alike}
-use Rattle.occ_code.specs.Sequential.Compiled.{Program}
-use Rattle.occ_code.specs.Sequential.Machine.{Body, Stopping}
+use Rattle.occ_code.specs.SameStop.{Agrees, Joined, SameStop, joined_with, numbers_of}
+use Rattle.occ_code.specs.Alike.{Alike}
+use Rattle.occ_code.specs.Compiled.{Program}
+use Rattle.occ_code.specs.Machine.{Body, Stopping}
 use Rattle.occ_code.specs.declared.task.Task.{Task}
 use Rattle.occ_code.specs.declared.task.Wait.{Wait}
 use Rattle.occ_code.specs.declared.task.Wait.TheVariants as W

@@ -16,10 +16,10 @@ use Rattle.occ_term.specs.System.{no_processes, System, system, MayGo, begun, br
 use Rattle.occ_term.specs.TermTyping.{Declared}
 use Rattle.occ_term.specs.Terms.{Term, Skip, Branches, no_branches, and_branch}
 use Rattle.occ_term.specs.Uses.{empty_set, uses_of_branches}
-use Rattle.occ_code.specs.Alike.{Joined, joined_with, numbers_of}
-use Rattle.occ_code.specs.Sequential.Alike.{Alike}
-use Rattle.occ_code.specs.Sequential.Compiled.{Program}
-use Rattle.occ_code.specs.Sequential.Machine.{Body, Stopping}
+use Rattle.occ_code.specs.SameStop.{Joined, joined_with, numbers_of}
+use Rattle.occ_code.specs.Alike.{Alike}
+use Rattle.occ_code.specs.Compiled.{Program}
+use Rattle.occ_code.specs.Machine.{Body, Stopping}
 use Rattle.occ_code.specs.declared.task.Task.{Task}
 use Rattle.occ_code.specs.declared.task.Wait.{Wait}
 use Rattle.occ_code.specs.declared.task.Wait.TheVariants as W

@@ -11,7 +11,7 @@ use Rattle.occ_term.specs.declared.primitive.Primitive.TheVariants.{Int}
 use Rattle.occ_term.specs.Frames.{Variables}
 use Rattle.occ_term.specs.Runs.{messages_on}
 use Rattle.occ_term.specs.System.{OfProcess, Keyboard, Screen, Communication, communication}
-use Rattle.occ_code.specs.Sequential.Machine.{Body}
+use Rattle.occ_code.specs.Machine.{Body}
 use Rattle.occ_code.specs.declared.task.Arm.{Arm}
 use Rattle.occ_code.specs.declared.task.Task.{Task}
 use Rattle.occ_code.specs.declared.task.Wait.{Wait}

@@ -5,16 +5,16 @@ use Rattle.occ_term.specs.declared.fault.Errors.{Errors}
 use Rattle.occ_term.specs.declared.fault.Errors.TheVariants.{Halt, Stop}
 use Rattle.occ_term.specs.declared.message.Message.{Message}
 use Rattle.occ_term.specs.declared.protocol.Protocol.{Protocol}
-use Rattle.occ_term.specs.Unfolding.{Unfolding, IsWellFormed, Lawful, declared, meaning}
+use Rattle.occ_term.specs.UnfoldedProgram.{UnfoldedProgram, IsWellFormed, Lawful, declared, meaning}
 use Rattle.occ_term.specs.System.{System, start, HaltMode, StopMode, noted_in}
 use Rattle.occ_term.specs.System as S
 use Rattle.occ_term.specs.Runs.{Event, event, Run, communications, messages_on, EndsBy}
 use Rattle.occ_term.specs.Runs as R
-use Rattle.occ_code.specs.Alike.{FitsProtocol}
-use Rattle.occ_code.specs.Sequential.Machine.{Body, Stopping}
+use Rattle.occ_code.specs.SameStop.{FitsProtocol}
+use Rattle.occ_code.specs.Machine.{Body, Stopping}
 use Rattle.occ_code.specs.declared.task.Task.{Task}
 use Rattle.occ_code.specs.declared.task.Wait.TheVariants.{Joins}
-use Rattle.occ_code.specs.Sequential.Compiled.{Program, IsCompiledFrom}
+use Rattle.occ_code.specs.Compiled.{Program, IsCompiledFrom}
 use Rattle.occ_net_replay.specs.declared.choice.Choice.{Choice}
 use Rattle.occ_net_replay.specs.declared.ending.Ending.{Ending}
 use Rattle.occ_net_replay.specs.declared.ending.Ending.TheVariants as E
@@ -48,7 +48,7 @@ AllFit p (m ∷ ms) = FitsProtocol p m × AllFit p ms
 -- The run takes a turn for each of the replay's, by the same process; it has the same communications, notes the same faults, and
 -- has the same ending. On each channel the messages output and those input are the communicated ones, in order, each of the
 -- channel's protocol.
-pub record Followed (u : Unfolding) (keyboard : List ℕ) (quantum : ℕ) (errors : Errors) (net : Net) : Type 0 where
+pub record Followed (u : UnfoldedProgram) (keyboard : List ℕ) (quantum : ℕ) (errors : Errors) (net : Net) : Type 0 where
   pub events : List Event
   pub system : System
   pub run : Run (mode_of errors) quantum (start (meaning u) keyboard) events system
@@ -68,21 +68,21 @@ AreBytes (b ∷ bs) = (b < 256) × AreBytes bs
 -- each replay of the code of a lawful program, whose bodies have one quantum, is followed by a run of the program
 abbrev pub ReplaysAreRuns : Type 0
 ReplaysAreRuns =
-    (u : Unfolding) (p : Program) (quantum : ℕ) (keyboard : List ℕ) (cs : List Choice) (net : Net)
+    (u : UnfoldedProgram) (p : Program) (quantum : ℕ) (keyboard : List ℕ) (cs : List Choice) (net : Net)
     → IsWellFormed u → Lawful u → IsCompiledFrom u quantum p → AreBytes keyboard → length cs < 2 ^ 64
     → Replays p keyboard cs net → Followed u keyboard quantum p.errors net
 
 -- What has noted a fault never ends: the process that faulted stands where it is, and those above it wait for it.
 abbrev pub NotedNeverEnd : Type 0
 NotedNeverEnd =
-    (u : Unfolding) (p : Program) (quantum : ℕ) (keyboard : List ℕ) (cs : List Choice) (net : Net)
+    (u : UnfoldedProgram) (p : Program) (quantum : ℕ) (keyboard : List ℕ) (cs : List Choice) (net : Net)
     → IsWellFormed u → Lawful u → IsCompiledFrom u quantum p → AreBytes keyboard → length cs < 2 ^ 64
     → Replays p keyboard cs net → ending_of p.errors net ≡ Some E.Ended → net.noted ≡ []
 
 -- a task that may take a turn then has one
 abbrev pub ReadyTasksStop : Type 0
 ReadyTasksStop =
-    (u : Unfolding) (p : Program) (quantum : ℕ) (keyboard : List ℕ) (cs : List Choice) (net : Net) (n : ℕ) (body : Body) (t : Task)
+    (u : UnfoldedProgram) (p : Program) (quantum : ℕ) (keyboard : List ℕ) (cs : List Choice) (net : Net) (n : ℕ) (body : Body) (t : Task)
     → IsWellFormed u → Lawful u → IsCompiledFrom u quantum p → AreBytes keyboard → 1 + length cs < 2 ^ 64
     → Replays p keyboard cs net → slice_get p.bodies n ≡ Some body → HasTask net.tasks n t → IsTrue (may_go t.wait)
     → (after : Task) × Stopping body t after
@@ -90,6 +90,6 @@ ReadyTasksStop =
 -- a turn of the one process of a program never ends at a fork
 abbrev pub OneNeverForks : Type 0
 OneNeverForks =
-    (u : Unfolding) (p : Program) (quantum : ℕ) (keyboard : List ℕ) (cs : List Choice) (net : Net) (n : ℕ) (body : Body) (t after : Task) (ns : List ℕ)
+    (u : UnfoldedProgram) (p : Program) (quantum : ℕ) (keyboard : List ℕ) (cs : List Choice) (net : Net) (n : ℕ) (body : Body) (t after : Task) (ns : List ℕ)
     → IsWellFormed u → Lawful u → IsCompiledFrom u quantum p → AreBytes keyboard → 1 + length cs < 2 ^ 64
     → Replays p keyboard cs net → p.bodies ≡ body ∷ [] → HasTask net.tasks n t → IsTrue (may_go t.wait) → Stopping body t after → after.wait ≡ Joins ns → ⊥

@@ -1,7 +1,7 @@
 -- What stands at the same stop and what does not, and networks in which something is possible that needs no turn.
 -- Manual: nothing; this is (own).
 use Rattle.std.specs.Prelude.{None, Some, [], false, true, ◌∷◌}
-use Rattle.occ_term.specs.Examples.{taking_in}
+use Rattle.occ_term.specs.SelectingExamples.{taking_in}
 use Rattle.occ_term.specs.Messages.{fault}
 use Rattle.occ_term.specs.declared.fault.FaultKind.TheVariants.{Arith}
 use Rattle.occ_term.specs.Selecting.{SkipArm}

@@ -3,15 +3,15 @@
 use Rattle.std.specs.Prelude.{Bool, IsTrue, List, Option, [], false, length, nat_eq, ℕ, ⊤, ◌<◌, ◌^◌, ◌++◌, ◌||◌, ◌∷◌, ◌≡◌, ◌⊎◌}
 use Rattle.occ_term.specs.declared.fault.Fault.{Fault}
 use Rattle.occ_term.specs.declared.message.Message.{Message}
-use Rattle.occ_term.specs.Examples.{IsGoing}
+use Rattle.occ_term.specs.Going.{IsGoing}
 use Rattle.occ_term.specs.Runs.{Event}
 use Rattle.occ_term.specs.Selecting.{Enabled, is_ready_on, waits_for}
 use Rattle.occ_term.specs.Steps.{Doing, Offering, Awaiting, Choosing, Forking, Halted, Faulted, Done, Context, Left, left}
 use Rattle.occ_term.specs.System.{Process, process, Processes, no_processes, and_process, System, system, AllEnded}
 use Rattle.occ_term.specs.Terms.{Branches, Reception}
-use Rattle.occ_term.specs.Unfolding.{Unfolding, IsWellFormed, Lawful}
-use Rattle.occ_code.specs.Alike.{numbers_of}
-use Rattle.occ_code.specs.Sequential.Compiled.{Program, IsCompiledFrom}
+use Rattle.occ_term.specs.UnfoldedProgram.{UnfoldedProgram, IsWellFormed, Lawful}
+use Rattle.occ_code.specs.SameStop.{numbers_of}
+use Rattle.occ_code.specs.Compiled.{Program, IsCompiledFrom}
 use Rattle.occ_code.specs.declared.task.Arm.{Arm}
 use Rattle.occ_code.specs.declared.task.Task.{Task}
 use Rattle.occ_code.specs.declared.task.Wait.{Wait}
@@ -88,7 +88,7 @@ pub record IsMoment (net : Net) (now : System) : Type 0 where
   pub quiet : Quiet net
 
 -- The run goes on with the replay: behind each choice it has one turn more than before it.
-pub data Accompanies (u : Unfolding) (p : Program) (quantum : ℕ) (keyboard : List ℕ) : List Choice → (net : Net) → Followed u keyboard quantum p.errors net → Type 0 where
+pub data Accompanies (u : UnfoldedProgram) (p : Program) (quantum : ℕ) (keyboard : List ℕ) : List Choice → (net : Net) → Followed u keyboard quantum p.errors net → Type 0 where
   at_start : (f : Followed u keyboard quantum p.errors (first_net p keyboard)) → f.events ≡ [] → IsMoment (first_net p keyboard) f.system → Accompanies u p quantum keyboard [] (first_net p keyboard) f
   after_turn : {cs : List Choice} {c : Choice} {a b : Net} {f : Followed u keyboard quantum p.errors a} (g : Followed u keyboard quantum p.errors b) (e : Event)
       → Accompanies u p quantum keyboard cs a f → OneTurn p c a b → g.events ≡ f.events ++ e ∷ [] → IsMoment b g.system → Accompanies u p quantum keyboard (cs ++ c ∷ []) b g
@@ -96,12 +96,12 @@ pub data Accompanies (u : Unfolding) (p : Program) (quantum : ℕ) (keyboard : L
 -- each replay has one run that follows it from its start on, turn by turn
 abbrev pub OneRunThroughout : Type 0
 OneRunThroughout =
-    (u : Unfolding) (p : Program) (quantum : ℕ) (keyboard : List ℕ) (cs : List Choice) (net : Net)
+    (u : UnfoldedProgram) (p : Program) (quantum : ℕ) (keyboard : List ℕ) (cs : List Choice) (net : Net)
     → IsWellFormed u → Lawful u → IsCompiledFrom u quantum p → AreBytes keyboard → length cs < 2 ^ 64
     → Replays p keyboard cs net → (f : Followed u keyboard quantum p.errors net) × Accompanies u p quantum keyboard cs net f
 
 -- what a run has come to by the first of some choices; the turns since are `later`
-pub record EarlierMoment (u : Unfolding) (p : Program) (quantum : ℕ) (keyboard : List ℕ) (first since : List Choice) (events : List Event) : Type 0 where
+pub record EarlierMoment (u : UnfoldedProgram) (p : Program) (quantum : ℕ) (keyboard : List ℕ) (first since : List Choice) (events : List Event) : Type 0 where
   pub net : Net
   pub follows : Followed u keyboard quantum p.errors net
   pub later : List Event
@@ -113,5 +113,5 @@ pub record EarlierMoment (u : Unfolding) (p : Program) (quantum : ℕ) (keyboard
 -- the run of some choices begins with that of the first of them, and has one turn more for each of the others
 abbrev pub RunsGoOn : Type 0
 RunsGoOn =
-    (u : Unfolding) (p : Program) (quantum : ℕ) (keyboard : List ℕ) (first since : List Choice) (net : Net) (f : Followed u keyboard quantum p.errors net)
+    (u : UnfoldedProgram) (p : Program) (quantum : ℕ) (keyboard : List ℕ) (first since : List Choice) (net : Net) (f : Followed u keyboard quantum p.errors net)
     → Accompanies u p quantum keyboard (first ++ since) net f → EarlierMoment u p quantum keyboard first since f.events

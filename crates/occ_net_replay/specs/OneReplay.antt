@@ -1,8 +1,8 @@
 -- The choices, the code and the keyboard determine a replay.
 -- Manual: nothing; this is (own).
 use Rattle.std.specs.Prelude.{List, length, ℕ, ◌<◌, ◌^◌, ◌≡◌}
-use Rattle.occ_term.specs.Unfolding.{Unfolding, IsWellFormed, Lawful}
-use Rattle.occ_code.specs.Sequential.Compiled.{Program, IsCompiledFrom}
+use Rattle.occ_term.specs.UnfoldedProgram.{UnfoldedProgram, IsWellFormed, Lawful}
+use Rattle.occ_code.specs.Compiled.{Program, IsCompiledFrom}
 use Rattle.occ_net_replay.specs.declared.choice.Choice.{Choice}
 use Rattle.occ_net_replay.specs.Following.{AreBytes}
 use Rattle.occ_net_replay.specs.Replay.{Net, Replays}
@@ -11,6 +11,6 @@ use Rattle.occ_net_replay.specs.Replay.{Net, Replays}
 -- input on each channel, the communications, the turns and the faults.
 abbrev pub OneReplay : Type 0
 OneReplay =
-    (u : Unfolding) (p : Program) (quantum : ℕ) (keyboard : List ℕ) (cs : List Choice) (a b : Net)
+    (u : UnfoldedProgram) (p : Program) (quantum : ℕ) (keyboard : List ℕ) (cs : List Choice) (a b : Net)
     → IsWellFormed u → Lawful u → IsCompiledFrom u quantum p → AreBytes keyboard → length cs < 2 ^ 64
     → Replays p keyboard cs a → Replays p keyboard cs b → a ≡ b

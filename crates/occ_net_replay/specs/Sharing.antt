@@ -4,10 +4,10 @@ use Rattle.std.specs.Prelude.{Bool, IsFalse, IsTrue, List, Some, [], false, leng
 use Rattle.std.specs.Option.{option_map_or}
 use Rattle.occ_term.specs.Frames.{is_held, at}
 use Rattle.occ_term.specs.System.{System, system, offers}
-use Rattle.occ_term.specs.Unfolding.{Unfolding, IsWellFormed, Lawful}
+use Rattle.occ_term.specs.UnfoldedProgram.{UnfoldedProgram, IsWellFormed, Lawful}
 use Rattle.occ_term.specs.Values.{Store}
-use Rattle.occ_code.specs.Sequential.Compiled.{Program, IsCompiledFrom}
-use Rattle.occ_code.specs.Sequential.Machine.{Body}
+use Rattle.occ_code.specs.Compiled.{Program, IsCompiledFrom}
+use Rattle.occ_code.specs.Machine.{Body}
 use Rattle.occ_code.specs.declared.task.Task.{Task}
 use Rattle.occ_code.specs.declared.task.Wait.TheVariants.{Joins, Done}
 use Rattle.occ_net_replay.specs.declared.choice.Choice.{Choice}
@@ -35,6 +35,6 @@ pub record SharesStore (p : Program) (net : Net) (a : System) : Type 0 where
 
 abbrev pub ReplaysShareStore : Type 0
 ReplaysShareStore =
-    (u : Unfolding) (p : Program) (quantum : ℕ) (keyboard : List ℕ) (cs : List Choice) (net : Net)
+    (u : UnfoldedProgram) (p : Program) (quantum : ℕ) (keyboard : List ℕ) (cs : List Choice) (net : Net)
     → IsWellFormed u → Lawful u → IsCompiledFrom u quantum p → AreBytes keyboard → length cs < 2 ^ 64
     → Replays p keyboard cs net → (f : Followed u keyboard quantum p.errors net) × SharesStore p net f.system

@@ -3,10 +3,10 @@
 use Rattle.std.specs.Prelude.{Bool, IsTrue, List, None, Option, Some, [], length, slice_get, ℕ, ℤ, ◌+◌, ◌<◌, ◌^◌, ◌∷◌, ◌≡◌}
 use Rattle.occ_term.specs.declared.message.Message.{Message}
 use Rattle.occ_term.specs.Frames.{is_held}
-use Rattle.occ_term.specs.Unfolding.{Unfolding, IsWellFormed, Lawful}
-use Rattle.occ_code.specs.Alike.{IsRising}
-use Rattle.occ_code.specs.Sequential.Compiled.{Program, IsCompiledFrom}
-use Rattle.occ_code.specs.Sequential.Machine.{Body, Stopping}
+use Rattle.occ_term.specs.UnfoldedProgram.{UnfoldedProgram, IsWellFormed, Lawful}
+use Rattle.occ_code.specs.SameStop.{IsRising}
+use Rattle.occ_code.specs.Compiled.{Program, IsCompiledFrom}
+use Rattle.occ_code.specs.Machine.{Body, Stopping}
 use Rattle.occ_code.specs.declared.task.Arm.{Arm}
 use Rattle.occ_code.specs.declared.task.Task.{Task}
 use Rattle.occ_code.specs.declared.task.Wait.{Wait}
@@ -16,7 +16,7 @@ use Rattle.occ_net_replay.specs.Following.{AreBytes}
 use Rattle.occ_net_replay.specs.Replay.{Net, Tasks, HasTask, may_go, Replays}
 
 -- a replay of the code of a lawful program, whose bodies have one quantum, that can go on by a choice
-pub record IsReplay (u : Unfolding) (p : Program) (quantum : ℕ) (keyboard : List ℕ) (cs : List Choice) (net : Net) : Type 0 where
+pub record IsReplay (u : UnfoldedProgram) (p : Program) (quantum : ℕ) (keyboard : List ℕ) (cs : List Choice) (net : Net) : Type 0 where
   pub well_formed : IsWellFormed u
   pub lawful : Lawful u
   pub compiled : IsCompiledFrom u quantum p
@@ -36,7 +36,7 @@ pub record IsTurn (p : Program) (tasks : Tasks) (n : ℕ) (after : Task) : Type 
 -- one turn more can be counted
 abbrev pub TurnsAreFew : Type 0
 TurnsAreFew =
-    (u : Unfolding) (p : Program) (quantum : ℕ) (keyboard : List ℕ) (cs : List Choice) (net : Net) (n : ℕ) (t : Task)
+    (u : UnfoldedProgram) (p : Program) (quantum : ℕ) (keyboard : List ℕ) (cs : List Choice) (net : Net) (n : ℕ) (t : Task)
     → IsReplay u p quantum keyboard cs net → HasTask net.tasks n t → t.turns + 1 < 2 ^ 64
 
 -- the channel is declared, and no other process offers on it
@@ -46,7 +46,7 @@ pub record OffersAlone (p : Program) (tasks : Tasks) (c : ℕ) : Type 0 where
 
 abbrev pub TurnsOfferAlone : Type 0
 TurnsOfferAlone =
-    (u : Unfolding) (p : Program) (quantum : ℕ) (keyboard : List ℕ) (cs : List Choice) (net : Net) (n : ℕ) (after : Task) (c : ℕ) (m : Message)
+    (u : UnfoldedProgram) (p : Program) (quantum : ℕ) (keyboard : List ℕ) (cs : List Choice) (net : Net) (n : ℕ) (after : Task) (c : ℕ) (m : Message)
     → IsReplay u p quantum keyboard cs net → IsTurn p net.tasks n after → after.wait ≡ Offers c m → OffersAlone p net.tasks c
 
 -- ---- who waits for a message
@@ -82,13 +82,13 @@ pub record ListensAlone (p : Program) (tasks : Tasks) (c : ℕ) : Type 0 where
 
 abbrev pub TurnsListenAlone : Type 0
 TurnsListenAlone =
-    (u : Unfolding) (p : Program) (quantum : ℕ) (keyboard : List ℕ) (cs : List Choice) (net : Net) (n : ℕ) (after : Task) (c : ℕ)
+    (u : UnfoldedProgram) (p : Program) (quantum : ℕ) (keyboard : List ℕ) (cs : List Choice) (net : Net) (n : ℕ) (after : Task) (c : ℕ)
     → IsReplay u p quantum keyboard cs net → IsTurn p net.tasks n after → IsTrue (listens_on after.wait c) → ListensAlone p net.tasks c
 
 -- no turn ends with a message taken: what is taken is taken between turns
 abbrev pub TurnsNeverTake : Type 0
 TurnsNeverTake =
-    (u : Unfolding) (p : Program) (quantum : ℕ) (keyboard : List ℕ) (cs : List Choice) (net : Net) (n : ℕ) (after : Task) (arm : ℕ) (indices : List ℤ) (m : Option Message)
+    (u : UnfoldedProgram) (p : Program) (quantum : ℕ) (keyboard : List ℕ) (cs : List Choice) (net : Net) (n : ℕ) (after : Task) (arm : ℕ) (indices : List ℤ) (m : Option Message)
     → IsReplay u p quantum keyboard cs net → IsTurn p net.tasks n after → after.wait ≡ Took arm indices m → ⊥
 
 -- The branches are numbered behind their process, in rising order, and have bodies. None has begun but those that are done, and
@@ -102,5 +102,5 @@ pub record ForksAlone (p : Program) (tasks : Tasks) (n : ℕ) (ns : List ℕ) : 
 
 abbrev pub TurnsForkAlone : Type 0
 TurnsForkAlone =
-    (u : Unfolding) (p : Program) (quantum : ℕ) (keyboard : List ℕ) (cs : List Choice) (net : Net) (n : ℕ) (after : Task) (ns : List ℕ)
+    (u : UnfoldedProgram) (p : Program) (quantum : ℕ) (keyboard : List ℕ) (cs : List Choice) (net : Net) (n : ℕ) (after : Task) (ns : List ℕ)
     → IsReplay u p quantum keyboard cs net → IsTurn p net.tasks n after → after.wait ≡ Joins ns → ForksAlone p net.tasks n ns

@@ -8,8 +8,8 @@ use Rattle.occ_term.specs.declared.fault.Fault.{Fault}
 use Rattle.occ_term.specs.declared.message.Message.{Message}
 use Rattle.occ_term.specs.System.{has_byte}
 use Rattle.occ_term.specs.System as S
-use Rattle.occ_code.specs.Alike.{ready_with}
-use Rattle.occ_code.specs.Sequential.Compiled.{Program}
+use Rattle.occ_code.specs.SameStop.{ready_with}
+use Rattle.occ_code.specs.Compiled.{Program}
 use Rattle.occ_code.specs.declared.task.Arm.{Arm}
 use Rattle.occ_code.specs.declared.task.Task.{Task}
 use Rattle.occ_code.specs.declared.task.Wait.{Wait}

@@ -7,9 +7,9 @@ use mathlib.Core.Bool.{true≢false}
 use Rattle.occ_term.specs.Frames.{Variables, is_held}
 use Rattle.occ_term.specs.Processes.{Numbered}
 use Rattle.occ_term.specs.TermTyping.{Declared}
-use Rattle.occ_code.specs.Alike.{IsRising}
-use Rattle.occ_code.specs.Sequential.Compiled.{Program, AllDo, IsCompiled}
-use Rattle.occ_code.specs.Sequential.Machine.{Body}
+use Rattle.occ_code.specs.SameStop.{IsRising}
+use Rattle.occ_code.specs.Compiled.{Program, AllDo, IsCompiled}
+use Rattle.occ_code.specs.Machine.{Body}
 use Rattle.occ_code.specs.declared.task.Task.{Task}
 use Rattle.occ_code.specs.declared.task.Wait.TheVariants as W
 use Rattle.occ_net_replay.specs.Replay.{Tasks, branch_task, copied, first_task, merged, taken_from, turns_at, turns_of, with_branches}

@@ -6,8 +6,8 @@ use mathlib.Core.Bool.{true≢false}
 use Rattle.occ_term.specs.declared.message.Message.{Message}
 use Rattle.occ_term.specs.Selecting.{is_ready_on}
 use Rattle.occ_term.specs.System.{has_byte}
-use Rattle.occ_code.specs.Alike.{ready_with}
-use Rattle.occ_code.specs.Sequential.Compiled.{Program}
+use Rattle.occ_code.specs.SameStop.{ready_with}
+use Rattle.occ_code.specs.Compiled.{Program}
 use Rattle.occ_code.specs.declared.task.Arm.{Arm}
 use Rattle.occ_code.specs.declared.task.Task.{Task}
 use Rattle.occ_code.specs.declared.task.Wait.TheVariants as W

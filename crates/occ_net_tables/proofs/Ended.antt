@@ -1,8 +1,8 @@
 -- How a turn ended, and the task that it came to.
 use Rattle.std.proofs.Common.{◌≡◌, ◌∙◌, refl, ap, ℕ, Some}
 use Rattle.std.specs.Prelude.{slice_set}
-use Rattle.occ_code.specs.Alike.{ready_with}
-use Rattle.occ_code.specs.Sequential.Machine.{Body, Stopping}
+use Rattle.occ_code.specs.SameStop.{ready_with}
+use Rattle.occ_code.specs.Machine.{Body, Stopping}
 use Rattle.occ_code.specs.declared.task.Task.{Task}
 use Rattle.occ_code.specs.declared.task.Wait.{Wait}
 use Rattle.occ_code.specs.declared.task.Wait.TheVariants as W

@@ -4,8 +4,8 @@ use Rattle.std.specs.Prelude.{slice_get, slice_set}
 use Rattle.occ_term.specs.Frames.{zero_frame}
 use Rattle.occ_term.specs.Processes.{Numbered}
 use Rattle.occ_term.specs.TermTyping.{Declared}
-use Rattle.occ_code.specs.Sequential.Compiled.{Program, AllDo, IsCompiled}
-use Rattle.occ_code.specs.Sequential.Machine.{Body}
+use Rattle.occ_code.specs.Compiled.{Program, AllDo, IsCompiled}
+use Rattle.occ_code.specs.Machine.{Body}
 use Rattle.occ_code.specs.declared.task.Task.{Task}
 use Rattle.occ_code.specs.declared.task.Wait.{Wait}
 use Rattle.occ_code.specs.declared.task.Wait.TheVariants as W

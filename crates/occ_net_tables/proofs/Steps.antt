@@ -6,7 +6,7 @@ use mathlib.Core.Bool.{true≢false}
 use Rattle.occ_term.specs.declared.fault.Fault.{Fault}
 use Rattle.occ_term.specs.declared.message.Message.{Message}
 use Rattle.occ_term.specs.Frames.{Variables, is_held}
-use Rattle.occ_code.specs.Alike.{joined_with, ready_with}
+use Rattle.occ_code.specs.SameStop.{joined_with, ready_with}
 use Rattle.occ_code.specs.declared.task.Arm.{Arm}
 use Rattle.occ_code.specs.declared.task.Task.{Task}
 use Rattle.occ_code.specs.declared.task.Wait.{Wait}

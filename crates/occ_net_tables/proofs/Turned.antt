@@ -8,9 +8,9 @@ use Rattle.occ_term.specs.declared.fault.Errors.{Errors}
 use Rattle.occ_term.specs.declared.fault.Errors.TheVariants.{Halt, Stop}
 use Rattle.occ_term.specs.declared.fault.Fault.{Fault}
 use Rattle.occ_term.specs.System.{has_byte}
-use Rattle.occ_code.specs.Alike.{IsRising}
-use Rattle.occ_code.specs.Sequential.Compiled.{Program, IsCompiled, instructions_in}
-use Rattle.occ_code.specs.Sequential.Machine.{Body}
+use Rattle.occ_code.specs.SameStop.{IsRising}
+use Rattle.occ_code.specs.Compiled.{Program, IsCompiled, instructions_in}
+use Rattle.occ_code.specs.Machine.{Body}
 use Rattle.occ_code.specs.declared.task.Arm.{Arm}
 use Rattle.occ_code.specs.declared.task.Task.{Task}
 use Rattle.occ_code.specs.declared.task.Wait.{Wait}

@@ -5,8 +5,8 @@ use Rattle.std.specs.Vec.{vec_len}
 use Rattle.std.proofs.lemmas.Option.{slice_get_within}
 use Rattle.occ_term.specs.declared.fault.Fault.{Fault}
 use Rattle.occ_term.specs.declared.message.Message.{Message}
-use Rattle.occ_code.specs.Alike.{IsRising, ready_with}
-use Rattle.occ_code.specs.Sequential.Compiled.{Program}
+use Rattle.occ_code.specs.SameStop.{IsRising, ready_with}
+use Rattle.occ_code.specs.Compiled.{Program}
 use Rattle.occ_code.specs.declared.task.Task.{Task}
 use Rattle.occ_code.specs.declared.task.Wait.{Wait}
 use Rattle.occ_code.specs.declared.task.Wait.TheVariants as W

@@ -1,6 +1,6 @@
 //! Frames at a fork and at a join.
 ghost use Rattle.std.specs.Prelude.{◌≡◌, IfOk, map, slice_get};
-ghost use Rattle.occ_code.specs.Alike.{IsRising};
+ghost use Rattle.occ_code.specs.SameStop.{IsRising};
 ghost use Rattle.occ_net_replay.specs.Replay.{copied, merged, taken_from, taken_over};
 ghost use Rattle.occ_net_tables.specs.Room.{first_frame};
 

@@ -1,8 +1,8 @@
 //! Offers and inputs: the two ends of a channel meet, or one waits for the other.
 ghost use Rattle.std.specs.Prelude.{◌≡◌, ◌≢◌, ◌+◌, ◌<◌, ◌^◌, ◌++◌, ◌∷◌, [], IfErr, IfOk, List, None, OnErr, OnOk, Option, Some, length, remove, slice_get, slice_set, vec_capacity, vec_len, ℕ};
 ghost use Rattle.occ_term.specs.declared.fault.Fault.{Fault};
-ghost use Rattle.occ_code.specs.Alike.{IsRising, ready_with};
-ghost use Rattle.occ_code.specs.Sequential.Compiled.{Program};
+ghost use Rattle.occ_code.specs.SameStop.{IsRising, ready_with};
+ghost use Rattle.occ_code.specs.Compiled.{Program};
 ghost use Rattle.occ_code.specs.declared.task.Arm.{Arm};
 ghost use Rattle.occ_code.specs.declared.task.Task.{Task};
 ghost use Rattle.occ_net_replay.specs.Replay.{HasTask, byte_message, first_noted};
@@ -18,18 +18,9 @@ use crate::tables::Tables;
 use crate::tasks::{set_wait, take_wait};
 use occ_code::{Arm, Task, Wait};
 use occ_net_trace::End;
-use occ_term::{Fault, Message, Part, Parts, Primitive};
+use occ_term::{ERROR, Fault, KEYBOARD, Message, Part, Parts, Primitive, SCREEN};
 use sqlite_items::Items;
 use std::alloc::{AllocError, Global};
-
-/// The keyboard's channel.
-const KEYBOARD: u32 = 0;
-
-/// The screen's channel.
-const SCREEN: u32 = 1;
-
-/// The error channel.
-const ERROR: u32 = 2;
 
 /// The process at this place among the ready ones is one no more, and stands at this.
 #[inline(always)]

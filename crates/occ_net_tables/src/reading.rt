@@ -1,6 +1,6 @@
 //! What the tables hold, for those who look.
 ghost use Rattle.std.specs.Prelude.{◌≡◌, IfNone, IfSome, List, ℕ};
-ghost use Rattle.occ_code.specs.Sequential.Compiled.{Program};
+ghost use Rattle.occ_code.specs.Compiled.{Program};
 ghost use Rattle.occ_code.specs.declared.task.Task.{Task};
 ghost use Rattle.occ_net_replay.specs.Replay.{HasTask, Net, ready_from, turns_at};
 ghost use Rattle.occ_net_tables.specs.Holding.{Holds};

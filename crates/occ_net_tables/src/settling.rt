@@ -1,7 +1,7 @@
 //! A turn of the network: the chosen process goes on, and what that makes possible happens.
 ghost use Rattle.std.specs.Prelude.{◌≡◌, IfErr, IfOk, IsTrue, List, OnOk, ℕ};
 ghost use Rattle.occ_term.specs.Messages.{message};
-ghost use Rattle.occ_code.specs.Sequential.Compiled.{Program};
+ghost use Rattle.occ_code.specs.Compiled.{Program};
 ghost use Rattle.occ_code.specs.declared.task.Task.{Task};
 ghost use Rattle.occ_proc.specs.Turns.{left_message};
 ghost use Rattle.occ_net_replay.specs.Replay.{HasTask, Net};

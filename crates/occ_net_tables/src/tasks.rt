@@ -1,6 +1,6 @@
-//! Changes of one process's task, in its slot.
+//! Changes of one process's task, at its place of the table.
 ghost use Rattle.std.specs.Prelude.{◌≡◌, ◌↔◌, ◌+◌, ◌<◌, ◌^◌, IfOk, IsTrue, Some, length, slice_set};
-ghost use Rattle.occ_code.specs.Alike.{ready_with};
+ghost use Rattle.occ_code.specs.SameStop.{ready_with};
 ghost use Rattle.occ_code.specs.declared.task.Task.{Task};
 ghost use Rattle.occ_net_replay.specs.Replay.{HasTask};
 ghost use Rattle.occ_net_tables.specs.Tasks.{EndedBy, HasTurn, IsTaken, IsThere};
@@ -69,7 +69,7 @@ pub(crate) fn take_wait(tasks: &mut Vec<Option<Task>>, number: u32) -> Wait
     }
 }
 
-/// Takes the task out of its slot.
+/// Takes the task out of its place.
 pub(crate) fn take_task(tasks: &mut Vec<Option<Task>>, number: u32) -> Task
     requires { IsThere tasks.old.items number }
     ensures task { HasTask tasks.old.items number result }
@@ -81,7 +81,7 @@ pub(crate) fn take_task(tasks: &mut Vec<Option<Task>>, number: u32) -> Task
     }
 }
 
-/// Puts a task into its slot.
+/// Puts a task into its place.
 pub(crate) fn put_task(tasks: &mut Vec<Option<Task>>, number: u32, task: Task)
     requires { number < length tasks.old.items }
     ensures { tasks.new.items ≡ slice_set tasks.old.items number (Some task) }
@@ -89,7 +89,7 @@ pub(crate) fn put_task(tasks: &mut Vec<Option<Task>>, number: u32, task: Task)
     tasks[number as usize] = Some(task);
 }
 
-/// Puts a task into a slot that has one, and hands that one out.
+/// Puts a task into a place that has one, and hands that one out.
 pub(crate) fn swap_task(tasks: &mut Vec<Option<Task>>, number: u32, task: Task) -> Task
     requires { IsThere tasks.old.items number }
     ensures task { HasTask tasks.old.items number result }

@@ -5,7 +5,7 @@ use Rattle.occ_tree_grammar.specs.Processes.Trees.{Item}
 use Rattle.occ_tree_laws.proofs.Whole.{one_tree}
 use Rattle.occ_term.specs.Runs.{shown, shown_by}
 use Rattle.occ_term.specs.Terms.{Term}
-use Rattle.occ_term.specs.Unfolding.{Unfolding, meaning}
+use Rattle.occ_term.specs.UnfoldedProgram.{UnfoldedProgram, meaning}
 use Rattle.occ_term.specs.declared.names.Channel.{Channel}
 use Rattle.occ_check_meaning.specs.Numbers.{Numbers}
 use Rattle.occ_check_meaning.specs.ProgramUnfolding.{UnfoldsTo}
@@ -24,19 +24,19 @@ use Rattle.occ_play.specs.Playing.{IsAnswer, Unfolds}
 
 -- ---- a text has one program at most
 
-pub record MeansSame (u v : Unfolding) : Type 0 where
+pub record MeansSame (u v : UnfoldedProgram) : Type 0 where
   pub term : meaning u ≡ meaning v
   pub channels : u.channels ≡ v.channels
 
 both_parts : {t s : Term} {n m : Numbers} → ◌≡◌ {A = Option (Term × Numbers)} (Some (t, n)) (Some (s, m)) → (t ≡ s) × (n ≡ m)
 both_parts {t = t} {s = s} {n = n} {m = m} e = let q : ◌≡◌ {A = Term × Numbers} (t, n) (s, m) = cc in (ap (λ z. z.0) q, ap (λ z. z.1) q)
 
-one_unfolding : (items : List Item) (u v : Unfolding) → UnfoldsTo items u → UnfoldsTo items v → MeansSame u v
+one_unfolding : (items : List Item) (u v : UnfoldedProgram) → UnfoldsTo items u → UnfoldsTo items v → MeansSame u v
 one_unfolding items u v x y =
     let both = both_parts (sym (program_complete x.1) ∙ program_complete y.1) in
     record { term = both.0; channels = sym x.3 ∙ ap (λ n. n.channels) both.1 ∙ y.3 }
 
-one_meaning : (source : List ℕ) (u v : Unfolding) → Unfolds source u → Unfolds source v → MeansSame u v
+one_meaning : (source : List ℕ) (u v : UnfoldedProgram) → Unfolds source u → Unfolds source v → MeansSame u v
 one_meaning source u v x y =
     let lines : x.lines ≡ y.lines = one_reading source x.lines y.lines x.read y.read in
     let items : x.items ≡ y.items = one_tree x.items y.items x.parsed.bounded y.parsed.bounded (x.parsed.shown ∙ lines ∙ sym y.parsed.shown) in

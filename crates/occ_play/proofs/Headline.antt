@@ -10,8 +10,8 @@ use Rattle.occ_term.specs.declared.fault.Errors.TheVariants.{Halt, Stop}
 use Rattle.occ_term.specs.declared.fault.Fault.{Fault}
 use Rattle.occ_term.specs.System.{noted_in}
 use Rattle.occ_term.specs.Runs.{communications, entries, messages_on, shown, shown_by, EndsBy}
-use Rattle.occ_term.specs.Unfolding.{Unfolding, IsWellFormed, declared, Lawful}
-use Rattle.occ_code.specs.Sequential.Compiled.{Program, IsCodeOf, IsCompiledFrom, CodeRefuses}
+use Rattle.occ_term.specs.UnfoldedProgram.{UnfoldedProgram, IsWellFormed, declared, Lawful}
+use Rattle.occ_code.specs.Compiled.{Program, IsCodeOf, IsCompiledFrom, CodeRefuses}
 use Rattle.occ_code.specs.declared.compiler.code.CodeFault.{CodeFault}
 use Rattle.occ_code.specs.declared.compiler.code.CodeFault.TheVariants as code
 use Rattle.occ_net_replay.specs.declared.choice.Choice.{Choice}
@@ -82,16 +82,16 @@ ran_alone o ran =
       };
     }
 
-followed : (u : Unfolding) (quantum : ℕ) (p : Program) (keyboard : List ℕ) (list : List Choice) (o : Outcome) → IsWellFormed u → Lawful u → IsCompiledFrom u quantum p → AreBytes keyboard → (out : IsOutcome p keyboard list o) → length o.choices.items < 2 ^ 64 → Followed u keyboard quantum p.errors out.net
+followed : (u : UnfoldedProgram) (quantum : ℕ) (p : Program) (keyboard : List ℕ) (list : List Choice) (o : Outcome) → IsWellFormed u → Lawful u → IsCompiledFrom u quantum p → AreBytes keyboard → (out : IsOutcome p keyboard list o) → length o.choices.items < 2 ^ 64 → Followed u keyboard quantum p.errors out.net
 followed u quantum p keyboard list o w lawful from bytes out small = replays_are_runs u p quantum keyboard o.choices.items out.net w lawful from bytes small out.replays
 
 -- what an outcome's communications carry on the screen's and the error channel
-pub outputs_are_bytes : (u : Unfolding) (quantum : ℕ) (p : Program) (keyboard : List ℕ) (list : List Choice) (o : Outcome) → IsWellFormed u → Lawful u → IsCompiledFrom u quantum p → AreBytes keyboard → IsOutcome p keyboard list o → length o.choices.items < 2 ^ 64 → AreByteMessages 1 o.trace × AreByteMessages 2 o.trace
+pub outputs_are_bytes : (u : UnfoldedProgram) (quantum : ℕ) (p : Program) (keyboard : List ℕ) (list : List Choice) (o : Outcome) → IsWellFormed u → Lawful u → IsCompiledFrom u quantum p → AreBytes keyboard → IsOutcome p keyboard list o → length o.choices.items < 2 ^ 64 → AreByteMessages 1 o.trace × AreByteMessages 2 o.trace
 outputs_are_bytes u quantum p keyboard list o w lawful from bytes out small =
     byte_messages.outputs_are_bytes u quantum keyboard out.net o.trace w (followed u quantum p keyboard list o w lawful from bytes out small) out.trace
 
 -- a code with another mode of faults is one of the same source
-pub code_with : (u : Unfolding) (quantum : ℕ) (p : Program) (errors : Errors) → IsCodeOf u quantum p → IsCodeOf u quantum (record p { errors = errors })
+pub code_with : (u : UnfoldedProgram) (quantum : ℕ) (p : Program) (errors : Errors) → IsCodeOf u quantum p → IsCodeOf u quantum (record p { errors = errors })
 code_with u quantum p errors h =
     record {
       does = record { channels = h.does.channels; bodies = h.does.bodies; quanta = h.does.quanta; small = h.does.small };
@@ -99,12 +99,12 @@ code_with u quantum p errors h =
     }
 
 -- the run that an outcome of a text's code follows, and what it says of faults
-record Shown (options : Options) (keyboard : List ℕ) (u : Unfolding) (net : Net) (ending : Ending) : Type 0 where
+record Shown (options : Options) (keyboard : List ℕ) (u : UnfoldedProgram) (net : Net) (ending : Ending) : Type 0 where
   run : Followed u keyboard options.quantum options.errors net
   ends : or_limit (ending_of options.errors net) ≡ ending
   clean : ending ≡ E.Ended → noted_in run.system ≡ []
 
-shown_by_run : (options : Options) (keyboard : List ℕ) (list : List Choice) (u : Unfolding) (p : Program) (o : Outcome)
+shown_by_run : (options : Options) (keyboard : List ℕ) (list : List Choice) (u : UnfoldedProgram) (p : Program) (o : Outcome)
     → IsWellFormed u → Lawful u → IsCodeOf u options.quantum p → p.errors ≡ options.errors → AreBytes keyboard → (out : IsOutcome p keyboard list o) → length o.choices.items < 2 ^ 64
     → Shown options keyboard u out.net o.ending
 shown_by_run options keyboard list u p o well lawful from mode keys out small =
@@ -171,13 +171,13 @@ charted options source keyboard list most p channels o bytes ran keys chan small
 
 -- ---- refusals
 
-pub usage_refuses : {source : List ℕ} (u : Unfolding) (fault : UsageFault) → Unfolds source u → UsageRefuses fault u → UsageRefusesText fault source
+pub usage_refuses : {source : List ℕ} (u : UnfoldedProgram) (fault : UsageFault) → Unfolds source u → UsageRefuses fault u → UsageRefusesText fault source
 usage_refuses u (usage.SharedVariable line name) x h = (u, x, h)
 usage_refuses u (usage.TwoInputs line name) x h = (u, x, h)
 usage_refuses u (usage.TwoOutputs line name) x h = (u, x, h)
 usage_refuses u usage.Memory x h = tt
 
-pub code_refuses : {source : List ℕ} (quantum : ℕ) (u : Unfolding) (fault : CodeFault) → Unfolds source u → CodeRefuses fault quantum u → CodeRefusesText quantum fault source
+pub code_refuses : {source : List ℕ} (quantum : ℕ) (u : UnfoldedProgram) (fault : CodeFault) → Unfolds source u → CodeRefuses fault quantum u → CodeRefusesText quantum fault source
 code_refuses quantum u code.TooLarge x h = (u, x, h.1)
 code_refuses quantum u code.BadQuantum x h = h
 code_refuses quantum u code.Memory x h = tt

@@ -2,7 +2,7 @@
 -- Manual: nothing; this is (own).
 use Rattle.std.specs.Prelude.{Bool, List, [], Option, length, map, take, ℕ, ⊤, ◌*◌, ◌<◌, ◌≡◌}
 use Rattle.std.specs.Io.KnownBytes.{Appends}
-use Rattle.occ_text.specs.Words.{Row}
+use Rattle.occ_text.specs.Words.{LogicalLine}
 use Rattle.occ_text.specs.Lines.{LinesOf}
 use Rattle.occ_text.specs.declared.fault.TextFault.{TextFault}
 use Rattle.occ_text.specs.declared.fault.TextFault.TheVariants as text
@@ -15,10 +15,10 @@ use Rattle.occ_usage.specs.declared.checked.UsageFault.{UsageFault}
 use Rattle.occ_usage.specs.declared.checked.UsageFault.TheVariants as usage
 use Rattle.occ_term.specs.Sizes.{size_of}
 use Rattle.occ_usage.specs.Refusals.{UsageRefuses}
-use Rattle.occ_term.specs.Unfolding.{Unfolding, declared, meaning, IsWellFormed, Lawful}
+use Rattle.occ_term.specs.UnfoldedProgram.{UnfoldedProgram, declared, meaning, IsWellFormed, Lawful}
 use Rattle.occ_term.specs.System.{System, start, noted_in}
 use Rattle.occ_term.specs.Runs.{Event, Run, communications, shown, EndsBy}
-use Rattle.occ_code.specs.Sequential.Compiled.{Program, IsCodeOf, IsQuantum, most_instructions}
+use Rattle.occ_code.specs.Compiled.{Program, IsCodeOf, IsQuantum, most_instructions}
 use Rattle.occ_check_meaning.specs.ProgramUnfolding.{UnfoldsTo}
 use Rattle.occ_check_names.specs.declared.fault.CheckFault.{CheckFault}
 use Rattle.occ_check.specs.CheckRefuses.{CheckRefuses}
@@ -42,13 +42,13 @@ use Rattle.occ_net_replay.specs.Replay.{Net, Replays, ending_of}
 -- ---- what a text is
 
 -- a tree within the bounds, whose written form the lines are
-pub record IsTreeOf (lines : List Row) (items : List Item) : Type 0 where
+pub record IsTreeOf (lines : List LogicalLine) (items : List Item) : Type 0 where
   pub shown : show_program items ≡ lines
   pub bounded : InBounds items
 
 -- the program of a text: its logical lines have a tree, and their unfolding is this one, typed, with its processes numbered
-pub record Unfolds (source : List ℕ) (u : Unfolding) : Type 0 where
-  pub lines : List Row
+pub record Unfolds (source : List ℕ) (u : UnfoldedProgram) : Type 0 where
+  pub lines : List LogicalLine
   pub read : LinesOf source lines
   pub items : List Item
   pub parsed : IsTreeOf lines items
@@ -61,7 +61,7 @@ plain = record { quantum = 1; errors = Halt }
 
 -- the code of a text's program, for turns of this quantum and with faults that do this; the program keeps the usage rules
 pub record IsTextsCode (options : Options) (source : List ℕ) (p : Program) : Type 0 where
-  pub program : Unfolding
+  pub program : UnfoldedProgram
   pub unfolds : Unfolds source program
   pub lawful : Lawful program
   pub from : IsCodeOf program options.quantum p
@@ -81,7 +81,7 @@ pub record Ran (options : Options) (source keyboard : List ℕ) (list : List Cho
 -- program's code for that quantum: it has the run's turns, communications, faults and ending. On each channel the messages
 -- output and those input are, in order, the communicated ones, each of the channel's protocol.
 pub record IsAnswer (options : Options) (source keyboard : List ℕ) (list : List Choice) (trace : Bool) (played : Played) (bytes : List ℕ) : Type 0 where
-  pub program : Unfolding
+  pub program : UnfoldedProgram
   pub unfolds : Unfolds source program
   pub lawful : Lawful program
   pub events : List Event
@@ -113,23 +113,23 @@ IsSomeAnswer options source keyboard list trace bytes = (played : Played) × IsA
 -- a text is refused only where the definitions refuse it; want of memory says nothing
 abbrev pub TextRefuses : TextFault → List ℕ → Type 0
 TextRefuses text.Memory source = ⊤
-TextRefuses fault source = (lines : List Row) → LinesOf source lines → ⊥
+TextRefuses fault source = (lines : List LogicalLine) → LinesOf source lines → ⊥
 
 abbrev pub ParseRefuses : ParseFault → List ℕ → Type 0
 ParseRefuses tree.Memory source = ⊤
-ParseRefuses fault source = (lines : List Row) (items : List Item) → LinesOf source lines → IsTreeOf lines items → ⊥
+ParseRefuses fault source = (lines : List LogicalLine) (items : List Item) → LinesOf source lines → IsTreeOf lines items → ⊥
 
 abbrev pub CheckRefusesText : CheckFault → List ℕ → Type 0
-CheckRefusesText fault source = (lines : List Row) (items : List Item) → LinesOf source lines → IsTreeOf lines items → CheckRefuses fault items
+CheckRefusesText fault source = (lines : List LogicalLine) (items : List Item) → LinesOf source lines → IsTreeOf lines items → CheckRefuses fault items
 
 abbrev pub UsageRefusesText : UsageFault → List ℕ → Type 0
 UsageRefusesText usage.Memory source = ⊤
-UsageRefusesText fault source = (u : Unfolding) × Unfolds source u × UsageRefuses fault u
+UsageRefusesText fault source = (u : UnfoldedProgram) × Unfolds source u × UsageRefuses fault u
 
 abbrev pub CodeRefusesText : ℕ → CodeFault → List ℕ → Type 0
 CodeRefusesText quantum code.Memory source = ⊤
 CodeRefusesText quantum code.BadQuantum source = IsQuantum quantum → ⊥
-CodeRefusesText quantum code.TooLarge source = (u : Unfolding) × Unfolds source u × (most_instructions < 32 * (size_of (meaning u)).nodes)
+CodeRefusesText quantum code.TooLarge source = (u : UnfoldedProgram) × Unfolds source u × (most_instructions < 32 * (size_of (meaning u)).nodes)
 
 -- before there is code
 abbrev pub RefusesText : List ℕ → PlayFault → Type 0

@@ -6,7 +6,7 @@ ghost use Rattle.occ_net_replay.specs.declared.choice.Choice.{Choice};
 ghost use Rattle.occ_net_tables.specs.Outcomes.{IsOutcome};
 ghost use Rattle.occ_play.specs.Charting.{IsChart};
 ghost use Rattle.occ_play.specs.Playing.{AfterFault, IsAnswer, IsSomeAnswer, IsTextsCode, Ran, Refuses, RefusesText, Unfolds, Wrote, plain};
-ghost use Rattle.occ_term.specs.Unfolding.{Lawful};
+ghost use Rattle.occ_term.specs.UnfoldedProgram.{Lawful};
 ghost use Rattle.occ_play.specs.Status.{status};
 
 use crate::fault::PlayFault;

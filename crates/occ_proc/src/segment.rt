@@ -1,7 +1,7 @@
 //! A turn that was taken.
 ghost use Rattle.std.specs.Prelude.{◌≡◌, ◌<◌, ◌+◌, ◌^◌, IfErr, IfOk, length};
 ghost use Rattle.std.specs.Arc.{arc_value};
-ghost use Rattle.occ_code.specs.Sequential.Machine.{Stopping};
+ghost use Rattle.occ_code.specs.Machine.{Stopping};
 ghost use Rattle.occ_proc.specs.Turns.{HasStop, Taken};
 
 use crate::scratch::Scratch;
@@ -22,7 +22,7 @@ pub struct Segment {
 
 impl Model for Segment {
     ghost use Rattle.std.specs.Arc.{arc_value};
-    ghost use Rattle.occ_code.specs.Sequential.Machine.{Stopping};
+    ghost use Rattle.occ_code.specs.Machine.{Stopping};
     ghost use Rattle.occ_proc.specs.Turns.{Taken};
 
     ghost Value = { Taken };

@@ -1,6 +1,6 @@
 //! The outcome of a run as one of its choices.
 ghost use Rattle.std.specs.Prelude.{◌≡◌, List, ℕ};
-ghost use Rattle.occ_code.specs.Sequential.Compiled.{Program};
+ghost use Rattle.occ_code.specs.Compiled.{Program};
 ghost use Rattle.occ_net_tables.specs.Outcomes.{IsOutcome};
 ghost use Rattle.occ_run.specs.Gathered.{IsRunOf};
 

@@ -11,8 +11,8 @@ use Rattle.occ_term.specs.declared.primitive.Primitive.TheVariants.{Byte}
 use Rattle.occ_term.specs.declared.protocol.Protocol.{Protocol}
 use Rattle.occ_term.specs.declared.protocol.Protocol.TheVariants.{Simple}
 use Rattle.occ_term.specs.Runs.{messages_on}
-use Rattle.occ_term.specs.Unfolding.{Unfolding, IsWellFormed, declared}
-use Rattle.occ_code.specs.Alike.{FitsProtocol}
+use Rattle.occ_term.specs.UnfoldedProgram.{UnfoldedProgram, IsWellFormed, declared}
+use Rattle.occ_code.specs.SameStop.{FitsProtocol}
 use Rattle.occ_net_replay.specs.Following.{AllFit, Followed}
 use Rattle.occ_net_replay.specs.Replay.{Net}
 use Rattle.occ_net_trace.specs.declared.communication.Communication.{Communication as Made}
@@ -47,11 +47,11 @@ bytes_on protocols c e (x ∷ xs) h = by (λ f. bytes_on protocols c e xs f) (na
     by others true q f = ((λ s. byte_message_of x.message (subst (λ o. FitsProtocol o x.message) e f.0)), others f.1)
     by others false q f = ((λ s. let r : true ≡ false = sym (eq-eqb x.chan c s) ∙ q in absurd cc), others f)
 
-first_protocols : (u : Unfolding) → IsWellFormed u → ((declared u).protocols 1 ≡ Some (Simple [] Byte)) × ((declared u).protocols 2 ≡ Some (Simple [] Byte))
+first_protocols : (u : UnfoldedProgram) → IsWellFormed u → ((declared u).protocols 1 ≡ Some (Simple [] Byte)) × ((declared u).protocols 2 ≡ Some (Simple [] Byte))
 first_protocols u w = (ap (λ cs. slice_get (map (λ y. y.protocol) cs) 1) w.begins, ap (λ cs. slice_get (map (λ y. y.protocol) cs) 2) w.begins)
 
 -- where a run follows a replay whose communications these are
-pub outputs_are_bytes : (u : Unfolding) (quantum : ℕ) (keyboard : List ℕ) {errors : Errors} (net : Net) (xs : List Made) → IsWellFormed u → Followed u keyboard quantum errors net → net.trace ≡ map communication_of xs → AreByteMessages 1 xs × AreByteMessages 2 xs
+pub outputs_are_bytes : (u : UnfoldedProgram) (quantum : ℕ) (keyboard : List ℕ) {errors : Errors} (net : Net) (xs : List Made) → IsWellFormed u → Followed u keyboard quantum errors net → net.trace ≡ map communication_of xs → AreByteMessages 1 xs × AreByteMessages 2 xs
 outputs_are_bytes u quantum keyboard net xs w f trace =
     let first = first_protocols u w in
     let fits : (c : ℕ) → AllFit ((declared u).protocols c) (messages_on c (map communication_of xs)) = λ c. subst (λ ms. AllFit ((declared u).protocols c) (messages_on c ms)) trace (f.fits c) in

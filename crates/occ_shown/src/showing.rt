@@ -10,14 +10,8 @@ ghost use Rattle.occ_net_trace.specs.Views.{part_of};
 
 use occ_net_replay::Ending;
 use occ_net_trace::{End, Entry, MessageView, PartView, PartViews, Trace};
-use occ_term::{Channel, Primitive, Protocol};
+use occ_term::{Channel, ERROR, Primitive, Protocol, SCREEN};
 use std::alloc::{AllocError, Global};
-
-/// The screen's channel.
-const SCREEN: u32 = 1;
-
-/// The error channel.
-const ERROR: u32 = 2;
 
 /// Ends a line.
 const LINE_FEED: u8 = 10;

@@ -5,7 +5,7 @@ use Rattle.occ_term.specs.Terms.{Expression, Place, Replicator, Term, Reception,
 use Rattle.occ_term.specs.Values.{Store, store_with, Evaluated, Value, Fails, holds, first_of, value_of, span_of}
 use Rattle.occ_term.specs.Storing.{Outcome, Gives, Faults, then_in, in_store, Nothing, nothing, declared, Indices, indices, indices_of, index_of}
 use Rattle.occ_term.specs.Selecting.{Setting, IndexTo, DeclaredAgain, Enabled, SkipArm, InputArm, and_arm, and_arms, each_over, arms_over, enabled}
-use Rattle.occ_term.specs.Again.{Opens, opens_skip, after_skip, opens_input, after_input, opens_declared, after_declared, opens_each, after_each, OpensEach, at_value, at_later, EachOf, AllOpened}
+use Rattle.occ_term.specs.TakenArms.{Opens, opens_skip, after_skip, opens_input, after_input, opens_declared, after_declared, opens_each, after_each, OpensEach, at_value, at_later, EachOf, AllOpened}
 
 each_map : (P Q : Enabled → Type 0) (es : List Enabled) → ((e : Enabled) → P e → Q e) → EachOf P es → EachOf Q es
 each_map P Q [] f h = tt

@@ -1,7 +1,7 @@
 -- Arrays with few components.
 use Rattle.std.proofs.Common.{◌≡◌, ℕ, zero, suc, ◌+◌, ◌*◌, ◌<◌, ◌≤◌, ◌^◌, List, [], ◌∷◌, drop, arith}
 use Rattle.occ_term.specs.Messages.{product}
-use Rattle.occ_term.specs.Rows.{AreFew}
+use Rattle.occ_term.specs.ArraySizes.{AreFew}
 
 pub few_product : (ns : List ℕ) → AreFew ns → product ns < 2 ^ 32
 few_product [] few = omega arith

@@ -1,12 +1,13 @@
--- Each part that is at no stop, or at a loop's, has a step.
-use Rattle.std.proofs.Common.{◌≡◌, ℕ, Bool, List, [], ◌∷◌, refl, Some, None, Option}
-use Rattle.occ_term.specs.Messages.{Fault}
-use Rattle.occ_term.specs.Terms.{Skip, Stop, Assign, Input, Output, VariantInput, Seq, Par, Alt, If, Case, While, Each, Clear, Local, no_terms, then_term, no_branches, and_branch, Term, Target, Item, Place, Variants, Arms, Replicator, Naming, Plain, Tagged}
+-- Each part that is at no stop, or at a loop's, has a step; and steps of a sequence.
+use Rattle.std.proofs.Common.{List, ◌≡◌, ℕ, Bool, [], ◌∷◌, refl, Some, None, Option}
 use Rattle.occ_term.specs.Values.{Store, Evaluated, Value, Fails}
+use Rattle.occ_term.specs.Steps.{Doing, Context, Left, left, Step, Loop, Do, Passing, Faulted, Within, offer_of, await_of, choosing, or_stop, each_loop, Pass, pass, pass_of, in_assign, in_local, in_output, in_input, in_variant, in_alt, in_each, in_loop, assign, local, output, input, variant, alt, each, passes_again, leaves, faults, Again, Done, Then, ends, drops, body_ends, WhileLoop, Forking, Halted, in_if, in_case, stop, clear, seq_empty, seq, par_empty, par, if_step, case, while, Offering, Awaiting, Choosing, Taking, taken_by, in_take, take_in, again}
+use Rattle.occ_term.specs.Messages.{Fault}
+use Rattle.occ_term.specs.Terms.{Skip, Assign, Input, Output, VariantInput, Alt, Each, Local, Term, Target, Item, Place, Variants, Arms, Replicator, Naming, Plain, Tagged, Seq, Stop, Par, If, Case, While, Clear, no_terms, then_term, no_branches, and_branch}
 use Rattle.occ_term.specs.Storing.{Outcome, Gives, Faults, Nothing, nothing, assigned, declared, Indices, indices_of, index_of}
-use Rattle.occ_term.specs.Selecting.{choice_of, option_of, enabled, Enabled}
-use Rattle.occ_term.specs.Steps.{Loop, WhileLoop, Doing, Do, Passing, Again, Offering, Awaiting, Choosing, Taking, Forking, Halted, Faulted, Done, Context, Then, Within, Left, left, offer_of, await_of, choosing, or_stop, each_loop, Pass, pass, pass_of, taken_by, in_assign, in_local, in_output, in_input, in_variant, in_alt, in_take, in_if, in_case, in_each, in_loop, Step, ends, stop, assign, clear, local, output, input, variant, alt, take_in, seq_empty, seq, drops, par_empty, par, if_step, case, while, each, passes_again, leaves, body_ends, again, faults}
-use Rattle.occ_term.specs.Examples.{IsGoing}
+use Rattle.occ_term.specs.Selecting.{enabled, Enabled, choice_of, option_of}
+use Rattle.occ_term.specs.Going.{IsGoing, SequencePerforms}
+use Rattle.occ_term.specs.Turns.{Steps, none, more}
 
 abbrev Next : Doing → List Context → Store → Type 0
 Next d k s = (b : Left) × (s' : Store) × Step (left d k) s b s'
@@ -85,3 +86,10 @@ going (Forking bs) k s h = cc
 going Halted k s h = cc
 going (Faulted e) k s h = cc
 going Done k s h = cc
+
+on_from : {a b c : Left} {s s' s'' : Store} → Steps a s b s' → Steps b s' c s'' → Steps a s c s''
+on_from none y = y
+on_from (more st h x) y = more st h (on_from x y)
+
+pub sequence_performs : SequencePerforms
+sequence_performs t ts s s' s'' x y k = more seq refl (on_from (x (Then ts ∷ k)) (more drops refl (y k)))

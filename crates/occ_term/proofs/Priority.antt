@@ -1,19 +1,8 @@
--- Sequences of steps, and the rule of ready arms.
+-- The rule of ready arms.
 use Rattle.std.proofs.Common.{◌≡◌, ℕ, Bool, true, false, List, [], ◌∷◌, refl, Option, Some, inl, inr}
 use Rattle.std.specs.Prelude.{slice_get, if◌then◌else◌}
-use Rattle.occ_term.specs.Values.{Store}
 use Rattle.occ_term.specs.Selecting.{is_ready_on, ready_among}
-use Rattle.occ_term.specs.Steps.{Left, seq, drops}
-use Rattle.occ_term.specs.Turns.{Steps, none, more}
-use Rattle.occ_term.specs.Steps.{Then}
-use Rattle.occ_term.specs.Examples.{SequencePerforms, IsFirstReady, PriorityTakesFirst}
-
-on_from : {a b c : Left} {s s' s'' : Store} → Steps a s b s' → Steps b s' c s'' → Steps a s c s''
-on_from none y = y
-on_from (more st h x) y = more st h (on_from x y)
-
-pub sequence_performs : SequencePerforms
-sequence_performs t ts s s' s'' x y k = more seq refl (on_from (x (Then ts ∷ k)) (more drops refl (y k)))
+use Rattle.occ_term.specs.Priority.{IsFirstReady, PriorityTakesFirst}
 
 module _ {A : Type 0} (channel : A → Option ℕ) (offers : ℕ → Bool) (a : A) where
   abbrev IsFirst : List A → Type 0

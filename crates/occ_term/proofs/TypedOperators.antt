@@ -6,7 +6,7 @@ use Rattle.std.proofs.lemmas.Int.{ints}
 use Rattle.std.proofs.lemmas.Nat.{and_le_l, or_lt, xor_lt, pow_pos}
 use Rattle.std.proofs.Math.Nat.{mod-lt, div-le_self}
 use Rattle.occ_term.specs.Messages.{Primitive, Boolean, Byte, Int, FaultKind, Arith, Convert, fault, is_of}
-use Rattle.occ_term.specs.Terms.{Operator, Plus, Minus, Times, Divide, Remainder, PlusModulo, MinusModulo, TimesModulo, BitAnd, BitOr, BitXor, ShiftLeft, ShiftRight, After, Equal, Unequal, Less, Greater, AtMost, AtLeast}
+use Rattle.occ_term.specs.Terms.{Operator, Add, Subtract, Multiply, Divide, Remainder, Plus, Minus, Times, BitAnd, BitOr, BitXor, ShiftLeft, ShiftRight, After, Equal, Unequal, Less, Greater, AtMost, AtLeast}
 use Rattle.occ_term.specs.Values.{Evaluated, Value, Fails, after, checked, truth, width, residue, bits_of, of_bits, wrapped, is_zero, int_eq, in_type, shift_count, binary, converted}
 use Rattle.occ_term.specs.Typing.{is_arithmetic, is_shift, is_equality, is_order, Takes, takes_arithmetic, takes_shift, takes_after, takes_equality, takes_order}
 
@@ -49,14 +49,14 @@ quotient_typed t line v true = tt
 quotient_typed t line v false = in_type_typed t line v
 
 pub arithmetic_typed : (op : Operator) (t : Primitive) (line : ℕ) (a b : ℤ) → IsTrue (is_arithmetic op) → OfType t (binary op t line a b)
-arithmetic_typed Plus t line a b h = in_type_typed t line (a +ℤ b)
-arithmetic_typed Minus t line a b h = in_type_typed t line (a -ℤ b)
-arithmetic_typed Times t line a b h = in_type_typed t line (a *ℤ b)
+arithmetic_typed Add t line a b h = in_type_typed t line (a +ℤ b)
+arithmetic_typed Subtract t line a b h = in_type_typed t line (a -ℤ b)
+arithmetic_typed Multiply t line a b h = in_type_typed t line (a *ℤ b)
 arithmetic_typed Divide t line a b h = quotient_typed t line (int_div a b) (is_zero b)
 arithmetic_typed Remainder t line a b h = quotient_typed t line (int_rem a b) (is_zero b)
-arithmetic_typed PlusModulo t line a b h = wrapped_typed t (a +ℤ b)
-arithmetic_typed MinusModulo t line a b h = wrapped_typed t (a -ℤ b)
-arithmetic_typed TimesModulo t line a b h = wrapped_typed t (a *ℤ b)
+arithmetic_typed Plus t line a b h = wrapped_typed t (a +ℤ b)
+arithmetic_typed Minus t line a b h = wrapped_typed t (a -ℤ b)
+arithmetic_typed Times t line a b h = wrapped_typed t (a *ℤ b)
 arithmetic_typed BitAnd t line a b h =
     bits_typed t (bit_and (bits_of t a) (bits_of t b)) (let l = and_le_l (bits_of t a) (bits_of t b) in let m = bits_below t a in omega arith)
 arithmetic_typed BitOr t line a b h = bits_typed t (bit_or (bits_of t a) (bits_of t b)) (or_lt (width t) (bits_of t a) (bits_of t b) (bits_below t a) (bits_below t b))
@@ -80,14 +80,14 @@ shift_typed ShiftLeft t line a b h =
     by_count t (shift_count t line b) (λ k. (bits_of t a * 2 ^ k) % 2 ^ width t) (λ k. mod-lt (bits_of t a * 2 ^ k) (pow_pos (width t)))
 shift_typed ShiftRight t line a b h =
     by_count t (shift_count t line b) (λ k. bits_of t a / 2 ^ k) (λ k. let l = div-le_self (bits_of t a) (2 ^ k) in let m = bits_below t a in omega arith)
+shift_typed Add t line a b h = cc
+shift_typed Subtract t line a b h = cc
+shift_typed Multiply t line a b h = cc
+shift_typed Divide t line a b h = cc
+shift_typed Remainder t line a b h = cc
 shift_typed Plus t line a b h = cc
 shift_typed Minus t line a b h = cc
 shift_typed Times t line a b h = cc
-shift_typed Divide t line a b h = cc
-shift_typed Remainder t line a b h = cc
-shift_typed PlusModulo t line a b h = cc
-shift_typed MinusModulo t line a b h = cc
-shift_typed TimesModulo t line a b h = cc
 shift_typed BitAnd t line a b h = cc
 shift_typed BitOr t line a b h = cc
 shift_typed BitXor t line a b h = cc
@@ -136,14 +136,14 @@ word_of t (Fails e) h = tt
 
 -- whatever the types, an operator's value is one of INT
 pub binary_word : (op : Operator) (t : Primitive) (line : ℕ) (a b : ℤ) → OfType Int (binary op t line a b)
+binary_word Add t line a b = word_of t (binary Add t line a b) (arithmetic_typed Add t line a b refl)
+binary_word Subtract t line a b = word_of t (binary Subtract t line a b) (arithmetic_typed Subtract t line a b refl)
+binary_word Multiply t line a b = word_of t (binary Multiply t line a b) (arithmetic_typed Multiply t line a b refl)
+binary_word Divide t line a b = word_of t (binary Divide t line a b) (arithmetic_typed Divide t line a b refl)
+binary_word Remainder t line a b = word_of t (binary Remainder t line a b) (arithmetic_typed Remainder t line a b refl)
 binary_word Plus t line a b = word_of t (binary Plus t line a b) (arithmetic_typed Plus t line a b refl)
 binary_word Minus t line a b = word_of t (binary Minus t line a b) (arithmetic_typed Minus t line a b refl)
 binary_word Times t line a b = word_of t (binary Times t line a b) (arithmetic_typed Times t line a b refl)
-binary_word Divide t line a b = word_of t (binary Divide t line a b) (arithmetic_typed Divide t line a b refl)
-binary_word Remainder t line a b = word_of t (binary Remainder t line a b) (arithmetic_typed Remainder t line a b refl)
-binary_word PlusModulo t line a b = word_of t (binary PlusModulo t line a b) (arithmetic_typed PlusModulo t line a b refl)
-binary_word MinusModulo t line a b = word_of t (binary MinusModulo t line a b) (arithmetic_typed MinusModulo t line a b refl)
-binary_word TimesModulo t line a b = word_of t (binary TimesModulo t line a b) (arithmetic_typed TimesModulo t line a b refl)
 binary_word BitAnd t line a b = word_of t (binary BitAnd t line a b) (arithmetic_typed BitAnd t line a b refl)
 binary_word BitOr t line a b = word_of t (binary BitOr t line a b) (arithmetic_typed BitOr t line a b refl)
 binary_word BitXor t line a b = word_of t (binary BitXor t line a b) (arithmetic_typed BitXor t line a b refl)

@@ -4,7 +4,7 @@ use Rattle.std.proofs.lemmas.Int.{ints, to_z-of_z, fits_signed_mul, fits_signed_
 use Rattle.std.proofs.lemmas.Bool.Decides.{nat_tests}
 use Rattle.std.proofs.Math.Nat.{div-le_self}
 use Rattle.occ_term.specs.Messages.{Primitive, Int, Arith, fault, is_of}
-use Rattle.occ_term.specs.Terms.{Operator, Plus, Minus, Times, Divide, Remainder, PlusModulo, MinusModulo, TimesModulo, After, Monadic, Negate}
+use Rattle.occ_term.specs.Terms.{Operator, Add, Subtract, Multiply, Divide, Remainder, Plus, Minus, Times, After, Monadic, Negate}
 use Rattle.occ_term.specs.Values.{Evaluated, Value, Fails, in_type, binary, unary, wrapped, truth, is_zero}
 
 pub least_word : (a : ℤ) → IsTrue (is_of Int a) → neg_ℤ (pos 2147483648) ≤ℤ a
@@ -46,25 +46,25 @@ module _ (a b : ℤ) (p : IsTrue (is_of Int a)) (q : IsTrue (is_of Int b)) where
   product_word = rw (word_is a p, word_is b q) (fits_signed_mul w64 a b 2147483648 2147483648 (abs_word a p) (abs_word b q) (omega arith))
 
   module _ (op : Operator) (type : Primitive) (line : ℕ) (r : Evaluated ℤ) where
-    pub plus : op ≡ Plus → r ≡ in_type type line (in_word (in_word a +ℤ in_word b)) → r ≡ binary op type line a b
+    pub plus : op ≡ Add → r ≡ in_type type line (in_word (in_word a +ℤ in_word b)) → r ≡ binary op type line a b
     plus o h = h ∙ ap (in_type type line) sum_fits ∙ sym (ap (λ x. binary x type line a b) o)
 
-    pub minus : op ≡ Minus → r ≡ in_type type line (in_word (in_word a -ℤ in_word b)) → r ≡ binary op type line a b
+    pub minus : op ≡ Subtract → r ≡ in_type type line (in_word (in_word a -ℤ in_word b)) → r ≡ binary op type line a b
     minus o h = h ∙ ap (in_type type line) difference_fits ∙ sym (ap (λ x. binary x type line a b) o)
 
-    pub times : op ≡ Times → r ≡ in_type type line (in_word (in_word a *ℤ in_word b)) → r ≡ binary op type line a b
+    pub times : op ≡ Multiply → r ≡ in_type type line (in_word (in_word a *ℤ in_word b)) → r ≡ binary op type line a b
     times o h = h ∙ ap (in_type type line) product_fits ∙ sym (ap (λ x. binary x type line a b) o)
 
   module _ (op : Operator) (type : Primitive) (line : ℕ) (r : ℤ) (f : FitsSigned w64 r) where
-    pub plus_modulo : op ≡ PlusModulo → r ≡ wrapped type (in_word (in_word a +ℤ in_word b)) → ◌≡◌ {A = Evaluated ℤ} (Value (in_word r)) (binary op type line a b)
+    pub plus_modulo : op ≡ Plus → r ≡ wrapped type (in_word (in_word a +ℤ in_word b)) → ◌≡◌ {A = Evaluated ℤ} (Value (in_word r)) (binary op type line a b)
     plus_modulo o h =
         ap Value (to_z-of_z w64 r f ∙ h ∙ ap (wrapped type) sum_fits) ∙ sym (ap (λ x. binary x type line a b) o)
 
-    pub minus_modulo : op ≡ MinusModulo → r ≡ wrapped type (in_word (in_word a -ℤ in_word b)) → ◌≡◌ {A = Evaluated ℤ} (Value (in_word r)) (binary op type line a b)
+    pub minus_modulo : op ≡ Minus → r ≡ wrapped type (in_word (in_word a -ℤ in_word b)) → ◌≡◌ {A = Evaluated ℤ} (Value (in_word r)) (binary op type line a b)
     minus_modulo o h =
         ap Value (to_z-of_z w64 r f ∙ h ∙ ap (wrapped type) difference_fits) ∙ sym (ap (λ x. binary x type line a b) o)
 
-    pub times_modulo : op ≡ TimesModulo → r ≡ wrapped type (in_word (in_word a *ℤ in_word b)) → ◌≡◌ {A = Evaluated ℤ} (Value (in_word r)) (binary op type line a b)
+    pub times_modulo : op ≡ Times → r ≡ wrapped type (in_word (in_word a *ℤ in_word b)) → ◌≡◌ {A = Evaluated ℤ} (Value (in_word r)) (binary op type line a b)
     times_modulo o h =
         ap Value (to_z-of_z w64 r f ∙ h ∙ ap (wrapped type) product_fits) ∙ sym (ap (λ x. binary x type line a b) o)
 

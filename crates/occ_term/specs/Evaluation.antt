@@ -7,17 +7,18 @@ use Rattle.occ_term.specs.Values.{Store, Evaluated, Value, Fails, after, subscri
 use Rattle.occ_term.specs.Uses.{reads_of}
 use Rattle.occ_term.specs.Typing.{HasType}
 use Rattle.occ_term.specs.Frames.{Variables, holds_cell, at}
+use Rattle.occ_term.specs.UnfoldedProgram.{most_cells}
 
 -- the code's answer: a value or a fault
 abbrev pub evaluated : {X : Type 0} → Result X Fault → Evaluated X
 evaluated (Ok v) = Value v
 evaluated (Err e) = Fails e
 
--- The expression has a type where no cell from 65,536 on is declared; the frame holds each cell that it reads, with a value of
+-- The expression has a type where no cell is declared past those that a program may have; the frame holds each cell that it reads, with a value of
 -- the cell's type.
 pub record CanBeEvaluated (e : Expression) (f : Variables) : Type 0 where
   pub types : ℕ → Option Primitive
-  pub few : (c : ℕ) → 65536 ≤ c → types c ≡ None
+  pub few : (c : ℕ) → most_cells ≤ c → types c ≡ None
   pub type : Primitive
   pub typed : HasType types e type
   pub held : (c : ℕ) → IsTrue (reads_of e c) → IsTrue (holds_cell f c)
@@ -28,9 +29,9 @@ pub record CanBeEvaluated (e : Expression) (f : Variables) : Type 0 where
 abbrev pub IsWord : Expression → Store → Type 0
 IsWord e s = (v : ℤ) → value_of e s ≡ Value v → IsTrue (is_of Int v)
 
--- cells that there are have numbers below 65,536
+-- cells that there are have numbers that a program may have
 abbrev pub FewCells : ℕ → List ℕ → Type 0
-FewCells first sizes = 0 < product sizes → first + product sizes ≤ 65536
+FewCells first sizes = 0 < product sizes → first + product sizes ≤ most_cells
 
 -- each operand's value is an INT, and each array lies among the cells
 abbrev mutual

@@ -31,6 +31,7 @@ pub data Errors : Type 0 where
   HaltMode : Errors
   StopMode : Errors
 
+-- whether a process may still go on, with these faults noted: where a fault ends all, only while none is
 abbrev pub MayGo : Errors → List Fault → Type 0
 MayGo HaltMode noted = noted ≡ []
 MayGo StopMode noted = ⊤
@@ -142,7 +143,7 @@ has_byte (b ∷ bs) c = nat_eq c 0
 abbrev pub offers : System → ℕ → Bool
 offers (system kb p s noted) c = has_byte kb c || offers_in p c
 
--- an offer ends
+-- an offer ends, and what comes after it goes on (`Do Skip`)
 pub data GivesOn (c : ℕ) (m : Message) : Left → Left → Type 0 where
   offer_ends : {k : List Context} → GivesOn c m (left (Offering c m) k) (left (Do Skip) k)
 
@@ -159,6 +160,8 @@ pub data PassesBy (standing : ℕ → Bool) : Left → Left → Type 0 where
       → (pick : ℕ) → chosen pri pick standing arms ≡ Some (SkipArm again body)
       → PassesBy standing (left (Choosing pri arms) k) (left (Taking again (SkipTaken body)) k)
 
+-- Who gives a message, and who gets it: the two halves of one event. No step of a run is a half alone: Runs and StepRuns have `Meets`,
+-- so an output ends only with its input.
 pub data Sends (c : ℕ) (m : Message) : End → System → System → Type 0 where
   process_sends : {n : ℕ} {kb : List ℕ} {p p' : Process} {s : Store} {noted : List Fault}
       → ChangeIn (GivesOn c m) n p p' → Sends c m (OfProcess n) (system kb p s noted) (system kb p' s noted)

@@ -5,7 +5,7 @@
 use Rattle.std.specs.Prelude.{Bool, List, None, Option, Some, pos, ℕ, ℤ}
 use Rattle.occ_term.specs.Messages.{Primitive}
 pub use Rattle.occ_term.specs.declared.expression.Operator.{Operator}
-pub use Rattle.occ_term.specs.declared.expression.Operator.TheVariants.{Plus, Minus, Times, Divide, Remainder, PlusModulo, MinusModulo, TimesModulo, BitAnd, BitOr, BitXor, ShiftLeft, ShiftRight, After, Equal, Unequal, Less, Greater, AtMost, AtLeast}
+pub use Rattle.occ_term.specs.declared.expression.Operator.TheVariants.{Add, Subtract, Multiply, Divide, Remainder, Plus, Minus, Times, BitAnd, BitOr, BitXor, ShiftLeft, ShiftRight, After, Equal, Unequal, Less, Greater, AtMost, AtLeast}
 pub use Rattle.occ_term.specs.declared.expression.Monadic.{Monadic}
 pub use Rattle.occ_term.specs.declared.expression.Monadic.TheVariants.{Negate, BitNot, Not}
 

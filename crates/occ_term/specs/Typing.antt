@@ -2,7 +2,7 @@
 -- Manual: data types; expressions; variables and values. BYTE as an operand of arithmetic, bit operators and shifts: (own).
 use Rattle.std.specs.Prelude.{Bool, IsTrue, List, Option, Some, [], false, length, true, ℕ, ◌∷◌, ◌≡◌}
 use Rattle.occ_term.specs.Messages.{Primitive, Boolean, Byte, Int, is_of, PartType, OneOf, ManyOf, CountedOf, product, AllOf}
-use Rattle.occ_term.specs.Terms.{Operator, Plus, Minus, Times, Divide, Remainder, PlusModulo, MinusModulo, TimesModulo, BitAnd, BitOr, BitXor, ShiftLeft, ShiftRight, After, Equal, Unequal, Less, Greater, AtMost, AtLeast, Negate, BitNot, Not, Expression, Constant, Cell, Component, Letter, Binary, Unary, And, Or, Conversion, Place, place, Subscripts, no_subscripts, then_subscript, Array, Cells, Text, Item, OfOne, OfMany, OfCounted, Target, Into, IntoCounted}
+use Rattle.occ_term.specs.Terms.{Operator, Add, Subtract, Multiply, Divide, Remainder, Plus, Minus, Times, BitAnd, BitOr, BitXor, ShiftLeft, ShiftRight, After, Equal, Unequal, Less, Greater, AtMost, AtLeast, Negate, BitNot, Not, Expression, Constant, Cell, Component, Letter, Binary, Unary, And, Or, Conversion, Place, place, Subscripts, no_subscripts, then_subscript, Array, Cells, Text, Item, OfOne, OfMany, OfCounted, Target, Into, IntoCounted}
 use Rattle.occ_term.specs.Values.{Span, span}
 use Rattle.occ_term.specs.Uses.{numbers_in}
 
@@ -13,14 +13,14 @@ is_number Int = true
 
 -- both operands and the result have one type
 abbrev pub is_arithmetic : Operator → Bool
+is_arithmetic Add = true
+is_arithmetic Subtract = true
+is_arithmetic Multiply = true
+is_arithmetic Divide = true
+is_arithmetic Remainder = true
 is_arithmetic Plus = true
 is_arithmetic Minus = true
 is_arithmetic Times = true
-is_arithmetic Divide = true
-is_arithmetic Remainder = true
-is_arithmetic PlusModulo = true
-is_arithmetic MinusModulo = true
-is_arithmetic TimesModulo = true
 is_arithmetic BitAnd = true
 is_arithmetic BitOr = true
 is_arithmetic BitXor = true
@@ -35,14 +35,14 @@ is_arithmetic AtMost = false
 is_arithmetic AtLeast = false
 
 abbrev pub is_shift : Operator → Bool
+is_shift Add = false
+is_shift Subtract = false
+is_shift Multiply = false
+is_shift Divide = false
+is_shift Remainder = false
 is_shift Plus = false
 is_shift Minus = false
 is_shift Times = false
-is_shift Divide = false
-is_shift Remainder = false
-is_shift PlusModulo = false
-is_shift MinusModulo = false
-is_shift TimesModulo = false
 is_shift BitAnd = false
 is_shift BitOr = false
 is_shift BitXor = false
@@ -57,14 +57,14 @@ is_shift AtMost = false
 is_shift AtLeast = false
 
 abbrev pub is_equality : Operator → Bool
+is_equality Add = false
+is_equality Subtract = false
+is_equality Multiply = false
+is_equality Divide = false
+is_equality Remainder = false
 is_equality Plus = false
 is_equality Minus = false
 is_equality Times = false
-is_equality Divide = false
-is_equality Remainder = false
-is_equality PlusModulo = false
-is_equality MinusModulo = false
-is_equality TimesModulo = false
 is_equality BitAnd = false
 is_equality BitOr = false
 is_equality BitXor = false
@@ -79,14 +79,14 @@ is_equality AtMost = false
 is_equality AtLeast = false
 
 abbrev pub is_order : Operator → Bool
+is_order Add = false
+is_order Subtract = false
+is_order Multiply = false
+is_order Divide = false
+is_order Remainder = false
 is_order Plus = false
 is_order Minus = false
 is_order Times = false
-is_order Divide = false
-is_order Remainder = false
-is_order PlusModulo = false
-is_order MinusModulo = false
-is_order TimesModulo = false
 is_order BitAnd = false
 is_order BitOr = false
 is_order BitXor = false

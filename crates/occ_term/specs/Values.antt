@@ -3,7 +3,7 @@
 -- shift takes, and MOSTNEG \ -1 as 0: (own).
 use Rattle.std.specs.Prelude.{Bool, IsTrue, List, None, Option, Some, [], bit_and, bit_or, bit_xor, false, get_or, if◌then◌else◌, int_div, int_le, int_lt, int_rem, length, nat_abs, nat_eq, nat_lt, neg_ℤ, negsuc, not, pos, suc, take, true, zero, ℕ, ℤ, ◌%◌, ◌&&◌, ◌*ℤ◌, ◌*◌, ◌+ℤ◌, ◌+◌, ◌-ℤ◌, ◌-◌, ◌/◌, ◌^◌, ◌∷◌, ◌≡◌}
 use Rattle.occ_term.specs.Messages.{Primitive, Boolean, Byte, Int, is_of, FaultKind, Arith, Range, Convert, Shift, Fault, fault, Part, One, Many, Counted, product}
-use Rattle.occ_term.specs.Terms.{Operator, Plus, Minus, Times, Divide, Remainder, PlusModulo, MinusModulo, TimesModulo, BitAnd, BitOr, BitXor, ShiftLeft, ShiftRight, After, Equal, Unequal, Less, Greater, AtMost, AtLeast, Monadic, Negate, BitNot, Not, Expression, Constant, Cell, Component, Letter, Binary, Unary, And, Or, Conversion, Place, place, Subscripts, no_subscripts, then_subscript, Array, Cells, Text, Item, OfOne, OfMany, OfCounted}
+use Rattle.occ_term.specs.Terms.{Operator, Add, Subtract, Multiply, Divide, Remainder, Plus, Minus, Times, BitAnd, BitOr, BitXor, ShiftLeft, ShiftRight, After, Equal, Unequal, Less, Greater, AtMost, AtLeast, Monadic, Negate, BitNot, Not, Expression, Constant, Cell, Component, Letter, Binary, Unary, And, Or, Conversion, Place, place, Subscripts, no_subscripts, then_subscript, Array, Cells, Text, Item, OfOne, OfMany, OfCounted}
 
 -- a store gives each cell its value
 abbrev pub Store : Type 0
@@ -69,14 +69,14 @@ abbrev pub shift_count : Primitive → ℕ → ℤ → Evaluated ℕ
 shift_count type line v = checked (int_le (pos 0) v && int_le v (pos (width type))) (nat_abs v) Shift line
 
 abbrev pub binary : Operator → Primitive → ℕ → ℤ → ℤ → Evaluated ℤ
-binary Plus type line a b = in_type type line (a +ℤ b)
-binary Minus type line a b = in_type type line (a -ℤ b)
-binary Times type line a b = in_type type line (a *ℤ b)
+binary Add type line a b = in_type type line (a +ℤ b)
+binary Subtract type line a b = in_type type line (a -ℤ b)
+binary Multiply type line a b = in_type type line (a *ℤ b)
 binary Divide type line a b = if is_zero b then Fails (fault Arith line) else in_type type line (int_div a b)
 binary Remainder type line a b = if is_zero b then Fails (fault Arith line) else in_type type line (int_rem a b)
-binary PlusModulo type line a b = Value (wrapped type (a +ℤ b))
-binary MinusModulo type line a b = Value (wrapped type (a -ℤ b))
-binary TimesModulo type line a b = Value (wrapped type (a *ℤ b))
+binary Plus type line a b = Value (wrapped type (a +ℤ b))
+binary Minus type line a b = Value (wrapped type (a -ℤ b))
+binary Times type line a b = Value (wrapped type (a *ℤ b))
 binary BitAnd type line a b = Value (of_bits type (bit_and (bits_of type a) (bits_of type b)))
 binary BitOr type line a b = Value (of_bits type (bit_or (bits_of type a) (bits_of type b)))
 binary BitXor type line a b = Value (of_bits type (bit_xor (bits_of type a) (bits_of type b)))

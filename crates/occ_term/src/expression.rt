@@ -9,21 +9,21 @@ use occ_held::parts::{Listed, Nested};
 #[derive(Clone, Copy)]
 pub enum Operator {
     /// `+`: a result outside the type is a fault.
-    Plus,
+    Add,
     /// `-`: a result outside the type is a fault.
-    Minus,
+    Subtract,
     /// `*`: a result outside the type is a fault.
-    Times,
+    Multiply,
     /// `/`: goes towards zero; a divisor 0 is a fault.
     Divide,
     /// `\` and `REM`: has the sign of the dividend; a divisor 0 is a fault.
     Remainder,
     /// `PLUS`: wraps.
-    PlusModulo,
+    Plus,
     /// `MINUS`: wraps.
-    MinusModulo,
+    Minus,
     /// `TIMES`: wraps.
-    TimesModulo,
+    Times,
     /// `/\` and `BITAND`.
     BitAnd,
     /// `\/` and `BITOR`.

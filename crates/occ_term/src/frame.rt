@@ -2,7 +2,7 @@
 ghost use Rattle.std.specs.Prelude.{◌≡◌, ◌<◌, ◌↔◌, IsTrue, IfOk, length, pos, replicate, slice_index_or, slice_set, []};
 ghost use Rattle.occ_term.specs.Frames.{at, in_place, value_at, values_with, zero_frame, frame_with, with_place, frame_from, row_with, counter_at, with_counter};
 
-use crate::held::Held;
+use crate::frame_cells::FrameCells;
 use crate::message::same_values;
 use std::alloc::{AllocError, Global};
 use std::marker::Model;
@@ -11,7 +11,7 @@ use std::marker::Model;
 /// their values, and the counters of its replicated SEQs.
 #[derive(Drop)]
 pub struct Frame {
-    cells: Held,
+    cells: FrameCells,
     values: Vec<i64>,
     left: Vec<u64>,
 }
@@ -31,7 +31,7 @@ impl Frame {
     {
         let values = vec![in alloc; 0; cells.len()]?;
         let left = vec![in alloc; 0; loops]?;
-        let cells = Held::new(alloc, cells)?;
+        let cells = FrameCells::new(alloc, cells)?;
         Ok(Frame {
             cells,
             values,
@@ -153,7 +153,7 @@ fn same_numbers(numbers: &[u64], others: &[u64]) -> bool
     numbers == others
 }
 
-fn value_at(cells: &Held, values: &[i64], cell: u64) -> i64
+fn value_at(cells: &FrameCells, values: &[i64], cell: u64) -> i64
     ensures { result ≡ value_at cells.now values.now cell }
 {
     match cells.place_of(cell) {
@@ -171,7 +171,7 @@ fn value_in(values: &[i64], place: usize) -> i64
     }
 }
 
-fn set_value(cells: &Held, values: &mut [i64], cell: u64, value: i64)
+fn set_value(cells: &FrameCells, values: &mut [i64], cell: u64, value: i64)
     ensures { values.new ≡ values_with cells.now values.old cell value }
 {
     if let Some(place) = cells.place_of(cell) {
@@ -187,7 +187,7 @@ fn set_in(values: &mut [i64], place: usize, value: i64)
     }
 }
 
-fn set_values(cells: &Held, held: &mut [i64], first: u64, values: &[i64])
+fn set_values(cells: &FrameCells, held: &mut [i64], first: u64, values: &[i64])
     ensures { held.new ≡ row_with cells.now held.old first values.now }
 {
     cells.words();
@@ -200,7 +200,7 @@ fn set_values(cells: &Held, held: &mut [i64], first: u64, values: &[i64])
     }
 }
 
-fn clear_values(cells: &Held, held: &mut [i64], first: u32, count: u32)
+fn clear_values(cells: &FrameCells, held: &mut [i64], first: u32, count: u32)
     ensures { held.new ≡ row_with cells.now held.old first (replicate count (pos 0)) }
 {
     for i in 0..count {

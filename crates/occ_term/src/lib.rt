@@ -1,22 +1,18 @@
 //! What a program means: messages, terms, values, private steps, communication and runs, and when a
 //! program keeps the usage rules. The definitions stand in `specs/`, over pure data, through which this
-//! crate's types are seen; [`laws`] and the small programs beside it check them, and [`value_of`] answers
+//! crate's types are seen; [`laws`] and the small programs of [`examples`] check them, and [`value_of`] answers
 //! what an expression is worth.
 #![tactic(auto)]
 
-pub mod alt_rows;
 pub mod constant;
+pub mod examples;
 pub mod expression;
 pub mod fault;
-pub mod first_rows;
 pub mod frame;
-pub mod held;
+pub mod frame_cells;
 pub mod laws;
-pub mod limit_rows;
 pub mod message;
-pub mod more_rows;
 pub mod names;
-pub mod one_result;
 pub mod operator;
 pub mod parts;
 pub mod primitive;
@@ -26,7 +22,6 @@ pub mod term;
 pub mod text;
 pub mod unfolded;
 pub mod value;
-pub mod worked_rows;
 
 pub use constant::{NoValue, constant_value};
 pub use expression::{
@@ -34,12 +29,12 @@ pub use expression::{
 };
 pub use fault::{Errors, Fault, FaultKind};
 pub use frame::Frame;
-pub use held::Held;
+pub use frame_cells::FrameCells;
 pub use message::{Message, Part};
-pub use names::{Cell, Channel, Name};
+pub use names::{Cell, Channel, ERROR, KEYBOARD, MOST_CELLS, Name, SCREEN};
 pub use parts::Parts;
 pub use primitive::{Prim, Primitive};
-pub use protocol::{PartType, Protocol, Tag};
+pub use protocol::{PartType, Protocol, Tag, copy_parts};
 pub use sizes::Sizes;
 pub use term::{Arm, Branch, Choice, Reception, Selection, Term, Variant};
 pub use text::Text;

@@ -11,6 +11,18 @@ use std::alloc::{AllocError, Global};
 use std::marker::Model;
 use std::sync::Arc;
 
+/// How many cells a program may have.
+pub const MOST_CELLS: usize = 65_536;
+
+/// The keyboard's channel.
+pub const KEYBOARD: u32 = 0;
+
+/// The screen's channel.
+pub const SCREEN: u32 = 1;
+
+/// The error channel.
+pub const ERROR: u32 = 2;
+
 /// A declared name; of a component with its subscripts, as `a[2]`. Contracts see its letters. The components of an array
 /// share the letters of its name.
 pub struct Name {

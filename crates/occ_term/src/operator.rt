@@ -23,14 +23,14 @@ pub fn binary(
     ensures { evaluated result ≡ values.binary operator primitive line a b }
 {
     match operator {
-        Operator::Plus => in_type(primitive, line, a + b),
-        Operator::Minus => in_type(primitive, line, a - b),
-        Operator::Times => in_type(primitive, line, a * b),
+        Operator::Add => in_type(primitive, line, a + b),
+        Operator::Subtract => in_type(primitive, line, a - b),
+        Operator::Multiply => in_type(primitive, line, a * b),
         Operator::Divide => divide(primitive, line, a, b),
         Operator::Remainder => remainder(primitive, line, a, b),
-        Operator::PlusModulo => Ok(wrapped(primitive, a + b)),
-        Operator::MinusModulo => Ok(wrapped(primitive, a - b)),
-        Operator::TimesModulo => Ok(wrapped(primitive, a * b)),
+        Operator::Plus => Ok(wrapped(primitive, a + b)),
+        Operator::Minus => Ok(wrapped(primitive, a - b)),
+        Operator::Times => Ok(wrapped(primitive, a * b)),
         Operator::BitAnd => Ok(of_bits(primitive, bits_of(primitive, a) & bits_of(primitive, b))),
         Operator::BitOr => Ok(of_bits(primitive, bits_of(primitive, a) | bits_of(primitive, b))),
         Operator::BitXor => Ok(of_bits(primitive, bits_of(primitive, a) ^ bits_of(primitive, b))),

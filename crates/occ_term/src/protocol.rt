@@ -92,7 +92,8 @@ impl Protocol {
     }
 }
 
-fn copy_parts(alloc: Global, parts: &[PartType]) -> Result<Items<PartType>, AllocError>
+/// Copies of the parts of messages, in order. The error is a refused growth.
+pub fn copy_parts(alloc: Global, parts: &[PartType]) -> Result<Items<PartType>, AllocError>
     ensures { IfOk result (λ copies. copies ≡ parts.now) }
 {
     let mut copies = Items::new(alloc);

@@ -1,7 +1,7 @@
 //! Sizes of arrays.
 ghost use Rattle.std.specs.Prelude.{◌≡◌, [], ◌<◌, ◌^◌, IfOk, IsTrue, ◌↔◌};
 ghost use Rattle.occ_term.specs.Messages.{product};
-ghost use Rattle.occ_term.specs.Rows.{AreFew};
+ghost use Rattle.occ_term.specs.ArraySizes.{AreFew};
 
 use sqlite_items::Items;
 use std::alloc::{AllocError, Global};
@@ -16,7 +16,7 @@ pub struct Sizes {
 
 impl Model for Sizes {
     ghost use Rattle.std.specs.Prelude.{List, ℕ};
-    ghost use Rattle.occ_term.specs.Rows.{AreFew};
+    ghost use Rattle.occ_term.specs.ArraySizes.{AreFew};
 
     ghost Value = { List ℕ };
 

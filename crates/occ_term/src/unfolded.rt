@@ -1,6 +1,6 @@
 //! Unfolded programs.
 ghost use Rattle.std.specs.Prelude.{◌≡◌};
-ghost use Rattle.occ_term.specs.Unfolding.{IsWellFormed};
+ghost use Rattle.occ_term.specs.UnfoldedProgram.{IsWellFormed};
 
 use crate::names::{Cell, Channel};
 use crate::term::Term;
@@ -21,9 +21,9 @@ pub struct Unfolded {
 impl Model for Unfolded {
     ghost use Rattle.std.specs.Coded.{codes};
     ghost use Rattle.occ_term.specs.contracts.term.Term as terms;
-    ghost use Rattle.occ_term.specs.Unfolding.{Unfolding, IsWellFormed};
+    ghost use Rattle.occ_term.specs.UnfoldedProgram.{UnfoldedProgram, IsWellFormed};
 
-    ghost Value = { Unfolding };
+    ghost Value = { UnfoldedProgram };
 
     ghost coded = { Prim.hlevel (codes, terms.the_row.coded) };
 

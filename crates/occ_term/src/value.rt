@@ -3,6 +3,7 @@ ghost use Rattle.std.specs.Prelude.{◌≡◌, ◌<◌, ◌≤◌, ◌+◌, ◌*
 ghost use Rattle.occ_term.specs.Messages as messages;
 ghost use Rattle.occ_term.specs.Values as values;
 ghost use Rattle.occ_term.specs.Frames.{at};
+ghost use Rattle.occ_term.specs.UnfoldedProgram.{most_cells};
 ghost use Rattle.occ_term.specs.View.{expression_of, place_of};
 ghost use Rattle.occ_term.specs.Evaluation.{evaluated, CanBeEvaluated, Bounded, BoundedPlace, FewCells, first_named, first_of_row, letter};
 
@@ -117,7 +118,7 @@ fn row(first: u32, size: u32, others: &[u32], i: u32) -> u32
 
 /// How many components an array of these sizes has, where there are no more than cells.
 fn components(sizes: &[u32]) -> u32
-    ensures { messages.product sizes.now ≤ 65536 → result ≡ messages.product sizes.now }
+    ensures { messages.product sizes.now ≤ most_cells → result ≡ messages.product sizes.now }
 {
     let mut count = 1_u32;
     for size in sizes {

@@ -8,7 +8,7 @@ use Rattle.occ_text.specs.declared.token.Key.TheVariants as k
 use Rattle.occ_text.specs.declared.token.Sym.TheVariants as s
 use Rattle.occ_text.specs.declared.fault.TextFault.{TextFault}
 use Rattle.occ_text.specs.declared.fault.TextFault.TheVariants as faults
-use Rattle.occ_text.specs.Words.{Word, key, mark, Row, row}
+use Rattle.occ_text.specs.Words.{Word, key, mark, LogicalLine, logical_line}
 use Rattle.occ_text.specs.Spelling.{Spells}
 
 -- a physical line with its number
@@ -77,15 +77,15 @@ pub data Continues (level : ℕ) : List Word → List Physical → List Word →
   joined : {n : ℕ} {line : List ℕ} {w : Word} {ws vs all : List Word} {more rest : List Physical} → IsTrue (goes_on ws) → Reads line (w ∷ vs) → 2 * level ≤ indent line → Continues level (ws ++ w ∷ vs) more all rest → Continues level ws ((n, line) ∷ more) all rest
 
 -- The logical lines of physical lines: each has the number of its first one, and half the spaces before that.
-pub data Logical : List Physical → List Row → Type 0 where
+pub data Logical : List Physical → List LogicalLine → Type 0 where
   none : Logical [] []
-  dropped : {n : ℕ} {line : List ℕ} {more : List Physical} {rows : List Row} → Reads line [] → Logical more rows → Logical ((n, line) ∷ more) rows
-  begun : {n level : ℕ} {line : List ℕ} {w : Word} {ws all : List Word} {more rest : List Physical} {rows : List Row} → Reads line (w ∷ ws) → indent line ≡ 2 * level → Continues level (w ∷ ws) more all rest → Logical rest rows → Logical ((n, line) ∷ more) (row n level all ∷ rows)
+  dropped : {n : ℕ} {line : List ℕ} {more : List Physical} {logical_lines : List LogicalLine} → Reads line [] → Logical more logical_lines → Logical ((n, line) ∷ more) logical_lines
+  begun : {n level : ℕ} {line : List ℕ} {w : Word} {ws all : List Word} {more rest : List Physical} {logical_lines : List LogicalLine} → Reads line (w ∷ ws) → indent line ≡ 2 * level → Continues level (w ∷ ws) more all rest → Logical rest logical_lines → Logical ((n, line) ∷ more) (logical_line n level all ∷ logical_lines)
 
 -- The logical lines of a text, whose physical lines, from 1, are cut by `lines`: each ends with LF or CR LF, or with the
 -- text. A text of more than 1,048,576 bytes has none.
-abbrev pub LinesOf : List ℕ → List Row → Type 0
-LinesOf text rows = (length text ≤ 1048576) × Logical (enumerate_from 1 (lines text)) rows
+abbrev pub LinesOf : List ℕ → List LogicalLine → Type 0
+LinesOf text logical_lines = (length text ≤ 1048576) × Logical (enumerate_from 1 (lines text)) logical_lines
 
 -- the answer is so, unless memory ran out
 abbrev pub UnlessMemory : {X : Type 0} → Result X TextFault → (X → Type 0) → Type 0

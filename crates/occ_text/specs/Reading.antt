@@ -14,7 +14,7 @@ use Rattle.occ_text.specs.declared.keyword.TheConstants.{KEYS_A, KEYS_B, KEYS_C,
 use Rattle.occ_text.specs.declared.token.Key.{Key}
 use Rattle.occ_text.specs.declared.token.Sym.{Sym}
 use Rattle.occ_text.specs.declared.token.Sym.TheVariants as s
-use Rattle.occ_text.specs.Words.{Word, key, name, lit, mark, number, byte, text, Row, row}
+use Rattle.occ_text.specs.Words.{Word, key, name, lit, mark, number, byte, text, LogicalLine, logical_line}
 use Rattle.occ_text.specs.Spelling.{is_name_part, is_plain, digit_of, value, escape_of}
 use Rattle.occ_text.specs.Lines.{Physical, begins_comment, goes_on, indent}
 
@@ -187,28 +187,28 @@ words_from (suc skipped) (b ∷ rest) = words_from skipped rest
 words_from zero (b ∷ rest) = if b == 32 then words_from 0 rest else (if begins_comment (b ∷ rest) then Some [] else (word_at (b ∷ rest) >>= λ x. words_from (length rest - length x.1) rest >>= λ ws. Some (x.0 ∷ ws)))
 
 -- the logical line that goes on, if any, after one more physical line
-abbrev pub joined_with : Option Row → ℕ → ℕ → List Word → Option (Option Row)
+abbrev pub joined_with : Option LogicalLine → ℕ → ℕ → List Word → Option (Option LogicalLine)
 joined_with pending n spaces [] = Some pending
-joined_with None n spaces (w ∷ ws) = guard (spaces % 2 == 0) (Some (row n (spaces / 2) (w ∷ ws)))
-joined_with (Some (row m level vs)) n spaces (w ∷ ws) = guard (nat_le level (spaces / 2)) (Some (row m level (vs ++ w ∷ ws)))
+joined_with None n spaces (w ∷ ws) = guard (spaces % 2 == 0) (Some (logical_line n (spaces / 2) (w ∷ ws)))
+joined_with (Some (logical_line m level vs)) n spaces (w ∷ ws) = guard (nat_le level (spaces / 2)) (Some (logical_line m level (vs ++ w ∷ ws)))
 
--- a logical line that does not go on is one of the rows, and one that does is still pending
-abbrev pub finished : Option Row → List Row
+-- a logical line that does not go on is one of the logical lines, and one that does is still pending
+abbrev pub finished : Option LogicalLine → List LogicalLine
 finished None = []
-finished (Some (row n level ws)) = if goes_on ws then [] else row n level ws ∷ []
+finished (Some (logical_line n level ws)) = if goes_on ws then [] else logical_line n level ws ∷ []
 
-abbrev pub unfinished : Option Row → Option Row
+abbrev pub unfinished : Option LogicalLine → Option LogicalLine
 unfinished None = None
-unfinished (Some (row n level ws)) = if goes_on ws then Some (row n level ws) else None
+unfinished (Some (logical_line n level ws)) = if goes_on ws then Some (logical_line n level ws) else None
 
-abbrev pub rows_end : Option Row → Option (List Row)
-rows_end None = Some []
-rows_end (Some r) = None
+abbrev pub logical_lines_end : Option LogicalLine → Option (List LogicalLine)
+logical_lines_end None = Some []
+logical_lines_end (Some r) = None
 
--- the rows of these lines, where a logical line that goes on may stand before them
-unfoldable pub rows_from : Option Row → List Physical → Option (List Row)
-rows_from pending [] = rows_end pending
-rows_from pending (p ∷ more) = words_from 0 p.1 >>= λ ws. joined_with pending p.0 (indent p.1) ws >>= λ next. rows_from (unfinished next) more >>= λ rows. Some (finished next ++ rows)
+-- the logical lines of these lines, where a logical line that goes on may stand before them
+unfoldable pub logical_lines_from : Option LogicalLine → List Physical → Option (List LogicalLine)
+logical_lines_from pending [] = logical_lines_end pending
+logical_lines_from pending (p ∷ more) = words_from 0 p.1 >>= λ ws. joined_with pending p.0 (indent p.1) ws >>= λ next. logical_lines_from (unfinished next) more >>= λ logical_lines. Some (finished next ++ logical_lines)
 
-unfoldable pub lines_at : List ℕ → Option (List Row)
-lines_at bytes = if nat_le (length bytes) 1048576 then rows_from None (enumerate_from 1 (lines bytes)) else None
+unfoldable pub lines_at : List ℕ → Option (List LogicalLine)
+lines_at bytes = if nat_le (length bytes) 1048576 then logical_lines_from None (enumerate_from 1 (lines bytes)) else None

@@ -21,8 +21,8 @@ pub data Word : Type 0 where
   mark : Sym → Word
 
 -- a logical line: its number, its level and its words
-pub data Row : Type 0 where
-  row : (number level : ℕ) → List Word → Row
+pub data LogicalLine : Type 0 where
+  logical_line : (number level : ℕ) → List Word → LogicalLine
 
 -- the word that a token stands for
 abbrev pub word : Token → Word
@@ -37,8 +37,8 @@ abbrev pub words : List Token → List Word
 words = map word
 
 -- the logical line that a line of the code stands for
-abbrev pub row_of : Line → Row
-row_of l = row l.number l.level (words l.words.items)
+abbrev pub logical_line_of : Line → LogicalLine
+logical_line_of l = logical_line l.number l.level (words l.words.items)
 
-abbrev pub rows : List Line → List Row
-rows = map row_of
+abbrev pub logical_lines : List Line → List LogicalLine
+logical_lines = map logical_line_of

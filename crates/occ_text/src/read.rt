@@ -5,9 +5,9 @@ ghost use Rattle.std.specs.List.{enumerate_from};
 ghost use Rattle.std.specs.Str.Lines.{lines, strip_carriage_return};
 ghost use Rattle.occ_text.specs.declared.fault.TextFault.TheVariants.{Memory};
 ghost use Rattle.occ_text.specs.Faults.{BeginsUpTo, Names, NamesLineOf};
-ghost use Rattle.occ_text.specs.Words.{Row, row_of, rows, word, words};
+ghost use Rattle.occ_text.specs.Words.{LogicalLine, logical_line_of, logical_lines, word, words};
 ghost use Rattle.occ_text.specs.Lines.{LinesOf, UnlessMemory, leads_on, goes_on};
-ghost use Rattle.occ_text.specs.Reading.{Gives, finished, joined_with, lines_at, rows_from, unfinished};
+ghost use Rattle.occ_text.specs.Reading.{Gives, finished, joined_with, lines_at, logical_lines_from, unfinished};
 
 use crate::class::{Class, run_len};
 use crate::fault::TextFault;
@@ -113,7 +113,7 @@ fn join(
 ) -> Result<Option<Line>, TextFault>
     requires counted { 1 ≤ number }
     requires before { BeginsUpTo number pending }
-    ensures value { Gives (λ p. option_map row_of p) result (joined_with (option_map row_of pending) number indent (words tokens.items)) }
+    ensures value { Gives (λ p. option_map logical_line_of p) result (joined_with (option_map logical_line_of pending) number indent (words tokens.items)) }
     ensures line { IfErr result (Names number) }
     ensures first { IfOk result (BeginsUpTo number) }
 {
@@ -143,8 +143,8 @@ fn join(
 
 /// Moves the line to the others, unless it goes on.
 fn settle(lines: &mut Vec<Line>, pending: Option<Line>) -> Result<Option<Line>, TextFault>
-    ensures finished { OnOk result (rows lines.new.items ≡ rows lines.old.items ++ finished (option_map row_of pending)) }
-    ensures unfinished { IfOk result (λ p. option_map row_of p ≡ unfinished (option_map row_of pending)) }
+    ensures finished { OnOk result (logical_lines lines.new.items ≡ logical_lines lines.old.items ++ finished (option_map logical_line_of pending)) }
+    ensures unfinished { IfOk result (λ p. option_map logical_line_of p ≡ unfinished (option_map logical_line_of pending)) }
     ensures memory { IfErr result (λ e. e ≡ Memory) }
     ensures first { (n : ℕ) → BeginsUpTo n pending → IfOk result (BeginsUpTo n) }
 {
@@ -175,7 +175,7 @@ fn fault_line(pending: &Option<Line>, number: u32) -> u32
 /// The logical lines of a text that is not too long.
 fn lines_of(alloc: Global, text: &[u8]) -> Result<Vec<Line>, TextFault>
     requires { length text.now ≤ MOST_BYTES }
-    ensures value { Gives (λ v. rows v.items) result (rows_from None (enumerate_from 1 (lines text.now))) }
+    ensures value { Gives (λ v. logical_lines v.items) result (logical_lines_from None (enumerate_from 1 (lines text.now))) }
     ensures line { IfErr result (NamesLineOf text.now) }
 {
     let mut finished = Vec::new(alloc);
@@ -199,7 +199,7 @@ fn lines_of(alloc: Global, text: &[u8]) -> Result<Vec<Line>, TextFault>
 
 #[tactic(auto, unfolding(crate::specs::Reading::lines_at))]
 fn source_of(alloc: Global, text: &[u8]) -> Result<Source, TextFault>
-    ensures value { Gives (λ s. rows s.lines.items) result (lines_at text.now) }
+    ensures value { Gives (λ s. logical_lines s.lines.items) result (lines_at text.now) }
     ensures line { IfErr result (NamesLineOf text.now) }
 {
     if text.len() > MOST_BYTES {
@@ -216,8 +216,8 @@ fn source_of(alloc: Global, text: &[u8]) -> Result<Source, TextFault>
 ///
 /// A [`TextFault`] other than [`TextFault::Memory`] where the text has no logical lines.
 pub fn read_lines(alloc: Global, text: &[u8]) -> Result<Source, TextFault>
-    ensures found { IfOk result (λ s. LinesOf text.now (rows s.lines.items)) }
-    ensures only { (rs : List Row) → LinesOf text.now rs → UnlessMemory result (λ s. rows s.lines.items ≡ rs) }
+    ensures found { IfOk result (λ s. LinesOf text.now (logical_lines s.lines.items)) }
+    ensures only { (rs : List LogicalLine) → LinesOf text.now rs → UnlessMemory result (λ s. logical_lines s.lines.items ≡ rs) }
     ensures line { IfErr result (NamesLineOf text.now) }
 {
     source_of(alloc, text)

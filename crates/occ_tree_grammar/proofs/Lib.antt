@@ -1,3 +1,3 @@
 pub mod Made
-pub mod Rows
+pub mod Children
 mod Readings

@@ -35,64 +35,64 @@ use Rattle.occ_tree_grammar.specs.Lines.Views.{var_of, target_of, replicator_of,
 use Rattle.occ_tree_grammar.specs.Lines.Heads.{act, input_variants, sequence, parallel, alternation, conditional, selection, loop, chosen, nested_conditional, values, otherwise, guarded, guarded_variants, nested_alternation, tag}
 use Rattle.occ_tree_grammar.specs.Lines.HeadViews.{action_of, guard_of}
 use Rattle.occ_tree_grammar.specs.Processes.Trees.{Kind, process, choice, option, arm, variant, Head, under, node, Body, no_body, single_body, bodies, Nodes, more_nodes, nodes, Decls, more_decls, decls, declares, item, value_item, protocol_item, proc_item}
-use Rattle.occ_tree_grammar.specs.Processes.Views.{process_of, choice_of, selection_of, arm_of, variant_of, decl_of, item_of, protocol_of, row_decls, row_processes, row_choices, row_selections, row_arms, row_variants}
+use Rattle.occ_tree_grammar.specs.Processes.Views.{process_of, choice_of, selection_of, arm_of, variant_of, decl_of, item_of, protocol_of, held_decls, held_processes, held_choices, held_selections, held_arms, held_variants}
 
 -- ---- vectors
 
-processes_of_row : {m : _} (k : Row_of-Process m) → row_processes k ≡ nodes (map process_of (items-the_row-Process m k))
-unfolding process_of row_processes
-processes_of_row end_of-Process = refl
-processes_of_row (more_of-Process x k) = ap (more_nodes (process_of x)) (processes_of_row k)
+held_processes_are : {m : _} (k : Row_of-Process m) → held_processes k ≡ nodes (map process_of (items-the_row-Process m k))
+unfolding process_of held_processes
+held_processes_are end_of-Process = refl
+held_processes_are (more_of-Process x k) = ap (more_nodes (process_of x)) (held_processes_are k)
 
-processes_made : (v : Vec ProcessTree Global) → row_processes (hidden-the_row-Process-4 v) ≡ nodes (map process_of v.items)
-processes_made v = processes_of_row (hidden-the_row-Process-4 v) ∙ ap (λ (xs : List ProcessTree). nodes (map process_of xs)) (items_hidden-the_row-Process-4 v)
+processes_made : (v : Vec ProcessTree Global) → held_processes (hidden-the_row-Process-4 v) ≡ nodes (map process_of v.items)
+processes_made v = held_processes_are (hidden-the_row-Process-4 v) ∙ ap (λ (xs : List ProcessTree). nodes (map process_of xs)) (items_hidden-the_row-Process-4 v)
 
-choices_of_row : {m : _} (k : Row_of-Choice m) → row_choices k ≡ nodes (map choice_of (items-the_row-Choice m k))
-unfolding choice_of row_choices
-choices_of_row end_of-Choice = refl
-choices_of_row (more_of-Choice x k) = ap (more_nodes (choice_of x)) (choices_of_row k)
+held_choices_are : {m : _} (k : Row_of-Choice m) → held_choices k ≡ nodes (map choice_of (items-the_row-Choice m k))
+unfolding choice_of held_choices
+held_choices_are end_of-Choice = refl
+held_choices_are (more_of-Choice x k) = ap (more_nodes (choice_of x)) (held_choices_are k)
 
-choices_made : (v : Vec ChoiceTree Global) → row_choices (hidden-the_row-Choice-3 v) ≡ nodes (map choice_of v.items)
-choices_made v = choices_of_row (hidden-the_row-Choice-3 v) ∙ ap (λ (xs : List ChoiceTree). nodes (map choice_of xs)) (items_hidden-the_row-Choice-3 v)
+choices_made : (v : Vec ChoiceTree Global) → held_choices (hidden-the_row-Choice-3 v) ≡ nodes (map choice_of v.items)
+choices_made v = held_choices_are (hidden-the_row-Choice-3 v) ∙ ap (λ (xs : List ChoiceTree). nodes (map choice_of xs)) (items_hidden-the_row-Choice-3 v)
 
-selections_of_row : {m : _} (k : Row_of-Selection m) → row_selections k ≡ nodes (map selection_of (items-the_row-Selection m k))
-unfolding selection_of row_selections
-selections_of_row end_of-Selection = refl
-selections_of_row (more_of-Selection x k) = ap (more_nodes (selection_of x)) (selections_of_row k)
+held_selections_are : {m : _} (k : Row_of-Selection m) → held_selections k ≡ nodes (map selection_of (items-the_row-Selection m k))
+unfolding selection_of held_selections
+held_selections_are end_of-Selection = refl
+held_selections_are (more_of-Selection x k) = ap (more_nodes (selection_of x)) (held_selections_are k)
 
-selections_made : (v : Vec SelectionTree Global) → row_selections (hidden-the_row-Selection-5 v) ≡ nodes (map selection_of v.items)
-selections_made v = selections_of_row (hidden-the_row-Selection-5 v) ∙ ap (λ (xs : List SelectionTree). nodes (map selection_of xs)) (items_hidden-the_row-Selection-5 v)
+selections_made : (v : Vec SelectionTree Global) → held_selections (hidden-the_row-Selection-5 v) ≡ nodes (map selection_of v.items)
+selections_made v = held_selections_are (hidden-the_row-Selection-5 v) ∙ ap (λ (xs : List SelectionTree). nodes (map selection_of xs)) (items_hidden-the_row-Selection-5 v)
 
-arms_of_row : {m : _} (k : Row_of-Arm m) → row_arms k ≡ nodes (map arm_of (items-the_row-Arm m k))
-unfolding arm_of row_arms
-arms_of_row end_of-Arm = refl
-arms_of_row (more_of-Arm x k) = ap (more_nodes (arm_of x)) (arms_of_row k)
+held_arms_are : {m : _} (k : Row_of-Arm m) → held_arms k ≡ nodes (map arm_of (items-the_row-Arm m k))
+unfolding arm_of held_arms
+held_arms_are end_of-Arm = refl
+held_arms_are (more_of-Arm x k) = ap (more_nodes (arm_of x)) (held_arms_are k)
 
-arms_made : (v : Vec ArmTree Global) → row_arms (hidden-the_row-Arm-2 v) ≡ nodes (map arm_of v.items)
-arms_made v = arms_of_row (hidden-the_row-Arm-2 v) ∙ ap (λ (xs : List ArmTree). nodes (map arm_of xs)) (items_hidden-the_row-Arm-2 v)
+arms_made : (v : Vec ArmTree Global) → held_arms (hidden-the_row-Arm-2 v) ≡ nodes (map arm_of v.items)
+arms_made v = held_arms_are (hidden-the_row-Arm-2 v) ∙ ap (λ (xs : List ArmTree). nodes (map arm_of xs)) (items_hidden-the_row-Arm-2 v)
 
-variants_of_row : {m : _} (k : Row_of-Variant m) → row_variants k ≡ nodes (map variant_of (items-the_row-Variant m k))
-unfolding variant_of row_variants
-variants_of_row end_of-Variant = refl
-variants_of_row (more_of-Variant x k) = ap (more_nodes (variant_of x)) (variants_of_row k)
+held_variants_are : {m : _} (k : Row_of-Variant m) → held_variants k ≡ nodes (map variant_of (items-the_row-Variant m k))
+unfolding variant_of held_variants
+held_variants_are end_of-Variant = refl
+held_variants_are (more_of-Variant x k) = ap (more_nodes (variant_of x)) (held_variants_are k)
 
-variants_made : (v : Vec VariantTree Global) → row_variants (hidden-the_row-Variant-1 v) ≡ nodes (map variant_of v.items)
-variants_made v = variants_of_row (hidden-the_row-Variant-1 v) ∙ ap (λ (xs : List VariantTree). nodes (map variant_of xs)) (items_hidden-the_row-Variant-1 v)
+variants_made : (v : Vec VariantTree Global) → held_variants (hidden-the_row-Variant-1 v) ≡ nodes (map variant_of v.items)
+variants_made v = held_variants_are (hidden-the_row-Variant-1 v) ∙ ap (λ (xs : List VariantTree). nodes (map variant_of xs)) (items_hidden-the_row-Variant-1 v)
 
-decls_of_row : {m : _} (k : Row_of-Decl m) → row_decls k ≡ decls (map decl_of (items-the_row-Decl m k))
-unfolding decl_of row_decls
-decls_of_row end_of-Decl = refl
-decls_of_row (more_of-Decl x k) = ap (more_decls (decl_of x)) (decls_of_row k)
+held_decls_are : {m : _} (k : Row_of-Decl m) → held_decls k ≡ decls (map decl_of (items-the_row-Decl m k))
+unfolding decl_of held_decls
+held_decls_are end_of-Decl = refl
+held_decls_are (more_of-Decl x k) = ap (more_decls (decl_of x)) (held_decls_are k)
 
-decls_made : (v : Vec DeclTree Global) → row_decls (hidden-the_row-Decl-0 v) ≡ decls (map decl_of v.items)
-decls_made v = decls_of_row (hidden-the_row-Decl-0 v) ∙ ap (λ (xs : List DeclTree). decls (map decl_of xs)) (items_hidden-the_row-Decl-0 v)
+decls_made : (v : Vec DeclTree Global) → held_decls (hidden-the_row-Decl-0 v) ≡ decls (map decl_of v.items)
+decls_made v = held_decls_are (hidden-the_row-Decl-0 v) ∙ ap (λ (xs : List DeclTree). decls (map decl_of xs)) (items_hidden-the_row-Decl-0 v)
 
 -- the declarations that code has read
 abbrev pub declared : Vec DeclTree Global → Decls
 declared ds = decls (map decl_of ds.items)
 
 -- a node with the declarations of a vector, and one with the nodes of a vector under it
-with_decls : {k : Kind} (ds : Vec DeclTree Global) (l : ℕ) (h : Head k) (body : Body (under k h)) → node {k = k} (row_decls (hidden-the_row-Decl-0 ds)) l h body ≡ node (declared ds) l h body
+with_decls : {k : Kind} (ds : Vec DeclTree Global) (l : ℕ) (h : Head k) (body : Body (under k h)) → node {k = k} (held_decls (hidden-the_row-Decl-0 ds)) l h body ≡ node (declared ds) l h body
 with_decls {k} ds l h body = ap (λ (t : Decls). node {k = k} t l h body) (decls_made ds)
 
 -- ---- processes
@@ -103,11 +103,11 @@ process_action ds l a = with_decls {k = process} ds l (act (action_of a.value)) 
 
 pub process_seq : (ds : Vec DeclTree Global) (l : ℕ) (ps : Vec ProcessTree Global) → process_of (processes.Declared ds l (stmts.Seq ps)) ≡ node {k = process} (declared ds) l (sequence None) (bodies (nodes (map process_of ps.items)))
 unfolding process_of
-process_seq ds l ps = with_decls {k = process} ds l (sequence None) (bodies (row_processes (hidden-the_row-Process-4 ps))) ∙ ap (λ (t : Nodes process). node {k = process} (declared ds) l (sequence None) (bodies t)) (processes_made ps)
+process_seq ds l ps = with_decls {k = process} ds l (sequence None) (bodies (held_processes (hidden-the_row-Process-4 ps))) ∙ ap (λ (t : Nodes process). node {k = process} (declared ds) l (sequence None) (bodies t)) (processes_made ps)
 
 pub process_par : (ds : Vec DeclTree Global) (l : ℕ) (ps : Vec ProcessTree Global) → process_of (processes.Declared ds l (stmts.Par ps)) ≡ node {k = process} (declared ds) l (parallel None) (bodies (nodes (map process_of ps.items)))
 unfolding process_of
-process_par ds l ps = with_decls {k = process} ds l (parallel None) (bodies (row_processes (hidden-the_row-Process-4 ps))) ∙ ap (λ (t : Nodes process). node {k = process} (declared ds) l (parallel None) (bodies t)) (processes_made ps)
+process_par ds l ps = with_decls {k = process} ds l (parallel None) (bodies (held_processes (hidden-the_row-Process-4 ps))) ∙ ap (λ (t : Nodes process). node {k = process} (declared ds) l (parallel None) (bodies t)) (processes_made ps)
 
 pub process_seq_for : (ds : Vec DeclTree Global) (l : ℕ) (r : Box Replicator Global) (p : Box ProcessTree Global) → process_of (processes.Declared ds l (stmts.SeqFor r p)) ≡ node {k = process} (declared ds) l (sequence (Some (replicator_of r.value))) (single_body (process_of p.value))
 unfolding process_of
@@ -119,7 +119,7 @@ process_par_for ds l r p = with_decls {k = process} ds l (parallel (Some (replic
 
 pub process_alt : (ds : Vec DeclTree Global) (l : ℕ) (pri : Bool) (ms : Vec ArmTree Global) → process_of (processes.Declared ds l (stmts.Alt pri ms)) ≡ node {k = process} (declared ds) l (alternation pri None) (bodies (nodes (map arm_of ms.items)))
 unfolding process_of
-process_alt ds l pri ms = with_decls {k = process} ds l (alternation pri None) (bodies (row_arms (hidden-the_row-Arm-2 ms))) ∙ ap (λ (t : Nodes arm). node {k = process} (declared ds) l (alternation pri None) (bodies t)) (arms_made ms)
+process_alt ds l pri ms = with_decls {k = process} ds l (alternation pri None) (bodies (held_arms (hidden-the_row-Arm-2 ms))) ∙ ap (λ (t : Nodes arm). node {k = process} (declared ds) l (alternation pri None) (bodies t)) (arms_made ms)
 
 pub process_alt_for : (ds : Vec DeclTree Global) (l : ℕ) (pri : Bool) (r : Box Replicator Global) (m : Box ArmTree Global) → process_of (processes.Declared ds l (stmts.AltFor pri r m)) ≡ node {k = process} (declared ds) l (alternation pri (Some (replicator_of r.value))) (single_body (arm_of m.value))
 unfolding process_of
@@ -127,7 +127,7 @@ process_alt_for ds l pri r m = with_decls {k = process} ds l (alternation pri (S
 
 pub process_if : (ds : Vec DeclTree Global) (l : ℕ) (cs : Vec ChoiceTree Global) → process_of (processes.Declared ds l (stmts.If cs)) ≡ node {k = process} (declared ds) l (conditional None) (bodies (nodes (map choice_of cs.items)))
 unfolding process_of
-process_if ds l cs = with_decls {k = process} ds l (conditional None) (bodies (row_choices (hidden-the_row-Choice-3 cs))) ∙ ap (λ (t : Nodes choice). node {k = process} (declared ds) l (conditional None) (bodies t)) (choices_made cs)
+process_if ds l cs = with_decls {k = process} ds l (conditional None) (bodies (held_choices (hidden-the_row-Choice-3 cs))) ∙ ap (λ (t : Nodes choice). node {k = process} (declared ds) l (conditional None) (bodies t)) (choices_made cs)
 
 pub process_if_for : (ds : Vec DeclTree Global) (l : ℕ) (r : Box Replicator Global) (c : Box ChoiceTree Global) → process_of (processes.Declared ds l (stmts.IfFor r c)) ≡ node {k = process} (declared ds) l (conditional (Some (replicator_of r.value))) (single_body (choice_of c.value))
 unfolding process_of
@@ -135,7 +135,7 @@ process_if_for ds l r c = with_decls {k = process} ds l (conditional (Some (repl
 
 pub process_case : (ds : Vec DeclTree Global) (l : ℕ) (e : Box Expr Global) (os : Vec SelectionTree Global) → process_of (processes.Declared ds l (stmts.Case e os)) ≡ node {k = process} (declared ds) l (selection (expression_of e.value)) (bodies (nodes (map selection_of os.items)))
 unfolding process_of
-process_case ds l e os = with_decls {k = process} ds l (selection (expression_of e.value)) (bodies (row_selections (hidden-the_row-Selection-5 os))) ∙ ap (λ (t : Nodes option). node {k = process} (declared ds) l (selection (expression_of e.value)) (bodies t)) (selections_made os)
+process_case ds l e os = with_decls {k = process} ds l (selection (expression_of e.value)) (bodies (held_selections (hidden-the_row-Selection-5 os))) ∙ ap (λ (t : Nodes option). node {k = process} (declared ds) l (selection (expression_of e.value)) (bodies t)) (selections_made os)
 
 pub process_while : (ds : Vec DeclTree Global) (l : ℕ) (e : Box Expr Global) (p : Box ProcessTree Global) → process_of (processes.Declared ds l (stmts.While e p)) ≡ node {k = process} (declared ds) l (loop (expression_of e.value)) (single_body (process_of p.value))
 unfolding process_of
@@ -143,7 +143,7 @@ process_while ds l e p = with_decls {k = process} ds l (loop (expression_of e.va
 
 pub process_variants : (ds : Vec DeclTree Global) (l : ℕ) (v : Var) (vs : Vec VariantTree Global) → process_of (processes.Declared ds l (stmts.Variants v vs)) ≡ node {k = process} (declared ds) l (input_variants (var_of v)) (bodies (nodes (map variant_of vs.items)))
 unfolding process_of
-process_variants ds l v vs = with_decls {k = process} ds l (input_variants (var_of v)) (bodies (row_variants (hidden-the_row-Variant-1 vs))) ∙ ap (λ (t : Nodes variant). node {k = process} (declared ds) l (input_variants (var_of v)) (bodies t)) (variants_made vs)
+process_variants ds l v vs = with_decls {k = process} ds l (input_variants (var_of v)) (bodies (held_variants (hidden-the_row-Variant-1 vs))) ∙ ap (λ (t : Nodes variant). node {k = process} (declared ds) l (input_variants (var_of v)) (bodies t)) (variants_made vs)
 
 -- ---- choices and options
 
@@ -153,7 +153,7 @@ choice_when ds l e p = with_decls {k = choice} ds l (chosen (expression_of e.val
 
 pub choice_if : (ds : Vec DeclTree Global) (l : ℕ) (cs : Vec ChoiceTree Global) → choice_of (choices.InnerIf ds l cs) ≡ node {k = choice} (declared ds) l (nested_conditional None) (bodies (nodes (map choice_of cs.items)))
 unfolding choice_of
-choice_if ds l cs = with_decls {k = choice} ds l (nested_conditional None) (bodies (row_choices (hidden-the_row-Choice-3 cs))) ∙ ap (λ (t : Nodes choice). node {k = choice} (declared ds) l (nested_conditional None) (bodies t)) (choices_made cs)
+choice_if ds l cs = with_decls {k = choice} ds l (nested_conditional None) (bodies (held_choices (hidden-the_row-Choice-3 cs))) ∙ ap (λ (t : Nodes choice). node {k = choice} (declared ds) l (nested_conditional None) (bodies t)) (choices_made cs)
 
 pub choice_if_for : (ds : Vec DeclTree Global) (l : ℕ) (r : Box Replicator Global) (c : Box ChoiceTree Global) → choice_of (choices.InnerIfFor ds l r c) ≡ node {k = choice} (declared ds) l (nested_conditional (Some (replicator_of r.value))) (single_body (choice_of c.value))
 unfolding choice_of
@@ -175,11 +175,11 @@ arm_guarded ds l g p = with_decls {k = arm} ds l (guarded (guard_of g.value)) (s
 
 pub arm_variants : (ds : Vec DeclTree Global) (l : ℕ) (g : Box VariantGuard Global) (vs : Vec VariantTree Global) → arm_of (arms.OnVariant ds l g vs) ≡ node {k = arm} (declared ds) l (guarded_variants (option_map expression_of g.value.condition) (var_of g.value.channel)) (bodies (nodes (map variant_of vs.items)))
 unfolding arm_of
-arm_variants ds l g vs = with_decls {k = arm} ds l (guarded_variants (option_map expression_of g.value.condition) (var_of g.value.channel)) (bodies (row_variants (hidden-the_row-Variant-1 vs))) ∙ ap (λ (t : Nodes variant). node {k = arm} (declared ds) l (guarded_variants (option_map expression_of g.value.condition) (var_of g.value.channel)) (bodies t)) (variants_made vs)
+arm_variants ds l g vs = with_decls {k = arm} ds l (guarded_variants (option_map expression_of g.value.condition) (var_of g.value.channel)) (bodies (held_variants (hidden-the_row-Variant-1 vs))) ∙ ap (λ (t : Nodes variant). node {k = arm} (declared ds) l (guarded_variants (option_map expression_of g.value.condition) (var_of g.value.channel)) (bodies t)) (variants_made vs)
 
 pub arm_alt : (ds : Vec DeclTree Global) (l : ℕ) (pri : Bool) (ms : Vec ArmTree Global) → arm_of (arms.InnerAlt ds l pri ms) ≡ node {k = arm} (declared ds) l (nested_alternation pri None) (bodies (nodes (map arm_of ms.items)))
 unfolding arm_of
-arm_alt ds l pri ms = with_decls {k = arm} ds l (nested_alternation pri None) (bodies (row_arms (hidden-the_row-Arm-2 ms))) ∙ ap (λ (t : Nodes arm). node {k = arm} (declared ds) l (nested_alternation pri None) (bodies t)) (arms_made ms)
+arm_alt ds l pri ms = with_decls {k = arm} ds l (nested_alternation pri None) (bodies (held_arms (hidden-the_row-Arm-2 ms))) ∙ ap (λ (t : Nodes arm). node {k = arm} (declared ds) l (nested_alternation pri None) (bodies t)) (arms_made ms)
 
 pub arm_alt_for : (ds : Vec DeclTree Global) (l : ℕ) (pri : Bool) (r : Box Replicator Global) (m : Box ArmTree Global) → arm_of (arms.InnerAltFor ds l pri r m) ≡ node {k = arm} (declared ds) l (nested_alternation pri (Some (replicator_of r.value))) (single_body (arm_of m.value))
 unfolding arm_of

@@ -6,6 +6,7 @@
 
 pub mod expressions;
 mod fault;
+pub mod limits;
 pub mod lines;
 pub mod tree;
 

@@ -44,14 +44,14 @@ dyadic_clear dyadics.ShiftLeft ws = refl
 dyadic_clear dyadics.ShiftRight ws = refl
 dyadic_clear dyadics.After ws = refl
 dyadic_clear dyadics.Equal ws = refl
-dyadic_clear dyadics.NotEqual ws = refl
+dyadic_clear dyadics.Unequal ws = refl
 dyadic_clear dyadics.Less ws = refl
 dyadic_clear dyadics.Greater ws = refl
-dyadic_clear dyadics.LessEqual ws = refl
-dyadic_clear dyadics.GreaterEqual ws = refl
+dyadic_clear dyadics.AtMost ws = refl
+dyadic_clear dyadics.AtLeast ws = refl
 
 monadic_clear : (m : Monadic) (ws : List Word) → has_colon (monadic_word m ∷ ws) ≡ has_colon ws
-monadic_clear monadics.Minus ws = refl
+monadic_clear monadics.Negate ws = refl
 monadic_clear monadics.Tilde ws = refl
 monadic_clear monadics.BitNot ws = refl
 monadic_clear monadics.Not ws = refl
@@ -108,7 +108,7 @@ not_declared : (e : Expression) (ws : List Word) → has_colon ws ≡ false → 
 unfolding declares Clear
 not_declared (alone a) ws h = operand_front a ws
 not_declared (two a d b) ws h = ap declares (append_assoc (show_operand a) (dyadic_word d ∷ show_operand b) ws) ∙ operand_front a (dyadic_word d ∷ show_operand b ++ ws)
-not_declared (one monadics.Minus a) ws h = refl
+not_declared (one monadics.Negate a) ws h = refl
 not_declared (one monadics.Tilde a) ws h = refl
 not_declared (one monadics.BitNot a) ws h = refl
 not_declared (one monadics.Not a) ws h = refl

@@ -30,7 +30,7 @@ prim_again prims.Byte ws = refl
 prim_again prims.Int ws = refl
 
 starts_monadic : (m : Monadic) → start_of (monadic_word m) ≡ starts.Monadic m
-starts_monadic monadics.Minus = refl
+starts_monadic monadics.Negate = refl
 starts_monadic monadics.Tilde = refl
 starts_monadic monadics.BitNot = refl
 starts_monadic monadics.Not = refl
@@ -61,11 +61,11 @@ links_dyadic dyadics.ShiftLeft = (refl, refl)
 links_dyadic dyadics.ShiftRight = (refl, refl)
 links_dyadic dyadics.After = (refl, refl)
 links_dyadic dyadics.Equal = (refl, refl)
-links_dyadic dyadics.NotEqual = (refl, refl)
+links_dyadic dyadics.Unequal = (refl, refl)
 links_dyadic dyadics.Less = (refl, refl)
 links_dyadic dyadics.Greater = (refl, refl)
-links_dyadic dyadics.LessEqual = (refl, refl)
-links_dyadic dyadics.GreaterEqual = (refl, refl)
+links_dyadic dyadics.AtMost = (refl, refl)
+links_dyadic dyadics.AtLeast = (refl, refl)
 
 links_logic : (l : Logic) → (link_of (logic_word l) ≡ links.Logic l) × (opens (logic_word l) ≡ false)
 links_logic logics.And = (refl, refl)

@@ -156,7 +156,7 @@ operand_begins (parens e) ws = refl
 pub expression_begins : (e : Expression) (ws : List Word) → Begins (show_expression e ++ ws)
 expression_begins (alone a) ws = operand_begins a ws
 expression_begins (two a d b) ws = rw (append_assoc (show_operand a) (dyadic_word d ∷ show_operand b) ws) (operand_begins a (dyadic_word d ∷ show_operand b ++ ws))
-expression_begins (one monadics.Minus a) ws = refl
+expression_begins (one monadics.Negate a) ws = refl
 expression_begins (one monadics.Tilde a) ws = refl
 expression_begins (one monadics.BitNot a) ws = refl
 expression_begins (one monadics.Not a) ws = refl

@@ -1,7 +1,7 @@
 //! Laws of the written form, which no code uses.
 
 ghost use Rattle.std.specs.Prelude.{◌≡◌, ◌<◌, ℕ, Some, List, ◌++◌};
-ghost use Rattle.occ_text.specs.Words.{Word, Row};
+ghost use Rattle.occ_text.specs.Words.{Word, LogicalLine};
 ghost use Rattle.occ_tree_grammar.specs.Lists.{Each};
 ghost use Rattle.occ_tree_grammar.specs.Expressions.Trees.{Expression};
 ghost use Rattle.occ_tree_grammar.specs.Expressions.Shown.{show_expression, depth, Narrow};
@@ -21,7 +21,7 @@ pub fn one_form()
 /// A text that is read is shown so and keeps to the bounds, and a text that keeps to them and is
 /// shown is read again.
 pub fn reading()
-    ensures sound { (b n : ℕ) (rows : List Row) (p : List Item) → program_at b n rows ≡ Some p → (rows ≡ show_program p) × Each (FitsItem b n) p }
+    ensures sound { (b n : ℕ) (lines : List LogicalLine) (p : List Item) → program_at b n lines ≡ Some p → (lines ≡ show_program p) × Each (FitsItem b n) p }
     ensures again { (b n : ℕ) (p : List Item) → 0 < b → Each (FitsItem b n) p → program_at b n (show_program p) ≡ Some p }
 {}
 

@@ -1,6 +1,6 @@
 //! Reading the first lines of declarations.
 
-ghost use Rattle.std.specs.Prelude.{◌≡◌, map, option_map};
+ghost use Rattle.std.specs.Prelude.{◌≡◌, ◌+◌, map, option_map};
 ghost use Rattle.occ_text.specs.Words.{words};
 ghost use Rattle.occ_tree_grammar.specs.Many.{ended};
 ghost use Rattle.occ_tree_grammar.specs.Expressions.Trees.{expression_of, expressions};
@@ -9,16 +9,18 @@ ghost use Rattle.occ_tree_grammar.specs.Lines.Views.{part_of, sort_of, value_typ
 ghost use Rattle.occ_tree_grammar.specs.Lines.Heads.{names as the_names, value as the_value, parts as the_parts};
 ghost use Rattle.occ_tree_grammar.specs.Lines.HeadViews.{decl_head_of, tag_head_of};
 ghost use Rattle.occ_tree_grammar.specs.Lines.HeadReading.{names_at, sort_at, named_value_at, value_at, protocol_at, procedure_at, declared_at, decl_head_at, tag_head_at, has_colon, declares};
+ghost use Rattle.occ_tree_grammar.specs.declared.limits.TheConstants.{MOST_LEVELS};
 
 use occ_text::{Key, Sym, Token};
 use occ_tree_grammar::ParseFault;
 use occ_tree_grammar::lines::head::{DeclHead, TagHead};
+use occ_tree_grammar::lines::separator::Separator;
 use occ_tree_grammar::tree::expr::Expr;
 use occ_tree_grammar::tree::line::{OneOrMore, Part, Sort, ValueType};
 use occ_tree_parts::expressions::symbol::prim;
 use occ_tree_parts::item::expression;
 use occ_tree_parts::kind::{carried, declared_sizes, formals, part, value_type};
-use occ_tree_parts::list::{names, parts};
+use occ_tree_parts::list::further;
 use occ_tree_parts::word::{colon, is, name};
 use std::alloc::Global;
 
@@ -80,10 +82,10 @@ fn declared_names(
     sort: Sort,
     tokens: &[Token],
 ) -> Result<DeclHead, ParseFault>
-    ensures { Gives decl_head_of result (names_at 65 (expressions (map expression_of sizes.items)) (sort_of sort) (words tokens.now)) }
+    ensures { Gives decl_head_of result (names_at (MOST_LEVELS + 1) (expressions (map expression_of sizes.items)) (sort_of sort) (words tokens.now)) }
 {
     let (first, rest) = name(alloc, line, tokens)?;
-    let (others, rest) = names(alloc, line, rest)?;
+    let (others, rest) = further::<Vec<u8>>(alloc, Separator::Comma, line, rest)?;
     let rest = colon(line, rest)?;
     only_names(alloc, line, sizes, sort, OneOrMore { first, others }, rest)
 }
@@ -95,7 +97,7 @@ fn behind_sizes(
     sizes: Vec<Expr>,
     tokens: &[Token],
 ) -> Result<DeclHead, ParseFault>
-    ensures { Gives decl_head_of result (sort_at 65 (expressions (map expression_of sizes.items)) (words tokens.now)) }
+    ensures { Gives decl_head_of result (sort_at (MOST_LEVELS + 1) (expressions (map expression_of sizes.items)) (words tokens.now)) }
 {
     match tokens {
         [Token::Key(Key::Chan), Token::Key(Key::Of), rest @ ..] => {
@@ -115,7 +117,7 @@ fn named_value(
     of: Option<ValueType>,
     tokens: &[Token],
 ) -> Result<DeclHead, ParseFault>
-    ensures { Gives decl_head_of result (named_value_at 65 (option_map value_type_of of) (words tokens.now)) }
+    ensures { Gives decl_head_of result (named_value_at (MOST_LEVELS + 1) (option_map value_type_of of) (words tokens.now)) }
 {
     let (name, rest) = name(alloc, line, tokens)?;
     let rest = is(line, rest)?;
@@ -126,7 +128,7 @@ fn named_value(
 
 /// What follows `VAL`.
 fn behind_val(alloc: Global, line: u32, tokens: &[Token]) -> Result<DeclHead, ParseFault>
-    ensures { Gives decl_head_of result (value_at 65 (words tokens.now)) }
+    ensures { Gives decl_head_of result (value_at (MOST_LEVELS + 1) (words tokens.now)) }
 {
     match tokens {
         [Token::Name(_), ..] => named_value(alloc, line, None, tokens),
@@ -139,13 +141,13 @@ fn behind_val(alloc: Global, line: u32, tokens: &[Token]) -> Result<DeclHead, Pa
 
 /// What follows `PROTOCOL`.
 fn behind_protocol(alloc: Global, line: u32, tokens: &[Token]) -> Result<DeclHead, ParseFault>
-    ensures { Gives decl_head_of result (protocol_at 65 (words tokens.now)) }
+    ensures { Gives decl_head_of result (protocol_at (MOST_LEVELS + 1) (words tokens.now)) }
 {
     match tokens {
         [Token::Name(name)] => Ok(DeclHead::Tags(Vec::from_slice(alloc, name)?)),
         [Token::Name(name), Token::Key(Key::Is), rest @ ..] => {
             let (first, rest) = part(alloc, line, rest)?;
-            let (others, rest) = parts(alloc, line, rest)?;
+            let (others, rest) = further::<Part>(alloc, Separator::Semicolon, line, rest)?;
             let rest = colon(line, rest)?;
             let name = Vec::from_slice(alloc, name)?;
             only_parts(alloc, line, name, OneOrMore { first, others }, rest)
@@ -156,7 +158,7 @@ fn behind_protocol(alloc: Global, line: u32, tokens: &[Token]) -> Result<DeclHea
 
 /// What follows `PROC`.
 fn behind_proc(alloc: Global, line: u32, tokens: &[Token]) -> Result<DeclHead, ParseFault>
-    ensures { Gives decl_head_of result (procedure_at 65 (words tokens.now)) }
+    ensures { Gives decl_head_of result (procedure_at (MOST_LEVELS + 1) (words tokens.now)) }
 {
     match tokens {
         [Token::Name(name), Token::Sym(Sym::OpenParen), rest @ ..] => {
@@ -172,7 +174,7 @@ fn behind_proc(alloc: Global, line: u32, tokens: &[Token]) -> Result<DeclHead, P
 }
 
 fn declared(alloc: Global, line: u32, tokens: &[Token]) -> Result<DeclHead, ParseFault>
-    ensures { Gives decl_head_of result (declared_at 65 (words tokens.now)) }
+    ensures { Gives decl_head_of result (declared_at (MOST_LEVELS + 1) (words tokens.now)) }
 {
     let (sizes, rest) = declared_sizes(alloc, line, tokens)?;
     behind_sizes(alloc, line, sizes, rest)
@@ -181,7 +183,7 @@ fn declared(alloc: Global, line: u32, tokens: &[Token]) -> Result<DeclHead, Pars
 /// The first line of a declaration. At most 64 brackets stand open at one place.
 #[tactic(auto, unfolding(occ_tree_grammar::specs::Lines::HeadReading::decl_head_at))]
 pub fn decl_head(alloc: Global, line: u32, tokens: &[Token]) -> Result<DeclHead, ParseFault>
-    ensures { Gives decl_head_of result (decl_head_at 65 (words tokens.now)) }
+    ensures { Gives decl_head_of result (decl_head_at (MOST_LEVELS + 1) (words tokens.now)) }
 {
     match tokens {
         [Token::Key(Key::Val), rest @ ..] => behind_val(alloc, line, rest),
@@ -194,11 +196,11 @@ pub fn decl_head(alloc: Global, line: u32, tokens: &[Token]) -> Result<DeclHead,
 /// A line of a protocol of variants.
 #[tactic(auto, unfolding(occ_tree_grammar::specs::Lines::HeadReading::tag_head_at))]
 pub fn tag_head(alloc: Global, line: u32, tokens: &[Token]) -> Result<TagHead, ParseFault>
-    ensures { Gives tag_head_of result (tag_head_at 65 (words tokens.now)) }
+    ensures { Gives tag_head_of result (tag_head_at (MOST_LEVELS + 1) (words tokens.now)) }
 {
     match tokens {
         [Token::Name(tag), rest @ ..] => {
-            let (parts, rest) = parts(alloc, line, rest)?;
+            let (parts, rest) = further::<Part>(alloc, Separator::Semicolon, line, rest)?;
             let tag = Vec::from_slice(alloc, tag)?;
             match rest {
                 [] => Ok(TagHead { tag, parts }),

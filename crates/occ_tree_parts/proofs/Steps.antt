@@ -1,6 +1,6 @@
 -- One level of brackets, and one level of lines.
 use Rattle.std.proofs.Common.{◌≡◌, ◌≢◌, ℕ, zero, suc, ◌+◌, ◌-◌, List, Option, None, refl, arith}
-use Rattle.occ_text.specs.Words.{Word, Row}
+use Rattle.occ_text.specs.Words.{Word, LogicalLine}
 use Rattle.occ_tree_grammar.specs.declared.fault.ParseFault.{ParseFault}
 use Rattle.occ_tree_grammar.specs.declared.fault.ParseFault.TheVariants.{Memory, Unexpected, Level, Missing, TooDeep}
 use Rattle.occ_tree_grammar.specs.Expressions.Reading.{Fails, expression_with, expression_at}
@@ -20,35 +20,35 @@ next_level (suc n) ws ne = let k : suc n - 1 ≡ n = omega arith in rw k refl
 
 -- ---- one level of lines
 
-pub no_tag : (b n level : ℕ) (rows : List Row) → n ≡ 0 → tag_at b n level rows ≡ None
+pub no_tag : (b n level : ℕ) (lines : List LogicalLine) → n ≡ 0 → tag_at b n level lines ≡ None
 unfolding tag_at
-no_tag b zero level rows e = refl
-no_tag b (suc n) level rows e = absurd (omega arith)
+no_tag b zero level lines e = refl
+no_tag b (suc n) level lines e = absurd (omega arith)
 
-pub next_tag : (b n level : ℕ) (rows : List Row) → n ≢ 0 → tag_at b n level rows ≡ tag_with b level rows
+pub next_tag : (b n level : ℕ) (lines : List LogicalLine) → n ≢ 0 → tag_at b n level lines ≡ tag_with b level lines
 unfolding tag_at
-next_tag b zero level rows ne = absurd (omega arith)
-next_tag b (suc n) level rows ne = refl
+next_tag b zero level lines ne = absurd (omega arith)
+next_tag b (suc n) level lines ne = refl
 
-pub no_tags : (b n level l : ℕ) (v : List ℕ) (rows : List Row) → n ≡ 0 → tags_at b n level l v rows ≡ None
+pub no_tags : (b n level l : ℕ) (v : List ℕ) (lines : List LogicalLine) → n ≡ 0 → tags_at b n level l v lines ≡ None
 unfolding tags_at
-no_tags b zero level l v rows e = refl
-no_tags b (suc n) level l v rows e = absurd (omega arith)
+no_tags b zero level l v lines e = refl
+no_tags b (suc n) level l v lines e = absurd (omega arith)
 
-pub next_tags : (b n level l : ℕ) (v : List ℕ) (rows : List Row) → n ≢ 0 → tags_at b n level l v rows ≡ tags_with b (n - 1) level l v rows
+pub next_tags : (b n level l : ℕ) (v : List ℕ) (lines : List LogicalLine) → n ≢ 0 → tags_at b n level l v lines ≡ tags_with b (n - 1) level l v lines
 unfolding tags_at
-next_tags b zero level l v rows ne = absurd (omega arith)
-next_tags b (suc n) level l v rows ne = let k : suc n - 1 ≡ n = omega arith in rw k refl
+next_tags b zero level l v lines ne = absurd (omega arith)
+next_tags b (suc n) level l v lines ne = let k : suc n - 1 ≡ n = omega arith in rw k refl
 
-pub no_node_at : (b n level : ℕ) (kind : Kind) (rows : List Row) → n ≡ 0 → node_at b n level kind rows ≡ None
+pub no_node_at : (b n level : ℕ) (kind : Kind) (lines : List LogicalLine) → n ≡ 0 → node_at b n level kind lines ≡ None
 unfolding node_at
-no_node_at b zero level kind rows e = refl
-no_node_at b (suc n) level kind rows e = absurd (omega arith)
+no_node_at b zero level kind lines e = refl
+no_node_at b (suc n) level kind lines e = absurd (omega arith)
 
-pub next_node_at : (b n level : ℕ) (kind : Kind) (rows : List Row) → n ≢ 0 → node_at b n level kind rows ≡ node_with kind b (n - 1) level (node_at b (n - 1) (level + 1)) rows
+pub next_node_at : (b n level : ℕ) (kind : Kind) (lines : List LogicalLine) → n ≢ 0 → node_at b n level kind lines ≡ node_with kind b (n - 1) level (node_at b (n - 1) (level + 1)) lines
 unfolding node_at
-next_node_at b zero level kind rows ne = absurd (omega arith)
-next_node_at b (suc n) level kind rows ne = let k : suc n - 1 ≡ n = omega arith in rw k refl
+next_node_at b zero level kind lines ne = absurd (omega arith)
+next_node_at b (suc n) level kind lines ne = let k : suc n - 1 ≡ n = omega arith in rw k refl
 
 -- every fault is one where there is nothing
 pub fails_none : {Y : Type 0} (e : ParseFault) (read : Option Y) → read ≡ None → Fails e read

@@ -1,26 +1,26 @@
 //! Variables, targets and items of a line.
 
-ghost use Rattle.std.specs.Prelude.{◌≡◌, map, option_map};
+ghost use Rattle.std.specs.Prelude.{◌≡◌, ◌+◌, map, option_map};
 ghost use Rattle.occ_text.specs.Words.{words};
 ghost use Rattle.occ_tree_grammar.specs.Many.{ended};
 ghost use Rattle.occ_tree_grammar.specs.Expressions.Trees.{expression_of};
 ghost use Rattle.occ_tree_grammar.specs.Expressions.Reading.{Gives, expression_at};
 ghost use Rattle.occ_tree_grammar.specs.Lines.Views.{var_of, target_of, out_of, received_of, replicator_of, optional_replicator_of, actuals_of};
 ghost use Rattle.occ_tree_grammar.specs.Lines.Reading.{var_named, var_at, target_at, target_after, out_at, out_after, received_at, targets_whole, replicator_at, actuals_at};
+ghost use Rattle.occ_tree_grammar.specs.declared.limits.TheConstants.{MOST_LEVELS};
 
 use crate::expressions::read::{expr, indices};
 use crate::expressions::symbol::close;
-use crate::list::{expressions, targets};
+use crate::list::further;
 use crate::word::for_count;
 use occ_text::{Key, Sym, Token};
 use occ_tree_grammar::ParseFault;
+use occ_tree_grammar::limits::MOST_LEVELS;
 use occ_tree_grammar::lines::head::Received;
+use occ_tree_grammar::lines::separator::Separator;
 use occ_tree_grammar::tree::expr::Expr;
 use occ_tree_grammar::tree::line::{Input, OneOrMore, Out, Replicator, Target, Var};
 use std::alloc::Global;
-
-/// How many brackets may stand open at one place.
-const OPEN: u32 = 64;
 
 /// An expression that stands in no bracket.
 pub fn expression(
@@ -28,9 +28,9 @@ pub fn expression(
     line: u32,
     tokens: &[Token],
 ) -> Result<(Expr, &[Token]), ParseFault>
-    ensures { Gives (λ x. (expression_of x.0, words x.1.now)) result (expression_at 65 (words tokens.now)) }
+    ensures { Gives (λ x. (expression_of x.0, words x.1.now)) result (expression_at (MOST_LEVELS + 1) (words tokens.now)) }
 {
-    expr(alloc, OPEN + 1, line, tokens)
+    expr(alloc, MOST_LEVELS + 1, line, tokens)
 }
 
 /// The rest of a variable or a channel, behind its name.
@@ -40,9 +40,9 @@ pub fn var_behind<'a>(
     name: &[u8],
     tokens: &'a [Token],
 ) -> Result<(Var, &'a [Token]), ParseFault>
-    ensures { Gives (λ x. (var_of x.0, words x.1.now)) result (var_named 65 name.now (words tokens.now)) }
+    ensures { Gives (λ x. (var_of x.0, words x.1.now)) result (var_named (MOST_LEVELS + 1) name.now (words tokens.now)) }
 {
-    let (subscripts, rest) = indices(alloc, OPEN, line, tokens)?;
+    let (subscripts, rest) = indices(alloc, MOST_LEVELS, line, tokens)?;
     let name = Vec::from_slice(alloc, name)?;
     Ok((Var { name, subscripts }, rest))
 }
@@ -50,7 +50,7 @@ pub fn var_behind<'a>(
 /// A name with its subscripts.
 #[tactic(auto, unfolding(occ_tree_grammar::specs::Lines::Reading::var_at))]
 pub fn var(alloc: Global, line: u32, tokens: &[Token]) -> Result<(Var, &[Token]), ParseFault>
-    ensures { Gives (λ x. (var_of x.0, words x.1.now)) result (var_at 65 (words tokens.now)) }
+    ensures { Gives (λ x. (var_of x.0, words x.1.now)) result (var_at (MOST_LEVELS + 1) (words tokens.now)) }
 {
     match tokens {
         [Token::Name(name), rest @ ..] => var_behind(alloc, line, name, rest),
@@ -61,7 +61,7 @@ pub fn var(alloc: Global, line: u32, tokens: &[Token]) -> Result<(Var, &[Token])
 /// What an input puts an item into.
 #[tactic(auto, unfolding(occ_tree_grammar::specs::Lines::Reading::target_at))]
 pub fn target(alloc: Global, line: u32, tokens: &[Token]) -> Result<(Target, &[Token]), ParseFault>
-    ensures { Gives (λ x. (target_of x.0, words x.1.now)) result (target_at 65 (words tokens.now)) }
+    ensures { Gives (λ x. (target_of x.0, words x.1.now)) result (target_at (MOST_LEVELS + 1) (words tokens.now)) }
 {
     let (first, rest) = var(alloc, line, tokens)?;
     match rest {
@@ -76,7 +76,7 @@ pub fn target(alloc: Global, line: u32, tokens: &[Token]) -> Result<(Target, &[T
 /// An item of an output.
 #[tactic(auto, unfolding(occ_tree_grammar::specs::Lines::Reading::out_at))]
 pub fn out(alloc: Global, line: u32, tokens: &[Token]) -> Result<(Out, &[Token]), ParseFault>
-    ensures { Gives (λ x. (out_of x.0, words x.1.now)) result (out_at 65 (words tokens.now)) }
+    ensures { Gives (λ x. (out_of x.0, words x.1.now)) result (out_at (MOST_LEVELS + 1) (words tokens.now)) }
 {
     let (first, rest) = expression(alloc, line, tokens)?;
     match rest {
@@ -89,10 +89,10 @@ pub fn out(alloc: Global, line: u32, tokens: &[Token]) -> Result<(Out, &[Token])
 }
 
 fn items(alloc: Global, line: u32, channel: Var, tokens: &[Token]) -> Result<Received, ParseFault>
-    ensures { Gives received_of result (targets_whole 65 (var_of channel) (words tokens.now)) }
+    ensures { Gives received_of result (targets_whole (MOST_LEVELS + 1) (var_of channel) (words tokens.now)) }
 {
     let (first, rest) = target(alloc, line, tokens)?;
-    let (others, rest) = targets(alloc, line, rest)?;
+    let (others, rest) = further::<Target>(alloc, Separator::Semicolon, line, rest)?;
     match rest {
         [] => { Ok(Received::Input(Input::Items(channel, OneOrMore { first, others }))) }
         _ => Err(ParseFault::Unexpected { line }),
@@ -107,12 +107,12 @@ pub fn behind_question(
     channel: Var,
     tokens: &[Token],
 ) -> Result<Received, ParseFault>
-    ensures { Gives received_of result (received_at 65 (var_of channel) (words tokens.now)) }
+    ensures { Gives received_of result (received_at (MOST_LEVELS + 1) (var_of channel) (words tokens.now)) }
 {
     match tokens {
         [Token::Key(Key::Case)] => Ok(Received::Variants(channel)),
         [Token::Key(Key::Case), Token::Name(tag), rest @ ..] => {
-            let (into, rest) = targets(alloc, line, rest)?;
+            let (into, rest) = further::<Target>(alloc, Separator::Semicolon, line, rest)?;
             let tag = Vec::from_slice(alloc, tag)?;
             match rest {
                 [] => Ok(Received::Input(Input::Tagged(channel, tag, into))),
@@ -145,7 +145,7 @@ pub fn replicator(
     line: u32,
     tokens: &[Token],
 ) -> Result<Option<Box<Replicator>>, ParseFault>
-    ensures { Gives optional_replicator_of result (replicator_at 65 (words tokens.now)) }
+    ensures { Gives optional_replicator_of result (replicator_at (MOST_LEVELS + 1) (words tokens.now)) }
 {
     match tokens {
         [] => Ok(None),
@@ -167,13 +167,13 @@ pub fn actuals(
     line: u32,
     tokens: &[Token],
 ) -> Result<(Option<OneOrMore<Expr>>, &[Token]), ParseFault>
-    ensures { Gives (λ x. (actuals_of x.0, words x.1.now)) result (actuals_at 65 (words tokens.now)) }
+    ensures { Gives (λ x. (actuals_of x.0, words x.1.now)) result (actuals_at (MOST_LEVELS + 1) (words tokens.now)) }
 {
     match tokens {
         [Token::Sym(Sym::CloseParen), rest @ ..] => Ok((None, rest)),
         _ => {
             let (first, rest) = expression(alloc, line, tokens)?;
-            let (others, rest) = expressions(alloc, line, rest)?;
+            let (others, rest) = further::<Expr>(alloc, Separator::Comma, line, rest)?;
             let rest = close(line, rest)?;
             Ok((Some(OneOrMore { first, others }), rest))
         }

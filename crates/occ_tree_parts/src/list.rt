@@ -1,11 +1,14 @@
 //! Lists in a line: what stands behind the first part, each part behind a separator.
 
-ghost use Rattle.std.specs.Prelude.{◌≡◌, map};
-ghost use Rattle.occ_text.specs.Words.{words};
-ghost use Rattle.occ_tree_grammar.specs.Expressions.Trees.{expression_of};
+ghost use Rattle.std.specs.Prelude.{◌≡◌, ◌+◌, ℕ, List, map};
+ghost use Rattle.occ_text.specs.Words.{Word, words};
+ghost use Rattle.occ_tree_grammar.specs.Many.{Reader};
+ghost use Rattle.occ_tree_grammar.specs.Expressions.Trees.{Expression, expression_of};
 ghost use Rattle.occ_tree_grammar.specs.Expressions.Reading.{Gives, expression_at};
+ghost use Rattle.occ_tree_grammar.specs.Lines.Trees as trees;
 ghost use Rattle.occ_tree_grammar.specs.Lines.Views.{var_of, target_of, out_of, part_of, formal_of};
 ghost use Rattle.occ_tree_grammar.specs.Lines.Reading.{listed_at, name_at, var_at, target_at, out_at, part_at, formal_at};
+ghost use Rattle.occ_tree_grammar.specs.declared.limits.TheConstants.{MOST_LEVELS};
 
 use crate::item::{expression, out, target, var};
 use crate::kind::{formal, part};
@@ -17,145 +20,125 @@ use occ_tree_grammar::tree::expr::Expr;
 use occ_tree_grammar::tree::line::{Formal, Out, Part, Target, Var};
 use std::alloc::Global;
 
-/// Further names, each behind a comma.
-pub fn names(
+/// What may stand in a list.
+pub trait Listed: Drop + Sized {
+    /// What it says, without where it lies in memory.
+    ghost Form: { Type 0 };
+
+    /// What a value says.
+    ghost form: { Self → Form };
+
+    /// How the grammar reads one.
+    ghost reads: { Reader Word Form };
+
+    /// One from the front of the words.
+    fn read(alloc: Global, line: u32, tokens: &[Token]) -> Result<(Self, &[Token]), ParseFault>
+        ensures { Gives (λ x. (form x.0, words x.1.now)) result (reads (words tokens.now)) };
+}
+
+/// Further ones of a kind, each behind the separator.
+pub fn further<T: Listed>(
     alloc: Global,
+    by: Separator,
     line: u32,
     tokens: &[Token],
-) -> Result<(Vec<Vec<u8>>, &[Token]), ParseFault>
-    ensures { Gives (λ x. (map (λ v. v.items) x.0.items, words x.1.now)) result (listed_at Separator.Comma name_at (words tokens.now)) }
+) -> Result<(Vec<T>, &[Token]), ParseFault>
+    ensures { Gives (λ x. (map T.form x.0.items, words x.1.now)) result (listed_at by T.reads (words tokens.now)) }
 {
     let mut all = Vec::new(alloc);
     let mut rest = tokens;
     for _ in 0..tokens.len() {
-        let Some(after) = separated(Separator::Comma, rest) else {
+        let Some(after) = separated(by, rest) else {
             break;
         };
-        let (next, after) = name(alloc, line, after)?;
+        let (next, after) = T::read(alloc, line, after)?;
         all.push(next)?;
         rest = after;
     }
     Ok((all, rest))
 }
 
-/// Further variables, each behind a comma.
-pub fn variables(
-    alloc: Global,
-    line: u32,
-    tokens: &[Token],
-) -> Result<(Vec<Var>, &[Token]), ParseFault>
-    ensures { Gives (λ x. (map var_of x.0.items, words x.1.now)) result (listed_at Separator.Comma (var_at 65) (words tokens.now)) }
-{
-    let mut all = Vec::new(alloc);
-    let mut rest = tokens;
-    for _ in 0..tokens.len() {
-        let Some(after) = separated(Separator::Comma, rest) else {
-            break;
-        };
-        let (next, after) = var(alloc, line, after)?;
-        all.push(next)?;
-        rest = after;
+/// A name.
+impl Listed for Vec<u8> {
+    ghost Form = { List ℕ };
+
+    ghost form = { λ v. v.items };
+
+    ghost reads = { name_at };
+
+    fn read(alloc: Global, line: u32, tokens: &[Token]) -> Result<(Vec<u8>, &[Token]), ParseFault> {
+        name(alloc, line, tokens)
     }
-    Ok((all, rest))
 }
 
-/// Further expressions, each behind a comma.
-pub fn expressions(
-    alloc: Global,
-    line: u32,
-    tokens: &[Token],
-) -> Result<(Vec<Expr>, &[Token]), ParseFault>
-    ensures { Gives (λ x. (map expression_of x.0.items, words x.1.now)) result (listed_at Separator.Comma (expression_at 65) (words tokens.now)) }
-{
-    let mut all = Vec::new(alloc);
-    let mut rest = tokens;
-    for _ in 0..tokens.len() {
-        let Some(after) = separated(Separator::Comma, rest) else {
-            break;
-        };
-        let (next, after) = expression(alloc, line, after)?;
-        all.push(next)?;
-        rest = after;
+impl Listed for Var {
+    ghost Form = { trees.Var };
+
+    ghost form = { var_of };
+
+    ghost reads = { var_at (MOST_LEVELS + 1) };
+
+    fn read(alloc: Global, line: u32, tokens: &[Token]) -> Result<(Var, &[Token]), ParseFault> {
+        var(alloc, line, tokens)
     }
-    Ok((all, rest))
 }
 
-/// Further targets, each behind a semicolon.
-pub fn targets(
-    alloc: Global,
-    line: u32,
-    tokens: &[Token],
-) -> Result<(Vec<Target>, &[Token]), ParseFault>
-    ensures { Gives (λ x. (map target_of x.0.items, words x.1.now)) result (listed_at Separator.Semicolon (target_at 65) (words tokens.now)) }
-{
-    let mut all = Vec::new(alloc);
-    let mut rest = tokens;
-    for _ in 0..tokens.len() {
-        let Some(after) = separated(Separator::Semicolon, rest) else {
-            break;
-        };
-        let (next, after) = target(alloc, line, after)?;
-        all.push(next)?;
-        rest = after;
+impl Listed for Expr {
+    ghost Form = { Expression };
+
+    ghost form = { expression_of };
+
+    ghost reads = { expression_at (MOST_LEVELS + 1) };
+
+    fn read(alloc: Global, line: u32, tokens: &[Token]) -> Result<(Expr, &[Token]), ParseFault> {
+        expression(alloc, line, tokens)
     }
-    Ok((all, rest))
 }
 
-/// Further items of an output, each behind a semicolon.
-pub fn outs(alloc: Global, line: u32, tokens: &[Token]) -> Result<(Vec<Out>, &[Token]), ParseFault>
-    ensures { Gives (λ x. (map out_of x.0.items, words x.1.now)) result (listed_at Separator.Semicolon (out_at 65) (words tokens.now)) }
-{
-    let mut all = Vec::new(alloc);
-    let mut rest = tokens;
-    for _ in 0..tokens.len() {
-        let Some(after) = separated(Separator::Semicolon, rest) else {
-            break;
-        };
-        let (next, after) = out(alloc, line, after)?;
-        all.push(next)?;
-        rest = after;
+impl Listed for Target {
+    ghost Form = { trees.Target };
+
+    ghost form = { target_of };
+
+    ghost reads = { target_at (MOST_LEVELS + 1) };
+
+    fn read(alloc: Global, line: u32, tokens: &[Token]) -> Result<(Target, &[Token]), ParseFault> {
+        target(alloc, line, tokens)
     }
-    Ok((all, rest))
 }
 
-/// Further parts of a message, each behind a semicolon.
-pub fn parts(
-    alloc: Global,
-    line: u32,
-    tokens: &[Token],
-) -> Result<(Vec<Part>, &[Token]), ParseFault>
-    ensures { Gives (λ x. (map part_of x.0.items, words x.1.now)) result (listed_at Separator.Semicolon (part_at 65) (words tokens.now)) }
-{
-    let mut all = Vec::new(alloc);
-    let mut rest = tokens;
-    for _ in 0..tokens.len() {
-        let Some(after) = separated(Separator::Semicolon, rest) else {
-            break;
-        };
-        let (next, after) = part(alloc, line, after)?;
-        all.push(next)?;
-        rest = after;
+impl Listed for Out {
+    ghost Form = { trees.Out };
+
+    ghost form = { out_of };
+
+    ghost reads = { out_at (MOST_LEVELS + 1) };
+
+    fn read(alloc: Global, line: u32, tokens: &[Token]) -> Result<(Out, &[Token]), ParseFault> {
+        out(alloc, line, tokens)
     }
-    Ok((all, rest))
 }
 
-/// Further formals, each behind a comma.
-pub fn formal_list(
-    alloc: Global,
-    line: u32,
-    tokens: &[Token],
-) -> Result<(Vec<Formal>, &[Token]), ParseFault>
-    ensures { Gives (λ x. (map formal_of x.0.items, words x.1.now)) result (listed_at Separator.Comma (formal_at 65) (words tokens.now)) }
-{
-    let mut all = Vec::new(alloc);
-    let mut rest = tokens;
-    for _ in 0..tokens.len() {
-        let Some(after) = separated(Separator::Comma, rest) else {
-            break;
-        };
-        let (next, after) = formal(alloc, line, after)?;
-        all.push(next)?;
-        rest = after;
+impl Listed for Part {
+    ghost Form = { trees.Part };
+
+    ghost form = { part_of };
+
+    ghost reads = { part_at (MOST_LEVELS + 1) };
+
+    fn read(alloc: Global, line: u32, tokens: &[Token]) -> Result<(Part, &[Token]), ParseFault> {
+        part(alloc, line, tokens)
     }
-    Ok((all, rest))
+}
+
+impl Listed for Formal {
+    ghost Form = { trees.Formal };
+
+    ghost form = { formal_of };
+
+    ghost reads = { formal_at (MOST_LEVELS + 1) };
+
+    fn read(alloc: Global, line: u32, tokens: &[Token]) -> Result<(Formal, &[Token]), ParseFault> {
+        formal(alloc, line, tokens)
+    }
 }

@@ -1,1 +1,2 @@
 mod Levels
+mod Openings

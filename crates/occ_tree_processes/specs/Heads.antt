@@ -1,7 +1,8 @@
--- The lines at the head of processes, of their parts and of declarations, with fewer than 65 brackets open at one place.
+-- The lines at the head of processes, of their parts and of declarations, with at most 64 brackets open at one place.
 -- Manual: the syntax summary. The limit of brackets: (own).
-use Rattle.std.specs.Prelude.{ℕ, Some}
-use Rattle.occ_text.specs.Words.{Row}
+use Rattle.std.specs.Prelude.{◌+◌, ℕ, Some}
+use Rattle.occ_text.specs.Words.{LogicalLine}
+use Rattle.occ_tree_grammar.specs.declared.limits.TheConstants.{MOST_LEVELS}
 use Rattle.occ_tree_grammar.specs.Many.{◌>>=◌, Reader}
 use Rattle.occ_tree_grammar.specs.Lines.Heads.{DeclHead}
 use Rattle.occ_tree_grammar.specs.Lines.HeadReading.{decl_head_at}
@@ -9,14 +10,14 @@ use Rattle.occ_tree_grammar.specs.Processes.Trees.{Kind, Head}
 use Rattle.occ_tree_grammar.specs.Processes.Reading.{line_at, head_at}
 
 -- the number of the line at this level, and what it says
-abbrev pub line_with : (k : Kind) → ℕ → Reader Row (ℕ × Head k)
-line_with k level rows = do
-  l ← line_at level rows
-  h ← head_at k 65 l.0.1
+abbrev pub line_with : (k : Kind) → ℕ → Reader LogicalLine (ℕ × Head k)
+line_with k level lines = do
+  l ← line_at level lines
+  h ← head_at k (MOST_LEVELS + 1) l.0.1
   Some ((l.0.0, h), l.1)
 
-abbrev pub declaration_line_with : ℕ → Reader Row (ℕ × DeclHead)
-declaration_line_with level rows = do
-  l ← line_at level rows
-  h ← decl_head_at 65 l.0.1
+abbrev pub declaration_line_with : ℕ → Reader LogicalLine (ℕ × DeclHead)
+declaration_line_with level lines = do
+  l ← line_at level lines
+  h ← decl_head_at (MOST_LEVELS + 1) l.0.1
   Some ((l.0.0, h), l.1)

@@ -7,7 +7,7 @@ use Rattle.occ_term.specs.Uses.{Uses, ApartFromAll, Lawful, LawfulTerm, LawfulTe
 use Rattle.occ_usage.specs.Clashes.{Clash, clash_in, clash_in_arms, clash_in_branches, clash_in_choices, clash_in_options, clash_in_reception, clash_in_terms, clash_in_variants, clashes, with_a_later}
 use Rattle.occ_usage.specs.Noted.{FaultFor, Finds, FindsAfter, IsOneOf, breaking}
 use Rattle.occ_usage.specs.Refusals.{UsageRefuses}
-use Rattle.occ_term.specs.Unfolding.{Unfolding, meaning}
+use Rattle.occ_term.specs.UnfoldedProgram.{UnfoldedProgram, meaning}
 use Rattle.occ_usage.specs.declared.checked.UsageFault.{UsageFault}
 use Rattle.occ_usage.specs.declared.checked.UsageFault.TheVariants.{SharedVariable, TwoInputs, TwoOutputs, Memory}
 use Rattle.occ_usage.specs.declared.noted.Found.{Found}
@@ -240,7 +240,7 @@ finds_whole t was with_it found p q one =
           ];
     }
 
-pub refuses : (fault : UsageFault) (u : Unfolding) (rule : Rule) (n : ℕ) → FaultFor rule fault → clashes (breaking rule n) (meaning u) ≡ true → UsageRefuses fault u
+pub refuses : (fault : UsageFault) (u : UnfoldedProgram) (rule : Rule) (n : ℕ) → FaultFor rule fault → clashes (breaking rule n) (meaning u) ≡ true → UsageRefuses fault u
 refuses (SharedVariable line name) u rule n e h =
     record { number = n; there = ap (λ r. clashes (breaking r n) (meaning u)) (sym e) ∙ h; unlawful = unlawful_where (meaning u) rule n h }
 refuses (TwoInputs line name) u rule n e h =

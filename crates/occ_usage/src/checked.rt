@@ -4,7 +4,7 @@
 //! from in at most one branch and output to in at most one. The keyboard, the screen and the error
 //! channel count as branches beside the program.
 ghost use Rattle.std.specs.Prelude.{◌≡◌, ◌||◌, IfOk, IfErr};
-ghost use Rattle.occ_term.specs.Unfolding.{Lawful};
+ghost use Rattle.occ_term.specs.UnfoldedProgram.{Lawful};
 ghost use Rattle.occ_usage.specs.Refusals.{UsageRefuses};
 ghost use Rattle.occ_term.specs.Uses.{inputting, only, outputting, uses_of, with_use};
 ghost use Rattle.occ_usage.specs.Clashes.{clashes};
@@ -66,9 +66,9 @@ pub struct Checked {
 impl Model for Checked {
     ghost use Rattle.std.specs.Coded.{codes};
     ghost use Rattle.occ_term.specs.contracts.term.Term as terms;
-    ghost use Rattle.occ_term.specs.Unfolding.{Unfolding, Lawful};
+    ghost use Rattle.occ_term.specs.UnfoldedProgram.{UnfoldedProgram, Lawful};
 
-    ghost Value = { Unfolding };
+    ghost Value = { UnfoldedProgram };
 
     ghost coded = { Prim.hlevel (codes, terms.the_row.coded) };
 

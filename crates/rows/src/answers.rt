@@ -1,7 +1,7 @@
 //! The table of answers in `docs/language.md`. `tools/tables.py` writes this file.
 use crate::reference::Answer;
 
-pub(crate) const ANSWERS: [Answer; 32] = [
+pub(crate) static ANSWERS: [Answer; 32] = [
     Answer {
         source: r#"PROC main (CHAN OF BYTE keyboard)
   SKIP $

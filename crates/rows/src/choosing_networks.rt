@@ -24,7 +24,7 @@ const SIGNAL: &[u8] =
 const POOL: &[u8] =
     b"-- A pool of two machines for three users: who asks gets a free one, and gives it back.\n-- Prints: each user's letter and the number of the machine that it got. Where each choice is `0 0`, a0b0c0; where each is `0 1`,\n-- b0c0a0.\n\nPROC main (CHAN OF BYTE keyboard, screen)\n  [3]CHAN OF INT ask, grant, release:\n  PAR\n    PAR i = 0 FOR 3\n      INT machine:\n      SEQ\n        ask[i] ! 0\n        grant[i] ? machine\n        release[i] ! machine\n    [2]BOOL busy:\n    INT free:\n    SEQ\n      free := 2\n      SEQ n = 0 FOR 6\n        ALT i = 0 FOR 3\n          ALT\n            INT any:\n            (free > 0) & ask[i] ? any\n              SEQ\n                IF m = 0 FOR 2\n                  NOT busy[m]\n                    SEQ\n                      busy[m] := TRUE\n                      grant[i] ! m\n                      screen ! BYTE ((INT 'a') + i)\n                      screen ! BYTE ((INT '0') + m)\n                free := free - 1\n            INT machine:\n            release[i] ? machine\n              busy[machine], free := FALSE, free + 1\n:\n";
 
-const FAIRNESS: [Row; 7] = [
+static FAIRNESS: [Row; 7] = [
     Row {
         source: MERGE,
         keyboard: b"",
@@ -104,7 +104,7 @@ const FAIRNESS: [Row; 7] = [
     },
 ];
 
-const SHARING: [Row; 8] = [
+static SHARING: [Row; 8] = [
     Row {
         source: BUTLER,
         keyboard: b"",

@@ -1,9 +1,7 @@
 //! Programs without ALT have code, for every quantum that may be.
-use occ_check::unfold;
+use crate::accepted::accepted;
 use occ_code::{Code, CodeFault, Instr, compile_for};
-use occ_text::read_lines;
-use occ_tree::parse;
-use occ_usage::{Checked, check_usage};
+use occ_usage::Checked;
 use std::alloc::{AllocError, Global};
 use std::process::Abort;
 use std::test::Fail;
@@ -13,7 +11,7 @@ struct Compiled(&'static str, u32, &'static str);
 
 const CODE: &str = "bodies: 1";
 
-const PROGRAMS: [Compiled; 24] = [
+static PROGRAMS: [Compiled; 24] = [
     Compiled("  SKIP\n", 1, CODE),
     Compiled("  INT x:\n  x := 1 + 2\n", 1, CODE),
     Compiled(
@@ -92,14 +90,6 @@ const PROGRAMS: [Compiled; 24] = [
     Compiled("  SEQ\n    STOP\n    STOP\n", 1, CODE),
 ];
 
-/// The program, where it is accepted.
-fn accepted(alloc: Global, source: &[u8]) -> Option<Checked> {
-    let lines = read_lines(alloc, source).ok()?;
-    let tree = parse(alloc, &lines).ok()?;
-    let unfolded = unfold(alloc, &tree).ok()?;
-    check_usage(alloc, unfolded).ok()
-}
-
 /// How many bodies the code of a program has.
 fn bodies_of(alloc: Global, checked: &Checked, quantum: u32) -> Result<usize, CodeFault> {
     let code = compile_for(alloc, checked, quantum)?;
@@ -121,13 +111,17 @@ fn outcome(alloc: Global, source: &[u8], quantum: u32) -> Result<String, AllocEr
     }
 }
 
+fn check_row(rt: &impl Abort, alloc: Global, row: &Compiled) -> Result<(), Fail> {
+    let source = format!(in alloc; "PROC main (CHAN OF BYTE keyboard, screen)\n{}:\n", row.0)?;
+    let found = outcome(alloc, source.as_bytes(), row.1)?;
+    assert_eq!(rt; found.as_str(), row.2, "{}", row.0);
+    Ok(())
+}
+
 #[test]
 fn programs_have_code(rt: HostRuntime) -> Result<(), Fail> {
-    let alloc = rt.alloc();
-    for row in PROGRAMS.iter() {
-        let source = format!(in alloc; "PROC main (CHAN OF BYTE keyboard, screen)\n{}:\n", row.0)?;
-        let found = outcome(alloc, source.as_bytes(), row.1)?;
-        assert_eq!(rt; found.as_str(), row.2, "{source}");
+    for row in &PROGRAMS {
+        check_row(&rt, rt.alloc(), row)?;
     }
     Ok(())
 }

@@ -2,7 +2,7 @@
 use crate::gallery::{
     IN_FAULTS, IN_FIRST_STEPS, IN_PIPELINES, IN_SELECTION, IN_SEQUENCES, IN_SHARING,
 };
-use occ_play::{Counted, Errors, Options, Plan, play_in, read_choices};
+use occ_play::{Counted, Errors, Options, Plan, PlayFault, Played, play_in, read_choices};
 use std::alloc::{AllocError, Global};
 use std::process::Abort;
 use std::test::Fail;
@@ -67,6 +67,27 @@ fn errors_of(title: &str) -> Errors {
     }
 }
 
+/// What standard output got, or the line of the refusal.
+fn shown(
+    alloc: Global,
+    played: &Result<Played, PlayFault>,
+    answer: &[u8],
+) -> Result<String, AllocError> {
+    match played {
+        Ok(_) => String::from_utf8_lossy(alloc, answer),
+        Err(fault) => format!(in alloc; "{fault}\n"),
+    }
+}
+
+/// The plan of a file of choices, or of turns.
+fn plan_of(alloc: Global, choices: &str) -> Result<Plan, Fail> {
+    if choices.is_empty() {
+        return Ok(Plan::Turns(TURNS));
+    }
+    let choices = read_choices(alloc, choices.as_bytes())?;
+    Ok(Plan::Choices(choices))
+}
+
 /// What standard output gets, or the line of the refusal.
 pub(crate) fn answer_of(
     alloc: Global,
@@ -75,10 +96,7 @@ pub(crate) fn answer_of(
     choices: &str,
     errors: Errors,
 ) -> Result<String, Fail> {
-    let plan = match choices {
-        "" => Plan::Turns(TURNS),
-        text => Plan::Choices(read_choices(alloc, text.as_bytes())?),
-    };
+    let plan = plan_of(alloc, choices)?;
     let options = Options { quantum: 1, errors };
     let mut answer = Vec::new(alloc);
     let mut out = Counted::new(&mut answer);
@@ -92,23 +110,37 @@ pub(crate) fn answer_of(
         &mut out,
     );
     drop(out);
-    match played {
-        Ok(_) => Ok(String::from_utf8_lossy(alloc, answer.as_slice())?),
-        Err(fault) => Ok(format!(in alloc; "{fault}\n")?),
-    }
+    Ok(shown(alloc, &played, answer.as_slice())?)
+}
+
+/// A text stands in a program.
+fn check_stands(rt: &impl Abort, source: &str, text: &str) {
+    assert!(rt; source.contains(text), "{source}");
+}
+
+/// The program's first lines say what the run is given and what comes of it.
+fn check_lines(rt: &impl Abort, alloc: Global, run: &Run) -> Result<(), Fail> {
+    let keyboard = told(alloc, "Keyboard", run.keyboard)?;
+    check_stands(rt, run.source, keyboard.as_str());
+    let promise = promise(alloc, run)?;
+    check_stands(rt, run.source, promise.as_str());
+    Ok(())
+}
+
+/// Plays a run, and compares what comes of it.
+fn check_run(rt: &impl Abort, alloc: Global, run: &Run) -> Result<(), Fail> {
+    let wanted = wanted(alloc, run)?;
+    let errors = errors_of(run.title);
+    let answer = answer_of(alloc, run.source, run.keyboard, run.choices, errors)?;
+    assert_eq!(rt; answer.as_str(), wanted.as_str(), "{}", run.source);
+    Ok(())
 }
 
 /// Plays each run, and compares what comes of it with what the program's first lines say.
 fn check_runs(rt: &impl Abort, alloc: Global, runs: &[Run]) -> Result<(), Fail> {
     for run in runs {
-        let keyboard = told(alloc, "Keyboard", run.keyboard)?;
-        let promise = promise(alloc, run)?;
-        assert!(rt; run.source.contains(keyboard.as_str()), "{}", run.source);
-        assert!(rt; run.source.contains(promise.as_str()), "{}", run.source);
-        let errors = errors_of(run.title);
-        let answer = answer_of(alloc, run.source, run.keyboard, run.choices, errors)?;
-        let wanted = wanted(alloc, run)?;
-        assert_eq!(rt; answer.as_str(), wanted.as_str(), "{}", run.source);
+        check_lines(rt, alloc, run)?;
+        check_run(rt, alloc, run)?;
     }
     Ok(())
 }

@@ -1298,7 +1298,7 @@ PROC main (CHAN OF BYTE keyboard, screen)
 :
 "#;
 
-pub(crate) const IN_FIRST_STEPS: [Run; 4] = [
+pub(crate) static IN_FIRST_STEPS: [Run; 4] = [
     Run {
         source: CAPITALS,
         title: "Screen",
@@ -1333,7 +1333,7 @@ pub(crate) const IN_FIRST_STEPS: [Run; 4] = [
     },
 ];
 
-pub(crate) const IN_SEQUENCES: [Run; 4] = [
+pub(crate) static IN_SEQUENCES: [Run; 4] = [
     Run {
         source: CALCULATOR,
         title: "Screen",
@@ -1384,7 +1384,7 @@ pub(crate) const IN_SEQUENCES: [Run; 4] = [
     },
 ];
 
-pub(crate) const IN_PIPELINES: [Run; 6] = [
+pub(crate) static IN_PIPELINES: [Run; 6] = [
     Run {
         source: ADDER,
         title: "Screen",
@@ -1441,7 +1441,7 @@ pub(crate) const IN_PIPELINES: [Run; 6] = [
     },
 ];
 
-pub(crate) const IN_SELECTION: [Run; 8] = [
+pub(crate) static IN_SELECTION: [Run; 8] = [
     Run {
         source: BUFFER,
         title: "Screen",
@@ -1614,7 +1614,7 @@ pub(crate) const IN_SELECTION: [Run; 8] = [
     },
 ];
 
-pub(crate) const IN_SHARING: [Run; 6] = [
+pub(crate) static IN_SHARING: [Run; 6] = [
     Run {
         source: FARM,
         title: "Screen",
@@ -1800,7 +1800,7 @@ pub(crate) const IN_SHARING: [Run; 6] = [
     },
 ];
 
-pub(crate) const IN_FAULTS: [Run; 11] = [
+pub(crate) static IN_FAULTS: [Run; 11] = [
     Run {
         source: COLOURS,
         title: "Screen",

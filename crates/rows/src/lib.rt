@@ -2,6 +2,8 @@
 #![tactic(auto)]
 
 #[cfg(test)]
+mod accepted;
+#[cfg(test)]
 mod answers;
 #[cfg(test)]
 mod choosing_networks;
@@ -47,6 +49,8 @@ mod texts;
 mod turns;
 #[cfg(test)]
 mod usage;
+#[cfg(test)]
+mod wholes;
 #[cfg(test)]
 mod workers;
 #[cfg(test)]

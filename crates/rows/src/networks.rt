@@ -12,7 +12,7 @@ const MERGE: &[u8] =
 const LOOP_BESIDE: &[u8] =
     b"PROC main (CHAN OF BYTE keyboard, screen)\n  PAR\n    SEQ i = 0 FOR 1\n      SKIP\n    screen ! 'a'\n:\n";
 
-const NETWORKS: [Row; 14] = [
+static NETWORKS: [Row; 14] = [
     Row {
         source: PIPELINE,
         keyboard: b"",

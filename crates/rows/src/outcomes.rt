@@ -6,7 +6,7 @@ use occ_term::{Fault, FaultKind};
 use occ_text::TextFault;
 use occ_tree_grammar::ParseFault;
 use occ_usage::UsageFault;
-use std::alloc::Global;
+use std::alloc::{AllocError, Global};
 use std::process::Abort;
 use std::test::Fail;
 
@@ -39,7 +39,7 @@ fn plans_have_choices(rt: HostRuntime) -> Result<(), Fail> {
 }
 
 /// How runs end, the line that says so, and the exit status.
-const ENDINGS: [(Ending, &str, u8); 9] = [
+static ENDINGS: [(Ending, &str, u8); 9] = [
     (Ending::Ended, "ended", 0),
     (Ending::Stopped, "stopped", 2),
     (Ending::Limit, "limit", 4),
@@ -96,12 +96,37 @@ const ENDINGS: [(Ending, &str, u8); 9] = [
 #[test]
 fn endings_have_texts(rt: HostRuntime) -> Result<(), Fail> {
     let alloc = rt.alloc();
-    for (ending, text, status) in ENDINGS {
-        assert_eq!(rt; ending.to_string(alloc)?.as_str(), text);
+    for (ending, text, status) in &ENDINGS {
+        let told = ending.to_string(alloc)?;
+        assert_eq!(rt; told.as_str(), *text);
         let choices = Vec::new(alloc);
-        let played = Ok(Played { ending, choices });
-        assert_eq!(rt; status_of(&played), status, "{text}");
+        let played = Ok(Played {
+            ending: *ending,
+            choices,
+        });
+        assert_eq!(rt; status_of(&played), *status, "{text}");
     }
+    Ok(())
+}
+
+/// The text of a fault.
+fn told(alloc: Global, played: &Result<Played, PlayFault>) -> Result<String, AllocError> {
+    match played {
+        Ok(_) => Ok(String::new(alloc)),
+        Err(fault) => fault.to_string(alloc),
+    }
+}
+
+fn check_played(
+    rt: &impl Abort,
+    alloc: Global,
+    played: &Result<Played, PlayFault>,
+    text: &str,
+    status: u8,
+) -> Result<(), Fail> {
+    let told = told(alloc, played)?;
+    assert_eq!(rt; told.as_str(), text);
+    assert_eq!(rt; status_of(played), status);
     Ok(())
 }
 
@@ -112,10 +137,7 @@ fn check_fault(
     text: &str,
     status: u8,
 ) -> Result<(), Fail> {
-    let told = fault.to_string(alloc)?;
-    assert_eq!(rt; told.as_str(), text);
-    assert_eq!(rt; status_of(&Err(fault)), status);
-    Ok(())
+    check_played(rt, alloc, &Err(fault), text, status)
 }
 
 #[test]

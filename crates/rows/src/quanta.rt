@@ -1,5 +1,5 @@
 //! Turns that pass several ends of a loop's body.
-use occ_play::{Choice, Counted, Errors, Options, Plan, play_in, status_of};
+use occ_play::{Choice, Counted, Errors, Options, Plan, PlayFault, Played, play_in, status_of};
 use std::alloc::{AllocError, Global};
 use std::process::Abort;
 use std::test::Fail;
@@ -24,7 +24,7 @@ const FOR_EVER: &str = "PROC main (CHAN OF BYTE keyboard, screen)
 :
 ";
 
-const ROWS: [Row; 9] = [
+static ROWS: [Row; 9] = [
     (COUNTING, 1, 10, "8", 0),
     (COUNTING, 1, 9, "8\nlimit\n", 4),
     (COUNTING, 4, 4, "8", 0),
@@ -44,8 +44,31 @@ fn zeros(alloc: Global, count: u32) -> Result<Plan, AllocError> {
     Ok(Plan::Choices(choices))
 }
 
-fn check(rt: &impl Abort, alloc: Global, row: Row) -> Result<(), Fail> {
-    let (source, quantum, choices, answer, status) = row;
+/// Compares what came of a row.
+fn check_played(
+    rt: &impl Abort,
+    alloc: Global,
+    row: &Row,
+    played: &Result<Played, PlayFault>,
+    bytes: &[u8],
+) -> Result<(), Fail> {
+    let (_, quantum, choices, answer, status) = *row;
+    assert_eq!(rt; status_of(played), status, "{quantum}");
+    match played {
+        Ok(played) => {
+            assert_eq!(rt; bytes, answer.as_bytes(), "{quantum}");
+            assert_eq!(rt; played.choices.len(), choices as usize, "{quantum}");
+        }
+        Err(fault) => {
+            let line = fault.to_string(alloc)?;
+            assert_eq!(rt; line.as_str(), answer, "{quantum}");
+        }
+    }
+    Ok(())
+}
+
+fn check(rt: &impl Abort, alloc: Global, row: &Row) -> Result<(), Fail> {
+    let (source, quantum, choices, ..) = *row;
     let plan = zeros(alloc, choices)?;
     let mut bytes = Vec::new(alloc);
     let mut out = Counted::new(&mut bytes);
@@ -63,23 +86,12 @@ fn check(rt: &impl Abort, alloc: Global, row: Row) -> Result<(), Fail> {
         &mut out,
     );
     drop(out);
-    assert_eq!(rt; status_of(&played), status, "{quantum}");
-    match played {
-        Ok(played) => {
-            assert_eq!(rt; bytes.as_slice(), answer.as_bytes(), "{quantum}");
-            assert_eq!(rt; played.choices.len(), choices as usize, "{quantum}");
-        }
-        Err(fault) => {
-            let line = fault.to_string(alloc)?;
-            assert_eq!(rt; line.as_str(), answer, "{quantum}");
-        }
-    }
-    Ok(())
+    check_played(rt, alloc, row, &played, bytes.as_slice())
 }
 
 #[test]
 fn turns_pass_ends_of_loops(rt: HostRuntime) -> Result<(), Fail> {
-    for row in ROWS {
+    for row in &ROWS {
         check(&rt, rt.alloc(), row)?;
     }
     assert_eq!(rt; Options::plain().quantum, 1);

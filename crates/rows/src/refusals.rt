@@ -1,5 +1,5 @@
 //! Sources that break a rule of scopes, types or protocols, each beside a neighbour that keeps it.
-use occ_play::{Counted, Plan, PlayFault, play};
+use occ_play::{Counted, Plan, PlayFault, Played, play};
 use std::alloc::{AllocError, Global};
 use std::process::Abort;
 use std::test::Fail;
@@ -7,10 +7,7 @@ use std::test::Fail;
 /// The body of `main` below its first line, and the refusal; none where the source is accepted.
 pub(crate) struct Body(pub(crate) &'static str, pub(crate) &'static str);
 
-/// The text before `main` and, where it has the usual first line, what stands below that; and the refusal.
-struct Whole(&'static str, Option<&'static str>, &'static str);
-
-const NAMES: [Body; 22] = [
+static NAMES: [Body; 22] = [
     // 30: a name that isn't in scope
     Body("  screen ! x\n", "refused 30 Unknown line 2 x"),
     Body(
@@ -65,7 +62,7 @@ const NAMES: [Body; 22] = [
     Body("  INT i:\n  SEQ i = 0 FOR 2\n    SKIP\n", ""),
 ];
 
-const KINDS: [Body; 10] = [
+static KINDS: [Body; 10] = [
     Body("  INT x:\n  x ()\n", "refused 32 WrongKind line 3"),
     Body(
         "  INT x:\n  CHAN OF x c:\n  SKIP\n",
@@ -90,7 +87,7 @@ const KINDS: [Body; 10] = [
     Body("  INT x:\n  SEQ i = 0 FOR 2\n    x := i\n", ""),
 ];
 
-const TYPES: [Body; 24] = [
+static TYPES: [Body; 24] = [
     // 33: operands and sides
     Body("  INT x:\n  x := TRUE\n", "refused 33 WrongType line 3"),
     Body("  INT x:\n  x := 1 + 'a'\n", "refused 33 WrongType line 3"),
@@ -136,7 +133,7 @@ const TYPES: [Body; 24] = [
     Body("  VAL BYTE n IS 1(BYTE):\n  SKIP\n", ""),
 ];
 
-const CONSTANTS: [Body; 22] = [
+static CONSTANTS: [Body; 22] = [
     // 34: what must be constant
     Body(
         "  INT n:\n  [n]INT a:\n  SKIP\n",
@@ -191,7 +188,7 @@ const CONSTANTS: [Body; 22] = [
     Body("  [2]INT v:\n  v[1 / 0] := 0\n", ""),
 ];
 
-const PROTOCOLS: [Body; 20] = [
+static PROTOCOLS: [Body; 20] = [
     Body(
         "  VAL s IS \"ab\":\n  screen ! s[2]\n",
         "refused 36 Subscript line 3",
@@ -258,136 +255,7 @@ const PROTOCOLS: [Body; 20] = [
     ),
 ];
 
-const CALLS: [Whole; 25] = [
-    // names of another kind
-    Whole(
-        "PROC g ()\n  SKIP\n:\nPROC f (INT a)\n  SKIP\n:\n",
-        Some("  f (g)\n:\n"),
-        "refused 32 WrongKind line 8",
-    ),
-    Whole(
-        "PROC f (CHAN OF INT c)\n  SKIP\n:\n",
-        Some("  VAL n IS 1:\n  f (n)\n:\n"),
-        "refused 39 Arguments line 6",
-    ),
-    Whole(
-        "PROC f (CHAN OF INT c)\n  SKIP\n:\n",
-        Some("  INT n:\n  f (n)\n:\n"),
-        "refused 39 Arguments line 6",
-    ),
-    // 39: actuals
-    Whole(
-        "PROC f (INT a)\n  SKIP\n:\n",
-        Some("  f ()\n:\n"),
-        "refused 39 Arguments line 5",
-    ),
-    Whole(
-        "PROC f ()\n  SKIP\n:\n",
-        Some("  f (1)\n:\n"),
-        "refused 39 Arguments line 5",
-    ),
-    Whole(
-        "PROC f (VAL INT a)\n  SKIP\n:\n",
-        Some("  f ('a')\n:\n"),
-        "refused 39 Arguments line 5",
-    ),
-    Whole(
-        "PROC f (INT a)\n  SKIP\n:\n",
-        Some("  f (1)\n:\n"),
-        "refused 39 Arguments line 5",
-    ),
-    Whole(
-        "PROC f ([2]INT a)\n  SKIP\n:\n",
-        Some("  [3]INT v:\n  f (v)\n:\n"),
-        "refused 39 Arguments line 6",
-    ),
-    Whole(
-        "PROC f (CHAN OF INT c)\n  SKIP\n:\n",
-        Some("  f (screen)\n:\n"),
-        "refused 39 Arguments line 5",
-    ),
-    Whole(
-        "PROC f (CHAN OF INT c)\n  SKIP\n:\n",
-        Some("  INT x:\n  f (x)\n:\n"),
-        "refused 39 Arguments line 6",
-    ),
-    Whole(
-        "PROC f ([]INT a)\n  SKIP\n:\n",
-        Some("  [3]INT v:\n  f (v)\n:\n"),
-        "",
-    ),
-    Whole(
-        "PROC f (VAL INT a)\n  SKIP\n:\n",
-        Some("  f (1 + 2)\n:\n"),
-        "",
-    ),
-    Whole(
-        "PROC f (CHAN OF BYTE c)\n  SKIP\n:\n",
-        Some("  f (screen)\n:\n"),
-        "",
-    ),
-    // 40: overlap
-    Whole(
-        "PROC swap (INT a, b)\n  a, b := b, a\n:\n",
-        Some("  INT x:\n  swap (x, x)\n:\n"),
-        "refused 40 Overlap line 6",
-    ),
-    Whole(
-        "PROC swap (INT a, b)\n  a, b := b, a\n:\n",
-        Some("  [2]INT v:\n  swap (v[0], v[0])\n:\n"),
-        "refused 40 Overlap line 6",
-    ),
-    Whole(
-        "PROC swap (INT a, b)\n  a, b := b, a\n:\n",
-        Some("  [2]INT v:\n  INT i:\n  swap (v[i], v[1])\n:\n"),
-        "refused 40 Overlap line 7",
-    ),
-    Whole(
-        "PROC f ([]INT a, INT b)\n  SKIP\n:\n",
-        Some("  [2]INT v:\n  f (v, v[1])\n:\n"),
-        "refused 40 Overlap line 6",
-    ),
-    Whole(
-        "PROC swap (INT a, b)\n  a, b := b, a\n:\n",
-        Some("  [2]INT v:\n  swap (v[0], v[1])\n:\n"),
-        "",
-    ),
-    Whole(
-        "PROC f (VAL INT a, INT b)\n  b := a\n:\n",
-        Some("  INT x:\n  f (x, x)\n:\n"),
-        "",
-    ),
-    // what is never called isn't looked at
-    Whole("PROC f ()\n  f ()\n:\n", Some("  SKIP\n:\n"), ""),
-    Whole(
-        "PROC f ()\n  f ()\n:\n",
-        Some("  f ()\n:\n"),
-        "refused 30 Unknown line 2 f",
-    ),
-    Whole(
-        "PROC f (INT a, a)\n  SKIP\n:\n",
-        Some("  INT x, y:\n  f (x, y)\n:\n"),
-        "refused 31 Twice line 1 a",
-    ),
-    Whole(
-        "PROC f (INT a, b)\n  SKIP\n:\n",
-        Some("  INT x, y:\n  f (x, y)\n:\n"),
-        "",
-    ),
-    // the usage rules, in the line of the use
-    Whole(
-        "PROC inc (INT n)\n  n := n + 1\n:\n",
-        Some("  INT n:\n  PAR\n    inc (n)\n    inc (n)\n:\n"),
-        "refused 50 SharedVariable line 2 n",
-    ),
-    Whole(
-        "PROC inc (INT a)\n  a := a + 1\n:\n",
-        Some("  [2]INT v:\n  PAR\n    inc (v[0])\n    inc (v[1])\n:\n"),
-        "",
-    ),
-];
-
-const LISTS: [Body; 12] = [
+static LISTS: [Body; 12] = [
     // 41: lists of targets
     Body(
         "  INT i:\n  [2]INT v:\n  i, v[i] := 1, 2\n",
@@ -416,74 +284,41 @@ const LISTS: [Body; 12] = [
     Body("  PAR i = 0 FOR 4096\n    SKIP\n", "refused 43 TooLarge"),
 ];
 
-const MAINS: [Whole; 12] = [
-    // 42: the main process
-    Whole("", None, "refused 42 NoMain"),
-    Whole("VAL n IS 1:\n", None, "refused 42 NoMain"),
-    Whole("PROC main ()\n  SKIP\n:\n", None, "refused 42 NoMain"),
-    Whole(
-        "PROC main (CHAN OF INT keyboard)\n  SKIP\n:\n",
-        None,
-        "refused 42 NoMain",
-    ),
-    Whole(
-        "PROC main (CHAN OF BYTE a, b, c, d)\n  SKIP\n:\n",
-        None,
-        "refused 42 NoMain",
-    ),
-    Whole("PROC main (INT x)\n  SKIP\n:\n", None, "refused 42 NoMain"),
-    Whole("PROC main (CHAN OF BYTE keyboard)\n  SKIP\n:\n", None, ""),
-    Whole("PROC main (CHAN OF BYTE a, b, c)\n  SKIP\n:\n", None, ""),
-    Whole("", Some("  SKIP\n:\nVAL n IS m:\n"), ""),
-    Whole("", Some("  [65536]BYTE a:\n  SKIP\n:\n"), ""),
-    Whole("", Some("  PAR i = 0 FOR 4095\n    SKIP\n:\n"), ""),
-    Whole("VAL n IS 2:\n", Some("  [n]INT a:\n  SKIP\n:\n"), ""),
-];
-
-const HEADER: &str = "PROC main (CHAN OF BYTE keyboard, screen)\n";
+pub(crate) const HEADER: &str = "PROC main (CHAN OF BYTE keyboard, screen)\n";
 
 /// Why a source is refused before it is compiled; empty where it is not.
 pub(crate) fn refusal(alloc: Global, source: &str) -> Result<String, AllocError> {
     let mut answer = Vec::new(alloc);
     let mut out = Counted::new(&mut answer);
-    match play(
-        alloc,
-        source.as_bytes(),
-        b"",
-        &Plan::Turns(0),
-        false,
-        &mut out,
-    ) {
-        Err(PlayFault::Check(fault)) => fault.to_string(alloc),
-        Err(PlayFault::Usage(fault)) => fault.to_string(alloc),
-        Err(PlayFault::Text(fault)) => fault.to_string(alloc),
-        Err(PlayFault::Parse(fault)) => fault.to_string(alloc),
-        _ => Ok(String::new(alloc)),
+    let turns = Plan::Turns(0);
+    let played = play(alloc, source.as_bytes(), b"", &turns, false, &mut out);
+    told(alloc, &played)
+}
+
+/// The text of a fault before a source is compiled.
+fn told(alloc: Global, played: &Result<Played, PlayFault>) -> Result<String, AllocError> {
+    match played {
+        Ok(_) | Err(PlayFault::Code(_)) => Ok(String::new(alloc)),
+        Err(fault) => fault.to_string(alloc),
     }
 }
 
-/// The source of a row.
-fn source_of(alloc: Global, row: &Whole) -> Result<String, AllocError> {
-    match row.1 {
-        Some(below) => format!(in alloc; "{}{HEADER}{below}", row.0),
-        None => String::from_str(alloc, row.0),
-    }
+/// Compares what a source is refused for.
+pub(crate) fn check_source(
+    rt: &impl Abort,
+    alloc: Global,
+    source: &str,
+    wanted: &str,
+) -> Result<(), Fail> {
+    let found = refusal(alloc, source)?;
+    assert_eq!(rt; found.as_str(), wanted, "{source}");
+    Ok(())
 }
 
 pub(crate) fn check_bodies(rt: &impl Abort, alloc: Global, rows: &[Body]) -> Result<(), Fail> {
     for row in rows {
         let source = format!(in alloc; "{HEADER}{}:\n", row.0)?;
-        let found = refusal(alloc, source.as_str())?;
-        assert_eq!(rt; found.as_str(), row.1, "{source}");
-    }
-    Ok(())
-}
-
-fn check_wholes(rt: &impl Abort, alloc: Global, rows: &[Whole]) -> Result<(), Fail> {
-    for row in rows {
-        let source = source_of(alloc, row)?;
-        let found = refusal(alloc, source.as_str())?;
-        assert_eq!(rt; found.as_str(), row.2, "{source}");
+        check_source(rt, alloc, source.as_str(), row.1)?;
     }
     Ok(())
 }
@@ -514,11 +349,6 @@ fn protocols(rt: HostRuntime) -> Result<(), Fail> {
 }
 
 #[test]
-fn calls(rt: HostRuntime) -> Result<(), Fail> {
-    check_wholes(&rt, rt.alloc(), &CALLS)
-}
-
-#[test]
 fn lists(rt: HostRuntime) -> Result<(), Fail> {
     check_bodies(&rt, rt.alloc(), &LISTS)
 }
@@ -539,9 +369,7 @@ fn chain(alloc: Global, length: u32) -> Result<String, AllocError> {
 fn long_chains_of_calls(rt: HostRuntime) -> Result<(), Fail> {
     let alloc = rt.alloc();
     let source = chain(alloc, 30_000)?;
-    let found = refusal(alloc, source.as_str())?;
-    assert_eq!(rt; found.as_str(), "");
-    Ok(())
+    check_source(&rt, alloc, source.as_str(), "")
 }
 
 /// An assignment of so many operands that AND joins.
@@ -554,23 +382,20 @@ fn conjunction(alloc: Global, operands: u32) -> Result<String, AllocError> {
     Ok(source)
 }
 
+/// Numbers of operands, and what the assignment is refused for.
+static CONJUNCTIONS: [(u32, &str); 4] = [
+    (190, ""),
+    (300, "refused 43 TooLarge"),
+    (1_000, "refused 43 TooLarge"),
+    (100_000, "refused 43 TooLarge"),
+];
+
 #[test]
 fn long_conjunctions(rt: HostRuntime) -> Result<(), Fail> {
     let alloc = rt.alloc();
-    for (operands, wanted) in [
-        (190, ""),
-        (300, "refused 43 TooLarge"),
-        (1_000, "refused 43 TooLarge"),
-        (100_000, "refused 43 TooLarge"),
-    ] {
-        let source = conjunction(alloc, operands)?;
-        let found = refusal(alloc, source.as_str())?;
-        assert_eq!(rt; found.as_str(), wanted, "{operands} operands");
+    for (operands, wanted) in &CONJUNCTIONS {
+        let source = conjunction(alloc, *operands)?;
+        check_source(&rt, alloc, source.as_str(), wanted)?;
     }
     Ok(())
-}
-
-#[test]
-fn mains(rt: HostRuntime) -> Result<(), Fail> {
-    check_wholes(&rt, rt.alloc(), &MAINS)
 }

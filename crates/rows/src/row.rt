@@ -1,5 +1,5 @@
 //! A worked row: what a run is given, and what it comes to.
-use occ_play::{Choice, Counted, Errors, Options, Plan, play, play_in, status_of};
+use occ_play::{Choice, Counted, Errors, Options, Plan, PlayFault, Played, play_in, status_of};
 use std::alloc::{AllocError, Global};
 use std::process::Abort;
 use std::test::Fail;
@@ -61,59 +61,122 @@ impl<'a> Row<'a> {
     }
 }
 
-fn same_choices(choices: &mut Vec<Choice>, count: u32, pick: u32) -> Result<(), AllocError> {
+fn same_choices(alloc: Global, count: u32, pick: u32) -> Result<Vec<Choice>, AllocError> {
+    let mut choices = Vec::new(alloc);
     for _choice in 0..count {
         choices.push(Choice { which: 0, pick })?;
     }
-    Ok(())
+    Ok(choices)
 }
 
 fn plan_of(alloc: Global, given: Given) -> Result<Plan, AllocError> {
-    let mut choices = Vec::new(alloc);
-    match given {
+    let choices = match given {
         Given::Turns(turns) => return Ok(Plan::Turns(turns)),
-        Given::Choices(listed) => choices.extend_from_slice(listed)?,
-        Given::Zeros(count) => same_choices(&mut choices, count, 0)?,
-        Given::Picks(count) => same_choices(&mut choices, count, 1)?,
+        Given::Choices(listed) => Vec::from_slice(alloc, listed),
+        Given::Zeros(count) => same_choices(alloc, count, 0),
+        Given::Picks(count) => same_choices(alloc, count, 1),
+    };
+    Ok(Plan::Choices(choices?))
+}
+
+/// Plays a row.
+fn played(
+    rt: &impl Abort,
+    alloc: Global,
+    row: &Row<'_>,
+    plan: &Plan,
+    answer: &mut Vec<u8>,
+) -> Result<Played, PlayFault> {
+    let options = Options {
+        quantum: 1,
+        errors: row.errors,
+    };
+    let mut out = Counted::new(answer);
+    let played = play_in(
+        &options,
+        alloc,
+        row.source,
+        row.keyboard,
+        plan,
+        row.trace,
+        &mut out,
+    );
+    assert_eq!(rt; out.failures(), 0);
+    played
+}
+
+/// The choices that are used are the first of the plan's.
+fn check_first(rt: &impl Abort, source: &str, plan: &Plan, used: &[Choice]) {
+    for (number, choice) in used.iter().enumerate() {
+        assert_eq!(rt; plan.at(number), Some(*choice), "{source}");
     }
-    Ok(Plan::Choices(choices))
+}
+
+/// Compares what came of a row: its exit status, the text of the refusal and the answer's bytes.
+fn check_told(
+    rt: &impl Abort,
+    source: &str,
+    row: &Row<'_>,
+    status: u8,
+    refusal: &str,
+    answer: &[u8],
+) {
+    assert_eq!(rt; status, row.status, "{source}");
+    assert_eq!(rt; refusal, row.refusal, "{source}");
+    assert_eq!(rt; answer, row.answer, "{source}");
+}
+
+/// The text of the refusal; empty where the source is played.
+fn refusal_of(alloc: Global, played: &Result<Played, PlayFault>) -> Result<String, AllocError> {
+    match played {
+        Ok(_) => Ok(String::new(alloc)),
+        Err(fault) => fault.to_string(alloc),
+    }
+}
+
+/// The choices that are used.
+fn used_of(played: &Result<Played, PlayFault>) -> &[Choice] {
+    match played {
+        Ok(played) => played.choices.as_slice(),
+        Err(_) => &[],
+    }
+}
+
+/// Compares all that came of a row.
+fn check_played(
+    rt: &impl Abort,
+    alloc: Global,
+    source: &str,
+    row: &Row<'_>,
+    played: &Result<Played, PlayFault>,
+    answer: &[u8],
+) -> Result<(), Fail> {
+    let refusal = refusal_of(alloc, played)?;
+    check_told(rt, source, row, status_of(played), refusal.as_str(), answer);
+    let used = used_of(played).len();
+    assert_eq!(rt; used, row.used.unwrap_or(used), "{source}");
+    Ok(())
+}
+
+/// Plays a row by a plan, and compares all that comes of it.
+fn check_by(
+    rt: &impl Abort,
+    alloc: Global,
+    source: &str,
+    row: &Row<'_>,
+    plan: &Plan,
+) -> Result<(), Fail> {
+    let mut answer = Vec::new(alloc);
+    let played = played(rt, alloc, row, plan, &mut answer);
+    check_first(rt, source, plan, used_of(&played));
+    check_played(rt, alloc, source, row, &played, answer.as_slice())
 }
 
 /// Plays a row, and compares all that comes of it.
 pub(crate) fn check_row(rt: &impl Abort, alloc: Global, row: &Row<'_>) -> Result<(), Fail> {
     let source = String::from_utf8_lossy(alloc, row.source)?;
     let plan = plan_of(alloc, row.plan)?;
-    let mut answer = Vec::new(alloc);
-    let mut out = Counted::new(&mut answer);
-    let played = match row.errors {
-        Errors::Halt => play(alloc, row.source, row.keyboard, &plan, row.trace, &mut out),
-        errors => {
-            let options = Options { quantum: 1, errors };
-            play_in(
-                &options,
-                alloc,
-                row.source,
-                row.keyboard,
-                &plan,
-                row.trace,
-                &mut out,
-            )
-        }
-    };
-    assert_eq!(rt; out.failures(), 0, "{source}");
-    drop(out);
-    assert_eq!(rt; status_of(&played), row.status, "{source}");
-    let (refusal, used) = match played {
-        Ok(played) => (String::new(alloc), played.choices),
-        Err(fault) => (fault.to_string(alloc)?, Vec::new(alloc)),
-    };
-    assert_eq!(rt; refusal.as_str(), row.refusal, "{source}");
-    assert_eq!(rt; answer.as_slice(), row.answer, "{source}");
-    assert_eq!(rt; used.len(), row.used.unwrap_or(used.len()), "{source}");
-    for (number, choice) in used.iter().enumerate() {
-        assert_eq!(rt; plan.at(number), Some(*choice), "{source}");
-    }
-    Ok(())
+    check_by(rt, alloc, source.as_str(), row, &plan)
 }
 
 /// Plays each row.

@@ -44,7 +44,7 @@ const TWO_ARMS: &[u8] =
 const IN_LOOPS: &[u8] =
     b"PROC main (CHAN OF BYTE keyboard, screen)\n  SEQ n = 0 FOR 2\n    CHAN OF INT c, d:\n    PAR\n      c ! n\n      d ! n + 2\n      INT x:\n      SEQ k = 0 FOR 2\n        ALT\n          c ? x\n            screen ! BYTE (x + 48)\n          d ? x\n            screen ! BYTE (x + 48)\n:\n";
 
-const SELECTIONS: [Row; 15] = [
+static SELECTIONS: [Row; 15] = [
     Row {
         source: FIRST_OF_TWO,
         keyboard: b"",

@@ -3,7 +3,7 @@ use crate::row::{Given, Row, check_rows};
 use occ_play::Errors;
 use std::test::Fail;
 
-const RUNS: [Row; 27] = [
+static ARITHMETIC: [Row; 7] = [
     // arithmetic, with the line of its fault
     Row {
         source: b"PROC main (CHAN OF BYTE keyboard, screen)\n  INT x:\n  x := 2147483647 + 1\n:\n",
@@ -82,6 +82,9 @@ const RUNS: [Row; 27] = [
         status: 3,
         used: Some(1),
     },
+];
+
+static KEYBOARD: [Row; 5] = [
     // no choice is taken
     Row {
         source: b"PROC main (CHAN OF BYTE keyboard, screen)\n  IF\n    FALSE\n      SKIP\n:\n",
@@ -139,6 +142,9 @@ const RUNS: [Row; 27] = [
         status: 2,
         used: Some(2),
     },
+];
+
+static LOOPS: [Row; 7] = [
     // loops and replicators
     Row {
         source: b"PROC main (CHAN OF BYTE keyboard, screen)\n  WHILE TRUE\n    SKIP\n:\n",
@@ -217,6 +223,9 @@ const RUNS: [Row; 27] = [
         status: 4,
         used: Some(9),
     },
+];
+
+static ARRAYS: [Row; 8] = [
     // arrays and subscripts
     Row {
         source: b"PROC main (CHAN OF BYTE keyboard, screen)\n  [2]INT v:\n  INT i:\n  SEQ\n    i := 2\n    v[i] := 1\n:\n",
@@ -311,6 +320,21 @@ const RUNS: [Row; 27] = [
 ];
 
 #[test]
-fn sequential_programs(rt: HostRuntime) -> Result<(), Fail> {
-    check_rows(&rt, rt.alloc(), &RUNS)
+fn sums_and_shifts(rt: HostRuntime) -> Result<(), Fail> {
+    check_rows(&rt, rt.alloc(), &ARITHMETIC)
+}
+
+#[test]
+fn no_choice_and_the_keyboard(rt: HostRuntime) -> Result<(), Fail> {
+    check_rows(&rt, rt.alloc(), &KEYBOARD)
+}
+
+#[test]
+fn loops_and_replicators(rt: HostRuntime) -> Result<(), Fail> {
+    check_rows(&rt, rt.alloc(), &LOOPS)
+}
+
+#[test]
+fn arrays_channels_and_procedures(rt: HostRuntime) -> Result<(), Fail> {
+    check_rows(&rt, rt.alloc(), &ARRAYS)
 }

@@ -44,7 +44,7 @@ pub(crate) const TOO_MANY: &[u8] = b"PROC main (CHAN OF BYTE keyboard, screen)
 ";
 
 /// What stands for good without a fault.
-pub(crate) const HALTS: [&[u8]; 3] = [
+pub(crate) static HALTS: [&[u8]; 3] = [
     b"PROC main (CHAN OF BYTE keyboard, screen)
   BYTE x:
   ALT
@@ -113,7 +113,7 @@ fn a_fault_stops_its_process(rt: HostRuntime) -> Result<(), Fail> {
 
 #[test]
 fn what_halts_without_a_fault_is_stopped(rt: HostRuntime) -> Result<(), Fail> {
-    for source in HALTS {
+    for source in &HALTS {
         let rows = [
             stopped(source, Given::Turns(100), b"stopped\n", 1),
             Row {

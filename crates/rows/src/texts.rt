@@ -6,7 +6,7 @@ use std::test::Fail;
 const HEAD: &[u8] = b"PROC main (CHAN OF BYTE keyboard, screen)\n";
 
 /// Programs that answer A.
-const LETTERS: [&[u8]; 6] = [
+static LETTERS: [&[u8]; 6] = [
     b"PROC main (CHAN OF BYTE keyboard, screen)\n  screen ! 'A'\n:\n",
     b"-- a letter\nPROC main (CHAN OF BYTE keyboard, screen) -- main\n\n     -- one\n  screen ! 'A'-- out\n   \n:\n-- end",
     b"PROC main (CHAN OF BYTE keyboard, screen)\r\n\r\n  screen ! 'A'\r\n:\r\n",
@@ -16,7 +16,7 @@ const LETTERS: [&[u8]; 6] = [
 ];
 
 /// Texts that are refused, and how.
-const REFUSALS: [(&[u8], &str); 22] = [
+static REFUSALS: [(&[u8], &str); 22] = [
     (b"SKIP\t\n", "refused 2 BadByte line 1"),
     (b"x,\n  @", "refused 2 BadByte line 1"),
     (
@@ -70,7 +70,7 @@ const REFUSALS: [(&[u8], &str); 22] = [
 
 #[test]
 fn texts_are_read(rt: HostRuntime) -> Result<(), Fail> {
-    for source in LETTERS {
+    for source in &LETTERS {
         check_row(&rt, rt.alloc(), &Row::ended(source, b"A", 2))?;
     }
     Ok(())
@@ -96,7 +96,7 @@ fn every_printing_byte_is_read(rt: HostRuntime) -> Result<(), Fail> {
 
 #[test]
 fn texts_are_refused(rt: HostRuntime) -> Result<(), Fail> {
-    for (source, refusal) in REFUSALS {
+    for (source, refusal) in &REFUSALS {
         check_row(&rt, rt.alloc(), &Row::refused(source, refusal))?;
     }
     Ok(())

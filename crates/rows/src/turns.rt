@@ -3,14 +3,13 @@ ghost use Rattle.std.specs.Prelude.{◌≡◌, IfOk};
 ghost use Rattle.occ_term.specs.Frames.{zero_frame};
 ghost use Rattle.occ_net_replay.specs.Replay.{first_task};
 
-use occ_check::unfold;
+use crate::accepted::accepted;
 use occ_code::{Body, Code, Task, Wait, compile_for};
 use occ_proc::{Scratch, Segment, advance, turn};
 use occ_term::Frame;
-use occ_text::read_lines;
-use occ_tree::parse;
-use occ_usage::{Checked, check_usage};
+use occ_usage::Checked;
 use std::alloc::{AllocError, Global};
+use std::process::Abort;
 use std::test::Fail;
 
 const COUNTS: &str =
@@ -24,7 +23,7 @@ const STOPS: &str = "  INT n:\n  SEQ\n    n := 7\n    STOP\n";
 /// process may then take another one.
 struct Turned(&'static str, u32, i64, bool);
 
-const TURNS: [Turned; 11] = [
+static TURNS: [Turned; 11] = [
     Turned(COUNTS, 1, 1, true),
     Turned(COUNTS, 2, 2, true),
     Turned(COUNTS, 4, 4, true),
@@ -37,14 +36,6 @@ const TURNS: [Turned; 11] = [
     Turned(ADDS, 4, 19, false),
     Turned(STOPS, 3, 7, false),
 ];
-
-/// The program, where it is accepted.
-fn accepted(alloc: Global, source: &[u8]) -> Option<Checked> {
-    let lines = read_lines(alloc, source).ok()?;
-    let tree = parse(alloc, &lines).ok()?;
-    let unfolded = unfold(alloc, &tree).ok()?;
-    check_usage(alloc, unfolded).ok()
-}
 
 /// A process at its start.
 fn task_at_start(alloc: Global, body: &Body) -> Result<Task, AllocError>
@@ -119,18 +110,32 @@ fn shown_in_place(alloc: Global, checked: &Checked, quantum: u32) -> Result<Stri
     }
 }
 
+/// Compares a turn on a copy, and one in place, with what there is after a turn.
+fn check_turn(
+    rt: &impl Abort,
+    alloc: Global,
+    checked: &Checked,
+    row: &Turned,
+    after: &str,
+) -> Result<(), Fail> {
+    let copied = shown_on_a_copy(alloc, checked, row.1)?;
+    assert_eq!(rt; copied.strip_prefix("0 true 0, "), Some(after), "{}", row.0);
+    let moved = shown_in_place(alloc, checked, row.1)?;
+    assert_eq!(rt; moved.as_str(), after, "{}", row.0);
+    Ok(())
+}
+
+fn check_row(rt: &impl Abort, alloc: Global, row: &Turned) -> Result<(), Fail> {
+    let source = format!(in alloc; "PROC main (CHAN OF BYTE keyboard, screen)\n{}:\n", row.0)?;
+    let after = format!(in alloc; "{} {} 1", row.2, row.3)?;
+    let checked = accepted(alloc, source.as_bytes()).expect(rt, "refused");
+    check_turn(rt, alloc, &checked, row, after.as_str())
+}
+
 #[test]
 fn turns_go_to_the_stop(rt: HostRuntime) -> Result<(), Fail> {
-    let alloc = rt.alloc();
-    for row in TURNS.iter() {
-        let source = format!(in alloc; "PROC main (CHAN OF BYTE keyboard, screen)\n{}:\n", row.0)?;
-        let checked = accepted(alloc, source.as_bytes()).expect(&rt, "refused");
-        let after = format!(in alloc; "{} {} 1", row.2, row.3)?;
-        let both = format!(in alloc; "0 true 0, {after}")?;
-        let copied = shown_on_a_copy(alloc, &checked, row.1)?;
-        assert_eq!(rt; copied.as_str(), both.as_str(), "{source}");
-        let moved = shown_in_place(alloc, &checked, row.1)?;
-        assert_eq!(rt; moved.as_str(), after.as_str(), "{source}");
+    for row in &TURNS {
+        check_row(&rt, rt.alloc(), row)?;
     }
     Ok(())
 }

@@ -3,7 +3,7 @@ use crate::refusals::{Body, check_bodies, refusal};
 use std::test::Fail;
 
 /// The usage rules, which are asked after the rules of scopes and types.
-const USAGE: [Body; 23] = [
+static USAGE: [Body; 23] = [
     Body(
         "  INT n:\n  PAR\n    n := 1\n    n := 2\n",
         "refused 50 SharedVariable line 5 n",

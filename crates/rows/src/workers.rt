@@ -1,11 +1,67 @@
 //! A run by several threads is the run on one thread by the choices that they used.
 use crate::networks::PIPELINE;
 use crate::stopping::{HALTS, MAIN_FAULT, ONE_FAULT, TOO_MANY, TWO_FAULTS};
-use occ_play::{Counted, Errors, FreeGate, Options, Plan, play_in, play_workers_in};
+use occ_play::{
+    Choice, Counted, Errors, FreeGate, Options, Plan, PlayFault, Played, play_in, play_workers_in,
+};
+use std::alloc::Global;
 use std::process::Abort;
 use std::sync::Wait;
 use std::test::Fail;
 use std::thread::Threads;
+
+/// Plays a source by four workers.
+fn by_workers<R: Threads + Wait + Sync + AllocGlobal>(
+    rt: &R,
+    options: &Options,
+    source: &[u8],
+    answer: &mut Vec<u8>,
+) -> Result<Played, PlayFault> {
+    let alloc = rt.alloc();
+    let mut out = Counted::new(answer);
+    play_workers_in(
+        rt, options, alloc, source, b"", 4, 1_000, true, &FreeGate, &mut out,
+    )
+}
+
+/// Plays a source by these choices.
+fn by_choices(
+    alloc: Global,
+    options: &Options,
+    source: &[u8],
+    choices: &[Choice],
+    answer: &mut Vec<u8>,
+) -> Result<Played, PlayFault> {
+    let plan = Plan::Choices(Vec::from_slice(alloc, choices)?);
+    let mut out = Counted::new(answer);
+    play_in(options, alloc, source, b"", &plan, true, &mut out)
+}
+
+/// The answer ends in one of these.
+fn check_last(rt: &impl Abort, answer: &[u8], lasts: &[&[u8]]) {
+    let mut found = false;
+    for last in lasts {
+        found = found || answer.ends_with(last);
+    }
+    assert!(rt; found);
+}
+
+/// Plays a source once more by the choices of a run, and compares the two.
+fn check_again(
+    rt: &impl Abort,
+    alloc: Global,
+    options: &Options,
+    source: &[u8],
+    first: &Played,
+    answer: &[u8],
+) -> Result<(), Fail> {
+    let mut bytes = Vec::new(alloc);
+    let again = by_choices(alloc, options, source, first.choices.as_slice(), &mut bytes)?;
+    assert_eq!(rt; answer, bytes.as_slice());
+    assert_eq!(rt; first.ending, again.ending);
+    assert_eq!(rt; first.choices.as_slice(), again.choices.as_slice());
+    Ok(())
+}
 
 /// Plays a source by four workers, and once more by what they chose. The answer ends in one of these.
 fn check_source<R: Threads + Wait + Abort + Sync + AllocGlobal>(
@@ -14,28 +70,10 @@ fn check_source<R: Threads + Wait + Abort + Sync + AllocGlobal>(
     source: &[u8],
     lasts: &[&[u8]],
 ) -> Result<(), Fail> {
-    let alloc = rt.alloc();
-    let mut first = Vec::new(alloc);
-    let mut out = Counted::new(&mut first);
-    let played = play_workers_in(
-        rt, &options, alloc, source, b"", 4, 1_000, true, &FreeGate, &mut out,
-    )?;
-    drop(out);
-    let plan = Plan::Choices(Vec::from_slice(alloc, played.choices.as_slice())?);
-    let mut second = Vec::new(alloc);
-    let mut out = Counted::new(&mut second);
-    let again = play_in(&options, alloc, source, b"", &plan, true, &mut out)?;
-    drop(out);
-    assert_eq!(rt; first.as_slice(), second.as_slice());
-    assert_eq!(rt; played.ending, again.ending);
-    assert_eq!(rt; played.choices.as_slice(), again.choices.as_slice());
-    let answer = first.as_slice();
-    let mut found = false;
-    for last in lasts {
-        found = found || answer.ends_with(last);
-    }
-    assert!(rt; found);
-    Ok(())
+    let mut answer = Vec::new(rt.alloc());
+    let played = by_workers(rt, &options, source, &mut answer)?;
+    check_last(rt, answer.as_slice(), lasts);
+    check_again(rt, rt.alloc(), &options, source, &played, answer.as_slice())
 }
 
 /// What a fault does, a source, and the lines in one of which its answer ends.
@@ -46,7 +84,7 @@ struct Faulty<'a> {
 }
 
 /// Sources in which a process is stopped, in both modes.
-const FAULTY: &[Faulty<'static>] = &[
+static FAULTY: &[Faulty<'static>] = &[
     Faulty {
         errors: Errors::Halt,
         source: MAIN_FAULT,
@@ -116,7 +154,7 @@ fn workers_stop_at_faults_in_both_modes(rt: HostRuntime) -> Result<(), Fail> {
 #[test]
 fn workers_stop_without_a_fault_in_both_modes(rt: HostRuntime) -> Result<(), Fail> {
     for errors in [Errors::Halt, Errors::Stop] {
-        for source in HALTS {
+        for source in &HALTS {
             let options = Options { quantum: 1, errors };
             check_source(&rt, options, source, &[b"stopped\n"])?;
         }

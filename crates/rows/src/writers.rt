@@ -51,7 +51,7 @@ fn check_writes(rt: &impl Abort, alloc: Global, writes: u32, takes_none: bool) {
     let failures = out.failures();
     drop(out);
     let status = status_of(&played);
-    match played {
+    match &played {
         Ok(_) => {
             assert!(rt; writes >= 6);
             assert_eq!(rt; failures, 0);
@@ -62,8 +62,8 @@ fn check_writes(rt: &impl Abort, alloc: Global, writes: u32, takes_none: bool) {
             assert!(rt; writes < 6);
             assert_eq!(rt; failures, 1);
             assert_eq!(rt; status, 6);
-            assert_eq!(rt; written, u64::from(writes) * 2);
-            assert_eq!(rt; taken.len() as u64, written);
+            assert_eq!(rt; *written, u64::from(writes) * 2);
+            assert_eq!(rt; taken.len() as u64, *written);
             assert!(rt; ANSWER.starts_with(taken.as_slice()));
         }
         Err(_) => assert!(rt; false, "another fault"),

@@ -11,7 +11,7 @@ use Rattle.occ_term.specs.declared.term.Term.{the_lemmas}
 use Rattle.occ_term.specs.Terms as T
 use Rattle.occ_term.specs.TermTyping.{Declared, TermHas, TermsHave}
 use Rattle.occ_term.specs.Processes.{branches_in, branches_in_terms, numbered, processes_of}
-use Rattle.occ_term.specs.Unfolding.{Unfolding, IsWellFormed, NumberedFrom, declared, first_channels}
+use Rattle.occ_term.specs.UnfoldedProgram.{UnfoldedProgram, IsWellFormed, NumberedFrom, declared, first_channels}
 use Rattle.occ_term.specs.View.{term_of, terms}
 use Rattle.rows_layers.specs.SmallPrograms.{IsPlain, letter_on, par_of_none, stops, stops_in_sequence}
 
@@ -27,7 +27,7 @@ of_bytes n (suc (suc zero)) lt h = refl
 of_bytes n (suc (suc (suc c))) lt h = let below = ltb-true (suc (suc (suc c))) (n + 1) (second (nat_le n (suc (suc (suc c)))) (nat_lt (suc (suc (suc c))) (n + 1)) h) in absurd (omega (arith, lt, below))
 
 -- a plain program is well-formed where its term is typed and has no branches
-plain_is : (t : T.Term) (u : Unfolding) → IsPlain t u → ((d : Declared) → ((c n : ℕ) → n < 3 → IsTrue (nat_le n c && nat_lt c (n + 1)) → d.protocols c ≡ Some (Simple [] Byte)) → TermHas d t) → branches_in t ≡ [] → IsWellFormed u
+plain_is : (t : T.Term) (u : UnfoldedProgram) → IsPlain t u → ((d : Declared) → ((c n : ℕ) → n < 3 → IsTrue (nat_le n c && nat_lt c (n + 1)) → d.protocols c ≡ Some (Simple [] Byte)) → TermHas d t) → branches_in t ≡ [] → IsWellFormed u
 plain_is t u h typed alone =
     let cells : length u.cells ≡ 0 = ap length h.cells in
     let channels : length u.channels ≡ 3 = ap length h.channels in
@@ -43,7 +43,7 @@ plain_is t u h typed alone =
       numbers = subst (λ x. NumberedFrom 0 (processes_of x)) (sym h.term) first;
     }
 
-pub letter_is : (n : ℕ) (u : Unfolding) → n < 3 → IsPlain (letter_on n) u → IsWellFormed u
+pub letter_is : (n : ℕ) (u : UnfoldedProgram) → n < 3 → IsPlain (letter_on n) u → IsWellFormed u
 letter_is n u lt h = plain_is (letter_on n) u h (λ d of. (Simple [] Byte, OneOf Byte ∷ [], ((λ c within. of c n lt within), refl), refl, ((refl, refl), tt))) refl
 
 stops_typed : (d : Declared) (n : ℕ) → TermsHave d (stops n)
@@ -54,10 +54,10 @@ stops_alone : (n : ℕ) → branches_in_terms (stops n) ≡ []
 stops_alone zero = refl
 stops_alone (suc n) = stops_alone n
 
-pub stops_are : (n : ℕ) (u : Unfolding) → IsPlain (stops_in_sequence n) u → IsWellFormed u
+pub stops_are : (n : ℕ) (u : UnfoldedProgram) → IsPlain (stops_in_sequence n) u → IsWellFormed u
 stops_are n u h = plain_is (stops_in_sequence n) u h (λ d of. stops_typed d n) (stops_alone n)
 
-pub par_is : (u : Unfolding) → IsPlain par_of_none u → IsWellFormed u
+pub par_is : (u : UnfoldedProgram) → IsPlain par_of_none u → IsWellFormed u
 par_is u h = plain_is par_of_none u h (λ d of. tt) refl
 
 -- STOPs of the code are STOPs

@@ -3,10 +3,10 @@
 use Rattle.std.specs.Prelude.{List, None, [], pos, suc, zero, ℕ, ◌∷◌, ◌≡◌}
 use Rattle.occ_term.specs.declared.primitive.Primitive.TheVariants.{Byte}
 use Rattle.occ_term.specs.Terms.{Term, Stop, Output, Seq, Par, no_branches, Terms, no_terms, then_term, Constant, place, no_subscripts, OfOne}
-use Rattle.occ_term.specs.Unfolding.{Unfolding, meaning, first_channels}
+use Rattle.occ_term.specs.UnfoldedProgram.{UnfoldedProgram, meaning, first_channels}
 
 -- a program without variables, with the first three channels alone
-pub record IsPlain (t : Term) (u : Unfolding) : Type 0 where
+pub record IsPlain (t : Term) (u : UnfoldedProgram) : Type 0 where
   pub term : meaning u ≡ t
   pub cells : u.cells ≡ []
   pub channels : u.channels ≡ first_channels

@@ -10,7 +10,7 @@ const LARGEST: u32 = 4_294_967_295;
 /// A text, and how it is written again, or its refusal.
 struct Row(&'static [u8], &'static str);
 
-const ROWS: [Row; 16] = [
+static ROWS: [Row; 16] = [
     Row(b"", ""),
     Row(b"0 0\r\n1 0\n", "0 0\n1 0\n"),
     Row(b"0 0\n1 0", "0 0\n1 0\n"),

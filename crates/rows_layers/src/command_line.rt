@@ -1,10 +1,11 @@
 //! The words of the command line.
 use clap::error::ErrorKind;
 use occ_play_inputs::read_words;
+use std::process::Abort;
 use std::test::Fail;
 
 /// Words, and what is read of them.
-const READ: [(&[&str], &str); 5] = [
+static READ: [(&[&str], &str); 5] = [
     (
         &["occam"],
         "Words { limit: 1000000, quantum: 1, errors: Halt, workers: None, trace: false, choices: None, record: None, chart: None, arrows: 200, file: None }",
@@ -39,16 +40,16 @@ const READ: [(&[&str], &str); 5] = [
 #[test]
 fn words_are_read(rt: HostRuntime) -> Result<(), Fail> {
     let alloc = rt.alloc();
-    for (list, wanted) in READ {
+    for (list, wanted) in &READ {
         let words = read_words(alloc, list)?;
         let read = format!(in alloc; "{words:?}")?;
-        assert_eq!(rt; read.as_str(), wanted);
+        assert_eq!(rt; read.as_str(), *wanted);
     }
     Ok(())
 }
 
 /// Words, and why they are refused.
-const REFUSED: [(&[&str], ErrorKind); 22] = [
+static REFUSED: [(&[&str], ErrorKind); 22] = [
     (&["occam", "--limit=10000001"], ErrorKind::ValueValidation),
     (&["occam", "--limit=4294967296"], ErrorKind::ValueValidation),
     (&["occam", "--limit=-1"], ErrorKind::ValueValidation),
@@ -84,11 +85,31 @@ const REFUSED: [(&[&str], ErrorKind); 22] = [
 
 #[test]
 fn wrong_words_are_refused(rt: HostRuntime) -> Result<(), Fail> {
-    for (list, wanted) in REFUSED {
+    for (list, wanted) in &REFUSED {
         let refused = read_words(rt.alloc(), list).err();
-        assert_eq!(rt; refused.map(|error| error.kind()), Some(wanted));
+        assert_eq!(rt; refused.map(|error| error.kind()), Some(*wanted));
     }
     Ok(())
+}
+
+/// What the help says of the words.
+static IN_HELP: [&str; 10] = [
+    "Usage: occam",
+    "--limit <N>",
+    "1000000",
+    "--quantum <N>",
+    "--errors <MODE>",
+    "--workers <N>",
+    "--chart <FILE>",
+    "--arrows <N>",
+    "--trace",
+    "FILE",
+];
+
+fn check_help(rt: &impl Abort, text: &str) {
+    for word in &IN_HELP {
+        assert!(rt; text.contains(*word), "{word}");
+    }
 }
 
 #[test]
@@ -100,20 +121,7 @@ fn help_names_the_words(rt: HostRuntime) -> Result<(), Fail> {
         Err(help) => {
             assert!(rt; !help.use_stderr());
             let text = help.to_string(alloc)?;
-            for word in [
-                "Usage: occam",
-                "--limit <N>",
-                "1000000",
-                "--quantum <N>",
-                "--errors <MODE>",
-                "--workers <N>",
-                "--chart <FILE>",
-                "--arrows <N>",
-                "--trace",
-                "FILE",
-            ] {
-                assert!(rt; text.contains(word), "{word}");
-            }
+            check_help(&rt, text.as_str());
         }
     }
     Ok(())

@@ -4,21 +4,36 @@ use occ_term::{
 };
 use sqlite_items::Items;
 use std::alloc::{AllocError, Global};
+use std::fmt;
+use std::process::Abort;
 use std::test::Fail;
 
 /// A message of a value, an array and a counted array.
 fn message(alloc: Global, tag: Option<u32>, values: &[i64]) -> Result<Message, AllocError> {
     let mut items = Parts::new();
     items.push(alloc, Part::One(Primitive::Byte, 65))?;
-    items.push(
-        alloc,
-        Part::Many(Primitive::Int, Items::from_slice(alloc, values)?),
-    )?;
-    items.push(
-        alloc,
-        Part::Counted(Primitive::Bool, Items::from_slice(alloc, &[1, 0])?),
-    )?;
+    let many = Items::from_slice(alloc, values)?;
+    items.push(alloc, Part::Many(Primitive::Int, many))?;
+    let counted = Items::from_slice(alloc, &[1, 0])?;
+    items.push(alloc, Part::Counted(Primitive::Bool, counted))?;
     Ok(Message { tag, items })
+}
+
+/// The tag and the array of a message, and whether it is the same as the first.
+static MESSAGES: [(Option<u32>, &[i64], bool); 4] = [
+    (Some(3), &[-1, 2], true),
+    (Some(3), &[-1, 3], false),
+    (Some(3), &[-1], false),
+    (None, &[-1, 2], false),
+];
+
+/// Compares a message with each of these.
+fn check_messages(rt: &impl Abort, alloc: Global, first: &Message) -> Result<(), Fail> {
+    for (tag, values, wanted) in &MESSAGES {
+        let other = message(alloc, *tag, values)?;
+        assert_eq!(rt; first.is_same(&other), *wanted);
+    }
+    Ok(())
 }
 
 #[test]
@@ -26,30 +41,92 @@ fn messages_are_compared(rt: HostRuntime) -> Result<(), Fail> {
     let alloc = rt.alloc();
     let first = message(alloc, Some(3), &[-1, 2])?;
     assert!(rt; first.is_same(&first));
-    assert!(rt; first.is_same(&first.copy(alloc)?));
-    assert!(rt; !first.is_same(&message(alloc, Some(3), &[-1, 3])?));
-    assert!(rt; !first.is_same(&message(alloc, Some(3), &[-1])?));
-    assert!(rt; !first.is_same(&message(alloc, None, &[-1, 2])?));
+    let copy = first.copy(alloc)?;
+    assert!(rt; first.is_same(&copy));
+    check_messages(&rt, alloc, &first)
+}
+
+/// What a part is made of.
+enum Form {
+    One,
+    Many,
+    Counted,
+}
+
+/// Parts, of which no two are the same.
+static PARTS: [(Form, Primitive, &[i64]); 7] = [
+    (Form::One, Primitive::Byte, &[1]),
+    (Form::One, Primitive::Byte, &[2]),
+    (Form::One, Primitive::Int, &[1]),
+    (Form::Many, Primitive::Byte, &[1]),
+    (Form::Many, Primitive::Byte, &[1, 1]),
+    (Form::Counted, Primitive::Byte, &[1]),
+    (Form::Counted, Primitive::Bool, &[1]),
+];
+
+fn part(
+    alloc: Global,
+    form: &Form,
+    primitive: Primitive,
+    values: &[i64],
+) -> Result<Part, AllocError> {
+    let items = Items::from_slice(alloc, values)?;
+    Ok(match form {
+        Form::One => Part::One(primitive, values.first().copied().unwrap_or(0)),
+        Form::Many => Part::Many(primitive, items),
+        Form::Counted => Part::Counted(primitive, items),
+    })
+}
+
+fn parts(alloc: Global) -> Result<Vec<Part>, AllocError> {
+    let mut parts = Vec::new(alloc);
+    for (form, primitive, values) in &PARTS {
+        parts.push(part(alloc, form, *primitive, values)?)?;
+    }
+    Ok(parts)
+}
+
+/// Compares the part of this number with each, and with its copy.
+fn check_part(
+    rt: &impl Abort,
+    alloc: Global,
+    part: &Part,
+    number: usize,
+    parts: &[Part],
+) -> Result<(), Fail> {
+    for (other, one) in parts.iter().enumerate() {
+        assert_eq!(rt; part.is_same(one), other == number);
+    }
+    let copy = part.copy(alloc)?;
+    assert!(rt; part.is_same(&copy));
     Ok(())
 }
 
 #[test]
 fn parts_are_compared(rt: HostRuntime) -> Result<(), Fail> {
     let alloc = rt.alloc();
-    let parts = [
-        Part::One(Primitive::Byte, 1),
-        Part::One(Primitive::Byte, 2),
-        Part::One(Primitive::Int, 1),
-        Part::Many(Primitive::Byte, Items::from_slice(alloc, &[1])?),
-        Part::Many(Primitive::Byte, Items::from_slice(alloc, &[1, 1])?),
-        Part::Counted(Primitive::Byte, Items::from_slice(alloc, &[1])?),
-        Part::Counted(Primitive::Bool, Items::from_slice(alloc, &[1])?),
-    ];
-    for (i, part) in parts.iter().enumerate() {
-        assert!(rt; part.is_same(&part.copy(alloc)?));
-        for (j, other) in parts.iter().enumerate() {
-            assert_eq!(rt; part.is_same(other), i == j);
-        }
+    let parts = parts(alloc)?;
+    for (number, part) in parts.iter().enumerate() {
+        check_part(&rt, alloc, part, number, parts.as_slice())?;
+    }
+    Ok(())
+}
+
+/// The cells and the counters of a frame, and whether it is the same as the first.
+static FRAMES: [(&[u32], usize, bool); 4] = [
+    (&[1, 3], 2, true),
+    (&[1, 4], 2, false),
+    (&[1], 2, false),
+    (&[1, 3], 1, false),
+];
+
+/// Compares a frame with its copy, and with each of these.
+fn check_frames(rt: &impl Abort, alloc: Global, frame: &Frame) -> Result<(), Fail> {
+    let copy = frame.copy(alloc)?;
+    assert!(rt; frame.is_same(&copy));
+    for (cells, loops, wanted) in &FRAMES {
+        let other = Frame::new(alloc, cells, *loops)?;
+        assert_eq!(rt; frame.is_same(&other), *wanted);
     }
     Ok(())
 }
@@ -58,88 +135,139 @@ fn parts_are_compared(rt: HostRuntime) -> Result<(), Fail> {
 fn frames_are_compared(rt: HostRuntime) -> Result<(), Fail> {
     let alloc = rt.alloc();
     let frame = Frame::new(alloc, &[1, 3], 2)?;
-    assert!(rt; frame.is_same(&frame.copy(alloc)?));
-    assert!(rt; frame.is_same(&Frame::new(alloc, &[1, 3], 2)?));
-    assert!(rt; !frame.is_same(&Frame::new(alloc, &[1, 4], 2)?));
-    assert!(rt; !frame.is_same(&Frame::new(alloc, &[1], 2)?));
-    assert!(rt; !frame.is_same(&Frame::new(alloc, &[1, 3], 1)?));
-    Ok(())
+    check_frames(&rt, alloc, &frame)
 }
 
 /// The parts `BYTE; [2][3]INT; INT::[]BYTE`.
 fn part_types(alloc: Global) -> Result<Items<PartType>, AllocError> {
     let mut parts = Items::new(alloc);
     parts.push(PartType::One(Primitive::Byte))?;
-    parts.push(PartType::Many(Items::from_slice(alloc, &[2, 3])?, Primitive::Int))?;
+    let sizes = Items::from_slice(alloc, &[2, 3])?;
+    parts.push(PartType::Many(sizes, Primitive::Int))?;
     parts.push(PartType::Counted(Primitive::Int, Primitive::Byte))?;
     Ok(parts)
 }
 
 fn tag(alloc: Global) -> Result<Tag, AllocError> {
-    Ok(Tag {
-        name: Items::from_slice(alloc, b"data")?,
-        parts: part_types(alloc)?,
-    })
+    let name = Items::from_slice(alloc, b"data")?;
+    let parts = part_types(alloc)?;
+    Ok(Tag { name, parts })
+}
+
+/// A copy is printed as what it was made of.
+fn check_printed<T: fmt::Debug>(
+    rt: &impl Abort,
+    alloc: Global,
+    copy: &T,
+    original: &T,
+) -> Result<(), Fail> {
+    let copy = format!(in alloc; "{copy:?}")?;
+    let original = format!(in alloc; "{original:?}")?;
+    assert_eq!(rt; copy.as_str(), original.as_str());
+    Ok(())
+}
+
+fn check_part_type(rt: &impl Abort, alloc: Global, part: &PartType) -> Result<(), Fail> {
+    let copy = part.copy(alloc)?;
+    check_printed(rt, alloc, &copy, part)
 }
 
 #[test]
-fn part_types_and_tags_are_copied(rt: HostRuntime) -> Result<(), Fail> {
+fn part_types_are_copied(rt: HostRuntime) -> Result<(), Fail> {
     let alloc = rt.alloc();
-    for part in part_types(alloc)?.as_slice() {
-        let copy = part.copy(alloc)?;
-        assert_eq!(rt;
-            format!(in alloc; "{copy:?}")?,
-            format!(in alloc; "{part:?}")?
-        );
+    let parts = part_types(alloc)?;
+    for part in parts.as_slice() {
+        check_part_type(&rt, alloc, part)?;
     }
-    let tag = tag(alloc)?;
-    let copy = tag.copy(alloc)?;
-    assert_eq!(rt;
-        format!(in alloc; "{copy:?}")?,
-        format!(in alloc; "{tag:?}")?
-    );
-    assert_eq!(rt; copy.name.as_slice(), b"data".as_slice());
-    assert_eq!(rt; copy.parts.as_slice().len(), 3);
     Ok(())
 }
 
 #[test]
-fn channels_are_copied(rt: HostRuntime) -> Result<(), Fail> {
+fn tags_are_copied(rt: HostRuntime) -> Result<(), Fail> {
+    let alloc = rt.alloc();
+    let tag = tag(alloc)?;
+    let copy = tag.copy(alloc)?;
+    assert_eq!(rt; copy.name.as_slice(), b"data".as_slice());
+    assert_eq!(rt; copy.parts.as_slice().len(), 3);
+    check_printed(&rt, alloc, &copy, &tag)
+}
+
+/// A channel of an array's component.
+fn channel(alloc: Global, protocol: Protocol) -> Result<Channel, AllocError> {
+    let array = Name::new(alloc, b"c")?;
+    let name = array.component(alloc, 2)?;
+    Ok(Channel { name, protocol })
+}
+
+fn check_copy(rt: &impl Abort, alloc: Global, channel: &Channel) -> Result<(), Fail> {
+    let copy = channel.copy(alloc)?;
+    assert!(rt; copy.name.is_same(alloc, &channel.name)?);
+    check_printed(rt, alloc, &copy.protocol, &channel.protocol)
+}
+
+fn check_channel(rt: &impl Abort, alloc: Global, protocol: &Protocol) -> Result<(), Fail> {
+    let channel = channel(alloc, protocol.copy(alloc)?)?;
+    check_printed(rt, alloc, &channel.protocol, protocol)?;
+    check_copy(rt, alloc, &channel)
+}
+
+#[test]
+fn simple_channels_are_copied(rt: HostRuntime) -> Result<(), Fail> {
+    let alloc = rt.alloc();
+    let sizes = Items::from_slice(alloc, &[4])?;
+    check_channel(&rt, alloc, &Protocol::Simple(sizes, Primitive::Bool))
+}
+
+#[test]
+fn channels_of_counted_arrays_are_copied(rt: HostRuntime) -> Result<(), Fail> {
+    let protocol = Protocol::CountedArray(Primitive::Byte, Primitive::Int);
+    check_channel(&rt, rt.alloc(), &protocol)
+}
+
+#[test]
+fn channels_of_sequences_are_copied(rt: HostRuntime) -> Result<(), Fail> {
+    let alloc = rt.alloc();
+    let parts = part_types(alloc)?;
+    check_channel(&rt, alloc, &Protocol::Sequential(parts))
+}
+
+#[test]
+fn channels_of_variants_are_copied(rt: HostRuntime) -> Result<(), Fail> {
     let alloc = rt.alloc();
     let mut tags = Items::new(alloc);
     tags.push(tag(alloc)?)?;
-    let protocols = [
-        Protocol::Simple(Items::from_slice(alloc, &[4])?, Primitive::Bool),
-        Protocol::CountedArray(Primitive::Byte, Primitive::Int),
-        Protocol::Sequential(part_types(alloc)?),
-        Protocol::Variant(tags),
-    ];
-    for protocol in protocols.iter() {
-        let name = Name::new(alloc, b"c")?.component(alloc, 2)?;
-        let protocol = protocol.copy(alloc)?;
-        let channel = Channel { name, protocol };
-        let copy = channel.copy(alloc)?;
-        assert_eq!(rt;
-            format!(in alloc; "{:?}", copy.protocol)?,
-            format!(in alloc; "{:?}", channel.protocol)?
-        );
-        assert!(rt; copy.name.is_same(alloc, &channel.name)?);
-    }
+    check_channel(&rt, alloc, &Protocol::Variant(tags))
+}
+
+/// A name is the same as the one of these letters, or not.
+fn check_same(
+    rt: &impl Abort,
+    alloc: Global,
+    name: &Name,
+    letters: &[u8],
+    wanted: bool,
+) -> Result<(), Fail> {
+    let other = Name::new(alloc, letters)?;
+    assert_eq!(rt; name.is_same(alloc, &other)?, wanted);
     Ok(())
+}
+
+/// The component 0 of the component 10.
+fn component(alloc: Global) -> Result<Name, AllocError> {
+    let array = Name::new(alloc, b"a")?;
+    let row = array.component(alloc, 10)?;
+    row.component(alloc, 0)
 }
 
 #[test]
 fn names_of_components_are_written(rt: HostRuntime) -> Result<(), Fail> {
     let alloc = rt.alloc();
-    let name = Name::new(alloc, b"a")?
-        .component(alloc, 10)?
-        .component(alloc, 0)?;
+    let name = component(alloc)?;
     let mut letters = Vec::new(alloc);
     name.write(alloc, &mut letters)?;
     assert_eq!(rt; letters.as_slice(), b"a[10][0]".as_slice());
-    assert!(rt; name.is_same(alloc, &Name::new(alloc, b"a[10][0]")?)?);
-    assert!(rt; !name.is_same(alloc, &Name::new(alloc, b"a[10]")?)?);
-    Ok(())
+    check_same(&rt, alloc, &name, b"a[10][0]", true)?;
+    check_same(&rt, alloc, &name, b"a[10]", false)
 }
 
 #[test]

@@ -1,38 +1,47 @@
 //! The layers below a run: the lines of a text, the usage check, and the code of a program.
 use crate::unfolded::{empty_par, letter, stops};
-use occ_code::{Code, CodeFault, Instr, MOST_INSTRUCTIONS, compile};
+use occ_code::{Body, Code, CodeFault, Instr, MOST_INSTRUCTIONS, compile};
 use occ_term::{Item, Primitive, Protocol, Term, TermExpr, Unfolded};
-use occ_text::{Sym, Token, read_lines};
+use occ_text::{Line, Source, Sym, TextFault, Token, read_lines};
 use occ_usage::{Checked, check_usage};
-use std::alloc::Global;
+use std::alloc::{AllocError, Global};
 use std::process::Abort;
 use std::test::Fail;
 
-#[test]
-fn lines_are_read(rt: HostRuntime) -> Result<(), Fail> {
-    let text = b"a := 1 + -- note\n\n   2\n".as_slice();
-    let Ok(source) = read_lines(rt.alloc(), text) else {
-        assert!(rt; false, "refused");
-        return Ok(());
-    };
-    assert_eq!(rt; source.lines.len(), 1);
-    for line in source.lines.iter() {
-        assert_eq!(rt; line.number, 1);
-        assert_eq!(rt; line.level, 0);
-        assert!(rt;
-            matches!(
-                line.words.as_slice(),
-                [
-                    Token::Name(_),
-                    Token::Sym(Sym::Assign),
-                    Token::Number(1),
-                    Token::Sym(Sym::Plus),
-                    Token::Number(2),
-                ]
-            )
-        );
+/// The line `a := 1 + 2`.
+fn check_line(rt: &impl Abort, line: &Line) {
+    assert_eq!(rt; line.number, 1);
+    assert_eq!(rt; line.level, 0);
+    assert!(rt;
+        matches!(
+            line.words.as_slice(),
+            [
+                Token::Name(_),
+                Token::Sym(Sym::Assign),
+                Token::Number(1),
+                Token::Sym(Sym::Plus),
+                Token::Number(2),
+            ]
+        )
+    );
+}
+
+fn check_lines(rt: &impl Abort, read: &Result<Source, TextFault>) {
+    match read {
+        Ok(source) => {
+            assert_eq!(rt; source.lines.len(), 1);
+            for line in &source.lines {
+                check_line(rt, line);
+            }
+        }
+        Err(_) => assert!(rt; false, "refused"),
     }
-    Ok(())
+}
+
+#[test]
+fn lines_are_read(rt: HostRuntime) {
+    let text = b"a := 1 + -- note\n\n   2\n".as_slice();
+    check_lines(&rt, &read_lines(rt.alloc(), text));
 }
 
 /// Whether a letter alone is output.
@@ -121,24 +130,7 @@ fn output_on_the_keyboard_is_refused(rt: HostRuntime) -> Result<(), Fail> {
     Ok(())
 }
 
-#[test]
-fn a_letter_has_code(rt: HostRuntime) -> Result<(), Fail> {
-    let alloc = rt.alloc();
-    let Ok(checked) = check_usage(alloc, letter(alloc, 1)?) else {
-        assert!(rt; false, "refused");
-        return Ok(());
-    };
-    let Ok(code) = compile(alloc, &checked) else {
-        assert!(rt; false, "no code");
-        return Ok(());
-    };
-    assert_eq!(rt; code.len(), 1);
-    assert_eq!(rt; code.channels().len(), 3);
-    assert!(rt; code.body(1).is_none());
-    let Some(body) = code.body(0) else {
-        assert!(rt; false, "no body");
-        return Ok(());
-    };
+fn check_body(rt: &impl Abort, body: &Body) {
     assert!(rt;
         matches!(
             body.code(),
@@ -155,31 +147,67 @@ fn a_letter_has_code(rt: HostRuntime) -> Result<(), Fail> {
     assert!(rt; body.writes().is_empty());
     assert_eq!(rt; body.loops(), 0);
     assert_eq!(rt; body.quantum(), 1);
+}
+
+fn check_code(rt: &impl Abort, code: &Code) {
+    assert_eq!(rt; code.len(), 1);
+    assert_eq!(rt; code.channels().len(), 3);
+    assert!(rt; code.body(1).is_none());
+    match code.body(0) {
+        Some(body) => check_body(rt, body),
+        None => assert!(rt; false, "no body"),
+    }
+}
+
+#[test]
+fn a_letter_has_code(rt: HostRuntime) -> Result<(), Fail> {
+    let alloc = rt.alloc();
+    match code_of(alloc, letter(alloc, 1)?) {
+        Some(code) => check_code(&rt, &code),
+        None => assert!(rt; false, "no code"),
+    }
     Ok(())
 }
 
-/// How many instructions a program of so many STOPs has; none where it is too large.
-fn instructions_of(rt: &impl Abort, alloc: Global, count: u32) -> Result<Option<usize>, Fail> {
-    let Ok(checked) = check_usage(alloc, stops(alloc, count)?) else {
-        assert!(rt; false, "refused");
-        return Ok(None);
-    };
-    match compile(alloc, &checked) {
-        Ok(code) => Ok(code.body(0).map(|body| body.code().len())),
-        Err(CodeFault::TooLarge) => Ok(None),
+/// How many instructions there are; none where the program is too large.
+fn instructions_in(rt: &impl Abort, compiled: &Result<Code, CodeFault>) -> Option<usize> {
+    match compiled {
+        Ok(code) => code.body(0).map(|body| body.code().len()),
+        Err(CodeFault::TooLarge) => None,
         Err(CodeFault::BadQuantum) | Err(CodeFault::Memory) => {
             assert!(rt; false, "not compiled");
+            None
+        }
+    }
+}
+
+/// How many instructions a program of so many STOPs has; none where it is too large.
+fn instructions_of(
+    rt: &impl Abort,
+    alloc: Global,
+    count: u32,
+) -> Result<Option<usize>, AllocError> {
+    match lawful(alloc, stops(alloc, count)?) {
+        Some(checked) => Ok(instructions_in(rt, &compile(alloc, &checked))),
+        None => {
+            assert!(rt; false, "refused");
             Ok(None)
         }
     }
 }
 
+/// Numbers of STOPs, and how many instructions there are.
+static LIMITS: [(u32, Option<usize>); 3] = [
+    (3, Some(4)),
+    (262_143, Some(262_144)),
+    (262_144, None),
+];
+
 #[test]
 fn code_has_a_limit(rt: HostRuntime) -> Result<(), Fail> {
-    let alloc = rt.alloc();
     assert_eq!(rt; MOST_INSTRUCTIONS, 262_144);
-    assert_eq!(rt; instructions_of(&rt, alloc, 3)?, Some(4));
-    assert_eq!(rt; instructions_of(&rt, alloc, 262_143)?, Some(262_144));
-    assert_eq!(rt; instructions_of(&rt, alloc, 262_144)?, None);
+    for (count, wanted) in &LIMITS {
+        assert_eq!(rt; instructions_of(&rt, rt.alloc(), *count)?, *wanted);
+    }
     Ok(())
 }

@@ -7,7 +7,7 @@ use std::test::Fail;
 /// A text, and what is read: for each line its number, its level and its words, or the refusal.
 struct Row(&'static [u8], &'static str);
 
-const LINES: [Row; 30] = [
+static LINES: [Row; 30] = [
     Row(b"", ""),
     Row(b" \n   \r\n-- only a comment\n", ""),
     Row(b"a := 1 + -- note\n\n   2\n", "1 0: a Assign 1 Plus 2\n"),
@@ -61,7 +61,7 @@ const LINES: [Row; 30] = [
     ),
 ];
 
-const REFUSALS: [Row; 32] = [
+static REFUSALS: [Row; 32] = [
     Row(b"SKIP\t", "refused 2 BadByte line 1"),
     Row(b"\tSKIP", "refused 2 BadByte line 1"),
     Row(b"x\ry", "refused 2 BadByte line 1"),

@@ -1,6 +1,8 @@
 //! The grammar: sources that have a tree, and sources that have none.
 use occ_text::read_lines;
 use occ_tree::parse;
+use occ_tree_grammar::ParseFault;
+use occ_tree_grammar::tree::process::Program;
 use std::alloc::{AllocError, Global};
 use std::process::Abort;
 use std::test::Fail;
@@ -8,7 +10,7 @@ use std::test::Fail;
 const HEAD: &[u8] = b"PROC main (CHAN OF BYTE keyboard, screen)\n";
 
 /// Bodies of `main` that have a tree.
-const BODIES: [&[u8]; 48] = [
+static BODIES: [&[u8]; 48] = [
     b"  screen ! 'A'\n",
     b"  INT x:\n  x := 2147483647 + 1\n",
     b"  INT x:\n  SEQ\n    x := (MOSTNEG INT) \\ (-1)\n    screen ! BYTE (x + 48)\n",
@@ -60,7 +62,7 @@ const BODIES: [&[u8]; 48] = [
 ];
 
 /// Whole sources that have a tree.
-const SOURCES: [&[u8]; 6] = [
+static SOURCES: [&[u8]; 6] = [
     b"",
     b"PROTOCOL msg\n  CASE\n    data; INT\n    quit\n:\nPROC main (CHAN OF BYTE keyboard, screen)\n  CHAN OF msg c:\n  PAR\n    SEQ\n      c ! data; 5\n      c ! quit\n    INT x:\n    SEQ\n      c ? CASE data; x\n      screen ! BYTE (x + 48)\n      c ? CASE data; x\n:\n",
     b"PROC swap (INT a, b)\n  a, b := b, a\n:\nPROC main (CHAN OF BYTE keyboard, screen)\n  INT x:\n  swap (x, x)\n:\n",
@@ -70,7 +72,7 @@ const SOURCES: [&[u8]; 6] = [
 ];
 
 /// Bodies of `main` that have no tree, and how they are refused.
-const REFUSED: [(&[u8], &str); 24] = [
+static REFUSED: [(&[u8], &str); 24] = [
     (
         b"  INT x:\n  x := 1 + 2 + 3\n",
         "refused 20 Unexpected line 3",
@@ -125,7 +127,7 @@ const REFUSED: [(&[u8], &str); 24] = [
 ];
 
 /// Whole sources that have no tree, and how they are refused.
-const REFUSED_SOURCES: [(&[u8], &str); 8] = [
+static REFUSED_SOURCES: [(&[u8], &str); 8] = [
     (
         b"PROC main ( CHAN OF BYTE keyboard , screen )\n  screen ! 'A'\n",
         "refused 22 Missing line 2",
@@ -148,28 +150,20 @@ const REFUSED_SOURCES: [(&[u8], &str); 8] = [
     (b"SKIP", "refused 20 Unexpected line 1"),
 ];
 
-fn check_tree(
-    rt: &impl Abort,
-    alloc: Global,
-    source: &[u8],
-    refusal: Option<&str>,
-) -> Result<(), Fail> {
-    let lines = read_lines(alloc, source)?;
-    match (parse(alloc, &lines), refusal) {
-        (Ok(_), None) => Ok(()),
-        (Err(fault), Some(text)) => {
-            assert_eq!(rt; fault.to_string(alloc)?.as_str(), text);
-            Ok(())
-        }
-        (Ok(_), Some(text)) => {
-            assert!(rt; false, "has a tree, and not {text}");
-            Ok(())
-        }
-        (Err(fault), None) => {
-            assert!(rt; false, "{fault}");
-            Ok(())
-        }
+/// How a source is refused; empty where it has a tree.
+fn told(alloc: Global, parsed: &Result<Program, ParseFault>) -> Result<String, AllocError> {
+    match parsed {
+        Ok(_) => Ok(String::new(alloc)),
+        Err(fault) => fault.to_string(alloc),
     }
+}
+
+/// Compares how a source is refused; empty where it is to have a tree.
+fn check_tree(rt: &impl Abort, alloc: Global, source: &[u8], refusal: &str) -> Result<(), Fail> {
+    let lines = read_lines(alloc, source)?;
+    let told = told(alloc, &parse(alloc, &lines))?;
+    assert_eq!(rt; told.as_str(), refusal);
+    Ok(())
 }
 
 fn main_with(alloc: Global, body: &[u8]) -> Result<Vec<u8>, AllocError> {
@@ -179,71 +173,87 @@ fn main_with(alloc: Global, body: &[u8]) -> Result<Vec<u8>, AllocError> {
     Ok(source)
 }
 
+fn check_body(rt: &impl Abort, alloc: Global, body: &[u8], refusal: &str) -> Result<(), Fail> {
+    let source = main_with(alloc, body)?;
+    check_tree(rt, alloc, &source, refusal)
+}
+
 #[test]
 fn sources_have_trees(rt: HostRuntime) -> Result<(), Fail> {
-    let alloc = rt.alloc();
-    for body in BODIES {
-        check_tree(&rt, alloc, &main_with(alloc, body)?, None)?;
+    for body in &BODIES {
+        check_body(&rt, rt.alloc(), body, "")?;
     }
-    for source in SOURCES {
-        check_tree(&rt, alloc, source, None)?;
+    for source in &SOURCES {
+        check_tree(&rt, rt.alloc(), source, "")?;
     }
     Ok(())
 }
 
 #[test]
 fn sources_have_no_tree(rt: HostRuntime) -> Result<(), Fail> {
-    let alloc = rt.alloc();
-    for (body, refusal) in REFUSED {
-        check_tree(&rt, alloc, &main_with(alloc, body)?, Some(refusal))?;
+    for (body, refusal) in &REFUSED {
+        check_body(&rt, rt.alloc(), body, refusal)?;
     }
-    for (source, refusal) in REFUSED_SOURCES {
-        check_tree(&rt, alloc, source, Some(refusal))?;
+    for (source, refusal) in &REFUSED_SOURCES {
+        check_tree(&rt, rt.alloc(), source, refusal)?;
     }
     Ok(())
 }
 
-/// An assignment with so many open brackets, of which these are every second.
-fn bracketed(
-    alloc: Global,
-    count: usize,
-    open: [&[u8]; 2],
-    close: [&[u8]; 2],
-) -> Result<Vec<u8>, AllocError> {
+/// Brackets, of which each is every second.
+struct Brackets {
+    open: [&'static [u8]; 2],
+    close: [&'static [u8]; 2],
+}
+
+static BRACKETS: [Brackets; 3] = [
+    Brackets {
+        open: [b"(", b"("],
+        close: [b")", b")"],
+    },
+    Brackets {
+        open: [b"a[", b"a["],
+        close: [b"]", b"]"],
+    },
+    Brackets {
+        open: [b"(", b"a["],
+        close: [b")", b"]"],
+    },
+];
+
+/// An assignment with so many open brackets.
+fn bracketed(alloc: Global, count: usize, brackets: &Brackets) -> Result<Vec<u8>, AllocError> {
     let mut line = Vec::from_slice(alloc, b"  x := ")?;
     for level in 0..count {
-        line.extend_from_slice(open[level % 2])?;
+        line.extend_from_slice(brackets.open[level % 2])?;
     }
     line.push(b'1')?;
     for level in (0..count).rev() {
-        line.extend_from_slice(close[level % 2])?;
+        line.extend_from_slice(brackets.close[level % 2])?;
     }
     line.push(b'\n')?;
     Ok(line)
 }
 
-#[test]
-fn brackets_have_a_bound(rt: HostRuntime) -> Result<(), Fail> {
-    let alloc = rt.alloc();
-    let parentheses: ([&[u8]; 2], [&[u8]; 2]) = ([b"(", b"("], [b")", b")"]);
-    let subscripts: ([&[u8]; 2], [&[u8]; 2]) = ([b"a[", b"a["], [b"]", b"]"]);
-    let mixed: ([&[u8]; 2], [&[u8]; 2]) = ([b"(", b"a["], [b")", b"]"]);
-    for (open, close) in [parentheses, subscripts, mixed] {
-        let most = bracketed(alloc, 64, open, close)?;
-        check_tree(&rt, alloc, &main_with(alloc, &most)?, None)?;
-        let too_many = bracketed(alloc, 65, open, close)?;
-        let refusal = Some("refused 23 TooDeep line 2");
-        check_tree(&rt, alloc, &main_with(alloc, &too_many)?, refusal)?;
+fn check_brackets(rt: &impl Abort, alloc: Global, count: usize, refusal: &str) -> Result<(), Fail> {
+    for brackets in &BRACKETS {
+        let body = bracketed(alloc, count, brackets)?;
+        check_body(rt, alloc, &body, refusal)?;
     }
     Ok(())
 }
 
 #[test]
+fn brackets_have_a_bound(rt: HostRuntime) -> Result<(), Fail> {
+    check_brackets(&rt, rt.alloc(), 64, "")?;
+    check_brackets(&rt, rt.alloc(), 65, "refused 23 TooDeep line 2")
+}
+
+#[test]
 fn many_siblings_are_read(rt: HostRuntime) -> Result<(), Fail> {
     let alloc = rt.alloc();
+    let skips = b"    SKIP\n".repeat(alloc, 100_000)?;
     let mut body = Vec::from_slice(alloc, b"  SEQ\n")?;
-    for _ in 0..100_000 {
-        body.extend_from_slice(b"    SKIP\n")?;
-    }
-    check_tree(&rt, alloc, &main_with(alloc, &body)?, None)
+    body.extend_from_slice(&skips)?;
+    check_body(&rt, alloc, &body, "")
 }

@@ -1,6 +1,6 @@
 //! Small unfolded programs.
 ghost use Rattle.std.specs.Prelude.{◌≡◌, ◌<◌, ◌∷◌, [], IfOk, length, map, replicate};
-ghost use Rattle.occ_term.specs.Unfolding.{byte_channel, first_channels};
+ghost use Rattle.occ_term.specs.UnfoldedProgram.{byte_channel, first_channels};
 ghost use Rattle.occ_term.specs.View.{term_of};
 ghost use Rattle.occ_term.specs.declared.term.Term.TheVariants as terms;
 ghost use Rattle.rows_layers.specs.SmallPrograms.{IsPlain, letter_on, par_of_none, stops_in_sequence};

@@ -19,22 +19,22 @@ const MOST_POS: i32 = i32::MAX;
 /// An operator on two constants in line 7, and its value or its fault.
 struct OnTwo(Operator, Primitive, i32, i32, &'static str);
 
-const TWO: [OnTwo; 44] = [
-    OnTwo(Operator::Plus, Primitive::Int, MOST_POS, 1, "Arith 7"),
-    OnTwo(Operator::Plus, Primitive::Int, MOST_POS, -1, "2147483646"),
-    OnTwo(Operator::Minus, Primitive::Int, MOST_NEG, 1, "Arith 7"),
-    OnTwo(Operator::Minus, Primitive::Byte, 0, 1, "Arith 7"),
-    OnTwo(Operator::Times, Primitive::Int, 46341, 46341, "Arith 7"),
+static TWO: [OnTwo; 44] = [
+    OnTwo(Operator::Add, Primitive::Int, MOST_POS, 1, "Arith 7"),
+    OnTwo(Operator::Add, Primitive::Int, MOST_POS, -1, "2147483646"),
+    OnTwo(Operator::Subtract, Primitive::Int, MOST_NEG, 1, "Arith 7"),
+    OnTwo(Operator::Subtract, Primitive::Byte, 0, 1, "Arith 7"),
+    OnTwo(Operator::Multiply, Primitive::Int, 46341, 46341, "Arith 7"),
     OnTwo(
-        Operator::Times,
+        Operator::Multiply,
         Primitive::Int,
         MOST_NEG,
         MOST_NEG,
         "Arith 7",
     ),
-    OnTwo(Operator::Times, Primitive::Byte, 15, 17, "255"),
-    OnTwo(Operator::Plus, Primitive::Byte, 200, 100, "Arith 7"),
-    OnTwo(Operator::PlusModulo, Primitive::Byte, 200, 100, "44"),
+    OnTwo(Operator::Multiply, Primitive::Byte, 15, 17, "255"),
+    OnTwo(Operator::Add, Primitive::Byte, 200, 100, "Arith 7"),
+    OnTwo(Operator::Plus, Primitive::Byte, 200, 100, "44"),
     OnTwo(Operator::Divide, Primitive::Int, -7, 2, "-3"),
     OnTwo(Operator::Divide, Primitive::Int, 7, -2, "-3"),
     OnTwo(Operator::Divide, Primitive::Int, -7, -2, "3"),
@@ -44,29 +44,11 @@ const TWO: [OnTwo; 44] = [
     OnTwo(Operator::Remainder, Primitive::Int, 7, -2, "1"),
     OnTwo(Operator::Remainder, Primitive::Int, 1, 0, "Arith 7"),
     OnTwo(Operator::Remainder, Primitive::Int, MOST_NEG, -1, "0"),
-    OnTwo(
-        Operator::PlusModulo,
-        Primitive::Int,
-        MOST_POS,
-        1,
-        "-2147483648",
-    ),
-    OnTwo(
-        Operator::MinusModulo,
-        Primitive::Int,
-        MOST_NEG,
-        1,
-        "2147483647",
-    ),
-    OnTwo(Operator::MinusModulo, Primitive::Byte, 0, 1, "255"),
-    OnTwo(Operator::TimesModulo, Primitive::Int, 65536, 65536, "0"),
-    OnTwo(
-        Operator::TimesModulo,
-        Primitive::Int,
-        MOST_NEG,
-        -1,
-        "-2147483648",
-    ),
+    OnTwo(Operator::Plus, Primitive::Int, MOST_POS, 1, "-2147483648"),
+    OnTwo(Operator::Minus, Primitive::Int, MOST_NEG, 1, "2147483647"),
+    OnTwo(Operator::Minus, Primitive::Byte, 0, 1, "255"),
+    OnTwo(Operator::Times, Primitive::Int, 65536, 65536, "0"),
+    OnTwo(Operator::Times, Primitive::Int, MOST_NEG, -1, "-2147483648"),
     OnTwo(Operator::BitAnd, Primitive::Int, -1, 255, "255"),
     OnTwo(Operator::BitOr, Primitive::Byte, 128, 127, "255"),
     OnTwo(Operator::BitXor, Primitive::Int, -1, 255, "-256"),
@@ -93,7 +75,7 @@ const TWO: [OnTwo; 44] = [
 /// An operator on one constant in line 7.
 struct OnOne(Monadic, Primitive, i32, &'static str);
 
-const ONE: [OnOne; 6] = [
+static ONE: [OnOne; 6] = [
     OnOne(Monadic::Negate, Primitive::Int, MOST_NEG, "Arith 7"),
     OnOne(Monadic::Negate, Primitive::Int, MOST_POS, "-2147483647"),
     OnOne(Monadic::Negate, Primitive::Byte, 1, "Arith 7"),
@@ -105,7 +87,7 @@ const ONE: [OnOne; 6] = [
 /// A conversion of a constant in line 7.
 struct To(Primitive, i32, &'static str);
 
-const TO: [To; 7] = [
+static TO: [To; 7] = [
     To(Primitive::Byte, 256, "Convert 7"),
     To(Primitive::Byte, 255, "255"),
     To(Primitive::Byte, -1, "Convert 7"),
@@ -178,7 +160,7 @@ fn sum(alloc: Global, a: i32, b: i32) -> Result<TermExpr, AllocError>
 {
     let a = Nested::new(alloc, TermExpr::Constant(i64::from(a)))?;
     let b = Nested::new(alloc, TermExpr::Constant(i64::from(b)))?;
-    Ok(TermExpr::Binary(Operator::Plus, Primitive::Int, 7, a, b))
+    Ok(TermExpr::Binary(Operator::Add, Primitive::Int, 7, a, b))
 }
 
 /// `(1 / 0) = 0`, with the division in line 3.
@@ -270,28 +252,52 @@ fn lazy_operators(rt: HostRuntime) -> Result<(), Fail> {
     check_or(&rt, alloc, 0, "Arith 3")
 }
 
+/// The sum of two in line 9.
+fn check_sum(
+    rt: &impl Abort,
+    alloc: Global,
+    a: TermExpr,
+    b: TermExpr,
+    wanted: &str,
+) -> Result<(), Fail> {
+    let e = two(alloc, Operator::Add, Primitive::Int, 9, a, b)?;
+    check(rt, alloc, &e, wanted)
+}
+
 #[test]
-fn first_fault_from_the_left(rt: HostRuntime) -> Result<(), Fail> {
+fn division_is_first_from_the_left(rt: HostRuntime) -> Result<(), Fail> {
     let alloc = rt.alloc();
-    let (a, b) = (divides_by_zero(alloc)?, shifts_too_far(alloc)?);
-    let e = two(alloc, Operator::Plus, Primitive::Int, 9, a, b)?;
-    check(&rt, alloc, &e, "Arith 3")?;
-    let (a, b) = (shifts_too_far(alloc)?, divides_by_zero(alloc)?);
-    let e = two(alloc, Operator::Plus, Primitive::Int, 9, a, b)?;
-    check(&rt, alloc, &e, "Shift 4")
+    let a = divides_by_zero(alloc)?;
+    let b = shifts_too_far(alloc)?;
+    check_sum(&rt, alloc, a, b, "Arith 3")
+}
+
+#[test]
+fn shift_is_first_from_the_left(rt: HostRuntime) -> Result<(), Fail> {
+    let alloc = rt.alloc();
+    let a = shifts_too_far(alloc)?;
+    let b = divides_by_zero(alloc)?;
+    check_sum(&rt, alloc, a, b, "Shift 4")
+}
+
+/// The value of `a + b` in a frame without variables, or its fault.
+fn shown_sum(alloc: Global, a: i32, b: i32) -> Result<String, AllocError> {
+    let frame = Frame::new(alloc, &[], 0)?;
+    let e = sum(alloc, a, b)?;
+    match value_of(&e, &frame) {
+        Ok(value) => format!(in alloc; "{value}"),
+        Err(fault) => show_fault(alloc, fault),
+    }
+}
+
+fn check_shown(rt: &impl Abort, alloc: Global, a: i32, b: i32, wanted: &str) -> Result<(), Fail> {
+    let shown = shown_sum(alloc, a, b)?;
+    assert_eq!(rt; shown.as_str(), wanted);
+    Ok(())
 }
 
 #[test]
 fn values_in_a_frame(rt: HostRuntime) -> Result<(), Fail> {
-    let alloc = rt.alloc();
-    let frame = Frame::new(alloc, &[], 0)?;
-    let e = sum(alloc, 40, 2)?;
-    assert_eq!(rt; value_of(&e, &frame).ok(), Some(42));
-    let e = sum(alloc, MOST_POS, 1)?;
-    let shown = match value_of(&e, &frame) {
-        Ok(_) => String::from_str(alloc, "none")?,
-        Err(fault) => show_fault(alloc, fault)?,
-    };
-    assert_eq!(rt; shown.as_str(), "Arith 7");
-    Ok(())
+    check_shown(&rt, rt.alloc(), 40, 2, "42")?;
+    check_shown(&rt, rt.alloc(), MOST_POS, 1, "Arith 7")
 }

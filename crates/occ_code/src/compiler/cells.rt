@@ -1,16 +1,15 @@
 //! The cells that a process uses, and those that it writes.
 ghost use Rattle.std.specs.Prelude.{◌≡◌, ◌∷◌, [], ◌++◌, ◌<◌, ◌≤◌, IfOk, OnOk, get_or, if◌then◌else◌, List, length, max, nat_lt, set};
+ghost use Rattle.occ_term.specs.UnfoldedProgram.{most_cells};
 ghost use Rattle.occ_usage.specs.Noted.{uses_in};
 ghost use Rattle.occ_usage.specs.declared.noted.Use.{Use};
-ghost use Rattle.occ_code.specs.Alike.{Lists};
-ghost use Rattle.occ_code.specs.Sequential.Cells.{AreEnds, AreReached, counted, covers, end_of, furthest, is_counted as is_counted_use};
-ghost use Rattle.occ_code.specs.Sequential.Within.{AreWithin};
+ghost use Rattle.occ_code.specs.SameStop.{Lists};
+ghost use Rattle.occ_code.specs.Cells.{AreEnds, AreReached, counted, covers, end_of, furthest, is_counted as is_counted_use};
+ghost use Rattle.occ_code.specs.Within.{AreWithin};
 
+use occ_term::MOST_CELLS;
 use occ_usage::{Kind, Use};
 use std::alloc::{AllocError, Global};
-
-/// How many cells a program may have.
-const MOST_CELLS: usize = 65_536;
 
 /// The cells that are written, or also those that are read, rising. They are all where none is past the limit, as in every
 /// well-formed program. The error is a refused growth.
@@ -20,7 +19,7 @@ pub(crate) fn rising_cells(
     writes_only: bool,
 ) -> Result<Vec<u32>, AllocError>
     ensures lists { IfOk result (λ xs. AreWithin (counted writes_only (uses_in uses.now)) → Lists xs.items (counted writes_only (uses_in uses.now))) }
-    ensures few { IfOk result (λ xs. length xs.items ≤ 65536) }
+    ensures few { IfOk result (λ xs. length xs.items ≤ most_cells) }
 {
     let count = furthest_end(uses, writes_only);
     if count > MOST_CELLS {
@@ -120,7 +119,7 @@ fn larger(a: usize, b: usize) -> usize
 
 /// The numbers that are reached.
 fn reached(alloc: Global, ends: &[usize]) -> Result<Vec<u32>, AllocError>
-    requires { length ends.now ≤ 65536 }
+    requires { length ends.now ≤ most_cells }
     ensures reached { IfOk result (λ xs. AreReached ends.now (length ends.now) xs.items) }
     ensures few { IfOk result (λ xs. length xs.items ≤ length ends.now) }
 {
@@ -134,7 +133,7 @@ fn reached(alloc: Global, ends: &[usize]) -> Result<Vec<u32>, AllocError>
 }
 
 fn note_number(numbers: &mut Vec<u32>, number: usize, furthest: usize) -> Result<(), AllocError>
-    requires { number < 65536 }
+    requires { number < most_cells }
     ensures { OnOk result (numbers.new.items ≡ numbers.old.items ++ (if nat_lt number furthest then number ∷ [] else [])) }
 {
     if number < furthest {

@@ -3,11 +3,11 @@ ghost use Rattle.std.specs.Prelude.{◌≡◌, ◌↔◌, ◌<◌, ◌≤◌, �
 ghost use Rattle.std.specs.Arc.{arc_value};
 ghost use Rattle.occ_term.specs.Processes.{processes_of};
 ghost use Rattle.occ_term.specs.declared.fault.Errors.{Errors};
-ghost use Rattle.occ_term.specs.Unfolding.{meaning};
+ghost use Rattle.occ_term.specs.UnfoldedProgram.{meaning};
 ghost use Rattle.occ_term.specs.View.{term_of};
-ghost use Rattle.occ_code.specs.Sequential.Compiled.{AreBodiesOf, IsCodeOf, IsCompiled, IsQuantum, IsRefused, CodeRefuses, most_instructions};
-ghost use Rattle.occ_code.specs.Sequential.Compiled as compiled;
-ghost use Rattle.occ_code.specs.Sequential.Within.{AllWithin};
+ghost use Rattle.occ_code.specs.Compiled.{AreBodiesOf, IsCodeOf, IsCompiled, IsQuantum, IsRefused, CodeRefuses, most_instructions};
+ghost use Rattle.occ_code.specs.Compiled as compiled;
+ghost use Rattle.occ_code.specs.Within.{AllWithin};
 
 use crate::channels::same_channels;
 use crate::compiler::body::Body;
@@ -31,7 +31,7 @@ pub enum CodeFault {
     /// It has more than `MOST_INSTRUCTIONS` instructions, as only a program can of which 32 times the nodes are more.
     #[error("refused 60 TooLarge")]
     TooLarge,
-    /// The quantum is not from 1 to 65,536.
+    /// The quantum is not from 1 to `MOST_QUANTUM`.
     #[error("refused 62 BadQuantum")]
     BadQuantum,
     /// A growth was refused.
@@ -73,7 +73,7 @@ pub struct Code {
 impl Model for Code {
     ghost use Rattle.std.specs.Prelude.{map};
     ghost use Rattle.std.specs.Arc.{arc_value};
-    ghost use Rattle.occ_code.specs.Sequential.Compiled.{Program, IsCompiled};
+    ghost use Rattle.occ_code.specs.Compiled.{Program, IsCompiled};
 
     ghost Value = { Program };
 
@@ -200,7 +200,7 @@ pub fn compile(alloc: Global, checked: &Checked) -> Result<Code, CodeFault>
 ///
 /// # Errors
 ///
-/// `BadQuantum` for a quantum that isn't from 1 to 65,536, before all else; then `TooLarge` past the
+/// `BadQuantum` for a quantum that isn't from 1 to `MOST_QUANTUM`, before all else; then `TooLarge` past the
 /// limit of instructions, and `Memory` for a refused growth.
 pub fn compile_for(alloc: Global, checked: &Checked, quantum: u32) -> Result<Code, CodeFault>
     ensures compiled { IfOk result (λ c. IsCodeOf checked.now quantum c) }

@@ -2,7 +2,7 @@
 ghost use Rattle.std.specs.Prelude.{◌≡◌, ◌+◌, ◌-◌, ◌^◌, max, min};
 ghost use Rattle.occ_term.specs.Terms as terms;
 ghost use Rattle.occ_term.specs.View.{arm_of, arms_of, reception_of, choice_of, choices_of, option_of, options_of, term_of, terms_of, variant_of, variants_of};
-ghost use Rattle.occ_code.specs.Sequential.Emitted.{counters_of, counters_of_arms, counters_of_list, counters_of_choices, counters_of_options, counters_of_else, counters_of_terms, counters_of_variants};
+ghost use Rattle.occ_code.specs.Emitted.{counters_of, counters_of_arms, counters_of_list, counters_of_choices, counters_of_options, counters_of_else, counters_of_terms, counters_of_variants};
 
 use occ_term::{Arm, Choice, Reception, Selection, Term, Variant};
 

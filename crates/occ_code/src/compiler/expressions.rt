@@ -1,11 +1,11 @@
 //! The code of expressions, items, targets and declarations.
 ghost use Rattle.std.specs.Prelude.{◌≡◌, ◌∷◌, [], ◌++◌, ◌*◌, ◌<◌, ◌^◌, OnOk, length, map, min, option_map};
 ghost use Rattle.occ_term.specs.Messages.{product as product_of};
-ghost use Rattle.occ_term.specs.Rows.{AreFew};
+ghost use Rattle.occ_term.specs.ArraySizes.{AreFew};
 ghost use Rattle.occ_term.specs.Terms.{OfOne, OfMany, OfCounted, Into, IntoCounted, Naming};
 ghost use Rattle.occ_term.specs.View.{expression_of, place_of, subscripts, array_of, item_of, items_of, target_of, targets_of, declaration_of, declarations_of, replicator_of};
-ghost use Rattle.occ_code.specs.Sequential.Expressions.{expression_code, place_code, subscripts_code, components_at, item_code, items_code, target_code, targets_code, declaration_code, declarations_code, storing_code, counting_code, assignment_code, single_target, single_value};
-ghost use Rattle.occ_code.specs.Sequential.View.{instruction_of, Emits};
+ghost use Rattle.occ_code.specs.Expressions.{expression_code, place_code, subscripts_code, components_at, item_code, items_code, target_code, targets_code, declaration_code, declarations_code, storing_code, counting_code, assignment_code, single_target, single_value};
+ghost use Rattle.occ_code.specs.View.{instruction_of, Emits};
 
 use crate::compiler::instr::Instr;
 use crate::compiler::pieces::{emitted, put, since};

@@ -1,6 +1,6 @@
 //! Emitting code from its end to its start.
 ghost use Rattle.std.specs.Prelude.{◌≡◌, ◌∷◌, [], ◌-◌, ◌<◌, IfOk, OnOk, length, set};
-ghost use Rattle.occ_code.specs.Sequential.View.{instruction_of, Emits};
+ghost use Rattle.occ_code.specs.View.{instruction_of, Emits};
 
 use crate::compiler::instr::Instr;
 use std::alloc::{AllocError, Global};

@@ -1,11 +1,12 @@
 //! Places for the cells that instructions name.
 ghost use Rattle.std.specs.Prelude.{◌≡◌, ◌≤◌, OnOk, length, map};
 ghost use Rattle.occ_term.specs.Frames.{place_among};
-ghost use Rattle.occ_code.specs.Sequential.Machine.{placed};
-ghost use Rattle.occ_code.specs.Sequential.View.{instruction_of};
+ghost use Rattle.occ_term.specs.UnfoldedProgram.{most_cells};
+ghost use Rattle.occ_code.specs.Machine.{placed};
+ghost use Rattle.occ_code.specs.View.{instruction_of};
 
 use crate::compiler::instr::Instr;
-use occ_term::Held;
+use occ_term::FrameCells;
 use std::alloc::{AllocError, Global};
 
 /// Each instruction that names one cell names its place among these from now on.
@@ -14,18 +15,18 @@ pub(crate) fn name_places(
     cells: &[u32],
     code: &mut Vec<Instr>,
 ) -> Result<(), AllocError>
-    requires { length cells.now ≤ 65536 }
+    requires { length cells.now ≤ most_cells }
     ensures { OnOk result (map instruction_of code.new.items ≡ map (placed cells.now) (map instruction_of code.old.items)) }
 {
-    let held = Held::new(alloc, cells)?;
+    let held = FrameCells::new(alloc, cells)?;
     for instr in code.iter_mut() {
         name_place(&held, instr);
     }
     Ok(())
 }
 
-fn name_place(held: &Held, instr: &mut Instr)
-    requires { length held.now ≤ 65536 }
+fn name_place(held: &FrameCells, instr: &mut Instr)
+    requires { length held.now ≤ most_cells }
     ensures { instruction_of instr.new ≡ placed held.now (instruction_of instr.old) }
 {
     match instr {
@@ -39,8 +40,8 @@ fn name_place(held: &Held, instr: &mut Instr)
     }
 }
 
-fn place_of(held: &Held, cell: u32) -> u32
-    requires { length held.now ≤ 65536 }
+fn place_of(held: &FrameCells, cell: u32) -> u32
+    requires { length held.now ≤ most_cells }
     ensures { result ≡ place_among held.now cell }
 {
     held.place_among(cell) as u32

@@ -1,6 +1,6 @@
 //! Code with the same instructions.
 ghost use Rattle.std.specs.Prelude.{◌≡◌, ◌↔◌, IsTrue, map};
-ghost use Rattle.occ_code.specs.Sequential.View.{instruction_of};
+ghost use Rattle.occ_code.specs.View.{instruction_of};
 
 use crate::compiler::instr::Instr;
 use crate::same::{same_bytes, same_numbers, same_values};

@@ -59,7 +59,7 @@ prim_at _ = None
 
 -- how an expression starts
 abbrev pub start_of : Word → Start
-start_of (mark s.Minus) = starts.Monadic monadics.Minus
+start_of (mark s.Minus) = starts.Monadic monadics.Negate
 start_of (mark s.Tilde) = starts.Monadic monadics.Tilde
 start_of (key k.BitNot) = starts.Monadic monadics.BitNot
 start_of (key k.Not) = starts.Monadic monadics.Not
@@ -91,11 +91,11 @@ link_of (mark s.ShiftLeft) = links.Dyadic dyadics.ShiftLeft
 link_of (mark s.ShiftRight) = links.Dyadic dyadics.ShiftRight
 link_of (key k.After) = links.Dyadic dyadics.After
 link_of (mark s.Equal) = links.Dyadic dyadics.Equal
-link_of (mark s.NotEqual) = links.Dyadic dyadics.NotEqual
+link_of (mark s.NotEqual) = links.Dyadic dyadics.Unequal
 link_of (mark s.Less) = links.Dyadic dyadics.Less
 link_of (mark s.Greater) = links.Dyadic dyadics.Greater
-link_of (mark s.LessEqual) = links.Dyadic dyadics.LessEqual
-link_of (mark s.GreaterEqual) = links.Dyadic dyadics.GreaterEqual
+link_of (mark s.LessEqual) = links.Dyadic dyadics.AtMost
+link_of (mark s.GreaterEqual) = links.Dyadic dyadics.AtLeast
 link_of (key k.And) = links.Logic logics.And
 link_of (key k.Or) = links.Logic logics.Or
 link_of _ = links.End

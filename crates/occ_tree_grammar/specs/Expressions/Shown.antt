@@ -38,14 +38,14 @@ dyadic_word dyadics.ShiftLeft = mark s.ShiftLeft
 dyadic_word dyadics.ShiftRight = mark s.ShiftRight
 dyadic_word dyadics.After = key k.After
 dyadic_word dyadics.Equal = mark s.Equal
-dyadic_word dyadics.NotEqual = mark s.NotEqual
+dyadic_word dyadics.Unequal = mark s.NotEqual
 dyadic_word dyadics.Less = mark s.Less
 dyadic_word dyadics.Greater = mark s.Greater
-dyadic_word dyadics.LessEqual = mark s.LessEqual
-dyadic_word dyadics.GreaterEqual = mark s.GreaterEqual
+dyadic_word dyadics.AtMost = mark s.LessEqual
+dyadic_word dyadics.AtLeast = mark s.GreaterEqual
 
 abbrev pub monadic_word : Monadic → Word
-monadic_word monadics.Minus = mark s.Minus
+monadic_word monadics.Negate = mark s.Minus
 monadic_word monadics.Tilde = mark s.Tilde
 monadic_word monadics.BitNot = key k.BitNot
 monadic_word monadics.Not = key k.Not

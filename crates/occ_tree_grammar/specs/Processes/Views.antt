@@ -36,36 +36,36 @@ protocol_of (protocols.Tags l v case_line ts end_line) = of_tags l v.items case_
 
 unfoldable mutual
   pub process_of : ProcessTree → Node process
-  process_of (processes.Declared' shape ds l (stmts.Action a)) = node (row_decls ds) l (act (action_of a.value)) no_body
-  process_of (processes.Declared' shape ds l (stmts.Seq' s ps)) = node (row_decls ds) l (sequence None) (bodies (row_processes ps))
-  process_of (processes.Declared' shape ds l (stmts.SeqFor' r p n)) = node (row_decls ds) l (sequence (Some (replicator_of r.value))) (single_body (process_of n))
-  process_of (processes.Declared' shape ds l (stmts.Par' s ps)) = node (row_decls ds) l (parallel None) (bodies (row_processes ps))
-  process_of (processes.Declared' shape ds l (stmts.ParFor' r p n)) = node (row_decls ds) l (parallel (Some (replicator_of r.value))) (single_body (process_of n))
-  process_of (processes.Declared' shape ds l (stmts.Alt' pri s ms)) = node (row_decls ds) l (alternation pri None) (bodies (row_arms ms))
-  process_of (processes.Declared' shape ds l (stmts.AltFor' pri r p m)) = node (row_decls ds) l (alternation pri (Some (replicator_of r.value))) (single_body (arm_of m))
-  process_of (processes.Declared' shape ds l (stmts.If' s cs)) = node (row_decls ds) l (conditional None) (bodies (row_choices cs))
-  process_of (processes.Declared' shape ds l (stmts.IfFor' r p c)) = node (row_decls ds) l (conditional (Some (replicator_of r.value))) (single_body (choice_of c))
-  process_of (processes.Declared' shape ds l (stmts.Case' e s os)) = node (row_decls ds) l (selection (expression_of e.value)) (bodies (row_selections os))
-  process_of (processes.Declared' shape ds l (stmts.While' e p n)) = node (row_decls ds) l (loop (expression_of e.value)) (single_body (process_of n))
-  process_of (processes.Declared' shape ds l (stmts.Variants' v s vs)) = node (row_decls ds) l (input_variants (var_of v)) (bodies (row_variants vs))
+  process_of (processes.Declared' shape ds l (stmts.Action a)) = node (held_decls ds) l (act (action_of a.value)) no_body
+  process_of (processes.Declared' shape ds l (stmts.Seq' s ps)) = node (held_decls ds) l (sequence None) (bodies (held_processes ps))
+  process_of (processes.Declared' shape ds l (stmts.SeqFor' r p n)) = node (held_decls ds) l (sequence (Some (replicator_of r.value))) (single_body (process_of n))
+  process_of (processes.Declared' shape ds l (stmts.Par' s ps)) = node (held_decls ds) l (parallel None) (bodies (held_processes ps))
+  process_of (processes.Declared' shape ds l (stmts.ParFor' r p n)) = node (held_decls ds) l (parallel (Some (replicator_of r.value))) (single_body (process_of n))
+  process_of (processes.Declared' shape ds l (stmts.Alt' pri s ms)) = node (held_decls ds) l (alternation pri None) (bodies (held_arms ms))
+  process_of (processes.Declared' shape ds l (stmts.AltFor' pri r p m)) = node (held_decls ds) l (alternation pri (Some (replicator_of r.value))) (single_body (arm_of m))
+  process_of (processes.Declared' shape ds l (stmts.If' s cs)) = node (held_decls ds) l (conditional None) (bodies (held_choices cs))
+  process_of (processes.Declared' shape ds l (stmts.IfFor' r p c)) = node (held_decls ds) l (conditional (Some (replicator_of r.value))) (single_body (choice_of c))
+  process_of (processes.Declared' shape ds l (stmts.Case' e s os)) = node (held_decls ds) l (selection (expression_of e.value)) (bodies (held_selections os))
+  process_of (processes.Declared' shape ds l (stmts.While' e p n)) = node (held_decls ds) l (loop (expression_of e.value)) (single_body (process_of n))
+  process_of (processes.Declared' shape ds l (stmts.Variants' v s vs)) = node (held_decls ds) l (input_variants (var_of v)) (bodies (held_variants vs))
 
   pub choice_of : ChoiceTree → Node choice
-  choice_of (choices.When' shape ds l e n) = node (row_decls ds) l (chosen (expression_of e.value)) (single_body (process_of n))
-  choice_of (choices.InnerIf' shape ds l s cs) = node (row_decls ds) l (nested_conditional None) (bodies (row_choices cs))
-  choice_of (choices.InnerIfFor' shape ds l r p c) = node (row_decls ds) l (nested_conditional (Some (replicator_of r.value))) (single_body (choice_of c))
+  choice_of (choices.When' shape ds l e n) = node (held_decls ds) l (chosen (expression_of e.value)) (single_body (process_of n))
+  choice_of (choices.InnerIf' shape ds l s cs) = node (held_decls ds) l (nested_conditional None) (bodies (held_choices cs))
+  choice_of (choices.InnerIfFor' shape ds l r p c) = node (held_decls ds) l (nested_conditional (Some (replicator_of r.value))) (single_body (choice_of c))
 
   pub selection_of : SelectionTree → Node option
-  selection_of (selections.Values' shape ds l es n) = node (row_decls ds) l (values (expression_of es.value.first) (map expression_of es.value.others.items)) (single_body (process_of n))
-  selection_of (selections.Else' shape ds l n) = node (row_decls ds) l otherwise (single_body (process_of n))
+  selection_of (selections.Values' shape ds l es n) = node (held_decls ds) l (values (expression_of es.value.first) (map expression_of es.value.others.items)) (single_body (process_of n))
+  selection_of (selections.Else' shape ds l n) = node (held_decls ds) l otherwise (single_body (process_of n))
 
   pub arm_of : ArmTree → Node arm
-  arm_of (arms.Guarded' shape ds l g n) = node (row_decls ds) l (guarded (guard_of g.value)) (single_body (process_of n))
-  arm_of (arms.OnVariant' shape ds l g s vs) = node (row_decls ds) l (guarded_variants (option_map expression_of g.value.condition) (var_of g.value.channel)) (bodies (row_variants vs))
-  arm_of (arms.InnerAlt' shape ds l pri s ms) = node (row_decls ds) l (nested_alternation pri None) (bodies (row_arms ms))
-  arm_of (arms.InnerAltFor' shape ds l pri r p m) = node (row_decls ds) l (nested_alternation pri (Some (replicator_of r.value))) (single_body (arm_of m))
+  arm_of (arms.Guarded' shape ds l g n) = node (held_decls ds) l (guarded (guard_of g.value)) (single_body (process_of n))
+  arm_of (arms.OnVariant' shape ds l g s vs) = node (held_decls ds) l (guarded_variants (option_map expression_of g.value.condition) (var_of g.value.channel)) (bodies (held_variants vs))
+  arm_of (arms.InnerAlt' shape ds l pri s ms) = node (held_decls ds) l (nested_alternation pri None) (bodies (held_arms ms))
+  arm_of (arms.InnerAltFor' shape ds l pri r p m) = node (held_decls ds) l (nested_alternation pri (Some (replicator_of r.value))) (single_body (arm_of m))
 
   pub variant_of : VariantTree → Node variant
-  variant_of (variants.Tagged' shape ds l v ts n) = node (row_decls ds) l (tag v.items (map target_of ts.items)) (single_body (process_of n))
+  variant_of (variants.Tagged' shape ds l v ts n) = node (held_decls ds) l (tag v.items (map target_of ts.items)) (single_body (process_of n))
 
   pub decl_of : DeclTree → Decl
   decl_of (declTrees.Names l es t vs) = declares l (expressions (map expression_of es.items)) (sort_of t.value) vs.first.items (map (λ v. v.items) vs.others.items)
@@ -76,29 +76,29 @@ unfoldable mutual
   item_of (itemTrees.Protocol p) = protocol_item (protocol_of p)
   item_of (itemTrees.Proc l v fs n end_line) = proc_item l v.items (formals_of fs) (process_of n) end_line
 
-  pub row_decls : {m : _} → Row_of-Decl m → Decls
-  row_decls end_of-Decl = no_decl
-  row_decls (more_of-Decl d ds) = more_decls (decl_of d) (row_decls ds)
+  pub held_decls : {m : _} → Row_of-Decl m → Decls
+  held_decls end_of-Decl = no_decl
+  held_decls (more_of-Decl d ds) = more_decls (decl_of d) (held_decls ds)
 
-  pub row_processes : {m : _} → Row_of-Process m → Nodes process
-  row_processes end_of-Process = no_node
-  row_processes (more_of-Process n ns) = more_nodes (process_of n) (row_processes ns)
+  pub held_processes : {m : _} → Row_of-Process m → Nodes process
+  held_processes end_of-Process = no_node
+  held_processes (more_of-Process n ns) = more_nodes (process_of n) (held_processes ns)
 
-  pub row_choices : {m : _} → Row_of-Choice m → Nodes choice
-  row_choices end_of-Choice = no_node
-  row_choices (more_of-Choice n ns) = more_nodes (choice_of n) (row_choices ns)
+  pub held_choices : {m : _} → Row_of-Choice m → Nodes choice
+  held_choices end_of-Choice = no_node
+  held_choices (more_of-Choice n ns) = more_nodes (choice_of n) (held_choices ns)
 
-  pub row_selections : {m : _} → Row_of-Selection m → Nodes option
-  row_selections end_of-Selection = no_node
-  row_selections (more_of-Selection n ns) = more_nodes (selection_of n) (row_selections ns)
+  pub held_selections : {m : _} → Row_of-Selection m → Nodes option
+  held_selections end_of-Selection = no_node
+  held_selections (more_of-Selection n ns) = more_nodes (selection_of n) (held_selections ns)
 
-  pub row_arms : {m : _} → Row_of-Arm m → Nodes arm
-  row_arms end_of-Arm = no_node
-  row_arms (more_of-Arm n ns) = more_nodes (arm_of n) (row_arms ns)
+  pub held_arms : {m : _} → Row_of-Arm m → Nodes arm
+  held_arms end_of-Arm = no_node
+  held_arms (more_of-Arm n ns) = more_nodes (arm_of n) (held_arms ns)
 
-  pub row_variants : {m : _} → Row_of-Variant m → Nodes variant
-  row_variants end_of-Variant = no_node
-  row_variants (more_of-Variant n ns) = more_nodes (variant_of n) (row_variants ns)
+  pub held_variants : {m : _} → Row_of-Variant m → Nodes variant
+  held_variants end_of-Variant = no_node
+  held_variants (more_of-Variant n ns) = more_nodes (variant_of n) (held_variants ns)
 
 abbrev pub program_of : Program → List Item
 program_of p = map item_of p.items.items

@@ -25,7 +25,7 @@ pub fn start_with(first: &Token) -> Start
     ensures { result ≡ start_of (word first.now) }
 {
     match first {
-        Token::Sym(Sym::Minus) => Start::Monadic(Monadic::Minus),
+        Token::Sym(Sym::Minus) => Start::Monadic(Monadic::Negate),
         Token::Sym(Sym::Tilde) => Start::Monadic(Monadic::Tilde),
         Token::Key(Key::BitNot) => Start::Monadic(Monadic::BitNot),
         Token::Key(Key::Not) => Start::Monadic(Monadic::Not),
@@ -71,11 +71,11 @@ pub fn link_to(first: &Token) -> Link
         Token::Sym(Sym::ShiftRight) => Link::Dyadic(Dyadic::ShiftRight),
         Token::Key(Key::After) => Link::Dyadic(Dyadic::After),
         Token::Sym(Sym::Equal) => Link::Dyadic(Dyadic::Equal),
-        Token::Sym(Sym::NotEqual) => Link::Dyadic(Dyadic::NotEqual),
+        Token::Sym(Sym::NotEqual) => Link::Dyadic(Dyadic::Unequal),
         Token::Sym(Sym::Less) => Link::Dyadic(Dyadic::Less),
         Token::Sym(Sym::Greater) => Link::Dyadic(Dyadic::Greater),
-        Token::Sym(Sym::LessEqual) => Link::Dyadic(Dyadic::LessEqual),
-        Token::Sym(Sym::GreaterEqual) => Link::Dyadic(Dyadic::GreaterEqual),
+        Token::Sym(Sym::LessEqual) => Link::Dyadic(Dyadic::AtMost),
+        Token::Sym(Sym::GreaterEqual) => Link::Dyadic(Dyadic::AtLeast),
         Token::Key(Key::And) => Link::Logic(Logic::And),
         Token::Key(Key::Or) => Link::Logic(Logic::Or),
         _ => Link::End,

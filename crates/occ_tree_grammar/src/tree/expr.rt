@@ -61,22 +61,22 @@ pub enum Dyadic {
     /// `=`
     Equal,
     /// `<>`
-    NotEqual,
+    Unequal,
     /// `<`
     Less,
     /// `>`
     Greater,
     /// `<=`
-    LessEqual,
+    AtMost,
     /// `>=`
-    GreaterEqual,
+    AtLeast,
 }
 
 /// A one-sided operator, by its spelling.
 #[derive(Clone, Copy)]
 pub enum Monadic {
     /// `-`
-    Minus,
+    Negate,
     /// `~`
     Tilde,
     /// `BITNOT`

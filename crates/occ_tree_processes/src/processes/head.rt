@@ -1,38 +1,37 @@
-//! The lines at the head of processes, of their parts and of declarations, and the parts that have
-//! one process under them.
+//! The lines at the head of processes and of their parts, and the parts that have one process under
+//! them.
 
 ghost use Rattle.std.specs.Prelude.{◌≡◌, map};
-ghost use Rattle.occ_text.specs.Words.{rows};
+ghost use Rattle.occ_text.specs.Words.{logical_lines};
 ghost use Rattle.occ_tree_grammar.specs.Expressions.Reading.{Gives};
-ghost use Rattle.occ_tree_grammar.specs.Lines.HeadViews.{process_head_of, choice_head_of, option_head_of, arm_head_of, variant_head_of, decl_head_of};
+ghost use Rattle.occ_tree_grammar.specs.Lines.HeadViews.{choice_head_of, option_head_of, arm_head_of, variant_head_of};
 ghost use Rattle.occ_tree_grammar.specs.Processes.Trees.{decls, node, single_body, process as the_process, choice as the_choice, option as the_option, arm as the_arm, variant as the_variant};
 ghost use Rattle.occ_tree_grammar.specs.Processes.Views.{decl_of, process_of, selection_of, variant_of};
-ghost use Rattle.occ_tree_processes.specs.Heads.{line_with, declaration_line_with};
+ghost use Rattle.occ_tree_processes.specs.Heads.{line_with};
+ghost use Rattle.occ_tree_processes.specs.Opened.{opened_head};
 
 use crate::processes::line::line_of;
+use crate::processes::opened::{Opened, process_opened};
 use occ_text::Line;
 use occ_tree_grammar::ParseFault;
-use occ_tree_grammar::lines::head::{
-    ArmHead, ChoiceHead, DeclHead, OptionHead, ProcessHead, VariantHead,
-};
+use occ_tree_grammar::lines::head::{ArmHead, ChoiceHead, OptionHead, VariantHead};
 use occ_tree_grammar::tree::process::{Decl, Process, Selection, Variant};
-use occ_tree_lines::read_decl::decl_head;
 use occ_tree_lines::read_head::{arm_head, choice_head, option_head, process_head, variant_head};
 use std::alloc::Global;
 
-/// The line of a process that must stand at this level: its number and what it says.
+/// The line of a process that must stand at this level: its number, and what has to stand under it.
 pub fn process_line(
     alloc: Global,
     last: u32,
     level: u32,
     lines: &[Line],
-) -> Result<(u32, ProcessHead, &[Line]), ParseFault>
-    ensures { Gives (λ x. ((x.0, process_head_of x.1), rows x.2.now)) result (line_with the_process level (rows lines.now)) }
+) -> Result<(u32, Opened, &[Line]), ParseFault>
+    ensures { Gives (λ x. ((x.0, opened_head x.1), logical_lines x.2.now)) result (line_with the_process level (logical_lines lines.now)) }
 {
     let (first, rest) = line_of(last, level, lines)?;
     let line = first.number;
     let head = process_head(alloc, line, &first.words)?;
-    Ok((line, head, rest))
+    Ok((line, process_opened(head), rest))
 }
 
 /// The line of a choice that must stand at this level: its number and what it says.
@@ -42,7 +41,7 @@ pub fn choice_line(
     level: u32,
     lines: &[Line],
 ) -> Result<(u32, ChoiceHead, &[Line]), ParseFault>
-    ensures { Gives (λ x. ((x.0, choice_head_of x.1), rows x.2.now)) result (line_with the_choice level (rows lines.now)) }
+    ensures { Gives (λ x. ((x.0, choice_head_of x.1), logical_lines x.2.now)) result (line_with the_choice level (logical_lines lines.now)) }
 {
     let (first, rest) = line_of(last, level, lines)?;
     let line = first.number;
@@ -57,7 +56,7 @@ pub fn selection_line(
     level: u32,
     lines: &[Line],
 ) -> Result<(u32, OptionHead, &[Line]), ParseFault>
-    ensures { Gives (λ x. ((x.0, option_head_of x.1), rows x.2.now)) result (line_with the_option level (rows lines.now)) }
+    ensures { Gives (λ x. ((x.0, option_head_of x.1), logical_lines x.2.now)) result (line_with the_option level (logical_lines lines.now)) }
 {
     let (first, rest) = line_of(last, level, lines)?;
     let line = first.number;
@@ -72,7 +71,7 @@ pub fn arm_line(
     level: u32,
     lines: &[Line],
 ) -> Result<(u32, ArmHead, &[Line]), ParseFault>
-    ensures { Gives (λ x. ((x.0, arm_head_of x.1), rows x.2.now)) result (line_with the_arm level (rows lines.now)) }
+    ensures { Gives (λ x. ((x.0, arm_head_of x.1), logical_lines x.2.now)) result (line_with the_arm level (logical_lines lines.now)) }
 {
     let (first, rest) = line_of(last, level, lines)?;
     let line = first.number;
@@ -87,26 +86,11 @@ pub fn variant_line(
     level: u32,
     lines: &[Line],
 ) -> Result<(u32, VariantHead, &[Line]), ParseFault>
-    ensures { Gives (λ x. ((x.0, variant_head_of x.1), rows x.2.now)) result (line_with the_variant level (rows lines.now)) }
+    ensures { Gives (λ x. ((x.0, variant_head_of x.1), logical_lines x.2.now)) result (line_with the_variant level (logical_lines lines.now)) }
 {
     let (first, rest) = line_of(last, level, lines)?;
     let line = first.number;
     let head = variant_head(alloc, line, &first.words)?;
-    Ok((line, head, rest))
-}
-
-/// The line of a declaration that must stand at this level: its number and what it says.
-pub fn declaration_line(
-    alloc: Global,
-    last: u32,
-    level: u32,
-    lines: &[Line],
-) -> Result<(u32, DeclHead, &[Line]), ParseFault>
-    ensures { Gives (λ x. ((x.0, decl_head_of x.1), rows x.2.now)) result (declaration_line_with level (rows lines.now)) }
-{
-    let (first, rest) = line_of(last, level, lines)?;
-    let line = first.number;
-    let head = decl_head(alloc, line, &first.words)?;
     Ok((line, head, rest))
 }
 

@@ -2,7 +2,7 @@ use Rattle.std.proofs.Common.{◌≡◌, ◌∙◌, rules}
 use Rattle.occ_term.specs.Terms.{declared_arms, no_arms}
 use Rattle.occ_term.specs.View.{arms_of, declaration_of}
 use Rattle.occ_term.specs.declared.term.Arm.{the_lemmas}
-use Rattle.occ_check.proofs.Alternatives.{outwards_step}
+use Rattle.occ_check.proofs.ArmLists.{outwards_step}
 use Rattle.occ_check.proofs.arms.arms_behind.Goals as goal
 
 pub outwards-preserved : goal.outwards-preserved

@@ -2,7 +2,7 @@ use Rattle.std.proofs.Common.{◌≡◌, ◌∙◌, rules}
 use Rattle.occ_term.specs.Terms.{declared_choices, no_choices}
 use Rattle.occ_term.specs.View.{choices_of, declaration_of}
 use Rattle.occ_term.specs.declared.term.Choice.{the_lemmas}
-use Rattle.occ_check.proofs.Conditionals.{outwards_step}
+use Rattle.occ_check.proofs.ChoiceLists.{outwards_step}
 use Rattle.occ_check.proofs.choices.choices_behind.Goals as goal
 
 pub outwards-preserved : goal.outwards-preserved

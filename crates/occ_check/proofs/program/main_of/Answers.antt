@@ -1,7 +1,7 @@
 use Rattle.std.proofs.Common.{sym}
-use Rattle.occ_check_acting.proofs.Binding.{no_first, nothing}
+use Rattle.occ_check_acting.proofs.Calls.{no_first, nothing}
 use Rattle.occ_check.proofs.MainProcess.{last_here, no_main, not_here, nowhere}
-use Rattle.occ_check.specs.ProgramView.{main_in}
+use Rattle.occ_check.specs.Program.{main_in}
 use Rattle.occ_check.proofs.program.main_of.Goals as goal
 
 pub returns-in-Some-main_at : goal.returns-in-Some-main_at

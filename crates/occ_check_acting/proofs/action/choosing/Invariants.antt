@@ -1,4 +1,4 @@
-use Rattle.occ_check_acting.specs.ActionView.{chosen_of}
+use Rattle.occ_check_acting.specs.Action.{chosen_of}
 use Rattle.occ_check_acting.proofs.Choosing.{Going}
 use Rattle.occ_check_acting.proofs.action.choosing.Given as goal
 

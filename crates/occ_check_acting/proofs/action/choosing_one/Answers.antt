@@ -2,7 +2,7 @@ use Rattle.std.proofs.Common.{◌≡◌, ◌∙◌, ap, false, reverse, rules, s
 use Rattle.std.specs.Prelude.{not}
 use Rattle.std.proofs.lemmas.Int.{to_z-of_z}
 use Rattle.occ_check_meaning.specs.Actions.{has_constant}
-use Rattle.occ_check_acting.specs.ActionView.{chosen_of}
+use Rattle.occ_check_acting.specs.Action.{chosen_of}
 use Rattle.occ_check_clashes.proofs.Among.{constant_told, constants_more}
 use Rattle.occ_check_acting.proofs.Choosing.{chosen_before, chosen_now}
 use Rattle.occ_check_typing.proofs.Refusals.{refused}

@@ -1,6 +1,6 @@
 use Rattle.occ_tree_grammar.specs.Expressions.Trees.{expression_of}
 use Rattle.occ_term.specs.View.{item_of}
-use Rattle.occ_check_acting.specs.ActionView.{side_assigned}
+use Rattle.occ_check_acting.specs.Action.{side_assigned}
 use Rattle.occ_check_names.specs.View.{names_in}
 use Rattle.occ_check_typing.proofs.Zipping.{Zipping}
 use Rattle.occ_check_acting.proofs.action.each_side.Given as goal

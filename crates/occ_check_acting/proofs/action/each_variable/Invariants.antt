@@ -1,6 +1,6 @@
 use Rattle.occ_tree_grammar.specs.Lines.Views.{var_of}
 use Rattle.occ_check_meaning.specs.Items.{variable_of}
-use Rattle.occ_check_acting.specs.ActionView.{side_of}
+use Rattle.occ_check_acting.specs.Action.{side_of}
 use Rattle.occ_check_names.specs.View.{names_in}
 use Rattle.occ_check_typing.proofs.EachOf.{SoFar}
 use Rattle.occ_check_acting.proofs.action.each_variable.Given as goal

@@ -1,7 +1,7 @@
 use Rattle.std.proofs.Common.{◌≡◌, map}
 use Rattle.occ_term.specs.View.{targets_of}
 use Rattle.occ_check_meaning.specs.Items.{as_target}
-use Rattle.occ_check_acting.specs.ActionView.{side_of}
+use Rattle.occ_check_acting.specs.Action.{side_of}
 use Rattle.occ_check_acting.proofs.action.targets_of.Given as goal
 
 abbrev pub invariant-loop-part : goal.invariant-loop-part

@@ -1,6 +1,6 @@
 use Rattle.std.proofs.Common.{◌≡◌, ◌<◌, length, rules}
 use Rattle.occ_check_names.specs.View.{names_in}
-use Rattle.occ_check_acting.proofs.Binding.{actual_next, actual_stops, as_many, no_first, nothing, too_few, too_many}
+use Rattle.occ_check_acting.proofs.Calls.{actual_next, actual_stops, as_many, no_first, nothing, too_few, too_many}
 use Rattle.occ_check_acting.proofs.call.all_actuals.Goals as goal
 
 pub returns-in_default : goal.returns-in_default

@@ -1,5 +1,5 @@
 use Rattle.occ_check_names.specs.View.{names_in}
-use Rattle.occ_check_acting.proofs.Binding.{Binds}
+use Rattle.occ_check_acting.proofs.Calls.{Binds}
 use Rattle.occ_check_acting.proofs.call.all_actuals.Given as goal
 
 abbrev pub invariant-loop-formal : goal.invariant-loop-formal

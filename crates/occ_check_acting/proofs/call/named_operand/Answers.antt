@@ -1,6 +1,6 @@
 use Rattle.std.proofs.Common.{ap, Some}
 use Rattle.occ_tree_grammar.specs.Expressions.Trees.{Expressions}
-use Rattle.occ_tree_grammar.proofs.Rows.{expressions_made}
+use Rattle.occ_tree_grammar.proofs.Children.{expressions_made}
 use Rattle.occ_check_acting.proofs.call.named_operand.Goals as goal
 
 pub returns-in-Variable : goal.returns-in-Variable

@@ -1,7 +1,7 @@
 use Rattle.std.proofs.Common.{map, rules}
 use Rattle.occ_tree_grammar.specs.Expressions.Trees as trees
 use Rattle.occ_check_names.specs.View.{names_in, numbers_of}
-use Rattle.occ_check_acting.proofs.Binding.{all_given, first_stops, no_first, nothing, no_formal, others_stop}
+use Rattle.occ_check_acting.proofs.Calls.{all_given, first_stops, no_first, nothing, no_formal, others_stop}
 use Rattle.occ_check_acting.proofs.call.some_actuals.Goals as goal
 
 pub returns-in_default : goal.returns-in_default

@@ -1,6 +1,6 @@
 use Rattle.std.proofs.Common.{◌≡◌, ◌++◌, drop}
 use Rattle.occ_check_meaning.specs.Calls.{formal_names}
-use Rattle.occ_check_acting.specs.CallView.{formals_of}
+use Rattle.occ_check_acting.specs.Call.{formals_of}
 use Rattle.occ_check_acting.proofs.formals.formal_names.Given as goal
 
 abbrev pub invariant-loop-formal : goal.invariant-loop-formal

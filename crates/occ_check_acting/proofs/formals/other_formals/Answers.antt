@@ -1,6 +1,6 @@
 use Rattle.std.proofs.Common.{rules}
 use Rattle.occ_check_names.specs.View.{names_in}
-use Rattle.occ_check_acting.proofs.Binding.{formal_next, formal_stops, formals_end}
+use Rattle.occ_check_acting.proofs.Calls.{formal_next, formal_stops, formals_end}
 use Rattle.occ_check_acting.proofs.formals.other_formals.Goals as goal
 
 pub returns-in_err-one : goal.returns-in_err-one

@@ -1,5 +1,5 @@
 use Rattle.occ_check_names.specs.View.{names_in}
-use Rattle.occ_check_acting.proofs.Binding.{Lists}
+use Rattle.occ_check_acting.proofs.Calls.{Lists}
 use Rattle.occ_check_acting.proofs.formals.other_formals.Given as goal
 
 abbrev pub invariant-loop-formal : goal.invariant-loop-formal

@@ -1,9 +1,9 @@
 use Rattle.std.proofs.Common.{map, rules, ◌∙◌, ap}
 use Rattle.occ_tree_grammar.specs.Lines.Views as lines
 use Rattle.occ_check_meaning.specs.Calls.{formal_names}
-use Rattle.occ_check_acting.specs.CallView.{formals_of}
+use Rattle.occ_check_acting.specs.Call.{formals_of}
 use Rattle.occ_check_names.specs.View.{names_in}
-use Rattle.occ_check_acting.proofs.Binding.{list_stops, twice_stops}
+use Rattle.occ_check_acting.proofs.Calls.{list_stops, twice_stops}
 use Rattle.occ_check_acting.proofs.formals.some_formals.Goals as goal
 
 pub returns-in_err-all : goal.returns-in_err-all

@@ -1,5 +1,5 @@
 use Rattle.std.proofs.Common.{rules}
-use Rattle.occ_check_acting.proofs.Evaluating.{head_and_rest, joined_later, refused_later}
+use Rattle.occ_check_acting.proofs.GivenSubscripts.{head_and_rest, joined_later, refused_later}
 use Rattle.occ_check_acting.proofs.given.+all_evaluated.Goals as goal
 
 pub returns-in_err-then : goal.returns-in_err-then

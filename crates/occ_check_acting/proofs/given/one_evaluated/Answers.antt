@@ -3,7 +3,7 @@ use Rattle.std.proofs.lemmas.Int.{to_z-of_z}
 use Rattle.occ_term.specs.View.{expression_of}
 use Rattle.occ_check_meaning.specs.Calls as meant
 use Rattle.occ_check_names.specs.View.{numbers_of}
-use Rattle.occ_check_acting.specs.CallView.{Evaluates, one_constant}
+use Rattle.occ_check_acting.specs.Call.{Evaluates, one_constant}
 use Rattle.occ_check_acting.proofs.given.one_evaluated.Goals as goal
 
 pub returns-in-Some : goal.returns-in-Some

@@ -1,6 +1,6 @@
 use Rattle.occ_tree_grammar.specs.Lines.Views.{target_of as seen_target}
 use Rattle.occ_term.specs.View.{target_of}
-use Rattle.occ_check_acting.specs.ActionView.{stored_one}
+use Rattle.occ_check_acting.specs.Action.{stored_one}
 use Rattle.occ_check_names.specs.View.{names_in}
 use Rattle.occ_check_typing.proofs.Zipping.{Zipping}
 use Rattle.occ_check_acting.proofs.target.each_stored.Given as goal

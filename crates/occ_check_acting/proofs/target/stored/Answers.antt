@@ -1,9 +1,9 @@
 use Rattle.std.proofs.Common.{ap, subst, sym, ◌∙◌}
 use Rattle.occ_term.specs.View.{targets_of}
 use Rattle.occ_check_meaning.specs.Items.{apart}
-use Rattle.occ_check_clashes.specs.Clashing.{rows_at}
+use Rattle.occ_check_clashes.specs.Clash.{rows_at}
 use Rattle.occ_check_names.specs.View.{Refuses}
-use Rattle.occ_check_acting.proofs.Storing.{stored_clashes, stored_gives, stored_nothing}
+use Rattle.occ_check_acting.proofs.Targets.{stored_clashes, stored_gives, stored_nothing}
 use Rattle.occ_check_acting.proofs.target.stored.Goals as goal
 
 pub returns-in-Err : goal.returns-in-Err

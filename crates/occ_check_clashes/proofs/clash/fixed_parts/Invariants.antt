@@ -1,6 +1,6 @@
 use Rattle.std.proofs.Common.{◌≡◌, ◌++◌, drop, map}
 use Rattle.occ_check_typing.specs.Spans.{span_of}
-use Rattle.occ_check_clashes.specs.Clashing.{fixed_spans, rows_of}
+use Rattle.occ_check_clashes.specs.Clash.{fixed_spans, rows_of}
 use Rattle.occ_check_clashes.proofs.clash.fixed_parts.Given as goal
 
 abbrev pub invariant-loop-place : goal.invariant-loop-place

@@ -1,7 +1,7 @@
 use Rattle.std.proofs.Common.{◌≡◌, ◌++◌, drop}
 use Rattle.occ_term.specs.View.{targets_of}
-use Rattle.occ_check_clashes.specs.Clashing.{rows_at}
-use Rattle.occ_check_clashes.specs.Clashing.{rows_of}
+use Rattle.occ_check_clashes.specs.Clash.{rows_at}
+use Rattle.occ_check_clashes.specs.Clash.{rows_of}
 use Rattle.occ_check_clashes.proofs.clash.places_of.Given as goal
 
 abbrev pub invariant-loop-target : goal.invariant-loop-target

@@ -1,8 +1,8 @@
 use Rattle.std.proofs.Common.{◌≡◌, ◌∙◌, map, subst, sym}
 use Rattle.std.specs.Prelude.{Bool, IfOk}
 use Rattle.occ_check_typing.specs.Spans.{span_of}
-use Rattle.occ_check_clashes.specs.Clashing.{rows_of}
-use Rattle.occ_check_clashes.proofs.Fixing.{by_names, by_parts}
+use Rattle.occ_check_clashes.specs.Clash.{rows_of}
+use Rattle.occ_check_clashes.proofs.Clashes.{by_names, by_parts}
 use Rattle.occ_check_clashes.proofs.clash.some_places_clash.Goals as goal
 
 pub returns-then-some_meet : goal.returns-then-some_meet

@@ -1,6 +1,6 @@
 use Rattle.std.proofs.Common.{◌≡◌, ◌≤◌, drop, map}
 use Rattle.occ_term.specs.View.{expression_of, subscripts}
-use Rattle.occ_check_clashes.specs.Clashing.{met_by, reads_some, some_in_subscripts}
+use Rattle.occ_check_clashes.specs.Clash.{met_by, reads_some, some_in_subscripts}
 use Rattle.occ_term.proofs.expression.TermExpr.TheLaws.{the_size}
 use Rattle.occ_check_clashes.proofs.naming.+reading.Given as goal
 

@@ -2,8 +2,8 @@ use Rattle.std.proofs.Common.{◌≡◌, ◌∙◌, ap, arith, sym}
 use Rattle.std.specs.Prelude.{◌&&◌}
 use Rattle.occ_term.specs.Uses as uses
 use Rattle.occ_check_typing.specs.Spans.{span_of}
-use Rattle.occ_check_clashes.specs.Clashing.{shares}
-use Rattle.occ_check_clashes.proofs.ReadCells.{common}
+use Rattle.occ_check_clashes.specs.Clash.{shares}
+use Rattle.occ_check_clashes.proofs.NamedCells.{common}
 use Rattle.occ_check_clashes.proofs.naming.are_shared.Goals as goal
 
 pub returns-then-is_in : goal.returns-then-is_in

@@ -1,7 +1,7 @@
 use Rattle.std.proofs.Common.{rules, ℕ}
 use Rattle.std.specs.Prelude.{nat_lt}
 use Rattle.std.proofs.lemmas.List.Sorted.{IsPartitionPoint-from_clause, IsPartitionedBy-ltb}
-use Rattle.occ_check_clashes.proofs.Others.{point_below}
+use Rattle.occ_check_clashes.proofs.NamingOthers.{point_below}
 use Rattle.occ_check_clashes.proofs.naming.count_below.Goals as goal
 
 pub returns : goal.returns

@@ -1,5 +1,5 @@
 use Rattle.std.proofs.Common.{◌≡◌, ◌++◌, drop, map}
-use Rattle.occ_check_clashes.specs.Clashing.{begins_at, rows_of, variable_spans}
+use Rattle.occ_check_clashes.specs.Clash.{begins_at, rows_of, variable_spans}
 use Rattle.occ_check_clashes.proofs.naming.firsts_of.Given as goal
 
 abbrev pub invariant-loop-place : goal.invariant-loop-place

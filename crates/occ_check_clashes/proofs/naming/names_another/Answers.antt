@@ -2,8 +2,8 @@ use Rattle.std.proofs.Common.{◌≡◌, ◌∙◌, ap, map, rules}
 use Rattle.occ_term.specs.View.{expression_of, place_of, subscripts}
 use Rattle.occ_term.specs.declared.expression.TermExpr.{the_lemmas}
 use Rattle.occ_check_meaning.specs.Items.{variable_span}
-use Rattle.occ_check_clashes.specs.Clashing.{row_at}
-use Rattle.occ_check_clashes.specs.Clashing.{meets_another, some_in_subscripts}
+use Rattle.occ_check_clashes.specs.Clash.{row_at}
+use Rattle.occ_check_clashes.specs.Clash.{meets_another, some_in_subscripts}
 use Rattle.occ_check_clashes.proofs.naming.names_another.Goals as goal
 
 pub returns : goal.returns

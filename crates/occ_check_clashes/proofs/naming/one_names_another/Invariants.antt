@@ -1,5 +1,5 @@
 use Rattle.std.proofs.Common.{◌≡◌, drop}
-use Rattle.occ_check_clashes.specs.Clashing.{one_names_another, rows_of}
+use Rattle.occ_check_clashes.specs.Clash.{one_names_another, rows_of}
 use Rattle.occ_check_clashes.proofs.naming.one_names_another.Given as goal
 
 abbrev pub invariant-loop-place : goal.invariant-loop-place

@@ -1,8 +1,8 @@
 use Rattle.std.proofs.Common.{◌∙◌, List, subst, sym, ℕ}
 use Rattle.std.specs.List.Sorted.{IsNonDecreasingBy}
 use Rattle.std.proofs.lemmas.List.Sorted.{IsNonDecreasingBy-from_sort}
-use Rattle.occ_check_clashes.specs.Clashing.{one_names_another, rows_of}
-use Rattle.occ_check_clashes.proofs.Others.{named_by_sorted}
+use Rattle.occ_check_clashes.specs.Clash.{one_names_another, rows_of}
+use Rattle.occ_check_clashes.proofs.NamingOthers.{named_by_sorted}
 use Rattle.occ_check_clashes.proofs.naming.some_names_another.Goals as goal
 
 pub one_names_another-requires-clause-firsts : goal.one_names_another-requires-clause-firsts

@@ -1,6 +1,6 @@
 use Rattle.std.proofs.Common.{◌≡◌, ◌∙◌, ◌+◌, ◌-◌, ◌<◌, ap, arith, drop, length, rules, []}
 use Rattle.occ_check_meaning.specs.Items.{tag_number}
-use Rattle.occ_check_clashes.proofs.Tagging.{none_behind, one_before}
+use Rattle.occ_check_clashes.proofs.TagLists.{none_behind, one_before}
 use Rattle.occ_check_clashes.proofs.tags.numbers_of.Goals as goal
 
 pub loop-left-init : goal.loop-left-init

@@ -1,6 +1,6 @@
 use Rattle.std.proofs.Common.{◌≡◌, ◌≤◌, List, drop, length, ℕ}
 use Rattle.occ_check_meaning.specs.Items.{tag_number}
-use Rattle.occ_check_clashes.specs.TagView.{number_at}
+use Rattle.occ_check_clashes.specs.Tags.{number_at}
 use Rattle.occ_check_clashes.proofs.tags.numbers_of.Given as goal
 
 abbrev pub invariant-loop-left : goal.invariant-loop-left

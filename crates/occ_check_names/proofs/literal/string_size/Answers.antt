@@ -1,4 +1,4 @@
-use Rattle.occ_check_names.proofs.Strings.{string_is}
+use Rattle.occ_check_names.proofs.Literals.{string_is}
 use Rattle.occ_check_names.proofs.literal.string_size.Goals as goal
 
 pub returns-then-size-le2147483647-clause-string : goal.returns-then-size-le2147483647-clause-string

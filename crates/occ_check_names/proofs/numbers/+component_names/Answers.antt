@@ -1,6 +1,6 @@
 use Rattle.occ_check_meaning.specs.Numbers.{component_names}
 use Rattle.occ_term.specs.Names.{component_name}
-use Rattle.occ_check_names.proofs.Giving.{names_next, no_more_names}
+use Rattle.occ_check_names.proofs.ComponentNames.{names_next, no_more_names}
 use Rattle.occ_check_names.proofs.numbers.+component_names.Goals as goal
 
 pub loop-k-preserved : goal.loop-k-preserved

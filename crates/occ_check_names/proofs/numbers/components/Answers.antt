@@ -1,5 +1,5 @@
 use Rattle.std.proofs.Common.{arith}
-use Rattle.occ_check_names.proofs.Giving.{next_count, all_counted}
+use Rattle.occ_check_names.proofs.ComponentNames.{next_count, all_counted}
 use Rattle.occ_check_names.proofs.numbers.components.Goals as goal
 
 pub loop-size-preserved : goal.loop-size-preserved

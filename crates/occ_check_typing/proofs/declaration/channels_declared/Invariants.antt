@@ -1,6 +1,6 @@
 use Rattle.occ_check_names.specs.View.{carried_of}
 use Rattle.occ_check_meaning.specs.Declarations as meant
-use Rattle.occ_check_typing.proofs.Declaring.{Continues}
+use Rattle.occ_check_typing.proofs.Declarations.{Continues}
 use Rattle.occ_check_typing.proofs.declaration.channels_declared.Given as goal
 
 abbrev pub invariant-loop-name : goal.invariant-loop-name

@@ -1,7 +1,7 @@
 use Rattle.std.proofs.Common.{◌≡◌, map, drop}
 use Rattle.std.specs.Prelude.{◌&&◌}
 use Rattle.occ_check_meaning.specs.Scope.{are_once}
-use Rattle.occ_check_typing.specs.OpenedView.{none_among}
+use Rattle.occ_check_typing.specs.Declaration.{none_among}
 use Rattle.occ_check_typing.proofs.declaration.once.Given as goal
 
 abbrev pub invariant-loop-name : goal.invariant-loop-name

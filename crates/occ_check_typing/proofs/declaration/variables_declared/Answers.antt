@@ -1,7 +1,7 @@
 use Rattle.std.proofs.Common.{rules}
 use Rattle.occ_check_meaning.specs.Declarations as meant
 use Rattle.occ_check_names.specs.View.{Refuses, numbers_of}
-use Rattle.occ_check_typing.proofs.Declaring.{ends, goes_on, stops}
+use Rattle.occ_check_typing.proofs.Declarations.{ends, goes_on, stops}
 use Rattle.occ_check_typing.proofs.declaration.variables_declared.Goals as goal
 
 pub returns-in_err-one : goal.returns-in_err-one

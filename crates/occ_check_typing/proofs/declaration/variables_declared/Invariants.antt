@@ -1,5 +1,5 @@
 use Rattle.occ_check_meaning.specs.Declarations as meant
-use Rattle.occ_check_typing.proofs.Declaring.{Continues}
+use Rattle.occ_check_typing.proofs.Declarations.{Continues}
 use Rattle.occ_check_typing.proofs.declaration.variables_declared.Given as goal
 
 abbrev pub invariant-loop-name : goal.invariant-loop-name

@@ -2,7 +2,7 @@ use Rattle.std.proofs.Common.{◌≡◌, subst}
 use Rattle.occ_term.specs.View.{expression_of}
 use Rattle.occ_check_meaning.specs.Expressions.{logic_of, size_of_operand, typed_operand}
 use Rattle.occ_check_names.specs.View.{Gives, names_in, typed_of}
-use Rattle.occ_check_typing.proofs.Chains.{chain_gives, chain_nothing, variable_given, chained_first, chained_next, chained_nothing, chained_last, subscripted_first, subscripted_next, subscripted_nothing, subscripted_last}
+use Rattle.occ_check_typing.proofs.Expressions.{chain_gives, chain_nothing, variable_given, chained_first, chained_next, chained_nothing, chained_last, subscripted_first, subscripted_next, subscripted_nothing, subscripted_last}
 use Rattle.occ_check_typing.proofs.expression.+typing.Goals as goal
 
 pub typed_chain-loop-operand-init : goal.typed_chain-loop-operand-init

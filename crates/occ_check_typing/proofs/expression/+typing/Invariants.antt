@@ -1,5 +1,5 @@
 use Rattle.occ_check_names.specs.View.{names_in}
-use Rattle.occ_check_typing.proofs.Chains.{Chained, Subscripted}
+use Rattle.occ_check_typing.proofs.Expressions.{Chained, Subscripted}
 use Rattle.occ_check_typing.proofs.expression.+typing.Given as goal
 
 abbrev pub invariant-typed_chain-loop-operand : goal.invariant-typed_chain-loop-operand

@@ -3,7 +3,7 @@ use Rattle.occ_tree_grammar.specs.Expressions.Trees.{alone}
 use Rattle.occ_tree_grammar.specs.Lines.Trees.{from}
 use Rattle.occ_check_meaning.specs.Items.{as_name}
 use Rattle.occ_check_names.specs.View.{Gives}
-use Rattle.occ_check_typing.proofs.Chains.{variable_given}
+use Rattle.occ_check_typing.proofs.Expressions.{variable_given}
 use Rattle.occ_check_typing.proofs.item.name_of_operand.Goals as goal
 
 pub returns-in-Variable : goal.returns-in-Variable

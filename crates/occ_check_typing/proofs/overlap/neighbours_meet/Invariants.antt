@@ -1,6 +1,6 @@
 use Rattle.std.proofs.Common.{◌≡◌, map, length}
 use Rattle.occ_check_typing.specs.Spans.{span_of}
-use Rattle.occ_check_typing.specs.Meeting.{neighbours_meet}
+use Rattle.occ_check_typing.specs.Overlap.{neighbours_meet}
 use Rattle.occ_check_typing.proofs.overlap.neighbours_meet.Given as goal
 
 abbrev pub invariant-loop-span : goal.invariant-loop-span

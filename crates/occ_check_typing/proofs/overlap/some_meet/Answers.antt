@@ -2,7 +2,7 @@ use Rattle.std.proofs.Common.{◌∙◌, sym, ap, map}
 use Rattle.std.proofs.lemmas.List.Sorted.{IsPermutation-map}
 use Rattle.occ_check_meaning.specs.Calls.{some_meet}
 use Rattle.occ_check_typing.specs.Spans.{span_of}
-use Rattle.occ_check_typing.proofs.Meeting.{none_meet, some_meet-permuted, two_meet}
+use Rattle.occ_check_typing.proofs.Overlaps.{none_meet, some_meet-permuted, two_meet}
 use Rattle.occ_check_typing.proofs.overlap.some_meet.Goals as goal
 
 pub returns-then-stand_apart : goal.returns-then-stand_apart

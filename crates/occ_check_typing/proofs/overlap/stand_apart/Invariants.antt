@@ -1,6 +1,6 @@
 use Rattle.std.proofs.Common.{◌≡◌, map, length}
 use Rattle.occ_check_typing.specs.Spans.{span_of}
-use Rattle.occ_check_typing.specs.Meeting.{end_in_turn}
+use Rattle.occ_check_typing.specs.Overlap.{end_in_turn}
 use Rattle.occ_check_typing.proofs.overlap.stand_apart.Given as goal
 
 abbrev pub invariant-loop-span : goal.invariant-loop-span

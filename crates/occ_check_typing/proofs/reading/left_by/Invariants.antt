@@ -1,4 +1,4 @@
-use Rattle.occ_term.specs.Rows.{AreFew}
+use Rattle.occ_term.specs.ArraySizes.{AreFew}
 use Rattle.occ_check_typing.proofs.Leaving.{Leaves}
 use Rattle.occ_check_typing.proofs.reading.left_by.Given as goal
 

@@ -1,4 +1,4 @@
-use Rattle.occ_code.proofs.SequentialTurns as turns
+use Rattle.occ_code.proofs.RunningTurns as turns
 use Rattle.occ_code.proofs.laws.bodies_do.Goals as goal
 
 pub returns : goal.returns

@@ -1,4 +1,4 @@
-use Rattle.occ_code.proofs.SequentialLayout as layout
+use Rattle.occ_code.proofs.LaidOut as layout
 use Rattle.occ_code.proofs.laws.compiled_do.Goals as goal
 
 pub returns : goal.returns

@@ -1,4 +1,4 @@
-use Rattle.occ_code.proofs.SequentialExpressions as expressions
+use Rattle.occ_code.proofs.RunningExpressions as expressions
 use Rattle.occ_code.proofs.laws.expressions_run.Goals as goal
 
 pub returns : goal.returns

@@ -1,4 +1,4 @@
-use Rattle.occ_code.proofs.SequentialItems as items
+use Rattle.occ_code.proofs.RunningItems as items
 use Rattle.occ_code.proofs.laws.items_run.Goals as goal
 
 pub returns : goal.returns

@@ -1,4 +1,4 @@
-use Rattle.occ_code.proofs.SequentialSizes as sizes
+use Rattle.occ_code.proofs.CodeSizes as sizes
 use Rattle.occ_code.proofs.laws.programs_are_small.Goals as goal
 
 pub returns : goal.returns

@@ -1,4 +1,4 @@
-use Rattle.occ_code.proofs.SequentialExamples as examples
+use Rattle.occ_code.proofs.Examples as examples
 use Rattle.occ_code.proofs.laws.twice_as_compiled.Goals as goal
 
 pub returns : goal.returns

@@ -1,5 +1,5 @@
 use Rattle.std.proofs.Common.{arith, subst, sym}
-use Rattle.occ_code.specs.Alike.{IsRising}
+use Rattle.occ_code.specs.SameStop.{IsRising}
 use Rattle.occ_net_tables.proofs.ReadyLists.{rising_index}
 use Rattle.occ_net_tables.proofs.copying.branch_frame.Goals as goal
 

@@ -1,5 +1,6 @@
-use Rattle.std.proofs.Common.{length, map}
-use Rattle.occ_text.specs.Words.{Row, rows}
+use Rattle.std.proofs.Common.{◌+◌, length, map}
+use Rattle.occ_text.specs.Words.{LogicalLine, logical_lines}
+use Rattle.occ_tree_grammar.specs.declared.limits.TheConstants.{MOST_LEVELS}
 use Rattle.occ_tree_grammar.specs.Many.{as_many}
 use Rattle.occ_tree_grammar.specs.Processes.Trees.{Item}
 use Rattle.occ_tree_grammar.specs.Processes.Views.{item_of}
@@ -8,4 +9,4 @@ use Rattle.occ_tree_parts.proofs.ManyLoop.{SoFar}
 use Rattle.occ_tree.proofs.text.items.Given as goal
 
 abbrev pub invariant-loop : goal.invariant-loop
-invariant-loop l = SoFar Row Item at_any (item_at 65 64) (map item_of l.all.items) (length l.lines) l.counter (rows l.rest) (as_many at_any (item_at 65 64) (rows l.lines))
+invariant-loop l = SoFar LogicalLine Item at_any (item_at (MOST_LEVELS + 1) MOST_LEVELS) (map item_of l.all.items) (length l.lines) l.counter (logical_lines l.rest) (as_many at_any (item_at (MOST_LEVELS + 1) MOST_LEVELS) (logical_lines l.lines))

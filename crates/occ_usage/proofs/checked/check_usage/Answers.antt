@@ -2,7 +2,7 @@ use Rattle.std.proofs.Common.{refl, sym, ap, ◌∙◌}
 use Rattle.occ_usage.specs.Clashes.{clashes}
 use Rattle.occ_usage.specs.Noted.{breaking}
 use Rattle.occ_term.specs.View.{term_of}
-use Rattle.occ_term.specs.Unfolding.{Lawful}
+use Rattle.occ_term.specs.UnfoldedProgram.{Lawful}
 use Rattle.occ_term.specs.declared.term.Term.{Term}
 use Rattle.occ_usage.proofs.Unlawful.{lawful_where, refuses}
 use Rattle.occ_usage.proofs.checked.check_usage.Goals as goal

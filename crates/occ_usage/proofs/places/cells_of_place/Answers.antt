@@ -1,7 +1,7 @@
 use Rattle.std.proofs.Common.{◌≡◌, ◌≤◌, ◌<◌, ◌-◌, ◌^◌, ℕ, List, length, take, drop, ap, subst, sym, ◌∙◌, arith}
 use Rattle.std.proofs.lemmas.Grind.{common_steps}
 use Rattle.occ_term.specs.Messages.{product}
-use Rattle.occ_term.specs.Rows.{AreFew}
+use Rattle.occ_term.specs.ArraySizes.{AreFew}
 use Rattle.occ_term.proofs.Few.{few_behind, few_product}
 use Rattle.occ_usage.proofs.Rows.{cells_left, one_left}
 use Rattle.occ_usage.proofs.places.cells_of_place.Goals as goal

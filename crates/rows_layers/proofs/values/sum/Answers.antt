@@ -4,7 +4,7 @@ use Rattle.std.proofs.lemmas.Bool.Decides.{nat_tests}
 use Rattle.occ_term.specs.Messages.{is_of}
 use Rattle.occ_term.specs.declared.primitive.Primitive.TheVariants.{Int}
 use Rattle.occ_term.specs.Terms as T
-use Rattle.occ_term.specs.declared.expression.Operator.TheVariants.{Plus}
+use Rattle.occ_term.specs.declared.expression.Operator.TheVariants.{Add}
 use Rattle.occ_term.specs.Typing.{takes_arithmetic}
 use Rattle.occ_term.specs.Frames.{Variables}
 use Rattle.occ_term.specs.Evaluation.{CanBeEvaluated}
@@ -17,9 +17,9 @@ use Rattle.rows_layers.proofs.values.sum.Goals as goal
 an_int : (v : ℤ) → FitsSigned w32 v → IsTrue (is_of Int v)
 an_int v h = grind (arith, ints, nat_tests)
 
-can_be : (e : T.Expression) (f : Variables) (a b : ℤ) → e ≡ T.Binary Plus Int 7 (T.Constant a) (T.Constant b) → FitsSigned w32 a → FitsSigned w32 b → CanBeEvaluated e f
+can_be : (e : T.Expression) (f : Variables) (a b : ℤ) → e ≡ T.Binary Add Int 7 (T.Constant a) (T.Constant b) → FitsSigned w32 a → FitsSigned w32 b → CanBeEvaluated e f
 can_be e f a b q h k =
-    let closed : CanBeEvaluated (T.Binary Plus Int 7 (T.Constant a) (T.Constant b)) f = record {
+    let closed : CanBeEvaluated (T.Binary Add Int 7 (T.Constant a) (T.Constant b)) f = record {
       types = λ c. None;
       few = λ c m. refl;
       type = Int;
@@ -29,7 +29,7 @@ can_be e f a b q h k =
     } in
     subst (λ x. CanBeEvaluated x f) (sym q) closed
 
-seen : (x y : TermExpr) (a b : ℤ) → expression_of x ≡ T.Constant a → expression_of y ≡ T.Constant b → expression_of (Binary Plus Int 7 x y) ≡ T.Binary Plus Int 7 (T.Constant a) (T.Constant b)
+seen : (x y : TermExpr) (a b : ℤ) → expression_of x ≡ T.Constant a → expression_of y ≡ T.Constant b → expression_of (Binary Add Int 7 x y) ≡ T.Binary Add Int 7 (T.Constant a) (T.Constant b)
 seen x y a b q r = search (rules, the_lemmas)
 
 constant : (x : TermExpr) (r v : ℤ) → FitsSigned w32 v → r ≡ to_z w32 (of_z w32 v) → x ≡ Constant (to_z w64 (of_z w64 r)) → expression_of x ≡ T.Constant v

@@ -6,13 +6,13 @@ use Rattle.occ_tree_grammar.specs.Processes.Views.{arm_of, choice_of, process_of
 use Rattle.occ_term.specs.View.{arms_of, branch_of, branches_of, choices_of, declarations_of, option_of, options_of, term_of, variant_of as term_variant_of, variants_of}
 use Rattle.occ_check_meaning.specs.Actions.{headed, new_tag, none_chosen}
 use Rattle.occ_tree_grammar.specs.Lines.Views as lines
-use Rattle.occ_check_clashes.specs.TagView.{listed_in}
-use Rattle.occ_check.proofs.Tags.{no_more_variants, no_tag, tags_kept, variant_done, variant_refused, variants_grown, variants_none, variants_step}
-use Rattle.occ_check_acting.specs.ActionView.{chosen_of}
+use Rattle.occ_check_clashes.specs.Tags.{listed_in}
+use Rattle.occ_check.proofs.VariantLists.{no_more_variants, no_tag, tags_kept, variant_done, variant_refused, variants_grown, variants_none, variants_step}
+use Rattle.occ_check_acting.specs.Action.{chosen_of}
 use Rattle.occ_check.proofs.Gathering.{gathered_first, gathered_last, gathered_next, gathered_refused, part_within}
-use Rattle.occ_check.proofs.Conditionals.{choice_in, choices_grown, choices_none, choices_step, no_more_choices}
-use Rattle.occ_check.proofs.Alternatives.{arm_in, arms_grown, arms_none, arms_step, no_more_arms}
-use Rattle.occ_check.proofs.Selections.{no_more_options, option_done, option_refused, options_grown, options_none, options_step}
+use Rattle.occ_check.proofs.ChoiceLists.{choice_in, choices_grown, choices_none, choices_step, no_more_choices}
+use Rattle.occ_check.proofs.ArmLists.{arm_in, arms_grown, arms_none, arms_step, no_more_arms}
+use Rattle.occ_check.proofs.OptionLists.{no_more_options, option_done, option_refused, options_grown, options_none, options_step}
 use Rattle.occ_tree_grammar.specs.Many.{◌>>=◌}
 use Rattle.occ_term.specs.Terms as T
 use Rattle.occ_term.specs.Terms.{no_arms, no_choices, no_options, no_terms, no_variants}
@@ -23,16 +23,16 @@ use Rattle.occ_check_meaning.specs.Numbers.{more_processes}
 use Rattle.occ_check.proofs.Beside.{all_branches, branch_none, branch_one, branch_step, branches_in, no_body, no_number, one_branch, put_branch}
 use Rattle.occ_check.proofs.InTurn.{all_terms, in_turn, in_turn_none, in_turn_one, in_turn_step, item_within, put_term}
 use Rattle.occ_check_meaning.specs.Recursion.{all_arms, all_beside, all_choices, all_in_turn, all_options, all_variants, option_unfolded, unfolded, variant_unfolded}
-use Rattle.occ_check_meaning.specs.Unfolding.{meant}
+use Rattle.occ_check_meaning.specs.Meant.{meant}
 use Rattle.occ_check_names.specs.View.{Refuses, numbers_of, scope_in}
 use Rattle.occ_check.specs.Progress.{counted, meant_at, weight_at}
 use Rattle.occ_check.specs.Weights.{node_size, nodes_size, weight}
 use Rattle.occ_check_typing.proofs.Refusals.{refused_with}
 use Rattle.occ_check_meaning.specs.Performing.{copied}
-use Rattle.occ_check.specs.Numbered.{copy_for, numbered_copy}
+use Rattle.occ_check.specs.Copies.{copy_for, numbered_copy}
 use Rattle.occ_check_meaning.specs.Scope.{within}
-use Rattle.occ_check.proofs.Numbered.{Copied, copied_first, copied_last, copied_next, copied_refused}
-use Rattle.occ_check.proofs.Putting.{frames_kept, put_done, put_refused}
+use Rattle.occ_check.proofs.CopyLists.{Copied, copied_first, copied_last, copied_next, copied_refused}
+use Rattle.occ_check.proofs.OpenedParts.{blocks_kept, put_done, put_refused}
 use Rattle.occ_check.specs.Opened.{IsStepReady, arm_depth, arm_left, arm_weight, arm_with, arms_within, choice_depth, choice_left, choice_weight, choice_with, choices_within, copy_left, left_weight, option_left, option_with, put, statement_left, step_left, step_weight, variant_left, variant_with, variants_within}
 use Rattle.occ_check.specs.declared.arms.OpenedArm.TheVariants as arms
 use Rattle.occ_check.specs.declared.choices.OpenedChoice.TheVariants as choices
@@ -205,7 +205,7 @@ choices-loop-choice-preserved-in-When t c =
     let this : choice_in sc c.args.depth c.choice-item.result (counted c.loop-choice.self) ≡ Some (choices_of c.in_ok-made-in-When.made, counted c.process.new.self) =
     put_done (choice_with c.in-When.head) _ _ opens (term_of c.in_ok-body-in-When.body) (counted c.process.new.self) (choices_of c.in_ok-made-in-When.made) c.in_ok-body-in-When.ensures.term c.in_ok-made-in-When.ensures in (
       gathered_next _ _ _ (choices_step sc c.args.depth) _ _ _ _ _ c.loop-choice.invariant.0 _ c.loop-choice-test.true c.choice-item.is _ _ _ this (λ r. choices_grown c.loop-choice.choices c.in_ok-made-in-When.made c.append.new.self r c.in_ok-append-in-When.ensures),
-      frames_kept c.loop-choice.self.frames.frames.items u.frames.frames.items c.process.new.self.frames.frames.items c.close.new.self.frames.items c.len-base.result c.len-base.ensures c.in_ok-opened.ensures.kept c.in_ok-body-in-When.ensures.kept c.close.ensures ∙ c.loop-choice.invariant.1,
+      blocks_kept c.loop-choice.self.blocks.blocks.items u.blocks.blocks.items c.process.new.self.blocks.blocks.items c.close.new.self.blocks.items c.len-base.result c.len-base.ensures c.in_ok-opened.ensures.kept c.in_ok-body-in-When.ensures.kept c.close.ensures ∙ c.loop-choice.invariant.1,
     )
 
 pub choices-returns-in_err-within-in-Inner-clause-choices : goal.choices-returns-in_err-within-in-Inner-clause-choices
@@ -228,7 +228,7 @@ choices-loop-choice-preserved t c =
     let this : choice_in sc c.args.depth c.choice-item.result (counted c.loop-choice.self) ≡ Some (choices_of c.in_ok-made-in-Inner.made, counted c.choices-in-Inner.new.self) =
     put_done (choices_within c.in-Inner.head) _ _ opens (choices_of c.in_ok-within-in-Inner.within) (counted c.choices-in-Inner.new.self) (choices_of c.in_ok-made-in-Inner.made) c.in_ok-within-in-Inner.ensures.choices c.in_ok-made-in-Inner.ensures in (
       gathered_next _ _ _ (choices_step sc c.args.depth) _ _ _ _ _ c.loop-choice.invariant.0 _ c.loop-choice-test.true c.choice-item.is _ _ _ this (λ r. choices_grown c.loop-choice.choices c.in_ok-made-in-Inner.made c.append-in-Inner.new.self r c.in_ok-append-in-Inner.ensures),
-      frames_kept c.loop-choice.self.frames.frames.items u.frames.frames.items c.choices-in-Inner.new.self.frames.frames.items c.close-in-Inner.new.self.frames.items c.len-base.result c.len-base.ensures c.in_ok-opened.ensures.kept c.in_ok-within-in-Inner.ensures.kept c.close-in-Inner.ensures ∙ c.loop-choice.invariant.1,
+      blocks_kept c.loop-choice.self.blocks.blocks.items u.blocks.blocks.items c.choices-in-Inner.new.self.blocks.blocks.items c.close-in-Inner.new.self.blocks.items c.len-base.result c.len-base.ensures c.in_ok-opened.ensures.kept c.in_ok-within-in-Inner.ensures.kept c.close-in-Inner.ensures ∙ c.loop-choice.invariant.1,
     )
 
 pub choices-returns-clause-choices : goal.choices-returns-clause-choices
@@ -293,7 +293,7 @@ options-loop-selection-preserved t c =
       gathered_next _ _ _ (options_step c.args.primitive sc c.args.depth) _ _ _ _ _ c.loop-selection.invariant.0 _ c.loop-selection-test.true c.selection-item.is _ _ _
           (option_done c.args.primitive sc c.args.depth c.selection-item.result (chosen_of c.loop-selection.chosen) (counted c.loop-selection.self) _ _ _ this)
           (λ r. options_grown c.loop-selection.options c.with_process.result c.push.new.self r c.in_ok-push.ensures.ok),
-      frames_kept c.loop-selection.self.frames.frames.items u.frames.frames.items c.process.new.self.frames.frames.items c.close.new.self.frames.items c.len-base.result c.len-base.ensures c.in_ok-opened.ensures.kept c.in_ok-body.ensures.kept c.close.ensures ∙ c.loop-selection.invariant.1,
+      blocks_kept c.loop-selection.self.blocks.blocks.items u.blocks.blocks.items c.process.new.self.blocks.blocks.items c.close.new.self.blocks.items c.len-base.result c.len-base.ensures c.in_ok-opened.ensures.kept c.in_ok-body.ensures.kept c.close.ensures ∙ c.loop-selection.invariant.1,
     )
 
 pub options-returns-clause-options : goal.options-returns-clause-options
@@ -374,7 +374,7 @@ variants-loop-variant-preserved t c =
       gathered_next _ _ _ (variants_step c.args.protocol.now sc c.args.depth) _ _ _ _ _ c.loop-variant.invariant.0 _ c.loop-variant-test.true c.variant-item.is _ _ _
           (variant_done c.args.protocol.now sc c.args.depth c.variant-item.result (listed_in c.loop-variant.tags) (counted c.loop-variant.self) c.tag_of.result.now c.tag_of.ensures c.in_ok-tag.tag tag _ _ (listed_in c.next.new.self) c.in_ok-tag.ensures.listed this)
           (λ r. variants_grown c.loop-variant.variants c.with_process.result c.push.new.self r c.in_ok-push.ensures.ok),
-      frames_kept c.loop-variant.self.frames.frames.items u.frames.frames.items c.process.new.self.frames.frames.items c.close.new.self.frames.items c.len-base.result c.len-base.ensures c.in_ok-opened.ensures.kept c.in_ok-body.ensures.kept c.close.ensures ∙ c.loop-variant.invariant.1,
+      blocks_kept c.loop-variant.self.blocks.blocks.items u.blocks.blocks.items c.process.new.self.blocks.blocks.items c.close.new.self.blocks.items c.len-base.result c.len-base.ensures c.in_ok-opened.ensures.kept c.in_ok-body.ensures.kept c.close.ensures ∙ c.loop-variant.invariant.1,
       tags_kept c.args.protocol.now c.loop-variant.tags c.next.new.self c.in_ok-tag.ensures.numbers c.loop-variant.invariant.2,
     )
 
@@ -454,7 +454,7 @@ copies-copies-preserved t c =
     let same : to_z w64 (of_z w64 c.next_value-value.result) ≡ c.next_value-value.result = to_z-of_z w64 c.next_value-value.result fits in
     let next : to_z w64 (of_z w64 c.next_value-value.result) ≡ value +ℤ pos 1 = same ∙ c.next_value-value.ensures.next in (
       copied_next u _ _ _ _ _ c.copies.invariant.0 _ fewer _ _ _ _ this next more,
-      frames_kept c.copies.self.frames.frames.items after.frames.frames.items c.process.new.self.frames.frames.items c.close.new.self.frames.items c.len-base.result c.len-base.ensures c.in_ok-opened.ensures.kept c.in_ok-body.ensures.kept c.close.ensures ∙ c.copies.invariant.1,
+      blocks_kept c.copies.self.blocks.blocks.items after.blocks.blocks.items c.process.new.self.blocks.blocks.items c.close.new.self.blocks.items c.len-base.result c.len-base.ensures c.in_ok-opened.ensures.kept c.in_ok-body.ensures.kept c.close.ensures ∙ c.copies.invariant.1,
       subst (λ (v : ℤ). (v +ℤ pos (c.copies.left - 1)) ≤ℤ pos 2147483648) (sym same) c.next_value-value.ensures.last,
     )
 
@@ -523,7 +523,7 @@ arms-loop-arm-preserved-in-Guarded t c =
     let this : arm_in sc c.args.depth c.arm-item.result (counted c.loop-arm.self) ≡ Some (arms_of c.in_ok-made-in-Guarded.made, counted c.process.new.self) =
     put_done (arm_with c.in-Guarded.head) _ _ opens (term_of c.in_ok-body-in-Guarded.body) (counted c.process.new.self) (arms_of c.in_ok-made-in-Guarded.made) c.in_ok-body-in-Guarded.ensures.term c.in_ok-made-in-Guarded.ensures in (
       gathered_next _ _ _ (arms_step sc c.args.depth) _ _ _ _ _ c.loop-arm.invariant.0 _ c.loop-arm-test.true c.arm-item.is _ _ _ this (λ r. arms_grown c.loop-arm.arms c.in_ok-made-in-Guarded.made c.append.new.self r c.in_ok-append-in-Guarded.ensures),
-      frames_kept c.loop-arm.self.frames.frames.items u.frames.frames.items c.process.new.self.frames.frames.items c.close.new.self.frames.items c.len-base.result c.len-base.ensures c.in_ok-opened.ensures.kept c.in_ok-body-in-Guarded.ensures.kept c.close.ensures ∙ c.loop-arm.invariant.1,
+      blocks_kept c.loop-arm.self.blocks.blocks.items u.blocks.blocks.items c.process.new.self.blocks.blocks.items c.close.new.self.blocks.items c.len-base.result c.len-base.ensures c.in_ok-opened.ensures.kept c.in_ok-body-in-Guarded.ensures.kept c.close.ensures ∙ c.loop-arm.invariant.1,
     )
 
 pub arms-returns-in_err-variants-in-OnVariant-clause-arms : goal.arms-returns-in_err-variants-in-OnVariant-clause-arms
@@ -546,7 +546,7 @@ arms-loop-arm-preserved-in-OnVariant t c =
     let this : arm_in sc c.args.depth c.arm-item.result (counted c.loop-arm.self) ≡ Some (arms_of c.in_ok-made-in-OnVariant.made, counted c.variants.new.self) =
     put_done (variants_within c.in-OnVariant.head) _ _ opens (variants_of c.in_ok-variants-in-OnVariant.variants) (counted c.variants.new.self) (arms_of c.in_ok-made-in-OnVariant.made) c.in_ok-variants-in-OnVariant.ensures.variants c.in_ok-made-in-OnVariant.ensures in (
       gathered_next _ _ _ (arms_step sc c.args.depth) _ _ _ _ _ c.loop-arm.invariant.0 _ c.loop-arm-test.true c.arm-item.is _ _ _ this (λ r. arms_grown c.loop-arm.arms c.in_ok-made-in-OnVariant.made c.append-in-OnVariant.new.self r c.in_ok-append-in-OnVariant.ensures),
-      frames_kept c.loop-arm.self.frames.frames.items u.frames.frames.items c.variants.new.self.frames.frames.items c.close-in-OnVariant.new.self.frames.items c.len-base.result c.len-base.ensures c.in_ok-opened.ensures.kept c.in_ok-variants-in-OnVariant.ensures.kept c.close-in-OnVariant.ensures ∙ c.loop-arm.invariant.1,
+      blocks_kept c.loop-arm.self.blocks.blocks.items u.blocks.blocks.items c.variants.new.self.blocks.blocks.items c.close-in-OnVariant.new.self.blocks.items c.len-base.result c.len-base.ensures c.in_ok-opened.ensures.kept c.in_ok-variants-in-OnVariant.ensures.kept c.close-in-OnVariant.ensures ∙ c.loop-arm.invariant.1,
     )
 
 pub arms-returns-in_err-within-in-Inner-clause-arms : goal.arms-returns-in_err-within-in-Inner-clause-arms
@@ -569,7 +569,7 @@ arms-loop-arm-preserved t c =
     let this : arm_in sc c.args.depth c.arm-item.result (counted c.loop-arm.self) ≡ Some (arms_of c.in_ok-made-in-Inner.made, counted c.arms-in-Inner.new.self) =
     put_done (arms_within c.in-Inner.head) _ _ opens (arms_of c.in_ok-within-in-Inner.within) (counted c.arms-in-Inner.new.self) (arms_of c.in_ok-made-in-Inner.made) c.in_ok-within-in-Inner.ensures.arms c.in_ok-made-in-Inner.ensures in (
       gathered_next _ _ _ (arms_step sc c.args.depth) _ _ _ _ _ c.loop-arm.invariant.0 _ c.loop-arm-test.true c.arm-item.is _ _ _ this (λ r. arms_grown c.loop-arm.arms c.in_ok-made-in-Inner.made c.append-in-Inner.new.self r c.in_ok-append-in-Inner.ensures),
-      frames_kept c.loop-arm.self.frames.frames.items u.frames.frames.items c.arms-in-Inner.new.self.frames.frames.items c.close-in-Inner.new.self.frames.items c.len-base.result c.len-base.ensures c.in_ok-opened.ensures.kept c.in_ok-within-in-Inner.ensures.kept c.close-in-Inner.ensures ∙ c.loop-arm.invariant.1,
+      blocks_kept c.loop-arm.self.blocks.blocks.items u.blocks.blocks.items c.arms-in-Inner.new.self.blocks.blocks.items c.close-in-Inner.new.self.blocks.items c.len-base.result c.len-base.ensures c.in_ok-opened.ensures.kept c.in_ok-within-in-Inner.ensures.kept c.close-in-Inner.ensures ∙ c.loop-arm.invariant.1,
     )
 
 pub arms-returns-clause-arms : goal.arms-returns-clause-arms

@@ -4,25 +4,25 @@ use Rattle.occ_tree_grammar.specs.Processes.Trees.{nodes}
 use Rattle.occ_tree_grammar.specs.Processes.Views.{arm_of, choice_of, process_of, selection_of, variant_of}
 use Rattle.occ_term.specs.View.{arms_of, choices_of, options_of, term_of, variants_of}
 use Rattle.occ_check_meaning.specs.Actions.{none_chosen}
-use Rattle.occ_check_acting.specs.ActionView.{chosen_of}
+use Rattle.occ_check_acting.specs.Action.{chosen_of}
 use Rattle.occ_check_meaning.specs.Recursion.{unfolded, all_in_turn}
 use Rattle.occ_check.specs.Opened.{left_weight}
 use Rattle.occ_check.specs.Weights.{node_size, nodes_size}
 use Rattle.occ_check.specs.Progress.{counted, meant_at, weight_at}
 use Rattle.occ_check.proofs.Listing.{Listed}
 use Rattle.occ_check.proofs.Gathering.{Gathered}
-use Rattle.occ_check.proofs.Conditionals.{choices_in, put_choices}
-use Rattle.occ_check.proofs.Alternatives.{arms_in, put_arms}
-use Rattle.occ_check.proofs.Selections.{options_in, put_options}
-use Rattle.occ_check_clashes.specs.TagView.{AreTagsOf, listed_in}
-use Rattle.occ_check.proofs.Tags.{put_variants, variants_in}
+use Rattle.occ_check.proofs.ChoiceLists.{choices_in, put_choices}
+use Rattle.occ_check.proofs.ArmLists.{arms_in, put_arms}
+use Rattle.occ_check.proofs.OptionLists.{options_in, put_options}
+use Rattle.occ_check_clashes.specs.Tags.{AreTagsOf, listed_in}
+use Rattle.occ_check.proofs.VariantLists.{put_variants, variants_in}
 use Rattle.occ_term.specs.View.{branch_of}
 use Rattle.occ_check.proofs.Beside.{branches_in, branch_one, branch_step, put_branch}
 use Rattle.occ_check.proofs.InTurn.{in_turn, in_turn_one, in_turn_step, put_term}
 use Rattle.occ_tree_grammar.specs.Lines.Views.{replicator_of}
 use Rattle.occ_check_meaning.specs.Performing.{copied}
-use Rattle.occ_check.specs.Numbered.{copy_for}
-use Rattle.occ_check.proofs.Numbered.{Copied}
+use Rattle.occ_check.specs.Copies.{copy_for}
+use Rattle.occ_check.proofs.CopyLists.{Copied}
 use Rattle.occ_check.proofs.unfolder.Unfolder.+unfolding.Given as goal
 
 abbrev pub decreases-process : goal.decreases-process
@@ -37,7 +37,7 @@ decreases-in_turn l = 4 * (nodes_size (nodes (map process_of l.processes.now)) +
 abbrev pub invariant-process-calls : goal.invariant-process-calls
 invariant-process-calls l =
     (unfolded (process_of l.process) (meant_at l.fn.self l.fn.at) l.depth (counted l.fn.self) ≡ unfolded (process_of l.body) (meant_at l.self l.place) l.deep (counted l.self))
-    × (take (length l.fn.self.frames.frames.items) l.self.frames.frames.items ≡ l.fn.self.frames.frames.items)
+    × (take (length l.fn.self.blocks.blocks.items) l.self.blocks.blocks.items ≡ l.fn.self.blocks.blocks.items)
     × (node_size (process_of l.body) + weight_at l.self l.place ≤ node_size (process_of l.process) + weight_at l.fn.self l.fn.at)
     × (l.deep ≤ 200)
 
@@ -48,7 +48,7 @@ abbrev pub invariant-in_turn-loop-process : goal.invariant-in_turn-loop-process
 invariant-in_turn-loop-process l =
     Listed (in_turn (meant_at l.fn.self l.at) l.depth) (in_turn_one (meant_at l.fn.self l.at) l.depth) put_term (in_turn_step (meant_at l.fn.self l.at) l.depth)
     (in_turn (meant_at l.fn.self l.at) l.depth l.processes (counted l.fn.self)) l.processes l.process-index (map term_of l.terms) (counted l.self)
-    × (l.self.frames.frames.items ≡ l.fn.self.frames.frames.items)
+    × (l.self.blocks.blocks.items ≡ l.fn.self.blocks.blocks.items)
 
 abbrev pub decreases-beside : goal.decreases-beside
 decreases-beside l = 4 * (nodes_size (nodes (map process_of l.processes.now)) + weight_at l.self.now l.at) + 1
@@ -57,7 +57,7 @@ abbrev pub invariant-beside-loop-process : goal.invariant-beside-loop-process
 invariant-beside-loop-process l =
     Listed (branches_in (meant_at l.fn.self l.at) l.depth) (branch_one (meant_at l.fn.self l.at) l.depth) put_branch (branch_step (meant_at l.fn.self l.at) l.depth)
     (branches_in (meant_at l.fn.self l.at) l.depth l.processes (counted l.fn.self)) l.processes l.process-index (map branch_of l.branches) (counted l.self)
-    × (l.self.frames.frames.items ≡ l.fn.self.frames.frames.items)
+    × (l.self.blocks.blocks.items ≡ l.fn.self.blocks.blocks.items)
 
 -- ---- the choices of an IF
 
@@ -67,7 +67,7 @@ decreases-choices l = 4 * (nodes_size (nodes (map choice_of l.list.now)) + weigh
 abbrev pub invariant-choices-loop-choice : goal.invariant-choices-loop-choice
 invariant-choices-loop-choice l =
     Gathered (choices_in (meant_at l.fn.self l.at) l.depth) put_choices (choices_in (meant_at l.fn.self l.at) l.depth l.list (counted l.fn.self)) l.list l.choice-index (choices_of l.choices) (counted l.self)
-    × (l.self.frames.frames.items ≡ l.fn.self.frames.frames.items)
+    × (l.self.blocks.blocks.items ≡ l.fn.self.blocks.blocks.items)
 
 -- ---- the options of a CASE
 
@@ -78,7 +78,7 @@ abbrev pub invariant-options-loop-selection : goal.invariant-options-loop-select
 invariant-options-loop-selection l =
     Gathered (options_in l.primitive (meant_at l.fn.self l.at) l.depth) put_options (options_in l.primitive (meant_at l.fn.self l.at) l.depth l.selections (none_chosen, counted l.fn.self))
     l.selections l.selection-index (options_of l.options) (chosen_of l.chosen, counted l.self)
-    × (l.self.frames.frames.items ≡ l.fn.self.frames.frames.items)
+    × (l.self.blocks.blocks.items ≡ l.fn.self.blocks.blocks.items)
 
 -- ---- inputs of variants
 
@@ -89,7 +89,7 @@ abbrev pub invariant-variants-loop-variant : goal.invariant-variants-loop-varian
 invariant-variants-loop-variant l =
     Gathered (variants_in l.protocol (meant_at l.fn.self l.at) l.depth) put_variants (variants_in l.protocol (meant_at l.fn.self l.at) l.depth l.list ([], counted l.fn.self))
     l.list l.variant-index (variants_of l.variants) (listed_in l.tags, counted l.self)
-    × (l.self.frames.frames.items ≡ l.fn.self.frames.frames.items) × AreTagsOf l.protocol l.tags
+    × (l.self.blocks.blocks.items ≡ l.fn.self.blocks.blocks.items) × AreTagsOf l.protocol l.tags
 
 -- ---- the copies of a replicated PAR
 
@@ -100,7 +100,7 @@ abbrev pub invariant-copies-copies : goal.invariant-copies-copies
 invariant-copies-copies l =
     Copied (copy_for (replicator_of l.replicator) (process_of l.body) (meant_at l.fn.self l.at) l.depth)
     (copied (copy_for (replicator_of l.replicator) (process_of l.body) (meant_at l.fn.self l.at) l.depth) l.count l.first (counted l.fn.self)) l.left l.value (map branch_of l.branches) (counted l.self)
-    × (l.self.frames.frames.items ≡ l.fn.self.frames.frames.items)
+    × (l.self.blocks.blocks.items ≡ l.fn.self.blocks.blocks.items)
     × ((l.value +ℤ pos l.left) ≤ℤ pos 2147483648)
 
 abbrev pub decreases-copies-copies : goal.decreases-copies-copies
@@ -114,4 +114,4 @@ decreases-arms l = 4 * (nodes_size (nodes (map arm_of l.list.now)) + weight_at l
 abbrev pub invariant-arms-loop-arm : goal.invariant-arms-loop-arm
 invariant-arms-loop-arm l =
     Gathered (arms_in (meant_at l.fn.self l.at) l.depth) put_arms (arms_in (meant_at l.fn.self l.at) l.depth l.list (counted l.fn.self)) l.list l.arm-index (arms_of l.arms) (counted l.self)
-    × (l.self.frames.frames.items ≡ l.fn.self.frames.frames.items)
+    × (l.self.blocks.blocks.items ≡ l.fn.self.blocks.blocks.items)

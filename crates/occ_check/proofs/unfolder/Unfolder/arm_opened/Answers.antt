@@ -9,9 +9,9 @@ use Rattle.occ_check.specs.Opened.{Opens, arm_left, arm_weight}
 use Rattle.occ_check.specs.Progress.{counted, meant_at, weight_at}
 use Rattle.occ_check.specs.Statements.{declarations_of_arm}
 use Rattle.occ_check.specs.Weights.{arm_size, decls_size, node_size}
-use Rattle.occ_check.proofs.Alternatives.{arm_behind, arm_not_declared, arm_too_deep, within_arm}
+use Rattle.occ_check.proofs.ArmLists.{arm_behind, arm_not_declared, arm_too_deep, within_arm}
 use Rattle.occ_check.proofs.Nesting.{as_many}
-use Rattle.occ_check.proofs.Putting.{kept_on, lighter_on}
+use Rattle.occ_check.proofs.OpenedParts.{kept_on, lighter_on}
 use Rattle.occ_check.proofs.unfolder.Unfolder.arm_opened.Goals as goal
 
 pub returns-in_err-heads-clause-opens : goal.returns-in_err-heads-clause-opens
@@ -42,7 +42,7 @@ returns-clause-opens c =
 
 pub returns-clause-kept : goal.returns-clause-kept
 returns-clause-kept c =
-    kept_on c.listening_opened.result c.args.self.now.frames.frames.items c.entering.new.self.frames.frames.items c.listening_opened.new.self.frames.frames.items c.in_ok-heads.ensures.kept c.listening_opened.ensures.kept
+    kept_on c.listening_opened.result c.args.self.now.blocks.blocks.items c.entering.new.self.blocks.blocks.items c.listening_opened.new.self.blocks.blocks.items c.in_ok-heads.ensures.kept c.listening_opened.ensures.kept
 
 pub returns-clause-weight : goal.returns-clause-weight
 returns-clause-weight c =

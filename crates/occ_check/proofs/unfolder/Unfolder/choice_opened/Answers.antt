@@ -9,9 +9,9 @@ use Rattle.occ_check.specs.Opened.{Opens, choice_left, choice_weight}
 use Rattle.occ_check.specs.Progress.{counted, meant_at, weight_at}
 use Rattle.occ_check.specs.Statements.{declarations_of_choice}
 use Rattle.occ_check.specs.Weights.{choice_size, decls_size, node_size}
-use Rattle.occ_check.proofs.Conditionals.{choice_behind, choice_not_declared, choice_too_deep, within_choice}
+use Rattle.occ_check.proofs.ChoiceLists.{choice_behind, choice_not_declared, choice_too_deep, within_choice}
 use Rattle.occ_check.proofs.Nesting.{as_many}
-use Rattle.occ_check.proofs.Putting.{kept_on, lighter_on}
+use Rattle.occ_check.proofs.OpenedParts.{kept_on, lighter_on}
 use Rattle.occ_check.proofs.unfolder.Unfolder.choice_opened.Goals as goal
 
 pub returns-in_err-heads-clause-opens : goal.returns-in_err-heads-clause-opens
@@ -42,7 +42,7 @@ returns-clause-opens c =
 
 pub returns-clause-kept : goal.returns-clause-kept
 returns-clause-kept c =
-    kept_on c.chosen_opened.result c.args.self.now.frames.frames.items c.entering.new.self.frames.frames.items c.chosen_opened.new.self.frames.frames.items c.in_ok-heads.ensures.kept c.chosen_opened.ensures.kept
+    kept_on c.chosen_opened.result c.args.self.now.blocks.blocks.items c.entering.new.self.blocks.blocks.items c.chosen_opened.new.self.blocks.blocks.items c.in_ok-heads.ensures.kept c.chosen_opened.ensures.kept
 
 pub returns-clause-weight : goal.returns-clause-weight
 returns-clause-weight c =

@@ -12,7 +12,7 @@ use Rattle.occ_check_meaning.specs.Declarations.{indexed}
 use Rattle.occ_check_meaning.specs.Performing.{each_of_choices, nested}
 use Rattle.occ_check_meaning.specs.Recursion.{all_choices, choice_unfolded, unfolded}
 use Rattle.occ_check_meaning.specs.Scope.{names_of}
-use Rattle.occ_check_meaning.specs.Unfolding.{meant}
+use Rattle.occ_check_meaning.specs.Meant.{meant}
 use Rattle.occ_check_names.specs.View.{Refuses, scope_in}
 use Rattle.occ_check_typing.proofs.Refusals.{refused_with}
 use Rattle.occ_check.specs.Opened.{put}
@@ -20,9 +20,9 @@ use Rattle.occ_check.specs.Prefixes.{tested}
 use Rattle.occ_check.specs.Progress.{counted, meant_at, weight_at}
 use Rattle.occ_check.specs.Statements.{choosing}
 use Rattle.occ_check.specs.Weights.{choice_size, node_size, nodes_size}
-use Rattle.occ_check.proofs.Conditionals.{single_choice, single_size, when_not_tested, when_opens}
+use Rattle.occ_check.proofs.ChoiceLists.{single_choice, single_size, when_not_tested, when_opens}
 use Rattle.occ_check.proofs.Nesting.{nested_there}
-use Rattle.occ_check.proofs.Putting.{each_part, put_put}
+use Rattle.occ_check.proofs.OpenedParts.{each_part, put_put}
 use Rattle.occ_check.proofs.unfolder.Unfolder.chosen_opened.Goals as goal
 
 pub returns-in_err-test-in-When-clause-opens : goal.returns-in_err-test-in-When-clause-opens
@@ -46,7 +46,7 @@ returns-in_ok-test-in-When-clause-opens c =
     (when_opens c.in-When.line (tree_of c.in-When.test.value) (unfolded (process_of c.in-When.body)) sc c.args.depth (counted c.args.self.now) test (counted c.tested.new.self)
     (ap (λ (e : Expr). tested (names_of sc) c.in-When.line c.args.depth (tree_of e) (counted c.args.self.now)) (sym c.deref.ensures) ∙ c.in_ok-test-in-When.ensures.tested))
     ∙ put_put (choices_behind (declarations_of c.args.heads)) (λ t. T.or_choice test t T.no_choices) (unfolded (process_of c.in-When.body) sc (c.args.depth + 1) (counted c.tested.new.self))
-    ∙ ap (λ f. put (λ t. choices_behind (declarations_of c.args.heads) (T.or_choice test t T.no_choices)) (unfolded (process_of c.in-When.body) (meant (scope_in (reverse f.frames.items) c.args.at)) (c.args.depth + 1) (counted c.tested.new.self)))
+    ∙ ap (λ f. put (λ t. choices_behind (declarations_of c.args.heads) (T.or_choice test t T.no_choices)) (unfolded (process_of c.in-When.body) (meant (scope_in (reverse f.blocks.items) c.args.at)) (c.args.depth + 1) (counted c.tested.new.self)))
     (sym c.in_ok-test-in-When.ensures.kept)
 
 pub returns-in_ok-deep-in-InnerIf-clause-opens : goal.returns-in_ok-deep-in-InnerIf-clause-opens

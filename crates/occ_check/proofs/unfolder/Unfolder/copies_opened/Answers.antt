@@ -6,12 +6,12 @@ use Rattle.occ_term.specs.Terms as T
 use Rattle.occ_check_meaning.specs.Performing as performs
 use Rattle.occ_check_meaning.specs.Performing.{copied}
 use Rattle.occ_check_meaning.specs.Recursion.{unfolded}
-use Rattle.occ_check_meaning.specs.Unfolding.{meant}
+use Rattle.occ_check_meaning.specs.Meant.{meant}
 use Rattle.occ_check_names.specs.View.{Refuses, scope_in}
-use Rattle.occ_check.specs.Numbered.{copy_for}
+use Rattle.occ_check.specs.Copies.{copy_for}
 use Rattle.occ_check.specs.Opened.{put}
 use Rattle.occ_check.specs.Progress.{counted, meant_at}
-use Rattle.occ_check.proofs.Numbered.{copies_open, counting_refused}
+use Rattle.occ_check.proofs.CopyLists.{copies_open, counting_refused}
 use Rattle.occ_check.proofs.unfolder.Unfolder.copies_opened.Goals as goal
 
 pub returns-in_err-first-clause-opens : goal.returns-in_err-first-clause-opens
@@ -28,5 +28,5 @@ returns-clause-opens c =
     let count = c.in_ok-first.count in
     let fits : SFits w64 c.in_ok-first.first = search rules in
     copies_open c.args.line r p (meant_at c.args.self.now c.args.at) c.args.depth (counted c.args.self.now) first count (counted c.copies_counted.new.self) c.in_ok-first.ensures.counted
-    ∙ ap (λ f. put T.Par (copied (copy_for r p (meant (scope_in (reverse f.frames.items) c.args.at)) (c.args.depth + 1)) count first (counted c.copies_counted.new.self))) (sym c.in_ok-first.ensures.kept)
-    ∙ ap (λ (v : ℤ). put T.Par (copied (copy_for r p (meant (scope_in (reverse c.copies_counted.new.self.frames.frames.items) c.args.at)) (c.args.depth + 1)) count v (counted c.copies_counted.new.self))) (sym (to_z-of_z w64 first fits))
+    ∙ ap (λ f. put T.Par (copied (copy_for r p (meant (scope_in (reverse f.blocks.items) c.args.at)) (c.args.depth + 1)) count first (counted c.copies_counted.new.self))) (sym c.in_ok-first.ensures.kept)
+    ∙ ap (λ (v : ℤ). put T.Par (copied (copy_for r p (meant (scope_in (reverse c.copies_counted.new.self.blocks.blocks.items) c.args.at)) (c.args.depth + 1)) count v (counted c.copies_counted.new.self))) (sym (to_z-of_z w64 first fits))

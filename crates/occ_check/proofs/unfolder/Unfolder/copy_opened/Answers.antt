@@ -7,11 +7,11 @@ use Rattle.occ_check_meaning.specs.Declarations.{index_of}
 use Rattle.occ_check_meaning.specs.Recursion.{unfolded}
 use Rattle.occ_check_meaning.specs.Scope.{within}
 use Rattle.occ_check_names.specs.View.{Refuses, numbers_of}
-use Rattle.occ_check.specs.Numbered.{copy_for, numbered_copy}
+use Rattle.occ_check.specs.Copies.{copy_for, numbered_copy}
 use Rattle.occ_check.specs.Opened.{put}
 use Rattle.occ_check.specs.Progress.{counted, meant_at, weight_at}
 use Rattle.occ_check.specs.Weights.{node_size}
-use Rattle.occ_check.proofs.Numbered.{copy_opens, no_number_left}
+use Rattle.occ_check.proofs.CopyLists.{copy_opens, no_number_left}
 use Rattle.occ_check.proofs.unfolder.Unfolder.copy_opened.Goals as goal
 
 pub returns-in_err-number-clause-opens : goal.returns-in_err-number-clause-opens

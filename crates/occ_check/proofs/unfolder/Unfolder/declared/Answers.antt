@@ -8,7 +8,7 @@ use Rattle.occ_check.specs.Progress.{counted, innermost_at, meant_innermost}
 use Rattle.occ_check_names.specs.View.{Refuses}
 use Rattle.occ_check.specs.Weights.{decls_size, weight}
 use Rattle.occ_check_typing.proofs.Refusals.{refused_with}
-use Rattle.occ_check.proofs.Scoping.{declares_first, declares_last, declares_next, declares_refused, one_lighter}
+use Rattle.occ_check.proofs.EnteringScopes.{declares_first, declares_last, declares_next, declares_refused, one_lighter}
 use Rattle.occ_check.proofs.unfolder.Unfolder.declared.Goals as goal
 
 pub loop-declaration-init : goal.loop-declaration-init

@@ -11,9 +11,9 @@ use Rattle.occ_check_names.specs.View.{numbers_of}
 use Rattle.occ_check.specs.Opened.{put}
 use Rattle.occ_check.specs.Progress.{counted, meant_at, weight_at}
 use Rattle.occ_check.specs.Weights.{node_size, nodes_size}
-use Rattle.occ_check.proofs.Alternatives.{single_arm}
-use Rattle.occ_check.proofs.Conditionals.{single_size}
-use Rattle.occ_check.proofs.Putting.{each_part, put_put}
+use Rattle.occ_check.proofs.ArmLists.{single_arm}
+use Rattle.occ_check.proofs.ChoiceLists.{single_size}
+use Rattle.occ_check.proofs.OpenedParts.{each_part, put_put}
 use Rattle.occ_check.proofs.unfolder.Unfolder.each_arm_opened.Goals as goal
 
 pub returns-clause-opens : goal.returns-clause-opens

@@ -5,19 +5,19 @@ use Rattle.occ_tree_grammar.specs.Lines.Views as lines
 use Rattle.occ_tree_grammar.specs.Processes.Views.{process_of}
 use Rattle.occ_term.specs.Terms as T
 use Rattle.occ_term.specs.View.{declarations_of, expression_of, place_of, test_of as boolean_of}
-use Rattle.occ_check_acting.specs.ActionView.{listed_of}
+use Rattle.occ_check_acting.specs.Action.{listed_of}
 use Rattle.occ_check_meaning.specs.Actions.{arms_behind, as_reception, depth_behind}
 use Rattle.occ_check_meaning.specs.Performing as performs
 use Rattle.occ_check_meaning.specs.Recursion.{unfolded}
 use Rattle.occ_check_meaning.specs.Scope.{names_of}
-use Rattle.occ_check_meaning.specs.Unfolding.{meant}
+use Rattle.occ_check_meaning.specs.Meant.{meant}
 use Rattle.occ_check_names.specs.View.{Refuses, scope_in}
 use Rattle.occ_check_typing.proofs.Refusals.{refused_with}
 use Rattle.occ_check.specs.Opened.{put}
 use Rattle.occ_check.specs.Prefixes.{guarding, tested}
 use Rattle.occ_check.specs.Progress.{counted, meant_at}
-use Rattle.occ_check.proofs.Alternatives.{input_not_guarded, input_opens, skip_not_tested, skip_opens}
-use Rattle.occ_check.proofs.Putting.{put_put}
+use Rattle.occ_check.proofs.ArmLists.{input_not_guarded, input_opens, skip_not_tested, skip_opens}
+use Rattle.occ_check.proofs.OpenedParts.{put_put}
 use Rattle.occ_check.proofs.unfolder.Unfolder.guard_opened.Goals as goal
 
 pub returns-in_err-guarded-in-Input-clause-opens : goal.returns-in_err-guarded-in-Input-clause-opens
@@ -43,7 +43,7 @@ returns-in_ok-guarded-in-Input-clause-opens c =
     c.in_ok-guarded-in-Input.ensures.guard)
     ∙ put_put behind (λ t. T.input_arm (boolean_of g.test) (place_of g.channel) (as_reception (listed_of g.listed) t) T.no_arms) (unfolded p sc (depth_behind (listed_of g.listed) (c.args.depth + 1)) m)
     ∙ ap (λ k. put (λ t. behind (T.input_arm (boolean_of g.test) (place_of g.channel) (as_reception (listed_of g.listed) t) T.no_arms)) (unfolded p sc k m)) (sym c.depth_behind-deep.ensures)
-    ∙ ap (λ f. put (λ t. behind (T.input_arm (boolean_of g.test) (place_of g.channel) (as_reception (listed_of g.listed) t) T.no_arms)) (unfolded p (meant (scope_in (reverse f.frames.items) c.args.at)) c.depth_behind-deep.result m))
+    ∙ ap (λ f. put (λ t. behind (T.input_arm (boolean_of g.test) (place_of g.channel) (as_reception (listed_of g.listed) t) T.no_arms)) (unfolded p (meant (scope_in (reverse f.blocks.items) c.args.at)) c.depth_behind-deep.result m))
     (sym c.in_ok-guarded-in-Input.ensures.kept)
 
 pub returns-in_err-tested-in-Skip-clause-opens : goal.returns-in_err-tested-in-Skip-clause-opens
@@ -66,4 +66,4 @@ returns-in_ok-tested-in-Skip-clause-opens c =
     ap (λ x. put behind (performs.arm_of c.args.line (guard_of x) (unfolded p) sc c.args.depth (counted c.args.self.now))) c.in-Skip.is
     ∙ ap (put behind) (skip_opens c.args.line (tree_of c.in-Skip.test) (unfolded p) sc c.args.depth (counted c.args.self.now) e m c.in_ok-tested-in-Skip.ensures.tested)
     ∙ put_put behind (λ t. T.skip_arm e t T.no_arms) (unfolded p sc (c.args.depth + 1) m)
-    ∙ ap (λ f. put (λ t. behind (T.skip_arm e t T.no_arms)) (unfolded p (meant (scope_in (reverse f.frames.items) c.args.at)) (c.args.depth + 1) m)) (sym c.in_ok-tested-in-Skip.ensures.kept)
+    ∙ ap (λ f. put (λ t. behind (T.skip_arm e t T.no_arms)) (unfolded p (meant (scope_in (reverse f.blocks.items) c.args.at)) (c.args.depth + 1) m)) (sym c.in_ok-tested-in-Skip.ensures.kept)

@@ -2,7 +2,7 @@ use Rattle.std.proofs.Common.{option_map, subst}
 use Rattle.occ_tree_grammar.specs.Expressions.Trees.{expression_of as tree_of}
 use Rattle.occ_tree_grammar.specs.Lines.Views.{input_of}
 use Rattle.occ_term.specs.View.{place_of, test_of as boolean_of}
-use Rattle.occ_check_acting.specs.ActionView.{listed_of}
+use Rattle.occ_check_acting.specs.Action.{listed_of}
 use Rattle.occ_check.specs.Prefixes.{guarding}
 use Rattle.occ_check_names.specs.View.{Unfolds, numbers_of}
 use Rattle.occ_check.proofs.unfolder.Unfolder.guarding.Goals as goal

@@ -3,13 +3,13 @@ use Rattle.occ_tree_grammar.specs.Lines.Views.{replicator_of}
 use Rattle.occ_term.specs.View.{replicator_of as over_of}
 use Rattle.occ_check_meaning.specs.Declarations.{indexed}
 use Rattle.occ_check_meaning.specs.Scope.{names_of, within}
-use Rattle.occ_check_meaning.specs.Unfolding.{meant}
+use Rattle.occ_check_meaning.specs.Meant.{meant}
 use Rattle.occ_check_meaning.proofs.Names.{meant_within, same_names}
-use Rattle.occ_check_typing.specs.OpenedView.{indexed_of, pairs_of}
+use Rattle.occ_check_typing.specs.Declaration.{indexed_of, pairs_of}
 use Rattle.occ_check.specs.Progress.{counted, meant_at, scope_at}
 use Rattle.occ_check_names.specs.View.{Refuses, names_in}
 use Rattle.occ_check.specs.Weights.{weight}
-use Rattle.occ_check.proofs.Scoping.{index_within, names_are, scope_is}
+use Rattle.occ_check.proofs.EnteringScopes.{index_within, names_are, scope_is}
 use Rattle.occ_check.proofs.Weights.{same_weight}
 use Rattle.occ_check.proofs.unfolder.Unfolder.indexed.Goals as goal
 
@@ -17,7 +17,7 @@ pub returns-in_err-indexed-clause-indexed : goal.returns-in_err-indexed-clause-i
 returns-in_err-indexed-clause-indexed c =
     let u = c.args.self.now in
     let sc = scope_at u c.args.at in
-    let names = names_are c.scope-scope.result sc (scope_is c.scope-scope.result u.frames.frames.items c.args.at c.scope-scope.ensures.0 c.scope-scope.ensures.1) ∙ sym (same_names sc) in
+    let names = names_are c.scope-scope.result sc (scope_is c.scope-scope.result u.blocks.blocks.items c.args.at c.scope-scope.ensures.0 c.scope-scope.ensures.1) ∙ sym (same_names sc) in
     let refused : Refuses c.in_err-indexed.field-0.0 (indexed (names_of (meant_at u c.args.at)) c.args.line c.args.depth (replicator_of c.args.replicator.now) (counted u)) =
     subst (λ ns. Refuses c.in_err-indexed.field-0.0 (indexed ns c.args.line c.args.depth (replicator_of c.args.replicator.now) (counted u))) names c.in_err-indexed.ensures in
     search rules
@@ -26,7 +26,7 @@ pub returns-clause-indexed : goal.returns-clause-indexed
 returns-clause-indexed c =
     let u = c.args.self.now in
     let sc = scope_at u c.args.at in
-    let names = names_are c.scope-scope.result sc (scope_is c.scope-scope.result u.frames.frames.items c.args.at c.scope-scope.ensures.0 c.scope-scope.ensures.1) ∙ sym (same_names sc) in
+    let names = names_are c.scope-scope.result sc (scope_is c.scope-scope.result u.blocks.blocks.items c.args.at c.scope-scope.ensures.0 c.scope-scope.ensures.1) ∙ sym (same_names sc) in
     let held : c.into_inner.result ≡ c.in_ok-indexed.indexed.replicator = cc in
     let one : c.push.new.self.items ≡ c.in_ok-indexed.indexed.name ∷ [] = search rules in (
       indexed_of c.in_ok-indexed.indexed c.index_replicator.new.numbers,

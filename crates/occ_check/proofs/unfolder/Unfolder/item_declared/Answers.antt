@@ -8,11 +8,11 @@ use Rattle.occ_check_meaning.specs.Performing.{entered}
 use Rattle.occ_check_meaning.specs.Recursion.{item_declared}
 use Rattle.occ_check_meaning.specs.Scope.{proc}
 use Rattle.occ_check_meaning.specs.Unfolding.{procedure}
-use Rattle.occ_check_meaning.specs.Unfolding as unfoldings
+use Rattle.occ_check_meaning.specs.Meant as scopes
 use Rattle.occ_check.specs.Progress.{Enters, counted, innermost_at, meant_innermost}
 use Rattle.occ_check_names.specs.View.{Refuses, innermost, names_in}
 use Rattle.occ_check_typing.proofs.Refusals.{refused_with}
-use Rattle.occ_check.proofs.Scoping.{enters_names, names_are, names_refused, proc_form, proc_within, protocol_form, value_form}
+use Rattle.occ_check.proofs.EnteringScopes.{enters_names, names_are, names_refused, proc_form, proc_within, protocol_form, value_form}
 use Rattle.occ_check.proofs.unfolder.Unfolder.item_declared.Goals as goal
 
 pub returns-in_err-opened-in-Value-clause-entered : goal.returns-in_err-opened-in-Value-clause-entered
@@ -65,11 +65,11 @@ pub returns-in_ok-declare-in-Proc-clause-entered : goal.returns-in_ok-declare-in
 returns-in_ok-declare-in-Proc-clause-entered c =
     let u = c.args.self.now in
     let p = c.in-Proc in
-    let inside = innermost (reverse c.declare.new.self.frames.items) in
+    let inside = innermost (reverse c.declare.new.self.blocks.items) in
     let is = c.in_ok-declare-in-Proc.ensures.scope
     ∙ ap (λ x. (x, proc (procedure p.line (formals_of p.formals) (process_of p.body))) ∷ innermost_at u) c.deref-in-Proc.ensures.value in
     proc_form c.args.item.now p.line p.name p.formals p.body p.field-4 p.is (innermost_at u) inside is c.args.depth (counted u)
-    ∙ ap (λ heads. Some (entered (unfoldings.meant inside) (declarations_of heads) (counted u))) (sym c.new.ensures)
+    ∙ ap (λ heads. Some (entered (scopes.meant inside) (declarations_of heads) (counted u))) (sym c.new.ensures)
 
 pub returns-in_ok-declare-in-Proc-clause-weight : goal.returns-in_ok-declare-in-Proc-clause-weight
 returns-in_ok-declare-in-Proc-clause-weight c =
@@ -77,4 +77,4 @@ returns-in_ok-declare-in-Proc-clause-weight c =
     let p = c.in-Proc in
     let is = c.in_ok-declare-in-Proc.ensures.scope
     ∙ ap (λ x. (x, proc (procedure p.line (formals_of p.formals) (process_of p.body))) ∷ innermost_at u) c.deref-in-Proc.ensures.value in
-    proc_within c.args.item.now p.line p.name p.formals p.body p.field-4 p.is (innermost_at u) (innermost (reverse c.declare.new.self.frames.items)) is
+    proc_within c.args.item.now p.line p.name p.formals p.body p.field-4 p.is (innermost_at u) (innermost (reverse c.declare.new.self.blocks.items)) is

@@ -3,7 +3,7 @@ use Rattle.occ_tree_grammar.specs.Expressions.Trees.{expression_of as tree_of}
 use Rattle.occ_tree_grammar.specs.Lines.Views as lines
 use Rattle.occ_tree_grammar.specs.Lines.Views.{replicator_of as replicator_tree}
 use Rattle.occ_tree_grammar.specs.Processes.Trees.{more_nodes, no_node, nodes}
-use Rattle.occ_tree_grammar.specs.Processes.Views.{arm_of, process_of, row_variants, variant_of}
+use Rattle.occ_tree_grammar.specs.Processes.Views.{arm_of, process_of, held_variants, variant_of}
 use Rattle.occ_tree_grammar.specs.declared.tree.line.Replicator.{Replicator}
 use Rattle.occ_tree_grammar.specs.declared.tree.line.VariantGuard.{VariantGuard}
 use Rattle.occ_tree_grammar.specs.declared.tree.process.Arm.TheBlock.{hidden-the_row-Variant-1}
@@ -14,7 +14,7 @@ use Rattle.occ_check_meaning.specs.Declarations.{indexed}
 use Rattle.occ_check_meaning.specs.Performing.{each_of_arms, nested}
 use Rattle.occ_check_meaning.specs.Recursion.{all_arms, all_variants, arm_unfolded}
 use Rattle.occ_check_meaning.specs.Scope.{names_of}
-use Rattle.occ_check_meaning.specs.Unfolding.{meant}
+use Rattle.occ_check_meaning.specs.Meant.{meant}
 use Rattle.occ_check_names.specs.View.{Refuses, scope_in}
 use Rattle.occ_check_typing.proofs.Refusals.{refused_with}
 use Rattle.occ_check.specs.Opened.{put}
@@ -22,10 +22,10 @@ use Rattle.occ_check.specs.Prefixes.{guarding_variants}
 use Rattle.occ_check.specs.Progress.{counted, meant_at, weight_at}
 use Rattle.occ_check.specs.Weights.{arm_size, node_size, nodes_size}
 use Rattle.occ_check.specs.Statements.{listening}
-use Rattle.occ_check.proofs.Alternatives.{single_arm, variants_not_guarded, variants_open}
-use Rattle.occ_check.proofs.Conditionals.{single_size}
+use Rattle.occ_check.proofs.ArmLists.{single_arm, variants_not_guarded, variants_open}
+use Rattle.occ_check.proofs.ChoiceLists.{single_size}
 use Rattle.occ_check.proofs.Nesting.{nested_there}
-use Rattle.occ_check.proofs.Putting.{each_part, put_put}
+use Rattle.occ_check.proofs.OpenedParts.{each_part, put_put}
 use Rattle.occ_check.proofs.unfolder.Unfolder.listening_opened.Goals as goal
 
 pub returns-in_err-test-in-OnVariant-clause-opens : goal.returns-in_err-test-in-OnVariant-clause-opens
@@ -36,7 +36,7 @@ returns-in_err-test-in-OnVariant-clause-opens c =
     (guarding_variants (names_of sc) c.in-OnVariant.line c.args.depth (option_map tree_of c.in-OnVariant.guard.value.condition) (lines.var_of c.in-OnVariant.guard.value.channel) (counted c.args.self.now)) _
     (λ none. ap (λ a. put (arms_behind (declarations_of c.args.heads)) (listening a sc c.args.depth (counted c.args.self.now))) c.in-OnVariant.is
     ∙ ap (put (arms_behind (declarations_of c.args.heads))) (variants_not_guarded c.in-OnVariant.line (option_map tree_of c.in-OnVariant.guard.value.condition) (lines.var_of c.in-OnVariant.guard.value.channel)
-    (λ p. all_variants (row_variants (hidden-the_row-Variant-1 c.in-OnVariant.variants)) p []) sc c.args.depth (counted c.args.self.now) none))
+    (λ p. all_variants (held_variants (hidden-the_row-Variant-1 c.in-OnVariant.variants)) p []) sc c.args.depth (counted c.args.self.now) none))
     (subst (λ (g : VariantGuard). Refuses c.in_err-test-in-OnVariant.field-0.0 (guarding_variants (names_of sc) c.in-OnVariant.line c.args.depth (option_map tree_of g.condition) (lines.var_of g.channel) (counted c.args.self.now)))
     c.deref-in-OnVariant.ensures c.in_err-test-in-OnVariant.ensures.guard) in
     search rules
@@ -50,7 +50,7 @@ returns-in_ok-test-in-OnVariant-clause-opens c =
     let p = c.in_ok-test-in-OnVariant.protocol in
     let m = counted c.guarding_variants.new.self in
     let deep = c.args.depth + 1 in
-    let rows = row_variants (hidden-the_row-Variant-1 c.in-OnVariant.variants) in
+    let rows = held_variants (hidden-the_row-Variant-1 c.in-OnVariant.variants) in
     ap (λ a. put behind (listening a sc c.args.depth (counted c.args.self.now))) c.in-OnVariant.is
     ∙ ap (put behind)
     (variants_open c.in-OnVariant.line (option_map tree_of c.in-OnVariant.guard.value.condition) (lines.var_of c.in-OnVariant.guard.value.channel) (λ q. all_variants rows q []) sc c.args.depth (counted c.args.self.now) (test, (p, place)) m
@@ -58,7 +58,7 @@ returns-in_ok-test-in-OnVariant-clause-opens c =
     ∙ c.in_ok-test-in-OnVariant.ensures.guard))
     ∙ put_put behind (λ vs. T.input_arm test place (T.Tagged vs) T.no_arms) (all_variants rows p [] sc deep m)
     ∙ ap (λ ns. put (λ vs. behind (T.input_arm test place (T.Tagged vs) T.no_arms)) (all_variants ns p [] sc deep m)) (sym c.listed_variants-variants.ensures)
-    ∙ ap (λ f. put (λ vs. behind (T.input_arm test place (T.Tagged vs) T.no_arms)) (all_variants (nodes (map variant_of c.listed_variants-variants.result.now)) p [] (meant (scope_in (reverse f.frames.items) c.args.at)) deep m))
+    ∙ ap (λ f. put (λ vs. behind (T.input_arm test place (T.Tagged vs) T.no_arms)) (all_variants (nodes (map variant_of c.listed_variants-variants.result.now)) p [] (meant (scope_in (reverse f.blocks.items) c.args.at)) deep m))
     (sym c.in_ok-test-in-OnVariant.ensures.kept)
 
 pub returns-in_ok-deep-in-InnerAlt-clause-opens : goal.returns-in_ok-deep-in-InnerAlt-clause-opens

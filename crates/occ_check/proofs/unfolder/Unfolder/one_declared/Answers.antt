@@ -8,7 +8,7 @@ use Rattle.occ_check.specs.Progress.{Enters, counted, innermost_at, meant_innerm
 use Rattle.occ_check_names.specs.View.{Refuses, names_in}
 use Rattle.occ_check.specs.Weights.{decl_size, item_size, weight}
 use Rattle.occ_check_typing.proofs.Refusals.{refused_with}
-use Rattle.occ_check.proofs.Scoping.{enters_names, heavier, item_form, item_within, names_are, names_form, names_refused}
+use Rattle.occ_check.proofs.EnteringScopes.{enters_names, heavier, item_form, item_within, names_are, names_form, names_refused}
 use Rattle.occ_check.proofs.unfolder.Unfolder.one_declared.Goals as goal
 
 pub returns-in_err-opened-in-Names-clause-entered : goal.returns-in_err-opened-in-Names-clause-entered

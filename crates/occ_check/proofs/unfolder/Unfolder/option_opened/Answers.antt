@@ -4,15 +4,15 @@ use Rattle.occ_tree_grammar.specs.Processes.Trees.{decls}
 use Rattle.occ_tree_grammar.specs.Processes.Views.{decl_of, process_of, selection_of}
 use Rattle.occ_tree_grammar.specs.declared.tree.expr.Expr.{Expr}
 use Rattle.occ_tree_grammar.specs.declared.tree.line.OneOrMore.{OneOrMore}
-use Rattle.occ_check_acting.specs.ActionView.{chosen_of}
+use Rattle.occ_check_acting.specs.Action.{chosen_of}
 use Rattle.occ_check_meaning.specs.Performing as performs
 use Rattle.occ_check_meaning.specs.Recursion.{all_declared, unfolded}
 use Rattle.occ_check.specs.Opened.{Opens, option_left}
 use Rattle.occ_check.specs.Progress.{counted, meant_at, weight_at}
 use Rattle.occ_check.specs.Weights.{decls_size, node_size}
 use Rattle.occ_check.specs.declared.options.OpenedOption.{OpenedOption}
-use Rattle.occ_check.proofs.Putting.{lighter_on}
-use Rattle.occ_check.proofs.Selections.{otherwise_form, otherwise_size, values_form, values_size}
+use Rattle.occ_check.proofs.OpenedParts.{lighter_on}
+use Rattle.occ_check.proofs.OptionLists.{otherwise_form, otherwise_size, values_form, values_size}
 use Rattle.occ_check.proofs.unfolder.Unfolder.option_opened.Goals as goal
 
 pub returns-in-Values-clause-opens : goal.returns-in-Values-clause-opens

@@ -2,7 +2,7 @@ use Rattle.std.proofs.Common.{◌≡◌, ◌∙◌, [], Option, ap, map, subst, 
 use Rattle.occ_tree_grammar.specs.Expressions.Trees.{expression_of as tree_of}
 use Rattle.occ_tree_grammar.specs.Lines.Views.{var_of}
 use Rattle.occ_tree_grammar.specs.Processes.Trees.{nodes}
-use Rattle.occ_tree_grammar.specs.Processes.Views.{row_selections, row_variants, selection_of, variant_of}
+use Rattle.occ_tree_grammar.specs.Processes.Views.{held_selections, held_variants, selection_of, variant_of}
 use Rattle.occ_tree_grammar.specs.declared.tree.expr.Expr.{Expr}
 use Rattle.occ_tree_grammar.specs.declared.tree.process.Arm.TheBlock.{hidden-the_row-Selection-5, hidden-the_row-Variant-1}
 use Rattle.occ_term.specs.Terms as T
@@ -22,7 +22,7 @@ returns-in-Case-clause-opens c =
     let e = tree_of c.deref-in-Case.result.now in
     let same : selected c.args.line e (λ type. all_options (nodes (map selection_of c.listed_selections.result.now)) type none_chosen) sc c.args.depth n ≡ statement_unfolded c.args.line c.args.statement.now sc c.args.depth n =
     ap (λ os. selected c.args.line e (λ type. all_options os type none_chosen) sc c.args.depth n) c.listed_selections.ensures
-    ∙ ap (λ (x : Expr). selected c.args.line (tree_of x) (λ type. all_options (row_selections (hidden-the_row-Selection-5 c.in-Case.list)) type none_chosen) sc c.args.depth n) c.deref-in-Case.ensures
+    ∙ ap (λ (x : Expr). selected c.args.line (tree_of x) (λ type. all_options (held_selections (hidden-the_row-Selection-5 c.in-Case.list)) type none_chosen) sc c.args.depth n) c.deref-in-Case.ensures
     ∙ sym (ap (λ s. statement_unfolded c.args.line s sc c.args.depth n) c.in-Case.is) in
     subst (λ (o : Option (T.Term × Numbers)). Opens statement_left c.options_opened.result c.options_opened.new.self o) same c.options_opened.ensures.opens
 

@@ -6,8 +6,8 @@ use Rattle.occ_check.specs.Opened.{Opens, variant_left}
 use Rattle.occ_check.specs.Progress.{counted, meant_at, weight_at}
 use Rattle.occ_check.specs.Weights.{decls_size, node_size}
 use Rattle.occ_check.specs.declared.variants.OpenedVariant.{OpenedVariant}
-use Rattle.occ_check.proofs.Putting.{lighter_on}
-use Rattle.occ_check.proofs.Tags.{variant_form, variant_size}
+use Rattle.occ_check.proofs.OpenedParts.{lighter_on}
+use Rattle.occ_check.proofs.VariantLists.{variant_form, variant_size}
 use Rattle.occ_check.proofs.unfolder.Unfolder.variant_opened.Goals as goal
 
 pub returns-clause-opens : goal.returns-clause-opens

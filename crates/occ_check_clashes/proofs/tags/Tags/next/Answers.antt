@@ -1,8 +1,8 @@
 use Rattle.std.proofs.Common.{◌∙◌, ap, sym}
 use Rattle.std.specs.Prelude.{not}
-use Rattle.occ_check_clashes.specs.TagView.{listed_in, number_at}
+use Rattle.occ_check_clashes.specs.Tags.{listed_in, number_at}
 use Rattle.occ_check_clashes.proofs.Among.{number_told}
-use Rattle.occ_check_clashes.proofs.Tagging.{listed_before, listed_now}
+use Rattle.occ_check_clashes.proofs.TagLists.{listed_before, listed_now}
 use Rattle.occ_check_clashes.proofs.tags.Tags.next.Goals as goal
 
 pub returns-then-added-clause-tag : goal.returns-then-added-clause-tag

@@ -1,7 +1,7 @@
 use Rattle.std.proofs.Common.{◌≡◌, ◌∷◌, ◌+◌, arith, length, pos}
 use Rattle.occ_term.specs.View.{replicator_of}
-use Rattle.occ_code.specs.Sequential.Machine.{Push}
-use Rattle.occ_code.specs.Sequential.Expressions.{counting_code}
+use Rattle.occ_code.specs.Machine.{Push}
+use Rattle.occ_code.specs.Expressions.{counting_code}
 use Rattle.occ_code.proofs.Emitting.{emits_length}
 use Rattle.occ_code.proofs.EmittingArms.{value_begins}
 use Rattle.occ_code.proofs.compiler.arms.emit_each_value.Goals as goal

@@ -1,5 +1,5 @@
 use Rattle.std.proofs.Common.{◌≡◌, ◌≤◌, length, drop}
-use Rattle.occ_code.specs.Sequential.Cells.{AreEnds, covers}
+use Rattle.occ_code.specs.Cells.{AreEnds, covers}
 use Rattle.occ_code.proofs.compiler.cells.ends_of.Given as goal
 
 abbrev pub invariant-loop-left : goal.invariant-loop-left

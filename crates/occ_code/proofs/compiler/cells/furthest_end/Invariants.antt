@@ -1,5 +1,5 @@
 use Rattle.std.proofs.Common.{◌≡◌, ◌≤◌, length, drop}
-use Rattle.occ_code.specs.Sequential.Cells.{furthest}
+use Rattle.occ_code.specs.Cells.{furthest}
 use Rattle.occ_code.proofs.compiler.cells.furthest_end.Given as goal
 
 abbrev pub invariant-loop-left : goal.invariant-loop-left

@@ -2,7 +2,7 @@ use Rattle.std.specs.Prelude.{if◌then◌else◌, nat_lt, ◌&&◌, ◌||◌}
 use Rattle.std.proofs.lemmas.Bool.Decides.{nat_tests}
 use Rattle.std.proofs.Common.{◌≡◌, ◌∙◌, ◌≤◌, true, sym, subst, length, arith}
 use Rattle.occ_usage.specs.Noted.{between}
-use Rattle.occ_code.specs.Sequential.Cells.{AreEnds, covers, is_counted}
+use Rattle.occ_code.specs.Cells.{AreEnds, covers, is_counted}
 use Rattle.occ_code.proofs.CellRows.{noted_ends}
 use Rattle.occ_code.proofs.compiler.cells.note_use.Goals as goal
 

@@ -1,5 +1,5 @@
 use Rattle.std.proofs.Common.{◌≡◌, ◌≤◌, length}
-use Rattle.occ_code.specs.Sequential.Cells.{AreReached, reach}
+use Rattle.occ_code.specs.Cells.{AreReached, reach}
 use Rattle.occ_code.proofs.compiler.cells.reached.Given as goal
 
 abbrev pub invariant-loop-number : goal.invariant-loop-number

@@ -1,5 +1,5 @@
 use Rattle.std.proofs.Common.{◌≤◌, subst, length, arith}
-use Rattle.occ_code.specs.Sequential.Cells.{AreReached, furthest}
+use Rattle.occ_code.specs.Cells.{AreReached, furthest}
 use Rattle.occ_code.proofs.CellRows.{listed, uses_furthest}
 use Rattle.occ_code.proofs.compiler.cells.rising_cells.Goals as goal
 

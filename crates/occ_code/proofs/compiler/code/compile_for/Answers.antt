@@ -2,10 +2,10 @@ use Rattle.std.proofs.Common.{◌<◌, map, ap, subst, arith, ◌∙◌}
 use Rattle.std.specs.Arc.{arc_value}
 use Rattle.occ_term.specs.Processes.{processes_of}
 use Rattle.occ_term.specs.declared.fault.Errors.TheVariants.{Halt}
-use Rattle.occ_term.specs.Unfolding.{IsWellFormed, meaning}
+use Rattle.occ_term.specs.UnfoldedProgram.{IsWellFormed, meaning}
 use Rattle.occ_term.specs.View.{term_of}
-use Rattle.occ_code.specs.Sequential.Compiled.{AreBodiesOf, IsCompiledFrom, IsRefused}
-use Rattle.occ_code.specs.Sequential.Within.{AllWithin}
+use Rattle.occ_code.specs.Compiled.{AreBodiesOf, IsCompiledFrom, IsRefused}
+use Rattle.occ_code.specs.Within.{AllWithin}
 use Rattle.occ_code.proofs.CompilingTerms.{all_within, compiled_as, refused_as}
 use Rattle.occ_code.proofs.compiler.code.compile_for.Goals as goal
 

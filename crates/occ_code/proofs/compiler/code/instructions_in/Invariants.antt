@@ -1,7 +1,7 @@
 use Rattle.std.proofs.Common.{◌≡◌, ◌≤◌, length, drop, map}
 use Rattle.std.specs.Prelude.{min}
 use Rattle.std.specs.Arc.{arc_value}
-use Rattle.occ_code.specs.Sequential.Compiled.{instructions_in}
+use Rattle.occ_code.specs.Compiled.{instructions_in}
 use Rattle.occ_code.proofs.compiler.code.instructions_in.Given as goal
 
 abbrev pub invariant-loop-count : goal.invariant-loop-count

@@ -2,7 +2,7 @@ use Rattle.std.proofs.Common.{◌∙◌, map, ap}
 use Rattle.std.specs.Prelude.{min}
 use Rattle.std.specs.Arc.{arc_value}
 use Rattle.occ_term.specs.View.{term_of}
-use Rattle.occ_code.specs.Sequential.Compiled.{instructions_in}
+use Rattle.occ_code.specs.Compiled.{instructions_in}
 use Rattle.occ_code.proofs.CompilingTerms.{past_limit, too_many, within_limit}
 use Rattle.occ_code.proofs.compiler.code.program_bodies.Goals as goal
 

@@ -1,7 +1,7 @@
 use Rattle.std.specs.Prelude.{min}
 use Rattle.std.proofs.Common.{◌≡◌, ◌≤◌, ◌-◌, ◌^◌, length, drop}
 use Rattle.occ_term.specs.View.{arms_of, choices_of, options_of, terms_of, variants_of}
-use Rattle.occ_code.specs.Sequential.Emitted.{counters_of_arms, counters_of_choices, counters_of_options, counters_of_else, counters_of_terms, counters_of_variants}
+use Rattle.occ_code.specs.Emitted.{counters_of_arms, counters_of_choices, counters_of_options, counters_of_else, counters_of_terms, counters_of_variants}
 use Rattle.occ_code.proofs.compiler.counters.+counters.Given as goal
 
 abbrev pub invariant-counters_in_terms-loop-count : goal.invariant-counters_in_terms-loop-count

@@ -1,11 +1,11 @@
 use Rattle.std.proofs.Common.{rules, ◌≡◌, ◌∷◌, [], ◌++◌, ◌-◌, ◌<◌, ◌+◌, length, refl, ap, subst, sym, ◌∙◌, arith}
 use Rattle.occ_term.specs.Messages.{product}
-use Rattle.occ_term.specs.Rows.{AreFew}
+use Rattle.occ_term.specs.ArraySizes.{AreFew}
 use Rattle.occ_term.proofs.Few.{few_behind, few_product}
 use Rattle.occ_term.specs.View.{expression_of}
 use Rattle.occ_term.specs.declared.expression.TermExpr.{the_lemmas}
-use Rattle.occ_code.specs.Sequential.Machine.{AndThen, OrElse, Operate}
-use Rattle.occ_code.specs.Sequential.Expressions.{expression_code}
+use Rattle.occ_code.specs.Machine.{AndThen, OrElse, Operate}
+use Rattle.occ_code.specs.Expressions.{expression_code}
 use Rattle.occ_code.proofs.Emitting.{emits_then, emits_as, emits_since, whole_rest, subscripts_first, subscripts_next, product_before}
 use Rattle.occ_code.proofs.compiler.expressions.+expressions.Goals as goal
 

@@ -1,8 +1,8 @@
 use Rattle.std.proofs.Common.{◌≡◌, ◌≤◌, length, drop, map}
 use Rattle.occ_term.specs.Messages.{product}
 use Rattle.occ_term.specs.View.{expression_of, subscripts}
-use Rattle.occ_code.specs.Sequential.Expressions.{subscripts_code}
-use Rattle.occ_code.specs.Sequential.View.{Emits}
+use Rattle.occ_code.specs.Expressions.{subscripts_code}
+use Rattle.occ_code.specs.View.{Emits}
 use Rattle.occ_code.proofs.compiler.expressions.+expressions.Given as goal
 
 abbrev pub invariant-emit_subscripts-loop-count : goal.invariant-emit_subscripts-loop-count

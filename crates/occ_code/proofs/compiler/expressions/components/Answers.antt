@@ -1,6 +1,6 @@
 use Rattle.std.proofs.Common.{◌≡◌, ◌∙◌, min, length, ap, drop, subst, sym}
 use Rattle.occ_term.specs.Messages.{product}
-use Rattle.occ_term.specs.Rows.{AreFew}
+use Rattle.occ_term.specs.ArraySizes.{AreFew}
 use Rattle.occ_term.proofs.Few.{few_behind}
 use Rattle.occ_code.proofs.Emitting.{whole_rest, components_seen}
 use Rattle.occ_code.proofs.compiler.expressions.components.Goals as goal

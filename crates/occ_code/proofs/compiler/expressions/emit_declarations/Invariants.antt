@@ -1,7 +1,7 @@
 use Rattle.std.proofs.Common.{◌≤◌, length, drop}
 use Rattle.occ_term.specs.View.{declarations_of}
-use Rattle.occ_code.specs.Sequential.Expressions.{declarations_code}
-use Rattle.occ_code.specs.Sequential.View.{Emits}
+use Rattle.occ_code.specs.Expressions.{declarations_code}
+use Rattle.occ_code.specs.View.{Emits}
 use Rattle.occ_code.proofs.compiler.expressions.emit_declarations.Given as goal
 
 abbrev pub invariant-loop-count : goal.invariant-loop-count

@@ -3,7 +3,7 @@ use Rattle.std.proofs.lemmas.Grind.{common_steps}
 use Rattle.occ_term.specs.View.{target_of, targets_of}
 use Rattle.occ_term.specs.declared.expression.Target.{Target as Code}
 use Rattle.occ_term.specs.Terms.{Target, Into, IntoCounted, place, no_subscripts, then_subscript}
-use Rattle.occ_code.specs.Sequential.Expressions.{single_target}
+use Rattle.occ_code.specs.Expressions.{single_target}
 use Rattle.occ_code.proofs.compiler.expressions.only_variable.Goals as goal
 
 several : (t u : Target) (ts : List Target) → single_target (t ∷ u ∷ ts) ≡ None

@@ -1,8 +1,8 @@
 use Rattle.std.proofs.Common.{◌≡◌, ◌∙◌, ap, get_or, length, rules}
 use Rattle.std.specs.Prelude.{map}
 use Rattle.std.proofs.lemmas.List.{with_items_is}
-use Rattle.occ_code.specs.Sequential.Machine.{placed}
-use Rattle.occ_code.specs.Sequential.View.{instruction_of}
+use Rattle.occ_code.specs.Machine.{placed}
+use Rattle.occ_code.specs.View.{instruction_of}
 use Rattle.occ_code.proofs.PlacedInstrs.{all_placed, one_more}
 use Rattle.occ_code.proofs.compiler.places.name_places.Goals as goal
 

@@ -1,6 +1,6 @@
 use Rattle.std.proofs.Common.{◌≡◌}
 use Rattle.std.specs.Prelude.{map}
-use Rattle.occ_code.specs.Sequential.View.{instruction_of}
+use Rattle.occ_code.specs.View.{instruction_of}
 use Rattle.occ_code.proofs.PlacedInstrs.{placed_up_to}
 use Rattle.occ_code.proofs.compiler.places.name_places.Given as goal
 

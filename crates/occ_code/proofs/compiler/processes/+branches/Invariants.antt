@@ -2,7 +2,7 @@ use Rattle.std.proofs.Common.{◌≤◌, length, drop, map}
 use Rattle.std.specs.Arc.{arc_value}
 use Rattle.occ_term.specs.Processes.{branches_among, branches_in_arms, branches_in_choices, branches_in_options, branches_in_terms, branches_in_variants}
 use Rattle.occ_term.specs.View.{arms_of, branches_of, choices_of, options_of, terms_of, variants_of}
-use Rattle.occ_code.specs.Sequential.Compiled.{AddsBodies}
+use Rattle.occ_code.specs.Compiled.{AddsBodies}
 use Rattle.occ_code.proofs.compiler.processes.+branches.Given as goal
 
 abbrev pub invariant-add_in_terms-loop-count : goal.invariant-add_in_terms-loop-count

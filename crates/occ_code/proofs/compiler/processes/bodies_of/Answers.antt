@@ -3,7 +3,7 @@ use Rattle.std.proofs.Common.{◌≡◌, ◌∙◌, [], map, ap, subst, sym}
 use Rattle.std.specs.Arc.{arc_value}
 use Rattle.occ_term.specs.Processes.{processes_of}
 use Rattle.occ_term.specs.View.{term_of}
-use Rattle.occ_code.specs.Sequential.Compiled.{AddsBodies, AreBodiesOf}
+use Rattle.occ_code.specs.Compiled.{AddsBodies, AreBodiesOf}
 use Rattle.occ_code.proofs.CompilingTerms.{added_bodies, adds_then, map-reverse}
 use Rattle.occ_code.proofs.compiler.processes.bodies_of.Goals as goal
 

@@ -1,14 +1,14 @@
 use Rattle.std.proofs.Common.{◌≡◌, ◌<◌, List, arith, length, rules, sym, subst}
 use Rattle.std.proofs.lemmas.List.{length-map}
-use Rattle.occ_code.specs.Sequential.Emitted.{counters_of, whole_code}
-use Rattle.occ_code.specs.Sequential.Machine.{Instruction}
-use Rattle.occ_code.specs.Sequential.View.{instruction_of}
+use Rattle.occ_code.specs.Emitted.{counters_of, whole_code}
+use Rattle.occ_code.specs.Machine.{Instruction}
+use Rattle.occ_code.specs.View.{instruction_of}
 use Rattle.occ_code.proofs.FewCounters.{all_counted}
 use Rattle.occ_term.specs.Uses.{Uses, uses_of}
 use Rattle.occ_term.specs.View.{term_of}
 use Rattle.occ_usage.specs.Noted.{uses_in}
-use Rattle.occ_code.specs.Alike.{Lists, used_by}
-use Rattle.occ_code.specs.Sequential.Within.{AreWithin}
+use Rattle.occ_code.specs.SameStop.{Lists, used_by}
+use Rattle.occ_code.specs.Within.{AreWithin}
 use Rattle.occ_code.proofs.UsedCells.{writes_within}
 use Rattle.occ_code.proofs.compiler.processes.body_of.Goals as goal
 

@@ -1,5 +1,5 @@
 use Rattle.std.proofs.Common.{ap, map}
-use Rattle.occ_code.specs.Sequential.View.{instruction_of}
+use Rattle.occ_code.specs.View.{instruction_of}
 use Rattle.occ_code.proofs.SameCode.{code_by_meaning}
 use Rattle.occ_code.proofs.compiler.same_code.is_same_code.Goals as goal
 

@@ -1,7 +1,7 @@
 use Rattle.std.proofs.Common.{◌≡◌, ◌≤◌, ◌-◌, length, drop}
 use Rattle.occ_term.specs.View.{arms_of, choices_of, options_of, terms_of, variants_of}
-use Rattle.occ_code.specs.Sequential.Emitted.{arms_code, choices_code, else_code, options_code, terms_code, variants_code}
-use Rattle.occ_code.specs.Sequential.View.{Emits}
+use Rattle.occ_code.specs.Emitted.{arms_code, choices_code, else_code, options_code, terms_code, variants_code}
+use Rattle.occ_code.specs.View.{Emits}
 use Rattle.occ_code.proofs.compiler.statements.+terms.Given as goal
 
 abbrev pub invariant-emit_terms-loop-count : goal.invariant-emit_terms-loop-count

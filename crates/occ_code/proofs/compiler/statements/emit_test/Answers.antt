@@ -1,5 +1,5 @@
 use Rattle.std.proofs.Common.{◌∙◌, ◌-◌, ap, refl}
-use Rattle.occ_code.specs.Sequential.Expressions.{expression_code}
+use Rattle.occ_code.specs.Expressions.{expression_code}
 use Rattle.occ_term.specs.View.{expression_of}
 use Rattle.occ_code.proofs.EmittingTerms.{tested}
 use Rattle.occ_code.proofs.compiler.statements.emit_test.Goals as goal

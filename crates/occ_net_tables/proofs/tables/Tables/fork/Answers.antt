@@ -1,6 +1,6 @@
 use Rattle.std.proofs.Common.{◌≡◌, ◌∙◌, ℕ, refl, sym, ap, subst, length, map, Some, None, arith}
 use Rattle.std.specs.Prelude.{slice_get, slice_set}
-use Rattle.occ_code.specs.Alike.{ready_with}
+use Rattle.occ_code.specs.SameStop.{ready_with}
 use Rattle.occ_code.specs.declared.task.Task.{Task}
 use Rattle.occ_code.specs.declared.task.Wait.{Wait}
 use Rattle.occ_code.specs.declared.task.Wait.TheVariants as W

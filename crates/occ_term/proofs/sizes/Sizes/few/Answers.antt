@@ -1,5 +1,5 @@
 use Rattle.std.proofs.Common.{rules}
-use Rattle.occ_term.specs.Rows.{AreFew}
+use Rattle.occ_term.specs.ArraySizes.{AreFew}
 use Rattle.occ_term.proofs.Few.{few_product}
 use Rattle.occ_term.proofs.sizes.Sizes.few.Goals as goal
 

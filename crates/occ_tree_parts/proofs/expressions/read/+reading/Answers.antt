@@ -6,7 +6,7 @@ use Rattle.occ_text.specs.Words.{words}
 use Rattle.occ_tree_grammar.specs.Expressions.Trees.{Operands, Expressions, chain, variable, operand_of, expression_of}
 use Rattle.occ_tree_grammar.specs.Expressions.Reading.{operand_with, after_operand, expression_at}
 use Rattle.occ_tree_parts.proofs.ManyLoop.{goes_on, ends, is_full, is_last}
-use Rattle.occ_tree_grammar.proofs.Rows.{operands_made, expressions_made}
+use Rattle.occ_tree_grammar.proofs.Children.{operands_made, expressions_made}
 use Rattle.occ_tree_parts.proofs.Steps.{no_level, next_level}
 use Rattle.occ_tree_parts.proofs.expressions.read.+reading.Goals.{operands-else-loop-test, operands-then-loop-test+in_default, indices-else-loop-test, indices-then-loop-test+in_default}
 use Rattle.occ_tree_parts.proofs.expressions.read.+reading.Goals as goal

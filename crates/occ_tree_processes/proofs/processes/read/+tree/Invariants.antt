@@ -1,5 +1,6 @@
-use Rattle.std.proofs.Common.{length, ◌+◌, ◌*◌, map}
-use Rattle.occ_text.specs.Words.{Row, rows}
+use Rattle.std.proofs.Common.{length, ◌+◌, ◌-◌, ◌*◌, map}
+use Rattle.occ_text.specs.Words.{LogicalLine, logical_lines}
+use Rattle.occ_tree_grammar.specs.declared.limits.TheConstants.{MOST_LEVELS}
 use Rattle.occ_tree_grammar.specs.Many.{as_many}
 use Rattle.occ_tree_grammar.specs.Processes.Trees.{process, choice, option, arm, variant, Node, Decl}
 use Rattle.occ_tree_grammar.specs.Processes.Views.{process_of, choice_of, selection_of, arm_of, variant_of, decl_of}
@@ -8,67 +9,49 @@ use Rattle.occ_tree_parts.proofs.ManyLoop.{SoFar}
 use Rattle.occ_tree_processes.proofs.processes.read.+tree.Given as goal
 
 abbrev pub decreases-process : goal.decreases-process
-decreases-process l = 5 * l.left
+decreases-process l = 4 * l.left + 2
 
 abbrev pub decreases-choice : goal.decreases-choice
-decreases-choice l = 5 * l.left
-
-abbrev pub decreases-selection : goal.decreases-selection
-decreases-selection l = 5 * l.left
+decreases-choice l = 4 * l.left + 2
 
 abbrev pub decreases-arm : goal.decreases-arm
-decreases-arm l = 5 * l.left
-
-abbrev pub decreases-variant : goal.decreases-variant
-decreases-variant l = 5 * l.left
+decreases-arm l = 4 * l.left + 2
 
 abbrev pub decreases-processes : goal.decreases-processes
-decreases-processes l = 5 * l.left + 1
+decreases-processes l = 4 * l.left + 3
 
 abbrev pub decreases-choices : goal.decreases-choices
-decreases-choices l = 5 * l.left + 1
+decreases-choices l = 4 * l.left + 3
 
 abbrev pub decreases-selections : goal.decreases-selections
-decreases-selections l = 5 * l.left + 1
+decreases-selections l = 4 * l.left + 3
 
 abbrev pub decreases-arms : goal.decreases-arms
-decreases-arms l = 5 * l.left + 1
+decreases-arms l = 4 * l.left + 3
 
 abbrev pub decreases-variants : goal.decreases-variants
-decreases-variants l = 5 * l.left + 1
-
-abbrev pub decreases-statement : goal.decreases-statement
-decreases-statement l = 5 * l.left + 2
-
-abbrev pub decreases-chosen : goal.decreases-chosen
-decreases-chosen l = 5 * l.left + 2
-
-abbrev pub decreases-armed : goal.decreases-armed
-decreases-armed l = 5 * l.left + 2
-
-abbrev pub decreases-declared : goal.decreases-declared
-decreases-declared l = 5 * l.left + 1
-
-abbrev pub decreases-declaration : goal.decreases-declaration
-decreases-declaration l = 5 * l.left + 2
+decreases-variants l = 4 * l.left + 3
 
 abbrev pub decreases-declarations : goal.decreases-declarations
-decreases-declarations l = 5 * l.left + 3
+decreases-declarations l = 4 * l.left + 1
+
+abbrev pub decreases-declaration : goal.decreases-declaration
+decreases-declaration l = 4 * l.left + 3
 
 abbrev pub invariant-processes-loop : goal.invariant-processes-loop
-invariant-processes-loop l = SoFar Row (Node process) (at_level l.level) (node_at 65 l.left l.level process) (map process_of l.all.items) (length l.lines) l.counter (rows l.rest) (as_many (at_level l.level) (node_at 65 l.left l.level process) (rows l.lines))
+invariant-processes-loop l = SoFar LogicalLine (Node process) (at_level l.level) (node_at (MOST_LEVELS + 1) l.left l.level process) (map process_of l.all.items) (length l.lines) l.counter (logical_lines l.rest) (as_many (at_level l.level) (node_at (MOST_LEVELS + 1) l.left l.level process) (logical_lines l.lines))
 
 abbrev pub invariant-choices-loop : goal.invariant-choices-loop
-invariant-choices-loop l = SoFar Row (Node choice) (at_level l.level) (node_at 65 l.left l.level choice) (map choice_of l.all.items) (length l.lines) l.counter (rows l.rest) (as_many (at_level l.level) (node_at 65 l.left l.level choice) (rows l.lines))
+invariant-choices-loop l = SoFar LogicalLine (Node choice) (at_level l.level) (node_at (MOST_LEVELS + 1) l.left l.level choice) (map choice_of l.all.items) (length l.lines) l.counter (logical_lines l.rest) (as_many (at_level l.level) (node_at (MOST_LEVELS + 1) l.left l.level choice) (logical_lines l.lines))
 
 abbrev pub invariant-selections-loop : goal.invariant-selections-loop
-invariant-selections-loop l = SoFar Row (Node option) (at_level l.level) (node_at 65 l.left l.level option) (map selection_of l.all.items) (length l.lines) l.counter (rows l.rest) (as_many (at_level l.level) (node_at 65 l.left l.level option) (rows l.lines))
+invariant-selections-loop l = SoFar LogicalLine (Node option) (at_level l.level) (node_at (MOST_LEVELS + 1) l.left l.level option) (map selection_of l.all.items) (length l.lines) l.counter (logical_lines l.rest) (as_many (at_level l.level) (node_at (MOST_LEVELS + 1) l.left l.level option) (logical_lines l.lines))
 
 abbrev pub invariant-arms-loop : goal.invariant-arms-loop
-invariant-arms-loop l = SoFar Row (Node arm) (at_level l.level) (node_at 65 l.left l.level arm) (map arm_of l.all.items) (length l.lines) l.counter (rows l.rest) (as_many (at_level l.level) (node_at 65 l.left l.level arm) (rows l.lines))
+invariant-arms-loop l = SoFar LogicalLine (Node arm) (at_level l.level) (node_at (MOST_LEVELS + 1) l.left l.level arm) (map arm_of l.all.items) (length l.lines) l.counter (logical_lines l.rest) (as_many (at_level l.level) (node_at (MOST_LEVELS + 1) l.left l.level arm) (logical_lines l.lines))
 
 abbrev pub invariant-variants-loop : goal.invariant-variants-loop
-invariant-variants-loop l = SoFar Row (Node variant) (at_level l.level) (node_at 65 l.left l.level variant) (map variant_of l.all.items) (length l.lines) l.counter (rows l.rest) (as_many (at_level l.level) (node_at 65 l.left l.level variant) (rows l.lines))
+invariant-variants-loop l = SoFar LogicalLine (Node variant) (at_level l.level) (node_at (MOST_LEVELS + 1) l.left l.level variant) (map variant_of l.all.items) (length l.lines) l.counter (logical_lines l.rest) (as_many (at_level l.level) (node_at (MOST_LEVELS + 1) l.left l.level variant) (logical_lines l.lines))
 
 abbrev pub invariant-declarations-loop : goal.invariant-declarations-loop
-invariant-declarations-loop l = SoFar Row Decl (at_decl l.level) (decl_with 65 l.left l.level (node_at 65 l.left (l.level + 1) process)) (map decl_of l.all.items) (length l.lines) l.counter (rows l.rest) (as_many (at_decl l.level) (decl_with 65 l.left l.level (node_at 65 l.left (l.level + 1) process)) (rows l.lines))
+invariant-declarations-loop l = SoFar LogicalLine Decl (at_decl l.level) (decl_with (MOST_LEVELS + 1) (l.left - 1) l.level (node_at (MOST_LEVELS + 1) (l.left - 1) (l.level + 1) process)) (map decl_of l.all.items) (length l.lines) l.counter (logical_lines l.rest) (as_many (at_decl l.level) (decl_with (MOST_LEVELS + 1) (l.left - 1) l.level (node_at (MOST_LEVELS + 1) (l.left - 1) (l.level + 1) process)) (logical_lines l.lines))

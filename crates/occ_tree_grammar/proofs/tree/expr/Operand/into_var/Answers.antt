@@ -3,7 +3,7 @@ use Rattle.occ_tree_grammar.specs.declared.tree.expr.Operand.{Operand}
 use Rattle.occ_tree_grammar.specs.Expressions.Trees.{Expressions, operand_of, expression_of, expressions}
 use Rattle.occ_tree_grammar.specs.Lines.Trees.{var}
 use Rattle.occ_tree_grammar.specs.Lines.HeadReading.{operand_var}
-use Rattle.occ_tree_grammar.proofs.Rows.{expressions_made}
+use Rattle.occ_tree_grammar.proofs.Children.{expressions_made}
 use Rattle.occ_tree_grammar.proofs.tree.expr.Operand.into_var.Goals as goal
 
 pub returns-in-Variable : goal.returns-in-Variable

@@ -1,0 +1,31 @@
+-- The copies of a replicated PAR, and what is checked and counted before them.
+-- Manual: combining processes; replicators.
+use Rattle.std.specs.Prelude.{Option, Some, ℕ, ℤ}
+use Rattle.occ_tree_grammar.specs.Many.{◌>>=◌}
+use Rattle.occ_tree_grammar.specs.Lines.Trees as L
+use Rattle.occ_tree_grammar.specs.Processes.Trees.{Node, process}
+use Rattle.occ_term.specs.Sizes as Sizes
+use Rattle.occ_term.specs.Terms.{Branches, Term, and_branch}
+use Rattle.occ_check_meaning.specs.Declarations.{copies_of, index_of}
+use Rattle.occ_check_meaning.specs.Numbers.{Numbers, more_processes, room}
+use Rattle.occ_check_meaning.specs.Performing.{Calling, Unfolds}
+use Rattle.occ_check_meaning.specs.Recursion.{unfolded}
+use Rattle.occ_check_meaning.specs.Scope.{Names, Scope, within}
+
+-- the first value of the index and how many copies there are, with the node of the PAR
+abbrev pub copies_counted : Names → ℕ → ℕ → L.Replicator → Numbers → Option ((ℤ × ℕ) × Numbers)
+copies_counted ns line depth r n = do
+  c ← copies_of ns line r
+  m ← room depth (Sizes.with_node Sizes.no_size) n
+  Some (c, m)
+
+-- what the copy for a value of the index unfolds to
+abbrev pub copy_for : L.Replicator → Node process → Scope Calling → ℕ → ℤ → Unfolds Term
+copy_for r p sc depth i = unfolded p (within (index_of r i) sc) depth
+
+-- a copy with its number, as what it puts before others
+abbrev pub numbered_copy : (ℤ → Unfolds Term) → ℤ → Numbers → Option ((Branches → Branches) × Numbers)
+numbered_copy u i n = do
+  m ← more_processes n
+  t ← u i m
+  Some (and_branch n.processes t.0, t.1)

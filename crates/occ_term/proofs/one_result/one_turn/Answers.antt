@@ -1,5 +1,0 @@
-use Rattle.occ_term.proofs.OneResult.{one_turn}
-use Rattle.occ_term.proofs.one_result.one_turn.Goals as goal
-
-pub returns : goal.returns
-returns c = one_turn
