@@ -2,13 +2,9 @@
 #![tactic(auto)]
 
 #[cfg(test)]
-mod accepted;
-#[cfg(test)]
 mod answers;
 #[cfg(test)]
 mod choosing_networks;
-#[cfg(test)]
-mod compiled;
 #[cfg(test)]
 mod drawn;
 #[cfg(test)]
@@ -45,8 +41,6 @@ mod sequential_programs;
 mod stopping;
 #[cfg(test)]
 mod texts;
-#[cfg(test)]
-mod turns;
 #[cfg(test)]
 mod usage;
 #[cfg(test)]
