@@ -1,3 +1,4 @@
+pub mod Crews
 pub mod Lines
 pub mod Plans
 pub mod Reading

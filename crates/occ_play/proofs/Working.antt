@@ -1,5 +1,6 @@
 -- The answer of a run by workers.
 use Rattle.std.proofs.Common.{◌≡◌, ◌∙◌, ◌<◌, ◌≤◌, ◌⊎◌, ℕ, List, Bool, length, refl, sym, ap, subst}
+use Rattle.occ_choices.specs.Crews.{most_workers}
 use Rattle.occ_code.specs.Compiled.{Program}
 use Rattle.occ_net_replay.specs.declared.choice.Choice.{Choice}
 use Rattle.occ_net_replay.specs.Following.{or_limit}
@@ -41,7 +42,7 @@ workers_refuse workers options source (play.Write written) h = h
 workers_refuse workers options source (play.Run f) h = absurd h
 workers_refuse workers options source (play.Memory e) h = h
 
-pub run_refuses : (workers : ℕ) (options : Options) (source : List ℕ) (p : Program) (fault : RunFault) → IsTextsCode options source p → (fault ≡ run.BadWorkers → (workers ≡ 0) ⊎ (64 < workers)) → WorkersRefuse workers options source (play.Run fault)
+pub run_refuses : (workers : ℕ) (options : Options) (source : List ℕ) (p : Program) (fault : RunFault) → IsTextsCode options source p → (fault ≡ run.BadWorkers → (workers ≡ 0) ⊎ (most_workers < workers)) → WorkersRefuse workers options source (play.Run fault)
 run_refuses workers options source p run.Foreign code h = (p, code)
 run_refuses workers options source p run.BadWorkers code h = ((p, code), h refl)
 run_refuses workers options source p run.Spawn code h = (p, code)

@@ -5,14 +5,11 @@ use Rattle.occ_net_replay.specs.declared.ending.Ending.TheVariants as E
 use Rattle.occ_run.specs.declared.fault.RunFault.TheVariants as run
 use Rattle.occ_play.specs.declared.fault.PlayFault.{PlayFault}
 use Rattle.occ_play.specs.declared.fault.PlayFault.TheVariants as play
+use Rattle.occ_choices.specs.Crews.{most_workers}
 use Rattle.occ_code.specs.Compiled.{Program}
 use Rattle.occ_play.specs.declared.playing.Options.{Options}
 use Rattle.occ_play.specs.declared.playing.Played.{Played}
 use Rattle.occ_play.specs.Playing.{IsAnswer, IsTextsCode, Refuses}
-
--- how many workers there may be
-abbrev pub IsCrew : ℕ → Type 0
-IsCrew workers = (0 < workers) × (workers ≤ 64)
 
 -- The answer that `play` gives for the choices that were used. There are at most `limit` of them, and just so many where the run could go
 -- on.
@@ -31,6 +28,6 @@ HasCode options source = (p : Program) × IsTextsCode options source p
 -- What is wrong with the text or the quantum comes first. A text that has code is refused for a number of workers that is not from 1 to 64, and for
 -- threads that gave no answer.
 abbrev pub WorkersRefuse : ℕ → Options → List ℕ → PlayFault → Type 0
-WorkersRefuse workers options source (play.Run run.BadWorkers) = HasCode options source × ((workers ≡ 0) ⊎ (64 < workers))
+WorkersRefuse workers options source (play.Run run.BadWorkers) = HasCode options source × ((workers ≡ 0) ⊎ (most_workers < workers))
 WorkersRefuse workers options source (play.Run fault) = HasCode options source
 WorkersRefuse workers options source fault = Refuses options source fault

@@ -2,7 +2,8 @@
 ghost use Rattle.std.specs.Prelude.{◌≡◌, ◌<◌, ◌-◌, ◌^◌, IfOk, IfErr};
 ghost use Rattle.occ_shown.specs.Counting.{failures_of};
 ghost use Rattle.occ_play.specs.Playing.{AfterFault, Wrote, plain};
-ghost use Rattle.occ_play.specs.Working.{IsAnswerWithin, IsCrew, IsSomeAnswerWithin, WorkersRefuse};
+ghost use Rattle.occ_choices.specs.Crews.{IsCrew};
+ghost use Rattle.occ_play.specs.Working.{IsAnswerWithin, IsSomeAnswerWithin, WorkersRefuse};
 
 use crate::fault::PlayFault;
 use crate::playing::{Options, Played, code_of, told};

@@ -1,11 +1,15 @@
 //! The words of the command line.
 ghost use Rattle.std.specs.Prelude.{◌≡◌, ◌≤◌, ◌<◌, IsTrue, unwrap_or};
 ghost use Rattle.std.specs.Option.{ForSome, option_copied};
+ghost use Rattle.occ_choices.specs.Crews.{IsCrew};
+ghost use Rattle.occ_code.specs.Compiled.{IsQuantum};
 ghost use Rattle.occ_play_inputs.specs.Modes.{IsMode};
 
 use clap::builder::ValueParser;
 use clap::error::ErrorKind;
 use clap::{Arg, ArgAction, Command, Error, value_parser};
+use occ_choices::{MOST_WORKERS, is_crew};
+use occ_code::MOST_QUANTUM;
 use occ_term::Errors;
 use std::alloc::Global;
 
@@ -14,12 +18,6 @@ pub const DEFAULT_LIMIT: u32 = 1_000_000;
 
 /// The most turns that a word may ask for.
 pub const MOST_TURNS: u32 = 10_000_000;
-
-/// The most ends of a loop's body that a word may let a turn pass.
-pub const MOST_QUANTUM: u32 = 65_536;
-
-/// The most workers that a word may ask for.
-pub const MOST_WORKERS: u32 = 64;
 
 /// What a word may say that a fault does.
 static MODES: [&str; 2] = ["halt", "stop"];
@@ -70,8 +68,8 @@ pub struct Words<'a> {
     /// The path of the source; none where standard input is the source.
     pub file: Option<&'a str>,
     ghost limit_in_range: { limit ≤ 10000000 },
-    ghost quantum_in_range: { (0 < quantum) × (quantum ≤ 65536) },
-    ghost workers_in_range: { ForSome workers (λ n. (0 < n) × (n ≤ 64)) },
+    ghost quantum_in_range: { IsQuantum quantum },
+    ghost workers_in_range: { ForSome workers IsCrew },
 }
 
 /// Reads the words, of which the first is the program's name.
@@ -131,10 +129,10 @@ fn quantum_of(given: Option<u32>) -> u32
 
 /// Whether there may be so many workers; none are the program's own thread.
 fn are_workers(given: Option<u32>) -> bool
-    ensures { IsTrue result → ForSome given (λ n. (0 < n) × (n ≤ 64)) }
+    ensures { IsTrue result → ForSome given IsCrew }
 {
     match given {
-        Some(workers) => workers > 0 && workers <= MOST_WORKERS,
+        Some(workers) => is_crew(workers),
         None => true,
     }
 }
@@ -187,7 +185,7 @@ fn quantum_word<'a>(alloc: Global) -> Arg<'a> {
         .long("quantum")
         .value_name("N")
         .help("Lets a turn pass N ends of a loop's body, 1 to 65536 [default: 1]")
-        .value_parser(value_parser!(u32).range(1..=65_536))
+        .value_parser(value_parser!(u32).range(1..=i64::from(MOST_QUANTUM)))
 }
 
 fn errors_word<'a>(alloc: Global) -> Arg<'a> {
@@ -203,7 +201,7 @@ fn workers_word<'a>(alloc: Global) -> Arg<'a> {
         .long("workers")
         .value_name("N")
         .help("Lets N threads take the turns, 1 to 64")
-        .value_parser(value_parser!(u32).range(1..=64))
+        .value_parser(value_parser!(u32).range(1..=i64::from(MOST_WORKERS)))
 }
 
 fn choices_word<'a>(alloc: Global) -> Arg<'a> {

@@ -12,4 +12,4 @@ mod workers;
 pub use fault::RunFault;
 pub use gate::{FreeGate, Gate};
 pub use outcome::into_replay;
-pub use run::{MOST_WORKERS, run_workers};
+pub use run::run_workers;

@@ -1,19 +1,18 @@
 //! A run of a program's code by several threads.
 ghost use Rattle.std.specs.Prelude.{◌≡◌, ◌<◌, ◌↔◌, ◌⊎◌, IfOk, IfErr, IsErrOf, IsFalse, IsTrue, None};
+ghost use Rattle.occ_choices.specs.Crews.{most_workers};
 ghost use Rattle.occ_run.specs.Gathered.{IsNoRun, IsRunOf, IsUnfinished, IsWhole, stop_fault};
 
 use crate::fault::RunFault;
 use crate::gate::Gate;
 use crate::progress::{Progress, Stop};
 use crate::workers::run_all;
+use occ_choices::is_crew;
 use occ_code::Code;
 use occ_net::{Network, Outcome};
 use std::alloc::{AllocError, Global};
 use std::sync::Wait;
 use std::thread::Threads;
-
-/// The most workers of a run.
-pub const MOST_WORKERS: u32 = 64;
 
 /// Runs the code on the keyboard's bytes by so many workers, each in a thread of its own, until the network ends or `limit`
 /// turns are settled. Each worker takes a turn out under a lock, runs it by the gate outside, and settles it under the lock, with
@@ -34,9 +33,9 @@ pub fn run_workers<R: Threads + Wait + Sync, G: Gate + Sync>(
     gate: &G,
 ) -> Result<Outcome, RunFault>
     ensures run { IfOk result (IsRunOf code.now keyboard.now limit) }
-    ensures workers { IsErrOf result RunFault.BadWorkers ↔ ((workers ≡ 0) ⊎ (64 < workers)) }
+    ensures workers { IsErrOf result RunFault.BadWorkers ↔ ((workers ≡ 0) ⊎ (most_workers < workers)) }
 {
-    if workers == 0 || workers > MOST_WORKERS {
+    if !is_crew(workers) {
         return Err(RunFault::BadWorkers);
     }
     let progress = beginning(alloc, code, keyboard, limit)?;

@@ -1,19 +1,18 @@
 //! Laws of the written form, which no code uses.
 
-ghost use Rattle.std.specs.Prelude.{◌≡◌, ◌<◌, ℕ, IsTrue, Some, List, ◌++◌};
+ghost use Rattle.std.specs.Prelude.{◌≡◌, ◌<◌, ◌↔◌, ℕ, IsTrue, Some, List, ◌++◌};
 ghost use Rattle.occ_text.specs.Lines.{leads_on};
 ghost use Rattle.occ_text.specs.Words.{Word, LogicalLine};
 ghost use Rattle.occ_tree_grammar.specs.Lists.{Each};
 ghost use Rattle.occ_tree_grammar.specs.Expressions.Trees.{Expression};
-ghost use Rattle.occ_tree_grammar.specs.Expressions.Shown.{dyadic_word, logic_word, show_expression, depth, Narrow};
+ghost use Rattle.occ_tree_grammar.specs.Expressions.Shown.{show_expression, depth, Narrow};
 ghost use Rattle.occ_tree_grammar.specs.Expressions.Reading.{expression_at};
 ghost use Rattle.occ_tree_grammar.specs.Expressions.Follow.{Stops};
 ghost use Rattle.occ_tree_grammar.specs.Processes.Trees.{Item};
 ghost use Rattle.occ_tree_grammar.specs.Processes.Shown.{show_program};
 ghost use Rattle.occ_tree_grammar.specs.Processes.Fits.{FitsItem, InBounds};
 ghost use Rattle.occ_tree_grammar.specs.Processes.Reading.{program_at};
-ghost use Rattle.occ_tree_grammar.specs.declared.tree.expr.Dyadic.{Dyadic};
-ghost use Rattle.occ_tree_grammar.specs.declared.tree.expr.Logic.{Logic};
+ghost use Rattle.occ_tree_laws.specs.Joining.{Joins};
 
 /// Two trees with one written form are equal.
 pub fn one_form()
@@ -35,8 +34,8 @@ pub fn reading_expressions()
     ensures again { (e : Expression) (n : ℕ) (ws : List Word) → depth e < n → Narrow e → Stops ws → expression_at n (show_expression e ++ ws) ≡ Some (e, ws) }
 {}
 
-/// A line goes on after each operator that stands between two operands, and after AND and OR.
+/// A line goes on after each operator that stands between two operands, after AND and OR, after
+/// `:=`, `;`, `,`, IS and FOR, and after no other word.
 pub fn operators_lead_on()
-    ensures two_sided { (d : Dyadic) → IsTrue (leads_on (dyadic_word d)) }
-    ensures chained { (l : Logic) → IsTrue (leads_on (logic_word l)) }
+    ensures { (w : Word) → IsTrue (leads_on w) ↔ Joins w }
 {}
