@@ -1,9 +1,12 @@
 //! The program around `occ_play::play_in` and `occ_play::play_workers_in`. [`run`] reads what the words
-//! name, plays it and writes the answer, and its exit status is that of what was met.
+//! name, plays it and writes the answer, and its exit status is that of what was met;
+//! [`exit_code`] tells the machine so.
 #![tactic(auto)]
 
 mod drawing;
+pub mod exit;
 pub mod program;
 mod recording;
 
+pub use exit::exit_code;
 pub use program::run;

@@ -1,17 +1,9 @@
 //! Plays a file on a keyboard, by a file of choices, with a trace, and records the choices that it used.
 #![tactic(auto)]
 
-ghost use Rattle.std.specs.Prelude.{◌≡◌};
-ghost use Rattle.std.specs.Process.{exit_status};
-
+use occ_program::{exit_code, run};
 use std::process::ExitCode;
 
 fn main(rt: HostRuntime) -> ExitCode {
-    exit_code(occ_program::run(&rt))
-}
-
-fn exit_code(status: u8) -> ExitCode
-    ensures { exit_status result ≡ status }
-{
-    ExitCode::from(status)
+    exit_code(run(&rt))
 }
