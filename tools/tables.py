@@ -1,5 +1,5 @@
 #!/usr/bin/env python3
-"""Keeps the tables of crates/rows equal to what users read: examples/ and docs/language.md.
+"""Keeps the tables of crates/rows_sources equal to what users read: examples/ and docs/language.md.
 
     python3 tools/tables.py           says which table differs; the status is 1 where one does
     python3 tools/tables.py --write   writes the tables
@@ -9,7 +9,7 @@ import re
 import sys
 
 TOP = pathlib.Path(__file__).resolve().parent.parent
-ROWS = TOP / "crates/rows/src"
+ROWS = TOP / "crates/rows_sources/src"
 STOPPING = "With --errors stop"
 FOLDERS = ["first_steps", "sequences", "pipelines", "selection", "sharing", "faults"]
 

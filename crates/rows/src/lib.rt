@@ -1,20 +1,12 @@
-//! Tests of whole programs, from a text to its answer.
+//! Tests of runs of whole programs, from a text to its answer.
 #![tactic(auto)]
 
-#[cfg(test)]
-mod answers;
 #[cfg(test)]
 mod choosing_networks;
 #[cfg(test)]
 mod drawn;
 #[cfg(test)]
-mod examples;
-#[cfg(test)]
 mod first_programs;
-#[cfg(test)]
-mod gallery;
-#[cfg(test)]
-mod large;
 #[cfg(test)]
 mod laws;
 #[cfg(test)]
@@ -25,10 +17,6 @@ mod networks;
 mod outcomes;
 #[cfg(test)]
 mod quanta;
-#[cfg(test)]
-mod reference;
-#[cfg(test)]
-mod refusals;
 #[cfg(test)]
 mod row;
 #[cfg(test)]
@@ -41,10 +29,6 @@ mod sequential_programs;
 mod stopping;
 #[cfg(test)]
 mod texts;
-#[cfg(test)]
-mod usage;
-#[cfg(test)]
-mod wholes;
 #[cfg(test)]
 mod workers;
 #[cfg(test)]

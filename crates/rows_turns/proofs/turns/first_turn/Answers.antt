@@ -3,8 +3,8 @@ use Rattle.std.specs.Arc.{arc_value}
 use Rattle.occ_term.specs.Frames.{zero_frame}
 use Rattle.occ_proc.specs.Turns.{HasStop}
 use Rattle.occ_net_replay.specs.Replay.{first_task}
-use Rattle.rows_code.proofs.FirstTurns.{first_stop}
-use Rattle.rows_code.proofs.turns.first_turn.Goals as goal
+use Rattle.rows_turns.proofs.FirstTurns.{first_stop}
+use Rattle.rows_turns.proofs.turns.first_turn.Goals as goal
 
 pub turn-requires-clause-stops : goal.turn-requires-clause-stops
 turn-requires-clause-stops c =

@@ -3,8 +3,8 @@ use Rattle.std.specs.Arc.{arc_value}
 use Rattle.occ_term.specs.Frames.{zero_frame}
 use Rattle.occ_proc.specs.Turns.{HasStop}
 use Rattle.occ_net_replay.specs.Replay.{first_task}
-use Rattle.rows_code.proofs.FirstTurns.{body_small, first_stop}
-use Rattle.rows_code.proofs.turns.advanced.Goals as goal
+use Rattle.rows_turns.proofs.FirstTurns.{body_small, first_stop}
+use Rattle.rows_turns.proofs.turns.advanced.Goals as goal
 
 pub advance-requires-clause-small : goal.advance-requires-clause-small
 advance-requires-clause-small c = subst (λ b. length b.code + 1 < 2 ^ 32) (sym c.deref-2.ensures) (body_small c.args.code.now (arc_value c.in-Some.body.now) c.compiled.ensures c.in-Some.ensures.some)
