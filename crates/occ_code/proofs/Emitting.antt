@@ -12,16 +12,16 @@ use Rattle.occ_term.specs.declared.expression.TermExpr.{TermExpr, the_lemmas}
 use Rattle.occ_term.specs.declared.expression.Place.{Place}
 use Rattle.occ_code.specs.Expressions.{expression_code, subscripts_code, components_at}
 use Rattle.occ_code.specs.Machine.{Instruction, Subscript}
-use Rattle.occ_code.specs.View.{instruction_of, emitted, Emits}
+use Rattle.occ_code.specs.View.{emitted_instruction, emitted, Emits}
 use Rattle.occ_code.specs.declared.compiler.instr.Instr.{Instr}
 
-pub emits_none : (a : List Instr) → Emits a [] a
+pub emits_none : (a : List (Instr ℕ)) → Emits a [] a
 emits_none a = record { more = []; added = sym (append-nil a); is = refl }
 
-pub emitted-append : (a b : List Instr) → emitted (a ++ b) ≡ emitted b ++ emitted a
-emitted-append a b = ap (map instruction_of) (reverse-append a b) ∙ map-append instruction_of (reverse b) (reverse a)
+pub emitted-append : (a b : List (Instr ℕ)) → emitted (a ++ b) ≡ emitted b ++ emitted a
+emitted-append a b = ap (map emitted_instruction) (reverse-append a b) ∙ map-append emitted_instruction (reverse b) (reverse a)
 
-pub emits_then : {a b c : List Instr} {p q : List Instruction} → Emits a p b → Emits b q c → Emits a (q ++ p) c
+pub emits_then : {a b c : List (Instr ℕ)} {p q : List Instruction} → Emits a p b → Emits b q c → Emits a (q ++ p) c
 emits_then {a} {b} {c} {p} {q} x y =
     record {
       more = x.more ++ y.more;
@@ -29,37 +29,39 @@ emits_then {a} {b} {c} {p} {q} x y =
       is = emitted-append x.more y.more ∙ ap (λ l. l ++ emitted x.more) y.is ∙ ap (λ l. q ++ l) x.is;
     }
 
-pub emits_as : {a b : List Instr} {p q : List Instruction} → Emits a p b → p ≡ q → Emits a q b
+pub emits_as : {a b : List (Instr ℕ)} {p q : List Instruction} → Emits a p b → p ≡ q → Emits a q b
 emits_as x e = record { more = x.more; added = x.added; is = x.is ∙ e }
 
-pub emits_from : {a b c : List Instr} {p : List Instruction} → a ≡ b → Emits b p c → Emits a p c
+pub emits_from : {a b c : List (Instr ℕ)} {p : List Instruction} → a ≡ b → Emits b p c → Emits a p c
 emits_from e x = record { more = x.more; added = x.added ∙ ap (λ l. l ++ x.more) (sym e); is = x.is }
 
+pub length-emitted : (is : List (Instr ℕ)) → length (emitted is) ≡ length is
+length-emitted is = length-map (reverse is) emitted_instruction ∙ length-reverse is
+
 -- how long the code is after it
-pub emits_length : {a b : List Instr} {p : List Instruction} → Emits a p b → length b ≡ length p + length a
+pub emits_length : {a b : List (Instr ℕ)} {p : List Instruction} → Emits a p b → length b ≡ length p + length a
 emits_length {a} {b} {p} x =
-    let n : length (emitted x.more) ≡ length x.more = length-map (reverse x.more) instruction_of ∙ length-reverse x.more in
-    let m : length p ≡ length x.more = ap length (sym x.is) ∙ n in
+    let m : length p ≡ length x.more = ap length (sym x.is) ∙ length-emitted x.more in
     ap length x.added ∙ length-append a x.more ∙ omega (arith, m)
 
-pub emits_since : {a b : List Instr} {p : List Instruction} → Emits a p b → length b - length a ≡ length p
+pub emits_since : {a b : List (Instr ℕ)} {p : List Instruction} → Emits a p b → length b - length a ≡ length p
 emits_since x = omega (arith, emits_length x)
 
 -- an instruction in the place of the first one emitted
-pub emits_set : {a b c d : List Instr} {p : List Instruction} (x : Instr) (i j : Instruction) → Emits a (i ∷ []) b → Emits b p c → d ≡ set c (length a) x → instruction_of x ≡ j → Emits a (p ++ j ∷ []) d
+pub emits_set : {a b c d : List (Instr ℕ)} {p : List Instruction} (x : Instr ℕ) (i j : Instruction) → Emits a (i ∷ []) b → Emits b p c → d ≡ set c (length a) x → emitted_instruction x ≡ j → Emits a (p ++ j ∷ []) d
 emits_set {a} {b} {c} {d} {p} x i j first others e same = from_one first.more first.added (sym n)
   where
     n : length first.more ≡ 1
     n = let h = emits_length first in let k = ap length first.added ∙ length-append a first.more in omega (arith, h, k)
 
-    from_one : (more : List Instr) → b ≡ a ++ more → 1 ≡ length more → Emits a (p ++ j ∷ []) d
+    from_one : (more : List (Instr ℕ)) → b ≡ a ++ more → 1 ≡ length more → Emits a (p ++ j ∷ []) d
     from_one [] q h = absurd (omega (arith, h))
     from_one (y ∷ z ∷ zs) q h = absurd (omega (arith, h))
     from_one (y ∷ []) q h =
         record {
           more = x ∷ others.more;
           added = e ∙ ap (λ l. set l (length a) x) (others.added ∙ ap (λ l. l ++ others.more) q ∙ append_assoc a (y ∷ []) others.more) ∙ set-append_seam a y others.more x;
-          is = emitted-append (x ∷ []) others.more ∙ ap (λ l. l ++ instruction_of x ∷ []) others.is ∙ ap (λ k. p ++ k ∷ []) same;
+          is = emitted-append (x ∷ []) others.more ∙ ap (λ l. l ++ emitted_instruction x ∷ []) others.is ∙ ap (λ k. p ++ k ∷ []) same;
         }
 
 -- ---- rows
@@ -75,18 +77,18 @@ drop_all (x ∷ xs) zero h = absurd (omega (arith, h))
 drop_all (x ∷ xs) (suc i) h = drop_all xs i (omega (arith, h))
 
 -- before its last one
-pub row_first : {X : Type 0} (F : List X → List Instruction) (xs : List X) (a : List Instr) → F [] ≡ [] → Emits a (F (drop (length xs) xs)) a
+pub row_first : {X : Type 0} (F : List X → List Instruction) (xs : List X) (a : List (Instr ℕ)) → F [] ≡ [] → Emits a (F (drop (length xs) xs)) a
 row_first F xs a e = emits_as (emits_none a) (sym (ap F (drop_all xs (length xs) (omega arith)) ∙ e))
 
 pub row_next : {X : Type 0} (F : List X → List Instruction) (one : X → List Instruction) (cons : (x : X) (xs : List X) → F (x ∷ xs) ≡ one x ++ F xs)
-    → (xs : List X) (i k : ℕ) (x : X) {a b c : List Instr} → k ≡ i + 1 → i < length xs → x ≡ get_or xs i x → Emits a (F (drop k xs)) b → Emits b (one x) c → Emits a (F (drop i xs)) c
+    → (xs : List X) (i k : ℕ) (x : X) {a b c : List (Instr ℕ)} → k ≡ i + 1 → i < length xs → x ≡ get_or xs i x → Emits a (F (drop k xs)) b → Emits b (one x) c → Emits a (F (drop i xs)) c
 row_next F one cons xs i k x e lt is others first =
     let next : k ≡ suc i = omega (arith, e) in
     let tail : F (drop i xs) ≡ one x ++ F (drop k xs) =
     ap F (drop-cons xs i x lt) ∙ cons _ _ ∙ ap (λ y. one y ++ F (drop (suc i) xs)) (sym is) ∙ ap (λ n. one x ++ F (drop n xs)) (sym next) in
     emits_as (emits_then others first) (sym tail)
 
-pub row_whole : {X : Type 0} (F : List X → List Instruction) (xs : List X) {a b : List Instr} → Emits a (F (drop 0 xs)) b → Emits a (F xs) b
+pub row_whole : {X : Type 0} (F : List X → List Instruction) (xs : List X) {a b : List (Instr ℕ)} → Emits a (F (drop 0 xs)) b → Emits a (F xs) b
 row_whole F xs x = emits_as x (ap F (drop_whole xs))
 
 -- ---- products
@@ -118,10 +120,10 @@ none_rest line (e ∷ es) [] (suc k) h = absurd (omega (arith, h))
 none_rest line (e ∷ es) (n ∷ ns) zero h = absurd (omega (arith, h))
 none_rest line (e ∷ es) (n ∷ ns) (suc k) h = none_rest line es ns k (omega (arith, h))
 
-pub subscripts_first : (line : ℕ) (es : List TermExpr) (ns : List ℕ) (k : ℕ) (a : List Instr) → k ≡ min (length es) (length ns) → Emits a (rest_code line es ns k) a
+pub subscripts_first : (line : ℕ) (es : List TermExpr) (ns : List ℕ) (k : ℕ) (a : List (Instr ℕ)) → k ≡ min (length es) (length ns) → Emits a (rest_code line es ns k) a
 subscripts_first line es ns k a h = emits_as (emits_none a) (sym (none_rest line es ns k h))
 
-pub subscripts_next : (line : ℕ) (es : List TermExpr) (ns : List ℕ) (i k : ℕ) (e : TermExpr) (n stride : ℕ) {a b c d : List Instr} → k ≡ i + 1 → i < length es → i < length ns → e ≡ get_or es i e → n ≡ get_or ns i 0 → stride ≡ product (drop k ns)
+pub subscripts_next : (line : ℕ) (es : List TermExpr) (ns : List ℕ) (i k : ℕ) (e : TermExpr) (n stride : ℕ) {a b c d : List (Instr ℕ)} → k ≡ i + 1 → i < length es → i < length ns → e ≡ get_or es i e → n ≡ get_or ns i 0 → stride ≡ product (drop k ns)
     → Emits a (rest_code line es ns k) b → Emits b (Subscript line n stride ∷ []) c → Emits c (expression_code (expression_of e)) d → Emits a (rest_code line es ns i) d
 subscripts_next line es ns i k e n stride next lt lt' is is' strides others first value =
     let after : k ≡ suc i = omega (arith, next) in

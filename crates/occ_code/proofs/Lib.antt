@@ -20,7 +20,6 @@ mod Emitting
 mod EmittingTerms
 mod EmittingArms
 mod CellRows
-mod PlacedInstrs
 mod CompilingTerms
 pub mod OneCode
 mod SameCode

@@ -5,12 +5,13 @@ use Rattle.std.proofs.lemmas.List.{get_or-map}
 use Rattle.occ_code.specs.Machine as M
 use Rattle.occ_code.specs.View.{instruction_of}
 use Rattle.occ_code.specs.declared.compiler.instr.Instr.{Instr}
+use Rattle.occ_code.specs.declared.compiler.instr.Slot.{Slot}
 use Rattle.occ_code.specs.declared.compiler.instr.Instr.TheVariants.{Push, Load, LoadAt, LoadLetter, Subscript, Operate, OperateOne, ConvertTo, AndThen, OrElse, PartOne, PartMany, PartText, PartCounted, PartCountedText, SpotOne, SpotCounted, StoreParts, StoreNamed, StoreOne, ClearCells, Jump, Choose, IfAmong, IfTag, DropOne, CountedFrom, NextChoice, BackToChoice, PassArms, IfTaken, SetAgain, IfTrue, OpenSkip, OpenInput, ChooseArm, Begin, Pass, LoopBack, Send, Receive, Fork, Halt, End}
 
 -- the instruction of the code
-abbrev instr_of : M.Instruction → Instr
+abbrev instr_of : M.Instruction → Instr Slot
 instr_of (M.Push value) = Push value
-instr_of (M.Load cell) = Load cell
+instr_of (M.Load cell) = Load (record { 0 = cell })
 instr_of M.LoadAt = LoadAt
 instr_of (M.LoadLetter line text) = LoadLetter line (map nat_abs text)
 instr_of (M.Subscript line size stride) = Subscript line size stride
@@ -28,7 +29,7 @@ instr_of (M.SpotOne count) = SpotOne count
 instr_of (M.SpotCounted line counts components) = SpotCounted line counts components
 instr_of M.StoreParts = StoreParts
 instr_of (M.StoreNamed first) = StoreNamed first
-instr_of (M.StoreOne cell) = StoreOne cell
+instr_of (M.StoreOne cell) = StoreOne (record { 0 = cell })
 instr_of (M.ClearCells first count) = ClearCells first count
 instr_of (M.Jump skip) = Jump skip
 instr_of (M.Choose skip) = Choose skip
@@ -36,17 +37,17 @@ instr_of (M.IfAmong constants skip) = IfAmong constants skip
 instr_of (M.IfTag tag skip) = IfTag tag skip
 instr_of M.DropOne = DropOne
 instr_of (M.CountedFrom line) = CountedFrom line
-instr_of (M.NextChoice index skip) = NextChoice index skip
+instr_of (M.NextChoice index skip) = NextChoice (record { 0 = index }) skip
 instr_of (M.BackToChoice back) = BackToChoice back
 instr_of (M.PassArms last skip) = PassArms last skip
 instr_of (M.IfTaken skip) = IfTaken skip
-instr_of (M.SetAgain index skip) = SetAgain index skip
+instr_of (M.SetAgain index skip) = SetAgain (record { 0 = index }) skip
 instr_of (M.IfTrue skip) = IfTrue skip
 instr_of (M.OpenSkip number) = OpenSkip number
 instr_of (M.OpenInput number) = OpenInput number
 instr_of (M.ChooseArm pri back) = ChooseArm pri back
-instr_of (M.Begin slot index skip) = Begin slot index skip
-instr_of (M.Pass slot index skip) = Pass slot index skip
+instr_of (M.Begin slot index skip) = Begin slot (record { 0 = index }) skip
+instr_of (M.Pass slot index skip) = Pass slot (record { 0 = index }) skip
 instr_of (M.LoopBack back) = LoopBack back
 instr_of (M.Send tag) = Send tag
 instr_of M.Receive = Receive
@@ -58,7 +59,7 @@ bytes_are : (bytes : List ℕ) → map nat_abs (map pos bytes) ≡ bytes
 bytes_are [] = refl
 bytes_are (b ∷ bytes) = ap (λ bs. b ∷ bs) (bytes_are bytes)
 
-instr_is : (i : Instr) → instr_of (instruction_of i) ≡ i
+instr_is : (i : Instr Slot) → instr_of (instruction_of i) ≡ i
 instr_is (Push value) = refl
 instr_is (Load cell) = refl
 instr_is LoadAt = refl
@@ -104,12 +105,12 @@ instr_is (Fork branches) = refl
 instr_is Halt = refl
 instr_is End = refl
 
-code_is : (is : List Instr) → map instr_of (map instruction_of is) ≡ is
+code_is : (is : List (Instr Slot)) → map instr_of (map instruction_of is) ≡ is
 code_is [] = refl
 code_is (i ∷ is) = ap (λ j. j ∷ map instr_of (map instruction_of is)) (instr_is i) ∙ ap (λ js. i ∷ js) (code_is is)
 
 -- code that means the same is the same
-pub code_by_meaning : (is js : List Instr) → map instruction_of is ≡ map instruction_of js → is ≡ js
+pub code_by_meaning : (is js : List (Instr Slot)) → map instruction_of is ≡ map instruction_of js → is ≡ js
 code_by_meaning is js e = sym (code_is is) ∙ ap (λ ns. map instr_of ns) e ∙ code_is js
 
 -- what equal lists are made of is made into equal things

@@ -8,13 +8,13 @@ mod counters;
 mod expressions;
 pub mod instr;
 mod pieces;
-mod places;
 mod processes;
 pub mod quick;
 mod same_code;
+mod slots;
 mod statements;
 
 pub use body::Body;
 pub use code::{Code, CodeFault, MOST_INSTRUCTIONS, MOST_QUANTUM, compile, compile_for};
-pub use instr::Instr;
+pub use instr::{Instr, Slot};
 pub use quick::Quick;

@@ -9,6 +9,7 @@ mod same;
 pub mod task;
 
 pub use compiler::{
-    Body, Code, CodeFault, Instr, MOST_INSTRUCTIONS, MOST_QUANTUM, Quick, compile, compile_for,
+    Body, Code, CodeFault, Instr, MOST_INSTRUCTIONS, MOST_QUANTUM, Quick, Slot, compile,
+    compile_for,
 };
 pub use task::{Arm, Task, Wait};

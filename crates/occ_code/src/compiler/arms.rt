@@ -1,5 +1,5 @@
 //! The code round the arms of an ALT, and round choices and arms for each value of an index.
-ghost use Rattle.std.specs.Prelude.{◌≡◌, ◌∷◌, [], ◌++◌, ◌-◌, ◌+◌, ◌<◌, OnOk, List, length, pos};
+ghost use Rattle.std.specs.Prelude.{◌≡◌, ◌∷◌, [], ◌++◌, ◌-◌, ◌+◌, ◌<◌, OnOk, List, length, pos, ℕ};
 ghost use Rattle.occ_term.specs.Storing.{index_of};
 ghost use Rattle.occ_term.specs.View.{expression_of, place_of, replicator_of, test_of};
 ghost use Rattle.occ_code.specs.Machine as machine;
@@ -14,7 +14,7 @@ use occ_term::{Place, Replicator, TermExpr};
 use std::alloc::{AllocError, Global};
 
 /// The number of an arm that stands before what was emitted since the end.
-fn arm_number(code: &Vec<Instr>, end: usize) -> i64
+fn arm_number(code: &Vec<Instr<u32>>, end: usize) -> i64
     ensures { result ≡ pos (length code.now.items - end + 1) }
 {
     let behind = code.as_slice().len().saturating_sub(end);
@@ -26,7 +26,7 @@ pub(crate) fn emit_skip_opening(
     alloc: Global,
     test: &TermExpr,
     end: usize,
-    code: &mut Vec<Instr>,
+    code: &mut Vec<Instr<u32>>,
 ) -> Result<(), AllocError>
     ensures { OnOk result (Emits code.old.items (skip_opening (expression_of test.now) (length code.old.items - end + 1)) code.new.items) }
 {
@@ -43,7 +43,7 @@ pub(crate) fn emit_input_opening(
     test: &Option<TermExpr>,
     channel: &Place,
     end: usize,
-    code: &mut Vec<Instr>,
+    code: &mut Vec<Instr<u32>>,
 ) -> Result<(), AllocError>
     ensures { OnOk result (Emits code.old.items (input_opening (test_of test.now) (place_of channel.now) (length code.old.items - end + 1)) code.new.items) }
 {
@@ -65,7 +65,7 @@ pub(crate) fn emit_taken(
     before: usize,
     opened: usize,
     end: usize,
-    code: &mut Vec<Instr>,
+    code: &mut Vec<Instr<u32>>,
 ) -> Result<(), AllocError>
     ensures { OnOk result (Emits code.old.items (machine.PassArms (before - end) (1 + length code.old.items - before) ∷ machine.IfTaken (length code.old.items - opened) ∷ []) code.new.items) }
 {
@@ -78,7 +78,7 @@ pub(crate) fn emit_taken(
 pub(crate) fn emit_passing(
     before: usize,
     end: usize,
-    code: &mut Vec<Instr>,
+    code: &mut Vec<Instr<u32>>,
 ) -> Result<(), AllocError>
     ensures { OnOk result (Emits code.old.items (machine.PassArms (before - end) (length code.old.items - before) ∷ []) code.new.items) }
 {
@@ -92,10 +92,10 @@ pub(crate) fn emit_next(
     alloc: Global,
     over: &Replicator,
     place: usize,
-    code: &mut Vec<Instr>,
+    code: &mut Vec<Instr<u32>>,
 ) -> Result<(), AllocError>
     requires { place < length code.old.items }
-    ensures { OnOk result ((before : List Instr) (body : List machine.Instruction) → length before ≡ place → Behind before body code.old.items
+    ensures { OnOk result ((before : List (Instr ℕ)) (body : List machine.Instruction) → length before ≡ place → Behind before body code.old.items
         → Emits before (counting_code (replicator_of over.now) ++ machine.NextChoice (index_of (replicator_of over.now)) (length body + 1) ∷ (body ++ machine.BackToChoice (length body + 1) ∷ [])) code.new.items) }
 {
     let back = since(code, place);
@@ -110,10 +110,10 @@ pub(crate) fn emit_each_value(
     alloc: Global,
     over: &Replicator,
     place: usize,
-    code: &mut Vec<Instr>,
+    code: &mut Vec<Instr<u32>>,
 ) -> Result<(), AllocError>
     requires { place < length code.old.items }
-    ensures { OnOk result ((before : List Instr) (body : List machine.Instruction) → length before ≡ place → Behind before body code.old.items
+    ensures { OnOk result ((before : List (Instr ℕ)) (body : List machine.Instruction) → length before ≡ place → Behind before body code.old.items
         → Emits before (machine.SetAgain (index_of (replicator_of over.now)) (length (counting_code (replicator_of over.now)) + 2)
         ∷ (counting_code (replicator_of over.now) ++ machine.NextChoice (index_of (replicator_of over.now)) (length body + 2)
         ∷ machine.Push (pos 0) ∷ (body ++ machine.BackToChoice (length body + 2) ∷ []))) code.new.items) }
@@ -126,9 +126,13 @@ pub(crate) fn emit_each_value(
 }
 
 /// The start and the end of an ALT whose arms were emitted behind the choice at the place.
-pub(crate) fn emit_alt(pri: bool, place: usize, code: &mut Vec<Instr>) -> Result<(), AllocError>
+pub(crate) fn emit_alt(
+    pri: bool,
+    place: usize,
+    code: &mut Vec<Instr<u32>>,
+) -> Result<(), AllocError>
     requires { place < length code.old.items }
-    ensures { OnOk result ((before : List Instr) (body : List machine.Instruction) → length before ≡ place → Behind before body code.old.items
+    ensures { OnOk result ((before : List (Instr ℕ)) (body : List machine.Instruction) → length before ≡ place → Behind before body code.old.items
         → Emits before (machine.Push (pos 0) ∷ (body ++ machine.ChooseArm pri (length body) ∷ [])) code.new.items) }
 {
     let back = since(code, place).saturating_sub(1);

@@ -5,7 +5,7 @@ ghost use Rattle.occ_term.specs.ArraySizes.{AreFew};
 ghost use Rattle.occ_term.specs.Terms.{OfOne, OfMany, OfCounted, Into, IntoCounted, Naming};
 ghost use Rattle.occ_term.specs.View.{expression_of, place_of, subscripts, array_of, item_of, items_of, target_of, targets_of, declaration_of, declarations_of, replicator_of};
 ghost use Rattle.occ_code.specs.Expressions.{expression_code, place_code, subscripts_code, components_at, item_code, items_code, target_code, targets_code, declaration_code, declarations_code, storing_code, counting_code, assignment_code, single_target, single_value};
-ghost use Rattle.occ_code.specs.View.{instruction_of, Emits};
+ghost use Rattle.occ_code.specs.View.{emitted_instruction, Emits};
 
 use crate::compiler::instr::Instr;
 use crate::compiler::pieces::{emitted, put, since};
@@ -17,7 +17,7 @@ use std::alloc::{AllocError, Global};
 pub(crate) fn emit_expression(
     alloc: Global,
     e: &TermExpr,
-    code: &mut Vec<Instr>,
+    code: &mut Vec<Instr<u32>>,
 ) -> Result<(), AllocError>
     ensures { OnOk result (Emits code.old.items (expression_code (expression_of e.now)) code.new.items) }
 {
@@ -64,10 +64,10 @@ pub(crate) fn emit_expression(
 fn emit_before(
     alloc: Global,
     e: &TermExpr,
-    last: Instr,
-    code: &mut Vec<Instr>,
+    last: Instr<u32>,
+    code: &mut Vec<Instr<u32>>,
 ) -> Result<(), AllocError>
-    ensures { OnOk result (Emits code.old.items (expression_code (expression_of e.now) ++ instruction_of last ∷ []) code.new.items) }
+    ensures { OnOk result (Emits code.old.items (expression_code (expression_of e.now) ++ emitted_instruction last ∷ []) code.new.items) }
 {
     put(code, last)?;
     emit_expression(alloc, e, code)?;
@@ -79,10 +79,10 @@ fn emit_before(
 pub(crate) fn emit_place_before(
     alloc: Global,
     place: &Place,
-    last: Instr,
-    code: &mut Vec<Instr>,
+    last: Instr<u32>,
+    code: &mut Vec<Instr<u32>>,
 ) -> Result<(), AllocError>
-    ensures { OnOk result (Emits code.old.items (place_code (place_of place.now) ++ instruction_of last ∷ []) code.new.items) }
+    ensures { OnOk result (Emits code.old.items (place_code (place_of place.now) ++ emitted_instruction last ∷ []) code.new.items) }
 {
     put(code, last)?;
     emit_place(alloc, place, code)?;
@@ -94,7 +94,7 @@ pub(crate) fn emit_place_before(
 pub(crate) fn emit_place(
     alloc: Global,
     place: &Place,
-    code: &mut Vec<Instr>,
+    code: &mut Vec<Instr<u32>>,
 ) -> Result<(), AllocError>
     ensures { OnOk result (Emits code.old.items (place_code (place_of place.now)) code.new.items) }
 {
@@ -111,7 +111,7 @@ fn emit_subscripts(
     line: u32,
     sizes: &[u32],
     list: &[TermExpr],
-    code: &mut Vec<Instr>,
+    code: &mut Vec<Instr<u32>>,
 ) -> Result<(), AllocError>
     requires { AreFew sizes.now }
     ensures { OnOk result (Emits code.old.items (subscripts_code (subscripts (map expression_of list.now)) line sizes.now) code.new.items) }
@@ -166,7 +166,7 @@ fn components(place: &Place) -> u64
 }
 
 /// A part of a message.
-fn emit_item(alloc: Global, item: &Item, code: &mut Vec<Instr>) -> Result<(), AllocError>
+fn emit_item(alloc: Global, item: &Item, code: &mut Vec<Instr<u32>>) -> Result<(), AllocError>
     ensures { OnOk result (Emits code.old.items (item_code (item_of item.now)) code.new.items) }
 {
     match item {
@@ -182,7 +182,7 @@ fn emit_value(
     alloc: Global,
     primitive: Primitive,
     value: &TermExpr,
-    code: &mut Vec<Instr>,
+    code: &mut Vec<Instr<u32>>,
 ) -> Result<(), AllocError>
     ensures { OnOk result (Emits code.old.items (item_code (OfOne primitive (expression_of value.now))) code.new.items) }
 {
@@ -195,7 +195,7 @@ fn emit_array(
     alloc: Global,
     primitive: Primitive,
     array: &Array,
-    code: &mut Vec<Instr>,
+    code: &mut Vec<Instr<u32>>,
 ) -> Result<(), AllocError>
     ensures { OnOk result (Emits code.old.items (item_code (OfMany primitive (array_of array.now))) code.new.items) }
 {
@@ -217,7 +217,7 @@ fn emit_counted(
     line: u32,
     count: &TermExpr,
     array: &Array,
-    code: &mut Vec<Instr>,
+    code: &mut Vec<Instr<u32>>,
 ) -> Result<(), AllocError>
     ensures { OnOk result (Emits code.old.items (item_code (OfCounted primitive line (expression_of count.now) (array_of array.now))) code.new.items) }
 {
@@ -239,7 +239,7 @@ fn emit_counted(
 pub(crate) fn emit_items(
     alloc: Global,
     items: &[Item],
-    code: &mut Vec<Instr>,
+    code: &mut Vec<Instr<u32>>,
 ) -> Result<(), AllocError>
     ensures { OnOk result (Emits code.old.items (items_code (items_of items.now)) code.new.items) }
 {
@@ -252,7 +252,7 @@ pub(crate) fn emit_items(
 }
 
 /// A target.
-fn emit_target(alloc: Global, target: &Target, code: &mut Vec<Instr>) -> Result<(), AllocError>
+fn emit_target(alloc: Global, target: &Target, code: &mut Vec<Instr<u32>>) -> Result<(), AllocError>
     ensures { OnOk result (Emits code.old.items (target_code (target_of target.now)) code.new.items) }
 {
     match target {
@@ -271,7 +271,7 @@ fn emit_both_places(
     line: u32,
     count: &Place,
     array: &Place,
-    code: &mut Vec<Instr>,
+    code: &mut Vec<Instr<u32>>,
 ) -> Result<(), AllocError>
     ensures { OnOk result (Emits code.old.items (target_code (IntoCounted line (place_of count.now) (place_of array.now))) code.new.items) }
 {
@@ -282,7 +282,11 @@ fn emit_both_places(
     Ok(())
 }
 
-fn emit_targets(alloc: Global, targets: &[Target], code: &mut Vec<Instr>) -> Result<(), AllocError>
+fn emit_targets(
+    alloc: Global,
+    targets: &[Target],
+    code: &mut Vec<Instr<u32>>,
+) -> Result<(), AllocError>
     ensures { OnOk result (Emits code.old.items (targets_code (targets_of targets.now)) code.new.items) }
 {
     let mut count = targets.len();
@@ -297,7 +301,7 @@ fn emit_targets(alloc: Global, targets: &[Target], code: &mut Vec<Instr>) -> Res
 pub(crate) fn emit_storing(
     alloc: Global,
     targets: &[Target],
-    code: &mut Vec<Instr>,
+    code: &mut Vec<Instr<u32>>,
 ) -> Result<(), AllocError>
     ensures { OnOk result (Emits code.old.items (storing_code (targets_of targets.now)) code.new.items) }
 {
@@ -311,7 +315,7 @@ pub(crate) fn emit_naming(
     alloc: Global,
     first: u32,
     value: &Item,
-    code: &mut Vec<Instr>,
+    code: &mut Vec<Instr<u32>>,
 ) -> Result<(), AllocError>
     ensures { OnOk result (Emits code.old.items (declaration_code (Naming first (item_of value.now))) code.new.items) }
 {
@@ -324,7 +328,7 @@ pub(crate) fn emit_naming(
 pub(crate) fn emit_declaration(
     alloc: Global,
     declaration: &Declaration,
-    code: &mut Vec<Instr>,
+    code: &mut Vec<Instr<u32>>,
 ) -> Result<(), AllocError>
     ensures { OnOk result (Emits code.old.items (declaration_code (declaration_of declaration.now)) code.new.items) }
 {
@@ -338,7 +342,7 @@ pub(crate) fn emit_declaration(
 pub(crate) fn emit_declarations(
     alloc: Global,
     declarations: &[Declaration],
-    code: &mut Vec<Instr>,
+    code: &mut Vec<Instr<u32>>,
 ) -> Result<(), AllocError>
     ensures { OnOk result (Emits code.old.items (declarations_code (declarations_of declarations.now)) code.new.items) }
 {
@@ -354,7 +358,7 @@ pub(crate) fn emit_declarations(
 pub(crate) fn emit_counting(
     alloc: Global,
     over: &Replicator,
-    code: &mut Vec<Instr>,
+    code: &mut Vec<Instr<u32>>,
 ) -> Result<(), AllocError>
     ensures { OnOk result (Emits code.old.items (counting_code (replicator_of over.now)) code.new.items) }
 {
@@ -370,7 +374,7 @@ pub(crate) fn emit_assignment(
     alloc: Global,
     targets: &[Target],
     values: &[Item],
-    code: &mut Vec<Instr>,
+    code: &mut Vec<Instr<u32>>,
 ) -> Result<(), AllocError>
     ensures { OnOk result (Emits code.old.items (assignment_code (targets_of targets.now) (items_of values.now)) code.new.items) }
 {

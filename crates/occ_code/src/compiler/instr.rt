@@ -3,17 +3,21 @@
 use occ_term::{Monadic, Operator, Primitive, Text};
 use sqlite_items::Items;
 
+/// A place in a frame: of the value of a cell, which is the cell's place among those of its body.
+#[derive(Clone, Copy)]
+pub struct Slot(pub u32);
+
 /// One instruction. A skip counts the instructions that are jumped over, and a `back` is how far a
 /// jump leads back. Lines are for faults.
 ///
-/// In a body, `Load`, `StoreOne` and the index of `NextChoice`, `SetAgain`, `Begin` and `Pass` name a cell by
-/// its place among the body's cells; they are emitted with its number. All other cells go by their numbers.
+/// `Load`, `StoreOne` and the index of `NextChoice`, `SetAgain`, `Begin` and `Pass` name a single cell: by its number
+/// while code is emitted, and in a body by its slot. All other cells go by their numbers.
 #[derive(Drop)]
-pub enum Instr {
+pub enum Instr<Name> {
     /// Puts a value on the stack.
     Push(i64),
-    /// Puts the value of a cell on the stack: its place.
-    Load(u32),
+    /// Puts the value of a cell on the stack.
+    Load(Name),
     /// Takes a cell's number from the stack, and puts its value there.
     LoadAt,
     /// Takes a subscript, and puts that letter of the text: the line and the text.
@@ -50,8 +54,8 @@ pub enum Instr {
     StoreParts,
     /// Stores the last part, from this cell on.
     StoreNamed(u32),
-    /// Takes a value, and stores it in a cell: its place.
-    StoreOne(u32),
+    /// Takes a value, and stores it in a cell.
+    StoreOne(Name),
     /// Sets so many cells to 0, from the first on.
     ClearCells(u32, u32),
     /// Goes on behind the skip.
@@ -66,9 +70,8 @@ pub enum Instr {
     DropOne,
     /// Takes the count and the base of a replicator, and puts them in its order.
     CountedFrom(u32),
-    /// The next value of a choice's index, or behind the skip where none is left: the place of the index's
-    /// cell and the skip.
-    NextChoice(u32, usize),
+    /// The next value of a choice's index, or behind the skip where none is left: the index's cell and the skip.
+    NextChoice(Name, usize),
     /// Back to the next value.
     BackToChoice(usize),
     /// In an ALT, of which 0 stands on the stack while its arms are evaluated, and the number of the arm
@@ -77,8 +80,8 @@ pub enum Instr {
     /// Takes the number of an arm, with which it goes on; with 0 it goes on behind the skip.
     IfTaken(usize),
     /// With the number of an arm, takes the value below it, sets the index to it and goes on behind the skip:
-    /// the place of the index's cell and the skip.
-    SetAgain(u32, usize),
+    /// the index's cell and the skip.
+    SetAgain(Name, usize),
     /// Takes a truth value: FALSE goes on behind the skip.
     IfTrue(usize),
     /// Opens the arm with this number, which is SKIP, for the values that the indices have.
@@ -89,10 +92,10 @@ pub enum Instr {
     /// where none is open.
     ChooseArm(bool, usize),
     /// The first value of the index of a replicated SEQ, or behind the skip where there is none: the first
-    /// of its two counters, the place of the index's cell and the skip.
-    Begin(u64, u32, usize),
+    /// of its two counters, the index's cell and the skip.
+    Begin(u64, Name, usize),
     /// The next value of the index, or behind the skip where none is left.
-    Pass(u64, u32, usize),
+    Pass(u64, Name, usize),
     /// The stop at the end of a loop's body, and back.
     LoopBack(usize),
     /// Takes a channel, and offers the message on it, with its tag where it has one.

@@ -7,7 +7,7 @@ ghost use Rattle.occ_term.specs.View.{arm_of, arms_of, branches_of, choice_of, c
 ghost use Rattle.occ_code.specs.Compiled.{AddsBodies, AreBodiesOf, IsBodyOf};
 ghost use Rattle.occ_code.specs.Emitted.{whole_code};
 ghost use Rattle.occ_code.specs.Machine as machine;
-ghost use Rattle.occ_code.specs.View.{instruction_of};
+ghost use Rattle.occ_code.specs.View.{emitted};
 ghost use Rattle.occ_code.specs.Within.{AllWithin, KeepsWithin};
 
 use crate::compiler::body::Body;
@@ -15,7 +15,7 @@ use crate::compiler::cells::rising_cells;
 use crate::compiler::counters::counters_in;
 use crate::compiler::instr::Instr;
 use crate::compiler::pieces::put;
-use crate::compiler::places::name_places;
+use crate::compiler::slots::with_slots;
 use crate::compiler::statements::emit_term;
 use occ_term::{Arm, Branch, Choice, Reception, Selection, Term, Variant};
 use occ_usage::term_uses;
@@ -59,20 +59,19 @@ fn body_of(alloc: Global, quantum: u32, term: &Term) -> Result<Body, AllocError>
     let uses = term_uses(alloc, term)?;
     let cells = rising_cells(alloc, uses.as_slice(), false)?;
     let writes = rising_cells(alloc, uses.as_slice(), true)?;
-    let mut code = code_of(alloc, term)?;
-    name_places(alloc, &cells, &mut code)?;
+    let emitted = code_of(alloc, term)?;
+    let code = with_slots(alloc, &cells, emitted)?;
     let body = Body::new(alloc, code, cells, writes, loops, quantum)?;
     Ok(body)
 }
 
-/// The code of a process, with the numbers of cells.
-fn code_of(alloc: Global, term: &Term) -> Result<Vec<Instr>, AllocError>
-    ensures { IfOk result (λ code. map instruction_of code.items ≡ whole_code (term_of term.now)) }
+/// The code of a process as it is emitted, from its end to its start.
+fn code_of(alloc: Global, term: &Term) -> Result<Vec<Instr<u32>>, AllocError>
+    ensures { IfOk result (λ code. emitted code.items ≡ whole_code (term_of term.now)) }
 {
     let mut code = Vec::new(alloc);
     put(&mut code, Instr::End)?;
     emit_term(alloc, 0, term, &mut code)?;
-    code.reverse();
     Ok(code)
 }
 

@@ -2,18 +2,18 @@
 ghost use Rattle.std.specs.Prelude.{◌≡◌, ◌↔◌, IsTrue, map};
 ghost use Rattle.occ_code.specs.View.{instruction_of};
 
-use crate::compiler::instr::Instr;
+use crate::compiler::instr::{Instr, Slot};
 use crate::same::{same_bytes, same_numbers, same_values};
 use occ_term::{Monadic, Operator};
 
 /// Whether both mean the same instructions, in the same order.
-pub(crate) fn is_same_code(code: &[Instr], other: &[Instr]) -> bool
+pub(crate) fn is_same_code(code: &[Instr<Slot>], other: &[Instr<Slot>]) -> bool
     ensures { IsTrue result ↔ (map instruction_of code.now ≡ map instruction_of other.now) }
 {
     same_instrs(code, other)
 }
 
-fn same_instrs(code: &[Instr], others: &[Instr]) -> bool
+fn same_instrs(code: &[Instr<Slot>], others: &[Instr<Slot>]) -> bool
     ensures { IsTrue result ↔ (code.now ≡ others.now) }
 {
     if code.len() != others.len() {
@@ -27,14 +27,14 @@ fn same_instrs(code: &[Instr], others: &[Instr]) -> bool
     true
 }
 
-impl Instr {
+impl Instr<Slot> {
     /// Whether both have the same content.
-    pub(crate) fn is_same(&self, other: &Instr) -> bool
+    pub(crate) fn is_same(&self, other: &Instr<Slot>) -> bool
         ensures { IsTrue result ↔ (self.now ≡ other.now) }
     {
         match (self, other) {
             (Instr::Push(a), Instr::Push(x)) => a == x,
-            (Instr::Load(a), Instr::Load(x)) => a == x,
+            (Instr::Load(a), Instr::Load(x)) => a.0 == x.0,
             (Instr::LoadAt, Instr::LoadAt) => true,
             (Instr::LoadLetter(a, b), Instr::LoadLetter(x, y)) => a == x
                 && same_bytes(b.as_slice(), y.as_slice()),
@@ -64,7 +64,7 @@ impl Instr {
                 && c == z,
             (Instr::StoreParts, Instr::StoreParts) => true,
             (Instr::StoreNamed(a), Instr::StoreNamed(x)) => a == x,
-            (Instr::StoreOne(a), Instr::StoreOne(x)) => a == x,
+            (Instr::StoreOne(a), Instr::StoreOne(x)) => a.0 == x.0,
             (Instr::ClearCells(a, b), Instr::ClearCells(x, y)) => a == x && b == y,
             (Instr::Jump(a), Instr::Jump(x)) => a == x,
             (Instr::Choose(a), Instr::Choose(x)) => a == x,
@@ -73,17 +73,17 @@ impl Instr {
             (Instr::IfTag(a, b), Instr::IfTag(x, y)) => a == x && b == y,
             (Instr::DropOne, Instr::DropOne) => true,
             (Instr::CountedFrom(a), Instr::CountedFrom(x)) => a == x,
-            (Instr::NextChoice(a, b), Instr::NextChoice(x, y)) => a == x && b == y,
+            (Instr::NextChoice(a, b), Instr::NextChoice(x, y)) => a.0 == x.0 && b == y,
             (Instr::BackToChoice(a), Instr::BackToChoice(x)) => a == x,
             (Instr::PassArms(a, b), Instr::PassArms(x, y)) => a == x && b == y,
             (Instr::IfTaken(a), Instr::IfTaken(x)) => a == x,
-            (Instr::SetAgain(a, b), Instr::SetAgain(x, y)) => a == x && b == y,
+            (Instr::SetAgain(a, b), Instr::SetAgain(x, y)) => a.0 == x.0 && b == y,
             (Instr::IfTrue(a), Instr::IfTrue(x)) => a == x,
             (Instr::OpenSkip(a), Instr::OpenSkip(x)) => a == x,
             (Instr::OpenInput(a), Instr::OpenInput(x)) => a == x,
             (Instr::ChooseArm(a, b), Instr::ChooseArm(x, y)) => a == x && b == y,
-            (Instr::Begin(a, b, c), Instr::Begin(x, y, z)) => a == x && b == y && c == z,
-            (Instr::Pass(a, b, c), Instr::Pass(x, y, z)) => a == x && b == y && c == z,
+            (Instr::Begin(a, b, c), Instr::Begin(x, y, z)) => a == x && b.0 == y.0 && c == z,
+            (Instr::Pass(a, b, c), Instr::Pass(x, y, z)) => a == x && b.0 == y.0 && c == z,
             (Instr::LoopBack(a), Instr::LoopBack(x)) => a == x,
             (Instr::Send(a), Instr::Send(x)) => a == x,
             (Instr::Receive, Instr::Receive) => true,

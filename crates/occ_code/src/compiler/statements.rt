@@ -1,5 +1,5 @@
 //! The code of terms.
-ghost use Rattle.std.specs.Prelude.{◌≡◌, ◌∷◌, [], ◌++◌, ◌-◌, ◌+◌, ◌*◌, ◌≤◌, ◌<◌, IfOk, OnOk, List, length, map};
+ghost use Rattle.std.specs.Prelude.{◌≡◌, ◌∷◌, [], ◌++◌, ◌-◌, ◌+◌, ◌*◌, ◌≤◌, ◌<◌, IfOk, OnOk, List, length, map, ℕ};
 ghost use Rattle.occ_term.specs.Storing.{index_of};
 ghost use Rattle.occ_term.specs.Terms as terms;
 ghost use Rattle.occ_term.specs.View.{arm_of, arms_of, branches_of, choice_of, choices_of, declaration_of, declarations_of, expression_of, items_of, option_of, options_of, place_of, reception_of, replicator_of, targets_of, term_of, terms_of, variant_of, variants_of};
@@ -33,7 +33,7 @@ pub(crate) fn emit_term(
     alloc: Global,
     slot: u64,
     term: &Term,
-    code: &mut Vec<Instr>,
+    code: &mut Vec<Instr<u32>>,
 ) -> Result<(), AllocError>
     requires room { slot + 2 ≤ 2 * length code.old.items }
     ensures { OnOk result (Emits code.old.items (term_code slot (term_of term.now)) code.new.items) }
@@ -100,7 +100,7 @@ fn emit_terms(
     alloc: Global,
     slot: u64,
     parts: &[Term],
-    code: &mut Vec<Instr>,
+    code: &mut Vec<Instr<u32>>,
 ) -> Result<(), AllocError>
     requires room { slot + 2 ≤ 2 * length code.old.items }
     ensures { OnOk result (Emits code.old.items (terms_code slot (terms_of parts.now)) code.new.items) }
@@ -117,7 +117,7 @@ fn emit_input(
     alloc: Global,
     channel: &Place,
     targets: &[Target],
-    code: &mut Vec<Instr>,
+    code: &mut Vec<Instr<u32>>,
 ) -> Result<(), AllocError>
     ensures { OnOk result (Emits code.old.items ((place_code (place_of channel.now) ++ machine.Receive ∷ []) ++ storing_code (targets_of targets.now)) code.new.items) }
 {
@@ -131,7 +131,7 @@ fn emit_output(
     channel: &Place,
     tag: Option<u32>,
     items: &[Item],
-    code: &mut Vec<Instr>,
+    code: &mut Vec<Instr<u32>>,
 ) -> Result<(), AllocError>
     ensures { OnOk result (Emits code.old.items (place_code (place_of channel.now) ++ (items_code (items_of items.now) ++ machine.Send tag ∷ [])) code.new.items) }
 {
@@ -142,7 +142,11 @@ fn emit_output(
 }
 
 /// The start of the branches of a PAR, where there are any.
-fn emit_par(alloc: Global, branches: &[Branch], code: &mut Vec<Instr>) -> Result<(), AllocError>
+fn emit_par(
+    alloc: Global,
+    branches: &[Branch],
+    code: &mut Vec<Instr<u32>>,
+) -> Result<(), AllocError>
     ensures { OnOk result (Emits code.old.items (par_code (branches_of branches.now)) code.new.items) }
 {
     if branches.is_empty() {
@@ -168,10 +172,10 @@ fn emit_test(
     alloc: Global,
     test: &TermExpr,
     place: usize,
-    code: &mut Vec<Instr>,
+    code: &mut Vec<Instr<u32>>,
 ) -> Result<(), AllocError>
     requires { place < length code.old.items }
-    ensures { OnOk result ((before : List Instr) (body : List machine.Instruction) → length before ≡ place → Behind before body code.old.items
+    ensures { OnOk result ((before : List (Instr ℕ)) (body : List machine.Instruction) → length before ≡ place → Behind before body code.old.items
         → Emits before (expression_code (expression_of test.now) ++ machine.Choose (length body + 1) ∷ (body ++ machine.LoopBack (length (expression_code (expression_of test.now)) + 1 + length body) ∷ [])) code.new.items) }
 {
     put(code, Instr::Choose(since(code, place)))?;
@@ -187,10 +191,10 @@ fn emit_passes(
     slot: u64,
     over: &Replicator,
     place: usize,
-    code: &mut Vec<Instr>,
+    code: &mut Vec<Instr<u32>>,
 ) -> Result<(), AllocError>
     requires { place < length code.old.items }
-    ensures { OnOk result ((before : List Instr) (body : List machine.Instruction) → length before ≡ place → Behind before body code.old.items
+    ensures { OnOk result ((before : List (Instr ℕ)) (body : List machine.Instruction) → length before ≡ place → Behind before body code.old.items
         → Emits before (counting_code (replicator_of over.now) ++ machine.Begin slot (index_of (replicator_of over.now)) (length body + 2) ∷ machine.Pass slot (index_of (replicator_of over.now)) (length body + 1) ∷ (body ++ machine.LoopBack (length body + 1) ∷ [])) code.new.items) }
 {
     let back = since(code, place);
@@ -208,7 +212,7 @@ fn emit_choices(
     slot: u64,
     choices: &[Choice],
     end: usize,
-    code: &mut Vec<Instr>,
+    code: &mut Vec<Instr<u32>>,
 ) -> Result<(), AllocError>
     requires room { slot + 2 ≤ 2 * length code.old.items }
     requires end { end ≤ length code.old.items }
@@ -229,11 +233,11 @@ fn emit_choice(
     slot: u64,
     choice: &Choice,
     end: usize,
-    code: &mut Vec<Instr>,
+    code: &mut Vec<Instr<u32>>,
 ) -> Result<(), AllocError>
     requires room { slot + 2 ≤ 2 * length code.old.items }
     requires end { end ≤ length code.old.items }
-    ensures { OnOk result ((before : List Instr) (others : terms.Choices) → end ≤ length before → Emits before (choices_code slot others (length before - end)) code.old.items
+    ensures { OnOk result ((before : List (Instr ℕ)) (others : terms.Choices) → end ≤ length before → Emits before (choices_code slot others (length before - end)) code.old.items
         → Emits before (choices_code slot (choice_of choice.now others) (length before - end)) code.new.items) }
 {
     match choice {
@@ -264,7 +268,7 @@ fn emit_choose(
     alloc: Global,
     test: &TermExpr,
     before: usize,
-    code: &mut Vec<Instr>,
+    code: &mut Vec<Instr<u32>>,
 ) -> Result<(), AllocError>
     ensures { OnOk result (Emits code.old.items (expression_code (expression_of test.now) ++ machine.Choose (length code.old.items - before) ∷ []) code.new.items) }
 {
@@ -280,7 +284,7 @@ fn emit_arms(
     slot: u64,
     arms: &[Arm],
     end: usize,
-    code: &mut Vec<Instr>,
+    code: &mut Vec<Instr<u32>>,
 ) -> Result<(), AllocError>
     requires room { slot + 2 ≤ 2 * length code.old.items }
     requires end { end ≤ length code.old.items }
@@ -301,11 +305,11 @@ fn emit_arm(
     slot: u64,
     arm: &Arm,
     end: usize,
-    code: &mut Vec<Instr>,
+    code: &mut Vec<Instr<u32>>,
 ) -> Result<(), AllocError>
     requires room { slot + 2 ≤ 2 * length code.old.items }
     requires end { end ≤ length code.old.items }
-    ensures { OnOk result ((before : List Instr) (others : terms.Arms) → end ≤ length before → Emits before (arms_code slot others (length before - end)) code.old.items
+    ensures { OnOk result ((before : List (Instr ℕ)) (others : terms.Arms) → end ≤ length before → Emits before (arms_code slot others (length before - end)) code.old.items
         → Emits before (arms_code slot (arm_of arm.now others) (length before - end)) code.new.items) }
 {
     let before = emitted(code);
@@ -349,7 +353,7 @@ fn emit_list(
     alloc: Global,
     slot: u64,
     list: &Reception,
-    code: &mut Vec<Instr>,
+    code: &mut Vec<Instr<u32>>,
 ) -> Result<(), AllocError>
     requires room { slot + 2 ≤ 2 * length code.old.items }
     ensures { OnOk result (Emits code.old.items (list_code slot (reception_of list.now)) code.new.items) }
@@ -371,7 +375,7 @@ fn emit_options(
     slot: u64,
     options: &[Selection],
     end: usize,
-    code: &mut Vec<Instr>,
+    code: &mut Vec<Instr<u32>>,
 ) -> Result<(), AllocError>
     requires room { slot + 2 ≤ 2 * length code.old.items }
     requires end { end ≤ length code.old.items }
@@ -392,10 +396,10 @@ fn emit_option(
     slot: u64,
     option: &Selection,
     end: usize,
-    code: &mut Vec<Instr>,
+    code: &mut Vec<Instr<u32>>,
 ) -> Result<(), AllocError>
     requires room { slot + 2 ≤ 2 * length code.old.items }
-    ensures { OnOk result ((before : List Instr) (others : terms.Options) → end ≤ length before → Emits before (options_code slot others (length before - end)) code.old.items
+    ensures { OnOk result ((before : List (Instr ℕ)) (others : terms.Options) → end ≤ length before → Emits before (options_code slot others (length before - end)) code.old.items
         → Emits before (options_code slot (option_of option.now others) (length before - end)) code.new.items) }
 {
     match option {
@@ -417,7 +421,7 @@ fn emit_among(
     constants: &Items<i64>,
     declarations: &[Declaration],
     before: usize,
-    code: &mut Vec<Instr>,
+    code: &mut Vec<Instr<u32>>,
 ) -> Result<(), AllocError>
     ensures { OnOk result (Emits code.old.items (machine.IfAmong constants.now (length (declarations_code (declarations_of declarations.now)) + length code.old.items - before) ∷ declarations_code (declarations_of declarations.now)) code.new.items) }
 {
@@ -433,7 +437,7 @@ fn emit_else(
     alloc: Global,
     slot: u64,
     options: &[Selection],
-    code: &mut Vec<Instr>,
+    code: &mut Vec<Instr<u32>>,
 ) -> Result<(), AllocError>
     requires room { slot + 2 ≤ 2 * length code.old.items }
     ensures { OnOk result (Emits code.old.items (else_code slot (options_of options.now)) code.new.items) }
@@ -459,7 +463,7 @@ fn emit_variants(
     alloc: Global,
     slot: u64,
     variants: &[Variant],
-    code: &mut Vec<Instr>,
+    code: &mut Vec<Instr<u32>>,
 ) -> Result<(), AllocError>
     requires room { slot + 2 ≤ 2 * length code.old.items }
     ensures { OnOk result (Emits code.old.items (variants_code slot (variants_of variants.now)) code.new.items) }
@@ -481,10 +485,10 @@ fn emit_variant(
     slot: u64,
     variant: &Variant,
     end: usize,
-    code: &mut Vec<Instr>,
+    code: &mut Vec<Instr<u32>>,
 ) -> Result<(), AllocError>
     requires room { slot + 2 ≤ 2 * length code.old.items }
-    ensures { OnOk result ((before : List Instr) (others : terms.Variants) → length before ≡ end → Emits before (variants_code slot others) code.old.items
+    ensures { OnOk result ((before : List (Instr ℕ)) (others : terms.Variants) → length before ≡ end → Emits before (variants_code slot others) code.old.items
         → Emits before (variants_code slot (variant_of variant.now others)) code.new.items) }
 {
     let before = emitted(code);

@@ -1,8 +1,7 @@
 use Rattle.std.proofs.Common.{◌≡◌, ◌<◌, List, arith, length, rules, sym, subst}
-use Rattle.std.proofs.lemmas.List.{length-map}
 use Rattle.occ_code.specs.Emitted.{counters_of, whole_code}
 use Rattle.occ_code.specs.Machine.{Instruction}
-use Rattle.occ_code.specs.View.{instruction_of}
+use Rattle.occ_code.proofs.Emitting.{length-emitted}
 use Rattle.occ_code.proofs.FewCounters.{all_counted}
 use Rattle.occ_term.specs.Uses.{Uses, uses_of}
 use Rattle.occ_term.specs.View.{term_of}
@@ -23,6 +22,6 @@ returns c = λ within.
     let writes : Lists c.in_ok-writes.writes.items (uses_of (term_of c.args.term.now)).writes =
     subst (λ (u : Uses). Lists c.in_ok-writes.writes.items u.writes) same
     (subst (λ us. AreWithin (uses_in us).writes → Lists c.in_ok-writes.writes.items (uses_in us).writes) c.as_slice-2.ensures c.in_ok-writes.ensures.lists written) in
-    let long : length (whole_code (term_of c.args.term.now)) < 18446744073709551616 = subst (λ (is : List Instruction). length is < 18446744073709551616) c.in_ok-code.ensures (omega (arith, length-map c.in_ok-code.code.items instruction_of, c.in_ok-code.code.ok)) in
+    let long : length (whole_code (term_of c.args.term.now)) < 18446744073709551616 = subst (λ (is : List Instruction). length is < 18446744073709551616) c.in_ok-emitted.ensures (omega (arith, length-emitted c.in_ok-emitted.emitted.items, c.in_ok-emitted.emitted.ok)) in
     let loops : c.counters_in-loops.result ≡ counters_of (term_of c.args.term.now) = all_counted (term_of c.args.term.now) c.counters_in-loops.result c.counters_in-loops.ensures long in
     search rules
