@@ -9,7 +9,7 @@ ghost use Rattle.occ_tree_grammar.specs.Processes.Views.{item_of, program_of};
 ghost use Rattle.occ_tree_grammar.specs.Processes.Shown.{show_program};
 ghost use Rattle.occ_tree_grammar.specs.Processes.Fits.{InBounds};
 ghost use Rattle.occ_tree_grammar.specs.Processes.Reading.{at_any, item_at, program_at};
-ghost use Rattle.occ_tree_grammar.specs.declared.limits.TheConstants.{MOST_LEVELS};
+ghost use Rattle.occ_tree_grammar.specs.Limits.{most_levels};
 
 use occ_text::{Line, Source};
 use occ_tree_grammar::ParseFault;
@@ -30,14 +30,14 @@ fn lines_left(lines: &[Line]) -> Option<&[Line]>
 
 #[tactic(auto, unfolding(occ_tree_grammar::specs::Processes::Reading::item_at))]
 fn item(alloc: Global, last: u32, lines: &[Line]) -> Result<(Item, &[Line]), ParseFault>
-    ensures { Gives (λ x. (item_of x.0, logical_lines x.1.now)) result (item_at (MOST_LEVELS + 1) MOST_LEVELS (logical_lines lines.now)) }
+    ensures { Gives (λ x. (item_of x.0, logical_lines x.1.now)) result (item_at (most_levels + 1) most_levels (logical_lines lines.now)) }
 {
     let (declaration, rest) = declaration(alloc, last, MOST_LEVELS, 0, lines)?;
     Ok((declaration.into_item()?, rest))
 }
 
 fn items(alloc: Global, last: u32, lines: &[Line]) -> Result<(Vec<Item>, &[Line]), ParseFault>
-    ensures { Gives (λ x. (map item_of x.0.items, logical_lines x.1.now)) result (as_many at_any (item_at (MOST_LEVELS + 1) MOST_LEVELS) (logical_lines lines.now)) }
+    ensures { Gives (λ x. (map item_of x.0.items, logical_lines x.1.now)) result (as_many at_any (item_at (most_levels + 1) most_levels) (logical_lines lines.now)) }
 {
     let mut all = Vec::new(alloc);
     let mut rest = lines;
@@ -54,7 +54,7 @@ fn items(alloc: Global, last: u32, lines: &[Line]) -> Result<(Vec<Item>, &[Line]
 
 #[tactic(auto, unfolding(occ_tree_grammar::specs::Processes::Reading::program_at))]
 fn program(alloc: Global, last: u32, lines: &[Line]) -> Result<Program, ParseFault>
-    ensures { Gives program_of result (program_at (MOST_LEVELS + 1) MOST_LEVELS (logical_lines lines.now)) }
+    ensures { Gives program_of result (program_at (most_levels + 1) most_levels (logical_lines lines.now)) }
 {
     let (items, rest) = items(alloc, last, lines)?;
     match rest {

@@ -1,4 +1,5 @@
 pub mod Expressions
+pub mod Limits
 pub mod Lines
 pub mod Lists
 pub mod Many

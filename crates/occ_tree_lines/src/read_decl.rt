@@ -9,7 +9,7 @@ ghost use Rattle.occ_tree_grammar.specs.Lines.Views.{part_of, sort_of, value_typ
 ghost use Rattle.occ_tree_grammar.specs.Lines.Heads.{names as the_names, value as the_value, parts as the_parts};
 ghost use Rattle.occ_tree_grammar.specs.Lines.HeadViews.{decl_head_of, tag_head_of};
 ghost use Rattle.occ_tree_grammar.specs.Lines.HeadReading.{names_at, sort_at, named_value_at, value_at, protocol_at, procedure_at, declared_at, decl_head_at, tag_head_at, has_colon, declares};
-ghost use Rattle.occ_tree_grammar.specs.declared.limits.TheConstants.{MOST_LEVELS};
+ghost use Rattle.occ_tree_grammar.specs.Limits.{most_levels};
 
 use occ_text::{Key, Sym, Token};
 use occ_tree_grammar::ParseFault;
@@ -82,7 +82,7 @@ fn declared_names(
     sort: Sort,
     tokens: &[Token],
 ) -> Result<DeclHead, ParseFault>
-    ensures { Gives decl_head_of result (names_at (MOST_LEVELS + 1) (expressions (map expression_of sizes.items)) (sort_of sort) (words tokens.now)) }
+    ensures { Gives decl_head_of result (names_at (most_levels + 1) (expressions (map expression_of sizes.items)) (sort_of sort) (words tokens.now)) }
 {
     let (first, rest) = name(alloc, line, tokens)?;
     let (others, rest) = further::<Vec<u8>>(alloc, Separator::Comma, line, rest)?;
@@ -97,7 +97,7 @@ fn behind_sizes(
     sizes: Vec<Expr>,
     tokens: &[Token],
 ) -> Result<DeclHead, ParseFault>
-    ensures { Gives decl_head_of result (sort_at (MOST_LEVELS + 1) (expressions (map expression_of sizes.items)) (words tokens.now)) }
+    ensures { Gives decl_head_of result (sort_at (most_levels + 1) (expressions (map expression_of sizes.items)) (words tokens.now)) }
 {
     match tokens {
         [Token::Key(Key::Chan), Token::Key(Key::Of), rest @ ..] => {
@@ -117,7 +117,7 @@ fn named_value(
     of: Option<ValueType>,
     tokens: &[Token],
 ) -> Result<DeclHead, ParseFault>
-    ensures { Gives decl_head_of result (named_value_at (MOST_LEVELS + 1) (option_map value_type_of of) (words tokens.now)) }
+    ensures { Gives decl_head_of result (named_value_at (most_levels + 1) (option_map value_type_of of) (words tokens.now)) }
 {
     let (name, rest) = name(alloc, line, tokens)?;
     let rest = is(line, rest)?;
@@ -128,7 +128,7 @@ fn named_value(
 
 /// What follows `VAL`.
 fn behind_val(alloc: Global, line: u32, tokens: &[Token]) -> Result<DeclHead, ParseFault>
-    ensures { Gives decl_head_of result (value_at (MOST_LEVELS + 1) (words tokens.now)) }
+    ensures { Gives decl_head_of result (value_at (most_levels + 1) (words tokens.now)) }
 {
     match tokens {
         [Token::Name(_), ..] => named_value(alloc, line, None, tokens),
@@ -141,7 +141,7 @@ fn behind_val(alloc: Global, line: u32, tokens: &[Token]) -> Result<DeclHead, Pa
 
 /// What follows `PROTOCOL`.
 fn behind_protocol(alloc: Global, line: u32, tokens: &[Token]) -> Result<DeclHead, ParseFault>
-    ensures { Gives decl_head_of result (protocol_at (MOST_LEVELS + 1) (words tokens.now)) }
+    ensures { Gives decl_head_of result (protocol_at (most_levels + 1) (words tokens.now)) }
 {
     match tokens {
         [Token::Name(name)] => Ok(DeclHead::Tags(Vec::from_slice(alloc, name)?)),
@@ -158,7 +158,7 @@ fn behind_protocol(alloc: Global, line: u32, tokens: &[Token]) -> Result<DeclHea
 
 /// What follows `PROC`.
 fn behind_proc(alloc: Global, line: u32, tokens: &[Token]) -> Result<DeclHead, ParseFault>
-    ensures { Gives decl_head_of result (procedure_at (MOST_LEVELS + 1) (words tokens.now)) }
+    ensures { Gives decl_head_of result (procedure_at (most_levels + 1) (words tokens.now)) }
 {
     match tokens {
         [Token::Name(name), Token::Sym(Sym::OpenParen), rest @ ..] => {
@@ -174,7 +174,7 @@ fn behind_proc(alloc: Global, line: u32, tokens: &[Token]) -> Result<DeclHead, P
 }
 
 fn declared(alloc: Global, line: u32, tokens: &[Token]) -> Result<DeclHead, ParseFault>
-    ensures { Gives decl_head_of result (declared_at (MOST_LEVELS + 1) (words tokens.now)) }
+    ensures { Gives decl_head_of result (declared_at (most_levels + 1) (words tokens.now)) }
 {
     let (sizes, rest) = declared_sizes(alloc, line, tokens)?;
     behind_sizes(alloc, line, sizes, rest)
@@ -183,7 +183,7 @@ fn declared(alloc: Global, line: u32, tokens: &[Token]) -> Result<DeclHead, Pars
 /// The first line of a declaration. At most 64 brackets stand open at one place.
 #[tactic(auto, unfolding(occ_tree_grammar::specs::Lines::HeadReading::decl_head_at))]
 pub fn decl_head(alloc: Global, line: u32, tokens: &[Token]) -> Result<DeclHead, ParseFault>
-    ensures { Gives decl_head_of result (decl_head_at (MOST_LEVELS + 1) (words tokens.now)) }
+    ensures { Gives decl_head_of result (decl_head_at (most_levels + 1) (words tokens.now)) }
 {
     match tokens {
         [Token::Key(Key::Val), rest @ ..] => behind_val(alloc, line, rest),
@@ -196,7 +196,7 @@ pub fn decl_head(alloc: Global, line: u32, tokens: &[Token]) -> Result<DeclHead,
 /// A line of a protocol of variants.
 #[tactic(auto, unfolding(occ_tree_grammar::specs::Lines::HeadReading::tag_head_at))]
 pub fn tag_head(alloc: Global, line: u32, tokens: &[Token]) -> Result<TagHead, ParseFault>
-    ensures { Gives tag_head_of result (tag_head_at (MOST_LEVELS + 1) (words tokens.now)) }
+    ensures { Gives tag_head_of result (tag_head_at (most_levels + 1) (words tokens.now)) }
 {
     match tokens {
         [Token::Name(tag), rest @ ..] => {

@@ -9,7 +9,7 @@ ghost use Rattle.occ_tree_grammar.specs.Lines.Views.{var_of, received_of};
 ghost use Rattle.occ_tree_grammar.specs.Lines.Heads.{act, chosen, values as the_values, guarded, on_skip};
 ghost use Rattle.occ_tree_grammar.specs.Lines.HeadViews.{action_of, process_head_of, choice_head_of, option_head_of, arm_head_of, variant_head_of};
 ghost use Rattle.occ_tree_grammar.specs.Lines.HeadReading.{received_head as head_received, received_arm as arm_received, assignment_at, after_var, var_first, after_open, name_first, process_head_at, condition_at, choice_head_at, values_at, option_head_at, reception_at, boolean_at, after_and, channel_first, after_condition, by_priority, guard_at, arm_head_at, variant_head_at};
-ghost use Rattle.occ_tree_grammar.specs.declared.limits.TheConstants.{MOST_LEVELS};
+ghost use Rattle.occ_tree_grammar.specs.Limits.{most_levels};
 
 use occ_text::{Key, Sym, Token};
 use occ_tree_grammar::ParseFault;
@@ -47,7 +47,7 @@ fn assignment(
     first: Var,
     tokens: &[Token],
 ) -> Result<ProcessHead, ParseFault>
-    ensures { Gives process_head_of result (assignment_at (MOST_LEVELS + 1) (var_of first) (words tokens.now)) }
+    ensures { Gives process_head_of result (assignment_at (most_levels + 1) (var_of first) (words tokens.now)) }
 {
     let (others, rest) = further::<Var>(alloc, Separator::Comma, line, tokens)?;
     let targets = OneOrMore { first, others };
@@ -82,7 +82,7 @@ fn behind_var(
     first: Var,
     tokens: &[Token],
 ) -> Result<ProcessHead, ParseFault>
-    ensures { Gives process_head_of result (after_var (MOST_LEVELS + 1) (var_of first) (words tokens.now)) }
+    ensures { Gives process_head_of result (after_var (most_levels + 1) (var_of first) (words tokens.now)) }
 {
     match tokens {
         [Token::Sym(Sym::Question), rest @ ..] => {
@@ -110,7 +110,7 @@ fn var_in_front(
     name: &[u8],
     tokens: &[Token],
 ) -> Result<ProcessHead, ParseFault>
-    ensures { Gives process_head_of result (var_first (MOST_LEVELS + 1) name.now (words tokens.now)) }
+    ensures { Gives process_head_of result (var_first (most_levels + 1) name.now (words tokens.now)) }
 {
     let (first, rest) = var_behind(alloc, line, name, tokens)?;
     behind_var(alloc, line, first, rest)
@@ -132,7 +132,7 @@ fn behind_name(
     name: &[u8],
     tokens: &[Token],
 ) -> Result<ProcessHead, ParseFault>
-    ensures { Gives process_head_of result (name_first (MOST_LEVELS + 1) name.now (words tokens.now)) }
+    ensures { Gives process_head_of result (name_first (most_levels + 1) name.now (words tokens.now)) }
 {
     let Some(rest) = open(tokens) else {
         return var_in_front(alloc, line, name, tokens);
@@ -145,7 +145,7 @@ fn behind_name(
 /// The value behind `CASE`.
 #[tactic(auto, unfolding(occ_tree_grammar::specs::Lines::HeadReading::process_head_at))]
 fn behind_case(alloc: Global, line: u32, tokens: &[Token]) -> Result<ProcessHead, ParseFault>
-    ensures { Gives process_head_of result (process_head_at (MOST_LEVELS + 1) (key Key.Case ∷ words tokens.now)) }
+    ensures { Gives process_head_of result (process_head_at (most_levels + 1) (key Key.Case ∷ words tokens.now)) }
 {
     let (value, rest) = expression(alloc, line, tokens)?;
     match rest {
@@ -157,7 +157,7 @@ fn behind_case(alloc: Global, line: u32, tokens: &[Token]) -> Result<ProcessHead
 /// The condition behind `WHILE`.
 #[tactic(auto, unfolding(occ_tree_grammar::specs::Lines::HeadReading::process_head_at))]
 fn behind_while(alloc: Global, line: u32, tokens: &[Token]) -> Result<ProcessHead, ParseFault>
-    ensures { Gives process_head_of result (process_head_at (MOST_LEVELS + 1) (key Key.While ∷ words tokens.now)) }
+    ensures { Gives process_head_of result (process_head_at (most_levels + 1) (key Key.While ∷ words tokens.now)) }
 {
     let (condition, rest) = expression(alloc, line, tokens)?;
     match rest {
@@ -169,7 +169,7 @@ fn behind_while(alloc: Global, line: u32, tokens: &[Token]) -> Result<ProcessHea
 /// The line of a process. At most 64 brackets stand open at one place.
 #[tactic(auto, unfolding(occ_tree_grammar::specs::Lines::HeadReading::process_head_at))]
 pub fn process_head(alloc: Global, line: u32, tokens: &[Token]) -> Result<ProcessHead, ParseFault>
-    ensures { Gives process_head_of result (process_head_at (MOST_LEVELS + 1) (words tokens.now)) }
+    ensures { Gives process_head_of result (process_head_at (most_levels + 1) (words tokens.now)) }
 {
     match tokens {
         [Token::Key(Key::Skip), rest @ ..] => only_action(alloc, line, Action::Skip, rest),
@@ -212,7 +212,7 @@ fn only_condition(
 /// The line of a choice.
 #[tactic(auto, unfolding(occ_tree_grammar::specs::Lines::HeadReading::choice_head_at))]
 pub fn choice_head(alloc: Global, line: u32, tokens: &[Token]) -> Result<ChoiceHead, ParseFault>
-    ensures { Gives choice_head_of result (choice_head_at (MOST_LEVELS + 1) (words tokens.now)) }
+    ensures { Gives choice_head_of result (choice_head_at (most_levels + 1) (words tokens.now)) }
 {
     match tokens {
         [Token::Key(Key::If), rest @ ..] => Ok(ChoiceHead::If(replicator(alloc, line, rest)?)),
@@ -241,7 +241,7 @@ fn only_values(
 /// The line of an option.
 #[tactic(auto, unfolding(occ_tree_grammar::specs::Lines::HeadReading::option_head_at))]
 pub fn option_head(alloc: Global, line: u32, tokens: &[Token]) -> Result<OptionHead, ParseFault>
-    ensures { Gives option_head_of result (option_head_at (MOST_LEVELS + 1) (words tokens.now)) }
+    ensures { Gives option_head_of result (option_head_at (most_levels + 1) (words tokens.now)) }
 {
     match tokens {
         [Token::Key(Key::Else)] => Ok(OptionHead::Else),
@@ -276,7 +276,7 @@ fn received_arm(
 
 /// A channel and what is received from it.
 fn reception(alloc: Global, line: u32, tokens: &[Token]) -> Result<Received, ParseFault>
-    ensures { Gives received_of result (reception_at (MOST_LEVELS + 1) (words tokens.now)) }
+    ensures { Gives received_of result (reception_at (most_levels + 1) (words tokens.now)) }
 {
     let (channel, rest) = var(alloc, line, tokens)?;
     let rest = question(line, rest)?;
@@ -304,7 +304,7 @@ fn boolean(
     condition: Expr,
     tokens: &[Token],
 ) -> Result<ArmHead, ParseFault>
-    ensures { Gives arm_head_of result (boolean_at (MOST_LEVELS + 1) (expression_of condition) (words tokens.now)) }
+    ensures { Gives arm_head_of result (boolean_at (most_levels + 1) (expression_of condition) (words tokens.now)) }
 {
     let received = reception(alloc, line, tokens)?;
     received_arm(alloc, Some(condition), received)
@@ -317,7 +317,7 @@ fn behind_and(
     condition: Expr,
     tokens: &[Token],
 ) -> Result<ArmHead, ParseFault>
-    ensures { Gives arm_head_of result (after_and (MOST_LEVELS + 1) (expression_of condition) (words tokens.now)) }
+    ensures { Gives arm_head_of result (after_and (most_levels + 1) (expression_of condition) (words tokens.now)) }
 {
     match tokens {
         [Token::Key(Key::Skip), rest @ ..] => only_skip(alloc, line, condition, rest),
@@ -332,7 +332,7 @@ fn behind_channel(
     channel: Option<Var>,
     tokens: &[Token],
 ) -> Result<ArmHead, ParseFault>
-    ensures { Gives arm_head_of result (channel_first (MOST_LEVELS + 1) (option_map var_of channel) (words tokens.now)) }
+    ensures { Gives arm_head_of result (channel_first (most_levels + 1) (option_map var_of channel) (words tokens.now)) }
 {
     let Some(channel) = channel else {
         return Err(ParseFault::Unexpected { line });
@@ -349,7 +349,7 @@ fn behind_condition(
     condition: Expr,
     tokens: &[Token],
 ) -> Result<ArmHead, ParseFault>
-    ensures { Gives arm_head_of result (after_condition (MOST_LEVELS + 1) (expression_of condition) (words tokens.now)) }
+    ensures { Gives arm_head_of result (after_condition (most_levels + 1) (expression_of condition) (words tokens.now)) }
 {
     match tokens {
         [Token::Sym(Sym::Question), rest @ ..] => {
@@ -363,7 +363,7 @@ fn behind_condition(
 
 /// What follows `PRI` at the front of an arm.
 fn behind_pri(alloc: Global, line: u32, tokens: &[Token]) -> Result<ArmHead, ParseFault>
-    ensures { Gives arm_head_of result (by_priority (MOST_LEVELS + 1) (words tokens.now)) }
+    ensures { Gives arm_head_of result (by_priority (most_levels + 1) (words tokens.now)) }
 {
     match tokens {
         [Token::Key(Key::Alt), rest @ ..] => Ok(ArmHead::Alt(true, replicator(alloc, line, rest)?)),
@@ -373,7 +373,7 @@ fn behind_pri(alloc: Global, line: u32, tokens: &[Token]) -> Result<ArmHead, Par
 
 /// The guard of an arm.
 fn guard(alloc: Global, line: u32, tokens: &[Token]) -> Result<ArmHead, ParseFault>
-    ensures { Gives arm_head_of result (guard_at (MOST_LEVELS + 1) (words tokens.now)) }
+    ensures { Gives arm_head_of result (guard_at (most_levels + 1) (words tokens.now)) }
 {
     let (condition, rest) = expression(alloc, line, tokens)?;
     behind_condition(alloc, line, condition, rest)
@@ -382,7 +382,7 @@ fn guard(alloc: Global, line: u32, tokens: &[Token]) -> Result<ArmHead, ParseFau
 /// The line of an arm.
 #[tactic(auto, unfolding(occ_tree_grammar::specs::Lines::HeadReading::arm_head_at))]
 pub fn arm_head(alloc: Global, line: u32, tokens: &[Token]) -> Result<ArmHead, ParseFault>
-    ensures { Gives arm_head_of result (arm_head_at (MOST_LEVELS + 1) (words tokens.now)) }
+    ensures { Gives arm_head_of result (arm_head_at (most_levels + 1) (words tokens.now)) }
 {
     match tokens {
         [Token::Key(Key::Alt), rest @ ..] => {
@@ -396,7 +396,7 @@ pub fn arm_head(alloc: Global, line: u32, tokens: &[Token]) -> Result<ArmHead, P
 /// The line of a variant.
 #[tactic(auto, unfolding(occ_tree_grammar::specs::Lines::HeadReading::variant_head_at))]
 pub fn variant_head(alloc: Global, line: u32, tokens: &[Token]) -> Result<VariantHead, ParseFault>
-    ensures { Gives variant_head_of result (variant_head_at (MOST_LEVELS + 1) (words tokens.now)) }
+    ensures { Gives variant_head_of result (variant_head_at (most_levels + 1) (words tokens.now)) }
 {
     match tokens {
         [Token::Name(tag), rest @ ..] => {

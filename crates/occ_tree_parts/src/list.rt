@@ -8,7 +8,7 @@ ghost use Rattle.occ_tree_grammar.specs.Expressions.Reading.{Gives, expression_a
 ghost use Rattle.occ_tree_grammar.specs.Lines.Trees as trees;
 ghost use Rattle.occ_tree_grammar.specs.Lines.Views.{var_of, target_of, out_of, part_of, formal_of};
 ghost use Rattle.occ_tree_grammar.specs.Lines.Reading.{listed_at, name_at, var_at, target_at, out_at, part_at, formal_at};
-ghost use Rattle.occ_tree_grammar.specs.declared.limits.TheConstants.{MOST_LEVELS};
+ghost use Rattle.occ_tree_grammar.specs.Limits.{most_levels};
 
 use crate::item::{expression, out, target, var};
 use crate::kind::{formal, part};
@@ -76,7 +76,7 @@ impl Listed for Var {
 
     ghost form = { var_of };
 
-    ghost reads = { var_at (MOST_LEVELS + 1) };
+    ghost reads = { var_at (most_levels + 1) };
 
     fn read(alloc: Global, line: u32, tokens: &[Token]) -> Result<(Var, &[Token]), ParseFault> {
         var(alloc, line, tokens)
@@ -88,7 +88,7 @@ impl Listed for Expr {
 
     ghost form = { expression_of };
 
-    ghost reads = { expression_at (MOST_LEVELS + 1) };
+    ghost reads = { expression_at (most_levels + 1) };
 
     fn read(alloc: Global, line: u32, tokens: &[Token]) -> Result<(Expr, &[Token]), ParseFault> {
         expression(alloc, line, tokens)
@@ -100,7 +100,7 @@ impl Listed for Target {
 
     ghost form = { target_of };
 
-    ghost reads = { target_at (MOST_LEVELS + 1) };
+    ghost reads = { target_at (most_levels + 1) };
 
     fn read(alloc: Global, line: u32, tokens: &[Token]) -> Result<(Target, &[Token]), ParseFault> {
         target(alloc, line, tokens)
@@ -112,7 +112,7 @@ impl Listed for Out {
 
     ghost form = { out_of };
 
-    ghost reads = { out_at (MOST_LEVELS + 1) };
+    ghost reads = { out_at (most_levels + 1) };
 
     fn read(alloc: Global, line: u32, tokens: &[Token]) -> Result<(Out, &[Token]), ParseFault> {
         out(alloc, line, tokens)
@@ -124,7 +124,7 @@ impl Listed for Part {
 
     ghost form = { part_of };
 
-    ghost reads = { part_at (MOST_LEVELS + 1) };
+    ghost reads = { part_at (most_levels + 1) };
 
     fn read(alloc: Global, line: u32, tokens: &[Token]) -> Result<(Part, &[Token]), ParseFault> {
         part(alloc, line, tokens)
@@ -136,7 +136,7 @@ impl Listed for Formal {
 
     ghost form = { formal_of };
 
-    ghost reads = { formal_at (MOST_LEVELS + 1) };
+    ghost reads = { formal_at (most_levels + 1) };
 
     fn read(alloc: Global, line: u32, tokens: &[Token]) -> Result<(Formal, &[Token]), ParseFault> {
         formal(alloc, line, tokens)

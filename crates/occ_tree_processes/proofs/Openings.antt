@@ -1,7 +1,7 @@
 -- What is left once first lines are read, and the whole.
 use Rattle.std.proofs.Common.{◌≡◌, ℕ, ◌+◌, List, Option, Some, None, refl, subst}
 use Rattle.occ_text.specs.Words.{Word, LogicalLine}
-use Rattle.occ_tree_grammar.specs.declared.limits.TheConstants.{MOST_LEVELS}
+use Rattle.occ_tree_grammar.specs.Limits.{most_levels}
 use Rattle.occ_tree_grammar.specs.declared.fault.ParseFault.{ParseFault}
 use Rattle.occ_tree_grammar.specs.Many.{◌>>=◌, Reader, as_many}
 use Rattle.occ_tree_grammar.specs.Expressions.Reading.{Fails}
@@ -64,31 +64,31 @@ module _ (n level : ℕ) (inner : Reader LogicalLine (Node process)) where
   closed_tags None = refl
   closed_tags (Some p) = refl
 
-  closed_item : (l : ℕ) (h : DeclHead) (lines : List LogicalLine) → item_with (MOST_LEVELS + 1) n level inner l h lines ≡ (left_behind n level l h lines >>= closing)
+  closed_item : (l : ℕ) (h : DeclHead) (lines : List LogicalLine) → item_with (most_levels + 1) n level inner l h lines ≡ (left_behind n level l h lines >>= closing)
   closed_item l (names es t v vs) lines = refl
   closed_item l (value t v e) lines = refl
   closed_item l (parts v p ps) lines = refl
-  closed_item l (tags v) lines = closed_tags (tags_at (MOST_LEVELS + 1) n level l v lines)
+  closed_item l (tags v) lines = closed_tags (tags_at (most_levels + 1) n level l v lines)
   closed_item l (procedure v fs) lines = refl
 
   closed_head : (l : (ℕ × List Word) × List LogicalLine) (read : Option DeclHead)
-      → (read >>= λ h. item_with (MOST_LEVELS + 1) n level inner l.0.0 h l.1) ≡ (((read >>= with_head l) >>= behind_head n level) >>= closing)
+      → (read >>= λ h. item_with (most_levels + 1) n level inner l.0.0 h l.1) ≡ (((read >>= with_head l) >>= behind_head n level) >>= closing)
   closed_head l None = refl
   closed_head l (Some h) = closed_item l.0.0 h l.1
 
   closed_line : (read : Option ((ℕ × List Word) × List LogicalLine))
-      → (read >>= λ l. decl_head_at (MOST_LEVELS + 1) l.0.1 >>= λ h. item_with (MOST_LEVELS + 1) n level inner l.0.0 h l.1) ≡ (((read >>= λ l. decl_head_at (MOST_LEVELS + 1) l.0.1 >>= with_head l) >>= behind_head n level) >>= closing)
+      → (read >>= λ l. decl_head_at (most_levels + 1) l.0.1 >>= λ h. item_with (most_levels + 1) n level inner l.0.0 h l.1) ≡ (((read >>= λ l. decl_head_at (most_levels + 1) l.0.1 >>= with_head l) >>= behind_head n level) >>= closing)
   closed_line None = refl
-  closed_line (Some l) = closed_head l (decl_head_at (MOST_LEVELS + 1) l.0.1)
+  closed_line (Some l) = closed_head l (decl_head_at (most_levels + 1) l.0.1)
 
-  decl_step : (lines : List LogicalLine) → decl_with (MOST_LEVELS + 1) n level inner lines ≡ (decl_left_at n level lines >>= closing)
+  decl_step : (lines : List LogicalLine) → decl_with (most_levels + 1) n level inner lines ≡ (decl_left_at n level lines >>= closing)
   unfolding decl_with
   decl_step lines = closed_line (line_at level lines)
 
-  pub no_declaration : (e : ParseFault) (lines : List LogicalLine) → Fails e (decl_left_at n level lines) → Fails e (decl_with (MOST_LEVELS + 1) n level inner lines)
+  pub no_declaration : (e : ParseFault) (lines : List LogicalLine) → Fails e (decl_left_at n level lines) → Fails e (decl_with (most_levels + 1) n level inner lines)
   no_declaration e lines h = rw (decl_step lines) (fails_then e (decl_left_at n level lines) _ h)
 
   -- o is how the code has what is left, and g is o as a case of a match knows it
-  pub declaration_is : (lines : List LogicalLine) (o g : OpenedDecl) (rest : List LogicalLine) → decl_left_at n level lines ≡ Some (decl_left_of o, rest) → o ≡ g → decl_with (MOST_LEVELS + 1) n level inner lines ≡ closed level inner (decl_left_of g) rest
+  pub declaration_is : (lines : List LogicalLine) (o g : OpenedDecl) (rest : List LogicalLine) → decl_left_at n level lines ≡ Some (decl_left_of o, rest) → o ≡ g → decl_with (most_levels + 1) n level inner lines ≡ closed level inner (decl_left_of g) rest
   declaration_is lines o g rest read is =
-      subst (λ (x : OpenedDecl). decl_with (MOST_LEVELS + 1) n level inner lines ≡ closed level inner (decl_left_of x) rest) is (rw (decl_step lines, read) refl)
+      subst (λ (x : OpenedDecl). decl_with (most_levels + 1) n level inner lines ≡ closed level inner (decl_left_of x) rest) is (rw (decl_step lines, read) refl)

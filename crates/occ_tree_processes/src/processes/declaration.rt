@@ -6,7 +6,7 @@ ghost use Rattle.occ_tree_grammar.specs.Expressions.Reading.{Gives};
 ghost use Rattle.occ_tree_grammar.specs.Lines.Views.{formals_of};
 ghost use Rattle.occ_tree_grammar.specs.Lines.HeadViews.{decl_head_of};
 ghost use Rattle.occ_tree_grammar.specs.Processes.Views.{decl_of, process_of};
-ghost use Rattle.occ_tree_grammar.specs.declared.limits.TheConstants.{MOST_LEVELS};
+ghost use Rattle.occ_tree_grammar.specs.Limits.{most_levels};
 ghost use Rattle.occ_tree_processes.specs.Heads.{declaration_line_with};
 ghost use Rattle.occ_tree_processes.specs.Opened.{decl_left_at, decl_left_of, left_behind, procedure_with};
 
@@ -46,7 +46,7 @@ fn opened_behind(
     head: DeclHead,
     lines: &[Line],
 ) -> Result<(OpenedDecl, &[Line]), ParseFault>
-    requires { level + left ≤ MOST_LEVELS }
+    requires { level + left ≤ most_levels }
     ensures { Gives (λ x. (decl_left_of x.0, logical_lines x.1.now)) result (left_behind left level line (decl_head_of head) (logical_lines lines.now)) }
 {
     match head {
@@ -84,7 +84,7 @@ pub fn declaration_opened(
     level: u32,
     lines: &[Line],
 ) -> Result<(OpenedDecl, &[Line]), ParseFault>
-    requires { level + left ≤ MOST_LEVELS }
+    requires { level + left ≤ most_levels }
     ensures { Gives (λ x. (decl_left_of x.0, logical_lines x.1.now)) result (decl_left_at left level (logical_lines lines.now)) }
 {
     let (line, head, rest) = declaration_line(alloc, last, level, lines)?;

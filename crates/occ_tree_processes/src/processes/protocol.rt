@@ -7,7 +7,7 @@ ghost use Rattle.occ_tree_grammar.specs.Expressions.Reading.{Gives};
 ghost use Rattle.occ_tree_grammar.specs.Lines.HeadViews.{tag_head_of};
 ghost use Rattle.occ_tree_grammar.specs.Processes.Views.{tag_of, protocol_of};
 ghost use Rattle.occ_tree_grammar.specs.Processes.Reading.{at_level, tag_with, tag_at, tags_with, tags_at};
-ghost use Rattle.occ_tree_grammar.specs.declared.limits.TheConstants.{MOST_LEVELS};
+ghost use Rattle.occ_tree_grammar.specs.Limits.{most_levels};
 
 use crate::processes::line::{case_line, end_line, line_of, lines_at, too_deep};
 use occ_text::Line;
@@ -22,7 +22,7 @@ fn tag_inside(
     level: u32,
     lines: &[Line],
 ) -> Result<(Tag, &[Line]), ParseFault>
-    ensures { Gives (λ x. (tag_of x.0, logical_lines x.1.now)) result (tag_with (MOST_LEVELS + 1) level (logical_lines lines.now)) }
+    ensures { Gives (λ x. (tag_of x.0, logical_lines x.1.now)) result (tag_with (most_levels + 1) level (logical_lines lines.now)) }
 {
     let (first, rest) = line_of(last, level, lines)?;
     let line = first.number;
@@ -45,7 +45,7 @@ fn tag(
     level: u32,
     lines: &[Line],
 ) -> Result<(Tag, &[Line]), ParseFault>
-    ensures { Gives (λ x. (tag_of x.0, logical_lines x.1.now)) result (tag_at (MOST_LEVELS + 1) left level (logical_lines lines.now)) }
+    ensures { Gives (λ x. (tag_of x.0, logical_lines x.1.now)) result (tag_at (most_levels + 1) left level (logical_lines lines.now)) }
 {
     if left == 0 {
         return Err(too_deep(last, level, lines));
@@ -60,7 +60,7 @@ fn tag_list(
     level: u32,
     lines: &[Line],
 ) -> Result<(Vec<Tag>, &[Line]), ParseFault>
-    ensures { Gives (λ x. (map tag_of x.0.items, logical_lines x.1.now)) result (as_many (at_level level) (tag_at (MOST_LEVELS + 1) left level) (logical_lines lines.now)) }
+    ensures { Gives (λ x. (map tag_of x.0.items, logical_lines x.1.now)) result (as_many (at_level level) (tag_at (most_levels + 1) left level) (logical_lines lines.now)) }
 {
     let mut all = Vec::new(alloc);
     let mut rest = lines;
@@ -84,8 +84,8 @@ fn tags_inside(
     name: Vec<u8>,
     lines: &[Line],
 ) -> Result<(Protocol, &[Line]), ParseFault>
-    requires { level + left ≤ MOST_LEVELS }
-    ensures { Gives (λ x. (protocol_of x.0, logical_lines x.1.now)) result (tags_with (MOST_LEVELS + 1) left level line name.items (logical_lines lines.now)) }
+    requires { level + left ≤ most_levels }
+    ensures { Gives (λ x. (protocol_of x.0, logical_lines x.1.now)) result (tags_with (most_levels + 1) left level line name.items (logical_lines lines.now)) }
 {
     let below = level + 1;
     let (case, rest) = case_line(last, below, lines)?;
@@ -104,8 +104,8 @@ pub fn tags(
     name: Vec<u8>,
     lines: &[Line],
 ) -> Result<(Protocol, &[Line]), ParseFault>
-    requires { level + left ≤ MOST_LEVELS }
-    ensures { Gives (λ x. (protocol_of x.0, logical_lines x.1.now)) result (tags_at (MOST_LEVELS + 1) left level line name.items (logical_lines lines.now)) }
+    requires { level + left ≤ most_levels }
+    ensures { Gives (λ x. (protocol_of x.0, logical_lines x.1.now)) result (tags_at (most_levels + 1) left level line name.items (logical_lines lines.now)) }
 {
     if left == 0 {
         return Err(too_deep(last, level + 1, lines));

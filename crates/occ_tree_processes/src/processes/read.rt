@@ -11,7 +11,7 @@ ghost use Rattle.occ_tree_grammar.specs.Expressions.Reading.{Gives};
 ghost use Rattle.occ_tree_grammar.specs.Processes.Trees.{process as the_process, choice as the_choice, option as the_option, arm as the_arm, variant as the_variant};
 ghost use Rattle.occ_tree_grammar.specs.Processes.Views.{process_of, choice_of, selection_of, arm_of, variant_of, decl_of};
 ghost use Rattle.occ_tree_grammar.specs.Processes.Reading.{at_level, node_at, decl_with};
-ghost use Rattle.occ_tree_grammar.specs.declared.limits.TheConstants.{MOST_LEVELS};
+ghost use Rattle.occ_tree_grammar.specs.Limits.{most_levels};
 ghost use Rattle.occ_tree_processes.specs.Opened.{begun};
 
 use crate::processes::declaration::{declaration_opened, procedure_ended};
@@ -35,8 +35,8 @@ pub fn process(
     level: u32,
     lines: &[Line],
 ) -> Result<(Process, &[Line]), ParseFault>
-    requires { level + left ≤ MOST_LEVELS + 1 }
-    ensures { Gives (λ x. (process_of x.0, logical_lines x.1.now)) result (node_at (MOST_LEVELS + 1) left level the_process (logical_lines lines.now)) }
+    requires { level + left ≤ most_levels + 1 }
+    ensures { Gives (λ x. (process_of x.0, logical_lines x.1.now)) result (node_at (most_levels + 1) left level the_process (logical_lines lines.now)) }
 {
     let (declarations, rest) = declarations(alloc, last, left, level, lines)?;
     let (line, opened, rest) = process_line(alloc, last, level, rest)?;
@@ -108,8 +108,8 @@ fn processes(
     level: u32,
     lines: &[Line],
 ) -> Result<(Vec<Process>, &[Line]), ParseFault>
-    requires { level + left ≤ MOST_LEVELS + 1 }
-    ensures { Gives (λ x. (map process_of x.0.items, logical_lines x.1.now)) result (as_many (at_level level) (node_at (MOST_LEVELS + 1) left level the_process) (logical_lines lines.now)) }
+    requires { level + left ≤ most_levels + 1 }
+    ensures { Gives (λ x. (map process_of x.0.items, logical_lines x.1.now)) result (as_many (at_level level) (node_at (most_levels + 1) left level the_process) (logical_lines lines.now)) }
 {
     let mut all = Vec::new(alloc);
     let mut rest = lines;
@@ -133,8 +133,8 @@ fn choice(
     level: u32,
     lines: &[Line],
 ) -> Result<(Choice, &[Line]), ParseFault>
-    requires { level + left ≤ MOST_LEVELS + 1 }
-    ensures { Gives (λ x. (choice_of x.0, logical_lines x.1.now)) result (node_at (MOST_LEVELS + 1) left level the_choice (logical_lines lines.now)) }
+    requires { level + left ≤ most_levels + 1 }
+    ensures { Gives (λ x. (choice_of x.0, logical_lines x.1.now)) result (node_at (most_levels + 1) left level the_choice (logical_lines lines.now)) }
 {
     let (declarations, rest) = declarations(alloc, last, left, level, lines)?;
     let (line, head, rest) = choice_line(alloc, last, level, rest)?;
@@ -168,8 +168,8 @@ fn choices(
     level: u32,
     lines: &[Line],
 ) -> Result<(Vec<Choice>, &[Line]), ParseFault>
-    requires { level + left ≤ MOST_LEVELS + 1 }
-    ensures { Gives (λ x. (map choice_of x.0.items, logical_lines x.1.now)) result (as_many (at_level level) (node_at (MOST_LEVELS + 1) left level the_choice) (logical_lines lines.now)) }
+    requires { level + left ≤ most_levels + 1 }
+    ensures { Gives (λ x. (map choice_of x.0.items, logical_lines x.1.now)) result (as_many (at_level level) (node_at (most_levels + 1) left level the_choice) (logical_lines lines.now)) }
 {
     let mut all = Vec::new(alloc);
     let mut rest = lines;
@@ -193,8 +193,8 @@ fn selections(
     level: u32,
     lines: &[Line],
 ) -> Result<(Vec<Selection>, &[Line]), ParseFault>
-    requires { level + left ≤ MOST_LEVELS + 1 }
-    ensures { Gives (λ x. (map selection_of x.0.items, logical_lines x.1.now)) result (as_many (at_level level) (node_at (MOST_LEVELS + 1) left level the_option) (logical_lines lines.now)) }
+    requires { level + left ≤ most_levels + 1 }
+    ensures { Gives (λ x. (map selection_of x.0.items, logical_lines x.1.now)) result (as_many (at_level level) (node_at (most_levels + 1) left level the_option) (logical_lines lines.now)) }
 {
     let mut all = Vec::new(alloc);
     let mut rest = lines;
@@ -220,8 +220,8 @@ fn arm(
     level: u32,
     lines: &[Line],
 ) -> Result<(Arm, &[Line]), ParseFault>
-    requires { level + left ≤ MOST_LEVELS + 1 }
-    ensures { Gives (λ x. (arm_of x.0, logical_lines x.1.now)) result (node_at (MOST_LEVELS + 1) left level the_arm (logical_lines lines.now)) }
+    requires { level + left ≤ most_levels + 1 }
+    ensures { Gives (λ x. (arm_of x.0, logical_lines x.1.now)) result (node_at (most_levels + 1) left level the_arm (logical_lines lines.now)) }
 {
     let (declarations, rest) = declarations(alloc, last, left, level, lines)?;
     let (line, head, rest) = arm_line(alloc, last, level, rest)?;
@@ -262,8 +262,8 @@ fn arms(
     level: u32,
     lines: &[Line],
 ) -> Result<(Vec<Arm>, &[Line]), ParseFault>
-    requires { level + left ≤ MOST_LEVELS + 1 }
-    ensures { Gives (λ x. (map arm_of x.0.items, logical_lines x.1.now)) result (as_many (at_level level) (node_at (MOST_LEVELS + 1) left level the_arm) (logical_lines lines.now)) }
+    requires { level + left ≤ most_levels + 1 }
+    ensures { Gives (λ x. (map arm_of x.0.items, logical_lines x.1.now)) result (as_many (at_level level) (node_at (most_levels + 1) left level the_arm) (logical_lines lines.now)) }
 {
     let mut all = Vec::new(alloc);
     let mut rest = lines;
@@ -287,8 +287,8 @@ fn variants(
     level: u32,
     lines: &[Line],
 ) -> Result<(Vec<Variant>, &[Line]), ParseFault>
-    requires { level + left ≤ MOST_LEVELS + 1 }
-    ensures { Gives (λ x. (map variant_of x.0.items, logical_lines x.1.now)) result (as_many (at_level level) (node_at (MOST_LEVELS + 1) left level the_variant) (logical_lines lines.now)) }
+    requires { level + left ≤ most_levels + 1 }
+    ensures { Gives (λ x. (map variant_of x.0.items, logical_lines x.1.now)) result (as_many (at_level level) (node_at (most_levels + 1) left level the_variant) (logical_lines lines.now)) }
 {
     let mut all = Vec::new(alloc);
     let mut rest = lines;
@@ -314,7 +314,7 @@ fn declarations(
     level: u32,
     lines: &[Line],
 ) -> Result<(Vec<Decl>, &[Line]), ParseFault>
-    requires { level + left ≤ MOST_LEVELS + 1 }
+    requires { level + left ≤ most_levels + 1 }
     ensures read { Gives (λ x. (map decl_of x.0.items, logical_lines x.1.now)) result (begun left level (logical_lines lines.now)) }
     ensures left { OnOk result (0 < left) }
 {
@@ -343,8 +343,8 @@ pub fn declaration(
     level: u32,
     lines: &[Line],
 ) -> Result<(Decl, &[Line]), ParseFault>
-    requires { level + left ≤ MOST_LEVELS }
-    ensures { Gives (λ x. (decl_of x.0, logical_lines x.1.now)) result (decl_with (MOST_LEVELS + 1) left level (node_at (MOST_LEVELS + 1) left (level + 1) the_process) (logical_lines lines.now)) }
+    requires { level + left ≤ most_levels }
+    ensures { Gives (λ x. (decl_of x.0, logical_lines x.1.now)) result (decl_with (most_levels + 1) left level (node_at (most_levels + 1) left (level + 1) the_process) (logical_lines lines.now)) }
 {
     let (opened, rest) = declaration_opened(alloc, last, left, level, lines)?;
     match opened {

@@ -1,6 +1,6 @@
 use Rattle.std.proofs.Common.{◌+◌, map}
 use Rattle.occ_text.specs.Words.{Word, words}
-use Rattle.occ_tree_grammar.specs.declared.limits.TheConstants.{MOST_LEVELS}
+use Rattle.occ_tree_grammar.specs.Limits.{most_levels}
 use Rattle.occ_tree_grammar.specs.Lines.Trees.{Size}
 use Rattle.occ_tree_grammar.specs.Lines.Views.{size_of}
 use Rattle.occ_tree_grammar.specs.Expressions.Reading.{after_open_bracket}
@@ -9,4 +9,4 @@ use Rattle.occ_tree_parts.proofs.ManyLoop.{SoFar}
 use Rattle.occ_tree_parts.proofs.kind.sizes.Given as goal
 
 abbrev pub invariant-loop : goal.invariant-loop
-invariant-loop l = SoFar Word Size after_open_bracket (size_with (MOST_LEVELS + 1)) (map size_of l.all.items) 1 l.counter (words l.rest) (sizes_at (MOST_LEVELS + 1) (words l.tokens))
+invariant-loop l = SoFar Word Size after_open_bracket (size_with (most_levels + 1)) (map size_of l.all.items) 1 l.counter (words l.rest) (sizes_at (most_levels + 1) (words l.tokens))

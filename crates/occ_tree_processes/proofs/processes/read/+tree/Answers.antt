@@ -3,7 +3,7 @@ use Rattle.std.specs.declared.boxed.Box.{Box}
 use Rattle.std.proofs.lemmas.List.{map_push}
 use Rattle.std.proofs.lemmas.Result.{err_from_is_err_and}
 use Rattle.occ_text.specs.Words.{logical_lines}
-use Rattle.occ_tree_grammar.specs.declared.limits.TheConstants.{MOST_LEVELS}
+use Rattle.occ_tree_grammar.specs.Limits.{most_levels}
 use Rattle.occ_tree_grammar.specs.declared.tree.line.Replicator.{Replicator}
 use Rattle.occ_tree_grammar.specs.declared.lines.head.ChoiceHead.TheVariants as choiceHeads
 use Rattle.occ_tree_grammar.specs.declared.lines.head.ArmHead.TheVariants as armHeads
@@ -41,20 +41,20 @@ process-returns-in-Action t c =
 pub process-returns-in_err-body-in-Process : goal.process-returns-in_err-body-in-Process
 process-returns-in_err-body-in-Process t c =
     let p = err_from_is_err_and c.from_residual-in_err-body-in-Process.result c.from_residual-in_err-body-in-Process.ensures.1 in
-    rw (p.1, p.2, node_is the_process c.args.left c.args.level (logical_lines c.args.lines.now) (map decl_of c.in_ok-declarations.declarations.items) (logical_lines c.in_ok-declarations.rest.now) c.in_ok-declarations.ensures.read opened_head c.in_ok-line.line c.in_ok-line.opened (openings.Process c.in-Process.around) (logical_lines c.in_ok-line.rest.now) c.in_ok-line.ensures c.in-Process.is) (no_body c.args.level (node_at (MOST_LEVELS + 1) (c.args.left - 1) (c.args.level + 1)) (map decl_of c.in_ok-declarations.declarations.items) c.in_ok-line.line (logical_lines c.in_ok-line.rest.now) c.in_err-body-in-Process.field-0.0 c.in-Process.around c.in_err-body-in-Process.ensures)
+    rw (p.1, p.2, node_is the_process c.args.left c.args.level (logical_lines c.args.lines.now) (map decl_of c.in_ok-declarations.declarations.items) (logical_lines c.in_ok-declarations.rest.now) c.in_ok-declarations.ensures.read opened_head c.in_ok-line.line c.in_ok-line.opened (openings.Process c.in-Process.around) (logical_lines c.in_ok-line.rest.now) c.in_ok-line.ensures c.in-Process.is) (no_body c.args.level (node_at (most_levels + 1) (c.args.left - 1) (c.args.level + 1)) (map decl_of c.in_ok-declarations.declarations.items) c.in_ok-line.line (logical_lines c.in_ok-line.rest.now) c.in_err-body-in-Process.field-0.0 c.in-Process.around c.in_err-body-in-Process.ensures)
 
 pub process-returns-in_ok-with_body-in-Process : goal.process-returns-in_ok-with_body-in-Process
 process-returns-in_ok-with_body-in-Process t c =
-    rw (node_is the_process c.args.left c.args.level (logical_lines c.args.lines.now) (map decl_of c.in_ok-declarations.declarations.items) (logical_lines c.in_ok-declarations.rest.now) c.in_ok-declarations.ensures.read opened_head c.in_ok-line.line c.in_ok-line.opened (openings.Process c.in-Process.around) (logical_lines c.in_ok-line.rest.now) c.in_ok-line.ensures c.in-Process.is, body_is c.args.level (node_at (MOST_LEVELS + 1) (c.args.left - 1) (c.args.level + 1)) (map decl_of c.in_ok-declarations.declarations.items) c.in_ok-line.line (logical_lines c.in_ok-line.rest.now) c.in-Process.around (process_of c.in_ok-body-in-Process.body) (logical_lines c.in_ok-body-in-Process.rest.now) c.in_ok-body-in-Process.ensures) (ap (λ (n : Node the_process). Some (n, logical_lines c.in_ok-body-in-Process.rest.now)) (sym c.in_ok-with_body-in-Process.ensures))
+    rw (node_is the_process c.args.left c.args.level (logical_lines c.args.lines.now) (map decl_of c.in_ok-declarations.declarations.items) (logical_lines c.in_ok-declarations.rest.now) c.in_ok-declarations.ensures.read opened_head c.in_ok-line.line c.in_ok-line.opened (openings.Process c.in-Process.around) (logical_lines c.in_ok-line.rest.now) c.in_ok-line.ensures c.in-Process.is, body_is c.args.level (node_at (most_levels + 1) (c.args.left - 1) (c.args.level + 1)) (map decl_of c.in_ok-declarations.declarations.items) c.in_ok-line.line (logical_lines c.in_ok-line.rest.now) c.in-Process.around (process_of c.in_ok-body-in-Process.body) (logical_lines c.in_ok-body-in-Process.rest.now) c.in_ok-body-in-Process.ensures) (ap (λ (n : Node the_process). Some (n, logical_lines c.in_ok-body-in-Process.rest.now)) (sym c.in_ok-with_body-in-Process.ensures))
 
 pub process-returns-in_err-all-in-Processes : goal.process-returns-in_err-all-in-Processes
 process-returns-in_err-all-in-Processes t c =
     let p = err_from_is_err_and c.from_residual-in_err-all-in-Processes.result c.from_residual-in_err-all-in-Processes.ensures.1 in
-    rw (p.1, p.2, node_is the_process c.args.left c.args.level (logical_lines c.args.lines.now) (map decl_of c.in_ok-declarations.declarations.items) (logical_lines c.in_ok-declarations.rest.now) c.in_ok-declarations.ensures.read opened_head c.in_ok-line.line c.in_ok-line.opened (openings.Processes c.in-Processes.order) (logical_lines c.in_ok-line.rest.now) c.in_ok-line.ensures c.in-Processes.is) (no_processes c.args.level (node_at (MOST_LEVELS + 1) (c.args.left - 1) (c.args.level + 1)) (map decl_of c.in_ok-declarations.declarations.items) c.in_ok-line.line (logical_lines c.in_ok-line.rest.now) c.in_err-all-in-Processes.field-0.0 c.in-Processes.order c.in_err-all-in-Processes.ensures)
+    rw (p.1, p.2, node_is the_process c.args.left c.args.level (logical_lines c.args.lines.now) (map decl_of c.in_ok-declarations.declarations.items) (logical_lines c.in_ok-declarations.rest.now) c.in_ok-declarations.ensures.read opened_head c.in_ok-line.line c.in_ok-line.opened (openings.Processes c.in-Processes.order) (logical_lines c.in_ok-line.rest.now) c.in_ok-line.ensures c.in-Processes.is) (no_processes c.args.level (node_at (most_levels + 1) (c.args.left - 1) (c.args.level + 1)) (map decl_of c.in_ok-declarations.declarations.items) c.in_ok-line.line (logical_lines c.in_ok-line.rest.now) c.in_err-all-in-Processes.field-0.0 c.in-Processes.order c.in_err-all-in-Processes.ensures)
 
 pub process-returns-in_ok-all-in-Processes : goal.process-returns-in_ok-all-in-Processes
 process-returns-in_ok-all-in-Processes t c =
-    rw (node_is the_process c.args.left c.args.level (logical_lines c.args.lines.now) (map decl_of c.in_ok-declarations.declarations.items) (logical_lines c.in_ok-declarations.rest.now) c.in_ok-declarations.ensures.read opened_head c.in_ok-line.line c.in_ok-line.opened (openings.Processes c.in-Processes.order) (logical_lines c.in_ok-line.rest.now) c.in_ok-line.ensures c.in-Processes.is, processes_are c.args.level (node_at (MOST_LEVELS + 1) (c.args.left - 1) (c.args.level + 1)) (map decl_of c.in_ok-declarations.declarations.items) c.in_ok-line.line (logical_lines c.in_ok-line.rest.now) c.in-Processes.order (map process_of c.in_ok-all-in-Processes.all.items) (logical_lines c.in_ok-all-in-Processes.rest.now) c.in_ok-all-in-Processes.ensures) (ap (λ (n : Node the_process). Some (n, logical_lines c.in_ok-all-in-Processes.rest.now)) (sym c.with_processes.ensures))
+    rw (node_is the_process c.args.left c.args.level (logical_lines c.args.lines.now) (map decl_of c.in_ok-declarations.declarations.items) (logical_lines c.in_ok-declarations.rest.now) c.in_ok-declarations.ensures.read opened_head c.in_ok-line.line c.in_ok-line.opened (openings.Processes c.in-Processes.order) (logical_lines c.in_ok-line.rest.now) c.in_ok-line.ensures c.in-Processes.is, processes_are c.args.level (node_at (most_levels + 1) (c.args.left - 1) (c.args.level + 1)) (map decl_of c.in_ok-declarations.declarations.items) c.in_ok-line.line (logical_lines c.in_ok-line.rest.now) c.in-Processes.order (map process_of c.in_ok-all-in-Processes.all.items) (logical_lines c.in_ok-all-in-Processes.rest.now) c.in_ok-all-in-Processes.ensures) (ap (λ (n : Node the_process). Some (n, logical_lines c.in_ok-all-in-Processes.rest.now)) (sym c.with_processes.ensures))
 
 pub process-returns-in_err-case-in-Choice : goal.process-returns-in_err-case-in-Choice
 process-returns-in_err-case-in-Choice t c =
@@ -261,7 +261,7 @@ selections-returns-in_err-body t c =
 
 pub selections-loop-preserved : goal.selections-loop-preserved
 selections-loop-preserved t c =
-    let one : node_at (MOST_LEVELS + 1) c.args.left c.args.level the_option (logical_lines c.in-Some.after.now) ≡ Some (selection_of c.selected.result, logical_lines c.in_ok-body.after.now) = rw (node_is the_option c.args.left c.args.level (logical_lines c.in-Some.after.now) (map decl_of c.in_ok-declarations.declarations.items) (logical_lines c.in_ok-declarations.after.now) c.in_ok-declarations.ensures.read option_head_of c.in_ok-line.line c.in_ok-line.head c.in_ok-line.head (logical_lines c.in_ok-line.after.now) c.in_ok-line.ensures refl, c.in_ok-body.ensures) (ap (λ (n : Node the_option). Some (n, logical_lines c.in_ok-body.after.now)) (sym c.selected.ensures)) in
+    let one : node_at (most_levels + 1) c.args.left c.args.level the_option (logical_lines c.in-Some.after.now) ≡ Some (selection_of c.selected.result, logical_lines c.in_ok-body.after.now) = rw (node_is the_option c.args.left c.args.level (logical_lines c.in-Some.after.now) (map decl_of c.in_ok-declarations.declarations.items) (logical_lines c.in_ok-declarations.after.now) c.in_ok-declarations.ensures.read option_head_of c.in_ok-line.line c.in_ok-line.head c.in_ok-line.head (logical_lines c.in_ok-line.after.now) c.in_ok-line.ensures refl, c.in_ok-body.ensures) (ap (λ (n : Node the_option). Some (n, logical_lines c.in_ok-body.after.now)) (sym c.selected.ensures)) in
     let e : map selection_of c.push.new.self.items ≡ map selection_of c.loop.all.items ++ selection_of c.selected.result ∷ [] = rw c.in_ok-push.ensures.items (map_push _ c.loop.all.items c.selected.result) in
     rw e (goes_on c.loop.invariant c.loop-test.true c.in-Some.ensures one)
 
@@ -289,7 +289,7 @@ variants-returns-in_err-body t c =
 
 pub variants-loop-preserved : goal.variants-loop-preserved
 variants-loop-preserved t c =
-    let one : node_at (MOST_LEVELS + 1) c.args.left c.args.level the_variant (logical_lines c.in-Some.after.now) ≡ Some (variant_of c.tagged.result, logical_lines c.in_ok-body.after.now) = rw (node_is the_variant c.args.left c.args.level (logical_lines c.in-Some.after.now) (map decl_of c.in_ok-declarations.declarations.items) (logical_lines c.in_ok-declarations.after.now) c.in_ok-declarations.ensures.read variant_head_of c.in_ok-line.line c.in_ok-line.head c.in_ok-line.head (logical_lines c.in_ok-line.after.now) c.in_ok-line.ensures refl, c.in_ok-body.ensures) (ap (λ (n : Node the_variant). Some (n, logical_lines c.in_ok-body.after.now)) (sym c.tagged.ensures)) in
+    let one : node_at (most_levels + 1) c.args.left c.args.level the_variant (logical_lines c.in-Some.after.now) ≡ Some (variant_of c.tagged.result, logical_lines c.in_ok-body.after.now) = rw (node_is the_variant c.args.left c.args.level (logical_lines c.in-Some.after.now) (map decl_of c.in_ok-declarations.declarations.items) (logical_lines c.in_ok-declarations.after.now) c.in_ok-declarations.ensures.read variant_head_of c.in_ok-line.line c.in_ok-line.head c.in_ok-line.head (logical_lines c.in_ok-line.after.now) c.in_ok-line.ensures refl, c.in_ok-body.ensures) (ap (λ (n : Node the_variant). Some (n, logical_lines c.in_ok-body.after.now)) (sym c.tagged.ensures)) in
     let e : map variant_of c.push.new.self.items ≡ map variant_of c.loop.all.items ++ variant_of c.tagged.result ∷ [] = rw c.in_ok-push.ensures.items (map_push _ c.loop.all.items c.tagged.result) in
     rw e (goes_on c.loop.invariant c.loop-test.true c.in-Some.ensures one)
 
@@ -324,17 +324,17 @@ declarations-returns-clause-read t c =
 pub declaration-returns-in_err-opened : goal.declaration-returns-in_err-opened
 declaration-returns-in_err-opened t c =
     let p = err_from_is_err_and c.from_residual.result c.from_residual.ensures.1 in
-    rw (p.1, p.2) (no_declaration c.args.left c.args.level (node_at (MOST_LEVELS + 1) c.args.left (c.args.level + 1) the_process) c.in_err-opened.field-0.0 (logical_lines c.args.lines.now) c.in_err-opened.ensures)
+    rw (p.1, p.2) (no_declaration c.args.left c.args.level (node_at (most_levels + 1) c.args.left (c.args.level + 1) the_process) c.in_err-opened.field-0.0 (logical_lines c.args.lines.now) c.in_err-opened.ensures)
 
 pub declaration-returns-in-Whole : goal.declaration-returns-in-Whole
 declaration-returns-in-Whole t c =
-    rw (declaration_is c.args.left c.args.level (node_at (MOST_LEVELS + 1) c.args.left (c.args.level + 1) the_process) (logical_lines c.args.lines.now) c.in_ok-opened.opened (declarations.Whole c.in-Whole.declaration) (logical_lines c.in_ok-opened.rest.now) c.in_ok-opened.ensures c.in-Whole.is) refl
+    rw (declaration_is c.args.left c.args.level (node_at (most_levels + 1) c.args.left (c.args.level + 1) the_process) (logical_lines c.args.lines.now) c.in_ok-opened.opened (declarations.Whole c.in-Whole.declaration) (logical_lines c.in_ok-opened.rest.now) c.in_ok-opened.ensures c.in-Whole.is) refl
 
 pub declaration-returns-in_err-body-in-Proc : goal.declaration-returns-in_err-body-in-Proc
 declaration-returns-in_err-body-in-Proc t c =
     let p = err_from_is_err_and c.from_residual-in_err-body-in-Proc.result c.from_residual-in_err-body-in-Proc.ensures.1 in
-    rw (p.1, p.2, declaration_is c.args.left c.args.level (node_at (MOST_LEVELS + 1) c.args.left (c.args.level + 1) the_process) (logical_lines c.args.lines.now) c.in_ok-opened.opened (declarations.Proc c.in-Proc.line c.in-Proc.name c.in-Proc.formals) (logical_lines c.in_ok-opened.rest.now) c.in_ok-opened.ensures c.in-Proc.is) (fails_then c.in_err-body-in-Proc.field-0.0 _ _ c.in_err-body-in-Proc.ensures)
+    rw (p.1, p.2, declaration_is c.args.left c.args.level (node_at (most_levels + 1) c.args.left (c.args.level + 1) the_process) (logical_lines c.args.lines.now) c.in_ok-opened.opened (declarations.Proc c.in-Proc.line c.in-Proc.name c.in-Proc.formals) (logical_lines c.in_ok-opened.rest.now) c.in_ok-opened.ensures c.in-Proc.is) (fails_then c.in_err-body-in-Proc.field-0.0 _ _ c.in_err-body-in-Proc.ensures)
 
 pub declaration-returns-in_ok-body-in-Proc : goal.declaration-returns-in_ok-body-in-Proc
 declaration-returns-in_ok-body-in-Proc t c =
-    rw (declaration_is c.args.left c.args.level (node_at (MOST_LEVELS + 1) c.args.left (c.args.level + 1) the_process) (logical_lines c.args.lines.now) c.in_ok-opened.opened (declarations.Proc c.in-Proc.line c.in-Proc.name c.in-Proc.formals) (logical_lines c.in_ok-opened.rest.now) c.in_ok-opened.ensures c.in-Proc.is, c.in_ok-body-in-Proc.ensures) c.procedure_ended.ensures
+    rw (declaration_is c.args.left c.args.level (node_at (most_levels + 1) c.args.left (c.args.level + 1) the_process) (logical_lines c.args.lines.now) c.in_ok-opened.opened (declarations.Proc c.in-Proc.line c.in-Proc.name c.in-Proc.formals) (logical_lines c.in_ok-opened.rest.now) c.in_ok-opened.ensures c.in-Proc.is, c.in_ok-body-in-Proc.ensures) c.procedure_ended.ensures

@@ -1,0 +1,7 @@
+-- Limits of a text.
+-- Manual: nothing; this is (own).
+use Rattle.std.specs.Prelude.{ℕ}
+
+-- how many levels of lines may stand within one another, and how many brackets may stand open at one place
+abbrev pub most_levels : ℕ
+most_levels = 64
