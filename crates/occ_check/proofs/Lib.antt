@@ -10,7 +10,7 @@ pub mod WholePrograms
 pub mod Heading
 pub mod EnteringScopes
 pub mod Gathering
-pub mod Rows
+pub mod HeldLists
 pub mod OneLine
 pub mod Nesting
 pub mod ChoiceLists

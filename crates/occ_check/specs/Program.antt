@@ -10,7 +10,7 @@ use Rattle.occ_term.specs.declared.protocol.Protocol.TheVariants.{Simple}
 use Rattle.occ_check_meaning.specs.Performing.{Declaring, entered}
 use Rattle.occ_check_meaning.specs.Programs as P
 use Rattle.occ_check_meaning.specs.Programs.{items_declared}
-use Rattle.occ_check_meaning.specs.Scope.{Known, Pairs, row_from, some_channels, within}
+use Rattle.occ_check_meaning.specs.Scope.{Known, Pairs, stretch_from, some_channels, within}
 use Rattle.occ_check_meaning.specs.Types.{unnamed}
 use Rattle.occ_check.specs.declared.program.Main.{Main}
 
@@ -29,4 +29,4 @@ items_within items names sc depth n = items_declared items sc depth n >>= λ d. 
 
 -- the channel of bytes with this number
 abbrev pub byte_channel : ℕ → Known
-byte_channel number = some_channels (unnamed (Simple [] Byte)) (row_from number [])
+byte_channel number = some_channels (unnamed (Simple [] Byte)) (stretch_from number [])

@@ -352,7 +352,7 @@ fn one_arm(arm: &Arm) -> &[Arm]
 }
 
 /// The arms of an ALT, as a slice.
-#[tactic(auto, using(crate::proofs::Rows::arms_made))]
+#[tactic(auto, using(crate::proofs::HeldLists::arms_made))]
 pub(crate) fn listed_arms(arms: &Vec<Arm>) -> &[Arm]
     ensures { nodes (map trees.arm_of result.now) ≡ held_arms (hidden-the_row-Arm-2 arms.now) }
 {

@@ -262,7 +262,7 @@ fn one_choice(choice: &Choice) -> &[Choice]
 }
 
 /// The choices of an IF, as a slice.
-#[tactic(auto, using(crate::proofs::Rows::choices_made))]
+#[tactic(auto, using(crate::proofs::HeldLists::choices_made))]
 pub(crate) fn listed_choices(choices: &Vec<Choice>) -> &[Choice]
     ensures { nodes (map trees.choice_of result.now) ≡ held_choices (hidden-the_row-Choice-3 choices.now) }
 {

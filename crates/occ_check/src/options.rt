@@ -348,7 +348,7 @@ fn each_constant(
 }
 
 /// The options of a CASE, as a slice.
-#[tactic(auto, using(crate::proofs::Rows::selections_made))]
+#[tactic(auto, using(crate::proofs::HeldLists::selections_made))]
 pub(crate) fn listed_selections(selections: &Vec<Selection>) -> &[Selection]
     ensures { nodes (map selection_of result.now) ≡ held_selections (hidden-the_row-Selection-5 selections.now) }
 {

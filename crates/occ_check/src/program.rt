@@ -24,7 +24,7 @@ use occ_check_names::fault::CheckFault;
 use occ_check_names::known::{Carried, Known};
 use occ_check_names::numbers::Numbers;
 use occ_check_names::scope::Position;
-use occ_check_typing::declaration::{Named, once, row_from};
+use occ_check_typing::declaration::{Named, once, stretch_from};
 use occ_term::{Declaration, Primitive, Protocol, Sizes, Term, Unfolded};
 use occ_tree_grammar::tree::expr::Prim;
 use occ_tree_grammar::tree::line::{Carried as CarriedTree, Formals, Part, Spec};
@@ -227,7 +227,7 @@ fn byte_channel(alloc: Global, number: u32) -> Result<Known, AllocError>
         declared: None,
         protocol: Protocol::Simple(Items::new(alloc), Primitive::Byte),
     };
-    Ok(Known::Channels(carried, row_from(alloc, number, &Sizes::none(alloc))?))
+    Ok(Known::Channels(carried, stretch_from(alloc, number, &Sizes::none(alloc))?))
 }
 
 // ---- the whole

@@ -349,7 +349,7 @@ fn tag_of(variant: &Variant) -> &[u8]
 }
 
 /// The variants of an input, as a slice.
-#[tactic(auto, using(crate::proofs::Rows::variants_made))]
+#[tactic(auto, using(crate::proofs::HeldLists::variants_made))]
 pub(crate) fn listed_variants(variants: &Vec<Variant>) -> &[Variant]
     ensures { nodes (map trees.variant_of result.now) ≡ held_variants (hidden-the_row-Variant-1 variants.now) }
 {

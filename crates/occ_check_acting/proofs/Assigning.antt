@@ -9,10 +9,10 @@ use Rattle.occ_term.specs.Terms as T
 use Rattle.occ_check_meaning.specs.Actions.{assigned}
 use Rattle.occ_check_meaning.specs.Expressions.{Typed, typed}
 use Rattle.occ_check_meaning.specs.Items.{apart, as_target, assigned_item, assigned_items, some_clash, variable_of}
-use Rattle.occ_check_meaning.specs.Scope.{Names, Row, each_of, keep}
+use Rattle.occ_check_meaning.specs.Scope.{Names, Stretch, each_of, keep}
 use Rattle.occ_check_meaning.proofs.Steps.{bind_some, some_is}
 use Rattle.occ_check_acting.specs.Action.{side_assigned, side_of}
-use Rattle.occ_check_clashes.specs.Clash.{rows_at}
+use Rattle.occ_check_clashes.specs.Clash.{stretches_at}
 use Rattle.occ_check_typing.specs.Zipped.{zipped}
 use Rattle.occ_check_names.specs.View.{Refuses}
 use Rattle.occ_check_names.specs.declared.fault.CheckFault.{CheckFault}
@@ -25,13 +25,13 @@ no_items = None
 
 -- ---- the targets
 
-targets_at : (line : ℕ) (rows : List (Primitive × Row)) → rows_at (map (as_target line) rows) ≡ map bare (map (λ r. r.1) rows)
+targets_at : (line : ℕ) (stretches : List (Primitive × Stretch)) → stretches_at (map (as_target line) stretches) ≡ map bare (map (λ r. r.1) stretches)
 unfolding bare
 targets_at line [] = refl
 targets_at line (r ∷ rs) = ap (λ xs. bare r.1 ∷ xs) (targets_at line rs)
 
-same_clash : (line : ℕ) (rows : List (Primitive × Row)) → some_clash (rows_at (map (as_target line) rows)) ≡ some_clash (map (λ r. r.1) rows)
-same_clash line rows = ap some_clash (targets_at line rows) ∙ bare_clash (map (λ r. r.1) rows)
+same_clash : (line : ℕ) (stretches : List (Primitive × Stretch)) → some_clash (stretches_at (map (as_target line) stretches)) ≡ some_clash (map (λ r. r.1) stretches)
+same_clash line stretches = ap some_clash (targets_at line stretches) ∙ bare_clash (map (λ r. r.1) stretches)
 
 kept_none : {A B : Type 0} (test : Bool) (x : A) (y : B) → keep test x ≡ None → keep test y ≡ None
 kept_none true x y h = absurd cc
@@ -82,64 +82,64 @@ module _ (ns : Names) (line : ℕ) where
   -- ---- the whole
 
   module _ (vs : List L.Var) (es : List Expression) where
-    behind_rows : List Typed → List (Primitive × Row) → Option T.Term
-    behind_rows values rows = do
-      apart_rows ← apart (map (λ r. r.1) rows)
-      items ← assigned_items rows values
-      Some (T.Assign (map (as_target line) rows) items)
+    behind_stretches : List Typed → List (Primitive × Stretch) → Option T.Term
+    behind_stretches values stretches = do
+      apart_stretches ← apart (map (λ r. r.1) stretches)
+      items ← assigned_items stretches values
+      Some (T.Assign (map (as_target line) stretches) items)
 
     pub no_variables : (e : CheckFault) → Refuses e (each_of (variable_of ns line) vs) → Refuses e (assigned ns line vs es)
     no_variables e = refused_with e _ _ (λ h. by h (each_of (typed ns line) es))
       where
-        by : each_of (variable_of ns line) vs ≡ None → (o : Option (List Typed)) → (o >>= λ values. each_of (variable_of ns line) vs >>= λ rows. apart (map (λ r. r.1) rows) >>= λ apart_rows. assigned_items rows values >>= λ items. Some (T.Assign (map (as_target line) rows) items)) ≡ None
+        by : each_of (variable_of ns line) vs ≡ None → (o : Option (List Typed)) → (o >>= λ values. each_of (variable_of ns line) vs >>= λ stretches. apart (map (λ r. r.1) stretches) >>= λ apart_stretches. assigned_items stretches values >>= λ items. Some (T.Assign (map (as_target line) stretches) items)) ≡ None
         by h None = refl
         by h (Some values) = none_then _ h
 
     module _ (xs : List (Primitive × Part)) (left : each_of (variable_of ns line) vs ≡ Some (map side_of xs)) where
-      assigned_is : assigned ns line vs es ≡ (each_of (typed ns line) es >>= λ values. behind_rows values (map side_of xs))
-      unfolding behind_rows
+      assigned_is : assigned ns line vs es ≡ (each_of (typed ns line) es >>= λ values. behind_stretches values (map side_of xs))
+      unfolding behind_stretches
       assigned_is = by (each_of (typed ns line) es)
         where
-          by : (o : Option (List Typed)) → (o >>= λ values. each_of (variable_of ns line) vs >>= behind_rows values) ≡ (o >>= λ values. behind_rows values (map side_of xs))
+          by : (o : Option (List Typed)) → (o >>= λ values. each_of (variable_of ns line) vs >>= behind_stretches values) ≡ (o >>= λ values. behind_stretches values (map side_of xs))
           by None = refl
-          by (Some values) = ap (λ o. o >>= behind_rows values) left
+          by (Some values) = ap (λ o. o >>= behind_stretches values) left
 
       pub no_sides : (e : CheckFault) → Refuses e (zipped (side_assigned ns line) xs es) → Refuses e (assigned ns line vs es)
-      unfolding behind_rows
+      unfolding behind_stretches
       no_sides e = refused_with e _ _ (λ h. assigned_is ∙ by (each_of (typed ns line) es) refl h)
         where
-          none : (o : Option (List Row)) → (o >>= λ apart_rows. no_items >>= λ items. Some (T.Assign (map (as_target line) (map side_of xs)) items)) ≡ None
+          none : (o : Option (List Stretch)) → (o >>= λ apart_stretches. no_items >>= λ items. Some (T.Assign (map (as_target line) (map side_of xs)) items)) ≡ None
           none None = refl
           none (Some rs) = refl
 
-          by : (o : Option (List Typed)) → each_of (typed ns line) es ≡ o → zipped (side_assigned ns line) xs es ≡ None → (o >>= λ values. behind_rows values (map side_of xs)) ≡ None
+          by : (o : Option (List Typed)) → each_of (typed ns line) es ≡ o → zipped (side_assigned ns line) xs es ≡ None → (o >>= λ values. behind_stretches values (map side_of xs)) ≡ None
           by None g h = refl
           by (Some values) g h =
-              ap (λ o. apart (map (λ r. r.1) (map side_of xs)) >>= λ apart_rows. o >>= λ items. Some (T.Assign (map (as_target line) (map side_of xs)) items)) (sym (sides_are xs es values g) ∙ h)
+              ap (λ o. apart (map (λ r. r.1) (map side_of xs)) >>= λ apart_stretches. o >>= λ items. Some (T.Assign (map (as_target line) (map side_of xs)) items)) (sym (sides_are xs es values g) ∙ h)
               ∙ none (apart (map (λ r. r.1) (map side_of xs)))
 
       module _ (targets : List T.Target) (are : targets ≡ map (as_target line) (map side_of xs)) where
-        test : not (some_clash (rows_at targets)) ≡ not (some_clash (map (λ r. r.1) (map side_of xs)))
-        test = ap not (ap (λ ts. some_clash (rows_at ts)) are ∙ same_clash line (map side_of xs))
+        test : not (some_clash (stretches_at targets)) ≡ not (some_clash (map (λ r. r.1) (map side_of xs)))
+        test = ap not (ap (λ ts. some_clash (stretches_at ts)) are ∙ same_clash line (map side_of xs))
 
-        pub not_apart : (e : CheckFault) → Refuses e (apart (rows_at targets)) → Refuses e (assigned ns line vs es)
-        unfolding behind_rows
-        not_apart e = refused_with e _ _ (λ h. assigned_is ∙ by (kept_none _ (rows_at targets) (map (λ r. r.1) (map side_of xs)) (ap (λ b. keep b (rows_at targets)) (sym test) ∙ h)) (each_of (typed ns line) es))
+        pub not_apart : (e : CheckFault) → Refuses e (apart (stretches_at targets)) → Refuses e (assigned ns line vs es)
+        unfolding behind_stretches
+        not_apart e = refused_with e _ _ (λ h. assigned_is ∙ by (kept_none _ (stretches_at targets) (map (λ r. r.1) (map side_of xs)) (ap (λ b. keep b (stretches_at targets)) (sym test) ∙ h)) (each_of (typed ns line) es))
           where
-            by : apart (map (λ r. r.1) (map side_of xs)) ≡ None → (o : Option (List Typed)) → (o >>= λ values. behind_rows values (map side_of xs)) ≡ None
+            by : apart (map (λ r. r.1) (map side_of xs)) ≡ None → (o : Option (List Typed)) → (o >>= λ values. behind_stretches values (map side_of xs)) ≡ None
             by h None = refl
             by h (Some values) = none_then _ h
 
-        pub all_assigned : (rs : List Row) → apart (rows_at targets) ≡ Some rs → (items : List T.Item) → zipped (side_assigned ns line) xs es ≡ Some items
+        pub all_assigned : (rs : List Stretch) → apart (stretches_at targets) ≡ Some rs → (items : List T.Item) → zipped (side_assigned ns line) xs es ≡ Some items
             → assigned ns line vs es ≡ Some (T.Assign targets items)
-        unfolding behind_rows
+        unfolding behind_stretches
         all_assigned rs h items g =
-            assigned_is ∙ by (kept_some _ (rows_at targets) rs (map (λ r. r.1) (map side_of xs)) (ap (λ b. keep b (rows_at targets)) (sym test) ∙ h)) (each_of (typed ns line) es) refl
+            assigned_is ∙ by (kept_some _ (stretches_at targets) rs (map (λ r. r.1) (map side_of xs)) (ap (λ b. keep b (stretches_at targets)) (sym test) ∙ h)) (each_of (typed ns line) es) refl
             ∙ ap (λ ts. Some (T.Assign ts items)) (sym are)
           where
             by : apart (map (λ r. r.1) (map side_of xs)) ≡ Some (map (λ r. r.1) (map side_of xs)) → (o : Option (List Typed)) → each_of (typed ns line) es ≡ o
-                → (o >>= λ values. behind_rows values (map side_of xs)) ≡ Some (T.Assign (map (as_target line) (map side_of xs)) items)
+                → (o >>= λ values. behind_stretches values (map side_of xs)) ≡ Some (T.Assign (map (as_target line) (map side_of xs)) items)
             by h None k = let none : zipped (side_assigned ns line) xs es ≡ None = sides_none xs es k in absurd cc
             by h (Some values) k =
-                ap (λ o. o >>= λ apart_rows. assigned_items (map side_of xs) values >>= λ items. Some (T.Assign (map (as_target line) (map side_of xs)) items)) h
+                ap (λ o. o >>= λ apart_stretches. assigned_items (map side_of xs) values >>= λ items. Some (T.Assign (map (as_target line) (map side_of xs)) items)) h
                 ∙ ap (λ o. o >>= λ items. Some (T.Assign (map (as_target line) (map side_of xs)) items)) (sym (sides_are xs es values k) ∙ g)

@@ -9,7 +9,7 @@ use Rattle.occ_term.specs.declared.primitive.Primitive.{Primitive}
 use Rattle.occ_term.specs.declared.protocol.PartType.{PartType}
 use Rattle.occ_term.specs.declared.protocol.PartType.TheVariants.{One as OneOf, Many as ManyOf, Counted as CountedOf}
 use Rattle.occ_term.specs.View.{targets_of}
-use Rattle.occ_check_meaning.specs.Scope.{Names, Row}
+use Rattle.occ_check_meaning.specs.Scope.{Names, Stretch}
 use Rattle.occ_check_meaning.specs.Operators.{is_same_type}
 use Rattle.occ_check_meaning.specs.Types.{are_same_sizes}
 use Rattle.occ_check_meaning.specs.Expressions.{typed}
@@ -36,7 +36,7 @@ Chooses (Ok x) after given = given ≡ Some (chosen_of after)
 Chooses (Err e) after given = Refuses e given
 
 -- a variable with its type
-abbrev pub side_of : Primitive × Part → Primitive × Row
+abbrev pub side_of : Primitive × Part → Primitive × Stretch
 side_of x = (x.0, part_of x.1)
 
 -- a value for a variable

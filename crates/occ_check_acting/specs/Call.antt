@@ -52,15 +52,15 @@ Evaluates (Err e) after given = Refuses e given
 abbrev pub one_constant : ℕ → ℤ → N.Numbers → Option C.Evaluated
 one_constant size v n = C.one_evaluated [] 0 size (T.Constant v) (Some v) n
 
--- a row under these subscripts
-abbrev pub part_under : S.Row → T.Subscripts → List ℕ → S.Row
+-- a stretch under these subscripts
+abbrev pub part_under : S.Stretch → T.Subscripts → List ℕ → S.Stretch
 part_under r subs left = record r { subscripts = joined r.subscripts subs; left = left }
 
 -- what a formal stands for under a variable, or channels, whose subscripts are evaluated
-abbrev pub variable_bound : Name → Open → Primitive → Primitive → S.Row → C.Evaluated → Option D.Opened
+abbrev pub variable_bound : Name → Open → Primitive → Primitive → S.Stretch → C.Evaluated → Option D.Opened
 variable_bound x sizes type own r a = S.keep (is_same_type own type && takes_sizes sizes a.left) (D.one_name x (S.some_cells S.assignable own (C.part_of r a)) a.heads a.numbers)
 
-abbrev pub channels_bound : Name → Open → S.Carried → S.Carried → S.Row → C.Evaluated → Option D.Opened
+abbrev pub channels_bound : Name → Open → S.Carried → S.Carried → S.Stretch → C.Evaluated → Option D.Opened
 channels_bound x sizes c own r a = S.keep (C.is_same_carried c own && takes_sizes sizes a.left) (D.one_name x (S.some_channels own (C.part_of r a)) a.heads a.numbers)
 
 abbrev pub named_formal : Name → Option C.Wanted → Option (Name × C.Wanted)

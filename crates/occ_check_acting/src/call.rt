@@ -5,7 +5,7 @@ ghost use Rattle.occ_tree_grammar.specs.Expressions.Trees as trees;
 ghost use Rattle.occ_tree_grammar.specs.Lines.Views as lines;
 ghost use Rattle.occ_check_meaning.specs.Calls as meant;
 ghost use Rattle.occ_check_meaning.specs.Items as items;
-ghost use Rattle.occ_check_names.specs.View.{Gives, carried_of, known_of, names_in, numbers_of, row_of};
+ghost use Rattle.occ_check_names.specs.View.{Gives, carried_of, known_of, names_in, numbers_of, stretch_of};
 ghost use Rattle.occ_check_names.specs.declared.numbers.Numbers.{Numbers};
 ghost use Rattle.occ_check_typing.specs.Declaration.{Opens};
 ghost use Rattle.occ_check_acting.specs.Call.{channels_bound, formals_of, given_of, variable_bound, wanted_of};
@@ -14,7 +14,7 @@ use crate::formals::{Wanted, WantedFormal};
 use crate::given::{Given, all_evaluated, part_of};
 use occ_check_names::context::Context;
 use occ_check_names::fault::CheckFault;
-use occ_check_names::known::{Access, Carried, Known, Row};
+use occ_check_names::known::{Access, Carried, Known, Stretch};
 use occ_check_names::numbers::Numbers;
 use occ_check_names::operators::is_same_type;
 use occ_check_typing::declaration::{Opened, has_type, name_value, takes_sizes};
@@ -47,22 +47,22 @@ fn named_operand(line: u32, operand: &Operand) -> Result<(&[u8], &[Expr]), Check
 }
 
 /// A name that may be assigned to: its type, and where it lies. A channel is the wrong argument here.
-fn given_variable(line: u32, known: &Known) -> Result<(Primitive, &Row), CheckFault>
-    ensures { Gives (λ r. (r.0, row_of r.1.now)) result (items.as_variable (known_of known.now)) }
+fn given_variable(line: u32, known: &Known) -> Result<(Primitive, &Stretch), CheckFault>
+    ensures { Gives (λ r. (r.0, stretch_of r.1.now)) result (items.as_variable (known_of known.now)) }
 {
     match known {
-        Known::Cells(Access::Assignable, primitive, row) => Ok((*primitive, row)),
+        Known::Cells(Access::Assignable, primitive, stretch) => Ok((*primitive, stretch)),
         Known::Channels(_, _) => Err(CheckFault::Arguments { line }),
         _ => Err(CheckFault::WrongKind { line }),
     }
 }
 
 /// A channel's name: what it carries, and where it lies. Variables and values are wrong arguments here.
-fn given_channels(line: u32, known: &Known) -> Result<(&Carried, &Row), CheckFault>
-    ensures { Gives (λ r. (carried_of r.0.now, row_of r.1.now)) result (items.as_channels (known_of known.now)) }
+fn given_channels(line: u32, known: &Known) -> Result<(&Carried, &Stretch), CheckFault>
+    ensures { Gives (λ r. (carried_of r.0.now, stretch_of r.1.now)) result (items.as_channels (known_of known.now)) }
 {
     match known {
-        Known::Channels(carried, row) => Ok((carried, row)),
+        Known::Channels(carried, stretch) => Ok((carried, stretch)),
         Known::Protocol(_) => Err(CheckFault::WrongKind { line }),
         _ => Err(CheckFault::Arguments { line }),
     }
@@ -76,10 +76,10 @@ fn variable_given(
     sizes: &[Option<u32>],
     primitive: Primitive,
     own: Primitive,
-    row: &Row,
+    stretch: &Stretch,
     given: Given,
 ) -> Result<Opened, CheckFault>
-    ensures { (n : Numbers) → Opens result n (variable_bound name.now sizes.now primitive own (row_of row.now) (given_of given n)) }
+    ensures { (n : Numbers) → Opens result n (variable_bound name.now sizes.now primitive own (stretch_of stretch.now) (given_of given n)) }
 {
     if is_same_type(own, primitive) && takes_sizes(sizes, given.left.as_slice()) {
         let Given {
@@ -87,8 +87,8 @@ fn variable_given(
             left,
             heads,
         } = given;
-        let row = part_of(alloc, row, subscripts, left)?;
-        let known = Known::Cells(Access::Assignable, own, row);
+        let stretch = part_of(alloc, stretch, subscripts, left)?;
+        let known = Known::Cells(Access::Assignable, own, stretch);
         Ok(Opened::one_behind(alloc, name, known, heads)?)
     } else {
         Err(CheckFault::Arguments { line })
@@ -103,10 +103,10 @@ fn channels_given(
     sizes: &[Option<u32>],
     carried: &Carried,
     own: &Carried,
-    row: &Row,
+    stretch: &Stretch,
     given: Given,
 ) -> Result<Opened, CheckFault>
-    ensures { (n : Numbers) → Opens result n (channels_bound name.now sizes.now (carried_of carried.now) (carried_of own.now) (row_of row.now) (given_of given n)) }
+    ensures { (n : Numbers) → Opens result n (channels_bound name.now sizes.now (carried_of carried.now) (carried_of own.now) (stretch_of stretch.now) (given_of given n)) }
 {
     if is_same_carried(carried, own) && takes_sizes(sizes, given.left.as_slice()) {
         let Given {
@@ -114,8 +114,8 @@ fn channels_given(
             left,
             heads,
         } = given;
-        let row = part_of(alloc, row, subscripts, left)?;
-        let known = Known::Channels(own.copy(alloc)?, row);
+        let stretch = part_of(alloc, stretch, subscripts, left)?;
+        let known = Known::Channels(own.copy(alloc)?, stretch);
         Ok(Opened::one_behind(alloc, name, known, heads)?)
     } else {
         Err(CheckFault::Arguments { line })
@@ -188,9 +188,9 @@ fn variable_actual(
 {
     let (x, es) = as_named(context.line, e)?;
     let known = known_name(context, x)?;
-    let (own, row) = given_variable(context.line, known)?;
+    let (own, stretch) = given_variable(context.line, known)?;
     let under = typed_subscripts(context, es)?;
-    row.left.few();
+    stretch.left.few();
     let given = all_evaluated(
         numbers,
         context.alloc,
@@ -198,7 +198,7 @@ fn variable_actual(
         depth,
         name,
         under,
-        row.left.as_slice(),
+        stretch.left.as_slice(),
     )?;
     variable_given(
         context.alloc,
@@ -207,7 +207,7 @@ fn variable_actual(
         sizes,
         primitive,
         own,
-        row,
+        stretch,
         given,
     )
 }
@@ -226,9 +226,9 @@ fn channels_actual(
 {
     let (x, es) = as_named(context.line, e)?;
     let known = known_name(context, x)?;
-    let (own, row) = given_channels(context.line, known)?;
+    let (own, stretch) = given_channels(context.line, known)?;
     let under = typed_subscripts(context, es)?;
-    row.left.few();
+    stretch.left.few();
     let given = all_evaluated(
         numbers,
         context.alloc,
@@ -236,7 +236,7 @@ fn channels_actual(
         depth,
         name,
         under,
-        row.left.as_slice(),
+        stretch.left.as_slice(),
     )?;
     channels_given(
         context.alloc,
@@ -245,7 +245,7 @@ fn channels_actual(
         sizes,
         carried,
         own,
-        row,
+        stretch,
         given,
     )
 }

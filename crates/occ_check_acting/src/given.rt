@@ -5,13 +5,13 @@ ghost use Rattle.occ_term.specs.ArraySizes.{AreFew};
 ghost use Rattle.occ_term.specs.View.{expression_of, subscripts};
 ghost use Rattle.occ_check_meaning.specs.Calls as meant;
 ghost use Rattle.occ_check_meaning.specs.Constants.{constant};
-ghost use Rattle.occ_check_names.specs.View.{evaluated_of, numbers_of, row_of};
+ghost use Rattle.occ_check_names.specs.View.{evaluated_of, numbers_of, stretch_of};
 ghost use Rattle.occ_check_names.specs.declared.numbers.Numbers.{Numbers};
 ghost use Rattle.occ_check_acting.specs.Call.{Evaluates, one_constant, part_under};
 
 use occ_check_names::constant::{constant_of, is_below};
 use occ_check_names::fault::CheckFault;
-use occ_check_names::known::{Evaluated, Row};
+use occ_check_names::known::{Evaluated, Stretch};
 use occ_check_names::measuring::count_declaration;
 use occ_check_names::numbers::Numbers;
 use occ_held::Held;
@@ -154,21 +154,21 @@ fn joined(first: Given, then: Given) -> Result<Given, AllocError>
     })
 }
 
-/// A row under the subscripts of an actual.
+/// A stretch under the subscripts of an actual.
 #[tactic(auto, using(crate::proofs::GivenSubscripts::joined_evaluated))]
 pub(crate) fn part_of(
     alloc: Global,
-    row: &Row,
+    stretch: &Stretch,
     under: Items<Evaluated>,
     left: Sizes,
-) -> Result<Row, AllocError>
-    ensures { IfOk result (λ part. row_of part ≡ part_under (row_of row.now) (subscripts (map evaluated_of under)) left) }
+) -> Result<Stretch, AllocError>
+    ensures { IfOk result (λ part. stretch_of part ≡ part_under (stretch_of stretch.now) (subscripts (map evaluated_of under)) left) }
 {
-    let mut all = Items::from_slice(alloc, row.subscripts.as_slice())?;
+    let mut all = Items::from_slice(alloc, stretch.subscripts.as_slice())?;
     all.append(under)?;
-    Ok(Row {
-        first: row.first,
-        sizes: row.sizes.copy(alloc)?,
+    Ok(Stretch {
+        first: stretch.first,
+        sizes: stretch.sizes.copy(alloc)?,
         subscripts: all,
         left,
     })

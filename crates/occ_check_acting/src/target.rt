@@ -4,7 +4,7 @@ ghost use Rattle.std.specs.Prelude.{◌≡◌, ◌∷◌, [], map};
 ghost use Rattle.occ_tree_grammar.specs.Lines.Views as lines;
 ghost use Rattle.occ_term.specs.View as terms;
 ghost use Rattle.occ_check_acting.specs.Action.{stored_one, takes};
-ghost use Rattle.occ_check_clashes.specs.Clash.{rows_at};
+ghost use Rattle.occ_check_clashes.specs.Clash.{stretches_at};
 ghost use Rattle.occ_check_typing.specs.Zipped.{zipped};
 ghost use Rattle.occ_check_meaning.specs.Expressions as expressions;
 ghost use Rattle.occ_check_meaning.specs.Items as meant;
@@ -150,7 +150,7 @@ fn each_stored(
 ///
 /// `ListTarget` for two that clash, and as `some_clash`.
 pub fn apart(alloc: Global, line: u32, targets: &[Target]) -> Result<(), CheckFault>
-    ensures { Gives (λ _. rows_at (terms.targets_of targets.now)) result (meant.apart (rows_at (terms.targets_of targets.now))) }
+    ensures { Gives (λ _. stretches_at (terms.targets_of targets.now)) result (meant.apart (stretches_at (terms.targets_of targets.now))) }
 {
     if some_clash(alloc, targets)? {
         Err(CheckFault::ListTarget { line })

@@ -4,7 +4,7 @@ use Rattle.std.specs.Prelude.{cond, ◌&&◌, ◌||◌}
 use Rattle.occ_term.specs.Values.{Span}
 use Rattle.occ_check_meaning.specs.Calls.{meets_one, some_meet}
 use Rattle.occ_check_meaning.specs.Items.{are_constant, clash, clashes_with_one, have_common, is_named_by, part_span, some_clash}
-use Rattle.occ_check_meaning.specs.Scope.{Row}
+use Rattle.occ_check_meaning.specs.Scope.{Stretch}
 use Rattle.occ_check_clashes.specs.Clash.{fixed_spans, is_named_with, is_one_named}
 
 -- whether the one is constant, the other, they meet, a later one meets, one names the other, a later one does
@@ -28,7 +28,7 @@ none_meets : (c : Bool) → false ≡ ((c && false) || false)
 none_meets true = refl
 none_meets false = refl
 
-with_one : (r : Row) (qs : List Row) → clashes_with_one r qs ≡ ((are_constant r.subscripts && meets_one (part_span r) (fixed_spans qs)) || is_named_with r qs)
+with_one : (r : Stretch) (qs : List Stretch) → clashes_with_one r qs ≡ ((are_constant r.subscripts && meets_one (part_span r) (fixed_spans qs)) || is_named_with r qs)
 with_one r [] = none_meets (are_constant r.subscripts)
 with_one r (q ∷ qs) =
     ap (λ b. clash r q || b) (with_one r qs)
@@ -49,15 +49,15 @@ some_fixed : (a : Span) (c : Bool) (spans : List Span) → some_meet (cond c (a 
 some_fixed a true spans = refl
 some_fixed a false spans = refl
 
-pub by_both : (rs : List Row) → some_clash rs ≡ (some_meet (fixed_spans rs) || is_one_named rs)
+pub by_both : (rs : List Stretch) → some_clash rs ≡ (some_meet (fixed_spans rs) || is_one_named rs)
 by_both [] = refl
 by_both (r ∷ rs) =
     (λ i. with_one r rs i || by_both rs i)
     ∙ all_more (are_constant r.subscripts) (meets_one (part_span r) (fixed_spans rs)) (is_named_with r rs) (some_meet (fixed_spans rs)) (is_one_named rs)
     ∙ ap (λ b. b || (is_named_with r rs || is_one_named rs)) (sym (some_fixed (part_span r) (are_constant r.subscripts) (fixed_spans rs)))
 
-pub by_parts : (rs : List Row) (spans : List Span) → spans ≡ fixed_spans rs → some_meet spans ≡ true → true ≡ some_clash rs
+pub by_parts : (rs : List Stretch) (spans : List Span) → spans ≡ fixed_spans rs → some_meet spans ≡ true → true ≡ some_clash rs
 by_parts rs spans same met = sym (by_both rs ∙ ap (λ b. b || is_one_named rs) (ap some_meet (sym same) ∙ met))
 
-pub by_names : (rs : List Row) (spans : List Span) → spans ≡ fixed_spans rs → some_meet spans ≡ false → is_one_named rs ≡ some_clash rs
+pub by_names : (rs : List Stretch) (spans : List Span) → spans ≡ fixed_spans rs → some_meet spans ≡ false → is_one_named rs ≡ some_clash rs
 by_names rs spans same apart = sym (by_both rs ∙ ap (λ b. b || is_one_named rs) (ap some_meet (sym same) ∙ apart))

@@ -1,4 +1,4 @@
--- What is read of so many cells, cell by cell and by rows.
+-- What is read of so many cells, cell by cell and by spans.
 use Rattle.std.proofs.Common.{◌≡◌, ◌∙◌, sym, ap, refl, ℕ, zero, suc, ◌+◌, ◌<◌, ◌≤◌, Bool, true, false, arith}
 use Rattle.std.specs.Prelude.{nat_eq, nat_le, nat_lt, ◌&&◌, ◌||◌}
 use Rattle.std.proofs.lemmas.Bool.Decides.{nat_tests}
@@ -44,7 +44,7 @@ has_either s t a (suc n) = ap (λ b. (s a || t a) || b) (has_either s t (a + 1) 
 has_none : (a n : ℕ) → has_some empty_set a n ≡ false
 has_none a n = misses empty_set a n (λ c low high. refl)
 
--- ---- two rows
+-- ---- two spans
 
 pub share_none : (f k a n : ℕ) → k ≡ 0 → shares (span f k) (span a n) ≡ false
 share_none f k a n none = misses (numbers_in (span f k)) a n (λ c low high. grind (arith, nat_tests, none))
@@ -52,7 +52,7 @@ share_none f k a n none = misses (numbers_in (span f k)) a n (λ c low high. gri
 pub none_share : (f k a n : ℕ) → n ≡ 0 → shares (span f k) (span a n) ≡ false
 none_share f k a n none = misses (numbers_in (span f k)) a n (λ c low high. absurd (omega (arith, none, low, high)))
 
--- rows with cells share one where each begins before the other ends
+-- spans with cells share one where each begins before the other ends
 pub share_is : (f k a n : ℕ) → 0 < k → 0 < n → shares (span f k) (span a n) ≡ (nat_lt a (f + k) && nat_lt f (a + n))
 share_is f k a n some others = by (nat_lt a (f + k) && nat_lt f (a + n)) refl
   where

@@ -11,30 +11,30 @@ use Rattle.occ_term.specs.Terms.{Expression, Constant, Cell, Component, Letter, 
 use Rattle.occ_term.specs.Uses.{part_named}
 use Rattle.occ_term.specs.Values.{Span, span}
 use Rattle.occ_check_meaning.specs.Items.{is_named_by, variable_span}
-use Rattle.occ_check_meaning.specs.Scope.{Row}
+use Rattle.occ_check_meaning.specs.Scope.{Stretch}
 use Rattle.occ_check_clashes.specs.Clash.{begins_at, below, ends_at, is_named_with, is_one_named, meets_another, one_names_another, reads_some, shares, some_in_place, some_in_subscripts, variable_spans}
 use Rattle.occ_check_clashes.proofs.NamedCells.{either_of, named_is, none_share, share_is, share_none, sharing}
 
--- ---- each row with those before it and those behind it
+-- ---- each stretch with those before it and those behind it
 
--- a subscript of the row names the variable of one of the others
-abbrev names_one_of : Row → List Row → Bool
+-- a subscript of the stretch names the variable of one of the others
+abbrev names_one_of : Stretch → List Stretch → Bool
 names_one_of r [] = false
 names_one_of r (q ∷ qs) = is_named_by q r || names_one_of r qs
 
-abbrev is_named_in : Row → List Row → Bool
+abbrev is_named_in : Stretch → List Stretch → Bool
 is_named_in r [] = false
 is_named_in r (q ∷ qs) = is_named_by r q || is_named_in r qs
 
-abbrev naming : List Row → List Row → Bool
+abbrev naming : List Stretch → List Stretch → Bool
 naming before [] = false
 naming before (r ∷ rs) = (names_one_of r before || names_one_of r rs) || naming (r ∷ before) rs
 
-abbrev across : List Row → List Row → Bool
+abbrev across : List Stretch → List Stretch → Bool
 across before [] = false
 across before (r ∷ rs) = names_one_of r before || across before rs
 
-both_ways : (r : Row) (rs : List Row) → is_named_with r rs ≡ (names_one_of r rs || is_named_in r rs)
+both_ways : (r : Stretch) (rs : List Stretch) → is_named_with r rs ≡ (names_one_of r rs || is_named_in r rs)
 both_ways r [] = refl
 both_ways r (q ∷ qs) = ap (λ b. (is_named_by r q || is_named_by q r) || b) (both_ways r qs) ∙ by (is_named_by r q) (is_named_by q r) (names_one_of r qs) (is_named_in r qs)
   where
@@ -45,7 +45,7 @@ both_ways r (q ∷ qs) = ap (λ b. (is_named_by r q || is_named_by q r) || b) (b
     by false true c d = refl
     by false false c d = refl
 
-across_more : (r : Row) (before rs : List Row) → across (r ∷ before) rs ≡ (is_named_in r rs || across before rs)
+across_more : (r : Stretch) (before rs : List Stretch) → across (r ∷ before) rs ≡ (is_named_in r rs || across before rs)
 across_more r before [] = refl
 across_more r before (q ∷ rs) =
     ap (λ b. (is_named_by r q || names_one_of q before) || b) (across_more r before rs)
@@ -63,17 +63,17 @@ regrouped false false true false c = refl
 regrouped false false false true c = refl
 regrouped false false false false c = refl
 
-naming_is : (before rs : List Row) → naming before rs ≡ (is_one_named rs || across before rs)
+naming_is : (before rs : List Stretch) → naming before rs ≡ (is_one_named rs || across before rs)
 naming_is before [] = refl
 naming_is before (r ∷ rs) =
     ap (λ b. (names_one_of r before || names_one_of r rs) || b) (naming_is (r ∷ before) rs ∙ ap (λ b. is_one_named rs || b) (across_more r before rs))
     ∙ regrouped (names_one_of r rs) (is_named_in r rs) (is_one_named rs) (names_one_of r before) (across before rs)
     ∙ ap (λ b. (b || is_one_named rs) || (names_one_of r before || across before rs)) (sym (both_ways r rs))
 
-naming_all : (rs : List Row) → naming [] rs ≡ is_one_named rs
+naming_all : (rs : List Stretch) → naming [] rs ≡ is_one_named rs
 naming_all rs = naming_is [] rs ∙ ap (λ b. is_one_named rs || b) (none rs) ∙ or_false (is_one_named rs)
   where
-    none : (rs : List Row) → across [] rs ≡ false
+    none : (rs : List Stretch) → across [] rs ≡ false
     none [] = refl
     none (r ∷ rs) = none rs
 
@@ -129,11 +129,11 @@ mutual
   subscripts_nothing (then_subscript e es) = neither (reads_some (λ s. false) e) (some_in_subscripts (λ s. false) es) (reads_nothing e) (subscripts_nothing es)
 
 -- cells that one of the variables has too
-abbrev shared_by : List Row → Span → Bool
+abbrev shared_by : List Stretch → Span → Bool
 shared_by [] s = false
 shared_by (q ∷ qs) s = shares s (variable_span q) || shared_by qs s
 
-names_is : (r : Row) (qs : List Row) → some_in_subscripts (λ s. shared_by qs s) r.subscripts ≡ names_one_of r qs
+names_is : (r : Stretch) (qs : List Stretch) → some_in_subscripts (λ s. shared_by qs s) r.subscripts ≡ names_one_of r qs
 names_is r [] = subscripts_nothing r.subscripts
 names_is r (q ∷ qs) =
     subscripts_either (sharing (variable_span q)) (λ s. shared_by qs s) r.subscripts
@@ -144,7 +144,7 @@ names_is r (q ∷ qs) =
 abbrev bit : Bool → ℕ
 bit b = cond b 1 0
 
-abbrev sharers : List Row → Span → ℕ
+abbrev sharers : List Stretch → Span → ℕ
 sharers [] s = 0
 sharers (q ∷ qs) s = bit (shares s (variable_span q)) + sharers qs s
 
@@ -181,13 +181,13 @@ one_counted f k a n some = by (nat_eq n 0) refl
             (λ i. bit (nat_lt a (f + k) && g i) + bit (over i)) ∙ last (nat_lt a (f + k)) ∙ sym (ap bit before)
 
 -- where variables begin and end, so many of them below a limit
-abbrev begun : ℕ → List Row → ℕ
+abbrev begun : ℕ → List Stretch → ℕ
 begun limit rs = below limit (map begins_at (variable_spans rs))
 
-abbrev over : ℕ → List Row → ℕ
+abbrev over : ℕ → List Stretch → ℕ
 over limit rs = below limit (map ends_at (variable_spans rs))
 
-counted : (f k : ℕ) (rs : List Row) → 0 < k → sharers rs (span f k) + over (f + 1) rs ≡ begun (f + k) rs
+counted : (f k : ℕ) (rs : List Stretch) → 0 < k → sharers rs (span f k) + over (f + 1) rs ≡ begun (f + k) rs
 counted f k [] some = refl
 counted f k (r ∷ rs) some =
     let one : bit (shares (span f k) (variable_span r)) + bit (nat_lt (ends_at (variable_span r)) (f + 1)) ≡ bit (nat_lt (begins_at (variable_span r)) (f + k)) =
@@ -205,7 +205,7 @@ some_of m n = by (nat_lt 0 m) refl
     by true e = grind (arith, nat_tests, e)
     by false e = grind (arith, nat_tests, e)
 
-shared_is : (rs : List Row) (s : Span) → shared_by rs s ≡ nat_lt 0 (sharers rs s)
+shared_is : (rs : List Stretch) (s : Span) → shared_by rs s ≡ nat_lt 0 (sharers rs s)
 shared_is [] s = refl
 shared_is (r ∷ rs) s = (λ i. some_is (shares s (variable_span r)) i || shared_is rs s i) ∙ some_of (bit (shares s (variable_span r))) (sharers rs s)
   where
@@ -213,17 +213,17 @@ shared_is (r ∷ rs) s = (λ i. some_is (shares s (variable_span r)) i || shared
     some_is true = refl
     some_is false = refl
 
-none_shared : (rs : List Row) (f k : ℕ) → k ≡ 0 → shared_by rs (span f k) ≡ false
+none_shared : (rs : List Stretch) (f k : ℕ) → k ≡ 0 → shared_by rs (span f k) ≡ false
 none_shared [] f k none = refl
 none_shared (r ∷ rs) f k none = neither (shares (span f k) (variable_span r)) (shared_by rs (span f k)) (share_none f k r.first (product r.sizes) none) (none_shared rs f k none)
 
--- ---- rows whose variables begin and end as the two lists say, in any order
+-- ---- stretches whose variables begin and end as the two lists say, in any order
 
-record Counted (firsts ends : List ℕ) (before rs : List Row) : Type 0 where
+record Counted (firsts ends : List ℕ) (before rs : List Stretch) : Type 0 where
   begun_is : (limit : ℕ) → below limit firsts ≡ begun limit before + begun limit rs
   over_is : (limit : ℕ) → below limit ends ≡ over limit before + over limit rs
 
-counted_next : (firsts ends : List ℕ) (before : List Row) (r : Row) (rs : List Row) → Counted firsts ends before (r ∷ rs) → Counted firsts ends (r ∷ before) rs
+counted_next : (firsts ends : List ℕ) (before : List Stretch) (r : Stretch) (rs : List Stretch) → Counted firsts ends before (r ∷ rs) → Counted firsts ends (r ∷ before) rs
 counted_next firsts ends before r rs all =
     record {
       begun_is = λ limit. all.begun_is limit ∙ moved (begun limit before) (bit (nat_lt (begins_at (variable_span r)) limit)) (begun limit rs);
@@ -240,7 +240,7 @@ one_later own ended begun before after is = by (nat_lt 0 (before + after)) refl
     by true e = grind (arith, nat_tests, e, is)
     by false e = grind (arith, nat_tests, e, is)
 
-meets_is : (firsts ends : List ℕ) (before : List Row) (r : Row) (rs : List Row) → Counted firsts ends before (r ∷ rs)
+meets_is : (firsts ends : List ℕ) (before : List Stretch) (r : Stretch) (rs : List Stretch) → Counted firsts ends before (r ∷ rs)
     → (s : Span) → meets_another firsts ends (variable_span r) s ≡ (shared_by before s || shared_by rs s)
 meets_is firsts ends before r rs all (span f k) = by (nat_eq k 0) refl
   where
@@ -264,7 +264,7 @@ meets_is firsts ends before r rs all (span f k) = by (nat_eq k 0) refl
         total : (a b c ea ec ba bc firsts ends : ℕ) → a + ea ≡ ba → (b + c) + ec ≡ bc → firsts ≡ ba + bc → ends ≡ ea + ec → firsts ≡ ((a + b) + c) + ends
         total a b c ea ec ba bc firsts ends h k l m = omega (arith, h, k, l, m)
 
-naming_sorted : (firsts ends : List ℕ) (before rs : List Row) → Counted firsts ends before rs → one_names_another firsts ends rs ≡ naming before rs
+naming_sorted : (firsts ends : List ℕ) (before rs : List Stretch) → Counted firsts ends before rs → one_names_another firsts ends rs ≡ naming before rs
 naming_sorted firsts ends before [] all = refl
 naming_sorted firsts ends before (r ∷ rs) all =
     λ i. (ap (λ test. some_in_subscripts test r.subscripts) (λ j s. meets_is firsts ends before r rs all s j)
@@ -279,7 +279,7 @@ below_is limit (n ∷ ns) = ap (λ m. cond (nat_lt n limit) 1 0 + m) (below_is l
 below_permuted : (limit : ℕ) (ms ns : List ℕ) → IsPermutation ms ns → below limit ns ≡ below limit ms
 below_permuted limit ms ns same = below_is limit ns ∙ sum_by-IsPermutation (λ n. cond (nat_lt n limit) 1 0) ms ns same ∙ sym (below_is limit ms)
 
-pub named_by_sorted : (rs : List Row) (begins firsts stops ends : List ℕ) → begins ≡ map begins_at (variable_spans rs) → stops ≡ map ends_at (variable_spans rs)
+pub named_by_sorted : (rs : List Stretch) (begins firsts stops ends : List ℕ) → begins ≡ map begins_at (variable_spans rs) → stops ≡ map ends_at (variable_spans rs)
     → IsPermutation begins firsts → IsPermutation stops ends → one_names_another firsts ends rs ≡ is_one_named rs
 named_by_sorted rs begins firsts stops ends begin stop same alike =
     naming_sorted firsts ends [] rs

@@ -10,45 +10,45 @@ use Rattle.occ_term.specs.Uses.{numbers_in, part_named}
 use Rattle.occ_term.specs.Values.{Span, span}
 use Rattle.occ_term.specs.View.{place_of}
 use Rattle.occ_term.specs.declared.expression.Place.{Place as PlaceTree}
-use Rattle.occ_check_meaning.specs.Scope.{Row}
+use Rattle.occ_check_meaning.specs.Scope.{Stretch}
 use Rattle.occ_check_meaning.specs.Items.{are_constant, has_of, is_named_by, part_span, variable_span}
 use Rattle.occ_check_typing.specs.Spans.{span_of}
 use Rattle.occ_check_clashes.specs.declared.naming.Others.{Others}
 
--- the row that a place is of, without the sizes that are left
-abbrev pub row_at : T.Place → Row
-row_at (T.place line first sizes subs) = record { first = first; sizes = sizes; subscripts = subs; left = [] }
+-- the stretch that a place is of, without the sizes that are left
+abbrev pub stretch_at : T.Place → Stretch
+stretch_at (T.place line first sizes subs) = record { first = first; sizes = sizes; subscripts = subs; left = [] }
 
-abbrev pub rows_at : List T.Target → List Row
-rows_at [] = []
-rows_at (T.Into p ∷ ts) = row_at p ∷ rows_at ts
-rows_at (T.IntoCounted line n a ∷ ts) = row_at n ∷ row_at a ∷ rows_at ts
+abbrev pub stretches_at : List T.Target → List Stretch
+stretches_at [] = []
+stretches_at (T.Into p ∷ ts) = stretch_at p ∷ stretches_at ts
+stretches_at (T.IntoCounted line n a ∷ ts) = stretch_at n ∷ stretch_at a ∷ stretches_at ts
 
-abbrev pub rows_of : List (Bor PlaceTree) → List Row
-rows_of ps = map (λ p. row_at (place_of p.now)) ps
+abbrev pub stretches_of : List (Bor PlaceTree) → List Stretch
+stretches_of ps = map (λ p. stretch_at (place_of p.now)) ps
 
--- the parts of the rows with constant subscripts
-abbrev pub fixed_spans : List Row → List Span
+-- the parts of the stretches with constant subscripts
+abbrev pub fixed_spans : List Stretch → List Span
 fixed_spans [] = []
 fixed_spans (r ∷ rs) = cond (are_constant r.subscripts) (part_span r ∷ fixed_spans rs) (fixed_spans rs)
 
--- a subscript of the one row names the variable of the other, for the first row and a later one
-abbrev pub is_named_with : Row → List Row → Bool
+-- a subscript of the one stretch names the variable of the other, for the first stretch and a later one
+abbrev pub is_named_with : Stretch → List Stretch → Bool
 is_named_with r [] = false
 is_named_with r (q ∷ qs) = (is_named_by r q || is_named_by q r) || is_named_with r qs
 
--- .. for two of the rows
-abbrev pub is_one_named : List Row → Bool
+-- .. for two of the stretches
+abbrev pub is_one_named : List Stretch → Bool
 is_one_named [] = false
 is_one_named (r ∷ rs) = is_named_with r rs || is_one_named rs
 
--- whether two rows have a cell in common
+-- whether two spans have a cell in common
 abbrev pub shares : Span → Span → Bool
 shares a b = has_of (numbers_in a) b
 
 -- ---- where variables begin and end: both 0 for one without a cell
 
-abbrev pub variable_spans : List Row → List Span
+abbrev pub variable_spans : List Stretch → List Span
 variable_spans rs = map variable_span rs
 
 abbrev pub begins_at : Span → ℕ
@@ -97,10 +97,10 @@ abbrev mutual
   some_in_subscripts test no_subscripts = false
   some_in_subscripts test (then_subscript e es) = reads_some test e || some_in_subscripts test es
 
--- a subscript of the row names another variable than its own
-abbrev pub names_another : List ℕ → List ℕ → Row → Bool
+-- a subscript of the stretch names another variable than its own
+abbrev pub names_another : List ℕ → List ℕ → Stretch → Bool
 names_another firsts ends r = some_in_subscripts (meets_another firsts ends (variable_span r)) r.subscripts
 
-abbrev pub one_names_another : List ℕ → List ℕ → List Row → Bool
+abbrev pub one_names_another : List ℕ → List ℕ → List Stretch → Bool
 one_names_another firsts ends [] = false
 one_names_another firsts ends (r ∷ rs) = names_another firsts ends r || one_names_another firsts ends rs

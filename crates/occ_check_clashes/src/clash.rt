@@ -4,9 +4,9 @@
 ghost use Rattle.std.specs.Prelude.{◌≡◌, IfOk, map};
 ghost use Rattle.occ_term.specs.View.{expression_of, subscripts, targets_of};
 ghost use Rattle.occ_check_meaning.specs.Items as meant;
-ghost use Rattle.occ_check_clashes.specs.Clash.{rows_at};
+ghost use Rattle.occ_check_clashes.specs.Clash.{stretches_at};
 ghost use Rattle.occ_check_typing.specs.Spans.{span_of};
-ghost use Rattle.occ_check_clashes.specs.Clash.{fixed_spans, rows_of};
+ghost use Rattle.occ_check_clashes.specs.Clash.{fixed_spans, stretches_of};
 
 use crate::named::span_named;
 use crate::naming::some_names_another;
@@ -21,7 +21,7 @@ use std::alloc::{AllocError, Global};
 ///
 /// A refused growth.
 pub fn some_clash(alloc: Global, targets: &[Target]) -> Result<bool, AllocError>
-    ensures { IfOk result (λ clash. clash ≡ meant.some_clash (rows_at (targets_of targets.now))) }
+    ensures { IfOk result (λ clash. clash ≡ meant.some_clash (stretches_at (targets_of targets.now))) }
 {
     let places = places_of(alloc, targets)?;
     some_places_clash(alloc, &places)
@@ -29,7 +29,7 @@ pub fn some_clash(alloc: Global, targets: &[Target]) -> Result<bool, AllocError>
 
 /// The places of targets, in order.
 fn places_of(alloc: Global, targets: &[Target]) -> Result<Vec<&Place>, AllocError>
-    ensures { IfOk result (λ places. rows_of places.items ≡ rows_at (targets_of targets.now)) }
+    ensures { IfOk result (λ places. stretches_of places.items ≡ stretches_at (targets_of targets.now)) }
 {
     let mut places = Vec::new(alloc);
     for target in targets {
@@ -47,7 +47,7 @@ fn places_of(alloc: Global, targets: &[Target]) -> Result<Vec<&Place>, AllocErro
 /// Whether two places clash: the parts of two with constant subscripts share a component, or a subscript of one names the
 /// variable of another.
 fn some_places_clash(alloc: Global, places: &[&Place]) -> Result<bool, AllocError>
-    ensures { IfOk result (λ clash. clash ≡ meant.some_clash (rows_of places.now)) }
+    ensures { IfOk result (λ clash. clash ≡ meant.some_clash (stretches_of places.now)) }
 {
     let parts = fixed_parts(alloc, places)?;
     if some_meet(parts) {
@@ -58,7 +58,7 @@ fn some_places_clash(alloc: Global, places: &[&Place]) -> Result<bool, AllocErro
 
 /// The parts that places with constant subscripts name.
 fn fixed_parts(alloc: Global, places: &[&Place]) -> Result<Vec<Span>, AllocError>
-    ensures { IfOk result (λ parts. map span_of parts.items ≡ fixed_spans (rows_of places.now)) }
+    ensures { IfOk result (λ parts. map span_of parts.items ≡ fixed_spans (stretches_of places.now)) }
 {
     let mut parts = Vec::new(alloc);
     for place in places {

@@ -6,7 +6,7 @@ ghost use Rattle.occ_term.specs.ArraySizes.{AreFew};
 ghost use Rattle.occ_term.specs.Uses as uses;
 ghost use Rattle.occ_term.specs.View.{expression_of, place_of, subscripts};
 ghost use Rattle.occ_check_meaning.specs.Items as meant;
-ghost use Rattle.occ_check_clashes.specs.Clash.{row_at};
+ghost use Rattle.occ_check_clashes.specs.Clash.{stretch_at};
 ghost use Rattle.occ_check_typing.specs.Spans.{span_of};
 
 use occ_check_names::constant::constant_of;
@@ -17,7 +17,7 @@ use occ_term::{Place, TermExpr};
 
 /// The whole variable.
 pub(crate) fn whole_of(place: &Place) -> Span
-    ensures span { span_of result ≡ meant.variable_span (row_at (place_of place.now)) }
+    ensures span { span_of result ≡ meant.variable_span (stretch_at (place_of place.now)) }
     ensures few { result.first + product place.now.sizes < 2 ^ 33 }
     ensures count { result.first + result.count < 2 ^ 33 }
 {
@@ -29,7 +29,7 @@ pub(crate) fn whole_of(place: &Place) -> Span
 
 /// The part of it that constant subscripts name.
 pub(crate) fn span_named(place: &Place) -> Span
-    ensures span { span_of result ≡ meant.part_span (row_at (place_of place.now)) }
+    ensures span { span_of result ≡ meant.part_span (stretch_at (place_of place.now)) }
     ensures few { result.first + result.count < 2 ^ 33 }
 {
     let whole = whole_of(place);

@@ -6,8 +6,8 @@ ghost use Rattle.occ_term.specs.Terms.{Component};
 ghost use Rattle.occ_term.specs.Uses as uses;
 ghost use Rattle.occ_term.specs.Values.{span};
 ghost use Rattle.occ_term.specs.View.{expression_of, place_of, subscripts};
-ghost use Rattle.occ_check_clashes.specs.Clash.{row_at};
-ghost use Rattle.occ_check_clashes.specs.Clash.{AreSorted, begins_at, below, ends_at, is_one_named, met_by, names_another, reads_some, rows_of, shares, some_in_subscripts, one_names_another, variable_spans};
+ghost use Rattle.occ_check_clashes.specs.Clash.{stretch_at};
+ghost use Rattle.occ_check_clashes.specs.Clash.{AreSorted, begins_at, below, ends_at, is_one_named, met_by, names_another, reads_some, stretches_of, shares, some_in_subscripts, one_names_another, variable_spans};
 ghost use Rattle.occ_check_typing.specs.Spans.{span_of};
 
 use crate::named::{span_named, whole_of};
@@ -18,7 +18,7 @@ use std::alloc::{AllocError, Global};
 /// Whether a subscript of one of the places names the variable of another. Where all variables begin and end is sorted, so
 /// that how many of them some cells meet is found without a look at each.
 pub(crate) fn some_names_another(alloc: Global, places: &[&Place]) -> Result<bool, AllocError>
-    ensures { IfOk result (λ named. named ≡ is_one_named (rows_of places.now)) }
+    ensures { IfOk result (λ named. named ≡ is_one_named (stretches_of places.now)) }
 {
     let mut firsts = firsts_of(alloc, places)?;
     let mut ends = ends_of(alloc, places)?;
@@ -29,7 +29,7 @@ pub(crate) fn some_names_another(alloc: Global, places: &[&Place]) -> Result<boo
 
 /// Where the variables of places begin.
 fn firsts_of(alloc: Global, places: &[&Place]) -> Result<Vec<u64>, AllocError>
-    ensures { IfOk result (λ firsts. firsts.items ≡ map begins_at (variable_spans (rows_of places.now))) }
+    ensures { IfOk result (λ firsts. firsts.items ≡ map begins_at (variable_spans (stretches_of places.now))) }
 {
     let mut firsts = Vec::new(alloc);
     for place in places {
@@ -40,7 +40,7 @@ fn firsts_of(alloc: Global, places: &[&Place]) -> Result<Vec<u64>, AllocError>
 
 /// Where they end.
 fn ends_of(alloc: Global, places: &[&Place]) -> Result<Vec<u64>, AllocError>
-    ensures { IfOk result (λ ends. ends.items ≡ map ends_at (variable_spans (rows_of places.now))) }
+    ensures { IfOk result (λ ends. ends.items ≡ map ends_at (variable_spans (stretches_of places.now))) }
 {
     let mut ends = Vec::new(alloc);
     for place in places {
@@ -72,7 +72,7 @@ fn end_of(cells: Span) -> u64
 fn one_names_another(firsts: &[u64], ends: &[u64], places: &[&Place]) -> bool
     requires firsts { IsNonDecreasingBy (λ n. n) firsts.now }
     requires ends { IsNonDecreasingBy (λ n. n) ends.now }
-    ensures { result ≡ one_names_another firsts.now ends.now (rows_of places.now) }
+    ensures { result ≡ one_names_another firsts.now ends.now (stretches_of places.now) }
 {
     for place in places {
         if names_another(firsts, ends, place) {
@@ -86,7 +86,7 @@ fn one_names_another(firsts: &[u64], ends: &[u64], places: &[&Place]) -> bool
 fn names_another(firsts: &[u64], ends: &[u64], place: &Place) -> bool
     requires firsts { IsNonDecreasingBy (λ n. n) firsts.now }
     requires ends { IsNonDecreasingBy (λ n. n) ends.now }
-    ensures { result ≡ names_another firsts.now ends.now (row_at (place_of place.now)) }
+    ensures { result ≡ names_another firsts.now ends.now (stretch_at (place_of place.now)) }
 {
     let own = whole_of(place);
     let others = Others { firsts, ends, own };

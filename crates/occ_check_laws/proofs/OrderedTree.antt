@@ -43,7 +43,7 @@ use Rattle.occ_check_laws.proofs.OrderedNames.{both_in_order, heads_in_order, na
 use Rattle.occ_check_laws.proofs.Copies.{copies_typed, first_typed, next_typed}
 use Rattle.occ_check_laws.proofs.TypedTree.{In, named, have, later, roomy, one_has, all_have, within_index}
 
--- ---- lists of rows
+-- ---- lists of spans
 
 with_nil : (xs : List Span) → xs ++ [] ≡ xs
 with_nil [] = refl
@@ -119,7 +119,7 @@ output_cells ns line v o os t e =
     let d = bind_some (sent ns line c.0.0 o os) _ t c.2 in
     no_cells_in _ t refl (some_is _ t d.2)
 
--- ---- rows from the cells of some numbers to those of others
+-- ---- spans from the cells of some numbers to those of others
 
 abbrev pub Takes : Numbers → List Span → Numbers → Type 0
 Takes n xs m = InOrder (length n.cells) xs (length m.cells)

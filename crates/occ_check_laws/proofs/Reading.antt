@@ -37,8 +37,8 @@ nothing_there c d = by_test (nat_eq c c) (same_cell c)
     by_test false h = absurd cc
 
 module _ (types : ℕ → Option Primitive) (c : ℕ) (none : types c ≡ None) where
-  row_unread : (first : ℕ) (sizes : List ℕ) (subs : Subscripts) (type : Primitive) → CellsHave types (span first (product sizes)) type → Not (numbers_in (part_named subs first sizes (span first (product sizes))) c)
-  row_unread first sizes subs type h =
+  span_unread : (first : ℕ) (sizes : List ℕ) (subs : Subscripts) (type : Primitive) → CellsHave types (span first (product sizes)) type → Not (numbers_in (part_named subs first sizes (span first (product sizes))) c)
+  span_unread first sizes subs type h =
       let n : Not (numbers_in (span first (product sizes)) c) = λ m. no_type none (h c m) in
       part_avoids c subs first sizes (span first (product sizes)) n n
 
@@ -47,7 +47,7 @@ module _ (types : ℕ → Option Primitive) (c : ℕ) (none : types c ≡ None) 
     unread (Constant v) type h m = absurd cc
     unread (T.Cell x) type h m = no_type none (subst (λ k. types k ≡ Some type) (eqb-true x c m) h)
     unread (Component (place line first sizes subs)) type h m =
-        either_false (numbers_in (part_named subs first sizes (span first (product sizes))) c) (reads_in_subscripts subs c) (row_unread first sizes subs type h.0) (subscripts_unread subs sizes [] h.1) m
+        either_false (numbers_in (part_named subs first sizes (span first (product sizes))) c) (reads_in_subscripts subs c) (span_unread first sizes subs type h.0) (subscripts_unread subs sizes [] h.1) m
     unread (Letter line text e) type h m = unread e Int h.2 m
     unread (Binary op t line a b) type h m = either_false (reads_of a c) (reads_of b c) (unread a t h.2) (unread b h.0 h.3) m
     unread (Unary monadic.Negate t line a) type h m = unread a t h.2 m
@@ -64,7 +64,7 @@ module _ (types : ℕ → Option Primitive) (c : ℕ) (none : types c ≡ None) 
 
   array_unread : (a : Array) (type : Primitive) (sizes : List ℕ) → ArrayHas types a type sizes → Not (reads_of_array a c)
   array_unread (Cells (place line first sizes subs)) type rest h m =
-      either_false (numbers_in (part_named subs first sizes (span first (product sizes))) c) (reads_in_subscripts subs c) (row_unread first sizes subs type h.0) (subscripts_unread subs sizes rest h.1) m
+      either_false (numbers_in (part_named subs first sizes (span first (product sizes))) c) (reads_in_subscripts subs c) (span_unread first sizes subs type h.0) (subscripts_unread subs sizes rest h.1) m
   array_unread (Text bytes) type rest h m = absurd cc
 
   pub item_unread : (i : Item) (sizes : List ℕ) (type : Primitive) → ItemHas types i (simple_part sizes type) → Not (reads_of_item i c)

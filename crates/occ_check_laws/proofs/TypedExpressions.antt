@@ -23,11 +23,11 @@ use Rattle.occ_term.specs.Values.{span}
 use Rattle.occ_term.specs.Uses.{numbers_in}
 use Rattle.occ_term.specs.Typing.{is_number, is_arithmetic, is_shift, is_equality, is_order, Takes, takes_arithmetic, takes_shift, takes_after, takes_equality, takes_order, HasType, SubscriptsLeave}
 use Rattle.occ_term.specs.TermTyping.{Declared}
-use Rattle.occ_check_meaning.specs.Scope.{keep, Row, Known, a_value, a_string, some_cells, some_channels, a_protocol, Names}
+use Rattle.occ_check_meaning.specs.Scope.{keep, Stretch, Known, a_value, a_string, some_cells, some_channels, a_protocol, Names}
 use Rattle.occ_check_meaning.specs.Constants.{constant, is_within}
 use Rattle.occ_check_meaning.specs.Operators.{primitive_of, is_same_type, operator_of, result_of}
-use Rattle.occ_check_meaning.specs.Expressions.{Typed, single, whole, as_single, of_type, constant_of, are_bytes, string_of, whole_string, typed_literal, joined, left_by, under, read_one, read_row, read, two_typed, one_typed, logic_of, truth_of, limit_of, typed, typed_chain, typed_operand, typed_subscripts, size_of_operand}
-use Rattle.occ_check_laws.specs.Having.{RowHas, KnownHas, NamesHave, TypedHas, SubscriptsHave}
+use Rattle.occ_check_meaning.specs.Expressions.{Typed, single, whole, as_single, of_type, constant_of, are_bytes, string_of, whole_string, typed_literal, joined, left_by, under, read_one, read_stretch, read, two_typed, one_typed, logic_of, truth_of, limit_of, typed, typed_chain, typed_operand, typed_subscripts, size_of_operand}
+use Rattle.occ_check_laws.specs.Having.{StretchHas, KnownHas, NamesHave, TypedHas, SubscriptsHave}
 use Rattle.occ_check_meaning.proofs.Steps.{bind_some, some_is}
 use Rattle.occ_check_laws.proofs.Counting.{kept, both_true}
 
@@ -118,18 +118,18 @@ module _ (types : ℕ → Option Primitive) where
   leaves_joined (then_subscript d ds) es [] left rest h g = absurd h
   leaves_joined (then_subscript d ds) es (n ∷ ns) left rest h g = (h.0, leaves_joined ds es ns left rest h.1 g)
 
-  pub under_has : (type : Primitive) (r q : Row) (es : Subscripts) → RowHas types type r → SubscriptsHave types es → under r es ≡ Some q → RowHas types type q
+  pub under_has : (type : Primitive) (r q : Stretch) (es : Subscripts) → StretchHas types type r → SubscriptsHave types es → under r es ≡ Some q → StretchHas types type q
   under_has type r q es h g e =
       let k = bind_some (left_by es r.left) _ q e in
-      subst (RowHas types type) (some_is _ q k.2) (h.0, leaves_joined r.subscripts es r.sizes r.left k.0 h.1 (leaves es r.left k.0 g k.1))
+      subst (StretchHas types type) (some_is _ q k.2) (h.0, leaves_joined r.subscripts es r.sizes r.left k.0 h.1 (leaves es r.left k.0 g k.1))
 
-  read_one_has : (line : ℕ) (type : Primitive) (r : Row) (sizes : List ℕ) → r.sizes ≡ sizes → RowHas types type r → r.left ≡ [] → HasType types (read_one line r sizes) type
+  read_one_has : (line : ℕ) (type : Primitive) (r : Stretch) (sizes : List ℕ) → r.sizes ≡ sizes → StretchHas types type r → r.left ≡ [] → HasType types (read_one line r sizes) type
   read_one_has line type r [] e h g = h.0 r.first (subst (λ y. IsTrue (numbers_in (span r.first (product y)) r.first)) (sym e) (in_one r.first))
   read_one_has line type r (n ∷ ns) e h g = (h.0, subst (λ y. SubscriptsLeave types r.subscripts r.sizes y) g h.1)
 
-  read_row_has : (line : ℕ) (type : Primitive) (r : Row) (left : List ℕ) → r.left ≡ left → RowHas types type r → TypedHas types (read_row line type r left)
-  read_row_has line type r [] e h = read_one_has line type r r.sizes refl h e
-  read_row_has line type r (n ∷ ns) e h = (h.0, subst (λ y. SubscriptsLeave types r.subscripts r.sizes y) e h.1)
+  read_stretch_has : (line : ℕ) (type : Primitive) (r : Stretch) (left : List ℕ) → r.left ≡ left → StretchHas types type r → TypedHas types (read_stretch line type r left)
+  read_stretch_has line type r [] e h = read_one_has line type r r.sizes refl h e
+  read_stretch_has line type r (n ∷ ns) e h = (h.0, subst (λ y. SubscriptsLeave types r.subscripts r.sizes y) e h.1)
 
   string_has : (bytes : List ℤ) → AllOf Byte bytes → TypedHas types (whole_string bytes)
   string_has bytes h = (refl, refl, h)
@@ -143,7 +143,7 @@ module _ (d : Declared) where
   read_has line (a_string bytes) (then_subscript a (then_subscript b es)) t h g e = absurd cc
   read_has line (some_cells access type r) es t h g e =
       let q = bind_some (under r es) _ t e in
-      subst (TypedHas d.types) (some_is _ t q.2) (read_row_has d.types line type q.0 q.0.left refl (under_has d.types type r q.0 es h g q.1))
+      subst (TypedHas d.types) (some_is _ t q.2) (read_stretch_has d.types line type q.0 q.0.left refl (under_has d.types type r q.0 es h g q.1))
   read_has line (some_channels c r) es t h g e = absurd cc
   read_has line (a_protocol c) es t h g e = absurd cc
 

@@ -18,14 +18,14 @@ use Rattle.occ_term.specs.Terms.{Place, Item, OfOne, OfMany, OfCounted, Target, 
 use Rattle.occ_term.specs.Values.{span}
 use Rattle.occ_term.specs.Typing.{CellsHave, HasType, PlaceHas, SubscriptsLeave, ArrayHas, ItemHas, TargetHas}
 use Rattle.occ_term.specs.TermTyping.{Declared, ChannelHas, ItemsHave, TargetsHave, value_parts, TermHas}
-use Rattle.occ_check_meaning.specs.Scope.{each_of, Row, assignable, kept as kept_access, Carried, Known, a_value, a_string, some_cells, some_channels, a_protocol, Names}
+use Rattle.occ_check_meaning.specs.Scope.{each_of, Stretch, assignable, kept as kept_access, Carried, Known, a_value, a_string, some_cells, some_channels, a_protocol, Names}
 use Rattle.occ_check_meaning.specs.Operators.{is_same_type}
 use Rattle.occ_check_meaning.specs.Expressions.{Typed, single, whole, typed, typed_as, typed_subscripts, under, left_by, place_of}
 use Rattle.occ_check_meaning.specs.Types.{are_same_sizes}
-use Rattle.occ_check_meaning.specs.Items.{as_variable, as_channels, variable_of, as_one, channel_of, item_of, counted_item, sent_item, sent_items, as_name, tag_in, sent, Aim, aim, counted_aim, aim_of, target_of, targets_of, apart, rows_of, stored, assigned_item, assigned_items, as_target}
+use Rattle.occ_check_meaning.specs.Items.{as_variable, as_channels, variable_of, as_one, channel_of, item_of, counted_item, sent_item, sent_items, as_name, tag_in, sent, Aim, aim, counted_aim, aim_of, target_of, targets_of, apart, stretches_of, stored, assigned_item, assigned_items, as_target}
 use Rattle.occ_check_meaning.specs.Actions as A
 use Rattle.occ_check_meaning.specs.Actions.{assigned, Listed, plain_list, tagged_list, received, as_input, test_of}
-use Rattle.occ_check_laws.specs.Having.{RowHas, ChannelsHave, KnownHas, NamesHave, TypedHas, SubscriptsHave}
+use Rattle.occ_check_laws.specs.Having.{StretchHas, ChannelsHave, KnownHas, NamesHave, TypedHas, SubscriptsHave}
 use Rattle.occ_check_laws.proofs.Tags.{tagged_by}
 use Rattle.occ_check_meaning.proofs.Steps.{bind_some, some_is}
 use Rattle.occ_check_laws.proofs.Counting.{kept, both_true}
@@ -43,8 +43,8 @@ same_sizes (m ∷ ms) (n ∷ ns) h =
 
 -- what an assignment's or an input's variable has
 abbrev pub AimHas : Declared → Aim → Type 0
-AimHas d (aim t r) = RowHas d.types t r
-AimHas d (counted_aim c a) = RowHas d.types c.0 c.1 × RowHas d.types a.0 a.1
+AimHas d (aim t r) = StretchHas d.types t r
+AimHas d (counted_aim c a) = StretchHas d.types c.0 c.1 × StretchHas d.types a.0 a.1
 
 abbrev pub All : {A : Type 0} → (A → Type 0) → List A → Type 0
 All P [] = ⊤
@@ -69,39 +69,39 @@ ReceivedHas d c = (p : Protocol) × ChannelHas d c.0 p × ListedHas d p c.1
 module _ (d : Declared) (ns : Names) (h : NamesHave d ns) (line : ℕ) where
   -- ---- variables and channels
 
-  variable_known : (k : Known) (r : Primitive × Row) → KnownHas d k → as_variable k ≡ Some r → RowHas d.types r.0 r.1
-  variable_known (some_cells assignable type q) r g e = subst (λ (y : Primitive × Row). RowHas d.types y.0 y.1) (some_is (type, q) r e) g
+  variable_known : (k : Known) (r : Primitive × Stretch) → KnownHas d k → as_variable k ≡ Some r → StretchHas d.types r.0 r.1
+  variable_known (some_cells assignable type q) r g e = subst (λ (y : Primitive × Stretch). StretchHas d.types y.0 y.1) (some_is (type, q) r e) g
   variable_known (some_cells kept_access type q) r g e = absurd cc
   variable_known (a_value type v) r g e = absurd cc
   variable_known (a_string bytes) r g e = absurd cc
   variable_known (some_channels c q) r g e = absurd cc
   variable_known (a_protocol c) r g e = absurd cc
 
-  pub variable_row : (k : Known) (r : Primitive × Row) → KnownHas d k → as_variable k ≡ Some r → RowHas d.types r.0 r.1
-  variable_row k r g e = variable_known k r g e
+  pub variable_stretch : (k : Known) (r : Primitive × Stretch) → KnownHas d k → as_variable k ≡ Some r → StretchHas d.types r.0 r.1
+  variable_stretch k r g e = variable_known k r g e
 
-  pub channels_row : (k : Known) (r : Carried × Row) → KnownHas d k → as_channels k ≡ Some r → ChannelsHave d r.0 r.1
-  channels_row (some_channels c q) r g e = subst (λ (y : Carried × Row). ChannelsHave d y.0 y.1) (some_is (c, q) r e) g
-  channels_row (some_cells access type q) r g e = absurd cc
-  channels_row (a_value type v) r g e = absurd cc
-  channels_row (a_string bytes) r g e = absurd cc
-  channels_row (a_protocol c) r g e = absurd cc
+  pub channels_stretch : (k : Known) (r : Carried × Stretch) → KnownHas d k → as_channels k ≡ Some r → ChannelsHave d r.0 r.1
+  channels_stretch (some_channels c q) r g e = subst (λ (y : Carried × Stretch). ChannelsHave d y.0 y.1) (some_is (c, q) r e) g
+  channels_stretch (some_cells access type q) r g e = absurd cc
+  channels_stretch (a_value type v) r g e = absurd cc
+  channels_stretch (a_string bytes) r g e = absurd cc
+  channels_stretch (a_protocol c) r g e = absurd cc
 
-  pub variable_has : (v : Var) (r : Primitive × Row) → variable_of ns line v ≡ Some r → RowHas d.types r.0 r.1
+  pub variable_has : (v : Var) (r : Primitive × Stretch) → variable_of ns line v ≡ Some r → StretchHas d.types r.0 r.1
   variable_has (var x es) r e =
       let k = bind_some (ns x) _ r e in
       let a = bind_some (as_variable k.0) _ r k.2 in
       let s = bind_some (typed_subscripts ns line es) _ r a.2 in
       let q = bind_some (under a.0.1 s.0) _ r s.2 in
-      subst (λ (y : Primitive × Row). RowHas d.types y.0 y.1) (some_is (a.0.0, q.0) r q.2)
+      subst (λ (y : Primitive × Stretch). StretchHas d.types y.0 y.1) (some_is (a.0.0, q.0) r q.2)
       (under_has d.types a.0.0 a.0.1 q.0 s.0 (variable_known k.0 a.0 (h x k.0 k.1) a.1) (subscripts_have d ns h line es s.0 s.1) q.1)
 
-  channels_under : (c : Carried) (r q : Row) (es : T.Subscripts) → ChannelsHave d c r → SubscriptsHave d.types es → under r es ≡ Some q → ChannelsHave d c q
+  channels_under : (c : Carried) (r q : Stretch) (es : T.Subscripts) → ChannelsHave d c r → SubscriptsHave d.types es → under r es ≡ Some q → ChannelsHave d c q
   channels_under c r q es g i e =
       let k = bind_some (left_by es r.left) _ q e in
       subst (ChannelsHave d c) (some_is _ q k.2) (g.0, leaves_joined d.types r.subscripts es r.sizes r.left k.0 g.1 (leaves d.types es r.left k.0 i k.1))
 
-  one_channel : (c : Carried) (q r : Row) (left : List ℕ) → q.left ≡ left → ChannelsHave d c q → as_one q left ≡ Some r → ChannelHas d (place_of line r) c.protocol
+  one_channel : (c : Carried) (q r : Stretch) (left : List ℕ) → q.left ≡ left → ChannelsHave d c q → as_one q left ≡ Some r → ChannelHas d (place_of line r) c.protocol
   one_channel c q r [] e g f = subst (λ y. ChannelHas d (place_of line y) c.protocol) (some_is q r f) (g.0, subst (λ y. SubscriptsLeave d.types q.subscripts q.sizes y) e g.1)
   one_channel c q r (n ∷ ls) e g f = absurd cc
 
@@ -113,7 +113,7 @@ module _ (d : Declared) (ns : Names) (h : NamesHave d ns) (line : ℕ) where
       let q = bind_some (under a.0.1 s.0) _ c s.2 in
       let r = bind_some (as_one q.0 q.0.left) _ c q.2 in
       subst (λ (y : Protocol × Place). ChannelHas d y.1 y.0) (some_is (a.0.0.protocol, place_of line r.0) c r.2)
-      (one_channel a.0.0 q.0 r.0 q.0.left refl (channels_under a.0.0 a.0.1 q.0 s.0 (channels_row k.0 a.0 (h x k.0 k.1) a.1) (subscripts_have d ns h line es s.0 s.1) q.1) r.1)
+      (one_channel a.0.0 q.0 r.0 q.0.left refl (channels_under a.0.0 a.0.1 q.0 s.0 (channels_stretch k.0 a.0 (h x k.0 k.1) a.1) (subscripts_have d ns h line es s.0 s.1) q.1) r.1)
 
   -- ---- what is output
 
@@ -203,12 +203,12 @@ module _ (d : Declared) (ns : Names) (h : NamesHave d ns) (line : ℕ) where
       let b = bind_some (variable_of ns line w) _ a c.2 in
       subst (AimHas d) (some_is (counted_aim c.0 b.0) a b.2) (variable_has v c.0 c.1, variable_has w b.0 b.1)
 
-  -- a row of this type and these sizes
-  place_has : (t type : Primitive) (r : Row) (sizes : List ℕ) → RowHas d.types t r → IsTrue (is_same_type t type) → r.left ≡ sizes → PlaceHas d.types (place_of line r) type sizes
+  -- a stretch of this type and these sizes
+  place_has : (t type : Primitive) (r : Stretch) (sizes : List ℕ) → StretchHas d.types t r → IsTrue (is_same_type t type) → r.left ≡ sizes → PlaceHas d.types (place_of line r) type sizes
   place_has t type r sizes g k l =
       (subst (λ y. CellsHave d.types (span r.first (product r.sizes)) y) (same_type t type k) g.0, subst (λ y. SubscriptsLeave d.types r.subscripts r.sizes y) l g.1)
 
-  counted_target_has : (count type : Primitive) (c a : Primitive × Row) (left : List ℕ) (t : Target) → a.1.left ≡ left → RowHas d.types c.0 c.1 → RowHas d.types a.0 a.1
+  counted_target_has : (count type : Primitive) (c a : Primitive × Stretch) (left : List ℕ) (t : Target) → a.1.left ≡ left → StretchHas d.types c.0 c.1 → StretchHas d.types a.0 a.1
       → target_of line (CountedOf count type) (counted_aim c (a.0, record a.1 { left = left })) ≡ Some t → TargetHas d.types t (CountedOf count type)
   counted_target_has count type c a [] t l g k f = absurd cc
   counted_target_has count type c a (size ∷ m ∷ ms) t l g k f = absurd cc
@@ -246,7 +246,7 @@ module _ (d : Declared) (ns : Names) (h : NamesHave d ns) (line : ℕ) where
   pub stored_has : (parts : List PartType) (ts : List L.Target) (targets : List Target) → stored ns line parts ts ≡ Some targets → TargetsHave d targets parts
   stored_has parts ts targets e =
       let a = bind_some (each_of (aim_of ns line) ts) _ targets e in
-      let r = bind_some (apart (rows_of a.0)) _ targets a.2 in
+      let r = bind_some (apart (stretches_of a.0)) _ targets a.2 in
       targets_have parts a.0 targets (all_of (AimHas d) (aim_of ns line) aim_has ts a.0 a.1) r.2
 
   pub received_has : (i : L.Input) (c : Place × Listed) → received ns line i ≡ Some c → ReceivedHas d c
@@ -264,19 +264,19 @@ module _ (d : Declared) (ns : Names) (h : NamesHave d ns) (line : ℕ) where
 
   -- ---- assignments
 
-  abbrev sorts : List (Primitive × Row) → List (Primitive × List ℕ)
+  abbrev sorts : List (Primitive × Stretch) → List (Primitive × List ℕ)
   sorts [] = []
   sorts (r ∷ rs) = (r.0, r.1.left) ∷ sorts rs
 
-  as_target_has : (r : Primitive × Row) (left : List ℕ) → r.1.left ≡ left → RowHas d.types r.0 r.1 → TargetHas d.types (as_target line r) (simple_part left r.0)
+  as_target_has : (r : Primitive × Stretch) (left : List ℕ) → r.1.left ≡ left → StretchHas d.types r.0 r.1 → TargetHas d.types (as_target line r) (simple_part left r.0)
   as_target_has r [] e g = (g.0, subst (λ y. SubscriptsLeave d.types r.1.subscripts r.1.sizes y) e g.1)
   as_target_has r (n ∷ ls) e g = (g.0, subst (λ y. SubscriptsLeave d.types r.1.subscripts r.1.sizes y) e g.1)
 
-  as_targets_have : (rs : List (Primitive × Row)) → All (λ (r : Primitive × Row). RowHas d.types r.0 r.1) rs → TargetsHave d (map (as_target line) rs) (value_parts (sorts rs))
+  as_targets_have : (rs : List (Primitive × Stretch)) → All (λ (r : Primitive × Stretch). StretchHas d.types r.0 r.1) rs → TargetsHave d (map (as_target line) rs) (value_parts (sorts rs))
   as_targets_have [] g = tt
   as_targets_have (r ∷ rs) g = (as_target_has r r.1.left refl g.0, as_targets_have rs g.1)
 
-  assigned_item_has : (r : Primitive × Row) (x : Typed) (i : Item) → TypedHas d.types x → assigned_item r x ≡ Some i → ItemHas d.types i (simple_part r.1.left r.0)
+  assigned_item_has : (r : Primitive × Stretch) (x : Typed) (i : Item) → TypedHas d.types x → assigned_item r x ≡ Some i → ItemHas d.types i (simple_part r.1.left r.0)
   assigned_item_has r (single t e) i g f =
       let k = kept _ _ i f in
       let b = both_true (is_same_type t r.0) (are_same_sizes r.1.left []) k.0 in
@@ -291,7 +291,7 @@ module _ (d : Declared) (ns : Names) (h : NamesHave d ns) (line : ℕ) where
       subst (λ y. ItemHas d.types y (simple_part r.1.left r.0)) k.1
       (subst (λ y. ItemHas d.types (OfMany t a) (simple_part y r.0)) (sym (same_sizes r.1.left (n ∷ sizes) b.1)) (s, subst (λ y. ArrayHas d.types a y (n ∷ sizes)) s g))
 
-  assigned_items_have : (rs : List (Primitive × Row)) (xs : List Typed) (is : List Item) → All (TypedHas d.types) xs → assigned_items rs xs ≡ Some is → ItemsHave d is (value_parts (sorts rs))
+  assigned_items_have : (rs : List (Primitive × Stretch)) (xs : List Typed) (is : List Item) → All (TypedHas d.types) xs → assigned_items rs xs ≡ Some is → ItemsHave d is (value_parts (sorts rs))
   unfolding assigned_items
   assigned_items_have [] [] is g e = subst (λ y. ItemsHave d y []) (some_is [] is e) tt
   assigned_items_have [] (x ∷ xs) is g e = absurd cc
@@ -310,7 +310,7 @@ module _ (d : Declared) (ns : Names) (h : NamesHave d ns) (line : ℕ) where
       subst (TermHas d) (some_is (T.Assign (map (as_target line) b.0) o.0) t o.2) (
         sorts b.0,
         assigned_items_have b.0 a.0 o.0 (all_of (TypedHas d.types) (typed ns line) (typed_has d ns h line) es a.0 a.1) o.1,
-        as_targets_have b.0 (all_of (λ (r : Primitive × Row). RowHas d.types r.0 r.1) (variable_of ns line) variable_has vs b.0 b.1),
+        as_targets_have b.0 (all_of (λ (r : Primitive × Stretch). StretchHas d.types r.0 r.1) (variable_of ns line) variable_has vs b.0 b.1),
       )
 
   pub test_has : (test : Option Expression) (e : Option T.Expression) → test_of ns line test ≡ Some e → HasType d.types (T.tested e) Boolean

@@ -13,7 +13,7 @@ use Rattle.occ_term.specs.Sizes.{Size, no_size, size_of_declaration, size_of_rep
 use Rattle.occ_term.specs.Values.{span}
 use Rattle.occ_term.specs.Typing.{CellsHave, SubscriptsLeave, ItemHas}
 use Rattle.occ_term.specs.TermTyping.{Declared, DeclarationsHave, ReplicatorHas}
-use Rattle.occ_check_meaning.specs.Scope.{keep, once, Row, assignable, kept as unassignable, Carried, Known, a_value, a_string, some_cells, some_channels, a_protocol, Name, Names}
+use Rattle.occ_check_meaning.specs.Scope.{keep, once, Stretch, assignable, kept as unassignable, Carried, Known, a_value, a_string, some_cells, some_channels, a_protocol, Name, Names}
 use Rattle.occ_check_meaning.specs.Numbers.{Numbers, cell, component_names, more_cells, more_channels, room}
 use Rattle.occ_check_meaning.specs.Constants.{constant}
 use Rattle.occ_check_meaning.specs.Operators.{primitive_of}
@@ -31,7 +31,7 @@ use Rattle.occ_check_laws.proofs.Growth.{cells_length, growing}
 use Rattle.occ_check_laws.proofs.Covering.{Covers, CoversSince, since, since_before, since_later, covers_before, fewer_before, new_cells_have, new_channels_have, constant_typed}
 use Rattle.occ_check_laws.proofs.Stepping.{each_steps, variable_steps, channel_steps, evaluated_steps, actual_steps, actuals_steps}
 use Rattle.occ_check_laws.proofs.TypedExpressions.{typed_has, subscripts_have, leaves_joined, in_one}
-use Rattle.occ_check_laws.proofs.TypedLines.{variable_row, channels_row, typed_as_has}
+use Rattle.occ_check_laws.proofs.TypedLines.{variable_stretch, channels_stretch, typed_as_has}
 
 -- a variable's cells have numbers below this
 abbrev pub LiesBelow : ℕ → Known → Type 0
@@ -193,8 +193,8 @@ module _ (d : Declared) where
         let w = bind_some (of_value_type ns line type v.0) _ o v.2 in
         named_opens x depth w.0 n o (of_value_has ns line type v.0 w.0 (typed_has d ns have line a v.0 v.1) w.1) w.2
 
-    variable_below : (k : Known) (r : Primitive × Row) → LiesBelow n₀ k → as_variable k ≡ Some r → r.1.first + product r.1.sizes ≤ n₀
-    variable_below (some_cells assignable type q) r g e = subst (λ (y : Primitive × Row). y.1.first + product y.1.sizes ≤ n₀) (some_is (type, q) r e) g
+    variable_below : (k : Known) (r : Primitive × Stretch) → LiesBelow n₀ k → as_variable k ≡ Some r → r.1.first + product r.1.sizes ≤ n₀
+    variable_below (some_cells assignable type q) r g e = subst (λ (y : Primitive × Stretch). y.1.first + product y.1.sizes ≤ n₀) (some_is (type, q) r e) g
     variable_below (some_cells unassignable type q) r g e = absurd cc
     variable_below (a_value type v) r g e = absurd cc
     variable_below (a_string bytes) r g e = absurd cc
@@ -214,7 +214,7 @@ module _ (d : Declared) where
         let a = bind_some (all_evaluated x depth t.0 r.0.1.left n) _ o t.2 in
         subst (λ (y : Opened). Covers d y.numbers → OpenedHas d y) (kept _ _ o a.2).1
         (λ c. let p = evaluated_has x depth t.0 r.0.1.left n a.0 (subscripts_have d ns have line v.0.1 t.0 t.1) a.1 c in
-        let q = variable_row d ns have line k.0 r.0 (have v.0.0 k.0 k.1) r.1 in
+        let q = variable_stretch d ns have line k.0 r.0 (have v.0.0 k.0 k.1) r.1 in
         let l = variable_below k.0 r.0 (h v.0.0 k.0 k.1).1 r.1 in
         let f = fewer_before n a.0.numbers (evaluated_steps Grown growing x depth t.0 r.0.1.left n a.0 a.1) in
         ((((q.0, leaves_joined d.types r.0.1.subscripts a.0.subscripts r.0.1.sizes r.0.1.left a.0.left q.1 p.0), omega (arith, l, f, b)), tt), p.1))
@@ -226,7 +226,7 @@ module _ (d : Declared) where
         let a = bind_some (all_evaluated x depth t.0 r.0.1.left n) _ o t.2 in
         subst (λ (y : Opened). Covers d y.numbers → OpenedHas d y) (kept _ _ o a.2).1
         (λ c. let p = evaluated_has x depth t.0 r.0.1.left n a.0 (subscripts_have d ns have line v.0.1 t.0 t.1) a.1 c in
-        let q = channels_row d ns have line k.0 r.0 (have v.0.0 k.0 k.1) r.1 in
+        let q = channels_stretch d ns have line k.0 r.0 (have v.0.0 k.0 k.1) r.1 in
         ((((q.0, leaves_joined d.types r.0.1.subscripts a.0.subscripts r.0.1.sizes r.0.1.left a.0.left q.1 p.0), tt), tt), p.1))
 
     actuals_open : (depth : ℕ) (ws : List (Name × Wanted)) (es : List Expression) (n : Numbers) (o : Opened) → n₀ ≤ length n.cells → all_actuals ns line depth ws es n ≡ Some o → Covers d o.numbers → OpenedHas d o

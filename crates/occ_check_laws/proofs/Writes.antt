@@ -18,13 +18,13 @@ use Rattle.occ_term.specs.Sizes.{no_size, size_of_declaration, size_of_replicato
 use Rattle.occ_term.specs.Values.{Span, span, Evaluated as Valued, Value, Fails, checked, value_of}
 use Rattle.occ_term.specs.Uses.{numbers_in, named_by, part_named, on_index, constant_subscript, subscript_value, is_constant, uses_of, uses_of_target, uses_of_targets, uses_of_declaration, uses_of_replicator, cells_of_item}
 use Rattle.occ_term.proofs.Bounds.{one_more, within_size}
-use Rattle.occ_check_meaning.specs.Scope.{keep, each_of, once, Row, assignable, kept as unassignable, Carried, Known, a_value, a_string, some_cells, some_channels, a_protocol, Name, Names}
+use Rattle.occ_check_meaning.specs.Scope.{keep, each_of, once, Stretch, assignable, kept as unassignable, Carried, Known, a_value, a_string, some_cells, some_channels, a_protocol, Name, Names}
 use Rattle.occ_check_meaning.specs.Numbers.{Numbers, more_cells, more_channels, room}
 use Rattle.occ_check_meaning.specs.Constants.{constant}
 use Rattle.occ_check_meaning.specs.Operators.{primitive_of}
 use Rattle.occ_check_meaning.specs.Expressions.{Typed, single, whole, typed, typed_as, typed_subscripts, left_by, under, place_of}
 use Rattle.occ_check_meaning.specs.Types.{sizes_of, carried_of, protocol_of}
-use Rattle.occ_check_meaning.specs.Items.{as_variable, as_channels, variable_of, channel_of, sent, tag_in, Aim, aim, counted_aim, aim_of, target_of, targets_of, apart, rows_of, stored, assigned_items, as_target}
+use Rattle.occ_check_meaning.specs.Items.{as_variable, as_channels, variable_of, channel_of, sent, tag_in, Aim, aim, counted_aim, aim_of, target_of, targets_of, apart, stretches_of, stored, assigned_items, as_target}
 use Rattle.occ_check_meaning.specs.Declarations.{Opened, variable_declared, channel_declared, each_declared, names_declared, local_of, value_named, array_named, named, has_type, of_value_type, value_declared, protocol_declared, Indexed, indexed}
 use Rattle.occ_check_meaning.specs.Calls.{Wanted, wants_value, wants_variable, wants_channels, Evaluated, one_evaluated, all_evaluated, as_named, actual_list, actual_of, all_actuals, bound}
 use Rattle.occ_check_meaning.specs.Actions as A
@@ -48,16 +48,16 @@ is_false false h = refl
 
 -- ---- constant subscripts name a part
 
-row_within : (first n p i c : ℕ) → i < n → Not (numbers_in (span first (n * p)) c) → Not (numbers_in (span (first + i * p) p) c)
-row_within first n p i c l h g =
+span_within : (first n p i c : ℕ) → i < n → Not (numbers_in (span first (n * p)) c) → Not (numbers_in (span (first + i * p) p) c)
+span_within first n p i c l h g =
     let s = in_span (first + i * p) p c g in
     let o = one_more n i p l in
     let a = s.0 in
     let b = s.1 in
-    h (to_row first (n * p) c (omega (arith, a)) (omega (arith, b, o)))
+    h (to_span first (n * p) c (omega (arith, a)) (omega (arith, b, o)))
   where
-    to_row : (first count c : ℕ) → first ≤ c → c < first + count → IsTrue (numbers_in (span first count) c)
-    to_row first count c l h = and_true _ _ (le-leb first c l) (lt-ltb c (first + count) h)
+    to_span : (first count c : ℕ) → first ≤ c → c < first + count → IsTrue (numbers_in (span first count) c)
+    to_span first count c l h = and_true _ _ (le-leb first c l) (lt-ltb c (first + count) h)
 
 constant_within : (e : T.Expression) (n i : ℕ) → constant_subscript e n ≡ Some i → i < n
 constant_within e n i h = found (is_constant e) h
@@ -84,7 +84,7 @@ module _ (c : ℕ) where
   part_avoids (then_subscript e es) first [] all h g = g
   part_avoids (then_subscript e es) first (n ∷ ns) all h g =
       index_avoids (constant_subscript e n) (λ i. part_named es (first + i * product ns) ns all) all
-      (λ i q. part_avoids es (first + i * product ns) ns all (row_within first n (product ns) i c (constant_within e n i q) h) g) g
+      (λ i q. part_avoids es (first + i * product ns) ns all (span_within first n (product ns) i c (constant_within e n i q) h) g) g
 
   -- ---- names and heads
 
@@ -96,8 +96,8 @@ module _ (c : ℕ) where
   Avoids (some_channels p r) = ⊤
   Avoids (a_protocol p) = ⊤
 
-  abbrev pub RowAvoids : Row → Type 0
-  RowAvoids r = Not (numbers_in (span r.first (product r.sizes)) c)
+  abbrev pub StretchAvoids : Stretch → Type 0
+  StretchAvoids r = Not (numbers_in (span r.first (product r.sizes)) c)
 
   abbrev pub HeadAvoids : Declaration → Type 0
   HeadAvoids h = Not ((uses_of_declaration h).writes c)
@@ -214,30 +214,30 @@ module _ (c : ℕ) where
   -- ---- under names that avoid it
 
   module _ (ns : Names) (h : (x : Name) (k : Known) → ns x ≡ Some k → Avoids k) (line : ℕ) where
-    variable_row_avoids : (k : Known) (r : Primitive × Row) → Avoids k → as_variable k ≡ Some r → RowAvoids r.1
-    variable_row_avoids (some_cells assignable type q) r g e = subst (λ (y : Primitive × Row). RowAvoids y.1) (some_is (type, q) r e) g
-    variable_row_avoids (some_cells unassignable type q) r g e = absurd cc
-    variable_row_avoids (a_value type v) r g e = absurd cc
-    variable_row_avoids (a_string bytes) r g e = absurd cc
-    variable_row_avoids (some_channels p q) r g e = absurd cc
-    variable_row_avoids (a_protocol p) r g e = absurd cc
+    variable_stretch_avoids : (k : Known) (r : Primitive × Stretch) → Avoids k → as_variable k ≡ Some r → StretchAvoids r.1
+    variable_stretch_avoids (some_cells assignable type q) r g e = subst (λ (y : Primitive × Stretch). StretchAvoids y.1) (some_is (type, q) r e) g
+    variable_stretch_avoids (some_cells unassignable type q) r g e = absurd cc
+    variable_stretch_avoids (a_value type v) r g e = absurd cc
+    variable_stretch_avoids (a_string bytes) r g e = absurd cc
+    variable_stretch_avoids (some_channels p q) r g e = absurd cc
+    variable_stretch_avoids (a_protocol p) r g e = absurd cc
 
-    variable_of_avoids : (v : Var) (r : Primitive × Row) → variable_of ns line v ≡ Some r → RowAvoids r.1
+    variable_of_avoids : (v : Var) (r : Primitive × Stretch) → variable_of ns line v ≡ Some r → StretchAvoids r.1
     variable_of_avoids (var x es) r e =
         let k = bind_some (ns x) _ r e in
         let a = bind_some (as_variable k.0) _ r k.2 in
         let s = bind_some (typed_subscripts ns line es) _ r a.2 in
         let q = bind_some (under a.0.1 s.0) _ r s.2 in
         let f = bind_some (left_by s.0 a.0.1.left) _ q.0 q.1 in
-        subst (λ (y : Primitive × Row). RowAvoids y.1) (some_is (a.0.0, q.0) r q.2)
-        (subst RowAvoids (some_is _ q.0 f.2) (variable_row_avoids k.0 a.0 (h x k.0 k.1) a.1))
+        subst (λ (y : Primitive × Stretch). StretchAvoids y.1) (some_is (a.0.0, q.0) r q.2)
+        (subst StretchAvoids (some_is _ q.0 f.2) (variable_stretch_avoids k.0 a.0 (h x k.0 k.1) a.1))
 
-    written : (r : Row) → RowAvoids r → Not ((uses_of_target (Into (place_of line r))).writes c)
+    written : (r : Stretch) → StretchAvoids r → Not ((uses_of_target (Into (place_of line r))).writes c)
     written r g = either_false (named_by (place_of line r) c) false (part_avoids r.subscripts r.first r.sizes (span r.first (product r.sizes)) g g) (λ k. absurd cc)
 
     abbrev AimAvoids : Aim → Type 0
-    AimAvoids (aim t r) = RowAvoids r
-    AimAvoids (counted_aim p a) = RowAvoids p.1 × RowAvoids a.1
+    AimAvoids (aim t r) = StretchAvoids r
+    AimAvoids (counted_aim p a) = StretchAvoids p.1 × StretchAvoids a.1
 
     aim_avoids : (t : L.Target) (a : Aim) → aim_of ns line t ≡ Some a → AimAvoids a
     aim_avoids (into v) a e =
@@ -251,7 +251,7 @@ module _ (c : ℕ) where
     abbrev TargetAvoids : Target → Type 0
     TargetAvoids t = Not ((uses_of_target t).writes c)
 
-    counted_target_avoids : (count type : Primitive) (p a : Primitive × Row) (left : List ℕ) (t : Target) → RowAvoids p.1 → RowAvoids a.1
+    counted_target_avoids : (count type : Primitive) (p a : Primitive × Stretch) (left : List ℕ) (t : Target) → StretchAvoids p.1 → StretchAvoids a.1
         → target_of line (CountedOf count type) (counted_aim p (a.0, record a.1 { left = left })) ≡ Some t → TargetAvoids t
     counted_target_avoids count type p a [] t g k f = absurd cc
     counted_target_avoids count type p a (size ∷ m ∷ ms) t g k f = absurd cc
@@ -280,7 +280,7 @@ module _ (c : ℕ) where
     pub stored_avoids : (parts : List PartType) (ts : List L.Target) (targets : List Target) → stored ns line parts ts ≡ Some targets → Not ((uses_of_targets targets).writes c)
     stored_avoids parts ts targets e =
         let a = bind_some (each_of (aim_of ns line) ts) _ targets e in
-        let r = bind_some (apart (rows_of a.0)) _ targets a.2 in
+        let r = bind_some (apart (stretches_of a.0)) _ targets a.2 in
         targets_avoid parts a.0 targets (all_of AimAvoids (aim_of ns line) aim_avoids ts a.0 a.1) r.2
 
     pub received_avoids : (i : L.Input) (p : Place × Listed) → received ns line i ≡ Some p → ListedAvoids p.1
@@ -296,9 +296,9 @@ module _ (c : ℕ) where
         let s = bind_some (stored ns line a.0 ts) _ p a.2 in
         subst (λ (y : Place × Listed). ListedAvoids y.1) (some_is (k.0.1, tagged_list n.0 s.0) p s.2) (stored_avoids a.0 ts s.0 s.1)
 
-    rows_avoid : (rs : List (Primitive × Row)) → All (λ (r : Primitive × Row). RowAvoids r.1) rs → Not ((uses_of_targets (map (as_target line) rs)).writes c)
-    rows_avoid [] g = λ k. absurd cc
-    rows_avoid (r ∷ rs) g = either_false ((uses_of_target (as_target line r)).writes c) ((uses_of_targets (map (as_target line) rs)).writes c) (written r.1 g.0) (rows_avoid rs g.1)
+    stretches_avoid : (rs : List (Primitive × Stretch)) → All (λ (r : Primitive × Stretch). StretchAvoids r.1) rs → Not ((uses_of_targets (map (as_target line) rs)).writes c)
+    stretches_avoid [] g = λ k. absurd cc
+    stretches_avoid (r ∷ rs) g = either_false ((uses_of_target (as_target line r)).writes c) ((uses_of_targets (map (as_target line) rs)).writes c) (written r.1 g.0) (stretches_avoid rs g.1)
 
     pub assigned_avoids : (vs : List Var) (es : List Expression) (t : Term) → assigned ns line vs es ≡ Some t → Not ((uses_of t).writes c)
     assigned_avoids vs es t e =
@@ -307,7 +307,7 @@ module _ (c : ℕ) where
         let q = bind_some (apart (map (λ r. r.1) b.0)) _ t b.2 in
         let o = bind_some (assigned_items b.0 a.0) _ t q.2 in
         subst (λ y. Not ((uses_of y).writes c)) (some_is (T.Assign (map (as_target line) b.0) o.0) t o.2)
-        (rows_avoid b.0 (all_of (λ (r : Primitive × Row). RowAvoids r.1) (variable_of ns line) variable_of_avoids vs b.0 b.1))
+        (stretches_avoid b.0 (all_of (λ (r : Primitive × Stretch). StretchAvoids r.1) (variable_of ns line) variable_of_avoids vs b.0 b.1))
 
     pub output_avoids : (v : Var) (o : L.Out) (os : List L.Out) (t : Term) → A.output ns line v o os ≡ Some t → Not ((uses_of t).writes c)
     output_avoids v o os t e =
@@ -328,7 +328,7 @@ module _ (c : ℕ) where
         let r = bind_some (as_variable k.0) _ o k.2 in
         let t = bind_some (typed_subscripts ns line v.0.1) _ o r.2 in
         let a = bind_some (all_evaluated x depth t.0 r.0.1.left n) _ o t.2 in
-        subst OpenedAvoids (kept _ _ o a.2).1 ((variable_row_avoids k.0 r.0 (h v.0.0 k.0 k.1) r.1, tt), evaluated_avoids x depth t.0 r.0.1.left n a.0 l a.1)
+        subst OpenedAvoids (kept _ _ o a.2).1 ((variable_stretch_avoids k.0 r.0 (h v.0.0 k.0 k.1) r.1, tt), evaluated_avoids x depth t.0 r.0.1.left n a.0 l a.1)
     actual_avoids depth x (wants_channels sizes p) e n o l g =
         let v = bind_some (as_named e) _ o g in
         let k = bind_some (ns v.0.0) _ o v.2 in

@@ -69,7 +69,7 @@ abbrev mutual
   cells_in_options (or_option constants ds t os) = cells_of_all ds ++ (cells_in t ++ cells_in_options os)
   cells_in_options (or_else ds t os) = cells_of_all ds ++ (cells_in t ++ cells_in_options os)
 
--- each row begins where the one before it ends: the first at n, and the last ends at m
+-- each span begins where the one before it ends: the first at n, and the last ends at m
 abbrev pub InOrder : ℕ → List Span → ℕ → Type 0
 InOrder n [] m = m ≡ n
 InOrder n (span first count ∷ rest) m = (first ≡ n) × InOrder (n + count) rest m

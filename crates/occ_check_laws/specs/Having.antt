@@ -9,21 +9,21 @@ use Rattle.occ_term.specs.Values.{span}
 use Rattle.occ_term.specs.Uses.{numbers_in}
 use Rattle.occ_term.specs.Typing.{CellsHave, HasType, SubscriptsLeave, ArrayHas}
 use Rattle.occ_term.specs.TermTyping.{Declared}
-use Rattle.occ_check_meaning.specs.Scope.{Row, Carried, Known, a_value, a_string, some_cells, some_channels, a_protocol, Names}
+use Rattle.occ_check_meaning.specs.Scope.{Stretch, Carried, Known, a_value, a_string, some_cells, some_channels, a_protocol, Names}
 use Rattle.occ_check_meaning.specs.Expressions.{Typed, single, whole}
 
--- each of the row's cells has the type, and its subscripts leave the sizes that it has
-abbrev pub RowHas : (ℕ → Option Primitive) → Primitive → Row → Type 0
-RowHas types type r = CellsHave types (span r.first (product r.sizes)) type × SubscriptsLeave types r.subscripts r.sizes r.left
+-- each of the stretch's cells has the type, and its subscripts leave the sizes that it has
+abbrev pub StretchHas : (ℕ → Option Primitive) → Primitive → Stretch → Type 0
+StretchHas types type r = CellsHave types (span r.first (product r.sizes)) type × SubscriptsLeave types r.subscripts r.sizes r.left
 
--- each of the row's channels has the protocol
-abbrev pub ChannelsHave : Declared → Carried → Row → Type 0
+-- each of the stretch's channels has the protocol
+abbrev pub ChannelsHave : Declared → Carried → Stretch → Type 0
 ChannelsHave d c r = ((k : ℕ) → IsTrue (numbers_in (span r.first (product r.sizes)) k) → d.protocols k ≡ Some c.protocol) × SubscriptsLeave d.types r.subscripts r.sizes r.left
 
 abbrev pub KnownHas : Declared → Known → Type 0
 KnownHas d (a_value type v) = IsTrue (is_of type v)
 KnownHas d (a_string bytes) = AllOf Byte bytes
-KnownHas d (some_cells access type r) = RowHas d.types type r
+KnownHas d (some_cells access type r) = StretchHas d.types type r
 KnownHas d (some_channels c r) = ChannelsHave d c r
 KnownHas d (a_protocol c) = ⊤
 

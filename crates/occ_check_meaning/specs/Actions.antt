@@ -52,10 +52,10 @@ taken depth n t = room depth (size_of t) n >>= λ m. Some (t, m)
 abbrev pub assigned : Names → ℕ → List Var → List Expression → Option Term
 assigned ns line vs es = do
   values ← each_of (typed ns line) es
-  rows ← each_of (variable_of ns line) vs
-  apart_rows ← apart (map (λ r. r.1) rows)
-  items ← assigned_items rows values
-  Some (Assign (map (as_target line) rows) items)
+  stretches ← each_of (variable_of ns line) vs
+  apart_stretches ← apart (map (λ r. r.1) stretches)
+  items ← assigned_items stretches values
+  Some (Assign (map (as_target line) stretches) items)
 
 abbrev pub output : Names → ℕ → Var → Out → List Out → Option Term
 output ns line v o os = do

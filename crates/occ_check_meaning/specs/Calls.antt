@@ -13,7 +13,7 @@ use Rattle.occ_term.specs.Terms as T
 use Rattle.occ_term.specs.Terms.{Constant, Cell, Subscripts, no_subscripts, then_subscript, OfOne, Declaration, Naming}
 use Rattle.occ_term.specs.Sizes.{size_of_declaration}
 use Rattle.occ_term.specs.Values.{Span}
-use Rattle.occ_check_meaning.specs.Scope.{keep, Row, assignable, kept, Carried, a_value, a_string, some_cells, some_channels, a_protocol, Name, Names, Pairs, are_once}
+use Rattle.occ_check_meaning.specs.Scope.{keep, Stretch, assignable, kept, Carried, a_value, a_string, some_cells, some_channels, a_protocol, Name, Names, Pairs, are_once}
 use Rattle.occ_check_meaning.specs.Numbers.{Numbers, more_cells, room}
 use Rattle.occ_check_meaning.specs.Constants.{constant, is_within}
 use Rattle.occ_check_meaning.specs.Operators.{primitive_of, is_same_type}
@@ -100,7 +100,7 @@ all_evaluated x depth (then_subscript e es) (size ∷ sizes) n = do
   b ← all_evaluated x depth es sizes a.numbers
   Some (evaluated (joined a.subscripts b.subscripts) b.left (a.heads ++ b.heads) b.numbers)
 
-abbrev pub part_of : Row → Evaluated → Row
+abbrev pub part_of : Stretch → Evaluated → Stretch
 part_of r e = record r { subscripts = joined r.subscripts e.subscripts; left = e.left }
 
 -- unnamed protocols are compared by their part

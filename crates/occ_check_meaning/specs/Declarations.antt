@@ -12,7 +12,7 @@ use Rattle.occ_term.specs.Messages.{product}
 use Rattle.occ_term.specs.Terms as T
 use Rattle.occ_term.specs.Terms.{Array, Cells, Text, Item, OfOne, OfMany, Declaration, Clearing, Naming, Replicator, replicator}
 use Rattle.occ_term.specs.Sizes.{no_size, size_of_declaration, size_of_replicator}
-use Rattle.occ_check_meaning.specs.Scope.{keep, row_from, assignable, kept, Carried, Known, a_value, a_string, some_cells, some_channels, a_protocol, Name, Names, Pairs, once}
+use Rattle.occ_check_meaning.specs.Scope.{keep, stretch_from, assignable, kept, Carried, Known, a_value, a_string, some_cells, some_channels, a_protocol, Name, Names, Pairs, once}
 use Rattle.occ_check_meaning.specs.Numbers.{Numbers, more_cells, more_channels, more_protocols, room}
 use Rattle.occ_check_meaning.specs.Constants.{constant, a_count}
 use Rattle.occ_check_meaning.specs.Operators.{primitive_of, is_same_type}
@@ -41,11 +41,11 @@ abbrev pub variable_declared : ℕ → Primitive → List ℕ → Name → Numbe
 variable_declared depth type sizes x n = do
   m ← more_cells type x sizes n
   o ← room depth (size_of_declaration (Clearing (length n.cells) (product sizes))) m
-  Some (one_name x (some_cells assignable type (row_from (length n.cells) sizes)) (Clearing (length n.cells) (product sizes) ∷ []) o)
+  Some (one_name x (some_cells assignable type (stretch_from (length n.cells) sizes)) (Clearing (length n.cells) (product sizes) ∷ []) o)
 
 abbrev pub channel_declared : Carried → List ℕ → Name → Numbers → Option Opened
 channel_declared c sizes x n = more_channels c.protocol x sizes n >>= λ m.
-    Some (one_name x (some_channels c (row_from (length n.channels) sizes)) [] m)
+    Some (one_name x (some_channels c (stretch_from (length n.channels) sizes)) [] m)
 
 -- each name in turn
 unfoldable pub each_declared : (Name → Numbers → Option Opened) → List Name → Numbers → Option Opened
@@ -73,7 +73,7 @@ abbrev pub local_of : Name → ℕ → Primitive → List ℕ → Item → Numbe
 local_of x depth type sizes value n = do
   m ← more_cells type x sizes n
   o ← room depth (size_of_declaration (Naming (length n.cells) value)) m
-  Some (one_name x (some_cells kept type (row_from (length n.cells) sizes)) (Naming (length n.cells) value ∷ []) o)
+  Some (one_name x (some_cells kept type (stretch_from (length n.cells) sizes)) (Naming (length n.cells) value ∷ []) o)
 
 abbrev pub value_named : Name → ℕ → Primitive → T.Expression → Option ℤ → Numbers → Option Opened
 value_named x depth type e (Some v) n = Some (one_name x (a_value type v) [] n)
@@ -127,7 +127,7 @@ indexed ns line depth (L.each x base count) n = do
   c ← typed_as ns line Int count
   m ← more_cells Int x [] n
   o ← room depth (size_of_replicator (replicator line (length n.cells) b c) no_size) m
-  Some (record { replicator = replicator line (length n.cells) b c; names = (x, some_cells kept Int (row_from (length n.cells) [])) ∷ []; numbers = o })
+  Some (record { replicator = replicator line (length n.cells) b c; names = (x, some_cells kept Int (stretch_from (length n.cells) [])) ∷ []; numbers = o })
 
 -- The base of a replicated PAR, and how many copies it has (refusals: wrong type; not constant; bad count).
 abbrev pub copies_of : Names → ℕ → L.Replicator → Option (ℤ × ℕ)

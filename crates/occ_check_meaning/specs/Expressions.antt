@@ -16,7 +16,7 @@ use Rattle.occ_term.specs.declared.expression.Monadic.TheVariants.{Negate, BitNo
 use Rattle.occ_term.specs.Messages.{is_of}
 use Rattle.occ_term.specs.Terms as T
 use Rattle.occ_term.specs.Terms.{Constant, Cell, Component, Letter, Binary, Unary, And, Or, Conversion, Place, place, Subscripts, no_subscripts, then_subscript, Array, Cells, Text}
-use Rattle.occ_check_meaning.specs.Scope.{keep, Row, Known, a_value, a_string, some_cells, some_channels, a_protocol, Names}
+use Rattle.occ_check_meaning.specs.Scope.{keep, Stretch, Known, a_value, a_string, some_cells, some_channels, a_protocol, Names}
 use Rattle.occ_check_meaning.specs.Constants.{constant, is_within}
 use Rattle.occ_check_meaning.specs.Operators.{primitive_of, is_same_type, operator_of, result_of, takes_operand}
 
@@ -73,20 +73,20 @@ left_by no_subscripts sizes = Some sizes
 left_by (then_subscript e es) [] = None
 left_by (then_subscript e es) (n ∷ ns) = keep (is_within (constant e) n) ns >>= λ left. left_by es left
 
-abbrev pub under : Row → Subscripts → Option Row
+abbrev pub under : Stretch → Subscripts → Option Stretch
 under r es = left_by es r.left >>= λ left. Some (record r { subscripts = joined r.subscripts es; left = left })
 
-abbrev pub place_of : ℕ → Row → Place
+abbrev pub place_of : ℕ → Stretch → Place
 place_of line r = place line r.first r.sizes r.subscripts
 
 -- a variable that is no array is its cell
-abbrev pub read_one : ℕ → Row → List ℕ → T.Expression
+abbrev pub read_one : ℕ → Stretch → List ℕ → T.Expression
 read_one line r [] = Cell r.first
 read_one line r (n ∷ ns) = Component (place_of line r)
 
-abbrev pub read_row : ℕ → Primitive → Row → List ℕ → Typed
-read_row line type r [] = single type (read_one line r r.sizes)
-read_row line type r (n ∷ ns) = whole type (n ∷ ns) (Cells (place_of line r))
+abbrev pub read_stretch : ℕ → Primitive → Stretch → List ℕ → Typed
+read_stretch line type r [] = single type (read_one line r r.sizes)
+read_stretch line type r (n ∷ ns) = whole type (n ∷ ns) (Cells (place_of line r))
 
 -- (refusals: wrong kind, where the name is a channel's or a protocol's; wrong type; subscript) a name that is read
 abbrev pub read : ℕ → Known → Subscripts → Option Typed
@@ -95,7 +95,7 @@ read line (a_value type v) (then_subscript e es) = None
 read line (a_string bytes) no_subscripts = Some (whole_string bytes)
 read line (a_string bytes) (then_subscript e no_subscripts) = keep (is_within (constant e) (length bytes)) (single Byte (Letter line bytes e))
 read line (a_string bytes) (then_subscript e (then_subscript f es)) = None
-read line (some_cells access type r) es = under r es >>= λ q. Some (read_row line type q q.left)
+read line (some_cells access type r) es = under r es >>= λ q. Some (read_stretch line type q q.left)
 read line (some_channels c r) es = None
 read line (a_protocol c) es = None
 

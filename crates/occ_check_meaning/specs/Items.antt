@@ -16,7 +16,7 @@ use Rattle.occ_term.specs.Messages.{product, parts_after}
 use Rattle.occ_term.specs.Terms.{Place, Subscripts, no_subscripts, then_subscript, Item, OfOne, OfMany, OfCounted, Target, Into, IntoCounted}
 use Rattle.occ_term.specs.Values.{Span, span}
 use Rattle.occ_term.specs.Uses.{part_named, reads_in_subscripts, Numbers as Cells}
-use Rattle.occ_check_meaning.specs.Scope.{keep, each_of, Row, assignable, kept, Carried, Known, a_value, a_string, some_cells, some_channels, a_protocol, Name, Names}
+use Rattle.occ_check_meaning.specs.Scope.{keep, each_of, Stretch, assignable, kept, Carried, Known, a_value, a_string, some_cells, some_channels, a_protocol, Name, Names}
 use Rattle.occ_check_meaning.specs.Constants.{constant}
 use Rattle.occ_check_meaning.specs.Operators.{is_same_type}
 use Rattle.occ_check_meaning.specs.Expressions.{Typed, single, whole, typed, typed_subscripts, under, place_of}
@@ -25,7 +25,7 @@ use Rattle.occ_check_meaning.specs.Types.{are_same_sizes}
 -- ---- variables and channels
 
 -- (refusal: wrong kind) a name that may be assigned to
-abbrev pub as_variable : Known → Option (Primitive × Row)
+abbrev pub as_variable : Known → Option (Primitive × Stretch)
 as_variable (some_cells assignable type r) = Some (type, r)
 as_variable (some_cells kept type r) = None
 as_variable (a_value type v) = None
@@ -34,7 +34,7 @@ as_variable (some_channels c r) = None
 as_variable (a_protocol c) = None
 
 -- (refusal: wrong kind) a channel's name
-abbrev pub as_channels : Known → Option (Carried × Row)
+abbrev pub as_channels : Known → Option (Carried × Stretch)
 as_channels (some_channels c r) = Some (c, r)
 as_channels (some_cells access type r) = None
 as_channels (a_value type v) = None
@@ -42,7 +42,7 @@ as_channels (a_string bytes) = None
 as_channels (a_protocol c) = None
 
 -- a variable, a component or an array, with its type
-abbrev pub variable_of : Names → ℕ → Var → Option (Primitive × Row)
+abbrev pub variable_of : Names → ℕ → Var → Option (Primitive × Stretch)
 variable_of ns line (var x es) = do
   k ← ns x
   r ← as_variable k
@@ -51,7 +51,7 @@ variable_of ns line (var x es) = do
   Some (r.0, q)
 
 -- (refusal: wrong type) a single one
-abbrev pub as_one : Row → List ℕ → Option Row
+abbrev pub as_one : Stretch → List ℕ → Option Stretch
 as_one r [] = Some r
 as_one r (n ∷ ns) = None
 
@@ -129,8 +129,8 @@ sent ns line p o os = do
 
 -- a variable, or the two of `count::array`
 pub data Aim : Type 0 where
-  aim : Primitive → Row → Aim
-  counted_aim : (count : Primitive × Row) → (array : Primitive × Row) → Aim
+  aim : Primitive → Stretch → Aim
+  counted_aim : (count : Primitive × Stretch) → (array : Primitive × Stretch) → Aim
 
 abbrev pub aim_of : Names → ℕ → L.Target → Option Aim
 aim_of ns line (into v) = variable_of ns line v >>= λ r. Some (aim r.0 r.1)
@@ -165,10 +165,10 @@ targets_of line (p ∷ ps) (a ∷ aims) = do
 -- ---- what stands twice in a list of targets
 
 -- the whole variable, and the part of it that constant subscripts name: all of it where one is not constant
-abbrev pub variable_span : Row → Span
+abbrev pub variable_span : Stretch → Span
 variable_span r = span r.first (product r.sizes)
 
-abbrev pub part_span : Row → Span
+abbrev pub part_span : Stretch → Span
 part_span r = part_named r.subscripts r.first r.sizes (variable_span r)
 
 abbrev pub have_common : Span → Span → Bool
@@ -191,47 +191,47 @@ abbrev pub has_of : Cells → Span → Bool
 has_of set (span first count) = has_some set first count
 
 -- whether a subscript of the one names the other's variable
-abbrev pub is_named_by : Row → Row → Bool
+abbrev pub is_named_by : Stretch → Stretch → Bool
 is_named_by r q = has_of (reads_in_subscripts q.subscripts) (variable_span r)
 
 -- Two targets clash that share a component under constant subscripts, or one of which stands in a subscript of the other.
-abbrev pub clash : Row → Row → Bool
+abbrev pub clash : Stretch → Stretch → Bool
 clash r q = (are_constant r.subscripts && (are_constant q.subscripts && have_common (part_span r) (part_span q)))
     || (is_named_by r q || is_named_by q r)
 
-abbrev pub clashes_with_one : Row → List Row → Bool
+abbrev pub clashes_with_one : Stretch → List Stretch → Bool
 clashes_with_one r [] = false
 clashes_with_one r (q ∷ qs) = clash r q || clashes_with_one r qs
 
-abbrev pub some_clash : List Row → Bool
+abbrev pub some_clash : List Stretch → Bool
 some_clash [] = false
 some_clash (r ∷ rs) = clashes_with_one r rs || some_clash rs
 
 -- (refusal: list target)
-abbrev pub apart : List Row → Option (List Row)
+abbrev pub apart : List Stretch → Option (List Stretch)
 apart rs = keep (not (some_clash rs)) rs
 
-abbrev pub rows_of : List Aim → List Row
-rows_of [] = []
-rows_of (aim t r ∷ aims) = r ∷ rows_of aims
-rows_of (counted_aim c a ∷ aims) = c.1 ∷ a.1 ∷ rows_of aims
+abbrev pub stretches_of : List Aim → List Stretch
+stretches_of [] = []
+stretches_of (aim t r ∷ aims) = r ∷ stretches_of aims
+stretches_of (counted_aim c a ∷ aims) = c.1 ∷ a.1 ∷ stretches_of aims
 
 -- the targets of one list
 abbrev pub stored : Names → ℕ → List PartType → List L.Target → Option (List Target)
 stored ns line parts ts = do
   aims ← each_of (aim_of ns line) ts
-  rs ← apart (rows_of aims)
+  rs ← apart (stretches_of aims)
   targets_of line parts aims
 
 -- ---- assignments
 
 -- (refusal: wrong type) both sides have one type
-abbrev pub assigned_item : Primitive × Row → Typed → Option Item
+abbrev pub assigned_item : Primitive × Stretch → Typed → Option Item
 assigned_item r (single t e) = keep (is_same_type t r.0 && are_same_sizes r.1.left []) (OfOne t e)
 assigned_item r (whole t sizes a) = keep (is_same_type t r.0 && are_same_sizes r.1.left sizes) (OfMany t a)
 
 -- (refusal: wrong type) as many sides as sides
-unfoldable pub assigned_items : List (Primitive × Row) → List Typed → Option (List Item)
+unfoldable pub assigned_items : List (Primitive × Stretch) → List Typed → Option (List Item)
 assigned_items [] [] = Some []
 assigned_items [] (x ∷ xs) = None
 assigned_items (r ∷ rs) [] = None
@@ -240,5 +240,5 @@ assigned_items (r ∷ rs) (x ∷ xs) = do
   is ← assigned_items rs xs
   Some (i ∷ is)
 
-abbrev pub as_target : ℕ → Primitive × Row → Target
+abbrev pub as_target : ℕ → Primitive × Stretch → Target
 as_target line r = Into (place_of line r.1)

@@ -9,7 +9,7 @@ use Rattle.occ_tree_grammar.specs.Processes.Trees.{process, Node, Item, value_it
 use Rattle.occ_term.specs.declared.primitive.Primitive.TheVariants.{Byte}
 use Rattle.occ_term.specs.declared.protocol.Protocol.TheVariants.{Simple}
 use Rattle.occ_term.specs.Terms.{Term}
-use Rattle.occ_check_meaning.specs.Scope.{keep, row_from, some_channels, Name, Pairs, within, once}
+use Rattle.occ_check_meaning.specs.Scope.{keep, stretch_from, some_channels, Name, Pairs, within, once}
 use Rattle.occ_check_meaning.specs.Numbers.{Numbers, at_start}
 use Rattle.occ_check_meaning.specs.Types.{unnamed}
 use Rattle.occ_check_meaning.specs.Calls.{spec_after}
@@ -58,7 +58,7 @@ main_names fs = byte_channels fs >>= once
 
 abbrev pub channels_from : ℕ → List Name → Pairs
 channels_from c [] = []
-channels_from c (x ∷ xs) = (x, some_channels (unnamed (Simple [] Byte)) (row_from c [])) ∷ channels_from (c + 1) xs
+channels_from c (x ∷ xs) = (x, some_channels (unnamed (Simple [] Byte)) (stretch_from c [])) ∷ channels_from (c + 1) xs
 
 -- ---- the whole
 

@@ -21,17 +21,17 @@ each_of f (a ∷ rest) = do
 
 -- ---- what a name stands for
 
--- Cells or channels in a row: an array, or a part of one under subscripts that are evaluated already. The sizes are those of the
--- whole array; those that are left are the row's own, none for a single cell or channel.
-pub record Row : Type 0 where
+-- Cells or channels one after another: an array, or a part of one under subscripts that are evaluated already. The sizes are those
+-- of the whole array; those that are left are the stretch's own, none for a single cell or channel.
+pub record Stretch : Type 0 where
   pub first : ℕ
   pub sizes : List ℕ
   pub subscripts : Subscripts
   pub left : List ℕ
 
 -- an array from its first on, or a single one
-abbrev pub row_from : ℕ → List ℕ → Row
-row_from first sizes = record { first = first; sizes = sizes; subscripts = no_subscripts; left = sizes }
+abbrev pub stretch_from : ℕ → List ℕ → Stretch
+stretch_from first sizes = record { first = first; sizes = sizes; subscripts = no_subscripts; left = sizes }
 
 -- A variable may be assigned to. A named value, a VAL formal and an index may not.
 pub data Access : Type 0 where
@@ -47,8 +47,8 @@ pub record Carried : Type 0 where
 pub data Known : Type 0 where
   a_value : Primitive → ℤ → Known
   a_string : List ℤ → Known
-  some_cells : Access → Primitive → Row → Known
-  some_channels : Carried → Row → Known
+  some_cells : Access → Primitive → Stretch → Known
+  some_channels : Carried → Stretch → Known
   a_protocol : Carried → Known
 
 -- what a name stands for, where M is what is known of a PROC

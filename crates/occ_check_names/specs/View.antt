@@ -17,7 +17,7 @@ use Rattle.occ_check_names.specs.declared.known.Access.{Access}
 use Rattle.occ_check_names.specs.declared.known.Access.TheVariants as accesses
 use Rattle.occ_check_names.specs.declared.known.Evaluated.{Evaluated}
 use Rattle.occ_check_names.specs.declared.known.Evaluated.TheVariants as evaluateds
-use Rattle.occ_check_names.specs.declared.known.Row.{Row}
+use Rattle.occ_check_names.specs.declared.known.Stretch.{Stretch}
 use Rattle.occ_check_names.specs.declared.known.Carried.{Carried}
 use Rattle.occ_check_names.specs.declared.known.Known.{Known}
 use Rattle.occ_check_names.specs.declared.known.Known.TheVariants as knowns
@@ -70,8 +70,8 @@ abbrev pub evaluated_of : Evaluated → T.Expression
 evaluated_of (evaluateds.Value v) = T.Constant v
 evaluated_of (evaluateds.Cell line c) = T.Cell c
 
-abbrev pub row_of : Row → S.Row
-row_of r = record { first = r.first; sizes = r.sizes; subscripts = subscripts (map evaluated_of r.subscripts); left = r.left }
+abbrev pub stretch_of : Stretch → S.Stretch
+stretch_of r = record { first = r.first; sizes = r.sizes; subscripts = subscripts (map evaluated_of r.subscripts); left = r.left }
 
 abbrev pub carried_of : Carried → S.Carried
 carried_of c = record { declared = c.declared; protocol = c.protocol }
@@ -79,8 +79,8 @@ carried_of c = record { declared = c.declared; protocol = c.protocol }
 abbrev pub known_of : Known → S.Known
 known_of (knowns.Value type v) = S.a_value type v
 known_of (knowns.Text bytes) = S.a_string (map pos bytes)
-known_of (knowns.Cells access type r) = S.some_cells (access_of access) type (row_of r)
-known_of (knowns.Channels c r) = S.some_channels (carried_of c) (row_of r)
+known_of (knowns.Cells access type r) = S.some_cells (access_of access) type (stretch_of r)
+known_of (knowns.Channels c r) = S.some_channels (carried_of c) (stretch_of r)
 known_of (knowns.Protocol c) = S.a_protocol (carried_of c)
 
 abbrev pub binding_of : Binding → S.Binding U.Procedure
@@ -112,7 +112,7 @@ abbrev pub typed_of : Typed → E.Typed
 typed_of (typeds.Single type e) = E.single type (expression_of e)
 typed_of (typeds.Whole type sizes a) = E.whole type sizes (array_of a)
 
-abbrev pub part_of : Part → S.Row
+abbrev pub part_of : Part → S.Stretch
 part_of p = record { first = p.place.first; sizes = p.place.sizes; subscripts = subscripts (map expression_of p.place.subscripts); left = p.left }
 
 -- ---- numbers

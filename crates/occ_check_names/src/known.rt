@@ -27,9 +27,9 @@ pub enum Evaluated {
     Cell(u32, u32),
 }
 
-/// Cells or channels in a row: an array, or a part of one under subscripts that are evaluated already.
+/// Cells or channels one after another: an array, or a part of one under subscripts that are evaluated already.
 #[derive(Drop)]
-pub struct Row {
+pub struct Stretch {
     /// The number of the first of the whole array.
     pub first: u32,
     /// The sizes of the whole array: none for a single cell or channel.
@@ -57,9 +57,9 @@ pub enum Known {
     /// A string.
     Text(Text),
     /// A variable, an array, or a part of one, of the type.
-    Cells(Access, Primitive, Row),
+    Cells(Access, Primitive, Stretch),
     /// A channel, an array of channels, or a part of one.
-    Channels(Carried, Row),
+    Channels(Carried, Stretch),
     /// A protocol.
     Protocol(Carried),
 }
@@ -87,12 +87,12 @@ fn evaluated_subscript(subscript: &Evaluated) -> TermExpr
     }
 }
 
-impl Row {
+impl Stretch {
     /// A copy. The error is a refused growth.
-    pub fn copy(&self, alloc: Global) -> Result<Row, AllocError>
-        ensures { IfOk result (λ row. row ≡ self.now) }
+    pub fn copy(&self, alloc: Global) -> Result<Stretch, AllocError>
+        ensures { IfOk result (λ stretch. stretch ≡ self.now) }
     {
-        Ok(Row {
+        Ok(Stretch {
             first: self.first,
             sizes: self.sizes.copy(alloc)?,
             subscripts: Items::from_slice(alloc, self.subscripts.as_slice())?,
@@ -124,14 +124,14 @@ impl Known {
                 let bytes = bytes.copy()?;
                 Ok(Known::Text(bytes))
             }
-            Known::Cells(access, primitive, row) => {
-                let row = row.copy(alloc)?;
-                Ok(Known::Cells(*access, *primitive, row))
+            Known::Cells(access, primitive, stretch) => {
+                let stretch = stretch.copy(alloc)?;
+                Ok(Known::Cells(*access, *primitive, stretch))
             }
-            Known::Channels(carried, row) => {
+            Known::Channels(carried, stretch) => {
                 let carried = carried.copy(alloc)?;
-                let row = row.copy(alloc)?;
-                Ok(Known::Channels(carried, row))
+                let stretch = stretch.copy(alloc)?;
+                Ok(Known::Channels(carried, stretch))
             }
             Known::Protocol(carried) => {
                 let carried = carried.copy(alloc)?;

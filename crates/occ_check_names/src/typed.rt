@@ -11,7 +11,7 @@ pub enum Typed {
     Whole(Primitive, Sizes, Array),
 }
 
-/// A row under subscripts: its place, and the sizes that are left.
+/// A stretch under subscripts: its place, and the sizes that are left.
 #[derive(Drop)]
 pub struct Part {
     /// The place.

@@ -1,4 +1,4 @@
--- Subscripts in a row, and the sizes that they leave.
+-- Subscripts one after another, and the sizes that they leave.
 use Rattle.std.proofs.Common.{◌≡◌, ℕ, ℤ, suc, ◌+◌, ◌<◌, ◌≤◌, List, [], ◌∷◌, ◌++◌, drop, get_or, length, map, Some, None, refl, sym, ap, ◌∙◌, arith}
 use Rattle.std.proofs.Math.Seq.{drop-cons}
 use Rattle.std.proofs.lemmas.List.{drop_all, map-append}
@@ -14,7 +14,7 @@ use Rattle.occ_check_names.specs.View.{Refuses}
 use Rattle.occ_check_names.specs.declared.fault.CheckFault.{CheckFault}
 use Rattle.occ_check_typing.proofs.Refusals.{none_then, refused_with, then_nothing}
 
--- ---- subscripts in a row
+-- ---- subscripts one after another
 
 joined_lists : (ds es : List T.Expression) → subscripts (ds ++ es) ≡ joined (subscripts ds) (subscripts es)
 joined_lists [] es = refl

@@ -49,7 +49,7 @@ pub then_nothing : {A : Type 0} (r : Option A) → (r >>= λ x. Some x) ≡ r
 then_nothing (Some x) = refl
 then_nothing None = refl
 
--- steps in a row, grouped otherwise
+-- steps one after another, grouped otherwise
 pub then_then : {A B C : Type 0} (r : Option A) (f : A → Option B) (g : B → Option C) → (r >>= f >>= g) ≡ (r >>= λ x. f x >>= g)
 then_then (Some x) f g = refl
 then_then None f g = refl

@@ -1,4 +1,4 @@
--- A refused step refuses the row of steps that it stands in.
+-- A refused step refuses the steps that it stands among.
 use Rattle.std.proofs.Common.{◌≡◌, ◌∙◌, ap, Option, Some, None}
 use Rattle.occ_tree_grammar.specs.Many.{◌>>=◌}
 use Rattle.occ_check_names.specs.View.{Refuses}

@@ -1,4 +1,4 @@
--- Rows of cells in turn.
+-- Spans in turn.
 -- Manual: nothing; this is (own).
 use Rattle.std.specs.Prelude.{Bool, List, [], false, nat_le, true, ◌&&◌, ◌+◌, ◌||◌, ◌∷◌}
 use Rattle.occ_term.specs.Values.{Span, span}

@@ -1,4 +1,4 @@
--- The rows of cells of the code, as the definitions have them.
+-- The spans of the code, as the definitions have them.
 -- Manual: nothing; this is (own).
 use Rattle.occ_term.specs.Values as Values
 use Rattle.occ_check_typing.specs.declared.overlap.Span.{Span}

@@ -9,7 +9,7 @@ ghost use Rattle.occ_check_meaning.specs.Constants.{constant};
 ghost use Rattle.occ_check_meaning.specs.Declarations as meant;
 ghost use Rattle.occ_check_meaning.specs.Scope as scopes;
 ghost use Rattle.occ_check_meaning.specs.Types as types;
-ghost use Rattle.occ_check_names.specs.View.{Gives, carried_of, known_of, names_in, numbers_of, row_of, typed_of};
+ghost use Rattle.occ_check_names.specs.View.{Gives, carried_of, known_of, names_in, numbers_of, stretch_of, typed_of};
 ghost use Rattle.occ_check_typing.specs.Declaration.{Opens, pair_of, pairs_of};
 
 use crate::expression::typed;
@@ -18,7 +18,7 @@ use indexmap::IndexSet;
 use occ_check_names::constant::constant_of;
 use occ_check_names::context::Context;
 use occ_check_names::fault::{CheckFault, twice};
-use occ_check_names::known::{Access, Carried, Known, Row};
+use occ_check_names::known::{Access, Carried, Known, Stretch};
 use occ_check_names::measuring::count_declaration;
 use occ_check_names::numbers::{Numbers, components};
 use occ_check_names::operators::{is_same_type, primitive_of};
@@ -126,10 +126,10 @@ impl Opened {
 }
 
 /// An array from its first on, or a single one.
-pub fn row_from(alloc: Global, first: u32, sizes: &Sizes) -> Result<Row, AllocError>
-    ensures { IfOk result (λ row. row_of row ≡ scopes.row_from first sizes.now) }
+pub fn stretch_from(alloc: Global, first: u32, sizes: &Sizes) -> Result<Stretch, AllocError>
+    ensures { IfOk result (λ stretch. stretch_of stretch ≡ scopes.stretch_from first sizes.now) }
 {
-    Ok(Row {
+    Ok(Stretch {
         first,
         sizes: sizes.copy(alloc)?,
         subscripts: Items::new(alloc),
@@ -266,8 +266,8 @@ fn variable_declared(
 {
     let first = numbers.more_cells(alloc, primitive, name, sizes.as_slice())?;
     numbers.node(depth)?;
-    let row = row_from(alloc, first, sizes)?;
-    let known = Known::Cells(Access::Assignable, primitive, row);
+    let stretch = stretch_from(alloc, first, sizes)?;
+    let known = Known::Cells(Access::Assignable, primitive, stretch);
     let clearing = Declaration::Clearing(line, first, components(sizes.as_slice()));
     Ok(Opened::one_with(alloc, name, known, clearing)?)
 }
@@ -282,8 +282,8 @@ fn channel_declared(
     ensures { Opens result numbers.new (meant.channel_declared (carried_of carried.now) sizes.now name.now (numbers_of numbers.old)) }
 {
     let first = numbers.more_channels(alloc, &carried.protocol, name, sizes.as_slice())?;
-    let row = row_from(alloc, first, sizes)?;
-    let known = Known::Channels(carried.copy(alloc)?, row);
+    let stretch = stretch_from(alloc, first, sizes)?;
+    let known = Known::Channels(carried.copy(alloc)?, stretch);
     Ok(Opened::one(alloc, name, known)?)
 }
 
@@ -362,8 +362,8 @@ fn local_of(
     let first = numbers.more_cells(alloc, primitive, name, sizes.as_slice())?;
     let naming = Held::new(Declaration::Naming(line, first, value.into_inner()));
     count_declaration(numbers, depth, &naming.value)?;
-    let row = row_from(alloc, first, &sizes)?;
-    let known = Known::Cells(Access::Kept, primitive, row);
+    let stretch = stretch_from(alloc, first, &sizes)?;
+    let known = Known::Cells(Access::Kept, primitive, stretch);
     Ok(Opened::one_with(alloc, name, known, naming.into_inner())?)
 }
 

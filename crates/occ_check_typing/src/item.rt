@@ -11,14 +11,14 @@ ghost use Rattle.occ_term.specs.declared.protocol.PartType.TheVariants.{One as O
 ghost use Rattle.occ_check_meaning.specs.Expressions.{single};
 ghost use Rattle.occ_check_meaning.specs.Items as meant;
 ghost use Rattle.occ_check_meaning.specs.Scope.{keep};
-ghost use Rattle.occ_check_names.specs.View.{Gives, carried_of, known_of, names_in, part_of, row_of, typed_of};
+ghost use Rattle.occ_check_names.specs.View.{Gives, carried_of, known_of, names_in, part_of, stretch_of, typed_of};
 
 use crate::expression::{known_name, typed, typed_subscripts};
 use crate::reading::under;
 use crate::types::{are_same_sizes, simple_part};
 use occ_check_names::context::Context;
 use occ_check_names::fault::CheckFault;
-use occ_check_names::known::{Access, Carried, Known, Row};
+use occ_check_names::known::{Access, Carried, Known, Stretch};
 use occ_check_names::operators::is_same_type;
 use occ_check_names::scope::Scope;
 use occ_check_names::typed::{Part, Typed};
@@ -36,11 +36,11 @@ use std::alloc::{AllocError, Global};
 /// # Errors
 ///
 /// `WrongKind` for anything else.
-pub fn as_variable(line: u32, known: &Known) -> Result<(Primitive, &Row), CheckFault>
-    ensures { Gives (λ x. (x.0, row_of x.1.now)) result (meant.as_variable (known_of known.now)) }
+pub fn as_variable(line: u32, known: &Known) -> Result<(Primitive, &Stretch), CheckFault>
+    ensures { Gives (λ x. (x.0, stretch_of x.1.now)) result (meant.as_variable (known_of known.now)) }
 {
     match known {
-        Known::Cells(Access::Assignable, primitive, row) => Ok((*primitive, row)),
+        Known::Cells(Access::Assignable, primitive, stretch) => Ok((*primitive, stretch)),
         Known::Cells(Access::Kept, _, _) => Err(CheckFault::WrongKind { line }),
         Known::Value(_, _) => Err(CheckFault::WrongKind { line }),
         Known::Text(_) => Err(CheckFault::WrongKind { line }),
@@ -54,11 +54,11 @@ pub fn as_variable(line: u32, known: &Known) -> Result<(Primitive, &Row), CheckF
 /// # Errors
 ///
 /// `WrongKind` for anything else.
-pub fn as_channels(line: u32, known: &Known) -> Result<(&Carried, &Row), CheckFault>
-    ensures { Gives (λ x. (carried_of x.0.now, row_of x.1.now)) result (meant.as_channels (known_of known.now)) }
+pub fn as_channels(line: u32, known: &Known) -> Result<(&Carried, &Stretch), CheckFault>
+    ensures { Gives (λ x. (carried_of x.0.now, stretch_of x.1.now)) result (meant.as_channels (known_of known.now)) }
 {
     match known {
-        Known::Channels(carried, row) => Ok((carried, row)),
+        Known::Channels(carried, stretch) => Ok((carried, stretch)),
         Known::Cells(_, _, _) => Err(CheckFault::WrongKind { line }),
         Known::Value(_, _) => Err(CheckFault::WrongKind { line }),
         Known::Text(_) => Err(CheckFault::WrongKind { line }),
@@ -79,9 +79,9 @@ pub fn variable_of(
     ensures line { IfOk result (λ x. x.1.place.line ≡ context.entry.line) }
 {
     let known = known_name(context, &variable.name)?;
-    let (primitive, row) = as_variable(context.line, known)?;
+    let (primitive, stretch) = as_variable(context.line, known)?;
     let subscripts = typed_subscripts(context, &variable.subscripts)?;
-    let part = under(context.alloc, context.line, row, subscripts)?;
+    let part = under(context.alloc, context.line, stretch, subscripts)?;
     Ok((primitive, part))
 }
 
@@ -97,9 +97,9 @@ pub fn channel_of<'a>(
     ensures { Gives (λ x. (x.0.now, terms.place_of x.1)) result (meant.channel_of (names_in context.entry.scope) context.entry.line (lines.var_of channel.now)) }
 {
     let known = known_name(context, &channel.name)?;
-    let (carried, row) = as_channels(context.line, known)?;
+    let (carried, stretch) = as_channels(context.line, known)?;
     let subscripts = typed_subscripts(context, &channel.subscripts)?;
-    let part = under(context.alloc, context.line, row, subscripts)?;
+    let part = under(context.alloc, context.line, stretch, subscripts)?;
     match part.left.as_slice().split_first() {
         None => Ok((&carried.protocol, part.place)),
         Some(_) => Err(CheckFault::WrongType { line: context.line }),

@@ -7,17 +7,17 @@ ghost use Rattle.occ_term.specs.Uses.{constant_subscript, part_named};
 ghost use Rattle.occ_term.specs.View.{subscripts};
 ghost use Rattle.occ_check_meaning.specs.Calls as meant;
 ghost use Rattle.occ_check_meaning.specs.Items.{have_common, part_span};
-ghost use Rattle.occ_check_names.specs.View.{evaluated_of, row_of};
+ghost use Rattle.occ_check_names.specs.View.{evaluated_of, stretch_of};
 ghost use Rattle.occ_check_typing.specs.Spans.{span_of};
 ghost use Rattle.occ_check_typing.specs.Overlap.{end_in_turn, ends_before, neighbours_meet};
 ghost use Rattle.occ_check_typing.specs.Declaration.{pairs_of};
 
 use crate::declaration::Named;
-use occ_check_names::known::{Access, Evaluated, Known, Row};
+use occ_check_names::known::{Access, Evaluated, Known, Stretch};
 use occ_check_names::numbers::components;
 use std::alloc::{AllocError, Global};
 
-/// Cells in a row.
+/// Cells one after another.
 #[derive(Clone, Copy)]
 pub struct Span {
     /// The first.
@@ -43,15 +43,15 @@ fn reference_spans(alloc: Global, names: &[Named]) -> Result<Vec<Span>, AllocErr
 {
     let mut spans = Vec::new(alloc);
     for named in names {
-        if let Known::Cells(Access::Assignable, _, row) = &named.known {
-            spans.push(span_of(row))?;
+        if let Known::Cells(Access::Assignable, _, stretch) = &named.known {
+            spans.push(span_of(stretch))?;
         }
     }
     Ok(spans)
 }
 
-/// Whether two of the rows share a cell. Sorted by their first cells they are apart where each ends before the next begins;
-/// else two neighbours share a cell, or there are rows without a cell, and these alone are compared in pairs.
+/// Whether two of the spans share a cell. Sorted by their first cells they are apart where each ends before the next begins;
+/// else two neighbours share a cell, or there are spans without a cell, and these alone are compared in pairs.
 pub fn some_meet(mut spans: Vec<Span>) -> bool
     ensures { result ≡ meant.some_meet (map span_of spans.items) }
 {
@@ -129,7 +129,7 @@ fn meets_one(span: Span, others: &[Span]) -> bool
     false
 }
 
-/// Whether two rows share a cell, where both have some.
+/// Whether two spans share a cell, where both have some.
 fn meets(a: Span, b: Span) -> bool
     ensures { result ≡ have_common (span_of a) (span_of b) }
 {
@@ -143,19 +143,19 @@ fn begins_in(a: Span, b: Span) -> bool
     a.first < b.first || a.first - b.first < b.count
 }
 
-/// The cells that a row names with its constant subscripts.
-fn span_of(row: &Row) -> Span
-    ensures { span_of result ≡ part_span (row_of row.now) }
+/// The cells that a stretch names with its constant subscripts.
+fn span_of(stretch: &Stretch) -> Span
+    ensures { span_of result ≡ part_span (stretch_of stretch.now) }
 {
-    row.sizes.few();
+    stretch.sizes.few();
     let whole = Span {
-        first: u64::from(row.first),
-        count: u64::from(components(row.sizes.as_slice())),
+        first: u64::from(stretch.first),
+        count: u64::from(components(stretch.sizes.as_slice())),
     };
     part_named(
-        row.subscripts.as_slice(),
+        stretch.subscripts.as_slice(),
         whole.first,
-        row.sizes.as_slice(),
+        stretch.sizes.as_slice(),
         whole,
     )
 }

@@ -7,11 +7,11 @@ ghost use Rattle.occ_term.specs.View.{expression_of, subscripts};
 ghost use Rattle.occ_term.specs.declared.primitive.Primitive.TheVariants.{Int};
 ghost use Rattle.occ_check_meaning.specs.Expressions as meant;
 ghost use Rattle.occ_check_meaning.specs.Scope.{a_string, a_value, kept, some_cells};
-ghost use Rattle.occ_check_names.specs.View.{Gives, known_of, part_of, row_of, typed_of};
+ghost use Rattle.occ_check_names.specs.View.{Gives, known_of, part_of, stretch_of, typed_of};
 
 use occ_check_names::constant::is_within_size;
 use occ_check_names::fault::CheckFault;
-use occ_check_names::known::{Known, Row, evaluated_subscripts};
+use occ_check_names::known::{Known, Stretch, evaluated_subscripts};
 use occ_check_names::literal::whole_string;
 use occ_check_names::typed::{Part, Typed};
 use occ_held::Held;
@@ -65,7 +65,7 @@ fn left_by_one<'a>(
     }
 }
 
-/// A row under subscripts.
+/// A stretch under subscripts.
 ///
 /// # Errors
 ///
@@ -73,42 +73,42 @@ fn left_by_one<'a>(
 pub fn under(
     alloc: Global,
     line: u32,
-    row: &Row,
+    stretch: &Stretch,
     under_these: Listed<TermExpr>,
 ) -> Result<Part, CheckFault>
-    ensures part { Gives part_of result (meant.under (row_of row.now) (subscripts (map expression_of under_these))) }
+    ensures part { Gives part_of result (meant.under (stretch_of stretch.now) (subscripts (map expression_of under_these))) }
     ensures line { IfOk result (λ part. part.place.line ≡ line) }
 {
-    row.left.few();
-    let left = left_by(line, under_these.as_slice(), row.left.as_slice())?;
+    stretch.left.few();
+    let left = left_by(line, under_these.as_slice(), stretch.left.as_slice())?;
     let left = Sizes::new(alloc, left)?;
-    let sizes = row.sizes.copy(alloc)?;
-    let subscripts = joined(alloc, row, under_these)?;
+    let sizes = stretch.sizes.copy(alloc)?;
+    let subscripts = joined(alloc, stretch, under_these)?;
     let place = Place {
         line,
-        first: row.first,
+        first: stretch.first,
         sizes,
         subscripts,
     };
     Ok(Part { place, left })
 }
 
-/// The subscripts of a row, and further ones.
+/// The subscripts of a stretch, and further ones.
 fn joined(
     alloc: Global,
-    row: &Row,
+    stretch: &Stretch,
     under_these: Listed<TermExpr>,
 ) -> Result<Listed<TermExpr>, AllocError>
-    ensures { IfOk result (λ all. subscripts (map expression_of all) ≡ meant.joined ((row_of row.now).subscripts) (subscripts (map expression_of under_these))) }
+    ensures { IfOk result (λ all. subscripts (map expression_of all) ≡ meant.joined ((stretch_of stretch.now).subscripts) (subscripts (map expression_of under_these))) }
 {
-    let mut all = evaluated_subscripts(alloc, row.subscripts.as_slice())?;
+    let mut all = evaluated_subscripts(alloc, stretch.subscripts.as_slice())?;
     all.append(under_these)?;
     Ok(all)
 }
 
 /// A part that is read: a single cell or component, or a whole array.
 fn read_part(primitive: Primitive, part: Part) -> Typed
-    ensures { typed_of result ≡ meant.read_row part.place.line primitive (part_of part) part.left }
+    ensures { typed_of result ≡ meant.read_stretch part.place.line primitive (part_of part) part.left }
 {
     if !part.left.is_empty() {
         return Typed::Whole(primitive, part.left, Array::Cells(part.place));
@@ -179,8 +179,8 @@ pub fn read(
             read_value(line, *primitive, *value, under_these.as_slice())
         }
         Known::Text(text) => read_string(alloc, line, text, under_these),
-        Known::Cells(_, primitive, row) => {
-            let part = under(alloc, line, row, under_these)?;
+        Known::Cells(_, primitive, stretch) => {
+            let part = under(alloc, line, stretch, under_these)?;
             Ok(read_part(*primitive, part))
         }
         Known::Channels(_, _) => Err(CheckFault::WrongKind { line }),
@@ -217,18 +217,22 @@ pub fn size_of_known(line: u32, known: &Known, under_these: &[TermExpr]) -> Resu
             None => Ok(u64::from(text.len())),
             Some(_) => Err(CheckFault::WrongType { line }),
         },
-        Known::Cells(_, _, row) => size_of_row(line, row, under_these),
-        Known::Channels(_, row) => size_of_row(line, row, under_these),
+        Known::Cells(_, _, stretch) => size_of_stretch(line, stretch, under_these),
+        Known::Channels(_, stretch) => size_of_stretch(line, stretch, under_these),
         Known::Protocol(_) => Err(CheckFault::WrongKind { line }),
     }
 }
 
 /// The first of the sizes that subscripts leave.
-fn size_of_row(line: u32, row: &Row, under_these: &[TermExpr]) -> Result<u64, CheckFault>
-    ensures { Gives (λ n. n) result (meant.size_of_known (some_cells kept Int (row_of row.now)) (subscripts (map expression_of under_these.now))) }
+fn size_of_stretch(
+    line: u32,
+    stretch: &Stretch,
+    under_these: &[TermExpr],
+) -> Result<u64, CheckFault>
+    ensures { Gives (λ n. n) result (meant.size_of_known (some_cells kept Int (stretch_of stretch.now)) (subscripts (map expression_of under_these.now))) }
 {
-    row.left.few();
-    let left = left_by(line, under_these, row.left.as_slice())?;
+    stretch.left.few();
+    let left = left_by(line, under_these, stretch.left.as_slice())?;
     match left.first() {
         Some(size) => Ok(u64::from(*size)),
         None => Err(CheckFault::WrongType { line }),

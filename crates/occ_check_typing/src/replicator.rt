@@ -7,7 +7,7 @@ ghost use Rattle.occ_check_meaning.specs.Declarations as meant;
 ghost use Rattle.occ_check_names.specs.View.{Gives, names_in, numbers_of};
 ghost use Rattle.occ_check_typing.specs.Declaration.{Indexes};
 
-use crate::declaration::{Named, row_from};
+use crate::declaration::{Named, stretch_from};
 use crate::expression::{constant_as, typed_as};
 use occ_check_names::context::Context;
 use occ_check_names::fault::CheckFault;
@@ -50,8 +50,8 @@ pub fn index_replicator(
         count: count.into_inner(),
     });
     count_replicator(numbers, depth, &over.value)?;
-    let row = row_from(context.alloc, index, &Sizes::none(context.alloc))?;
-    let known = Known::Cells(Access::Kept, Primitive::Int, row);
+    let stretch = stretch_from(context.alloc, index, &Sizes::none(context.alloc))?;
+    let known = Known::Cells(Access::Kept, Primitive::Int, stretch);
     let name = Named::new(context.alloc, &replicator.name, known)?;
     Ok(Indexed {
         replicator: over.into_inner(),

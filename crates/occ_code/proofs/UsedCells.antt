@@ -16,7 +16,7 @@ use Rattle.occ_term.specs.Typing.{ArrayHas, CellsHave, HasType, ItemHas, PlaceHa
 use Rattle.occ_term.specs.TermTyping.{ArmsHave, BranchesHave, ChannelHas, ChoicesHave, DeclarationHas, DeclarationsHave, Declared, ItemsHave, OptionsHave, ReceptionHas, ReplicatorHas, TargetsHave, TermHas, TermsHave, VariantsHave, value_parts}
 use Rattle.occ_term.proofs.Bounds.{one_more}
 use Rattle.occ_term.proofs.TypedPlaces.{in_row, to_row}
-use Rattle.occ_usage.proofs.Rows.{constant_below}
+use Rattle.occ_usage.proofs.Components.{constant_below}
 use Rattle.occ_code.specs.SameStop.{used_by}
 use Rattle.occ_code.specs.Within.{AreWithin, KeepsWithin}
 

@@ -1,4 +1,4 @@
--- Clashes of two sets of uses: with parts of either, and among branches in a row.
+-- Clashes of two sets of uses: with parts of either, and among branches one after another.
 use Rattle.std.proofs.Common.{◌≡◌, ℕ, suc, ◌+◌, ◌<◌, ◌≤◌, List, [], ◌∷◌, ◌++◌, drop, get_or, length, map, Bool, true, false, refl, sym, ap, ◌∙◌, subst, inl, inr, arith}
 use Rattle.std.specs.Prelude.{None, Option, Some, ◌&&◌, ◌||◌}
 use Rattle.std.proofs.Math.Seq.{drop-cons}
@@ -145,7 +145,7 @@ joined_breaking rule n a b c =
     breaking_swapped rule n (with_use a b) c ∙ breaking_joined rule n c a b ∙ ap (λ x. x || breaking rule n c b) (breaking_swapped rule n c a)
     ∙ ap (λ x. breaking rule n a c || x) (breaking_swapped rule n c b)
 
--- ---- branches in a row
+-- ---- branches one after another
 
 one_with_all : (rule : Rule) (n : ℕ) (a : Uses) (bs : List Uses) → with_one (breaking rule n) a bs ≡ breaking rule n a (all_uses bs)
 one_with_all rule n a [] = sym (breaking_none rule n a)

@@ -1,5 +1,5 @@
 pub mod UseSets
-pub mod Rows
+pub mod Components
 pub mod Walks
 pub mod Reaches
 pub mod Branches

@@ -1,4 +1,4 @@
--- What sorted rows and their furthest ends say of a number.
+-- What sorted spans and their furthest ends say of a number.
 use Rattle.std.proofs.Common.{◌≡◌, ℕ, zero, suc, ◌+◌, ◌<◌, ◌≤◌, max, List, [], ◌∷◌, ◌++◌, drop, get_or, length, Bool, true, false, nat_le, nat_lt, refl, sym, ap, ◌∙◌, subst, inl, inr, arith}
 use Rattle.std.specs.Prelude.{None, Some, ◌||◌, ◌⊎◌}
 use Rattle.std.specs.List.{AllWithin}
@@ -230,7 +230,7 @@ pub spans_none : (k : Kind) (uses : List Use) (i : ℕ) (S : List Span) → leng
 spans_none k uses i S h spans =
     fun_ext (λ c. sym (or_none (covered S c))) ∙ ap (λ s. union (covered S) s) (sym (ap (λ us. used k (uses_in us)) (drop_all i uses h) ∙ used_none k)) ∙ spans.is
 
--- ---- what is answered of a row
+-- ---- what is answered of a span
 
 pub within_some : (set : Numbers) (first end n : ℕ) → first ≤ n → n < end → set n ≡ true → IsWithin (Some n) set first end
 within_some set first end n low high there =

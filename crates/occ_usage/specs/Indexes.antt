@@ -1,4 +1,4 @@
--- Uses sorted, so that the first number of a row that is among them is found at once.
+-- Uses sorted, so that the first number of a span that is among them is found at once.
 -- Manual: nothing; this is (own).
 use Rattle.std.specs.Prelude.{Bool, List, None, Option, Some, [], false, max, nat_lt, take, true, ℕ, ◌<◌, ◌≤◌, ◌∷◌, ◌≡◌, ◌⊎◌}
 use Rattle.std.specs.List.{All, list_any}
@@ -64,7 +64,7 @@ abbrev pub indexed : Indexes → Uses
 indexed all =
     record { reads = covered all.reads.spans.items; writes = covered all.writes.spans.items; ins = covered all.inputs.spans.items; outs = covered all.outputs.spans.items }
 
--- a number of the row that is in the set: none, or this one
+-- a number of the span that is in the set: none, or this one
 pub record IsWithin (number : Option ℕ) (set : Numbers) (first end : ℕ) : Type 0 where
   pub none : number ≡ None → (c : ℕ) → first ≤ c → c < end → set c ≡ false
   pub some : (n : ℕ) → number ≡ Some n → (first ≤ n) × (n < end) × (set n ≡ true)

@@ -1,4 +1,4 @@
--- Uses as the code notes them: a list, each of cells or channels in a row.
+-- Uses as the code notes them: a list, each of cells or channels one after another.
 -- Manual: nothing; this is (own).
 use Rattle.std.specs.Prelude.{Bool, List, None, Option, Some, [], false, nat_le, nat_lt, true, ℕ, ⊤, ◌&&◌, ◌*◌, ◌+◌, ◌/◌, ◌||◌, ◌∷◌, ◌≡◌, ◌⊎◌}
 use Rattle.occ_term.specs.Terms.{Place, place, Branches, no_branches, and_branch}
@@ -14,7 +14,7 @@ use Rattle.occ_usage.specs.declared.noted.Rule.TheVariants.{Variables, Inputs, O
 use Rattle.occ_usage.specs.declared.noted.Found.{Found}
 use Rattle.occ_usage.specs.declared.checked.UsageFault.{UsageFault}
 use Rattle.occ_usage.specs.declared.checked.UsageFault.TheVariants.{SharedVariable, TwoInputs, TwoOutputs, Memory}
-use Rattle.occ_usage.specs.declared.places.Row.{Row}
+use Rattle.occ_usage.specs.declared.places.Span.{Span as CodeSpan}
 
 abbrev pub between : ℕ → ℕ → Numbers
 between first end = λ c. nat_le first c && nat_lt c end
@@ -37,10 +37,10 @@ pub record Adds (before : List Use) (more : Uses) (after : List Use) : Type 0 wh
 abbrev pub span_named : Place → Span
 span_named (place line first sizes subs) = part_named subs first sizes (span first (product sizes))
 
--- the components of one subscript among those of a row: none where it isn't constant
-abbrev pub on_component : Option ℕ → Row → ℕ → Option Row
-on_component None row size = None
-on_component (Some i) row size = Some (record { first = row.first + i * (row.count / size); count = row.count / size })
+-- the components of one subscript among those of a span: none where it isn't constant
+abbrev pub on_component : Option ℕ → CodeSpan → ℕ → Option CodeSpan
+on_component None s size = None
+on_component (Some i) s size = Some (record { first = s.first + i * (s.count / size); count = s.count / size })
 
 -- what breaks a rule at a number
 abbrev pub breaking : Rule → ℕ → Clash
@@ -79,7 +79,7 @@ abbrev pub all_uses : List Uses → Uses
 all_uses [] = no_use
 all_uses (u ∷ us) = with_use u (all_uses us)
 
--- of branches in a row: one, and a later one
+-- of branches one after another: one, and a later one
 abbrev pub with_one : Clash → Uses → List Uses → Bool
 with_one clash a [] = false
 with_one clash a (b ∷ bs) = clash a b || with_one clash a bs

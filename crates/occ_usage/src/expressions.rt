@@ -72,20 +72,20 @@ fn note_subscripts(list: &[TermExpr], noted: &mut Noted) -> Result<(), AllocErro
 fn note_cell(line: u32, cell: u32, noted: &mut Noted) -> Result<(), AllocError>
     ensures { IfOk result (λ _. Adds noted.old.uses (reading (only cell)) noted.new.uses) }
 {
-    note_row(Kind::Read, line, u64::from(cell), 1, noted)?;
+    note_span(Kind::Read, line, u64::from(cell), 1, noted)?;
     Ok(())
 }
 
 fn note_named(kind: Kind, place: &Place, noted: &mut Noted) -> Result<(), AllocError>
     ensures { IfOk result (λ _. Adds noted.old.uses (use_of kind (named_by (place_of place.now))) noted.new.uses) }
 {
-    let row = named(place);
-    note_row(kind, place.line, row.first, row.count, noted)?;
+    let span = named(place);
+    note_span(kind, place.line, span.first, span.count, noted)?;
     Ok(())
 }
 
-/// Notes a use of numbers in a row.
-fn note_row(
+/// Notes a use of numbers one after another.
+fn note_span(
     kind: Kind,
     line: u32,
     first: u64,
@@ -185,7 +185,7 @@ pub fn note_targets(targets: &[Target], noted: &mut Noted) -> Result<(), AllocEr
 pub fn note_clearing(line: u32, first: u32, count: u32, noted: &mut Noted) -> Result<(), AllocError>
     ensures { IfOk result (λ _. Adds noted.old.uses (uses_of_declaration (Clearing first count)) noted.new.uses) }
 {
-    note_row(Kind::Write, line, u64::from(first), u64::from(count), noted)?;
+    note_span(Kind::Write, line, u64::from(first), u64::from(count), noted)?;
     Ok(())
 }
 
@@ -195,7 +195,7 @@ pub fn note_naming(line: u32, first: u32, value: &Item, noted: &mut Noted) -> Re
 {
     note_item(value, noted)?;
     let count = cells_of(value);
-    note_row(Kind::Write, line, u64::from(first), count, noted)?;
+    note_span(Kind::Write, line, u64::from(first), count, noted)?;
     Ok(())
 }
 
@@ -230,6 +230,6 @@ pub fn note_replicator(over: &Replicator, noted: &mut Noted) -> Result<(), Alloc
 fn note_index(line: u32, index: u32, noted: &mut Noted) -> Result<(), AllocError>
     ensures { IfOk result (λ _. Adds noted.old.uses (writing (only index)) noted.new.uses) }
 {
-    note_row(Kind::Write, line, u64::from(index), 1, noted)?;
+    note_span(Kind::Write, line, u64::from(index), 1, noted)?;
     Ok(())
 }

@@ -1,4 +1,4 @@
-//! Rows of numbers, sorted.
+//! Spans of numbers, sorted.
 ghost use Rattle.std.specs.Prelude.{◌≡◌, IfOk, IsTrue, ◌<◌, ◌≤◌, length};
 ghost use Rattle.std.specs.List.{AllWithin};
 ghost use Rattle.occ_usage.specs.Noted.{between, use_of, uses_in};
@@ -7,7 +7,7 @@ ghost use Rattle.occ_usage.specs.Indexes.{AreFilled, IsIndex, IsSpanOf, IsWithin
 use crate::noted::{Kind, Use};
 use std::alloc::{AllocError, Global};
 
-/// Numbers in a row.
+/// Numbers one after another.
 #[derive(Clone, Copy)]
 pub struct Span {
     /// The first.
@@ -16,12 +16,12 @@ pub struct Span {
     pub end: u64,
 }
 
-/// Rows that rise by their first numbers, each with the furthest end up to it.
+/// Spans that rise by their first numbers, each with the furthest end up to it.
 #[derive(Drop)]
 pub struct Index {
-    /// The rows.
+    /// The spans.
     pub spans: Vec<Span>,
-    /// For each row, the furthest end of it and those before it.
+    /// For each span, the furthest end of it and those before it.
     pub ends: Vec<u64>,
 }
 
@@ -37,7 +37,7 @@ impl Index {
         Ok(Index { spans, ends })
     }
 
-    /// The first number of the row that is among them.
+    /// The first number of the span that is among them.
     pub fn first_within(&self, first: u64, end: u64) -> Option<u64>
         requires { IsIndex self.now }
         ensures { IsWithin result (covered self.now.spans.items) first end }
@@ -60,7 +60,7 @@ impl Index {
         }
     }
 
-    /// How many rows begin at the number or before it.
+    /// How many spans begin at the number or before it.
     fn begun(&self, number: u64) -> usize
         requires { IsIndex self.now }
         ensures bound { result ≤ length self.now.spans.items }
@@ -70,7 +70,7 @@ impl Index {
         self.spans.partition_point(|span| span.first <= number)
     }
 
-    /// Whether one of so many rows ends after the number.
+    /// Whether one of so many spans ends after the number.
     fn reaches_past(&self, begun: usize, number: u64) -> bool
         requires sound { IsIndex self.now }
         requires within { begun ≤ length self.now.spans.items }

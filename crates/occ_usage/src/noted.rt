@@ -29,7 +29,7 @@ pub enum Rule {
     Outputs,
 }
 
-/// A use of cells or channels in a row.
+/// A use of cells or channels one after another.
 #[derive(Clone, Copy)]
 pub struct Use {
     /// How they are used.

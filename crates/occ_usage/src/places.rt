@@ -11,9 +11,9 @@ ghost use Rattle.occ_term.specs.Terms as terms;
 use occ_constants::{is_constant, value_of_constant};
 use occ_term::{Array, Item, Place, TermExpr};
 
-/// Numbers in a row.
+/// Numbers one after another.
 #[derive(Clone, Copy)]
-pub struct Row {
+pub struct Span {
     /// The first.
     pub first: u64,
     /// How many there are.
@@ -21,41 +21,41 @@ pub struct Row {
 }
 
 /// What the place names: with a constant subscript its components alone.
-pub fn named(place: &Place) -> Row
+pub fn named(place: &Place) -> Span
     ensures named { span_named (place_of place.now) ≡ span result.first result.count }
     ensures bound { result.first + result.count < 2 ^ 33 }
 {
     place.sizes.few();
-    let whole = Row {
+    let whole = Span {
         first: u64::from(place.first),
         count: components(place.sizes.as_slice()),
     };
-    let mut row = whole;
+    let mut span = whole;
     let mut sizes = place.sizes.as_slice();
     for subscript in place.subscripts.as_slice() {
         let Some((size, others)) = sizes.split_first() else {
             return whole;
         };
-        let Some(part) = component(row, subscript, *size) else {
+        let Some(part) = component(span, subscript, *size) else {
             return whole;
         };
-        row = part;
+        span = part;
         sizes = others;
     }
-    row
+    span
 }
 
-/// The part of a row that a constant subscript names.
-fn component(row: Row, subscript: &TermExpr, size: u32) -> Option<Row>
-    requires { row.first + row.count < 2 ^ 33 }
-    ensures { result ≡ on_component (constant_subscript (expression_of subscript.now) size) row size }
+/// The part of a span that a constant subscript names.
+fn component(span: Span, subscript: &TermExpr, size: u32) -> Option<Span>
+    requires { span.first + span.count < 2 ^ 33 }
+    ensures { result ≡ on_component (constant_subscript (expression_of subscript.now) size) span size }
 {
     match constant_index(subscript, size) {
         None => None,
         Some(index) => {
-            let count = row.count / u64::from(size);
-            let first = row.first + u64::from(index) * count;
-            Some(Row { first, count })
+            let count = span.count / u64::from(size);
+            let first = span.first + u64::from(index) * count;
+            Some(Span { first, count })
         }
     }
 }

@@ -1,7 +1,7 @@
 use Rattle.std.proofs.Common.{◌∙◌, List, subst, sym, ℕ}
 use Rattle.std.specs.List.Sorted.{IsNonDecreasingBy}
 use Rattle.std.proofs.lemmas.List.Sorted.{IsNonDecreasingBy-from_sort}
-use Rattle.occ_check_clashes.specs.Clash.{one_names_another, rows_of}
+use Rattle.occ_check_clashes.specs.Clash.{one_names_another, stretches_of}
 use Rattle.occ_check_clashes.proofs.NamingOthers.{named_by_sorted}
 use Rattle.occ_check_clashes.proofs.naming.some_names_another.Goals as goal
 
@@ -15,6 +15,6 @@ one_names_another-requires-clause-ends c =
 
 pub returns : goal.returns
 returns c =
-    let rows = rows_of c.args.places.now in
-    c.one_names_another.ensures ∙ (λ i. one_names_another (c.deref.ensures.value i) (c.deref-2.ensures.value i) rows)
-    ∙ named_by_sorted rows _ _ _ _ c.in_ok-firsts.ensures c.in_ok-ends.ensures c.sort_unstable.ensures.permutation c.sort_unstable-2.ensures.permutation
+    let stretches = stretches_of c.args.places.now in
+    c.one_names_another.ensures ∙ (λ i. one_names_another (c.deref.ensures.value i) (c.deref-2.ensures.value i) stretches)
+    ∙ named_by_sorted stretches _ _ _ _ c.in_ok-firsts.ensures c.in_ok-ends.ensures c.sort_unstable.ensures.permutation c.sort_unstable-2.ensures.permutation

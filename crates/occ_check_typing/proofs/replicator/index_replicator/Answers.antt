@@ -14,8 +14,8 @@ returns-in_err-index c = grind (arith, common_steps)
 pub returns-in_err-count_replicator : goal.returns-in_err-count_replicator
 returns-in_err-count_replicator c = grind (arith, common_steps)
 
-pub returns-in_err-row : goal.returns-in_err-row
-returns-in_err-row c = grind (arith, common_steps)
+pub returns-in_err-stretch : goal.returns-in_err-stretch
+returns-in_err-stretch c = grind (arith, common_steps)
 
 pub returns-in_err-name : goal.returns-in_err-name
 returns-in_err-name c = grind (arith, common_steps)

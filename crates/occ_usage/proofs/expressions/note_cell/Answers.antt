@@ -5,4 +5,4 @@ use Rattle.occ_usage.proofs.UseSets.{adds_as, only_between}
 use Rattle.occ_usage.proofs.expressions.note_cell.Goals as goal
 
 pub returns : goal.returns
-returns c = adds_as c.in_ok-note_row.ensures (ap (λ n. reading (numbers_in (span n 1))) c.from.ensures ∙ ap reading (sym (only_between c.args.cell)))
+returns c = adds_as c.in_ok-note_span.ensures (ap (λ n. reading (numbers_in (span n 1))) c.from.ensures ∙ ap reading (sym (only_between c.args.cell)))

@@ -3,7 +3,7 @@ use Rattle.std.proofs.lemmas.Grind.{common_steps}
 use Rattle.occ_term.specs.Messages.{product}
 use Rattle.occ_term.specs.ArraySizes.{AreFew}
 use Rattle.occ_term.proofs.Few.{few_behind, few_product}
-use Rattle.occ_usage.proofs.Rows.{cells_left, one_left}
+use Rattle.occ_usage.proofs.Components.{cells_left, one_left}
 use Rattle.occ_usage.proofs.places.cells_of_place.Goals as goal
 
 rest : (s : List ℕ) (n : ℕ) → take (length s - n) (drop n s) ≡ drop n s

@@ -1,7 +1,7 @@
 use Rattle.std.proofs.Common.{◌*◌, ◌+◌, drop, min, ap, sym, ◌∙◌}
 use Rattle.occ_term.specs.Messages.{product}
 use Rattle.occ_term.proofs.Saturating.{saturates}
-use Rattle.occ_usage.proofs.Rows.{product_next}
+use Rattle.occ_usage.proofs.Components.{product_next}
 use Rattle.occ_usage.proofs.places.components.Goals as goal
 
 pub loop-size-preserved : goal.loop-size-preserved

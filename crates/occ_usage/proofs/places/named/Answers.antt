@@ -1,5 +1,5 @@
 use Rattle.std.proofs.Common.{◌<◌, get_or, length, ap, subst, sym, ◌∙◌}
-use Rattle.occ_usage.proofs.Rows.{names_next}
+use Rattle.occ_usage.proofs.Components.{names_next}
 use Rattle.occ_usage.proofs.places.named.Goals as goal
 
 pub loop-subscript-preserved : goal.loop-subscript-preserved

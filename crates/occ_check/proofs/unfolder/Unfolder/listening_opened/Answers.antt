@@ -50,13 +50,13 @@ returns-in_ok-test-in-OnVariant-clause-opens c =
     let p = c.in_ok-test-in-OnVariant.protocol in
     let m = counted c.guarding_variants.new.self in
     let deep = c.args.depth + 1 in
-    let rows = held_variants (hidden-the_row-Variant-1 c.in-OnVariant.variants) in
+    let held = held_variants (hidden-the_row-Variant-1 c.in-OnVariant.variants) in
     ap (λ a. put behind (listening a sc c.args.depth (counted c.args.self.now))) c.in-OnVariant.is
     ∙ ap (put behind)
-    (variants_open c.in-OnVariant.line (option_map tree_of c.in-OnVariant.guard.value.condition) (lines.var_of c.in-OnVariant.guard.value.channel) (λ q. all_variants rows q []) sc c.args.depth (counted c.args.self.now) (test, (p, place)) m
+    (variants_open c.in-OnVariant.line (option_map tree_of c.in-OnVariant.guard.value.condition) (lines.var_of c.in-OnVariant.guard.value.channel) (λ q. all_variants held q []) sc c.args.depth (counted c.args.self.now) (test, (p, place)) m
     (ap (λ (g : VariantGuard). guarding_variants (names_of sc) c.in-OnVariant.line c.args.depth (option_map tree_of g.condition) (lines.var_of g.channel) (counted c.args.self.now)) (sym c.deref-in-OnVariant.ensures)
     ∙ c.in_ok-test-in-OnVariant.ensures.guard))
-    ∙ put_put behind (λ vs. T.input_arm test place (T.Tagged vs) T.no_arms) (all_variants rows p [] sc deep m)
+    ∙ put_put behind (λ vs. T.input_arm test place (T.Tagged vs) T.no_arms) (all_variants held p [] sc deep m)
     ∙ ap (λ ns. put (λ vs. behind (T.input_arm test place (T.Tagged vs) T.no_arms)) (all_variants ns p [] sc deep m)) (sym c.listed_variants-variants.ensures)
     ∙ ap (λ f. put (λ vs. behind (T.input_arm test place (T.Tagged vs) T.no_arms)) (all_variants (nodes (map variant_of c.listed_variants-variants.result.now)) p [] (meant (scope_in (reverse f.blocks.items) c.args.at)) deep m))
     (sym c.in_ok-test-in-OnVariant.ensures.kept)
