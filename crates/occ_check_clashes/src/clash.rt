@@ -11,7 +11,8 @@ ghost use Rattle.occ_check_clashes.specs.Clash.{fixed_spans, stretches_of};
 use crate::named::span_named;
 use crate::naming::some_names_another;
 use occ_check_names::constant::constant_of;
-use occ_check_typing::overlap::{Span, some_meet};
+use occ_check_typing::overlap::some_meet;
+use occ_check_typing::span::Span;
 use occ_term::{Place, Target, TermExpr};
 use std::alloc::{AllocError, Global};
 

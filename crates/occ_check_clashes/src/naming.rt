@@ -11,7 +11,7 @@ ghost use Rattle.occ_check_clashes.specs.Clash.{AreSorted, begins_at, below, end
 ghost use Rattle.occ_check_typing.specs.Spans.{span_of};
 
 use crate::named::{span_named, whole_of};
-use occ_check_typing::overlap::Span;
+use occ_check_typing::span::Span;
 use occ_term::{Place, TermExpr};
 use std::alloc::{AllocError, Global};
 

@@ -9,4 +9,5 @@ pub mod item;
 pub mod overlap;
 pub mod reading;
 pub mod replicator;
+pub mod span;
 pub mod types;

@@ -1,30 +1,17 @@
 //! Whether two reference actuals share a cell.
 
-ghost use Rattle.std.specs.Prelude.{◌≡◌, ◌<◌, ◌+◌, ◌*◌, ◌^◌, IfOk, IfSome, map, nat_lt};
-ghost use Rattle.occ_term.specs.Messages.{product};
-ghost use Rattle.occ_term.specs.ArraySizes.{AreFew};
-ghost use Rattle.occ_term.specs.Uses.{constant_subscript, part_named};
-ghost use Rattle.occ_term.specs.View.{subscripts};
+ghost use Rattle.std.specs.Prelude.{◌≡◌, ◌+◌, IfOk, map, nat_lt};
 ghost use Rattle.occ_check_meaning.specs.Calls as meant;
 ghost use Rattle.occ_check_meaning.specs.Items.{have_common, part_span};
-ghost use Rattle.occ_check_names.specs.View.{evaluated_of, stretch_of};
+ghost use Rattle.occ_check_names.specs.View.{stretch_of};
 ghost use Rattle.occ_check_typing.specs.Spans.{span_of};
 ghost use Rattle.occ_check_typing.specs.Overlap.{end_in_turn, ends_before, neighbours_meet};
 ghost use Rattle.occ_check_typing.specs.Declaration.{pairs_of};
 
 use crate::declaration::Named;
-use occ_check_names::known::{Access, Evaluated, Known, Stretch};
-use occ_check_names::numbers::components;
+use crate::span::{Span, part_of};
+use occ_check_names::known::{Access, Known, Stretch};
 use std::alloc::{AllocError, Global};
-
-/// Cells one after another.
-#[derive(Clone, Copy)]
-pub struct Span {
-    /// The first.
-    pub first: u64,
-    /// How many there are.
-    pub count: u64,
-}
 
 /// Whether two of the names that may be assigned to share a cell. A subscript that is no constant counts the whole array.
 ///
@@ -147,64 +134,5 @@ fn begins_in(a: Span, b: Span) -> bool
 fn span_of(stretch: &Stretch) -> Span
     ensures { span_of result ≡ part_span (stretch_of stretch.now) }
 {
-    stretch.sizes.few();
-    let whole = Span {
-        first: u64::from(stretch.first),
-        count: u64::from(components(stretch.sizes.as_slice())),
-    };
-    part_named(
-        stretch.subscripts.as_slice(),
-        whole.first,
-        stretch.sizes.as_slice(),
-        whole,
-    )
-}
-
-fn part_named(under: &[Evaluated], first: u64, sizes: &[u32], whole: Span) -> Span
-    requires few { AreFew sizes.now }
-    requires all { product sizes.now < 2 ^ 32 }
-    requires last { first + product sizes.now < 2 ^ 33 }
-    ensures { span_of result ≡ part_named (subscripts (map evaluated_of under.now)) first sizes.now (span_of whole) }
-{
-    let Some((subscript, rest)) = under.split_first() else {
-        let count = u64::from(components(sizes));
-        return Span { first, count };
-    };
-    let Some((size, others)) = sizes.split_first() else {
-        return whole;
-    };
-    let Some(index) = index_within(*subscript, *size) else {
-        return whole;
-    };
-    let count = u64::from(components(others));
-    let first = first_of_component(first, *size, index, count);
-    part_named(rest, first, others, whole)
-}
-
-/// The first cell of a component with so many cells, in an array of so many of them.
-#[tactic(auto, using(crate::proofs::Components::one_more))]
-pub fn first_of_component(first: u64, size: u32, index: u32, count: u64) -> u64
-    requires within { index < size }
-    requires few { first + size * count < 2 ^ 33 }
-    ensures first { result ≡ first + index * count }
-    ensures few { result + count < 2 ^ 33 }
-{
-    first + u64::from(index) * count
-}
-
-/// A constant subscript within the size.
-pub fn index_within(subscript: Evaluated, size: u32) -> Option<u32>
-    ensures index { result ≡ constant_subscript (evaluated_of subscript) size }
-    ensures within { IfSome result (λ index. index < size) }
-{
-    match subscript {
-        Evaluated::Value(value) => {
-            if value >= 0 && value < i64::from(size) {
-                Some(value as u32)
-            } else {
-                None
-            }
-        }
-        Evaluated::Cell(_, _) => None,
-    }
+    part_of(stretch.first, &stretch.sizes, stretch.subscripts.as_slice())
 }
