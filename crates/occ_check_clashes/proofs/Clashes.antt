@@ -1,4 +1,4 @@
--- Rows clash by their parts, where their subscripts are constant, or by a variable that a subscript names.
+-- Stretches clash by their parts, where their subscripts are constant, or by a variable that a subscript names.
 use Rattle.std.proofs.Common.{◌≡◌, ◌∙◌, ap, refl, List, [], ◌∷◌, Bool, true, false, sym}
 use Rattle.std.specs.Prelude.{cond, ◌&&◌, ◌||◌}
 use Rattle.occ_term.specs.Values.{Span}
