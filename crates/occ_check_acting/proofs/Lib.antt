@@ -1,5 +1,5 @@
 pub mod GivenSubscripts
-pub mod Choosing
+pub mod CaseConstants
 pub mod Calls
 pub mod Targets
 pub mod Receiving

@@ -5,13 +5,13 @@
 mod arms;
 mod choices;
 mod common;
-mod counting;
 mod entries;
 mod jumps;
 mod operands;
 mod operators;
 mod parts;
 mod quick;
+mod replicating;
 mod results;
 pub mod scratch;
 pub mod segment;

@@ -1,5 +1,5 @@
 use Rattle.occ_check_acting.specs.Action.{chosen_of}
-use Rattle.occ_check_acting.proofs.Choosing.{Going}
+use Rattle.occ_check_acting.proofs.CaseConstants.{Going}
 use Rattle.occ_check_acting.proofs.action.choosing.Given as goal
 
 abbrev pub invariant-loop-constant : goal.invariant-loop-constant
