@@ -39,7 +39,7 @@ reach ends zero = 0
 reach [] (suc n) = 0
 reach (e ∷ ends) (suc n) = max e (reach ends n)
 
--- At each number stands the furthest end of a row that begins there.
+-- At each number stands the furthest end of a use that begins there.
 pub record AreEnds (ends : List ℕ) (count : ℕ) (set : Numbers) : Type 0 where
   pub long : length ends ≡ count
   pub short : (n : ℕ) → reach ends n ≤ count

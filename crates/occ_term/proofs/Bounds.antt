@@ -5,7 +5,7 @@ use Rattle.std.proofs.lemmas.Bool.Decides.{nat_tests}
 use Rattle.std.proofs.lemmas.List.{drop_more, drop_all}
 use Rattle.occ_term.specs.Messages.{FaultKind, Range, Fault, product}
 use Rattle.occ_term.specs.Values.{Span, Store, Evaluated, Value, Fails, after, checked, subscript, value_of, offset_of, first_of}
-use Rattle.occ_term.specs.Evaluation.{FewCells, Bounded, BoundedPlace, BoundedSubscripts, first_named, first_of_row}
+use Rattle.occ_term.specs.Evaluation.{FewCells, Bounded, BoundedPlace, BoundedSubscripts, first_named, first_of_component}
 use Rattle.occ_term.specs.Terms as T
 use Rattle.occ_term.specs.View as View
 use Rattle.occ_term.specs.View.{expression_of, place_of}
@@ -94,11 +94,11 @@ module _ (line first : ℕ) (s : Store) (named : Evaluated ℕ) where
   walked sizes w = w.rest
 
   module _ (e : TermExpr) (es : List TermExpr) (n : ℕ) (ns : List ℕ) (w : Walks (e ∷ es) line first (n ∷ ns) s named) where
-    pub fails : (f : Fault) → Fails f ≡ first_of_row line first n ns (expression_of e) s → Fails f ≡ named
+    pub fails : (f : Fault) → Fails f ≡ first_of_component line first n ns (expression_of e) s → Fails f ≡ named
     fails f h =
         rows_fail (λ i. first + i * product ns) (λ y. offset_of (seen es) line y ns s) f (value_of (expression_of e) s) (subscript line n) h ∙ w.rest
 
-    pub walks_on : (x : ℕ) → Value x ≡ first_of_row line first n ns (expression_of e) s → Walks es line x ns s named
+    pub walks_on : (x : ℕ) → Value x ≡ first_of_component line first n ns (expression_of e) s → Walks es line x ns s named
     walks_on x h =
         let (y, i, g, q, k) = rows_give (λ i. first + i * product ns) (λ y. offset_of (seen es) line y ns s) x (value_of (expression_of e) s) (subscript line n) h in
         record { rest = k ∙ w.rest; bounded = w.bounded.1; few = λ m. rw q (row_few first n i (product ns) w.few (within_size line n y i g) m) }
@@ -134,10 +134,10 @@ module _ (es : List TermExpr) (i : ℕ) (e : TermExpr) (h : i < length es) (is :
     pub row_has_few : FewCells first (n ∷ ns)
     row_has_few = here_sizes.few
 
-    pub fails_at : (f : Fault) → Fails f ≡ first_of_row line first n ns (expression_of e) s → Fails f ≡ named
+    pub fails_at : (f : Fault) → Fails f ≡ first_of_component line first n ns (expression_of e) s → Fails f ≡ named
     fails_at f k = fails line first s named e (drop (i + 1) es) n ns here_sizes f k
 
-    pub walks_at : (x : ℕ) → Value x ≡ first_of_row line first n ns (expression_of e) s → Walks (drop (i + 1) es) line x ns s named
+    pub walks_at : (x : ℕ) → Value x ≡ first_of_component line first n ns (expression_of e) s → Walks (drop (i + 1) es) line x ns s named
     walks_at x k = walks_on line first s named e (drop (i + 1) es) n ns here_sizes x k
 
 pub walked_at : (es : List TermExpr) (i : ℕ) (line first : ℕ) (s : Store) (named : Evaluated ℕ) (sizes : List ℕ) → length es ≤ i → Walks (drop i es) line first sizes s named → Value first ≡ named

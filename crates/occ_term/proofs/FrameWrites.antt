@@ -4,7 +4,7 @@ use Rattle.std.proofs.Common.{◌≡◌, ◌∙◌, sym, refl, ap, ℕ, zero, su
 use Rattle.std.proofs.Math.ListN.{set}
 use Rattle.std.proofs.lemmas.Bool.Decides.{nat_tests}
 use Rattle.std.proofs.lemmas.List.{at_drop_more, at_drop_all}
-use Rattle.occ_term.specs.Frames.{Variables, value_at, values_with, frame_from, frame_with, row_with, place_among, place_in, counter_at, counters_with}
+use Rattle.occ_term.specs.Frames.{Variables, value_at, values_with, frame_from, frame_with, span_with, place_among, place_in, counter_at, counters_with}
 
 -- ---- the place of a cell
 
@@ -110,48 +110,48 @@ with_there xs vs c v o e = with_by xs vs c v ∙ ap (λ p. write_at p vs v) (sym
 
 -- ---- values in a row
 
-pub frame_from_is : (vs : List ℤ) (first : ℕ) (f : Variables) → frame_from first vs f ≡ record f { values = row_with f.cells f.values first vs }
+pub frame_from_is : (vs : List ℤ) (first : ℕ) (f : Variables) → frame_from first vs f ≡ record f { values = span_with f.cells f.values first vs }
 frame_from_is [] first f = refl
 frame_from_is (v ∷ vs) first f = frame_from_is vs (first + 1) (frame_with f first v)
 
 -- no cell is as great as that
-pub row_beyond : (xs : List ℕ) (held : List ℤ) (vs : List ℤ) (first bound : ℕ) → ((k : ℕ) → get_or xs k 0 < bound) → bound ≤ first → row_with xs held first vs ≡ held
-row_beyond xs held [] first bound h m = refl
-row_beyond xs held (v ∷ vs) first bound h m =
+pub span_beyond : (xs : List ℕ) (held : List ℤ) (vs : List ℤ) (first bound : ℕ) → ((k : ℕ) → get_or xs k 0 < bound) → bound ≤ first → span_with xs held first vs ≡ held
+span_beyond xs held [] first bound h m = refl
+span_beyond xs held (v ∷ vs) first bound h m =
     let none = place_none xs first (λ k i e. let below = h k in omega (arith, below, e)) in
     let same : values_with xs held first v ≡ held = with_there xs held first v None (sym none) in
-    ap (λ ws. row_with xs ws (first + 1) vs) same ∙ row_beyond xs held vs (first + 1) bound h (omega arith)
+    ap (λ ws. span_with xs ws (first + 1) vs) same ∙ span_beyond xs held vs (first + 1) bound h (omega arith)
 
-pub row_step : (xs : List ℕ) (held : List ℤ) (first i : ℕ) (vs : List ℤ) (d : ℤ) → i < length vs → row_with xs (values_with xs held (first + i) (get_or vs i d)) (first + (i + 1)) (drop (i + 1) vs) ≡ row_with xs held (first + i) (drop i vs)
-row_step xs held first i vs d h =
+pub span_step : (xs : List ℕ) (held : List ℤ) (first i : ℕ) (vs : List ℤ) (d : ℤ) → i < length vs → span_with xs (values_with xs held (first + i) (get_or vs i d)) (first + (i + 1)) (drop (i + 1) vs) ≡ span_with xs held (first + i) (drop i vs)
+span_step xs held first i vs d h =
     let next : first + (i + 1) ≡ first + i + 1 = omega arith in
-    ap (λ m. row_with xs (values_with xs held (first + i) (get_or vs i d)) m (drop (i + 1) vs)) next
-    ∙ sym (at_drop_more (row_with xs held (first + i)) vs i d h)
+    ap (λ m. span_with xs (values_with xs held (first + i) (get_or vs i d)) m (drop (i + 1) vs)) next
+    ∙ sym (at_drop_more (span_with xs held (first + i)) vs i d h)
 
-pub row_end : (xs : List ℕ) (held : List ℤ) (first i : ℕ) (vs : List ℤ) → length vs ≤ i → row_with xs held (first + i) (drop i vs) ≡ held
-row_end xs held first i vs h = at_drop_all (row_with xs held (first + i)) vs i h
+pub span_end : (xs : List ℕ) (held : List ℤ) (first i : ℕ) (vs : List ℤ) → length vs ≤ i → span_with xs held (first + i) (drop i vs) ≡ held
+span_end xs held first i vs h = at_drop_all (span_with xs held (first + i)) vs i h
 
-pub row_start : (xs : List ℕ) (held : List ℤ) (first : ℕ) (vs : List ℤ) → row_with xs held (first + 0) (drop 0 vs) ≡ row_with xs held first vs
-row_start xs held first vs = ap (λ m. row_with xs held m vs) (add-zero first)
+pub span_start : (xs : List ℕ) (held : List ℤ) (first : ℕ) (vs : List ℤ) → span_with xs held (first + 0) (drop 0 vs) ≡ span_with xs held first vs
+span_start xs held first vs = ap (λ m. span_with xs held m vs) (add-zero first)
 
 -- ---- zeros in a row
 
-pub zeros_step : (xs : List ℕ) (held : List ℤ) (first i n : ℕ) → i < n → row_with xs (values_with xs held (first + i) (pos 0)) (first + (i + 1)) (replicate (n - (i + 1)) (pos 0)) ≡ row_with xs held (first + i) (replicate (n - i) (pos 0))
+pub zeros_step : (xs : List ℕ) (held : List ℤ) (first i n : ℕ) → i < n → span_with xs (values_with xs held (first + i) (pos 0)) (first + (i + 1)) (replicate (n - (i + 1)) (pos 0)) ≡ span_with xs held (first + i) (replicate (n - i) (pos 0))
 zeros_step xs held first i n h =
     let next : first + (i + 1) ≡ first + i + 1 = omega arith in
     let more : n - i ≡ suc (n - (i + 1)) = omega (arith, h) in
-    ap (λ m. row_with xs (values_with xs held (first + i) (pos 0)) m (replicate (n - (i + 1)) (pos 0))) next
-    ∙ sym (ap (λ m. row_with xs held (first + i) (replicate m (pos 0))) more)
+    ap (λ m. span_with xs (values_with xs held (first + i) (pos 0)) m (replicate (n - (i + 1)) (pos 0))) next
+    ∙ sym (ap (λ m. span_with xs held (first + i) (replicate m (pos 0))) more)
 
-pub zeros_start : (xs : List ℕ) (held : List ℤ) (first n : ℕ) → row_with xs held (first + 0) (replicate (n - 0) (pos 0)) ≡ row_with xs held first (replicate n (pos 0))
+pub zeros_start : (xs : List ℕ) (held : List ℤ) (first n : ℕ) → span_with xs held (first + 0) (replicate (n - 0) (pos 0)) ≡ span_with xs held first (replicate n (pos 0))
 zeros_start xs held first n =
     let same : n - 0 ≡ n = omega arith in
-    ap (λ m. row_with xs held m (replicate (n - 0) (pos 0))) (add-zero first) ∙ ap (λ m. row_with xs held first (replicate m (pos 0))) same
+    ap (λ m. span_with xs held m (replicate (n - 0) (pos 0))) (add-zero first) ∙ ap (λ m. span_with xs held first (replicate m (pos 0))) same
 
-pub zeros_end : (xs : List ℕ) (held : List ℤ) (first i n : ℕ) → n ≤ i → row_with xs held (first + i) (replicate (n - i) (pos 0)) ≡ held
+pub zeros_end : (xs : List ℕ) (held : List ℤ) (first i n : ℕ) → n ≤ i → span_with xs held (first + i) (replicate (n - i) (pos 0)) ≡ held
 zeros_end xs held first i n h =
     let none : n - i ≡ 0 = omega (arith, h) in
-    ap (λ m. row_with xs held (first + i) (replicate m (pos 0))) none
+    ap (λ m. span_with xs held (first + i) (replicate m (pos 0))) none
 
 -- ---- counters
 

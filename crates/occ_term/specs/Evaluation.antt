@@ -57,9 +57,9 @@ abbrev mutual
 abbrev pub first_named : Place → Store → Evaluated ℕ
 first_named p s = after (span_of p s) (λ at. Value (first_of at))
 
--- the first cell of the component, or of the row, with this subscript
-abbrev pub first_of_row : ℕ → ℕ → ℕ → List ℕ → Expression → Store → Evaluated ℕ
-first_of_row line first size others e s = after (value_of e s) (λ v. after (subscript line size v) (λ i. Value (first + i * product others)))
+-- the first cell of the component with this subscript
+abbrev pub first_of_component : ℕ → ℕ → ℕ → List ℕ → Expression → Store → Evaluated ℕ
+first_of_component line first size others e s = after (value_of e s) (λ v. after (subscript line size v) (λ i. Value (first + i * product others)))
 
 -- a letter of a string of bytes
 abbrev pub letter : ℕ → List ℕ → ℤ → Evaluated ℤ

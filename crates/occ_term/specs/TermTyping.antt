@@ -12,7 +12,7 @@ pub record Declared : Type 0 where
   pub types : ℕ → Option Primitive
   pub protocols : ℕ → Option Protocol
 
--- one channel of a declared row, each of which has this protocol
+-- one channel of those declared together, each of which has this protocol
 abbrev pub ChannelHas : Declared → Place → Protocol → Type 0
 ChannelHas d (place line first sizes subs) p =
     ((c : ℕ) → IsTrue (numbers_in (span first (product sizes)) c) → d.protocols c ≡ Some p) × SubscriptsLeave d.types subs sizes []

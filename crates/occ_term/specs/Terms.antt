@@ -1,7 +1,7 @@
 -- The unfolded program: expressions, variables, and terms.
--- Cells and channels are numbers. An array is a row of cells, or of channels, from its first on.
+-- Cells and channels are numbers. An array is cells, or channels, one after another from its first on.
 -- Manual: expressions; variables and values; primitive processes; combining processes. Calls and replicated PARs are unfolded
--- by now (manual: scope, procedures); that all variables are cells in one row is (own).
+-- by now (manual: scope, procedures); that all variables are cells with numbers is (own).
 use Rattle.std.specs.Prelude.{Bool, List, None, Option, Some, pos, ℕ, ℤ}
 use Rattle.occ_term.specs.Messages.{Primitive}
 pub use Rattle.occ_term.specs.declared.expression.Operator.{Operator}

@@ -12,11 +12,11 @@ use Rattle.occ_term.specs.TurnExamples.{writes_a}
 
 -- ---- use: PAR a[0] := a[1] beside a[i] := 2, for [2][2]INT a
 
-abbrev pub row_of : Expression → Place
-row_of e = place 4 0 (2 ∷ 2 ∷ []) (then_subscript e no_subscripts)
+abbrev pub component_of : Expression → Place
+component_of e = place 4 0 (2 ∷ 2 ∷ []) (then_subscript e no_subscripts)
 
-abbrev pub copies_row : Term
-copies_row = Assign (Into (row_of (number (pos 0))) ∷ []) (OfMany Int (Cells (row_of (number (pos 1)))) ∷ [])
+abbrev pub copies_component : Term
+copies_component = Assign (Into (component_of (number (pos 0))) ∷ []) (OfMany Int (Cells (component_of (number (pos 1)))) ∷ [])
 
 abbrev pub two_of_three : Item
 two_of_three = OfCounted Byte 1 (number (pos 2)) (Text (pos 7 ∷ pos 8 ∷ pos 9 ∷ []))
@@ -26,16 +26,16 @@ two_values = replicator 1 0 (number (pos 0)) (number (pos 2))
 
 abbrev pub UseRows : Type 0
 UseRows =
-    ((uses_of copies_row).writes 1 ≡ true)
-    × ((uses_of copies_row).writes 2 ≡ false)
-    × ((uses_of copies_row).reads 2 ≡ true)
-    × ((uses_of copies_row).reads 1 ≡ false)
-    × (named_by (row_of (Cell 9)) 3 ≡ true)
-    × (named_by (row_of (Binary Divide Int 4 (number (pos 1)) (number (pos 0)))) 3 ≡ true)
-    × ((size_of copies_row).nodes ≡ 5)
-    × ((size_of copies_row).depth ≡ 3)
+    ((uses_of copies_component).writes 1 ≡ true)
+    × ((uses_of copies_component).writes 2 ≡ false)
+    × ((uses_of copies_component).reads 2 ≡ true)
+    × ((uses_of copies_component).reads 1 ≡ false)
+    × (named_by (component_of (Cell 9)) 3 ≡ true)
+    × (named_by (component_of (Binary Divide Int 4 (number (pos 1)) (number (pos 0)))) 3 ≡ true)
+    × ((size_of copies_component).nodes ≡ 5)
+    × ((size_of copies_component).depth ≡ 3)
     × ((size_of (Seq (then_term (Clear 0 4) (then_term (Each (replicator 2 4 (number (pos 0)) (number (pos 2))) Skip) no_terms)))).cells ≡ 5)
-    × (cells_of_item (OfMany Int (Cells (row_of (number (pos 1))))) ≡ 2)
+    × (cells_of_item (OfMany Int (Cells (component_of (number (pos 1))))) ≡ 2)
     × ((uses_of (Local 5 two_of_three)).writes 7 ≡ true)
     × ((uses_of (Local 5 two_of_three)).writes 8 ≡ false)
     × (cell_in 6 (declared (Naming 5 two_of_three) zeros) ≡ pos 8)

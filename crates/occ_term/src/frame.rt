@@ -1,6 +1,6 @@
 //! The variables of a process.
 ghost use Rattle.std.specs.Prelude.{◌≡◌, ◌<◌, ◌↔◌, IsTrue, IfOk, length, pos, replicate, slice_index_or, slice_set, []};
-ghost use Rattle.occ_term.specs.Frames.{at, in_place, value_at, values_with, zero_frame, frame_with, with_place, frame_from, row_with, counter_at, with_counter};
+ghost use Rattle.occ_term.specs.Frames.{at, in_place, value_at, values_with, zero_frame, frame_with, with_place, frame_from, span_with, counter_at, with_counter};
 
 use crate::frame_cells::FrameCells;
 use crate::message::same_values;
@@ -80,14 +80,14 @@ impl Frame {
     }
 
     /// Gives cells in a row these values, from the first cell on.
-    pub fn set_row(&mut self, first: u64, values: &[i64])
+    pub fn set_span(&mut self, first: u64, values: &[i64])
         ensures { self.new ≡ frame_from first values.now self.old }
     {
         set_values(&self.cells, &mut self.values, first, values);
     }
 
     /// Gives so many cells in a row the value 0, from the first cell on.
-    pub fn clear_row(&mut self, first: u32, count: u32)
+    pub fn clear_span(&mut self, first: u32, count: u32)
         ensures { self.new ≡ frame_from first (replicate count (pos 0)) self.old }
     {
         clear_values(&self.cells, &mut self.values, first, count);
@@ -188,7 +188,7 @@ fn set_in(values: &mut [i64], place: usize, value: i64)
 }
 
 fn set_values(cells: &FrameCells, held: &mut [i64], first: u64, values: &[i64])
-    ensures { held.new ≡ row_with cells.now held.old first values.now }
+    ensures { held.new ≡ span_with cells.now held.old first values.now }
 {
     cells.words();
     for (i, value) in values.iter().enumerate() {
@@ -201,7 +201,7 @@ fn set_values(cells: &FrameCells, held: &mut [i64], first: u64, values: &[i64])
 }
 
 fn clear_values(cells: &FrameCells, held: &mut [i64], first: u32, count: u32)
-    ensures { held.new ≡ row_with cells.now held.old first (replicate count (pos 0)) }
+    ensures { held.new ≡ span_with cells.now held.old first (replicate count (pos 0)) }
 {
     for i in 0..count {
         set_value(cells, held, u64::from(first) + u64::from(i), 0);

@@ -5,7 +5,7 @@ ghost use Rattle.occ_term.specs.Values as values;
 ghost use Rattle.occ_term.specs.Frames.{at};
 ghost use Rattle.occ_term.specs.UnfoldedProgram.{most_cells};
 ghost use Rattle.occ_term.specs.View.{expression_of, place_of};
-ghost use Rattle.occ_term.specs.Evaluation.{evaluated, CanBeEvaluated, Bounded, BoundedPlace, FewCells, first_named, first_of_row, letter};
+ghost use Rattle.occ_term.specs.Evaluation.{evaluated, CanBeEvaluated, Bounded, BoundedPlace, FewCells, first_named, first_of_component, letter};
 
 use crate::expression::{Place, TermExpr};
 use crate::fault::{Fault, FaultKind};
@@ -81,7 +81,7 @@ fn first_named(place: &Place, frame: &Frame) -> Result<u32, Fault>
         match sizes.split_first() {
             None => return Ok(first),
             Some((size, others)) => {
-                first = first_of_row(place.line, first, *size, others, e, frame)?;
+                first = first_of_component(place.line, first, *size, others, e, frame)?;
                 sizes = others;
             }
         }
@@ -89,9 +89,9 @@ fn first_named(place: &Place, frame: &Frame) -> Result<u32, Fault>
     Ok(first)
 }
 
-/// The first cell of the component, or of the row, with this subscript.
+/// The first cell of the component with this subscript.
 #[cycle(evaluation)]
-fn first_of_row(
+fn first_of_component(
     line: u32,
     first: u32,
     size: u32,
@@ -101,14 +101,14 @@ fn first_of_row(
 ) -> Result<u32, Fault>
     requires few { FewCells first (size ∷ others.now) }
     requires bounded { Bounded (expression_of e.now) (at frame.now) }
-    ensures { evaluated result ≡ first_of_row line first size others.now (expression_of e.now) (at frame.now) }
+    ensures { evaluated result ≡ first_of_component line first size others.now (expression_of e.now) (at frame.now) }
 {
     let v = evaluate(e, frame)?;
     let i = subscript(line, size, v)?;
-    Ok(row(first, size, others, i))
+    Ok(first_with(first, size, others, i))
 }
 
-fn row(first: u32, size: u32, others: &[u32], i: u32) -> u32
+fn first_with(first: u32, size: u32, others: &[u32], i: u32) -> u32
     requires few { FewCells first (size ∷ others.now) }
     requires within { i < size }
     ensures { result ≡ first + i * messages.product others.now }

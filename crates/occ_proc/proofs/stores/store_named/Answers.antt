@@ -8,4 +8,4 @@ use Rattle.occ_proc.proofs.stores.store_named.Goals as goal
 pub returns : goal.returns
 returns c = λ pc st sp.
     rw (c.in-Some.ensures, last_is, others_are)
-    (ap (λ f. Moves (point (pc + 1) st c.pop.new.self sp f)) (sym (c.store_row.ensures ∙ ap (λ n. frame_from n (values_in c.in-Some.part) c.args.frame.now) c.from.ensures)))
+    (ap (λ f. Moves (point (pc + 1) st c.pop.new.self sp f)) (sym (c.store_span.ensures ∙ ap (λ n. frame_from n (values_in c.in-Some.part) c.args.frame.now) c.from.ensures)))

@@ -1,9 +1,9 @@
 use Rattle.std.proofs.Common.{◌≡◌, ◌≤◌, ◌<◌, ◌^◌, ◌+◌, ◌∙◌, ℕ, get_or, sym, drop, arith, rules}
-use Rattle.occ_term.specs.Frames.{row_with}
-use Rattle.occ_term.proofs.FrameWrites.{row_beyond}
+use Rattle.occ_term.specs.Frames.{span_with}
+use Rattle.occ_term.proofs.FrameWrites.{span_beyond}
 use Rattle.occ_term.proofs.frame.set_values.Goals as goal
 
 pub returns-then-i-first : goal.returns-then-i-first
 returns-then-i-first c =
     let far : 2 ^ 32 ≤ c.args.first + c.loop-i.i = omega arith in
-    sym (row_beyond c.args.cells.now c.loop-i.held (drop c.loop-i.i c.args.values.now) (c.args.first + c.loop-i.i) (2 ^ 32) c.words.ensures far) ∙ c.loop-i.invariant
+    sym (span_beyond c.args.cells.now c.loop-i.held (drop c.loop-i.i c.args.values.now) (c.args.first + c.loop-i.i) (2 ^ 32) c.words.ensures far) ∙ c.loop-i.invariant

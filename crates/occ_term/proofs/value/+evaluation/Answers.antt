@@ -17,8 +17,8 @@ pub first_named-returns-in-None : goal.first_named-returns-in-None
 first_named-returns-in-None t c =
     no_size_at c.as_slice-e-items.result.now c.loop-e.e-index c.e-item.result c.loop-e-test.true c.e-item.is c.args.place.now.line c.loop-e.first (at c.args.frame.now) (first_named (place_of c.args.place.now) (at c.args.frame.now)) c.loop-e.sizes.now c.loop-e.invariant c.in-None.ensures.cases
 
-pub first_named-first_of_row-requires : goal.first_named-first_of_row-requires
-first_named-first_of_row-requires t c =
+pub first_named-first_of_component-requires : goal.first_named-first_of_component-requires
+first_named-first_of_component-requires t c =
     let few = row_has_few c.as_slice-e-items.result.now c.loop-e.e-index c.e-item.result c.loop-e-test.true c.e-item.is c.args.place.now.line c.loop-e.first (at c.args.frame.now) (first_named (place_of c.args.place.now) (at c.args.frame.now)) c.loop-e.sizes.now c.loop-e.invariant c.in-Some.size.now c.in-Some.others.now c.in-Some.ensures.cases.0 in
     let bounded = row_bounded c.as_slice-e-items.result.now c.loop-e.e-index c.e-item.result c.loop-e-test.true c.e-item.is c.args.place.now.line c.loop-e.first (at c.args.frame.now) (first_named (place_of c.args.place.now) (at c.args.frame.now)) c.loop-e.sizes.now c.loop-e.invariant c.in-Some.size.now c.in-Some.others.now c.in-Some.ensures.cases.0 in
     (search (rules, the_lemmas), (few, bounded))
