@@ -1,5 +1,6 @@
-//! Programs that are accepted, before they are compiled.
+//! Programs that are accepted, and their code.
 use occ_check::unfold;
+use occ_code::{Code, compile};
 use occ_term::Unfolded;
 use occ_text::{Source, read_lines};
 use occ_tree::parse;
@@ -17,4 +18,10 @@ pub(crate) fn accepted(alloc: Global, source: &[u8]) -> Option<Checked> {
     let lines = read_lines(alloc, source).ok()?;
     let unfolded = unfolded(alloc, &lines)?;
     check_usage(alloc, unfolded).ok()
+}
+
+/// The code of a source, where it is accepted.
+pub(crate) fn code_of(alloc: Global, source: &[u8]) -> Option<Code> {
+    let checked = accepted(alloc, source)?;
+    compile(alloc, &checked).ok()
 }

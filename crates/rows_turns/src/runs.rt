@@ -1,5 +1,5 @@
 //! Runs of plans.
-use crate::turned::code_of;
+use crate::accepted::code_of;
 use occ_choices::Plan;
 use occ_net::{Network, Outcome, run};
 use occ_net_replay::Choice;

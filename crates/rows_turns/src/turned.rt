@@ -1,31 +1,13 @@
 //! Networks of sources, and turns of their processes.
 ghost use Rattle.occ_net.specs.Leases.{CanTurn};
 
+use crate::accepted::code_of;
 use crate::same::check_same;
-use occ_check::unfold;
-use occ_code::{Code, compile};
 use occ_net::{Lease, NetFault, Network};
 use occ_proc::{Segment, turn};
-use occ_text::{Source, read_lines};
-use occ_tree::parse;
-use occ_usage::{Checked, check_usage};
 use std::alloc::{AllocError, Global};
 use std::process::Abort;
 use std::test::Fail;
-
-/// The program of these lines, where it is accepted.
-fn checked(alloc: Global, lines: &Source) -> Option<Checked> {
-    let tree = parse(alloc, lines).ok()?;
-    let unfolded = unfold(alloc, &tree).ok()?;
-    check_usage(alloc, unfolded).ok()
-}
-
-/// The code of a source, where it is accepted.
-pub(crate) fn code_of(alloc: Global, source: &[u8]) -> Option<Code> {
-    let lines = read_lines(alloc, source).ok()?;
-    let checked = checked(alloc, &lines)?;
-    compile(alloc, &checked).ok()
-}
 
 /// The network of a source before its first turn, where the source is accepted and no growth is refused.
 fn new_network(alloc: Global, source: &[u8], keyboard: &[u8]) -> Option<Network> {

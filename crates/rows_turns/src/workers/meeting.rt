@@ -1,5 +1,6 @@
 //! Turns run at once, outside the lock: four of them look for one another.
-use crate::workers::sources::{FOUR, code_of};
+use crate::accepted::code_of;
+use crate::workers::sources::FOUR;
 use occ_code::{Body, Code, Task};
 use occ_net_replay::Ending;
 use occ_proc::{Segment, turn};

@@ -1,5 +1,6 @@
 //! Runs by workers: their numbers, limits, picks and refusals.
-use crate::workers::sources::{FOUR, LETTER, code_of};
+use crate::accepted::code_of;
+use crate::workers::sources::{FOUR, LETTER};
 use occ_code::{Body, Task};
 use occ_net_replay::{Choice, Ending};
 use occ_proc::{Segment, turn};
