@@ -45,14 +45,14 @@ read_on text rest others line cs c n r cut h =
 
 pub bad_there : (text rest others line : List ℕ) (cs : List Choice) (n : ℕ) → ReadTo text rest cs n → lines_of rest ≡ line ∷ lines_of others → ((c : Choice) → IsLine line c → ⊥) → IsBad text (n + 1)
 bad_there text rest others line cs n r cut none =
-    let whole : lines_of text ≡ r.lines ++ line ∷ lines_of others = r.cut ∙ ap (λ ls. r.lines ++ ls) cut in
-    let long = length-append r.lines (line ∷ lines_of others) in
-    let within : length r.lines < length (r.lines ++ line ∷ lines_of others) = omega (arith, long) in
-    let place : n + 1 - 1 ≡ length r.lines = omega (arith, r.counted) in
     record {
+      before = r.lines;
       line = line;
-      counted = omega arith;
-      there = ap (λ ls. slice_get ls (n + 1 - 1)) whole ∙ ap (slice_get (r.lines ++ line ∷ lines_of others)) place ∙ slice_get-get_or (r.lines ++ line ∷ lines_of others) (length r.lines) line within ∙ ap Some (get_or-append_seam r.lines line (lines_of others) line);
+      behind = lines_of others;
+      choices = cs;
+      cut = r.cut ∙ ap (λ ls. r.lines ++ ls) cut;
+      counted = omega (arith, r.counted);
+      read = r.read;
       none = none;
     }
 

@@ -1,6 +1,6 @@
 -- Files of choices: a line for each choice.
 -- Manual: nothing; the format is (own).
-use Rattle.std.specs.Prelude.{List, Some, [], if◌then◌else◌, length, nat_eq, slice_get, ℕ, ⊤, ◌++◌, ◌-◌, ◌<◌, ◌≤◌, ◌^◌, ◌∷◌, ◌≡◌}
+use Rattle.std.specs.Prelude.{List, Some, [], if◌then◌else◌, length, nat_eq, ℕ, ⊤, ◌+◌, ◌++◌, ◌<◌, ◌≤◌, ◌^◌, ◌∷◌, ◌≡◌}
 use Rattle.std.specs.Fmt.{decimal}
 use Rattle.std.specs.Str.Parse.{IsNumeral, digits_value}
 use Rattle.occ_net_replay.specs.declared.choice.Choice.{Choice}
@@ -56,11 +56,15 @@ most_choices = 10000000
 abbrev pub Limit : Type 0
 Limit = most_choices ≡ 10000000
 
--- the line with that number, from 1, is none
+-- the line with that number, from 1, is none, and each before it is a choice
 pub record IsBad (text : List ℕ) (number : ℕ) : Type 0 where
+  pub before : List (List ℕ)
   pub line : List ℕ
-  pub counted : 1 ≤ number
-  pub there : slice_get (lines_of text) (number - 1) ≡ Some line
+  pub behind : List (List ℕ)
+  pub choices : List Choice
+  pub cut : lines_of text ≡ before ++ line ∷ behind
+  pub counted : number ≡ length before + 1
+  pub read : AreLines before choices
   pub none : (c : Choice) → IsLine line c → ⊥
 
 abbrev pub Refuses : List ℕ → ChoiceFault → Type 0

@@ -70,9 +70,9 @@ module _ (cells : List ℕ) where
             ∙ if_each (nat_eq c c') v (at f c') (s c') (h.same c' m);
       }
 
-  pub row_held : (vs : List ℤ) (first : ℕ) (f : Variables) (s : Store) → HoldsAs cells f s → HoldsAs cells (frame_from first vs f) (store_from first vs s)
-  row_held [] first f s h = h
-  row_held (v ∷ vs) first f s h = row_held vs (first + 1) (frame_with f first v) (store_with s first v) (one_held f s first v h)
+  pub span_held : (vs : List ℤ) (first : ℕ) (f : Variables) (s : Store) → HoldsAs cells f s → HoldsAs cells (frame_from first vs f) (store_from first vs s)
+  span_held [] first f s h = h
+  span_held (v ∷ vs) first f s h = span_held vs (first + 1) (frame_with f first v) (store_with s first v) (one_held f s first v h)
 
   abbrev pub StoresAs : Stored → Outcome Nothing → Type 0
   StoresAs (Stays f) (Gives x s) = HoldsAs cells f s
@@ -81,7 +81,7 @@ module _ (cells : List ℕ) where
   StoresAs (Refused e f) (Faults e' s) = (e' ≡ e) × HoldsAs cells f s
 
   part_held : (x : Spot) (p : Part) (f : Variables) (s : Store) → HoldsAs cells f s → StoresAs (frame_part x p f) (store_part x p s)
-  part_held (At at) p f s h = row_held (take (count_of at) (values_in p)) (first_of at) f s h
+  part_held (At at) p f s h = span_held (take (count_of at) (values_in p)) (first_of at) f s h
   part_held (AtCounted line count array) p f s h = by_test (nat_le (length (values_in p)) (count_of array))
     where
       vs : List ℤ
@@ -91,7 +91,7 @@ module _ (cells : List ℕ) where
       one = take (count_of count) (pos (length vs) ∷ [])
 
       by_test : (b : Bool) → StoresAs (if b then Stays (frame_in array (values_in p) (frame_in count (pos (length (values_in p)) ∷ []) f)) else Refused (fault Range line) f) (if b then Gives nothing (store_in array (values_in p) (store_in count (pos (length (values_in p)) ∷ []) s)) else Faults (fault Range line) s)
-      by_test true = row_held (take (count_of array) (values_in p)) (first_of array) _ _ (row_held (take (count_of count) (pos (length (values_in p)) ∷ [])) (first_of count) f s h)
+      by_test true = span_held (take (count_of array) (values_in p)) (first_of array) _ _ (span_held (take (count_of count) (pos (length (values_in p)) ∷ [])) (first_of count) f s h)
       by_test false = (refl, h)
 
   and_held : (a : Stored) (o : Outcome Nothing) (g : Variables → Stored) (k : Nothing → Store → Outcome Nothing) → StoresAs a o → ((x : Nothing) (f : Variables) (s : Store) → HoldsAs cells f s → StoresAs (g f) (k x s)) → StoresAs (and_stored a g) (then_in o k)
@@ -106,20 +106,20 @@ module _ (cells : List ℕ) where
   parts_held (x ∷ xs) (p ∷ ps) f s h = and_held (frame_part x p f) (store_part x p s) (λ g. frame_parts xs ps g) (λ y s'. store_parts xs ps s') (part_held x p f s h) (λ y f' s' h'. parts_held xs ps f' s' h')
 
 -- the counters stay
-pub row_left : (vs : List ℤ) (first : ℕ) (f : Variables) → (frame_from first vs f).left ≡ f.left
-row_left [] first f = refl
-row_left (v ∷ vs) first f = row_left vs (first + 1) (frame_with f first v)
+pub span_left : (vs : List ℤ) (first : ℕ) (f : Variables) → (frame_from first vs f).left ≡ f.left
+span_left [] first f = refl
+span_left (v ∷ vs) first f = span_left vs (first + 1) (frame_with f first v)
 
 abbrev pub stored_frame : Stored → Variables
 stored_frame (Stays f) = f
 stored_frame (Refused e f) = f
 
 part_left : (x : Spot) (p : Part) (f : Variables) → (stored_frame (frame_part x p f)).left ≡ f.left
-part_left (At at) p f = row_left (take (count_of at) (values_in p)) (first_of at) f
+part_left (At at) p f = span_left (take (count_of at) (values_in p)) (first_of at) f
 part_left (AtCounted line count array) p f = by_test (nat_le (length (values_in p)) (count_of array))
   where
     by_test : (b : Bool) → (stored_frame (if b then Stays (frame_in array (values_in p) (frame_in count (pos (length (values_in p)) ∷ []) f)) else Refused (fault Range line) f)).left ≡ f.left
-    by_test true = row_left (take (count_of array) (values_in p)) (first_of array) _ ∙ row_left (take (count_of count) (pos (length (values_in p)) ∷ [])) (first_of count) f
+    by_test true = span_left (take (count_of array) (values_in p)) (first_of array) _ ∙ span_left (take (count_of count) (pos (length (values_in p)) ∷ [])) (first_of count) f
     by_test false = refl
 
 and_left : (a : Stored) (g : Variables → Stored) (left : List ℕ) → (stored_frame a).left ≡ left → ((f : Variables) → (stored_frame (g f)).left ≡ f.left) → (stored_frame (and_stored a g)).left ≡ left

@@ -1,4 +1,4 @@
--- What is emitted one after the other, and the rows of a list, the last one first.
+-- What is emitted one after the other, and the parts of a list, the last one first.
 use Rattle.std.specs.Prelude.{reverse, set, map, ◌-◌}
 use Rattle.std.proofs.Common.{◌≡◌, ℕ, zero, suc, ◌+◌, ◌*◌, ◌<◌, ◌≤◌, List, [], ◌∷◌, ◌++◌, drop, take, min, get_or, length, rules, refl, sym, ap, ◌∙◌, arith, append_assoc, append-nil, length-append}
 use Rattle.std.proofs.Math.Seq.{drop-cons, set-append_seam}
@@ -64,7 +64,7 @@ emits_set {a} {b} {c} {d} {p} x i j first others e same = from_one first.more fi
           is = emitted-append (x ∷ []) others.more ∙ ap (λ l. l ++ emitted_instruction x ∷ []) others.is ∙ ap (λ k. p ++ k ∷ []) same;
         }
 
--- ---- rows
+-- ---- what is left of a list
 
 pub drop_whole : {X : Type 0} (xs : List X) → drop 0 xs ≡ xs
 drop_whole [] = refl
@@ -77,19 +77,19 @@ drop_all (x ∷ xs) zero h = absurd (omega (arith, h))
 drop_all (x ∷ xs) (suc i) h = drop_all xs i (omega (arith, h))
 
 -- before its last one
-pub row_first : {X : Type 0} (F : List X → List Instruction) (xs : List X) (a : List (Instr ℕ)) → F [] ≡ [] → Emits a (F (drop (length xs) xs)) a
-row_first F xs a e = emits_as (emits_none a) (sym (ap F (drop_all xs (length xs) (omega arith)) ∙ e))
+pub emits_first : {X : Type 0} (F : List X → List Instruction) (xs : List X) (a : List (Instr ℕ)) → F [] ≡ [] → Emits a (F (drop (length xs) xs)) a
+emits_first F xs a e = emits_as (emits_none a) (sym (ap F (drop_all xs (length xs) (omega arith)) ∙ e))
 
-pub row_next : {X : Type 0} (F : List X → List Instruction) (one : X → List Instruction) (cons : (x : X) (xs : List X) → F (x ∷ xs) ≡ one x ++ F xs)
+pub emits_next : {X : Type 0} (F : List X → List Instruction) (one : X → List Instruction) (cons : (x : X) (xs : List X) → F (x ∷ xs) ≡ one x ++ F xs)
     → (xs : List X) (i k : ℕ) (x : X) {a b c : List (Instr ℕ)} → k ≡ i + 1 → i < length xs → x ≡ get_or xs i x → Emits a (F (drop k xs)) b → Emits b (one x) c → Emits a (F (drop i xs)) c
-row_next F one cons xs i k x e lt is others first =
+emits_next F one cons xs i k x e lt is others first =
     let next : k ≡ suc i = omega (arith, e) in
     let tail : F (drop i xs) ≡ one x ++ F (drop k xs) =
     ap F (drop-cons xs i x lt) ∙ cons _ _ ∙ ap (λ y. one y ++ F (drop (suc i) xs)) (sym is) ∙ ap (λ n. one x ++ F (drop n xs)) (sym next) in
     emits_as (emits_then others first) (sym tail)
 
-pub row_whole : {X : Type 0} (F : List X → List Instruction) (xs : List X) {a b : List (Instr ℕ)} → Emits a (F (drop 0 xs)) b → Emits a (F xs) b
-row_whole F xs x = emits_as x (ap F (drop_whole xs))
+pub emits_whole : {X : Type 0} (F : List X → List Instruction) (xs : List X) {a b : List (Instr ℕ)} → Emits a (F (drop 0 xs)) b → Emits a (F xs) b
+emits_whole F xs x = emits_as x (ap F (drop_whole xs))
 
 -- ---- products
 

@@ -11,8 +11,8 @@ use Rattle.occ_code.specs.declared.compiler.instr.Instr.{Instr}
 use Rattle.occ_code.proofs.Emitting.{emits_then, emits_as, emits_length}
 use Rattle.occ_code.proofs.EmittingTerms.{behind_length, behind_set, behind_then}
 
-pub arms_row : (xs : List Arm) (i k : ℕ) (x : Arm) → k ≡ i + 1 → i < length xs → x ≡ get_or xs i x → arms_of (drop i xs) ≡ arm_of x (arms_of (drop k xs))
-arms_row xs i k x e lt is =
+pub arms_next : (xs : List Arm) (i k : ℕ) (x : Arm) → k ≡ i + 1 → i < length xs → x ≡ get_or xs i x → arms_of (drop i xs) ≡ arm_of x (arms_of (drop k xs))
+arms_next xs i k x e lt is =
     let next : suc i ≡ k = omega (arith, e) in
     ap arms_of (drop-cons xs i x lt) ∙ ap (λ y. arm_of y (arms_of (drop (suc i) xs))) (sym is) ∙ ap (λ n. arm_of x (arms_of (drop n xs))) next
 
@@ -56,13 +56,13 @@ module _ {before old : List (Instr ℕ)} (R : List Instruction) (end : ℕ) (oth
       let inner = length-append C (NextChoice index (length body + 2) ∷ Push (pos 0) ∷ (body ++ BackToChoice (length body + 2) ∷ [])) in
       let inner' = length-append body (BackToChoice (length body + 2) ∷ []) in
       let skip : length m - b ≡ length C + length W + 5 = omega (arith, from, whole, inner, inner', long) in
-      let row : C ++ NextChoice index (length body + 2) ∷ Push (pos 0) ∷ (body ++ BackToChoice (length body + 2) ∷ []) ≡ C ++ NextChoice index (length W + 3) ∷ Push (pos 0) ∷ ((W ++ DropOne ∷ []) ++ BackToChoice (length W + 3) ∷ []) =
+      let widened : C ++ NextChoice index (length body + 2) ∷ Push (pos 0) ∷ (body ++ BackToChoice (length body + 2) ∷ []) ≡ C ++ NextChoice index (length W + 3) ∷ Push (pos 0) ∷ ((W ++ DropOne ∷ []) ++ BackToChoice (length W + 3) ∷ []) =
       ap (λ n. C ++ NextChoice index n ∷ Push (pos 0) ∷ (body ++ BackToChoice n ∷ [])) skip' ∙ ap (λ l. C ++ NextChoice index (length W + 3) ∷ Push (pos 0) ∷ (l ++ BackToChoice (length W + 3) ∷ [])) is in
-      let end_row : ((W ++ DropOne ∷ []) ++ BackToChoice (length W + 3) ∷ []) ++ R ≡ W ++ DropOne ∷ BackToChoice (length W + 3) ∷ R =
+      let end_part : ((W ++ DropOne ∷ []) ++ BackToChoice (length W + 3) ∷ []) ++ R ≡ W ++ DropOne ∷ BackToChoice (length W + 3) ∷ R =
       append_assoc (W ++ DropOne ∷ []) (BackToChoice (length W + 3) ∷ []) R ∙ append_assoc W (DropOne ∷ []) (BackToChoice (length W + 3) ∷ R) in
-      let rows : (C ++ NextChoice index (length body + 2) ∷ Push (pos 0) ∷ (body ++ BackToChoice (length body + 2) ∷ [])) ++ R ≡ C ++ NextChoice index (length W + 3) ∷ Push (pos 0) ∷ (W ++ DropOne ∷ BackToChoice (length W + 3) ∷ R) =
-      ap (λ l. l ++ R) row ∙ append_assoc C (NextChoice index (length W + 3) ∷ Push (pos 0) ∷ ((W ++ DropOne ∷ []) ++ BackToChoice (length W + 3) ∷ [])) R ∙ ap (λ l. C ++ NextChoice index (length W + 3) ∷ Push (pos 0) ∷ l) end_row in
-      emits_then (emits_as (emits_then others all) (ap (λ l. SetAgain index (length C + 2) ∷ l) rows))
+      let before_others : (C ++ NextChoice index (length body + 2) ∷ Push (pos 0) ∷ (body ++ BackToChoice (length body + 2) ∷ [])) ++ R ≡ C ++ NextChoice index (length W + 3) ∷ Push (pos 0) ∷ (W ++ DropOne ∷ BackToChoice (length W + 3) ∷ R) =
+      ap (λ l. l ++ R) widened ∙ append_assoc C (NextChoice index (length W + 3) ∷ Push (pos 0) ∷ ((W ++ DropOne ∷ []) ++ BackToChoice (length W + 3) ∷ [])) R ∙ ap (λ l. C ++ NextChoice index (length W + 3) ∷ Push (pos 0) ∷ l) end_part in
+      emits_then (emits_as (emits_then others all) (ap (λ l. SetAgain index (length C + 2) ∷ l) before_others))
       (emits_as start (ap (λ n. PassArms n (length m - b) ∷ []) last ∙ ap (λ n. PassArms (length R + (length before - end)) n ∷ []) skip))
 
 -- the choice at the end of an ALT, put in after its arms

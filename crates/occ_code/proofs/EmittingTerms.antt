@@ -52,30 +52,30 @@ behind_set {a} {b} {d} {p} x n h long e =
       is = emitted-append (x ∷ []) h.more ∙ ap (λ l. l ++ emitted_instruction x ∷ []) h.is;
     }
 
--- ---- rows
+-- ---- what is left of a list
 
-pub terms_row : (ts : List Term) (i k : ℕ) (t : Term) → k ≡ i + 1 → i < length ts → t ≡ get_or ts i t → terms_of (drop i ts) ≡ then_term (term_of t) (terms_of (drop k ts))
-terms_row ts i k t e lt is =
+pub terms_next : (ts : List Term) (i k : ℕ) (t : Term) → k ≡ i + 1 → i < length ts → t ≡ get_or ts i t → terms_of (drop i ts) ≡ then_term (term_of t) (terms_of (drop k ts))
+terms_next ts i k t e lt is =
     let next : suc i ≡ k = omega (arith, e) in
     ap terms_of (drop-cons ts i t lt) ∙ ap (λ y. then_term (term_of y) (terms_of (drop (suc i) ts))) (sym is) ∙ ap (λ n. then_term (term_of t) (terms_of (drop n ts))) next
 
-pub branches_row : (bs : List Branch) (i k : ℕ) (b : Branch) → k ≡ i + 1 → i < length bs → b ≡ get_or bs i b → branches_of (drop i bs) ≡ branch_of b (branches_of (drop k bs))
-branches_row bs i k b e lt is =
+pub branches_next : (bs : List Branch) (i k : ℕ) (b : Branch) → k ≡ i + 1 → i < length bs → b ≡ get_or bs i b → branches_of (drop i bs) ≡ branch_of b (branches_of (drop k bs))
+branches_next bs i k b e lt is =
     let next : suc i ≡ k = omega (arith, e) in
     ap branches_of (drop-cons bs i b lt) ∙ ap (λ y. branch_of y (branches_of (drop (suc i) bs))) (sym is) ∙ ap (λ n. branch_of b (branches_of (drop n bs))) next
 
-pub choices_row : (cs : List Choice) (i k : ℕ) (c : Choice) → k ≡ i + 1 → i < length cs → c ≡ get_or cs i c → choices_of (drop i cs) ≡ choice_of c (choices_of (drop k cs))
-choices_row cs i k c e lt is =
+pub choices_next : (cs : List Choice) (i k : ℕ) (c : Choice) → k ≡ i + 1 → i < length cs → c ≡ get_or cs i c → choices_of (drop i cs) ≡ choice_of c (choices_of (drop k cs))
+choices_next cs i k c e lt is =
     let next : suc i ≡ k = omega (arith, e) in
     ap choices_of (drop-cons cs i c lt) ∙ ap (λ y. choice_of y (choices_of (drop (suc i) cs))) (sym is) ∙ ap (λ n. choice_of c (choices_of (drop n cs))) next
 
-pub options_row : (os : List Selection) (i k : ℕ) (o : Selection) → k ≡ i + 1 → i < length os → o ≡ get_or os i o → options_of (drop i os) ≡ option_of o (options_of (drop k os))
-options_row os i k o e lt is =
+pub options_next : (os : List Selection) (i k : ℕ) (o : Selection) → k ≡ i + 1 → i < length os → o ≡ get_or os i o → options_of (drop i os) ≡ option_of o (options_of (drop k os))
+options_next os i k o e lt is =
     let next : suc i ≡ k = omega (arith, e) in
     ap options_of (drop-cons os i o lt) ∙ ap (λ y. option_of y (options_of (drop (suc i) os))) (sym is) ∙ ap (λ n. option_of o (options_of (drop n os))) next
 
-pub variants_row : (vs : List Variant) (i k : ℕ) (v : Variant) → k ≡ i + 1 → i < length vs → v ≡ get_or vs i v → variants_of (drop i vs) ≡ variant_of v (variants_of (drop k vs))
-variants_row vs i k v e lt is =
+pub variants_next : (vs : List Variant) (i k : ℕ) (v : Variant) → k ≡ i + 1 → i < length vs → v ≡ get_or vs i v → variants_of (drop i vs) ≡ variant_of v (variants_of (drop k vs))
+variants_next vs i k v e lt is =
     let next : suc i ≡ k = omega (arith, e) in
     ap variants_of (drop-cons vs i v lt) ∙ ap (λ y. variant_of y (variants_of (drop (suc i) vs))) (sym is) ∙ ap (λ n. variant_of v (variants_of (drop n vs))) next
 
@@ -104,9 +104,9 @@ module _ {before old m1 m2 : List (Instr ℕ)} (R T D : List Instruction) (end s
       let long : length (D ++ (T ++ Jump (length R + (length before - end)) ∷ [])) ≡ length D + (length T + 1) =
       length-append D (T ++ Jump (length R + (length before - end)) ∷ []) ∙ ap (λ m. length D + m) (length-append T (Jump (length R + (length before - end)) ∷ [])) in
       let count : k ≡ length (D ++ (T ++ Jump (length R + (length before - end)) ∷ [])) = omega (arith, emits_length body, emits_length jump, from, is, long) in
-      let rows : D ++ (T ++ Jump (length R + (length before - end)) ∷ R) ≡ (D ++ (T ++ Jump (length R + (length before - end)) ∷ [])) ++ R =
+      let together : D ++ (T ++ Jump (length R + (length before - end)) ∷ R) ≡ (D ++ (T ++ Jump (length R + (length before - end)) ∷ [])) ++ R =
       ap (λ l. D ++ l) (sym (append_assoc T (Jump (length R + (length before - end)) ∷ []) R)) ∙ sym (append_assoc D (T ++ Jump (length R + (length before - end)) ∷ []) R) in
-      emits_as (emits_then jumped first) (ap (λ m. make m ∷ (D ++ (T ++ Jump (length R + (length before - end)) ∷ R))) count ∙ ap (λ l. make (length (D ++ (T ++ Jump (length R + (length before - end)) ∷ []))) ∷ l) rows)
+      emits_as (emits_then jumped first) (ap (λ m. make m ∷ (D ++ (T ++ Jump (length R + (length before - end)) ∷ R))) count ∙ ap (λ l. make (length (D ++ (T ++ Jump (length R + (length before - end)) ∷ []))) ∷ l) together)
 
 -- ---- loops
 
@@ -137,10 +137,10 @@ tagged R T S D make s n k others skip jump body store declare from is first =
     let long : length (D ++ (S ++ (T ++ Jump (length R) ∷ []))) ≡ length D + (length S + (length T + 1)) =
     length-append D (S ++ (T ++ Jump (length R) ∷ [])) ∙ ap (λ m. length D + m) (length-append S (T ++ Jump (length R) ∷ []) ∙ ap (λ m. length S + m) (length-append T (Jump (length R) ∷ []))) in
     let count : k ≡ length (D ++ (S ++ (T ++ Jump (length R) ∷ []))) = omega (arith, emits_length jump, emits_length body, emits_length store, emits_length declare, from, is, long) in
-    let rows : D ++ (S ++ (T ++ Jump (length R) ∷ R)) ≡ (D ++ (S ++ (T ++ Jump (length R) ∷ []))) ++ R =
+    let together : D ++ (S ++ (T ++ Jump (length R) ∷ R)) ≡ (D ++ (S ++ (T ++ Jump (length R) ∷ []))) ++ R =
     ap (λ l. D ++ (S ++ l)) (sym (append_assoc T (Jump (length R) ∷ []) R)) ∙ ap (λ l. D ++ l) (sym (append_assoc S (T ++ Jump (length R) ∷ []) R)) ∙ sym (append_assoc D (S ++ (T ++ Jump (length R) ∷ [])) R) in
     let chain = emits_then (emits_then (emits_then (emits_then others (emits_as jump (ap (λ m. Jump m ∷ []) far))) body) store) declare in
-    emits_as (emits_then chain first) (ap (λ m. make m ∷ (D ++ (S ++ (T ++ Jump (length R) ∷ R)))) count ∙ ap (λ l. make (length (D ++ (S ++ (T ++ Jump (length R) ∷ [])))) ∷ l) rows)
+    emits_as (emits_then chain first) (ap (λ m. make m ∷ (D ++ (S ++ (T ++ Jump (length R) ∷ R)))) count ∙ ap (λ l. make (length (D ++ (S ++ (T ++ Jump (length R) ∷ [])))) ∷ l) together)
 
 pub among_others : (C W R : List Instruction) (i j : Instruction) → (C ++ i ∷ (W ++ j ∷ [])) ++ R ≡ C ++ i ∷ (W ++ j ∷ R)
 among_others C W R i j = append_assoc C (i ∷ (W ++ j ∷ [])) R ∙ ap (λ l. C ++ i ∷ l) (append_assoc W (j ∷ []) R)

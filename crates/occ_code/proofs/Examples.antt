@@ -7,7 +7,7 @@ use Rattle.occ_term.specs.Typing.{takes_arithmetic, takes_order}
 use Rattle.occ_term.specs.declared.primitive.Primitive.{Primitive}
 use Rattle.occ_term.specs.Values.{span}
 use Rattle.occ_term.specs.Uses.{numbers_in, uses_of}
-use Rattle.occ_term.proofs.TypedPlaces.{in_row}
+use Rattle.occ_term.proofs.TypedPlaces.{in_span}
 use Rattle.occ_code.specs.Machine.{is_number}
 use Rattle.occ_term.specs.Frames.{is_held}
 use Rattle.occ_code.specs.SameStop.{Lists, used_by}
@@ -28,7 +28,7 @@ few = record { cells = λ c t h. of_three c t (nat_lt c 3) refl h; channels = λ
 -- one of the three cells, declared
 one_cell : (first : ℕ) → first < 3 → (c : ℕ) → IsTrue (numbers_in (span first 1) c) → whole_numbers.types c ≡ Some Int
 one_cell first h c m =
-    let (l, g) = in_row first 1 c m in
+    let (l, g) = in_span first 1 c m in
     let below : c < 3 = omega (arith, h, l, g) in
     ap (λ b. if b then Some Int else None) (below_three c below)
 

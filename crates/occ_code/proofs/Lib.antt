@@ -19,7 +19,7 @@ mod Examples
 mod Emitting
 mod EmittingTerms
 mod EmittingArms
-mod CellRows
+mod CellEnds
 mod CompilingTerms
 pub mod OneCode
 mod SameCode

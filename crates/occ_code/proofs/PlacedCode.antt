@@ -18,7 +18,7 @@ use Rattle.occ_code.specs.declared.task.Wait.{Wait}
 use Rattle.occ_code.specs.declared.task.Wait.TheVariants.{Ready, Took, Offers, Awaits, Chooses, Joins, Halted, Done, Faulted}
 use Rattle.occ_code.specs.Machine.{by_cell, by_place, NamesWithin, placed, counters_with, Instruction, Push, Load, LoadAt, LoadLetter, Subscript, Operate, OperateOne, ConvertTo, AndThen, OrElse, PartOne, PartMany, PartText, PartCounted, PartCountedText, SpotOne, SpotCounted, StoreParts, StoreNamed, StoreOne, ClearCells, Jump, Choose, IfAmong, IfTag, DropOne, CountedFrom, NextChoice, BackToChoice, PassArms, IfTaken, SetAgain, IfTrue, OpenSkip, OpenInput, ChooseArm, pass_arms, if_taken, again_set, open_arm, choosing_stop, Begin, Pass, LoopBack, Send, Receive, Fork, Halt, End, Point, point, Effect, Moves, Stops, Stuck, with_one, with_two, going, going_if, going_stored, act, effect, Walks, here, on, begins_at, SingleStop, StopsIn, stops_here, passes_on, turning, begun, passed, next_choice, tag_step, last_part, named_from, Stored, Stays, Refused, frame_with, frame_from, frame_parts, values_with, with_counter, counter_at, kept_as, kept_value, is_next, is_number, is_component, are_numbered}
 use Rattle.occ_code.specs.Laws.{PlacesDo}
-use Rattle.occ_code.proofs.AgreeingFrames.{HoldsAs, one_held, row_held, parts_held, StoresAs, stored_frame, frame_of, row_left, parts_left}
+use Rattle.occ_code.proofs.AgreeingFrames.{HoldsAs, one_held, span_held, parts_held, StoresAs, stored_frame, frame_of, span_left, parts_left}
 use Rattle.occ_code.proofs.Counters.{length-counters_with}
 
 -- ---- what an instruction does
@@ -171,8 +171,8 @@ module _ (cells : List ℕ) (loops : ℕ) where
   with_shape : (f : Variables) (c : ℕ) (v : ℤ) → Shaped f → Shaped (frame_with f c v)
   with_shape f c v h = ((one_held cells f (at f) c v (as_itself f h.0)).shape, h.1)
 
-  row_shape : (first : ℕ) (vs : List ℤ) (f : Variables) → Shaped f → Shaped (frame_from first vs f)
-  row_shape first vs f h = ((row_held cells vs first f (at f) (as_itself f h.0)).shape, ap length (row_left vs first f) ∙ h.1)
+  span_shape : (first : ℕ) (vs : List ℤ) (f : Variables) → Shaped f → Shaped (frame_from first vs f)
+  span_shape first vs f h = ((span_held cells vs first f (at f) (as_itself f h.0)).shape, ap length (span_left vs first f) ∙ h.1)
 
   turning_shape : (f : Variables) (slot index n : ℕ) (v : ℤ) → Shaped f → Shaped (turning by_cell f slot index n v)
   turning_shape f slot index n v h =
@@ -192,7 +192,7 @@ module _ (cells : List ℕ) (loops : ℕ) where
 
   named_shape : (first : ℕ) (o : Option Part) (f : Variables) → Shaped f → Shaped (named_from first o f)
   named_shape first None f h = h
-  named_shape first (Some p) f h = row_shape first (values_in p) f h
+  named_shape first (Some p) f h = span_shape first (values_in p) f h
 
   one_shapes : (st : List ℤ) (g : ℤ → List ℤ → Effect) → ((v : ℤ) (st' : List ℤ) → Shapes (g v st')) → Shapes (with_one st g)
   one_shapes [] g k = tt
@@ -283,7 +283,7 @@ module _ (cells : List ℕ) (loops : ℕ) where
   act_shapes (Some StoreParts) pc st q sp f h = stored_shapes pc (frame_parts sp q f) (point (pc + 1) st [] []) (parts_shape sp q f h) (λ g k. k)
   act_shapes (Some (StoreNamed first)) pc st q sp f h = named_shape first (last_part q) f h
   act_shapes (Some (StoreOne c)) pc st q sp f h = one_shapes st _ (λ v st'. with_shape f c v h)
-  act_shapes (Some (ClearCells first count)) pc st q sp f h = row_shape first (replicate count (pos 0)) f h
+  act_shapes (Some (ClearCells first count)) pc st q sp f h = span_shape first (replicate count (pos 0)) f h
   act_shapes (Some (Jump skip)) pc st q sp f h = h
   act_shapes (Some (Choose skip)) pc st q sp f h = one_shapes st _ (λ x st'. either_shape (holds x) _ _ h h)
   act_shapes (Some (IfAmong constants skip)) pc st q sp f h = one_shapes st _ (λ x st'. either_shape (is_among x constants) _ _ h h)

@@ -18,7 +18,7 @@ use Rattle.occ_term.specs.Storing.{At, AtCounted, spot_of, spots_of, indices, in
 use Rattle.occ_term.specs.Uses.{Numbers, union, numbers_in, named_by, reads_of, reads_in_place, reads_in_subscripts, reads_of_array, reads_of_item, reads_of_items, uses_of_target, uses_of_targets, uses_of_replicator}
 use Rattle.occ_term.specs.Typing.{HasType, PlaceHas, SubscriptsLeave, ArrayHas, ItemHas, TargetHas}
 use Rattle.occ_term.specs.TermTyping.{Declared, ItemsHave, TargetsHave, ReplicatorHas, ChannelHas}
-use Rattle.occ_term.proofs.TypedPlaces.{offset_within, places_lie_within, to_row, in_row}
+use Rattle.occ_term.proofs.TypedPlaces.{offset_within, places_lie_within, to_span, in_span}
 
 pub same_cell : (c : ℕ) → IsTrue (nat_eq c c)
 same_cell c = grind (arith, nat_tests)
@@ -60,8 +60,8 @@ module _ (types : ℕ → Option Primitive) (s s' : Store) where
   values_same : (first n : ℕ) → SameOn (numbers_in (span first n)) → values_from first n s ≡ values_from first n s'
   values_same first zero h = refl
   values_same first (suc n) h =
-      let here = h first (to_row first (suc n) first (omega arith) (omega arith)) in
-      let later = values_same (first + 1) n (λ c m. let (l, g) = in_row (first + 1) n c m in h c (to_row first (suc n) c (omega arith) (omega arith))) in
+      let here = h first (to_span first (suc n) first (omega arith) (omega arith)) in
+      let later = values_same (first + 1) n (λ c m. let (l, g) = in_span (first + 1) n c m in h c (to_span first (suc n) c (omega arith) (omega arith))) in
       rw (here, later) refl
 
   span_named : (p : Place) (t : Primitive) (rest : List ℕ) (a : Span) → PlaceHas types p t rest → span_of p s' ≡ Value a → SameOn (named_by p) → SameOn (numbers_in a)
@@ -71,7 +71,7 @@ module _ (types : ℕ → Option Primitive) (s s' : Store) where
   first_same p t (span first count) h e k =
       let w = places_lie_within types s' p t [] (span first count) h e in
       let one : count ≡ 1 = w.many in
-      k first (w.named first (to_row first count first (omega arith) (omega (arith, one))))
+      k first (w.named first (to_span first count first (omega arith) (omega (arith, one))))
 
   mutual
     pub value_same : (e : Expression) (t : Primitive) → HasType types e t → SameOn (reads_of e) → value_of e s ≡ value_of e s'
@@ -179,4 +179,4 @@ pub channel_declared : (d : Declared) (s : Store) (c : Place) (p : Protocol) (a 
 channel_declared d s (place line first sizes subs) p (span f n) h q =
     let (many, in_it) = offset_within d.types s subs line first sizes [] (span f n) h.1 q in
     let one : n ≡ 1 = many in
-    h.0 f (in_it f (to_row f n f (omega arith) (omega (arith, one))))
+    h.0 f (in_it f (to_span f n f (omega arith) (omega (arith, one))))

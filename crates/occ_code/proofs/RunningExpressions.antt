@@ -18,7 +18,7 @@ use Rattle.occ_term.specs.Uses.{numbers_in}
 use Rattle.occ_term.specs.Typing.{HasType, PlaceHas, SubscriptsLeave}
 use Rattle.occ_term.specs.TermTyping.{Declared, ChannelHas}
 use Rattle.occ_term.proofs.Bounds.{one_more, within_size}
-use Rattle.occ_term.proofs.TypedPlaces.{to_row}
+use Rattle.occ_term.proofs.TypedPlaces.{to_span}
 use Rattle.occ_code.specs.Within.{AreNumbered}
 use Rattle.occ_code.proofs.PassingArms.{both_true, number_below}
 use Rattle.occ_code.proofs.ReadCells.{operand, or_right}
@@ -43,17 +43,17 @@ Room first sizes = 0 < product sizes → first + product sizes ≤ 4294967296
 pub room_of : (first n : ℕ) → ((c : ℕ) → IsTrue (numbers_in (span first n) c) → IsTrue (is_number c)) → 0 < n → first + n ≤ 4294967296
 room_of first zero k h = absurd (omega (arith, h))
 room_of first (suc n) k h =
-    let last = below_number (first + n) (k (first + n) (to_row first (suc n) (first + n) (omega arith) (omega arith))) in
+    let last = below_number (first + n) (k (first + n) (to_span first (suc n) (first + n) (omega arith) (omega arith))) in
     omega (arith, last)
 
--- so does each of its rows
-row_room : (first n p i : ℕ) → i < n → (0 < n * p → first + n * p ≤ 4294967296) → 0 < p → (first + i * p) + p ≤ 4294967296
-row_room first n p i within room h =
+-- so does each of its parts
+part_room : (first n p i : ℕ) → i < n → (0 < n * p → first + n * p ≤ 4294967296) → 0 < p → (first + i * p) + p ≤ 4294967296
+part_room first n p i within room h =
     let more = one_more n i p within in
     omega (arith, more, room (omega (arith, more, h)))
 
-row_there : (first n p i : ℕ) → i < n → (0 < n * p → first + n * p ≤ 4294967296) → 0 < i * p → first + i * p < 4294967296
-row_there first n p i within room h =
+part_there : (first n p i : ℕ) → i < n → (0 < n * p → first + n * p ≤ 4294967296) → 0 < i * p → first + i * p < 4294967296
+part_there first n p i within room h =
     let more = one_more n i p within in
     let some = some_of i p h in
     omega (arith, more, some, room (omega (arith, more, h)))
@@ -184,8 +184,8 @@ module _ (code : List Instruction) (f : Variables) where
             comes_then (value_of e (at f)) (λ v. after (subscript line n v) (λ i. offset_of es line (first + i * product ns) ns (at f))) (expression_runs e Int g.0 pc m (pos first ∷ st) a)
             (λ v y. comes_then (subscript line n v) (λ i. offset_of es line (first + i * product ns) ns (at f))
             (comes_by m (v ∷ pos first ∷ st) q sp _ (subscript line n v) (λ i. on_top st (m + 1) (pos (first + i * product ns))) l.0
-            (may_go m (subscript line n v) (λ i. is_component (pos first) (i * product ns)) (λ i. on_top st (m + 1) (pos (first + i * product ns))) (λ i z. is_there first (i * product ns) (row_there first n (product ns) i (within_size line n v i z) room))))
-            (λ i z. subscripts_run es line (first + i * product ns) ns rest g.1 (row_room first n (product ns) i (within_size line n v i z) room) (m + 1) pc' st l.1))
+            (may_go m (subscript line n v) (λ i. is_component (pos first) (i * product ns)) (λ i. on_top st (m + 1) (pos (first + i * product ns))) (λ i z. is_there first (i * product ns) (part_there first n (product ns) i (within_size line n v i z) room))))
+            (λ i z. subscripts_run es line (first + i * product ns) ns rest g.1 (part_room first n (product ns) i (within_size line n v i z) room) (m + 1) pc' st l.1))
 
 pub expressions_run : ExpressionsRun
 expressions_run code f d e t pc pc' st q sp few typed h = expression_runs code f q sp d.types few.cells e t typed pc pc' st h

@@ -39,7 +39,7 @@ use Rattle.occ_code.proofs.Walks.{split}
 use Rattle.occ_code.proofs.RunningExpressions.{comes_then, comes_by, comes_at, expression_runs, steps_to}
 use Rattle.occ_code.proofs.RunningItems.{item_runs, items_run, targets_run}
 use Rattle.occ_code.proofs.ReadCells.{or_left, or_right, part_as, parts_same, spots_same}
-use Rattle.occ_code.proofs.AgreeingFrames.{HoldsAs, row_held, row_left, StoresAs, parts_held, parts_left, stored_frame, frame_of, GivesAs, FaultsAs, Performs, performs, refuses, performs_then, performs_by}
+use Rattle.occ_code.proofs.AgreeingFrames.{HoldsAs, span_held, span_left, StoresAs, parts_held, parts_left, stored_frame, frame_of, GivesAs, FaultsAs, Performs, performs, refuses, performs_then, performs_by}
 
 last_is : (q : List Part) (p : Part) → last_part (q ++ p ∷ []) ≡ Some p
 last_is [] p = refl
@@ -174,8 +174,8 @@ module _ (code : List Instruction) (cells : List ℕ) (d : Declared) where
         → Sets f (point pc st q [] f) (declared x) pc' st q []
     declaration_runs (Clearing first count) f pc pc' st q h k l =
         performs nothing (point (pc + 1) st q [] (frame_from first (replicate count (pos 0)) f)) (steps_to code f pc st q [] _ _ l.0 refl) (ap (λ m. point m st q [] (frame_from first (replicate count (pos 0)) f)) l.1)
-        (row_left (replicate count (pos 0)) first f)
-        (λ s hs. record { store = store_from first (replicate count (pos 0)) s; gives_it = refl; holds = row_held cells (replicate count (pos 0)) first f s hs })
+        (span_left (replicate count (pos 0)) first f)
+        (λ s hs. record { store = store_from first (replicate count (pos 0)) s; gives_it = refl; holds = span_held cells (replicate count (pos 0)) first f s hs })
     declaration_runs (Naming first value) f pc pc' st q h k at_place =
         let (m, a, l) = split code pc pc' (item_code value) _ at_place in
         performs_by code cells (part_of value) (part_of value (at f)) (λ p. point m st (q ++ p ∷ []) [] f) (λ p s'. Gives nothing (store_from first (values_in p) s')) (item_runs code f st [] d few value (simple_part h.1 h.0) h.2 q pc m a)
@@ -183,8 +183,8 @@ module _ (code : List Instruction) (cells : List ℕ) (d : Declared) where
         (λ p e. performs nothing (point (m + 1) st q [] (frame_from first (values_in p) f))
         (steps_to code f m st (q ++ p ∷ []) [] (StoreNamed first) _ l.0 (ap (λ r. Moves (point (m + 1) st r [] (named_from first (last_part (q ++ p ∷ [])) f))) (others_are q p) ∙ ap (λ r. Moves (point (m + 1) st q [] (named_from first r f))) (last_is q p)))
         (ap (λ n. point n st q [] (frame_from first (values_in p) f)) l.1)
-        (row_left (values_in p) first f)
-        (λ s hs. record { store = store_from first (values_in p) s; gives_it = refl; holds = row_held cells (values_in p) first f s hs }))
+        (span_left (values_in p) first f)
+        (λ s hs. record { store = store_from first (values_in p) s; gives_it = refl; holds = span_held cells (values_in p) first f s hs }))
 
     pub declarations_run : (xs : List Declaration) (f : Variables) (pc pc' : ℕ) (st : List ℤ) (q : List Part) → DeclarationsHave d xs → Held (uses_of_declarations xs).reads → StandsAt code pc (declarations_code xs) pc'
         → Sets f (point pc st q [] f) (all_declared xs) pc' st q []

@@ -15,7 +15,7 @@ use Rattle.occ_term.specs.Uses.{Numbers, Uses, cells_of_item, components, compon
 use Rattle.occ_term.specs.Typing.{ArrayHas, CellsHave, HasType, ItemHas, PlaceHas, SubscriptsLeave, TargetHas}
 use Rattle.occ_term.specs.TermTyping.{ArmsHave, BranchesHave, ChannelHas, ChoicesHave, DeclarationHas, DeclarationsHave, Declared, ItemsHave, OptionsHave, ReceptionHas, ReplicatorHas, TargetsHave, TermHas, TermsHave, VariantsHave, value_parts}
 use Rattle.occ_term.proofs.Bounds.{one_more}
-use Rattle.occ_term.proofs.TypedPlaces.{in_row, to_row}
+use Rattle.occ_term.proofs.TypedPlaces.{in_span, to_span}
 use Rattle.occ_usage.proofs.Components.{constant_below}
 use Rattle.occ_code.specs.SameStop.{used_by}
 use Rattle.occ_code.specs.Within.{AreWithin, KeepsWithin}
@@ -48,18 +48,18 @@ read_within s h = (h, none_within)
 written_within : (s : Numbers) → AreWithin s → UsesWithin (writing s)
 written_within s h = (none_within, h)
 
--- ---- rows
+-- ---- parts of an array
 
-row_within : (first n p i : ℕ) → i < n → AreWithin (numbers_in (span first (n * p))) → AreWithin (numbers_in (span (first + i * p) p))
-row_within first n p i h all c m =
-    let (l, g) = in_row (first + i * p) p c m in
-    all c (to_row first (n * p) c (omega arith) (let o = one_more n i p h in omega arith))
+span_within : (first n p i : ℕ) → i < n → AreWithin (numbers_in (span first (n * p))) → AreWithin (numbers_in (span (first + i * p) p))
+span_within first n p i h all c m =
+    let (l, g) = in_span (first + i * p) p c m in
+    all c (to_span first (n * p) c (omega arith) (let o = one_more n i p h in omega arith))
 
 part_within : (subs : Subscripts) (first : ℕ) (sizes : List ℕ) (whole : Span) → AreWithin (numbers_in (span first (product sizes))) → AreWithin (numbers_in whole) → AreWithin (numbers_in (part_named subs first sizes whole))
 part_within no_subscripts first sizes whole p q = p
 part_within (then_subscript e es) first [] whole p q = q
 part_within (then_subscript e es) first (n ∷ ns) whole p q =
-    by (constant_subscript e n) refl (λ i h. part_within es (first + i * product ns) ns whole (row_within first n (product ns) i (constant_below e n i h) p) q)
+    by (constant_subscript e n) refl (λ i h. part_within es (first + i * product ns) ns whole (span_within first n (product ns) i (constant_below e n i h) p) q)
   where
     by : (o : Option ℕ) → constant_subscript e n ≡ o → ((i : ℕ) → constant_subscript e n ≡ Some i → AreWithin (numbers_in (part_named es (first + i * product ns) ns whole))) → AreWithin (numbers_in (on_index o (λ i. part_named es (first + i * product ns) ns whole) whole))
     by None h part = q

@@ -1,4 +1,4 @@
--- The cells of a row lie within its array.
+-- The cells of a part of an array lie within it.
 use Rattle.std.proofs.Common.{◌≡◌, ◌∙◌, sym, ap, subst, refl, Bool, true, false, IsTrue, ◌&&◌, int_le, int_lt, rules, ℤ, pos, negsuc, inl, inr, ℕ, suc, ◌+◌, ◌*◌, ◌<◌, ◌≤◌, List, [], ◌∷◌, map, drop, get_or, length, arith, mul-zero}
 use Rattle.std.proofs.Math.Nat.{mul-le-mul_right, suc-mul, eq-zero-or-pos}
 use Rattle.std.proofs.lemmas.Bool.Decides.{nat_tests}
@@ -12,19 +12,19 @@ use Rattle.occ_term.specs.View.{expression_of, place_of}
 use Rattle.occ_term.specs.declared.expression.TermExpr.{TermExpr, the_lemmas}
 use Rattle.occ_term.specs.declared.expression.Place.{Place}
 
--- one more row fits
+-- one more part fits
 pub one_more : (size i p : ℕ) → i < size → i * p + p ≤ size * p
 one_more size i p within = omega (arith, mul-le-mul_right {m = suc i} {n = size} p within, suc-mul i p)
 
 module _ (first size i p : ℕ) (few : 0 < size * p → first + size * p ≤ 65536) (within : i < size) where
-  pub row_few : 0 < p → (first + i * p) + p ≤ 65536
-  row_few h = let m = one_more size i p within in omega (arith, few (omega (arith, m)))
+  pub part_few : 0 < p → (first + i * p) + p ≤ 65536
+  part_few h = let m = one_more size i p within in omega (arith, few (omega (arith, m)))
 
-  pub row_product : p ≤ 65536
-  row_product = elim (eq-zero-or-pos p) [ inl e ↦ omega arith | inr h ↦ omega (arith, row_few h) ]
+  pub part_product : p ≤ 65536
+  part_product = elim (eq-zero-or-pos p) [ inl e ↦ omega arith | inr h ↦ omega (arith, part_few h) ]
 
-  pub row_fits : first < 4294967296 → first + i * p < 4294967296
-  row_fits f = elim (eq-zero-or-pos p) [ inl e ↦ omega (arith, ap (λ x. i * x) e, mul-zero i) | inr h ↦ omega (arith, row_few h) ]
+  pub part_fits : first < 4294967296 → first + i * p < 4294967296
+  part_fits f = elim (eq-zero-or-pos p) [ inl e ↦ omega (arith, ap (λ x. i * x) e, mul-zero i) | inr h ↦ omega (arith, part_few h) ]
 
 -- ---- the code's way through the subscripts of a place
 
@@ -37,29 +37,29 @@ first_from subs line first sizes s = after (offset_of subs line first sizes s) (
 pub place_seen : (p : Place) → place_of p ≡ T.place p.line p.first p.sizes (seen p.subscripts)
 place_seen p = search (rules, the_lemmas)
 
--- the place of a row, and then that of what its subscripts name
+-- the place of a part, and then that of what its subscripts name
 module _ (r : ℕ → ℕ) (k : ℕ → Evaluated Span) where
-  abbrev then_row : Evaluated ℕ → Evaluated ℕ
-  then_row v = after (after v (λ i. k (r i))) (λ at. Value (first_of at))
+  abbrev then_part : Evaluated ℕ → Evaluated ℕ
+  then_part v = after (after v (λ i. k (r i))) (λ at. Value (first_of at))
 
-  abbrev then_rows : Evaluated ℤ → (ℤ → Evaluated ℕ) → Evaluated ℕ
-  then_rows v g = after (after v (λ x. after (g x) (λ i. k (r i)))) (λ at. Value (first_of at))
+  abbrev then_parts : Evaluated ℤ → (ℤ → Evaluated ℕ) → Evaluated ℕ
+  then_parts v g = after (after v (λ x. after (g x) (λ i. k (r i)))) (λ at. Value (first_of at))
 
-  row_fails : (f : Fault) (v : Evaluated ℕ) → Fails f ≡ after v (λ i. Value (r i)) → Fails f ≡ then_row v
-  row_fails f (Value i) h = cc
-  row_fails f (Fails e) h = cc
+  part_fails : (f : Fault) (v : Evaluated ℕ) → Fails f ≡ after v (λ i. Value (r i)) → Fails f ≡ then_part v
+  part_fails f (Value i) h = cc
+  part_fails f (Fails e) h = cc
 
-  rows_fail : (f : Fault) (v : Evaluated ℤ) (g : ℤ → Evaluated ℕ) → Fails f ≡ after v (λ x. after (g x) (λ i. Value (r i))) → Fails f ≡ then_rows v g
-  rows_fail f (Value x) g h = row_fails f (g x) h
-  rows_fail f (Fails e) g h = cc
+  parts_fail : (f : Fault) (v : Evaluated ℤ) (g : ℤ → Evaluated ℕ) → Fails f ≡ after v (λ x. after (g x) (λ i. Value (r i))) → Fails f ≡ then_parts v g
+  parts_fail f (Value x) g h = part_fails f (g x) h
+  parts_fail f (Fails e) g h = cc
 
-  row_gives : (x : ℕ) (v : Evaluated ℕ) → Value x ≡ after v (λ i. Value (r i)) → (i : ℕ) × (v ≡ Value i) × (x ≡ r i) × (after (k x) (λ at. Value (first_of at)) ≡ then_row v)
-  row_gives x (Value i) h = let e : x ≡ r i = cc in (i, refl, e, ap (λ y. after (k y) (λ at. Value (first_of at))) e)
-  row_gives x (Fails e) h = cc
+  part_gives : (x : ℕ) (v : Evaluated ℕ) → Value x ≡ after v (λ i. Value (r i)) → (i : ℕ) × (v ≡ Value i) × (x ≡ r i) × (after (k x) (λ at. Value (first_of at)) ≡ then_part v)
+  part_gives x (Value i) h = let e : x ≡ r i = cc in (i, refl, e, ap (λ y. after (k y) (λ at. Value (first_of at))) e)
+  part_gives x (Fails e) h = cc
 
-  rows_give : (x : ℕ) (v : Evaluated ℤ) (g : ℤ → Evaluated ℕ) → Value x ≡ after v (λ y. after (g y) (λ i. Value (r i))) → (y : ℤ) × (i : ℕ) × (g y ≡ Value i) × (x ≡ r i) × (after (k x) (λ at. Value (first_of at)) ≡ then_rows v g)
-  rows_give x (Value y) g h = let (i, e, q, m) = row_gives x (g y) h in (y, i, e, q, m)
-  rows_give x (Fails e) g h = cc
+  parts_give : (x : ℕ) (v : Evaluated ℤ) (g : ℤ → Evaluated ℕ) → Value x ≡ after v (λ y. after (g y) (λ i. Value (r i))) → (y : ℤ) × (i : ℕ) × (g y ≡ Value i) × (x ≡ r i) × (after (k x) (λ at. Value (first_of at)) ≡ then_parts v g)
+  parts_give x (Value y) g h = let (i, e, q, m) = part_gives x (g y) h in (y, i, e, q, m)
+  parts_give x (Fails e) g h = cc
 
 pub checked_gives : {X : Type 0} (test : Bool) (x y : X) (kind : FaultKind) (line : ℕ) → checked test x kind line ≡ Value y → IsTrue test × (x ≡ y)
 checked_gives true x y kind line h = let e : x ≡ y = cc in (refl, e)
@@ -96,12 +96,12 @@ module _ (line first : ℕ) (s : Store) (named : Evaluated ℕ) where
   module _ (e : TermExpr) (es : List TermExpr) (n : ℕ) (ns : List ℕ) (w : Walks (e ∷ es) line first (n ∷ ns) s named) where
     pub fails : (f : Fault) → Fails f ≡ first_of_component line first n ns (expression_of e) s → Fails f ≡ named
     fails f h =
-        rows_fail (λ i. first + i * product ns) (λ y. offset_of (seen es) line y ns s) f (value_of (expression_of e) s) (subscript line n) h ∙ w.rest
+        parts_fail (λ i. first + i * product ns) (λ y. offset_of (seen es) line y ns s) f (value_of (expression_of e) s) (subscript line n) h ∙ w.rest
 
     pub walks_on : (x : ℕ) → Value x ≡ first_of_component line first n ns (expression_of e) s → Walks es line x ns s named
     walks_on x h =
-        let (y, i, g, q, k) = rows_give (λ i. first + i * product ns) (λ y. offset_of (seen es) line y ns s) x (value_of (expression_of e) s) (subscript line n) h in
-        record { rest = k ∙ w.rest; bounded = w.bounded.1; few = λ m. rw q (row_few first n i (product ns) w.few (within_size line n y i g) m) }
+        let (y, i, g, q, k) = parts_give (λ i. first + i * product ns) (λ y. offset_of (seen es) line y ns s) x (value_of (expression_of e) s) (subscript line n) h in
+        record { rest = k ∙ w.rest; bounded = w.bounded.1; few = λ m. rw q (part_few first n i (product ns) w.few (within_size line n y i g) m) }
 
 -- ---- the same at a place in the list
 
@@ -128,11 +128,11 @@ module _ (es : List TermExpr) (i : ℕ) (e : TermExpr) (h : i < length es) (is :
     here_sizes : Walks (e ∷ drop (i + 1) es) line first (n ∷ ns) s named
     here_sizes = rw q at here
 
-    pub row_bounded : Bounded (expression_of e) s
-    row_bounded = here_sizes.bounded.0
+    pub part_bounded : Bounded (expression_of e) s
+    part_bounded = here_sizes.bounded.0
 
-    pub row_has_few : FewCells first (n ∷ ns)
-    row_has_few = here_sizes.few
+    pub part_has_few : FewCells first (n ∷ ns)
+    part_has_few = here_sizes.few
 
     pub fails_at : (f : Fault) → Fails f ≡ first_of_component line first n ns (expression_of e) s → Fails f ≡ named
     fails_at f k = fails line first s named e (drop (i + 1) es) n ns here_sizes f k

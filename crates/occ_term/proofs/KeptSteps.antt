@@ -14,7 +14,7 @@ use Rattle.occ_term.specs.TypedSteps.{SettingHas, SettingsHave, TakenHas, DoingH
 use Rattle.occ_term.specs.StepUses.{uses_of_loop, uses_of_setting, uses_of_settings, uses_of_enabled, uses_of_all, uses_of_taken, uses_of_doing, uses_of_contexts, uses_of_left, IsPartOf, ChangesOnly, StepsKeepToTheirUse}
 use Rattle.occ_term.proofs.TypedStores.{Has, Any, has_after}
 use Rattle.occ_term.proofs.KeptStores.{left_part, right_part, both_parts, no_part, whole_part, Goes, goes_then, goes_in, one_goes, into_goes, assigned_goes, declared_goes, all_declared_go}
-use Rattle.occ_term.proofs.TypedPlaces.{to_row, offset_within, offset_named}
+use Rattle.occ_term.proofs.TypedPlaces.{to_span, offset_within, offset_named}
 use Rattle.occ_term.proofs.TypedValues.{or_left}
 
 -- ---- channels
@@ -24,7 +24,7 @@ channel_named d s c p (Fails e) q h = tt
 channel_named d s (place line first sizes subs) p (Value (span f n)) q h =
     let (many, in_it) = offset_within d.types s subs line first sizes [] (span f n) h.1 q in
     let o : n ≡ 1 = many in
-    offset_named d.types s subs line first sizes [] (span first (product sizes)) (span f n) h.1 q (λ c m. m) f (to_row f n f (omega arith) (omega arith))
+    offset_named d.types s subs line first sizes [] (span first (product sizes)) (span f n) h.1 q (λ c m. m) f (to_span f n f (omega arith) (omega arith))
 
 any_part : {X : Type 0} (v : Evaluated X) → Has Any v
 any_part (Value x) = tt

@@ -13,7 +13,7 @@ use Rattle.occ_term.specs.Storing.{Outcome, Gives, Faults, then_in, in_store, no
 use Rattle.occ_term.specs.StepUses.{IsPartOf, ChangesOnly}
 use Rattle.occ_term.proofs.TypedStores.{Has, Any, has_after, values_count}
 use Rattle.occ_term.proofs.TypedValues.{or_left, or_right}
-use Rattle.occ_term.proofs.TypedPlaces.{in_row, to_row, places_lie_within}
+use Rattle.occ_term.proofs.TypedPlaces.{in_span, to_span, places_lie_within}
 
 -- ---- parts of a use
 
@@ -79,16 +79,16 @@ module _ (w : Numbers) (s : Store) where
   pub one_goes : (s' : Store) (cell : ℕ) (v : ℤ) → IsTrue (w cell) → ChangesOnly w s s' → ChangesOnly w s (store_with s' cell v)
   one_goes s' cell v h k c n = changed_cell w s s' cell v c (nat_eq cell c) refl h k n
 
-  pub row_goes : (s' : Store) (first : ℕ) (vs : List ℤ) → AllIn w (span first (length vs)) → ChangesOnly w s s' → ChangesOnly w s (store_from first vs s')
-  row_goes s' first [] h k = k
-  row_goes s' first (v ∷ vs) h k =
-      row_goes (store_with s' first v) (first + 1) vs
-      (λ c r. let (l, g) = in_row (first + 1) (length vs) c r in h c (to_row first (suc (length vs)) c (omega arith) (omega arith)))
-      (one_goes s' first v (h first (to_row first (suc (length vs)) first (omega arith) (omega arith))) k)
+  pub values_go : (s' : Store) (first : ℕ) (vs : List ℤ) → AllIn w (span first (length vs)) → ChangesOnly w s s' → ChangesOnly w s (store_from first vs s')
+  values_go s' first [] h k = k
+  values_go s' first (v ∷ vs) h k =
+      values_go (store_with s' first v) (first + 1) vs
+      (λ c r. let (l, g) = in_span (first + 1) (length vs) c r in h c (to_span first (suc (length vs)) c (omega arith) (omega arith)))
+      (one_goes s' first v (h first (to_span first (suc (length vs)) first (omega arith) (omega arith))) k)
 
   pub span_goes : (s' : Store) (cells : Span) (vs : List ℤ) → AllIn w cells → ChangesOnly w s s' → ChangesOnly w s (store_in cells vs s')
   span_goes s' (span f n) vs h k =
-      row_goes s' f (take n vs) (λ c r. let (l, g) = in_row f (length (take n vs)) c r in h c (to_row f n c (omega arith) (omega (arith, length-take n vs)))) k
+      values_go s' f (take n vs) (λ c r. let (l, g) = in_span f (length (take n vs)) c r in h c (to_span f n c (omega arith) (omega (arith, length-take n vs)))) k
 
 -- ---- targets
 
@@ -190,10 +190,10 @@ module _ (d : Declared) (u : Uses) (s : Store) where
       (λ ps s'' g k'. into_goes s'' xs ts ps h m k')
 
   pub declared_goes : (s' : Store) (x : Declaration) → DeclarationHas d x → IsPartOf (uses_of_declaration x) u → ChangesOnly u.writes s s' → Goes u.writes s Any (declared x s')
-  declared_goes s' (Clearing first count) h m k = (tt, row_goes u.writes s s' first (replicate count (pos 0)) (rw (length-replicate count (pos 0)) m.writes) k)
+  declared_goes s' (Clearing first count) h m k = (tt, values_go u.writes s s' first (replicate count (pos 0)) (rw (length-replicate count (pos 0)) m.writes) k)
   declared_goes s' (Naming first value) h m k =
       goes_then u.writes s (FillsCells value) Any (in_store (part_of value s') s') (λ p s''. Gives nothing (store_from first (values_in p) s'')) (goes_in u.writes s (FillsCells value) (part_of value s') s' (item_fills d s' value h.1 h.0 h.2) k)
-      (λ p s'' g k'. (tt, row_goes u.writes s s'' first (values_in p) (rw g (λ c r. m.writes c (or_right false (numbers_in (span first (cells_of_item value)) c) r))) k'))
+      (λ p s'' g k'. (tt, values_go u.writes s s'' first (values_in p) (rw g (λ c r. m.writes c (or_right false (numbers_in (span first (cells_of_item value)) c) r))) k'))
 
   pub all_declared_go : (s' : Store) (xs : List Declaration) → DeclarationsHave d xs → IsPartOf (uses_of_declarations xs) u → ChangesOnly u.writes s s' → Goes u.writes s Any (all_declared xs s')
   all_declared_go s' [] h m k = (tt, k)

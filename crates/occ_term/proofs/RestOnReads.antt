@@ -8,7 +8,7 @@ use Rattle.occ_term.specs.Values.{Store, Evaluated, Value, Fails, after, subscri
 use Rattle.occ_term.specs.Uses.{Numbers, union, numbers_in, named_by, reads_of, reads_in_place, reads_in_subscripts, reads_of_array, reads_of_item}
 use Rattle.occ_term.specs.Typing.{HasType, PlaceHas, SubscriptsLeave, ArrayHas, ItemHas}
 use Rattle.occ_term.specs.ReadUses.{ValuesRestOnReads, ItemsRestOnReads}
-use Rattle.occ_term.proofs.TypedPlaces.{to_row, in_row, places_lie_within}
+use Rattle.occ_term.proofs.TypedPlaces.{to_span, in_span, places_lie_within}
 
 after_same : {X Y : Type 0} (x : Evaluated X) (f g : X → Evaluated Y) → ((y : X) → f y ≡ g y) → after x f ≡ after x g
 after_same (Value y) f g h = h y
@@ -40,17 +40,17 @@ if_same_first true x y z e = e
 if_same_first false x y z e = refl
 
 -- the cells in a row
-row_same : (first count : ℕ) (s s' : Store) → ((c : ℕ) → IsTrue (numbers_in (span first count) c) → s c ≡ s' c) → values_from first count s ≡ values_from first count s'
-row_same first zero s s' h = refl
-row_same first (suc n) s s' h =
-    let one : s first ≡ s' first = h first (to_row first (suc n) first (omega arith) (omega arith)) in
+span_same : (first count : ℕ) (s s' : Store) → ((c : ℕ) → IsTrue (numbers_in (span first count) c) → s c ≡ s' c) → values_from first count s ≡ values_from first count s'
+span_same first zero s s' h = refl
+span_same first (suc n) s s' h =
+    let one : s first ≡ s' first = h first (to_span first (suc n) first (omega arith) (omega arith)) in
     let others : values_from (first + 1) n s ≡ values_from (first + 1) n s' =
-    row_same (first + 1) n s s' (λ c m. let r = in_row (first + 1) n c m in h c (to_row first (suc n) c (omega (arith, r.0)) (omega (arith, r.1)))) in
+    span_same (first + 1) n s s' (λ c m. let r = in_span (first + 1) n c m in h c (to_span first (suc n) c (omega (arith, r.0)) (omega (arith, r.1)))) in
     ap (λ v. v ∷ values_from (first + 1) n s) one ∙ ap (λ vs. s' first ∷ vs) others
 
 module _ (types : ℕ → Option Primitive) (s s' : Store) where
   first_in : (at : Span) → count_of at ≡ product [] → IsTrue (numbers_in at (first_of at))
-  first_in (span first count) e = to_row first count first (omega arith) (omega (arith, e))
+  first_in (span first count) e = to_span first count first (omega arith) (omega (arith, e))
 
   component : (p : Place) (t : Primitive) → PlaceHas types p t [] → AgreeOn (named_by p) s s' → span_of p s ≡ span_of p s' → (at : Evaluated Span) → span_of p s ≡ at → value_of (Component p) s ≡ value_of (Component p) s'
   component p t h a same (Fails e) is = ap (λ x. after x (λ at. Value (s (first_of at)))) is ∙ ap (λ x. after x (λ at. Value (s' (first_of at)))) (sym is ∙ same)
@@ -90,7 +90,7 @@ module _ (types : ℕ → Option Primitive) (s s' : Store) where
       ap (λ x. after x (λ at. Value (values_from (first_of at) (count_of at) s))) is ∙ ap (λ x. after x (λ at. Value (values_from (first_of at) (count_of at) s'))) (sym is ∙ same)
   array_at p t sizes h a same (Value (span first count)) is =
       let there = places_lie_within types s p t sizes (span first count) h is in
-      let all : values_from first count s ≡ values_from first count s' = row_same first count s s' (λ c m. a c (there.named c m)) in
+      let all : values_from first count s ≡ values_from first count s' = span_same first count s s' (λ c m. a c (there.named c m)) in
       ap (λ x. after x (λ at. Value (values_from (first_of at) (count_of at) s))) is ∙ ap Value all ∙ ap (λ x. after x (λ at. Value (values_from (first_of at) (count_of at) s'))) (sym is ∙ same)
 
   same_array : (x : Array) (t : Primitive) (sizes : List ℕ) → ArrayHas types x t sizes → AgreeOn (reads_of_array x) s s' → array_of x s ≡ array_of x s'

@@ -14,7 +14,7 @@ use Rattle.occ_term.specs.StepUses.{uses_of_setting, uses_of_settings, ChangesOn
 use Rattle.occ_term.specs.TakenArms.{sets_of, Scoped, Opens, opens_skip, after_skip, opens_input, after_input, opens_declared, after_declared, opens_each, after_each, OpensEach, at_value, at_later, again_of, SameAgain}
 use Rattle.occ_term.proofs.TypedStores.{Has, Any}
 use Rattle.occ_term.proofs.TypedValues.{or_left, or_right}
-use Rattle.occ_term.proofs.TypedPlaces.{in_row, to_row}
+use Rattle.occ_term.proofs.TypedPlaces.{in_span, to_span}
 use Rattle.occ_term.proofs.KeptStores.{Goes, goes_then, goes_in, one_goes, declared_goes, either_of, FillsCells, item_fills}
 use Rattle.occ_term.proofs.RestOnReads.{items_rest_on_reads}
 
@@ -97,7 +97,7 @@ given w s s' o x e g = (subst (λ z. Goes w s Any z) e g).1
 
 -- what is stored is the same, whatever else there is
 stored_same : (vs : List ℤ) (first : ℕ) (s r : Store) (c : ℕ) → IsTrue (numbers_in (span first (length vs)) c) ⊎ (s c ≡ r c) → store_from first vs s c ≡ store_from first vs r c
-stored_same [] first s r c (inl m) = let h = in_row first 0 c m in absurd (omega (arith, h.0, h.1))
+stored_same [] first s r c (inl m) = let h = in_span first 0 c m in absurd (omega (arith, h.0, h.1))
 stored_same [] first s r c (inr e) = e
 stored_same (v ∷ vs) first s r c o = stored_same vs (first + 1) (store_with s first v) (store_with r first v) c (by_test (nat_eq first c) refl o)
   where
@@ -106,8 +106,8 @@ stored_same (v ∷ vs) first s r c o = stored_same vs (first + 1) (store_with s 
     by_test true e o' = inr (rw e refl)
     by_test false e (inr same) = inr (rw e same)
     by_test false e (inl m) =
-        let h = in_row first (suc (length vs)) c m in
-        inl (to_row (first + 1) (length vs) c (apart first c h.0 e) (omega (arith, h.1)))
+        let h = in_span first (suc (length vs)) c m in
+        inl (to_span (first + 1) (length vs) c (apart first c h.0 e) (omega (arith, h.1)))
       where
         apart : (n m : ℕ) → n ≤ m → nat_eq n m ≡ false → n + 1 ≤ m
         apart n m l e = grind (arith, nat_tests)

@@ -42,24 +42,24 @@ same_constant (Conversion to line a) s s' h = rw (same_constant a s s' h)
 abbrev pub Within : Span → Span → Type 0
 Within a b = (c : ℕ) → IsTrue (numbers_in a c) → IsTrue (numbers_in b c)
 
-pub in_row : (first count c : ℕ) → IsTrue (numbers_in (span first count) c) → (first ≤ c) × (c < first + count)
-in_row first count c h = (grind (arith, nat_tests), grind (arith, nat_tests))
+pub in_span : (first count c : ℕ) → IsTrue (numbers_in (span first count) c) → (first ≤ c) × (c < first + count)
+in_span first count c h = (grind (arith, nat_tests), grind (arith, nat_tests))
 
-pub to_row : (first count c : ℕ) → first ≤ c → c < first + count → IsTrue (numbers_in (span first count) c)
-to_row first count c l h = grind (arith, nat_tests)
+pub to_span : (first count c : ℕ) → first ≤ c → c < first + count → IsTrue (numbers_in (span first count) c)
+to_span first count c l h = grind (arith, nat_tests)
 
-row_within : (first n p i : ℕ) → i < n → Within (span (first + i * p) p) (span first (n * p))
-row_within first n p i h c m =
-    let (l, g) = in_row (first + i * p) p c m in
-    to_row first (n * p) c (omega arith) (let o = one_more n i p h in omega arith)
+span_within : (first n p i : ℕ) → i < n → Within (span (first + i * p) p) (span first (n * p))
+span_within first n p i h c m =
+    let (l, g) = in_span (first + i * p) p c m in
+    to_span first (n * p) c (omega arith) (let o = one_more n i p h in omega arith)
 
-row_of_value : (line n : ℕ) (v : ℤ) (i : ℕ) → subscript line n v ≡ Value i → subscript_value 0 n (Value v) ≡ Some i
-row_of_value line n v i h =
+subscript_of_value : (line n : ℕ) (v : ℤ) (i : ℕ) → subscript line n v ≡ Value i → subscript_value 0 n (Value v) ≡ Some i
+subscript_of_value line n v i h =
     let (t, e) = checked_gives (int_le (pos 0) v && int_lt v (pos n)) (nat_abs v) i Range line h in
     rw (t, e)
 
 constant_is : (e : Expression) (line n : ℕ) (s : Store) (v : ℤ) (i : ℕ) → IsTrue (is_constant e) → value_of e s ≡ Value v → subscript line n v ≡ Value i → constant_subscript e n ≡ Some i
-constant_is e line n s v i h q r = rw (h, same_constant e (λ c. pos 0) s h, q) (row_of_value line n v i r)
+constant_is e line n s v i h q r = rw (h, same_constant e (λ c. pos 0) s h, q) (subscript_of_value line n v i r)
 
 not_constant : (e : Expression) (n : ℕ) → is_constant e ≡ false → constant_subscript e n ≡ None
 not_constant e n h = rw h
@@ -78,7 +78,7 @@ module _ (types : ℕ → Option Primitive) (s : Store) where
       let (v, q1, q2) = after_gives (value_of e s) (λ v. after (subscript line n v) (λ i. offset_of es line (first + i * product ns) ns s)) at q in
       let (i, q3, q4) = after_gives (subscript line n v) (λ i. offset_of es line (first + i * product ns) ns s) at q2 in
       let (many, in_it) = offset_within es line (first + i * product ns) ns rest at h.1 q4 in
-      (many, λ c m. row_within first n (product ns) i (within_size line n v i q3) c (in_it c m))
+      (many, λ c m. span_within first n (product ns) i (within_size line n v i q3) c (in_it c m))
 
   pub offset_named : (subs : Subscripts) (line first : ℕ) (sizes rest : List ℕ) (whole at : Span) → SubscriptsLeave types subs sizes rest → offset_of subs line first sizes s ≡ Value at → Within (span first (product sizes)) whole → Within at (part_named subs first sizes whole)
   offset_named no_subscripts line first sizes rest whole at h q w =
@@ -88,7 +88,7 @@ module _ (types : ℕ → Option Primitive) (s : Store) where
   offset_named (then_subscript e es) line first (n ∷ ns) rest whole at h q w =
       let (v, q1, q2) = after_gives (value_of e s) (λ v. after (subscript line n v) (λ i. offset_of es line (first + i * product ns) ns s)) at q in
       let (i, q3, q4) = after_gives (subscript line n v) (λ i. offset_of es line (first + i * product ns) ns s) at q2 in
-      let inner = offset_named es line (first + i * product ns) ns rest whole at h.1 q4 (λ c m. w c (row_within first n (product ns) i (within_size line n v i q3) c m)) in
+      let inner = offset_named es line (first + i * product ns) ns rest whole at h.1 q4 (λ c m. w c (span_within first n (product ns) i (within_size line n v i q3) c m)) in
       let outer = (offset_within (then_subscript e es) line first (n ∷ ns) rest at h q).1 in
       by_constant e n i (λ k. part_named es (first + k * product ns) ns whole) whole at (is_constant e) refl
       (λ b. constant_is e line n s v i b q1 q3) inner (λ c m. w c (outer c m))

@@ -13,7 +13,7 @@ use Rattle.occ_term.specs.Selecting.{or_next, first_over, choice_over, choice_of
 use Rattle.occ_term.specs.Steps.{Loop, WhileLoop, EachLoop, Taken, SkipTaken, MessageTaken, Doing, Offering, Awaiting, offer_of, await_of, choosing, or_stop, each_loop, Pass, pass, pass_of, after_taken, taken_by, FaultsIn, in_assign, in_local, in_output, in_input, in_variant, in_alt, in_take, in_if, in_case, in_each, in_loop, ends, stop, assign, clear, local, output, input, variant, alt, take_in, seq_empty, seq, drops, par_empty, par, if_step, case, while, each, passes_again, leaves, body_ends, again, faults}
 use Rattle.occ_term.specs.TypedSteps.{StoreHas, IndicesHave, LoopHas, SettingHas, SettingsHave, EnabledHas, EnabledHave, TakenHas, DoingHas, StepsKeepTypes}
 use Rattle.occ_term.proofs.TypedStores.{Has, Keeps, Any, has_after, keeps_then, keeps_in, value_has, parts_have, one_store, stored_into, assigned_has, declared_has, all_declared_have}
-use Rattle.occ_term.proofs.TypedPlaces.{to_row, offset_within}
+use Rattle.occ_term.proofs.TypedPlaces.{to_span, offset_within}
 
 -- ---- indices
 
@@ -45,7 +45,7 @@ channel_at d s c p (Fails e) q h = tt
 channel_at d s (place line first sizes subs) p (Value (span f n)) q h =
     let (many, in_it) = offset_within d.types s subs line first sizes [] (span f n) h.1 q in
     let o : n ≡ 1 = many in
-    h.0 f (in_it f (to_row f n f (omega arith) (omega arith)))
+    h.0 f (in_it f (to_span f n f (omega arith) (omega arith)))
 
 channel_has : (d : Declared) (s : Store) (c : Place) (p : Protocol) → ChannelHas d c p → Has (λ at. d.protocols (first_of at) ≡ Some p) (span_of c s)
 channel_has d s c p h = channel_at d s c p (span_of c s) refl h

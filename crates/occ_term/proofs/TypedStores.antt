@@ -13,7 +13,7 @@ use Rattle.occ_term.specs.Storing.{Outcome, Gives, Faults, then_in, in_store, no
 use Rattle.occ_term.specs.TypedSteps.{StoreHas, LiesWithin}
 use Rattle.occ_term.proofs.TypedValues.{value_typed}
 use Rattle.occ_term.proofs.TypedOperators.{OfType}
-use Rattle.occ_term.proofs.TypedPlaces.{in_row, to_row, places_lie_within}
+use Rattle.occ_term.proofs.TypedPlaces.{in_span, to_span, places_lie_within}
 
 -- what an evaluation gives has the property, if it gives something
 abbrev pub Has : {X : Type 0} → (X → Type 0) → Evaluated X → Type 0
@@ -57,8 +57,8 @@ value_has d s e t h k = as_has t (value_of e s) (value_typed d.types s e t h (λ
 pub values_typed : (d : Declared) (s : Store) (first count : ℕ) (t : Primitive) → CellsHave d.types (span first count) t → StoreHas d s → AllOf t (values_from first count s)
 values_typed d s first zero t h k = tt
 values_typed d s first (suc n) t h k = (
-  subst (λ x. IsTrue (is_of_declared x (s first))) (h first (to_row first (suc n) first (omega arith) (omega arith))) (k first),
-  values_typed d s (first + 1) n t (λ c m. let (l, g) = in_row (first + 1) n c m in h c (to_row first (suc n) c (omega arith) (omega arith))) k,
+  subst (λ x. IsTrue (is_of_declared x (s first))) (h first (to_span first (suc n) first (omega arith) (omega arith))) (k first),
+  values_typed d s (first + 1) n t (λ c m. let (l, g) = in_span (first + 1) n c m in h c (to_span first (suc n) c (omega arith) (omega arith))) k,
 )
 
 pub values_count : (first count : ℕ) (s : Store) → length (values_from first count s) ≡ count
@@ -128,17 +128,17 @@ by_cell d s cell t v h m c k false e = rw e k
 pub one_store : (d : Declared) (s : Store) (cell : ℕ) (t : Primitive) (v : ℤ) → d.types cell ≡ Some t → IsTrue (is_of t v) → StoreHas d s → StoreHas d (store_with s cell v)
 one_store d s cell t v h m k c = by_cell d s cell t v h m c (k c) (nat_eq cell c) refl
 
-pub row_store : (d : Declared) (s : Store) (first : ℕ) (vs : List ℤ) (t : Primitive) → CellsHave d.types (span first (length vs)) t → AllOf t vs → StoreHas d s → StoreHas d (store_from first vs s)
-row_store d s first [] t h m k = k
-row_store d s first (v ∷ vs) t h m k =
-    row_store d (store_with s first v) (first + 1) vs t
-    (λ c r. let (l, g) = in_row (first + 1) (length vs) c r in h c (to_row first (suc (length vs)) c (omega arith) (omega arith)))
-    m.1 (one_store d s first t v (h first (to_row first (suc (length vs)) first (omega arith) (omega arith))) m.0 k)
+pub values_store : (d : Declared) (s : Store) (first : ℕ) (vs : List ℤ) (t : Primitive) → CellsHave d.types (span first (length vs)) t → AllOf t vs → StoreHas d s → StoreHas d (store_from first vs s)
+values_store d s first [] t h m k = k
+values_store d s first (v ∷ vs) t h m k =
+    values_store d (store_with s first v) (first + 1) vs t
+    (λ c r. let (l, g) = in_span (first + 1) (length vs) c r in h c (to_span first (suc (length vs)) c (omega arith) (omega arith)))
+    m.1 (one_store d s first t v (h first (to_span first (suc (length vs)) first (omega arith) (omega arith))) m.0 k)
 
 pub span_store : (d : Declared) (s : Store) (cells : Span) (vs : List ℤ) (t : Primitive) → CellsHave d.types cells t → AllOf t vs → StoreHas d s → StoreHas d (store_in cells vs s)
 span_store d s (span f n) vs t h m k =
-    row_store d s f (take n vs) t
-    (λ c r. let (l, g) = in_row f (length (take n vs)) c r in h c (to_row f n c (omega arith) (omega (arith, length-take n vs))))
+    values_store d s f (take n vs) t
+    (λ c r. let (l, g) = in_span f (length (take n vs)) c r in h c (to_span f n c (omega arith) (omega (arith, length-take n vs))))
     (take_typed t n vs m) k
 
 -- ---- targets
@@ -233,16 +233,16 @@ zeros_typed t zero = tt
 zeros_typed t (suc n) = (zero_of t, zeros_typed t n)
 
 named_store : (d : Declared) (s : Store) (first : ℕ) (sizes : List ℕ) (t : Primitive) (p : Part) → CellsHave d.types (span first (product sizes)) t → PartFits (simple_part sizes t) p → StoreHas d s → StoreHas d (store_from first (values_in p) s)
-named_store d s first [] t (One u v) h m k = row_store d s first (v ∷ []) t h (m.1, tt) k
+named_store d s first [] t (One u v) h m k = values_store d s first (v ∷ []) t h (m.1, tt) k
 named_store d s first [] t (Many u vs) h m k = absurd m
 named_store d s first [] t (Counted u vs) h m k = absurd m
 named_store d s first (n ∷ ns) t (One u v) h m k = absurd m
-named_store d s first (n ∷ ns) t (Many u vs) h m k = row_store d s first vs t (rw m.1 h) m.2 k
+named_store d s first (n ∷ ns) t (Many u vs) h m k = values_store d s first vs t (rw m.1 h) m.2 k
 named_store d s first (n ∷ ns) t (Counted u vs) h m k = absurd m
 
 pub declared_has : (d : Declared) (s : Store) (x : Declaration) → DeclarationHas d x → StoreHas d s → Keeps d Any (declared x s)
 declared_has d s (Clearing first count) h k =
-    (tt, row_store d s first (replicate count (pos 0)) h.0 (rw (length-replicate count (pos 0)) h.1) (zeros_typed h.0 count) k)
+    (tt, values_store d s first (replicate count (pos 0)) h.0 (rw (length-replicate count (pos 0)) h.1) (zeros_typed h.0 count) k)
 declared_has d s (Naming first value) h k =
     let t = simple_part h.1 h.0 in
     keeps_then d (PartFits t) Any (in_store (part_of value s) s) (λ p s'. Gives nothing (store_from first (values_in p) s')) (keeps_in d (PartFits t) (part_of value s) s (part_has d s value t h.2 k) k)

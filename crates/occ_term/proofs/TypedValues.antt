@@ -10,7 +10,7 @@ use Rattle.occ_term.specs.Frames.{Variables, at}
 use Rattle.occ_term.specs.Evaluation.{CanBeEvaluated, IsWord, Bounded, BoundedPlace, BoundedSubscripts}
 use Rattle.occ_term.specs.TypedSteps.{ValuesHaveTypes}
 use Rattle.occ_term.proofs.TypedOperators.{OfType, in_type_typed, truth_typed, binary_typed, not_typed, converted_typed, is_word}
-use Rattle.occ_term.proofs.TypedPlaces.{to_row, places_lie_within}
+use Rattle.occ_term.proofs.TypedPlaces.{to_span, places_lie_within}
 
 pub or_left : (a b : Bool) → IsTrue a → IsTrue (a || b)
 or_left true b h = refl
@@ -51,7 +51,7 @@ component_typed : (types : ℕ → Option Primitive) (s : Store) (p : Place) (t 
 component_typed types s p t (Fails e) q h k = tt
 component_typed types s p t (Value (span f n)) q h k =
     let w = places_lie_within types s p t [] (span f n) h q in
-    let m : IsTrue (numbers_in (span f n) f) = to_row f n f (omega arith) (let o : n ≡ 1 = w.many in omega arith) in
+    let m : IsTrue (numbers_in (span f n) f) = to_span f n f (omega arith) (let o : n ≡ 1 = w.many in omega arith) in
     cell_typed types s f t (w.typed f m) (k f (w.named f m))
 
 same_cell : (c : ℕ) → IsTrue (nat_eq c c)
@@ -105,7 +105,7 @@ few_cells types first zero t few h m = absurd (omega arith)
 few_cells types first (suc n) t few h m =
     elim (at_most (first + n) 65536) [
       | inl below ↦ omega arith
-      | inr above ↦ let a = few (first + n) above in let b = h (first + n) (to_row first (suc n) (first + n) (omega arith) (omega arith)) in absurd (none_some (types (first + n)) t a b)
+      | inr above ↦ let a = few (first + n) above in let b = h (first + n) (to_span first (suc n) (first + n) (omega arith) (omega arith)) in absurd (none_some (types (first + n)) t a b)
     ]
 
 module _ (types : ℕ → Option Primitive) (s : Store) (few : (c : ℕ) → 65536 ≤ c → types c ≡ None) where

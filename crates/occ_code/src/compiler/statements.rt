@@ -26,8 +26,7 @@ use occ_term::{
 use sqlite_items::Items;
 use std::alloc::{AllocError, Global};
 
-/// The code of a term, whose replicated SEQs have the counters from the slot on. Each replicated SEQ round it has put an
-/// instruction, so the slots stay within their words.
+/// The code of a term, whose replicated SEQs have the counters from the slot on: each one round it has put an instruction.
 #[cycle(terms)]
 pub(crate) fn emit_term(
     alloc: Global,

@@ -4,7 +4,7 @@ use Rattle.occ_term.specs.Frames.{at}
 use Rattle.occ_term.specs.View.{place_of}
 use Rattle.occ_term.specs.Evaluation.{first_named}
 use Rattle.occ_term.specs.declared.expression.TermExpr.{the_lemmas}
-use Rattle.occ_term.proofs.Bounds.{begins_at, no_size_at, row_bounded, row_has_few, walked_at, fails_at, walks_at}
+use Rattle.occ_term.proofs.Bounds.{begins_at, no_size_at, part_bounded, part_has_few, walked_at, fails_at, walks_at}
 use Rattle.occ_term.proofs.value.+evaluation.Goals as goal
 
 pub first_named-loop-e-init : goal.first_named-loop-e-init
@@ -19,8 +19,8 @@ first_named-returns-in-None t c =
 
 pub first_named-first_of_component-requires : goal.first_named-first_of_component-requires
 first_named-first_of_component-requires t c =
-    let few = row_has_few c.as_slice-e-items.result.now c.loop-e.e-index c.e-item.result c.loop-e-test.true c.e-item.is c.args.place.now.line c.loop-e.first (at c.args.frame.now) (first_named (place_of c.args.place.now) (at c.args.frame.now)) c.loop-e.sizes.now c.loop-e.invariant c.in-Some.size.now c.in-Some.others.now c.in-Some.ensures.cases.0 in
-    let bounded = row_bounded c.as_slice-e-items.result.now c.loop-e.e-index c.e-item.result c.loop-e-test.true c.e-item.is c.args.place.now.line c.loop-e.first (at c.args.frame.now) (first_named (place_of c.args.place.now) (at c.args.frame.now)) c.loop-e.sizes.now c.loop-e.invariant c.in-Some.size.now c.in-Some.others.now c.in-Some.ensures.cases.0 in
+    let few = part_has_few c.as_slice-e-items.result.now c.loop-e.e-index c.e-item.result c.loop-e-test.true c.e-item.is c.args.place.now.line c.loop-e.first (at c.args.frame.now) (first_named (place_of c.args.place.now) (at c.args.frame.now)) c.loop-e.sizes.now c.loop-e.invariant c.in-Some.size.now c.in-Some.others.now c.in-Some.ensures.cases.0 in
+    let bounded = part_bounded c.as_slice-e-items.result.now c.loop-e.e-index c.e-item.result c.loop-e-test.true c.e-item.is c.args.place.now.line c.loop-e.first (at c.args.frame.now) (first_named (place_of c.args.place.now) (at c.args.frame.now)) c.loop-e.sizes.now c.loop-e.invariant c.in-Some.size.now c.in-Some.others.now c.in-Some.ensures.cases.0 in
     (search (rules, the_lemmas), (few, bounded))
 
 pub first_named-returns-in_err-first-in-Some : goal.first_named-returns-in_err-first-in-Some

@@ -2,7 +2,7 @@ use Rattle.std.specs.Prelude.{replicate}
 use Rattle.std.proofs.Common.{rules, ◌≡◌, ◌∙◌, ◌<◌, ◌≤◌, ◌-◌, ◌+◌, ap, sym, refl, subst, arith, length, drop}
 use Rattle.std.proofs.lemmas.List.{length-replicate}
 use Rattle.occ_code.specs.Cells.{AreEnds, covers, furthest}
-use Rattle.occ_code.proofs.CellRows.{end_fits, no_ends, no_uses, covers_next}
+use Rattle.occ_code.proofs.CellEnds.{end_fits, no_ends, no_uses, covers_next}
 use Rattle.occ_code.proofs.compiler.cells.ends_of.Goals as goal
 
 pub loop-left-init : goal.loop-left-init

@@ -1,6 +1,6 @@
 use Rattle.std.proofs.Common.{◌≡◌, ◌<◌, ◌-◌, ◌+◌, refl, sym, ap, arith, length}
 use Rattle.occ_code.specs.Cells.{furthest}
-use Rattle.occ_code.proofs.CellRows.{furthest_next}
+use Rattle.occ_code.proofs.CellEnds.{furthest_next}
 use Rattle.occ_code.proofs.Emitting.{drop_all}
 use Rattle.occ_code.proofs.compiler.cells.furthest_end.Goals as goal
 

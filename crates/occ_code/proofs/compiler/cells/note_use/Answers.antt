@@ -3,7 +3,7 @@ use Rattle.std.proofs.lemmas.Bool.Decides.{nat_tests}
 use Rattle.std.proofs.Common.{◌≡◌, ◌∙◌, ◌≤◌, true, sym, subst, length, arith}
 use Rattle.occ_usage.specs.Noted.{between}
 use Rattle.occ_code.specs.Cells.{AreEnds, covers, is_counted}
-use Rattle.occ_code.proofs.CellRows.{noted_ends}
+use Rattle.occ_code.proofs.CellEnds.{noted_ends}
 use Rattle.occ_code.proofs.compiler.cells.note_use.Goals as goal
 
 pub note_end-requires-clause-within : goal.note_end-requires-clause-within

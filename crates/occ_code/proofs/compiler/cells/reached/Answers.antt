@@ -1,7 +1,7 @@
 use Rattle.std.specs.Prelude.{max}
 use Rattle.std.proofs.Common.{◌≡◌, ◌∙◌, ◌+◌, ap, sym, get_or}
 use Rattle.occ_code.specs.Cells.{reach}
-use Rattle.occ_code.proofs.CellRows.{few_more, reach_next, reached_next}
+use Rattle.occ_code.proofs.CellEnds.{few_more, reach_next, reached_next}
 use Rattle.occ_code.proofs.compiler.cells.reached.Goals as goal
 
 pub loop-number-preserved : goal.loop-number-preserved

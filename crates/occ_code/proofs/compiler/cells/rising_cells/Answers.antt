@@ -1,6 +1,6 @@
 use Rattle.std.proofs.Common.{◌≤◌, subst, length, arith}
 use Rattle.occ_code.specs.Cells.{AreReached, furthest}
-use Rattle.occ_code.proofs.CellRows.{listed, uses_furthest}
+use Rattle.occ_code.proofs.CellEnds.{listed, uses_furthest}
 use Rattle.occ_code.proofs.compiler.cells.rising_cells.Goals as goal
 
 pub returns-then-count-gt-MOST_CELLS-clause-lists : goal.returns-then-count-gt-MOST_CELLS-clause-lists

@@ -3,7 +3,7 @@ use Rattle.occ_term.specs.Processes.{branches_among, branches_in, branches_in_ar
 use Rattle.occ_term.specs.View.{arm_of, arms_of, branch_of, branches_of, choice_of, choices_of, option_of, reception_of, term_of, variant_of, variants_of}
 use Rattle.occ_term.specs.declared.term.Term.{the_lemmas}
 use Rattle.occ_code.proofs.CompilingTerms.{adds_as, adds_none, adds_then}
-use Rattle.occ_code.proofs.EmittingTerms.{branches_row, terms_row, variants_row}
+use Rattle.occ_code.proofs.EmittingTerms.{branches_next, terms_next, variants_next}
 use Rattle.occ_code.proofs.compiler.processes.+branches.Goals as goal
 
 -- ---- terms without branches
@@ -40,8 +40,8 @@ add_in_terms-loop-count-preserved t c =
     let (within, others) = c.loop-count.invariant in
     let some : 0 < c.loop-count.count = c.loop-count-test.true in
     let lt : c.loop-count.count - 1 < length c.args.parts.now = omega (arith, some, within) in
-    let row = terms_row c.args.parts.now (c.loop-count.count - 1) c.loop-count.count c.index-parts-count.result (omega (arith, some)) lt c.index-parts-count.is in
-    (omega (arith, within), adds_as (adds_then others c.in_ok-add_branches.ensures) (sym (ap branches_in_terms row)))
+    let left = terms_next c.args.parts.now (c.loop-count.count - 1) c.loop-count.count c.index-parts-count.result (omega (arith, some)) lt c.index-parts-count.is in
+    (omega (arith, within), adds_as (adds_then others c.in_ok-add_branches.ensures) (sym (ap branches_in_terms left)))
 
 pub add_each-loop-count-preserved : goal.add_each-loop-count-preserved
 add_each-loop-count-preserved t c =
@@ -49,21 +49,21 @@ add_each-loop-count-preserved t c =
     let some : 0 < c.loop-count.count = c.loop-count-test.true in
     let lt : c.loop-count.count - 1 < length c.args.branches.now = omega (arith, some, within) in
     let b = c.index-branches-count.result in
-    let row = branches_row c.args.branches.now (c.loop-count.count - 1) c.loop-count.count c.index-branches-count.result (omega (arith, some)) lt c.index-branches-count.is in
+    let left = branches_next c.args.branches.now (c.loop-count.count - 1) c.loop-count.count c.index-branches-count.result (omega (arith, some)) lt c.index-branches-count.is in
     let rest = branches_of (drop c.loop-count.count c.args.branches.now) in
     let seen : numbered c.index-branches-count.result.number (term_of c.index-branches-count.result.body) ∷ (branches_in (term_of c.index-branches-count.result.body) ++ branches_among (branches_of (drop c.loop-count.count c.args.branches.now)))
     ≡ branches_among (branch_of c.index-branches-count.result (branches_of (drop c.loop-count.count c.args.branches.now))) = search (rules, the_lemmas) in
-    (omega (arith, within), adds_as (adds_then (adds_then others c.in_ok-add_branches.ensures) (c.in_ok-add_body.ensures b.number)) (seen ∙ sym (ap branches_among row)))
+    (omega (arith, within), adds_as (adds_then (adds_then others c.in_ok-add_branches.ensures) (c.in_ok-add_body.ensures b.number)) (seen ∙ sym (ap branches_among left)))
 
 pub add_in_variants-loop-count-preserved : goal.add_in_variants-loop-count-preserved
 add_in_variants-loop-count-preserved t c =
     let (within, others) = c.loop-count.invariant in
     let some : 0 < c.loop-count.count = c.loop-count-test.true in
     let lt : c.loop-count.count - 1 < length c.args.variants.now = omega (arith, some, within) in
-    let row = variants_row c.args.variants.now (c.loop-count.count - 1) c.loop-count.count c.index-variants-count.result (omega (arith, some)) lt c.index-variants-count.is in
+    let left = variants_next c.args.variants.now (c.loop-count.count - 1) c.loop-count.count c.index-variants-count.result (omega (arith, some)) lt c.index-variants-count.is in
     let seen : branches_in (term_of c.index-variants-count.result.body) ++ branches_in_variants (variants_of (drop c.loop-count.count c.args.variants.now))
     ≡ branches_in_variants (variant_of c.index-variants-count.result (variants_of (drop c.loop-count.count c.args.variants.now))) = search (rules, the_lemmas) in
-    (omega (arith, within), adds_as (adds_then others c.in_ok-add_branches.ensures) (seen ∙ sym (ap branches_in_variants row)))
+    (omega (arith, within), adds_as (adds_then others c.in_ok-add_branches.ensures) (seen ∙ sym (ap branches_in_variants left)))
 
 -- ---- choices, options and arms
 

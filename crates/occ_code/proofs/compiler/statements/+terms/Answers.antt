@@ -7,24 +7,24 @@ use Rattle.occ_code.specs.Expressions.{counting_code, declaration_code, declarat
 use Rattle.occ_code.specs.Emitted.{arm_code, arms_code, choices_code, declared_arms_code, each_arm_code, else_code, list_code, options_code, term_code, variants_code}
 use Rattle.occ_code.proofs.Emitting.{emits_then, emits_as, emits_from, emits_length, drop_all}
 use Rattle.occ_code.proofs.EmittingArms.{declared_arms, each_arms, number_is, one_arm}
-use Rattle.occ_code.proofs.EmittingTerms.{among_others, behind, beyond, chosen, guarded, options_row, tagged}
+use Rattle.occ_code.proofs.EmittingTerms.{among_others, behind, beyond, chosen, guarded, options_next, tagged}
 use Rattle.occ_code.proofs.compiler.statements.+terms.Goals as goal
 
 -- ---- ELSE
 
 pub emit_else-loop-option-preserved : goal.emit_else-loop-option-preserved
 emit_else-loop-option-preserved t c =
-    let row = options_row c.args.options.now c.loop-option.option-index (c.loop-option.option-index + 1) c.option-item.result refl c.loop-option-test.true c.option-item.is in
+    let left = options_next c.args.options.now c.loop-option.option-index (c.loop-option.option-index + 1) c.option-item.result refl c.loop-option-test.true c.option-item.is in
     let seen : else_code c.args.slot (options_of (drop (c.loop-option.option-index + 1) c.args.options.now)) ≡ else_code c.args.slot (option_of c.option-item.result (options_of (drop (c.loop-option.option-index + 1) c.args.options.now))) = search (rules, the_lemmas) in
-    (c.loop-option.invariant.0, seen ∙ sym (ap (λ os. else_code c.args.slot os) row) ∙ c.loop-option.invariant.1)
+    (c.loop-option.invariant.0, seen ∙ sym (ap (λ os. else_code c.args.slot os) left) ∙ c.loop-option.invariant.1)
 
 pub emit_else-returns-in-Otherwise : goal.emit_else-returns-in-Otherwise
 emit_else-returns-in-Otherwise t c =
-    let row = options_row c.args.options.now c.loop-option.option-index (c.loop-option.option-index + 1) c.option-item.result refl c.loop-option-test.true c.option-item.is in
+    let left = options_next c.args.options.now c.loop-option.option-index (c.loop-option.option-index + 1) c.option-item.result refl c.loop-option-test.true c.option-item.is in
     let seen : DropOne ∷ (declarations_code (declarations_of c.as_slice.result.now) ++ term_code c.args.slot (term_of c.in-Otherwise.body)) ≡ else_code c.args.slot (option_of c.option-item.result (options_of (drop (c.loop-option.option-index + 1) c.args.options.now))) =
     search (rules, the_lemmas) in
     emits_from (sym c.loop-option.invariant.0)
-    (emits_as (emits_then (emits_then c.in_ok-emit_term-in-Otherwise.ensures c.in_ok-emit_declarations-in-Otherwise.ensures) c.in_ok-put-in-Otherwise.ensures) (seen ∙ sym (ap (λ os. else_code c.args.slot os) row) ∙ c.loop-option.invariant.1))
+    (emits_as (emits_then (emits_then c.in_ok-emit_term-in-Otherwise.ensures c.in_ok-emit_declarations-in-Otherwise.ensures) c.in_ok-put-in-Otherwise.ensures) (seen ∙ sym (ap (λ os. else_code c.args.slot os) left) ∙ c.loop-option.invariant.1))
 
 pub emit_else-returns : goal.emit_else-returns
 emit_else-returns t c =

@@ -1,4 +1,4 @@
--- The cells of a process: the ends of rows, and the numbers that are reached.
+-- The cells of a process: the ends of spans, and the numbers that are reached.
 use Rattle.std.specs.Prelude.{nat_eq, nat_le, nat_lt, set, max, replicate, ◌&&◌, ◌||◌, if◌then◌else◌}
 use Rattle.std.proofs.Common.{◌≡◌, ℕ, zero, suc, ◌+◌, ◌-◌, ◌<◌, ◌≤◌, Bool, true, false, IsTrue, List, [], ◌∷◌, ◌++◌, drop, get_or, length, refl, sym, ap, ◌∙◌, subst, arith, length-append, length-set}
 use Rattle.std.proofs.Math.Seq.{drop-cons}
@@ -221,18 +221,18 @@ below_then a b c h k = omega (arith, h, k)
 pub end_fits : (us : List Use) (i : ℕ) (one d : Use) (writes_only : Bool) (n : ℕ) → i < length us → one ≡ get_or us i d → furthest writes_only us ≤ n → end_of writes_only one ≤ n
 end_fits us i one d writes_only n lt is h = below_then (end_of writes_only one) (furthest writes_only us) n (end_within us i one d writes_only lt is) h
 
--- one more use of a row
+-- one more use of a span
 pub covers_next : (us : List Use) (i k : ℕ) (one d : Use) (writes_only : Bool) (es : List ℕ) (count : ℕ) → k ≡ i + 1 → i < length us → one ≡ get_or us i d → AreEnds es count (covers writes_only (one ∷ drop k us)) → AreEnds es count (covers writes_only (drop i us))
 covers_next us i k one d writes_only es count e lt is h =
     let next : k ≡ suc i = omega (arith, e) in
-    let row : drop i us ≡ one ∷ drop k us = drop-cons us i d lt ∙ ap (λ x. x ∷ drop (suc i) us) (sym is) ∙ ap (λ n. one ∷ drop n us) (sym next) in
-    subst (λ l. AreEnds es count (covers writes_only l)) (sym row) h
+    let left : drop i us ≡ one ∷ drop k us = drop-cons us i d lt ∙ ap (λ x. x ∷ drop (suc i) us) (sym is) ∙ ap (λ n. one ∷ drop n us) (sym next) in
+    subst (λ l. AreEnds es count (covers writes_only l)) (sym left) h
 
 pub furthest_next : (us : List Use) (i k : ℕ) (one d : Use) (writes_only : Bool) {end more : ℕ} → k ≡ i + 1 → i < length us → one ≡ get_or us i d → end ≡ furthest writes_only (drop k us) → more ≡ max (end_of writes_only one) end → more ≡ furthest writes_only (drop i us)
 furthest_next us i k one d writes_only e lt is h m =
     let next : k ≡ suc i = omega (arith, e) in
-    let row : drop i us ≡ one ∷ drop k us = drop-cons us i d lt ∙ ap (λ x. x ∷ drop (suc i) us) (sym is) ∙ ap (λ n. one ∷ drop n us) (sym next) in
-    m ∙ ap (max (end_of writes_only one)) h ∙ sym (ap (furthest writes_only) row)
+    let left : drop i us ≡ one ∷ drop k us = drop-cons us i d lt ∙ ap (λ x. x ∷ drop (suc i) us) (sym is) ∙ ap (λ n. one ∷ drop n us) (sym next) in
+    m ∙ ap (max (end_of writes_only one)) h ∙ sym (ap (furthest writes_only) left)
 
 pub no_uses : (us : List Use) (i : ℕ) (writes_only : Bool) (es : List ℕ) (count : ℕ) → length us ≤ i → AreEnds es count (covers writes_only []) → AreEnds es count (covers writes_only (drop i us))
 no_uses us i writes_only es count h ends = subst (λ l. AreEnds es count (covers writes_only l)) (sym (drop_all us i h)) ends
