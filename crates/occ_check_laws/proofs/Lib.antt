@@ -22,3 +22,4 @@ pub mod Reading
 pub mod Heads
 pub mod ScopedArms
 pub mod ScopedTree
+pub mod Limits

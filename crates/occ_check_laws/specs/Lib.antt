@@ -4,3 +4,4 @@ pub mod Numbering
 pub mod Growth
 pub mod CellOrder
 pub mod Scoping
+pub mod Limits

@@ -13,6 +13,7 @@ ghost use Rattle.occ_check_laws.specs.CellOrder.{cells_in, InOrder};
 ghost use Rattle.occ_check_laws.specs.Counting.{Counted};
 ghost use Rattle.occ_check_meaning.specs.Expressions.{Typed, typed};
 ghost use Rattle.occ_check_laws.specs.Growth.{Grown, IsWithinLimits};
+ghost use Rattle.occ_check_laws.specs.Limits.{KeepsLimits};
 ghost use Rattle.occ_check_laws.specs.Having.{NamesHave, TypedHas};
 ghost use Rattle.occ_check_laws.specs.Numbering.{NumberedUpTo};
 ghost use Rattle.occ_check_laws.specs.Scoping.{EachAlt, IsScoped, SetsTheSameAgain};
@@ -42,6 +43,11 @@ pub fn expressions_have_types()
 pub fn only_grows()
     ensures part { (sc : Procedures) (depth : ℕ) (n m : Numbers) (p : Node process) (t : Term) → Unfolding sc depth n p t m → Grown n m }
     ensures whole { (items : List Item) (t : Term) (m : Numbers) → ProgramUnfolding items t m → Grown at_start m × IsWithinLimits m }
+{}
+
+/// What a program unfolds to keeps the limits on cells, channels, processes, nodes and depth.
+pub fn limits_are_kept()
+    ensures { (items : List Item) (t : Term) (m : Numbers) → ProgramUnfolding items t m → KeepsLimits t m }
 {}
 
 /// Whatever a program unfolds to is well-formed.

@@ -3,7 +3,7 @@ ghost use Rattle.std.specs.Prelude.{◌≡◌, IsTrue, pos};
 ghost use Rattle.occ_term.specs.Uses as uses;
 ghost use Rattle.occ_term.specs.Values as values;
 ghost use Rattle.occ_term.specs.Evaluation.{evaluated};
-ghost use Rattle.occ_term.specs.ConstantValues.{chosen};
+ghost use Rattle.occ_constants.specs.Chains.{chosen};
 ghost use Rattle.occ_term.specs.View.{expression_of};
 
 use crate::operator::{binary, converted, unary};

@@ -15,7 +15,6 @@ pub mod KeptStores
 pub mod KeptSteps
 pub mod RestOnReads
 pub mod FrameWrites
-pub mod Chains
 pub mod AllOpened
 pub mod Components
 pub mod Few

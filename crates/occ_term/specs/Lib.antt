@@ -18,7 +18,6 @@ pub mod StepUses
 pub mod ReadUses
 pub mod View
 pub mod UnfoldedProgram
-pub mod ConstantValues
 pub mod Sizes
 pub mod Processes
 pub mod Going

@@ -4,7 +4,6 @@
 //! what an expression is worth.
 #![tactic(auto)]
 
-pub mod constant;
 pub mod examples;
 pub mod expression;
 pub mod fault;
@@ -23,7 +22,6 @@ pub mod text;
 pub mod unfolded;
 pub mod value;
 
-pub use constant::{NoValue, constant_value};
 pub use expression::{
     Array, Declaration, Item, Monadic, Operator, Place, Replicator, Target, TermExpr,
 };

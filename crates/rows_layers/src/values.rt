@@ -4,10 +4,9 @@ ghost use Rattle.occ_term.specs.Evaluation.{CanBeEvaluated};
 ghost use Rattle.occ_term.specs.Frames.{zero_frame};
 ghost use Rattle.occ_term.specs.View.{expression_of};
 
+use occ_constants::{is_constant, value_of_constant};
 use occ_held::parts::Nested;
-use occ_term::{
-    Fault, Frame, Monadic, NoValue, Operator, Primitive, TermExpr, constant_value, value_of,
-};
+use occ_term::{Fault, Frame, Monadic, Operator, Primitive, TermExpr, value_of};
 use std::alloc::{AllocError, Global};
 use std::process::Abort;
 use std::test::Fail;
@@ -103,10 +102,12 @@ fn show_fault(alloc: Global, fault: Fault) -> Result<String, AllocError> {
 
 /// The value of a constant, or its fault.
 fn show_constant(alloc: Global, e: &TermExpr) -> Result<String, AllocError> {
-    match constant_value(e) {
+    if !is_constant(e) {
+        return String::from_str(alloc, "no constant");
+    }
+    match value_of_constant(e) {
         Ok(v) => format!(in alloc; "{v}"),
-        Err(NoValue::Faulty(fault)) => show_fault(alloc, fault),
-        Err(NoValue::Unfit) => String::from_str(alloc, "unfit"),
+        Err(fault) => show_fault(alloc, fault),
     }
 }
 

@@ -1,12 +1,12 @@
 use Rattle.std.proofs.Common.{rules, ◌≡◌, pos, sym, ap, ◌∙◌}
 use Rattle.occ_term.specs.Terms as T
 use Rattle.occ_term.specs.Evaluation.{evaluated}
-use Rattle.occ_term.specs.ConstantValues.{chosen}
+use Rattle.occ_constants.specs.Chains.{chosen}
 use Rattle.occ_term.specs.Uses.{is_constant}
 use Rattle.occ_term.specs.Values.{Value, value_of}
 use Rattle.occ_term.specs.View.{expression_of}
 use Rattle.occ_term.specs.declared.expression.TermExpr.{the_lemmas}
-use Rattle.occ_term.proofs.Chains.{and_chosen, and_is_chosen, or_chosen, or_is_chosen}
+use Rattle.occ_constants.proofs.Chains.{and_chosen, and_is_chosen, or_chosen, or_is_chosen}
 use Rattle.occ_constants.proofs.Chained.{first_of_both, second_of_both}
 use Rattle.occ_constants.proofs.constant.+constant.Goals as goal
 

@@ -3,7 +3,7 @@ use Rattle.occ_term.specs.View.{expression_of}
 use Rattle.occ_term.specs.Uses.{is_constant}
 use Rattle.occ_term.specs.Values.{value_of}
 use Rattle.occ_term.specs.Evaluation.{evaluated}
-use Rattle.occ_term.specs.ConstantValues.{chosen}
+use Rattle.occ_constants.specs.Chains.{chosen}
 use Rattle.occ_term.proofs.expression.TermExpr.TheLaws.{the_size}
 use Rattle.occ_constants.proofs.constant.+constant.Given as goal
 

@@ -2,7 +2,7 @@
 use Rattle.std.proofs.Common.{◌≡◌, ℤ, true, false, refl, pos}
 use Rattle.std.specs.Prelude.{Bool, if◌then◌else◌}
 use Rattle.occ_term.specs.Values.{Evaluated, Value, Fails, after, holds}
-use Rattle.occ_term.specs.ConstantValues.{chosen}
+use Rattle.occ_constants.specs.Chains.{chosen}
 
 if_and : (b : Bool) (y on_true on_false : Evaluated ℤ) → chosen (if b then y else Value (pos 0)) on_true on_false ≡ (if b then chosen y on_true on_false else on_false)
 if_and true y on_true on_false = refl
