@@ -32,7 +32,7 @@ use Rattle.occ_check_meaning.specs.Recursion.{all_arms, all_declared, arm_unfold
 use Rattle.occ_check_meaning.specs.Scope.{Scope, names_of}
 use Rattle.occ_check.specs.Statements.{listening, declarations_of_arm}
 use Rattle.occ_check.specs.Opened.{put}
-use Rattle.occ_check.specs.Weights.{body_size, arm_size, decls_size, node_size}
+use Rattle.occ_check.specs.Weights.{arm_size, decls_size, node_size}
 
 -- ---- one arm
 

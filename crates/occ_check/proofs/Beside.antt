@@ -1,21 +1,16 @@
 -- Processes beside each other.
-use Rattle.std.proofs.Common.{◌≡◌, ◌<◌, ◌≤◌, ◌+◌, ◌∙◌, ℕ, List, [], ◌∷◌, ◌++◌, Option, Some, None, refl, ap, sym, map, Vec, Global}
+use Rattle.std.proofs.Common.{◌≡◌, ◌∙◌, ℕ, List, [], ◌∷◌, Option, Some, None, refl, ap, map}
 use Rattle.occ_tree_grammar.specs.Many.{◌>>=◌}
-use Rattle.occ_tree_grammar.specs.Processes.Trees.{nodes, Nodes, process}
+use Rattle.occ_tree_grammar.specs.Processes.Trees.{nodes}
 use Rattle.occ_tree_grammar.specs.Processes.Views.{process_of}
 use Rattle.occ_tree_grammar.specs.declared.tree.process.Process.{Process}
-use Rattle.occ_tree_grammar.specs.declared.tree.process.Stmt.{Stmt}
 use Rattle.occ_tree_grammar.specs.declared.tree.process.Stmt.TheVariants as stmts
-use Rattle.occ_term.specs.Sizes.{with_node, no_size}
-use Rattle.occ_term.specs.Terms.{Term, Branches, no_branches, and_branch, Par}
+use Rattle.occ_term.specs.Terms.{Term, Branches, no_branches, and_branch}
 use Rattle.occ_term.specs.View.{branches}
-use Rattle.occ_check_meaning.specs.Numbers.{Numbers, more_processes, room}
-use Rattle.occ_check_meaning.specs.Performing.{Calling, Under, beside}
+use Rattle.occ_check_meaning.specs.Numbers.{Numbers, more_processes}
+use Rattle.occ_check_meaning.specs.Performing.{Calling}
 use Rattle.occ_check_meaning.specs.Recursion.{all_beside, unfolded}
 use Rattle.occ_check_meaning.specs.Scope.{Scope}
-use Rattle.occ_check.specs.Statements.{performing}
-use Rattle.occ_check.specs.Weights.{nodes_size, statement_size}
-use Rattle.occ_check.proofs.InTurn.{processes_made}
 use Rattle.occ_check.proofs.Listing.{before}
 
 abbrev pub branches_in : Scope Calling → ℕ → List Process → Numbers → Option (Branches × Numbers)

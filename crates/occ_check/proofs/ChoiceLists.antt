@@ -5,7 +5,6 @@ use Rattle.occ_tree_grammar.specs.Many.{◌>>=◌}
 use Rattle.occ_term.specs.declared.expression.Declaration.{Declaration}
 use Rattle.occ_tree_grammar.specs.Processes.Trees.{Kind, Node, choice, more_nodes, no_node, nodes}
 use Rattle.occ_tree_grammar.specs.Processes.Views as trees
-use Rattle.occ_tree_grammar.specs.Processes.Views.{process_of, held_decls}
 use Rattle.occ_tree_grammar.specs.declared.tree.process.Choice.{Choice}
 use Rattle.occ_tree_grammar.specs.declared.tree.process.Choice.TheVariants as choices
 use Rattle.occ_term.specs.Terms as T
@@ -29,7 +28,7 @@ use Rattle.occ_check_meaning.specs.Recursion.{all_choices, all_declared, choice_
 use Rattle.occ_check_meaning.specs.Scope.{Scope, names_of}
 use Rattle.occ_check.specs.Statements.{choosing, declarations_of_choice}
 use Rattle.occ_check.specs.Opened.{put}
-use Rattle.occ_check.specs.Weights.{body_size, choice_size, decls_size, node_size, nodes_size}
+use Rattle.occ_check.specs.Weights.{choice_size, decls_size, node_size, nodes_size}
 
 abbrev pairing : T.Expression → Numbers → Option (T.Expression × Numbers)
 pairing test m = Some (test, m)

@@ -1,21 +1,19 @@
 -- Processes one after the other.
-use Rattle.std.proofs.Common.{◌≡◌, ◌<◌, ◌≤◌, ◌+◌, ◌∙◌, ℕ, List, [], ◌∷◌, ◌++◌, Option, Some, None, refl, ap, sym, map, drop, get_or, length, arith, Vec, Global, zero, suc}
+use Rattle.std.proofs.Common.{◌≡◌, ◌<◌, ◌∙◌, ℕ, List, [], ◌∷◌, Option, Some, refl, ap, map, get_or, length, arith, Vec, Global, zero, suc}
 use Rattle.occ_tree_grammar.specs.Many.{◌>>=◌}
-use Rattle.occ_tree_grammar.specs.Processes.Trees.{nodes, Nodes, process, more_nodes}
+use Rattle.occ_tree_grammar.specs.Processes.Trees.{nodes, more_nodes}
 use Rattle.occ_tree_grammar.specs.Processes.Views.{process_of, held_processes}
 use Rattle.occ_tree_grammar.specs.declared.tree.process.Process.{Process}
-use Rattle.occ_tree_grammar.specs.declared.tree.process.Stmt.{Stmt, Row_of-Process, end_of-Process, more_of-Process, items-the_row-Process, items_hidden-the_row-Process-4}
+use Rattle.occ_tree_grammar.specs.declared.tree.process.Stmt.{Row_of-Process, end_of-Process, more_of-Process, items-the_row-Process, items_hidden-the_row-Process-4}
 use Rattle.occ_tree_grammar.specs.declared.tree.process.Stmt.TheVariants as stmts
 use Rattle.occ_tree_grammar.specs.declared.tree.process.Arm.TheBlock.{hidden-the_row-Process-4}
-use Rattle.occ_term.specs.Sizes.{with_node, no_size}
-use Rattle.occ_term.specs.Terms.{Term, Terms, no_terms, then_term, Seq}
+use Rattle.occ_term.specs.Terms.{Term, Terms, no_terms, then_term}
 use Rattle.occ_term.specs.View.{terms}
-use Rattle.occ_check_meaning.specs.Numbers.{Numbers, room}
-use Rattle.occ_check_meaning.specs.Performing.{Calling, Under, sequenced}
+use Rattle.occ_check_meaning.specs.Numbers.{Numbers}
+use Rattle.occ_check_meaning.specs.Performing.{Calling}
 use Rattle.occ_check_meaning.specs.Recursion.{all_in_turn, unfolded}
 use Rattle.occ_check_meaning.specs.Scope.{Scope}
-use Rattle.occ_check.specs.Statements.{performing}
-use Rattle.occ_check.specs.Weights.{node_size, nodes_size, statement_size}
+use Rattle.occ_check.specs.Weights.{node_size, nodes_size}
 use Rattle.occ_check.proofs.Listing.{before}
 
 -- ---- vectors

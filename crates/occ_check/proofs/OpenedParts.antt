@@ -1,6 +1,6 @@
 -- What is opened: what is left of it, put into what stands round it, is what the whole gives.
 use Rattle.std.specs.Prelude.{Result, Ok, Err, IfOk, OnOk, min}
-use Rattle.std.proofs.Common.{◌≡◌, ◌∙◌, ◌<◌, ◌≤◌, ◌+◌, ℕ, List, length, map, Option, Some, None, refl, ap, sym, take, arith}
+use Rattle.std.proofs.Common.{◌≡◌, ◌∙◌, ◌<◌, ◌≤◌, ℕ, List, length, Option, Some, None, refl, ap, sym, take, arith}
 use Rattle.std.proofs.lemmas.List.{length-take, take-take}
 use Rattle.occ_tree_grammar.specs.Lines.Trees as L
 use Rattle.occ_tree_grammar.specs.Many.{◌>>=◌}

@@ -1,10 +1,10 @@
 -- What stands behind declarations, step by step, and what makes it smaller.
-use Rattle.std.proofs.Common.{◌≡◌, ◌<◌, ◌≤◌, ◌+◌, ◌*◌, ℕ, List, [], ◌∷◌, Option, Some, None, refl, ap, sym, subst, ◌∙◌, arith, map, slice_get}
+use Rattle.std.proofs.Common.{◌≡◌, ◌≤◌, ◌+◌, ℕ, List, [], Some, None, ap, sym, ◌∙◌, arith}
 use Rattle.occ_tree_grammar.specs.Many.{◌>>=◌}
 use Rattle.occ_term.specs.Terms.{Term, Declaration}
 use Rattle.occ_check_meaning.specs.Actions.{headed, opening}
 use Rattle.occ_check_meaning.specs.Numbers.{Numbers}
-use Rattle.occ_check_meaning.specs.Performing.{behind, Calling, Declaring, Under, Entered, entered}
+use Rattle.occ_check_meaning.specs.Performing.{behind, Calling, Declaring, Under, entered}
 use Rattle.occ_check_meaning.specs.Scope.{Scope}
 use Rattle.occ_tree_grammar.specs.Processes.Trees.{Decls}
 use Rattle.occ_tree_grammar.specs.Processes.Views.{process_of}
@@ -17,7 +17,6 @@ use Rattle.occ_check_meaning.specs.Meant.{meant}
 use Rattle.occ_check.specs.Opened.{put}
 use Rattle.occ_check.specs.Weights.{decls_size, node_size, statement_size, weight}
 use Rattle.occ_check.proofs.Parts.{behind_declarations, within_process}
-use Rattle.occ_check_meaning.proofs.Steps.{then_some}
 
 module _ (declared : Declaring) (performed : Under Term) (sc : Scope Calling) (depth : ℕ) (n : Numbers) where
   pub not_declared : declared sc (depth + 1) n ≡ None → behind declared performed sc depth n ≡ None

@@ -1,20 +1,19 @@
 -- The parts of a process.
-use Rattle.std.proofs.Common.{◌≡◌, ◌+◌, ◌∙◌, ℕ, List, ap, map, refl, subst, sym, Vec, Global}
-use Rattle.occ_tree_grammar.specs.Processes.Trees.{Decls, more_decls, decls}
-use Rattle.occ_tree_grammar.specs.Processes.Views.{process_of, decl_of, held_decls, arm_of, choice_of, selection_of, variant_of}
+use Rattle.std.proofs.Common.{◌≡◌, ◌+◌, ◌∙◌, ℕ, List, ap, map, refl, Vec, Global}
+use Rattle.occ_tree_grammar.specs.Processes.Trees.{more_decls, decls}
+use Rattle.occ_tree_grammar.specs.Processes.Views.{process_of, decl_of, held_decls}
 use Rattle.occ_tree_grammar.specs.declared.tree.process.Process.{Process}
 use Rattle.occ_tree_grammar.specs.declared.tree.process.Process.TheVariants as processes
 use Rattle.occ_tree_grammar.specs.declared.tree.process.Choice.{Row_of-Decl, end_of-Decl, more_of-Decl, items-the_row-Decl, items_hidden-the_row-Decl-0}
 use Rattle.occ_tree_grammar.specs.declared.tree.process.Arm.TheBlock.{hidden-the_row-Decl-0}
 use Rattle.occ_tree_grammar.specs.declared.tree.process.Decl.{Decl}
-use Rattle.occ_tree_grammar.specs.declared.tree.process.Stmt.{Stmt}
 use Rattle.occ_tree_grammar.specs.declared.tree.process.Stmt.TheVariants as stmts
 use Rattle.occ_check_meaning.specs.Numbers.{Numbers}
 use Rattle.occ_check_meaning.specs.Performing.{behind, Calling}
 use Rattle.occ_check_meaning.specs.Recursion.{all_declared, unfolded}
 use Rattle.occ_check_meaning.specs.Scope.{Scope}
 use Rattle.occ_check.specs.Statements.{declarations_in, line_in, performing, statement_in}
-use Rattle.occ_check.specs.Weights.{decls_size, node_size, body_size, statement_size}
+use Rattle.occ_check.specs.Weights.{decls_size, node_size, statement_size}
 
 -- ---- vectors
 

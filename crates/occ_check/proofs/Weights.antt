@@ -1,11 +1,11 @@
 -- How large trees and scopes are: what is unfolded next is smaller than what it stands in, and a PROC's body with all that it sees
 -- is smaller than a scope that the PROC stands in.
-use Rattle.std.proofs.Common.{◌≡◌, ◌<◌, ◌≤◌, ◌+◌, ℕ, List, [], ◌∷◌, Bool, true, false, cond, bytes_eq, Option, Some, None, refl, ap, subst, arith}
+use Rattle.std.proofs.Common.{◌≡◌, ◌<◌, ◌+◌, ℕ, [], ◌∷◌, Bool, true, false, cond, bytes_eq, Some, refl, ap, arith}
 use Rattle.occ_tree_grammar.specs.Lines.Trees.{Formals}
-use Rattle.occ_tree_grammar.specs.Processes.Trees.{Kind, process, Node, node, Body, no_body, single_body, bodies, Nodes, no_node, more_nodes, Decls, no_decl, more_decls, Decl, declares, item, Item, value_item, protocol_item, proc_item, Under}
+use Rattle.occ_tree_grammar.specs.Processes.Trees.{process, Node}
 use Rattle.occ_check_meaning.specs.Scope.{Name, Pairs, Binding, known, proc, within}
 use Rattle.occ_check_meaning.specs.Unfolding.{Procedure, procedure, Procedures, found}
-use Rattle.occ_check.specs.Weights.{node_size, nodes_size, decls_size, weight}
+use Rattle.occ_check.specs.Weights.{node_size, weight}
 use Rattle.occ_check_meaning.proofs.Steps.{some_is}
 
 pub same_weight : (bs : Pairs) (sc : Procedures) → weight (within bs sc) ≡ weight sc

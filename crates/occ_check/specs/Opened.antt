@@ -1,6 +1,6 @@
 -- What is left of a construct whose first steps are done, and what its parts are put into.
 -- Manual: nothing; this is (own).
-use Rattle.std.specs.Prelude.{List, map, None, Option, Some, [], Result, Ok, Err, ℕ, ℤ, pos, ⊤, ◌+◌, ◌≤◌, ◌≤ℤ◌, ◌+ℤ◌, ◌≡◌}
+use Rattle.std.specs.Prelude.{map, Option, Some, [], Result, Ok, Err, ℕ, ℤ, pos, ⊤, ◌+◌, ◌≤◌, ◌≤ℤ◌, ◌+ℤ◌, ◌≡◌}
 use Rattle.occ_tree_grammar.specs.Lines.Views.{replicator_of as replicator_tree}
 use Rattle.occ_tree_grammar.specs.Many.{◌>>=◌}
 use Rattle.occ_tree_grammar.specs.Processes.Trees.{nodes}

@@ -1,6 +1,6 @@
 -- What a statement of the code unfolds to, behind its declarations.
 -- Manual: combining processes.
-use Rattle.std.specs.Prelude.{List, None, Option, Some, [], map, option_map, ℕ, ◌∷◌}
+use Rattle.std.specs.Prelude.{List, [], map, option_map, ℕ}
 use Rattle.occ_tree_grammar.specs.Expressions.Trees.{expression_of}
 use Rattle.occ_tree_grammar.specs.Lines.Trees as L
 use Rattle.occ_tree_grammar.specs.Lines.Views.{replicator_of, target_of, var_of}

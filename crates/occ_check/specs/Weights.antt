@@ -1,8 +1,8 @@
 -- How large trees and scopes are. What is unfolded next is smaller than what it stands in, and a PROC's body with all that it sees
 -- is smaller than a scope that the PROC stands in.
 -- Manual: nothing; this is (own).
-use Rattle.std.specs.Prelude.{List, [], ℕ, ◌+◌, ◌∷◌}
-use Rattle.occ_tree_grammar.specs.Processes.Trees.{Kind, process, Node, node, Body, no_body, single_body, bodies, Nodes, no_node, more_nodes, Decls, no_decl, more_decls, Decl, declares, item, Item, value_item, protocol_item, proc_item, Under}
+use Rattle.std.specs.Prelude.{[], ℕ, ◌+◌, ◌∷◌}
+use Rattle.occ_tree_grammar.specs.Processes.Trees.{Kind, Node, node, Body, no_body, single_body, bodies, Nodes, no_node, more_nodes, Decls, no_decl, more_decls, Decl, declares, item, Item, value_item, protocol_item, proc_item, Under}
 use Rattle.occ_tree_grammar.specs.Processes.Views.{process_of, arm_of, choice_of, held_processes, held_arms, held_choices, held_selections, held_variants}
 use Rattle.occ_tree_grammar.specs.declared.tree.process.Stmt.{Stmt}
 use Rattle.occ_tree_grammar.specs.declared.tree.process.Stmt.TheVariants as stmts

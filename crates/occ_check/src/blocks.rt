@@ -7,13 +7,17 @@ ghost use Rattle.occ_check_names.specs.View.{binding_of, innermost, scope_in};
 use occ_check_names::fault::CheckFault;
 use occ_check_names::known::Known;
 use occ_check_names::scope::{Binding, Block, Position, Scope};
-use occ_held::Held;
 use std::alloc::Global;
 
 /// The blocks, the innermost last.
-#[derive(Drop)]
 pub(crate) struct Blocks<'t> {
     blocks: Vec<Block<'t>>,
+}
+
+impl<'t> Drop for Blocks<'t> {
+    fn drop(self) {
+        let Blocks { blocks: _ } = self;
+    }
 }
 
 impl<'t> Blocks<'t> {
@@ -79,7 +83,6 @@ impl<'t> Blocks<'t> {
         ensures more { OnOk result (length self.old.blocks.items ≤ length self.new.blocks.items) }
         ensures memory { IfErr result (λ e. e ≡ Memory) }
     {
-        let binding = Held::new(binding);
         let Some(block) = self.blocks.pop() else {
             unreachable!();
         };
@@ -89,11 +92,11 @@ impl<'t> Blocks<'t> {
         };
         if block.has(name) {
             self.blocks.push(block)?;
-            let block = Block::new(alloc, outer).with(alloc, name, binding.into_inner())?;
+            let block = Block::new(alloc, outer).with(alloc, name, binding)?;
             self.blocks.push(block)?;
             return Ok(());
         }
-        let block = block.with(alloc, name, binding.into_inner())?;
+        let block = block.with(alloc, name, binding)?;
         self.blocks.push(block)?;
         Ok(())
     }

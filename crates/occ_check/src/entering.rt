@@ -31,7 +31,6 @@ use occ_check_typing::declaration::{
     Named, Opened, names_declared, protocol_declared, value_declared,
 };
 use occ_check_typing::replicator::{Indexed, index_replicator};
-use occ_held::Held;
 use occ_term::{Declaration, Replicator, Term};
 use occ_tree_grammar::tree::expr::Expr;
 use occ_tree_grammar::tree::line::{OneOrMore, Replicator as ReplicatorTree};
@@ -351,11 +350,10 @@ impl<'t> Unfolder<'t> {
             replicator: over,
             name,
         } = indexed;
-        let over = Held::new(over);
         let mut names = Vec::new(alloc);
         names.push(name)?;
         let inside = self.blocks.open_with(alloc, at, names)?;
-        Ok((over.into_inner(), inside))
+        Ok((over, inside))
     }
 }
 

@@ -129,9 +129,9 @@ fn input_arm(alloc: Global, guarded: Guarded, body: Term) -> Result<Items<TermAr
         channel,
         listed,
     } = guarded;
-    let (test, channel) = (Held::new(test), Held::new(channel));
+    let test = Held::new(test);
     let reception = as_reception(alloc, listed, body)?;
-    let arm = TermArm::InputArm(test.into_inner(), channel.into_inner(), reception);
+    let arm = TermArm::InputArm(test.into_inner(), channel, reception);
     only_arm(alloc, arm)
 }
 
@@ -148,11 +148,11 @@ fn guarding(
 {
     let test = Held::new(test_of(context, test)?);
     let (channel, listed) = received(context, input)?;
-    let (channel, listed) = (Held::new(channel), Held::new(listed));
-    count_guard(numbers, depth, &test.value, &channel.value, &listed.value)?;
+    let listed = Held::new(listed);
+    count_guard(numbers, depth, &test.value, &channel, &listed.value)?;
     Ok(Guarded {
         test: test.into_inner(),
-        channel: channel.into_inner(),
+        channel,
         listed: listed.into_inner(),
     })
 }
@@ -212,11 +212,10 @@ fn guarding_variants(
 {
     let test = Held::new(test_of(context, &guard.condition)?);
     let (protocol, channel) = channel_of(context, &guard.channel)?;
-    let channel = Held::new(channel);
     let protocol = with_tags(context.line, protocol)?;
-    count_guarded_channel(numbers, depth, &test.value, &channel.value)?;
+    count_guarded_channel(numbers, depth, &test.value, &channel)?;
     let protocol = protocol.copy(context.alloc)?;
-    Ok((test.into_inner(), protocol, channel.into_inner()))
+    Ok((test.into_inner(), protocol, channel))
 }
 
 /// Counts a guard with an input of variants.

@@ -193,10 +193,9 @@ pub(crate) fn counted_expression(
     ensures counted { Unfolds expression_of result numbers.new (heading (expression_of e) depth (numbers_of numbers.old)) }
     ensures within { IfOk result (λ _. depth < 200) }
 {
-    let e = Held::new(e);
     numbers.node(depth)?;
-    count_expression(numbers, depth + 1, &e.value)?;
-    Ok(e.into_inner())
+    count_expression(numbers, depth + 1, &e)?;
+    Ok(e)
 }
 
 /// An assignment with its nodes.
@@ -253,9 +252,9 @@ fn receiving(
     ensures { Unfolds term_of result numbers.new (receiving (names_in context.entry.scope) context.entry.line depth (lines.input_of input.now) (numbers_of numbers.old)) }
 {
     let (channel, listed) = received(context, input)?;
-    let (channel, listed) = (Held::new(channel), Held::new(listed));
-    count_received(numbers, depth, &channel.value, &listed.value)?;
-    let term = as_input(context.alloc, channel.into_inner(), listed.into_inner())?;
+    let listed = Held::new(listed);
+    count_received(numbers, depth, &channel, &listed.value)?;
+    let term = as_input(context.alloc, channel, listed.into_inner())?;
     Ok(term)
 }
 

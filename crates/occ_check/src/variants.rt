@@ -31,7 +31,6 @@ use occ_check_names::measuring::{count_place, count_targets};
 use occ_check_names::numbers::Numbers;
 use occ_check_names::scope::{Position, Scope};
 use occ_check_typing::item::{channel_of, parts_after};
-use occ_held::Held;
 use occ_term::{Declaration, Place, Protocol, Target, Term, Variant as TermVariant};
 use occ_tree_grammar::tree::line::{Target as TargetTree, Var};
 use occ_tree_grammar::tree::process::{Decl, Process, Variant};
@@ -266,12 +265,11 @@ fn variants_taken(
     ensures within { IfOk result (λ _. depth < 200) }
 {
     let (protocol, channel) = channel_of(context, channel)?;
-    let channel = Held::new(channel);
     let protocol = with_tags(context.line, protocol)?;
     numbers.node(depth)?;
-    count_place(numbers, depth + 1, &channel.value)?;
+    count_place(numbers, depth + 1, &channel)?;
     let protocol = protocol.copy(context.alloc)?;
-    Ok((protocol, channel.into_inner()))
+    Ok((protocol, channel))
 }
 
 /// The targets behind a tag, with their nodes.

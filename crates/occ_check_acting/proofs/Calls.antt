@@ -14,7 +14,7 @@ use Rattle.occ_tree_grammar.specs.declared.tree.line.Formal.{Formal}
 use Rattle.occ_tree_grammar.specs.declared.tree.line.Spec.{Spec}
 use Rattle.occ_check_meaning.specs.Scope.{Name, Names, are_once, keep, once}
 use Rattle.occ_check_meaning.specs.Declarations as D
-use Rattle.occ_check_meaning.specs.Declarations.{opened, with_others}
+use Rattle.occ_check_meaning.specs.Declarations.{opened}
 use Rattle.occ_check_meaning.specs.Calls as C
 use Rattle.occ_check_meaning.specs.Calls.{other_formals, all_actuals, actual_of, wanted, spec_after}
 use Rattle.occ_check_names.specs.View.{Refuses, numbers_of}

@@ -3,7 +3,7 @@ use Rattle.std.proofs.Common.{◌≡◌, ◌∙◌, sym, ap, refl, ℕ, List, []
 use Rattle.std.specs.Prelude.{remove}
 use mathlib.Core.List.{map-append}
 use Rattle.occ_tree_grammar.specs.Many.{◌>>=◌}
-use Rattle.occ_term.specs.Terms.{Subscripts, Declaration}
+use Rattle.occ_term.specs.Terms.{Subscripts}
 use Rattle.occ_term.specs.View.{expression_of, subscripts, declaration_of, declarations_of}
 use Rattle.occ_term.specs.Terms as T
 use Rattle.occ_term.specs.declared.expression.TermExpr.{TermExpr}

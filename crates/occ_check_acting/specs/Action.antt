@@ -1,6 +1,6 @@
 -- What lines of one process unfold to in the code, as the definitions have it.
 -- Manual: nothing; this is (own).
-use Rattle.std.specs.Prelude.{Bool, List, Option, Result, Ok, Err, [], false, ◌&&◌, reverse, ◌∷◌, ◌≡◌, Some, ℕ}
+use Rattle.std.specs.Prelude.{Bool, List, Option, Result, Ok, Err, [], false, ◌&&◌, reverse, ◌≡◌, Some, ℕ}
 use Rattle.occ_tree_grammar.specs.Many.{◌>>=◌}
 use Rattle.occ_tree_grammar.specs.Expressions.Trees.{Expression}
 use Rattle.occ_tree_grammar.specs.Lines.Trees as L

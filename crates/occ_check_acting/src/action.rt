@@ -22,7 +22,6 @@ use occ_check_names::typed::{Part, Typed};
 use occ_check_typing::expression::{as_single, typed, typed_as};
 use occ_check_typing::item::{channel_of, parts_after, sent, tag_in, variable_of};
 use occ_check_typing::types::are_same_sizes;
-use occ_held::Held;
 use occ_term::{Item, Place, Primitive, Protocol, Reception, Target, Term, TermExpr, Variant};
 use occ_tree_grammar::tree::expr::Expr;
 use occ_tree_grammar::tree::line::{Input, OneOrMore, Out, Var};
@@ -230,20 +229,18 @@ pub fn received(context: Context<'_, '_>, input: &Input) -> Result<(Place, Liste
     match input {
         Input::Items(channel, targets) => {
             let (protocol, channel) = channel_of(context, channel)?;
-            let channel = Held::new(channel);
             let parts = parts_after(context.alloc, context.line, protocol, None)?;
             match stored_list(context, parts.as_slice(), targets) {
-                Ok(targets) => Ok((channel.into_inner(), Listed::Plain(targets))),
+                Ok(targets) => Ok((channel, Listed::Plain(targets))),
                 Err(e) => Err(e),
             }
         }
         Input::Tagged(channel, name, targets) => {
             let (protocol, channel) = channel_of(context, channel)?;
-            let channel = Held::new(channel);
             let tag = tag_in(context.line, protocol, name)?;
             let parts = parts_after(context.alloc, context.line, protocol, Some(tag))?;
             match stored(context, parts.as_slice(), targets) {
-                Ok(targets) => Ok((channel.into_inner(), Listed::Tagged(tag, targets))),
+                Ok(targets) => Ok((channel, Listed::Tagged(tag, targets))),
                 Err(e) => Err(e),
             }
         }

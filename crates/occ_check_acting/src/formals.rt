@@ -20,7 +20,6 @@ use sqlite_items::Items;
 use std::alloc::{AllocError, Global};
 
 /// What a formal wants, with its sizes, where none stands for any size.
-#[derive(Drop)]
 pub enum Wanted {
     /// A value of the type.
     Value(Items<Option<u32>>, Primitive),
@@ -30,13 +29,28 @@ pub enum Wanted {
     Channels(Items<Option<u32>>, Carried),
 }
 
+impl Drop for Wanted {
+    fn drop(self) {
+        match self {
+            Wanted::Value(_, _) => {}
+            Wanted::Variable(_, _) => {}
+            Wanted::Channels(_, _) => {}
+        }
+    }
+}
+
 /// A formal, and what it wants.
-#[derive(Drop)]
 pub struct WantedFormal {
     /// The name.
     pub name: Items<u8>,
     /// What it wants.
     pub wanted: Wanted,
+}
+
+impl Drop for WantedFormal {
+    fn drop(self) {
+        let WantedFormal { name: _, wanted: _ } = self;
+    }
 }
 
 /// What a formal of this spec wants.

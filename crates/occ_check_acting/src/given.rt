@@ -70,9 +70,8 @@ fn cell_given(
 ) -> Result<Given, CheckFault>
     ensures { (size : ℕ) → Evaluates result numbers.new (meant.one_evaluated name.now depth size (expression_of e) None (numbers_of numbers.old)) }
 {
-    let e = Held::new(e);
     let cell = numbers.more_cells(alloc, Primitive::Int, name, &[])?;
-    let value = Item::One(Primitive::Int, e.into_inner());
+    let value = Item::One(Primitive::Int, e);
     let naming = Held::new(Declaration::Naming(line, cell, value));
     count_declaration(numbers, depth, &naming.value)?;
     let given = Given::held(alloc, Evaluated::Cell(line, cell), naming.into_inner())?;

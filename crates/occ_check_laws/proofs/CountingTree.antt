@@ -5,7 +5,7 @@ use Rattle.occ_tree_grammar.specs.Expressions.Trees.{Expression, Expressions}
 use Rattle.occ_tree_grammar.specs.Lines.Trees as L
 use Rattle.occ_tree_grammar.specs.Lines.Heads.{ProcessHead, ArmHead, ChoiceHead}
 use Rattle.occ_tree_grammar.specs.Processes.Trees as P
-use Rattle.occ_tree_grammar.specs.Processes.Trees.{process, choice, option, arm, variant, under, Node, node, Body, Nodes, Decls, Decl, Item}
+use Rattle.occ_tree_grammar.specs.Processes.Trees.{process, choice, option, arm, variant, under, Node, Body, Nodes, Decls, Decl, Item}
 use Rattle.occ_term.specs.declared.primitive.Primitive.{Primitive}
 use Rattle.occ_term.specs.declared.primitive.Primitive.TheVariants.{Int}
 use Rattle.occ_term.specs.declared.protocol.Protocol.{Protocol}

@@ -1,16 +1,12 @@
 -- Whatever a program unfolds to keeps the limits.
-use Rattle.std.proofs.Common.{◌≡◌, ◌≤◌, ℕ, ◌+◌, List, length, Some, refl, subst, arith}
+use Rattle.std.proofs.Common.{◌≡◌, ◌≤◌, ℕ, ◌+◌, List, Some, refl, subst, arith}
 use Rattle.std.specs.Prelude.{nat_le}
 use Rattle.std.proofs.lemmas.Bool.{leb-true}
 use Rattle.occ_tree_grammar.specs.Processes.Trees.{Item}
-use Rattle.occ_term.specs.declared.primitive.Primitive.{Primitive}
-use Rattle.occ_term.specs.declared.protocol.Protocol.{Protocol}
 use Rattle.occ_term.specs.Sizes.{Size, size_of}
 use Rattle.occ_term.specs.Terms.{Term}
-use Rattle.occ_check_meaning.specs.Scope.{Name}
-use Rattle.occ_check_meaning.specs.Numbers.{Numbers, at_start, more_cells, more_channels, more_processes, most_depth, most_nodes, most_processes, room}
+use Rattle.occ_check_meaning.specs.Numbers.{Numbers, at_start, more_processes, most_depth, most_nodes, most_processes, room}
 use Rattle.occ_check_meaning.specs.ProgramUnfolding.{ProgramUnfolding}
-use Rattle.occ_check_laws.specs.Counting.{Counted}
 use Rattle.occ_check_laws.specs.Limits.{KeepsLimits}
 use Rattle.occ_check_laws.proofs.Counting.{both_true, kept}
 use Rattle.occ_check_laws.proofs.CountingTree.{program_counted}

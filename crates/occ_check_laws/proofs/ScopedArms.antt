@@ -9,7 +9,7 @@ use Rattle.occ_term.specs.declared.names.Cell.{Cell}
 use Rattle.occ_term.specs.Terms.{Arms, no_arms, skip_arm, input_arm, declared_arms, each_arm, Declaration, Clearing, Naming, Replicator, replicator}
 use Rattle.occ_term.specs.Values.{Span, span}
 use Rattle.occ_term.specs.Uses as Uses
-use Rattle.occ_term.specs.Uses.{union, only, empty_set, numbers_in, uses_of_declaration}
+use Rattle.occ_term.specs.Uses.{union, only, empty_set, uses_of_declaration}
 use Rattle.occ_term.specs.Storing.{index_of}
 use Rattle.occ_term.specs.TermTyping.{Declared}
 use Rattle.occ_term.specs.TakenArms.{sets_of, Scoped}

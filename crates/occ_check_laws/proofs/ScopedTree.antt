@@ -9,7 +9,7 @@ use Rattle.occ_term.specs.declared.primitive.Primitive.{Primitive}
 use Rattle.occ_term.specs.declared.protocol.Protocol.{Protocol}
 use Rattle.occ_term.specs.Terms.{Term, Terms, Branches, Arms, no_arms, skip_arm, input_arm, declared_arms, each_arm, Choices, no_choices, or_choice, declared_choices, each_choice, Variants, no_variants, or_variant, Options, no_options, or_option, or_else, Declaration, Clearing, Naming, Place}
 use Rattle.occ_term.specs.Sizes as Sizes
-use Rattle.occ_term.specs.Sizes.{Size, no_size, size_of, size_of_expression, size_of_test, size_of_place, size_of_targets, size_of_constants, size_of_replicator}
+use Rattle.occ_term.specs.Sizes.{Size, no_size, size_of_expression, size_of_test, size_of_place, size_of_targets, size_of_constants}
 use Rattle.occ_term.specs.TypedSteps.{IndicesHave}
 use Rattle.occ_term.specs.TermTyping.{Declared}
 use Rattle.occ_check_meaning.specs.Scope.{each_of, names_of, within, proc, Names}
@@ -17,7 +17,7 @@ use Rattle.occ_check_meaning.specs.Numbers.{Numbers, room}
 use Rattle.occ_check_meaning.specs.Expressions.{typed}
 use Rattle.occ_check_meaning.specs.Items.{channel_of}
 use Rattle.occ_check_meaning.specs.Declarations.{index_of}
-use Rattle.occ_check_meaning.specs.Actions.{opening, headed, followed, as_term, Listed, plain_list, tagged_list, as_reception, size_of_list, arms_behind, choices_behind, arms_then, choices_then, variants_then, options_then, with_tags, selector, Chosen}
+use Rattle.occ_check_meaning.specs.Actions.{headed, followed, as_term, Listed, plain_list, tagged_list, as_reception, size_of_list, arms_behind, choices_behind, arms_then, choices_then, variants_then, options_then, Chosen}
 use Rattle.occ_check_laws.specs.Growth.{Grown}
 use Rattle.occ_check_meaning.specs.Performing.{Entered}
 use Rattle.occ_check_meaning.specs.Unfolding.{Procedure, procedure, Procedures, DeclareAll, Unfolding, unfolds, Performs, skips, stops, assigns, inputs, outputs, calls, takes_variants, sequences, replicates_sequence, runs_beside, replicates_branch, alternates, replicates_alternation, conditions, replicates_conditional, selects, loops, InTurn, no_process, one_process, Beside, no_branch, one_branch, Copies, no_copy, one_copy, Arm, behind_arm, Guards, awaits, is_ready, awaits_variants, nests_arms, replicates_arm, EachArm, under_index, AllArms, no_arm, one_arm, Choice, behind_choice, Tests, tests, nests_choices, replicates_choice, EachChoice, under_choice_index, AllChoices, no_choice, one_choice, Variant, takes, AllVariants, no_variant, one_variant, OneOption, is_one_of, is_none_of, AllOptions, no_option, one_option}

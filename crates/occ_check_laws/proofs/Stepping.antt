@@ -4,15 +4,15 @@ use Rattle.std.specs.Prelude.{ℤ, length}
 use Rattle.occ_tree_grammar.specs.Expressions.Trees.{Expression, Expressions}
 use Rattle.occ_tree_grammar.specs.Lines.Trees as L
 use Rattle.occ_tree_grammar.specs.Processes.Trees as P
-use Rattle.occ_tree_grammar.specs.Processes.Trees.{process, choice, option, arm, variant, under, Node, node, Body, Nodes, Decls, Decl, Item}
+use Rattle.occ_tree_grammar.specs.Processes.Trees.{Decls, Decl, Item}
 use Rattle.occ_term.specs.declared.primitive.Primitive.{Primitive}
 use Rattle.occ_term.specs.declared.primitive.Primitive.TheVariants.{Int}
 use Rattle.occ_term.specs.declared.protocol.Protocol.{Protocol}
 use Rattle.occ_term.specs.Messages.{product}
 use Rattle.occ_term.specs.Terms as T
-use Rattle.occ_term.specs.Terms.{Term, Terms, Branches, Arms, Choices, Variants, Options, Array, Cells, Text, Item as TermItem, OfOne, OfMany, Clearing, Naming, replicator, Declaration, Place}
+use Rattle.occ_term.specs.Terms.{Array, Cells, Text, Item as TermItem, OfOne, OfMany, Clearing, Naming, replicator, Declaration}
 use Rattle.occ_term.specs.Sizes as Sizes
-use Rattle.occ_term.specs.Sizes.{Size, no_size, together, size_of, size_of_terms, size_of_branches, size_of_arms, size_of_choices, size_of_variants, size_of_options, size_of_expression, size_of_place, size_of_targets, size_of_constants, size_of_declaration, size_of_declarations, size_of_replicator}
+use Rattle.occ_term.specs.Sizes.{Size, no_size, size_of_declaration, size_of_replicator}
 use Rattle.occ_check_meaning.specs.Scope.{keep, once, Name, Names, names_of, Carried}
 use Rattle.occ_check_meaning.specs.Numbers.{Numbers, more_cells, more_channels, room}
 use Rattle.occ_check_meaning.specs.Constants.{constant}

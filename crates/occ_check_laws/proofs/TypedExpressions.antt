@@ -18,7 +18,7 @@ use Rattle.occ_term.specs.declared.expression.Monadic.{Monadic}
 use Rattle.occ_term.specs.declared.expression.Monadic.TheVariants.{Negate, BitNot, Not}
 use Rattle.occ_term.specs.Messages.{is_of, product, AllOf}
 use Rattle.occ_term.specs.Terms as T
-use Rattle.occ_term.specs.Terms.{Constant, Cell, Component, Letter, Binary, Unary, And, Or, Conversion, Subscripts, no_subscripts, then_subscript, Cells, Text}
+use Rattle.occ_term.specs.Terms.{And, Or, Subscripts, no_subscripts, then_subscript}
 use Rattle.occ_term.specs.Values.{span}
 use Rattle.occ_term.specs.Uses.{numbers_in}
 use Rattle.occ_term.specs.Typing.{is_number, is_arithmetic, is_shift, is_equality, is_order, Takes, takes_arithmetic, takes_shift, takes_after, takes_equality, takes_order, HasType, SubscriptsLeave}

@@ -14,7 +14,7 @@ use Rattle.occ_term.specs.declared.protocol.Protocol.{Protocol}
 use Rattle.occ_term.specs.declared.protocol.Protocol.TheVariants.{Simple, CountedArray, Sequential, Variant}
 use Rattle.occ_term.specs.Messages.{product, parts_after, simple_part}
 use Rattle.occ_term.specs.Terms as T
-use Rattle.occ_term.specs.Terms.{Place, Item, OfOne, OfMany, OfCounted, Target, Into, IntoCounted, Term, Input, Output}
+use Rattle.occ_term.specs.Terms.{Place, Item, OfOne, OfMany, Target, Term, Input, Output}
 use Rattle.occ_term.specs.Values.{span}
 use Rattle.occ_term.specs.Typing.{CellsHave, HasType, PlaceHas, SubscriptsLeave, ArrayHas, ItemHas, TargetHas}
 use Rattle.occ_term.specs.TermTyping.{Declared, ChannelHas, ItemsHave, TargetsHave, value_parts, TermHas}

@@ -12,7 +12,7 @@ use Rattle.occ_term.specs.declared.protocol.Protocol.{Protocol}
 use Rattle.occ_term.specs.declared.protocol.Protocol.TheVariants.{Simple, CountedArray, Sequential, Variant as WithTags}
 use Rattle.occ_term.specs.Messages.{is_of, product, AllOf}
 use Rattle.occ_term.specs.Terms as T
-use Rattle.occ_term.specs.Terms.{Term, Terms, Branches, Arms, no_arms, skip_arm, input_arm, declared_arms, each_arm, Choices, no_choices, or_choice, declared_choices, each_choice, Variants, no_variants, or_variant, Options, no_options, or_option, or_else, Declaration, Clearing, Naming, Place, replicator}
+use Rattle.occ_term.specs.Terms.{Term, Terms, Branches, Arms, no_arms, skip_arm, input_arm, declared_arms, each_arm, Choices, no_choices, or_choice, declared_choices, each_choice, Variants, no_variants, or_variant, Options, no_options, or_option, or_else, Declaration, Clearing, Naming, replicator}
 use Rattle.occ_term.specs.Sizes as Sizes
 use Rattle.occ_term.specs.Sizes.{Size, no_size, size_of_expression, size_of_test, size_of_place, size_of_targets, size_of_constants, size_of_replicator}
 use Rattle.occ_term.specs.Uses.{Uses, uses_of, uses_of_arms, uses_of_choices}

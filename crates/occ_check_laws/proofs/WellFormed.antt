@@ -8,7 +8,7 @@ use Rattle.occ_term.specs.declared.primitive.Primitive.TheVariants.{Byte}
 use Rattle.occ_term.specs.declared.protocol.Protocol.TheVariants.{Simple}
 use Rattle.occ_term.specs.Terms.{Term}
 use Rattle.occ_term.specs.TermTyping.{Declared, DeclarationsHave, TermHas}
-use Rattle.occ_term.specs.UnfoldedProgram.{declared, byte_channel, first_channels, IsWellFormed}
+use Rattle.occ_term.specs.UnfoldedProgram.{declared, IsWellFormed}
 use Rattle.occ_term.specs.UnfoldedProgram as Unfolded
 use Rattle.occ_check_meaning.specs.Scope.{Name}
 use Rattle.occ_check_meaning.specs.Numbers.{Numbers, at_start}

@@ -13,7 +13,7 @@ use Rattle.occ_term.specs.declared.protocol.PartType.TheVariants.{One as OneOf, 
 use Rattle.occ_term.specs.Messages.{product, parts_after}
 use Rattle.occ_term.specs.declared.fault.FaultKind.TheVariants.{Range}
 use Rattle.occ_term.specs.Terms as T
-use Rattle.occ_term.specs.Terms.{Term, Place, place, Array, Cells, Text, Item, OfOne, OfMany, Declaration, Clearing, Naming, Subscripts, no_subscripts, then_subscript, Target, Into, IntoCounted, replicator}
+use Rattle.occ_term.specs.Terms.{Term, Place, Array, Cells, Text, Item, OfOne, OfMany, Declaration, Clearing, Naming, Subscripts, no_subscripts, then_subscript, Target, Into, replicator}
 use Rattle.occ_term.specs.Sizes.{no_size, size_of_declaration, size_of_replicator}
 use Rattle.occ_term.specs.Values.{Span, span, Evaluated as Valued, Value, Fails, checked, value_of}
 use Rattle.occ_term.specs.Uses.{numbers_in, named_by, part_named, on_index, constant_subscript, subscript_value, is_constant, uses_of, uses_of_target, uses_of_targets, uses_of_declaration, uses_of_replicator, cells_of_item}
@@ -28,7 +28,7 @@ use Rattle.occ_check_meaning.specs.Items.{as_variable, as_channels, variable_of,
 use Rattle.occ_check_meaning.specs.Declarations.{Opened, variable_declared, channel_declared, each_declared, names_declared, local_of, value_named, array_named, named, has_type, of_value_type, value_declared, protocol_declared, Indexed, indexed}
 use Rattle.occ_check_meaning.specs.Calls.{Wanted, wants_value, wants_variable, wants_channels, Evaluated, one_evaluated, all_evaluated, as_named, actual_list, actual_of, all_actuals, bound}
 use Rattle.occ_check_meaning.specs.Actions as A
-use Rattle.occ_check_meaning.specs.Actions.{assigned, Listed, plain_list, tagged_list, received, as_input}
+use Rattle.occ_check_meaning.specs.Actions.{assigned, Listed, plain_list, tagged_list, received}
 use Rattle.occ_check_laws.specs.Growth.{Grown}
 use Rattle.occ_check_meaning.proofs.Steps.{bind_some, some_is}
 use Rattle.occ_check_laws.proofs.Counting.{kept}

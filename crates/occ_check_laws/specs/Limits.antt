@@ -1,6 +1,6 @@
 -- The limits of a program, said of what it unfolds to.
 -- Manual: nothing; the limits of sizes are (own).
-use Rattle.std.specs.Prelude.{length, ℕ, ◌≤◌}
+use Rattle.std.specs.Prelude.{length, ◌≤◌}
 use Rattle.occ_term.specs.Sizes.{size_of}
 use Rattle.occ_term.specs.Terms.{Term}
 use Rattle.occ_term.specs.UnfoldedProgram.{most_cells, most_channels}

@@ -16,7 +16,7 @@ use Rattle.occ_check_meaning.specs.Items.{channel_of, stored}
 use Rattle.occ_check_meaning.specs.Declarations.{Opened, names_declared, value_declared, protocol_declared, indexed, copies_of, index_of}
 use Rattle.occ_check_meaning.specs.Calls.{formals_of, bound}
 use Rattle.occ_check_meaning.specs.Actions as A
-use Rattle.occ_check_meaning.specs.Actions.{headed, opening, assigned, received, test_of, selector, Chosen, none_chosen, arms_behind, choices_behind}
+use Rattle.occ_check_meaning.specs.Actions.{assigned, received, test_of, selector, Chosen, none_chosen}
 use Rattle.occ_check_meaning.specs.Performing.{nested, Under, Calling, Entered, entered, behind, acted, sequenced, each_sequenced, beside, copied, copies_beside, alternated, conditioned, selected, looped, taken_by_variant, arms_under, arm_of, variants_arm, each_of_arms, choices_under, choice_of, each_of_choices}
 use Rattle.occ_check_meaning.specs.Recursion.{unfolded, all_in_turn, all_beside, arm_unfolded, all_arms, choice_unfolded, all_choices, variant_unfolded, all_variants, option_unfolded, all_options, all_declared, declared, item_declared}
 use Rattle.occ_check_meaning.specs.Programs.{channels_from, items_declared, program_unfolded}

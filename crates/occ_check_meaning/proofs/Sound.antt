@@ -3,19 +3,19 @@ use Rattle.std.proofs.Common.{◌≡◌, ℕ, zero, suc, ◌+◌, [], ◌∷◌,
 use Rattle.std.specs.Prelude.{ℤ, pos, ◌+ℤ◌}
 use Rattle.occ_tree_grammar.specs.Many.{◌>>=◌}
 use Rattle.occ_tree_grammar.specs.Lines.Trees as L
-use Rattle.occ_tree_grammar.specs.Lines.Trees.{Var, Actuals, Formals}
+use Rattle.occ_tree_grammar.specs.Lines.Trees.{Actuals, Formals}
 use Rattle.occ_tree_grammar.specs.Lines.Heads.{Action, act, skip, stop, assign, input, output, call, ProcessHead, sequence, parallel}
 use Rattle.occ_tree_grammar.specs.Processes.Trees.{process, under, Node, node, Body, no_body, single_body, bodies, Nodes, Decls}
 use Rattle.occ_term.specs.Terms as T
-use Rattle.occ_term.specs.Terms.{Term, Terms, Branches, Arms, Choices, Variants, Options}
+use Rattle.occ_term.specs.Terms.{Term, Terms, Branches}
 use Rattle.occ_term.specs.Sizes as Sizes
-use Rattle.occ_term.specs.Sizes.{no_size, size_of, size_of_expression, size_of_place, size_of_targets, size_of_constants}
+use Rattle.occ_term.specs.Sizes.{no_size, size_of}
 use Rattle.occ_check_meaning.specs.Scope.{Name, Pairs, Binding, known, proc, as_proc, names_of, within}
 use Rattle.occ_check_meaning.specs.Numbers.{Numbers, more_processes, room}
 use Rattle.occ_check_meaning.specs.Declarations.{indexed, copies_of, index_of}
 use Rattle.occ_check_meaning.specs.Calls.{formals_of, bound}
 use Rattle.occ_check_meaning.specs.Actions as A
-use Rattle.occ_check_meaning.specs.Actions.{headed, opening, taken, assigned, received, as_input, size_of_list, test_of, with_tags, selector, Chosen, none_chosen, choosing, choosing_else}
+use Rattle.occ_check_meaning.specs.Actions.{headed, opening, assigned, received, as_input}
 use Rattle.occ_check_meaning.specs.Performing.{Under, Calling, Entered, entered, Declaring, behind, acted, sequenced, each_sequenced, beside, copied, copies_beside}
 use Rattle.occ_check_meaning.specs.Recursion.{unfolded, all_declared}
 use Rattle.occ_check_meaning.specs.Unfolding.{Procedure, procedure, Procedures, found, DeclareAll, Unfolding, unfolds, Performs, skips, stops, assigns, inputs, outputs, calls, sequences, replicates_sequence, runs_beside, replicates_branch, InTurn, Beside, Copies, no_copy, one_copy}

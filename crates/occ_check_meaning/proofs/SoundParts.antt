@@ -3,7 +3,7 @@ use Rattle.std.proofs.Common.{◌≡◌, ℕ, ◌+◌, length, List, [], ◌∷�
 use Rattle.occ_tree_grammar.specs.Many.{◌>>=◌}
 use Rattle.occ_tree_grammar.specs.Expressions.Trees.{Expression}
 use Rattle.occ_tree_grammar.specs.Lines.Trees as L
-use Rattle.occ_tree_grammar.specs.Lines.Trees.{Var, Actuals, Formals}
+use Rattle.occ_tree_grammar.specs.Lines.Trees.{Var}
 use Rattle.occ_tree_grammar.specs.Lines.Heads.{input_variants, alternation, conditional, selection, loop, ChoiceHead, chosen, values, otherwise, Guard, on_input, on_skip, ArmHead, guarded, guarded_variants, tag}
 use Rattle.occ_tree_grammar.specs.Processes.Trees.{process, choice, option, arm, variant, under, Node, node, Body, single_body, bodies, Nodes, Decls}
 use Rattle.occ_term.specs.declared.primitive.Primitive.{Primitive}
@@ -11,9 +11,9 @@ use Rattle.occ_term.specs.declared.primitive.Primitive.TheVariants.{Bool as Bool
 use Rattle.occ_term.specs.declared.protocol.Protocol.{Protocol}
 use Rattle.occ_term.specs.Messages.{parts_after}
 use Rattle.occ_term.specs.Terms as T
-use Rattle.occ_term.specs.Terms.{Term, Terms, Branches, Arms, Choices, Variants, Options}
+use Rattle.occ_term.specs.Terms.{Term, Arms, Choices, Variants, Options}
 use Rattle.occ_term.specs.Sizes as Sizes
-use Rattle.occ_term.specs.Sizes.{no_size, size_of, size_of_test, size_of_expression, size_of_place, size_of_targets, size_of_constants}
+use Rattle.occ_term.specs.Sizes.{no_size, size_of_test, size_of_expression, size_of_place, size_of_targets, size_of_constants}
 use Rattle.occ_check_meaning.specs.Scope.{each_of, Name, names_of, within}
 use Rattle.occ_check_meaning.specs.Numbers.{Numbers, deeper, room}
 use Rattle.occ_check_meaning.specs.Expressions.{typed_as, constant_as}

@@ -12,7 +12,7 @@ use Rattle.occ_term.specs.declared.primitive.Primitive.TheVariants.{Int}
 use Rattle.occ_term.specs.declared.expression.Operator.TheVariants.{Add}
 use Rattle.occ_term.specs.declared.names.Channel.{Channel}
 use Rattle.occ_term.specs.Terms as T
-use Rattle.occ_term.specs.Terms.{Place, place, Subscripts, no_subscripts, then_subscript, OfOne, Into, Term, Terms, no_terms, then_term, Branches, no_branches, and_branch, no_arms, input_arm, each_arm, Plain, replicator}
+use Rattle.occ_term.specs.Terms.{Place, place, Subscripts, no_subscripts, then_subscript, OfOne, Into, Term, Terms, no_terms, then_term, no_branches, and_branch, no_arms, input_arm, each_arm, Plain, replicator}
 use Rattle.occ_check_meaning.specs.Programs.{program_unfolded}
 
 abbrev pub term_of_program : List Item → Option Term

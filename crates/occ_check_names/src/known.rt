@@ -28,7 +28,6 @@ pub enum Evaluated {
 }
 
 /// Cells or channels one after another: an array, or a part of one under subscripts that are evaluated already.
-#[derive(Drop)]
 pub struct Stretch {
     /// The number of the first of the whole array.
     pub first: u32,
@@ -40,8 +39,18 @@ pub struct Stretch {
     pub left: Sizes,
 }
 
+impl Drop for Stretch {
+    fn drop(self) {
+        let Stretch {
+            first: _,
+            sizes: _,
+            subscripts: _,
+            left: _,
+        } = self;
+    }
+}
+
 /// What a channel carries.
-#[derive(Drop)]
 pub struct Carried {
     /// The number of the protocol's declaration, where it has a name.
     pub declared: Option<u64>,
@@ -49,8 +58,16 @@ pub struct Carried {
     pub protocol: Protocol,
 }
 
+impl Drop for Carried {
+    fn drop(self) {
+        let Carried {
+            declared: _,
+            protocol: _,
+        } = self;
+    }
+}
+
 /// What a name stands for that is no procedure's.
-#[derive(Drop)]
 pub enum Known {
     /// A constant of the type.
     Value(Primitive, i64),
@@ -62,6 +79,18 @@ pub enum Known {
     Channels(Carried, Stretch),
     /// A protocol.
     Protocol(Carried),
+}
+
+impl Drop for Known {
+    fn drop(self) {
+        match self {
+            Known::Value(_, _) => {}
+            Known::Text(_) => {}
+            Known::Cells(_, _, _) => {}
+            Known::Channels(_, _) => {}
+            Known::Protocol(_) => {}
+        }
+    }
 }
 
 /// Subscripts that are evaluated already, as expressions.

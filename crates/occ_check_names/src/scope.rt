@@ -11,7 +11,6 @@ ghost use Rattle.occ_check_names.specs.View.{binding_of, pairs_before, AreWithin
 use crate::fault::CheckFault;
 use crate::known::Known;
 use indexmap::IndexMap;
-use occ_held::Held;
 use occ_tree_grammar::tree::line::Formals;
 use occ_tree_grammar::tree::process::Process;
 use std::alloc::Global;
@@ -28,12 +27,20 @@ pub struct Procedure<'t> {
 }
 
 /// What a name stands for.
-#[derive(Drop)]
 pub enum Binding<'t> {
     /// Something else than a procedure.
     Known(Known),
     /// A procedure.
     Procedure(Procedure<'t>),
+}
+
+impl<'t> Drop for Binding<'t> {
+    fn drop(self) {
+        match self {
+            Binding::Known(_) => {}
+            Binding::Procedure(_) => {}
+        }
+    }
 }
 
 /// A place in the blocks: what is in scope there.
@@ -46,12 +53,17 @@ pub struct Position {
 }
 
 /// Names that are declared one after the other, none twice.
-#[derive(Drop)]
 pub struct Block<'t> {
     /// The names, in order.
     pub names: IndexMap<Vec<u8>, Binding<'t>>,
     /// What is in scope outside of it.
     pub outer: Position,
+}
+
+impl<'t> Drop for Block<'t> {
+    fn drop(self) {
+        let Block { names: _, outer: _ } = self;
+    }
 }
 
 /// What is in scope at a position.
@@ -203,10 +215,9 @@ impl<'t> Block<'t> {
         ensures outer { IfOk result (λ f. f.outer ≡ self.entry.outer) }
         ensures memory { IfErr result (λ e. e ≡ Memory) }
     {
-        let binding = Held::new(binding);
         let mut block = self;
         let name = Vec::from_slice(alloc, name)?;
-        let _before = Held::new(block.names.insert(name, binding.into_inner())?);
+        block.names.insert(name, binding)?;
         Ok(block)
     }
 

@@ -207,11 +207,10 @@ pub fn names_declared(
         Sort::Channel(carried) => {
             let sizes = sizes_of(context, sizes)?;
             let sizes = Sizes::new(context.alloc, sizes.as_slice())?;
-            let carried = Held::new(carried_by(context, carried)?);
+            let carried = carried_by(context, carried)?;
             let names = names_of(context.alloc, names)?;
             once(context.alloc, context.line, names.as_slice())?;
-            let carried = &carried.value;
-            channels_declared(numbers, context.alloc, carried, &sizes, names.as_slice())
+            channels_declared(numbers, context.alloc, &carried, &sizes, names.as_slice())
         }
     }
 }
@@ -327,11 +326,10 @@ fn name_single(
 ) -> Result<Opened, CheckFault>
     ensures { Opens result numbers.new (meant.value_named name.now depth primitive (expression_of e) (constant (expression_of e)) (numbers_of numbers.old)) }
 {
-    let e = Held::new(e);
-    match constant_of(&e.value) {
+    match constant_of(&e) {
         Some(value) => Ok(Opened::one(alloc, name, Known::Value(primitive, value))?),
         None => {
-            let value = Item::One(primitive, e.into_inner());
+            let value = Item::One(primitive, e);
             local_of(
                 numbers,
                 alloc,
@@ -358,9 +356,8 @@ fn local_of(
 ) -> Result<Opened, CheckFault>
     ensures { Opens result numbers.new (meant.local_of name.now depth primitive sizes (item_of value) (numbers_of numbers.old)) }
 {
-    let value = Held::new(value);
     let first = numbers.more_cells(alloc, primitive, name, sizes.as_slice())?;
-    let naming = Held::new(Declaration::Naming(line, first, value.into_inner()));
+    let naming = Held::new(Declaration::Naming(line, first, value));
     count_declaration(numbers, depth, &naming.value)?;
     let stretch = stretch_from(alloc, first, &sizes)?;
     let known = Known::Cells(Access::Kept, primitive, stretch);

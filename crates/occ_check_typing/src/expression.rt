@@ -22,7 +22,6 @@ use occ_check_names::operators::{
 };
 use occ_check_names::scope::{Found, Scope};
 use occ_check_names::typed::Typed;
-use occ_held::Held;
 use occ_held::parts::{Listed, Nested};
 use occ_term::operator::is_of;
 use occ_term::{Monadic, Operator, Primitive, TermExpr};
@@ -43,15 +42,8 @@ pub fn typed(context: Context<'_, '_>, e: &Expr) -> Result<Typed, CheckFault>
         Expr::Operand(a) => typed_operand(context, a),
         Expr::Two(a, spelling, b) => {
             let x = as_single(context.line, typed_operand(context, a)?)?;
-            let x = Held::new(x);
             let y = as_single(context.line, typed_operand(context, b)?)?;
-            two_typed(
-                context.alloc,
-                context.line,
-                operator_of(*spelling),
-                x.into_inner(),
-                y,
-            )
+            two_typed(context.alloc, context.line, operator_of(*spelling), x, y)
         }
         Expr::One(sign, a) => typed_one(context, *sign, a),
         Expr::Convert(to, a) => {
@@ -63,9 +55,8 @@ pub fn typed(context: Context<'_, '_>, e: &Expr) -> Result<Typed, CheckFault>
         Expr::MostNeg => Ok(Typed::Single(Primitive::Int, TermExpr::Constant(-2_147_483_648))),
         Expr::Chain(logic, a, b, others) => {
             let x = typed_truth(context, a)?;
-            let x = Held::new(x);
             let y = typed_truth(context, b)?;
-            let left = logic_of(context.alloc, *logic, x.into_inner(), y)?;
+            let left = logic_of(context.alloc, *logic, x, y)?;
             match typed_chain(context, *logic, others, left) {
                 Ok(e) => Ok(Typed::Single(Primitive::Bool, e)),
                 Err(e) => Err(e),
@@ -148,9 +139,8 @@ fn chained(
 ) -> Result<TermExpr, CheckFault>
     ensures { Gives expression_of result (meant.typed_chain (names_in context.entry.scope) context.entry.line logic (expression_of left) (trees.operands (trees.operand_of operand.now ∷ []))) }
 {
-    let left = Held::new(left);
     let right = typed_truth(context, operand)?;
-    let e = logic_of(context.alloc, logic, left.into_inner(), right)?;
+    let e = logic_of(context.alloc, logic, left, right)?;
     Ok(e)
 }
 
@@ -290,8 +280,8 @@ pub fn constant_as(
     ensures value { Gives (λ v. v) result (meant.constant_as (names_in context.entry.scope) context.entry.line primitive (trees.expression_of e.now)) }
     ensures range { IfOk result (λ v. IsTrue (is_of primitive v)) }
 {
-    let e = Held::new(typed_as(context, primitive, e)?);
-    match constant_of(&e.value) {
+    let e = typed_as(context, primitive, e)?;
+    match constant_of(&e) {
         Some(value) => within_type(context.line, primitive, value),
         None => Err(CheckFault::NotConstant { line: context.line }),
     }
@@ -382,10 +372,9 @@ fn two_typed(
 {
     let (own, left) = a;
     let (other, right) = b;
-    let (left, right) = (Held::new(left), Held::new(right));
     let primitive = result_of(line, operator, own, other)?;
-    let left = Nested::new(alloc, left.into_inner())?;
-    let right = Nested::new(alloc, right.into_inner())?;
+    let left = Nested::new(alloc, left)?;
+    let right = Nested::new(alloc, right)?;
     let e = TermExpr::Binary(operator, own, line, left, right);
     Ok(Typed::Single(primitive, e))
 }
@@ -424,9 +413,8 @@ fn converted(
 fn logic_of(alloc: Global, logic: Logic, a: TermExpr, b: TermExpr) -> Result<TermExpr, AllocError>
     ensures { IfOk result (λ e. expression_of e ≡ meant.logic_of logic (expression_of a) (expression_of b)) }
 {
-    let b = Held::new(b);
     let a = Nested::new(alloc, a)?;
-    let b = Nested::new(alloc, b.into_inner())?;
+    let b = Nested::new(alloc, b)?;
     match logic {
         Logic::And => Ok(TermExpr::And(a, b)),
         Logic::Or => Ok(TermExpr::Or(a, b)),

@@ -165,11 +165,10 @@ fn counted_item(line: u32, part: &PartType, number: Typed, value: Typed) -> Resu
     match number.into_inner() {
         Typed::Whole(_, _, _) => Err(CheckFault::Protocol { line }),
         Typed::Single(primitive, number) => {
-            let number = Held::new(number);
             if !is_same_type(primitive, *count) {
                 return Err(CheckFault::Protocol { line });
             }
-            counted_array(line, *of, number.into_inner(), value.into_inner())
+            counted_array(line, *of, number, value.into_inner())
         }
     }
 }
@@ -183,7 +182,6 @@ fn counted_array(
 ) -> Result<Item, CheckFault>
     ensures { Gives terms.item_of result (meant.counted_item line (CountedOf Int of) (single Int (terms.expression_of number)) (typed_of value)) }
 {
-    let number = Held::new(number);
     match value {
         Typed::Single(_, _) => Err(CheckFault::Protocol { line }),
         Typed::Whole(primitive, sizes, array) => {
@@ -194,8 +192,7 @@ fn counted_array(
                     Some(_) => Err(CheckFault::Protocol { line }),
                     None => {
                         if is_same_type(primitive, of) {
-                            let (number, array) = (number.into_inner(), array.into_inner());
-                            Ok(Item::Counted(primitive, line, number, array))
+                            Ok(Item::Counted(primitive, line, number, array.into_inner()))
                         } else {
                             Err(CheckFault::Protocol { line })
                         }

@@ -14,7 +14,6 @@ use occ_check_names::fault::CheckFault;
 use occ_check_names::known::{Known, Stretch, evaluated_subscripts};
 use occ_check_names::literal::whole_string;
 use occ_check_names::typed::{Part, Typed};
-use occ_held::Held;
 use occ_held::parts::{Listed, Nested};
 use occ_term::{Array, Place, Primitive, Sizes, TermExpr, Text};
 use std::alloc::{AllocError, Global};
@@ -151,12 +150,11 @@ fn read_string(
 fn letter(alloc: Global, line: u32, text: &Text, subscript: TermExpr) -> Result<Typed, CheckFault>
     ensures { Gives typed_of result (meant.read line (a_string (map pos text.now)) (then_subscript (expression_of subscript) no_subscripts)) }
 {
-    let subscript = Held::new(subscript);
-    if !is_within_size(&subscript.value, u64::from(text.len())) {
+    if !is_within_size(&subscript, u64::from(text.len())) {
         return Err(CheckFault::Subscript { line });
     }
     let text = text.copy()?;
-    let subscript = Nested::new(alloc, subscript.into_inner())?;
+    let subscript = Nested::new(alloc, subscript)?;
     Ok(Typed::Single(Primitive::Byte, TermExpr::Letter(line, text, subscript)))
 }
 

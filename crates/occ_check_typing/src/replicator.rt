@@ -14,7 +14,6 @@ use occ_check_names::fault::CheckFault;
 use occ_check_names::known::{Access, Known};
 use occ_check_names::measuring::count_replicator;
 use occ_check_names::numbers::Numbers;
-use occ_held::Held;
 use occ_term::{Primitive, Replicator, Sizes};
 use occ_tree_grammar::tree::line::Replicator as ReplicatorTree;
 
@@ -40,21 +39,21 @@ pub fn index_replicator(
 ) -> Result<Indexed, CheckFault>
     ensures { Indexes result numbers.new (meant.indexed (names_in context.entry.scope) context.entry.line depth (lines.replicator_of replicator.now) (numbers_of numbers.old)) }
 {
-    let base = Held::new(typed_as(context, Primitive::Int, &replicator.base)?);
-    let count = Held::new(typed_as(context, Primitive::Int, &replicator.count)?);
+    let base = typed_as(context, Primitive::Int, &replicator.base)?;
+    let count = typed_as(context, Primitive::Int, &replicator.count)?;
     let index = numbers.more_cells(context.alloc, Primitive::Int, &replicator.name, &[])?;
-    let over = Held::new(Replicator {
+    let over = Replicator {
         line: context.line,
         index,
-        base: base.into_inner(),
-        count: count.into_inner(),
-    });
-    count_replicator(numbers, depth, &over.value)?;
+        base,
+        count,
+    };
+    count_replicator(numbers, depth, &over)?;
     let stretch = stretch_from(context.alloc, index, &Sizes::none(context.alloc))?;
     let known = Known::Cells(Access::Kept, Primitive::Int, stretch);
     let name = Named::new(context.alloc, &replicator.name, known)?;
     Ok(Indexed {
-        replicator: over.into_inner(),
+        replicator: over,
         name,
     })
 }

@@ -1,14 +1,12 @@
 -- Files of choices, line by line.
-use Rattle.std.specs.Prelude.{if◌then◌else◌, nat_eq, slice_get, ⊤}
+use Rattle.std.specs.Prelude.{if◌then◌else◌, nat_eq, ⊤}
 use Rattle.std.specs.Fmt.{decimal}
-use Rattle.std.proofs.Common.{◌≡◌, ◌∙◌, ℕ, zero, suc, ◌+◌, ◌-◌, ◌<◌, ◌≤◌, ◌^◌, Bool, true, false, List, [], ◌∷◌, ◌++◌, length, get_or, take, Some, refl, ap, sym, subst, append_assoc, append-nil, length-append, arith}
-use Rattle.std.proofs.Math.Seq.{get_or-append_seam}
-use Rattle.std.proofs.lemmas.Option.{slice_get-get_or}
+use Rattle.std.proofs.Common.{◌≡◌, ◌∙◌, ℕ, suc, ◌+◌, ◌-◌, ◌<◌, ◌^◌, Bool, true, false, List, [], ◌∷◌, ◌++◌, length, get_or, take, refl, ap, sym, subst, append_assoc, append-nil, length-append, arith}
 use Rattle.std.proofs.lemmas.List.{take_more}
 use Rattle.std.proofs.lemmas.Bool.Decides.{nat_tests}
 use Rattle.std.proofs.lemmas.Fmt.{decimal_is_IsNumeral, length-decimal-le}
 use Rattle.occ_net_replay.specs.declared.choice.Choice.{Choice}
-use Rattle.occ_choices.specs.Lines.{before_all, lines_of, AreLines, ChoiceLines, IsLine, IsBad, IsEnd, line_feed, Spells, line_text, choice_text, AreWords, WrittenIsRead, OneReading}
+use Rattle.occ_choices.specs.Lines.{before_all, lines_of, AreLines, ChoiceLines, IsLine, IsBad, line_feed, Spells, line_text, choice_text, WrittenIsRead, OneReading}
 use Rattle.occ_choices.specs.Reading.{AreDigits, ReadTo}
 use Rattle.occ_choices.proofs.Digits.{are_digits, digit_least, one_choice}
 

@@ -1,6 +1,6 @@
 -- Files of choices: a line for each choice.
 -- Manual: nothing; the format is (own).
-use Rattle.std.specs.Prelude.{List, Some, [], if◌then◌else◌, length, nat_eq, ℕ, ⊤, ◌+◌, ◌++◌, ◌<◌, ◌≤◌, ◌^◌, ◌∷◌, ◌≡◌}
+use Rattle.std.specs.Prelude.{List, [], if◌then◌else◌, length, nat_eq, ℕ, ⊤, ◌+◌, ◌++◌, ◌<◌, ◌≤◌, ◌^◌, ◌∷◌, ◌≡◌}
 use Rattle.std.specs.Fmt.{decimal}
 use Rattle.std.specs.Str.Parse.{IsNumeral, digits_value}
 use Rattle.occ_net_replay.specs.declared.choice.Choice.{Choice}

@@ -1,6 +1,6 @@
 -- How the lines of a file of choices are read. No contract of a public call cites this.
 -- Manual: nothing; the format is (own).
-use Rattle.std.specs.Prelude.{Bool, IsTrue, List, None, Option, Some, [], drop, false, if◌then◌else◌, length, nat_eq, nat_le, nat_lt, slice_get, suc, take, true, zero, ℕ, ⊤, ◌&&◌, ◌++◌, ◌+◌, ◌<◌, ◌^◌, ◌∷◌, ◌≡◌}
+use Rattle.std.specs.Prelude.{Bool, IsTrue, List, None, Option, Some, [], false, if◌then◌else◌, length, nat_eq, nat_le, nat_lt, suc, true, ℕ, ⊤, ◌&&◌, ◌++◌, ◌+◌, ◌^◌, ◌∷◌, ◌≡◌}
 use Rattle.std.specs.Str.Parse.{digits_value}
 use Rattle.occ_net_replay.specs.declared.choice.Choice.{Choice}
 use Rattle.occ_choices.specs.Lines.{AreLines, lines_of}

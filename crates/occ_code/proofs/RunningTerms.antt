@@ -15,7 +15,7 @@ use Rattle.occ_term.specs.Terms.{Expression, Place, Item, Declaration, Clearing,
 use Rattle.occ_term.specs.Values.{Store, store_with, Value, Fails, after, holds, Span, first_of, value_of, span_of, parts_of}
 use Rattle.occ_term.specs.Storing.{Outcome, Gives, then_in, in_store, Nothing, nothing, store_into, declared, all_declared, Indices, indices, indices_of, index_of}
 use Rattle.occ_term.specs.Selecting.{Enabled, enabled, or_next, first_over, choice_over, choice_of, Selected, selected, is_among, matching, else_of, either, enters, variant_taken}
-use Rattle.occ_term.specs.Steps.{Loop, WhileLoop, EachLoop, each, each_loop, in_each, Doing, Do, Passing, Again, Offering, Awaiting, Taken, SkipTaken, Choosing, choosing, alt, in_alt, taken_by, after_taken, Taking, MessageTaken, Forking, Context, Then, Within, left, or_stop, pass, pass_of, offer_of, await_of, Step, ends, stop, assign, clear, local, output, input, variant, take_in, seq_empty, seq, drops, par_empty, par, if_step, case, while, passes_again, leaves, body_ends, again, FaultsIn, in_assign, in_local, in_output, in_input, in_variant, in_take, in_if, in_case, in_loop}
+use Rattle.occ_term.specs.Steps.{Loop, WhileLoop, EachLoop, each, each_loop, in_each, Doing, Do, Passing, Again, Offering, Awaiting, Choosing, alt, in_alt, Forking, Context, Then, Within, left, or_stop, pass, pass_of, await_of, Step, stop, assign, clear, local, output, input, variant, seq_empty, seq, drops, par_empty, par, if_step, case, while, passes_again, leaves, body_ends, FaultsIn, in_assign, in_local, in_output, in_input, in_variant, in_if, in_case, in_loop}
 use Rattle.occ_term.specs.Steps as S
 use Rattle.occ_term.specs.Turns.{none, more, single_turn}
 use Rattle.occ_term.specs.Uses.{Numbers, with_use, reads_of, reads_of_items, reads_in_place, uses_of, uses_of_terms, uses_of_variants, uses_of_choices, uses_of_options, uses_of_targets, uses_of_declaration, uses_of_declarations, uses_of_replicator}

@@ -11,7 +11,7 @@ use Rattle.occ_term.specs.Messages.{Fits}
 use Rattle.occ_term.specs.Terms.{Term, Skip, Branches, Reception}
 use Rattle.occ_term.specs.Selecting.{Setting, Enabled, SkipArm, InputArm}
 use Rattle.occ_term.specs.Values.{Store, is_of_declared}
-use Rattle.occ_term.specs.Steps.{is_looping, status, Loop, WhileLoop, EachLoop, Doing, Do, Again, Offering, Awaiting, Choosing, Taken, SkipTaken, Taking, MessageTaken, Forking, Context, Then, Within, Left, left, Step, ends, drops, body_ends, again}
+use Rattle.occ_term.specs.Steps.{is_looping, status, Loop, Doing, Do, Again, Offering, Awaiting, Choosing, Taken, SkipTaken, Taking, MessageTaken, Forking, Context, Then, Within, Left, left, Step, ends, drops, body_ends, again}
 use Rattle.occ_term.specs.Steps as S
 use Rattle.occ_term.specs.Turns.{Steps, none, more, SingleTurn, single_turn, Turn, stops, passes}
 use Rattle.occ_term.specs.Uses.{uses_of, uses_of_branches, uses_of_terms}

@@ -57,7 +57,6 @@ pub enum Wait {
 }
 
 /// A process at one of its stops.
-#[derive(Drop)]
 pub struct Task {
     /// The number of its process.
     pub number: u32,
@@ -69,6 +68,18 @@ pub struct Task {
     pub frame: Frame,
     /// What it stands at.
     pub wait: Wait,
+}
+
+impl Drop for Task {
+    fn drop(self) {
+        let Task {
+            number: _,
+            turns: _,
+            place: _,
+            frame: _,
+            wait: _,
+        } = self;
+    }
 }
 
 impl Arm {

@@ -20,7 +20,6 @@ use std::marker::Model;
 ///
 /// Contracts see what it was made of: its code and keyboard, the choices of its turns, and which
 /// processes are out. The replay of these is the state that it is in.
-#[derive(Drop)]
 pub struct Network {
     pub(crate) code: Code,
     pub(crate) keyboard: Vec<u8>,
@@ -29,6 +28,18 @@ pub struct Network {
     pub(crate) choices: Vec<Choice>,
     /// By process number.
     pub(crate) out: Vec<bool>,
+}
+
+impl Drop for Network {
+    fn drop(self) {
+        let Network {
+            code: _,
+            keyboard: _,
+            tables: _,
+            choices: _,
+            out: _,
+        } = self;
+    }
 }
 
 impl Model for Network {
@@ -146,7 +157,13 @@ impl Network {
     pub fn into_trace(self) -> Trace
         ensures { (net : Net) → IsState self net → net.trace ≡ map communication_of result }
     {
-        let Network { tables, .. } = self;
+        let Network {
+            code: _,
+            keyboard: _,
+            tables,
+            choices: _,
+            out: _,
+        } = self;
         tables.into_trace()
     }
 

@@ -14,7 +14,6 @@ use occ_term::{Errors, Fault, Frame};
 use std::alloc::{AllocError, Global};
 
 /// The processes of a program with their channels, the keyboard, the screen and the error channel.
-#[derive(Drop)]
 pub struct Tables {
     /// By process number; none has not begun.
     pub(crate) tasks: Vec<Option<Task>>,
@@ -34,6 +33,22 @@ pub struct Tables {
     pub(crate) used: usize,
     /// The communications that there were.
     pub(crate) trace: Trace,
+}
+
+impl Drop for Tables {
+    fn drop(self) {
+        let Tables {
+            tasks: _,
+            ready: _,
+            offering: _,
+            awaiting: _,
+            parents: _,
+            unfinished: _,
+            fault: _,
+            used: _,
+            trace: _,
+        } = self;
+    }
 }
 
 /// So many processes that have not begun.
@@ -154,6 +169,17 @@ impl Tables {
     pub fn into_trace(self) -> Trace
         ensures { (p : Program) (keyboard : List ℕ) (net : Net) → Holds p keyboard self net → net.trace ≡ map communication_of result }
     {
-        self.trace
+        let Tables {
+            tasks: _,
+            ready: _,
+            offering: _,
+            awaiting: _,
+            parents: _,
+            unfinished: _,
+            fault: _,
+            used: _,
+            trace,
+        } = self;
+        trace
     }
 }

@@ -12,9 +12,14 @@ use std::alloc::{AllocError, Global};
 use std::marker::Model;
 
 /// The communications of a run, in order. Contracts see their list.
-#[derive(Drop)]
 pub struct Trace {
     lists: Lists,
+}
+
+impl Drop for Trace {
+    fn drop(self) {
+        let Trace { lists: _ } = self;
+    }
 }
 
 impl Model for Trace {

@@ -13,11 +13,20 @@ use std::sync::Arc;
 
 /// A turn that was taken: the task after it is what the body gives from the task before it at its
 /// next stop.
-#[derive(Drop)]
 pub struct Segment {
     body: Arc<Body, Global>,
     before: Task,
     after: Task,
+}
+
+impl Drop for Segment {
+    fn drop(self) {
+        let Segment {
+            body: _,
+            before: _,
+            after: _,
+        } = self;
+    }
 }
 
 impl Model for Segment {

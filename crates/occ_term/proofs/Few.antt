@@ -1,5 +1,5 @@
 -- Arrays with few components.
-use Rattle.std.proofs.Common.{◌≡◌, ℕ, zero, suc, ◌+◌, ◌*◌, ◌<◌, ◌≤◌, ◌^◌, List, [], ◌∷◌, drop, arith}
+use Rattle.std.proofs.Common.{ℕ, zero, suc, ◌<◌, ◌^◌, List, [], ◌∷◌, drop, arith}
 use Rattle.occ_term.specs.Messages.{product}
 use Rattle.occ_term.specs.ArraySizes.{AreFew}
 

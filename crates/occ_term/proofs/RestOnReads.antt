@@ -1,6 +1,6 @@
 -- What is evaluated rests on the cells that are read.
-use Rattle.std.proofs.Common.{◌≡◌, refl, sym, ap, ◌∙◌, Bool, true, false, IsTrue, ℕ, zero, suc, ◌+◌, ◌*◌, ◌<◌, ◌≤◌, List, [], ◌∷◌, Option, pos, length, arith}
-use Rattle.std.specs.Prelude.{◌||◌, if◌then◌else◌, get_or, nat_eq}
+use Rattle.std.proofs.Common.{◌≡◌, refl, sym, ap, ◌∙◌, Bool, true, false, IsTrue, ℕ, zero, suc, ◌+◌, ◌*◌, List, [], ◌∷◌, Option, pos, length, arith}
+use Rattle.std.specs.Prelude.{◌||◌, if◌then◌else◌, get_or}
 use Rattle.std.proofs.lemmas.Bool.Decides.{nat_tests}
 use Rattle.occ_term.specs.Messages.{Primitive, Boolean, Int, PartType, OneOf, ManyOf, CountedOf, One, Many, product}
 use Rattle.occ_term.specs.Terms.{Expression, Constant, Cell, Component, Letter, Binary, Unary, Negate, BitNot, Not, And, Or, Conversion, Place, place, Subscripts, no_subscripts, then_subscript, Array, Cells, Text, Item, OfOne, OfMany, OfCounted}

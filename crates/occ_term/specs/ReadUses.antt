@@ -1,6 +1,6 @@
 -- What is evaluated rests on the cells that are read, and on no other.
 -- Manual: expressions; the usage rules check list.
-use Rattle.std.specs.Prelude.{List, Option, ℕ, ◌≡◌}
+use Rattle.std.specs.Prelude.{Option, ℕ, ◌≡◌}
 use Rattle.occ_term.specs.Messages.{Primitive, PartType}
 use Rattle.occ_term.specs.Terms.{Expression, Item}
 use Rattle.occ_term.specs.Values.{Store, value_of, part_of, AgreeOn}

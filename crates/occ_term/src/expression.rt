@@ -140,7 +140,6 @@ pub enum Array {
 }
 
 /// What is output, assigned or named.
-#[derive(Drop)]
 pub enum Item {
     /// A value of the type.
     One(Primitive, TermExpr),
@@ -150,13 +149,31 @@ pub enum Item {
     Counted(Primitive, u32, TermExpr, Array),
 }
 
+impl Drop for Item {
+    fn drop(self) {
+        match self {
+            Item::One(_, _) => {}
+            Item::Many(_, _) => {}
+            Item::Counted(_, _, _, _) => {}
+        }
+    }
+}
+
 /// Where an item is stored.
-#[derive(Drop)]
 pub enum Target {
     /// A variable, a component or an array.
     Into(Place),
     /// The line, the variable that takes the count, and the array that takes the components.
     IntoCounted(u32, Place, Place),
+}
+
+impl Drop for Target {
+    fn drop(self) {
+        match self {
+            Target::Into(_) => {}
+            Target::IntoCounted(_, _, _) => {}
+        }
+    }
 }
 
 /// A declaration before a process, an arm, a variant or an option.
@@ -169,7 +186,6 @@ pub enum Declaration {
 }
 
 /// `index = base FOR count`.
-#[derive(Drop)]
 pub struct Replicator {
     /// The line.
     pub line: u32,
@@ -179,4 +195,15 @@ pub struct Replicator {
     pub base: TermExpr,
     /// How many values the index takes.
     pub count: TermExpr,
+}
+
+impl Drop for Replicator {
+    fn drop(self) {
+        let Replicator {
+            line: _,
+            index: _,
+            base: _,
+            count: _,
+        } = self;
+    }
 }

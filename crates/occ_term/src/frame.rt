@@ -9,11 +9,20 @@ use std::marker::Model;
 
 /// The variables of a process and of its branches: the cells that it uses, in rising order, with
 /// their values, and the counters of its replicated SEQs.
-#[derive(Drop)]
 pub struct Frame {
     cells: FrameCells,
     values: Vec<i64>,
     left: Vec<u64>,
+}
+
+impl Drop for Frame {
+    fn drop(self) {
+        let Frame {
+            cells: _,
+            values: _,
+            left: _,
+        } = self;
+    }
 }
 
 impl Model for Frame {

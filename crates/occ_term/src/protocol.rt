@@ -18,7 +18,7 @@ pub enum PartType {
 }
 
 /// A tag of a variant protocol, with what follows it.
-#[derive(Debug, Drop)]
+#[derive(Debug)]
 pub struct Tag {
     /// The tag's name.
     pub name: Items<u8>,
@@ -26,8 +26,14 @@ pub struct Tag {
     pub parts: Items<PartType>,
 }
 
+impl Drop for Tag {
+    fn drop(self) {
+        let Tag { name: _, parts: _ } = self;
+    }
+}
+
 /// The protocol of a channel.
-#[derive(Debug, Drop)]
+#[derive(Debug)]
 pub enum Protocol {
     /// A value of this type, or where there are sizes an array.
     Simple(Items<u32>, Primitive),
@@ -37,6 +43,17 @@ pub enum Protocol {
     Sequential(Items<PartType>),
     /// One of these tags, numbered from 0 in their order, and then its parts.
     Variant(Items<Tag>),
+}
+
+impl Drop for Protocol {
+    fn drop(self) {
+        match self {
+            Protocol::Simple(_, _) => {}
+            Protocol::CountedArray(_, _) => {}
+            Protocol::Sequential(_) => {}
+            Protocol::Variant(_) => {}
+        }
+    }
 }
 
 impl PartType {

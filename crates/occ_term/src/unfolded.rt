@@ -11,11 +11,20 @@ use std::marker::Model;
 /// Each expression, target and item has the type of its place, channels 0, 1 and 2 are the keyboard,
 /// the screen and the error channel, and processes are numbered in the order in which they begin:
 /// no other value of this type can be made.
-#[derive(Drop)]
 pub struct Unfolded {
     term: Term,
     cells: Vec<Cell>,
     channels: Vec<Channel>,
+}
+
+impl Drop for Unfolded {
+    fn drop(self) {
+        let Unfolded {
+            term: _,
+            cells: _,
+            channels: _,
+        } = self;
+    }
 }
 
 impl Model for Unfolded {

@@ -63,11 +63,20 @@ impl<T: Drop> From<AllocFailed<T>> for CodeFault {
 ///
 /// Each body does what its process's term does, in some program that keeps the usage rules and has
 /// these channels: no other value of this type can be made.
-#[derive(Drop)]
 pub struct Code {
     bodies: Vec<Arc<Body, Global>>,
     channels: Vec<Channel>,
     errors: Errors,
+}
+
+impl Drop for Code {
+    fn drop(self) {
+        let Code {
+            bodies: _,
+            channels: _,
+            errors: _,
+        } = self;
+    }
 }
 
 impl Model for Code {
@@ -123,9 +132,14 @@ impl Code {
     pub fn with_errors(self, errors: Errors) -> Code
         ensures { result ≡ record self { errors = errors } }
     {
+        let Code {
+            bodies,
+            channels,
+            errors: _,
+        } = self;
         Code {
-            bodies: self.bodies,
-            channels: self.channels,
+            bodies,
+            channels,
             errors,
         }
     }

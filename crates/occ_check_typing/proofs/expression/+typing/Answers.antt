@@ -1,6 +1,5 @@
-use Rattle.std.proofs.Common.{◌≡◌, subst}
-use Rattle.occ_term.specs.View.{expression_of}
-use Rattle.occ_check_meaning.specs.Expressions.{logic_of, size_of_operand, typed_operand}
+use Rattle.std.proofs.Common.{subst}
+use Rattle.occ_check_meaning.specs.Expressions.{size_of_operand, typed_operand}
 use Rattle.occ_check_names.specs.View.{Gives, names_in, typed_of}
 use Rattle.occ_check_typing.proofs.Expressions.{chain_gives, chain_nothing, variable_given, chained_first, chained_next, chained_nothing, chained_last, subscripted_first, subscripted_next, subscripted_nothing, subscripted_last}
 use Rattle.occ_check_typing.proofs.expression.+typing.Goals as goal
@@ -41,12 +40,8 @@ typed_operand-returns-in-Variable t c =
 
 pub typed-returns-in-Ok : goal.typed-returns-in-Ok
 typed-returns-in-Ok t c =
-    let held : c.into_inner-in-Chain.result ≡ c.in_ok-x-in-Chain.x = cc in
-    let left = subst (λ x. expression_of c.in_ok-left-in-Chain.left ≡ logic_of c.in-Chain.logic (expression_of x) (expression_of c.in_ok-y-in-Chain.y)) held c.in_ok-left-in-Chain.ensures in
-    chain_gives _ _ _ _ _ _ _ _ _ _ _ c.in-Chain.is c.deref.ensures.value c.in_ok-x-in-Chain.ensures c.in_ok-y-in-Chain.ensures left _ c.in-Ok.ensures
+    chain_gives _ _ _ _ _ _ _ _ _ _ _ c.in-Chain.is c.deref.ensures.value c.in_ok-x-in-Chain.ensures c.in_ok-y-in-Chain.ensures c.in_ok-left-in-Chain.ensures _ c.in-Ok.ensures
 
 pub typed-returns-in-Err : goal.typed-returns-in-Err
 typed-returns-in-Err t c =
-    let held : c.into_inner-in-Chain.result ≡ c.in_ok-x-in-Chain.x = cc in
-    let left = subst (λ x. expression_of c.in_ok-left-in-Chain.left ≡ logic_of c.in-Chain.logic (expression_of x) (expression_of c.in_ok-y-in-Chain.y)) held c.in_ok-left-in-Chain.ensures in
-    chain_nothing _ _ _ _ _ _ _ _ _ _ _ c.in-Chain.is c.deref.ensures.value c.in_ok-x-in-Chain.ensures c.in_ok-y-in-Chain.ensures left _ c.in-Err.ensures
+    chain_nothing _ _ _ _ _ _ _ _ _ _ _ c.in-Chain.is c.deref.ensures.value c.in_ok-x-in-Chain.ensures c.in_ok-y-in-Chain.ensures c.in_ok-left-in-Chain.ensures _ c.in-Err.ensures

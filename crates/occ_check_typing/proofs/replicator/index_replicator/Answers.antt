@@ -2,11 +2,11 @@ use Rattle.std.proofs.Common.{arith}
 use Rattle.std.proofs.lemmas.Grind.{common_steps}
 use Rattle.occ_check_typing.proofs.replicator.index_replicator.Goals as goal
 
-pub returns-in_err-typed_as : goal.returns-in_err-typed_as
-returns-in_err-typed_as c = grind (arith, common_steps)
+pub returns-in_err-base : goal.returns-in_err-base
+returns-in_err-base c = grind (arith, common_steps)
 
-pub returns-in_err-typed_as-2 : goal.returns-in_err-typed_as-2
-returns-in_err-typed_as-2 c = grind (arith, common_steps)
+pub returns-in_err-count : goal.returns-in_err-count
+returns-in_err-count c = grind (arith, common_steps)
 
 pub returns-in_err-index : goal.returns-in_err-index
 returns-in_err-index c = grind (arith, common_steps)

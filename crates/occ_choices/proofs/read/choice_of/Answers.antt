@@ -1,4 +1,4 @@
-use Rattle.std.proofs.Common.{◌≡◌, ◌∙◌, ◌∷◌, [], Some, ap, sym, subst, take, drop, length, arith}
+use Rattle.std.proofs.Common.{◌≡◌, ◌∙◌, ◌∷◌, [], ap, sym, subst, drop, length}
 use Rattle.occ_net_replay.specs.declared.choice.Choice.{Choice}
 use Rattle.occ_choices.specs.Lines.{IsEnd, IsLine}
 use Rattle.occ_choices.specs.Reading.{ends_line, leading}

@@ -1,8 +1,8 @@
-use Rattle.std.proofs.Common.{◌≡◌, ◌∙◌, ◌+◌, ◌*◌, ◌-◌, ◌<◌, ◌≤◌, ◌^◌, Some, None, get_or, length, drop, refl, ap, sym, arith}
+use Rattle.std.proofs.Common.{◌≡◌, ◌∙◌, ◌+◌, ◌*◌, ◌-◌, ◌≤◌, ◌^◌, get_or, length, drop, refl, ap, sym, arith}
 use Rattle.std.specs.Str.Parse.{digits_value, digits_value_after}
 use Rattle.std.proofs.lemmas.List.{drop_all}
 use Rattle.std.proofs.lemmas.Bool.Decides.{nat_tests}
-use Rattle.occ_choices.proofs.Digits.{digit_at, digit_least, digit_most, spelled_as, spelled_large, spelled_none, value_grows, value_on}
+use Rattle.occ_choices.proofs.Digits.{digit_at, digit_least, digit_most, spelled_as, spelled_large, value_grows, value_on}
 use Rattle.occ_choices.proofs.read.number.Goals as goal
 
 pub loop-digit-init : goal.loop-digit-init

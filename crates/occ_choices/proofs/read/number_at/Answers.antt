@@ -1,5 +1,5 @@
-use Rattle.std.proofs.Common.{◌≡◌, ◌≤◌, ◌∙◌, ap, sym, subst, take, length, arith}
-use Rattle.occ_choices.specs.Reading.{AreDigits, leading}
+use Rattle.std.proofs.Common.{◌∙◌, ap, sym, subst, take, arith}
+use Rattle.occ_choices.specs.Reading.{AreDigits}
 use Rattle.occ_choices.proofs.Digits.{digits_lead, leading_short}
 use Rattle.occ_choices.proofs.read.number_at.Goals as goal
 

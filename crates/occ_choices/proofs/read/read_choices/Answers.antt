@@ -1,7 +1,7 @@
-use Rattle.std.proofs.Common.{◌≡◌, ◌∙◌, ◌<◌, ◌≤◌, ◌+◌, ap, sym, subst, length, arith}
+use Rattle.std.proofs.Common.{◌<◌, ◌+◌, sym, subst, length, arith}
 use Rattle.std.proofs.lemmas.Bool.Decides.{nat_tests}
 use Rattle.occ_choices.specs.Reading.{ReadTo}
-use Rattle.occ_choices.proofs.Files.{bad_there, read_many, read_on, read_whole, starts, too_many}
+use Rattle.occ_choices.proofs.Files.{bad_there, read_many, read_on, starts, too_many}
 use Rattle.occ_choices.proofs.read.read_choices.Goals as goal
 
 pub loop-number-init : goal.loop-number-init

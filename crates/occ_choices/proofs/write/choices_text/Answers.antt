@@ -1,5 +1,4 @@
-use Rattle.std.proofs.Common.{◌≡◌, ◌∙◌, ◌++◌, ◌+◌, ap, sym, take, get_or}
-use Rattle.occ_choices.specs.Lines.{choice_text, line_text}
+use Rattle.std.proofs.Common.{◌∙◌}
 use Rattle.occ_choices.proofs.Files.{one_more}
 use Rattle.occ_choices.proofs.write.choices_text.Goals as goal
 

@@ -1,4 +1,4 @@
-use Rattle.std.proofs.Common.{◌≡◌, ◌++◌, take}
+use Rattle.std.proofs.Common.{◌≡◌, take}
 use Rattle.occ_choices.specs.Lines.{choice_text}
 use Rattle.occ_choices.proofs.write.choices_text.Given as goal
 

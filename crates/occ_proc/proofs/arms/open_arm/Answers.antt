@@ -1,4 +1,4 @@
-use Rattle.std.proofs.Common.{◌≡◌, ◌∙◌, ap, subst, sym}
+use Rattle.std.proofs.Common.{◌∙◌, ap, subst, sym}
 use Rattle.occ_term.specs.declared.message.Part.TheVariants.{Many, Counted}
 use Rattle.occ_code.specs.Machine.{open_arm}
 use Rattle.occ_proc.specs.Doing.{IsArm}

@@ -1,5 +1,4 @@
-use Rattle.std.proofs.Common.{◌≡◌, ◌≤◌, ◌<◌, ◌^◌, ◌+◌, ◌∙◌, ℕ, get_or, sym, drop, arith, rules}
-use Rattle.occ_term.specs.Frames.{span_with}
+use Rattle.std.proofs.Common.{◌≤◌, ◌^◌, ◌+◌, ◌∙◌, sym, drop, arith}
 use Rattle.occ_term.proofs.FrameWrites.{span_beyond}
 use Rattle.occ_term.proofs.frame.set_values.Goals as goal
 

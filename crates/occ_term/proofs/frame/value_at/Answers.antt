@@ -1,4 +1,4 @@
-use Rattle.std.proofs.Common.{sym, ap, ◌∙◌, Some, None, rules, w64}
+use Rattle.std.proofs.Common.{sym, ◌∙◌, Some, None, rules, w64}
 use Rattle.std.proofs.lemmas.Int.{to_z-of_z}
 use Rattle.occ_term.proofs.FrameWrites.{value_there}
 use Rattle.occ_term.proofs.frame.value_at.Goals as goal

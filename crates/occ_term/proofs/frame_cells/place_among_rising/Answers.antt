@@ -1,4 +1,4 @@
-use Rattle.std.proofs.Common.{◌≡◌, ◌-◌, ◌<◌, ℕ, sym, slice_index, length, arith, rules}
+use Rattle.std.proofs.Common.{◌≡◌, ◌-◌, sym, slice_index, arith, rules}
 use Rattle.occ_term.proofs.FrameWrites.{place_first}
 use Rattle.occ_term.proofs.frame_cells.place_among_rising.Goals as goal
 

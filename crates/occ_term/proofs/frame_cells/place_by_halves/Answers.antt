@@ -1,4 +1,4 @@
-use Rattle.std.proofs.Common.{◌≡◌, ◌+◌, ◌-◌, ◌/◌, ◌<◌, ℕ, sym, slice_index, length, arith, rules}
+use Rattle.std.proofs.Common.{◌≡◌, ◌+◌, ◌-◌, ◌/◌, ◌<◌, sym, slice_index, length, arith, rules}
 use Rattle.occ_term.proofs.FrameWrites.{none_between, place_first, place_none}
 use Rattle.occ_term.proofs.frame_cells.place_by_halves.Goals as goal
 

@@ -1,4 +1,3 @@
-use Rattle.std.proofs.Common.{rules}
 use Rattle.occ_term.proofs.Components.{next_subscript}
 use Rattle.occ_term.proofs.names.write_subscripts.Goals as goal
 

@@ -1,4 +1,4 @@
-use Rattle.std.proofs.Common.{rules, ◌≡◌, ◌+◌, ◌++◌, ◌∷◌, ◌∙◌, [], ap, refl, subst, sym, length, reverse, ℕ, List}
+use Rattle.std.proofs.Common.{rules, ◌≡◌, ◌+◌, ◌++◌, ◌∷◌, ◌∙◌, [], ap, sym, length, reverse, List}
 use Rattle.occ_check_meaning.specs.Unfolding.{Procedures}
 use Rattle.occ_check_names.specs.View.{binding_of, innermost, pairs_before}
 use Rattle.occ_check_names.specs.declared.scope.Block.{Block}
@@ -25,7 +25,5 @@ returns-clause-scope c =
     let g = c.in_ok-block-2.block in
     let before : c.args.self.now.blocks.items ≡ older ++ f ∷ [] = search rules in
     let after : c.push-2.new.self.items ≡ older ++ g ∷ [] = search rules in
-    let held : c.into_inner-2.result ≡ c.args.binding = cc in
-    let names = subst (λ b. (sc : Procedures) → pairs_before g.names.entries sc ≡ (c.args.name.now, binding_of b) ∷ pairs_before f.names.entries sc) held c.in_ok-block-2.ensures.names in
-    ap (λ (l : List Block). innermost (reverse l)) after ∙ declared_within older f g c.args.name.now c.args.binding c.in_ok-block-2.ensures.outer names
+    ap (λ (l : List Block). innermost (reverse l)) after ∙ declared_within older f g c.args.name.now c.args.binding c.in_ok-block-2.ensures.outer c.in_ok-block-2.ensures.names
     ∙ ap (λ (l : List Block). (c.args.name.now, binding_of c.args.binding) ∷ innermost (reverse l)) (sym before)

@@ -1,11 +1,11 @@
-use Rattle.std.proofs.Common.{◌≡◌, ◌+◌, ◌*◌, ◌≤◌, ◌+ℤ◌, ◌≤ℤ◌, pos, Some, [], drop, length, map, take}
+use Rattle.std.proofs.Common.{◌≡◌, ◌+◌, ◌*◌, ◌≤◌, ◌+ℤ◌, ◌≤ℤ◌, pos, [], length, map, take}
 use Rattle.occ_tree_grammar.specs.Many.{◌>>=◌}
 use Rattle.occ_tree_grammar.specs.Processes.Trees.{nodes}
 use Rattle.occ_tree_grammar.specs.Processes.Views.{arm_of, choice_of, process_of, selection_of, variant_of}
 use Rattle.occ_term.specs.View.{arms_of, choices_of, options_of, term_of, variants_of}
 use Rattle.occ_check_meaning.specs.Actions.{none_chosen}
 use Rattle.occ_check_acting.specs.Action.{chosen_of}
-use Rattle.occ_check_meaning.specs.Recursion.{unfolded, all_in_turn}
+use Rattle.occ_check_meaning.specs.Recursion.{unfolded}
 use Rattle.occ_check.specs.Opened.{left_weight}
 use Rattle.occ_check.specs.Weights.{node_size, nodes_size}
 use Rattle.occ_check.specs.Progress.{counted, meant_at, weight_at}

@@ -1,4 +1,4 @@
-use Rattle.std.proofs.Common.{rules, ◌≡◌, ◌+◌, ◌∙◌, ap, refl}
+use Rattle.std.proofs.Common.{rules, ◌+◌, ◌∙◌, ap, refl}
 use Rattle.occ_tree_grammar.specs.Lines.Views.{actuals_of, formals_of}
 use Rattle.occ_tree_grammar.specs.Processes.Views.{process_of}
 use Rattle.occ_term.specs.View.{declarations_of}

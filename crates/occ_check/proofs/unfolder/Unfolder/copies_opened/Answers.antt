@@ -1,4 +1,4 @@
-use Rattle.std.proofs.Common.{rules, w64, to_z, of_z, SFits, ℤ, ◌≡◌, ◌∙◌, ◌+◌, ap, reverse, subst, sym}
+use Rattle.std.proofs.Common.{rules, w64, SFits, ℤ, ◌∙◌, ◌+◌, ap, reverse, sym}
 use Rattle.std.proofs.lemmas.Int.{to_z-of_z}
 use Rattle.occ_tree_grammar.specs.Lines.Views as lines
 use Rattle.occ_tree_grammar.specs.Processes.Views.{process_of}

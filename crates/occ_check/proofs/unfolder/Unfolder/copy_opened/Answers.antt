@@ -1,4 +1,4 @@
-use Rattle.std.proofs.Common.{rules, w64, ℤ, ◌≡◌, ◌∙◌, ◌+◌, Some, ap, subst, sym}
+use Rattle.std.proofs.Common.{rules, w64, ℤ, ◌≡◌, ◌∙◌, ◌+◌, ap, subst, sym}
 use Rattle.std.proofs.lemmas.Int.{to_z-of_z}
 use Rattle.occ_tree_grammar.specs.Lines.Views as lines
 use Rattle.occ_tree_grammar.specs.Processes.Views.{process_of}
@@ -9,7 +9,7 @@ use Rattle.occ_check_meaning.specs.Scope.{within}
 use Rattle.occ_check_names.specs.View.{Refuses, numbers_of}
 use Rattle.occ_check.specs.Copies.{copy_for, numbered_copy}
 use Rattle.occ_check.specs.Opened.{put}
-use Rattle.occ_check.specs.Progress.{counted, meant_at, weight_at}
+use Rattle.occ_check.specs.Progress.{counted, meant_at}
 use Rattle.occ_check.specs.Weights.{node_size}
 use Rattle.occ_check.proofs.CopyLists.{copy_opens, no_number_left}
 use Rattle.occ_check.proofs.unfolder.Unfolder.copy_opened.Goals as goal

@@ -1,4 +1,4 @@
-use Rattle.std.proofs.Common.{arith, rules, ◌≡◌, ◌∙◌, ◌+◌, ap, option_map, reverse, subst, sym}
+use Rattle.std.proofs.Common.{rules, ◌∙◌, ◌+◌, ap, option_map, reverse, sym}
 use Rattle.occ_tree_grammar.specs.Expressions.Trees.{expression_of as tree_of}
 use Rattle.occ_tree_grammar.specs.Lines.HeadViews.{guard_of}
 use Rattle.occ_tree_grammar.specs.Lines.Views as lines

@@ -1,6 +1,5 @@
 use Rattle.std.proofs.Common.{rules, ◌≡◌, ◌∙◌, ◌∷◌, [], Some, ap, refl, subst, sym}
 use Rattle.occ_tree_grammar.specs.Lines.Views.{replicator_of}
-use Rattle.occ_term.specs.View.{replicator_of as over_of}
 use Rattle.occ_check_meaning.specs.Declarations.{indexed}
 use Rattle.occ_check_meaning.specs.Scope.{names_of, within}
 use Rattle.occ_check_meaning.specs.Meant.{meant}
@@ -27,11 +26,10 @@ returns-clause-indexed c =
     let u = c.args.self.now in
     let sc = scope_at u c.args.at in
     let names = names_are c.scope-scope.result sc (scope_is c.scope-scope.result u.blocks.blocks.items c.args.at c.scope-scope.ensures.0 c.scope-scope.ensures.1) ∙ sym (same_names sc) in
-    let held : c.into_inner.result ≡ c.in_ok-indexed.indexed.replicator = cc in
     let one : c.push.new.self.items ≡ c.in_ok-indexed.indexed.name ∷ [] = search rules in (
       indexed_of c.in_ok-indexed.indexed c.index_replicator.new.numbers,
       subst (λ ns. indexed ns c.args.line c.args.depth (replicator_of c.args.replicator.now) (counted u) ≡ Some (indexed_of c.in_ok-indexed.indexed c.index_replicator.new.numbers)) names c.in_ok-indexed.ensures,
-      sym (ap over_of held),
+      refl,
       ap meant (c.in_ok-inside.ensures.scope ∙ ap (λ l. within (pairs_of l) sc) one) ∙ meant_within (pairs_of (c.in_ok-indexed.indexed.name ∷ [])) sc,
       refl,
     )

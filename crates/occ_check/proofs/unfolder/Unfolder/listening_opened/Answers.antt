@@ -3,7 +3,7 @@ use Rattle.occ_tree_grammar.specs.Expressions.Trees.{expression_of as tree_of}
 use Rattle.occ_tree_grammar.specs.Lines.Views as lines
 use Rattle.occ_tree_grammar.specs.Lines.Views.{replicator_of as replicator_tree}
 use Rattle.occ_tree_grammar.specs.Processes.Trees.{more_nodes, no_node, nodes}
-use Rattle.occ_tree_grammar.specs.Processes.Views.{arm_of, process_of, held_variants, variant_of}
+use Rattle.occ_tree_grammar.specs.Processes.Views.{arm_of, held_variants, variant_of}
 use Rattle.occ_tree_grammar.specs.declared.tree.line.Replicator.{Replicator}
 use Rattle.occ_tree_grammar.specs.declared.tree.line.VariantGuard.{VariantGuard}
 use Rattle.occ_tree_grammar.specs.declared.tree.process.Arm.TheBlock.{hidden-the_row-Variant-1}

@@ -2,9 +2,9 @@ use Rattle.std.proofs.Common.{◌≡◌, ◌∙◌, [], Option, ap, map, subst, 
 use Rattle.occ_tree_grammar.specs.Expressions.Trees.{expression_of as tree_of}
 use Rattle.occ_tree_grammar.specs.Lines.Views.{var_of}
 use Rattle.occ_tree_grammar.specs.Processes.Trees.{nodes}
-use Rattle.occ_tree_grammar.specs.Processes.Views.{held_selections, held_variants, selection_of, variant_of}
+use Rattle.occ_tree_grammar.specs.Processes.Views.{held_selections, selection_of, variant_of}
 use Rattle.occ_tree_grammar.specs.declared.tree.expr.Expr.{Expr}
-use Rattle.occ_tree_grammar.specs.declared.tree.process.Arm.TheBlock.{hidden-the_row-Selection-5, hidden-the_row-Variant-1}
+use Rattle.occ_tree_grammar.specs.declared.tree.process.Arm.TheBlock.{hidden-the_row-Selection-5}
 use Rattle.occ_term.specs.Terms as T
 use Rattle.occ_check_meaning.specs.Actions.{none_chosen}
 use Rattle.occ_check_meaning.specs.Numbers.{Numbers}

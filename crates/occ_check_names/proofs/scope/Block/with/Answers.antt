@@ -7,7 +7,5 @@ pub returns-clause-names : goal.returns-clause-names
 returns-clause-names c =
     let name : c.in_ok-name.name.items ≡ c.args.name.now = search rules in
     let lacks = subst (λ (x : List ℕ). Lacks x c.args.self.names.entries) (sym name) c.requires in
-    let held : c.into_inner.result ≡ c.args.binding = cc in
-    λ sc. ap (λ es. pairs_before es sc) (c.in_ok-insert.ensures.entries ∙ added c.args.self.names.entries c.in_ok-name.name c.into_inner.result lacks)
-    ∙ one_more c.args.self.names.entries (c.in_ok-name.name, c.into_inner.result) sc ∙ ap (λ (x : List ℕ). (x, binding_of c.into_inner.result) ∷ pairs_before c.args.self.names.entries sc) name
-    ∙ ap (λ b. (c.args.name.now, binding_of b) ∷ pairs_before c.args.self.names.entries sc) held
+    λ sc. ap (λ es. pairs_before es sc) (c.in_ok-insert.ensures.entries ∙ added c.args.self.names.entries c.in_ok-name.name c.args.binding lacks)
+    ∙ one_more c.args.self.names.entries (c.in_ok-name.name, c.args.binding) sc ∙ ap (λ (x : List ℕ). (x, binding_of c.args.binding) ∷ pairs_before c.args.self.names.entries sc) name
