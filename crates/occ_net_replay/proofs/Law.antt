@@ -1,11 +1,12 @@
 -- Each replay of the code of a program is followed by a run of the program.
-use Rattle.std.proofs.Common.{◌≡◌, ◌∙◌, refl, sym, ap, subst, IsTrue, ℕ, zero, suc, ◌+◌, ◌<◌, ◌^◌, List, [], ◌∷◌, ◌++◌, Some, length, map, arith, length-append}
-use Rattle.std.specs.Prelude.{slice_get}
+use Rattle.std.proofs.Common.{◌≡◌, ◌∙◌, refl, sym, ap, subst, IsTrue, ℕ, zero, suc, ◌+◌, ◌<◌, ◌^◌, List, [], ◌∷◌, ◌++◌, Some, None, length, map, arith, length-append}
+use Rattle.std.specs.Prelude.{slice_get, ◌-◌}
+use Rattle.std.proofs.Math.Bridge.{le_prop}
 use mathlib.Core.Bool.{true≢false}
 use Rattle.occ_term.specs.declared.primitive.Primitive.TheVariants.{Byte}
 use Rattle.occ_term.specs.declared.protocol.Protocol.TheVariants.{Simple}
 use Rattle.occ_term.specs.Processes.{Numbered, numbered, processes_of}
-use Rattle.occ_term.specs.Runs.{EndsBy, Event, event, Run, no_turn, communications, messages_on}
+use Rattle.occ_term.specs.Runs.{EndsBy, Event, event, Run, no_turn, goes, communications, messages_on}
 use Rattle.occ_term.specs.System.{System, start, noted_in}
 use Rattle.occ_term.specs.TermTyping.{Declared}
 use Rattle.occ_term.specs.Terms.{Term, Branches, no_branches, and_branch}
@@ -18,8 +19,8 @@ use Rattle.occ_code.specs.declared.task.Task.{Task}
 use Rattle.occ_code.specs.declared.task.Wait.TheVariants.{Joins}
 use Rattle.occ_net_replay.specs.declared.choice.Choice.{Choice}
 use Rattle.occ_net_replay.specs.Following.{AreBytes, Followed, NotedNeverEnd, OneNeverForks, ReplaysAreRuns, ReadyTasksStop, ending_as, mode_of, or_limit, process_in}
-use Rattle.occ_net_replay.specs.Replay.{Net, HasTask, may_go, Replays, begins, first_net, goes_on as replays_on}
-use Rattle.occ_net_replay.specs.Moments.{StandAlike, IsMoment, Accompanies, OneRunThroughout, at_start, after_turn, main_in}
+use Rattle.occ_net_replay.specs.Replay.{Net, HasTask, OneTurn, ending_of, may_go, Replays, begins, first_net, goes_on as replays_on}
+use Rattle.occ_net_replay.specs.Moments.{StandAlike, IsMoment, Accompanies, OneFurther, OneRunForAll, OneRunThroughout, RunsOfAll, at_start, after_turn, main_in}
 use Rattle.occ_net_replay.proofs.Moments.{stand_alike}
 use Rattle.occ_net_replay.proofs.Beginning.{first_follows, ends_as}
 use Rattle.occ_net_replay.proofs.EndedRuns.{ended_clean}
@@ -49,6 +50,10 @@ does_at d n (b ∷ bs) (x ∷ ps) (suc i) q h e = let y = does_at d (n + 1) bs p
 
 pub keyboard_protocol : (u : UnfoldedProgram) → IsWellFormed u → (declared u).protocols 0 ≡ Some (Simple [] Byte)
 keyboard_protocol u w = ap (λ cs. slice_get (map (λ y. y.protocol) cs) 0) w.begins
+
+-- the turn of the last choice can be counted too
+for_one_more : (k : ℕ) (cs : List Choice) (c : Choice) → k + length (cs ++ c ∷ []) < 2 ^ 64 → suc k + length cs < 2 ^ 64
+for_one_more k cs c small = omega (arith, small, length-append cs (c ∷ []))
 
 module _ (u : UnfoldedProgram) (p : Program) (quantum : ℕ) (kb : List ℕ) (w : IsWellFormed u) (lawful : Lawful u) (from : IsCompiledFrom u quantum p) (bytes : AreBytes kb) where
   abbrev pub d : Declared
@@ -92,7 +97,7 @@ module _ (u : UnfoldedProgram) (p : Program) (quantum : ℕ) (kb : List ℕ) (w 
         input = λ c. refl;
       }
   all_followed cs net k small (replays_on {cs = ds} {c = c} {a = a} r e o) =
-      let bound : suc k + length ds < 2 ^ 64 = omega (arith, small, length-append ds (c ∷ [])) in
+      let bound : suc k + length ds < 2 ^ 64 = for_one_more k ds c small in
       let before = all_followed ds a (suc k) bound r in
       let x = one_turn d p procs (keyboard_protocol u w) quantum from.quanta belongs k c a net before.now before.follows e o in
       record {
@@ -120,19 +125,62 @@ module _ (u : UnfoldedProgram) (p : Program) (quantum : ℕ) (kb : List ℕ) (w 
   shared : (cs : List Choice) (net : Net) → length cs < 2 ^ 64 → Replays p kb cs net → (f : Followed u kb quantum p.errors net) × SharesStore p net f.system
   shared cs net small r = let x = from_start cs net small r in (followed_by 0 net x, shares_store d p procs (keyboard_protocol u w) quantum belongs 0 net x.now x.follows)
 
-  is_moment : (k : ℕ) (net : Net) (x : AllFollowed k net) → IsMoment net x.now
-  is_moment k net x = record { alike = subst (λ z. StandAlike net.tasks (main_in z)) (sym x.follows.is) (stand_alike d p procs k net.tasks x.follows.proc x.follows.store x.follows.state); quiet = x.follows.quiet }
+  is_moment : (k : ℕ) (net : Net) (x : AllFollowed k net) → IsMoment p net x.now
+  is_moment k net x =
+      record {
+        alike = subst (λ z. StandAlike net.tasks (main_in z)) (sym x.follows.is) (stand_alike d p procs k net.tasks x.follows.proc x.follows.store x.follows.state);
+        shares = shares_store d p procs (keyboard_protocol u w) quantum belongs k net x.now x.follows;
+        quiet = x.follows.quiet;
+      }
 
   accompanied : (cs : List Choice) (net : Net) (k : ℕ) (small : k + length cs < 2 ^ 64) (r : Replays p kb cs net) → Accompanies u p quantum kb cs net (followed_by k net (all_followed cs net k small r))
   unfolding all_followed
   accompanied cs net k small begins =
       at_start (followed_by k (first_net p kb) (all_followed [] (first_net p kb) k small begins)) refl (is_moment k (first_net p kb) (all_followed [] (first_net p kb) k small begins))
   accompanied cs net k small (replays_on {cs = ds} {c = c} {a = a} r e o) =
-      let bound : suc k + length ds < 2 ^ 64 = omega (arith, small, length-append ds (c ∷ [])) in
-      after_turn (followed_by k net (all_followed cs net k small (replays_on r e o))) _ (accompanied ds a (suc k) bound r) o refl (is_moment k net (all_followed cs net k small (replays_on r e o)))
+      let bound : suc k + length ds < 2 ^ 64 = for_one_more k ds c small in
+      let before = all_followed ds a (suc k) bound r in
+      let x = one_turn d p procs (keyboard_protocol u w) quantum from.quanta belongs k c a net before.now before.follows e o in
+      after_turn (followed_by k net (all_followed cs net k small (replays_on r e o))) _ (accompanied ds a (suc k) bound r) o refl (goes x.turn x.meets_at no_turn) (is_moment k net (all_followed cs net k small (replays_on r e o)))
 
   one_run : (cs : List Choice) (net : Net) → length cs < 2 ^ 64 → Replays p kb cs net → (f : Followed u kb quantum p.errors net) × Accompanies u p quantum kb cs net f
   one_run cs net small r = let bound : 0 + length cs < 2 ^ 64 = omega (arith, small) in (followed_by 0 net (all_followed cs net 0 bound r), accompanied cs net 0 bound r)
+
+  -- ---- a run for each replay: the turns that it may still take are all that can be counted
+
+  abbrev left_over : List Choice → ℕ
+  left_over cs = 2 ^ 64 - 1 - length cs
+
+  room : (cs : List Choice) → length cs < 2 ^ 64 → left_over cs + length cs < 2 ^ 64
+  room cs few = omega (arith, few)
+
+  abbrev run_at : (cs : List Choice) (net : Net) → length cs < 2 ^ 64 → Replays p kb cs net → Followed u kb quantum p.errors net
+  run_at cs net few r = followed_by (left_over cs) net (all_followed cs net (left_over cs) (room cs few) r)
+
+  abbrev Further : {a b : Net} → Followed u kb quantum p.errors a → Followed u kb quantum p.errors b → Type 0
+  Further f g = OneFurther u p quantum kb f g
+
+  next_run : (cs : List Choice) (c : Choice) (a b : Net) (k : ℕ) (s : suc k + length cs < 2 ^ 64) (t : k + length (cs ++ c ∷ []) < 2 ^ 64) (r : Replays p kb cs a) (g : ending_of p.errors a ≡ None) (o : OneTurn p c a b)
+      → Further (followed_by (suc k) a (all_followed cs a (suc k) s r)) (followed_by k b (all_followed (cs ++ c ∷ []) b k t (replays_on r g o)))
+  unfolding all_followed
+  next_run cs c a b k s t r g o =
+      let bound : suc k + length cs < 2 ^ 64 = for_one_more k cs c t in
+      let before = all_followed cs a (suc k) bound r in
+      let x = one_turn d p procs (keyboard_protocol u w) quantum from.quanta belongs k c a b before.now before.follows g o in
+      subst (λ z. Further (followed_by (suc k) a (all_followed cs a (suc k) z r)) (followed_by k b (all_followed (cs ++ c ∷ []) b k t (replays_on r g o)))) (le_prop bound s)
+      (event o.number x.met, refl, goes x.turn x.meets_at no_turn)
+
+  one_less : (cs : List Choice) (c : Choice) → length (cs ++ c ∷ []) < 2 ^ 64 → left_over cs ≡ suc (left_over (cs ++ c ∷ []))
+  one_less cs c more = omega (arith, more, length-append cs (c ∷ []))
+
+  further : (cs : List Choice) (c : Choice) (a b : Net) (few : length cs < 2 ^ 64) (more : length (cs ++ c ∷ []) < 2 ^ 64) (r : Replays p kb cs a) (g : ending_of p.errors a ≡ None) (o : OneTurn p c a b)
+      → Further (run_at cs a few r) (run_at (cs ++ c ∷ []) b more (replays_on r g o))
+  further cs c a b few more r g o =
+      subst (λ j. (s : j + length cs < 2 ^ 64) → Further (followed_by j a (all_followed cs a j s r)) (run_at (cs ++ c ∷ []) b more (replays_on r g o))) (sym (one_less cs c more))
+      (λ s. next_run cs c a b (left_over (cs ++ c ∷ [])) s (room (cs ++ c ∷ []) more) r g o) (room cs few)
+
+  runs_of_all : RunsOfAll u p quantum kb
+  runs_of_all = record { run_of = run_at; throughout = λ cs net few r. accompanied cs net (left_over cs) (room cs few) r; further = further }
 
   stop_of : (n : ℕ) (net : Net) (now : System) (body : Body) (t : Task) → Follows d p procs (keyboard_protocol u w) quantum 1 net now → slice_get p.bodies n ≡ Some body → HasTask net.tasks n t → IsTrue (may_go t.wait) → (after : Task) × Stopping body t after
   stop_of n net now body t f code there may =
@@ -196,3 +244,6 @@ replays_share_store u p quantum kb cs net w lawful from bytes small r = shared u
 
 pub one_run_throughout : OneRunThroughout
 one_run_throughout u p quantum kb cs net w lawful from bytes small r = one_run u p quantum kb w lawful from bytes cs net small r
+
+pub one_run_for_all : OneRunForAll
+one_run_for_all u p quantum kb w lawful from bytes = runs_of_all u p quantum kb w lawful from bytes

@@ -34,3 +34,4 @@ pub mod MomentExamples
 pub mod Arms
 pub mod Choosing
 pub mod Earlier
+pub mod OneRun

@@ -1,16 +1,18 @@
 -- Stops that are alike and stops that are not.
+use Rattle.std.specs.Prelude.{pos}
 use Rattle.std.proofs.Common.{◌≡◌, refl, sym, ap, Bool, true, false, ℕ, ◌⊎◌, inl, inr, List, [], ◌∷◌, arith}
 use mathlib.Core.Bool.{true≢false}
 use Rattle.occ_term.specs.declared.fault.Fault.{Fault}
 use Rattle.occ_term.specs.declared.message.Message.{Message}
 use Rattle.occ_term.specs.Selecting.{Enabled}
 use Rattle.occ_term.specs.Steps.{Do, Offering, Awaiting, Choosing, Forking, Halted, Faulted, Done, Left, left}
-use Rattle.occ_term.specs.System.{Processes, no_processes, process}
+use Rattle.occ_term.specs.Runs.{meets_skip}
+use Rattle.occ_term.specs.System.{Processes, arm_skips, change_here, no_processes, passes_skip, process}
 use Rattle.occ_term.specs.Terms.{Branches, Reception, Skip}
 use Rattle.occ_code.specs.SameStop.{numbers_of}
 use Rattle.occ_code.specs.declared.task.Arm.{Arm}
 use Rattle.occ_code.specs.declared.task.Wait.TheVariants as W
-use Rattle.occ_net_replay.specs.MomentExamples.{AtStop, SameStopRows, OtherStopRows, MissingRows, UnquietRows}
+use Rattle.occ_net_replay.specs.MomentExamples.{AtStop, EitherArmRows, OtherStoreRows, SameStopRows, OtherStopRows, MissingRows, UnquietRows}
 use Rattle.occ_net_replay.specs.Moments.{At, Among, here, below, OnSameChannels, both_go, both_join, both_offer, both_await, both_choose, both_fork, both_fail}
 
 pub same_stop_rows : SameStopRows
@@ -91,3 +93,17 @@ unquiet_rows = (
   λ q. true≢false (q.unready 0 _ true _ refl refl).1.0,
   λ q. q.unjoined 0 _ (1 ∷ 2 ∷ []) refl refl (refl, (refl, tt)),
 )
+
+-- ---- the store, and which of two arms was taken
+
+pub other_store_rows : OtherStoreRows
+other_store_rows = (
+  λ p b e h m. let x : pos 1 ≡ pos 2 = m.shares.frames 0 b _ 7 e refl (λ q. absurd cc) h (λ ns q. absurd cc) in let y = pos_same x in omega (arith, y),
+  λ p m. true≢false (sym (m.shares.same_offers 3)),
+)
+  where
+    pos_same : {a b : ℕ} → pos a ≡ pos b → a ≡ b
+    pos_same e = cc
+
+pub either_arm_rows : EitherArmRows
+either_arm_rows = (meets_skip refl (passes_skip (change_here (arm_skips 0 refl))), meets_skip refl (passes_skip (change_here (arm_skips 1 refl))))

@@ -22,6 +22,10 @@ pub run_more : {errors : Errors} {q n : ℕ} {a b c d : System} {es : List Event
 run_more no_turn t m = goes t m no_turn
 run_more (goes u k r) t m = goes u k (run_more r t m)
 
+pub run_join : {errors : Errors} {q : ℕ} {a b c : System} {es fs : List Event} → Run errors q a es b → Run errors q b fs c → Run errors q a (es ++ fs) c
+run_join no_turn r = r
+run_join (goes u k v) r = goes u k (run_join v r)
+
 pub met_more : (es : List Event) (n : ℕ) (x : Option Communication) → communications (es ++ event n x ∷ []) ≡ communications es ++ listed x
 met_more [] n None = refl
 met_more [] n (Some x) = refl

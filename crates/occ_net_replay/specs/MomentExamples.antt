@@ -1,17 +1,21 @@
 -- What stands at the same stop and what does not, and networks in which something is possible that needs no turn.
 -- Manual: nothing; this is (own).
-use Rattle.std.specs.Prelude.{None, Some, [], false, true, ◌∷◌}
+use Rattle.std.specs.Prelude.{IsTrue, List, None, Some, [], false, pos, slice_get, true, ◌∷◌, ◌≡◌, ℕ}
 use Rattle.occ_term.specs.SelectingExamples.{taking_in}
 use Rattle.occ_term.specs.Messages.{fault}
 use Rattle.occ_term.specs.declared.fault.FaultKind.TheVariants.{Arith}
-use Rattle.occ_term.specs.Selecting.{SkipArm}
-use Rattle.occ_term.specs.Steps.{Doing, Do, Offering, Awaiting, Choosing, Forking, Halted, Faulted, Done, left}
-use Rattle.occ_term.specs.System.{process, no_processes}
+use Rattle.occ_term.specs.Frames.{is_held}
+use Rattle.occ_term.specs.Runs.{MeetsAtMost}
+use Rattle.occ_term.specs.Selecting.{Enabled, SkipArm}
+use Rattle.occ_term.specs.Steps.{Doing, Do, Offering, Awaiting, Choosing, Forking, Halted, Faulted, Done, SkipTaken, Taking, left}
+use Rattle.occ_term.specs.System.{HaltMode, System, process, no_processes, system}
 use Rattle.occ_term.specs.Terms.{Skip, Stop, Plain, and_branch, no_branches}
+use Rattle.occ_code.specs.Compiled.{Program}
+use Rattle.occ_code.specs.Machine.{Body}
 use Rattle.occ_code.specs.declared.task.Wait.{Wait}
 use Rattle.occ_code.specs.declared.task.Wait.TheVariants as W
-use Rattle.occ_net_replay.specs.Examples.{arm, both_stand, branches, choosing, net_of, or_skip, task, waiting, whole_number}
-use Rattle.occ_net_replay.specs.Moments.{Quiet, StandAlike, StopsAlike}
+use Rattle.occ_net_replay.specs.Examples.{after, arm, both_stand, branches, choosing, net_of, or_skip, task, variables, waiting, whole_number}
+use Rattle.occ_net_replay.specs.Moments.{IsMoment, Quiet, StandAlike, StopsAlike}
 use Rattle.occ_net_replay.specs.Replay.{byte_message}
 
 -- of a process without branches, with nothing after what it is at
@@ -57,3 +61,25 @@ UnquietRows =
     × (Quiet (net_of [] (choosing false)) → ⊥)
     × (Quiet (net_of [] or_skip) → ⊥)
     × (Quiet (net_of [] (waiting ∷ branches W.Done W.Done)) → ⊥)
+
+-- ---- the store, and which of two arms was taken
+
+-- one process, with this left, where each cell has this value
+abbrev pub alone_at : Doing → ℕ → System
+alone_at x v = system [] (process 0 (left x []) no_processes) (λ c. pos v) []
+
+-- The process is at the same stop in both; but its frame has 1 in the cell 7, and the store has 2. An offer that stands in the system
+-- alone.
+abbrev pub OtherStoreRows : Type 0
+OtherStoreRows =
+    ((p : Program) (b : Body) → slice_get p.bodies 0 ≡ Some b → IsTrue (is_held b.cells 7) → IsMoment p (net_of [] (after 0 2 (variables (7 ∷ []) (1 ∷ []) []) W.Ready ∷ [])) (alone_at (Do Skip) 2) → ⊥)
+    × ((p : Program) → IsMoment p (net_of [] (task 0 W.Ready ∷ [])) (alone_at (Offering 3 (whole_number 5)) 0) → ⊥)
+
+abbrev pub two_skips : List Enabled
+two_skips = SkipArm [] Stop ∷ SkipArm [] Skip ∷ []
+
+-- After one turn, with one event, a run may take either of two arms with SKIP: the events alone do not say which run it is.
+abbrev pub EitherArmRows : Type 0
+EitherArmRows =
+    MeetsAtMost HaltMode 0 (alone_at (Choosing false two_skips) 0) None (alone_at (Taking [] (SkipTaken Stop)) 0)
+    × MeetsAtMost HaltMode 0 (alone_at (Choosing false two_skips) 0) None (alone_at (Taking [] (SkipTaken Skip)) 0)

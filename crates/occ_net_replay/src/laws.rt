@@ -5,8 +5,8 @@ ghost use Rattle.occ_code.specs.declared.task.Arm.{Arm};
 ghost use Rattle.occ_net_replay.specs.Choosing.{ChoicesTakeReadyArms, OffersReachChoices};
 ghost use Rattle.occ_net_replay.specs.Examples.{ChoiceRows, ClosedRows, EndingRows, ForkRows, LateOfferRows, ListenRows, MeetingRows, NotedRows, FirstWithPriority, SkipRows, StopRows, TurnRows};
 ghost use Rattle.occ_net_replay.specs.Following.{NotedNeverEnd, OneNeverForks, ReadyTasksStop, ReplaysAreRuns};
-ghost use Rattle.occ_net_replay.specs.MomentExamples.{MissingRows, OtherStopRows, SameStopRows, UnquietRows};
-ghost use Rattle.occ_net_replay.specs.Moments.{OneRunThroughout, RunsGoOn};
+ghost use Rattle.occ_net_replay.specs.MomentExamples.{EitherArmRows, MissingRows, OtherStopRows, OtherStoreRows, SameStopRows, UnquietRows};
+ghost use Rattle.occ_net_replay.specs.Moments.{OneRunForAll, OneRunThroughout, ReadyGoOn, ReplaysAreOneRun, RunsGoOn};
 ghost use Rattle.occ_net_replay.specs.OneReplay.{OneReplay};
 ghost use Rattle.occ_net_replay.specs.Sharing.{ReplaysShareStore};
 ghost use Rattle.occ_net_replay.specs.Waiting.{TurnsAreFew, TurnsForkAlone, TurnsListenAlone, TurnsNeverTake, TurnsOfferAlone};
@@ -53,13 +53,15 @@ pub fn small_choices()
     ensures listening { ListenRows }
 {}
 
-/// Stops that are alike and stops that are not, and networks in which something is possible that needs
-/// no turn.
+/// Stops that are alike and stops that are not, networks in which something is possible that needs no
+/// turn, and a store that is not the replay's.
 pub fn small_moments()
     ensures same { SameStopRows }
     ensures other { OtherStopRows }
     ensures missing { MissingRows }
     ensures unquiet { UnquietRows }
+    ensures store { OtherStoreRows }
+    ensures either { EitherArmRows }
 {}
 
 /// A process that comes to a choice takes a ready arm at once, by the number of its turn.
@@ -113,14 +115,31 @@ pub fn one_replay()
     ensures { OneReplay }
 {}
 
-/// One run follows a replay from its start on, with each process at the same stop between two turns,
-/// where nothing is possible that needs no turn.
+/// One run follows a replay from its start on, each turn from the system that the last one came to.
+/// Between two turns each process is at the same stop, the frames share the one store, and nothing is
+/// possible that needs no turn.
 pub fn one_run_throughout()
     ensures { OneRunThroughout }
 {}
 
+/// A replay's one run has all that an answer says of it.
+pub fn replays_are_one_run()
+    ensures { ReplaysAreOneRun }
+{}
+
+/// The replays of a program have a run each, and that of one choice more is that of the others with one
+/// turn more.
+pub fn one_run_for_all()
+    ensures { OneRunForAll }
+{}
+
+/// A process that a choice may select goes on in the run.
+pub fn ready_go_on()
+    ensures { ReadyGoOn }
+{}
+
 /// The run that follows a replay of some choices begins with the one that follows that of the first of
-/// them.
+/// them, and goes on from the system that this one came to.
 pub fn runs_go_on()
     ensures { RunsGoOn }
 {}

@@ -31,7 +31,8 @@ use Rattle.occ_play.specs.declared.fault.PlayFault.{PlayFault}
 use Rattle.occ_play.specs.declared.fault.PlayFault.TheVariants as play
 use Rattle.occ_play.specs.Playing.{IsAnswer, IsTextsCode, Ran, Refuses, RefusesText, Unfolds, UsageRefusesText, CodeRefusesText}
 use Rattle.occ_net_replay.specs.Replay.{Net, Replays, ending_of, ending_by, standing_by, stopped_by}
-use Rattle.occ_net_replay.proofs.Law.{noted_never_end, replays_are_runs}
+use Rattle.occ_net_replay.specs.Moments.{Accompanies}
+use Rattle.occ_net_replay.proofs.Law.{noted_never_end, one_run_throughout, replays_are_runs}
 
 -- the bytes of a keyboard
 pub are_bytes : (kb : List ℕ) → ((k : ℕ) → get_or kb k 0 < 256) → AreBytes kb
@@ -98,20 +99,34 @@ code_with u quantum p errors h =
       emitted = h.emitted;
     }
 
+-- the run goes throughout with the replay of the code
+abbrev Throughout : (u : UnfoldedProgram) (keyboard : List ℕ) (quantum : ℕ) (p : Program) (cs : List Choice) (net : Net) {errors : Errors} → Followed u keyboard quantum errors net → Type 0
+Throughout u keyboard quantum p cs net run =
+    (f : Followed u keyboard quantum p.errors net) × Accompanies u p quantum keyboard cs net f × (f.events ≡ run.events) × (f.system ≡ run.system)
+
+-- that, by any name of the mode of faults
+record Goes (u : UnfoldedProgram) (keyboard : List ℕ) (quantum : ℕ) (p : Program) (cs : List Choice) (net : Net) (errors : Errors) : Type 0 where
+  run : Followed u keyboard quantum errors net
+  throughout : Throughout u keyboard quantum p cs net run
+
 -- the run that an outcome of a text's code follows, and what it says of faults
-record Shown (options : Options) (keyboard : List ℕ) (u : UnfoldedProgram) (net : Net) (ending : Ending) : Type 0 where
+record Shown (options : Options) (keyboard : List ℕ) (u : UnfoldedProgram) (p : Program) (cs : List Choice) (net : Net) (ending : Ending) : Type 0 where
   run : Followed u keyboard options.quantum options.errors net
   ends : or_limit (ending_of options.errors net) ≡ ending
   clean : ending ≡ E.Ended → noted_in run.system ≡ []
+  throughout : Throughout u keyboard options.quantum p cs net run
 
 shown_by_run : (options : Options) (keyboard : List ℕ) (list : List Choice) (u : UnfoldedProgram) (p : Program) (o : Outcome)
     → IsWellFormed u → Lawful u → IsCodeOf u options.quantum p → p.errors ≡ options.errors → AreBytes keyboard → (out : IsOutcome p keyboard list o) → length o.choices.items < 2 ^ 64
-    → Shown options keyboard u out.net o.ending
+    → Shown options keyboard u p o.choices.items out.net o.ending
 shown_by_run options keyboard list u p o well lawful from mode keys out small =
-    let f : Followed u keyboard options.quantum options.errors out.net = subst (λ e. Followed u keyboard options.quantum e out.net) mode (followed u options.quantum p keyboard list o well lawful from.does keys out small) in
+    let x = one_run_throughout u p options.quantum keyboard o.choices.items out.net well lawful from.does keys small out.replays in
+    let goes : Goes u keyboard options.quantum p o.choices.items out.net options.errors = subst (λ e. Goes u keyboard options.quantum p o.choices.items out.net e) mode (record { run = x.0; throughout = (x.0, x.1, refl, refl) }) in
+    let f = goes.run in
     record {
       run = f;
       ends = ap (λ e. or_limit (ending_of e out.net)) (sym mode) ∙ sym out.ending;
+      throughout = goes.throughout;
       clean = λ h. f.noted ∙ noted_never_end u p options.quantum keyboard o.choices.items out.net well lawful from.does keys small out.replays (ended_if (ending_of p.errors out.net) (sym out.ending ∙ h));
     }
 
@@ -148,6 +163,7 @@ headline options source keyboard list trace p channels o played bytes code keys 
         errors = code.errors;
         net = out.net;
         replays = subst (λ cs. Replays p keyboard cs out.net) choices out.replays;
+        throughout = subst (λ cs. Throughout u keyboard options.quantum p cs out.net f) choices s.throughout;
         turns = f.turns;
         communicates = f.communicates;
         noted = f.noted;

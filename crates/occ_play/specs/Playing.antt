@@ -35,7 +35,8 @@ use Rattle.occ_play.specs.declared.fault.PlayFault.{PlayFault}
 use Rattle.occ_play.specs.declared.fault.PlayFault.TheVariants as play
 use Rattle.occ_shown.specs.Answers.{answer_text, names_of}
 use Rattle.occ_shown.specs.Counting.{failures_of, writer_of}
-use Rattle.occ_net_replay.specs.Following.{AllFit, ending_as, mode_of, or_limit, process_in}
+use Rattle.occ_net_replay.specs.Following.{AllFit, Followed, ending_as, mode_of, or_limit, process_in}
+use Rattle.occ_net_replay.specs.Moments.{Accompanies}
 use Rattle.occ_net_tables.specs.Outcomes.{Begins, IsOutcome}
 use Rattle.occ_net_replay.specs.Replay.{Net, Replays, ending_of}
 
@@ -78,7 +79,8 @@ pub record Ran (options : Options) (source keyboard : List ℕ) (list : List Cho
 -- each used choice by the process that the choice selects, whose answer the bytes are, with that run's ending. In the run a
 -- fault does what the options say, and a run that has noted a fault never ends. The used choices are a beginning of the list,
 -- and all of it where the run goes on. Which process a choice selects is what the replay of the used choices says, over the
--- program's code for that quantum: it has the run's turns, communications, faults and ending. On each channel the messages
+-- program's code for that quantum: it has the run's turns, communications, faults and ending. The run goes with that replay throughout, turn by turn: between two
+-- turns each process of the replay is at the same stop in the run, and has the run's store. On each channel the messages
 -- output and those input are, in order, the communicated ones, each of the channel's protocol.
 pub record IsAnswer (options : Options) (source keyboard : List ℕ) (list : List Choice) (trace : Bool) (played : Played) (bytes : List ℕ) : Type 0 where
   pub program : UnfoldedProgram
@@ -97,6 +99,10 @@ pub record IsAnswer (options : Options) (source keyboard : List ℕ) (list : Lis
   pub errors : compiled.errors ≡ options.errors
   pub net : Net
   pub replays : Replays compiled keyboard played.choices.items net
+  pub throughout : (f : Followed program keyboard options.quantum compiled.errors net)
+      × Accompanies program compiled options.quantum keyboard played.choices.items net f
+      × (f.events ≡ events)
+      × (f.system ≡ system)
   pub turns : map process_in events ≡ net.turns
   pub communicates : communications events ≡ net.trace
   pub noted : noted_in system ≡ net.noted

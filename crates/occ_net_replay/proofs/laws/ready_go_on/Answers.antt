@@ -1,0 +1,5 @@
+use Rattle.occ_net_replay.proofs.OneRun.{ready_go_on}
+use Rattle.occ_net_replay.proofs.laws.ready_go_on.Goals as goal
+
+pub returns : goal.returns
+returns c = ready_go_on
