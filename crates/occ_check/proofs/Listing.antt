@@ -27,9 +27,6 @@ module _ {X S E R : Type 0} (all : List X → S → Option R) (one : X → S →
   whole (Some r) = refl
   whole None = refl
 
-  pub listed_first : (xs : List X) (s : S) → Listed (all xs s) xs 0 [] s
-  listed_first xs s = sym (whole (all xs s))
-
   module _ (given : Option R) (xs : List X) (i : ℕ) (made : List E) (s : S) (listed : Listed given xs i made s) where
     module _ (x : X) (within : i < length xs) (is : x ≡ get_or xs i x) where
       stepped : given ≡ ((one x s >>= λ a. all (drop (i + 1) xs) a.1 >>= λ r. Some (put a.0 r)) >>= λ r. Some (before put made r))

@@ -95,9 +95,6 @@ named_after xs rest = rest >>= λ ys. Some (xs ++ ys)
 pub record Names (first : Name) (spec : Spec) (fs : List Formal) (i : ℕ) (names : List Name) (before : Spec) : Type 0 where
   pub is : named_after names (other_names (lines.spec_of before) (map lines.formal_of (drop i fs))) ≡ named_after (first ∷ []) (other_names (lines.spec_of spec) (map lines.formal_of fs))
 
-pub names_begin : (first : Name) (spec : Spec) (fs : List Formal) (names : List Name) → names ≡ first ∷ [] → Names first spec fs 0 names spec
-names_begin first spec fs names e = record { is = ap (λ xs. named_after xs (other_names (lines.spec_of spec) (map lines.formal_of fs))) e }
-
 names_step : (s : L.Spec) (fs : List Formal) (i : ℕ) (f : Formal) → i < length fs → f ≡ get_or fs i f
     → other_names s (map lines.formal_of (drop i fs))
     ≡ (other_names (spec_after s (option_map lines.spec_of f.spec)) (map lines.formal_of (drop (i + 1) fs))

@@ -9,9 +9,6 @@ use Rattle.occ_check_meaning.specs.Performing.{Calling, Under, nested}
 use Rattle.occ_check_meaning.specs.Scope.{Scope}
 
 module _ {A : Type 0} (parts : Under A) (sc : Scope Calling) (depth : ℕ) (n : Numbers) where
-  pub nested_too_deep : deeper depth 1 ≡ None → nested parts sc depth n ≡ None
-  nested_too_deep e = ap (λ r. r >>= λ deep. parts sc deep n) e
-
   pub nested_there : (deep : ℕ) → deeper depth 1 ≡ Some deep → nested parts sc depth n ≡ parts sc deep n
   nested_there deep e = ap (λ r. r >>= λ deep. parts sc deep n) e
 

@@ -19,11 +19,6 @@ pub put_put : {A B C : Type 0} (f : B → C) (g : A → B) (o : Option (A × Num
 put_put f g None = refl
 put_put f g (Some x) = refl
 
--- what is put into nothing stays as it is
-pub put_nothing : {A : Type 0} (f : A → A) (o : Option (A × Numbers)) → ((x : A) → f x ≡ x) → put f o ≡ o
-put_nothing f None same = refl
-put_nothing f (Some x) same = ap (λ y. Some (y, x.1)) (same x.0)
-
 -- what is put into equal things
 pub put_same : {A B : Type 0} (f g : A → B) (o : Option (A × Numbers)) → ((x : A) → f x ≡ g x) → put f o ≡ put g o
 put_same f g None same = refl

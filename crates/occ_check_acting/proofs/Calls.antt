@@ -92,14 +92,6 @@ formals_end ns line spec fs i all before h lists =
     sym lists.is ∙ ap (λ (xs : List Formal). those_after (formals_of all) (other_formals ns line (lines.spec_of before) (map lines.formal_of xs))) (drop_of_length-le fs h)
     ∙ ap Some (append-nil (formals_of all))
 
-pub formals_begin : (ns : Names) (line : ℕ) (spec : Spec) (fs : List Formal) (all : List WantedFormal) → all ≡ [] → Lists ns line spec fs 0 all spec
-formals_begin ns line spec fs all e =
-    record { is = ap (λ (xs : List WantedFormal). those_after (formals_of xs) (other_formals ns line (lines.spec_of spec) (map lines.formal_of fs))) e ∙ none_first (other_formals ns line (lines.spec_of spec) (map lines.formal_of fs)) }
-  where
-    none_first : (rest : Listed) → those_after [] rest ≡ rest
-    none_first None = refl
-    none_first (Some ys) = refl
-
 -- ---- actuals
 
 -- what the formals so far stand for, and what those from number i on do under the actuals that are left, is what all of them do

@@ -43,9 +43,6 @@ module _ (vs : List ℤ) (i : ℕ) (first now : Chosen) (below : i < length vs) 
   pub going_next : (after : Chosen) → choosing (get_or vs i (pos 0) ∷ []) now ≡ Some after → Going vs (i + 1) first after
   going_next after h = record { is = sym (ap (λ r. r >>= choosing (drop (i + 1) vs)) h) ∙ whole }
 
-  pub going_nothing : (e : CheckFault) → Refuses e (choosing (get_or vs i (pos 0) ∷ []) now) → Refuses e (choosing vs first)
-  going_nothing e = refused_with e _ _ (λ h. sym whole ∙ none_then _ h)
-
 pub going_last : (vs : List ℤ) (i : ℕ) (first now : Chosen) → length vs ≤ i → Going vs i first now → choosing vs first ≡ Some now
 unfolding choosing
 going_last vs i first now past going = sym going.is ∙ ap (λ xs. choosing xs now) (drop_all i vs past)

@@ -73,8 +73,3 @@ any_number k ks = any_among (nat_eq k) ks ∙ sym (among_reverse (nat_eq k) ks) 
 -- what a set of numbers tells of one that is put in, and what it has then
 pub number_told : (k : ℕ) (ks : List ℕ) (added : Bool) → added ≡ not (list_any (λ n. nat_eq k n) ks) → has_number k (reverse ks) ≡ not added
 number_told k ks added e = sym (any_number k ks) ∙ twice_not (list_any (λ n. nat_eq k n) ks) ∙ ap not (sym e)
-
-pub numbers_more : (k : ℕ) (ks now : List ℕ) → has_number k (reverse ks) ≡ false → now ≡ cond (list_any (λ n. nat_eq k n) ks) ks (ks ++ k ∷ []) → reverse now ≡ k ∷ reverse ks
-numbers_more k ks now lacks is =
-    let none : list_any (λ n. nat_eq k n) ks ≡ false = any_number k ks ∙ lacks in
-    ap reverse (is ∙ ap (λ b. cond b ks (ks ++ k ∷ [])) none) ∙ reverse-append ks (k ∷ [])

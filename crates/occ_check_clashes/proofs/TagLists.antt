@@ -79,9 +79,6 @@ module _ (p : Protocol) (x : Name) (before : List ℕ) where
   found : (o : Option ℕ) → o ≡ tag_number (tags_of p) x 0 → new_tag p x before ≡ ((o >>= λ k. keep (nat_lt k 4294967296) k) >>= λ k. keep (not (has_number k before)) k)
   found o is = ap (λ t. t >>= λ k. keep (not (has_number k before)) k) (numbered p x ∙ ap (λ q. q >>= λ k. keep (nat_lt k 4294967296) k) (sym is))
 
-  pub not_named : (o : Option ℕ) → o ≡ None → o ≡ tag_number (tags_of p) x 0 → new_tag p x before ≡ None
-  not_named o none is = found o is ∙ ap (λ q. (q >>= λ k. keep (nat_lt k 4294967296) k) >>= λ k. keep (not (has_number k before)) k) none
-
   module _ (n : ℕ) (o : Option ℕ) (some : o ≡ Some n) (is : o ≡ tag_number (tags_of p) x 0) where
     named_so : new_tag p x before ≡ (keep (nat_lt n 4294967296) n >>= λ k. keep (not (has_number k before)) k)
     named_so = found o is ∙ ap (λ q. (q >>= λ k. keep (nat_lt k 4294967296) k) >>= λ k. keep (not (has_number k before)) k) some

@@ -111,7 +111,7 @@ pub unfolding_grown : {sc : Procedures} {depth : ℕ} {n m : Numbers} {p : Node 
 unfolding_grown u = unfolding_steps Grown growing processes_grown u
 
 pub start_limits : IsWithinLimits at_start
-start_limits = record { cells = leb-true 0 65536 refl; channels = leb-true 3 4096 refl }
+start_limits = record { cells = leb-true 0 most_cells refl; channels = leb-true 3 4096 refl }
 
 pub program_grown : {is : List Item} {t : Term} {m : Numbers} → ProgramUnfolding is t m → Grown at_start m
 program_grown u = program_steps Grown growing processes_grown u

@@ -3,18 +3,16 @@
 ghost use Rattle.std.specs.Prelude.{◌≡◌, ◌<◌, ◌≤◌, ◌+◌, ◌++◌, IfOk, length, min, nat_le, Some};
 ghost use Rattle.occ_term.specs.Messages.{product};
 ghost use Rattle.occ_term.specs.Sizes.{no_size, with_node};
-ghost use Rattle.occ_term.specs.UnfoldedProgram.{byte_channel};
+ghost use Rattle.occ_term.specs.UnfoldedProgram.{byte_channel, most_cells};
 ghost use Rattle.occ_check_meaning.specs.Numbers.{at_start, component_names, deeper, more_cells, more_channels, more_processes, more_protocols, most_depth, room};
 ghost use Rattle.occ_check_meaning.specs.Scope.{keep};
 ghost use Rattle.occ_check_names.specs.View.{Counts, Gives, numbers_of};
 
 use crate::fault::CheckFault;
-use occ_term::{Cell, Channel, Name, Primitive, Protocol};
+use occ_term::{Cell, Channel, MOST_CELLS, Name, Primitive, Protocol};
 use sqlite_items::Items;
 use std::alloc::{AllocError, Global};
 
-/// How many cells a program may have.
-const MOST_CELLS: usize = 65536;
 /// How many channels a program may have.
 const MOST_CHANNELS: usize = 4096;
 /// How many processes a program may have.
@@ -204,7 +202,7 @@ fn channel_of_bytes(alloc: Global, name: &[u8]) -> Result<Channel, AllocError>
 ///
 /// `TooLarge` where they are more than the most that there may be.
 fn first_of_more(len: usize, count: u32, most: usize) -> Result<u32, CheckFault>
-    requires few { most ≤ 65536 }
+    requires few { most ≤ most_cells }
     ensures { Gives (λ first. first) result (keep (nat_le (len + count) most) len) }
 {
     match most.checked_sub(len) {

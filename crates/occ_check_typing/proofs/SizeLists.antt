@@ -33,6 +33,7 @@ use Rattle.occ_check_names.specs.declared.fault.CheckFault.{CheckFault}
 use Rattle.occ_check_typing.specs.Positive.{ArePositive}
 use Rattle.occ_check_typing.proofs.Components.{one_more}
 use Rattle.occ_check_typing.proofs.Refusals.{none_then, refused_with}
+use Rattle.occ_term.specs.UnfoldedProgram.{most_cells}
 
 -- ---- sizes that are given
 
@@ -117,8 +118,8 @@ one_few [] h k = tt
 one_few (n ∷ []) h k = (omega (arith, k), tt)
 one_few (n ∷ m ∷ ns) h k = absurd (omega (arith, h))
 
-pub many_few : (ns : List ℕ) (n : ℕ) → ArePositive ns → n ≡ min (product ns) 4294967295 → nat_le n 65536 ≡ true → AreFew ns
-many_few ns n some e h = let small : n ≤ 65536 = grind (arith, nat_tests) in positive_few ns some (omega (arith, e, small))
+pub many_few : (ns : List ℕ) (n : ℕ) → ArePositive ns → n ≡ min (product ns) 4294967295 → nat_le n most_cells ≡ true → AreFew ns
+many_few ns n some e h = let small : n ≤ most_cells = grind (arith, nat_tests) in positive_few ns some (omega (arith, e, small))
 
 -- ---- how many components there are, where all sizes are given
 

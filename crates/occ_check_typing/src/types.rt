@@ -22,15 +22,12 @@ use occ_check_names::known::{Carried, Known};
 use occ_check_names::numbers::components;
 use occ_check_names::operators::{is_number, primitive_of};
 use occ_check_names::scope::Scope;
-use occ_term::{PartType, Primitive, Protocol, Tag};
+use occ_term::{MOST_CELLS, PartType, Primitive, Protocol, Tag};
 use occ_tree_grammar::tree::expr::Expr;
 use occ_tree_grammar::tree::line::{Carried as CarriedTree, OneOrMore, Part, Size};
 use occ_tree_grammar::tree::process::{Protocol as ProtocolTree, Tag as TagTree};
 use sqlite_items::Items;
 use std::alloc::{AllocError, Global};
-
-/// How many components an array may have.
-const MOST: u32 = 65_536;
 
 // ---- sizes
 
@@ -104,7 +101,7 @@ fn are_few(sizes: &[u32]) -> bool
     match sizes {
         [] => true,
         [_] => true,
-        [_, _, ..] => components(sizes) <= MOST,
+        [_, _, ..] => components(sizes) as usize <= MOST_CELLS,
     }
 }
 
@@ -171,7 +168,7 @@ fn are_few_open(sizes: &[Option<u32>]) -> bool
         [_] => true,
         [_, _, ..] => match given_components(sizes) {
             None => true,
-            Some(count) => count <= MOST,
+            Some(count) => count as usize <= MOST_CELLS,
         },
     }
 }

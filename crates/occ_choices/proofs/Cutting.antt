@@ -26,10 +26,6 @@ glued_last (x ∷ y ∷ xs) h = let later : 0 < length (y ∷ xs) = omega arith 
 pub cut_on : (b : ℕ) (bs : List ℕ) → (b ≡ 10 → ⊥) → lines_of (b ∷ bs) ≡ before_all b (lines_of bs)
 cut_on b bs h = let other : nat_eq b 10 ≡ false = grind (arith, nat_tests) in rw other refl
 
--- the line feed
-cut_here : (bs : List ℕ) → lines_of (10 ∷ bs) ≡ (10 ∷ []) ∷ lines_of bs
-cut_here bs = refl
-
 -- what follows so many bytes
 rest_from : (xs : List ℕ) (i d : ℕ) → i < length xs → drop i xs ≡ get_or xs i d ∷ drop (suc i) xs
 rest_from [] i d h = absurd (omega (arith, h))

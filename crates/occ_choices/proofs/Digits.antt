@@ -85,14 +85,6 @@ spelled_as ds n some few value word =
     let c : nat_lt (digits_value 10 ds) (2 ^ 32) ≡ true = grind (arith, nat_tests) in
     rw (a, b, c) (ap Some value)
 
-pub spelled_none : (ds : List ℕ) → 10 < length ds → spelled ds ≡ None
-spelled_none ds many = let b : nat_le (length ds) 10 ≡ false = grind (arith, nat_tests) in by (nat_le 1 (length ds)) (nat_le (length ds) 10) b
-  where
-    by : (x y : Bool) → y ≡ false → (if x && y && nat_lt (digits_value 10 ds) (2 ^ 32) then Some (digits_value 10 ds) else None) ≡ None
-    by true true e = cc
-    by true false e = refl
-    by false y e = refl
-
 pub spelled_large : (ds : List ℕ) → 2 ^ 32 ≤ digits_value 10 ds → spelled ds ≡ None
 spelled_large ds large = let c : nat_lt (digits_value 10 ds) (2 ^ 32) ≡ false = grind (arith, nat_tests) in by (nat_le 1 (length ds)) (nat_le (length ds) 10) (nat_lt (digits_value 10 ds) (2 ^ 32)) c
   where
@@ -169,27 +161,6 @@ pub ends_as : (t : List ℕ) → IsEnd t → ends_line t ≡ true
 ends_as t no_end = refl
 ends_as t line_feed = refl
 ends_as t return_and_line_feed = refl
-
-pub end_none : (t : List ℕ) → length t ≡ 0 → true ≡ ends_line t
-end_none [] h = refl
-end_none (a ∷ t) h = absurd (omega (arith, h))
-
-pub end_one : (t : List ℕ) → length t ≡ 1 → nat_eq (get_or t 0 0) 10 ≡ ends_line t
-end_one [] h = absurd (omega (arith, h))
-end_one (a ∷ []) h = refl
-end_one (a ∷ b ∷ t) h = absurd (omega (arith, h))
-
-pub end_two : (t : List ℕ) → length t ≡ 2 → (nat_eq (get_or t 0 0) 13 && nat_eq (get_or t 1 0) 10) ≡ ends_line t
-end_two [] h = absurd (omega (arith, h))
-end_two (a ∷ []) h = absurd (omega (arith, h))
-end_two (a ∷ b ∷ []) h = refl
-end_two (a ∷ b ∷ c ∷ t) h = absurd (omega (arith, h))
-
-pub end_more : (t : List ℕ) → 2 < length t → false ≡ ends_line t
-end_more [] h = absurd (omega (arith, h))
-end_more (a ∷ []) h = absurd (omega (arith, h))
-end_more (a ∷ b ∷ []) h = absurd (omega (arith, h))
-end_more (a ∷ b ∷ c ∷ t) h = refl
 
 -- ---- lines
 

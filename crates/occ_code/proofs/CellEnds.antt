@@ -13,6 +13,7 @@ use Rattle.occ_code.proofs.Emitting.{drop_all}
 use Rattle.occ_code.specs.SameStop.{AreAbove, IsRising, Lists}
 use Rattle.occ_code.specs.Within.{AreWithin}
 use Rattle.occ_code.specs.Cells.{is_counted, counted, covers, end_of, furthest, reach, AreEnds, AreReached}
+use Rattle.occ_term.specs.UnfoldedProgram.{most_cells}
 
 -- ---- tests of numbers
 
@@ -239,7 +240,7 @@ no_uses us i writes_only es count h ends = subst (λ l. AreEnds es count (covers
 
 -- ---- where no number is past the limit, the furthest end is within it
 
-covers_first : (u : Use) (us : List Use) (writes_only : Bool) → AreWithin (covers writes_only (u ∷ us)) → (b : Bool) → (is_counted writes_only u.kind && nat_lt u.first u.end) ≡ b → (if b then u.end else 0) ≤ 65536
+covers_first : (u : Use) (us : List Use) (writes_only : Bool) → AreWithin (covers writes_only (u ∷ us)) → (b : Bool) → (is_counted writes_only u.kind && nat_lt u.first u.end) ≡ b → (if b then u.end else 0) ≤ most_cells
 covers_first u us writes_only h true e =
     let counts : is_counted writes_only u.kind ≡ true = first_true (is_counted writes_only u.kind) (nat_lt u.first u.end) e in
     let some : nat_lt u.first u.end ≡ true = second_true (is_counted writes_only u.kind) (nat_lt u.first u.end) e in
@@ -259,12 +260,12 @@ covers_first u us writes_only h true e =
     second_true false b h = absurd cc
 covers_first u us writes_only h false e = omega arith
 
-pub furthest_within : (us : List Use) (writes_only : Bool) → AreWithin (covers writes_only us) → furthest writes_only us ≤ 65536
+pub furthest_within : (us : List Use) (writes_only : Bool) → AreWithin (covers writes_only us) → furthest writes_only us ≤ most_cells
 furthest_within [] writes_only h = omega arith
 furthest_within (u ∷ us) writes_only h =
     let one = covers_first u us writes_only h (is_counted writes_only u.kind && nat_lt u.first u.end) refl in
     let others = furthest_within us writes_only (λ c m. h c (or_second (is_counted writes_only u.kind && between u.first u.end c) (covers writes_only us c) m)) in
     omega (arith, one, others)
 
-pub uses_furthest : (us : List Use) (writes_only : Bool) → AreWithin (counted writes_only (uses_in us)) → furthest writes_only us ≤ 65536
+pub uses_furthest : (us : List Use) (writes_only : Bool) → AreWithin (counted writes_only (uses_in us)) → furthest writes_only us ≤ most_cells
 uses_furthest us writes_only h = furthest_within us writes_only (λ c m. h c (subst IsTrue (covers_all us writes_only c) m))

@@ -22,6 +22,7 @@ use Rattle.occ_code.proofs.UsedCells.{keeps_within}
 use Rattle.occ_code.proofs.PassingArms.{number_below}
 use Rattle.occ_code.proofs.LaidOut.{compiled_do, there_below}
 use Rattle.occ_code.proofs.CodeSizes.{programs_are_small}
+use Rattle.occ_term.specs.UnfoldedProgram.{most_cells}
 
 -- a body has as many instructions as the code of its term
 body_length : (t : Term) (quantum : ℕ) (b : Body) → IsBodyOf t quantum b → length b.code ≡ length (whole_code t)
@@ -117,13 +118,13 @@ of_quantum (p ∷ ps) quantum (b ∷ bs) h (suc k) d within = of_quantum ps quan
 
 -- ---- no process uses a cell past the limit
 
-all_keep : (d : Declared) → ((c : ℕ) (t : Primitive) → d.types c ≡ Some t → c < 65536) → (ps : List Numbered) → AllCompile d ps → AllWithin ps
+all_keep : (d : Declared) → ((c : ℕ) (t : Primitive) → d.types c ≡ Some t → c < most_cells) → (ps : List Numbered) → AllCompile d ps → AllWithin ps
 all_keep d known [] h = tt
 all_keep d known (p ∷ ps) h = (keeps_within d known p.term h.0, all_keep d known ps h.1)
 
 pub all_within : (u : UnfoldedProgram) → IsWellFormed u → AllWithin (processes_of (meaning u))
 all_within u well =
-    let known : (c : ℕ) (t : Primitive) → (declared u).types c ≡ Some t → c < 65536 = λ c t h. (let lt = there_below (map (λ x. x.primitive) u.cells) c t h in omega (arith, lt, length-map u.cells (λ x. x.primitive), well.few_cells)) in
+    let known : (c : ℕ) (t : Primitive) → (declared u).types c ≡ Some t → c < most_cells = λ c t h. (let lt = there_below (map (λ x. x.primitive) u.cells) c t h in omega (arith, lt, length-map u.cells (λ x. x.primitive), well.few_cells)) in
     all_keep (declared u) known (processes_of (meaning u)) (well.typed, within (declared u) (meaning u) well.typed)
 
 all_numbered : (u : UnfoldedProgram) → IsWellFormed u → AreNumbered (declared u)

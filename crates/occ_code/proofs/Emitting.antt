@@ -47,23 +47,6 @@ emits_length {a} {b} {p} x =
 pub emits_since : {a b : List (Instr ℕ)} {p : List Instruction} → Emits a p b → length b - length a ≡ length p
 emits_since x = omega (arith, emits_length x)
 
--- an instruction in the place of the first one emitted
-pub emits_set : {a b c d : List (Instr ℕ)} {p : List Instruction} (x : Instr ℕ) (i j : Instruction) → Emits a (i ∷ []) b → Emits b p c → d ≡ set c (length a) x → emitted_instruction x ≡ j → Emits a (p ++ j ∷ []) d
-emits_set {a} {b} {c} {d} {p} x i j first others e same = from_one first.more first.added (sym n)
-  where
-    n : length first.more ≡ 1
-    n = let h = emits_length first in let k = ap length first.added ∙ length-append a first.more in omega (arith, h, k)
-
-    from_one : (more : List (Instr ℕ)) → b ≡ a ++ more → 1 ≡ length more → Emits a (p ++ j ∷ []) d
-    from_one [] q h = absurd (omega (arith, h))
-    from_one (y ∷ z ∷ zs) q h = absurd (omega (arith, h))
-    from_one (y ∷ []) q h =
-        record {
-          more = x ∷ others.more;
-          added = e ∙ ap (λ l. set l (length a) x) (others.added ∙ ap (λ l. l ++ others.more) q ∙ append_assoc a (y ∷ []) others.more) ∙ set-append_seam a y others.more x;
-          is = emitted-append (x ∷ []) others.more ∙ ap (λ l. l ++ emitted_instruction x ∷ []) others.is ∙ ap (λ k. p ++ k ∷ []) same;
-        }
-
 -- ---- what is left of a list
 
 pub drop_whole : {X : Type 0} (xs : List X) → drop 0 xs ≡ xs
@@ -76,25 +59,7 @@ drop_all [] (suc i) h = refl
 drop_all (x ∷ xs) zero h = absurd (omega (arith, h))
 drop_all (x ∷ xs) (suc i) h = drop_all xs i (omega (arith, h))
 
--- before its last one
-pub emits_first : {X : Type 0} (F : List X → List Instruction) (xs : List X) (a : List (Instr ℕ)) → F [] ≡ [] → Emits a (F (drop (length xs) xs)) a
-emits_first F xs a e = emits_as (emits_none a) (sym (ap F (drop_all xs (length xs) (omega arith)) ∙ e))
-
-pub emits_next : {X : Type 0} (F : List X → List Instruction) (one : X → List Instruction) (cons : (x : X) (xs : List X) → F (x ∷ xs) ≡ one x ++ F xs)
-    → (xs : List X) (i k : ℕ) (x : X) {a b c : List (Instr ℕ)} → k ≡ i + 1 → i < length xs → x ≡ get_or xs i x → Emits a (F (drop k xs)) b → Emits b (one x) c → Emits a (F (drop i xs)) c
-emits_next F one cons xs i k x e lt is others first =
-    let next : k ≡ suc i = omega (arith, e) in
-    let tail : F (drop i xs) ≡ one x ++ F (drop k xs) =
-    ap F (drop-cons xs i x lt) ∙ cons _ _ ∙ ap (λ y. one y ++ F (drop (suc i) xs)) (sym is) ∙ ap (λ n. one x ++ F (drop n xs)) (sym next) in
-    emits_as (emits_then others first) (sym tail)
-
-pub emits_whole : {X : Type 0} (F : List X → List Instruction) (xs : List X) {a b : List (Instr ℕ)} → Emits a (F (drop 0 xs)) b → Emits a (F xs) b
-emits_whole F xs x = emits_as x (ap F (drop_whole xs))
-
 -- ---- products
-
-pub product_all : (xs : List ℕ) → 1 ≡ product (drop (length xs) xs)
-product_all xs = sym (ap product (drop_all xs (length xs) (omega arith)))
 
 pub product_before : (xs : List ℕ) (i k x all : ℕ) → k ≡ i + 1 → i < length xs → x ≡ get_or xs i 0 → all ≡ product (drop k xs) → x * all ≡ product (drop i xs)
 product_before xs i k x all e lt is h =

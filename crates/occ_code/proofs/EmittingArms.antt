@@ -11,11 +11,6 @@ use Rattle.occ_code.specs.declared.compiler.instr.Instr.{Instr}
 use Rattle.occ_code.proofs.Emitting.{emits_then, emits_as, emits_length}
 use Rattle.occ_code.proofs.EmittingTerms.{behind_length, behind_set, behind_then}
 
-pub arms_next : (xs : List Arm) (i k : ℕ) (x : Arm) → k ≡ i + 1 → i < length xs → x ≡ get_or xs i x → arms_of (drop i xs) ≡ arm_of x (arms_of (drop k xs))
-arms_next xs i k x e lt is =
-    let next : suc i ≡ k = omega (arith, e) in
-    ap arms_of (drop-cons xs i x lt) ∙ ap (λ y. arm_of y (arms_of (drop (suc i) xs))) (sym is) ∙ ap (λ n. arm_of x (arms_of (drop n xs))) next
-
 module _ {before old : List (Instr ℕ)} (R : List Instruction) (end : ℕ) (others : Emits before R old) (within : end ≤ length before) where
   last_is : length old - end ≡ length R + (length before - end)
   last_is = omega (arith, emits_length others, within)

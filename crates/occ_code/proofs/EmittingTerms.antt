@@ -64,11 +64,6 @@ branches_next bs i k b e lt is =
     let next : suc i ≡ k = omega (arith, e) in
     ap branches_of (drop-cons bs i b lt) ∙ ap (λ y. branch_of y (branches_of (drop (suc i) bs))) (sym is) ∙ ap (λ n. branch_of b (branches_of (drop n bs))) next
 
-pub choices_next : (cs : List Choice) (i k : ℕ) (c : Choice) → k ≡ i + 1 → i < length cs → c ≡ get_or cs i c → choices_of (drop i cs) ≡ choice_of c (choices_of (drop k cs))
-choices_next cs i k c e lt is =
-    let next : suc i ≡ k = omega (arith, e) in
-    ap choices_of (drop-cons cs i c lt) ∙ ap (λ y. choice_of y (choices_of (drop (suc i) cs))) (sym is) ∙ ap (λ n. choice_of c (choices_of (drop n cs))) next
-
 pub options_next : (os : List Selection) (i k : ℕ) (o : Selection) → k ≡ i + 1 → i < length os → o ≡ get_or os i o → options_of (drop i os) ≡ option_of o (options_of (drop k os))
 options_next os i k o e lt is =
     let next : suc i ≡ k = omega (arith, e) in

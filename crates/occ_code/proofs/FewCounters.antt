@@ -125,11 +125,3 @@ mutual
 -- so a count of them that stops at the most of a word is exact, where the code has a length in a word
 pub all_counted : (t : Term) (n : ℕ) → n ≡ min (counters_of t) 18446744073709551615 → length (whole_code t) < 18446744073709551616 → n ≡ counters_of t
 all_counted t n e h = omega (arith, e, h, counters_short 0 t, length-append (term_code 0 t) (End ∷ []))
-
--- ---- counts that stop there
-
-pub two_more_stops : (a x n : ℕ) → a ≡ min x 18446744073709551615 → n ≡ min (a + 2) 18446744073709551615 → n ≡ min (x + 2) 18446744073709551615
-two_more_stops a x n e h = omega (arith, e, h)
-
-pub larger_stops : (a b x y n : ℕ) → n ≡ max a b → a ≡ min x 18446744073709551615 → b ≡ min y 18446744073709551615 → n ≡ min (max x y) 18446744073709551615
-larger_stops a b x y n h e g = omega (arith, e, g, h)

@@ -19,6 +19,7 @@ use Rattle.occ_term.proofs.TypedPlaces.{in_span, to_span}
 use Rattle.occ_usage.proofs.Components.{constant_below}
 use Rattle.occ_code.specs.SameStop.{used_by}
 use Rattle.occ_code.specs.Within.{AreWithin, KeepsWithin}
+use Rattle.occ_term.specs.UnfoldedProgram.{most_cells}
 
 -- ---- sets
 
@@ -28,7 +29,7 @@ none_within c h = absurd cc
 both_within : (a b : Numbers) → AreWithin a → AreWithin b → AreWithin (union a b)
 both_within a b p q c h = by (a c) refl h
   where
-    by : (x : Bool) → a c ≡ x → IsTrue (x || b c) → c < 65536
+    by : (x : Bool) → a c ≡ x → IsTrue (x || b c) → c < most_cells
     by true e h = p c e
     by false e h = q c h
 
@@ -65,12 +66,12 @@ part_within (then_subscript e es) first (n ∷ ns) whole p q =
     by None h part = q
     by (Some i) h part = part i h
 
-module _ (d : Declared) (known : (c : ℕ) (t : Primitive) → d.types c ≡ Some t → c < 65536) where
+module _ (d : Declared) (known : (c : ℕ) (t : Primitive) → d.types c ≡ Some t → c < most_cells) where
   cells_within : (at : Span) (t : Primitive) → CellsHave d.types at t → AreWithin (numbers_in at)
   cells_within at t h c m = known c t (h c m)
 
   cell_within : (x : ℕ) (t : Primitive) → d.types x ≡ Some t → AreWithin (λ c. nat_eq x c)
-  cell_within x t h c m = let same : x ≡ c = grind (arith, nat_tests) in subst (λ y. y < 65536) same (known x t h)
+  cell_within x t h c m = let same : x ≡ c = grind (arith, nat_tests) in subst (λ y. y < most_cells) same (known x t h)
 
   -- ---- expressions
 

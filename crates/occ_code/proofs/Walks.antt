@@ -15,6 +15,3 @@ place_after code pc pc' (i ∷ a) h = let e = place_after code (pc + 1) pc' a h.
 pub walks_on : {code : List Instruction} {a b c : Point} → Walks by_cell code a b → Walks by_cell code b c → Walks by_cell code a c
 walks_on here w = w
 walks_on (on e v) w = on e (walks_on v w)
-
-pub to_place : (code : List Instruction) (a : Point) (m n : ℕ) (at_place : ℕ → Point) → m ≡ n → Walks by_cell code a (at_place m) → Walks by_cell code a (at_place n)
-to_place code a m n at_place e w = subst (λ x. Walks by_cell code a (at_place x)) e w

@@ -48,12 +48,6 @@ kept_by_one n tables net c bytes few places holds marked =
 pub kept_fresh : (p : Program) (kb : List ℕ) (tables : Tables) → IsCompiled p → AreBytes kb → ((k : List ℕ) → Holds p k tables (first_net p k)) → length (replicate (length p.bodies) false) ≡ length p.bodies → IsKept (fresh p kb) tables
 kept_fresh p kb tables c bytes holds marked = kept_by_one (fresh p kb) tables (first_net p kb) c bytes (lit< tt) none_placed (holds kb) marked
 
-pub kept_same : (n : Past) (old new : Tables) → AreSame old new → IsKept n old → IsKept n new
-kept_same n old new same k = record { net = k.net; places = k.places; holds = λ now s. holds_as old new same n.program n.keyboard now (k.holds now s); bytes = k.bytes; marked = k.marked }
-
-pub kept_marks : (n : Past) (out : List Bool) (tables : Tables) → length out ≡ length n.out → IsKept n tables → IsKept (record n { out = out }) tables
-kept_marks n out tables e k = record { net = k.net; places = k.places; holds = k.holds; bytes = k.bytes; marked = e ∙ k.marked }
-
 -- ---- a turn
 
 pub stands : (n : Past) (tables : Tables) (k : IsKept n tables) → 1 + length n.choices < 2 ^ 64 → ending_of n.program.errors k.net ≡ None → Standing n.program n.keyboard tables

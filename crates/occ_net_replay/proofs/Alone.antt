@@ -69,7 +69,7 @@ entry_of ps lo hi (and_branch n t bs) i b h = by (or_else (nat_eq n i) (is_held 
 
 -- ---- channels
 
-output_on : (c : ℕ) (m : Message) (j : List Context) → IsTrue ((uses_of_left (left (Offering c m) j)).outs c)
+pub output_on : (c : ℕ) (m : Message) (j : List Context) → IsTrue ((uses_of_left (left (Offering c m) j)).outs c)
 output_on c m j = or_first (nat_eq c c) ((uses_of_contexts j).outs c) (eq-eqb c c refl)
 
 input_on : (c : ℕ) (list : Reception) (j : List Context) → IsTrue ((uses_of_left (left (Awaiting c list) j)).ins c)
@@ -135,13 +135,13 @@ module _ (d : Declared) (p : Program) (procs : List Numbered) (protocol : d.prot
   abbrev pub its_term : Term
   its_term = m.belongs.term
 
-  r : Ran d p procs 0 quantum n net.tasks m.belongs.body m.belongs.term l.own l.branches f.store after
+  pub r : Ran d p procs 0 quantum n net.tasks m.belongs.body m.belongs.term l.own l.branches f.store after
   r =
       ran d p procs 0 quantum n net.tasks f.proc f.store f.state l.own l.branches l.at m l.all o.before after l.same o.has_task o.may
       (all_at (λ b. b.quantum ≡ quantum) p.bodies n m.belongs.body same_quantum m.belongs.code)
       (subst (λ b. Stopping b o.before after) (one_body (sym o.has_body ∙ m.belongs.code)) o.stops)
 
-  at_wait : (w : Wait) → after.wait ≡ w → SameStop d (Alike 0 d m.belongs.body) after r.rest w
+  pub at_wait : (w : Wait) → after.wait ≡ w → SameStop d (Alike 0 d m.belongs.body) after r.rest w
   at_wait w e = subst (SameStop d (Alike 0 d m.belongs.body) after r.rest) e r.same
 
   -- a process that waits, without branches
@@ -200,12 +200,12 @@ module _ (d : Declared) (p : Program) (procs : List Numbered) (protocol : d.prot
   hears i c t h (W.Faulted x) e q = absurd (true≢false (sym q))
 
   -- what is left after the turn inputs on the channel, which has a protocol
-  record Listener (c : ℕ) : Type 0 where
+  pub record Listener (c : ℕ) : Type 0 where
     pub ins : IsTrue ((uses_of_left r.rest).ins c)
     pub of : Protocol
     pub has : d.protocols c ≡ Some of
 
-  listener : (c : ℕ) (w : Wait) → after.wait ≡ w → IsTrue (listens_on w c) → Listener c
+  pub listener : (c : ℕ) (w : Wait) → after.wait ≡ w → IsTrue (listens_on w c) → Listener c
   listener c W.Ready e q = absurd (true≢false (sym q))
   listener c (W.Took arm is v) e q = absurd (true≢false (sym q))
   listener c (W.Offers k v) e q = absurd (true≢false (sym q))
@@ -307,6 +307,13 @@ module _ (d : Declared) (p : Program) (procs : List Numbered) (protocol : d.prot
           free = fork_free;
           alone = fork_alone;
         }
+
+  -- its branches are numbered within its term
+  pub fork_within : (ns : List ℕ) → after.wait ≡ W.Joins ns → (i : ℕ) → IsTrue (is_held ns i) → (n + 1 ≤ i) × (i < n + 1 + size its_term)
+  fork_within ns e i h =
+      let x = at_wait (W.Joins ns) e in
+      let placed : LeftPlaced procs (n + 1) (n + 1 + size its_term) (left (Forking x.1) x.0) = subst (LeftPlaced procs (n + 1) (n + 1 + size its_term)) x.2 r.placed in
+      its_branches x.1 placed.0.0 i (subst (λ k. IsTrue (is_held k i)) (sym x.3) h)
 
   pub forks_alone : (ns : List ℕ) → after.wait ≡ W.Joins ns → ForksAlone p net.tasks n ns
   forks_alone ns e =

@@ -28,10 +28,11 @@ mod Moments
 pub mod Law
 mod Beside
 pub mod Alone
-mod Orderly
+pub mod Orderly
 pub mod Same
 pub mod MomentExamples
 pub mod Arms
 pub mod Choosing
 pub mod Earlier
+pub mod TwoTurns
 pub mod OneRun

@@ -293,7 +293,7 @@ same_last (z ∷ xs) (w ∷ ys) x y e =
     (ap (λ l. l ∷ xs) first ∙ ap (λ l. w ∷ l) rest.0, rest.1)
 
 module _ (u : UnfoldedProgram) (p : Program) (quantum : ℕ) (kb : List ℕ) (w : IsWellFormed u) (lawful : Lawful u) (from : IsCompiledFrom u quantum p) (bytes : AreBytes kb) where
-  ordered : (cs : List Choice) (net : Net) → 1 + length cs < 2 ^ 64 → Replays p kb cs net → Orderly net.tasks
+  pub ordered : (cs : List Choice) (net : Net) → 1 + length cs < 2 ^ 64 → Replays p kb cs net → Orderly net.tasks
   ordered cs net small r =
       let x = all_followed u p quantum kb w lawful from bytes cs net 1 small r in
       orderly (d u p quantum kb w lawful from bytes) p (procs u p quantum kb w lawful from bytes) 1 net.tasks x.follows.proc x.follows.store x.follows.state (meaning u) lawful refl

@@ -34,9 +34,6 @@ use Rattle.occ_net_replay.proofs.Turning.{part_of_part}
 
 -- ---- a wait that no constructor of another one can be
 
-pub wait_is : {w v : Wait} → w ≡ v → (f : Wait → Bool) → f v ≡ true → f w ≡ false → ⊥
-wait_is e f a b = true≢false (sym a ∙ sym (ap f e) ∙ b)
-
 abbrev pub is_offer : Wait → Bool
 is_offer W.Ready = false
 is_offer (W.Took arm is m) = false

@@ -13,6 +13,7 @@ use Rattle.occ_code.specs.declared.task.Wait.{Wait}
 use Rattle.occ_code.specs.declared.task.Wait.TheVariants.{Ready, Took, Offers, Awaits, Chooses, Joins, Halted, Done, Faulted}
 use Rattle.occ_net_replay.specs.declared.choice.Choice.{Choice}
 use Rattle.occ_net_replay.specs.Following.{AreBytes}
+use Rattle.occ_net_replay.specs.Moments.{is_read}
 use Rattle.occ_net_replay.specs.Replay.{Net, Tasks, HasTask, may_go, Replays}
 
 -- a replay of the code of a lawful program, whose bodies have one quantum, that can go on by a choice
@@ -84,6 +85,30 @@ abbrev pub TurnsListenAlone : Type 0
 TurnsListenAlone =
     (u : UnfoldedProgram) (p : Program) (quantum : ℕ) (keyboard : List ℕ) (cs : List Choice) (net : Net) (n : ℕ) (after : Task) (c : ℕ)
     → IsReplay u p quantum keyboard cs net → IsTurn p net.tasks n after → IsTrue (listens_on after.wait c) → ListensAlone p net.tasks c
+
+-- two processes do not offer on one channel, nor wait for a message on one, nor fork one branch
+pub record OnOthers (v w : Wait) : Type 0 where
+  pub offers : (c : ℕ) (m k : Message) → v ≡ Offers c m → w ≡ Offers c k → ⊥
+  pub listens : (c : ℕ) → IsTrue (listens_on v c) → IsTrue (listens_on w c) → ⊥
+  pub forks : (ns ms : List ℕ) (i : ℕ) → v ≡ Joins ns → w ≡ Joins ms → IsTrue (is_held ns i) → IsTrue (is_held ms i) → ⊥
+
+-- the next turns of two processes end apart
+abbrev pub TurnsAreApart : Type 0
+TurnsAreApart =
+    (u : UnfoldedProgram) (p : Program) (quantum : ℕ) (keyboard : List ℕ) (cs : List Choice) (net : Net) (n m : ℕ) (after other : Task)
+    → IsReplay u p quantum keyboard cs net → IsTurn p net.tasks n after → IsTurn p net.tasks m other → (n ≡ m → ⊥) → OnOthers after.wait other.wait
+
+-- where the main process may take a turn, nobody else may
+abbrev pub MainTurnsAlone : Type 0
+MainTurnsAlone =
+    (u : UnfoldedProgram) (p : Program) (quantum : ℕ) (keyboard : List ℕ) (cs : List Choice) (net : Net) (m : ℕ) (after other : Task)
+    → IsReplay u p quantum keyboard cs net → IsTurn p net.tasks 0 after → IsTurn p net.tasks m other → (0 ≡ m → ⊥) → ⊥
+
+-- no turn ends at an input from the screen's channel or from the error channel
+abbrev pub TurnsHearNoScreen : Type 0
+TurnsHearNoScreen =
+    (u : UnfoldedProgram) (p : Program) (quantum : ℕ) (keyboard : List ℕ) (cs : List Choice) (net : Net) (n : ℕ) (after : Task) (c : ℕ)
+    → IsReplay u p quantum keyboard cs net → IsTurn p net.tasks n after → IsTrue (listens_on after.wait c) → IsTrue (is_read c) → ⊥
 
 -- no turn ends with a message taken: what is taken is taken between turns
 abbrev pub TurnsNeverTake : Type 0

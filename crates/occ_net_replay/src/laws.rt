@@ -9,7 +9,7 @@ ghost use Rattle.occ_net_replay.specs.MomentExamples.{EitherArmRows, MissingRows
 ghost use Rattle.occ_net_replay.specs.Moments.{OneRunForAll, OneRunThroughout, ReadyGoOn, ReplaysAreOneRun, RunsGoOn};
 ghost use Rattle.occ_net_replay.specs.OneReplay.{OneReplay};
 ghost use Rattle.occ_net_replay.specs.Sharing.{ReplaysShareStore};
-ghost use Rattle.occ_net_replay.specs.Waiting.{TurnsAreFew, TurnsForkAlone, TurnsListenAlone, TurnsNeverTake, TurnsOfferAlone};
+ghost use Rattle.occ_net_replay.specs.Waiting.{MainTurnsAlone, TurnsAreFew, TurnsForkAlone, TurnsListenAlone, TurnsAreApart, TurnsHearNoScreen, TurnsNeverTake, TurnsOfferAlone};
 
 /// A replay of the code of a lawful program is a run of the program.
 pub fn replays_are_runs()
@@ -142,4 +142,19 @@ pub fn ready_go_on()
 /// them, and goes on from the system that this one came to.
 pub fn runs_go_on()
     ensures { RunsGoOn }
+{}
+
+/// The next turns of two processes end on different channels.
+pub fn turns_are_apart()
+    ensures { TurnsAreApart }
+{}
+
+/// No turn ends at an input from the screen's channel or from the error channel.
+pub fn turns_hear_no_screen()
+    ensures { TurnsHearNoScreen }
+{}
+
+/// Where the main process may take a turn, nobody else may.
+pub fn main_turns_alone()
+    ensures { MainTurnsAlone }
 {}

@@ -170,9 +170,6 @@ module _ (p : Program) (kb : List ℕ) (old : Tables) (number place : ℕ) (afte
 
   -- ---- the screen or the error channel takes what is offered
 
-  read_net : ℕ → Message → S.End → Net
-  read_net c m y = traced (record (with_task now number (made_ready after)) { output = one_more net.output c m; input = one_more net.input c m }) (S.communication c (S.OfProcess number) y m)
-
   read_settles : (pick c : ℕ) (m : Message) (r : End) → after.wait ≡ W.Offers c m → Reads c r → Settled p.bodies number pick now (traced (record (with_task now number (made_ready after)) { output = one_more net.output c m; input = one_more net.input c m }) (S.communication c (S.OfProcess number) (end_of r) m))
   read_settles pick c m r w screen_reads = settles (meets (inl refl) (joined (task_gives (mine p.bodies pick number net mid.before after mid.has_task) w) (screen_gets refl)))
   read_settles pick c m r w error_reads = settles (meets (inl refl) (joined (task_gives (mine p.bodies pick number net mid.before after mid.has_task) w) (error_gets refl)))

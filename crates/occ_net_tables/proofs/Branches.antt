@@ -35,9 +35,6 @@ has_body p i h e = let x = get_some p.bodies i h in let q = sym x.1 ∙ e in cc
 
 -- ---- the branches begin
 
-pub begun_task : Body → Variables → Tasks → ℕ → Task
-begun_task b f tasks n = first_task n (turns_at tasks n) (copied b f)
-
 module _ (bodies : List Body) (f : Variables) where
   pub branches_length : (ns : List ℕ) (tasks : Tasks) → length (with_branches bodies f ns tasks) ≡ length tasks
   branches_length [] tasks = refl

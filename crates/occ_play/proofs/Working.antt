@@ -41,9 +41,3 @@ workers_refuse workers options source (play.Code f) h = h
 workers_refuse workers options source (play.Write written) h = h
 workers_refuse workers options source (play.Run f) h = absurd h
 workers_refuse workers options source (play.Memory e) h = h
-
-pub run_refuses : (workers : ℕ) (options : Options) (source : List ℕ) (p : Program) (fault : RunFault) → IsTextsCode options source p → (fault ≡ run.BadWorkers → (workers ≡ 0) ⊎ (most_workers < workers)) → WorkersRefuse workers options source (play.Run fault)
-run_refuses workers options source p run.Foreign code h = (p, code)
-run_refuses workers options source p run.BadWorkers code h = ((p, code), h refl)
-run_refuses workers options source p run.Spawn code h = (p, code)
-run_refuses workers options source p run.Memory code h = (p, code)

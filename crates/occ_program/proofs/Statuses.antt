@@ -52,20 +52,6 @@ fault_small (play.Run run.BadWorkers) = omega arith
 fault_small (play.Run f) = omega arith
 fault_small (play.Memory e) = omega arith
 
-pub status_small : (r : Result Played PlayFault) → status r ≤ 7
-status_small (Ok played) = ending_small played.ending
-status_small (Err fault) = fault_small fault
-
-pub failure_small : (f : Failure) → failure_status f ≤ 7
-failure_small (Help error) = omega arith
-failure_small Memory = omega arith
-failure_small (Read name error) = omega arith
-failure_small (Choices choice.Memory) = omega arith
-failure_small (Choices fault) = omega arith
-failure_small Write = omega arith
-failure_small (Words error) = omega arith
-failure_small Arguments = omega arith
-
 came_from_fault : {W : Type 0} (contents : W → Option (List ℕ)) (Answers : Played → List ℕ → Type 0) (Refusal : PlayFault → Type 0) (old new : Counted W) (f : PlayFault)
     → AfterFault contents (λ bytes. (played : Played) × Answers played bytes) Refusal old new f → CameTo Answers Refusal (Err f)
 came_from_fault contents Answers Refusal old new (play.Text f) h = h.0
@@ -104,11 +90,6 @@ pub came_to_both : {Done : Type 0} (workers : Option ℕ) (words : Asked) (sourc
     → IfErr drawn (Refuses (options_in words) source) → CameToBy workers words source keyboard list r → CameToBy workers words source keyboard list (result_and drawn r)
 came_to_both workers words source keyboard list (Ok done) r h g = g
 came_to_both workers words source keyboard list (Err f) r h g = refused_by workers words source keyboard list f h
-
--- a drawing that was refused wrote nothing, and the text is refused
-pub refused_drawing : {Done : Type 0} (options : Options) (source keyboard : List ℕ) (list : List Choice) (most : ℕ) (old new : Option (List ℕ)) (r : Result Done PlayFault) → Draws options source keyboard list most old new r → IfErr r (Refuses options source)
-refused_drawing options source keyboard list most old new (Ok done) h = tt
-refused_drawing options source keyboard list most old new (Err f) h = h.0
 
 -- what was played has its status, and so has a failure
 pub played_status : (words : Asked) (r : Result ℕ Failure) → IfOk r (IsStatusFor words) → IfOk r ProgramStatus

@@ -11,20 +11,15 @@ use Rattle.occ_term.specs.View as View
 use Rattle.occ_term.specs.View.{expression_of, place_of}
 use Rattle.occ_term.specs.declared.expression.TermExpr.{TermExpr, the_lemmas}
 use Rattle.occ_term.specs.declared.expression.Place.{Place}
+use Rattle.occ_term.specs.UnfoldedProgram.{most_cells}
 
 -- one more part fits
 pub one_more : (size i p : ℕ) → i < size → i * p + p ≤ size * p
 one_more size i p within = omega (arith, mul-le-mul_right {m = suc i} {n = size} p within, suc-mul i p)
 
-module _ (first size i p : ℕ) (few : 0 < size * p → first + size * p ≤ 65536) (within : i < size) where
-  pub part_few : 0 < p → (first + i * p) + p ≤ 65536
+module _ (first size i p : ℕ) (few : 0 < size * p → first + size * p ≤ most_cells) (within : i < size) where
+  pub part_few : 0 < p → (first + i * p) + p ≤ most_cells
   part_few h = let m = one_more size i p within in omega (arith, few (omega (arith, m)))
-
-  pub part_product : p ≤ 65536
-  part_product = elim (eq-zero-or-pos p) [ inl e ↦ omega arith | inr h ↦ omega (arith, part_few h) ]
-
-  pub part_fits : first < 4294967296 → first + i * p < 4294967296
-  part_fits f = elim (eq-zero-or-pos p) [ inl e ↦ omega (arith, ap (λ x. i * x) e, mul-zero i) | inr h ↦ omega (arith, part_few h) ]
 
 -- ---- the code's way through the subscripts of a place
 

@@ -122,18 +122,6 @@ span_beyond xs held (v ∷ vs) first bound h m =
     let same : values_with xs held first v ≡ held = with_there xs held first v None (sym none) in
     ap (λ ws. span_with xs ws (first + 1) vs) same ∙ span_beyond xs held vs (first + 1) bound h (omega arith)
 
-pub span_step : (xs : List ℕ) (held : List ℤ) (first i : ℕ) (vs : List ℤ) (d : ℤ) → i < length vs → span_with xs (values_with xs held (first + i) (get_or vs i d)) (first + (i + 1)) (drop (i + 1) vs) ≡ span_with xs held (first + i) (drop i vs)
-span_step xs held first i vs d h =
-    let next : first + (i + 1) ≡ first + i + 1 = omega arith in
-    ap (λ m. span_with xs (values_with xs held (first + i) (get_or vs i d)) m (drop (i + 1) vs)) next
-    ∙ sym (at_drop_more (span_with xs held (first + i)) vs i d h)
-
-pub span_end : (xs : List ℕ) (held : List ℤ) (first i : ℕ) (vs : List ℤ) → length vs ≤ i → span_with xs held (first + i) (drop i vs) ≡ held
-span_end xs held first i vs h = at_drop_all (span_with xs held (first + i)) vs i h
-
-pub span_start : (xs : List ℕ) (held : List ℤ) (first : ℕ) (vs : List ℤ) → span_with xs held (first + 0) (drop 0 vs) ≡ span_with xs held first vs
-span_start xs held first vs = ap (λ m. span_with xs held m vs) (add-zero first)
-
 -- ---- zeros in a row
 
 pub zeros_step : (xs : List ℕ) (held : List ℤ) (first i n : ℕ) → i < n → span_with xs (values_with xs held (first + i) (pos 0)) (first + (i + 1)) (replicate (n - (i + 1)) (pos 0)) ≡ span_with xs held (first + i) (replicate (n - i) (pos 0))
@@ -142,16 +130,6 @@ zeros_step xs held first i n h =
     let more : n - i ≡ suc (n - (i + 1)) = omega (arith, h) in
     ap (λ m. span_with xs (values_with xs held (first + i) (pos 0)) m (replicate (n - (i + 1)) (pos 0))) next
     ∙ sym (ap (λ m. span_with xs held (first + i) (replicate m (pos 0))) more)
-
-pub zeros_start : (xs : List ℕ) (held : List ℤ) (first n : ℕ) → span_with xs held (first + 0) (replicate (n - 0) (pos 0)) ≡ span_with xs held first (replicate n (pos 0))
-zeros_start xs held first n =
-    let same : n - 0 ≡ n = omega arith in
-    ap (λ m. span_with xs held m (replicate (n - 0) (pos 0))) (add-zero first) ∙ ap (λ m. span_with xs held first (replicate m (pos 0))) same
-
-pub zeros_end : (xs : List ℕ) (held : List ℤ) (first i n : ℕ) → n ≤ i → span_with xs held (first + i) (replicate (n - i) (pos 0)) ≡ held
-zeros_end xs held first i n h =
-    let none : n - i ≡ 0 = omega (arith, h) in
-    ap (λ m. span_with xs held (first + i) (replicate m (pos 0))) none
 
 -- ---- counters
 

@@ -133,26 +133,3 @@ is_word Int v h = h
 word_of : (t : Primitive) (v : Evaluated ℤ) → OfType t v → OfType Int v
 word_of t (Value v) h = is_word t v h
 word_of t (Fails e) h = tt
-
--- whatever the types, an operator's value is one of INT
-pub binary_word : (op : Operator) (t : Primitive) (line : ℕ) (a b : ℤ) → OfType Int (binary op t line a b)
-binary_word Add t line a b = word_of t (binary Add t line a b) (arithmetic_typed Add t line a b refl)
-binary_word Subtract t line a b = word_of t (binary Subtract t line a b) (arithmetic_typed Subtract t line a b refl)
-binary_word Multiply t line a b = word_of t (binary Multiply t line a b) (arithmetic_typed Multiply t line a b refl)
-binary_word Divide t line a b = word_of t (binary Divide t line a b) (arithmetic_typed Divide t line a b refl)
-binary_word Remainder t line a b = word_of t (binary Remainder t line a b) (arithmetic_typed Remainder t line a b refl)
-binary_word Plus t line a b = word_of t (binary Plus t line a b) (arithmetic_typed Plus t line a b refl)
-binary_word Minus t line a b = word_of t (binary Minus t line a b) (arithmetic_typed Minus t line a b refl)
-binary_word Times t line a b = word_of t (binary Times t line a b) (arithmetic_typed Times t line a b refl)
-binary_word BitAnd t line a b = word_of t (binary BitAnd t line a b) (arithmetic_typed BitAnd t line a b refl)
-binary_word BitOr t line a b = word_of t (binary BitOr t line a b) (arithmetic_typed BitOr t line a b refl)
-binary_word BitXor t line a b = word_of t (binary BitXor t line a b) (arithmetic_typed BitXor t line a b refl)
-binary_word ShiftLeft t line a b = word_of t (binary ShiftLeft t line a b) (shift_typed ShiftLeft t line a b refl)
-binary_word ShiftRight t line a b = word_of t (binary ShiftRight t line a b) (shift_typed ShiftRight t line a b refl)
-binary_word After t line a b = is_word Boolean (truth (int_lt (pos 0) (wrapped Int (a -ℤ b)))) (truth_typed (int_lt (pos 0) (wrapped Int (a -ℤ b))))
-binary_word Equal t line a b = word_of Boolean (binary Equal t line a b) (equality_typed Equal t line a b refl)
-binary_word Unequal t line a b = word_of Boolean (binary Unequal t line a b) (equality_typed Unequal t line a b refl)
-binary_word Less t line a b = word_of Boolean (binary Less t line a b) (order_typed Less t line a b refl)
-binary_word Greater t line a b = word_of Boolean (binary Greater t line a b) (order_typed Greater t line a b refl)
-binary_word AtMost t line a b = word_of Boolean (binary AtMost t line a b) (order_typed AtMost t line a b refl)
-binary_word AtLeast t line a b = word_of Boolean (binary AtLeast t line a b) (order_typed AtLeast t line a b refl)

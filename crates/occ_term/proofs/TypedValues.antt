@@ -11,6 +11,7 @@ use Rattle.occ_term.specs.Evaluation.{CanBeEvaluated, IsWord, Bounded, BoundedPl
 use Rattle.occ_term.specs.TypedSteps.{ValuesHaveTypes}
 use Rattle.occ_term.proofs.TypedOperators.{OfType, in_type_typed, truth_typed, binary_typed, not_typed, converted_typed, is_word}
 use Rattle.occ_term.proofs.TypedPlaces.{to_span, places_lie_within}
+use Rattle.occ_term.specs.UnfoldedProgram.{most_cells}
 
 pub or_left : (a b : Bool) → IsTrue a → IsTrue (a || b)
 or_left true b h = refl
@@ -100,20 +101,20 @@ at_most a b = grind arith
 none_some : (x : Option Primitive) (t : Primitive) → x ≡ None → x ≡ Some t → ⊥
 none_some x t h k = cc
 
-few_cells : (types : ℕ → Option Primitive) (first count : ℕ) (t : Primitive) → ((c : ℕ) → 65536 ≤ c → types c ≡ None) → CellsHave types (span first count) t → 0 < count → first + count ≤ 65536
+few_cells : (types : ℕ → Option Primitive) (first count : ℕ) (t : Primitive) → ((c : ℕ) → most_cells ≤ c → types c ≡ None) → CellsHave types (span first count) t → 0 < count → first + count ≤ most_cells
 few_cells types first zero t few h m = absurd (omega arith)
 few_cells types first (suc n) t few h m =
-    elim (at_most (first + n) 65536) [
+    elim (at_most (first + n) most_cells) [
       | inl below ↦ omega arith
       | inr above ↦ let a = few (first + n) above in let b = h (first + n) (to_span first (suc n) (first + n) (omega arith) (omega arith)) in absurd (none_some (types (first + n)) t a b)
     ]
 
-module _ (types : ℕ → Option Primitive) (s : Store) (few : (c : ℕ) → 65536 ≤ c → types c ≡ None) where
+module _ (types : ℕ → Option Primitive) (s : Store) (few : (c : ℕ) → most_cells ≤ c → types c ≡ None) where
   pub word : (e : Expression) (t : Primitive) → HasType types e t → TypedOn (reads_of e) types s → IsWord e s
   word e t h k v q = is_word t v (values_have_types types s e t v h k q)
 
 mutual
-  pub bounded : (types : ℕ → Option Primitive) (s : Store) (few : (c : ℕ) → 65536 ≤ c → types c ≡ None) (e : Expression) (t : Primitive) → HasType types e t → TypedOn (reads_of e) types s → Bounded e s
+  pub bounded : (types : ℕ → Option Primitive) (s : Store) (few : (c : ℕ) → most_cells ≤ c → types c ≡ None) (e : Expression) (t : Primitive) → HasType types e t → TypedOn (reads_of e) types s → Bounded e s
   bounded types s few (Constant v) t h k = tt
   bounded types s few (Cell c) t h k = tt
   bounded types s few (Component p) t h k = bounded_place types s few p t [] h (second_typed types s (named_by p) (reads_in_place p) k)
@@ -131,11 +132,11 @@ mutual
       (bounded types s few a Boolean h.1 (first_typed types s (reads_of a) (reads_of b) k), bounded types s few b Boolean h.2 (second_typed types s (reads_of a) (reads_of b) k))
   bounded types s few (Conversion to line a) t h k = bounded types s few a h.1 h.2 k
 
-  pub bounded_place : (types : ℕ → Option Primitive) (s : Store) (few : (c : ℕ) → 65536 ≤ c → types c ≡ None) (p : Place) (t : Primitive) (rest : List ℕ) → PlaceHas types p t rest → TypedOn (reads_in_place p) types s → BoundedPlace p s
+  pub bounded_place : (types : ℕ → Option Primitive) (s : Store) (few : (c : ℕ) → most_cells ≤ c → types c ≡ None) (p : Place) (t : Primitive) (rest : List ℕ) → PlaceHas types p t rest → TypedOn (reads_in_place p) types s → BoundedPlace p s
   bounded_place types s few (place line first sizes subs) t rest h k =
       (few_cells types first (product sizes) t few h.0, bounded_subscripts types s few subs sizes rest h.1 k)
 
-  pub bounded_subscripts : (types : ℕ → Option Primitive) (s : Store) (few : (c : ℕ) → 65536 ≤ c → types c ≡ None) (subs : Subscripts) (sizes rest : List ℕ) → SubscriptsLeave types subs sizes rest → TypedOn (reads_in_subscripts subs) types s → BoundedSubscripts subs s
+  pub bounded_subscripts : (types : ℕ → Option Primitive) (s : Store) (few : (c : ℕ) → most_cells ≤ c → types c ≡ None) (subs : Subscripts) (sizes rest : List ℕ) → SubscriptsLeave types subs sizes rest → TypedOn (reads_in_subscripts subs) types s → BoundedSubscripts subs s
   bounded_subscripts types s few no_subscripts sizes rest h k = tt
   bounded_subscripts types s few (then_subscript e es) [] rest h k = absurd h
   bounded_subscripts types s few (then_subscript e es) (n ∷ ns) rest h k = (

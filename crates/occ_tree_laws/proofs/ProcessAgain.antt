@@ -118,14 +118,6 @@ head_again variant b h pos f = variant_head_again b h f
 
 -- ---- the first line of a process, of a declaration
 
--- the line of a declaration
-first_head : Decl → DeclHead
-first_head (declares l es t v vs) = names es t v vs
-first_head (item (value_item l t v e)) = value t v e
-first_head (item (protocol_item (of_parts l v p ps))) = parts v p ps
-first_head (item (protocol_item (of_tags l v case_line ts end_line))) = tags v
-first_head (item (proc_item l v fs m end_line)) = procedure v fs
-
 -- the lines begin a declaration at this level
 BeginsDecl : ℕ → List LogicalLine → Type 0
 BeginsDecl level [] = ⊥

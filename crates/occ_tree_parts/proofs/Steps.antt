@@ -40,16 +40,6 @@ unfolding tags_at
 next_tags b zero level l v lines ne = absurd (omega arith)
 next_tags b (suc n) level l v lines ne = let k : suc n - 1 ≡ n = omega arith in rw k refl
 
-pub no_node_at : (b n level : ℕ) (kind : Kind) (lines : List LogicalLine) → n ≡ 0 → node_at b n level kind lines ≡ None
-unfolding node_at
-no_node_at b zero level kind lines e = refl
-no_node_at b (suc n) level kind lines e = absurd (omega arith)
-
-pub next_node_at : (b n level : ℕ) (kind : Kind) (lines : List LogicalLine) → n ≢ 0 → node_at b n level kind lines ≡ node_with kind b (n - 1) level (node_at b (n - 1) (level + 1)) lines
-unfolding node_at
-next_node_at b zero level kind lines ne = absurd (omega arith)
-next_node_at b (suc n) level kind lines ne = let k : suc n - 1 ≡ n = omega arith in rw k refl
-
 -- every fault is one where there is nothing
 pub fails_none : {Y : Type 0} (e : ParseFault) (read : Option Y) → read ≡ None → Fails e read
 fails_none Memory read h = tt

@@ -246,10 +246,6 @@ pub record Scan (left : Uses) (right : List Use) (i : ℕ) : Type 0 where
   pub none : ((rule : Rule) (n : ℕ) → breaking rule n left (uses_in (drop i right)) ≡ false) → (rule : Rule) (n : ℕ) → breaking rule n left (uses_in right) ≡ false
   pub some : (rule : Rule) (n : ℕ) → breaking rule n left (uses_in (drop i right)) ≡ true → breaking rule n left (uses_in right) ≡ true
 
-pub scan_first : (left : Uses) (right : List Use) → Scan left right 0
-scan_first left [] = record { none = λ h. h; some = λ rule n h. h }
-scan_first left (u ∷ us) = record { none = λ h. h; some = λ rule n h. h }
-
 abbrev pub use_at : Use → Uses
 use_at u = use_of u.kind (between u.first u.end)
 

@@ -120,65 +120,8 @@ used_none Write = refl
 used_none Input = refl
 used_none Output = refl
 
-pub used_other : (k other : Kind) (s : Numbers) → same_kind other k ≡ false → used k (use_of other s) ≡ empty_set
-used_other Read Read s e = absurd cc
-used_other Read Write s e = refl
-used_other Read Input s e = refl
-used_other Read Output s e = refl
-used_other Write Read s e = refl
-used_other Write Write s e = absurd cc
-used_other Write Input s e = refl
-used_other Write Output s e = refl
-used_other Input Read s e = refl
-used_other Input Write s e = refl
-used_other Input Input s e = absurd cc
-used_other Input Output s e = refl
-used_other Output Read s e = refl
-used_other Output Write s e = refl
-used_other Output Input s e = refl
-used_other Output Output s e = absurd cc
-
-pub used_same : (k other : Kind) (s : Numbers) → same_kind other k ≡ true → used k (use_of other s) ≡ s
-used_same Read Read s e = refl
-used_same Read Write s e = absurd cc
-used_same Read Input s e = absurd cc
-used_same Read Output s e = absurd cc
-used_same Write Read s e = absurd cc
-used_same Write Write s e = refl
-used_same Write Input s e = absurd cc
-used_same Write Output s e = absurd cc
-used_same Input Read s e = absurd cc
-used_same Input Write s e = absurd cc
-used_same Input Input s e = refl
-used_same Input Output s e = absurd cc
-used_same Output Read s e = absurd cc
-used_same Output Write s e = absurd cc
-used_same Output Input s e = absurd cc
-used_same Output Output s e = refl
-
 empty_between : (a b : ℕ) → b ≤ a → between a b ≡ empty_set
 empty_between a b h = fun_ext (λ c. grind (arith, nat_tests))
-
-pub used_empty : (k other : Kind) (a b : ℕ) → b ≤ a → used k (use_of other (between a b)) ≡ empty_set
-used_empty k other a b h = ap (λ s. used k (use_of other s)) (empty_between a b h) ∙ by k other
-  where
-    by : (k other : Kind) → used k (use_of other empty_set) ≡ empty_set
-    by Read Read = refl
-    by Read Write = refl
-    by Read Input = refl
-    by Read Output = refl
-    by Write Read = refl
-    by Write Write = refl
-    by Write Input = refl
-    by Write Output = refl
-    by Input Read = refl
-    by Input Write = refl
-    by Input Input = refl
-    by Input Output = refl
-    by Output Read = refl
-    by Output Write = refl
-    by Output Input = refl
-    by Output Output = refl
 
 covered_push : (S : List Span) (s : Span) (c : ℕ) → covered (S ++ s ∷ []) c ≡ (covered S c || between s.first s.end c)
 covered_push [] s c = or_none (between s.first s.end c)
@@ -188,10 +131,6 @@ covered_push (t ∷ ts) s c = ap (λ b. between t.first t.end c || b) (covered_p
 pub record Spans (k : Kind) (uses : List Use) (i : ℕ) (S : List Span) : Type 0 where
   pub filled : AreFilled S
   pub is : union (covered S) (used k (uses_in (drop i uses))) ≡ used k (uses_in uses)
-
-pub spans_first : (k : Kind) (uses : List Use) → Spans k uses 0 []
-spans_first k [] = record { filled = λ j d h. absurd (omega arith); is = refl }
-spans_first k (u ∷ us) = record { filled = λ j d h. absurd (omega arith); is = refl }
 
 spans_tail : (k : Kind) (uses : List Use) (i : ℕ) (x : Use) → i < length uses → x ≡ get_or uses i x
     → used k (uses_in (drop i uses)) ≡ union (used k (use_of x.kind (between x.first x.end))) (used k (uses_in (drop (i + 1) uses)))
@@ -247,9 +186,6 @@ at_most a b h = grind (arith, nat_tests)
 
 pub above : (a b : ℕ) → nat_le a b ≡ false → b < a
 above a b h = grind (arith, nat_tests)
-
-pub no_numbers : (a b c : ℕ) → b ≤ a → a ≤ c → c < b → (x : Bool) → x ≡ false
-no_numbers a b c h l u x = absurd (omega arith)
 
 pub covered_item : (S : List Span) (k : ℕ) (x : Span) → x ≡ get_or S k x → k < length S → AreFilled S → covered S x.first ≡ true
 covered_item S k x is inside filled =

@@ -59,10 +59,6 @@ adds_before {a} {b} {c} {u} {v} p q = record { is = (adds_then p q).is ∙ ap (�
 pub record Left {X : Type 0} (U : List X → Uses) (xs : List X) (i : ℕ) (before now : List Use) : Type 0 where
   pub is : with_use (uses_in now) (U (drop i xs)) ≡ with_use (uses_in before) (U xs)
 
-pub left_first : {X : Type 0} (U : List X → Uses) (xs : List X) (us : List Use) → Left U xs 0 us us
-left_first U [] us = record { is = refl }
-left_first U (x ∷ xs) us = record { is = refl }
-
 pub left_next : {X : Type 0} (U : List X → Uses) (one : X → Uses) (cons : (x : X) (xs : List X) → U (x ∷ xs) ≡ with_use (one x) (U xs)) →
     (xs : List X) (i : ℕ) (x : X) (before now later : List Use) → i < length xs → x ≡ get_or xs i x → Left U xs i before now → Adds now (one x) later
     → Left U xs (i + 1) before later

@@ -55,18 +55,7 @@ finds_then {a} {b} {c} {P} {Q} p q =
 pub finds_as : {a b : Option Found} {P Q : Clash → Bool} → FindsAfter a b P → ((clash : Clash) → P clash ≡ Q clash) → FindsAfter a b Q
 finds_as {a} {b} p e = subst (λ R. FindsAfter a b R) (fun_ext e) p
 
--- one of two
-pub finds_either : {a b c : Option Found} {P : Clash → Bool} → Finds b P → IsOneOf c a b → FindsAfter a c P
-finds_either {a} {b} {c} p one =
-    record {
-      none = λ e. ((one.none e).0, p.none (one.none e).1);
-      some = λ f e. elim one.one [ inl h ↦ inl (sym h ∙ e) | inr h ↦ inr (p.some f (sym h ∙ e)) ];
-    }
-
 -- ---- what a part covers
-
-pub covers_none : (us : List Use) (f : Option Found) → Covers no_use (λ clash. false) us us f f
-covers_none us f = record { adds = adds_none us; finds = finds_none f }
 
 pub covers_adds : {a b : List Use} {u : Uses} (f : Option Found) → Adds a u b → Covers u (λ clash. false) a b f f
 covers_adds f p = record { adds = p; finds = finds_none f }
@@ -92,10 +81,6 @@ leaves_two {a} {b} u v others Q p =
 -- what parts of a list leave
 pub record Rest {X : Type 0} (U : List X → Uses) (C : List X → Clash → Bool) (xs : List X) (i : ℕ) (before now : List Use) (was is : Option Found) : Type 0 where
   pub leaves : Leaves (U (drop i xs)) (C (drop i xs)) (U xs) (C xs) before now was is
-
-pub rest_first : {X : Type 0} (U : List X → Uses) (C : List X → Clash → Bool) (xs : List X) (us : List Use) (f : Option Found) → Rest U C xs 0 us us f f
-rest_first U C [] us f = record { leaves = record { uses = refl; finds = λ last p. p } }
-rest_first U C (x ∷ xs) us f = record { leaves = record { uses = refl; finds = λ last p. p } }
 
 pub rest_next : {X : Type 0} (U : List X → Uses) (C : List X → Clash → Bool) (xs : List X) (i : ℕ) (x : X) (before now later : List Use) (was is next : Option Found)
     → i < length xs → x ≡ get_or xs i x → Rest U C xs i before now was is
@@ -133,10 +118,6 @@ pub record Each (branches : List Branch) (i : ℕ) (lists : List (List Use)) (be
   pub uses : map uses_in lists ++ branch_uses (branches_of (drop i branches)) ≡ branch_uses (branches_of branches)
   pub finds : (last : Option Found) → FindsAfter is last (clash_within (branches_of (drop i branches))) → FindsAfter was last (clash_within (branches_of branches))
 
-pub each_first : (branches : List Branch) (us : List Use) (f : Option Found) → Each branches 0 [] us us f f
-each_first [] us f = record { same = refl; uses = refl; finds = λ last p. p }
-each_first (b ∷ bs) us f = record { same = refl; uses = refl; finds = λ last p. p }
-
 pub each_next : (branches : List Branch) (i : ℕ) (x : Branch) (lists more : List (List Use)) (own : List Use) (before now later : List Use) (was is next : Option Found) → i < length branches
     → x ≡ get_or branches i x → Each branches i lists before now was is → Covers (uses_of (term_of x.body)) (λ clash. clash_in clash (term_of x.body)) [] own is next → later ≡ now → more ≡ lists ++ own ∷ []
     → ((others : T.Branches) → branch_of x others ≡ T.and_branch x.number (term_of x.body) others) → Each branches (i + 1) more before later was next
@@ -161,17 +142,6 @@ each_next branches i x lists more own before now later was is next lt item each 
     append_one : {X : Type 0} (xs : List X) (y : X) (ys : List X) → (xs ++ y ∷ []) ++ ys ≡ xs ++ y ∷ ys
     append_one [] y ys = refl
     append_one (x ∷ xs) y ys = ap (λ l. x ∷ l) (append_one xs y ys)
-
-pub each_none : (branches : List Branch) (i : ℕ) (lists : List (List Use)) (before now : List Use) (was is : Option Found) → length branches ≤ i → Each branches i lists before now was is
-    → (map uses_in lists ≡ branch_uses (branches_of branches)) × FindsAfter was is (clash_within (branches_of branches))
-each_none branches i lists before now was is h each = (
-  sym (append_nil (map uses_in lists)) ∙ ap (λ bs. map uses_in lists ++ branch_uses (branches_of bs)) (sym (drop_all i branches h)) ∙ each.uses,
-  each.finds is (subst (λ bs. FindsAfter is is (clash_within (branches_of bs))) (sym (drop_all i branches h)) (finds_none is)),
-)
-  where
-    append_nil : {X : Type 0} (xs : List X) → xs ++ [] ≡ xs
-    append_nil [] = refl
-    append_nil (x ∷ xs) = ap (λ l. x ∷ l) (append_nil xs)
 
 -- ---- a PAR
 

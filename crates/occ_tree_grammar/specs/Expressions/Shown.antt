@@ -119,7 +119,7 @@ abbrev mutual
 
 -- how many sizes a type has, and how many subscripts a name, at most
 abbrev pub dimensions : ℕ
-dimensions = 1
+dimensions = 4
 
 abbrev pub count_expressions : Expressions → ℕ
 count_expressions no_expression = 0

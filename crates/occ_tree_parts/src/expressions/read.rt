@@ -14,7 +14,7 @@ use occ_tree_grammar::tree::expr::{Expr, Literal, Logic, Operand, Prim};
 use std::alloc::Global;
 
 /// How many subscripts a name may have, and how many sizes a type.
-pub const DIMENSIONS: usize = 1;
+pub const DIMENSIONS: usize = 4;
 
 /// The type of a literal, where it is given.
 fn type_mark(line: u32, tokens: &[Token]) -> Result<(Option<Prim>, &[Token]), ParseFault>

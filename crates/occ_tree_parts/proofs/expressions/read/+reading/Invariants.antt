@@ -3,6 +3,7 @@ use Rattle.occ_text.specs.Words.{Word, words}
 use Rattle.occ_tree_grammar.specs.Many.{many}
 use Rattle.occ_tree_grammar.specs.Expressions.Trees.{Operand, Expression, operand_of, expression_of}
 use Rattle.occ_tree_grammar.specs.Expressions.Reading.{after_open_bracket, after_logic, index_with, indices_with, operand_with, expression_at}
+use Rattle.occ_tree_grammar.specs.Expressions.Shown.{dimensions}
 use Rattle.occ_tree_parts.proofs.ManyLoop.{SoFar}
 use Rattle.occ_tree_parts.proofs.expressions.read.+reading.Given as goal
 
@@ -31,4 +32,4 @@ abbrev pub invariant-operands-loop : goal.invariant-operands-loop
 invariant-operands-loop l = SoFar Word Operand (after_logic l.logic) (operand_with (expression_at l.left)) (map operand_of l.all.items) (length l.tokens) l.counter (words l.rest) (many (after_logic l.logic) (operand_with (expression_at l.left)) (length l.tokens) (words l.tokens))
 
 abbrev pub invariant-indices-loop : goal.invariant-indices-loop
-invariant-indices-loop l = SoFar Word Expression after_open_bracket (index_with (expression_at l.left)) (map expression_of l.all.items) 1 l.counter (words l.rest) (indices_with (expression_at l.left) (words l.tokens))
+invariant-indices-loop l = SoFar Word Expression after_open_bracket (index_with (expression_at l.left)) (map expression_of l.all.items) dimensions l.counter (words l.rest) (indices_with (expression_at l.left) (words l.tokens))
