@@ -157,7 +157,7 @@ rising_numbers xs first zero up below = subst IsRising (sym (append-nil xs)) up
 rising_numbers xs first (suc n) up below =
     subst IsRising (append-assoc xs (numbers_from first n) ((first + n) ∷ []) ∙ ap (λ l. xs ++ l) (sym (numbers_more first n)))
     (rising-append (first + n) (xs ++ numbers_from first n) (rising_numbers xs first n up below)
-        (λ c h. held_either xs first n c (c < first + n) (λ m. let b = below c m in omega (arith, b)) (λ low high. high) h))
+    (λ c h. held_either xs first n c (c < first + n) (λ m. let b = below c m in omega (arith, b)) (λ low high. high) h))
 
 -- ---- rows that are gathered
 

@@ -14,7 +14,7 @@ pub loop-row-preserved : goal.loop-row-preserved
 loop-row-preserved c =
     subst (Gathered c.args.rows.now (c.loop-row.row-index + 1) c.add_row.new.numbers.items) (sym c.larger-reached.ensures)
     (gathered_next c.args.rows.now c.requires.sorted c.loop-row.row-index no_row c.loop-row-test.true c.loop-row.numbers.items c.loop-row.reached c.loop-row.invariant _ _ refl refl c.add_row.new.numbers.items c.in_ok-add_row.ensures
-        (c.requires.within c.loop-row.row-index no_row c.loop-row-test.true))
+    (c.requires.within c.loop-row.row-index no_row c.loop-row-test.true))
 
 pub returns-clause-lists : goal.returns-clause-lists
 returns-clause-lists c = all_gathered c.args.rows.now c.loop-row.row-index c.loop-row.numbers.items c.loop-row.reached c.loop-row-test.false c.loop-row.invariant
