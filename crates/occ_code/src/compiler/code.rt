@@ -218,6 +218,7 @@ pub fn compile(alloc: Global, checked: &Checked) -> Result<Code, CodeFault>
 /// limit of instructions, and `Memory` for a refused growth.
 pub fn compile_for(alloc: Global, checked: &Checked, quantum: u32) -> Result<Code, CodeFault>
     ensures compiled { IfOk result (λ c. IsCodeOf checked.now quantum c) }
+    ensures quantum { IfOk result (λ _. IsQuantum quantum) }
     ensures halts { IfOk result (λ c. c.errors ≡ Errors.Halt) }
     ensures refused { IfErr result (λ fault. CodeRefuses fault quantum checked.now) }
 {
