@@ -1,6 +1,6 @@
 -- The answer of a run by workers.
-use Rattle.std.proofs.Common.{◌≡◌, ◌∙◌, ◌<◌, ◌≤◌, ◌⊎◌, ℕ, List, Bool, length, refl, sym, ap, subst}
-use Rattle.occ_choices.specs.Crews.{IsCrew, most_workers}
+use Rattle.std.proofs.Common.{◌≡◌, ◌∙◌, ◌<◌, ◌≤◌, ◌⊎◌, ℕ, List, Bool, length, sym, ap, subst}
+use Rattle.occ_choices.specs.Crews.{IsCrew}
 use Rattle.occ_code.specs.Compiled.{Program}
 use Rattle.occ_net_replay.specs.declared.choice.Choice.{Choice}
 use Rattle.occ_net_replay.specs.Following.{or_limit}
@@ -9,13 +9,12 @@ use Rattle.occ_net_tables.specs.declared.running.Outcome.{Outcome}
 use Rattle.occ_net_tables.specs.Outcomes.{IsOutcome}
 use Rattle.occ_net.specs.declared.outcome.Outcome.{Outcome as Gathered}
 use Rattle.occ_run.specs.Gathered.{IsRunOf}
-use Rattle.occ_run.specs.declared.fault.RunFault.{RunFault}
 use Rattle.occ_run.specs.declared.fault.RunFault.TheVariants as run
 use Rattle.occ_play.specs.declared.playing.Played.{Played}
 use Rattle.occ_play.specs.declared.fault.PlayFault.{PlayFault}
 use Rattle.occ_play.specs.declared.fault.PlayFault.TheVariants as play
 use Rattle.occ_play.specs.declared.playing.Options.{Options}
-use Rattle.occ_play.specs.Playing.{IsAnswer, IsTextsCode, Refuses, RefusesCode}
+use Rattle.occ_play.specs.Playing.{IsAnswer, Refuses, RefusesCode}
 use Rattle.occ_play.specs.Working.{IsAnswerWithin, WorkersRefuse}
 use Rattle.occ_play.proofs.Headline.{never_limit, none_if}
 

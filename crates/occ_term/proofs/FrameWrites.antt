@@ -1,9 +1,8 @@
 -- Frames that are read and written by the place of a cell.
 use Rattle.std.specs.Prelude.{nat_eq, nat_lt, option_map, if◌then◌else◌, replicate, unwrap_or}
-use Rattle.std.proofs.Common.{◌≡◌, ◌∙◌, sym, refl, ap, ℕ, zero, suc, ◌+◌, ◌-◌, ◌<◌, ◌≤◌, Bool, true, false, Option, Some, None, List, [], ◌∷◌, length, get_or, drop, ℤ, pos, add-zero, arith}
+use Rattle.std.proofs.Common.{◌≡◌, ◌∙◌, sym, refl, ap, ℕ, zero, suc, ◌+◌, ◌-◌, ◌<◌, ◌≤◌, Bool, true, false, Option, Some, None, List, [], ◌∷◌, length, get_or, ℤ, pos, arith}
 use Rattle.std.proofs.Math.ListN.{set}
 use Rattle.std.proofs.lemmas.Bool.Decides.{nat_tests}
-use Rattle.std.proofs.lemmas.List.{at_drop_more, at_drop_all}
 use Rattle.occ_term.specs.Frames.{Variables, value_at, values_with, frame_from, frame_with, span_with, place_among, place_in, counter_at, counters_with}
 
 -- ---- the place of a cell

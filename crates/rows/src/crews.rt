@@ -20,10 +20,10 @@ struct Crewed<'a> {
 
 const LETTER: &[u8] = b"PROC main (CHAN OF BYTE keyboard, screen)\n  screen ! 'A'\n:\n";
 
-const ECHO: &[u8] = b"PROC main (CHAN OF BYTE keyboard, screen)\n  SEQ i = 0 FOR 2\n    BYTE b:\n    SEQ\n      keyboard ? b\n      screen ! b\n:\n";
+const ECHO: &[u8] =
+    b"PROC main (CHAN OF BYTE keyboard, screen)\n  SEQ i = 0 FOR 2\n    BYTE b:\n    SEQ\n      keyboard ? b\n      screen ! b\n:\n";
 
-const SPIN: &[u8] =
-    b"PROC main (CHAN OF BYTE keyboard, screen)\n  WHILE TRUE\n    SKIP\n:\n";
+const SPIN: &[u8] = b"PROC main (CHAN OF BYTE keyboard, screen)\n  WHILE TRUE\n    SKIP\n:\n";
 
 static CREWED: &[Crewed<'static>] = &[
     Crewed {

@@ -51,7 +51,12 @@ fn check(rt: &impl Abort, alloc: Global, plan: &Plan, used: &[Choice]) -> Result
 }
 
 /// What a run by this list, or by so many turns, comes to.
-fn outcome_of(rt: &impl Abort, alloc: Global, list: &[Choice], by_list: bool) -> Result<Outcome, Fail> {
+fn outcome_of(
+    rt: &impl Abort,
+    alloc: Global,
+    list: &[Choice],
+    by_list: bool,
+) -> Result<Outcome, Fail> {
     let code = code_of(alloc, LETTER).expect(rt, "refused");
     if by_list {
         return Ok(run_choices(alloc, code, b"", list)?);

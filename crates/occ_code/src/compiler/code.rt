@@ -3,7 +3,6 @@ ghost use Rattle.std.specs.Prelude.{◌≡◌, ◌↔◌, ◌<◌, ◌≤◌, �
 ghost use Rattle.std.specs.Arc.{arc_value};
 ghost use Rattle.occ_term.specs.Processes.{processes_of};
 ghost use Rattle.occ_term.specs.declared.fault.Errors.{Errors};
-ghost use Rattle.occ_term.specs.UnfoldedProgram.{meaning};
 ghost use Rattle.occ_term.specs.View.{term_of};
 ghost use Rattle.occ_code.specs.Compiled.{AreBodiesOf, IsCodeOf, IsCompiled, IsQuantum, IsRefused, CodeRefuses, most_instructions};
 ghost use Rattle.occ_code.specs.Compiled as compiled;
