@@ -22,7 +22,7 @@ use occ_check_names::known::{Carried, Known};
 use occ_check_names::numbers::components;
 use occ_check_names::operators::{is_number, primitive_of};
 use occ_check_names::scope::Scope;
-use occ_term::{MOST_CELLS, PartType, Primitive, Protocol, Tag};
+use occ_term::{MOST_CELLS, PartType, PartTypes, Primitive, Protocol, Tag, TagTypes};
 use occ_tree_grammar::tree::expr::Expr;
 use occ_tree_grammar::tree::line::{Carried as CarriedTree, OneOrMore, Part, Size};
 use occ_tree_grammar::tree::process::{Protocol as ProtocolTree, Tag as TagTree};
@@ -334,7 +334,7 @@ pub fn protocol_of(
                 },
                 parts,
             ) {
-                Ok(parts) => Ok(Protocol::Sequential(parts)),
+                Ok(parts) => Ok(Protocol::Sequential(PartTypes::new(alloc, parts)?)),
                 Err(e) => Err(e),
             }
         }
@@ -344,7 +344,7 @@ pub fn protocol_of(
                 return Err(e);
             }
             match each_tag(alloc, scope, tags) {
-                Ok(tags) => Ok(Protocol::Variant(tags)),
+                Ok(tags) => Ok(Protocol::Variant(TagTypes::new(alloc, tags)?)),
                 Err(e) => Err(e),
             }
         }

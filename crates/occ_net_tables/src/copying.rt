@@ -15,7 +15,7 @@ fn branch_frame(alloc: Global, body: &Body, parent: &Frame) -> Result<Frame, All
 {
     let cells = body.cells();
     let mut frame = Frame::new(alloc, cells, body.loops() as usize)?;
-    for (place, cell) in cells.iter().enumerate() {
+    for (place, cell) in cells.as_slice().iter().enumerate() {
         frame.set_in(place as u32, parent.value(*cell));
     }
     Ok(frame)

@@ -1,9 +1,11 @@
 -- Frames that are read and written by the place of a cell.
 use Rattle.std.specs.Prelude.{nat_eq, nat_lt, option_map, if◌then◌else◌, replicate, unwrap_or}
-use Rattle.std.proofs.Common.{◌≡◌, ◌∙◌, sym, refl, ap, ℕ, zero, suc, ◌+◌, ◌-◌, ◌<◌, ◌≤◌, Bool, true, false, Option, Some, None, List, [], ◌∷◌, length, get_or, ℤ, pos, arith}
+use Rattle.std.proofs.Common.{◌≡◌, ◌∙◌, sym, refl, ap, ℕ, zero, suc, ◌+◌, ◌-◌, ◌<◌, ◌≤◌, Bool, true, false, Option, Some, None, List, [], ◌∷◌, length, get_or, drop, take, ℤ, pos, add-zero, arith}
+use Rattle.std.proofs.Math.Seq.{drop-cons}
 use Rattle.std.proofs.Math.ListN.{set}
 use Rattle.std.proofs.lemmas.Bool.Decides.{nat_tests}
-use Rattle.occ_term.specs.Frames.{Variables, value_at, values_with, frame_from, frame_with, span_with, place_among, place_in, counter_at, counters_with}
+use Rattle.occ_term.specs.Values.{values_from}
+use Rattle.occ_term.specs.Frames.{Ascends, Variables, row_with, value_at, values_with, frame_from, frame_with, span_with, place_among, place_in, counter_at, counters_with}
 
 -- ---- the place of a cell
 
@@ -120,6 +122,63 @@ span_beyond xs held (v ∷ vs) first bound h m =
     let none = place_none xs first (λ k i e. let below = h k in omega (arith, below, e)) in
     let same : values_with xs held first v ≡ held = with_there xs held first v None (sym none) in
     ap (λ ws. span_with xs ws (first + 1) vs) same ∙ span_beyond xs held vs (first + 1) bound h (omega arith)
+
+-- ---- places in a row
+
+ascends_by : (xs : List ℕ) → Ascends xs → (i d : ℕ) → i + d < length xs → get_or xs i 0 + d ≤ get_or xs (i + d) 0
+ascends_by xs up i zero h =
+    let here : get_or xs (i + 0) 0 ≡ get_or xs i 0 = ap (λ k. get_or xs k 0) (add-zero i) in
+    omega (arith, here)
+ascends_by xs up i (suc d) h =
+    let before = ascends_by xs up i d (omega (arith, h)) in
+    let next = up (i + d) (i + suc d) (omega arith) h in
+    omega (arith, before, next)
+
+-- a rising list that rises by as much as there are places between two of them has a cell in a row at each
+pub row_places : (xs : List ℕ) → Ascends xs → (place count first last : ℕ) → place + count ≤ length xs → last ≡ place + (count - 1) → get_or xs place 0 ≡ first → get_or xs last 0 ≡ first + (count - 1)
+    → (k : ℕ) → k < count → place_in xs (first + k) ≡ Some (place + k)
+row_places xs up place count first last within is begun ends k h =
+    let inside : place + k < length xs = omega (arith, within, h) in
+    let low = ascends_by xs up place k inside in
+    let far : place + k + (count - 1 - k) ≡ last = omega (arith, is, h) in
+    let high = ascends_by xs up (place + k) (count - 1 - k) (omega (arith, within, h)) in
+    let at_far : get_or xs (place + k + (count - 1 - k)) 0 ≡ get_or xs last 0 = ap (λ m. get_or xs m 0) far in
+    let there : get_or xs (place + k) 0 ≡ first + k = omega (arith, low, high, at_far, begun, ends, h) in
+    place_first xs (place + k) (first + k) inside there (λ j lt e. let less = up j (place + k) lt inside in omega (arith, less, e, there))
+
+-- cells in a row, at places in a row
+abbrev StandInRow : List ℕ → ℕ → ℕ → ℕ → Type 0
+StandInRow xs first place count = (k : ℕ) → k < count → place_in xs (first + k) ≡ Some (place + k)
+
+first_place : (xs : List ℕ) (first place count : ℕ) → StandInRow xs first place (suc count) → place_in xs first ≡ Some place
+first_place xs first place count row = ap (place_in xs) (sym (add-zero first)) ∙ row 0 (omega arith) ∙ ap Some (add-zero place)
+
+next_places : (xs : List ℕ) (first place count : ℕ) → StandInRow xs first place (suc count) → StandInRow xs (first + 1) (suc place) count
+next_places xs first place count row k h =
+    let cell : first + 1 + k ≡ first + suc k = omega arith in
+    let there : place + suc k ≡ suc place + k = omega arith in
+    ap (place_in xs) cell ∙ row (suc k) (omega (arith, h)) ∙ ap Some there
+
+pub row_span : (xs : List ℕ) (held vs : List ℤ) (first place : ℕ) → StandInRow xs first place (length vs) → row_with held place vs ≡ span_with xs held first vs
+row_span xs held [] first place row = refl
+row_span xs held (v ∷ vs) first place row =
+    let one : values_with xs held first v ≡ set held place v = with_there xs held first v (Some place) (sym (first_place xs first place (length vs) row)) in
+    row_span xs (set held place v) vs (first + 1) (suc place) (next_places xs first place (length vs) row) ∙ ap (λ ws. span_with xs ws (first + 1) vs) (sym one)
+
+pub row_values : (xs : List ℕ) (vs : List ℤ) (first place count : ℕ) → StandInRow xs first place count → place + count ≤ length vs → take count (drop place vs) ≡ values_from first count (value_at xs vs)
+row_values xs vs first place zero row within = refl
+row_values xs vs first place (suc count) row within =
+    let value : value_at xs vs first ≡ get_or vs place (pos 0) = value_there xs vs first (Some place) (sym (first_place xs first place count row)) in
+    ap (take (suc count)) (drop-cons vs place (pos 0) (omega (arith, within)))
+    ∙ ap (λ v. v ∷ take count (drop (suc place) vs)) (sym value)
+    ∙ ap (λ ws. value_at xs vs first ∷ ws) (row_values xs vs (first + 1) (suc place) count (next_places xs first place count row) (omega (arith, within)))
+
+pub zeros_in_row : (held : List ℤ) (place i n : ℕ) → i < n → row_with (set held (place + i) (pos 0)) (place + (i + 1)) (replicate (n - (i + 1)) (pos 0)) ≡ row_with held (place + i) (replicate (n - i) (pos 0))
+zeros_in_row held place i n h =
+    let next : place + (i + 1) ≡ suc (place + i) = omega arith in
+    let more : n - i ≡ suc (n - (i + 1)) = omega (arith, h) in
+    ap (λ m. row_with (set held (place + i) (pos 0)) m (replicate (n - (i + 1)) (pos 0))) next
+    ∙ sym (ap (λ m. row_with held (place + i) (replicate m (pos 0))) more)
 
 -- ---- zeros in a row
 

@@ -38,7 +38,7 @@ NumberedFrom n (p ∷ ps) = (p.number ≡ n) × NumberedFrom (n + 1) ps
 
 -- how many cells and channels there may be (own)
 abbrev pub most_cells : ℕ
-most_cells = 65536
+most_cells = 1048576
 
 abbrev pub most_channels : ℕ
 most_channels = 4096

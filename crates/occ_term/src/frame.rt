@@ -1,6 +1,7 @@
 //! The variables of a process.
-ghost use Rattle.std.specs.Prelude.{◌≡◌, ◌<◌, ◌↔◌, IsTrue, IfOk, length, pos, replicate, slice_index_or, slice_set, []};
-ghost use Rattle.occ_term.specs.Frames.{at, in_place, value_at, values_with, zero_frame, frame_with, with_place, frame_from, span_with, counter_at, with_counter};
+ghost use Rattle.std.specs.Prelude.{◌≡◌, ◌<◌, ◌≤◌, ◌+◌, ◌↔◌, ◌^◌, IsTrue, IfOk, IfSome, drop, length, pos, replicate, take, slice_index_or, slice_set, []};
+ghost use Rattle.occ_term.specs.Frames.{at, in_place, value_at, values_with, zero_frame, frame_with, with_place, frame_from, row_with, span_with, counter_at, with_counter};
+ghost use Rattle.occ_term.specs.Values.{values_from};
 
 use crate::frame_cells::FrameCells;
 use crate::message::same_values;
@@ -34,13 +35,13 @@ impl Model for Frame {
 }
 
 impl Frame {
-    /// A frame of these cells and of so many counters of replicated SEQs, where all is 0.
-    pub fn new(alloc: Global, cells: &[u32], loops: usize) -> Result<Frame, AllocError>
+    /// A frame of these cells, which it shares, and of so many counters of replicated SEQs, where all is 0.
+    pub fn new(alloc: Global, cells: &FrameCells, loops: usize) -> Result<Frame, AllocError>
         ensures { IfOk result (λ f. f ≡ zero_frame cells.now loops) }
     {
-        let values = vec![in alloc; 0; cells.len()]?;
+        let values = vec![in alloc; 0; cells.as_slice().len()]?;
         let left = vec![in alloc; 0; loops]?;
-        let cells = FrameCells::new(alloc, cells)?;
+        let cells = cells.copy()?;
         Ok(Frame {
             cells,
             values,
@@ -60,6 +61,15 @@ impl Frame {
         ensures { result ≡ at self.now cell }
     {
         value_at(&self.cells, &self.values, cell)
+    }
+
+    /// The values of so many cells in a row, from the first cell on. None where they aren't seen to stand in a row here.
+    pub fn row(&self, first: u64, count: usize) -> Option<&[i64]>
+        ensures { IfSome result (λ values. values.now ≡ values_from first count (at self.now)) }
+    {
+        let place = self.cells.row_of(first, count)?;
+        let values = values_in_row(&self.values, place, count)?;
+        Some(values)
     }
 
     /// The value at a place among those of the cells.
@@ -140,7 +150,7 @@ impl Frame {
         ensures { IfOk result (λ f. f ≡ self.now) }
     {
         Ok(Frame {
-            cells: self.cells.copy(alloc)?,
+            cells: self.cells.copy()?,
             values: Vec::from_slice(alloc, &self.values)?,
             left: Vec::from_slice(alloc, &self.left)?,
         })
@@ -196,7 +206,36 @@ fn set_in(values: &mut [i64], place: usize, value: i64)
     }
 }
 
+fn values_in_row(values: &[i64], place: usize, count: usize) -> Option<&[i64]>
+    requires { place + count < 2 ^ 64 }
+    ensures { IfSome result (λ row. (row.now ≡ take count (drop place values.now)) × (place + count ≤ length values.now)) }
+{
+    if place + count <= values.len() {
+        Some(&values[place..place + count])
+    } else {
+        None
+    }
+}
+
 fn set_values(cells: &FrameCells, held: &mut [i64], first: u64, values: &[i64])
+    ensures { held.new ≡ span_with cells.now held.old first values.now }
+{
+    match cells.row_of(first, values.len()) {
+        Some(place) => set_row(held, place, values),
+        None => set_each(cells, held, first, values),
+    }
+}
+
+fn set_row(held: &mut [i64], place: usize, values: &[i64])
+    requires { place + length values.now < 2 ^ 64 }
+    ensures { held.new ≡ row_with held.old place values.now }
+{
+    for (i, value) in values.iter().enumerate() {
+        set_in(held, place + i, *value);
+    }
+}
+
+fn set_each(cells: &FrameCells, held: &mut [i64], first: u64, values: &[i64])
     ensures { held.new ≡ span_with cells.now held.old first values.now }
 {
     cells.words();
@@ -210,6 +249,24 @@ fn set_values(cells: &FrameCells, held: &mut [i64], first: u64, values: &[i64])
 }
 
 fn clear_values(cells: &FrameCells, held: &mut [i64], first: u32, count: u32)
+    ensures { held.new ≡ span_with cells.now held.old first (replicate count (pos 0)) }
+{
+    match cells.row_of(u64::from(first), count as usize) {
+        Some(place) => clear_row(held, place, count as usize),
+        None => clear_each(cells, held, first, count),
+    }
+}
+
+fn clear_row(held: &mut [i64], place: usize, count: usize)
+    requires { place + count < 2 ^ 64 }
+    ensures { held.new ≡ row_with held.old place (replicate count (pos 0)) }
+{
+    for i in 0..count {
+        set_in(held, place + i, 0);
+    }
+}
+
+fn clear_each(cells: &FrameCells, held: &mut [i64], first: u32, count: u32)
     ensures { held.new ≡ span_with cells.now held.old first (replicate count (pos 0)) }
 {
     for i in 0..count {

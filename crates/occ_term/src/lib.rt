@@ -32,7 +32,7 @@ pub use message::{Message, Part};
 pub use names::{Cell, Channel, ERROR, KEYBOARD, MOST_CELLS, Name, SCREEN};
 pub use parts::Parts;
 pub use primitive::{Prim, Primitive};
-pub use protocol::{PartType, Protocol, Tag, copy_parts};
+pub use protocol::{PartType, PartTypes, Protocol, Tag, TagTypes, copy_parts};
 pub use sizes::Sizes;
 pub use term::{Arm, Branch, Choice, Reception, Selection, Term, Variant};
 pub use text::Text;

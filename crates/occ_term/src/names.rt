@@ -12,7 +12,7 @@ use std::marker::Model;
 use std::sync::Arc;
 
 /// How many cells a program may have.
-pub const MOST_CELLS: usize = 65_536;
+pub const MOST_CELLS: usize = 1_048_576;
 
 /// The keyboard's channel.
 pub const KEYBOARD: u32 = 0;

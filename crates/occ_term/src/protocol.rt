@@ -5,6 +5,8 @@ ghost use Rattle.std.specs.Prelude.{◌≡◌, IfOk};
 use crate::primitive::Primitive;
 use sqlite_items::Items;
 use std::alloc::{AllocError, Global};
+use std::marker::Model;
+use std::sync::Arc;
 
 /// The type of one part of a message.
 #[derive(Debug, Drop)]
@@ -32,17 +34,108 @@ impl Drop for Tag {
     }
 }
 
+/// The parts of a protocol, in order. Contracts see their list. Copies share them.
+pub struct PartTypes {
+    parts: Arc<Items<PartType>, Global>,
+}
+
+impl Model for PartTypes {
+    ghost use Rattle.std.specs.Prelude.{List};
+    ghost use Rattle.std.specs.Arc.{arc_value};
+    ghost use Rattle.occ_term.specs.declared.protocol.PartType.{PartType};
+
+    ghost Value = { List PartType };
+
+    ghost view = { λ p. arc_value p.parts };
+}
+
+impl Drop for PartTypes {
+    fn drop(self) {
+        let PartTypes { parts: _ } = self;
+    }
+}
+
+impl PartTypes {
+    /// These parts. The error is a refused growth.
+    pub fn new(alloc: Global, parts: Items<PartType>) -> Result<PartTypes, AllocError>
+        ensures { IfOk result (λ p. p ≡ parts) }
+    {
+        let parts = Arc::new(alloc, parts)?;
+        Ok(PartTypes { parts })
+    }
+
+    /// A copy, which shares the parts. The error is that there are too many copies.
+    pub fn copy(&self) -> Result<PartTypes, AllocError>
+        ensures { IfOk result (λ p. p ≡ self.now) }
+    {
+        let parts = Arc::try_clone(&self.parts)?;
+        Ok(PartTypes { parts })
+    }
+
+    /// The parts.
+    pub fn as_slice(&self) -> &[PartType]
+        ensures { result.now ≡ self.now }
+    {
+        self.parts.as_slice()
+    }
+}
+
+/// The tags of a protocol, in order. Contracts see their list. Copies share them.
+pub struct TagTypes {
+    tags: Arc<Items<Tag>, Global>,
+}
+
+impl Model for TagTypes {
+    ghost use Rattle.std.specs.Prelude.{List};
+    ghost use Rattle.std.specs.Arc.{arc_value};
+    ghost use Rattle.occ_term.specs.declared.protocol.Tag.{Tag};
+
+    ghost Value = { List Tag };
+
+    ghost view = { λ t. arc_value t.tags };
+}
+
+impl Drop for TagTypes {
+    fn drop(self) {
+        let TagTypes { tags: _ } = self;
+    }
+}
+
+impl TagTypes {
+    /// These tags. The error is a refused growth.
+    pub fn new(alloc: Global, tags: Items<Tag>) -> Result<TagTypes, AllocError>
+        ensures { IfOk result (λ t. t ≡ tags) }
+    {
+        let tags = Arc::new(alloc, tags)?;
+        Ok(TagTypes { tags })
+    }
+
+    /// A copy, which shares the tags. The error is that there are too many copies.
+    pub fn copy(&self) -> Result<TagTypes, AllocError>
+        ensures { IfOk result (λ t. t ≡ self.now) }
+    {
+        let tags = Arc::try_clone(&self.tags)?;
+        Ok(TagTypes { tags })
+    }
+
+    /// The tags.
+    pub fn as_slice(&self) -> &[Tag]
+        ensures { result.now ≡ self.now }
+    {
+        self.tags.as_slice()
+    }
+}
+
 /// The protocol of a channel.
-#[derive(Debug)]
 pub enum Protocol {
     /// A value of this type, or where there are sizes an array.
     Simple(Items<u32>, Primitive),
     /// A count of the first type, `::`, and so many components of the second.
     CountedArray(Primitive, Primitive),
     /// These parts, in order.
-    Sequential(Items<PartType>),
+    Sequential(PartTypes),
     /// One of these tags, numbered from 0 in their order, and then its parts.
-    Variant(Items<Tag>),
+    Variant(TagTypes),
 }
 
 impl Drop for Protocol {
@@ -85,7 +178,7 @@ impl Tag {
 }
 
 impl Protocol {
-    /// A copy. The error is a refused growth.
+    /// A copy, which shares the parts and the tags. The error is a refused growth.
     pub fn copy(&self, alloc: Global) -> Result<Protocol, AllocError>
         ensures { IfOk result (λ p. p ≡ self.now) }
     {
@@ -97,14 +190,8 @@ impl Protocol {
             Protocol::CountedArray(count, primitive) => {
                 Ok(Protocol::CountedArray(*count, *primitive))
             }
-            Protocol::Sequential(parts) => {
-                let parts = copy_parts(alloc, parts.as_slice())?;
-                Ok(Protocol::Sequential(parts))
-            }
-            Protocol::Variant(tags) => {
-                let tags = copy_tags(alloc, tags.as_slice())?;
-                Ok(Protocol::Variant(tags))
-            }
+            Protocol::Sequential(parts) => Ok(Protocol::Sequential(parts.copy()?)),
+            Protocol::Variant(tags) => Ok(Protocol::Variant(tags.copy()?)),
         }
     }
 }
@@ -116,16 +203,6 @@ pub fn copy_parts(alloc: Global, parts: &[PartType]) -> Result<Items<PartType>, 
     let mut copies = Items::new(alloc);
     for part in parts {
         copies.push(part.copy(alloc)?)?;
-    }
-    Ok(copies)
-}
-
-fn copy_tags(alloc: Global, tags: &[Tag]) -> Result<Items<Tag>, AllocError>
-    ensures { IfOk result (λ copies. copies ≡ tags.now) }
-{
-    let mut copies = Items::new(alloc);
-    for tag in tags {
-        copies.push(tag.copy(alloc)?)?;
     }
     Ok(copies)
 }

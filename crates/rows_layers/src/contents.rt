@@ -120,12 +120,18 @@ static FRAMES: [(&[u32], usize, bool); 4] = [
     (&[1, 3], 1, false),
 ];
 
+/// A frame of these cells.
+fn frame_of(alloc: Global, cells: &[u32], loops: usize) -> Result<Frame, AllocError> {
+    let cells = FrameCells::new(alloc, cells)?;
+    Frame::new(alloc, &cells, loops)
+}
+
 /// Compares a frame with its copy, and with each of these.
 fn check_frames(rt: &impl Abort, alloc: Global, frame: &Frame) -> Result<(), Fail> {
     let copy = frame.copy(alloc)?;
     assert!(rt; frame.is_same(&copy));
     for (cells, loops, wanted) in &FRAMES {
-        let other = Frame::new(alloc, cells, *loops)?;
+        let other = frame_of(alloc, cells, *loops)?;
         assert_eq!(rt; frame.is_same(&other), *wanted);
     }
     Ok(())
@@ -134,7 +140,7 @@ fn check_frames(rt: &impl Abort, alloc: Global, frame: &Frame) -> Result<(), Fai
 #[test]
 fn frames_are_compared(rt: HostRuntime) -> Result<(), Fail> {
     let alloc = rt.alloc();
-    let frame = Frame::new(alloc, &[1, 3], 2)?;
+    let frame = frame_of(alloc, &[1, 3], 2)?;
     check_frames(&rt, alloc, &frame)
 }
 
@@ -199,15 +205,37 @@ fn channel(alloc: Global, protocol: Protocol) -> Result<Channel, AllocError> {
     Ok(Channel { name, protocol })
 }
 
+/// What a protocol holds, as its parts are printed.
+fn shown(alloc: Global, protocol: &Protocol) -> Result<String, AllocError> {
+    match protocol {
+        Protocol::Simple(sizes, primitive) => format!(in alloc; "{sizes:?} {primitive:?}"),
+        Protocol::CountedArray(count, primitive) => format!(in alloc; "{count:?} {primitive:?}"),
+        Protocol::Sequential(parts) => format!(in alloc; "{:?}", parts.as_slice()),
+        Protocol::Variant(tags) => format!(in alloc; "{:?}", tags.as_slice()),
+    }
+}
+
+fn check_protocol(
+    rt: &impl Abort,
+    alloc: Global,
+    copy: &Protocol,
+    original: &Protocol,
+) -> Result<(), Fail> {
+    let copy = shown(alloc, copy)?;
+    let original = shown(alloc, original)?;
+    assert_eq!(rt; copy.as_str(), original.as_str());
+    Ok(())
+}
+
 fn check_copy(rt: &impl Abort, alloc: Global, channel: &Channel) -> Result<(), Fail> {
     let copy = channel.copy(alloc)?;
     assert!(rt; copy.name.is_same(alloc, &channel.name)?);
-    check_printed(rt, alloc, &copy.protocol, &channel.protocol)
+    check_protocol(rt, alloc, &copy.protocol, &channel.protocol)
 }
 
 fn check_channel(rt: &impl Abort, alloc: Global, protocol: &Protocol) -> Result<(), Fail> {
     let channel = channel(alloc, protocol.copy(alloc)?)?;
-    check_printed(rt, alloc, &channel.protocol, protocol)?;
+    check_protocol(rt, alloc, &channel.protocol, protocol)?;
     check_copy(rt, alloc, &channel)
 }
 
@@ -228,6 +256,7 @@ fn channels_of_counted_arrays_are_copied(rt: HostRuntime) -> Result<(), Fail> {
 fn channels_of_sequences_are_copied(rt: HostRuntime) -> Result<(), Fail> {
     let alloc = rt.alloc();
     let parts = part_types(alloc)?;
+    let parts = PartTypes::new(alloc, parts)?;
     check_channel(&rt, alloc, &Protocol::Sequential(parts))
 }
 
@@ -236,6 +265,7 @@ fn channels_of_variants_are_copied(rt: HostRuntime) -> Result<(), Fail> {
     let alloc = rt.alloc();
     let mut tags = Items::new(alloc);
     tags.push(tag(alloc)?)?;
+    let tags = TagTypes::new(alloc, tags)?;
     check_channel(&rt, alloc, &Protocol::Variant(tags))
 }
 

@@ -3,7 +3,7 @@ ghost use Rattle.std.specs.Prelude.{◌<◌};
 
 use crate::unfolded::letter;
 use occ_code::{Arm, Code, Task, Wait, compile_for};
-use occ_term::{Errors, Frame};
+use occ_term::{Errors, Frame, FrameCells};
 use occ_usage::check_usage;
 use sqlite_items::Items;
 use std::alloc::{AllocError, Global};
@@ -47,11 +47,12 @@ fn choosing(alloc: Global, turns: u64, index: i64) -> Result<Task, AllocError> {
         chan: Some(3),
         indices,
     })?;
+    let cells = FrameCells::new(alloc, &[5, 6])?;
     Ok(Task {
         number: 2,
         turns,
         place: 7,
-        frame: Frame::new(alloc, &[5, 6], 1)?,
+        frame: Frame::new(alloc, &cells, 1)?,
         wait: Wait::Chooses { pri: true, arms },
     })
 }

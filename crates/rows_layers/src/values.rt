@@ -6,7 +6,7 @@ ghost use Rattle.occ_term.specs.View.{expression_of};
 
 use occ_constants::{is_constant, value_of_constant};
 use occ_held::parts::Nested;
-use occ_term::{Fault, Frame, Monadic, Operator, Primitive, TermExpr, value_of};
+use occ_term::{Fault, Frame, FrameCells, Monadic, Operator, Primitive, TermExpr, value_of};
 use std::alloc::{AllocError, Global};
 use std::process::Abort;
 use std::test::Fail;
@@ -283,7 +283,8 @@ fn shift_is_first_from_the_left(rt: HostRuntime) -> Result<(), Fail> {
 
 /// The value of `a + b` in a frame without variables, or its fault.
 fn shown_sum(alloc: Global, a: i32, b: i32) -> Result<String, AllocError> {
-    let frame = Frame::new(alloc, &[], 0)?;
+    let cells = FrameCells::new(alloc, &[])?;
+    let frame = Frame::new(alloc, &cells, 0)?;
     let e = sum(alloc, a, b)?;
     match value_of(&e, &frame) {
         Ok(value) => format!(in alloc; "{value}"),

@@ -11,7 +11,7 @@ ghost use Rattle.occ_code.specs.View.{emitted};
 ghost use Rattle.occ_code.specs.Within.{AllWithin, KeepsWithin};
 
 use crate::compiler::body::Body;
-use crate::compiler::cells::rising_cells;
+use crate::compiler::cells::{process_cells, rising_cells};
 use crate::compiler::counters::counters_in;
 use crate::compiler::instr::Instr;
 use crate::compiler::pieces::put;
@@ -57,7 +57,7 @@ fn body_of(alloc: Global, quantum: u32, term: &Term) -> Result<Body, AllocError>
 {
     let loops = counters_in(term);
     let uses = term_uses(alloc, term)?;
-    let cells = rising_cells(alloc, uses.as_slice(), false)?;
+    let cells = process_cells(alloc, uses.as_slice())?;
     let writes = rising_cells(alloc, uses.as_slice(), true)?;
     let emitted = code_of(alloc, term)?;
     let code = with_slots(alloc, &cells, emitted)?;

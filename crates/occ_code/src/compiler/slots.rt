@@ -12,17 +12,16 @@ use std::alloc::{AllocError, Global};
 /// Code that was emitted, from its start to its end, with the slots of the cells that it names among these.
 pub(crate) fn with_slots(
     alloc: Global,
-    cells: &[u32],
+    cells: &FrameCells,
     code: Vec<Instr<u32>>,
 ) -> Result<Vec<Instr<Slot>>, AllocError>
     requires { length cells.now ≤ most_cells }
     ensures { IfOk result (λ body. map instruction_of body.items ≡ map (placed cells.now) (emitted code.items)) }
 {
-    let held = FrameCells::new(alloc, cells)?;
     let mut left = code;
     let mut body = Vec::with_capacity(alloc, left.len())?;
     'forwards: while let Some(instr) = left.pop() {
-        body.push(with_slot(&held, instr))?;
+        body.push(with_slot(cells, instr))?;
     }
     Ok(body)
 }

@@ -1,8 +1,6 @@
-use Rattle.std.proofs.Common.{◌≤◌, ◌^◌, ◌+◌, ◌∙◌, sym, drop, arith}
-use Rattle.occ_term.proofs.FrameWrites.{span_beyond}
+use Rattle.std.proofs.Common.{◌∙◌}
+use Rattle.occ_term.proofs.FrameWrites.{row_span}
 use Rattle.occ_term.proofs.frame.set_values.Goals as goal
 
-pub returns-then-i-first : goal.returns-then-i-first
-returns-then-i-first c =
-    let far : 2 ^ 32 ≤ c.args.first + c.loop-i.i = omega arith in
-    sym (span_beyond c.args.cells.now c.loop-i.held (drop c.loop-i.i c.args.values.now) (c.args.first + c.loop-i.i) (2 ^ 32) c.words.ensures far) ∙ c.loop-i.invariant
+pub returns-in-Some : goal.returns-in-Some
+returns-in-Some c = c.set_row.ensures ∙ row_span c.args.cells.now c.args.held.now c.args.values.now c.args.first c.in-Some.place c.in-Some.ensures.row

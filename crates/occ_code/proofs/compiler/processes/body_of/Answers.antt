@@ -16,9 +16,9 @@ returns c = λ within.
     let same : uses_in c.in_ok-uses.uses ≡ uses_of (term_of c.args.term.now) = c.in_ok-uses.ensures in
     let used : AreWithin (used_by (uses_in c.in_ok-uses.uses)) = subst (λ u. AreWithin (used_by u)) (sym same) within in
     let written : AreWithin (uses_in c.in_ok-uses.uses).writes = writes_within (uses_in c.in_ok-uses.uses) used in
-    let cells : Lists c.in_ok-cells.cells.items (used_by (uses_of (term_of c.args.term.now))) =
-    subst (λ u. Lists c.in_ok-cells.cells.items (used_by u)) same
-    (subst (λ us. AreWithin (used_by (uses_in us)) → Lists c.in_ok-cells.cells.items (used_by (uses_in us))) c.as_slice.ensures c.in_ok-cells.ensures.lists used) in
+    let cells : Lists c.in_ok-cells.cells (used_by (uses_of (term_of c.args.term.now))) =
+    subst (λ u. Lists c.in_ok-cells.cells (used_by u)) same
+    (subst (λ us. AreWithin (used_by (uses_in us)) → Lists c.in_ok-cells.cells (used_by (uses_in us))) c.as_slice.ensures c.in_ok-cells.ensures.lists used) in
     let writes : Lists c.in_ok-writes.writes.items (uses_of (term_of c.args.term.now)).writes =
     subst (λ (u : Uses). Lists c.in_ok-writes.writes.items u.writes) same
     (subst (λ us. AreWithin (uses_in us).writes → Lists c.in_ok-writes.writes.items (uses_in us).writes) c.as_slice-2.ensures c.in_ok-writes.ensures.lists written) in
