@@ -106,10 +106,10 @@ pub counts_nodes : nodes_of nesting ≡ Some 13
 unfolding each_of find within from_number component_names typed typed_chain typed_operand typed_subscripts size_of_operand size_of_expression each_size sent_items tag_number targets_of assigned_items each_declared other_formals all_evaluated all_actuals choosing copied unfolded all_in_turn all_beside arm_unfolded all_arms choice_unfolded all_choices variant_unfolded all_variants option_unfolded all_options all_declared declared item_declared main_of other_names items_declared
 counts_nodes = refl
 
-pub carries_large : term_of_program (carrying (pos 65537)) ≡ Some T.Skip
+pub carries_large : term_of_program (carrying (pos 1048577)) ≡ Some T.Skip
 unfolding each_of find within from_number component_names typed typed_chain typed_operand typed_subscripts size_of_operand size_of_expression each_size sent_items tag_number targets_of assigned_items each_declared other_formals all_evaluated all_actuals choosing copied unfolded all_in_turn all_beside arm_unfolded all_arms choice_unfolded all_choices variant_unfolded all_variants option_unfolded all_options all_declared declared item_declared main_of other_names items_declared
 carries_large = refl
 
-pub holds_no_large : term_of_program (holding (pos 65537)) ≡ None
+pub holds_no_large : term_of_program (holding (pos 1048577)) ≡ None
 unfolding each_of find within from_number component_names typed typed_chain typed_operand typed_subscripts size_of_operand size_of_expression each_size sent_items tag_number targets_of assigned_items each_declared other_formals all_evaluated all_actuals choosing copied unfolded all_in_turn all_beside arm_unfolded all_arms choice_unfolded all_choices variant_unfolded all_variants option_unfolded all_options all_declared declared item_declared main_of other_names items_declared
 holds_no_large = refl

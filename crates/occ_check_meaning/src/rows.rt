@@ -107,6 +107,6 @@ pub fn counts_nodes()
 
 /// A size takes cells where a variable has it, and not in a protocol.
 pub fn sizes_take_cells()
-    ensures carried { term_of_program (carrying (pos 65537)) ≡ Some T.Skip }
-    ensures held { term_of_program (holding (pos 65537)) ≡ None }
+    ensures carried { term_of_program (carrying (pos 1048577)) ≡ Some T.Skip }
+    ensures held { term_of_program (holding (pos 1048577)) ≡ None }
 {}

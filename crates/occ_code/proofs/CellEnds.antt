@@ -1,8 +1,13 @@
--- The cells of a process: the ends of spans, and the numbers that are reached.
-use Rattle.std.specs.Prelude.{nat_eq, nat_le, nat_lt, set, max, replicate, ◌&&◌, ◌||◌, if◌then◌else◌}
-use Rattle.std.proofs.Common.{◌≡◌, ℕ, zero, suc, ◌+◌, ◌-◌, ◌<◌, ◌≤◌, Bool, true, false, IsTrue, List, [], ◌∷◌, ◌++◌, drop, get_or, length, refl, sym, ap, ◌∙◌, subst, arith, length-append, length-set}
+-- The cells of a process: rows of cells that are sorted, and the numbers in them.
+use Rattle.std.specs.Prelude.{nat_eq, nat_le, nat_lt, max, take, ◌&&◌, ◌||◌, if◌then◌else◌}
+use Rattle.std.specs.List.{All, list_any}
+use Rattle.std.specs.List.Sorted.{IsNonDecreasingBy, IsPermutation}
+use Rattle.std.proofs.Common.{◌≡◌, ℕ, zero, suc, ◌+◌, ◌-◌, ◌<◌, ◌≤◌, Bool, true, false, IsTrue, List, [], ◌∷◌, ◌++◌, drop, get_or, length, refl, sym, ap, ◌∙◌, subst, add-zero, arith, length-append}
 use Rattle.std.proofs.Math.Seq.{drop-cons}
 use Rattle.std.proofs.lemmas.Bool.Decides.{nat_tests}
+use Rattle.std.proofs.lemmas.List.Folds.{list_any-append, list_any_more}
+use Rattle.std.proofs.lemmas.List.Sorted.{list_any-IsPermutation}
+use Rattle.std.proofs.lemmas.List.Elements.{All-append, All-cons}
 use Rattle.occ_term.specs.Uses.{Numbers}
 use Rattle.occ_usage.specs.Noted.{between, use_of, uses_in}
 use Rattle.occ_term.specs.Frames.{is_held}
@@ -12,63 +17,9 @@ use Rattle.occ_usage.specs.declared.noted.Kind.TheVariants.{Read, Write, Input, 
 use Rattle.occ_code.proofs.Emitting.{drop_all}
 use Rattle.occ_code.specs.SameStop.{AreAbove, IsRising, Lists}
 use Rattle.occ_code.specs.Within.{AreWithin}
-use Rattle.occ_code.specs.Cells.{is_counted, counted, covers, end_of, furthest, reach, AreEnds, AreReached}
+use Rattle.occ_code.specs.declared.compiler.cells.Row.{Row}
+use Rattle.occ_code.specs.Cells.{is_counted, counted, covers, end_of, furthest, numbers_from, in_rows, AddsRow, Gathered}
 use Rattle.occ_term.specs.UnfoldedProgram.{most_cells}
-
--- ---- tests of numbers
-
-below_either : (c r x : ℕ) (a b : Bool) → nat_lt c x ≡ a → nat_lt c r ≡ b → nat_lt c (max r x) ≡ (a || b)
-below_either c r x true b p q = grind (arith, nat_tests)
-below_either c r x false true p q = grind (arith, nat_tests)
-below_either c r x false false p q = grind (arith, nat_tests)
-
--- ---- ends
-
--- one more end
-pub reach_set : (es : List ℕ) (f x n : ℕ) → f < length es → (f < n → reach (set es f (max (get_or es f 0) x)) n ≡ max (reach es n) x) × (n ≤ f → reach (set es f (max (get_or es f 0) x)) n ≡ reach es n)
-reach_set [] f x n h = absurd (omega (arith, h))
-reach_set (e ∷ es) zero x zero h = (λ m. absurd (omega (arith, m)), λ m. refl)
-reach_set (e ∷ es) zero x (suc n) h = (λ m. omega arith, λ m. absurd (omega (arith, m)))
-reach_set (e ∷ es) (suc f) x zero h = (λ m. absurd (omega (arith, m)), λ m. refl)
-reach_set (e ∷ es) (suc f) x (suc n) h =
-    let r = reach_set es f x n (omega (arith, h)) in
-    (λ m. (let k = r.0 (omega (arith, m)) in omega (arith, k)), λ m. (let k = r.1 (omega (arith, m)) in ap (λ y. max e y) k))
-
-reach_none : (n k : ℕ) → reach (replicate n 0) k ≡ 0
-reach_none n zero = refl
-reach_none zero (suc k) = refl
-reach_none (suc n) (suc k) = let r = reach_none n k in omega (arith, r)
-
-pub no_ends : (n : ℕ) (writes_only : Bool) (es : List ℕ) → es ≡ replicate n 0 → AreEnds es (length es) (covers writes_only [])
-no_ends n writes_only es e =
-    record {
-      long = refl;
-      short = λ k. (let r = ap (λ l. reach l k) e ∙ reach_none n k in omega (arith, r));
-      members = λ c. (let r = ap (λ l. reach l (c + 1)) e ∙ reach_none n (c + 1) in grind (arith, nat_tests));
-    }
-
-module _ (es : List ℕ) (f x : ℕ) (older : Numbers) (ends : AreEnds es (length es) older) (some : f < x) (within : x ≤ length es) where
-  noted_member : (c : ℕ) (b : Bool) → nat_le f c ≡ b → nat_lt c (reach (set es f (max (get_or es f 0) x)) (c + 1)) ≡ ((b && nat_lt c x) || older c)
-  noted_member c true h =
-      let begun : f ≤ c = grind (arith, nat_tests) in
-      let r = (reach_set es f x (c + 1) (omega (arith, some, within))).0 (omega (arith, begun)) in
-      ap (λ n. nat_lt c n) r ∙ below_either c (reach es (c + 1)) x (nat_lt c x) (nat_lt c (reach es (c + 1))) refl refl ∙ ap (λ b. nat_lt c x || b) (ends.members c)
-  noted_member c false h =
-      let later : c < f = grind (arith, nat_tests) in
-      let r = (reach_set es f x (c + 1) (omega (arith, some, within))).1 (omega (arith, later)) in
-      ap (λ n. nat_lt c n) r ∙ ends.members c
-
-  noted_short : (n : ℕ) (b : Bool) → nat_lt f n ≡ b → reach (set es f (max (get_or es f 0) x)) n ≤ length es
-  noted_short n true h = let m : f < n = grind (arith, nat_tests) in let r = (reach_set es f x n (omega (arith, some, within))).0 m in let s = ends.short n in omega (arith, r, s, within)
-  noted_short n false h = let m : n ≤ f = grind (arith, nat_tests) in let r = (reach_set es f x n (omega (arith, some, within))).1 m in let s = ends.short n in omega (arith, r, s)
-
-  pub noted_ends : (new : List ℕ) → new ≡ set es f (max (get_or es f 0) x) → AreEnds new (length es) (λ c. between f x c || older c)
-  noted_ends new e =
-      record {
-        long = ap length e ∙ length-set es f (max (get_or es f 0) x);
-        short = λ n. subst (λ l. reach l n ≤ length es) (sym e) (noted_short n (nat_lt f n) refl);
-        members = λ c. ap (λ l. nat_lt c (reach l (c + 1))) e ∙ noted_member c (nat_le f c) refl;
-      }
 
 -- ---- what is covered is used
 
@@ -98,22 +49,15 @@ covers_all [] true c = refl
 covers_all [] false c = refl
 covers_all (u ∷ us) writes_only c = covers_one us u.first u.end c u.kind writes_only (covers_all us writes_only c)
 
--- ---- the numbers that are reached
-
-pub reach_next : (es : List ℕ) (n : ℕ) → n < length es → reach es (n + 1) ≡ max (reach es n) (get_or es n 0)
-reach_next [] n h = absurd (omega (arith, h))
-reach_next (e ∷ es) zero h = let r : reach (e ∷ es) 1 ≡ max e 0 = first in omega (arith, r)
-  where
-    first : max e (reach es 0) ≡ max e 0
-    first = refl
-reach_next (e ∷ es) (suc n) h =
-    let r = reach_next es n (omega (arith, h)) in
-    let step : suc n + 1 ≡ suc (n + 1) = omega arith in
-    ap (λ m. reach (e ∷ es) m) step ∙ (omega (arith, r))
+-- ---- numbers that rise
 
 held-append : (xs ys : List ℕ) (c : ℕ) → is_held (xs ++ ys) c ≡ (is_held xs c || is_held ys c)
 held-append [] ys c = refl
 held-append (x ∷ xs) ys c = ap (λ b. nat_eq x c || b) (held-append xs ys c) ∙ sym (or_after (nat_eq x c) (is_held xs c) (is_held ys c))
+
+or_first : (a b : Bool) → IsTrue a → IsTrue (a || b)
+or_first true b h = refl
+or_first false b h = absurd cc
 
 or_second : (a b : Bool) → IsTrue b → IsTrue (a || b)
 or_second true b h = refl
@@ -130,77 +74,168 @@ rising-append : (n : ℕ) (xs : List ℕ) → IsRising xs → ((c : ℕ) → IsT
 rising-append n [] h m = tt
 rising-append n (x ∷ xs) h m = above-append x n xs h (m x (ap (λ b. b || is_held xs x) (same_number x))) (λ c k. m c (or_second (nat_eq x c) (is_held xs c) k))
 
-module _ (es : List ℕ) (n : ℕ) (xs : List ℕ) (before : AreReached es n xs) where
-  member_step : (c : ℕ) (a b : Bool) → nat_lt c n ≡ a → nat_eq n c ≡ b → (ys : List ℕ) → (t : Bool) → nat_lt n (reach es (n + 1)) ≡ t → ys ≡ (if t then n ∷ [] else [])
-      → ((a && nat_lt c (reach es (c + 1))) || is_held ys c) ≡ (nat_lt c (n + 1) && nat_lt c (reach es (c + 1)))
-  member_step c true true p q ys t r e = absurd (let h : c < n = grind (arith, nat_tests) in let k : n ≡ c = grind (arith, nat_tests) in omega (arith, h, k))
-  member_step c true false p q ys t r e =
-      let within : nat_lt c (n + 1) ≡ true = grind (arith, nat_tests) in
-      ap (λ l. nat_lt c (reach es (c + 1)) || is_held l c) e ∙ not_it t ∙ ap (λ b. b && nat_lt c (reach es (c + 1))) (sym within)
-    where
-      or_none : (a : Bool) → (a || false) ≡ a
-      or_none true = refl
-      or_none false = refl
+-- ---- lists
 
-      not_it : (t : Bool) → (nat_lt c (reach es (c + 1)) || is_held (if t then n ∷ [] else []) c) ≡ nat_lt c (reach es (c + 1))
-      not_it true = ap (λ b. nat_lt c (reach es (c + 1)) || (b || false)) q ∙ or_none (nat_lt c (reach es (c + 1)))
-      not_it false = or_none (nat_lt c (reach es (c + 1)))
-  member_step c false true p q ys t r e =
-      let same : n ≡ c = grind (arith, nat_tests) in
-      let within : nat_lt c (n + 1) ≡ true = grind (arith, nat_tests) in
-      let reached : nat_lt c (reach es (c + 1)) ≡ t = ap (λ m. nat_lt m (reach es (m + 1))) (sym same) ∙ r in
-      ap (λ l. is_held l c) e ∙ it t ∙ sym reached ∙ ap (λ b. b && nat_lt c (reach es (c + 1))) (sym within)
-    where
-      it : (t : Bool) → is_held (if t then n ∷ [] else []) c ≡ t
-      it true = ap (λ b. b || false) q
-      it false = refl
-  member_step c false false p q ys t r e =
-      let past : nat_lt c (n + 1) ≡ false = grind (arith, nat_tests) in
-      ap (λ l. is_held l c) e ∙ none t ∙ ap (λ b. b && nat_lt c (reach es (c + 1))) (sym past)
-    where
-      none : (t : Bool) → is_held (if t then n ∷ [] else []) c ≡ false
-      none true = ap (λ b. b || false) q
-      none false = refl
+between_true : (first end c : ℕ) → first ≤ c → c < end → IsTrue (between first end c)
+between_true first end c h k = grind (arith, nat_tests)
 
-  held_below : (c : ℕ) (b : Bool) → nat_lt c n ≡ b → IsTrue (b && nat_lt c (reach es (c + 1))) → c < n
-  held_below c true e h = grind (arith, nat_tests)
-  held_below c false e h = absurd cc
+empty_row : (first end c : ℕ) → end ≤ first → between first end c ≡ false
+empty_row first end c h = grind (arith, nat_tests)
 
-  rises : (t : Bool) → IsRising (xs ++ (if t then n ∷ [] else []))
-  rises true = rising-append n xs before.rising (λ c h. held_below c (nat_lt c n) refl (subst IsTrue (before.members c) h))
-  rises false = subst IsRising (sym (nothing_more xs)) before.rising
-    where
-      nothing_more : (xs : List ℕ) → xs ++ [] ≡ xs
-      nothing_more [] = refl
-      nothing_more (x ∷ xs) = ap (λ l. x ∷ l) (nothing_more xs)
+append-nil : (xs : List ℕ) → xs ++ [] ≡ xs
+append-nil [] = refl
+append-nil (x ∷ xs) = ap (λ l. x ∷ l) (append-nil xs)
 
-  pub reached_next : (r : ℕ) (new : List ℕ) → r ≡ reach es (n + 1) → new ≡ xs ++ (if nat_lt n r then n ∷ [] else []) → AreReached es (n + 1) new
-  reached_next r new e is =
-      let same : new ≡ xs ++ (if nat_lt n (reach es (n + 1)) then n ∷ [] else []) = is ∙ ap (λ m. xs ++ (if nat_lt n m then n ∷ [] else [])) e in
-      record {
-        rising = subst IsRising (sym same) (rises (nat_lt n (reach es (n + 1))));
-        members = λ c. ap (λ l. is_held l c) same ∙ held-append xs (if nat_lt n (reach es (n + 1)) then n ∷ [] else []) c ∙ ap (λ b. b || is_held (if nat_lt n (reach es (n + 1)) then n ∷ [] else []) c) (before.members c)
-            ∙ member_step c (nat_lt c n) (nat_eq n c) refl refl (if nat_lt n (reach es (n + 1)) then n ∷ [] else []) (nat_lt n (reach es (n + 1))) refl refl;
-      }
+append-assoc : (xs ys zs : List ℕ) → (xs ++ ys) ++ zs ≡ xs ++ (ys ++ zs)
+append-assoc [] ys zs = refl
+append-assoc (x ∷ xs) ys zs = ap (λ l. x ∷ l) (append-assoc xs ys zs)
 
-pub listed : (us : List Use) (writes_only : Bool) (es : List ℕ) (count : ℕ) (xs : List ℕ) → AreEnds es count (covers writes_only us) → AreReached es (length es) xs → Lists xs (counted writes_only (uses_in us))
-listed us writes_only es count xs ends reached =
-    record { rising = reached.rising; members = λ c. reached.members c ∙ whole c (nat_lt c (length es)) refl ∙ ends.members c ∙ covers_all us writes_only c }
+item_at : (rows : List Row) (i : ℕ) (d e : Row) → i < length rows → get_or rows i d ≡ get_or rows i e
+item_at [] i d e h = absurd (omega (arith, h))
+item_at (r ∷ rs) zero d e h = refl
+item_at (r ∷ rs) (suc i) d e h = item_at rs i d e (omega (arith, h))
+
+take_all : (i : ℕ) (rows : List Row) → length rows ≤ i → take i rows ≡ rows
+take_all zero [] h = refl
+take_all (suc i) [] h = refl
+take_all zero (r ∷ rs) h = absurd (omega (arith, h))
+take_all (suc i) (r ∷ rs) h = ap (λ l. r ∷ l) (take_all i rs (omega (arith, h)))
+
+-- ---- numbers in a row
+
+held_numbers : (first n c : ℕ) → is_held (numbers_from first n) c ≡ between first (first + n) c
+held_numbers first zero c = grind (arith, nat_tests)
+held_numbers first (suc n) c = ap (λ b. nat_eq first c || b) (held_numbers (suc first) n c) ∙ (grind (arith, nat_tests))
+
+numbers_more : (first n : ℕ) → numbers_from first (suc n) ≡ numbers_from first n ++ (first + n) ∷ []
+numbers_more first zero = ap (λ m. m ∷ []) (sym (add-zero first))
+numbers_more first (suc n) =
+    let same : suc first + n ≡ first + suc n = omega arith in
+    ap (λ l. first ∷ l) (numbers_more (suc first) n) ∙ ap (λ m. first ∷ (numbers_from (suc first) n ++ m ∷ [])) same
+
+pub pushed_number : (xs ys zs : List ℕ) (first number : ℕ) → first ≤ number → ys ≡ xs ++ numbers_from first (number - first) → zs ≡ ys ++ number ∷ [] → zs ≡ xs ++ numbers_from first (number + 1 - first)
+pushed_number xs ys zs first number from before is =
+    let more : number + 1 - first ≡ suc (number - first) = omega (arith, from) in
+    let last : first + (number - first) ≡ number = omega (arith, from) in
+    is ∙ ap (λ l. l ++ number ∷ []) before ∙ append-assoc xs (numbers_from first (number - first)) (number ∷ [])
+    ∙ ap (λ m. xs ++ (numbers_from first (number - first) ++ m ∷ [])) (sym last)
+    ∙ ap (λ l. xs ++ l) (sym (numbers_more first (number - first))) ∙ ap (λ n. xs ++ numbers_from first n) (sym more)
+
+pub no_numbers : (xs ys : List ℕ) (first : ℕ) → ys ≡ xs → ys ≡ xs ++ numbers_from first (first - first)
+no_numbers xs ys first is =
+    let none : first - first ≡ 0 = omega arith in
+    is ∙ sym (append-nil xs) ∙ ap (λ n. xs ++ numbers_from first n) (sym none)
+
+pub all_numbers : (xs ys : List ℕ) (first number end : ℕ) → end ≤ number → (first ≤ end → number ≤ end) → (end ≤ first → number ≡ first) → ys ≡ xs ++ numbers_from first (number - first) → ys ≡ xs ++ numbers_from first (end - first)
+all_numbers xs ys first number end past within none is = is ∙ ap (λ n. xs ++ numbers_from first n) (by (nat_le first end) refl)
   where
-    whole : (c : ℕ) (b : Bool) → nat_lt c (length es) ≡ b → (b && nat_lt c (reach es (c + 1))) ≡ nat_lt c (reach es (c + 1))
-    whole c true e = refl
-    whole c false e = let long = ends.long in let short = ends.short (c + 1) in grind (arith, nat_tests)
+    by : (b : Bool) → nat_le first end ≡ b → number - first ≡ end - first
+    by true t = let w = within (grind (arith, nat_tests)) in omega (arith, w, past)
+    by false t = let short : end ≤ first = grind (arith, nat_tests) in let n = none short in omega (arith, n, short)
 
--- each number is pushed once at most
-pub few_more : (n r : ℕ) (xs new : List ℕ) → length xs ≤ n → new ≡ xs ++ (if nat_lt n r then n ∷ [] else []) → length new ≤ n + 1
-few_more n r xs new h e =
-    let long = ap length e ∙ length-append xs (if nat_lt n r then n ∷ [] else []) in
-    let one = one_at_most (nat_lt n r) in
-    omega (arith, h, long, one)
+length-numbers : (first n : ℕ) → length (numbers_from first n) ≡ n
+length-numbers first zero = refl
+length-numbers first (suc n) = ap suc (length-numbers (suc first) n)
+
+or_either : (a b : Bool) (P : Type 0) → (IsTrue a → P) → (IsTrue b → P) → IsTrue (a || b) → P
+or_either true b P f g h = f refl
+or_either false b P f g h = g h
+
+held_either : (xs : List ℕ) (first n c : ℕ) (P : Type 0) → (IsTrue (is_held xs c) → P) → (first ≤ c → c < first + n → P) → IsTrue (is_held (xs ++ numbers_from first n) c) → P
+held_either xs first n c P old new h =
+    or_either (is_held xs c) (between first (first + n) c) P old (λ m. new (at_least m) (less_than m))
+    (subst IsTrue (held-append xs (numbers_from first n) c ∙ ap (λ b. is_held xs c || b) (held_numbers first n c)) h)
   where
-    one_at_most : (b : Bool) → length (if b then n ∷ [] else []) ≤ 1
-    one_at_most true = omega arith
-    one_at_most false = omega arith
+    at_least : IsTrue (between first (first + n) c) → first ≤ c
+    at_least m = grind (arith, nat_tests)
+
+    less_than : IsTrue (between first (first + n) c) → c < first + n
+    less_than m = grind (arith, nat_tests)
+
+rising_numbers : (xs : List ℕ) (first n : ℕ) → IsRising xs → ((c : ℕ) → IsTrue (is_held xs c) → c < first) → IsRising (xs ++ numbers_from first n)
+rising_numbers xs first zero up below = subst IsRising (sym (append-nil xs)) up
+rising_numbers xs first (suc n) up below =
+    subst IsRising (append-assoc xs (numbers_from first n) ((first + n) ∷ []) ∙ ap (λ l. xs ++ l) (sym (numbers_more first n)))
+    (rising-append (first + n) (xs ++ numbers_from first n) (rising_numbers xs first n up below)
+        (λ c h. held_either xs first n c (c < first + n) (λ m. let b = below c m in omega (arith, b)) (λ low high. high) h))
+
+-- ---- rows that are gathered
+
+row_beyond : (first end reached c : ℕ) → (first ≤ c → c < reached → ⊥) → between (max reached first) (max reached first + (end - max reached first)) c ≡ between first end c
+row_beyond first end reached c neither = by (nat_le first c) (nat_lt c reached) refl refl
+  where
+    by : (a b : Bool) → nat_le first c ≡ a → nat_lt c reached ≡ b → between (max reached first) (max reached first + (end - max reached first)) c ≡ between first end c
+    by true true p q = absurd (neither (grind (arith, nat_tests)) (grind (arith, nat_tests)))
+    by true false p q = grind (arith, nat_tests)
+    by false true p q = grind (arith, nat_tests)
+    by false false p q = grind (arith, nat_tests)
+
+module _ (rows : List Row) (sorted : IsNonDecreasingBy (λ row. row.first) rows) (i : ℕ) (d : Row) (lt : i < length rows) (xs : List ℕ) (reached : ℕ) (before : Gathered rows i xs reached) where
+  all_begun : (c : ℕ) → (get_or rows i d).first ≤ c → (j : ℕ) (e : Row) → j < i → (get_or rows j e).first ≤ c
+  all_begun c h j e m =
+      let up : (get_or rows j e).first ≤ (get_or rows i e).first = sorted j i e (omega (arith, m)) lt in
+      let same : get_or rows i e ≡ get_or rows i d = item_at rows i e d lt in
+      let here : (get_or rows i e).first ≡ (get_or rows i d).first = ap (λ (r : Row). r.first) same in
+      omega (arith, up, here, h)
+
+  joined : (first end c : ℕ) → (first ≤ c → (j : ℕ) (e : Row) → j < i → (get_or rows j e).first ≤ c) → (held : Bool) → is_held xs c ≡ held
+      → (held || between (max reached first) (max reached first + (end - max reached first)) c) ≡ (held || between first end c)
+  joined first end c begun true e = refl
+  joined first end c begun false e = row_beyond first end reached c (λ low high. not_held e (before.full c (begun low) high))
+    where
+      not_held : is_held xs c ≡ false → IsTrue (is_held xs c) → ⊥
+      not_held e h = cc
+
+  module _ (first end : ℕ) (is_first : (get_or rows i d).first ≡ first) (is_end : (get_or rows i d).end ≡ end) (new : List ℕ) (is : new ≡ xs ++ numbers_from (max reached first) (end - max reached first)) where
+    members_next : (c : ℕ) → is_held new c ≡ in_rows (take (i + 1) rows) c
+    members_next c =
+        ap (λ l. is_held l c) is ∙ held-append xs (numbers_from (max reached first) (end - max reached first)) c
+        ∙ ap (λ b. is_held xs c || b) (held_numbers (max reached first) (end - max reached first) c)
+        ∙ joined first end c (λ h. all_begun c (subst (λ m. m ≤ c) (sym is_first) h)) (is_held xs c) refl
+        ∙ ap (λ b. b || between first end c) (before.members c)
+        ∙ ap (λ m. in_rows (take i rows) c || between m end c) (sym is_first)
+        ∙ ap (λ m. in_rows (take i rows) c || between (get_or rows i d).first m c) (sym is_end)
+        ∙ sym (list_any_more (λ (r : Row). between r.first r.end c) rows i d lt)
+
+    pub gathered_next : end ≤ most_cells → Gathered rows (i + 1) new (max reached end)
+    gathered_next few =
+        let short = before.few in
+        let long = ap length is ∙ length-append xs (numbers_from (max reached first) (end - max reached first)) in
+        let count = length-numbers (max reached first) (end - max reached first) in
+        let small = before.within in
+        record {
+          rising = subst IsRising (sym is) (rising_numbers xs (max reached first) (end - max reached first) before.rising (λ c h. (let b = before.below c h in omega (arith, b))));
+          members = members_next;
+          below = λ c h. held_either xs (max reached first) (end - max reached first) c (c < max reached end) (λ m. (let b = before.below c m in omega (arith, b))) (λ low high. omega (arith, low, high)) (subst (λ l. IsTrue (is_held l c)) is h);
+          full = λ c begun high. full_next c (λ j e m. begun j e (omega (arith, m))) (subst (λ m. m ≤ c) is_first (begun i d (omega arith))) high (nat_lt c reached) refl;
+          few = omega (arith, short, long, count);
+          within = omega (arith, few, small);
+        }
+      where
+        full_next : (c : ℕ) → ((j : ℕ) (e : Row) → j < i → (get_or rows j e).first ≤ c) → first ≤ c → c < max reached end → (b : Bool) → nat_lt c reached ≡ b → IsTrue (is_held new c)
+        full_next c begun low high true t =
+            let near : c < reached = grind (arith, nat_tests) in
+            subst IsTrue (sym (ap (λ l. is_held l c) is ∙ held-append xs (numbers_from (max reached first) (end - max reached first)) c))
+            (or_first (is_held xs c) (is_held (numbers_from (max reached first) (end - max reached first)) c) (before.full c begun near))
+        full_next c begun low high false t =
+            let far : reached ≤ c = grind (arith, nat_tests) in
+            let inside : IsTrue (between (max reached first) (max reached first + (end - max reached first)) c) = between_true (max reached first) (max reached first + (end - max reached first)) c (omega (arith, far, low)) (omega (arith, high, far, low)) in
+            subst IsTrue (sym (ap (λ l. is_held l c) is ∙ held-append xs (numbers_from (max reached first) (end - max reached first)) c))
+            (or_second (is_held xs c) (is_held (numbers_from (max reached first) (end - max reached first)) c) (subst IsTrue (sym (held_numbers (max reached first) (end - max reached first) c)) inside))
+
+pub none_gathered : (rows : List Row) (xs : List ℕ) → xs ≡ [] → Gathered rows 0 xs 0
+none_gathered rows xs e =
+    subst (λ l. Gathered rows 0 l 0) (sym e)
+    record { rising = tt; members = λ c. nothing rows c; below = λ c h. absurd cc; full = λ c begun h. absurd (omega (arith, h)); few = omega arith; within = omega arith }
+  where
+    nothing : (rows : List Row) (c : ℕ) → false ≡ in_rows (take 0 rows) c
+    nothing [] c = refl
+    nothing (r ∷ rs) c = refl
+
+pub all_gathered : (rows : List Row) (i : ℕ) (xs : List ℕ) (reached : ℕ) → length rows ≤ i → Gathered rows i xs reached → Lists xs (in_rows rows)
+all_gathered rows i xs reached h all = record { rising = all.rising; members = λ c. all.members c ∙ ap (λ l. in_rows l c) (take_all i rows h) }
+
+-- ---- the furthest end
 
 -- the end of each use lies within the furthest one
 first_within : (a b : ℕ) → a ≤ max a b
@@ -222,21 +257,70 @@ below_then a b c h k = omega (arith, h, k)
 pub end_fits : (us : List Use) (i : ℕ) (one d : Use) (writes_only : Bool) (n : ℕ) → i < length us → one ≡ get_or us i d → furthest writes_only us ≤ n → end_of writes_only one ≤ n
 end_fits us i one d writes_only n lt is h = below_then (end_of writes_only one) (furthest writes_only us) n (end_within us i one d writes_only lt is) h
 
--- one more use of a span
-pub covers_next : (us : List Use) (i k : ℕ) (one d : Use) (writes_only : Bool) (es : List ℕ) (count : ℕ) → k ≡ i + 1 → i < length us → one ≡ get_or us i d → AreEnds es count (covers writes_only (one ∷ drop k us)) → AreEnds es count (covers writes_only (drop i us))
-covers_next us i k one d writes_only es count e lt is h =
-    let next : k ≡ suc i = omega (arith, e) in
-    let left : drop i us ≡ one ∷ drop k us = drop-cons us i d lt ∙ ap (λ x. x ∷ drop (suc i) us) (sym is) ∙ ap (λ n. one ∷ drop n us) (sym next) in
-    subst (λ l. AreEnds es count (covers writes_only l)) (sym left) h
+-- ---- rows of uses
+
+in_rows_push : (rows : List Row) (row : Row) (c : ℕ) → in_rows (rows ++ row ∷ []) c ≡ (between row.first row.end c || in_rows rows c)
+in_rows_push rows row c = list_any-append (λ (r : Row). between r.first r.end c) rows (row ∷ []) ∙ turned (in_rows rows c) (between row.first row.end c)
+  where
+    turned : (a b : Bool) → (a || (b || false)) ≡ (b || a)
+    turned true true = refl
+    turned true false = refl
+    turned false true = refl
+    turned false false = refl
+
+pub none_there : All (λ (row : Row). row.end ≤ most_cells) []
+none_there i d h = absurd (omega (arith, h))
+
+pub rows_next : (us : List Use) (i k : ℕ) (one d : Use) (writes_only : Bool) (rows new : List Row) → k ≡ i + 1 → i < length us → one ≡ get_or us i d → furthest writes_only us ≤ most_cells
+    → ((c : ℕ) → in_rows rows c ≡ covers writes_only (drop k us) c) → All (λ row. row.end ≤ most_cells) rows → AddsRow writes_only one rows new
+    → ((c : ℕ) → in_rows new c ≡ covers writes_only (drop i us) c) × All (λ row. row.end ≤ most_cells) new
+rows_next us i k one d writes_only rows new e lt is few same within adds = by (is_counted writes_only one.kind && nat_lt one.first one.end) refl adds
+  where
+    left : drop i us ≡ one ∷ drop k us
+    left =
+        let next : k ≡ suc i = omega (arith, e) in
+        drop-cons us i d lt ∙ ap (λ x. x ∷ drop (suc i) us) (sym is) ∙ ap (λ n. one ∷ drop n us) (sym next)
+
+    alone : (b : Bool) (c : ℕ) → (is_counted writes_only one.kind && nat_lt one.first one.end) ≡ b → (is_counted writes_only one.kind && between one.first one.end c) ≡ (b && between one.first one.end c)
+    alone b c t = by_kind (is_counted writes_only one.kind) b t
+      where
+        by_kind : (a b : Bool) → (a && nat_lt one.first one.end) ≡ b → (a && between one.first one.end c) ≡ (b && between one.first one.end c)
+        by_kind true true t = refl
+        by_kind true false t = let none : one.end ≤ one.first = at_most t in empty_row one.first one.end c none
+          where
+            at_most : nat_lt one.first one.end ≡ false → one.end ≤ one.first
+            at_most t = grind (arith, nat_tests)
+        by_kind false true t = absurd cc
+        by_kind false false t = refl
+
+    by : (b : Bool) → (is_counted writes_only one.kind && nat_lt one.first one.end) ≡ b → new ≡ (if b then rows ++ record { first = one.first; end = one.end } ∷ [] else rows)
+        → ((c : ℕ) → in_rows new c ≡ covers writes_only (drop i us) c) × All (λ row. row.end ≤ most_cells) new
+    by true t adds =
+        let row : Row = record { first = one.first; end = one.end } in
+        let fits : end_of writes_only one ≤ most_cells = end_fits us i one d writes_only most_cells lt is few in
+        let short : one.end ≤ most_cells = subst (λ b. (if b then one.end else 0) ≤ most_cells) t fits in (
+          (λ c.
+              ap (λ l. in_rows l c) adds ∙ in_rows_push rows row c ∙ ap (λ b. b || in_rows rows c) (sym (alone true c t)) ∙ ap (λ b. (is_counted writes_only one.kind && between one.first one.end c) || b) (same c)
+              ∙ ap (λ l. covers writes_only l c) (sym left)),
+          subst (All (λ (row : Row). row.end ≤ most_cells)) (sym adds) (All-append (λ (row : Row). row.end ≤ most_cells) rows (row ∷ []) within (All-cons (λ (row : Row). row.end ≤ most_cells) row [] short none_there)),
+        )
+    by false t adds = (
+      (λ c. ap (λ l. in_rows l c) adds ∙ same c ∙ ap (λ b. b || covers writes_only (drop k us) c) (sym (alone false c t)) ∙ ap (λ l. covers writes_only l c) (sym left)),
+      subst (All (λ (row : Row). row.end ≤ most_cells)) (sym adds) within,
+    )
+
+pub no_rows : (us : List Use) (i : ℕ) (writes_only : Bool) (rows : List Row) → length us ≤ i → rows ≡ [] → (c : ℕ) → in_rows rows c ≡ covers writes_only (drop i us) c
+no_rows us i writes_only rows h e c = ap (λ l. in_rows l c) e ∙ ap (λ l. covers writes_only l c) (sym (drop_all us i h))
+
+pub listed : (us : List Use) (writes_only : Bool) (rows sorted : List Row) (xs : List ℕ) → IsPermutation rows sorted → ((c : ℕ) → in_rows rows c ≡ covers writes_only us c) → Lists xs (in_rows sorted) → Lists xs (counted writes_only (uses_in us))
+listed us writes_only rows sorted xs moved same all =
+    record { rising = all.rising; members = λ c. all.members c ∙ sym (list_any-IsPermutation (λ (r : Row). between r.first r.end c) rows sorted moved) ∙ same c ∙ covers_all us writes_only c }
 
 pub furthest_next : (us : List Use) (i k : ℕ) (one d : Use) (writes_only : Bool) {end more : ℕ} → k ≡ i + 1 → i < length us → one ≡ get_or us i d → end ≡ furthest writes_only (drop k us) → more ≡ max (end_of writes_only one) end → more ≡ furthest writes_only (drop i us)
 furthest_next us i k one d writes_only e lt is h m =
     let next : k ≡ suc i = omega (arith, e) in
     let left : drop i us ≡ one ∷ drop k us = drop-cons us i d lt ∙ ap (λ x. x ∷ drop (suc i) us) (sym is) ∙ ap (λ n. one ∷ drop n us) (sym next) in
     m ∙ ap (max (end_of writes_only one)) h ∙ sym (ap (furthest writes_only) left)
-
-pub no_uses : (us : List Use) (i : ℕ) (writes_only : Bool) (es : List ℕ) (count : ℕ) → length us ≤ i → AreEnds es count (covers writes_only []) → AreEnds es count (covers writes_only (drop i us))
-no_uses us i writes_only es count h ends = subst (λ l. AreEnds es count (covers writes_only l)) (sym (drop_all us i h)) ends
 
 -- ---- where no number is past the limit, the furthest end is within it
 

@@ -1,6 +1,9 @@
 -- The cells of a process, from the uses of its term.
 -- Manual: nothing; this is (own).
-use Rattle.std.specs.Prelude.{Bool, List, [], false, if◌then◌else◌, length, max, nat_lt, not, suc, true, zero, ℕ, ◌&&◌, ◌+◌, ◌≤◌, ◌||◌, ◌∷◌, ◌≡◌}
+use Rattle.std.specs.Prelude.{Bool, IsTrue, List, [], false, if◌then◌else◌, length, max, nat_lt, not, slice_index_or, suc, take, true, zero, ℕ, ◌&&◌, ◌++◌, ◌<◌, ◌≤◌, ◌||◌, ◌∷◌, ◌≡◌}
+use Rattle.std.specs.List.{list_any}
+use Rattle.occ_term.specs.UnfoldedProgram.{most_cells}
+use Rattle.occ_code.specs.declared.compiler.cells.Row.{Row}
 use Rattle.occ_term.specs.Uses.{Numbers, Uses}
 use Rattle.occ_usage.specs.Noted.{between}
 use Rattle.occ_term.specs.Frames.{is_held}
@@ -33,19 +36,23 @@ abbrev pub furthest : Bool → List Use → ℕ
 furthest writes_only [] = 0
 furthest writes_only (u ∷ us) = max (end_of writes_only u) (furthest writes_only us)
 
--- the furthest of so many ends
-abbrev pub reach : List ℕ → ℕ → ℕ
-reach ends zero = 0
-reach [] (suc n) = 0
-reach (e ∷ ends) (suc n) = max e (reach ends n)
+-- so many numbers in a row
+abbrev pub numbers_from : ℕ → ℕ → List ℕ
+numbers_from first zero = []
+numbers_from first (suc n) = first ∷ numbers_from (suc first) n
 
--- At each number stands the furthest end of a use that begins there.
-pub record AreEnds (ends : List ℕ) (count : ℕ) (set : Numbers) : Type 0 where
-  pub long : length ends ≡ count
-  pub short : (n : ℕ) → reach ends n ≤ count
-  pub members : (c : ℕ) → nat_lt c (reach ends (c + 1)) ≡ set c
+abbrev pub in_rows : List Row → Numbers
+in_rows rows c = list_any (λ row. between row.first row.end c) rows
 
--- the numbers below this one that are reached
-pub record AreReached (ends : List ℕ) (below : ℕ) (xs : List ℕ) : Type 0 where
+-- a row more for a use that is counted and has a number
+abbrev pub AddsRow : Bool → Use → List Row → List Row → Type 0
+AddsRow writes_only u before after = after ≡ (if is_counted writes_only u.kind && nat_lt u.first u.end then before ++ record { first = u.first; end = u.end } ∷ [] else before)
+
+-- the first rows are gathered: their numbers rise, each once, and reach to their furthest end
+pub record Gathered (rows : List Row) (count : ℕ) (xs : List ℕ) (reached : ℕ) : Type 0 where
   pub rising : IsRising xs
-  pub members : (c : ℕ) → is_held xs c ≡ (nat_lt c below && nat_lt c (reach ends (c + 1)))
+  pub members : (c : ℕ) → is_held xs c ≡ in_rows (take count rows) c
+  pub below : (c : ℕ) → IsTrue (is_held xs c) → c < reached
+  pub full : (c : ℕ) → ((j : ℕ) (d : Row) → j < count → (slice_index_or rows j d).first ≤ c) → c < reached → IsTrue (is_held xs c)
+  pub few : length xs ≤ reached
+  pub within : reached ≤ most_cells

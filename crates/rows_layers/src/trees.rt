@@ -10,7 +10,7 @@ use std::test::Fail;
 const HEAD: &[u8] = b"PROC main (CHAN OF BYTE keyboard, screen)\n";
 
 /// Bodies of `main` that have a tree.
-static BODIES: [&[u8]; 48] = [
+static BODIES: [&[u8]; 50] = [
     b"  screen ! 'A'\n",
     b"  INT x:\n  x := 2147483647 + 1\n",
     b"  INT x:\n  SEQ\n    x := (MOSTNEG INT) \\ (-1)\n    screen ! BYTE (x + 48)\n",
@@ -33,6 +33,8 @@ static BODIES: [&[u8]; 48] = [
     b"  INT n:\n  SEQ\n    n := 0\n    SEQ i = 0 FOR n\n      STOP\n",
     b"  PAR i = 0 FOR -1\n    SKIP\n",
     b"  [65537]INT a:\n  SKIP\n",
+    b"  x[1][2][3][4] := 3\n",
+    b"  [ 2 ] [ 3 ] INT a :\n  a [ 0 ] [ 1 ] := 1\n",
     b"  INT n:\n  SEQ\n    n := 3\n    IF i = 0 FOR n\n      i = 2\n        screen ! BYTE (i + 48)\n",
     b"  ALT\n",
     b"  CHAN OF msg c:\n  ALT\n    a = b & c ? CASE\n      data; x\n        SKIP\n      quit\n        STOP\n    ALT i = 0 FOR 2\n      d[i] ? x\n        SKIP\n    TRUE & SKIP\n      SKIP\n",
@@ -83,7 +85,7 @@ static REFUSED: [(&[u8], &str); 24] = [
     ),
     (b"  x := a + b * c\n", "refused 20 Unexpected line 2"),
     (b"  INT16 x:\n  SKIP\n", "refused 20 Unexpected line 2"),
-    (b"  x[1][2] := 3\n", "refused 20 Unexpected line 2"),
+    (b"  x[1][2][3][4][5] := 3\n", "refused 20 Unexpected line 2"),
     (b"  SEQ\n      SKIP\n", "refused 21 Level line 3"),
     (b"  SKIP\n  SKIP\n", "refused 21 Level line 3"),
     (b"  WHILE TRUE\n  SKIP\n", "refused 21 Level line 3"),
@@ -101,9 +103,9 @@ static REFUSED: [(&[u8], &str); 24] = [
     ),
     (b"  INT16 x :\n  SKIP\n", "refused 20 Unexpected line 2"),
     (b"  TIMER x :\n  SKIP\n", "refused 20 Unexpected line 2"),
-    (b"  a [ 0 ] [ 1 ] := 1\n", "refused 20 Unexpected line 2"),
+    (b"  a [ 0 ] [ 1 ] [ 2 ] [ 3 ] [ 4 ] := 1\n", "refused 20 Unexpected line 2"),
     (
-        b"  [ 2 ] [ 3 ] INT a :\n  SKIP\n",
+        b"  [ 2 ] [ 3 ] [ 2 ] [ 3 ] [ 2 ] INT a :\n  SKIP\n",
         "refused 20 Unexpected line 2",
     ),
     (b"  SKIP\n  INT x :\n", "refused 21 Level line 3"),

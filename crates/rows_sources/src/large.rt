@@ -82,7 +82,7 @@ static SIZES: [Answered; 6] = [
     Answered(
         Around {
             before: "",
-            first: "  CHAN OF [65537]BYTE c:\n  SKIP\n",
+            first: "  CHAN OF [1048577]BYTE c:\n  SKIP\n",
             last: "",
         },
         "",
@@ -97,7 +97,7 @@ static SIZES: [Answered; 6] = [
     ),
     Answered(
         Around {
-            before: "PROTOCOL P IS [65537]BYTE; INT:\n",
+            before: "PROTOCOL P IS [1048577]BYTE; INT:\n",
             first: "  CHAN OF P c:\n  SKIP\n",
             last: "",
         },
@@ -105,7 +105,7 @@ static SIZES: [Answered; 6] = [
     ),
     Answered(
         Around {
-            before: "PROTOCOL P\n  CASE\n    a; [65537]INT\n    b\n:\n",
+            before: "PROTOCOL P\n  CASE\n    a; [1048577]INT\n    b\n:\n",
             first: "  CHAN OF P c:\n  SKIP\n",
             last: "",
         },
@@ -113,8 +113,8 @@ static SIZES: [Answered; 6] = [
     ),
     Answered(
         Around {
-            before: "PROC p (CHAN OF [65537]BYTE c)\n  SKIP\n:\n",
-            first: "  CHAN OF [65537]BYTE c:\n  p (c)\n",
+            before: "PROC p (CHAN OF [1048577]BYTE c)\n  SKIP\n:\n",
+            first: "  CHAN OF [1048577]BYTE c:\n  p (c)\n",
             last: "",
         },
         "",
@@ -122,7 +122,7 @@ static SIZES: [Answered; 6] = [
     Answered(
         Around {
             before: "",
-            first: "  [65537]BYTE a:\n  SKIP\n",
+            first: "  [1048577]BYTE a:\n  SKIP\n",
             last: "",
         },
         "refused 43 TooLarge",

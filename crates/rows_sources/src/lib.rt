@@ -4,6 +4,10 @@
 #[cfg(test)]
 mod answers;
 #[cfg(test)]
+mod dimension_rules;
+#[cfg(test)]
+mod dimensions;
+#[cfg(test)]
 mod examples;
 #[cfg(test)]
 mod gallery;

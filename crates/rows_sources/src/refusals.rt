@@ -278,7 +278,7 @@ static LISTS: [Body; 12] = [
     Body("  [2]INT v:\n  v[0], v[1] := 1, 2\n", ""),
     Body("  INT i, j:\n  [2]INT v:\n  j, v[i] := 1, 2\n", ""),
     // 43: limits
-    Body("  [65537]INT a:\n  SKIP\n", "refused 43 TooLarge"),
+    Body("  [1048577]INT a:\n  SKIP\n", "refused 43 TooLarge"),
     Body("  [4094]CHAN OF INT c:\n  SKIP\n", "refused 43 TooLarge"),
     Body("  [4093]CHAN OF INT c:\n  SKIP\n", ""),
     Body("  PAR i = 0 FOR 4096\n    SKIP\n", "refused 43 TooLarge"),

@@ -155,7 +155,7 @@ static MAINS: [Whole; 12] = [
     Whole("PROC main (CHAN OF BYTE keyboard)\n  SKIP\n:\n", None, ""),
     Whole("PROC main (CHAN OF BYTE a, b, c)\n  SKIP\n:\n", None, ""),
     Whole("", Some("  SKIP\n:\nVAL n IS m:\n"), ""),
-    Whole("", Some("  [65536]BYTE a:\n  SKIP\n:\n"), ""),
+    Whole("", Some("  [1048576]BYTE a:\n  SKIP\n:\n"), ""),
     Whole("", Some("  PAR i = 0 FOR 4095\n    SKIP\n:\n"), ""),
     Whole("VAL n IS 2:\n", Some("  [n]INT a:\n  SKIP\n:\n"), ""),
 ];

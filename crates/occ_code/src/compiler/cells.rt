@@ -1,15 +1,37 @@
 //! The cells that a process uses, and those that it writes.
-ghost use Rattle.std.specs.Prelude.{◌≡◌, ◌∷◌, [], ◌++◌, ◌<◌, ◌≤◌, IfOk, OnOk, get_or, if◌then◌else◌, List, length, max, nat_lt, set};
+ghost use Rattle.std.specs.Prelude.{◌≡◌, ◌++◌, ◌-◌, ◌<◌, ◌≤◌, ℕ, IfOk, OnOk, length, max};
+ghost use Rattle.std.specs.List.{All};
+ghost use Rattle.std.specs.List.Sorted.{IsNonDecreasingBy};
 ghost use Rattle.occ_term.specs.UnfoldedProgram.{most_cells};
 ghost use Rattle.occ_usage.specs.Noted.{uses_in};
 ghost use Rattle.occ_usage.specs.declared.noted.Use.{Use};
-ghost use Rattle.occ_code.specs.SameStop.{Lists};
-ghost use Rattle.occ_code.specs.Cells.{AreEnds, AreReached, counted, covers, end_of, furthest, is_counted as is_counted_use};
+ghost use Rattle.occ_code.specs.SameStop.{Lists, used_by};
+ghost use Rattle.occ_code.specs.Cells.{AddsRow, counted, covers, end_of, furthest, in_rows, is_counted as is_counted_use, numbers_from};
 ghost use Rattle.occ_code.specs.Within.{AreWithin};
 
-use occ_term::MOST_CELLS;
+use occ_term::{FrameCells, MOST_CELLS};
 use occ_usage::{Kind, Use};
 use std::alloc::{AllocError, Global};
+
+/// Cells in a row.
+#[derive(Clone, Copy)]
+pub struct Row {
+    /// The first.
+    pub first: u64,
+    /// The number after the last one.
+    pub end: u64,
+}
+
+/// The cells that are read or written, rising. They are all where none is past the limit, as in every well-formed program.
+/// The error is a refused growth.
+pub(crate) fn process_cells(alloc: Global, uses: &[Use]) -> Result<FrameCells, AllocError>
+    ensures lists { IfOk result (λ xs. AreWithin (used_by (uses_in uses.now)) → Lists xs (used_by (uses_in uses.now))) }
+    ensures few { IfOk result (λ xs. length xs ≤ most_cells) }
+{
+    let cells = rising_cells(alloc, uses, false)?;
+    let cells = FrameCells::new(alloc, &cells)?;
+    Ok(cells)
+}
 
 /// The cells that are written, or also those that are read, rising. They are all where none is past the limit, as in every
 /// well-formed program. The error is a refused growth.
@@ -25,8 +47,9 @@ pub(crate) fn rising_cells(
     if count > MOST_CELLS {
         return Ok(Vec::new(alloc));
     }
-    let ends = ends_of(alloc, uses, writes_only, count)?;
-    let cells = reached(alloc, &ends)?;
+    let mut rows = rows_of(alloc, uses, writes_only)?;
+    rows.sort_unstable_by_key(|row| row.first);
+    let cells = numbers_in(alloc, &rows)?;
     Ok(cells)
 }
 
@@ -41,7 +64,7 @@ fn is_counted(kind: Kind, writes_only: bool) -> bool
     }
 }
 
-/// The furthest end of a use that is counted and has a number. It says how long a table has to be.
+/// The furthest end of a use that is counted and has a number.
 fn furthest_end(uses: &[Use], writes_only: bool) -> usize
     ensures { result ≡ furthest writes_only uses.now }
 {
@@ -59,7 +82,7 @@ fn further(end: u64, one: Use, writes_only: bool) -> u64
     ensures { result ≡ max (end_of writes_only one) end }
 {
     let own = end_of(one, writes_only);
-    if end < own { own } else { end }
+    larger(end, own)
 }
 
 fn end_of(one: Use, writes_only: bool) -> u64
@@ -72,71 +95,62 @@ fn end_of(one: Use, writes_only: bool) -> u64
     }
 }
 
-/// For each number the furthest end of a use that begins there.
-fn ends_of(
-    alloc: Global,
-    uses: &[Use],
-    writes_only: bool,
-    count: usize,
-) -> Result<Vec<usize>, AllocError>
-    requires { furthest writes_only uses.now ≤ count }
-    ensures { IfOk result (λ ends. AreEnds ends.items count (covers writes_only uses.now)) }
-{
-    let mut ends = vec![in alloc; 0; count]?;
-    let mut left = uses.len();
-    while left > 0 {
-        left -= 1;
-        note_use(&mut ends, uses[left], writes_only);
-    }
-    Ok(ends)
-}
-
-fn note_use(ends: &mut Vec<usize>, one: Use, writes_only: bool)
-    requires { end_of writes_only one ≤ length ends.old.items }
-    ensures long { length ends.new.items ≡ length ends.old.items }
-    ensures noted { (uses : List Use) → AreEnds ends.old.items (length ends.old.items) (covers writes_only uses) → AreEnds ends.new.items (length ends.old.items) (covers writes_only (one ∷ uses)) }
-{
-    if is_counted(one.kind, writes_only) && one.first < one.end {
-        note_end(ends, one.first, one.end);
-    }
-}
-
-fn note_end(ends: &mut Vec<usize>, first: u64, end: u64)
-    requires some { first < end }
-    requires within { end ≤ length ends.old.items }
-    ensures long { length ends.new.items ≡ length ends.old.items }
-    ensures set { ends.new.items ≡ set ends.old.items first (max (get_or ends.old.items first 0) end) }
-{
-    let place = first as usize;
-    ends[place] = larger(ends[place], end as usize);
-}
-
-fn larger(a: usize, b: usize) -> usize
+fn larger(a: u64, b: u64) -> u64
     ensures { result ≡ max a b }
 {
     if a < b { b } else { a }
 }
 
-/// The numbers that are reached.
-fn reached(alloc: Global, ends: &[usize]) -> Result<Vec<u32>, AllocError>
-    requires { length ends.now ≤ most_cells }
-    ensures reached { IfOk result (λ xs. AreReached ends.now (length ends.now) xs.items) }
-    ensures few { IfOk result (λ xs. length xs.items ≤ length ends.now) }
+/// The cells of each use that is counted, where it has any.
+fn rows_of(alloc: Global, uses: &[Use], writes_only: bool) -> Result<Vec<Row>, AllocError>
+    requires { furthest writes_only uses.now ≤ most_cells }
+    ensures numbers { IfOk result (λ rows. (c : ℕ) → in_rows rows.items c ≡ covers writes_only uses.now c) }
+    ensures within { IfOk result (λ rows. All (λ row. row.end ≤ most_cells) rows.items) }
+{
+    let mut rows = Vec::new(alloc);
+    let mut left = uses.len();
+    while left > 0 {
+        left -= 1;
+        add_use(&mut rows, uses[left], writes_only)?;
+    }
+    Ok(rows)
+}
+
+fn add_use(rows: &mut Vec<Row>, one: Use, writes_only: bool) -> Result<(), AllocError>
+    ensures { OnOk result (AddsRow writes_only one rows.old.items rows.new.items) }
+{
+    if is_counted(one.kind, writes_only) && one.first < one.end {
+        rows.push(Row {
+            first: one.first,
+            end: one.end,
+        })?;
+    }
+    Ok(())
+}
+
+/// The numbers in rows that are sorted, each once.
+fn numbers_in(alloc: Global, rows: &[Row]) -> Result<Vec<u32>, AllocError>
+    requires sorted { IsNonDecreasingBy (λ row. row.first) rows.now }
+    requires within { All (λ row. row.end ≤ most_cells) rows.now }
+    ensures lists { IfOk result (λ xs. Lists xs.items (in_rows rows.now)) }
+    ensures few { IfOk result (λ xs. length xs.items ≤ most_cells) }
 {
     let mut numbers = Vec::new(alloc);
-    let mut furthest = 0;
-    for number in 0..ends.len() {
-        furthest = larger(furthest, ends[number]);
-        note_number(&mut numbers, number, furthest)?;
+    let mut reached = 0;
+    for row in rows {
+        add_row(&mut numbers, reached, *row)?;
+        reached = larger(reached, row.end);
     }
     Ok(numbers)
 }
 
-fn note_number(numbers: &mut Vec<u32>, number: usize, furthest: usize) -> Result<(), AllocError>
-    requires { number < most_cells }
-    ensures { OnOk result (numbers.new.items ≡ numbers.old.items ++ (if nat_lt number furthest then number ∷ [] else [])) }
+/// Adds the numbers of a row from where the others end.
+fn add_row(numbers: &mut Vec<u32>, reached: u64, row: Row) -> Result<(), AllocError>
+    requires { row.end ≤ most_cells }
+    ensures { OnOk result (numbers.new.items ≡ numbers.old.items ++ numbers_from (max reached row.first) (row.end - max reached row.first)) }
 {
-    if number < furthest {
+    let first = larger(reached, row.first);
+    for number in first..row.end {
         numbers.push(number as u32)?;
     }
     Ok(())

@@ -1,7 +1,12 @@
-use Rattle.std.proofs.Common.{◌≤◌, subst, length, arith}
-use Rattle.occ_code.specs.Cells.{AreReached, furthest}
-use Rattle.occ_code.proofs.CellEnds.{listed, uses_furthest}
+use Rattle.std.proofs.Common.{◌≡◌, ◌≤◌, ap, sym, subst, arith, rules}
+use Rattle.std.proofs.lemmas.List.Sorted.{IsNonDecreasingBy-from_sort_by_key, All-permutation}
+use Rattle.std.specs.List.{All}
+use Rattle.std.specs.List.Sorted.{IsNonDecreasingBy}
 use Rattle.occ_term.specs.UnfoldedProgram.{most_cells}
+use Rattle.occ_code.specs.SameStop.{Lists}
+use Rattle.occ_code.specs.Cells.{furthest, in_rows}
+use Rattle.occ_code.specs.declared.compiler.cells.Row.{Row}
+use Rattle.occ_code.proofs.CellEnds.{listed, uses_furthest}
 use Rattle.occ_code.proofs.compiler.cells.rising_cells.Goals as goal
 
 pub returns-then-count-gt-MOST_CELLS-clause-lists : goal.returns-then-count-gt-MOST_CELLS-clause-lists
@@ -9,7 +14,17 @@ returns-then-count-gt-MOST_CELLS-clause-lists c = λ within.
     let few : furthest c.args.writes_only c.args.uses.now ≤ most_cells = uses_furthest c.args.uses.now c.args.writes_only within in
     absurd (omega (arith, few, c.furthest_end-count.ensures))
 
+pub numbers_in-requires-clause-sorted : goal.numbers_in-requires-clause-sorted
+numbers_in-requires-clause-sorted c =
+    subst (IsNonDecreasingBy (λ (row : Row). row.first)) (sym c.deref.ensures.value)
+    (IsNonDecreasingBy-from_sort_by_key (λ (row : Row). row.first) _ c.sort_unstable_by_key.ensures.sorted (λ a r q k. search rules))
+
+pub numbers_in-requires-clause-within : goal.numbers_in-requires-clause-within
+numbers_in-requires-clause-within c =
+    subst (All (λ (row : Row). row.end ≤ most_cells)) (sym c.deref.ensures.value)
+    (All-permutation (λ (row : Row). row.end ≤ most_cells) _ _ c.sort_unstable_by_key.ensures.permutation c.in_ok-rows.ensures.within)
+
 pub returns-clause-lists : goal.returns-clause-lists
 returns-clause-lists c = λ within.
-    listed c.args.uses.now c.args.writes_only c.in_ok-ends.ends.items c.furthest_end-count.result c.in_ok-cells.cells.items c.in_ok-ends.ensures
-    (subst (λ l. AreReached l (length l) c.in_ok-cells.cells.items) c.deref.ensures.value c.in_ok-cells.ensures.reached)
+    listed c.args.uses.now c.args.writes_only _ _ c.in_ok-cells.cells.items c.sort_unstable_by_key.ensures.permutation c.in_ok-rows.ensures.numbers
+    (subst (λ rows. Lists c.in_ok-cells.cells.items (in_rows rows)) c.deref.ensures.value c.in_ok-cells.ensures.lists)
