@@ -59,7 +59,7 @@ impl Numbers {
     ///
     /// # Errors
     ///
-    /// `TooLarge` past 65,536 cells, and `Memory`.
+    /// `TooLarge` past 1,048,576 cells, and `Memory`.
     pub fn more_cells(
         &mut self,
         alloc: Global,
@@ -234,12 +234,13 @@ fn component_names(
 {
     match sizes.split_first() {
         None => {
-            names.push(name.copy(alloc)?)?;
+            names.push(name.copy()?)?;
             Ok(())
         }
         Some((size, others)) => {
+            let array = name.shared(alloc)?;
             for k in 0..*size {
-                let component = name.component(alloc, k)?;
+                let component = array.component(alloc, k)?;
                 component_names(alloc, names, &component, others)?;
             }
             Ok(())

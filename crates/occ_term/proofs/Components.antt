@@ -1,9 +1,9 @@
 -- Names of components.
-use Rattle.std.proofs.Common.{◌≡◌, ◌∙◌, ◌++◌, ◌+◌, ◌<◌, sym, ap, refl, ℕ, suc, List, [], ◌∷◌, arith, get_or, length, take}
+use Rattle.std.proofs.Common.{◌≡◌, ◌∙◌, ◌++◌, ◌+◌, ◌<◌, sym, ap, refl, ℕ, suc, List, [], ◌∷◌, arith, get_or, length, take, Option, Some, None}
 use Rattle.std.proofs.Math.Seq.{take-suc}
 use Rattle.std.proofs.lemmas.List.{append_assoc}
 use Rattle.std.specs.Fmt.{decimal}
-use Rattle.occ_term.specs.Names.{component_name, with_subscripts}
+use Rattle.occ_term.specs.Names.{component_name, with_last, with_subscripts}
 
 pub no_subscripts : (x : List ℕ) → with_subscripts x [] ≡ x
 unfolding with_subscripts
@@ -26,3 +26,6 @@ next_subscript x ks before after i d within b a =
     let same : i + 1 ≡ suc i = omega arith in
     let grown : take (i + 1) ks ≡ take i ks ++ get_or ks i d ∷ [] = ap (λ n. take n ks) same ∙ take-suc ks i d within in
     a ∙ ap (λ y. component_name y (get_or ks i d)) b ∙ sym (one_more_subscript x (take i ks) (get_or ks i d)) ∙ ap (with_subscripts x) (sym grown)
+
+pub last_behind : (o x : List ℕ) (k : ℕ) → component_name (o ++ x) k ≡ o ++ component_name x k
+last_behind o x k = append_assoc o x (91 ∷ (decimal k ++ 93 ∷ []))

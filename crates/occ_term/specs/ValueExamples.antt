@@ -38,7 +38,8 @@ ValueRows =
     × (value_of (Conversion Byte 2 (number (pos 256))) (λ c. pos 0) ≡ Fails (fault Convert 2))
     × (value_of (And (number (pos 0)) (Binary Equal Int 1 divides_by_zero (number (pos 0)))) (λ c. pos 0) ≡ Value (pos 0))
 
--- a[1][2] of [2][3]INT from cell 10 on is cell 15; a[0][3] is out of range, before the array is read
+-- a[1][2] of [2][3]INT from cell 10 on is cell 15; a[0][3] is out of range, before the array is read; a[2][1 / 0] is out of
+-- range before its second subscript is evaluated, and a[1 / 0][3] faults before its second one is checked
 abbrev pub matrix : ℤ → ℤ → Place
 matrix i j = place 3 10 (2 ∷ 3 ∷ []) (then_subscript (number i) (then_subscript (number j) no_subscripts))
 
@@ -47,6 +48,8 @@ PlaceRows =
     (span_of (matrix (pos 1) (pos 2)) (λ c. pos 0) ≡ Value (span 15 1))
     × (span_of (matrix (pos 0) (pos 3)) (λ c. pos 0) ≡ Fails (fault Range 3))
     × (span_of (place 3 10 (2 ∷ 3 ∷ []) (then_subscript (number (pos 1)) no_subscripts)) (λ c. pos 0) ≡ Value (span 13 3))
+    × (span_of (place 3 10 (2 ∷ 3 ∷ []) (then_subscript (number (pos 2)) (then_subscript divides_by_zero no_subscripts))) (λ c. pos 0) ≡ Fails (fault Range 3))
+    × (span_of (place 3 10 (2 ∷ 3 ∷ []) (then_subscript divides_by_zero (then_subscript (number (pos 3)) no_subscripts))) (λ c. pos 0) ≡ Fails (fault Arith 1))
 
 abbrev pub fault_in : {X : Type 0} → Outcome X → Option Fault
 fault_in (Gives x s) = None

@@ -23,29 +23,41 @@ pub const SCREEN: u32 = 1;
 /// The error channel.
 pub const ERROR: u32 = 2;
 
-/// A declared name; of a component with its subscripts, as `a[2]`. Contracts see its letters. The components of an array
-/// share the letters of its name.
-pub struct Name {
-    declared: Arc<Items<u8>, Global>,
+/// Letters with the subscripts behind them, which the components of a row share.
+struct Stem {
+    letters: Items<u8>,
     subscripts: Items<u32>,
+}
+
+impl Drop for Stem {
+    fn drop(self) {
+        let Stem {
+            letters: _,
+            subscripts: _,
+        } = self;
+    }
+}
+
+/// A declared name; of a component with its subscripts, as `a[2]`. Contracts see its letters. Copies share them, and so do
+/// the components of an array: each has but its last subscript for itself.
+pub struct Name {
+    stem: Arc<Stem, Global>,
+    last: Option<u32>,
 }
 
 impl Model for Name {
     ghost use Rattle.std.specs.Prelude.{List, ℕ};
     ghost use Rattle.std.specs.Arc.{arc_value};
-    ghost use Rattle.occ_term.specs.Names.{with_subscripts};
+    ghost use Rattle.occ_term.specs.Names.{with_last, with_subscripts};
 
     ghost Value = { List ℕ };
 
-    ghost view = { λ n. with_subscripts (arc_value n.declared) n.subscripts };
+    ghost view = { λ n. with_last (with_subscripts (arc_value n.stem).letters (arc_value n.stem).subscripts) n.last };
 }
 
 impl Drop for Name {
     fn drop(self) {
-        let Name {
-            declared: _,
-            subscripts: _,
-        } = self;
+        let Name { stem: _, last: _ } = self;
     }
 }
 
@@ -55,32 +67,62 @@ impl Name {
     pub fn new(alloc: Global, letters: &[u8]) -> Result<Name, AllocError>
         ensures { IfOk result (λ n. n ≡ letters.now) }
     {
-        let declared = Arc::new(alloc, Items::from_slice(alloc, letters)?)?;
-        Ok(Name {
-            declared,
+        let stem = Stem {
+            letters: Items::from_slice(alloc, letters)?,
             subscripts: Items::new(alloc),
-        })
+        };
+        let stem = Arc::new(alloc, stem)?;
+        Ok(Name { stem, last: None })
     }
 
     /// The name of the component with this number. The error is a refused growth.
-    #[tactic(auto, using(crate::proofs::Components::one_more_subscript))]
     pub fn component(&self, alloc: Global, number: u32) -> Result<Name, AllocError>
         ensures { IfOk result (λ n. n ≡ component_name self.now number) }
     {
-        let mut component = self.copy(alloc)?;
-        component.subscripts.push(number)?;
-        Ok(component)
+        let stem = self.as_stem(alloc)?;
+        Ok(Name {
+            stem,
+            last: Some(number),
+        })
     }
 
-    /// A copy, which shares the letters. The error is a refused growth.
-    pub fn copy(&self, alloc: Global) -> Result<Name, AllocError>
+    /// The same name, whose components share all of it. The error is a refused growth.
+    pub fn shared(&self, alloc: Global) -> Result<Name, AllocError>
         ensures { IfOk result (λ n. n ≡ self.now) }
     {
-        let declared = Arc::try_clone(&self.declared)?;
-        let subscripts = Items::from_slice(alloc, self.subscripts.as_slice())?;
+        let stem = self.as_stem(alloc)?;
+        Ok(Name { stem, last: None })
+    }
+
+    /// All of the name as what components share. The error is a refused growth.
+    #[tactic(auto, using(crate::proofs::Components::one_more_subscript))]
+    fn as_stem(&self, alloc: Global) -> Result<Arc<Stem, Global>, AllocError>
+        ensures { IfOk result (λ s. with_subscripts (arc_value s).letters (arc_value s).subscripts ≡ self.now) }
+    {
+        match self.last {
+            None => Arc::try_clone(&self.stem),
+            Some(number) => {
+                let letters = Items::from_slice(alloc, self.stem.letters.as_slice())?;
+                let mut subscripts = Items::from_slice(alloc, self.stem.subscripts.as_slice())?;
+                subscripts.push(number)?;
+                let stem = Stem {
+                    letters,
+                    subscripts,
+                };
+                let stem = Arc::new(alloc, stem)?;
+                Ok(stem)
+            }
+        }
+    }
+
+    /// A copy, which shares the letters. The error is that there are too many copies.
+    pub fn copy(&self) -> Result<Name, AllocError>
+        ensures { IfOk result (λ n. n ≡ self.now) }
+    {
+        let stem = Arc::try_clone(&self.stem)?;
         Ok(Name {
-            declared,
-            subscripts,
+            stem,
+            last: self.last,
         })
     }
 
@@ -99,21 +141,26 @@ impl Name {
         Ok(same_bytes(&letters, &others))
     }
 
-    /// Whether both have the same declared letters and the same subscripts.
+    /// Whether both have the same letters and the same subscripts, each by itself.
     fn has_parts_of(&self, other: &Name) -> bool
         ensures { IsTrue result → self.now ≡ other.now }
     {
-        same_bytes(self.declared.as_slice(), other.declared.as_slice())
-            && same_numbers(self.subscripts.as_slice(), other.subscripts.as_slice())
+        self.last == other.last
+            && same_bytes(self.stem.letters.as_slice(), other.stem.letters.as_slice())
+            && same_numbers(self.stem.subscripts.as_slice(), other.stem.subscripts.as_slice())
     }
 
     /// Writes the letters behind others. The error is a refused growth.
-    #[tactic(auto, using(crate::proofs::Components::subscripts_behind))]
+    #[tactic(auto, using(crate::proofs::Components::subscripts_behind, crate::proofs::Components::last_behind))]
     pub fn write(&self, alloc: Global, out: &mut Vec<u8>) -> Result<(), AllocError>
         ensures { OnOk result (out.new.items ≡ out.old.items ++ self.now) }
     {
-        out.extend_from_slice(self.declared.as_slice())?;
-        write_subscripts(alloc, out, self.subscripts.as_slice())
+        out.extend_from_slice(self.stem.letters.as_slice())?;
+        write_subscripts(alloc, out, self.stem.subscripts.as_slice())?;
+        if let Some(number) = self.last {
+            write_subscript(alloc, out, number)?;
+        }
+        Ok(())
     }
 }
 
@@ -177,7 +224,7 @@ impl Channel {
         ensures { IfOk result (λ c. c ≡ self.now) }
     {
         Ok(Channel {
-            name: self.name.copy(alloc)?,
+            name: self.name.copy()?,
             protocol: self.protocol.copy(alloc)?,
         })
     }

@@ -188,7 +188,7 @@ PROC main (CHAN OF BYTE keyboard)
     },
     Answer {
         source: r#"PROC main (CHAN OF BYTE keyboard)
-  [65537]INT a:
+  [1048577]INT a:
   SKIP
 :
 "#,

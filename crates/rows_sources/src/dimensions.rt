@@ -47,7 +47,7 @@ static WHOLES: [Row; 17] = [
     ),
     Row(
         "",
-        "  [1024][1024]INT a:\n  SKIP\n",
+        "  [1023][1024]INT a:\n  SKIP\n",
         "",
     ),
     Row(
@@ -354,9 +354,9 @@ fn messages(rt: HostRuntime) -> Result<(), Fail> {
     check_rows(&rt, rt.alloc(), &MESSAGES)
 }
 
-/// Fills an array of a million components by two subscripts, and counts those that are odd.
+/// Fills an array of a million components by two subscripts, and counts those that are odd. Its own variables are cells too.
 const FILLED: &str = "PROC main (CHAN OF BYTE keyboard, screen)
-  [1024][1024]INT a:
+  [1023][1024]INT a:
   INT odd:
   SEQ
     SEQ i = 0 FOR SIZE a
@@ -367,7 +367,7 @@ const FILLED: &str = "PROC main (CHAN OF BYTE keyboard, screen)
       SEQ j = 0 FOR SIZE a[i]
         odd := odd + (a[i][j] /\\ 1)
     IF
-      odd = 524288
+      odd = 523776
         screen ! 'y'
 :
 ";

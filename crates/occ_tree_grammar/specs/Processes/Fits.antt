@@ -49,6 +49,6 @@ abbrev mutual
   FitsItem b n (protocol_item p) = FitsProtocol b n p
   FitsItem b n (proc_item l v fs m end_line) = FitsDeclHead b (procedure v fs) × FitsNode b n m
 
--- a text with at most 64 levels, at most 64 brackets open at one place, and at most one size or subscript
+-- a text with at most 64 levels, at most 64 brackets open at one place, and at most four sizes or subscripts
 abbrev pub InBounds : List Item → Type 0
 InBounds = Each (FitsItem (most_levels + 1) most_levels)

@@ -172,7 +172,7 @@ impl Drop for Action {
 
 /// A part of a message.
 pub enum Part {
-    /// A value of the type, or an array of the sizes; at most one size.
+    /// A value of the type, or an array of the sizes; at most four sizes.
     Single(Vec<Expr>, Prim),
     /// The type of the count, and the type of the components that it counts.
     Counted(Prim, Prim),
