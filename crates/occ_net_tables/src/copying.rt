@@ -13,9 +13,9 @@ fn branch_frame(alloc: Global, body: &Body, parent: &Frame) -> Result<Frame, All
     requires { IsRising body.now.cells }
     ensures { IfOk result (λ f. f ≡ copied body.now parent.now) }
 {
-    let cells = body.cells();
-    let mut frame = Frame::new(alloc, cells, body.loops() as usize)?;
-    for (place, cell) in cells.as_slice().iter().enumerate() {
+    let cells = body.cells().as_slice();
+    let mut frame = Frame::new(alloc, body.cells(), body.loops() as usize)?;
+    for (place, cell) in cells.iter().enumerate() {
         frame.set_in(place as u32, parent.value(*cell));
     }
     Ok(frame)

@@ -145,6 +145,28 @@ fn frames_are_compared(rt: HostRuntime) -> Result<(), Fail> {
     check_frames(&rt, alloc, &frame)
 }
 
+#[test]
+fn rows_of_a_frame_are_stored_and_read(rt: HostRuntime) -> Result<(), Fail> {
+    let alloc = rt.alloc();
+    let mut frame = frame_of(alloc, &[1, 3, 4, 5], 0)?;
+    frame.set_span(3, &[7, 8, 9]);
+    assert!(rt; matches!(frame.row(3, 3), Some([7, 8, 9])));
+    frame.clear_span(4, 2);
+    assert!(rt; matches!(frame.row(3, 3), Some([7, 0, 0])));
+    assert!(rt; frame.row(1, 2).is_none());
+    Ok(())
+}
+
+#[test]
+fn cells_of_frames_are_shared(rt: HostRuntime) -> Result<(), Fail> {
+    let alloc = rt.alloc();
+    let cells = FrameCells::new(alloc, &[1, 3])?;
+    let copy = cells.copy()?;
+    assert!(rt; cells.is_same(&copy));
+    assert!(rt; matches!(copy.as_slice(), [1, 3]));
+    Ok(())
+}
+
 /// The parts `BYTE; [2][3]INT; INT::[]BYTE`.
 fn part_types(alloc: Global) -> Result<Items<PartType>, AllocError> {
     let mut parts = Items::new(alloc);
@@ -287,6 +309,7 @@ fn check_same(
 fn component(alloc: Global) -> Result<Name, AllocError> {
     let array = Name::new(alloc, b"a")?;
     let row = array.component(alloc, 10)?;
+    let row = row.shared(alloc)?;
     row.component(alloc, 0)
 }
 
