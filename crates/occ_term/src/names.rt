@@ -147,7 +147,10 @@ impl Name {
     {
         self.last == other.last
             && same_bytes(self.stem.letters.as_slice(), other.stem.letters.as_slice())
-            && same_numbers(self.stem.subscripts.as_slice(), other.stem.subscripts.as_slice())
+            && same_numbers(
+                self.stem.subscripts.as_slice(),
+                other.stem.subscripts.as_slice(),
+            )
     }
 
     /// Writes the letters behind others. The error is a refused growth.

@@ -1,7 +1,7 @@
 //! Messages, frames and protocols: copies, and what is the same.
 use occ_term::{
-    Channel, Frame, FrameCells, Message, Name, Part, PartType, PartTypes, Parts, Primitive, Protocol,
-    Tag, TagTypes, Text,
+    Channel, Frame, FrameCells, Message, Name, Part, PartType, PartTypes, Parts, Primitive,
+    Protocol, Tag, TagTypes, Text,
 };
 use sqlite_items::Items;
 use std::alloc::{AllocError, Global};

@@ -103,7 +103,10 @@ static REFUSED: [(&[u8], &str); 24] = [
     ),
     (b"  INT16 x :\n  SKIP\n", "refused 20 Unexpected line 2"),
     (b"  TIMER x :\n  SKIP\n", "refused 20 Unexpected line 2"),
-    (b"  a [ 0 ] [ 1 ] [ 2 ] [ 3 ] [ 4 ] := 1\n", "refused 20 Unexpected line 2"),
+    (
+        b"  a [ 0 ] [ 1 ] [ 2 ] [ 3 ] [ 4 ] := 1\n",
+        "refused 20 Unexpected line 2",
+    ),
     (
         b"  [ 2 ] [ 3 ] [ 2 ] [ 3 ] [ 2 ] INT a :\n  SKIP\n",
         "refused 20 Unexpected line 2",

@@ -108,11 +108,7 @@ static REFUSED: [Row; 31] = [
         "  [2][2]INT a:\n  a[2][0] := 1\n",
         "refused 36 Subscript line 3",
     ),
-    Row(
-        "",
-        "  [2][3]INT a:\n  a[1][2] := 1\n",
-        "",
-    ),
+    Row("", "  [2][3]INT a:\n  a[1][2] := 1\n", ""),
     Row(
         "",
         "  [2][2]INT a:\n  a[0][0][0] := 1\n",
@@ -143,41 +139,25 @@ static REFUSED: [Row; 31] = [
         "  VAL s IS \"ab\":\n  screen ! s[0][0]\n",
         "refused 33 WrongType line 3",
     ),
-    Row(
-        "",
-        "  [2][0]INT a:\n  SKIP\n",
-        "refused 35 BadCount line 2",
-    ),
+    Row("", "  [2][0]INT a:\n  SKIP\n", "refused 35 BadCount line 2"),
     Row(
         "",
         "  [2][-1]INT a:\n  SKIP\n",
         "refused 35 BadCount line 2",
     ),
-    Row(
-        "",
-        "  [1048577]INT a:\n  SKIP\n",
-        "refused 43 TooLarge",
-    ),
+    Row("", "  [1048577]INT a:\n  SKIP\n", "refused 43 TooLarge"),
     Row(
         "",
         "  [1048576]BYTE a:\n  INT x:\n  SKIP\n",
         "refused 43 TooLarge",
     ),
-    Row(
-        "",
-        "  [2][524289]INT a:\n  SKIP\n",
-        "refused 43 TooLarge",
-    ),
+    Row("", "  [2][524289]INT a:\n  SKIP\n", "refused 43 TooLarge"),
     Row(
         "",
         "  CHAN OF [1024][1025]INT c:\n  SKIP\n",
         "refused 43 TooLarge",
     ),
-    Row(
-        "",
-        "  CHAN OF [1024][1024]INT c:\n  SKIP\n",
-        "",
-    ),
+    Row("", "  CHAN OF [1024][1024]INT c:\n  SKIP\n", ""),
     Row(
         "",
         "  [2147483647][2147483647]INT a:\n  SKIP\n",
@@ -193,16 +173,8 @@ static REFUSED: [Row; 31] = [
         "  [3][1365]CHAN OF INT c:\n  SKIP\n",
         "refused 43 TooLarge",
     ),
-    Row(
-        "",
-        "  [3][1364]CHAN OF INT c:\n  SKIP\n",
-        "",
-    ),
-    Row(
-        "",
-        "  [1][2][1][2]INT a:\n  a[0][1][0][1] := 1\n",
-        "",
-    ),
+    Row("", "  [3][1364]CHAN OF INT c:\n  SKIP\n", ""),
+    Row("", "  [1][2][1][2]INT a:\n  a[0][1][0][1] := 1\n", ""),
     Row(
         "",
         "  [1][1][1][1][1]INT a:\n  SKIP\n",

@@ -40,26 +40,10 @@ static WHOLES: [Row; 17] = [
         "  [2][2]INT a:\n  PAR\n    a[0][0] := 1\n    a[0][1] := 2\n",
         "",
     ),
-    Row(
-        "",
-        "  [65537]INT a:\n  SKIP\n",
-        "",
-    ),
-    Row(
-        "",
-        "  [1023][1024]INT a:\n  SKIP\n",
-        "",
-    ),
-    Row(
-        "",
-        "  [1048576]BYTE a:\n  SKIP\n",
-        "",
-    ),
-    Row(
-        "",
-        "  [2][524288]INT a:\n  SKIP\n",
-        "",
-    ),
+    Row("", "  [65537]INT a:\n  SKIP\n", ""),
+    Row("", "  [1023][1024]INT a:\n  SKIP\n", ""),
+    Row("", "  [1048576]BYTE a:\n  SKIP\n", ""),
+    Row("", "  [2][524288]INT a:\n  SKIP\n", ""),
     Row(
         "",
         "  [16][256][256]BYTE a:\n  SEQ\n    a[15][255][255] := 'x'\n    screen ! a[15][255][255]\n",
@@ -90,16 +74,8 @@ static WHOLES: [Row; 17] = [
         "  [2][2]INT a, b:\n  SEQ\n    b[1][0] := 7\n    a[0] := b[1]\n    a[1] := a[0]\n    a[0] := b[0]\n    screen ! BYTE (a[1][0] + 48)\n    screen ! BYTE (a[0][0] + 48)\n",
         "70",
     ),
-    Row(
-        "",
-        "  [2][2]INT a:\n  a[0] := a[0]\n",
-        "",
-    ),
-    Row(
-        "",
-        "  [2][2]INT a:\n  a[a[a[0][0]][0]][a[1][1]] := 3\n",
-        "",
-    ),
+    Row("", "  [2][2]INT a:\n  a[0] := a[0]\n", ""),
+    Row("", "  [2][2]INT a:\n  a[a[a[0][0]][0]][a[1][1]] := 3\n", ""),
     Row(
         "",
         "  [2][3]INT a:\n  INT k:\n  SEQ\n    a[1][2] := 5\n    k := 1\n    VAL []INT r IS a[k]:\n    VAL []INT s IS a[1]:\n    SEQ\n      k := 0\n      a[1][2] := 6\n      screen ! BYTE (r[2] + 48)\n      screen ! BYTE (s[2] + 48)\n      screen ! BYTE (a[1][r[0] + 2] + 48)\n",
@@ -219,11 +195,7 @@ static FORMALS: [Row; 22] = [
         "  CHAN OF [2][3]INT c:\n  f (c)\n",
         "refused 39 Arguments line 6",
     ),
-    Row(
-        "PROC f ([2147483647][2]INT x)\n  SKIP\n:\n",
-        "  SKIP\n",
-        "",
-    ),
+    Row("PROC f ([2147483647][2]INT x)\n  SKIP\n:\n", "  SKIP\n", ""),
     Row(
         "PROC f ([2147483647][2]INT x)\n  SKIP\n:\n",
         "  [2]INT v:\n  f (v)\n",
@@ -253,16 +225,8 @@ static LISTS: [Row; 11] = [
         "  [2][2]INT a:\n  a[0][1], a[0][1] := 1, 2\n",
         "refused 41 ListTarget line 3",
     ),
-    Row(
-        "",
-        "  [2][2]INT a:\n  a[0][0], a[0][1] := 1, 2\n",
-        "",
-    ),
-    Row(
-        "",
-        "  [2][2]INT a, b:\n  a[0], a[1][1] := b[0], 1\n",
-        "",
-    ),
+    Row("", "  [2][2]INT a:\n  a[0][0], a[0][1] := 1, 2\n", ""),
+    Row("", "  [2][2]INT a, b:\n  a[0], a[1][1] := b[0], 1\n", ""),
     Row(
         "",
         "  [2][2]INT a:\n  INT i:\n  SEQ\n    a[i][0], a[i][0] := 1, 2\n    screen ! BYTE (a[0][0] + 48)\n",
