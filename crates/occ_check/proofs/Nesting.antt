@@ -1,5 +1,5 @@
 -- What stands within another of its kind, one level deeper.
-use Rattle.std.proofs.Common.{◌≡◌, ◌∙◌, ℕ, length, List, None, Some, ap, sym}
+use Rattle.std.proofs.Common.{◌≡◌, ◌∙◌, ℕ, length, List, Some, ap, sym}
 use Rattle.std.proofs.lemmas.List.{length-map}
 use Rattle.occ_tree_grammar.specs.Many.{◌>>=◌}
 use Rattle.occ_term.specs.declared.expression.Declaration.{Declaration}

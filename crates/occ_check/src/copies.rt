@@ -22,7 +22,7 @@ use occ_check_names::context::Context;
 use occ_check_names::fault::CheckFault;
 use occ_check_names::known::Known;
 use occ_check_names::numbers::Numbers;
-use occ_check_names::scope::{Binding, Position, Scope};
+use occ_check_names::scope::{Binding, Position};
 use occ_check_typing::replicator::copies_of;
 use occ_term::{Branch, Primitive};
 use occ_tree_grammar::tree::line::Replicator;

@@ -23,7 +23,7 @@ use occ_check_names::context::Context;
 use occ_check_names::fault::CheckFault;
 use occ_check_names::measuring::{count_place, count_targets, count_test};
 use occ_check_names::numbers::Numbers;
-use occ_check_names::scope::{Position, Scope};
+use occ_check_names::scope::Position;
 use occ_check_typing::item::channel_of;
 use occ_held::Held;
 use occ_term::{Arm as TermArm, Place, Protocol, Term, TermExpr};

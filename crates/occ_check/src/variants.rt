@@ -29,7 +29,7 @@ use occ_check_names::context::Context;
 use occ_check_names::fault::CheckFault;
 use occ_check_names::measuring::{count_place, count_targets};
 use occ_check_names::numbers::Numbers;
-use occ_check_names::scope::{Position, Scope};
+use occ_check_names::scope::Position;
 use occ_check_typing::item::{channel_of, parts_after};
 use occ_term::{Declaration, Place, Protocol, Target, Term, Variant as TermVariant};
 use occ_tree_grammar::tree::line::{Target as TargetTree, Var};

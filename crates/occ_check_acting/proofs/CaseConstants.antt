@@ -6,9 +6,7 @@ use Rattle.std.proofs.lemmas.List.{drop_all}
 use Rattle.occ_tree_grammar.specs.Many.{◌>>=◌}
 use Rattle.occ_check_meaning.specs.Scope.{keep}
 use Rattle.occ_check_meaning.specs.Actions.{Chosen, choosing, has_constant}
-use Rattle.occ_check_names.specs.View.{Refuses}
-use Rattle.occ_check_names.specs.declared.fault.CheckFault.{CheckFault}
-use Rattle.occ_check_typing.proofs.Refusals.{none_then, refused_with, then_nothing}
+use Rattle.occ_check_typing.proofs.Refusals.{then_nothing}
 
 one_first : (v : ℤ) (vs : List ℤ) (c : Chosen) → choosing (v ∷ vs) c ≡ (choosing (v ∷ []) c >>= choosing vs)
 unfolding choosing

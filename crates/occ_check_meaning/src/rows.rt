@@ -1,6 +1,6 @@
 //! Small programs, and what they unfold to by the definitions.
 
-ghost use Rattle.std.specs.Prelude.{[], codes, map, neg_ℤ, None, pos, Some, ◌∷◌, ◌≡◌};
+ghost use Rattle.std.specs.Prelude.{[], codes, neg_ℤ, None, pos, Some, ◌∷◌, ◌≡◌};
 ghost use Rattle.occ_term.specs.Terms as T;
 ghost use Rattle.occ_check_meaning.specs.Examples.{channel_names, carrying, copies, copying, empty_sequence, hidden, hiding, holding, idle, named, naming, nested, nesting, no_copies, nodes_of, overlapping, own_cell, self_calling, storing_at, storing_under, swapped, swapping, term_of_program, twice, with_own};
 ghost use Rattle.occ_check_meaning.specs.Examples as Examples;

@@ -20,7 +20,7 @@ use occ_check_names::literal::{constant_typed, string_size, typed_literal};
 use occ_check_names::operators::{
     is_same_type, operator_of, primitive_of, result_of, takes_operand,
 };
-use occ_check_names::scope::{Found, Scope};
+use occ_check_names::scope::Found;
 use occ_check_names::typed::Typed;
 use occ_held::parts::{Listed, Nested};
 use occ_term::operator::is_of;

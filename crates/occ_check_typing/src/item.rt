@@ -23,7 +23,7 @@ use occ_check_names::operators::is_same_type;
 use occ_check_names::scope::Scope;
 use occ_check_names::typed::{Part, Typed};
 use occ_held::Held;
-use occ_term::{Array, Item, PartType, Place, Primitive, Protocol, Tag, TermExpr, copy_parts};
+use occ_term::{Item, PartType, Place, Primitive, Protocol, Tag, TermExpr, copy_parts};
 use occ_tree_grammar::tree::expr::{Expr, Operand};
 use occ_tree_grammar::tree::line::{OneOrMore, Out, Var};
 use sqlite_items::Items;

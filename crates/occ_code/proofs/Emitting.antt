@@ -1,7 +1,7 @@
 -- What is emitted one after the other, and the parts of a list, the last one first.
-use Rattle.std.specs.Prelude.{reverse, set, map, ◌-◌}
+use Rattle.std.specs.Prelude.{reverse, map, ◌-◌}
 use Rattle.std.proofs.Common.{◌≡◌, ℕ, zero, suc, ◌+◌, ◌*◌, ◌<◌, ◌≤◌, List, [], ◌∷◌, ◌++◌, drop, take, min, get_or, length, rules, refl, sym, ap, ◌∙◌, arith, append_assoc, append-nil, length-append}
-use Rattle.std.proofs.Math.Seq.{drop-cons, set-append_seam}
+use Rattle.std.proofs.Math.Seq.{drop-cons}
 use Rattle.std.proofs.lemmas.List.{reverse-append, map-append, length-map, length-reverse}
 use Rattle.occ_term.specs.Messages.{product}
 use Rattle.std.proofs.lemmas.Grind.{common_steps}

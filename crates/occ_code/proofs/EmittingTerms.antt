@@ -2,11 +2,10 @@
 use Rattle.std.specs.Prelude.{set, ◌-◌}
 use Rattle.std.proofs.Common.{◌≡◌, ℕ, suc, ◌+◌, ◌<◌, ◌≤◌, List, [], ◌∷◌, ◌++◌, drop, get_or, length, map, rules, refl, sym, ap, ◌∙◌, arith, append_assoc, length-append}
 use Rattle.std.proofs.Math.Seq.{drop-cons, set-append_seam}
-use Rattle.occ_term.specs.View.{branch_of, branches_of, choice_of, choices_of, term_of, terms_of, option_of, options_of, variant_of, variants_of}
+use Rattle.occ_term.specs.View.{branch_of, branches_of, term_of, terms_of, option_of, options_of, variant_of, variants_of}
 use Rattle.occ_term.specs.Terms.{and_branch, then_term}
 use Rattle.occ_term.specs.declared.term.Branch.{Branch}
 use Rattle.occ_term.specs.declared.term.Term.{Term, the_lemmas}
-use Rattle.occ_term.specs.declared.term.Choice.{Choice}
 use Rattle.occ_term.specs.declared.term.Selection.{Selection}
 use Rattle.occ_term.specs.declared.term.Variant.{Variant}
 use Rattle.occ_code.specs.Machine.{Instruction, Jump, Choose, LoopBack, Fork}

@@ -1,5 +1,5 @@
 -- A process has no more counters than instructions.
-use Rattle.std.specs.Prelude.{max, min}
+use Rattle.std.specs.Prelude.{min}
 use Rattle.std.proofs.Common.{◌≡◌, ℕ, ◌+◌, ◌<◌, ◌≤◌, [], ◌∷◌, ◌++◌, length, arith, length-append}
 use Rattle.occ_term.specs.Terms.{Term, Skip, Stop, Assign, Input, Output, VariantInput, Seq, Par, Alt, If, Case, While, Each, Clear, Local, Terms, no_terms, then_term, Arms, no_arms, skip_arm, input_arm, declared_arms, each_arm, Reception, Plain, Tagged, Variants, no_variants, or_variant, Choices, no_choices, or_choice, declared_choices, each_choice, Options, no_options, or_option, or_else}
 use Rattle.occ_term.specs.Storing.{index_of}

@@ -1,5 +1,5 @@
 -- Instructions at a place of the code, and walks along them.
-use Rattle.std.proofs.Common.{◌≡◌, ℕ, ◌+◌, List, [], ◌∷◌, ◌++◌, length, refl, subst, arith}
+use Rattle.std.proofs.Common.{◌≡◌, ℕ, ◌+◌, List, [], ◌∷◌, ◌++◌, length, refl, arith}
 use Rattle.occ_code.specs.Machine.{by_cell, Instruction, Point, Walks, here, on}
 use Rattle.occ_code.specs.Laws.{StandsAt}
 

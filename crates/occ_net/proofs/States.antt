@@ -1,5 +1,5 @@
 -- What a network keeps, over a start, a turn and a refused growth.
-use Rattle.std.proofs.Common.{◌≡◌, ◌∙◌, refl, sym, ap, subst, Bool, false, ℕ, suc, get_or, ◌+◌, ◌<◌, ◌^◌, List, [], ◌∷◌, ◌++◌, Some, None, length, arith, length-append, lit<}
+use Rattle.std.proofs.Common.{◌≡◌, ◌∙◌, refl, sym, ap, subst, false, ℕ, suc, get_or, ◌+◌, ◌<◌, ◌^◌, List, [], ◌∷◌, ◌++◌, Some, None, length, arith, length-append, lit<}
 use Rattle.std.specs.Prelude.{replicate, slice_get, slice_set}
 use Rattle.std.proofs.Math.Nat.{mod-eq_of_lt}
 use Rattle.std.proofs.lemmas.Option.{slice_get_within}
@@ -15,12 +15,10 @@ use Rattle.occ_net_tables.specs.declared.running.Keep.TheVariants.{Places}
 use Rattle.occ_net_tables.specs.declared.tables.Tables.{Tables}
 use Rattle.occ_net_tables.specs.Holding.{Holds}
 use Rattle.occ_net_tables.specs.Places.{Placed, none_placed, one_placed, placed_among}
-use Rattle.occ_net_tables.specs.Room.{AreSame}
 use Rattle.occ_net_tables.specs.Running.{HasRun}
 use Rattle.occ_net_tables.specs.Settling.{IsTurnAt, Standing, TurnsTo}
 use Rattle.occ_net_tables.proofs.OneChange.{set_length}
 use Rattle.occ_net_tables.proofs.Placing.{places_placed, places_replay, placed_replays}
-use Rattle.occ_net_tables.proofs.Roomy.{holds_as}
 use Rattle.occ_net.specs.Networks.{Past, IsState, fresh}
 use Rattle.occ_net.specs.Keeping.{IsKept}
 use Rattle.occ_net.specs.Settling.{IsOwn, TakesIn}

@@ -1,5 +1,6 @@
 //! The network of a program's processes as one value, [`Network`]: what it was made of determines its
-//! state. Its turns go out by `lease` and are taken in by `settle`, [`run`] takes those of a plan, and
+//! state. Its turns go out by `lease` and are taken in by `settle`, [`run`] takes those of a plan, [`run_choices`] and
+//! [`run_turns`] those of a list and so many, and
 //! what was communicated is read from its trace and its histories.
 #![tactic(auto)]
 
@@ -16,4 +17,4 @@ pub use fault::NetFault;
 pub use history::History;
 pub use leasing::Lease;
 pub use network::Network;
-pub use outcome::{Outcome, run};
+pub use outcome::{Outcome, run, run_choices, run_turns};

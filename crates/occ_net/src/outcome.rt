@@ -1,7 +1,7 @@
 //! What a network came to, and runs of plans.
-ghost use Rattle.std.specs.Prelude.{◌≡◌, ◌≤◌, ◌⊎◌, IfErr, IfOk, length, take, ℕ};
+ghost use Rattle.std.specs.Prelude.{◌≡◌, ◌≤◌, ◌⊎◌, IfErr, IfOk, take};
 ghost use Rattle.occ_term.specs.Runs.{bytes_of, messages_on};
-ghost use Rattle.occ_choices.specs.Plans.{choices_of};
+ghost use Rattle.occ_choices.specs.Plans.{choices_of, turns_from};
 ghost use Rattle.occ_net_replay.specs.Replay.{Net};
 ghost use Rattle.occ_net.specs.Networks.{IsState};
 ghost use Rattle.occ_net.specs.Outcomes.{IsOutcome, Shows};
@@ -96,6 +96,44 @@ impl Network {
         };
         self.came_to(alloc, choices)
     }
+}
+
+/// Takes a turn for each of these choices, until the network ends. By an empty list no turn is taken, and the ending is `Limit`.
+///
+/// # Errors
+///
+/// `Memory` alone.
+pub fn run_choices(
+    alloc: Global,
+    code: Code,
+    keyboard: &[u8],
+    choices: &[Choice],
+) -> Result<Outcome, NetFault>
+    ensures ok { IfOk result (IsOutcome code keyboard.now choices.now) }
+    ensures refused { IfErr result (λ fault. fault ≡ NetFault.Memory) }
+{
+    let keyboard = Vec::from_slice(alloc, keyboard)?;
+    let plan = Plan::Choices(Vec::from_slice(alloc, choices)?);
+    run(alloc, code, keyboard, &plan)
+}
+
+/// Takes so many turns, of which the one with number k, from 0, has `which` k and `pick` 0, until the network ends. For a limit
+/// of 0 no turn is taken, and the ending is `Limit`.
+///
+/// # Errors
+///
+/// `Memory` alone.
+pub fn run_turns(
+    alloc: Global,
+    code: Code,
+    keyboard: &[u8],
+    limit: u32,
+) -> Result<Outcome, NetFault>
+    ensures ok { IfOk result (IsOutcome code keyboard.now (turns_from 0 limit)) }
+    ensures refused { IfErr result (λ fault. fault ≡ NetFault.Memory) }
+{
+    let keyboard = Vec::from_slice(alloc, keyboard)?;
+    run(alloc, code, keyboard, &Plan::Turns(limit))
 }
 
 /// Takes a turn for each choice of the plan, until the network ends. The outcome has the choices as they

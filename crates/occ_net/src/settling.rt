@@ -1,5 +1,5 @@
 //! Turns that were taken elsewhere are taken in.
-ghost use Rattle.std.specs.Prelude.{◌≡◌, IfErr, IfOk, OnOk, Some, slice_get, ℕ};
+ghost use Rattle.std.specs.Prelude.{◌≡◌, IfErr, IfOk, OnOk, Some, slice_get};
 ghost use Rattle.std.specs.Arc.{arc_value};
 ghost use Rattle.occ_code.specs.SameStop.{IsRising};
 ghost use Rattle.occ_net_replay.specs.Replay.{Net};

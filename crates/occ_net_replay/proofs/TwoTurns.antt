@@ -1,5 +1,5 @@
 -- The next turns of two processes end apart.
-use Rattle.std.proofs.Common.{◌≡◌, ◌∙◌, refl, sym, ap, subst, IsTrue, ℕ, ◌+◌, ◌≤◌, ◌<◌, ◌⊎◌, inl, inr, List, [], Some, None, Option, arith}
+use Rattle.std.proofs.Common.{◌≡◌, ◌∙◌, refl, sym, ap, subst, IsTrue, ℕ, ◌+◌, ◌≤◌, ◌<◌, ◌⊎◌, inl, inr, List, [], Some, arith}
 use Rattle.std.specs.Prelude.{All, slice_get, nat_eq}
 use Rattle.std.proofs.lemmas.Bool.{eqb-true}
 use Rattle.occ_term.specs.declared.message.Message.{Message}
@@ -17,8 +17,8 @@ use Rattle.occ_code.specs.Compiled.{Program}
 use Rattle.occ_code.specs.declared.task.Task.{Task}
 use Rattle.occ_code.specs.declared.task.Wait.TheVariants as W
 use Rattle.occ_net_replay.specs.Moments.{is_read}
-use Rattle.occ_net_replay.specs.Replay.{Net, HasTask, may_go}
-use Rattle.occ_net_replay.specs.Waiting.{IsReplay, IsTurn, MainTurnsAlone, OnOthers, TurnsAreApart, TurnsHearNoScreen, listens_on}
+use Rattle.occ_net_replay.specs.Replay.{Net}
+use Rattle.occ_net_replay.specs.Waiting.{IsTurn, MainTurnsAlone, OnOthers, TurnsAreApart, TurnsHearNoScreen, listens_on}
 use Rattle.occ_net_replay.proofs.Alone.{fork_within, l, its_term, r, at_wait, output_on, listener, not_going}
 use Rattle.occ_net_replay.proofs.Beside.{ChannelsApart, Related, are_one, is_inside, is_around, are_beside, related}
 use Rattle.occ_net_replay.proofs.Holding.{Belongs, number_of, one_term}

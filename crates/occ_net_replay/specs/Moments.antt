@@ -37,6 +37,10 @@ mutual
 abbrev pub main_in : System → Process
 main_in (system kb p s noted) = p
 
+-- the bytes that are left of the keyboard
+abbrev pub keyboard_in : System → List ℕ
+keyboard_in (system kb p s noted) = kb
+
 -- ---- the same stop
 
 -- arms in the same order, on the same channels
@@ -85,10 +89,13 @@ pub record Quiet (net : Net) : Type 0 where
 
 -- ---- one run at every moment
 
--- The system has the replay's processes at its stops, and its one store is what their frames share.
+-- The system has the replay's processes at its stops, its one store is what their frames share, the same bytes are left of the
+-- keyboard and the same faults noted, and nothing is possible that needs no turn.
 pub record IsMoment (p : Program) (net : Net) (now : System) : Type 0 where
   pub alike : StandAlike net.tasks (main_in now)
   pub shares : SharesStore p net now
+  pub keyboard : keyboard_in now ≡ net.keyboard
+  pub noted : noted_in now ≡ net.noted
   pub quiet : Quiet net
 
 -- The run goes on with the replay: behind each choice it has one turn more than before it, from the very system that it had come to

@@ -1,6 +1,6 @@
 //! A turn that was taken elsewhere: its task takes its process's place, and what that makes possible
 //! happens, or nothing changes.
-ghost use Rattle.std.specs.Prelude.{◌≡◌, IfErr, OnOk, ℕ};
+ghost use Rattle.std.specs.Prelude.{◌≡◌, IfErr, OnOk};
 ghost use Rattle.occ_net_replay.specs.declared.choice.Choice.{Choice};
 ghost use Rattle.occ_net_replay.specs.Replay.{Net};
 ghost use Rattle.occ_net_tables.specs.Holding.{Holds};

@@ -29,7 +29,7 @@ use Rattle.occ_play.specs.Charting.{IsChart}
 use Rattle.occ_play.specs.declared.playing.Options.{Options}
 use Rattle.occ_play.specs.declared.fault.PlayFault.{PlayFault}
 use Rattle.occ_play.specs.declared.fault.PlayFault.TheVariants as play
-use Rattle.occ_play.specs.Playing.{IsAnswer, IsTextsCode, Ran, Refuses, RefusesText, Unfolds, UsageRefusesText, CodeRefusesText}
+use Rattle.occ_play.specs.Playing.{IsAnswer, IsTextsCode, Ran, Refuses, RefusesCode, RefusesText, Unfolds, UsageRefusesText, CodeRefusesText}
 use Rattle.occ_net_replay.specs.Replay.{Net, Replays, ending_of, ending_by, standing_by, stopped_by}
 use Rattle.occ_net_replay.specs.Moments.{Accompanies}
 use Rattle.occ_net_replay.proofs.Law.{noted_never_end, one_run_throughout, replays_are_runs}
@@ -144,6 +144,7 @@ headline options source keyboard list trace p channels o played bytes code keys 
     let shows : map communication_of o.trace ≡ communications f.events = sym out.trace ∙ sym f.communicates in
     let channels_are : channels ≡ u.channels = chan ∙ code.from.does.channels in (
       record {
+        quantum = code.quantum;
         program = u;
         unfolds = code.unfolds;
         lawful = code.lawful;
@@ -193,18 +194,29 @@ usage_refuses u (usage.TwoInputs line name) x h = (u, x, h)
 usage_refuses u (usage.TwoOutputs line name) x h = (u, x, h)
 usage_refuses u usage.Memory x h = tt
 
-pub code_refuses : {source : List ℕ} (quantum : ℕ) (u : UnfoldedProgram) (fault : CodeFault) → Unfolds source u → CodeRefuses fault quantum u → CodeRefusesText quantum fault source
-code_refuses quantum u code.TooLarge x h = (u, x, h.1)
-code_refuses quantum u code.BadQuantum x h = h
-code_refuses quantum u code.Memory x h = tt
+pub code_refuses : {source : List ℕ} (quantum : ℕ) (u : UnfoldedProgram) (fault : CodeFault) → Unfolds source u → Lawful u → CodeRefuses fault quantum u → CodeRefusesText quantum fault source
+code_refuses quantum u code.TooLarge x lawful h = (h.0, u, x, lawful, h.1)
+code_refuses quantum u code.BadQuantum x lawful h = (record { program = u; unfolds = x; lawful = lawful }, h)
+code_refuses quantum u code.Memory x lawful h = (record { program = u; unfolds = x; lawful = lawful }, h)
 
--- a text that is refused before there is code is refused for any options
-pub refuses : (options : Options) (source : List ℕ) (fault : PlayFault) → RefusesText source fault → Refuses options source fault
+-- a text that is refused before there is code has none for any options
+pub no_code : (options : Options) (source : List ℕ) (fault : PlayFault) → RefusesText source fault → RefusesCode options source fault
+no_code options source (play.Text f) h = h
+no_code options source (play.Parse f) h = h
+no_code options source (play.Check f) h = h
+no_code options source (play.Usage f) h = h
+no_code options source (play.Code f) h = absurd h
+no_code options source (play.Write written) h = h
+no_code options source (play.Run f) h = h
+no_code options source (play.Memory e) h = h
+
+-- a text that has no code is refused
+pub refuses : (options : Options) (source : List ℕ) (fault : PlayFault) → RefusesCode options source fault → Refuses options source fault
 refuses options source (play.Text f) h = h
 refuses options source (play.Parse f) h = h
 refuses options source (play.Check f) h = h
 refuses options source (play.Usage f) h = h
-refuses options source (play.Code f) h = absurd h
+refuses options source (play.Code f) h = h
 refuses options source (play.Write written) h = h
 refuses options source (play.Run f) h = h
-refuses options source (play.Memory e) h = h
+refuses options source (play.Memory e) h = absurd h

@@ -1,6 +1,6 @@
 -- The answer of a run by workers.
-use Rattle.std.proofs.Common.{◌≡◌, ◌∙◌, ◌<◌, ◌≤◌, ◌⊎◌, ℕ, List, Bool, length, refl, sym, ap, subst}
-use Rattle.occ_choices.specs.Crews.{most_workers}
+use Rattle.std.proofs.Common.{◌≡◌, ◌∙◌, ◌<◌, ◌≤◌, ◌⊎◌, ℕ, List, Bool, length, sym, ap, subst}
+use Rattle.occ_choices.specs.Crews.{IsCrew}
 use Rattle.occ_code.specs.Compiled.{Program}
 use Rattle.occ_net_replay.specs.declared.choice.Choice.{Choice}
 use Rattle.occ_net_replay.specs.Following.{or_limit}
@@ -9,13 +9,12 @@ use Rattle.occ_net_tables.specs.declared.running.Outcome.{Outcome}
 use Rattle.occ_net_tables.specs.Outcomes.{IsOutcome}
 use Rattle.occ_net.specs.declared.outcome.Outcome.{Outcome as Gathered}
 use Rattle.occ_run.specs.Gathered.{IsRunOf}
-use Rattle.occ_run.specs.declared.fault.RunFault.{RunFault}
 use Rattle.occ_run.specs.declared.fault.RunFault.TheVariants as run
 use Rattle.occ_play.specs.declared.playing.Played.{Played}
 use Rattle.occ_play.specs.declared.fault.PlayFault.{PlayFault}
 use Rattle.occ_play.specs.declared.fault.PlayFault.TheVariants as play
 use Rattle.occ_play.specs.declared.playing.Options.{Options}
-use Rattle.occ_play.specs.Playing.{IsAnswer, IsTextsCode, Refuses}
+use Rattle.occ_play.specs.Playing.{IsAnswer, Refuses, RefusesCode}
 use Rattle.occ_play.specs.Working.{IsAnswerWithin, WorkersRefuse}
 use Rattle.occ_play.proofs.Headline.{never_limit, none_if}
 
@@ -31,13 +30,24 @@ within options source keyboard limit trace p g o played bytes run choices ending
       whole = λ h. ap length used ∙ run.whole (none_if (ending_of p.errors run.net) (ap (λ (q : Program). or_limit (ending_of q.errors run.net)) (sym run.program) ∙ sym run.shows.ending ∙ sym ending ∙ sym same_ending ∙ h) (never_limit p.errors _ _ _));
     }
 
--- a refused text is refused for any workers
-pub workers_refuse : (workers : ℕ) (options : Options) (source : List ℕ) (fault : PlayFault) → Refuses options source fault → WorkersRefuse workers options source fault
-workers_refuse workers options source (play.Text f) h = h
-workers_refuse workers options source (play.Parse f) h = h
-workers_refuse workers options source (play.Check f) h = h
-workers_refuse workers options source (play.Usage f) h = h
-workers_refuse workers options source (play.Code f) h = h
-workers_refuse workers options source (play.Write written) h = h
-workers_refuse workers options source (play.Run f) h = absurd h
-workers_refuse workers options source (play.Memory e) h = h
+-- What refuses a text, refuses it for any workers: want of memory behind the layers is that of a crew.
+pub workers_refuse : (workers : ℕ) (options : Options) (source : List ℕ) (fault : PlayFault) → IsCrew workers → Refuses options source fault → WorkersRefuse workers options source fault
+workers_refuse workers options source (play.Text f) crew h = h
+workers_refuse workers options source (play.Parse f) crew h = h
+workers_refuse workers options source (play.Check f) crew h = h
+workers_refuse workers options source (play.Usage f) crew h = h
+workers_refuse workers options source (play.Code f) crew h = h
+workers_refuse workers options source (play.Write written) crew h = h
+workers_refuse workers options source (play.Run f) crew h = absurd h
+workers_refuse workers options source (play.Memory e) crew h = (h, crew)
+
+-- what refuses a text before there is code
+pub early_refuse : (workers : ℕ) (options : Options) (source : List ℕ) (fault : PlayFault) → RefusesCode options source fault → WorkersRefuse workers options source fault
+early_refuse workers options source (play.Text f) h = h
+early_refuse workers options source (play.Parse f) h = h
+early_refuse workers options source (play.Check f) h = h
+early_refuse workers options source (play.Usage f) h = h
+early_refuse workers options source (play.Code f) h = h
+early_refuse workers options source (play.Write written) h = h
+early_refuse workers options source (play.Run f) h = absurd h
+early_refuse workers options source (play.Memory e) h = absurd h

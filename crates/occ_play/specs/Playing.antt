@@ -60,8 +60,10 @@ pub record Unfolds (source : List ℕ) (u : UnfoldedProgram) : Type 0 where
 abbrev pub plain : Options
 plain = record { quantum = 1; errors = Halt }
 
--- the code of a text's program, for turns of this quantum and with faults that do this; the program keeps the usage rules
+-- the code of a text's program, for turns of this quantum, which is one, and with faults that do this; the program keeps the
+-- usage rules
 pub record IsTextsCode (options : Options) (source : List ℕ) (p : Program) : Type 0 where
+  pub quantum : IsQuantum options.quantum
   pub program : UnfoldedProgram
   pub unfolds : Unfolds source program
   pub lawful : Lawful program
@@ -75,7 +77,7 @@ pub record Ran (options : Options) (source keyboard : List ℕ) (list : List Cho
 
 -- ---- the answer of an accepted program
 
--- There is an unfolding of the text that keeps the usage rules, and a run of its system, with one turn of this quantum for
+-- The quantum is one. There is an unfolding of the text that keeps the usage rules, and a run of its system, with one turn of this quantum for
 -- each used choice by the process that the choice selects, whose answer the bytes are, with that run's ending. In the run a
 -- fault does what the options say, and a run that has noted a fault never ends. The used choices are a beginning of the list,
 -- and all of it where the run goes on. Which process a choice selects is what the replay of the used choices says, over the
@@ -83,6 +85,7 @@ pub record Ran (options : Options) (source keyboard : List ℕ) (list : List Cho
 -- turns each process of the replay is at the same stop in the run, and has the run's store. On each channel the messages
 -- output and those input are, in order, the communicated ones, each of the channel's protocol.
 pub record IsAnswer (options : Options) (source keyboard : List ℕ) (list : List Choice) (trace : Bool) (played : Played) (bytes : List ℕ) : Type 0 where
+  pub quantum : IsQuantum options.quantum
   pub program : UnfoldedProgram
   pub unfolds : Unfolds source program
   pub lawful : Lawful program
@@ -132,10 +135,19 @@ abbrev pub UsageRefusesText : UsageFault → List ℕ → Type 0
 UsageRefusesText usage.Memory source = ⊤
 UsageRefusesText fault source = (u : UnfoldedProgram) × Unfolds source u × UsageRefuses fault u
 
+-- the text has a program that keeps the usage rules
+pub record IsLawfulText (source : List ℕ) : Type 0 where
+  pub program : UnfoldedProgram
+  pub unfolds : Unfolds source program
+  pub lawful : Lawful program
+
+-- What is wrong with the text comes first, and then a quantum that is none; of a text that could be compiled, 32 instructions for
+-- each node are more than a program may have, or a growth was refused.
 abbrev pub CodeRefusesText : ℕ → CodeFault → List ℕ → Type 0
-CodeRefusesText quantum code.Memory source = ⊤
-CodeRefusesText quantum code.BadQuantum source = IsQuantum quantum → ⊥
-CodeRefusesText quantum code.TooLarge source = (u : UnfoldedProgram) × Unfolds source u × (most_instructions < 32 * (size_of (meaning u)).nodes)
+CodeRefusesText quantum code.Memory source = IsLawfulText source × IsQuantum quantum
+CodeRefusesText quantum code.BadQuantum source = IsLawfulText source × (IsQuantum quantum → ⊥)
+CodeRefusesText quantum code.TooLarge source =
+    IsQuantum quantum × ((u : UnfoldedProgram) × Unfolds source u × Lawful u × (most_instructions < 32 * (size_of (meaning u)).nodes))
 
 -- before there is code
 abbrev pub RefusesText : List ℕ → PlayFault → Type 0
@@ -146,12 +158,21 @@ RefusesText source (play.Usage fault) = UsageRefusesText fault source
 RefusesText source (play.Code fault) = ⊥
 RefusesText source (play.Write written) = ⊥
 RefusesText source (play.Run fault) = ⊥
-RefusesText source (play.Memory e) = ⊤
+RefusesText source (play.Memory e) = ⊥
 
--- for turns of these options
+-- the text has code
+abbrev pub HasCode : Options → List ℕ → Type 0
+HasCode options source = (p : Program) × IsTextsCode options source p
+
+-- there is no code of it for turns of these options
+abbrev pub RefusesCode : Options → List ℕ → PlayFault → Type 0
+RefusesCode options source (play.Code fault) = CodeRefusesText options.quantum fault source
+RefusesCode options source fault = RefusesText source fault
+
+-- For turns of these options. The want of memory of each layer is its own; another one comes only where the text has code.
 abbrev pub Refuses : Options → List ℕ → PlayFault → Type 0
-Refuses options source (play.Code fault) = CodeRefusesText options.quantum fault source
-Refuses options source fault = RefusesText source fault
+Refuses options source (play.Memory e) = HasCode options source
+Refuses options source fault = RefusesCode options source fault
 
 -- A failed write was met, and a beginning of an answer of length `written` was written and nothing else; any other fault refuses
 -- what was asked for, and leaves the writer as it was.

@@ -5,11 +5,10 @@ use Rattle.occ_net_replay.specs.declared.ending.Ending.TheVariants as E
 use Rattle.occ_run.specs.declared.fault.RunFault.TheVariants as run
 use Rattle.occ_play.specs.declared.fault.PlayFault.{PlayFault}
 use Rattle.occ_play.specs.declared.fault.PlayFault.TheVariants as play
-use Rattle.occ_choices.specs.Crews.{most_workers}
-use Rattle.occ_code.specs.Compiled.{Program}
+use Rattle.occ_choices.specs.Crews.{IsCrew, most_workers}
 use Rattle.occ_play.specs.declared.playing.Options.{Options}
 use Rattle.occ_play.specs.declared.playing.Played.{Played}
-use Rattle.occ_play.specs.Playing.{IsAnswer, IsTextsCode, Refuses}
+use Rattle.occ_play.specs.Playing.{HasCode, IsAnswer, Refuses}
 
 -- The answer that `play` gives for the choices that were used. There are at most `limit` of them, and just so many where the run could go
 -- on.
@@ -21,13 +20,14 @@ pub record IsAnswerWithin (options : Options) (source keyboard : List ℕ) (limi
 abbrev pub IsSomeAnswerWithin : Options → (source keyboard : List ℕ) → ℕ → Bool → List ℕ → Type 0
 IsSomeAnswerWithin options source keyboard limit trace bytes = (played : Played) × IsAnswerWithin options source keyboard limit trace played bytes
 
--- the text has code
-abbrev pub HasCode : Options → List ℕ → Type 0
-HasCode options source = (p : Program) × IsTextsCode options source p
+-- an answer of so many workers, where their number is one
+abbrev pub IsSomeCrewsAnswer : ℕ → Options → (source keyboard : List ℕ) → ℕ → Bool → List ℕ → Type 0
+IsSomeCrewsAnswer workers options source keyboard limit trace bytes = IsCrew workers × IsSomeAnswerWithin options source keyboard limit trace bytes
 
--- What is wrong with the text or the quantum comes first. A text that has code is refused for a number of workers that is not from 1 to 64, and for
--- threads that gave no answer.
+-- What is wrong with the text or the quantum comes first. A text that has code is refused for a number of workers that is not from 1 to 64, and by that
+-- alone; where it is from 1 to 64, for threads that gave no answer, or for want of memory.
 abbrev pub WorkersRefuse : ℕ → Options → List ℕ → PlayFault → Type 0
 WorkersRefuse workers options source (play.Run run.BadWorkers) = HasCode options source × ((workers ≡ 0) ⊎ (most_workers < workers))
-WorkersRefuse workers options source (play.Run fault) = HasCode options source
+WorkersRefuse workers options source (play.Run fault) = HasCode options source × IsCrew workers
+WorkersRefuse workers options source (play.Memory e) = HasCode options source × IsCrew workers
 WorkersRefuse workers options source fault = Refuses options source fault

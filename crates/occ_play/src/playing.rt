@@ -5,7 +5,7 @@ ghost use Rattle.occ_choices.specs.Plans.{choices_of};
 ghost use Rattle.occ_net_replay.specs.declared.choice.Choice.{Choice};
 ghost use Rattle.occ_net_tables.specs.Outcomes.{IsOutcome};
 ghost use Rattle.occ_play.specs.Charting.{IsChart};
-ghost use Rattle.occ_play.specs.Playing.{AfterFault, IsAnswer, IsSomeAnswer, IsTextsCode, Ran, Refuses, RefusesText, Unfolds, Wrote, plain};
+ghost use Rattle.occ_play.specs.Playing.{AfterFault, IsAnswer, IsSomeAnswer, IsTextsCode, Ran, Refuses, RefusesCode, RefusesText, Unfolds, Wrote, plain};
 ghost use Rattle.occ_term.specs.UnfoldedProgram.{Lawful};
 ghost use Rattle.occ_play.specs.Status.{status};
 
@@ -200,7 +200,7 @@ fn ran(
 /// The code of a source's program.
 pub(crate) fn code_of(options: &Options, alloc: Global, source: &[u8]) -> Result<Code, PlayFault>
     ensures code { IfOk result (IsTextsCode options.now source.now) }
-    ensures refused { IfErr result (Refuses options.now source.now) }
+    ensures refused { IfErr result (RefusesCode options.now source.now) }
 {
     let checked = accepted(alloc, source)?;
     let code = match compile_for(alloc, &checked, options.quantum) {

@@ -3,7 +3,7 @@ ghost use Rattle.std.specs.Prelude.{◌≡◌, ◌<◌, ◌-◌, ◌^◌, IfOk, 
 ghost use Rattle.occ_shown.specs.Counting.{failures_of};
 ghost use Rattle.occ_play.specs.Playing.{AfterFault, Wrote, plain};
 ghost use Rattle.occ_choices.specs.Crews.{IsCrew};
-ghost use Rattle.occ_play.specs.Working.{IsAnswerWithin, IsSomeAnswerWithin, WorkersRefuse};
+ghost use Rattle.occ_play.specs.Working.{IsAnswerWithin, IsSomeCrewsAnswer, WorkersRefuse};
 
 use crate::fault::PlayFault;
 use crate::playing::{Options, Played, code_of, told};
@@ -37,7 +37,7 @@ pub fn play_workers<R: Threads + Wait + Sync, G: Gate + Sync, W: Write>(
         (IsAnswerWithin plain source.now keyboard.now limit trace played) out.old out.new) }
     ensures crew { IfOk result (λ _. IsCrew workers) }
     ensures fault { IfErr result (AfterFault W.contents
-        (IsSomeAnswerWithin plain source.now keyboard.now limit trace) (WorkersRefuse workers plain source.now) out.old out.new) }
+        (IsSomeCrewsAnswer workers plain source.now keyboard.now limit trace) (WorkersRefuse workers plain source.now) out.old out.new) }
 {
     let options = Options::plain();
     play_workers_in(
@@ -67,7 +67,7 @@ pub fn play_workers_in<R: Threads + Wait + Sync, G: Gate + Sync, W: Write>(
         (IsAnswerWithin options.now source.now keyboard.now limit trace played) out.old out.new) }
     ensures crew { IfOk result (λ _. IsCrew workers) }
     ensures fault { IfErr result (AfterFault W.contents
-        (IsSomeAnswerWithin options.now source.now keyboard.now limit trace) (WorkersRefuse workers options.now source.now) out.old out.new) }
+        (IsSomeCrewsAnswer workers options.now source.now keyboard.now limit trace) (WorkersRefuse workers options.now source.now) out.old out.new) }
 {
     let (played, bytes) = gathered(
         rt, options, alloc, source, keyboard, workers, limit, trace, gate,

@@ -17,8 +17,7 @@ use Rattle.occ_play.specs.declared.fault.PlayFault.{PlayFault}
 use Rattle.occ_play.specs.declared.fault.PlayFault.TheVariants as play
 use Rattle.occ_choices.specs.declared.fault.ChoiceFault.TheVariants as choice
 use Rattle.occ_play_inputs.specs.declared.failure.Failure.{Failure}
-use Rattle.occ_play_inputs.specs.declared.failure.Failure.TheVariants.{Help, Words, Arguments, Read, Choices, Write, Memory}
-use Rattle.occ_program.specs.Drawing.{Draws}
+use Rattle.occ_play_inputs.specs.declared.failure.Failure.TheVariants.{Write, Memory}
 use Rattle.occ_play.specs.Playing.{AfterFault, IsAnswer, Refuses, Wrote}
 use Rattle.occ_play.specs.Working.{IsAnswerWithin, WorkersRefuse}
 use Rattle.occ_play.proofs.Working.{workers_refuse}

@@ -93,8 +93,18 @@ impl Progress {
         Some(settled as u32)
     }
 
+    /// Stops the run, since a thread was refused.
+    pub fn refuse_thread(&mut self)
+        ensures network { self.new.network ≡ self.old.network }
+        ensures limit { self.new.limit ≡ self.old.limit }
+        ensures stop { self.new.stop ≡ first_stop self.old.stop Stop.Spawn }
+        ensures counts { KeepsCounts self.old self.new }
+    {
+        self.halt(Stop::Spawn);
+    }
+
     /// Stops the run. The first reason stands.
-    pub fn halt(&mut self, stop: Stop)
+    fn halt(&mut self, stop: Stop)
         ensures network { self.new.network ≡ self.old.network }
         ensures limit { self.new.limit ≡ self.old.limit }
         ensures stop { self.new.stop ≡ first_stop self.old.stop stop }

@@ -1,6 +1,7 @@
 //! A run of a program's code by several threads.
 ghost use Rattle.std.specs.Prelude.{◌≡◌, ◌<◌, ◌↔◌, ◌⊎◌, IfOk, IfErr, IsErrOf, IsFalse, IsTrue, None};
 ghost use Rattle.occ_choices.specs.Crews.{most_workers};
+ghost use Rattle.occ_net.specs.Networks.{fresh};
 ghost use Rattle.occ_run.specs.Gathered.{IsNoRun, IsRunOf, IsUnfinished, IsWhole, stop_fault};
 
 use crate::fault::RunFault;
@@ -45,7 +46,10 @@ pub fn run_workers<R: Threads + Wait + Sync, G: Gate + Sync>(
 
 /// The network before its first turn.
 fn beginning(alloc: Global, code: &Code, keyboard: &[u8], limit: u32) -> Result<Progress, RunFault>
-    ensures { IfErr result (λ fault. fault ≡ RunFault.Memory) }
+    ensures network { IfOk result (λ b. b.network ≡ fresh code.now keyboard.now) }
+    ensures limit { IfOk result (λ b. b.limit ≡ limit) }
+    ensures stop { IfOk result (λ b. b.stop ≡ None) }
+    ensures refused { IfErr result (λ fault. fault ≡ RunFault.Memory) }
 {
     let code = code.again(alloc)?;
     let keyboard = Vec::from_slice(alloc, keyboard)?;

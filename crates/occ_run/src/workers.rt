@@ -3,7 +3,7 @@ ghost use Rattle.std.specs.Prelude.{IfSome};
 ghost use Rattle.occ_net.specs.Leases.{CanTurn};
 
 use crate::gate::Gate;
-use crate::progress::{Done, Next, Progress, Stop, Wake};
+use crate::progress::{Done, Next, Progress, Wake};
 use occ_net::Lease;
 use std::alloc::Global;
 use std::hint::spin_loop;
@@ -105,7 +105,7 @@ pub(crate) fn run_all<R: Threads + Wait + Sync, G: Gate + Sync>(
     thread::scope(thread::scope_env(), rt, |scope| {
         for _ in 0..workers {
             if scope.spawn(move || work(rt, alloc, lent, gate)).is_err() {
-                lent.progress.lock(rt).halt(Stop::Spawn);
+                lent.progress.lock(rt).refuse_thread();
                 lent.moved.notify_all();
                 break;
             }

@@ -1,9 +1,9 @@
 //! The sequence chart of a trace, in SVG.
-ghost use Rattle.std.specs.Prelude.{◌≡◌, ◌++◌, ◌∷◌, [], ◌+◌, ◌*◌, ◌<◌, ◌≤◌, ◌^◌, IfOk, List, OnOk, codes, length, map, ℕ};
+ghost use Rattle.std.specs.Prelude.{◌≡◌, ◌++◌, ◌∷◌, [], ◌+◌, ◌*◌, ◌<◌, ◌≤◌, ◌^◌, IfOk, OnOk, codes, length, map, ℕ};
 ghost use Rattle.occ_term.specs.Runs.{Entry, Names, entries, entry_of};
 ghost use Rattle.occ_net_tables.specs.Holding.{communication_of, end_of};
 ghost use Rattle.occ_shown.specs.Answers.{end_text, names_of};
-ghost use Rattle.occ_shown.specs.Charts.{along, arrow, arrows, between, chart_text, column, down, is_end, left_out, leftward, lifelines, opening, parties_after, path, place_of, rightward, row, text_at, with_end};
+ghost use Rattle.occ_shown.specs.Charts.{along, arrow, arrows, chart_text, column, down, is_end, left_out, leftward, lifelines, opening, parties_after, path, place_of, rightward, row, text_at, with_end};
 ghost use Rattle.occ_shown.specs.Xml.{element_text, elements_text};
 ghost use Rattle.occ_net_replay.specs.Endings.{ending_text};
 

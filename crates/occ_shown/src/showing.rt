@@ -1,10 +1,9 @@
 //! The answer's bytes, whole.
-ghost use Rattle.std.specs.Prelude.{◌≡◌, ◌++◌, ◌∷◌, [], ◌<◌, ◌+◌, ◌^◌, Some, None, Option, IfOk, OnOk, List, ℕ, length, map, codes, slice_get};
+ghost use Rattle.std.specs.Prelude.{◌≡◌, ◌++◌, ◌∷◌, [], ◌<◌, ◌+◌, ◌^◌, Some, None, Option, IfOk, OnOk, map, slice_get};
 ghost use Rattle.std.specs.Fmt.{decimal};
 ghost use Rattle.std.specs.Option.{option_copied};
 ghost use Rattle.occ_term.specs.Runs.{bytes_in, bytes_of, entry_of, entries, messages_on, sent_on, shown_by, tag_shown};
-ghost use Rattle.occ_shown.specs.Answers.{AreByteMessages, IsByteMessage, answer_text, value_text, spaced_text, values_text, array_text, part_text, later_text, items_text, end_text, head_text, ends_text, line_text, trace_text, line_break, ends_inside, names_of, name_at, tag_in, report_of};
-ghost use Rattle.occ_net_replay.specs.Endings.{ending_text};
+ghost use Rattle.occ_shown.specs.Answers.{AreByteMessages, IsByteMessage, answer_text, value_text, spaced_text, array_text, part_text, later_text, items_text, end_text, head_text, ends_text, line_text, trace_text, line_break, names_of, name_at, tag_in, report_of};
 ghost use Rattle.occ_net_tables.specs.Holding.{communication_of, end_of};
 ghost use Rattle.occ_net_trace.specs.Views.{part_of};
 

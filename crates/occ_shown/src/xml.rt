@@ -1,5 +1,5 @@
 //! Writes elements of XML.
-ghost use Rattle.std.specs.Prelude.{◌≡◌, ◌++◌, OnOk, codes};
+ghost use Rattle.std.specs.Prelude.{◌≡◌, ◌++◌, OnOk};
 ghost use Rattle.std.specs.Fmt.{decimal};
 ghost use Rattle.occ_shown.specs.Xml.{attribute, attribute_text, element_text, escaped, escaped_byte};
 ghost use Rattle.occ_shown.specs.Charts.{path, text_at};

@@ -1,6 +1,6 @@
 -- The cells of a part of an array lie within it.
-use Rattle.std.proofs.Common.{◌≡◌, ◌∙◌, sym, ap, subst, refl, Bool, true, false, IsTrue, ◌&&◌, int_le, int_lt, rules, ℤ, pos, negsuc, inl, inr, ℕ, suc, ◌+◌, ◌*◌, ◌<◌, ◌≤◌, List, [], ◌∷◌, map, drop, get_or, length, arith, mul-zero}
-use Rattle.std.proofs.Math.Nat.{mul-le-mul_right, suc-mul, eq-zero-or-pos}
+use Rattle.std.proofs.Common.{◌≡◌, ◌∙◌, sym, ap, subst, refl, Bool, true, false, IsTrue, ◌&&◌, int_le, int_lt, rules, ℤ, pos, negsuc, ℕ, suc, ◌+◌, ◌*◌, ◌<◌, ◌≤◌, List, [], ◌∷◌, map, drop, get_or, length, arith}
+use Rattle.std.proofs.Math.Nat.{mul-le-mul_right, suc-mul}
 use Rattle.std.proofs.lemmas.Bool.Decides.{nat_tests}
 use Rattle.std.proofs.lemmas.List.{drop_more, drop_all}
 use Rattle.occ_term.specs.Messages.{FaultKind, Range, Fault, product}

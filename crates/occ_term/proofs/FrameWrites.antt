@@ -4,7 +4,6 @@ use Rattle.std.proofs.Common.{◌≡◌, ◌∙◌, sym, refl, ap, ℕ, zero, su
 use Rattle.std.proofs.Math.Seq.{drop-cons}
 use Rattle.std.proofs.Math.ListN.{set}
 use Rattle.std.proofs.lemmas.Bool.Decides.{nat_tests}
-use Rattle.std.proofs.lemmas.List.{at_drop_more, at_drop_all}
 use Rattle.occ_term.specs.Values.{values_from}
 use Rattle.occ_term.specs.Frames.{Ascends, Variables, row_with, value_at, values_with, frame_from, frame_with, span_with, place_among, place_in, counter_at, counters_with}
 

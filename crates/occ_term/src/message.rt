@@ -1,5 +1,5 @@
 //! Messages: what one communication carries.
-ghost use Rattle.std.specs.Prelude.{◌≡◌, ◌↔◌, IsTrue, IfOk, length, take};
+ghost use Rattle.std.specs.Prelude.{◌≡◌, ◌↔◌, IsTrue, IfOk};
 
 use crate::parts::Parts;
 use crate::primitive::Primitive;

@@ -1,5 +1,5 @@
 //! The items of a message.
-ghost use Rattle.std.specs.Prelude.{◌≡◌, ◌↔◌, ◌++◌, ◌∷◌, [], IfOk, IsTrue, MatchOption, OnOk, length};
+ghost use Rattle.std.specs.Prelude.{◌≡◌, ◌↔◌, ◌++◌, ◌∷◌, [], IfOk, IsTrue, MatchOption, OnOk};
 ghost use Rattle.occ_term.specs.Parts.{parts_in};
 
 use crate::message::Part;

@@ -12,7 +12,7 @@ use Rattle.occ_tree_grammar.specs.Many.{◌>>=◌}
 use Rattle.occ_tree_grammar.specs.Expressions.Trees.{Expression, expressions}
 use Rattle.occ_tree_grammar.specs.Expressions.Shown.{prim_word, show_expression, show_indices, dimensions}
 use Rattle.occ_tree_grammar.specs.Expressions.Reading.{Read, after_open_bracket, after_close, prim_at, index_with, indices_with, expression_at}
-use Rattle.occ_tree_grammar.specs.Lines.Trees.{Var, Target, Out, from_counted, Received, in_line, items, tagged, Replicator, each, Part, Carried, Size, given, ValueType, value_type, Spec, by_reference, by_channel, Formal, formal, Formals, formals, Actuals, actuals}
+use Rattle.occ_tree_grammar.specs.Lines.Trees.{Var, Target, Out, Received, items, Replicator, Part, Carried, Size, given, ValueType, value_type, Spec, by_reference, Formal, formal, Formals, formals, Actuals, actuals}
 use Rattle.occ_tree_grammar.specs.Lines.Shown.{separator_word, show_listed, show_name, show_var, show_target, show_out, show_received, show_replicator, show_part, show_carried, show_size, show_value_type, show_spec, show_formal, show_formals, show_actuals}
 use Rattle.occ_tree_grammar.specs.Lines.Fits.{FitsExpression, FitsVar, FitsTarget, FitsOut, FitsReceived, FitsReplicator, FitsPart, FitsCarried, FitsSize, FitsAllSizes, FitsValueType, FitsSpec, FitsFormal, FitsFormals, FitsActuals}
 use Rattle.occ_tree_grammar.specs.Lines.Reading.{after_separator, listed_at, name_at, after_for, var_at, target_after, target_at, out_after, out_at, targets_whole, received_at, replicator_at, actuals_at, part_after, part_at, carried_at, size_with, sizes_at, value_type_at, spec_after, spec_at, formal_at, formals_at}

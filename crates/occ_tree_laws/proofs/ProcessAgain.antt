@@ -8,7 +8,7 @@ use Rattle.occ_text.specs.declared.token.Sym.TheVariants as s
 use Rattle.occ_text.specs.Words.{Word, key, mark, LogicalLine, logical_line}
 use Rattle.occ_tree_grammar.specs.Lists.{show_all, Each}
 use Rattle.occ_tree_grammar.specs.Many.{Reader, many}
-use Rattle.occ_tree_grammar.specs.Lines.Heads.{DeclHead, names, value, parts, tags, procedure, tag_parts, show_decl_head, show_tag_head}
+use Rattle.occ_tree_grammar.specs.Lines.Heads.{names, value, parts, tags, procedure, tag_parts, show_decl_head, show_tag_head}
 use Rattle.occ_tree_grammar.specs.Lines.HeadReading.{declares as begins_declaration}
 use Rattle.occ_tree_grammar.specs.Processes.Trees.{Kind, process, choice, option, arm, variant, Under, Head, Tag, tag_line, of_parts, of_tags, Node, node, Body, no_body, single_body, bodies, Nodes, no_node, more_nodes, nodes, Decls, no_decl, more_decls, decls, Decl, declares, item, Item, value_item, protocol_item, proc_item}
 use Rattle.occ_tree_grammar.specs.Processes.Shown.{show_head, show_tag, show_node, show_body, show_nodes, show_decls, show_decl, show_item, show_program}

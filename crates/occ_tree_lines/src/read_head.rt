@@ -8,7 +8,7 @@ ghost use Rattle.occ_tree_grammar.specs.Expressions.Reading.{Gives};
 ghost use Rattle.occ_tree_grammar.specs.Lines.Views.{var_of, received_of};
 ghost use Rattle.occ_tree_grammar.specs.Lines.Heads.{act, chosen, values as the_values, guarded, on_skip};
 ghost use Rattle.occ_tree_grammar.specs.Lines.HeadViews.{action_of, process_head_of, choice_head_of, option_head_of, arm_head_of, variant_head_of};
-ghost use Rattle.occ_tree_grammar.specs.Lines.HeadReading.{received_head as head_received, received_arm as arm_received, assignment_at, after_var, var_first, after_open, name_first, process_head_at, condition_at, choice_head_at, values_at, option_head_at, reception_at, boolean_at, after_and, channel_first, after_condition, by_priority, guard_at, arm_head_at, variant_head_at};
+ghost use Rattle.occ_tree_grammar.specs.Lines.HeadReading.{received_head as head_received, received_arm as arm_received, assignment_at, after_var, var_first, after_open, name_first, process_head_at, choice_head_at, option_head_at, reception_at, boolean_at, after_and, channel_first, after_condition, by_priority, guard_at, arm_head_at, variant_head_at};
 ghost use Rattle.occ_tree_grammar.specs.Limits.{most_levels};
 
 use occ_text::{Key, Sym, Token};

@@ -5,8 +5,7 @@ use Rattle.occ_tree_grammar.specs.declared.fault.ParseFault.{ParseFault}
 use Rattle.occ_tree_grammar.specs.declared.fault.ParseFault.TheVariants.{Memory, Unexpected, Level, Missing, TooDeep}
 use Rattle.occ_tree_grammar.specs.Expressions.Reading.{Fails, expression_with, expression_at}
 use Rattle.occ_tree_grammar.specs.Many.{◌>>=◌}
-use Rattle.occ_tree_grammar.specs.Processes.Trees.{Kind}
-use Rattle.occ_tree_grammar.specs.Processes.Reading.{tag_with, tag_at, tags_with, tags_at, node_with, node_at}
+use Rattle.occ_tree_grammar.specs.Processes.Reading.{tag_with, tag_at, tags_with, tags_at}
 
 pub no_level : (n : ℕ) (ws : List Word) → n ≡ 0 → expression_at n ws ≡ None
 unfolding expression_at

@@ -1,12 +1,12 @@
 //! Variables, targets and items of a line.
 
-ghost use Rattle.std.specs.Prelude.{◌≡◌, ◌+◌, map, option_map};
+ghost use Rattle.std.specs.Prelude.{◌≡◌, ◌+◌};
 ghost use Rattle.occ_text.specs.Words.{words};
 ghost use Rattle.occ_tree_grammar.specs.Many.{ended};
 ghost use Rattle.occ_tree_grammar.specs.Expressions.Trees.{expression_of};
 ghost use Rattle.occ_tree_grammar.specs.Expressions.Reading.{Gives, expression_at};
 ghost use Rattle.occ_tree_grammar.specs.Lines.Views.{var_of, target_of, out_of, received_of, replicator_of, optional_replicator_of, actuals_of};
-ghost use Rattle.occ_tree_grammar.specs.Lines.Reading.{var_named, var_at, target_at, target_after, out_at, out_after, received_at, targets_whole, replicator_at, actuals_at};
+ghost use Rattle.occ_tree_grammar.specs.Lines.Reading.{var_named, var_at, target_at, out_at, received_at, targets_whole, replicator_at, actuals_at};
 ghost use Rattle.occ_tree_grammar.specs.Limits.{most_levels};
 
 use crate::expressions::read::{expr, indices};

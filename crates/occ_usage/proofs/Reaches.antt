@@ -1,5 +1,5 @@
 -- What sorted spans and their furthest ends say of a number.
-use Rattle.std.proofs.Common.{◌≡◌, ℕ, zero, suc, ◌+◌, ◌<◌, ◌≤◌, max, List, [], ◌∷◌, ◌++◌, drop, get_or, length, Bool, true, false, nat_le, nat_lt, refl, sym, ap, ◌∙◌, subst, inl, inr, arith}
+use Rattle.std.proofs.Common.{◌≡◌, ℕ, zero, suc, ◌+◌, ◌<◌, ◌≤◌, max, List, [], ◌∷◌, ◌++◌, drop, get_or, length, true, false, nat_le, nat_lt, refl, sym, ap, ◌∙◌, subst, inl, inr, arith}
 use Rattle.std.specs.Prelude.{None, Some, ◌||◌, ◌⊎◌}
 use Rattle.std.specs.List.{AllWithin}
 use Rattle.std.specs.List.Sorted.{IsNonDecreasingBy, IsPermutation}
@@ -10,7 +10,7 @@ use Rattle.std.proofs.lemmas.List.{drop_all}
 use mathlib.Core.Path.{fun_ext}
 use Rattle.occ_term.specs.Uses.{Numbers, Uses, empty_set, no_use, union, with_use}
 use Rattle.occ_usage.specs.Noted.{between, use_of, uses_in}
-use Rattle.occ_usage.specs.Indexes.{AreFilled, IsWithin, covered, furthest, reaches, same_kind, used}
+use Rattle.occ_usage.specs.Indexes.{AreFilled, IsWithin, covered, furthest, reaches, used}
 use Rattle.occ_usage.specs.declared.index.Span.{Span}
 use Rattle.occ_usage.specs.declared.noted.Use.{Use}
 use Rattle.occ_usage.specs.declared.noted.Kind.{Kind}

@@ -7,13 +7,13 @@ use mathlib.Core.Path.{fun_ext}
 use Rattle.occ_term.specs.Terms as T
 use Rattle.occ_term.specs.Uses.{Uses, no_use, with_use, uses_of, uses_of_branches, uses_of_reception}
 use Rattle.occ_usage.specs.Clashes.{Clash, clash_in, clash_in_branches, clash_in_reception, with_a_later}
-use Rattle.occ_usage.specs.Noted.{Adds, Covers, Finds, FindsAfter, IsOneOf, Leaves, all_uses, branch_uses, breaking, clash_among, clash_within, uses_in, with_one}
+use Rattle.occ_usage.specs.Noted.{Adds, Covers, FindsAfter, Leaves, all_uses, branch_uses, breaking, clash_among, clash_within, uses_in, with_one}
 use Rattle.occ_usage.specs.Heads.{head_of}
 use Rattle.occ_usage.specs.declared.noted.Found.{Found}
 use Rattle.occ_usage.specs.declared.noted.Use.{Use}
 use Rattle.occ_term.specs.View.{branch_of, branches_of, term_of}
 use Rattle.occ_term.specs.declared.term.Branch.{Branch}
-use Rattle.occ_usage.proofs.UseSets.{adds_as, adds_none, adds_then, use_assoc, use_none}
+use Rattle.occ_usage.proofs.UseSets.{adds_as, adds_then, use_assoc, use_none}
 
 both_false : (a b : Bool) → a ≡ false → b ≡ false → (a || b) ≡ false
 both_false true b p q = absurd cc

@@ -1,5 +1,5 @@
 //! Spans of numbers, sorted.
-ghost use Rattle.std.specs.Prelude.{◌≡◌, IfOk, IsTrue, ◌<◌, ◌≤◌, length};
+ghost use Rattle.std.specs.Prelude.{◌≡◌, IfOk, ◌<◌, ◌≤◌, length};
 ghost use Rattle.std.specs.List.{AllWithin};
 ghost use Rattle.occ_usage.specs.Noted.{between, use_of, uses_in};
 ghost use Rattle.occ_usage.specs.Indexes.{AreFilled, IsIndex, IsSpanOf, IsWithin, covered, furthest, reaches, same_kind, used};

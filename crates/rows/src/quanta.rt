@@ -24,7 +24,14 @@ const FOR_EVER: &str = "PROC main (CHAN OF BYTE keyboard, screen)
 :
 ";
 
-static ROWS: [Row; 9] = [
+const TWO_OUTPUTS: &str = "PROC main (CHAN OF BYTE keyboard, screen)
+  PAR
+    screen ! 'a'
+    screen ! 'b'
+:
+";
+
+static ROWS: [Row; 11] = [
     (COUNTING, 1, 10, "8", 0),
     (COUNTING, 1, 9, "8\nlimit\n", 4),
     (COUNTING, 4, 4, "8", 0),
@@ -34,6 +41,8 @@ static ROWS: [Row; 9] = [
     (FOR_EVER, 65_536, 2, "limit\n", 4),
     (COUNTING, 0, 10, "refused 62 BadQuantum", 7),
     (COUNTING, 65_537, 10, "refused 62 BadQuantum", 7),
+    ("", 0, 10, "refused 42 NoMain", 1),
+    (TWO_OUTPUTS, 70_000, 10, "refused 52 TwoOutputs line 4 screen", 1),
 ];
 
 fn zeros(alloc: Global, count: u32) -> Result<Plan, AllocError> {

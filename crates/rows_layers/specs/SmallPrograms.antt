@@ -1,6 +1,6 @@
 -- Small unfolded programs that tests are made of.
 -- Manual: nothing; this is (own).
-use Rattle.std.specs.Prelude.{List, None, [], pos, suc, zero, ℕ, ◌∷◌, ◌≡◌}
+use Rattle.std.specs.Prelude.{None, [], pos, suc, zero, ℕ, ◌∷◌, ◌≡◌}
 use Rattle.occ_term.specs.declared.primitive.Primitive.TheVariants.{Byte}
 use Rattle.occ_term.specs.Terms.{Term, Stop, Output, Seq, Par, no_branches, Terms, no_terms, then_term, Constant, place, no_subscripts, OfOne}
 use Rattle.occ_term.specs.UnfoldedProgram.{UnfoldedProgram, meaning, first_channels}

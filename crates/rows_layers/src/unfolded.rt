@@ -1,5 +1,5 @@
 //! Small unfolded programs.
-ghost use Rattle.std.specs.Prelude.{◌≡◌, ◌<◌, ◌∷◌, [], IfOk, length, map, replicate};
+ghost use Rattle.std.specs.Prelude.{◌≡◌, ◌<◌, ◌∷◌, [], IfOk, replicate};
 ghost use Rattle.occ_term.specs.UnfoldedProgram.{byte_channel, first_channels};
 ghost use Rattle.occ_term.specs.View.{term_of};
 ghost use Rattle.occ_term.specs.declared.term.Term.TheVariants as terms;

@@ -1,8 +1,8 @@
 //! Runs of plans.
 use crate::accepted::code_of;
 use occ_choices::Plan;
-use occ_net::{Network, Outcome, run};
-use occ_net_replay::Choice;
+use occ_net::{Network, Outcome, run, run_choices, run_turns};
+use occ_net_replay::{Choice, Ending};
 use std::alloc::Global;
 use std::process::Abort;
 use std::test::Fail;
@@ -48,6 +48,37 @@ fn check(rt: &impl Abort, alloc: Global, plan: &Plan, used: &[Choice]) -> Result
     assert_eq!(rt; messages(&outcome.network, 1), Some(1));
     assert_eq!(rt; messages(&outcome.network, 3), None);
     Ok(())
+}
+
+/// What a run by this list, or by so many turns, comes to.
+fn outcome_of(
+    rt: &impl Abort,
+    alloc: Global,
+    list: &[Choice],
+    by_list: bool,
+) -> Result<Outcome, Fail> {
+    let code = code_of(alloc, LETTER).expect(rt, "refused");
+    if by_list {
+        return Ok(run_choices(alloc, code, b"", list)?);
+    }
+    Ok(run_turns(alloc, code, b"", list.len() as u32)?)
+}
+
+/// A run by no turn has taken none, and one by two has come to the end.
+fn check_lists(rt: &impl Abort, alloc: Global, by_list: bool) -> Result<(), Fail> {
+    let none = outcome_of(rt, alloc, &[], by_list)?;
+    assert_eq!(rt; none.ending, Ending::Limit);
+    assert!(rt; none.choices.is_empty() && none.screen.is_empty());
+    let two = outcome_of(rt, alloc, &ZEROS, by_list)?;
+    assert_eq!(rt; two.ending, Ending::Ended);
+    assert_eq!(rt; two.screen.as_slice(), b"A".as_slice());
+    Ok(())
+}
+
+#[test]
+fn a_letter_is_run_by_lists(rt: HostRuntime) -> Result<(), Fail> {
+    check_lists(&rt, rt.alloc(), true)?;
+    check_lists(&rt, rt.alloc(), false)
 }
 
 #[test]

@@ -3,7 +3,7 @@ ghost use Rattle.std.specs.Prelude.{◌≡◌, ◌∷◌, [], ◌++◌, ◌-◌,
 ghost use Rattle.occ_term.specs.Storing.{index_of};
 ghost use Rattle.occ_term.specs.View.{expression_of, place_of, replicator_of, test_of};
 ghost use Rattle.occ_code.specs.Machine as machine;
-ghost use Rattle.occ_code.specs.Expressions.{counting_code, expression_code, input_opening, skip_opening};
+ghost use Rattle.occ_code.specs.Expressions.{counting_code, input_opening, skip_opening};
 ghost use Rattle.occ_code.specs.View.{Behind, Emits};
 ghost use Rattle.occ_code.specs.declared.compiler.instr.Instr.{Instr};
 

@@ -3,7 +3,6 @@ ghost use Rattle.std.specs.Prelude.{◌≡◌, ◌↔◌, ◌<◌, ◌≤◌, �
 ghost use Rattle.std.specs.Arc.{arc_value};
 ghost use Rattle.occ_term.specs.Processes.{processes_of};
 ghost use Rattle.occ_term.specs.declared.fault.Errors.{Errors};
-ghost use Rattle.occ_term.specs.UnfoldedProgram.{meaning};
 ghost use Rattle.occ_term.specs.View.{term_of};
 ghost use Rattle.occ_code.specs.Compiled.{AreBodiesOf, IsCodeOf, IsCompiled, IsQuantum, IsRefused, CodeRefuses, most_instructions};
 ghost use Rattle.occ_code.specs.Compiled as compiled;
@@ -218,6 +217,7 @@ pub fn compile(alloc: Global, checked: &Checked) -> Result<Code, CodeFault>
 /// limit of instructions, and `Memory` for a refused growth.
 pub fn compile_for(alloc: Global, checked: &Checked, quantum: u32) -> Result<Code, CodeFault>
     ensures compiled { IfOk result (λ c. IsCodeOf checked.now quantum c) }
+    ensures quantum { IfOk result (λ _. IsQuantum quantum) }
     ensures halts { IfOk result (λ c. c.errors ≡ Errors.Halt) }
     ensures refused { IfErr result (λ fault. CodeRefuses fault quantum checked.now) }
 {

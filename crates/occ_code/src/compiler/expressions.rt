@@ -1,5 +1,5 @@
 //! The code of expressions, items, targets and declarations.
-ghost use Rattle.std.specs.Prelude.{◌≡◌, ◌∷◌, [], ◌++◌, ◌*◌, ◌<◌, ◌^◌, OnOk, length, map, min, option_map};
+ghost use Rattle.std.specs.Prelude.{◌≡◌, ◌∷◌, [], ◌++◌, ◌*◌, ◌<◌, ◌^◌, OnOk, map, min, option_map};
 ghost use Rattle.occ_term.specs.Messages.{product as product_of};
 ghost use Rattle.occ_term.specs.ArraySizes.{AreFew};
 ghost use Rattle.occ_term.specs.Terms.{OfOne, OfMany, OfCounted, Into, IntoCounted, Naming};

@@ -1,9 +1,9 @@
 //! Emitting code from its end to its start.
-ghost use Rattle.std.specs.Prelude.{◌≡◌, ◌∷◌, [], ◌-◌, ◌<◌, IfOk, OnOk, length, set};
+ghost use Rattle.std.specs.Prelude.{◌≡◌, ◌∷◌, [], ◌-◌, ◌<◌, OnOk, length, set};
 ghost use Rattle.occ_code.specs.View.{emitted_instruction, Emits};
 
 use crate::compiler::instr::Instr;
-use std::alloc::{AllocError, Global};
+use std::alloc::AllocError;
 
 /// Puts one instruction before what was emitted.
 pub(crate) fn put(code: &mut Vec<Instr<u32>>, instr: Instr<u32>) -> Result<(), AllocError>

@@ -2,9 +2,9 @@
 ghost use Rattle.std.specs.Prelude.{◌≡◌, ◌∷◌, [], ◌++◌, ◌-◌, ◌+◌, ◌*◌, ◌≤◌, ◌<◌, IfOk, OnOk, List, length, map, ℕ};
 ghost use Rattle.occ_term.specs.Storing.{index_of};
 ghost use Rattle.occ_term.specs.Terms as terms;
-ghost use Rattle.occ_term.specs.View.{arm_of, arms_of, branches_of, choice_of, choices_of, declaration_of, declarations_of, expression_of, items_of, option_of, options_of, place_of, reception_of, replicator_of, targets_of, term_of, terms_of, variant_of, variants_of};
+ghost use Rattle.occ_term.specs.View.{arm_of, arms_of, branches_of, choice_of, choices_of, declarations_of, expression_of, items_of, option_of, options_of, place_of, reception_of, replicator_of, targets_of, term_of, terms_of, variant_of, variants_of};
 ghost use Rattle.occ_code.specs.Machine as machine;
-ghost use Rattle.occ_code.specs.Expressions.{counting_code, declaration_code, declarations_code, expression_code, items_code, par_code, place_code, storing_code};
+ghost use Rattle.occ_code.specs.Expressions.{counting_code, declarations_code, expression_code, items_code, par_code, place_code, storing_code};
 ghost use Rattle.occ_code.specs.Emitted.{arms_code, list_code, choices_code, else_code, options_code, term_code, terms_code, variants_code};
 ghost use Rattle.occ_code.specs.View.{Behind, Emits};
 ghost use Rattle.occ_code.specs.declared.compiler.instr.Instr.{Instr};

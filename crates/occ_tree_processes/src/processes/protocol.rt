@@ -4,7 +4,6 @@ ghost use Rattle.std.specs.Prelude.{◌≡◌, ◌≤◌, ◌+◌, map};
 ghost use Rattle.occ_text.specs.Words.{logical_lines};
 ghost use Rattle.occ_tree_grammar.specs.Many.{as_many};
 ghost use Rattle.occ_tree_grammar.specs.Expressions.Reading.{Gives};
-ghost use Rattle.occ_tree_grammar.specs.Lines.HeadViews.{tag_head_of};
 ghost use Rattle.occ_tree_grammar.specs.Processes.Views.{tag_of, protocol_of};
 ghost use Rattle.occ_tree_grammar.specs.Processes.Reading.{at_level, tag_with, tag_at, tags_with, tags_at};
 ghost use Rattle.occ_tree_grammar.specs.Limits.{most_levels};
