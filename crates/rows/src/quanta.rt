@@ -42,7 +42,13 @@ static ROWS: [Row; 11] = [
     (COUNTING, 0, 10, "refused 62 BadQuantum", 7),
     (COUNTING, 65_537, 10, "refused 62 BadQuantum", 7),
     ("", 0, 10, "refused 42 NoMain", 1),
-    (TWO_OUTPUTS, 70_000, 10, "refused 52 TwoOutputs line 4 screen", 1),
+    (
+        TWO_OUTPUTS,
+        70_000,
+        10,
+        "refused 52 TwoOutputs line 4 screen",
+        1,
+    ),
 ];
 
 fn zeros(alloc: Global, count: u32) -> Result<Plan, AllocError> {
