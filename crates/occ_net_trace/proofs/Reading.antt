@@ -1,6 +1,6 @@
 -- What is read from the lists of some communications is these.
 use Rattle.std.proofs.lemmas.List.{take_min}
-use Rattle.std.proofs.Common.{◌≡◌, ◌∙◌, ◌≤◌, ◌+◌, ℕ, zero, suc, min, arith, ℤ, List, [], ◌∷◌, ◌++◌, length, map, take, drop, refl, sym, ap, subst, append_assoc, append-nil}
+use Rattle.std.proofs.Common.{◌≡◌, ◌∙◌, ◌≤◌, ◌+◌, ℕ, zero, suc, min, arith, ℤ, List, [], ◌∷◌, ◌++◌, length, map, take, drop, refl, sym, ap, subst, append_assoc, append-nil, Result, Ok, Err, OnOk}
 use Rattle.occ_term.specs.declared.message.Part.{Part}
 use Rattle.occ_term.specs.declared.message.Part.TheVariants.{One, Many, Counted}
 use Rattle.occ_net_trace.specs.declared.communication.Communication.{Communication}
@@ -107,6 +107,51 @@ kept_more xs x old new k p =
       lengths = p.lengths ∙ ap (λ l. l ++ all_lengths x.message.items) k.lengths ∙ lengths_more xs x;
       words = p.words ∙ ap (λ l. l ++ all_words x.message.items) k.words ∙ words_more xs x;
     }
+
+-- ---- those behind the first ones
+
+drop_behind : {A : Type 0} (xs ys : List A) → drop (length xs) (xs ++ ys) ≡ ys
+drop_behind [] ys = refl
+drop_behind (x ∷ xs) ys = drop_behind xs ys
+
+pub heads_count : (xs : List Communication) → length (map head_of xs) ≡ length xs
+heads_count [] = refl
+heads_count (x ∷ xs) = ap (λ n. suc n) (heads_count xs)
+
+heads_join : (xs ys : List Communication) → map head_of (xs ++ ys) ≡ map head_of xs ++ map head_of ys
+heads_join [] ys = refl
+heads_join (x ∷ xs) ys = ap (λ l. head_of x ∷ l) (heads_join xs ys)
+
+shapes_join : (xs ys : List Communication) → shapes_in (xs ++ ys) ≡ shapes_in xs ++ shapes_in ys
+shapes_join [] ys = refl
+shapes_join (x ∷ xs) ys = ap (λ l. all_shapes x.message.items ++ l) (shapes_join xs ys) ∙ sym (append_assoc (all_shapes x.message.items) (shapes_in xs) (shapes_in ys))
+
+lengths_join : (xs ys : List Communication) → lengths_in (xs ++ ys) ≡ lengths_in xs ++ lengths_in ys
+lengths_join [] ys = refl
+lengths_join (x ∷ xs) ys = ap (λ l. all_lengths x.message.items ++ l) (lengths_join xs ys) ∙ sym (append_assoc (all_lengths x.message.items) (lengths_in xs) (lengths_in ys))
+
+words_join : (xs ys : List Communication) → words_in (xs ++ ys) ≡ words_in xs ++ words_in ys
+words_join [] ys = refl
+words_join (x ∷ xs) ys = ap (λ l. all_words x.message.items ++ l) (words_join xs ys) ∙ sym (append_assoc (all_words x.message.items) (words_in xs) (words_in ys))
+
+pub behind_read : (l : Lists) (xs before after : List Communication) → IsKept xs l → xs ≡ before ++ after
+    → communications_in (drop (length before) l.heads.items) (drop (length (shapes_in before)) l.shapes.items) (drop (length (lengths_in before)) l.lengths.items) (drop (length (words_in before)) l.words.items) ≡ after
+behind_read l xs before after k is =
+    let heads : drop (length before) l.heads.items ≡ map head_of after =
+    ap (drop (length before)) (k.heads ∙ ap (map head_of) is ∙ heads_join before after)
+    ∙ ap (λ n. drop n (map head_of before ++ map head_of after)) (sym (heads_count before))
+    ∙ drop_behind (map head_of before) (map head_of after) in
+    let shapes : drop (length (shapes_in before)) l.shapes.items ≡ shapes_in after =
+    ap (drop (length (shapes_in before))) (k.shapes ∙ ap shapes_in is ∙ shapes_join before after) ∙ drop_behind (shapes_in before) (shapes_in after) in
+    let lengths : drop (length (lengths_in before)) l.lengths.items ≡ lengths_in after =
+    ap (drop (length (lengths_in before))) (k.lengths ∙ ap lengths_in is ∙ lengths_join before after) ∙ drop_behind (lengths_in before) (lengths_in after) in
+    let words : drop (length (words_in before)) l.words.items ≡ words_in after =
+    ap (drop (length (words_in before))) (k.words ∙ ap words_in is ∙ words_join before after) ∙ drop_behind (words_in before) (words_in after) in
+    rw (heads, shapes, lengths, words) (all_read after)
+
+pub on_ok : {A E : Type 0} {P Q : Type 0} (r : Result A E) → OnOk r P → (P → Q) → OnOk r Q
+on_ok (Ok x) h f = f h
+on_ok (Err e) h f = h
 
 -- ---- the first ones
 

@@ -1,4 +1,5 @@
 pub mod Flat
 pub mod Kept
+pub mod Places
 pub mod Room
 pub mod Views

@@ -13,6 +13,13 @@ pub record AreSame (old new : Lists) : Type 0 where
   pub lengths : new.lengths.items ≡ old.lengths.items
   pub words : new.words.items ≡ old.words.items
 
+-- they hold nothing
+pub record AreEmpty (l : Lists) : Type 0 where
+  pub heads : l.heads.items ≡ []
+  pub shapes : l.shapes.items ≡ []
+  pub lengths : l.lengths.items ≡ []
+  pub words : l.words.items ≡ []
+
 -- for these items, and for their end
 pub record HasRoomForAll (l : Lists) (ps : List Part) : Type 0 where
   pub shapes : vec_len l.shapes + length (all_shapes ps) ≤ vec_capacity l.shapes

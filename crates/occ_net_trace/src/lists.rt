@@ -1,11 +1,11 @@
 //! The shared lists, and how a communication is put behind the others.
 ghost use Rattle.std.specs.Prelude.{◌≡◌, ◌+◌, ◌<◌, ◌≤◌, ◌^◌, ◌++◌, ◌∷◌, [], OnOk, length, vec_capacity, vec_len};
 ghost use Rattle.occ_net_trace.specs.Flat.{all_words, shape_of, words_of};
-ghost use Rattle.occ_net_trace.specs.Room.{AreSame, HasRoom, HasRoomFor, Puts, PutsPart};
+ghost use Rattle.occ_net_trace.specs.Room.{AreEmpty, AreSame, HasRoom, HasRoomFor, Puts, PutsPart};
 
 use crate::shapes::{Head, Shape};
 use occ_term::Part;
-use std::alloc::AllocError;
+use std::alloc::{AllocError, Global};
 
 /// What a trace keeps: a head for each communication, and for all of them together the shapes of their items, the lengths
 /// of those that are arrays, and their values.
@@ -50,6 +50,28 @@ fn all_word_count(parts: &[Part]) -> usize
 }
 
 impl Lists {
+    /// Nothing.
+    pub(crate) fn new(alloc: Global) -> Lists
+        ensures { AreEmpty result }
+    {
+        Lists {
+            heads: Vec::new(alloc),
+            shapes: Vec::new(alloc),
+            lengths: Vec::new(alloc),
+            words: Vec::new(alloc),
+        }
+    }
+
+    /// Lets go of all, and keeps the room.
+    pub(crate) fn clear(&mut self)
+        ensures { AreEmpty self.new }
+    {
+        self.heads.clear();
+        self.shapes.clear();
+        self.lengths.clear();
+        self.words.clear();
+    }
+
     /// Room for a communication of these items. After a refused growth the lists hold what they held.
     pub(crate) fn reserve(&mut self, parts: &[Part]) -> Result<(), AllocError>
         ensures same { AreSame self.old self.new }

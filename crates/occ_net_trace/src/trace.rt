@@ -1,10 +1,13 @@
 //! The trace of a run.
-ghost use Rattle.std.specs.Prelude.{◌≡◌, ◌↔◌, ◌<◌, ◌^◌, ◌++◌, ◌∷◌, [], IsTrue, OnErr, OnOk, length};
+ghost use Rattle.std.specs.Prelude.{◌≡◌, ◌↔◌, ◌<◌, ◌^◌, ◌++◌, ◌∷◌, [], IsTrue, List, OnErr, OnOk, length};
+ghost use Rattle.occ_net_trace.specs.declared.communication.Communication.{Communication};
+ghost use Rattle.occ_net_trace.specs.Places.{place_behind};
 ghost use Rattle.occ_net_trace.specs.Views.{communication};
 
 use crate::communication::End;
 use crate::entries::Entries;
 use crate::lists::Lists;
+use crate::news::{Mark, News};
 use crate::pieces::Pieces;
 use crate::shapes::Head;
 use occ_term::Message;
@@ -40,12 +43,7 @@ impl Trace {
         ensures { result ≡ [] }
     {
         Trace {
-            lists: Lists {
-                heads: Vec::new(alloc),
-                shapes: Vec::new(alloc),
-                lengths: Vec::new(alloc),
-                words: Vec::new(alloc),
-            },
+            lists: Lists::new(alloc),
         }
     }
 
@@ -75,6 +73,30 @@ impl Trace {
             words: self.lists.words.as_slice(),
         };
         Entries::new(self.lists.heads.as_slice(), pieces)
+    }
+
+    /// How far it has come.
+    pub fn mark(&self) -> Mark
+        ensures { result ≡ place_behind self.now }
+    {
+        Mark {
+            heads: self.lists.heads.len(),
+            shapes: self.lists.shapes.len(),
+            lengths: self.lists.lengths.len(),
+            words: self.lists.words.len(),
+        }
+    }
+
+    /// Copies the communications behind a mark into `news`, in place of what that held. It takes as long as they are many,
+    /// however many stand before the mark.
+    ///
+    /// # Errors
+    ///
+    /// A refused growth.
+    pub fn copy_behind(&self, mark: &Mark, news: &mut News) -> Result<(), AllocError>
+        ensures { OnOk result ((before after : List Communication) → self.now ≡ before ++ after → mark.now ≡ place_behind before → news.new ≡ after) }
+    {
+        news.take(&self.lists, mark)
     }
 
     /// Puts the communication of this message on this channel, between these ends, behind the others. All growths that it

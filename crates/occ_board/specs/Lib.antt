@@ -1,0 +1,4 @@
+pub mod Entries
+pub mod Editions
+pub mod Rules
+pub mod Traces
