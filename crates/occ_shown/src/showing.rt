@@ -14,7 +14,7 @@ use occ_term::{Channel, ERROR, Primitive, Protocol, SCREEN};
 use std::alloc::{AllocError, Global};
 
 /// Ends a line.
-const LINE_FEED: u8 = 10;
+pub(crate) const LINE_FEED: u8 = 10;
 
 fn write_value(
     alloc: Global,
@@ -39,7 +39,7 @@ fn write_value(
     }
 }
 
-fn write_number(alloc: Global, out: &mut Vec<u8>, number: u64) -> Result<(), AllocError>
+pub(crate) fn write_number(alloc: Global, out: &mut Vec<u8>, number: u64) -> Result<(), AllocError>
     ensures { OnOk result (out.new.items ≡ out.old.items ++ decimal number) }
 {
     let text = format!(in alloc; "{number}")?;
@@ -79,7 +79,11 @@ fn write_array(
     Ok(())
 }
 
-fn write_part(alloc: Global, out: &mut Vec<u8>, part: &PartView<'_>) -> Result<(), AllocError>
+pub(crate) fn write_part(
+    alloc: Global,
+    out: &mut Vec<u8>,
+    part: &PartView<'_>,
+) -> Result<(), AllocError>
     ensures { OnOk result (out.new.items ≡ out.old.items ++ part_text (part_of part.now)) }
 {
     match part {
@@ -176,7 +180,7 @@ fn write_head(
 }
 
 /// The two ends of a communication, between spaces.
-fn write_ends(
+pub(crate) fn write_ends(
     alloc: Global,
     out: &mut Vec<u8>,
     sender: End,
@@ -193,7 +197,7 @@ fn write_ends(
 }
 
 /// The name of a channel's tag; empty where there is no such tag.
-fn tag_name<'a>(channels: &'a [Channel], chan: u32, tag: u32) -> &'a [u8]
+pub(crate) fn tag_name<'a>(channels: &'a [Channel], chan: u32, tag: u32) -> &'a [u8]
     ensures { result.now ≡ (names_of channels.now).tag_name chan tag }
 {
     match channels.get(chan as usize) {
