@@ -1,3 +1,4 @@
 mod Headline
 mod Again
 pub mod Working
+mod Beside

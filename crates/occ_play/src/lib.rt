@@ -7,14 +7,17 @@
 pub mod fault;
 pub mod laws;
 pub mod playing;
+pub mod watched;
 pub mod workers;
 
 pub use fault::PlayFault;
+pub use occ_board::{Board, BoardFault, Naming, Note, Opened, Publisher, Shown, Watcher};
 pub use occ_choices::{ChoiceFault, Plan, choices_text, read_choices};
 pub use occ_net_replay::{Choice, Ending};
 pub use occ_net_trace::{Communication, End};
 pub use occ_run::{FreeGate, Gate, RunFault};
-pub use occ_shown::Counted;
+pub use occ_shown::{Counted, watch_lines};
 pub use occ_term::Errors;
 pub use playing::{Options, Played, chart, play, play_in, status_of};
+pub use watched::play_watched;
 pub use workers::{play_workers, play_workers_in};

@@ -6,6 +6,7 @@ ghost use Rattle.occ_net_replay.specs.declared.choice.Choice.{Choice};
 ghost use Rattle.occ_net_tables.specs.Outcomes.{IsOutcome};
 ghost use Rattle.occ_play.specs.Charting.{IsChart};
 ghost use Rattle.occ_play.specs.Playing.{AfterFault, IsAnswer, IsSomeAnswer, IsTextsCode, Ran, Refuses, RefusesCode, RefusesText, Unfolds, Wrote, plain};
+ghost use Rattle.occ_play.specs.Watching.{AnswersWith};
 ghost use Rattle.occ_term.specs.UnfoldedProgram.{Lawful};
 ghost use Rattle.occ_play.specs.Status.{status};
 
@@ -138,7 +139,7 @@ pub(crate) fn told(
     trace: bool,
 ) -> Result<(Played, Vec<u8>), PlayFault>
     requires { Ran options.now source.now keyboard.now outcome.choices.items code.now outcome }
-    ensures answer { IfOk result (λ r. (list : List Choice) → IsOutcome code.now keyboard.now list outcome → IsAnswer options.now source.now keyboard.now list trace r.0 r.1.items) }
+    ensures answer { IfOk result (λ r. (list : List Choice) → IsOutcome code.now keyboard.now list outcome → AnswersWith options.now source.now keyboard.now list trace code.now outcome r.0 r.1.items) }
     ensures choices { IfOk result (λ r. r.0.choices ≡ outcome.choices) }
     ensures ending { IfOk result (λ r. r.0.ending ≡ outcome.ending) }
     ensures refused { IfErr result (Refuses options.now source.now) }

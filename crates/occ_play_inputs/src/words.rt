@@ -56,6 +56,9 @@ pub struct Words<'a> {
     pub workers: Option<u32>,
     /// Whether each communication is printed.
     pub trace: bool,
+    /// Whether a thread of its own looks at the communications, which are printed to standard error as it was shown them; with
+    /// a file of choices it says nothing.
+    pub watch: bool,
     /// The path of a file of choices, by which the run is played; then the limit and the workers say
     /// nothing.
     pub choices: Option<&'a str>,
@@ -105,6 +108,7 @@ pub fn read_words<'a>(alloc: Global, words: &'a [&'a str]) -> Result<Words<'a>, 
         errors: errors_of(matches.get_str("errors")),
         workers,
         trace: matches.get_flag("trace"),
+        watch: matches.get_flag("watch"),
         choices: matches.get_str("choices"),
         record: matches.get_str("record"),
         chart: matches.get_str("chart"),
@@ -168,6 +172,7 @@ fn command<'a>(alloc: Global) -> Result<Command<'a>, Error> {
         .arg(chart_word(alloc))?
         .arg(arrows_word(alloc))?
         .arg(trace_word(alloc))?
+        .arg(watch_word(alloc))?
         .arg(file_word(alloc))?;
     Ok(command)
 }
@@ -237,6 +242,13 @@ fn trace_word<'a>(alloc: Global) -> Arg<'a> {
     Arg::new(alloc, "trace")
         .long("trace")
         .help("Prints each communication after the answer")
+        .action(ArgAction::SetTrue)
+}
+
+fn watch_word<'a>(alloc: Global) -> Arg<'a> {
+    Arg::new(alloc, "watch")
+        .long("watch")
+        .help("Prints each communication to standard error as a thread was shown it that looks on")
         .action(ArgAction::SetTrue)
 }
 

@@ -1,6 +1,6 @@
 -- What an exit status says of the source, the keyboard and the choices that were played.
 -- Manual: nothing; this is (own).
-use Rattle.std.specs.Prelude.{List, None, Option, Some, Result, Ok, Err, ℕ, ◌≡◌}
+use Rattle.std.specs.Prelude.{Bool, false, true, unwrap_or, List, None, Option, Some, Result, Ok, Err, ℕ, ◌≡◌}
 use Rattle.occ_net_replay.specs.declared.choice.Choice.{Choice}
 use Rattle.occ_play_inputs.specs.declared.failure.Failure.{Failure}
 use Rattle.occ_choices.specs.declared.plan.Plan.{Plan}
@@ -22,10 +22,12 @@ CameTo Answers Refusal (Ok played) = (bytes : List ℕ) × Answers played bytes
 CameTo Answers Refusal (Err (play.Write written)) = (bytes : List ℕ) × ((played : Played) × Answers played bytes)
 CameTo Answers Refusal (Err fault) = Refusal fault
 
--- so many workers take the turns, where the words say so and name no file of choices
-abbrev pub workers_asked : {Path : Type 0} → Option ℕ → Option Path → Option ℕ
-workers_asked workers None = workers
-workers_asked workers (Some path) = None
+-- so many workers take the turns, where the words say so and name no file of choices; one, where the words say no more than that the run
+-- is watched
+abbrev pub workers_asked : {Path : Type 0} → Bool → Option ℕ → Option Path → Option ℕ
+workers_asked watch workers (Some path) = None
+workers_asked true workers None = Some (unwrap_or workers 1)
+workers_asked false workers None = workers
 
 -- the length of turns and what a fault does, as the words say
 abbrev pub options_in : Words → Options
@@ -44,7 +46,7 @@ pub record IsStatusFor (words : Words) (s : ℕ) : Type 0 where
   pub plan : Plan
   pub asked : IsAskedBy words plan
   pub played : Result Played PlayFault
-  pub came : CameToBy (workers_asked words.workers words.choices) words source keyboard (choices_of plan) played
+  pub came : CameToBy (workers_asked words.watch words.workers words.choices) words source keyboard (choices_of plan) played
   pub is : s ≡ status played
 
 -- What a status of the program says: that of what a source came to, or that of a failure, or 6 where help could not be printed.

@@ -7,6 +7,7 @@ mod drawing;
 pub mod exit;
 pub mod program;
 mod recording;
+mod watching;
 
 pub use exit::exit_code;
 pub use program::run;

@@ -9,14 +9,16 @@ ghost use Rattle.occ_choices.specs.Plans.{choices_of};
 
 use crate::drawing::draw;
 use crate::recording::record;
+use crate::watching::play_watching;
 use occ_play::{
-    FreeGate, Options, PlayFault, Played, RunFault, play_in, play_workers_in, status_of,
+    FreeGate, Opened, Options, PlayFault, Played, RunFault, play_in, play_workers_in, status_of,
 };
 use occ_play_inputs::failure::{of_arguments, of_words};
 use occ_play_inputs::{Failure, Inputs, Words, read_inputs, read_words};
 use occ_shown::Counted;
 use std::alloc::Global;
 use std::io::Write;
+use std::marker::Brand;
 use std::rt::{Env, Files};
 use std::sync::Wait;
 use std::thread::Threads;
@@ -24,7 +26,7 @@ use std::{env, io};
 
 /// What is told below wrong words.
 const ALLOWED: &str =
-    "Allowed are --limit N with N from 0 to 10000000, --quantum N with N from 1 to 65536, --errors halt or stop, --workers N with N from 1 to 64, --choices FILE, --record FILE, --chart FILE, --arrows N, --trace, --help, and one FILE.";
+    "Allowed are --limit N with N from 0 to 10000000, --quantum N with N from 1 to 65536, --errors halt or stop, --workers N with N from 1 to 64, --choices FILE, --record FILE, --chart FILE, --arrows N, --trace, --watch, --help, and one FILE.";
 
 /// Runs the program on the arguments, the files and the streams of `rt`, and answers its exit status: 0 ended or
 /// help, 1 source refused, 2 stopped, 3 fault, 4 limit, 5 want of memory or
@@ -116,18 +118,20 @@ pub(crate) fn options_of(words: &Words<'_>) -> Options
     }
 }
 
-/// How many workers take the turns, where the words say so and name no file of choices.
+/// How many workers take the turns, where the words say so and name no file of choices; a run that is watched has one at
+/// least.
 fn workers_of(words: &Words<'_>) -> Option<u32>
-    ensures { result ≡ workers_asked words.now.workers words.now.choices }
+    ensures { result ≡ workers_asked words.now.watch words.now.workers words.now.choices }
 {
     match words.choices {
+        None if words.watch => Some(words.workers.unwrap_or(1)),
         None => words.workers,
         Some(_) => None,
     }
 }
 
 /// Plays the source by the plan, or by workers.
-fn play_inputs<R: Threads + Wait + Sync, W: Write>(
+fn play_inputs<R: Eprint + Threads + Wait + Sync, W: Write>(
     rt: &R,
     alloc: Global,
     words: &Words<'_>,
@@ -135,10 +139,19 @@ fn play_inputs<R: Threads + Wait + Sync, W: Write>(
     out: &mut Counted<W>,
 ) -> Result<Played, PlayFault>
     requires room { failures_of out.old < 2 ^ 64 - 1 }
-    ensures { CameToBy (workers_asked words.now.workers words.now.choices) words.now inputs.now.source.items inputs.now.keyboard.items (choices_of inputs.now.plan) result }
+    ensures { CameToBy (workers_asked words.now.watch words.now.workers words.now.choices) words.now inputs.now.source.items inputs.now.keyboard.items (choices_of inputs.now.plan) result }
 {
     match workers_of(words) {
         None => play_plan(alloc, words, inputs, out),
+        Some(workers) if words.watch => play_watching::<Brand, R, W>(
+            rt,
+            alloc,
+            Opened::new(),
+            words,
+            inputs,
+            workers,
+            out,
+        ),
         Some(workers) => play_by(rt, alloc, words, inputs, workers, out),
     }
 }

@@ -10,7 +10,8 @@ use Rattle.occ_net.specs.declared.outcome.Outcome.{Outcome}
 use Rattle.occ_net.specs.Networks.{IsState}
 use Rattle.occ_run.specs.Gathered.{IsRunOf}
 
-state_of : (p : Program) (keyboard : List ℕ) (limit : ℕ) (o : Outcome) (run : IsRunOf p keyboard limit o) → IsState o.network run.net
+-- an outcome's network is in the state of its replay
+pub state_of : (p : Program) (keyboard : List ℕ) (limit : ℕ) (o : Outcome) (run : IsRunOf p keyboard limit o) → IsState o.network run.net
 state_of p keyboard limit o run =
     let n = o.network in
     let own : Replays p keyboard n.choices run.net = subst (λ cs. Replays p keyboard cs run.net) (sym run.choices) run.replays in

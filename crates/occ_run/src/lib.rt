@@ -1,5 +1,6 @@
 //! A network run by several threads: one lock round it, and the turns outside the lock. [`run_workers`]
-//! promises that its outcome is the replay of the choices that it answers, whatever the threads did.
+//! promises that its outcome is the replay of the choices that it answers, whatever the threads did. [`run_watched`] has its
+//! communications published meanwhile, for watchers who never wait.
 #![tactic(auto)]
 
 pub mod fault;
@@ -7,9 +8,11 @@ pub mod gate;
 pub mod outcome;
 mod progress;
 pub mod run;
+pub mod watched;
 mod workers;
 
 pub use fault::RunFault;
 pub use gate::{FreeGate, Gate};
 pub use outcome::into_replay;
 pub use run::run_workers;
+pub use watched::run_watched;

@@ -1,6 +1,9 @@
 //! The outcome of a run as one of its choices.
-ghost use Rattle.std.specs.Prelude.{◌≡◌, List, ℕ};
+ghost use Rattle.std.specs.Prelude.{◌≡◌, List, map, ℕ};
 ghost use Rattle.occ_code.specs.Compiled.{Program};
+ghost use Rattle.occ_net.specs.Networks.{IsState};
+ghost use Rattle.occ_net_replay.specs.Replay.{Net};
+ghost use Rattle.occ_net_tables.specs.Holding.{communication_of};
 ghost use Rattle.occ_net_tables.specs.Outcomes.{IsOutcome};
 ghost use Rattle.occ_run.specs.Gathered.{IsRunOf};
 
@@ -11,6 +14,7 @@ use occ_net_tables as tables;
 pub fn into_replay(outcome: Outcome) -> tables::Outcome
     ensures choices { result.choices ≡ outcome.choices }
     ensures ending { result.ending ≡ outcome.ending }
+    ensures trace { (net : Net) → IsState outcome.network net → net.trace ≡ map communication_of result.trace }
     ensures run { (p : Program) (keyboard : List ℕ) (limit : ℕ) → IsRunOf p keyboard limit outcome → IsOutcome p keyboard outcome.choices.items result }
 {
     let Outcome {

@@ -103,6 +103,16 @@ impl Progress {
         self.halt(Stop::Spawn);
     }
 
+    /// Stops the run, since a growth was refused beside it.
+    pub fn refuse_growth(&mut self)
+        ensures network { self.new.network ≡ self.old.network }
+        ensures limit { self.new.limit ≡ self.old.limit }
+        ensures stop { self.new.stop ≡ first_stop self.old.stop Stop.Memory }
+        ensures counts { KeepsCounts self.old self.new }
+    {
+        self.halt(Stop::Memory);
+    }
+
     /// Stops the run. The first reason stands.
     fn halt(&mut self, stop: Stop)
         ensures network { self.new.network ≡ self.old.network }

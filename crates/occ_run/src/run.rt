@@ -45,7 +45,12 @@ pub fn run_workers<R: Threads + Wait + Sync, G: Gate + Sync>(
 }
 
 /// The network before its first turn.
-fn beginning(alloc: Global, code: &Code, keyboard: &[u8], limit: u32) -> Result<Progress, RunFault>
+pub(crate) fn beginning(
+    alloc: Global,
+    code: &Code,
+    keyboard: &[u8],
+    limit: u32,
+) -> Result<Progress, RunFault>
     ensures network { IfOk result (λ b. b.network ≡ fresh code.now keyboard.now) }
     ensures limit { IfOk result (λ b. b.limit ≡ limit) }
     ensures stop { IfOk result (λ b. b.stop ≡ None) }
@@ -60,7 +65,7 @@ fn beginning(alloc: Global, code: &Code, keyboard: &[u8], limit: u32) -> Result<
 }
 
 /// What the workers gathered, if it is a run of this code on this keyboard within this limit.
-fn gathered(
+pub(crate) fn gathered(
     alloc: Global,
     progress: Progress,
     code: &Code,

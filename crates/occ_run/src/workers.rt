@@ -19,14 +19,47 @@ const LOOKS: u32 = 100;
 const PAUSES: u32 = 1000;
 
 /// What the workers share.
-struct Shared {
+pub(crate) struct Shared {
     progress: Mutex<Progress>,
+    /// Where workers rest.
     moved: Condvar,
+    /// Where the one rests who publishes the trace: woken there, no worker misses a call of his own.
+    pub(crate) grown: Condvar,
 }
 
 impl Shared {
+    pub(crate) fn new(progress: Progress) -> Shared {
+        Shared {
+            progress: Mutex::new(progress),
+            moved: Condvar::new(),
+            grown: Condvar::new(),
+        }
+    }
+
+    /// How far the workers came, when all have left.
+    pub(crate) fn into_progress(self) -> Progress {
+        let Shared {
+            progress,
+            moved: _,
+            grown: _,
+        } = self;
+        progress.into_inner()
+    }
+
+    /// Stops the run, since a thread was refused: all leave.
+    pub(crate) fn refuse_thread<R: Wait>(&self, rt: &R) {
+        self.progress.lock(rt).refuse_thread();
+        self.moved.notify_all();
+    }
+
+    /// Stops the run, since a growth was refused: all leave.
+    pub(crate) fn refuse_growth<R: Wait>(&self, rt: &R) {
+        self.progress.lock(rt).refuse_growth();
+        self.moved.notify_all();
+    }
+
     /// Takes the lock. Turns are short, so a worker looks for it for a while before it sleeps.
-    fn enter<R: Wait>(&self, rt: &R) -> MutexGuard<'_, Progress> {
+    pub(crate) fn enter<R: Wait>(&self, rt: &R) -> MutexGuard<'_, Progress> {
         for _ in 0..LOOKS {
             if let Some(progress) = self.progress.try_lock() {
                 return progress;
@@ -53,10 +86,14 @@ fn next_lease<R: Wait>(rt: &R, alloc: Global, shared: &Shared, done: Option<Done
     ensures { IfSome result CanTurn }
 {
     let mut progress = shared.enter(rt);
+    let communicated = progress.network.trace().len();
     let _spent = match done {
         Some(done) => progress.take_in(alloc, done),
         None => None,
     };
+    if progress.network.trace().len() != communicated {
+        shared.grown.notify_one();
+    }
     for _ in rt.forever() {
         match progress.next(alloc) {
             Next::Run(lease) => {
@@ -70,6 +107,7 @@ fn next_lease<R: Wait>(rt: &R, alloc: Global, shared: &Shared, done: Option<Done
                 let wake = progress.wake();
                 drop(progress);
                 shared.notify(wake);
+                shared.grown.notify_one();
                 return None;
             }
         }
@@ -78,7 +116,7 @@ fn next_lease<R: Wait>(rt: &R, alloc: Global, shared: &Shared, done: Option<Done
 }
 
 /// One worker: it takes a turn out under the lock, runs it outside, and takes it in with the next one under the lock.
-fn work<R: Wait, G: Gate>(rt: &R, alloc: Global, shared: &Shared, gate: &G) {
+pub(crate) fn work<R: Wait, G: Gate>(rt: &R, alloc: Global, shared: &Shared, gate: &G) {
     let mut done = None;
     for _ in rt.forever() {
         let Some(lease) = next_lease(rt, alloc, shared, done) else {
@@ -97,20 +135,15 @@ pub(crate) fn run_all<R: Threads + Wait + Sync, G: Gate + Sync>(
     workers: u32,
     gate: &G,
 ) -> Progress {
-    let shared = Shared {
-        progress: Mutex::new(progress),
-        moved: Condvar::new(),
-    };
+    let shared = Shared::new(progress);
     let lent = &shared;
     thread::scope(thread::scope_env(), rt, |scope| {
         for _ in 0..workers {
             if scope.spawn(move || work(rt, alloc, lent, gate)).is_err() {
-                lent.progress.lock(rt).refuse_thread();
-                lent.moved.notify_all();
+                lent.refuse_thread(rt);
                 break;
             }
         }
     });
-    let Shared { progress, moved: _ } = shared;
-    progress.into_inner()
+    shared.into_progress()
 }

@@ -1,4 +1,5 @@
 mod Texts
 mod Drawing
 mod Growth
+mod SameEnds
 pub mod ByteMessages

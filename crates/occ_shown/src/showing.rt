@@ -13,7 +13,7 @@ use occ_term::{Channel, ERROR, Primitive, Protocol, SCREEN};
 use std::alloc::{AllocError, Global};
 
 /// Ends a line.
-const LINE_FEED: u8 = 10;
+pub(crate) const LINE_FEED: u8 = 10;
 
 fn write_value(
     alloc: Global,
@@ -38,7 +38,7 @@ fn write_value(
     }
 }
 
-fn write_number(alloc: Global, out: &mut Vec<u8>, number: u64) -> Result<(), AllocError>
+pub(crate) fn write_number(alloc: Global, out: &mut Vec<u8>, number: u64) -> Result<(), AllocError>
     ensures { OnOk result (out.new.items ≡ out.old.items ++ decimal number) }
 {
     let text = format!(in alloc; "{number}")?;
@@ -78,7 +78,11 @@ fn write_array(
     Ok(())
 }
 
-fn write_part(alloc: Global, out: &mut Vec<u8>, part: &PartView<'_>) -> Result<(), AllocError>
+pub(crate) fn write_part(
+    alloc: Global,
+    out: &mut Vec<u8>,
+    part: &PartView<'_>,
+) -> Result<(), AllocError>
     ensures { OnOk result (out.new.items ≡ out.old.items ++ part_text (part_of part.now)) }
 {
     match part {
@@ -175,7 +179,7 @@ fn write_head(
 }
 
 /// The two ends of a communication, between spaces.
-fn write_ends(
+pub(crate) fn write_ends(
     alloc: Global,
     out: &mut Vec<u8>,
     sender: End,
@@ -192,7 +196,7 @@ fn write_ends(
 }
 
 /// The name of a channel's tag; empty where there is no such tag.
-fn tag_name<'a>(channels: &'a [Channel], chan: u32, tag: u32) -> &'a [u8]
+pub(crate) fn tag_name<'a>(channels: &'a [Channel], chan: u32, tag: u32) -> &'a [u8]
     ensures { result.now ≡ (names_of channels.now).tag_name chan tag }
 {
     match channels.get(chan as usize) {

@@ -8,19 +8,19 @@ use std::test::Fail;
 static READ: [(&[&str], &str); 5] = [
     (
         &["occam"],
-        "Words { limit: 1000000, quantum: 1, errors: Halt, workers: None, trace: false, choices: None, record: None, chart: None, arrows: 200, file: None }",
+        "Words { limit: 1000000, quantum: 1, errors: Halt, workers: None, trace: false, watch: false, choices: None, record: None, chart: None, arrows: 200, file: None }",
     ),
     (
         &["occam", "--limit", "10000000", "--trace", "f.occ"],
-        "Words { limit: 10000000, quantum: 1, errors: Halt, workers: None, trace: true, choices: None, record: None, chart: None, arrows: 200, file: Some(\"f.occ\") }",
+        "Words { limit: 10000000, quantum: 1, errors: Halt, workers: None, trace: true, watch: false, choices: None, record: None, chart: None, arrows: 200, file: Some(\"f.occ\") }",
     ),
     (
         &["occam", "f.occ", "--trace", "--limit=0"],
-        "Words { limit: 0, quantum: 1, errors: Halt, workers: None, trace: true, choices: None, record: None, chart: None, arrows: 200, file: Some(\"f.occ\") }",
+        "Words { limit: 0, quantum: 1, errors: Halt, workers: None, trace: true, watch: false, choices: None, record: None, chart: None, arrows: 200, file: Some(\"f.occ\") }",
     ),
     (
         &["occam", "--errors", "halt"],
-        "Words { limit: 1000000, quantum: 1, errors: Halt, workers: None, trace: false, choices: None, record: None, chart: None, arrows: 200, file: None }",
+        "Words { limit: 1000000, quantum: 1, errors: Halt, workers: None, trace: false, watch: false, choices: None, record: None, chart: None, arrows: 200, file: None }",
     ),
     (
         &[
@@ -28,12 +28,13 @@ static READ: [(&[&str], &str); 5] = [
             "--quantum=65536",
             "--errors=stop",
             "--workers=64",
+            "--watch",
             "--choices=c",
             "--record=r",
             "--chart=s.svg",
             "--arrows=0",
         ],
-        "Words { limit: 1000000, quantum: 65536, errors: Stop, workers: Some(64), trace: false, choices: Some(\"c\"), record: Some(\"r\"), chart: Some(\"s.svg\"), arrows: 0, file: None }",
+        "Words { limit: 1000000, quantum: 65536, errors: Stop, workers: Some(64), trace: false, watch: true, choices: Some(\"c\"), record: Some(\"r\"), chart: Some(\"s.svg\"), arrows: 0, file: None }",
     ),
 ];
 
@@ -93,7 +94,7 @@ fn wrong_words_are_refused(rt: HostRuntime) -> Result<(), Fail> {
 }
 
 /// What the help says of the words.
-static IN_HELP: [&str; 10] = [
+static IN_HELP: [&str; 11] = [
     "Usage: occam",
     "--limit <N>",
     "1000000",
@@ -103,6 +104,7 @@ static IN_HELP: [&str; 10] = [
     "--chart <FILE>",
     "--arrows <N>",
     "--trace",
+    "--watch",
     "FILE",
 ];
 

@@ -1,5 +1,7 @@
 //! Tests of runs by several threads.
 
+mod held;
 mod meeting;
 mod runs;
 mod sources;
+mod watched;

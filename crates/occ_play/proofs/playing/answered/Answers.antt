@@ -6,4 +6,4 @@ pub told-requires : goal.told-requires
 told-requires c = ran_alone c.in_ok-code.outcome c.in_ok-code.ensures.ran
 
 pub returns-clause-answer : goal.returns-clause-answer
-returns-clause-answer c = c.in_ok-played.ensures.answer (choices_of c.args.plan.now) c.in_ok-code.ensures.ran.is
+returns-clause-answer c = (c.in_ok-played.ensures.answer (choices_of c.args.plan.now) c.in_ok-code.ensures.ran.is).0

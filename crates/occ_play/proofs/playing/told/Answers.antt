@@ -21,6 +21,6 @@ pub returns-clause-answer : goal.returns-clause-answer
 returns-clause-answer c = λ list is.
     let small : length c.args.outcome.choices.items < 2 ^ 64 = search rules in
     let keys : AreBytes c.args.keyboard.now = are_bytes c.args.keyboard.now (λ k. (c.type_inv.keyboard k).fits) in
-    (headline c.args.options.now c.args.source.now c.args.keyboard.now list c.args.trace c.args.code.now c.channels.result.now c.args.outcome _ _
+    headline c.args.options.now c.args.source.now c.args.keyboard.now list c.args.trace c.args.code.now c.channels.result.now c.args.outcome _ _
     c.requires.code keys c.channels.ensures is small refl refl
-    c.in_ok-bytes.ensures).0
+    c.in_ok-bytes.ensures

@@ -10,4 +10,4 @@ returns-clause-answer g c =
     let limit = c.args.limit in
     within c.args.options.now c.args.source.now keyboard limit c.args.trace code gathered c.into_replay-outcome.result c.in_ok-played.played c.in_ok-played.bytes.items
     run c.into_replay-outcome.ensures.choices c.into_replay-outcome.ensures.ending (c.into_replay-outcome.ensures.run code keyboard limit run)
-    c.in_ok-played.ensures.choices c.in_ok-played.ensures.ending c.in_ok-played.ensures.answer
+    c.in_ok-played.ensures.choices c.in_ok-played.ensures.ending (λ list is. (c.in_ok-played.ensures.answer list is).0)

@@ -8,7 +8,7 @@ pub returns-clause-came : goal.returns-clause-came
 returns-clause-came g c =
     let inputs = c.in_ok-inputs.inputs in
     let words = c.args.words.now in
-    let workers = workers_asked words.workers words.choices in
+    let workers = workers_asked words.watch words.workers words.choices in
     let came = came_to_both workers words inputs.source.items inputs.keyboard.items (choices_of inputs.plan) c.in_ok-drawn.drawn c.play_inputs-played.result c.in_ok-drawn.ensures c.play_inputs-played.ensures in
     record {
       source = inputs.source.items;

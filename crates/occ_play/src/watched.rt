@@ -1,0 +1,95 @@
+//! Plays a program by several threads, at whose communications others look meanwhile.
+ghost use Rattle.std.specs.Prelude.{◌≡◌, ◌<◌, ◌-◌, ◌^◌, ◌++◌, false, true, IfOk, IfErr};
+ghost use Rattle.occ_board.specs.Editions.{edition};
+ghost use Rattle.occ_shown.specs.Counting.{failures_of};
+ghost use Rattle.occ_choices.specs.Crews.{IsCrew};
+ghost use Rattle.occ_play.specs.Playing.{AfterFault, Ran, Refuses, Wrote};
+ghost use Rattle.occ_play.specs.Watching.{IsWatched, Tells, TellsSome};
+ghost use Rattle.occ_play.specs.Working.{IsSomeCrewsAnswer, WorkersRefuse};
+
+use crate::fault::PlayFault;
+use crate::playing::{Options, Played, code_of, told};
+use occ_board::{Naming, Note, Publisher};
+use occ_code::Code;
+use occ_net_tables::Outcome;
+use occ_run::{Gate, into_replay, run_watched};
+use occ_shown::{Counted, write_answer};
+use std::alloc::Global;
+use std::io::Write;
+use std::sync::Wait;
+use std::thread::Threads;
+
+/// Plays a program as `play_workers_in` does, and publishes its communications while it runs. In the end the publisher has
+/// published what it held at the call, published and pending, and then the run's trace, and its board is closed; the note is of
+/// all that. Watchers may look until the publisher is ended.
+///
+/// # Errors
+///
+/// Those of `play_workers_in`. After each of them the publisher is ended.
+pub fn play_watched<J: Naming, R: Threads + Wait + Sync, G: Gate + Sync, W: Write>(
+    rt: &R,
+    options: &Options,
+    alloc: Global,
+    source: &[u8],
+    keyboard: &[u8],
+    workers: u32,
+    limit: u32,
+    trace: bool,
+    gate: &G,
+    out: &mut Counted<W>,
+    publisher: Publisher<J>,
+) -> Result<(Played, Publisher<J>, Note<J>), PlayFault>
+    requires room { failures_of out.old < 2 ^ 64 - 1 }
+    requires going { publisher.closed ≡ false }
+    ensures played { IfOk result (λ r. Wrote W.contents
+        (IsWatched options.now source.now keyboard.now limit trace (publisher.published ++ publisher.pending) r.1 r.0) out.old out.new) }
+    ensures note { IfOk result (λ r. r.2 ≡ edition r.1.published true) }
+    ensures crew { IfOk result (λ _. IsCrew workers) }
+    ensures fault { IfErr result (AfterFault W.contents
+        (IsSomeCrewsAnswer workers options.now source.now keyboard.now limit trace) (WorkersRefuse workers options.now source.now) out.old out.new) }
+{
+    let code = match code_of(options, alloc, source) {
+        Ok(code) => code,
+        Err(fault) => {
+            publisher.end(rt);
+            return Err(fault);
+        }
+    };
+    let (outcome, publisher, note) = match run_watched(
+        rt, alloc, &code, keyboard, workers, limit, gate, publisher,
+    ) {
+        Ok(ran) => ran,
+        Err(fault) => return Err(PlayFault::Run(fault)),
+    };
+    let outcome = into_replay(outcome);
+    match written(options, alloc, source, keyboard, &code, outcome, trace, out) {
+        Ok(played) => Ok((played, publisher, note)),
+        Err(fault) => {
+            publisher.end(rt);
+            Err(fault)
+        }
+    }
+}
+
+/// What an outcome of a source's code comes to, where its answer was written.
+fn written<W: Write>(
+    options: &Options,
+    alloc: Global,
+    source: &[u8],
+    keyboard: &[u8],
+    code: &Code,
+    outcome: Outcome,
+    trace: bool,
+    out: &mut Counted<W>,
+) -> Result<Played, PlayFault>
+    requires room { failures_of out.old < 2 ^ 64 - 1 }
+    requires ran { Ran options.now source.now keyboard.now outcome.choices.items code.now outcome }
+    ensures played { IfOk result (λ played. Wrote W.contents (Tells options.now source.now keyboard.now trace code.now outcome played) out.old out.new) }
+    ensures fault { IfErr result (AfterFault W.contents (TellsSome options.now source.now keyboard.now trace code.now outcome) (Refuses options.now source.now) out.old out.new) }
+{
+    let (played, bytes) = told(options, alloc, source, keyboard, code, outcome, trace)?;
+    match write_answer(bytes.as_slice(), out) {
+        Ok(()) => Ok(played),
+        Err(written) => Err(PlayFault::Write { written }),
+    }
+}

@@ -1,0 +1,165 @@
+//! Plays a program while a thread of its own looks at its communications.
+ghost use Rattle.std.specs.Prelude.{◌≡◌, ◌<◌, ◌-◌, ◌^◌, IfSome, Some, false};
+ghost use Rattle.occ_choices.specs.Plans.{choices_of};
+ghost use Rattle.occ_program.specs.Coming.{CameToBy};
+ghost use Rattle.occ_shown.specs.Counting.{failures_of};
+
+use crate::program::options_of;
+use occ_play::{
+    Board, FreeGate, Naming, Opened, PlayFault, Played, Publisher, Watcher, play_watched,
+    watch_lines,
+};
+use occ_play_inputs::{Inputs, Words};
+use occ_shown::Counted;
+use std::alloc::{AllocError, Global};
+use std::io::Write;
+use std::sync::Wait;
+use std::thread::{Threads, join};
+
+/// How often the thread looks.
+const LOOKS: u32 = 1_000_000;
+
+/// Plays the source by so many workers beside a thread that looks at the board. When the run is over, the lines of what that
+/// thread's watcher is then shown go to standard error; they are none where it is shown nothing.
+pub(crate) fn play_watching<J: Naming + Send + Sync, R: Eprint + Threads + Wait + Sync, W: Write>(
+    rt: &R,
+    alloc: Global,
+    opened: Opened,
+    words: &Words<'_>,
+    inputs: &Inputs,
+    workers: u32,
+    out: &mut Counted<W>,
+) -> Result<Played, PlayFault>
+    requires book { opened ≡ J.book }
+    requires room { failures_of out.old < 2 ^ 64 - 1 }
+    ensures { CameToBy (Some workers) words.now inputs.now.source.items inputs.now.keyboard.items (choices_of inputs.now.plan) result }
+{
+    match Board::new::<J>(opened, alloc, 1) {
+        Ok((publisher, mut watchers)) => match watchers.pop() {
+            Some(watcher) => play_beside(
+                rt, alloc, words, inputs, workers, publisher, watcher, out,
+            ),
+            None => {
+                publisher.end(rt);
+                Err(PlayFault::Memory(AllocError))
+            }
+        },
+        Err(_) => Err(PlayFault::Memory(AllocError)),
+    }
+}
+
+/// The same on a board that is there.
+fn play_beside<J: Naming + Send + Sync, R: Eprint + Threads + Wait + Sync, W: Write>(
+    rt: &R,
+    alloc: Global,
+    words: &Words<'_>,
+    inputs: &Inputs,
+    workers: u32,
+    publisher: Publisher<J>,
+    watcher: Watcher<J>,
+    out: &mut Counted<W>,
+) -> Result<Played, PlayFault>
+    requires going { publisher.closed ≡ false }
+    requires room { failures_of out.old < 2 ^ 64 - 1 }
+    ensures { CameToBy (Some workers) words.now inputs.now.source.items inputs.now.keyboard.items (choices_of inputs.now.plan) result }
+{
+    let mut slot = Some(publisher);
+    let lent = &mut slot;
+    let (watcher, played) = join(
+        rt,
+        || look_on(watcher),
+        || -> Result<Played, PlayFault>
+            requires going { IfSome lent.now (λ p. p.closed ≡ false) }
+            requires room { failures_of out.now < 2 ^ 64 - 1 }
+            ensures { CameToBy (Some workers) words.entry.now inputs.entry.now.source.items inputs.entry.now.keyboard.items (choices_of inputs.entry.now.plan) result }
+        { play_from(rt, alloc, words, inputs, workers, lent, out) },
+    );
+    if let Some(publisher) = slot {
+        tell_last(rt, alloc, publisher, watcher);
+    }
+    played
+}
+
+/// Looks at the board so often.
+fn look_on<J: Naming>(watcher: Watcher<J>) -> Watcher<J> {
+    let mut watcher = watcher;
+    for _ in 0..LOOKS {
+        watcher = match watcher.look(|_| ()) {
+            Ok((watcher, _)) => watcher,
+            Err(watcher) => watcher,
+        };
+    }
+    watcher
+}
+
+/// Plays the source with the publisher that is there, and puts it back where there is an answer.
+fn play_from<J: Naming, R: Threads + Wait + Sync, W: Write>(
+    rt: &R,
+    alloc: Global,
+    words: &Words<'_>,
+    inputs: &Inputs,
+    workers: u32,
+    slot: &mut Option<Publisher<J>>,
+    out: &mut Counted<W>,
+) -> Result<Played, PlayFault>
+    requires going { IfSome slot.old (λ p. p.closed ≡ false) }
+    requires room { failures_of out.old < 2 ^ 64 - 1 }
+    ensures { CameToBy (Some workers) words.now inputs.now.source.items inputs.now.keyboard.items (choices_of inputs.now.plan) result }
+{
+    let Some(publisher) = slot.take() else {
+        return Err(PlayFault::Memory(AllocError));
+    };
+    let (limit, trace) = (words.limit, words.trace);
+    match play_watched(
+        rt,
+        &options_of(words),
+        alloc,
+        inputs.source.as_slice(),
+        inputs.keyboard.as_slice(),
+        workers,
+        limit,
+        trace,
+        &FreeGate,
+        out,
+        publisher,
+    ) {
+        Ok((played, publisher, _note)) => {
+            put_back(rt, slot, publisher);
+            Ok(played)
+        }
+        Err(fault) => Err(fault),
+    }
+}
+
+/// Puts a publisher back where there is none.
+fn put_back<J: Naming, R: Wait>(rt: &R, slot: &mut Option<Publisher<J>>, publisher: Publisher<J>) {
+    match std::mem::replace(slot, Some(publisher)) {
+        Some(other) => other.end(rt),
+        None => {}
+    }
+}
+
+/// Tells the watcher the note of what was published, prints the lines of its last look, and ends the publisher.
+fn tell_last<J: Naming, R: Eprint + Wait>(
+    rt: &R,
+    alloc: Global,
+    publisher: Publisher<J>,
+    watcher: Watcher<J>,
+) {
+    let (publisher, note) = publisher.note();
+    let lines = match watcher.told(&note).look(|list| watch_lines(alloc, list)) {
+        Ok((_, lines)) => lines.ok(),
+        Err(_) => None,
+    };
+    publisher.end(rt);
+    if let Some(lines) = lines {
+        print_lines(rt, lines.as_slice());
+    }
+}
+
+/// Prints lines to standard error.
+fn print_lines<R: Eprint>(rt: &R, lines: &[u8]) {
+    if let Ok(text) = str::from_utf8(lines) {
+        let _ = eprint!(rt; "{text}");
+    }
+}

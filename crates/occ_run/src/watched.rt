@@ -1,0 +1,317 @@
+//! A run by several threads, at whose communications others look while it goes on.
+ghost use Rattle.std.specs.Prelude.{◌≡◌, ◌<◌, ◌↔◌, ◌⊎◌, ◌≢◌, ◌++◌, [], drop, false, true, IfErr, IfOk, IfSome, IsErrOf};
+ghost use mathlib.Core.List.{IsPrefix};
+ghost use Rattle.occ_term.specs.Runs.{entries};
+ghost use Rattle.occ_board.specs.Editions.{edition};
+ghost use Rattle.occ_board.specs.Traces.{publishing};
+ghost use Rattle.occ_choices.specs.Crews.{most_workers};
+ghost use Rattle.occ_net_replay.specs.Replay.{Net};
+ghost use Rattle.occ_net.specs.Networks.{IsState};
+ghost use Rattle.occ_shown.specs.Answers.{names_of};
+ghost use Rattle.occ_run.specs.Gathered.{IsRunOf};
+
+use crate::fault::RunFault;
+use crate::gate::Gate;
+use crate::progress::Progress;
+use crate::run::{beginning, gathered};
+use crate::workers::{Shared, work};
+use core::mem::replace_with;
+use occ_board::{Naming, Note, Publisher, Shown};
+use occ_choices::is_crew;
+use occ_code::Code;
+use occ_net::Outcome;
+use occ_net_trace::{Mark, News, Trace};
+use occ_shown::{is_shown, shown_as};
+use occ_term::Channel;
+use std::alloc::{AllocError, Global};
+use std::sync::Wait;
+use std::thread;
+use std::thread::Threads;
+
+/// Runs the code as `run_workers` does, and publishes its communications meanwhile. The calling thread has the publisher: it
+/// waits until there are more communications or no further turn is settled, copies the news under the workers' lock, and
+/// publishes them outside it. In the end the publisher has published what it held at the call, published and pending, and then
+/// the trace of the outcome, and its board is closed; the note is of all that. Watchers may look until the publisher is ended.
+///
+/// # Errors
+///
+/// Those of `run_workers`, `Foreign` also where what was published is not the outcome's trace, and `Memory` also where a copy,
+/// an append or a publish was refused. After each of them the publisher is ended.
+pub fn run_watched<J: Naming, R: Threads + Wait + Sync, G: Gate + Sync>(
+    rt: &R,
+    alloc: Global,
+    code: &Code,
+    keyboard: &[u8],
+    workers: u32,
+    limit: u32,
+    gate: &G,
+    publisher: Publisher<J>,
+) -> Result<(Outcome, Publisher<J>, Note<J>), RunFault>
+    requires going { publisher.closed ≡ false }
+    ensures run { IfOk result (λ r. IsRunOf code.now keyboard.now limit r.0) }
+    ensures shown { IfOk result (λ r. (net : Net) → IsState r.0.network net
+        → r.1 ≡ publishing ((publisher.published ++ publisher.pending) ++ entries (names_of code.now.channels) 1 net.trace) [] true) }
+    ensures note { IfOk result (λ r. r.2 ≡ edition r.1.published true) }
+    ensures workers { IsErrOf result RunFault.BadWorkers ↔ ((workers ≡ 0) ⊎ (most_workers < workers)) }
+{
+    if !is_crew(workers) {
+        publisher.end(rt);
+        return Err(RunFault::BadWorkers);
+    }
+    let (publisher, held) = publisher.publish(rt);
+    if held.is_err() {
+        publisher.end(rt);
+        return Err(RunFault::Memory);
+    }
+    watched(rt, alloc, code, keyboard, workers, limit, gate, publisher)
+}
+
+/// The same with nothing pending, by a number of workers that is allowed.
+fn watched<J: Naming, R: Threads + Wait + Sync, G: Gate + Sync>(
+    rt: &R,
+    alloc: Global,
+    code: &Code,
+    keyboard: &[u8],
+    workers: u32,
+    limit: u32,
+    gate: &G,
+    publisher: Publisher<J>,
+) -> Result<(Outcome, Publisher<J>, Note<J>), RunFault>
+    requires going { (publisher.pending ≡ []) × (publisher.closed ≡ false) }
+    ensures run { IfOk result (λ r. IsRunOf code.now keyboard.now limit r.0) }
+    ensures shown { IfOk result (λ r. (net : Net) → IsState r.0.network net
+        → r.1 ≡ publishing (publisher.published ++ entries (names_of code.now.channels) 1 net.trace) [] true) }
+    ensures note { IfOk result (λ r. r.2 ≡ edition r.1.published true) }
+    ensures fault { IfErr result (λ fault. fault ≢ RunFault.BadWorkers) }
+{
+    let mut publisher = publisher;
+    match lent(
+        rt,
+        alloc,
+        code,
+        keyboard,
+        workers,
+        limit,
+        gate,
+        &mut publisher,
+    ) {
+        Ok((outcome, note)) => Ok((outcome, publisher, note)),
+        Err(fault) => {
+            publisher.end(rt);
+            Err(fault)
+        }
+    }
+}
+
+/// The same with a publisher that is lent.
+fn lent<J: Naming, R: Threads + Wait + Sync, G: Gate + Sync>(
+    rt: &R,
+    alloc: Global,
+    code: &Code,
+    keyboard: &[u8],
+    workers: u32,
+    limit: u32,
+    gate: &G,
+    publisher: &mut Publisher<J>,
+) -> Result<(Outcome, Note<J>), RunFault>
+    requires going { (publisher.old.pending ≡ []) × (publisher.old.closed ≡ false) }
+    ensures run { IfOk result (λ r. IsRunOf code.now keyboard.now limit r.0) }
+    ensures shown { IfOk result (λ r. (net : Net) → IsState r.0.network net
+        → publisher.new ≡ publishing (publisher.old.published ++ entries (names_of code.now.channels) 1 net.trace) [] true) }
+    ensures note { IfOk result (λ r. r.1 ≡ edition publisher.new.published true) }
+    ensures fault { IfErr result (λ fault. fault ≢ RunFault.BadWorkers) }
+{
+    let held = publisher.published().len();
+    let progress = beginning(alloc, code, keyboard, limit)?;
+    let (progress, note) = run_told(
+        rt,
+        alloc,
+        progress,
+        workers,
+        gate,
+        code.channels(),
+        publisher,
+    );
+    let outcome = gathered(alloc, progress, code, keyboard, limit)?;
+    let note = note?;
+    let Some(told) = told_behind(publisher, &note, held) else {
+        return Err(RunFault::Foreign);
+    };
+    if is_shown(alloc, told, outcome.network.trace(), code.channels())? {
+        return Ok((outcome, note));
+    }
+    Err(RunFault::Foreign)
+}
+
+/// What a publisher has published behind the first so many, where the note is of all that and none comes after it.
+fn told_behind<'a, J: Naming>(
+    publisher: &'a Publisher<J>,
+    note: &Note<J>,
+    held: usize,
+) -> Option<&'a [Shown]>
+    requires { note.now.last ≡ true }
+    ensures { IfSome result (λ told. (publisher.now ≡ publishing note.now.entries [] true) × (told.now ≡ drop held note.now.entries)) }
+{
+    if !publisher.is_closed_by(note) {
+        return None;
+    }
+    publisher.published().get(held..)
+}
+
+/// Lets so many workers run and publishes their communications, and gives back how far they came when all have left.
+fn run_told<J: Naming, R: Threads + Wait + Sync, G: Gate + Sync>(
+    rt: &R,
+    alloc: Global,
+    progress: Progress,
+    workers: u32,
+    gate: &G,
+    channels: &[Channel],
+    publisher: &mut Publisher<J>,
+) -> (Progress, Result<Note<J>, AllocError>)
+    requires { (publisher.old.pending ≡ []) × (publisher.old.closed ≡ false) }
+    ensures { IfOk result.1 (λ n. IsPrefix publisher.old.published n.entries × (n.last ≡ true)) }
+{
+    let shared = Shared::new(progress);
+    let lent = &shared;
+    let note = thread::scope(
+        thread::scope_env(),
+        rt,
+        |scope| -> Result<Note<J>, AllocError>
+            requires { (publisher.now.pending ≡ []) × (publisher.now.closed ≡ false) }
+            ensures { IfOk result (λ n. IsPrefix publisher.entry.now.published n.entries × (n.last ≡ true)) }
+        {
+            for _ in 0..workers {
+                if scope.spawn(move || work(rt, alloc, lent, gate)).is_err() {
+                    lent.refuse_thread(rt);
+                    break;
+                }
+            }
+            tell(rt, alloc, lent, channels, publisher)
+        },
+    );
+    (shared.into_progress(), note)
+}
+
+/// Publishes the communications until no further turn is settled, and closes the board. After a refusal the run stops.
+fn tell<J: Naming, R: Wait>(
+    rt: &R,
+    alloc: Global,
+    shared: &Shared,
+    channels: &[Channel],
+    publisher: &mut Publisher<J>,
+) -> Result<Note<J>, AllocError>
+    requires { (publisher.old.pending ≡ []) × (publisher.old.closed ≡ false) }
+    ensures { IfOk result (λ n. IsPrefix publisher.old.published n.entries × (n.last ≡ true)) }
+{
+    let told = follow(rt, alloc, shared, channels, publisher);
+    if told.is_err() {
+        shared.refuse_growth(rt);
+    }
+    told
+}
+
+fn follow<J: Naming, R: Wait>(
+    rt: &R,
+    alloc: Global,
+    shared: &Shared,
+    channels: &[Channel],
+    publisher: &mut Publisher<J>,
+) -> Result<Note<J>, AllocError>
+    requires { (publisher.old.pending ≡ []) × (publisher.old.closed ≡ false) }
+    ensures { IfOk result (λ n. IsPrefix publisher.old.published n.entries × (n.last ≡ true)) }
+{
+    let mut mark = Trace::new(alloc).mark();
+    let mut news = News::new(alloc);
+    let mut number = 0;
+    for _ in rt.forever() {
+        let over = take_news(rt, shared, number, &mut mark, &mut news)?;
+        number = append_news(alloc, channels, number, &news, publisher)?;
+        if over {
+            return close(rt, publisher);
+        }
+        publish(rt, publisher)?;
+    }
+    unreachable!()
+}
+
+/// Waits until there are more than so many communications or no further turn is settled, and takes those behind the mark, which
+/// then stands behind them. Answers whether no further turn is settled.
+fn take_news<R: Wait>(
+    rt: &R,
+    shared: &Shared,
+    count: u64,
+    mark: &mut Mark,
+    news: &mut News,
+) -> Result<bool, AllocError> {
+    let mut progress = shared.enter(rt);
+    for _ in rt.forever() {
+        let over = progress.next_pick().is_none();
+        let trace = progress.network.trace();
+        if over || trace.len() as u64 > count {
+            trace.copy_behind(mark, news)?;
+            *mark = trace.mark();
+            return Ok(over);
+        }
+        progress = shared.grown.wait(rt, progress);
+    }
+    unreachable!()
+}
+
+/// Appends the news, numbered on from a number, and gives the last number.
+fn append_news<J: Naming>(
+    alloc: Global,
+    channels: &[Channel],
+    number: u64,
+    news: &News,
+    publisher: &mut Publisher<J>,
+) -> Result<u64, AllocError>
+    requires { publisher.old.closed ≡ false }
+    ensures { IfOk result (λ _. (publisher.new.published ≡ publisher.old.published) × (publisher.new.closed ≡ false)) }
+{
+    let mut number = number;
+    for communication in news.entries() {
+        number = number.saturating_add(1);
+        let shown = shown_as(alloc, number, &communication, channels)?;
+        append(shown, publisher)?;
+    }
+    Ok(number)
+}
+
+fn append<J: Naming>(shown: Shown, publisher: &mut Publisher<J>) -> Result<(), AllocError>
+    requires { publisher.old.closed ≡ false }
+    ensures { (publisher.new.published ≡ publisher.old.published) × (publisher.new.closed ≡ false) }
+{
+    publisher.append(shown).map_err(|_| AllocError)
+}
+
+/// Publishes what is pending.
+fn publish<J: Naming, R: Wait>(rt: &R, publisher: &mut Publisher<J>) -> Result<(), AllocError>
+    requires { publisher.old.closed ≡ false }
+    ensures { IfOk result (λ _. (publisher.new.pending ≡ []) × (publisher.new.closed ≡ false) × IsPrefix publisher.old.published publisher.new.published) }
+{
+    replace_with(publisher, rt, |publisher, rt| publisher.publish(rt)).map_err(|_| AllocError)
+}
+
+/// Publishes what is pending for the last time.
+fn shut<J: Naming, R: Wait>(rt: &R, publisher: &mut Publisher<J>) -> Result<(), AllocError>
+    requires { publisher.old.closed ≡ false }
+    ensures { IfOk result (λ _. (publisher.new.closed ≡ true) × IsPrefix publisher.old.published publisher.new.published) }
+{
+    replace_with(publisher, rt, |publisher, rt| publisher.close(rt)).map_err(|_| AllocError)
+}
+
+/// A note of what is published.
+fn noted<J: Naming>(publisher: &mut Publisher<J>) -> Note<J>
+    ensures { result ≡ edition publisher.old.published publisher.old.closed }
+{
+    replace_with(publisher, (), |publisher, _| publisher.note())
+}
+
+/// Closes the board and notes what is published.
+fn close<J: Naming, R: Wait>(rt: &R, publisher: &mut Publisher<J>) -> Result<Note<J>, AllocError>
+    requires { publisher.old.closed ≡ false }
+    ensures { IfOk result (λ n. IsPrefix publisher.old.published n.entries × (n.last ≡ true)) }
+{
+    shut(rt, publisher)?;
+    Ok(noted(publisher))
+}

@@ -1,0 +1,218 @@
+//! What watchers are shown of a run, and how that is written.
+ghost use Rattle.std.specs.Prelude.{◌≡◌, ◌↔◌, ◌++◌, IfOk, IsTrue, OnOk, length, map, slice_get};
+ghost use Rattle.std.specs.Option.{option_copied};
+ghost use Rattle.occ_term.specs.Runs.{entries, entry_of, tag_shown};
+ghost use Rattle.occ_shown.specs.Answers.{head_text, items_text, later_text, line_text, name_at, names_of, part_text, trace_text};
+ghost use Rattle.occ_net_tables.specs.Holding.{communication_of};
+ghost use Rattle.occ_net_trace.specs.Views.{part_of};
+
+use crate::showing::{LINE_FEED, tag_name, write_ends, write_number, write_part};
+use occ_board::Shown;
+use occ_net_trace::{Entry, PartView, Trace};
+use occ_term::{Channel, Name, Part, Text};
+use std::alloc::{AllocError, Global};
+
+/// The name of a channel; empty where there is no such channel.
+fn name_of(alloc: Global, channels: &[Channel], chan: u32) -> Result<Name, AllocError>
+    ensures { IfOk result (λ name. name ≡ name_at (slice_get channels.now chan)) }
+{
+    match channels.get(chan as usize) {
+        Some(channel) => channel.name.copy(alloc),
+        None => Name::new(alloc, b""),
+    }
+}
+
+/// A text of these letters, of which there are fewer than 2 to the 32.
+fn text_of(alloc: Global, letters: &[u8]) -> Result<Text, AllocError>
+    ensures { IfOk result (λ text. text ≡ letters.now) }
+{
+    if letters.len() > u32::MAX as usize {
+        return Err(AllocError);
+    }
+    Text::new(alloc, letters)
+}
+
+/// The name of a channel's tag, where there is a tag.
+fn tag_of(
+    alloc: Global,
+    channels: &[Channel],
+    chan: u32,
+    tag: Option<u32>,
+) -> Result<Option<Text>, AllocError>
+    ensures { IfOk result (λ text. text ≡ tag_shown (names_of channels.now) chan tag) }
+{
+    match tag {
+        Some(tag) => {
+            let text = text_of(alloc, tag_name(channels, chan, tag))?;
+            Ok(Some(text))
+        }
+        None => Ok(None),
+    }
+}
+
+/// A communication of a trace as a board shows it, with this number and the names that it has in these channels.
+///
+/// # Errors
+///
+/// A refused growth.
+#[tactic(auto, using(crate::proofs::SameEnds::same_end))]
+pub fn shown_as(
+    alloc: Global,
+    number: u64,
+    communication: &Entry<'_>,
+    channels: &[Channel],
+) -> Result<Shown, AllocError>
+    ensures { IfOk result (λ s. s ≡ entry_of (names_of channels.now) number (communication_of communication.now)) }
+{
+    let chan = communication.chan();
+    let view = communication.message();
+    let name = name_of(alloc, channels, chan)?;
+    let tag = tag_of(alloc, channels, chan, view.tag())?;
+    let message = view.copy(alloc)?;
+    Ok(Shown::new(
+        number,
+        chan,
+        name,
+        communication.sender(),
+        communication.receiver(),
+        tag,
+        message,
+    ))
+}
+
+/// Whether a board shows this communication so.
+///
+/// # Errors
+///
+/// A refused growth.
+fn is_shown_as(
+    alloc: Global,
+    shown: &Shown,
+    number: u64,
+    communication: &Entry<'_>,
+    channels: &[Channel],
+) -> Result<bool, AllocError>
+    ensures { IfOk result (λ same. IsTrue same ↔ (shown.now ≡ entry_of (names_of channels.now) number (communication_of communication.now))) }
+{
+    let wanted = shown_as(alloc, number, communication, channels)?;
+    shown.is_same(alloc, &wanted)
+}
+
+/// Whether a board shows just the communications of this trace, numbered from 1.
+///
+/// # Errors
+///
+/// A refused growth.
+pub fn is_shown(
+    alloc: Global,
+    list: &[Shown],
+    trace: &Trace,
+    channels: &[Channel],
+) -> Result<bool, AllocError>
+    ensures { IfOk result (λ same. IsTrue same ↔ (list.now ≡ entries (names_of channels.now) 1 (map communication_of trace.now))) }
+{
+    let mut rest = list;
+    let mut number = 0;
+    for communication in trace.entries() {
+        number += 1;
+        let Some((shown, others)) = rest.split_first() else {
+            return Ok(false);
+        };
+        if !is_shown_as(alloc, shown, number, &communication, channels)? {
+            return Ok(false);
+        }
+        rest = others;
+    }
+    Ok(rest.is_empty())
+}
+
+/// A view of an item.
+fn view_of(part: &Part) -> PartView<'_>
+    ensures { part_of result ≡ part.now }
+{
+    match part {
+        Part::One(primitive, value) => PartView::One(*primitive, *value),
+        Part::Many(primitive, values) => PartView::Many(*primitive, values.as_slice()),
+        Part::Counted(primitive, values) => PartView::Counted(*primitive, values.as_slice()),
+    }
+}
+
+/// An item.
+fn write_owned(alloc: Global, out: &mut Vec<u8>, part: &Part) -> Result<(), AllocError>
+    ensures { OnOk result (out.new.items ≡ out.old.items ++ part_text part.now) }
+{
+    write_part(alloc, out, &view_of(part))
+}
+
+/// Items, each after a semicolon and a space.
+fn write_others(alloc: Global, out: &mut Vec<u8>, parts: &[Part]) -> Result<(), AllocError>
+    ensures { OnOk result (out.new.items ≡ out.old.items ++ later_text parts.now) }
+{
+    for part in parts {
+        out.extend_from_slice(b"; ")?;
+        write_owned(alloc, out, part)?;
+    }
+    Ok(())
+}
+
+/// The items of a message, of which a tag's name is the first.
+fn write_all(
+    alloc: Global,
+    out: &mut Vec<u8>,
+    tag: Option<&Text>,
+    parts: &[Part],
+) -> Result<(), AllocError>
+    ensures { OnOk result (out.new.items ≡ out.old.items ++ items_text (option_copied tag.entry) parts.now) }
+{
+    match tag {
+        Some(name) => {
+            out.extend_from_slice(name.as_slice())?;
+            write_others(alloc, out, parts)
+        }
+        None => match parts.split_first() {
+            Some((first, others)) => {
+                write_owned(alloc, out, first)?;
+                write_others(alloc, out, others)
+            }
+            None => Ok(()),
+        },
+    }
+}
+
+/// The number, the channel's number and its name.
+fn write_beginning(alloc: Global, out: &mut Vec<u8>, shown: &Shown) -> Result<(), AllocError>
+    ensures { OnOk result (out.new.items ≡ out.old.items ++ head_text shown.now.number shown.now.channel shown.now.name) }
+{
+    write_number(alloc, out, shown.number())?;
+    out.extend_from_slice(b" c")?;
+    write_number(alloc, out, u64::from(shown.channel()))?;
+    out.push(b' ')?;
+    shown.name().write(alloc, out)
+}
+
+/// The line of a communication.
+#[tactic(auto, using(crate::proofs::SameEnds::same_end))]
+fn write_shown(alloc: Global, out: &mut Vec<u8>, shown: &Shown) -> Result<(), AllocError>
+    ensures { OnOk result (out.new.items ≡ out.old.items ++ line_text shown.now) }
+{
+    write_beginning(alloc, out, shown)?;
+    write_ends(alloc, out, shown.sender(), shown.receiver())?;
+    write_all(alloc, out, shown.tag(), shown.message().items.as_slice())?;
+    out.push(LINE_FEED)?;
+    Ok(())
+}
+
+/// The lines of what a board shows, as the answer has them of a trace.
+///
+/// # Errors
+///
+/// A refused growth.
+pub fn watch_lines(alloc: Global, list: &[Shown]) -> Result<Vec<u8>, AllocError>
+    ensures { IfOk result (λ lines. lines.items ≡ trace_text list.now) }
+{
+    let mut lines = Vec::new(alloc);
+    for shown in list {
+        write_shown(alloc, &mut lines, shown)?;
+    }
+    Ok(lines)
+}

@@ -1,0 +1,189 @@
+//! A turn that is held until a watcher has seen an entry: what is communicated is published while the run goes on.
+ghost use Rattle.std.specs.Prelude.{◌≡◌, IfSome, false};
+
+use crate::accepted::code_of;
+use crate::workers::sources::PIPELINE;
+use crate::workers::watched::{PIPED, lines_told};
+use occ_board::{Board, Naming, Note, Opened, Publisher, Watcher};
+use occ_code::{Body, Code, Task};
+use occ_proc::{Segment, turn};
+use occ_run::{Gate, RunFault, run_watched};
+use std::alloc::{AllocError, Global};
+use std::hint::spin_loop;
+use std::marker::Brand;
+use std::process::Abort;
+use std::sync::atomic::{AtomicBool, Ordering};
+use std::sync::{Arc, Wait};
+use std::test::Fail;
+use std::thread::{Threads, join};
+
+/// How often a watcher looks, and how often the held turn looks for its flag.
+const LOOKS: u32 = 100_000_000;
+
+/// How many runs there are.
+const RUNS: u32 = 200;
+
+/// A gate that holds the second turn of process 6 until an entry was seen.
+#[derive(Drop)]
+struct Holding {
+    seen: AtomicBool,
+    missed: AtomicBool,
+}
+
+impl Holding {
+    fn hold(&self) {
+        for _ in 0..LOOKS {
+            if self.seen.load(Ordering::SeqCst) {
+                return;
+            }
+            spin_loop();
+        }
+        self.missed.store(true, Ordering::SeqCst);
+    }
+}
+
+impl Gate for Holding {
+    fn run(
+        &self,
+        alloc: Global,
+        body: Arc<Body, Global>,
+        before: Task,
+    ) -> Result<Segment, (Task, AllocError)> {
+        if before.number == 6 && before.turns == 1 {
+            self.hold();
+        }
+        turn(alloc, body, before)
+    }
+}
+
+/// Looks until an entry is seen, the gate has missed it, or it has looked so often.
+fn look_on<J: Naming>(watcher: Watcher<J>, gate: &Holding) -> Watcher<J> {
+    let mut watcher = watcher;
+    for _ in 0..LOOKS {
+        let (next, is_seen) = match watcher.look(|list| !list.is_empty()) {
+            Ok(seen) => seen,
+            Err(watcher) => (watcher, false),
+        };
+        watcher = next;
+        if is_seen || gate.missed.load(Ordering::SeqCst) {
+            gate.seen.store(is_seen, Ordering::SeqCst);
+            return watcher;
+        }
+    }
+    watcher
+}
+
+/// Runs the pipeline with the publisher that is there, and puts it back where the run answered.
+fn run_held<J: Naming, R: Threads + Wait + Sync>(
+    rt: &R,
+    alloc: Global,
+    code: &Code,
+    gate: &Holding,
+    slot: &mut Option<Publisher<J>>,
+) -> Result<Note<J>, RunFault>
+    requires { IfSome slot.old (λ p. p.closed ≡ false) }
+{
+    let Some(publisher) = slot.take() else {
+        return Err(RunFault::Foreign);
+    };
+    match run_watched(rt, alloc, code, b"", 4, 1000, gate, publisher) {
+        Ok((_, publisher, note)) => {
+            put_back(rt, slot, publisher);
+            Ok(note)
+        }
+        Err(fault) => Err(fault),
+    }
+}
+
+fn put_back<J: Naming, R: Wait>(rt: &R, slot: &mut Option<Publisher<J>>, publisher: Publisher<J>) {
+    end(rt, std::mem::replace(slot, Some(publisher)));
+}
+
+fn end<J: Naming, R: Wait>(rt: &R, slot: Option<Publisher<J>>) {
+    match slot {
+        Some(publisher) => publisher.end(rt),
+        None => {}
+    }
+}
+
+/// The run beside the two watchers, and what each of them is shown at last.
+fn run_beside<J: Naming + Send + Sync, R: Threads + Wait + Sync>(
+    rt: &R,
+    alloc: Global,
+    code: &Code,
+    gate: &Holding,
+    slot: &mut Option<Publisher<J>>,
+    watchers: (Watcher<J>, Watcher<J>),
+) -> Result<[Option<Vec<u8>>; 2], RunFault>
+    requires { IfSome slot.old (λ p. p.closed ≡ false) }
+{
+    let (one, other) = watchers;
+    let ((one, other), note) = join(
+        rt,
+        || join(rt, || look_on(one, gate), || look_on(other, gate)),
+        || run_held(rt, alloc, code, gate, slot),
+    );
+    let note = note?;
+    Ok([
+        lines_told(alloc, one, &note),
+        lines_told(alloc, other, &note),
+    ])
+}
+
+/// A board, a run of the pipeline, and what its two watchers are shown.
+fn shown<J: Naming + Send + Sync, R: Threads + Wait + Sync>(
+    rt: &R,
+    alloc: Global,
+    opened: Opened,
+    code: &Code,
+    gate: &Holding,
+) -> Result<[Option<Vec<u8>>; 2], RunFault>
+    requires { opened ≡ J.book }
+{
+    let (publisher, mut watchers) = match Board::new::<J>(opened, alloc, 2) {
+        Ok(board) => board,
+        Err(_) => return Err(RunFault::Memory),
+    };
+    let mut slot = Some(publisher);
+    let lines = match (watchers.pop(), watchers.pop()) {
+        (Some(one), Some(other)) => run_beside(rt, alloc, code, gate, &mut slot, (one, other)),
+        _ => Err(RunFault::Foreign),
+    };
+    end(rt, slot);
+    lines
+}
+
+fn check_held<R: Threads + Wait + Abort + Sync + AllocGlobal>(
+    rt: &R,
+    code: &Code,
+) -> Result<(), Fail> {
+    let gate = Holding {
+        seen: AtomicBool::new(false),
+        missed: AtomicBool::new(false),
+    };
+    let lines = shown::<Brand, _>(rt, rt.alloc(), Opened::new(), code, &gate)?;
+    assert!(rt;
+        !gate.missed.load(Ordering::SeqCst),
+        "the held turn saw no flag"
+    );
+    for line in &lines {
+        let Some(text) = line else {
+            assert!(rt; false, "no lines");
+            return Ok(());
+        };
+        assert_eq!(rt; text.as_slice(), PIPED);
+    }
+    Ok(())
+}
+
+#[test]
+fn entries_are_seen_while_a_run_goes_on(rt: HostRuntime) -> Result<(), Fail> {
+    let Some(code) = code_of(rt.alloc(), PIPELINE) else {
+        assert!(rt; false, "no code");
+        return Ok(());
+    };
+    for _run in 0..RUNS {
+        check_held(&rt, &code)?;
+    }
+    Ok(())
+}

@@ -1,0 +1,314 @@
+//! Runs at which a watcher looks when they are over: what it is shown, in whatever way they end.
+ghost use Rattle.std.specs.Prelude.{◌≡◌, false};
+
+use crate::accepted::accepted;
+use crate::workers::sources::{FOUR, LETTER, PIPELINE};
+use occ_board::{Board, Naming, Note, Opened, Publisher, Shown, Watcher};
+use occ_code::{Body, Code, Task, compile_for};
+use occ_net_trace::End;
+use occ_proc::Segment;
+use occ_run::{FreeGate, Gate, RunFault, run_watched};
+use occ_shown::watch_lines;
+use occ_term::{Errors, Message, Name, Part, Parts, Primitive};
+use std::alloc::{AllocError, Global};
+use std::marker::Brand;
+use std::process::Abort;
+use std::sync::{Arc, Wait};
+use std::test::Fail;
+use std::thread::Threads;
+
+/// A source, its quantum, what its faults do, its workers, its limit, and the lines that are shown of it.
+struct Watched(&'static [u8], u32, Errors, u32, u32, &'static [u8]);
+
+pub(crate) const PIPED: &[u8] =
+    b"1 c3 c[0] p1>p3 1\n2 c4 c[1] p3>p4 2\n3 c5 c[2] p4>p5 3\n4 c6 c[3] p5>p6 4\n5 c1 screen p6>screen 52\n";
+
+static WATCHED: [Watched; 9] = [
+    Watched(
+        LETTER,
+        1,
+        Errors::Halt,
+        2,
+        10,
+        b"1 c1 screen p0>screen 65\n",
+    ),
+    Watched(PIPELINE, 1, Errors::Halt, 1, 1000, PIPED),
+    Watched(PIPELINE, 3, Errors::Stop, 4, 1000, PIPED),
+    Watched(LETTER, 1, Errors::Halt, 1, 0, b""),
+    Watched(FOUR, 1, Errors::Halt, 4, 100, b""),
+    Watched(
+        b"PROC main (CHAN OF BYTE keyboard, screen)\n  INT z:\n  SEQ\n    screen ! 'a'\n    z := 1 / z\n:\n",
+        1,
+        Errors::Halt,
+        2,
+        10,
+        b"1 c1 screen p0>screen 97\n",
+    ),
+    Watched(
+        b"PROC main (CHAN OF BYTE keyboard, screen)\n  INT z:\n  SEQ\n    screen ! 'a'\n    z := 1 / z\n:\n",
+        1,
+        Errors::Stop,
+        2,
+        10,
+        b"1 c1 screen p0>screen 97\n",
+    ),
+    Watched(
+        b"PROC main (CHAN OF BYTE keyboard, screen)\n  PROTOCOL p\n    CASE\n      data; INT; BYTE\n      quit\n  :\n  CHAN OF p c:\n  PAR\n    SEQ\n      c ! data; 5; 'a'\n      c ! quit\n    INT x:\n    BYTE y:\n    SEQ\n      c ? CASE\n        data; x; y\n          SKIP\n      c ? CASE\n        quit\n          SKIP\n:\n",
+        1,
+        Errors::Halt,
+        3,
+        100,
+        b"1 c3 c p1>p2 data; 5; 97\n2 c3 c p1>p2 quit\n",
+    ),
+    Watched(
+        b"PROC main (CHAN OF BYTE keyboard, screen)\n  CHAN OF INT::[]BYTE c:\n  PAR\n    [4]BYTE s:\n    SEQ\n      s[0], s[1] := 'a', 'b'\n      c ! 2::s\n    INT n:\n    [4]BYTE t:\n    c ? n::t\n:\n",
+        1,
+        Errors::Halt,
+        2,
+        100,
+        b"1 c3 c p1>p2 2::[97 98]\n",
+    ),
+];
+
+/// The code of a source.
+fn code_for(alloc: Global, source: &[u8], quantum: u32, errors: Errors) -> Option<Code> {
+    let checked = accepted(alloc, source)?;
+    let code = compile_for(alloc, &checked, quantum).ok()?;
+    Some(code.with_errors(errors))
+}
+
+/// The lines that a watcher is shown who was told a note twice.
+pub(crate) fn lines_told<J: Naming>(
+    alloc: Global,
+    watcher: Watcher<J>,
+    note: &Note<J>,
+) -> Option<Vec<u8>> {
+    let told = watcher.told(note).told(note);
+    match told.look(|list| watch_lines(alloc, list)) {
+        Ok((_, lines)) => lines.ok(),
+        Err(_) => None,
+    }
+}
+
+/// The lines of what is shown when a run of this code is over.
+fn shown_lines<J: Naming, R: Threads + Wait + Sync, G: Gate + Sync>(
+    rt: &R,
+    alloc: Global,
+    code: &Code,
+    row: &Watched,
+    gate: &G,
+    publisher: Publisher<J>,
+    watcher: Watcher<J>,
+) -> Result<Option<Vec<u8>>, RunFault>
+    requires { publisher.closed ≡ false }
+{
+    match run_watched(rt, alloc, code, b"", row.3, row.4, gate, publisher) {
+        Ok((_, publisher, note)) => {
+            let lines = lines_told(alloc, watcher, &note);
+            publisher.end(rt);
+            Ok(lines)
+        }
+        Err(fault) => Err(fault),
+    }
+}
+
+/// A watcher and a publisher of a board of its own, in a run of this code.
+fn watched_lines<J: Naming, R: Threads + Wait + Sync, G: Gate + Sync>(
+    rt: &R,
+    alloc: Global,
+    opened: Opened,
+    code: &Code,
+    row: &Watched,
+    gate: &G,
+) -> Result<Option<Vec<u8>>, RunFault>
+    requires { opened ≡ J.book }
+{
+    match Board::new::<J>(opened, alloc, 1) {
+        Ok((publisher, mut watchers)) => match watchers.pop() {
+            Some(watcher) => shown_lines(rt, alloc, code, row, gate, publisher, watcher),
+            None => {
+                publisher.end(rt);
+                Ok(None)
+            }
+        },
+        Err(_) => Ok(None),
+    }
+}
+
+fn check_row<R: Threads + Wait + Abort + Sync + AllocGlobal>(
+    rt: &R,
+    row: &Watched,
+) -> Result<(), Fail> {
+    let alloc = rt.alloc();
+    let Some(code) = code_for(alloc, row.0, row.1, row.2) else {
+        assert!(rt; false, "no code");
+        return Ok(());
+    };
+    let lines = watched_lines::<Brand, _, _>(rt, alloc, Opened::new(), &code, row, &FreeGate)?;
+    let Some(lines) = lines else {
+        assert!(rt; false, "no lines");
+        return Ok(());
+    };
+    assert_eq!(rt; lines.as_slice(), row.5);
+    Ok(())
+}
+
+#[test]
+fn a_watcher_is_shown_the_trace(rt: HostRuntime) -> Result<(), Fail> {
+    for row in &WATCHED {
+        check_row(&rt, row)?;
+    }
+    Ok(())
+}
+
+/// A gate that refuses every turn, as if memory had run out.
+#[derive(Drop)]
+struct Refusing;
+
+impl Gate for Refusing {
+    fn run(
+        &self,
+        _alloc: Global,
+        _body: Arc<Body, Global>,
+        before: Task,
+    ) -> Result<Segment, (Task, AllocError)> {
+        Err((before, AllocError))
+    }
+}
+
+/// Why a run of this code by so many workers is refused.
+fn fault_of<J: Naming, R: Threads + Wait + Sync, G: Gate + Sync>(
+    rt: &R,
+    alloc: Global,
+    code: &Code,
+    workers: u32,
+    gate: &G,
+    publisher: Publisher<J>,
+) -> Option<RunFault>
+    requires { publisher.closed ≡ false }
+{
+    match run_watched(rt, alloc, code, b"", workers, 100, gate, publisher) {
+        Ok((_, publisher, _)) => {
+            publisher.end(rt);
+            None
+        }
+        Err(fault) => Some(fault),
+    }
+}
+
+/// The same, where its watcher sees nothing any more.
+fn refusal<J: Naming, R: Threads + Wait + Sync, G: Gate + Sync>(
+    rt: &R,
+    alloc: Global,
+    opened: Opened,
+    code: &Code,
+    workers: u32,
+    gate: &G,
+) -> Option<RunFault>
+    requires { opened ≡ J.book }
+{
+    let (publisher, mut watchers) = match Board::new::<J>(opened, alloc, 8) {
+        Ok(board) => board,
+        Err(_) => return None,
+    };
+    let fault = fault_of(rt, alloc, code, workers, gate, publisher);
+    match watchers.pop()?.look(|_| ()) {
+        Ok(_) => None,
+        Err(_) => fault,
+    }
+}
+
+#[test]
+fn a_refused_run_ends_its_publisher(rt: HostRuntime) -> Result<(), Fail> {
+    let alloc = rt.alloc();
+    let Some(code) = code_for(alloc, FOUR, 1, Errors::Halt) else {
+        assert!(rt; false, "no code");
+        return Ok(());
+    };
+    for workers in [0, 65] {
+        let refused = refusal::<Brand, _, _>(&rt, alloc, Opened::new(), &code, workers, &FreeGate);
+        assert_eq!(rt; refused, Some(RunFault::BadWorkers));
+    }
+    let refused = refusal::<Brand, _, _>(&rt, alloc, Opened::new(), &code, 2, &Refusing);
+    assert_eq!(rt; refused, Some(RunFault::Memory));
+    Ok(())
+}
+
+/// The byte 65 on a channel without a name, with this number.
+fn shown(alloc: Global, number: u64) -> Result<Shown, AllocError> {
+    let name = Name::new(alloc, b"")?;
+    let message = Message {
+        tag: None,
+        items: Parts::one(Part::One(Primitive::Byte, 65)),
+    };
+    Ok(Shown::new(number, 9, name, End::Keyboard, End::Error, None, message))
+}
+
+/// How many entries are shown of a run before which one was published and one appended, and the number of the last.
+fn shown_behind<J: Naming, R: Threads + Wait + Sync>(
+    rt: &R,
+    alloc: Global,
+    code: &Code,
+    publisher: Publisher<J>,
+    watcher: Watcher<J>,
+    entries: (Shown, Shown),
+) -> Option<(usize, u64)>
+    requires { publisher.closed ≡ false }
+{
+    let (first, second) = entries;
+    let mut publisher = publisher;
+    let _ = publisher.append(first);
+    let (mut publisher, _) = publisher.publish(rt);
+    let _ = publisher.append(second);
+    match run_watched(rt, alloc, code, b"", 1, 10, &FreeGate, publisher) {
+        Ok((_, publisher, note)) => {
+            let read = watcher.told(&note).look(|list| {
+                (
+                    list.len(),
+                    match list.last() {
+                        Some(shown) => shown.number(),
+                        None => 0,
+                    },
+                )
+            });
+            publisher.end(rt);
+            Some(read.ok()?.1)
+        }
+        Err(_) => None,
+    }
+}
+
+/// The same on a board of its own.
+fn held_and_shown<J: Naming, R: Threads + Wait + Sync>(
+    rt: &R,
+    alloc: Global,
+    opened: Opened,
+    code: &Code,
+    entries: (Shown, Shown),
+) -> Option<(usize, u64)>
+    requires { opened ≡ J.book }
+{
+    match Board::new::<J>(opened, alloc, 1) {
+        Ok((publisher, mut watchers)) => match watchers.pop() {
+            Some(watcher) => shown_behind(rt, alloc, code, publisher, watcher, entries),
+            None => {
+                publisher.end(rt);
+                None
+            }
+        },
+        Err(_) => None,
+    }
+}
+
+#[test]
+fn a_run_is_shown_behind_what_was_held(rt: HostRuntime) -> Result<(), Fail> {
+    let alloc = rt.alloc();
+    let Some(code) = code_for(alloc, LETTER, 1, Errors::Halt) else {
+        assert!(rt; false, "no code");
+        return Ok(());
+    };
+    let entries = (shown(alloc, 7)?, shown(alloc, 8)?);
+    let read = held_and_shown::<Brand, _>(&rt, alloc, Opened::new(), &code, entries);
+    assert_eq!(rt; read, Some((3, 1)));
+    Ok(())
+}
