@@ -1,7 +1,10 @@
 -- The answer of a run by workers, and what its board shows.
-use Rattle.std.proofs.Common.{◌≡◌, ◌∙◌, ◌≤◌, ℕ, List, [], ◌++◌, Bool, true, Option, length, map, sym, ap, subst}
+use Rattle.std.proofs.Common.{◌≡◌, ◌∙◌, ◌<◌, ◌≤◌, ◌⊎◌, inl, inr, ℕ, zero, suc, List, [], ◌++◌, Bool, true, false, Option, length, map, refl, sym, ap, subst, arith}
+use Rattle.std.specs.Prelude.{nat_le}
+use Rattle.std.proofs.lemmas.Bool.Decides.{nat_tests}
 use Rattle.occ_term.specs.Runs.{Entry, entries, shown, shown_by}
 use Rattle.occ_board.specs.Traces.{Publishing, publishing}
+use Rattle.occ_choices.specs.Crews.{IsCrew, most_workers}
 use Rattle.occ_code.specs.Compiled.{Program}
 use Rattle.occ_net_replay.specs.Following.{or_limit}
 use Rattle.occ_net_replay.specs.Replay.{Net, ending_of}
@@ -20,7 +23,7 @@ use Rattle.occ_play.specs.declared.playing.Options.{Options}
 use Rattle.occ_play.specs.declared.playing.Played.{Played}
 use Rattle.occ_play.specs.Playing.{AfterFault, Refuses}
 use Rattle.occ_play.specs.Watching.{IsWatched, Tells, TellsSome}
-use Rattle.occ_play.specs.Working.{IsAnswerWithin, IsSomeAnswerWithin, WorkersRefuse}
+use Rattle.occ_play.specs.Working.{IsAnswerWithin, IsSomeCrewsAnswer, WorkersRefuse}
 use Rattle.occ_play.proofs.Headline.{never_limit, none_if}
 use Rattle.occ_play.proofs.Working.{workers_refuse}
 
@@ -57,18 +60,27 @@ watched_by options source keyboard limit trace held board p g o played bytes run
           ∙ ap (λ s. publishing (held ++ s.trace) [] true) w.1;
     }
 
+-- a number that is not refused
+pub crew_of : (workers : ℕ) → ((workers ≡ 0) ⊎ (most_workers < workers) → ⊥) → IsCrew workers
+crew_of zero h = absurd (h (inl refl))
+crew_of (suc n) h = (omega arith, by (nat_le (suc n) most_workers) refl)
+  where
+    by : (few : Bool) → nat_le (suc n) most_workers ≡ few → suc n ≤ most_workers
+    by true e = grind (arith, nat_tests)
+    by false e = let more : most_workers < suc n = grind (arith, nat_tests) in absurd (h (inr more))
+
 -- a fault after a run by workers is one of theirs
 pub after_written : {W : Type 0} (contents : W → Option (List ℕ)) (old new : Counted W) (workers : ℕ) (options : Options) (source keyboard : List ℕ) (limit : ℕ) (trace : Bool) (p : Program) (g : Gathered) (o : Outcome)
-    → IsRunOf p keyboard limit g → o.choices ≡ g.choices → o.ending ≡ g.ending → IsOutcome p keyboard g.choices.items o
+    → IsCrew workers → IsRunOf p keyboard limit g → o.choices ≡ g.choices → o.ending ≡ g.ending → IsOutcome p keyboard g.choices.items o
     → (fault : PlayFault) → AfterFault contents (TellsSome options source keyboard trace p o) (Refuses options source) old new fault
-    → AfterFault contents (IsSomeAnswerWithin options source keyboard limit trace) (WorkersRefuse workers options source) old new fault
-after_written contents old new workers options source keyboard limit trace p g o run choices ending out (play.Write written) h =
+    → AfterFault contents (IsSomeCrewsAnswer workers options source keyboard limit trace) (WorkersRefuse workers options source) old new fault
+after_written contents old new workers options source keyboard limit trace p g o crew run choices ending out (play.Write written) h =
     let w = within_by options source keyboard limit trace p g o h.1.1.0 h.1.0 run choices ending out h.1.1.1 in
-    (h.0, (h.1.0, (h.1.1.0, w.0), h.1.2, h.1.3))
-after_written contents old new workers options source keyboard limit trace p g o run choices ending out (play.Text f) h = (workers_refuse workers options source (play.Text f) h.0, h.1)
-after_written contents old new workers options source keyboard limit trace p g o run choices ending out (play.Parse f) h = (workers_refuse workers options source (play.Parse f) h.0, h.1)
-after_written contents old new workers options source keyboard limit trace p g o run choices ending out (play.Check f) h = (workers_refuse workers options source (play.Check f) h.0, h.1)
-after_written contents old new workers options source keyboard limit trace p g o run choices ending out (play.Usage f) h = (workers_refuse workers options source (play.Usage f) h.0, h.1)
-after_written contents old new workers options source keyboard limit trace p g o run choices ending out (play.Code f) h = (workers_refuse workers options source (play.Code f) h.0, h.1)
-after_written contents old new workers options source keyboard limit trace p g o run choices ending out (play.Run f) h = (workers_refuse workers options source (play.Run f) h.0, h.1)
-after_written contents old new workers options source keyboard limit trace p g o run choices ending out (play.Memory e) h = (workers_refuse workers options source (play.Memory e) h.0, h.1)
+    (h.0, (h.1.0, (crew, (h.1.1.0, w.0)), h.1.2, h.1.3))
+after_written contents old new workers options source keyboard limit trace p g o crew run choices ending out (play.Text f) h = (workers_refuse workers options source (play.Text f) crew h.0, h.1)
+after_written contents old new workers options source keyboard limit trace p g o crew run choices ending out (play.Parse f) h = (workers_refuse workers options source (play.Parse f) crew h.0, h.1)
+after_written contents old new workers options source keyboard limit trace p g o crew run choices ending out (play.Check f) h = (workers_refuse workers options source (play.Check f) crew h.0, h.1)
+after_written contents old new workers options source keyboard limit trace p g o crew run choices ending out (play.Usage f) h = (workers_refuse workers options source (play.Usage f) crew h.0, h.1)
+after_written contents old new workers options source keyboard limit trace p g o crew run choices ending out (play.Code f) h = (workers_refuse workers options source (play.Code f) crew h.0, h.1)
+after_written contents old new workers options source keyboard limit trace p g o crew run choices ending out (play.Run f) h = (workers_refuse workers options source (play.Run f) crew h.0, h.1)
+after_written contents old new workers options source keyboard limit trace p g o crew run choices ending out (play.Memory e) h = (workers_refuse workers options source (play.Memory e) crew h.0, h.1)
