@@ -120,7 +120,7 @@ impl Shown {
     pub fn copy(&self, alloc: Global) -> Result<Shown, AllocError>
         ensures { IfOk result (λ s. s ≡ self.now) }
     {
-        let name = self.name.copy(alloc)?;
+        let name = self.name.copy()?;
         let message = self.message.copy(alloc)?;
         let tag = copied(&self.tag)?;
         Ok(Shown {

@@ -17,7 +17,7 @@ fn name_of(alloc: Global, channels: &[Channel], chan: u32) -> Result<Name, Alloc
     ensures { IfOk result (λ name. name ≡ name_at (slice_get channels.now chan)) }
 {
     match channels.get(chan as usize) {
-        Some(channel) => channel.name.copy(alloc),
+        Some(channel) => channel.name.copy(),
         None => Name::new(alloc, b""),
     }
 }
