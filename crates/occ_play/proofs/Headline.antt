@@ -195,7 +195,7 @@ usage_refuses u (usage.TwoOutputs line name) x h = (u, x, h)
 usage_refuses u usage.Memory x h = tt
 
 pub code_refuses : {source : List ℕ} (quantum : ℕ) (u : UnfoldedProgram) (fault : CodeFault) → Unfolds source u → Lawful u → CodeRefuses fault quantum u → CodeRefusesText quantum fault source
-code_refuses quantum u code.TooLarge x lawful h = (h.0, u, x, lawful, h.1)
+code_refuses quantum u code.TooLarge x lawful h = (h.0, (u, x, lawful, h.1))
 code_refuses quantum u code.BadQuantum x lawful h = (record { program = u; unfolds = x; lawful = lawful }, h)
 code_refuses quantum u code.Memory x lawful h = (record { program = u; unfolds = x; lawful = lawful }, h)
 
