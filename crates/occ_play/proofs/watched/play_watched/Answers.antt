@@ -15,4 +15,4 @@ returns-clause-fault g c =
     let ran = c.in-Ok-run_watched.ensures in
     let alone = c.into_replay-outcome.ensures in
     let code = c.in-Ok.code in
-    after_written g.W.Write.contents c.args.out.now c.written.new.out c.args.workers c.args.options.now c.args.source.now c.args.keyboard.now c.args.limit c.args.trace code c.in-Ok-run_watched.ran.0 c.into_replay-outcome.result (crew_of c.args.workers ran.workers.1) ran.run alone.choices alone.ending (alone.run code c.args.keyboard.now c.args.limit ran.run) c.in-Err-written.fault c.in-Err-written.ensures.fault
+    after_written g.W.Write.contents c.args.out.now c.written.new.out c.args.workers c.args.options.now c.args.source.now c.args.keyboard.now c.args.limit c.args.trace code c.in-Ok-run_watched.ran.0 c.into_replay-outcome.result (crew_of c.args.workers (λ x. cc (ran.workers.1 x))) ran.run alone.choices alone.ending (alone.run code c.args.keyboard.now c.args.limit ran.run) c.in-Err-written.fault c.in-Err-written.ensures.fault
