@@ -1,6 +1,6 @@
 -- Which choices the words of the command line ask for.
 -- Manual: nothing; this is (own).
-use Rattle.std.specs.Prelude.{List, None, Option, Some, ℕ, ◌≡◌}
+use Rattle.std.specs.Prelude.{List, [], None, Option, Some, ℕ, ⊤, ◌≡◌}
 use Rattle.occ_choices.specs.Lines.{ChoiceLines}
 use Rattle.occ_choices.specs.Plans.{choices_of}
 use Rattle.occ_choices.specs.declared.plan.Plan.{Plan}
@@ -14,3 +14,8 @@ IsAsked limit (Some path) plan = (text : List ℕ) × ChoiceLines text (choices_
 
 abbrev pub IsAskedBy : Words → Plan → Type 0
 IsAskedBy words plan = IsAsked words.limit words.choices plan
+
+-- nothing is typed where no file is named, since standard input is the source then
+abbrev pub IsTyped : {Path : Type 0} → Option Path → List ℕ → Type 0
+IsTyped None keyboard = keyboard ≡ []
+IsTyped (Some path) keyboard = ⊤

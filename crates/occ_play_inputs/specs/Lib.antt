@@ -1,3 +1,4 @@
 pub mod Failures
 pub mod Asked
 pub mod Modes
+pub mod Paths

@@ -1,12 +1,13 @@
 //! Why the program played nothing, or could not write what it played.
-ghost use Rattle.std.specs.Prelude.{◌≡◌, ◌≢◌, ◌⊎◌};
+ghost use Rattle.std.specs.Prelude.{◌≡◌, ◌≢◌};
 ghost use Rattle.std.specs.IoError.{error_kind};
 ghost use Rattle.clap.specs.Values.{kind_of};
-ghost use Rattle.occ_play_inputs.specs.Failures.{failure_status, TellsRead};
+ghost use Rattle.occ_play_inputs.specs.Failures.{failure_status, read_failure};
 
 use clap::error::ErrorKind as WordsErrorKind;
 use occ_choices::ChoiceFault;
-use std::alloc::{AllocError, Global};
+use occ_files::InputFault;
+use std::alloc::AllocError;
 use std::io;
 use std::io::ErrorKind;
 use thiserror::Error;
@@ -23,9 +24,12 @@ pub enum Failure {
     /// An argument is no UTF-8.
     #[error("an argument is no UTF-8")]
     Arguments,
-    /// What has this name could not be read.
-    #[error("cannot read {0}: {1}")]
-    Read(String, io::Error),
+    /// A file that is to be written is one that is read, or the other.
+    #[error("--record and --chart each write into a file of their own")]
+    Paths,
+    /// A file or a stream could not be read.
+    #[error("read failed")]
+    Read,
     /// The file of choices is none.
     #[error("{0}")]
     Choices(ChoiceFault),
@@ -45,8 +49,8 @@ impl Failure {
         match self {
             Failure::Help(_) => 0,
             Failure::Memory | Failure::Choices(ChoiceFault::Memory) => 5,
-            Failure::Read(_, _) | Failure::Write => 6,
-            Failure::Words(_) | Failure::Arguments | Failure::Choices(_) => 7,
+            Failure::Read | Failure::Write => 6,
+            Failure::Words(_) | Failure::Arguments | Failure::Paths | Failure::Choices(_) => 7,
         }
     }
 }
@@ -71,6 +75,17 @@ impl From<ChoiceFault> for Failure {
     }
 }
 
+impl From<InputFault> for Failure {
+    ghost from_gives = { λ fault failure. failure ≡ read_failure fault };
+
+    fn from(fault: InputFault) -> Failure {
+        match fault {
+            InputFault::Read => Failure::Read,
+            InputFault::Memory => Failure::Memory,
+        }
+    }
+}
+
 /// Why the words say that nothing is to be played.
 pub fn of_words(error: clap::Error) -> Failure
     ensures help { kind_of error ≡ WordsErrorKind.DisplayHelp → result ≡ Failure.Help error }
@@ -84,14 +99,14 @@ pub fn of_words(error: clap::Error) -> Failure
     }
 }
 
-/// Why what has this name was not read.
-pub fn of_read(alloc: Global, name: &str, error: io::Error) -> Failure
+/// Why a file was not opened.
+pub fn of_read(error: io::Error) -> Failure
     ensures memory { error_kind error ≡ ErrorKind.OutOfMemory → result ≡ Failure.Memory }
-    ensures other { error_kind error ≢ ErrorKind.OutOfMemory → TellsRead name.now result ⊎ result ≡ Failure.Memory }
+    ensures other { error_kind error ≢ ErrorKind.OutOfMemory → result ≡ Failure.Read }
 {
-    match (error.kind(), String::from_str(alloc, name)) {
-        (ErrorKind::OutOfMemory, _) | (_, Err(_)) => Failure::Memory,
-        (_, Ok(name)) => Failure::Read(name, error),
+    match error.kind() {
+        ErrorKind::OutOfMemory => Failure::Memory,
+        _ => Failure::Read,
     }
 }
 

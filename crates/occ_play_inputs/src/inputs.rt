@@ -1,22 +1,21 @@
 //! What the program plays: a source, the keyboard's bytes, and a plan.
-ghost use Rattle.std.specs.Prelude.{◌≡◌, IfOk, IfSome, take};
+ghost use Rattle.std.specs.Prelude.{◌≡◌, ◌≤◌, IfOk, IfSome, List, length, take, ℕ};
 ghost use Rattle.occ_choices.specs.Lines.{ChoiceLines};
 ghost use Rattle.occ_choices.specs.Plans.{choices_of};
-ghost use Rattle.occ_play_inputs.specs.Asked.{IsAskedBy};
+ghost use Rattle.occ_play_inputs.specs.Asked.{IsAskedBy, IsTyped};
 
+use crate::apart::check_files;
 use crate::failure::{Failure, of_read};
 use crate::words::Words;
 use occ_choices::{Plan, read_choices};
+use occ_files::{CountedReader, read_input};
 use std::alloc::Global;
 use std::fs;
 use std::io::{Input, Read, empty};
 use std::rt::Files;
 
 /// How many bytes of a source are read: one more than it may have.
-const MOST_SOURCE: u64 = 1_048_577;
-
-/// What the keyboard's stream is called where it can't be read.
-const STANDARD_INPUT: &str = "standard input";
+const MOST_SOURCE: usize = 1_048_577;
 
 /// What the program plays.
 #[derive(Drop)]
@@ -33,15 +32,19 @@ pub struct Inputs {
 ///
 /// # Errors
 ///
-/// `Read` names what could not be read, `Choices` tells what is wrong in the file of choices, and `Memory` of a
+/// `Paths` where a file that is to be written is one that is read, or the other; that is found before anything is read.
+/// `Read` where something could not be read, `Choices` tells what is wrong in the file of choices, and `Memory` of a
 /// refused growth.
 pub fn read_inputs<R: Files + Input>(
     rt: &R,
     alloc: Global,
     words: &Words<'_>,
 ) -> Result<Inputs, Failure>
-    ensures { IfOk result (λ inputs. IsAskedBy words.now inputs.plan) }
+    ensures asked { IfOk result (λ inputs. IsAskedBy words.now inputs.plan) }
+    ensures source { IfOk result (λ inputs. length inputs.source.items ≤ 1048577) }
+    ensures typed { IfOk result (λ inputs. IsTyped words.now.file inputs.keyboard.items) }
 {
+    check_files(rt, words)?;
     let (source, keyboard) = read_texts(rt, alloc, words)?;
     let plan = read_plan(rt, alloc, words)?;
     Ok(Inputs {
@@ -56,65 +59,57 @@ fn read_texts<R: Files + Input>(
     rt: &R,
     alloc: Global,
     words: &Words<'_>,
-) -> Result<(Vec<u8>, Vec<u8>), Failure> {
+) -> Result<(Vec<u8>, Vec<u8>), Failure>
+    ensures source { IfOk result (λ r. length r.0.items ≤ 1048577) }
+    ensures typed { IfOk result (λ r. IsTyped words.now.file r.1.items) }
+{
     match words.file {
-        None => read_both(alloc, STANDARD_INPUT, rt.reader(), empty()),
+        None => read_both(alloc, rt.reader(), empty()),
         Some(path) => {
-            let file = open(rt, alloc, path)?;
-            read_both(alloc, path, file, rt.reader())
+            let file = open(rt, path)?;
+            read_both(alloc, file, rt.reader())
         }
     }
 }
 
 /// The file of this path, to be read.
-fn open<R: Files>(rt: &R, alloc: Global, path: &str) -> Result<R::File, Failure> {
+fn open<R: Files>(rt: &R, path: &str) -> Result<R::File, Failure> {
     match fs::open(rt, path) {
         Ok(file) => Ok(file),
-        Err(error) => Err(of_read(alloc, path, error)),
+        Err(error) => Err(of_read(error)),
     }
 }
 
-/// The first bytes of a source of this name, one more than it may have, and all that is typed.
+/// The first bytes of a source, one more than it may have, and all that is typed.
 fn read_both<S: Read + Drop, K: Read + Drop>(
     alloc: Global,
-    name: &str,
     source: S,
     keyboard: K,
 ) -> Result<(Vec<u8>, Vec<u8>), Failure>
+    ensures few { IfOk result (λ r. length r.0.items ≤ 1048577) }
     ensures source { IfSome (S.remaining source) (λ xs. IfOk result (λ r. r.0.items ≡ take 1048577 xs)) }
     ensures keyboard { IfSome (K.remaining keyboard) (λ xs. IfOk result (λ r. r.1.items ≡ xs)) }
 {
-    let source = read_most(alloc, name, source, MOST_SOURCE)?;
-    let keyboard = read_all(alloc, STANDARD_INPUT, keyboard)?;
+    let source = read_most(alloc, source, MOST_SOURCE)?;
+    let keyboard = read_all(alloc, keyboard)?;
     Ok((source, keyboard))
 }
 
 /// All bytes of a reader, or so many where there are more.
-fn read_most<R: Read + Drop>(
-    alloc: Global,
-    name: &str,
-    reader: R,
-    most: u64,
-) -> Result<Vec<u8>, Failure>
-    ensures { IfSome (R.remaining reader) (λ xs. IfOk result (λ bytes. bytes.items ≡ take most xs)) }
+fn read_most<R: Read + Drop>(alloc: Global, reader: R, most: usize) -> Result<Vec<u8>, Failure>
+    ensures few { IfOk result (λ bytes. length bytes.items ≤ most) }
+    ensures bytes { IfSome (R.remaining reader) (λ xs. IfOk result (λ bytes. bytes.items ≡ take most xs)) }
 {
-    let mut bytes = Vec::new(alloc);
-    match reader.take(most).read_to_end(&mut bytes) {
-        Ok(_) => Ok(bytes),
-        Err(error) => Err(of_read(alloc, name, error)),
-    }
+    let mut reader = CountedReader::new(reader);
+    let bytes = read_input(alloc, &mut reader, most)?;
+    Ok(bytes)
 }
 
 /// All bytes of a reader.
-fn read_all<R: Read + Drop>(alloc: Global, name: &str, reader: R) -> Result<Vec<u8>, Failure>
+fn read_all<R: Read + Drop>(alloc: Global, reader: R) -> Result<Vec<u8>, Failure>
     ensures { IfSome (R.remaining reader) (λ xs. IfOk result (λ bytes. bytes.items ≡ xs)) }
 {
-    let mut reader = reader;
-    let mut bytes = Vec::new(alloc);
-    match reader.read_to_end(&mut bytes) {
-        Ok(_) => Ok(bytes),
-        Err(error) => Err(of_read(alloc, name, error)),
-    }
+    read_most(alloc, reader, usize::MAX)
 }
 
 /// The choices of the file that the words name, or as many turns as they allow.
@@ -124,11 +119,19 @@ fn read_plan<R: Files>(rt: &R, alloc: Global, words: &Words<'_>) -> Result<Plan,
     match words.choices {
         None => Ok(Plan::Turns(words.limit)),
         Some(path) => {
-            let file = open(rt, alloc, path)?;
-            let text = read_all(alloc, path, file)?;
-            plan_of(alloc, text.as_slice())
+            let file = open(rt, path)?;
+            read_order(alloc, file)
         }
     }
+}
+
+/// The choices of a file: all of its text is read.
+fn read_order<C: Read + Drop>(alloc: Global, file: C) -> Result<Plan, Failure>
+    ensures lines { IfOk result (λ plan. (text : List ℕ) × ChoiceLines text (choices_of plan)) }
+    ensures whole { IfSome (C.remaining file) (λ xs. IfOk result (λ plan. ChoiceLines xs (choices_of plan))) }
+{
+    let text = read_all(alloc, file)?;
+    plan_of(alloc, text.as_slice())
 }
 
 /// The choices of a file's text.

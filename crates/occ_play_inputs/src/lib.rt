@@ -2,6 +2,7 @@
 //! choices that they name, and a [`Failure`] says why nothing came of them.
 #![tactic(auto)]
 
+mod apart;
 pub mod failure;
 pub mod inputs;
 pub mod words;

@@ -4,7 +4,9 @@ ghost use Rattle.std.specs.Option.{ForSome, option_copied};
 ghost use Rattle.occ_choices.specs.Crews.{IsCrew};
 ghost use Rattle.occ_code.specs.Compiled.{IsQuantum};
 ghost use Rattle.occ_play_inputs.specs.Modes.{IsMode};
+ghost use Rattle.occ_play_inputs.specs.Paths.{AreApart};
 
+use crate::apart::are_apart;
 use clap::builder::ValueParser;
 use clap::error::ErrorKind;
 use clap::{Arg, ArgAction, Command, Error, value_parser};
@@ -73,6 +75,7 @@ pub struct Words<'a> {
     ghost limit_in_range: { limit ≤ 10000000 },
     ghost quantum_in_range: { IsQuantum quantum },
     ghost workers_in_range: { ForSome workers IsCrew },
+    ghost files_apart: { AreApart file choices «record» chart },
 }
 
 /// Reads the words, of which the first is the program's name.
@@ -102,6 +105,14 @@ pub fn read_words<'a>(alloc: Global, words: &'a [&'a str]) -> Result<Words<'a>, 
             "the number of workers is 1 to 64",
         )?);
     }
+    let (file, choices) = (matches.get_str("FILE"), matches.get_str("choices"));
+    let (record, chart) = (matches.get_str("record"), matches.get_str("chart"));
+    if !are_apart(file, choices, record, chart) {
+        return Err(command.error(
+            ErrorKind::ValueValidation,
+            "--record and --chart each write into a file of their own",
+        )?);
+    }
     Ok(Words {
         limit,
         quantum,
@@ -109,11 +120,11 @@ pub fn read_words<'a>(alloc: Global, words: &'a [&'a str]) -> Result<Words<'a>, 
         workers,
         trace: matches.get_flag("trace"),
         watch: matches.get_flag("watch"),
-        choices: matches.get_str("choices"),
-        record: matches.get_str("record"),
-        chart: matches.get_str("chart"),
+        choices,
+        record,
+        chart,
         arrows: arrows_of(matches.get_one::<u32>("arrows")),
-        file: matches.get_str("FILE"),
+        file,
     })
 }
 

@@ -1,3 +1,3 @@
 pub mod Coming
-pub mod Drawing
+pub mod Pages
 pub mod Lines

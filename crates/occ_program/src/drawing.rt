@@ -2,16 +2,15 @@
 ghost use Rattle.std.specs.Prelude.{◌≡◌, IfErr, IfOk};
 ghost use Rattle.occ_choices.specs.Plans.{choices_of};
 ghost use Rattle.occ_program.specs.Coming.{options_in};
-ghost use Rattle.occ_program.specs.Drawing.{Draws};
+ghost use Rattle.occ_program.specs.Pages.{Draws};
+ghost use Rattle.occ_play.specs.Charting.{IsChart};
 ghost use Rattle.occ_play.specs.Playing.{Refuses};
 
+use crate::page::{Page, write_page};
 use crate::program::options_of;
 use occ_play::{Choice, Plan, PlayFault, Played, chart};
-use occ_play_inputs::failure::of_write;
 use occ_play_inputs::{Failure, Inputs, Words};
 use std::alloc::{AllocError, Global};
-use std::fs;
-use std::io::Write;
 use std::rt::Files;
 
 /// Draws the run of these inputs into the file that the words name, where it answered: the run by the choices that it used.
@@ -24,40 +23,52 @@ pub(crate) fn draw<R: Files>(
 ) -> Result<Result<(), PlayFault>, Failure>
     ensures { IfOk result (λ drawn. IfErr drawn (Refuses (options_in words.now) inputs.now.source.items)) }
 {
-    match (words.chart, played) {
-        (Some(path), Ok(played)) => {
-            let mut file = fs::create(rt, path).map_err(of_write)?;
-            write_chart(alloc, words, inputs, played, &mut file)
+    match drawn(alloc, words, inputs, played)? {
+        Ok(page) => {
+            write_page(rt, alloc, &page)?;
+            Ok(Ok(()))
         }
-        _ => Ok(Ok(())),
+        Err(fault) => Ok(Err(fault)),
     }
 }
 
-/// Writes the chart of the run of these inputs by the choices that were used.
-fn write_chart<W: Write + Drop>(
+/// What is to be drawn, and where: the chart of the run by the choices that it used, in the file that the words name.
+fn drawn<'a>(
+    alloc: Global,
+    words: &Words<'a>,
+    inputs: &Inputs,
+    played: &Result<Played, PlayFault>,
+) -> Result<Result<Option<Page<'a>>, PlayFault>, Failure>
+    ensures { IfOk result (Draws (options_in words.now) inputs.now.source.items inputs.now.keyboard.items words.now.arrows words.now.chart played.now) }
+{
+    match (words.chart, played) {
+        (Some(path), Ok(played)) => match chart_of(alloc, words, inputs, played)? {
+            Ok(text) => Ok(Ok(Some(Page { path, text }))),
+            Err(fault) => Ok(Err(fault)),
+        },
+        _ => Ok(Ok(None)),
+    }
+}
+
+/// The chart of the run of these inputs by the choices that were used.
+fn chart_of(
     alloc: Global,
     words: &Words<'_>,
     inputs: &Inputs,
     played: &Played,
-    out: &mut W,
-) -> Result<Result<(), PlayFault>, Failure>
-    ensures { IfOk result (Draws (options_in words.now) inputs.now.source.items inputs.now.keyboard.items played.now.choices.items words.now.arrows (W.contents out.old) (W.contents out.new)) }
+) -> Result<Result<Vec<u8>, PlayFault>, Failure>
+    ensures drawn { IfOk result (λ chart. IfOk chart (λ bytes. IsChart (options_in words.now) inputs.now.source.items inputs.now.keyboard.items played.now.choices.items words.now.arrows bytes.items)) }
+    ensures refused { IfOk result (λ chart. IfErr chart (Refuses (options_in words.now) inputs.now.source.items)) }
 {
     let plan = plan_of(alloc, played.choices.as_slice())?;
-    match chart(
+    Ok(chart(
         &options_of(words),
         alloc,
         inputs.source.as_slice(),
         inputs.keyboard.as_slice(),
         &plan,
         words.arrows,
-    ) {
-        Ok(bytes) => {
-            out.write_all(bytes.as_slice()).map_err(of_write)?;
-            Ok(Ok(()))
-        }
-        Err(fault) => Ok(Err(fault)),
-    }
+    ))
 }
 
 /// The plan of these choices.

@@ -1,15 +1,13 @@
 //! Writes the choices of a run into a file, by which it can be played again.
-ghost use Rattle.std.specs.Prelude.{OnOk};
-ghost use Rattle.std.specs.Io.KnownBytes.{Appends};
+ghost use Rattle.std.specs.Prelude.{◌≡◌, IfOk};
 ghost use Rattle.occ_choices.specs.Lines.{choice_text};
+ghost use Rattle.occ_program.specs.Pages.{Records};
 
+use crate::page::{Page, write_page};
 use occ_choices::choices_text;
-use occ_play::{Choice, PlayFault, Played};
-use occ_play_inputs::failure::of_write;
+use occ_play::{PlayFault, Played};
 use occ_play_inputs::{Failure, Words};
 use std::alloc::Global;
-use std::fs;
-use std::io::Write;
 use std::rt::Files;
 
 /// Writes the used choices into the file that the words name, where a run answered.
@@ -19,23 +17,23 @@ pub(crate) fn record<R: Files>(
     words: &Words<'_>,
     played: &Result<Played, PlayFault>,
 ) -> Result<(), Failure> {
-    match (words.record, played) {
-        (Some(path), Ok(played)) => {
-            let mut file = fs::create(rt, path).map_err(of_write)?;
-            write_choices(alloc, played.choices.as_slice(), &mut file)
-        }
-        _ => Ok(()),
-    }
+    let page = recorded(alloc, words, played)?;
+    write_page(rt, alloc, &page)
 }
 
-/// Writes a file of these choices.
-fn write_choices<W: Write + Drop>(
+/// What is to be recorded, and where: all choices that a run used, in the file that the words name.
+fn recorded<'a>(
     alloc: Global,
-    choices: &[Choice],
-    out: &mut W,
-) -> Result<(), Failure>
-    ensures { OnOk result (Appends (W.contents out.old) (W.contents out.new) (choice_text choices.now)) }
+    words: &Words<'a>,
+    played: &Result<Played, PlayFault>,
+) -> Result<Option<Page<'a>>, Failure>
+    ensures { IfOk result (Records words.now.«record» played.now) }
 {
-    let text = choices_text(alloc, choices)?;
-    out.write_all(text.as_slice()).map_err(of_write)
+    match (words.record, played) {
+        (Some(path), Ok(played)) => {
+            let text = choices_text(alloc, played.choices.as_slice())?;
+            Ok(Some(Page { path, text }))
+        }
+        _ => Ok(None),
+    }
 }

@@ -6,6 +6,8 @@ mod choosing_networks;
 #[cfg(test)]
 mod crews;
 #[cfg(test)]
+mod cut;
+#[cfg(test)]
 mod drawn;
 #[cfg(test)]
 mod first_programs;

@@ -1,12 +1,17 @@
 //! Runs in which a growth may be refused, for `rt try --test --fail-alloc N`: they pass for every N.
+use crate::networks::{MERGE, PIPELINE, TAGS};
 use occ_check::CheckFault;
 use occ_code::CodeFault;
-use occ_play::{Counted, Plan, PlayFault, play, status_of};
+use occ_play::{
+    Choice, Counted, FreeGate, Plan, PlayFault, Played, RunFault, play, play_workers, status_of,
+};
 use occ_text::TextFault;
 use occ_tree_grammar::ParseFault;
 use occ_usage::UsageFault;
-use std::alloc::Global;
+use std::alloc::{AllocError, Global};
 use std::process::Abort;
+use std::sync::Wait;
+use std::thread::Threads;
 
 fn is_memory(fault: &PlayFault) -> bool {
     matches!(
@@ -17,31 +22,114 @@ fn is_memory(fault: &PlayFault) -> bool {
             | PlayFault::Check(CheckFault::Memory)
             | PlayFault::Usage(UsageFault::Memory)
             | PlayFault::Code(CodeFault::Memory)
+            | PlayFault::Run(RunFault::Memory)
+            | PlayFault::Run(RunFault::Spawn)
     )
 }
 
-fn check_answer_or_memory(rt: &impl Abort, alloc: Global, source: &[u8], answer: &[u8]) {
-    let mut room = [0u8; 64];
-    let mut out = Counted::new(room.as_mut_slice());
-    let played = play(alloc, source, b"", &Plan::Turns(100), true, &mut out);
-    assert_eq!(rt; out.failures(), 0);
-    drop(out);
-    match &played {
-        Ok(_) => assert!(rt; room.starts_with(answer)),
+/// A source, and its answer with a trace, where each choice is 0 and 0.
+struct Row(&'static [u8], &'static [u8]);
+
+static ROWS: [Row; 7] = [
+    Row(
+        b"PROC main (CHAN OF BYTE keyboard, screen)\n  screen ! 'A'\n:\n",
+        b"A\n1 c1 screen p0>screen 65\nended\n",
+    ),
+    Row(
+        PIPELINE,
+        b"4\n1 c3 c[0] p1>p3 1\n2 c4 c[1] p3>p4 2\n3 c5 c[2] p4>p5 3\n4 c6 c[3] p5>p6 4\n5 c1 screen p6>screen 52\nended\n",
+    ),
+    Row(MERGE, b"3\n1 c1 screen p0>screen 51\nended\n"),
+    Row(
+        b"PROC main (CHAN OF BYTE keyboard, screen)\n  CHAN OF INT a, b:\n  PAR\n    a ! 1\n    b ! 2\n    INT x:\n    SEQ\n      PRI ALT\n        a ? x\n          SKIP\n        b ? x\n          SKIP\n      screen ! BYTE (x + 48)\n:\n",
+        b"1\n1 c3 a p1>p3 1\n2 c1 screen p3>screen 49\nstopped\n",
+    ),
+    Row(
+        TAGS,
+        b"5\n1 c3 c p1>p2 data; 5\n2 c1 screen p2>screen 53\n3 c3 c p1>p2 quit\nstopped\n",
+    ),
+    Row(
+        b"PROC main (CHAN OF BYTE keyboard, screen)\n  CHAN OF INT::[]BYTE c:\n  [4]BYTE buf:\n  PAR\n    c ! 5::buf\n    INT n:\n    [4]BYTE got:\n    SEQ\n      got[0] := 'x'\n      c ? n::got\n      screen ! got[0]\n:\n",
+        b"fault RANGE line 5\n",
+    ),
+    Row(
+        b"PROC main (CHAN OF BYTE keyboard, screen)\n  SEQ\n    screen ! 'A'\n    SEQ\n      STOP\n:\n",
+        b"A\n1 c1 screen p0>screen 65\nstopped\n",
+    ),
+];
+
+/// The answer was written whole, and nothing after it; or memory ran out, and nothing was written.
+fn check_told(
+    rt: &impl Abort,
+    played: &Result<Played, PlayFault>,
+    room: &[u8; 256],
+    answer: &[u8],
+) {
+    match played {
+        Ok(_) => {
+            assert!(rt; room.starts_with(answer));
+            assert_eq!(rt; room[answer.len() % 256], 0);
+        }
         Err(fault) => {
             assert!(rt; is_memory(fault));
-            assert_eq!(rt; status_of(&played), 5);
-            assert_eq!(rt; room, [0u8; 64]);
+            assert_eq!(rt; status_of(played), 5);
+            assert_eq!(rt; room[0], 0);
         }
     }
 }
 
+fn zeros(alloc: Global) -> Result<Plan, AllocError> {
+    let mut choices = Vec::new(alloc);
+    for _choice in 0..20 {
+        choices.push(Choice { which: 0, pick: 0 })?;
+    }
+    Ok(Plan::Choices(choices))
+}
+
+fn check_row(rt: &impl Abort, alloc: Global, row: &Row, plan: &Plan) {
+    let mut room = [0u8; 256];
+    let mut out = Counted::new(room.as_mut_slice());
+    let played = play(alloc, row.0, b"", plan, true, &mut out);
+    assert_eq!(rt; out.failures(), 0);
+    drop(out);
+    check_told(rt, &played, &room, row.1);
+}
+
 #[test]
 fn answers_or_wants_memory(rt: HostRuntime) {
-    check_answer_or_memory(
-        &rt,
+    if let Ok(plan) = zeros(rt.alloc()) {
+        for row in &ROWS {
+            check_row(&rt, rt.alloc(), row, &plan);
+        }
+    }
+}
+
+/// Two threads answer so too.
+fn check_workers<R: Threads + Wait + Abort + Sync + AllocGlobal>(
+    rt: &R,
+    source: &[u8],
+    answer: &[u8],
+) {
+    let mut room = [0u8; 256];
+    let mut out = Counted::new(room.as_mut_slice());
+    let played = play_workers(
+        rt,
         rt.alloc(),
-        b"PROC main (CHAN OF BYTE keyboard, screen)\n  SEQ\n    screen ! 'A'\n    SEQ\n      STOP\n:\n",
-        b"A\n1 c1 screen p0>screen 65\nstopped\n\0",
+        source,
+        b"",
+        2,
+        100,
+        false,
+        &FreeGate,
+        &mut out,
     );
+    assert_eq!(rt; out.failures(), 0);
+    drop(out);
+    check_told(rt, &played, &room, answer);
+}
+
+#[test]
+fn workers_answer_or_want_memory(rt: HostRuntime) {
+    check_workers(&rt, ROWS[0].0, b"A");
+    check_workers(&rt, PIPELINE, b"4");
 }

@@ -6,8 +6,11 @@ use std::test::Fail;
 pub(crate) const PIPELINE: &[u8] =
     b"PROC main (CHAN OF BYTE keyboard, screen)\n  [4]CHAN OF INT c:\n  PAR\n    c[0] ! 1\n    PAR i = 0 FOR 3\n      INT x:\n      SEQ\n        c[i] ? x\n        c[i + 1] ! x + 1\n    INT y:\n    SEQ\n      c[3] ? y\n      screen ! BYTE (y + 48)\n:\n";
 
-const MERGE: &[u8] =
+pub(crate) const MERGE: &[u8] =
     b"PROC main (CHAN OF BYTE keyboard, screen)\n  [2]INT a:\n  INT n:\n  SEQ\n    n := 0\n    WHILE n < 2\n      SEQ\n        PAR\n          a[0] := a[0] + 1\n          a[1] := a[1] + n\n        n := n + 1\n    screen ! BYTE ((a[0] + a[1]) + 48)\n:\n";
+
+pub(crate) const TAGS: &[u8] =
+    b"PROTOCOL msg\n  CASE\n    data; INT\n    quit\n:\nPROC main (CHAN OF BYTE keyboard, screen)\n  CHAN OF msg c:\n  PAR\n    SEQ\n      c ! data; 5\n      c ! quit\n    INT x:\n    SEQ\n      c ? CASE data; x\n      screen ! BYTE (x + 48)\n      c ? CASE data; x\n:\n";
 
 const LOOP_BESIDE: &[u8] =
     b"PROC main (CHAN OF BYTE keyboard, screen)\n  PAR\n    SEQ i = 0 FOR 1\n      SKIP\n    screen ! 'a'\n:\n";
@@ -93,7 +96,7 @@ static NETWORKS: [Row; 14] = [
     },
     // a tag that is not listed: its output completes, and the process that took it stops
     Row {
-        source: b"PROTOCOL msg\n  CASE\n    data; INT\n    quit\n:\nPROC main (CHAN OF BYTE keyboard, screen)\n  CHAN OF msg c:\n  PAR\n    SEQ\n      c ! data; 5\n      c ! quit\n    INT x:\n    SEQ\n      c ? CASE data; x\n      screen ! BYTE (x + 48)\n      c ? CASE data; x\n:\n",
+        source: TAGS,
         keyboard: b"",
         plan: Given::Zeros(8),
         trace: true,

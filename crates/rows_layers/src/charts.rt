@@ -1,5 +1,5 @@
 //! The picture of a trace.
-use crate::unfolded::fixed_channels;
+use crate::unfolded::{channel_of_bytes, fixed_channels};
 use occ_net_replay::Ending;
 use occ_net_trace::{End, Trace};
 use occ_shown::chart;
@@ -36,5 +36,24 @@ fn traces_are_drawn(rt: HostRuntime) -> Result<(), Fail> {
     trace.push(0, End::Keyboard, End::Process(0), &byte(10))?;
     let drawn = chart(alloc, &trace, channels.as_slice(), Ending::Ended, 1)?;
     assert_eq!(rt; drawn.as_slice(), CHART.as_bytes());
+    Ok(())
+}
+
+/// A name with what marks XML in it, and with bytes that are no printed ASCII.
+const MARKED: &[u8] = b"a<b>&\"c\"\x00\xff";
+
+#[test]
+fn marks_are_escaped(rt: HostRuntime) -> Result<(), Fail> {
+    let alloc = rt.alloc();
+    let mut channels = Vec::new(alloc);
+    channels.push(channel_of_bytes(alloc, MARKED)?)?;
+    let mut trace = Trace::new(alloc);
+    trace.push(0, End::Keyboard, End::Process(0), &byte(10))?;
+    let drawn = chart(alloc, &trace, channels.as_slice(), Ending::Ended, 1)?;
+    let text = String::from_utf8_lossy(alloc, drawn.as_slice())?;
+    assert!(rt;
+        text.as_str()
+            .contains(">a&lt;b&gt;&amp;&quot;c&quot;?? 10</text>")
+    );
     Ok(())
 }

@@ -10,9 +10,13 @@ mod command_line;
 #[cfg(test)]
 mod contents;
 #[cfg(test)]
+mod inputs;
+#[cfg(test)]
 mod layers;
 #[cfg(test)]
 mod lexing;
+#[cfg(test)]
+mod paths;
 #[cfg(test)]
 mod same;
 #[cfg(test)]

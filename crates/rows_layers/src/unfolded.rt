@@ -96,7 +96,7 @@ pub fn fixed_channels(alloc: Global) -> Result<Vec<Channel>, AllocError>
     Ok(channels)
 }
 
-fn channel_of_bytes(alloc: Global, name: &[u8]) -> Result<Channel, AllocError>
+pub(crate) fn channel_of_bytes(alloc: Global, name: &[u8]) -> Result<Channel, AllocError>
     ensures { IfOk result (λ channel. channel ≡ byte_channel name.now) }
 {
     Ok(Channel {

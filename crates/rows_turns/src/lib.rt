@@ -15,6 +15,8 @@ mod runs;
 #[cfg(test)]
 mod same;
 #[cfg(test)]
+mod told;
+#[cfg(test)]
 mod turned;
 #[cfg(test)]
 mod turns;

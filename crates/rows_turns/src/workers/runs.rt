@@ -31,10 +31,11 @@ fn workers_play_within_their_limit(rt: HostRuntime) -> Result<(), Fail> {
     Ok(())
 }
 
-/// A gate that refuses the third turn, as if memory had run out.
+/// A gate that refuses the turn with this number, from 0, as if memory had run out.
 #[derive(Drop)]
 struct Refusing {
     runs: AtomicU64,
+    refused: u64,
 }
 
 impl Gate for Refusing {
@@ -44,23 +45,32 @@ impl Gate for Refusing {
         body: Arc<Body, Global>,
         before: Task,
     ) -> Result<Segment, (Task, AllocError)> {
-        if self.runs.fetch_add(1, Ordering::SeqCst) == 2 {
+        if self.runs.fetch_add(1, Ordering::SeqCst) == self.refused {
             return Err((before, AllocError));
         }
         turn(alloc, body, before)
     }
 }
 
+/// The run of a source of six turns ends for want of memory where one of them is refused, and only there.
 #[test]
 fn a_refused_turn_ends_the_run(rt: HostRuntime) -> Result<(), Fail> {
     let Some(code) = code_of(rt.alloc(), FOUR) else {
         assert!(rt; false, "no code");
         return Ok(());
     };
-    let gate = Refusing {
-        runs: AtomicU64::new(0),
-    };
-    let refused = run_workers(&rt, rt.alloc(), &code, b"", 4, 100, &gate).err();
-    assert_eq!(rt; refused, Some(RunFault::Memory));
+    for refused in 0..7u64 {
+        let gate = Refusing {
+            runs: AtomicU64::new(0),
+            refused,
+        };
+        let wanted = if refused < 6 {
+            Some(RunFault::Memory)
+        } else {
+            None
+        };
+        let met = run_workers(&rt, rt.alloc(), &code, b"", 4, 100, &gate).err();
+        assert_eq!(rt; met, wanted);
+    }
     Ok(())
 }

@@ -1,0 +1,12 @@
+//! Input that is read whole or not at all: [`read_input`] reads by a [`CountedReader`], which counts the reads that
+//! fail, and an [`InputFault`] says why it has no bytes to give. And files that are written so: [`save`] leaves what
+//! stood in a file's place where it can't write all of the new text.
+#![tactic(auto)]
+
+pub mod fault;
+pub mod reader;
+pub mod saving;
+
+pub use fault::InputFault;
+pub use reader::{CountedReader, read_input};
+pub use saving::{are_one_file, save};

@@ -1,0 +1,13 @@
+-- Which paths of the words may be one.
+-- Manual: nothing; this is (own).
+use Rattle.std.specs.Prelude.{List, Option, Some, ℕ, ◌≡◌}
+use Rattle.std.specs.Borrow.{Bor}
+
+-- they do not both name one path
+abbrev pub Differ : Option (Bor (List ℕ)) → Option (Bor (List ℕ)) → Type 0
+Differ one other = (a b : Bor (List ℕ)) → one ≡ Some a → other ≡ Some b → a.now ≡ b.now → ⊥
+
+-- what is written is not what is read, and each has a file of its own
+abbrev pub AreApart : (file choices written drawn : Option (Bor (List ℕ))) → Type 0
+AreApart file choices written drawn =
+    Differ written file × Differ written choices × Differ drawn file × Differ drawn choices × Differ drawn written

@@ -1,0 +1,52 @@
+//! That a file which is written is none that is read, and not the other one.
+ghost use Rattle.std.specs.Prelude.{IsTrue};
+ghost use Rattle.occ_play_inputs.specs.Paths.{AreApart, Differ};
+
+use crate::failure::Failure;
+use crate::words::Words;
+use occ_files::are_one_file;
+use std::rt::Files;
+
+/// Whether two words do not name one path.
+fn differ(one: Option<&str>, other: Option<&str>) -> bool
+    ensures { IsTrue result → Differ one.entry other.entry }
+{
+    match (one, other) {
+        (Some(one), Some(other)) => one != other,
+        _ => true,
+    }
+}
+
+/// Whether the paths of the record and of the chart are not those of the source and of the choices, and differ.
+pub(crate) fn are_apart(
+    file: Option<&str>,
+    choices: Option<&str>,
+    recorded: Option<&str>,
+    drawn: Option<&str>,
+) -> bool
+    ensures { IsTrue result → AreApart file.entry choices.entry recorded.entry drawn.entry }
+{
+    differ(recorded, file)
+        && differ(recorded, choices)
+        && differ(drawn, file)
+        && differ(drawn, choices)
+        && differ(drawn, recorded)
+}
+
+/// Whether both words name one plain file that there is, by whatever path.
+fn name_one<R: Files>(rt: &R, one: Option<&str>, other: Option<&str>) -> bool {
+    match (one, other) {
+        (Some(one), Some(other)) => are_one_file(rt, one, other),
+        _ => false,
+    }
+}
+
+/// Refuses to write into a file that is read, or to write two texts into one file, by whatever paths.
+pub(crate) fn check_files<R: Files>(rt: &R, words: &Words<'_>) -> Result<(), Failure> {
+    let met = name_one(rt, words.record, words.file)
+        || name_one(rt, words.record, words.choices)
+        || name_one(rt, words.chart, words.file)
+        || name_one(rt, words.chart, words.choices)
+        || name_one(rt, words.chart, words.record);
+    if met { Err(Failure::Paths) } else { Ok(()) }
+}

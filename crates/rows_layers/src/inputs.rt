@@ -1,0 +1,215 @@
+//! Readers that give a byte at a time, that fail, and that are interrupted.
+use occ_files::{CountedReader, InputFault, read_input};
+use std::alloc::Global;
+use std::io;
+use std::io::{ErrorKind, Read};
+use std::process::Abort;
+
+const TEXT: &[u8] = b"abcdef";
+
+/// Gives a byte a read. The read with the one number fails, and each second one, from the first on, may be interrupted.
+#[derive(Drop)]
+struct Halting {
+    rest: &'static [u8],
+    reads: u32,
+    fails_at: u32,
+    is_interrupted: bool,
+}
+
+impl Read for Halting {
+    fn read(&mut self, bytes: &mut [u8]) -> io::Result<usize> {
+        let number = self.reads;
+        self.reads = number.wrapping_add(1);
+        if number == self.fails_at {
+            return Err(io::Error::from(ErrorKind::Other));
+        }
+        if self.is_interrupted && number % 2 == 0 {
+            return Err(io::Error::from(ErrorKind::Interrupted));
+        }
+        if bytes.is_empty() || self.rest.is_empty() {
+            return Ok(0);
+        }
+        bytes[0] = self.rest[0];
+        self.rest = &self.rest[1..];
+        Ok(1)
+    }
+}
+
+const NEVER: u32 = 1_000;
+
+/// What a reader does, how much of it is asked for, and what comes of that: the bytes or the fault, how many reads failed,
+/// how many of these were interrupted, and what the reader has left.
+#[derive(Clone, Copy)]
+struct Row {
+    fails_at: u32,
+    is_interrupted: bool,
+    most: usize,
+    read: Result<&'static [u8], InputFault>,
+    failures: u64,
+    interruptions: u64,
+    rest: &'static [u8],
+}
+
+static ROWS: [Row; 9] = [
+    Row {
+        fails_at: NEVER,
+        is_interrupted: false,
+        most: usize::MAX,
+        read: Ok(TEXT),
+        failures: 0,
+        interruptions: 0,
+        rest: b"",
+    },
+    // none are asked for
+    Row {
+        fails_at: 0,
+        is_interrupted: false,
+        most: 0,
+        read: Ok(b""),
+        failures: 0,
+        interruptions: 0,
+        rest: TEXT,
+    },
+    // one fewer than there are, as many, and one more
+    Row {
+        fails_at: NEVER,
+        is_interrupted: false,
+        most: 5,
+        read: Ok(b"abcde"),
+        failures: 0,
+        interruptions: 0,
+        rest: b"f",
+    },
+    Row {
+        fails_at: 6,
+        is_interrupted: false,
+        most: 6,
+        read: Ok(TEXT),
+        failures: 0,
+        interruptions: 0,
+        rest: b"",
+    },
+    Row {
+        fails_at: NEVER,
+        is_interrupted: false,
+        most: 7,
+        read: Ok(TEXT),
+        failures: 0,
+        interruptions: 0,
+        rest: b"",
+    },
+    // the end itself can't be read
+    Row {
+        fails_at: 6,
+        is_interrupted: false,
+        most: 7,
+        read: Err(InputFault::Read),
+        failures: 1,
+        interruptions: 0,
+        rest: b"",
+    },
+    // before each byte, and before the end, a read is interrupted
+    Row {
+        fails_at: NEVER,
+        is_interrupted: true,
+        most: usize::MAX,
+        read: Ok(TEXT),
+        failures: 7,
+        interruptions: 7,
+        rest: b"",
+    },
+    Row {
+        fails_at: 5,
+        is_interrupted: true,
+        most: usize::MAX,
+        read: Err(InputFault::Read),
+        failures: 4,
+        interruptions: 3,
+        rest: b"cdef",
+    },
+    Row {
+        fails_at: NEVER,
+        is_interrupted: true,
+        most: 2,
+        read: Ok(b"ab"),
+        failures: 2,
+        interruptions: 2,
+        rest: b"cdef",
+    },
+];
+
+fn check_read(
+    rt: &impl Abort,
+    read: Result<Vec<u8>, InputFault>,
+    wanted: Result<&'static [u8], InputFault>,
+) {
+    match (read, wanted) {
+        (Ok(bytes), Ok(text)) => assert_eq!(rt; bytes.as_slice(), text),
+        (Err(fault), Err(other)) => assert_eq!(rt; fault, other),
+        _ => assert!(rt; false, "another answer"),
+    }
+}
+
+fn check_row(rt: &impl Abort, alloc: Global, row: &Row) {
+    let mut halting = Halting {
+        rest: TEXT,
+        reads: 0,
+        fails_at: row.fails_at,
+        is_interrupted: row.is_interrupted,
+    };
+    let mut reader = CountedReader::new(&mut halting);
+    let read = read_input(alloc, &mut reader, row.most);
+    let (failures, interruptions) = (reader.failures(), reader.interruptions());
+    drop(reader);
+    check_read(rt, read, row.read);
+    assert_eq!(rt; failures, row.failures);
+    assert_eq!(rt; interruptions, row.interruptions);
+    assert_eq!(rt; halting.rest, row.rest);
+}
+
+#[test]
+fn inputs_are_read_whole(rt: HostRuntime) {
+    for row in &ROWS {
+        check_row(&rt, rt.alloc(), row);
+    }
+}
+
+/// Wherever a read fails, the input is refused, and what the reader has left is what it had then.
+#[test]
+fn each_failed_read_is_told(rt: HostRuntime) {
+    for k in 0..6usize {
+        let row = Row {
+            fails_at: k as u32,
+            is_interrupted: false,
+            most: usize::MAX,
+            read: Err(InputFault::Read),
+            failures: 1,
+            interruptions: 0,
+            rest: &TEXT[k..],
+        };
+        check_row(&rt, rt.alloc(), &row);
+    }
+}
+
+/// A source that has no end is read to one byte more than it may have.
+#[test]
+fn an_endless_source_is_cut(rt: HostRuntime) {
+    let mut reader = CountedReader::new(io::repeat(b' '));
+    let read = read_input(rt.alloc(), &mut reader, 1_048_577);
+    assert_eq!(rt; read.map(|bytes| bytes.len()), Ok(1_048_577));
+    assert_eq!(rt; reader.failures(), 0);
+}
+
+#[test]
+fn faults_of_reading_have_their_lines(rt: HostRuntime) -> Result<(), std::test::Fail> {
+    let alloc = rt.alloc();
+    assert_eq!(rt;
+        format!(in alloc; "{}", InputFault::Read)?.as_str(),
+        "read failed"
+    );
+    assert_eq!(rt;
+        format!(in alloc; "{}", InputFault::Memory)?.as_str(),
+        "memory"
+    );
+    Ok(())
+}
