@@ -1,4 +1,8 @@
-use Rattle.std.proofs.Common.{◌<◌, ◌^◌, length, refl, rules}
+use Rattle.std.proofs.Common.{◌∙◌, ◌<◌, ◌^◌, List, ap, length, map, refl, rules, sym}
+use Rattle.occ_term.specs.Runs.{shown_by}
+use Rattle.occ_term.specs.declared.names.Channel.{Channel}
+use Rattle.occ_net_tables.specs.Holding.{communication_of}
+use Rattle.occ_shown.specs.Answers.{names_of}
 use Rattle.occ_net_replay.specs.Following.{AreBytes}
 use Rattle.occ_play.proofs.Headline.{are_bytes, headline, outputs_are_bytes}
 use Rattle.occ_play.proofs.playing.told.Goals as goal
@@ -21,6 +25,8 @@ pub returns-clause-answer : goal.returns-clause-answer
 returns-clause-answer c = λ list is.
     let small : length c.args.outcome.choices.items < 2 ^ 64 = search rules in
     let keys : AreBytes c.args.keyboard.now = are_bytes c.args.keyboard.now (λ k. (c.type_inv.keyboard k).fits) in
+    let h =
     headline c.args.options.now c.args.source.now c.args.keyboard.now list c.args.trace c.args.code.now c.channels.result.now c.args.outcome _ _
     c.requires.code keys c.channels.ensures is small refl refl
-    c.in_ok-bytes.ensures
+    c.in_ok-bytes.ensures in
+    (h.0, ap (λ (cs : List Channel). shown_by (names_of cs) (map communication_of c.args.outcome.trace)) (sym c.channels.ensures) ∙ h.1)
