@@ -163,6 +163,112 @@ PROC main (CHAN OF BYTE keyboard, screen)
 :
 "#;
 
+const LIFE: &str =
+    r#"-- The game of life on a square whose borders meet: a glider, and what becomes of it in four generations. The board is an array
+-- of two dimensions; a row of it is an actual, and the next board is stored as a whole.
+--
+-- Keyboard: nothing
+-- Screen:
+--   .#....
+--   ..#...
+--   ###...
+--   ......
+--   ......
+--   ......
+--   ======
+--   ......
+--   #.#...
+--   .##...
+--   .#....
+--   ......
+--   ......
+--   ======
+--   ......
+--   ..#...
+--   #.#...
+--   .##...
+--   ......
+--   ......
+--   ======
+--   ......
+--   .#....
+--   ..##..
+--   .##...
+--   ......
+--   ......
+--   ======
+--   ......
+--   ..#...
+--   ...#..
+--   .###..
+--   ......
+--   ......
+--   ======
+-- Ends: ended
+
+VAL n IS 6:
+
+-- Prints a row.
+PROC line (VAL []BOOL row, CHAN OF BYTE out)
+  SEQ
+    SEQ j = 0 FOR SIZE row
+      IF
+        row[j]
+          out ! '#'
+        TRUE
+          out ! '.'
+    out ! '*n'
+:
+
+-- Prints the board, and a line behind it.
+PROC show (VAL [][n]BOOL board, CHAN OF BYTE out)
+  SEQ
+    SEQ i = 0 FOR SIZE board
+      line (board[i], out)
+    SEQ j = 0 FOR n
+      out ! '='
+    out ! '*n'
+:
+
+-- How many of the eight neighbours live.
+PROC neighbours (VAL [n][n]BOOL board, VAL INT i, j, INT count)
+  SEQ
+    count := 0
+    SEQ k = -1 FOR 3
+      SEQ l = -1 FOR 3
+        IF
+          ((k <> 0) OR (l <> 0)) AND board[((i + k) + n) \ n][((j + l) + n) \ n]
+            count := count + 1
+          TRUE
+            SKIP
+:
+
+-- One generation more.
+PROC step ([n][n]BOOL board)
+  [n][n]BOOL next:
+  INT count:
+  SEQ
+    SEQ i = 0 FOR n
+      SEQ j = 0 FOR n
+        SEQ
+          neighbours (board, i, j, count)
+          next[i][j] := (count = 3) OR (board[i][j] AND (count = 2))
+    board := next
+:
+
+PROC main (CHAN OF BYTE keyboard, screen)
+  [n][n]BOOL board:
+  SEQ
+    board[0][1], board[1][2] := TRUE, TRUE
+    board[2][0], board[2][1], board[2][2] := TRUE, TRUE, TRUE
+    show (board, screen)
+    SEQ generation = 0 FOR 4
+      SEQ
+        step (board)
+        show (board, screen)
+:
+"#;
+
 const QUEENS: &str =
     r#"-- Eight queens on a board, none of which attacks another: the first placing, by trying columns and going back. Printed is the
 -- column of the queen in each row.
@@ -407,6 +513,92 @@ PROC main (CHAN OF BYTE keyboard, screen)
       SEQ
         taken ? number
         screen ! BYTE (number + (INT '0'))
+:
+"#;
+
+const MATRIX: &str =
+    r#"-- Two matrices are multiplied by a square of processes. Each takes a number from the left and one from above, adds their
+-- product to its own component, and hands them on to the right and below. Channels stand in arrays of two dimensions.
+--
+-- Keyboard: nothing
+-- Screen:
+--   30 36 42
+--   66 81 96
+--   102 126 150
+-- Ends: ended
+
+VAL n IS 3:
+
+-- Prints a number from 0 to 999.
+PROC number (VAL INT x, CHAN OF BYTE out)
+  SEQ
+    IF
+      x > 99
+        out ! BYTE ((x / 100) + (INT '0'))
+      TRUE
+        SKIP
+    IF
+      x > 9
+        out ! BYTE (((x / 10) \ 10) + (INT '0'))
+      TRUE
+        SKIP
+    out ! BYTE ((x \ 10) + (INT '0'))
+:
+
+-- One component of the product.
+PROC component (CHAN OF INT left, right, above, below, INT sum)
+  INT x, y:
+  SEQ
+    sum := 0
+    SEQ k = 0 FOR n
+      SEQ
+        PAR
+          left ? x
+          above ? y
+        sum := sum + (x * y)
+        PAR
+          right ! x
+          below ! y
+:
+
+-- Takes what leaves the square.
+PROC sink (CHAN OF INT in)
+  SEQ k = 0 FOR n
+    INT x:
+    in ? x
+:
+
+PROC main (CHAN OF BYTE keyboard, screen)
+  [n][n]INT a, b, product:
+  [n][n + 1]CHAN OF INT across:
+  [n + 1][n]CHAN OF INT down:
+  SEQ
+    SEQ i = 0 FOR n
+      SEQ k = 0 FOR n
+        a[i][k], b[i][k] := ((i * n) + k) + 1, ((i * n) + k) + 1
+    PAR
+      PAR i = 0 FOR n
+        SEQ k = 0 FOR n
+          across[i][0] ! a[i][k]
+      PAR j = 0 FOR n
+        SEQ k = 0 FOR n
+          down[0][j] ! b[k][j]
+      PAR i = 0 FOR n
+        PAR j = 0 FOR n
+          component (across[i][j], across[i][j + 1], down[i][j], down[i + 1][j], product[i][j])
+      PAR i = 0 FOR n
+        PAR
+          sink (across[i][n])
+          sink (down[n][i])
+    SEQ i = 0 FOR n
+      SEQ j = 0 FOR n
+        SEQ
+          number (product[i][j], screen)
+          IF
+            (j + 1) = n
+              screen ! '*n'
+            TRUE
+              screen ! ' '
 :
 "#;
 
@@ -1333,7 +1525,7 @@ pub(crate) static IN_FIRST_STEPS: [Run; 4] = [
     },
 ];
 
-pub(crate) static IN_SEQUENCES: [Run; 4] = [
+pub(crate) static IN_SEQUENCES: [Run; 5] = [
     Run {
         source: CALCULATOR,
         title: "Screen",
@@ -1345,6 +1537,49 @@ pub(crate) static IN_SEQUENCES: [Run; 4] = [
         screen: r#"84
 -3
 -2147483648
+"#,
+        ending: "ended",
+    },
+    Run {
+        source: LIFE,
+        title: "Screen",
+        keyboard: "",
+        choices: "",
+        screen: r#".#....
+..#...
+###...
+......
+......
+......
+======
+......
+#.#...
+.##...
+.#....
+......
+......
+======
+......
+..#...
+#.#...
+.##...
+......
+......
+======
+......
+.#....
+..##..
+.##...
+......
+......
+======
+......
+..#...
+...#..
+.###..
+......
+......
+======
 "#,
         ending: "ended",
     },
@@ -1384,7 +1619,7 @@ pub(crate) static IN_SEQUENCES: [Run; 4] = [
     },
 ];
 
-pub(crate) static IN_PIPELINES: [Run; 6] = [
+pub(crate) static IN_PIPELINES: [Run; 7] = [
     Run {
         source: ADDER,
         title: "Screen",
@@ -1400,6 +1635,17 @@ pub(crate) static IN_PIPELINES: [Run; 6] = [
         choices: "",
         screen: "0112358\n",
         ending: "stopped",
+    },
+    Run {
+        source: MATRIX,
+        title: "Screen",
+        keyboard: "",
+        choices: "",
+        screen: r#"30 36 42
+66 81 96
+102 126 150
+"#,
+        ending: "ended",
     },
     Run {
         source: PIPELINE,
