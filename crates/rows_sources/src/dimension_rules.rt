@@ -92,7 +92,7 @@ fn beside(rt: HostRuntime) -> Result<(), Fail> {
 }
 
 /// What is refused, beside neighbours that are not.
-static REFUSED: [Row; 31] = [
+static REFUSED: [Row; 30] = [
     Row(
         "",
         "  [2][2]INT a:\n  a[0][2] := 1\n",
@@ -146,11 +146,6 @@ static REFUSED: [Row; 31] = [
         "refused 35 BadCount line 2",
     ),
     Row("", "  [1048577]INT a:\n  SKIP\n", "refused 43 TooLarge"),
-    Row(
-        "",
-        "  [1048576]BYTE a:\n  INT x:\n  SKIP\n",
-        "refused 43 TooLarge",
-    ),
     Row("", "  [2][524289]INT a:\n  SKIP\n", "refused 43 TooLarge"),
     Row(
         "",

@@ -29,7 +29,7 @@ pub(crate) fn check_rows(rt: &impl Abort, alloc: Global, rows: &[Row]) -> Result
 }
 
 /// Arrays of two to four sizes, and what they answer.
-static WHOLES: [Row; 17] = [
+static WHOLES: [Row; 13] = [
     Row(
         "",
         "  [2][3]INT a:\n  INT s:\n  SEQ\n    SEQ i = 0 FOR 2\n      SEQ j = 0 FOR 3\n        a[i][j] := (i * 3) + j\n    s := 0\n    SEQ j = 0 FOR SIZE a[1]\n      s := s + a[1][j]\n    screen ! BYTE (s + 48)\n",
@@ -41,14 +41,6 @@ static WHOLES: [Row; 17] = [
         "",
     ),
     Row("", "  [65537]INT a:\n  SKIP\n", ""),
-    Row("", "  [1023][1024]INT a:\n  SKIP\n", ""),
-    Row("", "  [1048576]BYTE a:\n  SKIP\n", ""),
-    Row("", "  [2][524288]INT a:\n  SKIP\n", ""),
-    Row(
-        "",
-        "  [16][256][256]BYTE a:\n  SEQ\n    a[15][255][255] := 'x'\n    screen ! a[15][255][255]\n",
-        "x",
-    ),
     Row(
         "",
         "  [2][3][2][2]INT a:\n  INT n:\n  SEQ\n    n := 0\n    SEQ i = 0 FOR SIZE a\n      SEQ j = 0 FOR SIZE a[i]\n        SEQ k = 0 FOR SIZE a[i][j]\n          SEQ l = 0 FOR SIZE a[i][j][k]\n            SEQ\n              a[i][j][k][l] := n\n              n := n + 1\n    screen ! BYTE (a[1][0][0][0] + 48)\n    screen ! BYTE (a[0][1][0][0] + 48)\n    screen ! BYTE (a[0][0][1][0] + 48)\n    screen ! BYTE (a[0][0][0][1] + 48)\n    screen ! BYTE (a[1][2][1][1] + 48)\n",
@@ -213,6 +205,26 @@ fn formals(rt: HostRuntime) -> Result<(), Fail> {
     check_rows(&rt, rt.alloc(), &FORMALS)
 }
 
+/// Arrays of a million cells, and one cell more.
+static MILLIONS: [Row; 3] = [
+    Row("", "  [1024][1024]INT a:\n  SKIP\n", ""),
+    Row(
+        "",
+        "  [16][256][256]BYTE a:\n  SEQ\n    a[15][255][255] := 'x'\n    screen ! a[15][255][255]\n",
+        "x",
+    ),
+    Row(
+        "",
+        "  [1048576]BYTE a:\n  INT x:\n  SKIP\n",
+        "refused 43 TooLarge",
+    ),
+];
+
+#[test]
+fn millions(rt: HostRuntime) -> Result<(), Fail> {
+    check_rows(&rt, rt.alloc(), &MILLIONS)
+}
+
 /// Lists of targets, and the order in which subscripts are reckoned.
 static LISTS: [Row; 11] = [
     Row(
@@ -318,20 +330,22 @@ fn messages(rt: HostRuntime) -> Result<(), Fail> {
     check_rows(&rt, rt.alloc(), &MESSAGES)
 }
 
-/// Fills an array of a million components by two subscripts, and counts those that are odd. Its own variables are cells too.
+/// Fills an array of a million components row by row, and adds up its first and its last column.
 const FILLED: &str = "PROC main (CHAN OF BYTE keyboard, screen)
   [1023][1024]INT a:
-  INT odd:
+  INT sum:
   SEQ
+    SEQ j = 0 FOR SIZE a[0]
+      a[0][j] := j
+    SEQ i = 1 FOR 1022
+      SEQ
+        a[i] := a[i - 1]
+        a[i][0] := i
+    sum := 0
     SEQ i = 0 FOR SIZE a
-      SEQ j = 0 FOR SIZE a[i]
-        a[i][j] := i + j
-    odd := 0
-    SEQ i = 0 FOR SIZE a
-      SEQ j = 0 FOR SIZE a[i]
-        odd := odd + (a[i][j] /\\ 1)
+      sum := (sum + a[i][0]) + a[i][1023]
     IF
-      odd = 523776
+      sum = 1569282
         screen ! 'y'
 :
 ";
