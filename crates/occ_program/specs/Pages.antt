@@ -1,6 +1,6 @@
 -- Which files a run leaves.
 -- Manual: nothing; this is (own).
-use Rattle.std.specs.Prelude.{List, Some, None, Ok, Err, Option, Result, ℕ, ⊥, ◌≡◌}
+use Rattle.std.specs.Prelude.{List, Some, None, Ok, Err, Option, Result, ℕ, ◌≡◌}
 use Rattle.std.specs.Borrow.{Bor}
 use Rattle.occ_choices.specs.Lines.{choice_text}
 use Rattle.occ_play.specs.declared.playing.Options.{Options}

@@ -46,7 +46,7 @@ fn drawn<'a>(
             Ok(text) => Ok(Ok(Some(Page { path, text }))),
             Err(fault) => Ok(Err(fault)),
         },
-        _ => Ok(Ok(None)),
+        (Some(_), Err(_)) | (None, _) => Ok(Ok(None)),
     }
 }
 

@@ -34,6 +34,6 @@ fn recorded<'a>(
             let text = choices_text(alloc, played.choices.as_slice())?;
             Ok(Some(Page { path, text }))
         }
-        _ => Ok(None),
+        (Some(_), Err(_)) | (None, _) => Ok(None),
     }
 }
