@@ -1,12 +1,13 @@
 //! Plays a program while a thread of its own looks at its communications.
 ghost use Rattle.std.specs.Prelude.{◌≡◌, ◌<◌, ◌-◌, ◌^◌, IfSome, Some, false};
 ghost use Rattle.occ_choices.specs.Plans.{choices_of};
-ghost use Rattle.occ_program.specs.Coming.{CameToBy};
+ghost use Rattle.occ_program.specs.Coming.{CameTo, CameToBy};
+ghost use Rattle.occ_play.specs.Working.{IsAnswerWithin, WorkersRefuse};
 ghost use Rattle.occ_shown.specs.Counting.{failures_of};
 
 use crate::program::options_of;
 use occ_play::{
-    Board, FreeGate, Naming, Opened, PlayFault, Played, Publisher, Watcher, play_watched,
+    Board, FreeGate, Naming, Opened, Options, PlayFault, Played, Publisher, Watcher, play_watched,
     watch_lines,
 };
 use occ_play_inputs::{Inputs, Words};
@@ -92,7 +93,7 @@ fn look_on<J: Naming>(watcher: Watcher<J>) -> Watcher<J> {
     watcher
 }
 
-/// Plays the source with the publisher that is there, and puts it back where there is an answer.
+/// Plays the inputs' source with the publisher that is there, and puts it back where there is an answer.
 fn play_from<J: Naming, R: Threads + Wait + Sync, W: Write>(
     rt: &R,
     alloc: Global,
@@ -106,11 +107,8 @@ fn play_from<J: Naming, R: Threads + Wait + Sync, W: Write>(
     requires room { failures_of out.old < 2 ^ 64 - 1 }
     ensures { CameToBy (Some workers) words.now inputs.now.source.items inputs.now.keyboard.items (choices_of inputs.now.plan) result }
 {
-    let Some(publisher) = slot.take() else {
-        return Err(PlayFault::Memory(AllocError));
-    };
     let (limit, trace) = (words.limit, words.trace);
-    match play_watched(
+    play_slot(
         rt,
         &options_of(words),
         alloc,
@@ -119,9 +117,33 @@ fn play_from<J: Naming, R: Threads + Wait + Sync, W: Write>(
         workers,
         limit,
         trace,
-        &FreeGate,
+        slot,
         out,
-        publisher,
+    )
+}
+
+/// Plays a source with the publisher that is there, and puts it back where there is an answer.
+fn play_slot<J: Naming, R: Threads + Wait + Sync, W: Write>(
+    rt: &R,
+    options: &Options,
+    alloc: Global,
+    source: &[u8],
+    keyboard: &[u8],
+    workers: u32,
+    limit: u32,
+    trace: bool,
+    slot: &mut Option<Publisher<J>>,
+    out: &mut Counted<W>,
+) -> Result<Played, PlayFault>
+    requires going { IfSome slot.old (λ p. p.closed ≡ false) }
+    requires room { failures_of out.old < 2 ^ 64 - 1 }
+    ensures { CameTo (IsAnswerWithin options.now source.now keyboard.now limit trace) (WorkersRefuse workers options.now source.now) result }
+{
+    let Some(publisher) = slot.take() else {
+        return Err(PlayFault::Memory(AllocError));
+    };
+    match play_watched(
+        rt, options, alloc, source, keyboard, workers, limit, trace, &FreeGate, out, publisher,
     ) {
         Ok((played, publisher, _note)) => {
             put_back(rt, slot, publisher);
@@ -147,14 +169,18 @@ fn tell_last<J: Naming, R: Eprint + Wait>(
     watcher: Watcher<J>,
 ) {
     let (publisher, note) = publisher.note();
-    let lines = match watcher.told(&note).look(|list| watch_lines(alloc, list)) {
-        Ok((_, lines)) => lines.ok(),
-        Err(_) => None,
-    };
+    let told = watcher.told(&note);
+    let lines = lines_of(alloc, told);
     publisher.end(rt);
     if let Some(lines) = lines {
         print_lines(rt, lines.as_slice());
     }
+}
+
+/// The lines of what a watcher is shown, where it is shown anything.
+fn lines_of<J: Naming>(alloc: Global, watcher: Watcher<J>) -> Option<Vec<u8>> {
+    let (_watcher, lines) = watcher.look(|list| watch_lines(alloc, list)).ok()?;
+    lines.ok()
 }
 
 /// Prints lines to standard error.

@@ -83,11 +83,12 @@ pub(crate) fn lines_told<J: Naming>(
     watcher: Watcher<J>,
     note: &Note<J>,
 ) -> Option<Vec<u8>> {
-    let told = watcher.told(note).told(note);
-    match told.look(|list| watch_lines(alloc, list)) {
-        Ok((_, lines)) => lines.ok(),
-        Err(_) => None,
-    }
+    let (_watcher, lines) = watcher
+        .told(note)
+        .told(note)
+        .look(|list| watch_lines(alloc, list))
+        .ok()?;
+    lines.ok()
 }
 
 /// The lines of what is shown when a run of this code is over.
