@@ -141,7 +141,9 @@ fn play_slot<J: Naming, R: Threads + Wait + Sync, W: Write>(
     requires room { failures_of out.old < 2 ^ 64 - 1 }
     ensures { IfSome result (CameTo (IsAnswerWithin options.now source.now keyboard.now limit trace) (WorkersRefuse workers options.now source.now)) }
 {
-    let publisher = slot.take()?;
+    let Some(publisher) = slot.take() else {
+        return None;
+    };
     match play_watched(
         rt, options, alloc, source, keyboard, workers, limit, trace, &FreeGate, out, publisher,
     ) {
