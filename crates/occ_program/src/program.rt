@@ -72,7 +72,7 @@ fn run_words<R: Files + Input + Print + Eprint + Threads + Wait + Sync>(
 {
     let inputs = read_inputs(rt, alloc, words)?;
     let mut out = Counted::new(io::writer(rt));
-    let played = play_inputs(rt, alloc, words, &inputs, &mut out);
+    let played = play_inputs(rt, alloc, words, &inputs, &mut out)?;
     record(rt, alloc, words, &played)?;
     let drawn = draw(rt, alloc, words, &inputs, &played)?;
     Ok(told(rt, &drawn.and(played)))
@@ -137,12 +137,12 @@ fn play_inputs<R: Eprint + Threads + Wait + Sync, W: Write>(
     words: &Words<'_>,
     inputs: &Inputs,
     out: &mut Counted<W>,
-) -> Result<Played, PlayFault>
+) -> Result<Result<Played, PlayFault>, Failure>
     requires room { failures_of out.old < 2 ^ 64 - 1 }
-    ensures { CameToBy (workers_asked words.now.watch words.now.workers words.now.choices) words.now inputs.now.source.items inputs.now.keyboard.items (choices_of inputs.now.plan) result }
+    ensures { IfOk result (CameToBy (workers_asked words.now.watch words.now.workers words.now.choices) words.now inputs.now.source.items inputs.now.keyboard.items (choices_of inputs.now.plan)) }
 {
     match workers_of(words) {
-        None => play_plan(alloc, words, inputs, out),
+        None => Ok(play_plan(alloc, words, inputs, out)),
         Some(workers) if words.watch => play_watching::<Brand, R, W>(
             rt,
             alloc,
@@ -152,7 +152,7 @@ fn play_inputs<R: Eprint + Threads + Wait + Sync, W: Write>(
             workers,
             out,
         ),
-        Some(workers) => play_by(rt, alloc, words, inputs, workers, out),
+        Some(workers) => Ok(play_by(rt, alloc, words, inputs, workers, out)),
     }
 }
 

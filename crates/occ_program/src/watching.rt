@@ -1,5 +1,5 @@
 //! Plays a program while a thread of its own looks at its communications.
-ghost use Rattle.std.specs.Prelude.{◌≡◌, ◌<◌, ◌-◌, ◌^◌, IfSome, Some, false};
+ghost use Rattle.std.specs.Prelude.{◌≡◌, ◌<◌, ◌-◌, ◌^◌, IfOk, IfSome, Some, false};
 ghost use Rattle.occ_choices.specs.Plans.{choices_of};
 ghost use Rattle.occ_program.specs.Coming.{CameTo, CameToBy};
 ghost use Rattle.occ_play.specs.Working.{IsAnswerWithin, WorkersRefuse};
@@ -10,9 +10,9 @@ use occ_play::{
     Board, FreeGate, Naming, Opened, Options, PlayFault, Played, Publisher, Watcher, play_watched,
     watch_lines,
 };
-use occ_play_inputs::{Inputs, Words};
+use occ_play_inputs::{Failure, Inputs, Words};
 use occ_shown::Counted;
-use std::alloc::{AllocError, Global};
+use std::alloc::Global;
 use std::io::Write;
 use std::sync::Wait;
 use std::thread::{Threads, join};
@@ -21,7 +21,7 @@ use std::thread::{Threads, join};
 const LOOKS: u32 = 1_000_000;
 
 /// Plays the source by so many workers beside a thread that looks at the board. When the run is over, the lines of what that
-/// thread's watcher is then shown go to standard error; they are none where it is shown nothing.
+/// thread's watcher is then shown go to standard error; they are none where it is shown nothing. A board that is refused is want of memory.
 pub(crate) fn play_watching<J: Naming + Send + Sync, R: Eprint + Threads + Wait + Sync, W: Write>(
     rt: &R,
     alloc: Global,
@@ -30,10 +30,10 @@ pub(crate) fn play_watching<J: Naming + Send + Sync, R: Eprint + Threads + Wait 
     inputs: &Inputs,
     workers: u32,
     out: &mut Counted<W>,
-) -> Result<Played, PlayFault>
+) -> Result<Result<Played, PlayFault>, Failure>
     requires book { opened ≡ J.book }
     requires room { failures_of out.old < 2 ^ 64 - 1 }
-    ensures { CameToBy (Some workers) words.now inputs.now.source.items inputs.now.keyboard.items (choices_of inputs.now.plan) result }
+    ensures { IfOk result (CameToBy (Some workers) words.now inputs.now.source.items inputs.now.keyboard.items (choices_of inputs.now.plan)) }
 {
     match Board::new::<J>(opened, alloc, 1) {
         Ok((publisher, mut watchers)) => match watchers.pop() {
@@ -42,10 +42,10 @@ pub(crate) fn play_watching<J: Naming + Send + Sync, R: Eprint + Threads + Wait 
             ),
             None => {
                 publisher.end(rt);
-                Err(PlayFault::Memory(AllocError))
+                Err(Failure::Memory)
             }
         },
-        Err(_) => Err(PlayFault::Memory(AllocError)),
+        Err(_) => Err(Failure::Memory),
     }
 }
 
@@ -59,26 +59,26 @@ fn play_beside<J: Naming + Send + Sync, R: Eprint + Threads + Wait + Sync, W: Wr
     publisher: Publisher<J>,
     watcher: Watcher<J>,
     out: &mut Counted<W>,
-) -> Result<Played, PlayFault>
+) -> Result<Result<Played, PlayFault>, Failure>
     requires going { publisher.closed ≡ false }
     requires room { failures_of out.old < 2 ^ 64 - 1 }
-    ensures { CameToBy (Some workers) words.now inputs.now.source.items inputs.now.keyboard.items (choices_of inputs.now.plan) result }
+    ensures { IfOk result (CameToBy (Some workers) words.now inputs.now.source.items inputs.now.keyboard.items (choices_of inputs.now.plan)) }
 {
     let mut slot = Some(publisher);
     let lent = &mut slot;
     let (watcher, played) = join(
         rt,
         || look_on(watcher),
-        || -> Result<Played, PlayFault>
+        || -> Option<Result<Played, PlayFault>>
             requires going { IfSome lent.now (λ p. p.closed ≡ false) }
             requires room { failures_of out.now < 2 ^ 64 - 1 }
-            ensures { CameToBy (Some workers) words.entry.now inputs.entry.now.source.items inputs.entry.now.keyboard.items (choices_of inputs.entry.now.plan) result }
+            ensures { IfSome result (CameToBy (Some workers) words.entry.now inputs.entry.now.source.items inputs.entry.now.keyboard.items (choices_of inputs.entry.now.plan)) }
         { play_from(rt, alloc, words, inputs, workers, lent, out) },
     );
     if let Some(publisher) = slot {
         tell_last(rt, alloc, publisher, watcher);
     }
-    played
+    played.ok_or(Failure::Memory)
 }
 
 /// Looks at the board so often.
@@ -93,7 +93,8 @@ fn look_on<J: Naming>(watcher: Watcher<J>) -> Watcher<J> {
     watcher
 }
 
-/// Plays the inputs' source with the publisher that is there, and puts it back where there is an answer.
+/// Plays the inputs' source with the publisher that is there, and puts it back where there is an answer; none without a
+/// publisher.
 fn play_from<J: Naming, R: Threads + Wait + Sync, W: Write>(
     rt: &R,
     alloc: Global,
@@ -102,10 +103,10 @@ fn play_from<J: Naming, R: Threads + Wait + Sync, W: Write>(
     workers: u32,
     slot: &mut Option<Publisher<J>>,
     out: &mut Counted<W>,
-) -> Result<Played, PlayFault>
+) -> Option<Result<Played, PlayFault>>
     requires going { IfSome slot.old (λ p. p.closed ≡ false) }
     requires room { failures_of out.old < 2 ^ 64 - 1 }
-    ensures { CameToBy (Some workers) words.now inputs.now.source.items inputs.now.keyboard.items (choices_of inputs.now.plan) result }
+    ensures { IfSome result (CameToBy (Some workers) words.now inputs.now.source.items inputs.now.keyboard.items (choices_of inputs.now.plan)) }
 {
     let (limit, trace) = (words.limit, words.trace);
     play_slot(
@@ -122,7 +123,8 @@ fn play_from<J: Naming, R: Threads + Wait + Sync, W: Write>(
     )
 }
 
-/// Plays a source with the publisher that is there, and puts it back where there is an answer.
+/// Plays a source with the publisher that is there, and puts it back where there is an answer; none without a
+/// publisher.
 fn play_slot<J: Naming, R: Threads + Wait + Sync, W: Write>(
     rt: &R,
     options: &Options,
@@ -134,22 +136,22 @@ fn play_slot<J: Naming, R: Threads + Wait + Sync, W: Write>(
     trace: bool,
     slot: &mut Option<Publisher<J>>,
     out: &mut Counted<W>,
-) -> Result<Played, PlayFault>
+) -> Option<Result<Played, PlayFault>>
     requires going { IfSome slot.old (λ p. p.closed ≡ false) }
     requires room { failures_of out.old < 2 ^ 64 - 1 }
-    ensures { CameTo (IsAnswerWithin options.now source.now keyboard.now limit trace) (WorkersRefuse workers options.now source.now) result }
+    ensures { IfSome result (CameTo (IsAnswerWithin options.now source.now keyboard.now limit trace) (WorkersRefuse workers options.now source.now)) }
 {
     let Some(publisher) = slot.take() else {
-        return Err(PlayFault::Memory(AllocError));
+        return None;
     };
     match play_watched(
         rt, options, alloc, source, keyboard, workers, limit, trace, &FreeGate, out, publisher,
     ) {
         Ok((played, publisher, _note)) => {
             put_back(rt, slot, publisher);
-            Ok(played)
+            Some(Ok(played))
         }
-        Err(fault) => Err(fault),
+        Err(fault) => Some(Err(fault)),
     }
 }
 

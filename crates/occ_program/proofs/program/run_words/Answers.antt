@@ -9,7 +9,7 @@ returns-clause-came g c =
     let inputs = c.in_ok-inputs.inputs in
     let words = c.args.words.now in
     let workers = workers_asked words.watch words.workers words.choices in
-    let came = came_to_both workers words inputs.source.items inputs.keyboard.items (choices_of inputs.plan) c.in_ok-drawn.drawn c.play_inputs-played.result c.in_ok-drawn.ensures c.play_inputs-played.ensures in
+    let came = came_to_both workers words inputs.source.items inputs.keyboard.items (choices_of inputs.plan) c.in_ok-drawn.drawn c.in_ok-played.played c.in_ok-drawn.ensures c.in_ok-played.ensures in
     record {
       source = inputs.source.items;
       keyboard = inputs.keyboard.items;

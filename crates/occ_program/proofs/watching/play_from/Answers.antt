@@ -1,4 +1,4 @@
-use Rattle.std.proofs.Common.{subst}
+use Rattle.std.proofs.Common.{IfSome, subst}
 use Rattle.occ_play.specs.Working.{IsAnswerWithin, WorkersRefuse}
 use Rattle.occ_program.specs.Coming.{CameTo}
 use Rattle.occ_program.proofs.watching.play_from.Goals as goal
@@ -8,6 +8,6 @@ returns g c =
     let limit = c.args.words.now.limit in
     let trace = c.args.words.now.trace in
     let workers = c.args.workers in
-    let source = subst (λ xs. CameTo (IsAnswerWithin c.options_of.result xs c.as_slice-2.result.now limit trace) (WorkersRefuse workers c.options_of.result xs) c.play_slot.result) c.as_slice.ensures.value c.play_slot.ensures in
-    let keyboard = subst (λ ks. CameTo (IsAnswerWithin c.options_of.result c.args.inputs.now.source.items ks limit trace) (WorkersRefuse workers c.options_of.result c.args.inputs.now.source.items) c.play_slot.result) c.as_slice-2.ensures.value source in
-    subst (λ q. CameTo (IsAnswerWithin q c.args.inputs.now.source.items c.args.inputs.now.keyboard.items limit trace) (WorkersRefuse workers q c.args.inputs.now.source.items) c.play_slot.result) c.options_of.ensures keyboard
+    let source = subst (λ xs. IfSome c.play_slot.result (CameTo (IsAnswerWithin c.options_of.result xs c.as_slice-2.result.now limit trace) (WorkersRefuse workers c.options_of.result xs))) c.as_slice.ensures.value c.play_slot.ensures in
+    let keyboard = subst (λ ks. IfSome c.play_slot.result (CameTo (IsAnswerWithin c.options_of.result c.args.inputs.now.source.items ks limit trace) (WorkersRefuse workers c.options_of.result c.args.inputs.now.source.items))) c.as_slice-2.ensures.value source in
+    subst (λ q. IfSome c.play_slot.result (CameTo (IsAnswerWithin q c.args.inputs.now.source.items c.args.inputs.now.keyboard.items limit trace) (WorkersRefuse workers q c.args.inputs.now.source.items))) c.options_of.ensures keyboard
