@@ -1,7 +1,9 @@
 -- Exit statuses are at most 7, and what they come from.
-use Rattle.std.proofs.Common.{ℕ, ◌≤◌, ◌≡◌, ◌⊎◌, inl, inr, List, arith, subst, sym}
+use Rattle.std.proofs.Common.{ℕ, ◌≤◌, ◌≡◌, ◌⊎◌, inl, inr, List, Bool, true, false, ap, arith, refl, subst, sym}
 use Rattle.std.specs.Result.{result_and}
-use Rattle.std.specs.Prelude.{Result, Ok, Err, IfOk, IfErr, None, Option, Some}
+use Rattle.std.specs.Prelude.{Result, Ok, Err, IfOk, IfErr, None, Option, Some, unwrap_or}
+use Rattle.std.specs.Option.{ForSome}
+use Rattle.occ_choices.specs.Crews.{IsCrew}
 use Rattle.occ_text.specs.declared.fault.TextFault.TheVariants as text
 use Rattle.occ_tree_grammar.specs.declared.fault.ParseFault.TheVariants as tree
 use Rattle.occ_usage.specs.declared.checked.UsageFault.TheVariants as usage
@@ -19,13 +21,13 @@ use Rattle.occ_choices.specs.declared.fault.ChoiceFault.TheVariants as choice
 use Rattle.occ_play_inputs.specs.declared.failure.Failure.{Failure}
 use Rattle.occ_play_inputs.specs.declared.failure.Failure.TheVariants.{Write, Memory}
 use Rattle.occ_play.specs.Playing.{AfterFault, IsAnswer, Refuses, Wrote}
-use Rattle.occ_play.specs.Working.{IsAnswerWithin, WorkersRefuse}
+use Rattle.occ_play.specs.Working.{IsAnswerWithin, IsSomeAnswerWithin, IsSomeCrewsAnswer, WorkersRefuse}
 use Rattle.occ_play.proofs.Working.{workers_refuse}
 use Rattle.occ_play.specs.Status.{ending_status, fault_status, status}
 use Rattle.occ_play_inputs.specs.Failures.{failure_status}
 use Rattle.occ_play_inputs.specs.declared.words.Words.{Words as Asked}
 use Rattle.occ_play.specs.declared.playing.Options.{Options}
-use Rattle.occ_program.specs.Coming.{CameTo, CameToBy, options_in, IsStatusFor, ProgramStatus, of_play, of_failure, of_help}
+use Rattle.occ_program.specs.Coming.{CameTo, CameToBy, options_in, workers_asked, IsStatusFor, ProgramStatus, of_play, of_failure, of_help}
 
 ending_small : (e : Ending) → ending_status e ≤ 7
 ending_small Ended = omega arith
@@ -80,15 +82,36 @@ came_of_refusal options source Answers Refusal (play.Write written) as_well h = 
 came_of_refusal options source Answers Refusal (play.Run f) as_well h = absurd h
 came_of_refusal options source Answers Refusal (play.Memory e) as_well h = as_well (play.Memory e) h
 
-refused_by : (workers : Option ℕ) (words : Asked) (source keyboard : List ℕ) (list : List Choice) (f : PlayFault) → Refuses (options_in words) source f → CameToBy workers words source keyboard list (Err f)
-refused_by None words source keyboard list f h = came_of_refusal (options_in words) source (IsAnswer (options_in words) source keyboard list words.trace) (Refuses (options_in words) source) f (λ e g. g) h
-refused_by (Some workers) words source keyboard list f h =
-    came_of_refusal (options_in words) source (IsAnswerWithin (options_in words) source keyboard words.limit words.trace) (WorkersRefuse workers (options_in words) source) f (workers_refuse workers (options_in words) source) h
+-- who is asked for is a crew
+pub crew_asked : {Path : Type 0} (watch : Bool) (workers : Option ℕ) (choices : Option Path) → ForSome workers IsCrew → ForSome (workers_asked watch workers choices) IsCrew
+crew_asked watch workers (Some path) h n e = absurd cc
+crew_asked true (Some w) None h n e = h n e
+crew_asked true None None h n e = let one : IsCrew 1 = (omega arith, omega arith) in subst IsCrew (ap (λ o. unwrap_or o 0) e) one
+crew_asked false workers None h n e = h n e
+
+-- a write that failed was one of an answer, whoever took the turns
+pub without_crew : {W : Type 0} (contents : W → Option (List ℕ)) (workers : ℕ) (options : Options) (source keyboard : List ℕ) (limit : ℕ) (trace : Bool) (Refusal : PlayFault → Type 0) (old new : Counted W) (r : Result Played PlayFault)
+    → IfErr r (AfterFault contents (IsSomeCrewsAnswer workers options source keyboard limit trace) Refusal old new)
+    → IfErr r (AfterFault contents (IsSomeAnswerWithin options source keyboard limit trace) Refusal old new)
+without_crew contents workers options source keyboard limit trace Refusal old new (Ok played) h = tt
+without_crew contents workers options source keyboard limit trace Refusal old new (Err (play.Text f)) h = h
+without_crew contents workers options source keyboard limit trace Refusal old new (Err (play.Parse f)) h = h
+without_crew contents workers options source keyboard limit trace Refusal old new (Err (play.Check f)) h = h
+without_crew contents workers options source keyboard limit trace Refusal old new (Err (play.Usage f)) h = h
+without_crew contents workers options source keyboard limit trace Refusal old new (Err (play.Code f)) h = h
+without_crew contents workers options source keyboard limit trace Refusal old new (Err (play.Write written)) h = (h.0, (h.1.0, h.1.1.1, h.1.2, h.1.3))
+without_crew contents workers options source keyboard limit trace Refusal old new (Err (play.Run f)) h = h
+without_crew contents workers options source keyboard limit trace Refusal old new (Err (play.Memory e)) h = h
+
+refused_by : (workers : Option ℕ) (words : Asked) (source keyboard : List ℕ) (list : List Choice) (f : PlayFault) → ForSome workers IsCrew → Refuses (options_in words) source f → CameToBy workers words source keyboard list (Err f)
+refused_by None words source keyboard list f crew h = came_of_refusal (options_in words) source (IsAnswer (options_in words) source keyboard list words.trace) (Refuses (options_in words) source) f (λ e g. g) h
+refused_by (Some workers) words source keyboard list f crew h =
+    came_of_refusal (options_in words) source (IsAnswerWithin (options_in words) source keyboard words.limit words.trace) (WorkersRefuse workers (options_in words) source) f (λ e. workers_refuse workers (options_in words) source e (crew workers refl)) h
 
 pub came_to_both : {Done : Type 0} (workers : Option ℕ) (words : Asked) (source keyboard : List ℕ) (list : List Choice) (drawn : Result Done PlayFault) (r : Result Played PlayFault)
-    → IfErr drawn (Refuses (options_in words) source) → CameToBy workers words source keyboard list r → CameToBy workers words source keyboard list (result_and drawn r)
-came_to_both workers words source keyboard list (Ok done) r h g = g
-came_to_both workers words source keyboard list (Err f) r h g = refused_by workers words source keyboard list f h
+    → ForSome workers IsCrew → IfErr drawn (Refuses (options_in words) source) → CameToBy workers words source keyboard list r → CameToBy workers words source keyboard list (result_and drawn r)
+came_to_both workers words source keyboard list (Ok done) r crew h g = g
+came_to_both workers words source keyboard list (Err f) r crew h g = refused_by workers words source keyboard list f crew h
 
 -- what was played has its status, and so has a failure
 pub played_status : (words : Asked) (r : Result ℕ Failure) → IfOk r (IsStatusFor words) → IfOk r ProgramStatus
