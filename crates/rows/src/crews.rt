@@ -106,10 +106,10 @@ fn check_played(
     rt: &impl Abort,
     alloc: Global,
     row: &Crewed<'_>,
-    result: &Result<Played, PlayFault>,
+    came: &Result<Played, PlayFault>,
 ) -> Result<(), Fail> {
-    assert_eq!(rt; status_of(result), row.status);
-    match result {
+    assert_eq!(rt; status_of(came), row.status);
+    match came {
         Ok(played) => {
             assert!(rt; row.refusal.is_empty());
             assert!(rt; row.status != 4 || played.choices.len() == row.limit as usize);
@@ -126,8 +126,8 @@ fn check_played(
 fn crews_answer(rt: HostRuntime) -> Result<(), Fail> {
     for row in CREWED {
         let mut answer = Vec::new(rt.alloc());
-        let result = played(&rt, row, &mut answer);
-        check_played(&rt, rt.alloc(), row, &result)?;
+        let came = played(&rt, row, &mut answer);
+        check_played(&rt, rt.alloc(), row, &came)?;
         assert_eq!(rt; answer.as_slice(), row.answer);
     }
     Ok(())
