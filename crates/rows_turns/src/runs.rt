@@ -50,35 +50,49 @@ fn check(rt: &impl Abort, alloc: Global, plan: &Plan, used: &[Choice]) -> Result
     Ok(())
 }
 
-/// What a run by this list, or by so many turns, comes to.
+/// What a run by this list comes to, or by so many turns where there is none.
 fn outcome_of(
     rt: &impl Abort,
     alloc: Global,
-    list: &[Choice],
-    by_list: bool,
+    list: Option<&[Choice]>,
+    turns: u32,
 ) -> Result<Outcome, Fail> {
     let code = code_of(alloc, LETTER).expect(rt, "refused");
-    if by_list {
-        return Ok(run_choices(alloc, code, b"", list)?);
+    match list {
+        Some(list) => Ok(run_choices(alloc, code, b"", list)?),
+        None => Ok(run_turns(alloc, code, b"", turns)?),
     }
-    Ok(run_turns(alloc, code, b"", list.len() as u32)?)
 }
 
-/// A run by no turn has taken none, and one by two has come to the end.
-fn check_lists(rt: &impl Abort, alloc: Global, by_list: bool) -> Result<(), Fail> {
-    let none = outcome_of(rt, alloc, &[], by_list)?;
+/// Such a run has taken no turn.
+fn check_none(rt: &impl Abort, none: &Outcome) {
     assert_eq!(rt; none.ending, Ending::Limit);
-    assert!(rt; none.choices.is_empty() && none.screen.is_empty());
-    let two = outcome_of(rt, alloc, &ZEROS, by_list)?;
+    assert!(rt; none.choices.is_empty());
+    assert!(rt; none.screen.is_empty());
+}
+
+/// Such a run has come to its end.
+fn check_both(rt: &impl Abort, two: &Outcome) {
     assert_eq!(rt; two.ending, Ending::Ended);
     assert_eq!(rt; two.screen.as_slice(), b"A".as_slice());
-    Ok(())
 }
 
 #[test]
 fn a_letter_is_run_by_lists(rt: HostRuntime) -> Result<(), Fail> {
-    check_lists(&rt, rt.alloc(), true)?;
-    check_lists(&rt, rt.alloc(), false)
+    let none = outcome_of(&rt, rt.alloc(), Some(&[]), 0)?;
+    check_none(&rt, &none);
+    let two = outcome_of(&rt, rt.alloc(), Some(&ZEROS), 0)?;
+    check_both(&rt, &two);
+    Ok(())
+}
+
+#[test]
+fn a_letter_is_run_by_so_many_turns(rt: HostRuntime) -> Result<(), Fail> {
+    let none = outcome_of(&rt, rt.alloc(), None, 0)?;
+    check_none(&rt, &none);
+    let two = outcome_of(&rt, rt.alloc(), None, 2)?;
+    check_both(&rt, &two);
+    Ok(())
 }
 
 #[test]

@@ -121,7 +121,9 @@ fn run_beside<J: Naming + Send + Sync, R: Threads + Wait + Sync>(
     let ((one, other), note) = join(
         rt,
         || join(rt, || look_on(one, gate), || look_on(other, gate)),
-        || run_held(rt, alloc, code, gate, slot),
+        || -> Result<Note<J>, RunFault>
+            requires { IfSome slot.now (λ p. p.closed ≡ false) }
+        { run_held(rt, alloc, code, gate, slot) },
     );
     let note = note?;
     Ok([
