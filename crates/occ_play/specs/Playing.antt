@@ -60,8 +60,8 @@ pub record Unfolds (source : List ℕ) (u : UnfoldedProgram) : Type 0 where
 abbrev pub plain : Options
 plain = record { quantum = 1; errors = Halt }
 
--- the code of a text's program, for turns of this quantum, which is one, and with faults that do this; the program keeps the
--- usage rules
+-- the code of a text's program, for turns of this quantum, which is from 1 to 65,536, and with faults that do this; the program
+-- keeps the usage rules
 pub record IsTextsCode (options : Options) (source : List ℕ) (p : Program) : Type 0 where
   pub quantum : IsQuantum options.quantum
   pub program : UnfoldedProgram
@@ -77,7 +77,7 @@ pub record Ran (options : Options) (source keyboard : List ℕ) (list : List Cho
 
 -- ---- the answer of an accepted program
 
--- The quantum is one. There is an unfolding of the text that keeps the usage rules, and a run of its system, with one turn of this quantum for
+-- The quantum is from 1 to 65,536. There is an unfolding of the text that keeps the usage rules, and a run of its system, with one turn of this quantum for
 -- each used choice by the process that the choice selects, whose answer the bytes are, with that run's ending. In the run a
 -- fault does what the options say, and a run that has noted a fault never ends. The used choices are a beginning of the list,
 -- and all of it where the run goes on. Which process a choice selects is what the replay of the used choices says, over the
@@ -141,7 +141,7 @@ pub record IsLawfulText (source : List ℕ) : Type 0 where
   pub unfolds : Unfolds source program
   pub lawful : Lawful program
 
--- What is wrong with the text comes first, and then a quantum that is none; of a text that could be compiled, 32 instructions for
+-- What is wrong with the text comes first, and then a quantum that is not from 1 to 65,536; of a text that could be compiled, 32 instructions for
 -- each node are more than a program may have, or a growth was refused.
 abbrev pub CodeRefusesText : ℕ → CodeFault → List ℕ → Type 0
 CodeRefusesText quantum code.Memory source = IsLawfulText source × IsQuantum quantum

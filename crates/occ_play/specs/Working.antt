@@ -20,7 +20,7 @@ pub record IsAnswerWithin (options : Options) (source keyboard : List ℕ) (limi
 abbrev pub IsSomeAnswerWithin : Options → (source keyboard : List ℕ) → ℕ → Bool → List ℕ → Type 0
 IsSomeAnswerWithin options source keyboard limit trace bytes = (played : Played) × IsAnswerWithin options source keyboard limit trace played bytes
 
--- an answer of so many workers, where their number is one
+-- an answer of so many workers, where their number is from 1 to 64
 abbrev pub IsSomeCrewsAnswer : ℕ → Options → (source keyboard : List ℕ) → ℕ → Bool → List ℕ → Type 0
 IsSomeCrewsAnswer workers options source keyboard limit trace bytes = IsCrew workers × IsSomeAnswerWithin options source keyboard limit trace bytes
 
