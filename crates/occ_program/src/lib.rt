@@ -8,7 +8,6 @@ pub mod exit;
 mod page;
 pub mod program;
 mod recording;
-mod watching;
 
 pub use exit::exit_code;
 pub use program::run;
