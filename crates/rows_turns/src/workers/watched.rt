@@ -3,7 +3,7 @@ ghost use Rattle.std.specs.Prelude.{◌≡◌, false};
 
 use crate::accepted::accepted;
 use crate::workers::sources::{FOUR, LETTER, PIPELINE};
-use occ_board::{Board, Naming, Note, Opened, Publisher, Shown, Watcher};
+use occ_board::{Board, BoardFault, Naming, Note, Opened, Publisher, Shown, Watcher};
 use occ_code::{Body, Code, Task, compile_for};
 use occ_net_trace::End;
 use occ_proc::Segment;
@@ -373,5 +373,15 @@ fn eight_watchers_are_shown_the_trace(rt: HostRuntime) -> Result<(), Fail> {
     };
     let count = eight_shown::<Brand, _>(&rt, alloc, Opened::new(), &code);
     assert_eq!(rt; count, 8);
+    Ok(())
+}
+
+#[test]
+fn faults_of_a_board_have_their_lines(rt: HostRuntime) -> Result<(), Fail> {
+    let alloc = rt.alloc();
+    let many = format!(in alloc; "{}", BoardFault::BadWatchers)?;
+    assert_eq!(rt; many.as_str(), "refused 82 BadWatchers");
+    let refused = format!(in alloc; "{}", BoardFault::Refused)?;
+    assert_eq!(rt; refused.as_str(), "refused 87 Refused");
     Ok(())
 }
