@@ -14,20 +14,20 @@ use Rattle.occ_net_replay.specs.declared.choice.Choice.{Choice}
 use Rattle.occ_net_replay.specs.declared.ending.Ending.{Ending}
 use Rattle.occ_net_replay.specs.declared.ending.Ending.TheVariants.{Ended, Stopped, Fault, StoppedBy, Limit}
 use Rattle.occ_play.specs.declared.playing.Played.{Played}
-use Rattle.occ_shown.specs.declared.counted.Counted.{Counted}
 use Rattle.occ_play.specs.declared.fault.PlayFault.{PlayFault}
 use Rattle.occ_play.specs.declared.fault.PlayFault.TheVariants as play
 use Rattle.occ_choices.specs.declared.fault.ChoiceFault.TheVariants as choice
 use Rattle.occ_play_inputs.specs.declared.failure.Failure.{Failure}
 use Rattle.occ_play_inputs.specs.declared.failure.Failure.TheVariants.{Write, Memory}
-use Rattle.occ_play.specs.Playing.{AfterFault, IsAnswer, Refuses, Wrote}
-use Rattle.occ_play.specs.Working.{IsAnswerWithin, IsSomeAnswerWithin, IsSomeCrewsAnswer, WorkersRefuse}
+use Rattle.occ_play.specs.Playing.{IsAnswer, Refuses}
+use Rattle.occ_play.specs.Working.{IsAnswerWithin, WorkersRefuse}
 use Rattle.occ_play.proofs.Working.{workers_refuse}
 use Rattle.occ_play.specs.Status.{ending_status, fault_status, status}
 use Rattle.occ_play_inputs.specs.Failures.{failure_status}
 use Rattle.occ_play_inputs.specs.declared.words.Words.{Words as Asked}
 use Rattle.occ_play.specs.declared.playing.Options.{Options}
-use Rattle.occ_program.specs.Coming.{CameTo, CameToBy, options_in, workers_asked, IsStatusFor, ProgramStatus, of_play, of_failure, of_help}
+use Rattle.occ_watching.specs.Coming.{CameTo}
+use Rattle.occ_program.specs.Coming.{CameToBy, options_in, workers_asked, IsStatusFor, ProgramStatus, of_play, of_failure, of_help}
 
 ending_small : (e : Ending) → ending_status e ≤ 7
 ending_small Ended = omega arith
@@ -53,24 +53,6 @@ fault_small (play.Run run.BadWorkers) = omega arith
 fault_small (play.Run f) = omega arith
 fault_small (play.Memory e) = omega arith
 
-came_from_fault : {W : Type 0} (contents : W → Option (List ℕ)) (Answers : Played → List ℕ → Type 0) (Refusal : PlayFault → Type 0) (old new : Counted W) (f : PlayFault)
-    → AfterFault contents (λ bytes. (played : Played) × Answers played bytes) Refusal old new f → CameTo Answers Refusal (Err f)
-came_from_fault contents Answers Refusal old new (play.Text f) h = h.0
-came_from_fault contents Answers Refusal old new (play.Parse f) h = h.0
-came_from_fault contents Answers Refusal old new (play.Check f) h = h.0
-came_from_fault contents Answers Refusal old new (play.Usage f) h = h.0
-came_from_fault contents Answers Refusal old new (play.Code f) h = h.0
-came_from_fault contents Answers Refusal old new (play.Write written) h = (h.1.0, h.1.1)
-came_from_fault contents Answers Refusal old new (play.Run f) h = h.0
-came_from_fault contents Answers Refusal old new (play.Memory e) h = h.0
-
-pub came_to : {W : Type 0} (contents : W → Option (List ℕ)) (Answers : Played → List ℕ → Type 0) (Refusal : PlayFault → Type 0) (old new : Counted W) (r : Result Played PlayFault)
-    → IfOk r (λ played. Wrote contents (Answers played) old new)
-    → IfErr r (AfterFault contents (λ bytes. (played : Played) × Answers played bytes) Refusal old new)
-    → CameTo Answers Refusal r
-came_to contents Answers Refusal old new (Ok played) h g = (h.0, h.1)
-came_to contents Answers Refusal old new (Err f) h g = came_from_fault contents Answers Refusal old new f g
-
 -- a refused text is what a run came to that was to be drawn
 came_of_refusal : (options : Options) (source : List ℕ) (Answers : Played → List ℕ → Type 0) (Refusal : PlayFault → Type 0) (f : PlayFault) → ((e : PlayFault) → Refuses options source e → Refusal e) → Refuses options source f → CameTo Answers Refusal (Err f)
 came_of_refusal options source Answers Refusal (play.Text f) as_well h = as_well (play.Text f) h
@@ -88,20 +70,6 @@ crew_asked watch workers (Some path) h n e = absurd cc
 crew_asked true (Some w) None h n e = h n e
 crew_asked true None None h n e = let one : IsCrew 1 = (omega arith, omega arith) in subst IsCrew (ap (λ o. unwrap_or o 0) e) one
 crew_asked false workers None h n e = h n e
-
--- a write that failed was one of an answer, whoever took the turns
-pub without_crew : {W : Type 0} (contents : W → Option (List ℕ)) (workers : ℕ) (options : Options) (source keyboard : List ℕ) (limit : ℕ) (trace : Bool) (Refusal : PlayFault → Type 0) (old new : Counted W) (r : Result Played PlayFault)
-    → IfErr r (AfterFault contents (IsSomeCrewsAnswer workers options source keyboard limit trace) Refusal old new)
-    → IfErr r (AfterFault contents (IsSomeAnswerWithin options source keyboard limit trace) Refusal old new)
-without_crew contents workers options source keyboard limit trace Refusal old new (Ok played) h = tt
-without_crew contents workers options source keyboard limit trace Refusal old new (Err (play.Text f)) h = h
-without_crew contents workers options source keyboard limit trace Refusal old new (Err (play.Parse f)) h = h
-without_crew contents workers options source keyboard limit trace Refusal old new (Err (play.Check f)) h = h
-without_crew contents workers options source keyboard limit trace Refusal old new (Err (play.Usage f)) h = h
-without_crew contents workers options source keyboard limit trace Refusal old new (Err (play.Code f)) h = h
-without_crew contents workers options source keyboard limit trace Refusal old new (Err (play.Write written)) h = (h.0, (h.1.0, h.1.1.1, h.1.2, h.1.3))
-without_crew contents workers options source keyboard limit trace Refusal old new (Err (play.Run f)) h = h
-without_crew contents workers options source keyboard limit trace Refusal old new (Err (play.Memory e)) h = h
 
 refused_by : (workers : Option ℕ) (words : Asked) (source keyboard : List ℕ) (list : List Choice) (f : PlayFault) → ForSome workers IsCrew → Refuses (options_in words) source f → CameToBy workers words source keyboard list (Err f)
 refused_by None words source keyboard list f crew h = came_of_refusal (options_in words) source (IsAnswer (options_in words) source keyboard list words.trace) (Refuses (options_in words) source) f (λ e g. g) h

@@ -1,13 +1,12 @@
 -- What an exit status says of the source, the keyboard and the choices that were played.
 -- Manual: nothing; this is (own).
-use Rattle.std.specs.Prelude.{Bool, false, true, unwrap_or, List, None, Option, Some, Result, Ok, Err, ℕ, ◌≡◌}
+use Rattle.std.specs.Prelude.{Bool, false, true, unwrap_or, List, None, Option, Some, Result, ℕ, ◌≡◌}
 use Rattle.occ_net_replay.specs.declared.choice.Choice.{Choice}
 use Rattle.occ_play_inputs.specs.declared.failure.Failure.{Failure}
 use Rattle.occ_choices.specs.declared.plan.Plan.{Plan}
 use Rattle.occ_play.specs.declared.playing.Options.{Options}
 use Rattle.occ_play.specs.declared.playing.Played.{Played}
 use Rattle.occ_play.specs.declared.fault.PlayFault.{PlayFault}
-use Rattle.occ_play.specs.declared.fault.PlayFault.TheVariants as play
 use Rattle.occ_play.specs.Playing.{IsAnswer, Refuses}
 use Rattle.occ_play.specs.Working.{IsAnswerWithin, WorkersRefuse}
 use Rattle.occ_play_inputs.specs.declared.words.Words.{Words}
@@ -19,12 +18,7 @@ use Rattle.occ_explore.specs.declared.exploration.Asked.{Asked}
 use Rattle.occ_explore.specs.declared.exploration.Exploration.{Exploration}
 use Rattle.occ_exploring.specs.Explored.{IsExplored}
 use Rattle.occ_exploring.specs.Statuses.{search_status}
-
--- an answer was written; a write of one failed; or what was asked for was refused
-abbrev pub CameTo : (Played → List ℕ → Type 0) → (PlayFault → Type 0) → Result Played PlayFault → Type 0
-CameTo Answers Refusal (Ok played) = (bytes : List ℕ) × Answers played bytes
-CameTo Answers Refusal (Err (play.Write written)) = (bytes : List ℕ) × ((played : Played) × Answers played bytes)
-CameTo Answers Refusal (Err fault) = Refusal fault
+use Rattle.occ_watching.specs.Coming.{CameTo}
 
 -- so many workers take the turns, where the words say so and name no file of choices; one, where the words say no more than that the run
 -- is watched

@@ -9,7 +9,6 @@ mod exploring;
 mod page;
 pub mod program;
 mod recording;
-mod watching;
 
 pub use exit::exit_code;
 pub use program::run;

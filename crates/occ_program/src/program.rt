@@ -1,5 +1,5 @@
 //! The program around `play`: what it reads and prints, and its exit status.
-ghost use Rattle.std.specs.Prelude.{◌≡◌, ◌≤◌, ◌<◌, ◌-◌, ◌^◌, ◌⊎◌, IfOk, None, Some};
+ghost use Rattle.std.specs.Prelude.{◌≡◌, ◌≤◌, ◌<◌, ◌-◌, ◌^◌, ◌⊎◌, IfOk, IfSome, None, Some};
 ghost use Rattle.occ_program.specs.Coming.{CameToBy, IsStatusFor, ProgramStatus, options_in, workers_asked};
 ghost use Rattle.occ_shown.specs.Counting.{failures_of};
 ghost use Rattle.occ_play.specs.Status.{status};
@@ -10,13 +10,13 @@ ghost use Rattle.occ_choices.specs.Plans.{choices_of};
 use crate::drawing::draw;
 use crate::exploring::explore_words;
 use crate::recording::record;
-use crate::watching::play_watching;
 use occ_play::{
     FreeGate, Opened, Options, PlayFault, Played, RunFault, play_in, play_workers_in, status_of,
 };
 use occ_play_inputs::failure::{of_arguments, of_words};
 use occ_play_inputs::{Failure, Inputs, Words, read_inputs, read_words};
 use occ_shown::Counted;
+use occ_watching::play_watching;
 use std::alloc::Global;
 use std::io::Write;
 use std::marker::Brand;
@@ -147,15 +147,9 @@ fn play_inputs<R: Eprint + Threads + Wait + Sync, W: Write>(
 {
     match workers_of(words) {
         None => Ok(play_plan(alloc, words, inputs, out)),
-        Some(workers) if words.watch => play_watching::<Brand, R, W>(
-            rt,
-            alloc,
-            Opened::new(),
-            words,
-            inputs,
-            workers,
-            out,
-        ),
+        Some(workers) if words.watch => {
+            play_looking(rt, alloc, words, inputs, workers, out).ok_or(Failure::Memory)
+        }
         Some(workers) => Ok(play_by(rt, alloc, words, inputs, workers, out)),
     }
 }
@@ -204,6 +198,33 @@ fn play_by<R: Threads + Wait + Sync, W: Write>(
         limit,
         trace,
         &FreeGate,
+        out,
+    )
+}
+
+/// Plays the source by so many workers, at whose communications a thread looks; none where there was no memory for a board.
+fn play_looking<R: Eprint + Threads + Wait + Sync, W: Write>(
+    rt: &R,
+    alloc: Global,
+    words: &Words<'_>,
+    inputs: &Inputs,
+    workers: u32,
+    out: &mut Counted<W>,
+) -> Option<Result<Played, PlayFault>>
+    requires room { failures_of out.old < 2 ^ 64 - 1 }
+    ensures { IfSome result (CameToBy (Some workers) words.now inputs.now.source.items inputs.now.keyboard.items (choices_of inputs.now.plan)) }
+{
+    let (limit, trace) = (words.limit, words.trace);
+    play_watching::<Brand, R, W>(
+        rt,
+        &options_of(words),
+        alloc,
+        Opened::new(),
+        inputs.source.as_slice(),
+        inputs.keyboard.as_slice(),
+        workers,
+        limit,
+        trace,
         out,
     )
 }

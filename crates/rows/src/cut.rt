@@ -31,6 +31,14 @@ fn beginnings_are_refused_or_end(rt: HostRuntime) {
 const MOST_PROCESSES: &[u8] =
     b"PROC main (CHAN OF BYTE keyboard, screen)\n  PAR i = 0 FOR 4095\n    SKIP\n:\n";
 
+/// The most cells that there may be.
+const MOST_CELLS: &[u8] =
+    b"PROC main (CHAN OF BYTE keyboard, screen)\n  [1048576]INT a:\n  SKIP\n:\n";
+
+/// The most channels that there may be.
+const MOST_CHANNELS: &[u8] =
+    b"PROC main (CHAN OF BYTE keyboard, screen)\n  [4093]CHAN OF INT c:\n  SKIP\n:\n";
+
 /// Each turn of the loop is one of the run.
 const LONG_RUN: &[u8] =
     b"PROC main (CHAN OF BYTE keyboard, screen)\n  INT n:\n  SEQ\n    n := 0\n    WHILE n < 2000\n      n := n + 1\n    screen ! 'A'\n:\n";
@@ -58,6 +66,8 @@ fn check_long(
 fn long_runs_end(rt: HostRuntime) -> Result<(), Fail> {
     let alloc = rt.alloc();
     check_long(&rt, alloc, MOST_PROCESSES, b"", 4_097)?;
+    check_long(&rt, alloc, MOST_CELLS, b"", 1)?;
+    check_long(&rt, alloc, MOST_CHANNELS, b"", 1)?;
     check_long(&rt, alloc, LONG_RUN, b"A", 2_002)?;
     check_long(&rt, alloc, LONG_TURN, b"A", 2)
 }

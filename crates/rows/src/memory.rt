@@ -1,14 +1,18 @@
 //! Runs in which a growth may be refused, for `rt try --test --fail-alloc N`: they pass for every N.
+ghost use Rattle.std.specs.Prelude.{◌≡◌};
+
 use crate::networks::{MERGE, PIPELINE, TAGS};
 use occ_check::CheckFault;
 use occ_code::CodeFault;
 use occ_play::{
-    Choice, Counted, FreeGate, Plan, PlayFault, Played, RunFault, play, play_workers, status_of,
+    Board, Choice, Counted, Errors, FreeGate, Naming, Opened, Options, Plan, PlayFault, Played,
+    RunFault, play, play_watched, play_workers, status_of,
 };
 use occ_text::TextFault;
 use occ_tree_grammar::ParseFault;
 use occ_usage::UsageFault;
 use std::alloc::{AllocError, Global};
+use std::marker::Brand;
 use std::process::Abort;
 use std::sync::Wait;
 use std::thread::Threads;
@@ -132,4 +136,52 @@ fn check_workers<R: Threads + Wait + Abort + Sync + AllocGlobal>(
 fn workers_answer_or_want_memory(rt: HostRuntime) {
     check_workers(&rt, ROWS[0].0, b"A");
     check_workers(&rt, PIPELINE, b"4");
+}
+
+const PLAIN: Options = Options {
+    quantum: 1,
+    errors: Errors::Halt,
+};
+
+/// What two threads come to at whose run a watcher may look; none where there is no memory for a board.
+fn watched<J: Naming, R: Threads + Wait + Sync + AllocGlobal>(
+    rt: &R,
+    opened: Opened,
+    source: &[u8],
+    room: &mut [u8; 256],
+) -> Option<Result<Played, PlayFault>>
+    requires { opened ≡ J.book }
+{
+    let (publisher, _watchers) = match Board::new::<J>(opened, rt.alloc(), 1) {
+        Ok(board) => board,
+        Err(_) => return None,
+    };
+    let mut out = Counted::new(room.as_mut_slice());
+    let alloc = rt.alloc();
+    match play_watched(
+        rt, &PLAIN, alloc, source, b"", 2, 100, false, &FreeGate, &mut out, publisher,
+    ) {
+        Ok((played, publisher, _note)) => {
+            publisher.end(rt);
+            Some(Ok(played))
+        }
+        Err(fault) => Some(Err(fault)),
+    }
+}
+
+fn check_watched<R: Threads + Wait + Abort + Sync + AllocGlobal>(
+    rt: &R,
+    source: &[u8],
+    answer: &[u8],
+) {
+    let mut room = [0u8; 256];
+    if let Some(played) = watched::<Brand, R>(rt, Opened::new(), source, &mut room) {
+        check_told(rt, &played, &room, answer);
+    }
+}
+
+#[test]
+fn watched_runs_answer_or_want_memory(rt: HostRuntime) {
+    check_watched(&rt, ROWS[0].0, b"A");
+    check_watched(&rt, PIPELINE, b"4");
 }

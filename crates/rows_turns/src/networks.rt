@@ -1,6 +1,8 @@
 //! Turns that are settled, and turns that are not.
 use crate::turned::{check_refused, network_of, next_turn, settle, step, turn_by};
+use crate::workers::sources::LONG;
 use occ_net::Network;
+use occ_net_replay::Ending;
 use occ_proc::Segment;
 use std::alloc::Global;
 use std::process::Abort;
@@ -206,4 +208,17 @@ fn foreign_turns_are_stale(rt: HostRuntime) -> Result<(), Fail> {
     check_foreign(&rt, rt.alloc(), &DIVIDING, &LOOPING, forked)?;
     let absent = "Stale { number: 1, turns: 0 }";
     check_foreign(&rt, rt.alloc(), &LOOPING, &DIVIDING, absent)
+}
+
+/// A network settles the turns of a long loop one by one.
+#[test]
+fn many_turns_are_settled(rt: HostRuntime) -> Result<(), Fail> {
+    let alloc = rt.alloc();
+    let mut network = network_of(&rt, alloc, LONG, b"");
+    for _ in 0..2_002 {
+        step(&rt, alloc, &mut network, 0)?;
+    }
+    assert_eq!(rt; network.choices().len(), 2_002);
+    assert_eq!(rt; network.ending(), Some(Ending::Ended));
+    Ok(())
 }

@@ -19,11 +19,15 @@ const ADDS: &str = "  INT n:\n  SEQ\n    n := 1\n    SEQ i = 5 FOR 3\n      n :=
 
 const STOPS: &str = "  INT n:\n  SEQ\n    n := 7\n    STOP\n";
 
+/// Two thousand times an array is copied, which the loop over common instructions does not do.
+const COPIES: &str =
+    "  INT n:\n  [2]INT a, b:\n  SEQ\n    n := 0\n    SEQ i = 0 FOR 2000\n      SEQ\n        b := a\n        n := n + 1\n";
+
 /// The body of `main`, the quantum, the value of its first variable after one turn, and whether the
 /// process may then take another one.
 struct Turned(&'static str, u32, i64, bool);
 
-static TURNS: [Turned; 11] = [
+static TURNS: [Turned; 12] = [
     Turned(COUNTS, 1, 1, true),
     Turned(COUNTS, 2, 2, true),
     Turned(COUNTS, 4, 4, true),
@@ -35,6 +39,7 @@ static TURNS: [Turned; 11] = [
     Turned(ADDS, 3, 19, true),
     Turned(ADDS, 4, 19, false),
     Turned(STOPS, 3, 7, false),
+    Turned(COPIES, 65_536, 2_000, false),
 ];
 
 /// A process at its start.

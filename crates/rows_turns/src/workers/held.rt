@@ -1,4 +1,4 @@
-//! A turn that is held until a watcher has seen an entry: what is communicated is published while the run goes on.
+//! A turn that is held until a watcher has seen an entry and has left: what is communicated is published while the run goes on.
 ghost use Rattle.std.specs.Prelude.{◌≡◌, IfSome, false};
 
 use crate::accepted::code_of;
@@ -23,7 +23,7 @@ const LOOKS: u32 = 100_000_000;
 /// How many runs there are.
 const RUNS: u32 = 200;
 
-/// A gate that holds the second turn of process 6 until an entry was seen.
+/// A gate that holds the second turn of process 6 until an entry was seen by the watcher that leaves.
 #[derive(Drop)]
 struct Holding {
     seen: AtomicBool,
@@ -56,8 +56,8 @@ impl Gate for Holding {
     }
 }
 
-/// Looks until an entry is seen, the gate has missed it, or it has looked so often.
-fn look_on<J: Naming>(watcher: Watcher<J>, gate: &Holding) -> Watcher<J> {
+/// Looks until an entry is seen, the gate has missed it, or it has looked so often; and says whether one was seen.
+fn look_on<J: Naming>(watcher: Watcher<J>, gate: &Holding) -> (Watcher<J>, bool) {
     let mut watcher = watcher;
     for _ in 0..LOOKS {
         let (next, is_seen) = match watcher.look(|list| !list.is_empty()) {
@@ -66,11 +66,17 @@ fn look_on<J: Naming>(watcher: Watcher<J>, gate: &Holding) -> Watcher<J> {
         };
         watcher = next;
         if is_seen || gate.missed.load(Ordering::SeqCst) {
-            gate.seen.store(is_seen, Ordering::SeqCst);
-            return watcher;
+            return (watcher, is_seen);
         }
     }
-    watcher
+    (watcher, false)
+}
+
+/// Looks until an entry is seen, lets its watcher go, and only then the held turn.
+fn look_and_leave<J: Naming>(watcher: Watcher<J>, gate: &Holding) {
+    let (watcher, is_seen) = look_on(watcher, gate);
+    drop(watcher);
+    gate.seen.store(is_seen, Ordering::SeqCst);
 }
 
 /// Runs the pipeline with the publisher that is there, and puts it back where the run answered.
@@ -106,21 +112,37 @@ fn end<J: Naming, R: Wait>(rt: &R, slot: Option<Publisher<J>>) {
     }
 }
 
-/// The run beside the two watchers, and what each of them is shown at last.
+/// Three watchers look at once, and the third one leaves.
+fn look_all<J: Naming + Send + Sync, R: Threads + Wait + Sync>(
+    rt: &R,
+    gate: &Holding,
+    one: Watcher<J>,
+    other: Watcher<J>,
+    third: Watcher<J>,
+) -> (Watcher<J>, Watcher<J>) {
+    let (_, (one, other)) = join(
+        rt,
+        || look_and_leave(third, gate),
+        || join(rt, || look_on(one, gate).0, || look_on(other, gate).0),
+    );
+    (one, other)
+}
+
+/// The run beside three watchers, of which the third leaves before it is over, and what each of the others is shown at last.
 fn run_beside<J: Naming + Send + Sync, R: Threads + Wait + Sync>(
     rt: &R,
     alloc: Global,
     code: &Code,
     gate: &Holding,
     slot: &mut Option<Publisher<J>>,
-    watchers: (Watcher<J>, Watcher<J>),
+    watchers: (Watcher<J>, Watcher<J>, Watcher<J>),
 ) -> Result<[Option<Vec<u8>>; 2], RunFault>
     requires { IfSome slot.old (λ p. p.closed ≡ false) }
 {
-    let (one, other) = watchers;
+    let (one, other, third) = watchers;
     let ((one, other), note) = join(
         rt,
-        || join(rt, || look_on(one, gate), || look_on(other, gate)),
+        || look_all(rt, gate, one, other, third),
         || -> Result<Note<J>, RunFault>
             requires { IfSome slot.now (λ p. p.closed ≡ false) }
         { run_held(rt, alloc, code, gate, slot) },
@@ -132,7 +154,7 @@ fn run_beside<J: Naming + Send + Sync, R: Threads + Wait + Sync>(
     ])
 }
 
-/// A board, a run of the pipeline, and what its two watchers are shown.
+/// A board, a run of the pipeline, and what the two of its three watchers are shown that stay.
 fn shown<J: Naming + Send + Sync, R: Threads + Wait + Sync>(
     rt: &R,
     alloc: Global,
@@ -142,13 +164,15 @@ fn shown<J: Naming + Send + Sync, R: Threads + Wait + Sync>(
 ) -> Result<[Option<Vec<u8>>; 2], RunFault>
     requires { opened ≡ J.book }
 {
-    let (publisher, mut watchers) = match Board::new::<J>(opened, alloc, 2) {
+    let (publisher, mut watchers) = match Board::new::<J>(opened, alloc, 3) {
         Ok(board) => board,
         Err(_) => return Err(RunFault::Memory),
     };
     let mut slot = Some(publisher);
-    let lines = match (watchers.pop(), watchers.pop()) {
-        (Some(one), Some(other)) => run_beside(rt, alloc, code, gate, &mut slot, (one, other)),
+    let lines = match (watchers.pop(), watchers.pop(), watchers.pop()) {
+        (Some(one), Some(other), Some(third)) => {
+            run_beside(rt, alloc, code, gate, &mut slot, (one, other, third))
+        }
         _ => Err(RunFault::Foreign),
     };
     end(rt, slot);

@@ -1,6 +1,6 @@
 //! Runs by workers: their numbers, limits, picks and refusals.
 use crate::accepted::code_of;
-use crate::workers::sources::{FOUR, LETTER};
+use crate::workers::sources::{FOUR, LETTER, LONG};
 use occ_code::{Body, Task};
 use occ_net_replay::{Choice, Ending};
 use occ_proc::{Segment, turn};
@@ -28,6 +28,19 @@ fn workers_play_within_their_limit(rt: HostRuntime) -> Result<(), Fail> {
     assert_eq!(rt; all.screen.as_slice(), b"A".as_slice());
     let used = [Choice { which: 0, pick: 0 }, Choice { which: 0, pick: 1 }];
     assert_eq!(rt; all.choices.as_slice(), used.as_slice());
+    Ok(())
+}
+
+/// A run of many turns goes on to its end.
+#[test]
+fn workers_settle_many_turns(rt: HostRuntime) -> Result<(), Fail> {
+    let Some(code) = code_of(rt.alloc(), LONG) else {
+        assert!(rt; false, "no code");
+        return Ok(());
+    };
+    let outcome = run_workers(&rt, rt.alloc(), &code, b"", 2, 5_000, &FreeGate)?;
+    assert_eq!(rt; outcome.ending, Ending::Ended);
+    assert_eq!(rt; outcome.choices.len(), 2_002);
     Ok(())
 }
 

@@ -3,7 +3,7 @@ ghost use Rattle.std.specs.Prelude.{◌≡◌, false};
 
 use crate::accepted::accepted;
 use crate::workers::sources::{FOUR, LETTER, PIPELINE};
-use occ_board::{Board, Naming, Note, Opened, Publisher, Shown, Watcher};
+use occ_board::{Board, BoardFault, Naming, Note, Opened, Publisher, Shown, Watcher};
 use occ_code::{Body, Code, Task, compile_for};
 use occ_net_trace::End;
 use occ_proc::Segment;
@@ -311,5 +311,77 @@ fn a_run_is_shown_behind_what_was_held(rt: HostRuntime) -> Result<(), Fail> {
     let entries = (shown(alloc, 7)?, shown(alloc, 8)?);
     let read = held_and_shown::<Brand, _>(&rt, alloc, Opened::new(), &code, entries);
     assert_eq!(rt; read, Some((3, 1)));
+    Ok(())
+}
+
+/// How many of these watchers are shown just these lines when they are told the note.
+fn count_shown<J: Naming>(
+    alloc: Global,
+    watchers: Vec<Watcher<J>>,
+    note: &Note<J>,
+    lines: &[u8],
+) -> u32 {
+    let mut watchers = watchers;
+    let mut count = 0;
+    for _ in 0..8 {
+        if let Some(watcher) = watchers.pop() {
+            if is_shown(alloc, watcher, note, lines) {
+                count += 1;
+            }
+        }
+    }
+    count
+}
+
+/// Whether a watcher is shown just these lines.
+fn is_shown<J: Naming>(alloc: Global, watcher: Watcher<J>, note: &Note<J>, lines: &[u8]) -> bool {
+    match lines_told(alloc, watcher, note) {
+        Some(shown) => shown.as_slice() == lines,
+        None => false,
+    }
+}
+
+/// How many of eight watchers are shown all of a run.
+fn eight_shown<J: Naming, R: Threads + Wait + Sync>(
+    rt: &R,
+    alloc: Global,
+    opened: Opened,
+    code: &Code,
+) -> u32
+    requires { opened ≡ J.book }
+{
+    let (publisher, watchers) = match Board::new::<J>(opened, alloc, 8) {
+        Ok(board) => board,
+        Err(_) => return 0,
+    };
+    match run_watched(rt, alloc, code, b"", 2, 1000, &FreeGate, publisher) {
+        Ok((_, publisher, note)) => {
+            let count = count_shown(alloc, watchers, &note, PIPED);
+            publisher.end(rt);
+            count
+        }
+        Err(_) => 0,
+    }
+}
+
+#[test]
+fn eight_watchers_are_shown_the_trace(rt: HostRuntime) -> Result<(), Fail> {
+    let alloc = rt.alloc();
+    let Some(code) = code_for(alloc, PIPELINE, 1, Errors::Halt) else {
+        assert!(rt; false, "no code");
+        return Ok(());
+    };
+    let count = eight_shown::<Brand, _>(&rt, alloc, Opened::new(), &code);
+    assert_eq!(rt; count, 8);
+    Ok(())
+}
+
+#[test]
+fn faults_of_a_board_have_their_lines(rt: HostRuntime) -> Result<(), Fail> {
+    let alloc = rt.alloc();
+    let many = format!(in alloc; "{}", BoardFault::BadWatchers)?;
+    assert_eq!(rt; many.as_str(), "refused 82 BadWatchers");
+    let refused = format!(in alloc; "{}", BoardFault::Refused)?;
+    assert_eq!(rt; refused.as_str(), "refused 87 Refused");
     Ok(())
 }

@@ -1,4 +1,4 @@
-use Rattle.occ_program.proofs.program.play_inputs.Given as goal
+use Rattle.occ_program.proofs.program.play_looking.Given as goal
 
 -- the board that was just opened
 abbrev pub ghosts-play_watching : goal.ghosts-play_watching
