@@ -58,9 +58,21 @@ fn run_arguments<R: Files + Input + Print + Eprint + Env + AllocGlobal + Threads
         .map(|argument| argument.as_str())
         .collect(alloc)?;
     let words = read_words(alloc, words.as_slice()).map_err(of_words)?;
+    do_words(rt, alloc, &words)
+}
+
+/// Searches all lists of choices, or plays one run, as the words ask.
+fn do_words<R: Files + Input + Print + Eprint + Threads + Wait + Sync>(
+    rt: &R,
+    alloc: Global,
+    words: &Words<'_>,
+) -> Result<u8, Failure>
+    ensures came { IfOk result (λ status. ProgramStatus status) }
+    ensures small { IfOk result (λ status. status ≤ 7) }
+{
     match words.explore {
-        Some(asked) => explore_words(rt, alloc, &words, asked),
-        None => run_words(rt, alloc, &words),
+        Some(asked) => explore_words(rt, alloc, words, asked),
+        None => run_words(rt, alloc, words),
     }
 }
 
