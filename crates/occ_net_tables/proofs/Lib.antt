@@ -9,6 +9,7 @@ pub mod Choices
 pub mod Keys
 pub mod Undone
 pub mod Branches
+pub mod TakenOver
 pub mod Ends
 pub mod Forked
 pub mod Ended
