@@ -18,3 +18,4 @@ pub mod Start
 pub mod Roomy
 pub mod Placing
 pub mod Rerun
+pub mod Counting

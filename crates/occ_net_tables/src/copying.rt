@@ -41,6 +41,29 @@ pub(crate) fn branch_frames(
     Ok(frames)
 }
 
+fn copy_task(alloc: Global, task: &Option<Task>) -> Result<Option<Task>, AllocError>
+    ensures { IfOk result (λ copy. copy ≡ task.now) }
+{
+    match task {
+        Some(task) => Ok(Some(task.copy(alloc)?)),
+        None => Ok(None),
+    }
+}
+
+/// Copies of these tasks.
+pub(crate) fn copy_tasks(
+    alloc: Global,
+    tasks: &[Option<Task>],
+) -> Result<Vec<Option<Task>>, AllocError>
+    ensures { IfOk result (λ copies. copies.items ≡ tasks.now) }
+{
+    let mut copies = Vec::new(alloc);
+    for task in tasks {
+        copies.push(copy_task(alloc, task)?)?;
+    }
+    Ok(copies)
+}
+
 /// Takes over the values of these cells.
 fn take_over(writes: &FrameCells, from: &Frame, to: &mut Frame)
     ensures { to.new ≡ taken_over writes.now from.now to.old }
