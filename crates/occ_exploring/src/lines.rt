@@ -71,7 +71,8 @@ fn write_answer(
     write_held(alloc, out, asked, answer)?;
     out.extend_from_slice(b" by ")?;
     write_counted(alloc, out, answer.choices.len(), b"choice")?;
-    out.push(b'\n')
+    out.push(b'\n')?;
+    Ok(())
 }
 
 fn write_answers(
@@ -114,7 +115,8 @@ fn write_known(
     if exploration.all {
         out.extend_from_slice(b"all, ")?;
         write_counted(alloc, out, exploration.states, b"state")?;
-        out.push(b'\n')
+        out.push(b'\n')?;
+        Ok(())
     } else {
         out.extend_from_slice(b"these at least: the bound of ")?;
         write_counted(alloc, out, most as usize, b"state")?;

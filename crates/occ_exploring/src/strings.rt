@@ -26,7 +26,10 @@ fn write_letter(out: &mut Vec<u8>, byte: u8) -> Result<(), AllocError>
         b'\r' => out.extend_from_slice(b"*c"),
         b'"' => out.extend_from_slice(b"*\""),
         b'*' => out.extend_from_slice(b"**"),
-        b' '..=b'~' => out.push(byte),
+        b' '..=b'~' => {
+            out.push(byte)?;
+            Ok(())
+        }
         _ => out.extend_from_slice(&[b'*', b'#', digit(byte / 16), digit(byte % 16)]),
     }
 }
@@ -46,7 +49,8 @@ fn write_quoted(out: &mut Vec<u8>, bytes: &[u8]) -> Result<(), AllocError>
 {
     out.push(b'"')?;
     write_letters(out, bytes)?;
-    out.push(b'"')
+    out.push(b'"')?;
+    Ok(())
 }
 
 /// How many there were beyond those that are written.
