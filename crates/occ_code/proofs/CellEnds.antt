@@ -8,6 +8,7 @@ use Rattle.std.proofs.lemmas.Bool.Decides.{nat_tests}
 use Rattle.std.proofs.lemmas.List.Folds.{list_any-append, list_any_more}
 use Rattle.std.proofs.lemmas.List.Sorted.{list_any-IsPermutation}
 use Rattle.std.proofs.lemmas.List.Elements.{All-append, All-cons}
+use Rattle.occ_term.specs.Uses.{Numbers}
 use Rattle.occ_usage.specs.Noted.{between, use_of, uses_in}
 use Rattle.occ_term.specs.Frames.{is_held}
 use Rattle.occ_usage.specs.declared.noted.Use.{Use}
