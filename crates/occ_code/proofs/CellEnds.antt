@@ -1,6 +1,6 @@
 -- The cells of a process: rows of cells that are sorted, and the numbers in them.
 use Rattle.std.specs.Prelude.{nat_eq, nat_le, nat_lt, max, take, ◌&&◌, ◌||◌, if◌then◌else◌}
-use Rattle.std.specs.List.{All, list_any}
+use Rattle.std.specs.List.{All}
 use Rattle.std.specs.List.Sorted.{IsNonDecreasingBy, IsPermutation}
 use Rattle.std.proofs.Common.{◌≡◌, ℕ, zero, suc, ◌+◌, ◌-◌, ◌<◌, ◌≤◌, Bool, true, false, IsTrue, List, [], ◌∷◌, ◌++◌, drop, get_or, length, refl, sym, ap, ◌∙◌, subst, add-zero, arith, length-append}
 use Rattle.std.proofs.Math.Seq.{drop-cons}
@@ -8,7 +8,6 @@ use Rattle.std.proofs.lemmas.Bool.Decides.{nat_tests}
 use Rattle.std.proofs.lemmas.List.Folds.{list_any-append, list_any_more}
 use Rattle.std.proofs.lemmas.List.Sorted.{list_any-IsPermutation}
 use Rattle.std.proofs.lemmas.List.Elements.{All-append, All-cons}
-use Rattle.occ_term.specs.Uses.{Numbers}
 use Rattle.occ_usage.specs.Noted.{between, use_of, uses_in}
 use Rattle.occ_term.specs.Frames.{is_held}
 use Rattle.occ_usage.specs.declared.noted.Use.{Use}

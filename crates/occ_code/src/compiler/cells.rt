@@ -43,12 +43,14 @@ pub(crate) fn rising_cells(
 {
     let count = furthest_end(uses, writes_only);
     if count > MOST_CELLS {
-        return CellRows::new(alloc).into_cells(alloc);
+        let none = CellRows::new(alloc).into_cells(alloc)?;
+        return Ok(none);
     }
     let mut rows = rows_of(alloc, uses, writes_only)?;
     rows.sort_unstable_by_key(|row| row.first);
-    let cells = cells_among(alloc, &rows)?;
-    cells.into_cells(alloc)
+    let gathered = cells_among(alloc, &rows)?;
+    let cells = gathered.into_cells(alloc)?;
+    Ok(cells)
 }
 
 fn is_counted(kind: Kind, writes_only: bool) -> bool
