@@ -18,4 +18,4 @@ pub mod Start
 pub mod Roomy
 pub mod Placing
 pub mod Rerun
-pub mod Counting
+pub mod CountedPicks
