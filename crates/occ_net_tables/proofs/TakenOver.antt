@@ -36,19 +36,13 @@ all_rows (r ∷ rs) (suc i) from f h = all_rows rs i from f (omega (arith, h))
 
 -- ---- one cell after another
 
-pub next_cell : (first n i : ℕ) (v : ℤ) (from f g : Variables) → i < n → g ≡ frame_with f (first + i) v → v ≡ at from (first + i) → taken_over (numbers_from (first + (i + 1)) (n - (i + 1))) from g ≡ taken_over (numbers_from (first + i) (n - i)) from f
-next_cell first n i v from f g lt is value =
-    let more : suc (n - (i + 1)) ≡ n - i = omega (arith, lt) in
-    let next : first + (i + 1) ≡ suc (first + i) = omega arith in
-    ap (λ k. taken_over (numbers_from k (n - (i + 1))) from g) next
-    ∙ ap (taken_over (numbers_from (suc (first + i)) (n - (i + 1))) from) (is ∙ ap (frame_with f (first + i)) value)
-    ∙ ap (λ m. taken_over (numbers_from (first + i) m) from f) more
+pub next_cell : (cell end : ℕ) (v : ℤ) (from f g : Variables) → cell < end → g ≡ frame_with f cell v → v ≡ at from cell → taken_over (numbers_from (cell + 1) (end - (cell + 1))) from g ≡ taken_over (numbers_from cell (end - cell)) from f
+next_cell cell end v from f g lt is value =
+    let more : suc (end - (cell + 1)) ≡ end - cell = omega (arith, lt) in
+    let next : cell + 1 ≡ suc cell = omega arith in
+    ap (λ k. taken_over (numbers_from k (end - (cell + 1))) from g) next
+    ∙ ap (taken_over (numbers_from (suc cell) (end - (cell + 1))) from) (is ∙ ap (frame_with f cell) value)
+    ∙ ap (λ m. taken_over (numbers_from cell m) from f) more
 
-pub first_cell : (first n : ℕ) (from f : Variables) → taken_over (numbers_from (first + 0) (n - 0)) from f ≡ taken_over (numbers_from first n) from f
-first_cell first n from f =
-    let begun : first + 0 ≡ first = omega arith in
-    let all : n - 0 ≡ n = omega arith in
-    ap (λ k. taken_over (numbers_from k (n - 0)) from f) begun ∙ ap (λ m. taken_over (numbers_from first m) from f) all
-
-pub all_cells : (first n i : ℕ) (from f : Variables) → n ≤ i → taken_over (numbers_from (first + i) (n - i)) from f ≡ f
-all_cells first n i from f h = let none : n - i ≡ 0 = omega (arith, h) in ap (λ m. taken_over (numbers_from (first + i) m) from f) none
+pub all_cells : (cell end : ℕ) (from f : Variables) → end ≤ cell → taken_over (numbers_from cell (end - cell)) from f ≡ f
+all_cells cell end from f h = let none : end - cell ≡ 0 = omega (arith, h) in ap (λ m. taken_over (numbers_from cell m) from f) none

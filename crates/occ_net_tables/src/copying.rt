@@ -86,8 +86,7 @@ fn take_row(row: &CellRow, from: &Frame, to: &mut Frame)
 fn take_each(row: &CellRow, from: &Frame, to: &mut Frame)
     ensures { to.new ≡ taken_over (cells_of row.now) from.now to.old }
 {
-    for i in 0..row.count() {
-        let cell = row.first + i as u64;
+    for cell in row.first..row.end {
         to.set(cell, from.value_at(cell));
     }
 }

@@ -1,4 +1,4 @@
-use Rattle.std.proofs.Common.{◌≡◌, ◌∙◌, sym, ap}
+use Rattle.std.proofs.Common.{◌∙◌, sym, ap}
 use Rattle.occ_net_replay.specs.Replay.{taken_over}
 use Rattle.occ_net_tables.proofs.TakenOver.{all_rows, next_row, no_row}
 use Rattle.occ_net_tables.proofs.copying.take_over.Goals as goal
