@@ -1,5 +1,5 @@
 #!/usr/bin/env python3
-"""Keeps the tables of crates/rows_sources equal to what users read: examples/ and docs/language.md.
+"""Keeps the tables of tests equal to what users read: examples/ and docs/language.md.
 
     python3 tools/tables.py           says which table differs; the status is 1 where one does
     python3 tools/tables.py --write   writes the tables
@@ -9,7 +9,6 @@ import re
 import sys
 
 TOP = pathlib.Path(__file__).resolve().parent.parent
-ROWS = TOP / "crates/rows_sources/src"
 STOPPING = "With --errors stop"
 FOLDERS = ["first_steps", "sequences", "pipelines", "selection", "sharing", "faults"]
 
@@ -81,11 +80,27 @@ def answers():
     )
 
 
+def explored():
+    """The examples that crates/rows_explore explores."""
+    names = ["faults/dining", "faults/livelock", "faults/waiter", "selection/merge", "sharing/pool"]
+    rows = []
+    for name in names:
+        text = literal((TOP / "examples" / f"{name}.occ").read_text())
+        rows.append(f"pub(crate) const {name.split('/')[1].upper()}: &str =\n    {text};\n")
+    return "//! Programs of the folder `examples`. `tools/tables.py` writes this file.\n\n" + "\n".join(rows)
+
+
 # how wide the left side of the table of answers is
 WIDTH = 40
 differ = False
-for name, text in [("gallery.rt", gallery()), ("answers.rt", answers())]:
-    path = ROWS / name
+TABLES = {
+    "rows_sources/src/gallery.rt": gallery,
+    "rows_sources/src/answers.rt": answers,
+    "rows_explore/src/sources.rt": explored,
+}
+for name, table in TABLES.items():
+    path = TOP / "crates" / name
+    text = table()
     if "--write" in sys.argv[1:]:
         path.write_text(text)
     elif not path.exists() or path.read_text() != text:

@@ -2,3 +2,4 @@ pub mod Entries
 pub mod Editions
 pub mod Rules
 pub mod Traces
+pub mod FaultTexts

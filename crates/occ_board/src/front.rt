@@ -83,7 +83,7 @@ pub struct Front {
 }
 
 impl Model for Front {
-    ghost use Rattle.std.specs.Prelude.{◌≡◌, List, length};
+    ghost use Rattle.std.specs.Prelude.{◌≡◌, length};
     ghost use Rattle.occ_board.specs.Editions.{IsLegal, Reached, reached, newest};
 
     ghost Value = { Reached };

@@ -1,9 +1,10 @@
 //! The publisher, which alone makes the list longer.
-ghost use Rattle.std.specs.Prelude.{◌≡◌, ◌≢◌, ◌⊎◌, ◌<◌, ◌≤◌, true, false, [], ◌∷◌, ◌++◌, length, drop, All, Err, IfOk, IfSome, IsTrue, IsFalse, MatchResult, vec_capacity};
+ghost use Rattle.std.specs.Prelude.{◌≡◌, ◌≢◌, ◌⊎◌, ◌<◌, ◌≤◌, true, false, [], ◌∷◌, ◌++◌, length, drop, All, Err, IfOk, IfSome, IsTrue, IsFalse, MatchResult, Some, vec_capacity};
 ghost use mathlib.Core.List.{IsPrefix};
 ghost use Rattle.left_right.specs.Sides.{view};
 ghost use Rattle.occ_board.specs.declared.publisher.BoardFault.TheVariants.{BadWatchers};
 ghost use Rattle.occ_board.specs.Editions.{blank, edition, reached};
+ghost use Rattle.occ_board.specs.FaultTexts.{fault_text};
 ghost use Rattle.occ_board.specs.Traces.{added, publishing, watching, IsAhead};
 
 use crate::front::{Front, Head, Naming, open_history};
@@ -13,20 +14,32 @@ use crate::watcher::{Note, Watcher};
 use left_right::writer::Writer;
 use logbook::Plain;
 use std::alloc::{AllocError, Global};
+use std::error::Error;
+use std::fmt;
 use std::marker::{Model, PhantomData};
 use std::sync::Wait;
-use thiserror::Error;
 
 /// Why there is no board, or nothing was published.
-#[derive(Clone, Copy, Debug, PartialEq, Eq, Error)]
+#[derive(Clone, Copy, Debug, PartialEq, Eq)]
 pub enum BoardFault {
     /// The number of watchers is not from 1 to 8.
-    #[error("refused 82 BadWatchers")]
     BadWatchers,
     /// A growth was refused.
-    #[error("refused 87 Refused")]
     Refused,
 }
+
+impl fmt::Display for BoardFault {
+    ghost output = { λ fault. Some (fault_text fault) };
+
+    fn fmt<W: fmt::Write>(&self, f: &mut fmt::Formatter<W>) -> fmt::Result {
+        match self {
+            BoardFault::BadWatchers => write!(f, "refused 82 BadWatchers"),
+            BoardFault::Refused => write!(f, "refused 87 Refused"),
+        }
+    }
+}
+
+impl Error for BoardFault {}
 
 /// A board that has no name yet. Contracts see which history it has.
 #[derive(Drop)]

@@ -1,5 +1,4 @@
 //! What the publisher shows, and the rule of it. The rule has two kinds of step: the publisher's exchange, and a watcher's entering.
-ghost use Rattle.std.specs.Prelude.{◌≡◌};
 ghost use Rattle.occ_board.specs.Traces.{applied_to};
 
 use crate::front::{Front, Naming};

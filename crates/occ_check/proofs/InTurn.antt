@@ -5,7 +5,6 @@ use Rattle.occ_tree_grammar.specs.Processes.Trees.{nodes, more_nodes}
 use Rattle.occ_tree_grammar.specs.Processes.Views.{process_of, held_processes}
 use Rattle.occ_tree_grammar.specs.declared.tree.process.Process.{Process}
 use Rattle.occ_tree_grammar.specs.declared.tree.process.Stmt.{Row_of-Process, end_of-Process, more_of-Process, items-the_row-Process, items_hidden-the_row-Process-4}
-use Rattle.occ_tree_grammar.specs.declared.tree.process.Stmt.TheVariants as stmts
 use Rattle.occ_tree_grammar.specs.declared.tree.process.Arm.TheBlock.{hidden-the_row-Process-4}
 use Rattle.occ_term.specs.Terms.{Term, Terms, no_terms, then_term}
 use Rattle.occ_term.specs.View.{terms}

@@ -1,5 +1,5 @@
 -- What stands behind declarations, step by step, and what makes it smaller.
-use Rattle.std.proofs.Common.{◌≡◌, ◌≤◌, ◌+◌, ℕ, List, [], Some, None, ap, sym, ◌∙◌, arith}
+use Rattle.std.proofs.Common.{◌≡◌, ◌≤◌, ◌+◌, ℕ, List, Some, None, ap, sym, ◌∙◌, arith}
 use Rattle.occ_tree_grammar.specs.Many.{◌>>=◌}
 use Rattle.occ_term.specs.Terms.{Term, Declaration}
 use Rattle.occ_check_meaning.specs.Actions.{headed, opening}

@@ -1,6 +1,6 @@
 //! The blocks of the scopes that are open while a program is unfolded.
 
-ghost use Rattle.std.specs.Prelude.{◌≡◌, ◌+◌, ◌<◌, ◌≤◌, ◌++◌, ◌∷◌, [], ℕ, IfErr, OnOk, length, reverse, take};
+ghost use Rattle.std.specs.Prelude.{◌≡◌, ◌+◌, ◌<◌, ◌≤◌, ◌∷◌, [], ℕ, IfErr, OnOk, length, reverse, take};
 ghost use Rattle.occ_check_names.specs.declared.fault.CheckFault.TheVariants.{Memory};
 ghost use Rattle.occ_check_names.specs.View.{binding_of, innermost, scope_in};
 

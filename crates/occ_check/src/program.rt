@@ -1,7 +1,6 @@
 //! Whole programs: the main process behind the items that stand before it.
 
-ghost use Rattle.std.specs.Prelude.{◌≡◌, ◌++◌, ◌∷◌, ◌≤◌, ◌<◌, IfErr, IfOk, OnOk, None, Option, Some, [], length, map, option_map};
-ghost use Rattle.occ_tree_grammar.specs.Expressions.Trees as trees;
+ghost use Rattle.std.specs.Prelude.{◌≡◌, ◌≤◌, ◌<◌, IfErr, IfOk, OnOk, None, Option, Some, [], length, map, option_map};
 ghost use Rattle.occ_tree_grammar.specs.Lines.Trees.{by_channel, carries};
 ghost use Rattle.occ_tree_grammar.specs.Lines.Views as lines;
 ghost use Rattle.occ_tree_grammar.specs.Processes.Views.{item_of, process_of, program_of};

@@ -1,6 +1,6 @@
 -- The cells of a process: rows of cells that are sorted, and the numbers in them.
 use Rattle.std.specs.Prelude.{nat_eq, nat_le, nat_lt, max, take, ◌&&◌, ◌||◌, if◌then◌else◌}
-use Rattle.std.specs.List.{All, list_any}
+use Rattle.std.specs.List.{All}
 use Rattle.std.specs.List.Sorted.{IsNonDecreasingBy, IsPermutation}
 use Rattle.std.proofs.Common.{◌≡◌, ℕ, zero, suc, ◌+◌, ◌-◌, ◌<◌, ◌≤◌, Bool, true, false, IsTrue, List, [], ◌∷◌, ◌++◌, drop, get_or, length, refl, sym, ap, ◌∙◌, subst, add-zero, arith, length-append}
 use Rattle.std.proofs.Math.Seq.{drop-cons}
@@ -8,7 +8,6 @@ use Rattle.std.proofs.lemmas.Bool.Decides.{nat_tests}
 use Rattle.std.proofs.lemmas.List.Folds.{list_any-append, list_any_more}
 use Rattle.std.proofs.lemmas.List.Sorted.{list_any-IsPermutation}
 use Rattle.std.proofs.lemmas.List.Elements.{All-append, All-cons}
-use Rattle.occ_term.specs.Uses.{Numbers}
 use Rattle.occ_usage.specs.Noted.{between, use_of, uses_in}
 use Rattle.occ_term.specs.Frames.{is_held}
 use Rattle.occ_usage.specs.declared.noted.Use.{Use}
@@ -18,7 +17,8 @@ use Rattle.occ_code.proofs.Emitting.{drop_all}
 use Rattle.occ_code.specs.SameStop.{AreAbove, IsRising, Lists}
 use Rattle.occ_code.specs.Within.{AreWithin}
 use Rattle.occ_code.specs.declared.compiler.cells.Row.{Row}
-use Rattle.occ_code.specs.Cells.{is_counted, counted, covers, end_of, furthest, numbers_from, in_rows, AddsRow, Gathered}
+use Rattle.occ_code.specs.Cells.{is_counted, counted, covers, end_of, furthest, in_rows, AddsRow, Gathered}
+use Rattle.occ_term.specs.CellRows.{numbers_from}
 use Rattle.occ_term.specs.UnfoldedProgram.{most_cells}
 
 -- ---- what is covered is used
@@ -112,26 +112,6 @@ numbers_more first zero = ap (λ m. m ∷ []) (sym (add-zero first))
 numbers_more first (suc n) =
     let same : suc first + n ≡ first + suc n = omega arith in
     ap (λ l. first ∷ l) (numbers_more (suc first) n) ∙ ap (λ m. first ∷ (numbers_from (suc first) n ++ m ∷ [])) same
-
-pub pushed_number : (xs ys zs : List ℕ) (first number : ℕ) → first ≤ number → ys ≡ xs ++ numbers_from first (number - first) → zs ≡ ys ++ number ∷ [] → zs ≡ xs ++ numbers_from first (number + 1 - first)
-pushed_number xs ys zs first number from before is =
-    let more : number + 1 - first ≡ suc (number - first) = omega (arith, from) in
-    let last : first + (number - first) ≡ number = omega (arith, from) in
-    is ∙ ap (λ l. l ++ number ∷ []) before ∙ append-assoc xs (numbers_from first (number - first)) (number ∷ [])
-    ∙ ap (λ m. xs ++ (numbers_from first (number - first) ++ m ∷ [])) (sym last)
-    ∙ ap (λ l. xs ++ l) (sym (numbers_more first (number - first))) ∙ ap (λ n. xs ++ numbers_from first n) (sym more)
-
-pub no_numbers : (xs ys : List ℕ) (first : ℕ) → ys ≡ xs → ys ≡ xs ++ numbers_from first (first - first)
-no_numbers xs ys first is =
-    let none : first - first ≡ 0 = omega arith in
-    is ∙ sym (append-nil xs) ∙ ap (λ n. xs ++ numbers_from first n) (sym none)
-
-pub all_numbers : (xs ys : List ℕ) (first number end : ℕ) → end ≤ number → (first ≤ end → number ≤ end) → (end ≤ first → number ≡ first) → ys ≡ xs ++ numbers_from first (number - first) → ys ≡ xs ++ numbers_from first (end - first)
-all_numbers xs ys first number end past within none is = is ∙ ap (λ n. xs ++ numbers_from first n) (by (nat_le first end) refl)
-  where
-    by : (b : Bool) → nat_le first end ≡ b → number - first ≡ end - first
-    by true t = let w = within (grind (arith, nat_tests)) in omega (arith, w, past)
-    by false t = let short : end ≤ first = grind (arith, nat_tests) in let n = none short in omega (arith, n, short)
 
 length-numbers : (first n : ℕ) → length (numbers_from first n) ≡ n
 length-numbers first zero = refl

@@ -1,6 +1,6 @@
 -- The code of an ALT's arms, from its end to its start.
 use Rattle.std.specs.Prelude.{set, ◌-◌}
-use Rattle.std.proofs.Common.{◌≡◌, ℕ, pos, ◌+◌, ◌<◌, ◌≤◌, List, [], ◌∷◌, ◌++◌, length, ap, ◌∙◌, arith, append_assoc, length-append}
+use Rattle.std.proofs.Common.{◌≡◌, ℕ, pos, ◌+◌, ◌≤◌, List, [], ◌∷◌, ◌++◌, length, ap, ◌∙◌, arith, append_assoc, length-append}
 use Rattle.occ_code.specs.Machine.{Instruction, Push, Jump, DropOne, NextChoice, BackToChoice, PassArms, IfTaken, SetAgain, ChooseArm}
 use Rattle.occ_code.specs.Emitted.{arm_code, declared_arms_code, each_arm_code}
 use Rattle.occ_code.specs.View.{emitted_instruction, Emits, Behind}

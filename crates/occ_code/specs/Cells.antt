@@ -1,6 +1,6 @@
 -- The cells of a process, from the uses of its term.
 -- Manual: nothing; this is (own).
-use Rattle.std.specs.Prelude.{Bool, IsTrue, List, [], false, if◌then◌else◌, length, max, nat_lt, not, slice_index_or, suc, take, true, zero, ℕ, ◌&&◌, ◌++◌, ◌<◌, ◌≤◌, ◌||◌, ◌∷◌, ◌≡◌}
+use Rattle.std.specs.Prelude.{Bool, IsTrue, List, [], false, if◌then◌else◌, length, max, nat_lt, not, slice_index_or, take, true, ℕ, ◌&&◌, ◌++◌, ◌<◌, ◌≤◌, ◌||◌, ◌∷◌, ◌≡◌}
 use Rattle.std.specs.List.{list_any}
 use Rattle.occ_term.specs.UnfoldedProgram.{most_cells}
 use Rattle.occ_code.specs.declared.compiler.cells.Row.{Row}
@@ -35,11 +35,6 @@ end_of writes_only u = if is_counted writes_only u.kind && nat_lt u.first u.end 
 abbrev pub furthest : Bool → List Use → ℕ
 furthest writes_only [] = 0
 furthest writes_only (u ∷ us) = max (end_of writes_only u) (furthest writes_only us)
-
--- so many numbers in a row
-abbrev pub numbers_from : ℕ → ℕ → List ℕ
-numbers_from first zero = []
-numbers_from first (suc n) = first ∷ numbers_from (suc first) n
 
 abbrev pub in_rows : List Row → Numbers
 in_rows rows c = list_any (λ row. between row.first row.end c) rows

@@ -4,3 +4,4 @@ pub mod Leases
 pub mod Settling
 pub mod Histories
 pub mod Outcomes
+pub mod FaultTexts

@@ -1,5 +1,5 @@
 //! What a network came to, and runs of plans.
-ghost use Rattle.std.specs.Prelude.{◌≡◌, ◌≤◌, ◌⊎◌, IfErr, IfOk, take};
+ghost use Rattle.std.specs.Prelude.{◌≡◌, ◌⊎◌, IfErr, IfOk, take};
 ghost use Rattle.occ_term.specs.Runs.{bytes_of, messages_on};
 ghost use Rattle.occ_choices.specs.Plans.{choices_of, turns_from};
 ghost use Rattle.occ_net_replay.specs.Replay.{Net};

@@ -39,7 +39,7 @@ found_at offers arms i left a r h e ready none rest =
     let others = ready_among (λ (x : Arm). x.chan) offers xs in
     at ∙ sym (ap (λ l. slice_get (ready_among (λ (x : Arm). x.chan) offers l) left) (drop_there arms i a at) ∙ ap (λ b. slice_get (if b then a ∷ others else others) left) ready ∙ ap (slice_get (a ∷ others)) none) ∙ rest
 
-chosen_ready_same : (f g : ℕ → Bool) → ((c : ℕ) → f c ≡ g c) → (arms : List Arm) → ready_among (λ (a : Arm). a.chan) f arms ≡ ready_among (λ (a : Arm). a.chan) g arms
+pub chosen_ready_same : (f g : ℕ → Bool) → ((c : ℕ) → f c ≡ g c) → (arms : List Arm) → ready_among (λ (a : Arm). a.chan) f arms ≡ ready_among (λ (a : Arm). a.chan) g arms
 chosen_ready_same f g h [] = refl
 chosen_ready_same f g h (a ∷ arms) =
     ap (λ xs. if is_ready_on f a.chan then a ∷ xs else xs) (chosen_ready_same f g h arms)

@@ -191,7 +191,7 @@ module _ (p : Program) (kb : List ℕ) (old : Tables) (number place : ℕ) (afte
   -- ---- a process that waits for it takes what is offered
 
   -- an offer of this process is new, and no other one
-  stands_new : (c : ℕ) (m : Message) → after.wait ≡ W.Offers c m → (d : ℕ) → standing net d ≡ false → standing now d ≡ offered_by (Some c) [] d
+  pub stands_new : (c : ℕ) (m : Message) → after.wait ≡ W.Offers c m → (d : ℕ) → standing net d ≡ false → standing now d ≡ offered_by (Some c) [] d
   stands_new c m w d f = by (either_way (nat_eq d c)) ∙ sym (alone_is c d)
     where
       at_number : HasTask now.tasks number after

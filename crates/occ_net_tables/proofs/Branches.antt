@@ -21,15 +21,6 @@ use Rattle.occ_net_tables.proofs.OneChange.{get_some, set_length, set_swap, set_
 
 -- ---- bodies
 
-all_rising : (d : Declared) (n : ℕ) (bs : List Body) (ps : List Numbered) (i : ℕ) (b : Body) → AllDo d n bs ps → slice_get bs i ≡ Some b → IsRising b.cells
-all_rising d n [] ps i b h e = absurd cc
-all_rising d n (x ∷ bs) [] i b h e = absurd h
-all_rising d n (x ∷ bs) (q ∷ ps) zero b h e = let same : x ≡ b = cc in subst (λ z. IsRising z.cells) same h.1.cells.rising
-all_rising d n (x ∷ bs) (q ∷ ps) (suc i) b h e = all_rising d (n + 1) bs ps i b h.2 e
-
-pub body_rising : (p : Program) (i : ℕ) (b : Body) → IsCompiled p → slice_get p.bodies i ≡ Some b → IsRising b.cells
-body_rising p i b c e = all_rising _ 0 p.bodies _ i b c.compiled.bodies e
-
 pub has_body : (p : Program) (i : ℕ) → i < length p.bodies → slice_get p.bodies i ≡ None → ⊥
 has_body p i h e = let x = get_some p.bodies i h in let q = sym x.1 ∙ e in cc
 

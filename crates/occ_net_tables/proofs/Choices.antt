@@ -40,7 +40,7 @@ module _ (p : Program) (kb : List ℕ) (old : Tables) (number place : ℕ) (afte
   abbrev then_ : Net
   then_ = now p kb old number place after net mid
 
-  abbrev tabled : ℕ → Bool
+  abbrev pub tabled : ℕ → Bool
   tabled = offered_by (keyboard_at kb old.used) old.offering.items
 
   at_number : HasTask then_.tasks number after

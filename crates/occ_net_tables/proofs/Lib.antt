@@ -9,6 +9,7 @@ pub mod Choices
 pub mod Keys
 pub mod Undone
 pub mod Branches
+pub mod TakenOver
 pub mod Ends
 pub mod Forked
 pub mod Ended
@@ -17,3 +18,4 @@ pub mod Start
 pub mod Roomy
 pub mod Placing
 pub mod Rerun
+pub mod Counting

@@ -119,15 +119,3 @@ ready_out k (t ∷ ts) (suc i) n place y h f q = by (λ j e. ready_out (k + 1) t
     by again true zero e = absurd (let same : k ≡ n = cc in omega (arith, same, q))
     by again true (suc j) e = ap (λ l. k ∷ l) (again j e)
     by again false j e = again j e
-
--- ---- a rising list has its numbers at or behind their places
-
-beyond : (n : ℕ) (xs : List ℕ) (i : ℕ) → AreAbove n xs → i < length xs → n + 1 + i ≤ get_or xs i 0
-beyond n [] i h l = absurd (omega (arith, l))
-beyond n (x ∷ xs) zero h l = let a = h.0 in omega (arith, a)
-beyond n (x ∷ xs) (suc i) h l = let a = beyond x xs i h.1 (omega (arith, l)) in let b = h.0 in omega (arith, a, b)
-
-pub rising_index : (xs : List ℕ) (i : ℕ) → IsRising xs → i < length xs → i ≤ get_or xs i 0
-rising_index [] i h l = absurd (omega (arith, l))
-rising_index (x ∷ xs) zero h l = omega arith
-rising_index (x ∷ xs) (suc i) h l = let a = beyond x xs i h (omega (arith, l)) in omega (arith, a)

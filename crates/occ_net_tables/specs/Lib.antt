@@ -5,6 +5,7 @@ pub mod Tasks
 pub mod Choosing
 pub mod Holding
 pub mod Settling
+pub mod Counting
 pub mod Room
 pub mod Places
 pub mod Running

@@ -39,7 +39,7 @@ fn is_ready(named: Option<u32>, offering: &[Option<u32>], arm: &Arm) -> bool
 }
 
 /// How many arms are ready.
-fn count_ready(named: Option<u32>, offering: &[Option<u32>], arms: &[Arm]) -> usize
+pub(crate) fn count_ready(named: Option<u32>, offering: &[Option<u32>], arms: &[Arm]) -> usize
     ensures { result ≡ length (ready_among (λ (a : Arm). a.chan) (offered_by named offering.now) arms.now) }
 {
     let mut count = 0;

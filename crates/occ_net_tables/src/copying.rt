@@ -1,31 +1,24 @@
 //! Frames at a fork and at a join.
 ghost use Rattle.std.specs.Prelude.{◌≡◌, IfOk, map, slice_get};
-ghost use Rattle.occ_code.specs.SameStop.{IsRising};
+ghost use Rattle.occ_term.specs.CellRows.{cells_of};
 ghost use Rattle.occ_net_replay.specs.Replay.{copied, merged, taken_from, taken_over};
 ghost use Rattle.occ_net_tables.specs.Room.{first_frame};
 
 use occ_code::{Body, Code, Task};
-use occ_term::Frame;
+use occ_term::{CellRow, Frame, FrameCells};
 use std::alloc::{AllocError, Global};
 
 /// A frame of the body's cells, with the values that another frame has.
 fn branch_frame(alloc: Global, body: &Body, parent: &Frame) -> Result<Frame, AllocError>
-    requires { IsRising body.now.cells }
     ensures { IfOk result (λ f. f ≡ copied body.now parent.now) }
 {
-    let cells = body.cells().as_slice();
-    let mut frame = Frame::new(alloc, body.cells(), body.loops() as usize)?;
-    for (place, cell) in cells.iter().enumerate() {
-        frame.set_in(place as u32, parent.value(*cell));
-    }
-    Ok(frame)
+    Frame::copied_from(alloc, body.cells(), body.loops() as usize, parent)
 }
 
 /// The frame with which a branch begins; a copy of the other one where it has no body.
 fn first_frame(alloc: Global, code: &Code, parent: &Frame, number: u32) -> Result<Frame, AllocError>
     ensures { IfOk result (λ f. f ≡ first_frame code.now.bodies parent.now number) }
 {
-    code.compiled();
     match code.body(number as usize) {
         Some(body) => branch_frame(alloc, body, parent),
         None => parent.copy(alloc),
@@ -48,12 +41,54 @@ pub(crate) fn branch_frames(
     Ok(frames)
 }
 
+fn copy_task(alloc: Global, task: &Option<Task>) -> Result<Option<Task>, AllocError>
+    ensures { IfOk result (λ copy. copy ≡ task.now) }
+{
+    match task {
+        Some(task) => Ok(Some(task.copy(alloc)?)),
+        None => Ok(None),
+    }
+}
+
+/// Copies of these tasks.
+pub(crate) fn copy_tasks(
+    alloc: Global,
+    tasks: &[Option<Task>],
+) -> Result<Vec<Option<Task>>, AllocError>
+    ensures { IfOk result (λ copies. copies.items ≡ tasks.now) }
+{
+    let mut copies = Vec::new(alloc);
+    for task in tasks {
+        copies.push(copy_task(alloc, task)?)?;
+    }
+    Ok(copies)
+}
+
 /// Takes over the values of these cells.
-fn take_over(writes: &[u32], from: &Frame, to: &mut Frame)
+fn take_over(writes: &FrameCells, from: &Frame, to: &mut Frame)
     ensures { to.new ≡ taken_over writes.now from.now to.old }
 {
-    for cell in writes {
-        to.set(u64::from(*cell), from.value(*cell));
+    for row in writes.rows() {
+        take_row(row, from, to);
+    }
+}
+
+/// Takes over the values of cells in a row.
+fn take_row(row: &CellRow, from: &Frame, to: &mut Frame)
+    ensures { to.new ≡ taken_over (cells_of row.now) from.now to.old }
+{
+    match from.row(row.first, row.count()) {
+        Some(values) => to.set_span(row.first, values),
+        None => take_each(row, from, to),
+    }
+}
+
+fn take_each(row: &CellRow, from: &Frame, to: &mut Frame)
+    ensures { to.new ≡ taken_over (cells_of row.now) from.now to.old }
+{
+    for i in 0..row.count() {
+        let cell = row.first + i as u64;
+        to.set(cell, from.value_at(cell));
     }
 }
 

@@ -5,6 +5,7 @@
 
 mod choosing;
 mod copying;
+mod counting;
 mod entries;
 mod forking;
 mod joining;

@@ -66,7 +66,7 @@ fn next_byte(chan: u32, keyboard: &[u8], used: usize) -> Option<u8>
 }
 
 /// The keyboard's channel, where not all of its bytes are taken.
-fn keyboard_channel(keyboard: &[u8], used: usize) -> Option<u32>
+pub(crate) fn keyboard_channel(keyboard: &[u8], used: usize) -> Option<u32>
     ensures { result ≡ keyboard_at keyboard.now used }
 {
     if used < keyboard.len() {

@@ -1,5 +1,5 @@
 //! The trace of a run.
-ghost use Rattle.std.specs.Prelude.{◌≡◌, ◌↔◌, ◌<◌, ◌^◌, ◌++◌, ◌∷◌, [], IsTrue, List, OnErr, OnOk, length};
+ghost use Rattle.std.specs.Prelude.{◌≡◌, ◌↔◌, ◌<◌, ◌^◌, ◌++◌, ◌∷◌, [], IfOk, IsTrue, List, OnErr, OnOk, length};
 ghost use Rattle.occ_net_trace.specs.declared.communication.Communication.{Communication};
 ghost use Rattle.occ_net_trace.specs.Places.{place_behind};
 ghost use Rattle.occ_net_trace.specs.Views.{communication};
@@ -73,6 +73,24 @@ impl Trace {
             words: self.lists.words.as_slice(),
         };
         Entries::new(self.lists.heads.as_slice(), pieces)
+    }
+
+    /// A copy.
+    ///
+    /// # Errors
+    ///
+    /// A refused growth.
+    pub fn copy(&self, alloc: Global) -> Result<Trace, AllocError>
+        ensures { IfOk result (λ copy. copy ≡ self.now) }
+    {
+        Ok(Trace {
+            lists: Lists {
+                heads: Vec::from_slice(alloc, self.lists.heads.as_slice())?,
+                shapes: Vec::from_slice(alloc, self.lists.shapes.as_slice())?,
+                lengths: Vec::from_slice(alloc, self.lists.lengths.as_slice())?,
+                words: Vec::from_slice(alloc, self.lists.words.as_slice())?,
+            },
+        })
     }
 
     /// How far it has come.

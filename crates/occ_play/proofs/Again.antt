@@ -36,7 +36,7 @@ one_unfolding items u v x y =
     let both = both_parts (sym (program_complete x.1) ∙ program_complete y.1) in
     record { term = both.0; channels = sym x.3 ∙ ap (λ n. n.channels) both.1 ∙ y.3 }
 
-one_meaning : (source : List ℕ) (u v : UnfoldedProgram) → Unfolds source u → Unfolds source v → MeansSame u v
+pub one_meaning : (source : List ℕ) (u v : UnfoldedProgram) → Unfolds source u → Unfolds source v → MeansSame u v
 one_meaning source u v x y =
     let lines : x.lines ≡ y.lines = one_reading source x.lines y.lines x.read y.read in
     let items : x.items ≡ y.items = one_tree x.items y.items x.parsed.bounded y.parsed.bounded (x.parsed.shown ∙ lines ∙ sym y.parsed.shown) in

@@ -1,4 +1,4 @@
 mod Headline
-mod Again
+pub mod Again
 pub mod Working
 mod Beside

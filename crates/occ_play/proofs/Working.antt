@@ -1,5 +1,5 @@
 -- The answer of a run by workers.
-use Rattle.std.proofs.Common.{◌≡◌, ◌∙◌, ◌<◌, ◌≤◌, ◌⊎◌, ℕ, List, Bool, length, sym, ap, subst}
+use Rattle.std.proofs.Common.{◌≡◌, ◌∙◌, ◌≤◌, ℕ, List, Bool, length, sym, ap, subst}
 use Rattle.occ_choices.specs.Crews.{IsCrew}
 use Rattle.occ_code.specs.Compiled.{Program}
 use Rattle.occ_net_replay.specs.declared.choice.Choice.{Choice}

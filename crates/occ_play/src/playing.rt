@@ -198,8 +198,12 @@ fn ran(
     Ok((code, outcome))
 }
 
-/// The code of a source's program.
-pub(crate) fn code_of(options: &Options, alloc: Global, source: &[u8]) -> Result<Code, PlayFault>
+/// The code of a source's program, for turns of these options.
+///
+/// # Errors
+///
+/// As of `play_in`, but for `Memory` and `Write`.
+pub fn code_of(options: &Options, alloc: Global, source: &[u8]) -> Result<Code, PlayFault>
     ensures code { IfOk result (IsTextsCode options.now source.now) }
     ensures refused { IfErr result (RefusesCode options.now source.now) }
 {

@@ -1,5 +1,5 @@
 //! Plays a program by several threads.
-ghost use Rattle.std.specs.Prelude.{◌≡◌, ◌<◌, ◌-◌, ◌^◌, IfOk, IfErr};
+ghost use Rattle.std.specs.Prelude.{◌<◌, ◌-◌, ◌^◌, IfOk, IfErr};
 ghost use Rattle.occ_shown.specs.Counting.{failures_of};
 ghost use Rattle.occ_play.specs.Playing.{AfterFault, Wrote, plain};
 ghost use Rattle.occ_choices.specs.Crews.{IsCrew};

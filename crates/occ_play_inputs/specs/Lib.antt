@@ -2,3 +2,4 @@ pub mod Failures
 pub mod Asked
 pub mod Modes
 pub mod Paths
+pub mod Searches

@@ -5,6 +5,7 @@ ghost use Rattle.occ_choices.specs.Crews.{IsCrew};
 ghost use Rattle.occ_code.specs.Compiled.{IsQuantum};
 ghost use Rattle.occ_play_inputs.specs.Modes.{IsMode};
 ghost use Rattle.occ_play_inputs.specs.Paths.{AreApart};
+ghost use Rattle.occ_play_inputs.specs.Searches.{IsSearch};
 
 use crate::apart::are_apart;
 use clap::builder::ValueParser;
@@ -12,8 +13,9 @@ use clap::error::ErrorKind;
 use clap::{Arg, ArgAction, Command, Error, value_parser};
 use occ_choices::{MOST_WORKERS, is_crew};
 use occ_code::MOST_QUANTUM;
+use occ_explore::Asked;
 use occ_term::Errors;
-use std::alloc::Global;
+use std::alloc::{AllocError, Global};
 
 /// How many turns a run may take where no word says so.
 pub const DEFAULT_LIMIT: u32 = 1_000_000;
@@ -26,6 +28,20 @@ static MODES: [&str; 2] = ["halt", "stop"];
 
 /// How many communications a chart shows where no word says so.
 pub const DEFAULT_ARROWS: u32 = 200;
+
+/// How many states a search may come to where no word says so.
+pub const DEFAULT_STATES: u32 = 1_000_000;
+
+/// The most states that a word may ask for.
+pub const MOST_STATES: u32 = 10_000_000;
+
+/// What a word may say that a search tells.
+static TOLD: [&str; 2] = ["answers", "endings"];
+
+/// The words that say nothing of a search, and so may not stand beside the one that asks for it.
+static OF_ONE_RUN: [&str; 7] = [
+    "limit", "workers", "choices", "chart", "arrows", "trace", "watch",
+];
 
 /// What is told below the words.
 const MORE_HELP: &str =
@@ -70,11 +86,18 @@ pub struct Words<'a> {
     pub chart: Option<&'a str>,
     /// The most communications that the chart shows.
     pub arrows: u32,
+    /// What a search of all lists of choices tells; none where one run is played. Then `record` names files, one for each
+    /// answer, and the limit, the workers, the choices, the trace and the chart say nothing.
+    pub explore: Option<Asked>,
+    /// How many states the search may come to, 1 to 10,000,000.
+    pub states: u32,
     /// The path of the source; none where standard input is the source.
     pub file: Option<&'a str>,
     ghost limit_in_range: { limit ≤ 10000000 },
     ghost quantum_in_range: { IsQuantum quantum },
     ghost workers_in_range: { ForSome workers IsCrew },
+    ghost some_states: { 1 ≤ states },
+    ghost states_in_range: { states ≤ 10000000 },
     ghost files_apart: { AreApart file choices «record» chart },
 }
 
@@ -105,6 +128,10 @@ pub fn read_words<'a>(alloc: Global, words: &'a [&'a str]) -> Result<Words<'a>, 
             "the number of workers is 1 to 64",
         )?);
     }
+    let states = states_of(matches.get_one::<u32>("states"));
+    if states == 0 || states > MOST_STATES {
+        return Err(command.error(ErrorKind::ValueValidation, "the states are 1 to 10000000")?);
+    }
     let (file, choices) = (matches.get_str("FILE"), matches.get_str("choices"));
     let (record, chart) = (matches.get_str("record"), matches.get_str("chart"));
     if !are_apart(file, choices, record, chart) {
@@ -124,6 +151,8 @@ pub fn read_words<'a>(alloc: Global, words: &'a [&'a str]) -> Result<Words<'a>, 
         record,
         chart,
         arrows: arrows_of(matches.get_one::<u32>("arrows")),
+        explore: explore_of(matches.get_str("explore")),
+        states,
         file,
     })
 }
@@ -169,6 +198,24 @@ fn arrows_of(given: Option<u32>) -> u32
     given.unwrap_or(DEFAULT_ARROWS)
 }
 
+/// How many states a search may come to, where the words gave this number or none.
+fn states_of(given: Option<u32>) -> u32
+    ensures { result ≡ unwrap_or given 1000000 }
+{
+    given.unwrap_or(DEFAULT_STATES)
+}
+
+/// What a search tells, where the words gave this name; none where they ask for none.
+fn explore_of(given: Option<&str>) -> Option<Asked>
+    ensures { IsSearch (option_copied given.entry) result }
+{
+    match given {
+        None => None,
+        Some("endings") => Some(Asked::Endings),
+        Some(_) => Some(Asked::Answers),
+    }
+}
+
 /// The words that the program takes.
 fn command<'a>(alloc: Global) -> Result<Command<'a>, Error> {
     let command = Command::new(alloc, "occam")
@@ -184,6 +231,8 @@ fn command<'a>(alloc: Global) -> Result<Command<'a>, Error> {
         .arg(arrows_word(alloc))?
         .arg(trace_word(alloc))?
         .arg(watch_word(alloc))?
+        .arg(explore_word(alloc)?)?
+        .arg(states_word(alloc)?)?
         .arg(file_word(alloc))?;
     Ok(command)
 }
@@ -231,7 +280,7 @@ fn record_word<'a>(alloc: Global) -> Arg<'a> {
     Arg::new(alloc, "record")
         .long("record")
         .value_name("FILE")
-        .help("Writes the choices that the run used into FILE")
+        .help("Writes the choices that the run used into FILE; of a search those of answer 1 into FILE.1.choices, and so on")
 }
 
 fn chart_word<'a>(alloc: Global) -> Arg<'a> {
@@ -261,6 +310,27 @@ fn watch_word<'a>(alloc: Global) -> Arg<'a> {
         .long("watch")
         .help("Prints each communication to standard error as a thread was shown it that looks on")
         .action(ArgAction::SetTrue)
+}
+
+fn explore_word<'a>(alloc: Global) -> Result<Arg<'a>, AllocError> {
+    Arg::new(alloc, "explore")
+        .long("explore")
+        .value_name("WHAT")
+        .help("Tells what all lists of choices come to, with the screen for answers, without for endings [default: answers]")
+        .num_args(0..=1)
+        .require_equals(true)
+        .default_missing_value("answers")
+        .value_parser(ValueParser::Names(TOLD.as_slice()))
+        .conflicts_with_all(OF_ONE_RUN.as_slice())
+}
+
+fn states_word<'a>(alloc: Global) -> Result<Arg<'a>, AllocError> {
+    Arg::new(alloc, "states")
+        .long("states")
+        .value_name("N")
+        .help("Lets the search come to N states, 1 to 10000000 [default: 1000000]")
+        .value_parser(value_parser!(u32).range(1..=10_000_000))
+        .requires_arg("explore")
 }
 
 fn file_word<'a>(alloc: Global) -> Arg<'a> {

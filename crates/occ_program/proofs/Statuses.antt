@@ -1,7 +1,7 @@
 -- Exit statuses are at most 7, and what they come from.
 use Rattle.std.proofs.Common.{ℕ, ◌≤◌, ◌≡◌, ◌⊎◌, inl, inr, List, Bool, true, false, ap, arith, refl, subst, sym}
 use Rattle.std.specs.Result.{result_and}
-use Rattle.std.specs.Prelude.{Result, Ok, Err, IfOk, IfErr, None, Option, Some, unwrap_or}
+use Rattle.std.specs.Prelude.{Result, Ok, Err, IfOk, IfErr, None, Option, Some, if◌then◌else◌, unwrap_or}
 use Rattle.std.specs.Option.{ForSome}
 use Rattle.occ_choices.specs.Crews.{IsCrew}
 use Rattle.occ_text.specs.declared.fault.TextFault.TheVariants as text
@@ -27,7 +27,10 @@ use Rattle.occ_play_inputs.specs.Failures.{failure_status}
 use Rattle.occ_play_inputs.specs.declared.words.Words.{Words as Asked}
 use Rattle.occ_play.specs.declared.playing.Options.{Options}
 use Rattle.occ_watching.specs.Coming.{CameTo}
-use Rattle.occ_program.specs.Coming.{CameToBy, options_in, workers_asked, IsStatusFor, ProgramStatus, of_play, of_failure, of_help}
+use Rattle.occ_explore.specs.declared.exploration.Asked.{Asked as AskedFor}
+use Rattle.occ_explore.specs.declared.exploration.Exploration.{Exploration}
+use Rattle.occ_exploring.specs.Statuses.{is_fault, is_stop, search_status, some_ends}
+use Rattle.occ_program.specs.Coming.{CameToBy, options_in, workers_asked, IsSearchStatus, IsStatusFor, ProgramStatus, found_status, of_play, of_search, of_failure, of_help}
 
 ending_small : (e : Ending) → ending_status e ≤ 7
 ending_small Ended = omega arith
@@ -81,10 +84,27 @@ pub came_to_both : {Done : Type 0} (workers : Option ℕ) (words : Asked) (sourc
 came_to_both workers words source keyboard list (Ok done) r crew h g = g
 came_to_both workers words source keyboard list (Err f) r crew h g = refused_by workers words source keyboard list f crew h
 
--- what was played has its status, and so has a failure
-pub played_status : (words : Asked) (r : Result ℕ Failure) → IfOk r (IsStatusFor words) → IfOk r ProgramStatus
-played_status words (Ok s) h = of_play words h
-played_status words (Err f) h = tt
+-- what was played has its status, what was searched, and so has a failure
+pub played_status : (words : Asked) (r : Result ℕ Failure) → words.explore ≡ None → IfOk r (IsStatusFor words) → IfOk r ProgramStatus
+played_status words (Ok s) one h = of_play words one h
+played_status words (Err f) one h = tt
+
+pub searched_status : (words : Asked) (asked : AskedFor) (r : Result ℕ Failure) → words.explore ≡ Some asked → IfOk r (IsSearchStatus words asked) → IfOk r ProgramStatus
+searched_status words asked (Ok s) all h = of_search words asked all h
+searched_status words asked (Err f) all h = tt
+
+search_small : (e : Exploration) → search_status e ≤ 7
+search_small e = by e.all (some_ends is_fault e.answers.items) (some_ends is_stop e.answers.items)
+  where
+    by : (all fault stop : Bool) → (if all then (if fault then 3 else if stop then 2 else 0) else 4) ≤ 7
+    by true true stop = omega arith
+    by true false true = omega arith
+    by true false false = omega arith
+    by false fault stop = omega arith
+
+pub found_small : (found : Result Exploration PlayFault) → found_status found ≤ 7
+found_small (Ok e) = search_small e
+found_small (Err f) = fault_small f
 
 pub failed_status : (f : Failure) (s : ℕ) → (s ≡ failure_status f) ⊎ ((failure_status f ≡ 0) × (s ≡ 6)) → ProgramStatus s
 failed_status f s (inl e) = subst ProgramStatus (sym e) (of_failure f)

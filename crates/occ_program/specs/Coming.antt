@@ -12,8 +12,12 @@ use Rattle.occ_play_inputs.specs.declared.words.Words.{Words}
 use Rattle.occ_play_inputs.specs.Asked.{IsAskedBy}
 use Rattle.occ_play_inputs.specs.Failures.{failure_status}
 use Rattle.occ_choices.specs.Plans.{choices_of}
+use Rattle.occ_play.specs.Status.{fault_status, status}
+use Rattle.occ_explore.specs.declared.exploration.Asked.{Asked}
+use Rattle.occ_explore.specs.declared.exploration.Exploration.{Exploration}
+use Rattle.occ_exploring.specs.Explored.{IsExplored}
+use Rattle.occ_exploring.specs.Statuses.{search_status}
 use Rattle.occ_watching.specs.Coming.{CameByWorkers, CameTo}
-use Rattle.occ_play.specs.Status.{status}
 
 -- so many workers take the turns, where the words say so and name no file of choices; one, where the words say no more than that the run
 -- is watched
@@ -41,8 +45,31 @@ pub record IsStatusFor (words : Words) (s : ℕ) : Type 0 where
   pub came : CameToBy (workers_asked words.watch words.workers words.choices) words source keyboard (choices_of plan) played
   pub is : s ≡ status played
 
--- What a status of the program says: that of what a source came to, or that of a failure, or 6 where help could not be printed.
+-- ---- a search of all lists of choices
+
+-- what it came to, as the words ask
+abbrev pub SearchedTo : Words → (source keyboard : List ℕ) → Asked → Result Exploration PlayFault → Type 0
+SearchedTo words source keyboard asked (Ok e) = IsExplored (options_in words) source keyboard asked words.states e
+SearchedTo words source keyboard asked (Err fault) = Refuses (options_in words) source fault
+
+abbrev pub found_status : Result Exploration PlayFault → ℕ
+found_status (Ok e) = search_status e
+found_status (Err fault) = fault_status fault
+
+-- the status of a search of a source
+pub record IsSearchStatus (words : Words) (asked : Asked) (s : ℕ) : Type 0 where
+  pub source : List ℕ
+  pub keyboard : List ℕ
+  pub found : Result Exploration PlayFault
+  pub searched : SearchedTo words source keyboard asked found
+  pub is : s ≡ found_status found
+
+-- ---- the program
+
+-- What a status of the program says: that of what a source came to, played or searched as the words ask, or that of a failure, or 6
+-- where help could not be printed.
 pub data ProgramStatus : ℕ → Type 0 where
-  of_play : (words : Words) {s : ℕ} → IsStatusFor words s → ProgramStatus s
+  of_play : (words : Words) {s : ℕ} → words.explore ≡ None → IsStatusFor words s → ProgramStatus s
+  of_search : (words : Words) (asked : Asked) {s : ℕ} → words.explore ≡ Some asked → IsSearchStatus words asked s → ProgramStatus s
   of_failure : (failure : Failure) → ProgramStatus (failure_status failure)
   of_help : (help : Failure) → failure_status help ≡ 0 → ProgramStatus 6

@@ -5,6 +5,7 @@
 
 mod drawing;
 pub mod exit;
+mod exploring;
 mod page;
 pub mod program;
 mod recording;

@@ -8,6 +8,7 @@ ghost use Rattle.occ_program.specs.Lines.{run_line};
 ghost use Rattle.occ_choices.specs.Plans.{choices_of};
 
 use crate::drawing::draw;
+use crate::exploring::explore_words;
 use crate::recording::record;
 use occ_play::{
     FreeGate, Opened, Options, PlayFault, Played, RunFault, play_in, play_workers_in, status_of,
@@ -26,7 +27,7 @@ use std::{env, io};
 
 /// What is told below wrong words.
 const ALLOWED: &str =
-    "Allowed are --limit N with N from 0 to 10000000, --quantum N with N from 1 to 65536, --errors halt or stop, --workers N with N from 1 to 64, --choices FILE, --record FILE, --chart FILE, --arrows N, --trace, --watch, --help, and one FILE.";
+    "Allowed are --limit N with N from 0 to 10000000, --quantum N with N from 1 to 65536, --errors halt or stop, --workers N with N from 1 to 64, --choices FILE, --record FILE, --chart FILE, --arrows N, --trace, --watch, --explore or --explore=endings, --states N with N from 1 to 10000000, --help, and one FILE.";
 
 /// Runs the program on the arguments, the files and the streams of `rt`, and answers its exit status: 0 ended or
 /// help, 1 source refused, 2 stopped, 3 fault, 4 limit, 5 want of memory or
@@ -57,7 +58,22 @@ fn run_arguments<R: Files + Input + Print + Eprint + Env + AllocGlobal + Threads
         .map(|argument| argument.as_str())
         .collect(alloc)?;
     let words = read_words(alloc, words.as_slice()).map_err(of_words)?;
-    run_words(rt, alloc, &words)
+    do_words(rt, alloc, &words)
+}
+
+/// Searches all lists of choices, or plays one run, as the words ask.
+fn do_words<R: Files + Input + Print + Eprint + Threads + Wait + Sync>(
+    rt: &R,
+    alloc: Global,
+    words: &Words<'_>,
+) -> Result<u8, Failure>
+    ensures came { IfOk result (λ status. ProgramStatus status) }
+    ensures small { IfOk result (λ status. status ≤ 7) }
+{
+    match words.explore {
+        Some(asked) => explore_words(rt, alloc, words, asked),
+        None => run_words(rt, alloc, words),
+    }
 }
 
 /// Reads what the words name, plays it, records the used choices and draws a chart where the words ask for that. The
@@ -89,7 +105,7 @@ fn told<R: Eprint>(rt: &R, came: &Result<Played, PlayFault>) -> u8
 }
 
 /// Prints the line of a fault.
-fn tell<R: Eprint>(rt: &R, fault: &PlayFault) {
+pub(crate) fn tell<R: Eprint>(rt: &R, fault: &PlayFault) {
     let _ = match fault {
         PlayFault::Run(fault) => eprintln!(rt; "{}", line_of(*fault)),
         fault => eprintln!(rt; "{fault}"),

@@ -1,26 +1,39 @@
 //! Why the workers gave no outcome.
-ghost use Rattle.std.specs.Prelude.{◌≡◌};
+ghost use Rattle.std.specs.Prelude.{◌≡◌, Some};
+ghost use Rattle.occ_run.specs.FaultTexts.{fault_text};
 ghost use Rattle.occ_run.specs.declared.fault.RunFault.TheVariants.{Memory};
 
 use std::alloc::AllocError;
-use thiserror::Error;
+use std::error::Error;
+use std::fmt;
 
 /// Why the workers gave no outcome.
-#[derive(Clone, Copy, Debug, PartialEq, Eq, Error)]
+#[derive(Clone, Copy, Debug, PartialEq, Eq)]
 pub enum RunFault {
     /// What was gathered is no run of this code on this keyboard within this limit.
-    #[error("refused 80 Foreign")]
     Foreign,
     /// The number of workers is not from 1 to 64.
-    #[error("refused 81 BadWorkers")]
     BadWorkers,
     /// A thread was refused.
-    #[error("refused 88 Spawn")]
     Spawn,
     /// A growth was refused.
-    #[error("refused 89 Memory")]
     Memory,
 }
+
+impl fmt::Display for RunFault {
+    ghost output = { λ fault. Some (fault_text fault) };
+
+    fn fmt<W: fmt::Write>(&self, f: &mut fmt::Formatter<W>) -> fmt::Result {
+        match self {
+            RunFault::Foreign => write!(f, "refused 80 Foreign"),
+            RunFault::BadWorkers => write!(f, "refused 81 BadWorkers"),
+            RunFault::Spawn => write!(f, "refused 88 Spawn"),
+            RunFault::Memory => write!(f, "refused 89 Memory"),
+        }
+    }
+}
+
+impl Error for RunFault {}
 
 impl From<AllocError> for RunFault {
     ghost from_gives = { λ _ e. e ≡ Memory };

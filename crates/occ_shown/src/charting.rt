@@ -1,5 +1,5 @@
 //! The sequence chart of a trace, in SVG.
-ghost use Rattle.std.specs.Prelude.{◌≡◌, ◌++◌, ◌∷◌, [], ◌+◌, ◌*◌, ◌<◌, ◌≤◌, ◌^◌, IfOk, OnOk, codes, length, map, ℕ};
+ghost use Rattle.std.specs.Prelude.{◌≡◌, ◌++◌, [], ◌+◌, ◌*◌, ◌<◌, ◌≤◌, ◌^◌, IfOk, OnOk, codes, length, map, ℕ};
 ghost use Rattle.occ_term.specs.Runs.{Entry, Names, entries, entry_of};
 ghost use Rattle.occ_net_tables.specs.Holding.{communication_of, end_of};
 ghost use Rattle.occ_shown.specs.Answers.{end_text, names_of};

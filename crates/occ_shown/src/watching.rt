@@ -1,5 +1,5 @@
 //! What watchers are shown of a run, and how that is written.
-ghost use Rattle.std.specs.Prelude.{◌≡◌, ◌↔◌, ◌++◌, IfOk, IsTrue, OnOk, length, map, slice_get};
+ghost use Rattle.std.specs.Prelude.{◌≡◌, ◌↔◌, ◌++◌, IfOk, IsTrue, OnOk, map, slice_get};
 ghost use Rattle.std.specs.Option.{option_copied};
 ghost use Rattle.occ_term.specs.Runs.{entries, entry_of, tag_shown};
 ghost use Rattle.occ_shown.specs.Answers.{head_text, items_text, later_text, line_text, name_at, names_of, part_text, trace_text};

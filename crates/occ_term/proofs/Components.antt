@@ -1,9 +1,9 @@
 -- Names of components.
-use Rattle.std.proofs.Common.{◌≡◌, ◌∙◌, ◌++◌, ◌+◌, ◌<◌, sym, ap, refl, ℕ, suc, List, [], ◌∷◌, arith, get_or, length, take, Option, Some, None}
+use Rattle.std.proofs.Common.{◌≡◌, ◌∙◌, ◌++◌, ◌+◌, ◌<◌, sym, ap, refl, ℕ, suc, List, [], ◌∷◌, arith, get_or, length, take}
 use Rattle.std.proofs.Math.Seq.{take-suc}
 use Rattle.std.proofs.lemmas.List.{append_assoc}
 use Rattle.std.specs.Fmt.{decimal}
-use Rattle.occ_term.specs.Names.{component_name, with_last, with_subscripts}
+use Rattle.occ_term.specs.Names.{component_name, with_subscripts}
 
 pub no_subscripts : (x : List ℕ) → with_subscripts x [] ≡ x
 unfolding with_subscripts

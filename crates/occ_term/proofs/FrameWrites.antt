@@ -1,24 +1,13 @@
 -- Frames that are read and written by the place of a cell.
-use Rattle.std.specs.Prelude.{nat_eq, nat_lt, option_map, if◌then◌else◌, replicate, unwrap_or}
-use Rattle.std.proofs.Common.{◌≡◌, ◌∙◌, sym, refl, ap, ℕ, zero, suc, ◌+◌, ◌-◌, ◌<◌, ◌≤◌, Bool, true, false, Option, Some, None, List, [], ◌∷◌, length, get_or, drop, take, ℤ, pos, add-zero, arith}
+use Rattle.std.specs.Prelude.{nat_eq, option_map, if◌then◌else◌, replicate, unwrap_or}
+use Rattle.std.proofs.Common.{◌≡◌, ◌∙◌, sym, refl, ap, ℕ, zero, suc, ◌+◌, ◌-◌, ◌<◌, ◌≤◌, Bool, true, false, Option, Some, None, List, [], ◌∷◌, ◌++◌, length, get_or, drop, take, ℤ, pos, add-zero, arith}
 use Rattle.std.proofs.Math.Seq.{drop-cons}
 use Rattle.std.proofs.Math.ListN.{set}
 use Rattle.std.proofs.lemmas.Bool.Decides.{nat_tests}
 use Rattle.occ_term.specs.Values.{values_from}
-use Rattle.occ_term.specs.Frames.{Ascends, Variables, row_with, value_at, values_with, frame_from, frame_with, span_with, place_among, place_in, counter_at, counters_with}
+use Rattle.occ_term.specs.Frames.{Variables, row_with, value_at, values_with, frame_from, frame_with, span_with, place_among, place_in, counter_at, counters_with}
 
 -- ---- the place of a cell
-
-pub place_first : (xs : List ℕ) (i c : ℕ) → i < length xs → get_or xs i 0 ≡ c → ((k : ℕ) → k < i → get_or xs k 0 ≡ c → ⊥) → place_in xs c ≡ Some i
-place_first [] i c h e n = absurd (omega (arith, h))
-place_first (x ∷ xs) zero c h e n =
-    let same : nat_eq x c ≡ true = grind (arith, nat_tests) in
-    ap (λ b. if b then Some 0 else option_map suc (place_in xs c)) same
-place_first (x ∷ xs) (suc i) c h e n =
-    let before : x ≡ c → ⊥ = n 0 (omega arith) in
-    let other : nat_eq x c ≡ false = grind (arith, nat_tests) in
-    ap (λ b. if b then Some 0 else option_map suc (place_in xs c)) other
-    ∙ ap (option_map suc) (place_first xs i c (omega arith) e (λ k m. n (suc k) (omega arith)))
 
 pub place_none : (xs : List ℕ) (c : ℕ) → ((k : ℕ) → k < length xs → get_or xs k 0 ≡ c → ⊥) → place_in xs c ≡ None
 place_none [] c n = refl
@@ -27,20 +16,6 @@ place_none (x ∷ xs) c n =
     let other : nat_eq x c ≡ false = grind (arith, nat_tests) in
     ap (λ b. if b then Some 0 else option_map suc (place_in xs c)) other
     ∙ ap (option_map suc) (place_none xs c (λ k m. n (suc k) (omega arith)))
-
--- nor between what is less and what is greater
-pub none_between : (xs : List ℕ) (c low high : ℕ) → high ≤ low → ((k : ℕ) → k < low → get_or xs k 0 < c) → ((k : ℕ) → high ≤ k → k < length xs → c < get_or xs k 0) → (k : ℕ) → k < length xs → get_or xs k 0 ≡ c → ⊥
-none_between xs c low high meet below above k h e = by (nat_lt k low) refl
-  where
-    by : (b : Bool) → nat_lt k low ≡ b → ⊥
-    by true t =
-        let less : k < low = grind (arith, nat_tests) in
-        let under = below k less in
-        omega (arith, under, e)
-    by false t =
-        let more : high ≤ k = grind (arith, nat_tests) in
-        let over = above k more h in
-        omega (arith, over, e)
 
 end_or_before : (o : Option ℕ) (n : ℕ) → unwrap_or o n ≤ n → unwrap_or (option_map suc o) (suc n) ≤ suc n
 end_or_before None n h = omega arith
@@ -125,27 +100,6 @@ span_beyond xs held (v ∷ vs) first bound h m =
 
 -- ---- places in a row
 
-ascends_by : (xs : List ℕ) → Ascends xs → (i d : ℕ) → i + d < length xs → get_or xs i 0 + d ≤ get_or xs (i + d) 0
-ascends_by xs up i zero h =
-    let here : get_or xs (i + 0) 0 ≡ get_or xs i 0 = ap (λ k. get_or xs k 0) (add-zero i) in
-    omega (arith, here)
-ascends_by xs up i (suc d) h =
-    let before = ascends_by xs up i d (omega (arith, h)) in
-    let next = up (i + d) (i + suc d) (omega arith) h in
-    omega (arith, before, next)
-
--- a rising list that rises by as much as there are places between two of them has a cell in a row at each
-pub row_places : (xs : List ℕ) → Ascends xs → (place count first last : ℕ) → place + count ≤ length xs → last ≡ place + (count - 1) → get_or xs place 0 ≡ first → get_or xs last 0 ≡ first + (count - 1)
-    → (k : ℕ) → k < count → place_in xs (first + k) ≡ Some (place + k)
-row_places xs up place count first last within is begun ends k h =
-    let inside : place + k < length xs = omega (arith, within, h) in
-    let low = ascends_by xs up place k inside in
-    let far : place + k + (count - 1 - k) ≡ last = omega (arith, is, h) in
-    let high = ascends_by xs up (place + k) (count - 1 - k) (omega (arith, within, h)) in
-    let at_far : get_or xs (place + k + (count - 1 - k)) 0 ≡ get_or xs last 0 = ap (λ m. get_or xs m 0) far in
-    let there : get_or xs (place + k) 0 ≡ first + k = omega (arith, low, high, at_far, begun, ends, h) in
-    place_first xs (place + k) (first + k) inside there (λ j lt e. let less = up j (place + k) lt inside in omega (arith, less, e, there))
-
 -- cells in a row, at places in a row
 abbrev StandInRow : List ℕ → ℕ → ℕ → ℕ → Type 0
 StandInRow xs first place count = (k : ℕ) → k < count → place_in xs (first + k) ≡ Some (place + k)
@@ -210,3 +164,20 @@ pub counters_past : (ns : List ℕ) (slot m : ℕ) → length ns ≤ slot → co
 counters_past [] slot m h = refl
 counters_past (n ∷ ns) zero m h = absurd (omega (arith, h))
 counters_past (n ∷ ns) (suc slot) m h = ap (λ xs. n ∷ xs) (counters_past ns slot m (omega arith))
+
+-- ---- values at places in a row, as one piece
+
+row_next : (x : ℤ) (held : List ℤ) (place : ℕ) (vs : List ℤ) → row_with (x ∷ held) (suc place) vs ≡ x ∷ row_with held place vs
+row_next x held place [] = refl
+row_next x held place (v ∷ vs) = row_next x (set held place v) (suc place) vs
+
+row_start : (held vs : List ℤ) → length vs ≤ length held → vs ++ drop (length vs) held ≡ row_with held 0 vs
+row_start [] [] h = refl
+row_start (w ∷ held) [] h = refl
+row_start [] (v ∷ vs) h = absurd (omega (arith, h))
+row_start (w ∷ held) (v ∷ vs) h = ap (λ l. v ∷ l) (row_start held vs (omega (arith, h))) ∙ sym (row_next v held 0 vs)
+
+pub row_mid : (held vs : List ℤ) (place : ℕ) → place + length vs ≤ length held → take place held ++ (vs ++ drop (length vs) (drop place held)) ≡ row_with held place vs
+row_mid held vs zero h = row_start held vs (omega (arith, h))
+row_mid [] vs (suc place) h = absurd (omega (arith, h))
+row_mid (w ∷ held) vs (suc place) h = ap (λ l. w ∷ l) (row_mid held vs place (omega (arith, h))) ∙ sym (row_next w held place vs)

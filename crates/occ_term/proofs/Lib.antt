@@ -15,6 +15,9 @@ pub mod KeptStores
 pub mod KeptSteps
 pub mod RestOnReads
 pub mod FrameWrites
+pub mod RowsOfCells
+pub mod GatheredRows
+pub mod FrameRows
 pub mod AllOpened
 pub mod Components
 pub mod Few

@@ -12,6 +12,7 @@ pub mod Uses
 pub mod Typing
 pub mod TermTyping
 pub mod Frames
+pub mod CellRows
 pub mod Evaluation
 pub mod TypedSteps
 pub mod StepUses

@@ -1,8 +1,10 @@
 //! The variables of a process.
-ghost use Rattle.std.specs.Prelude.{◌≡◌, ◌<◌, ◌≤◌, ◌+◌, ◌↔◌, ◌^◌, IsTrue, IfOk, IfSome, drop, length, pos, replicate, take, slice_index_or, slice_set, []};
+ghost use Rattle.std.specs.Prelude.{◌≡◌, ◌<◌, ◌≤◌, ◌+◌, ◌++◌, ◌↔◌, ◌^◌, IsTrue, IfOk, IfSome, OnOk, drop, length, map, pos, replicate, take, slice_index_or, slice_set, []};
+ghost use Rattle.occ_term.specs.CellRows.{cells_of};
 ghost use Rattle.occ_term.specs.Frames.{at, in_place, value_at, values_with, zero_frame, frame_with, with_place, frame_from, row_with, span_with, counter_at, with_counter};
 ghost use Rattle.occ_term.specs.Values.{values_from};
 
+use crate::cell_rows::CellRow;
 use crate::frame_cells::FrameCells;
 use crate::message::same_values;
 use std::alloc::{AllocError, Global};
@@ -39,7 +41,27 @@ impl Frame {
     pub fn new(alloc: Global, cells: &FrameCells, loops: usize) -> Result<Frame, AllocError>
         ensures { IfOk result (λ f. f ≡ zero_frame cells.now loops) }
     {
-        let values = vec![in alloc; 0; cells.as_slice().len()]?;
+        let values = vec![in alloc; 0; cells.len()]?;
+        let left = vec![in alloc; 0; loops]?;
+        let cells = cells.copy()?;
+        Ok(Frame {
+            cells,
+            values,
+            left,
+        })
+    }
+
+    /// A frame of these cells, which it shares, with the values that another frame has of them, 0 where it holds no such
+    /// cell, and of so many counters of replicated SEQs, which are 0. The error is a refused growth.
+    pub fn copied_from(
+        alloc: Global,
+        cells: &FrameCells,
+        loops: usize,
+        from: &Frame,
+    ) -> Result<Frame, AllocError>
+        ensures { IfOk result (λ f. f ≡ record { cells = cells.now; values = map (at from.now) cells.now; left = replicate loops 0 }) }
+    {
+        let values = values_of(alloc, cells, from)?;
         let left = vec![in alloc; 0; loops]?;
         let cells = cells.copy()?;
         Ok(Frame {
@@ -172,6 +194,37 @@ fn same_numbers(numbers: &[u64], others: &[u64]) -> bool
     numbers == others
 }
 
+/// The values that a frame has of these cells.
+fn values_of(alloc: Global, cells: &FrameCells, from: &Frame) -> Result<Vec<i64>, AllocError>
+    ensures { IfOk result (λ values. values.items ≡ map (at from.now) cells.now) }
+{
+    let mut values = Vec::with_capacity(alloc, cells.len())?;
+    for row in cells.rows() {
+        add_values(&mut values, row, from)?;
+    }
+    Ok(values)
+}
+
+/// Adds the values that a frame has of the cells in a row.
+fn add_values(values: &mut Vec<i64>, row: &CellRow, from: &Frame) -> Result<(), AllocError>
+    ensures { OnOk result (values.new.items ≡ values.old.items ++ map (at from.now) (cells_of row.now)) }
+{
+    match from.row(row.first, row.count()) {
+        Some(held) => values.extend_from_slice(held)?,
+        None => add_each(values, row, from)?,
+    }
+    Ok(())
+}
+
+fn add_each(values: &mut Vec<i64>, row: &CellRow, from: &Frame) -> Result<(), AllocError>
+    ensures { OnOk result (values.new.items ≡ values.old.items ++ map (at from.now) (cells_of row.now)) }
+{
+    for i in 0..row.count() {
+        values.push(from.value_at(row.first + i as u64))?;
+    }
+    Ok(())
+}
+
 fn value_at(cells: &FrameCells, values: &[i64], cell: u64) -> i64
     ensures { result ≡ value_at cells.now values.now cell }
 {
@@ -230,6 +283,17 @@ fn set_row(held: &mut [i64], place: usize, values: &[i64])
     requires { place + length values.now < 2 ^ 64 }
     ensures { held.new ≡ row_with held.old place values.now }
 {
+    if place + values.len() <= held.len() {
+        held[place..place + values.len()].copy_from_slice(values);
+    } else {
+        set_each_place(held, place, values);
+    }
+}
+
+fn set_each_place(held: &mut [i64], place: usize, values: &[i64])
+    requires { place + length values.now < 2 ^ 64 }
+    ensures { held.new ≡ row_with held.old place values.now }
+{
     for (i, value) in values.iter().enumerate() {
         set_in(held, place + i, *value);
     }
@@ -258,6 +322,17 @@ fn clear_values(cells: &FrameCells, held: &mut [i64], first: u32, count: u32)
 }
 
 fn clear_row(held: &mut [i64], place: usize, count: usize)
+    requires { place + count < 2 ^ 64 }
+    ensures { held.new ≡ row_with held.old place (replicate count (pos 0)) }
+{
+    if place + count <= held.len() {
+        held[place..place + count].fill(0);
+    } else {
+        clear_each_place(held, place, count);
+    }
+}
+
+fn clear_each_place(held: &mut [i64], place: usize, count: usize)
     requires { place + count < 2 ^ 64 }
     ensures { held.new ≡ row_with held.old place (replicate count (pos 0)) }
 {

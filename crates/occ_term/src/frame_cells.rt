@@ -1,8 +1,10 @@
 //! The cells that a frame holds, and where.
-ghost use Rattle.std.specs.Prelude.{◌≡◌, ◌↔◌, ◌<◌, ◌≤◌, ◌+◌, ◌^◌, ℕ, IfOk, IfSome, IsTrue, Some, length, slice_index};
+ghost use Rattle.std.specs.Prelude.{◌≡◌, ◌↔◌, ◌<◌, ◌≤◌, ◌+◌, ◌-◌, ◌^◌, ℕ, IfNone, IfOk, IfSome, IsTrue, None, Some, length, slice_index};
 ghost use Rattle.std.specs.Arc.{arc_value};
-ghost use Rattle.occ_term.specs.Frames.{Ascends, place_among, place_in};
+ghost use Rattle.occ_term.specs.CellRows.{AreRows, Kept, Rise, StandsIn, cells_in};
+ghost use Rattle.occ_term.specs.Frames.{place_among, place_in};
 
+use crate::cell_rows::{CellRow, CellRows, same_rows};
 use sqlite_items::Items;
 use std::alloc::{AllocError, Global};
 use std::marker::Model;
@@ -10,32 +12,34 @@ use std::sync::Arc;
 
 /// The cells of a frame. Contracts see their numbers. Copies share them.
 ///
-/// The place of a cell is found at once where no number is missing before it, and else by halving,
-/// if the numbers are rising.
+/// They are kept as rows, each as long as it can be, so a large array takes no more than a single cell. The place of a cell
+/// in the first row is found at once, and else by halving the rows, if they are rising.
 pub struct FrameCells {
-    cells: Arc<Items<u32>, Global>,
+    rows: Arc<Items<CellRow>, Global>,
+    count: usize,
     rising: bool,
 }
 
 impl Drop for FrameCells {
     fn drop(self) {
         let FrameCells {
-            cells: _,
+            rows: _,
+            count: _,
             rising: _,
         } = self;
     }
 }
 
 impl Model for FrameCells {
-    ghost use Rattle.std.specs.Prelude.{List, ℕ, IsTrue};
+    ghost use Rattle.std.specs.Prelude.{List, ℕ};
     ghost use Rattle.std.specs.Arc.{arc_value};
-    ghost use Rattle.occ_term.specs.Frames.{Ascends};
+    ghost use Rattle.occ_term.specs.CellRows.{Counted, cells_in};
 
     ghost Value = { List ℕ };
 
-    ghost view = { λ h. arc_value h.cells };
+    ghost view = { λ h. cells_in (arc_value h.rows) };
 
-    ghost invariant = { λ h. IsTrue h.rising → Ascends (arc_value h.cells) };
+    ghost invariant = { λ h. Counted (arc_value h.rows) h.rising h.count };
 }
 
 impl FrameCells {
@@ -43,41 +47,71 @@ impl FrameCells {
     pub fn new(alloc: Global, cells: &[u32]) -> Result<FrameCells, AllocError>
         ensures { IfOk result (λ h. h ≡ cells.now) }
     {
-        let rising = is_rising(cells);
-        let cells = Arc::new(alloc, Items::from_slice(alloc, cells)?)?;
-        Ok(FrameCells { cells, rising })
+        let mut rows = CellRows::new(alloc);
+        for cell in cells {
+            let first = u64::from(*cell);
+            rows.add(first, first + 1)?;
+        }
+        rows.into_cells(alloc)
     }
 
-    /// A copy, which shares the numbers. The error is that there are too many copies.
+    /// The cells in these rows, and how many there are.
+    pub(crate) fn of_rows(
+        alloc: Global,
+        rows: Vec<CellRow>,
+        count: usize,
+        rising: bool,
+    ) -> Result<FrameCells, AllocError>
+        requires kept { Kept rows.items rising }
+        requires count { count ≡ length (cells_in rows.items) }
+        ensures { IfOk result (λ h. h ≡ cells_in rows.items) }
+    {
+        let rows = Arc::new(alloc, Items::from_vec(rows))?;
+        Ok(FrameCells {
+            rows,
+            count,
+            rising,
+        })
+    }
+
+    /// A copy, which shares the rows. The error is that there are too many copies.
     pub fn copy(&self) -> Result<FrameCells, AllocError>
         ensures { IfOk result (λ h. h ≡ self.now) }
     {
-        let cells = Arc::try_clone(&self.cells)?;
+        let rows = Arc::try_clone(&self.rows)?;
         Ok(FrameCells {
-            cells,
+            rows,
+            count: self.count,
             rising: self.rising,
         })
     }
 
-    /// The numbers.
-    pub fn as_slice(&self) -> &[u32]
-        ensures { result.now ≡ self.now }
+    /// How many cells there are.
+    pub fn len(&self) -> usize
+        ensures { result ≡ length self.now }
     {
-        self.cells.as_slice()
+        self.count
+    }
+
+    /// The rows, in the order of the cells.
+    pub fn rows(&self) -> &[CellRow]
+        ensures { cells_in result.now ≡ self.now }
+    {
+        self.rows.as_slice()
     }
 
     /// Whether both are the same cells.
     pub fn is_same(&self, other: &FrameCells) -> bool
         ensures { IsTrue result ↔ (self.now ≡ other.now) }
     {
-        same_cells(self.cells.as_slice(), other.cells.as_slice())
+        same_rows(self.rows.as_slice(), other.rows.as_slice())
     }
 
-    /// Cells have 32 bits.
+    /// Cells have 64 bits.
     pub(crate) fn words(&self)
-        ensures { (k : ℕ) → slice_index self.now k < 2 ^ 32 }
+        ensures { (k : ℕ) → slice_index self.now k < 2 ^ 64 }
     {
-        are_words(self.cells.as_slice());
+        let _rows = &self.rows;
     }
 
     /// The first place that holds a cell, or the end where none does.
@@ -87,7 +121,7 @@ impl FrameCells {
     {
         match self.place_of(u64::from(cell)) {
             Some(place) => place,
-            None => self.cells.as_slice().len(),
+            None => self.count,
         }
     }
 
@@ -95,11 +129,11 @@ impl FrameCells {
     pub(crate) fn place_of(&self, cell: u64) -> Option<usize>
         ensures { result ≡ place_in self.now cell }
     {
-        let cells = self.cells.as_slice();
+        let rows = self.rows.as_slice();
         if self.rising {
-            place_among_rising(cells, cell)
+            place_among_rising(rows, cell)
         } else {
-            first_place(cells, cell)
+            first_place(rows, cell)
         }
     }
 
@@ -113,94 +147,82 @@ impl FrameCells {
         if !self.rising {
             return None;
         }
-        let cells = self.cells.as_slice();
-        let place = place_among_rising(cells, first)?;
-        if is_row(cells, place, first, count) {
-            Some(place)
+        let row = row_among_rising(self.rows.as_slice(), first)?;
+        let begin = (first - row.first) as usize;
+        if count <= row.count() - begin {
+            Some(row.place + begin)
         } else {
             None
         }
     }
 }
 
-fn same_cells(cells: &[u32], others: &[u32]) -> bool
-    ensures { IsTrue result ↔ (cells.now ≡ others.now) }
+/// The place of a cell in a row that holds it.
+fn place_in_row(row: &CellRow, cell: u64) -> usize
+    requires begun { row.now.first ≤ cell }
+    requires few { row.now.place + (cell - row.now.first) < 2 ^ 64 }
+    ensures { result ≡ row.now.place + (cell - row.now.first) }
 {
-    cells == others
+    row.place + (cell - row.first) as usize
 }
 
-/// Whether so many places from this one on hold as many cells in a row, from the first cell on.
-fn is_row(cells: &[u32], place: usize, first: u64, count: usize) -> bool
-    requires { Ascends cells.now }
-    ensures row { IsTrue result → (k : ℕ) → k < count → place_in cells.now (first + k) ≡ Some (place + k) }
-    ensures within { IsTrue result → place + count ≤ length cells.now }
-    ensures few { IsTrue result → place + count < 2 ^ 64 }
+fn place_among_rising(rows: &[CellRow], cell: u64) -> Option<usize>
+    requires rows { AreRows 0 rows.now }
+    requires rise { Rise 0 rows.now }
+    requires few { length (cells_in rows.now) < 2 ^ 64 }
+    ensures { result ≡ place_in (cells_in rows.now) cell }
 {
-    if count == 0 || place >= cells.len() || count > cells.len() - place {
-        return false;
+    match row_among_rising(rows, cell) {
+        Some(row) => Some(place_in_row(row, cell)),
+        None => None,
     }
-    let last = place + (count - 1);
-    u64::from(cells[place]) == first && u64::from(cells[last]) == first + (count - 1) as u64
 }
 
-fn are_words(cells: &[u32])
-    ensures { (k : ℕ) → slice_index cells.now k < 2 ^ 32 }
-{}
-
-fn is_rising(cells: &[u32]) -> bool
-    ensures { IsTrue result → Ascends cells.now }
+/// The row that holds a cell.
+fn row_among_rising(rows: &[CellRow], cell: u64) -> Option<&CellRow>
+    requires rows { AreRows 0 rows.now }
+    requires rise { Rise 0 rows.now }
+    ensures some { IfSome result (λ row. StandsIn rows.now cell row.now) }
+    ensures none { IfNone result (place_in (cells_in rows.now) cell ≡ None) }
 {
-    for i in 1..cells.len() {
-        if cells[i] <= cells[i - 1] {
-            return false;
+    if let Some(row) = rows.first() {
+        if row.first <= cell && cell < row.end {
+            return Some(row);
         }
     }
-    true
+    row_by_halves(rows, cell)
 }
 
-fn place_among_rising(cells: &[u32], cell: u64) -> Option<usize>
-    requires { Ascends cells.now }
-    ensures { result ≡ place_in cells.now cell }
-{
-    if let Some(first) = cells.first() {
-        let first = u64::from(*first);
-        if first <= cell {
-            let place = (cell - first) as usize;
-            if place < cells.len() && u64::from(cells[place]) == cell {
-                return Some(place);
-            }
-        }
-    }
-    place_by_halves(cells, cell)
-}
-
-fn place_by_halves(cells: &[u32], cell: u64) -> Option<usize>
-    requires { Ascends cells.now }
-    ensures { result ≡ place_in cells.now cell }
+fn row_by_halves(rows: &[CellRow], cell: u64) -> Option<&CellRow>
+    requires rows { AreRows 0 rows.now }
+    requires rise { Rise 0 rows.now }
+    ensures some { IfSome result (λ row. StandsIn rows.now cell row.now) }
+    ensures none { IfNone result (place_in (cells_in rows.now) cell ≡ None) }
 {
     let mut low = 0;
-    let mut high = cells.len();
+    let mut high = rows.len();
     while low < high {
         let middle = low + (high - low) / 2;
-        let held = u64::from(cells[middle]);
-        if held == cell {
-            return Some(middle);
-        }
-        if held < cell {
+        let row = &rows[middle];
+        if row.end <= cell {
             low = middle + 1;
-        } else {
+        } else if cell < row.first {
             high = middle;
+        } else {
+            return Some(row);
         }
     }
     None
 }
 
-fn first_place(cells: &[u32], cell: u64) -> Option<usize>
-    ensures { result ≡ place_in cells.now cell }
+fn first_place(rows: &[CellRow], cell: u64) -> Option<usize>
+    requires rows { AreRows 0 rows.now }
+    requires few { length (cells_in rows.now) < 2 ^ 64 }
+    ensures { result ≡ place_in (cells_in rows.now) cell }
 {
-    for (i, held) in cells.iter().enumerate() {
-        if u64::from(*held) == cell {
-            return Some(i);
+    for row in rows {
+        if row.first <= cell && cell < row.end {
+            return Some(place_in_row(row, cell));
         }
     }
     None

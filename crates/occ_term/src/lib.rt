@@ -4,6 +4,7 @@
 //! what an expression is worth.
 #![tactic(auto)]
 
+pub mod cell_rows;
 pub mod examples;
 pub mod expression;
 pub mod fault;
@@ -22,6 +23,7 @@ pub mod text;
 pub mod unfolded;
 pub mod value;
 
+pub use cell_rows::{CellRow, CellRows};
 pub use expression::{
     Array, Declaration, Item, Monadic, Operator, Place, Replicator, Target, TermExpr,
 };

@@ -5,22 +5,22 @@ use std::process::Abort;
 use std::test::Fail;
 
 /// Words, and what is read of them.
-static READ: [(&[&str], &str); 5] = [
+static READ: [(&[&str], &str); 7] = [
     (
         &["occam"],
-        "Words { limit: 1000000, quantum: 1, errors: Halt, workers: None, trace: false, watch: false, choices: None, record: None, chart: None, arrows: 200, file: None }",
+        "Words { limit: 1000000, quantum: 1, errors: Halt, workers: None, trace: false, watch: false, choices: None, record: None, chart: None, arrows: 200, explore: None, states: 1000000, file: None }",
     ),
     (
         &["occam", "--limit", "10000000", "--trace", "f.occ"],
-        "Words { limit: 10000000, quantum: 1, errors: Halt, workers: None, trace: true, watch: false, choices: None, record: None, chart: None, arrows: 200, file: Some(\"f.occ\") }",
+        "Words { limit: 10000000, quantum: 1, errors: Halt, workers: None, trace: true, watch: false, choices: None, record: None, chart: None, arrows: 200, explore: None, states: 1000000, file: Some(\"f.occ\") }",
     ),
     (
         &["occam", "f.occ", "--trace", "--limit=0"],
-        "Words { limit: 0, quantum: 1, errors: Halt, workers: None, trace: true, watch: false, choices: None, record: None, chart: None, arrows: 200, file: Some(\"f.occ\") }",
+        "Words { limit: 0, quantum: 1, errors: Halt, workers: None, trace: true, watch: false, choices: None, record: None, chart: None, arrows: 200, explore: None, states: 1000000, file: Some(\"f.occ\") }",
     ),
     (
         &["occam", "--errors", "halt"],
-        "Words { limit: 1000000, quantum: 1, errors: Halt, workers: None, trace: false, watch: false, choices: None, record: None, chart: None, arrows: 200, file: None }",
+        "Words { limit: 1000000, quantum: 1, errors: Halt, workers: None, trace: false, watch: false, choices: None, record: None, chart: None, arrows: 200, explore: None, states: 1000000, file: None }",
     ),
     (
         &[
@@ -34,7 +34,22 @@ static READ: [(&[&str], &str); 5] = [
             "--chart=s.svg",
             "--arrows=0",
         ],
-        "Words { limit: 1000000, quantum: 65536, errors: Stop, workers: Some(64), trace: false, watch: true, choices: Some(\"c\"), record: Some(\"r\"), chart: Some(\"s.svg\"), arrows: 0, file: None }",
+        "Words { limit: 1000000, quantum: 65536, errors: Stop, workers: Some(64), trace: false, watch: true, choices: Some(\"c\"), record: Some(\"r\"), chart: Some(\"s.svg\"), arrows: 0, explore: None, states: 1000000, file: None }",
+    ),
+    (
+        &["occam", "--explore", "f.occ"],
+        "Words { limit: 1000000, quantum: 1, errors: Halt, workers: None, trace: false, watch: false, choices: None, record: None, chart: None, arrows: 200, explore: Some(Answers), states: 1000000, file: Some(\"f.occ\") }",
+    ),
+    (
+        &[
+            "occam",
+            "--explore=endings",
+            "--states=10000000",
+            "--quantum=7",
+            "--errors=stop",
+            "--record=r",
+        ],
+        "Words { limit: 1000000, quantum: 7, errors: Stop, workers: None, trace: false, watch: false, choices: None, record: Some(\"r\"), chart: None, arrows: 200, explore: Some(Endings), states: 10000000, file: None }",
     ),
 ];
 
@@ -50,7 +65,7 @@ fn words_are_read(rt: HostRuntime) -> Result<(), Fail> {
 }
 
 /// Words, and why they are refused.
-static REFUSED: [(&[&str], ErrorKind); 22] = [
+static REFUSED: [(&[&str], ErrorKind); 33] = [
     (&["occam", "--limit=10000001"], ErrorKind::ValueValidation),
     (&["occam", "--limit=4294967296"], ErrorKind::ValueValidation),
     (&["occam", "--limit=-1"], ErrorKind::ValueValidation),
@@ -82,6 +97,47 @@ static REFUSED: [(&[&str], ErrorKind); 22] = [
         ErrorKind::ArgumentConflict,
     ),
     (&["occam", "f.occ", "g.occ"], ErrorKind::UnknownArgument),
+    (
+        &["occam", "--explore", "--limit=1"],
+        ErrorKind::ArgumentConflict,
+    ),
+    (
+        &["occam", "--workers=2", "--explore"],
+        ErrorKind::ArgumentConflict,
+    ),
+    (
+        &["occam", "--explore", "--choices=c"],
+        ErrorKind::ArgumentConflict,
+    ),
+    (
+        &["occam", "--explore", "--trace"],
+        ErrorKind::ArgumentConflict,
+    ),
+    (
+        &["occam", "--explore", "--watch"],
+        ErrorKind::ArgumentConflict,
+    ),
+    (
+        &["occam", "--explore", "--chart=s"],
+        ErrorKind::ArgumentConflict,
+    ),
+    (&["occam", "--explore=all"], ErrorKind::InvalidValue),
+    (
+        &["occam", "--explore", "--states=0"],
+        ErrorKind::ValueValidation,
+    ),
+    (
+        &["occam", "--explore", "--states=10000001"],
+        ErrorKind::ValueValidation,
+    ),
+    (
+        &["occam", "--states=5"],
+        ErrorKind::MissingRequiredArgument,
+    ),
+    (
+        &["occam", "--explore", "--arrows=5"],
+        ErrorKind::ArgumentConflict,
+    ),
 ];
 
 #[test]
@@ -94,7 +150,7 @@ fn wrong_words_are_refused(rt: HostRuntime) -> Result<(), Fail> {
 }
 
 /// What the help says of the words.
-static IN_HELP: [&str; 11] = [
+static IN_HELP: [&str; 13] = [
     "Usage: occam",
     "--limit <N>",
     "1000000",
@@ -105,6 +161,8 @@ static IN_HELP: [&str; 11] = [
     "--arrows <N>",
     "--trace",
     "--watch",
+    "--explore",
+    "--states <N>",
     "FILE",
 ];
 

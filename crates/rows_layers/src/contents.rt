@@ -1,6 +1,6 @@
 //! Messages, frames and protocols: copies, and what is the same.
 use occ_term::{
-    Channel, Frame, FrameCells, Message, Name, Part, PartType, PartTypes, Parts, Primitive,
+    CellRow, Channel, Frame, FrameCells, Message, Name, Part, PartType, PartTypes, Parts, Primitive,
     Protocol, Tag, TagTypes, Text,
 };
 use sqlite_items::Items;
@@ -163,7 +163,8 @@ fn cells_of_frames_are_shared(rt: HostRuntime) -> Result<(), Fail> {
     let cells = FrameCells::new(alloc, &[1, 3])?;
     let copy = cells.copy()?;
     assert!(rt; cells.is_same(&copy));
-    assert!(rt; matches!(copy.as_slice(), [1, 3]));
+    assert_eq!(rt; copy.len(), 2);
+    assert!(rt; matches!(copy.rows(), [CellRow { first: 1, end: 2, place: 0 }, CellRow { first: 3, end: 4, place: 1 }]));
     Ok(())
 }
 

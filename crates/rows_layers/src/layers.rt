@@ -143,8 +143,8 @@ fn check_body(rt: &impl Abort, body: &Body) {
             ]
         )
     );
-    assert!(rt; body.cells().as_slice().is_empty());
-    assert!(rt; body.writes().is_empty());
+    assert!(rt; body.cells().rows().is_empty());
+    assert!(rt; body.writes().rows().is_empty());
     assert_eq!(rt; body.loops(), 0);
     assert_eq!(rt; body.quantum(), 1);
 }

@@ -1,15 +1,15 @@
 //! The cells that a process uses, and those that it writes.
-ghost use Rattle.std.specs.Prelude.{◌≡◌, ◌++◌, ◌-◌, ◌<◌, ◌≤◌, ℕ, IfOk, OnOk, length, max};
+ghost use Rattle.std.specs.Prelude.{◌≡◌, ◌<◌, ◌≤◌, ℕ, IfOk, OnOk, length, max};
 ghost use Rattle.std.specs.List.{All};
 ghost use Rattle.std.specs.List.Sorted.{IsNonDecreasingBy};
 ghost use Rattle.occ_term.specs.UnfoldedProgram.{most_cells};
 ghost use Rattle.occ_usage.specs.Noted.{uses_in};
 ghost use Rattle.occ_usage.specs.declared.noted.Use.{Use};
 ghost use Rattle.occ_code.specs.SameStop.{Lists, used_by};
-ghost use Rattle.occ_code.specs.Cells.{AddsRow, counted, covers, end_of, furthest, in_rows, is_counted as is_counted_use, numbers_from};
+ghost use Rattle.occ_code.specs.Cells.{AddsRow, counted, covers, end_of, furthest, in_rows, is_counted as is_counted_use};
 ghost use Rattle.occ_code.specs.Within.{AreWithin};
 
-use occ_term::{FrameCells, MOST_CELLS};
+use occ_term::{CellRows, FrameCells, MOST_CELLS};
 use occ_usage::{Kind, Use};
 use std::alloc::{AllocError, Global};
 
@@ -28,9 +28,7 @@ pub(crate) fn process_cells(alloc: Global, uses: &[Use]) -> Result<FrameCells, A
     ensures lists { IfOk result (λ xs. AreWithin (used_by (uses_in uses.now)) → Lists xs (used_by (uses_in uses.now))) }
     ensures few { IfOk result (λ xs. length xs ≤ most_cells) }
 {
-    let cells = rising_cells(alloc, uses, false)?;
-    let cells = FrameCells::new(alloc, &cells)?;
-    Ok(cells)
+    rising_cells(alloc, uses, false)
 }
 
 /// The cells that are written, or also those that are read, rising. They are all where none is past the limit, as in every
@@ -39,17 +37,19 @@ pub(crate) fn rising_cells(
     alloc: Global,
     uses: &[Use],
     writes_only: bool,
-) -> Result<Vec<u32>, AllocError>
-    ensures lists { IfOk result (λ xs. AreWithin (counted writes_only (uses_in uses.now)) → Lists xs.items (counted writes_only (uses_in uses.now))) }
-    ensures few { IfOk result (λ xs. length xs.items ≤ most_cells) }
+) -> Result<FrameCells, AllocError>
+    ensures lists { IfOk result (λ xs. AreWithin (counted writes_only (uses_in uses.now)) → Lists xs (counted writes_only (uses_in uses.now))) }
+    ensures few { IfOk result (λ xs. length xs ≤ most_cells) }
 {
     let count = furthest_end(uses, writes_only);
     if count > MOST_CELLS {
-        return Ok(Vec::new(alloc));
+        let none = CellRows::new(alloc).into_cells(alloc)?;
+        return Ok(none);
     }
     let mut rows = rows_of(alloc, uses, writes_only)?;
     rows.sort_unstable_by_key(|row| row.first);
-    let cells = numbers_in(alloc, &rows)?;
+    let gathered = cells_among(alloc, &rows)?;
+    let cells = gathered.into_cells(alloc)?;
     Ok(cells)
 }
 
@@ -128,30 +128,18 @@ fn add_use(rows: &mut Vec<Row>, one: Use, writes_only: bool) -> Result<(), Alloc
     Ok(())
 }
 
-/// The numbers in rows that are sorted, each once.
-fn numbers_in(alloc: Global, rows: &[Row]) -> Result<Vec<u32>, AllocError>
+/// The cells in rows that are sorted, each once.
+fn cells_among(alloc: Global, rows: &[Row]) -> Result<CellRows, AllocError>
     requires sorted { IsNonDecreasingBy (λ row. row.first) rows.now }
     requires within { All (λ row. row.end ≤ most_cells) rows.now }
-    ensures lists { IfOk result (λ xs. Lists xs.items (in_rows rows.now)) }
-    ensures few { IfOk result (λ xs. length xs.items ≤ most_cells) }
+    ensures lists { IfOk result (λ xs. Lists xs (in_rows rows.now)) }
+    ensures few { IfOk result (λ xs. length xs ≤ most_cells) }
 {
-    let mut numbers = Vec::new(alloc);
+    let mut cells = CellRows::new(alloc);
     let mut reached = 0;
     for row in rows {
-        add_row(&mut numbers, reached, *row)?;
+        cells.add(larger(reached, row.first), row.end)?;
         reached = larger(reached, row.end);
     }
-    Ok(numbers)
-}
-
-/// Adds the numbers of a row from where the others end.
-fn add_row(numbers: &mut Vec<u32>, reached: u64, row: Row) -> Result<(), AllocError>
-    requires { row.end ≤ most_cells }
-    ensures { OnOk result (numbers.new.items ≡ numbers.old.items ++ numbers_from (max reached row.first) (row.end - max reached row.first)) }
-{
-    let first = larger(reached, row.first);
-    for number in first..row.end {
-        numbers.push(number as u32)?;
-    }
-    Ok(())
+    Ok(cells)
 }

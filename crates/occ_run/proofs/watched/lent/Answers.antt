@@ -1,4 +1,4 @@
-use Rattle.std.proofs.Common.{◌≡◌, ◌∙◌, ◌++◌, List, [], true, map, length, IfOk, ap, sym, subst}
+use Rattle.std.proofs.Common.{◌≡◌, ◌∙◌, List, [], true, map, length, IfOk, ap, sym, subst}
 use mathlib.Core.List.{IsPrefix}
 use Rattle.occ_term.specs.Runs.{Entry, entries}
 use Rattle.occ_board.specs.Traces.{publishing}

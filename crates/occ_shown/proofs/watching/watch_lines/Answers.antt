@@ -1,4 +1,4 @@
-use Rattle.std.proofs.Common.{◌∙◌, ◌++◌, [], refl, ap}
+use Rattle.std.proofs.Common.{[], refl}
 use Rattle.occ_shown.specs.Answers.{line_text, trace_text}
 use Rattle.occ_shown.proofs.Texts.{IsText, text_step}
 use Rattle.occ_shown.proofs.watching.watch_lines.Goals as goal

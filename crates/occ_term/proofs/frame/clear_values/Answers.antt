@@ -1,4 +1,4 @@
-use Rattle.std.proofs.Common.{◌≡◌, ◌∙◌, ◌+◌, ◌<◌, ℕ, Some, pos, replicate, length, subst, arith}
+use Rattle.std.proofs.Common.{◌≡◌, ◌∙◌, ◌+◌, ◌<◌, ℕ, Some, pos, replicate, subst, arith}
 use Rattle.std.proofs.lemmas.List.{length-replicate}
 use Rattle.occ_term.specs.Frames.{place_in}
 use Rattle.occ_term.proofs.FrameWrites.{row_span}

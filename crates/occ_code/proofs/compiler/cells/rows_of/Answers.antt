@@ -1,5 +1,5 @@
 use Rattle.std.proofs.Common.{◌≡◌, ◌<◌, ◌-◌, ◌+◌, refl, length, arith, rules}
-use Rattle.occ_code.proofs.CellEnds.{no_rows, none_there, rows_next}
+use Rattle.occ_code.proofs.CellEnds.{no_rows, rows_next}
 use Rattle.occ_code.proofs.compiler.cells.rows_of.Goals as goal
 
 pub loop-left-init : goal.loop-left-init

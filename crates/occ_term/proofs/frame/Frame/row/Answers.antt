@@ -1,4 +1,4 @@
-use Rattle.std.proofs.Common.{◌≡◌, ◌∙◌, ap, subst, drop, take, length, ◌+◌, ◌≤◌}
+use Rattle.std.proofs.Common.{◌∙◌, ap, subst, drop, take, length, ◌+◌, ◌≤◌}
 use Rattle.occ_term.specs.Frames.{Variables, at}
 use Rattle.occ_term.specs.Values.{values_from}
 use Rattle.occ_term.proofs.FrameWrites.{row_values}

@@ -1,0 +1,4 @@
+pub mod Explored
+pub mod Strings
+pub mod Texts
+pub mod Statuses

@@ -1,0 +1,39 @@
+-- Bytes written as a string of the language.
+-- Manual: nothing; this is (own).
+use Rattle.std.specs.Prelude.{List, [], codes, if◌then◌else◌, length, nat_lt, take, ℕ, ◌&&◌, ◌++◌, ◌-◌, ◌+◌, ◌/◌, ◌%◌, ◌==◌, ◌∷◌}
+use Rattle.std.specs.Fmt.{decimal}
+
+-- a hexadecimal digit
+abbrev pub digit : ℕ → ℕ
+digit d = if nat_lt d 10 then 48 + d else 55 + d
+
+-- a byte that is no printed ASCII, or that means something in a string, by its escape
+abbrev pub letter : ℕ → List ℕ
+letter b =
+    if b == 9 then codes "*t" else
+    if b == 10 then codes "*n" else
+    if b == 13 then codes "*c" else
+    if b == 34 then codes "*\"" else
+    if b == 42 then codes "**" else
+    if nat_lt 31 b && nat_lt b 127 then b ∷ [] else
+    42 ∷ 35 ∷ digit (b / 16) ∷ digit (b % 16) ∷ []
+
+abbrev pub letters : List ℕ → List ℕ
+letters [] = []
+letters (b ∷ bs) = letter b ++ letters bs
+
+-- between quotes
+abbrev pub quoted : List ℕ → List ℕ
+quoted bytes = 34 ∷ letters bytes ++ 34 ∷ []
+
+-- how many bytes of a string are written
+abbrev pub most_letters : ℕ
+most_letters = 60
+
+-- how many there were beyond these
+abbrev pub more : ℕ → List ℕ
+more n = if n == 0 then [] else codes " and " ++ decimal n ++ codes " more"
+
+-- the first bytes, and how many more there were
+abbrev pub string_text : List ℕ → List ℕ
+string_text bytes = quoted (take most_letters bytes) ++ more (length bytes - most_letters)

@@ -1,0 +1,12 @@
+//! What all lists of choices come to, of a source text on a keyboard's bytes: [`explore_in`] searches
+//! them, [`exploration_text`] says what was found, and [`laws`] has what follows for runs of the source.
+#![tactic(auto)]
+
+pub mod exploring;
+pub mod laws;
+mod lines;
+mod strings;
+
+pub use exploring::{explore_in, status_of_search};
+pub use lines::{MOST_ANSWERS, exploration_text};
+pub use occ_explore::{Answer, Asked, Exploration};

@@ -1,0 +1,148 @@
+//! Says what a search has found.
+ghost use Rattle.std.specs.Prelude.{◌≡◌, ◌++◌, ◌+◌, ◌<◌, ◌^◌, IfOk, OnOk, length};
+ghost use Rattle.occ_exploring.specs.Texts.{answer_line, answer_lines, counted, error_text, exploration_text, held_text, known_text, left_text};
+
+use crate::strings::write_string;
+use occ_explore::{Answer, Asked, Exploration};
+use std::alloc::{AllocError, Global};
+
+/// How many answers have a line.
+pub const MOST_ANSWERS: usize = 100;
+
+/// So many of a thing.
+fn write_counted(
+    alloc: Global,
+    out: &mut Vec<u8>,
+    count: usize,
+    word: &[u8],
+) -> Result<(), AllocError>
+    ensures { OnOk result (out.new.items ≡ out.old.items ++ counted count word.now) }
+{
+    let number = format!(in alloc; "{count} ")?;
+    out.extend_from_slice(number.as_bytes())?;
+    out.extend_from_slice(word)?;
+    if count != 1 {
+        out.push(b's')?;
+    }
+    Ok(())
+}
+
+/// What the error channel holds, where it holds anything.
+fn write_error(alloc: Global, out: &mut Vec<u8>, bytes: &[u8]) -> Result<(), AllocError>
+    ensures { OnOk result (out.new.items ≡ out.old.items ++ error_text bytes.now) }
+{
+    if bytes.is_empty() {
+        return Ok(());
+    }
+    out.extend_from_slice(b" error ")?;
+    write_string(alloc, out, bytes)
+}
+
+/// What the screen and the error channel hold, where that was asked for.
+fn write_held(
+    alloc: Global,
+    out: &mut Vec<u8>,
+    asked: Asked,
+    answer: &Answer,
+) -> Result<(), AllocError>
+    ensures { OnOk result (out.new.items ≡ out.old.items ++ held_text asked answer.now) }
+{
+    match asked {
+        Asked::Answers => {
+            out.push(b' ')?;
+            write_string(alloc, out, answer.screen.as_slice())?;
+            write_error(alloc, out, answer.error.as_slice())
+        }
+        Asked::Endings => Ok(()),
+    }
+}
+
+fn write_answer(
+    alloc: Global,
+    out: &mut Vec<u8>,
+    asked: Asked,
+    number: usize,
+    answer: &Answer,
+) -> Result<(), AllocError>
+    ensures { OnOk result (out.new.items ≡ out.old.items ++ answer_line asked number answer.now) }
+{
+    let head = format!(in alloc; "{number} {}", answer.ending)?;
+    out.extend_from_slice(head.as_bytes())?;
+    write_held(alloc, out, asked, answer)?;
+    out.extend_from_slice(b" by ")?;
+    write_counted(alloc, out, answer.choices.len(), b"choice")?;
+    out.push(b'\n')?;
+    Ok(())
+}
+
+fn write_answers(
+    alloc: Global,
+    out: &mut Vec<u8>,
+    asked: Asked,
+    answers: &[Answer],
+) -> Result<(), AllocError>
+    requires { length answers.now < 2 ^ 63 }
+    ensures { OnOk result (out.new.items ≡ out.old.items ++ answer_lines asked 1 answers.now) }
+{
+    let mut number = 1;
+    for answer in answers {
+        write_answer(alloc, out, asked, number, answer)?;
+        number += 1;
+    }
+    Ok(())
+}
+
+/// How many more answers there are.
+fn write_left(alloc: Global, out: &mut Vec<u8>, count: usize) -> Result<(), AllocError>
+    ensures { OnOk result (out.new.items ≡ out.old.items ++ left_text count) }
+{
+    if count == 0 {
+        return Ok(());
+    }
+    let line = format!(in alloc; "and {count} more\n")?;
+    out.extend_from_slice(line.as_bytes())
+}
+
+/// Whether these are all answers, and how many states there are.
+fn write_known(
+    alloc: Global,
+    out: &mut Vec<u8>,
+    exploration: &Exploration,
+    most: u32,
+) -> Result<(), AllocError>
+    ensures { OnOk result (out.new.items ≡ out.old.items ++ known_text exploration.now.all exploration.now.states most) }
+{
+    if exploration.all {
+        out.extend_from_slice(b"all, ")?;
+        write_counted(alloc, out, exploration.states, b"state")?;
+        out.push(b'\n')?;
+        Ok(())
+    } else {
+        out.extend_from_slice(b"these at least: the bound of ")?;
+        write_counted(alloc, out, most as usize, b"state")?;
+        out.extend_from_slice(b" was passed\n")
+    }
+}
+
+/// What is printed of a search that might come to `most` states: a line for each of the first 100 answers, how many more
+/// there are, and whether these are all.
+///
+/// # Errors
+///
+/// A refused growth.
+pub fn exploration_text(
+    alloc: Global,
+    exploration: &Exploration,
+    asked: Asked,
+    most: u32,
+) -> Result<Vec<u8>, AllocError>
+    ensures { IfOk result (λ bytes. bytes.items ≡ exploration_text asked most exploration.now) }
+{
+    let answers = exploration.answers.as_slice();
+    let count = answers.len().min(MOST_ANSWERS);
+    let mut out = Vec::new(alloc);
+    write_answers(alloc, &mut out, asked, &answers[..count])?;
+    write_left(alloc, &mut out, answers.len() - count)?;
+    write_known(alloc, &mut out, exploration, most)?;
+    Ok(out)
+}

@@ -1,0 +1,325 @@
+//! Explorations of whole programs: how many states there are, and each answer in the order in which they are found.
+use crate::accepted::code_of;
+use crate::sources::{DINING, LIVELOCK, MERGE, POOL, WAITER};
+use occ_explore::{Answer, Asked, Exploration, explore};
+use occ_term::Errors;
+use std::alloc::{AllocError, Global};
+use std::fmt::Write;
+use std::process::Abort;
+use std::test::Fail;
+
+/// A fault in one branch, and outputs in another.
+const RANGE: &str = r#"PROC main (CHAN OF BYTE keyboard, screen)
+  [2]INT a:
+  INT i:
+  SEQ
+    i := 2
+    PAR
+      a[i] := 1
+      SEQ
+        screen ! 'a'
+        screen ! 'b'
+:
+"#;
+
+/// What comes from the keyboard, and what comes from a process.
+const KEYS: &str = r#"PROC main (CHAN OF BYTE keyboard, screen)
+  CHAN OF BYTE tick:
+  PAR
+    tick ! '-'
+    BYTE key:
+    SEQ n = 0 FOR 3
+      ALT
+        keyboard ? key
+          screen ! key
+        tick ? key
+          screen ! key
+:
+"#;
+
+/// Which of the three messages on the error channel comes first.
+const ERRORS: &str = r#"PROC main (CHAN OF BYTE keyboard, screen, error)
+  CHAN OF BYTE a, b:
+  PAR
+    a ! 'a'
+    b ! 'b'
+    BYTE x:
+    SEQ
+      ALT
+        a ? x
+          b ? x
+        b ? x
+          a ? x
+      error ! x
+:
+"#;
+
+const SKIP: &str = "PROC main (CHAN OF BYTE keyboard, screen)\n  SKIP\n:\n";
+
+/// An exploration of at most so many states.
+struct Row {
+    source: &'static str,
+    errors: Errors,
+    keyboard: &'static [u8],
+    asked: Asked,
+    most: u32,
+    told: &'static str,
+}
+
+fn write_bytes(text: &mut String, bytes: &[u8]) -> Result<(), AllocError> {
+    for byte in bytes {
+        if *byte == b'\n' {
+            text.push('/')?;
+        } else {
+            text.push(char::from(*byte))?;
+        }
+    }
+    Ok(())
+}
+
+fn write_answer(text: &mut String, answer: &Answer) -> Result<(), AllocError> {
+    let ending = answer.ending;
+    let count = answer.choices.len();
+    write!(text, "{ending} by {count} [")?;
+    write_bytes(text, &answer.screen)?;
+    text.push('|')?;
+    write_bytes(text, &answer.error)?;
+    text.push_str("]\n")
+}
+
+/// A line for each answer, and one for the whole.
+fn told(alloc: Global, found: &Exploration) -> Result<String, AllocError> {
+    let mut text = String::new(alloc);
+    for answer in &found.answers {
+        write_answer(&mut text, answer)?;
+    }
+    let states = found.states;
+    let all = found.all;
+    writeln!(text, "{states} {all}")?;
+    Ok(text)
+}
+
+fn explored(rt: &impl Abort, alloc: Global, row: &Row) -> Result<Exploration, Fail> {
+    let code = code_of(alloc, row.source.as_bytes()).expect(rt, "refused");
+    let code = code.with_errors(row.errors);
+    Ok(explore(alloc, &code, row.keyboard, row.asked, row.most)?)
+}
+
+fn check(rt: &impl Abort, alloc: Global, row: &Row) -> Result<(), Fail> {
+    let found = explored(rt, alloc, row)?;
+    let text = told(alloc, &found)?;
+    assert_eq!(rt; text.as_str(), row.told);
+    Ok(())
+}
+
+static SCHEDULED: [Row; 5] = [
+    Row {
+        source: WAITER,
+        errors: Errors::Halt,
+        keyboard: b"",
+        asked: Asked::Answers,
+        most: 100000,
+        told: r#"ended by 33 [210/|]
+ended by 33 [201/|]
+ended by 33 [120/|]
+ended by 33 [102/|]
+ended by 33 [021/|]
+ended by 33 [012/|]
+855 true
+"#,
+    },
+    Row {
+        source: WAITER,
+        errors: Errors::Halt,
+        keyboard: b"",
+        asked: Asked::Endings,
+        most: 100000,
+        told: r#"ended by 33 [210/|]
+648 true
+"#,
+    },
+    Row {
+        source: WAITER,
+        errors: Errors::Halt,
+        keyboard: b"",
+        asked: Asked::Answers,
+        most: 854,
+        told: r#"ended by 33 [210/|]
+ended by 33 [201/|]
+ended by 33 [120/|]
+ended by 33 [102/|]
+ended by 33 [021/|]
+ended by 33 [012/|]
+854 false
+"#,
+    },
+    Row {
+        source: MERGE,
+        errors: Errors::Halt,
+        keyboard: b"",
+        asked: Asked::Answers,
+        most: 100000,
+        told: r#"ended by 36 [xyzabc/|]
+ended by 36 [xyazbc/|]
+ended by 36 [xyabzc/|]
+ended by 36 [xyabcz/|]
+ended by 36 [xayzbc/|]
+ended by 36 [xaybzc/|]
+ended by 36 [xaybcz/|]
+ended by 36 [xabyzc/|]
+ended by 36 [xabycz/|]
+ended by 36 [xabcyz/|]
+ended by 36 [axyzbc/|]
+ended by 36 [axybzc/|]
+ended by 36 [axybcz/|]
+ended by 36 [axbyzc/|]
+ended by 36 [axbycz/|]
+ended by 36 [axbcyz/|]
+ended by 36 [abxyzc/|]
+ended by 36 [abxycz/|]
+ended by 36 [abxcyz/|]
+ended by 36 [abcxyz/|]
+2406 true
+"#,
+    },
+    Row {
+        source: MERGE,
+        errors: Errors::Halt,
+        keyboard: b"",
+        asked: Asked::Endings,
+        most: 100000,
+        told: r#"ended by 36 [xyzabc/|]
+840 true
+"#,
+    },
+];
+
+static FOREVER: [Row; 3] = [
+    Row {
+        source: LIVELOCK,
+        errors: Errors::Halt,
+        keyboard: b"",
+        asked: Asked::Answers,
+        most: 100000,
+        told: "15 true\n",
+    },
+    Row {
+        source: POOL,
+        errors: Errors::Halt,
+        keyboard: b"",
+        asked: Asked::Endings,
+        most: 1000,
+        told: r#"ended by 41 [c0b0a0/|]
+1000 false
+"#,
+    },
+    Row {
+        source: DINING,
+        errors: Errors::Halt,
+        keyboard: b"",
+        asked: Asked::Endings,
+        most: 300,
+        told: r#"ended by 56 [210/|]
+300 false
+"#,
+    },
+];
+
+static SMALL: [Row; 7] = [
+    Row {
+        source: RANGE,
+        errors: Errors::Halt,
+        keyboard: b"",
+        asked: Asked::Answers,
+        most: 1000,
+        told: r#"fault RANGE line 7 by 5 [ab|]
+fault RANGE line 7 by 3 [a|]
+fault RANGE line 7 by 2 [|]
+9 true
+"#,
+    },
+    Row {
+        source: RANGE,
+        errors: Errors::Stop,
+        keyboard: b"",
+        asked: Asked::Answers,
+        most: 1000,
+        told: r#"stopped RANGE line 7 by 5 [ab|]
+9 true
+"#,
+    },
+    Row {
+        source: KEYS,
+        errors: Errors::Halt,
+        keyboard: b"xy",
+        asked: Asked::Answers,
+        most: 10000,
+        told: r#"ended by 14 [xy-|]
+ended by 14 [x-y|]
+ended by 14 [-xy|]
+61 true
+"#,
+    },
+    Row {
+        source: KEYS,
+        errors: Errors::Halt,
+        keyboard: b"x",
+        asked: Asked::Answers,
+        most: 10000,
+        told: r#"stopped by 10 [x-|]
+stopped by 10 [-x|]
+32 true
+"#,
+    },
+    Row {
+        source: ERRORS,
+        errors: Errors::Halt,
+        keyboard: b"",
+        asked: Asked::Answers,
+        most: 10000,
+        told: r#"ended by 10 [|a]
+ended by 10 [|b]
+44 true
+"#,
+    },
+    Row {
+        source: SKIP,
+        errors: Errors::Halt,
+        keyboard: b"",
+        asked: Asked::Answers,
+        most: 10,
+        told: r#"ended by 1 [|]
+2 true
+"#,
+    },
+    Row {
+        source: SKIP,
+        errors: Errors::Halt,
+        keyboard: b"",
+        asked: Asked::Answers,
+        most: 1,
+        told: "1 false\n",
+    },
+];
+
+fn check_all(rt: &impl Abort, alloc: Global, rows: &[Row]) -> Result<(), Fail> {
+    for row in rows {
+        check(rt, alloc, row)?;
+    }
+    Ok(())
+}
+
+#[test]
+fn schedules_are_explored(rt: HostRuntime) -> Result<(), Fail> {
+    check_all(&rt, rt.alloc(), &SCHEDULED)
+}
+
+#[test]
+fn searches_end_at_their_bound(rt: HostRuntime) -> Result<(), Fail> {
+    check_all(&rt, rt.alloc(), &FOREVER)
+}
+
+#[test]
+fn small_programs_are_explored(rt: HostRuntime) -> Result<(), Fail> {
+    check_all(&rt, rt.alloc(), &SMALL)
+}
