@@ -6,7 +6,7 @@ pub returns : goal.returns
 returns g c =
     let limit = c.args.words.now.limit in
     let trace = c.args.words.now.trace in
-    let came = λ options source keyboard. IfSome c.play_watching.result (CameByWorkers c.args.workers options source keyboard limit trace) in
-    let source = subst (λ xs. came c.options_of.result xs c.as_slice-2.result.now) c.as_slice.ensures.value c.play_watching.ensures in
-    let keyboard = subst (λ ks. came c.options_of.result c.args.inputs.now.source.items ks) c.as_slice-2.ensures.value source in
-    subst (λ q. came q c.args.inputs.now.source.items c.args.inputs.now.keyboard.items) c.options_of.ensures keyboard
+    let workers = c.args.workers in
+    let source = subst (λ xs. IfSome c.play_watching.result (CameByWorkers workers c.options_of.result xs c.as_slice-2.result.now limit trace)) c.as_slice.ensures.value c.play_watching.ensures in
+    let keyboard = subst (λ ks. IfSome c.play_watching.result (CameByWorkers workers c.options_of.result c.args.inputs.now.source.items ks limit trace)) c.as_slice-2.ensures.value source in
+    subst (λ q. IfSome c.play_watching.result (CameByWorkers workers q c.args.inputs.now.source.items c.args.inputs.now.keyboard.items limit trace)) c.options_of.ensures keyboard
