@@ -8,7 +8,6 @@ use Rattle.occ_play.specs.declared.playing.Options.{Options}
 use Rattle.occ_play.specs.declared.playing.Played.{Played}
 use Rattle.occ_play.specs.declared.fault.PlayFault.{PlayFault}
 use Rattle.occ_play.specs.Playing.{IsAnswer, Refuses}
-use Rattle.occ_play.specs.Working.{IsAnswerWithin, WorkersRefuse}
 use Rattle.occ_play_inputs.specs.declared.words.Words.{Words}
 use Rattle.occ_play_inputs.specs.Asked.{IsAskedBy}
 use Rattle.occ_play_inputs.specs.Failures.{failure_status}
@@ -18,7 +17,7 @@ use Rattle.occ_explore.specs.declared.exploration.Asked.{Asked}
 use Rattle.occ_explore.specs.declared.exploration.Exploration.{Exploration}
 use Rattle.occ_exploring.specs.Explored.{IsExplored}
 use Rattle.occ_exploring.specs.Statuses.{search_status}
-use Rattle.occ_watching.specs.Coming.{CameTo}
+use Rattle.occ_watching.specs.Coming.{CameByWorkers, CameTo}
 
 -- so many workers take the turns, where the words say so and name no file of choices; one, where the words say no more than that the run
 -- is watched
@@ -34,8 +33,7 @@ options_in words = record { quantum = words.quantum; errors = words.errors }
 -- what playing a source came to: by these choices, or by workers within the limit
 abbrev pub CameToBy : Option ℕ → Words → (source keyboard : List ℕ) → List Choice → Result Played PlayFault → Type 0
 CameToBy None words source keyboard list played = CameTo (IsAnswer (options_in words) source keyboard list words.trace) (Refuses (options_in words) source) played
-CameToBy (Some workers) words source keyboard list played =
-    CameTo (IsAnswerWithin (options_in words) source keyboard words.limit words.trace) (WorkersRefuse workers (options_in words) source) played
+CameToBy (Some workers) words source keyboard list played = CameByWorkers workers (options_in words) source keyboard words.limit words.trace played
 
 -- the status of what a source came to, by the choices or the workers and with the trace that the words ask for
 pub record IsStatusFor (words : Words) (s : ℕ) : Type 0 where

@@ -1,4 +1,4 @@
-//! Runs in which a growth may be refused, for `rt try --test --fail-alloc N`: they pass for every N.
+//! Runs in which a growth may be refused, for `tools/refuse --test rows memory::`: they pass whichever it is.
 ghost use Rattle.std.specs.Prelude.{◌≡◌};
 
 use crate::networks::{MERGE, PIPELINE, TAGS};

@@ -1,6 +1,5 @@
 //! Turns that are settled, and turns that are not.
 use crate::turned::{check_refused, network_of, next_turn, settle, step, turn_by};
-use crate::workers::sources::LONG;
 use occ_net::Network;
 use occ_net_replay::Ending;
 use occ_proc::Segment;
@@ -209,6 +208,10 @@ fn foreign_turns_are_stale(rt: HostRuntime) -> Result<(), Fail> {
     let absent = "Stale { number: 1, turns: 0 }";
     check_foreign(&rt, rt.alloc(), &LOOPING, &DIVIDING, absent)
 }
+
+/// A loop of two thousand turns, and a letter.
+pub(crate) const LONG: &[u8] =
+    b"PROC main (CHAN OF BYTE keyboard, screen)\n  INT n:\n  SEQ\n    n := 0\n    WHILE n < 2000\n      n := n + 1\n    screen ! 'A'\n:\n";
 
 /// A network settles the turns of a long loop one by one.
 #[test]

@@ -1,6 +1,7 @@
 //! Runs by workers: their numbers, limits, picks and refusals.
 use crate::accepted::code_of;
-use crate::workers::sources::{FOUR, LETTER, LONG};
+use crate::networks::LONG;
+use crate::workers::sources::{FOUR, LETTER};
 use occ_code::{Body, Task};
 use occ_net_replay::{Choice, Ending};
 use occ_proc::{Segment, turn};
