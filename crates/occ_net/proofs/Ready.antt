@@ -4,6 +4,7 @@ use Rattle.std.specs.Prelude.{if◌then◌else◌, slice_get}
 use Rattle.std.proofs.lemmas.Bool.{cases_lt}
 use Rattle.std.proofs.lemmas.Option.{get_or_from_slice_get, slice_get_within}
 use Rattle.occ_code.specs.Machine.{Body, Instruction, Point, Stopping, StopsIn, by_place, begins_at, passes_on, stops_here}
+use Rattle.occ_code.specs.SameStop.{AreAbove, IsRising}
 use Rattle.occ_code.specs.declared.task.Task.{Task}
 use Rattle.occ_code.specs.declared.task.Wait.{Wait}
 use Rattle.occ_code.specs.declared.task.Wait.TheVariants as W
@@ -11,7 +12,7 @@ use Rattle.occ_term.specs.Frames.{Variables}
 use Rattle.occ_net_replay.specs.Replay.{HasTask, Tasks, goes, may_go, ready_from}
 use Rattle.occ_net.specs.Settling.{IsAmong}
 use Rattle.occ_net_tables.proofs.OneChange.{get_some}
-use Rattle.occ_net_tables.proofs.ReadyLists.{ready_rising, rising_index}
+use Rattle.occ_net_tables.proofs.ReadyLists.{ready_rising}
 
 -- ---- a task that has taken a turn could
 
@@ -55,6 +56,17 @@ place_from k (x ∷ tasks) (suc i) n t e h q = by (goes x) (place_from (k + 1) t
 
 pub among_ready : (tasks : Tasks) (n : ℕ) (t : Task) → HasTask tasks n t → IsTrue (may_go t.wait) → IsAmong (ready_from 0 tasks) n
 among_ready tasks n t e h = place_from 0 tasks n n t e h (omega arith)
+
+-- a rising list has its numbers at or behind their places
+beyond : (n : ℕ) (xs : List ℕ) (i : ℕ) → AreAbove n xs → i < length xs → n + 1 + i ≤ get_or xs i 0
+beyond n [] i h l = absurd (omega (arith, l))
+beyond n (x ∷ xs) zero h l = let a = h.0 in omega (arith, a)
+beyond n (x ∷ xs) (suc i) h l = let a = beyond x xs i h.1 (omega (arith, l)) in let b = h.0 in omega (arith, a, b)
+
+rising_index : (xs : List ℕ) (i : ℕ) → IsRising xs → i < length xs → i ≤ get_or xs i 0
+rising_index [] i h l = absurd (omega (arith, l))
+rising_index (x ∷ xs) zero h l = omega arith
+rising_index (x ∷ xs) (suc i) h l = let a = beyond x xs i h (omega (arith, l)) in omega (arith, a)
 
 -- no place is greater than the number at it
 pub place_small : (tasks : Tasks) (place n : ℕ) → slice_get (ready_from 0 tasks) place ≡ Some n → place ≤ n
