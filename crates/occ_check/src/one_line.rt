@@ -9,7 +9,7 @@ ghost use Rattle.occ_tree_grammar.specs.Lines.Views as lines;
 ghost use Rattle.occ_tree_grammar.specs.Lines.Heads as heads;
 ghost use Rattle.occ_term.specs.Sizes.{size_of};
 ghost use Rattle.occ_term.specs.Terms as terms;
-ghost use Rattle.occ_term.specs.View.{expression_of, place_of, term_of};
+ghost use Rattle.occ_term.specs.View.{expression_of, items_of, place_of, term_of};
 ghost use Rattle.occ_check_meaning.specs.Numbers.{room};
 ghost use Rattle.occ_check_meaning.specs.Performing.{acted};
 ghost use Rattle.occ_check_meaning.specs.Actions as meant;
@@ -224,8 +224,22 @@ fn outputting(
     ensures { Unfolds term_of result numbers.new (outputting (names_in context.entry.scope) context.entry.line depth (lines.var_of channel.now) (lines.out_of outs.now.first) (map lines.out_of outs.now.others.items) (numbers_of numbers.old)) }
 {
     let (channel, tag, items) = output(context, channel, outs)?;
-    count_output(numbers, depth, &channel, items.as_slice())?;
+    counted_output(numbers, depth, &channel, tag, items.as_slice())?;
     Ok(Term::Output(channel, tag, items))
+}
+
+/// Counts an output with its tag, which is no node.
+fn counted_output(
+    numbers: &mut Numbers,
+    depth: u32,
+    channel: &Place,
+    tag: Option<u32>,
+    items: &[Item],
+) -> Result<(), CheckFault>
+    ensures { Counts result numbers.new (room depth (size_of (terms.Output (place_of channel.now) tag (items_of items.now))) (numbers_of numbers.old)) }
+{
+    let _sent = tag;
+    count_output(numbers, depth, channel, items)
 }
 
 /// An input with its nodes.
