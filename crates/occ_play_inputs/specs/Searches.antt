@@ -1,6 +1,6 @@
 -- What the words of the command line ask of all lists of choices.
 -- Manual: nothing; the words are (own).
-use Rattle.std.specs.Prelude.{List, None, Option, Some, codes, ℕ, ◌×◌, ◌≡◌, ◌≢◌}
+use Rattle.std.specs.Prelude.{List, None, Option, Some, codes, ℕ, ◌≡◌, ◌≢◌}
 use Rattle.occ_explore.specs.declared.exploration.Asked.{Asked}
 use Rattle.occ_explore.specs.declared.exploration.Asked.TheVariants.{Answers, Endings}
 

@@ -38,11 +38,6 @@ pub const MOST_STATES: u32 = 10_000_000;
 /// What a word may say that a search tells.
 static TOLD: [&str; 2] = ["answers", "endings"];
 
-/// The words that say nothing of a search, and so may not stand beside the one that asks for it.
-static OF_ONE_RUN: [&str; 7] = [
-    "limit", "workers", "choices", "chart", "arrows", "trace", "watch",
-];
-
 /// What is told below the words.
 const MORE_HELP: &str =
     r#"A turn is what one process does up to its next stop: an output, an input, an ALT, a PAR,
@@ -313,15 +308,26 @@ fn watch_word<'a>(alloc: Global) -> Arg<'a> {
 }
 
 fn explore_word<'a>(alloc: Global) -> Result<Arg<'a>, AllocError> {
-    Arg::new(alloc, "explore")
+    let word = Arg::new(alloc, "explore")
         .long("explore")
         .value_name("WHAT")
         .help("Tells what all lists of choices come to, with the screen for answers, without for endings [default: answers]")
         .num_args(0..=1)
         .require_equals(true)
         .default_missing_value("answers")
-        .value_parser(ValueParser::Names(TOLD.as_slice()))
-        .conflicts_with_all(OF_ONE_RUN.as_slice())
+        .value_parser(ValueParser::Names(TOLD.as_slice()));
+    but_one_run(word)
+}
+
+/// A word beside which those that say something of one run may not stand.
+fn but_one_run<'a>(word: Arg<'a>) -> Result<Arg<'a>, AllocError> {
+    word.conflicts_with("limit")?
+        .conflicts_with("workers")?
+        .conflicts_with("choices")?
+        .conflicts_with("chart")?
+        .conflicts_with("arrows")?
+        .conflicts_with("trace")?
+        .conflicts_with("watch")
 }
 
 fn states_word<'a>(alloc: Global) -> Result<Arg<'a>, AllocError> {
