@@ -65,11 +65,7 @@ pub(crate) fn write_more(alloc: Global, out: &mut Vec<u8>, count: usize) -> Resu
 }
 
 /// The first bytes as a string, and how many more there were.
-pub(crate) fn write_string(
-    alloc: Global,
-    out: &mut Vec<u8>,
-    bytes: &[u8],
-) -> Result<(), AllocError>
+pub(crate) fn write_string(alloc: Global, out: &mut Vec<u8>, bytes: &[u8]) -> Result<(), AllocError>
     ensures { OnOk result (out.new.items ≡ out.old.items ++ string_text bytes.now) }
 {
     if bytes.len() <= MOST_LETTERS {

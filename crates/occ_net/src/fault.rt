@@ -24,7 +24,10 @@ impl fmt::Display for NetFault {
 
     fn fmt<W: fmt::Write>(&self, f: &mut fmt::Formatter<W>) -> fmt::Result {
         match self {
-            NetFault::Stale { number: _, turns: _ } => write!(f, "refused 70 Stale"),
+            NetFault::Stale {
+                number: _,
+                turns: _,
+            } => write!(f, "refused 70 Stale"),
             NetFault::Over { ending: _ } => write!(f, "refused 71 Over"),
             NetFault::Memory => write!(f, "refused 79 Memory"),
         }

@@ -275,7 +275,9 @@ fn record_word<'a>(alloc: Global) -> Arg<'a> {
     Arg::new(alloc, "record")
         .long("record")
         .value_name("FILE")
-        .help("Writes the choices that the run used into FILE; of a search those of answer 1 into FILE.1.choices, and so on")
+        .help(
+            "Writes the choices that the run used into FILE; of a search those of answer 1 into FILE.1.choices, and so on",
+        )
 }
 
 fn chart_word<'a>(alloc: Global) -> Arg<'a> {
@@ -311,7 +313,9 @@ fn explore_word<'a>(alloc: Global) -> Result<Arg<'a>, AllocError> {
     let word = Arg::new(alloc, "explore")
         .long("explore")
         .value_name("WHAT")
-        .help("Tells what all lists of choices come to, with the screen for answers, without for endings [default: answers]")
+        .help(
+            "Tells what all lists of choices come to, with the screen for answers, without for endings [default: answers]",
+        )
         .num_args(0..=1)
         .require_equals(true)
         .default_missing_value("answers")

@@ -5,7 +5,7 @@ ghost use Rattle.occ_program.specs.Coming.{IsSearchStatus, SearchedTo, found_sta
 use crate::program::{options_of, tell};
 use occ_choices::choices_text;
 use occ_exploring::{
-    Asked, Exploration, MOST_ANSWERS, explore_in, exploration_text, status_of_search,
+    Asked, Exploration, MOST_ANSWERS, exploration_text, explore_in, status_of_search,
 };
 use occ_files::save;
 use occ_play::{Choice, PlayFault, status_of};

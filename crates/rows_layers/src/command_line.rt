@@ -130,10 +130,7 @@ static REFUSED: [(&[&str], ErrorKind); 33] = [
         &["occam", "--explore", "--states=10000001"],
         ErrorKind::ValueValidation,
     ),
-    (
-        &["occam", "--states=5"],
-        ErrorKind::MissingRequiredArgument,
-    ),
+    (&["occam", "--states=5"], ErrorKind::MissingRequiredArgument),
     (
         &["occam", "--explore", "--arrows=5"],
         ErrorKind::ArgumentConflict,
