@@ -44,11 +44,12 @@ const MORE_HELP: &str =
 the end of a loop's body, STOP, a fault, or its end.
 
 Exit status:
-  0  the program ended, or this help
+  0  the program ended, or each answer of a search has, or this help
   1  the source was refused
-  2  the program stopped: no process can go on, or one stopped by a fault is waited for
-  3  a fault ended the run
-  4  the limit of turns came first
+  2  the program stopped: no process can go on, or one stopped by a fault is waited for;
+     or an answer of a search has stopped, and none is a fault
+  3  a fault ended the run, or an answer of a search is one
+  4  the limit of turns came first, or the bound of states
   5  memory ran out, or threads gave no answer
   6  a file or a stream could not be read or written
   7  wrong words, or a refused file of choices

@@ -7,12 +7,12 @@ use occ_choices::choices_text;
 use occ_exploring::{
     Asked, Exploration, MOST_ANSWERS, exploration_text, explore_in, status_of_search,
 };
-use occ_files::save;
+use occ_files::{are_one_file, save};
 use occ_play::{Choice, PlayFault, status_of};
 use occ_play_inputs::failure::of_write;
 use occ_play_inputs::{Failure, Inputs, Words, read_inputs};
 use occ_shown::{Counted, write_answer};
-use std::alloc::Global;
+use std::alloc::{AllocError, Global};
 use std::io;
 use std::rt::Files;
 
@@ -27,6 +27,7 @@ pub(crate) fn explore_words<R: Files + Input + Print + Eprint>(
     ensures came { IfOk result (IsSearchStatus words.now asked) }
     ensures small { IfOk result (λ status. status ≤ 7) }
 {
+    check_records(rt, alloc, words)?;
     let inputs = read_inputs(rt, alloc, words)?;
     let found = search(alloc, words, &inputs, asked);
     match &found {
@@ -37,6 +38,25 @@ pub(crate) fn explore_words<R: Files + Input + Print + Eprint>(
         Err(fault) => tell(rt, fault),
     }
     Ok(status_of_found(found))
+}
+
+/// The file that the choices of the answer with this number go into.
+fn answer_path(alloc: Global, stem: &str, number: usize) -> Result<String, AllocError> {
+    format!(in alloc; "{stem}.{number}.choices")
+}
+
+/// Refuses to write the choices of an answer into the file that the source is read from, by whatever path.
+fn check_records<R: Files>(rt: &R, alloc: Global, words: &Words<'_>) -> Result<(), Failure> {
+    let (Some(stem), Some(file)) = (words.record, words.file) else {
+        return Ok(());
+    };
+    for number in 1..=MOST_ANSWERS {
+        let path = answer_path(alloc, stem, number)?;
+        if path.as_str() == file || are_one_file(rt, path.as_str(), file) {
+            return Err(Failure::Paths);
+        }
+    }
+    Ok(())
 }
 
 /// What the lists of choices come to, as the words ask.
@@ -109,7 +129,7 @@ fn record_answer<R: Files>(
     number: usize,
     choices: &[Choice],
 ) -> Result<(), Failure> {
-    let path = format!(in alloc; "{stem}.{number}.choices")?;
+    let path = answer_path(alloc, stem, number)?;
     let text = choices_text(alloc, choices)?;
     save(rt, alloc, path.as_str(), text.as_slice()).map_err(of_write)
 }
