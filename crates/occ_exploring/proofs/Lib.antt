@@ -1,2 +1,2 @@
 mod Growth
-mod Laws
+mod Told

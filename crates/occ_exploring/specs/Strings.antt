@@ -32,8 +32,9 @@ most_letters = 60
 
 -- how many there were beyond these
 abbrev pub more : ℕ → List ℕ
-more n = if n == 0 then [] else codes " and " ++ decimal n ++ codes " more"
+more n = codes " and " ++ decimal n ++ codes " more"
 
--- the first bytes, and how many more there were
+-- all bytes, or the first ones and how many more there were
 abbrev pub string_text : List ℕ → List ℕ
-string_text bytes = quoted (take most_letters bytes) ++ more (length bytes - most_letters)
+string_text bytes =
+    if nat_lt most_letters (length bytes) then quoted (take most_letters bytes) ++ more (length bytes - most_letters) else quoted bytes

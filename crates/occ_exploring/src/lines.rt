@@ -1,6 +1,6 @@
 //! Says what a search has found.
-ghost use Rattle.std.specs.Prelude.{◌≡◌, ◌++◌, ◌+◌, ◌<◌, ◌^◌, IfOk, OnOk, length};
-ghost use Rattle.occ_exploring.specs.Texts.{answer_line, answer_lines, counted, error_text, exploration_text, held_text, known_text, left_text};
+ghost use Rattle.std.specs.Prelude.{◌≡◌, ◌++◌, ◌≤◌, IfOk, OnOk, length};
+ghost use Rattle.occ_exploring.specs.Texts.{answer_line, answer_lines, answers_text, counted, error_text, exploration_text, held_text, known_text, left_text};
 
 use crate::strings::write_string;
 use occ_explore::{Answer, Asked, Exploration};
@@ -81,7 +81,7 @@ fn write_answers(
     asked: Asked,
     answers: &[Answer],
 ) -> Result<(), AllocError>
-    requires { length answers.now < 2 ^ 63 }
+    requires { length answers.now ≤ 100 }
     ensures { OnOk result (out.new.items ≡ out.old.items ++ answer_lines asked 1 answers.now) }
 {
     let mut number = 1;
@@ -96,11 +96,25 @@ fn write_answers(
 fn write_left(alloc: Global, out: &mut Vec<u8>, count: usize) -> Result<(), AllocError>
     ensures { OnOk result (out.new.items ≡ out.old.items ++ left_text count) }
 {
-    if count == 0 {
-        return Ok(());
-    }
     let line = format!(in alloc; "and {count} more\n")?;
     out.extend_from_slice(line.as_bytes())
+}
+
+/// A line for each answer, or for the first ones with how many more there are.
+fn write_first(
+    alloc: Global,
+    out: &mut Vec<u8>,
+    asked: Asked,
+    answers: &[Answer],
+) -> Result<(), AllocError>
+    ensures { OnOk result (out.new.items ≡ out.old.items ++ answers_text asked answers.now) }
+{
+    if answers.len() > MOST_ANSWERS {
+        write_answers(alloc, out, asked, &answers[..MOST_ANSWERS])?;
+        write_left(alloc, out, answers.len() - MOST_ANSWERS)
+    } else {
+        write_answers(alloc, out, asked, answers)
+    }
 }
 
 /// Whether these are all answers, and how many states there are.
@@ -120,7 +134,8 @@ fn write_known(
     } else {
         out.extend_from_slice(b"these at least: the bound of ")?;
         write_counted(alloc, out, most as usize, b"state")?;
-        out.extend_from_slice(b" was passed\n")
+        out.extend_from_slice(b" was passed\n")?;
+        Ok(())
     }
 }
 
@@ -138,11 +153,8 @@ pub fn exploration_text(
 ) -> Result<Vec<u8>, AllocError>
     ensures { IfOk result (λ bytes. bytes.items ≡ exploration_text asked most exploration.now) }
 {
-    let answers = exploration.answers.as_slice();
-    let count = answers.len().min(MOST_ANSWERS);
     let mut out = Vec::new(alloc);
-    write_answers(alloc, &mut out, asked, &answers[..count])?;
-    write_left(alloc, &mut out, answers.len() - count)?;
+    write_first(alloc, &mut out, asked, exploration.answers.as_slice())?;
     write_known(alloc, &mut out, exploration, most)?;
     Ok(out)
 }

@@ -57,20 +57,18 @@ fn write_quoted(out: &mut Vec<u8>, bytes: &[u8]) -> Result<(), AllocError>
 pub(crate) fn write_more(alloc: Global, out: &mut Vec<u8>, count: usize) -> Result<(), AllocError>
     ensures { OnOk result (out.new.items ≡ out.old.items ++ more count) }
 {
-    if count == 0 {
-        return Ok(());
-    }
     let text = format!(in alloc; " and {count} more")?;
     out.extend_from_slice(text.as_bytes())
 }
 
-/// The first bytes as a string, and how many more there were.
+/// The bytes as a string, or the first ones and how many more there were.
 pub(crate) fn write_string(alloc: Global, out: &mut Vec<u8>, bytes: &[u8]) -> Result<(), AllocError>
     ensures { OnOk result (out.new.items ≡ out.old.items ++ string_text bytes.now) }
 {
-    if bytes.len() <= MOST_LETTERS {
-        return write_quoted(out, bytes);
+    if bytes.len() > MOST_LETTERS {
+        write_quoted(out, &bytes[..MOST_LETTERS])?;
+        write_more(alloc, out, bytes.len() - MOST_LETTERS)
+    } else {
+        write_quoted(out, bytes)
     }
-    write_quoted(out, &bytes[..MOST_LETTERS])?;
-    write_more(alloc, out, bytes.len() - MOST_LETTERS)
 }
