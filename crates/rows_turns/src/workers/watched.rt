@@ -326,7 +326,7 @@ fn count_shown<J: Naming>(
     for _ in 0..8 {
         if let Some(watcher) = watchers.pop() {
             if is_shown(alloc, watcher, note, lines) {
-                count += 1;
+                count = u32::saturating_add(count, 1);
             }
         }
     }
