@@ -29,8 +29,9 @@ use Rattle.occ_play.specs.declared.playing.Options.{Options}
 use Rattle.occ_watching.specs.Coming.{CameTo}
 use Rattle.occ_explore.specs.declared.exploration.Asked.{Asked as AskedFor}
 use Rattle.occ_explore.specs.declared.exploration.Exploration.{Exploration}
+use Rattle.occ_exploring.specs.Explored.{IsExplored}
 use Rattle.occ_exploring.specs.Statuses.{is_fault, is_stop, search_status, some_ends}
-use Rattle.occ_program.specs.Coming.{CameToBy, options_in, workers_asked, IsSearchStatus, IsStatusFor, ProgramStatus, found_status, of_play, of_search, of_failure, of_help}
+use Rattle.occ_program.specs.Coming.{CameToBy, options_in, workers_asked, IsSearchStatus, IsStatusFor, ProgramStatus, SearchedTo, found_status, of_play, of_search, of_failure, of_help}
 
 ending_small : (e : Ending) → ending_status e ≤ 7
 ending_small Ended = omega arith
@@ -92,6 +93,16 @@ played_status words (Err f) one h = tt
 pub searched_status : (words : Asked) (asked : AskedFor) (r : Result ℕ Failure) → words.explore ≡ Some asked → IfOk r (IsSearchStatus words asked) → IfOk r ProgramStatus
 searched_status words asked (Ok s) all h = of_search words asked all h
 searched_status words asked (Err f) all h = tt
+
+-- what a search came to, by its two clauses
+pub searched_to : (words : Asked) (source keyboard bytes keys : List ℕ) (asked : AskedFor) (options : Options) (found : Result Exploration PlayFault)
+    → options ≡ options_in words → bytes ≡ source → keys ≡ keyboard
+    → IfOk found (IsExplored options bytes keys asked words.states) → IfErr found (Refuses options bytes) → SearchedTo words source keyboard asked found
+searched_to words source keyboard bytes keys asked options (Ok e) same from typed h g =
+    subst (λ o. IsExplored o source keyboard asked words.states e) same
+    (subst (λ k. IsExplored options source k asked words.states e) typed (subst (λ s. IsExplored options s keys asked words.states e) from h))
+searched_to words source keyboard bytes keys asked options (Err f) same from typed h g =
+    subst (λ o. Refuses o source f) same (subst (λ s. Refuses options s f) from g)
 
 search_small : (e : Exploration) → search_status e ≤ 7
 search_small e = by e.all (some_ends is_fault e.answers.items) (some_ends is_stop e.answers.items)

@@ -1,6 +1,6 @@
 -- What an exit status says of the source, the keyboard and the choices that were played.
 -- Manual: nothing; this is (own).
-use Rattle.std.specs.Prelude.{Bool, false, true, unwrap_or, List, None, Option, Some, Result, ℕ, ◌≡◌}
+use Rattle.std.specs.Prelude.{Bool, false, true, unwrap_or, List, None, Option, Some, Result, ℕ, ◌≡◌, Ok, Err}
 use Rattle.occ_net_replay.specs.declared.choice.Choice.{Choice}
 use Rattle.occ_play_inputs.specs.declared.failure.Failure.{Failure}
 use Rattle.occ_choices.specs.declared.plan.Plan.{Plan}

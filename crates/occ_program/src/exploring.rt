@@ -30,14 +30,28 @@ pub(crate) fn explore_words<R: Files + Input + Print + Eprint>(
     check_records(rt, alloc, words)?;
     let inputs = read_inputs(rt, alloc, words)?;
     let found = search(alloc, words, &inputs, asked);
-    match &found {
+    tell_found(rt, alloc, words, asked, &found)?;
+    Ok(status_of_found(found))
+}
+
+/// Prints what a search has found and records it as the words ask, or prints why the source was refused.
+fn tell_found<R: Files + Print + Eprint>(
+    rt: &R,
+    alloc: Global,
+    words: &Words<'_>,
+    asked: Asked,
+    found: &Result<Exploration, PlayFault>,
+) -> Result<(), Failure> {
+    match found {
         Ok(exploration) => {
             print_answers(rt, alloc, words, asked, exploration)?;
-            record_answers(rt, alloc, words, exploration)?;
+            record_answers(rt, alloc, words, exploration)
         }
-        Err(fault) => tell(rt, fault),
+        Err(fault) => {
+            tell(rt, fault);
+            Ok(())
+        }
     }
-    Ok(status_of_found(found))
 }
 
 /// The file that the choices of the answer with this number go into.
