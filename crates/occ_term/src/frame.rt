@@ -10,8 +10,8 @@ use crate::message::same_values;
 use std::alloc::{AllocError, Global};
 use std::marker::Model;
 
-/// The variables of a process and of its branches: the cells that it uses, in rising order, with
-/// their values, and the counters of its replicated SEQs.
+/// The variables of a process and of its branches: the cells that it uses, in rising order in compiled
+/// code, with their values, and the counters of its replicated SEQs.
 pub struct Frame {
     cells: FrameCells,
     values: Vec<i64>,
@@ -167,7 +167,7 @@ impl Frame {
         self.left[slot] = count;
     }
 
-    /// A copy. The error is a refused growth.
+    /// A copy. The error is a refused growth, or too many copies.
     pub fn copy(&self, alloc: Global) -> Result<Frame, AllocError>
         ensures { IfOk result (λ f. f ≡ self.now) }
     {
