@@ -2,3 +2,4 @@ pub mod Explored
 pub mod Strings
 pub mod Texts
 pub mod Statuses
+pub mod Alone

@@ -5,8 +5,10 @@
 pub mod exploring;
 pub mod laws;
 mod lines;
+pub mod only;
 mod strings;
 
 pub use exploring::{explore_in, status_of_search};
 pub use lines::{MOST_ANSWERS, exploration_text};
 pub use occ_explore::{Answer, Asked, Exploration};
+pub use only::{only_answer_in, only_text, status_of_only};

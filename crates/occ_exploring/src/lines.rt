@@ -10,7 +10,7 @@ use std::alloc::{AllocError, Global};
 pub const MOST_ANSWERS: usize = 100;
 
 /// So many of a thing.
-fn write_counted(
+pub(crate) fn write_counted(
     alloc: Global,
     out: &mut Vec<u8>,
     count: usize,
@@ -57,7 +57,7 @@ fn write_held(
     }
 }
 
-fn write_answer(
+pub(crate) fn write_answer(
     alloc: Global,
     out: &mut Vec<u8>,
     asked: Asked,
