@@ -9,4 +9,4 @@ mod strings;
 
 pub use exploring::{explore_in, status_of_search};
 pub use lines::{MOST_ANSWERS, exploration_text};
-pub use occ_explore::{Answer, Asked, Exploration};
+pub use occ_explore::{Answer, Asked, Exploration, Lasting};
