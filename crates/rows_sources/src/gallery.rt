@@ -1255,6 +1255,72 @@ PROC main (CHAN OF BYTE keyboard, screen)
 :
 "#;
 
+const BUTLER: &str =
+    r#"-- Philosophers as those of dining.occ, and a butler who lets all but one of them sit down at a time: by whatever choices all eat, and
+-- none starves.
+--
+-- Keyboard: nothing
+-- Screen:
+--   all have eaten
+-- Ends: ended
+--
+-- Explored:
+--   1 ended "all have eaten*n" by 91 choices
+--   each run ends within 91 turns
+--   all, 108556 states
+
+VAL seats IS 3:
+
+PROC philosopher (CHAN OF BOOL sits, rises, left, right)
+  SEQ
+    sits ! TRUE
+    left ! TRUE
+    right ! TRUE
+    left ! FALSE
+    right ! FALSE
+    rises ! TRUE
+:
+
+-- Is taken and put back twice, by either of its neighbours.
+PROC fork (CHAN OF BOOL left, right)
+  BOOL taken:
+  SEQ i = 0 FOR 2
+    ALT
+      left ? taken
+        left ? taken
+      right ? taken
+        right ? taken
+:
+
+PROC butler ([]CHAN OF BOOL sits, rises)
+  BOOL any:
+  INT seated:
+  SEQ
+    seated := 0
+    SEQ n = 0 FOR 2 * seats
+      ALT i = 0 FOR seats
+        ALT
+          (seated < (seats - 1)) & sits[i] ? any
+            seated := seated + 1
+          rises[i] ? any
+            seated := seated - 1
+:
+
+PROC main (CHAN OF BYTE keyboard, screen)
+  VAL told IS "all have eaten*n":
+  [seats]CHAN OF BOOL sits, rises, left, right:
+  SEQ
+    PAR
+      PAR i = 0 FOR seats
+        philosopher (sits[i], rises[i], left[i], right[i])
+      PAR i = 0 FOR seats
+        fork (left[i], right[(i + 2) \ seats])
+      butler (sits, rises)
+    SEQ i = 0 FOR SIZE told
+      screen ! told[i]
+:
+"#;
+
 const COLOURS: &str =
     r#"-- A subscript beyond its array: there are three colours, and a fourth is asked for.
 --
@@ -1363,6 +1429,68 @@ PROC main (CHAN OF BYTE keyboard, screen)
       SEQ
         quotients ? quotient
         screen ! BYTE (quotient + (INT '0'))
+:
+"#;
+
+const DOOR: &str =
+    r#"-- One guest at a time is to be in a room: each asks whether it is taken until it isn't, and then goes in. But another one may ask
+-- between the two. A bracket opens where one goes in, and closes where one comes out. A guest may ask for ever while another is in.
+--
+-- Keyboard: nothing
+-- Screen:
+--   (())
+-- Ends: ended
+--
+-- By door.choices:
+--   ()()
+-- Ends: ended
+--
+-- Explored:
+--   1 ended "()()*n" by 36 choices
+--   2 ended "(())*n" by 36 choices
+--   some run goes on for ever
+--   all, 537 states
+
+PROC guest (CHAN OF BOOL ask, told, moves)
+  BOOL taken:
+  SEQ
+    taken := TRUE
+    WHILE taken
+      SEQ
+        ask ! TRUE
+        told ? taken
+    moves ! TRUE
+    moves ! FALSE
+:
+
+PROC door ([]CHAN OF BOOL ask, told, moves, CHAN OF BYTE screen)
+  BOOL taken, any:
+  INT left:
+  SEQ
+    taken := FALSE
+    left := 2
+    WHILE left > 0
+      ALT i = 0 FOR 2
+        ALT
+          ask[i] ? any
+            told[i] ! taken
+          moves[i] ? taken
+            IF
+              taken
+                screen ! '('
+              TRUE
+                SEQ
+                  screen ! ')'
+                  left := left - 1
+    screen ! '*n'
+:
+
+PROC main (CHAN OF BYTE keyboard, screen)
+  [2]CHAN OF BOOL ask, told, moves:
+  PAR
+    PAR i = 0 FOR 2
+      guest (ask[i], told[i], moves[i])
+    door (ask, told, moves, screen)
 :
 "#;
 
@@ -2046,7 +2174,15 @@ pub(crate) static IN_SHARING: [Run; 6] = [
     },
 ];
 
-pub(crate) static IN_FAULTS: [Run; 11] = [
+pub(crate) static IN_FAULTS: [Run; 14] = [
+    Run {
+        source: BUTLER,
+        title: "Screen",
+        keyboard: "",
+        choices: "",
+        screen: "all have eaten\n",
+        ending: "ended",
+    },
     Run {
         source: COLOURS,
         title: "Screen",
@@ -2170,6 +2306,58 @@ pub(crate) static IN_FAULTS: [Run; 11] = [
         choices: "",
         screen: "36\n",
         ending: "stopped ARITH line 21",
+    },
+    Run {
+        source: DOOR,
+        title: "Screen",
+        keyboard: "",
+        choices: "",
+        screen: "(())\n",
+        ending: "ended",
+    },
+    Run {
+        source: DOOR,
+        title: "By door.choices",
+        keyboard: "",
+        choices: r#"0 0
+1 0
+0 0
+1 0
+2 0
+1 0
+2 0
+2 0
+1 0
+1 0
+2 0
+2 0
+2 0
+1 0
+2 0
+2 0
+2 0
+1 0
+0 0
+1 0
+0 0
+1 0
+1 0
+0 0
+0 0
+1 0
+1 0
+1 0
+0 0
+1 0
+1 0
+1 0
+1 0
+0 0
+0 0
+0 0
+"#,
+        screen: "()()\n",
+        ending: "ended",
     },
     Run {
         source: EMBRACE,
