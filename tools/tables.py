@@ -10,7 +10,7 @@ import sys
 
 TOP = pathlib.Path(__file__).resolve().parent.parent
 STOPPING = "With --errors stop"
-FOLDERS = ["first_steps", "sequences", "pipelines", "selection", "sharing", "faults"]
+FOLDERS = ["first_steps", "sequences", "pipelines", "selection", "sharing", "faults", "library"]
 
 
 def literal(text):
@@ -50,7 +50,8 @@ def gallery():
     for folder in FOLDERS:
         rows = []
         for path in sorted((TOP / "examples" / folder).glob("*.occ")):
-            name = path.stem.upper()
+            # two folders may each have a file of one name
+            name = (f"{folder}_{path.stem}" if folder == "library" else path.stem).upper()
             sources.append(f"const {name}: &str =\n    {literal(path.read_text())};\n")
             for title, keyboard, choices, screen, ending in runs(path):
                 fields = {"title": title, "keyboard": keyboard, "choices": choices, "screen": screen, "ending": ending}
