@@ -31,7 +31,7 @@ use Rattle.occ_explore.specs.declared.exploration.Asked.{Asked as AskedFor}
 use Rattle.occ_explore.specs.declared.exploration.Exploration.{Exploration}
 use Rattle.occ_exploring.specs.Explored.{IsExplored}
 use Rattle.occ_exploring.specs.Statuses.{is_fault, is_stop, search_status, some_ends}
-use Rattle.occ_program.specs.Coming.{CameToBy, options_in, workers_asked, IsSearchStatus, IsStatusFor, ProgramStatus, SearchedTo, found_status, of_play, of_search, of_failure, of_help}
+use Rattle.occ_program.specs.Coming.{CameToBy, options_in, workers_asked, IsLookStatus, IsSearchStatus, IsStatusFor, ProgramStatus, SearchedTo, found_status, look_status, of_look, of_play, of_search, of_failure, of_help}
 
 ending_small : (e : Ending) → ending_status e ≤ 7
 ending_small Ended = omega arith
@@ -85,10 +85,27 @@ pub came_to_both : {Done : Type 0} (workers : Option ℕ) (words : Asked) (sourc
 came_to_both workers words source keyboard list (Ok done) r crew h g = g
 came_to_both workers words source keyboard list (Err f) r crew h g = refused_by workers words source keyboard list f crew h
 
--- what was played has its status, what was searched, and so has a failure
-pub played_status : (words : Asked) (r : Result ℕ Failure) → words.explore ≡ None → IfOk r (IsStatusFor words) → IfOk r ProgramStatus
-played_status words (Ok s) one h = of_play words one h
-played_status words (Err f) one h = tt
+-- what refused one of two texts that were to be made
+pub either_refuses : {One Other : Type 0} (Refusal : PlayFault → Type 0) (one : Result One PlayFault) (other : Result Other PlayFault) → IfErr one Refusal → IfErr other Refusal → IfErr (result_and one other) Refusal
+either_refuses Refusal (Ok done) other h g = g
+either_refuses Refusal (Err f) other h g = h
+
+-- what was played has its status, what was looked at or searched, and so has a failure
+played_status : (words : Asked) (r : Result ℕ Failure) → words.explore ≡ None → words.check ≡ false → IfOk r (IsStatusFor words) → IfOk r ProgramStatus
+played_status words (Ok s) one run h = of_play words one run h
+played_status words (Err f) one run h = tt
+
+looked_status : (words : Asked) (r : Result ℕ Failure) → words.explore ≡ None → words.check ≡ true → IfOk r (IsLookStatus words) → IfOk r ProgramStatus
+looked_status words (Ok s) one look h = of_look words one look h
+looked_status words (Err f) one look h = tt
+
+pub looked_or_played : (words : Asked) (r : Result ℕ Failure) → words.explore ≡ None → (words.check ≡ true → IfOk r (IsLookStatus words)) → (words.check ≡ false → IfOk r (IsStatusFor words))
+    → IfOk r ProgramStatus
+looked_or_played words r one looked played = by words.check refl
+  where
+    by : (check : Bool) → words.check ≡ check → IfOk r ProgramStatus
+    by true e = looked_status words r one e (looked e)
+    by false e = played_status words r one e (played e)
 
 pub searched_status : (words : Asked) (asked : AskedFor) (r : Result ℕ Failure) → words.explore ≡ Some asked → IfOk r (IsSearchStatus words asked) → IfOk r ProgramStatus
 searched_status words asked (Ok s) all h = of_search words asked all h
@@ -116,6 +133,10 @@ search_small e = by e.all (some_ends is_fault e.answers.items) (some_ends is_sto
 pub found_small : (found : Result Exploration PlayFault) → found_status found ≤ 7
 found_small (Ok e) = search_small e
 found_small (Err f) = fault_small f
+
+pub look_small : (fault : Option PlayFault) → look_status fault ≤ 7
+look_small None = omega arith
+look_small (Some f) = fault_small f
 
 pub failed_status : (f : Failure) (s : ℕ) → (s ≡ failure_status f) ⊎ ((failure_status f ≡ 0) × (s ≡ 6)) → ProgramStatus s
 failed_status f s (inl e) = subst ProgramStatus (sym e) (of_failure f)

@@ -7,7 +7,7 @@ use Rattle.occ_choices.specs.declared.plan.Plan.{Plan}
 use Rattle.occ_play.specs.declared.playing.Options.{Options}
 use Rattle.occ_play.specs.declared.playing.Played.{Played}
 use Rattle.occ_play.specs.declared.fault.PlayFault.{PlayFault}
-use Rattle.occ_play.specs.Playing.{IsAnswer, Refuses}
+use Rattle.occ_play.specs.Playing.{HasCode, IsAnswer, Refuses, RefusesCode}
 use Rattle.occ_play_inputs.specs.declared.words.Words.{Words}
 use Rattle.occ_play_inputs.specs.Asked.{IsAskedBy}
 use Rattle.occ_play_inputs.specs.Failures.{failure_status}
@@ -64,12 +64,31 @@ pub record IsSearchStatus (words : Words) (asked : Asked) (s : ℕ) : Type 0 whe
   pub searched : SearchedTo words source keyboard asked found
   pub is : s ≡ found_status found
 
+-- ---- a source that is only looked at
+
+-- it has code for turns of these options, or what is wrong with it
+abbrev pub LookedAt : Words → (source : List ℕ) → Option PlayFault → Type 0
+LookedAt words source None = HasCode (options_in words) source
+LookedAt words source (Some fault) = RefusesCode (options_in words) source fault
+
+abbrev pub look_status : Option PlayFault → ℕ
+look_status None = 0
+look_status (Some fault) = fault_status fault
+
+-- the status of a look at a source
+pub record IsLookStatus (words : Words) (s : ℕ) : Type 0 where
+  pub source : List ℕ
+  pub fault : Option PlayFault
+  pub looked : LookedAt words source fault
+  pub is : s ≡ look_status fault
+
 -- ---- the program
 
--- What a status of the program says: that of what a source came to, played or searched as the words ask, or that of a failure, or 6
--- where help could not be printed.
+-- What a status of the program says: that of what a source came to, played, searched or looked at as the words ask, or that of a
+-- failure, or 6 where help could not be printed.
 pub data ProgramStatus : ℕ → Type 0 where
-  of_play : (words : Words) {s : ℕ} → words.explore ≡ None → IsStatusFor words s → ProgramStatus s
+  of_play : (words : Words) {s : ℕ} → words.explore ≡ None → words.check ≡ false → IsStatusFor words s → ProgramStatus s
+  of_look : (words : Words) {s : ℕ} → words.explore ≡ None → words.check ≡ true → IsLookStatus words s → ProgramStatus s
   of_search : (words : Words) (asked : Asked) {s : ℕ} → words.explore ≡ Some asked → IsSearchStatus words asked s → ProgramStatus s
   of_failure : (failure : Failure) → ProgramStatus (failure_status failure)
   of_help : (help : Failure) → failure_status help ≡ 0 → ProgramStatus 6

@@ -1,3 +1,4 @@
 pub mod Coming
 pub mod Pages
 pub mod Lines
+pub mod Trying

@@ -72,7 +72,7 @@ fn chart_of(
 }
 
 /// The plan of these choices.
-fn plan_of(alloc: Global, choices: &[Choice]) -> Result<Plan, AllocError>
+pub(crate) fn plan_of(alloc: Global, choices: &[Choice]) -> Result<Plan, AllocError>
     ensures { IfOk result (λ plan. choices_of plan ≡ choices.now) }
 {
     Ok(Plan::Choices(Vec::from_slice(alloc, choices)?))

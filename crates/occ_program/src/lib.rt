@@ -6,9 +6,12 @@
 mod drawing;
 pub mod exit;
 mod exploring;
+mod looking;
 mod page;
 pub mod program;
 mod recording;
+mod seeding;
+mod tracing;
 
 pub use exit::exit_code;
 pub use program::run;
