@@ -92,6 +92,20 @@ def explored():
     return "//! Programs of the folder `examples`. `tools/tables.py` writes this file.\n\n" + "\n".join(rows)
 
 
+def causes():
+    """The causes of refusals in docs/language.md, without the mark of what is the project's own."""
+    found = re.findall(r"(?m)^\| (\d+) [A-Z]\w+ \| (.*) \|$", (TOP / "docs/language.md").read_text())
+    rows = []
+    for number, cause in found:
+        text = literal(cause.removesuffix(" (own)"))
+        short = len(f"{number}, {text}") <= 60
+        rows.append(f"    ({number}, {text}),\n" if short else f"    (\n        {number},\n        {text},\n    ),\n")
+    return (
+        "//! The causes of refusals in `docs/language.md`. `tools/tables.py` writes this file.\n\n"
+        f"pub(crate) static CAUSES: [(u32, &str); {len(rows)}] = [\n{''.join(rows)}];\n"
+    )
+
+
 def words():
     """The words of the command line, in the order of the help: name, name of the value, whether it has to stand behind `=`,
     what the value may be, and what the help says."""
@@ -207,6 +221,7 @@ def in_fish():
 WIDTH = 40
 differ = False
 TABLES = {
+    "crates/occ_explain/src/cause_table.rt": causes,
     "crates/rows_sources/src/gallery.rt": gallery,
     "crates/rows_sources/src/answers.rt": answers,
     "crates/rows_explore/src/sources.rt": explored,

@@ -12,7 +12,7 @@ _occam() {
       ;;
   esac
   if [[ "$now" == -* ]]; then
-    COMPREPLY=($(compgen -W "--limit --quantum --errors --workers --seed --tries --choices --record --chart --arrows --trace --trace-to --json --watch --explore --states --check --help --version" -- "$now"))
+    COMPREPLY=($(compgen -W "--limit --quantum --errors --workers --seed --tries --choices --record --chart --arrows --trace --trace-to --json --watch --explain --explore --states --check --help --version" -- "$now"))
   else
     COMPREPLY=($(compgen -f -- "$now"))
   fi

@@ -87,6 +87,8 @@ pub struct Words<'a> {
     /// Whether a thread of its own looks at the communications, which are printed to standard error as it was shown them; with
     /// a file of choices it says nothing.
     pub watch: bool,
+    /// Whether more is told behind the line of a refusal, and behind an ending that is not that of a whole run.
+    pub explain: bool,
     /// The number from which the choices of the run are made, as many as the limit has, 0 to 1,000,000,000; none where no word
     /// says so.
     pub seed: Option<u32>,
@@ -193,6 +195,7 @@ pub fn read_words<'a>(alloc: Global, words: &'a [&'a str]) -> Result<Words<'a>, 
         workers,
         trace: matches.get_flag("trace"),
         watch: matches.get_flag("watch"),
+        explain: matches.get_flag("explain"),
         seed,
         tries,
         choices,
@@ -321,6 +324,7 @@ fn command<'a>(alloc: Global) -> Result<Command<'a>, Error> {
         .arg(trace_to_word(alloc))?
         .arg(json_word(alloc)?)?
         .arg(watch_word(alloc))?
+        .arg(explain_word(alloc))?
         .arg(explore_word(alloc)?)?
         .arg(states_word(alloc)?)?
         .arg(check_word(alloc)?)?
@@ -442,6 +446,15 @@ fn watch_word<'a>(alloc: Global) -> Arg<'a> {
     Arg::new(alloc, "watch")
         .long("watch")
         .help("Prints each communication to standard error as a thread was shown it that looks on")
+        .action(ArgAction::SetTrue)
+}
+
+fn explain_word<'a>(alloc: Global) -> Arg<'a> {
+    Arg::new(alloc, "explain")
+        .long("explain")
+        .help(
+            "Tells where the mistake of a refused source is, and what each process stands at that is left",
+        )
         .action(ArgAction::SetTrue)
 }
 

@@ -16,13 +16,11 @@ use Rattle.occ_net_replay.specs.declared.ending.Ending.TheVariants.{Ended, Stopp
 use Rattle.occ_play.specs.declared.playing.Played.{Played}
 use Rattle.occ_play.specs.declared.fault.PlayFault.{PlayFault}
 use Rattle.occ_play.specs.declared.fault.PlayFault.TheVariants as play
-use Rattle.occ_choices.specs.declared.fault.ChoiceFault.TheVariants as choice
 use Rattle.occ_play_inputs.specs.declared.failure.Failure.{Failure}
-use Rattle.occ_play_inputs.specs.declared.failure.Failure.TheVariants.{Write, Memory}
 use Rattle.occ_play.specs.Playing.{IsAnswer, Refuses}
 use Rattle.occ_play.specs.Working.{IsAnswerWithin, WorkersRefuse}
 use Rattle.occ_play.proofs.Working.{workers_refuse}
-use Rattle.occ_play.specs.Status.{ending_status, fault_status, status}
+use Rattle.occ_play.specs.Status.{ending_status, fault_status}
 use Rattle.occ_play_inputs.specs.Failures.{failure_status}
 use Rattle.occ_play_inputs.specs.declared.words.Words.{Words as Asked}
 use Rattle.occ_play.specs.declared.playing.Options.{Options}

@@ -5,6 +5,7 @@
 
 mod drawing;
 pub mod exit;
+mod explaining;
 mod exploring;
 mod looking;
 mod page;

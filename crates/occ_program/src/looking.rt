@@ -2,6 +2,7 @@
 ghost use Rattle.std.specs.Prelude.{◌≡◌, ◌≤◌, IfOk};
 ghost use Rattle.occ_program.specs.Coming.{IsLookStatus, LookedAt, look_status};
 
+use crate::explaining::explain_fault;
 use crate::program::{options_of, tell};
 use occ_play::{PlayFault, code_of, status_of};
 use occ_play_inputs::{Failure, Words, read_source};
@@ -21,6 +22,7 @@ pub(crate) fn look_at_words<R: Files + Input + Eprint>(
     let fault = fault_in(alloc, words, source.as_slice());
     if let Some(fault) = &fault {
         tell(rt, fault);
+        explain_fault(rt, alloc, words, source.as_slice(), fault);
     }
     Ok(status_of_look(fault))
 }

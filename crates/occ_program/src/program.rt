@@ -8,6 +8,7 @@ ghost use Rattle.occ_program.specs.Lines.{run_line};
 ghost use Rattle.occ_choices.specs.Plans.{choices_of};
 
 use crate::drawing::draw;
+use crate::explaining::explain;
 use crate::exploring::explore_words;
 use crate::looking::look_at_words;
 use crate::recording::record;
@@ -115,16 +116,23 @@ fn run_words<R: Files + Input + Print + Eprint + Threads + Wait + Sync>(
     record(rt, alloc, words, &played)?;
     let drawn = draw(rt, alloc, words, &inputs, &played)?;
     let traced = trace(rt, alloc, words, &inputs, &played)?;
-    Ok(told(rt, &traced.and(drawn).and(played)))
+    Ok(told(rt, alloc, words, &inputs, &traced.and(drawn).and(played)))
 }
 
-/// Prints the line of a fault, and answers the exit status.
-fn told<R: Eprint>(rt: &R, came: &Result<Played, PlayFault>) -> u8
+/// Prints the line of a fault, and more where the words ask for it, and answers the exit status.
+fn told<R: Eprint>(
+    rt: &R,
+    alloc: Global,
+    words: &Words<'_>,
+    inputs: &Inputs,
+    came: &Result<Played, PlayFault>,
+) -> u8
     ensures { result ≡ status came.now }
 {
     if let Err(fault) = came {
         tell(rt, fault);
     }
+    explain(rt, alloc, words, inputs, came);
     status_of(came)
 }
 

@@ -8,19 +8,19 @@ use std::test::Fail;
 static READ: [(&[&str], &str); 9] = [
     (
         &["occam"],
-        "Words { limit: 1000000, quantum: 1, errors: Halt, workers: None, trace: false, watch: false, seed: None, tries: 1, choices: None, record: None, chart: None, arrows: 200, trace_to: None, json: false, explore: None, states: 1000000, check: false, file: None }",
+        "Words { limit: 1000000, quantum: 1, errors: Halt, workers: None, trace: false, watch: false, explain: false, seed: None, tries: 1, choices: None, record: None, chart: None, arrows: 200, trace_to: None, json: false, explore: None, states: 1000000, check: false, file: None }",
     ),
     (
         &["occam", "--limit", "10000000", "--trace", "f.occ"],
-        "Words { limit: 10000000, quantum: 1, errors: Halt, workers: None, trace: true, watch: false, seed: None, tries: 1, choices: None, record: None, chart: None, arrows: 200, trace_to: None, json: false, explore: None, states: 1000000, check: false, file: Some(\"f.occ\") }",
+        "Words { limit: 10000000, quantum: 1, errors: Halt, workers: None, trace: true, watch: false, explain: false, seed: None, tries: 1, choices: None, record: None, chart: None, arrows: 200, trace_to: None, json: false, explore: None, states: 1000000, check: false, file: Some(\"f.occ\") }",
     ),
     (
         &["occam", "f.occ", "--trace", "--limit=0"],
-        "Words { limit: 0, quantum: 1, errors: Halt, workers: None, trace: true, watch: false, seed: None, tries: 1, choices: None, record: None, chart: None, arrows: 200, trace_to: None, json: false, explore: None, states: 1000000, check: false, file: Some(\"f.occ\") }",
+        "Words { limit: 0, quantum: 1, errors: Halt, workers: None, trace: true, watch: false, explain: false, seed: None, tries: 1, choices: None, record: None, chart: None, arrows: 200, trace_to: None, json: false, explore: None, states: 1000000, check: false, file: Some(\"f.occ\") }",
     ),
     (
         &["occam", "--errors", "halt"],
-        "Words { limit: 1000000, quantum: 1, errors: Halt, workers: None, trace: false, watch: false, seed: None, tries: 1, choices: None, record: None, chart: None, arrows: 200, trace_to: None, json: false, explore: None, states: 1000000, check: false, file: None }",
+        "Words { limit: 1000000, quantum: 1, errors: Halt, workers: None, trace: false, watch: false, explain: false, seed: None, tries: 1, choices: None, record: None, chart: None, arrows: 200, trace_to: None, json: false, explore: None, states: 1000000, check: false, file: None }",
     ),
     (
         &[
@@ -29,16 +29,17 @@ static READ: [(&[&str], &str); 9] = [
             "--errors=stop",
             "--workers=64",
             "--watch",
+            "--explain",
             "--choices=c",
             "--record=r",
             "--chart=s.svg",
             "--arrows=0",
         ],
-        "Words { limit: 1000000, quantum: 65536, errors: Stop, workers: Some(64), trace: false, watch: true, seed: None, tries: 1, choices: Some(\"c\"), record: Some(\"r\"), chart: Some(\"s.svg\"), arrows: 0, trace_to: None, json: false, explore: None, states: 1000000, check: false, file: None }",
+        "Words { limit: 1000000, quantum: 65536, errors: Stop, workers: Some(64), trace: false, watch: true, explain: true, seed: None, tries: 1, choices: Some(\"c\"), record: Some(\"r\"), chart: Some(\"s.svg\"), arrows: 0, trace_to: None, json: false, explore: None, states: 1000000, check: false, file: None }",
     ),
     (
         &["occam", "--explore", "f.occ"],
-        "Words { limit: 1000000, quantum: 1, errors: Halt, workers: None, trace: false, watch: false, seed: None, tries: 1, choices: None, record: None, chart: None, arrows: 200, trace_to: None, json: false, explore: Some(Answers), states: 1000000, check: false, file: Some(\"f.occ\") }",
+        "Words { limit: 1000000, quantum: 1, errors: Halt, workers: None, trace: false, watch: false, explain: false, seed: None, tries: 1, choices: None, record: None, chart: None, arrows: 200, trace_to: None, json: false, explore: Some(Answers), states: 1000000, check: false, file: Some(\"f.occ\") }",
     ),
     (
         &[
@@ -49,11 +50,11 @@ static READ: [(&[&str], &str); 9] = [
             "--errors=stop",
             "--record=r",
         ],
-        "Words { limit: 1000000, quantum: 7, errors: Stop, workers: None, trace: false, watch: false, seed: None, tries: 1, choices: None, record: Some(\"r\"), chart: None, arrows: 200, trace_to: None, json: false, explore: Some(Endings), states: 10000000, check: false, file: None }",
+        "Words { limit: 1000000, quantum: 7, errors: Stop, workers: None, trace: false, watch: false, explain: false, seed: None, tries: 1, choices: None, record: Some(\"r\"), chart: None, arrows: 200, trace_to: None, json: false, explore: Some(Endings), states: 10000000, check: false, file: None }",
     ),
     (
         &["occam", "--check", "f.occ"],
-        "Words { limit: 1000000, quantum: 1, errors: Halt, workers: None, trace: false, watch: false, seed: None, tries: 1, choices: None, record: None, chart: None, arrows: 200, trace_to: None, json: false, explore: None, states: 1000000, check: true, file: Some(\"f.occ\") }",
+        "Words { limit: 1000000, quantum: 1, errors: Halt, workers: None, trace: false, watch: false, explain: false, seed: None, tries: 1, choices: None, record: None, chart: None, arrows: 200, trace_to: None, json: false, explore: None, states: 1000000, check: true, file: Some(\"f.occ\") }",
     ),
     (
         &[
@@ -63,7 +64,7 @@ static READ: [(&[&str], &str); 9] = [
             "--trace-to=t",
             "--json",
         ],
-        "Words { limit: 1000000, quantum: 1, errors: Halt, workers: None, trace: false, watch: false, seed: Some(1000000000), tries: 1000000, choices: None, record: None, chart: None, arrows: 200, trace_to: Some(\"t\"), json: true, explore: None, states: 1000000, check: false, file: None }",
+        "Words { limit: 1000000, quantum: 1, errors: Halt, workers: None, trace: false, watch: false, explain: false, seed: Some(1000000000), tries: 1000000, choices: None, record: None, chart: None, arrows: 200, trace_to: Some(\"t\"), json: true, explore: None, states: 1000000, check: false, file: None }",
     ),
 ];
 
