@@ -1,8 +1,9 @@
 #!/usr/bin/env python3
-"""Keeps the tables of tests equal to what users read: examples/ and docs/language.md.
+"""Keeps the tables of tests equal to what users read: examples/ and docs/language.md. And keeps the manual page and the
+shells' completions equal to the words of the command line, in crates/occ_play_inputs/src/words.rt.
 
-    python3 tools/tables.py           says which table differs; the status is 1 where one does
-    python3 tools/tables.py --write   writes the tables
+    python3 tools/tables.py           says which file differs; the status is 1 where one does
+    python3 tools/tables.py --write   writes the files
 """
 import pathlib
 import re
@@ -10,7 +11,7 @@ import sys
 
 TOP = pathlib.Path(__file__).resolve().parent.parent
 STOPPING = "With --errors stop"
-FOLDERS = ["first_steps", "sequences", "pipelines", "selection", "sharing", "faults"]
+FOLDERS = ["first_steps", "sequences", "pipelines", "selection", "sharing", "faults", "library"]
 
 
 def literal(text):
@@ -50,7 +51,8 @@ def gallery():
     for folder in FOLDERS:
         rows = []
         for path in sorted((TOP / "examples" / folder).glob("*.occ")):
-            name = path.stem.upper()
+            # two folders may each have a file of one name
+            name = (f"{folder}_{path.stem}" if folder == "library" else path.stem).upper()
             sources.append(f"const {name}: &str =\n    {literal(path.read_text())};\n")
             for title, keyboard, choices, screen, ending in runs(path):
                 fields = {"title": title, "keyboard": keyboard, "choices": choices, "screen": screen, "ending": ending}
@@ -90,16 +92,146 @@ def explored():
     return "//! Programs of the folder `examples`. `tools/tables.py` writes this file.\n\n" + "\n".join(rows)
 
 
+def causes():
+    """The causes of refusals in docs/language.md, without the mark of what is the project's own."""
+    found = re.findall(r"(?m)^\| (\d+) [A-Z]\w+ \| (.*) \|$", (TOP / "docs/language.md").read_text())
+    rows = []
+    for number, cause in found:
+        text = literal(cause.removesuffix(" (own)"))
+        short = len(f"{number}, {text}") <= 60
+        rows.append(f"    ({number}, {text}),\n" if short else f"    (\n        {number},\n        {text},\n    ),\n")
+    return (
+        "//! The causes of refusals in `docs/language.md`. `tools/tables.py` writes this file.\n\n"
+        f"pub(crate) static CAUSES: [(u32, &str); {len(rows)}] = [\n{''.join(rows)}];\n"
+    )
+
+
+def words():
+    """The words of the command line, in the order of the help: name, name of the value, whether it has to stand behind `=`,
+    what the value may be, and what the help says."""
+    text = (TOP / "crates/occ_play_inputs/src/words.rt").read_text()
+    names = {name: re.findall(r'"(\w+)"', values) for name, values in re.findall(r"static (\w+): \[&str; \d+\] = \[(.*?)\];", text)}
+    made = {head: body for head, body in re.findall(r"(?ms)^fn (\w+_word)<'a>\(alloc: Global\)[^{]*\{\n(.*?)^\}", text)}
+    for head in re.findall(r"\.arg\((\w+_word)\(alloc\)", text):
+        body = made[head]
+        long, value = (re.search(rf'\.{field}\("([^"]+)"\)', body) for field in ("long", "value_name"))
+        one_of = re.search(r"ValueParser::Names\((\w+)\.as_slice", body)
+        yield (
+            long[1] if long else None,
+            value[1] if value else None,
+            "require_equals(true)" in body,
+            names[one_of[1]] if one_of else [],
+            re.search(r'\.help\(\s*"([^"]+)"', body)[1],
+        )
+    yield "help", None, False, [], "Prints this help"
+    yield "version", None, False, [], "Prints the version"
+
+
+def version():
+    """The version of the program."""
+    return re.search(r'VERSION: &str = "([^"]+)"', (TOP / "crates/occ_play_inputs/src/words.rt").read_text())[1]
+
+
+def manual():
+    """The manual page."""
+    text = (TOP / "crates/occ_play_inputs/src/words.rt").read_text()
+    about = re.search(r'\.about\("([^"]+)"\)', text)[1]
+    turn, statuses, example = re.search(r'MORE_HELP: &str =\s*r#"(.*?)\n"#', text, re.S)[1].split("\n\n")
+    escaped = lambda said: re.sub(r"(?m)^\.", r"\\&.", said.replace("\\", "\\e").replace("-", "\\-").replace("'", "\\(aq"))
+    lines = [
+        f'.TH OCCAM 1 "" "occam {version()}" "User Commands"',
+        f".SH NAME\noccam \\- {about[0].lower()}{about[1:].rstrip('.')}",
+        ".SH SYNOPSIS\n.B occam\n[\\fIFILE\\fR] [\\fIOPTIONS\\fR]",
+        f".SH DESCRIPTION\n{about}",
+    ]
+    options = []
+    for long, value, is_equal, one_of, said in words():
+        if long is None:
+            lines.append(f".PP\n\\fIFILE\\fR: {escaped(said[0].lower() + said[1:])}.")
+            continue
+        shown = f"\\fB\\-\\-{escaped(long)}\\fR"
+        if value:
+            shown += f"[=\\fI{value}\\fR]" if is_equal else f" \\fI{value}\\fR"
+        listed = f" One of: {', '.join(one_of)}." if one_of else ""
+        options.append(f".TP\n{shown}\n{escaped(said)}.{listed}")
+    lines.append(f".PP\n{escaped(' '.join(turn.split()))}")
+    lines += [".SH OPTIONS", *options, ".SH EXIT STATUS"]
+    for status, said in re.findall(r"(?m)^  (\d)  ((?:.*)(?:\n     .*)*)", statuses):
+        lines.append(f".TP\n{status}\n{escaped(' '.join(said.split()))}")
+    shown = escaped(example.split("\n", 1)[1].strip())
+    lines.append(f".SH EXAMPLE\n.nf\n{shown}\n.fi")
+    return "\n".join(lines) + "\n"
+
+
+def in_bash():
+    """The completions of bash."""
+    options = [(long, value, is_equal, one_of) for long, value, is_equal, one_of, _ in words() if long]
+    all_of = " ".join(f"--{long}" for long, *_ in options)
+    cases = "".join(
+        f'    --{long})\n      COMPREPLY=($(compgen -W "{" ".join(one_of)}" -- "$now"))\n      return\n      ;;\n'
+        for long, value, is_equal, one_of in options
+        if one_of and not is_equal
+    )
+    numbers = "|".join(f"--{long}" for long, value, *_ in options if value == "N")
+    return (
+        "# completions of occam for bash; tools/tables.py writes this file\n"
+        "_occam() {\n"
+        '  local now="${COMP_WORDS[COMP_CWORD]}" before="${COMP_WORDS[COMP_CWORD - 1]}"\n'
+        "  COMPREPLY=()\n"
+        '  case "$before" in\n'
+        f"{cases}"
+        f"    {numbers})\n      return\n      ;;\n"
+        "  esac\n"
+        '  if [[ "$now" == -* ]]; then\n'
+        f'    COMPREPLY=($(compgen -W "{all_of}" -- "$now"))\n'
+        "  else\n"
+        '    COMPREPLY=($(compgen -f -- "$now"))\n'
+        "  fi\n"
+        "}\n"
+        "complete -o filenames -F _occam occam\n"
+    )
+
+
+def in_zsh():
+    """The completions of zsh."""
+    lines = ["#compdef occam", "# completions of occam for zsh; tools/tables.py writes this file", "_arguments \\"]
+    for long, value, is_equal, one_of, said in words():
+        if long is None:
+            continue
+        told = re.sub(r"([\[\]:\\])", r"\\\1", said).replace("'", "'\\''")
+        action = f"({' '.join(one_of)})" if one_of else "_files" if value == "FILE" else " "
+        behind = f"{'=-' if is_equal else ''}[{told}]" + (f":{':' if is_equal else ''}{value}:{action}" if value else "")
+        lines.append(f"  '--{long}{behind}' \\")
+    return "\n".join([*lines, "  '*:source:_files -g \"*.occ\"'"]) + "\n"
+
+
+def in_fish():
+    """The completions of fish."""
+    lines = ["# completions of occam for fish; tools/tables.py writes this file"]
+    for long, value, is_equal, one_of, said in words():
+        if long is None:
+            continue
+        told = said.replace("\\", "\\\\").replace("'", "\\'")
+        kind = f" -x -a '{' '.join(one_of)}'" if one_of and not is_equal else " -r" if value == "FILE" else " -x" if value and not is_equal else ""
+        lines.append(f"complete -c occam -l {long}{kind} -d '{told}'")
+    return "\n".join(lines) + "\n"
+
+
 # how wide the left side of the table of answers is
 WIDTH = 40
 differ = False
 TABLES = {
-    "rows_sources/src/gallery.rt": gallery,
-    "rows_sources/src/answers.rt": answers,
-    "rows_explore/src/sources.rt": explored,
+    "crates/occ_explain/src/cause_table.rt": causes,
+    "crates/rows_sources/src/gallery.rt": gallery,
+    "crates/rows_sources/src/answers.rt": answers,
+    "crates/rows_explore/src/sources.rt": explored,
+    "docs/occam.1": manual,
+    "tools/completions/occam.bash": in_bash,
+    "tools/completions/_occam": in_zsh,
+    "tools/completions/occam.fish": in_fish,
 }
 for name, table in TABLES.items():
-    path = TOP / "crates" / name
+    path = TOP / name
     text = table()
     if "--write" in sys.argv[1:]:
         path.write_text(text)

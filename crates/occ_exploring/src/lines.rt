@@ -1,9 +1,9 @@
 //! Says what a search has found.
 ghost use Rattle.std.specs.Prelude.{◌≡◌, ◌++◌, ◌≤◌, IfOk, OnOk, length};
-ghost use Rattle.occ_exploring.specs.Texts.{answer_line, answer_lines, answers_text, counted, error_text, exploration_text, held_text, known_text, left_text};
+ghost use Rattle.occ_exploring.specs.Texts.{answer_line, answer_lines, answers_text, counted, error_text, exploration_text, held_text, known_text, lasting_text, left_text};
 
 use crate::strings::write_string;
-use occ_explore::{Answer, Asked, Exploration};
+use occ_explore::{Answer, Asked, Exploration, Lasting};
 use std::alloc::{AllocError, Global};
 
 /// How many answers have a line.
@@ -139,8 +139,28 @@ fn write_known(
     }
 }
 
+/// How long runs go on, where it is known.
+fn write_lasting(
+    alloc: Global,
+    out: &mut Vec<u8>,
+    lasting: &Option<Lasting>,
+) -> Result<(), AllocError>
+    ensures { OnOk result (out.new.items ≡ out.old.items ++ lasting_text lasting.now) }
+{
+    match lasting {
+        Some(Lasting::Within(turns)) => {
+            out.extend_from_slice(b"each run ends within ")?;
+            write_counted(alloc, out, *turns, b"turn")?;
+            out.push(b'\n')?;
+            Ok(())
+        }
+        Some(Lasting::Forever { .. }) => out.extend_from_slice(b"some run goes on for ever\n"),
+        None => Ok(()),
+    }
+}
+
 /// What is printed of a search that might come to `most` states: a line for each of the first 100 answers, how many more
-/// there are, and whether these are all.
+/// there are, how long runs go on, and whether these are all.
 ///
 /// # Errors
 ///
@@ -155,6 +175,7 @@ pub fn exploration_text(
 {
     let mut out = Vec::new(alloc);
     write_first(alloc, &mut out, asked, exploration.answers.as_slice())?;
+    write_lasting(alloc, &mut out, &exploration.lasting)?;
     write_known(alloc, &mut out, exploration, most)?;
     Ok(out)
 }

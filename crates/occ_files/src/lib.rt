@@ -4,9 +4,11 @@
 #![tactic(auto)]
 
 pub mod fault;
+pub mod folder;
 pub mod reader;
 pub mod saving;
 
 pub use fault::InputFault;
+pub use folder::{Disk, Folder};
 pub use reader::{CountedReader, read_input};
 pub use saving::{are_one_file, save};

@@ -1,19 +1,27 @@
 -- Which choices the words of the command line ask for.
 -- Manual: nothing; this is (own).
-use Rattle.std.specs.Prelude.{List, [], None, Option, Some, ℕ, ⊤, ◌≡◌}
+use Rattle.std.specs.Prelude.{List, [], None, Option, Some, ℕ, ⊤, ◌+◌, ◌<◌, ◌≡◌}
 use Rattle.occ_choices.specs.Lines.{ChoiceLines}
 use Rattle.occ_choices.specs.Plans.{choices_of}
 use Rattle.occ_choices.specs.declared.plan.Plan.{Plan}
 use Rattle.occ_choices.specs.declared.plan.Plan.TheVariants.{Turns}
 use Rattle.occ_play_inputs.specs.declared.words.Words.{Words}
+use Rattle.occ_seeds.specs.Seeds.{seeded}
 
--- those of the text of a file, or as many turns as the limit has
-abbrev pub IsAsked : {Path : Type 0} → ℕ → Option Path → Plan → Type 0
-IsAsked limit None plan = plan ≡ Turns limit
-IsAsked limit (Some path) plan = (text : List ℕ) × ChoiceLines text (choices_of plan)
+-- one of so many seeds, and as many choices of it as the limit has
+pub record IsSeeded (limit seed tries : ℕ) (plan : Plan) : Type 0 where
+  pub place : ℕ
+  pub within : place < tries
+  pub choices : choices_of plan ≡ seeded (seed + place) limit
+
+-- those of the text of a file, those of a seed, or as many turns as the limit has
+abbrev pub IsAsked : {Path : Type 0} → ℕ → Option Path → Option ℕ → ℕ → Plan → Type 0
+IsAsked limit (Some path) seed tries plan = (text : List ℕ) × ChoiceLines text (choices_of plan)
+IsAsked limit None (Some seed) tries plan = IsSeeded limit seed tries plan
+IsAsked limit None None tries plan = plan ≡ Turns limit
 
 abbrev pub IsAskedBy : Words → Plan → Type 0
-IsAskedBy words plan = IsAsked words.limit words.choices plan
+IsAskedBy words plan = IsAsked words.limit words.choices words.seed words.tries plan
 
 -- nothing is typed where no file is named, since standard input is the source then
 abbrev pub IsTyped : {Path : Type 0} → Option Path → List ℕ → Type 0

@@ -8,6 +8,7 @@ abbrev pub Differ : Option (Bor (List ℕ)) → Option (Bor (List ℕ)) → Type
 Differ one other = (a b : Bor (List ℕ)) → one ≡ Some a → other ≡ Some b → a.now ≡ b.now → ⊥
 
 -- what is written is not what is read, and each has a file of its own
-abbrev pub AreApart : (file choices written drawn : Option (Bor (List ℕ))) → Type 0
-AreApart file choices written drawn =
+abbrev pub AreApart : (file choices written drawn traced : Option (Bor (List ℕ))) → Type 0
+AreApart file choices written drawn traced =
     Differ written file × Differ written choices × Differ drawn file × Differ drawn choices × Differ drawn written
+    × Differ traced file × Differ traced choices × Differ traced written × Differ traced drawn

@@ -17,20 +17,25 @@ fn differ(one: Option<&str>, other: Option<&str>) -> bool
     }
 }
 
-/// Whether the paths of the record and of the chart are not those of the source and of the choices, and differ.
+/// Whether the paths of the record, of the chart and of the trace are not those of the source and of the choices, and differ.
 pub(crate) fn are_apart(
     file: Option<&str>,
     choices: Option<&str>,
     recorded: Option<&str>,
     drawn: Option<&str>,
+    traced: Option<&str>,
 ) -> bool
-    ensures { IsTrue result → AreApart file.entry choices.entry recorded.entry drawn.entry }
+    ensures { IsTrue result → AreApart file.entry choices.entry recorded.entry drawn.entry traced.entry }
 {
     differ(recorded, file)
         && differ(recorded, choices)
         && differ(drawn, file)
         && differ(drawn, choices)
         && differ(drawn, recorded)
+        && differ(traced, file)
+        && differ(traced, choices)
+        && differ(traced, recorded)
+        && differ(traced, drawn)
 }
 
 /// Whether both words name one plain file that there is, by whatever path.
@@ -47,6 +52,10 @@ pub(crate) fn check_files<R: Files>(rt: &R, words: &Words<'_>) -> Result<(), Fai
         || name_one(rt, words.record, words.choices)
         || name_one(rt, words.chart, words.file)
         || name_one(rt, words.chart, words.choices)
-        || name_one(rt, words.chart, words.record);
+        || name_one(rt, words.chart, words.record)
+        || name_one(rt, words.trace_to, words.file)
+        || name_one(rt, words.trace_to, words.choices)
+        || name_one(rt, words.trace_to, words.record)
+        || name_one(rt, words.trace_to, words.chart);
     if met { Err(Failure::Paths) } else { Ok(()) }
 }

@@ -15,7 +15,7 @@ use thiserror::Error;
 /// Why the program played nothing, or could not write what it played.
 #[derive(Debug, Drop, Error)]
 pub enum Failure {
-    /// The words ask for help, which this is.
+    /// The words ask for help, or for the version, which this is.
     #[error("{0}")]
     Help(clap::Error),
     /// The words are wrong.
@@ -24,8 +24,8 @@ pub enum Failure {
     /// An argument is no UTF-8.
     #[error("an argument is no UTF-8")]
     Arguments,
-    /// A file that is to be written is one that is read, or the other.
-    #[error("--record and --chart each write into a file of their own")]
+    /// A file that is to be written is one that is read, or another that is written.
+    #[error("--record, --chart and --trace-to each write into a file of their own")]
     Paths,
     /// A file or a stream could not be read.
     #[error("read failed")]
@@ -89,11 +89,12 @@ impl From<InputFault> for Failure {
 /// Why the words say that nothing is to be played.
 pub fn of_words(error: clap::Error) -> Failure
     ensures help { kind_of error ≡ WordsErrorKind.DisplayHelp → result ≡ Failure.Help error }
+    ensures version { kind_of error ≡ WordsErrorKind.DisplayVersion → result ≡ Failure.Help error }
     ensures memory { kind_of error ≡ WordsErrorKind.OutOfMemory → result ≡ Failure.Memory }
-    ensures wrong { kind_of error ≢ WordsErrorKind.DisplayHelp → kind_of error ≢ WordsErrorKind.OutOfMemory → result ≡ Failure.Words error }
+    ensures wrong { kind_of error ≢ WordsErrorKind.DisplayHelp → kind_of error ≢ WordsErrorKind.DisplayVersion → kind_of error ≢ WordsErrorKind.OutOfMemory → result ≡ Failure.Words error }
 {
     match error.kind() {
-        WordsErrorKind::DisplayHelp => Failure::Help(error),
+        WordsErrorKind::DisplayHelp | WordsErrorKind::DisplayVersion => Failure::Help(error),
         WordsErrorKind::OutOfMemory => Failure::Memory,
         _ => Failure::Words(error),
     }

@@ -9,6 +9,7 @@ use crate::failure::{Failure, of_read};
 use crate::words::Words;
 use occ_choices::{Plan, read_choices};
 use occ_files::{CountedReader, read_input};
+use occ_seeds::seeded_plan;
 use std::alloc::Global;
 use std::fs;
 use std::io::{Input, Read, empty};
@@ -32,7 +33,7 @@ pub struct Inputs {
 ///
 /// # Errors
 ///
-/// `Paths` where a file that is to be written is one that is read, or the other; that is found before anything is read.
+/// `Paths` where a file that is to be written is one that is read, or another; that is found before anything is read.
 /// `Read` where something could not be read, `Choices` tells what is wrong in the file of choices, and `Memory` of a
 /// refused growth.
 pub fn read_inputs<R: Files + Input>(
@@ -52,6 +53,27 @@ pub fn read_inputs<R: Files + Input>(
         keyboard,
         plan,
     })
+}
+
+/// Reads the source alone: the file that the words name, or standard input.
+///
+/// # Errors
+///
+/// `Read` where it could not be read, and `Memory` of a refused growth.
+pub fn read_source<R: Files + Input>(
+    rt: &R,
+    alloc: Global,
+    words: &Words<'_>,
+) -> Result<Vec<u8>, Failure>
+    ensures { IfOk result (λ source. length source.items ≤ 1048577) }
+{
+    match words.file {
+        None => read_most(alloc, rt.reader(), MOST_SOURCE),
+        Some(path) => {
+            let file = open(rt, path)?;
+            read_most(alloc, file, MOST_SOURCE)
+        }
+    }
 }
 
 /// The file and standard input, or standard input and an empty keyboard.
@@ -112,13 +134,14 @@ fn read_all<R: Read + Drop>(alloc: Global, reader: R) -> Result<Vec<u8>, Failure
     read_most(alloc, reader, usize::MAX)
 }
 
-/// The choices of the file that the words name, or as many turns as they allow.
+/// The choices of the file that the words name, those of the first seed that they name, or as many turns as they allow.
 fn read_plan<R: Files>(rt: &R, alloc: Global, words: &Words<'_>) -> Result<Plan, Failure>
     ensures { IfOk result (λ plan. IsAskedBy words.now plan) }
 {
-    match words.choices {
-        None => Ok(Plan::Turns(words.limit)),
-        Some(path) => {
+    match (words.choices, words.seed) {
+        (None, None) => Ok(Plan::Turns(words.limit)),
+        (None, Some(seed)) => Ok(seeded_plan(alloc, seed, words.limit)?),
+        (Some(path), _) => {
             let file = open(rt, path)?;
             read_order(alloc, file)
         }

@@ -1,5 +1,5 @@
 //! What the command line asks for: [`read_words`] reads its words, [`read_inputs`] the texts and the
-//! choices that they name, and a [`Failure`] says why nothing came of them.
+//! choices that they name, [`read_source`] the source alone, and a [`Failure`] says why nothing came of them.
 #![tactic(auto)]
 
 mod apart;
@@ -8,5 +8,5 @@ pub mod inputs;
 pub mod words;
 
 pub use failure::Failure;
-pub use inputs::{Inputs, read_inputs};
+pub use inputs::{Inputs, read_inputs, read_source};
 pub use words::{Words, read_words};

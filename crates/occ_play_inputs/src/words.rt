@@ -1,5 +1,5 @@
 //! The words of the command line.
-ghost use Rattle.std.specs.Prelude.{◌≡◌, ◌≤◌, ◌<◌, IsTrue, unwrap_or};
+ghost use Rattle.std.specs.Prelude.{◌≡◌, ◌≤◌, ◌<◌, IfOk, IsTrue, unwrap_or};
 ghost use Rattle.std.specs.Option.{ForSome, option_copied};
 ghost use Rattle.occ_choices.specs.Crews.{IsCrew};
 ghost use Rattle.occ_code.specs.Compiled.{IsQuantum};
@@ -17,6 +17,9 @@ use occ_explore::Asked;
 use occ_term::Errors;
 use std::alloc::{AllocError, Global};
 
+/// The version of the program, which `CHANGELOG.md` tells of.
+pub const VERSION: &str = "0.9.0";
+
 /// How many turns a run may take where no word says so.
 pub const DEFAULT_LIMIT: u32 = 1_000_000;
 
@@ -25,6 +28,15 @@ pub const MOST_TURNS: u32 = 10_000_000;
 
 /// What a word may say that a fault does.
 static MODES: [&str; 2] = ["halt", "stop"];
+
+/// The greatest number from which choices are made.
+pub const MOST_SEED: u32 = 1_000_000_000;
+
+/// The most seeds that are tried.
+pub const MOST_TRIES: u32 = 1_000_000;
+
+/// How many seeds are tried where no word says so.
+pub const DEFAULT_TRIES: u32 = 1;
 
 /// How many communications a chart shows where no word says so.
 pub const DEFAULT_ARROWS: u32 = 200;
@@ -44,7 +56,8 @@ const MORE_HELP: &str =
 the end of a loop's body, STOP, a fault, or its end.
 
 Exit status:
-  0  the program ended, or each answer of a search has, or this help
+  0  the program ended, or each answer of a search has, or the source is not refused,
+     or this help, or the version
   1  the source was refused
   2  the program stopped: no process can go on, or one stopped by a fault is waited for;
      or an answer of a search has stopped, and none is a fault
@@ -55,7 +68,8 @@ Exit status:
   7  wrong words, or a refused file of choices
 
 Example:
-  echo 'Hello, world.' | occam --trace examples/first_steps/capitals.occ"#;
+  echo 'Hello, world.' | occam examples/first_steps/capitals.occ --trace
+"#;
 
 /// What the words of the command line say.
 #[derive(Debug, Drop)]
@@ -73,6 +87,13 @@ pub struct Words<'a> {
     /// Whether a thread of its own looks at the communications, which are printed to standard error as it was shown them; with
     /// a file of choices it says nothing.
     pub watch: bool,
+    /// Whether more is told behind the line of a refusal, and behind an ending that is not that of a whole run.
+    pub explain: bool,
+    /// The number from which the choices of the run are made, as many as the limit has, 0 to 1,000,000,000; none where no word
+    /// says so.
+    pub seed: Option<u32>,
+    /// How many such numbers are tried, one after the other, until a run doesn't end, 1 to 1,000,000.
+    pub tries: u32,
     /// The path of a file of choices, by which the run is played; then the limit and the workers say
     /// nothing.
     pub choices: Option<&'a str>,
@@ -82,11 +103,17 @@ pub struct Words<'a> {
     pub chart: Option<&'a str>,
     /// The most communications that the chart shows.
     pub arrows: u32,
+    /// The path of the file into which the trace is written.
+    pub trace_to: Option<&'a str>,
+    /// Whether that file has an object of JSON for each communication.
+    pub json: bool,
     /// What a search of all lists of choices tells; none where one run is played. Then `record` names files, one for each
     /// answer, and the limit, the workers, the choices, the trace and the chart say nothing.
     pub explore: Option<Asked>,
     /// How many states the search may come to, 1 to 10,000,000.
     pub states: u32,
+    /// Whether it is only said whether the source is refused: then nothing is typed and nothing is played.
+    pub check: bool,
     /// The path of the source; none where standard input is the source.
     pub file: Option<&'a str>,
     ghost limit_in_range: { limit ≤ 10000000 },
@@ -94,7 +121,10 @@ pub struct Words<'a> {
     ghost workers_in_range: { ForSome workers IsCrew },
     ghost some_states: { 1 ≤ states },
     ghost states_in_range: { states ≤ 10000000 },
-    ghost files_apart: { AreApart file choices «record» chart },
+    ghost seed_in_range: { ForSome seed (λ n. n ≤ 1000000000) },
+    ghost some_tries: { 1 ≤ tries },
+    ghost tries_in_range: { tries ≤ 1000000 },
+    ghost files_apart: { AreApart file choices «record» chart trace_to },
 }
 
 /// Reads the words, of which the first is the program's name.
@@ -102,21 +132,26 @@ pub struct Words<'a> {
 /// # Errors
 ///
 /// What `clap` says of the words, and its `OutOfMemory` for a refused growth. A request for help is
-/// an error of the kind `DisplayHelp`.
+/// an error of the kind `DisplayHelp`, and one for the version of the kind `DisplayVersion`.
 pub fn read_words<'a>(alloc: Global, words: &'a [&'a str]) -> Result<Words<'a>, Error> {
     let mut command = command(alloc)?;
     let matches = command.try_get_matches_from_mut(words)?;
     let limit = limit_of(matches.get_one::<u32>("limit"));
-    if limit > MOST_TURNS {
-        return Err(command.error(
-            ErrorKind::ValueValidation,
-            "the limit is 0 to 10000000 turns",
-        )?);
-    }
+    let limit = number_in(
+        &mut command,
+        limit,
+        0,
+        MOST_TURNS,
+        "the limit is 0 to 10000000 turns",
+    )?;
     let quantum = quantum_of(matches.get_one::<u32>("quantum"));
-    if quantum == 0 || quantum > MOST_QUANTUM {
-        return Err(command.error(ErrorKind::ValueValidation, "the quantum is 1 to 65536")?);
-    }
+    let quantum = number_in(
+        &mut command,
+        quantum,
+        1,
+        MOST_QUANTUM,
+        "the quantum is 1 to 65536",
+    )?;
     let workers = matches.get_one::<u32>("workers");
     if !are_workers(workers) {
         return Err(command.error(
@@ -125,15 +160,32 @@ pub fn read_words<'a>(alloc: Global, words: &'a [&'a str]) -> Result<Words<'a>, 
         )?);
     }
     let states = states_of(matches.get_one::<u32>("states"));
-    if states == 0 || states > MOST_STATES {
-        return Err(command.error(ErrorKind::ValueValidation, "the states are 1 to 10000000")?);
+    let states = number_in(
+        &mut command,
+        states,
+        1,
+        MOST_STATES,
+        "the states are 1 to 10000000",
+    )?;
+    let seed = matches.get_one::<u32>("seed");
+    if !is_seed(seed) {
+        return Err(command.error(ErrorKind::ValueValidation, "the seed is 0 to 1000000000")?);
     }
+    let tries = tries_of(matches.get_one::<u32>("tries"));
+    let tries = number_in(
+        &mut command,
+        tries,
+        1,
+        MOST_TRIES,
+        "the tries are 1 to 1000000",
+    )?;
     let (file, choices) = (matches.get_str("FILE"), matches.get_str("choices"));
     let (record, chart) = (matches.get_str("record"), matches.get_str("chart"));
-    if !are_apart(file, choices, record, chart) {
+    let trace_to = matches.get_str("trace-to");
+    if !are_apart(file, choices, record, chart, trace_to) {
         return Err(command.error(
             ErrorKind::ValueValidation,
-            "--record and --chart each write into a file of their own",
+            "--record, --chart and --trace-to each write into a file of their own",
         )?);
     }
     Ok(Words {
@@ -143,14 +195,36 @@ pub fn read_words<'a>(alloc: Global, words: &'a [&'a str]) -> Result<Words<'a>, 
         workers,
         trace: matches.get_flag("trace"),
         watch: matches.get_flag("watch"),
+        explain: matches.get_flag("explain"),
+        seed,
+        tries,
         choices,
         record,
         chart,
         arrows: arrows_of(matches.get_one::<u32>("arrows")),
+        trace_to,
+        json: matches.get_flag("json"),
         explore: explore_of(matches.get_str("explore")),
         states,
+        check: matches.get_flag("check"),
         file,
     })
+}
+
+/// This number, where it is none below the first and none above the second.
+fn number_in(
+    command: &mut Command<'_>,
+    number: u32,
+    least: u32,
+    most: u32,
+    told: &str,
+) -> Result<u32, Error>
+    ensures { IfOk result (λ n. (least ≤ n) × (n ≤ most)) }
+{
+    if number < least || number > most {
+        return Err(command.error(ErrorKind::ValueValidation, told)?);
+    }
+    Ok(number)
 }
 
 /// The limit, where the words gave this one or none.
@@ -175,6 +249,23 @@ fn are_workers(given: Option<u32>) -> bool
         Some(workers) => is_crew(workers),
         None => true,
     }
+}
+
+/// Whether choices may be made from this number, where one is given.
+fn is_seed(given: Option<u32>) -> bool
+    ensures { IsTrue result → ForSome given (λ n. n ≤ 1000000000) }
+{
+    match given {
+        Some(seed) => seed <= MOST_SEED,
+        None => true,
+    }
+}
+
+/// How many seeds are tried, where the words gave this number or none.
+fn tries_of(given: Option<u32>) -> u32
+    ensures { result ≡ unwrap_or given 1 }
+{
+    given.unwrap_or(DEFAULT_TRIES)
 }
 
 /// What a fault does, where the words gave this name or none.
@@ -216,19 +307,27 @@ fn explore_of(given: Option<&str>) -> Option<Asked>
 fn command<'a>(alloc: Global) -> Result<Command<'a>, Error> {
     let command = Command::new(alloc, "occam")
         .about("Compiles and runs an occam 2 program.")
+        .version(VERSION)
+        .override_usage("occam [FILE] [OPTIONS]")
         .after_help(MORE_HELP)
         .arg(limit_word(alloc))?
         .arg(quantum_word(alloc))?
         .arg(errors_word(alloc))?
         .arg(workers_word(alloc))?
+        .arg(seed_word(alloc)?)?
+        .arg(tries_word(alloc)?)?
         .arg(choices_word(alloc))?
         .arg(record_word(alloc))?
         .arg(chart_word(alloc))?
-        .arg(arrows_word(alloc))?
+        .arg(arrows_word(alloc)?)?
         .arg(trace_word(alloc))?
+        .arg(trace_to_word(alloc))?
+        .arg(json_word(alloc)?)?
         .arg(watch_word(alloc))?
+        .arg(explain_word(alloc))?
         .arg(explore_word(alloc)?)?
         .arg(states_word(alloc)?)?
+        .arg(check_word(alloc)?)?
         .arg(file_word(alloc))?;
     Ok(command)
 }
@@ -265,6 +364,30 @@ fn workers_word<'a>(alloc: Global) -> Arg<'a> {
         .value_parser(value_parser!(u32).range(1..=i64::from(MOST_WORKERS)))
 }
 
+fn seed_word<'a>(alloc: Global) -> Result<Arg<'a>, AllocError> {
+    Arg::new(alloc, "seed")
+        .long("seed")
+        .value_name("N")
+        .help(
+            "Plays the run by choices made from the number N, 0 to 1000000000, as many as --limit has",
+        )
+        .value_parser(value_parser!(u32).range(0..=1_000_000_000))
+        .conflicts_with("choices")?
+        .conflicts_with("workers")?
+        .conflicts_with("watch")
+}
+
+fn tries_word<'a>(alloc: Global) -> Result<Arg<'a>, AllocError> {
+    Arg::new(alloc, "tries")
+        .long("tries")
+        .value_name("N")
+        .help(
+            "Tries N seeds from that of --seed on, 1 to 1000000, until a run doesn't end [default: 1]",
+        )
+        .value_parser(value_parser!(u32).range(1..=1_000_000))
+        .requires_arg("seed")
+}
+
 fn choices_word<'a>(alloc: Global) -> Arg<'a> {
     Arg::new(alloc, "choices")
         .long("choices")
@@ -288,12 +411,13 @@ fn chart_word<'a>(alloc: Global) -> Arg<'a> {
         .help("Draws the run's communications into FILE, a sequence chart in SVG")
 }
 
-fn arrows_word<'a>(alloc: Global) -> Arg<'a> {
+fn arrows_word<'a>(alloc: Global) -> Result<Arg<'a>, AllocError> {
     Arg::new(alloc, "arrows")
         .long("arrows")
         .value_name("N")
         .help("Draws at most the first N communications in the chart [default: 200]")
         .value_parser(value_parser!(u32))
+        .requires_arg("chart")
 }
 
 fn trace_word<'a>(alloc: Global) -> Arg<'a> {
@@ -303,10 +427,34 @@ fn trace_word<'a>(alloc: Global) -> Arg<'a> {
         .action(ArgAction::SetTrue)
 }
 
+fn trace_to_word<'a>(alloc: Global) -> Arg<'a> {
+    Arg::new(alloc, "trace-to")
+        .long("trace-to")
+        .value_name("FILE")
+        .help("Writes each communication and the ending into FILE")
+}
+
+fn json_word<'a>(alloc: Global) -> Result<Arg<'a>, AllocError> {
+    Arg::new(alloc, "json")
+        .long("json")
+        .help("Writes each of them as a line of JSON")
+        .action(ArgAction::SetTrue)
+        .requires_arg("trace-to")
+}
+
 fn watch_word<'a>(alloc: Global) -> Arg<'a> {
     Arg::new(alloc, "watch")
         .long("watch")
         .help("Prints each communication to standard error as a thread was shown it that looks on")
+        .action(ArgAction::SetTrue)
+}
+
+fn explain_word<'a>(alloc: Global) -> Arg<'a> {
+    Arg::new(alloc, "explain")
+        .long("explain")
+        .help(
+            "Tells where the mistake of a refused source is, and what each process stands at that is left",
+        )
         .action(ArgAction::SetTrue)
 }
 
@@ -332,6 +480,10 @@ fn but_one_run<'a>(word: Arg<'a>) -> Result<Arg<'a>, AllocError> {
         .conflicts_with("chart")?
         .conflicts_with("arrows")?
         .conflicts_with("trace")?
+        .conflicts_with("trace-to")?
+        .conflicts_with("json")?
+        .conflicts_with("seed")?
+        .conflicts_with("tries")?
         .conflicts_with("watch")
 }
 
@@ -342,6 +494,16 @@ fn states_word<'a>(alloc: Global) -> Result<Arg<'a>, AllocError> {
         .help("Lets the search come to N states, 1 to 10000000 [default: 1000000]")
         .value_parser(value_parser!(u32).range(1..=10_000_000))
         .requires_arg("explore")
+}
+
+fn check_word<'a>(alloc: Global) -> Result<Arg<'a>, AllocError> {
+    let word = Arg::new(alloc, "check")
+        .long("check")
+        .help("Says whether the source is refused, and plays nothing")
+        .action(ArgAction::SetTrue);
+    but_one_run(word)?
+        .conflicts_with("record")?
+        .conflicts_with("explore")
 }
 
 fn file_word<'a>(alloc: Global) -> Arg<'a> {

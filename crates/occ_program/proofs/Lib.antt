@@ -1,1 +1,3 @@
+mod Recorded
 mod Statuses
+mod Ended

@@ -1,7 +1,7 @@
 -- Exit statuses are at most 7, and what they come from.
 use Rattle.std.proofs.Common.{ℕ, ◌≤◌, ◌≡◌, ◌⊎◌, inl, inr, List, Bool, true, false, ap, arith, refl, subst, sym}
 use Rattle.std.specs.Result.{result_and}
-use Rattle.std.specs.Prelude.{Result, Ok, Err, IfOk, IfErr, None, Option, Some, if◌then◌else◌, unwrap_or}
+use Rattle.std.specs.Prelude.{Result, Ok, Err, IfOk, IfErr, IfSome, None, Option, Some, if◌then◌else◌, unwrap_or}
 use Rattle.std.specs.Option.{ForSome}
 use Rattle.occ_choices.specs.Crews.{IsCrew}
 use Rattle.occ_text.specs.declared.fault.TextFault.TheVariants as text
@@ -16,22 +16,22 @@ use Rattle.occ_net_replay.specs.declared.ending.Ending.TheVariants.{Ended, Stopp
 use Rattle.occ_play.specs.declared.playing.Played.{Played}
 use Rattle.occ_play.specs.declared.fault.PlayFault.{PlayFault}
 use Rattle.occ_play.specs.declared.fault.PlayFault.TheVariants as play
-use Rattle.occ_choices.specs.declared.fault.ChoiceFault.TheVariants as choice
 use Rattle.occ_play_inputs.specs.declared.failure.Failure.{Failure}
-use Rattle.occ_play_inputs.specs.declared.failure.Failure.TheVariants.{Write, Memory}
 use Rattle.occ_play.specs.Playing.{IsAnswer, Refuses}
 use Rattle.occ_play.specs.Working.{IsAnswerWithin, WorkersRefuse}
 use Rattle.occ_play.proofs.Working.{workers_refuse}
-use Rattle.occ_play.specs.Status.{ending_status, fault_status, status}
+use Rattle.occ_play.specs.Status.{ending_status, fault_status}
 use Rattle.occ_play_inputs.specs.Failures.{failure_status}
 use Rattle.occ_play_inputs.specs.declared.words.Words.{Words as Asked}
 use Rattle.occ_play.specs.declared.playing.Options.{Options}
 use Rattle.occ_watching.specs.Coming.{CameTo}
 use Rattle.occ_explore.specs.declared.exploration.Asked.{Asked as AskedFor}
 use Rattle.occ_explore.specs.declared.exploration.Exploration.{Exploration}
+use Rattle.occ_explore.specs.declared.exploration.Answer.{Answer}
+use Rattle.occ_exploring.specs.Alone.{IsOnlyFor, only_status}
 use Rattle.occ_exploring.specs.Explored.{IsExplored}
 use Rattle.occ_exploring.specs.Statuses.{is_fault, is_stop, search_status, some_ends}
-use Rattle.occ_program.specs.Coming.{CameToBy, options_in, workers_asked, IsSearchStatus, IsStatusFor, ProgramStatus, SearchedTo, found_status, of_play, of_search, of_failure, of_help}
+use Rattle.occ_program.specs.Coming.{CameToBy, options_in, workers_asked, IsLookStatus, IsSearchStatus, IsStatusFor, OnlyTo, ProgramStatus, SearchedTo, found_status, look_status, of_look, of_play, of_search, of_failure, of_help}
 
 ending_small : (e : Ending) → ending_status e ≤ 7
 ending_small Ended = omega arith
@@ -40,7 +40,7 @@ ending_small (Fault fault) = omega arith
 ending_small (StoppedBy fault) = omega arith
 ending_small Limit = omega arith
 
-fault_small : (f : PlayFault) → fault_status f ≤ 7
+pub fault_small : (f : PlayFault) → fault_status f ≤ 7
 fault_small (play.Text text.Memory) = omega arith
 fault_small (play.Text f) = omega arith
 fault_small (play.Parse tree.Memory) = omega arith
@@ -85,10 +85,27 @@ pub came_to_both : {Done : Type 0} (workers : Option ℕ) (words : Asked) (sourc
 came_to_both workers words source keyboard list (Ok done) r crew h g = g
 came_to_both workers words source keyboard list (Err f) r crew h g = refused_by workers words source keyboard list f crew h
 
--- what was played has its status, what was searched, and so has a failure
-pub played_status : (words : Asked) (r : Result ℕ Failure) → words.explore ≡ None → IfOk r (IsStatusFor words) → IfOk r ProgramStatus
-played_status words (Ok s) one h = of_play words one h
-played_status words (Err f) one h = tt
+-- what refused one of two texts that were to be made
+pub either_refuses : {One Other : Type 0} (Refusal : PlayFault → Type 0) (one : Result One PlayFault) (other : Result Other PlayFault) → IfErr one Refusal → IfErr other Refusal → IfErr (result_and one other) Refusal
+either_refuses Refusal (Ok done) other h g = g
+either_refuses Refusal (Err f) other h g = h
+
+-- what was played has its status, what was looked at or searched, and so has a failure
+played_status : (words : Asked) (r : Result ℕ Failure) → words.explore ≡ None → words.check ≡ false → IfOk r (IsStatusFor words) → IfOk r ProgramStatus
+played_status words (Ok s) one run h = of_play words one run h
+played_status words (Err f) one run h = tt
+
+looked_status : (words : Asked) (r : Result ℕ Failure) → words.explore ≡ None → words.check ≡ true → IfOk r (IsLookStatus words) → IfOk r ProgramStatus
+looked_status words (Ok s) one look h = of_look words one look h
+looked_status words (Err f) one look h = tt
+
+pub looked_or_played : (words : Asked) (r : Result ℕ Failure) → words.explore ≡ None → (words.check ≡ true → IfOk r (IsLookStatus words)) → (words.check ≡ false → IfOk r (IsStatusFor words))
+    → IfOk r ProgramStatus
+looked_or_played words r one looked played = by words.check refl
+  where
+    by : (check : Bool) → words.check ≡ check → IfOk r ProgramStatus
+    by true e = looked_status words r one e (looked e)
+    by false e = played_status words r one e (played e)
 
 pub searched_status : (words : Asked) (asked : AskedFor) (r : Result ℕ Failure) → words.explore ≡ Some asked → IfOk r (IsSearchStatus words asked) → IfOk r ProgramStatus
 searched_status words asked (Ok s) all h = of_search words asked all h
@@ -104,6 +121,22 @@ searched_to words source keyboard bytes keys asked options (Ok e) same from type
 searched_to words source keyboard bytes keys asked options (Err f) same from typed h g =
     subst (λ o. Refuses o source f) same (subst (λ s. Refuses options s f) from g)
 
+-- what one run told, by its two clauses
+pub only_to : (words : Asked) (source keyboard bytes keys : List ℕ) (options : Options) (found : Result (Option Answer) PlayFault)
+    → options ≡ options_in words → bytes ≡ source → keys ≡ keyboard
+    → IfOk found (λ o. IfSome o (IsOnlyFor options bytes keys)) → IfErr found (Refuses options bytes) → OnlyTo words source keyboard found
+only_to words source keyboard bytes keys options (Ok None) same from typed h g = tt
+only_to words source keyboard bytes keys options (Ok (Some a)) same from typed h g =
+    subst (λ o. IsOnlyFor o source keyboard a) same (subst (λ k. IsOnlyFor options source k a) typed (subst (λ s. IsOnlyFor options s keys a) from h))
+only_to words source keyboard bytes keys options (Err f) same from typed h g = subst (λ o. Refuses o source f) same (subst (λ s. Refuses options s f) from g)
+
+pub only_small : (a : Answer) → only_status a ≤ 7
+only_small a = by (is_stop a.ending)
+  where
+    by : (stop : Bool) → (if stop then 2 else 0) ≤ 7
+    by true = omega arith
+    by false = omega arith
+
 search_small : (e : Exploration) → search_status e ≤ 7
 search_small e = by e.all (some_ends is_fault e.answers.items) (some_ends is_stop e.answers.items)
   where
@@ -116,6 +149,10 @@ search_small e = by e.all (some_ends is_fault e.answers.items) (some_ends is_sto
 pub found_small : (found : Result Exploration PlayFault) → found_status found ≤ 7
 found_small (Ok e) = search_small e
 found_small (Err f) = fault_small f
+
+pub look_small : (fault : Option PlayFault) → look_status fault ≤ 7
+look_small None = omega arith
+look_small (Some f) = fault_small f
 
 pub failed_status : (f : Failure) (s : ℕ) → (s ≡ failure_status f) ⊎ ((failure_status f ≡ 0) × (s ≡ 6)) → ProgramStatus s
 failed_status f s (inl e) = subst ProgramStatus (sym e) (of_failure f)

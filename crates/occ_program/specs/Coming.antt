@@ -1,13 +1,13 @@
 -- What an exit status says of the source, the keyboard and the choices that were played.
 -- Manual: nothing; this is (own).
-use Rattle.std.specs.Prelude.{Bool, false, true, unwrap_or, List, None, Option, Some, Result, ℕ, ◌≡◌, Ok, Err}
+use Rattle.std.specs.Prelude.{Bool, false, true, unwrap_or, List, None, Option, Some, Result, ℕ, ◌≡◌, Ok, Err, ⊤}
 use Rattle.occ_net_replay.specs.declared.choice.Choice.{Choice}
 use Rattle.occ_play_inputs.specs.declared.failure.Failure.{Failure}
 use Rattle.occ_choices.specs.declared.plan.Plan.{Plan}
 use Rattle.occ_play.specs.declared.playing.Options.{Options}
 use Rattle.occ_play.specs.declared.playing.Played.{Played}
 use Rattle.occ_play.specs.declared.fault.PlayFault.{PlayFault}
-use Rattle.occ_play.specs.Playing.{IsAnswer, Refuses}
+use Rattle.occ_play.specs.Playing.{HasCode, IsAnswer, Refuses, RefusesCode}
 use Rattle.occ_play_inputs.specs.declared.words.Words.{Words}
 use Rattle.occ_play_inputs.specs.Asked.{IsAskedBy}
 use Rattle.occ_play_inputs.specs.Failures.{failure_status}
@@ -15,6 +15,8 @@ use Rattle.occ_choices.specs.Plans.{choices_of}
 use Rattle.occ_play.specs.Status.{fault_status, status}
 use Rattle.occ_explore.specs.declared.exploration.Asked.{Asked}
 use Rattle.occ_explore.specs.declared.exploration.Exploration.{Exploration}
+use Rattle.occ_explore.specs.declared.exploration.Answer.{Answer}
+use Rattle.occ_exploring.specs.Alone.{IsOnlyFor, only_status}
 use Rattle.occ_exploring.specs.Explored.{IsExplored}
 use Rattle.occ_exploring.specs.Statuses.{search_status}
 use Rattle.occ_watching.specs.Coming.{CameByWorkers, CameTo}
@@ -56,20 +58,43 @@ abbrev pub found_status : Result Exploration PlayFault → ℕ
 found_status (Ok e) = search_status e
 found_status (Err fault) = fault_status fault
 
--- the status of a search of a source
-pub record IsSearchStatus (words : Words) (asked : Asked) (s : ℕ) : Type 0 where
+-- whether one run tells it, as the words ask
+abbrev pub OnlyTo : Words → (source keyboard : List ℕ) → Result (Option Answer) PlayFault → Type 0
+OnlyTo words source keyboard (Ok None) = ⊤
+OnlyTo words source keyboard (Ok (Some a)) = IsOnlyFor (options_in words) source keyboard a
+OnlyTo words source keyboard (Err fault) = Refuses (options_in words) source fault
+
+-- the status of a search of a source, or that of the one answer that a run tells
+pub data IsSearchStatus (words : Words) (asked : Asked) (s : ℕ) : Type 0 where
+  by_search : (source keyboard : List ℕ) (found : Result Exploration PlayFault) → SearchedTo words source keyboard asked found → s ≡ found_status found → IsSearchStatus words asked s
+  by_one_run : (source keyboard : List ℕ) (a : Answer) → IsOnlyFor (options_in words) source keyboard a → s ≡ only_status a → IsSearchStatus words asked s
+  by_refusal : (source : List ℕ) (fault : PlayFault) → Refuses (options_in words) source fault → s ≡ fault_status fault → IsSearchStatus words asked s
+
+-- ---- a source that is only looked at
+
+-- it has code for turns of these options, or what is wrong with it
+abbrev pub LookedAt : Words → (source : List ℕ) → Option PlayFault → Type 0
+LookedAt words source None = HasCode (options_in words) source
+LookedAt words source (Some fault) = RefusesCode (options_in words) source fault
+
+abbrev pub look_status : Option PlayFault → ℕ
+look_status None = 0
+look_status (Some fault) = fault_status fault
+
+-- the status of a look at a source
+pub record IsLookStatus (words : Words) (s : ℕ) : Type 0 where
   pub source : List ℕ
-  pub keyboard : List ℕ
-  pub found : Result Exploration PlayFault
-  pub searched : SearchedTo words source keyboard asked found
-  pub is : s ≡ found_status found
+  pub fault : Option PlayFault
+  pub looked : LookedAt words source fault
+  pub is : s ≡ look_status fault
 
 -- ---- the program
 
--- What a status of the program says: that of what a source came to, played or searched as the words ask, or that of a failure, or 6
--- where help could not be printed.
+-- What a status of the program says: that of what a source came to, played, searched or looked at as the words ask, or that of a
+-- failure, or 6 where help could not be printed.
 pub data ProgramStatus : ℕ → Type 0 where
-  of_play : (words : Words) {s : ℕ} → words.explore ≡ None → IsStatusFor words s → ProgramStatus s
+  of_play : (words : Words) {s : ℕ} → words.explore ≡ None → words.check ≡ false → IsStatusFor words s → ProgramStatus s
+  of_look : (words : Words) {s : ℕ} → words.explore ≡ None → words.check ≡ true → IsLookStatus words s → ProgramStatus s
   of_search : (words : Words) (asked : Asked) {s : ℕ} → words.explore ≡ Some asked → IsSearchStatus words asked s → ProgramStatus s
   of_failure : (failure : Failure) → ProgramStatus (failure_status failure)
   of_help : (help : Failure) → failure_status help ≡ 0 → ProgramStatus 6

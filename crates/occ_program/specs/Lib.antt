@@ -1,3 +1,5 @@
 pub mod Coming
 pub mod Pages
 pub mod Lines
+pub mod Explained
+pub mod Trying

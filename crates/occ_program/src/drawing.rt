@@ -2,30 +2,31 @@
 ghost use Rattle.std.specs.Prelude.{◌≡◌, IfErr, IfOk};
 ghost use Rattle.occ_choices.specs.Plans.{choices_of};
 ghost use Rattle.occ_program.specs.Coming.{options_in};
-ghost use Rattle.occ_program.specs.Pages.{Draws};
+ghost use Rattle.occ_program.specs.Pages.{Charts, Draws, LeavesOrRefuses};
 ghost use Rattle.occ_play.specs.Charting.{IsChart};
 ghost use Rattle.occ_play.specs.Playing.{Refuses};
 
 use crate::page::{Page, write_page};
 use crate::program::options_of;
+use occ_files::Folder;
 use occ_play::{Choice, Plan, PlayFault, Played, chart};
 use occ_play_inputs::{Failure, Inputs, Words};
 use std::alloc::{AllocError, Global};
-use std::rt::Files;
 
 /// Draws the run of these inputs into the file that the words name, where it answered: the run by the choices that it used.
-pub(crate) fn draw<R: Files>(
-    rt: &R,
+pub(crate) fn draw<F: Folder>(
+    folder: &mut F,
     alloc: Global,
     words: &Words<'_>,
     inputs: &Inputs,
     played: &Result<Played, PlayFault>,
 ) -> Result<Result<(), PlayFault>, Failure>
-    ensures { IfOk result (λ drawn. IfErr drawn (Refuses (options_in words.now) inputs.now.source.items)) }
+    ensures refused { IfOk result (λ drawn. IfErr drawn (Refuses (options_in words.now) inputs.now.source.items)) }
+    ensures left { LeavesOrRefuses (Charts (options_in words.now) inputs.now.source.items inputs.now.keyboard.items words.now.arrows words.now.chart played.now) (F.left folder.old) (F.left folder.new) result }
 {
     match drawn(alloc, words, inputs, played)? {
         Ok(page) => {
-            write_page(rt, alloc, &page)?;
+            write_page(folder, &page)?;
             Ok(Ok(()))
         }
         Err(fault) => Ok(Err(fault)),
@@ -72,7 +73,7 @@ fn chart_of(
 }
 
 /// The plan of these choices.
-fn plan_of(alloc: Global, choices: &[Choice]) -> Result<Plan, AllocError>
+pub(crate) fn plan_of(alloc: Global, choices: &[Choice]) -> Result<Plan, AllocError>
     ensures { IfOk result (λ plan. choices_of plan ≡ choices.now) }
 {
     Ok(Plan::Choices(Vec::from_slice(alloc, choices)?))

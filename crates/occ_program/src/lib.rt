@@ -5,10 +5,14 @@
 
 mod drawing;
 pub mod exit;
+mod explaining;
 mod exploring;
+mod looking;
 mod page;
 pub mod program;
 mod recording;
+mod seeding;
+mod tracing;
 
 pub use exit::exit_code;
 pub use program::run;

@@ -1,9 +1,9 @@
 //! A file that a run leaves.
-use occ_files::save;
+ghost use Rattle.occ_program.specs.Pages.{LeavesPage};
+
+use occ_files::Folder;
 use occ_play_inputs::Failure;
 use occ_play_inputs::failure::of_write;
-use std::alloc::Global;
-use std::rt::Files;
 
 /// A text, and the path of the file that it goes into.
 #[derive(Drop)]
@@ -13,13 +13,13 @@ pub(crate) struct Page<'a> {
 }
 
 /// Writes the file, where there is one to write.
-pub(crate) fn write_page<R: Files>(
-    rt: &R,
-    alloc: Global,
-    page: &Option<Page<'_>>,
-) -> Result<(), Failure> {
+pub(crate) fn write_page<F: Folder>(folder: &mut F, page: &Option<Page<'_>>) -> Result<(), Failure>
+    ensures { LeavesPage (F.left folder.old) (F.left folder.new) page.now }
+{
     match page {
-        Some(page) => save(rt, alloc, page.path, page.text.as_slice()).map_err(of_write),
+        Some(page) => folder
+            .save(page.path, page.text.as_slice())
+            .map_err(of_write),
         None => Ok(()),
     }
 }

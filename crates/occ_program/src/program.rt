@@ -1,6 +1,6 @@
 //! The program around `play`: what it reads and prints, and its exit status.
-ghost use Rattle.std.specs.Prelude.{◌≡◌, ◌≤◌, ◌<◌, ◌-◌, ◌^◌, ◌⊎◌, IfOk, IfSome, None, Some};
-ghost use Rattle.occ_program.specs.Coming.{CameToBy, IsStatusFor, ProgramStatus, options_in, workers_asked};
+ghost use Rattle.std.specs.Prelude.{◌≡◌, ◌≤◌, ◌<◌, ◌-◌, ◌^◌, ◌⊎◌, IfOk, IfSome, None, Some, false, true};
+ghost use Rattle.occ_program.specs.Coming.{CameToBy, IsLookStatus, IsStatusFor, ProgramStatus, options_in, workers_asked};
 ghost use Rattle.occ_shown.specs.Counting.{failures_of};
 ghost use Rattle.occ_play.specs.Status.{status};
 ghost use Rattle.occ_play_inputs.specs.Failures.{failure_status};
@@ -8,8 +8,13 @@ ghost use Rattle.occ_program.specs.Lines.{run_line};
 ghost use Rattle.occ_choices.specs.Plans.{choices_of};
 
 use crate::drawing::draw;
+use crate::explaining::explain;
 use crate::exploring::explore_words;
+use crate::looking::look_at_words;
 use crate::recording::record;
+use crate::seeding::take_seed;
+use crate::tracing::trace;
+use occ_files::Disk;
 use occ_play::{
     FreeGate, Opened, Options, PlayFault, Played, RunFault, play_in, play_workers_in, status_of,
 };
@@ -26,11 +31,13 @@ use std::thread::Threads;
 use std::{env, io};
 
 /// What is told below wrong words.
-const ALLOWED: &str =
-    "Allowed are --limit N with N from 0 to 10000000, --quantum N with N from 1 to 65536, --errors halt or stop, --workers N with N from 1 to 64, --choices FILE, --record FILE, --chart FILE, --arrows N, --trace, --watch, --explore or --explore=endings, --states N with N from 1 to 10000000, --help, and one FILE.";
+const ALLOWED: &str = "occam --help says what is allowed";
+
+/// How many lines are told of wrong words above that.
+const MOST_LINES: usize = 2;
 
 /// Runs the program on the arguments, the files and the streams of `rt`, and answers its exit status: 0 ended or
-/// help, 1 source refused, 2 stopped, 3 fault, 4 limit, 5 want of memory or
+/// help or a source that is not refused where that is all that is asked, 1 source refused, 2 stopped, 3 fault, 4 limit, 5 want of memory or
 /// threads that gave no answer, 6 a file or stream that couldn't be
 /// read or written, 7 wrong words or a refused file of choices.
 pub fn run<R: Files + Input + Print + Eprint + Env + AllocGlobal + Threads + Wait + Sync>(
@@ -41,7 +48,7 @@ pub fn run<R: Files + Input + Print + Eprint + Env + AllocGlobal + Threads + Wai
 {
     match run_arguments(rt, rt.alloc()) {
         Ok(status) => status,
-        Err(failure) => report(rt, &failure),
+        Err(failure) => report(rt, rt.alloc(), &failure),
     }
 }
 
@@ -61,7 +68,7 @@ fn run_arguments<R: Files + Input + Print + Eprint + Env + AllocGlobal + Threads
     do_words(rt, alloc, &words)
 }
 
-/// Searches all lists of choices, or plays one run, as the words ask.
+/// Searches all lists of choices, looks at the source, or plays one run, as the words ask.
 fn do_words<R: Files + Input + Print + Eprint + Threads + Wait + Sync>(
     rt: &R,
     alloc: Global,
@@ -72,12 +79,29 @@ fn do_words<R: Files + Input + Print + Eprint + Threads + Wait + Sync>(
 {
     match words.explore {
         Some(asked) => explore_words(rt, alloc, words, asked),
-        None => run_words(rt, alloc, words),
+        None => look_or_run(rt, alloc, words),
     }
 }
 
-/// Reads what the words name, plays it, records the used choices and draws a chart where the words ask for that. The
-/// answer goes to standard output, and a fault's line to standard error.
+/// Looks at the source, or plays one run, as the words ask.
+fn look_or_run<R: Files + Input + Print + Eprint + Threads + Wait + Sync>(
+    rt: &R,
+    alloc: Global,
+    words: &Words<'_>,
+) -> Result<u8, Failure>
+    ensures looked { words.now.check ≡ true → IfOk result (IsLookStatus words.now) }
+    ensures played { words.now.check ≡ false → IfOk result (IsStatusFor words.now) }
+    ensures small { IfOk result (λ status. status ≤ 7) }
+{
+    if words.check {
+        look_at_words(rt, alloc, words)
+    } else {
+        run_words(rt, alloc, words)
+    }
+}
+
+/// Reads what the words name, plays it, records the used choices, draws a chart and writes the trace where the words ask for
+/// that. The answer goes to standard output, and a fault's line to standard error.
 fn run_words<R: Files + Input + Print + Eprint + Threads + Wait + Sync>(
     rt: &R,
     alloc: Global,
@@ -86,21 +110,31 @@ fn run_words<R: Files + Input + Print + Eprint + Threads + Wait + Sync>(
     ensures came { IfOk result (IsStatusFor words.now) }
     ensures small { IfOk result (λ status. status ≤ 7) }
 {
-    let inputs = read_inputs(rt, alloc, words)?;
+    let mut inputs = read_inputs(rt, alloc, words)?;
+    take_seed(alloc, words, &mut inputs)?;
     let mut out = Counted::new(io::writer(rt));
     let played = play_inputs(rt, alloc, words, &inputs, &mut out)?;
-    record(rt, alloc, words, &played)?;
-    let drawn = draw(rt, alloc, words, &inputs, &played)?;
-    Ok(told(rt, &drawn.and(played)))
+    let mut folder = Disk::new(rt, alloc);
+    record(&mut folder, alloc, words, &played)?;
+    let drawn = draw(&mut folder, alloc, words, &inputs, &played)?;
+    let traced = trace(&mut folder, alloc, words, &inputs, &played)?;
+    Ok(told(rt, alloc, words, &inputs, &traced.and(drawn).and(played)))
 }
 
-/// Prints the line of a fault, and answers the exit status.
-fn told<R: Eprint>(rt: &R, came: &Result<Played, PlayFault>) -> u8
+/// Prints the line of a fault, and more where the words ask for it, and answers the exit status.
+fn told<R: Eprint>(
+    rt: &R,
+    alloc: Global,
+    words: &Words<'_>,
+    inputs: &Inputs,
+    came: &Result<Played, PlayFault>,
+) -> u8
     ensures { result ≡ status came.now }
 {
     if let Err(fault) = came {
         tell(rt, fault);
     }
+    explain(rt, alloc, words, inputs, came);
     status_of(came)
 }
 
@@ -241,9 +275,9 @@ fn play_looking<R: Eprint + Threads + Wait + Sync, W: Write>(
     )
 }
 
-/// Prints why nothing was played, and answers the exit status. Help goes to standard output, and
+/// Prints why nothing was played, and answers the exit status. Help and the version go to standard output, and
 /// all else to standard error.
-fn report<R: Print + Eprint>(rt: &R, failure: &Failure) -> u8
+fn report<R: Print + Eprint>(rt: &R, alloc: Global, failure: &Failure) -> u8
     ensures { (result ≡ failure_status failure.now) ⊎ ((failure_status failure.now ≡ 0) × (result ≡ 6)) }
 {
     match failure {
@@ -252,13 +286,29 @@ fn report<R: Print + Eprint>(rt: &R, failure: &Failure) -> u8
                 return report_line(rt, &Failure::Write);
             }
         }
-        Failure::Words(error) => {
-            let _ = error.print(rt);
-            let _ = eprintln!(rt; "{ALLOWED}");
-        }
+        Failure::Words(error) => tell_words(rt, alloc, error),
         failure => return report_line(rt, failure),
     }
     failure.status()
+}
+
+/// Prints what is wrong with the words, in three lines at most.
+fn tell_words<R: Eprint>(rt: &R, alloc: Global, error: &clap::Error) {
+    if let Ok(text) = format!(in alloc; "{error}") {
+        tell_lines(rt, text.as_str());
+    }
+    let _ = eprintln!(rt; "{ALLOWED}");
+}
+
+/// Prints the first lines of a text that say something.
+fn tell_lines<R: Eprint>(rt: &R, text: &str) {
+    let mut told = 0;
+    for line in text.lines() {
+        if told < MOST_LINES && !line.is_empty() {
+            let _ = eprintln!(rt; "{line}");
+            told += 1;
+        }
+    }
 }
 
 fn report_line<R: Eprint>(rt: &R, failure: &Failure) -> u8

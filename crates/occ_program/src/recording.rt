@@ -1,24 +1,26 @@
 //! Writes the choices of a run into a file, by which it can be played again.
 ghost use Rattle.std.specs.Prelude.{◌≡◌, IfOk};
 ghost use Rattle.occ_choices.specs.Lines.{choice_text};
-ghost use Rattle.occ_program.specs.Pages.{Records};
+ghost use Rattle.occ_program.specs.Pages.{IsLeft, Records};
 
 use crate::page::{Page, write_page};
 use occ_choices::choices_text;
+use occ_files::Folder;
 use occ_play::{PlayFault, Played};
 use occ_play_inputs::{Failure, Words};
 use std::alloc::Global;
-use std::rt::Files;
 
 /// Writes the used choices into the file that the words name, where a run answered.
-pub(crate) fn record<R: Files>(
-    rt: &R,
+pub(crate) fn record<F: Folder>(
+    folder: &mut F,
     alloc: Global,
     words: &Words<'_>,
     played: &Result<Played, PlayFault>,
-) -> Result<(), Failure> {
+) -> Result<(), Failure>
+    ensures { IsLeft (Records words.now.«record» played.now) (F.left folder.old) (F.left folder.new) result }
+{
     let page = recorded(alloc, words, played)?;
-    write_page(rt, alloc, &page)
+    write_page(folder, &page)
 }
 
 /// What is to be recorded, and where: all choices that a run used, in the file that the words name.

@@ -1,7 +1,8 @@
-//! Explorations of whole programs: how many states there are, and each answer in the order in which they are found.
+//! Explorations of whole programs: each answer in the order in which they are found, how long runs go on, and how many states
+//! there are.
 use crate::accepted::code_of;
 use crate::sources::{DINING, LIVELOCK, MERGE, POOL, WAITER};
-use occ_explore::{Answer, Asked, Exploration, explore};
+use occ_explore::{Answer, Asked, Exploration, Lasting, explore};
 use occ_term::Errors;
 use std::alloc::{AllocError, Global};
 use std::fmt::Write;
@@ -87,12 +88,28 @@ fn write_answer(text: &mut String, answer: &Answer) -> Result<(), AllocError> {
     text.push_str("]\n")
 }
 
-/// A line for each answer, and one for the whole.
+fn write_lasting(text: &mut String, lasting: &Option<Lasting>) -> Result<(), AllocError> {
+    match lasting {
+        Some(Lasting::Within(turns)) => {
+            let turns = *turns;
+            writeln!(text, "within {turns}")
+        }
+        Some(Lasting::Forever { way, round }) => {
+            let way = way.len();
+            let round = round.len();
+            writeln!(text, "for ever by {way} and {round}")
+        }
+        None => Ok(()),
+    }
+}
+
+/// A line for each answer, one for how long runs go on, and one for the whole.
 fn told(alloc: Global, found: &Exploration) -> Result<String, AllocError> {
     let mut text = String::new(alloc);
     for answer in &found.answers {
         write_answer(&mut text, answer)?;
     }
+    write_lasting(&mut text, &found.lasting)?;
     let states = found.states;
     let all = found.all;
     writeln!(text, "{states} {all}")?;
@@ -125,6 +142,7 @@ ended by 33 [120/|]
 ended by 33 [102/|]
 ended by 33 [021/|]
 ended by 33 [012/|]
+within 33
 855 true
 "#,
     },
@@ -135,6 +153,7 @@ ended by 33 [012/|]
         asked: Asked::Endings,
         most: 100000,
         told: r#"ended by 33 [210/|]
+within 33
 648 true
 "#,
     },
@@ -179,6 +198,7 @@ ended by 36 [abxyzc/|]
 ended by 36 [abxycz/|]
 ended by 36 [abxcyz/|]
 ended by 36 [abcxyz/|]
+within 36
 2406 true
 "#,
     },
@@ -189,6 +209,7 @@ ended by 36 [abcxyz/|]
         asked: Asked::Endings,
         most: 100000,
         told: r#"ended by 36 [xyzabc/|]
+within 36
 840 true
 "#,
     },
@@ -201,7 +222,7 @@ static FOREVER: [Row; 3] = [
         keyboard: b"",
         asked: Asked::Answers,
         most: 100000,
-        told: "15 true\n",
+        told: "for ever by 4 and 6\n15 true\n",
     },
     Row {
         source: POOL,
@@ -235,6 +256,7 @@ static SMALL: [Row; 7] = [
         told: r#"fault RANGE line 7 by 5 [ab|]
 fault RANGE line 7 by 3 [a|]
 fault RANGE line 7 by 2 [|]
+within 5
 9 true
 "#,
     },
@@ -245,6 +267,7 @@ fault RANGE line 7 by 2 [|]
         asked: Asked::Answers,
         most: 1000,
         told: r#"stopped RANGE line 7 by 5 [ab|]
+within 5
 9 true
 "#,
     },
@@ -257,6 +280,7 @@ fault RANGE line 7 by 2 [|]
         told: r#"ended by 14 [xy-|]
 ended by 14 [x-y|]
 ended by 14 [-xy|]
+within 14
 61 true
 "#,
     },
@@ -268,6 +292,7 @@ ended by 14 [-xy|]
         most: 10000,
         told: r#"stopped by 10 [x-|]
 stopped by 10 [-x|]
+within 10
 32 true
 "#,
     },
@@ -279,6 +304,7 @@ stopped by 10 [-x|]
         most: 10000,
         told: r#"ended by 10 [|a]
 ended by 10 [|b]
+within 10
 44 true
 "#,
     },
@@ -289,6 +315,7 @@ ended by 10 [|b]
         asked: Asked::Answers,
         most: 10,
         told: r#"ended by 1 [|]
+within 1
 2 true
 "#,
     },

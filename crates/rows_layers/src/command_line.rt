@@ -5,22 +5,22 @@ use std::process::Abort;
 use std::test::Fail;
 
 /// Words, and what is read of them.
-static READ: [(&[&str], &str); 7] = [
+static READ: [(&[&str], &str); 9] = [
     (
         &["occam"],
-        "Words { limit: 1000000, quantum: 1, errors: Halt, workers: None, trace: false, watch: false, choices: None, record: None, chart: None, arrows: 200, explore: None, states: 1000000, file: None }",
+        "Words { limit: 1000000, quantum: 1, errors: Halt, workers: None, trace: false, watch: false, explain: false, seed: None, tries: 1, choices: None, record: None, chart: None, arrows: 200, trace_to: None, json: false, explore: None, states: 1000000, check: false, file: None }",
     ),
     (
         &["occam", "--limit", "10000000", "--trace", "f.occ"],
-        "Words { limit: 10000000, quantum: 1, errors: Halt, workers: None, trace: true, watch: false, choices: None, record: None, chart: None, arrows: 200, explore: None, states: 1000000, file: Some(\"f.occ\") }",
+        "Words { limit: 10000000, quantum: 1, errors: Halt, workers: None, trace: true, watch: false, explain: false, seed: None, tries: 1, choices: None, record: None, chart: None, arrows: 200, trace_to: None, json: false, explore: None, states: 1000000, check: false, file: Some(\"f.occ\") }",
     ),
     (
         &["occam", "f.occ", "--trace", "--limit=0"],
-        "Words { limit: 0, quantum: 1, errors: Halt, workers: None, trace: true, watch: false, choices: None, record: None, chart: None, arrows: 200, explore: None, states: 1000000, file: Some(\"f.occ\") }",
+        "Words { limit: 0, quantum: 1, errors: Halt, workers: None, trace: true, watch: false, explain: false, seed: None, tries: 1, choices: None, record: None, chart: None, arrows: 200, trace_to: None, json: false, explore: None, states: 1000000, check: false, file: Some(\"f.occ\") }",
     ),
     (
         &["occam", "--errors", "halt"],
-        "Words { limit: 1000000, quantum: 1, errors: Halt, workers: None, trace: false, watch: false, choices: None, record: None, chart: None, arrows: 200, explore: None, states: 1000000, file: None }",
+        "Words { limit: 1000000, quantum: 1, errors: Halt, workers: None, trace: false, watch: false, explain: false, seed: None, tries: 1, choices: None, record: None, chart: None, arrows: 200, trace_to: None, json: false, explore: None, states: 1000000, check: false, file: None }",
     ),
     (
         &[
@@ -29,16 +29,17 @@ static READ: [(&[&str], &str); 7] = [
             "--errors=stop",
             "--workers=64",
             "--watch",
+            "--explain",
             "--choices=c",
             "--record=r",
             "--chart=s.svg",
             "--arrows=0",
         ],
-        "Words { limit: 1000000, quantum: 65536, errors: Stop, workers: Some(64), trace: false, watch: true, choices: Some(\"c\"), record: Some(\"r\"), chart: Some(\"s.svg\"), arrows: 0, explore: None, states: 1000000, file: None }",
+        "Words { limit: 1000000, quantum: 65536, errors: Stop, workers: Some(64), trace: false, watch: true, explain: true, seed: None, tries: 1, choices: Some(\"c\"), record: Some(\"r\"), chart: Some(\"s.svg\"), arrows: 0, trace_to: None, json: false, explore: None, states: 1000000, check: false, file: None }",
     ),
     (
         &["occam", "--explore", "f.occ"],
-        "Words { limit: 1000000, quantum: 1, errors: Halt, workers: None, trace: false, watch: false, choices: None, record: None, chart: None, arrows: 200, explore: Some(Answers), states: 1000000, file: Some(\"f.occ\") }",
+        "Words { limit: 1000000, quantum: 1, errors: Halt, workers: None, trace: false, watch: false, explain: false, seed: None, tries: 1, choices: None, record: None, chart: None, arrows: 200, trace_to: None, json: false, explore: Some(Answers), states: 1000000, check: false, file: Some(\"f.occ\") }",
     ),
     (
         &[
@@ -49,7 +50,21 @@ static READ: [(&[&str], &str); 7] = [
             "--errors=stop",
             "--record=r",
         ],
-        "Words { limit: 1000000, quantum: 7, errors: Stop, workers: None, trace: false, watch: false, choices: None, record: Some(\"r\"), chart: None, arrows: 200, explore: Some(Endings), states: 10000000, file: None }",
+        "Words { limit: 1000000, quantum: 7, errors: Stop, workers: None, trace: false, watch: false, explain: false, seed: None, tries: 1, choices: None, record: Some(\"r\"), chart: None, arrows: 200, trace_to: None, json: false, explore: Some(Endings), states: 10000000, check: false, file: None }",
+    ),
+    (
+        &["occam", "--check", "f.occ"],
+        "Words { limit: 1000000, quantum: 1, errors: Halt, workers: None, trace: false, watch: false, explain: false, seed: None, tries: 1, choices: None, record: None, chart: None, arrows: 200, trace_to: None, json: false, explore: None, states: 1000000, check: true, file: Some(\"f.occ\") }",
+    ),
+    (
+        &[
+            "occam",
+            "--seed=1000000000",
+            "--tries=1000000",
+            "--trace-to=t",
+            "--json",
+        ],
+        "Words { limit: 1000000, quantum: 1, errors: Halt, workers: None, trace: false, watch: false, explain: false, seed: Some(1000000000), tries: 1000000, choices: None, record: None, chart: None, arrows: 200, trace_to: Some(\"t\"), json: true, explore: None, states: 1000000, check: false, file: None }",
     ),
 ];
 
@@ -65,7 +80,7 @@ fn words_are_read(rt: HostRuntime) -> Result<(), Fail> {
 }
 
 /// Words, and why they are refused.
-static REFUSED: [(&[&str], ErrorKind); 33] = [
+static REFUSED: [(&[&str], ErrorKind); 42] = [
     (&["occam", "--limit=10000001"], ErrorKind::ValueValidation),
     (&["occam", "--limit=4294967296"], ErrorKind::ValueValidation),
     (&["occam", "--limit=-1"], ErrorKind::ValueValidation),
@@ -135,6 +150,27 @@ static REFUSED: [(&[&str], ErrorKind); 33] = [
         &["occam", "--explore", "--arrows=5"],
         ErrorKind::ArgumentConflict,
     ),
+    (&["occam", "--version"], ErrorKind::DisplayVersion),
+    (&["occam", "--arrows=5"], ErrorKind::MissingRequiredArgument),
+    (
+        &["occam", "--check", "--trace"],
+        ErrorKind::ArgumentConflict,
+    ),
+    (
+        &["occam", "--check", "--explore"],
+        ErrorKind::ArgumentConflict,
+    ),
+    (&["occam", "--seed=1000000001"], ErrorKind::ValueValidation),
+    (
+        &["occam", "--seed=1", "--workers=2"],
+        ErrorKind::ArgumentConflict,
+    ),
+    (
+        &["occam", "--seed=1", "--tries=0"],
+        ErrorKind::ValueValidation,
+    ),
+    (&["occam", "--tries=2"], ErrorKind::MissingRequiredArgument),
+    (&["occam", "--json"], ErrorKind::MissingRequiredArgument),
 ];
 
 #[test]
@@ -147,7 +183,7 @@ fn wrong_words_are_refused(rt: HostRuntime) -> Result<(), Fail> {
 }
 
 /// What the help says of the words.
-static IN_HELP: [&str; 13] = [
+static IN_HELP: [&str; 17] = [
     "Usage: occam",
     "--limit <N>",
     "1000000",
@@ -160,6 +196,10 @@ static IN_HELP: [&str; 13] = [
     "--watch",
     "--explore",
     "--states <N>",
+    "--seed <N>",
+    "--tries <N>",
+    "--trace-to <FILE>",
+    "--check",
     "FILE",
 ];
 

@@ -3,12 +3,14 @@ use clap::error::ErrorKind;
 use occ_play_inputs::read_words;
 use std::process::Abort;
 
-static ONE_FILE: [&[&str]; 5] = [
+static ONE_FILE: [&[&str]; 7] = [
     &["occam", "--record=f", "f"],
     &["occam", "--chart=f", "f"],
     &["occam", "--record=f", "--choices=f"],
     &["occam", "--chart=f", "--choices=f"],
     &["occam", "--record=f", "--chart=f"],
+    &["occam", "--trace-to=f", "f"],
+    &["occam", "--chart=f", "--trace-to=f"],
 ];
 
 #[test]

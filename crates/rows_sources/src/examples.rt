@@ -1,6 +1,6 @@
 //! The programs of the folder `examples` do what their first lines say.
 use crate::gallery::{
-    IN_FAULTS, IN_FIRST_STEPS, IN_PIPELINES, IN_SELECTION, IN_SEQUENCES, IN_SHARING,
+    IN_FAULTS, IN_FIRST_STEPS, IN_LIBRARY, IN_PIPELINES, IN_SELECTION, IN_SEQUENCES, IN_SHARING,
 };
 use occ_play::{Counted, Errors, Options, Plan, PlayFault, Played, play_in, read_choices};
 use std::alloc::{AllocError, Global};
@@ -173,4 +173,9 @@ fn sharing(rt: HostRuntime) -> Result<(), Fail> {
 #[test]
 fn faults(rt: HostRuntime) -> Result<(), Fail> {
     check_runs(&rt, rt.alloc(), &IN_FAULTS)
+}
+
+#[test]
+fn library(rt: HostRuntime) -> Result<(), Fail> {
+    check_runs(&rt, rt.alloc(), &IN_LIBRARY)
 }

@@ -925,6 +925,43 @@ PROC main (CHAN OF BYTE keyboard, screen)
 :
 "#;
 
+const NUMBERED: &str =
+    r#"-- The lines that are typed, each behind its number: PRI ALT takes the next byte where there is one, and SKIP, which is always ready,
+-- tells that the keyboard has ended.
+--
+-- Keyboard:
+--   a line
+--   and another
+-- Screen:
+--   1 a line
+--   2 and another
+-- Ends: ended
+
+PROC main (CHAN OF BYTE keyboard, screen)
+  BYTE key:
+  INT line:
+  BOOL going, first:
+  SEQ
+    line, going, first := 0, TRUE, TRUE
+    WHILE going
+      PRI ALT
+        keyboard ? key
+          SEQ
+            IF
+              first
+                SEQ
+                  line := line + 1
+                  screen ! BYTE (line + (INT '0'))
+                  screen ! ' '
+              TRUE
+                SKIP
+            screen ! key
+            first := key = '*n'
+        TRUE & SKIP
+          going := FALSE
+:
+"#;
+
 const SIGNAL: &str =
     r#"-- Work until a signal comes: PRI ALT looks for the signal first, and SKIP is an arm that is always ready. A dot is printed for each
 -- piece of work that is done before the signal.
@@ -1255,6 +1292,72 @@ PROC main (CHAN OF BYTE keyboard, screen)
 :
 "#;
 
+const BUTLER: &str =
+    r#"-- Philosophers as those of dining.occ, and a butler who lets all but one of them sit down at a time: by whatever choices all eat, and
+-- none starves.
+--
+-- Keyboard: nothing
+-- Screen:
+--   all have eaten
+-- Ends: ended
+--
+-- Explored:
+--   1 ended "all have eaten*n" by 91 choices
+--   each run ends within 91 turns
+--   all, 108556 states
+
+VAL seats IS 3:
+
+PROC philosopher (CHAN OF BOOL sits, rises, left, right)
+  SEQ
+    sits ! TRUE
+    left ! TRUE
+    right ! TRUE
+    left ! FALSE
+    right ! FALSE
+    rises ! TRUE
+:
+
+-- Is taken and put back twice, by either of its neighbours.
+PROC fork (CHAN OF BOOL left, right)
+  BOOL taken:
+  SEQ i = 0 FOR 2
+    ALT
+      left ? taken
+        left ? taken
+      right ? taken
+        right ? taken
+:
+
+PROC butler ([]CHAN OF BOOL sits, rises)
+  BOOL any:
+  INT seated:
+  SEQ
+    seated := 0
+    SEQ n = 0 FOR 2 * seats
+      ALT i = 0 FOR seats
+        ALT
+          (seated < (seats - 1)) & sits[i] ? any
+            seated := seated + 1
+          rises[i] ? any
+            seated := seated - 1
+:
+
+PROC main (CHAN OF BYTE keyboard, screen)
+  VAL told IS "all have eaten*n":
+  [seats]CHAN OF BOOL sits, rises, left, right:
+  SEQ
+    PAR
+      PAR i = 0 FOR seats
+        philosopher (sits[i], rises[i], left[i], right[i])
+      PAR i = 0 FOR seats
+        fork (left[i], right[(i + 2) \ seats])
+      butler (sits, rises)
+    SEQ i = 0 FOR SIZE told
+      screen ! told[i]
+:
+"#;
+
 const COLOURS: &str =
     r#"-- A subscript beyond its array: there are three colours, and a fourth is asked for.
 --
@@ -1363,6 +1466,68 @@ PROC main (CHAN OF BYTE keyboard, screen)
       SEQ
         quotients ? quotient
         screen ! BYTE (quotient + (INT '0'))
+:
+"#;
+
+const DOOR: &str =
+    r#"-- One guest at a time is to be in a room: each asks whether it is taken until it isn't, and then goes in. But another one may ask
+-- between the two. A bracket opens where one goes in, and closes where one comes out. A guest may ask for ever while another is in.
+--
+-- Keyboard: nothing
+-- Screen:
+--   (())
+-- Ends: ended
+--
+-- By door.choices:
+--   ()()
+-- Ends: ended
+--
+-- Explored:
+--   1 ended "()()*n" by 36 choices
+--   2 ended "(())*n" by 36 choices
+--   some run goes on for ever
+--   all, 537 states
+
+PROC guest (CHAN OF BOOL ask, told, moves)
+  BOOL taken:
+  SEQ
+    taken := TRUE
+    WHILE taken
+      SEQ
+        ask ! TRUE
+        told ? taken
+    moves ! TRUE
+    moves ! FALSE
+:
+
+PROC door ([]CHAN OF BOOL ask, told, moves, CHAN OF BYTE screen)
+  BOOL taken, any:
+  INT left:
+  SEQ
+    taken := FALSE
+    left := 2
+    WHILE left > 0
+      ALT i = 0 FOR 2
+        ALT
+          ask[i] ? any
+            told[i] ! taken
+          moves[i] ? taken
+            IF
+              taken
+                screen ! '('
+              TRUE
+                SEQ
+                  screen ! ')'
+                  left := left - 1
+    screen ! '*n'
+:
+
+PROC main (CHAN OF BYTE keyboard, screen)
+  [2]CHAN OF BOOL ask, told, moves:
+  PAR
+    PAR i = 0 FOR 2
+      guest (ask[i], told[i], moves[i])
+    door (ask, told, moves, screen)
 :
 "#;
 
@@ -1487,6 +1652,414 @@ PROC main (CHAN OF BYTE keyboard, screen)
     PAR i = 0 FOR seats
       philosopher (hungry[i], sated[i])
     waiter (hungry, sated, screen)
+:
+"#;
+
+const LIBRARY_BUFFER: &str =
+    r#"-- To paste: a buffer between two processes, of as many places as its first actual says. Its reader asks for each value, since an
+-- output can't be a guard. The protocol has an end, which the writer outputs last: the buffer hands it on and ends too.
+--
+-- Keyboard: nothing
+-- Screen:
+--   01234567
+-- Ends: ended
+
+PROTOCOL stream
+  CASE
+    next; INT
+    end
+:
+
+-- Keeps up to so many values, and outputs the oldest when it is asked for one.
+PROC buffer (VAL INT places, CHAN OF stream in, CHAN OF BOOL request, CHAN OF stream out)
+  [places]INT kept:
+  INT first, count:
+  BOOL going, any:
+  SEQ
+    first, count, going := 0, 0, TRUE
+    WHILE going OR (count > 0)
+      ALT
+        (going AND (count < places)) & in ? CASE
+          next; kept[(first + count) \ places]
+            count := count + 1
+          end
+            going := FALSE
+        (count > 0) & request ? any
+          SEQ
+            out ! next; kept[first]
+            first, count := (first + 1) \ places, count - 1
+    request ? any
+    out ! end
+:
+
+PROC main (CHAN OF BYTE keyboard, screen)
+  CHAN OF stream in, out:
+  CHAN OF BOOL request:
+  PAR
+    SEQ
+      SEQ i = 0 FOR 8
+        in ! next; i
+      in ! end
+    buffer (3, in, request, out)
+    BOOL going:
+    SEQ
+      going := TRUE
+      WHILE going
+        INT value:
+        SEQ
+          request ! TRUE
+          out ? CASE
+            next; value
+              screen ! BYTE (value + (INT '0'))
+            end
+              going := FALSE
+      screen ! '*n'
+:
+"#;
+
+const LIBRARY_BUTLER: &str =
+    r#"-- To paste: a butler, who lets all but one of those who ask him have a place at a time. Philosophers who sit down by his leave never
+-- starve, though each takes the fork on the left first: one of them always finds both.
+--
+-- Keyboard: nothing
+-- Screen:
+--   102
+-- Ends: ended
+
+VAL seats IS 3:
+
+-- Lets one less than there are channels be in at a time, until each has come in and gone out so many times.
+PROC butler (VAL INT times, []CHAN OF BOOL in, out)
+  INT inside:
+  BOOL any:
+  SEQ
+    inside := 0
+    SEQ n = 0 FOR (2 * times) * (SIZE in)
+      ALT i = 0 FOR SIZE in
+        ALT
+          (inside < ((SIZE in) - 1)) & in[i] ? any
+            inside := inside + 1
+          out[i] ? any
+            inside := inside - 1
+:
+
+PROC philosopher (CHAN OF BOOL down, up, left, right, eaten)
+  SEQ
+    down ! TRUE
+    left ! TRUE
+    right ! TRUE
+    eaten ! TRUE
+    left ! FALSE
+    right ! FALSE
+    up ! TRUE
+:
+
+-- Is taken and put back twice, by either of its neighbours.
+PROC fork (CHAN OF BOOL left, right)
+  BOOL taken:
+  SEQ i = 0 FOR 2
+    ALT
+      left ? taken
+        left ? taken
+      right ? taken
+        right ? taken
+:
+
+PROC main (CHAN OF BYTE keyboard, screen)
+  [seats]CHAN OF BOOL down, up, left, right, eaten:
+  PAR
+    PAR i = 0 FOR seats
+      philosopher (down[i], up[i], left[i], right[i], eaten[i])
+    PAR i = 0 FOR seats
+      fork (left[i], right[(i + 2) \ seats])
+    butler (1, down, up)
+    SEQ
+      SEQ n = 0 FOR seats
+        BOOL any:
+        ALT i = 0 FOR seats
+          eaten[i] ? any
+            screen ! BYTE (i + (INT '0'))
+      screen ! '*n'
+:
+"#;
+
+const LIBRARY_EXTREMES: &str =
+    r#"-- To paste: `min` and `max`, the smaller and the larger one of two numbers. A variable takes the result, where other languages have a
+-- function.
+--
+-- Keyboard: nothing
+-- Screen:
+--   38
+-- Ends: ended
+
+-- The smaller one of two numbers.
+PROC min (VAL INT one, other, INT least)
+  IF
+    one < other
+      least := one
+    TRUE
+      least := other
+:
+
+-- The larger one of two numbers.
+PROC max (VAL INT one, other, INT most)
+  IF
+    one > other
+      most := one
+    TRUE
+      most := other
+:
+
+PROC main (CHAN OF BYTE keyboard, screen)
+  [4]INT values:
+  INT least, most:
+  SEQ
+    values[0], values[1], values[2], values[3] := 5, 8, 3, 7
+    least, most := values[0], values[0]
+    SEQ i = 1 FOR (SIZE values) - 1
+      SEQ
+        min (least, values[i], least)
+        max (most, values[i], most)
+    screen ! BYTE (least + (INT '0'))
+    screen ! BYTE (most + (INT '0'))
+    screen ! '*n'
+:
+"#;
+
+const LIBRARY_MULTIPLEXER: &str =
+    r#"-- To paste: a multiplexer, which hands on what comes by any of its channels, with the channel's number. It ends when an end has come
+-- by each of them.
+--
+-- Keyboard: nothing
+-- Screen:
+--   1a0a0b1b2a2b
+-- Ends: ended
+
+PROTOCOL letters
+  CASE
+    next; BYTE
+    end
+:
+
+PROTOCOL numbered
+  CASE
+    from; INT; BYTE
+    end
+:
+
+-- Takes from whichever channel has something, until each has had its end.
+PROC multiplexer ([]CHAN OF letters in, CHAN OF numbered out)
+  [SIZE in]BOOL closed:
+  INT left:
+  SEQ
+    left := SIZE in
+    WHILE left > 0
+      BYTE letter:
+      ALT i = 0 FOR SIZE in
+        (NOT closed[i]) & in[i] ? CASE
+          next; letter
+            out ! from; i; letter
+          end
+            closed[i], left := TRUE, left - 1
+    out ! end
+:
+
+PROC source (CHAN OF letters out)
+  SEQ
+    out ! next; 'a'
+    out ! next; 'b'
+    out ! end
+:
+
+VAL sources IS 3:
+
+PROC main (CHAN OF BYTE keyboard, screen)
+  [sources]CHAN OF letters link:
+  CHAN OF numbered joined:
+  PAR
+    PAR i = 0 FOR sources
+      source (link[i])
+    multiplexer (link, joined)
+    BOOL going:
+    SEQ
+      going := TRUE
+      WHILE going
+        INT number:
+        BYTE letter:
+        joined ? CASE
+          from; number; letter
+            SEQ
+              screen ! BYTE (number + (INT '0'))
+              screen ! letter
+          end
+            going := FALSE
+      screen ! '*n'
+:
+"#;
+
+const LIBRARY_READING: &str =
+    r#"-- To paste: `in.byte` inputs a byte of the keyboard or finds its end, `in.number` a number in decimal, and `in.word` what stands
+-- between two blanks. They are for the keyboard itself, whose bytes are all there before the run; on another channel the end would
+-- be found where the sender is only late.
+--
+-- Keyboard:
+--   add 12 and -30
+-- Screen:
+--   add -18
+-- Ends: ended
+
+-- Inputs the next byte; `going` says whether there was one.
+PROC in.byte (CHAN OF BYTE keyboard, BYTE key, BOOL going)
+  PRI ALT
+    keyboard ? key
+      going := TRUE
+    TRUE & SKIP
+      going := FALSE
+:
+
+-- Inputs a number, with `-` right before it or not, and the byte behind it; what stands before it is passed over. Where the
+-- keyboard's end comes first, `found` is FALSE. A number that is no INT is the fault ARITH.
+PROC in.number (CHAN OF BYTE keyboard, INT number, BOOL found)
+  BYTE key:
+  BOOL going, negative:
+  SEQ
+    number, found, going, negative := 0, FALSE, TRUE, FALSE
+    WHILE going
+      SEQ
+        in.byte (keyboard, key, going)
+        IF
+          going AND ((key >= '0') AND (key <= '9'))
+            number, found := (number * 10) - ((INT key) - (INT '0')), TRUE
+          found
+            going := FALSE
+          TRUE
+            negative := key = '-'
+    IF
+      negative
+        SKIP
+      TRUE
+        number := -number
+:
+
+-- Inputs a word, which ends before a blank, the end of a line or of the keyboard, and the byte behind it; blanks before it are passed
+-- over. `length` says how many letters it has, 0 where there is no word any more. Of a longer one than there is room for, the first
+-- letters are kept.
+PROC in.word (CHAN OF BYTE keyboard, []BYTE word, INT length)
+  BYTE key:
+  BOOL going:
+  SEQ
+    length, going := 0, TRUE
+    WHILE going
+      SEQ
+        in.byte (keyboard, key, going)
+        IF
+          going AND (key > ' ')
+            IF
+              length < (SIZE word)
+                SEQ
+                  word[length] := key
+                  length := length + 1
+              TRUE
+                SKIP
+          length > 0
+            going := FALSE
+          TRUE
+            SKIP
+:
+
+-- Outputs a number in decimal, as in `writing.occ`.
+PROC out.number (VAL INT number, CHAN OF BYTE out)
+  [10]BYTE digits:
+  INT left, count:
+  SEQ
+    left, count := number, 1
+    IF
+      number < 0
+        out ! '-'
+      TRUE
+        left := -number
+    digits[0] := BYTE ((INT '0') - (left \ 10))
+    left := left / 10
+    WHILE left <> 0
+      SEQ
+        digits[count] := BYTE ((INT '0') - (left \ 10))
+        left, count := left / 10, count + 1
+    SEQ i = 1 FOR count
+      out ! digits[count - i]
+:
+
+PROC main (CHAN OF BYTE keyboard, screen)
+  [20]BYTE word:
+  INT length, number, total:
+  BOOL found:
+  SEQ
+    in.word (keyboard, word, length)
+    SEQ i = 0 FOR length
+      screen ! word[i]
+    screen ! ' '
+    total, found := 0, TRUE
+    WHILE found
+      SEQ
+        in.number (keyboard, number, found)
+        total := total + number
+    out.number (total, screen)
+    screen ! '*n'
+:
+"#;
+
+const LIBRARY_WRITING: &str =
+    r#"-- To paste: `out.string` outputs a string, `out.line` a string and the end of its line, and `out.number` a number in decimal.
+--
+-- Keyboard: nothing
+-- Screen:
+--   from -2147483648 to 2147483647
+--   that is all
+-- Ends: ended
+
+-- Outputs the letters of a string, whatever its length.
+PROC out.string (VAL []BYTE letters, CHAN OF BYTE out)
+  SEQ i = 0 FOR SIZE letters
+    out ! letters[i]
+:
+
+-- Outputs the letters of a string, and the end of the line.
+PROC out.line (VAL []BYTE letters, CHAN OF BYTE out)
+  SEQ
+    SEQ i = 0 FOR SIZE letters
+      out ! letters[i]
+    out ! '*n'
+:
+
+-- Outputs a number in decimal, with `-` before it where it is below 0. The digits are found from the right, of the number below 0,
+-- since the least INT has no opposite.
+PROC out.number (VAL INT number, CHAN OF BYTE out)
+  [10]BYTE digits:
+  INT left, count:
+  SEQ
+    left, count := number, 1
+    IF
+      number < 0
+        out ! '-'
+      TRUE
+        left := -number
+    digits[0] := BYTE ((INT '0') - (left \ 10))
+    left := left / 10
+    WHILE left <> 0
+      SEQ
+        digits[count] := BYTE ((INT '0') - (left \ 10))
+        left, count := left / 10, count + 1
+    SEQ i = 1 FOR count
+      out ! digits[count - i]
+:
+
+PROC main (CHAN OF BYTE keyboard, screen)
+  SEQ
+    out.string ("from ", screen)
+    out.number (MOSTNEG INT, screen)
+    out.string (" to ", screen)
+    out.number (MOSTPOS INT, screen)
+    screen ! '*n'
+    out.line ("that is all", screen)
 :
 "#;
 
@@ -1687,7 +2260,7 @@ pub(crate) static IN_PIPELINES: [Run; 7] = [
     },
 ];
 
-pub(crate) static IN_SELECTION: [Run; 8] = [
+pub(crate) static IN_SELECTION: [Run; 9] = [
     Run {
         source: BUFFER,
         title: "Screen",
@@ -1820,6 +2393,18 @@ pub(crate) static IN_SELECTION: [Run; 8] = [
 0 0
 "#,
         screen: "0a0a1b1b2c2c3d3d\n",
+        ending: "ended",
+    },
+    Run {
+        source: NUMBERED,
+        title: "Screen",
+        keyboard: r#"a line
+and another
+"#,
+        choices: "",
+        screen: r#"1 a line
+2 and another
+"#,
         ending: "ended",
     },
     Run {
@@ -2046,7 +2631,15 @@ pub(crate) static IN_SHARING: [Run; 6] = [
     },
 ];
 
-pub(crate) static IN_FAULTS: [Run; 11] = [
+pub(crate) static IN_FAULTS: [Run; 14] = [
+    Run {
+        source: BUTLER,
+        title: "Screen",
+        keyboard: "",
+        choices: "",
+        screen: "all have eaten\n",
+        ending: "ended",
+    },
     Run {
         source: COLOURS,
         title: "Screen",
@@ -2172,6 +2765,58 @@ pub(crate) static IN_FAULTS: [Run; 11] = [
         ending: "stopped ARITH line 21",
     },
     Run {
+        source: DOOR,
+        title: "Screen",
+        keyboard: "",
+        choices: "",
+        screen: "(())\n",
+        ending: "ended",
+    },
+    Run {
+        source: DOOR,
+        title: "By door.choices",
+        keyboard: "",
+        choices: r#"0 0
+1 0
+0 0
+1 0
+2 0
+1 0
+2 0
+2 0
+1 0
+1 0
+2 0
+2 0
+2 0
+1 0
+2 0
+2 0
+2 0
+1 0
+0 0
+1 0
+0 0
+1 0
+1 0
+0 0
+0 0
+1 0
+1 0
+1 0
+0 0
+1 0
+1 0
+1 0
+1 0
+0 0
+0 0
+0 0
+"#,
+        screen: "()()\n",
+        ending: "ended",
+    },
+    Run {
         source: EMBRACE,
         title: "Screen",
         keyboard: "",
@@ -2242,6 +2887,59 @@ pub(crate) static IN_FAULTS: [Run; 11] = [
 0 1
 "#,
         screen: "120\n",
+        ending: "ended",
+    },
+];
+
+pub(crate) static IN_LIBRARY: [Run; 6] = [
+    Run {
+        source: LIBRARY_BUFFER,
+        title: "Screen",
+        keyboard: "",
+        choices: "",
+        screen: "01234567\n",
+        ending: "ended",
+    },
+    Run {
+        source: LIBRARY_BUTLER,
+        title: "Screen",
+        keyboard: "",
+        choices: "",
+        screen: "102\n",
+        ending: "ended",
+    },
+    Run {
+        source: LIBRARY_EXTREMES,
+        title: "Screen",
+        keyboard: "",
+        choices: "",
+        screen: "38\n",
+        ending: "ended",
+    },
+    Run {
+        source: LIBRARY_MULTIPLEXER,
+        title: "Screen",
+        keyboard: "",
+        choices: "",
+        screen: "1a0a0b1b2a2b\n",
+        ending: "ended",
+    },
+    Run {
+        source: LIBRARY_READING,
+        title: "Screen",
+        keyboard: "add 12 and -30\n",
+        choices: "",
+        screen: "add -18\n",
+        ending: "ended",
+    },
+    Run {
+        source: LIBRARY_WRITING,
+        title: "Screen",
+        keyboard: "",
+        choices: "",
+        screen: r#"from -2147483648 to 2147483647
+that is all
+"#,
         ending: "ended",
     },
 ];

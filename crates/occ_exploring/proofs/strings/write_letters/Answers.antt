@@ -1,5 +1,5 @@
 use Rattle.std.proofs.Common.{refl}
-use Rattle.occ_exploring.specs.Strings.{letter, letters}
+use Rattle.occ_exploring.specs.Strings.{letters}
 use Rattle.occ_exploring.proofs.Growth.{text_step}
 use Rattle.occ_exploring.proofs.strings.write_letters.Goals as goal
 

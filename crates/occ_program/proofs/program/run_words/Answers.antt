@@ -1,21 +1,25 @@
 use Rattle.std.proofs.Common.{subst, sym}
+use Rattle.std.specs.Prelude.{IfErr}
 use Rattle.occ_choices.specs.Plans.{choices_of}
-use Rattle.occ_program.specs.Coming.{CameToBy, workers_asked}
-use Rattle.occ_program.proofs.Statuses.{came_to_both, crew_asked}
+use Rattle.occ_play.specs.Playing.{Refuses}
+use Rattle.occ_program.specs.Coming.{CameToBy, options_in, workers_asked}
+use Rattle.occ_program.proofs.Statuses.{came_to_both, crew_asked, either_refuses}
 use Rattle.occ_program.proofs.program.run_words.Goals as goal
 
 pub returns-clause-came : goal.returns-clause-came
 returns-clause-came g c =
-    let inputs = c.in_ok-inputs.inputs in
+    let inputs = c.take_seed.new.inputs in
     let words = c.args.words.now in
     let workers = workers_asked words.watch words.workers words.choices in
-    let came = came_to_both workers words inputs.source.items inputs.keyboard.items (choices_of inputs.plan) c.in_ok-drawn.drawn c.in_ok-played.played (crew_asked words.watch words.workers words.choices words.workers_in_range) c.in_ok-drawn.ensures c.in_ok-played.ensures in
+    let refused = either_refuses (Refuses (options_in words) inputs.source.items) c.in_ok-traced.traced c.in_ok-drawn.drawn c.in_ok-traced.ensures.refused c.in_ok-drawn.ensures.refused in
+    let both = subst (λ d. IfErr d (Refuses (options_in words) inputs.source.items)) (sym c.and.ensures) refused in
+    let came = came_to_both workers words inputs.source.items inputs.keyboard.items (choices_of inputs.plan) c.and.result c.in_ok-played.played (crew_asked words.watch words.workers words.choices words.workers_in_range) both c.in_ok-played.ensures in
     record {
       source = inputs.source.items;
       keyboard = inputs.keyboard.items;
       plan = inputs.plan;
-      asked = c.in_ok-inputs.ensures.asked;
-      played = c.and.result;
-      came = subst (CameToBy workers words inputs.source.items inputs.keyboard.items (choices_of inputs.plan)) (sym c.and.ensures) came;
+      asked = c.in_ok-take_seed.ensures;
+      played = c.and-2.result;
+      came = subst (CameToBy workers words inputs.source.items inputs.keyboard.items (choices_of inputs.plan)) (sym c.and-2.ensures) came;
       is = c.told.ensures;
     }

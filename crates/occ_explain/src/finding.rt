@@ -1,0 +1,220 @@
+//! What is found out about a refusal: a place, what is wrong there, and how it is mended.
+
+use crate::causes::cause_of;
+use crate::class::Class;
+use crate::context::{line_index, start_of};
+use crate::hints::Met;
+use crate::levels::{level_finding, missing_finding};
+use crate::names::name_finding;
+use crate::odd::odd_finding;
+use crate::refusal::Refusal;
+use crate::saying::{between, leaving_text};
+use crate::scan::{Line, Text, Word};
+use crate::types::types_text;
+use crate::walk::first_leaving;
+use std::alloc::{AllocError, Global};
+
+/// A place behind so many bytes of a physical line.
+#[derive(Clone, Copy)]
+pub(crate) struct Spot {
+    pub(crate) line: u32,
+    pub(crate) before: usize,
+}
+
+/// What is found out about a refusal.
+#[derive(Drop)]
+pub(crate) struct Finding {
+    pub(crate) spot: Spot,
+    pub(crate) wrong: Vec<u8>,
+    pub(crate) hint: Vec<u8>,
+}
+
+/// Where a word begins; behind the last word, where that ends.
+pub(crate) fn spot_at(words: &[Word<'_>], at: usize) -> Spot {
+    if let Some(word) = words.get(at) {
+        return Spot {
+            line: word.line,
+            before: word.before,
+        };
+    }
+    match words.last() {
+        Some(word) => Spot {
+            line: word.line,
+            before: word.before.saturating_add(word.bytes.len()),
+        },
+        None => Spot { line: 1, before: 0 },
+    }
+}
+
+/// The number of words up to the first of this class, and all where there is none.
+pub(crate) fn index_of(words: &[Word<'_>], class: Class) -> usize {
+    for (i, word) in words.iter().enumerate() {
+        if word.class == class {
+            return i;
+        }
+    }
+    words.len()
+}
+
+/// What is found out about a refusal of a text.
+pub(crate) fn finding_of(
+    alloc: Global,
+    text: &Text<'_>,
+    refusal: &Refusal<'_>,
+) -> Result<Finding, AllocError> {
+    let Some(index) = line_index(text, refusal) else {
+        return plain(
+            alloc,
+            Spot {
+                line: refusal.line,
+                before: 0,
+            },
+            refusal.number,
+            b"",
+        );
+    };
+    match refusal.number {
+        2 | 4 | 5 | 6 => odd_finding(alloc, text.words_at(index), refusal.number),
+        20 => unexpected(alloc, text, index),
+        21 => level_finding(alloc, text, index),
+        22 => missing_finding(alloc, text, index),
+        30 | 31 | 50 | 51 | 52 => name_finding(alloc, text, index, refusal),
+        _ => typed(alloc, text, index, refusal.number),
+    }
+}
+
+/// The cause of a refusal, and a hint.
+pub(crate) fn plain(
+    alloc: Global,
+    spot: Spot,
+    number: u32,
+    hint: &[u8],
+) -> Result<Finding, AllocError> {
+    let wrong = Vec::from_slice(alloc, cause_of(number).as_bytes())?;
+    let hint = Vec::from_slice(alloc, hint)?;
+    Ok(Finding { spot, wrong, hint })
+}
+
+/// A finding whose text has a word between two others.
+pub(crate) fn told_as(
+    alloc: Global,
+    spot: Spot,
+    before: &str,
+    word: &[u8],
+    after: &str,
+    hint: &[u8],
+) -> Result<Finding, AllocError> {
+    let wrong = between(alloc, before, word, after)?;
+    let hint = Vec::from_slice(alloc, hint)?;
+    Ok(Finding { spot, wrong, hint })
+}
+
+/// A semicolon that ends its physical line, before the word in this place.
+fn semicolon_before(words: &[Word<'_>], at: usize) -> Option<usize> {
+    let mut last = words.get(at)?.line;
+    for i in (0..at).rev() {
+        let word = words.get(i)?;
+        if word.line < last && word.class == Class::Semicolon {
+            return Some(i);
+        }
+        last = word.line;
+    }
+    None
+}
+
+/// A line that leaves the grammar.
+fn unexpected(alloc: Global, text: &Text<'_>, index: usize) -> Result<Finding, AllocError> {
+    let words = text.words_at(index);
+    let start = start_of(text, index);
+    let Some(mut leaving) = first_leaving(alloc, words, start)? else {
+        return plain(alloc, spot_at(words, 0), 20, b"");
+    };
+    if leaving.at == 0 {
+        leaving.wanted = Some(start);
+    }
+    if let Some(at) = semicolon_before(words, leaving.at) {
+        return told_as(
+            alloc,
+            spot_at(words, at),
+            "`",
+            b";",
+            "` at the end of a line, which then goes on in the next one",
+            b"the parts of a SEQ stand in lines of their own, with nothing between them",
+        );
+    }
+    let wrong = leaving_text(alloc, words, &leaving)?;
+    let met = Met {
+        words,
+        start,
+        leaving,
+    };
+    let hint = met.hint_text(alloc)?;
+    Ok(Finding {
+        spot: spot_at(words, leaving.at),
+        wrong,
+        hint,
+    })
+}
+
+/// Where a refusal of types, kinds, constants or actuals points to, as far as the words tell.
+fn typed_at(words: &[Word<'_>], number: u32) -> usize {
+    let class = match number {
+        33 => Class::Assign,
+        34 | 35 => Class::For,
+        36 => Class::OpenBracket,
+        39 | 40 => Class::OpenParen,
+        37 | 38 => return sent_at(words),
+        42 => Class::Proc,
+        _ => return 0,
+    };
+    let at = index_of(words, class);
+    if at < words.len() {
+        at.saturating_add(1)
+    } else {
+        0
+    }
+}
+
+/// The first item of an output or an input.
+fn sent_at(words: &[Word<'_>]) -> usize {
+    let output = index_of(words, Class::Exclamation);
+    let at = output.min(index_of(words, Class::Question));
+    if at < words.len() {
+        at.saturating_add(1)
+    } else {
+        0
+    }
+}
+
+/// What is said first of a refusal of types, kinds, constants or actuals.
+fn typed_hint(words: &[Word<'_>], number: u32) -> &'static str {
+    let has_text = index_of(words, Class::Text) < words.len();
+    let has_sides = index_of(words, Class::Assign) < words.len();
+    match number {
+        32 => "a value named by VAL, a VAL formal and an index are never set",
+        33 if has_text && has_sides => {
+            "a string of n letters is a [n]BYTE, and both sides have one size"
+        }
+        33 if has_text => "arrays are not compared: compare their components",
+        34 =>
+            "the count of a replicated PAR, a size and a constant of a CASE are known before the run",
+        37 if has_text =>
+            "a string is an array of bytes: to a CHAN OF BYTE it goes out byte by byte, and one letter is written 'a'",
+        41 => "a subscript may not read what the same list sets: assign one after the other",
+        42 =>
+            "the last PROC is the main one, and has one to three formals: (CHAN OF BYTE keyboard, screen, error)",
+        _ => "",
+    }
+}
+
+/// A refusal of types, kinds, constants or actuals.
+fn typed(alloc: Global, text: &Text<'_>, index: usize, number: u32) -> Result<Finding, AllocError> {
+    let words = text.words_at(index);
+    let spot = spot_at(words, typed_at(words, number));
+    let hint = typed_hint(words, number);
+    if !matches!(number, 33 | 37 | 39) || !hint.is_empty() {
+        return plain(alloc, spot, number, hint.as_bytes());
+    }
+    let types = types_text(alloc, text, index)?;
+    plain(alloc, spot, number, types.as_slice())
+}

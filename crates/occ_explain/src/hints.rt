@@ -1,0 +1,526 @@
+//! How a line that leaves the grammar is mended: hints for what people write who know other languages, or the rest of
+//! occam 2.
+
+use crate::class::{Class, class_of};
+use crate::grammar::Part;
+use crate::saying::{between, is_operator, joined, told};
+use crate::scan::Word;
+use crate::walk::{Leaving, class_at};
+use std::alloc::{AllocError, Global};
+
+/// Something that has to hold of a place where a line leaves the grammar.
+pub(crate) enum When {
+    /// The line begins with this part.
+    Start(Part),
+    /// This part is wanted.
+    Wanted(Part),
+    /// The line has to end here.
+    Ends,
+    /// Something is over here, as a whole expression.
+    Over,
+    /// The first word.
+    First(&'static [u8]),
+    /// The word before.
+    Before(&'static [u8]),
+    BeforeIs(Class),
+    /// The word before the one before.
+    EarlierIs(Class),
+    /// The word that is met; none at the line's end.
+    Met(&'static [u8]),
+    MetIs(Class),
+    /// The word behind it.
+    Next(&'static [u8]),
+    /// Any word of the line.
+    Somewhere(&'static [u8]),
+}
+
+/// A hint, and all that has to hold where it is given.
+pub(crate) struct Hint {
+    pub(crate) when: &'static [When],
+    pub(crate) says: &'static str,
+}
+
+/// What this profile leaves out, by the word that shows it.
+static LEFT_OUT: [Hint; 12] = [
+    Hint {
+        when: &[When::Somewhere(b"TIMER")],
+        says: "this profile of occam 2 leaves timers out",
+    },
+    Hint {
+        when: &[When::Somewhere(b"AFTER"), When::Somewhere(b"?")],
+        says: "this profile of occam 2 leaves timers out",
+    },
+    Hint {
+        when: &[When::Somewhere(b"REAL32")],
+        says: "this profile of occam 2 leaves REAL32 out: numbers are INT and BYTE",
+    },
+    Hint {
+        when: &[When::Somewhere(b"REAL64")],
+        says: "this profile of occam 2 leaves REAL64 out: numbers are INT and BYTE",
+    },
+    Hint {
+        when: &[When::Somewhere(b"INT16")],
+        says: "this profile of occam 2 leaves INT16 out: an INT has 32 bits",
+    },
+    Hint {
+        when: &[When::Somewhere(b"INT32")],
+        says: "this profile of occam 2 leaves INT32 out: an INT has 32 bits",
+    },
+    Hint {
+        when: &[When::Somewhere(b"INT64")],
+        says: "this profile of occam 2 leaves INT64 out: an INT has 32 bits",
+    },
+    Hint {
+        when: &[When::Somewhere(b"FUNCTION")],
+        says: "this profile of occam 2 leaves FUNCTION out: write a PROC that sets a formal",
+    },
+    Hint {
+        when: &[When::Somewhere(b"VALOF")],
+        says: "this profile of occam 2 leaves VALOF and RESULT out: write a PROC that sets a formal",
+    },
+    Hint {
+        when: &[When::Somewhere(b"RETYPES")],
+        says: "this profile of occam 2 leaves RETYPES out",
+    },
+    Hint {
+        when: &[When::Somewhere(b"FROM")],
+        says: "this profile of occam 2 leaves segments of arrays out: copy the components by a replicated SEQ",
+    },
+    Hint {
+        when: &[When::Somewhere(b"PORT")],
+        says: "this profile of occam 2 leaves ports out",
+    },
+];
+
+static LEFT_OUT_TOO: [Hint; 9] = [
+    Hint {
+        when: &[When::Somewhere(b"PLACED")],
+        says: "this profile of occam 2 leaves PLACED PAR out",
+    },
+    Hint {
+        when: &[When::Somewhere(b"PLACE")],
+        says: "this profile of occam 2 leaves PLACE out",
+    },
+    Hint {
+        when: &[When::Somewhere(b"ANY")],
+        says: "this profile of occam 2 leaves ANY out: name the protocol",
+    },
+    Hint {
+        when: &[When::Before(b"PRI"), When::Met(b"PAR")],
+        says: "this profile of occam 2 leaves PRI PAR out: write PAR",
+    },
+    Hint {
+        when: &[When::First(b"INITIAL")],
+        says: "there is no INITIAL: declare the variable, and assign to it in a SEQ",
+    },
+    Hint {
+        when: &[When::First(b"VAR")],
+        says: "a variable is declared with its type: INT x:",
+    },
+    Hint {
+        when: &[When::Met(b"["), When::BeforeIs(Class::Text)],
+        says: "a string has no subscript: name it first, by VAL s IS \"..\":",
+    },
+    Hint {
+        when: &[When::Wanted(Part::Expression), When::Met(b"[")],
+        says: "this profile of occam 2 leaves lists of values in brackets out: assign to the components one by one, or name a string",
+    },
+    Hint {
+        when: &[When::Met(b"IS")],
+        says: "this profile of occam 2 leaves abbreviations of variables out: VAL x IS .. names a value",
+    },
+];
+
+/// Signs of other languages.
+static SIGNS: [Hint; 12] = [
+    Hint {
+        when: &[When::Met(b"/"), When::Next(b"/")],
+        says: "a comment begins with two hyphens: --",
+    },
+    Hint {
+        when: &[When::Before(b"="), When::Met(b"=")],
+        says: "equal is written =",
+    },
+    Hint {
+        when: &[When::Before(b"="), When::Met(b">")],
+        says: "greater or equal is written >=",
+    },
+    Hint {
+        when: &[When::Before(b"="), When::Met(b"<")],
+        says: "less or equal is written <=",
+    },
+    Hint {
+        when: &[When::Met(b"!"), When::Next(b"=")],
+        says: "unequal is written <>",
+    },
+    Hint {
+        when: &[When::Met(b"&"), When::Over],
+        says: "both is written AND",
+    },
+    Hint {
+        when: &[When::Before(b"+"), When::Met(b"+")],
+        says: "one more is written x := x + 1",
+    },
+    Hint {
+        when: &[When::Met(b"+"), When::Next(b"=")],
+        says: "one more is written x := x + 1",
+    },
+    Hint {
+        when: &[When::Met(b"MOD")],
+        says: "the remainder is written \\ or REM",
+    },
+    Hint {
+        when: &[When::Start(Part::Choice), When::Met(b":=")],
+        says: "a comparison is written =",
+    },
+    Hint {
+        when: &[When::Wanted(Part::NamedProcess), When::Met(b"=")],
+        says: "an assignment is written :=",
+    },
+    Hint {
+        when: &[When::Wanted(Part::Placed), When::Met(b"=")],
+        says: "an assignment is written :=",
+    },
+];
+
+static CONSTRUCTS: [Hint; 13] = [
+    Hint {
+        when: &[When::Start(Part::Choice), When::Met(b"ELSE")],
+        says: "the last choice of an IF is TRUE: ELSE stands in a CASE alone",
+    },
+    Hint {
+        when: &[When::First(b"IF")],
+        says: "each condition of an IF stands in a line of its own below it, and its process below that",
+    },
+    Hint {
+        when: &[When::Start(Part::Arm), When::Met(b"SKIP")],
+        says: "a guard that is always ready is written TRUE & SKIP",
+    },
+    Hint {
+        when: &[When::Wanted(Part::Guarded), When::Met(b"!")],
+        says: "an arm waits for an input: an output can't be a guard",
+    },
+    Hint {
+        when: &[When::Wanted(Part::Guarded)],
+        says: "a guard is an input, or a condition, & and an input or SKIP",
+    },
+    Hint {
+        when: &[When::Wanted(Part::ForWord)],
+        says: "a replicator has a base and a count: i = 0 FOR 10",
+    },
+    Hint {
+        when: &[When::Wanted(Part::Top), When::Met(b":")],
+        says: "there is nothing left that a colon would end: a PROC, and a PROTOCOL with tags, has one",
+    },
+    Hint {
+        when: &[When::Wanted(Part::Top)],
+        says: "processes stand within a PROC, two spaces deeper than it",
+    },
+    Hint {
+        when: &[When::Wanted(Part::NamedProcess), When::MetIs(Class::End)],
+        says: "a call has brackets, also where it has no actuals: f ()",
+    },
+    Hint {
+        when: &[When::Wanted(Part::NamedProcess)],
+        says: "an assignment is x := y, an input c ? x, an output c ! x, a call f (x)",
+    },
+    Hint {
+        when: &[When::Wanted(Part::CloseRound), When::MetIs(Class::End)],
+        says: "a bracket is not closed",
+    },
+    Hint {
+        when: &[When::Ends, When::Met(b")")],
+        says: "no bracket is open here",
+    },
+    Hint {
+        when: &[When::Over, When::Met(b":")],
+        says: "no colon stands behind an expression here",
+    },
+];
+
+static DECLARATIONS: [Hint; 9] = [
+    Hint {
+        when: &[When::Wanted(Part::MoreNames), When::MetIs(Class::End)],
+        says: "a declaration ends with a colon",
+    },
+    Hint {
+        when: &[When::Wanted(Part::MoreNames), When::Met(b":=")],
+        says: "a declaration gives no value: assign in a SEQ below it",
+    },
+    Hint {
+        when: &[When::Wanted(Part::ColonWord), When::MetIs(Class::End)],
+        says: "a declaration ends with a colon",
+    },
+    Hint {
+        when: &[When::Wanted(Part::MoreItems), When::MetIs(Class::End)],
+        says: "a PROTOCOL ends with a colon",
+    },
+    Hint {
+        when: &[When::Wanted(Part::IsWord), When::Met(b"=")],
+        says: "a value is named by IS: VAL INT n IS 3:",
+    },
+    Hint {
+        when: &[When::Wanted(Part::OfWord)],
+        says: "a channel is declared as CHAN OF BYTE, or of another type or protocol",
+    },
+    Hint {
+        when: &[When::Wanted(Part::MoreFormals), When::Met(b"?")],
+        says: "this profile of occam 2 has no direction marks: leave ? out",
+    },
+    Hint {
+        when: &[When::Wanted(Part::MoreFormals), When::Met(b"!")],
+        says: "this profile of occam 2 has no direction marks: leave ! out",
+    },
+    Hint {
+        when: &[When::Wanted(Part::Expression), When::Met(b"]")],
+        says: "a declared array has its size: [10]BYTE s:",
+    },
+];
+
+static OPERATORS: [Hint; 6] = [
+    Hint {
+        when: &[When::Wanted(Part::Operand), When::MetIs(Class::Minus)],
+        says: "behind an operator a sign stands in brackets: 3 * (-1)",
+    },
+    Hint {
+        when: &[When::Wanted(Part::Operand), When::MetIs(Class::Monadic)],
+        says: "behind an operator one with a single operand stands in brackets: a AND (NOT b)",
+    },
+    Hint {
+        when: &[When::Over, When::EarlierIs(Class::Monadic)],
+        says: "an operator with a single operand stands in brackets before another: (SIZE b) + 1",
+    },
+    Hint {
+        when: &[When::Over, When::EarlierIs(Class::Primitive)],
+        says: "a conversion stands in brackets before an operator: (INT b) + 1",
+    },
+    Hint {
+        when: &[When::Over, When::MetIs(Class::And)],
+        says: "operators have no precedence: put each side of AND into brackets",
+    },
+    Hint {
+        when: &[When::Over, When::MetIs(Class::Or)],
+        says: "operators have no precedence: put each side of OR into brackets",
+    },
+];
+
+/// The last hint that is tried where an operator follows an expression.
+const NO_PRECEDENCE: &str = "operators have no precedence: write (a + b) * c or a + (b * c)";
+
+/// A place where a line leaves the grammar.
+#[derive(Clone, Copy)]
+pub(crate) struct Met<'a> {
+    pub(crate) words: &'a [Word<'a>],
+    pub(crate) start: Part,
+    pub(crate) leaving: Leaving,
+}
+
+impl Met<'_> {
+    fn spells(&self, at: usize, spelling: &[u8]) -> bool {
+        match self.words.get(at) {
+            Some(word) => word.bytes == spelling,
+            None => false,
+        }
+    }
+
+    /// Whether the word so many places before is of this class.
+    fn is_before(&self, places: usize, class: Class) -> bool {
+        let at = self.leaving.at;
+        at >= places && class_at(self.words, at - places) == class
+    }
+
+    fn is_somewhere(&self, spelling: &[u8]) -> bool {
+        for word in self.words {
+            if word.bytes == spelling {
+                return true;
+            }
+        }
+        false
+    }
+
+    fn holds(&self, when: &When) -> bool {
+        let at = self.leaving.at;
+        match when {
+            When::Start(part) => self.start == *part,
+            When::Wanted(part) => self.leaving.wanted == Some(*part),
+            When::Ends => self.leaving.wanted.is_none(),
+            When::Over => self.leaving.over.is_some(),
+            When::First(spelling) => self.spells(0, spelling),
+            When::Before(spelling) => at > 0 && self.spells(at - 1, spelling),
+            When::BeforeIs(class) => self.is_before(1, *class),
+            When::EarlierIs(class) => self.is_before(2, *class),
+            When::Met(spelling) => self.spells(at, spelling),
+            When::MetIs(class) => class_at(self.words, at) == *class,
+            When::Next(spelling) => self.spells(at.saturating_add(1), spelling),
+            When::Somewhere(spelling) => self.is_somewhere(spelling),
+        }
+    }
+
+    fn hint_in(&self, table: &'static [Hint]) -> Option<&'static str> {
+        for hint in table {
+            if hint.when.iter().all(|when| self.holds(when)) {
+                return Some(hint.says);
+            }
+        }
+        None
+    }
+
+    /// The hint that a table has for this place.
+    fn listed_hint(&self) -> &'static str {
+        for table in [
+            LEFT_OUT.as_slice(),
+            LEFT_OUT_TOO.as_slice(),
+            SIGNS.as_slice(),
+            CONSTRUCTS.as_slice(),
+            DECLARATIONS.as_slice(),
+            OPERATORS.as_slice(),
+        ] {
+            if let Some(hint) = self.hint_in(table) {
+                return hint;
+            }
+        }
+        if self.leaving.over.is_some() && is_operator(class_at(self.words, self.leaving.at)) {
+            NO_PRECEDENCE
+        } else {
+            ""
+        }
+    }
+
+    /// The bytes of a word, none where there is none.
+    fn bytes_at(&self, at: usize) -> &[u8] {
+        match self.words.get(at) {
+            Some(word) => told(word.bytes),
+            None => b"",
+        }
+    }
+
+    /// Whether AND or OR is met.
+    fn meets_and_or(&self) -> bool {
+        matches!(
+            class_at(self.words, self.leaving.at),
+            Class::And | Class::Or
+        )
+    }
+
+    /// Whether the words before and behind are single operands: `1 + 2` before and `3` behind.
+    fn joins_single_operands(&self) -> bool {
+        let at = self.leaving.at;
+        let joins = match self.leaving.over {
+            Some(Part::Whole) => !self.meets_and_or(),
+            over => over.is_some(),
+        };
+        if at < 3 || !joins {
+            return false;
+        }
+        let before = if at > 3 {
+            class_at(self.words, at - 4)
+        } else {
+            Class::End
+        };
+        is_operator(class_at(self.words, at))
+            && is_single(class_at(self.words, at - 3))
+            && is_operator(class_at(self.words, at - 2))
+            && is_single(class_at(self.words, at - 1))
+            && is_single(class_at(self.words, at.saturating_add(1)))
+            && !is_operator(before)
+            && !matches!(
+                class_at(self.words, at.saturating_add(2)),
+                Class::OpenBracket | Class::OpenParen
+            )
+    }
+
+    /// Both ways to put brackets where an operator follows an expression of single words.
+    fn bracketed(&self, alloc: Global) -> Result<Vec<u8>, AllocError> {
+        let at = self.leaving.at;
+        let a = self.bytes_at(at.saturating_sub(3));
+        let first = self.bytes_at(at.saturating_sub(2));
+        let b = self.bytes_at(at.saturating_sub(1));
+        let second = self.bytes_at(at);
+        let c = self.bytes_at(at.saturating_add(1));
+        let space = b" ".as_slice();
+        joined(
+            alloc,
+            &[
+                b"operators have no precedence: write (".as_slice(),
+                a,
+                space,
+                first,
+                space,
+                b,
+                b") ".as_slice(),
+                second,
+                space,
+                c,
+                b" or ".as_slice(),
+                a,
+                space,
+                first,
+                b" (".as_slice(),
+                b,
+                space,
+                second,
+                space,
+                c,
+                b")".as_slice(),
+            ],
+        )
+    }
+
+    /// The reserved word that a name of the line is in small letters: the name that is met, the one before it, or the first.
+    fn small_letters(&self, alloc: Global) -> Result<Option<Vec<u8>>, AllocError> {
+        for at in [self.leaving.at, self.leaving.at.saturating_sub(1), 0] {
+            if class_at(self.words, at) != Class::Name {
+                continue;
+            }
+            let capitals = in_capitals(alloc, self.bytes_at(at))?;
+            if class_of(capitals.as_slice()) != Class::Name {
+                return Ok(Some(capitals));
+            }
+        }
+        Ok(None)
+    }
+
+    /// Whether a reserved word stands where a new name is wanted.
+    fn names_reserved(&self) -> bool {
+        self.leaving.wanted == Some(Part::NewName)
+            && class_of(self.bytes_at(self.leaving.at)) != Class::Name
+    }
+
+    /// The hint for this place, and nothing where there is none.
+    pub(crate) fn hint_text(&self, alloc: Global) -> Result<Vec<u8>, AllocError> {
+        if let Some(capitals) = self.small_letters(alloc)? {
+            return between(
+                alloc,
+                "reserved words are written in capitals: ",
+                capitals.as_slice(),
+                "",
+            );
+        }
+        let listed = self.listed_hint();
+        if listed.is_empty() && self.names_reserved() {
+            let word = self.bytes_at(self.leaving.at);
+            return between(alloc, "`", word, "` is a reserved word, and no name");
+        }
+        if self.joins_single_operands() && listed.starts_with("operators have") {
+            return self.bracketed(alloc);
+        }
+        between(alloc, listed, b"", "")
+    }
+}
+
+/// Whether a word is an operand by itself.
+fn is_single(class: Class) -> bool {
+    matches!(
+        class,
+        Class::ByteLiteral | Class::Name | Class::Number | Class::Text | Class::Truth
+    )
+}
+
+/// A name in capitals.
+pub(crate) fn in_capitals(alloc: Global, name: &[u8]) -> Result<Vec<u8>, AllocError> {
+    let mut capitals = Vec::new(alloc);
+    for byte in name {
+        capitals.push(byte.to_ascii_uppercase())?;
+    }
+    Ok(capitals)
+}

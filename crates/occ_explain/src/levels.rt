@@ -1,0 +1,189 @@
+//! Lines at a level where none may stand, and texts that end too early.
+
+use crate::class::Class;
+use crate::context::{parent_of, start_of, takes_variants};
+use crate::finding::{Finding, Spot, index_of, spot_at, told_as};
+use crate::grammar::Part;
+use crate::scan::{Text, Word};
+use crate::walk::class_at;
+use std::alloc::{AllocError, Global};
+
+/// How many lines stand right under a line.
+#[derive(Clone, Copy, PartialEq)]
+enum Under {
+    Nothing,
+    /// One process, behind its declarations.
+    One,
+    Many,
+}
+
+/// Whether the line is a declaration. `INT x` is none, and `INT x:` is one.
+fn is_declaration(words: &[Word<'_>]) -> bool {
+    match class_at(words, 0) {
+        Class::Chan | Class::Val | Class::OpenBracket => true,
+        Class::Primitive => index_of(words, Class::Colon) < words.len(),
+        _ => false,
+    }
+}
+
+/// How many lines stand under one that begins so, where the first word does not tell.
+fn under_start(start: Part, words: &[Word<'_>]) -> Under {
+    match start {
+        _ if is_declaration(words) => Under::Nothing,
+        _ if takes_variants(words) => Under::Many,
+        Part::Choice | Part::Arm | Part::Option | Part::Variant => Under::One,
+        _ => Under::Nothing,
+    }
+}
+
+/// How many lines stand under a line.
+fn lines_under(text: &Text<'_>, index: usize) -> Under {
+    let words = text.words_at(index);
+    match class_at(words, 0) {
+        Class::Seq | Class::Par if words.len() == 1 => Under::Many,
+        Class::Seq | Class::Par | Class::While | Class::Proc => Under::One,
+        Class::If | Class::Alt | Class::Pri | Class::Case => Under::Many,
+        Class::Protocol if index_of(words, Class::Is) == words.len() => Under::One,
+        Class::Protocol | Class::Colon => Under::Nothing,
+        _ => under_start(start_of(text, index), words),
+    }
+}
+
+/// The first word of a line, as it is told.
+fn first_word<'a>(text: &Text<'a>, index: usize) -> &'a [u8] {
+    match text.words_at(index).first() {
+        Some(word) => word.bytes,
+        None => b"",
+    }
+}
+
+/// A line at a level where none may stand.
+pub(crate) fn level_finding(
+    alloc: Global,
+    text: &Text<'_>,
+    index: usize,
+) -> Result<Finding, AllocError> {
+    let spot = spot_at(text.words_at(index), 0);
+    if index == 0 {
+        return told_as(
+            alloc,
+            spot,
+            "the first line of a text is not indented",
+            b"",
+            "",
+            b"",
+        );
+    }
+    let last = index - 1;
+    let deeper = text.indent_at(index) > text.indent_at(last);
+    if deeper && lines_under(text, last) == Under::Nothing {
+        return too_deep(alloc, text, index, last, spot);
+    }
+    if deeper {
+        return told_as(
+            alloc,
+            spot,
+            "a line more than one level deeper than the one before",
+            b"",
+            "",
+            b"a level is two spaces",
+        );
+    }
+    if lines_under(text, last) == Under::One {
+        return wants_process(alloc, text, last, spot);
+    }
+    beside(alloc, text, index, last, spot)
+}
+
+/// A line under one that nothing stands under.
+fn too_deep(
+    alloc: Global,
+    text: &Text<'_>,
+    index: usize,
+    last: usize,
+    spot: Spot,
+) -> Result<Finding, AllocError> {
+    let hint = if class_at(text.words_at(index), 0) == Class::Colon {
+        "the colon stands under the first letter of its PROC"
+    } else {
+        "the parts of a SEQ or a PAR all begin in one column"
+    };
+    told_as(
+        alloc,
+        spot,
+        "a line deeper than one that begins with `",
+        first_word(text, last),
+        "`, under which nothing stands",
+        hint.as_bytes(),
+    )
+}
+
+/// A line in the place of a process that the line before needs.
+fn wants_process(
+    alloc: Global,
+    text: &Text<'_>,
+    last: usize,
+    spot: Spot,
+) -> Result<Finding, AllocError> {
+    let number = text.number_at(last);
+    let line = format!(in alloc; "{number}")?;
+    told_as(
+        alloc,
+        spot,
+        "line ",
+        line.as_bytes(),
+        " needs a process below it",
+        b"it stands in the next line, two spaces deeper; SKIP is one that does nothing",
+    )
+}
+
+/// A line beside one that has all that it may have.
+fn beside(
+    alloc: Global,
+    text: &Text<'_>,
+    index: usize,
+    last: usize,
+    spot: Spot,
+) -> Result<Finding, AllocError> {
+    let is_colon = class_at(text.words_at(index), 0) == Class::Colon;
+    let hint = match class_at(text.words_at(last), 0) {
+        _ if is_colon => "the colon stands under the first letter of its PROC",
+        Class::Seq | Class::Par if text.indent_at(last) == text.indent_at(index) => {
+            "the parts of a SEQ or a PAR stand two spaces deeper than it"
+        }
+        _ => "write SEQ or PAR above them, and both two spaces deeper",
+    };
+    let is_second = match parent_of(text, index) {
+        Some(parent) => lines_under(text, parent) == Under::One,
+        None => false,
+    };
+    let wrong = if is_colon {
+        "`:` under no first letter of a PROC or a PROTOCOL"
+    } else if is_second {
+        "a second process where one must stand"
+    } else {
+        "a line at a level where none may stand"
+    };
+    told_as(alloc, spot, wrong, b"", "", hint.as_bytes())
+}
+
+/// A text that ends where a line must follow.
+pub(crate) fn missing_finding(
+    alloc: Global,
+    text: &Text<'_>,
+    index: usize,
+) -> Result<Finding, AllocError> {
+    let words = text.words_at(index);
+    let spot = spot_at(words, words.len());
+    let (wrong, hint) = match lines_under(text, index) {
+        Under::One => (
+            "the text ends where a process must follow",
+            "it stands in the next line, two spaces deeper",
+        ),
+        Under::Nothing | Under::Many => (
+            "the text ends where `:` must follow",
+            "a PROC, and a PROTOCOL with tags, ends with a colon in a line of its own, under its first letter",
+        ),
+    };
+    told_as(alloc, spot, wrong, b"", "", hint.as_bytes())
+}

@@ -1,0 +1,27 @@
+//! Why a text is refused, in words: [`explain`] answers the place of the mistake, what is wrong there and how it is
+//! mended, and [`explained`] writes that.
+#![tactic(auto)]
+
+mod cause_table;
+mod causes;
+mod class;
+mod context;
+pub mod explaining;
+mod finding;
+mod fronts;
+mod grammar;
+mod hints;
+mod levels;
+mod names;
+mod odd;
+mod place;
+pub mod refusal;
+mod saying;
+mod scan;
+pub mod text;
+mod types;
+mod walk;
+
+pub use explaining::{Explanation, explain};
+pub use refusal::Refusal;
+pub use text::explained;

@@ -1,0 +1,169 @@
+//! What is told of a place where a line leaves the grammar.
+
+use crate::class::Class;
+use crate::grammar::Part;
+use crate::scan::Word;
+use crate::walk::{Leaving, class_at};
+use std::alloc::{AllocError, Global};
+
+/// What may stand at the parts of a process.
+static OF_PROCESSES: [(Part, &str); 16] = [
+    (Part::Top, "PROC, PROTOCOL or VAL"),
+    (Part::Process, "a process or a declaration"),
+    (Part::Choice, "a condition, a declaration or IF"),
+    (Part::Arm, "a guard, a declaration or ALT"),
+    (Part::Option, "a constant, ELSE or a declaration"),
+    (Part::Variant, "a tag or a declaration"),
+    (Part::Cases, "CASE"),
+    (Part::Tag, "a tag"),
+    (Part::NamedProcess, "`:=`, `?`, `!`, `,`, `[` or `(`"),
+    (Part::Placed, "`:=`, `?`, `!`, `,` or `[`"),
+    (Part::MoreTargets, "`,` or `:=`"),
+    (Part::Received, "a variable or CASE"),
+    (Part::AltWord, "ALT"),
+    (Part::Guarded, "`?` or `&`"),
+    (Part::Guard, "SKIP or an input"),
+    (Part::Awaited, "`?`"),
+];
+
+/// What may stand at the parts of a declaration.
+static OF_DECLARATIONS: [(Part, &str); 15] = [
+    (Part::NewName, "a new name"),
+    (Part::MoreNames, "`,` or `:`"),
+    (Part::Sized, "BOOL, BYTE, INT, CHAN or `[`"),
+    (Part::Carried, "a type or a protocol"),
+    (Part::CarriedRow, "BOOL, BYTE, INT or `[`"),
+    (Part::Constant, "a name or a type"),
+    (Part::ConstantRow, "BOOL, BYTE, INT or `[`"),
+    (Part::MoreItems, "`;` or `:`"),
+    (Part::Item, "a type"),
+    (Part::Formal, "VAL, a type, CHAN or `)`"),
+    (Part::MoreFormals, "`,` or `)`"),
+    (Part::FormalRow, "BOOL, BYTE, INT, CHAN or `[`"),
+    (Part::ValueFormal, "BOOL, BYTE, INT or `[`"),
+    (Part::ValueRow, "BOOL, BYTE, INT or `[`"),
+    (Part::ColonWord, "`:`"),
+];
+
+/// What may stand at the parts of an expression, and single words.
+static OF_EXPRESSIONS: [(Part, &str); 14] = [
+    (Part::Expression, "an expression"),
+    (Part::Operand, "an operand"),
+    (Part::MoreActuals, "`,` or `)`"),
+    (Part::Variable, "a variable"),
+    (Part::PrimitiveWord, "BOOL, BYTE or INT"),
+    (Part::IntWord, "INT"),
+    (Part::OfWord, "OF"),
+    (Part::IsWord, "IS"),
+    (Part::ForWord, "FOR"),
+    (Part::EqualWord, "`=`"),
+    (Part::OpenWord, "`(`"),
+    (Part::OpenSquare, "`[`"),
+    (Part::CloseRound, "`)`"),
+    (Part::CloseSquare, "`]`"),
+];
+
+fn listed(table: &'static [(Part, &'static str)], part: Part) -> Option<&'static str> {
+    for (one, text) in table {
+        if *one == part {
+            return Some(*text);
+        }
+    }
+    None
+}
+
+/// What may stand at a part.
+fn wanted_text(part: Part) -> &'static str {
+    for table in [
+        OF_PROCESSES.as_slice(),
+        OF_DECLARATIONS.as_slice(),
+        OF_EXPRESSIONS.as_slice(),
+    ] {
+        if let Some(text) = listed(table, part) {
+            return text;
+        }
+    }
+    "another word"
+}
+
+/// What is over where no more of a part can stand.
+fn over_text(part: Part) -> &'static str {
+    match part {
+        Part::MoreAnd => "operands joined by AND",
+        Part::MoreOr => "operands joined by OR",
+        _ => "a whole expression",
+    }
+}
+
+/// Whether the word is an operator with two operands.
+pub(crate) fn is_operator(class: Class) -> bool {
+    matches!(
+        class,
+        Class::And | Class::Dyadic | Class::Equal | Class::Minus | Class::Or
+    )
+}
+
+/// The most bytes of a word that are told.
+const MOST_TOLD: usize = 40;
+
+/// The beginning of a word, as far as it is told.
+pub(crate) fn told(bytes: &[u8]) -> &[u8] {
+    &bytes[..MOST_TOLD.min(bytes.len())]
+}
+
+/// The texts one after the other.
+pub(crate) fn joined(alloc: Global, texts: &[&[u8]]) -> Result<Vec<u8>, AllocError> {
+    let mut all = Vec::new(alloc);
+    for text in texts {
+        all.extend_from_slice(text)?;
+    }
+    Ok(all)
+}
+
+/// What is told behind the word that is met.
+fn phrase(leaving: &Leaving, met: Class) -> (&'static str, &'static str, &'static str) {
+    if let Some(over) = leaving.over
+        && (leaving.wanted.is_none() || is_operator(met))
+    {
+        return ("` after ", over_text(over), "");
+    }
+    match leaving.wanted {
+        Some(part) => ("` where ", wanted_text(part), " must stand"),
+        None => ("` where the line must end", "", ""),
+    }
+}
+
+/// A word between two texts.
+pub(crate) fn between(
+    alloc: Global,
+    before: &str,
+    word: &[u8],
+    after: &str,
+) -> Result<Vec<u8>, AllocError> {
+    let mut all = Vec::from_slice(alloc, before.as_bytes())?;
+    all.extend_from_slice(told(word))?;
+    all.extend_from_slice(after.as_bytes())?;
+    Ok(all)
+}
+
+/// What is wrong where a line leaves the grammar: the word that is met, and what may stand in its place.
+pub(crate) fn leaving_text(
+    alloc: Global,
+    words: &[Word<'_>],
+    leaving: &Leaving,
+) -> Result<Vec<u8>, AllocError> {
+    let Some(word) = words.get(leaving.at) else {
+        let wanted = leaving.wanted.map_or("more", |part| wanted_text(part));
+        return between(
+            alloc,
+            "the line ends where ",
+            wanted.as_bytes(),
+            " must stand",
+        );
+    };
+    let (before, text, after) = phrase(leaving, word.class);
+    let mut all = between(alloc, "`", word.bytes, before)?;
+    all.extend_from_slice(text.as_bytes())?;
+    all.extend_from_slice(after.as_bytes())?;
+    Ok(all)
+}

@@ -1,0 +1,123 @@
+//! How an explanation is written.
+ghost use Rattle.std.specs.Prelude.{◌≡◌, ◌≤◌, ◌++◌, IfOk, OnOk, replicate};
+ghost use Rattle.occ_explain.specs.Explanations.{caret_line, explained_text, first_line, hint_line, shown, shown_byte, source_line};
+
+use crate::explaining::Explanation;
+use std::alloc::{AllocError, Global};
+
+fn shown_byte(byte: u8) -> u8
+    ensures { result ≡ shown_byte byte }
+{
+    if byte < b' ' || byte == 127 {
+        b'?'
+    } else {
+        byte
+    }
+}
+
+/// The bytes, and a question mark for each that would move a terminal.
+fn shown(alloc: Global, bytes: &[u8]) -> Result<Vec<u8>, AllocError>
+    ensures { IfOk result (λ v. v.items ≡ shown bytes.now) }
+{
+    bytes.iter().map(|byte| shown_byte(*byte)).collect(alloc)
+}
+
+fn write_shown(alloc: Global, out: &mut Vec<u8>, bytes: &[u8]) -> Result<(), AllocError>
+    ensures { OnOk result (out.new.items ≡ out.old.items ++ shown bytes.now) }
+{
+    let bytes = shown(alloc, bytes)?;
+    out.extend_from_slice(bytes.as_slice())
+}
+
+/// The place, and what is wrong there.
+fn write_first(
+    alloc: Global,
+    out: &mut Vec<u8>,
+    file: &[u8],
+    line: u32,
+    column: usize,
+    wrong: &[u8],
+) -> Result<(), AllocError>
+    ensures { OnOk result (out.new.items ≡ out.old.items ++ first_line file.now line column wrong.now) }
+{
+    write_shown(alloc, out, file)?;
+    let place = format!(in alloc; ":{line}:{column}: ")?;
+    out.extend_from_slice(place.as_bytes())?;
+    write_shown(alloc, out, wrong)?;
+    out.extend_from_slice(b"\n")
+}
+
+/// The line of the text, behind its number.
+fn write_source(
+    alloc: Global,
+    out: &mut Vec<u8>,
+    line: u32,
+    source: &[u8],
+) -> Result<(), AllocError>
+    ensures { OnOk result (out.new.items ≡ out.old.items ++ source_line line source.now) }
+{
+    let head = format!(in alloc; "{line} | ")?;
+    out.extend_from_slice(head.as_bytes())?;
+    write_shown(alloc, out, source)?;
+    out.extend_from_slice(b"\n")
+}
+
+fn write_spaces(alloc: Global, out: &mut Vec<u8>, count: usize) -> Result<(), AllocError>
+    ensures { OnOk result (out.new.items ≡ out.old.items ++ replicate count 32) }
+{
+    let spaces = vec![in alloc; b' '; count]?;
+    out.extend_from_slice(spaces.as_slice())
+}
+
+/// A caret under the column.
+fn write_caret(alloc: Global, out: &mut Vec<u8>, line: u32, column: usize) -> Result<(), AllocError>
+    ensures { OnOk result (out.new.items ≡ out.old.items ++ caret_line line column) }
+{
+    let number = format!(in alloc; "{line}")?;
+    write_spaces(alloc, out, number.len())?;
+    out.extend_from_slice(b" | ")?;
+    write_spaces(alloc, out, column.saturating_sub(1))?;
+    out.extend_from_slice(b"^\n")
+}
+
+/// The hint, where there is one.
+fn write_hint(alloc: Global, out: &mut Vec<u8>, hint: &[u8]) -> Result<(), AllocError>
+    ensures { OnOk result (out.new.items ≡ out.old.items ++ hint_line hint.now) }
+{
+    if hint.is_empty() {
+        return Ok(());
+    }
+    out.extend_from_slice(b"  ")?;
+    write_shown(alloc, out, hint)?;
+    out.extend_from_slice(b"\n")
+}
+
+/// An explanation as it is printed: `FILE:LINE:COLUMN: what is wrong`, the line behind its number, a caret under the
+/// column, and the hint where there is one. Bytes that would move a terminal are shown as question marks.
+///
+/// # Errors
+///
+/// A refused growth.
+#[tactic(auto, unfolding(crate::specs::Explanations::explained_text))]
+pub fn explained(
+    alloc: Global,
+    file: &[u8],
+    explanation: &Explanation<'_>,
+) -> Result<Vec<u8>, AllocError>
+    ensures { let e = explanation.now in IfOk result (λ v. v.items ≡ explained_text file.now e.line e.column e.source.now e.wrong.items e.hint.items) }
+{
+    let (line, column) = (explanation.line, explanation.column);
+    let mut out = Vec::new(alloc);
+    write_first(
+        alloc,
+        &mut out,
+        file,
+        line,
+        column,
+        explanation.wrong.as_slice(),
+    )?;
+    write_source(alloc, &mut out, line, explanation.source)?;
+    write_caret(alloc, &mut out, line, column)?;
+    write_hint(alloc, &mut out, explanation.hint.as_slice())?;
+    Ok(out)
+}

@@ -1,0 +1,91 @@
+-- What is told behind the line of a refusal, and behind the ending of a run.
+-- Manual: nothing; this is (own).
+use Rattle.std.specs.Prelude.{List, None, Option, Some, length, ℕ, ◌≡◌, ◌≤◌}
+use Rattle.std.specs.Str.Lines.{lines}
+use Rattle.occ_code.specs.Compiled.{Program}
+use Rattle.occ_net_replay.specs.declared.choice.Choice.{Choice}
+use Rattle.occ_play.specs.declared.fault.PlayFault.{PlayFault}
+use Rattle.occ_play.specs.declared.fault.PlayFault.TheVariants as plays
+use Rattle.occ_play.specs.declared.playing.Options.{Options}
+use Rattle.occ_play.specs.Playing.{IsTextsCode}
+use Rattle.occ_text.specs.declared.fault.TextFault.TheVariants as texts
+use Rattle.occ_tree_grammar.specs.declared.fault.ParseFault.TheVariants as parses
+use Rattle.occ_check_names.specs.declared.fault.CheckFault.TheVariants as checks
+use Rattle.occ_usage.specs.declared.checked.UsageFault.TheVariants as usages
+use Rattle.occ_code.specs.declared.compiler.code.CodeFault.TheVariants as codings
+use Rattle.occ_explain.specs.declared.refusal.Refusal.{Refusal}
+use Rattle.occ_explain.specs.Places.{IsPlace, line_in}
+use Rattle.occ_explain.specs.Explanations.{explained_text}
+use Rattle.occ_report.specs.Reports.{IsReport}
+
+-- the number and the line of a refusal of the text; 0 where it has no line
+abbrev pub Numbered : Type 0
+Numbered = ℕ × ℕ
+
+abbrev pub numbered : ℕ → ℕ → Numbered
+numbered n line = (n, line)
+
+abbrev pub numbered_of : Refusal → Numbered
+numbered_of r = numbered r.number r.line
+
+abbrev pub refusal_in : PlayFault → Option Numbered
+refusal_in (plays.Text texts.TooLong) = Some (1, 0)
+refusal_in (plays.Text (texts.BadByte n)) = Some (2, n)
+refusal_in (plays.Text (texts.OddIndent n)) = Some (3, n)
+refusal_in (plays.Text (texts.BadLiteral n)) = Some (4, n)
+refusal_in (plays.Text (texts.BadEscape n)) = Some (5, n)
+refusal_in (plays.Text (texts.OpenString n)) = Some (6, n)
+refusal_in (plays.Text (texts.BadBreak n)) = Some (7, n)
+refusal_in (plays.Text texts.Memory) = None
+refusal_in (plays.Parse (parses.Unexpected n)) = Some (20, n)
+refusal_in (plays.Parse (parses.Level n)) = Some (21, n)
+refusal_in (plays.Parse (parses.Missing n)) = Some (22, n)
+refusal_in (plays.Parse (parses.TooDeep n)) = Some (23, n)
+refusal_in (plays.Parse parses.Memory) = None
+refusal_in (plays.Check (checks.Unknown n name)) = Some (30, n)
+refusal_in (plays.Check (checks.Twice n name)) = Some (31, n)
+refusal_in (plays.Check (checks.WrongKind n)) = Some (32, n)
+refusal_in (plays.Check (checks.WrongType n)) = Some (33, n)
+refusal_in (plays.Check (checks.NotConstant n)) = Some (34, n)
+refusal_in (plays.Check (checks.BadCount n)) = Some (35, n)
+refusal_in (plays.Check (checks.Subscript n)) = Some (36, n)
+refusal_in (plays.Check (checks.Protocol n)) = Some (37, n)
+refusal_in (plays.Check (checks.Tag n)) = Some (38, n)
+refusal_in (plays.Check (checks.Arguments n)) = Some (39, n)
+refusal_in (plays.Check (checks.Overlap n)) = Some (40, n)
+refusal_in (plays.Check (checks.ListTarget n)) = Some (41, n)
+refusal_in (plays.Check checks.NoMain) = Some (42, 0)
+refusal_in (plays.Check checks.TooLarge) = Some (43, 0)
+refusal_in (plays.Check checks.Memory) = None
+refusal_in (plays.Usage (usages.SharedVariable n name)) = Some (50, n)
+refusal_in (plays.Usage (usages.TwoInputs n name)) = Some (51, n)
+refusal_in (plays.Usage (usages.TwoOutputs n name)) = Some (52, n)
+refusal_in (plays.Usage usages.Memory) = None
+refusal_in (plays.Code codings.TooLarge) = Some (60, 0)
+refusal_in (plays.Code codings.BadQuantum) = None
+refusal_in (plays.Code codings.Memory) = None
+refusal_in (plays.Write n) = None
+refusal_in (plays.Run f) = None
+refusal_in (plays.Memory e) = None
+
+-- An explanation of a refusal: a place of the text, not above the line that the refusal names, with the line that stands there.
+pub record IsExplained (source file : List ℕ) (named : ℕ) (bytes : List ℕ) : Type 0 where
+  pub line : ℕ
+  pub column : ℕ
+  pub wrong : List ℕ
+  pub hint : List ℕ
+  pub within : IsPlace source line column
+  pub reached : named ≤ length (lines source) → named ≤ line
+  pub is : bytes ≡ explained_text file line column (line_in source line) wrong hint
+
+-- What is told of a fault: an explanation of each refusal of a text, and nothing of all else.
+abbrev pub Tells : (source file : List ℕ) → Option Numbered → Option (List ℕ) → Type 0
+Tells source file None told = told ≡ None
+Tells source file (Some refusal) None = Some refusal ≡ None
+Tells source file (Some refusal) (Some bytes) = IsExplained source file refusal.1 bytes
+
+-- the report of the run of a source by these choices, by the code that it has for turns of these options
+pub record ReportsOn (options : Options) (source keyboard : List ℕ) (list : List Choice) (bytes : List ℕ) : Type 0 where
+  pub program : Program
+  pub code : IsTextsCode options source program
+  pub report : IsReport program keyboard list bytes

@@ -1,0 +1,46 @@
+//! Where a program leaves its files.
+use crate::saving::save;
+use std::alloc::Global;
+use std::io;
+use std::rt::Files;
+
+/// Where a program leaves its files. What a function that is generic over it promises of files, it promises of each place
+/// that can tell what was written into it.
+pub trait Folder {
+    ghost use Rattle.std.specs.Prelude.{Option, List};
+    ghost use Rattle.occ_files.specs.Leaving.{Leaves, Written};
+
+    /// What was written, or tried to be, in this order; none where it isn't known.
+    ghost left: { Self → Option (List Written) };
+
+    /// Writes the file of this path: it has this text then, whatever stood there.
+    ///
+    /// # Errors
+    ///
+    /// What the system says of what it could not do.
+    fn save(&mut self, path: &str, text: &[u8]) -> io::Result<()>
+        ensures { Leaves (left self.old) (left self.new) path.now text.now };
+}
+
+/// The files of the machine, each written by [`save`].
+#[derive(Drop)]
+pub struct Disk<'a, R> {
+    files: &'a R,
+    alloc: Global,
+}
+
+impl<'a, R: Files> Disk<'a, R> {
+    pub fn new(files: &'a R, alloc: Global) -> Disk<'a, R> {
+        Disk { files, alloc }
+    }
+}
+
+impl<'a, R: Files> Folder for Disk<'a, R> {
+    ghost use Rattle.std.specs.Prelude.{None};
+
+    ghost left = { λ _. None };
+
+    fn save(&mut self, path: &str, text: &[u8]) -> io::Result<()> {
+        save(self.files, self.alloc, path, text)
+    }
+}

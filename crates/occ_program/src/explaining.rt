@@ -1,0 +1,104 @@
+//! Tells more of a refusal and of an ending, where the words ask for it.
+ghost use Rattle.std.specs.Prelude.{◌≡◌, IfSome};
+ghost use Rattle.occ_program.specs.Explained.{Explains, file_in, TellsOf};
+
+use crate::program::options_of;
+use occ_explaining::{explained_fault, report_of};
+use occ_net_replay::Ending;
+use occ_play::{PlayFault, Played};
+use occ_play_inputs::{Inputs, Words};
+use std::alloc::Global;
+
+/// Prints, behind the line of a refusal, where its mistake is, and behind an ending that is not that of a whole run what each
+/// process stands at. Where memory runs out for that, nothing more is printed.
+pub(crate) fn explain<R: Eprint>(
+    rt: &R,
+    alloc: Global,
+    words: &Words<'_>,
+    inputs: &Inputs,
+    came: &Result<Played, PlayFault>,
+) {
+    if words.explain
+        && let Some(text) = explanation(alloc, words, inputs, came)
+    {
+        print_text(rt, text.as_slice());
+    }
+}
+
+/// Prints where the mistake of a source is, of which nothing else is asked.
+pub(crate) fn explain_fault<R: Eprint>(
+    rt: &R,
+    alloc: Global,
+    words: &Words<'_>,
+    source: &[u8],
+    fault: &PlayFault,
+) {
+    if words.explain
+        && let Some(text) = told_of(alloc, words, source, fault)
+    {
+        print_text(rt, text.as_slice());
+    }
+}
+
+/// What a source is called: its path, or a hyphen where standard input is the source.
+fn file_of<'a>(words: &Words<'a>) -> &'a str
+    ensures { result.now ≡ file_in words.now }
+{
+    match words.file {
+        Some(path) => path,
+        None => "-",
+    }
+}
+
+/// The explanation of a fault, where it refuses the source.
+fn told_of(alloc: Global, words: &Words<'_>, source: &[u8], fault: &PlayFault) -> Option<Vec<u8>>
+    ensures { IfSome result (λ text. TellsOf words.now source.now fault.now text.items) }
+{
+    let file = file_of(words);
+    match explained_fault(alloc, source, file.as_bytes(), fault) {
+        Ok(told) => told,
+        Err(_) => None,
+    }
+}
+
+/// What is told of what a play came to; nothing of a run that ended.
+fn explanation(
+    alloc: Global,
+    words: &Words<'_>,
+    inputs: &Inputs,
+    came: &Result<Played, PlayFault>,
+) -> Option<Vec<u8>>
+    ensures { IfSome result (λ text. Explains words.now inputs.now.source.items inputs.now.keyboard.items came.now text.items) }
+{
+    match came {
+        Ok(played) => reported(alloc, words, inputs, played),
+        Err(fault) => told_of(alloc, words, inputs.source.as_slice(), fault),
+    }
+}
+
+/// What each process stands at where a run has not ended.
+fn reported(alloc: Global, words: &Words<'_>, inputs: &Inputs, played: &Played) -> Option<Vec<u8>>
+    ensures { IfSome result (λ text. Explains words.now inputs.now.source.items inputs.now.keyboard.items (Ok played.now) text.items) }
+{
+    if let Ending::Ended = played.ending {
+        return None;
+    }
+    let report = report_of(
+        &options_of(words),
+        alloc,
+        inputs.source.as_slice(),
+        inputs.keyboard.as_slice(),
+        played.choices.as_slice(),
+    );
+    match report {
+        Ok(report) => Some(report),
+        Err(_) => None,
+    }
+}
+
+/// Prints a text to standard error.
+fn print_text<R: Eprint>(rt: &R, text: &[u8]) {
+    if let Ok(text) = str::from_utf8(text) {
+        let _ = eprint!(rt; "{text}");
+    }
+}

@@ -1,0 +1,286 @@
+//! What a process stands at, in bytes.
+ghost use Rattle.std.specs.Prelude.{◌≡◌, ◌++◌, IfOk, OnOk, Some, List, ℕ, codes, option_map, slice_get};
+ghost use Rattle.occ_code.specs.Compiled.{Program};
+ghost use Rattle.occ_net_replay.specs.Replay.{Net};
+ghost use Rattle.occ_net_tables.specs.Holding.{Holds};
+ghost use Rattle.occ_net_replay.specs.Endings.{ending_text};
+ghost use Rattle.occ_shown.specs.Answers.{names_of};
+ghost use Rattle.occ_report.specs.Reports.{lines_of, task_line, arm_channel_text, arms_text, awaited_text, branches_text, offer_text, on_line, process_text, reader_text, standing_text, writer_text};
+
+use crate::messages::{write_message, write_name};
+use occ_code::{Arm, Wait};
+use occ_net_replay::Ending;
+use occ_net_tables::Tables;
+use occ_term::{Channel, Fault, KEYBOARD, Message};
+use std::alloc::{AllocError, Global};
+
+/// By channel: the process that read it last, and the one that wrote it last.
+#[derive(Clone, Copy)]
+pub(crate) struct Ends<'a> {
+    pub(crate) readers: &'a [Option<u32>],
+    pub(crate) writers: &'a [Option<u32>],
+}
+
+fn write_process(alloc: Global, out: &mut Vec<u8>, number: u32) -> Result<(), AllocError>
+    ensures { OnOk result (out.new.items ≡ out.old.items ++ process_text number) }
+{
+    let text = format!(in alloc; "p{number}")?;
+    out.extend_from_slice(text.as_bytes())
+}
+
+/// Who read a channel last, if anybody did.
+fn write_reader(
+    alloc: Global,
+    out: &mut Vec<u8>,
+    readers: &[Option<u32>],
+    chan: u32,
+) -> Result<(), AllocError>
+    ensures { OnOk result (out.new.items ≡ out.old.items ++ reader_text (slice_get readers.now chan)) }
+{
+    match readers.get(chan as usize) {
+        Some(Some(number)) => {
+            let text = format!(in alloc; ", which p{number} read last")?;
+            out.extend_from_slice(text.as_bytes())
+        }
+        _ => Ok(()),
+    }
+}
+
+/// Who wrote a channel last, if anybody did.
+fn write_writer(
+    alloc: Global,
+    out: &mut Vec<u8>,
+    writers: &[Option<u32>],
+    chan: u32,
+) -> Result<(), AllocError>
+    ensures { OnOk result (out.new.items ≡ out.old.items ++ writer_text chan (slice_get writers.now chan)) }
+{
+    if chan == KEYBOARD {
+        return out.extend_from_slice(b", whose bytes are used up");
+    }
+    match writers.get(chan as usize) {
+        Some(Some(number)) => {
+            let text = format!(in alloc; ", which p{number} wrote last")?;
+            out.extend_from_slice(text.as_bytes())
+        }
+        _ => Ok(()),
+    }
+}
+
+/// A channel from which a message is awaited.
+fn write_awaited(
+    alloc: Global,
+    out: &mut Vec<u8>,
+    channels: &[Channel],
+    writers: &[Option<u32>],
+    chan: u32,
+) -> Result<(), AllocError>
+    ensures { OnOk result (out.new.items ≡ out.old.items ++ awaited_text (names_of channels.now) writers.now chan) }
+{
+    out.extend_from_slice(b"awaits ")?;
+    write_name(alloc, out, channels, chan)?;
+    write_writer(alloc, out, writers, chan)
+}
+
+/// What an arm waits for.
+fn write_arm(
+    alloc: Global,
+    out: &mut Vec<u8>,
+    channels: &[Channel],
+    writers: &[Option<u32>],
+    chan: Option<u32>,
+) -> Result<(), AllocError>
+    ensures { OnOk result (out.new.items ≡ out.old.items ++ arm_channel_text (names_of channels.now) writers.now chan) }
+{
+    match chan {
+        Some(chan) => {
+            out.extend_from_slice(b"; ")?;
+            write_awaited(alloc, out, channels, writers, chan)
+        }
+        None => out.extend_from_slice(b"; SKIP"),
+    }
+}
+
+fn write_arms(
+    alloc: Global,
+    out: &mut Vec<u8>,
+    channels: &[Channel],
+    writers: &[Option<u32>],
+    arms: &[Arm],
+) -> Result<(), AllocError>
+    ensures { OnOk result (out.new.items ≡ out.old.items ++ arms_text (names_of channels.now) writers.now arms.now) }
+{
+    let mut rest = arms;
+    while let Some((arm, others)) = rest.split_first() {
+        write_arm(alloc, out, channels, writers, arm.chan)?;
+        rest = others;
+    }
+    Ok(())
+}
+
+fn write_branches(alloc: Global, out: &mut Vec<u8>, branches: &[u32]) -> Result<(), AllocError>
+    ensures { OnOk result (out.new.items ≡ out.old.items ++ branches_text branches.now) }
+{
+    let mut rest = branches;
+    while let Some((branch, others)) = rest.split_first() {
+        out.push(b' ')?;
+        write_process(alloc, out, *branch)?;
+        rest = others;
+    }
+    Ok(())
+}
+
+fn write_offer(
+    alloc: Global,
+    out: &mut Vec<u8>,
+    channels: &[Channel],
+    readers: &[Option<u32>],
+    chan: u32,
+    message: &Message,
+) -> Result<(), AllocError>
+    ensures { OnOk result (out.new.items ≡ out.old.items ++ offer_text (names_of channels.now) readers.now chan message.now) }
+{
+    out.extend_from_slice(b"offers ")?;
+    write_message(alloc, out, message, chan, channels)?;
+    out.extend_from_slice(b" on ")?;
+    write_name(alloc, out, channels, chan)?;
+    write_reader(alloc, out, readers, chan)
+}
+
+fn write_fault(alloc: Global, out: &mut Vec<u8>, fault: Fault) -> Result<(), AllocError>
+    ensures { OnOk result (out.new.items ≡ out.old.items ++ ending_text (Ending.Fault fault)) }
+{
+    let ending = Ending::Fault(fault);
+    let text = format!(in alloc; "{ending}")?;
+    out.extend_from_slice(text.as_bytes())
+}
+
+/// A text of these bytes.
+fn text_of(alloc: Global, text: &[u8]) -> Result<Option<Vec<u8>>, AllocError>
+    ensures { IfOk result (λ found. option_map (λ v. v.items) found ≡ Some text.now) }
+{
+    Ok(Some(Vec::from_slice(alloc, text)?))
+}
+
+/// What a process stands at; nothing where it is at its end.
+fn standing(
+    alloc: Global,
+    channels: &[Channel],
+    ends: Ends<'_>,
+    wait: &Wait,
+) -> Result<Option<Vec<u8>>, AllocError>
+    ensures { IfOk result (λ found. option_map (λ v. v.items) found ≡ standing_text (names_of channels.now) ends.entry.readers.now ends.entry.writers.now wait.now) }
+{
+    let mut out = Vec::new(alloc);
+    match wait {
+        Wait::Ready => return text_of(alloc, b"can go on"),
+        Wait::Took { .. } => return text_of(alloc, b"can go on"),
+        Wait::Halted => return text_of(alloc, b"halted"),
+        Wait::Done => return Ok(None),
+        Wait::Offers { chan, message } => {
+            write_offer(alloc, &mut out, channels, ends.readers, *chan, message)?
+        }
+        Wait::Awaits { chan } => write_awaited(alloc, &mut out, channels, ends.writers, *chan)?,
+        Wait::Chooses { arms, .. } => {
+            write_choosing(alloc, &mut out, channels, ends.writers, arms.as_slice())?
+        }
+        Wait::Joins { branches } => write_joining(alloc, &mut out, branches.as_slice())?,
+        Wait::Faulted(fault) => write_fault(alloc, &mut out, *fault)?,
+    }
+    Ok(Some(out))
+}
+
+fn write_choosing(
+    alloc: Global,
+    out: &mut Vec<u8>,
+    channels: &[Channel],
+    writers: &[Option<u32>],
+    arms: &[Arm],
+) -> Result<(), AllocError>
+    ensures { OnOk result (out.new.items ≡ out.old.items ++ (codes "chooses" ++ arms_text (names_of channels.now) writers.now arms.now)) }
+{
+    out.extend_from_slice(b"chooses")?;
+    write_arms(alloc, out, channels, writers, arms)
+}
+
+fn write_joining(alloc: Global, out: &mut Vec<u8>, branches: &[u32]) -> Result<(), AllocError>
+    ensures { OnOk result (out.new.items ≡ out.old.items ++ (codes "waits for" ++ branches_text branches.now)) }
+{
+    out.extend_from_slice(b"waits for")?;
+    write_branches(alloc, out, branches)
+}
+
+/// A line for a process, of this text.
+fn write_text(alloc: Global, out: &mut Vec<u8>, number: u32, text: &[u8]) -> Result<(), AllocError>
+    ensures { OnOk result (out.new.items ≡ out.old.items ++ on_line number (Some text.now)) }
+{
+    out.extend_from_slice(b"  ")?;
+    write_process(alloc, out, number)?;
+    out.push(b' ')?;
+    out.extend_from_slice(text)?;
+    out.extend_from_slice(b"\n")
+}
+
+/// A line for a process, of the text that there is for it.
+fn write_on_line(
+    alloc: Global,
+    out: &mut Vec<u8>,
+    number: u32,
+    text: Option<Vec<u8>>,
+) -> Result<(), AllocError>
+    ensures { OnOk result (out.new.items ≡ out.old.items ++ on_line number (option_map (λ v. v.items) text)) }
+{
+    match text {
+        Some(text) => write_text(alloc, out, number, text.as_slice()),
+        None => Ok(()),
+    }
+}
+
+/// The line of a process, where it is left.
+fn write_standing(
+    alloc: Global,
+    out: &mut Vec<u8>,
+    channels: &[Channel],
+    ends: Ends<'_>,
+    number: u32,
+    wait: &Wait,
+) -> Result<(), AllocError>
+    ensures { OnOk result (out.new.items ≡ out.old.items ++ on_line number (standing_text (names_of channels.now) ends.entry.readers.now ends.entry.writers.now wait.now)) }
+{
+    let text = standing(alloc, channels, ends, wait)?;
+    write_on_line(alloc, out, number, text)
+}
+
+/// The line of the process with this number, where it is left.
+fn write_task(
+    alloc: Global,
+    out: &mut Vec<u8>,
+    channels: &[Channel],
+    ends: Ends<'_>,
+    tables: &Tables,
+    number: u32,
+) -> Result<(), AllocError>
+    ensures { OnOk result ((p : Program) (keyboard : List ℕ) (net : Net) → Holds p keyboard tables.now net → out.new.items ≡ out.old.items ++ task_line (names_of channels.now) ends.entry.readers.now ends.entry.writers.now number (slice_get net.tasks number)) }
+{
+    match tables.task(number) {
+        Some(task) => write_standing(alloc, out, channels, ends, number, &task.wait),
+        None => Ok(()),
+    }
+}
+
+/// The lines of the first so many processes that are left.
+pub(crate) fn write_lines(
+    alloc: Global,
+    out: &mut Vec<u8>,
+    channels: &[Channel],
+    ends: Ends<'_>,
+    tables: &Tables,
+    count: u32,
+) -> Result<(), AllocError>
+    ensures { OnOk result ((p : Program) (keyboard : List ℕ) (net : Net) → Holds p keyboard tables.now net → out.new.items ≡ out.old.items ++ lines_of (names_of channels.now) ends.entry.readers.now ends.entry.writers.now net.tasks count) }
+{
+    for number in 0..count {
+        write_task(alloc, out, channels, ends, tables, number)?;
+    }
+    Ok(())
+}
