@@ -7,12 +7,12 @@ _occam() {
       COMPREPLY=($(compgen -W "halt stop" -- "$now"))
       return
       ;;
-    --limit|--quantum|--workers|--seed|--tries|--arrows|--states)
+    --limit|--quantum|--workers|--seed|--tries|--arrows|--last|--states)
       return
       ;;
   esac
   if [[ "$now" == -* ]]; then
-    COMPREPLY=($(compgen -W "--limit --quantum --errors --workers --seed --tries --choices --record --chart --arrows --trace --trace-to --json --watch --explain --explore --states --check --help --version" -- "$now"))
+    COMPREPLY=($(compgen -W "--limit --quantum --errors --workers --seed --tries --choices --record --chart --arrows --last --trace --trace-to --json --steps --watch --explain --explore --states --check --help --version" -- "$now"))
   else
     COMPREPLY=($(compgen -f -- "$now"))
   fi

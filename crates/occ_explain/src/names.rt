@@ -238,8 +238,13 @@ fn shared(
     at: usize,
     name: &[u8],
 ) -> Result<Finding, AllocError> {
-    let spot = spot_at(text.words_at(index), at);
-    let mut hint = other_use(alloc, text, index, base(name))?;
+    let words = text.words_at(index);
+    let spot = spot_at(words, at);
+    let mut hint = if at < words.len() {
+        other_use(alloc, text, index, base(name))?
+    } else {
+        handing_calls(alloc, text, base(name))?
+    };
     if base(name).len() < name.len() {
         hint.extend_from_slice(b"; under a subscript that is no constant the whole array counts")?;
     }
@@ -248,6 +253,53 @@ fn shared(
         .wrong
         .extend_from_slice(cause_of(number).as_bytes())?;
     Ok(finding)
+}
+
+/// How many calls are told of.
+const MOST_CALLS: usize = 6;
+
+/// Whether a line is a call that has the name among its actuals.
+fn hands_on(words: &[Word<'_>], name: &[u8]) -> bool {
+    class_at(words, 0) == Class::Name
+        && class_at(words, 1) == Class::OpenParen
+        && name_from(words, 1, name) < words.len()
+}
+
+/// The calls that hand a name on to PROCs, in whose bodies it has another one; nothing where there are none.
+fn handing_calls(alloc: Global, text: &Text<'_>, name: &[u8]) -> Result<Vec<u8>, AllocError> {
+    let mut told = Vec::new(alloc);
+    let mut calls: usize = 0;
+    for i in 0..text.lines.len() {
+        let words = text.words_at(i);
+        if calls < MOST_CALLS && hands_on(words, name) {
+            let head: &[u8] = if calls == 0 {
+                b"it has another name there, and is handed on in line "
+            } else {
+                b", in line "
+            };
+            tell_call(alloc, &mut told, head, text.number_at(i), words)?;
+            calls = calls.saturating_add(1);
+        }
+    }
+    Ok(told)
+}
+
+/// A call in this line, behind these words.
+fn tell_call(
+    alloc: Global,
+    told: &mut Vec<u8>,
+    head: &[u8],
+    line: u32,
+    words: &[Word<'_>],
+) -> Result<(), AllocError> {
+    let line = format!(in alloc; "{line}")?;
+    told.extend_from_slice(head)?;
+    told.extend_from_slice(line.as_bytes())?;
+    told.extend_from_slice(b" to ")?;
+    match words.first() {
+        Some(word) => told.extend_from_slice(word.bytes),
+        None => Ok(()),
+    }
 }
 
 /// Where the other branch uses what a line uses.

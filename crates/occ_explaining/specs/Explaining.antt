@@ -1,13 +1,14 @@
 -- What is told behind the line of a refusal, and behind the ending of a run.
 -- Manual: nothing; this is (own).
-use Rattle.std.specs.Prelude.{List, None, Option, Some, length, ℕ, ◌≡◌, ◌≤◌}
+use Rattle.std.specs.Prelude.{List, None, Option, Some, [], count_by, length, min, suc, zero, ℕ, ◌+◌, ◌++◌, ◌==◌, ◌∷◌, ◌≡◌, ◌≤◌}
 use Rattle.std.specs.Str.Lines.{lines}
 use Rattle.occ_code.specs.Compiled.{Program}
 use Rattle.occ_net_replay.specs.declared.choice.Choice.{Choice}
 use Rattle.occ_play.specs.declared.fault.PlayFault.{PlayFault}
 use Rattle.occ_play.specs.declared.fault.PlayFault.TheVariants as plays
 use Rattle.occ_play.specs.declared.playing.Options.{Options}
-use Rattle.occ_play.specs.Playing.{IsTextsCode}
+use Rattle.occ_play.specs.Playing.{IsTextsCode, Unfolds}
+use Rattle.occ_term.specs.UnfoldedProgram.{UnfoldedProgram, meaning}
 use Rattle.occ_text.specs.declared.fault.TextFault.TheVariants as texts
 use Rattle.occ_tree_grammar.specs.declared.fault.ParseFault.TheVariants as parses
 use Rattle.occ_check_names.specs.declared.fault.CheckFault.TheVariants as checks
@@ -16,7 +17,10 @@ use Rattle.occ_code.specs.declared.compiler.code.CodeFault.TheVariants as coding
 use Rattle.occ_explain.specs.declared.refusal.Refusal.{Refusal}
 use Rattle.occ_explain.specs.Places.{IsPlace, line_in}
 use Rattle.occ_explain.specs.Explanations.{explained_text}
-use Rattle.occ_report.specs.Reports.{IsReport}
+use Rattle.occ_chart.specs.declared.part.Part.{Part}
+use Rattle.occ_charting.specs.Charting.{IsRunChart}
+use Rattle.occ_places.specs.Places.{Fits, Known, name_of}
+use Rattle.occ_report.specs.Reports.{IsCircleOf, IsReport}
 
 -- the number and the line of a refusal of the text; 0 where it has no line
 abbrev pub Numbered : Type 0
@@ -84,8 +88,37 @@ Tells source file None told = told ≡ None
 Tells source file (Some refusal) None = Some refusal ≡ None
 Tells source file (Some refusal) (Some bytes) = IsExplained source file refusal.1 bytes
 
--- the report of the run of a source by these choices, by the code that it has for turns of these options
+-- how many lines a text has: a line feed more than stand in it
+abbrev pub lines_in : List ℕ → ℕ
+lines_in source = count_by (λ b. b == 10) source + 1
+
+-- The report of the run of a source by these choices, by the code that it has for turns of these options. What it tells of places
+-- fits that code and the lines of the source; who is at the ends of channels is told by what the program of the source uses.
 pub record ReportsOn (options : Options) (source keyboard : List ℕ) (list : List Choice) (bytes : List ℕ) : Type 0 where
   pub program : Program
   pub code : IsTextsCode options source program
-  pub report : IsReport program keyboard list bytes
+  pub known : List Known
+  pub fits : Fits program (lines_in source) known
+  pub unfolded : UnfoldedProgram
+  pub unfolds : Unfolds source unfolded
+  pub report : IsReport (meaning unfolded) program keyboard list known bytes
+
+-- the names of the first so many processes, empty where they aren't known
+abbrev pub first_names : List Known → ℕ → List (List ℕ)
+first_names known zero = []
+first_names known (suc n) = first_names known n ++ name_of known n ∷ []
+
+-- The chart of the run of a source by these choices, whose columns have names that fit the code and the lines of the source, and at
+-- whose foot stand processes that wait in a circle, where there are some.
+pub record IsNamedChart (options : Options) (source keyboard : List ℕ) (list : List Choice) (part : Part) (bytes : List ℕ) : Type 0 where
+  pub program : Program
+  pub code : IsTextsCode options source program
+  pub known : List Known
+  pub fits : Fits program (lines_in source) known
+  pub names : List (List ℕ)
+  pub are : names ≡ first_names known (min (length program.bodies) 4294967295)
+  pub unfolded : UnfoldedProgram
+  pub unfolds : Unfolds source unfolded
+  pub circle : List ℕ
+  pub waits : IsCircleOf (meaning unfolded) program keyboard list circle
+  pub chart : IsRunChart options source keyboard list part names circle bytes

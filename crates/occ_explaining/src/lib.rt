@@ -1,9 +1,12 @@
 //! What is told behind the first line of a refused text, and behind the ending of a run: [`explained_fault`] has the
-//! explanation of a refusal, and [`report_of`] what each process stands at that is left.
+//! explanation of a refusal, [`report_of`] what each process stands at that is left, and [`named_chart`] a chart with the names of
+//! the PROCs.
 #![tactic(auto)]
 
+pub mod charted;
 pub mod refused;
 pub mod reported;
 
+pub use charted::named_chart;
 pub use refused::explained_fault;
 pub use reported::report_of;

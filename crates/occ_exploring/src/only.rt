@@ -1,6 +1,6 @@
 //! The one answer of a source without an ALT.
-ghost use Rattle.std.specs.Prelude.{◌≡◌, IfErr, IfOk, IfSome};
-ghost use Rattle.occ_exploring.specs.Alone.{IsOnlyFor, only_status, only_text};
+ghost use Rattle.std.specs.Prelude.{◌≡◌, IfErr, IfNone, IfOk, IfSome};
+ghost use Rattle.occ_exploring.specs.Alone.{IsOnlyFor, IsUntoldFor, only_status, only_text};
 ghost use Rattle.occ_play.specs.Playing.{Refuses};
 
 use crate::lines::{write_answer, write_counted};
@@ -25,6 +25,7 @@ pub fn only_answer_in(
     most: u32,
 ) -> Result<Option<Answer>, PlayFault>
     ensures only { IfOk result (λ found. IfSome found (IsOnlyFor options.now source.now keyboard.now)) }
+    ensures untold { IfOk result (λ found. IfNone found (IsUntoldFor options.now source.now keyboard.now most)) }
     ensures refused { IfErr result (Refuses options.now source.now) }
 {
     let code = code_of(options, alloc, source)?;
@@ -48,12 +49,13 @@ pub fn only_text(alloc: Global, asked: Asked, answer: &Answer) -> Result<Vec<u8>
     Ok(out)
 }
 
-/// The exit status of the one answer: 2 where all stop, else 0.
+/// The exit status of the one answer, as of a search that finds it alone: 2 where it has stopped, 3 where it is a fault, else 0.
 pub fn status_of_only(answer: &Answer) -> u8
     ensures { result ≡ only_status answer.now }
 {
     match answer.ending {
+        Ending::Fault(_) => 3,
         Ending::Stopped | Ending::StoppedBy(_) => 2,
-        Ending::Ended | Ending::Fault(_) | Ending::Limit => 0,
+        Ending::Ended | Ending::Limit => 0,
     }
 }

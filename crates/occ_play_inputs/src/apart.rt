@@ -1,6 +1,6 @@
 //! That a file which is written is none that is read, and not the other one.
 ghost use Rattle.std.specs.Prelude.{IsTrue};
-ghost use Rattle.occ_play_inputs.specs.Paths.{AreApart, Differ};
+ghost use Rattle.occ_play_inputs.specs.Paths.{AreApart, AreTextsApart, Differ, DiffersFromAll};
 
 use crate::failure::Failure;
 use crate::words::Words;
@@ -18,14 +18,14 @@ fn differ(one: Option<&str>, other: Option<&str>) -> bool
 }
 
 /// Whether the paths of the record, of the chart and of the trace are not those of the source and of the choices, and differ.
-pub(crate) fn are_apart(
+fn texts_are_apart(
     file: Option<&str>,
     choices: Option<&str>,
     recorded: Option<&str>,
     drawn: Option<&str>,
     traced: Option<&str>,
 ) -> bool
-    ensures { IsTrue result → AreApart file.entry choices.entry recorded.entry drawn.entry traced.entry }
+    ensures { IsTrue result → AreTextsApart file.entry choices.entry recorded.entry drawn.entry traced.entry }
 {
     differ(recorded, file)
         && differ(recorded, choices)
@@ -36,6 +36,40 @@ pub(crate) fn are_apart(
         && differ(traced, choices)
         && differ(traced, recorded)
         && differ(traced, drawn)
+}
+
+/// Whether the path of the turns is none of the others.
+fn are_beside(
+    file: Option<&str>,
+    choices: Option<&str>,
+    recorded: Option<&str>,
+    drawn: Option<&str>,
+    traced: Option<&str>,
+    stepped: Option<&str>,
+) -> bool
+    ensures { IsTrue result → DiffersFromAll stepped.entry file.entry choices.entry recorded.entry drawn.entry traced.entry }
+{
+    differ(stepped, file)
+        && differ(stepped, choices)
+        && differ(stepped, recorded)
+        && differ(stepped, drawn)
+        && differ(stepped, traced)
+}
+
+/// Whether the paths of the record, of the chart, of the trace and of the turns are not those of the source and of the choices, and
+/// differ.
+pub(crate) fn are_apart(
+    file: Option<&str>,
+    choices: Option<&str>,
+    recorded: Option<&str>,
+    drawn: Option<&str>,
+    traced: Option<&str>,
+    stepped: Option<&str>,
+) -> bool
+    ensures { IsTrue result → AreApart file.entry choices.entry recorded.entry drawn.entry traced.entry stepped.entry }
+{
+    texts_are_apart(file, choices, recorded, drawn, traced)
+        && are_beside(file, choices, recorded, drawn, traced, stepped)
 }
 
 /// Whether both words name one plain file that there is, by whatever path.
@@ -56,6 +90,11 @@ pub(crate) fn check_files<R: Files>(rt: &R, words: &Words<'_>) -> Result<(), Fai
         || name_one(rt, words.trace_to, words.file)
         || name_one(rt, words.trace_to, words.choices)
         || name_one(rt, words.trace_to, words.record)
-        || name_one(rt, words.trace_to, words.chart);
+        || name_one(rt, words.trace_to, words.chart)
+        || name_one(rt, words.steps, words.file)
+        || name_one(rt, words.steps, words.choices)
+        || name_one(rt, words.steps, words.record)
+        || name_one(rt, words.steps, words.chart)
+        || name_one(rt, words.steps, words.trace_to);
     if met { Err(Failure::Paths) } else { Ok(()) }
 }

@@ -25,7 +25,7 @@ pub enum Failure {
     #[error("an argument is no UTF-8")]
     Arguments,
     /// A file that is to be written is one that is read, or another that is written.
-    #[error("--record, --chart and --trace-to each write into a file of their own")]
+    #[error("--record, --chart, --trace-to and --steps each write into a file of their own")]
     Paths,
     /// A file or a stream could not be read.
     #[error("read failed")]

@@ -5,7 +5,7 @@ ghost use Rattle.occ_choices.specs.Crews.{IsCrew};
 ghost use Rattle.occ_code.specs.Compiled.{IsQuantum};
 ghost use Rattle.occ_play_inputs.specs.Modes.{IsMode};
 ghost use Rattle.occ_play_inputs.specs.Paths.{AreApart};
-ghost use Rattle.occ_play_inputs.specs.Searches.{IsSearch};
+ghost use Rattle.occ_play_inputs.specs.Searches.{IsFull, IsSearch};
 
 use crate::apart::are_apart;
 use clap::builder::ValueParser;
@@ -47,8 +47,8 @@ pub const DEFAULT_STATES: u32 = 1_000_000;
 /// The most states that a word may ask for.
 pub const MOST_STATES: u32 = 10_000_000;
 
-/// What a word may say that a search tells.
-static TOLD: [&str; 2] = ["answers", "endings"];
+/// What a word may say of a search: what it tells, or that it comes to all states for what it tells.
+static TOLD: [&str; 3] = ["answers", "endings", "full"];
 
 /// What is told below the words.
 const MORE_HELP: &str =
@@ -101,15 +101,21 @@ pub struct Words<'a> {
     pub record: Option<&'a str>,
     /// The path of the file into which a chart of the trace is written.
     pub chart: Option<&'a str>,
-    /// The most communications that the chart shows.
+    /// The most communications that the chart shows, of the first ones.
     pub arrows: u32,
+    /// The most communications that it shows of the last ones; none where it shows the first ones.
+    pub last: Option<u32>,
     /// The path of the file into which the trace is written.
     pub trace_to: Option<&'a str>,
     /// Whether that file has an object of JSON for each communication.
     pub json: bool,
+    /// The path of the file into which a line for each turn is written.
+    pub steps: Option<&'a str>,
     /// What a search of all lists of choices tells; none where one run is played. Then `record` names files, one for each
-    /// answer, and the limit, the workers, the choices, the trace and the chart say nothing.
+    /// answer, and the limit, the workers, the choices, the trace, the turns and the chart say nothing.
     pub explore: Option<Asked>,
+    /// Whether that search comes to all states, where else it comes to those that are enough.
+    pub full: bool,
     /// How many states the search may come to, 1 to 10,000,000.
     pub states: u32,
     /// Whether it is only said whether the source is refused: then nothing is typed and nothing is played.
@@ -124,7 +130,7 @@ pub struct Words<'a> {
     ghost seed_in_range: { ForSome seed (λ n. n ≤ 1000000000) },
     ghost some_tries: { 1 ≤ tries },
     ghost tries_in_range: { tries ≤ 1000000 },
-    ghost files_apart: { AreApart file choices «record» chart trace_to },
+    ghost files_apart: { AreApart file choices «record» chart trace_to steps },
 }
 
 /// Reads the words, of which the first is the program's name.
@@ -181,11 +187,11 @@ pub fn read_words<'a>(alloc: Global, words: &'a [&'a str]) -> Result<Words<'a>, 
     )?;
     let (file, choices) = (matches.get_str("FILE"), matches.get_str("choices"));
     let (record, chart) = (matches.get_str("record"), matches.get_str("chart"));
-    let trace_to = matches.get_str("trace-to");
-    if !are_apart(file, choices, record, chart, trace_to) {
+    let (trace_to, steps) = (matches.get_str("trace-to"), matches.get_str("steps"));
+    if !are_apart(file, choices, record, chart, trace_to, steps) {
         return Err(command.error(
             ErrorKind::ValueValidation,
-            "--record, --chart and --trace-to each write into a file of their own",
+            "--record, --chart, --trace-to and --steps each write into a file of their own",
         )?);
     }
     Ok(Words {
@@ -202,9 +208,12 @@ pub fn read_words<'a>(alloc: Global, words: &'a [&'a str]) -> Result<Words<'a>, 
         record,
         chart,
         arrows: arrows_of(matches.get_one::<u32>("arrows")),
+        last: matches.get_one::<u32>("last"),
         trace_to,
         json: matches.get_flag("json"),
+        steps,
         explore: explore_of(matches.get_str("explore")),
+        full: is_full(matches.get_str("explore")),
         states,
         check: matches.get_flag("check"),
         file,
@@ -303,6 +312,16 @@ fn explore_of(given: Option<&str>) -> Option<Asked>
     }
 }
 
+/// Whether a search comes to all states, where the words gave this name; not where they ask for none.
+fn is_full(given: Option<&str>) -> bool
+    ensures { IsFull (option_copied given.entry) result }
+{
+    match given {
+        Some("full") => true,
+        _ => false,
+    }
+}
+
 /// The words that the program takes.
 fn command<'a>(alloc: Global) -> Result<Command<'a>, Error> {
     let command = Command::new(alloc, "occam")
@@ -320,9 +339,11 @@ fn command<'a>(alloc: Global) -> Result<Command<'a>, Error> {
         .arg(record_word(alloc))?
         .arg(chart_word(alloc))?
         .arg(arrows_word(alloc)?)?
+        .arg(last_word(alloc)?)?
         .arg(trace_word(alloc))?
         .arg(trace_to_word(alloc))?
         .arg(json_word(alloc)?)?
+        .arg(steps_word(alloc))?
         .arg(watch_word(alloc))?
         .arg(explain_word(alloc))?
         .arg(explore_word(alloc)?)?
@@ -420,6 +441,16 @@ fn arrows_word<'a>(alloc: Global) -> Result<Arg<'a>, AllocError> {
         .requires_arg("chart")
 }
 
+fn last_word<'a>(alloc: Global) -> Result<Arg<'a>, AllocError> {
+    Arg::new(alloc, "last")
+        .long("last")
+        .value_name("N")
+        .help("Draws at most the last N communications instead")
+        .value_parser(value_parser!(u32))
+        .requires_arg("chart")?
+        .conflicts_with("arrows")
+}
+
 fn trace_word<'a>(alloc: Global) -> Arg<'a> {
     Arg::new(alloc, "trace")
         .long("trace")
@@ -440,6 +471,15 @@ fn json_word<'a>(alloc: Global) -> Result<Arg<'a>, AllocError> {
         .help("Writes each of them as a line of JSON")
         .action(ArgAction::SetTrue)
         .requires_arg("trace-to")
+}
+
+fn steps_word<'a>(alloc: Global) -> Arg<'a> {
+    Arg::new(alloc, "steps")
+        .long("steps")
+        .value_name("FILE")
+        .help(
+            "Writes a line for each turn into FILE: who was ready, who took it, what it then stands at",
+        )
 }
 
 fn watch_word<'a>(alloc: Global) -> Arg<'a> {
@@ -463,7 +503,7 @@ fn explore_word<'a>(alloc: Global) -> Result<Arg<'a>, AllocError> {
         .long("explore")
         .value_name("WHAT")
         .help(
-            "Tells what all lists of choices come to, with the screen for answers, without for endings [default: answers]",
+            "Tells what all lists of choices come to, with the screen for answers, without for endings; full tells answers by way of all states [default: answers]",
         )
         .num_args(0..=1)
         .require_equals(true)
@@ -479,9 +519,11 @@ fn but_one_run<'a>(word: Arg<'a>) -> Result<Arg<'a>, AllocError> {
         .conflicts_with("choices")?
         .conflicts_with("chart")?
         .conflicts_with("arrows")?
+        .conflicts_with("last")?
         .conflicts_with("trace")?
         .conflicts_with("trace-to")?
         .conflicts_with("json")?
+        .conflicts_with("steps")?
         .conflicts_with("seed")?
         .conflicts_with("tries")?
         .conflicts_with("watch")

@@ -114,10 +114,10 @@ searched_status words asked (Err f) all h = tt
 -- what a search came to, by its two clauses
 pub searched_to : (words : Asked) (source keyboard bytes keys : List ℕ) (asked : AskedFor) (options : Options) (found : Result Exploration PlayFault)
     → options ≡ options_in words → bytes ≡ source → keys ≡ keyboard
-    → IfOk found (IsExplored options bytes keys asked words.states) → IfErr found (Refuses options bytes) → SearchedTo words source keyboard asked found
+    → IfOk found (IsExplored options bytes keys asked words.full words.states) → IfErr found (Refuses options bytes) → SearchedTo words source keyboard asked found
 searched_to words source keyboard bytes keys asked options (Ok e) same from typed h g =
-    subst (λ o. IsExplored o source keyboard asked words.states e) same
-    (subst (λ k. IsExplored options source k asked words.states e) typed (subst (λ s. IsExplored options s keys asked words.states e) from h))
+    subst (λ o. IsExplored o source keyboard asked words.full words.states e) same
+    (subst (λ k. IsExplored options source k asked words.full words.states e) typed (subst (λ s. IsExplored options s keys asked words.full words.states e) from h))
 searched_to words source keyboard bytes keys asked options (Err f) same from typed h g =
     subst (λ o. Refuses o source f) same (subst (λ s. Refuses options s f) from g)
 
@@ -131,11 +131,12 @@ only_to words source keyboard bytes keys options (Ok (Some a)) same from typed h
 only_to words source keyboard bytes keys options (Err f) same from typed h g = subst (λ o. Refuses o source f) same (subst (λ s. Refuses options s f) from g)
 
 pub only_small : (a : Answer) → only_status a ≤ 7
-only_small a = by (is_stop a.ending)
+only_small a = by (is_fault a.ending) (is_stop a.ending)
   where
-    by : (stop : Bool) → (if stop then 2 else 0) ≤ 7
-    by true = omega arith
-    by false = omega arith
+    by : (fault stop : Bool) → (if fault then 3 else if stop then 2 else 0) ≤ 7
+    by true stop = omega arith
+    by false true = omega arith
+    by false false = omega arith
 
 search_small : (e : Exploration) → search_status e ≤ 7
 search_small e = by e.all (some_ends is_fault e.answers.items) (some_ends is_stop e.answers.items)

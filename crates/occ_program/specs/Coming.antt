@@ -51,7 +51,7 @@ pub record IsStatusFor (words : Words) (s : ℕ) : Type 0 where
 
 -- what it came to, as the words ask
 abbrev pub SearchedTo : Words → (source keyboard : List ℕ) → Asked → Result Exploration PlayFault → Type 0
-SearchedTo words source keyboard asked (Ok e) = IsExplored (options_in words) source keyboard asked words.states e
+SearchedTo words source keyboard asked (Ok e) = IsExplored (options_in words) source keyboard asked words.full words.states e
 SearchedTo words source keyboard asked (Err fault) = Refuses (options_in words) source fault
 
 abbrev pub found_status : Result Exploration PlayFault → ℕ

@@ -7,12 +7,15 @@ use Rattle.occ_choices.specs.Lines.{choice_text}
 use Rattle.occ_play.specs.declared.playing.Options.{Options}
 use Rattle.occ_play.specs.declared.playing.Played.{Played}
 use Rattle.occ_play.specs.declared.fault.PlayFault.{PlayFault}
-use Rattle.occ_play.specs.Charting.{IsChart}
+use Rattle.occ_chart.specs.declared.part.Part.{Part}
+use Rattle.occ_chart.specs.declared.part.Part.TheVariants.{First, Last}
+use Rattle.occ_explaining.specs.Explaining.{IsNamedChart}
 use Rattle.occ_play.specs.Playing.{Refuses}
 use Rattle.occ_explore.specs.declared.exploration.Answer.{Answer}
 use Rattle.occ_files.specs.Leaving.{Leaves, LeavesAll, LeavesNothing, Written}
 use Rattle.occ_play_inputs.specs.declared.failure.Failure.{Failure}
 use Rattle.occ_program.specs.declared.page.Page.{Page}
+use Rattle.occ_steps.specs.Steps.{StepsOf}
 use Rattle.occ_tracing.specs.declared.tracing.Form.{Form}
 use Rattle.occ_tracing.specs.declared.tracing.Form.TheVariants.{Lines, Json}
 use Rattle.occ_tracing.specs.Traced.{IsTraced}
@@ -28,16 +31,32 @@ Records None played page = page ≡ None
 Records (Some path) (Err fault) page = page ≡ None
 Records (Some path) (Ok played) page = HasText (λ text. text ≡ choice_text played.choices.items) path page
 
+-- which communications are drawn, as the words say
+abbrev pub part_in : ℕ → Option ℕ → Part
+part_in most None = First most
+part_in most (Some n) = Last n
+
 -- a chart of the run by those choices
-abbrev pub Charts : Options → (source keyboard : List ℕ) → ℕ → Option (Bor (List ℕ)) → Result Played PlayFault → Option Page → Type 0
-Charts options source keyboard most None played page = page ≡ None
-Charts options source keyboard most (Some path) (Err fault) page = page ≡ None
-Charts options source keyboard most (Some path) (Ok played) page = HasText (IsChart options source keyboard played.choices.items most) path page
+abbrev pub Charts : Options → (source keyboard : List ℕ) → Part → Option (Bor (List ℕ)) → Result Played PlayFault → Option Page → Type 0
+Charts options source keyboard part None played page = page ≡ None
+Charts options source keyboard part (Some path) (Err fault) page = page ≡ None
+Charts options source keyboard part (Some path) (Ok played) page = HasText (IsNamedChart options source keyboard played.choices.items part) path page
 
 -- or the text was refused
-abbrev pub Draws : Options → (source keyboard : List ℕ) → ℕ → Option (Bor (List ℕ)) → Result Played PlayFault → Result (Option Page) PlayFault → Type 0
-Draws options source keyboard most path played (Ok page) = Charts options source keyboard most path played page
-Draws options source keyboard most path played (Err fault) = Refuses options source fault
+abbrev pub Draws : Options → (source keyboard : List ℕ) → Part → Option (Bor (List ℕ)) → Result Played PlayFault → Result (Option Page) PlayFault → Type 0
+Draws options source keyboard part path played (Ok page) = Charts options source keyboard part path played page
+Draws options source keyboard part path played (Err fault) = Refuses options source fault
+
+-- the turns of the run by those choices
+abbrev pub StepsPage : Options → (source keyboard : List ℕ) → Option (Bor (List ℕ)) → Result Played PlayFault → Option Page → Type 0
+StepsPage options source keyboard None played page = page ≡ None
+StepsPage options source keyboard (Some path) (Err fault) page = page ≡ None
+StepsPage options source keyboard (Some path) (Ok played) page = HasText (StepsOf options source keyboard played.choices.items) path page
+
+-- or the text was refused
+abbrev pub Steps : Options → (source keyboard : List ℕ) → Option (Bor (List ℕ)) → Result Played PlayFault → Result (Option Page) PlayFault → Type 0
+Steps options source keyboard path played (Ok page) = StepsPage options source keyboard path played page
+Steps options source keyboard path played (Err fault) = Refuses options source fault
 
 -- how a trace is written, as the words say
 abbrev pub form_in : Bool → Form

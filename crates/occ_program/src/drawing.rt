@@ -2,14 +2,16 @@
 ghost use Rattle.std.specs.Prelude.{◌≡◌, IfErr, IfOk};
 ghost use Rattle.occ_choices.specs.Plans.{choices_of};
 ghost use Rattle.occ_program.specs.Coming.{options_in};
-ghost use Rattle.occ_program.specs.Pages.{Charts, Draws, LeavesOrRefuses};
-ghost use Rattle.occ_play.specs.Charting.{IsChart};
+ghost use Rattle.occ_program.specs.Pages.{Charts, Draws, LeavesOrRefuses, part_in};
+ghost use Rattle.occ_explaining.specs.Explaining.{IsNamedChart};
 ghost use Rattle.occ_play.specs.Playing.{Refuses};
 
 use crate::page::{Page, write_page};
 use crate::program::options_of;
+use occ_charting::Part;
+use occ_explaining::named_chart;
 use occ_files::Folder;
-use occ_play::{Choice, Plan, PlayFault, Played, chart};
+use occ_play::{Choice, Plan, PlayFault, Played};
 use occ_play_inputs::{Failure, Inputs, Words};
 use std::alloc::{AllocError, Global};
 
@@ -22,7 +24,7 @@ pub(crate) fn draw<F: Folder>(
     played: &Result<Played, PlayFault>,
 ) -> Result<Result<(), PlayFault>, Failure>
     ensures refused { IfOk result (λ drawn. IfErr drawn (Refuses (options_in words.now) inputs.now.source.items)) }
-    ensures left { LeavesOrRefuses (Charts (options_in words.now) inputs.now.source.items inputs.now.keyboard.items words.now.arrows words.now.chart played.now) (F.left folder.old) (F.left folder.new) result }
+    ensures left { LeavesOrRefuses (Charts (options_in words.now) inputs.now.source.items inputs.now.keyboard.items (part_in words.now.arrows words.now.last) words.now.chart played.now) (F.left folder.old) (F.left folder.new) result }
 {
     match drawn(alloc, words, inputs, played)? {
         Ok(page) => {
@@ -40,7 +42,7 @@ fn drawn<'a>(
     inputs: &Inputs,
     played: &Result<Played, PlayFault>,
 ) -> Result<Result<Option<Page<'a>>, PlayFault>, Failure>
-    ensures { IfOk result (Draws (options_in words.now) inputs.now.source.items inputs.now.keyboard.items words.now.arrows words.now.chart played.now) }
+    ensures { IfOk result (Draws (options_in words.now) inputs.now.source.items inputs.now.keyboard.items (part_in words.now.arrows words.now.last) words.now.chart played.now) }
 {
     match (words.chart, played) {
         (Some(path), Ok(played)) => match chart_of(alloc, words, inputs, played)? {
@@ -51,6 +53,16 @@ fn drawn<'a>(
     }
 }
 
+/// Which communications are drawn, as the words say.
+fn part_of(words: &Words<'_>) -> Part
+    ensures { result ≡ part_in words.now.arrows words.now.last }
+{
+    match words.last {
+        Some(last) => Part::Last(last),
+        None => Part::First(words.arrows),
+    }
+}
+
 /// The chart of the run of these inputs by the choices that were used.
 fn chart_of(
     alloc: Global,
@@ -58,17 +70,17 @@ fn chart_of(
     inputs: &Inputs,
     played: &Played,
 ) -> Result<Result<Vec<u8>, PlayFault>, Failure>
-    ensures drawn { IfOk result (λ chart. IfOk chart (λ bytes. IsChart (options_in words.now) inputs.now.source.items inputs.now.keyboard.items played.now.choices.items words.now.arrows bytes.items)) }
+    ensures drawn { IfOk result (λ chart. IfOk chart (λ bytes. IsNamedChart (options_in words.now) inputs.now.source.items inputs.now.keyboard.items played.now.choices.items (part_in words.now.arrows words.now.last) bytes.items)) }
     ensures refused { IfOk result (λ chart. IfErr chart (Refuses (options_in words.now) inputs.now.source.items)) }
 {
     let plan = plan_of(alloc, played.choices.as_slice())?;
-    Ok(chart(
+    Ok(named_chart(
         &options_of(words),
         alloc,
         inputs.source.as_slice(),
         inputs.keyboard.as_slice(),
         &plan,
-        words.arrows,
+        part_of(words),
     ))
 }
 

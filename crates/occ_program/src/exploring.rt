@@ -217,6 +217,7 @@ fn search(
         inputs.source.as_slice(),
         inputs.keyboard.as_slice(),
         asked,
+        words.full,
         words.states,
     )
 }

@@ -12,6 +12,7 @@ mod page;
 pub mod program;
 mod recording;
 mod seeding;
+mod stepping;
 mod tracing;
 
 pub use exit::exit_code;

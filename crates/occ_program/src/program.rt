@@ -13,6 +13,7 @@ use crate::exploring::explore_words;
 use crate::looking::look_at_words;
 use crate::recording::record;
 use crate::seeding::take_seed;
+use crate::stepping::step;
 use crate::tracing::trace;
 use occ_files::Disk;
 use occ_play::{
@@ -100,8 +101,8 @@ fn look_or_run<R: Files + Input + Print + Eprint + Threads + Wait + Sync>(
     }
 }
 
-/// Reads what the words name, plays it, records the used choices, draws a chart and writes the trace where the words ask for
-/// that. The answer goes to standard output, and a fault's line to standard error.
+/// Reads what the words name, plays it, records the used choices, draws a chart and writes the trace and the turns where the words
+/// ask for that. The answer goes to standard output, and a fault's line to standard error.
 fn run_words<R: Files + Input + Print + Eprint + Threads + Wait + Sync>(
     rt: &R,
     alloc: Global,
@@ -118,7 +119,9 @@ fn run_words<R: Files + Input + Print + Eprint + Threads + Wait + Sync>(
     record(&mut folder, alloc, words, &played)?;
     let drawn = draw(&mut folder, alloc, words, &inputs, &played)?;
     let traced = trace(&mut folder, alloc, words, &inputs, &played)?;
-    Ok(told(rt, alloc, words, &inputs, &traced.and(drawn).and(played)))
+    let stepped = step(&mut folder, alloc, words, &inputs, &played)?;
+    let came = stepped.and(traced).and(drawn).and(played);
+    Ok(told(rt, alloc, words, &inputs, &came))
 }
 
 /// Prints the line of a fault, and more where the words ask for it, and answers the exit status.

@@ -1,9 +1,9 @@
 -- What is told of each process that is left.
 -- Manual: nothing; this is (own).
-use Rattle.std.specs.Prelude.{List, None, Option, Some, [], codes, if◌then◌else◌, length, min, replicate, slice_get, slice_set, zero, suc, ℕ, ◌++◌, ◌==◌, ◌≡◌, ◌∷◌}
+use Rattle.std.specs.Prelude.{List, None, Option, Some, [], codes, if◌then◌else◌, length, min, slice_get, zero, suc, ℕ, ◌++◌, ◌==◌, ◌≡◌, ◌∷◌}
 use Rattle.std.specs.Fmt.{decimal}
 use Rattle.occ_term.specs.Runs.{Names, tag_shown}
-use Rattle.occ_term.specs.System.{Communication, End, Error, Keyboard, OfProcess, Screen, communication}
+use Rattle.occ_term.specs.Terms.{Term}
 use Rattle.occ_term.specs.declared.message.Message.{Message}
 use Rattle.occ_code.specs.declared.task.Arm.{Arm}
 use Rattle.occ_code.specs.declared.task.Task.{Task}
@@ -18,35 +18,41 @@ use Rattle.occ_net_replay.specs.Endings.{ending_text}
 use Rattle.occ_net_replay.specs.Replay.{Net, Replays, Tasks, ending_of}
 use Rattle.occ_shown.specs.Answers.{items_text, names_of}
 use Rattle.occ_net_tables.specs.Outcomes.{Begins}
+use Rattle.occ_ends.specs.declared.ends.Ends.{Ends}
+use Rattle.occ_ends.specs.Ends.{AreEnds, IsCircle, next_noted}
+use Rattle.occ_places.specs.declared.stop.Kind.{Kind}
+use Rattle.occ_places.specs.declared.stop.Kind.TheVariants as kinds
+use Rattle.occ_places.specs.declared.stop.Stop.{Stop}
+use Rattle.occ_places.specs.Places.{Known, name_of, stop_of}
 
--- by channel: the process that read it last, or wrote it last
-abbrev pub Ends : Type 0
-Ends = List (Option ℕ)
+-- by channel: the process that may input from it, or that may output to it, of those that are left
+abbrev pub Noted : Type 0
+Noted = List (Option ℕ)
 
 abbrev pub process_text : ℕ → List ℕ
 process_text n = 112 ∷ decimal n
 
--- who read a channel last, or wrote it, if anybody did; 0 is the keyboard, whose bytes are then used up
+-- who reads a channel, or writes it, if anybody does; 0 is the keyboard, whose bytes are then used up
 abbrev pub reader_text : Option (Option ℕ) → List ℕ
-reader_text None = []
-reader_text (Some None) = []
-reader_text (Some (Some n)) = codes ", which " ++ process_text n ++ codes " read last"
+reader_text None = codes ", which nobody reads now"
+reader_text (Some None) = codes ", which nobody reads now"
+reader_text (Some (Some n)) = codes ", which " ++ process_text n ++ codes " reads"
 
 abbrev pub writer_text : ℕ → Option (Option ℕ) → List ℕ
 writer_text zero end = codes ", whose bytes are used up"
-writer_text (suc c) None = []
-writer_text (suc c) (Some None) = []
-writer_text (suc c) (Some (Some n)) = codes ", which " ++ process_text n ++ codes " wrote last"
+writer_text (suc c) None = codes ", which nobody writes now"
+writer_text (suc c) (Some None) = codes ", which nobody writes now"
+writer_text (suc c) (Some (Some n)) = codes ", which " ++ process_text n ++ codes " writes"
 
-abbrev pub awaited_text : Names → Ends → ℕ → List ℕ
+abbrev pub awaited_text : Names → Noted → ℕ → List ℕ
 awaited_text names writers c = codes "awaits " ++ names.channel_name c ++ writer_text c (slice_get writers c)
 
 -- an arm with SKIP has no channel
-abbrev pub arm_channel_text : Names → Ends → Option ℕ → List ℕ
+abbrev pub arm_channel_text : Names → Noted → Option ℕ → List ℕ
 arm_channel_text names writers None = codes "; SKIP"
 arm_channel_text names writers (Some c) = codes "; " ++ awaited_text names writers c
 
-abbrev pub arms_text : Names → Ends → List Arm → List ℕ
+abbrev pub arms_text : Names → Noted → List Arm → List ℕ
 arms_text names writers [] = []
 arms_text names writers (a ∷ others) = arm_channel_text names writers a.chan ++ arms_text names writers others
 
@@ -54,35 +60,65 @@ abbrev pub branches_text : List ℕ → List ℕ
 branches_text [] = []
 branches_text (n ∷ ns) = 32 ∷ process_text n ++ branches_text ns
 
-abbrev pub offer_text : Names → Ends → ℕ → Message → List ℕ
+abbrev pub offer_text : Names → Noted → ℕ → Message → List ℕ
 offer_text names readers c m =
     codes "offers " ++ items_text (tag_shown names c m.tag) m.items ++ codes " on " ++ names.channel_name c ++ reader_text (slice_get readers c)
 
--- what a process stands at; at its end it is not left
-abbrev pub standing_text : Names → (readers writers : Ends) → Wait → Option (List ℕ)
-standing_text names readers writers Ready = Some (codes "can go on")
-standing_text names readers writers (Took arm indices m) = Some (codes "can go on")
-standing_text names readers writers (Offers c m) = Some (offer_text names readers c m)
-standing_text names readers writers (Awaits c) = Some (awaited_text names writers c)
-standing_text names readers writers (Chooses pri arms) = Some (codes "chooses" ++ arms_text names writers arms)
-standing_text names readers writers (Joins ns) = Some (codes "waits for" ++ branches_text ns)
-standing_text names readers writers Halted = Some (codes "halted")
-standing_text names readers writers Done = None
-standing_text names readers writers (Faulted e) = Some (ending_text (endings.Fault e))
+-- for what a process halted, by what stands in the source there
+abbrev pub halting_text : Kind → List ℕ
+halting_text kinds.Stop = codes "halted by STOP"
+halting_text kinds.If = codes "halted, since no condition of the IF is TRUE"
+halting_text kinds.Case = codes "halted, since the CASE has no option for the value"
+halting_text kinds.Variants = codes "halted, since no variant has the tag"
+halting_text kinds.Alt = codes "halted, since every arm of the ALT is closed"
+halting_text kinds.Output = codes "halted"
+halting_text kinds.Input = codes "halted"
+halting_text kinds.Par = codes "halted"
+halting_text kinds.Loop = codes "halted"
 
-abbrev pub on_line : ℕ → Option (List ℕ) → List ℕ
-on_line n None = []
-on_line n (Some text) = codes "  " ++ process_text n ++ 32 ∷ text ++ 10 ∷ []
+abbrev pub halted_text : Option Stop → List ℕ
+halted_text None = codes "halted"
+halted_text (Some s) = halting_text s.kind
 
-abbrev pub task_line : Names → (readers writers : Ends) → ℕ → Option (Option Task) → List ℕ
-task_line names readers writers n None = []
-task_line names readers writers n (Some None) = []
-task_line names readers writers n (Some (Some t)) = on_line n (standing_text names readers writers t.wait)
+-- what a process stands at, of whose stop this is known; at its end it is not left
+abbrev pub standing_text : Names → (readers writers : Noted) → Option Stop → Wait → Option (List ℕ)
+standing_text names readers writers stop Ready = Some (codes "can go on")
+standing_text names readers writers stop (Took arm indices m) = Some (codes "can go on")
+standing_text names readers writers stop (Offers c m) = Some (offer_text names readers c m)
+standing_text names readers writers stop (Awaits c) = Some (awaited_text names writers c)
+standing_text names readers writers stop (Chooses pri arms) = Some (codes "chooses" ++ arms_text names writers arms)
+standing_text names readers writers stop (Joins ns) = Some (codes "waits for" ++ branches_text ns)
+standing_text names readers writers stop Halted = Some (halted_text stop)
+standing_text names readers writers stop Done = None
+standing_text names readers writers stop (Faulted e) = Some (ending_text (endings.Fault e))
+
+-- the name of a PROC, where it is known
+abbrev pub name_text : List ℕ → List ℕ
+name_text [] = []
+name_text (c ∷ cs) = 32 ∷ c ∷ cs
+
+-- the line of a stop, where it is known
+abbrev pub line_text : Option Stop → List ℕ
+line_text None = []
+line_text (Some s) = codes ", line " ++ decimal s.line
+
+abbrev pub on_line : ℕ → (name : List ℕ) → Option Stop → Option (List ℕ) → List ℕ
+on_line n name stop None = []
+on_line n name stop (Some text) = codes "  " ++ process_text n ++ name_text name ++ line_text stop ++ codes ": " ++ text ++ codes "\n"
+
+-- what is told of a process, with its PROC and the line that it stands at, as far as they are known
+abbrev pub process_line : Names → (readers writers : Noted) → (name : List ℕ) → Option Stop → ℕ → Wait → List ℕ
+process_line names readers writers name stop n w = on_line n name stop (standing_text names readers writers stop w)
+
+abbrev pub task_line : Names → (readers writers : Noted) → List Known → ℕ → Option (Option Task) → List ℕ
+task_line names readers writers known n None = []
+task_line names readers writers known n (Some None) = []
+task_line names readers writers known n (Some (Some t)) = process_line names readers writers (name_of known n) (stop_of known n t.wait t.place) n t.wait
 
 -- the lines of the first so many processes
-abbrev pub lines_of : Names → (readers writers : Ends) → Tasks → ℕ → List ℕ
-lines_of names readers writers tasks zero = []
-lines_of names readers writers tasks (suc n) = lines_of names readers writers tasks n ++ task_line names readers writers n (slice_get tasks n)
+abbrev pub lines_of : Names → (readers writers : Noted) → List Known → Tasks → ℕ → List ℕ
+lines_of names readers writers known tasks zero = []
+lines_of names readers writers known tasks (suc n) = lines_of names readers writers known tasks n ++ task_line names readers writers known n (slice_get tasks n)
 
 -- how the report begins
 unfoldable pub count_text : ℕ → List ℕ
@@ -98,41 +134,42 @@ tail_text endings.Limit = codes ":\n"
 abbrev pub head_text : ℕ → Ending → List ℕ
 head_text n e = codes "after " ++ count_text n ++ tail_text e
 
--- ---- who was at the other end
-
-abbrev pub noted : Ends → ℕ → End → Ends
-noted ends c (OfProcess n) = slice_set ends c (Some n)
-noted ends c Keyboard = ends
-noted ends c Screen = ends
-noted ends c Error = ends
-
-abbrev pub readers_after : Ends → List Communication → Ends
-readers_after ends [] = ends
-readers_after ends (communication c x y m ∷ others) = readers_after (noted ends c y) others
-
-abbrev pub writers_after : Ends → List Communication → Ends
-writers_after ends [] = ends
-writers_after ends (communication c x y m ∷ others) = writers_after (noted ends c x) others
-
--- at the start nobody was
-abbrev pub nobody : ℕ → Ends
-nobody channels = replicate channels None
+-- processes each of which waits for the next, and the last one for the first
+abbrev pub circle_text : List ℕ → List ℕ
+circle_text [] = []
+circle_text (n ∷ ns) = codes "  in a circle, each waits for the next:" ++ branches_text (n ∷ ns) ++ codes "\n"
 
 -- the processes that are told of: all but for those whose number would be 2 to the 32 less 1, of which a program has none
 abbrev pub told_of : Tasks → ℕ
 told_of tasks = min (length tasks) 4294967295
 
--- of a state of a program's network
-abbrev pub report_text : Names → (channels : ℕ) → Net → Ending → List ℕ
-report_text names channels net e =
-    head_text (length net.trace) e
-    ++ lines_of names (readers_after (nobody channels) net.trace) (writers_after (nobody channels) net.trace) net.tasks (told_of net.tasks)
+-- of a state of a program's network, with who is at the ends of channels, and what is known of where its processes stand in the source
+abbrev pub report_text : Names → (readers writers : Noted) → List Known → (circle : List ℕ) → Net → Ending → List ℕ
+report_text names readers writers known circle net e =
+    head_text (length net.trace) e ++ lines_of names readers writers known net.tasks (told_of net.tasks) ++ circle_text circle
 
--- The replay of the used choices, which are a beginning of the list, as a run of the list has it, and the report of its state.
-pub record IsReport (p : Program) (keyboard : List ℕ) (list : List Choice) (bytes : List ℕ) : Type 0 where
+-- The replay of the used choices, which are a beginning of the list, as a run of the list has it, and the report of its state: each
+-- process that is left, who is at the other ends of its channels by what the program's term uses, and a circle of those that wait, where
+-- there is one.
+pub record IsReport (t : Term) (p : Program) (keyboard : List ℕ) (list : List Choice) (known : List Known) (bytes : List ℕ) : Type 0 where
   pub used : List Choice
   pub net : Net
   pub replays : Replays p keyboard used net
   pub begins : Begins used list
   pub whole : ending_of p.errors net ≡ None → used ≡ list
-  pub is : bytes ≡ report_text (names_of p.channels) (length p.channels) net (or_limit (ending_of p.errors net))
+  pub ends : Ends
+  pub are_ends : AreEnds t net.tasks (length p.channels) ends
+  pub circle : List ℕ
+  pub is_circle : IsCircle (next_noted ends net.tasks) (min (length net.tasks) 4294967294) circle
+  pub is : bytes ≡ report_text (names_of p.channels) ends.readers.items ends.writers.items known circle net (or_limit (ending_of p.errors net))
+
+-- Processes that wait in a circle in the state that the replay of the used choices comes to, where there are some.
+pub record IsCircleOf (t : Term) (p : Program) (keyboard : List ℕ) (list : List Choice) (circle : List ℕ) : Type 0 where
+  pub used : List Choice
+  pub net : Net
+  pub replays : Replays p keyboard used net
+  pub begins : Begins used list
+  pub whole : ending_of p.errors net ≡ None → used ≡ list
+  pub ends : Ends
+  pub are_ends : AreEnds t net.tasks (length p.channels) ends
+  pub is_circle : IsCircle (next_noted ends net.tasks) (min (length net.tasks) 4294967294) circle

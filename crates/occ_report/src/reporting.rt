@@ -1,14 +1,17 @@
 //! Reports of runs.
-ghost use Rattle.std.specs.Prelude.{◌≡◌, ◌++◌, IfOk, OnOk};
+ghost use Rattle.std.specs.Prelude.{◌≡◌, ◌++◌, IfOk, OnOk, map};
 ghost use Rattle.occ_choices.specs.Plans.{choices_of};
-ghost use Rattle.occ_report.specs.Reports.{IsReport, count_text, head_text, tail_text};
+ghost use Rattle.occ_ends.specs.Ends.{all_using, noted_for};
+ghost use Rattle.occ_term.specs.Terms.{Term};
+ghost use Rattle.occ_report.specs.Reports.{IsCircleOf, IsReport, count_text, head_text, tail_text};
 
-use crate::ends::{readers, writers};
-use crate::standing::{Ends, write_lines};
+use crate::standing::{Ends, write_circle, write_lines};
 use occ_choices::Plan;
 use occ_code::Code;
+use occ_ends::{ProcessUses, circle, ends_of};
 use occ_net_replay::Ending;
 use occ_net_tables::{Keep, Ran, run_tables};
+use occ_places::Places;
 use std::alloc::{AllocError, Global};
 
 /// How many processes a report tells of at most.
@@ -50,8 +53,9 @@ fn write_head(
     out.extend_from_slice(tail(ending))
 }
 
-/// What the run of a plan comes to: after how many communications, and a line for each process that is left then, with what
-/// it stands at, and who was last at the other end of its channel.
+/// What the run of a plan comes to: after how many communications, and a line for each process that is left then, with its
+/// PROC and its line where they are known, with what it stands at, and who is at the other end of its channel; and last, where there
+/// are some, processes that wait for one another in a circle. `uses` has what each process of the program uses.
 ///
 /// # Errors
 ///
@@ -59,10 +63,12 @@ fn write_head(
 pub fn report(
     alloc: Global,
     code: &Code,
+    uses: &[ProcessUses],
     keyboard: &[u8],
     plan: &Plan,
+    places: &Places,
 ) -> Result<Vec<u8>, AllocError>
-    ensures { IfOk result (λ bytes. IsReport code.now keyboard.now (choices_of plan.now) bytes.items) }
+    ensures { IfOk result (λ bytes. (t : Term) → map noted_for uses.now ≡ all_using t → IsReport t code.now keyboard.now (choices_of plan.now) places.now bytes.items) }
 {
     let Ran {
         ending,
@@ -74,16 +80,46 @@ pub fn report(
     let processes = code.len();
     let count = processes.min(MOST_TOLD) as u32;
     let channels = code.channels();
-    let readers = readers(alloc, trace, channels.len())?;
-    let writers = writers(alloc, trace, channels.len())?;
-    let reading = readers.as_slice();
-    let writing = writers.as_slice();
+    let found = ends_of(alloc, uses, &tables, channels.len())?;
+    let circle = circle(alloc, &found, &tables, count)?;
+    let reading = found.readers.as_slice();
+    let writing = found.writers.as_slice();
     let ends = Ends {
         readers: reading,
         writers: writing,
     };
     let mut out = Vec::new(alloc);
     write_head(alloc, &mut out, communications, ending)?;
-    write_lines(alloc, &mut out, channels, ends, &tables, count)?;
+    write_lines(alloc, &mut out, channels, ends, places, &tables, count)?;
+    let members = circle.as_slice();
+    write_circle(alloc, &mut out, members)?;
     Ok(out)
+}
+
+/// Processes that wait in a circle where the run of a plan has come to: each for the one behind it, and the last one for the first;
+/// none where there is no circle. `uses` has what each process of the program uses.
+///
+/// # Errors
+///
+/// A refused growth.
+pub fn circle_of(
+    alloc: Global,
+    code: &Code,
+    uses: &[ProcessUses],
+    keyboard: &[u8],
+    plan: &Plan,
+) -> Result<Vec<u32>, AllocError>
+    ensures { IfOk result (λ circle. (t : Term) → map noted_for uses.now ≡ all_using t → IsCircleOf t code.now keyboard.now (choices_of plan.now) circle.items) }
+{
+    let Ran {
+        ending: _,
+        kept: _,
+        tables,
+    } = run_tables(alloc, code, keyboard, plan, Keep::Given)?;
+    let processes = code.len();
+    let count = processes.min(MOST_TOLD) as u32;
+    let channels = code.channels();
+    let found = ends_of(alloc, uses, &tables, channels.len())?;
+    let circle = circle(alloc, &found, &tables, count)?;
+    Ok(circle)
 }

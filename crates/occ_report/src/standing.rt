@@ -4,17 +4,19 @@ ghost use Rattle.occ_code.specs.Compiled.{Program};
 ghost use Rattle.occ_net_replay.specs.Replay.{Net};
 ghost use Rattle.occ_net_tables.specs.Holding.{Holds};
 ghost use Rattle.occ_net_replay.specs.Endings.{ending_text};
+ghost use Rattle.occ_places.specs.Places.{name_of, stop_of};
 ghost use Rattle.occ_shown.specs.Answers.{names_of};
-ghost use Rattle.occ_report.specs.Reports.{lines_of, task_line, arm_channel_text, arms_text, awaited_text, branches_text, offer_text, on_line, process_text, reader_text, standing_text, writer_text};
+ghost use Rattle.occ_report.specs.Reports.{lines_of, task_line, arm_channel_text, arms_text, awaited_text, branches_text, circle_text, halted_text, halting_text, line_text, name_text, offer_text, on_line, process_line, process_text, reader_text, standing_text, writer_text};
 
 use crate::messages::{write_message, write_name};
 use occ_code::{Arm, Wait};
 use occ_net_replay::Ending;
 use occ_net_tables::Tables;
+use occ_places::{Kind, Places, Stop};
 use occ_term::{Channel, Fault, KEYBOARD, Message};
 use std::alloc::{AllocError, Global};
 
-/// By channel: the process that read it last, and the one that wrote it last.
+/// By channel, of the processes that are left: who may input from it, and who may output to it.
 #[derive(Clone, Copy)]
 pub(crate) struct Ends<'a> {
     pub(crate) readers: &'a [Option<u32>],
@@ -28,7 +30,7 @@ fn write_process(alloc: Global, out: &mut Vec<u8>, number: u32) -> Result<(), Al
     out.extend_from_slice(text.as_bytes())
 }
 
-/// Who read a channel last, if anybody did.
+/// Who reads a channel, if anybody does.
 fn write_reader(
     alloc: Global,
     out: &mut Vec<u8>,
@@ -39,14 +41,14 @@ fn write_reader(
 {
     match readers.get(chan as usize) {
         Some(Some(number)) => {
-            let text = format!(in alloc; ", which p{number} read last")?;
+            let text = format!(in alloc; ", which p{number} reads")?;
             out.extend_from_slice(text.as_bytes())
         }
-        _ => Ok(()),
+        _ => out.extend_from_slice(b", which nobody reads now"),
     }
 }
 
-/// Who wrote a channel last, if anybody did.
+/// Who writes a channel, if anybody does.
 fn write_writer(
     alloc: Global,
     out: &mut Vec<u8>,
@@ -60,10 +62,10 @@ fn write_writer(
     }
     match writers.get(chan as usize) {
         Some(Some(number)) => {
-            let text = format!(in alloc; ", which p{number} wrote last")?;
+            let text = format!(in alloc; ", which p{number} writes")?;
             out.extend_from_slice(text.as_bytes())
         }
-        _ => Ok(()),
+        _ => out.extend_from_slice(b", which nobody writes now"),
     }
 }
 
@@ -130,6 +132,22 @@ fn write_branches(alloc: Global, out: &mut Vec<u8>, branches: &[u32]) -> Result<
     Ok(())
 }
 
+/// Processes that wait in a circle, where there are some.
+pub(crate) fn write_circle(
+    alloc: Global,
+    out: &mut Vec<u8>,
+    circle: &[u32],
+) -> Result<(), AllocError>
+    ensures { OnOk result (out.new.items ≡ out.old.items ++ circle_text circle.now) }
+{
+    if circle.is_empty() {
+        return Ok(());
+    }
+    out.extend_from_slice(b"  in a circle, each waits for the next:")?;
+    write_branches(alloc, out, circle)?;
+    out.extend_from_slice(b"\n")
+}
+
 fn write_offer(
     alloc: Global,
     out: &mut Vec<u8>,
@@ -162,20 +180,45 @@ fn text_of(alloc: Global, text: &[u8]) -> Result<Option<Vec<u8>>, AllocError>
     Ok(Some(Vec::from_slice(alloc, text)?))
 }
 
-/// What a process stands at; nothing where it is at its end.
+/// For what a process halted, by what stands in the source there.
+fn halting_text(kind: Kind) -> &'static [u8]
+    ensures { result.now ≡ halting_text kind }
+{
+    match kind {
+        Kind::Stop => b"halted by STOP",
+        Kind::If => b"halted, since no condition of the IF is TRUE",
+        Kind::Case => b"halted, since the CASE has no option for the value",
+        Kind::Variants => b"halted, since no variant has the tag",
+        Kind::Alt => b"halted, since every arm of the ALT is closed",
+        Kind::Output | Kind::Input | Kind::Par | Kind::Loop => b"halted",
+    }
+}
+
+/// For what a process halted, as far as it is known.
+fn halted_text(stop: Option<Stop>) -> &'static [u8]
+    ensures { result.now ≡ halted_text stop }
+{
+    match stop {
+        Some(stop) => halting_text(stop.kind),
+        None => b"halted",
+    }
+}
+
+/// What a process stands at, of whose stop this is known; nothing where it is at its end.
 fn standing(
     alloc: Global,
     channels: &[Channel],
     ends: Ends<'_>,
+    stop: Option<Stop>,
     wait: &Wait,
 ) -> Result<Option<Vec<u8>>, AllocError>
-    ensures { IfOk result (λ found. option_map (λ v. v.items) found ≡ standing_text (names_of channels.now) ends.entry.readers.now ends.entry.writers.now wait.now) }
+    ensures { IfOk result (λ found. option_map (λ v. v.items) found ≡ standing_text (names_of channels.now) ends.entry.readers.now ends.entry.writers.now stop wait.now) }
 {
     let mut out = Vec::new(alloc);
     match wait {
         Wait::Ready => return text_of(alloc, b"can go on"),
         Wait::Took { .. } => return text_of(alloc, b"can go on"),
-        Wait::Halted => return text_of(alloc, b"halted"),
+        Wait::Halted => return text_of(alloc, halted_text(stop)),
         Wait::Done => return Ok(None),
         Wait::Offers { chan, message } => {
             write_offer(alloc, &mut out, channels, ends.readers, *chan, message)?
@@ -210,13 +253,47 @@ fn write_joining(alloc: Global, out: &mut Vec<u8>, branches: &[u32]) -> Result<(
     write_branches(alloc, out, branches)
 }
 
+/// The name of a PROC, where it is known.
+fn write_named(out: &mut Vec<u8>, name: &[u8]) -> Result<(), AllocError>
+    ensures { OnOk result (out.new.items ≡ out.old.items ++ name_text name.now) }
+{
+    if name.is_empty() {
+        return Ok(());
+    }
+    out.push(b' ')?;
+    out.extend_from_slice(name)
+}
+
+/// The line of a stop, where it is known.
+fn write_line(alloc: Global, out: &mut Vec<u8>, stop: Option<Stop>) -> Result<(), AllocError>
+    ensures { OnOk result (out.new.items ≡ out.old.items ++ line_text stop) }
+{
+    match stop {
+        Some(stop) => {
+            let line = stop.line;
+            let text = format!(in alloc; ", line {line}")?;
+            out.extend_from_slice(text.as_bytes())
+        }
+        None => Ok(()),
+    }
+}
+
 /// A line for a process, of this text.
-fn write_text(alloc: Global, out: &mut Vec<u8>, number: u32, text: &[u8]) -> Result<(), AllocError>
-    ensures { OnOk result (out.new.items ≡ out.old.items ++ on_line number (Some text.now)) }
+fn write_text(
+    alloc: Global,
+    out: &mut Vec<u8>,
+    number: u32,
+    name: &[u8],
+    stop: Option<Stop>,
+    text: &[u8],
+) -> Result<(), AllocError>
+    ensures { OnOk result (out.new.items ≡ out.old.items ++ on_line number name.now stop (Some text.now)) }
 {
     out.extend_from_slice(b"  ")?;
     write_process(alloc, out, number)?;
-    out.push(b' ')?;
+    write_named(out, name)?;
+    write_line(alloc, out, stop)?;
+    out.extend_from_slice(b": ")?;
     out.extend_from_slice(text)?;
     out.extend_from_slice(b"\n")
 }
@@ -226,12 +303,14 @@ fn write_on_line(
     alloc: Global,
     out: &mut Vec<u8>,
     number: u32,
+    name: &[u8],
+    stop: Option<Stop>,
     text: Option<Vec<u8>>,
 ) -> Result<(), AllocError>
-    ensures { OnOk result (out.new.items ≡ out.old.items ++ on_line number (option_map (λ v. v.items) text)) }
+    ensures { OnOk result (out.new.items ≡ out.old.items ++ on_line number name.now stop (option_map (λ v. v.items) text)) }
 {
     match text {
-        Some(text) => write_text(alloc, out, number, text.as_slice()),
+        Some(text) => write_text(alloc, out, number, name, stop, text.as_slice()),
         None => Ok(()),
     }
 }
@@ -243,12 +322,14 @@ fn write_standing(
     channels: &[Channel],
     ends: Ends<'_>,
     number: u32,
+    name: &[u8],
+    stop: Option<Stop>,
     wait: &Wait,
 ) -> Result<(), AllocError>
-    ensures { OnOk result (out.new.items ≡ out.old.items ++ on_line number (standing_text (names_of channels.now) ends.entry.readers.now ends.entry.writers.now wait.now)) }
+    ensures { OnOk result (out.new.items ≡ out.old.items ++ process_line (names_of channels.now) ends.entry.readers.now ends.entry.writers.now name.now stop number wait.now) }
 {
-    let text = standing(alloc, channels, ends, wait)?;
-    write_on_line(alloc, out, number, text)
+    let text = standing(alloc, channels, ends, stop, wait)?;
+    write_on_line(alloc, out, number, name, stop, text)
 }
 
 /// The line of the process with this number, where it is left.
@@ -257,13 +338,18 @@ fn write_task(
     out: &mut Vec<u8>,
     channels: &[Channel],
     ends: Ends<'_>,
+    places: &Places,
     tables: &Tables,
     number: u32,
 ) -> Result<(), AllocError>
-    ensures { OnOk result ((p : Program) (keyboard : List ℕ) (net : Net) → Holds p keyboard tables.now net → out.new.items ≡ out.old.items ++ task_line (names_of channels.now) ends.entry.readers.now ends.entry.writers.now number (slice_get net.tasks number)) }
+    ensures { OnOk result ((p : Program) (keyboard : List ℕ) (net : Net) → Holds p keyboard tables.now net → out.new.items ≡ out.old.items ++ task_line (names_of channels.now) ends.entry.readers.now ends.entry.writers.now places.now number (slice_get net.tasks number)) }
 {
     match tables.task(number) {
-        Some(task) => write_standing(alloc, out, channels, ends, number, &task.wait),
+        Some(task) => {
+            let name = places.name(number);
+            let stop = places.stop(number, &task.wait, task.place);
+            write_standing(alloc, out, channels, ends, number, name, stop, &task.wait)
+        }
         None => Ok(()),
     }
 }
@@ -274,13 +360,14 @@ pub(crate) fn write_lines(
     out: &mut Vec<u8>,
     channels: &[Channel],
     ends: Ends<'_>,
+    places: &Places,
     tables: &Tables,
     count: u32,
 ) -> Result<(), AllocError>
-    ensures { OnOk result ((p : Program) (keyboard : List ℕ) (net : Net) → Holds p keyboard tables.now net → out.new.items ≡ out.old.items ++ lines_of (names_of channels.now) ends.entry.readers.now ends.entry.writers.now net.tasks count) }
+    ensures { OnOk result ((p : Program) (keyboard : List ℕ) (net : Net) → Holds p keyboard tables.now net → out.new.items ≡ out.old.items ++ lines_of (names_of channels.now) ends.entry.readers.now ends.entry.writers.now places.now net.tasks count) }
 {
     for number in 0..count {
-        write_task(alloc, out, channels, ends, tables, number)?;
+        write_task(alloc, out, channels, ends, places, tables, number)?;
     }
     Ok(())
 }

@@ -1,5 +1,6 @@
 //! Charts of whole runs.
-use occ_play::{Options, Plan, chart};
+use occ_charting::{Part, chart};
+use occ_play::{Options, Plan};
 use std::alloc::Global;
 use std::process::Abort;
 use std::test::Fail;
@@ -10,21 +11,41 @@ const LETTER: &str = "PROC main (CHAN OF BYTE keyboard, screen)
 ";
 
 const DRAWN: &str =
-    "<svg xmlns=\"http://www.w3.org/2000/svg\" width=\"400\" height=\"150\" font-family=\"sans-serif\" font-size=\"12\" text-anchor=\"middle\">
-<text x=\"80\" y=\"20\">p0</text>
-<path d=\"M 80 30 V 90\" fill=\"none\" stroke=\"silver\"></path>
-<text x=\"240\" y=\"20\">screen</text>
-<path d=\"M 240 30 V 90\" fill=\"none\" stroke=\"silver\"></path>
-<path d=\"M 80 60 H 240 l -8 -4 m 8 4 l -8 4\" fill=\"none\" stroke=\"black\"></path>
-<text x=\"160\" y=\"54\">screen 65</text>
-<text x=\"80\" y=\"130\">ended</text>
+    "<svg xmlns=\"http://www.w3.org/2000/svg\" width=\"360\" height=\"230\" font-family=\"sans-serif\" font-size=\"12\" text-anchor=\"middle\">
+<rect width=\"100%\" height=\"100%\" fill=\"white\"></rect>
+<text x=\"90\" y=\"20\">p0</text>
+<text x=\"270\" y=\"20\">screen</text>
+<path d=\"M 90 30 V 110\" fill=\"none\" stroke=\"silver\"></path>
+<path d=\"M 270 30 V 110\" fill=\"none\" stroke=\"silver\"></path>
+<path d=\"M 90 80 H 270 l -8 -4 m 8 4 l -8 4\" fill=\"none\" stroke=\"black\"></path>
+<text x=\"180\" y=\"74\">screen 65 'A'</text>
+<text x=\"10\" y=\"178\" text-anchor=\"start\">ended</text>
 </svg>
 ";
 
 const CUT: &str =
-    "<svg xmlns=\"http://www.w3.org/2000/svg\" width=\"80\" height=\"120\" font-family=\"sans-serif\" font-size=\"12\" text-anchor=\"middle\">
-<text x=\"80\" y=\"80\">1 more</text>
-<text x=\"80\" y=\"100\">ended</text>
+    "<svg xmlns=\"http://www.w3.org/2000/svg\" width=\"180\" height=\"200\" font-family=\"sans-serif\" font-size=\"12\" text-anchor=\"middle\">
+<rect width=\"100%\" height=\"100%\" fill=\"white\"></rect>
+<text x=\"10\" y=\"148\" text-anchor=\"start\">ended</text>
+<text x=\"10\" y=\"166\" text-anchor=\"start\">1 more</text>
+</svg>
+";
+
+/// An output that nobody takes.
+const WAITS: &str = "PROC main (CHAN OF BYTE keyboard, screen)
+  CHAN OF INT c:
+  c ! 7
+:
+";
+
+const WAITING: &str =
+    "<svg xmlns=\"http://www.w3.org/2000/svg\" width=\"180\" height=\"200\" font-family=\"sans-serif\" font-size=\"12\" text-anchor=\"middle\">
+<rect width=\"100%\" height=\"100%\" fill=\"white\"></rect>
+<text x=\"90\" y=\"20\">p0</text>
+<path d=\"M 90 30 V 80\" fill=\"none\" stroke=\"silver\"></path>
+<path d=\"M 90 80 v 14 m -7 0 h 14\" fill=\"none\" stroke=\"red\"></path>
+<text x=\"90\" y=\"108\" fill=\"red\">c ! 7 waits</text>
+<text x=\"10\" y=\"148\" text-anchor=\"start\">stopped</text>
 </svg>
 ";
 
@@ -37,7 +58,7 @@ fn check(
     rt: &impl Abort,
     alloc: Global,
     source: &str,
-    most: u32,
+    part: Part,
     wanted: &str,
 ) -> Result<(), Fail> {
     let plan = Plan::Turns(100);
@@ -47,20 +68,29 @@ fn check(
         source.as_bytes(),
         b"",
         &plan,
-        most,
+        part,
+        &[],
+        &[],
     ) {
         Ok(bytes) => String::from_utf8_lossy(alloc, bytes.as_slice())?,
         Err(fault) => fault.to_string(alloc)?,
     };
-    assert_eq!(rt; drawn.as_str(), wanted, "{most}");
+    assert_eq!(rt; drawn.as_str(), wanted, "{part:?}");
     Ok(())
 }
 
 #[test]
 fn runs_are_drawn(rt: HostRuntime) -> Result<(), Fail> {
     let alloc = rt.alloc();
-    check(&rt, alloc, LETTER, 200, DRAWN)?;
-    check(&rt, alloc, LETTER, 1, DRAWN)?;
-    check(&rt, alloc, LETTER, 0, CUT)?;
-    check(&rt, alloc, ODD, 200, "refused 3 OddIndent line 2")
+    check(&rt, alloc, LETTER, Part::First(200), DRAWN)?;
+    check(&rt, alloc, LETTER, Part::Last(1), DRAWN)?;
+    check(&rt, alloc, LETTER, Part::First(0), CUT)?;
+    check(&rt, alloc, WAITS, Part::First(200), WAITING)?;
+    check(
+        &rt,
+        alloc,
+        ODD,
+        Part::First(200),
+        "refused 3 OddIndent line 2",
+    )
 }

@@ -12,6 +12,8 @@ mod drawn;
 #[cfg(test)]
 mod first_programs;
 #[cfg(test)]
+mod known;
+#[cfg(test)]
 mod laws;
 #[cfg(test)]
 mod memory;
@@ -29,6 +31,8 @@ mod selection;
 mod sequential;
 #[cfg(test)]
 mod sequential_programs;
+#[cfg(test)]
+mod stepped;
 #[cfg(test)]
 mod stopping;
 #[cfg(test)]

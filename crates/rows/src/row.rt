@@ -1,4 +1,5 @@
 //! A worked row: what a run is given, and what it comes to.
+use crate::known::check_known;
 use occ_play::{Choice, Counted, Errors, Options, Plan, PlayFault, Played, play_in, status_of};
 use std::alloc::{AllocError, Global};
 use std::process::Abort;
@@ -172,11 +173,12 @@ fn check_by(
     check_played(rt, alloc, source, row, &played, answer.as_slice())
 }
 
-/// Plays a row, and compares all that comes of it.
+/// Plays a row, and compares all that comes of it. Each process of its source is known.
 pub(crate) fn check_row(rt: &impl Abort, alloc: Global, row: &Row<'_>) -> Result<(), Fail> {
     let source = String::from_utf8_lossy(alloc, row.source)?;
     let plan = plan_of(alloc, row.plan)?;
-    check_by(rt, alloc, source.as_str(), row, &plan)
+    check_by(rt, alloc, source.as_str(), row, &plan)?;
+    check_known(rt, alloc, source.as_str(), row.source)
 }
 
 /// Plays each row.

@@ -2,7 +2,7 @@
 //! there are.
 use crate::accepted::code_of;
 use crate::sources::{DINING, LIVELOCK, MERGE, POOL, WAITER};
-use occ_explore::{Answer, Asked, Exploration, Lasting, explore};
+use occ_explore::{Answer, Asked, Exploration, Lasting, explore, explore_reduced};
 use occ_term::Errors;
 use std::alloc::{AllocError, Global};
 use std::fmt::Write;
@@ -55,9 +55,52 @@ const ERRORS: &str = r#"PROC main (CHAN OF BYTE keyboard, screen, error)
 :
 "#;
 
+/// Two processes that are busy for ever, and a third that meets a fault.
+const BUSY: &str = r#"PROC main (CHAN OF BYTE keyboard, screen)
+  CHAN OF BOOL here, there:
+  INT i:
+  SEQ
+    i := 0
+    PAR
+      BOOL ball:
+      SEQ
+        here ! TRUE
+        WHILE TRUE
+          SEQ
+            there ? ball
+            here ! ball
+      BOOL ball:
+      WHILE TRUE
+        SEQ
+          here ? ball
+          there ! ball
+      i := 1 / i
+:
+"#;
+
+/// A process that is busy for ever, and one that shows a letter which an ALT takes.
+const BUSY_SHOWN: &str = r#"PROC main (CHAN OF BYTE keyboard, screen)
+  CHAN OF BYTE left, right:
+  PAR
+    WHILE TRUE
+      SKIP
+    left ! 'l'
+    right ! 'r'
+    BYTE letter:
+    SEQ
+      ALT
+        left ? letter
+          screen ! letter
+        right ? letter
+          screen ! letter
+      STOP
+:
+"#;
+
 const SKIP: &str = "PROC main (CHAN OF BYTE keyboard, screen)\n  SKIP\n:\n";
 
 /// An exploration of at most so many states.
+#[derive(Clone, Copy)]
 struct Row {
     source: &'static str,
     errors: Errors,
@@ -103,13 +146,18 @@ fn write_lasting(text: &mut String, lasting: &Option<Lasting>) -> Result<(), All
     }
 }
 
-/// A line for each answer, one for how long runs go on, and one for the whole.
+/// A line for each answer, and one for how long runs go on.
+fn write_found(text: &mut String, found: &Exploration) -> Result<(), AllocError> {
+    for answer in &found.answers {
+        write_answer(text, answer)?;
+    }
+    write_lasting(text, &found.lasting)
+}
+
+/// The same, and a line for the whole.
 fn told(alloc: Global, found: &Exploration) -> Result<String, AllocError> {
     let mut text = String::new(alloc);
-    for answer in &found.answers {
-        write_answer(&mut text, answer)?;
-    }
-    write_lasting(&mut text, &found.lasting)?;
+    write_found(&mut text, found)?;
     let states = found.states;
     let all = found.all;
     writeln!(text, "{states} {all}")?;
@@ -120,6 +168,12 @@ fn explored(rt: &impl Abort, alloc: Global, row: &Row) -> Result<Exploration, Fa
     let code = code_of(alloc, row.source.as_bytes()).expect(rt, "refused");
     let code = code.with_errors(row.errors);
     Ok(explore(alloc, &code, row.keyboard, row.asked, row.most)?)
+}
+
+fn reduced(rt: &impl Abort, alloc: Global, row: &Row) -> Result<Exploration, Fail> {
+    let code = code_of(alloc, row.source.as_bytes()).expect(rt, "refused");
+    let code = code.with_errors(row.errors);
+    Ok(explore_reduced(alloc, &code, row.keyboard, row.asked, row.most)?)
 }
 
 fn check(rt: &impl Abort, alloc: Global, row: &Row) -> Result<(), Fail> {
@@ -336,6 +390,204 @@ fn check_all(rt: &impl Abort, alloc: Global, rows: &[Row]) -> Result<(), Fail> {
     Ok(())
 }
 
+/// Whether both show the same after the same ending.
+fn is_same(asked: Asked, answer: &Answer, other: &Answer) -> bool {
+    if answer.ending != other.ending {
+        return false;
+    }
+    match asked {
+        Asked::Answers => answer.screen == other.screen && answer.error == other.error,
+        Asked::Endings => true,
+    }
+}
+
+fn is_among(asked: Asked, answers: &[Answer], answer: &Answer) -> bool {
+    for other in answers {
+        if is_same(asked, answer, other) {
+            return true;
+        }
+    }
+    false
+}
+
+/// Whether each answer of the first is among the others.
+fn are_among(asked: Asked, answers: &[Answer], others: &[Answer]) -> bool {
+    for answer in answers {
+        if !is_among(asked, others, answer) {
+            return false;
+        }
+    }
+    true
+}
+
+fn lasts_as(lasting: &Option<Lasting>, other: &Option<Lasting>) -> bool {
+    match (lasting, other) {
+        (Some(Lasting::Within(turns)), Some(Lasting::Within(others))) => *turns == *others,
+        (Some(Lasting::Forever { .. }), Some(Lasting::Forever { .. })) => true,
+        _ => false,
+    }
+}
+
+/// A reduced search tells what a search of all states does, by way of no more of them.
+fn compare(rt: &impl Abort, alloc: Global, row: &Row) -> Result<(), Fail> {
+    let full = explored(rt, alloc, row)?;
+    let few = reduced(rt, alloc, row)?;
+    assert!(rt; full.all);
+    assert!(rt; few.all);
+    assert_eq!(rt; few.answers.len(), full.answers.len());
+    assert!(rt; are_among(row.asked, &few.answers, &full.answers));
+    assert!(rt; are_among(row.asked, &full.answers, &few.answers));
+    assert!(rt; lasts_as(&few.lasting, &full.lasting));
+    assert!(rt; few.states <= full.states);
+    Ok(())
+}
+
+/// A program whose searches are compared.
+#[derive(Clone, Copy)]
+struct Compared {
+    source: &'static str,
+    keyboard: &'static [u8],
+}
+
+static COMPARED: [Compared; 11] = [
+    Compared {
+        source: WAITER,
+        keyboard: b"",
+    },
+    Compared {
+        source: MERGE,
+        keyboard: b"",
+    },
+    Compared {
+        source: POOL,
+        keyboard: b"",
+    },
+    Compared {
+        source: LIVELOCK,
+        keyboard: b"",
+    },
+    Compared {
+        source: RANGE,
+        keyboard: b"",
+    },
+    Compared {
+        source: BUSY,
+        keyboard: b"",
+    },
+    Compared {
+        source: BUSY_SHOWN,
+        keyboard: b"",
+    },
+    Compared {
+        source: KEYS,
+        keyboard: b"xy",
+    },
+    Compared {
+        source: KEYS,
+        keyboard: b"x",
+    },
+    Compared {
+        source: ERRORS,
+        keyboard: b"",
+    },
+    Compared {
+        source: SKIP,
+        keyboard: b"",
+    },
+];
+
+/// Compares the searches of a program in both modes, for answers and for endings.
+fn compare_all(rt: &impl Abort, alloc: Global, row: &Compared) -> Result<(), Fail> {
+    for errors in [Errors::Halt, Errors::Stop] {
+        for asked in [Asked::Answers, Asked::Endings] {
+            let asked_for = Row {
+                source: row.source,
+                errors,
+                keyboard: row.keyboard,
+                asked,
+                most: 100_000,
+                told: "",
+            };
+            compare(rt, alloc, &asked_for)?;
+        }
+    }
+    Ok(())
+}
+
+/// What a reduced search tells, but for how many states it came to.
+static REDUCED: [Row; 3] = [
+    Row {
+        source: WAITER,
+        errors: Errors::Halt,
+        keyboard: b"",
+        asked: Asked::Answers,
+        most: 100000,
+        told: r#"ended by 33 [210/|]
+ended by 33 [201/|]
+ended by 33 [120/|]
+ended by 33 [102/|]
+ended by 33 [021/|]
+ended by 33 [012/|]
+within 33
+"#,
+    },
+    Row {
+        source: DINING,
+        errors: Errors::Halt,
+        keyboard: b"",
+        asked: Asked::Answers,
+        most: 100000,
+        told: r#"ended by 56 [210/|]
+ended by 56 [201/|]
+stopped by 16 [|]
+ended by 56 [021/|]
+ended by 56 [120/|]
+ended by 56 [102/|]
+ended by 56 [012/|]
+within 56
+"#,
+    },
+    Row {
+        source: RANGE,
+        errors: Errors::Halt,
+        keyboard: b"",
+        asked: Asked::Answers,
+        most: 1000,
+        told: r#"fault RANGE line 7 by 5 [ab|]
+fault RANGE line 7 by 3 [a|]
+fault RANGE line 7 by 2 [|]
+within 5
+"#,
+    },
+];
+
+fn check_reduced(rt: &impl Abort, alloc: Global, row: &Row) -> Result<(), Fail> {
+    let found = reduced(rt, alloc, row)?;
+    let mut text = String::new(alloc);
+    write_found(&mut text, &found)?;
+    assert_eq!(rt; text.as_str(), row.told);
+    assert!(rt; found.all);
+    Ok(())
+}
+
+/// As many states as are needed are enough, and one less is not.
+fn check_bound(rt: &impl Abort, alloc: Global, row: &Row) -> Result<(), Fail> {
+    let states = reduced(rt, alloc, row)?.states;
+    let Ok(most) = u32::try_from(states) else {
+        return Ok(());
+    };
+    let exact = Row { most, ..*row };
+    assert!(rt; reduced(rt, alloc, &exact)?.all);
+    let short = Row {
+        most: most.saturating_sub(1),
+        ..*row
+    };
+    let found = reduced(rt, alloc, &short)?;
+    assert!(rt; !found.all);
+    assert_eq!(rt; found.states, short.most as usize);
+    Ok(())
+}
+
 #[test]
 fn schedules_are_explored(rt: HostRuntime) -> Result<(), Fail> {
     check_all(&rt, rt.alloc(), &SCHEDULED)
@@ -349,4 +601,31 @@ fn searches_end_at_their_bound(rt: HostRuntime) -> Result<(), Fail> {
 #[test]
 fn small_programs_are_explored(rt: HostRuntime) -> Result<(), Fail> {
     check_all(&rt, rt.alloc(), &SMALL)
+}
+
+#[test]
+fn reduced_searches_tell_the_same(rt: HostRuntime) -> Result<(), Fail> {
+    for row in &COMPARED {
+        compare_all(&rt, rt.alloc(), row)?;
+    }
+    Ok(())
+}
+
+#[test]
+fn reduced_searches_find_answers(rt: HostRuntime) -> Result<(), Fail> {
+    for row in &REDUCED {
+        check_reduced(&rt, rt.alloc(), row)?;
+    }
+    Ok(())
+}
+
+#[test]
+fn reduced_searches_end_at_their_bound(rt: HostRuntime) -> Result<(), Fail> {
+    check_bound(&rt, rt.alloc(), &REDUCED[0])?;
+    check_bound(&rt, rt.alloc(), &REDUCED[2])?;
+    let row = &SMALL[6];
+    let found = reduced(&rt, rt.alloc(), row)?;
+    assert!(rt; !found.all);
+    assert_eq!(rt; found.states, 1);
+    Ok(())
 }

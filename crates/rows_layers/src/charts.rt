@@ -1,21 +1,44 @@
 //! The picture of a trace.
 use crate::unfolded::{channel_of_bytes, fixed_channels};
+use occ_chart::{Part as Drawn, Stub, chart};
 use occ_net_replay::Ending;
 use occ_net_trace::{End, Trace};
-use occ_shown::chart;
 use occ_term::{Message, Part, Parts, Primitive};
+use std::alloc::{AllocError, Global};
 use std::test::Fail;
 
-const CHART: &str =
-    "<svg xmlns=\"http://www.w3.org/2000/svg\" width=\"400\" height=\"150\" font-family=\"sans-serif\" font-size=\"12\" text-anchor=\"middle\">
-<text x=\"80\" y=\"20\">p0</text>
-<path d=\"M 80 30 V 90\" fill=\"none\" stroke=\"silver\"></path>
-<text x=\"240\" y=\"20\">screen</text>
-<path d=\"M 240 30 V 90\" fill=\"none\" stroke=\"silver\"></path>
-<path d=\"M 80 60 H 240 l -8 -4 m 8 4 l -8 4\" fill=\"none\" stroke=\"black\"></path>
-<text x=\"160\" y=\"54\">screen 65</text>
-<text x=\"80\" y=\"110\">1 more</text>
-<text x=\"80\" y=\"130\">ended</text>
+/// The first communication alone.
+const FIRST: &str =
+    "<svg xmlns=\"http://www.w3.org/2000/svg\" width=\"360\" height=\"230\" font-family=\"sans-serif\" font-size=\"12\" text-anchor=\"middle\">
+<rect width=\"100%\" height=\"100%\" fill=\"white\"></rect>
+<text x=\"90\" y=\"20\">p0</text>
+<text x=\"270\" y=\"20\">screen</text>
+<path d=\"M 90 30 V 110\" fill=\"none\" stroke=\"silver\"></path>
+<path d=\"M 270 30 V 110\" fill=\"none\" stroke=\"silver\"></path>
+<path d=\"M 90 80 H 270 l -8 -4 m 8 4 l -8 4\" fill=\"none\" stroke=\"black\"></path>
+<text x=\"180\" y=\"74\">screen 65 'A'</text>
+<text x=\"10\" y=\"178\" text-anchor=\"start\">ended</text>
+<text x=\"10\" y=\"196\" text-anchor=\"start\">1 more</text>
+</svg>
+";
+
+/// The last communication alone, of a run that has stopped.
+const LAST: &str =
+    "<svg xmlns=\"http://www.w3.org/2000/svg\" width=\"540\" height=\"230\" font-family=\"sans-serif\" font-size=\"12\" text-anchor=\"middle\">
+<rect width=\"100%\" height=\"100%\" fill=\"white\"></rect>
+<text x=\"90\" y=\"20\">keyboard</text>
+<text x=\"270\" y=\"20\">main p0</text>
+<text x=\"450\" y=\"20\">p2</text>
+<path d=\"M 90 30 V 110\" fill=\"none\" stroke=\"silver\"></path>
+<path d=\"M 270 30 V 110\" fill=\"none\" stroke=\"silver\"></path>
+<path d=\"M 450 30 V 110\" fill=\"none\" stroke=\"silver\"></path>
+<text x=\"10\" y=\"48\" text-anchor=\"start\">and 1 before</text>
+<path d=\"M 90 80 H 270 l -8 -4 m 8 4 l -8 4\" fill=\"none\" stroke=\"black\"></path>
+<text x=\"180\" y=\"74\">keyboard 10</text>
+<path d=\"M 450 110 v 14 m -7 0 h 14\" fill=\"none\" stroke=\"red\"></path>
+<text x=\"450\" y=\"138\" fill=\"red\">right[0] ! TRUE waits</text>
+<text x=\"10\" y=\"178\" text-anchor=\"start\">stopped</text>
+<text x=\"10\" y=\"214\" text-anchor=\"start\" fill=\"red\">a circle waits: p2 p0</text>
 </svg>
 ";
 
@@ -27,33 +50,101 @@ fn byte(value: i64) -> Message {
     }
 }
 
-#[test]
-fn traces_are_drawn(rt: HostRuntime) -> Result<(), Fail> {
-    let alloc = rt.alloc();
-    let channels = fixed_channels(alloc)?;
+/// A byte for the screen, and one from the keyboard.
+fn two(alloc: Global) -> Result<Trace, AllocError> {
     let mut trace = Trace::new(alloc);
     trace.push(1, End::Process(0), End::Screen, &byte(65))?;
     trace.push(0, End::Keyboard, End::Process(0), &byte(10))?;
-    let drawn = chart(alloc, &trace, channels.as_slice(), Ending::Ended, 1)?;
-    assert_eq!(rt; drawn.as_slice(), CHART.as_bytes());
+    Ok(trace)
+}
+
+#[test]
+fn first_ones_are_drawn(rt: HostRuntime) -> Result<(), Fail> {
+    let alloc = rt.alloc();
+    let channels = fixed_channels(alloc)?;
+    let trace = two(alloc)?;
+    let drawn = chart(
+        alloc,
+        &trace,
+        channels.as_slice(),
+        Drawn::First(1),
+        Ending::Ended,
+        &[],
+        &[],
+        &[],
+    )?;
+    assert_eq!(rt; drawn.as_slice(), FIRST.as_bytes());
+    Ok(())
+}
+
+#[test]
+fn last_ones_are_drawn(rt: HostRuntime) -> Result<(), Fail> {
+    let alloc = rt.alloc();
+    let channels = fixed_channels(alloc)?;
+    let trace = two(alloc)?;
+    let mut names = Vec::new(alloc);
+    names.push(Vec::from_slice(alloc, b"main")?)?;
+    let mut stubs = Vec::new(alloc);
+    stubs.push(Stub::new(2, Vec::from_slice(alloc, b"right[0] ! TRUE waits")?))?;
+    let drawn = chart(
+        alloc,
+        &trace,
+        channels.as_slice(),
+        Drawn::Last(1),
+        Ending::Stopped,
+        names.as_slice(),
+        stubs.as_slice(),
+        &[2, 0],
+    )?;
+    assert_eq!(rt; drawn.as_slice(), LAST.as_bytes());
     Ok(())
 }
 
 /// A name with what marks XML in it, and with bytes that are no printed ASCII.
 const MARKED: &[u8] = b"a<b>&\"c\"\x00\xff";
 
+/// A name that has no room over an arrow.
+const LONG: &[u8] = b"abcdefghijklmnopqrstuvwxyz";
+
+/// The picture of a byte on a channel of this name.
+fn named(alloc: Global, name: &[u8]) -> Result<Vec<u8>, AllocError> {
+    let mut channels = Vec::new(alloc);
+    channels.push(channel_of_bytes(alloc, name)?)?;
+    let mut trace = Trace::new(alloc);
+    trace.push(0, End::Keyboard, End::Process(0), &byte(10))?;
+    chart(
+        alloc,
+        &trace,
+        channels.as_slice(),
+        Drawn::First(1),
+        Ending::Ended,
+        &[],
+        &[],
+        &[],
+    )
+}
+
 #[test]
 fn marks_are_escaped(rt: HostRuntime) -> Result<(), Fail> {
     let alloc = rt.alloc();
-    let mut channels = Vec::new(alloc);
-    channels.push(channel_of_bytes(alloc, MARKED)?)?;
-    let mut trace = Trace::new(alloc);
-    trace.push(0, End::Keyboard, End::Process(0), &byte(10))?;
-    let drawn = chart(alloc, &trace, channels.as_slice(), Ending::Ended, 1)?;
+    let drawn = named(alloc, MARKED)?;
     let text = String::from_utf8_lossy(alloc, drawn.as_slice())?;
     assert!(rt;
         text.as_str()
             .contains(">a&lt;b&gt;&amp;&quot;c&quot;?? 10</text>")
+    );
+    Ok(())
+}
+
+#[test]
+fn long_words_are_cut(rt: HostRuntime) -> Result<(), Fail> {
+    let alloc = rt.alloc();
+    let drawn = named(alloc, LONG)?;
+    let text = String::from_utf8_lossy(alloc, drawn.as_slice())?;
+    assert!(rt;
+        text.as_str().contains(
+            "<title>abcdefghijklmnopqrstuvwxyz 10</title>abcdefghijklmnopqrstu...</text>"
+        )
     );
     Ok(())
 }

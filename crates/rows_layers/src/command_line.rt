@@ -5,22 +5,22 @@ use std::process::Abort;
 use std::test::Fail;
 
 /// Words, and what is read of them.
-static READ: [(&[&str], &str); 9] = [
+static READ: [(&[&str], &str); 10] = [
     (
         &["occam"],
-        "Words { limit: 1000000, quantum: 1, errors: Halt, workers: None, trace: false, watch: false, explain: false, seed: None, tries: 1, choices: None, record: None, chart: None, arrows: 200, trace_to: None, json: false, explore: None, states: 1000000, check: false, file: None }",
+        "Words { limit: 1000000, quantum: 1, errors: Halt, workers: None, trace: false, watch: false, explain: false, seed: None, tries: 1, choices: None, record: None, chart: None, arrows: 200, last: None, trace_to: None, json: false, steps: None, explore: None, full: false, states: 1000000, check: false, file: None }",
     ),
     (
         &["occam", "--limit", "10000000", "--trace", "f.occ"],
-        "Words { limit: 10000000, quantum: 1, errors: Halt, workers: None, trace: true, watch: false, explain: false, seed: None, tries: 1, choices: None, record: None, chart: None, arrows: 200, trace_to: None, json: false, explore: None, states: 1000000, check: false, file: Some(\"f.occ\") }",
+        "Words { limit: 10000000, quantum: 1, errors: Halt, workers: None, trace: true, watch: false, explain: false, seed: None, tries: 1, choices: None, record: None, chart: None, arrows: 200, last: None, trace_to: None, json: false, steps: None, explore: None, full: false, states: 1000000, check: false, file: Some(\"f.occ\") }",
     ),
     (
         &["occam", "f.occ", "--trace", "--limit=0"],
-        "Words { limit: 0, quantum: 1, errors: Halt, workers: None, trace: true, watch: false, explain: false, seed: None, tries: 1, choices: None, record: None, chart: None, arrows: 200, trace_to: None, json: false, explore: None, states: 1000000, check: false, file: Some(\"f.occ\") }",
+        "Words { limit: 0, quantum: 1, errors: Halt, workers: None, trace: true, watch: false, explain: false, seed: None, tries: 1, choices: None, record: None, chart: None, arrows: 200, last: None, trace_to: None, json: false, steps: None, explore: None, full: false, states: 1000000, check: false, file: Some(\"f.occ\") }",
     ),
     (
         &["occam", "--errors", "halt"],
-        "Words { limit: 1000000, quantum: 1, errors: Halt, workers: None, trace: false, watch: false, explain: false, seed: None, tries: 1, choices: None, record: None, chart: None, arrows: 200, trace_to: None, json: false, explore: None, states: 1000000, check: false, file: None }",
+        "Words { limit: 1000000, quantum: 1, errors: Halt, workers: None, trace: false, watch: false, explain: false, seed: None, tries: 1, choices: None, record: None, chart: None, arrows: 200, last: None, trace_to: None, json: false, steps: None, explore: None, full: false, states: 1000000, check: false, file: None }",
     ),
     (
         &[
@@ -35,11 +35,15 @@ static READ: [(&[&str], &str); 9] = [
             "--chart=s.svg",
             "--arrows=0",
         ],
-        "Words { limit: 1000000, quantum: 65536, errors: Stop, workers: Some(64), trace: false, watch: true, explain: true, seed: None, tries: 1, choices: Some(\"c\"), record: Some(\"r\"), chart: Some(\"s.svg\"), arrows: 0, trace_to: None, json: false, explore: None, states: 1000000, check: false, file: None }",
+        "Words { limit: 1000000, quantum: 65536, errors: Stop, workers: Some(64), trace: false, watch: true, explain: true, seed: None, tries: 1, choices: Some(\"c\"), record: Some(\"r\"), chart: Some(\"s.svg\"), arrows: 0, last: None, trace_to: None, json: false, steps: None, explore: None, full: false, states: 1000000, check: false, file: None }",
     ),
     (
         &["occam", "--explore", "f.occ"],
-        "Words { limit: 1000000, quantum: 1, errors: Halt, workers: None, trace: false, watch: false, explain: false, seed: None, tries: 1, choices: None, record: None, chart: None, arrows: 200, trace_to: None, json: false, explore: Some(Answers), states: 1000000, check: false, file: Some(\"f.occ\") }",
+        "Words { limit: 1000000, quantum: 1, errors: Halt, workers: None, trace: false, watch: false, explain: false, seed: None, tries: 1, choices: None, record: None, chart: None, arrows: 200, last: None, trace_to: None, json: false, steps: None, explore: Some(Answers), full: false, states: 1000000, check: false, file: Some(\"f.occ\") }",
+    ),
+    (
+        &["occam", "--explore=full"],
+        "Words { limit: 1000000, quantum: 1, errors: Halt, workers: None, trace: false, watch: false, explain: false, seed: None, tries: 1, choices: None, record: None, chart: None, arrows: 200, last: None, trace_to: None, json: false, steps: None, explore: Some(Answers), full: true, states: 1000000, check: false, file: None }",
     ),
     (
         &[
@@ -50,11 +54,11 @@ static READ: [(&[&str], &str); 9] = [
             "--errors=stop",
             "--record=r",
         ],
-        "Words { limit: 1000000, quantum: 7, errors: Stop, workers: None, trace: false, watch: false, explain: false, seed: None, tries: 1, choices: None, record: Some(\"r\"), chart: None, arrows: 200, trace_to: None, json: false, explore: Some(Endings), states: 10000000, check: false, file: None }",
+        "Words { limit: 1000000, quantum: 7, errors: Stop, workers: None, trace: false, watch: false, explain: false, seed: None, tries: 1, choices: None, record: Some(\"r\"), chart: None, arrows: 200, last: None, trace_to: None, json: false, steps: None, explore: Some(Endings), full: false, states: 10000000, check: false, file: None }",
     ),
     (
         &["occam", "--check", "f.occ"],
-        "Words { limit: 1000000, quantum: 1, errors: Halt, workers: None, trace: false, watch: false, explain: false, seed: None, tries: 1, choices: None, record: None, chart: None, arrows: 200, trace_to: None, json: false, explore: None, states: 1000000, check: true, file: Some(\"f.occ\") }",
+        "Words { limit: 1000000, quantum: 1, errors: Halt, workers: None, trace: false, watch: false, explain: false, seed: None, tries: 1, choices: None, record: None, chart: None, arrows: 200, last: None, trace_to: None, json: false, steps: None, explore: None, full: false, states: 1000000, check: true, file: Some(\"f.occ\") }",
     ),
     (
         &[
@@ -63,8 +67,11 @@ static READ: [(&[&str], &str); 9] = [
             "--tries=1000000",
             "--trace-to=t",
             "--json",
+            "--steps=u",
+            "--chart=s",
+            "--last=3",
         ],
-        "Words { limit: 1000000, quantum: 1, errors: Halt, workers: None, trace: false, watch: false, explain: false, seed: Some(1000000000), tries: 1000000, choices: None, record: None, chart: None, arrows: 200, trace_to: Some(\"t\"), json: true, explore: None, states: 1000000, check: false, file: None }",
+        "Words { limit: 1000000, quantum: 1, errors: Halt, workers: None, trace: false, watch: false, explain: false, seed: Some(1000000000), tries: 1000000, choices: None, record: None, chart: Some(\"s\"), arrows: 200, last: Some(3), trace_to: Some(\"t\"), json: true, steps: Some(\"u\"), explore: None, full: false, states: 1000000, check: false, file: None }",
     ),
 ];
 
@@ -80,7 +87,7 @@ fn words_are_read(rt: HostRuntime) -> Result<(), Fail> {
 }
 
 /// Words, and why they are refused.
-static REFUSED: [(&[&str], ErrorKind); 42] = [
+static REFUSED: [(&[&str], ErrorKind); 45] = [
     (&["occam", "--limit=10000001"], ErrorKind::ValueValidation),
     (&["occam", "--limit=4294967296"], ErrorKind::ValueValidation),
     (&["occam", "--limit=-1"], ErrorKind::ValueValidation),
@@ -152,6 +159,15 @@ static REFUSED: [(&[&str], ErrorKind); 42] = [
     ),
     (&["occam", "--version"], ErrorKind::DisplayVersion),
     (&["occam", "--arrows=5"], ErrorKind::MissingRequiredArgument),
+    (&["occam", "--last=5"], ErrorKind::MissingRequiredArgument),
+    (
+        &["occam", "--chart=s", "--last=5", "--arrows=5"],
+        ErrorKind::ArgumentConflict,
+    ),
+    (
+        &["occam", "--explore", "--steps=u"],
+        ErrorKind::ArgumentConflict,
+    ),
     (
         &["occam", "--check", "--trace"],
         ErrorKind::ArgumentConflict,
@@ -183,7 +199,7 @@ fn wrong_words_are_refused(rt: HostRuntime) -> Result<(), Fail> {
 }
 
 /// What the help says of the words.
-static IN_HELP: [&str; 17] = [
+static IN_HELP: [&str; 19] = [
     "Usage: occam",
     "--limit <N>",
     "1000000",
@@ -192,6 +208,8 @@ static IN_HELP: [&str; 17] = [
     "--workers <N>",
     "--chart <FILE>",
     "--arrows <N>",
+    "--last <N>",
+    "--steps <FILE>",
     "--trace",
     "--watch",
     "--explore",

@@ -3,7 +3,7 @@ use clap::error::ErrorKind;
 use occ_play_inputs::read_words;
 use std::process::Abort;
 
-static ONE_FILE: [&[&str]; 7] = [
+static ONE_FILE: [&[&str]; 9] = [
     &["occam", "--record=f", "f"],
     &["occam", "--chart=f", "f"],
     &["occam", "--record=f", "--choices=f"],
@@ -11,6 +11,8 @@ static ONE_FILE: [&[&str]; 7] = [
     &["occam", "--record=f", "--chart=f"],
     &["occam", "--trace-to=f", "f"],
     &["occam", "--chart=f", "--trace-to=f"],
+    &["occam", "--steps=f", "f"],
+    &["occam", "--steps=f", "--trace-to=f"],
 ];
 
 #[test]

@@ -2,6 +2,7 @@
 use crate::gallery::{
     IN_FAULTS, IN_FIRST_STEPS, IN_LIBRARY, IN_PIPELINES, IN_SELECTION, IN_SEQUENCES, IN_SHARING,
 };
+use crate::places::check_known;
 use occ_play::{Counted, Errors, Options, Plan, PlayFault, Played, play_in, read_choices};
 use std::alloc::{AllocError, Global};
 use std::process::Abort;
@@ -136,11 +137,12 @@ fn check_run(rt: &impl Abort, alloc: Global, run: &Run) -> Result<(), Fail> {
     Ok(())
 }
 
-/// Plays each run, and compares what comes of it with what the program's first lines say.
+/// Plays each run, and compares what comes of it with what the program's first lines say. Each process of the program is known.
 fn check_runs(rt: &impl Abort, alloc: Global, runs: &[Run]) -> Result<(), Fail> {
     for run in runs {
         check_lines(rt, alloc, run)?;
         check_run(rt, alloc, run)?;
+        check_known(rt, alloc, run.source)?;
     }
     Ok(())
 }

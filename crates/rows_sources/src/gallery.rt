@@ -1304,7 +1304,7 @@ const BUTLER: &str =
 -- Explored:
 --   1 ended "all have eaten*n" by 91 choices
 --   each run ends within 91 turns
---   all, 108556 states
+--   all, 48424 states
 
 VAL seats IS 3:
 
@@ -1486,7 +1486,7 @@ const DOOR: &str =
 --   1 ended "()()*n" by 36 choices
 --   2 ended "(())*n" by 36 choices
 --   some run goes on for ever
---   all, 537 states
+--   all, 267 states
 
 PROC guest (CHAN OF BOOL ask, told, moves)
   BOOL taken:

@@ -14,6 +14,8 @@ mod gallery;
 #[cfg(test)]
 mod large;
 #[cfg(test)]
+mod places;
+#[cfg(test)]
 mod reference;
 #[cfg(test)]
 mod refusals;

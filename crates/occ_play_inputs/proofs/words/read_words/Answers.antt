@@ -1,4 +1,3 @@
-use Rattle.std.proofs.Common.{rules}
 use Rattle.occ_play_inputs.proofs.words.read_words.Goals as goal
 
 pub invariant_of-result-clause-limit_in_range : goal.invariant_of-result-clause-limit_in_range

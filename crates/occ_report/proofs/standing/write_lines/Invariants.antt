@@ -7,4 +7,4 @@ use Rattle.occ_report.specs.Reports.{lines_of}
 use Rattle.occ_report.proofs.standing.write_lines.Given as goal
 
 abbrev pub invariant-loop-number : goal.invariant-loop-number
-invariant-loop-number l = (p : Program) (keyboard : List ℕ) (net : Net) → Holds p keyboard l.tables net → l.out.items ≡ l.fn.out.items ++ lines_of (names_of l.channels) l.ends.readers.now l.ends.writers.now net.tasks l.number
+invariant-loop-number l = (p : Program) (keyboard : List ℕ) (net : Net) → Holds p keyboard l.tables net → l.out.items ≡ l.fn.out.items ++ lines_of (names_of l.channels) l.ends.readers.now l.ends.writers.now l.places net.tasks l.number

@@ -1,0 +1,93 @@
+-- Which communications are drawn, and the parts of a chart.
+use Rattle.std.proofs.Common.{◌≡◌, ◌∙◌, ◌≤◌, ◌+◌, ◌-◌, ◌++◌, ◌&&◌, Bool, ℕ, zero, suc, List, [], ◌∷◌, drop, length, map, min, nat_lt, take, refl, sym, ap, subst, append_assoc, arith}
+use Rattle.std.proofs.lemmas.List.{length-drop, length-take}
+use Rattle.std.proofs.Math.Nat.{min-le_left, min-le_right}
+use Rattle.occ_term.specs.Runs.{Entry, Names, entries, entry_of}
+use Rattle.occ_term.specs.System.{Communication, End}
+use Rattle.occ_net_replay.specs.declared.ending.Ending.{Ending}
+use Rattle.occ_chart.specs.declared.part.Part.{Part}
+use Rattle.occ_chart.specs.declared.part.Part.TheVariants.{First, Last}
+use Rattle.occ_chart.specs.Charts.{IsChart, above, after_of, asked, before_of, drawn_of, foot, if_first, if_last, is_cut, left_out, most_arrows, shown_of}
+use Rattle.occ_chart.specs.Columns.{AreColumns, Standing}
+
+pub entries_length : (names : Names) (n : ℕ) (xs : List Communication) → length (entries names n xs) ≡ length xs
+entries_length names n [] = refl
+entries_length names n (x ∷ xs) = ap (λ k. suc k) (entries_length names (n + 1) xs)
+
+entries_take : (names : Names) (k n : ℕ) (xs : List Communication) → take k (entries names n xs) ≡ entries names n (take k xs)
+entries_take names zero n xs = refl
+entries_take names (suc k) n [] = refl
+entries_take names (suc k) n (x ∷ xs) = ap (λ l. entry_of names n x ∷ l) (entries_take names k (n + 1) xs)
+
+pub map_front : {A B : Type 0} (f : A → B) (k : ℕ) (xs : List A) → map f (take k xs) ≡ take k (map f xs)
+map_front f zero xs = refl
+map_front f (suc k) [] = refl
+map_front f (suc k) (x ∷ xs) = ap (λ l. f x ∷ l) (map_front f k xs)
+
+pub first_shown : (names : Names) (xs : List Communication) (n count : ℕ) → count ≡ min (min n most_arrows) (length xs) → entries names 1 (take count xs) ≡ shown_of (First n) (entries names 1 xs)
+first_shown names xs n count is =
+    sym (entries_take names count 1 xs)
+    ∙ ap (λ k. take k (entries names 1 xs)) (is ∙ ap (min (min n most_arrows)) (sym (entries_length names 1 xs)))
+
+pub last_shown : (names : Names) (xs : List Communication) (n count : ℕ) → count ≡ min (min n most_arrows) (length xs) → drop (length xs - count) (entries names 1 xs) ≡ shown_of (Last n) (entries names 1 xs)
+last_shown names xs n count is =
+    ap (λ k. drop (length xs - k) (entries names 1 xs)) is
+    ∙ ap (λ k. drop (k - min (min n most_arrows) k) (entries names 1 xs)) (sym (entries_length names 1 xs))
+
+pub shown_few : (part : Part) (es : List Entry) → length (shown_of part es) ≤ 990
+shown_few (First n) es =
+    let k : ℕ = drawn_of (First n) es in
+    let one = min-le_left (min n most_arrows) (length es) in
+    let two = min-le_right n most_arrows in
+    let size = length-take k es in
+    let less = min-le_left k (length es) in
+    omega (arith, one, two, size, less)
+shown_few (Last n) es =
+    let k : ℕ = drawn_of (Last n) es in
+    let one = min-le_left (min n most_arrows) (length es) in
+    let two = min-le_right n most_arrows in
+    let size = length-drop (length es - k) es in
+    omega (arith, one, two, size)
+
+pub four_more : (o a b c d x y z w : List ℕ) → x ≡ o ++ a → y ≡ x ++ b → z ≡ y ++ c → w ≡ z ++ d → w ≡ o ++ (((a ++ b) ++ c) ++ d)
+four_more o a b c d x y z w e f g h =
+    h ∙ ap (λ l. l ++ d) (g ∙ ap (λ l. l ++ c) (f ∙ ap (λ l. l ++ b) e ∙ append_assoc o a b) ∙ append_assoc o (a ++ b) c)
+    ∙ append_assoc o ((a ++ b) ++ c) d
+
+-- the parts of the code are known by what they are
+pub charted : (es shown : List Entry) (part : Part) (ending : Ending) (names : List (List ℕ)) (ss : List Standing) (circle : List ℕ) (columns : List End) (all count left : ℕ) (top bytes : List ℕ)
+    → shown ≡ shown_of part es → all ≡ length es → count ≡ min (min (asked part) most_arrows) all → left ≡ all - count
+    → AreColumns shown ss columns
+    → top ≡ above names columns shown (if_last part left) (is_cut part es)
+    → bytes ≡ top ++ foot names columns (length shown) (if_first part left) (is_cut part es) ss circle ending
+    → IsChart es part ending names ss circle bytes
+charted es shown part ending names ss circle columns all count left top bytes is many counted rest are first second =
+    let out : left ≡ left_out part es = rest ∙ ap (λ k. all - k) counted ∙ ap (λ k. k - min (min (asked part) most_arrows) k) many in
+    record {
+      columns = columns;
+      are = subst (λ xs. AreColumns xs ss columns) is are;
+      is =
+          second
+          ∙ ap (λ t. t ++ foot names columns (length shown) (if_first part left) (is_cut part es) ss circle ending)
+          (first ∙ ap (λ k. above names columns shown (if_last part k) (is_cut part es)) out ∙ ap (λ xs. above names columns xs (before_of part es) (is_cut part es)) is)
+          ∙ ap (λ k. above names columns (shown_of part es) (before_of part es) (is_cut part es) ++ foot names columns (length shown) (if_first part k) (is_cut part es) ss circle ending) out
+          ∙ ap (λ xs. above names columns (shown_of part es) (before_of part es) (is_cut part es) ++ foot names columns (length xs) (after_of part es) (is_cut part es) ss circle ending) is;
+    }
+
+-- the same, where the lists are known by what they are
+pub charted_by : (es shown shown' shown'' : List Entry) (part : Part) (ending : Ending) (names : List (List ℕ)) (ss : List Standing) (circle : List ℕ) (columns columns' columns'' : List End) (all count left before after size : ℕ) (high : Bool) (top bytes : List ℕ)
+    → shown ≡ shown_of part es → shown' ≡ shown → shown'' ≡ shown → all ≡ length es → count ≡ min (min (asked part) most_arrows) all → left ≡ all - count
+    → AreColumns shown' ss columns → columns' ≡ columns → columns'' ≡ columns
+    → before ≡ if_last part left → after ≡ if_first part left → high ≡ nat_lt most_arrows (asked part) && nat_lt most_arrows all → size ≡ length shown''
+    → top ≡ above names columns' shown'' before high
+    → bytes ≡ top ++ foot names columns'' size after high ss circle ending
+    → IsChart es part ending names ss circle bytes
+charted_by es shown shown' shown'' part ending names ss circle columns columns' columns'' all count left before after size high top bytes is one two many counted rest are three four five six seven eight first second =
+    let cut : high ≡ is_cut part es = seven ∙ ap (λ k. nat_lt most_arrows (asked part) && nat_lt most_arrows k) many in
+    charted es shown part ending names ss circle columns all count left top bytes is many counted rest (subst (λ xs. AreColumns xs ss columns) one are)
+    (first ∙ ap (λ cs. above names cs shown'' before high) three ∙ ap (λ xs. above names columns xs before high) two ∙ ap (λ k. above names columns shown k high) five ∙ ap (λ b. above names columns shown (if_last part left) b) cut)
+    (second
+    ∙ ap (λ cs. top ++ foot names cs size after high ss circle ending) four
+    ∙ ap (λ k. top ++ foot names columns k after high ss circle ending) (eight ∙ ap length two)
+    ∙ ap (λ k. top ++ foot names columns (length shown) k high ss circle ending) six
+    ∙ ap (λ b. top ++ foot names columns (length shown) (if_first part left) b ss circle ending) cut)

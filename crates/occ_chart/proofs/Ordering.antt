@@ -1,0 +1,139 @@
+-- The columns that the code comes to are those that take part, in order.
+use Rattle.std.proofs.Common.{◌≡◌, ◌∙◌, ◌↔◌, ◌⊎◌, ℕ, List, [], ◌∷◌, Bool, true, false, refl, sym, ap, subst, arith}
+use Rattle.std.specs.Option.{option_map_or}
+use Rattle.std.proofs.lemmas.Option.{slice_get-map}
+use Rattle.std.specs.Prelude.{Option, Some, None, drop, insert, option_map, if◌then◌else◌, map, slice_get, suc, take, ◌+◌, ◌++◌}
+use Rattle.std.proofs.lemmas.Bool.{eqb-true}
+use Rattle.occ_term.specs.System.{End, Keyboard, OfProcess, Screen, Error}
+use Rattle.occ_term.specs.Runs.{Entry}
+use Rattle.occ_chart.specs.Columns.{AreColumns, AreInOrder, IsAmong, IsBeforeAll, Standing, Stands, TakesPart, is_before, is_end, place_for, stands_at, with_end, with_ends, with_standing}
+
+pub before_trans : (x y z : End) → is_before x y ≡ true → is_before y z ≡ true → is_before x z ≡ true
+before_trans x y z a b = grind (arith)
+
+same_end : (x y : End) → is_end x y ≡ true → x ≡ y
+same_end (OfProcess m) (OfProcess n) e = ap (λ k. OfProcess k) (eqb-true m n e)
+same_end Keyboard Keyboard e = refl
+same_end Screen Screen e = refl
+same_end Error Error e = refl
+same_end x y e = cc
+
+pub before_else : (x y : End) → is_before y x ≡ false → is_end y x ≡ false → is_before x y ≡ true
+before_else x y a b = grind (arith)
+
+slice_get_next : {A : Type 0} (y : A) (ys : List A) (k : ℕ) (a : A) → slice_get (y ∷ ys) (k + 1) ≡ Some a → slice_get ys k ≡ Some a
+slice_get_next y ys k a h = let one : k + 1 ≡ suc k = omega arith in sym (ap (slice_get (y ∷ ys)) one) ∙ h
+
+map_same : (ys : List End) → map (λ (z : End). z) ys ≡ ys
+map_same [] = refl
+map_same (y ∷ ys) = ap (λ zs. y ∷ zs) (map_same ys)
+
+one_of : {A : Type 0} {a b : A} → ◌≡◌ {A = Option A} (Some a) (Some b) → a ≡ b
+one_of q = cc
+
+-- ---- one more
+
+before_all : (x y : End) (zs : List End) → is_before x y ≡ true → IsBeforeAll y zs → IsBeforeAll x zs
+before_all x y [] a h = tt
+before_all x y (z ∷ zs) a h = (before_trans x y z a h.0, before_all x y zs a h.1)
+
+before_with : (y x : End) (ys : List End) → is_before y x ≡ true → IsBeforeAll y ys → IsBeforeAll y (with_end x ys)
+before_with y x [] a h = (a, tt)
+before_with y x (z ∷ zs) a h = by (is_before z x) (is_end z x) (before_with y x zs a h.1)
+  where
+    by : (b c : Bool) → IsBeforeAll y (with_end x zs) → IsBeforeAll y (if b then z ∷ with_end x zs else if c then z ∷ zs else x ∷ z ∷ zs)
+    by true c next = (h.0, next)
+    by false true next = h
+    by false false next = (a, h)
+
+in_order : (x : End) (ys : List End) → AreInOrder ys → AreInOrder (with_end x ys)
+in_order x [] h = (tt, tt)
+in_order x (y ∷ ys) h = by (is_before y x) (is_end y x) refl refl (in_order x ys h.1)
+  where
+    by : (b c : Bool) → is_before y x ≡ b → is_end y x ≡ c → AreInOrder (with_end x ys) → AreInOrder (if b then y ∷ with_end x ys else if c then y ∷ ys else x ∷ y ∷ ys)
+    by true c q r next = (before_with y x ys q h.0, next)
+    by false true q r next = h
+    by false false q r next = let first = before_else x y q r in ((first, before_all x y ys first h.0), h)
+
+among_with : (z x : End) (ys : List End) → IsAmong z (with_end x ys) ↔ ((x ≡ z) ⊎ IsAmong z ys)
+among_with z x [] = ((λ h. h), (λ h. h))
+among_with z x (y ∷ ys) = by (is_before y x) (is_end y x) refl (among_with z x ys)
+  where
+    by : (b c : Bool) → is_end y x ≡ c → IsAmong z (with_end x ys) ↔ ((x ≡ z) ⊎ IsAmong z ys) → IsAmong z (if b then y ∷ with_end x ys else if c then y ∷ ys else x ∷ y ∷ ys) ↔ ((x ≡ z) ⊎ IsAmong z (y ∷ ys))
+    by true c r next = grind (arith, next)
+    by false true r next = let same = same_end y x r in grind (arith, same)
+    by false false r next = ((λ h. h), (λ h. h))
+
+-- ---- all of them
+
+stand_among : (z : End) (xs : List End) (ss : List Standing) → IsAmong z (with_standing xs ss) ↔ (IsAmong z xs ⊎ Stands ss z)
+stand_among z xs [] = grind arith
+stand_among z xs (s ∷ ss) =
+    let next = stand_among z (with_end (OfProcess s.process) xs) ss in
+    let one = among_with z (OfProcess s.process) xs in
+    grind (arith, next, one)
+
+take_part_among : (z : End) (xs : List End) (es : List Entry) (ss : List Standing) → IsAmong z (with_standing (with_ends xs es) ss) ↔ (IsAmong z xs ⊎ TakesPart es ss z)
+take_part_among z xs [] ss = stand_among z xs ss
+take_part_among z xs (e ∷ es) ss =
+    let next = take_part_among z (with_end e.receiver (with_end e.sender xs)) es ss in
+    let two = among_with z e.receiver (with_end e.sender xs) in
+    let one = among_with z e.sender xs in
+    grind (arith, next, two, one)
+
+stand_in_order : (xs : List End) (ss : List Standing) → AreInOrder xs → AreInOrder (with_standing xs ss)
+stand_in_order xs [] h = h
+stand_in_order xs (s ∷ ss) h = stand_in_order (with_end (OfProcess s.process) xs) ss (in_order (OfProcess s.process) xs h)
+
+ends_in_order : (xs : List End) (es : List Entry) → AreInOrder xs → AreInOrder (with_ends xs es)
+ends_in_order xs [] h = h
+ends_in_order xs (e ∷ es) h = ends_in_order (with_end e.receiver (with_end e.sender xs)) es (in_order e.receiver (with_end e.sender xs) (in_order e.sender xs h))
+
+pub columns_are : (es : List Entry) (ss : List Standing) → AreColumns es ss (with_standing (with_ends [] es) ss)
+columns_are es ss =
+    record {
+      ordered = stand_in_order (with_ends [] es) ss (ends_in_order [] es tt);
+      all = λ z. let h = take_part_among z [] es ss in grind (arith, h);
+    }
+
+-- ---- a place that is found is where it is put
+
+-- the end at the place is it
+pub put_same : {A : Type 0} (f : A → End) (x : End) (xs : List A) (a : A) → slice_get xs (place_for x (map f xs)) ≡ Some a → is_end (f a) x ≡ true → map f xs ≡ with_end x (map f xs)
+put_same f x [] a found e = cc
+put_same f x (y ∷ ys) a found e = by (is_before (f y) x) refl found (λ h. put_same f x ys a h e)
+  where
+    by : (b : Bool) → is_before (f y) x ≡ b → slice_get (y ∷ ys) (if b then place_for x (map f ys) + 1 else 0) ≡ Some a → (slice_get ys (place_for x (map f ys)) ≡ Some a → map f ys ≡ with_end x (map f ys))
+        → f y ∷ map f ys ≡ (if b then f y ∷ with_end x (map f ys) else if is_end (f y) x then f y ∷ map f ys else x ∷ f y ∷ map f ys)
+    by true q h next = ap (λ zs. f y ∷ zs) (next (slice_get_next y ys (place_for x (map f ys)) a h))
+    by false q h next = let it : Some y ≡ Some a = h in rw (subst (λ w. is_end (f w) x ≡ true) (sym (one_of it)) e) refl
+
+-- it is none of them
+pub put_new : {A : Type 0} (f : A → End) (x : End) (xs : List A) (a : A) → ((b : A) → slice_get xs (place_for x (map f xs)) ≡ Some b → is_end (f b) x ≡ false) → f a ≡ x
+    → map f (take (place_for x (map f xs)) xs ++ a ∷ drop (place_for x (map f xs)) xs) ≡ with_end x (map f xs)
+put_new f x [] a other e = ap (λ w. w ∷ []) e
+put_new {A = A} f x (y ∷ ys) a other e = by (is_before (f y) x) refl other (λ h. put_new f x ys a h e)
+  where
+    by : (b : Bool) → is_before (f y) x ≡ b → ((c : A) → slice_get (y ∷ ys) (if b then place_for x (map f ys) + 1 else 0) ≡ Some c → is_end (f c) x ≡ false)
+        → (((c : A) → slice_get ys (place_for x (map f ys)) ≡ Some c → is_end (f c) x ≡ false) → map f (take (place_for x (map f ys)) ys ++ a ∷ drop (place_for x (map f ys)) ys) ≡ with_end x (map f ys))
+        → map f (take (if b then place_for x (map f ys) + 1 else 0) (y ∷ ys) ++ a ∷ drop (if b then place_for x (map f ys) + 1 else 0) (y ∷ ys)) ≡ (if b then f y ∷ with_end x (map f ys) else if is_end (f y) x then f y ∷ map f ys else x ∷ f y ∷ map f ys)
+    by true q h next =
+        let one : place_for x (map f ys) + 1 ≡ suc (place_for x (map f ys)) = omega arith in
+        ap (λ k. map f (take k (y ∷ ys) ++ a ∷ drop k (y ∷ ys))) one ∙ ap (λ zs. f y ∷ zs) (next (λ c g. h c (ap (slice_get (y ∷ ys)) one ∙ g)))
+    by false q h next = rw (h y refl) (ap (λ w. w ∷ f y ∷ map f ys) e)
+
+-- the same, by what is asked of the place
+pub put_same_at : (x : End) (ys : List End) (n : ℕ) → n ≡ place_for x ys → stands_at x ys n ≡ true → ys ≡ with_end x ys
+put_same_at x ys n place e = by (slice_get ys n) refl e
+  where
+    by : (o : Option End) → slice_get ys n ≡ o → option_map_or (λ y. is_end y x) o false ≡ true → ys ≡ with_end x ys
+    by None q h = cc
+    by (Some y) q h = sym (map_same ys) ∙ put_same (λ (z : End). z) x ys y (ap (slice_get ys) (sym (place ∙ ap (place_for x) (sym (map_same ys)))) ∙ q) h ∙ ap (with_end x) (map_same ys)
+
+pub put_new_at : {A : Type 0} (f : A → End) (x : End) (xs : List A) (n : ℕ) (a : A) → n ≡ place_for x (map f xs) → stands_at x (map f xs) n ≡ false → f a ≡ x → map f (insert xs n a) ≡ with_end x (map f xs)
+put_new_at {A = A} f x xs n a place other e =
+    let none : (b : A) → slice_get xs (place_for x (map f xs)) ≡ Some b → is_end (f b) x ≡ false =
+    λ b h.
+    let at : slice_get (map f xs) n ≡ Some (f b) = slice_get-map f xs n ∙ ap (option_map f) (ap (slice_get xs) place ∙ h) in
+    sym (ap (λ o. option_map_or (λ y. is_end y x) o false) at) ∙ other in
+    ap (λ k. map f (take k xs ++ a ∷ drop k xs)) place ∙ put_new f x xs a none e

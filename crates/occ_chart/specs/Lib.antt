@@ -1,0 +1,5 @@
+pub mod Xml
+pub mod Columns
+pub mod Shapes
+pub mod Labels
+pub mod Charts

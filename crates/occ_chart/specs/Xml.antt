@@ -1,0 +1,53 @@
+-- Elements of XML that hold text alone, some of them behind a title, and how they are written.
+-- Manual: nothing; this is (own).
+use Rattle.std.specs.Prelude.{List, [], codes, if◌then◌else◌, nat_lt, ℕ, ◌&&◌, ◌++◌, ◌==◌, ◌∷◌}
+
+-- what marks XML is written by its name, and what is no printed ASCII as a question mark
+abbrev pub escaped_byte : ℕ → List ℕ
+escaped_byte b =
+    if b == 34 then codes "&quot;" else
+    if b == 38 then codes "&amp;" else
+    if b == 60 then codes "&lt;" else
+    if b == 62 then codes "&gt;" else
+    if nat_lt 31 b && nat_lt b 127 then b ∷ [] else 63 ∷ []
+
+abbrev pub escaped : List ℕ → List ℕ
+escaped [] = []
+escaped (b ∷ bs) = escaped_byte b ++ escaped bs
+
+pub record Attribute : Type 0 where
+  pub name : List ℕ
+  pub value : List ℕ
+
+-- a title is shown where one points at the element; empty for none
+pub record Element : Type 0 where
+  pub name : List ℕ
+  pub attributes : List Attribute
+  pub title : List ℕ
+  pub inside : List ℕ
+
+abbrev pub attribute : (name value : List ℕ) → Attribute
+attribute n v = record { name = n; value = v }
+
+abbrev pub element : List ℕ → List Attribute → (title inside : List ℕ) → Element
+element n xs title text = record { name = n; attributes = xs; title = title; inside = text }
+
+-- a space, the name, and the value between quotes
+unfoldable pub attribute_text : Attribute → List ℕ
+attribute_text a = 32 ∷ a.name ++ 61 ∷ 34 ∷ escaped a.value ++ 34 ∷ []
+
+abbrev pub attributes_text : List Attribute → List ℕ
+attributes_text [] = []
+attributes_text (a ∷ xs) = attribute_text a ++ attributes_text xs
+
+abbrev pub title_text : List ℕ → List ℕ
+title_text [] = []
+title_text (b ∷ bs) = codes "<title>" ++ escaped (b ∷ bs) ++ codes "</title>"
+
+-- its opening tag, its title, its text, its closing tag, on a line
+unfoldable pub element_text : Element → List ℕ
+element_text e = 60 ∷ e.name ++ attributes_text e.attributes ++ 62 ∷ title_text e.title ++ escaped e.inside ++ 60 ∷ 47 ∷ e.name ++ 62 ∷ 10 ∷ []
+
+abbrev pub elements_text : List Element → List ℕ
+elements_text [] = []
+elements_text (e ∷ es) = element_text e ++ elements_text es

@@ -1,0 +1,150 @@
+//! The arrows of communications.
+ghost use Rattle.std.specs.Prelude.{◌≡◌, ◌++◌, ◌≤◌, ◌^◌, IfOk, OnOk, length, map};
+ghost use Rattle.occ_board.specs.Entries.{end_of};
+ghost use Rattle.occ_chart.specs.Charts.{arrow, arrow_from, arrows, room_between, row};
+ghost use Rattle.occ_chart.specs.Labels.{arrow_words};
+ghost use Rattle.occ_chart.specs.Shapes.{along, leftward, rightward};
+ghost use Rattle.occ_chart.specs.Xml.{elements_text};
+
+use crate::columns::place_of;
+use crate::heads::column;
+use crate::labels::write_label;
+use crate::messages::write_items;
+use crate::xml::{Style, write_path};
+use occ_board::Shown;
+use occ_net_trace::End;
+use std::alloc::{AllocError, Global};
+
+/// The height of a row.
+pub(crate) fn row(number: usize) -> u64
+    requires { number ≤ 2 ^ 40 }
+    ensures { result ≡ row number }
+{
+    30 * number as u64 + 80
+}
+
+/// The course of a line to the right along a row, with a head where it ends.
+#[tactic(auto, unfolding(crate::specs::Shapes::rightward))]
+fn rightward(alloc: Global, from: u64, to: u64, y: u64) -> Result<String, AllocError>
+    ensures { IfOk result (λ text. text.bytes.items ≡ rightward from to y) }
+{
+    let text = format!(in alloc; "M {from} {y} H {to} l -8 -4 m 8 4 l -8 4")?;
+    Ok(text)
+}
+
+/// The same to the left.
+#[tactic(auto, unfolding(crate::specs::Shapes::leftward))]
+fn leftward(alloc: Global, from: u64, to: u64, y: u64) -> Result<String, AllocError>
+    ensures { IfOk result (λ text. text.bytes.items ≡ leftward from to y) }
+{
+    let text = format!(in alloc; "M {from} {y} H {to} l 8 -4 m -8 4 l 8 4")?;
+    Ok(text)
+}
+
+fn along(alloc: Global, from: u64, to: u64, y: u64) -> Result<String, AllocError>
+    ensures { IfOk result (λ text. text.bytes.items ≡ along from to y) }
+{
+    if from < to {
+        rightward(alloc, from, to, y)
+    } else {
+        leftward(alloc, from, to, y)
+    }
+}
+
+/// The channel's name and the message of a communication, a single byte with its character where it is printed ASCII.
+///
+/// # Errors
+///
+/// A refused growth.
+pub fn words_of(alloc: Global, shown: &Shown) -> Result<Vec<u8>, AllocError>
+    ensures { IfOk result (λ words. words.items ≡ arrow_words shown.now) }
+{
+    let mut words = Vec::new(alloc);
+    shown.name().write(alloc, &mut words)?;
+    words.push(b' ')?;
+    let items = shown.message().items.as_slice();
+    match shown.tag() {
+        Some(tag) => write_items(alloc, &mut words, Some(tag.as_slice()), items)?,
+        None => write_items(alloc, &mut words, None, items)?,
+    }
+    Ok(words)
+}
+
+/// How many letters have room between two columns.
+fn room_between(from: usize, to: usize) -> usize
+    requires from { from ≤ 2 ^ 40 }
+    requires to { to ≤ 2 ^ 40 }
+    ensures { result ≡ room_between from to }
+{
+    24 * (from.max(to) - from.min(to))
+}
+
+/// The arrow of a communication from one column to another, in this row.
+fn write_arrow_from(
+    alloc: Global,
+    out: &mut Vec<u8>,
+    from: usize,
+    to: usize,
+    number: usize,
+    shown: &Shown,
+) -> Result<(), AllocError>
+    requires from { from ≤ 2 ^ 40 }
+    requires to { to ≤ 2 ^ 40 }
+    requires near { number ≤ 2 ^ 40 }
+    ensures { OnOk result (out.new.items ≡ out.old.items ++ elements_text (arrow_from from to number shown.now)) }
+{
+    let course = along(alloc, column(from), column(to), row(number))?;
+    write_path(out, course.as_bytes(), b"black")?;
+    let words = words_of(alloc, shown)?;
+    let middle = 90 * (from as u64 + to as u64) + 90;
+    let height = 30 * number as u64 + 74;
+    let room = room_between(from, to);
+    write_label(
+        alloc,
+        out,
+        Style::Plain,
+        middle,
+        height,
+        room,
+        words.as_slice(),
+        b"",
+    )
+}
+
+/// The arrow of a communication, in this row.
+fn write_arrow(
+    alloc: Global,
+    out: &mut Vec<u8>,
+    columns: &[End],
+    number: usize,
+    shown: &Shown,
+) -> Result<(), AllocError>
+    requires few { length columns.now ≤ 2 ^ 40 }
+    requires near { number ≤ 2 ^ 40 }
+    ensures { OnOk result (out.new.items ≡ out.old.items ++ elements_text (arrow (map end_of columns.now) number shown.now)) }
+{
+    let from = place_of(columns, shown.sender());
+    let to = place_of(columns, shown.receiver());
+    write_arrow_from(alloc, out, from, to, number, shown)
+}
+
+/// The arrow of each communication, in a row of its own.
+pub(crate) fn write_arrows(
+    alloc: Global,
+    out: &mut Vec<u8>,
+    columns: &[End],
+    shown: &[Shown],
+) -> Result<(), AllocError>
+    requires few { length columns.now ≤ 2 ^ 40 }
+    requires near { length shown.now ≤ 2 ^ 40 }
+    ensures { OnOk result (out.new.items ≡ out.old.items ++ elements_text (arrows (map end_of columns.now) 0 shown.now)) }
+{
+    let mut number = 0;
+    let mut rest = shown;
+    while let Some((first, others)) = rest.split_first() {
+        write_arrow(alloc, out, columns, number, first)?;
+        number += 1;
+        rest = others;
+    }
+    Ok(())
+}

@@ -1,0 +1,140 @@
+//! The sequence chart of a run, in SVG.
+ghost use Rattle.std.specs.Prelude.{◌≡◌, ◌++◌, ◌≤◌, ◌^◌, IfOk, OnOk, length, map};
+ghost use Rattle.occ_board.specs.Entries.{end_of};
+ghost use Rattle.occ_chart.specs.Charts.{IsChart, above, foot, opening};
+ghost use Rattle.occ_net_tables.specs.Holding.{communication_of};
+ghost use Rattle.occ_shown.specs.Answers.{names_of};
+ghost use Rattle.occ_term.specs.Runs.{entries};
+
+use crate::arrows::{row, write_arrows};
+use crate::columns::columns;
+use crate::feet::write_feet;
+use crate::heads::{write_heads, write_heads_again, write_lifelines};
+use crate::notes::{write_after, write_before, write_circle, write_ending};
+use crate::part::{Part, shown_of};
+use crate::stub::Stub;
+use crate::xml::write_number;
+use occ_board::Shown;
+use occ_net_replay::Ending;
+use occ_net_trace::{End, Trace};
+use occ_term::Channel;
+use std::alloc::{AllocError, Global};
+
+/// The opening tag, and the ground.
+#[tactic(auto, unfolding(crate::specs::Charts::opening))]
+fn write_opening(
+    alloc: Global,
+    out: &mut Vec<u8>,
+    width: u64,
+    height: u64,
+) -> Result<(), AllocError>
+    ensures { OnOk result (out.new.items ≡ out.old.items ++ opening width height) }
+{
+    out.extend_from_slice(b"<svg xmlns=\"http://www.w3.org/2000/svg\"")?;
+    write_number(alloc, out, b"width", width)?;
+    write_number(alloc, out, b"height", height)?;
+    out.extend_from_slice(
+        b" font-family=\"sans-serif\" font-size=\"12\" text-anchor=\"middle\">\n<rect width=\"100%\" height=\"100%\" fill=\"white\"></rect>\n",
+    )?;
+    Ok(())
+}
+
+/// What stands over the foot.
+fn above(
+    alloc: Global,
+    names: &[Vec<u8>],
+    columns: &[End],
+    shown: &[Shown],
+    before: usize,
+    is_cut: bool,
+) -> Result<Vec<u8>, AllocError>
+    requires few { length columns.now ≤ 2 ^ 40 }
+    requires near { length shown.now ≤ 990 }
+    ensures { IfOk result (λ out. out.items ≡ above (map (λ v. v.items) names.now) (map end_of columns.now) shown.now before is_cut) }
+{
+    let bottom = row(shown.len());
+    let width = 180 * columns.len().max(1) as u64;
+    let mut out = Vec::new(alloc);
+    write_opening(alloc, &mut out, width, bottom + 120)?;
+    write_heads(alloc, &mut out, names, 20, columns)?;
+    write_lifelines(alloc, &mut out, bottom, columns)?;
+    write_before(alloc, &mut out, before, is_cut)?;
+    write_arrows(alloc, &mut out, columns, shown)?;
+    Ok(out)
+}
+
+/// The sequence chart of a run, as a text in SVG: a column for each process and each of the keyboard, the screen and
+/// the error channel that takes part, and from top to bottom an arrow for each of the communications that are asked for,
+/// with the channel's name and the message. At its foot stand those of `stubs`, how the run ended, how many more
+/// communications there were, and the circle of processes that wait for one another, where one is given. A process is
+/// called by its number and the name that `names` has at that place, if any.
+///
+/// # Errors
+///
+/// A refused growth.
+pub fn chart(
+    alloc: Global,
+    trace: &Trace,
+    channels: &[Channel],
+    part: Part,
+    ending: Ending,
+    names: &[Vec<u8>],
+    stubs: &[Stub],
+    circle: &[u32],
+) -> Result<Vec<u8>, AllocError>
+    ensures { IfOk result (λ bytes. IsChart (entries (names_of channels.now) 1 (map communication_of trace.now)) part ending (map (λ v. v.items) names.now) stubs.now circle.now bytes.items) }
+{
+    let all = trace.len();
+    let list = shown_of(alloc, trace, channels, part)?;
+    let shown = list.as_slice();
+    let columns = columns(alloc, shown, stubs)?;
+    let left = all - part.count(all);
+    let is_cut = part.is_cut(all);
+    let mut out = above(
+        alloc,
+        names,
+        columns.as_slice(),
+        shown,
+        part.if_last(left),
+        is_cut,
+    )?;
+    write_below(
+        alloc,
+        &mut out,
+        names,
+        columns.as_slice(),
+        shown.len(),
+        part.if_first(left),
+        is_cut,
+        stubs,
+        circle,
+        ending,
+    )?;
+    Ok(out)
+}
+
+/// The foot.
+fn write_below(
+    alloc: Global,
+    out: &mut Vec<u8>,
+    names: &[Vec<u8>],
+    columns: &[End],
+    count: usize,
+    after: usize,
+    is_cut: bool,
+    stubs: &[Stub],
+    circle: &[u32],
+    ending: Ending,
+) -> Result<(), AllocError>
+    requires few { length columns.now ≤ 2 ^ 40 }
+    requires near { count ≤ 990 }
+    ensures { OnOk result (out.new.items ≡ out.old.items ++ foot (map (λ v. v.items) names.now) (map end_of columns.now) count after is_cut stubs.now circle.now ending) }
+{
+    let bottom = row(count);
+    write_feet(alloc, out, columns, bottom, stubs)?;
+    write_heads_again(alloc, out, names, bottom, count, columns)?;
+    write_ending(alloc, out, bottom, ending)?;
+    write_after(alloc, out, bottom, after, is_cut)?;
+    write_circle(alloc, out, bottom, columns.len(), circle)?;
+    out.extend_from_slice(b"</svg>\n")
+}

@@ -1,0 +1,142 @@
+//! Who takes part in a chart.
+ghost use Rattle.std.specs.Prelude.{◌≡◌, ◌≤◌, ◌<◌, ◌^◌, IfOk, OnOk, length, map};
+ghost use Rattle.occ_board.specs.Entries.{end_of};
+ghost use Rattle.occ_chart.specs.Columns.{AreColumns, group, is_before, is_end, number, place_for, place_of, stands_at, with_end, with_ends, with_standing};
+
+use crate::stub::Stub;
+use occ_board::Shown;
+use occ_net_trace::End;
+use std::alloc::{AllocError, Global};
+
+/// The most columns for which there may be memory.
+const MOST_COLUMNS: usize = 1 << 40;
+
+/// First the keyboard, then the processes, then the screen, then the error channel.
+fn group(end: End) -> u32
+    ensures { result ≡ group (end_of end) }
+{
+    match end {
+        End::Keyboard => 0,
+        End::Process(_) => 1,
+        End::Screen => 2,
+        End::Error => 3,
+    }
+}
+
+/// The number of a process.
+fn number(end: End) -> u32
+    ensures { result ≡ number (end_of end) }
+{
+    match end {
+        End::Process(number) => number,
+        End::Keyboard => 0,
+        End::Screen => 0,
+        End::Error => 0,
+    }
+}
+
+fn is_end(one: End, other: End) -> bool
+    ensures { result ≡ is_end (end_of one) (end_of other) }
+{
+    group(one) == group(other) && number(one) == number(other)
+}
+
+fn is_before(one: End, other: End) -> bool
+    ensures { result ≡ is_before (end_of one) (end_of other) }
+{
+    group(one) < group(other) || (group(one) == group(other) && number(one) < number(other))
+}
+
+/// The column of an end; their number where it has none.
+pub(crate) fn place_of(columns: &[End], end: End) -> usize
+    ensures place { result ≡ place_of (end_of end) (map end_of columns.now) }
+    ensures within { result ≤ length columns.now }
+{
+    for i in 0..columns.len() {
+        if is_end(end, columns[i]) {
+            return i;
+        }
+    }
+    columns.len()
+}
+
+/// Before how many an end does not stand.
+fn place_for(columns: &[End], end: End) -> usize
+    ensures place { result ≡ place_for (end_of end) (map end_of columns.now) }
+    ensures within { result ≤ length columns.now }
+{
+    for i in 0..columns.len() {
+        if !is_before(columns[i], end) {
+            return i;
+        }
+    }
+    columns.len()
+}
+
+/// Whether an end stands at this place.
+fn is_at(columns: &[End], place: usize, end: End) -> bool
+    ensures { result ≡ stands_at (end_of end) (map end_of columns.now) place }
+{
+    match columns.get(place) {
+        Some(found) => is_end(*found, end),
+        None => false,
+    }
+}
+
+/// Adds an end that was not among them, in its place.
+fn add(columns: &mut Vec<End>, end: End) -> Result<(), AllocError>
+    ensures added { OnOk result (map end_of columns.new.items ≡ with_end (end_of end) (map end_of columns.old.items)) }
+    ensures few { length columns.old.items ≤ 2 ^ 40 → OnOk result (length columns.new.items ≤ 2 ^ 40) }
+{
+    let place = place_for(columns.as_slice(), end);
+    if is_at(columns.as_slice(), place, end) {
+        return Ok(());
+    }
+    if columns.len() >= MOST_COLUMNS {
+        return Err(AllocError);
+    }
+    columns.insert(place, end)?;
+    Ok(())
+}
+
+/// Adds those that send or receive.
+fn add_ends(columns: &mut Vec<End>, shown: &[Shown]) -> Result<(), AllocError>
+    ensures added { OnOk result (map end_of columns.new.items ≡ with_ends (map end_of columns.old.items) shown.now) }
+    ensures few { length columns.old.items ≤ 2 ^ 40 → OnOk result (length columns.new.items ≤ 2 ^ 40) }
+{
+    let mut rest = shown;
+    while let Some((first, others)) = rest.split_first() {
+        add(columns, first.sender())?;
+        add(columns, first.receiver())?;
+        rest = others;
+    }
+    Ok(())
+}
+
+/// Adds those that stand at the foot.
+fn add_stubs(columns: &mut Vec<End>, stubs: &[Stub]) -> Result<(), AllocError>
+    ensures added { OnOk result (map end_of columns.new.items ≡ with_standing (map end_of columns.old.items) stubs.now) }
+    ensures few { length columns.old.items ≤ 2 ^ 40 → OnOk result (length columns.new.items ≤ 2 ^ 40) }
+{
+    let mut rest = stubs;
+    while let Some((first, others)) = rest.split_first() {
+        add(columns, End::Process(first.process()))?;
+        rest = others;
+    }
+    Ok(())
+}
+
+/// Those that take part, each once, in order.
+pub(crate) fn columns(
+    alloc: Global,
+    shown: &[Shown],
+    stubs: &[Stub],
+) -> Result<Vec<End>, AllocError>
+    ensures are { IfOk result (λ columns. AreColumns shown.now stubs.now (map end_of columns.items)) }
+    ensures few { IfOk result (λ columns. length columns.items ≤ 2 ^ 40) }
+{
+    let mut columns = Vec::new(alloc);
+    add_ends(&mut columns, shown)?;
+    add_stubs(&mut columns, stubs)?;
+    Ok(columns)
+}

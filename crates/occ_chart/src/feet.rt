@@ -1,0 +1,137 @@
+//! Who stands at the foot of its column.
+ghost use Rattle.std.specs.Prelude.{◌≡◌, ◌++◌, ◌≤◌, ◌^◌, IfOk, OnOk, codes, length, map};
+ghost use Rattle.std.specs.Option.{option_map};
+ghost use Rattle.occ_board.specs.Entries.{end_of};
+ghost use Rattle.occ_chart.specs.Charts.{feet, foot_at};
+ghost use Rattle.occ_chart.specs.Labels.{foot_words, message_text};
+ghost use Rattle.occ_chart.specs.Shapes.{stub};
+ghost use Rattle.occ_chart.specs.Xml.{elements_text};
+ghost use Rattle.occ_net_replay.specs.Endings.{ending_text};
+ghost use Rattle.occ_shown.specs.Answers.{names_of};
+ghost use Rattle.occ_term.specs.Runs.{tag_shown};
+
+use crate::columns::place_of;
+use crate::heads::column;
+use crate::labels::write_label;
+use crate::messages::{write_message, write_name};
+use crate::stub::Stub;
+use crate::xml::{Style, write_path};
+use occ_code::Wait;
+use occ_net_replay::Ending;
+use occ_net_trace::End;
+use occ_term::{Channel, Fault, Message};
+use std::alloc::{AllocError, Global};
+
+fn offer_words(
+    alloc: Global,
+    channels: &[Channel],
+    chan: u32,
+    message: &Message,
+) -> Result<Option<Vec<u8>>, AllocError>
+    ensures { IfOk result (λ found. option_map (λ v. v.items) found ≡ Some ((names_of channels.now).channel_name chan ++ codes " ! " ++ message_text (tag_shown (names_of channels.now) chan message.now.tag) message.now.items ++ codes " waits")) }
+{
+    let mut words = Vec::new(alloc);
+    write_name(alloc, &mut words, channels, chan)?;
+    words.extend_from_slice(b" ! ")?;
+    write_message(alloc, &mut words, message, chan, channels)?;
+    words.extend_from_slice(b" waits")?;
+    Ok(Some(words))
+}
+
+fn await_words(
+    alloc: Global,
+    channels: &[Channel],
+    chan: u32,
+) -> Result<Option<Vec<u8>>, AllocError>
+    ensures { IfOk result (λ found. option_map (λ v. v.items) found ≡ Some ((names_of channels.now).channel_name chan ++ codes " ? waits")) }
+{
+    let mut words = Vec::new(alloc);
+    write_name(alloc, &mut words, channels, chan)?;
+    words.extend_from_slice(b" ? waits")?;
+    Ok(Some(words))
+}
+
+fn fault_words(alloc: Global, fault: Fault) -> Result<Option<Vec<u8>>, AllocError>
+    ensures { IfOk result (λ found. option_map (λ v. v.items) found ≡ Some (ending_text (Ending.Fault fault))) }
+{
+    let ending = Ending::Fault(fault);
+    let text = format!(in alloc; "{ending}")?;
+    words_of(alloc, text.as_bytes())
+}
+
+/// These words.
+fn words_of(alloc: Global, words: &[u8]) -> Result<Option<Vec<u8>>, AllocError>
+    ensures { IfOk result (λ found. option_map (λ v. v.items) found ≡ Some words.now) }
+{
+    Ok(Some(Vec::from_slice(alloc, words)?))
+}
+
+/// What a process waits for, or why it never goes on; none for one that can go on, that waits for its branches, or is done.
+///
+/// # Errors
+///
+/// A refused growth.
+pub fn foot_of(
+    alloc: Global,
+    wait: &Wait,
+    channels: &[Channel],
+) -> Result<Option<Vec<u8>>, AllocError>
+    ensures { IfOk result (λ found. option_map (λ v. v.items) found ≡ foot_words (names_of channels.now) wait.now) }
+{
+    match wait {
+        Wait::Offers { chan, message } => offer_words(alloc, channels, *chan, message),
+        Wait::Awaits { chan } => await_words(alloc, channels, *chan),
+        Wait::Chooses { .. } => words_of(alloc, b"ALT waits"),
+        Wait::Halted => words_of(alloc, b"halted"),
+        Wait::Faulted(fault) => fault_words(alloc, *fault),
+        Wait::Ready => Ok(None),
+        Wait::Took { .. } => Ok(None),
+        Wait::Joins { .. } => Ok(None),
+        Wait::Done => Ok(None),
+    }
+}
+
+/// The course of a stub at the foot of a column.
+#[tactic(auto, unfolding(crate::specs::Shapes::stub))]
+fn stub(alloc: Global, x: u64, bottom: u64) -> Result<String, AllocError>
+    ensures { IfOk result (λ text. text.bytes.items ≡ stub x bottom) }
+{
+    let text = format!(in alloc; "M {x} {bottom} v 14 m -7 0 h 14")?;
+    Ok(text)
+}
+
+fn write_foot(
+    alloc: Global,
+    out: &mut Vec<u8>,
+    x: u64,
+    bottom: u64,
+    words: &[u8],
+) -> Result<(), AllocError>
+    requires { bottom ≤ 2 ^ 40 }
+    ensures { OnOk result (out.new.items ≡ out.old.items ++ elements_text (foot_at x bottom words.now)) }
+{
+    let course = stub(alloc, x, bottom)?;
+    write_path(out, course.as_bytes(), b"red")?;
+    write_label(alloc, out, Style::Red, x, bottom + 28, 24, words, b"")
+}
+
+/// Each that stands at the foot, in its column.
+pub(crate) fn write_feet(
+    alloc: Global,
+    out: &mut Vec<u8>,
+    columns: &[End],
+    bottom: u64,
+    stubs: &[Stub],
+) -> Result<(), AllocError>
+    requires few { length columns.now ≤ 2 ^ 40 }
+    requires bottom { bottom ≤ 2 ^ 40 }
+    ensures { OnOk result (out.new.items ≡ out.old.items ++ elements_text (feet (map end_of columns.now) bottom stubs.now)) }
+{
+    let mut rest = stubs;
+    while let Some((first, others)) = rest.split_first() {
+        let place = place_of(columns, End::Process(first.process()));
+        write_foot(alloc, out, column(place), bottom, first.words())?;
+        rest = others;
+    }
+    Ok(())
+}

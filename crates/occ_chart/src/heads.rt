@@ -1,0 +1,155 @@
+//! The heads of columns, and the lines down from them.
+ghost use Rattle.std.specs.Prelude.{◌≡◌, ◌++◌, ◌≤◌, ◌^◌, IfOk, OnOk, codes, length, map};
+ghost use Rattle.occ_board.specs.Entries.{end_of};
+ghost use Rattle.occ_chart.specs.Charts.{column, heads, heads_again, lifelines};
+ghost use Rattle.occ_chart.specs.Labels.{end_words, name_in};
+ghost use Rattle.occ_chart.specs.Shapes.{down, label, path};
+ghost use Rattle.occ_chart.specs.Xml.{element_text, elements_text};
+ghost use Rattle.occ_chart.specs.declared.xml.Style.TheVariants.{Plain};
+ghost use Rattle.occ_shown.specs.Answers.{end_text};
+
+use crate::labels::write_label;
+use crate::xml::{Style, write_path};
+use occ_net_trace::End;
+use std::alloc::{AllocError, Global};
+
+/// The place of a column in the picture.
+pub(crate) fn column(place: usize) -> u64
+    requires { place ≤ 2 ^ 40 }
+    ensures { result ≡ column place }
+{
+    180 * place as u64 + 90
+}
+
+/// The name of an end: `p` and a process's number, or what else it is.
+///
+/// # Errors
+///
+/// A refused growth.
+pub fn write_end(alloc: Global, out: &mut Vec<u8>, end: End) -> Result<(), AllocError>
+    ensures { OnOk result (out.new.items ≡ out.old.items ++ end_text (end_of end)) }
+{
+    match end {
+        End::Process(number) => {
+            let text = format!(in alloc; "p{number}")?;
+            out.extend_from_slice(text.as_bytes())
+        }
+        End::Keyboard => out.extend_from_slice(b"keyboard"),
+        End::Screen => out.extend_from_slice(b"screen"),
+        End::Error => out.extend_from_slice(b"error"),
+    }
+}
+
+/// What stands behind the name of an end.
+fn end_words(alloc: Global, name: &[u8], end: End) -> Result<Vec<u8>, AllocError>
+    ensures { IfOk result (λ words. words.items ≡ end_words name.now (end_of end)) }
+{
+    let mut words = Vec::new(alloc);
+    if !name.is_empty() {
+        words.push(b' ')?;
+    }
+    write_end(alloc, &mut words, end)?;
+    Ok(words)
+}
+
+/// The name that an end has.
+fn name_of(names: &[Vec<u8>], end: End) -> &[u8]
+    ensures { result.now ≡ name_in (map (λ v. v.items) names.now) (end_of end) }
+{
+    match end {
+        End::Process(number) => match names.get(number as usize) {
+            Some(name) => name.as_slice(),
+            None => &[],
+        },
+        End::Keyboard => &[],
+        End::Screen => &[],
+        End::Error => &[],
+    }
+}
+
+fn write_head(
+    alloc: Global,
+    out: &mut Vec<u8>,
+    names: &[Vec<u8>],
+    x: u64,
+    y: u64,
+    end: End,
+) -> Result<(), AllocError>
+    ensures { OnOk result (out.new.items ≡ out.old.items ++ element_text (label Plain x y 24 (name_in (map (λ v. v.items) names.now) (end_of end)) (end_words (name_in (map (λ v. v.items) names.now) (end_of end)) (end_of end)))) }
+{
+    let name = name_of(names, end);
+    let words = end_words(alloc, name, end)?;
+    write_label(alloc, out, Style::Plain, x, y, 24, name, words.as_slice())
+}
+
+/// The heads of the columns, in this height.
+pub(crate) fn write_heads(
+    alloc: Global,
+    out: &mut Vec<u8>,
+    names: &[Vec<u8>],
+    y: u64,
+    columns: &[End],
+) -> Result<(), AllocError>
+    requires { length columns.now ≤ 2 ^ 40 }
+    ensures { OnOk result (out.new.items ≡ out.old.items ++ elements_text (heads (map (λ v. v.items) names.now) y 0 (map end_of columns.now))) }
+{
+    for i in 0..columns.len() {
+        write_head(alloc, out, names, column(i), y, columns[i])?;
+    }
+    Ok(())
+}
+
+/// The heads again, under a long chart.
+pub(crate) fn write_heads_again(
+    alloc: Global,
+    out: &mut Vec<u8>,
+    names: &[Vec<u8>],
+    bottom: u64,
+    count: usize,
+    columns: &[End],
+) -> Result<(), AllocError>
+    requires columns { length columns.now ≤ 2 ^ 40 }
+    requires bottom { bottom ≤ 2 ^ 40 }
+    ensures { OnOk result (out.new.items ≡ out.old.items ++ elements_text (heads_again (map (λ v. v.items) names.now) bottom count (map end_of columns.now))) }
+{
+    if count > 40 {
+        return write_heads(alloc, out, names, bottom + 46, columns);
+    }
+    Ok(())
+}
+
+/// The course of a line down a column.
+#[tactic(auto, unfolding(crate::specs::Shapes::down))]
+fn down(alloc: Global, x: u64, bottom: u64) -> Result<String, AllocError>
+    ensures { IfOk result (λ text. text.bytes.items ≡ down x bottom) }
+{
+    let text = format!(in alloc; "M {x} 30 V {bottom}")?;
+    Ok(text)
+}
+
+fn write_lifeline(alloc: Global, out: &mut Vec<u8>, x: u64, bottom: u64) -> Result<(), AllocError>
+    ensures { OnOk result (out.new.items ≡ out.old.items ++ element_text (path (down x bottom) (codes "silver"))) }
+{
+    let course = down(alloc, x, bottom)?;
+    write_path(out, course.as_bytes(), b"silver")
+}
+
+/// The lines down from the heads.
+pub(crate) fn write_lifelines(
+    alloc: Global,
+    out: &mut Vec<u8>,
+    bottom: u64,
+    columns: &[End],
+) -> Result<(), AllocError>
+    requires { length columns.now ≤ 2 ^ 40 }
+    ensures { OnOk result (out.new.items ≡ out.old.items ++ elements_text (lifelines bottom 0 (map end_of columns.now))) }
+{
+    let mut place = 0;
+    let mut rest = columns;
+    while let Some((_, others)) = rest.split_first() {
+        write_lifeline(alloc, out, column(place), bottom)?;
+        place += 1;
+        rest = others;
+    }
+    Ok(())
+}

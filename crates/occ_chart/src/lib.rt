@@ -1,0 +1,24 @@
+//! Sequence charts of runs, in SVG: [`chart`] draws the first or the last communications of a trace, with a column for each
+//! process and each of the keyboard, the screen and the error channel that takes part, and at the foot what each process
+//! waits for, as a [`Stub`]; [`foot_of`] has the words of what a process stands at.
+#![tactic(auto)]
+
+mod arrows;
+mod charting;
+mod columns;
+mod feet;
+mod heads;
+mod labels;
+mod messages;
+mod notes;
+mod part;
+mod stub;
+mod xml;
+
+pub use arrows::words_of;
+pub use charting::chart;
+pub use feet::foot_of;
+pub use heads::write_end;
+pub use messages::{write_message, write_name};
+pub use part::{MOST_ARROWS, Part};
+pub use stub::Stub;

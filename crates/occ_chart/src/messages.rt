@@ -1,0 +1,212 @@
+//! Messages in bytes.
+ghost use Rattle.std.specs.Prelude.{◌≡◌, ◌++◌, OnOk, Some};
+ghost use Rattle.std.specs.Fmt.{decimal};
+ghost use Rattle.std.specs.Option.{option_copied};
+ghost use Rattle.occ_term.specs.Runs.{tag_shown};
+ghost use Rattle.occ_shown.specs.Answers.{array_text, name_at, names_of, spaced_text, tag_in, value_text};
+ghost use Rattle.occ_chart.specs.Labels.{byte_text, item_text, message_text, others_text};
+
+use occ_term::{Channel, Message, Part, Primitive, Protocol};
+use std::alloc::{AllocError, Global};
+
+fn write_value(
+    alloc: Global,
+    out: &mut Vec<u8>,
+    primitive: Primitive,
+    value: i64,
+) -> Result<(), AllocError>
+    ensures { OnOk result (out.new.items ≡ out.old.items ++ value_text primitive value) }
+{
+    match primitive {
+        Primitive::Bool => {
+            if value >= 1 {
+                out.extend_from_slice(b"TRUE")
+            } else {
+                out.extend_from_slice(b"FALSE")
+            }
+        }
+        Primitive::Byte | Primitive::Int => {
+            let text = format!(in alloc; "{value}")?;
+            out.extend_from_slice(text.as_bytes())
+        }
+    }
+}
+
+/// Values, each after a space.
+fn write_spaced(
+    alloc: Global,
+    out: &mut Vec<u8>,
+    primitive: Primitive,
+    values: &[i64],
+) -> Result<(), AllocError>
+    ensures { OnOk result (out.new.items ≡ out.old.items ++ spaced_text primitive values.now) }
+{
+    let mut rest = values;
+    while let Some((value, others)) = rest.split_first() {
+        out.push(b' ')?;
+        write_value(alloc, out, primitive, *value)?;
+        rest = others;
+    }
+    Ok(())
+}
+
+fn write_array(
+    alloc: Global,
+    out: &mut Vec<u8>,
+    primitive: Primitive,
+    values: &[i64],
+) -> Result<(), AllocError>
+    ensures { OnOk result (out.new.items ≡ out.old.items ++ array_text primitive values.now) }
+{
+    out.push(b'[')?;
+    if let Some((first, others)) = values.split_first() {
+        write_value(alloc, out, primitive, *first)?;
+        write_spaced(alloc, out, primitive, others)?;
+    }
+    out.push(b']')?;
+    Ok(())
+}
+
+/// A byte's number, and its character where it is printed ASCII.
+fn write_byte(alloc: Global, out: &mut Vec<u8>, value: i64) -> Result<(), AllocError>
+    ensures { OnOk result (out.new.items ≡ out.old.items ++ byte_text value) }
+{
+    let text = format!(in alloc; "{value}")?;
+    out.extend_from_slice(text.as_bytes())?;
+    if value >= 32 && value <= 126 {
+        out.extend_from_slice(b" '")?;
+        out.push(value as u8)?;
+        out.push(b'\'')?;
+    }
+    Ok(())
+}
+
+fn write_one(
+    alloc: Global,
+    out: &mut Vec<u8>,
+    primitive: Primitive,
+    value: i64,
+) -> Result<(), AllocError>
+    ensures { OnOk result (out.new.items ≡ out.old.items ++ item_text (Part.One primitive value)) }
+{
+    match primitive {
+        Primitive::Byte => write_byte(alloc, out, value),
+        Primitive::Bool => write_value(alloc, out, Primitive::Bool, value),
+        Primitive::Int => write_value(alloc, out, Primitive::Int, value),
+    }
+}
+
+fn write_item(alloc: Global, out: &mut Vec<u8>, part: &Part) -> Result<(), AllocError>
+    ensures { OnOk result (out.new.items ≡ out.old.items ++ item_text part.now) }
+{
+    match part {
+        Part::One(primitive, value) => write_one(alloc, out, *primitive, *value),
+        Part::Many(primitive, values) => write_array(alloc, out, *primitive, values.as_slice()),
+        Part::Counted(primitive, values) => {
+            let count = values.as_slice().len() as u64;
+            let head = format!(in alloc; "{count}::")?;
+            out.extend_from_slice(head.as_bytes())?;
+            write_array(alloc, out, *primitive, values.as_slice())
+        }
+    }
+}
+
+/// Items, each after a semicolon and a space.
+fn write_others(alloc: Global, out: &mut Vec<u8>, parts: &[Part]) -> Result<(), AllocError>
+    ensures { OnOk result (out.new.items ≡ out.old.items ++ others_text parts.now) }
+{
+    let mut rest = parts;
+    while let Some((part, others)) = rest.split_first() {
+        out.extend_from_slice(b"; ")?;
+        write_item(alloc, out, part)?;
+        rest = others;
+    }
+    Ok(())
+}
+
+/// The items of a message, of which a tag's name is the first.
+pub(crate) fn write_items(
+    alloc: Global,
+    out: &mut Vec<u8>,
+    tag: Option<&[u8]>,
+    parts: &[Part],
+) -> Result<(), AllocError>
+    ensures { OnOk result (out.new.items ≡ out.old.items ++ message_text (option_copied tag.entry) parts.now) }
+{
+    match tag {
+        Some(name) => {
+            out.extend_from_slice(name)?;
+            write_others(alloc, out, parts)
+        }
+        None => match parts.split_first() {
+            Some((first, others)) => {
+                write_item(alloc, out, first)?;
+                write_others(alloc, out, others)
+            }
+            None => Ok(()),
+        },
+    }
+}
+
+/// The name of a channel; nothing where there is no such channel.
+///
+/// # Errors
+///
+/// A refused growth.
+pub fn write_name(
+    alloc: Global,
+    out: &mut Vec<u8>,
+    channels: &[Channel],
+    chan: u32,
+) -> Result<(), AllocError>
+    ensures { OnOk result (out.new.items ≡ out.old.items ++ (names_of channels.now).channel_name chan) }
+{
+    match channels.get(chan as usize) {
+        Some(channel) => channel.name.write(alloc, out),
+        None => Ok(()),
+    }
+}
+
+/// The name of a protocol's tag; empty where there is no such tag.
+fn protocol_tag(protocol: &Protocol, tag: u32) -> &[u8]
+    ensures { result.now ≡ tag_in (Some protocol.now) tag }
+{
+    match protocol {
+        Protocol::Variant(tags) => match tags.as_slice().get(tag as usize) {
+            Some(found) => found.name.as_slice(),
+            None => &[],
+        },
+        _ => &[],
+    }
+}
+
+/// The name of a channel's tag; empty where there is no such tag.
+fn tag_name(channels: &[Channel], chan: u32, tag: u32) -> &[u8]
+    ensures { result.now ≡ (names_of channels.now).tag_name chan tag }
+{
+    match channels.get(chan as usize) {
+        Some(channel) => protocol_tag(&channel.protocol, tag),
+        None => &[],
+    }
+}
+
+/// The tag's name and the items of a message on this channel, a single byte with its character where it is printed ASCII.
+///
+/// # Errors
+///
+/// A refused growth.
+pub fn write_message(
+    alloc: Global,
+    out: &mut Vec<u8>,
+    message: &Message,
+    chan: u32,
+    channels: &[Channel],
+) -> Result<(), AllocError>
+    ensures { OnOk result (out.new.items ≡ out.old.items ++ message_text (tag_shown (names_of channels.now) chan message.now.tag) message.now.items) }
+{
+    let items = message.items.as_slice();
+    match message.tag {
+        Some(tag) => write_items(alloc, out, Some(tag_name(channels, chan, tag)), items),
+        None => write_items(alloc, out, None, items),
+    }
+}

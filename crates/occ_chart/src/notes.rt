@@ -1,0 +1,165 @@
+//! What is noted beside the arrows of a chart.
+ghost use Rattle.std.specs.Prelude.{◌≡◌, ◌++◌, ◌+◌, ◌*◌, ◌≤◌, ◌^◌, ◌∷◌, [], IfOk, OnOk, codes, length, max};
+ghost use Rattle.std.specs.Fmt.{decimal};
+ghost use Rattle.occ_chart.specs.Charts.{circle_label, circle_words, cut_words, note_after, note_before, note_circle, note_ending, numbers_text};
+ghost use Rattle.occ_chart.specs.Xml.{element_text, elements_text};
+ghost use Rattle.occ_net_replay.specs.Endings.{ending_text};
+
+use crate::labels::write_label;
+use crate::xml::{Style, write_text};
+use occ_net_replay::Ending;
+use std::alloc::{AllocError, Global};
+
+/// What is said where fewer are drawn than were asked for.
+fn cut_words(is_cut: bool) -> &'static [u8]
+    ensures { result.now ≡ cut_words is_cut }
+{
+    if is_cut {
+        b"; a picture has 990 arrows at most"
+    } else {
+        b""
+    }
+}
+
+/// How many communications came before those that are drawn, where some did.
+pub(crate) fn write_before(
+    alloc: Global,
+    out: &mut Vec<u8>,
+    count: usize,
+    is_cut: bool,
+) -> Result<(), AllocError>
+    ensures { OnOk result (out.new.items ≡ out.old.items ++ elements_text (note_before count is_cut)) }
+{
+    if count == 0 {
+        return Ok(());
+    }
+    let text = format!(in alloc; "and {count} before")?;
+    let mut words = Vec::from_slice(alloc, text.as_bytes())?;
+    words.extend_from_slice(cut_words(is_cut))?;
+    write_text(alloc, out, Style::Note, 10, 48, b"", words.as_slice())
+}
+
+/// How many communications come after those that are drawn, where some do.
+pub(crate) fn write_after(
+    alloc: Global,
+    out: &mut Vec<u8>,
+    bottom: u64,
+    count: usize,
+    is_cut: bool,
+) -> Result<(), AllocError>
+    requires { bottom ≤ 2 ^ 40 }
+    ensures { OnOk result (out.new.items ≡ out.old.items ++ elements_text (note_after bottom count is_cut)) }
+{
+    if count == 0 {
+        return Ok(());
+    }
+    let text = format!(in alloc; "{count} more")?;
+    let mut words = Vec::from_slice(alloc, text.as_bytes())?;
+    words.extend_from_slice(cut_words(is_cut))?;
+    write_text(
+        alloc,
+        out,
+        Style::Note,
+        10,
+        bottom + 86,
+        b"",
+        words.as_slice(),
+    )
+}
+
+/// The numbers of processes, each after a space.
+fn write_numbers(alloc: Global, out: &mut Vec<u8>, numbers: &[u32]) -> Result<(), AllocError>
+    ensures { OnOk result (out.new.items ≡ out.old.items ++ numbers_text numbers.now) }
+{
+    let mut rest = numbers;
+    while let Some((first, others)) = rest.split_first() {
+        let number = *first;
+        let text = format!(in alloc; " p{number}")?;
+        out.extend_from_slice(text.as_bytes())?;
+        rest = others;
+    }
+    Ok(())
+}
+
+/// How many letters have room under so many columns.
+fn room_under(columns: usize) -> usize
+    requires { columns ≤ 2 ^ 40 }
+    ensures { result ≡ 24 * max 1 columns }
+{
+    24 * columns.max(1)
+}
+
+/// What is said of processes that wait for one another in a circle.
+fn circle_words(alloc: Global, circle: &[u32]) -> Result<Vec<u8>, AllocError>
+    ensures { IfOk result (λ words. words.items ≡ circle_words circle.now) }
+{
+    let mut words = Vec::from_slice(alloc, b"a circle waits:")?;
+    write_numbers(alloc, &mut words, circle)?;
+    Ok(words)
+}
+
+fn write_circle_words(
+    alloc: Global,
+    out: &mut Vec<u8>,
+    bottom: u64,
+    columns: usize,
+    circle: &[u32],
+) -> Result<(), AllocError>
+    requires columns { columns ≤ 2 ^ 40 }
+    requires bottom { bottom ≤ 2 ^ 40 }
+    ensures { OnOk result (out.new.items ≡ out.old.items ++ element_text (circle_label bottom columns circle.now)) }
+{
+    let words = circle_words(alloc, circle)?;
+    let room = room_under(columns);
+    let height = bottom + 104;
+    write_label(
+        alloc,
+        out,
+        Style::RedNote,
+        10,
+        height,
+        room,
+        words.as_slice(),
+        b"",
+    )
+}
+
+/// A circle of processes that wait for one another, where one is given.
+pub(crate) fn write_circle(
+    alloc: Global,
+    out: &mut Vec<u8>,
+    bottom: u64,
+    columns: usize,
+    circle: &[u32],
+) -> Result<(), AllocError>
+    requires columns { columns ≤ 2 ^ 40 }
+    requires bottom { bottom ≤ 2 ^ 40 }
+    ensures { OnOk result (out.new.items ≡ out.old.items ++ elements_text (note_circle bottom columns circle.now)) }
+{
+    match circle.split_first() {
+        Some(_) => write_circle_words(alloc, out, bottom, columns, circle),
+        None => Ok(()),
+    }
+}
+
+/// How the run ended.
+pub(crate) fn write_ending(
+    alloc: Global,
+    out: &mut Vec<u8>,
+    bottom: u64,
+    ending: Ending,
+) -> Result<(), AllocError>
+    requires { bottom ≤ 2 ^ 40 }
+    ensures { OnOk result (out.new.items ≡ out.old.items ++ elements_text (note_ending bottom ending ∷ [])) }
+{
+    let words = format!(in alloc; "{ending}")?;
+    write_text(
+        alloc,
+        out,
+        Style::Note,
+        10,
+        bottom + 68,
+        b"",
+        words.as_bytes(),
+    )
+}

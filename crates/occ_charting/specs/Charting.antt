@@ -1,0 +1,67 @@
+-- The chart of the run of a source.
+-- Manual: nothing; this is (own).
+use Rattle.std.specs.Prelude.{List, None, Option, Some, [], length, min, slice_get, zero, suc, ℕ, ◌++◌, ◌<◌, ◌^◌, ◌≡◌, ◌∷◌}
+use Rattle.occ_chart.specs.declared.part.Part.{Part}
+use Rattle.occ_chart.specs.Charts.{IsChart}
+use Rattle.occ_chart.specs.Columns.{Standing, standing}
+use Rattle.occ_chart.specs.Labels.{foot_words}
+use Rattle.occ_code.specs.Compiled.{Program}
+use Rattle.occ_code.specs.declared.task.Task.{Task}
+use Rattle.occ_net_replay.specs.declared.choice.Choice.{Choice}
+use Rattle.occ_net_replay.specs.Following.{Followed, or_limit}
+use Rattle.occ_net_replay.specs.Replay.{Net, Replays, Tasks, ending_of}
+use Rattle.occ_net_tables.specs.Outcomes.{Begins}
+use Rattle.occ_play.specs.declared.playing.Options.{Options}
+use Rattle.occ_play.specs.Playing.{IsTextsCode}
+use Rattle.occ_shown.specs.Answers.{names_of}
+use Rattle.occ_term.specs.Runs.{Names, entries, shown}
+
+-- ---- who stands at the foot
+
+abbrev pub foot_standing : ℕ → Option (List ℕ) → List Standing
+foot_standing n None = []
+foot_standing n (Some words) = standing n words ∷ []
+
+-- a process that has not begun stands nowhere
+abbrev pub foot_in : Names → ℕ → Option (Option Task) → List Standing
+foot_in names n None = []
+foot_in names n (Some None) = []
+foot_in names n (Some (Some t)) = foot_standing n (foot_words names t.wait)
+
+-- of the first so many processes, rising
+abbrev pub feet_of : Names → Tasks → ℕ → List Standing
+feet_of names tasks zero = []
+feet_of names tasks (suc n) = feet_of names tasks n ++ foot_in names n (slice_get tasks n)
+
+-- all but for one whose number would be 2 to the 32 less 1, of which a program has none
+abbrev pub feet : Names → Tasks → List Standing
+feet names tasks = feet_of names tasks (min (length tasks) 4294967295)
+
+-- ---- the chart
+
+-- The replay of the used choices, which are a beginning of the list, and the chart of its communications, with what each process
+-- stands at then.
+pub record IsReplayChart (p : Program) (keyboard : List ℕ) (list : List Choice) (part : Part) (names : List (List ℕ)) (circle bytes : List ℕ) : Type 0 where
+  pub used : List Choice
+  pub net : Net
+  pub replays : Replays p keyboard used net
+  pub few : length used < 2 ^ 64
+  pub begins : Begins used list
+  pub whole : ending_of p.errors net ≡ None → used ≡ list
+  pub is : IsChart (entries (names_of p.channels) 1 net.trace) part (or_limit (ending_of p.errors net)) names (feet (names_of p.channels) net.tasks) circle bytes
+
+-- A run of the text's program, by its system: it takes a turn for each of the used choices, which are a beginning of the list, by the
+-- process that the replay of the code says, and comes to the same communications and the same ending. The chart is of the
+-- communications that the run shows, of its ending, and of what each process of the replay stands at then.
+pub record IsRunChart (options : Options) (source keyboard : List ℕ) (list : List Choice) (part : Part) (names : List (List ℕ)) (circle bytes : List ℕ) : Type 0 where
+  pub code : Program
+  pub text : IsTextsCode options source code
+  pub used : List Choice
+  pub net : Net
+  pub replays : Replays code keyboard used net
+  pub begins : Begins used list
+  pub whole : ending_of code.errors net ≡ None → used ≡ list
+  pub run : Followed text.program keyboard options.quantum code.errors net
+  pub is :
+      IsChart (shown (names_of text.program.channels) run.events).trace part (or_limit (ending_of code.errors net)) names
+      (feet (names_of text.program.channels) net.tasks) circle bytes

@@ -1,0 +1,190 @@
+-- Who is noted for channels.
+use Rattle.std.proofs.Common.{Bool, List, Option, None, Some, [], ◌∷◌, ◌+◌, ◌<◌, ◌≡◌, ◌≤◌, ◌∙◌, ◌⊎◌, ap, arith, false, inl, inr, length, map, refl, subst, suc, sym, true, zero, ℕ}
+use Rattle.std.specs.Prelude.{if◌then◌else◌, min, nat_le, nat_lt, option_map, replicate, slice_get, ◌&&◌, ◌||◌}
+use Rattle.std.proofs.lemmas.Bool.Decides.{nat_tests}
+use Rattle.occ_explore_walks.proofs.Lists.{same_or_other}
+use Rattle.occ_term.specs.Uses.{Numbers, Uses, empty_set}
+use Rattle.occ_usage.specs.Noted.{between, use_of, uses_in}
+use Rattle.occ_usage.specs.declared.noted.Use.{Use}
+use Rattle.occ_ends.specs.Ends.{MarkedIn, Marks, Using, first_with, flat, marked, noted_at, or_first, within}
+
+lt_or_le : (n e : ℕ) → (n < e) ⊎ (e ≤ n)
+lt_or_le zero zero = inr (omega arith)
+lt_or_le zero (suc e) = inl (omega arith)
+lt_or_le (suc n) zero = inr (omega arith)
+lt_or_le (suc n) (suc e) = elim (lt_or_le n e) [ inl h ↦ inl (omega (arith, h)) | inr h ↦ inr (omega (arith, h)) ]
+
+-- ---- one set after another
+
+marked_then : (a b : Bool) (n : ℕ) (x : Option ℕ) → marked b n (marked a n x) ≡ marked (a || b) n x
+marked_then true b n None = refl
+marked_then false b n None = refl
+marked_then true b n (Some m) = refl
+marked_then false b n (Some m) = refl
+
+both_marked : (a b : Bool) (n : ℕ) (x : Option (Option ℕ)) → option_map (marked b n) (option_map (marked a n) x) ≡ option_map (marked (a || b) n) x
+both_marked a b n None = refl
+both_marked a b n (Some x) = ap Some (marked_then a b n x)
+
+unmarked : (n : ℕ) (x : Option (Option ℕ)) → x ≡ option_map (marked false n) x
+unmarked n None = refl
+unmarked n (Some None) = refl
+unmarked n (Some (Some m)) = refl
+
+pub marks_none : (ends : List (Option ℕ)) (n : ℕ) → Marks ends empty_set n ends
+marks_none ends n = record { ends = λ c. unmarked n (slice_get ends c); as_many = refl }
+
+-- ---- channels one after another
+
+outside : {X : Type 0} (xs : List X) (c : ℕ) → length xs ≤ c → slice_get xs c ≡ None
+outside [] c h = refl
+outside (x ∷ xs) zero h = absurd (omega (arith, h))
+outside (x ∷ xs) (suc c) h = outside xs c (omega (arith, h))
+
+empty_between : (first c : ℕ) → between first first c ≡ false
+empty_between first c = grind (arith, nat_tests)
+
+last_between : (first chan next : ℕ) → first ≤ chan → next ≡ chan + 1 → between first next chan ≡ true
+last_between first chan next h e = grind (arith, nat_tests)
+
+more_between : (first chan next c : ℕ) → next ≡ chan + 1 → (c ≡ chan → ⊥) → between first next c ≡ between first chan c
+more_between first chan next c e other = grind (arith, nat_tests)
+
+all_between : (first chan end most c : ℕ) → first ≤ chan → (chan ≤ min end most) ⊎ (chan ≡ first) → min end most ≤ chan → c < most → between first chan c ≡ between first end c
+all_between first chan end most c h (inl x) past near = grind (arith, nat_tests)
+all_between first chan end most c h (inr x) past near = grind (arith, nat_tests)
+
+pub mark_start : (ends : List (Option ℕ)) (first n : ℕ) → Marks ends (between first first) n ends
+mark_start ends first n =
+    record {
+      ends = λ c. unmarked n (slice_get ends c) ∙ ap (λ b. option_map (marked b n) (slice_get ends c)) (sym (empty_between first c));
+      as_many = refl;
+    }
+
+or_true : (a : Bool) → (a || true) ≡ true
+or_true true = refl
+or_true false = refl
+
+module _ (old now new : List (Option ℕ)) (first chan next n : ℕ) (m : Marks old (between first chan) n now) (from : first ≤ chan) (is : next ≡ chan + 1)
+    (at : slice_get new chan ≡ option_map (marked true n) (slice_get now chan)) (others : (c : ℕ) → (c ≡ chan → ⊥) → slice_get new c ≡ slice_get now c) (many : length new ≡ length now) where
+  step_at : (c : ℕ) → (c ≡ chan) ⊎ (c ≡ chan → ⊥) → slice_get new c ≡ option_map (marked (between first next c) n) (slice_get old c)
+  step_at c (inl e) =
+      let here : slice_get new chan ≡ option_map (marked (between first next chan) n) (slice_get old chan) =
+      at ∙ ap (option_map (marked true n)) (m.ends chan) ∙ both_marked (between first chan chan) true n (slice_get old chan)
+      ∙ ap (λ b. option_map (marked b n) (slice_get old chan)) (or_true (between first chan chan) ∙ sym (last_between first chan next from is)) in
+      subst (λ x. slice_get new x ≡ option_map (marked (between first next x) n) (slice_get old x)) (sym e) here
+  step_at c (inr other) = others c other ∙ m.ends c ∙ ap (λ b. option_map (marked b n) (slice_get old c)) (sym (more_between first chan next c is other))
+
+  pub mark_step : Marks old (between first next) n new
+  mark_step = record { ends = λ c. step_at c (same_or_other c chan); as_many = many ∙ m.as_many }
+
+module _ (old new : List (Option ℕ)) (first chan end n : ℕ) (m : Marks old (between first chan) n new) (from : first ≤ chan) (near : (chan ≤ min end (length old)) ⊎ (chan ≡ first)) (past : min end (length old) ≤ chan) where
+  end_at : (c : ℕ) → (c < length old) ⊎ (length old ≤ c) → slice_get new c ≡ option_map (marked (between first end c) n) (slice_get old c)
+  end_at c (inl inside) = m.ends c ∙ ap (λ b. option_map (marked b n) (slice_get old c)) (all_between first chan end (length old) c from near past inside)
+  end_at c (inr beyond) =
+      let none : slice_get old c ≡ None = outside old c beyond in
+      m.ends c ∙ ap (option_map (marked (between first chan c) n)) none ∙ sym (ap (option_map (marked (between first end c) n)) none)
+
+  pub mark_end : Marks old (between first end) n new
+  mark_end = record { ends = λ c. end_at c (lt_or_le c (length old)); as_many = m.as_many }
+
+-- ---- uses one after another
+
+-- what is left to be marked makes the same of these as all of it made of those at the start
+pub record Leaves (start : List (Option ℕ)) (all : Numbers) (n : ℕ) (now : List (Option ℕ)) (rest : Numbers) : Type 0 where
+  pub ends : (c : ℕ) → option_map (marked (rest c) n) (slice_get now c) ≡ option_map (marked (all c) n) (slice_get start c)
+  pub as_many : length now ≡ length start
+
+pub leaves_all : (start : List (Option ℕ)) (all : Numbers) (n : ℕ) → Leaves start all n start all
+leaves_all start all n = record { ends = λ c. refl; as_many = refl }
+
+pub leaves_none : {start : List (Option ℕ)} {all : Numbers} {n : ℕ} {now : List (Option ℕ)} → Leaves start all n now empty_set → Marks start all n now
+leaves_none {start} {all} {n} {now} h = record { ends = λ c. unmarked n (slice_get now c) ∙ h.ends c; as_many = h.as_many }
+
+pub leaves_next : {start : List (Option ℕ)} {all : Numbers} {n : ℕ} {now new : List (Option ℕ)} {set rest : Numbers}
+    → Leaves start all n now (λ c. set c || rest c) → Marks now set n new → Leaves start all n new rest
+leaves_next {start} {all} {n} {now} {new} {set} {rest} h m =
+    record {
+      ends = λ c. ap (option_map (marked (rest c) n)) (m.ends c) ∙ both_marked (set c) (rest c) n (slice_get now c) ∙ h.ends c;
+      as_many = m.as_many ∙ h.as_many;
+    }
+
+-- ---- processes one after another
+
+pub record LeavesIn (stand : ℕ → Bool) (kind : Uses → Numbers) (all : List Using) (start now : List (Option ℕ)) (rest : List Using) : Type 0 where
+  pub ends : (c : ℕ) → option_map (λ end. or_first end (first_with stand kind c rest)) (slice_get now c) ≡ option_map (λ end. or_first end (first_with stand kind c all)) (slice_get start c)
+  pub as_many : length now ≡ length start
+
+pub in_all : (stand : ℕ → Bool) (kind : Uses → Numbers) (all : List Using) (start : List (Option ℕ)) → LeavesIn stand kind all start start all
+in_all stand kind all start = record { ends = λ c. refl; as_many = refl }
+
+whole : (x : Option ℕ) → or_first x None ≡ x
+whole None = refl
+whole (Some n) = refl
+
+wholes : (x : Option (Option ℕ)) → x ≡ option_map (λ end. or_first end None) x
+wholes None = refl
+wholes (Some x) = ap Some (sym (whole x))
+
+pub in_none : {stand : ℕ → Bool} {kind : Uses → Numbers} {all : List Using} {start now : List (Option ℕ)} → LeavesIn stand kind all start now [] → MarkedIn stand kind all start now
+in_none {stand} {kind} {all} {start} {now} h = record { ends = λ c. wholes (slice_get now c) ∙ h.ends c; as_many = h.as_many }
+
+first_is : (here : Bool) (n : ℕ) (x y : Option ℕ) → or_first (marked here n x) y ≡ or_first x (if here then Some n else y)
+first_is true n None y = refl
+first_is false n None y = refl
+first_is true n (Some m) y = refl
+first_is false n (Some m) y = refl
+
+firsts : (here : Bool) (n : ℕ) (y : Option ℕ) (x : Option (Option ℕ)) → option_map (λ end. or_first end y) (option_map (marked here n) x) ≡ option_map (λ end. or_first end (if here then Some n else y)) x
+firsts here n y None = refl
+firsts here n y (Some x) = ap Some (first_is here n x y)
+
+module _ {stand : ℕ → Bool} {kind : Uses → Numbers} {all : List Using} {start now : List (Option ℕ)} {p : Using} {rest : List Using} (h : LeavesIn stand kind all start now (p ∷ rest)) where
+  pub in_stands : {new : List (Option ℕ)} → stand p.number ≡ true → Marks now (kind p.uses) p.number new → LeavesIn stand kind all start new rest
+  in_stands {new} stands m =
+      record {
+        ends = λ c.
+            ap (option_map (λ end. or_first end (first_with stand kind c rest))) (m.ends c)
+            ∙ firsts (kind p.uses c) p.number (first_with stand kind c rest) (slice_get now c)
+            ∙ ap (λ b. option_map (λ end. or_first end (if b && kind p.uses c then Some p.number else first_with stand kind c rest)) (slice_get now c)) (sym stands)
+            ∙ h.ends c;
+        as_many = m.as_many ∙ h.as_many;
+      }
+
+  pub in_passes : stand p.number ≡ false → LeavesIn stand kind all start now rest
+  in_passes passes =
+      record {
+        ends = λ c. ap (λ b. option_map (λ end. or_first end (if b && kind p.uses c then Some p.number else first_with stand kind c rest)) (slice_get now c)) (sym passes) ∙ h.ends c;
+        as_many = h.as_many;
+      }
+
+-- ---- the start, and the end
+
+nobody_at : (channels c : ℕ) → c < channels → slice_get {X = Option ℕ} (replicate channels None) c ≡ Some None
+nobody_at zero c h = absurd (omega (arith, h))
+nobody_at (suc channels) zero h = refl
+nobody_at (suc channels) (suc c) h = nobody_at channels c (omega (arith, h))
+
+past_all : (channels c : ℕ) → channels ≤ c → slice_get {X = Option ℕ} (replicate channels None) c ≡ None
+past_all zero c h = refl
+past_all (suc channels) zero h = absurd (omega (arith, h))
+past_all (suc channels) (suc c) h = past_all channels c (omega (arith, h))
+
+started : (channels c : ℕ) (x : Option ℕ) → flat (option_map (λ end. or_first end x) (slice_get (replicate channels None) c)) ≡ (if nat_lt c channels then x else None)
+started channels c x = by (lt_or_le c channels)
+  where
+    by : (c < channels) ⊎ (channels ≤ c) → flat (option_map (λ end. or_first end x) (slice_get (replicate channels None) c)) ≡ (if nat_lt c channels then x else None)
+    by (inl h) =
+        let test : nat_lt c channels ≡ true = grind (arith, nat_tests) in
+        ap (λ e. flat (option_map (λ end. or_first end x) e)) (nobody_at channels c h) ∙ ap (λ b. if b then x else None) (sym test)
+    by (inr h) =
+        let test : nat_lt c channels ≡ false = grind (arith, nat_tests) in
+        ap (λ e. flat (option_map (λ end. or_first end x) e)) (past_all channels c h) ∙ ap (λ b. if b then x else None) (sym test)
+
+pub ends_are : {stand : ℕ → Bool} {kind : Uses → Numbers} {ps all : List Using} {start new : List (Option ℕ)} (channels : ℕ) → ps ≡ all → start ≡ replicate channels None
+    → MarkedIn stand kind ps start new → (c : ℕ) → noted_at new c ≡ within channels (λ k. first_with stand kind k all) c
+ends_are {stand} {kind} {ps} {all} {start} {new} channels is begun m c =
+    ap flat (m.ends c)
+    ∙ ap (λ l. flat (option_map (λ end. or_first end (first_with stand kind c ps)) (slice_get l c))) begun
+    ∙ started channels c (first_with stand kind c ps)
+    ∙ ap (λ l. if nat_lt c channels then first_with stand kind c l else None) is

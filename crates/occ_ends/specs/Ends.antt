@@ -1,0 +1,174 @@
+-- Which processes that are left may be at the ends of channels, and who waits for whom.
+-- Manual: the usage rules check list, for what a process may input from and output to. The rest is (own).
+use Rattle.std.specs.Prelude.{All, Bool, List, None, Option, Some, [], false, if◌then◌else◌, length, map, nat_lt, option_map, reverse, slice_get, true, ℕ, ◌%◌, ◌&&◌, ◌+◌, ◌++◌, ◌<◌, ◌≤◌, ◌∷◌, ◌≡◌}
+use Rattle.occ_term.specs.Processes.{Numbered, processes_of}
+use Rattle.occ_term.specs.Terms.{Term}
+use Rattle.occ_term.specs.Uses.{Numbers, Uses, uses_of}
+use Rattle.occ_code.specs.declared.task.Task.{Task}
+use Rattle.occ_code.specs.declared.task.Wait.{Wait}
+use Rattle.occ_code.specs.declared.task.Wait.TheVariants.{Ready, Took, Offers, Awaits, Chooses, Joins, Halted, Done, Faulted}
+use Rattle.occ_net_replay.specs.Replay.{Tasks}
+use Rattle.occ_usage.specs.Noted.{uses_in}
+use Rattle.occ_explore_walks.specs.declared.graph.Edge.{Edge}
+use Rattle.occ_explore_walks.specs.declared.graph.Fan.{Fan}
+use Rattle.occ_explore_walks.specs.Walks.{IsEdge}
+use Rattle.occ_ends.specs.declared.uses.ProcessUses.{ProcessUses}
+use Rattle.occ_ends.specs.declared.ends.Ends.{Ends}
+
+-- ---- what processes use
+
+-- a process with all that it uses, its branches' uses among it
+pub record Using : Type 0 where
+  pub number : ℕ
+  pub uses : Uses
+
+abbrev pub using : Numbered → Using
+using p = record { number = p.number; uses = uses_of p.term }
+
+-- the processes of a term, in the order in which they begin there
+abbrev pub all_using : Term → List Using
+all_using t = map using (processes_of t)
+
+abbrev pub noted_for : ProcessUses → Using
+noted_for p = record { number = p.number; uses = uses_in p.uses }
+
+-- ---- ends of channels
+
+-- neither at its end nor waiting for its branches, which then stand for it
+abbrev pub is_standing : Wait → Bool
+is_standing Ready = true
+is_standing (Took arm indices m) = true
+is_standing (Offers c m) = true
+is_standing (Awaits c) = true
+is_standing (Chooses pri arms) = true
+is_standing (Joins ns) = false
+is_standing Halted = true
+is_standing Done = false
+is_standing (Faulted e) = true
+
+abbrev pub task_stands : Option (Option Task) → Bool
+task_stands None = false
+task_stands (Some None) = false
+task_stands (Some (Some t)) = is_standing t.wait
+
+abbrev pub stands : Tasks → ℕ → Bool
+stands tasks n = task_stands (slice_get tasks n)
+
+-- the first of these that stands, and that may use the channel so
+abbrev pub first_with : (ℕ → Bool) → (Uses → Numbers) → ℕ → List Using → Option ℕ
+first_with stand kind c [] = None
+first_with stand kind c (p ∷ ps) = if stand p.number && kind p.uses c then Some p.number else first_with stand kind c ps
+
+-- who may input from a channel, of those that stand; by the usage rules no two may
+abbrev pub reader_of : Term → Tasks → ℕ → Option ℕ
+reader_of t tasks c = first_with (stands tasks) (λ u. u.ins) c (all_using t)
+
+abbrev pub writer_of : Term → Tasks → ℕ → Option ℕ
+writer_of t tasks c = first_with (stands tasks) (λ u. u.outs) c (all_using t)
+
+-- of so many channels
+abbrev pub within : ℕ → (ℕ → Option ℕ) → ℕ → Option ℕ
+within channels end c = if nat_lt c channels then end c else None
+
+abbrev pub flat : Option (Option ℕ) → Option ℕ
+flat None = None
+flat (Some end) = end
+
+abbrev pub noted_at : List (Option ℕ) → ℕ → Option ℕ
+noted_at ends c = flat (slice_get ends c)
+
+pub record AreEnds (t : Term) (tasks : Tasks) (channels : ℕ) (ends : Ends) : Type 0 where
+  pub readers : (c : ℕ) → noted_at ends.readers.items c ≡ within channels (reader_of t tasks) c
+  pub writers : (c : ℕ) → noted_at ends.writers.items c ≡ within channels (writer_of t tasks) c
+
+-- ---- who waits for whom
+
+-- whom a process waits for that offers a message, or awaits one: who is at the channel's other end
+abbrev pub waits_for : (reader writer : ℕ → Option ℕ) → Wait → Option ℕ
+waits_for reader writer Ready = None
+waits_for reader writer (Took arm indices m) = None
+waits_for reader writer (Offers c m) = reader c
+waits_for reader writer (Awaits c) = writer c
+waits_for reader writer (Chooses pri arms) = None
+waits_for reader writer (Joins ns) = None
+waits_for reader writer Halted = None
+waits_for reader writer Done = None
+waits_for reader writer (Faulted e) = None
+
+abbrev pub task_waits_for : (reader writer : ℕ → Option ℕ) → Option (Option Task) → Option ℕ
+task_waits_for reader writer None = None
+task_waits_for reader writer (Some None) = None
+task_waits_for reader writer (Some (Some t)) = waits_for reader writer t.wait
+
+abbrev pub next_of : (reader writer : ℕ → Option ℕ) → Tasks → ℕ → Option ℕ
+next_of reader writer tasks n = task_waits_for reader writer (slice_get tasks n)
+
+-- the same, by who is noted
+abbrev pub next_noted : Ends → Tasks → ℕ → Option ℕ
+next_noted ends = next_of (noted_at ends.readers.items) (noted_at ends.writers.items)
+
+-- each of these waits for the one behind it, and the last one for the first
+abbrev pub Circles : (ℕ → Option ℕ) → List ℕ → Type 0
+Circles next ns = (i m : ℕ) → slice_get ns i ≡ Some m → next m ≡ slice_get ns ((i + 1) % length ns)
+
+-- A circle; none only where there is none, among processes whose number is below that.
+pub record IsCircle (next : ℕ → Option ℕ) (below : ℕ) (ns : List ℕ) : Type 0 where
+  pub waits : Circles next ns
+  pub unless : ns ≡ [] → (ms : List ℕ) → Circles next ms → All (λ m. m < below) ms → ms ≡ []
+
+-- ---- private contracts alone cite what follows
+
+-- these were added, the last one first
+pub record Lists (before : List ProcessUses) (ps : List Numbered) (after : List ProcessUses) : Type 0 where
+  pub more : List ProcessUses
+  pub added : after ≡ before ++ more
+  pub are : map noted_for (reverse more) ≡ map using ps
+
+abbrev pub or_first : Option ℕ → Option ℕ → Option ℕ
+or_first None y = y
+or_first (Some x) y = Some x
+
+abbrev pub marked : Bool → ℕ → Option ℕ → Option ℕ
+marked here n end = or_first end (if here then Some n else None)
+
+-- where nobody was noted for a channel of the set, this process is
+pub record Marks (old : List (Option ℕ)) (set : Numbers) (n : ℕ) (new : List (Option ℕ)) : Type 0 where
+  pub ends : (c : ℕ) → slice_get new c ≡ option_map (marked (set c) n) (slice_get old c)
+  pub as_many : length new ≡ length old
+
+-- the first of these that stands, and may use the channel so, is noted where nobody was
+pub record MarkedIn (stand : ℕ → Bool) (kind : Uses → Numbers) (ps : List Using) (old new : List (Option ℕ)) : Type 0 where
+  pub ends : (c : ℕ) → slice_get new c ≡ option_map (λ end. or_first end (first_with stand kind c ps)) (slice_get old c)
+  pub as_many : length new ≡ length old
+
+-- ---- the graph of who waits for whom: the node of a process has its number and one
+
+abbrev pub edge_to : ℕ → ℕ → Edge
+edge_to n next = record { to = next + 1; choice = record { which = n; pick = 0 } }
+
+abbrev pub edges_to : ℕ → Option ℕ → ℕ → List Edge
+edges_to n None below = []
+edges_to n (Some next) below = if nat_lt next below then edge_to n next ∷ [] else []
+
+-- edges from node 0, to each process
+pub record IsRoot (below : ℕ) (edges : List Edge) : Type 0 where
+  pub many : length edges ≡ below
+  pub are : (n : ℕ) → n < below → slice_get edges n ≡ Some (edge_to n n)
+
+pub record IsFanOf (next : ℕ → Option ℕ) (below n : ℕ) (fans : List Fan) : Type 0 where
+  pub fan : Fan
+  pub there : slice_get fans (n + 1) ≡ Some fan
+  pub is : fan.edges.items ≡ edges_to n (next n) below
+
+-- node 0, and those of the first so many processes
+pub record AreWaits (next : ℕ → Option ℕ) (below count : ℕ) (fans : List Fan) : Type 0 where
+  pub many : length fans ≡ count + 1
+  pub root : Fan
+  pub first : slice_get fans 0 ≡ Some root
+  pub is_root : IsRoot below root.edges.items
+  pub each : (n : ℕ) → n < count → IsFanOf next below n fans
+
+-- no edge leads further
+pub record AreWithin (below count : ℕ) (fans : List Fan) : Type 0 where
+  pub many : length fans ≡ count + 1
+  pub within : (k : ℕ) (e : Edge) → IsEdge fans k e → e.to ≤ below

@@ -1,0 +1,142 @@
+//! Circles of processes that wait for one another.
+ghost use Rattle.std.specs.Prelude.{◌≡◌, ◌<◌, ◌≤◌, IfOk, List, length, map, min, ℕ};
+ghost use Rattle.occ_code.specs.Compiled.{Program};
+ghost use Rattle.occ_net_replay.specs.Replay.{Net};
+ghost use Rattle.occ_net_tables.specs.Holding.{Holds};
+ghost use Rattle.occ_ends.specs.Ends.{AreWaits, AreWithin, IsCircle, IsRoot, edge_to, edges_to, next_noted, noted_at, waits_for};
+
+use crate::ends::Ends;
+use occ_code::Wait;
+use occ_explore_walks::{Edge, Fan, Lasting, lasting};
+use occ_net_replay::Choice;
+use occ_net_tables::Tables;
+use std::alloc::{AllocError, Global};
+
+/// Of how many processes a circle is looked for at most.
+const MOST: u32 = 4_294_967_294;
+
+/// The process that is noted for a channel.
+fn noted(ends: &[Option<u32>], chan: u32) -> Option<u32>
+    ensures { result ≡ noted_at ends.now chan }
+{
+    match ends.get(chan as usize) {
+        Some(end) => *end,
+        None => None,
+    }
+}
+
+/// Whom a process waits for that stands at this.
+fn waits_for(ends: &Ends, wait: &Wait) -> Option<u32>
+    ensures { result ≡ waits_for (noted_at ends.now.readers.items) (noted_at ends.now.writers.items) wait.now }
+{
+    match wait {
+        Wait::Offers { chan, message: _ } => noted(ends.readers.as_slice(), *chan),
+        Wait::Awaits { chan } => noted(ends.writers.as_slice(), *chan),
+        Wait::Ready
+        | Wait::Took { .. }
+        | Wait::Chooses { .. }
+        | Wait::Joins { .. }
+        | Wait::Halted
+        | Wait::Done
+        | Wait::Faulted(_) => None,
+    }
+}
+
+/// Whom the process with this number waits for.
+fn next_of(ends: &Ends, tables: &Tables, number: u32) -> Option<u32>
+    ensures { (p : Program) (keyboard : List ℕ) (net : Net) → Holds p keyboard tables.now net → result ≡ next_noted ends.now net.tasks number }
+{
+    match tables.task(number) {
+        Some(task) => waits_for(ends, &task.wait),
+        None => None,
+    }
+}
+
+/// The edge from a process to the one that it waits for; node 0 is none.
+fn fan_of(alloc: Global, number: u32, next: Option<u32>, below: u32) -> Result<Fan, AllocError>
+    requires { below ≤ 4294967294 }
+    ensures { IfOk result (λ fan. fan.edges.items ≡ edges_to number next below) }
+{
+    let mut fan = Fan::new(alloc);
+    if let Some(next) = next {
+        if next < below {
+            fan.edges.push(edge(number, next))?;
+        }
+    }
+    Ok(fan)
+}
+
+/// An edge to a process, which tells who waits.
+fn edge(number: u32, next: u32) -> Edge
+    requires { next < 4294967294 }
+    ensures { result ≡ edge_to number next }
+{
+    let choice = Choice {
+        which: number,
+        pick: 0,
+    };
+    Edge {
+        to: next + 1,
+        choice,
+    }
+}
+
+/// The edges from node 0 to all processes.
+fn root(alloc: Global, below: u32) -> Result<Fan, AllocError>
+    requires { below ≤ 4294967294 }
+    ensures { IfOk result (λ fan. IsRoot below fan.edges.items) }
+{
+    let mut fan = Fan::new(alloc);
+    for number in 0..below {
+        fan.edges.push(edge(number, number))?;
+    }
+    Ok(fan)
+}
+
+/// The graph of who waits for whom. Node 0 leads to all processes, whose nodes have their numbers and one.
+fn graph(alloc: Global, ends: &Ends, tables: &Tables, below: u32) -> Result<Vec<Fan>, AllocError>
+    requires { below ≤ 4294967294 }
+    ensures waits { IfOk result (λ fans. (p : Program) (keyboard : List ℕ) (net : Net) → Holds p keyboard tables.now net → AreWaits (next_noted ends.now net.tasks) below below fans.items) }
+    ensures within { IfOk result (λ fans. AreWithin below below fans.items) }
+{
+    let mut fans = Vec::new(alloc);
+    fans.push(root(alloc, below)?)?;
+    for number in 0..below {
+        let next = next_of(ends, tables, number);
+        fans.push(fan_of(alloc, number, next, below)?)?;
+    }
+    Ok(fans)
+}
+
+/// The processes that the choices of a way round tell.
+fn members(alloc: Global, round: &[Choice]) -> Result<Vec<u32>, AllocError>
+    ensures { IfOk result (λ numbers. numbers.items ≡ map (λ c. c.which) round.now) }
+{
+    let mut numbers = Vec::new(alloc);
+    for choice in round {
+        numbers.push(choice.which)?;
+    }
+    Ok(numbers)
+}
+
+/// Processes each of which waits for the one behind it, and the last one for the first: for it to input what it offers, or to
+/// output what it awaits. None where there are none, among the first `count` processes.
+///
+/// # Errors
+///
+/// A refused growth.
+pub fn circle(
+    alloc: Global,
+    ends: &Ends,
+    tables: &Tables,
+    count: u32,
+) -> Result<Vec<u32>, AllocError>
+    ensures { IfOk result (λ numbers. (p : Program) (keyboard : List ℕ) (net : Net) → Holds p keyboard tables.now net → IsCircle (next_noted ends.now net.tasks) (min count 4294967294) numbers.items) }
+{
+    let below = count.min(MOST);
+    let fans = graph(alloc, ends, tables, below)?;
+    match &lasting(alloc, &fans)? {
+        Lasting::Within(_) => Ok(Vec::new(alloc)),
+        Lasting::Forever { way: _, round } => members(alloc, round.as_slice()),
+    }
+}

@@ -1,0 +1,134 @@
+//! Who may be at the ends of channels.
+ghost use Rattle.std.specs.Prelude.{◌≡◌, IfOk, List, None, map, replicate, true, ℕ};
+ghost use Rattle.occ_code.specs.Compiled.{Program};
+ghost use Rattle.occ_net_replay.specs.Replay.{Net};
+ghost use Rattle.occ_net_tables.specs.Holding.{Holds};
+ghost use Rattle.occ_term.specs.Terms.{Term};
+ghost use Rattle.occ_usage.specs.Noted.{between, uses_in};
+ghost use Rattle.occ_ends.specs.Ends.{AreEnds, MarkedIn, Marks, all_using, is_standing, marked, noted_for, stands};
+
+use crate::uses::ProcessUses;
+use occ_code::Wait;
+use occ_net_tables::Tables;
+use occ_usage::{Kind, Use};
+use std::alloc::{AllocError, Global};
+
+/// By channel, of the processes that are left: who may input from it, and who may output to it.
+pub struct Ends {
+    /// Who may input from each.
+    pub readers: Vec<Option<u32>>,
+    /// Who may output to each.
+    pub writers: Vec<Option<u32>>,
+}
+
+impl Drop for Ends {
+    fn drop(self) {
+        let Ends {
+            readers: _,
+            writers: _,
+        } = self;
+    }
+}
+
+/// Whether a process that stands at this is neither at its end nor waits for its branches.
+fn is_standing(wait: &Wait) -> bool
+    ensures { result ≡ is_standing wait.now }
+{
+    match wait {
+        Wait::Joins { .. } | Wait::Done => false,
+        Wait::Ready
+        | Wait::Took { .. }
+        | Wait::Offers { .. }
+        | Wait::Awaits { .. }
+        | Wait::Chooses { .. }
+        | Wait::Halted
+        | Wait::Faulted(_) => true,
+    }
+}
+
+/// Whether the process with this number stands so.
+fn stands(tables: &Tables, number: u32) -> bool
+    ensures { (p : Program) (keyboard : List ℕ) (net : Net) → Holds p keyboard tables.now net → result ≡ stands net.tasks number }
+{
+    match tables.task(number) {
+        Some(task) => is_standing(&task.wait),
+        None => false,
+    }
+}
+
+/// Who is noted for a channel where this process is noted too.
+fn first_of(end: Option<u32>, number: u32) -> Option<u32>
+    ensures { result ≡ marked true number end }
+{
+    match end {
+        Some(other) => Some(other),
+        None => Some(number),
+    }
+}
+
+/// Where nobody is noted at the ends of these channels, this process is.
+fn mark(ends: &mut Vec<Option<u32>>, first: u64, end: u64, number: u32)
+    ensures { Marks ends.old.items (between first end) number ends.new.items }
+{
+    let last = end.min(ends.len() as u64);
+    let mut chan = first;
+    while chan < last {
+        let place = chan as usize;
+        ends[place] = first_of(ends[place], number);
+        chan += 1;
+    }
+}
+
+/// The same where a process has these uses.
+fn mark_uses(ends: &mut Ends, uses: &[Use], number: u32)
+    ensures readers { Marks ends.old.readers.items (uses_in uses.now).ins number ends.new.readers.items }
+    ensures writers { Marks ends.old.writers.items (uses_in uses.now).outs number ends.new.writers.items }
+{
+    for one in uses {
+        match one.kind {
+            Kind::Input => mark(&mut ends.readers, one.first, one.end, number),
+            Kind::Output => mark(&mut ends.writers, one.first, one.end, number),
+            Kind::Read | Kind::Write => {}
+        }
+    }
+}
+
+/// The same for each of these processes that stands, in their order.
+fn mark_all(ends: &mut Ends, uses: &[ProcessUses], tables: &Tables)
+    ensures readers { (p : Program) (keyboard : List ℕ) (net : Net) → Holds p keyboard tables.now net → MarkedIn (stands net.tasks) (λ u. u.ins) (map noted_for uses.now) ends.old.readers.items ends.new.readers.items }
+    ensures writers { (p : Program) (keyboard : List ℕ) (net : Net) → Holds p keyboard tables.now net → MarkedIn (stands net.tasks) (λ u. u.outs) (map noted_for uses.now) ends.old.writers.items ends.new.writers.items }
+{
+    for process in uses {
+        if stands(tables, process.number) {
+            mark_uses(ends, process.uses.as_slice(), process.number);
+        }
+    }
+}
+
+/// Nobody, of so many channels.
+fn nobody(alloc: Global, channels: usize) -> Result<Vec<Option<u32>>, AllocError>
+    ensures { IfOk result (λ ends. ends.items ≡ replicate channels None) }
+{
+    vec![in alloc; None; channels]
+}
+
+/// Who may be at the ends of so many channels, of the processes of a program that are left in these tables. `uses` has what
+/// each process of the program uses, as `process_uses` tells.
+///
+/// # Errors
+///
+/// A refused growth.
+pub fn ends_of(
+    alloc: Global,
+    uses: &[ProcessUses],
+    tables: &Tables,
+    channels: usize,
+) -> Result<Ends, AllocError>
+    ensures { IfOk result (λ ends. (t : Term) (p : Program) (keyboard : List ℕ) (net : Net) → map noted_for uses.now ≡ all_using t → Holds p keyboard tables.now net → AreEnds t net.tasks channels ends) }
+{
+    let readers = nobody(alloc, channels)?;
+    let writers = nobody(alloc, channels)?;
+    let mut ends = Ends { readers, writers };
+    mark_all(&mut ends, uses, tables);
+    Ok(ends)
+}

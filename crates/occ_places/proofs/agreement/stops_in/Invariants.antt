@@ -1,0 +1,11 @@
+use Rattle.std.proofs.Common.{◌≡◌, map, take}
+use Rattle.std.specs.List.{All}
+use Rattle.occ_code.specs.View.{instruction_of}
+use Rattle.occ_places.specs.Places.{IsStopIn, place_of, stop_places}
+use Rattle.occ_places.proofs.agreement.stops_in.Given as goal
+
+abbrev pub invariant-loop-place : goal.invariant-loop-place
+invariant-loop-place l = record {
+  stops : All (IsStopIn (map instruction_of l.code) l.last) l.stops.items;
+  places : map place_of l.stops.items ≡ stop_places 0 (map instruction_of (take l.place l.code));
+}

@@ -1,0 +1,138 @@
+-- What is known of where processes stand in the source.
+-- Manual: nothing; this is (own).
+use Rattle.std.specs.Prelude.{Bool, List, None, Option, Some, [], false, if◌then◌else◌, length, map, nat_eq, slice_get, true, ℕ, ◌&&◌, ◌+◌, ◌-◌, ◌∷◌, ◌≡◌, ◌≤◌, ◌⊎◌}
+use Rattle.std.specs.List.{All}
+use Rattle.occ_code.specs.Compiled.{Program}
+use Rattle.occ_code.specs.Machine.{Body, Instruction, ChooseArm, Fork, Halt, LoopBack, Receive, Send}
+use Rattle.occ_code.specs.declared.task.Wait.{Wait}
+use Rattle.occ_code.specs.declared.task.Wait.TheVariants.{Ready, Took, Offers, Awaits, Chooses, Joins, Halted, Done, Faulted}
+use Rattle.occ_places.specs.declared.stop.Kind.{Kind}
+use Rattle.occ_places.specs.declared.stop.Kind.TheVariants as kinds
+use Rattle.occ_places.specs.declared.stop.Stop.{Stop}
+
+-- What is known of a process: the PROC that its branch calls, or else the one in whose body the branch stands; the line of the
+-- branch, 0 where none is known; and the places of its code at which it stops, each with its line and with what stands there.
+pub record Known : Type 0 where
+  pub name : List ℕ
+  pub line : ℕ
+  pub stops : List Stop
+
+-- ---- what is known is so in the code
+
+-- Where a process goes on that has stopped at an instruction of this place, if what stands in the source can be this instruction.
+abbrev pub next_place : Kind → Instruction → ℕ → Option ℕ
+next_place kinds.Output (Send tag) p = Some (p + 1)
+next_place kinds.Input Receive p = Some (p + 1)
+next_place kinds.Alt (ChooseArm pri back) p = Some (p - back)
+next_place kinds.Par (Fork branches) p = Some (p + 1)
+next_place kinds.Loop (LoopBack back) p = Some (p - back)
+next_place kinds.Stop Halt p = Some p
+next_place kinds.If Halt p = Some p
+next_place kinds.Case Halt p = Some p
+next_place kinds.Variants Halt p = Some p
+next_place kind instruction p = None
+
+-- The code has such an instruction there, and the line is none behind the last.
+pub record IsStopIn (code : List Instruction) (last : ℕ) (s : Stop) : Type 0 where
+  pub instruction : Instruction
+  pub there : slice_get code s.place ≡ Some instruction
+  pub next : next_place s.kind instruction s.place ≡ Some s.next
+  pub within : s.line ≤ last
+
+-- whether a process stops at an instruction, but for its end
+abbrev pub is_stop : Instruction → Bool
+is_stop (Send tag) = true
+is_stop Receive = true
+is_stop (ChooseArm pri back) = true
+is_stop (Fork branches) = true
+is_stop (LoopBack back) = true
+is_stop Halt = true
+is_stop instruction = false
+
+-- the places of these in a code that begins at a place
+abbrev pub stop_places : ℕ → List Instruction → List ℕ
+stop_places p [] = []
+stop_places p (i ∷ others) = if is_stop i then p ∷ stop_places (p + 1) others else stop_places (p + 1) others
+
+abbrev pub place_of : Stop → ℕ
+place_of s = s.place
+
+-- Each is a stop of the code, and they are none of its stops or all of them.
+abbrev pub AreStopsOf : List Instruction → ℕ → List Stop → Type 0
+AreStopsOf code last stops = All (IsStopIn code last) stops × ((stops ≡ []) ⊎ (map place_of stops ≡ stop_places 0 code))
+
+abbrev pub AreStopsIn : List Body → ℕ → ℕ → List Stop → Type 0
+AreStopsIn bodies last n stops = (b : Body) → slice_get bodies n ≡ Some b → AreStopsOf b.code last stops
+
+-- of each process of a program
+pub record Fits (p : Program) (last : ℕ) (all : List Known) : Type 0 where
+  pub each : length all ≡ length p.bodies
+  pub stops : (n : ℕ) (k : Known) → slice_get all n ≡ Some k → AreStopsIn p.bodies last n k.stops
+
+-- ---- what is told of it
+
+abbrev pub name_in : Option Known → List ℕ
+name_in None = []
+name_in (Some k) = k.name
+
+abbrev pub name_of : List Known → ℕ → List ℕ
+name_of all n = name_in (slice_get all n)
+
+abbrev pub line_in : Option Known → ℕ
+line_in None = 0
+line_in (Some k) = k.line
+
+abbrev pub line_of : List Known → ℕ → ℕ
+line_of all n = line_in (slice_get all n)
+
+abbrev pub stops_in : Option Known → List Stop
+stops_in None = []
+stops_in (Some k) = k.stops
+
+abbrev pub stops_of : List Known → ℕ → List Stop
+stops_of all n = stops_in (slice_get all n)
+
+abbrev pub is_output : Kind → Bool
+is_output kinds.Output = true
+is_output kind = false
+
+abbrev pub is_input : Kind → Bool
+is_input kinds.Input = true
+is_input kind = false
+
+abbrev pub is_alt : Kind → Bool
+is_alt kinds.Alt = true
+is_alt kind = false
+
+abbrev pub is_par : Kind → Bool
+is_par kinds.Par = true
+is_par kind = false
+
+-- what a process can halt at: an ALT too, where every arm is closed
+abbrev pub halts : Kind → Bool
+halts kinds.Alt = true
+halts kinds.Stop = true
+halts kinds.If = true
+halts kinds.Case = true
+halts kinds.Variants = true
+halts kind = false
+
+-- whether a process that waits so and goes on at this place stands at the stop
+abbrev pub stands_at : Wait → ℕ → Stop → Bool
+stands_at (Offers c m) p s = is_output s.kind && nat_eq s.next p
+stands_at (Awaits c) p s = is_input s.kind && nat_eq s.next p
+stands_at (Chooses pri arms) p s = is_alt s.kind && nat_eq s.next p
+stands_at (Joins ns) p s = is_par s.kind && nat_eq s.next p
+stands_at Halted p s = halts s.kind && nat_eq s.place p
+stands_at Ready p s = false
+stands_at (Took arm indices m) p s = false
+stands_at Done p s = false
+stands_at (Faulted e) p s = false
+
+abbrev pub first_of : Wait → ℕ → List Stop → Option Stop
+first_of w p [] = None
+first_of w p (s ∷ others) = if stands_at w p s then Some s else first_of w p others
+
+-- the stop at which the process of this number stands, if it is known
+abbrev pub stop_of : List Known → ℕ → Wait → ℕ → Option Stop
+stop_of all n w p = first_of w p (stops_of all n)

@@ -1,0 +1,90 @@
+//! The stops of a body's code, held against those that the tree has.
+ghost use Rattle.std.specs.Prelude.{◌≡◌, ◌≤◌, ◌++◌, ◌∷◌, [], IfOk, IfSome, IsTrue, List, OnOk, Some, if◌then◌else◌, map, slice_get};
+ghost use Rattle.std.specs.List.{All};
+ghost use Rattle.occ_code.specs.Machine.{Instruction};
+ghost use Rattle.occ_code.specs.View.{instruction_of};
+ghost use Rattle.occ_places.specs.Places.{IsStopIn, is_stop, next_place, place_of, stop_places};
+
+use crate::stop::{Stop, is_stop, next_place};
+use crate::walk::Mark;
+use occ_code::{Instr, Slot};
+use std::alloc::{AllocError, Global};
+
+/// The stop for a mark at this instruction; none where they don't agree, or the line is behind the last.
+fn stop_for(mark: &Mark<'_>, instruction: &Instr<Slot>, place: usize, last: usize) -> Option<Stop>
+    ensures next { IfSome result (λ s. next_place s.kind (instruction_of instruction.now) place ≡ Some s.next) }
+    ensures place { IfSome result (λ s. s.place ≡ place) }
+    ensures within { IfSome result (λ s. s.line ≤ last) }
+{
+    let place = u32::try_from(place).ok()?;
+    let next = next_place(mark.kind, instruction, place)?;
+    if mark.line as usize > last {
+        return None;
+    }
+    Some(Stop {
+        place,
+        next,
+        line: mark.line,
+        kind: mark.kind,
+    })
+}
+
+/// Adds the stop at an instruction, where a process stops there, and answers whether it agrees with the next of the marks.
+fn add_stop(
+    stops: &mut Vec<Stop>,
+    marks: &[Mark<'_>],
+    instruction: &Instr<Slot>,
+    place: usize,
+    last: usize,
+) -> Result<bool, AllocError>
+    ensures stops { OnOk result ((code : List Instruction) → slice_get code place ≡ Some (instruction_of instruction.now) → All (IsStopIn code last) stops.old.items → All (IsStopIn code last) stops.new.items) }
+    ensures places { IfOk result (λ agrees. IsTrue agrees → map place_of stops.new.items ≡ map place_of stops.old.items ++ (if is_stop (instruction_of instruction.now) then place ∷ [] else [])) }
+{
+    if !is_stop(instruction) {
+        return Ok(true);
+    }
+    let Some(mark) = marks.get(stops.len()) else {
+        return Ok(false);
+    };
+    match stop_for(mark, instruction, place, last) {
+        Some(stop) => {
+            stops.push(stop)?;
+            Ok(true)
+        }
+        None => Ok(false),
+    }
+}
+
+/// The stops of a code with the lines of these marks; none where they don't agree in full, stop by stop.
+pub(crate) fn stops_in(
+    alloc: Global,
+    code: &[Instr<Slot>],
+    marks: &[Mark<'_>],
+    last: usize,
+) -> Result<Option<Vec<Stop>>, AllocError>
+    ensures stops { IfOk result (λ found. IfSome found (λ stops. All (IsStopIn (map instruction_of code.now) last) stops.items)) }
+    ensures places { IfOk result (λ found. IfSome found (λ stops. map place_of stops.items ≡ stop_places 0 (map instruction_of code.now))) }
+{
+    let mut stops = Vec::new(alloc);
+    for place in 0..code.len() {
+        if !add_stop(&mut stops, marks, &code[place], place, last)? {
+            return Ok(None);
+        }
+    }
+    if stops.len() == marks.len() {
+        Ok(Some(stops))
+    } else {
+        Ok(None)
+    }
+}
+
+/// How many PARs begin in a code.
+pub(crate) fn forks_in(code: &[Instr<Slot>]) -> usize {
+    let mut forks: usize = 0;
+    for instruction in code {
+        if let Instr::Fork(_) = instruction {
+            forks = forks.saturating_add(1);
+        }
+    }
+    forks
+}

@@ -1,0 +1,58 @@
+//! Writes the turns of a run into a file.
+ghost use Rattle.std.specs.Prelude.{IfErr, IfOk};
+ghost use Rattle.occ_program.specs.Coming.{options_in};
+ghost use Rattle.occ_program.specs.Pages.{LeavesOrRefuses, Steps, StepsPage};
+ghost use Rattle.occ_play.specs.Playing.{Refuses};
+
+use crate::page::{Page, write_page};
+use crate::program::options_of;
+use occ_files::Folder;
+use occ_play::{PlayFault, Played};
+use occ_play_inputs::{Failure, Inputs, Words};
+use occ_steps::steps_of;
+use std::alloc::Global;
+
+/// Writes a line for each turn of the run of these inputs into the file that the words name, where it answered: of the run by the
+/// choices that it used.
+pub(crate) fn step<F: Folder>(
+    folder: &mut F,
+    alloc: Global,
+    words: &Words<'_>,
+    inputs: &Inputs,
+    played: &Result<Played, PlayFault>,
+) -> Result<Result<(), PlayFault>, Failure>
+    ensures refused { IfOk result (λ stepped. IfErr stepped (Refuses (options_in words.now) inputs.now.source.items)) }
+    ensures left { LeavesOrRefuses (StepsPage (options_in words.now) inputs.now.source.items inputs.now.keyboard.items words.now.steps played.now) (F.left folder.old) (F.left folder.new) result }
+{
+    match page_of(alloc, words, inputs, played) {
+        Ok(page) => {
+            write_page(folder, &page)?;
+            Ok(Ok(()))
+        }
+        Err(fault) => Ok(Err(fault)),
+    }
+}
+
+/// What is to be written, and where: the turns of the run by the choices that it used, in the file that the words name.
+fn page_of<'a>(
+    alloc: Global,
+    words: &Words<'a>,
+    inputs: &Inputs,
+    played: &Result<Played, PlayFault>,
+) -> Result<Option<Page<'a>>, PlayFault>
+    ensures { Steps (options_in words.now) inputs.now.source.items inputs.now.keyboard.items words.now.steps played.now result }
+{
+    match (words.steps, played) {
+        (Some(path), Ok(played)) => {
+            let text = steps_of(
+                &options_of(words),
+                alloc,
+                inputs.source.as_slice(),
+                inputs.keyboard.as_slice(),
+                played.choices.as_slice(),
+            )?;
+            Ok(Some(Page { path, text }))
+        }
+        (Some(_), Err(_)) | (None, _) => Ok(None),
+    }
+}

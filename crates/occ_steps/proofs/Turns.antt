@@ -1,0 +1,194 @@
+-- A run, turn by turn.
+use Rattle.std.proofs.Common.{◌≡◌, ◌∙◌, ◌++◌, ◌+◌, ◌-◌, ◌<◌, ◌≤◌, ◌^◌, ℕ, zero, suc, Bool, List, [], ◌∷◌, Option, None, Some, false, drop, length, map, refl, sym, ap, subst, arith, append_assoc, append-nil, length-append}
+use Rattle.std.specs.Prelude.{slice_get}
+use Rattle.std.specs.Option.{is_some}
+use Rattle.std.proofs.lemmas.List.{length-drop, length-map}
+use Rattle.occ_code.specs.Compiled.{Program}
+use Rattle.occ_net_replay.specs.declared.choice.Choice.{Choice}
+use Rattle.occ_code.specs.Machine.{Body}
+use Rattle.occ_net_trace.specs.declared.communication.Communication.{Communication}
+use Rattle.occ_net_trace.specs.declared.communication.End.{End}
+use Rattle.occ_net_trace.specs.declared.communication.End.TheVariants as E
+use Rattle.occ_net_trace.specs.Places.{Place, place_behind}
+use Rattle.occ_term.specs.Runs.{Names, entries}
+use Rattle.occ_term.specs.System as S
+use Rattle.occ_term.specs.declared.message.Message.{Message}
+use Rattle.occ_net_replay.specs.Replay.{Gets, Gives, Happens, Joined, Net, OneTurn, Replays, Settled, arm_gets, begins, error_gets, forks, joined, joins, keyboard_gives, meets, screen_gets, settles, skips, stays, task_gets, task_gives, ending_of, first_net, goes_on, ready_from, selected}
+use Rattle.occ_net_tables.specs.Holding.{Holds, communication_of, end_of}
+use Rattle.occ_net_tables.specs.Settling.{Standing, TurnsTo}
+use Rattle.occ_net_tables.specs.declared.tables.Tables.{Tables}
+use Rattle.occ_shown.specs.Answers.{names_of}
+use Rattle.occ_steps.specs.Steps.{IsSteps, Stepped, Stepping, StepsTo, head_text, news, none_stepped, one_stepped, step_text, tail_text}
+
+stepped_replays : (p : Program) (kb : List ℕ) {cs : List Choice} {net : Net} {text : List ℕ} → Stepped p kb cs net text → Replays p kb cs net
+stepped_replays p kb none_stepped = begins
+stepped_replays p kb (one_stepped h e turn) = goes_on (stepped_replays p kb h) e turn
+
+pub starts : (p : Program) (kb : List ℕ) (list : List Choice) (n : Tables) (text : List ℕ) → ((k : List ℕ) → Holds p k n (first_net p k)) → text ≡ [] → Stepping p kb 0 list list n text
+starts p kb list n text h none =
+    record { given = []; count = refl; so_far = refl; net = first_net p kb; stepped = subst (λ t. Stepped p kb [] (first_net p kb) t) (sym none) none_stepped; holds = h kb }
+
+pub stands : (p : Program) (kb : List ℕ) (turns : ℕ) (rest list : List Choice) (n : Tables) (text : List ℕ) → (h : Stepping p kb turns rest list n text) → ending_of p.errors h.net ≡ None → 1 + turns < 2 ^ 64 → Standing p kb n
+stands p kb turns rest list n text h going few =
+    record { choices = h.given; few = subst (λ k. 1 + k < 2 ^ 64) h.count few; net = h.net; replays = stepped_replays p kb h.stepped; open_end = going; holds = h.holds }
+
+-- one turn more
+pub one_more : (p : Program) (kb : List ℕ) (turns : ℕ) (rest others list : List Choice) (c : Choice) (old new : Tables) (text longer : List ℕ)
+    → (h : Stepping p kb turns rest list old text) → ending_of p.errors h.net ≡ None → rest ≡ c ∷ others
+    → ((net : Net) → Holds p kb old net → StepsTo p kb (turns + 1) c net text new longer) → Stepping p kb (turns + 1) others list new longer
+one_more p kb turns rest others list c old new text longer h going first turn =
+    let x = turn h.net h.holds in
+    let number : turns + 1 ≡ length h.given + 1 = ap (λ k. k + 1) h.count in
+    let line : text ++ step_text (names_of p.channels) (length h.given + 1) h.net x.taken.number c.pick x.next ≡ longer =
+    ap (λ k. text ++ step_text (names_of p.channels) k h.net x.taken.number c.pick x.next) (sym number) ∙ sym x.is in
+    record {
+      given = h.given ++ c ∷ [];
+      count = number ∙ sym (length-append h.given (c ∷ []));
+      so_far = append_assoc h.given (c ∷ []) others ∙ ap (λ cs. h.given ++ cs) (sym first) ∙ h.so_far;
+      net = x.next;
+      stepped = subst (λ t. Stepped p kb (h.given ++ c ∷ []) x.next t) line (one_stepped h.stepped going x.taken);
+      holds = x.holds;
+    }
+
+-- ---- a turn adds to the communications
+
+record Grows (a b : Net) : Type 0 where
+  pub more : List S.Communication
+  pub is : b.trace ≡ a.trace ++ more
+
+gives_none : {c : ℕ} {m : Message} {x : S.End} {a b : Net} → Gives c m x a b → b.trace ≡ a.trace
+gives_none (task_gives there waits) = refl
+gives_none (keyboard_gives typed first is) = refl
+
+gets_none : {pick : ℕ} {offers : ℕ → Bool} {c : ℕ} {m : Message} {x : S.End} {a b : Net} → Gets pick offers c m x a b → b.trace ≡ a.trace
+gets_none (task_gets there waits) = refl
+gets_none (arm_gets there waits chosen on) = refl
+gets_none (screen_gets is) = refl
+gets_none (error_gets is) = refl
+
+joined_one : {pick : ℕ} {x : S.Communication} {a b : Net} → Joined pick a x b → b.trace ≡ a.trace ++ x ∷ []
+joined_one (joined {c = c} {m = m} {x = x} {y = y} gives gets) = ap (λ (xs : List S.Communication). xs ++ S.communication c x y m ∷ []) (gets_none gets ∙ gives_none gives)
+
+same_trace : (a b : Net) → b.trace ≡ a.trace → Grows a b
+same_trace a b e = record { more = []; is = e ∙ sym (append-nil a.trace) }
+
+happens_grows : {bodies : List Body} {n pick : ℕ} {a b : Net} → Happens bodies n pick a b → Grows a b
+happens_grows (meets {x = x} takes j) = record { more = x ∷ []; is = joined_one j }
+happens_grows (skips {a = a} there waits chosen none) = same_trace _ _ refl
+happens_grows (forks {a = a} there waits) = same_trace _ _ refl
+happens_grows (joins m {a = a} there waits held done) = same_trace _ _ refl
+
+settled_grows : {bodies : List Body} {n pick : ℕ} {a b : Net} → Settled bodies n pick a b → Grows a b
+settled_grows (settles h) = happens_grows h
+settled_grows (stays {a = a} none) = same_trace a a refl
+
+turn_grows : (p : Program) (c : Choice) (a b : Net) → OneTurn p c a b → Grows a b
+turn_grows p c a b o = let h = settled_grows o.settles in record { more = h.more; is = h.is }
+
+-- ---- and so the trace in code
+
+end_name : (x y : End) → end_of x ≡ end_of y → x ≡ y
+end_name (E.Process m) (E.Process n) e = ap (λ k. E.Process k) (one_number e)
+  where
+    one_number : {m n : ℕ} → ◌≡◌ {A = S.End} (S.OfProcess m) (S.OfProcess n) → m ≡ n
+    one_number q = cc
+end_name E.Keyboard E.Keyboard e = refl
+end_name E.Screen E.Screen e = refl
+end_name E.Error E.Error e = refl
+end_name x y e = cc
+
+same_communication : (x y : Communication) → communication_of x ≡ communication_of y → x ≡ y
+same_communication x y e =
+    let parts = communication_parts e in
+    build parts.0 (end_name x.sender y.sender parts.1) (end_name x.receiver y.receiver parts.2) parts.3
+  where
+    communication_parts : {c d : ℕ} {x y z w : S.End} {m n : Message} → S.communication c x y m ≡ S.communication d z w n → (c ≡ d) × (x ≡ z) × (y ≡ w) × (m ≡ n)
+    communication_parts q = (cc, cc, cc, cc)
+
+    build : {c d : ℕ} {x y z w : End} {m n : Message} → c ≡ d → x ≡ z → y ≡ w → m ≡ n → ◌≡◌ {A = Communication} (record { chan = c; sender = x; receiver = y; message = m }) (record { chan = d; sender = z; receiver = w; message = n })
+    build a b c d = cc
+
+-- what was there is the front of what is there
+pub front_of : (old new : List Communication) (more : List S.Communication) → map communication_of new ≡ map communication_of old ++ more → new ≡ old ++ drop (length old) new
+front_of [] new more e = refl
+front_of (x ∷ xs) [] more e = cc
+front_of (x ∷ xs) (y ∷ ys) more e =
+    let heads = first_of e in
+    ap (λ z. z ∷ ys) (same_communication y x heads.0) ∙ ap (λ zs. x ∷ zs) (front_of xs ys more heads.1)
+  where
+    first_of : {a b : S.Communication} {cs ds : List S.Communication} → a ∷ cs ≡ b ∷ ds → (a ≡ b) × (cs ≡ ds)
+    first_of q = (cc, cc)
+
+-- what was copied behind the place where the trace stood is what the turn added
+pub news_are : (p : Program) (c : Choice) (a b : Net) (old new fresh : List Communication) → OneTurn p c a b → a.trace ≡ map communication_of old → b.trace ≡ map communication_of new
+    → (mark : Place) → mark ≡ place_behind old → ((before after : List Communication) → new ≡ before ++ after → mark ≡ place_behind before → fresh ≡ after) → fresh ≡ drop (length old) new
+news_are p c a b old new fresh turn was now mark at copies =
+    let grown = turn_grows p c a b turn in
+    let front = front_of old new grown.more (sym now ∙ grown.is ∙ ap (λ xs. xs ++ grown.more) was) in
+    copies old (drop (length old) new) front at
+
+pub news_within : (old new fresh : List Communication) (made : ℕ) → fresh ≡ drop (length old) new → made ≡ length new → length fresh ≤ made
+news_within old new fresh made is many =
+    let size : length fresh ≡ length new - length old = ap length is ∙ length-drop (length old) new in
+    omega (arith, size, many)
+
+map_back : {A B : Type 0} (f : A → B) (k : ℕ) (xs : List A) → map f (drop k xs) ≡ drop k (map f xs)
+map_back f zero xs = refl
+map_back f (suc k) [] = refl
+map_back f (suc k) (x ∷ xs) = map_back f k xs
+
+pub news_text : (names : Names) (p : Program) (c : Choice) (a b : Net) (old new fresh : List Communication) (made : ℕ) → OneTurn p c a b → a.trace ≡ map communication_of old → b.trace ≡ map communication_of new
+    → fresh ≡ drop (length old) new → made ≡ length new → entries names (made - length fresh + 1) (map communication_of fresh) ≡ news names a b
+news_text names p c a b old new fresh made turn was now is many =
+    let grown = turn_grows p c a b turn in
+    let front = front_of old new grown.more (sym now ∙ grown.is ∙ ap (λ xs. xs ++ grown.more) was) in
+    let whole : length new ≡ length old + length (drop (length old) new) = ap length front ∙ length-append old (drop (length old) new) in
+    let size : length fresh ≡ length (drop (length old) new) = ap length is in
+    let before : length a.trace ≡ length old = ap length was ∙ length-map old communication_of in
+    let number : made - length fresh ≡ length a.trace = omega (arith, whole, size, before, many) in
+    let after : map communication_of fresh ≡ drop (length a.trace) b.trace =
+    ap (map communication_of) is ∙ map_back communication_of (length old) new ∙ ap (λ k. drop k (map communication_of new)) (sym before) ∙ ap (drop (length a.trace)) (sym now) in
+    ap (λ k. entries names (k + 1) (map communication_of fresh)) number ∙ ap (entries names (length a.trace + 1)) after
+
+pub three_more : (o a b c x y z : List ℕ) → x ≡ o ++ a → y ≡ x ++ b → z ≡ y ++ c → z ≡ o ++ ((a ++ b) ++ c)
+three_more o a b c x y z e f g = g ∙ ap (λ l. l ++ c) (f ∙ ap (λ l. l ++ b) e ∙ append_assoc o a b) ∙ append_assoc o (a ++ b) c
+
+-- what is written is the line of the turn
+pub steps_to : (p : Program) (kb : List ℕ) (turn : ℕ) (c : Choice) (net : Net) (old new : Tables) (taken : ℕ) (text middle longer : List ℕ)
+    → Holds p kb old net → (x : TurnsTo p kb c net new) → selected (ready_from 0 net.tasks) c.which ≡ Some taken
+    → middle ≡ text ++ head_text turn (ready_from 0 net.tasks) taken c.pick
+    → longer ≡ middle ++ tail_text (names_of p.channels) (slice_get x.next.tasks taken) (news (names_of p.channels) net x.next)
+    → StepsTo p kb turn c net text new longer
+steps_to p kb turn c net old new taken text middle longer holds x selects first second =
+    let same : taken ≡ x.turn.number = one_of (sym selects ∙ x.turn.selects) in
+    record {
+      next = x.next;
+      taken = x.turn;
+      holds = x.holds;
+      is =
+          second ∙ ap (λ t. t ++ tail_text (names_of p.channels) (slice_get x.next.tasks taken) (news (names_of p.channels) net x.next)) first
+          ∙ append_assoc text (head_text turn (ready_from 0 net.tasks) taken c.pick) (tail_text (names_of p.channels) (slice_get x.next.tasks taken) (news (names_of p.channels) net x.next))
+          ∙ ap (λ (k : ℕ). text ++ step_text (names_of p.channels) turn net k c.pick x.next) same;
+    }
+  where
+    one_of : {a b : ℕ} → ◌≡◌ {A = Option ℕ} (Some a) (Some b) → a ≡ b
+    one_of q = cc
+
+-- the run has ended, or the choices are used up
+pub ended : (p : Program) (kb : List ℕ) (turns : ℕ) (rest list : List Choice) (n : Tables) (text : List ℕ) → (h : Stepping p kb turns rest list n text) → (ending_of p.errors h.net ≡ None → rest ≡ []) → IsSteps p kb list text
+ended p kb turns rest list n text h over =
+    record {
+      used = h.given;
+      net = h.net;
+      stepped = h.stepped;
+      begins = record { rest = rest; is = sym h.so_far };
+      whole = λ e. sym (append-nil h.given) ∙ ap (λ cs. h.given ++ cs) (sym (over e)) ∙ h.so_far;
+    }
+
+pub none_of : {A : Type 0} (o : Option A) → is_some o ≡ false → o ≡ None
+none_of None e = refl
+none_of (Some x) e = cc
+
+pub none_left : {A : Type 0} (xs : List A) → length xs ≡ 0 → xs ≡ []
+none_left [] e = refl
+none_left (x ∷ xs) e = absurd (omega (arith, e))

@@ -1,0 +1,117 @@
+-- The lines of a run's turns.
+-- Manual: nothing; this is (own).
+use Rattle.std.specs.Prelude.{List, None, Option, Some, [], codes, drop, length, slice_get, ℕ, ◌+◌, ◌++◌, ◌≡◌, ◌∷◌}
+use Rattle.std.specs.Fmt.{decimal}
+use Rattle.occ_chart.specs.Labels.{arrow_words, message_text}
+use Rattle.occ_code.specs.declared.task.Arm.{Arm}
+use Rattle.occ_code.specs.declared.task.Task.{Task}
+use Rattle.occ_code.specs.declared.task.Wait.{Wait}
+use Rattle.occ_code.specs.declared.task.Wait.TheVariants.{Ready, Took, Offers, Awaits, Chooses, Joins, Halted, Done, Faulted}
+use Rattle.occ_code.specs.Compiled.{Program}
+use Rattle.occ_net_replay.specs.declared.choice.Choice.{Choice}
+use Rattle.occ_net_replay.specs.declared.ending.Ending.TheVariants.{Fault}
+use Rattle.occ_net_replay.specs.Endings.{ending_text}
+use Rattle.occ_net_replay.specs.Replay.{Net, OneTurn, ending_of, first_net, ready_from}
+use Rattle.occ_net_tables.specs.Holding.{Holds}
+use Rattle.occ_net_tables.specs.Outcomes.{Begins}
+use Rattle.occ_net_tables.specs.declared.tables.Tables.{Tables}
+use Rattle.occ_play.specs.declared.playing.Options.{Options}
+use Rattle.occ_play.specs.Playing.{IsTextsCode}
+use Rattle.occ_shown.specs.Answers.{ends_text, names_of}
+use Rattle.occ_term.specs.Runs.{Entry, Names, entries, tag_shown}
+
+-- ---- what a process stands at
+
+-- processes, each after a space
+abbrev pub numbers_text : List ℕ → List ℕ
+numbers_text [] = []
+numbers_text (n ∷ ns) = codes " p" ++ decimal n ++ numbers_text ns
+
+-- an arm with SKIP has no channel
+abbrev pub arm_text : Names → Option ℕ → List ℕ
+arm_text names None = codes "; SKIP"
+arm_text names (Some c) = codes "; " ++ (codes "awaits " ++ names.channel_name c)
+
+abbrev pub arms_text : Names → List Arm → List ℕ
+arms_text names [] = []
+arms_text names (a ∷ others) = arm_text names a.chan ++ arms_text names others
+
+abbrev pub stop_text : Names → Wait → List ℕ
+stop_text names Ready = codes "can go on"
+stop_text names (Took arm indices m) = codes "can go on"
+stop_text names (Offers c m) = codes "offers " ++ message_text (tag_shown names c m.tag) m.items ++ codes " on " ++ names.channel_name c
+stop_text names (Awaits c) = codes "awaits " ++ names.channel_name c
+stop_text names (Chooses pri arms) = codes "chooses" ++ arms_text names arms
+stop_text names (Joins ns) = codes "waits for" ++ numbers_text ns
+stop_text names Halted = codes "halted"
+stop_text names Done = codes "ends"
+stop_text names (Faulted e) = ending_text (Fault e)
+
+abbrev pub task_text : Names → Option (Option Task) → List ℕ
+task_text names None = []
+task_text names (Some None) = []
+task_text names (Some (Some t)) = stop_text names t.wait
+
+-- ---- the line of a turn
+
+-- the number of the turn, those that are ready, the one that takes the turn, the pick
+abbrev pub head_text : (turn : ℕ) → (ready : List ℕ) → (taken pick : ℕ) → List ℕ
+head_text turn ready taken pick = (decimal turn ++ codes " ready") ++ numbers_text ready ++ (codes " took p" ++ (decimal taken ++ (codes " pick " ++ (decimal pick ++ codes " "))))
+
+-- a communication: its number, its ends, the channel's name and the message
+abbrev pub made_text : Entry → List ℕ
+made_text e = codes ", " ++ decimal e.number ++ ends_text e.sender e.receiver ++ arrow_words e
+
+abbrev pub all_made_text : List Entry → List ℕ
+all_made_text [] = []
+all_made_text (e ∷ es) = made_text e ++ all_made_text es
+
+-- what that one stands at then, and the communication that the turn made possible
+abbrev pub tail_text : Names → Option (Option Task) → List Entry → List ℕ
+tail_text names t made = task_text names t ++ all_made_text made ++ 10 ∷ []
+
+-- those of the second state that the first has not
+abbrev pub news : Names → Net → Net → List Entry
+news names a b = entries names (length a.trace + 1) (drop (length a.trace) b.trace)
+
+abbrev pub step_text : Names → (turn : ℕ) → (before : Net) → (taken pick : ℕ) → (after : Net) → List ℕ
+step_text names turn a taken pick b = head_text turn (ready_from 0 a.tasks) taken pick ++ tail_text names (slice_get b.tasks taken) (news names a b)
+
+-- a replay, and the line of each of its turns, numbered from 1
+pub data Stepped (p : Program) (keyboard : List ℕ) : List Choice → Net → List ℕ → Type 0 where
+  none_stepped : Stepped p keyboard [] (first_net p keyboard) []
+  one_stepped : {cs : List Choice} {c : Choice} {a b : Net} {text : List ℕ}
+      → Stepped p keyboard cs a text → ending_of p.errors a ≡ None → (turn : OneTurn p c a b)
+      → Stepped p keyboard (cs ++ c ∷ []) b (text ++ step_text (names_of p.channels) (length cs + 1) a turn.number c.pick b)
+
+-- The replay of the used choices, which are a beginning of the list, and the line of each of its turns.
+pub record IsSteps (p : Program) (keyboard : List ℕ) (list : List Choice) (bytes : List ℕ) : Type 0 where
+  pub used : List Choice
+  pub net : Net
+  pub stepped : Stepped p keyboard used net bytes
+  pub begins : Begins used list
+  pub whole : ending_of p.errors net ≡ None → used ≡ list
+
+-- of the code of a text's program
+pub record StepsOf (options : Options) (source keyboard : List ℕ) (list : List Choice) (bytes : List ℕ) : Type 0 where
+  pub program : Program
+  pub code : IsTextsCode options source program
+  pub steps : IsSteps program keyboard list bytes
+
+-- ---- what the code does; private contracts alone cite it
+
+-- in the middle of a run: so many turns are taken, and their lines are written
+pub record Stepping (p : Program) (keyboard : List ℕ) (turns : ℕ) (rest list : List Choice) (n : Tables) (text : List ℕ) : Type 0 where
+  pub given : List Choice
+  pub count : turns ≡ length given
+  pub so_far : given ++ rest ≡ list
+  pub net : Net
+  pub stepped : Stepped p keyboard given net text
+  pub holds : Holds p keyboard n net
+
+-- one turn more, and its line
+pub record StepsTo (p : Program) (keyboard : List ℕ) (turn : ℕ) (c : Choice) (net : Net) (old : List ℕ) (n : Tables) (new : List ℕ) : Type 0 where
+  pub next : Net
+  pub taken : OneTurn p c net next
+  pub holds : Holds p keyboard n next
+  pub is : new ≡ old ++ step_text (names_of p.channels) turn net taken.number c.pick next

@@ -1,0 +1,88 @@
+//! Runs, turn by turn.
+ghost use Rattle.std.specs.Prelude.{◌≡◌, ◌+◌, ◌<◌, ◌^◌, IfOk, List, None, OnOk, length, ℕ};
+ghost use Rattle.occ_code.specs.Compiled.{Program};
+ghost use Rattle.occ_net_replay.specs.Replay.{Net, ending_of};
+ghost use Rattle.occ_net_tables.specs.Holding.{Holds};
+ghost use Rattle.occ_net_tables.specs.Settling.{Standing};
+ghost use Rattle.occ_steps.specs.Steps.{IsSteps, StepsTo};
+
+use crate::heads::{selected, write_head};
+use crate::stops::write_tail;
+use occ_code::Code;
+use occ_net_replay::Choice;
+use occ_net_tables::Tables;
+use occ_net_trace::News;
+use occ_proc::Scratch;
+use std::alloc::{AllocError, Global};
+
+/// Takes the turn of a choice, and writes its line.
+fn step(
+    alloc: Global,
+    code: &Code,
+    scratch: &mut Scratch,
+    keyboard: &[u8],
+    tables: &mut Tables,
+    news: &mut News,
+    turn: u64,
+    choice: Choice,
+    out: &mut Vec<u8>,
+) -> Result<(), AllocError>
+    requires { Standing code.now keyboard.now tables.old }
+    ensures { OnOk result ((net : Net) → Holds code.now keyboard.now tables.old net → StepsTo code.now keyboard.now turn choice net out.old.items tables.new out.new.items) }
+{
+    let ready = tables.ready();
+    let Some(taken) = selected(ready, choice.which) else {
+        unreachable!()
+    };
+    write_head(alloc, out, turn, ready, taken, choice.pick)?;
+    let mark = tables.trace().mark();
+    tables.take_turn(alloc, code, scratch, keyboard, choice)?;
+    let trace = tables.trace();
+    trace.copy_behind(&mark, news)?;
+    let made = trace.len() as u64;
+    write_tail(alloc, out, code.channels(), tables, taken, made, news)?;
+    Ok(())
+}
+
+/// The line of each turn of the run by these choices: its number, the processes that were ready, the one that took it, the pick,
+/// what that one stands at after it, and the communication that it made possible.
+///
+/// # Errors
+///
+/// A refused growth.
+pub fn steps(
+    alloc: Global,
+    code: &Code,
+    keyboard: &[u8],
+    choices: &[Choice],
+) -> Result<Vec<u8>, AllocError>
+    ensures { IfOk result (λ bytes. IsSteps code.now keyboard.now choices.now bytes.items) }
+{
+    let mut scratch = Scratch::new(alloc);
+    let mut tables = Tables::new(alloc, code)?;
+    let mut news = News::new(alloc);
+    let mut out = Vec::new(alloc);
+    let mut turns = 0;
+    let mut rest = choices;
+    loop {
+        if tables.ending(code.errors()).is_some() {
+            return Ok(out);
+        }
+        let Some((choice, others)) = rest.split_first() else {
+            return Ok(out);
+        };
+        turns += 1;
+        step(
+            alloc,
+            code,
+            &mut scratch,
+            keyboard,
+            &mut tables,
+            &mut news,
+            turns,
+            *choice,
+            &mut out,
+        )?;
+        rest = others;
+    }
+}

@@ -1,0 +1,212 @@
+//! What a process stands at after its turn.
+ghost use Rattle.std.specs.Prelude.{◌≡◌, ◌++◌, ◌+◌, ◌-◌, ◌≤◌, List, OnOk, codes, length, map, slice_get, ℕ};
+ghost use Rattle.occ_chart.specs.Labels.{message_text};
+ghost use Rattle.occ_code.specs.Compiled.{Program};
+ghost use Rattle.occ_net_replay.specs.Endings.{ending_text};
+ghost use Rattle.occ_net_replay.specs.Replay.{Net};
+ghost use Rattle.occ_net_tables.specs.Holding.{Holds, communication_of};
+ghost use Rattle.occ_shown.specs.Answers.{ends_text, names_of};
+ghost use Rattle.occ_steps.specs.Steps.{all_made_text, arm_text, arms_text, made_text, numbers_text, stop_text, tail_text, task_text};
+ghost use Rattle.occ_term.specs.Runs.{entries, tag_shown};
+
+use crate::heads::write_numbers;
+use occ_board::Shown;
+use occ_chart::{words_of, write_end, write_message, write_name};
+use occ_code::{Arm, Wait};
+use occ_net_replay::Ending;
+use occ_net_tables::Tables;
+use occ_net_trace::News;
+use occ_shown::shown_as;
+use occ_term::{Channel, Fault, Message};
+use std::alloc::{AllocError, Global};
+
+fn write_offer(
+    alloc: Global,
+    out: &mut Vec<u8>,
+    channels: &[Channel],
+    chan: u32,
+    message: &Message,
+) -> Result<(), AllocError>
+    ensures { OnOk result (out.new.items ≡ out.old.items ++ (codes "offers " ++ message_text (tag_shown (names_of channels.now) chan message.now.tag) message.now.items ++ codes " on " ++ (names_of channels.now).channel_name chan)) }
+{
+    out.extend_from_slice(b"offers ")?;
+    write_message(alloc, out, message, chan, channels)?;
+    out.extend_from_slice(b" on ")?;
+    write_name(alloc, out, channels, chan)?;
+    Ok(())
+}
+
+fn write_awaited(
+    alloc: Global,
+    out: &mut Vec<u8>,
+    channels: &[Channel],
+    chan: u32,
+) -> Result<(), AllocError>
+    ensures { OnOk result (out.new.items ≡ out.old.items ++ (codes "awaits " ++ (names_of channels.now).channel_name chan)) }
+{
+    out.extend_from_slice(b"awaits ")?;
+    write_name(alloc, out, channels, chan)?;
+    Ok(())
+}
+
+/// What an arm waits for.
+fn write_arm(
+    alloc: Global,
+    out: &mut Vec<u8>,
+    channels: &[Channel],
+    chan: Option<u32>,
+) -> Result<(), AllocError>
+    ensures { OnOk result (out.new.items ≡ out.old.items ++ arm_text (names_of channels.now) chan) }
+{
+    match chan {
+        Some(chan) => {
+            out.extend_from_slice(b"; ")?;
+            write_awaited(alloc, out, channels, chan)
+        }
+        None => out.extend_from_slice(b"; SKIP"),
+    }
+}
+
+fn write_arms(
+    alloc: Global,
+    out: &mut Vec<u8>,
+    channels: &[Channel],
+    arms: &[Arm],
+) -> Result<(), AllocError>
+    ensures { OnOk result (out.new.items ≡ out.old.items ++ arms_text (names_of channels.now) arms.now) }
+{
+    let mut rest = arms;
+    while let Some((arm, others)) = rest.split_first() {
+        write_arm(alloc, out, channels, arm.chan)?;
+        rest = others;
+    }
+    Ok(())
+}
+
+fn write_choosing(
+    alloc: Global,
+    out: &mut Vec<u8>,
+    channels: &[Channel],
+    arms: &[Arm],
+) -> Result<(), AllocError>
+    ensures { OnOk result (out.new.items ≡ out.old.items ++ (codes "chooses" ++ arms_text (names_of channels.now) arms.now)) }
+{
+    out.extend_from_slice(b"chooses")?;
+    write_arms(alloc, out, channels, arms)
+}
+
+fn write_joining(alloc: Global, out: &mut Vec<u8>, branches: &[u32]) -> Result<(), AllocError>
+    ensures { OnOk result (out.new.items ≡ out.old.items ++ (codes "waits for" ++ numbers_text branches.now)) }
+{
+    out.extend_from_slice(b"waits for")?;
+    write_numbers(alloc, out, branches)
+}
+
+fn write_fault(alloc: Global, out: &mut Vec<u8>, fault: Fault) -> Result<(), AllocError>
+    ensures { OnOk result (out.new.items ≡ out.old.items ++ ending_text (Ending.Fault fault)) }
+{
+    let ending = Ending::Fault(fault);
+    let text = format!(in alloc; "{ending}")?;
+    out.extend_from_slice(text.as_bytes())
+}
+
+/// What a process stands at.
+fn write_stop(
+    alloc: Global,
+    out: &mut Vec<u8>,
+    channels: &[Channel],
+    wait: &Wait,
+) -> Result<(), AllocError>
+    ensures { OnOk result (out.new.items ≡ out.old.items ++ stop_text (names_of channels.now) wait.now) }
+{
+    match wait {
+        Wait::Ready => out.extend_from_slice(b"can go on"),
+        Wait::Took { .. } => out.extend_from_slice(b"can go on"),
+        Wait::Halted => out.extend_from_slice(b"halted"),
+        Wait::Done => out.extend_from_slice(b"ends"),
+        Wait::Offers { chan, message } => write_offer(alloc, out, channels, *chan, message),
+        Wait::Awaits { chan } => write_awaited(alloc, out, channels, *chan),
+        Wait::Chooses { arms, .. } => write_choosing(alloc, out, channels, arms.as_slice()),
+        Wait::Joins { branches } => write_joining(alloc, out, branches.as_slice()),
+        Wait::Faulted(fault) => write_fault(alloc, out, *fault),
+    }
+}
+
+/// What the process with this number stands at, where it has begun.
+fn write_task(
+    alloc: Global,
+    out: &mut Vec<u8>,
+    channels: &[Channel],
+    tables: &Tables,
+    number: u32,
+) -> Result<(), AllocError>
+    ensures { OnOk result ((p : Program) (keyboard : List ℕ) (net : Net) → Holds p keyboard tables.now net → out.new.items ≡ out.old.items ++ task_text (names_of channels.now) (slice_get net.tasks number)) }
+{
+    match tables.task(number) {
+        Some(task) => write_stop(alloc, out, channels, &task.wait),
+        None => Ok(()),
+    }
+}
+
+/// The ends of a communication, between spaces.
+fn write_ends(alloc: Global, out: &mut Vec<u8>, shown: &Shown) -> Result<(), AllocError>
+    ensures { OnOk result (out.new.items ≡ out.old.items ++ ends_text shown.now.sender shown.now.receiver) }
+{
+    out.push(b' ')?;
+    write_end(alloc, out, shown.sender())?;
+    out.push(b'>')?;
+    write_end(alloc, out, shown.receiver())?;
+    out.push(b' ')?;
+    Ok(())
+}
+
+/// A communication: its number, its ends, the channel's name and the message.
+fn write_made(alloc: Global, out: &mut Vec<u8>, shown: &Shown) -> Result<(), AllocError>
+    ensures { OnOk result (out.new.items ≡ out.old.items ++ made_text shown.now) }
+{
+    let number = shown.number();
+    let head = format!(in alloc; ", {number}")?;
+    out.extend_from_slice(head.as_bytes())?;
+    write_ends(alloc, out, shown)?;
+    let words = words_of(alloc, shown)?;
+    out.extend_from_slice(words.as_slice())
+}
+
+/// The last communications, of so many.
+fn write_all_made(
+    alloc: Global,
+    out: &mut Vec<u8>,
+    channels: &[Channel],
+    made: u64,
+    news: &News,
+) -> Result<(), AllocError>
+    requires within { length news.now ≤ made }
+    ensures { OnOk result (out.new.items ≡ out.old.items ++ all_made_text (entries (names_of channels.now) (made - length news.now + 1) (map communication_of news.now))) }
+{
+    let mut number = made - news.entries().len() as u64;
+    for communication in news.entries() {
+        number += 1;
+        let shown = shown_as(alloc, number, &communication, channels)?;
+        write_made(alloc, out, &shown)?;
+    }
+    Ok(())
+}
+
+/// How a line ends: what the process that took the turn stands at, and the last communications, of so many.
+pub(crate) fn write_tail(
+    alloc: Global,
+    out: &mut Vec<u8>,
+    channels: &[Channel],
+    tables: &Tables,
+    number: u32,
+    made: u64,
+    news: &News,
+) -> Result<(), AllocError>
+    requires within { length news.now ≤ made }
+    ensures { OnOk result ((p : Program) (keyboard : List ℕ) (net : Net) → Holds p keyboard tables.now net → out.new.items ≡ out.old.items ++ tail_text (names_of channels.now) (slice_get net.tasks number) (entries (names_of channels.now) (made - length news.now + 1) (map communication_of news.now))) }
+{
+    write_task(alloc, out, channels, tables, number)?;
+    write_all_made(alloc, out, channels, made, news)?;
+    out.push(b'\n')?;
+    Ok(())
+}
