@@ -20,6 +20,7 @@ use Rattle.occ_explain.specs.Explanations.{explained_text}
 use Rattle.occ_chart.specs.declared.part.Part.{Part}
 use Rattle.occ_charting.specs.Charting.{IsRunChart}
 use Rattle.occ_places.specs.Places.{Fits, Known, name_of}
+use Rattle.occ_steps.specs.Steps.{IsSteps}
 use Rattle.occ_report.specs.Reports.{IsCircleOf, IsReport}
 
 -- the number and the line of a refusal of the text; 0 where it has no line
@@ -122,3 +123,11 @@ pub record IsNamedChart (options : Options) (source keyboard : List ℕ) (list :
   pub circle : List ℕ
   pub waits : IsCircleOf (meaning unfolded) program keyboard list circle
   pub chart : IsRunChart options source keyboard list part names circle bytes
+
+-- The turns of the run of a source by these choices. The lines at which processes stand fit the code and the lines of the source.
+pub record StepsOf (options : Options) (source keyboard : List ℕ) (list : List Choice) (bytes : List ℕ) : Type 0 where
+  pub program : Program
+  pub code : IsTextsCode options source program
+  pub known : List Known
+  pub fits : Fits program (lines_in source) known
+  pub steps : IsSteps known program keyboard list bytes

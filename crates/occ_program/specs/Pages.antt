@@ -9,13 +9,12 @@ use Rattle.occ_play.specs.declared.playing.Played.{Played}
 use Rattle.occ_play.specs.declared.fault.PlayFault.{PlayFault}
 use Rattle.occ_chart.specs.declared.part.Part.{Part}
 use Rattle.occ_chart.specs.declared.part.Part.TheVariants.{First, Last}
-use Rattle.occ_explaining.specs.Explaining.{IsNamedChart}
+use Rattle.occ_explaining.specs.Explaining.{IsNamedChart, StepsOf}
 use Rattle.occ_play.specs.Playing.{Refuses}
 use Rattle.occ_explore.specs.declared.exploration.Answer.{Answer}
 use Rattle.occ_files.specs.Leaving.{Leaves, LeavesAll, LeavesNothing, Written}
 use Rattle.occ_play_inputs.specs.declared.failure.Failure.{Failure}
 use Rattle.occ_program.specs.declared.page.Page.{Page}
-use Rattle.occ_steps.specs.Steps.{StepsOf}
 use Rattle.occ_tracing.specs.declared.tracing.Form.{Form}
 use Rattle.occ_tracing.specs.declared.tracing.Form.TheVariants.{Lines, Json}
 use Rattle.occ_tracing.specs.Traced.{IsTraced}

@@ -6,10 +6,10 @@ ghost use Rattle.occ_play.specs.Playing.{Refuses};
 
 use crate::page::{Page, write_page};
 use crate::program::options_of;
+use occ_explaining::steps_of;
 use occ_files::Folder;
 use occ_play::{PlayFault, Played};
 use occ_play_inputs::{Failure, Inputs, Words};
-use occ_steps::steps_of;
 use std::alloc::Global;
 
 /// Writes a line for each turn of the run of these inputs into the file that the words name, where it answered: of the run by the

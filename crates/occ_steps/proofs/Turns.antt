@@ -17,36 +17,37 @@ use Rattle.occ_net_replay.specs.Replay.{Gets, Gives, Happens, Joined, Net, OneTu
 use Rattle.occ_net_tables.specs.Holding.{Holds, communication_of, end_of}
 use Rattle.occ_net_tables.specs.Settling.{Standing, TurnsTo}
 use Rattle.occ_net_tables.specs.declared.tables.Tables.{Tables}
+use Rattle.occ_places.specs.Places.{Known}
 use Rattle.occ_shown.specs.Answers.{names_of}
 use Rattle.occ_steps.specs.Steps.{IsSteps, Stepped, Stepping, StepsTo, head_text, news, none_stepped, one_stepped, step_text, tail_text}
 
-stepped_replays : (p : Program) (kb : List ℕ) {cs : List Choice} {net : Net} {text : List ℕ} → Stepped p kb cs net text → Replays p kb cs net
-stepped_replays p kb none_stepped = begins
-stepped_replays p kb (one_stepped h e turn) = goes_on (stepped_replays p kb h) e turn
+stepped_replays : (known : List Known) (p : Program) (kb : List ℕ) {cs : List Choice} {net : Net} {text : List ℕ} → Stepped known p kb cs net text → Replays p kb cs net
+stepped_replays known p kb none_stepped = begins
+stepped_replays known p kb (one_stepped h e turn) = goes_on (stepped_replays known p kb h) e turn
 
-pub starts : (p : Program) (kb : List ℕ) (list : List Choice) (n : Tables) (text : List ℕ) → ((k : List ℕ) → Holds p k n (first_net p k)) → text ≡ [] → Stepping p kb 0 list list n text
-starts p kb list n text h none =
-    record { given = []; count = refl; so_far = refl; net = first_net p kb; stepped = subst (λ t. Stepped p kb [] (first_net p kb) t) (sym none) none_stepped; holds = h kb }
+pub starts : (known : List Known) (p : Program) (kb : List ℕ) (list : List Choice) (n : Tables) (text : List ℕ) → ((k : List ℕ) → Holds p k n (first_net p k)) → text ≡ [] → Stepping known p kb 0 list list n text
+starts known p kb list n text h none =
+    record { given = []; count = refl; so_far = refl; net = first_net p kb; stepped = subst (λ t. Stepped known p kb [] (first_net p kb) t) (sym none) none_stepped; holds = h kb }
 
-pub stands : (p : Program) (kb : List ℕ) (turns : ℕ) (rest list : List Choice) (n : Tables) (text : List ℕ) → (h : Stepping p kb turns rest list n text) → ending_of p.errors h.net ≡ None → 1 + turns < 2 ^ 64 → Standing p kb n
-stands p kb turns rest list n text h going few =
-    record { choices = h.given; few = subst (λ k. 1 + k < 2 ^ 64) h.count few; net = h.net; replays = stepped_replays p kb h.stepped; open_end = going; holds = h.holds }
+pub stands : (known : List Known) (p : Program) (kb : List ℕ) (turns : ℕ) (rest list : List Choice) (n : Tables) (text : List ℕ) → (h : Stepping known p kb turns rest list n text) → ending_of p.errors h.net ≡ None → 1 + turns < 2 ^ 64 → Standing p kb n
+stands known p kb turns rest list n text h going few =
+    record { choices = h.given; few = subst (λ k. 1 + k < 2 ^ 64) h.count few; net = h.net; replays = stepped_replays known p kb h.stepped; open_end = going; holds = h.holds }
 
 -- one turn more
-pub one_more : (p : Program) (kb : List ℕ) (turns : ℕ) (rest others list : List Choice) (c : Choice) (old new : Tables) (text longer : List ℕ)
-    → (h : Stepping p kb turns rest list old text) → ending_of p.errors h.net ≡ None → rest ≡ c ∷ others
-    → ((net : Net) → Holds p kb old net → StepsTo p kb (turns + 1) c net text new longer) → Stepping p kb (turns + 1) others list new longer
-one_more p kb turns rest others list c old new text longer h going first turn =
+pub one_more : (known : List Known) (p : Program) (kb : List ℕ) (turns : ℕ) (rest others list : List Choice) (c : Choice) (old new : Tables) (text longer : List ℕ)
+    → (h : Stepping known p kb turns rest list old text) → ending_of p.errors h.net ≡ None → rest ≡ c ∷ others
+    → ((net : Net) → Holds p kb old net → StepsTo known p kb (turns + 1) c net text new longer) → Stepping known p kb (turns + 1) others list new longer
+one_more known p kb turns rest others list c old new text longer h going first turn =
     let x = turn h.net h.holds in
     let number : turns + 1 ≡ length h.given + 1 = ap (λ k. k + 1) h.count in
-    let line : text ++ step_text (names_of p.channels) (length h.given + 1) h.net x.taken.number c.pick x.next ≡ longer =
-    ap (λ k. text ++ step_text (names_of p.channels) k h.net x.taken.number c.pick x.next) (sym number) ∙ sym x.is in
+    let line : text ++ step_text (names_of p.channels) known (length h.given + 1) h.net x.taken.number c.pick x.next ≡ longer =
+    ap (λ k. text ++ step_text (names_of p.channels) known k h.net x.taken.number c.pick x.next) (sym number) ∙ sym x.is in
     record {
       given = h.given ++ c ∷ [];
       count = number ∙ sym (length-append h.given (c ∷ []));
       so_far = append_assoc h.given (c ∷ []) others ∙ ap (λ cs. h.given ++ cs) (sym first) ∙ h.so_far;
       net = x.next;
-      stepped = subst (λ t. Stepped p kb (h.given ++ c ∷ []) x.next t) line (one_stepped h.stepped going x.taken);
+      stepped = subst (λ t. Stepped known p kb (h.given ++ c ∷ []) x.next t) line (one_stepped h.stepped going x.taken);
       holds = x.holds;
     }
 
@@ -154,29 +155,29 @@ pub three_more : (o a b c x y z : List ℕ) → x ≡ o ++ a → y ≡ x ++ b �
 three_more o a b c x y z e f g = g ∙ ap (λ l. l ++ c) (f ∙ ap (λ l. l ++ b) e ∙ append_assoc o a b) ∙ append_assoc o (a ++ b) c
 
 -- what is written is the line of the turn
-pub steps_to : (p : Program) (kb : List ℕ) (turn : ℕ) (c : Choice) (net : Net) (old new : Tables) (taken : ℕ) (text middle longer : List ℕ)
+pub steps_to : (known : List Known) (p : Program) (kb : List ℕ) (turn : ℕ) (c : Choice) (net : Net) (old new : Tables) (taken : ℕ) (text middle longer : List ℕ)
     → Holds p kb old net → (x : TurnsTo p kb c net new) → selected (ready_from 0 net.tasks) c.which ≡ Some taken
     → middle ≡ text ++ head_text turn (ready_from 0 net.tasks) taken c.pick
-    → longer ≡ middle ++ tail_text (names_of p.channels) (slice_get x.next.tasks taken) (news (names_of p.channels) net x.next)
-    → StepsTo p kb turn c net text new longer
-steps_to p kb turn c net old new taken text middle longer holds x selects first second =
+    → longer ≡ middle ++ tail_text (names_of p.channels) known taken (slice_get x.next.tasks taken) (news (names_of p.channels) net x.next)
+    → StepsTo known p kb turn c net text new longer
+steps_to known p kb turn c net old new taken text middle longer holds x selects first second =
     let same : taken ≡ x.turn.number = one_of (sym selects ∙ x.turn.selects) in
     record {
       next = x.next;
       taken = x.turn;
       holds = x.holds;
       is =
-          second ∙ ap (λ t. t ++ tail_text (names_of p.channels) (slice_get x.next.tasks taken) (news (names_of p.channels) net x.next)) first
-          ∙ append_assoc text (head_text turn (ready_from 0 net.tasks) taken c.pick) (tail_text (names_of p.channels) (slice_get x.next.tasks taken) (news (names_of p.channels) net x.next))
-          ∙ ap (λ (k : ℕ). text ++ step_text (names_of p.channels) turn net k c.pick x.next) same;
+          second ∙ ap (λ t. t ++ tail_text (names_of p.channels) known taken (slice_get x.next.tasks taken) (news (names_of p.channels) net x.next)) first
+          ∙ append_assoc text (head_text turn (ready_from 0 net.tasks) taken c.pick) (tail_text (names_of p.channels) known taken (slice_get x.next.tasks taken) (news (names_of p.channels) net x.next))
+          ∙ ap (λ (k : ℕ). text ++ step_text (names_of p.channels) known turn net k c.pick x.next) same;
     }
   where
     one_of : {a b : ℕ} → ◌≡◌ {A = Option ℕ} (Some a) (Some b) → a ≡ b
     one_of q = cc
 
 -- the run has ended, or the choices are used up
-pub ended : (p : Program) (kb : List ℕ) (turns : ℕ) (rest list : List Choice) (n : Tables) (text : List ℕ) → (h : Stepping p kb turns rest list n text) → (ending_of p.errors h.net ≡ None → rest ≡ []) → IsSteps p kb list text
-ended p kb turns rest list n text h over =
+pub ended : (known : List Known) (p : Program) (kb : List ℕ) (turns : ℕ) (rest list : List Choice) (n : Tables) (text : List ℕ) → (h : Stepping known p kb turns rest list n text) → (ending_of p.errors h.net ≡ None → rest ≡ []) → IsSteps known p kb list text
+ended known p kb turns rest list n text h over =
     record {
       used = h.given;
       net = h.net;

@@ -15,8 +15,8 @@ use Rattle.occ_net_replay.specs.Replay.{Net, OneTurn, ending_of, first_net, read
 use Rattle.occ_net_tables.specs.Holding.{Holds}
 use Rattle.occ_net_tables.specs.Outcomes.{Begins}
 use Rattle.occ_net_tables.specs.declared.tables.Tables.{Tables}
-use Rattle.occ_play.specs.declared.playing.Options.{Options}
-use Rattle.occ_play.specs.Playing.{IsTextsCode}
+use Rattle.occ_places.specs.declared.stop.Stop.{Stop}
+use Rattle.occ_places.specs.Places.{Known, stop_of}
 use Rattle.occ_shown.specs.Answers.{ends_text, names_of}
 use Rattle.occ_term.specs.Runs.{Entry, Names, entries, tag_shown}
 
@@ -47,10 +47,15 @@ stop_text names Halted = codes "halted"
 stop_text names Done = codes "ends"
 stop_text names (Faulted e) = ending_text (Fault e)
 
-abbrev pub task_text : Names → Option (Option Task) → List ℕ
-task_text names None = []
-task_text names (Some None) = []
-task_text names (Some (Some t)) = stop_text names t.wait
+-- the line of the source at which a process stands, where it is known
+abbrev pub line_text : Option Stop → List ℕ
+line_text None = []
+line_text (Some s) = codes "line " ++ decimal s.line ++ codes ": "
+
+abbrev pub task_text : Names → List Known → ℕ → Option (Option Task) → List ℕ
+task_text names known n None = []
+task_text names known n (Some None) = []
+task_text names known n (Some (Some t)) = line_text (stop_of known n t.wait t.place) ++ stop_text names t.wait
 
 -- ---- the line of a turn
 
@@ -67,51 +72,45 @@ all_made_text [] = []
 all_made_text (e ∷ es) = made_text e ++ all_made_text es
 
 -- what that one stands at then, and the communication that the turn made possible
-abbrev pub tail_text : Names → Option (Option Task) → List Entry → List ℕ
-tail_text names t made = task_text names t ++ all_made_text made ++ 10 ∷ []
+abbrev pub tail_text : Names → List Known → ℕ → Option (Option Task) → List Entry → List ℕ
+tail_text names known n t made = task_text names known n t ++ all_made_text made ++ 10 ∷ []
 
 -- those of the second state that the first has not
 abbrev pub news : Names → Net → Net → List Entry
 news names a b = entries names (length a.trace + 1) (drop (length a.trace) b.trace)
 
-abbrev pub step_text : Names → (turn : ℕ) → (before : Net) → (taken pick : ℕ) → (after : Net) → List ℕ
-step_text names turn a taken pick b = head_text turn (ready_from 0 a.tasks) taken pick ++ tail_text names (slice_get b.tasks taken) (news names a b)
+abbrev pub step_text : Names → List Known → (turn : ℕ) → (before : Net) → (taken pick : ℕ) → (after : Net) → List ℕ
+step_text names known turn a taken pick b = head_text turn (ready_from 0 a.tasks) taken pick ++ tail_text names known taken (slice_get b.tasks taken) (news names a b)
 
--- a replay, and the line of each of its turns, numbered from 1
-pub data Stepped (p : Program) (keyboard : List ℕ) : List Choice → Net → List ℕ → Type 0 where
-  none_stepped : Stepped p keyboard [] (first_net p keyboard) []
+-- a replay, and the line of each of its turns, numbered from 1, with what is known of where processes stand in the source
+pub data Stepped (known : List Known) (p : Program) (keyboard : List ℕ) : List Choice → Net → List ℕ → Type 0 where
+  none_stepped : Stepped known p keyboard [] (first_net p keyboard) []
   one_stepped : {cs : List Choice} {c : Choice} {a b : Net} {text : List ℕ}
-      → Stepped p keyboard cs a text → ending_of p.errors a ≡ None → (turn : OneTurn p c a b)
-      → Stepped p keyboard (cs ++ c ∷ []) b (text ++ step_text (names_of p.channels) (length cs + 1) a turn.number c.pick b)
+      → Stepped known p keyboard cs a text → ending_of p.errors a ≡ None → (turn : OneTurn p c a b)
+      → Stepped known p keyboard (cs ++ c ∷ []) b (text ++ step_text (names_of p.channels) known (length cs + 1) a turn.number c.pick b)
 
 -- The replay of the used choices, which are a beginning of the list, and the line of each of its turns.
-pub record IsSteps (p : Program) (keyboard : List ℕ) (list : List Choice) (bytes : List ℕ) : Type 0 where
+pub record IsSteps (known : List Known) (p : Program) (keyboard : List ℕ) (list : List Choice) (bytes : List ℕ) : Type 0 where
   pub used : List Choice
   pub net : Net
-  pub stepped : Stepped p keyboard used net bytes
+  pub stepped : Stepped known p keyboard used net bytes
   pub begins : Begins used list
   pub whole : ending_of p.errors net ≡ None → used ≡ list
-
--- of the code of a text's program
-pub record StepsOf (options : Options) (source keyboard : List ℕ) (list : List Choice) (bytes : List ℕ) : Type 0 where
-  pub program : Program
-  pub code : IsTextsCode options source program
-  pub steps : IsSteps program keyboard list bytes
 
 -- ---- what the code does; private contracts alone cite it
 
 -- in the middle of a run: so many turns are taken, and their lines are written
-pub record Stepping (p : Program) (keyboard : List ℕ) (turns : ℕ) (rest list : List Choice) (n : Tables) (text : List ℕ) : Type 0 where
+pub record Stepping (known : List Known) (p : Program) (keyboard : List ℕ) (turns : ℕ) (rest list : List Choice) (n : Tables) (text : List ℕ) : Type 0 where
   pub given : List Choice
   pub count : turns ≡ length given
   pub so_far : given ++ rest ≡ list
   pub net : Net
-  pub stepped : Stepped p keyboard given net text
+  pub stepped : Stepped known p keyboard given net text
   pub holds : Holds p keyboard n net
 
 -- one turn more, and its line
-pub record StepsTo (p : Program) (keyboard : List ℕ) (turn : ℕ) (c : Choice) (net : Net) (old : List ℕ) (n : Tables) (new : List ℕ) : Type 0 where
+pub record StepsTo (known : List Known) (p : Program) (keyboard : List ℕ) (turn : ℕ) (c : Choice) (net : Net) (old : List ℕ) (n : Tables) (new : List ℕ) : Type 0 where
   pub next : Net
   pub taken : OneTurn p c net next
   pub holds : Holds p keyboard n next
-  pub is : new ≡ old ++ step_text (names_of p.channels) turn net taken.number c.pick next
+  pub is : new ≡ old ++ step_text (names_of p.channels) known turn net taken.number c.pick next

@@ -12,6 +12,7 @@ use occ_code::Code;
 use occ_net_replay::Choice;
 use occ_net_tables::Tables;
 use occ_net_trace::News;
+use occ_places::Places;
 use occ_proc::Scratch;
 use std::alloc::{AllocError, Global};
 
@@ -19,6 +20,7 @@ use std::alloc::{AllocError, Global};
 fn step(
     alloc: Global,
     code: &Code,
+    places: &Places,
     scratch: &mut Scratch,
     keyboard: &[u8],
     tables: &mut Tables,
@@ -28,7 +30,7 @@ fn step(
     out: &mut Vec<u8>,
 ) -> Result<(), AllocError>
     requires { Standing code.now keyboard.now tables.old }
-    ensures { OnOk result ((net : Net) → Holds code.now keyboard.now tables.old net → StepsTo code.now keyboard.now turn choice net out.old.items tables.new out.new.items) }
+    ensures { OnOk result ((net : Net) → Holds code.now keyboard.now tables.old net → StepsTo places.now code.now keyboard.now turn choice net out.old.items tables.new out.new.items) }
 {
     let ready = tables.ready();
     let Some(taken) = selected(ready, choice.which) else {
@@ -40,12 +42,21 @@ fn step(
     let trace = tables.trace();
     trace.copy_behind(&mark, news)?;
     let made = trace.len() as u64;
-    write_tail(alloc, out, code.channels(), tables, taken, made, news)?;
+    write_tail(
+        alloc,
+        out,
+        code.channels(),
+        places,
+        tables,
+        taken,
+        made,
+        news,
+    )?;
     Ok(())
 }
 
 /// The line of each turn of the run by these choices: its number, the processes that were ready, the one that took it, the pick,
-/// what that one stands at after it, and the communication that it made possible.
+/// what that one stands at after it, with its line where that is known, and the communication that it made possible.
 ///
 /// # Errors
 ///
@@ -53,10 +64,11 @@ fn step(
 pub fn steps(
     alloc: Global,
     code: &Code,
+    places: &Places,
     keyboard: &[u8],
     choices: &[Choice],
 ) -> Result<Vec<u8>, AllocError>
-    ensures { IfOk result (λ bytes. IsSteps code.now keyboard.now choices.now bytes.items) }
+    ensures { IfOk result (λ bytes. IsSteps places.now code.now keyboard.now choices.now bytes.items) }
 {
     let mut scratch = Scratch::new(alloc);
     let mut tables = Tables::new(alloc, code)?;
@@ -75,6 +87,7 @@ pub fn steps(
         step(
             alloc,
             code,
+            places,
             &mut scratch,
             keyboard,
             &mut tables,

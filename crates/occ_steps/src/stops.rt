@@ -6,7 +6,7 @@ ghost use Rattle.occ_net_replay.specs.Endings.{ending_text};
 ghost use Rattle.occ_net_replay.specs.Replay.{Net};
 ghost use Rattle.occ_net_tables.specs.Holding.{Holds, communication_of};
 ghost use Rattle.occ_shown.specs.Answers.{ends_text, names_of};
-ghost use Rattle.occ_steps.specs.Steps.{all_made_text, arm_text, arms_text, made_text, numbers_text, stop_text, tail_text, task_text};
+ghost use Rattle.occ_steps.specs.Steps.{all_made_text, arm_text, arms_text, line_text, made_text, numbers_text, stop_text, tail_text, task_text};
 ghost use Rattle.occ_term.specs.Runs.{entries, tag_shown};
 
 use crate::heads::write_numbers;
@@ -16,6 +16,7 @@ use occ_code::{Arm, Wait};
 use occ_net_replay::Ending;
 use occ_net_tables::Tables;
 use occ_net_trace::News;
+use occ_places::{Places, Stop};
 use occ_shown::shown_as;
 use occ_term::{Channel, Fault, Message};
 use std::alloc::{AllocError, Global};
@@ -132,18 +133,49 @@ fn write_stop(
     }
 }
 
+/// The line of the source, where it is known.
+fn write_line(alloc: Global, out: &mut Vec<u8>, stop: Option<Stop>) -> Result<(), AllocError>
+    ensures { OnOk result (out.new.items ≡ out.old.items ++ line_text stop) }
+{
+    match stop {
+        Some(stop) => {
+            let text = format!(in alloc; "line {}: ", stop.line)?;
+            out.extend_from_slice(text.as_bytes())
+        }
+        None => Ok(()),
+    }
+}
+
+/// What a process stands at, behind the line of its stop.
+fn write_placed(
+    alloc: Global,
+    out: &mut Vec<u8>,
+    channels: &[Channel],
+    stop: Option<Stop>,
+    wait: &Wait,
+) -> Result<(), AllocError>
+    ensures { OnOk result (out.new.items ≡ out.old.items ++ (line_text stop ++ stop_text (names_of channels.now) wait.now)) }
+{
+    write_line(alloc, out, stop)?;
+    write_stop(alloc, out, channels, wait)
+}
+
 /// What the process with this number stands at, where it has begun.
 fn write_task(
     alloc: Global,
     out: &mut Vec<u8>,
     channels: &[Channel],
+    places: &Places,
     tables: &Tables,
     number: u32,
 ) -> Result<(), AllocError>
-    ensures { OnOk result ((p : Program) (keyboard : List ℕ) (net : Net) → Holds p keyboard tables.now net → out.new.items ≡ out.old.items ++ task_text (names_of channels.now) (slice_get net.tasks number)) }
+    ensures { OnOk result ((p : Program) (keyboard : List ℕ) (net : Net) → Holds p keyboard tables.now net → out.new.items ≡ out.old.items ++ task_text (names_of channels.now) places.now number (slice_get net.tasks number)) }
 {
     match tables.task(number) {
-        Some(task) => write_stop(alloc, out, channels, &task.wait),
+        Some(task) => {
+            let stop = places.stop(number, &task.wait, task.place);
+            write_placed(alloc, out, channels, stop, &task.wait)
+        }
         None => Ok(()),
     }
 }
@@ -197,15 +229,16 @@ pub(crate) fn write_tail(
     alloc: Global,
     out: &mut Vec<u8>,
     channels: &[Channel],
+    places: &Places,
     tables: &Tables,
     number: u32,
     made: u64,
     news: &News,
 ) -> Result<(), AllocError>
     requires within { length news.now ≤ made }
-    ensures { OnOk result ((p : Program) (keyboard : List ℕ) (net : Net) → Holds p keyboard tables.now net → out.new.items ≡ out.old.items ++ tail_text (names_of channels.now) (slice_get net.tasks number) (entries (names_of channels.now) (made - length news.now + 1) (map communication_of news.now))) }
+    ensures { OnOk result ((p : Program) (keyboard : List ℕ) (net : Net) → Holds p keyboard tables.now net → out.new.items ≡ out.old.items ++ tail_text (names_of channels.now) places.now number (slice_get net.tasks number) (entries (names_of channels.now) (made - length news.now + 1) (map communication_of news.now))) }
 {
-    write_task(alloc, out, channels, tables, number)?;
+    write_task(alloc, out, channels, places, tables, number)?;
     write_all_made(alloc, out, channels, made, news)?;
     out.push(b'\n')?;
     Ok(())

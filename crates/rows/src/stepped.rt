@@ -1,6 +1,6 @@
 //! The turns of whole runs.
+use occ_explaining::steps_of;
 use occ_play::{Choice, Options};
-use occ_steps::steps_of;
 use std::alloc::Global;
 use std::process::Abort;
 use std::test::Fail;
@@ -23,8 +23,8 @@ const LINK: &str = "PROC main (CHAN OF BYTE keyboard, screen)
 :
 ";
 
-const LINK_TURNS: &str = "1 ready p0 took p0 pick 7 waits for p1 p2
-2 ready p1 p2 took p2 pick 7 awaits c
+const LINK_TURNS: &str = "1 ready p0 took p0 pick 7 line 3: waits for p1 p2
+2 ready p1 p2 took p2 pick 7 line 6: awaits c
 3 ready p1 took p1 pick 7 can go on, 1 p1>p2 c 7
 4 ready p1 p2 took p2 pick 7 ends
 5 ready p1 took p1 pick 7 ends

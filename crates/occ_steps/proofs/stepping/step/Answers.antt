@@ -34,6 +34,6 @@ returns c = λ net h.
     let made = news_text (names_of p.channels) p c.args.choice net x.next c.trace.result.now c.trace-trace.result.now c.copy_behind.new.news c.len-made.result x.turn was now fresh c.len-made.ensures.len in
     let second =
     c.in_ok-write_tail.ensures p keys x.next x.holds
-    ∙ ap (λ cs. c.write_head.new.out.items ++ tail_text (names_of cs) (slice_get x.next.tasks taken) (entries (names_of cs) (c.len-made.result - length c.copy_behind.new.news + 1) (map communication_of c.copy_behind.new.news))) c.channels.ensures
-    ∙ ap (λ es. c.write_head.new.out.items ++ tail_text (names_of p.channels) (slice_get x.next.tasks taken) es) made in
-    steps_to p keys c.args.turn c.args.choice net c.args.tables.now c.take_turn.new.self taken c.args.out.now.items c.write_head.new.out.items _ h x selects first second
+    ∙ ap (λ cs. c.write_head.new.out.items ++ tail_text (names_of cs) c.args.places.now taken (slice_get x.next.tasks taken) (entries (names_of cs) (c.len-made.result - length c.copy_behind.new.news + 1) (map communication_of c.copy_behind.new.news))) c.channels.ensures
+    ∙ ap (λ es. c.write_head.new.out.items ++ tail_text (names_of p.channels) c.args.places.now taken (slice_get x.next.tasks taken) es) made in
+    steps_to c.args.places.now p keys c.args.turn c.args.choice net c.args.tables.now c.take_turn.new.self taken c.args.out.now.items c.write_head.new.out.items _ h x selects first second

@@ -5,7 +5,7 @@ use Rattle.occ_steps.proofs.stepping.steps.Given as goal
 abbrev pub invariant-loop-rest : goal.invariant-loop-rest
 invariant-loop-rest l = record {
   counted : l.turns + length l.rest ≡ length l.choices;
-  run : Stepping l.code l.keyboard l.turns l.rest l.choices l.tables l.out.items;
+  run : Stepping l.places l.code l.keyboard l.turns l.rest l.choices l.tables l.out.items;
 }
 
 abbrev pub decreases-loop-rest : goal.decreases-loop-rest

@@ -1,18 +1,21 @@
 //! The turns of the run of a source.
 ghost use Rattle.std.specs.Prelude.{IfErr, IfOk};
+ghost use Rattle.occ_explaining.specs.Explaining.{StepsOf};
 ghost use Rattle.occ_play.specs.Playing.{Refuses};
-ghost use Rattle.occ_steps.specs.Steps.{StepsOf};
 
-use crate::stepping::steps;
+use crate::reported::{lines_in, tree_of};
 use occ_net_replay::Choice;
+use occ_places::places_of;
 use occ_play::{Options, PlayFault, code_of};
+use occ_steps::steps;
 use std::alloc::Global;
 
-/// The line of each turn of the run of a source by these choices.
+/// The line of each turn of the run of a source by these choices, with the lines of the source at which processes then stand.
 ///
 /// # Errors
 ///
 /// As of `play_in`, but for `Write`.
+#[tactic(auto, using(crate::proofs::Refusing::refuses_text))]
 pub fn steps_of(
     options: &Options,
     alloc: Global,
@@ -24,6 +27,8 @@ pub fn steps_of(
     ensures refused { IfErr result (Refuses options.now source.now) }
 {
     let code = code_of(options, alloc, source)?;
-    let bytes = steps(alloc, &code, keyboard, choices)?;
+    let tree = tree_of(alloc, source)?;
+    let places = places_of(alloc, &tree, &code, lines_in(source))?;
+    let bytes = steps(alloc, &code, &places, keyboard, choices)?;
     Ok(bytes)
 }
