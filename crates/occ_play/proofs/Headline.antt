@@ -9,7 +9,7 @@ use Rattle.occ_term.specs.declared.fault.Errors.{Errors}
 use Rattle.occ_term.specs.declared.fault.Errors.TheVariants.{Halt, Stop}
 use Rattle.occ_term.specs.declared.fault.Fault.{Fault}
 use Rattle.occ_term.specs.System.{noted_in}
-use Rattle.occ_term.specs.Runs.{communications, entries, messages_on, shown, shown_by, EndsBy}
+use Rattle.occ_term.specs.Runs.{communications, messages_on, shown, shown_by, EndsBy}
 use Rattle.occ_term.specs.UnfoldedProgram.{UnfoldedProgram, IsWellFormed, declared, Lawful}
 use Rattle.occ_code.specs.Compiled.{Program, IsCodeOf, IsCompiledFrom, CodeRefuses}
 use Rattle.occ_code.specs.declared.compiler.code.CodeFault.{CodeFault}
@@ -20,12 +20,10 @@ use Rattle.occ_net_replay.specs.declared.ending.Ending.TheVariants as E
 use Rattle.occ_play.specs.declared.playing.Played.{Played}
 use Rattle.occ_net_tables.specs.declared.running.Outcome.{Outcome}
 use Rattle.occ_shown.specs.Answers.{AreByteMessages, answer_text, names_of}
-use Rattle.occ_shown.specs.Charts.{chart_text}
 use Rattle.occ_shown.proofs.ByteMessages as byte_messages
 use Rattle.occ_net_tables.specs.Holding.{communication_of}
 use Rattle.occ_net_replay.specs.Following.{AllFit, AreBytes, Followed, ending_as, mode_of, or_limit}
 use Rattle.occ_net_tables.specs.Outcomes.{Begins, IsOutcome}
-use Rattle.occ_play.specs.Charting.{IsChart}
 use Rattle.occ_play.specs.declared.playing.Options.{Options}
 use Rattle.occ_play.specs.declared.fault.PlayFault.{PlayFault}
 use Rattle.occ_play.specs.declared.fault.PlayFault.TheVariants as play
@@ -175,16 +173,6 @@ headline options source keyboard list trace p channels o played bytes code keys 
       },
       ap (λ cs. shown_by (names_of cs) (map communication_of o.trace)) channels_are ∙ ap (λ xs. shown_by (names_of u.channels) xs) shows,
     )
-
-pub charted : (options : Options) (source keyboard : List ℕ) (list : List Choice) (most : ℕ) (p : Program) (channels : List Channel) (o : Outcome) (bytes : List ℕ)
-    → Ran options source keyboard list p o → AreBytes keyboard → channels ≡ p.channels → length o.choices.items < 2 ^ 64
-    → bytes ≡ chart_text (entries (names_of channels) 1 (map communication_of o.trace)) o.ending most
-    → IsChart options source keyboard list most bytes
-charted options source keyboard list most p channels o bytes ran keys chan small is =
-    let played : Played = record { ending = o.ending; choices = o.choices } in
-    let answer : List ℕ = answer_text (shown_by (names_of channels) (map communication_of o.trace)) o.ending true in
-    let h = headline options source keyboard list true p channels o played answer ran.code keys chan ran.is small refl refl refl in
-    record { played = played; answer = answer; run = h.0; is = is ∙ ap (λ s. chart_text s.trace o.ending most) h.1 }
 
 -- ---- refusals
 

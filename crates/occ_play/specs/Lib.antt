@@ -2,5 +2,4 @@ pub mod Status
 pub mod Playing
 pub mod Working
 pub mod Watching
-pub mod Charting
 pub mod Again

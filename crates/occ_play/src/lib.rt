@@ -18,6 +18,6 @@ pub use occ_net_trace::{Communication, End};
 pub use occ_run::{FreeGate, Gate, RunFault};
 pub use occ_shown::{Counted, watch_lines};
 pub use occ_term::Errors;
-pub use playing::{Options, Played, chart, code_of, play, play_in, status_of};
+pub use playing::{Options, Played, code_of, play, play_in, status_of};
 pub use watched::play_watched;
 pub use workers::{play_workers, play_workers_in};

@@ -4,7 +4,6 @@ ghost use Rattle.occ_shown.specs.Counting.{failures_of};
 ghost use Rattle.occ_choices.specs.Plans.{choices_of};
 ghost use Rattle.occ_net_replay.specs.declared.choice.Choice.{Choice};
 ghost use Rattle.occ_net_tables.specs.Outcomes.{IsOutcome};
-ghost use Rattle.occ_play.specs.Charting.{IsChart};
 ghost use Rattle.occ_play.specs.Playing.{AfterFault, IsAnswer, IsSomeAnswer, IsTextsCode, Ran, Refuses, RefusesCode, RefusesText, Unfolds, Wrote, plain};
 ghost use Rattle.occ_play.specs.Watching.{AnswersWith};
 ghost use Rattle.occ_term.specs.UnfoldedProgram.{Lawful};
@@ -157,29 +156,6 @@ pub(crate) fn told(
         trace: _,
     } = outcome;
     Ok((Played { ending, choices }, bytes))
-}
-
-/// The sequence chart of the run that `play_in` plays for this plan, as a text in SVG: a column for each process and each
-/// of the keyboard, the screen and the error channel that takes part, an arrow for each of the first `most`
-/// communications, how many more there were, and how the run ended.
-///
-/// # Errors
-///
-/// As of `play_in`, but for `Write`.
-pub fn chart(
-    options: &Options,
-    alloc: Global,
-    source: &[u8],
-    keyboard: &[u8],
-    plan: &Plan,
-    most: u32,
-) -> Result<Vec<u8>, PlayFault>
-    ensures drawn { IfOk result (λ bytes. IsChart options.now source.now keyboard.now (choices_of plan.now) most bytes.items) }
-    ensures refused { IfErr result (Refuses options.now source.now) }
-{
-    let (code, outcome) = ran(options, alloc, source, keyboard, plan)?;
-    let bytes = occ_shown::chart(alloc, &outcome.trace, code.channels(), outcome.ending, most)?;
-    Ok(bytes)
 }
 
 /// The code of a source's program, and what its run comes to.

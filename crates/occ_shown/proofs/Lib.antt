@@ -1,5 +1,4 @@
 mod Texts
-mod Drawing
 mod Growth
 mod SameEnds
 pub mod ByteMessages

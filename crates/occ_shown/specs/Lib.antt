@@ -1,4 +1,2 @@
 pub mod Answers
-pub mod Xml
-pub mod Charts
 pub mod Counting

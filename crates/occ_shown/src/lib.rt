@@ -1,16 +1,12 @@
 //! What a run shows, in bytes: [`answer`] has those of the screen and of the error channel, the trace's
-//! lines and the line of the ending, [`chart`] a picture of the trace, and [`write_answer`] writes them and
-//! counts refused writes. [`shown_as`] is what watchers of a run are shown of a communication, and [`watch_lines`] its
-//! lines.
+//! lines and the line of the ending, and [`write_answer`] writes them and counts refused writes. [`shown_as`] is
+//! what watchers of a run are shown of a communication, and [`watch_lines`] its lines.
 #![tactic(auto)]
 
-mod charting;
 pub mod counted;
 mod showing;
 mod watching;
-mod xml;
 
-pub use charting::chart;
 pub use counted::{Counted, write_answer};
 pub use showing::{answer, channel_bytes};
 pub use watching::{is_shown, shown_as, watch_lines};

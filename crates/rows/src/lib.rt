@@ -10,8 +10,6 @@ mod cut;
 #[cfg(test)]
 mod drawn;
 #[cfg(test)]
-mod drawn_plainly;
-#[cfg(test)]
 mod first_programs;
 #[cfg(test)]
 mod known;
