@@ -102,7 +102,7 @@ def causes():
         rows.append(f"    ({number}, {text}),\n" if short else f"    (\n        {number},\n        {text},\n    ),\n")
     return (
         "//! The causes of refusals in `docs/language.md`. `tools/tables.py` writes this file.\n\n"
-        f"pub(crate) static CAUSES: [(u32, &str); {len(rows)}] = [\n{''.join(rows)}];\n"
+        f"pub const CAUSES: [(u32, &str); {len(rows)}] = [\n{''.join(rows)}];\n"
     )
 
 

@@ -15,7 +15,7 @@ complete -c occam -l trace-to -r -d 'Writes each communication and the ending in
 complete -c occam -l json -d 'Writes each of them as a line of JSON'
 complete -c occam -l steps -r -d 'Writes a line for each turn into FILE: who was ready, who took it, what it then stands at'
 complete -c occam -l watch -d 'Prints each communication to standard error as a thread was shown it that looks on'
-complete -c occam -l explain -d 'Tells where the mistake of a refused source is, and what each process stands at that is left'
+complete -c occam -l explain -d 'Tells where the mistake of a refused source is, what each process stands at that is left, and which file failed and why'
 complete -c occam -l explore -d 'Tells what all lists of choices come to, with the screen for answers, without for endings; full tells answers by way of all states [default: answers]'
 complete -c occam -l states -x -d 'Lets the search come to N states, 1 to 10000000 [default: 1000000]'
 complete -c occam -l check -d 'Says whether the source is refused, and plays nothing'

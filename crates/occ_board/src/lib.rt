@@ -13,6 +13,3 @@ pub use front::Naming;
 pub use publisher::{Board, BoardFault, Opened, Publisher};
 pub use shown::{Edition, Shown};
 pub use watcher::{Note, Watcher};
-
-#[cfg(test)]
-mod tests;

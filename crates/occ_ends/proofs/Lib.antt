@@ -1,3 +1,4 @@
 pub mod Listing
 pub mod Marking
+pub mod Rings
 pub mod Rounds

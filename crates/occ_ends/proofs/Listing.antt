@@ -1,6 +1,6 @@
 -- Processes that are listed one after another.
 use Rattle.std.specs.Prelude.{reverse}
-use Rattle.std.proofs.Common.{◌≡◌, ◌∷◌, ◌++◌, ◌+◌, ◌<◌, ◌∙◌, [], List, append-nil, append_assoc, ap, arith, drop, drop-cons, get_or, length, map, refl, subst, suc, sym, ℕ}
+use Rattle.std.proofs.Common.{◌≡◌, ◌++◌, ◌+◌, ◌<◌, ◌∙◌, [], List, append-nil, append_assoc, ap, arith, drop, drop-cons, get_or, length, map, refl, subst, suc, sym, ℕ}
 use Rattle.std.proofs.lemmas.List.{map-append, reverse-append}
 use Rattle.occ_term.specs.Processes.{Numbered}
 use Rattle.occ_term.specs.Terms.{then_term}

@@ -1,11 +1,10 @@
 -- Who is noted for channels.
-use Rattle.std.proofs.Common.{Bool, List, Option, None, Some, [], ◌∷◌, ◌+◌, ◌<◌, ◌≡◌, ◌≤◌, ◌∙◌, ◌⊎◌, ap, arith, false, inl, inr, length, map, refl, subst, suc, sym, true, zero, ℕ}
-use Rattle.std.specs.Prelude.{if◌then◌else◌, min, nat_le, nat_lt, option_map, replicate, slice_get, ◌&&◌, ◌||◌}
+use Rattle.std.proofs.Common.{Bool, List, Option, None, Some, [], ◌∷◌, ◌+◌, ◌<◌, ◌≡◌, ◌≤◌, ◌∙◌, ◌⊎◌, ap, arith, false, inl, inr, length, refl, subst, suc, sym, true, zero, ℕ}
+use Rattle.std.specs.Prelude.{if◌then◌else◌, min, nat_lt, option_map, replicate, slice_get, ◌&&◌, ◌||◌}
 use Rattle.std.proofs.lemmas.Bool.Decides.{nat_tests}
 use Rattle.occ_explore_walks.proofs.Lists.{same_or_other}
 use Rattle.occ_term.specs.Uses.{Numbers, Uses, empty_set}
-use Rattle.occ_usage.specs.Noted.{between, use_of, uses_in}
-use Rattle.occ_usage.specs.declared.noted.Use.{Use}
+use Rattle.occ_usage.specs.Noted.{between}
 use Rattle.occ_ends.specs.Ends.{MarkedIn, Marks, Using, first_with, flat, marked, noted_at, or_first, within}
 
 lt_or_le : (n e : ℕ) → (n < e) ⊎ (e ≤ n)

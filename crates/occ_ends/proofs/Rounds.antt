@@ -1,6 +1,6 @@
 -- Circles in the graph of who waits for whom.
-use Rattle.std.proofs.Common.{Bool, List, Option, None, Some, [], ◌∷◌, ◌++◌, ◌+◌, ◌<◌, ◌≡◌, ◌≤◌, ◌∙◌, ◌⊎◌, ap, arith, false, inl, inr, length, map, refl, subst, suc, sym, true, zero, ℕ}
-use Rattle.std.specs.Prelude.{All, Err, IfOk, Ok, Result, if◌then◌else◌, nat_lt, slice_get, ◌%◌, ◌^◌}
+use Rattle.std.proofs.Common.{List, Option, None, Some, [], ◌∷◌, ◌++◌, ◌+◌, ◌<◌, ◌≡◌, ◌≤◌, ◌∙◌, ◌⊎◌, ap, arith, false, inl, inr, length, map, refl, subst, suc, sym, true, zero, ℕ}
+use Rattle.std.specs.Prelude.{All, if◌then◌else◌, nat_lt, slice_get, ◌%◌}
 use Rattle.std.proofs.lemmas.Bool.Decides.{nat_tests}
 use Rattle.std.proofs.lemmas.List.{length-append, length-map}
 use Rattle.std.proofs.Math.Nat.{mod-eq_of_lt, mod_self}
@@ -10,9 +10,9 @@ use Rattle.occ_explore_walks.specs.declared.graph.Edge.{Edge}
 use Rattle.occ_explore_walks.specs.declared.graph.Fan.{Fan}
 use Rattle.occ_explore_walks.specs.Walks.{HasWalk, IsEdge, IsGraph, IsLongest, IsRound, IsWalk, choices_of, end_of}
 use Rattle.occ_explore_walks.proofs.Lists.{get_inside, get_some, get_there, one_some, push_cases, push_keeps, push_last}
-use Rattle.occ_ends.specs.Ends.{AreWaits, AreWithin, Circles, IsCircle, IsFanOf, IsRoot, edge_to, edges_to}
+use Rattle.occ_ends.specs.Ends.{AreWaits, AreWithin, Circles, IsCircle, IsFanOf, IsRing, IsRoot, edge_to, edges_to}
 
-lt_or_le : (n e : ℕ) → (n < e) ⊎ (e ≤ n)
+pub lt_or_le : (n e : ℕ) → (n < e) ⊎ (e ≤ n)
 lt_or_le zero zero = inr (omega arith)
 lt_or_le zero (suc e) = inl (omega arith)
 lt_or_le (suc n) zero = inr (omega arith)
@@ -270,20 +270,18 @@ root_next edges count r =
 
 -- ---- what is told
 
-pub if_ok : {A E : Type 0} {P Q : A → Type 0} → ((a : A) → P a → Q a) → (r : Result A E) → IfOk r P → IfOk r Q
-if_ok f (Ok a) h = f a h
-if_ok f (Err e) h = tt
-
 module _ {next : ℕ → Option ℕ} {below : ℕ} {fans : List Fan} (w : AreWaits next below below fans) where
   pub no_waits : (many : ℕ) → IsLongest fans 0 many → IsCircle next below []
-  no_waits many longest = record { waits = λ i m there. absurd cc; unless = λ e ms circles all. no_circle w many longest ms circles all }
+  no_waits many longest = record { waits = λ i m there. absurd cc; once = λ i j m there again. absurd cc; unless = λ e ms circles all. no_circle w many longest ms circles all }
 
-  pub some_waits : (way round : List Choice) → IsRound fans way round → IsCircle next below (map (λ c. c.which) round)
-  some_waits way round r = record { waits = found_circle w way round r; unless = λ e ms circles all. absurd (none e) }
-    where
-      none : map (λ c. c.which) round ≡ [] → ⊥
-      none e =
-          let many : length round ≡ 0 = sym (length-map round (λ c. c.which)) ∙ ap length e in
-          let back : length round ≡ length r.back = ap length r.round_is ∙ length-map r.back (λ x. x.choice) in
-          let some = r.some in
-          omega (arith, many, back, some)
+  pub some_circles : (way round : List Choice) → IsRound fans way round → (0 < length (map (λ c. c.which) round)) × Circles next (map (λ c. c.which) round)
+  some_circles way round r =
+      let many : length (map (λ c. c.which) round) ≡ length round = length-map round (λ c. c.which) in
+      let back : length round ≡ length r.back = ap length r.round_is ∙ length-map r.back (λ x. x.choice) in
+      let some = r.some in
+      (omega (arith, many, back, some), found_circle w way round r)
+
+-- what is told of some in a ring
+pub ring_is : (next : ℕ → Option ℕ) (below : ℕ) (ns : List ℕ) → IsRing next ns → IsCircle next below ns
+ring_is next below [] r = let some = r.some in absurd (omega (arith, some))
+ring_is next below (n ∷ ns) r = record { waits = r.waits; once = r.once; unless = λ e ms circles all. absurd cc }

@@ -1,6 +1,6 @@
 -- Which processes that are left may be at the ends of channels, and who waits for whom.
 -- Manual: the usage rules check list, for what a process may input from and output to. The rest is (own).
-use Rattle.std.specs.Prelude.{All, Bool, List, None, Option, Some, [], false, if◌then◌else◌, length, map, nat_lt, option_map, reverse, slice_get, true, ℕ, ◌%◌, ◌&&◌, ◌+◌, ◌++◌, ◌<◌, ◌≤◌, ◌∷◌, ◌≡◌}
+use Rattle.std.specs.Prelude.{All, Bool, List, None, Option, Some, [], false, if◌then◌else◌, length, map, nat_lt, option_map, reverse, slice_get, true, ℕ, ◌%◌, ◌&&◌, ◌+◌, ◌++◌, ◌<◌, ◌≤◌, ◌∷◌, ◌≡◌, ◌⊎◌}
 use Rattle.occ_term.specs.Processes.{Numbered, processes_of}
 use Rattle.occ_term.specs.Terms.{Term}
 use Rattle.occ_term.specs.Uses.{Numbers, Uses, uses_of}
@@ -34,7 +34,8 @@ noted_for p = record { number = p.number; uses = uses_in p.uses }
 
 -- ---- ends of channels
 
--- neither at its end nor waiting for its branches, which then stand for it
+-- whether it may still take a turn: it is not at its end, and neither halted nor at a fault, and doesn't wait for its branches, which
+-- then stand for it
 abbrev pub is_standing : Wait → Bool
 is_standing Ready = true
 is_standing (Took arm indices m) = true
@@ -42,9 +43,9 @@ is_standing (Offers c m) = true
 is_standing (Awaits c) = true
 is_standing (Chooses pri arms) = true
 is_standing (Joins ns) = false
-is_standing Halted = true
+is_standing Halted = false
 is_standing Done = false
-is_standing (Faulted e) = true
+is_standing (Faulted e) = false
 
 abbrev pub task_stands : Option (Option Task) → Bool
 task_stands None = false
@@ -111,9 +112,14 @@ next_noted ends = next_of (noted_at ends.readers.items) (noted_at ends.writers.i
 abbrev pub Circles : (ℕ → Option ℕ) → List ℕ → Type 0
 Circles next ns = (i m : ℕ) → slice_get ns i ≡ Some m → next m ≡ slice_get ns ((i + 1) % length ns)
 
--- A circle; none only where there is none, among processes whose number is below that.
+-- none of these stands twice
+abbrev pub IsOnce : List ℕ → Type 0
+IsOnce ns = (i j m : ℕ) → slice_get ns i ≡ Some m → slice_get ns j ≡ Some m → i ≡ j
+
+-- A circle, once round; none only where there is none, among processes whose number is below that.
 pub record IsCircle (next : ℕ → Option ℕ) (below : ℕ) (ns : List ℕ) : Type 0 where
   pub waits : Circles next ns
+  pub once : IsOnce ns
   pub unless : ns ≡ [] → (ms : List ℕ) → Circles next ms → All (λ m. m < below) ms → ms ≡ []
 
 -- ---- private contracts alone cite what follows
@@ -172,3 +178,18 @@ pub record AreWaits (next : ℕ → Option ℕ) (below count : ℕ) (fans : List
 pub record AreWithin (below count : ℕ) (fans : List Fan) : Type 0 where
   pub many : length fans ≡ count + 1
   pub within : (k : ℕ) (e : Edge) → IsEdge fans k e → e.to ≤ below
+
+-- ---- once round a circle
+
+-- the first of these comes again at this place, or not at all, which is then behind the last
+pub record IsAgain (ns : List ℕ) (place : ℕ) : Type 0 where
+  pub some : 0 < place
+  pub within : place ≤ length ns
+  pub first : (k : ℕ) → k < place → slice_get ns k ≡ slice_get ns 0 → k ≡ 0
+  pub again : (place ≡ length ns) ⊎ (slice_get ns place ≡ slice_get ns 0)
+
+-- some that stand in a circle, none twice
+pub record IsRing (next : ℕ → Option ℕ) (ns : List ℕ) : Type 0 where
+  pub some : 0 < length ns
+  pub waits : Circles next ns
+  pub once : IsOnce ns

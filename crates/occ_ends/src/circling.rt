@@ -1,9 +1,9 @@
 //! Circles of processes that wait for one another.
-ghost use Rattle.std.specs.Prelude.{◌≡◌, ◌<◌, ◌≤◌, IfOk, List, length, map, min, ℕ};
+ghost use Rattle.std.specs.Prelude.{◌≡◌, ◌<◌, ◌≤◌, IfOk, List, Option, length, map, min, ℕ};
 ghost use Rattle.occ_code.specs.Compiled.{Program};
 ghost use Rattle.occ_net_replay.specs.Replay.{Net};
 ghost use Rattle.occ_net_tables.specs.Holding.{Holds};
-ghost use Rattle.occ_ends.specs.Ends.{AreWaits, AreWithin, IsCircle, IsRoot, edge_to, edges_to, next_noted, noted_at, waits_for};
+ghost use Rattle.occ_ends.specs.Ends.{AreWaits, AreWithin, Circles, IsAgain, IsCircle, IsRing, IsRoot, edge_to, edges_to, next_noted, noted_at, waits_for};
 
 use crate::ends::Ends;
 use occ_code::Wait;
@@ -119,8 +119,35 @@ fn members(alloc: Global, round: &[Choice]) -> Result<Vec<u32>, AllocError>
     Ok(numbers)
 }
 
+/// Where the first of these comes again; behind the last where it doesn't.
+fn again(numbers: &[u32]) -> usize
+    requires { 0 < length numbers.now }
+    ensures { IsAgain numbers.now result }
+{
+    let first = numbers[0];
+    for place in 1..numbers.len() {
+        if numbers[place] == first {
+            return place;
+        }
+    }
+    numbers.len()
+}
+
+/// The circle that these stand in, once round, where some do.
+fn once_round(numbers: Vec<u32>) -> Vec<u32>
+    ensures { (next : ℕ → Option ℕ) → 0 < length numbers.items → Circles next numbers.items → IsRing next result.items }
+{
+    if numbers.is_empty() {
+        return numbers;
+    }
+    let place = again(numbers.as_slice());
+    let mut kept = numbers;
+    kept.truncate(place);
+    kept
+}
+
 /// Processes each of which waits for the one behind it, and the last one for the first: for it to input what it offers, or to
-/// output what it awaits. None where there are none, among the first `count` processes.
+/// output what it awaits; none of them twice. None where there are none, among the first `count` processes.
 ///
 /// # Errors
 ///
@@ -137,6 +164,9 @@ pub fn circle(
     let fans = graph(alloc, ends, tables, below)?;
     match &lasting(alloc, &fans)? {
         Lasting::Within(_) => Ok(Vec::new(alloc)),
-        Lasting::Forever { way: _, round } => members(alloc, round.as_slice()),
+        Lasting::Forever { way: _, round } => {
+            let numbers = members(alloc, round.as_slice())?;
+            Ok(once_round(numbers))
+        }
     }
 }

@@ -30,19 +30,17 @@ impl Drop for Ends {
     }
 }
 
-/// Whether a process that stands at this is neither at its end nor waits for its branches.
+/// Whether a process that stands at this may still take a turn, other than behind its branches.
 fn is_standing(wait: &Wait) -> bool
     ensures { result ≡ is_standing wait.now }
 {
     match wait {
-        Wait::Joins { .. } | Wait::Done => false,
+        Wait::Joins { .. } | Wait::Halted | Wait::Done | Wait::Faulted(_) => false,
         Wait::Ready
         | Wait::Took { .. }
         | Wait::Offers { .. }
         | Wait::Awaits { .. }
-        | Wait::Chooses { .. }
-        | Wait::Halted
-        | Wait::Faulted(_) => true,
+        | Wait::Chooses { .. } => true,
     }
 }
 

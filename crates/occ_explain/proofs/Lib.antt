@@ -1,1 +1,4 @@
+pub mod Ascii
 pub mod Behind
+pub mod Caused
+pub mod Nearby

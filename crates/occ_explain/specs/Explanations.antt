@@ -2,21 +2,22 @@
 -- Manual: nothing; this is (own).
 use Rattle.std.specs.Prelude.{Bool, List, [], codes, if◌then◌else◌, length, map, nat_lt, replicate, ℕ, ◌++◌, ◌-◌, ◌==◌, ◌||◌, ◌∷◌}
 use Rattle.std.specs.Fmt.{decimal}
+use Rattle.occ_files.specs.Names.{printed_name}
 
--- a byte that would move a terminal
-abbrev pub moves : ℕ → Bool
-moves b = nat_lt b 32 || b == 127
+-- a byte that would move a terminal, or is no ASCII
+abbrev pub is_hidden : ℕ → Bool
+is_hidden b = nat_lt b 32 || nat_lt 126 b
 
 -- in its place a question mark is shown
 abbrev pub shown_byte : ℕ → ℕ
-shown_byte b = if moves b then 63 else b
+shown_byte b = if is_hidden b then 63 else b
 
 abbrev pub shown : List ℕ → List ℕ
 shown bytes = map shown_byte bytes
 
 -- FILE:LINE:COLUMN
 abbrev pub place_text : (file : List ℕ) (line column : ℕ) → List ℕ
-place_text file line column = shown file ++ 58 ∷ decimal line ++ 58 ∷ decimal column
+place_text file line column = printed_name file ++ 58 ∷ decimal line ++ 58 ∷ decimal column
 
 -- the place, and what is wrong there
 abbrev pub first_line : (file : List ℕ) (line column : ℕ) (wrong : List ℕ) → List ℕ

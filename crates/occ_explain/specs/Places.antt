@@ -1,7 +1,9 @@
 -- Places in a text: lines and columns from 1 on, in bytes. The lines are physical ones, without their ends.
 -- Manual: nothing; this is (own).
-use Rattle.std.specs.Prelude.{◌≤◌, ◌-◌, ◌+◌, ℕ, zero, suc, List, [], ◌∷◌, length}
+use Rattle.std.specs.Prelude.{◌≤◌, ◌<◌, ◌-◌, ◌+◌, ◌⊎◌, ℕ, zero, suc, All, List, [], ◌∷◌, length}
 use Rattle.std.specs.Str.Lines.{lines}
+use Rattle.occ_text.specs.Lines.{LinesOf}
+use Rattle.occ_text.specs.Words.{LogicalLine, logical_line}
 
 -- the line behind so many others, and none where there are no more
 abbrev pub line_behind : ℕ → List (List ℕ) → List ℕ
@@ -20,3 +22,10 @@ pub record IsPlace (text : List ℕ) (line column : ℕ) : Type 0 where
   pub first_of_none : length text ≤ 0 → line ≤ 1
   pub column_from_one : 1 ≤ column
   pub in_line : column ≤ length (line_in text line) + 1
+
+abbrev pub number_of : LogicalLine → ℕ
+number_of (logical_line number level ws) = number
+
+-- No logical line of the text begins behind the first of these physical lines, up to the second one.
+abbrev pub IsNear : (text : List ℕ) (from to : ℕ) → Type 0
+IsNear text from to = (all : List LogicalLine) → LinesOf text all → All (λ l. (number_of l ≤ from) ⊎ (to < number_of l)) all

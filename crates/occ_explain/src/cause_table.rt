@@ -1,6 +1,6 @@
 //! The causes of refusals in `docs/language.md`. `tools/tables.py` writes this file.
 
-pub(crate) static CAUSES: [(u32, &str); 29] = [
+pub const CAUSES: [(u32, &str); 29] = [
     (1, "more than 1,048,576 bytes"),
     (
         2,

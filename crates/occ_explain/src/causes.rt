@@ -1,13 +1,34 @@
 //! The causes of refusals, as users read them.
+ghost use Rattle.std.specs.Prelude.{◌≡◌, ◌≤◌, length, map};
+ghost use Rattle.occ_explain.specs.Causes.{cause_in, cause_of};
 
 use crate::cause_table::CAUSES;
 
-/// The cause of a refusal by its number.
-pub(crate) fn cause_of(number: u32) -> &'static str {
-    for (one, cause) in CAUSES.as_slice() {
-        if *one == number {
-            return *cause;
+/// The cause beside a number.
+fn find(mut rows: &[(u32, &'static str)], number: u32) -> &'static str
+    ensures { result.now ≡ cause_in (map (λ row. (row.0, row.1.now)) rows.entry.now) number }
+{
+    while let [row, rest @ ..] = rows {
+        if row.0 == number {
+            return row.1;
         }
+        rows = rest;
     }
     "the text is refused"
+}
+
+#[tactic(auto, unfolding(crate::specs::Causes::cause_of))]
+fn listed(number: u32) -> &'static str
+    ensures { result.now ≡ cause_of number }
+{
+    find(&CAUSES, number)
+}
+
+/// The cause of a refusal by its number.
+#[tactic(auto, using(crate::proofs::Caused::cause_in_words))]
+pub(crate) fn cause_of(number: u32) -> &'static str
+    ensures value { result.now ≡ cause_of number }
+    ensures some { 1 ≤ length result.now }
+{
+    listed(number)
 }

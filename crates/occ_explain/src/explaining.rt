@@ -1,12 +1,14 @@
 //! Explanations of refusals.
-ghost use Rattle.std.specs.Prelude.{◌≡◌, ◌≤◌, IfOk, length};
+ghost use Rattle.std.specs.Prelude.{◌≡◌, ◌≤◌, IfOk, IsFalse, length, ℕ};
 ghost use Rattle.std.specs.Str.Lines.{lines};
-ghost use Rattle.occ_explain.specs.Places.{IsPlace, line_in};
+ghost use Rattle.occ_explain.specs.Causes.{cause_of, is_told_closer};
+ghost use Rattle.occ_explain.specs.Places.{IsNear, IsPlace, line_in};
 
-use crate::finding::finding_of;
+use crate::finding::{Spot, finding_of};
+use crate::logical::is_near;
 use crate::place::place_in;
 use crate::refusal::Refusal;
-use crate::scan::scan;
+use crate::scan::{Text, scan};
 use std::alloc::{AllocError, Global};
 
 /// Why a text is refused: where, what is wrong there, and how it is mended.
@@ -24,6 +26,39 @@ pub struct Explanation<'a> {
     pub hint: Vec<u8>,
 }
 
+/// The first word of a physical line, or its first byte where it has none.
+fn first_of(text: &Text<'_>, line: u32) -> Spot
+    ensures { result.line ≡ line }
+{
+    for word in &text.words {
+        if word.line == line {
+            return Spot {
+                line,
+                before: word.before,
+            };
+        }
+    }
+    Spot { line, before: 0 }
+}
+
+/// A place that was found, where it stands in the logical line that begins with the physical one of a refusal, or goes on there; the
+/// first word of that physical line, where it stands in none of these. A refusal of no line has any place.
+fn spot_in(
+    alloc: Global,
+    source: &[u8],
+    text: &Text<'_>,
+    line: u32,
+    spot: Spot,
+) -> Result<Spot, AllocError>
+    ensures reached { IfOk result (λ s. line ≤ s.line) }
+    ensures near { IfOk result (λ s. 1 ≤ line → IsNear source.now line s.line) }
+{
+    if line == 0 || spot.line >= line && is_near(alloc, source, line, spot.line)? {
+        return Ok(spot);
+    }
+    Ok(first_of(text, line))
+}
+
 /// Why a text is refused. It takes any text and any refusal: of a line that the text has not it tells the last one.
 ///
 /// # Errors
@@ -36,12 +71,15 @@ pub fn explain<'a>(
 ) -> Result<Explanation<'a>, AllocError>
     ensures within { IfOk result (λ e. IsPlace source.now e.line e.column) }
     ensures shown { IfOk result (λ e. e.source.now ≡ line_in source.now e.line) }
+    ensures near { IfOk result (λ e. 1 ≤ refusal.now.line → IsNear source.now refusal.now.line e.line) }
+    ensures cause { IfOk result (λ e. IsFalse (is_told_closer refusal.now.number) → e.wrong.items ≡ cause_of refusal.now.number) }
+    ensures some { IfOk result (λ e. 1 ≤ length e.wrong.items) }
     ensures reached { IfOk result (λ e. refusal.now.line ≤ length (lines source.now) → refusal.now.line ≤ e.line) }
 {
     let text = scan(alloc, source)?;
     let finding = finding_of(alloc, &text, refusal)?;
-    let line = finding.spot.line.max(refusal.line);
-    let place = place_in(source, line, finding.spot.before);
+    let spot = spot_in(alloc, source, &text, refusal.line, finding.spot)?;
+    let place = place_in(source, spot.line, spot.before);
     Ok(Explanation {
         line: place.line,
         column: place.column,

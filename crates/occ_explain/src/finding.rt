@@ -1,5 +1,8 @@
 //! What is found out about a refusal: a place, what is wrong there, and how it is mended.
 
+ghost use Rattle.std.specs.Prelude.{◌≡◌, ◌≤◌, ◌+◌, IfOk, IsFalse, length};
+ghost use Rattle.occ_explain.specs.Causes.{cause_of, is_told_closer};
+
 use crate::causes::cause_of;
 use crate::class::Class;
 use crate::context::{line_index, start_of};
@@ -61,7 +64,10 @@ pub(crate) fn finding_of(
     alloc: Global,
     text: &Text<'_>,
     refusal: &Refusal<'_>,
-) -> Result<Finding, AllocError> {
+) -> Result<Finding, AllocError>
+    ensures cause { IfOk result (λ f. IsFalse (is_told_closer refusal.now.number) → f.wrong.items ≡ cause_of refusal.now.number) }
+    ensures some { IfOk result (λ f. 1 ≤ length f.wrong.items) }
+{
     let Some(index) = line_index(text, refusal) else {
         return plain(
             alloc,
@@ -89,7 +95,10 @@ pub(crate) fn plain(
     spot: Spot,
     number: u32,
     hint: &[u8],
-) -> Result<Finding, AllocError> {
+) -> Result<Finding, AllocError>
+    ensures cause { IfOk result (λ f. f.wrong.items ≡ cause_of number) }
+    ensures some { IfOk result (λ f. 1 ≤ length f.wrong.items) }
+{
     let wrong = Vec::from_slice(alloc, cause_of(number).as_bytes())?;
     let hint = Vec::from_slice(alloc, hint)?;
     Ok(Finding { spot, wrong, hint })
@@ -103,7 +112,9 @@ pub(crate) fn told_as(
     word: &[u8],
     after: &str,
     hint: &[u8],
-) -> Result<Finding, AllocError> {
+) -> Result<Finding, AllocError>
+    ensures { IfOk result (λ f. length before.now + length after.now ≤ length f.wrong.items) }
+{
     let wrong = between(alloc, before, word, after)?;
     let hint = Vec::from_slice(alloc, hint)?;
     Ok(Finding { spot, wrong, hint })
@@ -123,7 +134,9 @@ fn semicolon_before(words: &[Word<'_>], at: usize) -> Option<usize> {
 }
 
 /// A line that leaves the grammar.
-fn unexpected(alloc: Global, text: &Text<'_>, index: usize) -> Result<Finding, AllocError> {
+fn unexpected(alloc: Global, text: &Text<'_>, index: usize) -> Result<Finding, AllocError>
+    ensures { IfOk result (λ f. 1 ≤ length f.wrong.items) }
+{
     let words = text.words_at(index);
     let start = start_of(text, index);
     let Some(mut leaving) = first_leaving(alloc, words, start)? else {
@@ -208,7 +221,10 @@ fn typed_hint(words: &[Word<'_>], number: u32) -> &'static str {
 }
 
 /// A refusal of types, kinds, constants or actuals.
-fn typed(alloc: Global, text: &Text<'_>, index: usize, number: u32) -> Result<Finding, AllocError> {
+fn typed(alloc: Global, text: &Text<'_>, index: usize, number: u32) -> Result<Finding, AllocError>
+    ensures cause { IfOk result (λ f. f.wrong.items ≡ cause_of number) }
+    ensures some { IfOk result (λ f. 1 ≤ length f.wrong.items) }
+{
     let words = text.words_at(index);
     let spot = spot_at(words, typed_at(words, number));
     let hint = typed_hint(words, number);

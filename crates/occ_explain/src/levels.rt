@@ -1,4 +1,5 @@
 //! Lines at a level where none may stand, and texts that end too early.
+ghost use Rattle.std.specs.Prelude.{◌≤◌, IfOk, length};
 
 use crate::class::Class;
 use crate::context::{parent_of, start_of, takes_variants};
@@ -62,7 +63,9 @@ pub(crate) fn level_finding(
     alloc: Global,
     text: &Text<'_>,
     index: usize,
-) -> Result<Finding, AllocError> {
+) -> Result<Finding, AllocError>
+    ensures { IfOk result (λ f. 1 ≤ length f.wrong.items) }
+{
     let spot = spot_at(text.words_at(index), 0);
     if index == 0 {
         return told_as(
@@ -102,7 +105,9 @@ fn too_deep(
     index: usize,
     last: usize,
     spot: Spot,
-) -> Result<Finding, AllocError> {
+) -> Result<Finding, AllocError>
+    ensures { IfOk result (λ f. 1 ≤ length f.wrong.items) }
+{
     let hint = if class_at(text.words_at(index), 0) == Class::Colon {
         "the colon stands under the first letter of its PROC"
     } else {
@@ -124,7 +129,9 @@ fn wants_process(
     text: &Text<'_>,
     last: usize,
     spot: Spot,
-) -> Result<Finding, AllocError> {
+) -> Result<Finding, AllocError>
+    ensures { IfOk result (λ f. 1 ≤ length f.wrong.items) }
+{
     let number = text.number_at(last);
     let line = format!(in alloc; "{number}")?;
     told_as(
@@ -144,7 +151,9 @@ fn beside(
     index: usize,
     last: usize,
     spot: Spot,
-) -> Result<Finding, AllocError> {
+) -> Result<Finding, AllocError>
+    ensures { IfOk result (λ f. 1 ≤ length f.wrong.items) }
+{
     let is_colon = class_at(text.words_at(index), 0) == Class::Colon;
     let hint = match class_at(text.words_at(last), 0) {
         _ if is_colon => "the colon stands under the first letter of its PROC",
@@ -172,7 +181,9 @@ pub(crate) fn missing_finding(
     alloc: Global,
     text: &Text<'_>,
     index: usize,
-) -> Result<Finding, AllocError> {
+) -> Result<Finding, AllocError>
+    ensures { IfOk result (λ f. 1 ≤ length f.wrong.items) }
+{
     let words = text.words_at(index);
     let spot = spot_at(words, words.len());
     let (wrong, hint) = match lines_under(text, index) {

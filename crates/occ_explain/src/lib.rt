@@ -12,6 +12,7 @@ mod fronts;
 mod grammar;
 mod hints;
 mod levels;
+mod logical;
 mod names;
 mod odd;
 mod place;

@@ -1,4 +1,5 @@
 //! Names that stand for nothing, stand twice, or are used by two branches.
+ghost use Rattle.std.specs.Prelude.{◌≤◌, IfOk, length};
 
 use crate::causes::cause_of;
 use crate::class::{Class, class_of};
@@ -40,27 +41,63 @@ pub(crate) fn name_finding(
     text: &Text<'_>,
     index: usize,
     refusal: &Refusal<'_>,
-) -> Result<Finding, AllocError> {
+) -> Result<Finding, AllocError>
+    ensures { IfOk result (λ f. 1 ≤ length f.wrong.items) }
+{
     let words = text.words_at(index);
     let name = base(refusal.name);
     let first = name_from(words, 0, name);
     match refusal.number {
         30 => unknown(alloc, text, index, first, name),
-        31 => {
-            let second = name_from(words, first.saturating_add(1), name);
-            let at = if second < words.len() { second } else { first };
-            let hint = b"each name of a list stands once in it";
-            told_as(
-                alloc,
-                spot_at(words, at),
-                "`",
-                refusal.name,
-                "` stands twice",
-                hint,
-            )
-        }
+        31 => twice(alloc, words, refusal.name),
         number => shared(alloc, text, index, number, first, refusal.name),
     }
+}
+
+/// The place of a word, from a place on; the number of words where it is none of them.
+fn word_from(words: &[Word<'_>], from: usize, bytes: &[u8]) -> usize {
+    for i in from..words.len() {
+        if words[i].bytes == bytes {
+            return i;
+        }
+    }
+    words.len()
+}
+
+/// Whether a constant is told in place of a name.
+fn is_constant(name: &[u8]) -> bool {
+    match name {
+        [first, ..] => *first == b'-' || first.is_ascii_digit(),
+        [] => false,
+    }
+}
+
+/// A name that stands twice in a list, or a constant that does in a CASE, which may be written otherwise than it is told.
+fn twice(alloc: Global, words: &[Word<'_>], name: &[u8]) -> Result<Finding, AllocError>
+    ensures { IfOk result (λ f. 1 ≤ length f.wrong.items) }
+{
+    let first = word_from(words, 0, name);
+    let second = word_from(words, first.saturating_add(1), name);
+    let at = if second < words.len() {
+        second
+    } else if first < words.len() {
+        first
+    } else {
+        0
+    };
+    let hint = if is_constant(name) {
+        "each constant stands once in a CASE, however it is written"
+    } else {
+        "each name of a list stands once in it"
+    };
+    told_as(
+        alloc,
+        spot_at(words, at),
+        "`",
+        name,
+        "` stands twice",
+        hint.as_bytes(),
+    )
 }
 
 /// Whether two names differ in capitals alone.
@@ -111,7 +148,9 @@ fn unknown(
     index: usize,
     at: usize,
     name: &[u8],
-) -> Result<Finding, AllocError> {
+) -> Result<Finding, AllocError>
+    ensures { IfOk result (λ f. 1 ≤ length f.wrong.items) }
+{
     let words = text.words_at(index);
     let hint = unknown_hint(
         alloc,
@@ -229,6 +268,25 @@ fn elsewhere(text: &Text<'_>, par: usize, branch: usize, name: &[u8]) -> Option<
     None
 }
 
+/// What is told of the other use of a name, which the line has or hasn't: the line of another branch, or the calls that hand it on.
+fn use_hint(
+    alloc: Global,
+    text: &Text<'_>,
+    index: usize,
+    is_there: bool,
+    name: &[u8],
+) -> Result<Vec<u8>, AllocError> {
+    if !is_there {
+        let head = b"it has another name there, and is handed on in line ";
+        return handing_calls(alloc, text, head, name);
+    }
+    let hint = other_use(alloc, text, index, name)?;
+    if !hint.is_empty() {
+        return Ok(hint);
+    }
+    handing_calls(alloc, text, b"it is handed on in line ", name)
+}
+
 /// A variable or a channel's end that two branches use.
 fn shared(
     alloc: Global,
@@ -237,14 +295,12 @@ fn shared(
     number: u32,
     at: usize,
     name: &[u8],
-) -> Result<Finding, AllocError> {
+) -> Result<Finding, AllocError>
+    ensures { IfOk result (λ f. 1 ≤ length f.wrong.items) }
+{
     let words = text.words_at(index);
     let spot = spot_at(words, at);
-    let mut hint = if at < words.len() {
-        other_use(alloc, text, index, base(name))?
-    } else {
-        handing_calls(alloc, text, base(name))?
-    };
+    let mut hint = use_hint(alloc, text, index, at < words.len(), base(name))?;
     if base(name).len() < name.len() {
         hint.extend_from_slice(b"; under a subscript that is no constant the whole array counts")?;
     }
@@ -265,18 +321,19 @@ fn hands_on(words: &[Word<'_>], name: &[u8]) -> bool {
         && name_from(words, 1, name) < words.len()
 }
 
-/// The calls that hand a name on to PROCs, in whose bodies it has another one; nothing where there are none.
-fn handing_calls(alloc: Global, text: &Text<'_>, name: &[u8]) -> Result<Vec<u8>, AllocError> {
+/// The calls that hand a name on to PROCs, behind this; nothing where there are none.
+fn handing_calls(
+    alloc: Global,
+    text: &Text<'_>,
+    first: &[u8],
+    name: &[u8],
+) -> Result<Vec<u8>, AllocError> {
     let mut told = Vec::new(alloc);
     let mut calls: usize = 0;
     for i in 0..text.lines.len() {
         let words = text.words_at(i);
         if calls < MOST_CALLS && hands_on(words, name) {
-            let head: &[u8] = if calls == 0 {
-                b"it has another name there, and is handed on in line "
-            } else {
-                b", in line "
-            };
+            let head: &[u8] = if calls == 0 { first } else { b", in line " };
             tell_call(alloc, &mut told, head, text.number_at(i), words)?;
             calls = calls.saturating_add(1);
         }

@@ -1,4 +1,5 @@
 //! Bytes and literals that stand for nothing.
+ghost use Rattle.std.specs.Prelude.{◌≤◌, IfOk, length};
 
 use crate::class::Class;
 use crate::finding::{Finding, plain, spot_at, told_as};
@@ -85,7 +86,9 @@ pub(crate) fn odd_finding(
     alloc: Global,
     words: &[Word<'_>],
     number: u32,
-) -> Result<Finding, AllocError> {
+) -> Result<Finding, AllocError>
+    ensures { IfOk result (λ f. 1 ≤ length f.wrong.items) }
+{
     let at = first_odd(words);
     let spot = spot_at(words, at);
     let Some(word) = words.get(at) else {

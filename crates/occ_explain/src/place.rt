@@ -46,6 +46,7 @@ pub(crate) fn first_line(text: &[u8]) -> (&[u8], &[u8])
 pub(crate) fn place_in(text: &[u8], line: u32, before: usize) -> Place<'_>
     ensures within { IsPlace text.now result.line result.column }
     ensures shown { result.shown.now ≡ line_in text.now result.line }
+    ensures at_most { (n : ℕ) → 1 ≤ n → line ≤ n → result.line ≤ n }
     ensures reached { (n : ℕ) → n ≤ line → n ≤ length (lines text.now) → n ≤ result.line }
 {
     if text.is_empty() {

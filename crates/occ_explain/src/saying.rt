@@ -1,5 +1,7 @@
 //! What is told of a place where a line leaves the grammar.
 
+ghost use Rattle.std.specs.Prelude.{◌≤◌, ◌+◌, IfOk, length};
+
 use crate::class::Class;
 use crate::grammar::Part;
 use crate::scan::Word;
@@ -139,7 +141,9 @@ pub(crate) fn between(
     before: &str,
     word: &[u8],
     after: &str,
-) -> Result<Vec<u8>, AllocError> {
+) -> Result<Vec<u8>, AllocError>
+    ensures { IfOk result (λ v. length before.now + length after.now ≤ length v.items) }
+{
     let mut all = Vec::from_slice(alloc, before.as_bytes())?;
     all.extend_from_slice(told(word))?;
     all.extend_from_slice(after.as_bytes())?;
@@ -151,7 +155,9 @@ pub(crate) fn leaving_text(
     alloc: Global,
     words: &[Word<'_>],
     leaving: &Leaving,
-) -> Result<Vec<u8>, AllocError> {
+) -> Result<Vec<u8>, AllocError>
+    ensures { IfOk result (λ v. 1 ≤ length v.items) }
+{
     let Some(word) = words.get(leaving.at) else {
         let wanted = leaving.wanted.map_or("more", |part| wanted_text(part));
         return between(

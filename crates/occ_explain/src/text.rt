@@ -1,21 +1,24 @@
 //! How an explanation is written.
-ghost use Rattle.std.specs.Prelude.{◌≡◌, ◌≤◌, ◌++◌, IfOk, OnOk, replicate};
+ghost use Rattle.std.specs.Prelude.{◌≡◌, ◌≤◌, ◌++◌, IfOk, OnOk, drop, length, replicate};
+ghost use Rattle.std.specs.Str.{IsAscii};
+ghost use Rattle.occ_files.specs.Names.{printed_name};
 ghost use Rattle.occ_explain.specs.Explanations.{caret_line, explained_text, first_line, hint_line, shown, shown_byte, source_line};
 
 use crate::explaining::Explanation;
+use occ_files::printed_name;
 use std::alloc::{AllocError, Global};
 
 fn shown_byte(byte: u8) -> u8
     ensures { result ≡ shown_byte byte }
 {
-    if byte < b' ' || byte == 127 {
+    if byte < b' ' || byte > b'~' {
         b'?'
     } else {
         byte
     }
 }
 
-/// The bytes, and a question mark for each that would move a terminal.
+/// The bytes, and a question mark for each that would move a terminal or is no ASCII.
 fn shown(alloc: Global, bytes: &[u8]) -> Result<Vec<u8>, AllocError>
     ensures { IfOk result (λ v. v.items ≡ shown bytes.now) }
 {
@@ -40,7 +43,8 @@ fn write_first(
 ) -> Result<(), AllocError>
     ensures { OnOk result (out.new.items ≡ out.old.items ++ first_line file.now line column wrong.now) }
 {
-    write_shown(alloc, out, file)?;
+    let name = printed_name(alloc, file)?;
+    out.extend_from_slice(name.as_slice())?;
     let place = format!(in alloc; ":{line}:{column}: ")?;
     out.extend_from_slice(place.as_bytes())?;
     write_shown(alloc, out, wrong)?;
@@ -93,18 +97,20 @@ fn write_hint(alloc: Global, out: &mut Vec<u8>, hint: &[u8]) -> Result<(), Alloc
 }
 
 /// An explanation as it is printed: `FILE:LINE:COLUMN: what is wrong`, the line behind its number, a caret under the
-/// column, and the hint where there is one. Bytes that would move a terminal are shown as question marks.
+/// column, and the hint where there is one. A byte that would move a terminal, or is no ASCII, is shown as a question mark; the name
+/// of the file is printed as all names are.
 ///
 /// # Errors
 ///
 /// A refused growth.
-#[tactic(auto, unfolding(crate::specs::Explanations::explained_text))]
+#[tactic(auto, unfolding(crate::specs::Explanations::explained_text), using(crate::proofs::Ascii::explained_is_ascii))]
 pub fn explained(
     alloc: Global,
     file: &[u8],
     explanation: &Explanation<'_>,
 ) -> Result<Vec<u8>, AllocError>
-    ensures { let e = explanation.now in IfOk result (λ v. v.items ≡ explained_text file.now e.line e.column e.source.now e.wrong.items e.hint.items) }
+    ensures ascii { IfOk result (λ v. IsAscii (drop (length (printed_name file.now)) v.items)) }
+    ensures written { let e = explanation.now in IfOk result (λ v. v.items ≡ explained_text file.now e.line e.column e.source.now e.wrong.items e.hint.items) }
 {
     let (line, column) = (explanation.line, explanation.column);
     let mut out = Vec::new(alloc);

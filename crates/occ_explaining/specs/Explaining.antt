@@ -1,6 +1,6 @@
 -- What is told behind the line of a refusal, and behind the ending of a run.
 -- Manual: nothing; this is (own).
-use Rattle.std.specs.Prelude.{List, None, Option, Some, [], count_by, length, min, suc, zero, ℕ, ◌+◌, ◌++◌, ◌==◌, ◌∷◌, ◌≡◌, ◌≤◌}
+use Rattle.std.specs.Prelude.{IsFalse, List, None, Option, Some, [], length, min, suc, zero, ℕ, ◌++◌, ◌∷◌, ◌≡◌, ◌≤◌}
 use Rattle.std.specs.Str.Lines.{lines}
 use Rattle.occ_code.specs.Compiled.{Program}
 use Rattle.occ_net_replay.specs.declared.choice.Choice.{Choice}
@@ -9,13 +9,16 @@ use Rattle.occ_play.specs.declared.fault.PlayFault.TheVariants as plays
 use Rattle.occ_play.specs.declared.playing.Options.{Options}
 use Rattle.occ_play.specs.Playing.{IsTextsCode, Unfolds}
 use Rattle.occ_term.specs.UnfoldedProgram.{UnfoldedProgram, meaning}
+use Rattle.occ_text.specs.Lines.{LinesOf}
+use Rattle.occ_text.specs.Words.{LogicalLine}
 use Rattle.occ_text.specs.declared.fault.TextFault.TheVariants as texts
 use Rattle.occ_tree_grammar.specs.declared.fault.ParseFault.TheVariants as parses
 use Rattle.occ_check_names.specs.declared.fault.CheckFault.TheVariants as checks
 use Rattle.occ_usage.specs.declared.checked.UsageFault.TheVariants as usages
 use Rattle.occ_code.specs.declared.compiler.code.CodeFault.TheVariants as codings
 use Rattle.occ_explain.specs.declared.refusal.Refusal.{Refusal}
-use Rattle.occ_explain.specs.Places.{IsPlace, line_in}
+use Rattle.occ_explain.specs.Causes.{cause_of, is_told_closer}
+use Rattle.occ_explain.specs.Places.{IsNear, IsPlace, line_in}
 use Rattle.occ_explain.specs.Explanations.{explained_text}
 use Rattle.occ_chart.specs.declared.part.Part.{Part}
 use Rattle.occ_charting.specs.Charting.{IsRunChart}
@@ -73,33 +76,35 @@ refusal_in (plays.Write n) = None
 refusal_in (plays.Run f) = None
 refusal_in (plays.Memory e) = None
 
--- An explanation of a refusal: a place of the text, not above the line that the refusal names, with the line that stands there.
-pub record IsExplained (source file : List ℕ) (named : ℕ) (bytes : List ℕ) : Type 0 where
+-- An explanation of a refusal of this number: a place of the text, not above the line that the refusal names, with no logical line begun
+-- between, and with the line that stands there; and some words, which are the cause where nothing is told closer.
+pub record IsExplained (source file : List ℕ) (number named : ℕ) (bytes : List ℕ) : Type 0 where
   pub line : ℕ
   pub column : ℕ
   pub wrong : List ℕ
   pub hint : List ℕ
   pub within : IsPlace source line column
   pub reached : named ≤ length (lines source) → named ≤ line
+  pub near : 1 ≤ named → IsNear source named line
+  pub cause : IsFalse (is_told_closer number) → wrong ≡ cause_of number
+  pub some : 1 ≤ length wrong
   pub is : bytes ≡ explained_text file line column (line_in source line) wrong hint
 
 -- What is told of a fault: an explanation of each refusal of a text, and nothing of all else.
 abbrev pub Tells : (source file : List ℕ) → Option Numbered → Option (List ℕ) → Type 0
 Tells source file None told = told ≡ None
 Tells source file (Some refusal) None = Some refusal ≡ None
-Tells source file (Some refusal) (Some bytes) = IsExplained source file refusal.1 bytes
-
--- how many lines a text has: a line feed more than stand in it
-abbrev pub lines_in : List ℕ → ℕ
-lines_in source = count_by (λ b. b == 10) source + 1
+Tells source file (Some refusal) (Some bytes) = IsExplained source file refusal.0 refusal.1 bytes
 
 -- The report of the run of a source by these choices, by the code that it has for turns of these options. What it tells of places
--- fits that code and the lines of the source; who is at the ends of channels is told by what the program of the source uses.
+-- fits that code and the logical lines of the source; who is at the ends of channels is told by what the program of the source uses.
 pub record ReportsOn (options : Options) (source keyboard : List ℕ) (list : List Choice) (bytes : List ℕ) : Type 0 where
   pub program : Program
   pub code : IsTextsCode options source program
+  pub read : List LogicalLine
+  pub reads : LinesOf source read
   pub known : List Known
-  pub fits : Fits program (lines_in source) known
+  pub fits : Fits program read known
   pub unfolded : UnfoldedProgram
   pub unfolds : Unfolds source unfolded
   pub report : IsReport (meaning unfolded) program keyboard list known bytes
@@ -109,13 +114,15 @@ abbrev pub first_names : List Known → ℕ → List (List ℕ)
 first_names known zero = []
 first_names known (suc n) = first_names known n ++ name_of known n ∷ []
 
--- The chart of the run of a source by these choices, whose columns have names that fit the code and the lines of the source, and at
--- whose foot stand processes that wait in a circle, where there are some.
+-- The chart of the run of a source by these choices, whose columns have the names of a table that fits the code and the lines of the
+-- source, and at whose foot stand processes that wait in a circle, where there are some.
 pub record IsNamedChart (options : Options) (source keyboard : List ℕ) (list : List Choice) (part : Part) (bytes : List ℕ) : Type 0 where
   pub program : Program
   pub code : IsTextsCode options source program
+  pub read : List LogicalLine
+  pub reads : LinesOf source read
   pub known : List Known
-  pub fits : Fits program (lines_in source) known
+  pub fits : Fits program read known
   pub names : List (List ℕ)
   pub are : names ≡ first_names known (min (length program.bodies) 4294967295)
   pub unfolded : UnfoldedProgram
@@ -128,6 +135,8 @@ pub record IsNamedChart (options : Options) (source keyboard : List ℕ) (list :
 pub record StepsOf (options : Options) (source keyboard : List ℕ) (list : List Choice) (bytes : List ℕ) : Type 0 where
   pub program : Program
   pub code : IsTextsCode options source program
+  pub read : List LogicalLine
+  pub reads : LinesOf source read
   pub known : List Known
-  pub fits : Fits program (lines_in source) known
+  pub fits : Fits program read known
   pub steps : IsSteps known program keyboard list bytes

@@ -4,7 +4,7 @@ ghost use Rattle.occ_choices.specs.Plans.{choices_of};
 ghost use Rattle.occ_explaining.specs.Explaining.{IsNamedChart, first_names};
 ghost use Rattle.occ_play.specs.Playing.{Refuses};
 
-use crate::reported::{lines_in, tree_of, unfolded_of};
+use crate::reported::{lines_of, tree_of, unfolded_of};
 use occ_charting::{Part, chart};
 use occ_choices::Plan;
 use occ_ends::process_uses;
@@ -35,8 +35,10 @@ pub fn named_chart(
     ensures refused { IfErr result (Refuses options.now source.now) }
 {
     let code = code_of(options, alloc, source)?;
+    let lines = lines_of(alloc, source)?;
     let tree = tree_of(alloc, source)?;
-    let places = places_of(alloc, &tree, &code, lines_in(source))?;
+    let read = lines.lines.as_slice();
+    let places = places_of(alloc, &tree, &code, read)?;
     let unfolded = unfolded_of(alloc, source)?;
     let uses = process_uses(alloc, unfolded.term())?;
     let circle = circle_of(alloc, &code, uses.as_slice(), keyboard, plan)?;

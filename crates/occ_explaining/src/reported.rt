@@ -2,7 +2,9 @@
 ghost use Rattle.std.specs.Prelude.{◌≡◌, IfOk, IfErr};
 ghost use Rattle.occ_choices.specs.Plans.{choices_of};
 ghost use Rattle.occ_play.specs.Playing.{Refuses, RefusesText, Unfolds};
-ghost use Rattle.occ_explaining.specs.Explaining.{ReportsOn, lines_in};
+ghost use Rattle.occ_text.specs.Lines.{LinesOf};
+ghost use Rattle.occ_text.specs.Words.{logical_lines};
+ghost use Rattle.occ_explaining.specs.Explaining.{ReportsOn};
 
 use occ_check::unfold;
 use occ_choices::Plan;
@@ -12,7 +14,7 @@ use occ_places::places_of;
 use occ_play::{Options, PlayFault, code_of};
 use occ_report::report;
 use occ_term::Unfolded;
-use occ_text::read_lines;
+use occ_text::{Source, read_lines};
 use occ_tree::parse;
 use occ_tree_grammar::tree::process::Program;
 use std::alloc::{AllocError, Global};
@@ -35,13 +37,24 @@ pub fn report_of(
     ensures refused { IfErr result (Refuses options.now source.now) }
 {
     let code = code_of(options, alloc, source)?;
+    let lines = lines_of(alloc, source)?;
     let tree = tree_of(alloc, source)?;
-    let places = places_of(alloc, &tree, &code, lines_in(source))?;
+    let read = lines.lines.as_slice();
+    let places = places_of(alloc, &tree, &code, read)?;
     let unfolded = unfolded_of(alloc, source)?;
     let uses = process_uses(alloc, unfolded.term())?;
     let plan = plan_of(alloc, choices)?;
     let bytes = report(alloc, &code, uses.as_slice(), keyboard, &plan, &places)?;
     Ok(bytes)
+}
+
+/// The logical lines of a source.
+pub(crate) fn lines_of(alloc: Global, source: &[u8]) -> Result<Source, PlayFault>
+    ensures found { IfOk result (λ s. LinesOf source.now (logical_lines s.lines.items)) }
+    ensures refused { IfErr result (RefusesText source.now) }
+{
+    let lines = read_lines(alloc, source)?;
+    Ok(lines)
 }
 
 /// The tree of a source.
@@ -63,13 +76,6 @@ pub(crate) fn unfolded_of(alloc: Global, source: &[u8]) -> Result<Unfolded, Play
     let unfolded = unfold(alloc, &tree)?;
     unfolded.well_formed();
     Ok(unfolded)
-}
-
-/// How many lines a source has.
-pub(crate) fn lines_in(source: &[u8]) -> usize
-    ensures { result ≡ lines_in source.now }
-{
-    source.iter().filter(|byte| **byte == b'\n').count() + 1
 }
 
 /// The plan of these choices.

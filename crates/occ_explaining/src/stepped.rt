@@ -3,14 +3,14 @@ ghost use Rattle.std.specs.Prelude.{IfErr, IfOk};
 ghost use Rattle.occ_explaining.specs.Explaining.{StepsOf};
 ghost use Rattle.occ_play.specs.Playing.{Refuses};
 
-use crate::reported::{lines_in, tree_of};
+use crate::reported::{lines_of, tree_of};
 use occ_net_replay::Choice;
 use occ_places::places_of;
 use occ_play::{Options, PlayFault, code_of};
 use occ_steps::steps;
 use std::alloc::Global;
 
-/// The line of each turn of the run of a source by these choices, with the lines of the source at which processes then stand.
+/// The line of each turn of the run of a source by these choices, with the lines of the source at which turns stop.
 ///
 /// # Errors
 ///
@@ -27,8 +27,10 @@ pub fn steps_of(
     ensures refused { IfErr result (Refuses options.now source.now) }
 {
     let code = code_of(options, alloc, source)?;
+    let lines = lines_of(alloc, source)?;
     let tree = tree_of(alloc, source)?;
-    let places = places_of(alloc, &tree, &code, lines_in(source))?;
+    let read = lines.lines.as_slice();
+    let places = places_of(alloc, &tree, &code, read)?;
     let bytes = steps(alloc, &code, &places, keyboard, choices)?;
     Ok(bytes)
 }

@@ -10,5 +10,5 @@ mod strings;
 
 pub use exploring::{explore_in, status_of_search};
 pub use lines::{MOST_ANSWERS, exploration_text};
-pub use occ_explore::{Answer, Asked, Exploration, Lasting};
+pub use occ_explore::{Answer, Asked, Exploration, Lasting, Progress, Untold};
 pub use only::{only_answer_in, only_text, status_of_only};

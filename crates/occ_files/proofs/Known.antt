@@ -48,5 +48,5 @@ all-bytes (Some x) (Some y) bs most h e few =
 
 -- a fault told of the rest is told of the whole
 pub Tells-after : {R : Type 0} (first old new : CountedReader R) (fault : InputFault) → failures_of first ≤ failures_of old → breaks_of old ≡ breaks_of first → Tells old new fault → Tells first new fault
-Tells-after first old new Read counted unbroken h = omega (arith, counted, h)
+Tells-after first old new (Read reason) counted unbroken h = let more = h.0 in (omega (arith, counted, more), h.1)
 Tells-after first old new Memory counted unbroken h = h ∙ unbroken

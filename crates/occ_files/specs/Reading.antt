@@ -5,6 +5,7 @@ use Rattle.std.specs.Io.KnownBytes.{Consumes}
 use Rattle.occ_files.specs.declared.reader.CountedReader.{CountedReader}
 use Rattle.occ_files.specs.declared.fault.InputFault.{InputFault}
 use Rattle.occ_files.specs.declared.fault.InputFault.TheVariants.{Read, Memory}
+use Rattle.occ_files.specs.declared.reason.Reason.{Reason}
 
 -- how many reads answered an error
 abbrev pub failures_of : {R : Type 0} → CountedReader R → ℕ
@@ -22,9 +23,13 @@ breaks_of c = failures_of c - interruptions_of c
 abbrev pub reader_of : {R : Type 0} → CountedReader R → R
 reader_of c = c.reader
 
--- a failed read is told only where one failed, and want of memory only where none did but those that were interrupted
+-- why the last of them failed
+abbrev pub reason_kept : {R : Type 0} → CountedReader R → Reason
+reason_kept c = c.reason
+
+-- a failed read is told only where one failed, with the reason of the last one, and want of memory only where none did but those that were interrupted
 abbrev pub Tells : {R : Type 0} → CountedReader R → CountedReader R → InputFault → Type 0
-Tells old new Read = failures_of old < failures_of new
+Tells old new (Read reason) = (failures_of old < failures_of new) × (reason ≡ reason_kept new)
 Tells old new Memory = breaks_of new ≡ breaks_of old
 
 -- ---- what the code collects; private contracts alone cite it

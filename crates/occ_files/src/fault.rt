@@ -2,15 +2,16 @@
 ghost use Rattle.std.specs.Prelude.{◌≡◌};
 ghost use Rattle.occ_files.specs.declared.fault.InputFault.TheVariants.{Memory};
 
+use crate::reason::Reason;
 use std::alloc::AllocError;
 use thiserror::Error;
 
 /// Why an input was not read.
 #[derive(Clone, Copy, Debug, Error, PartialEq)]
 pub enum InputFault {
-    /// A read failed. Its number is 92.
+    /// A read failed, for this reason. Its number is 92.
     #[error("read failed")]
-    Read,
+    Read(Reason),
     /// Memory ran out. Its number is 97.
     #[error("memory")]
     Memory,

@@ -27,12 +27,12 @@ Refuses n net s (Over ending) = ending_of n.program.errors net ≡ Some ending
 Refuses n net s (Stale number turns) = (ending_of n.program.errors net ≡ None) × (IsOwn n net s → ⊥) × (number ≡ s.before.number) × (turns ≡ turns_at net.tasks number)
 Refuses n net s Memory = (ending_of n.program.errors net ≡ None) × IsOwn n net s
 
--- ---- private contracts alone cite what follows
-
 -- the network goes on, and the turn is of its own
 pub record TakesIn (n : Past) (net : Net) (s : Taken) : Type 0 where
   pub going : ending_of n.program.errors net ≡ None
   pub own : IsOwn n net s
+
+-- ---- private contracts alone cite what follows
 
 -- the number is one of these
 pub record IsAmong (numbers : List ℕ) (number : ℕ) : Type 0 where

@@ -45,30 +45,6 @@ impl Network {
         ensures back { IfErr result (λ e. e.0 ≡ segment) }
         ensures same { IfErr result (λ _. self.new ≡ self.old) }
     {
-        match self.settle_spent(alloc, segment, pick) {
-            Ok(_spent) => Ok(()),
-            Err(refused) => Err(refused),
-        }
-    }
-
-    /// Takes a turn in as `settle` does, and hands out what it was leased with, which is no longer
-    /// wanted. So it can be let go outside a lock.
-    ///
-    /// # Errors
-    ///
-    /// Those of `settle`.
-    pub fn settle_spent(
-        &mut self,
-        alloc: Global,
-        segment: Segment,
-        pick: u32,
-    ) -> Result<Lease, (Segment, NetFault)>
-        ensures settled { IfOk result (λ _. (net : Net) → IsState self.old net → Settles self.old net segment pick self.new) }
-        ensures spent { IfOk result (λ l. (arc_value l.body ≡ segment.body) × (l.task ≡ segment.before)) }
-        ensures refused { IfErr result (λ e. (net : Net) → IsState self.old net → Refuses self.old net segment e.1) }
-        ensures back { IfErr result (λ e. e.0 ≡ segment) }
-        ensures same { IfErr result (λ _. self.new ≡ self.old) }
-    {
         if let Some(ending) = self.ending() {
             return Err((segment, NetFault::Over { ending }));
         }
@@ -77,14 +53,25 @@ impl Network {
             let turns = self.turns(number);
             return Err((segment, NetFault::Stale { number, turns }));
         }
-        match self.take_in(alloc, segment, pick) {
-            Ok(spent) => Ok(spent),
+        match self.settle_own(alloc, segment, pick) {
+            Ok(_spent) => Ok(()),
             Err(segment) => Err((segment, NetFault::Memory)),
         }
     }
 
-    /// Takes in a turn of the network's own, and hands out what it was leased with.
-    fn take_in(&mut self, alloc: Global, segment: Segment, pick: u32) -> Result<Lease, Segment>
+    /// Takes a turn in as `settle` does, for a caller who knows that the network goes on and that the
+    /// turn is its own: nothing is compared. What the turn was leased with is no longer wanted, and is
+    /// handed out; so it can be let go outside a lock.
+    ///
+    /// # Errors
+    ///
+    /// A refused growth hands the turn back; then nothing has changed.
+    pub fn settle_own(
+        &mut self,
+        alloc: Global,
+        segment: Segment,
+        pick: u32,
+    ) -> Result<Lease, Segment>
         requires { (net : Net) → IsState self.old net → TakesIn self.old net segment }
         ensures settled { IfOk result (λ _. (net : Net) → IsState self.old net → Settles self.old net segment pick self.new) }
         ensures spent { IfOk result (λ l. (arc_value l.body ≡ segment.body) × (l.task ≡ segment.before)) }

@@ -1,15 +1,17 @@
 -- One entry more of a table.
 use Rattle.std.proofs.Common.{Bool, List, Some, [], false, get_or, if◌then◌else◌, map, suc, take, true, zero, ℕ, ◌++◌, ◌+◌, ◌<◌, ◌∷◌, ◌≡◌, ◌∙◌, ap, arith, length, refl, subst, sym}
-use Rattle.std.specs.List.{slice_get}
+use Rattle.std.specs.List.{All, slice_get}
 use Rattle.std.specs.Option.{option_map}
 use Rattle.std.proofs.lemmas.List.{length-append, length-map, length-take-le, map-append, take_more}
+use Rattle.std.proofs.lemmas.List.Elements.{All-append, All-cons, All-nil}
 use Rattle.std.proofs.lemmas.Option.{none-some, slice_get-map, slice_get_read}
 use Rattle.occ_code.specs.Machine.{Body, Instruction}
 use Rattle.occ_code.specs.View.{instruction_of}
 use Rattle.occ_code.specs.declared.compiler.instr.Instr.{Instr}
 use Rattle.occ_code.specs.declared.compiler.instr.Slot.{Slot}
+use Rattle.occ_text.specs.Words.{LogicalLine}
 use Rattle.occ_places.specs.Located.{known}
-use Rattle.occ_places.specs.Places.{AreStopsIn, Known, is_stop, stop_places}
+use Rattle.occ_places.specs.Places.{AreStopsIn, IsNameOf, Known, is_stop, stop_places}
 use Rattle.occ_places.specs.declared.places.Located.{Located}
 
 -- what holds of each element by its place holds of one more
@@ -21,16 +23,23 @@ pushed P (z ∷ xs) x all more zero y e = all zero y e
 pushed P (z ∷ xs) x all more (suc n) y e = pushed (λ m. P (suc m)) xs x (λ m. all (suc m)) more n y e
 
 -- one process more
-pub process_added : (bodies : List Body) (last : ℕ) (before after : List Located) (l : Located) (n : ℕ) → after ≡ before ++ l ∷ [] → length before ≡ n
-    → ((m : ℕ) (k : Known) → slice_get (map known before) m ≡ Some k → AreStopsIn bodies last m k.stops)
-    → AreStopsIn bodies last n l.stops.items
-    → (m : ℕ) (k : Known) → slice_get (map known after) m ≡ Some k → AreStopsIn bodies last m k.stops
-process_added bodies last before after l n is counted all more m k e =
-    let P : ℕ → Known → Type 0 = λ i j. AreStopsIn bodies last i j.stops in
+pub process_added : (bodies : List Body) (lines : List LogicalLine) (before after : List Located) (l : Located) (n : ℕ) → after ≡ before ++ l ∷ [] → length before ≡ n
+    → ((m : ℕ) (k : Known) → slice_get (map known before) m ≡ Some k → AreStopsIn bodies lines m k.stops)
+    → AreStopsIn bodies lines n l.stops.items
+    → (m : ℕ) (k : Known) → slice_get (map known after) m ≡ Some k → AreStopsIn bodies lines m k.stops
+process_added bodies lines before after l n is counted all more m k e =
+    let P : ℕ → Known → Type 0 = λ i j. AreStopsIn bodies lines i j.stops in
     let at : n ≡ length (map known before) = sym counted ∙ sym (length-map before known) in
     let same : map known after ≡ map known before ++ known l ∷ [] = ap (map known) is ∙ map-append known before (l ∷ []) in
     let there : slice_get (map known before ++ known l ∷ []) m ≡ Some k = ap (λ ks. slice_get ks m) (sym same) ∙ e in
     pushed P (map known before) (known l) all (subst (λ i. P i (known l)) at more) m k there
+
+pub name_added : (lines : List LogicalLine) (before after : List Located) (l : Located) → after ≡ before ++ l ∷ []
+    → All (λ k. IsNameOf lines k.name) (map known before) → IsNameOf lines l.name.items → All (λ k. IsNameOf lines k.name) (map known after)
+name_added lines before after l is all more =
+    let P : Known → Type 0 = λ k. IsNameOf lines k.name in
+    let same : map known after ≡ map known before ++ known l ∷ [] = ap (map known) is ∙ map-append known before (l ∷ []) in
+    subst (All P) (sym same) (All-append P (map known before) (known l ∷ []) all (All-cons P (known l) [] more (All-nil P)))
 
 pub one_more : {A : Type 0} (before after : List A) (x : A) (n : ℕ) → after ≡ before ++ x ∷ [] → length before ≡ n → length after ≡ n + 1
 one_more before after x n is counted = ap length is ∙ length-append before (x ∷ []) ∙ ap (λ m. m + 1) counted

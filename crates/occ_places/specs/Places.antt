@@ -1,20 +1,22 @@
 -- What is known of where processes stand in the source.
 -- Manual: nothing; this is (own).
-use Rattle.std.specs.Prelude.{Bool, List, None, Option, Some, [], false, if◌then◌else◌, length, map, nat_eq, slice_get, true, ℕ, ◌&&◌, ◌+◌, ◌-◌, ◌∷◌, ◌≡◌, ◌≤◌, ◌⊎◌}
-use Rattle.std.specs.List.{All}
+use Rattle.std.specs.Prelude.{Bool, IsTrue, List, None, Option, Some, [], bytes_eq, false, if◌then◌else◌, length, map, nat_eq, slice_get, true, ℕ, ◌&&◌, ◌+◌, ◌-◌, ◌∷◌, ◌≡◌, ◌⊎◌}
+use Rattle.std.specs.List.{All, list_any}
 use Rattle.occ_code.specs.Compiled.{Program}
 use Rattle.occ_code.specs.Machine.{Body, Instruction, ChooseArm, Fork, Halt, LoopBack, Receive, Send}
 use Rattle.occ_code.specs.declared.task.Wait.{Wait}
 use Rattle.occ_code.specs.declared.task.Wait.TheVariants.{Ready, Took, Offers, Awaits, Chooses, Joins, Halted, Done, Faulted}
+use Rattle.occ_text.specs.Words.{LogicalLine, Word, key, logical_line, mark, name}
+use Rattle.occ_text.specs.declared.token.Key.TheVariants as words
+use Rattle.occ_text.specs.declared.token.Sym.TheVariants as signs
 use Rattle.occ_places.specs.declared.stop.Kind.{Kind}
 use Rattle.occ_places.specs.declared.stop.Kind.TheVariants as kinds
 use Rattle.occ_places.specs.declared.stop.Stop.{Stop}
 
--- What is known of a process: the PROC that its branch calls, or else the one in whose body the branch stands; the line of the
--- branch, 0 where none is known; and the places of its code at which it stops, each with its line and with what stands there.
+-- What is known of a process: the PROC that its branch calls, or else the one in whose body the branch stands; and the places of
+-- its code at which it stops, each with its line and with what stands there.
 pub record Known : Type 0 where
   pub name : List ℕ
-  pub line : ℕ
   pub stops : List Stop
 
 -- ---- what is known is so in the code
@@ -32,12 +34,51 @@ next_place kinds.Case Halt p = Some p
 next_place kinds.Variants Halt p = Some p
 next_place kind instruction p = None
 
--- The code has such an instruction there, and the line is none behind the last.
-pub record IsStopIn (code : List Instruction) (last : ℕ) (s : Stop) : Type 0 where
+-- Whether a line with this word may have what stands in the source.
+abbrev pub is_word_of : Kind → Word → Bool
+is_word_of kinds.Output (mark signs.Exclamation) = true
+is_word_of kinds.Input (mark signs.Question) = true
+is_word_of kinds.Alt (key words.Alt) = true
+is_word_of kinds.Par (key words.Par) = true
+is_word_of kinds.Loop (key words.While) = true
+is_word_of kinds.Loop (key words.Seq) = true
+is_word_of kinds.Stop (key words.Stop) = true
+is_word_of kinds.If (key words.If) = true
+is_word_of kinds.Case (key words.Case) = true
+is_word_of kinds.Variants (mark signs.Question) = true
+is_word_of kind word = false
+
+-- One of the logical lines has this number and such a word.
+pub record IsLineOf (lines : List LogicalLine) (kind : Kind) (number : ℕ) : Type 0 where
+  pub place : ℕ
+  pub level : ℕ
+  pub words : List Word
+  pub there : slice_get lines place ≡ Some (logical_line number level words)
+  pub has : IsTrue (list_any (is_word_of kind) words)
+
+-- The code has such an instruction there, and the text such a line.
+pub record IsStopIn (code : List Instruction) (lines : List LogicalLine) (s : Stop) : Type 0 where
   pub instruction : Instruction
   pub there : slice_get code s.place ≡ Some instruction
   pub next : next_place s.kind instruction s.place ≡ Some s.next
-  pub within : s.line ≤ last
+  pub line : IsLineOf lines s.kind s.line
+
+-- whether a line of these words begins a PROC of this name
+abbrev pub begins_proc : List ℕ → List Word → Bool
+begins_proc proc (key words.Proc ∷ name own ∷ others) = bytes_eq own proc
+begins_proc proc ws = false
+
+-- One of the logical lines does.
+pub record IsProcOf (lines : List LogicalLine) (proc : List ℕ) : Type 0 where
+  pub place : ℕ
+  pub number : ℕ
+  pub level : ℕ
+  pub words : List Word
+  pub there : slice_get lines place ≡ Some (logical_line number level words)
+  pub begins : IsTrue (begins_proc proc words)
+
+abbrev pub IsNameOf : List LogicalLine → List ℕ → Type 0
+IsNameOf lines proc = (proc ≡ []) ⊎ IsProcOf lines proc
 
 -- whether a process stops at an instruction, but for its end
 abbrev pub is_stop : Instruction → Bool
@@ -58,16 +99,17 @@ abbrev pub place_of : Stop → ℕ
 place_of s = s.place
 
 -- Each is a stop of the code, and they are none of its stops or all of them.
-abbrev pub AreStopsOf : List Instruction → ℕ → List Stop → Type 0
-AreStopsOf code last stops = All (IsStopIn code last) stops × ((stops ≡ []) ⊎ (map place_of stops ≡ stop_places 0 code))
+abbrev pub AreStopsOf : List Instruction → List LogicalLine → List Stop → Type 0
+AreStopsOf code lines stops = All (IsStopIn code lines) stops × ((stops ≡ []) ⊎ (map place_of stops ≡ stop_places 0 code))
 
-abbrev pub AreStopsIn : List Body → ℕ → ℕ → List Stop → Type 0
-AreStopsIn bodies last n stops = (b : Body) → slice_get bodies n ≡ Some b → AreStopsOf b.code last stops
+abbrev pub AreStopsIn : List Body → List LogicalLine → ℕ → List Stop → Type 0
+AreStopsIn bodies lines n stops = (b : Body) → slice_get bodies n ≡ Some b → AreStopsOf b.code lines stops
 
--- of each process of a program
-pub record Fits (p : Program) (last : ℕ) (all : List Known) : Type 0 where
+-- of each process of a program, and of the lines of its text
+pub record Fits (p : Program) (lines : List LogicalLine) (all : List Known) : Type 0 where
   pub each : length all ≡ length p.bodies
-  pub stops : (n : ℕ) (k : Known) → slice_get all n ≡ Some k → AreStopsIn p.bodies last n k.stops
+  pub names : All (λ k. IsNameOf lines k.name) all
+  pub stops : (n : ℕ) (k : Known) → slice_get all n ≡ Some k → AreStopsIn p.bodies lines n k.stops
 
 -- ---- what is told of it
 
@@ -77,13 +119,6 @@ name_in (Some k) = k.name
 
 abbrev pub name_of : List Known → ℕ → List ℕ
 name_of all n = name_in (slice_get all n)
-
-abbrev pub line_in : Option Known → ℕ
-line_in None = 0
-line_in (Some k) = k.line
-
-abbrev pub line_of : List Known → ℕ → ℕ
-line_of all n = line_in (slice_get all n)
 
 abbrev pub stops_in : Option Known → List Stop
 stops_in None = []

@@ -1,24 +1,32 @@
 //! The stops of a body's code, held against those that the tree has.
-ghost use Rattle.std.specs.Prelude.{◌≡◌, ◌≤◌, ◌++◌, ◌∷◌, [], IfOk, IfSome, IsTrue, List, OnOk, Some, if◌then◌else◌, map, slice_get};
+ghost use Rattle.std.specs.Prelude.{◌≡◌, ◌++◌, ◌∷◌, [], IfOk, IfSome, IsTrue, List, OnOk, Some, if◌then◌else◌, map, slice_get};
 ghost use Rattle.std.specs.List.{All};
 ghost use Rattle.occ_code.specs.Machine.{Instruction};
 ghost use Rattle.occ_code.specs.View.{instruction_of};
-ghost use Rattle.occ_places.specs.Places.{IsStopIn, is_stop, next_place, place_of, stop_places};
+ghost use Rattle.occ_text.specs.Words.{logical_lines};
+ghost use Rattle.occ_places.specs.Places.{IsLineOf, IsStopIn, is_stop, next_place, place_of, stop_places};
 
 use crate::stop::{Stop, is_stop, next_place};
+use crate::text_lines::has_line;
 use crate::walk::Mark;
 use occ_code::{Instr, Slot};
+use occ_text::Line;
 use std::alloc::{AllocError, Global};
 
-/// The stop for a mark at this instruction; none where they don't agree, or the line is behind the last.
-fn stop_for(mark: &Mark<'_>, instruction: &Instr<Slot>, place: usize, last: usize) -> Option<Stop>
+/// The stop for a mark at this instruction; none where they don't agree, or the text has no such line.
+fn stop_for(
+    mark: &Mark<'_>,
+    instruction: &Instr<Slot>,
+    place: usize,
+    lines: &[Line],
+) -> Option<Stop>
     ensures next { IfSome result (λ s. next_place s.kind (instruction_of instruction.now) place ≡ Some s.next) }
     ensures place { IfSome result (λ s. s.place ≡ place) }
-    ensures within { IfSome result (λ s. s.line ≤ last) }
+    ensures line { IfSome result (λ s. IsLineOf (logical_lines lines.now) s.kind s.line) }
 {
     let place = u32::try_from(place).ok()?;
     let next = next_place(mark.kind, instruction, place)?;
-    if mark.line as usize > last {
+    if !has_line(lines, mark.kind, mark.line) {
         return None;
     }
     Some(Stop {
@@ -35,9 +43,9 @@ fn add_stop(
     marks: &[Mark<'_>],
     instruction: &Instr<Slot>,
     place: usize,
-    last: usize,
+    lines: &[Line],
 ) -> Result<bool, AllocError>
-    ensures stops { OnOk result ((code : List Instruction) → slice_get code place ≡ Some (instruction_of instruction.now) → All (IsStopIn code last) stops.old.items → All (IsStopIn code last) stops.new.items) }
+    ensures stops { OnOk result ((code : List Instruction) → slice_get code place ≡ Some (instruction_of instruction.now) → All (IsStopIn code (logical_lines lines.now)) stops.old.items → All (IsStopIn code (logical_lines lines.now)) stops.new.items) }
     ensures places { IfOk result (λ agrees. IsTrue agrees → map place_of stops.new.items ≡ map place_of stops.old.items ++ (if is_stop (instruction_of instruction.now) then place ∷ [] else [])) }
 {
     if !is_stop(instruction) {
@@ -46,7 +54,7 @@ fn add_stop(
     let Some(mark) = marks.get(stops.len()) else {
         return Ok(false);
     };
-    match stop_for(mark, instruction, place, last) {
+    match stop_for(mark, instruction, place, lines) {
         Some(stop) => {
             stops.push(stop)?;
             Ok(true)
@@ -60,14 +68,14 @@ pub(crate) fn stops_in(
     alloc: Global,
     code: &[Instr<Slot>],
     marks: &[Mark<'_>],
-    last: usize,
+    lines: &[Line],
 ) -> Result<Option<Vec<Stop>>, AllocError>
-    ensures stops { IfOk result (λ found. IfSome found (λ stops. All (IsStopIn (map instruction_of code.now) last) stops.items)) }
+    ensures stops { IfOk result (λ found. IfSome found (λ stops. All (IsStopIn (map instruction_of code.now) (logical_lines lines.now)) stops.items)) }
     ensures places { IfOk result (λ found. IfSome found (λ stops. map place_of stops.items ≡ stop_places 0 (map instruction_of code.now))) }
 {
     let mut stops = Vec::new(alloc);
     for place in 0..code.len() {
-        if !add_stop(&mut stops, marks, &code[place], place, last)? {
+        if !add_stop(&mut stops, marks, &code[place], place, lines)? {
             return Ok(None);
         }
     }

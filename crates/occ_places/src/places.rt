@@ -1,6 +1,6 @@
 //! The table of the places.
 ghost use Rattle.std.specs.Prelude.{◌≡◌, map, option_map, slice_get};
-ghost use Rattle.occ_places.specs.Places.{line_of, name_of, stop_of, stops_of};
+ghost use Rattle.occ_places.specs.Places.{name_of, stop_of, stops_of};
 
 use crate::stop::{Stop, first_of};
 use occ_code::Wait;
@@ -10,24 +10,18 @@ use std::marker::Model;
 pub(crate) struct Located {
     /// The PROC that its branch calls, or else the one in whose body the branch stands.
     pub name: Vec<u8>,
-    /// The line of the branch; 0 where none is known.
-    pub line: u32,
     /// The places of its code at which it stops.
     pub stops: Vec<Stop>,
 }
 
 impl Drop for Located {
     fn drop(self) {
-        let Located {
-            name: _,
-            line: _,
-            stops: _,
-        } = self;
+        let Located { name: _, stops: _ } = self;
     }
 }
 
-/// Where the processes of a program stand in its text: by process number the PROC and the line of the branch, and the lines
-/// of all places at which the process can stop.
+/// Where the processes of a program stand in its text: by process number the PROC of the branch, and the lines of all
+/// places at which the process can stop.
 pub struct Places {
     all: Vec<Located>,
 }
@@ -73,16 +67,6 @@ impl Places {
         match self.located(number) {
             Some(located) => located.name.as_slice(),
             None => &[],
-        }
-    }
-
-    /// The line of the branch of a process; 0 where it isn't known.
-    pub fn line(&self, number: u32) -> u32
-        ensures { result ≡ line_of self.now number }
-    {
-        match self.located(number) {
-            Some(located) => located.line,
-            None => 0,
         }
     }
 

@@ -1,14 +1,17 @@
 //! The table of the places of a program.
 ghost use Rattle.std.specs.Prelude.{◌≡◌, [], IfOk, map};
 ghost use Rattle.occ_code.specs.View.{instruction_of};
-ghost use Rattle.occ_places.specs.Places.{AreStopsIn, AreStopsOf, Fits};
+ghost use Rattle.occ_text.specs.Words.{logical_lines};
+ghost use Rattle.occ_places.specs.Places.{AreStopsIn, AreStopsOf, Fits, IsNameOf};
 
 use crate::agreement::{forks_in, stops_in};
 use crate::places::{Located, Places};
 use crate::scope::Around;
 use crate::stop::Stop;
+use crate::text_lines::has_proc;
 use crate::walk::{Branches, Mark, Walk};
 use occ_code::{Body, Code, Instr, Slot};
+use occ_text::Line;
 use occ_tree_grammar::tree::line::Action;
 use occ_tree_grammar::tree::process::{Item, Process, Program, Stmt};
 use std::alloc::{AllocError, Global};
@@ -28,18 +31,15 @@ struct Start<'t> {
     around: Around<'t>,
     /// The PROC that it calls, or else the one in whose body it stands.
     name: &'t [u8],
-    /// Its line.
-    line: u32,
 }
 
 /// The process of a branch.
 fn branch<'t>(process: &'t Process, around: Around<'t>) -> Start<'t> {
-    let Process::Declared(_, line, statement) = process;
+    let Process::Declared(_, _, statement) = process;
     Start {
         process,
         around,
         name: called(statement).unwrap_or(around.name),
-        line: *line,
     }
 }
 
@@ -63,12 +63,11 @@ fn main_of<'t>(walk: &mut Walk<'t>, items: &'t [Item]) -> Result<Option<Start<'t
     let mut scope = 0;
     let mut main = None;
     for item in items {
-        if let Item::Proc(line, name, _, process, _) = item {
+        if let Item::Proc(_, name, _, process, _) = item {
             main = Some(Start {
                 process,
                 around: Around { scope, name },
                 name,
-                line: *line,
             });
         }
         scope = walk.declared(item, scope)?;
@@ -124,20 +123,31 @@ fn stops_of<'t>(
     starts: &mut [Option<Start<'t>>],
     start: Start<'t>,
     code: &[Instr<Slot>],
-    last: usize,
+    lines: &[Line],
 ) -> Result<Vec<Stop>, AllocError>
-    ensures { IfOk result (λ stops. AreStopsOf (map instruction_of code.now) last stops.items) }
+    ensures { IfOk result (λ stops. AreStopsOf (map instruction_of code.now) (logical_lines lines.now) stops.items) }
 {
     if !walk.go_through(start.process, start.around)? {
         return Ok(Vec::new(alloc));
     }
     walk.keep_begun(forks_in(code));
-    match stops_in(alloc, code, walk.marks(), last)? {
+    match stops_in(alloc, code, walk.marks(), lines)? {
         Some(stops) => {
             begin_all(starts, code, stops.as_slice(), walk.marks());
             Ok(stops)
         }
         None => Ok(Vec::new(alloc)),
+    }
+}
+
+/// The name of a PROC of the text; empty where the text has none of this name.
+fn name_of(alloc: Global, name: &[u8], lines: &[Line]) -> Result<Vec<u8>, AllocError>
+    ensures { IfOk result (λ v. IsNameOf (logical_lines lines.now) v.items) }
+{
+    if has_proc(lines, name) {
+        Vec::from_slice(alloc, name)
+    } else {
+        Ok(Vec::new(alloc))
     }
 }
 
@@ -148,9 +158,10 @@ fn located<'t>(
     starts: &mut [Option<Start<'t>>],
     code: &Code,
     number: usize,
-    last: usize,
+    lines: &[Line],
 ) -> Result<Located, AllocError>
-    ensures { IfOk result (λ l. AreStopsIn code.now.bodies last number l.stops.items) }
+    ensures name { IfOk result (λ l. IsNameOf (logical_lines lines.now) l.name.items) }
+    ensures stops { IfOk result (λ l. AreStopsIn code.now.bodies (logical_lines lines.now) number l.stops.items) }
 {
     let Some(Some(start)) = starts.get(number) else {
         return Ok(unknown(alloc));
@@ -159,28 +170,24 @@ fn located<'t>(
     let Some(body) = code.body(number) else {
         return Ok(unknown(alloc));
     };
-    let stops = stops_of(alloc, walk, starts, start, body.code(), last)?;
-    let name = Vec::from_slice(alloc, start.name)?;
-    Ok(Located {
-        name,
-        line: start.line,
-        stops,
-    })
+    let stops = stops_of(alloc, walk, starts, start, body.code(), lines)?;
+    let name = name_of(alloc, start.name, lines)?;
+    Ok(Located { name, stops })
 }
 
 /// A process of which nothing is known.
 fn unknown(alloc: Global) -> Located
-    ensures { result.stops.items ≡ [] }
+    ensures name { result.name.items ≡ [] }
+    ensures stops { result.stops.items ≡ [] }
 {
     Located {
         name: Vec::new(alloc),
-        line: 0,
         stops: Vec::new(alloc),
     }
 }
 
-/// Where the processes of a program stand in its text, of so many lines, by its tree and its code. A process has lines only
-/// where the tree's stops and those of the code agree in full.
+/// Where the processes of a program stand in its text, by its tree, its code and the lines of the text. A process has lines only
+/// where the tree's stops and those of the code agree in full, and each stands in a line that has the word of its kind.
 ///
 /// # Errors
 ///
@@ -189,9 +196,9 @@ pub fn places_of(
     alloc: Global,
     program: &Program,
     code: &Code,
-    last: usize,
+    lines: &[Line],
 ) -> Result<Places, AllocError>
-    ensures { IfOk result (λ places. Fits code.now last places) }
+    ensures { IfOk result (λ places. Fits code.now (logical_lines lines.now) places) }
 {
     let mut walk = Walk::new(alloc, MOST_PARTS, MOST_LOOKS);
     let mut starts = vec![in alloc; None; code.len()]?;
@@ -200,7 +207,7 @@ pub fn places_of(
     }
     let mut all = Vec::new(alloc);
     for number in 0..code.len() {
-        all.push(located(alloc, &mut walk, &mut starts, code, number, last)?)?;
+        all.push(located(alloc, &mut walk, &mut starts, code, number, lines)?)?;
     }
     Ok(Places::new(all))
 }

@@ -1,24 +1,49 @@
--- Exit statuses of a program that played nothing, or could not write what it played.
+-- Exit statuses of a program that played nothing, or could not write what it played; and what failed.
 -- Manual: nothing; this is (own).
-use Rattle.std.specs.Prelude.{ℕ}
+use Rattle.std.specs.Prelude.{ℕ, ⊤, ◌≡◌}
 use Rattle.occ_choices.specs.declared.fault.ChoiceFault.TheVariants as choice
 use Rattle.occ_files.specs.declared.fault.InputFault.{InputFault}
 use Rattle.occ_files.specs.declared.fault.InputFault.TheVariants as input
+use Rattle.occ_files.specs.declared.reason.Reason.{Reason}
 use Rattle.occ_play_inputs.specs.declared.failure.Failure.{Failure}
 use Rattle.occ_play_inputs.specs.declared.failure.Failure.TheVariants.{Help, Words, Arguments, Paths, Read, Choices, Write, Memory}
+use Rattle.occ_play_inputs.specs.declared.failure.Stream.{Stream}
+use Rattle.occ_play_inputs.specs.declared.failure.Stream.TheVariants as stream
+use Rattle.occ_play_inputs.specs.declared.failure.Trouble.{Trouble}
 
 abbrev pub failure_status : Failure → ℕ
 failure_status (Help text) = 0
 failure_status Memory = 5
-failure_status Read = 6
+failure_status (Read trouble) = 6
 failure_status (Choices choice.Memory) = 5
 failure_status (Choices fault) = 7
-failure_status Write = 6
+failure_status (Write trouble) = 6
 failure_status (Words error) = 7
 failure_status Arguments = 7
 failure_status Paths = 7
 
+-- a file or a stream, and why the system could not read or write it
+abbrev pub trouble : Stream → Reason → Trouble
+trouble which reason = record { stream = which; reason = reason }
+
 -- what a fault of reading is to the program
-abbrev pub read_failure : InputFault → Failure
-read_failure input.Read = Read
-read_failure input.Memory = Memory
+abbrev pub read_failure : Stream → InputFault → Failure
+read_failure which (input.Read reason) = Read (trouble which reason)
+read_failure which input.Memory = Memory
+
+-- this one could not be read, or memory ran out
+abbrev pub FailsToRead : Stream → Failure → Type 0
+FailsToRead which (Read t) = t.stream ≡ which
+FailsToRead which Memory = ⊤
+FailsToRead which failure = ⊥
+
+-- this one could not be written, or memory ran out
+abbrev pub FailsToWrite : Stream → Failure → Type 0
+FailsToWrite which (Write t) = t.stream ≡ which
+FailsToWrite which Memory = ⊤
+FailsToWrite which failure = ⊥
+
+-- the file of choices could not be read, or is none
+abbrev pub FailsToChoose : Failure → Type 0
+FailsToChoose (Choices fault) = ⊤
+FailsToChoose failure = FailsToRead stream.Choices failure

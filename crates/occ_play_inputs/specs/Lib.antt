@@ -3,3 +3,4 @@ pub mod Asked
 pub mod Modes
 pub mod Paths
 pub mod Searches
+pub mod Notices

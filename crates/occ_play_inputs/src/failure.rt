@@ -2,15 +2,48 @@
 ghost use Rattle.std.specs.Prelude.{◌≡◌, ◌≢◌};
 ghost use Rattle.std.specs.IoError.{error_kind};
 ghost use Rattle.clap.specs.Values.{kind_of};
-ghost use Rattle.occ_play_inputs.specs.Failures.{failure_status, read_failure};
+ghost use Rattle.occ_files.specs.Reasons.{reason_of};
+ghost use Rattle.occ_play_inputs.specs.Failures.{failure_status, read_failure, trouble};
 
 use clap::error::ErrorKind as WordsErrorKind;
 use occ_choices::ChoiceFault;
-use occ_files::InputFault;
+use occ_files::{InputFault, Reason, reason_of};
 use std::alloc::AllocError;
 use std::io;
 use std::io::ErrorKind;
 use thiserror::Error;
+
+/// A file or a stream that the program reads or writes.
+#[derive(Clone, Copy, Debug, PartialEq, Eq)]
+pub enum Stream {
+    /// The source: the file that the words name, or standard input.
+    Source,
+    /// What is typed: standard input.
+    Keyboard,
+    /// The file of choices.
+    Choices,
+    /// Standard output.
+    Output,
+    /// The file of the choices that a run used.
+    Record,
+    /// The file of the choices of a search's answer with this number.
+    Answer(usize),
+    /// The file of the chart.
+    Chart,
+    /// The file of the trace.
+    Trace,
+    /// The file of the turns.
+    Turns,
+}
+
+/// A file or a stream, and why the system could not read or write it.
+#[derive(Clone, Copy, Debug, PartialEq, Eq)]
+pub struct Trouble {
+    /// Which one it is.
+    pub stream: Stream,
+    /// Why the system could not.
+    pub reason: Reason,
+}
 
 /// Why the program played nothing, or could not write what it played.
 #[derive(Debug, Drop, Error)]
@@ -29,13 +62,13 @@ pub enum Failure {
     Paths,
     /// A file or a stream could not be read.
     #[error("read failed")]
-    Read,
+    Read(Trouble),
     /// The file of choices is none.
     #[error("{0}")]
     Choices(ChoiceFault),
     /// Standard output, or a file that the words name to be written, could not be written.
     #[error("write failed")]
-    Write,
+    Write(Trouble),
     /// A growth was refused.
     #[error("memory")]
     Memory,
@@ -49,7 +82,7 @@ impl Failure {
         match self {
             Failure::Help(_) => 0,
             Failure::Memory | Failure::Choices(ChoiceFault::Memory) => 5,
-            Failure::Read | Failure::Write => 6,
+            Failure::Read(_) | Failure::Write(_) => 6,
             Failure::Words(_) | Failure::Arguments | Failure::Paths | Failure::Choices(_) => 7,
         }
     }
@@ -75,17 +108,6 @@ impl From<ChoiceFault> for Failure {
     }
 }
 
-impl From<InputFault> for Failure {
-    ghost from_gives = { λ fault failure. failure ≡ read_failure fault };
-
-    fn from(fault: InputFault) -> Failure {
-        match fault {
-            InputFault::Read => Failure::Read,
-            InputFault::Memory => Failure::Memory,
-        }
-    }
-}
-
 /// Why the words say that nothing is to be played.
 pub fn of_words(error: clap::Error) -> Failure
     ensures help { kind_of error ≡ WordsErrorKind.DisplayHelp → result ≡ Failure.Help error }
@@ -100,25 +122,41 @@ pub fn of_words(error: clap::Error) -> Failure
     }
 }
 
-/// Why a file was not opened.
-pub fn of_read(error: io::Error) -> Failure
-    ensures memory { error_kind error ≡ ErrorKind.OutOfMemory → result ≡ Failure.Memory }
-    ensures other { error_kind error ≢ ErrorKind.OutOfMemory → result ≡ Failure.Read }
+/// Why this file or stream was not read to its end.
+pub fn of_input(stream: Stream, fault: InputFault) -> Failure
+    ensures { result ≡ read_failure stream fault }
 {
-    match error.kind() {
-        ErrorKind::OutOfMemory => Failure::Memory,
-        _ => Failure::Read,
+    match fault {
+        InputFault::Read(reason) => Failure::Read(Trouble { stream, reason }),
+        InputFault::Memory => Failure::Memory,
     }
 }
 
-/// Why something was not written.
-pub fn of_write(error: io::Error) -> Failure
+/// Why this file was not opened.
+pub fn of_read(stream: Stream, error: io::Error) -> Failure
     ensures memory { error_kind error ≡ ErrorKind.OutOfMemory → result ≡ Failure.Memory }
-    ensures other { error_kind error ≢ ErrorKind.OutOfMemory → result ≡ Failure.Write }
+    ensures other { error_kind error ≢ ErrorKind.OutOfMemory → result ≡ Failure.Read (trouble stream (reason_of error)) }
 {
     match error.kind() {
         ErrorKind::OutOfMemory => Failure::Memory,
-        _ => Failure::Write,
+        _ => {
+            let reason = reason_of(&error);
+            Failure::Read(Trouble { stream, reason })
+        }
+    }
+}
+
+/// Why this file or stream was not written.
+pub fn of_write(stream: Stream, error: io::Error) -> Failure
+    ensures memory { error_kind error ≡ ErrorKind.OutOfMemory → result ≡ Failure.Memory }
+    ensures other { error_kind error ≢ ErrorKind.OutOfMemory → result ≡ Failure.Write (trouble stream (reason_of error)) }
+{
+    match error.kind() {
+        ErrorKind::OutOfMemory => Failure::Memory,
+        _ => {
+            let reason = reason_of(&error);
+            Failure::Write(Trouble { stream, reason })
+        }
     }
 }
 

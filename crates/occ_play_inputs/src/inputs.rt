@@ -1,22 +1,28 @@
 //! What the program plays: a source, the keyboard's bytes, and a plan.
-ghost use Rattle.std.specs.Prelude.{◌≡◌, ◌≤◌, IfOk, IfSome, List, length, take, ℕ};
+ghost use Rattle.std.specs.Prelude.{◌≡◌, ◌≤◌, ◌⊎◌, IfErr, IfOk, IfSome, List, length, take, ℕ};
 ghost use Rattle.occ_choices.specs.Lines.{ChoiceLines};
 ghost use Rattle.occ_choices.specs.Plans.{choices_of};
 ghost use Rattle.occ_play_inputs.specs.Asked.{IsAskedBy, IsTyped};
+ghost use Rattle.occ_play_inputs.specs.Failures.{FailsToChoose, FailsToRead};
+ghost use Rattle.occ_play_inputs.specs.Notices.{notice_of};
+ghost use Rattle.occ_play_inputs.specs.declared.failure.Stream.TheVariants.{Keyboard, Source};
 
 use crate::apart::check_files;
-use crate::failure::{Failure, of_read};
+use crate::failure::{Failure, Stream, of_input, of_read};
 use crate::words::Words;
 use occ_choices::{Plan, read_choices};
 use occ_files::{CountedReader, read_input};
 use occ_seeds::seeded_plan;
 use std::alloc::Global;
 use std::fs;
-use std::io::{Input, Read, empty};
+use std::io::{Input, IsTerminal, Read, empty};
 use std::rt::Files;
 
 /// How many bytes of a source are read: one more than it may have.
 const MOST_SOURCE: usize = 1_048_577;
+
+/// What is told before the keyboard is read from a terminal.
+const NOTICE: &str = "the keyboard is read to its end first: Ctrl-D ends it, < /dev/null is none\n";
 
 /// What the program plays.
 #[derive(Drop)]
@@ -29,18 +35,21 @@ pub struct Inputs {
     pub plan: Plan,
 }
 
-/// Reads what the words name: first the source, then the keyboard, then the file of choices.
+/// Reads what the words name: first the source, then the keyboard, then the file of choices. Before a keyboard that is a terminal
+/// is read, a line on standard error tells how it is ended.
 ///
 /// # Errors
 ///
 /// `Paths` where a file that is to be written is one that is read, or another; that is found before anything is read.
 /// `Read` where something could not be read, `Choices` tells what is wrong in the file of choices, and `Memory` of a
 /// refused growth.
-pub fn read_inputs<R: Files + Input>(
+pub fn read_inputs<R: Files + Input + Eprint>(
     rt: &R,
     alloc: Global,
     words: &Words<'_>,
 ) -> Result<Inputs, Failure>
+where
+    R::Reader: IsTerminal,
     ensures asked { IfOk result (λ inputs. IsAskedBy words.now inputs.plan) }
     ensures source { IfOk result (λ inputs. length inputs.source.items ≤ 1048577) }
     ensures typed { IfOk result (λ inputs. IsTyped words.now.file inputs.keyboard.items) }
@@ -65,40 +74,59 @@ pub fn read_source<R: Files + Input>(
     alloc: Global,
     words: &Words<'_>,
 ) -> Result<Vec<u8>, Failure>
-    ensures { IfOk result (λ source. length source.items ≤ 1048577) }
+    ensures few { IfOk result (λ source. length source.items ≤ 1048577) }
+    ensures failed { IfErr result (FailsToRead Source) }
 {
     match words.file {
-        None => read_most(alloc, rt.reader(), MOST_SOURCE),
+        None => read_most(alloc, Stream::Source, rt.reader(), MOST_SOURCE),
         Some(path) => {
-            let file = open(rt, path)?;
-            read_most(alloc, file, MOST_SOURCE)
+            let file = open(rt, Stream::Source, path)?;
+            read_most(alloc, Stream::Source, file, MOST_SOURCE)
         }
     }
 }
 
 /// The file and standard input, or standard input and an empty keyboard.
-fn read_texts<R: Files + Input>(
+fn read_texts<R: Files + Input + Eprint>(
     rt: &R,
     alloc: Global,
     words: &Words<'_>,
 ) -> Result<(Vec<u8>, Vec<u8>), Failure>
+where
+    R::Reader: IsTerminal,
     ensures source { IfOk result (λ r. length r.0.items ≤ 1048577) }
     ensures typed { IfOk result (λ r. IsTyped words.now.file r.1.items) }
+    ensures failed { IfErr result (λ f. FailsToRead Source f ⊎ FailsToRead Keyboard f) }
 {
     match words.file {
         None => read_both(alloc, rt.reader(), empty()),
         Some(path) => {
-            let file = open(rt, path)?;
-            read_both(alloc, file, rt.reader())
+            let file = open(rt, Stream::Source, path)?;
+            let keyboard = rt.reader();
+            let _ = eprint!(rt; "{}", notice_of(words.file, keyboard.is_terminal()));
+            read_both(alloc, file, keyboard)
         }
     }
 }
 
+/// What is told before the keyboard is read: the line where a source's file is named and standard input is a terminal, and else
+/// nothing.
+fn notice_of(file: Option<&str>, is_terminal: bool) -> &'static str
+    ensures { result.now ≡ notice_of file.entry is_terminal }
+{
+    match file {
+        Some(_) if is_terminal => NOTICE,
+        _ => "",
+    }
+}
+
 /// The file of this path, to be read.
-fn open<R: Files>(rt: &R, path: &str) -> Result<R::File, Failure> {
+fn open<R: Files>(rt: &R, stream: Stream, path: &str) -> Result<R::File, Failure>
+    ensures { IfErr result (FailsToRead stream) }
+{
     match fs::open(rt, path) {
         Ok(file) => Ok(file),
-        Err(error) => Err(of_read(error)),
+        Err(error) => Err(of_read(stream, error)),
     }
 }
 
@@ -111,38 +139,49 @@ fn read_both<S: Read + Drop, K: Read + Drop>(
     ensures few { IfOk result (λ r. length r.0.items ≤ 1048577) }
     ensures source { IfSome (S.remaining source) (λ xs. IfOk result (λ r. r.0.items ≡ take 1048577 xs)) }
     ensures keyboard { IfSome (K.remaining keyboard) (λ xs. IfOk result (λ r. r.1.items ≡ xs)) }
+    ensures failed { IfErr result (λ f. FailsToRead Source f ⊎ FailsToRead Keyboard f) }
 {
-    let source = read_most(alloc, source, MOST_SOURCE)?;
-    let keyboard = read_all(alloc, keyboard)?;
+    let source = read_most(alloc, Stream::Source, source, MOST_SOURCE)?;
+    let keyboard = read_all(alloc, Stream::Keyboard, keyboard)?;
     Ok((source, keyboard))
 }
 
 /// All bytes of a reader, or so many where there are more.
-fn read_most<R: Read + Drop>(alloc: Global, reader: R, most: usize) -> Result<Vec<u8>, Failure>
+fn read_most<R: Read + Drop>(
+    alloc: Global,
+    stream: Stream,
+    reader: R,
+    most: usize,
+) -> Result<Vec<u8>, Failure>
     ensures few { IfOk result (λ bytes. length bytes.items ≤ most) }
     ensures bytes { IfSome (R.remaining reader) (λ xs. IfOk result (λ bytes. bytes.items ≡ take most xs)) }
+    ensures failed { IfErr result (FailsToRead stream) }
 {
     let mut reader = CountedReader::new(reader);
-    let bytes = read_input(alloc, &mut reader, most)?;
-    Ok(bytes)
+    match read_input(alloc, &mut reader, most) {
+        Ok(bytes) => Ok(bytes),
+        Err(fault) => Err(of_input(stream, fault)),
+    }
 }
 
 /// All bytes of a reader.
-fn read_all<R: Read + Drop>(alloc: Global, reader: R) -> Result<Vec<u8>, Failure>
-    ensures { IfSome (R.remaining reader) (λ xs. IfOk result (λ bytes. bytes.items ≡ xs)) }
+fn read_all<R: Read + Drop>(alloc: Global, stream: Stream, reader: R) -> Result<Vec<u8>, Failure>
+    ensures bytes { IfSome (R.remaining reader) (λ xs. IfOk result (λ bytes. bytes.items ≡ xs)) }
+    ensures failed { IfErr result (FailsToRead stream) }
 {
-    read_most(alloc, reader, usize::MAX)
+    read_most(alloc, stream, reader, usize::MAX)
 }
 
 /// The choices of the file that the words name, those of the first seed that they name, or as many turns as they allow.
 fn read_plan<R: Files>(rt: &R, alloc: Global, words: &Words<'_>) -> Result<Plan, Failure>
-    ensures { IfOk result (λ plan. IsAskedBy words.now plan) }
+    ensures asked { IfOk result (λ plan. IsAskedBy words.now plan) }
+    ensures failed { IfErr result FailsToChoose }
 {
     match (words.choices, words.seed) {
         (None, None) => Ok(Plan::Turns(words.limit)),
         (None, Some(seed)) => Ok(seeded_plan(alloc, seed, words.limit)?),
         (Some(path), _) => {
-            let file = open(rt, path)?;
+            let file = open(rt, Stream::Choices, path)?;
             read_order(alloc, file)
         }
     }
@@ -152,14 +191,16 @@ fn read_plan<R: Files>(rt: &R, alloc: Global, words: &Words<'_>) -> Result<Plan,
 fn read_order<C: Read + Drop>(alloc: Global, file: C) -> Result<Plan, Failure>
     ensures lines { IfOk result (λ plan. (text : List ℕ) × ChoiceLines text (choices_of plan)) }
     ensures whole { IfSome (C.remaining file) (λ xs. IfOk result (λ plan. ChoiceLines xs (choices_of plan))) }
+    ensures failed { IfErr result FailsToChoose }
 {
-    let text = read_all(alloc, file)?;
+    let text = read_all(alloc, Stream::Choices, file)?;
     plan_of(alloc, text.as_slice())
 }
 
 /// The choices of a file's text.
 fn plan_of(alloc: Global, text: &[u8]) -> Result<Plan, Failure>
-    ensures { IfOk result (λ plan. ChoiceLines text.now (choices_of plan)) }
+    ensures choices { IfOk result (λ plan. ChoiceLines text.now (choices_of plan)) }
+    ensures failed { IfErr result FailsToChoose }
 {
     let choices = read_choices(alloc, text)?;
     Ok(Plan::Choices(choices))

@@ -7,6 +7,6 @@ pub mod failure;
 pub mod inputs;
 pub mod words;
 
-pub use failure::Failure;
+pub use failure::{Failure, Stream, Trouble};
 pub use inputs::{Inputs, read_inputs, read_source};
 pub use words::{Words, read_words};

@@ -87,7 +87,8 @@ pub struct Words<'a> {
     /// Whether a thread of its own looks at the communications, which are printed to standard error as it was shown them; with
     /// a file of choices it says nothing.
     pub watch: bool,
-    /// Whether more is told behind the line of a refusal, and behind an ending that is not that of a whole run.
+    /// Whether more is told behind the line of a refusal or of a failed read or write, and behind an ending that is not that of a
+    /// whole run.
     pub explain: bool,
     /// The number from which the choices of the run are made, as many as the limit has, 0 to 1,000,000,000; none where no word
     /// says so.
@@ -493,7 +494,7 @@ fn explain_word<'a>(alloc: Global) -> Arg<'a> {
     Arg::new(alloc, "explain")
         .long("explain")
         .help(
-            "Tells where the mistake of a refused source is, and what each process stands at that is left",
+            "Tells where the mistake of a refused source is, what each process stands at that is left, and which file failed and why",
         )
         .action(ArgAction::SetTrue)
 }

@@ -1,3 +1,4 @@
 mod Recorded
 mod Statuses
 mod Ended
+mod Told

@@ -85,11 +85,6 @@ pub came_to_both : {Done : Type 0} (workers : Option ℕ) (words : Asked) (sourc
 came_to_both workers words source keyboard list (Ok done) r crew h g = g
 came_to_both workers words source keyboard list (Err f) r crew h g = refused_by workers words source keyboard list f crew h
 
--- what refused one of two texts that were to be made
-pub either_refuses : {One Other : Type 0} (Refusal : PlayFault → Type 0) (one : Result One PlayFault) (other : Result Other PlayFault) → IfErr one Refusal → IfErr other Refusal → IfErr (result_and one other) Refusal
-either_refuses Refusal (Ok done) other h g = g
-either_refuses Refusal (Err f) other h g = h
-
 -- what was played has its status, what was looked at or searched, and so has a failure
 played_status : (words : Asked) (r : Result ℕ Failure) → words.explore ≡ None → words.check ≡ false → IfOk r (IsStatusFor words) → IfOk r ProgramStatus
 played_status words (Ok s) one run h = of_play words one run h

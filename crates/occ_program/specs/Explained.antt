@@ -1,26 +1,77 @@
--- What is told behind a refusal's line, and behind an ending.
+-- What is told behind a refusal's line, behind an ending, and behind the answers of a search.
 -- Manual: nothing; this is (own).
-use Rattle.std.specs.Prelude.{Err, List, None, Ok, Option, Result, Some, ℕ, codes}
-use Rattle.std.specs.Borrow.{Bor}
+use Rattle.std.specs.Prelude.{Err, List, Ok, Result, Some, [], codes, get_or, length, suc, take, zero, ℕ, ⊤, ◌++◌, ◌<◌, ◌∷◌, ◌≡◌, ◌≢◌, ◌⊎◌}
+use Rattle.std.specs.Fmt.{decimal}
 use Rattle.occ_explaining.specs.Explaining.{ReportsOn, Tells, refusal_in}
+use Rattle.occ_explore.specs.declared.exploration.Answer.{Answer}
+use Rattle.occ_files.specs.declared.reason.Reason.{Reason}
+use Rattle.occ_net_replay.specs.Endings.{ending_text}
+use Rattle.occ_net_replay.specs.declared.ending.Ending.{Ending}
+use Rattle.occ_net_replay.specs.declared.ending.Ending.TheVariants.{Ended}
 use Rattle.occ_play.specs.declared.fault.PlayFault.{PlayFault}
+use Rattle.occ_play.specs.declared.fault.PlayFault.TheVariants as play
 use Rattle.occ_play.specs.declared.playing.Played.{Played}
+use Rattle.occ_play_inputs.specs.Failures.{trouble}
+use Rattle.occ_play_inputs.specs.declared.failure.Stream.TheVariants.{Output}
 use Rattle.occ_play_inputs.specs.declared.words.Words.{Words}
 use Rattle.occ_program.specs.Coming.{options_in}
-
-abbrev pub path_or_hyphen : Option (Bor (List ℕ)) → List ℕ
-path_or_hyphen None = codes "-"
-path_or_hyphen (Some path) = path.now
+use Rattle.occ_program.specs.Troubles.{path_or, trouble_text}
 
 -- the path of the source, and a hyphen for standard input
 abbrev pub file_in : Words → List ℕ
-file_in words = path_or_hyphen words.file
+file_in words = path_or (codes "-") words.file
 
 -- an explanation of a refusal of this source
 abbrev pub TellsOf : Words → (source : List ℕ) → PlayFault → List ℕ → Type 0
 TellsOf words source fault text = Tells source (file_in words) (refusal_in fault) (Some text)
 
--- of a fault its explanation, and of a run the report by its choices
-abbrev pub Explains : Words → (source keyboard : List ℕ) → Result Played PlayFault → List ℕ → Type 0
-Explains words source keyboard (Ok played) text = ReportsOn (options_in words) source keyboard played.choices.items text
-Explains words source keyboard (Err fault) text = TellsOf words source fault text
+-- why standard output was not written, or an explanation
+abbrev pub TellsWhy : Words → (source : List ℕ) → Reason → PlayFault → List ℕ → Type 0
+TellsWhy words source reason (play.Write written) text = text ≡ trouble_text words (trouble Output reason)
+TellsWhy words source reason fault text = TellsOf words source fault text
+
+-- of a fault that, and of a run the report by its choices
+abbrev pub Explains : Words → (source keyboard : List ℕ) → Reason → Result Played PlayFault → List ℕ → Type 0
+Explains words source keyboard reason (Ok played) text = ReportsOn (options_in words) source keyboard played.choices.items text
+Explains words source keyboard reason (Err fault) text = TellsWhy words source reason fault text
+
+-- ---- the answers of a search
+
+-- none of these answers has this ending
+abbrev pub NoneEnds : List Answer → Ending → Type 0
+NoneEnds [] ending = ⊤
+NoneEnds (a ∷ others) ending = (a.ending ≢ ending) × NoneEnds others ending
+
+-- one of them has
+abbrev pub SomeEnds : List Answer → Ending → Type 0
+SomeEnds [] ending = ⊥
+SomeEnds (a ∷ others) ending = (a.ending ≡ ending) ⊎ SomeEnds others ending
+
+-- the number and the ending of an answer, above its report
+abbrev pub answer_head : ℕ → Ending → List ℕ
+answer_head number ending = decimal number ++ 32 ∷ ending_text ending ++ codes ":\n"
+
+-- those, and the report by the answer's choices
+abbrev pub IsReported : Words → (source keyboard : List ℕ) → (number : ℕ) → Answer → List ℕ → Type 0
+IsReported words source keyboard number a text =
+    (report : List ℕ) × ReportsOn (options_in words) source keyboard a.choices.items report × (text ≡ answer_head number a.ending ++ report)
+
+-- What is told of an answer behind these: its report, where it has not ended and none of them has its ending; else nothing.
+abbrev pub TellsAnswer : Words → (source keyboard : List ℕ) → (before : List Answer) → Answer → List ℕ → Type 0
+TellsAnswer words source keyboard before a text =
+    ((a.ending ≢ Ended) × NoneEnds before a.ending × IsReported words source keyboard (suc (length before)) a text)
+    ⊎ (((a.ending ≡ Ended) ⊎ SomeEnds before a.ending) × (text ≡ []))
+
+-- of the answer at a place, from 0
+abbrev pub TellsAt : Words → (source keyboard : List ℕ) → List Answer → ℕ → List ℕ → Type 0
+TellsAt words source keyboard answers place text =
+    (a : Answer) × (place < length answers) × (a ≡ get_or answers place a) × TellsAnswer words source keyboard (take place answers) a text
+
+-- of the first so many answers, one behind the other
+abbrev pub TellsFirst : Words → (source keyboard : List ℕ) → List Answer → ℕ → List ℕ → Type 0
+TellsFirst words source keyboard answers zero text = text ≡ []
+TellsFirst words source keyboard answers (suc n) text =
+    (above : List ℕ) × (part : List ℕ) × TellsFirst words source keyboard answers n above × TellsAt words source keyboard answers n part × (text ≡ above ++ part)
+
+abbrev pub TellsAnswers : Words → (source keyboard : List ℕ) → List Answer → List ℕ → Type 0
+TellsAnswers words source keyboard answers text = TellsFirst words source keyboard answers (length answers) text

@@ -1,5 +1,6 @@
 pub mod Coming
 pub mod Pages
 pub mod Lines
+pub mod Troubles
 pub mod Explained
 pub mod Trying

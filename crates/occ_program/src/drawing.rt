@@ -1,6 +1,8 @@
 //! Draws the communications of a run into a file.
 ghost use Rattle.std.specs.Prelude.{◌≡◌, IfErr, IfOk};
 ghost use Rattle.occ_choices.specs.Plans.{choices_of};
+ghost use Rattle.occ_play_inputs.specs.Failures.{FailsToWrite};
+ghost use Rattle.occ_play_inputs.specs.declared.failure.Stream.TheVariants.{Chart};
 ghost use Rattle.occ_program.specs.Coming.{options_in};
 ghost use Rattle.occ_program.specs.Pages.{Charts, Draws, LeavesOrRefuses, part_in};
 ghost use Rattle.occ_explaining.specs.Explaining.{IsNamedChart};
@@ -12,7 +14,7 @@ use occ_charting::Part;
 use occ_explaining::named_chart;
 use occ_files::Folder;
 use occ_play::{Choice, Plan, PlayFault, Played};
-use occ_play_inputs::{Failure, Inputs, Words};
+use occ_play_inputs::{Failure, Inputs, Stream, Words};
 use std::alloc::{AllocError, Global};
 
 /// Draws the run of these inputs into the file that the words name, where it answered: the run by the choices that it used.
@@ -25,10 +27,11 @@ pub(crate) fn draw<F: Folder>(
 ) -> Result<Result<(), PlayFault>, Failure>
     ensures refused { IfOk result (λ drawn. IfErr drawn (Refuses (options_in words.now) inputs.now.source.items)) }
     ensures left { LeavesOrRefuses (Charts (options_in words.now) inputs.now.source.items inputs.now.keyboard.items (part_in words.now.arrows words.now.last) words.now.chart played.now) (F.left folder.old) (F.left folder.new) result }
+    ensures failed { IfErr result (FailsToWrite Chart) }
 {
     match drawn(alloc, words, inputs, played)? {
         Ok(page) => {
-            write_page(folder, &page)?;
+            write_page(folder, Stream::Chart, &page)?;
             Ok(Ok(()))
         }
         Err(fault) => Ok(Err(fault)),
@@ -42,7 +45,8 @@ fn drawn<'a>(
     inputs: &Inputs,
     played: &Result<Played, PlayFault>,
 ) -> Result<Result<Option<Page<'a>>, PlayFault>, Failure>
-    ensures { IfOk result (Draws (options_in words.now) inputs.now.source.items inputs.now.keyboard.items (part_in words.now.arrows words.now.last) words.now.chart played.now) }
+    ensures drawn { IfOk result (Draws (options_in words.now) inputs.now.source.items inputs.now.keyboard.items (part_in words.now.arrows words.now.last) words.now.chart played.now) }
+    ensures failed { IfErr result (FailsToWrite Chart) }
 {
     match (words.chart, played) {
         (Some(path), Ok(played)) => match chart_of(alloc, words, inputs, played)? {
@@ -72,6 +76,7 @@ fn chart_of(
 ) -> Result<Result<Vec<u8>, PlayFault>, Failure>
     ensures drawn { IfOk result (λ chart. IfOk chart (λ bytes. IsNamedChart (options_in words.now) inputs.now.source.items inputs.now.keyboard.items played.now.choices.items (part_in words.now.arrows words.now.last) bytes.items)) }
     ensures refused { IfOk result (λ chart. IfErr chart (Refuses (options_in words.now) inputs.now.source.items)) }
+    ensures failed { IfErr result (FailsToWrite Chart) }
 {
     let plan = plan_of(alloc, played.choices.as_slice())?;
     Ok(named_chart(

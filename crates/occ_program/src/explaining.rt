@@ -1,27 +1,35 @@
 //! Tells more of a refusal and of an ending, where the words ask for it.
 ghost use Rattle.std.specs.Prelude.{◌≡◌, IfSome};
-ghost use Rattle.occ_program.specs.Explained.{Explains, file_in, TellsOf};
+ghost use Rattle.occ_play_inputs.specs.Failures.{trouble};
+ghost use Rattle.occ_play_inputs.specs.declared.failure.Stream.TheVariants.{Output};
+ghost use Rattle.occ_explaining.specs.Explaining.{ReportsOn};
+ghost use Rattle.occ_program.specs.Coming.{options_in};
+ghost use Rattle.occ_program.specs.Explained.{Explains, TellsOf, TellsWhy, file_in};
+ghost use Rattle.occ_program.specs.Troubles.{trouble_text};
 
 use crate::program::options_of;
+use crate::troubles::{path_or, trouble_text};
 use occ_explaining::{explained_fault, report_of};
+use occ_files::Reason;
 use occ_net_replay::Ending;
 use occ_play::{PlayFault, Played};
-use occ_play_inputs::{Inputs, Words};
+use occ_play_inputs::{Inputs, Stream, Trouble, Words};
 use std::alloc::Global;
 
-/// Prints, behind the line of a refusal, where its mistake is, and behind an ending that is not that of a whole run what each
-/// process stands at. Where memory runs out for that, nothing more is printed.
+/// Prints, behind the line of a refusal, where its mistake is, behind that of a failed write why it failed, and behind an ending that
+/// is not that of a whole run what each process stands at. Where memory runs out for that, nothing more is printed.
 pub(crate) fn explain<R: Eprint>(
     rt: &R,
     alloc: Global,
     words: &Words<'_>,
     inputs: &Inputs,
     came: &Result<Played, PlayFault>,
+    reason: Reason,
 ) {
     if words.explain
-        && let Some(text) = explanation(alloc, words, inputs, came)
+        && let Some(text) = explanation(alloc, words, inputs, came, reason)
     {
-        print_text(rt, text.as_slice());
+        print_text(rt, alloc, text.as_slice());
     }
 }
 
@@ -36,7 +44,7 @@ pub(crate) fn explain_fault<R: Eprint>(
     if words.explain
         && let Some(text) = told_of(alloc, words, source, fault)
     {
-        print_text(rt, text.as_slice());
+        print_text(rt, alloc, text.as_slice());
     }
 }
 
@@ -44,10 +52,7 @@ pub(crate) fn explain_fault<R: Eprint>(
 fn file_of<'a>(words: &Words<'a>) -> &'a str
     ensures { result.now ≡ file_in words.now }
 {
-    match words.file {
-        Some(path) => path,
-        None => "-",
-    }
+    path_or("-", words.file)
 }
 
 /// The explanation of a fault, where it refuses the source.
@@ -61,24 +66,52 @@ fn told_of(alloc: Global, words: &Words<'_>, source: &[u8], fault: &PlayFault) -
     }
 }
 
+/// Why standard output was not written, or the explanation of a refusal.
+fn why(
+    alloc: Global,
+    words: &Words<'_>,
+    source: &[u8],
+    fault: &PlayFault,
+    reason: Reason,
+) -> Option<Vec<u8>>
+    ensures { IfSome result (λ text. TellsWhy words.now source.now reason fault.now text.items) }
+{
+    match fault {
+        PlayFault::Write { .. } => unwritten(alloc, words, reason),
+        fault => told_of(alloc, words, source, fault),
+    }
+}
+
+/// Why standard output was not written.
+fn unwritten(alloc: Global, words: &Words<'_>, reason: Reason) -> Option<Vec<u8>>
+    ensures { IfSome result (λ text. text.items ≡ trouble_text words.now (trouble Output reason)) }
+{
+    let stream = Stream::Output;
+    match trouble_text(alloc, words, Trouble { stream, reason }) {
+        Ok(text) => Some(text),
+        Err(_) => None,
+    }
+}
+
 /// What is told of what a play came to; nothing of a run that ended.
 fn explanation(
     alloc: Global,
     words: &Words<'_>,
     inputs: &Inputs,
     came: &Result<Played, PlayFault>,
+    reason: Reason,
 ) -> Option<Vec<u8>>
-    ensures { IfSome result (λ text. Explains words.now inputs.now.source.items inputs.now.keyboard.items came.now text.items) }
+    ensures { IfSome result (λ text. Explains words.now inputs.now.source.items inputs.now.keyboard.items reason came.now text.items) }
 {
     match came {
         Ok(played) => reported(alloc, words, inputs, played),
-        Err(fault) => told_of(alloc, words, inputs.source.as_slice(), fault),
+        Err(fault) => why(alloc, words, inputs.source.as_slice(), fault, reason),
     }
 }
 
 /// What each process stands at where a run has not ended.
 fn reported(alloc: Global, words: &Words<'_>, inputs: &Inputs, played: &Played) -> Option<Vec<u8>>
-    ensures { IfSome result (λ text. Explains words.now inputs.now.source.items inputs.now.keyboard.items (Ok played.now) text.items) }
+    ensures { IfSome result (λ text. ReportsOn (options_in words.now) inputs.now.source.items inputs.now.keyboard.items played.now.choices.items text.items) }
 {
     if let Ending::Ended = played.ending {
         return None;
@@ -96,9 +129,9 @@ fn reported(alloc: Global, words: &Words<'_>, inputs: &Inputs, played: &Played) 
     }
 }
 
-/// Prints a text to standard error.
-fn print_text<R: Eprint>(rt: &R, text: &[u8]) {
-    if let Ok(text) = str::from_utf8(text) {
+/// Prints a text to standard error; for bytes that are no UTF-8, as a source may have in its comments, stands U+FFFD.
+pub(crate) fn print_text<R: Eprint>(rt: &R, alloc: Global, text: &[u8]) {
+    if let Ok(text) = String::from_utf8_lossy(alloc, text) {
         let _ = eprint!(rt; "{text}");
     }
 }

@@ -1,30 +1,38 @@
 //! Tells what all lists of choices of a source come to.
-ghost use Rattle.std.specs.Prelude.{ℕ, [], ◌≡◌, ◌∷◌, ◌≤◌, ◌<◌, ◌-◌, ◌^◌, ◌⊎◌, IfOk, OnErr, OnOk, length, string_bytes, take};
+ghost use Rattle.std.specs.Prelude.{ℕ, [], ◌≡◌, ◌∷◌, ◌≤◌, ◌<◌, ◌-◌, ◌^◌, ◌⊎◌, IfErr, IfOk, IsTrue, OnErr, OnOk, length, take};
 ghost use Rattle.std.specs.Io.KnownBytes.{Appends};
 ghost use Rattle.occ_choices.specs.Lines.{choice_text};
 ghost use Rattle.occ_exploring.specs.Alone.{only_status, only_text};
 ghost use Rattle.occ_exploring.specs.Texts.{exploration_text};
 ghost use Rattle.occ_files.specs.Leaving.{Leaves, LeavesAll, LeavesNothing};
+ghost use Rattle.occ_files.specs.declared.reason.Reason.{Reason};
+ghost use Rattle.occ_play_inputs.specs.Failures.{FailsToWrite, trouble};
+ghost use Rattle.occ_play_inputs.specs.declared.failure.Failure.{Failure};
+ghost use Rattle.occ_play_inputs.specs.declared.failure.Stream.TheVariants as stream;
 ghost use Rattle.occ_program.specs.Coming.{IsSearchStatus, OnlyTo, SearchedTo, found_status};
 ghost use Rattle.occ_program.specs.Pages.{AreRecorded, answer_files, answer_path};
 ghost use Rattle.occ_play.specs.Status.{fault_status};
 ghost use Rattle.occ_shown.specs.Counting.{failures_of, writer_of};
 
+use crate::counting::Counter;
+use crate::explaining::explain_fault;
 use crate::program::{options_of, tell};
+use crate::reporting::explain_answers;
+use crate::troubles::answer_path;
 use occ_choices::choices_text;
 use occ_exploring::{
-    Answer, Asked, Exploration, MOST_ANSWERS, exploration_text, explore_in, only_answer_in,
-    only_text, status_of_only, status_of_search,
+    Answer, Asked, Exploration, MOST_ANSWERS, Progress, exploration_text, explore_in,
+    only_answer_in, only_text, status_of_only, status_of_search,
 };
-use occ_files::{Disk, Folder, are_one_file};
+use occ_files::{Disk, Folder, Noting, Reason, are_one_file};
 use occ_play::{Choice, PlayFault, status_of};
 use occ_play_inputs::failure::of_write;
-use occ_play_inputs::{Failure, Inputs, Words, read_inputs};
+use occ_play_inputs::{Failure, Inputs, Stream, Trouble, Words, read_inputs};
 use occ_shown::{Counted, write_answer};
 use std::alloc::{AllocError, Global};
-use std::io;
-use std::io::Write;
+use std::io::{IsTerminal, Write};
 use std::rt::Files;
+use std::{io, slice};
 
 /// Tells what all lists of choices of the source that the words name come to: from one run, where that tells it, else by a
 /// search. Where the words name a file to be written, the choices of each answer that is printed go into one of that name, the
@@ -34,13 +42,16 @@ pub(crate) fn explore_words<R: Files + Input + Print + Eprint>(
     alloc: Global,
     words: &Words<'_>,
     asked: Asked,
+    on_terminal: bool,
 ) -> Result<u8, Failure>
+where
+    R::Reader: IsTerminal,
     ensures came { IfOk result (IsSearchStatus words.now asked) }
     ensures small { IfOk result (λ status. status ≤ 7) }
 {
     check_records(rt, alloc, words)?;
     let inputs = read_inputs(rt, alloc, words)?;
-    explore_inputs(rt, alloc, words, asked, &inputs)
+    explore_inputs(rt, alloc, words, asked, &inputs, on_terminal)
 }
 
 /// Tells what the lists of choices come to of what was read.
@@ -50,52 +61,66 @@ fn explore_inputs<R: Files + Print + Eprint>(
     words: &Words<'_>,
     asked: Asked,
     inputs: &Inputs,
+    on_terminal: bool,
 ) -> Result<u8, Failure>
     ensures came { IfOk result (IsSearchStatus words.now asked) }
     ensures small { IfOk result (λ status. status ≤ 7) }
 {
     match only(alloc, words, inputs) {
-        Ok(Some(answer)) => only_told(rt, alloc, words, asked, &answer),
-        Ok(None) => searched(rt, alloc, words, asked, inputs),
-        Err(fault) => Ok(refused(rt, fault)),
+        Ok(Some(answer)) => only_told(rt, alloc, words, asked, inputs, &answer),
+        Ok(None) => searched(rt, alloc, words, asked, inputs, on_terminal),
+        Err(fault) => Ok(refused(rt, alloc, words, inputs, fault)),
     }
 }
 
-/// Prints and records the one answer, and answers the exit status.
-fn only_told<R: Files + Print>(
+/// Prints and records the one answer, explains it, and answers the exit status.
+fn only_told<R: Files + Print + Eprint>(
     rt: &R,
     alloc: Global,
     words: &Words<'_>,
     asked: Asked,
+    inputs: &Inputs,
     answer: &Answer,
 ) -> Result<u8, Failure>
     ensures { IfOk result (λ s. s ≡ only_status answer.now) }
 {
     tell_only(rt, alloc, words, asked, answer)?;
+    explain_answers(rt, alloc, words, inputs, slice::from_ref(answer));
     Ok(status_of_only(answer))
 }
 
-/// Searches, prints and records what was found, and answers the exit status.
+/// Searches, prints and records what was found, explains it, and answers the exit status.
 fn searched<R: Files + Print + Eprint>(
     rt: &R,
     alloc: Global,
     words: &Words<'_>,
     asked: Asked,
     inputs: &Inputs,
+    on_terminal: bool,
 ) -> Result<u8, Failure>
     ensures came { IfOk result (IsSearchStatus words.now asked) }
     ensures small { IfOk result (λ status. status ≤ 7) }
 {
-    let found = search(alloc, words, inputs, asked);
+    let mut counter = Counter::new(rt, on_terminal);
+    let found = search(alloc, words, inputs, asked, &mut counter);
+    counter.clear();
     tell_found(rt, alloc, words, asked, &found)?;
+    explain_found(rt, alloc, words, inputs, &found);
     Ok(status_of_found(found))
 }
 
 /// Prints why the source was refused, and answers the exit status.
-fn refused<R: Eprint>(rt: &R, fault: PlayFault) -> u8
+fn refused<R: Eprint>(
+    rt: &R,
+    alloc: Global,
+    words: &Words<'_>,
+    inputs: &Inputs,
+    fault: PlayFault,
+) -> u8
     ensures { result ≡ fault_status fault }
 {
     tell(rt, &fault);
+    explain_fault(rt, alloc, words, inputs.source.as_slice(), &fault);
     status_of(&Err(fault))
 }
 
@@ -120,27 +145,37 @@ fn tell_only<R: Files + Print>(
     asked: Asked,
     answer: &Answer,
 ) -> Result<(), Failure> {
-    let mut out = Counted::new(io::writer(rt));
-    print_only(&mut out, alloc, asked, answer)?;
+    let mut screen = Noting::new(io::writer(rt));
+    let printed = print_only(&mut Counted::new(&mut screen), alloc, asked, answer)?;
+    check_printed(printed, screen.reason())?;
     let mut folder = Disk::new(rt, alloc);
     record_only(&mut folder, alloc, words, answer)
 }
 
-/// Prints the one answer.
+/// Refuses where standard output was not written, for this reason.
+fn check_printed(printed: bool, reason: Reason) -> Result<(), Failure>
+    ensures printed { OnOk result (IsTrue printed) }
+    ensures failed { IfErr result (λ failure. failure ≡ Failure.Write (trouble stream.Output reason)) }
+{
+    if printed {
+        return Ok(());
+    }
+    let stream = Stream::Output;
+    Err(Failure::Write(Trouble { stream, reason }))
+}
+
+/// Prints the one answer, and says whether all of it was written.
 fn print_only<W: Write>(
     out: &mut Counted<W>,
     alloc: Global,
     asked: Asked,
     answer: &Answer,
-) -> Result<(), Failure>
+) -> Result<bool, AllocError>
     requires room { failures_of out.old < 2 ^ 64 - 1 }
-    ensures { OnOk result (Appends (W.contents (writer_of out.old)) (W.contents (writer_of out.new)) (only_text asked answer.now)) }
+    ensures { IfOk result (λ printed. IsTrue printed → Appends (W.contents (writer_of out.old)) (W.contents (writer_of out.new)) (only_text asked answer.now)) }
 {
     let text = only_text(alloc, asked, answer)?;
-    match write_answer(text.as_slice(), out) {
-        Ok(()) => Ok(()),
-        Err(_) => Err(Failure::Write),
-    }
+    Ok(write_answer(text.as_slice(), out).is_ok())
 }
 
 /// Writes the choices of the one answer into a file, where the words name one.
@@ -168,8 +203,11 @@ fn tell_found<R: Files + Print + Eprint>(
 ) -> Result<(), Failure> {
     match found {
         Ok(exploration) => {
-            let mut out = Counted::new(io::writer(rt));
-            print_answers(&mut out, alloc, words, asked, exploration)?;
+            let mut screen = Noting::new(io::writer(rt));
+            let mut out = Counted::new(&mut screen);
+            let printed = print_answers(&mut out, alloc, words, asked, exploration)?;
+            drop(out);
+            check_printed(printed, screen.reason())?;
             let mut folder = Disk::new(rt, alloc);
             record_answers(&mut folder, alloc, words, exploration.answers.as_slice())
         }
@@ -180,12 +218,21 @@ fn tell_found<R: Files + Print + Eprint>(
     }
 }
 
-/// The file that the choices of the answer with this number go into.
-fn answer_path(alloc: Global, stem: &str, number: usize) -> Result<String, AllocError>
-    ensures { IfOk result (λ path. string_bytes path ≡ answer_path stem.now number) }
-{
-    let path = format!(in alloc; "{stem}.{number}.choices")?;
-    Ok(path)
+/// Explains what a search has found, or why the source was refused.
+fn explain_found<R: Eprint>(
+    rt: &R,
+    alloc: Global,
+    words: &Words<'_>,
+    inputs: &Inputs,
+    found: &Result<Exploration, PlayFault>,
+) {
+    match found {
+        Ok(exploration) => {
+            let answers = first_answers(exploration.answers.as_slice());
+            explain_answers(rt, alloc, words, inputs, answers);
+        }
+        Err(fault) => explain_fault(rt, alloc, words, inputs.source.as_slice(), fault),
+    }
 }
 
 /// Refuses to write the choices of an answer into the file that the source is read from, by whatever path.
@@ -203,11 +250,12 @@ fn check_records<R: Files>(rt: &R, alloc: Global, words: &Words<'_>) -> Result<(
 }
 
 /// What the lists of choices come to, as the words ask.
-fn search(
+fn search<P: Progress>(
     alloc: Global,
     words: &Words<'_>,
     inputs: &Inputs,
     asked: Asked,
+    progress: &mut P,
 ) -> Result<Exploration, PlayFault>
     ensures { SearchedTo words.now inputs.now.source.items inputs.now.keyboard.items asked result }
 {
@@ -219,6 +267,7 @@ fn search(
         asked,
         words.full,
         words.states,
+        progress,
     )
 }
 
@@ -232,22 +281,19 @@ fn status_of_found(found: Result<Exploration, PlayFault>) -> u8
     }
 }
 
-/// Prints what a search has found.
+/// Prints what a search has found, and says whether all of it was written.
 fn print_answers<W: Write>(
     out: &mut Counted<W>,
     alloc: Global,
     words: &Words<'_>,
     asked: Asked,
     exploration: &Exploration,
-) -> Result<(), Failure>
+) -> Result<bool, AllocError>
     requires room { failures_of out.old < 2 ^ 64 - 1 }
-    ensures { OnOk result (Appends (W.contents (writer_of out.old)) (W.contents (writer_of out.new)) (exploration_text asked words.now.states exploration.now)) }
+    ensures { IfOk result (λ printed. IsTrue printed → Appends (W.contents (writer_of out.old)) (W.contents (writer_of out.new)) (exploration_text asked words.now.states exploration.now)) }
 {
     let text = exploration_text(alloc, exploration, asked, words.states)?;
-    match write_answer(text.as_slice(), out) {
-        Ok(()) => Ok(()),
-        Err(_) => Err(Failure::Write),
-    }
+    Ok(write_answer(text.as_slice(), out).is_ok())
 }
 
 /// Those of the answers that are printed.
@@ -304,11 +350,13 @@ fn record_answer<F: Folder>(
     choices: &[Choice],
 ) -> Result<(), Failure>
     ensures ok { OnOk result (Leaves (F.left folder.old) (F.left folder.new) (answer_path stem.now number) (choice_text choices.now)) }
+    ensures failed { IfErr result (FailsToWrite (stream.Answer number)) }
     ensures err { OnErr result (LeavesNothing (F.left folder.old) (F.left folder.new) ⊎ Leaves (F.left folder.old) (F.left folder.new) (answer_path stem.now number) (choice_text choices.now)) }
 {
     let path = answer_path(alloc, stem, number)?;
     let text = choices_text(alloc, choices)?;
-    folder
-        .save(path.as_str(), text.as_slice())
-        .map_err(of_write)
+    match folder.save(path.as_str(), text.as_slice()) {
+        Ok(()) => Ok(()),
+        Err(error) => Err(of_write(Stream::Answer(number), error)),
+    }
 }

@@ -3,6 +3,7 @@
 //! [`exit_code`] tells the machine so.
 #![tactic(auto)]
 
+mod counting;
 mod drawing;
 pub mod exit;
 mod explaining;
@@ -11,9 +12,11 @@ mod looking;
 mod page;
 pub mod program;
 mod recording;
+mod reporting;
 mod seeding;
 mod stepping;
 mod tracing;
+mod troubles;
 
 pub use exit::exit_code;
 pub use program::run;

@@ -1,7 +1,8 @@
 //! The program around `play`: what it reads and prints, and its exit status.
-ghost use Rattle.std.specs.Prelude.{◌≡◌, ◌≤◌, ◌<◌, ◌-◌, ◌^◌, ◌⊎◌, IfOk, IfSome, None, Some, false, true};
+ghost use Rattle.std.specs.Prelude.{◌≡◌, ◌≤◌, ◌<◌, ◌-◌, ◌^◌, ◌⊎◌, IfErr, IfOk, IfSome, None, Some, false, true};
 ghost use Rattle.occ_program.specs.Coming.{CameToBy, IsLookStatus, IsStatusFor, ProgramStatus, options_in, workers_asked};
 ghost use Rattle.occ_shown.specs.Counting.{failures_of};
+ghost use Rattle.occ_play.specs.Playing.{Refuses};
 ghost use Rattle.occ_play.specs.Status.{status};
 ghost use Rattle.occ_play_inputs.specs.Failures.{failure_status};
 ghost use Rattle.occ_program.specs.Lines.{run_line};
@@ -15,16 +16,17 @@ use crate::recording::record;
 use crate::seeding::take_seed;
 use crate::stepping::step;
 use crate::tracing::trace;
-use occ_files::Disk;
+use crate::troubles::explain_failure;
+use occ_files::{Disk, Folder, Noting, Reason, printed_name, reason_of};
 use occ_play::{
     FreeGate, Opened, Options, PlayFault, Played, RunFault, play_in, play_workers_in, status_of,
 };
 use occ_play_inputs::failure::{of_arguments, of_words};
-use occ_play_inputs::{Failure, Inputs, Words, read_inputs, read_words};
+use occ_play_inputs::{Failure, Inputs, Stream, Trouble, Words, read_inputs, read_words};
 use occ_shown::Counted;
 use occ_watching::play_watching;
 use std::alloc::Global;
-use std::io::Write;
+use std::io::{IsTerminal, Write};
 use std::marker::Brand;
 use std::rt::{Env, Files};
 use std::sync::Wait;
@@ -41,13 +43,18 @@ const MOST_LINES: usize = 2;
 /// help or a source that is not refused where that is all that is asked, 1 source refused, 2 stopped, 3 fault, 4 limit, 5 want of memory or
 /// threads that gave no answer, 6 a file or stream that couldn't be
 /// read or written, 7 wrong words or a refused file of choices.
-pub fn run<R: Files + Input + Print + Eprint + Env + AllocGlobal + Threads + Wait + Sync>(
-    rt: &R,
-) -> u8
+///
+/// `errors` is standard error: where it is a terminal, a search tells there how far it has come.
+pub fn run<
+    R: Files + Input + Print + Eprint + Env + AllocGlobal + Threads + Wait + Sync,
+    E: IsTerminal,
+>(rt: &R, errors: &E) -> u8
+where
+    R::Reader: IsTerminal,
     ensures came { ProgramStatus result }
     ensures small { result ≤ 7 }
 {
-    match run_arguments(rt, rt.alloc()) {
+    match run_arguments(rt, rt.alloc(), errors.is_terminal()) {
         Ok(status) => status,
         Err(failure) => report(rt, rt.alloc(), &failure),
     }
@@ -56,7 +63,10 @@ pub fn run<R: Files + Input + Print + Eprint + Env + AllocGlobal + Threads + Wai
 fn run_arguments<R: Files + Input + Print + Eprint + Env + AllocGlobal + Threads + Wait + Sync>(
     rt: &R,
     alloc: Global,
+    on_terminal: bool,
 ) -> Result<u8, Failure>
+where
+    R::Reader: IsTerminal,
     ensures came { IfOk result (λ status. ProgramStatus status) }
     ensures small { IfOk result (λ status. status ≤ 7) }
 {
@@ -66,7 +76,29 @@ fn run_arguments<R: Files + Input + Print + Eprint + Env + AllocGlobal + Threads
         .map(|argument| argument.as_str())
         .collect(alloc)?;
     let words = read_words(alloc, words.as_slice()).map_err(of_words)?;
-    do_words(rt, alloc, &words)
+    Ok(do_and_tell(rt, alloc, &words, on_terminal))
+}
+
+/// Does what the words say, and answers the exit status. Where that fails, why is printed, and more where the words ask for it.
+fn do_and_tell<R: Files + Input + Print + Eprint + Threads + Wait + Sync>(
+    rt: &R,
+    alloc: Global,
+    words: &Words<'_>,
+    on_terminal: bool,
+) -> u8
+where
+    R::Reader: IsTerminal,
+    ensures came { ProgramStatus result }
+    ensures small { result ≤ 7 }
+{
+    match do_words(rt, alloc, words, on_terminal) {
+        Ok(status) => status,
+        Err(failure) => {
+            let status = report(rt, alloc, &failure);
+            explain_failure(rt, alloc, words, &failure);
+            status
+        }
+    }
 }
 
 /// Searches all lists of choices, looks at the source, or plays one run, as the words ask.
@@ -74,12 +106,15 @@ fn do_words<R: Files + Input + Print + Eprint + Threads + Wait + Sync>(
     rt: &R,
     alloc: Global,
     words: &Words<'_>,
+    on_terminal: bool,
 ) -> Result<u8, Failure>
+where
+    R::Reader: IsTerminal,
     ensures came { IfOk result (λ status. ProgramStatus status) }
     ensures small { IfOk result (λ status. status ≤ 7) }
 {
     match words.explore {
-        Some(asked) => explore_words(rt, alloc, words, asked),
+        Some(asked) => explore_words(rt, alloc, words, asked, on_terminal),
         None => look_or_run(rt, alloc, words),
     }
 }
@@ -90,6 +125,8 @@ fn look_or_run<R: Files + Input + Print + Eprint + Threads + Wait + Sync>(
     alloc: Global,
     words: &Words<'_>,
 ) -> Result<u8, Failure>
+where
+    R::Reader: IsTerminal,
     ensures looked { words.now.check ≡ true → IfOk result (IsLookStatus words.now) }
     ensures played { words.now.check ≡ false → IfOk result (IsStatusFor words.now) }
     ensures small { IfOk result (λ status. status ≤ 7) }
@@ -108,20 +145,40 @@ fn run_words<R: Files + Input + Print + Eprint + Threads + Wait + Sync>(
     alloc: Global,
     words: &Words<'_>,
 ) -> Result<u8, Failure>
+where
+    R::Reader: IsTerminal,
     ensures came { IfOk result (IsStatusFor words.now) }
     ensures small { IfOk result (λ status. status ≤ 7) }
 {
     let mut inputs = read_inputs(rt, alloc, words)?;
     take_seed(alloc, words, &mut inputs)?;
-    let mut out = Counted::new(io::writer(rt));
-    let played = play_inputs(rt, alloc, words, &inputs, &mut out)?;
+    let mut screen = Noting::new(io::writer(rt));
+    let played = play_on(rt, alloc, words, &inputs, &mut screen)?;
     let mut folder = Disk::new(rt, alloc);
-    record(&mut folder, alloc, words, &played)?;
-    let drawn = draw(&mut folder, alloc, words, &inputs, &played)?;
-    let traced = trace(&mut folder, alloc, words, &inputs, &played)?;
-    let stepped = step(&mut folder, alloc, words, &inputs, &played)?;
-    let came = stepped.and(traced).and(drawn).and(played);
-    Ok(told(rt, alloc, words, &inputs, &came))
+    let left = leave(&mut folder, alloc, words, &inputs, &played)?;
+    let came = left.and(played);
+    Ok(told(rt, alloc, words, &inputs, &came, screen.reason()))
+}
+
+/// Records the used choices, draws a chart, and writes the trace and the turns, in this order, where the words ask for that. Where one
+/// of them fails, the next ones are not begun.
+fn leave<F: Folder>(
+    folder: &mut F,
+    alloc: Global,
+    words: &Words<'_>,
+    inputs: &Inputs,
+    played: &Result<Played, PlayFault>,
+) -> Result<Result<(), PlayFault>, Failure>
+    ensures { IfOk result (λ left. IfErr left (Refuses (options_in words.now) inputs.now.source.items)) }
+{
+    record(folder, alloc, words, played)?;
+    if let Err(fault) = draw(folder, alloc, words, inputs, played)? {
+        return Ok(Err(fault));
+    }
+    if let Err(fault) = trace(folder, alloc, words, inputs, played)? {
+        return Ok(Err(fault));
+    }
+    step(folder, alloc, words, inputs, played)
 }
 
 /// Prints the line of a fault, and more where the words ask for it, and answers the exit status.
@@ -131,13 +188,14 @@ fn told<R: Eprint>(
     words: &Words<'_>,
     inputs: &Inputs,
     came: &Result<Played, PlayFault>,
+    reason: Reason,
 ) -> u8
     ensures { result ≡ status came.now }
 {
     if let Err(fault) = came {
         tell(rt, fault);
     }
-    explain(rt, alloc, words, inputs, came);
+    explain(rt, alloc, words, inputs, came, reason);
     status_of(came)
 }
 
@@ -181,6 +239,20 @@ fn workers_of(words: &Words<'_>) -> Option<u32>
         None => words.workers,
         Some(_) => None,
     }
+}
+
+/// Plays the source by the plan, or by workers, and writes the answer.
+fn play_on<R: Eprint + Threads + Wait + Sync, W: Write>(
+    rt: &R,
+    alloc: Global,
+    words: &Words<'_>,
+    inputs: &Inputs,
+    screen: &mut W,
+) -> Result<Result<Played, PlayFault>, Failure>
+    ensures { IfOk result (CameToBy (workers_asked words.now.watch words.now.workers words.now.choices) words.now inputs.now.source.items inputs.now.keyboard.items (choices_of inputs.now.plan)) }
+{
+    let mut out = Counted::new(screen);
+    play_inputs(rt, alloc, words, inputs, &mut out)
 }
 
 /// Plays the source by the plan, or by workers.
@@ -285,8 +357,9 @@ fn report<R: Print + Eprint>(rt: &R, alloc: Global, failure: &Failure) -> u8
 {
     match failure {
         Failure::Help(help) => {
-            if help.print(rt).is_err() {
-                return report_line(rt, &Failure::Write);
+            if let Err(error) = help.print(rt) {
+                let (stream, reason) = (Stream::Output, reason_of(&error));
+                return report_line(rt, &Failure::Write(Trouble { stream, reason }));
             }
         }
         Failure::Words(error) => tell_words(rt, alloc, error),
@@ -298,19 +371,28 @@ fn report<R: Print + Eprint>(rt: &R, alloc: Global, failure: &Failure) -> u8
 /// Prints what is wrong with the words, in three lines at most.
 fn tell_words<R: Eprint>(rt: &R, alloc: Global, error: &clap::Error) {
     if let Ok(text) = format!(in alloc; "{error}") {
-        tell_lines(rt, text.as_str());
+        tell_lines(rt, alloc, text.as_str());
     }
     let _ = eprintln!(rt; "{ALLOWED}");
 }
 
 /// Prints the first lines of a text that say something.
-fn tell_lines<R: Eprint>(rt: &R, text: &str) {
+fn tell_lines<R: Eprint>(rt: &R, alloc: Global, text: &str) {
     let mut told = 0;
     for line in text.lines() {
         if told < MOST_LINES && !line.is_empty() {
-            let _ = eprintln!(rt; "{line}");
+            tell_line(rt, alloc, line);
             told += 1;
         }
+    }
+}
+
+/// Prints a line that may have names of files.
+fn tell_line<R: Eprint>(rt: &R, alloc: Global, line: &str) {
+    if let Ok(line) = printed_name(alloc, line.as_bytes())
+        && let Ok(line) = str::from_utf8(line.as_slice())
+    {
+        let _ = eprintln!(rt; "{line}");
     }
 }
 

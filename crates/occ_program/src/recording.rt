@@ -1,13 +1,15 @@
 //! Writes the choices of a run into a file, by which it can be played again.
-ghost use Rattle.std.specs.Prelude.{◌≡◌, IfOk};
+ghost use Rattle.std.specs.Prelude.{◌≡◌, IfErr, IfOk};
 ghost use Rattle.occ_choices.specs.Lines.{choice_text};
+ghost use Rattle.occ_play_inputs.specs.Failures.{FailsToWrite};
+ghost use Rattle.occ_play_inputs.specs.declared.failure.Stream.TheVariants.{Record};
 ghost use Rattle.occ_program.specs.Pages.{IsLeft, Records};
 
 use crate::page::{Page, write_page};
 use occ_choices::choices_text;
 use occ_files::Folder;
 use occ_play::{PlayFault, Played};
-use occ_play_inputs::{Failure, Words};
+use occ_play_inputs::{Failure, Stream, Words};
 use std::alloc::Global;
 
 /// Writes the used choices into the file that the words name, where a run answered.
@@ -17,10 +19,11 @@ pub(crate) fn record<F: Folder>(
     words: &Words<'_>,
     played: &Result<Played, PlayFault>,
 ) -> Result<(), Failure>
-    ensures { IsLeft (Records words.now.«record» played.now) (F.left folder.old) (F.left folder.new) result }
+    ensures left { IsLeft (Records words.now.«record» played.now) (F.left folder.old) (F.left folder.new) result }
+    ensures failed { IfErr result (FailsToWrite Record) }
 {
     let page = recorded(alloc, words, played)?;
-    write_page(folder, &page)
+    write_page(folder, Stream::Record, &page)
 }
 
 /// What is to be recorded, and where: all choices that a run used, in the file that the words name.
@@ -29,7 +32,8 @@ fn recorded<'a>(
     words: &Words<'a>,
     played: &Result<Played, PlayFault>,
 ) -> Result<Option<Page<'a>>, Failure>
-    ensures { IfOk result (Records words.now.«record» played.now) }
+    ensures recorded { IfOk result (Records words.now.«record» played.now) }
+    ensures failed { IfErr result (FailsToWrite Record) }
 {
     match (words.record, played) {
         (Some(path), Ok(played)) => {

@@ -1,8 +1,8 @@
 //! Tries the seeds that the words ask for.
-ghost use Rattle.std.specs.Prelude.{◌+◌, ◌-◌, ◌^◌, ◌≤◌, ◌<◌, IfOk, IsTrue, OnOk};
+ghost use Rattle.std.specs.Prelude.{◌+◌, ◌-◌, ◌^◌, ◌≤◌, ◌<◌, IfOk, IsFalse, IsTrue, OnOk};
 ghost use Rattle.occ_choices.specs.Plans.{choices_of};
 ghost use Rattle.occ_play_inputs.specs.Asked.{IsAskedBy, IsSeeded};
-ghost use Rattle.occ_program.specs.Trying.{EndsBy, HasEnded, IsTried};
+ghost use Rattle.occ_program.specs.Trying.{EndsBy, EndsNot, HasEnded, IsTried};
 ghost use Rattle.occ_seeds.specs.Seeds.{seeded};
 ghost use Rattle.occ_shown.specs.Counting.{failures_of};
 
@@ -89,7 +89,8 @@ fn ends_by(
     limit: u32,
     seed: u32,
 ) -> Result<bool, AllocError>
-    ensures { IfOk result (λ ends. IsTrue ends → EndsBy options.now source.now keyboard.now (seeded seed limit)) }
+    ensures ends { IfOk result (λ ends. IsTrue ends → EndsBy options.now source.now keyboard.now (seeded seed limit)) }
+    ensures not { IfOk result (λ ends. IsFalse ends → EndsNot options.now source.now keyboard.now (seeded seed limit)) }
 {
     let plan = seeded_plan(alloc, seed, limit)?;
     let mut answer = Vec::new(alloc);
@@ -108,7 +109,8 @@ fn ends_on<W: Write>(
     out: &mut Counted<W>,
 ) -> bool
     requires room { failures_of out.old < 2 ^ 64 - 1 }
-    ensures { IsTrue result → EndsBy options.now source.now keyboard.now (choices_of plan.now) }
+    ensures ends { IsTrue result → EndsBy options.now source.now keyboard.now (choices_of plan.now) }
+    ensures not { IsFalse result → EndsNot options.now source.now keyboard.now (choices_of plan.now) }
 {
     let played = play_in(options, alloc, source, keyboard, plan, false, out);
     has_ended(&played)
@@ -116,7 +118,8 @@ fn ends_on<W: Write>(
 
 /// Whether a play came to the end of its run.
 fn has_ended(played: &Result<Played, PlayFault>) -> bool
-    ensures { IsTrue result → HasEnded played.now }
+    ensures ends { IsTrue result → HasEnded played.now }
+    ensures not { IsFalse result → HasEnded played.now → ⊥ }
 {
     match played {
         Ok(played) => played.ending == Ending::Ended,

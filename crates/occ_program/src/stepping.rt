@@ -1,5 +1,7 @@
 //! Writes the turns of a run into a file.
 ghost use Rattle.std.specs.Prelude.{IfErr, IfOk};
+ghost use Rattle.occ_play_inputs.specs.Failures.{FailsToWrite};
+ghost use Rattle.occ_play_inputs.specs.declared.failure.Stream.TheVariants.{Turns};
 ghost use Rattle.occ_program.specs.Coming.{options_in};
 ghost use Rattle.occ_program.specs.Pages.{LeavesOrRefuses, Steps, StepsPage};
 ghost use Rattle.occ_play.specs.Playing.{Refuses};
@@ -9,7 +11,7 @@ use crate::program::options_of;
 use occ_explaining::steps_of;
 use occ_files::Folder;
 use occ_play::{PlayFault, Played};
-use occ_play_inputs::{Failure, Inputs, Words};
+use occ_play_inputs::{Failure, Inputs, Stream, Words};
 use std::alloc::Global;
 
 /// Writes a line for each turn of the run of these inputs into the file that the words name, where it answered: of the run by the
@@ -23,10 +25,11 @@ pub(crate) fn step<F: Folder>(
 ) -> Result<Result<(), PlayFault>, Failure>
     ensures refused { IfOk result (λ stepped. IfErr stepped (Refuses (options_in words.now) inputs.now.source.items)) }
     ensures left { LeavesOrRefuses (StepsPage (options_in words.now) inputs.now.source.items inputs.now.keyboard.items words.now.steps played.now) (F.left folder.old) (F.left folder.new) result }
+    ensures failed { IfErr result (FailsToWrite Turns) }
 {
     match page_of(alloc, words, inputs, played) {
         Ok(page) => {
-            write_page(folder, &page)?;
+            write_page(folder, Stream::Turns, &page)?;
             Ok(Ok(()))
         }
         Err(fault) => Ok(Err(fault)),

@@ -1,5 +1,7 @@
 //! Writes the trace of a run into a file.
 ghost use Rattle.std.specs.Prelude.{◌≡◌, IfErr, IfOk};
+ghost use Rattle.occ_play_inputs.specs.Failures.{FailsToWrite};
+ghost use Rattle.occ_play_inputs.specs.declared.failure.Stream.TheVariants.{Trace};
 ghost use Rattle.occ_program.specs.Coming.{options_in};
 ghost use Rattle.occ_program.specs.Pages.{LeavesOrRefuses, TracePage, Traces, form_in};
 ghost use Rattle.occ_play.specs.Playing.{Refuses};
@@ -10,7 +12,7 @@ use crate::page::{Page, write_page};
 use crate::program::options_of;
 use occ_files::Folder;
 use occ_play::{PlayFault, Played};
-use occ_play_inputs::{Failure, Inputs, Words};
+use occ_play_inputs::{Failure, Inputs, Stream, Words};
 use occ_tracing::{Form, traced};
 use std::alloc::Global;
 
@@ -25,10 +27,11 @@ pub(crate) fn trace<F: Folder>(
 ) -> Result<Result<(), PlayFault>, Failure>
     ensures refused { IfOk result (λ traced. IfErr traced (Refuses (options_in words.now) inputs.now.source.items)) }
     ensures left { LeavesOrRefuses (TracePage (options_in words.now) inputs.now.source.items inputs.now.keyboard.items (form_in words.now.json) words.now.trace_to played.now) (F.left folder.old) (F.left folder.new) result }
+    ensures failed { IfErr result (FailsToWrite Trace) }
 {
     match page_of(alloc, words, inputs, played)? {
         Ok(page) => {
-            write_page(folder, &page)?;
+            write_page(folder, Stream::Trace, &page)?;
             Ok(Ok(()))
         }
         Err(fault) => Ok(Err(fault)),
@@ -42,7 +45,8 @@ fn page_of<'a>(
     inputs: &Inputs,
     played: &Result<Played, PlayFault>,
 ) -> Result<Result<Option<Page<'a>>, PlayFault>, Failure>
-    ensures { IfOk result (Traces (options_in words.now) inputs.now.source.items inputs.now.keyboard.items (form_in words.now.json) words.now.trace_to played.now) }
+    ensures written { IfOk result (Traces (options_in words.now) inputs.now.source.items inputs.now.keyboard.items (form_in words.now.json) words.now.trace_to played.now) }
+    ensures failed { IfErr result (FailsToWrite Trace) }
 {
     match (words.trace_to, played) {
         (Some(path), Ok(played)) => match text_of(alloc, words, inputs, played)? {
@@ -69,6 +73,7 @@ fn text_of(
 ) -> Result<Result<Vec<u8>, PlayFault>, Failure>
     ensures traced { IfOk result (λ text. IfOk text (λ bytes. IsTraced (options_in words.now) inputs.now.source.items inputs.now.keyboard.items played.now.choices.items (form_in words.now.json) bytes.items)) }
     ensures refused { IfOk result (λ text. IfErr text (Refuses (options_in words.now) inputs.now.source.items)) }
+    ensures failed { IfErr result (FailsToWrite Trace) }
 {
     let plan = plan_of(alloc, played.choices.as_slice())?;
     Ok(traced(

@@ -1,2 +1,5 @@
 pub mod Alone
 mod Told
+mod Moves
+mod Staying
+mod Desks

@@ -1,9 +1,9 @@
 -- What the workers of a run gather.
 -- Manual: nothing; this is (own).
-use Rattle.std.specs.Prelude.{IsSome, List, None, Some, false, length, replicate, ℕ, ◌<◌, ◌≡◌, ◌≤◌, ◌⊎◌}
+use Rattle.std.specs.Prelude.{List, None, Some, false, length, replicate, ℕ, ◌≡◌, ◌≤◌, ◌⊎◌}
 use Rattle.occ_code.specs.Compiled.{Program}
 use Rattle.occ_net_replay.specs.Replay.{Net, Replays, ending_of}
-use Rattle.occ_net.specs.Networks.{IsState, Past}
+use Rattle.occ_net.specs.Networks.{Past}
 use Rattle.occ_net.specs.Outcomes.{Shows}
 use Rattle.occ_net.specs.declared.outcome.Outcome.{Outcome}
 use Rattle.occ_run.specs.declared.fault.RunFault.{RunFault}
@@ -32,27 +32,14 @@ pub record IsOfRun (p : Program) (keyboard : List ℕ) (limit : ℕ) (n : Past) 
   pub bytes : n.keyboard ≡ keyboard
   pub few : length n.choices ≤ limit
 
--- it has so many choices, or an ending
-abbrev pub IsWhole : ℕ → Past → Type 0
-IsWhole limit n = (limit ≤ length n.choices) ⊎ ((net : Net) → IsState n net → IsSome (ending_of n.program.errors net))
-
--- it has fewer, and goes on
-abbrev pub IsUnfinished : ℕ → Past → Type 0
-IsUnfinished limit n = (length n.choices < limit) × ((net : Net) → IsState n net → ending_of n.program.errors net ≡ None)
-
 -- what a run that stopped so answers
 abbrev pub stop_fault : Stop → RunFault
-stop_fault stop.Foreign = fault.Foreign
 stop_fault stop.Spawn = fault.Spawn
 stop_fault stop.Memory = fault.Memory
 
--- Why what was gathered gives no outcome: it is of another run, or it stopped, or it is unfinished. Want of memory says nothing of one
--- that didn't stop.
-abbrev pub IsNoRun : Program → List ℕ → ℕ → Progress → RunFault → Type 0
-IsNoRun p keyboard limit b fault.BadWorkers = ⊥
-IsNoRun p keyboard limit b fault.Spawn = b.stop ≡ Some stop.Spawn
-IsNoRun p keyboard limit b fault.Foreign =
-    (IsOfRun p keyboard limit b.network → ⊥)
-    ⊎ (b.stop ≡ Some stop.Foreign)
-    ⊎ ((b.stop ≡ None) × IsUnfinished limit b.network)
-IsNoRun p keyboard limit b fault.Memory = (b.stop ≡ Some stop.Memory) ⊎ (b.stop ≡ None)
+-- Why what was gathered gives no outcome: it stopped. Want of memory says nothing of one that didn't stop.
+abbrev pub IsNoRun : Progress → RunFault → Type 0
+IsNoRun b fault.BadWorkers = ⊥
+IsNoRun b fault.Foreign = ⊥
+IsNoRun b fault.Spawn = b.stop ≡ Some stop.Spawn
+IsNoRun b fault.Memory = (b.stop ≡ Some stop.Memory) ⊎ (b.stop ≡ None)

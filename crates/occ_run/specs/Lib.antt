@@ -1,3 +1,5 @@
 pub mod Gathered
 pub mod Steps
+pub mod Tokens
+pub mod Held
 pub mod FaultTexts

@@ -3,17 +3,15 @@
 use Rattle.std.specs.Prelude.{IsSome, None, Option, Some, false, if◌then◌else◌, is_some, length, min, ℕ, ◌+◌, ◌-◌, ◌<◌, ◌^◌, ◌≤◌, ◌≡◌, ◌⊎◌}
 use Rattle.occ_proc.specs.Turns.{Taken}
 use Rattle.occ_net_replay.specs.Replay.{Net, ending_of}
-use Rattle.occ_net.specs.declared.fault.NetFault.{NetFault}
-use Rattle.occ_net.specs.declared.fault.NetFault.TheVariants as net_fault
 use Rattle.occ_net.specs.declared.leasing.Lease.{Lease}
 use Rattle.occ_net.specs.Leases.{CanTurn, Leases, LeasesOne}
 use Rattle.occ_net.specs.Networks.{IsState, ready_in, with_out}
-use Rattle.occ_net.specs.Settling.{Refuses, Settles}
+use Rattle.occ_net.specs.Settling.{Settles}
 use Rattle.occ_run.specs.declared.progress.Next.{Next}
 use Rattle.occ_run.specs.declared.progress.Next.TheVariants as next
 use Rattle.occ_run.specs.declared.progress.Progress.{Progress}
 use Rattle.occ_run.specs.declared.progress.Stop.{Stop}
-use Rattle.occ_run.specs.declared.progress.Stop.TheVariants.{Foreign, Memory}
+use Rattle.occ_run.specs.declared.progress.Stop.TheVariants.{Memory}
 use Rattle.occ_run.specs.declared.progress.Wake.{Wake}
 use Rattle.occ_run.specs.declared.progress.Wake.TheVariants.{Nobody, One, All}
 
@@ -84,22 +82,14 @@ pub record Drops (old new : Progress) (number : ℕ) : Type 0 where
   pub released : new.network ≡ with_out old.network number false
   pub stop : new.stop ≡ old.stop
 
--- why a run stops where its network refuses a turn so
-abbrev pub stop_for : NetFault → Stop
-stop_for net_fault.Memory = Memory
-stop_for (net_fault.Stale number turns) = Foreign
-stop_for (net_fault.Over ending) = Foreign
-
--- the network of an open run refuses a turn: its process is in again, and the run stops
-pub record StopsAt (old new : Progress) (turn : Taken) : Type 0 where
+-- an open run stops, since a growth was refused for a turn: its process is in again
+pub record StopsAt (old new : Progress) (number : ℕ) : Type 0 where
   pub going : IsOpen old
-  pub fault : NetFault
-  pub refuses : (net : Net) → IsState old.network net → Refuses old.network net turn fault
-  pub released : new.network ≡ with_out old.network turn.before.number false
-  pub stop : new.stop ≡ Some (stop_for fault)
+  pub released : new.network ≡ with_out old.network number false
+  pub stop : new.stop ≡ Some Memory
 
 abbrev pub TakesIn : Progress → Progress → Taken → Type 0
-TakesIn old new turn = TakesOne old new turn ⊎ Drops old new turn.before.number ⊎ StopsAt old new turn
+TakesIn old new turn = TakesOne old new turn ⊎ Drops old new turn.before.number ⊎ StopsAt old new turn.before.number
 
 -- Who is woken: where workers rest, one of them where more processes are ready than are out, all where the run is over, and else
 -- nobody. Those that are woken no longer count as resting.

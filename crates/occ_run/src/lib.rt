@@ -3,11 +3,13 @@
 //! communications published meanwhile, for watchers who never wait.
 #![tactic(auto)]
 
+mod desk;
 pub mod fault;
 pub mod gate;
 pub mod outcome;
 mod progress;
 pub mod run;
+mod tokens;
 pub mod watched;
 mod workers;
 

@@ -1,11 +1,13 @@
 //! How far the workers have come: what lies under the lock, and the steps that they take there.
 ghost use Rattle.std.specs.Prelude.{◌≡◌, ◌-◌, IfErr, IfNone, IfOk, IfSome, None, false, length};
 ghost use Rattle.std.specs.Arc.{arc_value};
-ghost use Rattle.occ_net.specs.Networks.{with_out};
-ghost use Rattle.occ_run.specs.Steps.{IsOpen, IsOver, IsStep, IsWake, KeepsCounts, TakesIn, first_stop, stop_for};
+ghost use Rattle.occ_net_replay.specs.Replay.{Net};
+ghost use Rattle.occ_net.specs.Networks.{IsState, with_out};
+ghost use Rattle.occ_net.specs.Settling.{IsOwn};
+ghost use Rattle.occ_run.specs.Steps.{IsOpen, IsOver, IsStep, IsWake, KeepsCounts, TakesIn, first_stop};
 
 use occ_code::Task;
-use occ_net::{Lease, NetFault, Network};
+use occ_net::{Lease, Network};
 use occ_proc::Segment;
 use std::alloc::{AllocError, Global};
 
@@ -15,8 +17,6 @@ pub type Done = Result<Segment, (Task, AllocError)>;
 /// Why a run stops before its limit and before its network ends.
 #[derive(Clone, Copy, Debug, PartialEq, Eq)]
 pub enum Stop {
-    /// A turn was not the network's own.
-    Foreign,
     /// A thread was refused.
     Spawn,
     /// A growth was refused.
@@ -149,9 +149,10 @@ impl Progress {
         }
     }
 
-    /// Takes in a turn that was run, or gives its process back. What a turn that was settled had been
-    /// leased with is handed out.
+    /// Takes in a turn that was run, which is the network's own, or gives its process back. What a turn
+    /// that was settled had been leased with is handed out.
     pub fn take_in(&mut self, alloc: Global, done: Done) -> Option<Lease>
+        requires { IfOk done (λ segment. (net : Net) → IsState self.old.network net → IsOwn self.old.network net segment) }
         ensures limit { self.new.limit ≡ self.old.limit }
         ensures ran { IfOk done (λ segment. TakesIn self.old self.new segment) }
         ensures refused { IfErr done (λ e. (self.new.network ≡ with_out self.old.network e.0.number false) × (self.new.stop ≡ first_stop self.old.stop Stop.Memory)) }
@@ -163,13 +164,14 @@ impl Progress {
         match done {
             Ok(segment) => self.take_segment(alloc, segment),
             Err((before, AllocError)) => {
-                self.give_back(number_of(before), Stop::Memory);
+                self.give_back(number_of(before));
                 None
             }
         }
     }
 
     fn take_segment(&mut self, alloc: Global, segment: Segment) -> Option<Lease>
+        requires { (net : Net) → IsState self.old.network net → IsOwn self.old.network net segment }
         ensures limit { self.new.limit ≡ self.old.limit }
         ensures takes { TakesIn self.old self.new segment }
         ensures counts { KeepsCounts self.old self.new }
@@ -181,25 +183,25 @@ impl Progress {
             self.network.release(number);
             return None;
         };
-        match self.network.settle_spent(alloc, segment, pick) {
+        match self.network.settle_own(alloc, segment, pick) {
             Ok(spent) => Some(spent),
-            Err((segment, fault)) => {
+            Err(segment) => {
                 let_go(segment);
-                self.give_back(number, stop_of(&fault));
+                self.give_back(number);
                 None
             }
         }
     }
 
-    /// The process is in again, and the run stops.
-    fn give_back(&mut self, number: u32, stop: Stop)
+    /// The process is in again, and the run stops, since a growth was refused.
+    fn give_back(&mut self, number: u32)
         ensures network { self.new.network ≡ with_out self.old.network number false }
         ensures limit { self.new.limit ≡ self.old.limit }
-        ensures stop { self.new.stop ≡ first_stop self.old.stop stop }
+        ensures stop { self.new.stop ≡ first_stop self.old.stop Stop.Memory }
         ensures counts { KeepsCounts self.old self.new }
     {
         self.network.release(number);
-        self.halt(stop);
+        self.halt(Stop::Memory);
     }
 
     /// Which workers are to be woken now; they count as woken.
@@ -235,14 +237,4 @@ fn number_of(task: Task) -> u32
 /// A turn that is no longer wanted.
 fn let_go(segment: Segment) {
     drop(segment);
-}
-
-/// Why a run stops where the network refuses a turn.
-fn stop_of(fault: &NetFault) -> Stop
-    ensures { result ≡ stop_for fault.now }
-{
-    match fault {
-        NetFault::Memory => Stop::Memory,
-        _ => Stop::Foreign,
-    }
 }

@@ -1,17 +1,20 @@
 //! A run of a program's code by several threads.
-ghost use Rattle.std.specs.Prelude.{◌≡◌, ◌<◌, ◌↔◌, ◌⊎◌, IfOk, IfErr, IsErrOf, IsFalse, IsTrue, None};
+ghost use Rattle.std.specs.Prelude.{◌≡◌, ◌≢◌, ◌<◌, ◌↔◌, ◌⊎◌, IfOk, IfErr, IsErrOf, None};
 ghost use Rattle.occ_choices.specs.Crews.{most_workers};
 ghost use Rattle.occ_net.specs.Networks.{fresh};
-ghost use Rattle.occ_run.specs.Gathered.{IsNoRun, IsRunOf, IsUnfinished, IsWhole, stop_fault};
+ghost use Rattle.occ_run.specs.Gathered.{IsNoRun, IsRunOf, stop_fault};
+ghost use Rattle.occ_run.specs.Held.{IsConcluded};
 
 use crate::fault::RunFault;
 use crate::gate::Gate;
 use crate::progress::{Progress, Stop};
+use crate::tokens::new_tokens;
 use crate::workers::run_all;
 use occ_choices::is_crew;
 use occ_code::Code;
 use occ_net::{Network, Outcome};
-use std::alloc::{AllocError, Global};
+use std::alloc::Global;
+use std::marker::Brand;
 use std::sync::Wait;
 use std::thread::Threads;
 
@@ -21,9 +24,9 @@ use std::thread::Threads;
 ///
 /// # Errors
 ///
-/// `BadWorkers` for a number that is not from 1 to 64, before all else. When all workers have left, `Foreign` where what they
-/// gathered is no run of this code on this keyboard within the limit; `Spawn` where a thread was refused, and `Memory` where a
-/// growth was. In an outcome no process is out.
+/// `BadWorkers` for a number that is not from 1 to 64, before all else. When all workers have left, `Spawn` where a thread was
+/// refused, and `Memory` where a growth was. `Foreign` never: a gate gives back the turn of the task that it was given, and so
+/// each turn that is handed in is the network's own. In an outcome no process is out.
 pub fn run_workers<R: Threads + Wait + Sync, G: Gate + Sync>(
     rt: &R,
     alloc: Global,
@@ -35,13 +38,15 @@ pub fn run_workers<R: Threads + Wait + Sync, G: Gate + Sync>(
 ) -> Result<Outcome, RunFault>
     ensures run { IfOk result (IsRunOf code.now keyboard.now limit) }
     ensures workers { IsErrOf result RunFault.BadWorkers ↔ ((workers ≡ 0) ⊎ (most_workers < workers)) }
+    ensures own { IfErr result (λ fault. fault ≢ RunFault.Foreign) }
 {
     if !is_crew(workers) {
         return Err(RunFault::BadWorkers);
     }
     let progress = beginning(alloc, code, keyboard, limit)?;
-    let progress = run_all(rt, alloc, progress, workers, gate);
-    gathered(alloc, progress, code, keyboard, limit)
+    let (tokens, keeper) = new_tokens(alloc)?;
+    let progress = run_all::<Brand, R, G>(rt, alloc, progress, tokens, keeper, workers, gate);
+    gathered(alloc, progress)
 }
 
 /// The network before its first turn.
@@ -64,17 +69,12 @@ pub(crate) fn beginning(
     }
 }
 
-/// What the workers gathered, if it is a run of this code on this keyboard within this limit.
-pub(crate) fn gathered(
-    alloc: Global,
-    progress: Progress,
-    code: &Code,
-    keyboard: &[u8],
-    limit: u32,
-) -> Result<Outcome, RunFault>
-    ensures run { IfOk result (IsRunOf code.now keyboard.now limit) }
+/// What the workers of a run that is over gathered.
+pub(crate) fn gathered(alloc: Global, progress: Progress) -> Result<Outcome, RunFault>
+    requires { IsConcluded progress.network.program progress.network.keyboard progress.limit progress }
+    ensures run { IfOk result (IsRunOf progress.network.program progress.network.keyboard progress.limit) }
     ensures unstopped { IfOk result (λ _. progress.stop ≡ None) }
-    ensures fault { IfErr result (IsNoRun code.now keyboard.now limit progress) }
+    ensures fault { IfErr result (IsNoRun progress) }
 {
     let Progress {
         mut network,
@@ -84,40 +84,12 @@ pub(crate) fn gathered(
     if let Some(stop) = stop {
         return Err(fault_of(stop));
     }
-    let most = limit as usize;
-    if !is_made_of(alloc, &network, code, keyboard)? || network.choices().len() > most {
-        return Err(RunFault::Foreign);
-    }
-    if !is_whole(&network, most) {
-        return Err(RunFault::Foreign);
-    }
-    network.recall();
     network.replayed();
+    network.recall();
     match network.into_outcome(alloc) {
         Ok(outcome) => Ok(outcome),
         Err(_) => Err(RunFault::Memory),
     }
-}
-
-/// Whether the network has this code and this keyboard, by content.
-fn is_made_of(
-    alloc: Global,
-    network: &Network,
-    code: &Code,
-    keyboard: &[u8],
-) -> Result<bool, AllocError>
-    ensures { IfOk result (λ same. IsTrue same ↔ ((network.now.program ≡ code.now) × (network.now.keyboard ≡ keyboard.now))) }
-{
-    let same = network.code().is_same(alloc, code)?;
-    Ok(same && network.keyboard() == keyboard)
-}
-
-/// Whether the network has so many choices, or an ending.
-fn is_whole(network: &Network, most: usize) -> bool
-    ensures whole { IsTrue result → IsWhole most network.now }
-    ensures unfinished { IsFalse result → IsUnfinished most network.now }
-{
-    network.choices().len() >= most || network.ending().is_some()
 }
 
 /// What a run that stopped so answers.
@@ -125,7 +97,6 @@ fn fault_of(stop: Stop) -> RunFault
     ensures { result ≡ stop_fault stop }
 {
     match stop {
-        Stop::Foreign => RunFault::Foreign,
         Stop::Spawn => RunFault::Spawn,
         Stop::Memory => RunFault::Memory,
     }

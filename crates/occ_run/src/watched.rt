@@ -1,19 +1,24 @@
 //! A run by several threads, at whose communications others look while it goes on.
-ghost use Rattle.std.specs.Prelude.{◌≡◌, ◌<◌, ◌↔◌, ◌⊎◌, ◌≢◌, ◌++◌, [], drop, false, true, IfErr, IfOk, IfSome, IsErrOf};
+ghost use Rattle.std.specs.Prelude.{◌≡◌, ◌<◌, ◌↔◌, ◌⊎◌, ◌≢◌, ◌++◌, [], drop, false, true, IfErr, IfOk, IfSome, IsErrOf, None};
 ghost use mathlib.Core.List.{IsPrefix};
 ghost use Rattle.occ_term.specs.Runs.{entries};
 ghost use Rattle.occ_board.specs.Editions.{edition};
 ghost use Rattle.occ_board.specs.Traces.{publishing};
 ghost use Rattle.occ_choices.specs.Crews.{most_workers};
 ghost use Rattle.occ_net_replay.specs.Replay.{Net};
-ghost use Rattle.occ_net.specs.Networks.{IsState};
+ghost use Rattle.crossbeam_utils.specs.Seq.{cell_view};
+ghost use Rattle.occ_net.specs.Networks.{IsState, fresh};
 ghost use Rattle.occ_shown.specs.Answers.{names_of};
 ghost use Rattle.occ_run.specs.Gathered.{IsRunOf};
+ghost use Rattle.occ_run.specs.Held.{IsConcluded};
+ghost use Rattle.occ_run.specs.Tokens.{opening};
 
+use crate::desk::OneRun;
 use crate::fault::RunFault;
 use crate::gate::Gate;
 use crate::progress::Progress;
 use crate::run::{beginning, gathered};
+use crate::tokens::{Token, Tokens, new_tokens};
 use crate::workers::{Shared, work};
 use core::mem::replace_with;
 use occ_board::{Naming, Note, Publisher, Shown};
@@ -24,6 +29,7 @@ use occ_net_trace::{Mark, News, Trace};
 use occ_shown::{is_shown, shown_as};
 use occ_term::Channel;
 use std::alloc::{AllocError, Global};
+use std::marker::Brand;
 use std::sync::Wait;
 use std::thread;
 use std::thread::Threads;
@@ -35,8 +41,8 @@ use std::thread::Threads;
 ///
 /// # Errors
 ///
-/// Those of `run_workers`, `Foreign` also where what was published is not the outcome's trace, and `Memory` also where a copy,
-/// an append or a publish was refused. After each of them the publisher is ended.
+/// Those of `run_workers`, `Foreign` where what was published is not the outcome's trace, and `Memory` also where a copy, an
+/// append or a publish was refused. After each of them the publisher is ended.
 pub fn run_watched<J: Naming, R: Threads + Wait + Sync, G: Gate + Sync>(
     rt: &R,
     alloc: Global,
@@ -123,16 +129,19 @@ fn lent<J: Naming, R: Threads + Wait + Sync, G: Gate + Sync>(
 {
     let held = publisher.published().len();
     let progress = beginning(alloc, code, keyboard, limit)?;
-    let (progress, note) = run_told(
+    let (tokens, keeper) = new_tokens(alloc)?;
+    let (progress, note) = run_told::<J, Brand, R, G>(
         rt,
         alloc,
         progress,
+        tokens,
+        keeper,
         workers,
         gate,
         code.channels(),
         publisher,
     );
-    let outcome = gathered(alloc, progress, code, keyboard, limit)?;
+    let outcome = gathered(alloc, progress)?;
     let note = note?;
     let Some(told) = told_behind(publisher, &note, held) else {
         return Err(RunFault::Foreign);
@@ -158,22 +167,20 @@ fn told_behind<'a, J: Naming>(
     publisher.published().get(held..)
 }
 
-/// Lets so many workers run and publishes their communications, and gives back how far they came when all have left.
-fn run_told<J: Naming, R: Threads + Wait + Sync, G: Gate + Sync>(
+/// Lets so many workers run until all have left, and publishes their communications.
+fn tell_crew<J: Naming, U: OneRun + Send + Sync, R: Threads + Wait + Sync, G: Gate + Sync>(
     rt: &R,
     alloc: Global,
-    progress: Progress,
+    shared: &Shared<U>,
     workers: u32,
     gate: &G,
     channels: &[Channel],
     publisher: &mut Publisher<J>,
-) -> (Progress, Result<Note<J>, AllocError>)
+) -> Result<Note<J>, AllocError>
     requires { (publisher.old.pending ≡ []) × (publisher.old.closed ≡ false) }
-    ensures { IfOk result.1 (λ n. IsPrefix publisher.old.published n.entries × (n.last ≡ true)) }
+    ensures { IfOk result (λ n. IsPrefix publisher.old.published n.entries × (n.last ≡ true)) }
 {
-    let shared = Shared::new(progress);
-    let lent = &shared;
-    let note = thread::scope(
+    thread::scope(
         thread::scope_env(),
         rt,
         |scope| -> Result<Note<J>, AllocError>
@@ -181,22 +188,48 @@ fn run_told<J: Naming, R: Threads + Wait + Sync, G: Gate + Sync>(
             ensures { IfOk result (λ n. IsPrefix publisher.entry.now.published n.entries × (n.last ≡ true)) }
         {
             for _ in 0..workers {
-                if scope.spawn(move || work(rt, alloc, lent, gate)).is_err() {
-                    lent.refuse_thread(rt);
+                if scope.spawn(move || work(rt, alloc, shared, gate)).is_err() {
+                    shared.refuse_thread(rt);
                     break;
                 }
             }
-            tell(rt, alloc, lent, channels, publisher)
+            tell(rt, alloc, shared, channels, publisher)
         },
-    );
-    (shared.into_progress(), note)
+    )
+}
+
+/// Lets so many workers run and publishes their communications, and gives back how far they came when all have left.
+fn run_told<J: Naming, U: OneRun + Send + Sync, R: Threads + Wait + Sync, G: Gate + Sync>(
+    rt: &R,
+    alloc: Global,
+    progress: Progress,
+    tokens: Tokens,
+    keeper: Token,
+    workers: u32,
+    gate: &G,
+    channels: &[Channel],
+    publisher: &mut Publisher<J>,
+) -> (Progress, Result<Note<J>, AllocError>)
+    requires network { progress.network ≡ fresh U.program U.keyboard }
+    requires limit { progress.limit ≡ U.limit }
+    requires stop { progress.stop ≡ None }
+    requires tokens { tokens.table.shared.table_id ≡ U.tokens }
+    requires opening_keeper { (keeper.table_id ≡ U.tokens) × (cell_view keeper ≡ opening) }
+    requires going { (publisher.old.pending ≡ []) × (publisher.old.closed ≡ false) }
+    ensures concluded { IsConcluded U.program U.keyboard U.limit result.0 }
+    ensures noted { IfOk result.1 (λ n. IsPrefix publisher.old.published n.entries × (n.last ≡ true)) }
+{
+    let shared: Shared<U> = Shared::new(progress, tokens, keeper);
+    let note = tell_crew(rt, alloc, &shared, workers, gate, channels, publisher);
+    let ended = shared.wait_for_end(rt);
+    (shared.into_progress(rt, ended), note)
 }
 
 /// Publishes the communications until no further turn is settled, and closes the board. After a refusal the run stops.
-fn tell<J: Naming, R: Wait>(
+fn tell<J: Naming, U: OneRun, R: Wait>(
     rt: &R,
     alloc: Global,
-    shared: &Shared,
+    shared: &Shared<U>,
     channels: &[Channel],
     publisher: &mut Publisher<J>,
 ) -> Result<Note<J>, AllocError>
@@ -210,10 +243,10 @@ fn tell<J: Naming, R: Wait>(
     told
 }
 
-fn follow<J: Naming, R: Wait>(
+fn follow<J: Naming, U: OneRun, R: Wait>(
     rt: &R,
     alloc: Global,
-    shared: &Shared,
+    shared: &Shared<U>,
     channels: &[Channel],
     publisher: &mut Publisher<J>,
 ) -> Result<Note<J>, AllocError>
@@ -236,23 +269,23 @@ fn follow<J: Naming, R: Wait>(
 
 /// Waits until there are more than so many communications or no further turn is settled, and takes those behind the mark, which
 /// then stands behind them. Answers whether no further turn is settled.
-fn take_news<R: Wait>(
+fn take_news<U: OneRun, R: Wait>(
     rt: &R,
-    shared: &Shared,
+    shared: &Shared<U>,
     count: u64,
     mark: &mut Mark,
     news: &mut News,
 ) -> Result<bool, AllocError> {
-    let mut progress = shared.enter(rt);
+    let mut desk = shared.enter(rt);
     for _ in rt.forever() {
-        let over = progress.next_pick().is_none();
-        let trace = progress.network.trace();
+        let over = desk.progress().next_pick().is_none();
+        let trace = desk.progress().network.trace();
         if over || trace.len() as u64 > count {
             trace.copy_behind(mark, news)?;
             *mark = trace.mark();
             return Ok(over);
         }
-        progress = shared.grown.wait(rt, progress);
+        desk = shared.grown.wait(rt, desk);
     }
     unreachable!()
 }

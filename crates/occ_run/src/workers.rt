@@ -1,10 +1,14 @@
 //! The threads of a run.
-ghost use Rattle.std.specs.Prelude.{IfSome};
-ghost use Rattle.occ_net.specs.Leases.{CanTurn};
+ghost use Rattle.std.specs.Prelude.{◌≡◌, None};
+ghost use Rattle.crossbeam_utils.specs.Seq.{cell_view};
+ghost use Rattle.occ_net.specs.Networks.{fresh};
+ghost use Rattle.occ_run.specs.Held.{IsConcluded};
+ghost use Rattle.occ_run.specs.Tokens.{opening, teller};
 
+use crate::desk::{Desk, OneRun, Ran, Step, Ticket, Turn};
 use crate::gate::Gate;
-use crate::progress::{Done, Next, Progress, Wake};
-use occ_net::Lease;
+use crate::progress::{Progress, Wake};
+use crate::tokens::{Token, Tokens};
 use std::alloc::Global;
 use std::hint::spin_loop;
 use std::sync::{Condvar, Mutex, MutexGuard, Wait};
@@ -19,56 +23,83 @@ const LOOKS: u32 = 100;
 const PAUSES: u32 = 1000;
 
 /// What the workers share.
-pub(crate) struct Shared {
-    progress: Mutex<Progress>,
+pub(crate) struct Shared<U: OneRun> {
+    desk: Mutex<Desk<U>>,
+    tokens: Tokens,
     /// Where workers rest.
     moved: Condvar,
-    /// Where the one rests who publishes the trace: woken there, no worker misses a call of his own.
+    /// Where the one rests who publishes the trace, or waits for the end: woken there, no worker misses a call of his own.
     pub(crate) grown: Condvar,
+    ghost named: { tokens.table.shared.table_id ≡ U.tokens },
 }
 
-impl Shared {
-    pub(crate) fn new(progress: Progress) -> Shared {
+impl<U: OneRun> Shared<U> {
+    pub(crate) fn new(progress: Progress, tokens: Tokens, keeper: Token) -> Shared<U>
+        requires network { progress.network ≡ fresh U.program U.keyboard }
+        requires limit { progress.limit ≡ U.limit }
+        requires stop { progress.stop ≡ None }
+        requires tokens { tokens.table.shared.table_id ≡ U.tokens }
+        requires opening_keeper { (keeper.table_id ≡ U.tokens) × (cell_view keeper ≡ opening) }
+    {
         Shared {
-            progress: Mutex::new(progress),
+            desk: Mutex::new(Desk::new(progress, keeper)),
+            tokens,
             moved: Condvar::new(),
             grown: Condvar::new(),
         }
     }
 
-    /// How far the workers came, when all have left.
-    pub(crate) fn into_progress(self) -> Progress {
+    /// How far the workers came, when all have left and one has a word that the run is over.
+    pub(crate) fn into_progress<R: Wait>(self, rt: &R, ended: Ticket<U>) -> Progress
+        requires { ended ≡ teller }
+        ensures { IsConcluded U.program U.keyboard U.limit result }
+    {
         let Shared {
-            progress,
+            desk,
+            tokens,
             moved: _,
             grown: _,
         } = self;
-        progress.into_inner()
+        desk.into_inner().conclude(rt, &tokens, ended)
     }
 
     /// Stops the run, since a thread was refused: all leave.
     pub(crate) fn refuse_thread<R: Wait>(&self, rt: &R) {
-        self.progress.lock(rt).refuse_thread();
+        self.desk.lock(rt).refuse_thread();
         self.moved.notify_all();
     }
 
     /// Stops the run, since a growth was refused: all leave.
     pub(crate) fn refuse_growth<R: Wait>(&self, rt: &R) {
-        self.progress.lock(rt).refuse_growth();
+        self.desk.lock(rt).refuse_growth();
         self.moved.notify_all();
     }
 
     /// Takes the lock. Turns are short, so a worker looks for it for a while before it sleeps.
-    pub(crate) fn enter<R: Wait>(&self, rt: &R) -> MutexGuard<'_, Progress> {
+    pub(crate) fn enter<R: Wait>(&self, rt: &R) -> MutexGuard<'_, Desk<U>> {
         for _ in 0..LOOKS {
-            if let Some(progress) = self.progress.try_lock() {
-                return progress;
+            if let Some(desk) = self.desk.try_lock() {
+                return desk;
             }
             for _ in 0..PAUSES {
                 spin_loop();
             }
         }
-        self.progress.lock(rt)
+        self.desk.lock(rt)
+    }
+
+    /// Waits until the run is over, and gives a word of it.
+    pub(crate) fn wait_for_end<R: Wait>(&self, rt: &R) -> Ticket<U>
+        ensures { result ≡ teller }
+    {
+        let mut desk = self.desk.lock(rt);
+        for _ in rt.forever() {
+            if let Some(ended) = desk.ended(&self.tokens) {
+                return ended;
+            }
+            desk = self.grown.wait(rt, desk);
+        }
+        unreachable!()
     }
 
     fn notify(&self, wake: Wake) {
@@ -80,32 +111,35 @@ impl Shared {
     }
 }
 
-/// Takes in what was done, and then waits for a turn to run; none where the worker is to leave. What is no longer wanted is let
+/// Takes in what was done, and then waits for a turn to take; none where the worker is to leave. What is no longer wanted is let
 /// go when the lock is free again.
-fn next_lease<R: Wait>(rt: &R, alloc: Global, shared: &Shared, done: Option<Done>) -> Option<Lease>
-    ensures { IfSome result CanTurn }
-{
-    let mut progress = shared.enter(rt);
-    let communicated = progress.network.trace().len();
-    let _spent = match done {
-        Some(done) => progress.take_in(alloc, done),
+fn next_turn<U: OneRun, R: Wait>(
+    rt: &R,
+    alloc: Global,
+    shared: &Shared<U>,
+    ran: Option<Ran<U>>,
+) -> Option<Turn<U>> {
+    let mut desk = shared.enter(rt);
+    let communicated = desk.progress().network.trace().len();
+    let _spent = match ran {
+        Some(ran) => desk.take_in(rt, alloc, &shared.tokens, ran),
         None => None,
     };
-    if progress.network.trace().len() != communicated {
+    if desk.progress().network.trace().len() != communicated {
         shared.grown.notify_one();
     }
     for _ in rt.forever() {
-        match progress.next(alloc) {
-            Next::Run(lease) => {
-                let wake = progress.wake();
-                drop(progress);
+        match desk.next(alloc, &shared.tokens) {
+            Step::Take(turn) => {
+                let wake = desk.wake();
+                drop(desk);
                 shared.notify(wake);
-                return Some(lease);
+                return Some(turn);
             }
-            Next::Rest => progress = shared.moved.wait(rt, progress),
-            Next::Leave => {
-                let wake = progress.wake();
-                drop(progress);
+            Step::Rest => desk = shared.moved.wait(rt, desk),
+            Step::Leave => {
+                let wake = desk.wake();
+                drop(desk);
                 shared.notify(wake);
                 shared.grown.notify_one();
                 return None;
@@ -115,35 +149,59 @@ fn next_lease<R: Wait>(rt: &R, alloc: Global, shared: &Shared, done: Option<Done
     unreachable!()
 }
 
-/// One worker: it takes a turn out under the lock, runs it outside, and takes it in with the next one under the lock.
-pub(crate) fn work<R: Wait, G: Gate>(rt: &R, alloc: Global, shared: &Shared, gate: &G) {
-    let mut done = None;
+/// One worker: it takes a turn out under the lock, takes it outside, and hands it in with the next one under the lock.
+pub(crate) fn work<U: OneRun, R: Wait, G: Gate>(
+    rt: &R,
+    alloc: Global,
+    shared: &Shared<U>,
+    gate: &G,
+) {
+    let mut ran = None;
     for _ in rt.forever() {
-        let Some(lease) = next_lease(rt, alloc, shared, done) else {
+        let Some(turn) = next_turn(rt, alloc, shared, ran) else {
             return;
         };
-        let Lease { body, task } = lease;
-        done = Some(gate.run(alloc, body, task));
+        ran = Some(turn.take(alloc, gate));
     }
 }
 
-/// Lets so many workers run, and gives back how far they came when all have left.
-pub(crate) fn run_all<R: Threads + Wait + Sync, G: Gate + Sync>(
+/// Lets so many workers run until all have left.
+fn run_crew<U: OneRun + Send + Sync, R: Threads + Wait + Sync, G: Gate + Sync>(
     rt: &R,
     alloc: Global,
-    progress: Progress,
+    shared: &Shared<U>,
     workers: u32,
     gate: &G,
-) -> Progress {
-    let shared = Shared::new(progress);
-    let lent = &shared;
+) {
     thread::scope(thread::scope_env(), rt, |scope| {
         for _ in 0..workers {
-            if scope.spawn(move || work(rt, alloc, lent, gate)).is_err() {
-                lent.refuse_thread(rt);
+            if scope.spawn(move || work(rt, alloc, shared, gate)).is_err() {
+                shared.refuse_thread(rt);
                 break;
             }
         }
     });
-    shared.into_progress()
+}
+
+/// Lets so many workers run, and gives back how far they came when all have left.
+pub(crate) fn run_all<U: OneRun + Send + Sync, R: Threads + Wait + Sync, G: Gate + Sync>(
+    rt: &R,
+    alloc: Global,
+    progress: Progress,
+    tokens: Tokens,
+    keeper: Token,
+    workers: u32,
+    gate: &G,
+) -> Progress
+    requires network { progress.network ≡ fresh U.program U.keyboard }
+    requires limit { progress.limit ≡ U.limit }
+    requires stop { progress.stop ≡ None }
+    requires tokens { tokens.table.shared.table_id ≡ U.tokens }
+    requires opening_keeper { (keeper.table_id ≡ U.tokens) × (cell_view keeper ≡ opening) }
+    ensures { IsConcluded U.program U.keyboard U.limit result }
+{
+    let shared: Shared<U> = Shared::new(progress, tokens, keeper);
+    run_crew(rt, alloc, &shared, workers, gate);
+    let ended = shared.wait_for_end(rt);
+    shared.into_progress(rt, ended)
 }

@@ -1,11 +1,13 @@
 -- A run, turn by turn.
-use Rattle.std.proofs.Common.{◌≡◌, ◌∙◌, ◌++◌, ◌+◌, ◌-◌, ◌<◌, ◌≤◌, ◌^◌, ℕ, zero, suc, Bool, List, [], ◌∷◌, Option, None, Some, false, drop, length, map, refl, sym, ap, subst, arith, append_assoc, append-nil, length-append}
+use Rattle.std.proofs.Common.{◌≡◌, ◌∙◌, ◌++◌, ◌+◌, ◌-◌, ◌%◌, ◌<◌, ◌≤◌, ◌^◌, ℕ, zero, suc, Bool, List, [], ◌∷◌, Option, None, Some, false, drop, length, map, refl, sym, ap, subst, arith, append_assoc, append-nil, length-append}
 use Rattle.std.specs.Prelude.{slice_get}
 use Rattle.std.specs.Option.{is_some}
 use Rattle.std.proofs.lemmas.List.{length-drop, length-map}
+use Rattle.std.proofs.lemmas.Nat.{mod_below}
 use Rattle.occ_code.specs.Compiled.{Program}
 use Rattle.occ_net_replay.specs.declared.choice.Choice.{Choice}
-use Rattle.occ_code.specs.Machine.{Body}
+use Rattle.occ_code.specs.Machine.{Body, Stopping}
+use Rattle.occ_code.specs.declared.task.Task.{Task}
 use Rattle.occ_net_trace.specs.declared.communication.Communication.{Communication}
 use Rattle.occ_net_trace.specs.declared.communication.End.{End}
 use Rattle.occ_net_trace.specs.declared.communication.End.TheVariants as E
@@ -14,12 +16,14 @@ use Rattle.occ_term.specs.Runs.{Names, entries}
 use Rattle.occ_term.specs.System as S
 use Rattle.occ_term.specs.declared.message.Message.{Message}
 use Rattle.occ_net_replay.specs.Replay.{Gets, Gives, Happens, Joined, Net, OneTurn, Replays, Settled, arm_gets, begins, error_gets, forks, joined, joins, keyboard_gives, meets, screen_gets, settles, skips, stays, task_gets, task_gives, ending_of, first_net, goes_on, ready_from, selected}
+use Rattle.occ_net_replay.proofs.OneStop.{stopping_once}
+use Rattle.occ_net_replay.proofs.Tables.{task_once}
 use Rattle.occ_net_tables.specs.Holding.{Holds, communication_of, end_of}
 use Rattle.occ_net_tables.specs.Settling.{Standing, TurnsTo}
 use Rattle.occ_net_tables.specs.declared.tables.Tables.{Tables}
 use Rattle.occ_places.specs.Places.{Known}
 use Rattle.occ_shown.specs.Answers.{names_of}
-use Rattle.occ_steps.specs.Steps.{IsSteps, Stepped, Stepping, StepsTo, head_text, news, none_stepped, one_stepped, step_text, tail_text}
+use Rattle.occ_steps.specs.Steps.{IsSteps, NextTurn, Stepped, Stepping, StepsTo, head_text, news, none_stepped, one_stepped, step_text, tail_text}
 
 stepped_replays : (known : List Known) (p : Program) (kb : List ℕ) {cs : List Choice} {net : Net} {text : List ℕ} → Stepped known p kb cs net text → Replays p kb cs net
 stepped_replays known p kb none_stepped = begins
@@ -40,8 +44,8 @@ pub one_more : (known : List Known) (p : Program) (kb : List ℕ) (turns : ℕ) 
 one_more known p kb turns rest others list c old new text longer h going first turn =
     let x = turn h.net h.holds in
     let number : turns + 1 ≡ length h.given + 1 = ap (λ k. k + 1) h.count in
-    let line : text ++ step_text (names_of p.channels) known (length h.given + 1) h.net x.taken.number c.pick x.next ≡ longer =
-    ap (λ k. text ++ step_text (names_of p.channels) known k h.net x.taken.number c.pick x.next) (sym number) ∙ sym x.is in
+    let line : text ++ step_text (names_of p.channels) known (length h.given + 1) h.net x.taken.number c.pick x.taken.after x.next ≡ longer =
+    ap (λ k. text ++ step_text (names_of p.channels) known k h.net x.taken.number c.pick x.taken.after x.next) (sym number) ∙ sym x.is in
     record {
       given = h.given ++ c ∷ [];
       count = number ∙ sym (length-append h.given (c ∷ []));
@@ -154,26 +158,53 @@ news_text names p c a b old new fresh made turn was now is many =
 pub three_more : (o a b c x y z : List ℕ) → x ≡ o ++ a → y ≡ x ++ b → z ≡ y ++ c → z ≡ o ++ ((a ++ b) ++ c)
 three_more o a b c x y z e f g = g ∙ ap (λ l. l ++ c) (f ∙ ap (λ l. l ++ b) e ∙ append_assoc o a b) ∙ append_assoc o (a ++ b) c
 
+-- where some are ready, one is selected
+pub some_selected : (ready : List ℕ) (which : ℕ) → 0 < length ready → selected ready which ≡ None → ⊥
+some_selected ready which some none = inside ready (which % length ready) (mod_below which (length ready) some) none
+  where
+    inside : (xs : List ℕ) (k : ℕ) → k < length xs → slice_get xs k ≡ None → ⊥
+    inside [] k lt e = omega (arith, lt)
+    inside (x ∷ xs) zero lt e = cc
+    inside (x ∷ xs) (suc k) lt e = inside xs k (omega (arith, lt)) e
+
+-- a turn by the same choice is by the same process, and leaves it with the same task
+same_number : {a b : ℕ} {o : Option ℕ} → o ≡ Some a → o ≡ Some b → a ≡ b
+same_number e f = one_of (sym e ∙ f)
+  where
+    one_of : {a b : ℕ} → ◌≡◌ {A = Option ℕ} (Some a) (Some b) → a ≡ b
+    one_of q = cc
+
+same_body : {a b : Body} {o : Option Body} → o ≡ Some a → o ≡ Some b → a ≡ b
+same_body e f = one_of (sym e ∙ f)
+  where
+    one_of : {a b : Body} → ◌≡◌ {A = Option Body} (Some a) (Some b) → a ≡ b
+    one_of q = cc
+
+same_left : (p : Program) (c : Choice) (net next : Net) (number : ℕ) (after : Task) → (h : NextTurn p c.which net number after) → (turn : OneTurn p c net next) → number ≡ turn.number → after ≡ turn.after
+same_left p c net next number after h turn same =
+    let body : h.body ≡ turn.body = same_body (ap (slice_get p.bodies) (sym same) ∙ h.has_body) turn.has_body in
+    let before : h.before ≡ turn.before = task_once net.tasks turn.number (subst (λ (k : ℕ). slice_get net.tasks k ≡ Some (Some h.before)) same h.has_task) turn.has_task in
+    stopping_once turn.body turn.before after turn.after (subst (λ b. Stopping b turn.before after) body (subst (λ t. Stopping h.body t after) before h.stops)) turn.stops
+
 -- what is written is the line of the turn
-pub steps_to : (known : List Known) (p : Program) (kb : List ℕ) (turn : ℕ) (c : Choice) (net : Net) (old new : Tables) (taken : ℕ) (text middle longer : List ℕ)
-    → Holds p kb old net → (x : TurnsTo p kb c net new) → selected (ready_from 0 net.tasks) c.which ≡ Some taken
+pub steps_to : (known : List Known) (p : Program) (kb : List ℕ) (turn : ℕ) (c : Choice) (net : Net) (old new : Tables) (taken : ℕ) (left : Task) (text middle longer : List ℕ)
+    → Holds p kb old net → (x : TurnsTo p kb c net new) → NextTurn p c.which net taken left
     → middle ≡ text ++ head_text turn (ready_from 0 net.tasks) taken c.pick
-    → longer ≡ middle ++ tail_text (names_of p.channels) known taken (slice_get x.next.tasks taken) (news (names_of p.channels) net x.next)
+    → longer ≡ middle ++ tail_text (names_of p.channels) known taken left (news (names_of p.channels) net x.next)
     → StepsTo known p kb turn c net text new longer
-steps_to known p kb turn c net old new taken text middle longer holds x selects first second =
-    let same : taken ≡ x.turn.number = one_of (sym selects ∙ x.turn.selects) in
+steps_to known p kb turn c net old new taken left text middle longer holds x next first second =
+    let same : taken ≡ x.turn.number = same_number next.selects x.turn.selects in
+    let after : left ≡ x.turn.after = same_left p c net x.next taken left next x.turn same in
     record {
       next = x.next;
       taken = x.turn;
       holds = x.holds;
       is =
-          second ∙ ap (λ t. t ++ tail_text (names_of p.channels) known taken (slice_get x.next.tasks taken) (news (names_of p.channels) net x.next)) first
-          ∙ append_assoc text (head_text turn (ready_from 0 net.tasks) taken c.pick) (tail_text (names_of p.channels) known taken (slice_get x.next.tasks taken) (news (names_of p.channels) net x.next))
-          ∙ ap (λ (k : ℕ). text ++ step_text (names_of p.channels) known turn net k c.pick x.next) same;
+          second ∙ ap (λ t. t ++ tail_text (names_of p.channels) known taken left (news (names_of p.channels) net x.next)) first
+          ∙ append_assoc text (head_text turn (ready_from 0 net.tasks) taken c.pick) (tail_text (names_of p.channels) known taken left (news (names_of p.channels) net x.next))
+          ∙ ap (λ (k : ℕ). text ++ step_text (names_of p.channels) known turn net k c.pick left x.next) same
+          ∙ ap (λ (t : Task). text ++ step_text (names_of p.channels) known turn net x.turn.number c.pick t x.next) after;
     }
-  where
-    one_of : {a b : ℕ} → ◌≡◌ {A = Option ℕ} (Some a) (Some b) → a ≡ b
-    one_of q = cc
 
 -- the run has ended, or the choices are used up
 pub ended : (known : List Known) (p : Program) (kb : List ℕ) (turns : ℕ) (rest list : List Choice) (n : Tables) (text : List ℕ) → (h : Stepping known p kb turns rest list n text) → (ending_of p.errors h.net ≡ None → rest ≡ []) → IsSteps known p kb list text

@@ -8,10 +8,11 @@ use Rattle.occ_code.specs.declared.task.Task.{Task}
 use Rattle.occ_code.specs.declared.task.Wait.{Wait}
 use Rattle.occ_code.specs.declared.task.Wait.TheVariants.{Ready, Took, Offers, Awaits, Chooses, Joins, Halted, Done, Faulted}
 use Rattle.occ_code.specs.Compiled.{Program}
+use Rattle.occ_code.specs.Machine.{Body, Stopping}
 use Rattle.occ_net_replay.specs.declared.choice.Choice.{Choice}
 use Rattle.occ_net_replay.specs.declared.ending.Ending.TheVariants.{Fault}
 use Rattle.occ_net_replay.specs.Endings.{ending_text}
-use Rattle.occ_net_replay.specs.Replay.{Net, OneTurn, ending_of, first_net, ready_from}
+use Rattle.occ_net_replay.specs.Replay.{HasTask, Net, OneTurn, ending_of, first_net, ready_from, selected}
 use Rattle.occ_net_tables.specs.Holding.{Holds}
 use Rattle.occ_net_tables.specs.Outcomes.{Begins}
 use Rattle.occ_net_tables.specs.declared.tables.Tables.{Tables}
@@ -20,7 +21,7 @@ use Rattle.occ_places.specs.Places.{Known, stop_of}
 use Rattle.occ_shown.specs.Answers.{ends_text, names_of}
 use Rattle.occ_term.specs.Runs.{Entry, Names, entries, tag_shown}
 
--- ---- what a process stands at
+-- ---- at what a turn stops
 
 -- processes, each after a space
 abbrev pub numbers_text : List ℕ → List ℕ
@@ -47,15 +48,14 @@ stop_text names Halted = codes "halted"
 stop_text names Done = codes "ends"
 stop_text names (Faulted e) = ending_text (Fault e)
 
--- the line of the source at which a process stands, where it is known
+-- the line of the source at which a turn stops, where it is known
 abbrev pub line_text : Option Stop → List ℕ
 line_text None = []
 line_text (Some s) = codes "line " ++ decimal s.line ++ codes ": "
 
-abbrev pub task_text : Names → List Known → ℕ → Option (Option Task) → List ℕ
-task_text names known n None = []
-task_text names known n (Some None) = []
-task_text names known n (Some (Some t)) = line_text (stop_of known n t.wait t.place) ++ stop_text names t.wait
+-- of the process with this number, whose turn left this task
+abbrev pub stopped_text : Names → List Known → ℕ → Task → List ℕ
+stopped_text names known n t = line_text (stop_of known n t.wait t.place) ++ stop_text names t.wait
 
 -- ---- the line of a turn
 
@@ -71,23 +71,23 @@ abbrev pub all_made_text : List Entry → List ℕ
 all_made_text [] = []
 all_made_text (e ∷ es) = made_text e ++ all_made_text es
 
--- what that one stands at then, and the communication that the turn made possible
-abbrev pub tail_text : Names → List Known → ℕ → Option (Option Task) → List Entry → List ℕ
-tail_text names known n t made = task_text names known n t ++ all_made_text made ++ 10 ∷ []
+-- at what the turn stopped, and the communication that it made possible
+abbrev pub tail_text : Names → List Known → ℕ → Task → List Entry → List ℕ
+tail_text names known n t made = stopped_text names known n t ++ all_made_text made ++ 10 ∷ []
 
 -- those of the second state that the first has not
 abbrev pub news : Names → Net → Net → List Entry
 news names a b = entries names (length a.trace + 1) (drop (length a.trace) b.trace)
 
-abbrev pub step_text : Names → List Known → (turn : ℕ) → (before : Net) → (taken pick : ℕ) → (after : Net) → List ℕ
-step_text names known turn a taken pick b = head_text turn (ready_from 0 a.tasks) taken pick ++ tail_text names known taken (slice_get b.tasks taken) (news names a b)
+abbrev pub step_text : Names → List Known → (turn : ℕ) → (before : Net) → (taken pick : ℕ) → (left : Task) → (after : Net) → List ℕ
+step_text names known turn a taken pick left b = head_text turn (ready_from 0 a.tasks) taken pick ++ tail_text names known taken left (news names a b)
 
 -- a replay, and the line of each of its turns, numbered from 1, with what is known of where processes stand in the source
 pub data Stepped (known : List Known) (p : Program) (keyboard : List ℕ) : List Choice → Net → List ℕ → Type 0 where
   none_stepped : Stepped known p keyboard [] (first_net p keyboard) []
   one_stepped : {cs : List Choice} {c : Choice} {a b : Net} {text : List ℕ}
       → Stepped known p keyboard cs a text → ending_of p.errors a ≡ None → (turn : OneTurn p c a b)
-      → Stepped known p keyboard (cs ++ c ∷ []) b (text ++ step_text (names_of p.channels) known (length cs + 1) a turn.number c.pick b)
+      → Stepped known p keyboard (cs ++ c ∷ []) b (text ++ step_text (names_of p.channels) known (length cs + 1) a turn.number c.pick turn.after b)
 
 -- The replay of the used choices, which are a beginning of the list, and the line of each of its turns.
 pub record IsSteps (known : List Known) (p : Program) (keyboard : List ℕ) (list : List Choice) (bytes : List ℕ) : Type 0 where
@@ -98,6 +98,15 @@ pub record IsSteps (known : List Known) (p : Program) (keyboard : List ℕ) (lis
   pub whole : ending_of p.errors net ≡ None → used ≡ list
 
 -- ---- what the code does; private contracts alone cite it
+
+-- the next turn of the process with this number, which is selected, leaves it with this task
+pub record NextTurn (p : Program) (which : ℕ) (net : Net) (number : ℕ) (after : Task) : Type 0 where
+  pub body : Body
+  pub before : Task
+  pub selects : selected (ready_from 0 net.tasks) which ≡ Some number
+  pub has_body : slice_get p.bodies number ≡ Some body
+  pub has_task : HasTask net.tasks number before
+  pub stops : Stopping body before after
 
 -- in the middle of a run: so many turns are taken, and their lines are written
 pub record Stepping (known : List Known) (p : Program) (keyboard : List ℕ) (turns : ℕ) (rest list : List Choice) (n : Tables) (text : List ℕ) : Type 0 where
@@ -113,4 +122,4 @@ pub record StepsTo (known : List Known) (p : Program) (keyboard : List ℕ) (tur
   pub next : Net
   pub taken : OneTurn p c net next
   pub holds : Holds p keyboard n next
-  pub is : new ≡ old ++ step_text (names_of p.channels) known turn net taken.number c.pick next
+  pub is : new ≡ old ++ step_text (names_of p.channels) known turn net taken.number c.pick taken.after next

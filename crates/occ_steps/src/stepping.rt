@@ -6,8 +6,9 @@ ghost use Rattle.occ_net_tables.specs.Holding.{Holds};
 ghost use Rattle.occ_net_tables.specs.Settling.{Standing};
 ghost use Rattle.occ_steps.specs.Steps.{IsSteps, StepsTo};
 
-use crate::heads::{selected, write_head};
+use crate::heads::write_head;
 use crate::stops::write_tail;
+use crate::taking::next_turn;
 use occ_code::Code;
 use occ_net_replay::Choice;
 use occ_net_tables::Tables;
@@ -32,11 +33,8 @@ fn step(
     requires { Standing code.now keyboard.now tables.old }
     ensures { OnOk result ((net : Net) → Holds code.now keyboard.now tables.old net → StepsTo places.now code.now keyboard.now turn choice net out.old.items tables.new out.new.items) }
 {
-    let ready = tables.ready();
-    let Some(taken) = selected(ready, choice.which) else {
-        unreachable!()
-    };
-    write_head(alloc, out, turn, ready, taken, choice.pick)?;
+    let (taken, after) = next_turn(alloc, code, scratch, keyboard, tables, choice.which)?;
+    write_head(alloc, out, turn, tables.ready(), taken, choice.pick)?;
     let mark = tables.trace().mark();
     tables.take_turn(alloc, code, scratch, keyboard, choice)?;
     let trace = tables.trace();
@@ -47,8 +45,8 @@ fn step(
         out,
         code.channels(),
         places,
-        tables,
         taken,
+        &after,
         made,
         news,
     )?;
@@ -56,7 +54,7 @@ fn step(
 }
 
 /// The line of each turn of the run by these choices: its number, the processes that were ready, the one that took it, the pick,
-/// what that one stands at after it, with its line where that is known, and the communication that it made possible.
+/// at what the turn stopped, with its line where that is known, and the communication that it made possible.
 ///
 /// # Errors
 ///

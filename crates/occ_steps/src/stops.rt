@@ -1,20 +1,17 @@
-//! What a process stands at after its turn.
-ghost use Rattle.std.specs.Prelude.{◌≡◌, ◌++◌, ◌+◌, ◌-◌, ◌≤◌, List, OnOk, codes, length, map, slice_get, ℕ};
+//! At what a turn stopped, and what it made possible.
+ghost use Rattle.std.specs.Prelude.{◌≡◌, ◌++◌, ◌+◌, ◌-◌, ◌≤◌, OnOk, codes, length, map};
 ghost use Rattle.occ_chart.specs.Labels.{message_text};
-ghost use Rattle.occ_code.specs.Compiled.{Program};
 ghost use Rattle.occ_net_replay.specs.Endings.{ending_text};
-ghost use Rattle.occ_net_replay.specs.Replay.{Net};
-ghost use Rattle.occ_net_tables.specs.Holding.{Holds, communication_of};
+ghost use Rattle.occ_net_tables.specs.Holding.{communication_of};
 ghost use Rattle.occ_shown.specs.Answers.{ends_text, names_of};
-ghost use Rattle.occ_steps.specs.Steps.{all_made_text, arm_text, arms_text, line_text, made_text, numbers_text, stop_text, tail_text, task_text};
+ghost use Rattle.occ_steps.specs.Steps.{all_made_text, arm_text, arms_text, line_text, made_text, numbers_text, stop_text, stopped_text, tail_text};
 ghost use Rattle.occ_term.specs.Runs.{entries, tag_shown};
 
 use crate::heads::write_numbers;
 use occ_board::Shown;
 use occ_chart::{words_of, write_end, write_message, write_name};
-use occ_code::{Arm, Wait};
+use occ_code::{Arm, Task, Wait};
 use occ_net_replay::Ending;
-use occ_net_tables::Tables;
 use occ_net_trace::News;
 use occ_places::{Places, Stop};
 use occ_shown::shown_as;
@@ -146,38 +143,20 @@ fn write_line(alloc: Global, out: &mut Vec<u8>, stop: Option<Stop>) -> Result<()
     }
 }
 
-/// What a process stands at, behind the line of its stop.
-fn write_placed(
-    alloc: Global,
-    out: &mut Vec<u8>,
-    channels: &[Channel],
-    stop: Option<Stop>,
-    wait: &Wait,
-) -> Result<(), AllocError>
-    ensures { OnOk result (out.new.items ≡ out.old.items ++ (line_text stop ++ stop_text (names_of channels.now) wait.now)) }
-{
-    write_line(alloc, out, stop)?;
-    write_stop(alloc, out, channels, wait)
-}
-
-/// What the process with this number stands at, where it has begun.
-fn write_task(
+/// At what the turn of the process with this number stopped, which left this task, behind the line of that stop.
+fn write_stopped(
     alloc: Global,
     out: &mut Vec<u8>,
     channels: &[Channel],
     places: &Places,
-    tables: &Tables,
     number: u32,
+    after: &Task,
 ) -> Result<(), AllocError>
-    ensures { OnOk result ((p : Program) (keyboard : List ℕ) (net : Net) → Holds p keyboard tables.now net → out.new.items ≡ out.old.items ++ task_text (names_of channels.now) places.now number (slice_get net.tasks number)) }
+    ensures { OnOk result (out.new.items ≡ out.old.items ++ stopped_text (names_of channels.now) places.now number after.now) }
 {
-    match tables.task(number) {
-        Some(task) => {
-            let stop = places.stop(number, &task.wait, task.place);
-            write_placed(alloc, out, channels, stop, &task.wait)
-        }
-        None => Ok(()),
-    }
+    let stop = places.stop(number, &after.wait, after.place);
+    write_line(alloc, out, stop)?;
+    write_stop(alloc, out, channels, &after.wait)
 }
 
 /// The ends of a communication, between spaces.
@@ -224,21 +203,21 @@ fn write_all_made(
     Ok(())
 }
 
-/// How a line ends: what the process that took the turn stands at, and the last communications, of so many.
+/// How a line ends: at what the turn stopped, which left this task, and the last communications, of so many.
 pub(crate) fn write_tail(
     alloc: Global,
     out: &mut Vec<u8>,
     channels: &[Channel],
     places: &Places,
-    tables: &Tables,
     number: u32,
+    after: &Task,
     made: u64,
     news: &News,
 ) -> Result<(), AllocError>
     requires within { length news.now ≤ made }
-    ensures { OnOk result ((p : Program) (keyboard : List ℕ) (net : Net) → Holds p keyboard tables.now net → out.new.items ≡ out.old.items ++ tail_text (names_of channels.now) places.now number (slice_get net.tasks number) (entries (names_of channels.now) (made - length news.now + 1) (map communication_of news.now))) }
+    ensures { OnOk result (out.new.items ≡ out.old.items ++ tail_text (names_of channels.now) places.now number after.now (entries (names_of channels.now) (made - length news.now + 1) (map communication_of news.now))) }
 {
-    write_task(alloc, out, channels, places, tables, number)?;
+    write_stopped(alloc, out, channels, places, number, after)?;
     write_all_made(alloc, out, channels, made, news)?;
     out.push(b'\n')?;
     Ok(())

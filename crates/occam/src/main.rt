@@ -5,5 +5,5 @@ use occ_program::{exit_code, run};
 use std::process::ExitCode;
 
 fn main(rt: HostRuntime) -> ExitCode {
-    exit_code(run(&rt))
+    exit_code(run(&rt, &rt.stderr()))
 }

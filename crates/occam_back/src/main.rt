@@ -11,7 +11,7 @@ use std::rt::Files;
 const OTHER_FILES: u8 = 70;
 
 fn main(rt: HostRuntime) -> ExitCode {
-    let status = run(&rt);
+    let status = run(&rt, &rt.stderr());
     exit_code(if are_written(&rt) {
         status
     } else {

@@ -12,7 +12,7 @@ use std::test::Fail;
 fn known(alloc: Global, source: &[u8], code: &Code) -> Result<Places, Fail> {
     let lines = read_lines(alloc, source)?;
     let tree = parse(alloc, &lines)?;
-    Ok(places_of(alloc, &tree, code, source.len())?)
+    Ok(places_of(alloc, &tree, code, lines.lines.as_slice())?)
 }
 
 /// How many stops a code has.

@@ -10,7 +10,8 @@ const LETTER: &str = "PROC main (CHAN OF BYTE keyboard, screen)
 :
 ";
 
-const LETTER_TURNS: &str = "1 ready p0 took p0 pick 7 can go on, 1 p0>screen screen 65 'A'
+const LETTER_TURNS: &str =
+    "1 ready p0 took p0 pick 7 line 2: offers 65 'A' on screen, 1 p0>screen screen 65 'A'
 2 ready p0 took p0 pick 7 ends
 ";
 
@@ -25,10 +26,29 @@ const LINK: &str = "PROC main (CHAN OF BYTE keyboard, screen)
 
 const LINK_TURNS: &str = "1 ready p0 took p0 pick 7 line 3: waits for p1 p2
 2 ready p1 p2 took p2 pick 7 line 6: awaits c
-3 ready p1 took p1 pick 7 can go on, 1 p1>p2 c 7
+3 ready p1 took p1 pick 7 line 4: offers 7 on c, 1 p1>p2 c 7
 4 ready p1 p2 took p2 pick 7 ends
 5 ready p1 took p1 pick 7 ends
 6 ready p0 took p0 pick 7 ends
+";
+
+const CHOOSING: &str = "PROC main (CHAN OF BYTE keyboard, screen)
+  BYTE b:
+  SEQ
+    PRI ALT
+      keyboard ? b
+        SKIP
+      TRUE & SKIP
+        SKIP
+    WHILE TRUE
+      IF
+        b = 'x'
+          SKIP
+:
+";
+
+const CHOOSING_TURNS: &str = "1 ready p0 took p0 pick 7 line 4: chooses; awaits keyboard; SKIP
+2 ready p0 took p0 pick 7 line 10: halted
 ";
 
 fn check(rt: &impl Abort, alloc: Global, source: &str, wanted: &str) -> Result<(), Fail> {
@@ -54,5 +74,6 @@ fn check(rt: &impl Abort, alloc: Global, source: &str, wanted: &str) -> Result<(
 fn runs_are_told_turn_by_turn(rt: HostRuntime) -> Result<(), Fail> {
     let alloc = rt.alloc();
     check(&rt, alloc, LETTER, LETTER_TURNS)?;
-    check(&rt, alloc, LINK, LINK_TURNS)
+    check(&rt, alloc, LINK, LINK_TURNS)?;
+    check(&rt, alloc, CHOOSING, CHOOSING_TURNS)
 }

@@ -1,8 +1,8 @@
 //! Explorations of whole programs: each answer in the order in which they are found, how long runs go on, and how many states
-//! there are.
+//! were found; and a reduced search beside a full one.
 use crate::accepted::code_of;
 use crate::sources::{DINING, LIVELOCK, MERGE, POOL, WAITER};
-use occ_explore::{Answer, Asked, Exploration, Lasting, explore, explore_reduced};
+use occ_explore::{Answer, Asked, Exploration, Lasting, Untold, explore, explore_reduced};
 use occ_term::Errors;
 use std::alloc::{AllocError, Global};
 use std::fmt::Write;
@@ -167,13 +167,13 @@ fn told(alloc: Global, found: &Exploration) -> Result<String, AllocError> {
 fn explored(rt: &impl Abort, alloc: Global, row: &Row) -> Result<Exploration, Fail> {
     let code = code_of(alloc, row.source.as_bytes()).expect(rt, "refused");
     let code = code.with_errors(row.errors);
-    Ok(explore(alloc, &code, row.keyboard, row.asked, row.most)?)
+    Ok(explore(alloc, &code, row.keyboard, row.asked, row.most, &mut Untold)?)
 }
 
 fn reduced(rt: &impl Abort, alloc: Global, row: &Row) -> Result<Exploration, Fail> {
     let code = code_of(alloc, row.source.as_bytes()).expect(rt, "refused");
     let code = code.with_errors(row.errors);
-    Ok(explore_reduced(alloc, &code, row.keyboard, row.asked, row.most)?)
+    Ok(explore_reduced(alloc, &code, row.keyboard, row.asked, row.most, &mut Untold)?)
 }
 
 fn check(rt: &impl Abort, alloc: Global, row: &Row) -> Result<(), Fail> {

@@ -1,5 +1,5 @@
 //! Readers that give a byte at a time, that fail, and that are interrupted.
-use occ_files::{CountedReader, InputFault, read_input};
+use occ_files::{CountedReader, InputFault, Reason, read_input};
 use std::alloc::Global;
 use std::io;
 use std::io::{ErrorKind, Read};
@@ -103,7 +103,7 @@ static ROWS: [Row; 9] = [
         fails_at: 6,
         is_interrupted: false,
         most: 7,
-        read: Err(InputFault::Read),
+        read: Err(InputFault::Read(Reason::Other(0))),
         failures: 1,
         interruptions: 0,
         rest: b"",
@@ -122,7 +122,7 @@ static ROWS: [Row; 9] = [
         fails_at: 5,
         is_interrupted: true,
         most: usize::MAX,
-        read: Err(InputFault::Read),
+        read: Err(InputFault::Read(Reason::Other(0))),
         failures: 4,
         interruptions: 3,
         rest: b"cdef",
@@ -182,7 +182,7 @@ fn each_failed_read_is_told(rt: HostRuntime) {
             fails_at: k as u32,
             is_interrupted: false,
             most: usize::MAX,
-            read: Err(InputFault::Read),
+            read: Err(InputFault::Read(Reason::Other(0))),
             failures: 1,
             interruptions: 0,
             rest: &TEXT[k..],
@@ -204,7 +204,7 @@ fn an_endless_source_is_cut(rt: HostRuntime) {
 fn faults_of_reading_have_their_lines(rt: HostRuntime) -> Result<(), std::test::Fail> {
     let alloc = rt.alloc();
     assert_eq!(rt;
-        format!(in alloc; "{}", InputFault::Read)?.as_str(),
+        format!(in alloc; "{}", InputFault::Read(Reason::Folder))?.as_str(),
         "read failed"
     );
     assert_eq!(rt;

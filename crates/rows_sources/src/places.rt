@@ -261,7 +261,7 @@ PROC main (CHAN OF BYTE keyboard, screen)
 ];
 
 /// Who is at the other ends of channels, and circles.
-static CIRCLES: [Reported; 3] = [
+static CIRCLES: [Reported; 5] = [
     Reported(
         r#"PROC main (CHAN OF BYTE keyboard, screen)
   CHAN OF INT c, d, e:
@@ -331,6 +331,37 @@ static CIRCLES: [Reported; 3] = [
   p2 main, line 8: offers 1 on c, which nobody reads now
 "#,
     ),
+    Reported(
+        r#"PROC main (CHAN OF BYTE keyboard, screen)
+  CHAN OF INT c:
+  PAR
+    c ! 1
+    INT x:
+    SEQ
+      STOP
+      c ? x
+:
+"#,
+        r#"after 0 communications no process can go on:
+  p0 main, line 3: waits for p1 p2
+  p1 main, line 4: offers 1 on c, which nobody reads now
+  p2 main, line 7: halted by STOP
+"#,
+    ),
+    Reported(
+        r#"PROC main (CHAN OF BYTE keyboard, screen)
+  CHAN OF INT c:
+  INT x:
+  SEQ
+    c ! 1
+    c ? x
+:
+"#,
+        r#"after 0 communications no process can go on:
+  p0 main, line 5: offers 1 on c, which p0 reads
+  in a circle, each waits for the next: p0
+"#,
+    ),
 ];
 
 /// Plays a source, and compares its report.
@@ -383,7 +414,7 @@ fn processes_wait_in_circles(rt: HostRuntime) -> Result<(), Fail> {
 fn known(alloc: Global, source: &str, code: &Code) -> Result<Places, Fail> {
     let lines = read_lines(alloc, source.as_bytes())?;
     let tree = parse(alloc, &lines)?;
-    Ok(places_of(alloc, &tree, code, source.len())?)
+    Ok(places_of(alloc, &tree, code, lines.lines.as_slice())?)
 }
 
 /// How many stops a code has.
@@ -415,17 +446,6 @@ pub(crate) fn check_known(rt: &impl Abort, alloc: Global, source: &str) -> Resul
             let stops = stops_in(body.code());
             assert_eq!(rt; places.stops(number).len(), stops, "{source}");
         }
-    }
-    Ok(())
-}
-
-#[test]
-fn branches_have_lines(rt: HostRuntime) -> Result<(), Fail> {
-    let alloc = rt.alloc();
-    let code = code_of(&Options::plain(), alloc, ROWS.as_bytes())?;
-    let places = known(alloc, ROWS, &code)?;
-    for (number, line) in [(0, 13), (1, 19), (2, 20), (3, 10), (4, 11), (8, 21), (9, 0)] {
-        assert_eq!(rt; places.line(number), line);
     }
     Ok(())
 }

@@ -5,6 +5,8 @@
 #[cfg(test)]
 mod accepted;
 #[cfg(test)]
+mod board;
+#[cfg(test)]
 mod compiled;
 #[cfg(test)]
 mod networks;

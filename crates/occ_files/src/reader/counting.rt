@@ -1,9 +1,10 @@
 //! Reads that are counted where they fail.
 ghost use Rattle.std.specs.Prelude.{◌≡◌, ◌-◌, ◌^◌, ◌<◌, ◌≤◌, IfSome, IfNone, length, take};
 ghost use Rattle.std.specs.Io.KnownBytes.{Consumes, IsAtEnd, Keeps};
-ghost use Rattle.occ_files.specs.Reading.{breaks_of, failures_of, interruptions_of, reader_of};
+ghost use Rattle.occ_files.specs.Reading.{breaks_of, failures_of, interruptions_of, reader_of, reason_kept};
 
 use crate::reader::CountedReader;
+use crate::reason::{Reason, reason_of};
 use std::io::{ErrorKind, Read};
 
 impl<R: Read> CountedReader<R> {
@@ -17,6 +18,7 @@ impl<R: Read> CountedReader<R> {
             reader,
             failed: 0,
             interrupted: 0,
+            reason: Reason::Other(0),
         }
     }
 
@@ -32,6 +34,13 @@ impl<R: Read> CountedReader<R> {
         ensures { result ≡ interruptions_of self.now }
     {
         self.interrupted
+    }
+
+    /// Why the last read failed that did; where none has, the system has no number for it.
+    pub fn reason(&self) -> Reason
+        ensures { result ≡ reason_kept self.now }
+    {
+        self.reason
     }
 
     /// Reads some bytes to the front of these, and answers how many; None where the read failed. A read that was
@@ -51,6 +60,7 @@ impl<R: Read> CountedReader<R> {
                 Ok(n) => return Some(n),
                 Err(error) => {
                     self.failed += 1;
+                    self.reason = reason_of(&error);
                     if error.kind() != ErrorKind::Interrupted {
                         return None;
                     }

@@ -33,7 +33,7 @@ fn read_more<R: Read>(
             bytes.extend_from_slice(&buffer[..n])?;
             Ok(n)
         }
-        None => Err(InputFault::Read),
+        None => Err(InputFault::Read(reader.reason())),
     }
 }
 

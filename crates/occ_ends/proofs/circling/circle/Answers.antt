@@ -1,8 +1,8 @@
-use Rattle.std.proofs.Common.{◌≡◌, ◌≤◌, ◌∙◌, [], ap, arith, map, subst, sym}
+use Rattle.std.proofs.Common.{◌≡◌, ◌<◌, ◌≤◌, ◌∙◌, [], ap, arith, length, map, subst, sym}
 use Rattle.occ_explore_walks.specs.declared.graph.Lasting.TheVariants.{Forever, Within}
 use Rattle.occ_explore_walks.specs.Walks.{IsGraph, IsLasting}
-use Rattle.occ_ends.specs.Ends.{AreWaits, IsCircle, next_noted}
-use Rattle.occ_ends.proofs.Rounds.{if_ok, no_waits, some_waits, within_graph}
+use Rattle.occ_ends.specs.Ends.{AreWaits, Circles, IsCircle, IsRing, next_noted}
+use Rattle.occ_ends.proofs.Rounds.{no_waits, ring_is, some_circles, within_graph}
 use Rattle.occ_ends.proofs.circling.circle.Goals as goal
 
 pub lasting-requires : goal.lasting-requires
@@ -20,13 +20,14 @@ returns-in-Within c = λ p keyboard net h.
     subst (λ k. IsCircle next k c.new.result.items) c.min-below.ensures (subst (IsCircle next c.min-below.result) (sym c.new.ensures.items) none)
 
 pub returns : goal.returns
-returns c =
-    if_ok (λ v is p keyboard net h.
+returns c = λ p keyboard net h.
     let fans = c.in_ok-fans.fans.items in
     let next = next_noted c.args.ends.now net.tasks in
     let waits : AreWaits next c.min-below.result c.min-below.result fans = c.in_ok-fans.ensures.waits p keyboard net h in
     let lasts : IsLasting fans (Forever c.in-Forever.way c.in-Forever.round) =
     subst (λ l. IsLasting l (Forever c.in-Forever.way c.in-Forever.round)) c.deref.ensures.value (subst (IsLasting c.deref.result.now) c.in-Forever.is c.in_ok-round.ensures) in
-    let same : v.items ≡ map (λ x. x.which) c.in-Forever.round.items = is ∙ ap (map (λ x. x.which)) c.as_slice.ensures.value in
-    subst (λ k. IsCircle next k v.items) c.min-below.ensures (subst (IsCircle next c.min-below.result) (sym same) (some_waits waits c.in-Forever.way.items c.in-Forever.round.items lasts)))
-    c.members.result c.members.ensures
+    let same : c.in_ok-numbers-in-Forever.numbers.items ≡ map (λ x. x.which) c.in-Forever.round.items = c.in_ok-numbers-in-Forever.ensures ∙ ap (map (λ x. x.which)) c.as_slice.ensures.value in
+    let found = some_circles waits c.in-Forever.way.items c.in-Forever.round.items lasts in
+    let ring : IsRing next c.once_round.result.items =
+    c.once_round.ensures next (subst (λ ns. 0 < length ns) (sym same) found.0) (subst (Circles next) (sym same) found.1) in
+    subst (λ k. IsCircle next k c.once_round.result.items) c.min-below.ensures (ring_is next c.min-below.result c.once_round.result.items ring)

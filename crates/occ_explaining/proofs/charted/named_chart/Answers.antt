@@ -1,8 +1,7 @@
 use Rattle.std.proofs.Common.{◌≡◌, ◌∙◌, ap, map, min, subst}
-use Rattle.occ_charting.specs.Charting.{IsRunChart}
-use Rattle.occ_choices.specs.Plans.{choices_of}
 use Rattle.occ_ends.specs.Ends.{all_using, noted_for}
 use Rattle.occ_explaining.specs.Explaining.{first_names}
+use Rattle.occ_text.specs.Words.{logical_lines}
 use Rattle.occ_places.specs.Places.{Fits}
 use Rattle.occ_term.specs.UnfoldedProgram.{meaning}
 use Rattle.occ_term.specs.View.{term_of}
@@ -21,8 +20,10 @@ returns-clause-drawn c =
     record {
       program = program;
       code = c.in_ok-code.ensures.code;
+      read = logical_lines c.in_ok-lines.lines.lines.items;
+      reads = c.in_ok-lines.ensures.found;
       known = known;
-      fits = subst (λ n. Fits program n known) c.lines_in.ensures c.in_ok-places.ensures;
+      fits = subst (λ ls. Fits program (logical_lines ls) known) c.as_slice-read.ensures.value c.in_ok-places.ensures;
       names = names;
       are = c.in_ok-names.ensures ∙ ap (first_names known) (c.min-count.ensures ∙ ap (λ n. min n 4294967295) c.len.ensures);
       unfolded = c.in_ok-unfolded.unfolded;

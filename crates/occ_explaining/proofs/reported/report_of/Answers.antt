@@ -1,5 +1,6 @@
 use Rattle.std.proofs.Common.{◌≡◌, ◌∙◌, ap, map, subst}
 use Rattle.occ_ends.specs.Ends.{all_using, noted_for}
+use Rattle.occ_text.specs.Words.{logical_lines}
 use Rattle.occ_places.specs.Places.{Fits}
 use Rattle.occ_report.specs.Reports.{IsReport}
 use Rattle.occ_term.specs.UnfoldedProgram.{meaning}
@@ -16,8 +17,10 @@ returns-clause-told c =
     record {
       program = program;
       code = c.in_ok-code.ensures.code;
+      read = logical_lines c.in_ok-lines.lines.lines.items;
+      reads = c.in_ok-lines.ensures.found;
       known = known;
-      fits = subst (λ n. Fits program n known) c.lines_in.ensures c.in_ok-places.ensures;
+      fits = subst (λ ls. Fits program (logical_lines ls) known) c.as_slice-read.ensures.value c.in_ok-places.ensures;
       unfolded = c.in_ok-unfolded.unfolded;
       unfolds = c.in_ok-unfolded.ensures.found;
       report = subst (λ l. IsReport t program c.args.keyboard.now l known c.in_ok-bytes.bytes.items) c.in_ok-plan.ensures (c.in_ok-bytes.ensures t uses);

@@ -1,4 +1,5 @@
 use Rattle.std.proofs.Common.{subst}
+use Rattle.occ_text.specs.Words.{logical_lines}
 use Rattle.occ_places.specs.Places.{Fits}
 use Rattle.occ_explaining.proofs.stepped.steps_of.Goals as goal
 
@@ -7,7 +8,9 @@ returns-clause-told c =
     record {
       program = c.in_ok-code.code;
       code = c.in_ok-code.ensures.code;
+      read = logical_lines c.in_ok-lines.lines.lines.items;
+      reads = c.in_ok-lines.ensures.found;
       known = c.in_ok-places.places;
-      fits = subst (λ n. Fits c.in_ok-code.code n c.in_ok-places.places) c.lines_in.ensures c.in_ok-places.ensures;
+      fits = subst (λ ls. Fits c.in_ok-code.code (logical_lines ls) c.in_ok-places.places) c.as_slice-read.ensures.value c.in_ok-places.ensures;
       steps = c.in_ok-bytes.ensures;
     }

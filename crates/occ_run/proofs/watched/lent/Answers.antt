@@ -11,7 +11,7 @@ pub returns-then-branch-clause-shown : goal.returns-then-branch-clause-shown
 returns-then-branch-clause-shown g c = λ net at.
     let held : List Entry = c.args.publisher.now.published in
     let all : List Entry = c.in_ok-note.note.entries in
-    let begins : IsPrefix held all = (subst (λ r. IfOk r (λ n. IsPrefix held n.entries × (n.last ≡ true))) c.in_ok-note.was c.run_told-progress.ensures).0 in
+    let begins : IsPrefix held all = (subst (λ r. IfOk r (λ n. IsPrefix held n.entries × (n.last ≡ true))) c.in_ok-note.was c.run_told-progress.ensures.noted).0 in
     let told = c.in_ok-is_shown.ensures.0 c.if-branch.true in
     let named = ap (λ cs. entries (names_of cs) 1 (map communication_of c.trace.result.now)) c.channels-2.ensures in
     let traced = ap (λ xs. entries (names_of c.args.code.now.channels) 1 xs) (sym (c.trace.ensures net at)) in

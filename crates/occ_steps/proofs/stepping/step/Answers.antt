@@ -1,6 +1,5 @@
-use Rattle.std.proofs.Common.{◌∙◌, ◌-◌, ◌+◌, ◌++◌, ap, length, map, sym}
-use Rattle.std.specs.Prelude.{slice_get}
-use Rattle.occ_net_replay.specs.Replay.{selected}
+use Rattle.std.proofs.Common.{◌∙◌, ◌-◌, ◌+◌, ◌++◌, ℕ, ap, length, map}
+use Rattle.occ_code.specs.declared.task.Task.{Task}
 use Rattle.occ_net_tables.specs.Holding.{communication_of}
 use Rattle.occ_shown.specs.Answers.{names_of}
 use Rattle.occ_steps.specs.Steps.{head_text, tail_text}
@@ -19,21 +18,25 @@ write_tail-requires c =
     c.in_ok-copy_behind.ensures in
     record { within = news_within c.trace.result.now c.trace-trace.result.now c.copy_behind.new.news c.len-made.result fresh c.len-made.ensures.len }
 
+pub next_turn-requires : goal.next_turn-requires
+next_turn-requires c = c.requires
+
 pub returns : goal.returns
 returns c = λ net h.
     let p = c.args.code.now in
     let keys = c.args.keyboard.now in
-    let taken = c.in-Some.taken in
+    let taken : ℕ = c.in_ok-taken.taken in
+    let left : Task = c.in_ok-taken.after in
     let x = c.in_ok-take_turn.ensures.turn net h in
     let was = c.trace.ensures p keys net h in
     let now = c.trace-trace.ensures p keys x.next x.holds in
     let fresh = news_are p c.args.choice net x.next c.trace.result.now c.trace-trace.result.now c.copy_behind.new.news x.turn was now c.mark-mark.result c.mark-mark.ensures c.in_ok-copy_behind.ensures in
-    let ready = c.ready-ready.ensures p keys net h in
-    let selects = ap (λ ns. selected ns c.args.choice.which) (sym ready) ∙ sym c.selected.ensures ∙ c.in-Some.is in
+    let ready = c.ready.ensures p keys net h in
+    let next = c.in_ok-taken.ensures net h in
     let first = c.in_ok-write_head.ensures ∙ ap (λ ns. c.args.out.now.items ++ head_text c.args.turn ns taken c.args.choice.pick) ready in
     let made = news_text (names_of p.channels) p c.args.choice net x.next c.trace.result.now c.trace-trace.result.now c.copy_behind.new.news c.len-made.result x.turn was now fresh c.len-made.ensures.len in
     let second =
-    c.in_ok-write_tail.ensures p keys x.next x.holds
-    ∙ ap (λ cs. c.write_head.new.out.items ++ tail_text (names_of cs) c.args.places.now taken (slice_get x.next.tasks taken) (entries (names_of cs) (c.len-made.result - length c.copy_behind.new.news + 1) (map communication_of c.copy_behind.new.news))) c.channels.ensures
-    ∙ ap (λ es. c.write_head.new.out.items ++ tail_text (names_of p.channels) c.args.places.now taken (slice_get x.next.tasks taken) es) made in
-    steps_to c.args.places.now p keys c.args.turn c.args.choice net c.args.tables.now c.take_turn.new.self taken c.args.out.now.items c.write_head.new.out.items _ h x selects first second
+    c.in_ok-write_tail.ensures
+    ∙ ap (λ cs. c.write_head.new.out.items ++ tail_text (names_of cs) c.args.places.now taken left (entries (names_of cs) (c.len-made.result - length c.copy_behind.new.news + 1) (map communication_of c.copy_behind.new.news))) c.channels.ensures
+    ∙ ap (λ es. c.write_head.new.out.items ++ tail_text (names_of p.channels) c.args.places.now taken left es) made in
+    steps_to c.args.places.now p keys c.args.turn c.args.choice net c.args.tables.now c.take_turn.new.self taken left c.args.out.now.items c.write_head.new.out.items _ h x next first second

@@ -1,0 +1,6 @@
+use Rattle.std.proofs.Common.{◌<◌, ◌≡◌, ℕ}
+use Rattle.std.specs.Prelude.{slice_get}
+use Rattle.occ_ends.proofs.circling.again.Given as goal
+
+abbrev pub invariant-loop-place : goal.invariant-loop-place
+invariant-loop-place l = (k : ℕ) → k < l.place → slice_get l.numbers k ≡ slice_get l.numbers 0 → k ≡ 0

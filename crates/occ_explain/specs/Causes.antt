@@ -1,0 +1,20 @@
+-- What is wrong where a text is refused.
+-- Manual: nothing; this is (own).
+use Rattle.std.specs.Prelude.{Bool, List, [], codes, if◌then◌else◌, map, ℕ, ◌==◌, ◌||◌, ◌∷◌}
+use Rattle.occ_explain.specs.declared.cause_table.TheConstants.{CAUSES}
+
+-- the cause beside a number
+abbrev pub cause_in : List (ℕ × List ℕ) → ℕ → List ℕ
+cause_in [] n = codes "the text is refused"
+cause_in (row ∷ rows) n = if row.0 == n then row.1 else cause_in rows n
+
+-- the cause that docs/language.md has for the refusals of a number
+unfoldable pub cause_of : ℕ → List ℕ
+cause_of n = cause_in (map (λ row. (row.0, row.1.now)) CAUSES) n
+
+-- Whether it is told more closely what is wrong than by the cause: of bytes and literals, of words, of levels, of texts that end too
+-- early, and of names.
+abbrev pub is_told_closer : ℕ → Bool
+is_told_closer n =
+    n == 2 || n == 4 || n == 5 || n == 6 || n == 20 || n == 21 || n == 22
+    || n == 30 || n == 31 || n == 50 || n == 51 || n == 52

@@ -1,0 +1,9 @@
+-- What is told before the keyboard is read.
+-- Manual: nothing; this is (own).
+use Rattle.std.specs.Prelude.{Bool, List, None, Option, Some, [], codes, false, true, ℕ}
+
+-- this line where a source's file is named and standard input is a terminal, and else nothing
+abbrev pub notice_of : {Path : Type 0} → Option Path → Bool → List ℕ
+notice_of (Some path) true = codes "the keyboard is read to its end first: Ctrl-D ends it, < /dev/null is none\n"
+notice_of (Some path) false = []
+notice_of None terminal = []

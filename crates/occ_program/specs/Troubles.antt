@@ -1,0 +1,40 @@
+-- Which file or stream failed, and why, as it is told.
+-- Manual: nothing; this is (own).
+use Rattle.std.specs.Prelude.{List, None, Option, Some, [], codes, ℕ, ◌++◌, ◌∷◌}
+use Rattle.std.specs.Borrow.{Bor}
+use Rattle.occ_files.specs.Names.{printed_name}
+use Rattle.occ_files.specs.Reasons.{reason_text}
+use Rattle.occ_play_inputs.specs.declared.failure.Failure.{Failure}
+use Rattle.occ_play_inputs.specs.declared.failure.Failure.TheVariants.{Read, Write}
+use Rattle.occ_play_inputs.specs.declared.failure.Stream.{Stream}
+use Rattle.occ_play_inputs.specs.declared.failure.Stream.TheVariants.{Source, Keyboard, Choices, Output, Record, Answer, Chart, Trace, Turns}
+use Rattle.occ_play_inputs.specs.declared.failure.Trouble.{Trouble}
+use Rattle.occ_play_inputs.specs.declared.words.Words.{Words}
+use Rattle.occ_program.specs.Pages.{answer_path}
+
+-- the path that a word gives, and this where it gives none
+abbrev pub path_or : List ℕ → Option (Bor (List ℕ)) → List ℕ
+path_or other None = other
+path_or other (Some path) = path.now
+
+-- a file by the path that the words give, and a stream by its name
+abbrev pub stream_name : Words → Stream → List ℕ
+stream_name words Source = path_or (codes "standard input") words.file
+stream_name words Keyboard = codes "standard input"
+stream_name words Choices = path_or [] words.choices
+stream_name words Output = codes "standard output"
+stream_name words Record = path_or [] words.record
+stream_name words (Answer number) = answer_path (path_or [] words.record) number
+stream_name words Chart = path_or [] words.chart
+stream_name words Trace = path_or [] words.trace_to
+stream_name words Turns = path_or [] words.steps
+
+-- its name and the reason
+abbrev pub trouble_text : Words → Trouble → List ℕ
+trouble_text words t = printed_name (stream_name words t.stream) ++ codes ": " ++ reason_text t.reason ++ 10 ∷ []
+
+-- what failed, where something could not be read or written
+abbrev pub trouble_in : Failure → Option Trouble
+trouble_in (Read t) = Some t
+trouble_in (Write t) = Some t
+trouble_in failure = None

@@ -1,0 +1,115 @@
+//! Tells what each process stands at where an answer of a search has not ended.
+ghost use Rattle.std.specs.Prelude.{◌≡◌, ◌<◌, IfOk, IsFalse, IsTrue, ◌⊎◌, ◌≢◌, length};
+ghost use Rattle.occ_net_replay.specs.declared.ending.Ending.TheVariants.{Ended};
+ghost use Rattle.occ_program.specs.Explained.{IsReported, NoneEnds, SomeEnds, TellsAnswers, TellsAt, answer_head};
+
+use crate::explaining::print_text;
+use crate::program::options_of;
+use occ_explaining::report_of;
+use occ_exploring::Answer;
+use occ_play::{Ending, PlayFault};
+use occ_play_inputs::{Inputs, Words};
+use std::alloc::{AllocError, Global};
+
+/// Prints, where the words ask for it, the report of the first of these answers with each ending but that of a whole run. Where
+/// memory runs out for that, nothing is printed.
+pub(crate) fn explain_answers<R: Eprint>(
+    rt: &R,
+    alloc: Global,
+    words: &Words<'_>,
+    inputs: &Inputs,
+    answers: &[Answer],
+) {
+    if words.explain
+        && let Ok(text) = answers_told(alloc, words, inputs, answers)
+    {
+        print_text(rt, alloc, text.as_slice());
+    }
+}
+
+/// What is told of these answers.
+fn answers_told(
+    alloc: Global,
+    words: &Words<'_>,
+    inputs: &Inputs,
+    answers: &[Answer],
+) -> Result<Vec<u8>, PlayFault>
+    ensures { IfOk result (λ text. TellsAnswers words.now inputs.now.source.items inputs.now.keyboard.items answers.now text.items) }
+{
+    let mut text = Vec::new(alloc);
+    for place in 0..answers.len() {
+        let part = told_at(alloc, words, inputs, answers, place)?;
+        text.extend_from_slice(part.as_slice())?;
+    }
+    Ok(text)
+}
+
+/// What is told of the answer at this place, from 0.
+fn told_at(
+    alloc: Global,
+    words: &Words<'_>,
+    inputs: &Inputs,
+    answers: &[Answer],
+    place: usize,
+) -> Result<Vec<u8>, PlayFault>
+    requires { place < length answers.now }
+    ensures { IfOk result (λ text. TellsAt words.now inputs.now.source.items inputs.now.keyboard.items answers.now place text.items) }
+{
+    let answer = &answers[place];
+    if is_new(&answers[..place], answer.ending) {
+        reported(alloc, words, inputs, place + 1, answer)
+    } else {
+        Ok(Vec::new(alloc))
+    }
+}
+
+/// Whether this is the ending of no whole run, and of none of these answers.
+fn is_new(before: &[Answer], ending: Ending) -> bool
+    ensures new { IsTrue result → (ending ≢ Ended) × NoneEnds before.now ending }
+    ensures old { IsFalse result → (ending ≡ Ended) ⊎ SomeEnds before.now ending }
+{
+    ending != Ending::Ended && none_ends(before, ending)
+}
+
+/// Whether none of these answers has this ending.
+fn none_ends(answers: &[Answer], ending: Ending) -> bool
+    ensures none { IsTrue result → NoneEnds answers.now ending }
+    ensures some { IsFalse result → SomeEnds answers.now ending }
+{
+    for answer in answers {
+        if answer.ending == ending {
+            return false;
+        }
+    }
+    true
+}
+
+/// The number of an answer, its ending, and the report of the run by its choices.
+fn reported(
+    alloc: Global,
+    words: &Words<'_>,
+    inputs: &Inputs,
+    number: usize,
+    answer: &Answer,
+) -> Result<Vec<u8>, PlayFault>
+    ensures { IfOk result (λ text. IsReported words.now inputs.now.source.items inputs.now.keyboard.items number answer.now text.items) }
+{
+    let mut text = answer_head(alloc, number, answer.ending)?;
+    let report = report_of(
+        &options_of(words),
+        alloc,
+        inputs.source.as_slice(),
+        inputs.keyboard.as_slice(),
+        answer.choices.as_slice(),
+    )?;
+    text.extend_from_slice(report.as_slice())?;
+    Ok(text)
+}
+
+/// The number and the ending of an answer.
+fn answer_head(alloc: Global, number: usize, ending: Ending) -> Result<Vec<u8>, AllocError>
+    ensures { IfOk result (λ head. head.items ≡ answer_head number ending) }
+{
+    let head = format!(in alloc; "{number} {ending}:\n")?;
+    Ok(head.into_bytes())
+}

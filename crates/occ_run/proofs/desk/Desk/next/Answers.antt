@@ -1,0 +1,23 @@
+use Rattle.std.proofs.Common.{◌∙◌, subst, sym}
+use Rattle.occ_run.specs.Held.{IsHeld}
+use Rattle.occ_run.specs.declared.tokens.Known.{Known}
+use Rattle.occ_run.proofs.Desks.{held_leaves, held_rests, out_apart, out_held}
+use Rattle.occ_run.proofs.desk.Desk.next.Goals as goal
+
+pub go_out-token-requires-clause-other : goal.go_out-token-requires-clause-other
+go_out-token-requires-clause-other g c = out_apart _ _ _ _ c.next.new.self _ c.self.invariant.1 c.replayed.ensures c.in-Run.ensures.limit c.in-Run.lease c.in-Run.ensures.step
+
+pub invariant_of-self : goal.invariant_of-self
+invariant_of-self g c =
+    let kept = c.go_out-token.ensures.kept in
+    let u = g.U.OneRun in (
+      kept.0 ∙ c.self.invariant.0,
+      subst (λ (v : Known). IsHeld u.program u.keyboard u.limit c.next.new.self v) (sym kept.1)
+          (out_held _ _ _ _ c.next.new.self _ c.self.invariant.1 c.replayed.ensures c.in-Run.ensures.limit c.in-Run.lease c.in-Run.ensures.step),
+    )
+
+pub invariant_of-self-in-Rest : goal.invariant_of-self-in-Rest
+invariant_of-self-in-Rest g c = (c.self.invariant.0, held_rests _ _ _ _ _ _ c.self.invariant.1 c.replayed.ensures c.in-Rest.ensures.limit c.in-Rest.ensures.step)
+
+pub invariant_of-self-in-Leave : goal.invariant_of-self-in-Leave
+invariant_of-self-in-Leave g c = (c.self.invariant.0, held_leaves _ _ _ _ _ _ c.self.invariant.1 c.replayed.ensures c.in-Leave.ensures.limit c.in-Leave.ensures.step)

@@ -1,0 +1,7 @@
+use Rattle.occ_run.proofs.Desks.{held_still}
+use Rattle.occ_run.proofs.desk.Desk.wake.Goals as goal
+
+pub invariant_of-self : goal.invariant_of-self
+invariant_of-self g c =
+    let e = c.wake.ensures in
+    (c.self.invariant.0, held_still _ _ _ _ _ _ c.self.invariant.1 e.network e.limit e.stop)

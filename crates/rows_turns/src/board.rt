@@ -1,0 +1,115 @@
+//! A board, and its watchers.
+ghost use Rattle.std.specs.Prelude.{◌≡◌, [], false};
+ghost use Rattle.occ_board.specs.Traces.{publishing};
+
+use core::mem::replace_with;
+use occ_board::{Board, BoardFault, Naming, Opened, Publisher, Shown, Watcher};
+use occ_net_trace::End;
+use occ_term::{Message, Name, Part, Parts, Primitive, Text};
+use std::alloc::{AllocError, Global};
+use std::marker::Brand;
+use std::process::Abort;
+use std::sync::Wait;
+use std::test::Fail;
+
+// The byte 65 to the screen, with this number.
+fn shown(alloc: Global, number: u64) -> Result<Shown, AllocError> {
+    let name = Name::new(alloc, b"screen")?;
+    let tag = Text::new(alloc, b"t")?;
+    let message = Message {
+        tag: Some(0),
+        items: Parts::one(Part::One(Primitive::Byte, 65)),
+    };
+    Ok(Shown::new(
+        number,
+        1,
+        name,
+        End::Process(0),
+        End::Screen,
+        Some(tag),
+        message,
+    ))
+}
+
+// The length of the list, and its last entry's number.
+fn read<J: Naming>(watcher: Watcher<J>) -> Result<(Watcher<J>, (usize, u64)), Fail> {
+    let read = watcher.look(|list| {
+        (
+            list.len(),
+            match list.last() {
+                Some(shown) => shown.number(),
+                None => 0,
+            },
+        )
+    });
+    Ok(read.ok().ok_or("the board is open")?)
+}
+
+// What a watcher reads before an entry is appended, before it is published, and after.
+fn read_thrice<J: Naming, R: Wait>(
+    rt: &R,
+    alloc: Global,
+    publisher: &mut Publisher<J>,
+    watcher: Watcher<J>,
+) -> Result<[(usize, u64); 3], Fail>
+    requires { publisher.old ≡ publishing [] [] false }
+{
+    let (watcher, first) = read(watcher)?;
+    let added = publisher.append(shown(alloc, 7)?).is_ok();
+    let (watcher, second) = read(watcher)?;
+    if !added {
+        return Err("memory".into());
+    }
+    replace_with(publisher, rt, |publisher, rt| publisher.publish(rt))
+        .ok()
+        .ok_or("memory")?;
+    let (_, third) = read(watcher)?;
+    Ok([first, second, third])
+}
+
+fn looks<J: Naming, R: Wait + Abort>(rt: &R, alloc: Global, opened: Opened) -> Result<(), Fail>
+    requires { opened ≡ J.book }
+{
+    let (mut publisher, mut watchers) = match Board::new::<J>(opened, alloc, 8) {
+        Ok(board) => board,
+        Err(_) => return Err("a board".into()),
+    };
+    let read = match watchers.pop() {
+        Some(watcher) => read_thrice(rt, alloc, &mut publisher, watcher),
+        None => Err("a watcher".into()),
+    };
+    let count = publisher.published().len();
+    publisher.end(rt);
+    assert_eq!(rt; count, 1);
+    assert_eq!(rt; read?, [(0, 0), (0, 0), (1, 7)]);
+    match watchers.pop() {
+        Some(watcher) => assert!(rt; watcher.look(|list| list.len()).is_err()),
+        None => return Err("a watcher".into()),
+    }
+    Ok(())
+}
+
+#[test]
+fn a_published_entry_is_seen(rt: HostRuntime) -> Result<(), Fail> {
+    looks::<Brand, _>(&rt, rt.alloc(), Opened::new())
+}
+
+fn is_refused<J: Naming>(rt: &impl Wait, alloc: Global, opened: Opened, watchers: u32) -> bool
+    requires { opened ≡ J.book }
+{
+    match Board::new::<J>(opened, alloc, watchers) {
+        Ok((publisher, _)) => {
+            publisher.end(rt);
+            false
+        }
+        Err(fault) => fault == BoardFault::BadWatchers,
+    }
+}
+
+#[test]
+fn a_board_has_1_to_8_watchers(rt: HostRuntime) -> Result<(), Fail> {
+    assert!(rt; is_refused::<Brand>(&rt, rt.alloc(), Opened::new(), 0));
+    assert!(rt; is_refused::<Brand>(&rt, rt.alloc(), Opened::new(), 9));
+    assert!(rt; !is_refused::<Brand>(&rt, rt.alloc(), Opened::new(), 8));
+    Ok(())
+}
