@@ -10,7 +10,7 @@ ghost use Rattle.occ_play_inputs.specs.Searches.{IsFull, IsSearch};
 use crate::apart::are_apart;
 use clap::builder::ValueParser;
 use clap::error::ErrorKind;
-use clap::{Arg, ArgAction, Command, Error, value_parser};
+use clap::{Arg, ArgAction, ArgMatches, Command, Error, value_parser};
 use occ_choices::{MOST_WORKERS, is_crew};
 use occ_code::MOST_QUANTUM;
 use occ_explore::Asked;
@@ -143,57 +143,35 @@ pub struct Words<'a> {
 pub fn read_words<'a>(alloc: Global, words: &'a [&'a str]) -> Result<Words<'a>, Error> {
     let mut command = command(alloc)?;
     let matches = command.try_get_matches_from_mut(words)?;
+    match words_of(&matches) {
+        Ok(words) => Ok(words),
+        Err(told) => Err(command.error(ErrorKind::ValueValidation, told)?),
+    }
+}
+
+/// What the words say that were found, or what is told where one of them says what it may not.
+fn words_of<'a>(matches: &ArgMatches<'a>) -> Result<Words<'a>, &'static str> {
     let limit = limit_of(matches.get_one::<u32>("limit"));
-    let limit = number_in(
-        &mut command,
-        limit,
-        0,
-        MOST_TURNS,
-        "the limit is 0 to 10000000 turns",
-    )?;
+    let limit = number_in(limit, 0, MOST_TURNS, "the limit is 0 to 10000000 turns")?;
     let quantum = quantum_of(matches.get_one::<u32>("quantum"));
-    let quantum = number_in(
-        &mut command,
-        quantum,
-        1,
-        MOST_QUANTUM,
-        "the quantum is 1 to 65536",
-    )?;
+    let quantum = number_in(quantum, 1, MOST_QUANTUM, "the quantum is 1 to 65536")?;
     let workers = matches.get_one::<u32>("workers");
     if !are_workers(workers) {
-        return Err(command.error(
-            ErrorKind::ValueValidation,
-            "the number of workers is 1 to 64",
-        )?);
+        return Err("the number of workers is 1 to 64");
     }
     let states = states_of(matches.get_one::<u32>("states"));
-    let states = number_in(
-        &mut command,
-        states,
-        1,
-        MOST_STATES,
-        "the states are 1 to 10000000",
-    )?;
+    let states = number_in(states, 1, MOST_STATES, "the states are 1 to 10000000")?;
     let seed = matches.get_one::<u32>("seed");
     if !is_seed(seed) {
-        return Err(command.error(ErrorKind::ValueValidation, "the seed is 0 to 1000000000")?);
+        return Err("the seed is 0 to 1000000000");
     }
     let tries = tries_of(matches.get_one::<u32>("tries"));
-    let tries = number_in(
-        &mut command,
-        tries,
-        1,
-        MOST_TRIES,
-        "the tries are 1 to 1000000",
-    )?;
+    let tries = number_in(tries, 1, MOST_TRIES, "the tries are 1 to 1000000")?;
     let (file, choices) = (matches.get_str("FILE"), matches.get_str("choices"));
     let (record, chart) = (matches.get_str("record"), matches.get_str("chart"));
     let (trace_to, steps) = (matches.get_str("trace-to"), matches.get_str("steps"));
     if !are_apart(file, choices, record, chart, trace_to, steps) {
-        return Err(command.error(
-            ErrorKind::ValueValidation,
-            "--record, --chart, --trace-to and --steps each write into a file of their own",
-        )?);
+        return Err("--record, --chart, --trace-to and --steps each write into a file of their own");
     }
     Ok(Words {
         limit,
@@ -221,20 +199,15 @@ pub fn read_words<'a>(alloc: Global, words: &'a [&'a str]) -> Result<Words<'a>, 
     })
 }
 
-/// This number, where it is none below the first and none above the second.
-fn number_in(
-    command: &mut Command<'_>,
-    number: u32,
-    least: u32,
-    most: u32,
-    told: &str,
-) -> Result<u32, Error>
+/// This number, where it is none below the first and none above the second; else what is told then.
+fn number_in(number: u32, least: u32, most: u32, told: &'static str) -> Result<u32, &'static str>
     ensures { IfOk result (λ n. (least ≤ n) × (n ≤ most)) }
 {
     if number < least || number > most {
-        return Err(command.error(ErrorKind::ValueValidation, told)?);
+        Err(told)
+    } else {
+        Ok(number)
     }
-    Ok(number)
 }
 
 /// The limit, where the words gave this one or none.
@@ -333,25 +306,32 @@ fn command<'a>(alloc: Global) -> Result<Command<'a>, Error> {
         .arg(limit_word(alloc))?
         .arg(quantum_word(alloc))?
         .arg(errors_word(alloc))?
-        .arg(workers_word(alloc))?
-        .arg(seed_word(alloc)?)?
-        .arg(tries_word(alloc)?)?
+        .arg(workers_word(alloc))?;
+    let command = with(command, seed_word(alloc))?;
+    let command = with(command, tries_word(alloc))?
         .arg(choices_word(alloc))?
         .arg(record_word(alloc))?
-        .arg(chart_word(alloc))?
-        .arg(arrows_word(alloc)?)?
-        .arg(last_word(alloc)?)?
+        .arg(chart_word(alloc))?;
+    let command = with(command, arrows_word(alloc))?;
+    let command = with(command, last_word(alloc))?
         .arg(trace_word(alloc))?
-        .arg(trace_to_word(alloc))?
-        .arg(json_word(alloc)?)?
+        .arg(trace_to_word(alloc))?;
+    let command = with(command, json_word(alloc))?
         .arg(steps_word(alloc))?
         .arg(watch_word(alloc))?
-        .arg(explain_word(alloc))?
-        .arg(explore_word(alloc)?)?
-        .arg(states_word(alloc)?)?
-        .arg(check_word(alloc)?)?
-        .arg(file_word(alloc))?;
+        .arg(explain_word(alloc))?;
+    let command = with(command, explore_word(alloc))?;
+    let command = with(command, states_word(alloc))?;
+    let command = with(command, check_word(alloc))?.arg(file_word(alloc))?;
     Ok(command)
+}
+
+/// The command with this word too, where there was room for it.
+fn with<'a>(
+    command: Command<'a>,
+    word: Result<Arg<'a>, AllocError>,
+) -> Result<Command<'a>, AllocError> {
+    command.arg(word?)
 }
 
 fn limit_word<'a>(alloc: Global) -> Arg<'a> {

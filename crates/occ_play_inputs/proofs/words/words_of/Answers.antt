@@ -1,4 +1,4 @@
-use Rattle.occ_play_inputs.proofs.words.read_words.Goals as goal
+use Rattle.occ_play_inputs.proofs.words.words_of.Goals as goal
 
 pub invariant_of-result-clause-limit_in_range : goal.invariant_of-result-clause-limit_in_range
 invariant_of-result-clause-limit_in_range c = c.in_ok-limit.ensures.1
