@@ -1,5 +1,7 @@
 pub mod Messages
+pub mod Shifted
 pub mod Stacks
+pub mod Tested
 pub mod Walking
 pub mod Moving
 pub mod Quickly
