@@ -5,3 +5,4 @@ pub mod Moving
 pub mod Quickly
 pub mod Parted
 mod Opened
+mod Rows
