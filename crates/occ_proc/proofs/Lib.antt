@@ -7,3 +7,4 @@ pub mod Moving
 pub mod Quickly
 pub mod Parted
 mod Opened
+mod Rows
