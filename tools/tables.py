@@ -112,7 +112,7 @@ def words():
     text = (TOP / "crates/occ_play_inputs/src/words.rt").read_text()
     names = {name: re.findall(r'"(\w+)"', values) for name, values in re.findall(r"static (\w+): \[&str; \d+\] = \[(.*?)\];", text)}
     made = {head: body for head, body in re.findall(r"(?ms)^fn (\w+_word)<'a>\(alloc: Global\)[^{]*\{\n(.*?)^\}", text)}
-    for head in re.findall(r"\.arg\((\w+_word)\(alloc\)", text):
+    for head in re.findall(r"(?:\.arg\(|with\(command, )(\w+_word)\(alloc\)", text):
         body = made[head]
         long, value = (re.search(rf'\.{field}\("([^"]+)"\)', body) for field in ("long", "value_name"))
         one_of = re.search(r"ValueParser::Names\((\w+)\.as_slice", body)
