@@ -1,7 +1,10 @@
 pub mod Messages
+pub mod Shifted
 pub mod Stacks
+pub mod Tested
 pub mod Walking
 pub mod Moving
 pub mod Quickly
 pub mod Parted
 mod Opened
+mod Rows

@@ -90,6 +90,7 @@ pub(crate) fn if_tag(stack: &mut Stack, tag: u32, skip: usize) -> Result<Went, A
     Ok(Went::Skip(skip))
 }
 
+#[inline(always)]
 pub(crate) fn drop_one(stack: &mut Stack) -> Went
     ensures { OnStack machine.DropOne stack.old result stack.new }
 {
