@@ -16,7 +16,7 @@ use crate::labels::write_label;
 use crate::messages::{write_message, write_name};
 use crate::stub::Stub;
 use crate::xml::{Style, write_path};
-use occ_code::Wait;
+use occ_machine::Wait;
 use occ_net_replay::Ending;
 use occ_net_trace::End;
 use occ_term::{Channel, Fault, Message};

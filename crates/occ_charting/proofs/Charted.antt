@@ -5,7 +5,7 @@ use Rattle.occ_chart.specs.declared.part.Part.{Part}
 use Rattle.occ_chart.specs.Charts.{IsChart}
 use Rattle.occ_chart.specs.Columns.{Standing}
 use Rattle.occ_charting.specs.Charting.{IsReplayChart, IsRunChart, feet, feet_of, foot_in}
-use Rattle.occ_code.specs.Compiled.{Program}
+use Rattle.occ_machine.specs.Compiled.{Program}
 use Rattle.occ_net_replay.specs.declared.choice.Choice.{Choice}
 use Rattle.occ_net_replay.specs.Following.{AreBytes}
 use Rattle.occ_net_replay.specs.Replay.{Net, Tasks}

@@ -5,8 +5,8 @@ use Rattle.occ_chart.specs.declared.part.Part.{Part}
 use Rattle.occ_chart.specs.Charts.{IsChart}
 use Rattle.occ_chart.specs.Columns.{Standing, standing}
 use Rattle.occ_chart.specs.Labels.{foot_words}
-use Rattle.occ_code.specs.Compiled.{Program}
-use Rattle.occ_code.specs.declared.task.Task.{Task}
+use Rattle.occ_machine.specs.Compiled.{Program}
+use Rattle.occ_machine.specs.declared.task.Task.{Task}
 use Rattle.occ_net_replay.specs.declared.choice.Choice.{Choice}
 use Rattle.occ_net_replay.specs.Following.{Followed, or_limit}
 use Rattle.occ_net_replay.specs.Replay.{Net, Replays, Tasks, ending_of}

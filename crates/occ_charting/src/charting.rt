@@ -7,7 +7,7 @@ ghost use Rattle.occ_play.specs.Playing.{Refuses};
 use crate::feet::feet;
 use occ_chart::Part;
 use occ_choices::Plan;
-use occ_code::Code;
+use occ_machine::Code;
 use occ_net_tables::{Keep, Ran, run_tables};
 use occ_play::{Options, PlayFault, code_of};
 use std::alloc::{AllocError, Global};

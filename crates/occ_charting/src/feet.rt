@@ -1,7 +1,7 @@
 //! Who stands at the foot of a chart.
 ghost use Rattle.std.specs.Prelude.{◌≡◌, ◌++◌, IfOk, List, OnOk, length, min, option_map, slice_get, ℕ};
 ghost use Rattle.occ_charting.specs.Charting.{feet_of, foot_in, foot_standing};
-ghost use Rattle.occ_code.specs.Compiled.{Program};
+ghost use Rattle.occ_machine.specs.Compiled.{Program};
 ghost use Rattle.occ_net_replay.specs.Replay.{Net};
 ghost use Rattle.occ_net_tables.specs.Holding.{Holds};
 ghost use Rattle.occ_shown.specs.Answers.{names_of};

@@ -9,8 +9,8 @@ use Rattle.occ_term.specs.Messages.{fault}
 use Rattle.occ_term.specs.Values.{Store, store_with, Evaluated, Value, Fails, first_of, count_of}
 use Rattle.occ_term.specs.Storing.{Outcome, Gives, Faults, then_in, in_store, Nothing, nothing, store_from, store_in, values_in, Spot, At, AtCounted, store_part, store_parts}
 use Rattle.occ_term.specs.Frames.{Variables, value_at, is_held, at}
-use Rattle.occ_code.specs.SameStop.{Frames}
-use Rattle.occ_code.specs.Machine.{by_cell, Instruction, Point, point, Walks, values_with, frame_with, frame_from, frame_in, Stored, Stays, Refused, and_stored, frame_part, frame_parts}
+use Rattle.occ_machine.specs.SameStop.{Frames}
+use Rattle.occ_machine.specs.Machine.{by_cell, Instruction, Point, point, Walks, values_with, frame_with, frame_from, frame_in, Stored, Stays, Refused, and_stored, frame_part, frame_parts}
 use Rattle.occ_code.specs.Laws.{FaultsAt, Comes, comes, fails}
 use Rattle.occ_code.proofs.Walks.{walks_on}
 use Rattle.occ_code.proofs.RunningExpressions.{fault_on}

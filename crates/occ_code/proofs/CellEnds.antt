@@ -14,9 +14,9 @@ use Rattle.occ_usage.specs.declared.noted.Use.{Use}
 use Rattle.occ_usage.specs.declared.noted.Kind.{Kind}
 use Rattle.occ_usage.specs.declared.noted.Kind.TheVariants.{Read, Write, Input, Output}
 use Rattle.occ_code.proofs.Emitting.{drop_all}
-use Rattle.occ_code.specs.SameStop.{AreAbove, IsRising, Lists}
+use Rattle.occ_machine.specs.SameStop.{AreAbove, IsRising, Lists}
 use Rattle.occ_code.specs.Within.{AreWithin}
-use Rattle.occ_code.specs.declared.compiler.cells.Row.{Row}
+use Rattle.occ_code.specs.declared.cells.Row.{Row}
 use Rattle.occ_code.specs.Cells.{is_counted, counted, covers, end_of, furthest, in_rows, AddsRow, Gathered}
 use Rattle.occ_term.specs.CellRows.{numbers_from}
 use Rattle.occ_term.specs.UnfoldedProgram.{most_cells}

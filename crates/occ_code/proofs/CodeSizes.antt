@@ -5,7 +5,7 @@ use Rattle.occ_term.specs.Terms.{Expression, Constant, Cell, Component, Letter, 
 use Rattle.occ_term.specs.Messages.{product}
 use Rattle.occ_term.specs.Sizes.{size_of_expression, size_of_place, size_of_subscripts, size_of_item, size_of_items, size_of_target, size_of_targets, size_of_declaration, size_of_declarations, size_of, size_of_terms, size_of_branches, size_of_test, size_of_arms, size_of_reception, size_of_variants, size_of_choices, size_of_options}
 use Rattle.occ_term.specs.Processes.{Numbered, branches_in, branches_in_terms, branches_among, branches_in_arms, branches_in_reception, branches_in_variants, branches_in_choices, branches_in_options}
-use Rattle.occ_code.specs.Machine.{placed, Instruction, Push, DropOne, IfTrue, OpenSkip, OpenInput, ChooseArm, StoreOne, End, LoadAt, LoadLetter, Subscript, Operate, OperateOne, ConvertTo, AndThen, OrElse, PartOne, PartMany, PartCounted, PartCountedText, SpotOne, SpotCounted, StoreParts, StoreNamed, Jump, Choose, NextChoice, BackToChoice, Begin, Pass, CountedFrom, LoopBack, Send, Receive, Halt}
+use Rattle.occ_machine.specs.Machine.{placed, Instruction, Push, DropOne, IfTrue, OpenSkip, OpenInput, ChooseArm, StoreOne, End, LoadAt, LoadLetter, Subscript, Operate, OperateOne, ConvertTo, AndThen, OrElse, PartOne, PartMany, PartCounted, PartCountedText, SpotOne, SpotCounted, StoreParts, StoreNamed, Jump, Choose, NextChoice, BackToChoice, Begin, Pass, CountedFrom, LoopBack, Send, Receive, Halt}
 use Rattle.occ_code.specs.Expressions.{components_at, expression_code, place_code, subscripts_code, item_code, items_code, target_code, targets_code, declaration_code, declarations_code, storing_code, counting_code, assignment_code, opening_code, skip_opening, input_opening}
 use Rattle.occ_code.specs.Emitted.{term_code, terms_code, arm_code, each_arm_code, arms_code, list_code, variants_code, choices_code, options_code, else_code, whole_code, instructions_of, BodiesAreSmall, ProgramsAreSmall}
 

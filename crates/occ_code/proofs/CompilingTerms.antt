@@ -11,12 +11,13 @@ use Rattle.occ_term.specs.TermTyping.{Declared, TermHas, TermsHave, BranchesHave
 use Rattle.occ_term.specs.Sizes.{size_of}
 use Rattle.occ_term.specs.Processes.{Numbered, branches_in, branches_in_terms, branches_among, branches_in_arms, branches_in_reception, branches_in_variants, branches_in_choices, branches_in_options, processes_of}
 use Rattle.occ_term.specs.declared.names.Channel.{Channel}
-use Rattle.occ_code.specs.Machine.{Body, placed}
-use Rattle.occ_code.specs.Alike.{DoesAs}
+use Rattle.occ_machine.specs.Machine.{Body, placed}
+use Rattle.occ_machine.specs.Alike.{DoesAs}
 use Rattle.occ_code.specs.Emitted.{instructions_of, whole_code}
-use Rattle.occ_code.specs.Compiled.{AddsBodies, AllDo, AreBodiesOf, IsCompiledFrom, IsQuantum, CodeRefuses, IsBodyOf, IsRefused, instructions_in, most_instructions}
-use Rattle.occ_code.specs.declared.compiler.code.CodeFault.{CodeFault}
-use Rattle.occ_code.specs.declared.compiler.code.CodeFault.TheVariants.{TooLarge, BadQuantum, Memory}
+use Rattle.occ_machine.specs.Compiled.{AllDo, IsCompiledFrom, instructions_in, most_instructions}
+use Rattle.occ_code.specs.CodeOf.{AddsBodies, AreBodiesOf, IsQuantum, CodeRefuses, IsBodyOf, IsRefused}
+use Rattle.occ_code.specs.declared.compiling.CodeFault.{CodeFault}
+use Rattle.occ_code.specs.declared.compiling.CodeFault.TheVariants.{TooLarge, BadQuantum, Memory}
 use Rattle.occ_code.specs.Within.{AllWithin, AreNumbered, KeepsWithin}
 use Rattle.occ_code.proofs.UsedCells.{keeps_within}
 use Rattle.occ_code.proofs.PassingArms.{number_below}

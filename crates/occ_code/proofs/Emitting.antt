@@ -11,9 +11,9 @@ use Rattle.occ_term.specs.View.{expression_of, place_of, subscripts}
 use Rattle.occ_term.specs.declared.expression.TermExpr.{TermExpr, the_lemmas}
 use Rattle.occ_term.specs.declared.expression.Place.{Place}
 use Rattle.occ_code.specs.Expressions.{expression_code, subscripts_code, components_at}
-use Rattle.occ_code.specs.Machine.{Instruction, Subscript}
-use Rattle.occ_code.specs.View.{emitted_instruction, emitted, Emits}
-use Rattle.occ_code.specs.declared.compiler.instr.Instr.{Instr}
+use Rattle.occ_machine.specs.Machine.{Instruction, Subscript}
+use Rattle.occ_code.specs.Emits.{emitted_instruction, emitted, Emits}
+use Rattle.occ_machine.specs.declared.instr.Instr.{Instr}
 
 pub emits_none : (a : List (Instr ℕ)) → Emits a [] a
 emits_none a = record { more = []; added = sym (append-nil a); is = refl }

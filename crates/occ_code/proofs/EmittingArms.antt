@@ -1,10 +1,10 @@
 -- The code of an ALT's arms, from its end to its start.
 use Rattle.std.specs.Prelude.{set, ◌-◌}
 use Rattle.std.proofs.Common.{◌≡◌, ℕ, pos, ◌+◌, ◌≤◌, List, [], ◌∷◌, ◌++◌, length, ap, ◌∙◌, arith, append_assoc, length-append}
-use Rattle.occ_code.specs.Machine.{Instruction, Push, Jump, DropOne, NextChoice, BackToChoice, PassArms, IfTaken, SetAgain, ChooseArm}
+use Rattle.occ_machine.specs.Machine.{Instruction, Push, Jump, DropOne, NextChoice, BackToChoice, PassArms, IfTaken, SetAgain, ChooseArm}
 use Rattle.occ_code.specs.Emitted.{arm_code, declared_arms_code, each_arm_code}
-use Rattle.occ_code.specs.View.{emitted_instruction, Emits, Behind}
-use Rattle.occ_code.specs.declared.compiler.instr.Instr.{Instr}
+use Rattle.occ_code.specs.Emits.{emitted_instruction, Emits, Behind}
+use Rattle.occ_machine.specs.declared.instr.Instr.{Instr}
 use Rattle.occ_code.proofs.Emitting.{emits_then, emits_as, emits_length}
 use Rattle.occ_code.proofs.EmittingTerms.{behind_length, behind_set, behind_then}
 

@@ -8,11 +8,11 @@ use Rattle.occ_term.specs.declared.term.Branch.{Branch}
 use Rattle.occ_term.specs.declared.term.Term.{Term, the_lemmas}
 use Rattle.occ_term.specs.declared.term.Selection.{Selection}
 use Rattle.occ_term.specs.declared.term.Variant.{Variant}
-use Rattle.occ_code.specs.Machine.{Instruction, Jump, Choose, LoopBack, Fork}
+use Rattle.occ_machine.specs.Machine.{Instruction, Jump, Choose, LoopBack, Fork}
 use Rattle.occ_code.specs.Expressions.{par_code}
-use Rattle.occ_code.specs.SameStop.{numbers_of}
-use Rattle.occ_code.specs.View.{emitted_instruction, emitted, Emits, Behind}
-use Rattle.occ_code.specs.declared.compiler.instr.Instr.{Instr}
+use Rattle.occ_machine.specs.SameStop.{numbers_of}
+use Rattle.occ_code.specs.Emits.{emitted_instruction, emitted, Emits, Behind}
+use Rattle.occ_machine.specs.declared.instr.Instr.{Instr}
 use Rattle.occ_code.proofs.Emitting.{emitted-append, emits_then, emits_as, emits_length, length-emitted}
 
 -- ---- behind an instruction whose place is known

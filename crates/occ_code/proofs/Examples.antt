@@ -8,9 +8,9 @@ use Rattle.occ_term.specs.declared.primitive.Primitive.{Primitive}
 use Rattle.occ_term.specs.Values.{span}
 use Rattle.occ_term.specs.Uses.{numbers_in, uses_of}
 use Rattle.occ_term.proofs.TypedPlaces.{in_span}
-use Rattle.occ_code.specs.Machine.{is_number}
+use Rattle.occ_machine.specs.Machine.{is_number}
 use Rattle.occ_term.specs.Frames.{is_held}
-use Rattle.occ_code.specs.SameStop.{Lists, used_by}
+use Rattle.occ_machine.specs.SameStop.{Lists, used_by}
 use Rattle.occ_code.specs.Examples.{counts, whole_numbers, CountsAsCompiled, first_of_two, FirstOfTwoAsCompiled, twice, TwiceAsCompiled, twice_two, TwiceTwoAsCompiled}
 use Rattle.occ_code.specs.Within.{AreNumbered}
 use Rattle.occ_code.proofs.LaidOut.{compiled_do}

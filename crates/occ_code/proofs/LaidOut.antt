@@ -5,7 +5,7 @@ use Rattle.std.proofs.Math.Seq.{get_or-append_seam}
 use Rattle.std.proofs.lemmas.Option.{slice_get-get_or}
 use Rattle.occ_term.specs.Terms.{Term, Skip, Stop, Assign, Input, Output, VariantInput, Seq, Par, Alt, If, Case, While, Each, Clear, Local, Terms, no_terms, then_term, Arms, no_arms, skip_arm, input_arm, declared_arms, each_arm, Reception, Plain, Tagged, Variants, no_variants, or_variant, Choices, no_choices, or_choice, declared_choices, each_choice, Options, no_options, or_option, or_else}
 use Rattle.occ_term.specs.Storing.{index_of}
-use Rattle.occ_code.specs.Machine.{Instruction, End, IfTaken, Jump}
+use Rattle.occ_machine.specs.Machine.{Instruction, End, IfTaken, Jump}
 use Rattle.occ_code.specs.Expressions.{expression_code, place_code, declaration_code, declarations_code, storing_code, counting_code, skip_opening, input_opening}
 use Rattle.occ_code.specs.Laws.{StandsAt}
 use Rattle.occ_code.specs.Layout.{Ways, stays, jumps, TermAt, TermsAt, ArmsAt, PassesArms, ListAt, VariantsAt, ChoicesAt, OptionsAt, ElseAt}

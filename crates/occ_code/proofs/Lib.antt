@@ -6,7 +6,7 @@ mod ReadCells
 mod AgreeingFrames
 mod PlacedCode
 mod RunningStatements
-mod Counters
+mod LoopCounters
 mod PassingArms
 mod WithinTurns
 mod RunningArms
@@ -22,6 +22,5 @@ mod EmittingArms
 mod CellEnds
 mod CompilingTerms
 pub mod OneCode
-mod SameCode
 mod UsedCells
 mod FewCounters

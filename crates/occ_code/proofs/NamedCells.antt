@@ -7,8 +7,8 @@ use Rattle.occ_term.specs.Terms.{Expression, Constant, Cell, Component, Letter, 
 use Rattle.occ_term.specs.Storing.{index_of}
 use Rattle.occ_term.specs.Uses.{Numbers, Uses, union, with_use, reading, writing, inputting, outputting, named_by, reads_of, reads_in_place, reads_in_subscripts, reads_of_array, reads_of_item, reads_of_items, written_place, input_place, output_place, uses_of_target, uses_of_targets, uses_of_declaration, uses_of_declarations, uses_of_replicator, uses_of, uses_of_terms, uses_of_arms, uses_of_reception, uses_of_variants, uses_of_choices, uses_of_options}
 use Rattle.occ_term.specs.Frames.{is_held}
-use Rattle.occ_code.specs.SameStop.{Lists, used_by}
-use Rattle.occ_code.specs.Machine.{Instruction, NamesWithin, End, OpenSkip, OpenInput}
+use Rattle.occ_machine.specs.SameStop.{Lists, used_by}
+use Rattle.occ_machine.specs.Machine.{Instruction, NamesWithin, End, OpenSkip, OpenInput}
 use Rattle.occ_code.specs.Expressions.{expression_code, place_code, subscripts_code, item_code, items_code, target_code, targets_code, declaration_code, declarations_code, storing_code, counting_code, assignment_code, par_code, opening_code, skip_opening, input_opening}
 use Rattle.occ_code.specs.Emitted.{counters_of, counters_of_terms, counters_of_arms, counters_of_list, counters_of_variants, counters_of_choices, counters_of_options, counters_of_else, term_code, terms_code, arm_code, arms_code, list_code, variants_code, choices_code, options_code, else_code, whole_code}
 

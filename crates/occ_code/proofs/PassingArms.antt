@@ -2,9 +2,9 @@
 use Rattle.std.specs.Prelude.{slice_get, ⊤}
 use Rattle.std.proofs.Common.{arith, ◌≡◌, ℕ, suc, ◌+◌, ◌<◌, ◌≤◌, Bool, true, false, IsTrue, ◌&&◌, List, [], ◌∷◌, ◌++◌, None, Some, refl}
 use Rattle.occ_term.specs.Selecting.{Setting, IndexTo, DeclaredAgain, Enabled, SkipArm, InputArm}
-use Rattle.occ_code.specs.declared.task.Arm.{Arm}
-use Rattle.occ_code.specs.SameStop.{indices_in}
-use Rattle.occ_code.specs.Machine.{Instruction, PassArms, IfTaken, SetAgain, is_number, is_numbered, are_numbered}
+use Rattle.occ_machine.specs.declared.task.Arm.{Arm}
+use Rattle.occ_machine.specs.SameStop.{indices_in}
+use Rattle.occ_machine.specs.Machine.{Instruction, PassArms, IfTaken, SetAgain, is_number, is_numbered, are_numbered}
 use Rattle.std.proofs.lemmas.Bool.Decides.{nat_tests}
 use Rattle.occ_code.specs.Expressions.{declaration_code}
 use Rattle.occ_code.specs.Laws.{StandsAt}

@@ -11,15 +11,15 @@ use Rattle.occ_term.specs.Storing.{Spot, Outcome, Gives, Faults, Nothing, Indice
 use Rattle.occ_term.specs.Selecting.{is_among}
 use Rattle.occ_term.specs.Frames.{Variables, at, in_place, with_place, place_among, place_in, value_at, is_held}
 use Rattle.occ_term.proofs.FrameWrites.{read_at, write_at, value_by, with_by}
-use Rattle.occ_code.specs.SameStop.{Frames}
-use Rattle.occ_code.specs.declared.task.Task.{Task}
-use Rattle.occ_code.specs.declared.task.Arm.{Arm}
-use Rattle.occ_code.specs.declared.task.Wait.{Wait}
-use Rattle.occ_code.specs.declared.task.Wait.TheVariants.{Ready, Took, Offers, Awaits, Chooses, Joins, Halted, Done, Faulted}
-use Rattle.occ_code.specs.Machine.{by_cell, by_place, NamesWithin, placed, counters_with, Instruction, Push, Load, LoadAt, LoadLetter, Subscript, Operate, OperateOne, ConvertTo, AndThen, OrElse, PartOne, PartMany, PartText, PartCounted, PartCountedText, SpotOne, SpotCounted, StoreParts, StoreNamed, StoreOne, ClearCells, Jump, Choose, IfAmong, IfTag, DropOne, CountedFrom, NextChoice, BackToChoice, PassArms, IfTaken, SetAgain, IfTrue, OpenSkip, OpenInput, ChooseArm, pass_arms, if_taken, again_set, open_arm, choosing_stop, Begin, Pass, LoopBack, Send, Receive, Fork, Halt, End, Point, point, Effect, Moves, Stops, Stuck, with_one, with_two, going, going_if, going_stored, act, effect, Walks, here, on, begins_at, SingleStop, StopsIn, stops_here, passes_on, turning, begun, passed, next_choice, tag_step, last_part, named_from, Stored, Stays, Refused, frame_with, frame_from, frame_parts, values_with, with_counter, counter_at, kept_as, kept_value, is_next, is_number, is_component, are_numbered}
+use Rattle.occ_machine.specs.SameStop.{Frames}
+use Rattle.occ_machine.specs.declared.task.Task.{Task}
+use Rattle.occ_machine.specs.declared.task.Arm.{Arm}
+use Rattle.occ_machine.specs.declared.task.Wait.{Wait}
+use Rattle.occ_machine.specs.declared.task.Wait.TheVariants.{Ready, Took, Offers, Awaits, Chooses, Joins, Halted, Done, Faulted}
+use Rattle.occ_machine.specs.Machine.{by_cell, by_place, NamesWithin, placed, counters_with, Instruction, Push, Load, LoadAt, LoadLetter, Subscript, Operate, OperateOne, ConvertTo, AndThen, OrElse, PartOne, PartMany, PartText, PartCounted, PartCountedText, SpotOne, SpotCounted, StoreParts, StoreNamed, StoreOne, ClearCells, Jump, Choose, IfAmong, IfTag, DropOne, CountedFrom, NextChoice, BackToChoice, PassArms, IfTaken, SetAgain, IfTrue, OpenSkip, OpenInput, ChooseArm, pass_arms, if_taken, again_set, open_arm, choosing_stop, Begin, Pass, LoopBack, Send, Receive, Fork, Halt, End, Point, point, Effect, Moves, Stops, Stuck, with_one, with_two, going, going_if, going_stored, act, effect, Walks, here, on, begins_at, SingleStop, StopsIn, stops_here, passes_on, turning, begun, passed, next_choice, tag_step, last_part, named_from, Stored, Stays, Refused, frame_with, frame_from, frame_parts, values_with, with_counter, counter_at, kept_as, kept_value, is_next, is_number, is_component, are_numbered}
 use Rattle.occ_code.specs.Laws.{PlacesDo}
 use Rattle.occ_code.proofs.AgreeingFrames.{HoldsAs, one_held, span_held, parts_held, StoresAs, stored_frame, frame_of, span_left, parts_left}
-use Rattle.occ_code.proofs.Counters.{length-counters_with}
+use Rattle.occ_code.proofs.LoopCounters.{length-counters_with}
 
 -- ---- what an instruction does
 

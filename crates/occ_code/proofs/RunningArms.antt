@@ -14,8 +14,8 @@ use Rattle.occ_term.specs.Typing.{HasType}
 use Rattle.occ_term.specs.TermTyping.{Declared, ChannelHas, ArmsHave}
 use Rattle.occ_term.specs.TypedSteps.{SettingsHave}
 use Rattle.occ_term.specs.Frames.{Variables, at}
-use Rattle.occ_code.specs.SameStop.{indices_in}
-use Rattle.occ_code.specs.Machine.{by_cell, Instruction, Push, DropOne, NextChoice, BackToChoice, PassArms, IfTaken, SetAgain, IfTrue, OpenSkip, OpenInput, open_arm, open_skip, open_input, indices_on, is_number, Point, point, Walks, here, frame_with, counting}
+use Rattle.occ_machine.specs.SameStop.{indices_in}
+use Rattle.occ_machine.specs.Machine.{by_cell, Instruction, Push, DropOne, NextChoice, BackToChoice, PassArms, IfTaken, SetAgain, IfTrue, OpenSkip, OpenInput, open_arm, open_skip, open_input, indices_on, is_number, Point, point, Walks, here, frame_with, counting}
 use Rattle.occ_code.specs.Expressions.{expression_code, place_code, opening_code}
 use Rattle.occ_code.specs.Laws.{StandsAt}
 use Rattle.occ_code.specs.Layout.{ArmsAt, PassesArms}

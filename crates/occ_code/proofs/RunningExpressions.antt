@@ -8,7 +8,7 @@ use Rattle.occ_term.specs.Terms.{Expression, Constant, Cell, Component, Letter, 
 use Rattle.occ_term.specs.Values.{Evaluated, Value, Fails, after, holds, binary, unary, converted, subscript, Span, span, first_of, value_of, span_of, offset_of}
 use Rattle.occ_term.specs.Storing.{Spot}
 use Rattle.occ_term.specs.Frames.{Variables, at}
-use Rattle.occ_code.specs.Machine.{by_cell, Instruction, AndThen, OrElse, Point, point, Moves, Stuck, is_number, is_component, act, going, going_if, Walks, here, on}
+use Rattle.occ_machine.specs.Machine.{by_cell, Instruction, AndThen, OrElse, Point, point, Moves, Stuck, is_number, is_component, act, going, going_if, Walks, here, on}
 use Rattle.occ_code.specs.Expressions.{expression_code, place_code, subscripts_code}
 use Rattle.occ_code.specs.Laws.{StandsAt, FaultsAt, Comes, comes, fails, ExpressionsRun}
 use Rattle.occ_term.specs.declared.primitive.Primitive.{Primitive}

@@ -9,7 +9,7 @@ use Rattle.occ_term.specs.Values.{Store, Evaluated, Value, Fails, after, subscri
 use Rattle.occ_term.specs.Storing.{Spot, At, AtCounted, spot_of, spots_of}
 use Rattle.occ_term.specs.Uses.{components}
 use Rattle.occ_term.specs.Frames.{Variables, at}
-use Rattle.occ_code.specs.Machine.{by_cell, Instruction, Point, point, Moves, Walks, here}
+use Rattle.occ_machine.specs.Machine.{by_cell, Instruction, Point, point, Moves, Walks, here}
 use Rattle.occ_code.specs.Expressions.{expression_code, place_code, components_at, item_code, items_code, target_code, targets_code}
 use Rattle.occ_code.specs.Laws.{StandsAt, Comes, comes, fails}
 use Rattle.occ_code.proofs.Walks.{split}

@@ -5,7 +5,7 @@ use Rattle.std.proofs.lemmas.Bool.Decides.{nat_tests}
 use Rattle.occ_term.specs.Values.{Evaluated, Value, Fails}
 use Rattle.occ_term.specs.Storing.{in_store}
 use Rattle.occ_code.specs.Laws.{FaultsAt, comes, fails}
-use Rattle.occ_code.specs.Machine.{by_cell, Walks}
+use Rattle.occ_machine.specs.Machine.{by_cell, Walks}
 use Rattle.occ_term.specs.Terms.{Expression}
 use Rattle.occ_term.specs.Uses.{reads_of}
 use Rattle.occ_term.specs.declared.primitive.Primitive.{Primitive}
@@ -14,7 +14,7 @@ use Rattle.occ_term.specs.declared.protocol.PartType.TheVariants.{One as OneOf, 
 use Rattle.occ_term.specs.Terms.{place, no_subscripts, then_subscript, OfOne, OfMany, OfCounted, Into, IntoCounted}
 use Rattle.occ_term.specs.Typing.{ItemHas}
 use Rattle.occ_term.specs.Values.{store_with}
-use Rattle.occ_code.specs.Machine.{StoreOne, frame_with}
+use Rattle.occ_machine.specs.Machine.{StoreOne, frame_with}
 use Rattle.occ_code.specs.Expressions.{assignment_code}
 use Rattle.occ_code.proofs.Walks.{walks_on}
 use Rattle.occ_code.proofs.ReadCells.{value_same}
@@ -32,7 +32,7 @@ use Rattle.occ_term.specs.TermTyping.{Declared, ItemsHave, TargetsHave, Declarat
 use Rattle.occ_code.specs.Within.{AreNumbered}
 use Rattle.occ_term.specs.declared.primitive.Primitive.TheVariants.{Int}
 use Rattle.occ_term.specs.Frames.{Variables, is_held, at}
-use Rattle.occ_code.specs.Machine.{Instruction, StoreParts, StoreNamed, Point, point, Moves, act, here, on, frame_from, Stored, Stays, Refused, frame_parts, last_part, without_last, named_from, going_stored, counting}
+use Rattle.occ_machine.specs.Machine.{Instruction, StoreParts, StoreNamed, Point, point, Moves, act, here, on, frame_from, Stored, Stays, Refused, frame_parts, last_part, without_last, named_from, going_stored, counting}
 use Rattle.occ_code.specs.Expressions.{expression_code, item_code, items_code, targets_code, declaration_code, declarations_code, storing_code, counting_code}
 use Rattle.occ_code.specs.Laws.{StandsAt, Comes}
 use Rattle.occ_code.proofs.Walks.{split}

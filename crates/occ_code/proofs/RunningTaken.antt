@@ -16,8 +16,8 @@ use Rattle.occ_term.specs.Steps.{Do, Taken, SkipTaken, MessageTaken, Taking, aft
 use Rattle.occ_term.specs.Uses.{Numbers, uses_of, uses_of_reception, uses_of_targets, uses_of_variants}
 use Rattle.occ_term.specs.TermTyping.{Declared, ReceptionHas, VariantsHave}
 use Rattle.occ_term.specs.Frames.{Variables}
-use Rattle.occ_code.specs.SameStop.{indices_in}
-use Rattle.occ_code.specs.Machine.{Instruction, IfTaken, point, tag_stack}
+use Rattle.occ_machine.specs.SameStop.{indices_in}
+use Rattle.occ_machine.specs.Machine.{Instruction, IfTaken, point, tag_stack}
 use Rattle.occ_code.specs.Layout.{TermAt, ListAt, VariantsAt}
 use Rattle.occ_code.specs.Within.{AreNumbered}
 use Rattle.occ_code.proofs.RunningExpressions.{steps_to}

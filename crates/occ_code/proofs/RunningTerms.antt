@@ -22,9 +22,9 @@ use Rattle.occ_term.specs.Uses.{Numbers, with_use, reads_of, reads_of_items, rea
 use Rattle.occ_term.specs.Typing.{HasType}
 use Rattle.occ_term.specs.TermTyping.{Declared, ChannelHas, value_parts, ItemsHave, DeclarationsHave, TermHas, TermsHave, VariantsHave, ChoicesHave, OptionsHave}
 use Rattle.occ_term.specs.Frames.{Variables, at}
-use Rattle.occ_code.specs.declared.task.Wait.TheVariants.{Ready, Offers, Awaits, Chooses as ChoosesAmong, Joins, Halted}
-use Rattle.occ_code.specs.SameStop.{numbers_of}
-use Rattle.occ_code.specs.Machine.{by_cell, Instruction, Push, ChooseArm, open_arm, Choose, IfAmong, IfTag, DropOne, NextChoice, BackToChoice, Begin, Pass, passed, turned, is_next, is_number, turning, Moves, Stuck, Send, Receive, Halt, Point, point, Stops, act, effect, Walks, here, frame_with, counting}
+use Rattle.occ_machine.specs.declared.task.Wait.TheVariants.{Ready, Offers, Awaits, Chooses as ChoosesAmong, Joins, Halted}
+use Rattle.occ_machine.specs.SameStop.{numbers_of}
+use Rattle.occ_machine.specs.Machine.{by_cell, Instruction, Push, ChooseArm, open_arm, Choose, IfAmong, IfTag, DropOne, NextChoice, BackToChoice, Begin, Pass, passed, turned, is_next, is_number, turning, Moves, Stuck, Send, Receive, Halt, Point, point, Stops, act, effect, Walks, here, frame_with, counting}
 use Rattle.occ_code.specs.Expressions.{expression_code, place_code, items_code, declarations_code, par_code}
 use Rattle.occ_code.specs.Laws.{StandsAt, FaultsAt}
 use Rattle.occ_code.specs.Layout.{Ways, stays, Counts, EachAt, TermAt, TermsAt, VariantsAt, ChoicesAt, OptionsAt, ElseAt, ListAt, LoopAt, LeadsBack}
@@ -38,7 +38,7 @@ use Rattle.occ_code.proofs.WithinTurns.{Does as DoesFrom, steps_on, ways_walk, a
 use Rattle.occ_code.proofs.PassingArms.{arrives, ArmsLaid, laid_numbered}
 use Rattle.occ_code.specs.Within.{AreNumbered}
 use Rattle.occ_code.proofs.RunningArms.{Opens, arms_run}
-use Rattle.occ_code.proofs.Counters.{KeepsBelow, keeps_all, keeps_on, keeps_less, counts_kept, turning_keeps, turning_counts, turning_held}
+use Rattle.occ_code.proofs.LoopCounters.{KeepsBelow, keeps_all, keeps_on, keeps_less, counts_kept, turning_keeps, turning_counts, turning_held}
 
 -- the next index of a replicator with a value left
 next_is : (v : ℤ) (n : ℕ) → IndicesHave v (suc n) → is_next v ≡ true

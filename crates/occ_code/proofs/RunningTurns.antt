@@ -21,20 +21,21 @@ use Rattle.occ_term.specs.StepUses.{uses_of_settings, uses_of_taken, uses_of_ena
 use Rattle.occ_term.specs.Frames.{Variables, value_at, is_held, at}
 use Rattle.occ_term.proofs.TypedSteps.{steps_keep_types}
 use Rattle.occ_term.proofs.KeptSteps.{steps_keep_to_their_use}
-use Rattle.occ_code.specs.declared.task.Task.{Task}
-use Rattle.occ_code.specs.declared.task.Arm.{Arm}
-use Rattle.occ_code.specs.declared.task.Wait.{Wait}
-use Rattle.occ_code.specs.declared.task.Wait.TheVariants.{Ready, Took, Offers, Awaits, Chooses, Joins, Halted, Done, Faulted}
-use Rattle.occ_code.specs.SameStop.{Agrees, FitsProtocol, indices_in, SameArm, SameArms, SameStop, Lists, numbers_of, used_by}
-use Rattle.occ_code.specs.Machine.{by_cell, NamesWithin, placed, Body, Instruction, IfTaken, End, Point, point, Stops, act, here, begins_at, SingleStop, StopsIn, stops_here, passes_on, IsReady, counted_turn, tag_stack}
+use Rattle.occ_machine.specs.declared.task.Task.{Task}
+use Rattle.occ_machine.specs.declared.task.Arm.{Arm}
+use Rattle.occ_machine.specs.declared.task.Wait.{Wait}
+use Rattle.occ_machine.specs.declared.task.Wait.TheVariants.{Ready, Took, Offers, Awaits, Chooses, Joins, Halted, Done, Faulted}
+use Rattle.occ_machine.specs.SameStop.{Agrees, FitsProtocol, indices_in, SameArm, SameArms, SameStop, Lists, numbers_of, used_by}
+use Rattle.occ_machine.specs.Machine.{by_cell, NamesWithin, placed, Body, Instruction, IfTaken, End, Point, point, Stops, act, here, begins_at, SingleStop, StopsIn, stops_here, passes_on, IsReady, counted_turn, tag_stack}
 use Rattle.occ_code.specs.Layout.{stays, TermAt, ListAt, LoopAt, ContextsAt}
-use Rattle.occ_code.specs.Alike.{SameTurn, Alike, DoesAs, BodiesDo}
+use Rattle.occ_machine.specs.Alike.{SameTurn, Alike, DoesAs}
+use Rattle.occ_code.specs.Layout.{BodiesDo}
 use Rattle.occ_code.specs.Within.{AreNumbered}
 use Rattle.occ_code.proofs.ReadCells.{or_left}
 use Rattle.occ_code.proofs.AgreeingFrames.{HoldsAs}
 use Rattle.occ_code.proofs.PlacedCode.{stops_placed}
 use Rattle.occ_code.proofs.RunningStatements.{Held, held_left, held_right}
-use Rattle.occ_code.proofs.Counters.{KeepsBelow, keeps_all}
+use Rattle.occ_code.proofs.LoopCounters.{KeepsBelow, keeps_all}
 use Rattle.occ_code.proofs.WithinTurns.{contexts_kept, Does, after_steps, ways_walk, contexts_join, StopsAt, stops_after, Pause, at_offer, at_await, at_choose, at_fork, at_halt, at_fault, at_loop, Result, finishes, pauses, result_after}
 use Rattle.occ_code.proofs.PassingArms.{SetsAgain, ArmLaid, ArmsLaid}
 use Rattle.occ_code.proofs.RunningTerms.{term_runs, terms_run, loop_runs}

@@ -17,7 +17,7 @@ use Rattle.occ_term.specs.TermTyping.{ArmsHave, BranchesHave, ChannelHas, Choice
 use Rattle.occ_term.proofs.Bounds.{one_more}
 use Rattle.occ_term.proofs.TypedPlaces.{in_span, to_span}
 use Rattle.occ_usage.proofs.Components.{constant_below}
-use Rattle.occ_code.specs.SameStop.{used_by}
+use Rattle.occ_machine.specs.SameStop.{used_by}
 use Rattle.occ_code.specs.Within.{AreWithin, KeepsWithin}
 use Rattle.occ_term.specs.UnfoldedProgram.{most_cells}
 

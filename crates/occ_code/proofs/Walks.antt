@@ -1,6 +1,6 @@
 -- Instructions at a place of the code, and walks along them.
 use Rattle.std.proofs.Common.{◌≡◌, ℕ, ◌+◌, List, [], ◌∷◌, ◌++◌, length, refl, arith}
-use Rattle.occ_code.specs.Machine.{by_cell, Instruction, Point, Walks, here, on}
+use Rattle.occ_machine.specs.Machine.{by_cell, Instruction, Point, Walks, here, on}
 use Rattle.occ_code.specs.Laws.{StandsAt}
 
 -- two pieces in a row

@@ -10,16 +10,16 @@ use Rattle.occ_term.specs.Steps.{Loop, WhileLoop, EachLoop, Doing, Do, Again, Of
 use Rattle.occ_term.specs.Steps as S
 use Rattle.occ_term.specs.Turns.{Steps, none, more, SingleTurn, single_turn}
 use Rattle.occ_term.specs.Frames.{Variables}
-use Rattle.occ_code.specs.declared.task.Arm.{Arm}
-use Rattle.occ_code.specs.declared.task.Wait.{Wait}
-use Rattle.occ_code.specs.declared.task.Wait.TheVariants.{Ready, Offers, Awaits, Chooses, Joins, Halted, Faulted}
-use Rattle.occ_code.specs.SameStop.{numbers_of}
-use Rattle.occ_code.specs.Machine.{by_cell, Instruction, Point, point, Stops, act, effect, Walks, here, on}
+use Rattle.occ_machine.specs.declared.task.Arm.{Arm}
+use Rattle.occ_machine.specs.declared.task.Wait.{Wait}
+use Rattle.occ_machine.specs.declared.task.Wait.TheVariants.{Ready, Offers, Awaits, Chooses, Joins, Halted, Faulted}
+use Rattle.occ_machine.specs.SameStop.{numbers_of}
+use Rattle.occ_machine.specs.Machine.{by_cell, Instruction, Point, point, Stops, act, effect, Walks, here, on}
 use Rattle.occ_code.specs.Laws.{FaultsAt, Comes, comes, fails}
 use Rattle.occ_code.specs.Layout.{Ways, stays, jumps, slot_in, slot_before, ListAt, LoopAt, ContextAt, ContextsAt}
 use Rattle.occ_code.proofs.Walks.{walks_on}
 use Rattle.occ_code.proofs.PassingArms.{ArmsLaid}
-use Rattle.occ_code.proofs.Counters.{KeepsBelow, keeps_all, keeps_on, keeps_less, counts_kept}
+use Rattle.occ_code.proofs.LoopCounters.{KeepsBelow, keeps_all, keeps_on, keeps_less, counts_kept}
 use Rattle.occ_code.proofs.AgreeingFrames.{HoldsAs, frame_of, Performs, performs, refuses}
 
 pub steps_on : {a b c : Left} {s s1 s2 : Store} → Steps a s b s1 → Steps b s1 c s2 → Steps a s c s2

@@ -3,14 +3,14 @@
 use Rattle.std.specs.Prelude.{Bool, IsTrue, List, [], false, if◌then◌else◌, length, max, nat_lt, not, slice_index_or, take, true, ℕ, ◌&&◌, ◌++◌, ◌<◌, ◌≤◌, ◌||◌, ◌∷◌, ◌≡◌}
 use Rattle.std.specs.List.{list_any}
 use Rattle.occ_term.specs.UnfoldedProgram.{most_cells}
-use Rattle.occ_code.specs.declared.compiler.cells.Row.{Row}
+use Rattle.occ_code.specs.declared.cells.Row.{Row}
 use Rattle.occ_term.specs.Uses.{Numbers, Uses}
 use Rattle.occ_usage.specs.Noted.{between}
 use Rattle.occ_term.specs.Frames.{is_held}
 use Rattle.occ_usage.specs.declared.noted.Use.{Use}
 use Rattle.occ_usage.specs.declared.noted.Kind.{Kind}
 use Rattle.occ_usage.specs.declared.noted.Kind.TheVariants.{Read, Write, Input, Output}
-use Rattle.occ_code.specs.SameStop.{IsRising, used_by}
+use Rattle.occ_machine.specs.SameStop.{IsRising, used_by}
 
 -- what is written, or what is read as well
 abbrev pub is_counted : Bool → Kind → Bool

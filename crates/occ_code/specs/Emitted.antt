@@ -7,10 +7,10 @@ use Rattle.occ_term.specs.Uses.{uses_of}
 use Rattle.occ_term.specs.Sizes.{size_of}
 use Rattle.occ_term.specs.Processes.{Numbered, processes_of}
 use Rattle.occ_term.specs.TermTyping.{Declared, TermHas}
-use Rattle.occ_code.specs.SameStop.{Lists, used_by}
-use Rattle.occ_code.specs.Machine.{Instruction, Body, placed, Push, Jump, Choose, IfAmong, IfTag, DropOne, NextChoice, BackToChoice, PassArms, IfTaken, SetAgain, ChooseArm, Begin, Pass, LoopBack, Send, Receive, Halt, End}
+use Rattle.occ_machine.specs.SameStop.{Lists, used_by}
+use Rattle.occ_machine.specs.Machine.{Instruction, Body, placed, Push, Jump, Choose, IfAmong, IfTag, DropOne, NextChoice, BackToChoice, PassArms, IfTaken, SetAgain, ChooseArm, Begin, Pass, LoopBack, Send, Receive, Halt, End}
 use Rattle.occ_code.specs.Expressions.{expression_code, place_code, items_code, declaration_code, declarations_code, storing_code, counting_code, assignment_code, par_code, skip_opening, input_opening}
-use Rattle.occ_code.specs.Alike.{DoesAs}
+use Rattle.occ_machine.specs.Alike.{DoesAs}
 use Rattle.occ_code.specs.Within.{AreNumbered}
 
 -- An arm of an ALT before others, of which so many instructions stand up to the end of the ALT: what is done once it is taken, and

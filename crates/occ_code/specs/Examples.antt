@@ -6,7 +6,7 @@ use Rattle.occ_term.specs.declared.expression.Operator.TheVariants.{Add, Less}
 use Rattle.occ_term.specs.Terms.{Constant, Cell, Binary, place, no_subscripts, OfOne, Into, replicator, Term, Skip, Assign, Par, Alt, While, Each, no_branches, and_branch, no_arms, skip_arm, declared_arms, each_arm, Naming}
 use Rattle.occ_term.specs.TermTyping.{Declared}
 use Rattle.occ_code.specs.Emitted.{body_of}
-use Rattle.occ_code.specs.Alike.{DoesAs}
+use Rattle.occ_machine.specs.Alike.{DoesAs}
 
 -- WHILE n < 10
 --   n := n + 1

@@ -4,8 +4,8 @@ use Rattle.std.specs.Prelude.{List, None, Option, Some, [], length, pos, ℕ, �
 use Rattle.occ_term.specs.Messages.{product}
 use Rattle.occ_term.specs.Terms.{Expression, Constant, Cell, Component, Letter, Binary, Unary, And, Or, Conversion, Place, place, Subscripts, no_subscripts, then_subscript, Cells, Text, Item, OfOne, OfMany, OfCounted, Target, Into, IntoCounted, Declaration, Clearing, Naming, Replicator, replicator, Branches, no_branches, and_branch}
 use Rattle.occ_term.specs.Uses.{components}
-use Rattle.occ_code.specs.Machine.{Instruction, Push, Load, LoadAt, LoadLetter, Subscript, Operate, OperateOne, ConvertTo, AndThen, OrElse, PartOne, PartMany, PartText, PartCounted, PartCountedText, SpotOne, SpotCounted, StoreParts, StoreNamed, StoreOne, ClearCells, CountedFrom, Fork, IfTrue, OpenSkip, OpenInput}
-use Rattle.occ_code.specs.SameStop.{numbers_of}
+use Rattle.occ_machine.specs.Machine.{Instruction, Push, Load, LoadAt, LoadLetter, Subscript, Operate, OperateOne, ConvertTo, AndThen, OrElse, PartOne, PartMany, PartText, PartCounted, PartCountedText, SpotOne, SpotCounted, StoreParts, StoreNamed, StoreOne, ClearCells, CountedFrom, Fork, IfTrue, OpenSkip, OpenInput}
+use Rattle.occ_machine.specs.SameStop.{numbers_of}
 
 abbrev mutual
   pub expression_code : Expression → List Instruction

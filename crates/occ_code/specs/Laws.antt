@@ -11,10 +11,10 @@ use Rattle.occ_term.specs.Typing.{HasType}
 use Rattle.occ_term.specs.TermTyping.{Declared, ItemsHave, TargetsHave}
 use Rattle.occ_term.specs.declared.primitive.Primitive.{Primitive}
 use Rattle.occ_term.specs.declared.protocol.PartType.{PartType}
-use Rattle.occ_code.specs.SameStop.{Frames}
-use Rattle.occ_code.specs.declared.task.Task.{Task}
-use Rattle.occ_code.specs.declared.task.Wait.TheVariants.{Faulted}
-use Rattle.occ_code.specs.Machine.{Instruction, by_cell, by_place, NamesWithin, placed, StopsIn, Point, point, Stops, effect, Walks, counter_at, counters_with, kept_as, kept_value}
+use Rattle.occ_machine.specs.SameStop.{Frames}
+use Rattle.occ_machine.specs.declared.task.Task.{Task}
+use Rattle.occ_machine.specs.declared.task.Wait.TheVariants.{Faulted}
+use Rattle.occ_machine.specs.Machine.{Instruction, by_cell, by_place, NamesWithin, placed, StopsIn, Point, point, Stops, effect, Walks, counter_at, counters_with, kept_as, kept_value}
 use Rattle.occ_code.specs.Expressions.{expression_code, items_code, targets_code}
 use Rattle.occ_code.specs.Within.{AreNumbered}
 

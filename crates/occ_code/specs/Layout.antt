@@ -1,12 +1,17 @@
 -- How the code of a term stands in a body. Jumps alone lead from the end of a piece to where it goes on.
 -- Manual: nothing; this is (own).
-use Rattle.std.specs.Prelude.{List, Some, [], pos, slice_get, ℕ, ℤ, ◌+ℤ◌, ◌+◌, ◌++◌, ◌-◌, ◌<◌, ◌≤◌, ◌∷◌, ◌≡◌}
+use Rattle.std.specs.Prelude.{All, List, Some, [], map, pos, slice_get, ℕ, ℤ, ◌+ℤ◌, ◌+◌, ◌++◌, ◌-◌, ◌<◌, ◌≤◌, ◌∷◌, ◌≡◌}
 use Rattle.occ_term.specs.Terms.{Term, Skip, Stop, Assign, Input, Output, VariantInput, Seq, Par, Alt, If, Case, While, Each, Clear, Local, Terms, no_terms, then_term, Arms, no_arms, skip_arm, input_arm, declared_arms, each_arm, Reception, Plain, Tagged, Variants, no_variants, or_variant, Choices, no_choices, or_choice, declared_choices, each_choice, Options, no_options, or_option, or_else, Clearing, Naming}
 use Rattle.occ_term.specs.Storing.{index_of}
+use Rattle.occ_term.specs.TermTyping.{Declared, TermHas}
+use Rattle.occ_term.specs.Uses.{uses_of}
 use Rattle.occ_term.specs.Steps.{Loop, WhileLoop, EachLoop, Context, Then, Within}
-use Rattle.occ_code.specs.Machine.{Instruction, Push, Jump, Choose, IfAmong, IfTag, DropOne, NextChoice, BackToChoice, PassArms, IfTaken, SetAgain, ChooseArm, Begin, Pass, LoopBack, Send, Receive, Halt, counter_at, kept_value}
+use Rattle.occ_machine.specs.Alike.{DoesAs}
+use Rattle.occ_machine.specs.SameStop.{Lists, used_by}
+use Rattle.occ_machine.specs.Machine.{Body, End, Instruction, NamesWithin, placed, Push, Jump, Choose, IfAmong, IfTag, DropOne, NextChoice, BackToChoice, PassArms, IfTaken, SetAgain, ChooseArm, Begin, Pass, LoopBack, Send, Receive, Halt, counter_at, kept_value}
 use Rattle.occ_code.specs.Expressions.{expression_code, place_code, items_code, declaration_code, declarations_code, storing_code, counting_code, assignment_code, par_code, skip_opening, input_opening}
 use Rattle.occ_code.specs.Laws.{StandsAt}
+use Rattle.occ_code.specs.Within.{AreNumbered}
 
 -- from one place to another by jumps alone
 pub data Ways (code : List Instruction) : ℕ → ℕ → Type 0 where
@@ -146,3 +151,21 @@ abbrev pub ContextsAt : List Instruction → ℕ → List ℕ → ℕ → ℕ �
 ContextsAt code loops left e pc [] d pc' = (e ≡ d) × Ways code pc pc'
 ContextsAt code loops left e pc (c ∷ k) d pc' =
     (slot : ℕ) × (a : ℕ) × (b : ℕ) × (e ≡ slot_before c slot) × Ways code pc a × ContextAt code loops left slot a c b × ContextsAt code loops left slot b k d pc'
+
+-- the code of a typed term over few channels, and the end after it: laid out with the numbers of cells, and then with their places
+pub record IsLaidOut (d : Declared) (body : Body) (t : Term) : Type 0 where
+  pub by_cells : List Instruction
+  pub last : ℕ
+  pub numbered : AreNumbered d
+  pub typed : TermHas d t
+  pub lays_out : TermAt by_cells body.loops 0 0 t last
+  pub ends_there : slice_get by_cells last ≡ Some End
+  pub names : All (NamesWithin body.cells body.loops) by_cells
+  pub code : body.code ≡ map (placed body.cells) by_cells
+  pub cells : Lists body.cells (used_by (uses_of t))
+  pub writes : Lists body.writes (uses_of t).writes
+  pub quantum : 0 < body.quantum
+
+-- A body in which the code of a term stands does what the term does.
+abbrev pub BodiesDo : Type 0
+BodiesDo = (d : Declared) (body : Body) (t : Term) → IsLaidOut d body t → DoesAs d body t

@@ -1,13 +1,9 @@
-pub mod SameStop
-pub mod Machine
-pub mod Quick
 pub mod Expressions
-pub mod Laws
+pub mod Within
 pub mod Layout
-pub mod Alike
+pub mod Laws
 pub mod Emitted
 pub mod Examples
-pub mod View
+pub mod Emits
 pub mod Cells
-pub mod Within
-pub mod Compiled
+pub mod CodeOf

@@ -8,8 +8,8 @@ use Rattle.occ_term.specs.TermTyping.{Declared}
 use Rattle.occ_term.specs.declared.primitive.Primitive.{Primitive}
 use Rattle.occ_term.specs.declared.protocol.Protocol.{Protocol}
 use Rattle.occ_term.specs.Processes.{Numbered}
-use Rattle.occ_code.specs.SameStop.{used_by}
-use Rattle.occ_code.specs.Machine.{is_number}
+use Rattle.occ_machine.specs.SameStop.{used_by}
+use Rattle.occ_machine.specs.Machine.{is_number}
 
 -- each number of the set is that of a cell
 abbrev pub AreWithin : Numbers → Type 0

@@ -1,7 +1,7 @@
 //! Laws of the code of processes. Each function's contract is the law; its body does nothing.
 
-ghost use Rattle.occ_code.specs.Alike.{BodiesDo};
-ghost use Rattle.occ_code.specs.Compiled.{OneCode};
+ghost use Rattle.occ_code.specs.Layout.{BodiesDo};
+ghost use Rattle.occ_code.specs.CodeOf.{OneCode};
 ghost use Rattle.occ_code.specs.Emitted.{BodiesAreSmall, CompiledDo, ProgramsAreSmall};
 ghost use Rattle.occ_code.specs.Examples.{CountsAsCompiled, FirstOfTwoAsCompiled, TwiceAsCompiled, TwiceTwoAsCompiled};
 ghost use Rattle.occ_code.specs.Laws.{CountersAreApart, ExpressionsRun, IndexesAreKept, ItemsRun, PlacesDo, TargetsRun};

@@ -1,15 +1,16 @@
-//! Flat code for the processes of a program. [`compile`] answers a [`Code`] whose bodies do as the terms of
+//! The compiler: flat code for the processes of a program. [`compile`] answers a `Code` whose bodies do as the terms of
 //! a lawful program do, stop by stop, and refuses one only for its size, its quantum or want of memory.
 #![tactic(auto)]
 
-mod channels;
-pub mod compiler;
+mod arms;
+mod cells;
+mod compiling;
+mod counters;
+mod expressions;
 pub mod laws;
-mod same;
-pub mod task;
+mod pieces;
+mod processes;
+mod slots;
+mod statements;
 
-pub use compiler::{
-    Body, Code, CodeFault, Instr, MOST_INSTRUCTIONS, MOST_QUANTUM, Quick, Slot, compile,
-    compile_for,
-};
-pub use task::{Arm, Task, Wait};
+pub use compiling::{CodeFault, MOST_INSTRUCTIONS, MOST_QUANTUM, compile, compile_for};

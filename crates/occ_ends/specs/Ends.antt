@@ -4,9 +4,9 @@ use Rattle.std.specs.Prelude.{All, Bool, List, None, Option, Some, [], false, if
 use Rattle.occ_term.specs.Processes.{Numbered, processes_of}
 use Rattle.occ_term.specs.Terms.{Term}
 use Rattle.occ_term.specs.Uses.{Numbers, Uses, uses_of}
-use Rattle.occ_code.specs.declared.task.Task.{Task}
-use Rattle.occ_code.specs.declared.task.Wait.{Wait}
-use Rattle.occ_code.specs.declared.task.Wait.TheVariants.{Ready, Took, Offers, Awaits, Chooses, Joins, Halted, Done, Faulted}
+use Rattle.occ_machine.specs.declared.task.Task.{Task}
+use Rattle.occ_machine.specs.declared.task.Wait.{Wait}
+use Rattle.occ_machine.specs.declared.task.Wait.TheVariants.{Ready, Took, Offers, Awaits, Chooses, Joins, Halted, Done, Faulted}
 use Rattle.occ_net_replay.specs.Replay.{Tasks}
 use Rattle.occ_usage.specs.Noted.{uses_in}
 use Rattle.occ_explore_walks.specs.declared.graph.Edge.{Edge}

@@ -1,13 +1,13 @@
 //! Circles of processes that wait for one another.
 ghost use Rattle.std.specs.Prelude.{◌≡◌, ◌<◌, ◌≤◌, IfOk, List, Option, length, map, min, ℕ};
-ghost use Rattle.occ_code.specs.Compiled.{Program};
+ghost use Rattle.occ_machine.specs.Compiled.{Program};
 ghost use Rattle.occ_net_replay.specs.Replay.{Net};
 ghost use Rattle.occ_net_tables.specs.Holding.{Holds};
 ghost use Rattle.occ_ends.specs.Ends.{AreWaits, AreWithin, Circles, IsAgain, IsCircle, IsRing, IsRoot, edge_to, edges_to, next_noted, noted_at, waits_for};
 
 use crate::ends::Ends;
-use occ_code::Wait;
 use occ_explore_walks::{Edge, Fan, Lasting, lasting};
+use occ_machine::Wait;
 use occ_net_replay::Choice;
 use occ_net_tables::Tables;
 use std::alloc::{AllocError, Global};

@@ -1,6 +1,6 @@
 //! Who may be at the ends of channels.
 ghost use Rattle.std.specs.Prelude.{◌≡◌, IfOk, List, None, map, replicate, true, ℕ};
-ghost use Rattle.occ_code.specs.Compiled.{Program};
+ghost use Rattle.occ_machine.specs.Compiled.{Program};
 ghost use Rattle.occ_net_replay.specs.Replay.{Net};
 ghost use Rattle.occ_net_tables.specs.Holding.{Holds};
 ghost use Rattle.occ_term.specs.Terms.{Term};
@@ -8,7 +8,7 @@ ghost use Rattle.occ_usage.specs.Noted.{between, uses_in};
 ghost use Rattle.occ_ends.specs.Ends.{AreEnds, MarkedIn, Marks, all_using, is_standing, marked, noted_for, stands};
 
 use crate::uses::ProcessUses;
-use occ_code::Wait;
+use occ_machine::Wait;
 use occ_net_tables::Tables;
 use occ_usage::{Kind, Use};
 use std::alloc::{AllocError, Global};

@@ -2,7 +2,7 @@
 -- Manual: nothing; this is (own).
 use Rattle.std.specs.Prelude.{IsFalse, List, None, Option, Some, [], length, min, suc, zero, ℕ, ◌++◌, ◌∷◌, ◌≡◌, ◌≤◌}
 use Rattle.std.specs.Str.Lines.{lines}
-use Rattle.occ_code.specs.Compiled.{Program}
+use Rattle.occ_machine.specs.Compiled.{Program}
 use Rattle.occ_net_replay.specs.declared.choice.Choice.{Choice}
 use Rattle.occ_play.specs.declared.fault.PlayFault.{PlayFault}
 use Rattle.occ_play.specs.declared.fault.PlayFault.TheVariants as plays
@@ -15,7 +15,7 @@ use Rattle.occ_text.specs.declared.fault.TextFault.TheVariants as texts
 use Rattle.occ_tree_grammar.specs.declared.fault.ParseFault.TheVariants as parses
 use Rattle.occ_check_names.specs.declared.fault.CheckFault.TheVariants as checks
 use Rattle.occ_usage.specs.declared.checked.UsageFault.TheVariants as usages
-use Rattle.occ_code.specs.declared.compiler.code.CodeFault.TheVariants as codings
+use Rattle.occ_code.specs.declared.compiling.CodeFault.TheVariants as codings
 use Rattle.occ_explain.specs.declared.refusal.Refusal.{Refusal}
 use Rattle.occ_explain.specs.Causes.{cause_of, is_told_closer}
 use Rattle.occ_explain.specs.Places.{IsNear, IsPlace, line_in}

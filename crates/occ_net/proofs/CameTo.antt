@@ -1,7 +1,7 @@
 -- What a run of a plan comes to.
 use Rattle.std.proofs.Common.{◌≡◌, ◌∙◌, sym, ap, subst, ℕ, List, length, take}
 use Rattle.std.proofs.lemmas.List.{take_at}
-use Rattle.occ_code.specs.Compiled.{Program}
+use Rattle.occ_machine.specs.Compiled.{Program}
 use Rattle.occ_net_replay.specs.declared.choice.Choice.{Choice}
 use Rattle.occ_net_replay.specs.Replay.{Net, Replays}
 use Rattle.occ_net_tables.specs.declared.running.Keep.TheVariants.{Places}

@@ -3,9 +3,9 @@ use Rattle.std.proofs.Common.{◌≡◌, ◌∙◌, refl, sym, ap, subst, Bool, 
 use Rattle.std.specs.Arc.{arc_value}
 use Rattle.std.specs.Prelude.{if◌then◌else◌, slice_get}
 use Rattle.std.proofs.lemmas.Option.{slice_get_within}
-use Rattle.occ_code.specs.Compiled.{IsCompiled}
-use Rattle.occ_code.specs.Machine.{Body}
-use Rattle.occ_code.specs.declared.task.Task.{Task}
+use Rattle.occ_machine.specs.Compiled.{IsCompiled}
+use Rattle.occ_machine.specs.Machine.{Body}
+use Rattle.occ_machine.specs.declared.task.Task.{Task}
 use Rattle.occ_proc.specs.Turns.{HasStop}
 use Rattle.occ_net_replay.specs.declared.ending.Ending.{Ending}
 use Rattle.occ_net_replay.specs.Replay.{HasTask, Net, ending_of, may_go}

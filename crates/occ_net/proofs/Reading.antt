@@ -3,7 +3,7 @@ use Rattle.std.proofs.Common.{◌≡◌, ◌∙◌, sym, subst, ℕ, ◌<◌, �
 use Rattle.std.specs.Prelude.{slice_get}
 use Rattle.occ_term.specs.declared.names.Channel.{Channel}
 use Rattle.occ_term.specs.Runs.{messages_on}
-use Rattle.occ_code.specs.Compiled.{IsCompiled}
+use Rattle.occ_machine.specs.Compiled.{IsCompiled}
 use Rattle.occ_net_replay.specs.declared.ending.Ending.{Ending}
 use Rattle.occ_net_replay.specs.declared.ending.Ending.TheVariants as ending
 use Rattle.occ_net_replay.specs.Following.{AllFit, AreBytes, Followed, or_limit}

@@ -3,11 +3,11 @@ use Rattle.std.proofs.Common.{◌≡◌, ◌∙◌, refl, sym, ap, subst, Bool, 
 use Rattle.std.specs.Prelude.{if◌then◌else◌, slice_get}
 use Rattle.std.proofs.lemmas.Bool.{cases_lt}
 use Rattle.std.proofs.lemmas.Option.{get_or_from_slice_get, slice_get_within}
-use Rattle.occ_code.specs.Machine.{Body, Instruction, Point, Stopping, StopsIn, by_place, begins_at, passes_on, stops_here}
-use Rattle.occ_code.specs.SameStop.{AreAbove, IsRising}
-use Rattle.occ_code.specs.declared.task.Task.{Task}
-use Rattle.occ_code.specs.declared.task.Wait.{Wait}
-use Rattle.occ_code.specs.declared.task.Wait.TheVariants as W
+use Rattle.occ_machine.specs.Machine.{Body, Instruction, Point, Stopping, StopsIn, by_place, begins_at, passes_on, stops_here}
+use Rattle.occ_machine.specs.SameStop.{AreAbove, IsRising}
+use Rattle.occ_machine.specs.declared.task.Task.{Task}
+use Rattle.occ_machine.specs.declared.task.Wait.{Wait}
+use Rattle.occ_machine.specs.declared.task.Wait.TheVariants as W
 use Rattle.occ_term.specs.Frames.{Variables}
 use Rattle.occ_net_replay.specs.Replay.{HasTask, Tasks, goes, may_go, ready_from}
 use Rattle.occ_net.specs.Settling.{IsAmong}

@@ -4,7 +4,7 @@ use Rattle.std.specs.Prelude.{List, Option, map, slice_get, ℕ, ◌≡◌}
 use Rattle.occ_term.specs.declared.message.Message.{Message}
 use Rattle.occ_term.specs.declared.protocol.Protocol.{Protocol}
 use Rattle.occ_term.specs.Runs.{messages_on}
-use Rattle.occ_code.specs.Compiled.{Program}
+use Rattle.occ_machine.specs.Compiled.{Program}
 use Rattle.occ_net_replay.specs.Following.{AllFit}
 use Rattle.occ_net_replay.specs.Replay.{Net}
 use Rattle.occ_net_trace.specs.declared.communication.Communication.{Communication}

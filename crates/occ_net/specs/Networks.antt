@@ -1,8 +1,8 @@
 -- What a network was made of, and the state that it is in.
 -- Manual: nothing; this is (own).
 use Rattle.std.specs.Prelude.{Bool, List, None, Option, Some, [], false, if◌then◌else◌, length, replicate, slice_get, slice_set, unwrap_or, ℕ, ◌<◌, ◌^◌, ◌∷◌, ◌≡◌}
-use Rattle.occ_code.specs.Compiled.{Program, IsCompiled}
-use Rattle.occ_code.specs.declared.task.Task.{Task}
+use Rattle.occ_machine.specs.Compiled.{Program, IsCompiled}
+use Rattle.occ_machine.specs.declared.task.Task.{Task}
 use Rattle.occ_net_replay.specs.declared.choice.Choice.{Choice}
 use Rattle.occ_net_replay.specs.declared.ending.Ending.{Ending}
 use Rattle.occ_net_replay.specs.Following.{AreBytes}

@@ -5,7 +5,7 @@ ghost use Rattle.occ_net.specs.Networks.{IsState, all_in, first_in, is_out, leas
 ghost use Rattle.occ_net.specs.Leases.{CanTurn, IsOwnLease, Leases};
 
 use crate::network::Network;
-use occ_code::{Body, Task};
+use occ_machine::{Body, Task};
 use std::alloc::{AllocError, Global};
 use std::sync::Arc;
 

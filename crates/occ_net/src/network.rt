@@ -9,7 +9,7 @@ ghost use Rattle.occ_net.specs.Histories.{IsHistory};
 
 use crate::fault::NetFault;
 use crate::history::History;
-use occ_code::{Code, Task};
+use occ_machine::{Code, Task};
 use occ_net_replay::{Choice, Ending};
 use occ_net_tables::Tables;
 use occ_net_trace::Trace;

@@ -9,7 +9,7 @@ ghost use Rattle.occ_net.specs.Outcomes.{IsOutcome, Shows};
 use crate::fault::NetFault;
 use crate::network::{Network, no_marks};
 use occ_choices::Plan;
-use occ_code::Code;
+use occ_machine::Code;
 use occ_net_replay::{Choice, Ending};
 use occ_net_tables::{Keep, Ran, run_tables};
 use occ_shown::channel_bytes;

@@ -1,13 +1,13 @@
 //! Whether a turn is of the network's own.
 ghost use Rattle.std.specs.Prelude.{◌≡◌, ◌↔◌, IsTrue, List, Some, slice_get, ℕ};
-ghost use Rattle.occ_code.specs.Compiled.{Program};
+ghost use Rattle.occ_machine.specs.Compiled.{Program};
 ghost use Rattle.occ_net_replay.specs.Replay.{HasTask, Net, turns_at};
 ghost use Rattle.occ_net_tables.specs.Holding.{Holds};
 ghost use Rattle.occ_net.specs.Networks.{IsState};
 ghost use Rattle.occ_net.specs.Settling.{IsOwn};
 
 use crate::network::Network;
-use occ_code::{Body, Code, Task};
+use occ_machine::{Body, Code, Task};
 use occ_net_tables::Tables;
 use occ_proc::Segment;
 

@@ -1,7 +1,7 @@
 //! Turns that were taken elsewhere are taken in.
 ghost use Rattle.std.specs.Prelude.{◌≡◌, IfErr, IfOk, OnOk, Some, slice_get};
 ghost use Rattle.std.specs.Arc.{arc_value};
-ghost use Rattle.occ_code.specs.SameStop.{IsRising};
+ghost use Rattle.occ_machine.specs.SameStop.{IsRising};
 ghost use Rattle.occ_net_replay.specs.Replay.{Net};
 ghost use Rattle.occ_net.specs.Networks.{IsState};
 ghost use Rattle.occ_net.specs.Settling.{IsAmong, Refuses, Settles, TakesIn};

@@ -20,14 +20,14 @@ use Rattle.occ_term.specs.Terms.{Term, Branches, no_branches, and_branch, Recept
 use Rattle.occ_term.specs.TypedSteps.{LeftHas, EnabledHave}
 use Rattle.occ_term.specs.UnfoldedProgram.{UnfoldedProgram}
 use Rattle.occ_term.specs.Uses.{uses_of, uses_of_reception}
-use Rattle.occ_code.specs.SameStop.{AreAbove, IsRising, SameArms, SameStop, numbers_of}
-use Rattle.occ_code.specs.Alike.{Alike}
-use Rattle.occ_code.specs.Compiled.{Program}
-use Rattle.occ_code.specs.Machine.{Body, Stopping}
-use Rattle.occ_code.specs.declared.task.Arm.{Arm}
-use Rattle.occ_code.specs.declared.task.Task.{Task}
-use Rattle.occ_code.specs.declared.task.Wait.{Wait}
-use Rattle.occ_code.specs.declared.task.Wait.TheVariants as W
+use Rattle.occ_machine.specs.SameStop.{AreAbove, IsRising, SameArms, SameStop, numbers_of}
+use Rattle.occ_machine.specs.Alike.{Alike}
+use Rattle.occ_machine.specs.Compiled.{Program}
+use Rattle.occ_machine.specs.Machine.{Body, Stopping}
+use Rattle.occ_machine.specs.declared.task.Arm.{Arm}
+use Rattle.occ_machine.specs.declared.task.Task.{Task}
+use Rattle.occ_machine.specs.declared.task.Wait.{Wait}
+use Rattle.occ_machine.specs.declared.task.Wait.TheVariants as W
 use Rattle.occ_net_replay.specs.declared.choice.Choice.{Choice}
 use Rattle.occ_net_replay.specs.Replay.{Net, HasTask, may_go}
 use Rattle.occ_net_replay.specs.Waiting.{IsReplay, IsTurn, TurnsAreFew, OffersAlone, TurnsOfferAlone, and_channel, channels_of, listens_on, ListensAlone, TurnsListenAlone, TurnsNeverTake, ForksAlone, TurnsForkAlone}

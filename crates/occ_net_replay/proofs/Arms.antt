@@ -5,7 +5,7 @@ use Rattle.std.proofs.lemmas.Bool.{eqb-true, eq-eqb}
 use mathlib.Core.Bool.{true≢false}
 use Rattle.occ_term.specs.Frames.{is_held}
 use Rattle.occ_term.specs.Selecting.{is_ready_on, ready_among}
-use Rattle.occ_code.specs.declared.task.Arm.{Arm}
+use Rattle.occ_machine.specs.declared.task.Arm.{Arm}
 use Rattle.occ_net_replay.specs.Moments.{NoneReady}
 use Rattle.occ_net_replay.specs.Replay.{arm_chosen}
 use Rattle.occ_net_replay.specs.Waiting.{and_channel, channels_of}

@@ -24,11 +24,11 @@ use Rattle.occ_term.specs.Uses.{Numbers, empty_set, no_use, uses_of, LawfulTerm}
 use Rattle.occ_term.specs.Values.{Store, is_of_declared}
 use Rattle.occ_term.proofs.Going.{going}
 use Rattle.occ_term.proofs.KeptStores.{both_parts, no_part, whole_part}
-use Rattle.occ_code.specs.Alike.{Alike, IsFirst}
-use Rattle.occ_code.specs.Compiled.{Program}
-use Rattle.occ_code.specs.Machine.{Body}
-use Rattle.occ_code.specs.declared.task.Task.{Task}
-use Rattle.occ_code.specs.declared.task.Wait.{Wait}
+use Rattle.occ_machine.specs.Alike.{Alike, IsFirst}
+use Rattle.occ_machine.specs.Compiled.{Program}
+use Rattle.occ_machine.specs.Machine.{Body}
+use Rattle.occ_machine.specs.declared.task.Task.{Task}
+use Rattle.occ_machine.specs.declared.task.Wait.{Wait}
 use Rattle.occ_net_replay.specs.Following.{AreBytes, ending_as, mode_of, or_limit}
 use Rattle.occ_net_replay.specs.Replay.{Net, Tasks, HasTask, first_task, first_net, at_start, none_begun, may_go, ready_from, is_done, ended, main_done, ending_by, ending_of, first_noted, standing_by, stopped_by}
 use Rattle.occ_net_replay.specs.Moments.{At, Among, first, later, here, below}

@@ -11,7 +11,7 @@ use Rattle.occ_term.specs.Terms.{Term, Branches, no_branches, and_branch}
 use Rattle.occ_term.specs.Uses.{Uses, uses_of, uses_of_branches, ApartFromAll}
 use Rattle.occ_term.specs.Values.{Store}
 use Rattle.occ_term.proofs.KeptStores.{either_of}
-use Rattle.occ_code.specs.Compiled.{Program}
+use Rattle.occ_machine.specs.Compiled.{Program}
 use Rattle.occ_net_replay.specs.Replay.{Tasks}
 use Rattle.occ_net_replay.specs.Moments.{At, here, below, Among, first, later}
 use Rattle.occ_net_replay.proofs.Holding.{SameNumbers, Own, Holds, AllHold, Branched, alone_is, forked_is, branched, branches_placed}

@@ -6,10 +6,10 @@ use mathlib.Core.Bool.{true≢false}
 use Rattle.occ_term.specs.declared.message.Message.{Message}
 use Rattle.occ_term.specs.Selecting.{is_ready_on}
 use Rattle.occ_term.specs.System.{has_byte}
-use Rattle.occ_code.specs.Machine.{Body}
-use Rattle.occ_code.specs.declared.task.Arm.{Arm}
-use Rattle.occ_code.specs.declared.task.Task.{Task}
-use Rattle.occ_code.specs.declared.task.Wait.TheVariants as W
+use Rattle.occ_machine.specs.Machine.{Body}
+use Rattle.occ_machine.specs.declared.task.Arm.{Arm}
+use Rattle.occ_machine.specs.declared.task.Task.{Task}
+use Rattle.occ_machine.specs.declared.task.Wait.TheVariants as W
 use Rattle.occ_net_replay.specs.Choosing.{ChoicesTakeReadyArms, OffersReachChoices}
 use Rattle.occ_net_replay.specs.Moments.{NoneReady}
 use Rattle.occ_net_replay.specs.Replay.{Net, HasTask, Settled, settles, meets, skips, joined, task_gives, keyboard_gives, arm_gets, arm_chosen, made_ready, may_go, offers_among, offers_on, ready_from, standing, took_arm, took_turn}

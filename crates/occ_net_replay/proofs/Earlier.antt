@@ -4,7 +4,7 @@ use Rattle.std.proofs.lemmas.List.{append_assoc}
 use Rattle.occ_term.specs.Runs.{Event, Run, no_turn}
 use Rattle.occ_term.specs.System.{System}
 use Rattle.occ_term.specs.UnfoldedProgram.{UnfoldedProgram}
-use Rattle.occ_code.specs.Compiled.{Program}
+use Rattle.occ_machine.specs.Compiled.{Program}
 use Rattle.occ_net_replay.specs.declared.choice.Choice.{Choice}
 use Rattle.occ_net_replay.specs.Following.{Followed, mode_of}
 use Rattle.occ_net_replay.specs.Moments.{Accompanies, EarlierMoment, IsMoment, RunsGoOn, at_start, after_turn}

@@ -4,11 +4,11 @@ use Rattle.std.specs.Prelude.{slice_set}
 use mathlib.Core.Bool.{true≢false}
 use Rattle.occ_term.specs.System.{End, communication}
 use Rattle.occ_term.specs.declared.message.Message.{Message}
-use Rattle.occ_code.specs.Machine.{Body}
-use Rattle.occ_code.specs.declared.task.Arm.{Arm}
-use Rattle.occ_code.specs.declared.task.Task.{Task}
-use Rattle.occ_code.specs.declared.task.Wait.{Wait}
-use Rattle.occ_code.specs.declared.task.Wait.TheVariants as W
+use Rattle.occ_machine.specs.Machine.{Body}
+use Rattle.occ_machine.specs.declared.task.Arm.{Arm}
+use Rattle.occ_machine.specs.declared.task.Task.{Task}
+use Rattle.occ_machine.specs.declared.task.Wait.{Wait}
+use Rattle.occ_machine.specs.declared.task.Wait.TheVariants as W
 use Rattle.occ_net_replay.specs.Examples.{ChoiceRows, ClosedRows, EndingRows, ForkRows, LateOfferRows, LeadsTo, ListenRows, MeetingRows, NotedRows, FirstWithPriority, SkipRows, StopRows, TurnRows, apart, arm, bodies, branches, choosing, closed, net_of, task, waiting, whole_number}
 use Rattle.occ_net_replay.specs.Replay.{Net, Tasks, HasTask, AreDone, is_done, made_ready, took_arm, arm_chosen, standing, Gets, joined, Settled, settles, stays, Happens, meets, skips, forks, joins, task_gives, keyboard_gives, task_gets, arm_gets, screen_gets, error_gets, one_more}
 use Rattle.occ_net_replay.proofs.Faults.{part_waits}

@@ -3,13 +3,13 @@ use Rattle.std.proofs.Common.{ℕ, zero, suc, List, [], ◌∷◌}
 use Rattle.occ_term.specs.TermTyping.{Declared}
 use Rattle.occ_term.specs.Selecting.{Enabled, SkipArm, InputArm}
 use Rattle.occ_term.specs.Steps.{Context, Left}
-use Rattle.occ_code.specs.SameStop.{SameArm, SameArms, SameStop}
-use Rattle.occ_code.specs.Machine.{Body}
-use Rattle.occ_code.specs.Alike.{Alike}
-use Rattle.occ_code.specs.declared.task.Arm.{Arm}
-use Rattle.occ_code.specs.declared.task.Task.{Task}
-use Rattle.occ_code.specs.declared.task.Wait.{Wait}
-use Rattle.occ_code.specs.declared.task.Wait.TheVariants as W
+use Rattle.occ_machine.specs.SameStop.{SameArm, SameArms, SameStop}
+use Rattle.occ_machine.specs.Machine.{Body}
+use Rattle.occ_machine.specs.Alike.{Alike}
+use Rattle.occ_machine.specs.declared.task.Arm.{Arm}
+use Rattle.occ_machine.specs.declared.task.Task.{Task}
+use Rattle.occ_machine.specs.declared.task.Wait.{Wait}
+use Rattle.occ_machine.specs.declared.task.Wait.TheVariants as W
 
 module _ (d : Declared) (Go Other : Task → Left → Type 0) (map_to : (t : Task) (r : Left) → Go t r → Other t r) where
   arm_map : (t : Task) (k : List Context) (a : Arm) (e : Enabled) → SameArm d Go t k a e → SameArm d Other t k a e

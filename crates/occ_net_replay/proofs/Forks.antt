@@ -15,11 +15,11 @@ use Rattle.occ_term.specs.Terms.{Term, Branches, no_branches, and_branch}
 use Rattle.occ_term.specs.Uses.{empty_set, no_use, uses_of, uses_of_branches}
 use Rattle.occ_term.specs.Values.{Store}
 use Rattle.occ_term.proofs.KeptStores.{left_part, right_part, both_parts, no_part, whole_part}
-use Rattle.occ_code.specs.SameStop.{Agrees, numbers_of, used_by}
-use Rattle.occ_code.specs.Alike.{Alike, IsFirst}
-use Rattle.occ_code.specs.Compiled.{Program}
-use Rattle.occ_code.specs.Machine.{Body}
-use Rattle.occ_code.specs.declared.task.Task.{Task}
+use Rattle.occ_machine.specs.SameStop.{Agrees, numbers_of, used_by}
+use Rattle.occ_machine.specs.Alike.{Alike, IsFirst}
+use Rattle.occ_machine.specs.Compiled.{Program}
+use Rattle.occ_machine.specs.Machine.{Body}
+use Rattle.occ_machine.specs.declared.task.Task.{Task}
 use Rattle.occ_net_replay.specs.Replay.{Tasks, HasTask, may_go, first_task, turns_of, turns_at, copied, branch_task, with_branches}
 use Rattle.occ_net_replay.specs.Moments.{first, later, here}
 use Rattle.occ_net_replay.proofs.Holding.{SameNumbers, Belongs, may_turn, Own, AllHold, one_term, placed_order, used_part, held_used}

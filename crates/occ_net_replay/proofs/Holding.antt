@@ -18,13 +18,13 @@ use Rattle.occ_term.specs.Uses.{Uses, Numbers, empty_set, uses_of, uses_of_branc
 use Rattle.occ_term.specs.Values.{Store, is_of_declared}
 use Rattle.occ_term.proofs.KeptStores.{left_part, right_part, whole_part}
 use Rattle.occ_term.proofs.TypedValues.{or_left, or_right}
-use Rattle.occ_code.specs.SameStop.{Agrees, Frames, FitsProtocol, SameArms, Joined, joined_with, numbers_of, used_by}
-use Rattle.occ_code.specs.Alike.{Alike, DoesAs}
-use Rattle.occ_code.specs.Compiled.{Program}
-use Rattle.occ_code.specs.Machine.{Body}
-use Rattle.occ_code.specs.declared.task.Arm.{Arm}
-use Rattle.occ_code.specs.declared.task.Task.{Task}
-use Rattle.occ_code.specs.declared.task.Wait.TheVariants as W
+use Rattle.occ_machine.specs.SameStop.{Agrees, Frames, FitsProtocol, SameArms, Joined, joined_with, numbers_of, used_by}
+use Rattle.occ_machine.specs.Alike.{Alike, DoesAs}
+use Rattle.occ_machine.specs.Compiled.{Program}
+use Rattle.occ_machine.specs.Machine.{Body}
+use Rattle.occ_machine.specs.declared.task.Arm.{Arm}
+use Rattle.occ_machine.specs.declared.task.Task.{Task}
+use Rattle.occ_machine.specs.declared.task.Wait.TheVariants as W
 use Rattle.occ_net_replay.specs.Replay.{Tasks, HasTask, may_go, made_ready, has_taken}
 use Rattle.occ_net_replay.specs.Moments.{At, here, below, Among, first, later}
 use Rattle.occ_net_replay.proofs.Fewer.{Fewer, alike_fewer, arms_fewer}

@@ -11,12 +11,12 @@ use Rattle.occ_term.specs.System.{System, start, noted_in}
 use Rattle.occ_term.specs.TermTyping.{Declared}
 use Rattle.occ_term.specs.Terms.{Term, Branches, no_branches, and_branch}
 use Rattle.occ_term.specs.UnfoldedProgram.{UnfoldedProgram, IsWellFormed, Lawful, meaning, declared}
-use Rattle.occ_code.specs.SameStop.{SameStop}
-use Rattle.occ_code.specs.Alike.{Alike, DoesAs}
-use Rattle.occ_code.specs.Compiled.{Program, IsCompiledFrom, AllDo}
-use Rattle.occ_code.specs.Machine.{Body, Stopping}
-use Rattle.occ_code.specs.declared.task.Task.{Task}
-use Rattle.occ_code.specs.declared.task.Wait.TheVariants.{Joins}
+use Rattle.occ_machine.specs.SameStop.{SameStop}
+use Rattle.occ_machine.specs.Alike.{Alike, DoesAs}
+use Rattle.occ_machine.specs.Compiled.{Program, IsCompiledFrom, AllDo}
+use Rattle.occ_machine.specs.Machine.{Body, Stopping}
+use Rattle.occ_machine.specs.declared.task.Task.{Task}
+use Rattle.occ_machine.specs.declared.task.Wait.TheVariants.{Joins}
 use Rattle.occ_net_replay.specs.declared.choice.Choice.{Choice}
 use Rattle.occ_net_replay.specs.Following.{AreBytes, Followed, NotedNeverEnd, OneNeverForks, ReplaysAreRuns, ReadyTasksStop, ending_as, mode_of, or_limit, process_in}
 use Rattle.occ_net_replay.specs.Replay.{Net, HasTask, OneTurn, ending_of, may_go, Replays, begins, first_net, goes_on as replays_on}

@@ -16,13 +16,13 @@ use Rattle.occ_term.specs.TypedSteps.{LeftHas, EnabledHas, EnabledHave}
 use Rattle.occ_term.specs.Uses.{Uses, Numbers, empty_set, no_use, with_use, inputting, only, uses_of, uses_of_reception}
 use Rattle.occ_term.specs.Values.{Store}
 use Rattle.occ_term.proofs.KeptStores.{left_part, right_part, both_parts, no_part, whole_part}
-use Rattle.occ_code.specs.SameStop.{SameArm, SameArms, FitsProtocol}
-use Rattle.occ_code.specs.Alike.{Alike}
-use Rattle.occ_code.specs.Compiled.{Program}
-use Rattle.occ_code.specs.Machine.{Body}
-use Rattle.occ_code.specs.declared.task.Arm.{Arm}
-use Rattle.occ_code.specs.declared.task.Task.{Task}
-use Rattle.occ_code.specs.declared.task.Wait.TheVariants as W
+use Rattle.occ_machine.specs.SameStop.{SameArm, SameArms, FitsProtocol}
+use Rattle.occ_machine.specs.Alike.{Alike}
+use Rattle.occ_machine.specs.Compiled.{Program}
+use Rattle.occ_machine.specs.Machine.{Body}
+use Rattle.occ_machine.specs.declared.task.Arm.{Arm}
+use Rattle.occ_machine.specs.declared.task.Task.{Task}
+use Rattle.occ_machine.specs.declared.task.Wait.TheVariants as W
 use Rattle.occ_net_replay.specs.Replay.{Tasks, HasTask, made_ready, has_taken, took_arm, offers_on, offers_among, arm_chosen}
 use Rattle.occ_net_replay.specs.Moments.{At, here, below, Among, first, later}
 use Rattle.occ_net_replay.proofs.Placed.{size, LeftPlaced, EnabledPlaced, AllEnabledPlaced}

@@ -9,9 +9,9 @@ use Rattle.occ_term.specs.Steps.{Do, Offering, Awaiting, Choosing, Forking, Halt
 use Rattle.occ_term.specs.Runs.{meets_skip}
 use Rattle.occ_term.specs.System.{Processes, arm_skips, change_here, no_processes, passes_skip, process}
 use Rattle.occ_term.specs.Terms.{Branches, Reception, Skip}
-use Rattle.occ_code.specs.SameStop.{numbers_of}
-use Rattle.occ_code.specs.declared.task.Arm.{Arm}
-use Rattle.occ_code.specs.declared.task.Wait.TheVariants as W
+use Rattle.occ_machine.specs.SameStop.{numbers_of}
+use Rattle.occ_machine.specs.declared.task.Arm.{Arm}
+use Rattle.occ_machine.specs.declared.task.Wait.TheVariants as W
 use Rattle.occ_net_replay.specs.MomentExamples.{AtStop, EitherArmRows, OtherStoreRows, SameStopRows, OtherStopRows, MissingRows, UnquietRows}
 use Rattle.occ_net_replay.specs.Moments.{At, Among, here, below, OnSameChannels, both_go, both_join, both_offer, both_await, both_choose, both_fork, both_fail}
 

@@ -7,13 +7,13 @@ use Rattle.occ_term.specs.System.{Process, Processes}
 use Rattle.occ_term.specs.TermTyping.{Declared}
 use Rattle.occ_term.specs.Uses.{Numbers}
 use Rattle.occ_term.specs.Values.{Store}
-use Rattle.occ_code.specs.SameStop.{SameArms}
-use Rattle.occ_code.specs.Alike.{Alike}
-use Rattle.occ_code.specs.Compiled.{Program}
-use Rattle.occ_code.specs.Machine.{Body}
-use Rattle.occ_code.specs.declared.task.Arm.{Arm}
-use Rattle.occ_code.specs.declared.task.Task.{Task}
-use Rattle.occ_code.specs.declared.task.Wait.TheVariants as W
+use Rattle.occ_machine.specs.SameStop.{SameArms}
+use Rattle.occ_machine.specs.Alike.{Alike}
+use Rattle.occ_machine.specs.Compiled.{Program}
+use Rattle.occ_machine.specs.Machine.{Body}
+use Rattle.occ_machine.specs.declared.task.Arm.{Arm}
+use Rattle.occ_machine.specs.declared.task.Task.{Task}
+use Rattle.occ_machine.specs.declared.task.Wait.TheVariants as W
 use Rattle.occ_net_replay.specs.Replay.{Tasks, HasTask, is_done}
 use Rattle.occ_net_replay.specs.Moments.{At, OnSameChannels, StopsAlike, both_go, both_join, both_offer, both_await, both_choose, both_fork, both_halt, both_fail, both_done, StandAlike}
 use Rattle.occ_net_replay.proofs.Holding.{Stands, may_turn, may_join, offers, awaits, chooses, waits, is_halted, has_failed, has_ended}

@@ -14,13 +14,13 @@ use Rattle.occ_term.specs.Terms.{Term}
 use Rattle.occ_term.specs.Uses.{Lawful, uses_of, uses_of_reception}
 use Rattle.occ_term.specs.Values.{Store}
 use Rattle.occ_term.proofs.KeptStores.{whole_part}
-use Rattle.occ_code.specs.SameStop.{SameArm}
-use Rattle.occ_code.specs.Alike.{Alike}
-use Rattle.occ_code.specs.Compiled.{Program}
-use Rattle.occ_code.specs.declared.task.Arm.{Arm}
-use Rattle.occ_code.specs.declared.task.Task.{Task}
-use Rattle.occ_code.specs.declared.task.Wait.{Wait}
-use Rattle.occ_code.specs.declared.task.Wait.TheVariants as W
+use Rattle.occ_machine.specs.SameStop.{SameArm}
+use Rattle.occ_machine.specs.Alike.{Alike}
+use Rattle.occ_machine.specs.Compiled.{Program}
+use Rattle.occ_machine.specs.declared.task.Arm.{Arm}
+use Rattle.occ_machine.specs.declared.task.Task.{Task}
+use Rattle.occ_machine.specs.declared.task.Wait.{Wait}
+use Rattle.occ_machine.specs.declared.task.Wait.TheVariants as W
 use Rattle.occ_net_replay.specs.Replay.{Tasks, HasTask, arm_chosen}
 use Rattle.occ_net_replay.specs.Moments.{At, Among}
 use Rattle.occ_net_replay.proofs.Beside.{Related, are_one, is_inside, is_around, are_beside, related}

@@ -10,8 +10,8 @@ use Rattle.occ_term.specs.System.{Process, process, Processes}
 use Rattle.occ_term.specs.TermTyping.{Declared}
 use Rattle.occ_term.specs.Terms.{Term, Branches, no_branches, and_branch}
 use Rattle.occ_term.specs.Values.{Store}
-use Rattle.occ_code.specs.SameStop.{numbers_of}
-use Rattle.occ_code.specs.Compiled.{Program}
+use Rattle.occ_machine.specs.SameStop.{numbers_of}
+use Rattle.occ_machine.specs.Compiled.{Program}
 use Rattle.occ_net_replay.specs.Replay.{Tasks}
 use Rattle.occ_net_replay.specs.Moments.{At, here, below, Among, first, later}
 use Rattle.occ_net_replay.proofs.Holding.{SameNumbers, number_of, Own, Holds, AllHold, Branched, alone_is, forked_is, branched, placed_order, branches_placed}

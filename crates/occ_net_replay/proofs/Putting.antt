@@ -12,8 +12,8 @@ use Rattle.occ_term.specs.Turns.{Turn}
 use Rattle.occ_term.specs.Uses.{Uses, uses_of, uses_of_branches, ApartFromAll}
 use Rattle.occ_term.specs.Values.{Store}
 use Rattle.occ_term.proofs.KeptStores.{left_part, right_part, whole_part, either_of}
-use Rattle.occ_code.specs.SameStop.{used_by}
-use Rattle.occ_code.specs.Compiled.{Program}
+use Rattle.occ_machine.specs.SameStop.{used_by}
+use Rattle.occ_machine.specs.Compiled.{Program}
 use Rattle.occ_net_replay.specs.Replay.{Tasks}
 use Rattle.occ_net_replay.specs.Moments.{At, here, below, Among, first, later}
 use Rattle.occ_net_replay.proofs.Holding.{SameNumbers, number_of, put, put_among, Own, Holds, AllHold, Branched, alone_is, forked_is, branched, placed_order, branches_part, branches_placed, one_term}

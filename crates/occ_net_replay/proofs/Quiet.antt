@@ -8,11 +8,11 @@ use Rattle.occ_term.specs.declared.message.Message.{Message}
 use Rattle.occ_term.specs.Frames.{is_held}
 use Rattle.occ_term.specs.Selecting.{is_ready_on}
 use Rattle.occ_term.specs.System.{OfProcess, has_byte}
-use Rattle.occ_code.specs.Machine.{Body}
-use Rattle.occ_code.specs.declared.task.Arm.{Arm}
-use Rattle.occ_code.specs.declared.task.Task.{Task}
-use Rattle.occ_code.specs.declared.task.Wait.{Wait}
-use Rattle.occ_code.specs.declared.task.Wait.TheVariants as W
+use Rattle.occ_machine.specs.Machine.{Body}
+use Rattle.occ_machine.specs.declared.task.Arm.{Arm}
+use Rattle.occ_machine.specs.declared.task.Task.{Task}
+use Rattle.occ_machine.specs.declared.task.Wait.{Wait}
+use Rattle.occ_machine.specs.declared.task.Wait.TheVariants as W
 use Rattle.occ_net_replay.specs.Replay.{Net, Tasks, HasTask, may_go, made_ready, offers_on, offers_among, standing, arm_chosen, task_gives, keyboard_gives, task_gets, arm_gets, screen_gets, error_gets, joined, took_turn, ended, is_done, AreDone, Happens, meets, skips, forks, joins}
 use Rattle.occ_net_replay.specs.Moments.{NoneReady, Quiet, is_read}
 use Rattle.occ_net_replay.proofs.Tables.{set_same, set_other, same_or_not, task_once, OffersOn, offers_found, offers_there, Chosen, chosen_or_none, chosen_unready, or_first, or_second, or_else}

@@ -10,7 +10,7 @@ use Rattle.occ_term.specs.declared.protocol.Protocol.{Protocol}
 use Rattle.occ_term.specs.declared.protocol.Protocol.TheVariants.{Simple}
 use Rattle.occ_term.specs.System.{Errors, System, SystemTurn, End, Communication, communication}
 use Rattle.occ_term.specs.Runs.{Event, event, Run, no_turn, goes, communications, sent_on, messages_on, MeetsAtMost}
-use Rattle.occ_code.specs.SameStop.{FitsProtocol}
+use Rattle.occ_machine.specs.SameStop.{FitsProtocol}
 use Rattle.occ_net_replay.specs.Following.{AllFit, process_in}
 use Rattle.occ_net_replay.specs.Replay.{one_more, byte_message}
 

@@ -7,13 +7,13 @@ use Rattle.occ_term.specs.Frames.{is_held}
 use Rattle.occ_term.specs.Runs.{TakesPart}
 use Rattle.occ_term.specs.System.{End, OfProcess, communication}
 use Rattle.occ_term.specs.UnfoldedProgram.{UnfoldedProgram, IsWellFormed, Lawful, meaning}
-use Rattle.occ_code.specs.SameStop.{joined_with}
-use Rattle.occ_code.specs.Compiled.{Program, IsCompiledFrom}
-use Rattle.occ_code.specs.Machine.{Body, Stopping}
-use Rattle.occ_code.specs.declared.task.Arm.{Arm}
-use Rattle.occ_code.specs.declared.task.Task.{Task}
-use Rattle.occ_code.specs.declared.task.Wait.{Wait}
-use Rattle.occ_code.specs.declared.task.Wait.TheVariants as W
+use Rattle.occ_machine.specs.SameStop.{joined_with}
+use Rattle.occ_machine.specs.Compiled.{Program, IsCompiledFrom}
+use Rattle.occ_machine.specs.Machine.{Body, Stopping}
+use Rattle.occ_machine.specs.declared.task.Arm.{Arm}
+use Rattle.occ_machine.specs.declared.task.Task.{Task}
+use Rattle.occ_machine.specs.declared.task.Wait.{Wait}
+use Rattle.occ_machine.specs.declared.task.Wait.TheVariants as W
 use Rattle.occ_net_replay.specs.declared.choice.Choice.{Choice}
 use Rattle.occ_net_replay.specs.Following.{AreBytes}
 use Rattle.occ_net_replay.specs.OneReplay.{OneReplay}

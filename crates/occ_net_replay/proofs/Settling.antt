@@ -14,12 +14,12 @@ use Rattle.occ_term.specs.Runs.{TakesPart, messages_on, MeetsAtMost, meets_none,
 use Rattle.occ_term.specs.System.{Process, System, system, MayGo, SystemTurn, End, OfProcess, Keyboard, Screen, Error, Communication, communication, has_byte, offers as offers_of, process_sends, keyboard_sends, Receives, process_receives, screen_receives, error_receives, Meets, meets as meets_in, passes_skip}
 use Rattle.occ_term.specs.TermTyping.{Declared}
 use Rattle.occ_term.specs.Values.{Store}
-use Rattle.occ_code.specs.SameStop.{FitsProtocol, joined_with}
-use Rattle.occ_code.specs.Compiled.{Program}
-use Rattle.occ_code.specs.declared.task.Arm.{Arm}
-use Rattle.occ_code.specs.declared.task.Task.{Task}
-use Rattle.occ_code.specs.declared.task.Wait.{Wait}
-use Rattle.occ_code.specs.declared.task.Wait.TheVariants as W
+use Rattle.occ_machine.specs.SameStop.{FitsProtocol, joined_with}
+use Rattle.occ_machine.specs.Compiled.{Program}
+use Rattle.occ_machine.specs.declared.task.Arm.{Arm}
+use Rattle.occ_machine.specs.declared.task.Task.{Task}
+use Rattle.occ_machine.specs.declared.task.Wait.{Wait}
+use Rattle.occ_machine.specs.declared.task.Wait.TheVariants as W
 use Rattle.occ_net_replay.specs.Following.{AreBytes, mode_of}
 use Rattle.occ_net_replay.specs.Replay.{Net, Tasks, HasTask, may_go, made_ready, has_taken, took_arm, byte_message, took_turn, with_task, standing, arm_chosen, task_gives, keyboard_gives, Gets, task_gets, arm_gets, screen_gets, error_gets, Joined, joined, traced, one_more, noted_at, is_done, AreDone, merged, Happens, meets, skips, forks, joins, Settled, settles, stays}
 use Rattle.occ_net_replay.specs.Moments.{Quiet}

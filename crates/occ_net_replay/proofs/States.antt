@@ -14,14 +14,14 @@ use Rattle.occ_term.specs.Terms.{Skip, Reception}
 use Rattle.occ_term.specs.TypedSteps.{StoreHas, LeftHas}
 use Rattle.occ_term.specs.Uses.{Numbers, empty_set, uses_of}
 use Rattle.occ_term.specs.Values.{Store}
-use Rattle.occ_code.specs.SameStop.{SameArms, FitsProtocol}
-use Rattle.occ_code.specs.Alike.{Alike}
-use Rattle.occ_code.specs.Compiled.{Program}
-use Rattle.occ_code.specs.Machine.{Body}
-use Rattle.occ_code.specs.declared.task.Arm.{Arm}
-use Rattle.occ_code.specs.declared.task.Task.{Task}
-use Rattle.occ_code.specs.declared.task.Wait.{Wait}
-use Rattle.occ_code.specs.declared.task.Wait.TheVariants as W
+use Rattle.occ_machine.specs.SameStop.{SameArms, FitsProtocol}
+use Rattle.occ_machine.specs.Alike.{Alike}
+use Rattle.occ_machine.specs.Compiled.{Program}
+use Rattle.occ_machine.specs.Machine.{Body}
+use Rattle.occ_machine.specs.declared.task.Arm.{Arm}
+use Rattle.occ_machine.specs.declared.task.Task.{Task}
+use Rattle.occ_machine.specs.declared.task.Wait.{Wait}
+use Rattle.occ_machine.specs.declared.task.Wait.TheVariants as W
 use Rattle.occ_net_replay.specs.Replay.{Tasks, HasTask, may_go, made_ready, has_taken, is_done}
 use Rattle.occ_net_replay.specs.Moments.{At, here, below}
 use Rattle.occ_net_replay.proofs.Fewer.{as_many}

@@ -14,13 +14,13 @@ use Rattle.occ_term.specs.TermTyping.{Declared}
 use Rattle.occ_term.specs.Terms.{Skip, Branches, no_branches, and_branch, Reception}
 use Rattle.occ_term.specs.Uses.{Numbers}
 use Rattle.occ_term.specs.Values.{Store}
-use Rattle.occ_code.specs.SameStop.{SameArms, numbers_of}
-use Rattle.occ_code.specs.Alike.{Alike}
-use Rattle.occ_code.specs.Compiled.{Program}
-use Rattle.occ_code.specs.Machine.{Body}
-use Rattle.occ_code.specs.declared.task.Arm.{Arm}
-use Rattle.occ_code.specs.declared.task.Task.{Task}
-use Rattle.occ_code.specs.declared.task.Wait.TheVariants as W
+use Rattle.occ_machine.specs.SameStop.{SameArms, numbers_of}
+use Rattle.occ_machine.specs.Alike.{Alike}
+use Rattle.occ_machine.specs.Compiled.{Program}
+use Rattle.occ_machine.specs.Machine.{Body}
+use Rattle.occ_machine.specs.declared.task.Arm.{Arm}
+use Rattle.occ_machine.specs.declared.task.Task.{Task}
+use Rattle.occ_machine.specs.declared.task.Wait.TheVariants as W
 use Rattle.occ_net_replay.specs.Replay.{Net, HasTask, may_go, offers_on, offers_among, standing, AreDone}
 use Rattle.occ_net_replay.specs.Moments.{At, here, below, Among, first, later, Quiet, is_read}
 use Rattle.occ_net_replay.proofs.Holding.{SameNumbers, put, put_among, Stands, may_turn, may_join, offers, awaits, chooses, waits, is_halted, has_failed, has_ended, Holds, AllHold}

@@ -5,7 +5,7 @@ use Rattle.std.proofs.lemmas.Bool.Decides.{eqb_tells}
 use Rattle.std.proofs.lemmas.Nat.{mod_below}
 use mathlib.Core.Bool.{true≢false}
 use Rattle.occ_term.specs.Selecting.{is_ready_on, ready_among, chosen_of}
-use Rattle.occ_code.specs.declared.task.Task.{Task}
+use Rattle.occ_machine.specs.declared.task.Task.{Task}
 use Rattle.occ_net_replay.specs.Replay.{Tasks, HasTask, goes, may_go, ready_from, offers_among, offers_on}
 use Rattle.occ_net_replay.specs.Moments.{NoneReady}
 

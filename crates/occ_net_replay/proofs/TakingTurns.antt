@@ -15,13 +15,13 @@ use Rattle.occ_term.specs.TypedSteps.{StoreHas, LeftHas}
 use Rattle.occ_term.specs.Uses.{Numbers, empty_set, uses_of, uses_of_branches}
 use Rattle.occ_term.specs.Values.{Store}
 use Rattle.occ_term.proofs.KeptStores.{right_part, both_parts, no_part, whole_part}
-use Rattle.occ_code.specs.SameStop.{Agrees, Joined, SameStop, joined_with, numbers_of}
-use Rattle.occ_code.specs.Alike.{Alike}
-use Rattle.occ_code.specs.Compiled.{Program}
-use Rattle.occ_code.specs.Machine.{Body, Stopping}
-use Rattle.occ_code.specs.declared.task.Task.{Task}
-use Rattle.occ_code.specs.declared.task.Wait.{Wait}
-use Rattle.occ_code.specs.declared.task.Wait.TheVariants as W
+use Rattle.occ_machine.specs.SameStop.{Agrees, Joined, SameStop, joined_with, numbers_of}
+use Rattle.occ_machine.specs.Alike.{Alike}
+use Rattle.occ_machine.specs.Compiled.{Program}
+use Rattle.occ_machine.specs.Machine.{Body, Stopping}
+use Rattle.occ_machine.specs.declared.task.Task.{Task}
+use Rattle.occ_machine.specs.declared.task.Wait.{Wait}
+use Rattle.occ_machine.specs.declared.task.Wait.TheVariants as W
 use Rattle.occ_net_replay.specs.Replay.{Tasks, HasTask, may_go, is_done}
 use Rattle.occ_net_replay.specs.Moments.{At}
 use Rattle.occ_net_replay.proofs.Changing.{put_holds}

@@ -13,9 +13,9 @@ use Rattle.occ_term.specs.TermTyping.{Declared}
 use Rattle.occ_term.specs.Terms.{Term}
 use Rattle.occ_term.specs.UnfoldedProgram.{meaning}
 use Rattle.occ_term.specs.Uses.{Lawful, uses_of}
-use Rattle.occ_code.specs.Compiled.{Program}
-use Rattle.occ_code.specs.declared.task.Task.{Task}
-use Rattle.occ_code.specs.declared.task.Wait.TheVariants as W
+use Rattle.occ_machine.specs.Compiled.{Program}
+use Rattle.occ_machine.specs.declared.task.Task.{Task}
+use Rattle.occ_machine.specs.declared.task.Wait.TheVariants as W
 use Rattle.occ_net_replay.specs.Moments.{is_read}
 use Rattle.occ_net_replay.specs.Replay.{Net}
 use Rattle.occ_net_replay.specs.Waiting.{IsTurn, MainTurnsAlone, OnOthers, TurnsAreApart, TurnsHearNoScreen, listens_on}

@@ -16,13 +16,13 @@ use Rattle.occ_term.specs.System.{no_processes, System, system, MayGo, begun, br
 use Rattle.occ_term.specs.TermTyping.{Declared}
 use Rattle.occ_term.specs.Terms.{Term, Skip, Branches, no_branches, and_branch}
 use Rattle.occ_term.specs.Uses.{empty_set, uses_of_branches}
-use Rattle.occ_code.specs.SameStop.{Joined, joined_with, numbers_of}
-use Rattle.occ_code.specs.Alike.{Alike}
-use Rattle.occ_code.specs.Compiled.{Program}
-use Rattle.occ_code.specs.Machine.{Body, Stopping}
-use Rattle.occ_code.specs.declared.task.Task.{Task}
-use Rattle.occ_code.specs.declared.task.Wait.{Wait}
-use Rattle.occ_code.specs.declared.task.Wait.TheVariants as W
+use Rattle.occ_machine.specs.SameStop.{Joined, joined_with, numbers_of}
+use Rattle.occ_machine.specs.Alike.{Alike}
+use Rattle.occ_machine.specs.Compiled.{Program}
+use Rattle.occ_machine.specs.Machine.{Body, Stopping}
+use Rattle.occ_machine.specs.declared.task.Task.{Task}
+use Rattle.occ_machine.specs.declared.task.Wait.{Wait}
+use Rattle.occ_machine.specs.declared.task.Wait.TheVariants as W
 use Rattle.occ_net_replay.specs.declared.choice.Choice.{Choice}
 use Rattle.occ_net_replay.specs.Replay.{Net, HasTask, may_go, ready_from, took_turn, with_branches, noted_at, first_noted, main_done, AreDone, ending_by, ending_of, OneTurn, Settled, settles, stays, meets, skips, forks, joins}
 use Rattle.occ_net_replay.specs.Following.{mode_of}

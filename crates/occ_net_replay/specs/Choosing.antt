@@ -3,10 +3,10 @@
 use Rattle.std.specs.Prelude.{Bool, IsTrue, List, Option, Some, nat_eq, ℕ, ◌≡◌}
 use Rattle.occ_term.specs.declared.message.Message.{Message}
 use Rattle.occ_term.specs.UnfoldedProgram.{UnfoldedProgram}
-use Rattle.occ_code.specs.Compiled.{Program}
-use Rattle.occ_code.specs.declared.task.Arm.{Arm}
-use Rattle.occ_code.specs.declared.task.Task.{Task}
-use Rattle.occ_code.specs.declared.task.Wait.TheVariants.{Offers, Chooses}
+use Rattle.occ_machine.specs.Compiled.{Program}
+use Rattle.occ_machine.specs.declared.task.Arm.{Arm}
+use Rattle.occ_machine.specs.declared.task.Task.{Task}
+use Rattle.occ_machine.specs.declared.task.Wait.TheVariants.{Offers, Chooses}
 use Rattle.occ_net_replay.specs.declared.choice.Choice.{Choice}
 use Rattle.occ_net_replay.specs.Replay.{Net, HasTask, OneTurn, arm_chosen, standing, took_arm, took_turn}
 use Rattle.occ_net_replay.specs.Waiting.{IsReplay, listens_on}

@@ -10,11 +10,11 @@ use Rattle.occ_term.specs.System.{System, start, HaltMode, StopMode, noted_in}
 use Rattle.occ_term.specs.System as S
 use Rattle.occ_term.specs.Runs.{Event, event, Run, communications, messages_on, EndsBy}
 use Rattle.occ_term.specs.Runs as R
-use Rattle.occ_code.specs.SameStop.{FitsProtocol}
-use Rattle.occ_code.specs.Machine.{Body, Stopping}
-use Rattle.occ_code.specs.declared.task.Task.{Task}
-use Rattle.occ_code.specs.declared.task.Wait.TheVariants.{Joins}
-use Rattle.occ_code.specs.Compiled.{Program, IsCompiledFrom}
+use Rattle.occ_machine.specs.SameStop.{FitsProtocol}
+use Rattle.occ_machine.specs.Machine.{Body, Stopping}
+use Rattle.occ_machine.specs.declared.task.Task.{Task}
+use Rattle.occ_machine.specs.declared.task.Wait.TheVariants.{Joins}
+use Rattle.occ_machine.specs.Compiled.{Program, IsCompiledFrom}
 use Rattle.occ_net_replay.specs.declared.choice.Choice.{Choice}
 use Rattle.occ_net_replay.specs.declared.ending.Ending.{Ending}
 use Rattle.occ_net_replay.specs.declared.ending.Ending.TheVariants as E

@@ -10,10 +10,10 @@ use Rattle.occ_term.specs.Selecting.{Enabled, SkipArm}
 use Rattle.occ_term.specs.Steps.{Doing, Do, Offering, Awaiting, Choosing, Forking, Halted, Faulted, Done, SkipTaken, Taking, left}
 use Rattle.occ_term.specs.System.{HaltMode, System, process, no_processes, system}
 use Rattle.occ_term.specs.Terms.{Skip, Stop, Plain, and_branch, no_branches}
-use Rattle.occ_code.specs.Compiled.{Program}
-use Rattle.occ_code.specs.Machine.{Body}
-use Rattle.occ_code.specs.declared.task.Wait.{Wait}
-use Rattle.occ_code.specs.declared.task.Wait.TheVariants as W
+use Rattle.occ_machine.specs.Compiled.{Program}
+use Rattle.occ_machine.specs.Machine.{Body}
+use Rattle.occ_machine.specs.declared.task.Wait.{Wait}
+use Rattle.occ_machine.specs.declared.task.Wait.TheVariants as W
 use Rattle.occ_net_replay.specs.Examples.{after, arm, both_stand, branches, choosing, net_of, or_skip, task, variables, waiting, whole_number}
 use Rattle.occ_net_replay.specs.Moments.{IsMoment, Quiet, StandAlike, StopsAlike}
 use Rattle.occ_net_replay.specs.Replay.{byte_message}

@@ -10,12 +10,12 @@ use Rattle.occ_term.specs.Steps.{Doing, Offering, Awaiting, Choosing, Forking, H
 use Rattle.occ_term.specs.System.{Process, process, Processes, no_processes, and_process, System, system, AllEnded, noted_in}
 use Rattle.occ_term.specs.Terms.{Branches, Reception}
 use Rattle.occ_term.specs.UnfoldedProgram.{UnfoldedProgram, IsWellFormed, Lawful}
-use Rattle.occ_code.specs.SameStop.{numbers_of}
-use Rattle.occ_code.specs.Compiled.{Program, IsCompiledFrom}
-use Rattle.occ_code.specs.declared.task.Arm.{Arm}
-use Rattle.occ_code.specs.declared.task.Task.{Task}
-use Rattle.occ_code.specs.declared.task.Wait.{Wait}
-use Rattle.occ_code.specs.declared.task.Wait.TheVariants as W
+use Rattle.occ_machine.specs.SameStop.{numbers_of}
+use Rattle.occ_machine.specs.Compiled.{Program, IsCompiledFrom}
+use Rattle.occ_machine.specs.declared.task.Arm.{Arm}
+use Rattle.occ_machine.specs.declared.task.Task.{Task}
+use Rattle.occ_machine.specs.declared.task.Wait.{Wait}
+use Rattle.occ_machine.specs.declared.task.Wait.TheVariants as W
 use Rattle.occ_net_replay.specs.declared.choice.Choice.{Choice}
 use Rattle.occ_net_replay.specs.declared.ending.Ending.TheVariants as E
 use Rattle.occ_net_replay.specs.Following.{AreBytes, Followed, mode_of}

@@ -16,13 +16,13 @@ use Rattle.occ_term.specs.Frames.{Variables, zero_frame, is_held, at, frame_with
 use Rattle.occ_term.specs.Selecting.{chosen_of}
 use Rattle.occ_term.specs.System.{End, OfProcess, Keyboard, Screen, Error, Communication, communication, has_byte}
 use Rattle.occ_term.specs.Runs.{TakesPart}
-use Rattle.occ_code.specs.SameStop.{joined_with}
-use Rattle.occ_code.specs.Machine.{Body, Stopping}
-use Rattle.occ_code.specs.Compiled.{Program}
-use Rattle.occ_code.specs.declared.task.Arm.{Arm}
-use Rattle.occ_code.specs.declared.task.Task.{Task}
-use Rattle.occ_code.specs.declared.task.Wait.{Wait}
-use Rattle.occ_code.specs.declared.task.Wait.TheVariants.{Ready, Took, Offers, Awaits, Chooses, Joins, Halted, Done, Faulted}
+use Rattle.occ_machine.specs.SameStop.{joined_with}
+use Rattle.occ_machine.specs.Machine.{Body, Stopping}
+use Rattle.occ_machine.specs.Compiled.{Program}
+use Rattle.occ_machine.specs.declared.task.Arm.{Arm}
+use Rattle.occ_machine.specs.declared.task.Task.{Task}
+use Rattle.occ_machine.specs.declared.task.Wait.{Wait}
+use Rattle.occ_machine.specs.declared.task.Wait.TheVariants.{Ready, Took, Offers, Awaits, Chooses, Joins, Halted, Done, Faulted}
 use Rattle.occ_net_replay.specs.declared.choice.Choice.{Choice}
 use Rattle.occ_net_replay.specs.declared.ending.Ending.{Ending}
 use Rattle.occ_net_replay.specs.declared.ending.Ending.TheVariants as ending

@@ -6,10 +6,10 @@ use Rattle.occ_term.specs.Frames.{is_held, at}
 use Rattle.occ_term.specs.System.{System, system, offers}
 use Rattle.occ_term.specs.UnfoldedProgram.{UnfoldedProgram, IsWellFormed, Lawful}
 use Rattle.occ_term.specs.Values.{Store}
-use Rattle.occ_code.specs.Compiled.{Program, IsCompiledFrom}
-use Rattle.occ_code.specs.Machine.{Body}
-use Rattle.occ_code.specs.declared.task.Task.{Task}
-use Rattle.occ_code.specs.declared.task.Wait.TheVariants.{Joins, Done}
+use Rattle.occ_machine.specs.Compiled.{Program, IsCompiledFrom}
+use Rattle.occ_machine.specs.Machine.{Body}
+use Rattle.occ_machine.specs.declared.task.Task.{Task}
+use Rattle.occ_machine.specs.declared.task.Wait.TheVariants.{Joins, Done}
 use Rattle.occ_net_replay.specs.declared.choice.Choice.{Choice}
 use Rattle.occ_net_replay.specs.Following.{AreBytes, Followed}
 use Rattle.occ_net_replay.specs.Replay.{Net, HasTask, Replays, standing}

@@ -1,7 +1,7 @@
 //! Laws of the definitions. Each function's contract is the law; its body does nothing.
 
 ghost use Rattle.occ_term.specs.Priority.{PriorityTakesFirst};
-ghost use Rattle.occ_code.specs.declared.task.Arm.{Arm};
+ghost use Rattle.occ_machine.specs.declared.task.Arm.{Arm};
 ghost use Rattle.occ_net_replay.specs.Choosing.{ChoicesTakeReadyArms, OffersReachChoices};
 ghost use Rattle.occ_net_replay.specs.Examples.{ChoiceRows, ClosedRows, EndingRows, ForkRows, LateOfferRows, ListenRows, MeetingRows, NotedRows, FirstWithPriority, SkipRows, StopRows, TurnRows};
 ghost use Rattle.occ_net_replay.specs.Following.{NotedNeverEnd, OneNeverForks, ReadyTasksStop, ReplaysAreRuns};

@@ -7,10 +7,10 @@ use mathlib.Core.Bool.{true≢false}
 use Rattle.occ_term.specs.declared.message.Message.{Message}
 use Rattle.occ_term.specs.Selecting.{is_ready_on, ready_among}
 use Rattle.occ_term.specs.System.{OfProcess, has_byte}
-use Rattle.occ_code.specs.declared.task.Arm.{Arm}
-use Rattle.occ_code.specs.declared.task.Task.{Task}
-use Rattle.occ_code.specs.declared.task.Wait.{Wait}
-use Rattle.occ_code.specs.declared.task.Wait.TheVariants as W
+use Rattle.occ_machine.specs.declared.task.Arm.{Arm}
+use Rattle.occ_machine.specs.declared.task.Task.{Task}
+use Rattle.occ_machine.specs.declared.task.Wait.{Wait}
+use Rattle.occ_machine.specs.declared.task.Wait.TheVariants as W
 use Rattle.occ_net_replay.specs.Moments.{NoneReady}
 use Rattle.occ_net_replay.specs.Replay.{Net, HasTask, Gets, task_gets, arm_gets, arm_chosen, one_more, took_arm, with_task}
 use Rattle.occ_net_replay.specs.Waiting.{listens_on}

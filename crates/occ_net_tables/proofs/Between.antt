@@ -8,12 +8,12 @@ use Rattle.occ_term.specs.declared.fault.Fault.{Fault}
 use Rattle.occ_term.specs.declared.message.Message.{Message}
 use Rattle.occ_term.specs.System.{has_byte}
 use Rattle.occ_term.specs.System as S
-use Rattle.occ_code.specs.SameStop.{ready_with}
-use Rattle.occ_code.specs.Compiled.{Program}
-use Rattle.occ_code.specs.declared.task.Arm.{Arm}
-use Rattle.occ_code.specs.declared.task.Task.{Task}
-use Rattle.occ_code.specs.declared.task.Wait.{Wait}
-use Rattle.occ_code.specs.declared.task.Wait.TheVariants as W
+use Rattle.occ_machine.specs.SameStop.{ready_with}
+use Rattle.occ_machine.specs.Compiled.{Program}
+use Rattle.occ_machine.specs.declared.task.Arm.{Arm}
+use Rattle.occ_machine.specs.declared.task.Task.{Task}
+use Rattle.occ_machine.specs.declared.task.Wait.{Wait}
+use Rattle.occ_machine.specs.declared.task.Wait.TheVariants as W
 use Rattle.occ_net_replay.specs.Replay.{Net, HasTask, may_go, noted_at, made_ready, byte_message, offers_among, one_more, standing, took_arm, with_task, traced, took_turn, offers_on, task_gives, keyboard_gives, screen_gets, error_gets, joined, meets, Settled, settles, stays}
 use Rattle.occ_net_replay.specs.Waiting.{channels_at, listens_on}
 use Rattle.occ_net_replay.proofs.Tables.{OffersOn, offers_found, offers_there, or_else, or_first, or_second, set_same, set_other, set_back, task_once}

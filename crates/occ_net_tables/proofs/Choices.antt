@@ -6,11 +6,11 @@ use mathlib.Core.Bool.{true≢false}
 use Rattle.occ_term.specs.declared.message.Message.{Message}
 use Rattle.occ_term.specs.Selecting.{is_ready_on}
 use Rattle.occ_term.specs.System.{has_byte}
-use Rattle.occ_code.specs.SameStop.{ready_with}
-use Rattle.occ_code.specs.Compiled.{Program}
-use Rattle.occ_code.specs.declared.task.Arm.{Arm}
-use Rattle.occ_code.specs.declared.task.Task.{Task}
-use Rattle.occ_code.specs.declared.task.Wait.TheVariants as W
+use Rattle.occ_machine.specs.SameStop.{ready_with}
+use Rattle.occ_machine.specs.Compiled.{Program}
+use Rattle.occ_machine.specs.declared.task.Arm.{Arm}
+use Rattle.occ_machine.specs.declared.task.Task.{Task}
+use Rattle.occ_machine.specs.declared.task.Wait.TheVariants as W
 use Rattle.occ_net_replay.specs.Replay.{Net, HasTask, arm_chosen, made_ready, may_go, offers_among, offers_on, settles, skips, standing, took_arm, with_task}
 use Rattle.occ_net_replay.proofs.Quiet.{offers_is}
 use Rattle.occ_net_replay.proofs.Tables.{OffersOn, chosen_ready, offers_found, offers_there, or_else, set_back, set_other}

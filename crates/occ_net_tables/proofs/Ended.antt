@@ -1,11 +1,11 @@
 -- How a turn ended, and the task that it came to.
 use Rattle.std.proofs.Common.{◌≡◌, ◌∙◌, refl, ap, ℕ, Some}
 use Rattle.std.specs.Prelude.{slice_set}
-use Rattle.occ_code.specs.SameStop.{ready_with}
-use Rattle.occ_code.specs.Machine.{Body, Stopping}
-use Rattle.occ_code.specs.declared.task.Task.{Task}
-use Rattle.occ_code.specs.declared.task.Wait.{Wait}
-use Rattle.occ_code.specs.declared.task.Wait.TheVariants as W
+use Rattle.occ_machine.specs.SameStop.{ready_with}
+use Rattle.occ_machine.specs.Machine.{Body, Stopping}
+use Rattle.occ_machine.specs.declared.task.Task.{Task}
+use Rattle.occ_machine.specs.declared.task.Wait.{Wait}
+use Rattle.occ_machine.specs.declared.task.Wait.TheVariants as W
 use Rattle.occ_net_replay.specs.Replay.{Tasks, made_ready}
 use Rattle.occ_net_tables.specs.Tasks.{Advanced}
 use Rattle.occ_net_tables.proofs.OneChange.{set_twice}

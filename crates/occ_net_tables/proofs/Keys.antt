@@ -5,7 +5,7 @@ use Rattle.std.proofs.lemmas.Bool.{eqb-true, eq-eqb}
 use Rattle.std.proofs.lemmas.Option.{slice_get_within}
 use mathlib.Core.Bool.{true≢false}
 use Rattle.occ_term.specs.Frames.{is_held}
-use Rattle.occ_code.specs.SameStop.{AreAbove, IsRising}
+use Rattle.occ_machine.specs.SameStop.{AreAbove, IsRising}
 use Rattle.occ_net_replay.proofs.Tables.{set_other, or_else, or_first, or_second}
 use Rattle.occ_net_tables.specs.Keys.{set_all}
 use Rattle.occ_net_tables.proofs.OneChange.{either_way, set_length, set_within}

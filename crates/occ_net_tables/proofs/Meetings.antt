@@ -6,11 +6,11 @@ use Rattle.occ_term.specs.declared.message.Message.{Message}
 use Rattle.occ_term.specs.Frames.{is_held}
 use Rattle.occ_term.specs.Runs.{TakesPart}
 use Rattle.occ_term.specs.System.{End, OfProcess, Communication, has_byte}
-use Rattle.occ_code.specs.Machine.{Body}
-use Rattle.occ_code.specs.declared.task.Arm.{Arm}
-use Rattle.occ_code.specs.declared.task.Task.{Task}
-use Rattle.occ_code.specs.declared.task.Wait.{Wait}
-use Rattle.occ_code.specs.declared.task.Wait.TheVariants as W
+use Rattle.occ_machine.specs.Machine.{Body}
+use Rattle.occ_machine.specs.declared.task.Arm.{Arm}
+use Rattle.occ_machine.specs.declared.task.Task.{Task}
+use Rattle.occ_machine.specs.declared.task.Wait.{Wait}
+use Rattle.occ_machine.specs.declared.task.Wait.TheVariants as W
 use Rattle.occ_net_replay.specs.Replay.{Net, HasTask, AreDone, Gets, task_gets, arm_gets, screen_gets, error_gets, Happens, meets, skips, forks, joins, Joined, joined, is_done, keyboard_gives, made_ready, standing, task_gives, took_turn, arm_chosen}
 use Rattle.occ_net_replay.specs.Waiting.{listens_on}
 use Rattle.std.proofs.lemmas.Bool.{eq-eqb}

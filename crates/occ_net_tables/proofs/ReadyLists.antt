@@ -1,8 +1,8 @@
 -- Rising lists of numbers, and the numbers of the processes that may take a turn.
 use Rattle.std.proofs.Common.{◌≡◌, ◌∙◌, refl, sym, ap, Bool, true, false, ℕ, zero, suc, ◌+◌, ◌<◌, ◌≤◌, ◌⊎◌, inl, inr, List, [], ◌∷◌, Option, Some, get_or, length, ltb-true, ltb-false, arith}
 use Rattle.std.specs.Prelude.{if◌then◌else◌, insert, nat_lt, remove, slice_get, slice_set}
-use Rattle.occ_code.specs.SameStop.{AreAbove, IsRising}
-use Rattle.occ_code.specs.declared.task.Task.{Task}
+use Rattle.occ_machine.specs.SameStop.{AreAbove, IsRising}
+use Rattle.occ_machine.specs.declared.task.Task.{Task}
 use Rattle.occ_net_replay.specs.Replay.{Tasks, goes, ready_from}
 use Rattle.occ_net_tables.specs.Ready.{put_in}
 

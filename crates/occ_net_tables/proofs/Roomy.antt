@@ -2,9 +2,9 @@
 use Rattle.std.proofs.Common.{◌≡◌, ◌∙◌, sym, ap, ℕ, zero, suc, List, [], ◌∷◌, Some, length, map, drop}
 use Rattle.std.specs.Prelude.{slice_get, slice_set}
 use Rattle.occ_term.specs.declared.fault.Fault.{Fault}
-use Rattle.occ_code.specs.Compiled.{Program}
-use Rattle.occ_code.specs.declared.task.Task.{Task}
-use Rattle.occ_code.specs.declared.task.Wait.{Wait}
+use Rattle.occ_machine.specs.Compiled.{Program}
+use Rattle.occ_machine.specs.declared.task.Task.{Task}
+use Rattle.occ_machine.specs.declared.task.Wait.{Wait}
 use Rattle.occ_net_replay.specs.Replay.{Net}
 use Rattle.occ_net_tables.specs.declared.tables.Tables.{Tables}
 use Rattle.occ_net_tables.specs.Holding.{Holds, Sized, Sound, communication_of}

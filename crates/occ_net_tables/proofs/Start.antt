@@ -4,11 +4,11 @@ use Rattle.std.specs.Prelude.{slice_get, slice_set}
 use Rattle.occ_term.specs.Frames.{zero_frame}
 use Rattle.occ_term.specs.Processes.{Numbered}
 use Rattle.occ_term.specs.TermTyping.{Declared}
-use Rattle.occ_code.specs.Compiled.{Program, AllDo, IsCompiled}
-use Rattle.occ_code.specs.Machine.{Body}
-use Rattle.occ_code.specs.declared.task.Task.{Task}
-use Rattle.occ_code.specs.declared.task.Wait.{Wait}
-use Rattle.occ_code.specs.declared.task.Wait.TheVariants as W
+use Rattle.occ_machine.specs.Compiled.{Program, AllDo, IsCompiled}
+use Rattle.occ_machine.specs.Machine.{Body}
+use Rattle.occ_machine.specs.declared.task.Task.{Task}
+use Rattle.occ_machine.specs.declared.task.Wait.{Wait}
+use Rattle.occ_machine.specs.declared.task.Wait.TheVariants as W
 use Rattle.occ_net_replay.specs.Replay.{HasTask, at_start, first_net, first_noted, first_task, none_begun, offers_on, ready_from}
 use Rattle.occ_net_replay.specs.Waiting.{listens_on}
 use Rattle.occ_net_tables.specs.declared.tables.Tables.{Tables}

@@ -6,11 +6,11 @@ use mathlib.Core.Bool.{true≢false}
 use Rattle.occ_term.specs.declared.fault.Fault.{Fault}
 use Rattle.occ_term.specs.declared.message.Message.{Message}
 use Rattle.occ_term.specs.Frames.{Variables, is_held}
-use Rattle.occ_code.specs.SameStop.{joined_with, ready_with}
-use Rattle.occ_code.specs.declared.task.Arm.{Arm}
-use Rattle.occ_code.specs.declared.task.Task.{Task}
-use Rattle.occ_code.specs.declared.task.Wait.{Wait}
-use Rattle.occ_code.specs.declared.task.Wait.TheVariants as W
+use Rattle.occ_machine.specs.SameStop.{joined_with, ready_with}
+use Rattle.occ_machine.specs.declared.task.Arm.{Arm}
+use Rattle.occ_machine.specs.declared.task.Task.{Task}
+use Rattle.occ_machine.specs.declared.task.Wait.{Wait}
+use Rattle.occ_machine.specs.declared.task.Wait.TheVariants as W
 use Rattle.occ_net_replay.specs.Replay.{Tasks, HasTask, is_done, made_ready, may_go, offers_on, ready_from}
 use Rattle.occ_net_replay.specs.Waiting.{channels_at, listens_on}
 use Rattle.occ_net_replay.proofs.Tables.{set_other}

@@ -4,7 +4,7 @@ use Rattle.std.specs.Prelude.{if◌then◌else◌, nat_eq}
 use mathlib.Core.Bool.{true≢false}
 use Rattle.std.proofs.lemmas.Bool.{eqb-true}
 use Rattle.occ_term.specs.Frames.{is_held}
-use Rattle.occ_code.specs.SameStop.{IsRising}
+use Rattle.occ_machine.specs.SameStop.{IsRising}
 use Rattle.occ_net_replay.specs.Replay.{Tasks, AreDone}
 use Rattle.occ_net_replay.proofs.Tables.{or_else}
 use Rattle.occ_net_tables.specs.Holding.{is_over, undone}

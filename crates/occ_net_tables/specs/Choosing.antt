@@ -1,9 +1,9 @@
 -- Where offers stand, which arm is taken, and how a process takes a message.
 -- Manual: nothing; this is (own).
 use Rattle.std.specs.Prelude.{Bool, List, None, Option, Some, [], false, if◌then◌else◌, length, nat_eq, nat_lt, slice_get, true, ℕ, ◌||◌, ◌≡◌}
-use Rattle.occ_code.specs.declared.task.Arm.{Arm}
-use Rattle.occ_code.specs.declared.task.Wait.{Wait}
-use Rattle.occ_code.specs.declared.task.Wait.TheVariants.{Awaits, Chooses}
+use Rattle.occ_machine.specs.declared.task.Arm.{Arm}
+use Rattle.occ_machine.specs.declared.task.Wait.{Wait}
+use Rattle.occ_machine.specs.declared.task.Wait.TheVariants.{Awaits, Chooses}
 use Rattle.occ_net_replay.specs.Replay.{arm_chosen}
 use Rattle.occ_net_tables.specs.Keys.{entry_in}
 

@@ -1,7 +1,7 @@
 -- What a run of a plan comes to.
 -- Manual: nothing; this is (own).
 use Rattle.std.specs.Prelude.{List, None, map, ℕ, ◌++◌, ◌≡◌}
-use Rattle.occ_code.specs.Compiled.{Program}
+use Rattle.occ_machine.specs.Compiled.{Program}
 use Rattle.occ_net_replay.specs.declared.choice.Choice.{Choice}
 use Rattle.occ_net_tables.specs.declared.running.Keep.{Keep}
 use Rattle.occ_net_tables.specs.declared.running.Outcome.{Outcome}

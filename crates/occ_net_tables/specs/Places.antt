@@ -1,7 +1,7 @@
 -- Choices by the places that they select.
 -- Manual: nothing; this is (own).
 use Rattle.std.specs.Prelude.{List, None, [], length, ℕ, ◌%◌, ◌++◌, ◌∷◌, ◌≡◌}
-use Rattle.occ_code.specs.Compiled.{Program}
+use Rattle.occ_machine.specs.Compiled.{Program}
 use Rattle.occ_net_replay.specs.declared.choice.Choice.{Choice}
 use Rattle.occ_net_replay.specs.Replay.{Net, OneTurn, Replays, ending_of, first_net, ready_from}
 use Rattle.occ_net_tables.specs.declared.running.Keep.{Keep}

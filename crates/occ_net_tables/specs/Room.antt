@@ -3,9 +3,9 @@
 use Rattle.std.specs.Prelude.{List, length, map, slice_get, vec_capacity, vec_len, ℕ, ◌+◌, ◌≡◌, ◌≤◌}
 use Rattle.std.specs.Option.{option_map_or}
 use Rattle.occ_term.specs.Frames.{Variables}
-use Rattle.occ_code.specs.Machine.{Body}
-use Rattle.occ_code.specs.declared.task.Wait.{Wait}
-use Rattle.occ_code.specs.declared.task.Wait.TheVariants.{Ready, Took, Offers, Awaits, Chooses, Joins, Halted, Done, Faulted}
+use Rattle.occ_machine.specs.Machine.{Body}
+use Rattle.occ_machine.specs.declared.task.Wait.{Wait}
+use Rattle.occ_machine.specs.declared.task.Wait.TheVariants.{Ready, Took, Offers, Awaits, Chooses, Joins, Halted, Done, Faulted}
 use Rattle.occ_net_replay.specs.Replay.{copied}
 use Rattle.occ_net_tables.specs.declared.tables.Tables.{Tables}
 

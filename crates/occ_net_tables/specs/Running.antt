@@ -1,7 +1,7 @@
 -- What tables hold in the middle of a run.
 -- Manual: nothing; this is (own).
 use Rattle.std.specs.Prelude.{List, ℕ, ◌≡◌}
-use Rattle.occ_code.specs.Compiled.{Program}
+use Rattle.occ_machine.specs.Compiled.{Program}
 use Rattle.occ_net_replay.specs.declared.choice.Choice.{Choice}
 use Rattle.occ_net_replay.specs.Replay.{Net}
 use Rattle.occ_net_tables.specs.declared.running.Keep.{Keep}

@@ -1,11 +1,11 @@
 -- Changes of one task in its slot.
 -- Manual: nothing; this is (own).
 use Rattle.std.specs.Prelude.{List, Some, slice_set, ℕ, ◌+◌, ◌<◌, ◌^◌, ◌≡◌}
-use Rattle.occ_code.specs.Machine.{Body, Stopping}
-use Rattle.occ_code.specs.declared.task.Task.{Task}
-use Rattle.occ_code.specs.declared.task.Wait.{Wait}
+use Rattle.occ_machine.specs.Machine.{Body, Stopping}
+use Rattle.occ_machine.specs.declared.task.Task.{Task}
+use Rattle.occ_machine.specs.declared.task.Wait.{Wait}
 use Rattle.occ_term.specs.declared.message.Part.{Part}
-use Rattle.occ_code.specs.SameStop.{ready_with}
+use Rattle.occ_machine.specs.SameStop.{ready_with}
 use Rattle.occ_proc.specs.Turns.{HasStop, IsLeftReady, standing_at}
 use Rattle.occ_proc.specs.declared.turn_end.TurnEnd.{TurnEnd}
 use Rattle.occ_net_replay.specs.Replay.{Tasks, HasTask, made_ready}

@@ -1,14 +1,14 @@
 //! The rule of ready arms, and arms in the table of those who wait for messages.
 ghost use Rattle.std.specs.Prelude.{◌≡◌, ◌<◌, IfSome, length, slice_get};
 ghost use Rattle.occ_term.specs.Selecting.{is_ready_on, ready_among};
-ghost use Rattle.occ_code.specs.declared.task.Arm.{Arm};
+ghost use Rattle.occ_machine.specs.declared.task.Arm.{Arm};
 ghost use Rattle.occ_net_replay.specs.Replay.{arm_chosen};
 ghost use Rattle.occ_net_replay.specs.Waiting.{channels_of};
 ghost use Rattle.occ_net_tables.specs.Choosing.{arm_at, is_named, offered_by};
 ghost use Rattle.occ_net_tables.specs.Keys.{set_all};
 
 use crate::entries::{entry, set_entry};
-use occ_code::Arm;
+use occ_machine::Arm;
 
 /// Whether this channel is the named one.
 fn is_named(named: Option<u32>, chan: u32) -> bool

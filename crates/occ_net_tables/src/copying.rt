@@ -4,7 +4,7 @@ ghost use Rattle.occ_term.specs.CellRows.{cells_of};
 ghost use Rattle.occ_net_replay.specs.Replay.{copied, merged, taken_from, taken_over};
 ghost use Rattle.occ_net_tables.specs.Room.{first_frame};
 
-use occ_code::{Body, Code, Task};
+use occ_machine::{Body, Code, Task};
 use occ_term::{CellRow, Frame, FrameCells};
 use std::alloc::{AllocError, Global};
 

@@ -1,7 +1,7 @@
 //! Forks: the branches of a process begin, and it waits for their end.
 ghost use Rattle.std.specs.Prelude.{◌≡◌, ◌≤◌, ◌+◌, ◌∷◌, [], IfErr, IfOk, List, OnOk, length, map, vec_capacity, vec_len, ℕ};
 ghost use Rattle.occ_term.specs.Frames.{Variables};
-ghost use Rattle.occ_code.specs.declared.task.Task.{Task};
+ghost use Rattle.occ_machine.specs.declared.task.Task.{Task};
 ghost use Rattle.occ_net_replay.specs.Replay.{HasTask, turns_at};
 ghost use Rattle.occ_net_tables.specs.Room.{AreFirstFrames, HasRoom, first_frame};
 ghost use Rattle.occ_net_tables.specs.Settling.{AllBegan, Began, HasMid, MayBegin, Settles};
@@ -12,7 +12,7 @@ use crate::entries::{set_count, set_entry};
 use crate::ready::insert;
 use crate::tables::Tables;
 use crate::tasks::{put_task, take_task};
-use occ_code::{Code, Task, Wait};
+use occ_machine::{Code, Task, Wait};
 use occ_term::Frame;
 use sqlite_items::Items;
 use std::alloc::{AllocError, Global};

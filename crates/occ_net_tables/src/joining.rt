@@ -1,6 +1,6 @@
 //! The end of a process, and the join of the one that waited for it.
 ghost use Rattle.std.specs.Prelude.{◌≡◌, ◌<◌, List, vec_capacity, vec_len, ℕ};
-ghost use Rattle.occ_code.specs.declared.task.Task.{Task};
+ghost use Rattle.occ_machine.specs.declared.task.Task.{Task};
 ghost use Rattle.occ_net_replay.specs.Replay.{HasTask};
 ghost use Rattle.occ_net_tables.specs.Settling.{HasMid, Joining, JoinsBranches, Settles};
 
@@ -10,7 +10,7 @@ use crate::meeting::rest;
 use crate::ready::insert;
 use crate::tables::Tables;
 use crate::tasks::{put_task, take_task};
-use occ_code::{Code, Task, Wait};
+use occ_machine::{Code, Task, Wait};
 use std::mem;
 
 impl Tables {

@@ -1,10 +1,10 @@
 //! Offers and inputs: the two ends of a channel meet, or one waits for the other.
 ghost use Rattle.std.specs.Prelude.{◌≡◌, ◌≢◌, ◌+◌, ◌<◌, ◌^◌, ◌++◌, ◌∷◌, [], IfErr, IfOk, List, None, OnErr, OnOk, Option, Some, length, remove, slice_get, slice_set, vec_capacity, vec_len, ℕ};
 ghost use Rattle.occ_term.specs.declared.fault.Fault.{Fault};
-ghost use Rattle.occ_code.specs.SameStop.{IsRising, ready_with};
-ghost use Rattle.occ_code.specs.Compiled.{Program};
-ghost use Rattle.occ_code.specs.declared.task.Arm.{Arm};
-ghost use Rattle.occ_code.specs.declared.task.Task.{Task};
+ghost use Rattle.occ_machine.specs.SameStop.{IsRising, ready_with};
+ghost use Rattle.occ_machine.specs.Compiled.{Program};
+ghost use Rattle.occ_machine.specs.declared.task.Arm.{Arm};
+ghost use Rattle.occ_machine.specs.declared.task.Task.{Task};
 ghost use Rattle.occ_net_replay.specs.Replay.{HasTask, byte_message, first_noted};
 ghost use Rattle.occ_net_tables.specs.Choosing.{input_arm, keyboard_at};
 ghost use Rattle.occ_net_tables.specs.Room.{HasRoom};
@@ -16,7 +16,7 @@ use crate::entries::{entry, set_entry};
 use crate::ready::insert;
 use crate::tables::Tables;
 use crate::tasks::{set_wait, take_wait};
-use occ_code::{Arm, Task, Wait};
+use occ_machine::{Arm, Task, Wait};
 use occ_net_trace::End;
 use occ_term::{ERROR, Fault, KEYBOARD, Message, Part, Parts, Primitive, SCREEN};
 use sqlite_items::Items;

@@ -1,13 +1,13 @@
 //! What the tables hold, for those who look.
 ghost use Rattle.std.specs.Prelude.{◌≡◌, IfNone, IfSome, List, ℕ};
-ghost use Rattle.occ_code.specs.Compiled.{Program};
-ghost use Rattle.occ_code.specs.declared.task.Task.{Task};
+ghost use Rattle.occ_machine.specs.Compiled.{Program};
+ghost use Rattle.occ_machine.specs.declared.task.Task.{Task};
 ghost use Rattle.occ_net_replay.specs.Replay.{HasTask, Net, ready_from, turns_at};
 ghost use Rattle.occ_net_tables.specs.Holding.{Holds};
 
 use crate::forking::turns_at;
 use crate::tables::Tables;
-use occ_code::Task;
+use occ_machine::Task;
 
 impl Tables {
     /// The numbers of the processes that may take a turn, in rising order.

@@ -1,6 +1,6 @@
 //! The numbers of the processes that may take a turn, in rising order.
 ghost use Rattle.std.specs.Prelude.{◌≡◌, ◌≤◌, ◌<◌, ◌+◌, ◌%◌, insert, length, vec_capacity, vec_len};
-ghost use Rattle.occ_code.specs.SameStop.{IsRising};
+ghost use Rattle.occ_machine.specs.SameStop.{IsRising};
 ghost use Rattle.occ_net_tables.specs.Ready.{put_in};
 
 /// Puts a number among rising ones, where there is room for it.

@@ -10,7 +10,7 @@ ghost use Rattle.occ_choices.specs.Plans.{choices_of};
 use crate::ready::place_among;
 use crate::tables::Tables;
 use occ_choices::Plan;
-use occ_code::Code;
+use occ_machine::Code;
 use occ_net_replay::{Choice, Ending};
 use occ_net_trace::Trace;
 use occ_proc::Scratch;

@@ -1,8 +1,8 @@
 //! A turn of the network: the chosen process goes on, and what that makes possible happens.
 ghost use Rattle.std.specs.Prelude.{◌≡◌, IfErr, IfOk, IsTrue, List, OnOk, ℕ};
 ghost use Rattle.occ_term.specs.Messages.{message};
-ghost use Rattle.occ_code.specs.Compiled.{Program};
-ghost use Rattle.occ_code.specs.declared.task.Task.{Task};
+ghost use Rattle.occ_machine.specs.Compiled.{Program};
+ghost use Rattle.occ_machine.specs.declared.task.Task.{Task};
 ghost use Rattle.occ_proc.specs.Turns.{left_message};
 ghost use Rattle.occ_net_replay.specs.Replay.{HasTask, Net};
 ghost use Rattle.occ_net_tables.specs.Endings.{GoesOn};
@@ -13,7 +13,7 @@ ghost use Rattle.occ_net_tables.specs.Settling.{HasMid, HasStopped, Settles, Set
 use crate::ready::place_among;
 use crate::tables::Tables;
 use crate::tasks::{advance_task, is_ready, take_wait};
-use occ_code::{Code, Wait};
+use occ_machine::{Code, Wait};
 use occ_net_replay::Choice;
 use occ_proc::{Scratch, TurnEnd};
 use std::alloc::{AllocError, Global};

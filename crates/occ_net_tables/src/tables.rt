@@ -1,13 +1,13 @@
 //! The network: its parts, its start and its ending.
 ghost use Rattle.std.specs.Prelude.{◌≡◌, IfOk, List, None, map, replicate, ℕ};
-ghost use Rattle.occ_code.specs.Compiled.{Program};
+ghost use Rattle.occ_machine.specs.Compiled.{Program};
 ghost use Rattle.occ_net_replay.specs.Replay.{Net, ending_of, first_net, is_done, main_done, stopped_by};
 ghost use Rattle.occ_net_tables.specs.Endings.{ends_by};
 ghost use Rattle.occ_net_tables.specs.Holding.{Holds, communication_of};
 
 use crate::entries::{empty, no_counts};
 use crate::tasks::put_task;
-use occ_code::{Code, Task, Wait};
+use occ_machine::{Code, Task, Wait};
 use occ_net_replay::Ending;
 use occ_net_trace::Trace;
 use occ_term::{Errors, Fault, Frame};

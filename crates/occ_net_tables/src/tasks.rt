@@ -1,12 +1,12 @@
 //! Changes of one process's task, at its place of the table.
 ghost use Rattle.std.specs.Prelude.{◌≡◌, ◌↔◌, ◌+◌, ◌<◌, ◌^◌, IfOk, IsTrue, Some, length, slice_set};
-ghost use Rattle.occ_code.specs.SameStop.{ready_with};
-ghost use Rattle.occ_code.specs.declared.task.Task.{Task};
+ghost use Rattle.occ_machine.specs.SameStop.{ready_with};
+ghost use Rattle.occ_machine.specs.declared.task.Task.{Task};
 ghost use Rattle.occ_net_replay.specs.Replay.{HasTask};
 ghost use Rattle.occ_net_tables.specs.Tasks.{EndedBy, HasTurn, IsTaken, IsThere};
 ghost use Rattle.occ_proc.specs.Turns.{left_message};
 
-use occ_code::{Body, Task, Wait};
+use occ_machine::{Body, Task, Wait};
 use occ_proc::{Scratch, TurnEnd, advance_to_end};
 use std::alloc::{AllocError, Global};
 use std::mem;

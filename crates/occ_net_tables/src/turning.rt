@@ -9,7 +9,7 @@ ghost use Rattle.occ_net_tables.specs.Settling.{IsTurnAt, Standing, TurnsTo};
 
 use crate::tables::Tables;
 use crate::tasks::swap_task;
-use occ_code::{Code, Task, Wait};
+use occ_machine::{Code, Task, Wait};
 use std::alloc::{AllocError, Global};
 use std::mem;
 

@@ -5,10 +5,10 @@ use Rattle.std.specs.Option.{option_map}
 use Rattle.std.proofs.lemmas.List.{length-append, length-map, length-take-le, map-append, take_more}
 use Rattle.std.proofs.lemmas.List.Elements.{All-append, All-cons, All-nil}
 use Rattle.std.proofs.lemmas.Option.{none-some, slice_get-map, slice_get_read}
-use Rattle.occ_code.specs.Machine.{Body, Instruction}
-use Rattle.occ_code.specs.View.{instruction_of}
-use Rattle.occ_code.specs.declared.compiler.instr.Instr.{Instr}
-use Rattle.occ_code.specs.declared.compiler.instr.Slot.{Slot}
+use Rattle.occ_machine.specs.Machine.{Body, Instruction}
+use Rattle.occ_machine.specs.View.{instruction_of}
+use Rattle.occ_machine.specs.declared.instr.Instr.{Instr}
+use Rattle.occ_machine.specs.declared.instr.Slot.{Slot}
 use Rattle.occ_text.specs.Words.{LogicalLine}
 use Rattle.occ_places.specs.Located.{known}
 use Rattle.occ_places.specs.Places.{AreStopsIn, IsNameOf, Known, is_stop, stop_places}

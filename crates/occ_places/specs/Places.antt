@@ -2,10 +2,10 @@
 -- Manual: nothing; this is (own).
 use Rattle.std.specs.Prelude.{Bool, IsTrue, List, None, Option, Some, [], bytes_eq, false, if◌then◌else◌, length, map, nat_eq, slice_get, true, ℕ, ◌&&◌, ◌+◌, ◌-◌, ◌∷◌, ◌≡◌, ◌⊎◌}
 use Rattle.std.specs.List.{All, list_any}
-use Rattle.occ_code.specs.Compiled.{Program}
-use Rattle.occ_code.specs.Machine.{Body, Instruction, ChooseArm, Fork, Halt, LoopBack, Receive, Send}
-use Rattle.occ_code.specs.declared.task.Wait.{Wait}
-use Rattle.occ_code.specs.declared.task.Wait.TheVariants.{Ready, Took, Offers, Awaits, Chooses, Joins, Halted, Done, Faulted}
+use Rattle.occ_machine.specs.Compiled.{Program}
+use Rattle.occ_machine.specs.Machine.{Body, Instruction, ChooseArm, Fork, Halt, LoopBack, Receive, Send}
+use Rattle.occ_machine.specs.declared.task.Wait.{Wait}
+use Rattle.occ_machine.specs.declared.task.Wait.TheVariants.{Ready, Took, Offers, Awaits, Chooses, Joins, Halted, Done, Faulted}
 use Rattle.occ_text.specs.Words.{LogicalLine, Word, key, logical_line, mark, name}
 use Rattle.occ_text.specs.declared.token.Key.TheVariants as words
 use Rattle.occ_text.specs.declared.token.Sym.TheVariants as signs

@@ -1,15 +1,15 @@
 //! The stops of a body's code, held against those that the tree has.
 ghost use Rattle.std.specs.Prelude.{◌≡◌, ◌++◌, ◌∷◌, [], IfOk, IfSome, IsTrue, List, OnOk, Some, if◌then◌else◌, map, slice_get};
 ghost use Rattle.std.specs.List.{All};
-ghost use Rattle.occ_code.specs.Machine.{Instruction};
-ghost use Rattle.occ_code.specs.View.{instruction_of};
+ghost use Rattle.occ_machine.specs.Machine.{Instruction};
+ghost use Rattle.occ_machine.specs.View.{instruction_of};
 ghost use Rattle.occ_text.specs.Words.{logical_lines};
 ghost use Rattle.occ_places.specs.Places.{IsLineOf, IsStopIn, is_stop, next_place, place_of, stop_places};
 
 use crate::stop::{Stop, is_stop, next_place};
 use crate::text_lines::has_line;
 use crate::walk::Mark;
-use occ_code::{Instr, Slot};
+use occ_machine::{Instr, Slot};
 use occ_text::Line;
 use std::alloc::{AllocError, Global};
 

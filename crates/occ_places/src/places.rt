@@ -3,7 +3,7 @@ ghost use Rattle.std.specs.Prelude.{◌≡◌, map, option_map, slice_get};
 ghost use Rattle.occ_places.specs.Places.{name_of, stop_of, stops_of};
 
 use crate::stop::{Stop, first_of};
-use occ_code::Wait;
+use occ_machine::Wait;
 use std::marker::Model;
 
 /// What is known of a process.

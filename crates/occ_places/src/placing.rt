@@ -1,6 +1,6 @@
 //! The table of the places of a program.
 ghost use Rattle.std.specs.Prelude.{◌≡◌, [], IfOk, map};
-ghost use Rattle.occ_code.specs.View.{instruction_of};
+ghost use Rattle.occ_machine.specs.View.{instruction_of};
 ghost use Rattle.occ_text.specs.Words.{logical_lines};
 ghost use Rattle.occ_places.specs.Places.{AreStopsIn, AreStopsOf, Fits, IsNameOf};
 
@@ -10,7 +10,7 @@ use crate::scope::Around;
 use crate::stop::Stop;
 use crate::text_lines::has_proc;
 use crate::walk::{Branches, Mark, Walk};
-use occ_code::{Body, Code, Instr, Slot};
+use occ_machine::{Body, Code, Instr, Slot};
 use occ_text::Line;
 use occ_tree_grammar::tree::line::Action;
 use occ_tree_grammar::tree::process::{Item, Process, Program, Stmt};

@@ -1,9 +1,9 @@
 //! What a process stops at.
 ghost use Rattle.std.specs.Prelude.{◌≡◌, ◌+◌, ◌-◌, IfSome, Some};
-ghost use Rattle.occ_code.specs.View.{instruction_of};
+ghost use Rattle.occ_machine.specs.View.{instruction_of};
 ghost use Rattle.occ_places.specs.Places.{first_of, halts, is_alt, is_input, is_output, is_par, is_stop, next_place, stands_at};
 
-use occ_code::{Instr, Slot, Wait};
+use occ_machine::{Instr, Slot, Wait};
 
 /// What stands in the source where a process stops.
 #[derive(Clone, Copy)]

@@ -5,7 +5,7 @@ use Rattle.std.proofs.lemmas.Bool.Decides.{nat_tests}
 use Rattle.occ_term.specs.Runs.{Entry, entries, shown, shown_by}
 use Rattle.occ_board.specs.Traces.{Publishing, publishing}
 use Rattle.occ_choices.specs.Crews.{IsCrew, most_workers}
-use Rattle.occ_code.specs.Compiled.{Program}
+use Rattle.occ_machine.specs.Compiled.{Program}
 use Rattle.occ_net_replay.specs.Following.{or_limit}
 use Rattle.occ_net_replay.specs.Replay.{Net, ending_of}
 use Rattle.occ_net_tables.specs.declared.running.Outcome.{Outcome}

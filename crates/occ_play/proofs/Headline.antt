@@ -11,9 +11,10 @@ use Rattle.occ_term.specs.declared.fault.Fault.{Fault}
 use Rattle.occ_term.specs.System.{noted_in}
 use Rattle.occ_term.specs.Runs.{communications, messages_on, shown, shown_by, EndsBy}
 use Rattle.occ_term.specs.UnfoldedProgram.{UnfoldedProgram, IsWellFormed, declared, Lawful}
-use Rattle.occ_code.specs.Compiled.{Program, IsCodeOf, IsCompiledFrom, CodeRefuses}
-use Rattle.occ_code.specs.declared.compiler.code.CodeFault.{CodeFault}
-use Rattle.occ_code.specs.declared.compiler.code.CodeFault.TheVariants as code
+use Rattle.occ_machine.specs.Compiled.{Program, IsCompiledFrom}
+use Rattle.occ_code.specs.CodeOf.{IsCodeOf, CodeRefuses}
+use Rattle.occ_code.specs.declared.compiling.CodeFault.{CodeFault}
+use Rattle.occ_code.specs.declared.compiling.CodeFault.TheVariants as code
 use Rattle.occ_net_replay.specs.declared.choice.Choice.{Choice}
 use Rattle.occ_net_replay.specs.declared.ending.Ending.{Ending}
 use Rattle.occ_net_replay.specs.declared.ending.Ending.TheVariants as E

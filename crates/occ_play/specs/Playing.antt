@@ -18,12 +18,13 @@ use Rattle.occ_usage.specs.Refusals.{UsageRefuses}
 use Rattle.occ_term.specs.UnfoldedProgram.{UnfoldedProgram, declared, meaning, IsWellFormed, Lawful}
 use Rattle.occ_term.specs.System.{System, start, noted_in}
 use Rattle.occ_term.specs.Runs.{Event, Run, communications, shown, EndsBy}
-use Rattle.occ_code.specs.Compiled.{Program, IsCodeOf, IsQuantum, most_instructions}
+use Rattle.occ_machine.specs.Compiled.{Program, most_instructions}
+use Rattle.occ_code.specs.CodeOf.{IsCodeOf, IsQuantum}
 use Rattle.occ_check_meaning.specs.ProgramUnfolding.{UnfoldsTo}
 use Rattle.occ_check_names.specs.declared.fault.CheckFault.{CheckFault}
 use Rattle.occ_check.specs.CheckRefuses.{CheckRefuses}
-use Rattle.occ_code.specs.declared.compiler.code.CodeFault.{CodeFault}
-use Rattle.occ_code.specs.declared.compiler.code.CodeFault.TheVariants as code
+use Rattle.occ_code.specs.declared.compiling.CodeFault.{CodeFault}
+use Rattle.occ_code.specs.declared.compiling.CodeFault.TheVariants as code
 use Rattle.occ_net_replay.specs.declared.choice.Choice.{Choice}
 use Rattle.occ_net_replay.specs.declared.ending.Ending.TheVariants as E
 use Rattle.occ_term.specs.declared.fault.Errors.TheVariants.{Halt}

@@ -3,7 +3,7 @@
 use Rattle.std.specs.Prelude.{Bool, List, [], map, true, ℕ, ◌++◌, ◌≡◌}
 use Rattle.occ_term.specs.Runs.{Entry, shown, shown_by}
 use Rattle.occ_board.specs.Traces.{Publishing, publishing}
-use Rattle.occ_code.specs.Compiled.{Program}
+use Rattle.occ_machine.specs.Compiled.{Program}
 use Rattle.occ_net_replay.specs.declared.choice.Choice.{Choice}
 use Rattle.occ_net_tables.specs.declared.running.Outcome.{Outcome}
 use Rattle.occ_net_tables.specs.Holding.{communication_of}

@@ -10,7 +10,7 @@ ghost use Rattle.occ_play.specs.Working.{IsSomeCrewsAnswer, WorkersRefuse};
 use crate::fault::PlayFault;
 use crate::playing::{Options, Played, code_of, told};
 use occ_board::{Naming, Note, Publisher};
-use occ_code::Code;
+use occ_machine::Code;
 use occ_net_tables::Outcome;
 use occ_run::{Gate, into_replay, run_watched};
 use occ_shown::{Counted, write_answer};

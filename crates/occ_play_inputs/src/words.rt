@@ -2,7 +2,7 @@
 ghost use Rattle.std.specs.Prelude.{◌≡◌, ◌≤◌, ◌<◌, IfOk, IsTrue, unwrap_or};
 ghost use Rattle.std.specs.Option.{ForSome, option_copied};
 ghost use Rattle.occ_choices.specs.Crews.{IsCrew};
-ghost use Rattle.occ_code.specs.Compiled.{IsQuantum};
+ghost use Rattle.occ_code.specs.CodeOf.{IsQuantum};
 ghost use Rattle.occ_play_inputs.specs.Modes.{IsMode};
 ghost use Rattle.occ_play_inputs.specs.Paths.{AreApart};
 ghost use Rattle.occ_play_inputs.specs.Searches.{IsFull, IsSearch};

@@ -1,7 +1,7 @@
 //! Instructions that choose where a process goes on.
 ghost use Rattle.std.specs.Prelude.{◌≡◌, IfOk};
 ghost use Rattle.occ_term.specs.Selecting.{is_among};
-ghost use Rattle.occ_code.specs.Machine as machine;
+ghost use Rattle.occ_machine.specs.Machine as machine;
 ghost use Rattle.occ_proc.specs.Doing.{OnStack};
 
 use crate::stack::Stack;

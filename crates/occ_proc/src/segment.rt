@@ -1,12 +1,12 @@
 //! A turn that was taken.
 ghost use Rattle.std.specs.Prelude.{◌≡◌, ◌<◌, ◌+◌, ◌^◌, IfErr, IfOk, length};
 ghost use Rattle.std.specs.Arc.{arc_value};
-ghost use Rattle.occ_code.specs.Machine.{Stopping};
+ghost use Rattle.occ_machine.specs.Machine.{Stopping};
 ghost use Rattle.occ_proc.specs.Turns.{HasStop, Taken};
 
 use crate::scratch::Scratch;
 use crate::turns::advance;
-use occ_code::{Body, Task};
+use occ_machine::{Body, Task};
 use std::alloc::{AllocError, Global};
 use std::marker::Model;
 use std::sync::Arc;
@@ -31,7 +31,7 @@ impl Drop for Segment {
 
 impl Model for Segment {
     ghost use Rattle.std.specs.Arc.{arc_value};
-    ghost use Rattle.occ_code.specs.Machine.{Stopping};
+    ghost use Rattle.occ_machine.specs.Machine.{Stopping};
     ghost use Rattle.occ_proc.specs.Turns.{Taken};
 
     ghost Value = { Taken };

@@ -7,8 +7,8 @@ ghost use Rattle.occ_report.specs.Reports.{IsCircleOf, IsReport, count_text, hea
 
 use crate::standing::{Ends, write_circle, write_lines};
 use occ_choices::Plan;
-use occ_code::Code;
 use occ_ends::{ProcessUses, circle, ends_of};
+use occ_machine::Code;
 use occ_net_replay::Ending;
 use occ_net_tables::{Keep, Ran, run_tables};
 use occ_places::Places;

@@ -1,6 +1,6 @@
 //! What a process stands at, in bytes.
 ghost use Rattle.std.specs.Prelude.{◌≡◌, ◌++◌, IfOk, OnOk, Some, List, ℕ, codes, option_map, slice_get};
-ghost use Rattle.occ_code.specs.Compiled.{Program};
+ghost use Rattle.occ_machine.specs.Compiled.{Program};
 ghost use Rattle.occ_net_replay.specs.Replay.{Net};
 ghost use Rattle.occ_net_tables.specs.Holding.{Holds};
 ghost use Rattle.occ_net_replay.specs.Endings.{ending_text};
@@ -9,7 +9,7 @@ ghost use Rattle.occ_shown.specs.Answers.{names_of};
 ghost use Rattle.occ_report.specs.Reports.{lines_of, task_line, arm_channel_text, arms_text, awaited_text, branches_text, circle_text, halted_text, halting_text, line_text, name_text, offer_text, on_line, process_line, process_text, reader_text, standing_text, writer_text};
 
 use crate::messages::{write_message, write_name};
-use occ_code::{Arm, Wait};
+use occ_machine::{Arm, Wait};
 use occ_net_replay::Ending;
 use occ_net_tables::Tables;
 use occ_places::{Kind, Places, Stop};

@@ -1,6 +1,6 @@
 -- The outcome of a run is one of its own choices.
 use Rattle.std.proofs.Common.{◌≡◌, ◌∙◌, ℕ, List, [], ap, append-nil, map, subst, sym}
-use Rattle.occ_code.specs.Compiled.{Program}
+use Rattle.occ_machine.specs.Compiled.{Program}
 use Rattle.occ_net_replay.specs.Following.{or_limit}
 use Rattle.occ_net_replay.specs.Replay.{Net, Replays, ending_of}
 use Rattle.occ_net_tables.specs.declared.running.Outcome.{Outcome as Alone}

@@ -6,7 +6,7 @@ use mathlib.Core.Option.{some, some-ne-none, some-injective}
 use lib.ListN.{get_elem?}
 use Rattle.crossbeam_utils.specs.Register.{Turns, Forks, Merges}
 use Rattle.atomic_table.proofs.Lists.{at_set, at_snoc}
-use Rattle.occ_code.specs.declared.task.Task.{Task}
+use Rattle.occ_machine.specs.declared.task.Task.{Task}
 use Rattle.occ_run.specs.declared.tokens.Known.{Known}
 use Rattle.occ_run.specs.Tokens.{Among, AreApart, AreOthers, Checked, Fits, IsKeeper, Kept, at_end, holder, keeper, left_out, nobody, shown, teller, with_turn, without}
 

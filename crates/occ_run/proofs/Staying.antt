@@ -9,11 +9,11 @@ use Rattle.occ_term.specs.declared.message.Message.{Message}
 use Rattle.occ_term.specs.Frames.{Variables, is_held}
 use Rattle.occ_term.specs.System.{End}
 use Rattle.occ_term.specs.UnfoldedProgram.{UnfoldedProgram}
-use Rattle.occ_code.specs.Compiled.{Program}
-use Rattle.occ_code.specs.Machine.{Body}
-use Rattle.occ_code.specs.declared.task.Task.{Task}
-use Rattle.occ_code.specs.declared.task.Wait.{Wait}
-use Rattle.occ_code.specs.declared.task.Wait.TheVariants as W
+use Rattle.occ_machine.specs.Compiled.{Program}
+use Rattle.occ_machine.specs.Machine.{Body}
+use Rattle.occ_machine.specs.declared.task.Task.{Task}
+use Rattle.occ_machine.specs.declared.task.Wait.{Wait}
+use Rattle.occ_machine.specs.declared.task.Wait.TheVariants as W
 use Rattle.occ_net_replay.specs.declared.choice.Choice.{Choice}
 use Rattle.occ_net_replay.specs.Replay.{Gets, Gives, HasTask, Net, OneTurn, Replays, Settled, Tasks, arm_gets, begins, branch_task, error_gets, forks, goes_on, joined, joins, keyboard_gives, may_go, meets, ready_from, screen_gets, settles, skips, stays, task_gets, task_gives, took_turn, with_branches}
 use Rattle.occ_net_replay.specs.Waiting.{IsReplay, IsTurn}

@@ -1,7 +1,7 @@
 -- What the workers of a run gather.
 -- Manual: nothing; this is (own).
 use Rattle.std.specs.Prelude.{List, None, Some, false, length, replicate, ℕ, ◌≡◌, ◌≤◌, ◌⊎◌}
-use Rattle.occ_code.specs.Compiled.{Program}
+use Rattle.occ_machine.specs.Compiled.{Program}
 use Rattle.occ_net_replay.specs.Replay.{Net, Replays, ending_of}
 use Rattle.occ_net.specs.Networks.{Past}
 use Rattle.occ_net.specs.Outcomes.{Shows}

@@ -4,8 +4,8 @@ use Rattle.std.specs.Prelude.{IfErr, IfOk, IsTrue, List, Result, Some, [], slice
 use Rattle.std.specs.Arc.{arc_value}
 use Rattle.atomic_table.specs.Seated.{TableId}
 use Rattle.occ_term.specs.declared.fault.Errors.TheVariants.{Halt}
-use Rattle.occ_code.specs.Compiled.{Program}
-use Rattle.occ_code.specs.declared.task.Task.{Task}
+use Rattle.occ_machine.specs.Compiled.{Program}
+use Rattle.occ_machine.specs.declared.task.Task.{Task}
 use Rattle.occ_proc.specs.Turns.{Taken}
 use Rattle.occ_net_replay.specs.Replay.{HasTask, Net, may_go}
 use Rattle.occ_net.specs.declared.leasing.Lease.{Lease}

@@ -3,8 +3,8 @@
 use Rattle.std.specs.Prelude.{Bool, List, None, Option, Some, [], false, if◌then◌else◌, nat_eq, true, ℕ, ⊤, ◌∷◌, ◌≡◌, ◌⊎◌}
 use mathlib.Core.Option.{some}
 use lib.ListN.{get_elem?}
-use Rattle.occ_code.specs.declared.task.Task.{Task}
-use Rattle.occ_code.specs.declared.task.Wait.TheVariants.{Done}
+use Rattle.occ_machine.specs.declared.task.Task.{Task}
+use Rattle.occ_machine.specs.declared.task.Wait.TheVariants.{Done}
 use Rattle.occ_run.specs.declared.tokens.Known.{Known}
 
 abbrev pub no_task : Task

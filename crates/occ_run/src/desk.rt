@@ -20,7 +20,7 @@ use std::sync::Wait;
 pub trait OneRun {
     ghost use Rattle.std.specs.Prelude.{List, ℕ};
     ghost use Rattle.atomic_table.specs.Seated.{TableId};
-    ghost use Rattle.occ_code.specs.Compiled.{Program};
+    ghost use Rattle.occ_machine.specs.Compiled.{Program};
 
     ghost program: { Program };
 

@@ -3,7 +3,7 @@ ghost use Rattle.std.specs.Prelude.{◌≡◌, ◌<◌, ◌+◌, ◌^◌, IfErr,
 ghost use Rattle.std.specs.Arc.{arc_value};
 ghost use Rattle.occ_proc.specs.Turns.{HasStop};
 
-use occ_code::{Body, Task};
+use occ_machine::{Body, Task};
 use occ_proc::{Segment, turn};
 use std::alloc::{AllocError, Global};
 use std::sync::Arc;

@@ -1,6 +1,6 @@
 //! The outcome of a run as one of its choices.
 ghost use Rattle.std.specs.Prelude.{◌≡◌, List, map, ℕ};
-ghost use Rattle.occ_code.specs.Compiled.{Program};
+ghost use Rattle.occ_machine.specs.Compiled.{Program};
 ghost use Rattle.occ_net.specs.Networks.{IsState};
 ghost use Rattle.occ_net_replay.specs.Replay.{Net};
 ghost use Rattle.occ_net_tables.specs.Holding.{communication_of};

@@ -6,7 +6,7 @@ ghost use Rattle.occ_net.specs.Networks.{IsState, with_out};
 ghost use Rattle.occ_net.specs.Settling.{IsOwn};
 ghost use Rattle.occ_run.specs.Steps.{IsOpen, IsOver, IsStep, IsWake, KeepsCounts, TakesIn, first_stop};
 
-use occ_code::Task;
+use occ_machine::Task;
 use occ_net::{Lease, Network};
 use occ_proc::Segment;
 use std::alloc::{AllocError, Global};

@@ -11,7 +11,7 @@ use crate::progress::{Progress, Stop};
 use crate::tokens::new_tokens;
 use crate::workers::run_all;
 use occ_choices::is_crew;
-use occ_code::Code;
+use occ_machine::Code;
 use occ_net::{Network, Outcome};
 use std::alloc::Global;
 use std::marker::Brand;

@@ -6,7 +6,7 @@ ghost use Rattle.occ_run.specs.Tokens.{AreOthers, Checked, IsKeeper, holder, kee
 use atomic_table::{Join, Split};
 use crossbeam_utils::atomic::seq_cell::{Pass, RuledSeqCell};
 use crossbeam_utils::rule::{Outcome, Protocol};
-use occ_code::Task;
+use occ_machine::Task;
 use std::alloc::{AllocError, Global};
 use std::collections::LinkedList;
 use std::marker::{Brand, PhantomData};
@@ -43,7 +43,7 @@ pub type Token = Pass<[u64; 0], Known>;
 
 /// Names a task.
 pub trait Named {
-    ghost use Rattle.occ_code.specs.declared.task.Task.{Task};
+    ghost use Rattle.occ_machine.specs.declared.task.Task.{Task};
 
     ghost task: { Task };
 }

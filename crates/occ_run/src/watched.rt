@@ -23,7 +23,7 @@ use crate::workers::{Shared, work};
 use core::mem::replace_with;
 use occ_board::{Naming, Note, Publisher, Shown};
 use occ_choices::is_crew;
-use occ_code::Code;
+use occ_machine::Code;
 use occ_net::Outcome;
 use occ_net_trace::{Mark, News, Trace};
 use occ_shown::{is_shown, shown_as};

@@ -12,7 +12,7 @@ use Rattle.occ_term.specs.declared.protocol.Protocol.{Protocol}
 use Rattle.occ_term.specs.declared.protocol.Protocol.TheVariants.{Simple}
 use Rattle.occ_term.specs.Runs.{messages_on}
 use Rattle.occ_term.specs.UnfoldedProgram.{UnfoldedProgram, IsWellFormed, declared}
-use Rattle.occ_code.specs.SameStop.{FitsProtocol}
+use Rattle.occ_machine.specs.SameStop.{FitsProtocol}
 use Rattle.occ_net_replay.specs.Following.{AllFit, Followed}
 use Rattle.occ_net_replay.specs.Replay.{Net}
 use Rattle.occ_net_trace.specs.declared.communication.Communication.{Communication as Made}

@@ -1,6 +1,6 @@
 //! Runs, turn by turn.
 ghost use Rattle.std.specs.Prelude.{◌≡◌, ◌+◌, ◌<◌, ◌^◌, IfOk, List, None, OnOk, length, ℕ};
-ghost use Rattle.occ_code.specs.Compiled.{Program};
+ghost use Rattle.occ_machine.specs.Compiled.{Program};
 ghost use Rattle.occ_net_replay.specs.Replay.{Net, ending_of};
 ghost use Rattle.occ_net_tables.specs.Holding.{Holds};
 ghost use Rattle.occ_net_tables.specs.Settling.{Standing};
@@ -9,7 +9,7 @@ ghost use Rattle.occ_steps.specs.Steps.{IsSteps, StepsTo};
 use crate::heads::write_head;
 use crate::stops::write_tail;
 use crate::taking::next_turn;
-use occ_code::Code;
+use occ_machine::Code;
 use occ_net_replay::Choice;
 use occ_net_tables::Tables;
 use occ_net_trace::News;

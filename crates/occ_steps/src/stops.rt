@@ -10,7 +10,7 @@ ghost use Rattle.occ_term.specs.Runs.{entries, tag_shown};
 use crate::heads::write_numbers;
 use occ_board::Shown;
 use occ_chart::{words_of, write_end, write_message, write_name};
-use occ_code::{Arm, Task, Wait};
+use occ_machine::{Arm, Task, Wait};
 use occ_net_replay::Ending;
 use occ_net_trace::News;
 use occ_places::{Places, Stop};

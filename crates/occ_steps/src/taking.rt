@@ -6,7 +6,7 @@ ghost use Rattle.occ_net_tables.specs.Settling.{Standing};
 ghost use Rattle.occ_steps.specs.Steps.{NextTurn};
 
 use crate::heads::selected;
-use occ_code::{Code, Task};
+use occ_machine::{Code, Task};
 use occ_net_tables::Tables;
 use occ_proc::{Scratch, advance};
 use std::alloc::{AllocError, Global};

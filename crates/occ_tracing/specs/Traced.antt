@@ -1,7 +1,7 @@
 -- The trace of a run as a text of its own.
 -- Manual: nothing; this is (own).
 use Rattle.std.specs.Prelude.{List, [], map, ℕ, ◌++◌, ◌≡◌, ◌∷◌}
-use Rattle.occ_code.specs.Compiled.{Program}
+use Rattle.occ_machine.specs.Compiled.{Program}
 use Rattle.occ_json.specs.Json.{json_text}
 use Rattle.occ_net_replay.specs.declared.choice.Choice.{Choice}
 use Rattle.occ_net_replay.specs.declared.ending.Ending.{Ending}

@@ -1,5 +1,5 @@
 //! Each process of a source is known: it has a PROC, and each of its stops a line.
-use occ_code::{Code, Instr, Slot};
+use occ_machine::{Code, Instr, Slot};
 use occ_places::{Places, places_of};
 use occ_play::{Options, code_of};
 use occ_text::read_lines;

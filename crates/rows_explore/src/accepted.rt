@@ -1,6 +1,7 @@
 //! Programs that are accepted, and their code.
 use occ_check::unfold;
-use occ_code::{Code, compile};
+use occ_code::compile;
+use occ_machine::Code;
 use occ_term::Unfolded;
 use occ_text::{Source, read_lines};
 use occ_tree::parse;

@@ -1,6 +1,7 @@
 //! The layers below a run: the lines of a text, the usage check, and the code of a program.
 use crate::unfolded::{empty_par, letter, stops};
-use occ_code::{Body, Code, CodeFault, Instr, MOST_INSTRUCTIONS, compile};
+use occ_code::{CodeFault, MOST_INSTRUCTIONS, compile};
+use occ_machine::{Body, Code, Instr};
 use occ_term::{Item, Primitive, Protocol, Term, TermExpr, Unfolded};
 use occ_text::{Line, Source, Sym, TextFault, Token, read_lines};
 use occ_usage::{Checked, check_usage};

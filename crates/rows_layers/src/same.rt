@@ -2,7 +2,8 @@
 ghost use Rattle.std.specs.Prelude.{◌<◌};
 
 use crate::unfolded::letter;
-use occ_code::{Arm, Code, Task, Wait, compile_for};
+use occ_code::compile_for;
+use occ_machine::{Arm, Code, Task, Wait};
 use occ_term::{Errors, Frame, FrameCells};
 use occ_usage::check_usage;
 use sqlite_items::Items;

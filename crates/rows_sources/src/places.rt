@@ -1,7 +1,7 @@
 //! Where processes stand in their sources: what the report of a network tells that doesn't end, and that each process of a
 //! source is known with all its stops.
-use occ_code::{Code, Instr, Slot};
 use occ_explaining::report_of;
+use occ_machine::{Code, Instr, Slot};
 use occ_places::{Places, places_of};
 use occ_play::{Counted, Options, Plan, code_of, play_in};
 use occ_text::read_lines;

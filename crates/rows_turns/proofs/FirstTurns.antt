@@ -2,9 +2,9 @@
 use Rattle.std.proofs.Common.{◌≡◌, ◌+◌, ◌<◌, ◌≤◌, ◌^◌, List, [], ◌∷◌, Some, length, refl, sym, ap, subst, arith}
 use Rattle.std.specs.Prelude.{slice_get}
 use Rattle.occ_term.specs.Frames.{zero_frame}
-use Rattle.occ_code.specs.Compiled.{IsCompiled, Program, instructions_in}
-use Rattle.occ_code.specs.Machine.{Body}
-use Rattle.occ_code.specs.declared.task.Task.{Task}
+use Rattle.occ_machine.specs.Compiled.{IsCompiled, Program, instructions_in}
+use Rattle.occ_machine.specs.Machine.{Body}
+use Rattle.occ_machine.specs.declared.task.Task.{Task}
 use Rattle.occ_proc.specs.Turns.{HasStop}
 use Rattle.occ_net_replay.specs.Replay.{HasTask, at_start, begins, first_net, first_task}
 use Rattle.occ_net_replay.proofs.Law.{ready_tasks_stop}

@@ -1,6 +1,7 @@
 //! Programs without ALT have code, for every quantum that may be.
 use crate::accepted::accepted;
-use occ_code::{Code, CodeFault, Instr, compile_for};
+use occ_code::{CodeFault, compile_for};
+use occ_machine::{Code, Instr};
 use occ_usage::Checked;
 use std::alloc::{AllocError, Global};
 use std::process::Abort;

@@ -4,7 +4,8 @@ ghost use Rattle.occ_term.specs.Frames.{zero_frame};
 ghost use Rattle.occ_net_replay.specs.Replay.{first_task};
 
 use crate::accepted::accepted;
-use occ_code::{Body, Code, Task, Wait, compile_for};
+use occ_code::compile_for;
+use occ_machine::{Body, Code, Task, Wait};
 use occ_proc::{Scratch, Segment, advance, turn};
 use occ_term::Frame;
 use occ_usage::Checked;

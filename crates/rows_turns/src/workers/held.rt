@@ -5,7 +5,7 @@ use crate::accepted::code_of;
 use crate::workers::sources::PIPELINE;
 use crate::workers::watched::{PIPED, lines_told};
 use occ_board::{Board, Naming, Note, Opened, Publisher, Watcher};
-use occ_code::{Body, Code, Task};
+use occ_machine::{Body, Code, Task};
 use occ_proc::{Segment, turn};
 use occ_run::{Gate, RunFault, run_watched};
 use std::alloc::{AllocError, Global};

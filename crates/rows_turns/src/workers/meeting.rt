@@ -1,7 +1,7 @@
 //! Turns run at once, outside the lock: four of them look for one another.
 use crate::accepted::code_of;
 use crate::workers::sources::FOUR;
-use occ_code::{Body, Code, Task};
+use occ_machine::{Body, Code, Task};
 use occ_net_replay::Ending;
 use occ_proc::{Segment, turn};
 use occ_run::{Gate, run_workers};

@@ -2,7 +2,7 @@
 use crate::accepted::code_of;
 use crate::networks::LONG;
 use crate::workers::sources::{FOUR, LETTER};
-use occ_code::{Body, Task};
+use occ_machine::{Body, Task};
 use occ_net_replay::{Choice, Ending};
 use occ_proc::{Segment, turn};
 use occ_run::{FreeGate, Gate, RunFault, run_workers};

@@ -1,4 +1,4 @@
-use Rattle.occ_code.proofs.Counters as counters
+use Rattle.occ_code.proofs.LoopCounters as counters
 use Rattle.occ_code.proofs.laws.counters_are_apart.Goals as goal
 
 pub returns : goal.returns

@@ -1,5 +1,5 @@
 use Rattle.std.proofs.Common.{List, ℕ}
-use Rattle.occ_code.specs.Compiled.{Program}
+use Rattle.occ_machine.specs.Compiled.{Program}
 use Rattle.occ_net_replay.specs.Replay.{Net}
 use Rattle.occ_net_tables.specs.Holding.{Holds}
 use Rattle.occ_ends.specs.Ends.{AreWaits, AreWithin, next_noted}

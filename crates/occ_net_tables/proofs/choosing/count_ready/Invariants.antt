@@ -1,6 +1,6 @@
 use Rattle.std.proofs.Common.{◌≡◌, ◌+◌, ◌≤◌, drop, length}
 use Rattle.occ_term.specs.Selecting.{ready_among}
-use Rattle.occ_code.specs.declared.task.Arm.{Arm}
+use Rattle.occ_machine.specs.declared.task.Arm.{Arm}
 use Rattle.occ_net_tables.specs.Choosing.{offered_by}
 use Rattle.occ_net_tables.proofs.choosing.count_ready.Given as goal
 

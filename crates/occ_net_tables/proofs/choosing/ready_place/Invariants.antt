@@ -1,7 +1,7 @@
 use Rattle.std.proofs.Common.{◌≡◌, drop}
 use Rattle.std.specs.Prelude.{slice_get}
 use Rattle.occ_term.specs.Selecting.{ready_among}
-use Rattle.occ_code.specs.declared.task.Arm.{Arm}
+use Rattle.occ_machine.specs.declared.task.Arm.{Arm}
 use Rattle.occ_net_tables.specs.Choosing.{offered_by}
 use Rattle.occ_net_tables.proofs.choosing.ready_place.Given as goal
 

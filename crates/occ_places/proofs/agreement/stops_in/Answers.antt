@@ -1,5 +1,5 @@
 use Rattle.std.proofs.Common.{map}
-use Rattle.occ_code.specs.View.{instruction_of}
+use Rattle.occ_machine.specs.View.{instruction_of}
 use Rattle.occ_places.specs.Places.{place_of}
 use Rattle.occ_places.proofs.Adding.{place_met, read_there}
 use Rattle.occ_places.proofs.agreement.stops_in.Goals as goal

@@ -1,6 +1,6 @@
 use Rattle.std.proofs.Common.{◌≡◌, map, take}
 use Rattle.std.specs.List.{All}
-use Rattle.occ_code.specs.View.{instruction_of}
+use Rattle.occ_machine.specs.View.{instruction_of}
 use Rattle.occ_text.specs.Words.{logical_lines}
 use Rattle.occ_places.specs.Places.{IsStopIn, place_of, stop_places}
 use Rattle.occ_places.proofs.agreement.stops_in.Given as goal

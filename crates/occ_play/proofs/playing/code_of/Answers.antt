@@ -1,5 +1,5 @@
 use Rattle.std.proofs.Common.{refl, subst, sym}
-use Rattle.occ_code.specs.Compiled.{Program}
+use Rattle.occ_machine.specs.Compiled.{Program}
 use Rattle.occ_play.specs.Playing.{IsTextsCode}
 use Rattle.occ_play.proofs.Headline.{code_refuses, code_with}
 use Rattle.occ_play.proofs.playing.code_of.Goals as goal

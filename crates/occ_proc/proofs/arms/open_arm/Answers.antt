@@ -1,6 +1,6 @@
 use Rattle.std.proofs.Common.{◌∙◌, ap, subst, sym}
 use Rattle.occ_term.specs.declared.message.Part.TheVariants.{Many, Counted}
-use Rattle.occ_code.specs.Machine.{open_arm}
+use Rattle.occ_machine.specs.Machine.{open_arm}
 use Rattle.occ_proc.specs.Doing.{IsArm}
 use Rattle.occ_proc.proofs.Stacks.{if_ok_map}
 use Rattle.occ_proc.proofs.arms.open_arm.Goals as goal

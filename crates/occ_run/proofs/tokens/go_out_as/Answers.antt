@@ -1,5 +1,5 @@
 use Rattle.std.proofs.Common.{rules, subst}
-use Rattle.occ_code.specs.declared.task.Task.{Task}
+use Rattle.occ_machine.specs.declared.task.Task.{Task}
 use Rattle.occ_run.specs.Tokens.{AreOthers}
 use Rattle.crossbeam_utils.specs.Seq.{cell_view}
 use Rattle.occ_run.proofs.Moves.{goes_out}

@@ -1,5 +1,5 @@
 use Rattle.std.proofs.Common.{◌∙◌, ◌-◌, ◌+◌, ◌++◌, ℕ, ap, length, map}
-use Rattle.occ_code.specs.declared.task.Task.{Task}
+use Rattle.occ_machine.specs.declared.task.Task.{Task}
 use Rattle.occ_net_tables.specs.Holding.{communication_of}
 use Rattle.occ_shown.specs.Answers.{names_of}
 use Rattle.occ_steps.specs.Steps.{head_text, tail_text}

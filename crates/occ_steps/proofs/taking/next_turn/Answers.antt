@@ -1,7 +1,7 @@
 use Rattle.std.proofs.Common.{◌≡◌, ◌∙◌, ◌%◌, ◌<◌, ◌+◌, ◌^◌, ℕ, Some, sym, ap, subst, length}
 use Rattle.std.specs.Prelude.{slice_get}
-use Rattle.occ_code.specs.declared.task.Task.{Task}
-use Rattle.occ_code.specs.Machine.{Stopping}
+use Rattle.occ_machine.specs.declared.task.Task.{Task}
+use Rattle.occ_machine.specs.Machine.{Stopping}
 use Rattle.occ_net_replay.specs.Replay.{HasTask, ready_from, selected}
 use Rattle.occ_net_replay.proofs.Tables.{task_once}
 use Rattle.occ_net_tables.proofs.Branches.{has_body}

@@ -1,6 +1,6 @@
 use Rattle.std.proofs.Common.{◌≡◌, ◌∙◌, ◌+◌, ◌<◌, ◌≤◌, ◌^◌, ◌∷◌, ◌++◌, [], Bool, IsTrue, List, Some, ap, arith, length, rules, subst, sym, ℕ}
 use Rattle.std.specs.Prelude.{slice_get}
-use Rattle.occ_code.specs.SameStop.{IsRising}
+use Rattle.occ_machine.specs.SameStop.{IsRising}
 use Rattle.occ_net_replay.specs.declared.choice.Choice.{Choice}
 use Rattle.occ_net_replay.specs.Replay.{HasTask, Net, may_go, ready_from}
 use Rattle.occ_net_tables.specs.Holding.{Holds}

@@ -1,5 +1,5 @@
 use Rattle.std.proofs.Common.{◌∙◌, refl, sym, ap, subst, arith}
-use Rattle.occ_code.specs.declared.task.Wait.TheVariants as W
+use Rattle.occ_machine.specs.declared.task.Wait.TheVariants as W
 use Rattle.occ_net_replay.specs.Replay.{made_ready, standing}
 use Rattle.occ_net_tables.specs.Choosing.{TakesBy, by_input, input_arm}
 use Rattle.occ_net_tables.specs.Settling.{TookByte, TookFrom}

@@ -2,8 +2,8 @@ use Rattle.std.proofs.Common.{◌≡◌, ◌∙◌, [], refl, sym, ap, subst, So
 use Rattle.std.specs.Prelude.{slice_set, option_map}
 use Rattle.std.specs.Option.{option_map_or}
 use Rattle.std.proofs.lemmas.Option.{slice_get_within}
-use Rattle.occ_code.specs.SameStop.{IsRising}
-use Rattle.occ_code.specs.Machine.{Body}
+use Rattle.occ_machine.specs.SameStop.{IsRising}
+use Rattle.occ_machine.specs.Machine.{Body}
 use Rattle.occ_net_replay.specs.Replay.{branch_task, copied, first_task, ready_from, turns_at}
 use Rattle.occ_net_tables.specs.Ready.{put_in}
 use Rattle.occ_net_tables.proofs.Keys.{first_held}

@@ -1,7 +1,7 @@
 use Rattle.std.proofs.Common.{◌≡◌, ◌∙◌, refl, sym, ap, None, Some, arith}
 use Rattle.std.specs.Prelude.{slice_get, slice_set}
-use Rattle.occ_code.specs.SameStop.{ready_with}
-use Rattle.occ_code.specs.declared.task.Wait.TheVariants as W
+use Rattle.occ_machine.specs.SameStop.{ready_with}
+use Rattle.occ_machine.specs.declared.task.Wait.TheVariants as W
 use Rattle.occ_net_replay.specs.Replay.{arm_chosen, made_ready}
 use Rattle.occ_net_replay.specs.Waiting.{channels_of}
 use Rattle.occ_net_tables.specs.Choosing.{keyboard_at, offered_by}

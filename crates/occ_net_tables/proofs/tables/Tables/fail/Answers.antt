@@ -1,5 +1,5 @@
 use Rattle.std.proofs.Common.{refl}
-use Rattle.occ_code.specs.declared.task.Wait.TheVariants as W
+use Rattle.occ_machine.specs.declared.task.Wait.TheVariants as W
 use Rattle.occ_net_replay.specs.Replay.{made_ready}
 use Rattle.occ_net_tables.proofs.Between.{fails, there_old}
 use Rattle.occ_net_tables.proofs.Waits.{rests_faulted, sized_at_rest, there_of, within_of}

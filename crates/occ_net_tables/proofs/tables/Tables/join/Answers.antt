@@ -2,9 +2,9 @@ use Rattle.std.proofs.Common.{◌≡◌, ◌∙◌, false, refl, sym, ap, Some, 
 use Rattle.std.specs.Prelude.{slice_set}
 use mathlib.Core.Bool.{true≢false}
 use Rattle.occ_term.specs.Frames.{Variables, is_held}
-use Rattle.occ_code.specs.SameStop.{joined_with}
-use Rattle.occ_code.specs.declared.task.Wait.{Wait}
-use Rattle.occ_code.specs.declared.task.Wait.TheVariants as W
+use Rattle.occ_machine.specs.SameStop.{joined_with}
+use Rattle.occ_machine.specs.declared.task.Wait.{Wait}
+use Rattle.occ_machine.specs.declared.task.Wait.TheVariants as W
 use Rattle.occ_net_replay.specs.Replay.{merged}
 use Rattle.occ_net_replay.proofs.Tables.{set_other, task_once}
 use Rattle.occ_net_tables.specs.Keys.{set_all}

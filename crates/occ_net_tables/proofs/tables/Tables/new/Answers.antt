@@ -2,8 +2,8 @@ use Rattle.std.proofs.Common.{◌≡◌, ◌∙◌, ◌∷◌, ◌++◌, [], ℕ
 use Rattle.std.specs.Prelude.{slice_get, slice_set}
 use Rattle.occ_term.specs.declared.names.Channel.{Channel}
 use Rattle.occ_term.specs.Frames.{Variables, zero_frame}
-use Rattle.occ_code.specs.Machine.{Body}
-use Rattle.occ_code.specs.declared.task.Task.{Task}
+use Rattle.occ_machine.specs.Machine.{Body}
+use Rattle.occ_machine.specs.declared.task.Task.{Task}
 use Rattle.occ_net_replay.specs.Replay.{first_task}
 use Rattle.occ_net_tables.proofs.Start.{main_there, starts}
 use Rattle.occ_net_tables.proofs.tables.Tables.new.Goals as goal

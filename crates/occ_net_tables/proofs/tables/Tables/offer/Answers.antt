@@ -1,5 +1,5 @@
 use Rattle.std.proofs.Common.{◌∙◌, refl, sym, ap}
-use Rattle.occ_code.specs.declared.task.Wait.TheVariants as W
+use Rattle.occ_machine.specs.declared.task.Wait.TheVariants as W
 use Rattle.occ_net_replay.specs.Replay.{made_ready}
 use Rattle.occ_net_tables.specs.Keys.{entry_in}
 use Rattle.occ_net_tables.proofs.Between.{there_old, taker_of, was_read, was_given, offer_waits}

@@ -1,4 +1,4 @@
-use Rattle.occ_code.specs.declared.task.Wait.TheVariants as W
+use Rattle.occ_machine.specs.declared.task.Wait.TheVariants as W
 use Rattle.occ_net_tables.proofs.Roomy.{has_mid_as, settles_as}
 use Rattle.occ_net_tables.proofs.tables.Tables.settle_input.Goals as goal
 

@@ -1,7 +1,7 @@
 use Rattle.std.proofs.Common.{sym, subst}
 use Rattle.occ_term.specs.Messages.{message}
 use Rattle.occ_term.specs.declared.message.Message.{Message}
-use Rattle.occ_code.specs.declared.task.Wait.TheVariants as W
+use Rattle.occ_machine.specs.declared.task.Wait.TheVariants as W
 use Rattle.occ_proc.specs.Turns.{left_message}
 use Rattle.occ_net_tables.specs.Settling.{HasMid, Settles}
 use Rattle.occ_net_tables.proofs.Roomy.{has_mid_as, settles_as}

@@ -1,5 +1,5 @@
 use Rattle.std.proofs.Common.{refl, sym, subst}
-use Rattle.occ_code.specs.declared.task.Wait.{Wait}
+use Rattle.occ_machine.specs.declared.task.Wait.{Wait}
 use Rattle.occ_net_tables.specs.declared.tables.Tables.{Tables}
 use Rattle.occ_net_tables.specs.Settling.{HasMid, LeftReady, Settles}
 use Rattle.occ_net_tables.proofs.tables.Tables.settle_wait.Goals as goal

@@ -1,7 +1,7 @@
 use Rattle.std.proofs.Common.{◌≡◌, ◌∙◌, refl, sym, ap, ◌∷◌, ◌++◌, Some, []}
 use Rattle.std.specs.Prelude.{slice_get, slice_set}
-use Rattle.occ_code.specs.SameStop.{ready_with}
-use Rattle.occ_code.specs.declared.task.Wait.TheVariants as W
+use Rattle.occ_machine.specs.SameStop.{ready_with}
+use Rattle.occ_machine.specs.declared.task.Wait.TheVariants as W
 use Rattle.occ_net_replay.specs.Replay.{made_ready}
 use Rattle.occ_net_replay.proofs.Tables.{set_other}
 use Rattle.occ_net_trace.specs.declared.communication.End.TheVariants.{Process}

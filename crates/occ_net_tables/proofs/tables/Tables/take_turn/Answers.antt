@@ -1,8 +1,8 @@
 use Rattle.std.proofs.Common.{◌≡◌, ◌∙◌, ◌%◌, ℕ, refl, sym, ap, subst, length, Some, arith}
 use Rattle.std.specs.Prelude.{slice_get}
 use Rattle.occ_term.specs.Messages.{message}
-use Rattle.occ_code.specs.declared.task.Wait.{Wait}
-use Rattle.occ_code.specs.declared.task.Wait.TheVariants as W
+use Rattle.occ_machine.specs.declared.task.Wait.{Wait}
+use Rattle.occ_machine.specs.declared.task.Wait.TheVariants as W
 use Rattle.occ_proc.specs.Turns.{left_message}
 use Rattle.occ_proc.specs.declared.turn_end.TurnEnd.{TurnEnd}
 use Rattle.occ_proc.specs.declared.turn_end.TurnEnd.TheVariants as E

@@ -1,5 +1,0 @@
-use Rattle.occ_code.specs.Cells.{Gathered}
-use Rattle.occ_code.proofs.compiler.cells.cells_among.Given as goal
-
-abbrev pub invariant-loop-row : goal.invariant-loop-row
-invariant-loop-row l = Gathered l.rows l.row-index l.cells l.reached

@@ -1,5 +1,0 @@
-use Rattle.std.proofs.Common.{rules}
-use Rattle.occ_code.proofs.compiler.code.compile.Goals as goal
-
-pub returns-clause-compiled : goal.returns-clause-compiled
-returns-clause-compiled c = search rules

@@ -1,0 +1,142 @@
+//! The code round the arms of an ALT, and round choices and arms for each value of an index.
+ghost use Rattle.std.specs.Prelude.{◌≡◌, ◌∷◌, [], ◌++◌, ◌-◌, ◌+◌, ◌<◌, OnOk, List, length, pos, ℕ};
+ghost use Rattle.occ_term.specs.Storing.{index_of};
+ghost use Rattle.occ_term.specs.View.{expression_of, place_of, replicator_of, test_of};
+ghost use Rattle.occ_machine.specs.Machine as machine;
+ghost use Rattle.occ_code.specs.Expressions.{counting_code, input_opening, skip_opening};
+ghost use Rattle.occ_code.specs.Emits.{Behind, Emits};
+ghost use Rattle.occ_machine.specs.declared.instr.Instr.{Instr};
+
+use crate::expressions::{emit_counting, emit_expression, emit_place_before};
+use crate::pieces::{emitted, put, put_at, since};
+use occ_machine::Instr;
+use occ_term::{Place, Replicator, TermExpr};
+use std::alloc::{AllocError, Global};
+
+/// The number of an arm that stands before what was emitted since the end.
+fn arm_number(code: &Vec<Instr<u32>>, end: usize) -> i64
+    ensures { result ≡ pos (length code.now.items - end + 1) }
+{
+    let behind = code.as_slice().len().saturating_sub(end);
+    behind as i64 + 1
+}
+
+/// What opens an arm whose process is behind SKIP.
+pub(crate) fn emit_skip_opening(
+    alloc: Global,
+    test: &TermExpr,
+    end: usize,
+    code: &mut Vec<Instr<u32>>,
+) -> Result<(), AllocError>
+    ensures { OnOk result (Emits code.old.items (skip_opening (expression_of test.now) (length code.old.items - end + 1)) code.new.items) }
+{
+    let number = arm_number(code, end);
+    put(code, Instr::OpenSkip(number))?;
+    put(code, Instr::IfTrue(1))?;
+    emit_expression(alloc, test, code)?;
+    Ok(())
+}
+
+/// What opens an arm that inputs from a channel.
+pub(crate) fn emit_input_opening(
+    alloc: Global,
+    test: &Option<TermExpr>,
+    channel: &Place,
+    end: usize,
+    code: &mut Vec<Instr<u32>>,
+) -> Result<(), AllocError>
+    ensures { OnOk result (Emits code.old.items (input_opening (test_of test.now) (place_of channel.now) (length code.old.items - end + 1)) code.new.items) }
+{
+    let number = arm_number(code, end);
+    let before = emitted(code);
+    emit_place_before(alloc, channel, Instr::OpenInput(number), code)?;
+    match test {
+        None => Ok(()),
+        Some(test) => {
+            put(code, Instr::IfTrue(since(code, before)))?;
+            emit_expression(alloc, test, code)?;
+            Ok(())
+        }
+    }
+}
+
+/// The start of an arm before others: what is done once it is taken was emitted since it was opened.
+pub(crate) fn emit_taken(
+    before: usize,
+    opened: usize,
+    end: usize,
+    code: &mut Vec<Instr<u32>>,
+) -> Result<(), AllocError>
+    ensures { OnOk result (Emits code.old.items (machine.PassArms (before - end) (1 + length code.old.items - before) ∷ machine.IfTaken (length code.old.items - opened) ∷ []) code.new.items) }
+{
+    put(code, Instr::IfTaken(since(code, opened)))?;
+    emit_passing(before, end, code)?;
+    Ok(())
+}
+
+/// Before arms that were emitted since there were so many instructions.
+pub(crate) fn emit_passing(
+    before: usize,
+    end: usize,
+    code: &mut Vec<Instr<u32>>,
+) -> Result<(), AllocError>
+    ensures { OnOk result (Emits code.old.items (machine.PassArms (before - end) (length code.old.items - before) ∷ []) code.new.items) }
+{
+    let last = before.saturating_sub(end);
+    put(code, Instr::PassArms(last, since(code, before)))?;
+    Ok(())
+}
+
+/// The start of choices for each value of an index, which were emitted behind the jump back at the place.
+pub(crate) fn emit_next(
+    alloc: Global,
+    over: &Replicator,
+    place: usize,
+    code: &mut Vec<Instr<u32>>,
+) -> Result<(), AllocError>
+    requires { place < length code.old.items }
+    ensures { OnOk result ((before : List (Instr ℕ)) (body : List machine.Instruction) → length before ≡ place → Behind before body code.old.items
+        → Emits before (counting_code (replicator_of over.now) ++ machine.NextChoice (index_of (replicator_of over.now)) (length body + 1) ∷ (body ++ machine.BackToChoice (length body + 1) ∷ [])) code.new.items) }
+{
+    let back = since(code, place);
+    put_at(code, place, Instr::BackToChoice(back));
+    put(code, Instr::NextChoice(over.index, back))?;
+    emit_counting(alloc, over, code)?;
+    Ok(())
+}
+
+/// The start of arms for each value of an index, which were emitted behind the jump back at the place.
+pub(crate) fn emit_each_value(
+    alloc: Global,
+    over: &Replicator,
+    place: usize,
+    code: &mut Vec<Instr<u32>>,
+) -> Result<(), AllocError>
+    requires { place < length code.old.items }
+    ensures { OnOk result ((before : List (Instr ℕ)) (body : List machine.Instruction) → length before ≡ place → Behind before body code.old.items
+        → Emits before (machine.SetAgain (index_of (replicator_of over.now)) (length (counting_code (replicator_of over.now)) + 2)
+        ∷ (counting_code (replicator_of over.now) ++ machine.NextChoice (index_of (replicator_of over.now)) (length body + 2)
+        ∷ machine.Push (pos 0) ∷ (body ++ machine.BackToChoice (length body + 2) ∷ []))) code.new.items) }
+{
+    let before = emitted(code);
+    put(code, Instr::Push(0))?;
+    emit_next(alloc, over, place, code)?;
+    put(code, Instr::SetAgain(over.index, since(code, before)))?;
+    Ok(())
+}
+
+/// The start and the end of an ALT whose arms were emitted behind the choice at the place.
+pub(crate) fn emit_alt(
+    pri: bool,
+    place: usize,
+    code: &mut Vec<Instr<u32>>,
+) -> Result<(), AllocError>
+    requires { place < length code.old.items }
+    ensures { OnOk result ((before : List (Instr ℕ)) (body : List machine.Instruction) → length before ≡ place → Behind before body code.old.items
+        → Emits before (machine.Push (pos 0) ∷ (body ++ machine.ChooseArm pri (length body) ∷ [])) code.new.items) }
+{
+    let back = since(code, place).saturating_sub(1);
+    put_at(code, place, Instr::ChooseArm(pri, back));
+    put(code, Instr::Push(0))?;
+    Ok(())
+}

@@ -1,0 +1,500 @@
+//! The code of terms.
+ghost use Rattle.std.specs.Prelude.{◌≡◌, ◌∷◌, [], ◌++◌, ◌-◌, ◌+◌, ◌*◌, ◌≤◌, ◌<◌, IfOk, OnOk, List, length, map, ℕ};
+ghost use Rattle.occ_term.specs.Storing.{index_of};
+ghost use Rattle.occ_term.specs.Terms as terms;
+ghost use Rattle.occ_term.specs.View.{arm_of, arms_of, branches_of, choice_of, choices_of, declarations_of, expression_of, items_of, option_of, options_of, place_of, reception_of, replicator_of, targets_of, term_of, terms_of, variant_of, variants_of};
+ghost use Rattle.occ_machine.specs.Machine as machine;
+ghost use Rattle.occ_code.specs.Expressions.{counting_code, declarations_code, expression_code, items_code, par_code, place_code, storing_code};
+ghost use Rattle.occ_code.specs.Emitted.{arms_code, list_code, choices_code, else_code, options_code, term_code, terms_code, variants_code};
+ghost use Rattle.occ_code.specs.Emits.{Behind, Emits};
+ghost use Rattle.occ_machine.specs.declared.instr.Instr.{Instr};
+
+use crate::arms::{
+    emit_alt, emit_each_value, emit_input_opening, emit_next, emit_passing, emit_skip_opening,
+    emit_taken,
+};
+use crate::expressions::{
+    emit_assignment, emit_counting, emit_declaration, emit_declarations, emit_expression,
+    emit_items, emit_naming, emit_place, emit_place_before, emit_storing,
+};
+use crate::pieces::{emitted, put, put_at, since};
+use occ_machine::Instr;
+use occ_term::{
+    Arm, Branch, Choice, Declaration, Item, Place, Reception, Replicator, Selection, Target, Term,
+    TermExpr, Variant,
+};
+use sqlite_items::Items;
+use std::alloc::{AllocError, Global};
+
+/// The code of a term, whose replicated SEQs have the counters from the slot on: each one round it has put an instruction.
+#[cycle(terms)]
+pub(crate) fn emit_term(
+    alloc: Global,
+    slot: u64,
+    term: &Term,
+    code: &mut Vec<Instr<u32>>,
+) -> Result<(), AllocError>
+    requires room { slot + 2 ≤ 2 * length code.old.items }
+    ensures { OnOk result (Emits code.old.items (term_code slot (term_of term.now)) code.new.items) }
+{
+    match term {
+        Term::Skip => Ok(()),
+        Term::Stop => put(code, Instr::Halt),
+        Term::Assign(targets, values) => {
+            emit_assignment(alloc, targets.as_slice(), values.as_slice(), code)
+        }
+        Term::Input(channel, targets) => emit_input(alloc, channel, targets.as_slice(), code),
+        Term::Output(channel, tag, items) => {
+            emit_output(alloc, channel, *tag, items.as_slice(), code)
+        }
+        Term::VariantInput(channel, variants) => {
+            emit_variants(alloc, slot, variants.as_slice(), code)?;
+            emit_place_before(alloc, channel, Instr::Receive, code)?;
+            Ok(())
+        }
+        Term::Seq(parts) => emit_terms(alloc, slot, parts.as_slice(), code),
+        Term::Par(branches) => emit_par(alloc, branches.as_slice(), code),
+        Term::Alt(pri, arms) => {
+            let end = emitted(code);
+            put(code, Instr::ChooseArm(*pri, 0))?;
+            emit_arms(alloc, slot, arms.as_slice(), end, code)?;
+            emit_alt(*pri, end, code)?;
+            Ok(())
+        }
+        Term::If(choices) => {
+            let end = emitted(code);
+            put(code, Instr::Halt)?;
+            emit_choices(alloc, slot, choices.as_slice(), end, code)?;
+            Ok(())
+        }
+        Term::Case(selector, options) => {
+            let end = emitted(code);
+            emit_else(alloc, slot, options.as_slice(), code)?;
+            emit_options(alloc, slot, options.as_slice(), end, code)?;
+            emit_expression(alloc, selector, code)?;
+            Ok(())
+        }
+        Term::While(test, body) => {
+            let place = emitted(code);
+            put(code, Instr::LoopBack(0))?;
+            emit_term(alloc, slot, body.get(), code)?;
+            emit_test(alloc, test, place, code)?;
+            Ok(())
+        }
+        Term::Each(over, body) => {
+            let place = emitted(code);
+            put(code, Instr::LoopBack(0))?;
+            emit_term(alloc, slot + 2, body.get(), code)?;
+            emit_passes(alloc, slot, over, place, code)?;
+            Ok(())
+        }
+        Term::Clear(_, first, count) => put(code, Instr::ClearCells(*first, *count)),
+        Term::Local(_, first, value) => emit_naming(alloc, *first, value, code),
+    }
+}
+
+/// Parts in order.
+#[cycle(terms)]
+fn emit_terms(
+    alloc: Global,
+    slot: u64,
+    parts: &[Term],
+    code: &mut Vec<Instr<u32>>,
+) -> Result<(), AllocError>
+    requires room { slot + 2 ≤ 2 * length code.old.items }
+    ensures { OnOk result (Emits code.old.items (terms_code slot (terms_of parts.now)) code.new.items) }
+{
+    let mut count = parts.len();
+    while count > 0 {
+        count -= 1;
+        emit_term(alloc, slot, &parts[count], code)?;
+    }
+    Ok(())
+}
+
+fn emit_input(
+    alloc: Global,
+    channel: &Place,
+    targets: &[Target],
+    code: &mut Vec<Instr<u32>>,
+) -> Result<(), AllocError>
+    ensures { OnOk result (Emits code.old.items ((place_code (place_of channel.now) ++ machine.Receive ∷ []) ++ storing_code (targets_of targets.now)) code.new.items) }
+{
+    emit_storing(alloc, targets, code)?;
+    emit_place_before(alloc, channel, Instr::Receive, code)?;
+    Ok(())
+}
+
+fn emit_output(
+    alloc: Global,
+    channel: &Place,
+    tag: Option<u32>,
+    items: &[Item],
+    code: &mut Vec<Instr<u32>>,
+) -> Result<(), AllocError>
+    ensures { OnOk result (Emits code.old.items (place_code (place_of channel.now) ++ (items_code (items_of items.now) ++ machine.Send tag ∷ [])) code.new.items) }
+{
+    put(code, Instr::Send(tag))?;
+    emit_items(alloc, items, code)?;
+    emit_place(alloc, channel, code)?;
+    Ok(())
+}
+
+/// The start of the branches of a PAR, where there are any.
+fn emit_par(
+    alloc: Global,
+    branches: &[Branch],
+    code: &mut Vec<Instr<u32>>,
+) -> Result<(), AllocError>
+    ensures { OnOk result (Emits code.old.items (par_code (branches_of branches.now)) code.new.items) }
+{
+    if branches.is_empty() {
+        return Ok(());
+    }
+    let numbers = branch_numbers(alloc, branches)?;
+    put(code, Instr::Fork(numbers))?;
+    Ok(())
+}
+
+fn branch_numbers(alloc: Global, branches: &[Branch]) -> Result<Items<u32>, AllocError>
+    ensures { IfOk result (λ numbers. numbers ≡ map (λ branch. branch.number) branches.now) }
+{
+    let mut numbers = Items::new(alloc);
+    for branch in branches {
+        numbers.push(branch.number)?;
+    }
+    Ok(numbers)
+}
+
+/// The test of a loop whose body was emitted behind the jump back at the place.
+fn emit_test(
+    alloc: Global,
+    test: &TermExpr,
+    place: usize,
+    code: &mut Vec<Instr<u32>>,
+) -> Result<(), AllocError>
+    requires { place < length code.old.items }
+    ensures { OnOk result ((before : List (Instr ℕ)) (body : List machine.Instruction) → length before ≡ place → Behind before body code.old.items
+        → Emits before (expression_code (expression_of test.now) ++ machine.Choose (length body + 1) ∷ (body ++ machine.LoopBack (length (expression_code (expression_of test.now)) + 1 + length body) ∷ [])) code.new.items) }
+{
+    put(code, Instr::Choose(since(code, place)))?;
+    emit_expression(alloc, test, code)?;
+    let start = since(code, place).saturating_sub(1);
+    put_at(code, place, Instr::LoopBack(start));
+    Ok(())
+}
+
+/// The start of a replicated SEQ whose body was emitted behind the jump back at the place.
+fn emit_passes(
+    alloc: Global,
+    slot: u64,
+    over: &Replicator,
+    place: usize,
+    code: &mut Vec<Instr<u32>>,
+) -> Result<(), AllocError>
+    requires { place < length code.old.items }
+    ensures { OnOk result ((before : List (Instr ℕ)) (body : List machine.Instruction) → length before ≡ place → Behind before body code.old.items
+        → Emits before (counting_code (replicator_of over.now) ++ machine.Begin slot (index_of (replicator_of over.now)) (length body + 2) ∷ machine.Pass slot (index_of (replicator_of over.now)) (length body + 1) ∷ (body ++ machine.LoopBack (length body + 1) ∷ [])) code.new.items) }
+{
+    let back = since(code, place);
+    put_at(code, place, Instr::LoopBack(back));
+    put(code, Instr::Pass(slot, over.index, back))?;
+    put(code, Instr::Begin(slot, over.index, since(code, place)))?;
+    emit_counting(alloc, over, code)?;
+    Ok(())
+}
+
+/// Choices in order. Their bodies go on behind what there was of the code at the end.
+#[cycle(terms)]
+fn emit_choices(
+    alloc: Global,
+    slot: u64,
+    choices: &[Choice],
+    end: usize,
+    code: &mut Vec<Instr<u32>>,
+) -> Result<(), AllocError>
+    requires room { slot + 2 ≤ 2 * length code.old.items }
+    requires end { end ≤ length code.old.items }
+    ensures { OnOk result (Emits code.old.items (choices_code slot (choices_of choices.now) (length code.old.items - end)) code.new.items) }
+{
+    let mut count = choices.len();
+    while count > 0 {
+        count -= 1;
+        emit_choice(alloc, slot, &choices[count], end, code)?;
+    }
+    Ok(())
+}
+
+/// A choice before others.
+#[cycle(terms)]
+fn emit_choice(
+    alloc: Global,
+    slot: u64,
+    choice: &Choice,
+    end: usize,
+    code: &mut Vec<Instr<u32>>,
+) -> Result<(), AllocError>
+    requires room { slot + 2 ≤ 2 * length code.old.items }
+    requires end { end ≤ length code.old.items }
+    ensures { OnOk result ((before : List (Instr ℕ)) (others : terms.Choices) → end ≤ length before → Emits before (choices_code slot others (length before - end)) code.old.items
+        → Emits before (choices_code slot (choice_of choice.now others) (length before - end)) code.new.items) }
+{
+    match choice {
+        Choice::When(test, body) => {
+            let before = emitted(code);
+            put(code, Instr::Jump(since(code, end)))?;
+            emit_term(alloc, slot, body, code)?;
+            emit_choose(alloc, test, before, code)?;
+            Ok(())
+        }
+        Choice::DeclaredChoices(declaration, within) => {
+            emit_choices(alloc, slot, within.as_slice(), end, code)?;
+            emit_declaration(alloc, declaration, code)?;
+            Ok(())
+        }
+        Choice::EachChoice(over, within) => {
+            let place = emitted(code);
+            put(code, Instr::BackToChoice(0))?;
+            emit_choices(alloc, slot, within.as_slice(), end, code)?;
+            emit_next(alloc, over, place, code)?;
+            Ok(())
+        }
+    }
+}
+
+/// The test of a choice, whose body was emitted since there were so many instructions.
+fn emit_choose(
+    alloc: Global,
+    test: &TermExpr,
+    before: usize,
+    code: &mut Vec<Instr<u32>>,
+) -> Result<(), AllocError>
+    ensures { OnOk result (Emits code.old.items (expression_code (expression_of test.now) ++ machine.Choose (length code.old.items - before) ∷ []) code.new.items) }
+{
+    put(code, Instr::Choose(since(code, before)))?;
+    emit_expression(alloc, test, code)?;
+    Ok(())
+}
+
+/// Arms in order. What is done once one is taken goes on behind what there was of the code at the end.
+#[cycle(terms)]
+fn emit_arms(
+    alloc: Global,
+    slot: u64,
+    arms: &[Arm],
+    end: usize,
+    code: &mut Vec<Instr<u32>>,
+) -> Result<(), AllocError>
+    requires room { slot + 2 ≤ 2 * length code.old.items }
+    requires end { end ≤ length code.old.items }
+    ensures { OnOk result (Emits code.old.items (arms_code slot (arms_of arms.now) (length code.old.items - end)) code.new.items) }
+{
+    let mut count = arms.len();
+    while count > 0 {
+        count -= 1;
+        emit_arm(alloc, slot, &arms[count], end, code)?;
+    }
+    Ok(())
+}
+
+/// An arm before others.
+#[cycle(terms)]
+fn emit_arm(
+    alloc: Global,
+    slot: u64,
+    arm: &Arm,
+    end: usize,
+    code: &mut Vec<Instr<u32>>,
+) -> Result<(), AllocError>
+    requires room { slot + 2 ≤ 2 * length code.old.items }
+    requires end { end ≤ length code.old.items }
+    ensures { OnOk result ((before : List (Instr ℕ)) (others : terms.Arms) → end ≤ length before → Emits before (arms_code slot others (length before - end)) code.old.items
+        → Emits before (arms_code slot (arm_of arm.now others) (length before - end)) code.new.items) }
+{
+    let before = emitted(code);
+    match arm {
+        Arm::SkipArm(test, body) => {
+            emit_skip_opening(alloc, test, end, code)?;
+            let opened = emitted(code);
+            put(code, Instr::Jump(since(code, end)))?;
+            emit_term(alloc, slot, body, code)?;
+            emit_taken(before, opened, end, code)?;
+            Ok(())
+        }
+        Arm::InputArm(test, channel, list) => {
+            emit_input_opening(alloc, test, channel, end, code)?;
+            let opened = emitted(code);
+            put(code, Instr::Jump(since(code, end)))?;
+            emit_list(alloc, slot, list, code)?;
+            emit_taken(before, opened, end, code)?;
+            Ok(())
+        }
+        Arm::DeclaredArms(declaration, within) => {
+            emit_arms(alloc, slot, within.as_slice(), end, code)?;
+            emit_declaration(alloc, declaration, code)?;
+            emit_passing(before, end, code)?;
+            Ok(())
+        }
+        Arm::EachArm(over, within) => {
+            put(code, Instr::BackToChoice(0))?;
+            put(code, Instr::DropOne)?;
+            emit_arms(alloc, slot, within.as_slice(), end, code)?;
+            emit_each_value(alloc, over, before, code)?;
+            emit_passing(before, end, code)?;
+            Ok(())
+        }
+    }
+}
+
+/// What takes a message, and what is done then.
+#[cycle(terms)]
+fn emit_list(
+    alloc: Global,
+    slot: u64,
+    list: &Reception,
+    code: &mut Vec<Instr<u32>>,
+) -> Result<(), AllocError>
+    requires room { slot + 2 ≤ 2 * length code.old.items }
+    ensures { OnOk result (Emits code.old.items (list_code slot (reception_of list.now)) code.new.items) }
+{
+    match list {
+        Reception::Plain(targets, body) => {
+            emit_term(alloc, slot, body, code)?;
+            emit_storing(alloc, targets.as_slice(), code)?;
+            Ok(())
+        }
+        Reception::Tagged(variants) => emit_variants(alloc, slot, variants.as_slice(), code),
+    }
+}
+
+/// Options in order, ELSE left out. Their bodies go on behind what there was of the code at the end.
+#[cycle(terms)]
+fn emit_options(
+    alloc: Global,
+    slot: u64,
+    options: &[Selection],
+    end: usize,
+    code: &mut Vec<Instr<u32>>,
+) -> Result<(), AllocError>
+    requires room { slot + 2 ≤ 2 * length code.old.items }
+    requires end { end ≤ length code.old.items }
+    ensures { OnOk result (Emits code.old.items (options_code slot (options_of options.now) (length code.old.items - end)) code.new.items) }
+{
+    let mut count = options.len();
+    while count > 0 {
+        count -= 1;
+        emit_option(alloc, slot, &options[count], end, code)?;
+    }
+    Ok(())
+}
+
+/// An option before others.
+#[cycle(terms)]
+fn emit_option(
+    alloc: Global,
+    slot: u64,
+    option: &Selection,
+    end: usize,
+    code: &mut Vec<Instr<u32>>,
+) -> Result<(), AllocError>
+    requires room { slot + 2 ≤ 2 * length code.old.items }
+    ensures { OnOk result ((before : List (Instr ℕ)) (others : terms.Options) → end ≤ length before → Emits before (options_code slot others (length before - end)) code.old.items
+        → Emits before (options_code slot (option_of option.now others) (length before - end)) code.new.items) }
+{
+    match option {
+        Selection::Among(constants, declarations, body) => {
+            let before = emitted(code);
+            let past = since(code, end);
+            put(code, Instr::Jump(past))?;
+            emit_term(alloc, slot, body, code)?;
+            emit_among(alloc, constants, declarations.as_slice(), before, code)?;
+            Ok(())
+        }
+        Selection::Otherwise(_, _) => Ok(()),
+    }
+}
+
+/// The constants and the declarations of an option, whose body was emitted since there were so many instructions.
+fn emit_among(
+    alloc: Global,
+    constants: &Items<i64>,
+    declarations: &[Declaration],
+    before: usize,
+    code: &mut Vec<Instr<u32>>,
+) -> Result<(), AllocError>
+    ensures { OnOk result (Emits code.old.items (machine.IfAmong constants.now (length (declarations_code (declarations_of declarations.now)) + length code.old.items - before) ∷ declarations_code (declarations_of declarations.now)) code.new.items) }
+{
+    emit_declarations(alloc, declarations, code)?;
+    let constants = Items::from_slice(alloc, constants.as_slice())?;
+    put(code, Instr::IfAmong(constants, since(code, before)))?;
+    Ok(())
+}
+
+/// The first ELSE, or the halt where there is none.
+#[cycle(terms)]
+fn emit_else(
+    alloc: Global,
+    slot: u64,
+    options: &[Selection],
+    code: &mut Vec<Instr<u32>>,
+) -> Result<(), AllocError>
+    requires room { slot + 2 ≤ 2 * length code.old.items }
+    ensures { OnOk result (Emits code.old.items (else_code slot (options_of options.now)) code.new.items) }
+{
+    for option in options {
+        match option {
+            Selection::Among(_, _, _) => {}
+            Selection::Otherwise(declarations, body) => {
+                emit_term(alloc, slot, body, code)?;
+                emit_declarations(alloc, declarations.as_slice(), code)?;
+                put(code, Instr::DropOne)?;
+                return Ok(());
+            }
+        }
+    }
+    put(code, Instr::Halt)?;
+    Ok(())
+}
+
+/// Variants in order, and the halt behind them.
+#[cycle(terms)]
+fn emit_variants(
+    alloc: Global,
+    slot: u64,
+    variants: &[Variant],
+    code: &mut Vec<Instr<u32>>,
+) -> Result<(), AllocError>
+    requires room { slot + 2 ≤ 2 * length code.old.items }
+    ensures { OnOk result (Emits code.old.items (variants_code slot (variants_of variants.now)) code.new.items) }
+{
+    let end = emitted(code);
+    put(code, Instr::Halt)?;
+    let mut count = variants.len();
+    while count > 0 {
+        count -= 1;
+        emit_variant(alloc, slot, &variants[count], end, code)?;
+    }
+    Ok(())
+}
+
+/// A variant before others, which were emitted since the end.
+#[cycle(terms)]
+fn emit_variant(
+    alloc: Global,
+    slot: u64,
+    variant: &Variant,
+    end: usize,
+    code: &mut Vec<Instr<u32>>,
+) -> Result<(), AllocError>
+    requires room { slot + 2 ≤ 2 * length code.old.items }
+    ensures { OnOk result ((before : List (Instr ℕ)) (others : terms.Variants) → length before ≡ end → Emits before (variants_code slot others) code.old.items
+        → Emits before (variants_code slot (variant_of variant.now others)) code.new.items) }
+{
+    let before = emitted(code);
+    put(code, Instr::Jump(since(code, end)))?;
+    emit_term(alloc, slot, &variant.body, code)?;
+    emit_storing(alloc, variant.targets.as_slice(), code)?;
+    emit_declarations(alloc, variant.declarations.as_slice(), code)?;
+    put(code, Instr::IfTag(variant.tag, since(code, before)))?;
+    Ok(())
+}
