@@ -3,6 +3,7 @@ ghost use Rattle.std.specs.Prelude.{◌≡◌, IfErr, IfOk, IfSome, Some, false,
 ghost use Rattle.occ_net_replay.specs.Replay.{Net};
 ghost use Rattle.occ_net.specs.Networks.{IsState, all_in, first_in, is_out, leased, with_out};
 ghost use Rattle.occ_net.specs.Leases.{CanTurn, IsOwnLease, Leases};
+ghost use Rattle.occ_net.specs.Stretches.{CanGoOn};
 
 use crate::network::Network;
 use occ_machine::{Body, Task};
@@ -73,6 +74,7 @@ impl Network {
         requires { (net : Net) → IsState self.now net → leased self.now net ≡ Some number }
         ensures own { IfOk result (λ l. (net : Net) → IsState self.now net → IsOwnLease self.now net number l) }
         ensures can { IfOk result CanTurn }
+        ensures goes_on { IfOk result CanGoOn }
     {
         self.code.compiled();
         let Some(body) = self.code.body(number as usize) else {
@@ -95,6 +97,7 @@ impl Network {
     pub fn lease(&mut self, alloc: Global) -> Result<Option<Lease>, AllocError>
         ensures leased { IfOk result (λ found. (net : Net) → IsState self.old net → Leases self.old net found self.new) }
         ensures can { IfOk result (λ found. IfSome found CanTurn) }
+        ensures goes_on { IfOk result (λ found. IfSome found CanGoOn) }
         ensures refused { IfErr result (λ _. self.new ≡ self.old) }
     {
         let Some(number) = self.next_in() else {

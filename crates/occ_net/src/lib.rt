@@ -12,6 +12,7 @@ pub mod network;
 pub mod outcome;
 mod own;
 mod settling;
+mod stretches;
 
 pub use fault::NetFault;
 pub use history::History;

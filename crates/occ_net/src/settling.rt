@@ -14,7 +14,7 @@ use occ_proc::Segment;
 use std::alloc::Global;
 
 /// The place of a number that is among rising ones.
-fn place_of(ready: &[u32], number: u32) -> usize
+pub(crate) fn place_of(ready: &[u32], number: u32) -> usize
     requires rising { IsRising ready.now }
     requires among { IsAmong ready.now number }
     ensures { slice_get ready.now result ≡ Some number }

@@ -63,7 +63,7 @@ module _ (old new : Tables) (s : AreSame old new) where
   settles_as p kb pick number place wait last f = λ after net mid w. f after net (mid_as p kb number place after net mid) w
 
 -- what stood there is put back
-set_own : {X : Type 0} (xs : List X) (i : ℕ) (x : X) → slice_get xs i ≡ Some x → slice_set xs i x ≡ xs
+pub set_own : {X : Type 0} (xs : List X) (i : ℕ) (x : X) → slice_get xs i ≡ Some x → slice_set xs i x ≡ xs
 set_own [] i x e = absurd cc
 set_own (y ∷ ys) zero x e = let same : y ≡ x = cc in ap (λ z. z ∷ ys) (sym same)
 set_own (y ∷ ys) (suc i) x e = ap (λ l. y ∷ l) (set_own ys i x e)

@@ -1,5 +1,6 @@
 -- What happens when a process has taken a turn.
 -- Manual: nothing; this is (own).
+use Rattle.std.specs.Vec.{with_item}
 use Rattle.std.specs.Prelude.{Bool, false, IsTrue, List, None, Option, Some, [], drop, if◌then◌else◌, length, map, nat_eq, slice_get, slice_set, ℕ, ℤ, ◌+◌, ◌<◌, ◌^◌, ◌++◌, ◌∷◌, ◌≡◌}
 use Rattle.occ_term.specs.declared.message.Message.{Message}
 use Rattle.occ_term.specs.Frames.{Variables, is_held}
@@ -46,6 +47,24 @@ pub record IsTurnAt (p : Program) (n : Tables) (place number : ℕ) (after : Tas
   pub has_body : slice_get p.bodies number ≡ Some body
   pub there : HasTask n.tasks.items number before
   pub stops : Stopping body before after
+
+-- the same tables, but for the task of one process
+abbrev pub with_task : Tables → ℕ → Task → Tables
+with_task n number t = record n { tasks = with_item n.tasks number (Some t) }
+
+-- where the process at this place had come to some task in place of the one that stands here, a turn would bring it to this task
+pub record StandsBehind (p : Program) (keyboard : List ℕ) (n : Tables) (place number : ℕ) (after : Task) : Type 0 where
+  pub first : Task
+  pub there : HasTask n.tasks.items number first
+  pub last : Task
+  pub standing : Standing p keyboard (with_task n number last)
+  pub turn : IsTurnAt p (with_task n number last) place number after
+
+-- that turn of the network, with this pick
+abbrev pub TurnsBehind : Program → List ℕ → Tables → ℕ → ℕ → Task → ℕ → Tables → Type 0
+TurnsBehind p keyboard old place number after pick new =
+    (last : Task) (net : Net) (choice : Choice) → Standing p keyboard (with_task old number last) → IsTurnAt p (with_task old number last) place number after → Holds p keyboard (with_task old number last) net
+    → place ≡ choice.which → pick ≡ choice.pick → TurnsTo p keyboard choice net new
 
 -- ---- private contracts alone cite what follows
 

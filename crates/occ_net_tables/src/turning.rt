@@ -1,11 +1,11 @@
-//! A turn that was taken elsewhere: its task takes its process's place, and what that makes possible
+//! Turns that were taken elsewhere: the last one's task takes its process's place, and what that makes possible
 //! happens, or nothing changes.
-ghost use Rattle.std.specs.Prelude.{◌≡◌, IfErr, OnOk};
+ghost use Rattle.std.specs.Prelude.{◌≡◌, IfErr, IfOk, OnOk};
 ghost use Rattle.occ_net_replay.specs.declared.choice.Choice.{Choice};
-ghost use Rattle.occ_net_replay.specs.Replay.{Net};
+ghost use Rattle.occ_net_replay.specs.Replay.{HasTask, Net};
 ghost use Rattle.occ_net_tables.specs.Holding.{Holds};
 ghost use Rattle.occ_net_tables.specs.Room.{AreSame};
-ghost use Rattle.occ_net_tables.specs.Settling.{IsTurnAt, Standing, TurnsTo};
+ghost use Rattle.occ_net_tables.specs.Settling.{IsTurnAt, Standing, StandsBehind, TurnsBehind, TurnsTo};
 
 use crate::tables::Tables;
 use crate::tasks::swap_task;
@@ -45,5 +45,36 @@ impl Tables {
             }
         }
         Ok(())
+    }
+
+    /// The process at this place among the ready ones has taken turns of which each but the last left it ready, and this is
+    /// its task after the last one: what that makes possible happens. The task that it had here is handed out. The error hands the
+    /// task back, after a refused growth; then nothing has changed.
+    pub fn settle_last(
+        &mut self,
+        alloc: Global,
+        code: &Code,
+        keyboard: &[u8],
+        place: usize,
+        number: u32,
+        after: Task,
+        pick: u32,
+    ) -> Result<Task, (Task, AllocError)>
+        requires { StandsBehind code.now keyboard.now self.old place number after }
+        ensures ok { IfOk result (λ before. HasTask self.old.tasks.items number before × TurnsBehind code.now keyboard.now self.old place number after pick self.new) }
+        ensures err { IfErr result (λ e. AreSame self.old self.new × (e.0 ≡ after)) }
+    {
+        code.compiled();
+        let mut task = after;
+        let wait = mem::replace(&mut task.wait, Wait::Ready);
+        let before = swap_task(&mut self.tasks, number, task);
+        match self.settle(alloc, code, keyboard, place, number, wait, pick) {
+            Ok(()) => Ok(before),
+            Err((wait, refused)) => {
+                let mut task = swap_task(&mut self.tasks, number, before);
+                task.wait = wait;
+                Err((task, refused))
+            }
+        }
     }
 }

@@ -1,4 +1,4 @@
-use Rattle.std.proofs.Common.{◌∙◌, ◌+◌, ◌<◌, ◌^◌, IsTrue, Some, ap, length, rules, subst, sym}
+use Rattle.std.proofs.Common.{◌∙◌, ◌+◌, ◌<◌, ◌^◌, IsTrue, Some, ap, arith, length, rules, subst, sym}
 use Rattle.occ_machine.specs.declared.task.Task.{Task}
 use Rattle.occ_net_replay.specs.Replay.{HasTask, may_go}
 use Rattle.occ_net_replay.proofs.Tables.{task_once}
@@ -8,6 +8,7 @@ use Rattle.occ_net.specs.Networks.{IsState, Past}
 use Rattle.occ_net.specs.Leases.{IsOwnLease}
 use Rattle.occ_net.proofs.Leased.{MayTurn, body_there, can_turn, will_turn}
 use Rattle.occ_net.proofs.Numbers.{all_numbered}
+use Rattle.occ_net.proofs.Stretching.{going_leased, goes_on_leased}
 use Rattle.occ_net.proofs.network.Network.lease_of.Goals as goal
 
 pub unreachable-requires : goal.unreachable-requires
@@ -45,3 +46,13 @@ returns-clause-can c =
     let there : HasTask k.net.tasks c.args.number c.in-Some-task.task.now = c.in-Some-task.ensures.some past.program past.keyboard k.net (k.holds k.net (places_replay past.program past.keyboard k.places)) in
     let may : IsTrue (may_go c.in-Some-task.task.now.wait) = subst (λ (u : Task). IsTrue (may_go u.wait)) (task_once k.net.tasks c.args.number t.there there) t.may in
     can_turn past c.self.inside.tables k c.compiled.ensures few c.args.number _ _ c.in-Some-task.task.now c.in_ok-body.ensures c.in_ok-task.ensures c.in-Some.ensures.some there may
+
+pub returns-clause-goes_on : goal.returns-clause-goes_on
+returns-clause-goes_on c =
+    let past : Past = record { program = c.self.inside.code; keyboard = c.self.inside.keyboard.items; choices = c.self.inside.choices.items; out = c.self.inside.out.items } in
+    let k = c.self.invariant in
+    let v = c.self.inside.choices in
+    let few : length past.choices + 2 ^ 32 + 1 < 2 ^ 64 = omega (arith, v.ok.0, v.ok.1, v.small) in
+    let g = going_leased past c.args.self.now c.self.inside.tables k c.self.view_is c.args.number c.requires in
+    let there : HasTask k.net.tasks c.args.number c.in-Some-task.task.now = c.in-Some-task.ensures.some past.program past.keyboard k.net (k.holds k.net (places_replay past.program past.keyboard k.places)) in
+    goes_on_leased past c.self.inside.tables k c.compiled.ensures few g.going g.place.place c.args.number g.place.at _ c.in-Some.ensures.some c.in-Some-task.task.now there (record { body = c.in_ok-body.body; task = c.in_ok-task.task }) c.in_ok-body.ensures c.in_ok-task.ensures
