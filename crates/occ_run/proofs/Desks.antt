@@ -7,22 +7,24 @@ use Rattle.std.proofs.lemmas.Option.{slice_get_within}
 use mathlib.Core.Bool.{true≢false}
 use Rattle.occ_machine.specs.Compiled.{Program}
 use Rattle.occ_machine.specs.declared.task.Task.{Task}
-use Rattle.occ_proc.specs.Turns.{Taken}
+use Rattle.occ_machine.specs.Machine.{Body}
 use Rattle.occ_net_replay.specs.declared.ending.Ending.{Ending}
 use Rattle.occ_net_replay.specs.Replay.{HasTask, Net, ending_of, may_go}
 use Rattle.occ_net_replay.proofs.Tables.{same_or_not, set_other, set_same, task_once}
 use Rattle.occ_net.specs.declared.leasing.Lease.{Lease}
 use Rattle.occ_net.specs.Leases.{LeasesOne}
 use Rattle.occ_net.specs.Networks.{IsNetwork, IsState, Past, first_in, fresh, is_out, leased_at, ready_in, with_out}
-use Rattle.occ_net.specs.Settling.{Settles, IsOwn}
+use Rattle.occ_net.specs.Stretches.{AreOwn, InRow, SettlesAll, in_after}
+use Rattle.occ_net.proofs.Stretching.{choices_length}
 use Rattle.occ_net.proofs.Leased.{leased_there, may_turn}
 use Rattle.occ_run.specs.declared.progress.Progress.{Progress}
 use Rattle.occ_run.specs.declared.progress.Stop.{Stop}
 use Rattle.occ_run.specs.declared.progress.Stop.TheVariants as stop
+use Rattle.occ_run.specs.declared.stretch.Stretch.{Stretch}
 use Rattle.occ_run.specs.declared.tokens.Known.{Known}
 use Rattle.occ_run.specs.Gathered.{IsOfRun}
-use Rattle.occ_run.specs.Held.{IsConcluded, IsHeld, IsOut, IsTurnOf, IsTurnOut}
-use Rattle.occ_run.specs.Steps.{Drops, IsOpen, IsOver, Leaves, Rests, Runs, StopsAt, TakesIn, TakesOne, first_stop}
+use Rattle.occ_run.specs.Held.{IsConcluded, IsHeld, IsOut, IsStretchOf, IsTurnOf, IsTurnOut}
+use Rattle.occ_run.specs.Steps.{Drops, IsOpen, IsOver, Leaves, Rests, Runs, StopsAt, TakesIn, TakesThem, first_stop}
 use Rattle.occ_run.specs.Tokens.{Among, AreOthers, Checked, holder, keeper, opening, shown, teller, without}
 use Rattle.occ_run.proofs.Staying.{stays_ready}
 
@@ -43,6 +45,10 @@ leased_was_in (Some x) out ready n e = absurd cc
 
 marked_other : (out : List Bool) (n m : ℕ) (b : Bool) → (m ≡ n → ⊥) → is_out (slice_set out n b) m ≡ is_out out m
 marked_other out n m b away = ap (λ o. unwrap_or o false) (set_other out n m b away)
+
+marked_after : (out : List Bool) (n count m : ℕ) → (m ≡ n → ⊥) → is_out (in_after out n count) m ≡ is_out out m
+marked_after out n zero m away = refl
+marked_after out n (suc count) m away = marked_other out n m false away
 
 got : {X : Type 0} (xs : List X) (n : ℕ) → n < length xs → (x : X) × (slice_get xs n ≡ Some x)
 got [] n h = absurd (omega (arith, h))
@@ -191,7 +197,7 @@ module _ (p : Program) (keyboard : List ℕ) (limit : ℕ) (old new : Progress) 
           each t (inr a) = out_more old.network l.task.number t within (h.out t a)
 
       pub turn_out : IsTurnOut p l (holder l.task)
-      turn_out = record { can = r.can; body = subst (λ (q : Program). slice_get q.bodies l.task.number ≡ Some (arc_value l.body)) h.of_run.program one.own.body; token = refl }
+      turn_out = record { can = r.can; goes_on = r.goes_on; body = subst (λ (q : Program). slice_get q.bodies l.task.number ≡ Some (arc_value l.body)) h.of_run.program one.own.body; token = refl }
 
     -- ---- a turn comes back
 
@@ -221,21 +227,22 @@ module _ (p : Program) (keyboard : List ℕ) (limit : ℕ) (old new : Progress) 
       pub held_refused : (number : ℕ) → number ≡ task.number → new.network ≡ with_out old.network number false → new.stop ≡ first_stop old.stop stop.Memory → IsHeld p keyboard limit new w
       held_refused number same network stopped = back number same network (λ _. inl (ap is_some stopped ∙ first_some old.stop stop.Memory))
 
-      module _ (s : Taken) (before : s.before ≡ task) (body : slice_get p.bodies task.number ≡ Some s.body) where
-        number : s.before.number ≡ task.number
-        number = ap (λ (t : Task). t.number) before
-
-        -- the turn is the network's own
-        pub is_own : (net : Net) → IsState old.network net → IsOwn old.network net s
-        is_own net state =
+      module _ (s : Stretch) (own : IsStretchOf p task s) where
+        -- the turns are the network's own
+        pub are_own : (net : Net) → IsState old.network net → AreOwn old.network net s.number s.count s.after
+        are_own net state =
             record {
-              body = subst (λ (q : Program). slice_get q.bodies s.before.number ≡ Some s.body) (sym h.of_run.program) (subst (λ i. slice_get p.bodies i ≡ Some s.body) (sym number) body);
-              task = subst (λ (t : Task). HasTask net.tasks t.number t) (sym before) ((h.out task had).has net state);
+              some = own.some;
+              body = own.body;
+              before = task;
+              has_body = subst (λ (q : Program). slice_get q.bodies s.number ≡ Some own.body) (sym h.of_run.program) (subst (λ i. slice_get p.bodies i ≡ Some own.body) (sym own.number) own.has_body);
+              has_task = subst (λ i. HasTask net.tasks i task) (sym own.number) ((h.out task had).has net state);
+              turns = own.turns;
             }
 
-        takes_one : TakesOne old new s → IsHeld p keyboard limit new w
-        takes_one x =
-            let st : Settles old.network k.net s (length old.network.choices) new.network = x.settles k.net k.state in
+        takes_them : TakesThem old new s.number s.count → IsHeld p keyboard limit new w
+        takes_them x =
+            let st : SettlesAll old.network s.number s.count (length old.network.choices) new.network = x.settles in
             with_left
             record {
               keeps = refl;
@@ -245,46 +252,51 @@ module _ (p : Program) (keyboard : List ℕ) (limit : ℕ) (old new : Progress) 
                     bytes = ap (λ (n : Past). n.keyboard) st.is ∙ h.of_run.bytes;
                     few = (
                         let longer = ap (λ (n : Past). length n.choices) st.is in
-                        let below = x.going.below in
+                        let long = choices_length st.place (length old.network.choices) old.network.choices s.count in
+                        let within = x.within in
                         let lim = h.limit_is in
-                        omega (arith, longer, below, lim, length-append old.network.choices (record { which = st.place; pick = length old.network.choices } ∷ []))
+                        omega (arith, longer, long, within, lim)
                         );
                   };
               limit_is = limit_is ∙ h.limit_is;
-              out = λ t a. let y = in_without task.number v.out t a in each st t (h.out t y.0) (λ e. y.1 (e ∙ number));
+              out = λ t a. let y = in_without task.number v.out t a in each st t (h.out t y.0) (λ e. y.1 (e ∙ own.number));
               over = λ e. absurd (open_not_over old k x.going (h.over e));
             }
           where
-            each : Settles old.network k.net s (length old.network.choices) new.network → (t : Task) → IsOut old.network t → (t.number ≡ s.before.number → ⊥) → IsOut new.network t
+            each : SettlesAll old.network s.number s.count (length old.network.choices) new.network → (t : Task) → IsOut old.network t → (t.number ≡ s.number → ⊥) → IsOut new.network t
             each st t o away =
                 record {
-                  marked = ap (λ (n : Past). is_out n.out t.number) st.is ∙ marked_other old.network.out s.before.number t.number false away ∙ o.marked;
-                  has = stays_ready old.network new.network k s (length old.network.choices) x.settles t o.has o.may away;
+                  marked = ap (λ (n : Past). is_out n.out t.number) st.is ∙ marked_after old.network.out s.number s.count t.number away ∙ o.marked;
+                  has = stays_ready old.network new.network k s.number s.count (length old.network.choices) x.small st t o.has o.may away;
                   may = o.may;
                 }
 
-        drops : Drops old new s.before.number → IsHeld p keyboard limit new w
-        drops x = back s.before.number number x.released (over_marked old new s.before.number false x.released limit_is x.stop)
+        drops : Drops old new s.number s.count → IsHeld p keyboard limit new w
+        drops x = back s.number own.number x.released (over_marked old new s.number false x.released limit_is x.stop)
 
-        stops_at : StopsAt old new s.before.number → IsHeld p keyboard limit new w
-        stops_at x = back s.before.number number x.released (λ _. stopped_over new stop.Memory x.stop)
+        stops_at : StopsAt old new s.number → IsHeld p keyboard limit new w
+        stops_at x = back s.number own.number x.released (λ _. stopped_over new stop.Memory x.stop)
 
-        pub held_in : TakesIn old new s → IsHeld p keyboard limit new w
-        held_in (inl x) = takes_one x
+        pub held_in : TakesIn old new s.number s.count → IsHeld p keyboard limit new w
+        held_in (inl x) = takes_them x
         held_in (inr (inl x)) = drops x
         held_in (inr (inr x)) = stops_at x
 
--- ---- a turn that was taken, or refused
+-- ---- turns that were taken, or refused
 
-module _ {E : Type 0} (p : Program) (keyboard : List ℕ) (limit : ℕ) (old : Progress) (v : Known) (h : IsHeld p keyboard limit old v) (k : IsNetwork old.network) (token : Known) (w : Known) (checked : Checked (shown v token) [] [] w) where
-  pub own_done : (done : Result Taken (Task × E)) → IsTurnOf p done token → IfOk done (λ s. (net : Net) → IsState old.network net → IsOwn old.network net s)
-  own_done (Ok s) t = let r = t.ran in is_own p keyboard limit old old v h k refl t.task token t.token w checked s r.0 r.1
+pub stretch_of : (p : Program) (task : Task) (body : Body) (done : Result Stretch ℕ) → slice_get p.bodies task.number ≡ Some body → IfOk done (λ s. s.number ≡ task.number) → IfOk done (λ s. 0 < s.count) → IfOk done (λ s. InRow body task s.count s.after) → IfOk done (IsStretchOf p task)
+stretch_of p task body (Ok s) has number some turns = record { number = number; some = some; body = body; has_body = has; turns = turns }
+stretch_of p task body (Err e) has number some turns = tt
+
+module _ (p : Program) (keyboard : List ℕ) (limit : ℕ) (old : Progress) (v : Known) (h : IsHeld p keyboard limit old v) (k : IsNetwork old.network) (token : Known) (w : Known) (checked : Checked (shown v token) [] [] w) where
+  pub own_done : (done : Result Stretch ℕ) → IsTurnOf p done token → IfOk done (λ s. (net : Net) → IsState old.network net → AreOwn old.network net s.number s.count s.after)
+  own_done (Ok s) t = are_own p keyboard limit old old v h k refl t.task token t.token w checked s t.ran
   own_done (Err e) t = tt
 
-  pub held_done : (new : Progress) → new.limit ≡ old.limit → (done : Result Taken (Task × E)) → IsTurnOf p done token → IfOk done (λ s. TakesIn old new s)
-      → IfErr done (λ e. (new.network ≡ with_out old.network e.0.number false) × (new.stop ≡ first_stop old.stop stop.Memory)) → IsHeld p keyboard limit new w
-  held_done new limit_is (Ok s) t ran refused = let r = t.ran in held_in p keyboard limit old new v h k limit_is t.task token t.token w checked s r.0 r.1 ran
-  held_done new limit_is (Err e) t ran refused = held_refused p keyboard limit old new v h k limit_is t.task token t.token w checked e.0.number (ap (λ (x : Task). x.number) t.refused) refused.0 refused.1
+  pub held_done : (new : Progress) → new.limit ≡ old.limit → (done : Result Stretch ℕ) → IsTurnOf p done token → IfOk done (λ s. TakesIn old new s.number s.count)
+      → IfErr done (λ number. (new.network ≡ with_out old.network number false) × (new.stop ≡ first_stop old.stop stop.Memory)) → IsHeld p keyboard limit new w
+  held_done new limit_is (Ok s) t ran refused = held_in p keyboard limit old new v h k limit_is t.task token t.token w checked s t.ran ran
+  held_done new limit_is (Err e) t ran refused = held_refused p keyboard limit old new v h k limit_is t.task token t.token w checked e t.refused refused.0 refused.1
 
 -- ---- the end
 

@@ -3,3 +3,4 @@ mod Told
 mod Moves
 mod Staying
 mod Desks
+mod Rows

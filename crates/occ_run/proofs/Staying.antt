@@ -1,5 +1,5 @@
--- A turn that is settled leaves the task of every other process that may take a turn as it is.
-use Rattle.std.proofs.Common.{◌≡◌, ◌∙◌, refl, sym, ap, subst, Bool, false, IsTrue, ℕ, ◌<◌, ◌%◌, ◌^◌, List, [], ◌∷◌, ◌++◌, Option, Some, length, arith}
+-- Turns that are settled leave the task of every other process that may take a turn as it is.
+use Rattle.std.proofs.Common.{◌≡◌, ◌∙◌, refl, sym, ap, subst, Bool, false, IsTrue, ℕ, zero, suc, ◌+◌, ◌<◌, ◌≤◌, ◌%◌, ◌^◌, List, [], ◌∷◌, ◌++◌, Option, Some, length, arith}
 use Rattle.std.specs.Prelude.{nat_eq, slice_get, slice_set}
 use Rattle.std.proofs.lemmas.Bool.{eq-eqb}
 use Rattle.std.proofs.Math.Nat.{mod-eq_of_lt}
@@ -18,11 +18,11 @@ use Rattle.occ_net_replay.specs.declared.choice.Choice.{Choice}
 use Rattle.occ_net_replay.specs.Replay.{Gets, Gives, HasTask, Net, OneTurn, Replays, Settled, Tasks, arm_gets, begins, branch_task, error_gets, forks, goes_on, joined, joins, keyboard_gives, may_go, meets, ready_from, screen_gets, settles, skips, stays, task_gets, task_gives, took_turn, with_branches}
 use Rattle.occ_net_replay.specs.Waiting.{IsReplay, IsTurn}
 use Rattle.occ_net_replay.proofs.Alone.{turns_fork_alone}
-use Rattle.occ_net_replay.proofs.Same.{one_replay, same_last}
+use Rattle.occ_net_replay.proofs.Same.{same_last}
 use Rattle.occ_net_replay.proofs.Tables.{or_first, or_second, ready_at, set_other, set_same, task_once}
-use Rattle.occ_proc.specs.Turns.{Taken}
 use Rattle.occ_net.specs.Networks.{IsNetwork, IsState, Past, ready_in}
-use Rattle.occ_net.specs.Settling.{Settles}
+use Rattle.occ_net.specs.Stretches.{SettlesAll, after_turns, choices_from}
+use Rattle.occ_net.proofs.Stretching.{choices_length}
 
 -- ---- one task changes
 
@@ -104,21 +104,25 @@ came p kb all cs c net (goes_on {cs = ds} {c = d} {a = a} r going o) e =
     let q = same_last ds cs d c e in
     record { from = a; replays = subst (λ l. Replays p kb l a) q.0 r; turn = subst (λ x. OneTurn p x a net) q.1 o }
 
-module _ (old new : Past) (k : IsNetwork old) (s : Taken) (pick : ℕ) (h : (net : Net) → IsState old net → Settles old net s pick new) where
-  pub stays_ready : (t : Task) → ((net : Net) → IsState old net → HasTask net.tasks t.number t) → IsTrue (may_go t.wait) → (t.number ≡ s.before.number → ⊥) → (net : Net) → IsState new net → HasTask net.tasks t.number t
-  stays_ready t has may away net state =
-      let settled : Settles old k.net s pick new = h k.net k.state in
-      let choice : Choice = record { which = settled.place; pick = pick } in
-      let here : Replays old.program old.keyboard (old.choices ++ choice ∷ []) net = subst (λ (n : Past). IsState n net) settled.is state in
-      let x = came old.program old.keyboard (old.choices ++ choice ∷ []) old.choices choice net here refl in
+module _ (old new : Past) (k : IsNetwork old) (number count pick : ℕ) (small : count < 2 ^ 32) (h : SettlesAll old number count pick new) where
+  -- before each of the turns, and after the last one
+  stays_along : (t : Task) → ((net : Net) → IsState old net → HasTask net.tasks t.number t) → IsTrue (may_go t.wait) → (t.number ≡ number → ⊥) → (m : ℕ) → m ≤ count → (net : Net) → IsState (after_turns old h.place pick number m) net → HasTask net.tasks t.number t
+  stays_along t has may away zero l net state = has net state
+  stays_along t has may away (suc m) l net state =
+      let choices : List Choice = choices_from h.place pick old.choices m in
+      let choice : Choice = record { which = h.place; pick = pick + m } in
+      let x = came old.program old.keyboard (choices ++ choice ∷ []) choices choice net state refl in
+      let before : HasTask x.from.tasks t.number t = stays_along t has may away m (omega (arith, l)) x.from x.replays in
       let few = k.few in
-      let small : length old.choices < 2 ^ 64 = omega (arith, few) in
-      let replay : IsReplay k.compiled.source old.program k.compiled.quantum old.keyboard old.choices x.from =
-      record { well_formed = k.compiled.well_formed; lawful = k.compiled.lawful; compiled = k.compiled.compiled; bytes = k.bytes; few = omega (arith, few); replays = x.replays }
+      let long = choices_length h.place pick old.choices m in
+      let replay : IsReplay k.compiled.source old.program k.compiled.quantum old.keyboard choices x.from =
+      record { well_formed = k.compiled.well_formed; lawful = k.compiled.lawful; compiled = k.compiled.compiled; bytes = k.bytes; few = omega (arith, few, long, l, small); replays = x.replays }
       in
-      let same : x.from ≡ k.net = one_replay k.compiled.source old.program k.compiled.quantum old.keyboard old.choices x.from k.net k.compiled.well_formed k.compiled.lawful k.compiled.compiled k.bytes small x.replays k.state in
-      let at : slice_get (ready_in x.from) settled.place ≡ Some s.before.number = subst (λ (n : Net). slice_get (ready_in n) settled.place ≡ Some s.before.number) (sym same) settled.at in
-      let within : settled.place < length (ready_in x.from) = slice_get_within (ready_in x.from) settled.place s.before.number at in
-      let selects : slice_get (ready_in x.from) settled.place ≡ Some x.turn.number = ap (slice_get (ready_in x.from)) (sym (mod-eq_of_lt within)) ∙ x.turn.selects in
-      let number : s.before.number ≡ x.turn.number = cc in
-      left k.compiled.source old.program k.compiled.quantum old.keyboard old.choices x.from net replay choice x.turn t.number t (has x.from x.replays) may (λ e. away (e ∙ sym number))
+      let at : slice_get (ready_in x.from) h.place ≡ Some number = h.at m (omega (arith, l)) x.from x.replays in
+      let within : h.place < length (ready_in x.from) = slice_get_within (ready_in x.from) h.place number at in
+      let selects : slice_get (ready_in x.from) h.place ≡ Some x.turn.number = ap (slice_get (ready_in x.from)) (sym (mod-eq_of_lt within)) ∙ x.turn.selects in
+      let same : number ≡ x.turn.number = cc in
+      left k.compiled.source old.program k.compiled.quantum old.keyboard choices x.from net replay choice x.turn t.number t before may (λ e. away (e ∙ sym same))
+
+  pub stays_ready : (t : Task) → ((net : Net) → IsState old net → HasTask net.tasks t.number t) → IsTrue (may_go t.wait) → (t.number ≡ number → ⊥) → (net : Net) → IsState new net → HasTask net.tasks t.number t
+  stays_ready t has may away net state = stays_along t has may away count (omega arith) net (subst (λ (n : Past). IsState n net) h.is state)

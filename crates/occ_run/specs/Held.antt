@@ -1,18 +1,20 @@
 -- What lies under the lock, beside the token that knows which turns are out.
 -- Manual: nothing; this is (own).
-use Rattle.std.specs.Prelude.{IfErr, IfOk, IsTrue, List, Result, Some, [], slice_get, true, ℕ, ◌≡◌}
+use Rattle.std.specs.Prelude.{IfErr, IfOk, IsTrue, List, Result, Some, [], slice_get, true, ℕ, ◌<◌, ◌≡◌}
 use Rattle.std.specs.Arc.{arc_value}
 use Rattle.atomic_table.specs.Seated.{TableId}
 use Rattle.occ_term.specs.declared.fault.Errors.TheVariants.{Halt}
 use Rattle.occ_machine.specs.Compiled.{Program}
 use Rattle.occ_machine.specs.declared.task.Task.{Task}
-use Rattle.occ_proc.specs.Turns.{Taken}
+use Rattle.occ_machine.specs.Machine.{Body}
 use Rattle.occ_net_replay.specs.Replay.{HasTask, Net, may_go}
 use Rattle.occ_net.specs.declared.leasing.Lease.{Lease}
 use Rattle.occ_net.specs.Leases.{CanTurn}
 use Rattle.occ_net.specs.Networks.{IsState, Past, is_out}
+use Rattle.occ_net.specs.Stretches.{CanGoOn, InRow}
 use Rattle.occ_run.specs.Gathered.{IsOfRun}
 use Rattle.occ_run.specs.declared.progress.Progress.{Progress}
+use Rattle.occ_run.specs.declared.stretch.Stretch.{Stretch}
 use Rattle.occ_run.specs.declared.tokens.Known.{Known}
 use Rattle.occ_run.specs.Steps.{IsOver}
 use Rattle.occ_run.specs.Tokens.{Among, IsKeeper, holder}
@@ -48,12 +50,21 @@ pub record IsConcluded (p : Program) (keyboard : List ℕ) (limit : ℕ) (b : Pr
 -- a turn that is out: it can be taken, its body is the code's, and its token has its task
 pub record IsTurnOut (p : Program) (l : Lease) (v : Known) : Type 0 where
   pub can : CanTurn l
+  pub goes_on : CanGoOn l
   pub body : slice_get p.bodies l.task.number ≡ Some (arc_value l.body)
   pub token : v ≡ holder l.task
 
--- a turn that was taken, or refused, of the task that its token has
-pub record IsTurnOf {E : Type 0} (p : Program) (done : Result Taken (Task × E)) (v : Known) : Type 0 where
+-- turns in a row from this task on, by the code's body of its process
+pub record IsStretchOf (p : Program) (task : Task) (s : Stretch) : Type 0 where
+  pub number : s.number ≡ task.number
+  pub some : 0 < s.count
+  pub body : Body
+  pub has_body : slice_get p.bodies task.number ≡ Some body
+  pub turns : InRow body task s.count s.after
+
+-- turns that were taken, or refused, from the task on that their token has
+pub record IsTurnOf (p : Program) (done : Result Stretch ℕ) (v : Known) : Type 0 where
   pub task : Task
   pub token : v ≡ holder task
-  pub ran : IfOk done (λ s. (s.before ≡ task) × (slice_get p.bodies task.number ≡ Some s.body))
-  pub refused : IfErr done (λ e. e.0 ≡ task)
+  pub ran : IfOk done (IsStretchOf p task)
+  pub refused : IfErr done (λ number. number ≡ task.number)

@@ -1,12 +1,11 @@
 -- What a worker's steps under the lock do.
 -- Manual: nothing; this is (own).
 use Rattle.std.specs.Prelude.{IsSome, None, Option, Some, false, if◌then◌else◌, is_some, length, min, ℕ, ◌+◌, ◌-◌, ◌<◌, ◌^◌, ◌≤◌, ◌≡◌, ◌⊎◌}
-use Rattle.occ_proc.specs.Turns.{Taken}
 use Rattle.occ_net_replay.specs.Replay.{Net, ending_of}
 use Rattle.occ_net.specs.declared.leasing.Lease.{Lease}
 use Rattle.occ_net.specs.Leases.{CanTurn, Leases, LeasesOne}
 use Rattle.occ_net.specs.Networks.{IsState, ready_in, with_out}
-use Rattle.occ_net.specs.Settling.{Settles}
+use Rattle.occ_net.specs.Stretches.{CanGoOn, SettlesAll}
 use Rattle.occ_run.specs.declared.progress.Next.{Next}
 use Rattle.occ_run.specs.declared.progress.Next.TheVariants as next
 use Rattle.occ_run.specs.declared.progress.Progress.{Progress}
@@ -46,6 +45,7 @@ pub record Runs (old : Progress) (lease : Lease) (new : Progress) : Type 0 where
   pub going : IsOpen old
   pub leases : (net : Net) → IsState old.network net → LeasesOne old.network net lease new.network
   pub can : CanTurn lease
+  pub goes_on : CanGoOn lease
   pub stop : new.stop ≡ old.stop
   pub out : new.out ≡ one_more old.out
   pub resting : new.resting ≡ old.resting
@@ -66,30 +66,32 @@ pub record Leaves (old new : Progress) : Type 0 where
 
 -- What a worker does next: it runs the turn that it has leased, or rests where there is none to be leased, or leaves.
 abbrev pub IsStep : Progress → Progress → Next → Type 0
-IsStep old new (next.Run lease) = Runs old lease new
+IsStep old new (next.Run lease most) = Runs old lease new
 IsStep old new next.Rest = Rests old new
 IsStep old new next.Leave = Leaves old new
 
--- a turn of an open run is settled, with the number of choices so far as its pick
-pub record TakesOne (old new : Progress) (turn : Taken) : Type 0 where
+-- turns of an open run are settled, each with the number of choices so far as its pick
+pub record TakesThem (old new : Progress) (number count : ℕ) : Type 0 where
   pub going : IsOpen old
-  pub settles : (net : Net) → IsState old.network net → Settles old.network net turn (length old.network.choices) new.network
+  pub within : length old.network.choices + count ≤ old.limit
+  pub small : count < 2 ^ 32
+  pub settles : SettlesAll old.network number count (length old.network.choices) new.network
   pub stop : new.stop ≡ old.stop
 
--- a turn that comes when the run is over is dropped, and its process is in again
-pub record Drops (old new : Progress) (number : ℕ) : Type 0 where
-  pub over : IsOver old
+-- turns that come when the run is over, or are more than the limit leaves, are dropped, and their process is in again
+pub record Drops (old new : Progress) (number count : ℕ) : Type 0 where
+  pub over : IsOver old ⊎ (old.limit < length old.network.choices + count)
   pub released : new.network ≡ with_out old.network number false
   pub stop : new.stop ≡ old.stop
 
--- an open run stops, since a growth was refused for a turn: its process is in again
+-- an open run stops, since a growth was refused for turns: their process is in again
 pub record StopsAt (old new : Progress) (number : ℕ) : Type 0 where
   pub going : IsOpen old
   pub released : new.network ≡ with_out old.network number false
   pub stop : new.stop ≡ Some Memory
 
-abbrev pub TakesIn : Progress → Progress → Taken → Type 0
-TakesIn old new turn = TakesOne old new turn ⊎ Drops old new turn.before.number ⊎ StopsAt old new turn.before.number
+abbrev pub TakesIn : Progress → Progress → ℕ → ℕ → Type 0
+TakesIn old new number count = TakesThem old new number count ⊎ Drops old new number count ⊎ StopsAt old new number
 
 -- Who is woken: where workers rest, one of them where more processes are ready than are out, all where the run is over, and else
 -- nobody. Those that are woken no longer count as resting.

@@ -10,8 +10,11 @@ ghost use Rattle.occ_run.specs.declared.progress.Stop.TheVariants as stop;
 
 use crate::gate::Gate;
 use crate::progress::{Done, Next, Progress, Wake};
+use crate::stretch::take_turns;
 use crate::tokens::{Token, Tokens, come_back, end, go_out};
+use occ_machine::Task;
 use occ_net::Lease;
+use occ_proc::Scratch;
 use std::alloc::Global;
 use std::marker::{Brand, Model, PhantomData};
 use std::sync::Wait;
@@ -63,10 +66,11 @@ impl<U: OneRun> Model for Ticket<U> {
     ghost invariant = { λ t. (t.token.table_id ≡ U.tokens) × (t.token.me.1 ≡ []) };
 }
 
-/// A turn that is out.
+/// A turn that is out, and how many may be taken in a row.
 #[derive(Drop)]
 pub(crate) struct Turn<U: OneRun> {
     lease: Lease,
+    most: u32,
     ticket: Ticket<U>,
 }
 
@@ -81,7 +85,7 @@ impl<U: OneRun> Model for Turn<U> {
     ghost invariant = { λ t. IsTurnOut U.program t.lease t.ticket };
 }
 
-/// A turn that was taken, or refused, and comes back. Contracts see what its token knows.
+/// Turns that were taken in a row, or refused, and come back. Contracts see what their token knows.
 #[derive(Drop)]
 pub(crate) struct Ran<U: OneRun> {
     done: Done,
@@ -132,11 +136,14 @@ impl<U: OneRun> Model for Desk<U> {
 }
 
 impl<U: OneRun> Turn<U> {
-    /// Takes the turn by the gate.
-    pub fn take<G: Gate>(self, alloc: Global, gate: &G) -> Ran<U> {
-        let Turn { lease, ticket } = self;
-        let Lease { body, task } = lease;
-        let done = gate.run(alloc, body, task);
+    /// Takes the turn by the gate, and those behind it.
+    pub fn take<G: Gate>(self, alloc: Global, gate: &G, scratch: &mut Scratch) -> Ran<U> {
+        let Turn {
+            lease,
+            most,
+            ticket,
+        } = self;
+        let done = take_turns(alloc, gate, scratch, lease, most);
         Ran { done, ticket }
     }
 }
@@ -170,28 +177,32 @@ impl<U: OneRun> Desk<U> {
     {
         self.progress.network.replayed();
         match self.progress.next(alloc) {
-            Next::Run(lease) => {
+            Next::Run(lease, most) => {
                 let token = go_out(tokens, &mut self.keeper, &lease.task);
                 let ticket = Ticket {
                     token,
                     run: PhantomData,
                 };
-                Step::Take(Turn { lease, ticket })
+                Step::Take(Turn {
+                    lease,
+                    most,
+                    ticket,
+                })
             }
             Next::Rest => Step::Rest,
             Next::Leave => Step::Leave,
         }
     }
 
-    /// Takes in a turn that comes back, or gives its process back. What a turn that was settled had been leased with is handed
-    /// out.
+    /// Takes in turns that come back, or gives their process back. The task that the network had, where they were settled, is
+    /// handed out.
     pub fn take_in<R: Wait>(
         &mut self,
         rt: &R,
         alloc: Global,
         tokens: &Tokens,
         ran: Ran<U>,
-    ) -> Option<Lease>
+    ) -> Option<Task>
         requires { tokens.now.table.shared.table_id ≡ U.tokens }
     {
         let Ran { done, ticket } = ran;

@@ -9,6 +9,7 @@ pub mod gate;
 pub mod outcome;
 mod progress;
 pub mod run;
+mod stretch;
 mod tokens;
 pub mod watched;
 mod workers;

@@ -1,18 +1,17 @@
 //! How far the workers have come: what lies under the lock, and the steps that they take there.
 ghost use Rattle.std.specs.Prelude.{◌≡◌, ◌-◌, IfErr, IfNone, IfOk, IfSome, None, false, length};
-ghost use Rattle.std.specs.Arc.{arc_value};
 ghost use Rattle.occ_net_replay.specs.Replay.{Net};
 ghost use Rattle.occ_net.specs.Networks.{IsState, with_out};
-ghost use Rattle.occ_net.specs.Settling.{IsOwn};
+ghost use Rattle.occ_net.specs.Stretches.{AreOwn};
 ghost use Rattle.occ_run.specs.Steps.{IsOpen, IsOver, IsStep, IsWake, KeepsCounts, TakesIn, first_stop};
 
+use crate::stretch::{Stretch, most_turns};
 use occ_machine::Task;
 use occ_net::{Lease, Network};
-use occ_proc::Segment;
 use std::alloc::{AllocError, Global};
 
-/// A turn that was run, or the task of one that was refused.
-pub type Done = Result<Segment, (Task, AllocError)>;
+/// Turns that were taken in a row, or the number of the process that was refused one.
+pub type Done = Result<Stretch, u32>;
 
 /// Why a run stops before its limit and before its network ends.
 #[derive(Clone, Copy, Debug, PartialEq, Eq)]
@@ -41,8 +40,8 @@ pub struct Progress {
 /// What a worker does next.
 #[derive(Drop)]
 pub enum Next {
-    /// Runs this turn.
-    Run(Lease),
+    /// Runs this turn, and at most so many in a row.
+    Run(Lease, u32),
     /// Rests until it is woken.
     Rest,
     /// Leaves.
@@ -130,13 +129,15 @@ impl Progress {
         ensures step { IsStep self.old self.new result }
         ensures limit { self.new.limit ≡ self.old.limit }
     {
-        if self.next_pick().is_none() {
+        let Some(settled) = self.next_pick() else {
             return Next::Leave;
-        }
+        };
         match self.network.lease(alloc) {
             Ok(Some(lease)) => {
                 self.out = self.out.saturating_add(1);
-                Next::Run(lease)
+                let left = self.limit.saturating_sub(settled);
+                let most = most_turns(lease.body.quantum()).min(left);
+                Next::Run(lease, most)
             }
             Ok(None) => {
                 self.resting = self.resting.saturating_add(1);
@@ -149,44 +150,51 @@ impl Progress {
         }
     }
 
-    /// Takes in a turn that was run, which is the network's own, or gives its process back. What a turn
-    /// that was settled had been leased with is handed out.
-    pub fn take_in(&mut self, alloc: Global, done: Done) -> Option<Lease>
-        requires { IfOk done (λ segment. (net : Net) → IsState self.old.network net → IsOwn self.old.network net segment) }
+    /// Takes in turns that were taken in a row, which are the network's own, or gives their process back. The task that
+    /// the network had, where they were settled, is handed out.
+    pub fn take_in(&mut self, alloc: Global, done: Done) -> Option<Task>
+        requires { IfOk done (λ s. (net : Net) → IsState self.old.network net → AreOwn self.old.network net s.number s.count s.after) }
         ensures limit { self.new.limit ≡ self.old.limit }
-        ensures ran { IfOk done (λ segment. TakesIn self.old self.new segment) }
-        ensures refused { IfErr done (λ e. (self.new.network ≡ with_out self.old.network e.0.number false) × (self.new.stop ≡ first_stop self.old.stop Stop.Memory)) }
+        ensures ran { IfOk done (λ s. TakesIn self.old self.new s.number s.count) }
+        ensures refused { IfErr done (λ number. (self.new.network ≡ with_out self.old.network number false) × (self.new.stop ≡ first_stop self.old.stop Stop.Memory)) }
         ensures out { self.new.out ≡ self.old.out - 1 }
         ensures resting { self.new.resting ≡ self.old.resting }
-        ensures spent { IfSome result (λ l. IfOk done (λ segment. (arc_value l.body ≡ segment.body) × (l.task ≡ segment.before))) }
     {
         self.out = self.out.saturating_sub(1);
         match done {
-            Ok(segment) => self.take_segment(alloc, segment),
-            Err((before, AllocError)) => {
-                self.give_back(number_of(before));
+            Ok(stretch) => self.take_stretch(alloc, stretch),
+            Err(refused) => {
+                self.give_back(refused);
                 None
             }
         }
     }
 
-    fn take_segment(&mut self, alloc: Global, segment: Segment) -> Option<Lease>
-        requires { (net : Net) → IsState self.old.network net → IsOwn self.old.network net segment }
+    fn take_stretch(&mut self, alloc: Global, stretch: Stretch) -> Option<Task>
+        requires { (net : Net) → IsState self.old.network net → AreOwn self.old.network net stretch.number stretch.count stretch.after }
         ensures limit { self.new.limit ≡ self.old.limit }
-        ensures takes { TakesIn self.old self.new segment }
+        ensures takes { TakesIn self.old self.new stretch.number stretch.count }
         ensures counts { KeepsCounts self.old self.new }
-        ensures spent { IfSome result (λ l. (arc_value l.body ≡ segment.body) × (l.task ≡ segment.before)) }
     {
-        let number = segment.before().number;
+        let Stretch {
+            number,
+            count,
+            after,
+        } = stretch;
         let Some(pick) = self.next_pick() else {
-            let_go(segment);
+            let_go(after);
             self.network.release(number);
             return None;
         };
-        match self.network.settle_own(alloc, segment, pick) {
+        if count > self.limit - pick {
+            let_go(after);
+            self.network.release(number);
+            return None;
+        }
+        match self.network.settle_all(alloc, number, count, after, pick) {
             Ok(spent) => Some(spent),
-            Err(segment) => {
-                let_go(segment);
+            Err(after) => {
+                let_go(after);
                 self.give_back(number);
                 None
             }
@@ -227,14 +235,7 @@ impl Progress {
     }
 }
 
-/// The number of a task that is no longer wanted.
-fn number_of(task: Task) -> u32
-    ensures { result ≡ task.number }
-{
-    task.number
-}
-
-/// A turn that is no longer wanted.
-fn let_go(segment: Segment) {
-    drop(segment);
+/// A task that is no longer wanted.
+fn let_go(task: Task) {
+    drop(task);
 }

@@ -19,8 +19,8 @@ use std::sync::Wait;
 use std::thread::Threads;
 
 /// Runs the code on the keyboard's bytes by so many workers, each in a thread of its own, until the network ends or `limit`
-/// turns are settled. Each worker takes a turn out under a lock, runs it by the gate outside, and settles it under the lock, with
-/// the number of choices so far as its pick.
+/// turns are settled. Each worker takes a process out under a lock, takes its turn by the gate outside, and more in a row while
+/// they leave the process ready, and settles them under the lock, each with the number of choices so far as its pick.
 ///
 /// # Errors
 ///

@@ -9,6 +9,7 @@ use crate::desk::{Desk, OneRun, Ran, Step, Ticket, Turn};
 use crate::gate::Gate;
 use crate::progress::{Progress, Wake};
 use crate::tokens::{Token, Tokens};
+use occ_proc::Scratch;
 use std::alloc::Global;
 use std::hint::spin_loop;
 use std::sync::{Condvar, Mutex, MutexGuard, Wait};
@@ -149,19 +150,21 @@ fn next_turn<U: OneRun, R: Wait>(
     unreachable!()
 }
 
-/// One worker: it takes a turn out under the lock, takes it outside, and hands it in with the next one under the lock.
+/// One worker: it gets a turn under the lock, takes it outside, and those behind it that leave the process ready, and hands them in
+/// where it gets the next one under the lock.
 pub(crate) fn work<U: OneRun, R: Wait, G: Gate>(
     rt: &R,
     alloc: Global,
     shared: &Shared<U>,
     gate: &G,
 ) {
+    let mut scratch = Scratch::new(alloc);
     let mut ran = None;
     for _ in rt.forever() {
         let Some(turn) = next_turn(rt, alloc, shared, ran) else {
             return;
         };
-        ran = Some(turn.take(alloc, gate));
+        ran = Some(turn.take(alloc, gate, &mut scratch));
     }
 }
 
