@@ -3,6 +3,10 @@
 use Rattle.std.specs.Prelude.{Option, Some, ℕ, ℤ}
 use Rattle.occ_tree_grammar.specs.Many.{◌>>=◌}
 use Rattle.occ_tree_grammar.specs.Lines.Trees as L
+use Rattle.occ_tree_grammar.specs.Lines.Views.{replicator_of}
+use Rattle.occ_tree_grammar.specs.Processes.Views.{process_of}
+use Rattle.occ_tree_grammar.specs.declared.tree.line.Replicator.{Replicator}
+use Rattle.occ_tree_grammar.specs.declared.tree.process.Process.{Process}
 use Rattle.occ_tree_grammar.specs.Processes.Trees.{Node, process}
 use Rattle.occ_term.specs.Sizes as Sizes
 use Rattle.occ_term.specs.Terms.{Branches, Term, and_branch}
@@ -11,6 +15,9 @@ use Rattle.occ_check_meaning.specs.Numbers.{Numbers, more_processes, room}
 use Rattle.occ_check_meaning.specs.Performing.{Calling, Unfolds}
 use Rattle.occ_check_meaning.specs.Recursion.{unfolded}
 use Rattle.occ_check_meaning.specs.Scope.{Names, Scope, within}
+use Rattle.occ_check_names.specs.declared.scope.Position.{Position}
+use Rattle.occ_check.specs.Progress.{meant_at}
+use Rattle.occ_check.specs.declared.unfolder.Unfolder.{Unfolder}
 
 -- the first value of the index and how many copies there are, with the node of the PAR
 abbrev pub copies_counted : Names → ℕ → ℕ → L.Replicator → Numbers → Option ((ℤ × ℕ) × Numbers)
@@ -29,3 +36,7 @@ numbered_copy u i n = do
   m ← more_processes n
   t ← u i m
   Some (and_branch n.processes t.0, t.1)
+
+-- what the copies at a position unfold to, each for a value of the index
+abbrev pub copies_there : Unfolder → Position → ℕ → Replicator → Process → ℤ → Unfolds Term
+copies_there u at depth r p = copy_for (replicator_of r) (process_of p) (meant_at u at) depth

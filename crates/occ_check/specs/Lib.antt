@@ -1,3 +1,4 @@
+pub mod OpenBlocks
 pub mod Progress
 pub mod Statements
 pub mod Weights

@@ -1,17 +1,19 @@
 -- What is left of a construct whose first steps are done, and what its parts are put into.
 -- Manual: nothing; this is (own).
-use Rattle.std.specs.Prelude.{map, Option, Some, [], Result, Ok, Err, ℕ, ℤ, pos, ⊤, ◌+◌, ◌≤◌, ◌≤ℤ◌, ◌+ℤ◌, ◌≡◌}
+use Rattle.std.specs.Prelude.{IfOk, List, Option, Some, [], Result, Ok, Err, ℕ, ℤ, pos, ⊤, ◌≤◌, ◌≤ℤ◌, ◌+ℤ◌, ◌≡◌}
 use Rattle.occ_tree_grammar.specs.Lines.Views.{replicator_of as replicator_tree}
 use Rattle.occ_tree_grammar.specs.Many.{◌>>=◌}
-use Rattle.occ_tree_grammar.specs.Processes.Trees.{nodes}
-use Rattle.occ_tree_grammar.specs.Processes.Views as trees
 use Rattle.occ_tree_grammar.specs.Processes.Views.{process_of}
 use Rattle.occ_term.specs.Terms as T
+use Rattle.occ_term.specs.declared.expression.Declaration.{Declaration}
+use Rattle.occ_term.specs.declared.expression.Place.{Place}
+use Rattle.occ_term.specs.declared.expression.TermExpr.{TermExpr}
+use Rattle.occ_term.specs.declared.protocol.Protocol.{Protocol}
 use Rattle.occ_term.specs.View.{declarations_of, expression_of, place_of, replicator_of, targets_of, term_of, test_of}
 use Rattle.occ_check_meaning.specs.Actions as A
 use Rattle.occ_check_meaning.specs.Actions.{headed}
 use Rattle.occ_check_meaning.specs.Numbers as N
-use Rattle.occ_check_meaning.specs.Performing.{copied}
+use Rattle.occ_check_meaning.specs.Performing.{Under, copied}
 use Rattle.occ_check_meaning.specs.Recursion.{all_arms, all_beside, all_choices, all_in_turn, all_options, all_variants, unfolded}
 use Rattle.occ_check_acting.specs.Action.{chosen_of, listed_of}
 use Rattle.occ_check_acting.specs.declared.action.Chosen.{Chosen}
@@ -19,8 +21,8 @@ use Rattle.occ_check_names.specs.View.{Refuses}
 use Rattle.occ_check_names.specs.declared.fault.CheckFault.{CheckFault}
 use Rattle.occ_check_names.specs.declared.scope.Position.{Position}
 use Rattle.occ_check.specs.Copies.{copy_for}
-use Rattle.occ_check.specs.Progress.{counted, meant_at, weight_at}
-use Rattle.occ_check.specs.Weights.{node_size, nodes_size}
+use Rattle.occ_check.specs.Progress.{body_weight, counted, meant_at, nodes_weight}
+use Rattle.occ_check.specs.Weights.{arm_nodes, choice_nodes, option_nodes, process_nodes, variant_nodes}
 use Rattle.occ_check.specs.declared.arms.ArmsHead.{ArmsHead}
 use Rattle.occ_check.specs.declared.arms.GuardedHead.{GuardedHead}
 use Rattle.occ_check.specs.declared.arms.OpenedArm.{OpenedArm}
@@ -32,6 +34,7 @@ use Rattle.occ_check.specs.declared.choices.OpenedChoice.TheVariants as choices
 use Rattle.occ_check.specs.declared.choices.WhenHead.{WhenHead}
 use Rattle.occ_check.specs.declared.copies.OpenedCopy.{OpenedCopy}
 use Rattle.occ_check.specs.declared.guards.ArmGuard.{ArmGuard}
+use Rattle.occ_check.specs.declared.guards.Guarded.{Guarded}
 use Rattle.occ_check.specs.declared.guards.ArmGuard.TheVariants as guards
 use Rattle.occ_check.specs.declared.opened.Around.{Around}
 use Rattle.occ_check.specs.declared.opened.Around.TheVariants as arounds
@@ -58,6 +61,10 @@ abbrev pub Opens : {X Y : Type 0} → (Unfolder → X → Option Y) → Result X
 Opens left (Ok x) after given = given ≡ left after x
 Opens left (Err e) after given = Refuses e given
 
+-- the same of a part of the tree that is opened at a position, behind so many nodes
+abbrev pub OpensAt : {X Y : Type 0} → (Unfolder → X → Option (Y × N.Numbers)) → Result X CheckFault → Unfolder → Unfolder → Position → ℕ → Under Y → Type 0
+OpensAt left result old new at depth part = Opens left result new (part (meant_at old at) depth (counted old))
+
 -- ---- statements
 
 abbrev pub around : Around → T.Term → T.Term
@@ -76,13 +83,13 @@ each_arms (overs.Each r) xs = T.each_arm (replicator_of r) xs T.no_arms
 abbrev pub left_in : Unfolder → Position → ℕ → Left → Option (T.Term × N.Numbers)
 left_in u at depth (lefts.Done t) = Some (term_of t, counted u)
 left_in u at depth (lefts.Body a p) = put (around a) (unfolded (process_of p.now) (meant_at u at) depth (counted u))
-left_in u at depth (lefts.InTurn ps) = put T.Seq (all_in_turn (nodes (map process_of ps.now)) (meant_at u at) depth (counted u))
-left_in u at depth (lefts.Beside ps) = put T.Par (all_beside (nodes (map process_of ps.now)) (meant_at u at) depth (counted u))
+left_in u at depth (lefts.InTurn ps) = put T.Seq (all_in_turn (process_nodes ps.now) (meant_at u at) depth (counted u))
+left_in u at depth (lefts.Beside ps) = put T.Par (all_beside (process_nodes ps.now) (meant_at u at) depth (counted u))
 left_in u at depth (lefts.Copies r first count p) = put T.Par (copied (copy_for (replicator_tree r.now) (process_of p.now) (meant_at u at) depth) count first (counted u))
-left_in u at depth (lefts.Choices over cs) = put (λ x. T.If (each_choices over x)) (all_choices (nodes (map trees.choice_of cs.now)) (meant_at u at) depth (counted u))
-left_in u at depth (lefts.Options e type os) = put (T.Case (expression_of e)) (all_options (nodes (map trees.selection_of os.now)) type A.none_chosen (meant_at u at) depth (counted u))
-left_in u at depth (lefts.Variants c p vs) = put (T.VariantInput (place_of c)) (all_variants (nodes (map trees.variant_of vs.now)) p [] (meant_at u at) depth (counted u))
-left_in u at depth (lefts.Arms pri over xs) = put (λ x. T.Alt pri (each_arms over x)) (all_arms (nodes (map trees.arm_of xs.now)) (meant_at u at) depth (counted u))
+left_in u at depth (lefts.Choices over cs) = put (λ x. T.If (each_choices over x)) (all_choices (choice_nodes cs.now) (meant_at u at) depth (counted u))
+left_in u at depth (lefts.Options e type os) = put (T.Case (expression_of e)) (all_options (option_nodes os.now) type A.none_chosen (meant_at u at) depth (counted u))
+left_in u at depth (lefts.Variants c p vs) = put (T.VariantInput (place_of c)) (all_variants (variant_nodes vs.now) p [] (meant_at u at) depth (counted u))
+left_in u at depth (lefts.Arms pri over xs) = put (λ x. T.Alt pri (each_arms over x)) (all_arms (arm_nodes xs.now) (meant_at u at) depth (counted u))
 
 abbrev pub statement_left : Unfolder → Opened → Option (T.Term × N.Numbers)
 statement_left u o = left_in u o.at o.depth o.left
@@ -90,14 +97,14 @@ statement_left u o = left_in u o.at o.depth o.left
 -- how large what is left is, with what is in scope there
 abbrev pub weight_in : Unfolder → Position → Left → ℕ
 weight_in u at (lefts.Done t) = 0
-weight_in u at (lefts.Body a p) = node_size (process_of p.now) + weight_at u at
-weight_in u at (lefts.InTurn ps) = nodes_size (nodes (map process_of ps.now)) + weight_at u at
-weight_in u at (lefts.Beside ps) = nodes_size (nodes (map process_of ps.now)) + weight_at u at
-weight_in u at (lefts.Copies r first count p) = node_size (process_of p.now) + weight_at u at
-weight_in u at (lefts.Choices over cs) = nodes_size (nodes (map trees.choice_of cs.now)) + weight_at u at
-weight_in u at (lefts.Options e type os) = nodes_size (nodes (map trees.selection_of os.now)) + weight_at u at
-weight_in u at (lefts.Variants c p vs) = nodes_size (nodes (map trees.variant_of vs.now)) + weight_at u at
-weight_in u at (lefts.Arms pri over xs) = nodes_size (nodes (map trees.arm_of xs.now)) + weight_at u at
+weight_in u at (lefts.Body a p) = body_weight u at p.now
+weight_in u at (lefts.InTurn ps) = nodes_weight u at (process_nodes ps.now)
+weight_in u at (lefts.Beside ps) = nodes_weight u at (process_nodes ps.now)
+weight_in u at (lefts.Copies r first count p) = body_weight u at p.now
+weight_in u at (lefts.Choices over cs) = nodes_weight u at (choice_nodes cs.now)
+weight_in u at (lefts.Options e type os) = nodes_weight u at (option_nodes os.now)
+weight_in u at (lefts.Variants c p vs) = nodes_weight u at (variant_nodes vs.now)
+weight_in u at (lefts.Arms pri over xs) = nodes_weight u at (arm_nodes xs.now)
 
 abbrev pub left_weight : Unfolder → Opened → ℕ
 left_weight u o = weight_in u o.at o.left
@@ -117,6 +124,14 @@ IsCounted (lefts.Arms pri over xs) = ⊤
 abbrev pub IsReady : Opened → Type 0
 IsReady o = (o.depth ≤ 200) × IsCounted o.left
 
+-- what is left of a statement that is opened is what the statement unfolds to
+abbrev pub Begins : Result Opened CheckFault → Unfolder → Unfolder → Position → ℕ → Under T.Term → Type 0
+Begins result old new at depth part = OpensAt statement_left result old new at depth part
+
+-- and no larger than this
+abbrev pub LeavesWithin : Result Opened CheckFault → Unfolder → ℕ → Type 0
+LeavesWithin result after most = IfOk result (λ o. left_weight after o ≤ most)
+
 -- ---- a process
 
 abbrev pub step_left : Unfolder → Step → Option (T.Term × N.Numbers)
@@ -124,7 +139,7 @@ step_left u (steps.Call p at depth) = unfolded (process_of p.now) (meant_at u at
 step_left u (steps.Behind heads o) = put (headed (declarations_of heads)) (statement_left u o)
 
 abbrev pub step_weight : Unfolder → Step → ℕ
-step_weight u (steps.Call p at depth) = node_size (process_of p.now) + weight_at u at
+step_weight u (steps.Call p at depth) = body_weight u at p.now
 step_weight u (steps.Behind heads o) = left_weight u o
 
 abbrev pub IsStepReady : Step → Type 0
@@ -139,19 +154,31 @@ choice_with h t = A.choices_behind (declarations_of h.heads) (T.or_choice (expre
 abbrev pub choices_within : ChoicesHead → T.Choices → T.Choices
 choices_within h cs = A.choices_behind (declarations_of h.heads) (each_choices h.over cs)
 
+-- behind what is set for declarations
+abbrev pub choices_behind : List Declaration → Under T.Choices → Under T.Choices
+choices_behind heads part sc depth n = put (A.choices_behind (declarations_of heads)) (part sc depth n)
+
 abbrev pub choice_left : Unfolder → OpenedChoice → Option (T.Choices × N.Numbers)
 choice_left u (choices.When h p at depth) = put (choice_with h) (unfolded (process_of p.now) (meant_at u at) depth (counted u))
-choice_left u (choices.Inner h cs at depth) = put (choices_within h) (all_choices (nodes (map trees.choice_of cs.now)) (meant_at u at) depth (counted u))
+choice_left u (choices.Inner h cs at depth) = put (choices_within h) (all_choices (choice_nodes cs.now) (meant_at u at) depth (counted u))
 
 abbrev pub choice_weight : Unfolder → OpenedChoice → ℕ
-choice_weight u (choices.When h p at depth) = node_size (process_of p.now) + weight_at u at
-choice_weight u (choices.Inner h cs at depth) = nodes_size (nodes (map trees.choice_of cs.now)) + weight_at u at
+choice_weight u (choices.When h p at depth) = body_weight u at p.now
+choice_weight u (choices.Inner h cs at depth) = nodes_weight u at (choice_nodes cs.now)
 
 abbrev pub choice_depth : OpenedChoice → ℕ
 choice_depth (choices.When h p at depth) = depth
 choice_depth (choices.Inner h cs at depth) = depth
 
 -- ---- the arms of an ALT
+
+-- a guard with an input, as the definitions have it
+abbrev pub guarded_of : Guarded → Option T.Expression × (T.Place × A.Listed)
+guarded_of g = (test_of g.test, (place_of g.channel, listed_of g.listed))
+
+-- and one with an input of variants
+abbrev pub variants_guard_of : Option TermExpr × Protocol × Place → Option T.Expression × (Protocol × T.Place)
+variants_guard_of g = (test_of g.0, (g.1, place_of g.2))
 
 -- an arm with a guard in one line
 abbrev pub guarded_by : ArmGuard → T.Term → T.Arms
@@ -167,15 +194,19 @@ variants_within h vs = A.arms_behind (declarations_of h.heads) (T.input_arm (tes
 abbrev pub arms_within : ArmsHead → T.Arms → T.Arms
 arms_within h xs = A.arms_behind (declarations_of h.heads) (each_arms h.over xs)
 
+-- behind what is set for declarations
+abbrev pub arms_behind : List Declaration → Under T.Arms → Under T.Arms
+arms_behind heads part sc depth n = put (A.arms_behind (declarations_of heads)) (part sc depth n)
+
 abbrev pub arm_left : Unfolder → OpenedArm → Option (T.Arms × N.Numbers)
 arm_left u (arms.Guarded h p at depth) = put (arm_with h) (unfolded (process_of p.now) (meant_at u at) depth (counted u))
-arm_left u (arms.OnVariant h p vs at depth) = put (variants_within h) (all_variants (nodes (map trees.variant_of vs.now)) p [] (meant_at u at) depth (counted u))
-arm_left u (arms.Inner h xs at depth) = put (arms_within h) (all_arms (nodes (map trees.arm_of xs.now)) (meant_at u at) depth (counted u))
+arm_left u (arms.OnVariant h p vs at depth) = put (variants_within h) (all_variants (variant_nodes vs.now) p [] (meant_at u at) depth (counted u))
+arm_left u (arms.Inner h xs at depth) = put (arms_within h) (all_arms (arm_nodes xs.now) (meant_at u at) depth (counted u))
 
 abbrev pub arm_weight : Unfolder → OpenedArm → ℕ
-arm_weight u (arms.Guarded h p at depth) = node_size (process_of p.now) + weight_at u at
-arm_weight u (arms.OnVariant h p vs at depth) = nodes_size (nodes (map trees.variant_of vs.now)) + weight_at u at
-arm_weight u (arms.Inner h xs at depth) = nodes_size (nodes (map trees.arm_of xs.now)) + weight_at u at
+arm_weight u (arms.Guarded h p at depth) = body_weight u at p.now
+arm_weight u (arms.OnVariant h p vs at depth) = nodes_weight u at (variant_nodes vs.now)
+arm_weight u (arms.Inner h xs at depth) = nodes_weight u at (arm_nodes xs.now)
 
 abbrev pub arm_depth : OpenedArm → ℕ
 arm_depth (arms.Guarded h p at depth) = depth

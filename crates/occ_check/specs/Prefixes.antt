@@ -78,11 +78,18 @@ storing ns line depth p k ts n = do
 
 -- ---- the guards of an ALT, each with the node that it heads
 
+-- the sizes of what a guard with an input, and one with an input of variants, head
+abbrev pub guard_size : Option T.Expression → T.Place → Listed → Sizes.Size
+guard_size e c l = Sizes.with_node (Sizes.together (size_of_test e) (Sizes.together (size_of_place c) (size_of_list l)))
+
+abbrev pub variants_guard_size : Option T.Expression → T.Place → Sizes.Size
+variants_guard_size e c = Sizes.with_node (Sizes.together (size_of_test e) (size_of_place c))
+
 abbrev pub guarding : Names → ℕ → ℕ → Option Expression → L.Input → Numbers → Option ((Option T.Expression × (T.Place × Listed)) × Numbers)
 guarding ns line depth test i n = do
   e ← test_of ns line test
   c ← received ns line i
-  m ← room depth (Sizes.with_node (Sizes.together (size_of_test e) (Sizes.together (size_of_place c.0) (size_of_list c.1)))) n
+  m ← room depth (guard_size e c.0 c.1) n
   Some ((e, c), m)
 
 abbrev pub guarding_variants : Names → ℕ → ℕ → Option Expression → Var → Numbers → Option ((Option T.Expression × (Protocol × T.Place)) × Numbers)
@@ -90,5 +97,5 @@ guarding_variants ns line depth test v n = do
   e ← test_of ns line test
   c ← channel_of ns line v
   p ← with_tags c.0
-  m ← room depth (Sizes.with_node (Sizes.together (size_of_test e) (size_of_place c.1))) n
+  m ← room depth (variants_guard_size e c.1) n
   Some ((e, (p, c.1)), m)

@@ -1,9 +1,13 @@
 -- How large trees and scopes are. What is unfolded next is smaller than what it stands in, and a PROC's body with all that it sees
 -- is smaller than a scope that the PROC stands in.
 -- Manual: nothing; this is (own).
-use Rattle.std.specs.Prelude.{[], ℕ, ◌+◌, ◌∷◌}
-use Rattle.occ_tree_grammar.specs.Processes.Trees.{Kind, Node, node, Body, no_body, single_body, bodies, Nodes, no_node, more_nodes, Decls, no_decl, more_decls, Decl, declares, item, Item, value_item, protocol_item, proc_item, Under}
-use Rattle.occ_tree_grammar.specs.Processes.Views.{process_of, arm_of, choice_of, held_processes, held_arms, held_choices, held_selections, held_variants}
+use Rattle.std.specs.Prelude.{List, [], map, ℕ, ◌+◌, ◌∷◌}
+use Rattle.occ_tree_grammar.specs.Processes.Trees.{Kind, process, choice, option, arm, variant, Node, node, Body, no_body, single_body, bodies, Nodes, no_node, more_nodes, nodes, Decls, no_decl, more_decls, decls, Decl, declares, item, Item, value_item, protocol_item, proc_item, Under}
+use Rattle.occ_tree_grammar.specs.Processes.Views.{process_of, arm_of, choice_of, selection_of, variant_of, decl_of, held_processes, held_arms, held_choices, held_selections, held_variants}
+use Rattle.occ_tree_grammar.specs.declared.tree.process.Decl.{Decl as DeclTree}
+use Rattle.occ_tree_grammar.specs.declared.tree.process.Process.{Process}
+use Rattle.occ_tree_grammar.specs.declared.tree.process.Selection.{Selection}
+use Rattle.occ_tree_grammar.specs.declared.tree.process.Variant.{Variant}
 use Rattle.occ_tree_grammar.specs.declared.tree.process.Stmt.{Stmt}
 use Rattle.occ_tree_grammar.specs.declared.tree.process.Stmt.TheVariants as stmts
 use Rattle.occ_tree_grammar.specs.declared.tree.process.Choice.{Choice}
@@ -72,3 +76,23 @@ arm_size (arms.Guarded' shape ds line g n) = node_size (process_of n) + 1
 arm_size (arms.OnVariant' shape ds line g s vs) = nodes_size (held_variants vs) + 1
 arm_size (arms.InnerAlt' shape ds line pri s ms) = nodes_size (held_arms ms) + 1
 arm_size (arms.InnerAltFor' shape ds line pri r p m) = node_size (arm_of m) + 1
+
+-- the parts of constructs, as the code keeps them in lists
+
+abbrev pub process_nodes : List Process → Nodes process
+process_nodes ps = nodes (map process_of ps)
+
+abbrev pub choice_nodes : List Choice → Nodes choice
+choice_nodes cs = nodes (map choice_of cs)
+
+abbrev pub option_nodes : List Selection → Nodes option
+option_nodes os = nodes (map selection_of os)
+
+abbrev pub arm_nodes : List Arm → Nodes arm
+arm_nodes xs = nodes (map arm_of xs)
+
+abbrev pub variant_nodes : List Variant → Nodes variant
+variant_nodes vs = nodes (map variant_of vs)
+
+abbrev pub decl_nodes : List DeclTree → Decls
+decl_nodes ds = decls (map decl_of ds)

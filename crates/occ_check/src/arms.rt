@@ -1,23 +1,22 @@
 //! The arms of an ALT.
 
-ghost use Rattle.std.specs.Prelude.{◌≡◌, ◌<◌, ◌≤◌, ◌+◌, IfOk, OnOk, length, map, take};
-ghost use Rattle.occ_tree_grammar.specs.Processes.Trees.{decls, more_nodes, no_node, nodes};
+ghost use Rattle.std.specs.Prelude.{◌≡◌, ◌<◌, ◌≤◌, ◌+◌, IfOk, OnOk};
+ghost use Rattle.occ_tree_grammar.specs.Processes.Trees.{more_nodes, no_node};
 ghost use Rattle.occ_tree_grammar.specs.Processes.Views as trees;
-ghost use Rattle.occ_tree_grammar.specs.Processes.Views.{decl_of, process_of, held_arms, held_decls};
+ghost use Rattle.occ_tree_grammar.specs.Processes.Views.{held_arms, held_decls};
 ghost use Rattle.occ_tree_grammar.specs.declared.tree.process.Arm.TheBlock.{hidden-the_row-Arm-2, hidden-the_row-Decl-0};
 ghost use Rattle.occ_tree_grammar.specs.Lines.HeadViews.{guard_of};
-ghost use Rattle.occ_tree_grammar.specs.Lines.Views.{replicator_of};
 ghost use Rattle.occ_term.specs.Terms.{no_arms};
 ghost use Rattle.occ_term.specs.View.{arm_of, arms_of, declarations_of, term_of, variants_of};
 ghost use Rattle.occ_check_meaning.specs.Actions as meant;
 ghost use Rattle.occ_check_meaning.specs.Performing as performing;
-ghost use Rattle.occ_check_meaning.specs.Performing.{alternated, each_of_arms};
-ghost use Rattle.occ_check_meaning.specs.Recursion.{all_arms, arm_unfolded, unfolded};
-ghost use Rattle.occ_check_names.specs.View.{Unfolds};
-ghost use Rattle.occ_check.specs.Opened.{IsReady, Opens, arm_depth, arm_left, arm_weight, arm_with, arms_within, left_weight, put, statement_left, variants_within};
-ghost use Rattle.occ_check.specs.Progress.{counted, meant_at, weight_at};
-ghost use Rattle.occ_check.specs.Statements.{declarations_of_arm, listening};
-ghost use Rattle.occ_check.specs.Weights.{arm_size, node_size, nodes_size};
+ghost use Rattle.occ_check_meaning.specs.Performing.{alternated};
+ghost use Rattle.occ_check_meaning.specs.Recursion.{all_arms, arm_unfolded};
+ghost use Rattle.occ_check.specs.Opened.{Begins, IsReady, LeavesWithin, OpensAt, arm_depth, arm_left, arm_weight, arm_with, arms_behind, arms_within, variants_within};
+ghost use Rattle.occ_check.specs.Progress.{Reads, body_weight, node_weight, nodes_weight, weight_at};
+ghost use Rattle.occ_check.specs.Statements.{body_unfolded, declarations_of_arm, each_arm_of, listening};
+ghost use Rattle.occ_check.specs.Weights.{arm_nodes, arm_size, decl_nodes, node_size};
+ghost use Rattle.occ_check.specs.OpenBlocks.{Keeps, Restores};
 
 use crate::guards::{ArmGuard, depth_behind};
 use crate::opened::{Left, Opened, Over};
@@ -137,9 +136,9 @@ impl<'t> Unfolder<'t> {
         by_priority: bool,
         arms: &'t [Arm],
     ) -> Result<Opened<'t>, CheckFault>
-        ensures opens { Opens statement_left result self.new (alternated by_priority (all_arms (nodes (map trees.arm_of arms.now))) (meant_at self.old at) depth (counted self.old)) }
-        ensures kept { OnOk result (take (length self.old.blocks.blocks.items) self.new.blocks.blocks.items ≡ self.old.blocks.blocks.items) }
-        ensures weight { IfOk result (λ o. left_weight self.new o ≤ nodes_size (nodes (map trees.arm_of arms.now)) + weight_at self.old at) }
+        ensures opens { Begins result self.old self.new at depth (alternated by_priority (all_arms (arm_nodes arms.now))) }
+        ensures kept { OnOk result (Keeps self.old.blocks self.new.blocks) }
+        ensures weight { LeavesWithin result self.new (nodes_weight self.old at (arm_nodes arms.now)) }
         ensures ready { IfOk result IsReady }
     {
         self.numbers.node(depth)?;
@@ -161,9 +160,9 @@ impl<'t> Unfolder<'t> {
         replicator: &Replicator,
         arm: &'t Arm,
     ) -> Result<Opened<'t>, CheckFault>
-        ensures opens { Opens statement_left result self.new (alternated by_priority (each_of_arms line (replicator_of replicator.now) (arm_unfolded (trees.arm_of arm.now))) (meant_at self.old at) depth (counted self.old)) }
-        ensures kept { OnOk result (take (length self.old.blocks.blocks.items) self.new.blocks.blocks.items ≡ self.old.blocks.blocks.items) }
-        ensures weight { IfOk result (λ o. left_weight self.new o ≤ (node_size (trees.arm_of arm.now) + 1) + weight_at self.old at) }
+        ensures opens { Begins result self.old self.new at depth (alternated by_priority (each_arm_of line replicator.now arm.now)) }
+        ensures kept { OnOk result (Keeps self.old.blocks self.new.blocks) }
+        ensures weight { LeavesWithin result self.new ((node_size (trees.arm_of arm.now) + 1) + weight_at self.old at) }
         ensures ready { IfOk result IsReady }
     {
         self.numbers.node(depth)?;
@@ -185,8 +184,8 @@ impl<'t> Unfolder<'t> {
         list: &'t [Arm],
     ) -> Result<Items<TermArm>, CheckFault>
         requires { depth ≤ 200 }
-        ensures arms { Unfolds arms_of result self.new.numbers (all_arms (nodes (map trees.arm_of list.now)) (meant_at self.old at) depth (counted self.old)) }
-        ensures kept { OnOk result (self.new.blocks.blocks.items ≡ self.old.blocks.blocks.items) }
+        ensures arms { Reads arms_of result self.old self.new at depth (all_arms (arm_nodes list.now)) }
+        ensures kept { OnOk result (Restores self.old.blocks self.new.blocks) }
     {
         let mut arms = Items::new(alloc);
         for arm in list {
@@ -228,9 +227,9 @@ impl<'t> Unfolder<'t> {
         arm: &'t Arm,
     ) -> Result<OpenedArm<'t>, CheckFault>
         requires { depth ≤ 200 }
-        ensures opens { Opens arm_left result self.new (arm_unfolded (trees.arm_of arm.now) (meant_at self.old at) depth (counted self.old)) }
-        ensures kept { OnOk result (take (length self.old.blocks.blocks.items) self.new.blocks.blocks.items ≡ self.old.blocks.blocks.items) }
-        ensures weight { IfOk result (λ o. arm_weight self.new o < node_size (trees.arm_of arm.now) + weight_at self.old at) }
+        ensures opens { OpensAt arm_left result self.old self.new at depth (arm_unfolded (trees.arm_of arm.now)) }
+        ensures kept { OnOk result (Keeps self.old.blocks self.new.blocks) }
+        ensures weight { IfOk result (λ o. arm_weight self.new o < node_weight self.old at (trees.arm_of arm.now)) }
         ensures within { IfOk result (λ o. arm_depth o ≤ 200) }
     {
         let (heads, inside) = self.entering(alloc, at, depth, declarations_of(arm))?;
@@ -248,8 +247,8 @@ impl<'t> Unfolder<'t> {
         heads: Items<Declaration>,
     ) -> Result<OpenedArm<'t>, CheckFault>
         requires { depth ≤ 200 }
-        ensures opens { Opens arm_left result self.new (put (meant.arms_behind (declarations_of heads)) (listening arm.now (meant_at self.old at) depth (counted self.old))) }
-        ensures kept { OnOk result (take (length self.old.blocks.blocks.items) self.new.blocks.blocks.items ≡ self.old.blocks.blocks.items) }
+        ensures opens { OpensAt arm_left result self.old self.new at depth (arms_behind heads (listening arm.now)) }
+        ensures kept { OnOk result (Keeps self.old.blocks self.new.blocks) }
         ensures weight { IfOk result (λ o. arm_weight self.new o ≤ arm_size arm.now + weight_at self.old at) }
         ensures within { IfOk result (λ o. arm_depth o ≤ 200) }
     {
@@ -297,9 +296,9 @@ impl<'t> Unfolder<'t> {
         heads: Items<Declaration>,
     ) -> Result<OpenedArm<'t>, CheckFault>
         requires { depth ≤ 200 }
-        ensures opens { Opens arm_left result self.new (put (meant.arms_behind (declarations_of heads)) (performing.arm_of line (guard_of guard.now) (unfolded (process_of body.now)) (meant_at self.old at) depth (counted self.old))) }
-        ensures kept { OnOk result (take (length self.old.blocks.blocks.items) self.new.blocks.blocks.items ≡ self.old.blocks.blocks.items) }
-        ensures weight { IfOk result (λ o. arm_weight self.new o ≤ node_size (process_of body.now) + weight_at self.old at) }
+        ensures opens { OpensAt arm_left result self.old self.new at depth (arms_behind heads (performing.arm_of line (guard_of guard.now) (body_unfolded body.now))) }
+        ensures kept { OnOk result (Keeps self.old.blocks self.new.blocks) }
+        ensures weight { IfOk result (λ o. arm_weight self.new o ≤ body_weight self.old at body.now) }
         ensures within { IfOk result (λ o. arm_depth o ≤ 200) }
     {
         match guard {
@@ -346,7 +345,7 @@ fn arms_behind(
 
 /// An arm as a list.
 fn one_arm(arm: &Arm) -> &[Arm]
-    ensures { nodes (map trees.arm_of result.now) ≡ more_nodes (trees.arm_of arm.now) no_node }
+    ensures { arm_nodes result.now ≡ more_nodes (trees.arm_of arm.now) no_node }
 {
     std::slice::from_ref(arm)
 }
@@ -354,7 +353,7 @@ fn one_arm(arm: &Arm) -> &[Arm]
 /// The arms of an ALT, as a slice.
 #[tactic(auto, using(crate::proofs::HeldLists::arms_made))]
 pub(crate) fn listed_arms(arms: &Vec<Arm>) -> &[Arm]
-    ensures { nodes (map trees.arm_of result.now) ≡ held_arms (hidden-the_row-Arm-2 arms.now) }
+    ensures { arm_nodes result.now ≡ held_arms (hidden-the_row-Arm-2 arms.now) }
 {
     arms.as_slice()
 }
@@ -374,7 +373,7 @@ fn kept_declarations(arm: &Arm) -> &Vec<Decl>
 /// The declarations of an arm.
 #[tactic(auto, using(crate::proofs::Parts::decls_made))]
 fn declarations_of(arm: &Arm) -> &[Decl]
-    ensures { decls (map decl_of result.now) ≡ declarations_of_arm arm.now }
+    ensures { decl_nodes result.now ≡ declarations_of_arm arm.now }
 {
     kept_declarations(arm).as_slice()
 }

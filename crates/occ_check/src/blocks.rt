@@ -1,8 +1,9 @@
 //! The blocks of the scopes that are open while a program is unfolded.
 
-ghost use Rattle.std.specs.Prelude.{◌≡◌, ◌+◌, ◌<◌, ◌≤◌, ◌∷◌, [], ℕ, IfErr, OnOk, length, reverse, take};
+ghost use Rattle.std.specs.Prelude.{◌≡◌, ◌+◌, ◌∷◌, [], IfErr, OnOk, length, take};
 ghost use Rattle.occ_check_names.specs.declared.fault.CheckFault.TheVariants.{Memory};
-ghost use Rattle.occ_check_names.specs.View.{binding_of, innermost, scope_in};
+ghost use Rattle.occ_check_names.specs.View.{binding_of};
+ghost use Rattle.occ_check.specs.OpenBlocks.{Deepens, HasBlock, Keeps, KeepsOuter, seen_at, seen_inside};
 
 use occ_check_names::fault::CheckFault;
 use occ_check_names::known::Known;
@@ -49,7 +50,7 @@ impl<'t> Blocks<'t> {
 
     /// The position of all names of the last block.
     pub fn end(&self) -> Position
-        ensures scope { scope_in (reverse self.now.blocks.items) result ≡ innermost (reverse self.now.blocks.items) }
+        ensures scope { seen_at self.now result ≡ seen_inside self.now }
         ensures blocks { result.blocks ≡ length self.now.blocks.items }
     {
         let seen = self.blocks.last().map_or(0, |block| block.len());
@@ -61,8 +62,8 @@ impl<'t> Blocks<'t> {
 
     /// Opens a block without names inside of a position.
     pub fn open(&mut self, alloc: Global, outer: Position) -> Result<(), CheckFault>
-        ensures scope { OnOk result (innermost (reverse self.new.blocks.items) ≡ scope_in (reverse self.old.blocks.items) outer) }
-        ensures kept { OnOk result (take (length self.old.blocks.items) self.new.blocks.items ≡ self.old.blocks.items) }
+        ensures scope { OnOk result (seen_inside self.new ≡ seen_at self.old outer) }
+        ensures kept { OnOk result (Keeps self.old self.new) }
         ensures more { OnOk result (length self.new.blocks.items ≡ length self.old.blocks.items + 1) }
         ensures memory { IfErr result (λ e. e ≡ Memory) }
     {
@@ -77,10 +78,10 @@ impl<'t> Blocks<'t> {
         name: &[u8],
         binding: Binding<'t>,
     ) -> Result<(), CheckFault>
-        requires { 0 < length self.old.blocks.items }
-        ensures scope { OnOk result (innermost (reverse self.new.blocks.items) ≡ (name.now, binding_of binding.entry) ∷ innermost (reverse self.old.blocks.items)) }
-        ensures kept { OnOk result ((n : ℕ) → n < length self.old.blocks.items → take n self.new.blocks.items ≡ take n self.old.blocks.items) }
-        ensures more { OnOk result (length self.old.blocks.items ≤ length self.new.blocks.items) }
+        requires { HasBlock self.old }
+        ensures scope { OnOk result (seen_inside self.new ≡ (name.now, binding_of binding.entry) ∷ seen_inside self.old) }
+        ensures kept { OnOk result (KeepsOuter self.old self.new) }
+        ensures more { OnOk result (Deepens self.old self.new) }
         ensures memory { IfErr result (λ e. e ≡ Memory) }
     {
         let Some(block) = self.blocks.pop() else {

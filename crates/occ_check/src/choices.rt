@@ -1,21 +1,20 @@
 //! The choices of an IF.
 
-ghost use Rattle.std.specs.Prelude.{◌≡◌, ◌<◌, ◌≤◌, ◌+◌, IfOk, OnOk, length, map, take};
-ghost use Rattle.occ_tree_grammar.specs.Processes.Trees.{decls, more_nodes, no_node, nodes};
+ghost use Rattle.std.specs.Prelude.{◌≡◌, ◌<◌, ◌≤◌, ◌+◌, IfOk, OnOk};
+ghost use Rattle.occ_tree_grammar.specs.Processes.Trees.{more_nodes, no_node};
 ghost use Rattle.occ_tree_grammar.specs.Processes.Views as trees;
-ghost use Rattle.occ_tree_grammar.specs.Processes.Views.{decl_of, held_choices, held_decls};
+ghost use Rattle.occ_tree_grammar.specs.Processes.Views.{held_choices, held_decls};
 ghost use Rattle.occ_tree_grammar.specs.declared.tree.process.Arm.TheBlock.{hidden-the_row-Choice-3, hidden-the_row-Decl-0};
-ghost use Rattle.occ_tree_grammar.specs.Lines.Views.{replicator_of};
 ghost use Rattle.occ_term.specs.Terms.{no_choices};
 ghost use Rattle.occ_term.specs.View.{choice_of, choices_of, declarations_of, term_of};
 ghost use Rattle.occ_check_meaning.specs.Actions as meant;
-ghost use Rattle.occ_check_meaning.specs.Performing.{conditioned, each_of_choices};
+ghost use Rattle.occ_check_meaning.specs.Performing.{conditioned};
 ghost use Rattle.occ_check_meaning.specs.Recursion.{all_choices, choice_unfolded};
-ghost use Rattle.occ_check_names.specs.View.{Unfolds};
-ghost use Rattle.occ_check.specs.Opened.{IsReady, Opens, choice_depth, choice_left, choice_weight, choice_with, choices_within, left_weight, put, statement_left};
-ghost use Rattle.occ_check.specs.Progress.{counted, meant_at, weight_at};
-ghost use Rattle.occ_check.specs.Statements.{choosing, declarations_of_choice};
-ghost use Rattle.occ_check.specs.Weights.{choice_size, node_size, nodes_size};
+ghost use Rattle.occ_check.specs.Opened.{Begins, IsReady, LeavesWithin, OpensAt, choice_depth, choice_left, choice_weight, choice_with, choices_behind, choices_within};
+ghost use Rattle.occ_check.specs.Progress.{Reads, node_weight, nodes_weight, weight_at};
+ghost use Rattle.occ_check.specs.Statements.{choosing, declarations_of_choice, each_choice_of};
+ghost use Rattle.occ_check.specs.Weights.{choice_nodes, choice_size, decl_nodes, node_size};
+ghost use Rattle.occ_check.specs.OpenBlocks.{Keeps, Restores};
 
 use crate::opened::{Left, Opened, Over};
 use crate::unfolder::Unfolder;
@@ -95,9 +94,9 @@ impl<'t> Unfolder<'t> {
         depth: u32,
         choices: &'t [Choice],
     ) -> Result<Opened<'t>, CheckFault>
-        ensures opens { Opens statement_left result self.new (conditioned (all_choices (nodes (map trees.choice_of choices.now))) (meant_at self.old at) depth (counted self.old)) }
-        ensures kept { OnOk result (take (length self.old.blocks.blocks.items) self.new.blocks.blocks.items ≡ self.old.blocks.blocks.items) }
-        ensures weight { IfOk result (λ o. left_weight self.new o ≤ nodes_size (nodes (map trees.choice_of choices.now)) + weight_at self.old at) }
+        ensures opens { Begins result self.old self.new at depth (conditioned (all_choices (choice_nodes choices.now))) }
+        ensures kept { OnOk result (Keeps self.old.blocks self.new.blocks) }
+        ensures weight { LeavesWithin result self.new (nodes_weight self.old at (choice_nodes choices.now)) }
         ensures ready { IfOk result IsReady }
     {
         self.numbers.node(depth)?;
@@ -118,9 +117,9 @@ impl<'t> Unfolder<'t> {
         replicator: &Replicator,
         choice: &'t Choice,
     ) -> Result<Opened<'t>, CheckFault>
-        ensures opens { Opens statement_left result self.new (conditioned (each_of_choices line (replicator_of replicator.now) (choice_unfolded (trees.choice_of choice.now))) (meant_at self.old at) depth (counted self.old)) }
-        ensures kept { OnOk result (take (length self.old.blocks.blocks.items) self.new.blocks.blocks.items ≡ self.old.blocks.blocks.items) }
-        ensures weight { IfOk result (λ o. left_weight self.new o ≤ (node_size (trees.choice_of choice.now) + 1) + weight_at self.old at) }
+        ensures opens { Begins result self.old self.new at depth (conditioned (each_choice_of line replicator.now choice.now)) }
+        ensures kept { OnOk result (Keeps self.old.blocks self.new.blocks) }
+        ensures weight { LeavesWithin result self.new ((node_size (trees.choice_of choice.now) + 1) + weight_at self.old at) }
         ensures ready { IfOk result IsReady }
     {
         self.numbers.node(depth)?;
@@ -142,8 +141,8 @@ impl<'t> Unfolder<'t> {
         list: &'t [Choice],
     ) -> Result<Items<TermChoice>, CheckFault>
         requires { depth ≤ 200 }
-        ensures choices { Unfolds choices_of result self.new.numbers (all_choices (nodes (map trees.choice_of list.now)) (meant_at self.old at) depth (counted self.old)) }
-        ensures kept { OnOk result (self.new.blocks.blocks.items ≡ self.old.blocks.blocks.items) }
+        ensures choices { Reads choices_of result self.old self.new at depth (all_choices (choice_nodes list.now)) }
+        ensures kept { OnOk result (Restores self.old.blocks self.new.blocks) }
     {
         let mut choices = Items::new(alloc);
         for choice in list {
@@ -178,9 +177,9 @@ impl<'t> Unfolder<'t> {
         choice: &'t Choice,
     ) -> Result<OpenedChoice<'t>, CheckFault>
         requires { depth ≤ 200 }
-        ensures opens { Opens choice_left result self.new (choice_unfolded (trees.choice_of choice.now) (meant_at self.old at) depth (counted self.old)) }
-        ensures kept { OnOk result (take (length self.old.blocks.blocks.items) self.new.blocks.blocks.items ≡ self.old.blocks.blocks.items) }
-        ensures weight { IfOk result (λ o. choice_weight self.new o < node_size (trees.choice_of choice.now) + weight_at self.old at) }
+        ensures opens { OpensAt choice_left result self.old self.new at depth (choice_unfolded (trees.choice_of choice.now)) }
+        ensures kept { OnOk result (Keeps self.old.blocks self.new.blocks) }
+        ensures weight { IfOk result (λ o. choice_weight self.new o < node_weight self.old at (trees.choice_of choice.now)) }
         ensures within { IfOk result (λ o. choice_depth o ≤ 200) }
     {
         let (heads, inside) = self.entering(alloc, at, depth, declarations_of(choice))?;
@@ -198,8 +197,8 @@ impl<'t> Unfolder<'t> {
         heads: Items<Declaration>,
     ) -> Result<OpenedChoice<'t>, CheckFault>
         requires { depth ≤ 200 }
-        ensures opens { Opens choice_left result self.new (put (meant.choices_behind (declarations_of heads)) (choosing choice.now (meant_at self.old at) depth (counted self.old))) }
-        ensures kept { OnOk result (take (length self.old.blocks.blocks.items) self.new.blocks.blocks.items ≡ self.old.blocks.blocks.items) }
+        ensures opens { OpensAt choice_left result self.old self.new at depth (choices_behind heads (choosing choice.now)) }
+        ensures kept { OnOk result (Keeps self.old.blocks self.new.blocks) }
         ensures weight { IfOk result (λ o. choice_weight self.new o ≤ choice_size choice.now + weight_at self.old at) }
         ensures within { IfOk result (λ o. choice_depth o ≤ 200) }
     {
@@ -256,7 +255,7 @@ fn choices_behind(
 
 /// A choice as a list.
 fn one_choice(choice: &Choice) -> &[Choice]
-    ensures { nodes (map trees.choice_of result.now) ≡ more_nodes (trees.choice_of choice.now) no_node }
+    ensures { choice_nodes result.now ≡ more_nodes (trees.choice_of choice.now) no_node }
 {
     std::slice::from_ref(choice)
 }
@@ -264,7 +263,7 @@ fn one_choice(choice: &Choice) -> &[Choice]
 /// The choices of an IF, as a slice.
 #[tactic(auto, using(crate::proofs::HeldLists::choices_made))]
 pub(crate) fn listed_choices(choices: &Vec<Choice>) -> &[Choice]
-    ensures { nodes (map trees.choice_of result.now) ≡ held_choices (hidden-the_row-Choice-3 choices.now) }
+    ensures { choice_nodes result.now ≡ held_choices (hidden-the_row-Choice-3 choices.now) }
 {
     choices.as_slice()
 }
@@ -283,7 +282,7 @@ fn kept_declarations(choice: &Choice) -> &Vec<Decl>
 /// The declarations of a choice.
 #[tactic(auto, using(crate::proofs::Parts::decls_made))]
 fn declarations_of(choice: &Choice) -> &[Decl]
-    ensures { decls (map decl_of result.now) ≡ declarations_of_choice choice.now }
+    ensures { decl_nodes result.now ≡ declarations_of_choice choice.now }
 {
     kept_declarations(choice).as_slice()
 }

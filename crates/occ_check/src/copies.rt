@@ -1,19 +1,18 @@
 //! The copies of a replicated PAR.
 
-ghost use Rattle.std.specs.Prelude.{◌≡◌, ◌<◌, ◌≤◌, ◌+◌, ◌-◌, ◌+ℤ◌, ◌≤ℤ◌, pos, IfErr, IfOk, OnOk, length, take};
-ghost use Rattle.occ_tree_grammar.specs.Processes.Views.{process_of};
+ghost use Rattle.std.specs.Prelude.{◌≡◌, ◌<◌, ◌≤◌, ◌+◌, ◌-◌, ◌+ℤ◌, ◌≤ℤ◌, pos, IfErr, IfOk, OnOk};
 ghost use Rattle.occ_tree_grammar.specs.Lines.Views.{replicator_of};
 ghost use Rattle.occ_term.specs.View.{branches_of};
 ghost use Rattle.occ_check_meaning.specs.Declarations.{index_of};
 ghost use Rattle.occ_check_meaning.specs.Performing.{copied, copies_beside};
-ghost use Rattle.occ_check_meaning.specs.Recursion.{unfolded};
-ghost use Rattle.occ_check_meaning.specs.Scope.{names_of, within};
-ghost use Rattle.occ_check.specs.Copies.{copies_counted, copy_for, numbered_copy};
-ghost use Rattle.occ_check.specs.Opened.{IsReady, Opens, copy_left, left_weight, statement_left};
-ghost use Rattle.occ_check.specs.Weights.{node_size};
-ghost use Rattle.occ_check_names.specs.View.{Unfolds, names_in, numbers_of};
-ghost use Rattle.occ_check.specs.Progress.{counted, meant_at, weight_at};
+ghost use Rattle.occ_check_meaning.specs.Scope.{within};
+ghost use Rattle.occ_check.specs.Copies.{copies_counted, copies_there, numbered_copy};
+ghost use Rattle.occ_check.specs.Opened.{Begins, IsReady, LeavesWithin, Opens, copy_left};
+ghost use Rattle.occ_check_names.specs.View.{Unfolds, numbers_of};
+ghost use Rattle.occ_check.specs.Progress.{body_weight, counted, meant_at, names_there, read_in, weight_at};
 ghost use Rattle.occ_check_names.specs.declared.fault.CheckFault.TheVariants.{Memory};
+ghost use Rattle.occ_check.specs.OpenBlocks.{Keeps, Restores};
+ghost use Rattle.occ_check.specs.Statements.{body_unfolded};
 
 use crate::one_line::names_at;
 use crate::opened::{Left, Opened};
@@ -50,9 +49,9 @@ impl<'t> Unfolder<'t> {
         replicator: &'t Replicator,
         body: &'t Process,
     ) -> Result<Opened<'t>, CheckFault>
-        ensures opens { Opens statement_left result self.new (copies_beside line (replicator_of replicator.now) (unfolded (process_of body.now)) (meant_at self.old at) depth (counted self.old)) }
-        ensures kept { OnOk result (take (length self.old.blocks.blocks.items) self.new.blocks.blocks.items ≡ self.old.blocks.blocks.items) }
-        ensures weight { IfOk result (λ o. left_weight self.new o ≤ node_size (process_of body.now) + weight_at self.old at) }
+        ensures opens { Begins result self.old self.new at depth (copies_beside line (replicator_of replicator.now) (body_unfolded body.now)) }
+        ensures kept { OnOk result (Keeps self.old.blocks self.new.blocks) }
+        ensures weight { LeavesWithin result self.new (body_weight self.old at body.now) }
         ensures ready { IfOk result IsReady }
     {
         let (first, count) = self.copies_counted(alloc, at, depth, line, replicator)?;
@@ -77,8 +76,8 @@ impl<'t> Unfolder<'t> {
     ) -> Result<Items<Branch>, CheckFault>
         requires depth { depth ≤ 200 }
         requires last { (first +ℤ pos count) ≤ℤ pos 2147483648 }
-        ensures branches { Unfolds branches_of result self.new.numbers (copied (copy_for (replicator_of replicator.now) (process_of body.now) (meant_at self.old at) depth) count first (counted self.old)) }
-        ensures kept { OnOk result (self.new.blocks.blocks.items ≡ self.old.blocks.blocks.items) }
+        ensures branches { Unfolds branches_of result self.new.numbers (copied (copies_there self.old at depth replicator.now body.now) count first (counted self.old)) }
+        ensures kept { OnOk result (Restores self.old.blocks self.new.blocks) }
     {
         let mut branches = Items::new(alloc);
         let mut value = first;
@@ -112,9 +111,9 @@ impl<'t> Unfolder<'t> {
         body: &'t Process,
     ) -> Result<OpenedCopy<'t>, CheckFault>
         requires { depth ≤ 200 }
-        ensures opens { Opens copy_left result self.new (numbered_copy (copy_for (replicator_of replicator.now) (process_of body.now) (meant_at self.old at) depth) value (counted self.old)) }
-        ensures kept { OnOk result (take (length self.old.blocks.blocks.items) self.new.blocks.blocks.items ≡ self.old.blocks.blocks.items) }
-        ensures weight { IfOk result (λ o. node_size (process_of o.body.now) + weight_at self.new o.at ≡ node_size (process_of body.now) + weight_at self.old at) }
+        ensures opens { Opens copy_left result self.new (numbered_copy (copies_there self.old at depth replicator.now body.now) value (counted self.old)) }
+        ensures kept { OnOk result (Keeps self.old.blocks self.new.blocks) }
+        ensures weight { IfOk result (λ o. body_weight self.new o.at o.body.now ≡ body_weight self.old at body.now) }
         ensures within { IfOk result (λ o. o.depth ≤ 200) }
     {
         let number = self.numbers.more_processes()?;
@@ -137,7 +136,7 @@ impl<'t> Unfolder<'t> {
     ) -> Result<Position, CheckFault>
         ensures scope { IfOk result (λ p. meant_at self.new p ≡ within (index_of (replicator_of replicator.now) value) (meant_at self.old at)) }
         ensures weight { IfOk result (λ p. weight_at self.new p ≡ weight_at self.old at) }
-        ensures kept { OnOk result (take (length self.old.blocks.blocks.items) self.new.blocks.blocks.items ≡ self.old.blocks.blocks.items) }
+        ensures kept { OnOk result (Keeps self.old.blocks self.new.blocks) }
         ensures numbers { OnOk result (self.new.numbers ≡ self.old.numbers) }
         ensures memory { IfErr result (λ e. e ≡ Memory) }
     {
@@ -156,7 +155,7 @@ impl<'t> Unfolder<'t> {
         line: u32,
         replicator: &Replicator,
     ) -> Result<(i64, u64), CheckFault>
-        ensures counted { Unfolds (λ c. c) result self.new.numbers (copies_counted (names_of (meant_at self.old at)) line depth (replicator_of replicator.now) (counted self.old)) }
+        ensures counted { Unfolds (λ c. c) result self.new.numbers (copies_counted (names_there self.old at) line depth (replicator_of replicator.now) (counted self.old)) }
         ensures kept { OnOk result (self.new.blocks ≡ self.old.blocks) }
         ensures within { IfOk result (λ _. depth < 200) }
         ensures last { IfOk result (λ c. (c.0 +ℤ pos c.1) ≤ℤ pos 2147483648) }
@@ -179,7 +178,7 @@ fn copies_counted(
     depth: u32,
     replicator: &Replicator,
 ) -> Result<(i64, u64), CheckFault>
-    ensures counted { Unfolds (λ c. c) result numbers.new (copies_counted (names_in context.entry.scope) context.entry.line depth (replicator_of replicator.now) (numbers_of numbers.old)) }
+    ensures counted { Unfolds (λ c. c) result numbers.new (read_in context.entry copies_counted depth (replicator_of replicator.now) (numbers_of numbers.old)) }
     ensures within { IfOk result (λ _. depth < 200) }
     ensures last { IfOk result (λ c. (c.0 +ℤ pos c.1) ≤ℤ pos 2147483648) }
 {

@@ -1,23 +1,23 @@
 //! What comes into scope: declarations, the formals of a call and the index of a replicator.
 
-ghost use Rattle.std.specs.Prelude.{ℕ, ◌≡◌, ◌+◌, ◌<◌, ◌≤◌, IfErr, IfOk, OnOk, length, map, reverse, take};
-ghost use Rattle.occ_tree_grammar.specs.Processes.Trees.{decls};
-ghost use Rattle.occ_tree_grammar.specs.Processes.Views.{process_of, decl_of, item_of};
-ghost use Rattle.occ_tree_grammar.specs.Lines.Views.{actuals_of, formals_of, replicator_of};
+ghost use Rattle.std.specs.Prelude.{◌≡◌, ◌+◌, ◌<◌, ◌≤◌, IfErr, IfOk, OnOk};
+ghost use Rattle.occ_tree_grammar.specs.Processes.Views.{decl_of, item_of};
+ghost use Rattle.occ_tree_grammar.specs.Lines.Views.{actuals_of, replicator_of};
 ghost use Rattle.occ_tree_grammar.specs.Lines.Heads.{call};
 ghost use Rattle.occ_term.specs.View.{declaration_of, declarations_of, term_of};
 ghost use Rattle.occ_check_meaning.specs.Actions.{as_term, headed, opening};
 ghost use Rattle.occ_check_meaning.specs.Declarations.{indexed};
 ghost use Rattle.occ_check_meaning.specs.Performing.{acted};
-ghost use Rattle.occ_check_meaning.specs.Scope.{names_of, within};
+ghost use Rattle.occ_check_meaning.specs.Scope.{within};
 ghost use Rattle.occ_check_meaning.specs.Recursion.{all_declared, declared, item_declared};
 ghost use Rattle.occ_check_meaning.specs.Meant.{meaning_of};
-ghost use Rattle.occ_check.specs.Entering.{formals_bound, procedure_found, procedure_in, procedure_of};
+ghost use Rattle.occ_check.specs.Entering.{formals_given, procedure_found, procedure_in, procedure_of};
 ghost use Rattle.occ_check_typing.specs.Declaration.{Opens, pairs_of};
-ghost use Rattle.occ_check.specs.Weights.{decl_size, decls_size, item_size, node_size, weight};
-ghost use Rattle.occ_check_names.specs.View.{Gives, Unfolds, innermost, names_in, numbers_of, scope_in, scope_of};
-ghost use Rattle.occ_check.specs.Progress.{Calls, Enters, Indexes, counted, innermost_at, meant_at, meant_innermost, weight_at};
+ghost use Rattle.occ_check.specs.Weights.{decl_nodes, decl_size, decls_size, item_size, weight};
+ghost use Rattle.occ_check_names.specs.View.{Gives, Unfolds, scope_of};
+ghost use Rattle.occ_check.specs.Progress.{Calls, Declares, Indexes, body_weight, counted, innermost_at, innermost_weight, meant_at, names_there, weight_at};
 ghost use Rattle.occ_check_names.specs.declared.fault.CheckFault.TheVariants.{Memory};
+ghost use Rattle.occ_check.specs.OpenBlocks.{Deepens, HasBlock, Keeps, KeepsOuter, seen_at, seen_inside};
 
 use crate::blocks::Blocks;
 use crate::unfolder::{Call, Unfolder};
@@ -77,17 +77,17 @@ fn set(declaration: Declaration) -> Term
 impl<'t> Blocks<'t> {
     /// All that is in scope at the end.
     fn inside(&self) -> Scope<'_, 't>
-        ensures { scope_of result ≡ innermost (reverse self.now.blocks.items) }
+        ensures { scope_of result ≡ seen_inside self.now }
     {
         self.scope(self.end())
     }
 
     /// Declares names, the first of which is the innermost.
     pub(crate) fn enter(&mut self, alloc: Global, names: Vec<Named>) -> Result<(), CheckFault>
-        requires { 0 < length self.old.blocks.items }
-        ensures scope { OnOk result (innermost (reverse self.new.blocks.items) ≡ within (pairs_of names.items) (innermost (reverse self.old.blocks.items))) }
-        ensures kept { OnOk result ((n : ℕ) → n < length self.old.blocks.items → take n self.new.blocks.items ≡ take n self.old.blocks.items) }
-        ensures more { OnOk result (length self.old.blocks.items ≤ length self.new.blocks.items) }
+        requires { HasBlock self.old }
+        ensures scope { OnOk result (seen_inside self.new ≡ within (pairs_of names.items) (seen_inside self.old)) }
+        ensures kept { OnOk result (KeepsOuter self.old self.new) }
+        ensures more { OnOk result (Deepens self.old self.new) }
         ensures memory { IfErr result (λ e. e ≡ Memory) }
     {
         let mut left = names;
@@ -105,8 +105,8 @@ impl<'t> Blocks<'t> {
         outer: Position,
         names: Vec<Named>,
     ) -> Result<Position, CheckFault>
-        ensures scope { IfOk result (λ at. scope_in (reverse self.new.blocks.items) at ≡ within (pairs_of names.items) (scope_in (reverse self.old.blocks.items) outer)) }
-        ensures kept { OnOk result (take (length self.old.blocks.items) self.new.blocks.items ≡ self.old.blocks.items) }
+        ensures scope { IfOk result (λ at. seen_at self.new at ≡ within (pairs_of names.items) (seen_at self.old outer)) }
+        ensures kept { OnOk result (Keeps self.old self.new) }
         ensures memory { IfErr result (λ e. e ≡ Memory) }
     {
         self.open(alloc, outer)?;
@@ -125,11 +125,11 @@ impl<'t> Unfolder<'t> {
         depth: u32,
         declarations: &'t [Decl],
     ) -> Result<Items<Declaration>, CheckFault>
-        requires { 0 < length self.old.blocks.blocks.items }
-        ensures entered { Enters result self.new (all_declared (decls (map decl_of declarations.now)) (meant_innermost self.old) depth (counted self.old)) }
-        ensures kept { OnOk result ((n : ℕ) → n < length self.old.blocks.blocks.items → take n self.new.blocks.blocks.items ≡ take n self.old.blocks.blocks.items) }
-        ensures more { OnOk result (length self.old.blocks.blocks.items ≤ length self.new.blocks.blocks.items) }
-        ensures weight { OnOk result (weight (innermost_at self.new) ≤ decls_size (decls (map decl_of declarations.now)) + weight (innermost_at self.old)) }
+        requires { HasBlock self.old.blocks }
+        ensures entered { Declares result self.old self.new depth (all_declared (decl_nodes declarations.now)) }
+        ensures kept { OnOk result (KeepsOuter self.old.blocks self.new.blocks) }
+        ensures more { OnOk result (Deepens self.old.blocks self.new.blocks) }
+        ensures weight { OnOk result (innermost_weight self.new ≤ decls_size (decl_nodes declarations.now) + innermost_weight self.old) }
     {
         let mut heads = Items::new(alloc);
         for declaration in declarations {
@@ -146,11 +146,11 @@ impl<'t> Unfolder<'t> {
         depth: u32,
         declaration: &'t Decl,
     ) -> Result<Items<Declaration>, CheckFault>
-        requires { 0 < length self.old.blocks.blocks.items }
-        ensures entered { Enters result self.new (declared (decl_of declaration.now) (meant_innermost self.old) depth (counted self.old)) }
-        ensures kept { OnOk result ((n : ℕ) → n < length self.old.blocks.blocks.items → take n self.new.blocks.blocks.items ≡ take n self.old.blocks.blocks.items) }
-        ensures more { OnOk result (length self.old.blocks.blocks.items ≤ length self.new.blocks.blocks.items) }
-        ensures weight { OnOk result (weight (innermost_at self.new) ≤ decl_size (decl_of declaration.now) + weight (innermost_at self.old)) }
+        requires { HasBlock self.old.blocks }
+        ensures entered { Declares result self.old self.new depth (declared (decl_of declaration.now)) }
+        ensures kept { OnOk result (KeepsOuter self.old.blocks self.new.blocks) }
+        ensures more { OnOk result (Deepens self.old.blocks self.new.blocks) }
+        ensures weight { OnOk result (innermost_weight self.new ≤ decl_size (decl_of declaration.now) + innermost_weight self.old) }
     {
         match declaration {
             Decl::Names(line, sizes, sort, names) => {
@@ -179,11 +179,11 @@ impl<'t> Unfolder<'t> {
         depth: u32,
         item: &'t Item,
     ) -> Result<Items<Declaration>, CheckFault>
-        requires { 0 < length self.old.blocks.blocks.items }
-        ensures entered { Enters result self.new (item_declared (item_of item.now) (meant_innermost self.old) depth (counted self.old)) }
-        ensures kept { OnOk result ((n : ℕ) → n < length self.old.blocks.blocks.items → take n self.new.blocks.blocks.items ≡ take n self.old.blocks.blocks.items) }
-        ensures more { OnOk result (length self.old.blocks.blocks.items ≤ length self.new.blocks.blocks.items) }
-        ensures weight { OnOk result (weight (innermost_at self.new) ≤ item_size (item_of item.now) + weight (innermost_at self.old)) }
+        requires { HasBlock self.old.blocks }
+        ensures entered { Declares result self.old self.new depth (item_declared (item_of item.now)) }
+        ensures kept { OnOk result (KeepsOuter self.old.blocks self.new.blocks) }
+        ensures more { OnOk result (Deepens self.old.blocks self.new.blocks) }
+        ensures weight { OnOk result (innermost_weight self.new ≤ item_size (item_of item.now) + innermost_weight self.old) }
     {
         match item {
             Item::Value(line, value_type, name, e) => {
@@ -229,13 +229,13 @@ impl<'t> Unfolder<'t> {
         alloc: Global,
         opened: Opened,
     ) -> Result<Items<Declaration>, CheckFault>
-        requires { 0 < length self.old.blocks.blocks.items }
+        requires { HasBlock self.old.blocks }
         ensures scope { OnOk result (innermost_at self.new ≡ within (pairs_of opened.names.items) (innermost_at self.old)) }
         ensures heads { IfOk result (λ heads. heads ≡ opened.heads) }
         ensures numbers { self.new.numbers ≡ self.old.numbers }
-        ensures kept { OnOk result ((n : ℕ) → n < length self.old.blocks.blocks.items → take n self.new.blocks.blocks.items ≡ take n self.old.blocks.blocks.items) }
-        ensures more { OnOk result (length self.old.blocks.blocks.items ≤ length self.new.blocks.blocks.items) }
-        ensures weight { OnOk result (weight (innermost_at self.new) ≡ weight (innermost_at self.old)) }
+        ensures kept { OnOk result (KeepsOuter self.old.blocks self.new.blocks) }
+        ensures more { OnOk result (Deepens self.old.blocks self.new.blocks) }
+        ensures weight { OnOk result (innermost_weight self.new ≡ innermost_weight self.old) }
         ensures memory { IfErr result (λ e. e ≡ Memory) }
     {
         let Opened { names, heads } = opened;
@@ -270,8 +270,8 @@ impl<'t> Unfolder<'t> {
     ) -> Result<Call<'t>, CheckFault>
         requires { depth ≤ 200 }
         ensures call { Calls depth result self.new (acted line (call name.now (actuals_of actuals.now)) (meant_at self.old at) depth (counted self.old)) }
-        ensures kept { OnOk result (take (length self.old.blocks.blocks.items) self.new.blocks.blocks.items ≡ self.old.blocks.blocks.items) }
-        ensures weight { IfOk result (λ c. node_size (process_of c.body.now) + weight_at self.new c.inside < weight_at self.old at) }
+        ensures kept { OnOk result (Keeps self.old.blocks self.new.blocks) }
+        ensures weight { IfOk result (λ c. body_weight self.new c.inside c.body.now < weight_at self.old at) }
     {
         let (procedure, outer) = procedure_of(
             Context {
@@ -296,8 +296,8 @@ impl<'t> Unfolder<'t> {
         actuals: &Option<OneOrMore<Expr>>,
     ) -> Result<Call<'t>, CheckFault>
         requires { depth ≤ 200 }
-        ensures call { Calls depth result self.new (meaning_of (procedure_of procedure.entry) (meant_at self.old outer) (names_of (meant_at self.old at)) line depth (actuals_of actuals.now) (counted self.old)) }
-        ensures kept { OnOk result (take (length self.old.blocks.blocks.items) self.new.blocks.blocks.items ≡ self.old.blocks.blocks.items) }
+        ensures call { Calls depth result self.new (meaning_of (procedure_of procedure.entry) (meant_at self.old outer) (names_there self.old at) line depth (actuals_of actuals.now) (counted self.old)) }
+        ensures kept { OnOk result (Keeps self.old.blocks self.new.blocks) }
         ensures body { IfOk result (λ c. c.body.now ≡ procedure.entry.body.now) }
         ensures weight { IfOk result (λ c. weight_at self.new c.inside ≡ weight_at self.old outer) }
     {
@@ -334,8 +334,8 @@ impl<'t> Unfolder<'t> {
         line: u32,
         replicator: &ReplicatorTree,
     ) -> Result<(Replicator, Position), CheckFault>
-        ensures indexed { Indexes result self.new (meant_at self.old at) (indexed (names_of (meant_at self.old at)) line depth (replicator_of replicator.now) (counted self.old)) }
-        ensures kept { OnOk result (take (length self.old.blocks.blocks.items) self.new.blocks.blocks.items ≡ self.old.blocks.blocks.items) }
+        ensures indexed { Indexes result self.new (meant_at self.old at) (indexed (names_there self.old at) line depth (replicator_of replicator.now) (counted self.old)) }
+        ensures kept { OnOk result (Keeps self.old.blocks self.new.blocks) }
         ensures weight { IfOk result (λ r. weight_at self.new r.1 ≡ weight_at self.old at) }
         ensures within { IfOk result (λ _. depth < 200) }
     {
@@ -388,7 +388,7 @@ fn formals_bound(
     procedure: Procedure<'_>,
     actuals: &Option<OneOrMore<Expr>>,
 ) -> Result<Opened, CheckFault>
-    ensures { Opens result numbers.new (formals_bound (names_in outer.entry) procedure.entry.line (formals_of procedure.entry.formals.now) (names_in context.entry.scope) context.entry.line depth (actuals_of actuals.now) (numbers_of numbers.old)) }
+    ensures { Opens result numbers.new (formals_given outer.entry procedure.entry context.entry depth actuals.now numbers.old) }
 {
     let declared = Context {
         alloc: context.alloc,

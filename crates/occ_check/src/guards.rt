@@ -3,17 +3,14 @@
 ghost use Rattle.std.specs.Prelude.{◌≡◌, ◌<◌, ◌≤◌, ◌+◌, IfOk, OnOk, option_map};
 ghost use Rattle.occ_tree_grammar.specs.Expressions.Trees.{expression_of as tree_of};
 ghost use Rattle.occ_tree_grammar.specs.Lines.Views as lines;
-ghost use Rattle.occ_term.specs.Sizes.{together, with_node, size_of_place, size_of_test};
 ghost use Rattle.occ_term.specs.Terms.{input_arm, no_arms};
 ghost use Rattle.occ_term.specs.View.{arms_of, place_of, term_of, test_of as boolean_of};
 ghost use Rattle.occ_check_meaning.specs.Actions as meant;
-ghost use Rattle.occ_check_meaning.specs.Scope.{names_of};
 ghost use Rattle.occ_check_acting.specs.Action.{listed_of};
-ghost use Rattle.occ_check.specs.Opened.{guarded_by};
-ghost use Rattle.occ_check.specs.Prefixes.{guarding, guarding_variants};
-ghost use Rattle.occ_check_meaning.specs.Numbers.{room};
-ghost use Rattle.occ_check_names.specs.View.{Counts, Unfolds, names_in, numbers_of};
-ghost use Rattle.occ_check.specs.Progress.{counted, meant_at};
+ghost use Rattle.occ_check.specs.Opened.{guarded_by, guarded_of, variants_guard_of};
+ghost use Rattle.occ_check.specs.Prefixes.{guard_size, guarding, guarding_variants, variants_guard_size};
+ghost use Rattle.occ_check_names.specs.View.{Unfolds, numbers_of};
+ghost use Rattle.occ_check.specs.Progress.{TakesRoom, counted, names_there, read_in};
 
 use crate::arms::only_arm;
 use crate::one_line::names_at;
@@ -83,7 +80,7 @@ impl<'t> Unfolder<'t> {
         test: &Option<Expr>,
         input: &Input,
     ) -> Result<Guarded, CheckFault>
-        ensures guard { Unfolds (λ g. (boolean_of g.test, (place_of g.channel, listed_of g.listed))) result self.new.numbers (guarding (names_of (meant_at self.old at)) line depth (option_map tree_of test.now) (lines.input_of input.now) (counted self.old)) }
+        ensures guard { Unfolds guarded_of result self.new.numbers (guarding (names_there self.old at) line depth (option_map tree_of test.now) (lines.input_of input.now) (counted self.old)) }
         ensures kept { OnOk result (self.new.blocks ≡ self.old.blocks) }
         ensures within { IfOk result (λ g. meant.depth_behind (listed_of g.listed) (depth + 1) ≤ 200) }
     {
@@ -106,7 +103,7 @@ impl<'t> Unfolder<'t> {
         line: u32,
         guard: &VariantGuard,
     ) -> Result<(Option<TermExpr>, Protocol, Place), CheckFault>
-        ensures guard { Unfolds (λ g. (boolean_of g.0, (g.1, place_of g.2))) result self.new.numbers (guarding_variants (names_of (meant_at self.old at)) line depth (option_map tree_of guard.now.condition) (lines.var_of guard.now.channel) (counted self.old)) }
+        ensures guard { Unfolds variants_guard_of result self.new.numbers (guarding_variants (names_there self.old at) line depth (option_map tree_of guard.now.condition) (lines.var_of guard.now.channel) (counted self.old)) }
         ensures kept { OnOk result (self.new.blocks ≡ self.old.blocks) }
         ensures within { IfOk result (λ _. depth < 200) }
     {
@@ -143,7 +140,7 @@ fn guarding(
     test: &Option<Expr>,
     input: &Input,
 ) -> Result<Guarded, CheckFault>
-    ensures guard { Unfolds (λ g. (boolean_of g.test, (place_of g.channel, listed_of g.listed))) result numbers.new (guarding (names_in context.entry.scope) context.entry.line depth (option_map tree_of test.now) (lines.input_of input.now) (numbers_of numbers.old)) }
+    ensures guard { Unfolds guarded_of result numbers.new (read_in context.entry guarding depth (option_map tree_of test.now) (lines.input_of input.now) (numbers_of numbers.old)) }
     ensures within { IfOk result (λ g. meant.depth_behind (listed_of g.listed) (depth + 1) ≤ 200) }
 {
     let test = Held::new(test_of(context, test)?);
@@ -165,7 +162,7 @@ fn count_guard(
     channel: &Place,
     listed: &Listed,
 ) -> Result<(), CheckFault>
-    ensures counts { Counts result numbers.new (room depth (with_node (together (size_of_test (boolean_of test.now)) (together (size_of_place (place_of channel.now)) (meant.size_of_list (listed_of listed.now))))) (numbers_of numbers.old)) }
+    ensures counts { TakesRoom result numbers.old numbers.new depth (guard_size (boolean_of test.now) (place_of channel.now) (listed_of listed.now)) }
     ensures within { IfOk result (λ _. meant.depth_behind (listed_of listed.now) (depth + 1) ≤ 200) }
 {
     numbers.node(depth)?;
@@ -177,7 +174,7 @@ fn count_guard(
 /// Counts what an input stores.
 fn count_listed(numbers: &mut Numbers, depth: u32, listed: &Listed) -> Result<(), CheckFault>
     requires { depth ≤ 200 }
-    ensures counts { Counts result numbers.new (room depth (meant.size_of_list (listed_of listed.now)) (numbers_of numbers.old)) }
+    ensures counts { TakesRoom result numbers.old numbers.new depth (meant.size_of_list (listed_of listed.now)) }
     ensures within { IfOk result (λ _. meant.depth_behind (listed_of listed.now) depth ≤ 200) }
 {
     match listed {
@@ -207,7 +204,7 @@ fn guarding_variants(
     depth: u32,
     guard: &VariantGuard,
 ) -> Result<(Option<TermExpr>, Protocol, Place), CheckFault>
-    ensures guard { Unfolds (λ g. (boolean_of g.0, (g.1, place_of g.2))) result numbers.new (guarding_variants (names_in context.entry.scope) context.entry.line depth (option_map tree_of guard.now.condition) (lines.var_of guard.now.channel) (numbers_of numbers.old)) }
+    ensures guard { Unfolds variants_guard_of result numbers.new (read_in context.entry guarding_variants depth (option_map tree_of guard.now.condition) (lines.var_of guard.now.channel) (numbers_of numbers.old)) }
     ensures within { IfOk result (λ _. depth < 200) }
 {
     let test = Held::new(test_of(context, &guard.condition)?);
@@ -225,7 +222,7 @@ fn count_guarded_channel(
     test: &Option<TermExpr>,
     channel: &Place,
 ) -> Result<(), CheckFault>
-    ensures counts { Counts result numbers.new (room depth (with_node (together (size_of_test (boolean_of test.now)) (size_of_place (place_of channel.now)))) (numbers_of numbers.old)) }
+    ensures counts { TakesRoom result numbers.old numbers.new depth (variants_guard_size (boolean_of test.now) (place_of channel.now)) }
     ensures within { IfOk result (λ _. depth < 200) }
 {
     numbers.node(depth)?;

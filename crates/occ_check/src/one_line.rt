@@ -1,8 +1,7 @@
 //! What stands in one line, with the nodes that it heads, and what is entered before it.
 
-ghost use Rattle.std.specs.Prelude.{◌≡◌, ◌<◌, ◌≤◌, ◌+◌, ◌∷◌, IfOk, OnOk, length, map, reverse, take};
-ghost use Rattle.occ_tree_grammar.specs.Processes.Trees.{decls};
-ghost use Rattle.occ_tree_grammar.specs.Processes.Views.{decl_of, held_decls};
+ghost use Rattle.std.specs.Prelude.{◌≡◌, ◌<◌, ◌≤◌, ◌+◌, IfOk, OnOk, map, reverse};
+ghost use Rattle.occ_tree_grammar.specs.Processes.Views.{held_decls};
 ghost use Rattle.occ_tree_grammar.specs.declared.tree.process.Arm.TheBlock.{hidden-the_row-Decl-0};
 ghost use Rattle.occ_tree_grammar.specs.Expressions.Trees.{expression_of as tree_of};
 ghost use Rattle.occ_tree_grammar.specs.Lines.Views as lines;
@@ -10,7 +9,6 @@ ghost use Rattle.occ_tree_grammar.specs.Lines.Heads as heads;
 ghost use Rattle.occ_term.specs.Sizes.{size_of};
 ghost use Rattle.occ_term.specs.Terms as terms;
 ghost use Rattle.occ_term.specs.View.{expression_of, items_of, place_of, term_of};
-ghost use Rattle.occ_check_meaning.specs.Numbers.{room};
 ghost use Rattle.occ_check_meaning.specs.Performing.{acted};
 ghost use Rattle.occ_check_meaning.specs.Actions as meant;
 ghost use Rattle.occ_check_meaning.specs.Recursion.{all_declared};
@@ -18,9 +16,11 @@ ghost use Rattle.occ_check_meaning.specs.Scope.{names_of};
 ghost use Rattle.occ_check_meaning.specs.Meant.{meant as with_meanings};
 ghost use Rattle.occ_check_acting.specs.Action.{listed_of};
 ghost use Rattle.occ_check.specs.Prefixes.{assigning, heading, outputting, receiving, tested};
-ghost use Rattle.occ_check_names.specs.View.{Counts, Unfolds, names_in, numbers_of, scope_in};
-ghost use Rattle.occ_check.specs.Weights.{decls_size};
-ghost use Rattle.occ_check.specs.Progress.{EntersAt, counted, meant_at, weight_at};
+ghost use Rattle.occ_check_names.specs.View.{Unfolds, names_in, numbers_of, scope_in};
+ghost use Rattle.occ_check.specs.Weights.{decl_nodes, decls_size};
+ghost use Rattle.occ_check.specs.Progress.{EntersAt, Reads, TakesRoom, counted, meant_at, names_there, read_in, weight_at};
+ghost use Rattle.occ_check.specs.OpenBlocks.{Keeps};
+ghost use Rattle.occ_check.specs.Statements.{assignment_of, expressions_of, output_of, variables_of};
 
 use crate::blocks::Blocks;
 use crate::unfolder::Unfolder;
@@ -50,9 +50,9 @@ impl<'t> Unfolder<'t> {
         depth: u32,
         declarations: &'t [Decl],
     ) -> Result<(Items<Declaration>, Position), CheckFault>
-        ensures entered { EntersAt result self.new (all_declared (decls (map decl_of declarations.now)) (meant_at self.old at) depth (counted self.old)) }
-        ensures kept { OnOk result (take (length self.old.blocks.blocks.items) self.new.blocks.blocks.items ≡ self.old.blocks.blocks.items) }
-        ensures weight { IfOk result (λ d. weight_at self.new d.1 ≤ decls_size (decls (map decl_of declarations.now)) + weight_at self.old at) }
+        ensures entered { EntersAt result self.new (all_declared (decl_nodes declarations.now) (meant_at self.old at) depth (counted self.old)) }
+        ensures kept { OnOk result (Keeps self.old.blocks self.new.blocks) }
+        ensures weight { IfOk result (λ d. weight_at self.new d.1 ≤ decls_size (decl_nodes declarations.now) + weight_at self.old at) }
     {
         self.blocks.open(alloc, at)?;
         let heads = self.declared(alloc, depth, declarations)?;
@@ -69,7 +69,7 @@ impl<'t> Unfolder<'t> {
         line: u32,
         e: &Expr,
     ) -> Result<TermExpr, CheckFault>
-        ensures tested { Unfolds expression_of result self.new.numbers (tested (names_of (meant_at self.old at)) line depth (tree_of e.now) (counted self.old)) }
+        ensures tested { Unfolds expression_of result self.new.numbers (tested (names_there self.old at) line depth (tree_of e.now) (counted self.old)) }
         ensures kept { OnOk result (self.new.blocks ≡ self.old.blocks) }
         ensures within { IfOk result (λ _. depth < 200) }
     {
@@ -105,7 +105,7 @@ impl<'t> Unfolder<'t> {
         variables: &OneOrMore<Var>,
         values: &OneOrMore<Expr>,
     ) -> Result<Term, CheckFault>
-        ensures term { Unfolds term_of result self.new.numbers (acted line (heads.assign (lines.var_of variables.now.first) (map lines.var_of variables.now.others.items) (tree_of values.now.first) (map tree_of values.now.others.items)) (meant_at self.old at) depth (counted self.old)) }
+        ensures term { Reads term_of result self.old self.new at depth (acted line (assignment_of variables.now values.now)) }
         ensures kept { OnOk result (self.new.blocks ≡ self.old.blocks) }
     {
         let scope = names_at(&self.blocks, at);
@@ -127,7 +127,7 @@ impl<'t> Unfolder<'t> {
         line: u32,
         input: &Input,
     ) -> Result<Term, CheckFault>
-        ensures term { Unfolds term_of result self.new.numbers (acted line (heads.input (lines.input_of input.now)) (meant_at self.old at) depth (counted self.old)) }
+        ensures term { Reads term_of result self.old self.new at depth (acted line (heads.input (lines.input_of input.now))) }
         ensures kept { OnOk result (self.new.blocks ≡ self.old.blocks) }
     {
         let scope = names_at(&self.blocks, at);
@@ -149,7 +149,7 @@ impl<'t> Unfolder<'t> {
         channel: &Var,
         outs: &OneOrMore<Out>,
     ) -> Result<Term, CheckFault>
-        ensures term { Unfolds term_of result self.new.numbers (acted line (heads.output (lines.var_of channel.now) (lines.out_of outs.now.first) (map lines.out_of outs.now.others.items)) (meant_at self.old at) depth (counted self.old)) }
+        ensures term { Reads term_of result self.old self.new at depth (acted line (output_of channel.now outs.now)) }
         ensures kept { OnOk result (self.new.blocks ≡ self.old.blocks) }
     {
         let scope = names_at(&self.blocks, at);
@@ -177,7 +177,7 @@ fn condition(
     depth: u32,
     e: &Expr,
 ) -> Result<TermExpr, CheckFault>
-    ensures tested { Unfolds expression_of result numbers.new (tested (names_in context.entry.scope) context.entry.line depth (tree_of e.now) (numbers_of numbers.old)) }
+    ensures tested { Unfolds expression_of result numbers.new (read_in context.entry tested depth (tree_of e.now) (numbers_of numbers.old)) }
     ensures within { IfOk result (λ _. depth < 200) }
 {
     let e = typed_as(context, Primitive::Bool, e)?;
@@ -206,7 +206,7 @@ fn assigning(
     variables: &OneOrMore<Var>,
     values: &OneOrMore<Expr>,
 ) -> Result<Term, CheckFault>
-    ensures { Unfolds term_of result numbers.new (assigning (names_in context.entry.scope) context.entry.line depth (lines.var_of variables.now.first ∷ map lines.var_of variables.now.others.items) (tree_of values.now.first ∷ map tree_of values.now.others.items) (numbers_of numbers.old)) }
+    ensures { Unfolds term_of result numbers.new (read_in context.entry assigning depth (variables_of variables.now) (expressions_of values.now) (numbers_of numbers.old)) }
 {
     let (targets, items) = assigned(context, variables, values)?;
     count_assignment(numbers, depth, targets.as_slice(), items.as_slice())?;
@@ -221,7 +221,7 @@ fn outputting(
     channel: &Var,
     outs: &OneOrMore<Out>,
 ) -> Result<Term, CheckFault>
-    ensures { Unfolds term_of result numbers.new (outputting (names_in context.entry.scope) context.entry.line depth (lines.var_of channel.now) (lines.out_of outs.now.first) (map lines.out_of outs.now.others.items) (numbers_of numbers.old)) }
+    ensures { Unfolds term_of result numbers.new (read_in context.entry outputting depth (lines.var_of channel.now) (lines.out_of outs.now.first) (map lines.out_of outs.now.others.items) (numbers_of numbers.old)) }
 {
     let (channel, tag, items) = output(context, channel, outs)?;
     counted_output(numbers, depth, &channel, tag, items.as_slice())?;
@@ -236,7 +236,7 @@ fn counted_output(
     tag: Option<u32>,
     items: &[Item],
 ) -> Result<(), CheckFault>
-    ensures { Counts result numbers.new (room depth (size_of (terms.Output (place_of channel.now) tag (items_of items.now))) (numbers_of numbers.old)) }
+    ensures { TakesRoom result numbers.old numbers.new depth (size_of (terms.Output (place_of channel.now) tag (items_of items.now))) }
 {
     let _sent = tag;
     count_output(numbers, depth, channel, items)
@@ -249,7 +249,7 @@ fn receiving(
     depth: u32,
     input: &Input,
 ) -> Result<Term, CheckFault>
-    ensures { Unfolds term_of result numbers.new (receiving (names_in context.entry.scope) context.entry.line depth (lines.input_of input.now) (numbers_of numbers.old)) }
+    ensures { Unfolds term_of result numbers.new (read_in context.entry receiving depth (lines.input_of input.now) (numbers_of numbers.old)) }
 {
     let (channel, listed) = received(context, input)?;
     let listed = Held::new(listed);
@@ -265,7 +265,7 @@ fn count_received(
     channel: &Place,
     listed: &Listed,
 ) -> Result<(), CheckFault>
-    ensures { Counts result numbers.new (room depth (size_of (meant.as_input (place_of channel.now, listed_of listed.now))) (numbers_of numbers.old)) }
+    ensures { TakesRoom result numbers.old numbers.new depth (size_of (meant.as_input (place_of channel.now, listed_of listed.now))) }
 {
     match listed {
         Listed::Plain(targets) => count_input(numbers, depth, channel, targets.as_slice()),
@@ -278,7 +278,7 @@ fn count_received(
 /// Declarations, as a slice.
 #[tactic(auto, using(crate::proofs::Parts::decls_made))]
 pub(crate) fn listed_declarations(declarations: &Vec<Decl>) -> &[Decl]
-    ensures { decls (map decl_of result.now) ≡ held_decls (hidden-the_row-Decl-0 declarations.now) }
+    ensures { decl_nodes result.now ≡ held_decls (hidden-the_row-Decl-0 declarations.now) }
 {
     declarations.as_slice()
 }

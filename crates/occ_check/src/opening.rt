@@ -1,22 +1,22 @@
 //! The first steps of processes: declarations, and all of a statement that stands before its first part.
 
-ghost use Rattle.std.specs.Prelude.{◌≡◌, ◌+◌, ◌≤◌, IfOk, OnOk, Some, length, map, take};
+ghost use Rattle.std.specs.Prelude.{◌≡◌, ◌+◌, ◌≤◌, IfOk, OnOk, Some};
 ghost use Rattle.occ_tree_grammar.specs.Expressions.Trees.{expression_of as tree_of};
 ghost use Rattle.occ_tree_grammar.specs.Lines.HeadViews.{action_of};
 ghost use Rattle.occ_tree_grammar.specs.Lines.Heads.{call};
 ghost use Rattle.occ_tree_grammar.specs.Lines.Views.{actuals_of, replicator_of};
-ghost use Rattle.occ_tree_grammar.specs.Processes.Trees.{decls, nodes};
-ghost use Rattle.occ_tree_grammar.specs.Processes.Views.{decl_of, process_of, held_decls, held_processes};
+ghost use Rattle.occ_tree_grammar.specs.Processes.Views.{held_decls, held_processes};
 ghost use Rattle.occ_tree_grammar.specs.declared.tree.process.Arm.TheBlock.{hidden-the_row-Decl-0, hidden-the_row-Process-4};
 ghost use Rattle.occ_term.specs.View.{term_of};
 ghost use Rattle.occ_check_meaning.specs.Performing as performing;
 ghost use Rattle.occ_check_meaning.specs.Performing.{acted, each_sequenced, looped, sequenced};
-ghost use Rattle.occ_check_meaning.specs.Recursion.{all_beside, all_in_turn, unfolded};
-ghost use Rattle.occ_check.specs.Opened.{IsReady, IsStepReady, Opens, left_weight, statement_left, step_left, step_weight};
-ghost use Rattle.occ_check.specs.Progress.{counted, meant_at, weight_at};
-ghost use Rattle.occ_check.specs.Statements.{declarations_in, line_in, performing as statement_unfolded, statement_in};
-ghost use Rattle.occ_check.specs.Weights.{node_size, nodes_size, statement_size};
+ghost use Rattle.occ_check_meaning.specs.Recursion.{all_beside, all_in_turn};
+ghost use Rattle.occ_check.specs.Opened.{Begins, IsReady, IsStepReady, LeavesWithin, OpensAt, left_weight, statement_left, step_left, step_weight};
+ghost use Rattle.occ_check.specs.Progress.{body_weight, counted, nodes_weight, weight_at};
+ghost use Rattle.occ_check.specs.Statements.{body_unfolded, declarations_in, line_in, performing as statement_unfolded, statement_in};
+ghost use Rattle.occ_check.specs.Weights.{decl_nodes, process_nodes, statement_size};
 ghost use Rattle.occ_check.specs.declared.unfolder.Unfolder.{Unfolder as UnfolderState};
+ghost use Rattle.occ_check.specs.OpenBlocks.{Keeps};
 
 use crate::arms::listed_arms;
 use crate::choices::listed_choices;
@@ -42,9 +42,9 @@ impl<'t> Unfolder<'t> {
         process: &'t Process,
     ) -> Result<Step<'t>, CheckFault>
         requires { depth ≤ 200 }
-        ensures step { Opens step_left result self.new (unfolded (process_of process.now) (meant_at self.old at) depth (counted self.old)) }
-        ensures kept { OnOk result (take (length self.old.blocks.blocks.items) self.new.blocks.blocks.items ≡ self.old.blocks.blocks.items) }
-        ensures weight { IfOk result (λ s. step_weight self.new s + 2 ≤ node_size (process_of process.now) + weight_at self.old at) }
+        ensures step { OpensAt step_left result self.old self.new at depth (body_unfolded process.now) }
+        ensures kept { OnOk result (Keeps self.old.blocks self.new.blocks) }
+        ensures weight { IfOk result (λ s. step_weight self.new s + 2 ≤ body_weight self.old at process.now) }
         ensures ready { IfOk result IsStepReady }
     {
         let line = line_of(process);
@@ -67,9 +67,9 @@ impl<'t> Unfolder<'t> {
         statement: &'t Stmt,
     ) -> Result<Opened<'t>, CheckFault>
         requires { depth ≤ 200 }
-        ensures opens { Opens statement_left result self.new (statement_unfolded line statement.now (meant_at self.old at) depth (counted self.old)) }
-        ensures kept { OnOk result (take (length self.old.blocks.blocks.items) self.new.blocks.blocks.items ≡ self.old.blocks.blocks.items) }
-        ensures weight { IfOk result (λ o. left_weight self.new o ≤ statement_size statement.now + weight_at self.old at) }
+        ensures opens { Begins result self.old self.new at depth (statement_unfolded line statement.now) }
+        ensures kept { OnOk result (Keeps self.old.blocks self.new.blocks) }
+        ensures weight { LeavesWithin result self.new (statement_size statement.now + weight_at self.old at) }
         ensures ready { IfOk result IsReady }
     {
         match statement {
@@ -114,9 +114,9 @@ impl<'t> Unfolder<'t> {
         action: &Action,
     ) -> Result<Opened<'t>, CheckFault>
         requires { depth ≤ 200 }
-        ensures opens { Opens statement_left result self.new (acted line (action_of action.now) (meant_at self.old at) depth (counted self.old)) }
-        ensures kept { OnOk result (take (length self.old.blocks.blocks.items) self.new.blocks.blocks.items ≡ self.old.blocks.blocks.items) }
-        ensures weight { IfOk result (λ o. left_weight self.new o ≤ weight_at self.old at) }
+        ensures opens { Begins result self.old self.new at depth (acted line (action_of action.now)) }
+        ensures kept { OnOk result (Keeps self.old.blocks self.new.blocks) }
+        ensures weight { LeavesWithin result self.new (weight_at self.old at) }
         ensures ready { IfOk result IsReady }
     {
         match action {
@@ -149,9 +149,9 @@ impl<'t> Unfolder<'t> {
         actuals: &Option<OneOrMore<Expr>>,
     ) -> Result<Opened<'t>, CheckFault>
         requires { depth ≤ 200 }
-        ensures opens { Opens statement_left result self.new (acted line (call name.now (actuals_of actuals.now)) (meant_at self.old at) depth (counted self.old)) }
-        ensures kept { OnOk result (take (length self.old.blocks.blocks.items) self.new.blocks.blocks.items ≡ self.old.blocks.blocks.items) }
-        ensures weight { IfOk result (λ o. left_weight self.new o ≤ weight_at self.old at) }
+        ensures opens { Begins result self.old self.new at depth (acted line (call name.now (actuals_of actuals.now))) }
+        ensures kept { OnOk result (Keeps self.old.blocks self.new.blocks) }
+        ensures weight { LeavesWithin result self.new (weight_at self.old at) }
         ensures ready { IfOk result IsReady }
     {
         let call = self.bound(alloc, at, depth, line, name, actuals)?;
@@ -175,9 +175,9 @@ impl<'t> Unfolder<'t> {
         depth: u32,
         processes: &'t [Process],
     ) -> Result<Opened<'t>, CheckFault>
-        ensures opens { Opens statement_left result self.new (sequenced (all_in_turn (nodes (map process_of processes.now))) (meant_at self.old at) depth (counted self.old)) }
-        ensures kept { OnOk result (take (length self.old.blocks.blocks.items) self.new.blocks.blocks.items ≡ self.old.blocks.blocks.items) }
-        ensures weight { IfOk result (λ o. left_weight self.new o ≤ nodes_size (nodes (map process_of processes.now)) + weight_at self.old at) }
+        ensures opens { Begins result self.old self.new at depth (sequenced (all_in_turn (process_nodes processes.now))) }
+        ensures kept { OnOk result (Keeps self.old.blocks self.new.blocks) }
+        ensures weight { LeavesWithin result self.new (nodes_weight self.old at (process_nodes processes.now)) }
         ensures ready { IfOk result IsReady }
     {
         self.numbers.node(depth)?;
@@ -195,9 +195,9 @@ impl<'t> Unfolder<'t> {
         depth: u32,
         processes: &'t [Process],
     ) -> Result<Opened<'t>, CheckFault>
-        ensures opens { Opens statement_left result self.new (performing.beside (all_beside (nodes (map process_of processes.now))) (meant_at self.old at) depth (counted self.old)) }
-        ensures kept { OnOk result (take (length self.old.blocks.blocks.items) self.new.blocks.blocks.items ≡ self.old.blocks.blocks.items) }
-        ensures weight { IfOk result (λ o. left_weight self.new o ≤ nodes_size (nodes (map process_of processes.now)) + weight_at self.old at) }
+        ensures opens { Begins result self.old self.new at depth (performing.beside (all_beside (process_nodes processes.now))) }
+        ensures kept { OnOk result (Keeps self.old.blocks self.new.blocks) }
+        ensures weight { LeavesWithin result self.new (nodes_weight self.old at (process_nodes processes.now)) }
         ensures ready { IfOk result IsReady }
     {
         self.numbers.node(depth)?;
@@ -218,9 +218,9 @@ impl<'t> Unfolder<'t> {
         replicator: &ReplicatorTree,
         body: &'t Process,
     ) -> Result<Opened<'t>, CheckFault>
-        ensures opens { Opens statement_left result self.new (each_sequenced line (replicator_of replicator.now) (unfolded (process_of body.now)) (meant_at self.old at) depth (counted self.old)) }
-        ensures kept { OnOk result (take (length self.old.blocks.blocks.items) self.new.blocks.blocks.items ≡ self.old.blocks.blocks.items) }
-        ensures weight { IfOk result (λ o. left_weight self.new o ≤ node_size (process_of body.now) + weight_at self.old at) }
+        ensures opens { Begins result self.old self.new at depth (each_sequenced line (replicator_of replicator.now) (body_unfolded body.now)) }
+        ensures kept { OnOk result (Keeps self.old.blocks self.new.blocks) }
+        ensures weight { LeavesWithin result self.new (body_weight self.old at body.now) }
         ensures ready { IfOk result IsReady }
     {
         self.numbers.node(depth)?;
@@ -242,9 +242,9 @@ impl<'t> Unfolder<'t> {
         condition: &Expr,
         body: &'t Process,
     ) -> Result<Opened<'t>, CheckFault>
-        ensures opens { Opens statement_left result self.new (looped line (tree_of condition.now) (unfolded (process_of body.now)) (meant_at self.old at) depth (counted self.old)) }
-        ensures kept { OnOk result (take (length self.old.blocks.blocks.items) self.new.blocks.blocks.items ≡ self.old.blocks.blocks.items) }
-        ensures weight { IfOk result (λ o. left_weight self.new o ≤ node_size (process_of body.now) + weight_at self.old at) }
+        ensures opens { Begins result self.old self.new at depth (looped line (tree_of condition.now) (body_unfolded body.now)) }
+        ensures kept { OnOk result (Keeps self.old.blocks self.new.blocks) }
+        ensures weight { LeavesWithin result self.new (body_weight self.old at body.now) }
         ensures ready { IfOk result IsReady }
     {
         let test = self.tested(alloc, at, depth, line, condition)?;
@@ -281,7 +281,7 @@ fn kept_declarations(process: &Process) -> &Vec<Decl>
 /// The declarations of a process.
 #[tactic(auto, using(crate::proofs::Parts::decls_made))]
 fn declarations_of(process: &Process) -> &[Decl]
-    ensures { decls (map decl_of result.now) ≡ declarations_in process.now }
+    ensures { decl_nodes result.now ≡ declarations_in process.now }
 {
     kept_declarations(process).as_slice()
 }
@@ -307,7 +307,7 @@ fn statement_of(process: &Process) -> &Stmt
 /// The processes of a SEQ or a PAR, as a slice.
 #[tactic(auto, using(crate::proofs::InTurn::processes_made))]
 fn listed_processes(processes: &Vec<Process>) -> &[Process]
-    ensures { nodes (map process_of result.now) ≡ held_processes (hidden-the_row-Process-4 processes.now) }
+    ensures { process_nodes result.now ≡ held_processes (hidden-the_row-Process-4 processes.now) }
 {
     processes.as_slice()
 }

@@ -1,8 +1,7 @@
 //! The options of a CASE.
 
-ghost use Rattle.std.specs.Prelude.{◌≡◌, ◌<◌, ◌≤◌, ◌+◌, ◌∷◌, IfOk, OnOk, length, map, take};
-ghost use Rattle.occ_tree_grammar.specs.Processes.Trees.{nodes, decls};
-ghost use Rattle.occ_tree_grammar.specs.Processes.Views.{decl_of, process_of, held_selections, selection_of};
+ghost use Rattle.std.specs.Prelude.{◌≡◌, ◌<◌, ◌≤◌, IfOk, OnOk, map};
+ghost use Rattle.occ_tree_grammar.specs.Processes.Views.{held_selections, selection_of};
 ghost use Rattle.occ_tree_grammar.specs.declared.tree.process.Arm.TheBlock.{hidden-the_row-Selection-5};
 ghost use Rattle.occ_tree_grammar.specs.Expressions.Trees.{expression_of as tree_of};
 ghost use Rattle.occ_term.specs.Terms.{no_options};
@@ -10,14 +9,16 @@ ghost use Rattle.occ_term.specs.View.{expression_of, option_of, options_of, term
 ghost use Rattle.occ_check_meaning.specs.Actions as meant;
 ghost use Rattle.occ_check_meaning.specs.Expressions.{constant_as};
 ghost use Rattle.occ_check_meaning.specs.Performing as performing;
-ghost use Rattle.occ_check_meaning.specs.Recursion.{all_declared, all_options, option_unfolded, unfolded};
-ghost use Rattle.occ_check_meaning.specs.Scope.{each_of, names_of};
+ghost use Rattle.occ_check_meaning.specs.Recursion.{all_options, option_unfolded};
+ghost use Rattle.occ_check_meaning.specs.Scope.{each_of};
 ghost use Rattle.occ_check_acting.specs.Action.{chosen_of};
 ghost use Rattle.occ_check.specs.Prefixes.{choosing_values, listing, selecting};
-ghost use Rattle.occ_check_names.specs.View.{Gives, Unfolds, names_in, numbers_of};
-ghost use Rattle.occ_check.specs.Opened.{IsReady, Opens, left_weight, option_left, option_with, statement_left};
-ghost use Rattle.occ_check.specs.Progress.{Lists, counted, meant_at, weight_at};
-ghost use Rattle.occ_check.specs.Weights.{decls_size, node_size, nodes_size};
+ghost use Rattle.occ_check_names.specs.View.{Gives, Unfolds, numbers_of};
+ghost use Rattle.occ_check.specs.Opened.{Begins, IsReady, LeavesWithin, OpensAt, option_left, option_with};
+ghost use Rattle.occ_check.specs.Progress.{Lists, Reads, body_weight, counted, declared_weight, names_there, node_weight, nodes_weight, read_in};
+ghost use Rattle.occ_check.specs.Weights.{option_nodes};
+ghost use Rattle.occ_check.specs.OpenBlocks.{Keeps, Restores};
+ghost use Rattle.occ_check.specs.Statements.{expressions_of, option_with_else, option_with_values};
 
 use crate::one_line::{counted_expression, listed_declarations, names_at};
 use crate::opened::{Left, Opened};
@@ -86,9 +87,9 @@ impl<'t> Unfolder<'t> {
         e: &Expr,
         selections: &'t [Selection],
     ) -> Result<Opened<'t>, CheckFault>
-        ensures opens { Opens statement_left result self.new (performing.selected line (tree_of e.now) (λ type. all_options (nodes (map selection_of selections.now)) type meant.none_chosen) (meant_at self.old at) depth (counted self.old)) }
-        ensures kept { OnOk result (take (length self.old.blocks.blocks.items) self.new.blocks.blocks.items ≡ self.old.blocks.blocks.items) }
-        ensures weight { IfOk result (λ o. left_weight self.new o ≤ nodes_size (nodes (map selection_of selections.now)) + weight_at self.old at) }
+        ensures opens { Begins result self.old self.new at depth (performing.selected line (tree_of e.now) (λ type. all_options (option_nodes selections.now) type meant.none_chosen)) }
+        ensures kept { OnOk result (Keeps self.old.blocks self.new.blocks) }
+        ensures weight { LeavesWithin result self.new (nodes_weight self.old at (option_nodes selections.now)) }
         ensures ready { IfOk result IsReady }
     {
         let (primitive, selector) = self.selecting(alloc, at, depth, line, e)?;
@@ -110,8 +111,8 @@ impl<'t> Unfolder<'t> {
         selections: &'t [Selection],
     ) -> Result<Items<TermSelection>, CheckFault>
         requires { depth ≤ 200 }
-        ensures options { Unfolds options_of result self.new.numbers (all_options (nodes (map selection_of selections.now)) primitive meant.none_chosen (meant_at self.old at) depth (counted self.old)) }
-        ensures kept { OnOk result (self.new.blocks.blocks.items ≡ self.old.blocks.blocks.items) }
+        ensures options { Reads options_of result self.old self.new at depth (all_options (option_nodes selections.now) primitive meant.none_chosen) }
+        ensures kept { OnOk result (Restores self.old.blocks self.new.blocks) }
     {
         let mut chosen = none_chosen(alloc);
         let mut options = Items::new(alloc);
@@ -142,9 +143,9 @@ impl<'t> Unfolder<'t> {
         selection: &'t Selection,
     ) -> Result<OpenedOption<'t>, CheckFault>
         requires { depth ≤ 200 }
-        ensures opens { Opens (option_left chosen.new) result self.new (option_unfolded (selection_of selection.now) primitive (chosen_of chosen.old) (meant_at self.old at) depth (counted self.old)) }
-        ensures kept { OnOk result (take (length self.old.blocks.blocks.items) self.new.blocks.blocks.items ≡ self.old.blocks.blocks.items) }
-        ensures weight { IfOk result (λ o. node_size (process_of o.body.now) + weight_at self.new o.at < node_size (selection_of selection.now) + weight_at self.old at) }
+        ensures opens { OpensAt (option_left chosen.new) result self.old self.new at depth (option_unfolded (selection_of selection.now) primitive (chosen_of chosen.old)) }
+        ensures kept { OnOk result (Keeps self.old.blocks self.new.blocks) }
+        ensures weight { IfOk result (λ o. body_weight self.new o.at o.body.now < node_weight self.old at (selection_of selection.now)) }
         ensures within { IfOk result (λ o. o.depth ≤ 200) }
     {
         match selection {
@@ -182,9 +183,9 @@ impl<'t> Unfolder<'t> {
         values: &OneOrMore<Expr>,
         body: &'t Process,
     ) -> Result<OpenedOption<'t>, CheckFault>
-        ensures opens { Opens (option_left chosen.new) result self.new (performing.option_of line (tree_of values.now.first ∷ map tree_of values.now.others.items) (all_declared (decls (map decl_of declarations.now))) (unfolded (process_of body.now)) primitive (chosen_of chosen.old) (meant_at self.old at) depth (counted self.old)) }
-        ensures kept { OnOk result (take (length self.old.blocks.blocks.items) self.new.blocks.blocks.items ≡ self.old.blocks.blocks.items) }
-        ensures weight { IfOk result (λ o. node_size (process_of o.body.now) + weight_at self.new o.at ≤ (decls_size (decls (map decl_of declarations.now)) + node_size (process_of body.now)) + weight_at self.old at) }
+        ensures opens { OpensAt (option_left chosen.new) result self.old self.new at depth (option_with_values line values.now declarations.now body.now primitive (chosen_of chosen.old)) }
+        ensures kept { OnOk result (Keeps self.old.blocks self.new.blocks) }
+        ensures weight { IfOk result (λ o. body_weight self.new o.at o.body.now ≤ declared_weight self.old at declarations.now body.now) }
         ensures within { IfOk result (λ o. o.depth ≤ 200) }
     {
         self.numbers.node(depth)?;
@@ -217,9 +218,9 @@ impl<'t> Unfolder<'t> {
         declarations: &'t [Decl],
         body: &'t Process,
     ) -> Result<OpenedOption<'t>, CheckFault>
-        ensures opens { Opens (option_left chosen.new) result self.new (performing.else_of (all_declared (decls (map decl_of declarations.now))) (unfolded (process_of body.now)) (chosen_of chosen.old) (meant_at self.old at) depth (counted self.old)) }
-        ensures kept { OnOk result (take (length self.old.blocks.blocks.items) self.new.blocks.blocks.items ≡ self.old.blocks.blocks.items) }
-        ensures weight { IfOk result (λ o. node_size (process_of o.body.now) + weight_at self.new o.at ≤ (decls_size (decls (map decl_of declarations.now)) + node_size (process_of body.now)) + weight_at self.old at) }
+        ensures opens { OpensAt (option_left chosen.new) result self.old self.new at depth (option_with_else declarations.now body.now (chosen_of chosen.old)) }
+        ensures kept { OnOk result (Keeps self.old.blocks self.new.blocks) }
+        ensures weight { IfOk result (λ o. body_weight self.new o.at o.body.now ≤ declared_weight self.old at declarations.now body.now) }
         ensures within { IfOk result (λ o. o.depth ≤ 200) }
     {
         self.numbers.node(depth)?;
@@ -242,7 +243,7 @@ impl<'t> Unfolder<'t> {
         line: u32,
         e: &Expr,
     ) -> Result<(Primitive, TermExpr), CheckFault>
-        ensures selector { Unfolds (λ s. (s.0, expression_of s.1)) result self.new.numbers (selecting (names_of (meant_at self.old at)) line depth (tree_of e.now) (counted self.old)) }
+        ensures selector { Unfolds (λ s. (s.0, expression_of s.1)) result self.new.numbers (selecting (names_there self.old at) line depth (tree_of e.now) (counted self.old)) }
         ensures kept { OnOk result (self.new.blocks ≡ self.old.blocks) }
         ensures within { IfOk result (λ _. depth < 200) }
     {
@@ -261,7 +262,7 @@ impl<'t> Unfolder<'t> {
         chosen: &mut Chosen,
         values: &OneOrMore<Expr>,
     ) -> Result<Items<i64>, CheckFault>
-        ensures constants { Lists result chosen.new self.new.numbers (choosing_values (names_of (meant_at self.old at)) line depth primitive (tree_of values.now.first ∷ map tree_of values.now.others.items) (chosen_of chosen.old) (counted self.old)) }
+        ensures constants { Lists result chosen.new self.new.numbers (choosing_values (names_there self.old at) line depth primitive (expressions_of values.now) (chosen_of chosen.old) (counted self.old)) }
         ensures kept { OnOk result (self.new.blocks ≡ self.old.blocks) }
     {
         let scope = names_at(&self.blocks, at);
@@ -277,7 +278,7 @@ fn selecting(
     depth: u32,
     e: &Expr,
 ) -> Result<(Primitive, TermExpr), CheckFault>
-    ensures selector { Unfolds (λ s. (s.0, expression_of s.1)) result numbers.new (selecting (names_in context.entry.scope) context.entry.line depth (tree_of e.now) (numbers_of numbers.old)) }
+    ensures selector { Unfolds (λ s. (s.0, expression_of s.1)) result numbers.new (read_in context.entry selecting depth (tree_of e.now) (numbers_of numbers.old)) }
     ensures within { IfOk result (λ _. depth < 200) }
 {
     let (primitive, e) = selector(context, e)?;
@@ -318,7 +319,7 @@ fn constants(
     primitive: Primitive,
     values: &OneOrMore<Expr>,
 ) -> Result<Items<i64>, CheckFault>
-    ensures { Gives (λ vs. vs) result (each_of (constant_as (names_in context.entry.scope) context.entry.line primitive) (tree_of values.now.first ∷ map tree_of values.now.others.items)) }
+    ensures { Gives (λ vs. vs) result (each_of (read_in context.entry constant_as primitive) (expressions_of values.now)) }
 {
     let first = constant_as(context, primitive, &values.first)?;
     let others = each_constant(context, primitive, &values.others)?;
@@ -334,7 +335,7 @@ fn each_constant(
     primitive: Primitive,
     values: &[Expr],
 ) -> Result<Items<i64>, CheckFault>
-    ensures { Gives (λ vs. vs) result (each_of (constant_as (names_in context.entry.scope) context.entry.line primitive) (map tree_of values.now)) }
+    ensures { Gives (λ vs. vs) result (each_of (read_in context.entry constant_as primitive) (map tree_of values.now)) }
 {
     let mut made = Items::new(context.alloc);
     for value in values {
@@ -350,7 +351,7 @@ fn each_constant(
 /// The options of a CASE, as a slice.
 #[tactic(auto, using(crate::proofs::HeldLists::selections_made))]
 pub(crate) fn listed_selections(selections: &Vec<Selection>) -> &[Selection]
-    ensures { nodes (map selection_of result.now) ≡ held_selections (hidden-the_row-Selection-5 selections.now) }
+    ensures { option_nodes result.now ≡ held_selections (hidden-the_row-Selection-5 selections.now) }
 {
     selections.as_slice()
 }

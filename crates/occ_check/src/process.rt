@@ -1,13 +1,14 @@
 //! Processes: what is left of each once it is opened is unfolded, in turn, beside each other, or alone.
 
-ghost use Rattle.std.specs.Prelude.{◌≡◌, ◌≤◌, OnOk, map};
-ghost use Rattle.occ_tree_grammar.specs.Processes.Trees.{nodes};
-ghost use Rattle.occ_tree_grammar.specs.Processes.Views.{process_of};
+ghost use Rattle.std.specs.Prelude.{◌≤◌, OnOk};
 ghost use Rattle.occ_term.specs.View.{branches_of, term_of, terms_of};
-ghost use Rattle.occ_check_meaning.specs.Recursion.{unfolded, all_in_turn, all_beside};
+ghost use Rattle.occ_check_meaning.specs.Recursion.{all_in_turn, all_beside};
 ghost use Rattle.occ_check_names.specs.View.{Unfolds};
 ghost use Rattle.occ_check.specs.Opened.{IsReady, statement_left};
-ghost use Rattle.occ_check.specs.Progress.{counted, meant_at};
+ghost use Rattle.occ_check.specs.Progress.{Reads};
+ghost use Rattle.occ_check.specs.OpenBlocks.{Restores};
+ghost use Rattle.occ_check.specs.Statements.{body_unfolded};
+ghost use Rattle.occ_check.specs.Weights.{process_nodes};
 
 use crate::entering::headed;
 use crate::opened::{Left, Opened, Step};
@@ -31,8 +32,8 @@ impl<'t> Unfolder<'t> {
         process: &'t Process,
     ) -> Result<Term, CheckFault>
         requires { depth ≤ 200 }
-        ensures term { Unfolds term_of result self.new.numbers (unfolded (process_of process.now) (meant_at self.old at) depth (counted self.old)) }
-        ensures kept { OnOk result (self.new.blocks.blocks.items ≡ self.old.blocks.blocks.items) }
+        ensures term { Reads term_of result self.old self.new at depth (body_unfolded process.now) }
+        ensures kept { OnOk result (Restores self.old.blocks self.new.blocks) }
     {
         let base = self.blocks.len();
         let mut body = process;
@@ -61,7 +62,7 @@ impl<'t> Unfolder<'t> {
     fn performed(&mut self, alloc: Global, opened: Opened<'t>) -> Result<Term, CheckFault>
         requires { IsReady opened }
         ensures term { Unfolds term_of result self.new.numbers (statement_left self.old opened.entry) }
-        ensures kept { OnOk result (self.new.blocks.blocks.items ≡ self.old.blocks.blocks.items) }
+        ensures kept { OnOk result (Restores self.old.blocks self.new.blocks) }
     {
         let Opened { left, at, depth } = opened;
         match left {
@@ -113,8 +114,8 @@ impl<'t> Unfolder<'t> {
         processes: &'t [Process],
     ) -> Result<Items<Branch>, CheckFault>
         requires { depth ≤ 200 }
-        ensures branches { Unfolds branches_of result self.new.numbers (all_beside (nodes (map process_of processes.now)) (meant_at self.old at) depth (counted self.old)) }
-        ensures kept { OnOk result (self.new.blocks.blocks.items ≡ self.old.blocks.blocks.items) }
+        ensures branches { Reads branches_of result self.old self.new at depth (all_beside (process_nodes processes.now)) }
+        ensures kept { OnOk result (Restores self.old.blocks self.new.blocks) }
     {
         let mut branches = Items::new(alloc);
         for process in processes {
@@ -135,8 +136,8 @@ impl<'t> Unfolder<'t> {
         processes: &'t [Process],
     ) -> Result<Items<Term>, CheckFault>
         requires { depth ≤ 200 }
-        ensures terms { Unfolds terms_of result self.new.numbers (all_in_turn (nodes (map process_of processes.now)) (meant_at self.old at) depth (counted self.old)) }
-        ensures kept { OnOk result (self.new.blocks.blocks.items ≡ self.old.blocks.blocks.items) }
+        ensures terms { Reads terms_of result self.old self.new at depth (all_in_turn (process_nodes processes.now)) }
+        ensures kept { OnOk result (Restores self.old.blocks self.new.blocks) }
     {
         let mut terms = Items::new(alloc);
         for process in processes {

@@ -1,19 +1,20 @@
 //! Whole programs: the main process behind the items that stand before it.
 
-ghost use Rattle.std.specs.Prelude.{◌≡◌, ◌≤◌, ◌<◌, IfErr, IfOk, OnOk, None, Option, Some, [], length, map, option_map};
+ghost use Rattle.std.specs.Prelude.{◌≡◌, ◌≤◌, IfErr, IfOk, OnOk, [], length, map, option_map};
 ghost use Rattle.occ_tree_grammar.specs.Lines.Trees.{by_channel, carries};
 ghost use Rattle.occ_tree_grammar.specs.Lines.Views as lines;
-ghost use Rattle.occ_tree_grammar.specs.Processes.Views.{item_of, process_of, program_of};
+ghost use Rattle.occ_tree_grammar.specs.Processes.Views.{item_of, program_of};
 ghost use Rattle.occ_term.specs.View.{term_of};
 ghost use Rattle.occ_check_meaning.specs.Performing.{behind};
 ghost use Rattle.occ_check_meaning.specs.ProgramUnfolding.{UnfoldsTo};
 ghost use Rattle.occ_check_meaning.specs.Programs as programs;
-ghost use Rattle.occ_check_meaning.specs.Recursion.{unfolded};
 ghost use Rattle.occ_check.specs.CheckRefuses.{CheckRefuses};
 ghost use Rattle.occ_check_typing.specs.Declaration.{pairs_of};
 ghost use Rattle.occ_check.specs.Program.{byte_channel, items_within, main_at, main_in};
-ghost use Rattle.occ_check.specs.Progress.{Enters, counted, meant_at, meant_innermost};
+ghost use Rattle.occ_check.specs.Progress.{Declares, counted, meant_at};
 ghost use Rattle.occ_check_names.specs.View.{Gives, Unfolds, known_of, numbers_of};
+ghost use Rattle.occ_check.specs.OpenBlocks.{Deepens, HasBlock};
+ghost use Rattle.occ_check.specs.Statements.{body_unfolded};
 
 use crate::blocks::Blocks;
 use crate::entering::headed;
@@ -241,7 +242,7 @@ impl<'t> Unfolder<'t> {
         names: Vec<Named>,
         body: &'t Process,
     ) -> Result<Term, CheckFault>
-        ensures { Unfolds term_of result self.new.numbers (behind (items_within (map item_of items.now) (pairs_of names.items)) (unfolded (process_of body.now)) (meant_at self.old at) 0 (counted self.old)) }
+        ensures { Unfolds term_of result self.new.numbers (behind (items_within (map item_of items.now) (pairs_of names.items)) (body_unfolded body.now) (meant_at self.old at) 0 (counted self.old)) }
     {
         self.blocks.open(alloc, at)?;
         let heads = self.entered_items(alloc, items, names)?;
@@ -258,8 +259,8 @@ impl<'t> Unfolder<'t> {
         items: &'t [Item],
         names: Vec<Named>,
     ) -> Result<Items<Declaration>, CheckFault>
-        requires { 0 < length self.old.blocks.blocks.items }
-        ensures { Enters result self.new (items_within (map item_of items.now) (pairs_of names.items) (meant_innermost self.old) 1 (counted self.old)) }
+        requires { HasBlock self.old.blocks }
+        ensures { Declares result self.old self.new 1 (items_within (map item_of items.now) (pairs_of names.items)) }
     {
         let heads = self.items_declared(alloc, 1, items)?;
         self.blocks.enter(alloc, names)?;
@@ -273,9 +274,9 @@ impl<'t> Unfolder<'t> {
         depth: u32,
         items: &'t [Item],
     ) -> Result<Items<Declaration>, CheckFault>
-        requires { 0 < length self.old.blocks.blocks.items }
-        ensures entered { Enters result self.new (programs.items_declared (map item_of items.now) (meant_innermost self.old) depth (counted self.old)) }
-        ensures more { OnOk result (length self.old.blocks.blocks.items ≤ length self.new.blocks.blocks.items) }
+        requires { HasBlock self.old.blocks }
+        ensures entered { Declares result self.old self.new depth (programs.items_declared (map item_of items.now)) }
+        ensures more { OnOk result (Deepens self.old.blocks self.new.blocks) }
     {
         let mut heads = Items::new(alloc);
         for item in items {

@@ -1,23 +1,22 @@
 //! Inputs of variants.
 
-ghost use Rattle.std.specs.Prelude.{◌≡◌, ◌<◌, ◌≤◌, ◌+◌, [], IfOk, OnOk, length, map, take};
-ghost use Rattle.occ_tree_grammar.specs.Processes.Trees.{nodes, decls};
+ghost use Rattle.std.specs.Prelude.{◌≡◌, ◌<◌, ◌≤◌, [], IfOk, OnOk, map};
 ghost use Rattle.occ_tree_grammar.specs.Processes.Views as trees;
-ghost use Rattle.occ_tree_grammar.specs.Processes.Views.{decl_of, process_of, held_decls, held_variants};
+ghost use Rattle.occ_tree_grammar.specs.Processes.Views.{held_decls, held_variants};
 ghost use Rattle.occ_tree_grammar.specs.declared.tree.process.Arm.TheBlock.{hidden-the_row-Decl-0, hidden-the_row-Variant-1};
 ghost use Rattle.occ_tree_grammar.specs.Lines.Views as lines;
 ghost use Rattle.occ_term.specs.Terms.{no_variants};
 ghost use Rattle.occ_term.specs.View.{place_of, targets_of, term_of, variant_of, variants_of};
 ghost use Rattle.occ_check_meaning.specs.Performing as performing;
-ghost use Rattle.occ_check_meaning.specs.Recursion.{all_declared, all_variants, unfolded, variant_unfolded};
+ghost use Rattle.occ_check_meaning.specs.Recursion.{all_variants, variant_unfolded};
 ghost use Rattle.occ_check_meaning.specs.Actions.{variant_tag};
-ghost use Rattle.occ_check_meaning.specs.Scope.{names_of};
 ghost use Rattle.occ_check.specs.Prefixes.{storing, variants_taken};
-ghost use Rattle.occ_check_names.specs.View.{Unfolds, names_in, numbers_of};
-ghost use Rattle.occ_check.specs.Statements.{body_of_variant, declarations_of_variant, line_of_variant, targets_of_variant};
-ghost use Rattle.occ_check.specs.Opened.{IsReady, Opens, left_weight, statement_left, variant_left, variant_with};
-ghost use Rattle.occ_check.specs.Progress.{counted, meant_at, weight_at};
-ghost use Rattle.occ_check.specs.Weights.{decls_size, node_size, nodes_size};
+ghost use Rattle.occ_check_names.specs.View.{Unfolds, numbers_of};
+ghost use Rattle.occ_check.specs.Statements.{body_of_variant, declarations_of_variant, line_of_variant, targets_of_variant, variant_with_targets};
+ghost use Rattle.occ_check.specs.Opened.{Begins, IsReady, LeavesWithin, OpensAt, variant_left, variant_with};
+ghost use Rattle.occ_check.specs.Progress.{Reads, body_weight, counted, declared_weight, names_there, node_weight, nodes_weight, read_in};
+ghost use Rattle.occ_check.specs.Weights.{decl_nodes, variant_nodes};
+ghost use Rattle.occ_check.specs.OpenBlocks.{Keeps, Restores};
 
 use crate::one_line::names_at;
 use crate::opened::{Left, Opened};
@@ -93,9 +92,9 @@ impl<'t> Unfolder<'t> {
         channel: &Var,
         list: &'t [Variant],
     ) -> Result<Opened<'t>, CheckFault>
-        ensures opens { Opens statement_left result self.new (performing.taken_by_variant line (lines.var_of channel.now) (λ p. all_variants (nodes (map trees.variant_of list.now)) p []) (meant_at self.old at) depth (counted self.old)) }
-        ensures kept { OnOk result (take (length self.old.blocks.blocks.items) self.new.blocks.blocks.items ≡ self.old.blocks.blocks.items) }
-        ensures weight { IfOk result (λ o. left_weight self.new o ≤ nodes_size (nodes (map trees.variant_of list.now)) + weight_at self.old at) }
+        ensures opens { Begins result self.old self.new at depth (performing.taken_by_variant line (lines.var_of channel.now) (λ p. all_variants (variant_nodes list.now) p [])) }
+        ensures kept { OnOk result (Keeps self.old.blocks self.new.blocks) }
+        ensures weight { LeavesWithin result self.new (nodes_weight self.old at (variant_nodes list.now)) }
         ensures ready { IfOk result IsReady }
     {
         let (protocol, channel) = self.variants_taken(alloc, at, depth, line, channel)?;
@@ -117,8 +116,8 @@ impl<'t> Unfolder<'t> {
         list: &'t [Variant],
     ) -> Result<Items<TermVariant>, CheckFault>
         requires { depth ≤ 200 }
-        ensures variants { Unfolds variants_of result self.new.numbers (all_variants (nodes (map trees.variant_of list.now)) protocol.now [] (meant_at self.old at) depth (counted self.old)) }
-        ensures kept { OnOk result (self.new.blocks.blocks.items ≡ self.old.blocks.blocks.items) }
+        ensures variants { Reads variants_of result self.old self.new at depth (all_variants (variant_nodes list.now) protocol.now []) }
+        ensures kept { OnOk result (Restores self.old.blocks self.new.blocks) }
     {
         let mut tags = Tags::new(alloc, protocol)?;
         let mut variants = Items::new(alloc);
@@ -150,9 +149,9 @@ impl<'t> Unfolder<'t> {
         variant: &'t Variant,
     ) -> Result<OpenedVariant<'t>, CheckFault>
         requires { depth ≤ 200 }
-        ensures opens { Opens variant_left result self.new (variant_unfolded (trees.variant_of variant.now) protocol.now tag (meant_at self.old at) depth (counted self.old)) }
-        ensures kept { OnOk result (take (length self.old.blocks.blocks.items) self.new.blocks.blocks.items ≡ self.old.blocks.blocks.items) }
-        ensures weight { IfOk result (λ o. node_size (process_of o.body.now) + weight_at self.new o.at < node_size (trees.variant_of variant.now) + weight_at self.old at) }
+        ensures opens { OpensAt variant_left result self.old self.new at depth (variant_unfolded (trees.variant_of variant.now) protocol.now tag) }
+        ensures kept { OnOk result (Keeps self.old.blocks self.new.blocks) }
+        ensures weight { IfOk result (λ o. body_weight self.new o.at o.body.now < node_weight self.old at (trees.variant_of variant.now)) }
         ensures within { IfOk result (λ o. o.depth ≤ 200) }
     {
         let line = line_of(variant);
@@ -185,9 +184,9 @@ impl<'t> Unfolder<'t> {
         targets: &[TargetTree],
         body: &'t Process,
     ) -> Result<OpenedVariant<'t>, CheckFault>
-        ensures opens { Opens variant_left result self.new (performing.variant_of line (map lines.target_of targets.now) (all_declared (decls (map decl_of declarations.now))) (unfolded (process_of body.now)) protocol.now tag (meant_at self.old at) depth (counted self.old)) }
-        ensures kept { OnOk result (take (length self.old.blocks.blocks.items) self.new.blocks.blocks.items ≡ self.old.blocks.blocks.items) }
-        ensures weight { IfOk result (λ o. node_size (process_of o.body.now) + weight_at self.new o.at ≤ (decls_size (decls (map decl_of declarations.now)) + node_size (process_of body.now)) + weight_at self.old at) }
+        ensures opens { OpensAt variant_left result self.old self.new at depth (variant_with_targets line targets.now declarations.now body.now protocol.now tag) }
+        ensures kept { OnOk result (Keeps self.old.blocks self.new.blocks) }
+        ensures weight { IfOk result (λ o. body_weight self.new o.at o.body.now ≤ declared_weight self.old at declarations.now body.now) }
         ensures within { IfOk result (λ o. o.depth ≤ 200) }
     {
         self.numbers.node(depth)?;
@@ -215,7 +214,7 @@ impl<'t> Unfolder<'t> {
         line: u32,
         channel: &Var,
     ) -> Result<(Protocol, Place), CheckFault>
-        ensures taken { Unfolds (λ c. (c.0, place_of c.1)) result self.new.numbers (variants_taken (names_of (meant_at self.old at)) line depth (lines.var_of channel.now) (counted self.old)) }
+        ensures taken { Unfolds (λ c. (c.0, place_of c.1)) result self.new.numbers (variants_taken (names_there self.old at) line depth (lines.var_of channel.now) (counted self.old)) }
         ensures kept { OnOk result (self.new.blocks ≡ self.old.blocks) }
         ensures within { IfOk result (λ _. depth < 200) }
     {
@@ -239,7 +238,7 @@ impl<'t> Unfolder<'t> {
         tag: u32,
         targets: &[TargetTree],
     ) -> Result<Items<Target>, CheckFault>
-        ensures targets { Unfolds targets_of result self.new.numbers (storing (names_of (meant_at self.old at)) line depth protocol.now tag (map lines.target_of targets.now) (counted self.old)) }
+        ensures targets { Unfolds targets_of result self.new.numbers (storing (names_there self.old at) line depth protocol.now tag (map lines.target_of targets.now) (counted self.old)) }
         ensures kept { OnOk result (self.new.blocks ≡ self.old.blocks) }
     {
         let scope = names_at(&self.blocks, at);
@@ -261,7 +260,7 @@ fn variants_taken(
     depth: u32,
     channel: &Var,
 ) -> Result<(Protocol, Place), CheckFault>
-    ensures taken { Unfolds (λ c. (c.0, place_of c.1)) result numbers.new (variants_taken (names_in context.entry.scope) context.entry.line depth (lines.var_of channel.now) (numbers_of numbers.old)) }
+    ensures taken { Unfolds (λ c. (c.0, place_of c.1)) result numbers.new (read_in context.entry variants_taken depth (lines.var_of channel.now) (numbers_of numbers.old)) }
     ensures within { IfOk result (λ _. depth < 200) }
 {
     let (protocol, channel) = channel_of(context, channel)?;
@@ -281,7 +280,7 @@ fn storing(
     tag: u32,
     targets: &[TargetTree],
 ) -> Result<Items<Target>, CheckFault>
-    ensures { Unfolds targets_of result numbers.new (storing (names_in context.entry.scope) context.entry.line depth protocol.now tag (map lines.target_of targets.now) (numbers_of numbers.old)) }
+    ensures { Unfolds targets_of result numbers.new (read_in context.entry storing depth protocol.now tag (map lines.target_of targets.now) (numbers_of numbers.old)) }
 {
     let parts = parts_after(context.alloc, context.line, protocol, Some(tag))?;
     let targets = match stored(context, parts.as_slice(), targets) {
@@ -313,7 +312,7 @@ fn kept_declarations(variant: &Variant) -> &Vec<Decl>
 /// The declarations of a variant.
 #[tactic(auto, using(crate::proofs::Parts::decls_made))]
 fn declarations_of(variant: &Variant) -> &[Decl]
-    ensures { decls (map decl_of result.now) ≡ declarations_of_variant variant.now }
+    ensures { decl_nodes result.now ≡ declarations_of_variant variant.now }
 {
     kept_declarations(variant).as_slice()
 }
@@ -349,7 +348,7 @@ fn tag_of(variant: &Variant) -> &[u8]
 /// The variants of an input, as a slice.
 #[tactic(auto, using(crate::proofs::HeldLists::variants_made))]
 pub(crate) fn listed_variants(variants: &Vec<Variant>) -> &[Variant]
-    ensures { nodes (map trees.variant_of result.now) ≡ held_variants (hidden-the_row-Variant-1 variants.now) }
+    ensures { variant_nodes result.now ≡ held_variants (hidden-the_row-Variant-1 variants.now) }
 {
     variants.as_slice()
 }
