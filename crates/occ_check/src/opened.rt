@@ -164,34 +164,24 @@ impl Over {
 }
 
 impl<'t> Opened<'t> {
-    /// The process that is left, where nothing is put round it.
-    fn bare(&self) -> Option<&'t Process>
-        ensures left { IfSome result (λ p. (u : Unfolder) → statement_left u self.now ≡ unfolded (process_of p.now) (meant_at u self.now.at) self.now.depth (counted u)) }
-        ensures weight { IfSome result (λ p. (u : Unfolder) → left_weight u self.now ≡ node_size (process_of p.now) + weight_at u self.now.at) }
-    {
-        match &self.left {
-            Left::Body(around, body) => {
-                if around.is_nothing() {
-                    Some(*body)
-                } else {
-                    None
-                }
-            }
-            _ => None,
-        }
-    }
-
     /// It, behind what is set for declarations.
     pub fn behind(self, heads: Items<Declaration>) -> Step<'t>
         ensures left { (u : Unfolder) → step_left u result ≡ put (headed (declarations_of heads)) (statement_left u self.entry) }
         ensures weight { (u : Unfolder) → step_weight u result ≡ left_weight u self.entry }
         ensures ready { IsReady self.entry → IsStepReady result }
     {
-        if heads.is_empty() {
-            if let Some(body) = self.bare() {
-                return Step::Call(body, self.at, self.depth);
+        let Opened { left, at, depth } = self;
+        match left {
+            Left::Body(around, body) => {
+                if heads.is_empty() {
+                    if around.is_nothing() {
+                        return Step::Call(body, at, depth);
+                    }
+                }
+                let left = Left::Body(around, body);
+                Step::Behind(heads, Opened { left, at, depth })
             }
+            left => Step::Behind(heads, Opened { left, at, depth }),
         }
-        Step::Behind(heads, self)
     }
 }
