@@ -7,6 +7,7 @@ use Rattle.occ_term.specs.System.{End, OfProcess}
 use Rattle.occ_term.specs.Runs.{Entry}
 use Rattle.occ_net_replay.specs.declared.ending.Ending.{Ending}
 use Rattle.occ_net_replay.specs.Endings.{ending_text}
+use Rattle.occ_shown.specs.Answers.{numbers_text}
 use Rattle.occ_chart.specs.declared.part.Part.{Part}
 use Rattle.occ_chart.specs.declared.part.Part.TheVariants.{First, Last}
 use Rattle.occ_chart.specs.declared.xml.Style.TheVariants.{Plain, Red, Note, RedNote}
@@ -121,10 +122,6 @@ note_before count high = if nat_eq count 0 then [] else text_at Note 10 48 [] (c
 
 abbrev pub note_after : (bottom count : ℕ) → Bool → List Element
 note_after bottom count high = if nat_eq count 0 then [] else text_at Note 10 (bottom + 86) [] (decimal count ++ codes " more" ++ cut_words high) ∷ []
-
-abbrev pub numbers_text : List ℕ → List ℕ
-numbers_text [] = []
-numbers_text (n ∷ ns) = codes " p" ++ decimal n ++ numbers_text ns
 
 abbrev pub circle_words : List ℕ → List ℕ
 circle_words ns = codes "a circle waits:" ++ numbers_text ns

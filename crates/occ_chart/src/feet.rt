@@ -13,12 +13,13 @@ ghost use Rattle.occ_term.specs.Runs.{tag_shown};
 use crate::columns::place_of;
 use crate::heads::column;
 use crate::labels::write_label;
-use crate::messages::{write_message, write_name};
+use crate::messages::write_message;
 use crate::stub::Stub;
 use crate::xml::{Style, write_path};
 use occ_machine::Wait;
 use occ_net_replay::Ending;
 use occ_net_trace::End;
+use occ_shown::write_name;
 use occ_term::{Channel, Fault, Message};
 use std::alloc::{AllocError, Global};
 

@@ -19,6 +19,6 @@ pub use arrows::words_of;
 pub use charting::chart;
 pub use feet::foot_of;
 pub use heads::write_end;
-pub use messages::{write_message, write_name};
+pub use messages::write_message;
 pub use part::{MOST_ARROWS, Part};
 pub use stub::Stub;

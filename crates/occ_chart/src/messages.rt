@@ -1,71 +1,13 @@
-//! Messages in bytes.
-ghost use Rattle.std.specs.Prelude.{◌≡◌, ◌++◌, OnOk, Some};
-ghost use Rattle.std.specs.Fmt.{decimal};
+//! Messages in bytes, as a chart has them.
+ghost use Rattle.std.specs.Prelude.{◌≡◌, ◌++◌, OnOk};
 ghost use Rattle.std.specs.Option.{option_copied};
 ghost use Rattle.occ_term.specs.Runs.{tag_shown};
-ghost use Rattle.occ_shown.specs.Answers.{array_text, name_at, names_of, spaced_text, tag_in, value_text};
+ghost use Rattle.occ_shown.specs.Answers.{names_of};
 ghost use Rattle.occ_chart.specs.Labels.{byte_text, item_text, message_text, others_text};
 
-use occ_term::{Channel, Message, Part, Primitive, Protocol};
+use occ_shown::{tag_name, write_array, write_value};
+use occ_term::{Channel, Message, Part, Primitive};
 use std::alloc::{AllocError, Global};
-
-fn write_value(
-    alloc: Global,
-    out: &mut Vec<u8>,
-    primitive: Primitive,
-    value: i64,
-) -> Result<(), AllocError>
-    ensures { OnOk result (out.new.items ≡ out.old.items ++ value_text primitive value) }
-{
-    match primitive {
-        Primitive::Bool => {
-            if value >= 1 {
-                out.extend_from_slice(b"TRUE")
-            } else {
-                out.extend_from_slice(b"FALSE")
-            }
-        }
-        Primitive::Byte | Primitive::Int => {
-            let text = format!(in alloc; "{value}")?;
-            out.extend_from_slice(text.as_bytes())
-        }
-    }
-}
-
-/// Values, each after a space.
-fn write_spaced(
-    alloc: Global,
-    out: &mut Vec<u8>,
-    primitive: Primitive,
-    values: &[i64],
-) -> Result<(), AllocError>
-    ensures { OnOk result (out.new.items ≡ out.old.items ++ spaced_text primitive values.now) }
-{
-    let mut rest = values;
-    while let Some((value, others)) = rest.split_first() {
-        out.push(b' ')?;
-        write_value(alloc, out, primitive, *value)?;
-        rest = others;
-    }
-    Ok(())
-}
-
-fn write_array(
-    alloc: Global,
-    out: &mut Vec<u8>,
-    primitive: Primitive,
-    values: &[i64],
-) -> Result<(), AllocError>
-    ensures { OnOk result (out.new.items ≡ out.old.items ++ array_text primitive values.now) }
-{
-    out.push(b'[')?;
-    if let Some((first, others)) = values.split_first() {
-        write_value(alloc, out, primitive, *first)?;
-        write_spaced(alloc, out, primitive, others)?;
-    }
-    out.push(b']')?;
-    Ok(())
-}
 
 /// A byte's number, and its character where it is printed ASCII.
 fn write_byte(alloc: Global, out: &mut Vec<u8>, value: i64) -> Result<(), AllocError>
@@ -145,48 +87,6 @@ pub(crate) fn write_items(
             }
             None => Ok(()),
         },
-    }
-}
-
-/// The name of a channel; nothing where there is no such channel.
-///
-/// # Errors
-///
-/// A refused growth.
-pub fn write_name(
-    alloc: Global,
-    out: &mut Vec<u8>,
-    channels: &[Channel],
-    chan: u32,
-) -> Result<(), AllocError>
-    ensures { OnOk result (out.new.items ≡ out.old.items ++ (names_of channels.now).channel_name chan) }
-{
-    match channels.get(chan as usize) {
-        Some(channel) => channel.name.write(alloc, out),
-        None => Ok(()),
-    }
-}
-
-/// The name of a protocol's tag; empty where there is no such tag.
-fn protocol_tag(protocol: &Protocol, tag: u32) -> &[u8]
-    ensures { result.now ≡ tag_in (Some protocol.now) tag }
-{
-    match protocol {
-        Protocol::Variant(tags) => match tags.as_slice().get(tag as usize) {
-            Some(found) => found.name.as_slice(),
-            None => &[],
-        },
-        _ => &[],
-    }
-}
-
-/// The name of a channel's tag; empty where there is no such tag.
-fn tag_name(channels: &[Channel], chan: u32, tag: u32) -> &[u8]
-    ensures { result.now ≡ (names_of channels.now).tag_name chan tag }
-{
-    match channels.get(chan as usize) {
-        Some(channel) => protocol_tag(&channel.protocol, tag),
-        None => &[],
     }
 }
 

@@ -1,13 +1,13 @@
 //! What is noted beside the arrows of a chart.
 ghost use Rattle.std.specs.Prelude.{◌≡◌, ◌++◌, ◌+◌, ◌*◌, ◌≤◌, ◌^◌, ◌∷◌, [], IfOk, OnOk, codes, length, max};
-ghost use Rattle.std.specs.Fmt.{decimal};
-ghost use Rattle.occ_chart.specs.Charts.{circle_label, circle_words, cut_words, note_after, note_before, note_circle, note_ending, numbers_text};
+ghost use Rattle.occ_chart.specs.Charts.{circle_label, circle_words, cut_words, note_after, note_before, note_circle, note_ending};
 ghost use Rattle.occ_chart.specs.Xml.{element_text, elements_text};
 ghost use Rattle.occ_net_replay.specs.Endings.{ending_text};
 
 use crate::labels::write_label;
 use crate::xml::{Style, write_text};
 use occ_net_replay::Ending;
+use occ_shown::write_numbers;
 use std::alloc::{AllocError, Global};
 
 /// What is said where fewer are drawn than were asked for.
@@ -65,20 +65,6 @@ pub(crate) fn write_after(
         b"",
         words.as_slice(),
     )
-}
-
-/// The numbers of processes, each after a space.
-fn write_numbers(alloc: Global, out: &mut Vec<u8>, numbers: &[u32]) -> Result<(), AllocError>
-    ensures { OnOk result (out.new.items ≡ out.old.items ++ numbers_text numbers.now) }
-{
-    let mut rest = numbers;
-    while let Some((first, others)) = rest.split_first() {
-        let number = *first;
-        let text = format!(in alloc; " p{number}")?;
-        out.extend_from_slice(text.as_bytes())?;
-        rest = others;
-    }
-    Ok(())
 }
 
 /// How many letters have room under so many columns.

@@ -1,15 +1,11 @@
 //! What is left of a construct once all is done that stands before its first part, and what its parts are put into.
 
-ghost use Rattle.std.specs.Prelude.{◌≡◌, ◌+◌, IfErr, IfOk, IfSome, IsTrue};
-ghost use Rattle.occ_tree_grammar.specs.Processes.Views.{process_of};
+ghost use Rattle.std.specs.Prelude.{◌≡◌, IfErr, IfOk, IsTrue};
 ghost use Rattle.occ_term.specs.Terms as terms;
 ghost use Rattle.occ_term.specs.View.{arms_of, choices_of, declarations_of, term_of};
 ghost use Rattle.occ_check_meaning.specs.Actions.{headed};
-ghost use Rattle.occ_check_meaning.specs.Recursion.{unfolded};
 ghost use Rattle.occ_check_names.specs.declared.fault.CheckFault.TheVariants.{Memory};
 ghost use Rattle.occ_check.specs.Opened.{IsReady, IsStepReady, around, each_arms, each_choices, left_weight, put, statement_left, step_left, step_weight};
-ghost use Rattle.occ_check.specs.Progress.{counted, meant_at, weight_at};
-ghost use Rattle.occ_check.specs.Weights.{node_size};
 ghost use Rattle.occ_check.specs.declared.unfolder.Unfolder.{Unfolder};
 
 use crate::arms::only_arm;

@@ -1,5 +1,5 @@
 //! The turn of a process: its instructions, from one stop to the next. [`turn`] answers the task after it,
-//! as the machine of `occ_code` has it, and [`advance`] takes it in place.
+//! as the machine of `occ_machine` has it, and [`advance`] takes it in place.
 #![tactic(auto)]
 
 mod arms;

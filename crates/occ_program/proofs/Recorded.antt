@@ -3,7 +3,7 @@ use Rattle.std.proofs.Common.{◌≡◌, ◌∙◌, ◌⊎◌, ◌++◌, ◌∷�
 use Rattle.std.specs.Prelude.{Result, Ok, Err, OnErr, OnOk, ⊤}
 use Rattle.std.specs.Borrow.{Bor}
 use Rattle.occ_play_inputs.specs.declared.failure.Failure.{Failure}
-use Rattle.std.proofs.lemmas.List.{append-nil, take_all}
+use Rattle.std.proofs.lemmas.List.{append-nil}
 use Rattle.occ_choices.specs.Lines.{choice_text}
 use Rattle.occ_net_replay.specs.declared.choice.Choice.{Choice}
 use Rattle.occ_explore.specs.declared.exploration.Answer.{Answer}

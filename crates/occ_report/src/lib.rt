@@ -2,7 +2,6 @@
 //! channel it waits, with which message, and who is at its other end; [`circle_of`] which processes wait in a circle.
 #![tactic(auto)]
 
-mod messages;
 pub mod reporting;
 mod standing;
 

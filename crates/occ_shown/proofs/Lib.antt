@@ -1,4 +1,4 @@
-mod Texts
+pub mod Texts
 mod Growth
 mod SameEnds
 pub mod ByteMessages

@@ -108,6 +108,11 @@ abbrev pub name_at : Option Channel → List ℕ
 name_at None = []
 name_at (Some c) = c.name
 
+-- the numbers of processes, each after a space
+abbrev pub numbers_text : List ℕ → List ℕ
+numbers_text [] = []
+numbers_text (n ∷ ns) = codes " p" ++ decimal n ++ numbers_text ns
+
 abbrev pub name_or_none : Option (List ℕ) → List ℕ
 name_or_none None = []
 name_or_none (Some n) = n

@@ -1,12 +1,12 @@
 //! The answer's bytes, whole.
-ghost use Rattle.std.specs.Prelude.{◌≡◌, ◌++◌, ◌∷◌, [], ◌<◌, ◌+◌, Some, None, Option, IfOk, OnOk, map, slice_get};
-ghost use Rattle.std.specs.Fmt.{decimal};
+ghost use Rattle.std.specs.Prelude.{◌≡◌, ◌++◌, ◌∷◌, [], ◌<◌, ◌+◌, IfOk, OnOk, map, slice_get};
 ghost use Rattle.std.specs.Option.{option_copied};
 ghost use Rattle.occ_term.specs.Runs.{bytes_in, bytes_of, entry_of, entries, messages_on, sent_on, shown_by, tag_shown};
-ghost use Rattle.occ_shown.specs.Answers.{AreByteMessages, IsByteMessage, answer_text, value_text, spaced_text, array_text, part_text, later_text, items_text, end_text, head_text, ends_text, line_text, trace_text, line_break, names_of, name_at, tag_in, report_of};
+ghost use Rattle.occ_shown.specs.Answers.{AreByteMessages, IsByteMessage, answer_text, part_text, later_text, items_text, end_text, head_text, ends_text, line_text, trace_text, line_break, names_of, name_at, report_of};
 ghost use Rattle.occ_net_tables.specs.Holding.{communication_of, end_of};
 ghost use Rattle.occ_net_trace.specs.Views.{part_of};
 
+use crate::values::{tag_name, write_array, write_name, write_number, write_value};
 use occ_net_replay::Ending;
 use occ_net_trace::{End, Entry, MessageView, PartView, PartViews, Trace};
 use occ_term::{Channel, ERROR, Primitive, Protocol, SCREEN};
@@ -14,69 +14,6 @@ use std::alloc::{AllocError, Global};
 
 /// Ends a line.
 pub(crate) const LINE_FEED: u8 = 10;
-
-fn write_value(
-    alloc: Global,
-    out: &mut Vec<u8>,
-    primitive: Primitive,
-    value: &i64,
-) -> Result<(), AllocError>
-    ensures { OnOk result (out.new.items ≡ out.old.items ++ value_text primitive value.now) }
-{
-    match primitive {
-        Primitive::Bool => {
-            if *value >= 1 {
-                out.extend_from_slice(b"TRUE")
-            } else {
-                out.extend_from_slice(b"FALSE")
-            }
-        }
-        Primitive::Byte | Primitive::Int => {
-            let text = format!(in alloc; "{value}")?;
-            out.extend_from_slice(text.as_bytes())
-        }
-    }
-}
-
-pub(crate) fn write_number(alloc: Global, out: &mut Vec<u8>, number: u64) -> Result<(), AllocError>
-    ensures { OnOk result (out.new.items ≡ out.old.items ++ decimal number) }
-{
-    let text = format!(in alloc; "{number}")?;
-    out.extend_from_slice(text.as_bytes())
-}
-
-/// The values of an array, each after a space.
-fn write_spaced(
-    alloc: Global,
-    out: &mut Vec<u8>,
-    primitive: Primitive,
-    values: &[i64],
-) -> Result<(), AllocError>
-    ensures { OnOk result (out.new.items ≡ out.old.items ++ spaced_text primitive values.now) }
-{
-    for value in values {
-        out.push(b' ')?;
-        write_value(alloc, out, primitive, value)?;
-    }
-    Ok(())
-}
-
-fn write_array(
-    alloc: Global,
-    out: &mut Vec<u8>,
-    primitive: Primitive,
-    values: &[i64],
-) -> Result<(), AllocError>
-    ensures { OnOk result (out.new.items ≡ out.old.items ++ array_text primitive values.now) }
-{
-    out.push(b'[')?;
-    if let Some((first, others)) = values.split_first() {
-        write_value(alloc, out, primitive, first)?;
-        write_spaced(alloc, out, primitive, others)?;
-    }
-    out.push(b']')?;
-    Ok(())
-}
 
 pub(crate) fn write_part(
     alloc: Global,
@@ -86,7 +23,7 @@ pub(crate) fn write_part(
     ensures { OnOk result (out.new.items ≡ out.old.items ++ part_text (part_of part.now)) }
 {
     match part {
-        PartView::One(primitive, value) => write_value(alloc, out, *primitive, value),
+        PartView::One(primitive, value) => write_value(alloc, out, *primitive, *value),
         PartView::Many(primitive, values) => write_array(alloc, out, *primitive, values),
         PartView::Counted(primitive, values) => {
             write_number(alloc, out, values.len() as u64)?;
@@ -146,21 +83,6 @@ pub(crate) fn write_end(alloc: Global, out: &mut Vec<u8>, end: End) -> Result<()
     }
 }
 
-/// The name of a channel; nothing where there is no such channel.
-fn write_name(
-    alloc: Global,
-    out: &mut Vec<u8>,
-    channels: &[Channel],
-    chan: u32,
-) -> Result<(), AllocError>
-    ensures { OnOk result (out.new.items ≡ out.old.items ++ name_at (slice_get channels.now chan)) }
-{
-    match channels.get(chan as usize) {
-        Some(channel) => channel.name.write(alloc, out),
-        None => Ok(()),
-    }
-}
-
 /// The number, the channel's number and its name.
 fn write_head(
     alloc: Global,
@@ -193,29 +115,6 @@ pub(crate) fn write_ends(
     write_end(alloc, out, receiver)?;
     out.push(b' ')?;
     Ok(())
-}
-
-/// The name of a channel's tag; empty where there is no such tag.
-pub(crate) fn tag_name<'a>(channels: &'a [Channel], chan: u32, tag: u32) -> &'a [u8]
-    ensures { result.now ≡ (names_of channels.now).tag_name chan tag }
-{
-    match channels.get(chan as usize) {
-        Some(channel) => protocol_tag(&channel.protocol, tag),
-        None => &[],
-    }
-}
-
-/// The name of a protocol's tag; empty where there is no such tag.
-fn protocol_tag<'a>(protocol: &'a Protocol, tag: u32) -> &'a [u8]
-    ensures { result.now ≡ tag_in (Some protocol.now) tag }
-{
-    match protocol {
-        Protocol::Variant(tags) => match tags.as_slice().get(tag as usize) {
-            Some(found) => found.name.as_slice(),
-            None => &[],
-        },
-        _ => &[],
-    }
 }
 
 /// The tag's name and the items of a message on this channel.

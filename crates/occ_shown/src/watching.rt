@@ -6,7 +6,8 @@ ghost use Rattle.occ_shown.specs.Answers.{head_text, items_text, later_text, lin
 ghost use Rattle.occ_net_tables.specs.Holding.{communication_of};
 ghost use Rattle.occ_net_trace.specs.Views.{part_of};
 
-use crate::showing::{LINE_FEED, tag_name, write_ends, write_number, write_part};
+use crate::showing::{LINE_FEED, write_ends, write_part};
+use crate::values::{tag_name, write_number};
 use occ_board::Shown;
 use occ_net_trace::{Entry, PartView, Trace};
 use occ_term::{Channel, Name, Part, Text};

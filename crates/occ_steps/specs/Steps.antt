@@ -18,15 +18,10 @@ use Rattle.occ_net_tables.specs.Outcomes.{Begins}
 use Rattle.occ_net_tables.specs.declared.tables.Tables.{Tables}
 use Rattle.occ_places.specs.declared.stop.Stop.{Stop}
 use Rattle.occ_places.specs.Places.{Known, stop_of}
-use Rattle.occ_shown.specs.Answers.{ends_text, names_of}
+use Rattle.occ_shown.specs.Answers.{ends_text, names_of, numbers_text}
 use Rattle.occ_term.specs.Runs.{Entry, Names, entries, tag_shown}
 
 -- ---- at what a turn stops
-
--- processes, each after a space
-abbrev pub numbers_text : List ℕ → List ℕ
-numbers_text [] = []
-numbers_text (n ∷ ns) = codes " p" ++ decimal n ++ numbers_text ns
 
 -- an arm with SKIP has no channel
 abbrev pub arm_text : Names → Option ℕ → List ℕ

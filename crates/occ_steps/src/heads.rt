@@ -1,8 +1,9 @@
 //! How the line of a turn begins.
 ghost use Rattle.std.specs.Prelude.{◌≡◌, ◌++◌, OnOk};
 ghost use Rattle.occ_net_replay.specs.Replay.{selected};
-ghost use Rattle.occ_steps.specs.Steps.{head_text, numbers_text};
+ghost use Rattle.occ_steps.specs.Steps.{head_text};
 
+use occ_shown::write_numbers;
 use std::alloc::{AllocError, Global};
 
 /// The process that takes the turn, of those that are ready.
@@ -13,24 +14,6 @@ pub(crate) fn selected(ready: &[u32], which: u32) -> Option<u32>
         return None;
     }
     Some(ready[which as usize % ready.len()])
-}
-
-/// The numbers of processes, each after a space.
-pub(crate) fn write_numbers(
-    alloc: Global,
-    out: &mut Vec<u8>,
-    numbers: &[u32],
-) -> Result<(), AllocError>
-    ensures { OnOk result (out.new.items ≡ out.old.items ++ numbers_text numbers.now) }
-{
-    let mut rest = numbers;
-    while let Some((first, others)) = rest.split_first() {
-        let number = *first;
-        let text = format!(in alloc; " p{number}")?;
-        out.extend_from_slice(text.as_bytes())?;
-        rest = others;
-    }
-    Ok(())
 }
 
 /// The number of the turn, the processes that are ready, the one that takes it, and the pick.

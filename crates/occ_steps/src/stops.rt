@@ -3,18 +3,17 @@ ghost use Rattle.std.specs.Prelude.{◌≡◌, ◌++◌, ◌+◌, ◌-◌, ◌�
 ghost use Rattle.occ_chart.specs.Labels.{message_text};
 ghost use Rattle.occ_net_replay.specs.Endings.{ending_text};
 ghost use Rattle.occ_net_tables.specs.Holding.{communication_of};
-ghost use Rattle.occ_shown.specs.Answers.{ends_text, names_of};
-ghost use Rattle.occ_steps.specs.Steps.{all_made_text, arm_text, arms_text, line_text, made_text, numbers_text, stop_text, stopped_text, tail_text};
+ghost use Rattle.occ_shown.specs.Answers.{ends_text, names_of, numbers_text};
+ghost use Rattle.occ_steps.specs.Steps.{all_made_text, arm_text, arms_text, line_text, made_text, stop_text, stopped_text, tail_text};
 ghost use Rattle.occ_term.specs.Runs.{entries, tag_shown};
 
-use crate::heads::write_numbers;
 use occ_board::Shown;
-use occ_chart::{words_of, write_end, write_message, write_name};
+use occ_chart::{words_of, write_end, write_message};
 use occ_machine::{Arm, Task, Wait};
 use occ_net_replay::Ending;
 use occ_net_trace::News;
 use occ_places::{Places, Stop};
-use occ_shown::shown_as;
+use occ_shown::{shown_as, write_name, write_numbers};
 use occ_term::{Channel, Fault, Message};
 use std::alloc::{AllocError, Global};
 

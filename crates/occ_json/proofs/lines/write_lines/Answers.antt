@@ -1,6 +1,6 @@
 use Rattle.std.proofs.Common.{refl}
 use Rattle.occ_json.specs.Json.{line_json, trace_json}
-use Rattle.occ_json.proofs.Texts.{IsText, text_step}
+use Rattle.occ_shown.proofs.Texts.{IsText, text_step}
 use Rattle.occ_json.proofs.lines.write_lines.Goals as goal
 
 pub loop-shown-preserved : goal.loop-shown-preserved

@@ -1,6 +1,6 @@
 use Rattle.std.proofs.Common.{get_or, refl}
 use Rattle.occ_json.specs.Json.{escaped, escaped_byte}
-use Rattle.occ_json.proofs.Texts.{IsText, text_step, get_or_self}
+use Rattle.occ_shown.proofs.Texts.{IsText, text_step, get_or_self}
 use Rattle.occ_json.proofs.values.write_escaped.Goals as goal
 
 pub loop-i-preserved : goal.loop-i-preserved

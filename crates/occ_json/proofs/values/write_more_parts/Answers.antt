@@ -1,6 +1,6 @@
 use Rattle.std.proofs.Common.{◌∙◌, ◌∷◌, ◌++◌, [], refl, ap, append_assoc}
 use Rattle.occ_json.specs.Json.{part_json, more_parts}
-use Rattle.occ_json.proofs.Texts.{IsText, text_step}
+use Rattle.occ_shown.proofs.Texts.{IsText, text_step}
 use Rattle.occ_json.proofs.values.write_more_parts.Goals as goal
 
 pub loop-part-preserved : goal.loop-part-preserved

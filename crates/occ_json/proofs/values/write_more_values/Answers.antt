@@ -1,6 +1,6 @@
 use Rattle.std.proofs.Common.{◌∙◌, ◌∷◌, ◌++◌, [], pos, get_or, refl, ap, append_assoc}
 use Rattle.occ_json.specs.Json.{value_json, more_values}
-use Rattle.occ_json.proofs.Texts.{IsText, text_step, get_or_self}
+use Rattle.occ_shown.proofs.Texts.{IsText, text_step, get_or_self}
 use Rattle.occ_json.proofs.values.write_more_values.Goals as goal
 
 pub loop-value-preserved : goal.loop-value-preserved

@@ -1,4 +1,4 @@
-use Rattle.std.proofs.Common.{◌≡◌, List, None, Option, Some, ℕ, subst}
+use Rattle.std.proofs.Common.{◌≡◌, List, Option, Some, ℕ, subst}
 use Rattle.std.specs.Prelude.{Err, IfOk, Ok, Result}
 use Rattle.occ_explore.specs.declared.exploration.Answer.{Answer}
 use Rattle.occ_explore.specs.declared.exploration.Asked.{Asked}

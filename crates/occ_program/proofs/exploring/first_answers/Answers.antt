@@ -1,4 +1,4 @@
-use Rattle.std.proofs.Common.{◌≡◌, ◌≤◌, arith, length, sym}
+use Rattle.std.proofs.Common.{◌≤◌, arith, length, sym}
 use Rattle.std.proofs.lemmas.List.{length-take-le, take_all}
 use Rattle.occ_program.proofs.exploring.first_answers.Goals as goal
 

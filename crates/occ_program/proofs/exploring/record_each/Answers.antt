@@ -1,4 +1,4 @@
-use Rattle.std.proofs.Common.{◌≡◌, ◌∙◌, ◌+◌, ◌⊎◌, ap, arith, subst, suc, sym, take}
+use Rattle.std.proofs.Common.{◌≡◌, ◌+◌, ◌⊎◌, arith, subst, suc, sym, take}
 use Rattle.occ_choices.specs.Lines.{choice_text}
 use Rattle.occ_files.specs.Leaving.{Leaves, LeavesAll, LeavesNothing}
 use Rattle.occ_program.specs.Pages.{answer_files, answer_path}

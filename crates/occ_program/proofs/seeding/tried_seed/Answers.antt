@@ -1,4 +1,4 @@
-use Rattle.std.proofs.Common.{◌≡◌, ◌+◌, ◌-◌, ap, arith, inl, inr, refl, sym}
+use Rattle.std.proofs.Common.{◌≡◌, ◌+◌, ◌-◌, ap, arith, inl, inr, refl}
 use Rattle.occ_program.specs.Trying.{EndsBy}
 use Rattle.occ_program.proofs.Ended.{one_more}
 use Rattle.occ_program.proofs.seeding.tried_seed.Goals as goal

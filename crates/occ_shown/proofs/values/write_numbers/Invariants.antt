@@ -1,6 +1,6 @@
 use Rattle.std.proofs.Common.{◌≡◌, ◌++◌, length}
-use Rattle.occ_chart.specs.Charts.{numbers_text}
-use Rattle.occ_chart.proofs.notes.write_numbers.Given as goal
+use Rattle.occ_shown.specs.Answers.{numbers_text}
+use Rattle.occ_shown.proofs.values.write_numbers.Given as goal
 
 abbrev pub invariant-loop-first : goal.invariant-loop-first
 invariant-loop-first l = l.out.items ++ numbers_text l.rest ≡ l.fn.out.items ++ numbers_text l.fn.numbers

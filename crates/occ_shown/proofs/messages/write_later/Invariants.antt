@@ -1,6 +1,6 @@
 use Rattle.std.proofs.Common.{◌≡◌, ◌++◌, length}
 use Rattle.occ_shown.specs.Answers.{later_text}
-use Rattle.occ_report.proofs.messages.write_later.Given as goal
+use Rattle.occ_shown.proofs.messages.write_later.Given as goal
 
 abbrev pub invariant-loop-part : goal.invariant-loop-part
 invariant-loop-part l = l.out.items ++ later_text l.rest ≡ l.fn.out.items ++ later_text l.fn.parts

@@ -1,0 +1,82 @@
+//! Messages, in bytes, as the lines of a trace have them.
+ghost use Rattle.std.specs.Prelude.{◌≡◌, ◌++◌, OnOk};
+ghost use Rattle.std.specs.Option.{option_copied};
+ghost use Rattle.occ_term.specs.Runs.{tag_shown};
+ghost use Rattle.occ_shown.specs.Answers.{items_text, later_text, names_of, part_text};
+
+use crate::values::{tag_name, write_array, write_value};
+use occ_term::{Channel, Message, Part};
+use std::alloc::{AllocError, Global};
+
+fn write_part(alloc: Global, out: &mut Vec<u8>, part: &Part) -> Result<(), AllocError>
+    ensures { OnOk result (out.new.items ≡ out.old.items ++ part_text part.now) }
+{
+    match part {
+        Part::One(primitive, value) => write_value(alloc, out, *primitive, *value),
+        Part::Many(primitive, values) => write_array(alloc, out, *primitive, values.as_slice()),
+        Part::Counted(primitive, values) => {
+            let count = values.as_slice().len() as u64;
+            let head = format!(in alloc; "{count}::")?;
+            out.extend_from_slice(head.as_bytes())?;
+            write_array(alloc, out, *primitive, values.as_slice())
+        }
+    }
+}
+
+/// Items, each after a semicolon and a space.
+fn write_later(alloc: Global, out: &mut Vec<u8>, parts: &[Part]) -> Result<(), AllocError>
+    ensures { OnOk result (out.new.items ≡ out.old.items ++ later_text parts.now) }
+{
+    let mut rest = parts;
+    while let Some((part, others)) = rest.split_first() {
+        out.extend_from_slice(b"; ")?;
+        write_part(alloc, out, part)?;
+        rest = others;
+    }
+    Ok(())
+}
+
+/// The items of a message, of which a tag's name is the first.
+fn write_items(
+    alloc: Global,
+    out: &mut Vec<u8>,
+    tag: Option<&[u8]>,
+    parts: &[Part],
+) -> Result<(), AllocError>
+    ensures { OnOk result (out.new.items ≡ out.old.items ++ items_text (option_copied tag.entry) parts.now) }
+{
+    match tag {
+        Some(name) => {
+            out.extend_from_slice(name)?;
+            write_later(alloc, out, parts)
+        }
+        None => match parts.split_first() {
+            Some((first, others)) => {
+                write_part(alloc, out, first)?;
+                write_later(alloc, out, others)
+            }
+            None => Ok(()),
+        },
+    }
+}
+
+/// The tag's name and the items of a message on this channel, as the lines of a trace have them.
+///
+/// # Errors
+///
+/// A refused growth.
+pub fn write_message(
+    alloc: Global,
+    out: &mut Vec<u8>,
+    message: &Message,
+    chan: u32,
+    channels: &[Channel],
+) -> Result<(), AllocError>
+    ensures { OnOk result (out.new.items ≡ out.old.items ++ items_text (tag_shown (names_of channels.now) chan message.now.tag) message.now.items) }
+{
+    let items = message.items.as_slice();
+    match message.tag {
+        Some(tag) => write_items(alloc, out, Some(tag_name(channels, chan, tag)), items),
+        None => write_items(alloc, out, None, items),
+    }
+}

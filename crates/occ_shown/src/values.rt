@@ -1,0 +1,142 @@
+//! Values, names and numbers of processes, in bytes.
+ghost use Rattle.std.specs.Prelude.{◌≡◌, ◌++◌, OnOk, Some};
+ghost use Rattle.std.specs.Fmt.{decimal};
+ghost use Rattle.occ_shown.specs.Answers.{array_text, names_of, numbers_text, spaced_text, tag_in, value_text};
+
+use occ_term::{Channel, Primitive, Protocol};
+use std::alloc::{AllocError, Global};
+
+pub(crate) fn write_number(alloc: Global, out: &mut Vec<u8>, number: u64) -> Result<(), AllocError>
+    ensures { OnOk result (out.new.items ≡ out.old.items ++ decimal number) }
+{
+    let text = format!(in alloc; "{number}")?;
+    out.extend_from_slice(text.as_bytes())
+}
+
+/// A value of this type.
+///
+/// # Errors
+///
+/// A refused growth.
+pub fn write_value(
+    alloc: Global,
+    out: &mut Vec<u8>,
+    primitive: Primitive,
+    value: i64,
+) -> Result<(), AllocError>
+    ensures { OnOk result (out.new.items ≡ out.old.items ++ value_text primitive value) }
+{
+    match primitive {
+        Primitive::Bool => {
+            if value >= 1 {
+                out.extend_from_slice(b"TRUE")
+            } else {
+                out.extend_from_slice(b"FALSE")
+            }
+        }
+        Primitive::Byte | Primitive::Int => {
+            let text = format!(in alloc; "{value}")?;
+            out.extend_from_slice(text.as_bytes())
+        }
+    }
+}
+
+/// Values, each after a space.
+fn write_spaced(
+    alloc: Global,
+    out: &mut Vec<u8>,
+    primitive: Primitive,
+    values: &[i64],
+) -> Result<(), AllocError>
+    ensures { OnOk result (out.new.items ≡ out.old.items ++ spaced_text primitive values.now) }
+{
+    let mut rest = values;
+    while let Some((value, others)) = rest.split_first() {
+        out.push(b' ')?;
+        write_value(alloc, out, primitive, *value)?;
+        rest = others;
+    }
+    Ok(())
+}
+
+/// The values of an array, in brackets.
+///
+/// # Errors
+///
+/// A refused growth.
+pub fn write_array(
+    alloc: Global,
+    out: &mut Vec<u8>,
+    primitive: Primitive,
+    values: &[i64],
+) -> Result<(), AllocError>
+    ensures { OnOk result (out.new.items ≡ out.old.items ++ array_text primitive values.now) }
+{
+    out.push(b'[')?;
+    if let Some((first, others)) = values.split_first() {
+        write_value(alloc, out, primitive, *first)?;
+        write_spaced(alloc, out, primitive, others)?;
+    }
+    out.push(b']')?;
+    Ok(())
+}
+
+/// The name of a channel; nothing where there is no such channel.
+///
+/// # Errors
+///
+/// A refused growth.
+pub fn write_name(
+    alloc: Global,
+    out: &mut Vec<u8>,
+    channels: &[Channel],
+    chan: u32,
+) -> Result<(), AllocError>
+    ensures { OnOk result (out.new.items ≡ out.old.items ++ (names_of channels.now).channel_name chan) }
+{
+    match channels.get(chan as usize) {
+        Some(channel) => channel.name.write(alloc, out),
+        None => Ok(()),
+    }
+}
+
+/// The name of a channel's tag; empty where there is no such tag.
+pub fn tag_name(channels: &[Channel], chan: u32, tag: u32) -> &[u8]
+    ensures { result.now ≡ (names_of channels.now).tag_name chan tag }
+{
+    match channels.get(chan as usize) {
+        Some(channel) => protocol_tag(&channel.protocol, tag),
+        None => &[],
+    }
+}
+
+/// The name of a protocol's tag; empty where there is no such tag.
+fn protocol_tag(protocol: &Protocol, tag: u32) -> &[u8]
+    ensures { result.now ≡ tag_in (Some protocol.now) tag }
+{
+    match protocol {
+        Protocol::Variant(tags) => match tags.as_slice().get(tag as usize) {
+            Some(found) => found.name.as_slice(),
+            None => &[],
+        },
+        _ => &[],
+    }
+}
+
+/// The numbers of processes, each after a space.
+///
+/// # Errors
+///
+/// A refused growth.
+pub fn write_numbers(alloc: Global, out: &mut Vec<u8>, numbers: &[u32]) -> Result<(), AllocError>
+    ensures { OnOk result (out.new.items ≡ out.old.items ++ numbers_text numbers.now) }
+{
+    let mut rest = numbers;
+    while let Some((first, others)) = rest.split_first() {
+        let number = *first;
+        let text = format!(in alloc; " p{number}")?;
+        out.extend_from_slice(text.as_bytes())?;
+        rest = others;
+    }
+    Ok(())
+}

@@ -1,9 +1,0 @@
-use Rattle.std.proofs.Common.{◌≡◌, ◌++◌, length}
-use Rattle.occ_steps.specs.Steps.{numbers_text}
-use Rattle.occ_steps.proofs.heads.write_numbers.Given as goal
-
-abbrev pub invariant-loop-first : goal.invariant-loop-first
-invariant-loop-first l = l.out.items ++ numbers_text l.rest ≡ l.fn.out.items ++ numbers_text l.fn.numbers
-
-abbrev pub decreases-loop-first : goal.decreases-loop-first
-decreases-loop-first l = length l.rest
