@@ -6,11 +6,13 @@ ghost use Rattle.occ_net_replay.specs.Replay.{Net, ending_of};
 ghost use Rattle.occ_net_tables.specs.Holding.{communication_of};
 ghost use Rattle.occ_net.specs.Networks.{IsNetwork, IsState, fresh, ready_in, ready_task};
 ghost use Rattle.occ_net.specs.Histories.{IsHistory};
+ghost use Rattle.occ_net.specs.Outcomes.{IsReplayOf};
 
 use crate::fault::NetFault;
 use crate::history::History;
 use occ_machine::{Code, Task};
 use occ_net_replay::{Choice, Ending};
+use occ_net_tables as tables;
 use occ_net_tables::Tables;
 use occ_net_trace::Trace;
 use std::alloc::{AllocError, Global};
@@ -153,18 +155,23 @@ impl Network {
         self.tables.trace()
     }
 
-    /// The same, where the network is no longer wanted.
-    pub fn into_trace(self) -> Trace
-        ensures { (net : Net) → IsState self net → net.trace ≡ map communication_of result }
+    /// What its choices come to when they are played on one thread. Nothing is copied; the network is used up.
+    pub fn into_replay(self) -> tables::Outcome
+        ensures { (net : Net) → IsState self net → IsReplayOf self net result }
     {
+        let ending = self.ending().unwrap_or(Ending::Limit);
         let Network {
             code: _,
             keyboard: _,
             tables,
-            choices: _,
+            choices,
             out: _,
         } = self;
-        tables.into_trace()
+        tables::Outcome {
+            ending,
+            choices,
+            trace: tables.into_trace(),
+        }
     }
 
     /// The messages that were output, and input, on this channel, each of the channel's protocol; none

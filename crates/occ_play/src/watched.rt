@@ -12,7 +12,7 @@ use crate::playing::{Options, Played, code_of, told};
 use occ_board::{Naming, Note, Publisher};
 use occ_machine::Code;
 use occ_net_tables::Outcome;
-use occ_run::{Gate, into_replay, run_watched};
+use occ_run::{Gate, watch_network};
 use occ_shown::{Counted, write_answer};
 use std::alloc::Global;
 use std::io::Write;
@@ -55,13 +55,13 @@ pub fn play_watched<J: Naming, R: Threads + Wait + Sync, G: Gate + Sync, W: Writ
             return Err(fault);
         }
     };
-    let (outcome, publisher, note) = match run_watched(
+    let (network, publisher, note) = match watch_network(
         rt, alloc, &code, keyboard, workers, limit, gate, publisher,
     ) {
         Ok(ran) => ran,
         Err(fault) => return Err(PlayFault::Run(fault)),
     };
-    let outcome = into_replay(outcome);
+    let outcome = network.into_replay();
     match written(options, alloc, source, keyboard, &code, outcome, trace, out) {
         Ok(played) => Ok((played, publisher, note)),
         Err(fault) => {

@@ -7,7 +7,7 @@ ghost use Rattle.occ_play.specs.Working.{IsAnswerWithin, IsSomeCrewsAnswer, Work
 
 use crate::fault::PlayFault;
 use crate::playing::{Options, Played, code_of, told};
-use occ_run::{Gate, into_replay, run_workers};
+use occ_run::{Gate, run_network};
 use occ_shown::{Counted, write_answer};
 use std::alloc::Global;
 use std::io::Write;
@@ -95,8 +95,8 @@ fn gathered<R: Threads + Wait + Sync, G: Gate + Sync>(
     ensures refused { IfErr result (WorkersRefuse workers options.now source.now) }
 {
     let code = code_of(options, alloc, source)?;
-    let outcome = run_workers(rt, alloc, &code, keyboard, workers, limit, gate)?;
-    let outcome = into_replay(outcome);
+    let network = run_network(rt, alloc, &code, keyboard, workers, limit, gate)?;
+    let outcome = network.into_replay();
     let (played, bytes) = told(options, alloc, source, keyboard, &code, outcome, trace)?;
     Ok((played, bytes))
 }

@@ -1,6 +1,6 @@
 -- What the workers of a run gather.
 -- Manual: nothing; this is (own).
-use Rattle.std.specs.Prelude.{List, None, Some, false, length, replicate, ℕ, ◌≡◌, ◌≤◌, ◌⊎◌}
+use Rattle.std.specs.Prelude.{List, None, Some, false, length, replicate, ℕ, ◌≡◌, ◌≤◌}
 use Rattle.occ_machine.specs.Compiled.{Program}
 use Rattle.occ_net_replay.specs.Replay.{Net, Replays, ending_of}
 use Rattle.occ_net.specs.Networks.{Past}
@@ -12,19 +12,23 @@ use Rattle.occ_run.specs.declared.progress.Progress.{Progress}
 use Rattle.occ_run.specs.declared.progress.Stop.{Stop}
 use Rattle.occ_run.specs.declared.progress.Stop.TheVariants as stop
 
--- The outcome of a run of this code on this keyboard is what the choices that it carries come to: its network has this code, this
--- keyboard and these choices, no process of it is out, and it shows the state of their replay. There are at most `limit` of them, and just
--- so many where the replay goes on.
-pub record IsRunOf (p : Program) (keyboard : List ℕ) (limit : ℕ) (o : Outcome) : Type 0 where
-  pub program : o.network.program ≡ p
-  pub bytes : o.network.keyboard ≡ keyboard
-  pub choices : o.network.choices ≡ o.choices.items
-  pub none_out : o.network.out ≡ replicate (length p.bodies) false
+-- The workers of a run of this code on this keyboard bring its network to this state: no process of it is out, and it has at most `limit`
+-- choices, and just so many where their replay goes on.
+pub record IsGathered (p : Program) (keyboard : List ℕ) (limit : ℕ) (n : Past) : Type 0 where
+  pub program : n.program ≡ p
+  pub bytes : n.keyboard ≡ keyboard
+  pub none_out : n.out ≡ replicate (length p.bodies) false
   pub net : Net
-  pub replays : Replays p keyboard o.choices.items net
-  pub shows : Shows net o
-  pub few : length o.choices.items ≤ limit
-  pub whole : ending_of p.errors net ≡ None → length o.choices.items ≡ limit
+  pub replays : Replays p keyboard n.choices net
+  pub few : length n.choices ≤ limit
+  pub whole : ending_of p.errors net ≡ None → length n.choices ≡ limit
+
+-- The outcome of a run of this code on this keyboard carries the choices of the network that its workers gathered, and shows the state
+-- that it is in.
+pub record IsRunOf (p : Program) (keyboard : List ℕ) (limit : ℕ) (o : Outcome) : Type 0 where
+  pub network : IsGathered p keyboard limit o.network
+  pub choices : o.choices.items ≡ o.network.choices
+  pub shows : Shows network.net o
 
 -- the network was made of this code and this keyboard, and has at most `limit` choices
 pub record IsOfRun (p : Program) (keyboard : List ℕ) (limit : ℕ) (n : Past) : Type 0 where
@@ -37,9 +41,9 @@ abbrev pub stop_fault : Stop → RunFault
 stop_fault stop.Spawn = fault.Spawn
 stop_fault stop.Memory = fault.Memory
 
--- Why what was gathered gives no outcome: it stopped. Want of memory says nothing of one that didn't stop.
+-- why a run that is over has no network to give: it stopped so
 abbrev pub IsNoRun : Progress → RunFault → Type 0
 IsNoRun b fault.BadWorkers = ⊥
 IsNoRun b fault.Foreign = ⊥
 IsNoRun b fault.Spawn = b.stop ≡ Some stop.Spawn
-IsNoRun b fault.Memory = (b.stop ≡ Some stop.Memory) ⊎ (b.stop ≡ None)
+IsNoRun b fault.Memory = b.stop ≡ Some stop.Memory

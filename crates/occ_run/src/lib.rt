@@ -1,12 +1,12 @@
 //! A network run by several threads: one lock round it, and the turns outside the lock. [`run_workers`]
 //! promises that its outcome is the replay of the choices that it answers, whatever the threads did. [`run_watched`] has its
-//! communications published meanwhile, for watchers who never wait.
+//! communications published meanwhile, for watchers who never wait. [`run_network`] and [`watch_network`] answer the network
+//! itself, of which nothing is copied.
 #![tactic(auto)]
 
 mod desk;
 pub mod fault;
 pub mod gate;
-pub mod outcome;
 mod progress;
 pub mod run;
 mod stretch;
@@ -16,6 +16,5 @@ mod workers;
 
 pub use fault::RunFault;
 pub use gate::{FreeGate, Gate};
-pub use outcome::into_replay;
-pub use run::run_workers;
-pub use watched::run_watched;
+pub use run::{run_network, run_workers};
+pub use watched::{run_watched, watch_network};

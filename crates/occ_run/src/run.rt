@@ -1,8 +1,9 @@
 //! A run of a program's code by several threads.
-ghost use Rattle.std.specs.Prelude.{◌≡◌, ◌≢◌, ◌<◌, ◌↔◌, ◌⊎◌, IfOk, IfErr, IsErrOf, None};
+ghost use Rattle.std.specs.Prelude.{◌≡◌, ◌≢◌, ◌<◌, ◌↔◌, ◌⊎◌, IfOk, IfErr, IsErrOf, List, None, ℕ};
 ghost use Rattle.occ_choices.specs.Crews.{most_workers};
+ghost use Rattle.occ_machine.specs.Compiled.{Program};
 ghost use Rattle.occ_net.specs.Networks.{fresh};
-ghost use Rattle.occ_run.specs.Gathered.{IsNoRun, IsRunOf, stop_fault};
+ghost use Rattle.occ_run.specs.Gathered.{IsGathered, IsNoRun, IsRunOf, stop_fault};
 ghost use Rattle.occ_run.specs.Held.{IsConcluded};
 
 use crate::fault::RunFault;
@@ -40,13 +41,35 @@ pub fn run_workers<R: Threads + Wait + Sync, G: Gate + Sync>(
     ensures workers { IsErrOf result RunFault.BadWorkers ↔ ((workers ≡ 0) ⊎ (most_workers < workers)) }
     ensures own { IfErr result (λ fault. fault ≢ RunFault.Foreign) }
 {
+    let network = run_network(rt, alloc, code, keyboard, workers, limit, gate)?;
+    outcome_of(alloc, network)
+}
+
+/// The same run, of which the network is answered as the workers left it: nothing of it is copied, and no bytes are made.
+///
+/// # Errors
+///
+/// Those of `run_workers`.
+pub fn run_network<R: Threads + Wait + Sync, G: Gate + Sync>(
+    rt: &R,
+    alloc: Global,
+    code: &Code,
+    keyboard: &[u8],
+    workers: u32,
+    limit: u32,
+    gate: &G,
+) -> Result<Network, RunFault>
+    ensures run { IfOk result (IsGathered code.now keyboard.now limit) }
+    ensures workers { IsErrOf result RunFault.BadWorkers ↔ ((workers ≡ 0) ⊎ (most_workers < workers)) }
+    ensures own { IfErr result (λ fault. fault ≢ RunFault.Foreign) }
+{
     if !is_crew(workers) {
         return Err(RunFault::BadWorkers);
     }
     let progress = beginning(alloc, code, keyboard, limit)?;
     let (tokens, keeper) = new_tokens(alloc)?;
     let progress = run_all::<Brand, R, G>(rt, alloc, progress, tokens, keeper, workers, gate);
-    gathered(alloc, progress)
+    gathered(progress)
 }
 
 /// The network before its first turn.
@@ -69,10 +92,22 @@ pub(crate) fn beginning(
     }
 }
 
-/// What the workers of a run that is over gathered.
-pub(crate) fn gathered(alloc: Global, progress: Progress) -> Result<Outcome, RunFault>
+/// The outcome of a network that workers gathered.
+pub(crate) fn outcome_of(alloc: Global, network: Network) -> Result<Outcome, RunFault>
+    ensures run { (p : Program) (keyboard : List ℕ) (limit : ℕ) → IsGathered p keyboard limit network → IfOk result (IsRunOf p keyboard limit) }
+    ensures network { IfOk result (λ o. o.network ≡ network) }
+    ensures refused { IfErr result (λ fault. fault ≡ RunFault.Memory) }
+{
+    match network.into_outcome(alloc) {
+        Ok(outcome) => Ok(outcome),
+        Err(_) => Err(RunFault::Memory),
+    }
+}
+
+/// The network that the workers of a run which is over gathered.
+pub(crate) fn gathered(progress: Progress) -> Result<Network, RunFault>
     requires { IsConcluded progress.network.program progress.network.keyboard progress.limit progress }
-    ensures run { IfOk result (IsRunOf progress.network.program progress.network.keyboard progress.limit) }
+    ensures run { IfOk result (IsGathered progress.network.program progress.network.keyboard progress.limit) }
     ensures unstopped { IfOk result (λ _. progress.stop ≡ None) }
     ensures fault { IfErr result (IsNoRun progress) }
 {
@@ -86,10 +121,7 @@ pub(crate) fn gathered(alloc: Global, progress: Progress) -> Result<Outcome, Run
     }
     network.replayed();
     network.recall();
-    match network.into_outcome(alloc) {
-        Ok(outcome) => Ok(outcome),
-        Err(_) => Err(RunFault::Memory),
-    }
+    Ok(network)
 }
 
 /// What a run that stopped so answers.

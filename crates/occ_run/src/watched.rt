@@ -9,7 +9,7 @@ ghost use Rattle.occ_net_replay.specs.Replay.{Net};
 ghost use Rattle.crossbeam_utils.specs.Seq.{cell_view};
 ghost use Rattle.occ_net.specs.Networks.{IsState, fresh};
 ghost use Rattle.occ_shown.specs.Answers.{names_of};
-ghost use Rattle.occ_run.specs.Gathered.{IsRunOf};
+ghost use Rattle.occ_run.specs.Gathered.{IsGathered, IsRunOf};
 ghost use Rattle.occ_run.specs.Held.{IsConcluded};
 ghost use Rattle.occ_run.specs.Tokens.{opening};
 
@@ -17,14 +17,14 @@ use crate::desk::OneRun;
 use crate::fault::RunFault;
 use crate::gate::Gate;
 use crate::progress::Progress;
-use crate::run::{beginning, gathered};
+use crate::run::{beginning, gathered, outcome_of};
 use crate::tokens::{Token, Tokens, new_tokens};
 use crate::workers::{Shared, work};
 use core::mem::replace_with;
 use occ_board::{Naming, Note, Publisher, Shown};
 use occ_choices::is_crew;
 use occ_machine::Code;
-use occ_net::Outcome;
+use occ_net::{Network, Outcome};
 use occ_net_trace::{Mark, News, Trace};
 use occ_shown::{is_shown, shown_as};
 use occ_term::Channel;
@@ -60,6 +60,39 @@ pub fn run_watched<J: Naming, R: Threads + Wait + Sync, G: Gate + Sync>(
     ensures note { IfOk result (λ r. r.2 ≡ edition r.1.published true) }
     ensures workers { IsErrOf result RunFault.BadWorkers ↔ ((workers ≡ 0) ⊎ (most_workers < workers)) }
 {
+    let (network, publisher, note) =
+        watch_network(rt, alloc, code, keyboard, workers, limit, gate, publisher)?;
+    match outcome_of(alloc, network) {
+        Ok(outcome) => Ok((outcome, publisher, note)),
+        Err(fault) => {
+            publisher.end(rt);
+            Err(fault)
+        }
+    }
+}
+
+/// The same run, of which the network is answered as the workers left it.
+///
+/// # Errors
+///
+/// Those of `run_watched`. After each of them the publisher is ended.
+pub fn watch_network<J: Naming, R: Threads + Wait + Sync, G: Gate + Sync>(
+    rt: &R,
+    alloc: Global,
+    code: &Code,
+    keyboard: &[u8],
+    workers: u32,
+    limit: u32,
+    gate: &G,
+    publisher: Publisher<J>,
+) -> Result<(Network, Publisher<J>, Note<J>), RunFault>
+    requires going { publisher.closed ≡ false }
+    ensures run { IfOk result (λ r. IsGathered code.now keyboard.now limit r.0) }
+    ensures shown { IfOk result (λ r. (net : Net) → IsState r.0 net
+        → r.1 ≡ publishing ((publisher.published ++ publisher.pending) ++ entries (names_of code.now.channels) 1 net.trace) [] true) }
+    ensures note { IfOk result (λ r. r.2 ≡ edition r.1.published true) }
+    ensures workers { IsErrOf result RunFault.BadWorkers ↔ ((workers ≡ 0) ⊎ (most_workers < workers)) }
+{
     if !is_crew(workers) {
         publisher.end(rt);
         return Err(RunFault::BadWorkers);
@@ -82,10 +115,10 @@ fn watched<J: Naming, R: Threads + Wait + Sync, G: Gate + Sync>(
     limit: u32,
     gate: &G,
     publisher: Publisher<J>,
-) -> Result<(Outcome, Publisher<J>, Note<J>), RunFault>
+) -> Result<(Network, Publisher<J>, Note<J>), RunFault>
     requires going { (publisher.pending ≡ []) × (publisher.closed ≡ false) }
-    ensures run { IfOk result (λ r. IsRunOf code.now keyboard.now limit r.0) }
-    ensures shown { IfOk result (λ r. (net : Net) → IsState r.0.network net
+    ensures run { IfOk result (λ r. IsGathered code.now keyboard.now limit r.0) }
+    ensures shown { IfOk result (λ r. (net : Net) → IsState r.0 net
         → r.1 ≡ publishing (publisher.published ++ entries (names_of code.now.channels) 1 net.trace) [] true) }
     ensures note { IfOk result (λ r. r.2 ≡ edition r.1.published true) }
     ensures fault { IfErr result (λ fault. fault ≢ RunFault.BadWorkers) }
@@ -101,7 +134,7 @@ fn watched<J: Naming, R: Threads + Wait + Sync, G: Gate + Sync>(
         gate,
         &mut publisher,
     ) {
-        Ok((outcome, note)) => Ok((outcome, publisher, note)),
+        Ok((network, note)) => Ok((network, publisher, note)),
         Err(fault) => {
             publisher.end(rt);
             Err(fault)
@@ -119,10 +152,10 @@ fn lent<J: Naming, R: Threads + Wait + Sync, G: Gate + Sync>(
     limit: u32,
     gate: &G,
     publisher: &mut Publisher<J>,
-) -> Result<(Outcome, Note<J>), RunFault>
+) -> Result<(Network, Note<J>), RunFault>
     requires going { (publisher.old.pending ≡ []) × (publisher.old.closed ≡ false) }
-    ensures run { IfOk result (λ r. IsRunOf code.now keyboard.now limit r.0) }
-    ensures shown { IfOk result (λ r. (net : Net) → IsState r.0.network net
+    ensures run { IfOk result (λ r. IsGathered code.now keyboard.now limit r.0) }
+    ensures shown { IfOk result (λ r. (net : Net) → IsState r.0 net
         → publisher.new ≡ publishing (publisher.old.published ++ entries (names_of code.now.channels) 1 net.trace) [] true) }
     ensures note { IfOk result (λ r. r.1 ≡ edition publisher.new.published true) }
     ensures fault { IfErr result (λ fault. fault ≢ RunFault.BadWorkers) }
@@ -141,13 +174,13 @@ fn lent<J: Naming, R: Threads + Wait + Sync, G: Gate + Sync>(
         code.channels(),
         publisher,
     );
-    let outcome = gathered(alloc, progress)?;
+    let network = gathered(progress)?;
     let note = note?;
     let Some(told) = told_behind(publisher, &note, held) else {
         return Err(RunFault::Foreign);
     };
-    if is_shown(alloc, told, outcome.network.trace(), code.channels())? {
-        return Ok((outcome, note));
+    if is_shown(alloc, told, network.trace(), code.channels())? {
+        return Ok((network, note));
     }
     Err(RunFault::Foreign)
 }

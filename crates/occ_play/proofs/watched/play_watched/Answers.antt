@@ -1,18 +1,19 @@
 use Rattle.std.proofs.Common.{◌++◌}
 use Rattle.occ_play.proofs.Beside.{after_written, crew_of, watched_by}
+use Rattle.occ_play.proofs.Gathered.{state_of}
 use Rattle.occ_play.proofs.watched.play_watched.Goals as goal
 
 pub returns-in-Ok-written-clause-played : goal.returns-in-Ok-written-clause-played
 returns-in-Ok-written-clause-played g c =
-    let ran = c.in-Ok-run_watched.ensures in
-    let alone = c.into_replay-outcome.ensures in
+    let ran = c.in-Ok-watch_network.ensures in
     let code = c.in-Ok.code in
+    let replay = c.into_replay-outcome.ensures ran.run.net (state_of code c.args.keyboard.now c.args.limit c.in-Ok-watch_network.ran.0 ran.run) in
     let w = c.in-Ok-written.ensures.played in
-    (w.0, watched_by c.args.options.now c.args.source.now c.args.keyboard.now c.args.limit c.args.trace (c.args.publisher.published ++ c.args.publisher.pending) c.in-Ok-run_watched.ran.1 code c.in-Ok-run_watched.ran.0 c.into_replay-outcome.result c.in-Ok-written.played w.0 ran.run alone.choices alone.ending (alone.run code c.args.keyboard.now c.args.limit ran.run) alone.trace ran.shown w.1, w.2)
+    (w.0, watched_by c.args.options.now c.args.source.now c.args.keyboard.now c.args.limit c.args.trace (c.args.publisher.published ++ c.args.publisher.pending) c.in-Ok-watch_network.ran.1 code c.in-Ok-watch_network.ran.0 c.into_replay-outcome.result c.in-Ok-written.played w.0 ran.run replay ran.shown w.1, w.2)
 
 pub returns-clause-fault : goal.returns-clause-fault
 returns-clause-fault g c =
-    let ran = c.in-Ok-run_watched.ensures in
-    let alone = c.into_replay-outcome.ensures in
+    let ran = c.in-Ok-watch_network.ensures in
     let code = c.in-Ok.code in
-    after_written g.W.Write.contents c.args.out.now c.written.new.out c.args.workers c.args.options.now c.args.source.now c.args.keyboard.now c.args.limit c.args.trace code c.in-Ok-run_watched.ran.0 c.into_replay-outcome.result (crew_of c.args.workers (λ x. cc (ran.workers.1 x))) ran.run alone.choices alone.ending (alone.run code c.args.keyboard.now c.args.limit ran.run) c.in-Err-written.fault c.in-Err-written.ensures.fault
+    let replay = c.into_replay-outcome.ensures ran.run.net (state_of code c.args.keyboard.now c.args.limit c.in-Ok-watch_network.ran.0 ran.run) in
+    after_written g.W.Write.contents c.args.out.now c.written.new.out c.args.workers c.args.options.now c.args.source.now c.args.keyboard.now c.args.limit c.args.trace code c.in-Ok-watch_network.ran.0 c.into_replay-outcome.result (crew_of c.args.workers (λ x. cc (ran.workers.1 x))) ran.run replay c.in-Err-written.fault c.in-Err-written.ensures.fault

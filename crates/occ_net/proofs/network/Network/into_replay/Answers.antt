@@ -1,0 +1,13 @@
+use Rattle.std.proofs.Common.{◌∙◌, ap, subst, sym}
+use Rattle.occ_net_replay.specs.Following.{or_limit}
+use Rattle.occ_net.specs.Networks.{IsState, Past}
+use Rattle.occ_net.proofs.network.Network.into_replay.Goals as goal
+
+pub returns : goal.returns
+returns c = λ net s.
+    let state = subst (λ (n : Past). IsState n net) (sym c.self.view_is) s in
+    record {
+      choices = ap (λ (n : Past). n.choices) c.self.view_is;
+      ending = c.unwrap_or-ending.ensures ∙ ap or_limit (c.ending.ensures net s);
+      trace = c.into_trace.ensures c.self.inside.code c.self.inside.keyboard.items net (c.self.invariant.holds net state);
+    }
