@@ -6,7 +6,7 @@ ghost use Rattle.occ_term.specs.Evaluation.{evaluated};
 ghost use Rattle.occ_constants.specs.Chains.{chosen};
 ghost use Rattle.occ_term.specs.View.{expression_of};
 
-use crate::operator::{binary, converted, unary};
+use occ_term::operator::{binary, converted, unary};
 use occ_term::{Fault, Operator, Primitive, TermExpr};
 
 /// Whether no cell, no component and no letter of a string stands in an expression. A chain of AND and OR is a loop.

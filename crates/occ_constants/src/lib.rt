@@ -4,6 +4,5 @@
 #![tactic(auto)]
 
 mod constant;
-pub mod operator;
 
 pub use constant::{is_constant, value_of_constant};

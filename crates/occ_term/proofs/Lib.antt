@@ -4,7 +4,6 @@ pub mod TurnSteps
 pub mod OneResult
 pub mod Meetings
 pub mod Saturating
-pub mod Words
 pub mod Bounds
 pub mod TypedOperators
 pub mod TypedPlaces

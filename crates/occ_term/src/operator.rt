@@ -1,6 +1,6 @@
-//! Operators and conversions on values, which are within INT.
-ghost use Rattle.std.specs.Prelude.{◌≡◌, ◌<◌, ◌≤◌, ◌^◌, ◌%◌, ◌*◌, ◌-◌, IfOk, IsTrue};
-ghost use Rattle.occ_term.specs.Messages.{Int, is_of};
+//! Operators and conversions on values of 64 bits, whether they are within INT or not. The arithmetic between them has 128.
+ghost use Rattle.std.specs.Prelude.{◌≡◌, ◌<◌, ◌≤◌, ◌^◌, ◌%◌, ◌*◌, ◌-◌, ◌≢◌, ◌+ℤ◌, ◌-ℤ◌, ◌*ℤ◌, int_div, int_rem, pos, IfOk};
+ghost use Rattle.occ_term.specs.Messages.{is_of};
 ghost use Rattle.occ_term.specs.Values as values;
 ghost use Rattle.occ_term.specs.Values.{bits_of, of_bits, width, wrapped, truth};
 ghost use Rattle.occ_term.specs.Terms.{Divide, Remainder, ShiftLeft, ShiftRight};
@@ -18,25 +18,25 @@ pub fn binary(
     a: i64,
     b: i64,
 ) -> Result<i64, Fault>
-    requires left { IsTrue (is_of Int a) }
-    requires right { IsTrue (is_of Int b) }
     ensures { evaluated result ≡ values.binary operator primitive line a b }
 {
+    let x = i128::from(a);
+    let y = i128::from(b);
     match operator {
-        Operator::Add => in_type(primitive, line, a + b),
-        Operator::Subtract => in_type(primitive, line, a - b),
-        Operator::Multiply => in_type(primitive, line, a * b),
+        Operator::Add => in_type(primitive, line, sum(a, b)),
+        Operator::Subtract => in_type(primitive, line, difference(a, b)),
+        Operator::Multiply => in_type(primitive, line, product(a, b)),
         Operator::Divide => divide(primitive, line, a, b),
         Operator::Remainder => remainder(primitive, line, a, b),
-        Operator::Plus => Ok(wrapped(primitive, a + b)),
-        Operator::Minus => Ok(wrapped(primitive, a - b)),
-        Operator::Times => Ok(wrapped(primitive, a * b)),
-        Operator::BitAnd => Ok(of_bits(primitive, bits_of(primitive, a) & bits_of(primitive, b))),
-        Operator::BitOr => Ok(of_bits(primitive, bits_of(primitive, a) | bits_of(primitive, b))),
-        Operator::BitXor => Ok(of_bits(primitive, bits_of(primitive, a) ^ bits_of(primitive, b))),
+        Operator::Plus => Ok(wrapped(primitive, sum(a, b))),
+        Operator::Minus => Ok(wrapped(primitive, difference(a, b))),
+        Operator::Times => Ok(wrapped(primitive, product(a, b))),
+        Operator::BitAnd => Ok(of_bits(primitive, bits_of(primitive, x) & bits_of(primitive, y))),
+        Operator::BitOr => Ok(of_bits(primitive, bits_of(primitive, x) | bits_of(primitive, y))),
+        Operator::BitXor => Ok(of_bits(primitive, bits_of(primitive, x) ^ bits_of(primitive, y))),
         Operator::ShiftLeft => shift_left(primitive, line, a, b),
         Operator::ShiftRight => shift_right(primitive, line, a, b),
-        Operator::After => Ok(truth(0 < wrapped(Primitive::Int, a - b))),
+        Operator::After => Ok(truth(0 < wrapped(Primitive::Int, difference(a, b)))),
         Operator::Equal => Ok(truth(a == b)),
         Operator::Unequal => Ok(truth(a != b)),
         Operator::Less => Ok(truth(a < b)),
@@ -48,12 +48,12 @@ pub fn binary(
 
 /// An operator's value on one value.
 pub fn unary(operator: Monadic, primitive: Primitive, line: u32, a: i64) -> Result<i64, Fault>
-    requires { IsTrue (is_of Int a) }
     ensures { evaluated result ≡ values.unary operator primitive line a }
 {
+    let x = i128::from(a);
     match operator {
-        Monadic::Negate => in_type(primitive, line, -a),
-        Monadic::BitNot => Ok(of_bits(primitive, all_ones(primitive) - bits_of(primitive, a))),
+        Monadic::Negate => in_type(primitive, line, -x),
+        Monadic::BitNot => Ok(of_bits(primitive, all_ones(primitive) - bits_of(primitive, x))),
         Monadic::Not => Ok(truth(a == 0)),
     }
 }
@@ -86,41 +86,88 @@ pub fn is_of(primitive: Primitive, v: i64) -> bool
     }
 }
 
+/// The same of what operators make of two values.
+fn fits(primitive: Primitive, v: i128) -> bool
+    ensures { result ≡ is_of primitive v }
+{
+    match primitive {
+        Primitive::Bool => 0 <= v && v <= 1,
+        Primitive::Byte => 0 <= v && v <= 255,
+        Primitive::Int => -2147483648 <= v && v <= 2147483647,
+    }
+}
+
 fn truth(test: bool) -> i64
     ensures { result ≡ truth test }
 {
     if test { 1 } else { 0 }
 }
 
-fn in_type(primitive: Primitive, line: u32, v: i64) -> Result<i64, Fault>
+fn in_type(primitive: Primitive, line: u32, v: i128) -> Result<i64, Fault>
     ensures { evaluated result ≡ values.in_type primitive line v }
 {
-    if is_of(primitive, v) {
-        Ok(v)
+    if fits(primitive, v) {
+        Ok(v as i64)
     } else {
         Err(fault(FaultKind::Arith, line))
     }
 }
 
+// ---- arithmetic that no two values of 64 bits leave
+
+fn sum(a: i64, b: i64) -> i128
+    ensures { result ≡ a +ℤ b }
+{
+    i128::from(a) + i128::from(b)
+}
+
+fn difference(a: i64, b: i64) -> i128
+    ensures { result ≡ a -ℤ b }
+{
+    i128::from(a) - i128::from(b)
+}
+
+fn product(a: i64, b: i64) -> i128
+    ensures { result ≡ a *ℤ b }
+{
+    i128::from(a) * i128::from(b)
+}
+
+/// Towards zero.
+fn quotient(a: i64, b: i64) -> i128
+    requires { b ≢ pos 0 }
+    ensures { result ≡ int_div a b }
+{
+    i128::from(a) / i128::from(b)
+}
+
+/// What the quotient leaves, with the sign of the dividend.
+fn rest(a: i64, b: i64) -> i128
+    requires { b ≢ pos 0 }
+    ensures { result ≡ int_rem a b }
+{
+    i128::from(a) % i128::from(b)
+}
+
+// ---- operators
+
 fn divide(primitive: Primitive, line: u32, a: i64, b: i64) -> Result<i64, Fault>
-    requires { IsTrue (is_of Int a) }
     ensures { evaluated result ≡ values.binary Divide primitive line a b }
 {
     if b == 0 {
         Err(fault(FaultKind::Arith, line))
     } else {
-        in_type(primitive, line, a / b)
+        in_type(primitive, line, quotient(a, b))
     }
 }
 
 fn remainder(primitive: Primitive, line: u32, a: i64, b: i64) -> Result<i64, Fault>
-    requires { IsTrue (is_of Int a) }
     ensures { evaluated result ≡ values.binary Remainder primitive line a b }
 {
     if b == 0 {
         Err(fault(FaultKind::Arith, line))
     } else {
-        in_type(primitive, line, a % b)
+        in_type(primitive, line, rest(a, b))
     }
 }
 
@@ -135,7 +182,7 @@ fn all_ones(primitive: Primitive) -> u64
 }
 
 /// The lowest bits of a value's two's complement.
-fn bits_of(primitive: Primitive, v: i64) -> u64
+fn bits_of(primitive: Primitive, v: i128) -> u64
     ensures value { result ≡ bits_of primitive v }
     ensures below { result < 2 ^ width primitive }
 {
@@ -163,7 +210,7 @@ fn of_bits(primitive: Primitive, bits: u64) -> i64
     }
 }
 
-fn wrapped(primitive: Primitive, v: i64) -> i64
+fn wrapped(primitive: Primitive, v: i128) -> i64
     ensures { result ≡ wrapped primitive v }
 {
     of_bits(primitive, bits_of(primitive, v))
@@ -190,7 +237,7 @@ fn shift_left(primitive: Primitive, line: u32, a: i64, b: i64) -> Result<i64, Fa
     ensures { evaluated result ≡ values.binary ShiftLeft primitive line a b }
 {
     let count = shift_count(primitive, line, b)?;
-    let bits = shifted_left(primitive, bits_of(primitive, a), count);
+    let bits = shifted_left(primitive, bits_of(primitive, i128::from(a)), count);
     Ok(of_bits(primitive, bits))
 }
 
@@ -208,5 +255,5 @@ fn shift_right(primitive: Primitive, line: u32, a: i64, b: i64) -> Result<i64, F
     ensures { evaluated result ≡ values.binary ShiftRight primitive line a b }
 {
     let count = shift_count(primitive, line, b)?;
-    Ok(of_bits(primitive, bits_of(primitive, a) >> count))
+    Ok(of_bits(primitive, bits_of(primitive, i128::from(a)) >> count))
 }
