@@ -6,7 +6,7 @@ use Rattle.occ_term.specs.System.{System}
 use Rattle.occ_term.specs.UnfoldedProgram.{UnfoldedProgram}
 use Rattle.occ_machine.specs.Compiled.{Program}
 use Rattle.occ_net_replay.specs.declared.choice.Choice.{Choice}
-use Rattle.occ_net_replay.specs.Following.{Followed, mode_of}
+use Rattle.occ_net_replay.specs.Following.{Followed}
 use Rattle.occ_net_replay.specs.Moments.{Accompanies, EarlierMoment, IsMoment, RunsGoOn, at_start, after_turn}
 use Rattle.occ_net_replay.specs.Replay.{Net}
 use Rattle.occ_net_replay.proofs.Runs.{run_join}
@@ -48,7 +48,7 @@ module _ (u : UnfoldedProgram) (p : Program) (quantum : ℕ) (keyboard : List �
         as_many = refl;
       }
 
-  one_more : {first since : List Choice} {events : List Event} {now then : System} (c : Choice) (e : Event) (all : List Choice) (more : List Event) → EarlierMoment u p quantum keyboard first since events now → all ≡ since ++ c ∷ [] → more ≡ events ++ e ∷ [] → Run (mode_of p.errors) quantum now (e ∷ []) then → EarlierMoment u p quantum keyboard first all more then
+  one_more : {first since : List Choice} {events : List Event} {now then : System} (c : Choice) (e : Event) (all : List Choice) (more : List Event) → EarlierMoment u p quantum keyboard first since events now → all ≡ since ++ c ∷ [] → more ≡ events ++ e ∷ [] → Run p.errors quantum now (e ∷ []) then → EarlierMoment u p quantum keyboard first all more then
   one_more {since = since} c e all more x q r s =
       record {
         net = x.net;

@@ -3,12 +3,13 @@ use Rattle.std.proofs.Common.{◌≡◌, ◌∙◌, refl, sym, ap, subst, Bool, 
 use Rattle.std.specs.Prelude.{nat_eq, if◌then◌else◌, ◌&&◌, int_le, pos}
 use Rattle.std.specs.Bool.{⊤}
 use Rattle.std.proofs.lemmas.Bool.{eqb-true, le-leb}
+use Rattle.occ_term.specs.declared.fault.Errors.{Errors}
 use Rattle.occ_term.specs.Messages.{Fits}
 use Rattle.occ_term.specs.declared.message.Message.{Message}
 use Rattle.occ_term.specs.declared.primitive.Primitive.TheVariants.{Byte}
 use Rattle.occ_term.specs.declared.protocol.Protocol.{Protocol}
 use Rattle.occ_term.specs.declared.protocol.Protocol.TheVariants.{Simple}
-use Rattle.occ_term.specs.System.{Errors, System, SystemTurn, End, Communication, communication}
+use Rattle.occ_term.specs.System.{System, SystemTurn, End, Communication, communication}
 use Rattle.occ_term.specs.Runs.{Event, event, Run, no_turn, goes, communications, sent_on, messages_on, MeetsAtMost}
 use Rattle.occ_machine.specs.SameStop.{FitsProtocol}
 use Rattle.occ_net_replay.specs.Following.{AllFit, process_in}

@@ -20,7 +20,7 @@ use Rattle.occ_machine.specs.declared.task.Arm.{Arm}
 use Rattle.occ_machine.specs.declared.task.Task.{Task}
 use Rattle.occ_machine.specs.declared.task.Wait.{Wait}
 use Rattle.occ_machine.specs.declared.task.Wait.TheVariants as W
-use Rattle.occ_net_replay.specs.Following.{AreBytes, mode_of}
+use Rattle.occ_net_replay.specs.Following.{AreBytes}
 use Rattle.occ_net_replay.specs.Replay.{Net, Tasks, HasTask, may_go, made_ready, has_taken, took_arm, byte_message, took_turn, with_task, standing, arm_chosen, task_gives, keyboard_gives, Gets, task_gets, arm_gets, screen_gets, error_gets, Joined, joined, traced, one_more, noted_at, is_done, AreDone, merged, Happens, meets, skips, forks, joins, Settled, settles, stays}
 use Rattle.occ_net_replay.specs.Moments.{Quiet}
 use Rattle.occ_net_replay.proofs.Faults.{uncalm_no_fault, part_waits}
@@ -103,8 +103,8 @@ module _ (d : Declared) (p : Program) (procs : List Numbered) (protocol : d.prot
     pub met : Option Communication
     pub mid : System
     pub after : System
-    pub turn : SystemTurn (mode_of p.errors) quantum n sys mid
-    pub meets_at : MeetsAtMost (mode_of p.errors) n mid met after
+    pub turn : SystemTurn p.errors quantum n sys mid
+    pub meets_at : MeetsAtMost p.errors n mid met after
     pub follows : Follows k next after
     pub trace : next.trace ≡ net.trace ++ listed met
     pub turns : next.turns ≡ net.turns ++ n ∷ []
@@ -112,7 +112,7 @@ module _ (d : Declared) (p : Program) (procs : List Numbered) (protocol : d.prot
     pub output : Lists net.output next.output met
     pub input : Lists net.input next.input met
 
-  module _ (k n pick : ℕ) (net : Net) (sys : System) (before after : Task) (proc : Process) (s : Store) (noted : List Fault) (there : HasTask net.tasks n before) (quiet : Quiet net) (may : MayGo (mode_of p.errors) net.noted) (bytes : AreBytes net.keyboard) (turn : SystemTurn (mode_of p.errors) quantum n sys (system net.keyboard proc s noted)) (noted_is : noted ≡ net.noted ++ noted_at after.wait) (st : State d p procs k (slice_set net.tasks n (Some after)) proc s) where
+  module _ (k n pick : ℕ) (net : Net) (sys : System) (before after : Task) (proc : Process) (s : Store) (noted : List Fault) (there : HasTask net.tasks n before) (quiet : Quiet net) (may : MayGo p.errors net.noted) (bytes : AreBytes net.keyboard) (turn : SystemTurn p.errors quantum n sys (system net.keyboard proc s noted)) (noted_is : noted ≡ net.noted ++ noted_at after.wait) (st : State d p procs k (slice_set net.tasks n (Some after)) proc s) where
     abbrev now : Net
     now = took_turn net n after
 
@@ -129,8 +129,8 @@ module _ (d : Declared) (p : Program) (procs : List Numbered) (protocol : d.prot
     standing_mid c = ap (λ b. has_byte net.keyboard c || b) (offers_same d p procs k now.tasks proc s st c)
 
     -- where the turn ended with no fault, the system may go on
-    may_again : noted_at after.wait ≡ [] → MayGo (mode_of p.errors) noted
-    may_again e = subst (MayGo (mode_of p.errors)) (sym (noted_is ∙ ap (λ x. net.noted ++ x) e ∙ append-nil net.noted)) may
+    may_again : noted_at after.wait ≡ [] → MayGo p.errors noted
+    may_again e = subst (MayGo p.errors) (sym (noted_is ∙ ap (λ x. net.noted ++ x) e ∙ append-nil net.noted)) may
 
     -- ---- nothing happens
 
@@ -162,7 +162,7 @@ module _ (d : Declared) (p : Program) (procs : List Numbered) (protocol : d.prot
 
     -- ---- a communication
 
-    next_met : (c : ℕ) (x y : End) (m : Message) (next : Net) (proc' : Process) → next.trace ≡ net.trace ++ communication c x y m ∷ [] → next.turns ≡ net.turns ++ n ∷ [] → next.output ≡ one_more net.output c m → next.input ≡ one_more net.input c m → MayGo (mode_of p.errors) noted → TakesPart n (communication c x y m) → Meets mid (communication c x y m) (system next.keyboard proc' s noted) → State d p procs k next.tasks proc' s → Quiet next → next.noted ≡ net.noted ++ noted_at after.wait → AreBytes next.keyboard → FitsProtocol (d.protocols c) m → Next k n net next sys
+    next_met : (c : ℕ) (x y : End) (m : Message) (next : Net) (proc' : Process) → next.trace ≡ net.trace ++ communication c x y m ∷ [] → next.turns ≡ net.turns ++ n ∷ [] → next.output ≡ one_more net.output c m → next.input ≡ one_more net.input c m → MayGo p.errors noted → TakesPart n (communication c x y m) → Meets mid (communication c x y m) (system next.keyboard proc' s noted) → State d p procs k next.tasks proc' s → Quiet next → next.noted ≡ net.noted ++ noted_at after.wait → AreBytes next.keyboard → FitsProtocol (d.protocols c) m → Next k n net next sys
     next_met c x y m next proc' trace turns output input again part meets_mid state q kept bs fits =
         record {
           met = Some (communication c x y m);
@@ -229,7 +229,7 @@ module _ (d : Declared) (p : Program) (procs : List Numbered) (protocol : d.prot
     by_byte c b kb m e z q y proc' r =
         subst (λ x. Receives (offers_of (system x proc s noted)) c m y (system kb proc s noted) (system kb proc' s noted) → Meets (system x proc s noted) (communication c Keyboard y m) (system kb proc' s noted)) (sym e) (λ g. meets_in (keyboard_sends z q) g) r
 
-    module _ (again : MayGo (mode_of p.errors) noted) where
+    module _ (again : MayGo p.errors noted) where
       -- a task gives
       given_to : (z c : ℕ) (u : Task) (m : Message) → (hz : HasTask now.tasks z u) → (wz : u.wait ≡ W.Offers c m) → (y : End) (b e : Net) → b ≡ record now { tasks = slice_set now.tasks z (Some (made_ready u)); output = one_more net.output c m } → Gets pick (standing now) c m y b e → TakesPart n (communication c (OfProcess z) y m) → Next k n net (traced e (communication c (OfProcess z) y m)) sys
       given_to z c u m hz wz y b e is (task_gets {n = w} {t = v} hw ww) part =
@@ -319,7 +319,7 @@ module _ (d : Declared) (p : Program) (procs : List Numbered) (protocol : d.prot
     next_skips : (t : Task) (pri : Bool) (arms : List Arm) (arm : Arm) → HasTask now.tasks n t → t.wait ≡ W.Chooses pri arms → arm_chosen pri pick (standing now) arms ≡ Some arm → arm.chan ≡ None → Next k n net (with_task now n (took_arm t arm None)) sys
     next_skips t pri arms arm h w q f =
         let same : after ≡ t = task_once now.tasks n mine h in
-        let again : MayGo (mode_of p.errors) noted = may_again (ap (λ x. noted_at x.wait) same ∙ ap noted_at w) in
+        let again : MayGo p.errors noted = may_again (ap (λ x. noted_at x.wait) same ∙ ap noted_at w) in
         let chosen : arm_chosen pri pick (offers_of mid) arms ≡ Some arm = sym (chosen_same (λ a. a.chan) (standing now) (offers_of mid) standing_mid pri pick arms) ∙ q in
         let one = arm_skips_by d p procs k now.tasks proc s st n t pri pick arms arm (offers_of mid) h w chosen f in
         let new : Net = with_task now n (took_arm t arm None) in
@@ -422,7 +422,7 @@ module _ (d : Declared) (p : Program) (procs : List Numbered) (protocol : d.prot
 
     -- ---- what happens
 
-    joined_next : {x : Communication} {next : Net} → Joined pick now x next → TakesPart n x → MayGo (mode_of p.errors) noted → Next k n net next sys
+    joined_next : {x : Communication} {next : Net} → Joined pick now x next → TakesPart n x → MayGo p.errors noted → Next k n net next sys
     joined_next (joined {c = c} {m = m} {y = y} {b = b} {d = e} (task_gives {n = z} {t = u} hz wz) g) part again = given_to again z c u m hz wz y b e refl g part
     joined_next (joined {c = c} {m = m} {y = y} {b = a} {d = e} (keyboard_gives {b = b} {kb = kb} q z r) g) part again = byte_to again c b kb m q z r y a e refl g part
 

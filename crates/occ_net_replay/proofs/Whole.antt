@@ -25,7 +25,6 @@ use Rattle.occ_machine.specs.declared.task.Wait.{Wait}
 use Rattle.occ_machine.specs.declared.task.Wait.TheVariants as W
 use Rattle.occ_net_replay.specs.declared.choice.Choice.{Choice}
 use Rattle.occ_net_replay.specs.Replay.{Net, HasTask, may_go, ready_from, took_turn, with_branches, noted_at, first_noted, main_done, AreDone, ending_by, ending_of, OneTurn, Settled, settles, stays, meets, skips, forks, joins}
-use Rattle.occ_net_replay.specs.Following.{mode_of}
 use Rattle.occ_net_replay.specs.Moments.{Quiet}
 use Rattle.occ_net_replay.proofs.Faults.{part_waits, stands_noted}
 use Rattle.occ_net_replay.proofs.Forks.{Branch, branch_or_old, outside, same_branches}
@@ -43,7 +42,7 @@ use Rattle.occ_net_replay.proofs.TakingTurns.{Ran, ran, turned, small_now, Arriv
 
 -- ---- endings
 
-may_take : (e : Errors) (noted : List Fault) (m : Bool) (r : List ℕ) → ending_by e (first_noted noted) m r ≡ None → MayGo (mode_of e) noted
+may_take : (e : Errors) (noted : List Fault) (m : Bool) (r : List ℕ) → ending_by e (first_noted noted) m r ≡ None → MayGo e noted
 may_take Halt [] m r e = refl
 may_take Halt (x ∷ xs) m r e = cc
 may_take Stop noted m r e = tt
@@ -60,7 +59,7 @@ all_at P xs i x h e = subst P (get_or_from_slice_get xs i x x e) (h i x (slice_g
 module _ (d : Declared) (p : Program) (procs : List Numbered) (protocol : d.protocols 0 ≡ Some (Simple [] Byte)) (quantum : ℕ) (same_quantum : All (λ b. b.quantum ≡ quantum) p.bodies) (belongs_at : (n : ℕ) (t : Term) → slice_get procs n ≡ Some (numbered n t) → Belongs d p procs n) where
   -- ---- a turn
 
-  module _ (k n pick : ℕ) (net : Net) (sys : System) (f : Follows d p procs protocol quantum (suc k) net sys) (going : MayGo (mode_of p.errors) net.noted) (before after : Task) (there : HasTask net.tasks n before) (may : IsTrue (may_go before.wait)) (body : Body) (has_body : slice_get p.bodies n ≡ Some body) (stop : Stopping body before after) where
+  module _ (k n pick : ℕ) (net : Net) (sys : System) (f : Follows d p procs protocol quantum (suc k) net sys) (going : MayGo p.errors net.noted) (before after : Task) (there : HasTask net.tasks n before) (may : IsTrue (may_go before.wait)) (body : Body) (has_body : slice_get p.bodies n ≡ Some body) (stop : Stopping body before after) where
     l : Live d p procs (suc k) net.tasks f.proc f.store n before
     l = live_at d p procs (suc k) net.tasks f.proc f.store n before f.state there (joins_ready before.wait may)
 
@@ -73,11 +72,11 @@ module _ (d : Declared) (p : Program) (procs : List Numbered) (protocol : d.prot
     r : Ran d p procs k quantum n net.tasks l.mine.belongs.body l.mine.belongs.term l.own l.branches f.store after
     r = ran d p procs k quantum n net.tasks f.proc f.store f.state l.own l.branches l.at l.mine l.all before after l.same there may its_quantum its_stop
 
-    system_turns : SystemTurn (mode_of p.errors) quantum n sys (system net.keyboard (put l.at r.rest (begun (status r.rest))) r.store (net.noted ++ fault_noted (status r.rest)))
+    system_turns : SystemTurn p.errors quantum n sys (system net.keyboard (put l.at r.rest (begun (status r.rest))) r.store (net.noted ++ fault_noted (status r.rest)))
     system_turns =
-        subst (λ x. SystemTurn (mode_of p.errors) quantum n x (system net.keyboard (put l.at r.rest (begun (status r.rest))) r.store (net.noted ++ fault_noted (status r.rest)))) (sym f.is)
-        (subst (λ ns. SystemTurn (mode_of p.errors) quantum n (system net.keyboard f.proc f.store f.noted) (system net.keyboard (put l.at r.rest (begun (status r.rest))) r.store (ns ++ fault_noted (status r.rest)))) f.faults
-        (system_turn (subst (MayGo (mode_of p.errors)) (sym f.faults) going) (turn_put l.at r.goes r.turn)))
+        subst (λ x. SystemTurn p.errors quantum n x (system net.keyboard (put l.at r.rest (begun (status r.rest))) r.store (net.noted ++ fault_noted (status r.rest)))) (sym f.is)
+        (subst (λ ns. SystemTurn p.errors quantum n (system net.keyboard f.proc f.store f.noted) (system net.keyboard (put l.at r.rest (begun (status r.rest))) r.store (ns ++ fault_noted (status r.rest)))) f.faults
+        (system_turn (subst (MayGo p.errors) (sym f.faults) going) (turn_put l.at r.goes r.turn)))
 
     -- ---- a fork
 
@@ -160,8 +159,8 @@ module _ (d : Declared) (p : Program) (procs : List Numbered) (protocol : d.prot
 
       next_forked : Next d p procs protocol quantum k n net new sys
       next_forked =
-          let turn : SystemTurn (mode_of p.errors) quantum n sys (system net.keyboard (put l.at (left (Forking bs) j) (branches_of bs)) r.store (net.noted ++ [])) =
-          subst (λ z. SystemTurn (mode_of p.errors) quantum n sys (system net.keyboard (put l.at z (begun (status z))) r.store (net.noted ++ fault_noted (status z)))) is system_turns in
+          let turn : SystemTurn p.errors quantum n sys (system net.keyboard (put l.at (left (Forking bs) j) (branches_of bs)) r.store (net.noted ++ [])) =
+          subst (λ z. SystemTurn p.errors quantum n sys (system net.keyboard (put l.at z (begun (status z))) r.store (net.noted ++ fault_noted (status z)))) is system_turns in
           record {
             met = None;
             mid = system net.keyboard (put l.at (left (Forking bs) j) (branches_of bs)) r.store (net.noted ++ []);
@@ -205,7 +204,7 @@ module _ (d : Declared) (p : Program) (procs : List Numbered) (protocol : d.prot
       let may : IsTrue (may_go o.before.wait) = subst (λ z. IsTrue (may_go z.wait)) same y.may in
       by going may
     where
-      by : (going : MayGo (mode_of p.errors) net.noted) → (may : IsTrue (may_go o.before.wait)) → Next d p procs protocol quantum k o.number net next sys
+      by : (going : MayGo p.errors net.noted) → (may : IsTrue (may_go o.before.wait)) → Next d p procs protocol quantum k o.number net next sys
       by going may = arriving (r k o.number c.pick net sys f going o.before o.after o.has_task may o.body o.has_body o.stops).rest refl (arrives d p procs k m.belongs.body o.after (r k o.number c.pick net sys f going o.before o.after o.has_task may o.body o.has_body o.stops).rest o.after.wait refl (r k o.number c.pick net sys f going o.before o.after o.has_task may o.body o.has_body o.stops).same)
         where
           live : Live d p procs (suc k) net.tasks f.proc f.store o.number o.before
@@ -217,7 +216,7 @@ module _ (d : Declared) (p : Program) (procs : List Numbered) (protocol : d.prot
           its : Ran d p procs k quantum o.number net.tasks m.belongs.body m.belongs.term live.own live.branches f.store o.after
           its = r k o.number c.pick net sys f going o.before o.after o.has_task may o.body o.has_body o.stops
 
-          turns_to : SystemTurn (mode_of p.errors) quantum o.number sys (system net.keyboard (put live.at its.rest (begun (status its.rest))) its.store (net.noted ++ fault_noted (status its.rest)))
+          turns_to : SystemTurn p.errors quantum o.number sys (system net.keyboard (put live.at its.rest (begun (status its.rest))) its.store (net.noted ++ fault_noted (status its.rest)))
           turns_to = system_turns k o.number c.pick net sys f going o.before o.after o.has_task may o.body o.has_body o.stops
 
           no_fork : (rest : Left) → its.rest ≡ rest → Stands d p procs k m.belongs.body o.after rest no_processes empty_set → (ns : List ℕ) → o.after.wait ≡ W.Joins ns → ⊥
@@ -236,7 +235,7 @@ module _ (d : Declared) (p : Program) (procs : List Numbered) (protocol : d.prot
               let none : begun (status its.rest) ≡ no_processes = ap (λ z. begun (status z)) e' ∙ q in
               let st = turned d p procs k quantum o.number net.tasks f.proc f.store f.state live.own live.branches live.at m live.all o.before o.after live.same o.has_task may (its_quantum k o.number c.pick net sys f going o.before o.after o.has_task may o.body o.has_body o.stops) (its_stop k o.number c.pick net sys f going o.before o.after o.has_task may o.body o.has_body o.stops) its here_stands in
               settle_next d p procs protocol quantum k o.number c.pick net sys o.before o.after (put live.at its.rest no_processes) its.store (net.noted ++ fault_noted (status its.rest)) o.has_task f.quiet going f.bytes
-              (subst (λ z. SystemTurn (mode_of p.errors) quantum o.number sys (system net.keyboard (put live.at its.rest z) its.store (net.noted ++ fault_noted (status its.rest)))) none turns_to)
+              (subst (λ z. SystemTurn p.errors quantum o.number sys (system net.keyboard (put live.at its.rest z) its.store (net.noted ++ fault_noted (status its.rest)))) none turns_to)
               (ap (λ z. net.noted ++ z) (stands_noted d p procs k m.belongs.body o.after its.rest no_processes empty_set here_stands)) st o.settles (no_fork rest e' stands)
           arriving rest e' (at_fork {ns = ns} {bs = bs} {j = j} w numbers go) =
               fork_next k o.number c.pick net sys f going o.before o.after o.has_task may o.body o.has_body o.stops bs j e' ns w numbers go o.settles

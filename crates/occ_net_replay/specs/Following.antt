@@ -2,12 +2,10 @@
 -- Manual: nothing; this is (own).
 use Rattle.std.specs.Prelude.{IsTrue, List, None, Option, Some, [], length, map, slice_get, ℕ, ⊤, ◌+◌, ◌<◌, ◌^◌, ◌∷◌, ◌≡◌}
 use Rattle.occ_term.specs.declared.fault.Errors.{Errors}
-use Rattle.occ_term.specs.declared.fault.Errors.TheVariants.{Halt, Stop}
 use Rattle.occ_term.specs.declared.message.Message.{Message}
 use Rattle.occ_term.specs.declared.protocol.Protocol.{Protocol}
 use Rattle.occ_term.specs.UnfoldedProgram.{UnfoldedProgram, IsWellFormed, Lawful, declared, meaning}
-use Rattle.occ_term.specs.System.{System, start, HaltMode, StopMode, noted_in}
-use Rattle.occ_term.specs.System as S
+use Rattle.occ_term.specs.System.{System, start, noted_in}
 use Rattle.occ_term.specs.Runs.{Event, event, Run, communications, messages_on, EndsBy}
 use Rattle.occ_term.specs.Runs as R
 use Rattle.occ_machine.specs.SameStop.{FitsProtocol}
@@ -19,11 +17,6 @@ use Rattle.occ_net_replay.specs.declared.choice.Choice.{Choice}
 use Rattle.occ_net_replay.specs.declared.ending.Ending.{Ending}
 use Rattle.occ_net_replay.specs.declared.ending.Ending.TheVariants as E
 use Rattle.occ_net_replay.specs.Replay.{Net, HasTask, may_go, ending_of, Replays}
-
--- what a fault does
-abbrev pub mode_of : Errors → S.Errors
-mode_of Halt = HaltMode
-mode_of Stop = StopMode
 
 abbrev pub ending_as : Ending → R.Ending
 ending_as E.Ended = R.Ended
@@ -51,14 +44,14 @@ AllFit p (m ∷ ms) = FitsProtocol p m × AllFit p ms
 pub record Followed (u : UnfoldedProgram) (keyboard : List ℕ) (quantum : ℕ) (errors : Errors) (net : Net) : Type 0 where
   pub events : List Event
   pub system : System
-  pub run : Run (mode_of errors) quantum (start (meaning u) keyboard) events system
+  pub run : Run errors quantum (start (meaning u) keyboard) events system
   pub turns : map process_in events ≡ net.turns
   pub communicates : communications events ≡ net.trace
   pub output : (c : ℕ) → net.output c ≡ messages_on c net.trace
   pub input : (c : ℕ) → net.input c ≡ messages_on c net.trace
   pub fits : (c : ℕ) → AllFit ((declared u).protocols c) (messages_on c net.trace)
   pub noted : noted_in system ≡ net.noted
-  pub ends : EndsBy (mode_of errors) system (ending_as (or_limit (ending_of errors net)))
+  pub ends : EndsBy errors system (ending_as (or_limit (ending_of errors net)))
 
 -- what a keyboard may have
 abbrev pub AreBytes : List ℕ → Type 0

@@ -1,6 +1,7 @@
 -- What stands at the same stop and what does not, and networks in which something is possible that needs no turn.
 -- Manual: nothing; this is (own).
 use Rattle.std.specs.Prelude.{IsTrue, List, None, Some, [], false, pos, slice_get, true, ◌∷◌, ◌≡◌, ℕ}
+use Rattle.occ_term.specs.declared.fault.Errors.TheVariants as on_fault
 use Rattle.occ_term.specs.SelectingExamples.{taking_in}
 use Rattle.occ_term.specs.Messages.{fault}
 use Rattle.occ_term.specs.declared.fault.FaultKind.TheVariants.{Arith}
@@ -8,7 +9,7 @@ use Rattle.occ_term.specs.Frames.{is_held}
 use Rattle.occ_term.specs.Runs.{MeetsAtMost}
 use Rattle.occ_term.specs.Selecting.{Enabled, SkipArm}
 use Rattle.occ_term.specs.Steps.{Doing, Do, Offering, Awaiting, Choosing, Forking, Halted, Faulted, Done, SkipTaken, Taking, left}
-use Rattle.occ_term.specs.System.{HaltMode, System, process, no_processes, system}
+use Rattle.occ_term.specs.System.{System, process, no_processes, system}
 use Rattle.occ_term.specs.Terms.{Skip, Stop, Plain, and_branch, no_branches}
 use Rattle.occ_machine.specs.Compiled.{Program}
 use Rattle.occ_machine.specs.Machine.{Body}
@@ -81,5 +82,5 @@ two_skips = SkipArm [] Stop ∷ SkipArm [] Skip ∷ []
 -- After one turn, with one event, a run may take either of two arms with SKIP: the events alone do not say which run it is.
 abbrev pub EitherArmRows : Type 0
 EitherArmRows =
-    MeetsAtMost HaltMode 0 (alone_at (Choosing false two_skips) 0) None (alone_at (Taking [] (SkipTaken Stop)) 0)
-    × MeetsAtMost HaltMode 0 (alone_at (Choosing false two_skips) 0) None (alone_at (Taking [] (SkipTaken Skip)) 0)
+    MeetsAtMost on_fault.Halt 0 (alone_at (Choosing false two_skips) 0) None (alone_at (Taking [] (SkipTaken Stop)) 0)
+    × MeetsAtMost on_fault.Halt 0 (alone_at (Choosing false two_skips) 0) None (alone_at (Taking [] (SkipTaken Skip)) 0)

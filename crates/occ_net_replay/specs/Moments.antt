@@ -18,7 +18,7 @@ use Rattle.occ_machine.specs.declared.task.Wait.{Wait}
 use Rattle.occ_machine.specs.declared.task.Wait.TheVariants as W
 use Rattle.occ_net_replay.specs.declared.choice.Choice.{Choice}
 use Rattle.occ_net_replay.specs.declared.ending.Ending.TheVariants as E
-use Rattle.occ_net_replay.specs.Following.{AreBytes, Followed, mode_of}
+use Rattle.occ_net_replay.specs.Following.{AreBytes, Followed}
 use Rattle.occ_net_replay.specs.Replay.{Net, Tasks, HasTask, OneTurn, Replays, goes_on as replays_on, AreDone, ending_of, first_net, is_done, may_go, standing}
 use Rattle.occ_net_replay.specs.Sharing.{SharesStore}
 
@@ -103,7 +103,7 @@ pub record IsMoment (p : Program) (net : Net) (now : System) : Type 0 where
 pub data Accompanies (u : UnfoldedProgram) (p : Program) (quantum : ℕ) (keyboard : List ℕ) : List Choice → (net : Net) → Followed u keyboard quantum p.errors net → Type 0 where
   at_start : (f : Followed u keyboard quantum p.errors (first_net p keyboard)) → f.events ≡ [] → IsMoment p (first_net p keyboard) f.system → Accompanies u p quantum keyboard [] (first_net p keyboard) f
   after_turn : {cs : List Choice} {c : Choice} {a b : Net} {f : Followed u keyboard quantum p.errors a} (g : Followed u keyboard quantum p.errors b) (e : Event)
-      → Accompanies u p quantum keyboard cs a f → OneTurn p c a b → g.events ≡ f.events ++ e ∷ [] → Run (mode_of p.errors) quantum f.system (e ∷ []) g.system
+      → Accompanies u p quantum keyboard cs a f → OneTurn p c a b → g.events ≡ f.events ++ e ∷ [] → Run p.errors quantum f.system (e ∷ []) g.system
       → IsMoment p b g.system → Accompanies u p quantum keyboard (cs ++ c ∷ []) b g
 
 -- each replay has one run that follows it from its start on, turn by turn
@@ -129,7 +129,7 @@ ReplaysAreOneRun =
 
 -- the second run is the first with one turn more
 abbrev pub OneFurther : (u : UnfoldedProgram) (p : Program) (quantum : ℕ) (keyboard : List ℕ) {a b : Net} → Followed u keyboard quantum p.errors a → Followed u keyboard quantum p.errors b → Type 0
-OneFurther u p quantum keyboard f g = (e : Event) × (g.events ≡ f.events ++ e ∷ []) × Run (mode_of p.errors) quantum f.system (e ∷ []) g.system
+OneFurther u p quantum keyboard f g = (e : Event) × (g.events ≡ f.events ++ e ∷ []) × Run p.errors quantum f.system (e ∷ []) g.system
 
 -- A run for each replay, where that of one choice more is that of the others with one turn more. So where a run has come to fits
 -- each turn that the replay may take next, also where its last turn went into one of several arms with SKIP.
@@ -163,7 +163,7 @@ pub record EarlierMoment (u : UnfoldedProgram) (p : Program) (quantum : ℕ) (ke
   pub accompanies : Accompanies u p quantum keyboard first net follows
   pub moment : IsMoment p net follows.system
   pub goes_on : events ≡ follows.events ++ later
-  pub leads : Run (mode_of p.errors) quantum follows.system later now
+  pub leads : Run p.errors quantum follows.system later now
   pub as_many : length later ≡ length since
 
 -- The run of some choices begins with that of the first of them, and goes on from the system that this one came to, with one turn

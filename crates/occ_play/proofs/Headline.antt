@@ -23,7 +23,7 @@ use Rattle.occ_net_tables.specs.declared.running.Outcome.{Outcome}
 use Rattle.occ_shown.specs.Answers.{AreByteMessages, answer_text, names_of}
 use Rattle.occ_shown.proofs.ByteMessages as byte_messages
 use Rattle.occ_net_tables.specs.Holding.{communication_of}
-use Rattle.occ_net_replay.specs.Following.{AllFit, AreBytes, Followed, ending_as, mode_of, or_limit}
+use Rattle.occ_net_replay.specs.Following.{AllFit, AreBytes, Followed, ending_as, or_limit}
 use Rattle.occ_net_tables.specs.Outcomes.{Begins, IsOutcome}
 use Rattle.occ_play.specs.declared.playing.Options.{Options}
 use Rattle.occ_play.specs.declared.fault.PlayFault.{PlayFault}
@@ -150,7 +150,7 @@ headline options source keyboard list trace p channels o played bytes code keys 
         events = f.events;
         system = f.system;
         run = f.run;
-        ends = subst (λ e. EndsBy (mode_of options.errors) f.system (ending_as e)) ends f.ends;
+        ends = subst (λ e. EndsBy options.errors f.system (ending_as e)) ends f.ends;
         clean = λ h. s.clean (sym same_end ∙ h);
         is =
             is ∙ ap (λ cs. answer_text (shown_by (names_of cs) (map communication_of o.trace)) o.ending trace) channels_are

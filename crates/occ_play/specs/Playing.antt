@@ -36,7 +36,7 @@ use Rattle.occ_play.specs.declared.fault.PlayFault.{PlayFault}
 use Rattle.occ_play.specs.declared.fault.PlayFault.TheVariants as play
 use Rattle.occ_shown.specs.Answers.{answer_text, names_of}
 use Rattle.occ_shown.specs.Counting.{failures_of, writer_of}
-use Rattle.occ_net_replay.specs.Following.{AllFit, Followed, ending_as, mode_of, or_limit, process_in}
+use Rattle.occ_net_replay.specs.Following.{AllFit, Followed, ending_as, or_limit, process_in}
 use Rattle.occ_net_replay.specs.Moments.{Accompanies}
 use Rattle.occ_net_tables.specs.Outcomes.{Begins, IsOutcome}
 use Rattle.occ_net_replay.specs.Replay.{Net, Replays, ending_of}
@@ -92,8 +92,8 @@ pub record IsAnswer (options : Options) (source keyboard : List ℕ) (list : Lis
   pub lawful : Lawful program
   pub events : List Event
   pub system : System
-  pub run : Run (mode_of options.errors) options.quantum (start (meaning program) keyboard) events system
-  pub ends : EndsBy (mode_of options.errors) system (ending_as played.ending)
+  pub run : Run options.errors options.quantum (start (meaning program) keyboard) events system
+  pub ends : EndsBy options.errors system (ending_as played.ending)
   pub clean : played.ending ≡ E.Ended → noted_in system ≡ []
   pub is : bytes ≡ answer_text (shown (names_of program.channels) events) played.ending trace
   pub used : Begins played.choices.items list

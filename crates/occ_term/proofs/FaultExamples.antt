@@ -2,9 +2,10 @@
 use Rattle.std.proofs.Common.{refl, inl, List, [], ℕ}
 use mathlib.Core.Bool.{true≢false}
 use mathlib.Core.Path.{sym}
+use Rattle.occ_term.specs.declared.fault.Errors.TheVariants as on_fault
 use Rattle.occ_term.specs.Steps.{faults, in_assign, seq, clear, drops, in_output, in_each, assign, par, Left, Step, Context, left, Faulted, Forking}
 use Rattle.occ_term.specs.Turns.{none, more, single_turn, stops}
-use Rattle.occ_term.specs.System.{alone, turn_here, system_turn, turn_below, turn_first, system, process, no_processes, and_process, change_here, process_sends, change_below, change_first, change_later, passes_skip, meets, turn_later, SystemTurn, HaltMode, System, StopMode}
+use Rattle.occ_term.specs.System.{alone, turn_here, system_turn, turn_below, turn_first, system, process, no_processes, and_process, change_here, process_sends, change_below, change_first, change_later, passes_skip, meets, turn_later, SystemTurn, System}
 use Rattle.occ_term.specs.Runs.{no_turn, goes, by_fault, StepOf, private_step, meeting_step, skip_step, own_step, join_step, branch_step, first_can, later_can, by_standing, EndsBy, FaultEnds}
 use Rattle.occ_term.specs.FaultExamples.{QuotientPlays, NoBytePlays, NegativeCountPlays, TooManyPlays, FaultingPlays, AddsPlays, Divides, both_divide, faulted, second_first, StopsBoth, after_divides, FaultHalts}
 use Rattle.occ_term.specs.Values.{Store}
@@ -98,10 +99,10 @@ stops_both = (
   by_standing tt refl both_still,
 )
 
-none_after : (n : ℕ) (b : System) → SystemTurn HaltMode 1 n after_divides b → ⊥
+none_after : (n : ℕ) (b : System) → SystemTurn on_fault.Halt 1 n after_divides b → ⊥
 none_after n b (system_turn h t) = cc
 
-no_fault_ending : (e : Fault) → EndsBy StopMode after_divides (FaultEnds e) → ⊥
+no_fault_ending : (e : Fault) → EndsBy on_fault.Stop after_divides (FaultEnds e) → ⊥
 no_fault_ending e (by_fault q r) = cc
 
 pub fault_halts : FaultHalts

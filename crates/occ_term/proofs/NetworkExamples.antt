@@ -2,9 +2,10 @@
 use Rattle.std.proofs.Common.{refl, inl, List, [], ℕ, inr, pos, true, false}
 use mathlib.Core.Bool.{true≢false}
 use mathlib.Core.Path.{sym}
+use Rattle.occ_term.specs.declared.fault.Errors.TheVariants as on_fault
 use Rattle.occ_term.specs.Steps.{ends, assign, par, seq, clear, drops, seq_empty, Halted, Left, Step, Context, left, faults, Done, Forking, Awaiting, output, input, take_in, while, passes_again, leaves, body_ends, again, variant, stop, each, alt}
 use Rattle.occ_term.specs.Turns.{none, more, single_turn, stops}
-use Rattle.occ_term.specs.System.{alone, joined, turn_here, system_turn, turn_below, turn_first, turn_later, system, process, no_processes, and_process, change_here, process_sends, change_below, change_first, change_later, passes_skip, meets, offer_ends, screen_receives, process_receives, input_gets, keyboard_sends, arm_gets, SystemTurn, HaltMode, System}
+use Rattle.occ_term.specs.System.{alone, joined, turn_here, system_turn, turn_below, turn_first, turn_later, system, process, no_processes, and_process, change_here, process_sends, change_below, change_first, change_later, passes_skip, meets, offer_ends, screen_receives, process_receives, input_gets, keyboard_sends, arm_gets, SystemTurn, System}
 use Rattle.occ_term.specs.Runs.{no_turn, goes, by_end, StepOf, private_step, meeting_step, skip_step, own_step, join_step, branch_step, first_can, later_can, meets_one, by_standing}
 use Rattle.occ_term.specs.NetworkExamples.{ReadersPlays, BothCountedPlays, PipelinePlays, MergePlays, TaggedPlays, CountedPlays, EchoPlays, RunsTo, ThreeRun, LaterOffer, one_ended, Joins}
 use Rattle.occ_term.specs.Values.{Store}
@@ -206,7 +207,7 @@ later_offer = (
       no_turn)),
 )
 
-no_join : (b : System) → SystemTurn HaltMode 1 0 one_ended b → ⊥
+no_join : (b : System) → SystemTurn on_fault.Halt 1 0 one_ended b → ⊥
 no_join b (system_turn h (turn_here (joined (x, (y, z))) t)) = cc
 no_join b (system_turn h (turn_below (turn_first (turn_below x)))) = elim x [ ]
 no_join b (system_turn h (turn_below (turn_later (turn_first (turn_below x))))) = elim x [ ]

@@ -1,11 +1,13 @@
 -- A step, a turn and an ending are one.
 use Rattle.std.proofs.Common.{List, ℕ, Bool, [], ◌∷◌, refl, IsTrue, IsFalse, ◌≡◌, sym, subst, inl, inr, suc}
+use Rattle.occ_term.specs.declared.fault.Errors.{Errors}
+use Rattle.occ_term.specs.declared.fault.Errors.TheVariants as on_fault
 use Rattle.occ_term.specs.Messages.{Fault}
 use Rattle.occ_term.specs.Values.{Store}
 use Rattle.occ_term.specs.Steps.{Left, Doing, Step, FaultsIn, in_assign, in_local, in_output, in_input, in_variant, in_alt, in_take, in_if, in_case, in_each, in_loop, status, is_running, is_looping, ends, stop, assign, clear, local, output, input, variant, alt, take_in, seq_empty, seq, drops, par_empty, par, if_step, case, while, each, passes_again, leaves, body_ends, again, faults}
 use Rattle.occ_term.specs.Turns.{Steps, none, more, SingleTurn, single_turn, Turn, stops, passes}
 use Rattle.occ_term.specs.OneResult.{OneStep, OneEnding, OneTurn}
-use Rattle.occ_term.specs.System.{Errors, HaltMode, MayGo, System, noted_in}
+use Rattle.occ_term.specs.System.{MayGo, System, noted_in}
 use Rattle.occ_term.specs.Runs.{by_end, by_fault, by_standing, goes_on}
 
 one_fault : {d : Doing} {s s' s'' : Store} {e e' : Fault} → FaultsIn d s e s' → FaultsIn d s e' s'' → (e ≡ e') × (s' ≡ s'')
@@ -99,7 +101,7 @@ pub one_step : OneStep
 one_step a b c s s' s'' x y = one x y
 
 -- a noted fault that ends the run leaves no other ending
-no_other : {errors : Errors} {e : Fault} {es : List Fault} (a : System) → errors ≡ HaltMode → noted_in a ≡ e ∷ es → MayGo errors (noted_in a) → ⊥
+no_other : {errors : Errors} {e : Fault} {es : List Fault} (a : System) → errors ≡ on_fault.Halt → noted_in a ≡ e ∷ es → MayGo errors (noted_in a) → ⊥
 no_other a h p g = let nothing_noted : noted_in a ≡ [] = subst (λ m. MayGo m (noted_in a)) h g in cc
 
 pub one_ending : OneEnding

@@ -1,8 +1,9 @@
 -- The turns of the simplest programs.
 use Rattle.std.proofs.Common.{inl, refl, List, [], None, ◌∷◌, ◌≡◌, pos, subst}
+use Rattle.occ_term.specs.declared.fault.Errors.TheVariants as on_fault
 use Rattle.occ_term.specs.Steps.{ends, output, Context, Halted, Left, Step, left, faults, stop, drops, seq, seq_empty, Do, Offering, status, while, passes_again, body_ends, again, each, leaves}
 use Rattle.occ_term.specs.Turns.{none, single_turn, stops, more, passes}
-use Rattle.occ_term.specs.System.{change_here, meets, offer_ends, process_sends, screen_receives, system_turn, turn_here, alone as by_itself, change_below, no_processes, passes_skip, process, system, HaltMode, System, begun, fault_noted, turn_below, alone}
+use Rattle.occ_term.specs.System.{change_here, meets, offer_ends, process_sends, screen_receives, system_turn, turn_here, alone as by_itself, change_below, no_processes, passes_skip, process, system, System, begun, fault_noted, turn_below, alone}
 use Rattle.occ_term.specs.Runs.{goes, goes_on, meets_one, no_turn, own_step, private_step, by_end, StepOf, branch_step, meeting_step, skip_step, by_standing, MeetsAtMost, by_message, meets_none, meets_skip}
 use Rattle.occ_term.specs.TurnExamples.{LetterGoesOn, LetterEnds, StopStops, TwoLetters, EmptySequence, NoTurn, MeetsAtOnce, WritesA, LongTurns, ThreeTurns}
 use Rattle.occ_term.specs.Values.{Store}
@@ -77,7 +78,7 @@ pub before_turns : NoTurn
 before_turns t = (_, no_turn, goes_on refl refl (private_step (own_step (going (Do t) [] _ refl).2)), λ names. refl)
 
 -- where the letter is offered, the screen takes it
-passed_over : {m : Message} {s : Store} {d : System} → MeetsAtMost HaltMode 0 (system [] (process 0 (left (Offering 1 m) []) no_processes) s []) None d → ⊥
+passed_over : {m : Message} {s : Store} {d : System} → MeetsAtMost on_fault.Halt 0 (system [] (process 0 (left (Offering 1 m) []) no_processes) s []) None d → ⊥
 passed_over (meets_none f) = f refl (by_message (inl refl) (meets (process_sends (change_here offer_ends)) (screen_receives refl)))
 passed_over (meets_skip g (passes_skip (change_here x))) = elim x [ ]
 passed_over (meets_skip g (passes_skip (change_below x))) = elim x [ ]
@@ -86,7 +87,7 @@ pub meets_at_once : MeetsAtOnce
 meets_at_once b (goes {c = d} (system_turn h (turn_here {c = c} {s' = s'} by_itself t)) m r) =
     let offered : Left = left (Offering 1 (message None (One Byte (pos 65) ∷ []))) [] in
     let e : c ≡ offered = (one_turn _ _ _ _ _ _ _ t (stops (single_turn none (output refl) refl) (inl refl))).0 in
-    passed_over (subst (λ l. MeetsAtMost HaltMode 0 (system [] (process 0 l (begun (status l))) s' (fault_noted (status l))) None d) e m)
+    passed_over (subst (λ l. MeetsAtMost on_fault.Halt 0 (system [] (process 0 l (begun (status l))) s' (fault_noted (status l))) None d) e m)
 meets_at_once b (goes (system_turn h (turn_below x)) m r) = elim x [ ]
 
 pub writes_a : WritesA

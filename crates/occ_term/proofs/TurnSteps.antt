@@ -1,10 +1,11 @@
 -- Each run by turns is a run by single steps.
 use Rattle.std.proofs.Common.{◌≡◌, IsTrue, ℕ, List, [], ◌∷◌, ◌++◌, Some, None, refl, sym, ap, ◌∙◌, subst, append-nil}
+use Rattle.occ_term.specs.declared.fault.Errors.{Errors}
 use Rattle.occ_term.specs.Messages.{Fault}
 use Rattle.occ_term.specs.Values.{Store}
 use Rattle.occ_term.specs.Steps.{Left, Status, Runs, Loops, Offers, Awaits, Chooses, Forks, IsHalted, FailsBy, HasEnded, status, is_running, is_looping}
 use Rattle.occ_term.specs.Turns.{Steps, none, more, SingleTurn, single_turn, Turn, stops, passes}
-use Rattle.occ_term.specs.System.{Process, process, Processes, no_processes, and_process, System, system, Errors, MayGo, begun, fault_noted, alone, joined, TurnIn, turn_here, turn_below, TurnAmong, turn_first, turn_later, system_turn, Communication}
+use Rattle.occ_term.specs.System.{Process, process, Processes, no_processes, and_process, System, system, MayGo, begun, fault_noted, alone, joined, TurnIn, turn_here, turn_below, TurnAmong, turn_first, turn_later, system_turn, Communication}
 use Rattle.occ_term.specs.Runs.{event, meets_none, meets_one, meets_skip, no_turn, goes}
 use Rattle.occ_term.specs.StepRuns.{StepIn, step_here, join_here, step_below, StepAmong, step_first, step_later, process_step, meeting, skipping, StepRun, no_step, steps, TurnsAreSteps}
 

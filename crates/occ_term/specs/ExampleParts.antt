@@ -1,11 +1,12 @@
 -- What the examples are made of: parts of terms by short names, and the runs that play them.
 -- Manual: nothing; the programs are (own).
 use Rattle.std.specs.Prelude.{ℤ, neg_ℤ, pos, ℕ, List, [], ◌∷◌, None}
+use Rattle.occ_term.specs.declared.fault.Errors.TheVariants as on_fault
 use Rattle.occ_term.specs.Terms.{Expression, Constant, place, no_subscripts, Target, IntoCounted, Place, Term, Terms, no_terms, then_term, Seq, Into, Add, Binary, Item, OfOne, Output, Conversion, then_subscript, Negate, Unary}
 use Rattle.occ_term.specs.Values.{Store}
 use Rattle.occ_term.specs.Storing.{Outcome, Gives, Faults}
 use Rattle.occ_term.specs.Messages.{Message, Int, Byte}
-use Rattle.occ_term.specs.System.{OfProcess, Screen, Communication, communication, System, start, HaltMode}
+use Rattle.occ_term.specs.System.{OfProcess, Screen, Communication, communication, System, start}
 use Rattle.occ_term.specs.Runs.{Event, Run, Ending, EndsBy}
 
 abbrev pub number : ℤ → Expression
@@ -32,7 +33,7 @@ to_screen n m = communication 1 (OfProcess n) Screen m
 
 -- a run with these events and this ending
 abbrev pub Plays : Term → List ℕ → List Event → Ending → Type 0
-Plays t keyboard events ending = (a : System) × Run HaltMode 1 (start t keyboard) events a × EndsBy HaltMode a ending
+Plays t keyboard events ending = (a : System) × Run on_fault.Halt 1 (start t keyboard) events a × EndsBy on_fault.Halt a ending
 
 abbrev pub all : List Term → Terms
 all [] = no_terms

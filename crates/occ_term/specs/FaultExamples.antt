@@ -1,11 +1,12 @@
 -- Programs that fault, with the runs that play them.
 -- Manual: expressions; combining processes; invalid processes. The numbers of processes, channels and cells: (own).
 use Rattle.std.specs.Prelude.{[], pos, ◌∷◌, None, ℕ, List}
+use Rattle.occ_term.specs.declared.fault.Errors.TheVariants as on_fault
 use Rattle.occ_term.specs.ExampleParts.{number, single, Plays, in_order, into, one_int, shows, plus, least_int, minus_one, shows_digit}
 use Rattle.occ_term.specs.Messages.{Int, Arith, fault, Fault, Range, Byte, Convert, Count}
 use Rattle.occ_term.specs.Terms.{Divide, Cell, Binary, OfOne, Into, Term, Assign, Remainder, Branches, no_branches, and_branch, Par, Clear, Conversion, replicator, Stop, Each}
 use Rattle.occ_term.specs.Steps.{Faulted, left, Forking}
-use Rattle.occ_term.specs.System.{process, no_processes, System, system, start, HaltMode, StopMode, SystemTurn, Process, and_process}
+use Rattle.occ_term.specs.System.{process, no_processes, System, system, start, SystemTurn, Process, and_process}
 use Rattle.occ_term.specs.Runs.{event, Run, FaultEnds, EndsBy, StoppedBy, Event}
 use Rattle.occ_term.specs.NetworkExamples.{sends_counted}
 
@@ -19,15 +20,15 @@ after_divides = system [] (process 0 (left (Faulted (fault Arith 3)) []) no_proc
 
 abbrev pub Divides : Type 0
 Divides =
-    Run HaltMode 1 (start divides []) (event 0 None ∷ []) after_divides
-    × EndsBy HaltMode after_divides (FaultEnds (fault Arith 3))
-    × Run StopMode 1 (start divides []) (event 0 None ∷ []) after_divides
+    Run on_fault.Halt 1 (start divides []) (event 0 None ∷ []) after_divides
+    × EndsBy on_fault.Halt after_divides (FaultEnds (fault Arith 3))
+    × Run on_fault.Stop 1 (start divides []) (event 0 None ∷ []) after_divides
 
 -- where a fault ends the system no turn follows it; where it stops its process alone it is no ending
 abbrev pub FaultHalts : Type 0
 FaultHalts =
-    ((n : ℕ) (b : System) → SystemTurn HaltMode 1 n after_divides b → ⊥)
-    × ((e : Fault) → EndsBy StopMode after_divides (FaultEnds e) → ⊥)
+    ((n : ℕ) (b : System) → SystemTurn on_fault.Halt 1 n after_divides b → ⊥)
+    × ((e : Fault) → EndsBy on_fault.Stop after_divides (FaultEnds e) → ⊥)
 
 -- ---- PAR / a := 1 \ a / b := 1 \ b, where a fault stops its process alone: the first fault in the order of turns is named
 
@@ -49,8 +50,8 @@ second_first = fault Arith 5 ∷ fault Arith 4 ∷ []
 
 abbrev pub StopsBoth : Type 0
 StopsBoth =
-    Run StopMode 1 (start (Par both_divide) []) (event 0 None ∷ event 2 None ∷ event 1 None ∷ []) (both_faulted second_first)
-    × EndsBy StopMode (both_faulted second_first) (StoppedBy (fault Arith 5))
+    Run on_fault.Stop 1 (start (Par both_divide) []) (event 0 None ∷ event 2 None ∷ event 1 None ∷ []) (both_faulted second_first)
+    × EndsBy on_fault.Stop (both_faulted second_first) (StoppedBy (fault Arith 5))
 
 -- `5::buf` of four components: a fault at the output.
 abbrev pub too_many : Term

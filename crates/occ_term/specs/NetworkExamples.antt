@@ -2,10 +2,11 @@
 -- the least ready process after another, and the ending.
 -- Manual: combining processes; channels and protocols. The numbers of processes, channels and cells: (own).
 use Rattle.std.specs.Prelude.{None, [], ℕ, ℤ, ◌∷◌, pos, Some, Bool, List, ◌+ℤ◌, false, true, ◌+◌}
+use Rattle.occ_term.specs.declared.fault.Errors.TheVariants as on_fault
 use Rattle.occ_term.specs.ExampleParts.{number, single, to_screen, component, in_order, into, one_int, plus, shows_digit, Plays, shows}
 use Rattle.occ_term.specs.Messages.{Int, Byte, One, Message, message, Counted}
 use Rattle.occ_term.specs.Terms.{OfOne, Term, Output, Into, Skip, Reception, Plain, Add, Cell, Binary, Conversion, Arms, no_arms, input_arm, Seq, Alt, Clear, no_terms, then_term, Branches, no_branches, and_branch, Par, Input, Expression, Component, Assign, Less, While, VariantInput, no_variants, or_variant, place, no_subscripts, IntoCounted, Cells, OfCounted, replicator, Each}
-use Rattle.occ_term.specs.System.{OfProcess, communication, System, start, HaltMode, process, no_processes, and_process, system, SystemTurn, Screen, Keyboard}
+use Rattle.occ_term.specs.System.{OfProcess, communication, System, start, process, no_processes, and_process, system, SystemTurn, Screen, Keyboard}
 use Rattle.occ_term.specs.Runs.{Event, event, Run, Ended, EndsBy, Stopped}
 use Rattle.occ_term.specs.Steps.{Do, Forking, Done, left}
 
@@ -42,7 +43,7 @@ events_of_three n c v =
     ∷ event n None ∷ event 3 (Some (to_screen 3 (byte_message (v +ℤ pos 48)))) ∷ event 3 None ∷ []
 
 abbrev pub RunsTo : Bool → ℕ → ℕ → ℤ → Type 0
-RunsTo pri n c v = (b : System) × Run HaltMode 1 (start (Par (three pri)) []) (events_of_three n c v) b
+RunsTo pri n c v = (b : System) × Run on_fault.Halt 1 (start (Par (three pri)) []) (events_of_three n c v) b
 
 abbrev pub ThreeRun : Type 0
 ThreeRun = RunsTo true 1 3 (pos 1) × RunsTo false 1 3 (pos 1) × RunsTo false 2 4 (pos 2)
@@ -52,7 +53,7 @@ ThreeRun = RunsTo true 1 3 (pos 1) × RunsTo false 1 3 (pos 1) × RunsTo false 2
 abbrev pub LaterOffer : Type 0
 LaterOffer =
     (b : System)
-    × Run HaltMode 1 (start (Par (three true)) [])
+    × Run on_fault.Halt 1 (start (Par (three true)) [])
     (event 0 None ∷ event 3 None ∷ event 2 (Some (communication 4 (OfProcess 2) (OfProcess 3) (int_message (pos 2)))) ∷ []) b
 
 -- ---- PAR SKIP SKIP: the parent goes on when both branches have ended, and not before
@@ -69,9 +70,9 @@ one_ended =
 
 abbrev pub Joins : Type 0
 Joins =
-    Run HaltMode 1 (start (Par two_skips) []) (event 0 None ∷ event 1 None ∷ []) one_ended
-    × ((b : System) → SystemTurn HaltMode 1 0 one_ended b → ⊥)
-    × ((b : System) × Run HaltMode 1 one_ended (event 2 None ∷ event 0 None ∷ []) b × EndsBy HaltMode b Ended)
+    Run on_fault.Halt 1 (start (Par two_skips) []) (event 0 None ∷ event 1 None ∷ []) one_ended
+    × ((b : System) → SystemTurn on_fault.Halt 1 0 one_ended b → ⊥)
+    × ((b : System) × Run on_fault.Halt 1 one_ended (event 2 None ∷ event 0 None ∷ []) b × EndsBy on_fault.Halt b Ended)
 
 -- A pipeline: `c[0] ! 1` beside three copies that pass on one more, and the last that writes what comes. Copies are the
 -- processes 3 to 5, within process 2; the components of `c` are the channels 3 to 6.

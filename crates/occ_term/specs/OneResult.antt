@@ -1,10 +1,11 @@
 -- A step, a turn and an ending are one: from the same place nothing else follows.
 -- Manual: nothing; this is (own).
 use Rattle.std.specs.Prelude.{ℕ, ◌≡◌}
+use Rattle.occ_term.specs.declared.fault.Errors.{Errors}
 use Rattle.occ_term.specs.Values.{Store}
 use Rattle.occ_term.specs.Steps.{Left, Step}
 use Rattle.occ_term.specs.Turns.{Turn}
-use Rattle.occ_term.specs.System.{Errors, System}
+use Rattle.occ_term.specs.System.{System}
 use Rattle.occ_term.specs.Runs.{EndsBy, Ending}
 
 abbrev pub OneStep : Type 0

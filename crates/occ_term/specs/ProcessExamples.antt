@@ -1,9 +1,10 @@
 -- Programs of one process that show how it goes on and ends, with the runs that play them.
 -- Manual: primitive processes; combining processes; procedures. The numbers of processes, channels and cells: (own).
 use Rattle.std.specs.Prelude.{[], None, pos, true, ◌∷◌, List, Some}
+use Rattle.occ_term.specs.declared.fault.Errors.TheVariants as on_fault
 use Rattle.occ_term.specs.Values.{Store, store_with}
 use Rattle.occ_term.specs.Steps.{Halted, left}
-use Rattle.occ_term.specs.System.{process, no_processes, System, system, start, HaltMode, OfProcess, Screen, communication}
+use Rattle.occ_term.specs.System.{process, no_processes, System, system, start, OfProcess, Screen, communication}
 use Rattle.occ_term.specs.SelectingExamples.{closed_arms}
 use Rattle.occ_term.specs.ExampleParts.{zeros, number, Plays, in_order, shows, into, one_int, shows_digit}
 use Rattle.occ_term.specs.Terms.{Alt, Term, Skip, If, no_choices, or_choice, Case, no_options, or_option, Stop, While, Cell, replicator, Assign, Each, Clear, Equal, Binary, each_choice}
@@ -19,8 +20,8 @@ halted_in s = system [] (process 0 (left Halted []) no_processes) s []
 -- an ALT whose arms are closed has set their declarations, and then behaves like STOP
 abbrev pub Halts : Type 0
 Halts =
-    Run HaltMode 1 (start (Alt true closed_arms) []) (event 0 None ∷ []) (halted_in (store_with zeros 7 (pos 9)))
-    × EndsBy HaltMode (halted_in (store_with zeros 7 (pos 9))) Stopped
+    Run on_fault.Halt 1 (start (Alt true closed_arms) []) (event 0 None ∷ []) (halted_in (store_with zeros 7 (pos 9)))
+    × EndsBy on_fault.Halt (halted_in (store_with zeros 7 (pos 9))) Stopped
 
 -- IF without a true choice behaves like STOP.
 abbrev pub no_choice : Term

@@ -1,12 +1,14 @@
 -- Runs, their endings, and what they show.
 -- Manual: combining processes (PAR leaves the order open). Turns, the endings and what is shown: (own).
 use Rattle.std.specs.Prelude.{Bool, IsFalse, IsTrue, List, None, Option, Some, [], if◌then◌else◌, map, nat_abs, nat_eq, ℕ, ◌++◌, ◌+◌, ◌∷◌, ◌≡◌, ◌⊎◌}
+use Rattle.occ_term.specs.declared.fault.Errors.{Errors}
+use Rattle.occ_term.specs.declared.fault.Errors.TheVariants as on_fault
 use Rattle.occ_term.specs.Messages.{Fault, Part, Message}
 use Rattle.occ_term.specs.Terms.{Branches}
 use Rattle.occ_term.specs.Values.{Store}
 use Rattle.occ_term.specs.Storing.{values_in}
 use Rattle.occ_term.specs.Steps.{Forking, Context, Left, left, status, is_ended, Step}
-use Rattle.occ_term.specs.System.{Process, process, Processes, no_processes, and_process, System, system, Errors, HaltMode, MayGo, noted_in, AllEnded, SystemTurn, End, OfProcess, Communication, communication, Meets, PassesSkip}
+use Rattle.occ_term.specs.System.{Process, process, Processes, no_processes, and_process, System, system, MayGo, noted_in, AllEnded, SystemTurn, End, OfProcess, Communication, communication, Meets, PassesSkip}
 
 abbrev pub TakesPart : ℕ → Communication → Type 0
 TakesPart n (communication c x y m) = (x ≡ OfProcess n) ⊎ (y ≡ OfProcess n)
@@ -71,7 +73,7 @@ still_by [] = Stopped
 still_by (e ∷ es) = StoppedBy e
 
 pub data EndsBy (errors : Errors) (a : System) : Ending → Type 0 where
-  by_fault : {e : Fault} {es : List Fault} → errors ≡ HaltMode → noted_in a ≡ e ∷ es → EndsBy errors a (FaultEnds e)
+  by_fault : {e : Fault} {es : List Fault} → errors ≡ on_fault.Halt → noted_in a ≡ e ∷ es → EndsBy errors a (FaultEnds e)
   by_end : MayGo errors (noted_in a) → IsTrue (main_ended a) → EndsBy errors a Ended
   by_standing : MayGo errors (noted_in a) → IsFalse (main_ended a) → IsStill a → EndsBy errors a (still_by (noted_in a))
   goes_on : MayGo errors (noted_in a) → IsFalse (main_ended a) → StepOf a → EndsBy errors a Limit

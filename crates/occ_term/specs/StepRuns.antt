@@ -2,11 +2,12 @@
 -- Each run by turns is one: a turn is private steps of one process in a row.
 -- Manual: combining processes (PAR: the steps of its branches in any order).
 use Rattle.std.specs.Prelude.{List, None, Option, Some, [], ℕ, ◌++◌, ◌∷◌}
+use Rattle.occ_term.specs.declared.fault.Errors.{Errors}
 use Rattle.occ_term.specs.Messages.{Fault}
 use Rattle.occ_term.specs.Terms.{Skip, Branches}
 use Rattle.occ_term.specs.Values.{Store}
 use Rattle.occ_term.specs.Steps.{Do, Forking, Context, Left, left, Status, Runs, status, Step}
-use Rattle.occ_term.specs.System.{Process, process, Processes, no_processes, and_process, System, system, Errors, MayGo, noted_in, begun, fault_noted, AllEnded, Communication, Meets, PassesSkip}
+use Rattle.occ_term.specs.System.{Process, process, Processes, no_processes, and_process, System, system, MayGo, noted_in, begun, fault_noted, AllEnded, Communication, Meets, PassesSkip}
 use Rattle.occ_term.specs.Runs.{Event, communications, Run}
 
 -- a private step of the process with that number, or the end of its PAR, and what it stands at then

@@ -2,6 +2,8 @@
 -- Manual: combining processes (PAR); primitive processes (communication); invalid processes. One store, the numbers of processes,
 -- and the ends beside the main process: (own).
 use Rattle.std.specs.Prelude.{Bool, IsTrue, List, None, Some, [], false, nat_eq, pos, ℕ, ⊤, ◌++◌, ◌||◌, ◌∷◌, ◌≡◌}
+use Rattle.occ_term.specs.declared.fault.Errors.{Errors}
+use Rattle.occ_term.specs.declared.fault.Errors.TheVariants as on_fault
 use Rattle.occ_term.specs.Messages.{Byte, Fault, One, Message, message}
 use Rattle.occ_term.specs.Terms.{Term, Skip, Branches, no_branches, and_branch, Reception}
 use Rattle.occ_term.specs.Values.{Store}
@@ -26,15 +28,11 @@ pub data System : Type 0 where
 abbrev pub start : Term → List ℕ → System
 start t keyboard = system keyboard (process 0 (left (Do t) []) no_processes) (λ c. pos 0) []
 
--- what a fault does: end the whole system, or stop its process alone (manual: invalid processes)
-pub data Errors : Type 0 where
-  HaltMode : Errors
-  StopMode : Errors
-
--- whether a process may still go on, with these faults noted: where a fault ends all, only while none is
+-- A fault ends the whole system, or stops its process alone (manual: invalid processes). Whether a process may still go on, with these
+-- faults noted: where a fault ends all, only while none is.
 abbrev pub MayGo : Errors → List Fault → Type 0
-MayGo HaltMode noted = noted ≡ []
-MayGo StopMode noted = ⊤
+MayGo on_fault.Halt noted = noted ≡ []
+MayGo on_fault.Stop noted = ⊤
 
 abbrev pub noted_in : System → List Fault
 noted_in (system kb p s noted) = noted

@@ -1,12 +1,13 @@
 -- The simplest programs, from their start: what so many turns show, and how the run stands then.
 -- Manual: nothing; the programs are (own).
 use Rattle.std.specs.Prelude.{None, [], pos, ◌∷◌, List, Some, ◌≡◌, ℕ}
+use Rattle.occ_term.specs.declared.fault.Errors.TheVariants as on_fault
 use Rattle.occ_term.specs.Messages.{Byte, One, Message, message}
 use Rattle.occ_term.specs.ExampleParts.{number, single, to_screen}
 use Rattle.occ_term.specs.Terms.{OfOne, Term, Output, Skip, While, replicator, Each, Constant, no_subscripts, place, Seq, no_terms, then_term, Stop}
 use Rattle.occ_term.specs.Runs.{Event, event, Run, Ended, EndsBy, Names, shown, Ending, Limit, Stopped}
 use Rattle.occ_term.specs.Steps.{Done, left, Loop, WhileLoop, Again}
-use Rattle.occ_term.specs.System.{process, no_processes, System, system, start, HaltMode, OfProcess, Screen, communication}
+use Rattle.occ_term.specs.System.{process, no_processes, System, system, start, OfProcess, Screen, communication}
 
 -- ---- a program: screen ! 'A'
 
@@ -24,8 +25,8 @@ after_a = system [] (process 0 (left Done []) no_processes) (λ c. pos 0) []
 
 abbrev pub WritesA : Type 0
 WritesA =
-    Run HaltMode 1 (start writes_a []) events_of_a after_a
-    × EndsBy HaltMode after_a Ended
+    Run on_fault.Halt 1 (start writes_a []) events_of_a after_a
+    × EndsBy on_fault.Halt after_a Ended
     × ((names : Names) → (shown names events_of_a).screen ≡ 65 ∷ [])
 
 -- ---- WHILE TRUE SKIP, in turns that pass three stops of the loop
@@ -35,7 +36,7 @@ turns_for_ever = WhileLoop (number (pos 1)) Skip
 
 abbrev pub LongTurns : Type 0
 LongTurns =
-    Run HaltMode 4 (start (While (number (pos 1)) Skip) []) (event 0 None ∷ [])
+    Run on_fault.Halt 4 (start (While (number (pos 1)) Skip) []) (event 0 None ∷ [])
     (system [] (process 0 (left (Again turns_for_ever) []) no_processes) (λ c. pos 0) [])
 
 -- ---- SEQ i = 0 FOR 2 SKIP: the loop stands at the end of each body, the last one too
@@ -44,12 +45,12 @@ abbrev pub two_times : Term
 two_times = Each (replicator 2 0 (number (pos 0)) (number (pos 2))) Skip
 
 abbrev pub ThreeTurns : Type 0
-ThreeTurns = (b : System) × Run HaltMode 1 (start two_times []) (event 0 None ∷ event 0 None ∷ event 0 None ∷ []) b × EndsBy HaltMode b Ended
+ThreeTurns = (b : System) × Run on_fault.Halt 1 (start two_times []) (event 0 None ∷ event 0 None ∷ event 0 None ∷ []) b × EndsBy on_fault.Halt b Ended
 
 -- with an empty keyboard, in turns that pass no loop's stop: these turns, these bytes on the screen, this ending
 abbrev pub RunsAs : Term → List Event → List ℕ → Ending → Type 0
 RunsAs t es bytes ending =
-    (b : System) × Run HaltMode 1 (start t []) es b × EndsBy HaltMode b ending × ((names : Names) → (shown names es).screen ≡ bytes)
+    (b : System) × Run on_fault.Halt 1 (start t []) es b × EndsBy on_fault.Halt b ending × ((names : Names) → (shown names es).screen ≡ bytes)
 
 -- `screen ! ` with one byte, in that line
 abbrev pub writes : ℕ → ℕ → Term
@@ -86,7 +87,7 @@ EmptySequence = RunsAs (Seq no_terms) (alone ∷ []) [] Ended
 
 -- no run passes over the screen, which awaits the letter
 abbrev pub MeetsAtOnce : Type 0
-MeetsAtOnce = (b : System) → Run HaltMode 1 (start (writes 2 65) []) (alone ∷ []) b → ⊥
+MeetsAtOnce = (b : System) → Run on_fault.Halt 1 (start (writes 2 65) []) (alone ∷ []) b → ⊥
 
 -- of every program
 abbrev pub NoTurn : Type 0
