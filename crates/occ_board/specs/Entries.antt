@@ -2,20 +2,12 @@
 -- Manual: nothing; this is (own).
 use Rattle.std.specs.Prelude.{List, Option, ℕ, ◌≡◌}
 use Rattle.occ_term.specs.declared.message.Message.{Message}
-use Rattle.occ_term.specs.System as S
 use Rattle.occ_term.specs.Runs.{Entry}
-use Rattle.occ_net_trace.specs.declared.communication.End.{End}
-use Rattle.occ_net_trace.specs.declared.communication.End.TheVariants.{Process, Keyboard, Screen, Error}
-
-abbrev pub end_of : End → S.End
-end_of (Process n) = S.OfProcess n
-end_of Keyboard = S.Keyboard
-end_of Screen = S.Screen
-end_of Error = S.Error
+use Rattle.occ_term.specs.declared.communication.End.{End}
 
 abbrev pub entry : (number channel : ℕ) → List ℕ → (sender receiver : End) → Option (List ℕ) → Message → Entry
 entry number channel name sender receiver tag m =
-    record { number = number; channel = channel; name = name; sender = end_of sender; receiver = end_of receiver; tag = tag; message = m }
+    record { number = number; channel = channel; name = name; sender = sender; receiver = receiver; tag = tag; message = m }
 
 -- both have all but the channel's name in common
 pub record AreAlike (a b : Entry) : Type 0 where

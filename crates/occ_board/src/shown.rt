@@ -1,9 +1,8 @@
 //! What a board shows.
 ghost use Rattle.std.specs.Prelude.{◌≡◌, ◌↔◌, IfOk, IsTrue, option_copied};
-ghost use Rattle.occ_board.specs.Entries.{AreAlike, end_of, entry};
+ghost use Rattle.occ_board.specs.Entries.{AreAlike, entry};
 
-use occ_net_trace::End;
-use occ_term::{Message, Name, Text};
+use occ_term::{End, Message, Name, Text};
 use std::alloc::{AllocError, Global};
 use std::marker::Model;
 
@@ -90,14 +89,14 @@ impl Shown {
 
     /// Who output it.
     pub fn sender(&self) -> End
-        ensures { end_of result ≡ self.now.sender }
+        ensures { result ≡ self.now.sender }
     {
         self.sender
     }
 
     /// Who input it.
     pub fn receiver(&self) -> End
-        ensures { end_of result ≡ self.now.receiver }
+        ensures { result ≡ self.now.receiver }
     {
         self.receiver
     }
@@ -157,7 +156,7 @@ impl Shown {
 
 /// Whether both are the same end.
 fn is_end(one: End, other: End) -> bool
-    ensures { IsTrue result ↔ (end_of one ≡ end_of other) }
+    ensures { IsTrue result ↔ (one ≡ other) }
 {
     match (one, other) {
         (End::Process(m), End::Process(n)) => m == n,

@@ -1,9 +1,10 @@
 -- Which communications are drawn, and the parts of a chart.
-use Rattle.std.proofs.Common.{◌≡◌, ◌∙◌, ◌≤◌, ◌+◌, ◌-◌, ◌++◌, ◌&&◌, Bool, ℕ, zero, suc, List, [], ◌∷◌, drop, length, map, min, nat_lt, take, refl, sym, ap, subst, append_assoc, arith}
+use Rattle.std.proofs.Common.{◌≡◌, ◌∙◌, ◌≤◌, ◌+◌, ◌-◌, ◌++◌, ◌&&◌, Bool, ℕ, zero, suc, List, [], ◌∷◌, drop, length, min, nat_lt, take, refl, sym, ap, subst, append_assoc, arith}
 use Rattle.std.proofs.lemmas.List.{length-drop, length-take}
 use Rattle.std.proofs.Math.Nat.{min-le_left, min-le_right}
 use Rattle.occ_term.specs.Runs.{Entry, Names, entries, entry_of}
-use Rattle.occ_term.specs.System.{Communication, End}
+use Rattle.occ_term.specs.declared.communication.Communication.{Communication}
+use Rattle.occ_term.specs.declared.communication.End.{End}
 use Rattle.occ_net_replay.specs.declared.ending.Ending.{Ending}
 use Rattle.occ_chart.specs.declared.part.Part.{Part}
 use Rattle.occ_chart.specs.declared.part.Part.TheVariants.{First, Last}
@@ -18,11 +19,6 @@ entries_take : (names : Names) (k n : ℕ) (xs : List Communication) → take k 
 entries_take names zero n xs = refl
 entries_take names (suc k) n [] = refl
 entries_take names (suc k) n (x ∷ xs) = ap (λ l. entry_of names n x ∷ l) (entries_take names k (n + 1) xs)
-
-pub map_front : {A B : Type 0} (f : A → B) (k : ℕ) (xs : List A) → map f (take k xs) ≡ take k (map f xs)
-map_front f zero xs = refl
-map_front f (suc k) [] = refl
-map_front f (suc k) (x ∷ xs) = ap (λ l. f x ∷ l) (map_front f k xs)
 
 pub first_shown : (names : Names) (xs : List Communication) (n count : ℕ) → count ≡ min (min n most_arrows) (length xs) → entries names 1 (take count xs) ≡ shown_of (First n) (entries names 1 xs)
 first_shown names xs n count is =

@@ -1,10 +1,10 @@
 -- The columns that the code comes to are those that take part, in order.
 use Rattle.std.proofs.Common.{◌≡◌, ◌∙◌, ◌↔◌, ◌⊎◌, ℕ, List, [], ◌∷◌, Bool, true, false, refl, sym, ap, subst, arith}
 use Rattle.std.specs.Option.{option_map_or}
-use Rattle.std.proofs.lemmas.Option.{slice_get-map}
-use Rattle.std.specs.Prelude.{Option, Some, None, drop, insert, option_map, if◌then◌else◌, map, slice_get, suc, take, ◌+◌, ◌++◌}
+use Rattle.std.specs.Prelude.{Option, Some, None, drop, insert, if◌then◌else◌, slice_get, suc, take, ◌+◌, ◌++◌}
 use Rattle.std.proofs.lemmas.Bool.{eqb-true}
-use Rattle.occ_term.specs.System.{End, Keyboard, OfProcess, Screen, Error}
+use Rattle.occ_term.specs.declared.communication.End.{End}
+use Rattle.occ_term.specs.declared.communication.End.TheVariants.{Keyboard, Process as OfProcess, Screen, Error}
 use Rattle.occ_term.specs.Runs.{Entry}
 use Rattle.occ_chart.specs.Columns.{AreColumns, AreInOrder, IsAmong, IsBeforeAll, Standing, Stands, TakesPart, is_before, is_end, place_for, stands_at, with_end, with_ends, with_standing}
 
@@ -23,10 +23,6 @@ before_else x y a b = grind (arith)
 
 slice_get_next : {A : Type 0} (y : A) (ys : List A) (k : ℕ) (a : A) → slice_get (y ∷ ys) (k + 1) ≡ Some a → slice_get ys k ≡ Some a
 slice_get_next y ys k a h = let one : k + 1 ≡ suc k = omega arith in sym (ap (slice_get (y ∷ ys)) one) ∙ h
-
-map_same : (ys : List End) → map (λ (z : End). z) ys ≡ ys
-map_same [] = refl
-map_same (y ∷ ys) = ap (λ zs. y ∷ zs) (map_same ys)
 
 one_of : {A : Type 0} {a b : A} → ◌≡◌ {A = Option A} (Some a) (Some b) → a ≡ b
 one_of q = cc
@@ -99,28 +95,27 @@ columns_are es ss =
 -- ---- a place that is found is where it is put
 
 -- the end at the place is it
-pub put_same : {A : Type 0} (f : A → End) (x : End) (xs : List A) (a : A) → slice_get xs (place_for x (map f xs)) ≡ Some a → is_end (f a) x ≡ true → map f xs ≡ with_end x (map f xs)
-put_same f x [] a found e = cc
-put_same f x (y ∷ ys) a found e = by (is_before (f y) x) refl found (λ h. put_same f x ys a h e)
+pub put_same : (x : End) (ys : List End) (z : End) → slice_get ys (place_for x ys) ≡ Some z → is_end z x ≡ true → ys ≡ with_end x ys
+put_same x [] z found e = cc
+put_same x (y ∷ ys) z found e = by (is_before y x) refl found (λ h. put_same x ys z h e)
   where
-    by : (b : Bool) → is_before (f y) x ≡ b → slice_get (y ∷ ys) (if b then place_for x (map f ys) + 1 else 0) ≡ Some a → (slice_get ys (place_for x (map f ys)) ≡ Some a → map f ys ≡ with_end x (map f ys))
-        → f y ∷ map f ys ≡ (if b then f y ∷ with_end x (map f ys) else if is_end (f y) x then f y ∷ map f ys else x ∷ f y ∷ map f ys)
-    by true q h next = ap (λ zs. f y ∷ zs) (next (slice_get_next y ys (place_for x (map f ys)) a h))
-    by false q h next = let it : Some y ≡ Some a = h in rw (subst (λ w. is_end (f w) x ≡ true) (sym (one_of it)) e) refl
+    by : (b : Bool) → is_before y x ≡ b → slice_get (y ∷ ys) (if b then place_for x ys + 1 else 0) ≡ Some z → (slice_get ys (place_for x ys) ≡ Some z → ys ≡ with_end x ys)
+        → y ∷ ys ≡ (if b then y ∷ with_end x ys else if is_end y x then y ∷ ys else x ∷ y ∷ ys)
+    by true q h next = ap (λ zs. y ∷ zs) (next (slice_get_next y ys (place_for x ys) z h))
+    by false q h next = let it : Some y ≡ Some z = h in rw (subst (λ w. is_end w x ≡ true) (sym (one_of it)) e) refl
 
 -- it is none of them
-pub put_new : {A : Type 0} (f : A → End) (x : End) (xs : List A) (a : A) → ((b : A) → slice_get xs (place_for x (map f xs)) ≡ Some b → is_end (f b) x ≡ false) → f a ≡ x
-    → map f (take (place_for x (map f xs)) xs ++ a ∷ drop (place_for x (map f xs)) xs) ≡ with_end x (map f xs)
-put_new f x [] a other e = ap (λ w. w ∷ []) e
-put_new {A = A} f x (y ∷ ys) a other e = by (is_before (f y) x) refl other (λ h. put_new f x ys a h e)
+pub put_new : (x : End) (ys : List End) → ((z : End) → slice_get ys (place_for x ys) ≡ Some z → is_end z x ≡ false) → take (place_for x ys) ys ++ x ∷ drop (place_for x ys) ys ≡ with_end x ys
+put_new x [] other = refl
+put_new x (y ∷ ys) other = by (is_before y x) refl other (λ h. put_new x ys h)
   where
-    by : (b : Bool) → is_before (f y) x ≡ b → ((c : A) → slice_get (y ∷ ys) (if b then place_for x (map f ys) + 1 else 0) ≡ Some c → is_end (f c) x ≡ false)
-        → (((c : A) → slice_get ys (place_for x (map f ys)) ≡ Some c → is_end (f c) x ≡ false) → map f (take (place_for x (map f ys)) ys ++ a ∷ drop (place_for x (map f ys)) ys) ≡ with_end x (map f ys))
-        → map f (take (if b then place_for x (map f ys) + 1 else 0) (y ∷ ys) ++ a ∷ drop (if b then place_for x (map f ys) + 1 else 0) (y ∷ ys)) ≡ (if b then f y ∷ with_end x (map f ys) else if is_end (f y) x then f y ∷ map f ys else x ∷ f y ∷ map f ys)
+    by : (b : Bool) → is_before y x ≡ b → ((z : End) → slice_get (y ∷ ys) (if b then place_for x ys + 1 else 0) ≡ Some z → is_end z x ≡ false)
+        → (((z : End) → slice_get ys (place_for x ys) ≡ Some z → is_end z x ≡ false) → take (place_for x ys) ys ++ x ∷ drop (place_for x ys) ys ≡ with_end x ys)
+        → take (if b then place_for x ys + 1 else 0) (y ∷ ys) ++ x ∷ drop (if b then place_for x ys + 1 else 0) (y ∷ ys) ≡ (if b then y ∷ with_end x ys else if is_end y x then y ∷ ys else x ∷ y ∷ ys)
     by true q h next =
-        let one : place_for x (map f ys) + 1 ≡ suc (place_for x (map f ys)) = omega arith in
-        ap (λ k. map f (take k (y ∷ ys) ++ a ∷ drop k (y ∷ ys))) one ∙ ap (λ zs. f y ∷ zs) (next (λ c g. h c (ap (slice_get (y ∷ ys)) one ∙ g)))
-    by false q h next = rw (h y refl) (ap (λ w. w ∷ f y ∷ map f ys) e)
+        let one : place_for x ys + 1 ≡ suc (place_for x ys) = omega arith in
+        ap (λ k. take k (y ∷ ys) ++ x ∷ drop k (y ∷ ys)) one ∙ ap (λ zs. y ∷ zs) (next (λ z g. h z (ap (slice_get (y ∷ ys)) one ∙ g)))
+    by false q h next = rw (h y refl) refl
 
 -- the same, by what is asked of the place
 pub put_same_at : (x : End) (ys : List End) (n : ℕ) → n ≡ place_for x ys → stands_at x ys n ≡ true → ys ≡ with_end x ys
@@ -128,12 +123,12 @@ put_same_at x ys n place e = by (slice_get ys n) refl e
   where
     by : (o : Option End) → slice_get ys n ≡ o → option_map_or (λ y. is_end y x) o false ≡ true → ys ≡ with_end x ys
     by None q h = cc
-    by (Some y) q h = sym (map_same ys) ∙ put_same (λ (z : End). z) x ys y (ap (slice_get ys) (sym (place ∙ ap (place_for x) (sym (map_same ys)))) ∙ q) h ∙ ap (with_end x) (map_same ys)
+    by (Some y) q h = put_same x ys y (ap (slice_get ys) (sym place) ∙ q) h
 
-pub put_new_at : {A : Type 0} (f : A → End) (x : End) (xs : List A) (n : ℕ) (a : A) → n ≡ place_for x (map f xs) → stands_at x (map f xs) n ≡ false → f a ≡ x → map f (insert xs n a) ≡ with_end x (map f xs)
-put_new_at {A = A} f x xs n a place other e =
-    let none : (b : A) → slice_get xs (place_for x (map f xs)) ≡ Some b → is_end (f b) x ≡ false =
-    λ b h.
-    let at : slice_get (map f xs) n ≡ Some (f b) = slice_get-map f xs n ∙ ap (option_map f) (ap (slice_get xs) place ∙ h) in
+pub put_new_at : (x : End) (ys : List End) (n : ℕ) → n ≡ place_for x ys → stands_at x ys n ≡ false → insert ys n x ≡ with_end x ys
+put_new_at x ys n place other =
+    let none : (z : End) → slice_get ys (place_for x ys) ≡ Some z → is_end z x ≡ false =
+    λ z h.
+    let at : slice_get ys n ≡ Some z = ap (slice_get ys) place ∙ h in
     sym (ap (λ o. option_map_or (λ y. is_end y x) o false) at) ∙ other in
-    ap (λ k. map f (take k xs ++ a ∷ drop k xs)) place ∙ put_new f x xs a none e
+    ap (λ k. take k ys ++ x ∷ drop k ys) place ∙ put_new x ys none

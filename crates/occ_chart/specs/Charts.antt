@@ -3,7 +3,8 @@
 -- Manual: nothing; this is (own).
 use Rattle.std.specs.Prelude.{Bool, List, [], codes, drop, false, if◌then◌else◌, length, max, min, nat_eq, nat_lt, take, true, ℕ, ◌&&◌, ◌++◌, ◌+◌, ◌-◌, ◌*◌, ◌∷◌, ◌≡◌}
 use Rattle.std.specs.Fmt.{decimal}
-use Rattle.occ_term.specs.System.{End, OfProcess}
+use Rattle.occ_term.specs.declared.communication.End.{End}
+use Rattle.occ_term.specs.declared.communication.End.TheVariants.{Process as OfProcess}
 use Rattle.occ_term.specs.Runs.{Entry}
 use Rattle.occ_net_replay.specs.declared.ending.Ending.{Ending}
 use Rattle.occ_net_replay.specs.Endings.{ending_text}

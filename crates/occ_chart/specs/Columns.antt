@@ -2,7 +2,8 @@
 -- Manual: nothing; this is (own).
 use Rattle.std.specs.Prelude.{Bool, List, [], false, if◌then◌else◌, nat_eq, nat_lt, slice_get, true, ℕ, ⊤, ◌&&◌, ◌+◌, ◌||◌, ◌∷◌, ◌≡◌, ◌⊎◌, ◌↔◌}
 use Rattle.std.specs.Option.{option_map_or}
-use Rattle.occ_term.specs.System.{End, OfProcess, Keyboard, Screen, Error}
+use Rattle.occ_term.specs.declared.communication.End.{End}
+use Rattle.occ_term.specs.declared.communication.End.TheVariants.{Process as OfProcess, Keyboard, Screen, Error}
 use Rattle.occ_term.specs.Runs.{Entry}
 
 -- a process that stands where a run has come to, and in which words

@@ -5,7 +5,8 @@ use Rattle.std.specs.Fmt.{decimal, signed_decimal}
 use Rattle.occ_term.specs.declared.primitive.Primitive.TheVariants.{Bool as Boolean, Byte, Int}
 use Rattle.occ_term.specs.declared.message.Part.{Part}
 use Rattle.occ_term.specs.declared.message.Part.TheVariants.{One, Many, Counted}
-use Rattle.occ_term.specs.System.{End, OfProcess, Keyboard, Screen, Error}
+use Rattle.occ_term.specs.declared.communication.End.{End}
+use Rattle.occ_term.specs.declared.communication.End.TheVariants.{Process as OfProcess, Keyboard, Screen, Error}
 use Rattle.occ_term.specs.Runs.{Entry, Names, tag_shown}
 use Rattle.occ_machine.specs.declared.task.Wait.{Wait}
 use Rattle.occ_machine.specs.declared.task.Wait.TheVariants.{Ready, Took, Offers, Awaits, Chooses, Joins, Halted, Done, Faulted}

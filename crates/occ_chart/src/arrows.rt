@@ -1,6 +1,5 @@
 //! The arrows of communications.
-ghost use Rattle.std.specs.Prelude.{◌≡◌, ◌++◌, ◌≤◌, ◌^◌, IfOk, OnOk, length, map};
-ghost use Rattle.occ_board.specs.Entries.{end_of};
+ghost use Rattle.std.specs.Prelude.{◌≡◌, ◌++◌, ◌≤◌, ◌^◌, IfOk, OnOk, length};
 ghost use Rattle.occ_chart.specs.Charts.{arrow, arrow_from, arrows, room_between, row};
 ghost use Rattle.occ_chart.specs.Labels.{arrow_words};
 ghost use Rattle.occ_chart.specs.Shapes.{along, leftward, rightward};
@@ -12,7 +11,7 @@ use crate::labels::write_label;
 use crate::messages::write_items;
 use crate::xml::{Style, write_path};
 use occ_board::Shown;
-use occ_net_trace::End;
+use occ_term::End;
 use std::alloc::{AllocError, Global};
 
 /// The height of a row.
@@ -121,7 +120,7 @@ fn write_arrow(
 ) -> Result<(), AllocError>
     requires few { length columns.now ≤ 2 ^ 40 }
     requires near { number ≤ 2 ^ 40 }
-    ensures { OnOk result (out.new.items ≡ out.old.items ++ elements_text (arrow (map end_of columns.now) number shown.now)) }
+    ensures { OnOk result (out.new.items ≡ out.old.items ++ elements_text (arrow columns.now number shown.now)) }
 {
     let from = place_of(columns, shown.sender());
     let to = place_of(columns, shown.receiver());
@@ -137,7 +136,7 @@ pub(crate) fn write_arrows(
 ) -> Result<(), AllocError>
     requires few { length columns.now ≤ 2 ^ 40 }
     requires near { length shown.now ≤ 2 ^ 40 }
-    ensures { OnOk result (out.new.items ≡ out.old.items ++ elements_text (arrows (map end_of columns.now) 0 shown.now)) }
+    ensures { OnOk result (out.new.items ≡ out.old.items ++ elements_text (arrows columns.now 0 shown.now)) }
 {
     let mut number = 0;
     let mut rest = shown;

@@ -1,8 +1,6 @@
 //! The sequence chart of a run, in SVG.
 ghost use Rattle.std.specs.Prelude.{◌≡◌, ◌++◌, ◌≤◌, ◌^◌, IfOk, OnOk, length, map};
-ghost use Rattle.occ_board.specs.Entries.{end_of};
 ghost use Rattle.occ_chart.specs.Charts.{IsChart, above, foot, opening};
-ghost use Rattle.occ_net_tables.specs.Holding.{communication_of};
 ghost use Rattle.occ_shown.specs.Answers.{names_of};
 ghost use Rattle.occ_term.specs.Runs.{entries};
 
@@ -16,8 +14,8 @@ use crate::stub::Stub;
 use crate::xml::write_number;
 use occ_board::Shown;
 use occ_net_replay::Ending;
-use occ_net_trace::{End, Trace};
-use occ_term::Channel;
+use occ_net_trace::Trace;
+use occ_term::{Channel, End};
 use std::alloc::{AllocError, Global};
 
 /// The opening tag, and the ground.
@@ -50,7 +48,7 @@ fn above(
 ) -> Result<Vec<u8>, AllocError>
     requires few { length columns.now ≤ 2 ^ 40 }
     requires near { length shown.now ≤ 990 }
-    ensures { IfOk result (λ out. out.items ≡ above (map (λ v. v.items) names.now) (map end_of columns.now) shown.now before is_cut) }
+    ensures { IfOk result (λ out. out.items ≡ above (map (λ v. v.items) names.now) columns.now shown.now before is_cut) }
 {
     let bottom = row(shown.len());
     let width = 180 * columns.len().max(1) as u64;
@@ -82,7 +80,7 @@ pub fn chart(
     stubs: &[Stub],
     circle: &[u32],
 ) -> Result<Vec<u8>, AllocError>
-    ensures { IfOk result (λ bytes. IsChart (entries (names_of channels.now) 1 (map communication_of trace.now)) part ending (map (λ v. v.items) names.now) stubs.now circle.now bytes.items) }
+    ensures { IfOk result (λ bytes. IsChart (entries (names_of channels.now) 1 trace.now) part ending (map (λ v. v.items) names.now) stubs.now circle.now bytes.items) }
 {
     let all = trace.len();
     let list = shown_of(alloc, trace, channels, part)?;
@@ -128,7 +126,7 @@ fn write_below(
 ) -> Result<(), AllocError>
     requires few { length columns.now ≤ 2 ^ 40 }
     requires near { count ≤ 990 }
-    ensures { OnOk result (out.new.items ≡ out.old.items ++ foot (map (λ v. v.items) names.now) (map end_of columns.now) count after is_cut stubs.now circle.now ending) }
+    ensures { OnOk result (out.new.items ≡ out.old.items ++ foot (map (λ v. v.items) names.now) columns.now count after is_cut stubs.now circle.now ending) }
 {
     let bottom = row(count);
     write_feet(alloc, out, columns, bottom, stubs)?;

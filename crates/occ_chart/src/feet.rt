@@ -1,7 +1,6 @@
 //! Who stands at the foot of its column.
-ghost use Rattle.std.specs.Prelude.{◌≡◌, ◌++◌, ◌≤◌, ◌^◌, IfOk, OnOk, codes, length, map};
+ghost use Rattle.std.specs.Prelude.{◌≡◌, ◌++◌, ◌≤◌, ◌^◌, IfOk, OnOk, codes, length};
 ghost use Rattle.std.specs.Option.{option_map};
-ghost use Rattle.occ_board.specs.Entries.{end_of};
 ghost use Rattle.occ_chart.specs.Charts.{feet, foot_at};
 ghost use Rattle.occ_chart.specs.Labels.{foot_words, message_text};
 ghost use Rattle.occ_chart.specs.Shapes.{stub};
@@ -18,9 +17,8 @@ use crate::stub::Stub;
 use crate::xml::{Style, write_path};
 use occ_machine::Wait;
 use occ_net_replay::Ending;
-use occ_net_trace::End;
 use occ_shown::write_name;
-use occ_term::{Channel, Fault, Message};
+use occ_term::{Channel, End, Fault, Message};
 use std::alloc::{AllocError, Global};
 
 fn offer_words(
@@ -126,7 +124,7 @@ pub(crate) fn write_feet(
 ) -> Result<(), AllocError>
     requires few { length columns.now ≤ 2 ^ 40 }
     requires bottom { bottom ≤ 2 ^ 40 }
-    ensures { OnOk result (out.new.items ≡ out.old.items ++ elements_text (feet (map end_of columns.now) bottom stubs.now)) }
+    ensures { OnOk result (out.new.items ≡ out.old.items ++ elements_text (feet columns.now bottom stubs.now)) }
 {
     let mut rest = stubs;
     while let Some((first, others)) = rest.split_first() {

@@ -1,6 +1,5 @@
 //! The heads of columns, and the lines down from them.
 ghost use Rattle.std.specs.Prelude.{◌≡◌, ◌++◌, ◌≤◌, ◌^◌, IfOk, OnOk, codes, length, map};
-ghost use Rattle.occ_board.specs.Entries.{end_of};
 ghost use Rattle.occ_chart.specs.Charts.{column, heads, heads_again, lifelines};
 ghost use Rattle.occ_chart.specs.Labels.{end_words, name_in};
 ghost use Rattle.occ_chart.specs.Shapes.{down, label, path};
@@ -10,7 +9,7 @@ ghost use Rattle.occ_shown.specs.Answers.{end_text};
 
 use crate::labels::write_label;
 use crate::xml::{Style, write_path};
-use occ_net_trace::End;
+use occ_term::End;
 use std::alloc::{AllocError, Global};
 
 /// The place of a column in the picture.
@@ -27,7 +26,7 @@ pub(crate) fn column(place: usize) -> u64
 ///
 /// A refused growth.
 pub fn write_end(alloc: Global, out: &mut Vec<u8>, end: End) -> Result<(), AllocError>
-    ensures { OnOk result (out.new.items ≡ out.old.items ++ end_text (end_of end)) }
+    ensures { OnOk result (out.new.items ≡ out.old.items ++ end_text end) }
 {
     match end {
         End::Process(number) => {
@@ -42,7 +41,7 @@ pub fn write_end(alloc: Global, out: &mut Vec<u8>, end: End) -> Result<(), Alloc
 
 /// What stands behind the name of an end.
 fn end_words(alloc: Global, name: &[u8], end: End) -> Result<Vec<u8>, AllocError>
-    ensures { IfOk result (λ words. words.items ≡ end_words name.now (end_of end)) }
+    ensures { IfOk result (λ words. words.items ≡ end_words name.now end) }
 {
     let mut words = Vec::new(alloc);
     if !name.is_empty() {
@@ -54,7 +53,7 @@ fn end_words(alloc: Global, name: &[u8], end: End) -> Result<Vec<u8>, AllocError
 
 /// The name that an end has.
 fn name_of(names: &[Vec<u8>], end: End) -> &[u8]
-    ensures { result.now ≡ name_in (map (λ v. v.items) names.now) (end_of end) }
+    ensures { result.now ≡ name_in (map (λ v. v.items) names.now) end }
 {
     match end {
         End::Process(number) => match names.get(number as usize) {
@@ -75,7 +74,7 @@ fn write_head(
     y: u64,
     end: End,
 ) -> Result<(), AllocError>
-    ensures { OnOk result (out.new.items ≡ out.old.items ++ element_text (label Plain x y 24 (name_in (map (λ v. v.items) names.now) (end_of end)) (end_words (name_in (map (λ v. v.items) names.now) (end_of end)) (end_of end)))) }
+    ensures { OnOk result (out.new.items ≡ out.old.items ++ element_text (label Plain x y 24 (name_in (map (λ v. v.items) names.now) end) (end_words (name_in (map (λ v. v.items) names.now) end) end))) }
 {
     let name = name_of(names, end);
     let words = end_words(alloc, name, end)?;
@@ -91,7 +90,7 @@ pub(crate) fn write_heads(
     columns: &[End],
 ) -> Result<(), AllocError>
     requires { length columns.now ≤ 2 ^ 40 }
-    ensures { OnOk result (out.new.items ≡ out.old.items ++ elements_text (heads (map (λ v. v.items) names.now) y 0 (map end_of columns.now))) }
+    ensures { OnOk result (out.new.items ≡ out.old.items ++ elements_text (heads (map (λ v. v.items) names.now) y 0 columns.now)) }
 {
     for i in 0..columns.len() {
         write_head(alloc, out, names, column(i), y, columns[i])?;
@@ -110,7 +109,7 @@ pub(crate) fn write_heads_again(
 ) -> Result<(), AllocError>
     requires columns { length columns.now ≤ 2 ^ 40 }
     requires bottom { bottom ≤ 2 ^ 40 }
-    ensures { OnOk result (out.new.items ≡ out.old.items ++ elements_text (heads_again (map (λ v. v.items) names.now) bottom count (map end_of columns.now))) }
+    ensures { OnOk result (out.new.items ≡ out.old.items ++ elements_text (heads_again (map (λ v. v.items) names.now) bottom count columns.now)) }
 {
     if count > 40 {
         return write_heads(alloc, out, names, bottom + 46, columns);
@@ -142,7 +141,7 @@ pub(crate) fn write_lifelines(
     columns: &[End],
 ) -> Result<(), AllocError>
     requires { length columns.now ≤ 2 ^ 40 }
-    ensures { OnOk result (out.new.items ≡ out.old.items ++ elements_text (lifelines bottom 0 (map end_of columns.now))) }
+    ensures { OnOk result (out.new.items ≡ out.old.items ++ elements_text (lifelines bottom 0 columns.now)) }
 {
     let mut place = 0;
     let mut rest = columns;

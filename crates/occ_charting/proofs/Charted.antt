@@ -1,5 +1,5 @@
 -- The chart of a replay is that of a run.
-use Rattle.std.proofs.Common.{◌≡◌, ◌∙◌, ◌++◌, ◌+◌, ◌<◌, ◌^◌, ℕ, List, [], ◌∷◌, length, map, min, suc, ap, subst, sym, arith}
+use Rattle.std.proofs.Common.{◌≡◌, ◌∙◌, ◌++◌, ◌+◌, ◌<◌, ◌^◌, ℕ, List, [], ◌∷◌, length, min, suc, ap, subst, sym, arith}
 use Rattle.std.specs.Prelude.{get_or, slice_get}
 use Rattle.occ_chart.specs.declared.part.Part.{Part}
 use Rattle.occ_chart.specs.Charts.{IsChart}
@@ -10,12 +10,12 @@ use Rattle.occ_net_replay.specs.declared.choice.Choice.{Choice}
 use Rattle.occ_net_replay.specs.Following.{AreBytes}
 use Rattle.occ_net_replay.specs.Replay.{Net, Tasks}
 use Rattle.occ_net_replay.proofs.Law.{replays_are_runs}
-use Rattle.occ_net_tables.specs.Holding.{Holds, communication_of}
+use Rattle.occ_net_tables.specs.Holding.{Holds}
 use Rattle.occ_net_tables.specs.Outcomes.{IsRan}
 use Rattle.occ_net_tables.specs.declared.running.Keep.TheVariants.{Given}
 use Rattle.occ_net_tables.specs.declared.running.Ran.{Ran}
 use Rattle.occ_net_tables.proofs.Placing.{placed_replays}
-use Rattle.occ_net_trace.specs.declared.communication.Communication.{Communication}
+use Rattle.occ_term.specs.declared.communication.Communication.{Communication}
 use Rattle.occ_play.specs.declared.playing.Options.{Options}
 use Rattle.occ_play.specs.Playing.{IsTextsCode}
 use Rattle.occ_shown.specs.Answers.{names_of}
@@ -35,16 +35,16 @@ feet_step names tasks n before after e f =
 
 -- what is drawn of the tables that a run leaves is the chart of its replay
 pub replay_chart : (p : Program) (kb : List ℕ) (list : List Choice) (part : Part) (names : List (List ℕ)) (circle : List ℕ) (r : Ran) (h : IsRan p kb list Given r) → length r.kept.items < 2 ^ 64
-    → (trace : List Communication) → ((k : List ℕ) (net : Net) → Holds p k r.tables net → net.trace ≡ map communication_of trace)
+    → (trace : List Communication) → ((k : List ℕ) (net : Net) → Holds p k r.tables net → net.trace ≡ trace)
     → (ss : List Standing) (count processes : ℕ) → count ≡ min processes 4294967295 → processes ≡ length p.bodies
     → ((q : Program) (k : List ℕ) (net : Net) → Holds q k r.tables net → ss ≡ feet_of (names_of p.channels) net.tasks count)
-    → (bytes : List ℕ) → IsChart (entries (names_of p.channels) 1 (map communication_of trace)) part r.ending names ss circle bytes
+    → (bytes : List ℕ) → IsChart (entries (names_of p.channels) 1 trace) part r.ending names ss circle bytes
     → IsReplayChart p kb list part names circle bytes
 replay_chart p kb list part names circle r h small trace shows ss count processes least all stand bytes drawn =
     let net = h.run.net in
     let many : length net.tasks ≡ length p.bodies = ap length h.run.holds.tasks ∙ h.run.holds.sized.tasks_are in
     let told : count ≡ min (length net.tasks) 4294967295 = least ∙ ap (λ m. min m 4294967295) (all ∙ sym many) in
-    let same : map communication_of trace ≡ net.trace = sym (shows kb net h.run.holds) in
+    let same : trace ≡ net.trace = sym (shows kb net h.run.holds) in
     let who : ss ≡ feet (names_of p.channels) net.tasks = stand p kb net h.run.holds ∙ ap (feet_of (names_of p.channels) net.tasks) told in
     record {
       used = h.given;

@@ -1,6 +1,5 @@
 //! Communications and endings as lines of JSON.
 ghost use Rattle.std.specs.Prelude.{◌≡◌, ◌++◌, IfOk, OnOk};
-ghost use Rattle.occ_board.specs.Entries.{end_of};
 ghost use Rattle.occ_net_replay.specs.Endings.{ending_text};
 ghost use Rattle.occ_shown.specs.Answers.{end_text};
 ghost use Rattle.occ_json.specs.Json.{ending_json, ends_json, head_json, json_text, line_json, message_json, quoted, trace_json};
@@ -8,8 +7,7 @@ ghost use Rattle.occ_json.specs.Json.{ending_json, ends_json, head_json, json_te
 use crate::values::{write_number, write_parts, write_quoted, write_tag};
 use occ_board::Shown;
 use occ_net_replay::Ending;
-use occ_net_trace::End;
-use occ_term::Name;
+use occ_term::{End, Name};
 use std::alloc::{AllocError, Global};
 
 /// The name of a channel, between quotes.
@@ -23,7 +21,7 @@ fn write_name(alloc: Global, out: &mut Vec<u8>, name: &Name) -> Result<(), Alloc
 
 /// The letters of an end: `p` and a process's number, or what else it is.
 fn end_letters(alloc: Global, end: End) -> Result<String, AllocError>
-    ensures { IfOk result (λ text. text.bytes.items ≡ end_text (end_of end)) }
+    ensures { IfOk result (λ text. text.bytes.items ≡ end_text end) }
 {
     match end {
         End::Process(number) => format!(in alloc; "p{number}"),
@@ -35,7 +33,7 @@ fn end_letters(alloc: Global, end: End) -> Result<String, AllocError>
 
 /// An end, between quotes.
 fn write_end(alloc: Global, out: &mut Vec<u8>, end: End) -> Result<(), AllocError>
-    ensures { OnOk result (out.new.items ≡ out.old.items ++ quoted (end_text (end_of end))) }
+    ensures { OnOk result (out.new.items ≡ out.old.items ++ quoted (end_text end)) }
 {
     let letters = end_letters(alloc, end)?;
     write_quoted(out, letters.as_bytes())
@@ -62,7 +60,7 @@ fn write_ends(
     sender: End,
     receiver: End,
 ) -> Result<(), AllocError>
-    ensures { OnOk result (out.new.items ≡ out.old.items ++ ends_json (end_text (end_of sender)) (end_text (end_of receiver))) }
+    ensures { OnOk result (out.new.items ≡ out.old.items ++ ends_json (end_text sender) (end_text receiver)) }
 {
     out.extend_from_slice(b",\"sender\":")?;
     write_end(alloc, out, sender)?;

@@ -9,8 +9,7 @@ use Rattle.occ_net_replay.specs.declared.ending.Ending.TheVariants as ending
 use Rattle.occ_net_replay.specs.Following.{AllFit, AreBytes, Followed, or_limit}
 use Rattle.occ_net_replay.specs.Replay.{Net, ending_of}
 use Rattle.occ_net_replay.proofs.Law.{noted_never_end, replays_are_runs}
-use Rattle.occ_net_trace.specs.declared.communication.Communication.{Communication as Made}
-use Rattle.occ_net_tables.specs.Holding.{communication_of}
+use Rattle.occ_term.specs.declared.communication.Communication.{Communication as Made}
 use Rattle.occ_shown.specs.Answers.{AreByteMessages}
 use Rattle.occ_shown.proofs.ByteMessages.{outputs_are_bytes}
 use Rattle.occ_net.specs.Networks.{Past, IsState}
@@ -35,6 +34,6 @@ module _ (n : Past) (compiled : IsCompiled n.program) (bytes : AreBytes n.keyboa
   clean_is h =
       noted_never_end compiled.source n.program compiled.quantum n.keyboard n.choices net compiled.well_formed compiled.lawful compiled.compiled bytes few state (ended_if (ending_of n.program.errors net) h)
 
-  pub bytes_are : (chan : ℕ) → (chan ≡ 1) ⊎ (chan ≡ 2) → (xs : List Made) → net.trace ≡ map communication_of xs → AreByteMessages chan xs
+  pub bytes_are : (chan : ℕ) → (chan ≡ 1) ⊎ (chan ≡ 2) → (xs : List Made) → net.trace ≡ xs → AreByteMessages chan xs
   bytes_are chan (inl e) xs t = subst (λ c. AreByteMessages c xs) (sym e) (outputs_are_bytes compiled.source compiled.quantum n.keyboard net xs compiled.well_formed followed t).0
   bytes_are chan (inr e) xs t = subst (λ c. AreByteMessages c xs) (sym e) (outputs_are_bytes compiled.source compiled.quantum n.keyboard net xs compiled.well_formed followed t).1

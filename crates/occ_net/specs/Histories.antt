@@ -7,12 +7,11 @@ use Rattle.occ_term.specs.Runs.{messages_on}
 use Rattle.occ_machine.specs.Compiled.{Program}
 use Rattle.occ_net_replay.specs.Following.{AllFit}
 use Rattle.occ_net_replay.specs.Replay.{Net}
-use Rattle.occ_net_trace.specs.declared.communication.Communication.{Communication}
-use Rattle.occ_net_tables.specs.Holding.{communication_of}
+use Rattle.occ_term.specs.declared.communication.Communication.{Communication}
 
 -- those of these communications
 abbrev pub messages_in : List Communication → ℕ → List Message
-messages_in trace chan = messages_on chan (map communication_of trace)
+messages_in trace chan = messages_on chan trace
 
 -- the protocol of the program's channel with this number; none past its last channel
 abbrev pub protocol_on : Program → ℕ → Option Protocol

@@ -1,6 +1,6 @@
 -- What a network came to.
 -- Manual: nothing; this is (own).
-use Rattle.std.specs.Prelude.{List, None, [], map, ℕ, ◌≡◌}
+use Rattle.std.specs.Prelude.{List, None, [], ℕ, ◌≡◌}
 use Rattle.occ_term.specs.Runs.{bytes_of, messages_on}
 use Rattle.occ_machine.specs.Compiled.{Program}
 use Rattle.occ_net_replay.specs.declared.choice.Choice.{Choice}
@@ -8,7 +8,6 @@ use Rattle.occ_net_replay.specs.declared.ending.Ending.TheVariants as E
 use Rattle.occ_net_replay.specs.Following.{or_limit}
 use Rattle.occ_net_replay.specs.Replay.{Net, ending_of}
 use Rattle.occ_net_tables.specs.declared.running.Outcome.{Outcome as Alone}
-use Rattle.occ_net_tables.specs.Holding.{communication_of}
 use Rattle.occ_net_tables.specs.Outcomes.{Begins}
 use Rattle.occ_net_tables.specs.Places.{Placed}
 use Rattle.occ_net.specs.Histories.{IsHistory}
@@ -28,7 +27,7 @@ pub record Shows (net : Net) (o : Outcome) : Type 0 where
 pub record IsReplayOf (n : Past) (net : Net) (o : Alone) : Type 0 where
   pub choices : o.choices.items ≡ n.choices
   pub ending : o.ending ≡ or_limit (ending_of n.program.errors net)
-  pub trace : net.trace ≡ map communication_of o.trace
+  pub trace : net.trace ≡ o.trace
 
 -- A run of the listed choices: those that were used are the first ones, and the network has their places, whose replay is in the same
 -- state. Limit only where the whole list was used and no ending came.

@@ -1,9 +1,8 @@
 //! A network, and what is read from it.
-ghost use Rattle.std.specs.Prelude.{◌≡◌, ◌↔◌, ◌<◌, [], IfErr, IfNone, IfOk, IfSome, IsSome, None, Some, length, map, replicate, false, ℕ};
+ghost use Rattle.std.specs.Prelude.{◌≡◌, ◌↔◌, ◌<◌, [], IfErr, IfNone, IfOk, IfSome, IsSome, None, Some, length, replicate, false, ℕ};
 ghost use Rattle.occ_term.specs.Runs.{messages_on};
 ghost use Rattle.occ_net_replay.specs.Following.{or_limit};
 ghost use Rattle.occ_net_replay.specs.Replay.{Net, ending_of};
-ghost use Rattle.occ_net_tables.specs.Holding.{communication_of};
 ghost use Rattle.occ_net.specs.Networks.{IsNetwork, IsState, fresh, ready_in, ready_task};
 ghost use Rattle.occ_net.specs.Histories.{IsHistory};
 ghost use Rattle.occ_net.specs.Outcomes.{IsReplayOf};
@@ -150,7 +149,7 @@ impl Network {
 
     /// The communications that there were, in order.
     pub fn trace(&self) -> &Trace
-        ensures { (net : Net) → IsState self.now net → net.trace ≡ map communication_of result.now }
+        ensures { (net : Net) → IsState self.now net → net.trace ≡ result.now }
     {
         self.tables.trace()
     }

@@ -7,7 +7,9 @@ use Rattle.occ_term.specs.declared.fault.Fault.{Fault}
 use Rattle.occ_term.specs.declared.message.Message.{Message}
 use Rattle.occ_term.specs.Runs.{Ending, Ended, EndsBy, by_fault, by_end, by_standing, goes_on, Event, Run, no_turn, goes, MeetsAtMost, meets_none, meets_one, meets_skip, main_ended, still_by}
 use Rattle.occ_term.specs.Steps.{Do, Passing, Again, Offering, Awaiting, Choosing, Taking, Forking, Halted, Faulted, Done, Context, Left, left, Status, status, is_ended, Step, faults}
-use Rattle.occ_term.specs.System.{Process, process, Processes, no_processes, and_process, System, system, start, noted_in, branches_of, begun, fault_noted, AllEnded, alone, joined, TurnIn, turn_here, turn_below, TurnAmong, turn_first, turn_later, SystemTurn, system_turn, End, Communication, ChangeIn, change_here, change_below, ChangeAmong, change_first, change_later, Sends, process_sends, keyboard_sends, Receives, process_receives, screen_receives, error_receives, Meets, meets, PassesSkip, passes_skip}
+use Rattle.occ_term.specs.declared.communication.Communication.{Communication}
+use Rattle.occ_term.specs.declared.communication.End.{End}
+use Rattle.occ_term.specs.System.{Process, process, Processes, no_processes, and_process, System, system, start, noted_in, branches_of, begun, fault_noted, AllEnded, alone, joined, TurnIn, turn_here, turn_below, TurnAmong, turn_first, turn_later, SystemTurn, system_turn, ChangeIn, change_here, change_below, ChangeAmong, change_first, change_later, Sends, process_sends, keyboard_sends, Receives, process_receives, screen_receives, error_receives, Meets, meets, PassesSkip, passes_skip}
 use Rattle.occ_term.specs.Terms.{Term, Branches, no_branches, and_branch}
 use Rattle.occ_term.specs.Turns.{none, more, SingleTurn, single_turn, Turn, stops, passes}
 use Rattle.occ_term.specs.Values.{Store}

@@ -2,7 +2,8 @@
 use Rattle.std.proofs.Common.{◌≡◌, ◌∙◌, refl, sym, ap, subst, Bool, true, false, IsFalse, ℕ, zero, suc, inl, inr, List, [], ◌∷◌, Some, None, arith}
 use Rattle.std.specs.Prelude.{slice_set}
 use mathlib.Core.Bool.{true≢false}
-use Rattle.occ_term.specs.System.{End, communication}
+use Rattle.occ_term.specs.declared.communication.End.{End}
+use Rattle.occ_term.specs.System.{communication}
 use Rattle.occ_term.specs.declared.message.Message.{Message}
 use Rattle.occ_machine.specs.Machine.{Body}
 use Rattle.occ_machine.specs.declared.task.Arm.{Arm}

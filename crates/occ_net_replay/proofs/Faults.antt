@@ -7,7 +7,10 @@ use Rattle.occ_term.specs.Going.{IsGoing}
 use Rattle.occ_term.specs.Processes.{Numbered}
 use Rattle.occ_term.specs.Runs.{TakesPart}
 use Rattle.occ_term.specs.Steps.{Doing, Do, Passing, Again, Offering, Awaiting, Choosing, Taking, Forking, Halted, Faulted, Done, Left, status, status_of}
-use Rattle.occ_term.specs.System.{Processes, End, OfProcess, Communication, fault_noted}
+use Rattle.occ_term.specs.declared.communication.Communication.{Communication}
+use Rattle.occ_term.specs.declared.communication.End.{End}
+use Rattle.occ_term.specs.declared.communication.End.TheVariants.{Process as OfProcess}
+use Rattle.occ_term.specs.System.{Processes, fault_noted}
 use Rattle.occ_term.specs.TermTyping.{Declared}
 use Rattle.occ_term.specs.Uses.{Numbers}
 use Rattle.occ_machine.specs.Compiled.{Program}

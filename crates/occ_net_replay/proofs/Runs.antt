@@ -9,7 +9,9 @@ use Rattle.occ_term.specs.declared.message.Message.{Message}
 use Rattle.occ_term.specs.declared.primitive.Primitive.TheVariants.{Byte}
 use Rattle.occ_term.specs.declared.protocol.Protocol.{Protocol}
 use Rattle.occ_term.specs.declared.protocol.Protocol.TheVariants.{Simple}
-use Rattle.occ_term.specs.System.{System, SystemTurn, End, Communication, communication}
+use Rattle.occ_term.specs.declared.communication.Communication.{Communication}
+use Rattle.occ_term.specs.declared.communication.End.{End}
+use Rattle.occ_term.specs.System.{System, SystemTurn, communication}
 use Rattle.occ_term.specs.Runs.{Event, event, Run, no_turn, goes, communications, sent_on, messages_on, MeetsAtMost}
 use Rattle.occ_machine.specs.SameStop.{FitsProtocol}
 use Rattle.occ_net_replay.specs.Following.{AllFit, process_in}
@@ -50,7 +52,7 @@ one_more_at lists k m x y c = by (nat_eq k c)
 
 module _ (protocols : ℕ → Option Protocol) where
   abbrev pub FitsOn : Communication → Type 0
-  FitsOn (communication c x y m) = FitsProtocol (protocols c) m
+  FitsOn x = FitsProtocol (protocols x.chan) x.message
 
   abbrev pub FitAll : List Communication → Type 0
   FitAll [] = ⊤
@@ -62,10 +64,10 @@ module _ (protocols : ℕ → Option Protocol) where
 
   pub fit_on : (c : ℕ) (xs : List Communication) → FitAll xs → AllFit (protocols c) (messages_on c xs)
   fit_on c [] h = tt
-  fit_on c (communication k x y m ∷ xs) h = by (nat_eq k c) refl (fit_on c xs h.1)
+  fit_on c (x ∷ xs) h = by (nat_eq x.chan c) refl (fit_on c xs h.1)
     where
-      by : (b : Bool) → nat_eq k c ≡ b → AllFit (protocols c) (messages_on c xs) → AllFit (protocols c) ((if b then m ∷ [] else []) ++ messages_on c xs)
-      by true q r = (subst (λ i. FitsProtocol (protocols i) m) (eqb-true k c q) h.0, r)
+      by : (b : Bool) → nat_eq x.chan c ≡ b → AllFit (protocols c) (messages_on c xs) → AllFit (protocols c) ((if b then x.message ∷ [] else []) ++ messages_on c xs)
+      by true q r = (subst (λ i. FitsProtocol (protocols i) x.message) (eqb-true x.chan c q) h.0, r)
       by false q r = r
 
 pub byte_fits : (b : ℕ) → b < 256 → Fits (Simple [] Byte) (byte_message b)

@@ -5,7 +5,9 @@ use Rattle.std.proofs.lemmas.List.{append_assoc}
 use Rattle.occ_term.specs.declared.message.Message.{Message}
 use Rattle.occ_term.specs.Frames.{is_held}
 use Rattle.occ_term.specs.Runs.{TakesPart}
-use Rattle.occ_term.specs.System.{End, OfProcess, communication}
+use Rattle.occ_term.specs.declared.communication.End.{End}
+use Rattle.occ_term.specs.declared.communication.End.TheVariants.{Process as OfProcess}
+use Rattle.occ_term.specs.System.{communication}
 use Rattle.occ_term.specs.UnfoldedProgram.{UnfoldedProgram, IsWellFormed, Lawful, meaning}
 use Rattle.occ_machine.specs.SameStop.{joined_with}
 use Rattle.occ_machine.specs.Compiled.{Program, IsCompiledFrom}

@@ -11,7 +11,10 @@ use Rattle.occ_term.specs.declared.protocol.Protocol.TheVariants.{Simple}
 use Rattle.occ_term.specs.Frames.{is_held}
 use Rattle.occ_term.specs.Processes.{Numbered}
 use Rattle.occ_term.specs.Runs.{TakesPart, messages_on, MeetsAtMost, meets_none, meets_one, meets_skip}
-use Rattle.occ_term.specs.System.{Process, System, system, MayGo, SystemTurn, End, OfProcess, Keyboard, Screen, Error, Communication, communication, has_byte, offers as offers_of, process_sends, keyboard_sends, Receives, process_receives, screen_receives, error_receives, Meets, meets as meets_in, passes_skip}
+use Rattle.occ_term.specs.declared.communication.Communication.{Communication}
+use Rattle.occ_term.specs.declared.communication.End.{End}
+use Rattle.occ_term.specs.declared.communication.End.TheVariants.{Process as OfProcess, Keyboard, Screen, Error}
+use Rattle.occ_term.specs.System.{Process, System, system, MayGo, SystemTurn, communication, has_byte, offers as offers_of, process_sends, keyboard_sends, Receives, process_receives, screen_receives, error_receives, Meets, meets as meets_in, passes_skip}
 use Rattle.occ_term.specs.TermTyping.{Declared}
 use Rattle.occ_term.specs.Values.{Store}
 use Rattle.occ_machine.specs.SameStop.{FitsProtocol, joined_with}

@@ -8,7 +8,8 @@ use Rattle.occ_term.specs.declared.message.Message.{Message}
 use Rattle.occ_term.specs.Processes.{Numbered}
 use Rattle.occ_term.specs.Selecting.{Enabled, waits_for, ready_among, chosen}
 use Rattle.occ_term.specs.Steps.{Do, Offering, Awaiting, Choosing, Forking, Context, Left, left, Step, faults}
-use Rattle.occ_term.specs.System.{Process, process, Processes, no_processes, and_process, AllEnded, System, system, has_byte, offers as offers_of, ChangeIn, change_here, change_below, ChangeAmong, change_first, change_later, GivesOn, offer_ends, GetsOn, input_gets, arm_gets as arm_gets_on, PassesBy, arm_skips, process_sends, keyboard_sends, process_receives, screen_receives, error_receives, Communication, Meets, meets, PassesSkip, passes_skip}
+use Rattle.occ_term.specs.declared.communication.Communication.{Communication}
+use Rattle.occ_term.specs.System.{Process, process, Processes, no_processes, and_process, AllEnded, System, system, has_byte, offers as offers_of, ChangeIn, change_here, change_below, ChangeAmong, change_first, change_later, GivesOn, offer_ends, GetsOn, input_gets, arm_gets as arm_gets_on, PassesBy, arm_skips, process_sends, keyboard_sends, process_receives, screen_receives, error_receives, Meets, meets, PassesSkip, passes_skip}
 use Rattle.occ_term.specs.Runs.{Meeting, by_message, by_skip, CanStep, own_step, join_step, branch_step, AnyCanStep, first_can, later_can, private_step, meeting_step, skip_step, IsStill}
 use Rattle.occ_term.specs.TermTyping.{Declared}
 use Rattle.occ_term.specs.Terms.{Skip, Branches, no_branches, and_branch, Reception}

@@ -10,7 +10,9 @@ use Rattle.occ_term.specs.declared.message.Part.TheVariants.{One}
 use Rattle.occ_term.specs.declared.primitive.Primitive.TheVariants.{Int}
 use Rattle.occ_term.specs.Frames.{Variables}
 use Rattle.occ_term.specs.Runs.{messages_on}
-use Rattle.occ_term.specs.System.{OfProcess, Keyboard, Screen, Communication, communication}
+use Rattle.occ_term.specs.declared.communication.Communication.{Communication}
+use Rattle.occ_term.specs.declared.communication.End.TheVariants.{Process as OfProcess, Keyboard, Screen}
+use Rattle.occ_term.specs.System.{communication}
 use Rattle.occ_machine.specs.Machine.{Body}
 use Rattle.occ_machine.specs.declared.task.Arm.{Arm}
 use Rattle.occ_machine.specs.declared.task.Task.{Task}

@@ -14,7 +14,10 @@ use Rattle.occ_term.specs.declared.fault.Errors.TheVariants.{Halt, Stop}
 use Rattle.occ_term.specs.declared.fault.Fault.{Fault}
 use Rattle.occ_term.specs.Frames.{Variables, zero_frame, is_held, at, frame_with}
 use Rattle.occ_term.specs.Selecting.{chosen_of}
-use Rattle.occ_term.specs.System.{End, OfProcess, Keyboard, Screen, Error, Communication, communication, has_byte}
+use Rattle.occ_term.specs.declared.communication.Communication.{Communication}
+use Rattle.occ_term.specs.declared.communication.End.{End}
+use Rattle.occ_term.specs.declared.communication.End.TheVariants.{Process as OfProcess, Keyboard, Screen, Error}
+use Rattle.occ_term.specs.System.{communication, has_byte}
 use Rattle.occ_term.specs.Runs.{TakesPart}
 use Rattle.occ_machine.specs.SameStop.{joined_with}
 use Rattle.occ_machine.specs.Machine.{Body, Stopping}

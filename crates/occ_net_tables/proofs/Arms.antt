@@ -6,7 +6,8 @@ use Rattle.std.proofs.lemmas.Option.{get_or_from_slice_get}
 use mathlib.Core.Bool.{true≢false}
 use Rattle.occ_term.specs.declared.message.Message.{Message}
 use Rattle.occ_term.specs.Selecting.{is_ready_on, ready_among}
-use Rattle.occ_term.specs.System.{OfProcess, has_byte}
+use Rattle.occ_term.specs.declared.communication.End.TheVariants.{Process as OfProcess}
+use Rattle.occ_term.specs.System.{has_byte}
 use Rattle.occ_machine.specs.declared.task.Arm.{Arm}
 use Rattle.occ_machine.specs.declared.task.Task.{Task}
 use Rattle.occ_machine.specs.declared.task.Wait.{Wait}

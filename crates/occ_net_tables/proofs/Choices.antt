@@ -1,5 +1,5 @@
 -- A process that comes to a choice among alternatives.
-use Rattle.std.proofs.Common.{◌≡◌, ◌∙◌, refl, sym, ap, subst, Bool, true, false, IsTrue, ℕ, ◌⊎◌, inl, inr, List, Option, Some, None, length, map}
+use Rattle.std.proofs.Common.{◌≡◌, ◌∙◌, refl, sym, ap, subst, Bool, true, false, IsTrue, ℕ, ◌⊎◌, inl, inr, List, Option, Some, None, length}
 use Rattle.std.specs.Prelude.{slice_set, ◌||◌}
 use Rattle.std.proofs.lemmas.Bool.{eq-eqb}
 use mathlib.Core.Bool.{true≢false}
@@ -16,7 +16,7 @@ use Rattle.occ_net_replay.proofs.Quiet.{offers_is}
 use Rattle.occ_net_replay.proofs.Tables.{OffersOn, chosen_ready, offers_found, offers_there, or_else, set_back, set_other}
 use Rattle.occ_net_tables.specs.declared.tables.Tables.{Tables}
 use Rattle.occ_net_tables.specs.Choosing.{TakesBy, by_choice, is_entry, is_named, keyboard_at, offered_by}
-use Rattle.occ_net_tables.specs.Holding.{Sound, Sized, communication_of}
+use Rattle.occ_net_tables.specs.Holding.{Sound, Sized}
 use Rattle.occ_net_tables.specs.Settling.{Mid, SettlesTo, byte_on}
 use Rattle.occ_net_tables.specs.Keys.{entry_in}
 use Rattle.occ_net_tables.proofs.Arms.{byte_named, chosen_same}
@@ -94,7 +94,7 @@ module _ (p : Program) (kb : List ℕ) (old : Tables) (number place : ℕ) (afte
         holds = record {
           tasks = as_took p kb old number place after net mid a None ∙ sym tasks;
           bytes = bytes_same p kb old number place after net mid new used;
-          trace = mid.trace ∙ ap (map communication_of) (sym trace);
+          trace = mid.trace ∙ (sym trace);
           sound = kept_quiet p kb old number place after net mid new (W.Chooses pri arms) w refl (true_as tasks e1 e2 e3 e4 e5 e6 s);
           sized = record {
             tasks_are = ap length tasks ∙ set_length old.tasks.items number (Some (took_arm (made_ready after) a None)) ∙ mid.sized.tasks_are;

@@ -1,5 +1,5 @@
 -- A process is at its end, and another one may have waited for it.
-use Rattle.std.proofs.Common.{◌≡◌, ◌∙◌, refl, sym, ap, subst, true, false, IsTrue, ℕ, ◌+◌, ◌⊎◌, inl, inr, List, Some, None, length, map, drop}
+use Rattle.std.proofs.Common.{◌≡◌, ◌∙◌, refl, sym, ap, subst, true, false, IsTrue, ℕ, ◌+◌, ◌⊎◌, inl, inr, List, Some, None, length, drop}
 use Rattle.std.specs.Prelude.{slice_get, slice_set, remove}
 use Rattle.std.specs.Option.{option_map_or}
 use Rattle.std.proofs.lemmas.Option.{slice_get_within}
@@ -14,7 +14,7 @@ use Rattle.occ_net_replay.specs.Replay.{Net, Tasks, HasTask, AreDone, ended, fir
 use Rattle.occ_net_replay.proofs.Tables.{set_same, set_other, set_back, same_or_not, task_once}
 use Rattle.occ_net_replay.proofs.Settling.{done_among}
 use Rattle.occ_net_tables.specs.declared.tables.Tables.{Tables}
-use Rattle.occ_net_tables.specs.Holding.{AreTrue, AreCounted, IsOrdinary, Sized, communication_of, is_over, joins_on, undone}
+use Rattle.occ_net_tables.specs.Holding.{AreTrue, AreCounted, IsOrdinary, Sized, is_over, joins_on, undone}
 use Rattle.occ_net_tables.specs.Settling.{Mid, SettlesTo, Joining, JoinsBranches}
 use Rattle.occ_net_tables.specs.Keys.{entry_in}
 use Rattle.occ_net_tables.proofs.Between.{Nobody, as_after, entry_there, kept_quiet, no_entry, now, stays_as, there_old, waiting_net, waiting_old}
@@ -200,7 +200,7 @@ module _ (p : Program) (kb : List ℕ) (old : Tables) (number place : ℕ) (afte
         holds = record {
           tasks = sym (g.tasks ∙ ap (λ l. slice_set l m (Some (joined_with x.task (merged p.bodies l x.branches x.task.frame)))) same);
           bytes = mid.bytes ∙ ap (λ n. drop n kb) (sym (g.used ∙ used));
-          trace = mid.trace ∙ ap (map communication_of) (sym (g.trace ∙ trace));
+          trace = mid.trace ∙ (sym (g.trace ∙ trace));
           sound = kept_quiet p kb old number place after net mid new W.Done w refl (true_as g.tasks g.ready (ap (λ z. z.items) g.offering) (ap (λ z. z.items) g.awaiting) g.parents (ap (λ z. z.items) g.unfinished) g.fault s);
           sized = record {
             tasks_are = ap length g.tasks ∙ set_length between.tasks.items m (Some (joined_with x.task frame)) ∙ ap length tasks ∙ set_length old.tasks.items number (Some ended_task) ∙ mid.sized.tasks_are;

@@ -1,5 +1,5 @@
 -- A fork: the branches begin, and their process waits for their end.
-use Rattle.std.proofs.Common.{◌≡◌, ◌∙◌, refl, sym, ap, subst, Bool, true, false, IsTrue, ℕ, ◌<◌, ◌⊎◌, inl, inr, List, Option, Some, None, length, map, drop, arith}
+use Rattle.std.proofs.Common.{◌≡◌, ◌∙◌, refl, sym, ap, subst, Bool, true, false, IsTrue, ℕ, ◌<◌, ◌⊎◌, inl, inr, List, Option, Some, None, length, drop, arith}
 use Rattle.std.specs.Prelude.{slice_get, slice_set, remove}
 use Rattle.std.specs.Option.{option_map_or}
 use Rattle.std.proofs.lemmas.Option.{slice_get_within}
@@ -14,7 +14,7 @@ use Rattle.occ_net_replay.specs.Waiting.{listens_on}
 use Rattle.occ_net_replay.specs.Waiting.{ForksAlone}
 use Rattle.occ_net_replay.proofs.Tables.{set_other, same_or_not, task_once}
 use Rattle.occ_net_tables.specs.declared.tables.Tables.{Tables}
-use Rattle.occ_net_tables.specs.Holding.{AreCounted, IsOrdinary, IsTable, Stands, communication_of, is_over, joins_on, undone}
+use Rattle.occ_net_tables.specs.Holding.{AreCounted, IsOrdinary, IsTable, Stands, is_over, joins_on, undone}
 use Rattle.occ_net_tables.specs.Settling.{AllBegan, MayBegin, Mid, SettlesTo}
 use Rattle.occ_net_tables.specs.Keys.{set_all}
 use Rattle.occ_net_tables.proofs.Between.{kept_quiet, there_old, waiting_old}
@@ -251,7 +251,7 @@ module _ (p : Program) (kb : List ℕ) (old : Tables) (number place : ℕ) (afte
         holds = record {
           tasks = sym tasks;
           bytes = mid.bytes ∙ ap (λ n. drop n kb) (sym (n8 ∙ g.used ∙ b8));
-          trace = mid.trace ∙ ap (map communication_of) (sym (n9 ∙ g.trace ∙ b9));
+          trace = mid.trace ∙ (sym (n9 ∙ g.trace ∙ b9));
           sound = kept_quiet p kb old number place after net mid new (W.Joins ns) w refl (true_as tasks (ready ∙ ap (ready_from 0) tasks) (ap (λ z. z.items) offering) (ap (λ z. z.items) awaiting) refl refl fault
               (record {
                 ready_is = refl;

@@ -1,5 +1,5 @@
 -- A run in code is a replay.
-use Rattle.std.proofs.Common.{◌≡◌, ◌∙◌, ◌+◌, ◌<◌, ◌^◌, ◌≤◌, refl, sym, ap, subst, ℕ, suc, List, [], ◌∷◌, ◌++◌, Some, None, length, map, take, drop, inl, inr, arith, length-append, length-take}
+use Rattle.std.proofs.Common.{◌≡◌, ◌∙◌, ◌+◌, ◌<◌, ◌^◌, ◌≤◌, refl, sym, ap, subst, ℕ, suc, List, [], ◌∷◌, ◌++◌, Some, None, length, take, drop, inl, inr, arith, length-append, length-take}
 use Rattle.std.specs.Prelude.{slice_get}
 use Rattle.std.proofs.Math.Seq.{take-suc}
 use Rattle.std.proofs.lemmas.List.{take_all, take-append-drop}
@@ -10,13 +10,13 @@ use Rattle.occ_net_replay.specs.declared.choice.Choice.{Choice}
 use Rattle.occ_net_replay.specs.Following.{or_limit}
 use Rattle.occ_net_replay.specs.Replay.{Net, Replays, ending_of, first_net, first_noted, main_done, ready_from}
 use Rattle.occ_net_tables.specs.declared.tables.Tables.{Tables}
-use Rattle.occ_net_tables.specs.Holding.{Holds, communication_of}
+use Rattle.occ_net_tables.specs.Holding.{Holds}
 use Rattle.occ_net_tables.specs.Running.{HasRun}
 use Rattle.occ_net_tables.specs.Places.{all_kept, kept_by, none_placed, one_placed, placed_among}
 use Rattle.occ_net_tables.specs.declared.running.Keep.{Keep}
 use Rattle.occ_net_tables.specs.declared.running.Keep.TheVariants.{Given, Places}
 use Rattle.occ_net_tables.specs.declared.running.Ran.{Ran}
-use Rattle.occ_net_trace.specs.declared.communication.Communication.{Communication}
+use Rattle.occ_term.specs.declared.communication.Communication.{Communication}
 use Rattle.occ_net_tables.proofs.Placing.{placed_replays}
 use Rattle.occ_net_tables.proofs.Turned.{is_open}
 use Rattle.occ_net_tables.specs.Settling.{Standing, TurnsTo}
@@ -54,14 +54,14 @@ pub run_is : (p : Program) (kb : List ℕ) (list : List Choice) (keep : Keep) (g
 run_is p kb list keep given r h b e w = record { given = given; run = h; used = b; ending = e; whole = w }
 
 -- where what was given was kept
-pub outcome : (p : Program) (kb : List ℕ) (list : List Choice) (r : Ran) (trace : List Communication) (h : IsRan p kb list Given r) → ((k : List ℕ) (net : Net) → Holds p k r.tables net → net.trace ≡ map communication_of trace)
+pub outcome : (p : Program) (kb : List ℕ) (list : List Choice) (r : Ran) (trace : List Communication) (h : IsRan p kb list Given r) → ((k : List ℕ) (net : Net) → Holds p k r.tables net → net.trace ≡ trace)
     → (o : Outcome) → o.ending ≡ r.ending → o.choices ≡ r.kept → o.trace ≡ trace → IsOutcome p kb list o
 outcome p kb list r trace h shows o same_end same_choices same_trace =
     let used : h.given ≡ o.choices.items = sym h.run.kept_is ∙ ap (λ v. v.items) (sym same_choices) in
     record {
       net = h.run.net;
       replays = subst (λ cs. Replays p kb cs h.run.net) used (placed_replays p kb h.run.placed);
-      trace = shows kb h.run.net h.run.holds ∙ ap (map communication_of) (sym same_trace);
+      trace = shows kb h.run.net h.run.holds ∙ (sym same_trace);
       used = subst (λ cs. Begins cs list) used h.used;
       ending = same_end ∙ h.ending;
       whole = λ q. sym used ∙ h.whole q;

@@ -1,5 +1,5 @@
 -- The same contents with more room.
-use Rattle.std.proofs.Common.{◌≡◌, ◌∙◌, sym, ap, ℕ, zero, suc, List, [], ◌∷◌, Some, length, map, drop}
+use Rattle.std.proofs.Common.{◌≡◌, ◌∙◌, sym, ap, ℕ, zero, suc, List, [], ◌∷◌, Some, length, drop}
 use Rattle.std.specs.Prelude.{slice_get, slice_set}
 use Rattle.occ_term.specs.declared.fault.Fault.{Fault}
 use Rattle.occ_machine.specs.Compiled.{Program}
@@ -7,7 +7,7 @@ use Rattle.occ_machine.specs.declared.task.Task.{Task}
 use Rattle.occ_machine.specs.declared.task.Wait.{Wait}
 use Rattle.occ_net_replay.specs.Replay.{Net}
 use Rattle.occ_net_tables.specs.declared.tables.Tables.{Tables}
-use Rattle.occ_net_tables.specs.Holding.{Holds, Sized, Sound, communication_of}
+use Rattle.occ_net_tables.specs.Holding.{Holds, Sized, Sound}
 use Rattle.occ_net_tables.specs.Room.{AreSame}
 use Rattle.occ_net_tables.specs.Settling.{HasMid, Mid, Settles}
 use Rattle.occ_net_tables.proofs.OneChange.{set_twice, true_as}
@@ -31,7 +31,7 @@ module _ (old new : Tables) (s : AreSame old new) where
       record {
         tasks = h.tasks ∙ sym s.tasks;
         bytes = h.bytes ∙ ap (λ n. drop n kb) (sym s.used);
-        trace = h.trace ∙ ap (map communication_of) (sym s.trace);
+        trace = h.trace ∙ (sym s.trace);
         sound = sound_as net.noted h.sound;
         sized = sized_as p h.sized;
       }
@@ -47,7 +47,7 @@ module _ (old new : Tables) (s : AreSame old new) where
         untaken = mid.untaken;
         tasks = s.tasks ∙ mid.tasks;
         bytes = mid.bytes ∙ ap (λ n. drop n kb) (sym s.used);
-        trace = mid.trace ∙ ap (map communication_of) (sym s.trace);
+        trace = mid.trace ∙ (sym s.trace);
         sound = sound_as net.noted mid.sound;
         sized = sized_as p mid.sized;
         offers = mid.offers;

@@ -1,5 +1,5 @@
 -- The network before its first turn.
-use Rattle.std.proofs.Common.{◌≡◌, ◌∙◌, refl, sym, ap, subst, Bool, false, ℕ, zero, suc, ◌+◌, List, [], ◌∷◌, Some, None, length, map, drop, replicate}
+use Rattle.std.proofs.Common.{◌≡◌, ◌∙◌, refl, sym, ap, subst, Bool, false, ℕ, zero, suc, ◌+◌, List, [], ◌∷◌, Some, None, length, drop, replicate}
 use Rattle.std.specs.Prelude.{slice_get, slice_set}
 use Rattle.occ_term.specs.Frames.{zero_frame}
 use Rattle.occ_term.specs.Processes.{Numbered}
@@ -12,7 +12,7 @@ use Rattle.occ_machine.specs.declared.task.Wait.TheVariants as W
 use Rattle.occ_net_replay.specs.Replay.{HasTask, at_start, first_net, first_noted, first_task, none_begun, offers_on, ready_from}
 use Rattle.occ_net_replay.specs.Waiting.{listens_on}
 use Rattle.occ_net_tables.specs.declared.tables.Tables.{Tables}
-use Rattle.occ_net_tables.specs.Holding.{AreTrue, Holds, IsOrdinary, IsTable, communication_of, joins_on}
+use Rattle.occ_net_tables.specs.Holding.{AreTrue, Holds, IsOrdinary, IsTable, joins_on}
 use Rattle.occ_net_tables.proofs.OneChange.{not_both, set_length, true_as}
 
 first_there : (d : Declared) (n : ℕ) (bs : List Body) (q : Numbered) (ps : List Numbered) → AllDo d n bs (q ∷ ps) → slice_get bs 0 ≡ None → ⊥
@@ -81,7 +81,7 @@ starts p kb n b e t r o a ps u f k s =
     record {
       tasks = sym (t ∙ start_is p.bodies b e);
       bytes = ap (λ i. drop i kb) (sym k);
-      trace = ap (map communication_of) (sym s);
+      trace = (sym s);
       sound = true_as (t ∙ start_is p.bodies b e) r o a ps u f (start_true p.bodies b (length p.channels) e);
       sized = record {
         tasks_are = ap length t ∙ set_length (replicate (length p.bodies) None) 0 (Some (first_task 0 0 (zero_frame b.cells b.loops))) ∙ many_long (length p.bodies) None;

@@ -1,5 +1,5 @@
 -- The chosen process takes a turn.
-use Rattle.std.proofs.Common.{◌≡◌, ◌∙◌, refl, sym, ap, subst, Bool, true, false, IsTrue, ℕ, zero, suc, ◌+◌, ◌<◌, ◌≤◌, ◌^◌, ◌%◌, List, [], ◌∷◌, Option, Some, None, get_or, length, map, drop, arith}
+use Rattle.std.proofs.Common.{◌≡◌, ◌∙◌, refl, sym, ap, subst, Bool, true, false, IsTrue, ℕ, zero, suc, ◌+◌, ◌<◌, ◌≤◌, ◌^◌, ◌%◌, List, [], ◌∷◌, Option, Some, None, get_or, length, drop, arith}
 use Rattle.std.specs.Prelude.{slice_get, slice_set, ◌||◌}
 use Rattle.std.proofs.lemmas.Nat.{mod_below}
 use Rattle.std.proofs.lemmas.Option.{get_or_from_slice_get, slice_get_within}
@@ -27,7 +27,7 @@ use Rattle.occ_explore_laws.specs.Picks.{HasPicks}
 use Rattle.occ_net_tables.specs.declared.tables.Tables.{Tables}
 use Rattle.occ_net_tables.specs.Counting.{TurnsBy}
 use Rattle.occ_net_tables.specs.Endings.{GoesOn}
-use Rattle.occ_net_tables.specs.Holding.{AreTrue, Holds, IsOrdinary, communication_of, joins_on}
+use Rattle.occ_net_tables.specs.Holding.{AreTrue, Holds, IsOrdinary, joins_on}
 use Rattle.occ_net_tables.specs.Settling.{Mid, SettlesTo, Standing, TurnsTo}
 use Rattle.occ_net_tables.specs.Tasks.{Advanced, HasTurn}
 use Rattle.occ_net_tables.proofs.OneChange.{counts_kept, get_some, ordinary_again, set_length, table_kept, true_as}
@@ -231,7 +231,7 @@ module _ (p : Program) (kb : List ℕ) (n : Tables) (s : Standing p kb n) where
             untaken = λ arm is m q. turns_never_take compiled.source p compiled.quantum kb s.choices s.net number adv.after arm is m is_replay is_turn q;
             tasks = adv.is ∙ ap (λ l. slice_set l number (Some (made_ready adv.after))) (sym h.tasks);
             bytes = h.bytes ∙ ap (λ k. drop k kb) (sym e7);
-            trace = h.trace ∙ ap (map communication_of) (sym e8);
+            trace = h.trace ∙ (sym e8);
             sound = true_as adv.is (ap (λ z. z.items) e1) (ap (λ z. z.items) e2) (ap (λ z. z.items) e3) (ap (λ z. z.items) e4) (ap (λ z. z.items) e5) e6
                 (again_ready n.tasks.items n.ready.items n.offering.items n.awaiting.items n.parents.items n.unfinished.items n.fault h.sound number t (made_ready adv.after) there may refl);
             sized = record {

@@ -1,10 +1,9 @@
 -- The network of the code holds a state of the replay.
 -- Manual: nothing; this is (own).
-use Rattle.std.specs.Prelude.{Bool, IsTrue, List, Option, Some, [], drop, false, if◌then◌else◌, length, map, slice_get, ℕ, ⊤, ◌+◌, ◌∷◌, ◌≡◌}
+use Rattle.std.specs.Prelude.{Bool, IsTrue, List, Option, Some, [], drop, false, if◌then◌else◌, length, slice_get, ℕ, ⊤, ◌+◌, ◌∷◌, ◌≡◌}
 use Rattle.std.specs.Option.{option_map_or}
 use Rattle.occ_term.specs.declared.fault.Fault.{Fault}
 use Rattle.occ_term.specs.Frames.{is_held}
-use Rattle.occ_term.specs.System as S
 use Rattle.occ_machine.specs.SameStop.{IsRising}
 use Rattle.occ_machine.specs.Compiled.{Program}
 use Rattle.occ_machine.specs.declared.task.Task.{Task}
@@ -12,21 +11,7 @@ use Rattle.occ_machine.specs.declared.task.Wait.{Wait}
 use Rattle.occ_machine.specs.declared.task.Wait.TheVariants.{Ready, Took, Offers, Awaits, Chooses, Joins, Halted, Done, Faulted}
 use Rattle.occ_net_replay.specs.Replay.{Net, Tasks, HasTask, ended, first_noted, offers_on, ready_from}
 use Rattle.occ_net_replay.specs.Waiting.{listens_on}
-use Rattle.occ_net_trace.specs.declared.communication.End.{End}
-use Rattle.occ_net_trace.specs.declared.communication.End.TheVariants.{Process, Keyboard, Screen, Error}
-use Rattle.occ_net_trace.specs.declared.communication.Communication.{Communication}
 use Rattle.occ_net_tables.specs.declared.tables.Tables.{Tables}
-
--- ---- the trace
-
-abbrev pub end_of : End → S.End
-end_of (Process n) = S.OfProcess n
-end_of Keyboard = S.Keyboard
-end_of Screen = S.Screen
-end_of Error = S.Error
-
-abbrev pub communication_of : Communication → S.Communication
-communication_of x = S.communication x.chan (end_of x.sender) (end_of x.receiver) x.message
 
 -- ---- who waits for what
 
@@ -105,6 +90,6 @@ Sized p n = AreSized p n.tasks.items n.offering.items n.awaiting.items n.parents
 pub record Holds (p : Program) (keyboard : List ℕ) (n : Tables) (net : Net) : Type 0 where
   pub tasks : net.tasks ≡ n.tasks.items
   pub bytes : net.keyboard ≡ drop n.used keyboard
-  pub trace : net.trace ≡ map communication_of n.trace
+  pub trace : net.trace ≡ n.trace
   pub sound : Sound n net.noted
   pub sized : Sized p n

@@ -1,12 +1,11 @@
 -- What a run of a plan comes to.
 -- Manual: nothing; this is (own).
-use Rattle.std.specs.Prelude.{List, None, map, ℕ, ◌++◌, ◌≡◌}
+use Rattle.std.specs.Prelude.{List, None, ℕ, ◌++◌, ◌≡◌}
 use Rattle.occ_machine.specs.Compiled.{Program}
 use Rattle.occ_net_replay.specs.declared.choice.Choice.{Choice}
 use Rattle.occ_net_tables.specs.declared.running.Keep.{Keep}
 use Rattle.occ_net_tables.specs.declared.running.Outcome.{Outcome}
 use Rattle.occ_net_tables.specs.declared.running.Ran.{Ran}
-use Rattle.occ_net_tables.specs.Holding.{communication_of}
 use Rattle.occ_net_tables.specs.Running.{HasRun}
 use Rattle.occ_net_replay.specs.Replay.{Net, Replays, ending_of}
 use Rattle.occ_net_replay.specs.Following.{or_limit}
@@ -20,7 +19,7 @@ pub record Begins {X : Type 0} (front whole : List X) : Type 0 where
 pub record IsOutcome (p : Program) (keyboard : List ℕ) (list : List Choice) (o : Outcome) : Type 0 where
   pub net : Net
   pub replays : Replays p keyboard o.choices.items net
-  pub trace : net.trace ≡ map communication_of o.trace
+  pub trace : net.trace ≡ o.trace
   pub used : Begins o.choices.items list
   pub ending : o.ending ≡ or_limit (ending_of p.errors net)
   pub whole : ending_of p.errors net ≡ None → o.choices.items ≡ list

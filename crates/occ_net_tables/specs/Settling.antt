@@ -1,7 +1,7 @@
 -- What happens when a process has taken a turn.
 -- Manual: nothing; this is (own).
 use Rattle.std.specs.Vec.{with_item}
-use Rattle.std.specs.Prelude.{Bool, false, IsTrue, List, None, Option, Some, [], drop, if◌then◌else◌, length, map, nat_eq, slice_get, slice_set, ℕ, ℤ, ◌+◌, ◌<◌, ◌^◌, ◌++◌, ◌∷◌, ◌≡◌}
+use Rattle.std.specs.Prelude.{Bool, false, IsTrue, List, None, Option, Some, [], drop, if◌then◌else◌, length, nat_eq, slice_get, slice_set, ℕ, ℤ, ◌+◌, ◌<◌, ◌^◌, ◌++◌, ◌∷◌, ◌≡◌}
 use Rattle.occ_term.specs.declared.message.Message.{Message}
 use Rattle.occ_term.specs.Frames.{Variables, is_held}
 use Rattle.occ_machine.specs.SameStop.{IsRising, joined_with}
@@ -15,11 +15,11 @@ use Rattle.occ_net_replay.specs.declared.choice.Choice.{Choice}
 use Rattle.occ_net_replay.specs.Replay.{Net, Tasks, HasTask, OneTurn, Replays, Settled, branch_task, byte_message, ending_of, goes, made_ready, may_go, merged, ready_from, standing, took_arm, took_turn, with_branches}
 use Rattle.occ_net_replay.specs.Moments.{NoneReady}
 use Rattle.occ_net_replay.specs.Waiting.{OffersAlone, ListensAlone, ForksAlone, channels_at, listens_on}
-use Rattle.occ_net_trace.specs.declared.communication.End.{End}
-use Rattle.occ_net_trace.specs.declared.communication.End.TheVariants.{Process, Keyboard, Screen, Error}
-use Rattle.occ_net_trace.specs.declared.communication.Communication.{Communication}
+use Rattle.occ_term.specs.declared.communication.End.{End}
+use Rattle.occ_term.specs.declared.communication.End.TheVariants.{Process, Keyboard, Screen, Error}
+use Rattle.occ_term.specs.declared.communication.Communication.{Communication}
 use Rattle.occ_net_tables.specs.declared.tables.Tables.{Tables}
-use Rattle.occ_net_tables.specs.Holding.{Holds, IsOrdinary, Sized, Sound, communication_of}
+use Rattle.occ_net_tables.specs.Holding.{Holds, IsOrdinary, Sized, Sound}
 use Rattle.occ_net_tables.specs.Choosing.{TakesBy, offered_by}
 use Rattle.occ_net_tables.specs.Ready.{put_in}
 use Rattle.occ_net_tables.specs.Keys.{set_all}
@@ -78,7 +78,7 @@ pub record Mid (p : Program) (keyboard : List ℕ) (n : Tables) (number place : 
   pub untaken : (arm : ℕ) (indices : List ℤ) (m : Option Message) → after.wait ≡ Took arm indices m → ⊥
   pub tasks : n.tasks.items ≡ slice_set net.tasks number (Some (made_ready after))
   pub bytes : net.keyboard ≡ drop n.used keyboard
-  pub trace : net.trace ≡ map communication_of n.trace
+  pub trace : net.trace ≡ n.trace
   pub sound : Sound n net.noted
   pub sized : Sized p n
   pub offers : (c : ℕ) (m : Message) → after.wait ≡ Offers c m → OffersAlone p net.tasks c

@@ -17,8 +17,7 @@ use crate::ready::insert;
 use crate::tables::Tables;
 use crate::tasks::{set_wait, take_wait};
 use occ_machine::{Arm, Task, Wait};
-use occ_net_trace::End;
-use occ_term::{ERROR, Fault, KEYBOARD, Message, Part, Parts, Primitive, SCREEN};
+use occ_term::{ERROR, End, Fault, KEYBOARD, Message, Part, Parts, Primitive, SCREEN};
 use sqlite_items::Items;
 use std::alloc::{AllocError, Global};
 

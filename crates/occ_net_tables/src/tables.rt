@@ -1,9 +1,9 @@
 //! The network: its parts, its start and its ending.
-ghost use Rattle.std.specs.Prelude.{◌≡◌, IfOk, List, None, map, replicate, ℕ};
+ghost use Rattle.std.specs.Prelude.{◌≡◌, IfOk, List, None, replicate, ℕ};
 ghost use Rattle.occ_machine.specs.Compiled.{Program};
 ghost use Rattle.occ_net_replay.specs.Replay.{Net, ending_of, first_net, is_done, main_done, stopped_by};
 ghost use Rattle.occ_net_tables.specs.Endings.{ends_by};
-ghost use Rattle.occ_net_tables.specs.Holding.{Holds, communication_of};
+ghost use Rattle.occ_net_tables.specs.Holding.{Holds};
 
 use crate::entries::{empty, no_counts};
 use crate::tasks::put_task;
@@ -160,14 +160,14 @@ impl Tables {
 
     /// The communications that there were, in order.
     pub fn trace(&self) -> &Trace
-        ensures { (p : Program) (keyboard : List ℕ) (net : Net) → Holds p keyboard self.now net → net.trace ≡ map communication_of result.now }
+        ensures { (p : Program) (keyboard : List ℕ) (net : Net) → Holds p keyboard self.now net → net.trace ≡ result.now }
     {
         &self.trace
     }
 
     /// The same, where the network is no longer wanted.
     pub fn into_trace(self) -> Trace
-        ensures { (p : Program) (keyboard : List ℕ) (net : Net) → Holds p keyboard self net → net.trace ≡ map communication_of result }
+        ensures { (p : Program) (keyboard : List ℕ) (net : Net) → Holds p keyboard self net → net.trace ≡ result }
     {
         let Tables {
             tasks: _,

@@ -3,7 +3,7 @@ use Rattle.std.proofs.lemmas.List.{take_min}
 use Rattle.std.proofs.Common.{◌≡◌, ◌∙◌, ◌≤◌, ◌+◌, ℕ, zero, suc, min, arith, ℤ, List, [], ◌∷◌, ◌++◌, length, map, take, drop, refl, sym, ap, subst, append_assoc, append-nil, Result, Ok, Err, OnOk}
 use Rattle.occ_term.specs.declared.message.Part.{Part}
 use Rattle.occ_term.specs.declared.message.Part.TheVariants.{One, Many, Counted}
-use Rattle.occ_net_trace.specs.declared.communication.Communication.{Communication}
+use Rattle.occ_term.specs.declared.communication.Communication.{Communication}
 use Rattle.occ_net_trace.specs.declared.lists.Lists.{Lists}
 use Rattle.occ_net_trace.specs.declared.shapes.Head.{Head}
 use Rattle.occ_net_trace.specs.declared.shapes.Shape.{Shape}

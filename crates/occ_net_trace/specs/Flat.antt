@@ -4,7 +4,7 @@ use Rattle.std.specs.Prelude.{List, [], drop, length, pos, take, ℕ, ℤ, ◌++
 use Rattle.occ_term.specs.declared.message.Part.{Part}
 use Rattle.occ_term.specs.declared.message.Part.TheVariants.{One, Many, Counted}
 use Rattle.occ_term.specs.Messages.{message}
-use Rattle.occ_net_trace.specs.declared.communication.Communication.{Communication}
+use Rattle.occ_term.specs.declared.communication.Communication.{Communication}
 use Rattle.occ_net_trace.specs.declared.shapes.Head.{Head}
 use Rattle.occ_net_trace.specs.declared.shapes.Shape.{Shape}
 use Rattle.occ_net_trace.specs.declared.shapes.Shape.TheVariants as shape

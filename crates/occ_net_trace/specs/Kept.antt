@@ -1,7 +1,7 @@
 -- The communications that the lists of a trace keep.
 -- Manual: nothing; this is (own).
 use Rattle.std.specs.Prelude.{List, map, ◌≡◌}
-use Rattle.occ_net_trace.specs.declared.communication.Communication.{Communication}
+use Rattle.occ_term.specs.declared.communication.Communication.{Communication}
 use Rattle.occ_net_trace.specs.declared.lists.Lists.{Lists}
 use Rattle.occ_net_trace.specs.Flat.{communications_in, head_of, lengths_in, shapes_in, words_in}
 

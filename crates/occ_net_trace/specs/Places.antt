@@ -1,7 +1,7 @@
 -- How far a trace has come.
 -- Manual: nothing; this is (own).
 use Rattle.std.specs.Prelude.{List, length, ℕ}
-use Rattle.occ_net_trace.specs.declared.communication.Communication.{Communication}
+use Rattle.occ_term.specs.declared.communication.Communication.{Communication}
 use Rattle.occ_net_trace.specs.Flat.{lengths_in, shapes_in, words_in}
 
 -- how many communications there are, and of their items how many shapes, lengths and values

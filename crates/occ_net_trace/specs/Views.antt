@@ -1,17 +1,9 @@
 -- What is read from a trace, and what is put into it.
 -- Manual: nothing; this is (own).
-use Rattle.std.specs.Prelude.{ℕ}
-use Rattle.occ_term.specs.declared.message.Message.{Message}
 use Rattle.occ_term.specs.declared.message.Part.{Part}
 use Rattle.occ_term.specs.declared.message.Part.TheVariants as part
-use Rattle.occ_net_trace.specs.declared.communication.Communication.{Communication}
-use Rattle.occ_net_trace.specs.declared.communication.End.{End}
 use Rattle.occ_net_trace.specs.declared.messages.PartView.{PartView}
 use Rattle.occ_net_trace.specs.declared.messages.PartView.TheVariants.{One, Many, Counted}
-
--- a message on a channel, with who output it and who input it
-abbrev pub communication : ℕ → End → End → Message → Communication
-communication c x y m = record { chan = c; sender = x; receiver = y; message = m }
 
 -- the item of which this is a view
 abbrev pub part_of : PartView → Part

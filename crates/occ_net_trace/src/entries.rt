@@ -3,10 +3,10 @@ ghost use Rattle.std.specs.Prelude.{◌≡◌, ◌↔◌, ◌<◌, ◌^◌, [], 
 ghost use Rattle.std.specs.Iterator.{YieldsFirst, item_count};
 ghost use Rattle.occ_net_trace.specs.Flat.{communications_in};
 
-use crate::communication::{Communication, End};
 use crate::messages::MessageView;
 use crate::pieces::Pieces;
 use crate::shapes::Head;
+use occ_term::{Communication, End};
 use std::alloc::{AllocError, Global};
 use std::marker::Model;
 
@@ -18,7 +18,7 @@ pub struct Entry<'a> {
 }
 
 impl<'a> Model for Entry<'a> {
-    ghost use Rattle.occ_net_trace.specs.declared.communication.Communication.{Communication};
+    ghost use Rattle.occ_term.specs.declared.communication.Communication.{Communication};
     ghost use Rattle.occ_net_trace.specs.Flat.{made, items_in};
 
     ghost Value = { Communication };
@@ -35,7 +35,7 @@ pub struct Entries<'a> {
 
 impl<'a> Model for Entries<'a> {
     ghost use Rattle.std.specs.Prelude.{List};
-    ghost use Rattle.occ_net_trace.specs.declared.communication.Communication.{Communication};
+    ghost use Rattle.occ_term.specs.declared.communication.Communication.{Communication};
     ghost use Rattle.occ_net_trace.specs.Flat.{communications_in};
 
     ghost Value = { List Communication };

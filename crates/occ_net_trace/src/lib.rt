@@ -2,7 +2,6 @@
 //! keeps them in order, and its [`Entries`] give each back as it was put in.
 #![tactic(auto)]
 
-pub mod communication;
 pub mod entries;
 mod lists;
 pub mod messages;
@@ -11,7 +10,6 @@ mod pieces;
 mod shapes;
 pub mod trace;
 
-pub use communication::{Communication, End};
 pub use entries::{Entries, Entry};
 pub use messages::{MessageView, PartView, PartViews};
 pub use news::{Mark, News};

@@ -38,7 +38,7 @@ impl Drop for News {
 
 impl Model for News {
     ghost use Rattle.std.specs.Prelude.{List};
-    ghost use Rattle.occ_net_trace.specs.declared.communication.Communication.{Communication};
+    ghost use Rattle.occ_term.specs.declared.communication.Communication.{Communication};
     ghost use Rattle.occ_net_trace.specs.Kept.{kept_in};
 
     ghost Value = { List Communication };

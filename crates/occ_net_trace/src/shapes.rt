@@ -1,7 +1,6 @@
 //! What is kept of a communication beside its values.
 
-use crate::communication::End;
-use occ_term::Primitive;
+use occ_term::{End, Primitive};
 
 /// How an item of a message is kept.
 #[derive(Clone, Copy, Debug)]

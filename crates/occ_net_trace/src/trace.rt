@@ -1,16 +1,15 @@
 //! The trace of a run.
 ghost use Rattle.std.specs.Prelude.{◌≡◌, ◌↔◌, ◌<◌, ◌^◌, ◌++◌, ◌∷◌, [], IfOk, IsTrue, List, OnErr, OnOk, length};
-ghost use Rattle.occ_net_trace.specs.declared.communication.Communication.{Communication};
+ghost use Rattle.occ_term.specs.declared.communication.Communication.{Communication};
+ghost use Rattle.occ_term.specs.System.{communication};
 ghost use Rattle.occ_net_trace.specs.Places.{place_behind};
-ghost use Rattle.occ_net_trace.specs.Views.{communication};
 
-use crate::communication::End;
 use crate::entries::Entries;
 use crate::lists::Lists;
 use crate::news::{Mark, News};
 use crate::pieces::Pieces;
 use crate::shapes::Head;
-use occ_term::Message;
+use occ_term::{End, Message};
 use std::alloc::{AllocError, Global};
 use std::marker::Model;
 
@@ -27,7 +26,7 @@ impl Drop for Trace {
 
 impl Model for Trace {
     ghost use Rattle.std.specs.Prelude.{List};
-    ghost use Rattle.occ_net_trace.specs.declared.communication.Communication.{Communication};
+    ghost use Rattle.occ_term.specs.declared.communication.Communication.{Communication};
     ghost use Rattle.occ_net_trace.specs.Kept.{IsKept, kept_in};
 
     ghost Value = { List Communication };

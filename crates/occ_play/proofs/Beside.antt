@@ -1,5 +1,5 @@
 -- The answer of a run by workers, and what its board shows.
-use Rattle.std.proofs.Common.{◌≡◌, ◌∙◌, ◌<◌, ◌≤◌, ◌⊎◌, inl, inr, ℕ, zero, suc, List, [], ◌++◌, Bool, true, false, Option, length, map, refl, sym, ap, subst, arith}
+use Rattle.std.proofs.Common.{◌≡◌, ◌∙◌, ◌<◌, ◌≤◌, ◌⊎◌, inl, inr, ℕ, zero, suc, List, [], ◌++◌, Bool, true, false, Option, length, refl, sym, ap, subst, arith}
 use Rattle.std.specs.Prelude.{nat_le}
 use Rattle.std.proofs.lemmas.Bool.Decides.{nat_tests}
 use Rattle.occ_term.specs.Runs.{Entry, entries, shown, shown_by}
@@ -8,7 +8,6 @@ use Rattle.occ_choices.specs.Crews.{IsCrew, most_workers}
 use Rattle.occ_machine.specs.Compiled.{Program}
 use Rattle.occ_net_replay.specs.Replay.{Net, ending_of}
 use Rattle.occ_net_tables.specs.declared.running.Outcome.{Outcome}
-use Rattle.occ_net_tables.specs.Holding.{communication_of}
 use Rattle.occ_net_tables.specs.Outcomes.{IsOutcome}
 use Rattle.occ_net.specs.Networks.{IsState, Past}
 use Rattle.occ_net.specs.Outcomes.{IsReplayOf}
@@ -30,7 +29,7 @@ use Rattle.occ_play.proofs.Working.{workers_refuse}
 pub within_by : (options : Options) (source keyboard : List ℕ) (limit : ℕ) (trace : Bool) (p : Program) (n : Past) (o : Outcome) (played : Played) (bytes : List ℕ)
     → (g : IsGathered p keyboard limit n) → IsReplayOf n g.net o
     → Tells options source keyboard trace p o played bytes
-    → (w : IsAnswerWithin options source keyboard limit trace played bytes) × (shown_by (names_of p.channels) (map communication_of o.trace) ≡ shown (names_of w.answer.program.channels) w.answer.events)
+    → (w : IsAnswerWithin options source keyboard limit trace played bytes) × (shown_by (names_of p.channels) o.trace ≡ shown (names_of w.answer.program.channels) w.answer.events)
 within_by options source keyboard limit trace p n o played bytes g r t =
     let same : played.choices.items ≡ o.choices.items = ap (λ v. v.items) t.choices in
     let used : played.choices.items ≡ n.choices = same ∙ r.choices in

@@ -1,5 +1,5 @@
 -- The answer of an outcome is shown by a run of the source.
-use Rattle.std.proofs.Common.{◌≡◌, ◌∙◌, ◌<◌, ◌^◌, ℕ, suc, List, [], ◌∷◌, Option, Some, None, Bool, true, false, length, map, refl, sym, ap, subst, append-nil}
+use Rattle.std.proofs.Common.{◌≡◌, ◌∙◌, ◌<◌, ◌^◌, ℕ, suc, List, [], ◌∷◌, Option, Some, None, Bool, true, false, length, refl, sym, ap, subst, append-nil}
 use Rattle.std.specs.Prelude.{get_or}
 use Rattle.occ_term.specs.declared.names.Channel.{Channel}
 use Rattle.occ_usage.specs.declared.checked.UsageFault.{UsageFault}
@@ -22,7 +22,6 @@ use Rattle.occ_play.specs.declared.playing.Played.{Played}
 use Rattle.occ_net_tables.specs.declared.running.Outcome.{Outcome}
 use Rattle.occ_shown.specs.Answers.{AreByteMessages, answer_text, names_of}
 use Rattle.occ_shown.proofs.ByteMessages as byte_messages
-use Rattle.occ_net_tables.specs.Holding.{communication_of}
 use Rattle.occ_net_replay.specs.Following.{AllFit, AreBytes, Followed, ending_as, or_limit}
 use Rattle.occ_net_tables.specs.Outcomes.{Begins, IsOutcome}
 use Rattle.occ_play.specs.declared.playing.Options.{Options}
@@ -132,15 +131,15 @@ shown_by_run options keyboard list u p o well lawful from mode keys out small =
 pub headline : (options : Options) (source keyboard : List ℕ) (list : List Choice) (trace : Bool) (p : Program) (channels : List Channel) (o : Outcome) (played : Played) (bytes : List ℕ)
     → IsTextsCode options source p → AreBytes keyboard → channels ≡ p.channels → IsOutcome p keyboard list o → length o.choices.items < 2 ^ 64
     → played.ending ≡ o.ending → played.choices ≡ o.choices
-    → bytes ≡ answer_text (shown_by (names_of channels) (map communication_of o.trace)) o.ending trace
-    → (a : IsAnswer options source keyboard list trace played bytes) × (shown_by (names_of channels) (map communication_of o.trace) ≡ shown (names_of a.program.channels) a.events)
+    → bytes ≡ answer_text (shown_by (names_of channels) o.trace) o.ending trace
+    → (a : IsAnswer options source keyboard list trace played bytes) × (shown_by (names_of channels) o.trace ≡ shown (names_of a.program.channels) a.events)
 headline options source keyboard list trace p channels o played bytes code keys chan out small same_end same_choices is =
     let u = code.program in
     let s = shown_by_run options keyboard list u p o code.unfolds.well_formed code.lawful code.from code.errors keys out small in
     let f = s.run in
     let ends : or_limit (ending_of options.errors out.net) ≡ played.ending = s.ends ∙ sym same_end in
     let choices : o.choices.items ≡ played.choices.items = ap (λ v. v.items) (sym same_choices) in
-    let shows : map communication_of o.trace ≡ communications f.events = sym out.trace ∙ sym f.communicates in
+    let shows : o.trace ≡ communications f.events = sym out.trace ∙ sym f.communicates in
     let channels_are : channels ≡ u.channels = chan ∙ code.from.does.channels in (
       record {
         quantum = code.quantum;
@@ -153,7 +152,7 @@ headline options source keyboard list trace p channels o played bytes code keys 
         ends = subst (λ e. EndsBy options.errors f.system (ending_as e)) ends f.ends;
         clean = λ h. s.clean (sym same_end ∙ h);
         is =
-            is ∙ ap (λ cs. answer_text (shown_by (names_of cs) (map communication_of o.trace)) o.ending trace) channels_are
+            is ∙ ap (λ cs. answer_text (shown_by (names_of cs) o.trace) o.ending trace) channels_are
             ∙ ap (λ xs. answer_text (shown_by (names_of u.channels) xs) o.ending trace) shows
             ∙ ap (λ e. answer_text (shown (names_of u.channels) f.events) e trace) (sym same_end);
         used = subst (λ cs. Begins cs list) choices out.used;
@@ -172,7 +171,7 @@ headline options source keyboard list trace p channels o played bytes code keys 
         input = λ c. f.input c ∙ ap (messages_on c) (sym f.communicates);
         fits = λ c. subst (λ xs. AllFit ((declared u).protocols c) (messages_on c xs)) (sym f.communicates) (f.fits c);
       },
-      ap (λ cs. shown_by (names_of cs) (map communication_of o.trace)) channels_are ∙ ap (λ xs. shown_by (names_of u.channels) xs) shows,
+      ap (λ cs. shown_by (names_of cs) o.trace) channels_are ∙ ap (λ xs. shown_by (names_of u.channels) xs) shows,
     )
 
 -- ---- refusals

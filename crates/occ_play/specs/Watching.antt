@@ -1,12 +1,11 @@
 -- What `play_watched` promises: the answer of `play_workers`, and that the board has the trace of the very run that shows it.
 -- Manual: nothing; this is (own).
-use Rattle.std.specs.Prelude.{Bool, List, [], map, true, ℕ, ◌++◌, ◌≡◌}
+use Rattle.std.specs.Prelude.{Bool, List, [], true, ℕ, ◌++◌, ◌≡◌}
 use Rattle.occ_term.specs.Runs.{Entry, shown, shown_by}
 use Rattle.occ_board.specs.Traces.{Publishing, publishing}
 use Rattle.occ_machine.specs.Compiled.{Program}
 use Rattle.occ_net_replay.specs.declared.choice.Choice.{Choice}
 use Rattle.occ_net_tables.specs.declared.running.Outcome.{Outcome}
-use Rattle.occ_net_tables.specs.Holding.{communication_of}
 use Rattle.occ_net_tables.specs.Outcomes.{IsOutcome}
 use Rattle.occ_shown.specs.Answers.{names_of}
 use Rattle.occ_play.specs.declared.playing.Options.{Options}
@@ -26,7 +25,7 @@ pub record IsWatched (options : Options) (source keyboard : List ℕ) (limit : �
 abbrev pub AnswersWith : Options → (source keyboard : List ℕ) → List Choice → Bool → Program → Outcome → Played → List ℕ → Type 0
 AnswersWith options source keyboard list trace p o played bytes =
     (a : IsAnswer options source keyboard list trace played bytes)
-    × (shown_by (names_of p.channels) (map communication_of o.trace) ≡ shown (names_of a.program.channels) a.events)
+    × (shown_by (names_of p.channels) o.trace ≡ shown (names_of a.program.channels) a.events)
 
 -- the same for every list of which the outcome is one, with the outcome's choices and ending
 pub record Tells (options : Options) (source keyboard : List ℕ) (trace : Bool) (p : Program) (o : Outcome) (played : Played) (bytes : List ℕ) : Type 0 where

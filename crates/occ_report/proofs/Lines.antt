@@ -1,16 +1,15 @@
 -- The lines of processes, one after the other.
 use Rattle.std.proofs.Common.{◌≡◌, ◌∙◌, ◌++◌, ◌+◌, ℕ, List, [], length, map, suc, ap, sym, subst, append_assoc, arith}
-use Rattle.std.proofs.lemmas.List.{length-map}
 use Rattle.std.specs.Prelude.{slice_get, min}
 use Rattle.occ_machine.specs.Compiled.{Program}
 use Rattle.occ_net_replay.specs.declared.choice.Choice.{Choice}
 use Rattle.occ_net_replay.specs.Replay.{Net}
-use Rattle.occ_net_tables.specs.Holding.{Holds, communication_of}
+use Rattle.occ_net_tables.specs.Holding.{Holds}
 use Rattle.occ_net_tables.specs.Outcomes.{IsRan}
 use Rattle.occ_net_tables.specs.declared.running.Keep.TheVariants.{Given}
 use Rattle.occ_net_tables.specs.declared.running.Ran.{Ran}
 use Rattle.occ_net_tables.proofs.Placing.{placed_replays}
-use Rattle.occ_net_trace.specs.declared.communication.Communication.{Communication}
+use Rattle.occ_term.specs.declared.communication.Communication.{Communication}
 use Rattle.occ_shown.specs.Answers.{names_of}
 use Rattle.occ_term.specs.Runs.{Names}
 use Rattle.occ_term.specs.Terms.{Term}
@@ -32,7 +31,7 @@ lines_step names readers writers known tasks n start before after e f =
 
 -- what is written of the tables that a run leaves is its report
 pub report_is : (t : Term) (p : Program) (kb : List ℕ) (list : List Choice) (known : List Known) (r : Ran) (h : IsRan p kb list Given r)
-    (trace : List Communication) (n : ℕ) → ((k : List ℕ) (net : Net) → Holds p k r.tables net → net.trace ≡ map communication_of trace) → n ≡ length trace
+    (trace : List Communication) (n : ℕ) → ((k : List ℕ) (net : Net) → Holds p k r.tables net → net.trace ≡ trace) → n ≡ length trace
     → (start head bytes : List ℕ) (processes count : ℕ) → start ≡ [] → head ≡ start ++ head_text n r.ending → count ≡ min processes 4294967295
     → (ends : Ends) → ((net : Net) → Holds p kb r.tables net → AreEnds t net.tasks (length p.channels) ends)
     → (circle : List ℕ) → ((net : Net) → Holds p kb r.tables net → IsCircle (next_noted ends net.tasks) (min count 4294967294) circle)
@@ -42,7 +41,7 @@ report_is t p kb list known r h trace n shows counted start head bytes processes
     let begins : head ≡ head_text n r.ending = rw none at starts in
     let net = h.run.net in
     let many : length net.tasks ≡ length p.bodies = ap length h.run.holds.tasks ∙ h.run.holds.sized.tasks_are in
-    let made : n ≡ length net.trace = counted ∙ sym (ap length (shows kb net h.run.holds) ∙ length-map trace communication_of) in
+    let made : n ≡ length net.trace = counted ∙ sym (ap length (shows kb net h.run.holds)) in
     let told : count ≡ told_of net.tasks = least ∙ ap (λ m. min m 4294967295) (all ∙ sym many) in
     let below : min count 4294967294 ≡ min (length net.tasks) 4294967294 = omega (arith, told) in
     let text = lines_of (names_of p.channels) ends.readers.items ends.writers.items known net.tasks count in

@@ -15,8 +15,7 @@ use Rattle.occ_term.specs.UnfoldedProgram.{UnfoldedProgram, IsWellFormed, declar
 use Rattle.occ_machine.specs.SameStop.{FitsProtocol}
 use Rattle.occ_net_replay.specs.Following.{AllFit, Followed}
 use Rattle.occ_net_replay.specs.Replay.{Net}
-use Rattle.occ_net_trace.specs.declared.communication.Communication.{Communication as Made}
-use Rattle.occ_net_tables.specs.Holding.{communication_of}
+use Rattle.occ_term.specs.declared.communication.Communication.{Communication as Made}
 use Rattle.occ_shown.specs.Answers.{AreByteMessages, IsByteMessage}
 
 -- a message of the protocol of one byte
@@ -39,11 +38,11 @@ byte_message_of m h =
     let x = one_byte_of m.tag m.items h in
     record { value = x.value; is = ap (λ t. message t m.items) x.untagged ∙ ap (message None) x.one; typed = x.typed }
 
-bytes_on : (protocols : ℕ → Option Protocol) (c : ℕ) → protocols c ≡ Some (Simple [] Byte) → (xs : List Made) → AllFit (protocols c) (messages_on c (map communication_of xs)) → AreByteMessages c xs
+bytes_on : (protocols : ℕ → Option Protocol) (c : ℕ) → protocols c ≡ Some (Simple [] Byte) → (xs : List Made) → AllFit (protocols c) (messages_on c xs) → AreByteMessages c xs
 bytes_on protocols c e [] h = tt
 bytes_on protocols c e (x ∷ xs) h = by (λ f. bytes_on protocols c e xs f) (nat_eq x.chan c) refl h
   where
-    by : (AllFit (protocols c) (messages_on c (map communication_of xs)) → AreByteMessages c xs) → (b : Bool) → nat_eq x.chan c ≡ b → AllFit (protocols c) ((if b then x.message ∷ [] else []) ++ messages_on c (map communication_of xs)) → AreByteMessages c (x ∷ xs)
+    by : (AllFit (protocols c) (messages_on c xs) → AreByteMessages c xs) → (b : Bool) → nat_eq x.chan c ≡ b → AllFit (protocols c) ((if b then x.message ∷ [] else []) ++ messages_on c xs) → AreByteMessages c (x ∷ xs)
     by others true q f = ((λ s. byte_message_of x.message (subst (λ o. FitsProtocol o x.message) e f.0)), others f.1)
     by others false q f = ((λ s. let r : true ≡ false = sym (eq-eqb x.chan c s) ∙ q in absurd cc), others f)
 
@@ -51,8 +50,8 @@ first_protocols : (u : UnfoldedProgram) → IsWellFormed u → ((declared u).pro
 first_protocols u w = (ap (λ cs. slice_get (map (λ y. y.protocol) cs) 1) w.begins, ap (λ cs. slice_get (map (λ y. y.protocol) cs) 2) w.begins)
 
 -- where a run follows a replay whose communications these are
-pub outputs_are_bytes : (u : UnfoldedProgram) (quantum : ℕ) (keyboard : List ℕ) {errors : Errors} (net : Net) (xs : List Made) → IsWellFormed u → Followed u keyboard quantum errors net → net.trace ≡ map communication_of xs → AreByteMessages 1 xs × AreByteMessages 2 xs
+pub outputs_are_bytes : (u : UnfoldedProgram) (quantum : ℕ) (keyboard : List ℕ) {errors : Errors} (net : Net) (xs : List Made) → IsWellFormed u → Followed u keyboard quantum errors net → net.trace ≡ xs → AreByteMessages 1 xs × AreByteMessages 2 xs
 outputs_are_bytes u quantum keyboard net xs w f trace =
     let first = first_protocols u w in
-    let fits : (c : ℕ) → AllFit ((declared u).protocols c) (messages_on c (map communication_of xs)) = λ c. subst (λ ms. AllFit ((declared u).protocols c) (messages_on c ms)) trace (f.fits c) in
+    let fits : (c : ℕ) → AllFit ((declared u).protocols c) (messages_on c xs) = λ c. subst (λ ms. AllFit ((declared u).protocols c) (messages_on c ms)) trace (f.fits c) in
     (bytes_on (declared u).protocols 1 first.0 xs (fits 1), bytes_on (declared u).protocols 2 first.1 xs (fits 2))

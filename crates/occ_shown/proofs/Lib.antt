@@ -1,4 +1,3 @@
 pub mod Texts
 mod Growth
-mod SameEnds
 pub mod ByteMessages

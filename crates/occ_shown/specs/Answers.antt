@@ -12,12 +12,12 @@ use Rattle.occ_term.specs.declared.message.Part.TheVariants.{One, Many, Counted}
 use Rattle.occ_term.specs.declared.protocol.Protocol.{Protocol}
 use Rattle.occ_term.specs.declared.protocol.Protocol.TheVariants.{Simple, CountedArray, Sequential, Variant}
 use Rattle.occ_term.specs.declared.names.Channel.{Channel}
-use Rattle.occ_term.specs.System.{End, OfProcess, Keyboard, Screen, Error}
+use Rattle.occ_term.specs.declared.communication.End.{End}
+use Rattle.occ_term.specs.declared.communication.End.TheVariants.{Process as OfProcess, Keyboard, Screen, Error}
 use Rattle.occ_term.specs.Runs.{Names, Entry, AllShown, entries}
 use Rattle.occ_net_replay.specs.declared.ending.Ending.{Ending}
 use Rattle.occ_net_replay.specs.declared.ending.Ending.TheVariants.{Ended, Stopped, Fault, StoppedBy, Limit}
-use Rattle.occ_net_trace.specs.declared.communication.Communication.{Communication as Made}
-use Rattle.occ_net_tables.specs.Holding.{communication_of}
+use Rattle.occ_term.specs.declared.communication.Communication.{Communication as Made}
 use Rattle.occ_net_replay.specs.Endings.{ending_text}
 
 -- ---- messages
@@ -148,4 +148,4 @@ report_of cs None Stopped = ending_text Stopped ++ 10 ∷ []
 report_of cs None (Fault f) = ending_text (Fault f) ++ 10 ∷ []
 report_of cs None (StoppedBy f) = ending_text (StoppedBy f) ++ 10 ∷ []
 report_of cs None Limit = ending_text Limit ++ 10 ∷ []
-report_of cs (Some xs) e = trace_text (entries (names_of cs) 1 (map communication_of xs)) ++ ending_text e ++ 10 ∷ []
+report_of cs (Some xs) e = trace_text (entries (names_of cs) 1 xs) ++ ending_text e ++ 10 ∷ []

@@ -1,15 +1,14 @@
 //! The answer's bytes, whole.
-ghost use Rattle.std.specs.Prelude.{◌≡◌, ◌++◌, ◌∷◌, [], ◌<◌, ◌+◌, IfOk, OnOk, map, slice_get};
+ghost use Rattle.std.specs.Prelude.{◌≡◌, ◌++◌, ◌∷◌, [], ◌<◌, ◌+◌, IfOk, OnOk, slice_get};
 ghost use Rattle.std.specs.Option.{option_copied};
 ghost use Rattle.occ_term.specs.Runs.{bytes_in, bytes_of, entry_of, entries, messages_on, sent_on, shown_by, tag_shown};
 ghost use Rattle.occ_shown.specs.Answers.{AreByteMessages, IsByteMessage, answer_text, part_text, later_text, items_text, end_text, head_text, ends_text, line_text, trace_text, line_break, names_of, name_at, report_of};
-ghost use Rattle.occ_net_tables.specs.Holding.{communication_of, end_of};
 ghost use Rattle.occ_net_trace.specs.Views.{part_of};
 
 use crate::values::{tag_name, write_array, write_name, write_number, write_value};
 use occ_net_replay::Ending;
-use occ_net_trace::{End, Entry, MessageView, PartView, PartViews, Trace};
-use occ_term::{Channel, ERROR, Primitive, Protocol, SCREEN};
+use occ_net_trace::{Entry, MessageView, PartView, PartViews, Trace};
+use occ_term::{Channel, ERROR, End, Primitive, Protocol, SCREEN};
 use std::alloc::{AllocError, Global};
 
 /// Ends a line.
@@ -70,7 +69,7 @@ fn write_items(
 
 /// The name of an end: `p` and a process's number, or what else it is.
 pub(crate) fn write_end(alloc: Global, out: &mut Vec<u8>, end: End) -> Result<(), AllocError>
-    ensures { OnOk result (out.new.items ≡ out.old.items ++ end_text (end_of end)) }
+    ensures { OnOk result (out.new.items ≡ out.old.items ++ end_text end) }
 {
     match end {
         End::Process(number) => {
@@ -107,7 +106,7 @@ pub(crate) fn write_ends(
     sender: End,
     receiver: End,
 ) -> Result<(), AllocError>
-    ensures { OnOk result (out.new.items ≡ out.old.items ++ ends_text (end_of sender) (end_of receiver)) }
+    ensures { OnOk result (out.new.items ≡ out.old.items ++ ends_text sender receiver) }
 {
     out.push(b' ')?;
     write_end(alloc, out, sender)?;
@@ -157,7 +156,7 @@ fn write_line(
     communication: &Entry<'_>,
     channels: &[Channel],
 ) -> Result<(), AllocError>
-    ensures { OnOk result (out.new.items ≡ out.old.items ++ line_text (entry_of (names_of channels.now) number (communication_of communication.now))) }
+    ensures { OnOk result (out.new.items ≡ out.old.items ++ line_text (entry_of (names_of channels.now) number communication.now)) }
 {
     let chan = communication.chan();
     write_head(alloc, out, number, chan, channels)?;
@@ -174,7 +173,7 @@ fn write_trace(
     trace: &Trace,
     channels: &[Channel],
 ) -> Result<(), AllocError>
-    ensures { OnOk result (out.new.items ≡ out.old.items ++ trace_text (entries (names_of channels.now) 1 (map communication_of trace.now))) }
+    ensures { OnOk result (out.new.items ≡ out.old.items ++ trace_text (entries (names_of channels.now) 1 trace.now)) }
 {
     let mut number = 0;
     for communication in trace.entries() {
@@ -198,7 +197,7 @@ fn byte_of(message: &MessageView<'_>) -> u8
 /// The bytes of the messages of one channel.
 fn write_bytes(out: &mut Vec<u8>, trace: &Trace, chan: u32) -> Result<(), AllocError>
     requires { AreByteMessages chan trace.now }
-    ensures { OnOk result (out.new.items ≡ out.old.items ++ bytes_of (messages_on chan (map communication_of trace.now))) }
+    ensures { OnOk result (out.new.items ≡ out.old.items ++ bytes_of (messages_on chan trace.now)) }
 {
     for communication in trace.entries() {
         write_byte(out, &communication, chan)?;
@@ -209,7 +208,7 @@ fn write_bytes(out: &mut Vec<u8>, trace: &Trace, chan: u32) -> Result<(), AllocE
 /// The byte of a communication, if it is on this channel.
 fn write_byte(out: &mut Vec<u8>, communication: &Entry<'_>, chan: u32) -> Result<(), AllocError>
     requires { communication.now.chan ≡ chan → IsByteMessage communication.now.message }
-    ensures { OnOk result (out.new.items ≡ out.old.items ++ bytes_of (sent_on chan (communication_of communication.now))) }
+    ensures { OnOk result (out.new.items ≡ out.old.items ++ bytes_of (sent_on chan communication.now)) }
 {
     if communication.chan() == chan {
         out.push(byte_of(&communication.message()))?;
@@ -224,7 +223,7 @@ fn write_byte(out: &mut Vec<u8>, communication: &Entry<'_>, chan: u32) -> Result
 /// A refused growth.
 pub fn channel_bytes(alloc: Global, trace: &Trace, chan: u32) -> Result<Vec<u8>, AllocError>
     requires { AreByteMessages chan trace.now }
-    ensures { IfOk result (λ bytes. bytes.items ≡ bytes_of (messages_on chan (map communication_of trace.now))) }
+    ensures { IfOk result (λ bytes. bytes.items ≡ bytes_of (messages_on chan trace.now)) }
 {
     let mut bytes = Vec::new(alloc);
     write_bytes(&mut bytes, trace, chan)?;
@@ -276,7 +275,7 @@ pub fn answer(
 ) -> Result<Vec<u8>, AllocError>
     requires screen { AreByteMessages SCREEN trace.now }
     requires error { AreByteMessages ERROR trace.now }
-    ensures { IfOk result (λ bytes. bytes.items ≡ answer_text (shown_by (names_of channels.now) (map communication_of trace.now)) ending with_trace) }
+    ensures { IfOk result (λ bytes. bytes.items ≡ answer_text (shown_by (names_of channels.now) trace.now) ending with_trace) }
 {
     let lines = if with_trace { Some(trace) } else { None };
     let report = report(alloc, lines, channels, ending)?;

@@ -1,9 +1,8 @@
 //! What watchers are shown of a run, and how that is written.
-ghost use Rattle.std.specs.Prelude.{◌≡◌, ◌↔◌, ◌++◌, IfOk, IsTrue, OnOk, map, slice_get};
+ghost use Rattle.std.specs.Prelude.{◌≡◌, ◌↔◌, ◌++◌, IfOk, IsTrue, OnOk, slice_get};
 ghost use Rattle.std.specs.Option.{option_copied};
 ghost use Rattle.occ_term.specs.Runs.{entries, entry_of, tag_shown};
 ghost use Rattle.occ_shown.specs.Answers.{head_text, items_text, later_text, line_text, name_at, names_of, part_text, trace_text};
-ghost use Rattle.occ_net_tables.specs.Holding.{communication_of};
 ghost use Rattle.occ_net_trace.specs.Views.{part_of};
 
 use crate::showing::{LINE_FEED, write_ends, write_part};
@@ -56,14 +55,13 @@ fn tag_of(
 /// # Errors
 ///
 /// A refused growth.
-#[tactic(auto, using(crate::proofs::SameEnds::same_end))]
 pub fn shown_as(
     alloc: Global,
     number: u64,
     communication: &Entry<'_>,
     channels: &[Channel],
 ) -> Result<Shown, AllocError>
-    ensures { IfOk result (λ s. s ≡ entry_of (names_of channels.now) number (communication_of communication.now)) }
+    ensures { IfOk result (λ s. s ≡ entry_of (names_of channels.now) number communication.now) }
 {
     let chan = communication.chan();
     let view = communication.message();
@@ -93,7 +91,7 @@ fn is_shown_as(
     communication: &Entry<'_>,
     channels: &[Channel],
 ) -> Result<bool, AllocError>
-    ensures { IfOk result (λ same. IsTrue same ↔ (shown.now ≡ entry_of (names_of channels.now) number (communication_of communication.now))) }
+    ensures { IfOk result (λ same. IsTrue same ↔ (shown.now ≡ entry_of (names_of channels.now) number communication.now)) }
 {
     let wanted = shown_as(alloc, number, communication, channels)?;
     shown.is_same(alloc, &wanted)
@@ -110,7 +108,7 @@ pub fn is_shown(
     trace: &Trace,
     channels: &[Channel],
 ) -> Result<bool, AllocError>
-    ensures { IfOk result (λ same. IsTrue same ↔ (list.now ≡ entries (names_of channels.now) 1 (map communication_of trace.now))) }
+    ensures { IfOk result (λ same. IsTrue same ↔ (list.now ≡ entries (names_of channels.now) 1 trace.now)) }
 {
     let mut rest = list;
     let mut number = 0;
@@ -192,7 +190,7 @@ fn write_beginning(alloc: Global, out: &mut Vec<u8>, shown: &Shown) -> Result<()
 }
 
 /// The line of a communication.
-#[tactic(auto, using(crate::proofs::SameEnds::same_end))]
+
 fn write_shown(alloc: Global, out: &mut Vec<u8>, shown: &Shown) -> Result<(), AllocError>
     ensures { OnOk result (out.new.items ≡ out.old.items ++ line_text shown.now) }
 {

@@ -8,17 +8,16 @@ use Rattle.occ_machine.specs.Compiled.{Program}
 use Rattle.occ_net_replay.specs.declared.choice.Choice.{Choice}
 use Rattle.occ_machine.specs.Machine.{Body, Stopping}
 use Rattle.occ_machine.specs.declared.task.Task.{Task}
-use Rattle.occ_net_trace.specs.declared.communication.Communication.{Communication}
-use Rattle.occ_net_trace.specs.declared.communication.End.{End}
-use Rattle.occ_net_trace.specs.declared.communication.End.TheVariants as E
+use Rattle.occ_term.specs.declared.communication.Communication.{Communication}
+use Rattle.occ_term.specs.declared.communication.End.{End}
 use Rattle.occ_net_trace.specs.Places.{Place, place_behind}
 use Rattle.occ_term.specs.Runs.{Names, entries}
-use Rattle.occ_term.specs.System as S
+use Rattle.occ_term.specs.System.{communication}
 use Rattle.occ_term.specs.declared.message.Message.{Message}
 use Rattle.occ_net_replay.specs.Replay.{Gets, Gives, Happens, Joined, Net, OneTurn, Replays, Settled, arm_gets, begins, error_gets, forks, joined, joins, keyboard_gives, meets, screen_gets, settles, skips, stays, task_gets, task_gives, ending_of, first_net, goes_on, ready_from, selected}
 use Rattle.occ_net_replay.proofs.OneStop.{stopping_once}
 use Rattle.occ_net_replay.proofs.Tables.{task_once}
-use Rattle.occ_net_tables.specs.Holding.{Holds, communication_of, end_of}
+use Rattle.occ_net_tables.specs.Holding.{Holds}
 use Rattle.occ_net_tables.specs.Settling.{Standing, TurnsTo}
 use Rattle.occ_net_tables.specs.declared.tables.Tables.{Tables}
 use Rattle.occ_places.specs.Places.{Known}
@@ -58,21 +57,21 @@ one_more known p kb turns rest others list c old new text longer h going first t
 -- ---- a turn adds to the communications
 
 record Grows (a b : Net) : Type 0 where
-  pub more : List S.Communication
+  pub more : List Communication
   pub is : b.trace ≡ a.trace ++ more
 
-gives_none : {c : ℕ} {m : Message} {x : S.End} {a b : Net} → Gives c m x a b → b.trace ≡ a.trace
+gives_none : {c : ℕ} {m : Message} {x : End} {a b : Net} → Gives c m x a b → b.trace ≡ a.trace
 gives_none (task_gives there waits) = refl
 gives_none (keyboard_gives typed first is) = refl
 
-gets_none : {pick : ℕ} {offers : ℕ → Bool} {c : ℕ} {m : Message} {x : S.End} {a b : Net} → Gets pick offers c m x a b → b.trace ≡ a.trace
+gets_none : {pick : ℕ} {offers : ℕ → Bool} {c : ℕ} {m : Message} {x : End} {a b : Net} → Gets pick offers c m x a b → b.trace ≡ a.trace
 gets_none (task_gets there waits) = refl
 gets_none (arm_gets there waits chosen on) = refl
 gets_none (screen_gets is) = refl
 gets_none (error_gets is) = refl
 
-joined_one : {pick : ℕ} {x : S.Communication} {a b : Net} → Joined pick a x b → b.trace ≡ a.trace ++ x ∷ []
-joined_one (joined {c = c} {m = m} {x = x} {y = y} gives gets) = ap (λ (xs : List S.Communication). xs ++ S.communication c x y m ∷ []) (gets_none gets ∙ gives_none gives)
+joined_one : {pick : ℕ} {x : Communication} {a b : Net} → Joined pick a x b → b.trace ≡ a.trace ++ x ∷ []
+joined_one (joined {c = c} {m = m} {x = x} {y = y} gives gets) = ap (λ (xs : List Communication). xs ++ communication c x y m ∷ []) (gets_none gets ∙ gives_none gives)
 
 same_trace : (a b : Net) → b.trace ≡ a.trace → Grows a b
 same_trace a b e = record { more = []; is = e ∙ sym (append-nil a.trace) }
@@ -92,40 +91,19 @@ turn_grows p c a b o = let h = settled_grows o.settles in record { more = h.more
 
 -- ---- and so the trace in code
 
-end_name : (x y : End) → end_of x ≡ end_of y → x ≡ y
-end_name (E.Process m) (E.Process n) e = ap (λ k. E.Process k) (one_number e)
-  where
-    one_number : {m n : ℕ} → ◌≡◌ {A = S.End} (S.OfProcess m) (S.OfProcess n) → m ≡ n
-    one_number q = cc
-end_name E.Keyboard E.Keyboard e = refl
-end_name E.Screen E.Screen e = refl
-end_name E.Error E.Error e = refl
-end_name x y e = cc
-
-same_communication : (x y : Communication) → communication_of x ≡ communication_of y → x ≡ y
-same_communication x y e =
-    let parts = communication_parts e in
-    build parts.0 (end_name x.sender y.sender parts.1) (end_name x.receiver y.receiver parts.2) parts.3
-  where
-    communication_parts : {c d : ℕ} {x y z w : S.End} {m n : Message} → S.communication c x y m ≡ S.communication d z w n → (c ≡ d) × (x ≡ z) × (y ≡ w) × (m ≡ n)
-    communication_parts q = (cc, cc, cc, cc)
-
-    build : {c d : ℕ} {x y z w : End} {m n : Message} → c ≡ d → x ≡ z → y ≡ w → m ≡ n → ◌≡◌ {A = Communication} (record { chan = c; sender = x; receiver = y; message = m }) (record { chan = d; sender = z; receiver = w; message = n })
-    build a b c d = cc
-
 -- what was there is the front of what is there
-pub front_of : (old new : List Communication) (more : List S.Communication) → map communication_of new ≡ map communication_of old ++ more → new ≡ old ++ drop (length old) new
+pub front_of : (old new more : List Communication) → new ≡ old ++ more → new ≡ old ++ drop (length old) new
 front_of [] new more e = refl
 front_of (x ∷ xs) [] more e = cc
 front_of (x ∷ xs) (y ∷ ys) more e =
     let heads = first_of e in
-    ap (λ z. z ∷ ys) (same_communication y x heads.0) ∙ ap (λ zs. x ∷ zs) (front_of xs ys more heads.1)
+    ap (λ z. z ∷ ys) heads.0 ∙ ap (λ zs. x ∷ zs) (front_of xs ys more heads.1)
   where
-    first_of : {a b : S.Communication} {cs ds : List S.Communication} → a ∷ cs ≡ b ∷ ds → (a ≡ b) × (cs ≡ ds)
+    first_of : {a b : Communication} {cs ds : List Communication} → a ∷ cs ≡ b ∷ ds → (a ≡ b) × (cs ≡ ds)
     first_of q = (cc, cc)
 
 -- what was copied behind the place where the trace stood is what the turn added
-pub news_are : (p : Program) (c : Choice) (a b : Net) (old new fresh : List Communication) → OneTurn p c a b → a.trace ≡ map communication_of old → b.trace ≡ map communication_of new
+pub news_are : (p : Program) (c : Choice) (a b : Net) (old new fresh : List Communication) → OneTurn p c a b → a.trace ≡ old → b.trace ≡ new
     → (mark : Place) → mark ≡ place_behind old → ((before after : List Communication) → new ≡ before ++ after → mark ≡ place_behind before → fresh ≡ after) → fresh ≡ drop (length old) new
 news_are p c a b old new fresh turn was now mark at copies =
     let grown = turn_grows p c a b turn in
@@ -142,18 +120,18 @@ map_back f zero xs = refl
 map_back f (suc k) [] = refl
 map_back f (suc k) (x ∷ xs) = map_back f k xs
 
-pub news_text : (names : Names) (p : Program) (c : Choice) (a b : Net) (old new fresh : List Communication) (made : ℕ) → OneTurn p c a b → a.trace ≡ map communication_of old → b.trace ≡ map communication_of new
-    → fresh ≡ drop (length old) new → made ≡ length new → entries names (made - length fresh + 1) (map communication_of fresh) ≡ news names a b
+pub news_text : (names : Names) (p : Program) (c : Choice) (a b : Net) (old new fresh : List Communication) (made : ℕ) → OneTurn p c a b → a.trace ≡ old → b.trace ≡ new
+    → fresh ≡ drop (length old) new → made ≡ length new → entries names (made - length fresh + 1) fresh ≡ news names a b
 news_text names p c a b old new fresh made turn was now is many =
     let grown = turn_grows p c a b turn in
     let front = front_of old new grown.more (sym now ∙ grown.is ∙ ap (λ xs. xs ++ grown.more) was) in
     let whole : length new ≡ length old + length (drop (length old) new) = ap length front ∙ length-append old (drop (length old) new) in
     let size : length fresh ≡ length (drop (length old) new) = ap length is in
-    let before : length a.trace ≡ length old = ap length was ∙ length-map old communication_of in
+    let before : length a.trace ≡ length old = ap length was ∙ length-map old in
     let number : made - length fresh ≡ length a.trace = omega (arith, whole, size, before, many) in
-    let after : map communication_of fresh ≡ drop (length a.trace) b.trace =
-    ap (map communication_of) is ∙ map_back communication_of (length old) new ∙ ap (λ k. drop k (map communication_of new)) (sym before) ∙ ap (drop (length a.trace)) (sym now) in
-    ap (λ k. entries names (k + 1) (map communication_of fresh)) number ∙ ap (entries names (length a.trace + 1)) after
+    let after : fresh ≡ drop (length a.trace) b.trace =
+    is ∙ map_back (length old) new ∙ ap (λ k. drop k new) (sym before) ∙ ap (drop (length a.trace)) (sym now) in
+    ap (λ k. entries names (k + 1) fresh) number ∙ ap (entries names (length a.trace + 1)) after
 
 pub three_more : (o a b c x y z : List ℕ) → x ≡ o ++ a → y ≡ x ++ b → z ≡ y ++ c → z ≡ o ++ ((a ++ b) ++ c)
 three_more o a b c x y z e f g = g ∙ ap (λ l. l ++ c) (f ∙ ap (λ l. l ++ b) e ∙ append_assoc o a b) ∙ append_assoc o (a ++ b) c

@@ -1,8 +1,7 @@
 //! At what a turn stopped, and what it made possible.
-ghost use Rattle.std.specs.Prelude.{◌≡◌, ◌++◌, ◌+◌, ◌-◌, ◌≤◌, OnOk, codes, length, map};
+ghost use Rattle.std.specs.Prelude.{◌≡◌, ◌++◌, ◌+◌, ◌-◌, ◌≤◌, OnOk, codes, length};
 ghost use Rattle.occ_chart.specs.Labels.{message_text};
 ghost use Rattle.occ_net_replay.specs.Endings.{ending_text};
-ghost use Rattle.occ_net_tables.specs.Holding.{communication_of};
 ghost use Rattle.occ_shown.specs.Answers.{ends_text, names_of, numbers_text};
 ghost use Rattle.occ_steps.specs.Steps.{all_made_text, arm_text, arms_text, line_text, made_text, stop_text, stopped_text, tail_text};
 ghost use Rattle.occ_term.specs.Runs.{entries, tag_shown};
@@ -191,7 +190,7 @@ fn write_all_made(
     news: &News,
 ) -> Result<(), AllocError>
     requires within { length news.now ≤ made }
-    ensures { OnOk result (out.new.items ≡ out.old.items ++ all_made_text (entries (names_of channels.now) (made - length news.now + 1) (map communication_of news.now))) }
+    ensures { OnOk result (out.new.items ≡ out.old.items ++ all_made_text (entries (names_of channels.now) (made - length news.now + 1) news.now)) }
 {
     let mut number = made - news.entries().len() as u64;
     for communication in news.entries() {
@@ -214,7 +213,7 @@ pub(crate) fn write_tail(
     news: &News,
 ) -> Result<(), AllocError>
     requires within { length news.now ≤ made }
-    ensures { OnOk result (out.new.items ≡ out.old.items ++ tail_text (names_of channels.now) places.now number after.now (entries (names_of channels.now) (made - length news.now + 1) (map communication_of news.now))) }
+    ensures { OnOk result (out.new.items ≡ out.old.items ++ tail_text (names_of channels.now) places.now number after.now (entries (names_of channels.now) (made - length news.now + 1) news.now)) }
 {
     write_stopped(alloc, out, channels, places, number, after)?;
     write_all_made(alloc, out, channels, made, news)?;

@@ -11,7 +11,7 @@ use Rattle.occ_term.specs.Steps.{Forking, Context, Left, left, status, is_ended,
 use Rattle.occ_term.specs.System.{Process, process, Processes, no_processes, and_process, System, system, MayGo, noted_in, AllEnded, SystemTurn, End, OfProcess, Communication, communication, Meets, PassesSkip}
 
 abbrev pub TakesPart : ℕ → Communication → Type 0
-TakesPart n (communication c x y m) = (x ≡ OfProcess n) ⊎ (y ≡ OfProcess n)
+TakesPart n x = (x.sender ≡ OfProcess n) ⊎ (x.receiver ≡ OfProcess n)
 
 -- a communication in which the process takes part is possible, or a choice of SKIP by it
 pub data Meeting (n : ℕ) (a : System) : Type 0 where
@@ -99,8 +99,9 @@ tag_shown names c None = None
 tag_shown names c (Some tag) = Some (names.tag_name c tag)
 
 abbrev pub entry_of : Names → ℕ → Communication → Entry
-entry_of names i (communication c x y m) =
-    record { number = i; channel = c; name = names.channel_name c; sender = x; receiver = y; tag = tag_shown names c m.tag; message = m }
+entry_of names i x = record {
+    number = i; channel = x.chan; name = names.channel_name x.chan; sender = x.sender; receiver = x.receiver;
+    tag = tag_shown names x.chan x.message.tag; message = x.message }
 
 abbrev pub communications : List Event → List Communication
 communications [] = []
@@ -113,7 +114,7 @@ entries names i [] = []
 entries names i (x ∷ xs) = entry_of names i x ∷ entries names (i + 1) xs
 
 abbrev pub sent_on : ℕ → Communication → List Message
-sent_on d (communication c x y m) = if nat_eq c d then m ∷ [] else []
+sent_on d x = if nat_eq x.chan d then x.message ∷ [] else []
 
 -- the messages communicated on a channel, in order
 abbrev pub messages_on : ℕ → List Communication → List Message

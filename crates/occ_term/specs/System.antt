@@ -2,6 +2,9 @@
 -- Manual: combining processes (PAR); primitive processes (communication); invalid processes. One store, the numbers of processes,
 -- and the ends beside the main process: (own).
 use Rattle.std.specs.Prelude.{Bool, IsTrue, List, None, Some, [], false, nat_eq, pos, ℕ, ⊤, ◌++◌, ◌||◌, ◌∷◌, ◌≡◌}
+pub use Rattle.occ_term.specs.declared.communication.End.{End}
+pub use Rattle.occ_term.specs.declared.communication.End.TheVariants.{Process as OfProcess, Keyboard, Screen, Error}
+pub use Rattle.occ_term.specs.declared.communication.Communication.{Communication}
 use Rattle.occ_term.specs.declared.fault.Errors.{Errors}
 use Rattle.occ_term.specs.declared.fault.Errors.TheVariants as on_fault
 use Rattle.occ_term.specs.Messages.{Byte, Fault, One, Message, message}
@@ -97,13 +100,6 @@ pub data SystemTurn (errors : Errors) (quantum n : ℕ) : System → System → 
 
 -- ---- communication: two changes, each of one part, with one channel and one message (manual: primitive processes)
 
--- an end of a communication
-pub data End : Type 0 where
-  OfProcess : (number : ℕ) → End
-  Keyboard : End
-  Screen : End
-  Error : End
-
 -- a change of the process with that number
 mutual
   pub data ChangeIn (R : Left → Left → Type 0) (n : ℕ) : Process → Process → Type 0 where
@@ -172,8 +168,8 @@ pub data Receives (standing : ℕ → Bool) (c : ℕ) (m : Message) : End → Sy
   screen_receives : {a : System} → c ≡ 1 → Receives standing c m Screen a a
   error_receives : {a : System} → c ≡ 2 → Receives standing c m Error a a
 
-pub data Communication : Type 0 where
-  communication : (channel : ℕ) (sender receiver : End) (sent : Message) → Communication
+abbrev pub communication : ℕ → End → End → Message → Communication
+communication c x y m = record { chan = c; sender = x; receiver = y; message = m }
 
 -- what stands on channels is that of the system before
 pub data Meets : System → Communication → System → Type 0 where

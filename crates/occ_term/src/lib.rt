@@ -5,6 +5,7 @@
 #![tactic(auto)]
 
 pub mod cell_rows;
+pub mod communication;
 pub mod examples;
 pub mod expression;
 pub mod fault;
@@ -24,6 +25,7 @@ pub mod unfolded;
 pub mod value;
 
 pub use cell_rows::{CellRow, CellRows};
+pub use communication::{Communication, End};
 pub use expression::{
     Array, Declaration, Item, Monadic, Operator, Place, Replicator, Target, TermExpr,
 };

@@ -1,13 +1,12 @@
 -- The trace of a run as a text of its own.
 -- Manual: nothing; this is (own).
-use Rattle.std.specs.Prelude.{List, [], map, ℕ, ◌++◌, ◌≡◌, ◌∷◌}
+use Rattle.std.specs.Prelude.{List, [], ℕ, ◌++◌, ◌≡◌, ◌∷◌}
 use Rattle.occ_machine.specs.Compiled.{Program}
 use Rattle.occ_json.specs.Json.{json_text}
 use Rattle.occ_net_replay.specs.declared.choice.Choice.{Choice}
 use Rattle.occ_net_replay.specs.declared.ending.Ending.{Ending}
 use Rattle.occ_net_replay.specs.Endings.{ending_text}
 use Rattle.occ_net_tables.specs.declared.running.Outcome.{Outcome}
-use Rattle.occ_net_tables.specs.Holding.{communication_of}
 use Rattle.occ_play.specs.declared.playing.Options.{Options}
 use Rattle.occ_play.specs.Playing.{Ran}
 use Rattle.occ_shown.specs.Answers.{names_of, trace_text}
@@ -25,4 +24,4 @@ pub record IsTraced (options : Options) (source keyboard : List ℕ) (list : Lis
   pub code : Program
   pub outcome : Outcome
   pub ran : Ran options source keyboard list code outcome
-  pub is : bytes ≡ form_text form (entries (names_of code.channels) 1 (map communication_of outcome.trace)) outcome.ending
+  pub is : bytes ≡ form_text form (entries (names_of code.channels) 1 outcome.trace) outcome.ending

@@ -4,8 +4,7 @@ ghost use Rattle.occ_board.specs.Traces.{publishing};
 
 use core::mem::replace_with;
 use occ_board::{Board, BoardFault, Naming, Opened, Publisher, Shown, Watcher};
-use occ_net_trace::End;
-use occ_term::{Message, Name, Part, Parts, Primitive, Text};
+use occ_term::{End, Message, Name, Part, Parts, Primitive, Text};
 use std::alloc::{AllocError, Global};
 use std::marker::Brand;
 use std::process::Abort;

@@ -1,11 +1,10 @@
-use Rattle.std.proofs.Common.{◌≡◌, ◌≤◌, ◌^◌, length, map}
-use Rattle.occ_board.specs.Entries.{end_of}
+use Rattle.std.proofs.Common.{◌≡◌, ◌≤◌, ◌^◌, length}
 use Rattle.occ_chart.specs.Columns.{with_ends}
 use Rattle.occ_chart.proofs.columns.add_ends.Given as goal
 
 abbrev pub invariant-loop-first : goal.invariant-loop-first
 invariant-loop-first l = record {
-  added : with_ends (map end_of l.columns.items) l.rest ≡ with_ends (map end_of l.fn.columns.items) l.fn.shown;
+  added : with_ends l.columns.items l.rest ≡ with_ends l.fn.columns.items l.fn.shown;
   few : length l.fn.columns.items ≤ 2 ^ 40 → length l.columns.items ≤ 2 ^ 40;
 }
 

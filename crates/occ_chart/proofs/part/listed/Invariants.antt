@@ -1,5 +1,4 @@
-use Rattle.std.proofs.Common.{◌≡◌, ◌+◌, ◌++◌, drop, length, map}
-use Rattle.occ_net_tables.specs.Holding.{communication_of}
+use Rattle.std.proofs.Common.{◌≡◌, ◌+◌, ◌++◌, drop, length}
 use Rattle.occ_shown.specs.Answers.{names_of}
 use Rattle.occ_term.specs.Runs.{entries}
 use Rattle.occ_chart.proofs.part.listed.Given as goal
@@ -9,6 +8,6 @@ abbrev pub invariant-loop-communication : goal.invariant-loop-communication
 invariant-loop-communication l = record {
   counted : l.number + length l.communication-iterator ≡ length l.communications;
   listed :
-      l.list.items ++ drop l.left (entries (names_of l.channels) (l.number + 1) (map communication_of l.communication-iterator))
-      ≡ drop l.skipped (entries (names_of l.channels) 1 (map communication_of l.communications));
+      l.list.items ++ drop l.left (entries (names_of l.channels) (l.number + 1) l.communication-iterator)
+      ≡ drop l.skipped (entries (names_of l.channels) 1 l.communications);
 }

@@ -1,8 +1,6 @@
 use Rattle.std.proofs.Common.{◌≡◌, ◌∙◌, ◌-◌, IfOk, List, ap, drop, map, min, subst, sym, take}
-use Rattle.std.proofs.lemmas.List.{length-map}
 use Rattle.occ_chart.specs.Charts.{asked, most_arrows, shown_of}
-use Rattle.occ_chart.proofs.Drawing.{first_shown, last_shown, map_front}
-use Rattle.occ_net_tables.specs.Holding.{communication_of}
+use Rattle.occ_chart.proofs.Drawing.{first_shown, last_shown}
 use Rattle.occ_shown.specs.Answers.{names_of}
 use Rattle.occ_term.specs.Runs.{Entry, entries}
 use Rattle.occ_chart.proofs.part.shown_of.Goals as goal
@@ -12,9 +10,9 @@ returns-in-First c =
     let names = names_of c.args.channels.now in
     let trace = c.args.trace.now in
     let n = c.count-count.result in
-    let count = c.count-count.ensures.count ∙ ap (λ p. min (min (asked p) most_arrows) c.len-all.result) c.in-First.is ∙ ap (min (min c.in-First.field-0 most_arrows)) (c.len-all.ensures.len ∙ sym (length-map trace communication_of)) in
-    let front = ap (λ xs. entries names 1 (map communication_of xs)) (c.first.ensures ∙ ap (take n) c.entries.ensures.entries) ∙ ap (entries names 1) (map_front communication_of n trace) in
-    let shown = front ∙ first_shown names (map communication_of trace) c.in-First.field-0 n count ∙ ap (λ p. shown_of p (entries names 1 (map communication_of trace))) (sym c.in-First.is) in
+    let count = c.count-count.ensures.count ∙ ap (λ p. min (min (asked p) most_arrows) c.len-all.result) c.in-First.is ∙ ap (min (min c.in-First.field-0 most_arrows)) c.len-all.ensures.len in
+    let front = ap (λ xs. entries names 1 xs) (c.first.ensures ∙ ap (take n) c.entries.ensures.entries) in
+    let shown = front ∙ first_shown names trace c.in-First.field-0 n count ∙ ap (λ p. shown_of p (entries names 1 trace)) (sym c.in-First.is) in
     subst (λ (xs : List Entry). IfOk c.listed.result (λ list. list.items ≡ xs)) shown c.listed.ensures
 
 pub returns-in-Last : goal.returns-in-Last
@@ -22,9 +20,9 @@ returns-in-Last c =
     let names = names_of c.args.channels.now in
     let trace = c.args.trace.now in
     let n = c.count-count.result in
-    let count = c.count-count.ensures.count ∙ ap (λ p. min (min (asked p) most_arrows) c.len-all.result) c.in-Last.is ∙ ap (min (min c.in-Last.field-0 most_arrows)) (c.len-all.ensures.len ∙ sym (length-map trace communication_of)) in
+    let count = c.count-count.ensures.count ∙ ap (λ p. min (min (asked p) most_arrows) c.len-all.result) c.in-Last.is ∙ ap (min (min c.in-Last.field-0 most_arrows)) c.len-all.ensures.len in
     let back =
-    ap (λ xs. drop (c.len-all.result - n) (entries names 1 (map communication_of xs))) c.entries-in-Last.ensures.entries
-    ∙ ap (λ k. drop (k - n) (entries names 1 (map communication_of trace))) (c.len-all.ensures.len ∙ sym (length-map trace communication_of)) in
-    let shown = back ∙ last_shown names (map communication_of trace) c.in-Last.field-0 n count ∙ ap (λ p. shown_of p (entries names 1 (map communication_of trace))) (sym c.in-Last.is) in
+    ap (λ xs. drop (c.len-all.result - n) (entries names 1 xs)) c.entries-in-Last.ensures.entries
+    ∙ ap (λ k. drop (k - n) (entries names 1 trace)) c.len-all.ensures.len in
+    let shown = back ∙ last_shown names trace c.in-Last.field-0 n count ∙ ap (λ p. shown_of p (entries names 1 trace)) (sym c.in-Last.is) in
     subst (λ (xs : List Entry). IfOk c.listed-in-Last.result (λ list. list.items ≡ xs)) shown c.listed-in-Last.ensures

@@ -1,7 +1,6 @@
-use Rattle.std.proofs.Common.{◌∙◌, ◌<◌, ◌^◌, List, ap, length, map, refl, rules, sym}
+use Rattle.std.proofs.Common.{◌∙◌, ◌<◌, ◌^◌, List, ap, length, refl, rules, sym}
 use Rattle.occ_term.specs.Runs.{shown_by}
 use Rattle.occ_term.specs.declared.names.Channel.{Channel}
-use Rattle.occ_net_tables.specs.Holding.{communication_of}
 use Rattle.occ_shown.specs.Answers.{names_of}
 use Rattle.occ_net_replay.specs.Following.{AreBytes}
 use Rattle.occ_play.proofs.Headline.{are_bytes, headline, outputs_are_bytes}
@@ -29,4 +28,4 @@ returns-clause-answer c = λ list is.
     headline c.args.options.now c.args.source.now c.args.keyboard.now list c.args.trace c.args.code.now c.channels.result.now c.args.outcome _ _
     c.requires.code keys c.channels.ensures is small refl refl
     c.in_ok-bytes.ensures in
-    (h.0, ap (λ (cs : List Channel). shown_by (names_of cs) (map communication_of c.args.outcome.trace)) (sym c.channels.ensures) ∙ h.1)
+    (h.0, ap (λ (cs : List Channel). shown_by (names_of cs) c.args.outcome.trace) (sym c.channels.ensures) ∙ h.1)

@@ -8,8 +8,8 @@ use Rattle.occ_proc.proofs.values.operate_one.Goals as goal
 
 pub returns : goal.returns
 returns c =
-    let same : evaluated c.value_of_one.result ≡ values.unary c.args.operator c.args.primitive c.args.line c.in-Some.value = search rules in
-    if_ok_map (λ w. Puts (evaluated c.value_of_one.result) (λ v. v ∷ c.pop.new.self) w c.put.new.stack)
+    let same : evaluated c.unary.result ≡ values.unary c.args.operator c.args.primitive c.args.line c.in-Some.value = search rules in
+    if_ok_map (λ w. Puts (evaluated c.unary.result) (λ v. v ∷ c.pop.new.self) w c.put.new.stack)
     (λ w. OnStack (machine.OperateOne c.args.operator c.args.primitive c.args.line) c.args.stack.now w c.put.new.stack)
     c.put.result
     (λ w h pc q sp f. subst (λ st. Does pc (machine.act machine.by_place (Some (machine.OperateOne c.args.operator c.args.primitive c.args.line)) pc st q sp f) w c.put.new.stack q sp f) (sym c.in-Some.ensures.some)

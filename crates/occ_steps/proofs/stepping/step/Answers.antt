@@ -1,6 +1,5 @@
-use Rattle.std.proofs.Common.{◌∙◌, ◌-◌, ◌+◌, ◌++◌, ℕ, ap, length, map}
+use Rattle.std.proofs.Common.{◌∙◌, ◌-◌, ◌+◌, ◌++◌, ℕ, ap, length}
 use Rattle.occ_machine.specs.declared.task.Task.{Task}
-use Rattle.occ_net_tables.specs.Holding.{communication_of}
 use Rattle.occ_shown.specs.Answers.{names_of}
 use Rattle.occ_steps.specs.Steps.{head_text, tail_text}
 use Rattle.occ_term.specs.Runs.{entries}
@@ -37,6 +36,6 @@ returns c = λ net h.
     let made = news_text (names_of p.channels) p c.args.choice net x.next c.trace.result.now c.trace-trace.result.now c.copy_behind.new.news c.len-made.result x.turn was now fresh c.len-made.ensures.len in
     let second =
     c.in_ok-write_tail.ensures
-    ∙ ap (λ cs. c.write_head.new.out.items ++ tail_text (names_of cs) c.args.places.now taken left (entries (names_of cs) (c.len-made.result - length c.copy_behind.new.news + 1) (map communication_of c.copy_behind.new.news))) c.channels.ensures
+    ∙ ap (λ cs. c.write_head.new.out.items ++ tail_text (names_of cs) c.args.places.now taken left (entries (names_of cs) (c.len-made.result - length c.copy_behind.new.news + 1) c.copy_behind.new.news)) c.channels.ensures
     ∙ ap (λ es. c.write_head.new.out.items ++ tail_text (names_of p.channels) c.args.places.now taken left es) made in
     steps_to c.args.places.now p keys c.args.turn c.args.choice net c.args.tables.now c.take_turn.new.self taken left c.args.out.now.items c.write_head.new.out.items _ h x next first second

@@ -1,7 +1,6 @@
-use Rattle.std.proofs.Common.{◌∙◌, List, ap, map}
+use Rattle.std.proofs.Common.{◌∙◌, List, ap}
 use Rattle.occ_term.specs.Runs.{Entry, entries}
 use Rattle.occ_term.specs.declared.names.Channel.{Channel}
-use Rattle.occ_net_tables.specs.Holding.{communication_of}
 use Rattle.occ_shown.specs.Answers.{names_of}
 use Rattle.occ_tracing.specs.Traced.{form_text}
 use Rattle.occ_tracing.proofs.tracing.traced.Goals as goal
@@ -16,5 +15,5 @@ returns-clause-traced c =
       is =
           c.in_ok-bytes.ensures
           ∙ ap (λ (es : List Entry). form_text c.args.form es outcome.ending)
-          (c.as_slice.ensures.value ∙ c.in_ok-list.ensures ∙ ap (λ (cs : List Channel). entries (names_of cs) 1 (map communication_of outcome.trace)) c.channels.ensures);
+          (c.as_slice.ensures.value ∙ c.in_ok-list.ensures ∙ ap (λ (cs : List Channel). entries (names_of cs) 1 outcome.trace) c.channels.ensures);
     }

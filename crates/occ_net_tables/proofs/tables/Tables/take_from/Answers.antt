@@ -4,7 +4,7 @@ use Rattle.occ_machine.specs.SameStop.{ready_with}
 use Rattle.occ_machine.specs.declared.task.Wait.TheVariants as W
 use Rattle.occ_net_replay.specs.Replay.{made_ready}
 use Rattle.occ_net_replay.proofs.Tables.{set_other}
-use Rattle.occ_net_trace.specs.declared.communication.End.TheVariants.{Process}
+use Rattle.occ_term.specs.declared.communication.End.TheVariants.{Process}
 use Rattle.occ_net_tables.specs.Settling.{sent}
 use Rattle.occ_net_tables.proofs.tables.Tables.take_from.Goals as goal
 

@@ -1,6 +1,6 @@
-//! Communications, as contracts see those of a trace.
+//! Communications, as a run has them.
 
-use occ_term::Message;
+use crate::message::Message;
 
 /// One end of a communication.
 #[derive(Clone, Copy, Debug, PartialEq, Eq)]
