@@ -1,1 +1,1 @@
-mod SameCode
+mod MadeSame

@@ -2,16 +2,28 @@
 
 use occ_term::{Monadic, Operator, Primitive, Text};
 use sqlite_items::Items;
+use std::marker::Model;
 
-/// A place in a frame: of the value of a cell, which is the cell's place among those of its body.
+/// A place in a frame: of the value of a cell, which is the cell's place among those of its body. Contracts see the number.
 #[derive(Clone, Copy)]
 pub struct Slot(pub u32);
+
+impl Model for Slot {
+    ghost use Rattle.std.specs.Prelude.{ℕ};
+
+    ghost Value = { ℕ };
+
+    ghost view = { λ s. s.0 };
+
+    ghost inverse = { λ n. record { 0 = n } };
+}
 
 /// One instruction. A skip counts the instructions that are jumped over, and a `back` is how far a
 /// jump leads back. Lines are for faults.
 ///
 /// `Load`, `StoreOne` and the index of `NextChoice`, `SetAgain`, `Begin` and `Pass` name a single cell: by its number
-/// while code is emitted, and in a body by its slot. All other cells go by their numbers.
+/// while code is emitted, and in a body by its slot, so that its value is found with no search. All other cells go by their
+/// numbers. Contracts see both as instructions that name a cell by a number.
 #[derive(Drop)]
 pub enum Instr<Name> {
     /// Puts a value on the stack.

@@ -1,19 +1,12 @@
 //! Code with the same instructions.
-ghost use Rattle.std.specs.Prelude.{◌≡◌, ◌↔◌, IsTrue, map};
-ghost use Rattle.occ_machine.specs.View.{instruction_of};
+ghost use Rattle.std.specs.Prelude.{◌≡◌, ◌↔◌, IsTrue};
 
 use crate::instr::{Instr, Slot};
 use crate::same::{same_bytes, same_numbers, same_values};
 use occ_term::{Monadic, Operator};
 
-/// Whether both mean the same instructions, in the same order.
-pub(crate) fn is_same_code(code: &[Instr<Slot>], other: &[Instr<Slot>]) -> bool
-    ensures { IsTrue result ↔ (map instruction_of code.now ≡ map instruction_of other.now) }
-{
-    same_instrs(code, other)
-}
-
-fn same_instrs(code: &[Instr<Slot>], others: &[Instr<Slot>]) -> bool
+/// Whether both have the same instructions, in the same order.
+pub(crate) fn is_same_code(code: &[Instr<Slot>], others: &[Instr<Slot>]) -> bool
     ensures { IsTrue result ↔ (code.now ≡ others.now) }
 {
     if code.len() != others.len() {

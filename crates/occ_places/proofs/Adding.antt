@@ -1,14 +1,11 @@
 -- One entry more of a table.
 use Rattle.std.proofs.Common.{Bool, List, Some, [], false, get_or, if◌then◌else◌, map, suc, take, true, zero, ℕ, ◌++◌, ◌+◌, ◌<◌, ◌∷◌, ◌≡◌, ◌∙◌, ap, arith, length, refl, subst, sym}
 use Rattle.std.specs.List.{All, slice_get}
-use Rattle.std.specs.Option.{option_map}
 use Rattle.std.proofs.lemmas.List.{length-append, length-map, length-take-le, map-append, take_more}
 use Rattle.std.proofs.lemmas.List.Elements.{All-append, All-cons, All-nil}
-use Rattle.std.proofs.lemmas.Option.{none-some, slice_get-map, slice_get_read}
-use Rattle.occ_machine.specs.Machine.{Body, Instruction}
-use Rattle.occ_machine.specs.View.{instruction_of}
+use Rattle.std.proofs.lemmas.Option.{none-some, slice_get_read}
+use Rattle.occ_machine.specs.Machine.{Body}
 use Rattle.occ_machine.specs.declared.instr.Instr.{Instr}
-use Rattle.occ_machine.specs.declared.instr.Slot.{Slot}
 use Rattle.occ_text.specs.Words.{LogicalLine}
 use Rattle.occ_places.specs.Located.{known}
 use Rattle.occ_places.specs.Places.{AreStopsIn, IsNameOf, Known, is_stop, stop_places}
@@ -49,7 +46,7 @@ joined true p xs ys zs e = ap (λ l. p ∷ l) e
 joined false p xs ys zs e = e
 
 -- the stops of a code that is one instruction longer
-pub one_place_more : (code : List Instruction) (i : Instruction) (p : ℕ)
+pub one_place_more : (code : List (Instr ℕ)) (i : Instr ℕ) (p : ℕ)
     → stop_places p (code ++ i ∷ []) ≡ stop_places p code ++ (if is_stop i then (p + length code) ∷ [] else [])
 one_place_more [] i p = let at : p ≡ p + 0 = omega arith in ap (λ n. if is_stop i then n ∷ [] else []) at
 one_place_more (j ∷ code) i p =
@@ -58,18 +55,17 @@ one_place_more (j ∷ code) i p =
     (one_place_more code i (p + 1) ∙ ap (λ n. stop_places (p + 1) code ++ (if is_stop i then n ∷ [] else [])) at)
 
 -- what is at a place of a code
-pub read_there : (code : List (Instr Slot)) (p : ℕ) (x : Instr Slot) → p < length code → x ≡ get_or code p x → slice_get (map instruction_of code) p ≡ Some (instruction_of x)
-read_there code p x h e = slice_get-map instruction_of code p ∙ ap (option_map instruction_of) (slice_get_read code (length code) p x refl h e)
+pub read_there : (code : List (Instr ℕ)) (p : ℕ) (x : Instr ℕ) → p < length code → x ≡ get_or code p x → slice_get code p ≡ Some x
+read_there code p x h e = slice_get_read code (length code) p x refl h e
 
 -- the stops up to a place, and that place
-pub place_met : (code : List (Instr Slot)) (p : ℕ) (x : Instr Slot) (before after : List ℕ) → p < length code → x ≡ get_or code p x
-    → before ≡ stop_places 0 (map instruction_of (take p code)) → after ≡ before ++ (if is_stop (instruction_of x) then p ∷ [] else [])
-    → after ≡ stop_places 0 (map instruction_of (take (p + 1) code))
+pub place_met : (code : List (Instr ℕ)) (p : ℕ) (x : Instr ℕ) (before after : List ℕ) → p < length code → x ≡ get_or code p x
+    → before ≡ stop_places 0 (take p code) → after ≡ before ++ (if is_stop x then p ∷ [] else [])
+    → after ≡ stop_places 0 (take (p + 1) code)
 place_met code p x before after h e met more =
     let longer : take (p + 1) code ≡ take p code ++ x ∷ [] = take_more code p x h ∙ ap (λ y. take p code ++ y ∷ []) (sym e) in
-    let same : map instruction_of (take (p + 1) code) ≡ map instruction_of (take p code) ++ instruction_of x ∷ [] = ap (map instruction_of) longer ∙ map-append instruction_of (take p code) (x ∷ []) in
-    let there : length (map instruction_of (take p code)) ≡ p = length-map (take p code) instruction_of ∙ length-take-le p code (omega arith) in
-    let at : 0 + length (map instruction_of (take p code)) ≡ p = omega arith in
-    more ∙ ap (λ l. l ++ (if is_stop (instruction_of x) then p ∷ [] else [])) met
-    ∙ sym (ap (stop_places 0) same ∙ one_place_more (map instruction_of (take p code)) (instruction_of x) 0
-    ∙ ap (λ n. stop_places 0 (map instruction_of (take p code)) ++ (if is_stop (instruction_of x) then n ∷ [] else [])) at)
+    let there : length (take p code) ≡ p = length-take-le p code (omega arith) in
+    let at : 0 + length (take p code) ≡ p = omega arith in
+    more ∙ ap (λ l. l ++ (if is_stop x then p ∷ [] else [])) met
+    ∙ sym (ap (stop_places 0) longer ∙ one_place_more (take p code) x 0
+    ∙ ap (λ n. stop_places 0 (take p code) ++ (if is_stop x then n ∷ [] else [])) at)

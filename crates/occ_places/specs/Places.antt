@@ -3,7 +3,9 @@
 use Rattle.std.specs.Prelude.{Bool, IsTrue, List, None, Option, Some, [], bytes_eq, false, if◌then◌else◌, length, map, nat_eq, slice_get, true, ℕ, ◌&&◌, ◌+◌, ◌-◌, ◌∷◌, ◌≡◌, ◌⊎◌}
 use Rattle.std.specs.List.{All, list_any}
 use Rattle.occ_machine.specs.Compiled.{Program}
-use Rattle.occ_machine.specs.Machine.{Body, Instruction, ChooseArm, Fork, Halt, LoopBack, Receive, Send}
+use Rattle.occ_machine.specs.Machine.{Body}
+use Rattle.occ_machine.specs.declared.instr.Instr.{Instr}
+use Rattle.occ_machine.specs.declared.instr.Instr.TheVariants.{ChooseArm, Fork, Halt, LoopBack, Receive, Send}
 use Rattle.occ_machine.specs.declared.task.Wait.{Wait}
 use Rattle.occ_machine.specs.declared.task.Wait.TheVariants.{Ready, Took, Offers, Awaits, Chooses, Joins, Halted, Done, Faulted}
 use Rattle.occ_text.specs.Words.{LogicalLine, Word, key, logical_line, mark, name}
@@ -22,7 +24,7 @@ pub record Known : Type 0 where
 -- ---- what is known is so in the code
 
 -- Where a process goes on that has stopped at an instruction of this place, if what stands in the source can be this instruction.
-abbrev pub next_place : Kind → Instruction → ℕ → Option ℕ
+abbrev pub next_place : Kind → Instr ℕ → ℕ → Option ℕ
 next_place kinds.Output (Send tag) p = Some (p + 1)
 next_place kinds.Input Receive p = Some (p + 1)
 next_place kinds.Alt (ChooseArm pri back) p = Some (p - back)
@@ -57,8 +59,8 @@ pub record IsLineOf (lines : List LogicalLine) (kind : Kind) (number : ℕ) : Ty
   pub has : IsTrue (list_any (is_word_of kind) words)
 
 -- The code has such an instruction there, and the text such a line.
-pub record IsStopIn (code : List Instruction) (lines : List LogicalLine) (s : Stop) : Type 0 where
-  pub instruction : Instruction
+pub record IsStopIn (code : List (Instr ℕ)) (lines : List LogicalLine) (s : Stop) : Type 0 where
+  pub instruction : Instr ℕ
   pub there : slice_get code s.place ≡ Some instruction
   pub next : next_place s.kind instruction s.place ≡ Some s.next
   pub line : IsLineOf lines s.kind s.line
@@ -81,7 +83,7 @@ abbrev pub IsNameOf : List LogicalLine → List ℕ → Type 0
 IsNameOf lines proc = (proc ≡ []) ⊎ IsProcOf lines proc
 
 -- whether a process stops at an instruction, but for its end
-abbrev pub is_stop : Instruction → Bool
+abbrev pub is_stop : Instr ℕ → Bool
 is_stop (Send tag) = true
 is_stop Receive = true
 is_stop (ChooseArm pri back) = true
@@ -91,7 +93,7 @@ is_stop Halt = true
 is_stop instruction = false
 
 -- the places of these in a code that begins at a place
-abbrev pub stop_places : ℕ → List Instruction → List ℕ
+abbrev pub stop_places : ℕ → List (Instr ℕ) → List ℕ
 stop_places p [] = []
 stop_places p (i ∷ others) = if is_stop i then p ∷ stop_places (p + 1) others else stop_places (p + 1) others
 
@@ -99,7 +101,7 @@ abbrev pub place_of : Stop → ℕ
 place_of s = s.place
 
 -- Each is a stop of the code, and they are none of its stops or all of them.
-abbrev pub AreStopsOf : List Instruction → List LogicalLine → List Stop → Type 0
+abbrev pub AreStopsOf : List (Instr ℕ) → List LogicalLine → List Stop → Type 0
 AreStopsOf code lines stops = All (IsStopIn code lines) stops × ((stops ≡ []) ⊎ (map place_of stops ≡ stop_places 0 code))
 
 abbrev pub AreStopsIn : List Body → List LogicalLine → ℕ → List Stop → Type 0

@@ -1,8 +1,6 @@
 //! The stops of a body's code, held against those that the tree has.
-ghost use Rattle.std.specs.Prelude.{◌≡◌, ◌++◌, ◌∷◌, [], IfOk, IfSome, IsTrue, List, OnOk, Some, if◌then◌else◌, map, slice_get};
+ghost use Rattle.std.specs.Prelude.{◌≡◌, ◌++◌, ◌∷◌, [], ℕ, IfOk, IfSome, IsTrue, List, OnOk, Some, if◌then◌else◌, map, slice_get};
 ghost use Rattle.std.specs.List.{All};
-ghost use Rattle.occ_machine.specs.Machine.{Instruction};
-ghost use Rattle.occ_machine.specs.View.{instruction_of};
 ghost use Rattle.occ_text.specs.Words.{logical_lines};
 ghost use Rattle.occ_places.specs.Places.{IsLineOf, IsStopIn, is_stop, next_place, place_of, stop_places};
 
@@ -20,7 +18,7 @@ fn stop_for(
     place: usize,
     lines: &[Line],
 ) -> Option<Stop>
-    ensures next { IfSome result (λ s. next_place s.kind (instruction_of instruction.now) place ≡ Some s.next) }
+    ensures next { IfSome result (λ s. next_place s.kind instruction.now place ≡ Some s.next) }
     ensures place { IfSome result (λ s. s.place ≡ place) }
     ensures line { IfSome result (λ s. IsLineOf (logical_lines lines.now) s.kind s.line) }
 {
@@ -45,8 +43,8 @@ fn add_stop(
     place: usize,
     lines: &[Line],
 ) -> Result<bool, AllocError>
-    ensures stops { OnOk result ((code : List Instruction) → slice_get code place ≡ Some (instruction_of instruction.now) → All (IsStopIn code (logical_lines lines.now)) stops.old.items → All (IsStopIn code (logical_lines lines.now)) stops.new.items) }
-    ensures places { IfOk result (λ agrees. IsTrue agrees → map place_of stops.new.items ≡ map place_of stops.old.items ++ (if is_stop (instruction_of instruction.now) then place ∷ [] else [])) }
+    ensures stops { OnOk result ((code : List (Instr ℕ)) → slice_get code place ≡ Some instruction.now → All (IsStopIn code (logical_lines lines.now)) stops.old.items → All (IsStopIn code (logical_lines lines.now)) stops.new.items) }
+    ensures places { IfOk result (λ agrees. IsTrue agrees → map place_of stops.new.items ≡ map place_of stops.old.items ++ (if is_stop instruction.now then place ∷ [] else [])) }
 {
     if !is_stop(instruction) {
         return Ok(true);
@@ -70,8 +68,8 @@ pub(crate) fn stops_in(
     marks: &[Mark<'_>],
     lines: &[Line],
 ) -> Result<Option<Vec<Stop>>, AllocError>
-    ensures stops { IfOk result (λ found. IfSome found (λ stops. All (IsStopIn (map instruction_of code.now) (logical_lines lines.now)) stops.items)) }
-    ensures places { IfOk result (λ found. IfSome found (λ stops. map place_of stops.items ≡ stop_places 0 (map instruction_of code.now))) }
+    ensures stops { IfOk result (λ found. IfSome found (λ stops. All (IsStopIn code.now (logical_lines lines.now)) stops.items)) }
+    ensures places { IfOk result (λ found. IfSome found (λ stops. map place_of stops.items ≡ stop_places 0 code.now)) }
 {
     let mut stops = Vec::new(alloc);
     for place in 0..code.len() {

@@ -1,6 +1,5 @@
 //! The table of the places of a program.
 ghost use Rattle.std.specs.Prelude.{◌≡◌, [], IfOk, map};
-ghost use Rattle.occ_machine.specs.View.{instruction_of};
 ghost use Rattle.occ_text.specs.Words.{logical_lines};
 ghost use Rattle.occ_places.specs.Places.{AreStopsIn, AreStopsOf, Fits, IsNameOf};
 
@@ -125,7 +124,7 @@ fn stops_of<'t>(
     code: &[Instr<Slot>],
     lines: &[Line],
 ) -> Result<Vec<Stop>, AllocError>
-    ensures { IfOk result (λ stops. AreStopsOf (map instruction_of code.now) (logical_lines lines.now) stops.items) }
+    ensures { IfOk result (λ stops. AreStopsOf code.now (logical_lines lines.now) stops.items) }
 {
     if !walk.go_through(start.process, start.around)? {
         return Ok(Vec::new(alloc));

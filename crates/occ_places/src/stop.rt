@@ -1,6 +1,5 @@
 //! What a process stops at.
 ghost use Rattle.std.specs.Prelude.{◌≡◌, ◌+◌, ◌-◌, IfSome, Some};
-ghost use Rattle.occ_machine.specs.View.{instruction_of};
 ghost use Rattle.occ_places.specs.Places.{first_of, halts, is_alt, is_input, is_output, is_par, is_stop, next_place, stands_at};
 
 use occ_machine::{Instr, Slot, Wait};
@@ -121,7 +120,7 @@ fn before(place: u32, back: usize) -> Option<u32>
 /// Where a process goes on that has stopped at an instruction of this place; none where what stands in the source can't be
 /// this instruction.
 pub(crate) fn next_place(kind: Kind, instruction: &Instr<Slot>, place: u32) -> Option<u32>
-    ensures { IfSome result (λ next. next_place kind (instruction_of instruction.now) place ≡ Some next) }
+    ensures { IfSome result (λ next. next_place kind instruction.now place ≡ Some next) }
 {
     match (kind, instruction) {
         (Kind::Output, Instr::Send(_)) => behind(place),
@@ -136,7 +135,7 @@ pub(crate) fn next_place(kind: Kind, instruction: &Instr<Slot>, place: u32) -> O
 
 /// Whether a process stops at an instruction, but for its end.
 pub(crate) fn is_stop(instruction: &Instr<Slot>) -> bool
-    ensures { result ≡ is_stop (instruction_of instruction.now) }
+    ensures { result ≡ is_stop instruction.now }
 {
     matches!(
         instruction,

@@ -1,7 +1,7 @@
 //! Instructions that choose where a process goes on.
 ghost use Rattle.std.specs.Prelude.{◌≡◌, IfOk};
 ghost use Rattle.occ_term.specs.Selecting.{is_among};
-ghost use Rattle.occ_machine.specs.Machine as machine;
+ghost use Rattle.occ_machine.specs.declared.instr.Instr.TheVariants as instructions;
 ghost use Rattle.occ_proc.specs.Doing.{OnStack};
 
 use crate::stack::Stack;
@@ -10,7 +10,7 @@ use crate::went::Went;
 use std::alloc::AllocError;
 
 pub(crate) fn and_then(stack: &mut Stack, skip: usize) -> Result<Went, AllocError>
-    ensures { IfOk result (λ w. OnStack (machine.AndThen skip) stack.old w stack.new) }
+    ensures { IfOk result (λ w. OnStack (instructions.AndThen skip) stack.old w stack.new) }
 {
     let Some(test) = stack.pop() else {
         return Ok(Went::Stuck);
@@ -23,7 +23,7 @@ pub(crate) fn and_then(stack: &mut Stack, skip: usize) -> Result<Went, AllocErro
 }
 
 pub(crate) fn or_else(stack: &mut Stack, skip: usize) -> Result<Went, AllocError>
-    ensures { IfOk result (λ w. OnStack (machine.OrElse skip) stack.old w stack.new) }
+    ensures { IfOk result (λ w. OnStack (instructions.OrElse skip) stack.old w stack.new) }
 {
     let Some(test) = stack.pop() else {
         return Ok(Went::Stuck);
@@ -36,7 +36,7 @@ pub(crate) fn or_else(stack: &mut Stack, skip: usize) -> Result<Went, AllocError
 }
 
 pub(crate) fn choose(stack: &mut Stack, skip: usize) -> Went
-    ensures { OnStack (machine.Choose skip) stack.old result stack.new }
+    ensures { OnStack (instructions.Choose skip) stack.old result stack.new }
 {
     let Some(test) = stack.pop() else {
         return Went::Stuck;
@@ -53,7 +53,7 @@ pub(crate) fn if_among(
     constants: &[i64],
     skip: usize,
 ) -> Result<Went, AllocError>
-    ensures { IfOk result (λ w. OnStack (machine.IfAmong constants.now skip) stack.old w stack.new) }
+    ensures { IfOk result (λ w. OnStack (instructions.IfAmong constants.now skip) stack.old w stack.new) }
 {
     let Some(value) = stack.pop() else {
         return Ok(Went::Stuck);
@@ -78,7 +78,7 @@ fn is_among(value: i64, constants: &[i64]) -> bool
 
 /// Where no tag is left on the stack, the variants go on with the first one behind the skip.
 pub(crate) fn if_tag(stack: &mut Stack, tag: u32, skip: usize) -> Result<Went, AllocError>
-    ensures { IfOk result (λ w. OnStack (machine.IfTag tag skip) stack.old w stack.new) }
+    ensures { IfOk result (λ w. OnStack (instructions.IfTag tag skip) stack.old w stack.new) }
 {
     let Some(value) = stack.pop() else {
         return Ok(Went::Skip(skip));
@@ -92,7 +92,7 @@ pub(crate) fn if_tag(stack: &mut Stack, tag: u32, skip: usize) -> Result<Went, A
 
 #[inline(always)]
 pub(crate) fn drop_one(stack: &mut Stack) -> Went
-    ensures { OnStack machine.DropOne stack.old result stack.new }
+    ensures { OnStack instructions.DropOne stack.old result stack.new }
 {
     match stack.pop() {
         Some(_) => Went::Next,

@@ -1,6 +1,6 @@
 use Rattle.std.proofs.Common.{◌∙◌, sym, arith}
 use Rattle.std.specs.Arc.{arc_value}
-use Rattle.occ_machine.proofs.SameCode.{made_same}
+use Rattle.occ_machine.proofs.MadeSame.{made_same}
 use Rattle.occ_machine.proofs.code.same_bodies.Goals as goal
 
 pub returns-then-not-is_same : goal.returns-then-not-is_same

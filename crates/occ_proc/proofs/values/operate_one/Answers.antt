@@ -2,6 +2,7 @@ use Rattle.std.proofs.Common.{◌+◌, ◌∷◌, ◌≡◌, Some, sym, subst, r
 use Rattle.occ_term.specs.Values as values
 use Rattle.occ_term.specs.Evaluation.{evaluated}
 use Rattle.occ_machine.specs.Machine as machine
+use Rattle.occ_machine.specs.declared.instr.Instr.TheVariants as instructions
 use Rattle.occ_proc.specs.Doing.{Does, OnStack, Puts}
 use Rattle.occ_proc.proofs.Stacks.{if_ok_map}
 use Rattle.occ_proc.proofs.values.operate_one.Goals as goal
@@ -10,8 +11,8 @@ pub returns : goal.returns
 returns c =
     let same : evaluated c.unary.result ≡ values.unary c.args.operator c.args.primitive c.args.line c.in-Some.value = search rules in
     if_ok_map (λ w. Puts (evaluated c.unary.result) (λ v. v ∷ c.pop.new.self) w c.put.new.stack)
-    (λ w. OnStack (machine.OperateOne c.args.operator c.args.primitive c.args.line) c.args.stack.now w c.put.new.stack)
+    (λ w. OnStack (instructions.OperateOne c.args.operator c.args.primitive c.args.line) c.args.stack.now w c.put.new.stack)
     c.put.result
-    (λ w h pc q sp f. subst (λ st. Does pc (machine.act machine.by_place (Some (machine.OperateOne c.args.operator c.args.primitive c.args.line)) pc st q sp f) w c.put.new.stack q sp f) (sym c.in-Some.ensures.some)
+    (λ w h pc q sp f. subst (λ st. Does pc (machine.act machine.by_place (Some (instructions.OperateOne c.args.operator c.args.primitive c.args.line)) pc st q sp f) w c.put.new.stack q sp f) (sym c.in-Some.ensures.some)
     (subst (λ e. Does pc (machine.going pc f e (λ x. machine.point (pc + 1) (x ∷ c.pop.new.self) q sp f)) w c.put.new.stack q sp f) same (h pc q sp f)))
     c.put.ensures
