@@ -6,8 +6,8 @@ use Rattle.std.specs.Fmt.{decimal}
 use Rattle.occ_term.specs.declared.communication.End.{End}
 use Rattle.occ_term.specs.declared.communication.End.TheVariants.{Process as OfProcess}
 use Rattle.occ_term.specs.Runs.{Entry}
-use Rattle.occ_net_replay.specs.declared.ending.Ending.{Ending}
-use Rattle.occ_net_replay.specs.Endings.{ending_text}
+use Rattle.occ_term.specs.declared.ending.Ending.{Ending}
+use Rattle.occ_term.specs.Endings.{ending_text}
 use Rattle.occ_shown.specs.Answers.{numbers_text}
 use Rattle.occ_chart.specs.declared.part.Part.{Part}
 use Rattle.occ_chart.specs.declared.part.Part.TheVariants.{First, Last}

@@ -10,8 +10,8 @@ use Rattle.occ_term.specs.declared.communication.End.TheVariants.{Process as OfP
 use Rattle.occ_term.specs.Runs.{Entry, Names, tag_shown}
 use Rattle.occ_machine.specs.declared.task.Wait.{Wait}
 use Rattle.occ_machine.specs.declared.task.Wait.TheVariants.{Ready, Took, Offers, Awaits, Chooses, Joins, Halted, Done, Faulted}
-use Rattle.occ_net_replay.specs.declared.ending.Ending.TheVariants.{Fault}
-use Rattle.occ_net_replay.specs.Endings.{ending_text}
+use Rattle.occ_term.specs.declared.ending.Ending.TheVariants.{Fault}
+use Rattle.occ_term.specs.Endings.{ending_text}
 use Rattle.occ_shown.specs.Answers.{array_text, end_text, value_text}
 
 -- ---- messages: as in a line of the trace, but for single bytes

@@ -13,9 +13,8 @@ use crate::part::{Part, shown_of};
 use crate::stub::Stub;
 use crate::xml::write_number;
 use occ_board::Shown;
-use occ_net_replay::Ending;
 use occ_net_trace::Trace;
-use occ_term::{Channel, End};
+use occ_term::{Channel, End, Ending};
 use std::alloc::{AllocError, Global};
 
 /// The opening tag, and the ground.

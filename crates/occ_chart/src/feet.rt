@@ -5,7 +5,7 @@ ghost use Rattle.occ_chart.specs.Charts.{feet, foot_at};
 ghost use Rattle.occ_chart.specs.Labels.{foot_words, message_text};
 ghost use Rattle.occ_chart.specs.Shapes.{stub};
 ghost use Rattle.occ_chart.specs.Xml.{elements_text};
-ghost use Rattle.occ_net_replay.specs.Endings.{ending_text};
+ghost use Rattle.occ_term.specs.Endings.{ending_text};
 ghost use Rattle.occ_shown.specs.Answers.{names_of};
 ghost use Rattle.occ_term.specs.Runs.{tag_shown};
 
@@ -16,9 +16,8 @@ use crate::messages::write_message;
 use crate::stub::Stub;
 use crate::xml::{Style, write_path};
 use occ_machine::Wait;
-use occ_net_replay::Ending;
 use occ_shown::write_name;
-use occ_term::{Channel, End, Fault, Message};
+use occ_term::{Channel, End, Ending, Fault, Message};
 use std::alloc::{AllocError, Global};
 
 fn offer_words(

@@ -2,12 +2,12 @@
 ghost use Rattle.std.specs.Prelude.{◌≡◌, ◌++◌, ◌+◌, ◌*◌, ◌≤◌, ◌^◌, ◌∷◌, [], IfOk, OnOk, codes, length, max};
 ghost use Rattle.occ_chart.specs.Charts.{circle_label, circle_words, cut_words, note_after, note_before, note_circle, note_ending};
 ghost use Rattle.occ_chart.specs.Xml.{element_text, elements_text};
-ghost use Rattle.occ_net_replay.specs.Endings.{ending_text};
+ghost use Rattle.occ_term.specs.Endings.{ending_text};
 
 use crate::labels::write_label;
 use crate::xml::{Style, write_text};
-use occ_net_replay::Ending;
 use occ_shown::write_numbers;
+use occ_term::Ending;
 use std::alloc::{AllocError, Global};
 
 /// What is said where fewer are drawn than were asked for.

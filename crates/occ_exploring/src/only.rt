@@ -5,9 +5,9 @@ ghost use Rattle.occ_play.specs.Playing.{Refuses};
 
 use crate::lines::{write_answer, write_counted};
 use occ_explore::{Answer, Asked};
-use occ_net_replay::Ending;
 use occ_only_answer::only_answer;
 use occ_play::{Options, PlayFault, code_of};
+use occ_term::Ending;
 use std::alloc::{AllocError, Global};
 
 /// The one answer that all lists of choices come to by which a source can be played on the keyboard's bytes, by turns of these

@@ -7,8 +7,8 @@ use Rattle.occ_term.specs.declared.primitive.Primitive.TheVariants.{Bool as Bool
 use Rattle.occ_term.specs.declared.message.Part.{Part}
 use Rattle.occ_term.specs.declared.message.Part.TheVariants.{One, Many, Counted}
 use Rattle.occ_term.specs.Runs.{Entry}
-use Rattle.occ_net_replay.specs.declared.ending.Ending.{Ending}
-use Rattle.occ_net_replay.specs.Endings.{ending_text}
+use Rattle.occ_term.specs.declared.ending.Ending.{Ending}
+use Rattle.occ_term.specs.Endings.{ending_text}
 use Rattle.occ_shown.specs.Answers.{end_text}
 
 -- ---- names

@@ -1,13 +1,12 @@
 //! Communications and endings as lines of JSON.
 ghost use Rattle.std.specs.Prelude.{◌≡◌, ◌++◌, IfOk, OnOk};
-ghost use Rattle.occ_net_replay.specs.Endings.{ending_text};
+ghost use Rattle.occ_term.specs.Endings.{ending_text};
 ghost use Rattle.occ_shown.specs.Answers.{end_text};
 ghost use Rattle.occ_json.specs.Json.{ending_json, ends_json, head_json, json_text, line_json, message_json, quoted, trace_json};
 
 use crate::values::{write_number, write_parts, write_quoted, write_tag};
 use occ_board::Shown;
-use occ_net_replay::Ending;
-use occ_term::{End, Name};
+use occ_term::{End, Ending, Name};
 use std::alloc::{AllocError, Global};
 
 /// The name of a channel, between quotes.

@@ -7,7 +7,7 @@ use Rattle.occ_machine.specs.Compiled.{IsCompiled}
 use Rattle.occ_machine.specs.Machine.{Body}
 use Rattle.occ_machine.specs.declared.task.Task.{Task}
 use Rattle.occ_proc.specs.Turns.{HasStop}
-use Rattle.occ_net_replay.specs.declared.ending.Ending.{Ending}
+use Rattle.occ_term.specs.declared.ending.Ending.{Ending}
 use Rattle.occ_net_replay.specs.Replay.{HasTask, Net, ending_of, may_go}
 use Rattle.occ_net_replay.specs.Waiting.{IsReplay}
 use Rattle.occ_net_replay.proofs.Alone.{turns_are_few}

@@ -4,8 +4,8 @@ use Rattle.std.specs.Prelude.{slice_get}
 use Rattle.occ_term.specs.declared.names.Channel.{Channel}
 use Rattle.occ_term.specs.Runs.{messages_on}
 use Rattle.occ_machine.specs.Compiled.{IsCompiled}
-use Rattle.occ_net_replay.specs.declared.ending.Ending.{Ending}
-use Rattle.occ_net_replay.specs.declared.ending.Ending.TheVariants as ending
+use Rattle.occ_term.specs.declared.ending.Ending.{Ending}
+use Rattle.occ_term.specs.declared.ending.Ending.TheVariants as ending
 use Rattle.occ_net_replay.specs.Following.{AllFit, AreBytes, Followed, or_limit}
 use Rattle.occ_net_replay.specs.Replay.{Net, ending_of}
 use Rattle.occ_net_replay.proofs.Law.{noted_never_end, replays_are_runs}

@@ -4,7 +4,7 @@ use Rattle.std.specs.Prelude.{List, None, [], ℕ, ◌≡◌}
 use Rattle.occ_term.specs.Runs.{bytes_of, messages_on}
 use Rattle.occ_machine.specs.Compiled.{Program}
 use Rattle.occ_net_replay.specs.declared.choice.Choice.{Choice}
-use Rattle.occ_net_replay.specs.declared.ending.Ending.TheVariants as E
+use Rattle.occ_term.specs.declared.ending.Ending.TheVariants as E
 use Rattle.occ_net_replay.specs.Following.{or_limit}
 use Rattle.occ_net_replay.specs.Replay.{Net, ending_of}
 use Rattle.occ_net_tables.specs.declared.running.Outcome.{Outcome as Alone}

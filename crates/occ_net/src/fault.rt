@@ -2,7 +2,7 @@
 ghost use Rattle.std.specs.Prelude.{◌≡◌, Some};
 ghost use Rattle.occ_net.specs.FaultTexts.{fault_text};
 
-use occ_net_replay::Ending;
+use occ_term::Ending;
 use std::alloc::AllocError;
 use std::error::Error;
 use std::fmt;

@@ -10,10 +10,11 @@ ghost use Rattle.occ_net.specs.Outcomes.{IsReplayOf};
 use crate::fault::NetFault;
 use crate::history::History;
 use occ_machine::{Code, Task};
-use occ_net_replay::{Choice, Ending};
+use occ_net_replay::Choice;
 use occ_net_tables as tables;
 use occ_net_tables::Tables;
 use occ_net_trace::Trace;
+use occ_term::Ending;
 use std::alloc::{AllocError, Global};
 use std::marker::Model;
 

@@ -10,10 +10,10 @@ use crate::fault::NetFault;
 use crate::network::{Network, no_marks};
 use occ_choices::Plan;
 use occ_machine::Code;
-use occ_net_replay::{Choice, Ending};
+use occ_net_replay::Choice;
 use occ_net_tables::{Keep, Ran, run_tables};
 use occ_shown::channel_bytes;
-use occ_term::{ERROR, SCREEN};
+use occ_term::{ERROR, Ending, SCREEN};
 use std::alloc::{AllocError, Global};
 
 /// What a network came to.

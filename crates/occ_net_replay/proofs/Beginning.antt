@@ -28,7 +28,7 @@ use Rattle.occ_machine.specs.Compiled.{Program}
 use Rattle.occ_machine.specs.Machine.{Body}
 use Rattle.occ_machine.specs.declared.task.Task.{Task}
 use Rattle.occ_machine.specs.declared.task.Wait.{Wait}
-use Rattle.occ_net_replay.specs.Following.{AreBytes, ending_as, or_limit}
+use Rattle.occ_net_replay.specs.Following.{AreBytes, or_limit}
 use Rattle.occ_net_replay.specs.Replay.{Net, Tasks, HasTask, first_task, first_net, at_start, none_begun, may_go, ready_from, is_done, ended, main_done, ending_by, ending_of, first_noted, standing_by, stopped_by}
 use Rattle.occ_net_replay.specs.Moments.{At, Among, first, later, here, below}
 use Rattle.occ_net_replay.proofs.Holding.{number_of, Belongs, Stands, may_turn, Own, Holds}
@@ -160,7 +160,7 @@ module _ (d : Declared) (p : Program) (procs : List Numbered) (protocol : d.prot
   may_step k n body t own ps but s (begins_alone {x = x} {j = j} h a) = own_step (going x j s h).2
   may_step k n body t own ps but s (begins_joined e a) = join_step e
 
-  stopped_as : (noted : List Fault) → still_by noted ≡ ending_as (stopped_by (first_noted noted))
+  stopped_as : (noted : List Fault) → still_by noted ≡ (stopped_by (first_noted noted))
   stopped_as [] = refl
   stopped_as (e ∷ es) = refl
 
@@ -195,17 +195,17 @@ module _ (d : Declared) (p : Program) (procs : List Numbered) (protocol : d.prot
         step_at l.at (may_step k y.place l.mine.belongs.body y.task l.own l.branches l.mine.but f.store (begins_as d p procs k l.mine.belongs.body y.task l.own l.branches l.mine.but (subst (λ u. Stands d p procs k l.mine.belongs.body u l.own l.branches l.mine.but) l.same l.mine.stands) y.may))
 
     -- where a noted fault doesn't end the system
-    stands_by : (errors : Errors) → MayGo errors f.noted → (main : Bool) → main_done net.tasks ≡ main → (ready : List ℕ) → ready_from 0 net.tasks ≡ ready → EndsBy errors whole (ending_as (or_limit (standing_by (first_noted f.noted) main ready)))
+    stands_by : (errors : Errors) → MayGo errors f.noted → (main : Bool) → main_done net.tasks ≡ main → (ready : List ℕ) → ready_from 0 net.tasks ≡ ready → EndsBy errors whole (or_limit (standing_by (first_noted f.noted) main ready))
     stands_by errors may true m ready r = by_end may (main_same ∙ m)
     stands_by errors may false m [] r =
         subst (EndsBy errors whole) (stopped_as f.noted)
         (by_standing may (main_same ∙ m) (stands_still d p procs k net f.proc f.store f.noted f.state f.quiet (λ i t h g. none_ready 0 net.tasks r i t h g)))
     stands_by errors may false m (n ∷ ns) r = goes_on may (main_same ∙ m) (private_step (goes n ns r))
 
-    ends_by : (errors : Errors) (noted : List Fault) → f.noted ≡ noted → EndsBy errors whole (ending_as (or_limit (ending_by errors (first_noted noted) (main_done net.tasks) (ready_from 0 net.tasks))))
+    ends_by : (errors : Errors) (noted : List Fault) → f.noted ≡ noted → EndsBy errors whole ((or_limit (ending_by errors (first_noted noted) (main_done net.tasks) (ready_from 0 net.tasks))))
     ends_by Halt (e ∷ es) q = by_fault refl q
-    ends_by Halt [] q = subst (λ z. EndsBy Halt whole (ending_as (or_limit (standing_by (first_noted z) (main_done net.tasks) (ready_from 0 net.tasks))))) q (stands_by Halt q (main_done net.tasks) refl (ready_from 0 net.tasks) refl)
-    ends_by Stop noted q = subst (λ z. EndsBy Stop whole (ending_as (or_limit (standing_by (first_noted z) (main_done net.tasks) (ready_from 0 net.tasks))))) q (stands_by Stop tt (main_done net.tasks) refl (ready_from 0 net.tasks) refl)
+    ends_by Halt [] q = subst (λ z. EndsBy Halt whole ((or_limit (standing_by (first_noted z) (main_done net.tasks) (ready_from 0 net.tasks))))) q (stands_by Halt q (main_done net.tasks) refl (ready_from 0 net.tasks) refl)
+    ends_by Stop noted q = subst (λ z. EndsBy Stop whole ((or_limit (standing_by (first_noted z) (main_done net.tasks) (ready_from 0 net.tasks))))) q (stands_by Stop tt (main_done net.tasks) refl (ready_from 0 net.tasks) refl)
 
-    pub ends_as : EndsBy p.errors sys (ending_as (or_limit (ending_of p.errors net)))
-    ends_as = subst (λ z. EndsBy p.errors z (ending_as (or_limit (ending_of p.errors net)))) (sym f.is) (ends_by p.errors net.noted f.faults)
+    pub ends_as : EndsBy p.errors sys (or_limit (ending_of p.errors net))
+    ends_as = subst (λ z. EndsBy p.errors z (or_limit (ending_of p.errors net))) (sym f.is) (ends_by p.errors net.noted f.faults)

@@ -18,7 +18,7 @@ use Rattle.occ_machine.specs.Machine.{Body, Stopping}
 use Rattle.occ_machine.specs.declared.task.Task.{Task}
 use Rattle.occ_machine.specs.declared.task.Wait.TheVariants.{Joins}
 use Rattle.occ_net_replay.specs.declared.choice.Choice.{Choice}
-use Rattle.occ_net_replay.specs.Following.{AreBytes, Followed, NotedNeverEnd, OneNeverForks, ReplaysAreRuns, ReadyTasksStop, ending_as, or_limit, process_in}
+use Rattle.occ_net_replay.specs.Following.{AreBytes, Followed, NotedNeverEnd, OneNeverForks, ReplaysAreRuns, ReadyTasksStop, or_limit, process_in}
 use Rattle.occ_net_replay.specs.Replay.{Net, HasTask, OneTurn, ending_of, may_go, Replays, begins, first_net, goes_on as replays_on}
 use Rattle.occ_net_replay.specs.Moments.{StandAlike, IsMoment, Accompanies, OneFurther, OneRunForAll, OneRunThroughout, RunsOfAll, at_start, after_turn, keyboard_in, main_in}
 use Rattle.occ_net_replay.proofs.Moments.{stand_alike}
@@ -229,7 +229,7 @@ replays_are_runs u p quantum kb cs net w lawful from bytes small r = followed u 
 pub noted_never_end : NotedNeverEnd
 noted_never_end u p quantum kb cs net w lawful from bytes small r e =
     let f = followed u p quantum kb w lawful from bytes cs net small r in
-    sym f.noted ∙ ended_clean f.run (subst (λ z. EndsBy p.errors f.system (ending_as (or_limit z))) e f.ends)
+    sym f.noted ∙ ended_clean f.run (subst (λ z. EndsBy p.errors f.system (or_limit z)) e f.ends)
 
 pub ready_tasks_stop : ReadyTasksStop
 ready_tasks_stop u p quantum kb cs net n body t w lawful from bytes small r code there may =

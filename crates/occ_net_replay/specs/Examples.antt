@@ -18,7 +18,7 @@ use Rattle.occ_machine.specs.declared.task.Arm.{Arm}
 use Rattle.occ_machine.specs.declared.task.Task.{Task}
 use Rattle.occ_machine.specs.declared.task.Wait.{Wait}
 use Rattle.occ_machine.specs.declared.task.Wait.TheVariants.{Ready, Took, Offers, Awaits, Chooses, Joins, Halted, Done, Faulted}
-use Rattle.occ_net_replay.specs.declared.ending.Ending.TheVariants as ending
+use Rattle.occ_term.specs.declared.ending.Ending.TheVariants as ending
 use Rattle.occ_net_replay.specs.Replay.{Net, Tasks, Settled, byte_message, ending_of, ready_from, selected, took_turn}
 use Rattle.occ_net_replay.specs.Waiting.{channels_at, listens_on}
 

@@ -7,23 +7,15 @@ use Rattle.occ_term.specs.declared.protocol.Protocol.{Protocol}
 use Rattle.occ_term.specs.UnfoldedProgram.{UnfoldedProgram, IsWellFormed, Lawful, declared, meaning}
 use Rattle.occ_term.specs.System.{System, start, noted_in}
 use Rattle.occ_term.specs.Runs.{Event, event, Run, communications, messages_on, EndsBy}
-use Rattle.occ_term.specs.Runs as R
 use Rattle.occ_machine.specs.SameStop.{FitsProtocol}
 use Rattle.occ_machine.specs.Machine.{Body, Stopping}
 use Rattle.occ_machine.specs.declared.task.Task.{Task}
 use Rattle.occ_machine.specs.declared.task.Wait.TheVariants.{Joins}
 use Rattle.occ_machine.specs.Compiled.{Program, IsCompiledFrom}
 use Rattle.occ_net_replay.specs.declared.choice.Choice.{Choice}
-use Rattle.occ_net_replay.specs.declared.ending.Ending.{Ending}
-use Rattle.occ_net_replay.specs.declared.ending.Ending.TheVariants as E
+use Rattle.occ_term.specs.declared.ending.Ending.{Ending}
+use Rattle.occ_term.specs.declared.ending.Ending.TheVariants as E
 use Rattle.occ_net_replay.specs.Replay.{Net, HasTask, may_go, ending_of, Replays}
-
-abbrev pub ending_as : Ending → R.Ending
-ending_as E.Ended = R.Ended
-ending_as E.Stopped = R.Stopped
-ending_as (E.Fault e) = R.FaultEnds e
-ending_as (E.StoppedBy e) = R.StoppedBy e
-ending_as E.Limit = R.Limit
 
 -- the run's ending; where there is none, it goes on
 abbrev pub or_limit : Option Ending → Ending
@@ -51,7 +43,7 @@ pub record Followed (u : UnfoldedProgram) (keyboard : List ℕ) (quantum : ℕ) 
   pub input : (c : ℕ) → net.input c ≡ messages_on c net.trace
   pub fits : (c : ℕ) → AllFit ((declared u).protocols c) (messages_on c net.trace)
   pub noted : noted_in system ≡ net.noted
-  pub ends : EndsBy errors system (ending_as (or_limit (ending_of errors net)))
+  pub ends : EndsBy errors system (or_limit (ending_of errors net))
 
 -- what a keyboard may have
 abbrev pub AreBytes : List ℕ → Type 0

@@ -17,7 +17,7 @@ use Rattle.occ_machine.specs.declared.task.Task.{Task}
 use Rattle.occ_machine.specs.declared.task.Wait.{Wait}
 use Rattle.occ_machine.specs.declared.task.Wait.TheVariants as W
 use Rattle.occ_net_replay.specs.declared.choice.Choice.{Choice}
-use Rattle.occ_net_replay.specs.declared.ending.Ending.TheVariants as E
+use Rattle.occ_term.specs.declared.ending.Ending.TheVariants as E
 use Rattle.occ_net_replay.specs.Following.{AreBytes, Followed}
 use Rattle.occ_net_replay.specs.Replay.{Net, Tasks, HasTask, OneTurn, Replays, goes_on as replays_on, AreDone, ending_of, first_net, is_done, may_go, standing}
 use Rattle.occ_net_replay.specs.Sharing.{SharesStore}

@@ -4,8 +4,6 @@
 #![tactic(auto)]
 
 pub mod choice;
-pub mod ending;
 pub mod laws;
 
 pub use choice::Choice;
-pub use ending::Ending;

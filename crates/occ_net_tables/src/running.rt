@@ -11,9 +11,10 @@ use crate::ready::place_among;
 use crate::tables::Tables;
 use occ_choices::Plan;
 use occ_machine::Code;
-use occ_net_replay::{Choice, Ending};
+use occ_net_replay::Choice;
 use occ_net_trace::Trace;
 use occ_proc::Scratch;
+use occ_term::Ending;
 use std::alloc::{AllocError, Global};
 
 /// What is kept of a choice that was used.

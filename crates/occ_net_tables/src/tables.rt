@@ -8,9 +8,8 @@ ghost use Rattle.occ_net_tables.specs.Holding.{Holds};
 use crate::entries::{empty, no_counts};
 use crate::tasks::put_task;
 use occ_machine::{Code, Task, Wait};
-use occ_net_replay::Ending;
 use occ_net_trace::Trace;
-use occ_term::{Errors, Fault, Frame};
+use occ_term::{Ending, Errors, Fault, Frame};
 use std::alloc::{AllocError, Global};
 
 /// The processes of a program with their channels, the keyboard, the screen and the error channel.

@@ -16,13 +16,13 @@ use Rattle.occ_code.specs.CodeOf.{IsCodeOf, CodeRefuses}
 use Rattle.occ_code.specs.declared.compiling.CodeFault.{CodeFault}
 use Rattle.occ_code.specs.declared.compiling.CodeFault.TheVariants as code
 use Rattle.occ_net_replay.specs.declared.choice.Choice.{Choice}
-use Rattle.occ_net_replay.specs.declared.ending.Ending.{Ending}
-use Rattle.occ_net_replay.specs.declared.ending.Ending.TheVariants as E
+use Rattle.occ_term.specs.declared.ending.Ending.{Ending}
+use Rattle.occ_term.specs.declared.ending.Ending.TheVariants as E
 use Rattle.occ_play.specs.declared.playing.Played.{Played}
 use Rattle.occ_net_tables.specs.declared.running.Outcome.{Outcome}
 use Rattle.occ_shown.specs.Answers.{AreByteMessages, answer_text, names_of}
 use Rattle.occ_shown.proofs.ByteMessages as byte_messages
-use Rattle.occ_net_replay.specs.Following.{AllFit, AreBytes, Followed, ending_as, or_limit}
+use Rattle.occ_net_replay.specs.Following.{AllFit, AreBytes, Followed, or_limit}
 use Rattle.occ_net_tables.specs.Outcomes.{Begins, IsOutcome}
 use Rattle.occ_play.specs.declared.playing.Options.{Options}
 use Rattle.occ_play.specs.declared.fault.PlayFault.{PlayFault}
@@ -149,7 +149,7 @@ headline options source keyboard list trace p channels o played bytes code keys 
         events = f.events;
         system = f.system;
         run = f.run;
-        ends = subst (λ e. EndsBy options.errors f.system (ending_as e)) ends f.ends;
+        ends = subst (λ e. EndsBy options.errors f.system e) ends f.ends;
         clean = λ h. s.clean (sym same_end ∙ h);
         is =
             is ∙ ap (λ cs. answer_text (shown_by (names_of cs) o.trace) o.ending trace) channels_are

@@ -26,7 +26,7 @@ use Rattle.occ_check.specs.CheckRefuses.{CheckRefuses}
 use Rattle.occ_code.specs.declared.compiling.CodeFault.{CodeFault}
 use Rattle.occ_code.specs.declared.compiling.CodeFault.TheVariants as code
 use Rattle.occ_net_replay.specs.declared.choice.Choice.{Choice}
-use Rattle.occ_net_replay.specs.declared.ending.Ending.TheVariants as E
+use Rattle.occ_term.specs.declared.ending.Ending.TheVariants as E
 use Rattle.occ_term.specs.declared.fault.Errors.TheVariants.{Halt}
 use Rattle.occ_play.specs.declared.playing.Options.{Options}
 use Rattle.occ_play.specs.declared.playing.Played.{Played}
@@ -36,7 +36,7 @@ use Rattle.occ_play.specs.declared.fault.PlayFault.{PlayFault}
 use Rattle.occ_play.specs.declared.fault.PlayFault.TheVariants as play
 use Rattle.occ_shown.specs.Answers.{answer_text, names_of}
 use Rattle.occ_shown.specs.Counting.{failures_of, writer_of}
-use Rattle.occ_net_replay.specs.Following.{AllFit, Followed, ending_as, or_limit, process_in}
+use Rattle.occ_net_replay.specs.Following.{AllFit, Followed, or_limit, process_in}
 use Rattle.occ_net_replay.specs.Moments.{Accompanies}
 use Rattle.occ_net_tables.specs.Outcomes.{Begins, IsOutcome}
 use Rattle.occ_net_replay.specs.Replay.{Net, Replays, ending_of}
@@ -93,7 +93,7 @@ pub record IsAnswer (options : Options) (source keyboard : List ℕ) (list : Lis
   pub events : List Event
   pub system : System
   pub run : Run options.errors options.quantum (start (meaning program) keyboard) events system
-  pub ends : EndsBy options.errors system (ending_as played.ending)
+  pub ends : EndsBy options.errors system played.ending
   pub clean : played.ending ≡ E.Ended → noted_in system ≡ []
   pub is : bytes ≡ answer_text (shown (names_of program.channels) events) played.ending trace
   pub used : Begins played.choices.items list

@@ -1,7 +1,7 @@
 -- What `play_workers` promises: the answer of `play` for the choices that it answers.
 -- Manual: nothing; this is (own).
 use Rattle.std.specs.Prelude.{Bool, List, length, ℕ, ◌<◌, ◌≤◌, ◌≡◌, ◌⊎◌}
-use Rattle.occ_net_replay.specs.declared.ending.Ending.TheVariants as E
+use Rattle.occ_term.specs.declared.ending.Ending.TheVariants as E
 use Rattle.occ_run.specs.declared.fault.RunFault.TheVariants as run
 use Rattle.occ_play.specs.declared.fault.PlayFault.{PlayFault}
 use Rattle.occ_play.specs.declared.fault.PlayFault.TheVariants as play

@@ -2,7 +2,7 @@
 -- Manual: nothing; this is (own).
 use Rattle.std.specs.Prelude.{List, Result, Ok, Err, false, ℕ, ◌+◌, ◌<◌, ◌≡◌, ◌⊎◌}
 use Rattle.occ_net_replay.specs.declared.choice.Choice.{Choice}
-use Rattle.occ_net_replay.specs.declared.ending.Ending.TheVariants.{Ended}
+use Rattle.occ_term.specs.declared.ending.Ending.TheVariants.{Ended}
 use Rattle.occ_play.specs.declared.playing.Options.{Options}
 use Rattle.occ_play.specs.declared.playing.Played.{Played}
 use Rattle.occ_play.specs.declared.fault.PlayFault.{PlayFault}

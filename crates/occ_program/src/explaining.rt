@@ -11,9 +11,9 @@ use crate::program::options_of;
 use crate::troubles::{path_or, trouble_text};
 use occ_explaining::{explained_fault, report_of};
 use occ_files::Reason;
-use occ_net_replay::Ending;
 use occ_play::{PlayFault, Played};
 use occ_play_inputs::{Inputs, Stream, Trouble, Words};
+use occ_term::Ending;
 use std::alloc::Global;
 
 /// Prints, behind the line of a refusal, where its mistake is, behind that of a failed write why it failed, and behind an ending that

@@ -1,6 +1,6 @@
 //! Tells what each process stands at where an answer of a search has not ended.
 ghost use Rattle.std.specs.Prelude.{◌≡◌, ◌<◌, IfOk, IsFalse, IsTrue, ◌⊎◌, ◌≢◌, length};
-ghost use Rattle.occ_net_replay.specs.declared.ending.Ending.TheVariants.{Ended};
+ghost use Rattle.occ_term.specs.declared.ending.Ending.TheVariants.{Ended};
 ghost use Rattle.occ_program.specs.Explained.{IsReported, NoneEnds, SomeEnds, TellsAnswers, TellsAt, answer_head};
 
 use crate::explaining::print_text;

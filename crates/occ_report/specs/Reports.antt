@@ -11,10 +11,10 @@ use Rattle.occ_machine.specs.declared.task.Wait.{Wait}
 use Rattle.occ_machine.specs.declared.task.Wait.TheVariants.{Ready, Took, Offers, Awaits, Chooses, Joins, Halted, Done, Faulted}
 use Rattle.occ_machine.specs.Compiled.{Program}
 use Rattle.occ_net_replay.specs.declared.choice.Choice.{Choice}
-use Rattle.occ_net_replay.specs.declared.ending.Ending.{Ending}
-use Rattle.occ_net_replay.specs.declared.ending.Ending.TheVariants as endings
+use Rattle.occ_term.specs.declared.ending.Ending.{Ending}
+use Rattle.occ_term.specs.declared.ending.Ending.TheVariants as endings
 use Rattle.occ_net_replay.specs.Following.{or_limit}
-use Rattle.occ_net_replay.specs.Endings.{ending_text}
+use Rattle.occ_term.specs.Endings.{ending_text}
 use Rattle.occ_net_replay.specs.Replay.{Net, Replays, Tasks, ending_of}
 use Rattle.occ_shown.specs.Answers.{items_text, names_of}
 use Rattle.occ_net_tables.specs.Outcomes.{Begins}

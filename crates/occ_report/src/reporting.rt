@@ -9,9 +9,9 @@ use crate::standing::{Ends, write_circle, write_lines};
 use occ_choices::Plan;
 use occ_ends::{ProcessUses, circle, ends_of};
 use occ_machine::Code;
-use occ_net_replay::Ending;
 use occ_net_tables::{Keep, Ran, run_tables};
 use occ_places::Places;
+use occ_term::Ending;
 use std::alloc::{AllocError, Global};
 
 /// How many processes a report tells of at most.

@@ -3,17 +3,16 @@ ghost use Rattle.std.specs.Prelude.{◌≡◌, ◌++◌, IfOk, OnOk, Some, List,
 ghost use Rattle.occ_machine.specs.Compiled.{Program};
 ghost use Rattle.occ_net_replay.specs.Replay.{Net};
 ghost use Rattle.occ_net_tables.specs.Holding.{Holds};
-ghost use Rattle.occ_net_replay.specs.Endings.{ending_text};
+ghost use Rattle.occ_term.specs.Endings.{ending_text};
 ghost use Rattle.occ_places.specs.Places.{name_of, stop_of};
 ghost use Rattle.occ_shown.specs.Answers.{names_of};
 ghost use Rattle.occ_report.specs.Reports.{lines_of, task_line, arm_channel_text, arms_text, awaited_text, branches_text, circle_text, halted_text, halting_text, line_text, name_text, offer_text, on_line, process_line, process_text, reader_text, standing_text, writer_text};
 
 use occ_machine::{Arm, Wait};
-use occ_net_replay::Ending;
 use occ_net_tables::Tables;
 use occ_places::{Kind, Places, Stop};
 use occ_shown::{write_message, write_name};
-use occ_term::{Channel, Fault, KEYBOARD, Message};
+use occ_term::{Channel, Ending, Fault, KEYBOARD, Message};
 use std::alloc::{AllocError, Global};
 
 /// By channel, of the processes that are left: who may input from it, and who may output to it.

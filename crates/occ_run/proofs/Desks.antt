@@ -8,7 +8,7 @@ use mathlib.Core.Bool.{true≢false}
 use Rattle.occ_machine.specs.Compiled.{Program}
 use Rattle.occ_machine.specs.declared.task.Task.{Task}
 use Rattle.occ_machine.specs.Machine.{Body}
-use Rattle.occ_net_replay.specs.declared.ending.Ending.{Ending}
+use Rattle.occ_term.specs.declared.ending.Ending.{Ending}
 use Rattle.occ_net_replay.specs.Replay.{HasTask, Net, ending_of, may_go}
 use Rattle.occ_net_replay.proofs.Tables.{same_or_not, set_other, set_same, task_once}
 use Rattle.occ_net.specs.declared.leasing.Lease.{Lease}

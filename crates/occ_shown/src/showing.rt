@@ -6,9 +6,8 @@ ghost use Rattle.occ_shown.specs.Answers.{AreByteMessages, IsByteMessage, answer
 ghost use Rattle.occ_net_trace.specs.Views.{part_of};
 
 use crate::values::{tag_name, write_array, write_name, write_number, write_value};
-use occ_net_replay::Ending;
 use occ_net_trace::{Entry, MessageView, PartView, PartViews, Trace};
-use occ_term::{Channel, ERROR, End, Primitive, Protocol, SCREEN};
+use occ_term::{Channel, ERROR, End, Ending, Primitive, Protocol, SCREEN};
 use std::alloc::{AllocError, Global};
 
 /// Ends a line.

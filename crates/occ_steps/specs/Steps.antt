@@ -10,8 +10,8 @@ use Rattle.occ_machine.specs.declared.task.Wait.TheVariants.{Ready, Took, Offers
 use Rattle.occ_machine.specs.Compiled.{Program}
 use Rattle.occ_machine.specs.Machine.{Body, Stopping}
 use Rattle.occ_net_replay.specs.declared.choice.Choice.{Choice}
-use Rattle.occ_net_replay.specs.declared.ending.Ending.TheVariants.{Fault}
-use Rattle.occ_net_replay.specs.Endings.{ending_text}
+use Rattle.occ_term.specs.declared.ending.Ending.TheVariants.{Fault}
+use Rattle.occ_term.specs.Endings.{ending_text}
 use Rattle.occ_net_replay.specs.Replay.{HasTask, Net, OneTurn, ending_of, first_net, ready_from, selected}
 use Rattle.occ_net_tables.specs.Holding.{Holds}
 use Rattle.occ_net_tables.specs.Outcomes.{Begins}

@@ -1,7 +1,7 @@
 //! At what a turn stopped, and what it made possible.
 ghost use Rattle.std.specs.Prelude.{◌≡◌, ◌++◌, ◌+◌, ◌-◌, ◌≤◌, OnOk, codes, length};
 ghost use Rattle.occ_chart.specs.Labels.{message_text};
-ghost use Rattle.occ_net_replay.specs.Endings.{ending_text};
+ghost use Rattle.occ_term.specs.Endings.{ending_text};
 ghost use Rattle.occ_shown.specs.Answers.{ends_text, names_of, numbers_text};
 ghost use Rattle.occ_steps.specs.Steps.{all_made_text, arm_text, arms_text, line_text, made_text, stop_text, stopped_text, tail_text};
 ghost use Rattle.occ_term.specs.Runs.{entries, tag_shown};
@@ -9,11 +9,10 @@ ghost use Rattle.occ_term.specs.Runs.{entries, tag_shown};
 use occ_board::Shown;
 use occ_chart::{words_of, write_end, write_message};
 use occ_machine::{Arm, Task, Wait};
-use occ_net_replay::Ending;
 use occ_net_trace::News;
 use occ_places::{Places, Stop};
 use occ_shown::{shown_as, write_name, write_numbers};
-use occ_term::{Channel, Fault, Message};
+use occ_term::{Channel, Ending, Fault, Message};
 use std::alloc::{AllocError, Global};
 
 fn write_offer(

@@ -6,6 +6,7 @@ pub mod Selecting
 pub mod Steps
 pub mod Turns
 pub mod System
+pub mod Endings
 pub mod Runs
 pub mod StepRuns
 pub mod Uses

@@ -1,6 +1,8 @@
 -- Runs, their endings, and what they show.
 -- Manual: combining processes (PAR leaves the order open). Turns, the endings and what is shown: (own).
 use Rattle.std.specs.Prelude.{Bool, IsFalse, IsTrue, List, None, Option, Some, [], if◌then◌else◌, map, nat_abs, nat_eq, ℕ, ◌++◌, ◌+◌, ◌∷◌, ◌≡◌, ◌⊎◌}
+pub use Rattle.occ_term.specs.declared.ending.Ending.{Ending}
+pub use Rattle.occ_term.specs.declared.ending.Ending.TheVariants.{Ended, Stopped, Fault as FaultEnds, StoppedBy, Limit}
 use Rattle.occ_term.specs.declared.fault.Errors.{Errors}
 use Rattle.occ_term.specs.declared.fault.Errors.TheVariants as on_fault
 use Rattle.occ_term.specs.Messages.{Fault, Part, Message}
@@ -59,14 +61,6 @@ IsStill a = StepOf a → ⊥
 abbrev pub main_ended : System → Bool
 main_ended (system kb (process n a ps) s noted) = is_ended (status a)
 
--- `Limit`: the run goes on
-pub data Ending : Type 0 where
-  Ended : Ending
-  Stopped : Ending
-  FaultEnds : (fault : Fault) → Ending
-  StoppedBy : (fault : Fault) → Ending
-  Limit : Ending
-
 -- what a still system is stopped by: the first fault noted, if any
 abbrev pub still_by : List Fault → Ending
 still_by [] = Stopped
@@ -100,8 +94,14 @@ tag_shown names c (Some tag) = Some (names.tag_name c tag)
 
 abbrev pub entry_of : Names → ℕ → Communication → Entry
 entry_of names i x = record {
-    number = i; channel = x.chan; name = names.channel_name x.chan; sender = x.sender; receiver = x.receiver;
-    tag = tag_shown names x.chan x.message.tag; message = x.message }
+  number = i;
+  channel = x.chan;
+  name = names.channel_name x.chan;
+  sender = x.sender;
+  receiver = x.receiver;
+  tag = tag_shown names x.chan x.message.tag;
+  message = x.message;
+}
 
 abbrev pub communications : List Event → List Communication
 communications [] = []

@@ -6,6 +6,7 @@
 
 pub mod cell_rows;
 pub mod communication;
+pub mod ending;
 pub mod examples;
 pub mod expression;
 pub mod fault;
@@ -26,6 +27,7 @@ pub mod value;
 
 pub use cell_rows::{CellRow, CellRows};
 pub use communication::{Communication, End};
+pub use ending::Ending;
 pub use expression::{
     Array, Declaration, Item, Monadic, Operator, Place, Replicator, Target, TermExpr,
 };

@@ -4,8 +4,8 @@ use Rattle.std.specs.Prelude.{List, [], ℕ, ◌++◌, ◌≡◌, ◌∷◌}
 use Rattle.occ_machine.specs.Compiled.{Program}
 use Rattle.occ_json.specs.Json.{json_text}
 use Rattle.occ_net_replay.specs.declared.choice.Choice.{Choice}
-use Rattle.occ_net_replay.specs.declared.ending.Ending.{Ending}
-use Rattle.occ_net_replay.specs.Endings.{ending_text}
+use Rattle.occ_term.specs.declared.ending.Ending.{Ending}
+use Rattle.occ_term.specs.Endings.{ending_text}
 use Rattle.occ_net_tables.specs.declared.running.Outcome.{Outcome}
 use Rattle.occ_play.specs.declared.playing.Options.{Options}
 use Rattle.occ_play.specs.Playing.{Ran}

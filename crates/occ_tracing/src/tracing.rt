@@ -9,12 +9,11 @@ ghost use Rattle.occ_tracing.specs.Traced.{IsTraced, form_text};
 use occ_board::Shown;
 use occ_choices::Plan;
 use occ_json::json_lines;
-use occ_net_replay::Ending;
 use occ_net_tables::run;
 use occ_net_trace::Trace;
 use occ_play::{Options, PlayFault, code_of};
 use occ_shown::{shown_as, watch_lines};
-use occ_term::Channel;
+use occ_term::{Channel, Ending};
 use std::alloc::{AllocError, Global};
 
 /// How a trace is written.

@@ -1,9 +1,8 @@
 //! The picture of a trace.
 use crate::unfolded::{channel_of_bytes, fixed_channels};
 use occ_chart::{Part as Drawn, Stub, chart};
-use occ_net_replay::Ending;
 use occ_net_trace::Trace;
-use occ_term::{End, Message, Part, Parts, Primitive};
+use occ_term::{End, Ending, Message, Part, Parts, Primitive};
 use std::alloc::{AllocError, Global};
 use std::test::Fail;
 

@@ -1,8 +1,8 @@
 //! Turns that are settled, and turns that are not.
 use crate::turned::{check_refused, network_of, next_turn, settle, step, turn_by};
 use occ_net::Network;
-use occ_net_replay::Ending;
 use occ_proc::Segment;
+use occ_term::Ending;
 use std::alloc::Global;
 use std::process::Abort;
 use std::test::Fail;

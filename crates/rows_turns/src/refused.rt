@@ -7,9 +7,8 @@ use crate::networks::{DIVIDES, HALVES};
 use crate::same::{check_same, check_same_turn};
 use crate::turned::{network_of, next_turn, settle, turn_of};
 use occ_net::{Lease, NetFault, Network, Outcome};
-use occ_net_replay::Ending;
 use occ_proc::Segment;
-use occ_term::{Fault, FaultKind};
+use occ_term::{Ending, Fault, FaultKind};
 use std::alloc::Global;
 use std::process::Abort;
 

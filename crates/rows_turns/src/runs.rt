@@ -2,7 +2,8 @@
 use crate::accepted::code_of;
 use occ_choices::Plan;
 use occ_net::{Network, Outcome, run, run_choices, run_turns};
-use occ_net_replay::{Choice, Ending};
+use occ_net_replay::Choice;
+use occ_term::Ending;
 use std::alloc::Global;
 use std::process::Abort;
 use std::test::Fail;

@@ -1,7 +1,7 @@
 //! The texts of what a network and the workers refuse.
 use occ_net::NetFault;
-use occ_net_replay::Ending;
 use occ_run::RunFault;
+use occ_term::Ending;
 use std::test::Fail;
 
 static RUN_FAULTS: [(RunFault, &str); 4] = [

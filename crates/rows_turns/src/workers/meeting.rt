@@ -2,9 +2,9 @@
 use crate::accepted::code_of;
 use crate::workers::sources::FOUR;
 use occ_machine::{Body, Code, Task};
-use occ_net_replay::Ending;
 use occ_proc::{Segment, turn};
 use occ_run::{Gate, run_workers};
+use occ_term::Ending;
 use std::alloc::{AllocError, Global};
 use std::hint::spin_loop;
 use std::process::Abort;

@@ -1,6 +1,6 @@
 use Rattle.std.proofs.Common.{◌≡◌, ◌<◌, ◌^◌, [], length, refl, rules, subst, sym}
 use Rattle.occ_term.specs.Runs.{messages_on}
-use Rattle.occ_net_replay.specs.declared.ending.Ending.TheVariants as ending
+use Rattle.occ_term.specs.declared.ending.Ending.TheVariants as ending
 use Rattle.occ_net_replay.specs.Following.{or_limit}
 use Rattle.occ_net_replay.specs.Replay.{ending_of}
 use Rattle.occ_net.specs.Histories.{IsHistory}

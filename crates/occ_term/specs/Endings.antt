@@ -4,8 +4,8 @@ use Rattle.std.specs.Prelude.{List, ℕ, ◌++◌, codes}
 use Rattle.std.specs.Fmt.{decimal}
 use Rattle.occ_term.specs.declared.fault.FaultKind.{FaultKind}
 use Rattle.occ_term.specs.declared.fault.FaultKind.TheVariants.{Arith, Range, Convert, Shift, Count}
-use Rattle.occ_net_replay.specs.declared.ending.Ending.{Ending}
-use Rattle.occ_net_replay.specs.declared.ending.Ending.TheVariants.{Ended, Stopped, Fault, StoppedBy, Limit}
+use Rattle.occ_term.specs.declared.ending.Ending.{Ending}
+use Rattle.occ_term.specs.declared.ending.Ending.TheVariants.{Ended, Stopped, Fault, StoppedBy, Limit}
 
 abbrev pub kind_text : FaultKind → List ℕ
 kind_text Arith = codes "ARITH"

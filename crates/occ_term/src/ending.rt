@@ -1,8 +1,8 @@
 //! How a run ends.
 ghost use Rattle.std.specs.Prelude.{Some};
-ghost use Rattle.occ_net_replay.specs.Endings.{ending_text, kind_text};
+ghost use Rattle.occ_term.specs.Endings.{ending_text, kind_text};
 
-use occ_term::{Fault, FaultKind};
+use crate::fault::{Fault, FaultKind};
 use std::fmt;
 
 /// How a run ended.
