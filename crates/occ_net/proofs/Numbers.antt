@@ -6,7 +6,8 @@ use Rattle.occ_term.specs.Frames.{Variables, zero_frame}
 use Rattle.occ_term.specs.declared.communication.Communication.{Communication}
 use Rattle.occ_term.specs.declared.communication.End.{End}
 use Rattle.occ_machine.specs.Compiled.{Program}
-use Rattle.occ_machine.specs.Machine.{Body, Instruction, Stopping, StopsIn, by_place, passes_on, stops_here}
+use Rattle.occ_machine.specs.Machine.{Body, Stopping, StopsIn, by_place, passes_on, stops_here}
+use Rattle.occ_machine.specs.declared.instr.Instr.{Instr}
 use Rattle.occ_machine.specs.declared.task.Task.{Task}
 use Rattle.occ_net_replay.specs.declared.choice.Choice.{Choice}
 use Rattle.occ_net_replay.specs.Replay.{Gets, Gives, Happens, HasTask, Joined, Net, OneTurn, Replays, Settled, Tasks, arm_gets, at_start, begins, branch_task, copied, error_gets, first_task, forks, goes_on, joined, joins, keyboard_gives, meets, none_begun, screen_gets, settles, skips, stays, task_gets, task_gives, turns_at, with_branches}
@@ -80,7 +81,7 @@ settled_numbered (stays none) h = h
 
 -- ---- turns
 
-stops_number : {code : List Instruction} {q : ℕ} {a b : Task} → StopsIn by_place code q a b → b.number ≡ a.number
+stops_number : {code : List (Instr ℕ)} {q : ℕ} {a b : Task} → StopsIn by_place code q a b → b.number ≡ a.number
 stops_number (stops_here s h) = ap (λ t. t.number) s.comes_to
 stops_number (passes_on s h r) = stops_number r ∙ ap (λ t. t.number) s.comes_to
 

@@ -3,7 +3,8 @@ use Rattle.std.proofs.Common.{◌≡◌, ◌∙◌, refl, sym, ap, subst, Bool, 
 use Rattle.std.specs.Prelude.{if◌then◌else◌, slice_get}
 use Rattle.std.proofs.lemmas.Bool.{cases_lt}
 use Rattle.std.proofs.lemmas.Option.{get_or_from_slice_get, slice_get_within}
-use Rattle.occ_machine.specs.Machine.{Body, Instruction, Point, Stopping, StopsIn, by_place, begins_at, passes_on, stops_here}
+use Rattle.occ_machine.specs.Machine.{Body, Point, Stopping, StopsIn, by_place, begins_at, passes_on, stops_here}
+use Rattle.occ_machine.specs.declared.instr.Instr.{Instr}
 use Rattle.occ_machine.specs.SameStop.{AreAbove, IsRising}
 use Rattle.occ_machine.specs.declared.task.Task.{Task}
 use Rattle.occ_machine.specs.declared.task.Wait.{Wait}
@@ -27,7 +28,7 @@ begins_may W.Halted pc f first e = absurd cc
 begins_may W.Done pc f first e = absurd cc
 begins_may (W.Faulted x) pc f first e = absurd cc
 
-stops_may : {code : List Instruction} {q : ℕ} {a b : Task} → StopsIn by_place code q a b → IsTrue (may_go a.wait)
+stops_may : {code : List (Instr ℕ)} {q : ℕ} {a b : Task} → StopsIn by_place code q a b → IsTrue (may_go a.wait)
 stops_may {a = a} (stops_here s h) = begins_may a.wait a.place a.frame s.first s.begins
 stops_may {a = a} (passes_on s h r) = begins_may a.wait a.place a.frame s.first s.begins
 
