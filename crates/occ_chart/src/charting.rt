@@ -1,7 +1,7 @@
 //! The sequence chart of a run, in SVG.
 ghost use Rattle.std.specs.Prelude.{◌≡◌, ◌++◌, ◌≤◌, ◌^◌, IfOk, OnOk, length, map};
 ghost use Rattle.occ_board.specs.Entries.{end_of};
-ghost use Rattle.occ_chart.specs.Charts.{IsChart, above, foot, opening};
+ghost use Rattle.occ_chart.specs.Charts.{IsChart, above, foot, svg_opening};
 ghost use Rattle.occ_net_tables.specs.Holding.{communication_of};
 ghost use Rattle.occ_shown.specs.Answers.{names_of};
 ghost use Rattle.occ_term.specs.Runs.{entries};
@@ -21,14 +21,14 @@ use occ_term::Channel;
 use std::alloc::{AllocError, Global};
 
 /// The opening tag, and the ground.
-#[tactic(auto, unfolding(crate::specs::Charts::opening))]
+#[tactic(auto, unfolding(crate::specs::Charts::svg_opening))]
 fn write_opening(
     alloc: Global,
     out: &mut Vec<u8>,
     width: u64,
     height: u64,
 ) -> Result<(), AllocError>
-    ensures { OnOk result (out.new.items ≡ out.old.items ++ opening width height) }
+    ensures { OnOk result (out.new.items ≡ out.old.items ++ svg_opening width height) }
 {
     out.extend_from_slice(b"<svg xmlns=\"http://www.w3.org/2000/svg\"")?;
     write_number(alloc, out, b"width", width)?;

@@ -1,7 +1,7 @@
 //! Who takes part in a chart.
 ghost use Rattle.std.specs.Prelude.{◌≡◌, ◌≤◌, ◌<◌, ◌^◌, IfOk, OnOk, length, map};
 ghost use Rattle.occ_board.specs.Entries.{end_of};
-ghost use Rattle.occ_chart.specs.Columns.{AreColumns, group, is_before, is_end, number, place_for, place_of, stands_at, with_end, with_ends, with_standing};
+ghost use Rattle.occ_chart.specs.Columns.{AreColumns, group, is_before, is_end, number, place_for, column_of, is_column, with_end, with_ends, with_standing};
 
 use crate::stub::Stub;
 use occ_board::Shown;
@@ -49,7 +49,7 @@ fn is_before(one: End, other: End) -> bool
 
 /// The column of an end; their number where it has none.
 pub(crate) fn place_of(columns: &[End], end: End) -> usize
-    ensures place { result ≡ place_of (end_of end) (map end_of columns.now) }
+    ensures place { result ≡ column_of (end_of end) (map end_of columns.now) }
     ensures within { result ≤ length columns.now }
 {
     for i in 0..columns.len() {
@@ -75,7 +75,7 @@ fn place_for(columns: &[End], end: End) -> usize
 
 /// Whether an end stands at this place.
 fn is_at(columns: &[End], place: usize, end: End) -> bool
-    ensures { result ≡ stands_at (end_of end) (map end_of columns.now) place }
+    ensures { result ≡ is_column (end_of end) (map end_of columns.now) place }
 {
     match columns.get(place) {
         Some(found) => is_end(*found, end),

@@ -2,7 +2,7 @@
 ghost use Rattle.std.specs.Prelude.{◌≡◌, ◌++◌, ◌≤◌, ◌^◌, IfOk, OnOk, codes, length, map};
 ghost use Rattle.std.specs.Option.{option_map};
 ghost use Rattle.occ_board.specs.Entries.{end_of};
-ghost use Rattle.occ_chart.specs.Charts.{feet, foot_at};
+ghost use Rattle.occ_chart.specs.Charts.{drawn_feet, foot_at};
 ghost use Rattle.occ_chart.specs.Labels.{foot_words, message_text};
 ghost use Rattle.occ_chart.specs.Shapes.{stub};
 ghost use Rattle.occ_chart.specs.Xml.{elements_text};
@@ -126,7 +126,7 @@ pub(crate) fn write_feet(
 ) -> Result<(), AllocError>
     requires few { length columns.now ≤ 2 ^ 40 }
     requires bottom { bottom ≤ 2 ^ 40 }
-    ensures { OnOk result (out.new.items ≡ out.old.items ++ elements_text (feet (map end_of columns.now) bottom stubs.now)) }
+    ensures { OnOk result (out.new.items ≡ out.old.items ++ elements_text (drawn_feet (map end_of columns.now) bottom stubs.now)) }
 {
     let mut rest = stubs;
     while let Some((first, others)) = rest.split_first() {

@@ -2,7 +2,7 @@
 ghost use Rattle.std.specs.Prelude.{◌≡◌, ◌++◌, ◌≤◌, ◌^◌, IfOk, OnOk, codes, length, map};
 ghost use Rattle.occ_board.specs.Entries.{end_of};
 ghost use Rattle.occ_chart.specs.Charts.{column, heads, heads_again, lifelines};
-ghost use Rattle.occ_chart.specs.Labels.{end_words, name_in};
+ghost use Rattle.occ_chart.specs.Labels.{end_words, end_name};
 ghost use Rattle.occ_chart.specs.Shapes.{down, label, path};
 ghost use Rattle.occ_chart.specs.Xml.{element_text, elements_text};
 ghost use Rattle.occ_chart.specs.declared.xml.Style.TheVariants.{Plain};
@@ -54,7 +54,7 @@ fn end_words(alloc: Global, name: &[u8], end: End) -> Result<Vec<u8>, AllocError
 
 /// The name that an end has.
 fn name_of(names: &[Vec<u8>], end: End) -> &[u8]
-    ensures { result.now ≡ name_in (map (λ v. v.items) names.now) (end_of end) }
+    ensures { result.now ≡ end_name (map (λ v. v.items) names.now) (end_of end) }
 {
     match end {
         End::Process(number) => match names.get(number as usize) {
@@ -75,7 +75,7 @@ fn write_head(
     y: u64,
     end: End,
 ) -> Result<(), AllocError>
-    ensures { OnOk result (out.new.items ≡ out.old.items ++ element_text (label Plain x y 24 (name_in (map (λ v. v.items) names.now) (end_of end)) (end_words (name_in (map (λ v. v.items) names.now) (end_of end)) (end_of end)))) }
+    ensures { OnOk result (out.new.items ≡ out.old.items ++ element_text (label Plain x y 24 (end_name (map (λ v. v.items) names.now) (end_of end)) (end_words (end_name (map (λ v. v.items) names.now) (end_of end)) (end_of end)))) }
 {
     let name = name_of(names, end);
     let words = end_words(alloc, name, end)?;

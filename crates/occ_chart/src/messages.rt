@@ -3,7 +3,7 @@ ghost use Rattle.std.specs.Prelude.{◌≡◌, ◌++◌, OnOk};
 ghost use Rattle.std.specs.Option.{option_copied};
 ghost use Rattle.occ_term.specs.Runs.{tag_shown};
 ghost use Rattle.occ_shown.specs.Answers.{names_of};
-ghost use Rattle.occ_chart.specs.Labels.{byte_text, item_text, message_text, others_text};
+ghost use Rattle.occ_chart.specs.Labels.{byte_shown, item_text, message_text, others_text};
 
 use occ_shown::{tag_name, write_array, write_value};
 use occ_term::{Channel, Message, Part, Primitive};
@@ -11,7 +11,7 @@ use std::alloc::{AllocError, Global};
 
 /// A byte's number, and its character where it is printed ASCII.
 fn write_byte(alloc: Global, out: &mut Vec<u8>, value: i64) -> Result<(), AllocError>
-    ensures { OnOk result (out.new.items ≡ out.old.items ++ byte_text value) }
+    ensures { OnOk result (out.new.items ≡ out.old.items ++ byte_shown value) }
 {
     let text = format!(in alloc; "{value}")?;
     out.extend_from_slice(text.as_bytes())?;

@@ -2,7 +2,7 @@
 ghost use Rattle.std.specs.Prelude.{◌≡◌, ◌++◌, OnOk, codes};
 ghost use Rattle.std.specs.Fmt.{decimal};
 ghost use Rattle.occ_chart.specs.Shapes.{path, style_attributes, text_at};
-ghost use Rattle.occ_chart.specs.Xml.{attribute, attribute_text, attributes_text, element_text, escaped, escaped_byte, title_text};
+ghost use Rattle.occ_chart.specs.Xml.{attribute, attribute_text, attributes_text, element_text, xml_text, xml_byte, title_text};
 
 use std::alloc::{AllocError, Global};
 
@@ -20,7 +20,7 @@ pub(crate) enum Style {
 }
 
 fn write_byte(out: &mut Vec<u8>, byte: u8) -> Result<(), AllocError>
-    ensures { OnOk result (out.new.items ≡ out.old.items ++ escaped_byte byte) }
+    ensures { OnOk result (out.new.items ≡ out.old.items ++ xml_byte byte) }
 {
     match byte {
         b'"' => out.extend_from_slice(b"&quot;")?,
@@ -34,7 +34,7 @@ fn write_byte(out: &mut Vec<u8>, byte: u8) -> Result<(), AllocError>
 }
 
 fn write_escaped(out: &mut Vec<u8>, bytes: &[u8]) -> Result<(), AllocError>
-    ensures { OnOk result (out.new.items ≡ out.old.items ++ escaped bytes.now) }
+    ensures { OnOk result (out.new.items ≡ out.old.items ++ xml_text bytes.now) }
 {
     let mut rest = bytes;
     while let Some((first, others)) = rest.split_first() {

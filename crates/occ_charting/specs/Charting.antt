@@ -3,7 +3,7 @@
 use Rattle.std.specs.Prelude.{List, None, Option, Some, [], length, min, slice_get, zero, suc, ℕ, ◌++◌, ◌<◌, ◌^◌, ◌≡◌, ◌∷◌}
 use Rattle.occ_chart.specs.declared.part.Part.{Part}
 use Rattle.occ_chart.specs.Charts.{IsChart}
-use Rattle.occ_chart.specs.Columns.{Standing, standing}
+use Rattle.occ_chart.specs.Columns.{Footing, footing}
 use Rattle.occ_chart.specs.Labels.{foot_words}
 use Rattle.occ_machine.specs.Compiled.{Program}
 use Rattle.occ_machine.specs.declared.task.Task.{Task}
@@ -18,23 +18,23 @@ use Rattle.occ_term.specs.Runs.{Names, entries, shown}
 
 -- ---- who stands at the foot
 
-abbrev pub foot_standing : ℕ → Option (List ℕ) → List Standing
+abbrev pub foot_standing : ℕ → Option (List ℕ) → List Footing
 foot_standing n None = []
-foot_standing n (Some words) = standing n words ∷ []
+foot_standing n (Some words) = footing n words ∷ []
 
 -- a process that has not begun stands nowhere
-abbrev pub foot_in : Names → ℕ → Option (Option Task) → List Standing
+abbrev pub foot_in : Names → ℕ → Option (Option Task) → List Footing
 foot_in names n None = []
 foot_in names n (Some None) = []
 foot_in names n (Some (Some t)) = foot_standing n (foot_words names t.wait)
 
 -- of the first so many processes, rising
-abbrev pub feet_of : Names → Tasks → ℕ → List Standing
+abbrev pub feet_of : Names → Tasks → ℕ → List Footing
 feet_of names tasks zero = []
 feet_of names tasks (suc n) = feet_of names tasks n ++ foot_in names n (slice_get tasks n)
 
 -- all but for one whose number would be 2 to the 32 less 1, of which a program has none
-abbrev pub feet : Names → Tasks → List Standing
+abbrev pub feet : Names → Tasks → List Footing
 feet names tasks = feet_of names tasks (min (length tasks) 4294967295)
 
 -- ---- the chart

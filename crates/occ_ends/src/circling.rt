@@ -3,7 +3,7 @@ ghost use Rattle.std.specs.Prelude.{◌≡◌, ◌<◌, ◌≤◌, IfOk, List, O
 ghost use Rattle.occ_machine.specs.Compiled.{Program};
 ghost use Rattle.occ_net_replay.specs.Replay.{Net};
 ghost use Rattle.occ_net_tables.specs.Holding.{Holds};
-ghost use Rattle.occ_ends.specs.Ends.{AreWaits, AreWithin, Circles, IsAgain, IsCircle, IsRing, IsRoot, edge_to, edges_to, next_noted, noted_at, waits_for};
+ghost use Rattle.occ_ends.specs.Ends.{AreWaits, LeadWithin, Circles, IsAgain, IsCircle, IsRing, IsRoot, edge_to, edges_to, next_noted, end_noted, waits_on};
 
 use crate::ends::Ends;
 use occ_explore_walks::{Edge, Fan, Lasting, lasting};
@@ -17,7 +17,7 @@ const MOST: u32 = 4_294_967_294;
 
 /// The process that is noted for a channel.
 fn noted(ends: &[Option<u32>], chan: u32) -> Option<u32>
-    ensures { result ≡ noted_at ends.now chan }
+    ensures { result ≡ end_noted ends.now chan }
 {
     match ends.get(chan as usize) {
         Some(end) => *end,
@@ -27,7 +27,7 @@ fn noted(ends: &[Option<u32>], chan: u32) -> Option<u32>
 
 /// Whom a process waits for that stands at this.
 fn waits_for(ends: &Ends, wait: &Wait) -> Option<u32>
-    ensures { result ≡ waits_for (noted_at ends.now.readers.items) (noted_at ends.now.writers.items) wait.now }
+    ensures { result ≡ waits_on (end_noted ends.now.readers.items) (end_noted ends.now.writers.items) wait.now }
 {
     match wait {
         Wait::Offers { chan, message: _ } => noted(ends.readers.as_slice(), *chan),
@@ -97,7 +97,7 @@ fn root(alloc: Global, below: u32) -> Result<Fan, AllocError>
 fn graph(alloc: Global, ends: &Ends, tables: &Tables, below: u32) -> Result<Vec<Fan>, AllocError>
     requires { below ≤ 4294967294 }
     ensures waits { IfOk result (λ fans. (p : Program) (keyboard : List ℕ) (net : Net) → Holds p keyboard tables.now net → AreWaits (next_noted ends.now net.tasks) below below fans.items) }
-    ensures within { IfOk result (λ fans. AreWithin below below fans.items) }
+    ensures within { IfOk result (λ fans. LeadWithin below below fans.items) }
 {
     let mut fans = Vec::new(alloc);
     fans.push(root(alloc, below)?)?;

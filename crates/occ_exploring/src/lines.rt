@@ -1,6 +1,6 @@
 //! Says what a search has found.
 ghost use Rattle.std.specs.Prelude.{◌≡◌, ◌++◌, ◌≤◌, IfOk, OnOk, length};
-ghost use Rattle.occ_exploring.specs.Texts.{answer_line, answer_lines, answers_text, counted, error_text, exploration_text, held_text, known_text, lasting_text, left_text};
+ghost use Rattle.occ_exploring.specs.Texts.{answer_line, answer_lines, answers_text, so_many, error_text, exploration_text, held_text, known_text, lasting_text, left_text};
 
 use crate::strings::write_string;
 use occ_explore::{Answer, Asked, Exploration, Lasting};
@@ -16,7 +16,7 @@ pub(crate) fn write_counted(
     count: usize,
     word: &[u8],
 ) -> Result<(), AllocError>
-    ensures { OnOk result (out.new.items ≡ out.old.items ++ counted count word.now) }
+    ensures { OnOk result (out.new.items ≡ out.old.items ++ so_many count word.now) }
 {
     let number = format!(in alloc; "{count} ")?;
     out.extend_from_slice(number.as_bytes())?;

@@ -2,7 +2,7 @@
 ghost use Rattle.std.specs.Prelude.{◌≡◌, IfErr, IfOk, IfSome, Some, false, length, replicate, slice_set};
 ghost use Rattle.occ_net_replay.specs.Replay.{Net};
 ghost use Rattle.occ_net.specs.Networks.{IsState, all_in, first_in, is_out, leased, with_out};
-ghost use Rattle.occ_net.specs.Leases.{CanTurn, IsOwnLease, Leases};
+ghost use Rattle.occ_net.specs.Leases.{CanTakeTurn, IsOwnLease, Leases};
 ghost use Rattle.occ_net.specs.Stretches.{CanGoOn};
 
 use crate::network::Network;
@@ -73,7 +73,7 @@ impl Network {
     fn lease_of(&self, alloc: Global, number: u32) -> Result<Lease, AllocError>
         requires { (net : Net) → IsState self.now net → leased self.now net ≡ Some number }
         ensures own { IfOk result (λ l. (net : Net) → IsState self.now net → IsOwnLease self.now net number l) }
-        ensures can { IfOk result CanTurn }
+        ensures can { IfOk result CanTakeTurn }
         ensures goes_on { IfOk result CanGoOn }
     {
         self.code.compiled();
@@ -96,7 +96,7 @@ impl Network {
     /// A refused growth; then nothing has changed.
     pub fn lease(&mut self, alloc: Global) -> Result<Option<Lease>, AllocError>
         ensures leased { IfOk result (λ found. (net : Net) → IsState self.old net → Leases self.old net found self.new) }
-        ensures can { IfOk result (λ found. IfSome found CanTurn) }
+        ensures can { IfOk result (λ found. IfSome found CanTakeTurn) }
         ensures goes_on { IfOk result (λ found. IfSome found CanGoOn) }
         ensures refused { IfErr result (λ _. self.new ≡ self.old) }
     {

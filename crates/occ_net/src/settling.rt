@@ -4,7 +4,7 @@ ghost use Rattle.std.specs.Arc.{arc_value};
 ghost use Rattle.occ_machine.specs.SameStop.{IsRising};
 ghost use Rattle.occ_net_replay.specs.Replay.{Net};
 ghost use Rattle.occ_net.specs.Networks.{IsState};
-ghost use Rattle.occ_net.specs.Settling.{IsAmong, Refuses, Settles, TakesIn};
+ghost use Rattle.occ_net.specs.Settling.{IsAmong, RefusesTurn, HasSettled, CanSettle};
 
 use crate::fault::NetFault;
 use crate::leasing::{Lease, mark};
@@ -40,8 +40,8 @@ impl Network {
         segment: Segment,
         pick: u32,
     ) -> Result<(), (Segment, NetFault)>
-        ensures settled { OnOk result ((net : Net) → IsState self.old net → Settles self.old net segment pick self.new) }
-        ensures refused { IfErr result (λ e. (net : Net) → IsState self.old net → Refuses self.old net segment e.1) }
+        ensures settled { OnOk result ((net : Net) → IsState self.old net → HasSettled self.old net segment pick self.new) }
+        ensures refused { IfErr result (λ e. (net : Net) → IsState self.old net → RefusesTurn self.old net segment e.1) }
         ensures back { IfErr result (λ e. e.0 ≡ segment) }
         ensures same { IfErr result (λ _. self.new ≡ self.old) }
     {
@@ -72,8 +72,8 @@ impl Network {
         segment: Segment,
         pick: u32,
     ) -> Result<Lease, Segment>
-        requires { (net : Net) → IsState self.old net → TakesIn self.old net segment }
-        ensures settled { IfOk result (λ _. (net : Net) → IsState self.old net → Settles self.old net segment pick self.new) }
+        requires { (net : Net) → IsState self.old net → CanSettle self.old net segment }
+        ensures settled { IfOk result (λ _. (net : Net) → IsState self.old net → HasSettled self.old net segment pick self.new) }
         ensures spent { IfOk result (λ l. (arc_value l.body ≡ segment.body) × (l.task ≡ segment.before)) }
         ensures back { IfErr result (λ s. s ≡ segment) }
         ensures same { IfErr result (λ _. self.new ≡ self.old) }

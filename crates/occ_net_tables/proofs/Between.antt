@@ -26,7 +26,7 @@ use Rattle.occ_net_tables.specs.Ready.{put_in}
 use Rattle.occ_net_tables.specs.Keys.{flat, entry_in}
 use Rattle.occ_net_tables.specs.Choosing.{TakesBy, by_input, by_choice, offered_by}
 use Rattle.occ_net_tables.specs.Holding.{Sound, Sized, communication_of, end_of}
-use Rattle.occ_net_tables.specs.Settling.{Mid, SettlesTo, Gave, TakesAlone, TookByte, TookFrom, IsOffering, reader_of, byte_on, sent}
+use Rattle.occ_net_tables.specs.Settling.{Mid, SettlesTo, Gave, TakesAlone, TookByte, TookFrom, IsOffering, outer_taker, byte_on, communicated}
 use Rattle.occ_net_replay.proofs.Arms.{chosen_by_new}
 use Rattle.occ_net_tables.proofs.Arms.{alone_is, gets_by, takes_as, taking}
 use Rattle.occ_net_tables.proofs.Keys.{all_length}
@@ -50,7 +50,7 @@ no_entry table c i e h = let q : Some i ≡ None = sym (ap flat h) ∙ e in cc
 
 -- ---- the ends beside the processes
 
-none_read : (c : ℕ) → reader_of c ≡ None → is_read c ≡ false
+none_read : (c : ℕ) → outer_taker c ≡ None → is_read c ≡ false
 none_read c e = by (nat_eq c 1) (nat_eq c 2) e
   where
     by : (a b : Bool) → (if a then Some Screen else if b then Some Error else None) ≡ None → (a || b) ≡ false
@@ -62,7 +62,7 @@ data Reads : ℕ → End → Type 0 where
   screen_reads : Reads 1 Screen
   error_reads : Reads 2 Error
 
-read_by : (c : ℕ) (r : End) → reader_of c ≡ Some r → Reads c r
+read_by : (c : ℕ) (r : End) → outer_taker c ≡ Some r → Reads c r
 read_by c r e = by (nat_eq c 1) (nat_eq c 2) refl refl e
   where
     at_screen : c ≡ 1 → Screen ≡ r → Reads c r
@@ -174,7 +174,7 @@ module _ (p : Program) (kb : List ℕ) (old : Tables) (number place : ℕ) (afte
   read_settles pick c m r w screen_reads = settles (meets (inl refl) (joined (task_gives (mine p.bodies pick number net mid.before after mid.has_task) w) (screen_gets refl)))
   read_settles pick c m r w error_reads = settles (meets (inl refl) (joined (task_gives (mine p.bodies pick number net mid.before after mid.has_task) w) (error_gets refl)))
 
-  pub was_read : (new : Tables) (pick c : ℕ) (m : Message) (r : End) → after.wait ≡ W.Offers c m → reader_of c ≡ Some r → new.tasks.items ≡ old.tasks.items → new.used ≡ old.used → new.trace ≡ old.trace ++ sent c (Process number) r m ∷ [] → Sound new net.noted → Sized p new → SettlesTo p kb pick number after net new
+  pub was_read : (new : Tables) (pick c : ℕ) (m : Message) (r : End) → after.wait ≡ W.Offers c m → outer_taker c ≡ Some r → new.tasks.items ≡ old.tasks.items → new.used ≡ old.used → new.trace ≡ old.trace ++ communicated c (Process number) r m ∷ [] → Sound new net.noted → Sized p new → SettlesTo p kb pick number after net new
   was_read new pick c m r w e tasks used trace sound sized =
       record {
         next = traced (record (with_task now number (made_ready after)) { output = one_more net.output c m; input = one_more net.input c m }) (S.communication c (S.OfProcess number) (end_of r) m);
@@ -182,7 +182,7 @@ module _ (p : Program) (kb : List ℕ) (old : Tables) (number place : ℕ) (afte
         holds = record {
           tasks = as_ready ∙ sym tasks;
           bytes = bytes_same new used;
-          trace = traced_by new (sent c (Process number) r m) trace;
+          trace = traced_by new (communicated c (Process number) r m) trace;
           sound = kept_quiet new (W.Offers c m) w refl sound;
           sized = sized;
         };
@@ -262,7 +262,7 @@ module _ (p : Program) (kb : List ℕ) (old : Tables) (number place : ℕ) (afte
         holds = record {
           tasks = ap (λ l. slice_set l taker (Some (took_arm x.task a (Some m)))) as_ready ∙ sym g.tasks;
           bytes = bytes_same new g.used;
-          trace = traced_by new (sent c (Process number) (Process taker) m) g.trace;
+          trace = traced_by new (communicated c (Process number) (Process taker) m) g.trace;
           sound = kept_quiet new (W.Offers c m) w refl (true_as g.tasks g.ready (ap (λ z. z.items) g.offering) g.awaiting (ap (λ z. z.items) g.parents) (ap (λ z. z.items) g.unfinished) g.fault s);
           sized = record {
             tasks_are = ap length g.tasks ∙ set_length old.tasks.items taker (Some (took_arm x.task a (Some m))) ∙ mid.sized.tasks_are;
@@ -293,7 +293,7 @@ module _ (p : Program) (kb : List ℕ) (old : Tables) (number place : ℕ) (afte
         };
       }
 
-  pub offer_waits : (new : Tables) (pick c : ℕ) (m : Message) → after.wait ≡ W.Offers c m → reader_of c ≡ None → entry_in old.awaiting.items c ≡ None → new.tasks.items ≡ slice_set old.tasks.items number (Some (ready_with (made_ready after) (W.Offers c m))) → new.used ≡ old.used → new.trace ≡ old.trace → Sound new net.noted → Sized p new → SettlesTo p kb pick number after net new
+  pub offer_waits : (new : Tables) (pick c : ℕ) (m : Message) → after.wait ≡ W.Offers c m → outer_taker c ≡ None → entry_in old.awaiting.items c ≡ None → new.tasks.items ≡ slice_set old.tasks.items number (Some (ready_with (made_ready after) (W.Offers c m))) → new.used ≡ old.used → new.trace ≡ old.trace → Sound new net.noted → Sized p new → SettlesTo p kb pick number after net new
   offer_waits new pick c m w unread empty tasks used trace sound sized = stays_as new pick (W.Offers c m) w none tasks used trace (kept_quiet new (W.Offers c m) w refl sound) sized
     where
       none : Nobody pick
@@ -324,7 +324,7 @@ module _ (p : Program) (kb : List ℕ) (old : Tables) (number place : ℕ) (afte
         holds = record {
           tasks = as_took a (Some m) ∙ sym tasks;
           bytes = ap (λ n. drop n kb) (sym g.used);
-          trace = traced_by new (sent 0 Keyboard (Process number) m) g.trace;
+          trace = traced_by new (communicated 0 Keyboard (Process number) m) g.trace;
           sound = kept_quiet new after.wait refl (takes_quietly t) (true_as tasks (ap (λ z. z.items) g.ready) (ap (λ z. z.items) g.offering) (ap (λ z. z.items) g.awaiting) (ap (λ z. z.items) g.parents) (ap (λ z. z.items) g.unfinished) g.fault s);
           sized = record {
             tasks_are = ap length tasks ∙ set_length old.tasks.items number (Some (took_arm (made_ready after) a (Some m))) ∙ mid.sized.tasks_are;
@@ -370,7 +370,7 @@ module _ (p : Program) (kb : List ℕ) (old : Tables) (number place : ℕ) (afte
               ∙ ap (λ l. slice_set l giver (Some (made_ready o.task))) (as_took a (Some m))
               ∙ set_swap old.tasks.items number giver (Some (took_arm after a (Some m))) (Some (made_ready o.task)) (λ q. x.apart (sym q)) ∙ sym tasks;
           bytes = bytes_same new g.used;
-          trace = traced_by new (sent c (Process giver) (Process number) m) g.trace;
+          trace = traced_by new (communicated c (Process giver) (Process number) m) g.trace;
           sound = kept_quiet new after.wait refl (takes_quietly by) (true_as tasks g.ready g.offering (ap (λ z. z.items) g.awaiting) (ap (λ z. z.items) g.parents) (ap (λ z. z.items) g.unfinished) g.fault s');
           sized = record {
             tasks_are = ap length tasks ∙ set_length (slice_set old.tasks.items giver (Some (made_ready o.task))) number (Some (took_arm (made_ready after) a (Some m))) ∙ set_length old.tasks.items giver (Some (made_ready o.task)) ∙ mid.sized.tasks_are;

@@ -9,9 +9,9 @@ use Rattle.occ_net_tables.specs.Keys.{entry_in}
 
 -- ---- where offers stand
 
-abbrev pub is_named : Option ℕ → ℕ → Bool
-is_named None c = false
-is_named (Some d) c = nat_eq c d
+abbrev pub is_same_number : Option ℕ → ℕ → Bool
+is_same_number None c = false
+is_same_number (Some d) c = nat_eq c d
 
 abbrev pub is_entry : Option ℕ → Bool
 is_entry None = false
@@ -19,7 +19,7 @@ is_entry (Some n) = true
 
 -- on the channel that is named, if one is, and on those at which somebody stands in the table
 abbrev pub offered_by : Option ℕ → List (Option ℕ) → ℕ → Bool
-offered_by named table c = is_named named c || is_entry (entry_in table c)
+offered_by named table c = is_same_number named c || is_entry (entry_in table c)
 
 -- the keyboard's channel, where not all of its bytes are taken
 abbrev pub keyboard_at : List ℕ → ℕ → Option ℕ

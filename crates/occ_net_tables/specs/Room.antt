@@ -6,7 +6,7 @@ use Rattle.occ_term.specs.Frames.{Variables}
 use Rattle.occ_machine.specs.Machine.{Body}
 use Rattle.occ_machine.specs.declared.task.Wait.{Wait}
 use Rattle.occ_machine.specs.declared.task.Wait.TheVariants.{Ready, Took, Offers, Awaits, Chooses, Joins, Halted, Done, Faulted}
-use Rattle.occ_net_replay.specs.Replay.{copied}
+use Rattle.occ_net_replay.specs.Replay.{branch_frame}
 use Rattle.occ_net_tables.specs.declared.tables.Tables.{Tables}
 
 -- there is room for so many more ready processes
@@ -41,7 +41,7 @@ pub record AreSame (old new : Tables) : Type 0 where
 
 -- the frame with which a branch begins
 abbrev pub first_frame : List Body → Variables → ℕ → Variables
-first_frame bodies f n = option_map_or (λ b. copied b f) (slice_get bodies n) f
+first_frame bodies f n = option_map_or (λ b. branch_frame b f) (slice_get bodies n) f
 
 -- so begin the branches of a process with this frame
 pub record AreFirstFrames (bodies : List Body) (frames : List Variables) (ns : List ℕ) : Type 0 where

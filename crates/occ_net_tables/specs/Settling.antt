@@ -49,21 +49,21 @@ pub record IsTurnAt (p : Program) (n : Tables) (place number : ℕ) (after : Tas
   pub stops : Stopping body before after
 
 -- the same tables, but for the task of one process
-abbrev pub with_task : Tables → ℕ → Task → Tables
-with_task n number t = record n { tasks = with_item n.tasks number (Some t) }
+abbrev pub tables_with : Tables → ℕ → Task → Tables
+tables_with n number t = record n { tasks = with_item n.tasks number (Some t) }
 
 -- where the process at this place had come to some task in place of the one that stands here, a turn would bring it to this task
 pub record StandsBehind (p : Program) (keyboard : List ℕ) (n : Tables) (place number : ℕ) (after : Task) : Type 0 where
   pub first : Task
   pub there : HasTask n.tasks.items number first
   pub last : Task
-  pub standing : Standing p keyboard (with_task n number last)
-  pub turn : IsTurnAt p (with_task n number last) place number after
+  pub standing : Standing p keyboard (tables_with n number last)
+  pub turn : IsTurnAt p (tables_with n number last) place number after
 
 -- that turn of the network, with this pick
 abbrev pub TurnsBehind : Program → List ℕ → Tables → ℕ → ℕ → Task → ℕ → Tables → Type 0
 TurnsBehind p keyboard old place number after pick new =
-    (last : Task) (net : Net) (choice : Choice) → Standing p keyboard (with_task old number last) → IsTurnAt p (with_task old number last) place number after → Holds p keyboard (with_task old number last) net
+    (last : Task) (net : Net) (choice : Choice) → Standing p keyboard (tables_with old number last) → IsTurnAt p (tables_with old number last) place number after → Holds p keyboard (tables_with old number last) net
     → place ≡ choice.which → pick ≡ choice.pick → TurnsTo p keyboard choice net new
 
 -- ---- private contracts alone cite what follows
@@ -129,16 +129,16 @@ pub record SettlesFrom (p : Program) (keyboard : List ℕ) (pick number place : 
   pub settles : Settles p keyboard pick number place t.wait between new
 
 -- the end that always takes what is offered on a channel
-abbrev pub reader_of : ℕ → Option End
-reader_of c = if nat_eq c 1 then Some Screen else if nat_eq c 2 then Some Error else None
+abbrev pub outer_taker : ℕ → Option End
+outer_taker c = if nat_eq c 1 then Some Screen else if nat_eq c 2 then Some Error else None
 
 -- what the keyboard gives on a channel, where so many of its bytes are taken
 abbrev pub byte_on : ℕ → List ℕ → ℕ → Option ℕ
 byte_on c keyboard used = if nat_eq c 0 then slice_get keyboard used else None
 
 -- who sent what to whom on which channel
-abbrev pub sent : ℕ → End → End → Message → Communication
-sent c x y m = record { chan = c; sender = x; receiver = y; message = m }
+abbrev pub communicated : ℕ → End → End → Message → Communication
+communicated c x y m = record { chan = c; sender = x; receiver = y; message = m }
 
 -- A process waits for a message on the channel, and takes it by this arm, where no other offer stands.
 abbrev pub TakesAlone : ℕ → ℕ → Wait → Arm → Type 0
@@ -168,7 +168,7 @@ pub record Gave (old : Tables) (number taker chan : ℕ) (t : Task) (a : Arm) (m
   pub tasks : new.tasks.items ≡ slice_set old.tasks.items taker (Some (took_arm t a (Some m)))
   pub ready : new.ready.items ≡ put_in taker old.ready.items
   pub awaiting : new.awaiting.items ≡ set_all (channels_at t.wait) None old.awaiting.items
-  pub trace : new.trace ≡ old.trace ++ sent chan (Process number) (Process taker) m ∷ []
+  pub trace : new.trace ≡ old.trace ++ communicated chan (Process number) (Process taker) m ∷ []
   pub offering : new.offering ≡ old.offering
   pub parents : new.parents ≡ old.parents
   pub unfinished : new.unfinished ≡ old.unfinished
@@ -178,7 +178,7 @@ pub record Gave (old : Tables) (number taker chan : ℕ) (t : Task) (a : Arm) (m
 -- a process has the keyboard's next byte by this arm, and may go on
 pub record TookByte (old : Tables) (number : ℕ) (a : Arm) (byte : ℕ) (new : Tables) : Type 0 where
   pub tasks : (t : Task) → HasTask old.tasks.items number t → new.tasks.items ≡ slice_set old.tasks.items number (Some (took_arm t a (Some (byte_message byte))))
-  pub trace : new.trace ≡ old.trace ++ sent 0 Keyboard (Process number) (byte_message byte) ∷ []
+  pub trace : new.trace ≡ old.trace ++ communicated 0 Keyboard (Process number) (byte_message byte) ∷ []
   pub used : new.used ≡ old.used + 1
   pub ready : new.ready ≡ old.ready
   pub offering : new.offering ≡ old.offering
@@ -199,7 +199,7 @@ pub record TookFrom (old : Tables) (number giver chan : ℕ) (a : Arm) (t : Task
   pub tasks : (u : Task) → HasTask old.tasks.items number u → new.tasks.items ≡ slice_set (slice_set old.tasks.items giver (Some (made_ready t))) number (Some (took_arm u a (Some m)))
   pub ready : new.ready.items ≡ put_in giver old.ready.items
   pub offering : new.offering.items ≡ slice_set old.offering.items chan None
-  pub trace : new.trace ≡ old.trace ++ sent chan (Process giver) (Process number) m ∷ []
+  pub trace : new.trace ≡ old.trace ++ communicated chan (Process giver) (Process number) m ∷ []
   pub awaiting : new.awaiting ≡ old.awaiting
   pub parents : new.parents ≡ old.parents
   pub unfinished : new.unfinished ≡ old.unfinished
@@ -215,7 +215,7 @@ pub record IsFree (tasks : Tasks) (i : ℕ) : Type 0 where
   pub still : goes entry ≡ false
 
 -- the branches that are to begin
-pub record MayBegin (p : Program) (n : Tables) (ns : List ℕ) : Type 0 where
+pub record BranchesMayBegin (p : Program) (n : Tables) (ns : List ℕ) : Type 0 where
   pub ready_is : n.ready.items ≡ ready_from 0 n.tasks.items
   pub rising : IsRising ns
   pub have_bodies : (i : ℕ) → IsTrue (is_held ns i) → i < length p.bodies

@@ -16,7 +16,7 @@ pub record IsThere (tasks : Tasks) (n : ℕ) : Type 0 where
   pub there : HasTask tasks n task
 
 -- it has a turn
-pub record HasTurn (body : Body) (tasks : Tasks) (n : ℕ) : Type 0 where
+pub record MayTakeTurn (body : Body) (tasks : Tasks) (n : ℕ) : Type 0 where
   pub task : Task
   pub there : HasTask tasks n task
   pub counts : task.turns + 1 < 2 ^ 64

@@ -4,7 +4,7 @@ ghost use Rattle.occ_term.specs.Selecting.{is_ready_on, ready_among};
 ghost use Rattle.occ_machine.specs.declared.task.Arm.{Arm};
 ghost use Rattle.occ_net_replay.specs.Replay.{arm_chosen};
 ghost use Rattle.occ_net_replay.specs.Waiting.{channels_of};
-ghost use Rattle.occ_net_tables.specs.Choosing.{arm_at, is_named, offered_by};
+ghost use Rattle.occ_net_tables.specs.Choosing.{arm_at, is_same_number, offered_by};
 ghost use Rattle.occ_net_tables.specs.Keys.{set_all};
 
 use crate::entries::{entry, set_entry};
@@ -12,7 +12,7 @@ use occ_machine::Arm;
 
 /// Whether this channel is the named one.
 fn is_named(named: Option<u32>, chan: u32) -> bool
-    ensures { result ≡ is_named named chan }
+    ensures { result ≡ is_same_number named chan }
 {
     match named {
         Some(other) => chan == other,

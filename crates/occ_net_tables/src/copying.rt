@@ -1,7 +1,7 @@
 //! Frames at a fork and at a join.
 ghost use Rattle.std.specs.Prelude.{◌≡◌, IfOk, map, slice_get};
 ghost use Rattle.occ_term.specs.CellRows.{cells_of};
-ghost use Rattle.occ_net_replay.specs.Replay.{copied, merged, taken_from, taken_over};
+ghost use Rattle.occ_net_replay.specs.Replay.{branch_frame, merged, taken_from, taken_over};
 ghost use Rattle.occ_net_tables.specs.Room.{first_frame};
 
 use occ_machine::{Body, Code, Task};
@@ -10,7 +10,7 @@ use std::alloc::{AllocError, Global};
 
 /// A frame of the body's cells, with the values that another frame has.
 fn branch_frame(alloc: Global, body: &Body, parent: &Frame) -> Result<Frame, AllocError>
-    ensures { IfOk result (λ f. f ≡ copied body.now parent.now) }
+    ensures { IfOk result (λ f. f ≡ branch_frame body.now parent.now) }
 {
     Frame::copied_from(alloc, body.cells(), body.loops() as usize, parent)
 }

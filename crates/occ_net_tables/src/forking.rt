@@ -4,7 +4,7 @@ ghost use Rattle.occ_term.specs.Frames.{Variables};
 ghost use Rattle.occ_machine.specs.declared.task.Task.{Task};
 ghost use Rattle.occ_net_replay.specs.Replay.{HasTask, turns_at};
 ghost use Rattle.occ_net_tables.specs.Room.{AreFirstFrames, HasRoom, first_frame};
-ghost use Rattle.occ_net_tables.specs.Settling.{AllBegan, Began, HasMid, MayBegin, Settles};
+ghost use Rattle.occ_net_tables.specs.Settling.{AllBegan, Began, HasMid, BranchesMayBegin, Settles};
 ghost use Rattle.occ_net_tables.specs.Tasks.{IsThere};
 
 use crate::copying::branch_frames;
@@ -47,7 +47,7 @@ fn frames_of(
 impl Tables {
     /// A branch begins, with this frame.
     fn begin(&mut self, code: &Code, parent: u32, frame: Frame, number: u32)
-        requires may { MayBegin code.now self.old (number ∷ []) }
+        requires may { BranchesMayBegin code.now self.old (number ∷ []) }
         requires room { vec_len self.old.ready + 1 ≤ vec_capacity self.old.ready }
         ensures began { (f : Variables) → frame ≡ first_frame code.now.bodies f number → Began code.now parent f self.old number self.new }
         ensures room { (vec_len self.new.ready ≡ vec_len self.old.ready + 1) × (vec_capacity self.old.ready ≤ vec_capacity self.new.ready) }
@@ -67,7 +67,7 @@ impl Tables {
 
     /// The branches begin, each with its frame.
     fn begin_all(&mut self, code: &Code, parent: u32, frames: Vec<Frame>, branches: &[u32])
-        requires may { MayBegin code.now self.old branches.now }
+        requires may { BranchesMayBegin code.now self.old branches.now }
         requires frames { AreFirstFrames code.now.bodies frames.items branches.now }
         requires room { vec_len self.old.ready + length branches.now ≤ vec_capacity self.old.ready }
         ensures { (f : Variables) → frames.items ≡ map (first_frame code.now.bodies f) branches.now → AllBegan code.now parent f self.old branches.now self.new }

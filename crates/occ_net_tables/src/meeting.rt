@@ -8,7 +8,7 @@ ghost use Rattle.occ_machine.specs.declared.task.Task.{Task};
 ghost use Rattle.occ_net_replay.specs.Replay.{HasTask, byte_message, first_noted};
 ghost use Rattle.occ_net_tables.specs.Choosing.{input_arm, keyboard_at};
 ghost use Rattle.occ_net_tables.specs.Room.{HasRoom};
-ghost use Rattle.occ_net_tables.specs.Settling.{Gave, HasMid, IsOffering, IsTaking, LeftChannels, Settles, TakesAlone, TookByte, TookFrom, byte_on, reader_of};
+ghost use Rattle.occ_net_tables.specs.Settling.{Gave, HasMid, IsOffering, IsTaking, LeftChannels, Settles, TakesAlone, TookByte, TookFrom, byte_on, outer_taker};
 ghost use Rattle.occ_net_tables.specs.Tasks.{IsThere};
 
 use crate::choosing::{choose_arm, set_arms};
@@ -44,7 +44,7 @@ pub(crate) fn rest(
 /// The end that always takes what is offered on this channel.
 #[inline(always)]
 fn reader(chan: u32) -> Option<End>
-    ensures { result ≡ reader_of chan }
+    ensures { result ≡ outer_taker chan }
 {
     match chan {
         SCREEN => Some(End::Screen),

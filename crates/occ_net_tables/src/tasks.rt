@@ -3,7 +3,7 @@ ghost use Rattle.std.specs.Prelude.{◌≡◌, ◌↔◌, ◌+◌, ◌<◌, ◌^
 ghost use Rattle.occ_machine.specs.SameStop.{ready_with};
 ghost use Rattle.occ_machine.specs.declared.task.Task.{Task};
 ghost use Rattle.occ_net_replay.specs.Replay.{HasTask};
-ghost use Rattle.occ_net_tables.specs.Tasks.{EndedBy, HasTurn, IsTaken, IsThere};
+ghost use Rattle.occ_net_tables.specs.Tasks.{EndedBy, MayTakeTurn, IsTaken, IsThere};
 ghost use Rattle.occ_proc.specs.Turns.{left_message};
 
 use occ_machine::{Body, Task, Wait};
@@ -22,7 +22,7 @@ pub(crate) fn advance_task(
     number: u32,
 ) -> Result<TurnEnd, AllocError>
     requires small { length body.now.code + 1 < 2 ^ 32 }
-    requires turn { HasTurn body.now tasks.old.items number }
+    requires turn { MayTakeTurn body.now tasks.old.items number }
     ensures { IfOk result (λ end. (t : Task) → HasTask tasks.old.items number t → EndedBy body.now tasks.old.items number t end (left_message scratch.new) tasks.new.items) }
 {
     match &mut tasks[number as usize] {

@@ -14,7 +14,7 @@ abbrev pub communication : ℕ → End → End → Message → Communication
 communication c x y m = record { chan = c; sender = x; receiver = y; message = m }
 
 -- the item of which this is a view
-abbrev pub part_of : PartView → Part
-part_of (One type v) = part.One type v
-part_of (Many type vs) = part.Many type vs.now
-part_of (Counted type vs) = part.Counted type vs.now
+abbrev pub part_viewed : PartView → Part
+part_viewed (One type v) = part.One type v
+part_viewed (Many type vs) = part.Many type vs.now
+part_viewed (Counted type vs) = part.Counted type vs.now

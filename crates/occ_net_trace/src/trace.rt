@@ -28,13 +28,13 @@ impl Drop for Trace {
 impl Model for Trace {
     ghost use Rattle.std.specs.Prelude.{List};
     ghost use Rattle.occ_net_trace.specs.declared.communication.Communication.{Communication};
-    ghost use Rattle.occ_net_trace.specs.Kept.{IsKept, kept_in};
+    ghost use Rattle.occ_net_trace.specs.Kept.{AreListsOf, kept_in};
 
     ghost Value = { List Communication };
 
     ghost view = { λ t. kept_in t.lists };
 
-    ghost invariant = { λ t. IsKept (kept_in t.lists) t.lists };
+    ghost invariant = { λ t. AreListsOf (kept_in t.lists) t.lists };
 }
 
 impl Trace {

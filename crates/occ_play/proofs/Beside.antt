@@ -22,7 +22,7 @@ use Rattle.occ_play.specs.declared.fault.PlayFault.TheVariants as play
 use Rattle.occ_play.specs.declared.playing.Options.{Options}
 use Rattle.occ_play.specs.declared.playing.Played.{Played}
 use Rattle.occ_play.specs.Playing.{AfterFault, Refuses}
-use Rattle.occ_play.specs.Watching.{IsWatched, Tells, TellsSome}
+use Rattle.occ_play.specs.Watching.{IsWatched, TellsOutcome, TellsSome}
 use Rattle.occ_play.specs.Working.{IsAnswerWithin, IsSomeCrewsAnswer, WorkersRefuse}
 use Rattle.occ_play.proofs.Headline.{never_limit, none_if}
 use Rattle.occ_play.proofs.Working.{workers_refuse}
@@ -30,7 +30,7 @@ use Rattle.occ_play.proofs.Working.{workers_refuse}
 -- what is told of an outcome is an answer by workers, whose run shows the outcome's communications
 pub within_by : (options : Options) (source keyboard : List ℕ) (limit : ℕ) (trace : Bool) (p : Program) (g : Gathered) (o : Outcome) (played : Played) (bytes : List ℕ)
     → IsRunOf p keyboard limit g → o.choices ≡ g.choices → o.ending ≡ g.ending → IsOutcome p keyboard g.choices.items o
-    → Tells options source keyboard trace p o played bytes
+    → TellsOutcome options source keyboard trace p o played bytes
     → (w : IsAnswerWithin options source keyboard limit trace played bytes) × (shown_by (names_of p.channels) (map communication_of o.trace) ≡ shown (names_of w.answer.program.channels) w.answer.events)
 within_by options source keyboard limit trace p g o played bytes run choices ending out t =
     let used : played.choices.items ≡ g.choices.items = ap (λ v. v.items) (t.choices ∙ choices) in
@@ -48,7 +48,7 @@ pub watched_by : (options : Options) (source keyboard : List ℕ) (limit : ℕ) 
     → IsRunOf p keyboard limit g → o.choices ≡ g.choices → o.ending ≡ g.ending → IsOutcome p keyboard g.choices.items o
     → ((net : Net) → IsState g.network net → net.trace ≡ map communication_of o.trace)
     → ((net : Net) → IsState g.network net → board ≡ publishing (held ++ entries (names_of p.channels) 1 net.trace) [] true)
-    → Tells options source keyboard trace p o played bytes
+    → TellsOutcome options source keyboard trace p o played bytes
     → IsWatched options source keyboard limit trace held board played bytes
 watched_by options source keyboard limit trace held board p g o played bytes run choices ending out traced published t =
     let w = within_by options source keyboard limit trace p g o played bytes run choices ending out t in

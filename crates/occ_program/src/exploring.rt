@@ -4,7 +4,7 @@ ghost use Rattle.std.specs.Io.KnownBytes.{Appends};
 ghost use Rattle.occ_choices.specs.Lines.{choice_text};
 ghost use Rattle.occ_exploring.specs.Alone.{only_status, only_text};
 ghost use Rattle.occ_exploring.specs.Texts.{exploration_text};
-ghost use Rattle.occ_files.specs.Leaving.{Leaves, LeavesAll, LeavesNothing};
+ghost use Rattle.occ_files.specs.Leaving.{LeavesOne, LeavesAll, LeavesNothing};
 ghost use Rattle.occ_files.specs.declared.reason.Reason.{Reason};
 ghost use Rattle.occ_play_inputs.specs.Failures.{FailsToWrite, trouble};
 ghost use Rattle.occ_play_inputs.specs.declared.failure.Failure.{Failure};
@@ -349,9 +349,9 @@ fn record_answer<F: Folder>(
     number: usize,
     choices: &[Choice],
 ) -> Result<(), Failure>
-    ensures ok { OnOk result (Leaves (F.left folder.old) (F.left folder.new) (answer_path stem.now number) (choice_text choices.now)) }
+    ensures ok { OnOk result (LeavesOne (F.left folder.old) (F.left folder.new) (answer_path stem.now number) (choice_text choices.now)) }
     ensures failed { IfErr result (FailsToWrite (stream.Answer number)) }
-    ensures err { OnErr result (LeavesNothing (F.left folder.old) (F.left folder.new) ⊎ Leaves (F.left folder.old) (F.left folder.new) (answer_path stem.now number) (choice_text choices.now)) }
+    ensures err { OnErr result (LeavesNothing (F.left folder.old) (F.left folder.new) ⊎ LeavesOne (F.left folder.old) (F.left folder.new) (answer_path stem.now number) (choice_text choices.now)) }
 {
     let path = answer_path(alloc, stem, number)?;
     let text = choices_text(alloc, choices)?;

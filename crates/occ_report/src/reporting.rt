@@ -3,7 +3,7 @@ ghost use Rattle.std.specs.Prelude.{◌≡◌, ◌++◌, IfOk, OnOk, map};
 ghost use Rattle.occ_choices.specs.Plans.{choices_of};
 ghost use Rattle.occ_ends.specs.Ends.{all_using, noted_for};
 ghost use Rattle.occ_term.specs.Terms.{Term};
-ghost use Rattle.occ_report.specs.Reports.{IsCircleOf, IsReport, count_text, head_text, tail_text};
+ghost use Rattle.occ_report.specs.Reports.{IsCircleOf, IsReport, count_text, report_head, report_tail};
 
 use crate::standing::{Ends, write_circle, write_lines};
 use occ_choices::Plan;
@@ -30,7 +30,7 @@ fn count_text(alloc: Global, count: usize) -> Result<String, AllocError>
 
 /// What is told behind the number of communications.
 fn tail(ending: Ending) -> &'static [u8]
-    ensures { result.now ≡ tail_text ending }
+    ensures { result.now ≡ report_tail ending }
 {
     match ending {
         Ending::Stopped | Ending::StoppedBy(_) => b" no process can go on:\n",
@@ -45,7 +45,7 @@ fn write_head(
     count: usize,
     ending: Ending,
 ) -> Result<(), AllocError>
-    ensures { OnOk result (out.new.items ≡ out.old.items ++ head_text count ending) }
+    ensures { OnOk result (out.new.items ≡ out.old.items ++ report_head count ending) }
 {
     let count = count_text(alloc, count)?;
     out.extend_from_slice(b"after ")?;

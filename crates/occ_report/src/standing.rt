@@ -6,7 +6,7 @@ ghost use Rattle.occ_net_tables.specs.Holding.{Holds};
 ghost use Rattle.occ_net_replay.specs.Endings.{ending_text};
 ghost use Rattle.occ_places.specs.Places.{name_of, stop_of};
 ghost use Rattle.occ_shown.specs.Answers.{names_of};
-ghost use Rattle.occ_report.specs.Reports.{lines_of, task_line, arm_channel_text, arms_text, awaited_text, branches_text, circle_text, halted_text, halting_text, line_text, name_text, offer_text, on_line, process_line, process_text, reader_text, standing_text, writer_text};
+ghost use Rattle.occ_report.specs.Reports.{task_lines, task_line, arm_channel_text, arms_text, awaited_text, branches_text, circle_text, halted_text, halting_text, line_told, name_text, offer_text, on_line, process_line, process_text, reader_text, standing_text, writer_text};
 
 use occ_machine::{Arm, Wait};
 use occ_net_replay::Ending;
@@ -266,7 +266,7 @@ fn write_named(out: &mut Vec<u8>, name: &[u8]) -> Result<(), AllocError>
 
 /// The line of a stop, where it is known.
 fn write_line(alloc: Global, out: &mut Vec<u8>, stop: Option<Stop>) -> Result<(), AllocError>
-    ensures { OnOk result (out.new.items ≡ out.old.items ++ line_text stop) }
+    ensures { OnOk result (out.new.items ≡ out.old.items ++ line_told stop) }
 {
     match stop {
         Some(stop) => {
@@ -364,7 +364,7 @@ pub(crate) fn write_lines(
     tables: &Tables,
     count: u32,
 ) -> Result<(), AllocError>
-    ensures { OnOk result ((p : Program) (keyboard : List ℕ) (net : Net) → Holds p keyboard tables.now net → out.new.items ≡ out.old.items ++ lines_of (names_of channels.now) ends.entry.readers.now ends.entry.writers.now places.now net.tasks count) }
+    ensures { OnOk result ((p : Program) (keyboard : List ℕ) (net : Net) → Holds p keyboard tables.now net → out.new.items ≡ out.old.items ++ task_lines (names_of channels.now) ends.entry.readers.now ends.entry.writers.now places.now net.tasks count) }
 {
     for number in 0..count {
         write_task(alloc, out, channels, ends, places, tables, number)?;

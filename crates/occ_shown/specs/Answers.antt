@@ -104,9 +104,9 @@ answer_text s e trace = ((s.screen ++ s.error) ++ line_break (s.screen ++ s.erro
 
 -- ---- names
 
-abbrev pub name_at : Option Channel → List ℕ
-name_at None = []
-name_at (Some c) = c.name
+abbrev pub name_of_channel : Option Channel → List ℕ
+name_of_channel None = []
+name_of_channel (Some c) = c.name
 
 -- the numbers of processes, each after a space
 abbrev pub numbers_text : List ℕ → List ℕ
@@ -117,16 +117,16 @@ abbrev pub name_or_none : Option (List ℕ) → List ℕ
 name_or_none None = []
 name_or_none (Some n) = n
 
-abbrev pub tag_in : Option Protocol → ℕ → List ℕ
-tag_in None t = []
-tag_in (Some (Simple sizes type)) t = []
-tag_in (Some (CountedArray count type)) t = []
-tag_in (Some (Sequential ts)) t = []
-tag_in (Some (Variant tags)) t = name_or_none (slice_get (map (λ x. x.name) tags) t)
+abbrev pub tag_name_in : Option Protocol → ℕ → List ℕ
+tag_name_in None t = []
+tag_name_in (Some (Simple sizes type)) t = []
+tag_name_in (Some (CountedArray count type)) t = []
+tag_name_in (Some (Sequential ts)) t = []
+tag_name_in (Some (Variant tags)) t = name_or_none (slice_get (map (λ x. x.name) tags) t)
 
 -- the declared names
 abbrev pub names_of : List Channel → Names
-names_of cs = record { channel_name = λ c. name_at (slice_get cs c); tag_name = λ c t. tag_in (slice_get (map (λ x. x.protocol) cs) c) t }
+names_of cs = record { channel_name = λ c. name_of_channel (slice_get cs c); tag_name = λ c t. tag_name_in (slice_get (map (λ x. x.protocol) cs) c) t }
 
 -- ---- what the code writes; private contracts alone cite it
 

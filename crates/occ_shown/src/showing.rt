@@ -2,9 +2,9 @@
 ghost use Rattle.std.specs.Prelude.{◌≡◌, ◌++◌, ◌∷◌, [], ◌<◌, ◌+◌, IfOk, OnOk, map, slice_get};
 ghost use Rattle.std.specs.Option.{option_copied};
 ghost use Rattle.occ_term.specs.Runs.{bytes_in, bytes_of, entry_of, entries, messages_on, sent_on, shown_by, tag_shown};
-ghost use Rattle.occ_shown.specs.Answers.{AreByteMessages, IsByteMessage, answer_text, part_text, later_text, items_text, end_text, head_text, ends_text, line_text, trace_text, line_break, names_of, name_at, report_of};
+ghost use Rattle.occ_shown.specs.Answers.{AreByteMessages, IsByteMessage, answer_text, part_text, later_text, items_text, end_text, head_text, ends_text, line_text, trace_text, line_break, names_of, name_of_channel, report_of};
 ghost use Rattle.occ_net_tables.specs.Holding.{communication_of, end_of};
-ghost use Rattle.occ_net_trace.specs.Views.{part_of};
+ghost use Rattle.occ_net_trace.specs.Views.{part_viewed};
 
 use crate::values::{tag_name, write_array, write_name, write_number, write_value};
 use occ_net_replay::Ending;
@@ -20,7 +20,7 @@ pub(crate) fn write_part(
     out: &mut Vec<u8>,
     part: &PartView<'_>,
 ) -> Result<(), AllocError>
-    ensures { OnOk result (out.new.items ≡ out.old.items ++ part_text (part_of part.now)) }
+    ensures { OnOk result (out.new.items ≡ out.old.items ++ part_text (part_viewed part.now)) }
 {
     match part {
         PartView::One(primitive, value) => write_value(alloc, out, *primitive, *value),
@@ -91,7 +91,7 @@ fn write_head(
     chan: u32,
     channels: &[Channel],
 ) -> Result<(), AllocError>
-    ensures { OnOk result (out.new.items ≡ out.old.items ++ head_text number chan (name_at (slice_get channels.now chan))) }
+    ensures { OnOk result (out.new.items ≡ out.old.items ++ head_text number chan (name_of_channel (slice_get channels.now chan))) }
 {
     write_number(alloc, out, number)?;
     out.extend_from_slice(b" c")?;

@@ -1,7 +1,7 @@
 //! Values, names and numbers of processes, in bytes.
 ghost use Rattle.std.specs.Prelude.{◌≡◌, ◌++◌, OnOk, Some};
 ghost use Rattle.std.specs.Fmt.{decimal};
-ghost use Rattle.occ_shown.specs.Answers.{array_text, names_of, numbers_text, spaced_text, tag_in, value_text};
+ghost use Rattle.occ_shown.specs.Answers.{array_text, names_of, numbers_text, spaced_text, tag_name_in, value_text};
 
 use occ_term::{Channel, Primitive, Protocol};
 use std::alloc::{AllocError, Global};
@@ -112,7 +112,7 @@ pub fn tag_name(channels: &[Channel], chan: u32, tag: u32) -> &[u8]
 
 /// The name of a protocol's tag; empty where there is no such tag.
 fn protocol_tag(protocol: &Protocol, tag: u32) -> &[u8]
-    ensures { result.now ≡ tag_in (Some protocol.now) tag }
+    ensures { result.now ≡ tag_name_in (Some protocol.now) tag }
 {
     match protocol {
         Protocol::Variant(tags) => match tags.as_slice().get(tag as usize) {

@@ -2,9 +2,9 @@
 ghost use Rattle.std.specs.Prelude.{◌≡◌, ◌↔◌, ◌++◌, IfOk, IsTrue, OnOk, map, slice_get};
 ghost use Rattle.std.specs.Option.{option_copied};
 ghost use Rattle.occ_term.specs.Runs.{entries, entry_of, tag_shown};
-ghost use Rattle.occ_shown.specs.Answers.{head_text, items_text, later_text, line_text, name_at, names_of, part_text, trace_text};
+ghost use Rattle.occ_shown.specs.Answers.{head_text, items_text, later_text, line_text, name_of_channel, names_of, part_text, trace_text};
 ghost use Rattle.occ_net_tables.specs.Holding.{communication_of};
-ghost use Rattle.occ_net_trace.specs.Views.{part_of};
+ghost use Rattle.occ_net_trace.specs.Views.{part_viewed};
 
 use crate::showing::{LINE_FEED, write_ends, write_part};
 use crate::values::{tag_name, write_number};
@@ -15,7 +15,7 @@ use std::alloc::{AllocError, Global};
 
 /// The name of a channel; empty where there is no such channel.
 fn name_of(alloc: Global, channels: &[Channel], chan: u32) -> Result<Name, AllocError>
-    ensures { IfOk result (λ name. name ≡ name_at (slice_get channels.now chan)) }
+    ensures { IfOk result (λ name. name ≡ name_of_channel (slice_get channels.now chan)) }
 {
     match channels.get(chan as usize) {
         Some(channel) => channel.name.copy(),
@@ -129,7 +129,7 @@ pub fn is_shown(
 
 /// A view of an item.
 fn view_of(part: &Part) -> PartView<'_>
-    ensures { part_of result ≡ part.now }
+    ensures { part_viewed result ≡ part.now }
 {
     match part {
         Part::One(primitive, value) => PartView::One(*primitive, *value),

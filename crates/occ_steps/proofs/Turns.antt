@@ -15,7 +15,7 @@ use Rattle.occ_net_trace.specs.Places.{Place, place_behind}
 use Rattle.occ_term.specs.Runs.{Names, entries}
 use Rattle.occ_term.specs.System as S
 use Rattle.occ_term.specs.declared.message.Message.{Message}
-use Rattle.occ_net_replay.specs.Replay.{Gets, Gives, Happens, Joined, Net, OneTurn, Replays, Settled, arm_gets, begins, error_gets, forks, joined, joins, keyboard_gives, meets, screen_gets, settles, skips, stays, task_gets, task_gives, ending_of, first_net, goes_on, ready_from, selected}
+use Rattle.occ_net_replay.specs.Replay.{Gets, HandsOver, Happens, PassesOn, Net, OneTurn, Replays, Settled, arm_gets, begins, error_gets, forks, joined, joins, keyboard_gives, meets, screen_gets, settles, skips, stays, task_gets, task_gives, ending_of, first_net, goes_on, ready_from, selected_process}
 use Rattle.occ_net_replay.proofs.OneStop.{stopping_once}
 use Rattle.occ_net_replay.proofs.Tables.{task_once}
 use Rattle.occ_net_tables.specs.Holding.{Holds, communication_of, end_of}
@@ -23,7 +23,7 @@ use Rattle.occ_net_tables.specs.Settling.{Standing, TurnsTo}
 use Rattle.occ_net_tables.specs.declared.tables.Tables.{Tables}
 use Rattle.occ_places.specs.Places.{Known}
 use Rattle.occ_shown.specs.Answers.{names_of}
-use Rattle.occ_steps.specs.Steps.{IsSteps, NextTurn, Stepped, Stepping, StepsTo, head_text, news, none_stepped, one_stepped, step_text, tail_text}
+use Rattle.occ_steps.specs.Steps.{IsSteps, NextTurn, Stepped, Stepping, StepsTo, turn_head, news, none_stepped, one_stepped, step_text, turn_tail}
 
 stepped_replays : (known : List Known) (p : Program) (kb : List ℕ) {cs : List Choice} {net : Net} {text : List ℕ} → Stepped known p kb cs net text → Replays p kb cs net
 stepped_replays known p kb none_stepped = begins
@@ -61,7 +61,7 @@ record Grows (a b : Net) : Type 0 where
   pub more : List S.Communication
   pub is : b.trace ≡ a.trace ++ more
 
-gives_none : {c : ℕ} {m : Message} {x : S.End} {a b : Net} → Gives c m x a b → b.trace ≡ a.trace
+gives_none : {c : ℕ} {m : Message} {x : S.End} {a b : Net} → HandsOver c m x a b → b.trace ≡ a.trace
 gives_none (task_gives there waits) = refl
 gives_none (keyboard_gives typed first is) = refl
 
@@ -71,7 +71,7 @@ gets_none (arm_gets there waits chosen on) = refl
 gets_none (screen_gets is) = refl
 gets_none (error_gets is) = refl
 
-joined_one : {pick : ℕ} {x : S.Communication} {a b : Net} → Joined pick a x b → b.trace ≡ a.trace ++ x ∷ []
+joined_one : {pick : ℕ} {x : S.Communication} {a b : Net} → PassesOn pick a x b → b.trace ≡ a.trace ++ x ∷ []
 joined_one (joined {c = c} {m = m} {x = x} {y = y} gives gets) = ap (λ (xs : List S.Communication). xs ++ S.communication c x y m ∷ []) (gets_none gets ∙ gives_none gives)
 
 same_trace : (a b : Net) → b.trace ≡ a.trace → Grows a b
@@ -159,7 +159,7 @@ pub three_more : (o a b c x y z : List ℕ) → x ≡ o ++ a → y ≡ x ++ b �
 three_more o a b c x y z e f g = g ∙ ap (λ l. l ++ c) (f ∙ ap (λ l. l ++ b) e ∙ append_assoc o a b) ∙ append_assoc o (a ++ b) c
 
 -- where some are ready, one is selected
-pub some_selected : (ready : List ℕ) (which : ℕ) → 0 < length ready → selected ready which ≡ None → ⊥
+pub some_selected : (ready : List ℕ) (which : ℕ) → 0 < length ready → selected_process ready which ≡ None → ⊥
 some_selected ready which some none = inside ready (which % length ready) (mod_below which (length ready) some) none
   where
     inside : (xs : List ℕ) (k : ℕ) → k < length xs → slice_get xs k ≡ None → ⊥
@@ -189,8 +189,8 @@ same_left p c net next number after h turn same =
 -- what is written is the line of the turn
 pub steps_to : (known : List Known) (p : Program) (kb : List ℕ) (turn : ℕ) (c : Choice) (net : Net) (old new : Tables) (taken : ℕ) (left : Task) (text middle longer : List ℕ)
     → Holds p kb old net → (x : TurnsTo p kb c net new) → NextTurn p c.which net taken left
-    → middle ≡ text ++ head_text turn (ready_from 0 net.tasks) taken c.pick
-    → longer ≡ middle ++ tail_text (names_of p.channels) known taken left (news (names_of p.channels) net x.next)
+    → middle ≡ text ++ turn_head turn (ready_from 0 net.tasks) taken c.pick
+    → longer ≡ middle ++ turn_tail (names_of p.channels) known taken left (news (names_of p.channels) net x.next)
     → StepsTo known p kb turn c net text new longer
 steps_to known p kb turn c net old new taken left text middle longer holds x next first second =
     let same : taken ≡ x.turn.number = same_number next.selects x.turn.selects in
@@ -200,8 +200,8 @@ steps_to known p kb turn c net old new taken left text middle longer holds x nex
       taken = x.turn;
       holds = x.holds;
       is =
-          second ∙ ap (λ t. t ++ tail_text (names_of p.channels) known taken left (news (names_of p.channels) net x.next)) first
-          ∙ append_assoc text (head_text turn (ready_from 0 net.tasks) taken c.pick) (tail_text (names_of p.channels) known taken left (news (names_of p.channels) net x.next))
+          second ∙ ap (λ t. t ++ turn_tail (names_of p.channels) known taken left (news (names_of p.channels) net x.next)) first
+          ∙ append_assoc text (turn_head turn (ready_from 0 net.tasks) taken c.pick) (turn_tail (names_of p.channels) known taken left (news (names_of p.channels) net x.next))
           ∙ ap (λ (k : ℕ). text ++ step_text (names_of p.channels) known turn net k c.pick left x.next) same
           ∙ ap (λ (t : Task). text ++ step_text (names_of p.channels) known turn net x.turn.number c.pick t x.next) after;
     }

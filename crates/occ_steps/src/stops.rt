@@ -4,7 +4,7 @@ ghost use Rattle.occ_chart.specs.Labels.{message_text};
 ghost use Rattle.occ_net_replay.specs.Endings.{ending_text};
 ghost use Rattle.occ_net_tables.specs.Holding.{communication_of};
 ghost use Rattle.occ_shown.specs.Answers.{ends_text, names_of, numbers_text};
-ghost use Rattle.occ_steps.specs.Steps.{all_made_text, arm_text, arms_text, line_text, made_text, stop_text, stopped_text, tail_text};
+ghost use Rattle.occ_steps.specs.Steps.{all_made_text, arm_text, arm_channels, stop_line, made_text, stop_text, stopped_text, turn_tail};
 ghost use Rattle.occ_term.specs.Runs.{entries, tag_shown};
 
 use occ_board::Shown;
@@ -70,7 +70,7 @@ fn write_arms(
     channels: &[Channel],
     arms: &[Arm],
 ) -> Result<(), AllocError>
-    ensures { OnOk result (out.new.items ≡ out.old.items ++ arms_text (names_of channels.now) arms.now) }
+    ensures { OnOk result (out.new.items ≡ out.old.items ++ arm_channels (names_of channels.now) arms.now) }
 {
     let mut rest = arms;
     while let Some((arm, others)) = rest.split_first() {
@@ -86,7 +86,7 @@ fn write_choosing(
     channels: &[Channel],
     arms: &[Arm],
 ) -> Result<(), AllocError>
-    ensures { OnOk result (out.new.items ≡ out.old.items ++ (codes "chooses" ++ arms_text (names_of channels.now) arms.now)) }
+    ensures { OnOk result (out.new.items ≡ out.old.items ++ (codes "chooses" ++ arm_channels (names_of channels.now) arms.now)) }
 {
     out.extend_from_slice(b"chooses")?;
     write_arms(alloc, out, channels, arms)
@@ -131,7 +131,7 @@ fn write_stop(
 
 /// The line of the source, where it is known.
 fn write_line(alloc: Global, out: &mut Vec<u8>, stop: Option<Stop>) -> Result<(), AllocError>
-    ensures { OnOk result (out.new.items ≡ out.old.items ++ line_text stop) }
+    ensures { OnOk result (out.new.items ≡ out.old.items ++ stop_line stop) }
 {
     match stop {
         Some(stop) => {
@@ -214,7 +214,7 @@ pub(crate) fn write_tail(
     news: &News,
 ) -> Result<(), AllocError>
     requires within { length news.now ≤ made }
-    ensures { OnOk result (out.new.items ≡ out.old.items ++ tail_text (names_of channels.now) places.now number after.now (entries (names_of channels.now) (made - length news.now + 1) (map communication_of news.now))) }
+    ensures { OnOk result (out.new.items ≡ out.old.items ++ turn_tail (names_of channels.now) places.now number after.now (entries (names_of channels.now) (made - length news.now + 1) (map communication_of news.now))) }
 {
     write_stopped(alloc, out, channels, places, number, after)?;
     write_all_made(alloc, out, channels, made, news)?;

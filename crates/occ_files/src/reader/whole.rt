@@ -1,7 +1,7 @@
 //! Input that is read whole.
 ghost use Rattle.std.specs.Prelude.{◌≡◌, ◌+◌, ◌-◌, ◌^◌, ◌<◌, ◌≤◌, IfOk, OnOk, IfErr, IfSome, length, take};
 ghost use Rattle.std.specs.Io.KnownBytes.{Consumes, IsAtEnd};
-ghost use Rattle.occ_files.specs.Reading.{Grows, breaks_of, failures_of, reader_of, Tells};
+ghost use Rattle.occ_files.specs.Reading.{Grows, breaks_of, failures_of, reader_of, TellsReason};
 
 use crate::fault::InputFault;
 use crate::reader::CountedReader;
@@ -26,7 +26,7 @@ fn read_more<R: Read>(
     ensures unbroken { OnOk result (breaks_of reader.new ≡ breaks_of reader.old) }
     ensures counted { OnOk result (failures_of reader.old ≤ failures_of reader.new) }
     ensures room_left { OnOk result (failures_of reader.new < 2 ^ 64 - 1) }
-    ensures told { IfErr result (Tells reader.old reader.new) }
+    ensures told { IfErr result (TellsReason reader.old reader.new) }
 {
     match reader.read_some(buffer) {
         Some(n) => {
@@ -52,7 +52,7 @@ pub fn read_input<R: Read>(
     ensures few { IfOk result (λ bytes. length bytes.items ≤ most) }
     ensures rest { IfOk result (λ bytes. Consumes (R.remaining (reader_of reader.old)) (R.remaining (reader_of reader.new)) bytes.items) }
     ensures unbroken { OnOk result (breaks_of reader.new ≡ breaks_of reader.old) }
-    ensures told { IfErr result (Tells reader.old reader.new) }
+    ensures told { IfErr result (TellsReason reader.old reader.new) }
 {
     let mut buffer = [0; PIECE];
     let mut bytes = Vec::new(alloc);

@@ -1,7 +1,7 @@
 use Rattle.std.proofs.Common.{◌≡◌, ◌+◌, drop, map}
 use Rattle.occ_board.specs.Entries.{end_of}
-use Rattle.occ_chart.specs.Columns.{place_of}
+use Rattle.occ_chart.specs.Columns.{column_of}
 use Rattle.occ_chart.proofs.columns.place_of.Given as goal
 
 abbrev pub invariant-loop-i : goal.invariant-loop-i
-invariant-loop-i l = place_of (end_of l.end) (map end_of l.columns) ≡ place_of (end_of l.end) (map end_of (drop l.i l.columns)) + l.i
+invariant-loop-i l = column_of (end_of l.end) (map end_of l.columns) ≡ column_of (end_of l.end) (map end_of (drop l.i l.columns)) + l.i
