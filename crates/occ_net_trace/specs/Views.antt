@@ -1,6 +1,6 @@
 -- What is read from a trace, and what is put into it.
 -- Manual: nothing; this is (own).
-use Rattle.std.specs.Prelude.{ℕ}
+use Rattle.std.specs.Prelude.{List, [], ℕ, ◌++◌, ◌∷◌, ◌≡◌}
 use Rattle.occ_term.specs.declared.message.Message.{Message}
 use Rattle.occ_term.specs.declared.message.Part.{Part}
 use Rattle.occ_term.specs.declared.message.Part.TheVariants as part
@@ -12,6 +12,10 @@ use Rattle.occ_net_trace.specs.declared.messages.PartView.TheVariants.{One, Many
 -- a message on a channel, with who output it and who input it
 abbrev pub communication : ℕ → End → End → Message → Communication
 communication c x y m = record { chan = c; sender = x; receiver = y; message = m }
+
+-- it stands behind the others
+abbrev pub Pushes : List Communication → ℕ → End → End → Message → List Communication → Type 0
+Pushes old c x y m new = new ≡ old ++ communication c x y m ∷ []
 
 -- the item of which this is a view
 abbrev pub part_viewed : PartView → Part

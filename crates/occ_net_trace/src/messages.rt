@@ -2,7 +2,7 @@
 ghost use Rattle.std.specs.Prelude.{◌≡◌, IfOk};
 ghost use Rattle.std.specs.Iterator.{YieldsFirstBy, item_count};
 ghost use Rattle.occ_term.specs.Messages.{message};
-ghost use Rattle.occ_net_trace.specs.Flat.{items_in};
+ghost use Rattle.occ_net_trace.specs.Kept.{items_from};
 ghost use Rattle.occ_net_trace.specs.Views.{part_viewed};
 
 use crate::pieces::{Pieces, split_word};
@@ -78,7 +78,7 @@ impl<'a> PartView<'a> {
 impl<'a> MessageView<'a> {
     /// The message with this tag whose items stand here.
     pub(crate) fn new(tag: Option<u32>, pieces: Pieces<'a>) -> MessageView<'a>
-        ensures { result ≡ message tag (items_in pieces.entry.shapes.now pieces.entry.lengths.now pieces.entry.words.now) }
+        ensures { result ≡ message tag (items_from pieces.entry) }
     {
         MessageView { tag, pieces }
     }

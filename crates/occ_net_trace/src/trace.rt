@@ -1,8 +1,8 @@
 //! The trace of a run.
-ghost use Rattle.std.specs.Prelude.{◌≡◌, ◌↔◌, ◌<◌, ◌^◌, ◌++◌, ◌∷◌, [], IfOk, IsTrue, List, OnErr, OnOk, length};
+ghost use Rattle.std.specs.Prelude.{◌≡◌, ◌↔◌, ◌<◌, ◌^◌, [], IfOk, IsTrue, List, OnErr, OnOk, length};
 ghost use Rattle.occ_net_trace.specs.declared.communication.Communication.{Communication};
-ghost use Rattle.occ_net_trace.specs.Places.{place_behind};
-ghost use Rattle.occ_net_trace.specs.Views.{communication};
+ghost use Rattle.occ_net_trace.specs.Places.{AreBehind, place_behind};
+ghost use Rattle.occ_net_trace.specs.Views.{Pushes};
 
 use crate::communication::End;
 use crate::entries::Entries;
@@ -112,7 +112,7 @@ impl Trace {
     ///
     /// A refused growth.
     pub fn copy_behind(&self, mark: &Mark, news: &mut News) -> Result<(), AllocError>
-        ensures { OnOk result ((before after : List Communication) → self.now ≡ before ++ after → mark.now ≡ place_behind before → news.new ≡ after) }
+        ensures { OnOk result (AreBehind self.now mark.now news.new) }
     {
         news.take(&self.lists, mark)
     }
@@ -130,7 +130,7 @@ impl Trace {
         receiver: End,
         message: &Message,
     ) -> Result<(), AllocError>
-        ensures pushed { OnOk result (self.new ≡ self.old ++ communication chan sender receiver message.now ∷ []) }
+        ensures pushed { OnOk result (Pushes self.old chan sender receiver message.now self.new) }
         ensures same { OnErr result (self.new ≡ self.old) }
     {
         let parts = message.items.as_slice();
