@@ -5,13 +5,7 @@ use Rattle.occ_term.specs.declared.message.Message.{Message}
 use Rattle.occ_term.specs.System as S
 use Rattle.occ_term.specs.Runs.{Entry}
 use Rattle.occ_net_trace.specs.declared.communication.End.{End}
-use Rattle.occ_net_trace.specs.declared.communication.End.TheVariants.{Process, Keyboard, Screen, Error}
-
-abbrev pub end_of : End → S.End
-end_of (Process n) = S.OfProcess n
-end_of Keyboard = S.Keyboard
-end_of Screen = S.Screen
-end_of Error = S.Error
+pub use Rattle.occ_net_trace.specs.Views.{end_of}
 
 abbrev pub entry : (number channel : ℕ) → List ℕ → (sender receiver : End) → Option (List ℕ) → Message → Entry
 entry number channel name sender receiver tag m =

@@ -1,20 +1,24 @@
 -- The sequence chart of a run, in SVG: a column for each end that takes part, from top to bottom an arrow for each communication, and at
 -- the foot what each process waits for.
 -- Manual: nothing; this is (own).
-use Rattle.std.specs.Prelude.{Bool, List, [], codes, drop, false, if◌then◌else◌, length, max, min, nat_eq, nat_lt, take, true, ℕ, ◌&&◌, ◌++◌, ◌+◌, ◌-◌, ◌*◌, ◌∷◌, ◌≡◌}
+use Rattle.std.specs.Prelude.{Bool, List, [], codes, drop, false, if◌then◌else◌, length, max, min, nat_eq, nat_lt, take, true, ℕ, ◌&&◌, ◌++◌, ◌+◌, ◌-◌, ◌*◌, ◌∷◌, ◌≡◌, Vec}
 use Rattle.std.specs.Fmt.{decimal}
 use Rattle.occ_term.specs.System.{End, OfProcess}
 use Rattle.occ_term.specs.Runs.{Entry}
 use Rattle.occ_net_replay.specs.declared.ending.Ending.{Ending}
 use Rattle.occ_net_replay.specs.Endings.{ending_text}
-use Rattle.occ_shown.specs.Answers.{numbers_text}
+use Rattle.occ_shown.specs.Answers.{numbers_text, entries_in}
 use Rattle.occ_chart.specs.declared.part.Part.{Part}
 use Rattle.occ_chart.specs.declared.part.Part.TheVariants.{First, Last}
 use Rattle.occ_chart.specs.declared.xml.Style.TheVariants.{Plain, Red, Note, RedNote}
 use Rattle.occ_chart.specs.Columns.{AreColumns, Footing, column_of}
-use Rattle.occ_chart.specs.Labels.{arrow_words, end_words, end_name}
+use Rattle.occ_chart.specs.Labels.{arrow_words, end_words, end_name, texts_of}
 use Rattle.occ_chart.specs.Shapes.{along, down, label, path, stub, text_at}
 use Rattle.occ_chart.specs.Xml.{Element, attribute, attribute_text, elements_text}
+use Rattle.occ_term.specs.declared.names.Channel.{Channel}
+use Rattle.occ_net_trace.specs.declared.communication.Communication.{Communication}
+use Rattle.occ_net_trace.specs.declared.communication.End.{End as Made}
+use Rattle.occ_board.specs.Entries.{end_of}
 
 -- ---- which communications are drawn
 
@@ -165,3 +169,11 @@ pub record IsChart (es : List Entry) (part : Part) (ending : Ending) (names : Li
       bytes
       ≡ above names columns (shown_of part es) (before_of part es) (is_cut part es)
       ++ foot names columns (length (shown_of part es)) (after_of part es) (is_cut part es) ss circle ending
+
+-- the head of one column
+abbrev pub head_of_end : {A : Type 0} → List (Vec ℕ A) → (x y : ℕ) → Made → Element
+head_of_end names x y end = label Plain x y 24 (end_name (texts_of names) (end_of end)) (end_words (end_name (texts_of names) (end_of end)) (end_of end))
+
+-- a chart of what code has
+abbrev pub IsChartOf : {A : Type 0} → List Channel → List Communication → Part → Ending → List (Vec ℕ A) → List Footing → List ℕ → Vec ℕ A → Type 0
+IsChartOf cs trace part ending names ss circle bytes = IsChart (entries_in cs trace) part ending (texts_of names) ss circle bytes.items

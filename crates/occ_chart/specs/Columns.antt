@@ -1,9 +1,11 @@
 -- Which columns a chart has: one for each that takes part.
 -- Manual: nothing; this is (own).
-use Rattle.std.specs.Prelude.{Bool, List, [], false, if◌then◌else◌, nat_eq, nat_lt, slice_get, true, ℕ, ⊤, ◌&&◌, ◌+◌, ◌||◌, ◌∷◌, ◌≡◌, ◌⊎◌, ◌↔◌}
+use Rattle.std.specs.Prelude.{Bool, List, [], false, if◌then◌else◌, nat_eq, nat_lt, slice_get, true, ℕ, ⊤, ◌&&◌, ◌+◌, ◌||◌, ◌∷◌, ◌≡◌, ◌⊎◌, ◌↔◌, OnOk, Result, Vec, length, map, ◌^◌, ◌≤◌}
 use Rattle.std.specs.Option.{option_map_or}
 use Rattle.occ_term.specs.System.{End, OfProcess, Keyboard, Screen, Error}
 use Rattle.occ_term.specs.Runs.{Entry}
+use Rattle.occ_net_trace.specs.declared.communication.End.{End as Made}
+use Rattle.occ_board.specs.Entries.{end_of}
 
 -- a process that stands where a run has come to, and in which words
 pub record Footing : Type 0 where
@@ -92,3 +94,20 @@ with_ends xs (e ∷ es) = with_ends (with_end e.receiver (with_end e.sender xs))
 abbrev pub with_standing : List End → List Footing → List End
 with_standing xs [] = xs
 with_standing xs (s ∷ ss) = with_standing (with_end (OfProcess s.process) xs) ss
+
+-- the ends that code has
+abbrev pub columns_of : List Made → List End
+columns_of columns = map end_of columns
+
+abbrev pub AddsEnd : {A : Type 0} → (old new : Vec Made A) → End → Type 0
+AddsEnd old new x = columns_of new.items ≡ with_end x (columns_of old.items)
+
+abbrev pub AddsEnds : {A : Type 0} → (old new : Vec Made A) → List Entry → Type 0
+AddsEnds old new es = columns_of new.items ≡ with_ends (columns_of old.items) es
+
+abbrev pub AddsFootings : {A : Type 0} → (old new : Vec Made A) → List Footing → Type 0
+AddsFootings old new ss = columns_of new.items ≡ with_standing (columns_of old.items) ss
+
+-- few columns stay few
+abbrev pub StayFew : {A : Type 0} → {E : Type 0} → Result ⊤ E → (old new : Vec Made A) → Type 0
+StayFew result old new = length old.items ≤ 2 ^ 40 → OnOk result (length new.items ≤ 2 ^ 40)

@@ -1,6 +1,6 @@
 -- The words of a chart.
 -- Manual: nothing; this is (own).
-use Rattle.std.specs.Prelude.{Bool, List, None, Option, Some, [], codes, if◌then◌else◌, int_le, length, nat_abs, pos, slice_get, ℕ, ℤ, ◌&&◌, ◌++◌, ◌∷◌}
+use Rattle.std.specs.Prelude.{Bool, List, None, Option, Some, [], codes, if◌then◌else◌, int_le, length, nat_abs, pos, slice_get, ℕ, ℤ, ◌&&◌, ◌++◌, ◌∷◌, Vec, map, option_map, ◌≡◌}
 use Rattle.std.specs.Fmt.{decimal, signed_decimal}
 use Rattle.occ_term.specs.declared.primitive.Primitive.TheVariants.{Bool as Boolean, Byte, Int}
 use Rattle.occ_term.specs.declared.message.Part.{Part}
@@ -11,7 +11,9 @@ use Rattle.occ_machine.specs.declared.task.Wait.{Wait}
 use Rattle.occ_machine.specs.declared.task.Wait.TheVariants.{Ready, Took, Offers, Awaits, Chooses, Joins, Halted, Done, Faulted}
 use Rattle.occ_net_replay.specs.declared.ending.Ending.TheVariants.{Fault}
 use Rattle.occ_net_replay.specs.Endings.{ending_text}
-use Rattle.occ_shown.specs.Answers.{array_text, end_text, name_or_none, value_text}
+use Rattle.occ_shown.specs.Answers.{array_text, end_text, name_or_none, value_text, names_of}
+use Rattle.occ_term.specs.declared.names.Channel.{Channel}
+use Rattle.occ_term.specs.declared.message.Message.{Message}
 
 -- ---- messages: as in a line of the trace, but for single bytes
 
@@ -71,3 +73,22 @@ foot_words names (Joins ns) = None
 foot_words names Halted = Some (codes "halted")
 foot_words names Done = None
 foot_words names (Faulted e) = Some (ending_text (Fault e))
+
+-- ---- of what code has
+
+abbrev pub texts_of : {A : Type 0} → List (Vec ℕ A) → List (List ℕ)
+texts_of vs = map (λ v. v.items) vs
+
+-- these words, if any
+abbrev pub HasWords : {A : Type 0} → Option (List ℕ) → Option (Vec ℕ A) → Type 0
+HasWords words found = option_map (λ v. v.items) found ≡ words
+
+-- a message on a channel, by the declared names
+abbrev pub message_on : List Channel → ℕ → Message → List ℕ
+message_on cs c m = message_text (tag_shown (names_of cs) c m.tag) m.items
+
+abbrev pub offer_words : List Channel → ℕ → Message → List ℕ
+offer_words cs c m = (names_of cs).channel_name c ++ codes " ! " ++ message_text (tag_shown (names_of cs) c m.tag) m.items ++ codes " waits"
+
+abbrev pub await_words : List Channel → ℕ → List ℕ
+await_words cs c = (names_of cs).channel_name c ++ codes " ? waits"

@@ -1,6 +1,6 @@
 -- Elements of XML that hold text alone, some of them behind a title, and how they are written.
 -- Manual: nothing; this is (own).
-use Rattle.std.specs.Prelude.{List, [], codes, if◌then◌else◌, nat_lt, ℕ, ◌&&◌, ◌++◌, ◌==◌, ◌∷◌}
+use Rattle.std.specs.Prelude.{List, [], codes, if◌then◌else◌, nat_lt, ℕ, ◌&&◌, ◌++◌, ◌==◌, ◌∷◌, Vec, ◌≡◌}
 
 -- what marks XML is written by its name, and what is no printed ASCII as a question mark
 abbrev pub xml_byte : ℕ → List ℕ
@@ -51,3 +51,14 @@ element_text e = 60 ∷ e.name ++ attributes_text e.attributes ++ 62 ∷ title_t
 abbrev pub elements_text : List Element → List ℕ
 elements_text [] = []
 elements_text (e ∷ es) = element_text e ++ elements_text es
+
+-- ---- behind the bytes that stood there
+
+abbrev pub AddsElement : {A : Type 0} → (old new : Vec ℕ A) → Element → Type 0
+AddsElement old new e = new.items ≡ old.items ++ element_text e
+
+abbrev pub AddsElements : {A : Type 0} → (old new : Vec ℕ A) → List Element → Type 0
+AddsElements old new es = new.items ≡ old.items ++ elements_text es
+
+abbrev pub AddsAttribute : {A : Type 0} → (old new : Vec ℕ A) → (name value : List ℕ) → Type 0
+AddsAttribute old new name value = new.items ≡ old.items ++ attribute_text (attribute name value)

@@ -1,10 +1,10 @@
 //! The arrows of communications.
-ghost use Rattle.std.specs.Prelude.{◌≡◌, ◌++◌, ◌≤◌, ◌^◌, IfOk, OnOk, length, map};
-ghost use Rattle.occ_board.specs.Entries.{end_of};
+ghost use Rattle.std.specs.Prelude.{◌≡◌, ◌++◌, ◌≤◌, ◌^◌, IfOk, OnOk, length};
 ghost use Rattle.occ_chart.specs.Charts.{arrow, arrow_from, arrows, room_between, row};
 ghost use Rattle.occ_chart.specs.Labels.{arrow_words};
 ghost use Rattle.occ_chart.specs.Shapes.{along, leftward, rightward};
-ghost use Rattle.occ_chart.specs.Xml.{elements_text};
+ghost use Rattle.occ_chart.specs.Xml.{AddsElements};
+ghost use Rattle.occ_chart.specs.Columns.{columns_of};
 
 use crate::columns::place_of;
 use crate::heads::column;
@@ -91,7 +91,7 @@ fn write_arrow_from(
     requires from { from ≤ 2 ^ 40 }
     requires to { to ≤ 2 ^ 40 }
     requires near { number ≤ 2 ^ 40 }
-    ensures { OnOk result (out.new.items ≡ out.old.items ++ elements_text (arrow_from from to number shown.now)) }
+    ensures { OnOk result (AddsElements out.old out.new (arrow_from from to number shown.now)) }
 {
     let course = along(alloc, column(from), column(to), row(number))?;
     write_path(out, course.as_bytes(), b"black")?;
@@ -121,7 +121,8 @@ fn write_arrow(
 ) -> Result<(), AllocError>
     requires few { length columns.now ≤ 2 ^ 40 }
     requires near { number ≤ 2 ^ 40 }
-    ensures { OnOk result (out.new.items ≡ out.old.items ++ elements_text (arrow (map end_of columns.now) number shown.now)) }
+    ensures { OnOk result
+        (AddsElements out.old out.new (arrow (columns_of columns.now) number shown.now)) }
 {
     let from = place_of(columns, shown.sender());
     let to = place_of(columns, shown.receiver());
@@ -137,7 +138,8 @@ pub(crate) fn write_arrows(
 ) -> Result<(), AllocError>
     requires few { length columns.now ≤ 2 ^ 40 }
     requires near { length shown.now ≤ 2 ^ 40 }
-    ensures { OnOk result (out.new.items ≡ out.old.items ++ elements_text (arrows (map end_of columns.now) 0 shown.now)) }
+    ensures { OnOk result
+        (AddsElements out.old out.new (arrows (columns_of columns.now) 0 shown.now)) }
 {
     let mut number = 0;
     let mut rest = shown;

@@ -1,10 +1,9 @@
 //! The sequence chart of a run, in SVG.
-ghost use Rattle.std.specs.Prelude.{◌≡◌, ◌++◌, ◌≤◌, ◌^◌, IfOk, OnOk, length, map};
-ghost use Rattle.occ_board.specs.Entries.{end_of};
-ghost use Rattle.occ_chart.specs.Charts.{IsChart, above, foot, svg_opening};
-ghost use Rattle.occ_net_tables.specs.Holding.{communication_of};
-ghost use Rattle.occ_shown.specs.Answers.{names_of};
-ghost use Rattle.occ_term.specs.Runs.{entries};
+ghost use Rattle.std.specs.Prelude.{◌≡◌, ◌≤◌, ◌^◌, IfOk, OnOk, length};
+ghost use Rattle.occ_chart.specs.Charts.{IsChartOf, above, foot, svg_opening};
+ghost use Rattle.occ_shown.specs.Answers.{AddsText, HasBytes};
+ghost use Rattle.occ_chart.specs.Columns.{columns_of};
+ghost use Rattle.occ_chart.specs.Labels.{texts_of};
 
 use crate::arrows::{row, write_arrows};
 use crate::columns::columns;
@@ -28,7 +27,7 @@ fn write_opening(
     width: u64,
     height: u64,
 ) -> Result<(), AllocError>
-    ensures { OnOk result (out.new.items ≡ out.old.items ++ svg_opening width height) }
+    ensures { OnOk result (AddsText out.old out.new (svg_opening width height)) }
 {
     out.extend_from_slice(b"<svg xmlns=\"http://www.w3.org/2000/svg\"")?;
     write_number(alloc, out, b"width", width)?;
@@ -50,7 +49,8 @@ fn above(
 ) -> Result<Vec<u8>, AllocError>
     requires few { length columns.now ≤ 2 ^ 40 }
     requires near { length shown.now ≤ 990 }
-    ensures { IfOk result (λ out. out.items ≡ above (map (λ v. v.items) names.now) (map end_of columns.now) shown.now before is_cut) }
+    ensures { IfOk result
+        (HasBytes (above (texts_of names.now) (columns_of columns.now) shown.now before is_cut)) }
 {
     let bottom = row(shown.len());
     let width = 180 * columns.len().max(1) as u64;
@@ -82,7 +82,8 @@ pub fn chart(
     stubs: &[Stub],
     circle: &[u32],
 ) -> Result<Vec<u8>, AllocError>
-    ensures { IfOk result (λ bytes. IsChart (entries (names_of channels.now) 1 (map communication_of trace.now)) part ending (map (λ v. v.items) names.now) stubs.now circle.now bytes.items) }
+    ensures { IfOk result
+        (IsChartOf channels.now trace.now part ending names.now stubs.now circle.now) }
 {
     let all = trace.len();
     let list = shown_of(alloc, trace, channels, part)?;
@@ -128,7 +129,9 @@ fn write_below(
 ) -> Result<(), AllocError>
     requires few { length columns.now ≤ 2 ^ 40 }
     requires near { count ≤ 990 }
-    ensures { OnOk result (out.new.items ≡ out.old.items ++ foot (map (λ v. v.items) names.now) (map end_of columns.now) count after is_cut stubs.now circle.now ending) }
+    ensures { OnOk result (AddsText out.old out.new
+        (foot (texts_of names.now) (columns_of columns.now) count after is_cut stubs.now circle.now
+        ending)) }
 {
     let bottom = row(count);
     write_feet(alloc, out, columns, bottom, stubs)?;

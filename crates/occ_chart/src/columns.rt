@@ -1,7 +1,7 @@
 //! Who takes part in a chart.
-ghost use Rattle.std.specs.Prelude.{◌≡◌, ◌≤◌, ◌<◌, ◌^◌, IfOk, OnOk, length, map};
+ghost use Rattle.std.specs.Prelude.{◌≡◌, ◌≤◌, ◌<◌, ◌^◌, IfOk, OnOk, length};
 ghost use Rattle.occ_board.specs.Entries.{end_of};
-ghost use Rattle.occ_chart.specs.Columns.{AreColumns, group, is_before, is_end, number, place_for, column_of, is_column, with_end, with_ends, with_standing};
+ghost use Rattle.occ_chart.specs.Columns.{AreColumns, group, is_before, is_end, number, place_for, column_of, is_column, columns_of, AddsEnd, AddsEnds, AddsFootings, StayFew};
 
 use crate::stub::Stub;
 use occ_board::Shown;
@@ -49,7 +49,7 @@ fn is_before(one: End, other: End) -> bool
 
 /// The column of an end; their number where it has none.
 pub(crate) fn place_of(columns: &[End], end: End) -> usize
-    ensures place { result ≡ column_of (end_of end) (map end_of columns.now) }
+    ensures place { result ≡ column_of (end_of end) (columns_of columns.now) }
     ensures within { result ≤ length columns.now }
 {
     for i in 0..columns.len() {
@@ -62,7 +62,7 @@ pub(crate) fn place_of(columns: &[End], end: End) -> usize
 
 /// Before how many an end does not stand.
 fn place_for(columns: &[End], end: End) -> usize
-    ensures place { result ≡ place_for (end_of end) (map end_of columns.now) }
+    ensures place { result ≡ place_for (end_of end) (columns_of columns.now) }
     ensures within { result ≤ length columns.now }
 {
     for i in 0..columns.len() {
@@ -75,7 +75,7 @@ fn place_for(columns: &[End], end: End) -> usize
 
 /// Whether an end stands at this place.
 fn is_at(columns: &[End], place: usize, end: End) -> bool
-    ensures { result ≡ is_column (end_of end) (map end_of columns.now) place }
+    ensures { result ≡ is_column (end_of end) (columns_of columns.now) place }
 {
     match columns.get(place) {
         Some(found) => is_end(*found, end),
@@ -85,8 +85,8 @@ fn is_at(columns: &[End], place: usize, end: End) -> bool
 
 /// Adds an end that was not among them, in its place.
 fn add(columns: &mut Vec<End>, end: End) -> Result<(), AllocError>
-    ensures added { OnOk result (map end_of columns.new.items ≡ with_end (end_of end) (map end_of columns.old.items)) }
-    ensures few { length columns.old.items ≤ 2 ^ 40 → OnOk result (length columns.new.items ≤ 2 ^ 40) }
+    ensures added { OnOk result (AddsEnd columns.old columns.new (end_of end)) }
+    ensures few { StayFew result columns.old columns.new }
 {
     let place = place_for(columns.as_slice(), end);
     if is_at(columns.as_slice(), place, end) {
@@ -101,8 +101,8 @@ fn add(columns: &mut Vec<End>, end: End) -> Result<(), AllocError>
 
 /// Adds those that send or receive.
 fn add_ends(columns: &mut Vec<End>, shown: &[Shown]) -> Result<(), AllocError>
-    ensures added { OnOk result (map end_of columns.new.items ≡ with_ends (map end_of columns.old.items) shown.now) }
-    ensures few { length columns.old.items ≤ 2 ^ 40 → OnOk result (length columns.new.items ≤ 2 ^ 40) }
+    ensures added { OnOk result (AddsEnds columns.old columns.new shown.now) }
+    ensures few { StayFew result columns.old columns.new }
 {
     let mut rest = shown;
     while let Some((first, others)) = rest.split_first() {
@@ -115,8 +115,8 @@ fn add_ends(columns: &mut Vec<End>, shown: &[Shown]) -> Result<(), AllocError>
 
 /// Adds those that stand at the foot.
 fn add_stubs(columns: &mut Vec<End>, stubs: &[Stub]) -> Result<(), AllocError>
-    ensures added { OnOk result (map end_of columns.new.items ≡ with_standing (map end_of columns.old.items) stubs.now) }
-    ensures few { length columns.old.items ≤ 2 ^ 40 → OnOk result (length columns.new.items ≤ 2 ^ 40) }
+    ensures added { OnOk result (AddsFootings columns.old columns.new stubs.now) }
+    ensures few { StayFew result columns.old columns.new }
 {
     let mut rest = stubs;
     while let Some((first, others)) = rest.split_first() {
@@ -132,7 +132,8 @@ pub(crate) fn columns(
     shown: &[Shown],
     stubs: &[Stub],
 ) -> Result<Vec<End>, AllocError>
-    ensures are { IfOk result (λ columns. AreColumns shown.now stubs.now (map end_of columns.items)) }
+    ensures are { IfOk result
+        (λ columns. AreColumns shown.now stubs.now (columns_of columns.items)) }
     ensures few { IfOk result (λ columns. length columns.items ≤ 2 ^ 40) }
 {
     let mut columns = Vec::new(alloc);

@@ -1,14 +1,12 @@
 //! Who stands at the foot of its column.
-ghost use Rattle.std.specs.Prelude.{◌≡◌, ◌++◌, ◌≤◌, ◌^◌, IfOk, OnOk, codes, length, map};
-ghost use Rattle.std.specs.Option.{option_map};
-ghost use Rattle.occ_board.specs.Entries.{end_of};
+ghost use Rattle.std.specs.Prelude.{◌≡◌, ◌++◌, ◌≤◌, ◌^◌, IfOk, OnOk, length};
 ghost use Rattle.occ_chart.specs.Charts.{drawn_feet, foot_at};
-ghost use Rattle.occ_chart.specs.Labels.{foot_words, message_text};
+ghost use Rattle.occ_chart.specs.Labels.{foot_words, HasWords, await_words, offer_words};
 ghost use Rattle.occ_chart.specs.Shapes.{stub};
-ghost use Rattle.occ_chart.specs.Xml.{elements_text};
+ghost use Rattle.occ_chart.specs.Xml.{AddsElements};
 ghost use Rattle.occ_net_replay.specs.Endings.{ending_text};
 ghost use Rattle.occ_shown.specs.Answers.{names_of};
-ghost use Rattle.occ_term.specs.Runs.{tag_shown};
+ghost use Rattle.occ_chart.specs.Columns.{columns_of};
 
 use crate::columns::place_of;
 use crate::heads::column;
@@ -29,7 +27,7 @@ fn offer_words(
     chan: u32,
     message: &Message,
 ) -> Result<Option<Vec<u8>>, AllocError>
-    ensures { IfOk result (λ found. option_map (λ v. v.items) found ≡ Some ((names_of channels.now).channel_name chan ++ codes " ! " ++ message_text (tag_shown (names_of channels.now) chan message.now.tag) message.now.items ++ codes " waits")) }
+    ensures { IfOk result (HasWords (Some (offer_words channels.now chan message.now))) }
 {
     let mut words = Vec::new(alloc);
     write_name(alloc, &mut words, channels, chan)?;
@@ -44,7 +42,7 @@ fn await_words(
     channels: &[Channel],
     chan: u32,
 ) -> Result<Option<Vec<u8>>, AllocError>
-    ensures { IfOk result (λ found. option_map (λ v. v.items) found ≡ Some ((names_of channels.now).channel_name chan ++ codes " ? waits")) }
+    ensures { IfOk result (HasWords (Some (await_words channels.now chan))) }
 {
     let mut words = Vec::new(alloc);
     write_name(alloc, &mut words, channels, chan)?;
@@ -53,7 +51,7 @@ fn await_words(
 }
 
 fn fault_words(alloc: Global, fault: Fault) -> Result<Option<Vec<u8>>, AllocError>
-    ensures { IfOk result (λ found. option_map (λ v. v.items) found ≡ Some (ending_text (Ending.Fault fault))) }
+    ensures { IfOk result (HasWords (Some (ending_text (Ending.Fault fault)))) }
 {
     let ending = Ending::Fault(fault);
     let text = format!(in alloc; "{ending}")?;
@@ -62,7 +60,7 @@ fn fault_words(alloc: Global, fault: Fault) -> Result<Option<Vec<u8>>, AllocErro
 
 /// These words.
 fn words_of(alloc: Global, words: &[u8]) -> Result<Option<Vec<u8>>, AllocError>
-    ensures { IfOk result (λ found. option_map (λ v. v.items) found ≡ Some words.now) }
+    ensures { IfOk result (HasWords (Some words.now)) }
 {
     Ok(Some(Vec::from_slice(alloc, words)?))
 }
@@ -77,7 +75,7 @@ pub fn foot_of(
     wait: &Wait,
     channels: &[Channel],
 ) -> Result<Option<Vec<u8>>, AllocError>
-    ensures { IfOk result (λ found. option_map (λ v. v.items) found ≡ foot_words (names_of channels.now) wait.now) }
+    ensures { IfOk result (HasWords (foot_words (names_of channels.now) wait.now)) }
 {
     match wait {
         Wait::Offers { chan, message } => offer_words(alloc, channels, *chan, message),
@@ -109,7 +107,7 @@ fn write_foot(
     words: &[u8],
 ) -> Result<(), AllocError>
     requires { bottom ≤ 2 ^ 40 }
-    ensures { OnOk result (out.new.items ≡ out.old.items ++ elements_text (foot_at x bottom words.now)) }
+    ensures { OnOk result (AddsElements out.old out.new (foot_at x bottom words.now)) }
 {
     let course = stub(alloc, x, bottom)?;
     write_path(out, course.as_bytes(), b"red")?;
@@ -126,7 +124,8 @@ pub(crate) fn write_feet(
 ) -> Result<(), AllocError>
     requires few { length columns.now ≤ 2 ^ 40 }
     requires bottom { bottom ≤ 2 ^ 40 }
-    ensures { OnOk result (out.new.items ≡ out.old.items ++ elements_text (drawn_feet (map end_of columns.now) bottom stubs.now)) }
+    ensures { OnOk result
+        (AddsElements out.old out.new (drawn_feet (columns_of columns.now) bottom stubs.now)) }
 {
     let mut rest = stubs;
     while let Some((first, others)) = rest.split_first() {

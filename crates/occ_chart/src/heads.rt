@@ -1,12 +1,13 @@
 //! The heads of columns, and the lines down from them.
-ghost use Rattle.std.specs.Prelude.{◌≡◌, ◌++◌, ◌≤◌, ◌^◌, IfOk, OnOk, codes, length, map};
+ghost use Rattle.std.specs.Prelude.{◌≡◌, ◌≤◌, ◌^◌, IfOk, OnOk, codes, length};
 ghost use Rattle.occ_board.specs.Entries.{end_of};
-ghost use Rattle.occ_chart.specs.Charts.{column, heads, heads_again, lifelines};
-ghost use Rattle.occ_chart.specs.Labels.{end_words, end_name};
-ghost use Rattle.occ_chart.specs.Shapes.{down, label, path};
-ghost use Rattle.occ_chart.specs.Xml.{element_text, elements_text};
+ghost use Rattle.occ_chart.specs.Charts.{column, heads, heads_again, lifelines, head_of_end};
+ghost use Rattle.occ_chart.specs.Labels.{end_words, end_name, texts_of};
+ghost use Rattle.occ_chart.specs.Shapes.{down, path};
+ghost use Rattle.occ_chart.specs.Xml.{AddsElement, AddsElements};
 ghost use Rattle.occ_chart.specs.declared.xml.Style.TheVariants.{Plain};
-ghost use Rattle.occ_shown.specs.Answers.{end_text};
+ghost use Rattle.occ_shown.specs.Answers.{end_text, AddsText};
+ghost use Rattle.occ_chart.specs.Columns.{columns_of};
 
 use crate::labels::write_label;
 use crate::xml::{Style, write_path};
@@ -27,7 +28,7 @@ pub(crate) fn column(place: usize) -> u64
 ///
 /// A refused growth.
 pub fn write_end(alloc: Global, out: &mut Vec<u8>, end: End) -> Result<(), AllocError>
-    ensures { OnOk result (out.new.items ≡ out.old.items ++ end_text (end_of end)) }
+    ensures { OnOk result (AddsText out.old out.new (end_text (end_of end))) }
 {
     match end {
         End::Process(number) => {
@@ -54,7 +55,7 @@ fn end_words(alloc: Global, name: &[u8], end: End) -> Result<Vec<u8>, AllocError
 
 /// The name that an end has.
 fn name_of(names: &[Vec<u8>], end: End) -> &[u8]
-    ensures { result.now ≡ end_name (map (λ v. v.items) names.now) (end_of end) }
+    ensures { result.now ≡ end_name (texts_of names.now) (end_of end) }
 {
     match end {
         End::Process(number) => match names.get(number as usize) {
@@ -75,7 +76,7 @@ fn write_head(
     y: u64,
     end: End,
 ) -> Result<(), AllocError>
-    ensures { OnOk result (out.new.items ≡ out.old.items ++ element_text (label Plain x y 24 (end_name (map (λ v. v.items) names.now) (end_of end)) (end_words (end_name (map (λ v. v.items) names.now) (end_of end)) (end_of end)))) }
+    ensures { OnOk result (AddsElement out.old out.new (head_of_end names.now x y end)) }
 {
     let name = name_of(names, end);
     let words = end_words(alloc, name, end)?;
@@ -91,7 +92,8 @@ pub(crate) fn write_heads(
     columns: &[End],
 ) -> Result<(), AllocError>
     requires { length columns.now ≤ 2 ^ 40 }
-    ensures { OnOk result (out.new.items ≡ out.old.items ++ elements_text (heads (map (λ v. v.items) names.now) y 0 (map end_of columns.now))) }
+    ensures { OnOk result
+        (AddsElements out.old out.new (heads (texts_of names.now) y 0 (columns_of columns.now))) }
 {
     for i in 0..columns.len() {
         write_head(alloc, out, names, column(i), y, columns[i])?;
@@ -110,7 +112,8 @@ pub(crate) fn write_heads_again(
 ) -> Result<(), AllocError>
     requires columns { length columns.now ≤ 2 ^ 40 }
     requires bottom { bottom ≤ 2 ^ 40 }
-    ensures { OnOk result (out.new.items ≡ out.old.items ++ elements_text (heads_again (map (λ v. v.items) names.now) bottom count (map end_of columns.now))) }
+    ensures { OnOk result (AddsElements out.old out.new
+        (heads_again (texts_of names.now) bottom count (columns_of columns.now))) }
 {
     if count > 40 {
         return write_heads(alloc, out, names, bottom + 46, columns);
@@ -128,7 +131,7 @@ fn down(alloc: Global, x: u64, bottom: u64) -> Result<String, AllocError>
 }
 
 fn write_lifeline(alloc: Global, out: &mut Vec<u8>, x: u64, bottom: u64) -> Result<(), AllocError>
-    ensures { OnOk result (out.new.items ≡ out.old.items ++ element_text (path (down x bottom) (codes "silver"))) }
+    ensures { OnOk result (AddsElement out.old out.new (path (down x bottom) (codes "silver"))) }
 {
     let course = down(alloc, x, bottom)?;
     write_path(out, course.as_bytes(), b"silver")
@@ -142,7 +145,8 @@ pub(crate) fn write_lifelines(
     columns: &[End],
 ) -> Result<(), AllocError>
     requires { length columns.now ≤ 2 ^ 40 }
-    ensures { OnOk result (out.new.items ≡ out.old.items ++ elements_text (lifelines bottom 0 (map end_of columns.now))) }
+    ensures { OnOk result
+        (AddsElements out.old out.new (lifelines bottom 0 (columns_of columns.now))) }
 {
     let mut place = 0;
     let mut rest = columns;

@@ -10,20 +10,13 @@ use Rattle.occ_machine.specs.Compiled.{Program}
 use Rattle.occ_machine.specs.declared.task.Task.{Task}
 use Rattle.occ_machine.specs.declared.task.Wait.{Wait}
 use Rattle.occ_machine.specs.declared.task.Wait.TheVariants.{Ready, Took, Offers, Awaits, Chooses, Joins, Halted, Done, Faulted}
-use Rattle.occ_net_replay.specs.Replay.{Net, Tasks, HasTask, ended, first_noted, offers_on, ready_from}
+use Rattle.occ_net_replay.specs.Replay.{Net, Tasks, HasTask, ended, first_noted, offers_on, ready_from, first_net}
 use Rattle.occ_net_replay.specs.Waiting.{listens_on}
-use Rattle.occ_net_trace.specs.declared.communication.End.{End}
-use Rattle.occ_net_trace.specs.declared.communication.End.TheVariants.{Process, Keyboard, Screen, Error}
+pub use Rattle.occ_net_trace.specs.Views.{end_of}
 use Rattle.occ_net_trace.specs.declared.communication.Communication.{Communication}
 use Rattle.occ_net_tables.specs.declared.tables.Tables.{Tables}
 
 -- ---- the trace
-
-abbrev pub end_of : End → S.End
-end_of (Process n) = S.OfProcess n
-end_of Keyboard = S.Keyboard
-end_of Screen = S.Screen
-end_of Error = S.Error
 
 abbrev pub communication_of : Communication → S.Communication
 communication_of x = S.communication x.chan (end_of x.sender) (end_of x.receiver) x.message
@@ -108,3 +101,11 @@ pub record Holds (p : Program) (keyboard : List ℕ) (n : Tables) (net : Net) : 
   pub trace : net.trace ≡ map communication_of n.trace
   pub sound : Sound n net.noted
   pub sized : Sized p n
+
+-- so it is of whatever network the tables hold
+abbrev pub HeldBy : Tables → (Net → Type 0) → Type 0
+HeldBy tables Says = (p : Program) (keyboard : List ℕ) (net : Net) → Holds p keyboard tables net → Says net
+
+-- the tables of a new network
+abbrev pub HoldsFirst : Program → Tables → Type 0
+HoldsFirst p n = (keyboard : List ℕ) → Holds p keyboard n (first_net p keyboard)

@@ -12,7 +12,7 @@ use Rattle.occ_machine.specs.declared.task.Task.{Task}
 use Rattle.occ_machine.specs.declared.task.Wait.{Wait}
 use Rattle.occ_machine.specs.declared.task.Wait.TheVariants.{Took, Offers, Chooses, Joins}
 use Rattle.occ_net_replay.specs.declared.choice.Choice.{Choice}
-use Rattle.occ_net_replay.specs.Replay.{Net, Tasks, HasTask, OneTurn, Replays, Settled, branch_task, byte_message, ending_of, goes, made_ready, may_go, merged, ready_from, standing, took_arm, took_turn, with_branches}
+use Rattle.occ_net_replay.specs.Replay.{Net, Tasks, HasTask, OneTurn, Replays, Settled, branch_task, byte_message, ending_of, goes, made_ready, may_go, merged, ready_from, standing, took_arm, took_turn, with_branches, first_noted}
 use Rattle.occ_net_replay.specs.Moments.{NoneReady}
 use Rattle.occ_net_replay.specs.Waiting.{OffersAlone, ListensAlone, ForksAlone, channels_at, listens_on}
 use Rattle.occ_net_trace.specs.declared.communication.End.{End}
@@ -23,6 +23,11 @@ use Rattle.occ_net_tables.specs.Holding.{Holds, IsOrdinary, Sized, Sound, commun
 use Rattle.occ_net_tables.specs.Choosing.{TakesBy, offered_by}
 use Rattle.occ_net_tables.specs.Ready.{put_in}
 use Rattle.occ_net_tables.specs.Keys.{set_all}
+use Rattle.occ_term.specs.declared.fault.Fault.{Fault}
+use Rattle.occ_net_tables.specs.Room.{first_frame, first_frames}
+use Rattle.occ_term.specs.Messages.{message}
+use Rattle.occ_proc.specs.declared.scratch.Scratch.{Scratch}
+use Rattle.occ_proc.specs.Turns.{left_message}
 
 -- a turn of the network: whatever state it held, it holds the next one
 pub record TurnsTo (p : Program) (keyboard : List ℕ) (choice : Choice) (net : Net) (new : Tables) : Type 0 where
@@ -267,3 +272,74 @@ pub record JoinsBranches (p : Program) (old : Tables) (m : ℕ) (t : Task) (ns :
   pub fault : new.fault ≡ old.fault
   pub used : new.used ≡ old.used
   pub trace : new.trace ≡ old.trace
+
+-- of some program
+abbrev pub HasSomeMid : Tables → (number place : ℕ) → Wait → Type 0
+HasSomeMid n number place wait = (p : Program) × HasMid p n number place wait
+
+-- ---- of whatever network, task and message it is
+
+-- a turn of the network that the tables held
+abbrev pub TakesTurn : Program → List ℕ → Choice → Tables → Tables → Type 0
+TakesTurn p keyboard choice old new = (net : Net) → Holds p keyboard old net → TurnsTo p keyboard choice net new
+
+-- that of the process at this place among the ready ones, with this pick
+abbrev pub TakesTurnAt : Program → List ℕ → (place pick : ℕ) → Tables → Tables → Type 0
+TakesTurnAt p keyboard place pick old new =
+    (net : Net) (choice : Choice) → Holds p keyboard old net → place ≡ choice.which → pick ≡ choice.pick → TurnsTo p keyboard choice net new
+
+-- the last turn in a row of a process, of which the tables had this task
+abbrev pub TakesLast : Program → List ℕ → Tables → (place number : ℕ) → Task → (pick : ℕ) → Tables → Task → Type 0
+TakesLast p keyboard old place number after pick new before =
+    HasTask old.tasks.items number before × TurnsBehind p keyboard old place number after pick new
+
+abbrev pub SettlesWait : Program → List ℕ → (pick number place : ℕ) → Tables → Tables → Type 0
+SettlesWait p keyboard pick number place old new = (t : Task) → HasTask old.tasks.items number t → SettlesFrom p keyboard pick number place t old new
+
+-- whatever the program, the keyboard or the pick
+abbrev pub SettlesAnyhow : (number place : ℕ) → Wait → Tables → Tables → Type 0
+SettlesAnyhow number place wait old new = (p : Program) (keyboard : List ℕ) (pick : ℕ) → Settles p keyboard pick number place wait old new
+
+abbrev pub SettlesIn : Program → (number place : ℕ) → Wait → Tables → Tables → Type 0
+SettlesIn p number place wait old new = (keyboard : List ℕ) (pick : ℕ) → Settles p keyboard pick number place wait old new
+
+abbrev pub SettlesBy : (pick number place : ℕ) → Wait → Tables → Tables → Type 0
+SettlesBy pick number place wait old new = (p : Program) (keyboard : List ℕ) → Settles p keyboard pick number place wait old new
+
+abbrev pub SettlesOn : List ℕ → (number place : ℕ) → Wait → Tables → Tables → Type 0
+SettlesOn keyboard number place wait old new = (p : Program) (pick : ℕ) → Settles p keyboard pick number place wait old new
+
+abbrev pub SettlesWith : List ℕ → (pick number place : ℕ) → Wait → Tables → Tables → Type 0
+SettlesWith keyboard pick number place wait old new = (p : Program) → Settles p keyboard pick number place wait old new
+
+abbrev pub JoinsAll : Program → Tables → ℕ → Tables → Type 0
+JoinsAll p old m new = (t : Task) (ns : List ℕ) → HasTask old.tasks.items m t → t.wait ≡ Joins ns → JoinsBranches p old m t ns new
+
+abbrev pub BeganWith : Program → ℕ → Variables → Tables → ℕ → Tables → Type 0
+BeganWith p parent frame old i new = (f : Variables) → frame ≡ first_frame p.bodies f i → Began p parent f old i new
+
+abbrev pub AllBeganWith : Program → ℕ → List Variables → Tables → List ℕ → Tables → Type 0
+AllBeganWith p parent frames old ns new = (f : Variables) → frames ≡ first_frames p f ns → AllBegan p parent f old ns new
+
+-- the arm by which it takes a message that is offered on the channel
+abbrev pub IsTakingBy : Tasks → (taker chan pick : ℕ) → Arm → Type 0
+IsTakingBy tasks taker chan pick arm = (t : Task) (a : Arm) → HasTask tasks taker t → TakesAlone pick chan t.wait a → arm ≡ a
+
+abbrev pub LeavesChannels : Tables → ℕ → Tables → Type 0
+LeavesChannels old taker new = (t : Task) → HasTask old.tasks.items taker t → LeftChannels old taker t new
+
+abbrev pub GaveTo : Tables → (number taker chan pick : ℕ) → Message → Tables → Type 0
+GaveTo old number taker chan pick m new =
+    (t : Task) (a : Arm) → HasTask old.tasks.items taker t → TakesAlone pick chan t.wait a → Gave old number taker chan t a m new
+
+abbrev pub TookOffer : Tables → (number giver chan : ℕ) → Arm → Tables → Type 0
+TookOffer old number giver chan a new =
+    (t : Task) (m : Message) → HasTask old.tasks.items giver t → t.wait ≡ Offers chan m → TookFrom old number giver chan a t m new
+
+-- the first fault, where one more is noted
+abbrev pub NotesFirst : Option Fault → Fault → Option Fault → Type 0
+NotesFirst noted fault first = (faults : List Fault) → noted ≡ first_noted faults → first ≡ first_noted (faults ++ fault ∷ [])
+
+-- the offer of the items that a turn has left
+abbrev pub offer_left : ℕ → Option ℕ → Scratch → Wait
+offer_left chan tag scratch = Offers chan (message tag (left_message scratch))

@@ -16,5 +16,5 @@ abbrev pub place_behind : List Communication → Place
 place_behind xs = record { heads = length xs; shapes = length (shapes_in xs); lengths = length (lengths_in xs); words = length (words_in xs) }
 
 -- these are those of all that stand behind a place
-abbrev pub AreBehind : (all : List Communication) → Place → (behind : List Communication) → Type 0
-AreBehind all place behind = (before after : List Communication) → all ≡ before ++ after → place ≡ place_behind before → behind ≡ after
+abbrev pub StandBehind : (all : List Communication) → Place → (behind : List Communication) → Type 0
+StandBehind all place behind = (before after : List Communication) → all ≡ before ++ after → place ≡ place_behind before → behind ≡ after

@@ -1,13 +1,22 @@
 -- What is read from a trace, and what is put into it.
 -- Manual: nothing; this is (own).
 use Rattle.std.specs.Prelude.{List, [], ℕ, ◌++◌, ◌∷◌, ◌≡◌}
+use Rattle.occ_term.specs.System as S
 use Rattle.occ_term.specs.declared.message.Message.{Message}
 use Rattle.occ_term.specs.declared.message.Part.{Part}
 use Rattle.occ_term.specs.declared.message.Part.TheVariants as part
 use Rattle.occ_net_trace.specs.declared.communication.Communication.{Communication}
 use Rattle.occ_net_trace.specs.declared.communication.End.{End}
+use Rattle.occ_net_trace.specs.declared.communication.End.TheVariants.{Process, Keyboard, Screen, Error}
 use Rattle.occ_net_trace.specs.declared.messages.PartView.{PartView}
 use Rattle.occ_net_trace.specs.declared.messages.PartView.TheVariants.{One, Many, Counted}
+
+-- the keyboard, the screen, the error channel or a process
+abbrev pub end_of : End → S.End
+end_of (Process n) = S.OfProcess n
+end_of Keyboard = S.Keyboard
+end_of Screen = S.Screen
+end_of Error = S.Error
 
 -- a message on a channel, with who output it and who input it
 abbrev pub communication : ℕ → End → End → Message → Communication

@@ -1,7 +1,7 @@
 //! The trace of a run.
 ghost use Rattle.std.specs.Prelude.{◌≡◌, ◌↔◌, ◌<◌, ◌^◌, [], IfOk, IsTrue, List, OnErr, OnOk, length};
 ghost use Rattle.occ_net_trace.specs.declared.communication.Communication.{Communication};
-ghost use Rattle.occ_net_trace.specs.Places.{AreBehind, place_behind};
+ghost use Rattle.occ_net_trace.specs.Places.{StandBehind, place_behind};
 ghost use Rattle.occ_net_trace.specs.Views.{Pushes};
 
 use crate::communication::End;
@@ -112,7 +112,7 @@ impl Trace {
     ///
     /// A refused growth.
     pub fn copy_behind(&self, mark: &Mark, news: &mut News) -> Result<(), AllocError>
-        ensures { OnOk result (AreBehind self.now mark.now news.new) }
+        ensures { OnOk result (StandBehind self.now mark.now news.new) }
     {
         news.take(&self.lists, mark)
     }

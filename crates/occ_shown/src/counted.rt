@@ -1,7 +1,7 @@
 //! A writer that counts the writes that fail.
 ghost use Rattle.std.specs.Prelude.{◌≡◌, ◌+◌, ◌-◌, ◌^◌, ◌<◌, ◌≤◌, OnOk, IfErr, OnErr, IfSome, IfNone, length, take};
 ghost use Rattle.std.specs.Io.KnownBytes.{Appends, Keeps};
-ghost use Rattle.occ_shown.specs.Counting.{failures_of, writer_of};
+ghost use Rattle.occ_shown.specs.Counting.{failures_of, writer_of, AppendsTo};
 
 use std::io::Write;
 
@@ -51,7 +51,7 @@ impl<W: Write> Counted<W> {
 /// Writes the whole answer. At an error, a beginning of the answer of that length was written.
 pub fn write_answer<W: Write>(answer: &[u8], out: &mut Counted<W>) -> Result<(), u64>
     requires room { failures_of out.old < 2 ^ 64 - 1 }
-    ensures whole { OnOk result (Appends (W.contents (writer_of out.old)) (W.contents (writer_of out.new)) answer.now) }
+    ensures whole { OnOk result (AppendsTo W.contents out.old out.new answer.now) }
     ensures none_failed { OnOk result (failures_of out.new ≡ failures_of out.old) }
     ensures failed { OnErr result (failures_of out.old < failures_of out.new) }
     ensures beginning { IfErr result (λ written. (written < length answer.now)
