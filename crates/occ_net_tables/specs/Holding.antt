@@ -109,3 +109,7 @@ HeldBy tables Says = (p : Program) (keyboard : List ℕ) (net : Net) → Holds p
 -- the tables of a new network
 abbrev pub HoldsFirst : Program → Tables → Type 0
 HoldsFirst p n = (keyboard : List ℕ) → Holds p keyboard n (first_net p keyboard)
+
+-- of the network of this code that they hold
+abbrev pub HeldFor : Program → List ℕ → Tables → (Net → Type 0) → Type 0
+HeldFor p keyboard tables Says = (net : Net) → Holds p keyboard tables net → Says net
