@@ -1,6 +1,6 @@
 -- The words of a chart.
 -- Manual: nothing; this is (own).
-use Rattle.std.specs.Prelude.{Bool, List, None, Option, Some, [], codes, if◌then◌else◌, int_le, length, nat_abs, pos, slice_get, ℕ, ℤ, ◌&&◌, ◌++◌, ◌∷◌, Vec, map, option_map, ◌≡◌}
+use Rattle.std.specs.Prelude.{Bool, List, None, Option, Some, [], codes, if◌then◌else◌, int_le, length, nat_abs, pos, slice_get, ℕ, ℤ, ◌&&◌, ◌++◌, ◌∷◌, Vec, map}
 use Rattle.std.specs.Fmt.{decimal, signed_decimal}
 use Rattle.occ_term.specs.declared.primitive.Primitive.TheVariants.{Bool as Boolean, Byte, Int}
 use Rattle.occ_term.specs.declared.message.Part.{Part}
@@ -78,10 +78,6 @@ foot_words names (Faulted e) = Some (ending_text (Fault e))
 
 abbrev pub texts_of : {A : Type 0} → List (Vec ℕ A) → List (List ℕ)
 texts_of vs = map (λ v. v.items) vs
-
--- these words, if any
-abbrev pub HasWords : {A : Type 0} → Option (List ℕ) → Option (Vec ℕ A) → Type 0
-HasWords words found = option_map (λ v. v.items) found ≡ words
 
 -- a message on a channel, by the declared names
 abbrev pub message_on : List Channel → ℕ → Message → List ℕ

@@ -1,11 +1,11 @@
 //! Who stands at the foot of its column.
 ghost use Rattle.std.specs.Prelude.{◌≡◌, ◌++◌, ◌≤◌, ◌^◌, IfOk, OnOk, length};
 ghost use Rattle.occ_chart.specs.Charts.{drawn_feet, foot_at};
-ghost use Rattle.occ_chart.specs.Labels.{foot_words, HasWords, await_words, offer_words};
+ghost use Rattle.occ_chart.specs.Labels.{foot_words, await_words, offer_words};
 ghost use Rattle.occ_chart.specs.Shapes.{stub};
 ghost use Rattle.occ_chart.specs.Xml.{AddsElements};
 ghost use Rattle.occ_net_replay.specs.Endings.{ending_text};
-ghost use Rattle.occ_shown.specs.Answers.{names_of};
+ghost use Rattle.occ_shown.specs.Answers.{names_of, HasWords};
 ghost use Rattle.occ_chart.specs.Columns.{columns_of};
 
 use crate::columns::place_of;

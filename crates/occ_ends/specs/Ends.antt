@@ -1,13 +1,13 @@
 -- Which processes that are left may be at the ends of channels, and who waits for whom.
 -- Manual: the usage rules check list, for what a process may input from and output to. The rest is (own).
-use Rattle.std.specs.Prelude.{All, Bool, List, None, Option, Some, [], false, if◌then◌else◌, length, map, nat_lt, option_map, reverse, slice_get, true, ℕ, ◌%◌, ◌&&◌, ◌+◌, ◌++◌, ◌<◌, ◌≤◌, ◌∷◌, ◌≡◌, ◌⊎◌}
+use Rattle.std.specs.Prelude.{All, Bool, List, None, Option, Some, [], false, if◌then◌else◌, length, map, nat_lt, option_map, reverse, slice_get, true, ℕ, ◌%◌, ◌&&◌, ◌+◌, ◌++◌, ◌<◌, ◌≤◌, ◌∷◌, ◌≡◌, ◌⊎◌, Vec}
 use Rattle.occ_term.specs.Processes.{Numbered, processes_of}
 use Rattle.occ_term.specs.Terms.{Term}
 use Rattle.occ_term.specs.Uses.{Numbers, Uses, uses_of}
 use Rattle.occ_machine.specs.declared.task.Task.{Task}
 use Rattle.occ_machine.specs.declared.task.Wait.{Wait}
 use Rattle.occ_machine.specs.declared.task.Wait.TheVariants.{Ready, Took, Offers, Awaits, Chooses, Joins, Halted, Done, Faulted}
-use Rattle.occ_net_replay.specs.Replay.{Tasks}
+use Rattle.occ_net_replay.specs.Replay.{Tasks, Net}
 use Rattle.occ_net_tables.specs.Keys.{flat}
 use Rattle.occ_usage.specs.Noted.{uses_in}
 use Rattle.occ_explore_walks.specs.declared.graph.Edge.{Edge}
@@ -15,6 +15,10 @@ use Rattle.occ_explore_walks.specs.declared.graph.Fan.{Fan}
 use Rattle.occ_explore_walks.specs.Walks.{IsEdge}
 use Rattle.occ_ends.specs.declared.uses.ProcessUses.{ProcessUses}
 use Rattle.occ_ends.specs.declared.ends.Ends.{Ends}
+use Rattle.occ_usage.specs.declared.noted.Use.{Use}
+use Rattle.occ_machine.specs.Compiled.{Program}
+use Rattle.occ_net_tables.specs.declared.tables.Tables.{Tables}
+use Rattle.occ_net_tables.specs.Holding.{HeldBy, Holds}
 
 -- ---- what processes use
 
@@ -190,3 +194,40 @@ pub record IsRing (next : ℕ → Option ℕ) (ns : List ℕ) : Type 0 where
   pub some : 0 < length ns
   pub waits : Circles next ns
   pub once : IsOnce ns
+
+-- ---- of whatever network the tables hold, and of a term whose uses these are
+
+-- whom a process waits for, by who is noted
+abbrev pub waits_noted : Ends → Wait → Option ℕ
+waits_noted ends wait = waits_on (end_noted ends.readers.items) (end_noted ends.writers.items) wait
+
+abbrev pub HoldWaits : {A : Type 0} → Ends → Tables → ℕ → Vec Fan A → Type 0
+HoldWaits ends tables below fans = HeldBy tables (λ net. AreWaits (next_noted ends net.tasks) below below fans.items)
+
+abbrev pub HoldsCircle : {A : Type 0} → Ends → Tables → ℕ → Vec ℕ A → Type 0
+HoldsCircle ends tables below ns = HeldBy tables (λ net. IsCircle (next_noted ends net.tasks) below ns.items)
+
+-- whoever is next: what circles, some, makes this ring
+abbrev pub MakesRing : (ns ring : List ℕ) → Type 0
+MakesRing ns ring = (next : ℕ → Option ℕ) → 0 < length ns → Circles next ns → IsRing next ring
+
+abbrev pub MarksReaders : Ends → List Use → ℕ → Ends → Type 0
+MarksReaders old uses n new = Marks old.readers.items (uses_in uses).ins n new.readers.items
+
+abbrev pub MarksWriters : Ends → List Use → ℕ → Ends → Type 0
+MarksWriters old uses n new = Marks old.writers.items (uses_in uses).outs n new.writers.items
+
+abbrev pub MarksAll : Tables → (Uses → Numbers) → List ProcessUses → (old new : List (Option ℕ)) → Type 0
+MarksAll tables kind ps old new = HeldBy tables (λ net. MarkedIn (stands net.tasks) kind (map noted_for ps) old new)
+
+abbrev pub AreEndsBy : List ProcessUses → Tables → ℕ → Ends → Type 0
+AreEndsBy ps tables channels ends =
+    (t : Term) (p : Program) (keyboard : List ℕ) (net : Net)
+    → map noted_for ps ≡ all_using t → Holds p keyboard tables net → AreEnds t net.tasks channels ends
+
+-- behind all that stood there
+abbrev pub AddsUses : {A : Type 0} → Vec ProcessUses A → List Numbered → Vec ProcessUses A → Type 0
+AddsUses old ps new = ListsUses old.items ps new.items
+
+abbrev pub AddsBehind : {A : Type 0} → Vec ProcessUses A → (others all : List Numbered) → Vec ProcessUses A → Type 0
+AddsBehind old others all new = (before : List ProcessUses) → ListsUses before others old.items → ListsUses before all new.items

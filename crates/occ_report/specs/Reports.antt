@@ -1,6 +1,6 @@
 -- What is told of each process that is left.
 -- Manual: nothing; this is (own).
-use Rattle.std.specs.Prelude.{List, None, Option, Some, [], codes, if◌then◌else◌, length, min, slice_get, zero, suc, ℕ, ◌++◌, ◌==◌, ◌≡◌, ◌∷◌}
+use Rattle.std.specs.Prelude.{List, None, Option, Some, [], codes, if◌then◌else◌, length, min, slice_get, zero, suc, ℕ, ◌++◌, ◌==◌, ◌≡◌, ◌∷◌, Vec, map}
 use Rattle.std.specs.Fmt.{decimal}
 use Rattle.occ_term.specs.Runs.{Names, tag_shown}
 use Rattle.occ_term.specs.Terms.{Term}
@@ -19,11 +19,16 @@ use Rattle.occ_net_replay.specs.Replay.{Net, Replays, Tasks, ending_of}
 use Rattle.occ_shown.specs.Answers.{items_text, names_of}
 use Rattle.occ_net_tables.specs.Outcomes.{Begins}
 use Rattle.occ_ends.specs.declared.ends.Ends.{Ends}
-use Rattle.occ_ends.specs.Ends.{AreEnds, IsCircle, next_noted}
+use Rattle.occ_ends.specs.Ends.{AreEnds, IsCircle, next_noted, all_using, noted_for}
 use Rattle.occ_places.specs.declared.stop.Kind.{Kind}
 use Rattle.occ_places.specs.declared.stop.Kind.TheVariants as kinds
 use Rattle.occ_places.specs.declared.stop.Stop.{Stop}
 use Rattle.occ_places.specs.Places.{Known, name_of, stop_of}
+use Rattle.occ_term.specs.declared.names.Channel.{Channel}
+use Rattle.occ_net_tables.specs.declared.tables.Tables.{Tables}
+use Rattle.occ_net_tables.specs.Holding.{HeldBy}
+use Rattle.occ_ends.specs.declared.uses.ProcessUses.{ProcessUses}
+use Rattle.occ_report.specs.declared.standing.Ends.{Ends as Sides}
 
 -- by channel: the process that may input from it, or that may output to it, of those that are left
 abbrev pub Noted : Type 0
@@ -173,3 +178,40 @@ pub record IsCircleOf (t : Term) (p : Program) (keyboard : List ℕ) (list : Lis
   pub ends : Ends
   pub are_ends : AreEnds t net.tasks (length p.channels) ends
   pub is_circle : IsCircle (next_noted ends net.tasks) (min (length net.tasks) 4294967294) circle
+
+-- ---- of what code has; private contracts alone cite these, but for the last two
+
+abbrev pub reader_at : Noted → ℕ → List ℕ
+reader_at readers c = reader_text (slice_get readers c)
+
+abbrev pub writer_at : Noted → ℕ → List ℕ
+writer_at writers c = writer_text c (slice_get writers c)
+
+abbrev pub choosing_text : Names → Noted → List Arm → List ℕ
+choosing_text names writers arms = codes "chooses" ++ arms_text names writers arms
+
+abbrev pub joining_text : List ℕ → List ℕ
+joining_text ns = codes "waits for" ++ branches_text ns
+
+-- by the declared names and by who is noted
+abbrev pub standing_by : List Channel → Sides → Option Stop → Wait → Option (List ℕ)
+standing_by cs ends stop w = standing_text (names_of cs) ends.readers.now ends.writers.now stop w
+
+abbrev pub line_by : List Channel → Sides → (name : List ℕ) → Option Stop → ℕ → Wait → List ℕ
+line_by cs ends name stop n w = process_line (names_of cs) ends.readers.now ends.writers.now name stop n w
+
+-- of whatever network the tables hold, the line of one process, and the lines of the first so many
+abbrev pub AddsTaskLine : {A : Type 0} → List Channel → Sides → List Known → Tables → ℕ → (old new : Vec ℕ A) → Type 0
+AddsTaskLine cs ends known tables n old new =
+    HeldBy tables (λ net. new.items ≡ old.items ++ task_line (names_of cs) ends.readers.now ends.writers.now known n (slice_get net.tasks n))
+
+abbrev pub AddsTaskLines : {A : Type 0} → List Channel → Sides → List Known → Tables → ℕ → (old new : Vec ℕ A) → Type 0
+AddsTaskLines cs ends known tables n old new =
+    HeldBy tables (λ net. new.items ≡ old.items ++ task_lines (names_of cs) ends.readers.now ends.writers.now known net.tasks n)
+
+-- by any term whose uses these are
+abbrev pub IsReportBy : {A : Type 0} → List ProcessUses → Program → List ℕ → List Choice → List Known → Vec ℕ A → Type 0
+IsReportBy uses p keyboard list known bytes = (t : Term) → map noted_for uses ≡ all_using t → IsReport t p keyboard list known bytes.items
+
+abbrev pub IsCircleBy : {A : Type 0} → List ProcessUses → Program → List ℕ → List Choice → Vec ℕ A → Type 0
+IsCircleBy uses p keyboard list circle = (t : Term) → map noted_for uses ≡ all_using t → IsCircleOf t p keyboard list circle.items

@@ -1,6 +1,6 @@
 -- The bytes of an answer.
 -- Manual: nothing; this is (own).
-use Rattle.std.specs.Prelude.{Bool, IsTrue, List, None, Option, Some, [], codes, false, if◌then◌else◌, int_le, length, map, not, pos, slice_get, true, ℕ, ℤ, ⊤, ◌≡◌, ◌&&◌, ◌++◌, ◌-◌, ◌==◌, ◌∷◌, Vec}
+use Rattle.std.specs.Prelude.{Bool, IsTrue, List, None, Option, Some, [], codes, false, if◌then◌else◌, int_le, length, map, not, pos, slice_get, true, ℕ, ℤ, ⊤, ◌≡◌, ◌&&◌, ◌++◌, ◌-◌, ◌==◌, ◌∷◌, Vec, option_map}
 use Rattle.std.specs.Option.{option_map_or}
 use Rattle.std.specs.Fmt.{decimal, signed_decimal}
 use Rattle.occ_term.specs.declared.primitive.Primitive.{Primitive}
@@ -158,6 +158,10 @@ AddsText old new text = new.items ≡ old.items ++ text
 
 abbrev pub HasBytes : {A : Type 0} → List ℕ → Vec ℕ A → Type 0
 HasBytes text bytes = bytes.items ≡ text
+
+-- these words, if any
+abbrev pub HasWords : {A : Type 0} → Option (List ℕ) → Option (Vec ℕ A) → Type 0
+HasWords words found = option_map (λ v. v.items) found ≡ words
 
 -- the items of a message on a channel, by the declared names
 abbrev pub items_on : List Channel → ℕ → Message → List ℕ

@@ -1,6 +1,6 @@
 -- The lines of a run's turns.
 -- Manual: nothing; this is (own).
-use Rattle.std.specs.Prelude.{List, None, Option, Some, [], codes, drop, length, slice_get, ℕ, ◌+◌, ◌++◌, ◌≡◌, ◌∷◌}
+use Rattle.std.specs.Prelude.{List, None, Option, Some, [], codes, drop, length, slice_get, ℕ, ◌+◌, ◌++◌, ◌≡◌, ◌∷◌, Vec, map, ◌-◌}
 use Rattle.std.specs.Fmt.{decimal}
 use Rattle.occ_chart.specs.Labels.{arrow_words, message_text}
 use Rattle.occ_machine.specs.declared.task.Arm.{Arm}
@@ -13,13 +13,16 @@ use Rattle.occ_net_replay.specs.declared.choice.Choice.{Choice}
 use Rattle.occ_net_replay.specs.declared.ending.Ending.TheVariants.{Fault}
 use Rattle.occ_net_replay.specs.Endings.{ending_text}
 use Rattle.occ_net_replay.specs.Replay.{HasTask, Net, OneTurn, ending_of, first_net, ready_from, selected_process}
-use Rattle.occ_net_tables.specs.Holding.{Holds}
+use Rattle.occ_net_tables.specs.Holding.{Holds, communication_of}
 use Rattle.occ_net_tables.specs.Outcomes.{Begins}
 use Rattle.occ_net_tables.specs.declared.tables.Tables.{Tables}
 use Rattle.occ_places.specs.declared.stop.Stop.{Stop}
 use Rattle.occ_places.specs.Places.{Known, stop_of}
 use Rattle.occ_shown.specs.Answers.{ends_text, names_of, numbers_text}
 use Rattle.occ_term.specs.Runs.{Entry, Names, entries, tag_shown}
+use Rattle.occ_term.specs.declared.names.Channel.{Channel}
+use Rattle.occ_term.specs.declared.message.Message.{Message}
+use Rattle.occ_net_trace.specs.declared.communication.Communication.{Communication}
 
 -- ---- at what a turn stops
 
@@ -118,3 +121,32 @@ pub record StepsTo (known : List Known) (p : Program) (keyboard : List ℕ) (tur
   pub taken : OneTurn p c net next
   pub holds : Holds p keyboard n next
   pub is : new ≡ old ++ step_text (names_of p.channels) known turn net taken.number c.pick taken.after next
+
+-- ---- of what code has; private contracts alone cite these
+
+abbrev pub offers_text : List Channel → ℕ → Message → List ℕ
+offers_text cs c m = codes "offers " ++ message_text (tag_shown (names_of cs) c m.tag) m.items ++ codes " on " ++ (names_of cs).channel_name c
+
+abbrev pub awaits_text : List Channel → ℕ → List ℕ
+awaits_text cs c = codes "awaits " ++ (names_of cs).channel_name c
+
+abbrev pub chooses_text : List Channel → List Arm → List ℕ
+chooses_text cs arms = codes "chooses" ++ arm_channels (names_of cs) arms
+
+abbrev pub joins_text : List ℕ → List ℕ
+joins_text ns = codes "waits for" ++ numbers_text ns
+
+-- communications that are the last of so many
+abbrev pub last_made : List Channel → ℕ → List Communication → List Entry
+last_made cs made xs = entries (names_of cs) (made - length xs + 1) (map communication_of xs)
+
+abbrev pub AddsTail : {A : Type 0} → List Channel → List Known → ℕ → Task → List Entry → (old new : Vec ℕ A) → Type 0
+AddsTail cs known n t made old new = new.items ≡ old.items ++ turn_tail (names_of cs) known n t made
+
+-- of the network that the tables held
+abbrev pub AddsStep : {A : Type 0} → List Known → Program → List ℕ → ℕ → Choice → Vec ℕ A → Tables → Vec ℕ A → Tables → Type 0
+AddsStep known p keyboard turn c before old after new =
+    (net : Net) → Holds p keyboard old net → StepsTo known p keyboard turn c net before.items new after.items
+
+abbrev pub TakesNext : Program → List ℕ → Tables → ℕ → ℕ × Task → Type 0
+TakesNext p keyboard tables which r = (net : Net) → Holds p keyboard tables net → NextTurn p which net r.0 r.1

@@ -1,7 +1,8 @@
 //! How the line of a turn begins.
-ghost use Rattle.std.specs.Prelude.{◌≡◌, ◌++◌, OnOk};
+ghost use Rattle.std.specs.Prelude.{◌≡◌, OnOk};
 ghost use Rattle.occ_net_replay.specs.Replay.{selected_process};
 ghost use Rattle.occ_steps.specs.Steps.{turn_head};
+ghost use Rattle.occ_shown.specs.Answers.{AddsText};
 
 use occ_shown::write_numbers;
 use std::alloc::{AllocError, Global};
@@ -25,7 +26,7 @@ pub(crate) fn write_head(
     taken: u32,
     pick: u32,
 ) -> Result<(), AllocError>
-    ensures { OnOk result (out.new.items ≡ out.old.items ++ turn_head turn ready.now taken pick) }
+    ensures { OnOk result (AddsText out.old out.new (turn_head turn ready.now taken pick)) }
 {
     let first = format!(in alloc; "{turn} ready")?;
     out.extend_from_slice(first.as_bytes())?;

@@ -1,9 +1,8 @@
 //! The trace of a run as a text of its own.
-ghost use Rattle.std.specs.Prelude.{◌≡◌, IfErr, IfOk, map};
+ghost use Rattle.std.specs.Prelude.{◌≡◌, IfErr, IfOk};
 ghost use Rattle.occ_choices.specs.Plans.{choices_of};
-ghost use Rattle.occ_net_tables.specs.Holding.{communication_of};
 ghost use Rattle.occ_play.specs.Playing.{Refuses};
-ghost use Rattle.occ_shown.specs.Answers.{names_of};
+ghost use Rattle.occ_shown.specs.Answers.{entries_in};
 ghost use Rattle.occ_term.specs.Runs.{entries};
 ghost use Rattle.occ_tracing.specs.Traced.{IsTraced, form_text};
 
@@ -29,7 +28,7 @@ pub enum Form {
 
 /// The communications of a trace, numbered from 1, with the names of these channels.
 fn shown_list(alloc: Global, trace: &Trace, channels: &[Channel]) -> Result<Vec<Shown>, AllocError>
-    ensures { IfOk result (λ list. list.items ≡ entries (names_of channels.now) 1 (map communication_of trace.now)) }
+    ensures { IfOk result (λ list. list.items ≡ entries_in channels.now trace.now) }
 {
     let mut list = Vec::new(alloc);
     let mut number = 0;
