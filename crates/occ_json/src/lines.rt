@@ -63,7 +63,8 @@ fn write_ends(
     sender: End,
     receiver: End,
 ) -> Result<(), AllocError>
-    ensures { OnOk result (AddsText out.old out.new (ends_json (end_text (end_of sender)) (end_text (end_of receiver)))) }
+    ensures { OnOk result (AddsText out.old out.new
+        (ends_json (end_text (end_of sender)) (end_text (end_of receiver)))) }
 {
     out.extend_from_slice(b",\"sender\":")?;
     write_end(alloc, out, sender)?;

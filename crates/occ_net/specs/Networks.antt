@@ -35,6 +35,10 @@ pub record IsNetwork (n : Past) : Type 0 where
   pub few : length n.choices < 2 ^ 63
   pub marked : length n.out ≡ length n.program.bodies
 
+-- so it is in the state that the network has
+abbrev pub InState : Past → (Net → Type 0) → Type 0
+InState n Says = (net : Net) → IsState n net → Says net
+
 -- ---- processes that may take a turn
 
 -- their numbers, rising

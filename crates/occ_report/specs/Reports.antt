@@ -194,8 +194,8 @@ abbrev pub joining_text : List ℕ → List ℕ
 joining_text ns = codes "waits for" ++ branches_text ns
 
 -- by the declared names and by who is noted
-abbrev pub standing_by : List Channel → Sides → Option Stop → Wait → Option (List ℕ)
-standing_by cs ends stop w = standing_text (names_of cs) ends.readers.now ends.writers.now stop w
+abbrev pub standing_told : List Channel → Sides → Option Stop → Wait → Option (List ℕ)
+standing_told cs ends stop w = standing_text (names_of cs) ends.readers.now ends.writers.now stop w
 
 abbrev pub line_by : List Channel → Sides → (name : List ℕ) → Option Stop → ℕ → Wait → List ℕ
 line_by cs ends name stop n w = process_line (names_of cs) ends.readers.now ends.writers.now name stop n w

@@ -3,7 +3,7 @@ ghost use Rattle.std.specs.Prelude.{◌≡◌, IfOk, OnOk, Some, codes, option_m
 ghost use Rattle.occ_net_replay.specs.Endings.{ending_text};
 ghost use Rattle.occ_places.specs.Places.{name_of, stop_of};
 ghost use Rattle.occ_shown.specs.Answers.{names_of, AddsText, HasWords};
-ghost use Rattle.occ_report.specs.Reports.{arm_channel_text, arms_text, awaited_text, branches_text, circle_text, halted_text, halting_text, line_told, name_text, offer_text, on_line, process_text, AddsTaskLine, AddsTaskLines, choosing_text, joining_text, line_by, reader_at, standing_by, writer_at};
+ghost use Rattle.occ_report.specs.Reports.{arm_channel_text, arms_text, awaited_text, branches_text, circle_text, halted_text, halting_text, line_told, name_text, offer_text, on_line, process_text, AddsTaskLine, AddsTaskLines, choosing_text, joining_text, line_by, reader_at, standing_told, writer_at};
 
 use occ_machine::{Arm, Wait};
 use occ_net_replay::Ending;
@@ -156,7 +156,8 @@ fn write_offer(
     chan: u32,
     message: &Message,
 ) -> Result<(), AllocError>
-    ensures { OnOk result (AddsText out.old out.new (offer_text (names_of channels.now) readers.now chan message.now)) }
+    ensures { OnOk result (AddsText out.old out.new
+        (offer_text (names_of channels.now) readers.now chan message.now)) }
 {
     out.extend_from_slice(b"offers ")?;
     write_message(alloc, out, message, chan, channels)?;
@@ -212,7 +213,7 @@ fn standing(
     stop: Option<Stop>,
     wait: &Wait,
 ) -> Result<Option<Vec<u8>>, AllocError>
-    ensures { IfOk result (HasWords (standing_by channels.now ends.entry stop wait.now)) }
+    ensures { IfOk result (HasWords (standing_told channels.now ends.entry stop wait.now)) }
 {
     let mut out = Vec::new(alloc);
     match wait {

@@ -150,7 +150,8 @@ fn write_stopped(
     number: u32,
     after: &Task,
 ) -> Result<(), AllocError>
-    ensures { OnOk result (AddsText out.old out.new (stopped_text (names_of channels.now) places.now number after.now)) }
+    ensures { OnOk result (AddsText out.old out.new
+        (stopped_text (names_of channels.now) places.now number after.now)) }
 {
     let stop = places.stop(number, &after.wait, after.place);
     write_line(alloc, out, stop)?;

@@ -72,7 +72,8 @@ pub fn traced(
     plan: &Plan,
     form: Form,
 ) -> Result<Vec<u8>, PlayFault>
-    ensures traced { IfOk result (λ bytes. IsTraced options.now source.now keyboard.now (choices_of plan.now) form bytes.items) }
+    ensures traced { IfOk result (λ bytes.
+        IsTraced options.now source.now keyboard.now (choices_of plan.now) form bytes.items) }
     ensures refused { IfErr result (Refuses options.now source.now) }
 {
     let code = code_of(options, alloc, source)?;
