@@ -118,7 +118,8 @@ impl Front {
     /// Whether this one goes on where the other ends. Either way one of the two begins the other.
     pub fn goes_past(&self, other: &Front) -> bool
         requires { other.now.book ≡ self.now.book }
-        ensures { MatchBool result (Extends other.now.edition self.now.edition) (Extends self.now.edition other.now.edition) }
+        ensures { MatchBool result (Extends other.now.edition self.now.edition)
+            (Extends self.now.edition other.now.edition) }
     {
         let mut both = self.seen.again();
         both.learn(&other.seen);

@@ -71,10 +71,13 @@ pub fn explain<'a>(
 ) -> Result<Explanation<'a>, AllocError>
     ensures within { IfOk result (λ e. IsPlace source.now e.line e.column) }
     ensures shown { IfOk result (λ e. e.source.now ≡ line_numbered source.now e.line) }
-    ensures near { IfOk result (λ e. 1 ≤ refusal.now.line → IsNear source.now refusal.now.line e.line) }
-    ensures cause { IfOk result (λ e. IsFalse (is_told_closer refusal.now.number) → e.wrong.items ≡ cause_of refusal.now.number) }
+    ensures near { IfOk result (λ e. 1 ≤ refusal.now.line
+        → IsNear source.now refusal.now.line e.line) }
+    ensures cause { IfOk result (λ e. IsFalse (is_told_closer refusal.now.number)
+        → e.wrong.items ≡ cause_of refusal.now.number) }
     ensures some { IfOk result (λ e. 1 ≤ length e.wrong.items) }
-    ensures reached { IfOk result (λ e. refusal.now.line ≤ length (lines source.now) → refusal.now.line ≤ e.line) }
+    ensures reached { IfOk result (λ e. refusal.now.line ≤ length (lines source.now)
+        → refusal.now.line ≤ e.line) }
 {
     let text = scan(alloc, source)?;
     let finding = finding_of(alloc, &text, refusal)?;

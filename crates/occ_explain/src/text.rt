@@ -41,7 +41,8 @@ fn write_first(
     column: usize,
     wrong: &[u8],
 ) -> Result<(), AllocError>
-    ensures { OnOk result (out.new.items ≡ out.old.items ++ first_line file.now line column wrong.now) }
+    ensures { OnOk result (out.new.items ≡ out.old.items
+        ++ first_line file.now line column wrong.now) }
 {
     let name = printed_name(alloc, file)?;
     out.extend_from_slice(name.as_slice())?;
@@ -110,7 +111,9 @@ pub fn explained(
     explanation: &Explanation<'_>,
 ) -> Result<Vec<u8>, AllocError>
     ensures ascii { IfOk result (λ v. IsAscii (drop (length (printed_name file.now)) v.items)) }
-    ensures written { let e = explanation.now in IfOk result (λ v. v.items ≡ explained_text file.now e.line e.column e.source.now e.wrong.items e.hint.items) }
+    ensures written { let e = explanation.now in IfOk result
+        (λ v. v.items ≡ explained_text file.now e.line e.column e.source.now e.wrong.items
+        e.hint.items) }
 {
     let (line, column) = (explanation.line, explanation.column);
     let mut out = Vec::new(alloc);

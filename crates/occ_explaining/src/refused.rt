@@ -128,7 +128,8 @@ pub fn explained_fault(
     file: &[u8],
     fault: &PlayFault,
 ) -> Result<Option<Vec<u8>>, AllocError>
-    ensures { IfOk result (λ told. TellsRefusal source.now file.now (refusal_in fault.now) (option_map (λ v. v.items) told)) }
+    ensures { IfOk result (λ told. TellsRefusal source.now file.now (refusal_in fault.now)
+        (option_map (λ v. v.items) told)) }
 {
     let Some(refusal) = refusal_of(fault) else {
         return Ok(None);

@@ -89,8 +89,10 @@ fn ends_by(
     limit: u32,
     seed: u32,
 ) -> Result<bool, AllocError>
-    ensures ends { IfOk result (λ ends. IsTrue ends → RunEnds options.now source.now keyboard.now (seeded seed limit)) }
-    ensures not { IfOk result (λ ends. IsFalse ends → RunEndsNot options.now source.now keyboard.now (seeded seed limit)) }
+    ensures ends { IfOk result (λ ends. IsTrue ends
+        → RunEnds options.now source.now keyboard.now (seeded seed limit)) }
+    ensures not { IfOk result (λ ends. IsFalse ends
+        → RunEndsNot options.now source.now keyboard.now (seeded seed limit)) }
 {
     let plan = seeded_plan(alloc, seed, limit)?;
     let mut answer = Vec::new(alloc);
@@ -109,8 +111,10 @@ fn ends_on<W: Write>(
     out: &mut Counted<W>,
 ) -> bool
     requires room { failures_of out.old < 2 ^ 64 - 1 }
-    ensures ends { IsTrue result → RunEnds options.now source.now keyboard.now (choices_of plan.now) }
-    ensures not { IsFalse result → RunEndsNot options.now source.now keyboard.now (choices_of plan.now) }
+    ensures ends { IsTrue result → RunEnds options.now source.now keyboard.now
+        (choices_of plan.now) }
+    ensures not { IsFalse result → RunEndsNot options.now source.now keyboard.now
+        (choices_of plan.now) }
 {
     let played = play_in(options, alloc, source, keyboard, plan, false, out);
     has_ended(&played)

@@ -23,8 +23,11 @@ pub(crate) fn step<F: Folder>(
     inputs: &Inputs,
     played: &Result<Played, PlayFault>,
 ) -> Result<Result<(), PlayFault>, Failure>
-    ensures refused { IfOk result (λ stepped. IfErr stepped (Refuses (options_in words.now) inputs.now.source.items)) }
-    ensures left { LeavesOrRefuses (StepsPage (options_in words.now) inputs.now.source.items inputs.now.keyboard.items words.now.steps played.now) (F.left folder.old) (F.left folder.new) result }
+    ensures refused { IfOk result (λ stepped.
+        IfErr stepped (Refuses (options_in words.now) inputs.now.source.items)) }
+    ensures left { LeavesOrRefuses (StepsPage (options_in words.now) inputs.now.source.items
+        inputs.now.keyboard.items words.now.steps played.now) (F.left folder.old)
+        (F.left folder.new) result }
     ensures failed { IfErr result (FailsToWrite Turns) }
 {
     match page_of(alloc, words, inputs, played) {
@@ -43,7 +46,8 @@ fn page_of<'a>(
     inputs: &Inputs,
     played: &Result<Played, PlayFault>,
 ) -> Result<Option<Page<'a>>, PlayFault>
-    ensures { TellsSteps (options_in words.now) inputs.now.source.items inputs.now.keyboard.items words.now.steps played.now result }
+    ensures { TellsSteps (options_in words.now) inputs.now.source.items inputs.now.keyboard.items
+        words.now.steps played.now result }
 {
     match (words.steps, played) {
         (Some(path), Ok(played)) => {

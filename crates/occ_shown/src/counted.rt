@@ -1,6 +1,6 @@
 //! A writer that counts the writes that fail.
 ghost use Rattle.std.specs.Prelude.{◌≡◌, ◌+◌, ◌-◌, ◌^◌, ◌<◌, ◌≤◌, OnOk, IfErr, OnErr, IfSome, IfNone, length, take};
-ghost use Rattle.std.specs.Io.KnownBytes.{Appends, Keeps};
+ghost use Rattle.std.specs.Io.KnownBytes.{Keeps};
 ghost use Rattle.occ_shown.specs.Counting.{failures_of, writer_of, AppendsTo};
 
 use std::io::Write;
@@ -33,7 +33,7 @@ impl<W: Write> Counted<W> {
         requires room { failures_of self.old < 2 ^ 64 - 1 }
         requires some { 0 < length bytes.now }
         ensures taken { IfSome result (λ n. (0 < n) × (n ≤ length bytes.now)
-            × Appends (W.contents (writer_of self.old)) (W.contents (writer_of self.new)) (take n bytes.now)
+            × AppendsTo W.contents self.old self.new (take n bytes.now)
             × (failures_of self.new ≡ failures_of self.old)) }
         ensures failed { IfNone result ((failures_of self.new ≡ failures_of self.old + 1)
             × Keeps (W.contents (writer_of self.old)) (W.contents (writer_of self.new))) }
@@ -55,7 +55,7 @@ pub fn write_answer<W: Write>(answer: &[u8], out: &mut Counted<W>) -> Result<(),
     ensures none_failed { OnOk result (failures_of out.new ≡ failures_of out.old) }
     ensures failed { OnErr result (failures_of out.old < failures_of out.new) }
     ensures beginning { IfErr result (λ written. (written < length answer.now)
-        × Appends (W.contents (writer_of out.old)) (W.contents (writer_of out.new)) (take written answer.now)) }
+        × AppendsTo W.contents out.old out.new (take written answer.now)) }
 {
     let mut written = 0;
     while written < answer.len() {

@@ -21,7 +21,8 @@ fn read_more<R: Read>(
     requires some { 0 < length buffer.old }
     ensures more { IfOk result (λ n. length bytes.new.items ≡ length bytes.old.items + n) }
     ensures within { IfOk result (λ n. n ≤ length buffer.old) }
-    ensures read { OnOk result (Grows R.remaining reader.old reader.new bytes.old.items bytes.new.items) }
+    ensures read { OnOk result (Grows R.remaining reader.old reader.new bytes.old.items
+        bytes.new.items) }
     ensures end { IfOk result (λ n. n ≡ 0 → IsAtEnd (R.remaining (reader_of reader.new))) }
     ensures unbroken { OnOk result (breaks_of reader.new ≡ breaks_of reader.old) }
     ensures counted { OnOk result (failures_of reader.old ≤ failures_of reader.new) }
@@ -48,9 +49,12 @@ pub fn read_input<R: Read>(
     most: usize,
 ) -> Result<Vec<u8>, InputFault>
     requires room { failures_of reader.old < 2 ^ 64 - 1 }
-    ensures bytes { IfSome (R.remaining (reader_of reader.old)) (λ xs. IfOk result (λ bytes. bytes.items ≡ take most xs)) }
+    ensures bytes { IfSome (R.remaining (reader_of reader.old))
+        (λ xs. IfOk result (λ bytes. bytes.items ≡ take most xs)) }
     ensures few { IfOk result (λ bytes. length bytes.items ≤ most) }
-    ensures rest { IfOk result (λ bytes. Consumes (R.remaining (reader_of reader.old)) (R.remaining (reader_of reader.new)) bytes.items) }
+    ensures rest { IfOk result (λ bytes.
+        Consumes (R.remaining (reader_of reader.old)) (R.remaining (reader_of reader.new))
+        bytes.items) }
     ensures unbroken { OnOk result (breaks_of reader.new ≡ breaks_of reader.old) }
     ensures told { IfErr result (TellsReason reader.old reader.new) }
 {
