@@ -7,7 +7,7 @@ use prog.Atomic.{either}
 use Rattle.logbook.specs.Pages.{Cell, cell, keeps, no_nib, step, Moves, Goes}
 use Rattle.occ_board.specs.declared.shown.Edition.{Edition}
 use Rattle.occ_board.specs.Editions.{blank, Follows, IsLegal, newest}
-use Rattle.occ_board.specs.Rules.{IsKept, Adds}
+use Rattle.occ_board.specs.Rules.{IsLogged, AddsEdition}
 use Rattle.occ_board.proofs.Prefixes.{prefix_whole}
 use Rattle.occ_board.proofs.Histories.{rises_join}
 
@@ -19,7 +19,7 @@ moved xs ys n = Unit {0}
 
 pub adds_goes : (log v : List Edition) (e : Edition) (old : ℕ) → length v ≡ old → Follows (newest v) e → IsLegal log → IsPrefix v log
     → (b : Bool) → (length log == old) ≡ b
-    → Goes IsKept shown moved 0 (v, (no_nib, None)) (λ n. either (n == old) (old + 1) n) (Adds (step 0 old (old + 1) e) (v, (no_nib, None))) ((length log, true) ∷ (0, true) ∷ []) log
+    → Goes IsLogged shown moved 0 (v, (no_nib, None)) (λ n. either (n == old) (old + 1) n) (AddsEdition (step 0 old (old + 1) e) (v, (no_nib, None))) ((length log, true) ∷ (0, true) ∷ []) log
 adds_goes log v e old len may legal pre true is =
     let here : length log ≡ old = grind (arith, nat_tests) in
     let same : v ≡ log = prefix_whole v log pre (omega arith) in
@@ -49,7 +49,7 @@ adds_goes log v e old len may legal pre false is =
 
 -- whatever the history is, the exchange adds the edition to all that was seen, or finds another length
 pub adds_moves : (v : List Edition) (e : Edition) (old : ℕ) → length v ≡ old → Follows (newest v) e
-    → Moves IsKept shown moved 0 (v, (no_nib, None)) (λ n. either (n == old) (old + 1) n) (Adds (step 0 old (old + 1) e) (v, (no_nib, None)))
+    → Moves IsLogged shown moved 0 (v, (no_nib, None)) (λ n. either (n == old) (old + 1) n) (AddsEdition (step 0 old (old + 1) e) (v, (no_nib, None)))
 adds_moves v e old len may cs log kept pre away =
-    let P : List Cell → Type 0 = λ c. (0 < length c) × ((cell c 0).1 ≡ true) × Goes IsKept shown moved 0 (v, (no_nib, None)) (λ n. either (n == old) (old + 1) n) (Adds (step 0 old (old + 1) e) (v, (no_nib, None))) c log in
+    let P : List Cell → Type 0 = λ c. (0 < length c) × ((cell c 0).1 ≡ true) × Goes IsLogged shown moved 0 (v, (no_nib, None)) (λ n. either (n == old) (old + 1) n) (AddsEdition (step 0 old (old + 1) e) (v, (no_nib, None))) c log in
     subst P (sym kept.words) (omega arith, refl, adds_goes log v e old len may kept.legal pre (length log == old) refl)

@@ -10,18 +10,18 @@ use Rattle.logbook.specs.Pages.{Book}
 use Rattle.occ_board.specs.Editions.{Reached, reached, edition}
 use Rattle.occ_board.specs.declared.trace.Change.{Change}
 use Rattle.occ_board.specs.declared.trace.Change.TheVariants.{Show, Reach}
-use Rattle.occ_board.specs.Rules.{Keeps, Enters}
+use Rattle.occ_board.specs.Rules.{KeepsViews, EntersView}
 use Rattle.occ_board.specs.Traces.{applied_to, added, IsAhead}
 use Rattle.occ_board.proofs.Prefixes.{prefix_self, prefix_trans, prefix_more}
 
 -- a new watcher has seen nothing
-pub admits : (b : Book) (xs : List Entry) (f : Reached) (views : List (List Entry)) → Keeps b xs f views → Keeps b xs f (views ++ [] ∷ [])
+pub admits : (b : Book) (xs : List Entry) (f : Reached) (views : List (List Entry)) → KeepsViews b xs f views → KeepsViews b xs f (views ++ [] ∷ [])
 admits b xs f views k =
     (k.0, k.1, λ seat v at. ⊎_elim (k.2 seat v) (λ (new : [] ≡ v). subst (λ (l : List Entry). IsPrefix l xs) new (xs, refl)) (at_snoc views [] v seat at))
 
 -- what is shown goes from xs to ys, which begins with xs, and one seat sees it
 pub steps : (b : Book) (seat : ℕ) (v xs ys : List Entry) (d f : Reached) → IsPrefix xs ys → f.book ≡ b → f.edition.entries ≡ ys
-    → (views : List (List Entry)) → Keeps b xs d views → get_elem? views seat ≡ some v → (w : List Entry) × Keeps b ys f (set views seat w) × Enters b v xs ys f w
+    → (views : List (List Entry)) → KeepsViews b xs d views → get_elem? views seat ≡ some v → (w : List Entry) × KeepsViews b ys f (set views seat w) × EntersView b v xs ys f w
 steps b seat v xs ys d f up of is views k at = (
   ys,
   (

@@ -9,21 +9,21 @@ use Rattle.occ_board.specs.declared.shown.Edition.{Edition}
 use Rattle.occ_board.specs.Editions.{IsLegal, Reached}
 
 -- the first word is the length of the history, which is legal. The second is not used
-pub record IsKept (cells : List Cell) (log : List Edition) : Type 0 where
+pub record IsLogged (cells : List Cell) (log : List Edition) : Type 0 where
   pub words : cells ≡ (length log, true) ∷ (0, true) ∷ []
   pub legal : IsLegal log
 
-abbrev pub head_of : Book → Named
-head_of b = record { tracked = true; key = 0; book = b }
+abbrev pub book_head : Book → Named
+book_head b = record { tracked = true; key = 0; book = b }
 
 -- where the length was the one expected, the edition was added to all that had been seen
-abbrev pub Adds : Step Edition → View Edition ℕ → ℕ → View Edition ℕ → Type 0
-Adds s v found w = found ≡ s.old → (w.0 ≡ v.0 ++ s.ask ∷ []) × IsLegal w.0
+abbrev pub AddsEdition : Step Edition → View Edition ℕ → ℕ → View Edition ℕ → Type 0
+AddsEdition s v found w = found ≡ s.old → (w.0 ≡ v.0 ++ s.ask ∷ []) × IsLegal w.0
 
 -- what is shown is an edition of the board's history, and begins with what each watcher saw
-abbrev pub Keeps : Book → List Entry → Reached → List (List Entry) → Type 0
-Keeps book entries f views = (f.book ≡ book) × (f.edition.entries ≡ entries) × ((seat : ℕ) (v : List Entry) → get_elem? views seat ≡ some v → IsPrefix v entries)
+abbrev pub KeepsViews : Book → List Entry → Reached → List (List Entry) → Type 0
+KeepsViews book entries f views = (f.book ≡ book) × (f.edition.entries ≡ entries) × ((seat : ℕ) (v : List Entry) → get_elem? views seat ≡ some v → IsPrefix v entries)
 
 -- what was shown began with the view, and what is shown afterwards is the new view
-abbrev pub Enters : Book → List Entry → List Entry → List Entry → Reached → List Entry → Type 0
-Enters book v before after f w = IsPrefix v before × (w ≡ after) × (f.book ≡ book) × (f.edition.entries ≡ after)
+abbrev pub EntersView : Book → List Entry → List Entry → List Entry → Reached → List Entry → Type 0
+EntersView book v before after f w = IsPrefix v before × (w ≡ after) × (f.book ≡ book) × (f.edition.entries ≡ after)

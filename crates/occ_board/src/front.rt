@@ -13,9 +13,9 @@ pub struct Law;
 impl Rule<Edition, u64> for Law {
     ghost use Rattle.std.specs.Prelude.{[]};
     ghost use base.Fml.{ftrue};
-    ghost use Rattle.occ_board.specs.Rules.{IsKept};
+    ghost use Rattle.occ_board.specs.Rules.{IsLogged};
 
-    ghost holds = { λ cells log. IsKept cells log };
+    ghost holds = { λ cells log. IsLogged cells log };
 
     ghost first = { [] };
 
@@ -41,9 +41,9 @@ impl Gain<Edition, u64> for Nothing {
 struct Add;
 
 impl Play<Edition, u64> for Add {
-    ghost use Rattle.occ_board.specs.Rules.{Adds};
+    ghost use Rattle.occ_board.specs.Rules.{AddsEdition};
 
-    ghost then = { Adds };
+    ghost then = { AddsEdition };
 }
 
 /// Which board it is. A function that is generic over it has one board; each call of such a function names another, by `Brand`.
@@ -66,13 +66,13 @@ pub struct Head {
 impl Model for Head {
     ghost use Rattle.std.specs.Prelude.{◌≡◌};
     ghost use Rattle.logbook.specs.Pages.{Book};
-    ghost use Rattle.occ_board.specs.Rules.{head_of};
+    ghost use Rattle.occ_board.specs.Rules.{book_head};
 
     ghost Value = { Book };
 
     ghost view = { λ h. h.word.book };
 
-    ghost invariant = { λ h. h.word ≡ head_of h.word.book };
+    ghost invariant = { λ h. h.word ≡ book_head h.word.book };
 }
 
 /// A beginning of a history. Contracts see which history it is, and its newest edition.
@@ -118,7 +118,8 @@ impl Front {
     /// Whether this one goes on where the other ends. Either way one of the two begins the other.
     pub fn goes_past(&self, other: &Front) -> bool
         requires { other.now.book ≡ self.now.book }
-        ensures { MatchBool result (Extends other.now.edition self.now.edition) (Extends self.now.edition other.now.edition) }
+        ensures { MatchBool result (Extends other.now.edition self.now.edition)
+            (Extends self.now.edition other.now.edition) }
     {
         let mut both = self.seen.again();
         both.learn(&other.seen);

@@ -131,7 +131,8 @@ impl Board {
         ensures bad { (watchers ≡ 0) ⊎ (8 < watchers) → result ≡ Err BadWatchers }
         ensures good { 0 < watchers → watchers ≤ 8 → result ≢ Err BadWatchers }
         ensures publisher { IfOk result (λ r. r.0 ≡ publishing [] [] false) }
-        ensures watchers { IfOk result (λ r. (length r.1.items ≡ watchers) × All (λ w. w ≡ watching [] blank) r.1.items) }
+        ensures watchers { IfOk result (λ r. (length r.1.items ≡ watchers)
+            × All (λ w. w ≡ watching [] blank) r.1.items) }
     {
         if watchers == 0 || watchers > 8 {
             return Err(BoardFault::BadWatchers);
@@ -165,7 +166,8 @@ fn empty_writer<J: Naming>(
     readers: usize,
 ) -> Result<TraceWriter<J>, AllocError>
     requires { (front.now ≡ reached J.book blank) × (0 < readers) × (readers ≤ 8) }
-    ensures { IfOk result (λ w. (w.desk.shown.value.entries.items ≡ []) × (w.desk.shown.value.front ≡ reached J.book blank) × (drop w.behind w.log.items ≡ [])) }
+    ensures { IfOk result (λ w. (w.desk.shown.value.entries.items ≡ [])
+        × (w.desk.shown.value.front ≡ reached J.book blank) × (drop w.behind w.log.items ≡ [])) }
 {
     let first = Trace {
         entries: Vec::new(alloc),
@@ -189,7 +191,8 @@ fn seat<J: Naming>(
 )
     requires blank { front.now ≡ reached J.book blank }
     requires room { (seats.old.items ≡ []) × (watchers ≤ vec_capacity seats.old) }
-    ensures { (length seats.new.items ≡ watchers) × All (λ w. w ≡ watching [] blank) seats.new.items }
+    ensures { (length seats.new.items ≡ watchers)
+        × All (λ w. w ≡ watching [] blank) seats.new.items }
 {
     for _ in 0..watchers {
         seats.push_reserved(Watcher {
@@ -206,9 +209,14 @@ fn recorded<J: Naming>(
     front: &Front,
     last: bool,
 ) -> Option<Front>
-    requires front { (head.now ≡ J.book) × (front.now.book ≡ J.book) × (front.now.edition.last ≡ false) }
-    requires ahead { IsPrefix front.now.edition.entries (writer.now.desk.shown.value.entries.items ++ added (drop writer.now.behind writer.now.log.items)) }
-    ensures { IfSome result (λ f. f ≡ reached J.book (edition (writer.now.desk.shown.value.entries.items ++ added (drop writer.now.behind writer.now.log.items)) last)) }
+    requires front { (head.now ≡ J.book) × (front.now.book ≡ J.book)
+        × (front.now.edition.last ≡ false) }
+    requires ahead { IsPrefix front.now.edition.entries
+        (writer.now.desk.shown.value.entries.items
+        ++ added (drop writer.now.behind writer.now.log.items)) }
+    ensures { IfSome result (λ f. f
+        ≡ reached J.book (edition (writer.now.desk.shown.value.entries.items
+        ++ added (drop writer.now.behind writer.now.log.items)) last)) }
 {
     if last {
         return front.add::<TraceWriter<J>, Last>(head, writer);
@@ -218,9 +226,16 @@ fn recorded<J: Naming>(
 
 // Shows all that is pending, as the edition `next`, and says whether it did.
 fn show<J: Naming, R: Wait>(rt: &R, writer: TraceWriter<J>, next: Front) -> (TraceWriter<J>, bool)
-    requires { (next.book ≡ J.book) × (next.edition.entries ≡ writer.desk.shown.value.entries.items ++ added (drop writer.behind writer.log.items)) }
-    ensures shown { IsTrue result.1 → (result.0.desk.shown.value.entries.items ≡ next.edition.entries) × (result.0.desk.shown.value.front ≡ next) × (added (drop result.0.behind result.0.log.items) ≡ []) }
-    ensures kept { IsFalse result.1 → (result.0.desk.shown.value ≡ writer.desk.shown.value) × (added (drop result.0.behind result.0.log.items) ≡ added (drop writer.behind writer.log.items)) }
+    requires { (next.book ≡ J.book)
+        × (next.edition.entries ≡ writer.desk.shown.value.entries.items
+        ++ added (drop writer.behind writer.log.items)) }
+    ensures shown { IsTrue result.1
+        → (result.0.desk.shown.value.entries.items ≡ next.edition.entries)
+        × (result.0.desk.shown.value.front ≡ next)
+        × (added (drop result.0.behind result.0.log.items) ≡ []) }
+    ensures kept { IsFalse result.1 → (result.0.desk.shown.value ≡ writer.desk.shown.value)
+        × (added (drop result.0.behind result.0.log.items)
+        ≡ added (drop writer.behind writer.log.items)) }
 {
     let mut writer = writer;
     let Ok(()) = writer.append(Change::Reach(next)) else {
@@ -243,12 +258,21 @@ fn exchange<J: Naming, R: Wait>(
     last: bool,
 ) -> (TraceWriter<J>, Front, bool)
     requires going { (head.now ≡ J.book) × (front.edition.last ≡ false) }
-    requires ahead { IsAhead J.book writer.desk.shown.value.entries.items (added (drop writer.behind writer.log.items)) writer.desk.shown.value.front front }
-    ensures shown { IsTrue result.2 → (result.0.desk.shown.value.entries.items ≡ writer.desk.shown.value.entries.items ++ added (drop writer.behind writer.log.items)) × (added (drop result.0.behind result.0.log.items) ≡ []) × (result.1.edition.last ≡ last) }
-    ensures kept { IsFalse result.2 → (result.0.desk.shown.value.entries.items ≡ writer.desk.shown.value.entries.items) × (added (drop result.0.behind result.0.log.items) ≡ added (drop writer.behind writer.log.items)) }
+    requires ahead { IsAhead J.book writer.desk.shown.value.entries.items
+        (added (drop writer.behind writer.log.items)) writer.desk.shown.value.front front }
+    ensures shown { IsTrue result.2
+        → (result.0.desk.shown.value.entries.items ≡ writer.desk.shown.value.entries.items
+        ++ added (drop writer.behind writer.log.items))
+        × (added (drop result.0.behind result.0.log.items) ≡ []) × (result.1.edition.last ≡ last) }
+    ensures kept { IsFalse result.2
+        → (result.0.desk.shown.value.entries.items ≡ writer.desk.shown.value.entries.items)
+        × (added (drop result.0.behind result.0.log.items)
+        ≡ added (drop writer.behind writer.log.items)) }
     ensures going { IsFalse result.2 → result.1.edition.last ≡ false }
-    ensures closed { result.1.edition.last ≡ true → added (drop result.0.behind result.0.log.items) ≡ [] }
-    ensures ahead { IsAhead J.book result.0.desk.shown.value.entries.items (added (drop result.0.behind result.0.log.items)) result.0.desk.shown.value.front result.1 }
+    ensures closed { result.1.edition.last ≡ true
+        → added (drop result.0.behind result.0.log.items) ≡ [] }
+    ensures ahead { IsAhead J.book result.0.desk.shown.value.entries.items
+        (added (drop result.0.behind result.0.log.items)) result.0.desk.shown.value.front result.1 }
 {
     let Some(next) = recorded(&writer, head, &front, last) else {
         return (writer, front, false);
@@ -268,7 +292,9 @@ impl<J: Naming> Publisher<J> {
     /// Puts an entry behind what is pending. The entry comes back where a growth was refused.
     pub fn append(&mut self, shown: Shown) -> Result<(), (Shown, AllocError)>
         requires { self.old.closed ≡ false }
-        ensures { MatchResult result (λ _. self.new ≡ publishing self.old.published (self.old.pending ++ shown ∷ []) false) (λ r. (r.0 ≡ shown) × (self.new ≡ self.old)) }
+        ensures { MatchResult result (λ _.
+            self.new ≡ publishing self.old.published (self.old.pending ++ shown ∷ []) false)
+            (λ r. (r.0 ≡ shown) × (self.new ≡ self.old)) }
     {
         let Err(refused) = self.writer.append(Change::Show(shown)) else {
             return Ok(());
@@ -286,7 +312,9 @@ impl<J: Naming> Publisher<J> {
     /// `Refused`; what is published and what is pending stay as they were.
     pub fn publish<R: Wait>(self, rt: &R) -> (Publisher<J>, Result<(), BoardFault>)
         requires { self.closed ≡ false }
-        ensures { MatchResult result.1 (λ _. result.0 ≡ publishing (self.published ++ self.pending) [] false) (λ _. result.0 ≡ self) }
+        ensures { MatchResult result.1 (λ _.
+            result.0 ≡ publishing (self.published ++ self.pending) [] false)
+            (λ _. result.0 ≡ self) }
     {
         self.put_out(rt, false)
     }
@@ -298,14 +326,16 @@ impl<J: Naming> Publisher<J> {
     /// `Refused`, as of `publish`. From then on each call of this and of `publish` answers it.
     pub fn close<R: Wait>(self, rt: &R) -> (Publisher<J>, Result<(), BoardFault>)
         requires { self.closed ≡ false }
-        ensures { MatchResult result.1 (λ _. result.0 ≡ publishing (self.published ++ self.pending) [] true) (λ _. result.0 ≡ self) }
+        ensures { MatchResult result.1 (λ _.
+            result.0 ≡ publishing (self.published ++ self.pending) [] true) (λ _. result.0 ≡ self) }
     {
         self.put_out(rt, true)
     }
 
     fn put_out<R: Wait>(self, rt: &R, last: bool) -> (Publisher<J>, Result<(), BoardFault>)
         requires { self.closed ≡ false }
-        ensures { MatchResult result.1 (λ _. result.0 ≡ publishing (self.published ++ self.pending) [] last) (λ _. result.0 ≡ self) }
+        ensures { MatchResult result.1 (λ _.
+            result.0 ≡ publishing (self.published ++ self.pending) [] last) (λ _. result.0 ≡ self) }
     {
         let Publisher {
             writer,

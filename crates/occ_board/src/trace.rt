@@ -54,9 +54,9 @@ pub struct Ordered<J> {
 
 impl<J: Naming> Protocol<Trace, [Shown; 0]> for Ordered<J> {
     ghost use Rattle.std.specs.Prelude.{[]};
-    ghost use Rattle.occ_board.specs.Rules.{Keeps};
+    ghost use Rattle.occ_board.specs.Rules.{KeepsViews};
 
-    ghost holds = { λ x. Keeps J.book x.entries.items x.front };
+    ghost holds = { λ x. KeepsViews J.book x.entries.items x.front };
 
     ghost first = { [] };
 }
@@ -67,9 +67,9 @@ pub struct Sees<J> {
 }
 
 impl<J: Naming> Outcome<Trace, [Shown; 0]> for Sees<J> {
-    ghost use Rattle.occ_board.specs.Rules.{Enters};
+    ghost use Rattle.occ_board.specs.Rules.{EntersView};
 
-    ghost then = { λ v x y w. Enters J.book v x.entries.items y.entries.items y.front w };
+    ghost then = { λ v x y w. EntersView J.book v x.entries.items y.entries.items y.front w };
 }
 
 pub type TraceWriter<J> = Writer<Trace, Change, [Shown; 0], Ordered<J>>;

@@ -61,9 +61,14 @@ impl<J: Naming> Watcher<J> {
         f: F,
     ) -> Result<(Watcher<J>, R), Watcher<J>>
         requires { F.IsAlwaysCallable f }
-        ensures answer { MatchResult result (λ r. FnOnceReturnsAt F.FnOnce f r.0.seen r.1) (λ w. w.known ≡ self.known) }
-        ensures seen { MatchResult result (λ r. IsPrefix self.seen r.0.seen × IsPrefix self.known.entries r.0.seen) (λ w. IsPrefix self.seen w.seen) }
-        ensures known { MatchResult result (λ r. (r.0.known.entries ≡ r.0.seen) × Extends self.known r.0.known) (λ w. IsPrefix w.seen w.known.entries) }
+        ensures answer { MatchResult result (λ r. FnOnceReturnsAt F.FnOnce f r.0.seen r.1)
+            (λ w. w.known ≡ self.known) }
+        ensures seen { MatchResult result
+            (λ r. IsPrefix self.seen r.0.seen × IsPrefix self.known.entries r.0.seen)
+            (λ w. IsPrefix self.seen w.seen) }
+        ensures known { MatchResult result
+            (λ r. (r.0.known.entries ≡ r.0.seen) × Extends self.known r.0.known)
+            (λ w. IsPrefix w.seen w.known.entries) }
     {
         let Watcher { reader, known } = self;
         let Some(reader) = reader else {
@@ -103,7 +108,8 @@ impl<J: Naming> Watcher<J> {
         ensures seen { result.seen ≡ self.seen }
         ensures known { Extends self.known result.known × Extends note.now result.known }
         ensures order { IsPrefix note.now.entries self.seen ⊎ IsPrefix self.seen note.now.entries }
-        ensures last { note.now.last ≡ true → IsPrefix result.seen note.now.entries × (result.known ≡ note.now) }
+        ensures last { note.now.last ≡ true → IsPrefix result.seen note.now.entries
+            × (result.known ≡ note.now) }
     {
         let Watcher { reader, known } = self;
         if known.goes_past(&note.front) {

@@ -8,8 +8,8 @@ use Rattle.occ_term.specs.declared.communication.End.{End}
 use Rattle.occ_term.specs.declared.ending.Ending.{Ending}
 use Rattle.occ_chart.specs.declared.part.Part.{Part}
 use Rattle.occ_chart.specs.declared.part.Part.TheVariants.{First, Last}
-use Rattle.occ_chart.specs.Charts.{IsChart, above, after_of, asked, before_of, drawn_of, foot, if_first, if_last, is_cut, left_out, most_arrows, shown_of}
-use Rattle.occ_chart.specs.Columns.{AreColumns, Standing}
+use Rattle.occ_chart.specs.Charts.{IsChart, above, after_of, asked, before_of, drawn_of, foot, if_first, if_last, is_cut, not_drawn, most_arrows, shown_of}
+use Rattle.occ_chart.specs.Columns.{AreColumns, Footing}
 
 pub entries_length : (names : Names) (n : ℕ) (xs : List Communication) → length (entries names n xs) ≡ length xs
 entries_length names n [] = refl
@@ -51,14 +51,14 @@ four_more o a b c d x y z w e f g h =
     ∙ append_assoc o ((a ++ b) ++ c) d
 
 -- the parts of the code are known by what they are
-pub charted : (es shown : List Entry) (part : Part) (ending : Ending) (names : List (List ℕ)) (ss : List Standing) (circle : List ℕ) (columns : List End) (all count left : ℕ) (top bytes : List ℕ)
+pub charted : (es shown : List Entry) (part : Part) (ending : Ending) (names : List (List ℕ)) (ss : List Footing) (circle : List ℕ) (columns : List End) (all count left : ℕ) (top bytes : List ℕ)
     → shown ≡ shown_of part es → all ≡ length es → count ≡ min (min (asked part) most_arrows) all → left ≡ all - count
     → AreColumns shown ss columns
     → top ≡ above names columns shown (if_last part left) (is_cut part es)
     → bytes ≡ top ++ foot names columns (length shown) (if_first part left) (is_cut part es) ss circle ending
     → IsChart es part ending names ss circle bytes
 charted es shown part ending names ss circle columns all count left top bytes is many counted rest are first second =
-    let out : left ≡ left_out part es = rest ∙ ap (λ k. all - k) counted ∙ ap (λ k. k - min (min (asked part) most_arrows) k) many in
+    let out : left ≡ not_drawn part es = rest ∙ ap (λ k. all - k) counted ∙ ap (λ k. k - min (min (asked part) most_arrows) k) many in
     record {
       columns = columns;
       are = subst (λ xs. AreColumns xs ss columns) is are;
@@ -71,7 +71,7 @@ charted es shown part ending names ss circle columns all count left top bytes is
     }
 
 -- the same, where the lists are known by what they are
-pub charted_by : (es shown shown' shown'' : List Entry) (part : Part) (ending : Ending) (names : List (List ℕ)) (ss : List Standing) (circle : List ℕ) (columns columns' columns'' : List End) (all count left before after size : ℕ) (high : Bool) (top bytes : List ℕ)
+pub charted_by : (es shown shown' shown'' : List Entry) (part : Part) (ending : Ending) (names : List (List ℕ)) (ss : List Footing) (circle : List ℕ) (columns columns' columns'' : List End) (all count left before after size : ℕ) (high : Bool) (top bytes : List ℕ)
     → shown ≡ shown_of part es → shown' ≡ shown → shown'' ≡ shown → all ≡ length es → count ≡ min (min (asked part) most_arrows) all → left ≡ all - count
     → AreColumns shown' ss columns → columns' ≡ columns → columns'' ≡ columns
     → before ≡ if_last part left → after ≡ if_first part left → high ≡ nat_lt most_arrows (asked part) && nat_lt most_arrows all → size ≡ length shown''

@@ -6,7 +6,7 @@ use Rattle.std.proofs.lemmas.Bool.{eqb-true}
 use Rattle.occ_term.specs.declared.communication.End.{End}
 use Rattle.occ_term.specs.declared.communication.End.TheVariants.{Keyboard, Process as OfProcess, Screen, Error}
 use Rattle.occ_term.specs.Runs.{Entry}
-use Rattle.occ_chart.specs.Columns.{AreColumns, AreInOrder, IsAmong, IsBeforeAll, Standing, Stands, TakesPart, is_before, is_end, place_for, stands_at, with_end, with_ends, with_standing}
+use Rattle.occ_chart.specs.Columns.{AreColumns, AreInOrder, IsListedIn, IsBeforeAll, Footing, HasFooting, HasColumn, is_before, is_end, place_for, is_column, with_end, with_ends, with_standing}
 
 pub before_trans : (x y z : End) → is_before x y ≡ true → is_before y z ≡ true → is_before x z ≡ true
 before_trans x y z a b = grind (arith)
@@ -51,25 +51,25 @@ in_order x (y ∷ ys) h = by (is_before y x) (is_end y x) refl refl (in_order x 
     by false true q r next = h
     by false false q r next = let first = before_else x y q r in ((first, before_all x y ys first h.0), h)
 
-among_with : (z x : End) (ys : List End) → IsAmong z (with_end x ys) ↔ ((x ≡ z) ⊎ IsAmong z ys)
+among_with : (z x : End) (ys : List End) → IsListedIn z (with_end x ys) ↔ ((x ≡ z) ⊎ IsListedIn z ys)
 among_with z x [] = ((λ h. h), (λ h. h))
 among_with z x (y ∷ ys) = by (is_before y x) (is_end y x) refl (among_with z x ys)
   where
-    by : (b c : Bool) → is_end y x ≡ c → IsAmong z (with_end x ys) ↔ ((x ≡ z) ⊎ IsAmong z ys) → IsAmong z (if b then y ∷ with_end x ys else if c then y ∷ ys else x ∷ y ∷ ys) ↔ ((x ≡ z) ⊎ IsAmong z (y ∷ ys))
+    by : (b c : Bool) → is_end y x ≡ c → IsListedIn z (with_end x ys) ↔ ((x ≡ z) ⊎ IsListedIn z ys) → IsListedIn z (if b then y ∷ with_end x ys else if c then y ∷ ys else x ∷ y ∷ ys) ↔ ((x ≡ z) ⊎ IsListedIn z (y ∷ ys))
     by true c r next = grind (arith, next)
     by false true r next = let same = same_end y x r in grind (arith, same)
     by false false r next = ((λ h. h), (λ h. h))
 
 -- ---- all of them
 
-stand_among : (z : End) (xs : List End) (ss : List Standing) → IsAmong z (with_standing xs ss) ↔ (IsAmong z xs ⊎ Stands ss z)
+stand_among : (z : End) (xs : List End) (ss : List Footing) → IsListedIn z (with_standing xs ss) ↔ (IsListedIn z xs ⊎ HasFooting ss z)
 stand_among z xs [] = grind arith
 stand_among z xs (s ∷ ss) =
     let next = stand_among z (with_end (OfProcess s.process) xs) ss in
     let one = among_with z (OfProcess s.process) xs in
     grind (arith, next, one)
 
-take_part_among : (z : End) (xs : List End) (es : List Entry) (ss : List Standing) → IsAmong z (with_standing (with_ends xs es) ss) ↔ (IsAmong z xs ⊎ TakesPart es ss z)
+take_part_among : (z : End) (xs : List End) (es : List Entry) (ss : List Footing) → IsListedIn z (with_standing (with_ends xs es) ss) ↔ (IsListedIn z xs ⊎ HasColumn es ss z)
 take_part_among z xs [] ss = stand_among z xs ss
 take_part_among z xs (e ∷ es) ss =
     let next = take_part_among z (with_end e.receiver (with_end e.sender xs)) es ss in
@@ -77,7 +77,7 @@ take_part_among z xs (e ∷ es) ss =
     let one = among_with z e.sender xs in
     grind (arith, next, two, one)
 
-stand_in_order : (xs : List End) (ss : List Standing) → AreInOrder xs → AreInOrder (with_standing xs ss)
+stand_in_order : (xs : List End) (ss : List Footing) → AreInOrder xs → AreInOrder (with_standing xs ss)
 stand_in_order xs [] h = h
 stand_in_order xs (s ∷ ss) h = stand_in_order (with_end (OfProcess s.process) xs) ss (in_order (OfProcess s.process) xs h)
 
@@ -85,7 +85,7 @@ ends_in_order : (xs : List End) (es : List Entry) → AreInOrder xs → AreInOrd
 ends_in_order xs [] h = h
 ends_in_order xs (e ∷ es) h = ends_in_order (with_end e.receiver (with_end e.sender xs)) es (in_order e.receiver (with_end e.sender xs) (in_order e.sender xs h))
 
-pub columns_are : (es : List Entry) (ss : List Standing) → AreColumns es ss (with_standing (with_ends [] es) ss)
+pub columns_are : (es : List Entry) (ss : List Footing) → AreColumns es ss (with_standing (with_ends [] es) ss)
 columns_are es ss =
     record {
       ordered = stand_in_order (with_ends [] es) ss (ends_in_order [] es tt);
@@ -118,14 +118,14 @@ put_new x (y ∷ ys) other = by (is_before y x) refl other (λ h. put_new x ys h
     by false q h next = rw (h y refl) refl
 
 -- the same, by what is asked of the place
-pub put_same_at : (x : End) (ys : List End) (n : ℕ) → n ≡ place_for x ys → stands_at x ys n ≡ true → ys ≡ with_end x ys
+pub put_same_at : (x : End) (ys : List End) (n : ℕ) → n ≡ place_for x ys → is_column x ys n ≡ true → ys ≡ with_end x ys
 put_same_at x ys n place e = by (slice_get ys n) refl e
   where
     by : (o : Option End) → slice_get ys n ≡ o → option_map_or (λ y. is_end y x) o false ≡ true → ys ≡ with_end x ys
     by None q h = cc
     by (Some y) q h = put_same x ys y (ap (slice_get ys) (sym place) ∙ q) h
 
-pub put_new_at : (x : End) (ys : List End) (n : ℕ) → n ≡ place_for x ys → stands_at x ys n ≡ false → insert ys n x ≡ with_end x ys
+pub put_new_at : (x : End) (ys : List End) (n : ℕ) → n ≡ place_for x ys → is_column x ys n ≡ false → insert ys n x ≡ with_end x ys
 put_new_at x ys n place other =
     let none : (z : End) → slice_get ys (place_for x ys) ≡ Some z → is_end z x ≡ false =
     λ z h.

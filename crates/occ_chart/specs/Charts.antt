@@ -1,21 +1,23 @@
 -- The sequence chart of a run, in SVG: a column for each end that takes part, from top to bottom an arrow for each communication, and at
 -- the foot what each process waits for.
 -- Manual: nothing; this is (own).
-use Rattle.std.specs.Prelude.{Bool, List, [], codes, drop, false, if◌then◌else◌, length, max, min, nat_eq, nat_lt, take, true, ℕ, ◌&&◌, ◌++◌, ◌+◌, ◌-◌, ◌*◌, ◌∷◌, ◌≡◌}
+use Rattle.std.specs.Prelude.{Bool, List, [], codes, drop, false, if◌then◌else◌, length, max, min, nat_eq, nat_lt, take, true, ℕ, ◌&&◌, ◌++◌, ◌+◌, ◌-◌, ◌*◌, ◌∷◌, ◌≡◌, Vec}
 use Rattle.std.specs.Fmt.{decimal}
 use Rattle.occ_term.specs.declared.communication.End.{End}
 use Rattle.occ_term.specs.declared.communication.End.TheVariants.{Process as OfProcess}
 use Rattle.occ_term.specs.Runs.{Entry}
 use Rattle.occ_term.specs.declared.ending.Ending.{Ending}
 use Rattle.occ_term.specs.Endings.{ending_text}
-use Rattle.occ_shown.specs.Answers.{numbers_text}
+use Rattle.occ_shown.specs.Answers.{numbers_text, entries_in}
 use Rattle.occ_chart.specs.declared.part.Part.{Part}
 use Rattle.occ_chart.specs.declared.part.Part.TheVariants.{First, Last}
 use Rattle.occ_chart.specs.declared.xml.Style.TheVariants.{Plain, Red, Note, RedNote}
-use Rattle.occ_chart.specs.Columns.{AreColumns, Standing, place_of}
-use Rattle.occ_chart.specs.Labels.{arrow_words, end_words, name_in}
+use Rattle.occ_chart.specs.Columns.{AreColumns, Footing, column_of}
+use Rattle.occ_chart.specs.Labels.{arrow_words, end_words, end_name, texts_of}
 use Rattle.occ_chart.specs.Shapes.{along, down, label, path, stub, text_at}
 use Rattle.occ_chart.specs.Xml.{Element, attribute, attribute_text, elements_text}
+use Rattle.occ_term.specs.declared.names.Channel.{Channel}
+use Rattle.occ_term.specs.declared.communication.Communication.{Communication}
 
 -- ---- which communications are drawn
 
@@ -32,12 +34,12 @@ abbrev pub drawn_of : Part → List Entry → ℕ
 drawn_of part es = min (min (asked part) most_arrows) (length es)
 
 -- how many are left out: of the first ones those behind them, and of the last ones those before
-abbrev pub left_out : Part → List Entry → ℕ
-left_out part es = length es - drawn_of part es
+abbrev pub not_drawn : Part → List Entry → ℕ
+not_drawn part es = length es - drawn_of part es
 
 abbrev pub shown_of : Part → List Entry → List Entry
 shown_of (First n) es = take (drawn_of (First n) es) es
-shown_of (Last n) es = drop (left_out (Last n) es) es
+shown_of (Last n) es = drop (not_drawn (Last n) es) es
 
 -- this number for the last ones, and for the first ones
 abbrev pub if_last : Part → ℕ → ℕ
@@ -49,10 +51,10 @@ if_first (First n) k = k
 if_first (Last n) k = 0
 
 abbrev pub before_of : Part → List Entry → ℕ
-before_of part es = if_last part (left_out part es)
+before_of part es = if_last part (not_drawn part es)
 
 abbrev pub after_of : Part → List Entry → ℕ
-after_of part es = if_first part (left_out part es)
+after_of part es = if_first part (not_drawn part es)
 
 -- fewer than were asked for, since the picture would be too high
 abbrev pub is_cut : Part → List Entry → Bool
@@ -73,15 +75,15 @@ row i = 30 * i + 80
 -- the heads of the columns, in this height: the name of the PROC that a process runs, and its number, or what else it is
 abbrev pub heads : List (List ℕ) → (y k : ℕ) → List End → List Element
 heads names y k [] = []
-heads names y k (x ∷ xs) = label Plain (column k) y 24 (name_in names x) (end_words (name_in names x) x) ∷ heads names y (k + 1) xs
+heads names y k (x ∷ xs) = label Plain (column k) y 24 (end_name names x) (end_words (end_name names x) x) ∷ heads names y (k + 1) xs
 
 abbrev pub lifelines : (bottom k : ℕ) → List End → List Element
 lifelines bottom k [] = []
 lifelines bottom k (x ∷ xs) = path (down (column k) bottom) (codes "silver") ∷ lifelines bottom (k + 1) xs
 
 -- halfway between two columns, and the room of what stands there
-abbrev pub between : ℕ → ℕ → ℕ
-between j k = 90 * (j + k) + 90
+abbrev pub halfway : ℕ → ℕ → ℕ
+halfway j k = 90 * (j + k) + 90
 
 abbrev pub room_between : ℕ → ℕ → ℕ
 room_between j k = 24 * (max j k - min j k)
@@ -89,10 +91,10 @@ room_between j k = 24 * (max j k - min j k)
 -- an arrow from the sender's column to the receiver's, under the channel's name and the message
 abbrev pub arrow_from : (j k i : ℕ) → Entry → List Element
 arrow_from j k i e =
-    path (along (column j) (column k) (row i)) (codes "black") ∷ label Plain (between j k) (30 * i + 74) (room_between j k) (arrow_words e) [] ∷ []
+    path (along (column j) (column k) (row i)) (codes "black") ∷ label Plain (halfway j k) (30 * i + 74) (room_between j k) (arrow_words e) [] ∷ []
 
 abbrev pub arrow : List End → ℕ → Entry → List Element
-arrow columns i e = arrow_from (place_of e.sender columns) (place_of e.receiver columns) i e
+arrow columns i e = arrow_from (column_of e.sender columns) (column_of e.receiver columns) i e
 
 -- each communication in a row of its own
 abbrev pub arrows : List End → ℕ → List Entry → List Element
@@ -103,9 +105,9 @@ arrows columns i (e ∷ es) = arrow columns i e ++ arrows columns (i + 1) es
 abbrev pub foot_at : (x bottom : ℕ) → List ℕ → List Element
 foot_at x bottom words = path (stub x bottom) (codes "red") ∷ label Red x (bottom + 28) 24 words [] ∷ []
 
-abbrev pub feet : List End → (bottom : ℕ) → List Standing → List Element
-feet columns bottom [] = []
-feet columns bottom (s ∷ ss) = foot_at (column (place_of (OfProcess s.process) columns)) bottom s.words ++ feet columns bottom ss
+abbrev pub drawn_feet : List End → (bottom : ℕ) → List Footing → List Element
+drawn_feet columns bottom [] = []
+drawn_feet columns bottom (s ∷ ss) = foot_at (column (column_of (OfProcess s.process) columns)) bottom s.words ++ drawn_feet columns bottom ss
 
 -- the heads again, under a long chart
 abbrev pub heads_again : List (List ℕ) → (bottom count : ℕ) → List End → List Element
@@ -141,28 +143,36 @@ note_ending bottom ending = text_at Note 10 (bottom + 68) [] (ending_text ending
 -- ---- the whole
 
 -- a white ground
-unfoldable pub opening : (width height : ℕ) → List ℕ
-opening width height =
+unfoldable pub svg_opening : (width height : ℕ) → List ℕ
+svg_opening width height =
     codes "<svg xmlns=\"http://www.w3.org/2000/svg\"" ++ attribute_text (attribute (codes "width") (decimal width)) ++ attribute_text (attribute (codes "height") (decimal height))
     ++ codes " font-family=\"sans-serif\" font-size=\"12\" text-anchor=\"middle\">\n<rect width=\"100%\" height=\"100%\" fill=\"white\"></rect>\n"
 
 -- over the foot
 abbrev pub above : List (List ℕ) → List End → List Entry → (before : ℕ) → Bool → List ℕ
 above names columns es before high =
-    opening (180 * max 1 (length columns)) (row (length es) + 120) ++ elements_text (heads names 20 0 columns) ++ elements_text (lifelines (row (length es)) 0 columns)
+    svg_opening (180 * max 1 (length columns)) (row (length es) + 120) ++ elements_text (heads names 20 0 columns) ++ elements_text (lifelines (row (length es)) 0 columns)
     ++ elements_text (note_before before high) ++ elements_text (arrows columns 0 es)
 
-abbrev pub foot : List (List ℕ) → List End → (count after : ℕ) → Bool → List Standing → (circle : List ℕ) → Ending → List ℕ
+abbrev pub foot : List (List ℕ) → List End → (count after : ℕ) → Bool → List Footing → (circle : List ℕ) → Ending → List ℕ
 foot names columns count after high ss circle ending =
-    elements_text (feet columns (row count) ss) ++ elements_text (heads_again names (row count) count columns) ++ elements_text (note_ending (row count) ending ∷ [])
+    elements_text (drawn_feet columns (row count) ss) ++ elements_text (heads_again names (row count) count columns) ++ elements_text (note_ending (row count) ending ∷ [])
     ++ elements_text (note_after (row count) after high) ++ elements_text (note_circle (row count) (length columns) circle) ++ codes "</svg>\n"
 
 -- Of all communications of a run that part which is asked for, with a column for each that sends or receives one of them or stands at
 -- the foot, and each of them once, in order.
-pub record IsChart (es : List Entry) (part : Part) (ending : Ending) (names : List (List ℕ)) (ss : List Standing) (circle : List ℕ) (bytes : List ℕ) : Type 0 where
+pub record IsChart (es : List Entry) (part : Part) (ending : Ending) (names : List (List ℕ)) (ss : List Footing) (circle : List ℕ) (bytes : List ℕ) : Type 0 where
   pub columns : List End
   pub are : AreColumns (shown_of part es) ss columns
   pub is :
       bytes
       ≡ above names columns (shown_of part es) (before_of part es) (is_cut part es)
       ++ foot names columns (length (shown_of part es)) (after_of part es) (is_cut part es) ss circle ending
+
+-- the head of one column
+abbrev pub head_of_end : {A : Type 0} → List (Vec ℕ A) → (x y : ℕ) → End → Element
+head_of_end names x y end = label Plain x y 24 (end_name (texts_of names) (end)) (end_words (end_name (texts_of names) (end)) (end))
+
+-- a chart of what code has
+abbrev pub IsChartOf : {A : Type 0} → List Channel → List Communication → Part → Ending → List (Vec ℕ A) → List Footing → List ℕ → Vec ℕ A → Type 0
+IsChartOf cs trace part ending names ss circle bytes = IsChart (entries_in cs trace) part ending (texts_of names) ss circle bytes.items

@@ -1,6 +1,6 @@
 -- The words of a chart.
 -- Manual: nothing; this is (own).
-use Rattle.std.specs.Prelude.{Bool, List, None, Option, Some, [], codes, if◌then◌else◌, int_le, length, nat_abs, pos, slice_get, ℕ, ℤ, ◌&&◌, ◌++◌, ◌∷◌}
+use Rattle.std.specs.Prelude.{Bool, List, None, Option, Some, [], codes, if◌then◌else◌, int_le, length, nat_abs, pos, slice_get, ℕ, ℤ, ◌&&◌, ◌++◌, ◌∷◌, Vec, map}
 use Rattle.std.specs.Fmt.{decimal, signed_decimal}
 use Rattle.occ_term.specs.declared.primitive.Primitive.TheVariants.{Bool as Boolean, Byte, Int}
 use Rattle.occ_term.specs.declared.message.Part.{Part}
@@ -12,7 +12,9 @@ use Rattle.occ_machine.specs.declared.task.Wait.{Wait}
 use Rattle.occ_machine.specs.declared.task.Wait.TheVariants.{Ready, Took, Offers, Awaits, Chooses, Joins, Halted, Done, Faulted}
 use Rattle.occ_term.specs.declared.ending.Ending.TheVariants.{Fault}
 use Rattle.occ_term.specs.Endings.{ending_text}
-use Rattle.occ_shown.specs.Answers.{array_text, end_text, value_text}
+use Rattle.occ_shown.specs.Answers.{array_text, end_text, name_or_none, value_text, names_of}
+use Rattle.occ_term.specs.declared.names.Channel.{Channel}
+use Rattle.occ_term.specs.declared.message.Message.{Message}
 
 -- ---- messages: as in a line of the trace, but for single bytes
 
@@ -20,11 +22,11 @@ abbrev pub is_printed : ℤ → Bool
 is_printed v = int_le (pos 32) v && int_le v (pos 126)
 
 -- the character behind the number, where it is printed ASCII
-abbrev pub byte_text : ℤ → List ℕ
-byte_text v = signed_decimal v ++ (if is_printed v then 32 ∷ 39 ∷ nat_abs v ∷ 39 ∷ [] else [])
+abbrev pub byte_shown : ℤ → List ℕ
+byte_shown v = signed_decimal v ++ (if is_printed v then 32 ∷ 39 ∷ nat_abs v ∷ 39 ∷ [] else [])
 
 abbrev pub item_text : Part → List ℕ
-item_text (One Byte v) = byte_text v
+item_text (One Byte v) = byte_shown v
 item_text (One Boolean v) = value_text Boolean v
 item_text (One Int v) = value_text Int v
 item_text (Many type vs) = array_text type vs
@@ -48,15 +50,11 @@ arrow_words e = e.name ++ 32 ∷ message_text e.tag e.message.items
 -- ---- heads
 
 -- the name that a process has
-abbrev pub name_or_none : Option (List ℕ) → List ℕ
-name_or_none None = []
-name_or_none (Some name) = name
-
-abbrev pub name_in : List (List ℕ) → End → List ℕ
-name_in names (OfProcess n) = name_or_none (slice_get names n)
-name_in names Keyboard = []
-name_in names Screen = []
-name_in names Error = []
+abbrev pub end_name : List (List ℕ) → End → List ℕ
+end_name names (OfProcess n) = name_or_none (slice_get names n)
+end_name names Keyboard = []
+end_name names Screen = []
+end_name names Error = []
 
 -- what stands behind a name
 abbrev pub end_words : List ℕ → End → List ℕ
@@ -76,3 +74,18 @@ foot_words names (Joins ns) = None
 foot_words names Halted = Some (codes "halted")
 foot_words names Done = None
 foot_words names (Faulted e) = Some (ending_text (Fault e))
+
+-- ---- of what code has
+
+abbrev pub texts_of : {A : Type 0} → List (Vec ℕ A) → List (List ℕ)
+texts_of vs = map (λ v. v.items) vs
+
+-- a message on a channel, by the declared names
+abbrev pub message_on : List Channel → ℕ → Message → List ℕ
+message_on cs c m = message_text (tag_shown (names_of cs) c m.tag) m.items
+
+abbrev pub offer_words : List Channel → ℕ → Message → List ℕ
+offer_words cs c m = (names_of cs).channel_name c ++ codes " ! " ++ message_text (tag_shown (names_of cs) c m.tag) m.items ++ codes " waits"
+
+abbrev pub await_words : List Channel → ℕ → List ℕ
+await_words cs c = (names_of cs).channel_name c ++ codes " ? waits"

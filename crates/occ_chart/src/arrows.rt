@@ -3,7 +3,7 @@ ghost use Rattle.std.specs.Prelude.{◌≡◌, ◌++◌, ◌≤◌, ◌^◌, IfO
 ghost use Rattle.occ_chart.specs.Charts.{arrow, arrow_from, arrows, room_between, row};
 ghost use Rattle.occ_chart.specs.Labels.{arrow_words};
 ghost use Rattle.occ_chart.specs.Shapes.{along, leftward, rightward};
-ghost use Rattle.occ_chart.specs.Xml.{elements_text};
+ghost use Rattle.occ_chart.specs.Xml.{AddsElements};
 
 use crate::columns::place_of;
 use crate::heads::column;
@@ -90,7 +90,7 @@ fn write_arrow_from(
     requires from { from ≤ 2 ^ 40 }
     requires to { to ≤ 2 ^ 40 }
     requires near { number ≤ 2 ^ 40 }
-    ensures { OnOk result (out.new.items ≡ out.old.items ++ elements_text (arrow_from from to number shown.now)) }
+    ensures { OnOk result (AddsElements out.old out.new (arrow_from from to number shown.now)) }
 {
     let course = along(alloc, column(from), column(to), row(number))?;
     write_path(out, course.as_bytes(), b"black")?;
@@ -120,7 +120,8 @@ fn write_arrow(
 ) -> Result<(), AllocError>
     requires few { length columns.now ≤ 2 ^ 40 }
     requires near { number ≤ 2 ^ 40 }
-    ensures { OnOk result (out.new.items ≡ out.old.items ++ elements_text (arrow columns.now number shown.now)) }
+    ensures { OnOk result
+        (AddsElements out.old out.new (arrow (columns.now) number shown.now)) }
 {
     let from = place_of(columns, shown.sender());
     let to = place_of(columns, shown.receiver());
@@ -136,7 +137,8 @@ pub(crate) fn write_arrows(
 ) -> Result<(), AllocError>
     requires few { length columns.now ≤ 2 ^ 40 }
     requires near { length shown.now ≤ 2 ^ 40 }
-    ensures { OnOk result (out.new.items ≡ out.old.items ++ elements_text (arrows columns.now 0 shown.now)) }
+    ensures { OnOk result
+        (AddsElements out.old out.new (arrows (columns.now) 0 shown.now)) }
 {
     let mut number = 0;
     let mut rest = shown;

@@ -1,8 +1,8 @@
 //! The sequence chart of a run, in SVG.
-ghost use Rattle.std.specs.Prelude.{◌≡◌, ◌++◌, ◌≤◌, ◌^◌, IfOk, OnOk, length, map};
-ghost use Rattle.occ_chart.specs.Charts.{IsChart, above, foot, opening};
-ghost use Rattle.occ_shown.specs.Answers.{names_of};
-ghost use Rattle.occ_term.specs.Runs.{entries};
+ghost use Rattle.std.specs.Prelude.{◌≡◌, ◌≤◌, ◌^◌, IfOk, OnOk, length};
+ghost use Rattle.occ_chart.specs.Charts.{IsChartOf, above, foot, svg_opening};
+ghost use Rattle.occ_shown.specs.Answers.{AddsText, HasBytes};
+ghost use Rattle.occ_chart.specs.Labels.{texts_of};
 
 use crate::arrows::{row, write_arrows};
 use crate::columns::columns;
@@ -18,14 +18,14 @@ use occ_term::{Channel, End, Ending};
 use std::alloc::{AllocError, Global};
 
 /// The opening tag, and the ground.
-#[tactic(auto, unfolding(crate::specs::Charts::opening))]
+#[tactic(auto, unfolding(crate::specs::Charts::svg_opening))]
 fn write_opening(
     alloc: Global,
     out: &mut Vec<u8>,
     width: u64,
     height: u64,
 ) -> Result<(), AllocError>
-    ensures { OnOk result (out.new.items ≡ out.old.items ++ opening width height) }
+    ensures { OnOk result (AddsText out.old out.new (svg_opening width height)) }
 {
     out.extend_from_slice(b"<svg xmlns=\"http://www.w3.org/2000/svg\"")?;
     write_number(alloc, out, b"width", width)?;
@@ -47,7 +47,8 @@ fn above(
 ) -> Result<Vec<u8>, AllocError>
     requires few { length columns.now ≤ 2 ^ 40 }
     requires near { length shown.now ≤ 990 }
-    ensures { IfOk result (λ out. out.items ≡ above (map (λ v. v.items) names.now) columns.now shown.now before is_cut) }
+    ensures { IfOk result
+        (HasBytes (above (texts_of names.now) (columns.now) shown.now before is_cut)) }
 {
     let bottom = row(shown.len());
     let width = 180 * columns.len().max(1) as u64;
@@ -79,7 +80,8 @@ pub fn chart(
     stubs: &[Stub],
     circle: &[u32],
 ) -> Result<Vec<u8>, AllocError>
-    ensures { IfOk result (λ bytes. IsChart (entries (names_of channels.now) 1 trace.now) part ending (map (λ v. v.items) names.now) stubs.now circle.now bytes.items) }
+    ensures { IfOk result
+        (IsChartOf channels.now trace.now part ending names.now stubs.now circle.now) }
 {
     let all = trace.len();
     let list = shown_of(alloc, trace, channels, part)?;
@@ -125,7 +127,9 @@ fn write_below(
 ) -> Result<(), AllocError>
     requires few { length columns.now ≤ 2 ^ 40 }
     requires near { count ≤ 990 }
-    ensures { OnOk result (out.new.items ≡ out.old.items ++ foot (map (λ v. v.items) names.now) columns.now count after is_cut stubs.now circle.now ending) }
+    ensures { OnOk result (AddsText out.old out.new
+        (foot (texts_of names.now) (columns.now) count after is_cut stubs.now circle.now
+        ending)) }
 {
     let bottom = row(count);
     write_feet(alloc, out, columns, bottom, stubs)?;

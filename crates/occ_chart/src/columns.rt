@@ -1,6 +1,6 @@
 //! Who takes part in a chart.
 ghost use Rattle.std.specs.Prelude.{◌≡◌, ◌≤◌, ◌<◌, ◌^◌, IfOk, OnOk, length};
-ghost use Rattle.occ_chart.specs.Columns.{AreColumns, group, is_before, is_end, number, place_for, place_of, stands_at, with_end, with_ends, with_standing};
+ghost use Rattle.occ_chart.specs.Columns.{AreColumns, group, is_before, is_end, number, place_for, column_of, is_column, AddsEnd, AddsEnds, AddsFootings, StayFew};
 
 use crate::stub::Stub;
 use occ_board::Shown;
@@ -12,7 +12,7 @@ const MOST_COLUMNS: usize = 1 << 40;
 
 /// First the keyboard, then the processes, then the screen, then the error channel.
 fn group(end: End) -> u32
-    ensures { result ≡ group end }
+    ensures { result ≡ group (end) }
 {
     match end {
         End::Keyboard => 0,
@@ -24,7 +24,7 @@ fn group(end: End) -> u32
 
 /// The number of a process.
 fn number(end: End) -> u32
-    ensures { result ≡ number end }
+    ensures { result ≡ number (end) }
 {
     match end {
         End::Process(number) => number,
@@ -35,20 +35,20 @@ fn number(end: End) -> u32
 }
 
 fn is_end(one: End, other: End) -> bool
-    ensures { result ≡ is_end one other }
+    ensures { result ≡ is_end (one) (other) }
 {
     group(one) == group(other) && number(one) == number(other)
 }
 
 fn is_before(one: End, other: End) -> bool
-    ensures { result ≡ is_before one other }
+    ensures { result ≡ is_before (one) (other) }
 {
     group(one) < group(other) || (group(one) == group(other) && number(one) < number(other))
 }
 
 /// The column of an end; their number where it has none.
 pub(crate) fn place_of(columns: &[End], end: End) -> usize
-    ensures place { result ≡ place_of end columns.now }
+    ensures place { result ≡ column_of (end) (columns.now) }
     ensures within { result ≤ length columns.now }
 {
     for i in 0..columns.len() {
@@ -61,7 +61,7 @@ pub(crate) fn place_of(columns: &[End], end: End) -> usize
 
 /// Before how many an end does not stand.
 fn place_for(columns: &[End], end: End) -> usize
-    ensures place { result ≡ place_for end columns.now }
+    ensures place { result ≡ place_for (end) (columns.now) }
     ensures within { result ≤ length columns.now }
 {
     for i in 0..columns.len() {
@@ -74,7 +74,7 @@ fn place_for(columns: &[End], end: End) -> usize
 
 /// Whether an end stands at this place.
 fn is_at(columns: &[End], place: usize, end: End) -> bool
-    ensures { result ≡ stands_at end columns.now place }
+    ensures { result ≡ is_column (end) (columns.now) place }
 {
     match columns.get(place) {
         Some(found) => is_end(*found, end),
@@ -84,8 +84,8 @@ fn is_at(columns: &[End], place: usize, end: End) -> bool
 
 /// Adds an end that was not among them, in its place.
 fn add(columns: &mut Vec<End>, end: End) -> Result<(), AllocError>
-    ensures added { OnOk result (columns.new.items ≡ with_end end columns.old.items) }
-    ensures few { length columns.old.items ≤ 2 ^ 40 → OnOk result (length columns.new.items ≤ 2 ^ 40) }
+    ensures added { OnOk result (AddsEnd columns.old columns.new (end)) }
+    ensures few { StayFew result columns.old columns.new }
 {
     let place = place_for(columns.as_slice(), end);
     if is_at(columns.as_slice(), place, end) {
@@ -100,8 +100,8 @@ fn add(columns: &mut Vec<End>, end: End) -> Result<(), AllocError>
 
 /// Adds those that send or receive.
 fn add_ends(columns: &mut Vec<End>, shown: &[Shown]) -> Result<(), AllocError>
-    ensures added { OnOk result (columns.new.items ≡ with_ends columns.old.items shown.now) }
-    ensures few { length columns.old.items ≤ 2 ^ 40 → OnOk result (length columns.new.items ≤ 2 ^ 40) }
+    ensures added { OnOk result (AddsEnds columns.old columns.new shown.now) }
+    ensures few { StayFew result columns.old columns.new }
 {
     let mut rest = shown;
     while let Some((first, others)) = rest.split_first() {
@@ -114,8 +114,8 @@ fn add_ends(columns: &mut Vec<End>, shown: &[Shown]) -> Result<(), AllocError>
 
 /// Adds those that stand at the foot.
 fn add_stubs(columns: &mut Vec<End>, stubs: &[Stub]) -> Result<(), AllocError>
-    ensures added { OnOk result (columns.new.items ≡ with_standing columns.old.items stubs.now) }
-    ensures few { length columns.old.items ≤ 2 ^ 40 → OnOk result (length columns.new.items ≤ 2 ^ 40) }
+    ensures added { OnOk result (AddsFootings columns.old columns.new stubs.now) }
+    ensures few { StayFew result columns.old columns.new }
 {
     let mut rest = stubs;
     while let Some((first, others)) = rest.split_first() {
@@ -131,7 +131,8 @@ pub(crate) fn columns(
     shown: &[Shown],
     stubs: &[Stub],
 ) -> Result<Vec<End>, AllocError>
-    ensures are { IfOk result (λ columns. AreColumns shown.now stubs.now columns.items) }
+    ensures are { IfOk result
+        (λ columns. AreColumns shown.now stubs.now (columns.items)) }
     ensures few { IfOk result (λ columns. length columns.items ≤ 2 ^ 40) }
 {
     let mut columns = Vec::new(alloc);

@@ -1,13 +1,11 @@
 //! Who stands at the foot of its column.
-ghost use Rattle.std.specs.Prelude.{◌≡◌, ◌++◌, ◌≤◌, ◌^◌, IfOk, OnOk, codes, length};
-ghost use Rattle.std.specs.Option.{option_map};
-ghost use Rattle.occ_chart.specs.Charts.{feet, foot_at};
-ghost use Rattle.occ_chart.specs.Labels.{foot_words, message_text};
+ghost use Rattle.std.specs.Prelude.{◌≡◌, ◌++◌, ◌≤◌, ◌^◌, IfOk, OnOk, length};
+ghost use Rattle.occ_chart.specs.Charts.{drawn_feet, foot_at};
+ghost use Rattle.occ_chart.specs.Labels.{foot_words, await_words, offer_words};
 ghost use Rattle.occ_chart.specs.Shapes.{stub};
-ghost use Rattle.occ_chart.specs.Xml.{elements_text};
+ghost use Rattle.occ_chart.specs.Xml.{AddsElements};
 ghost use Rattle.occ_term.specs.Endings.{ending_text};
-ghost use Rattle.occ_shown.specs.Answers.{names_of};
-ghost use Rattle.occ_term.specs.Runs.{tag_shown};
+ghost use Rattle.occ_shown.specs.Answers.{names_of, HasWords};
 
 use crate::columns::place_of;
 use crate::heads::column;
@@ -26,7 +24,7 @@ fn offer_words(
     chan: u32,
     message: &Message,
 ) -> Result<Option<Vec<u8>>, AllocError>
-    ensures { IfOk result (λ found. option_map (λ v. v.items) found ≡ Some ((names_of channels.now).channel_name chan ++ codes " ! " ++ message_text (tag_shown (names_of channels.now) chan message.now.tag) message.now.items ++ codes " waits")) }
+    ensures { IfOk result (HasWords (Some (offer_words channels.now chan message.now))) }
 {
     let mut words = Vec::new(alloc);
     write_name(alloc, &mut words, channels, chan)?;
@@ -41,7 +39,7 @@ fn await_words(
     channels: &[Channel],
     chan: u32,
 ) -> Result<Option<Vec<u8>>, AllocError>
-    ensures { IfOk result (λ found. option_map (λ v. v.items) found ≡ Some ((names_of channels.now).channel_name chan ++ codes " ? waits")) }
+    ensures { IfOk result (HasWords (Some (await_words channels.now chan))) }
 {
     let mut words = Vec::new(alloc);
     write_name(alloc, &mut words, channels, chan)?;
@@ -50,7 +48,7 @@ fn await_words(
 }
 
 fn fault_words(alloc: Global, fault: Fault) -> Result<Option<Vec<u8>>, AllocError>
-    ensures { IfOk result (λ found. option_map (λ v. v.items) found ≡ Some (ending_text (Ending.Fault fault))) }
+    ensures { IfOk result (HasWords (Some (ending_text (Ending.Fault fault)))) }
 {
     let ending = Ending::Fault(fault);
     let text = format!(in alloc; "{ending}")?;
@@ -59,7 +57,7 @@ fn fault_words(alloc: Global, fault: Fault) -> Result<Option<Vec<u8>>, AllocErro
 
 /// These words.
 fn words_of(alloc: Global, words: &[u8]) -> Result<Option<Vec<u8>>, AllocError>
-    ensures { IfOk result (λ found. option_map (λ v. v.items) found ≡ Some words.now) }
+    ensures { IfOk result (HasWords (Some words.now)) }
 {
     Ok(Some(Vec::from_slice(alloc, words)?))
 }
@@ -74,7 +72,7 @@ pub fn foot_of(
     wait: &Wait,
     channels: &[Channel],
 ) -> Result<Option<Vec<u8>>, AllocError>
-    ensures { IfOk result (λ found. option_map (λ v. v.items) found ≡ foot_words (names_of channels.now) wait.now) }
+    ensures { IfOk result (HasWords (foot_words (names_of channels.now) wait.now)) }
 {
     match wait {
         Wait::Offers { chan, message } => offer_words(alloc, channels, *chan, message),
@@ -106,7 +104,7 @@ fn write_foot(
     words: &[u8],
 ) -> Result<(), AllocError>
     requires { bottom ≤ 2 ^ 40 }
-    ensures { OnOk result (out.new.items ≡ out.old.items ++ elements_text (foot_at x bottom words.now)) }
+    ensures { OnOk result (AddsElements out.old out.new (foot_at x bottom words.now)) }
 {
     let course = stub(alloc, x, bottom)?;
     write_path(out, course.as_bytes(), b"red")?;
@@ -123,7 +121,8 @@ pub(crate) fn write_feet(
 ) -> Result<(), AllocError>
     requires few { length columns.now ≤ 2 ^ 40 }
     requires bottom { bottom ≤ 2 ^ 40 }
-    ensures { OnOk result (out.new.items ≡ out.old.items ++ elements_text (feet columns.now bottom stubs.now)) }
+    ensures { OnOk result
+        (AddsElements out.old out.new (drawn_feet (columns.now) bottom stubs.now)) }
 {
     let mut rest = stubs;
     while let Some((first, others)) = rest.split_first() {

@@ -1,11 +1,11 @@
 //! The heads of columns, and the lines down from them.
-ghost use Rattle.std.specs.Prelude.{◌≡◌, ◌++◌, ◌≤◌, ◌^◌, IfOk, OnOk, codes, length, map};
-ghost use Rattle.occ_chart.specs.Charts.{column, heads, heads_again, lifelines};
-ghost use Rattle.occ_chart.specs.Labels.{end_words, name_in};
-ghost use Rattle.occ_chart.specs.Shapes.{down, label, path};
-ghost use Rattle.occ_chart.specs.Xml.{element_text, elements_text};
+ghost use Rattle.std.specs.Prelude.{◌≡◌, ◌≤◌, ◌^◌, IfOk, OnOk, codes, length};
+ghost use Rattle.occ_chart.specs.Charts.{column, heads, heads_again, lifelines, head_of_end};
+ghost use Rattle.occ_chart.specs.Labels.{end_words, end_name, texts_of};
+ghost use Rattle.occ_chart.specs.Shapes.{down, path};
+ghost use Rattle.occ_chart.specs.Xml.{AddsElement, AddsElements};
 ghost use Rattle.occ_chart.specs.declared.xml.Style.TheVariants.{Plain};
-ghost use Rattle.occ_shown.specs.Answers.{end_text};
+ghost use Rattle.occ_shown.specs.Answers.{end_text, AddsText};
 
 use crate::labels::write_label;
 use crate::xml::{Style, write_path};
@@ -26,7 +26,7 @@ pub(crate) fn column(place: usize) -> u64
 ///
 /// A refused growth.
 pub fn write_end(alloc: Global, out: &mut Vec<u8>, end: End) -> Result<(), AllocError>
-    ensures { OnOk result (out.new.items ≡ out.old.items ++ end_text end) }
+    ensures { OnOk result (AddsText out.old out.new (end_text (end))) }
 {
     match end {
         End::Process(number) => {
@@ -41,7 +41,7 @@ pub fn write_end(alloc: Global, out: &mut Vec<u8>, end: End) -> Result<(), Alloc
 
 /// What stands behind the name of an end.
 fn end_words(alloc: Global, name: &[u8], end: End) -> Result<Vec<u8>, AllocError>
-    ensures { IfOk result (λ words. words.items ≡ end_words name.now end) }
+    ensures { IfOk result (λ words. words.items ≡ end_words name.now (end)) }
 {
     let mut words = Vec::new(alloc);
     if !name.is_empty() {
@@ -53,7 +53,7 @@ fn end_words(alloc: Global, name: &[u8], end: End) -> Result<Vec<u8>, AllocError
 
 /// The name that an end has.
 fn name_of(names: &[Vec<u8>], end: End) -> &[u8]
-    ensures { result.now ≡ name_in (map (λ v. v.items) names.now) end }
+    ensures { result.now ≡ end_name (texts_of names.now) (end) }
 {
     match end {
         End::Process(number) => match names.get(number as usize) {
@@ -74,7 +74,7 @@ fn write_head(
     y: u64,
     end: End,
 ) -> Result<(), AllocError>
-    ensures { OnOk result (out.new.items ≡ out.old.items ++ element_text (label Plain x y 24 (name_in (map (λ v. v.items) names.now) end) (end_words (name_in (map (λ v. v.items) names.now) end) end))) }
+    ensures { OnOk result (AddsElement out.old out.new (head_of_end names.now x y end)) }
 {
     let name = name_of(names, end);
     let words = end_words(alloc, name, end)?;
@@ -90,7 +90,8 @@ pub(crate) fn write_heads(
     columns: &[End],
 ) -> Result<(), AllocError>
     requires { length columns.now ≤ 2 ^ 40 }
-    ensures { OnOk result (out.new.items ≡ out.old.items ++ elements_text (heads (map (λ v. v.items) names.now) y 0 columns.now)) }
+    ensures { OnOk result
+        (AddsElements out.old out.new (heads (texts_of names.now) y 0 (columns.now))) }
 {
     for i in 0..columns.len() {
         write_head(alloc, out, names, column(i), y, columns[i])?;
@@ -109,7 +110,8 @@ pub(crate) fn write_heads_again(
 ) -> Result<(), AllocError>
     requires columns { length columns.now ≤ 2 ^ 40 }
     requires bottom { bottom ≤ 2 ^ 40 }
-    ensures { OnOk result (out.new.items ≡ out.old.items ++ elements_text (heads_again (map (λ v. v.items) names.now) bottom count columns.now)) }
+    ensures { OnOk result (AddsElements out.old out.new
+        (heads_again (texts_of names.now) bottom count (columns.now))) }
 {
     if count > 40 {
         return write_heads(alloc, out, names, bottom + 46, columns);
@@ -127,7 +129,7 @@ fn down(alloc: Global, x: u64, bottom: u64) -> Result<String, AllocError>
 }
 
 fn write_lifeline(alloc: Global, out: &mut Vec<u8>, x: u64, bottom: u64) -> Result<(), AllocError>
-    ensures { OnOk result (out.new.items ≡ out.old.items ++ element_text (path (down x bottom) (codes "silver"))) }
+    ensures { OnOk result (AddsElement out.old out.new (path (down x bottom) (codes "silver"))) }
 {
     let course = down(alloc, x, bottom)?;
     write_path(out, course.as_bytes(), b"silver")
@@ -141,7 +143,8 @@ pub(crate) fn write_lifelines(
     columns: &[End],
 ) -> Result<(), AllocError>
     requires { length columns.now ≤ 2 ^ 40 }
-    ensures { OnOk result (out.new.items ≡ out.old.items ++ elements_text (lifelines bottom 0 columns.now)) }
+    ensures { OnOk result
+        (AddsElements out.old out.new (lifelines bottom 0 (columns.now))) }
 {
     let mut place = 0;
     let mut rest = columns;

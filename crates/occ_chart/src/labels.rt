@@ -1,7 +1,7 @@
 //! Writes words into the room that they have.
 ghost use Rattle.std.specs.Prelude.{◌≡◌, ◌++◌, ◌+◌, ◌<◌, ◌≤◌, IfOk, OnOk, length};
 ghost use Rattle.occ_chart.specs.Shapes.{cut, label};
-ghost use Rattle.occ_chart.specs.Xml.{element_text};
+ghost use Rattle.occ_chart.specs.Xml.{AddsElement};
 
 use crate::xml::{Style, write_text};
 use std::alloc::{AllocError, Global};
@@ -38,7 +38,7 @@ pub(crate) fn write_label(
     words: &[u8],
     tail: &[u8],
 ) -> Result<(), AllocError>
-    ensures { OnOk result (out.new.items ≡ out.old.items ++ element_text (label style x y room words.now tail.now)) }
+    ensures { OnOk result (AddsElement out.old out.new (label style x y room words.now tail.now)) }
 {
     let all = whole(alloc, words, tail)?;
     if room < all.len() {

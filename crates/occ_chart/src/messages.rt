@@ -1,9 +1,8 @@
 //! Messages in bytes, as a chart has them.
-ghost use Rattle.std.specs.Prelude.{◌≡◌, ◌++◌, OnOk};
+ghost use Rattle.std.specs.Prelude.{◌≡◌, OnOk};
 ghost use Rattle.std.specs.Option.{option_copied};
-ghost use Rattle.occ_term.specs.Runs.{tag_shown};
-ghost use Rattle.occ_shown.specs.Answers.{names_of};
-ghost use Rattle.occ_chart.specs.Labels.{byte_text, item_text, message_text, others_text};
+ghost use Rattle.occ_shown.specs.Answers.{AddsText};
+ghost use Rattle.occ_chart.specs.Labels.{byte_shown, item_text, message_text, others_text, message_on};
 
 use occ_shown::{tag_name, write_array, write_value};
 use occ_term::{Channel, Message, Part, Primitive};
@@ -11,7 +10,7 @@ use std::alloc::{AllocError, Global};
 
 /// A byte's number, and its character where it is printed ASCII.
 fn write_byte(alloc: Global, out: &mut Vec<u8>, value: i64) -> Result<(), AllocError>
-    ensures { OnOk result (out.new.items ≡ out.old.items ++ byte_text value) }
+    ensures { OnOk result (AddsText out.old out.new (byte_shown value)) }
 {
     let text = format!(in alloc; "{value}")?;
     out.extend_from_slice(text.as_bytes())?;
@@ -29,7 +28,7 @@ fn write_one(
     primitive: Primitive,
     value: i64,
 ) -> Result<(), AllocError>
-    ensures { OnOk result (out.new.items ≡ out.old.items ++ item_text (Part.One primitive value)) }
+    ensures { OnOk result (AddsText out.old out.new (item_text (Part.One primitive value))) }
 {
     match primitive {
         Primitive::Byte => write_byte(alloc, out, value),
@@ -39,7 +38,7 @@ fn write_one(
 }
 
 fn write_item(alloc: Global, out: &mut Vec<u8>, part: &Part) -> Result<(), AllocError>
-    ensures { OnOk result (out.new.items ≡ out.old.items ++ item_text part.now) }
+    ensures { OnOk result (AddsText out.old out.new (item_text part.now)) }
 {
     match part {
         Part::One(primitive, value) => write_one(alloc, out, *primitive, *value),
@@ -55,7 +54,7 @@ fn write_item(alloc: Global, out: &mut Vec<u8>, part: &Part) -> Result<(), Alloc
 
 /// Items, each after a semicolon and a space.
 fn write_others(alloc: Global, out: &mut Vec<u8>, parts: &[Part]) -> Result<(), AllocError>
-    ensures { OnOk result (out.new.items ≡ out.old.items ++ others_text parts.now) }
+    ensures { OnOk result (AddsText out.old out.new (others_text parts.now)) }
 {
     let mut rest = parts;
     while let Some((part, others)) = rest.split_first() {
@@ -73,7 +72,8 @@ pub(crate) fn write_items(
     tag: Option<&[u8]>,
     parts: &[Part],
 ) -> Result<(), AllocError>
-    ensures { OnOk result (out.new.items ≡ out.old.items ++ message_text (option_copied tag.entry) parts.now) }
+    ensures { OnOk result
+        (AddsText out.old out.new (message_text (option_copied tag.entry) parts.now)) }
 {
     match tag {
         Some(name) => {
@@ -102,7 +102,7 @@ pub fn write_message(
     chan: u32,
     channels: &[Channel],
 ) -> Result<(), AllocError>
-    ensures { OnOk result (out.new.items ≡ out.old.items ++ message_text (tag_shown (names_of channels.now) chan message.now.tag) message.now.items) }
+    ensures { OnOk result (AddsText out.old out.new (message_on channels.now chan message.now)) }
 {
     let items = message.items.as_slice();
     match message.tag {

@@ -1,7 +1,7 @@
 //! What is noted beside the arrows of a chart.
 ghost use Rattle.std.specs.Prelude.{◌≡◌, ◌++◌, ◌+◌, ◌*◌, ◌≤◌, ◌^◌, ◌∷◌, [], IfOk, OnOk, codes, length, max};
 ghost use Rattle.occ_chart.specs.Charts.{circle_label, circle_words, cut_words, note_after, note_before, note_circle, note_ending};
-ghost use Rattle.occ_chart.specs.Xml.{element_text, elements_text};
+ghost use Rattle.occ_chart.specs.Xml.{AddsElement, AddsElements};
 ghost use Rattle.occ_term.specs.Endings.{ending_text};
 
 use crate::labels::write_label;
@@ -28,7 +28,7 @@ pub(crate) fn write_before(
     count: usize,
     is_cut: bool,
 ) -> Result<(), AllocError>
-    ensures { OnOk result (out.new.items ≡ out.old.items ++ elements_text (note_before count is_cut)) }
+    ensures { OnOk result (AddsElements out.old out.new (note_before count is_cut)) }
 {
     if count == 0 {
         return Ok(());
@@ -48,7 +48,7 @@ pub(crate) fn write_after(
     is_cut: bool,
 ) -> Result<(), AllocError>
     requires { bottom ≤ 2 ^ 40 }
-    ensures { OnOk result (out.new.items ≡ out.old.items ++ elements_text (note_after bottom count is_cut)) }
+    ensures { OnOk result (AddsElements out.old out.new (note_after bottom count is_cut)) }
 {
     if count == 0 {
         return Ok(());
@@ -93,7 +93,7 @@ fn write_circle_words(
 ) -> Result<(), AllocError>
     requires columns { columns ≤ 2 ^ 40 }
     requires bottom { bottom ≤ 2 ^ 40 }
-    ensures { OnOk result (out.new.items ≡ out.old.items ++ element_text (circle_label bottom columns circle.now)) }
+    ensures { OnOk result (AddsElement out.old out.new (circle_label bottom columns circle.now)) }
 {
     let words = circle_words(alloc, circle)?;
     let room = room_under(columns);
@@ -120,7 +120,7 @@ pub(crate) fn write_circle(
 ) -> Result<(), AllocError>
     requires columns { columns ≤ 2 ^ 40 }
     requires bottom { bottom ≤ 2 ^ 40 }
-    ensures { OnOk result (out.new.items ≡ out.old.items ++ elements_text (note_circle bottom columns circle.now)) }
+    ensures { OnOk result (AddsElements out.old out.new (note_circle bottom columns circle.now)) }
 {
     match circle.split_first() {
         Some(_) => write_circle_words(alloc, out, bottom, columns, circle),
@@ -136,7 +136,7 @@ pub(crate) fn write_ending(
     ending: Ending,
 ) -> Result<(), AllocError>
     requires { bottom ≤ 2 ^ 40 }
-    ensures { OnOk result (out.new.items ≡ out.old.items ++ elements_text (note_ending bottom ending ∷ [])) }
+    ensures { OnOk result (AddsElements out.old out.new (note_ending bottom ending ∷ [])) }
 {
     let words = format!(in alloc; "{ending}")?;
     write_text(

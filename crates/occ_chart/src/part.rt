@@ -1,7 +1,7 @@
 //! Which communications of a run are drawn.
-ghost use Rattle.std.specs.Prelude.{◌≡◌, ◌≤◌, ◌&&◌, IfOk, drop, min, nat_lt};
+ghost use Rattle.std.specs.Prelude.{◌≡◌, ◌≤◌, ◌&&◌, IfOk, drop, length, min, nat_lt};
 ghost use Rattle.occ_chart.specs.Charts.{asked, if_first, if_last, most_arrows, shown_of};
-ghost use Rattle.occ_shown.specs.Answers.{names_of};
+ghost use Rattle.occ_shown.specs.Answers.{entries_in};
 ghost use Rattle.occ_term.specs.Runs.{entries};
 
 use occ_board::Shown;
@@ -77,7 +77,8 @@ fn listed(
     skipped: usize,
     channels: &[Channel],
 ) -> Result<Vec<Shown>, AllocError>
-    ensures { IfOk result (λ list. list.items ≡ drop skipped (entries (names_of channels.now) 1 communications.now)) }
+    ensures { IfOk result
+        (λ list. list.items ≡ drop skipped (entries_in channels.now communications.now)) }
 {
     let mut list = Vec::new(alloc);
     let mut number = 0;
@@ -101,7 +102,7 @@ pub(crate) fn shown_of(
     channels: &[Channel],
     part: Part,
 ) -> Result<Vec<Shown>, AllocError>
-    ensures { IfOk result (λ list. list.items ≡ shown_of part (entries (names_of channels.now) 1 trace.now)) }
+    ensures { IfOk result (λ list. list.items ≡ shown_of part (entries_in channels.now trace.now)) }
 {
     let all = trace.len();
     let count = part.count(all);

@@ -1,6 +1,6 @@
 //! Who stands at the foot of a chart.
 ghost use Rattle.std.specs.Prelude.{◌≡◌};
-ghost use Rattle.occ_chart.specs.Columns.{standing};
+ghost use Rattle.occ_chart.specs.Columns.{footing};
 
 use std::marker::Model;
 
@@ -20,17 +20,17 @@ impl Drop for Stub {
 }
 
 impl Model for Stub {
-    ghost use Rattle.occ_chart.specs.Columns.{Standing, standing};
+    ghost use Rattle.occ_chart.specs.Columns.{Footing, footing};
 
-    ghost Value = { Standing };
+    ghost Value = { Footing };
 
-    ghost view = { λ s. standing s.process s.words.items };
+    ghost view = { λ s. footing s.process s.words.items };
 }
 
 impl Stub {
     /// The process with this number, and these words.
     pub fn new(process: u32, words: Vec<u8>) -> Stub
-        ensures { result ≡ standing process words.items }
+        ensures { result ≡ footing process words.items }
     {
         Stub { process, words }
     }

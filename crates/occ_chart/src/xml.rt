@@ -1,8 +1,9 @@
 //! Writes elements of XML.
-ghost use Rattle.std.specs.Prelude.{◌≡◌, ◌++◌, OnOk, codes};
+ghost use Rattle.std.specs.Prelude.{◌≡◌, OnOk, codes};
 ghost use Rattle.std.specs.Fmt.{decimal};
 ghost use Rattle.occ_chart.specs.Shapes.{path, style_attributes, text_at};
-ghost use Rattle.occ_chart.specs.Xml.{attribute, attribute_text, attributes_text, element_text, escaped, escaped_byte, title_text};
+ghost use Rattle.occ_chart.specs.Xml.{attribute, attribute_text, attributes_text, element_text, xml_text, xml_byte, title_text, AddsElement, AddsAttribute};
+ghost use Rattle.occ_shown.specs.Answers.{AddsText};
 
 use std::alloc::{AllocError, Global};
 
@@ -20,7 +21,7 @@ pub(crate) enum Style {
 }
 
 fn write_byte(out: &mut Vec<u8>, byte: u8) -> Result<(), AllocError>
-    ensures { OnOk result (out.new.items ≡ out.old.items ++ escaped_byte byte) }
+    ensures { OnOk result (AddsText out.old out.new (xml_byte byte)) }
 {
     match byte {
         b'"' => out.extend_from_slice(b"&quot;")?,
@@ -34,7 +35,7 @@ fn write_byte(out: &mut Vec<u8>, byte: u8) -> Result<(), AllocError>
 }
 
 fn write_escaped(out: &mut Vec<u8>, bytes: &[u8]) -> Result<(), AllocError>
-    ensures { OnOk result (out.new.items ≡ out.old.items ++ escaped bytes.now) }
+    ensures { OnOk result (AddsText out.old out.new (xml_text bytes.now)) }
 {
     let mut rest = bytes;
     while let Some((first, others)) = rest.split_first() {
@@ -47,7 +48,7 @@ fn write_escaped(out: &mut Vec<u8>, bytes: &[u8]) -> Result<(), AllocError>
 /// An attribute after a space.
 #[tactic(auto, unfolding(crate::specs::Xml::attribute_text))]
 fn write_attribute(out: &mut Vec<u8>, name: &[u8], value: &[u8]) -> Result<(), AllocError>
-    ensures { OnOk result (out.new.items ≡ out.old.items ++ attribute_text (attribute name.now value.now)) }
+    ensures { OnOk result (AddsAttribute out.old out.new name.now value.now) }
 {
     out.push(b' ')?;
     out.extend_from_slice(name)?;
@@ -64,28 +65,28 @@ pub(crate) fn write_number(
     name: &[u8],
     number: u64,
 ) -> Result<(), AllocError>
-    ensures { OnOk result (out.new.items ≡ out.old.items ++ attribute_text (attribute name.now (decimal number))) }
+    ensures { OnOk result (AddsAttribute out.old out.new name.now (decimal number)) }
 {
     let text = format!(in alloc; "{number}")?;
     write_attribute(out, name, text.as_bytes())
 }
 
 fn write_anchor(out: &mut Vec<u8>) -> Result<(), AllocError>
-    ensures { OnOk result (out.new.items ≡ out.old.items ++ attribute_text (attribute (codes "text-anchor") (codes "start"))) }
+    ensures { OnOk result (AddsAttribute out.old out.new (codes "text-anchor") (codes "start")) }
 {
     write_attribute(out, b"text-anchor", b"start")?;
     Ok(())
 }
 
 fn write_red(out: &mut Vec<u8>) -> Result<(), AllocError>
-    ensures { OnOk result (out.new.items ≡ out.old.items ++ attribute_text (attribute (codes "fill") (codes "red"))) }
+    ensures { OnOk result (AddsAttribute out.old out.new (codes "fill") (codes "red")) }
 {
     write_attribute(out, b"fill", b"red")?;
     Ok(())
 }
 
 fn write_style(out: &mut Vec<u8>, style: Style) -> Result<(), AllocError>
-    ensures { OnOk result (out.new.items ≡ out.old.items ++ attributes_text (style_attributes style)) }
+    ensures { OnOk result (AddsText out.old out.new (attributes_text (style_attributes style))) }
 {
     match style {
         Style::Plain => Ok(()),
@@ -100,7 +101,7 @@ fn write_style(out: &mut Vec<u8>, style: Style) -> Result<(), AllocError>
 
 /// A title, where there is one.
 fn write_title(out: &mut Vec<u8>, title: &[u8]) -> Result<(), AllocError>
-    ensures { OnOk result (out.new.items ≡ out.old.items ++ title_text title.now) }
+    ensures { OnOk result (AddsText out.old out.new (title_text title.now)) }
 {
     if title.is_empty() {
         return Ok(());
@@ -121,7 +122,7 @@ pub(crate) fn write_text(
     title: &[u8],
     words: &[u8],
 ) -> Result<(), AllocError>
-    ensures { OnOk result (out.new.items ≡ out.old.items ++ element_text (text_at style x y title.now words.now)) }
+    ensures { OnOk result (AddsElement out.old out.new (text_at style x y title.now words.now)) }
 {
     out.extend_from_slice(b"<text")?;
     write_number(alloc, out, b"x", x)?;
@@ -136,7 +137,7 @@ pub(crate) fn write_text(
 /// A line of this course and colour.
 #[tactic(auto, unfolding(crate::specs::Xml::element_text))]
 pub(crate) fn write_path(out: &mut Vec<u8>, course: &[u8], colour: &[u8]) -> Result<(), AllocError>
-    ensures { OnOk result (out.new.items ≡ out.old.items ++ element_text (path course.now colour.now)) }
+    ensures { OnOk result (AddsElement out.old out.new (path course.now colour.now)) }
 {
     out.extend_from_slice(b"<path")?;
     write_attribute(out, b"d", course)?;

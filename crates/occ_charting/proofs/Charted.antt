@@ -1,9 +1,9 @@
 -- The chart of a replay is that of a run.
-use Rattle.std.proofs.Common.{◌≡◌, ◌∙◌, ◌++◌, ◌+◌, ◌<◌, ◌^◌, ℕ, List, [], ◌∷◌, length, min, suc, ap, subst, sym, arith}
+use Rattle.std.proofs.Common.{◌≡◌, ◌∙◌, ◌++◌, ◌+◌, ◌<◌, ◌^◌, ℕ, List, [], ◌∷◌, length, map, min, suc, ap, subst, sym, arith}
 use Rattle.std.specs.Prelude.{get_or, slice_get}
 use Rattle.occ_chart.specs.declared.part.Part.{Part}
 use Rattle.occ_chart.specs.Charts.{IsChart}
-use Rattle.occ_chart.specs.Columns.{Standing}
+use Rattle.occ_chart.specs.Columns.{Footing}
 use Rattle.occ_charting.specs.Charting.{IsReplayChart, IsRunChart, feet, feet_of, foot_in}
 use Rattle.occ_machine.specs.Compiled.{Program}
 use Rattle.occ_net_replay.specs.declared.choice.Choice.{Choice}
@@ -27,7 +27,7 @@ are_bytes [] h = tt
 are_bytes (b ∷ bs) h = (h 0, are_bytes bs (λ k. h (suc k)))
 
 -- a loop's step: those so far, and one more process
-pub feet_step : (names : Names) (tasks : Tasks) (n : ℕ) (before after : List Standing)
+pub feet_step : (names : Names) (tasks : Tasks) (n : ℕ) (before after : List Footing)
     → before ≡ feet_of names tasks n → after ≡ before ++ foot_in names n (slice_get tasks n) → after ≡ feet_of names tasks (n + 1)
 feet_step names tasks n before after e f =
     let next : n + 1 ≡ suc n = omega arith in
@@ -36,9 +36,9 @@ feet_step names tasks n before after e f =
 -- what is drawn of the tables that a run leaves is the chart of its replay
 pub replay_chart : (p : Program) (kb : List ℕ) (list : List Choice) (part : Part) (names : List (List ℕ)) (circle : List ℕ) (r : Ran) (h : IsRan p kb list Given r) → length r.kept.items < 2 ^ 64
     → (trace : List Communication) → ((k : List ℕ) (net : Net) → Holds p k r.tables net → net.trace ≡ trace)
-    → (ss : List Standing) (count processes : ℕ) → count ≡ min processes 4294967295 → processes ≡ length p.bodies
+    → (ss : List Footing) (count processes : ℕ) → count ≡ min processes 4294967295 → processes ≡ length p.bodies
     → ((q : Program) (k : List ℕ) (net : Net) → Holds q k r.tables net → ss ≡ feet_of (names_of p.channels) net.tasks count)
-    → (bytes : List ℕ) → IsChart (entries (names_of p.channels) 1 trace) part r.ending names ss circle bytes
+    → (bytes : List ℕ) → IsChart (entries (names_of p.channels) 1 (trace)) part r.ending names ss circle bytes
     → IsReplayChart p kb list part names circle bytes
 replay_chart p kb list part names circle r h small trace shows ss count processes least all stand bytes drawn =
     let net = h.run.net in

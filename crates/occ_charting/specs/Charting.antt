@@ -1,10 +1,10 @@
 -- The chart of the run of a source.
 -- Manual: nothing; this is (own).
-use Rattle.std.specs.Prelude.{List, None, Option, Some, [], length, min, slice_get, zero, suc, ℕ, ◌++◌, ◌<◌, ◌^◌, ◌≡◌, ◌∷◌}
+use Rattle.std.specs.Prelude.{List, None, Option, Some, [], length, min, slice_get, zero, suc, ℕ, ◌++◌, ◌<◌, ◌^◌, ◌≡◌, ◌∷◌, Vec, option_map}
 use Rattle.occ_chart.specs.declared.part.Part.{Part}
 use Rattle.occ_chart.specs.Charts.{IsChart}
-use Rattle.occ_chart.specs.Columns.{Standing, standing}
-use Rattle.occ_chart.specs.Labels.{foot_words}
+use Rattle.occ_chart.specs.Columns.{Footing, footing}
+use Rattle.occ_chart.specs.Labels.{foot_words, texts_of}
 use Rattle.occ_machine.specs.Compiled.{Program}
 use Rattle.occ_machine.specs.declared.task.Task.{Task}
 use Rattle.occ_net_replay.specs.declared.choice.Choice.{Choice}
@@ -15,26 +15,29 @@ use Rattle.occ_play.specs.declared.playing.Options.{Options}
 use Rattle.occ_play.specs.Playing.{IsTextsCode}
 use Rattle.occ_shown.specs.Answers.{names_of}
 use Rattle.occ_term.specs.Runs.{Names, entries, shown}
+use Rattle.occ_term.specs.declared.names.Channel.{Channel}
+use Rattle.occ_net_tables.specs.declared.tables.Tables.{Tables}
+use Rattle.occ_net_tables.specs.Holding.{HeldBy}
 
 -- ---- who stands at the foot
 
-abbrev pub foot_standing : ℕ → Option (List ℕ) → List Standing
+abbrev pub foot_standing : ℕ → Option (List ℕ) → List Footing
 foot_standing n None = []
-foot_standing n (Some words) = standing n words ∷ []
+foot_standing n (Some words) = footing n words ∷ []
 
 -- a process that has not begun stands nowhere
-abbrev pub foot_in : Names → ℕ → Option (Option Task) → List Standing
+abbrev pub foot_in : Names → ℕ → Option (Option Task) → List Footing
 foot_in names n None = []
 foot_in names n (Some None) = []
 foot_in names n (Some (Some t)) = foot_standing n (foot_words names t.wait)
 
 -- of the first so many processes, rising
-abbrev pub feet_of : Names → Tasks → ℕ → List Standing
+abbrev pub feet_of : Names → Tasks → ℕ → List Footing
 feet_of names tasks zero = []
 feet_of names tasks (suc n) = feet_of names tasks n ++ foot_in names n (slice_get tasks n)
 
 -- all but for one whose number would be 2 to the 32 less 1, of which a program has none
-abbrev pub feet : Names → Tasks → List Standing
+abbrev pub feet : Names → Tasks → List Footing
 feet names tasks = feet_of names tasks (min (length tasks) 4294967295)
 
 -- ---- the chart
@@ -65,3 +68,21 @@ pub record IsRunChart (options : Options) (source keyboard : List ℕ) (list : L
   pub is :
       IsChart (shown (names_of text.program.channels) run.events).trace part (or_limit (ending_of code.errors net)) names
       (feet (names_of text.program.channels) net.tasks) circle bytes
+
+-- ---- of what code has
+
+abbrev pub IsReplayChartOf : {A : Type 0} → Program → List ℕ → List Choice → Part → List (Vec ℕ A) → List ℕ → Vec ℕ A → Type 0
+IsReplayChartOf p keyboard list part names circle bytes = IsReplayChart p keyboard list part (texts_of names) circle bytes.items
+
+abbrev pub IsRunChartOf : {A : Type 0} → Options → (source keyboard : List ℕ) → List Choice → Part → List (Vec ℕ A) → List ℕ → Vec ℕ A → Type 0
+IsRunChartOf options source keyboard list part names circle bytes = IsRunChart options source keyboard list part (texts_of names) circle bytes.items
+
+-- private contracts alone cite these: the words of a process, and of whatever network the tables hold
+abbrev pub AddsFooting : {A B : Type 0} → ℕ → Option (Vec ℕ A) → (old new : Vec Footing B) → Type 0
+AddsFooting n words old new = new.items ≡ old.items ++ foot_standing n (option_map (λ v. v.items) words)
+
+abbrev pub AddsFoot : {A : Type 0} → Tables → List Channel → ℕ → (old new : Vec Footing A) → Type 0
+AddsFoot tables cs n old new = HeldBy tables (λ net. new.items ≡ old.items ++ foot_in (names_of cs) n (slice_get net.tasks n))
+
+abbrev pub AreFeet : {A : Type 0} → Tables → List Channel → ℕ → Vec Footing A → Type 0
+AreFeet tables cs n feet = HeldBy tables (λ net. feet.items ≡ feet_of (names_of cs) net.tasks n)

@@ -1,6 +1,6 @@
 //! Charts of runs.
-ghost use Rattle.std.specs.Prelude.{◌≡◌, IfErr, IfOk, map};
-ghost use Rattle.occ_charting.specs.Charting.{IsReplayChart, IsRunChart};
+ghost use Rattle.std.specs.Prelude.{IfErr, IfOk};
+ghost use Rattle.occ_charting.specs.Charting.{IsReplayChartOf, IsRunChartOf};
 ghost use Rattle.occ_choices.specs.Plans.{choices_of};
 ghost use Rattle.occ_play.specs.Playing.{Refuses};
 
@@ -25,7 +25,8 @@ fn drawn(
     names: &[Vec<u8>],
     circle: &[u32],
 ) -> Result<Vec<u8>, AllocError>
-    ensures { IfOk result (λ bytes. IsReplayChart code.now keyboard.now (choices_of plan.now) part (map (λ v. v.items) names.now) circle.now bytes.items) }
+    ensures { IfOk result (IsReplayChartOf
+        code.now keyboard.now (choices_of plan.now) part names.now circle.now) }
 {
     let Ran {
         ending,
@@ -68,7 +69,8 @@ pub fn chart(
     names: &[Vec<u8>],
     circle: &[u32],
 ) -> Result<Vec<u8>, PlayFault>
-    ensures drawn { IfOk result (λ bytes. IsRunChart options.now source.now keyboard.now (choices_of plan.now) part (map (λ v. v.items) names.now) circle.now bytes.items) }
+    ensures drawn { IfOk result (IsRunChartOf
+        options.now source.now keyboard.now (choices_of plan.now) part names.now circle.now) }
     ensures refused { IfErr result (Refuses options.now source.now) }
 {
     let code = code_of(options, alloc, source)?;

@@ -1,10 +1,6 @@
 //! Who stands at the foot of a chart.
-ghost use Rattle.std.specs.Prelude.{◌≡◌, ◌++◌, IfOk, List, OnOk, length, min, option_map, slice_get, ℕ};
-ghost use Rattle.occ_charting.specs.Charting.{feet_of, foot_in, foot_standing};
-ghost use Rattle.occ_machine.specs.Compiled.{Program};
-ghost use Rattle.occ_net_replay.specs.Replay.{Net};
-ghost use Rattle.occ_net_tables.specs.Holding.{Holds};
-ghost use Rattle.occ_shown.specs.Answers.{names_of};
+ghost use Rattle.std.specs.Prelude.{◌≡◌, IfOk, OnOk, length, min};
+ghost use Rattle.occ_charting.specs.Charting.{AddsFoot, AddsFooting, AreFeet};
 
 use occ_chart::{Stub, foot_of};
 use occ_net_tables::Tables;
@@ -13,7 +9,7 @@ use std::alloc::{AllocError, Global};
 
 /// Adds a process that stands there in these words, where there are some.
 fn push_foot(stubs: &mut Vec<Stub>, number: u32, words: Option<Vec<u8>>) -> Result<(), AllocError>
-    ensures { OnOk result (stubs.new.items ≡ stubs.old.items ++ foot_standing number (option_map (λ v. v.items) words)) }
+    ensures { OnOk result (AddsFooting number words stubs.old stubs.new) }
 {
     if let Some(words) = words {
         stubs.push(Stub::new(number, words))?;
@@ -29,7 +25,7 @@ fn push_task(
     tables: &Tables,
     number: u32,
 ) -> Result<(), AllocError>
-    ensures { OnOk result ((p : Program) (keyboard : List ℕ) (net : Net) → Holds p keyboard tables.now net → stubs.new.items ≡ stubs.old.items ++ foot_in (names_of channels.now) number (slice_get net.tasks number)) }
+    ensures { OnOk result (AddsFoot tables.now channels.now number stubs.old stubs.new) }
 {
     match tables.task(number) {
         Some(task) => {
@@ -47,7 +43,7 @@ pub(crate) fn feet(
     tables: &Tables,
     count: u32,
 ) -> Result<Vec<Stub>, AllocError>
-    ensures { IfOk result (λ stubs. (p : Program) (keyboard : List ℕ) (net : Net) → Holds p keyboard tables.now net → stubs.items ≡ feet_of (names_of channels.now) net.tasks count) }
+    ensures { IfOk result (AreFeet tables.now channels.now count) }
 {
     let mut stubs = Vec::new(alloc);
     for number in 0..count {

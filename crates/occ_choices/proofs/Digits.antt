@@ -7,7 +7,7 @@ use Rattle.std.proofs.lemmas.Str.Parse.{digit_from_value}
 use Rattle.std.specs.Char.{digit_value}
 use Rattle.std.specs.Str.Parse.{AllDigits, digits_value, digits_value_after}
 use Rattle.occ_net_replay.specs.declared.choice.Choice.{Choice}
-use Rattle.occ_choices.specs.Lines.{IsEnd, no_end, line_feed, return_and_line_feed, IsLine, Spells}
+use Rattle.occ_choices.specs.Lines.{IsEnd, no_end, line_feed, return_and_line_feed, IsLine, SpellsNumber}
 use Rattle.occ_choices.specs.Reading.{AreDigits, ends_line, is_digit, leading, spelled}
 
 -- ---- one digit
@@ -94,10 +94,10 @@ spelled_large ds large = let c : nat_lt (digits_value 10 ds) (2 ^ 32) ≡ false 
     by true false z e = refl
     by false y z e = refl
 
-spells_from : (ds : List ℕ) (n : ℕ) → AreDigits ds → spelled ds ≡ Some n → Spells ds n
+spells_from : (ds : List ℕ) (n : ℕ) → AreDigits ds → spelled ds ≡ Some n → SpellsNumber ds n
 spells_from ds n h e = by (nat_le 1 (length ds)) (nat_le (length ds) 10) (nat_lt (digits_value 10 ds) (2 ^ 32)) refl refl refl e
   where
-    by : (x y z : Bool) → nat_le 1 (length ds) ≡ x → nat_le (length ds) 10 ≡ y → nat_lt (digits_value 10 ds) (2 ^ 32) ≡ z → (if x && y && z then Some (digits_value 10 ds) else None) ≡ Some n → Spells ds n
+    by : (x y z : Bool) → nat_le 1 (length ds) ≡ x → nat_le (length ds) 10 ≡ y → nat_lt (digits_value 10 ds) (2 ^ 32) ≡ z → (if x && y && z then Some (digits_value 10 ds) else None) ≡ Some n → SpellsNumber ds n
     by true true true a b c q =
         let value : digits_value 10 ds ≡ n = cc in
         let some : 0 < length ds = grind (arith, nat_tests) in
@@ -108,7 +108,7 @@ spells_from ds n h e = by (nat_le 1 (length ds)) (nat_le (length ds) 10) (nat_lt
     by true false z a b c q = cc
     by false y z a b c q = cc
 
-spelled_from : (ds : List ℕ) (n : ℕ) → Spells ds n → spelled ds ≡ Some n
+spelled_from : (ds : List ℕ) (n : ℕ) → SpellsNumber ds n → spelled ds ≡ Some n
 spelled_from ds n h = spelled_as ds n (omega (arith, h.numeral.0)) h.short h.value h.word
 
 -- ---- the digits that stand first

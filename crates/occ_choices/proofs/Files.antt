@@ -6,7 +6,7 @@ use Rattle.std.proofs.lemmas.List.{take_more}
 use Rattle.std.proofs.lemmas.Bool.Decides.{nat_tests}
 use Rattle.std.proofs.lemmas.Fmt.{decimal_is_IsNumeral, length-decimal-le}
 use Rattle.occ_net_replay.specs.declared.choice.Choice.{Choice}
-use Rattle.occ_choices.specs.Lines.{before_all, lines_of, AreLines, ChoiceLines, IsLine, IsBad, line_feed, Spells, line_text, choice_text, WrittenIsRead, OneReading}
+use Rattle.occ_choices.specs.Lines.{before_all, lines_of, AreLines, ChoiceLines, IsLine, IsBad, line_feed, SpellsNumber, choice_line, choice_text, WrittenIsRead, OneReading}
 use Rattle.occ_choices.specs.Reading.{AreDigits, ReadTo}
 use Rattle.occ_choices.proofs.Digits.{are_digits, digit_least, one_choice}
 
@@ -103,22 +103,22 @@ digits_feed : (ds : List ℕ) → AreDigits ds → NoFeed ds
 digits_feed [] h = tt
 digits_feed (d ∷ ds) h = (let least = digit_least d h.0 in λ e. omega (arith, least, e), digits_feed ds h.1)
 
-spelled_out : (n : ℕ) → n < 2 ^ 32 → Spells (decimal n) n
+spelled_out : (n : ℕ) → n < 2 ^ 32 → SpellsNumber (decimal n) n
 spelled_out n h =
     let small : n < 2 ^ 64 = omega (arith, h) in
     let r = decimal_is_IsNumeral n small in
     record { numeral = r.0; short = length-decimal-le 10 n (omega arith) (omega (arith, h)) small; value = r.1; word = h }
 
-line_written : (c : Choice) → c.which < 2 ^ 32 → c.pick < 2 ^ 32 → IsLine (line_text c) c
+line_written : (c : Choice) → c.which < 2 ^ 32 → c.pick < 2 ^ 32 → IsLine (choice_line c) c
 line_written c h k = record { which = decimal c.which; pick = decimal c.pick; end = 10 ∷ []; is = refl; first = spelled_out c.which h; second = spelled_out c.pick k; ends = line_feed }
 
-written_cut : (c : Choice) (rest : List ℕ) → c.which < 2 ^ 32 → c.pick < 2 ^ 32 → lines_of (line_text c ++ rest) ≡ line_text c ∷ lines_of rest
+written_cut : (c : Choice) (rest : List ℕ) → c.which < 2 ^ 32 → c.pick < 2 ^ 32 → lines_of (choice_line c ++ rest) ≡ choice_line c ∷ lines_of rest
 written_cut c rest h k =
     let w = spelled_out c.which h in
     let p = spelled_out c.pick k in
     let space : 32 ≡ 10 → ⊥ = λ e. omega (arith, e) in
     let none : NoFeed (decimal c.which ++ 32 ∷ decimal c.pick) = no_feeds (decimal c.which) (32 ∷ decimal c.pick) (digits_feed _ (are_digits _ w.numeral.1)) (space, digits_feed _ (are_digits _ p.numeral.1)) in
-    let as_line : (decimal c.which ++ 32 ∷ decimal c.pick) ++ 10 ∷ [] ≡ line_text c = append_assoc (decimal c.which) (32 ∷ decimal c.pick) (10 ∷ []) in
+    let as_line : (decimal c.which ++ 32 ∷ decimal c.pick) ++ 10 ∷ [] ≡ choice_line c = append_assoc (decimal c.which) (32 ∷ decimal c.pick) (10 ∷ []) in
     ap lines_of (ap (λ l. l ++ rest) (sym as_line) ∙ append_assoc (decimal c.which ++ 32 ∷ decimal c.pick) (10 ∷ []) rest)
     ∙ line_cut (decimal c.which ++ 32 ∷ decimal c.pick) rest none ∙ ap (λ l. l ∷ lines_of rest) as_line
 
@@ -126,9 +126,9 @@ pub written_is_read : WrittenIsRead
 written_is_read [] h = tt
 written_is_read (c ∷ cs) h = subst (λ ls. AreLines ls (c ∷ cs)) (sym (written_cut c (choice_text cs) h.0 h.1)) (line_written c h.0 h.1, written_is_read cs h.2)
 
-pub text_more : (cs : List Choice) (c : Choice) → choice_text (cs ++ c ∷ []) ≡ choice_text cs ++ line_text c
-text_more [] c = append-nil (line_text c)
-text_more (x ∷ cs) c = ap (λ t. line_text x ++ t) (text_more cs c) ∙ sym (append_assoc (line_text x) (choice_text cs) (line_text c))
+pub text_more : (cs : List Choice) (c : Choice) → choice_text (cs ++ c ∷ []) ≡ choice_text cs ++ choice_line c
+text_more [] c = append-nil (choice_line c)
+text_more (x ∷ cs) c = ap (λ t. choice_line x ++ t) (text_more cs c) ∙ sym (append_assoc (choice_line x) (choice_text cs) (choice_line c))
 
-pub one_more : (cs : List Choice) (i : ℕ) (d : Choice) (text : List ℕ) → i < length cs → text ≡ choice_text (take i cs) → text ++ line_text (get_or cs i d) ≡ choice_text (take (i + 1) cs)
-one_more cs i d text h e = ap (λ t. t ++ line_text (get_or cs i d)) e ∙ sym (text_more (take i cs) (get_or cs i d)) ∙ ap choice_text (sym (take_more cs i d h))
+pub one_more : (cs : List Choice) (i : ℕ) (d : Choice) (text : List ℕ) → i < length cs → text ≡ choice_text (take i cs) → text ++ choice_line (get_or cs i d) ≡ choice_text (take (i + 1) cs)
+one_more cs i d text h e = ap (λ t. t ++ choice_line (get_or cs i d)) e ∙ sym (text_more (take i cs) (get_or cs i d)) ∙ ap choice_text (sym (take_more cs i d h))

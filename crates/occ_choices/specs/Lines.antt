@@ -8,7 +8,7 @@ use Rattle.occ_choices.specs.declared.fault.ChoiceFault.{ChoiceFault}
 use Rattle.occ_choices.specs.declared.fault.ChoiceFault.TheVariants.{BadChoice, TooMany, Memory}
 
 -- one to ten decimal digits that stand for a number of 32 bits
-pub record Spells (digits : List ℕ) (n : ℕ) : Type 0 where
+pub record SpellsNumber (digits : List ℕ) (n : ℕ) : Type 0 where
   pub numeral : IsNumeral 10 digits
   pub short : length digits ≤ 10
   pub value : digits_value 10 digits ≡ n
@@ -26,8 +26,8 @@ pub record IsLine (text : List ℕ) (c : Choice) : Type 0 where
   pub pick : List ℕ
   pub end : List ℕ
   pub is : text ≡ which ++ 32 ∷ (pick ++ end)
-  pub first : Spells which c.which
-  pub second : Spells pick c.pick
+  pub first : SpellsNumber which c.which
+  pub second : SpellsNumber pick c.pick
   pub ends : IsEnd end
 
 -- a text, cut behind each line feed
@@ -67,19 +67,19 @@ pub record IsBad (text : List ℕ) (number : ℕ) : Type 0 where
   pub read : AreLines before choices
   pub none : (c : Choice) → IsLine line c → ⊥
 
-abbrev pub Refuses : List ℕ → ChoiceFault → Type 0
-Refuses text (BadChoice number) = IsBad text number
-Refuses text TooMany = most_choices < length (lines_of text)
-Refuses text Memory = ⊤
+abbrev pub RefusesLines : List ℕ → ChoiceFault → Type 0
+RefusesLines text (BadChoice number) = IsBad text number
+RefusesLines text TooMany = most_choices < length (lines_of text)
+RefusesLines text Memory = ⊤
 
 -- ---- what is written
 
-abbrev pub line_text : Choice → List ℕ
-line_text c = decimal c.which ++ 32 ∷ (decimal c.pick ++ 10 ∷ [])
+abbrev pub choice_line : Choice → List ℕ
+choice_line c = decimal c.which ++ 32 ∷ (decimal c.pick ++ 10 ∷ [])
 
 abbrev pub choice_text : List Choice → List ℕ
 choice_text [] = []
-choice_text (c ∷ cs) = line_text c ++ choice_text cs
+choice_text (c ∷ cs) = choice_line c ++ choice_text cs
 
 -- numbers of 32 bits
 abbrev pub AreWords : List Choice → Type 0

@@ -1,7 +1,7 @@
 //! Reads files of choices.
 ghost use Rattle.std.specs.Prelude.{◌≡◌, ◌∷◌, ◌<◌, ◌≤◌, IfErr, IfNone, IfOk, IfSome, Some, None, drop, length, take};
 ghost use Rattle.occ_net_replay.specs.declared.choice.Choice as choice;
-ghost use Rattle.occ_choices.specs.Lines.{ChoiceLines, IsLine, Refuses, lines_of, most_choices};
+ghost use Rattle.occ_choices.specs.Lines.{ChoiceLines, IsLine, RefusesLines, lines_of, most_choices};
 ghost use Rattle.occ_choices.specs.Reading.{AreDigits, ends_line, leading, spelled};
 
 use crate::fault::ChoiceFault;
@@ -24,7 +24,7 @@ const MOST_DIGITS: usize = 10;
 pub fn read_choices(alloc: Global, text: &[u8]) -> Result<Vec<Choice>, ChoiceFault>
     ensures found { IfOk result (λ cs. ChoiceLines text.now cs.items) }
     ensures few { IfOk result (λ cs. length cs.items ≤ most_choices) }
-    ensures refused { IfErr result (Refuses text.now) }
+    ensures refused { IfErr result (RefusesLines text.now) }
 {
     let mut choices = Vec::new(alloc);
     let mut rest = text;

@@ -1,6 +1,6 @@
 //! Writes files of choices.
 ghost use Rattle.std.specs.Prelude.{◌≡◌, ◌++◌, IfOk, OnOk};
-ghost use Rattle.occ_choices.specs.Lines.{choice_text, line_text};
+ghost use Rattle.occ_choices.specs.Lines.{choice_text, choice_line};
 
 use occ_net_replay::Choice;
 use std::alloc::{AllocError, Global};
@@ -17,7 +17,7 @@ pub fn choices_text(alloc: Global, choices: &[Choice]) -> Result<Vec<u8>, AllocE
 }
 
 fn write_line(alloc: Global, text: &mut Vec<u8>, choice: &Choice) -> Result<(), AllocError>
-    ensures { OnOk result (text.new.items ≡ text.old.items ++ line_text choice.now) }
+    ensures { OnOk result (text.new.items ≡ text.old.items ++ choice_line choice.now) }
 {
     let which = choice.which;
     let pick = choice.pick;

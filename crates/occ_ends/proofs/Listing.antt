@@ -8,17 +8,17 @@ use Rattle.occ_term.specs.View.{branch_of, branches_of, term_of, terms_of, varia
 use Rattle.occ_term.specs.declared.term.Branch.{Branch}
 use Rattle.occ_term.specs.declared.term.Term.{Term}
 use Rattle.occ_term.specs.declared.term.Variant.{Variant}
-use Rattle.occ_ends.specs.Ends.{Lists, noted_for, using}
+use Rattle.occ_ends.specs.Ends.{ListsUses, noted_for, using}
 use Rattle.occ_ends.specs.declared.uses.ProcessUses.{ProcessUses}
 
-pub lists_none : (before : List ProcessUses) → Lists before [] before
+pub lists_none : (before : List ProcessUses) → ListsUses before [] before
 lists_none before = record { more = []; added = sym (append-nil before); are = refl }
 
-pub lists_as : {before after : List ProcessUses} {ps qs : List Numbered} → Lists before ps after → ps ≡ qs → Lists before qs after
-lists_as {before} {after} h e = subst (λ l. Lists before l after) e h
+pub lists_as : {before after : List ProcessUses} {ps qs : List Numbered} → ListsUses before ps after → ps ≡ qs → ListsUses before qs after
+lists_as {before} {after} h e = subst (λ l. ListsUses before l after) e h
 
 -- those that come first were added last
-pub lists_then : {before between after : List ProcessUses} {ps qs : List Numbered} → Lists before qs between → Lists between ps after → Lists before (ps ++ qs) after
+pub lists_then : {before between after : List ProcessUses} {ps qs : List Numbered} → ListsUses before qs between → ListsUses between ps after → ListsUses before (ps ++ qs) after
 lists_then {before} {between} {after} {ps} {qs} h k =
     let added : after ≡ before ++ (h.more ++ k.more) = k.added ∙ ap (λ l. l ++ k.more) h.added ∙ append_assoc before h.more k.more in
     let turned : reverse (h.more ++ k.more) ≡ reverse k.more ++ reverse h.more = reverse-append h.more k.more in

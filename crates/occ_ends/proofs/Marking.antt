@@ -5,7 +5,8 @@ use Rattle.std.proofs.lemmas.Bool.Decides.{nat_tests}
 use Rattle.occ_explore_walks.proofs.Lists.{same_or_other}
 use Rattle.occ_term.specs.Uses.{Numbers, Uses, empty_set}
 use Rattle.occ_usage.specs.Noted.{between}
-use Rattle.occ_ends.specs.Ends.{MarkedIn, Marks, Using, first_with, flat, marked, noted_at, or_first, within}
+use Rattle.occ_net_tables.specs.Keys.{flat}
+use Rattle.occ_ends.specs.Ends.{MarkedIn, Marks, Using, first_with, marked, end_noted, or_first, of_declared}
 
 lt_or_le : (n e : ℕ) → (n < e) ⊎ (e ≤ n)
 lt_or_le zero zero = inr (omega arith)
@@ -181,7 +182,7 @@ started channels c x = by (lt_or_le c channels)
         ap (λ e. flat (option_map (λ end. or_first end x) e)) (past_all channels c h) ∙ ap (λ b. if b then x else None) (sym test)
 
 pub ends_are : {stand : ℕ → Bool} {kind : Uses → Numbers} {ps all : List Using} {start new : List (Option ℕ)} (channels : ℕ) → ps ≡ all → start ≡ replicate channels None
-    → MarkedIn stand kind ps start new → (c : ℕ) → noted_at new c ≡ within channels (λ k. first_with stand kind k all) c
+    → MarkedIn stand kind ps start new → (c : ℕ) → end_noted new c ≡ of_declared channels (λ k. first_with stand kind k all) c
 ends_are {stand} {kind} {ps} {all} {start} {new} channels is begun m c =
     ap flat (m.ends c)
     ∙ ap (λ l. flat (option_map (λ end. or_first end (first_with stand kind c ps)) (slice_get l c))) begun

@@ -8,9 +8,9 @@ use Rattle.std.proofs.lemmas.Nat.{mod_below}
 use Rattle.occ_net_replay.specs.declared.choice.Choice.{Choice}
 use Rattle.occ_explore_walks.specs.declared.graph.Edge.{Edge}
 use Rattle.occ_explore_walks.specs.declared.graph.Fan.{Fan}
-use Rattle.occ_explore_walks.specs.Walks.{HasWalk, IsEdge, IsGraph, IsLongest, IsRound, IsWalk, choices_of, end_of}
+use Rattle.occ_explore_walks.specs.Walks.{HasWalk, IsEdge, IsGraph, IsLongest, IsRound, IsWalk, choices_along, led_to}
 use Rattle.occ_explore_walks.proofs.Lists.{get_inside, get_some, get_there, one_some, push_cases, push_keeps, push_last}
-use Rattle.occ_ends.specs.Ends.{AreWaits, AreWithin, Circles, IsCircle, IsFanOf, IsRing, IsRoot, edge_to, edges_to}
+use Rattle.occ_ends.specs.Ends.{AreWaits, LeadWithin, Circles, IsCircle, IsFanOf, IsRing, IsRoot, edge_to, edges_to}
 
 pub lt_or_le : (n e : ℕ) → (n < e) ⊎ (e ≤ n)
 lt_or_le zero zero = inr (omega arith)
@@ -63,12 +63,12 @@ module _ {next : ℕ → Option ℕ} {below : ℕ} {fans : List Fan} (w : AreWai
       tells_one next (next n) refl is.place e there
 
   -- where a walk has come to that has begun
-  end_some : (n : ℕ) (es : List Edge) → IsWalk fans (suc n) es → (x : ℕ) × (end_of (suc n) es ≡ suc x)
+  end_some : (n : ℕ) (es : List Edge) → IsWalk fans (suc n) es → (x : ℕ) × (led_to (suc n) es ≡ suc x)
   end_some n [] walk = (n, refl)
   end_some n (e ∷ es) walk =
       let t = tells n e walk.0 in
       let rest = end_some t.other es (subst (λ k. IsWalk fans k es) t.to walk.1) in
-      (rest.0, ap (λ k. end_of k es) t.to ∙ rest.1)
+      (rest.0, ap (λ k. led_to k es) t.to ∙ rest.1)
 
   root_to : (e : Edge) → IsEdge fans 0 e → (x : ℕ) × (e.to ≡ suc x)
   root_to e is =
@@ -80,33 +80,33 @@ module _ {next : ℕ → Option ℕ} {below : ℕ} {fans : List Fan} (w : AreWai
       (is.place, sym (ap (λ x. x.to) found) ∙ plus_one is.place)
 
   -- some edges from anywhere lead to a process
-  leads : (k : ℕ) (e : Edge) (es : List Edge) → IsWalk fans k (e ∷ es) → (x : ℕ) × (end_of k (e ∷ es) ≡ suc x)
+  leads : (k : ℕ) (e : Edge) (es : List Edge) → IsWalk fans k (e ∷ es) → (x : ℕ) × (led_to k (e ∷ es) ≡ suc x)
   leads zero e es walk =
       let first = root_to e walk.0 in
       let rest = end_some first.0 es (subst (λ k. IsWalk fans k es) first.1 walk.1) in
-      (rest.0, ap (λ k. end_of k es) first.1 ∙ rest.1)
+      (rest.0, ap (λ k. led_to k es) first.1 ∙ rest.1)
   leads (suc n) e es walk = end_some n (e ∷ es) walk
 
   -- ---- along a walk each process waits for the next
 
   abbrev whos : List Edge → List ℕ
-  whos es = map (λ c. c.which) (choices_of es)
+  whos es = map (λ c. c.which) (choices_along es)
 
-  first_who : (a b : ℕ) (es : List Edge) → IsWalk fans (suc a) es → end_of (suc a) es ≡ suc b → slice_get (whos es ++ b ∷ []) 0 ≡ Some a
+  first_who : (a b : ℕ) (es : List Edge) → IsWalk fans (suc a) es → led_to (suc a) es ≡ suc b → slice_get (whos es ++ b ∷ []) 0 ≡ Some a
   first_who a b [] walk end = let same : a ≡ b = cc in ap Some (sym same)
   first_who a b (e ∷ es) walk end = ap Some (tells a e walk.0).who
 
-  along : (a b : ℕ) (es : List Edge) → IsWalk fans (suc a) es → end_of (suc a) es ≡ suc b → (i m : ℕ) → slice_get (whos es) i ≡ Some m → next m ≡ slice_get (whos es ++ b ∷ []) (suc i)
+  along : (a b : ℕ) (es : List Edge) → IsWalk fans (suc a) es → led_to (suc a) es ≡ suc b → (i m : ℕ) → slice_get (whos es) i ≡ Some m → next m ≡ slice_get (whos es ++ b ∷ []) (suc i)
   along a b [] walk end i m there = absurd cc
   along a b (e ∷ es) walk end zero m there =
       let t = tells a e walk.0 in
       let same : e.choice.which ≡ m = one_some there in
       let rest : IsWalk fans (suc t.other) es = subst (λ k. IsWalk fans k es) t.to walk.1 in
-      ap next (sym same ∙ t.who) ∙ t.waits ∙ sym (first_who t.other b es rest (ap (λ k. end_of k es) (sym t.to) ∙ end))
+      ap next (sym same ∙ t.who) ∙ t.waits ∙ sym (first_who t.other b es rest (ap (λ k. led_to k es) (sym t.to) ∙ end))
   along a b (e ∷ es) walk end (suc i) m there =
       let t = tells a e walk.0 in
       let rest : IsWalk fans (suc t.other) es = subst (λ k. IsWalk fans k es) t.to walk.1 in
-      along t.other b es rest (ap (λ k. end_of k es) (sym t.to) ∙ end) i m there
+      along t.other b es rest (ap (λ k. led_to k es) (sym t.to) ∙ end) i m there
 
   -- ---- a way round is a circle
 
@@ -133,19 +133,19 @@ module _ {next : ℕ → Option ℕ} {below : ℕ} {fans : List Fan} (w : AreWai
           let some : 0 < length ws = omega (arith, inside) in
           ap (slice_get (ws ++ a ∷ [])) is ∙ push_end ws a ∙ sym (sym (push_inside ws a 0 some) ∙ start) ∙ ap (slice_get ws) (sym zero_is)
 
-  circles_from : (a : ℕ) (es : List Edge) → IsWalk fans (suc a) es → end_of (suc a) es ≡ suc a → Circles next (whos es)
+  circles_from : (a : ℕ) (es : List Edge) → IsWalk fans (suc a) es → led_to (suc a) es ≡ suc a → Circles next (whos es)
   circles_from a es walk back i m there =
       along a a es walk back i m there ∙ turned (whos es) a i (first_who a a es walk back) (get_inside (whos es) i m there)
 
-  round_circles : (v : ℕ) (es : List Edge) → 0 < length es → IsWalk fans v es → end_of v es ≡ v → Circles next (whos es)
+  round_circles : (v : ℕ) (es : List Edge) → 0 < length es → IsWalk fans v es → led_to v es ≡ v → Circles next (whos es)
   round_circles v [] some walk back = absurd (omega (arith, some))
   round_circles v (e ∷ es) some walk back =
       let led = leads v e es walk in
       let is : v ≡ suc led.0 = sym back ∙ led.1 in
-      circles_from led.0 (e ∷ es) (subst (λ k. IsWalk fans k (e ∷ es)) is walk) (subst (λ k. end_of k (e ∷ es) ≡ k) is back)
+      circles_from led.0 (e ∷ es) (subst (λ k. IsWalk fans k (e ∷ es)) is walk) (subst (λ k. led_to k (e ∷ es) ≡ k) is back)
 
   pub found_circle : (way round : List Choice) → IsRound fans way round → Circles next (map (λ c. c.which) round)
-  found_circle way round r = subst (λ l. Circles next (map (λ c. c.which) l)) (sym r.round_is) (round_circles (end_of 0 r.there) r.back r.some r.leaves r.returns)
+  found_circle way round r = subst (λ l. Circles next (map (λ c. c.which) l)) (sym r.round_is) (round_circles (led_to 0 r.there) r.back r.some r.leaves r.returns)
 
   -- ---- round a circle there are walks of any length
 
@@ -210,10 +210,10 @@ module _ {below : ℕ} where
   fan_within : (n : ℕ) (x : Option ℕ) (place : ℕ) (e : Edge) → slice_get (edges_to n x below) place ≡ Some e → e.to ≤ below
   fan_within n x place e there = let same : ℕ → Option ℕ = λ k. x in let t = tells_one same x refl place e there in omega (arith, t.to, t.within)
 
-  pub first_within : (fan : Fan) → IsRoot below fan.edges.items → AreWithin below 0 (fan ∷ [])
+  pub first_within : (fan : Fan) → IsRoot below fan.edges.items → LeadWithin below 0 (fan ∷ [])
   first_within fan r = record { many = refl; within = λ k e is. let o = only_edge fan k e is in root_within fan.edges.items r o.1.0 e o.1.1 }
 
-  pub next_within : (fans : List Fan) (fan : Fan) (count : ℕ) (x : Option ℕ) → AreWithin below count fans → fan.edges.items ≡ edges_to count x below → AreWithin below (count + 1) (fans ++ fan ∷ [])
+  pub next_within : (fans : List Fan) (fan : Fan) (count : ℕ) (x : Option ℕ) → LeadWithin below count fans → fan.edges.items ≡ edges_to count x below → LeadWithin below (count + 1) (fans ++ fan ∷ [])
   next_within fans fan count x h is =
       record {
         many = let l = length-append fans (fan ∷ []) in omega (arith, l, h.many);
@@ -244,7 +244,7 @@ module _ {below : ℕ} where
           let place : length fans ≡ n + 1 = omega (arith, w.many, same) in
           record { fan = fan; there = ap (slice_get (fans ++ fan ∷ [])) (sym place) ∙ push_last fans fan; is = is ∙ ap (λ k. edges_to k (next k) below) (sym same) }
 
-  pub within_graph : (fans : List Fan) → below ≤ 4294967294 → AreWithin below below fans → IsGraph fans
+  pub within_graph : (fans : List Fan) → below ≤ 4294967294 → LeadWithin below below fans → IsGraph fans
   within_graph fans h w =
       record {
         some = let m = w.many in omega (arith, m);

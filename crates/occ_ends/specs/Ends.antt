@@ -1,19 +1,24 @@
 -- Which processes that are left may be at the ends of channels, and who waits for whom.
 -- Manual: the usage rules check list, for what a process may input from and output to. The rest is (own).
-use Rattle.std.specs.Prelude.{All, Bool, List, None, Option, Some, [], false, if◌then◌else◌, length, map, nat_lt, option_map, reverse, slice_get, true, ℕ, ◌%◌, ◌&&◌, ◌+◌, ◌++◌, ◌<◌, ◌≤◌, ◌∷◌, ◌≡◌, ◌⊎◌}
+use Rattle.std.specs.Prelude.{All, Bool, List, None, Option, Some, [], false, if◌then◌else◌, length, map, nat_lt, option_map, reverse, slice_get, true, ℕ, ◌%◌, ◌&&◌, ◌+◌, ◌++◌, ◌<◌, ◌≤◌, ◌∷◌, ◌≡◌, ◌⊎◌, Vec}
 use Rattle.occ_term.specs.Processes.{Numbered, processes_of}
 use Rattle.occ_term.specs.Terms.{Term}
 use Rattle.occ_term.specs.Uses.{Numbers, Uses, uses_of}
 use Rattle.occ_machine.specs.declared.task.Task.{Task}
 use Rattle.occ_machine.specs.declared.task.Wait.{Wait}
 use Rattle.occ_machine.specs.declared.task.Wait.TheVariants.{Ready, Took, Offers, Awaits, Chooses, Joins, Halted, Done, Faulted}
-use Rattle.occ_net_replay.specs.Replay.{Tasks}
+use Rattle.occ_net_replay.specs.Replay.{Tasks, Net}
+use Rattle.occ_net_tables.specs.Keys.{flat}
 use Rattle.occ_usage.specs.Noted.{uses_in}
 use Rattle.occ_explore_walks.specs.declared.graph.Edge.{Edge}
 use Rattle.occ_explore_walks.specs.declared.graph.Fan.{Fan}
 use Rattle.occ_explore_walks.specs.Walks.{IsEdge}
 use Rattle.occ_ends.specs.declared.uses.ProcessUses.{ProcessUses}
 use Rattle.occ_ends.specs.declared.ends.Ends.{Ends}
+use Rattle.occ_usage.specs.declared.noted.Use.{Use}
+use Rattle.occ_machine.specs.Compiled.{Program}
+use Rattle.occ_net_tables.specs.declared.tables.Tables.{Tables}
+use Rattle.occ_net_tables.specs.Holding.{HeldBy, Holds}
 
 -- ---- what processes use
 
@@ -61,52 +66,48 @@ first_with stand kind c [] = None
 first_with stand kind c (p ∷ ps) = if stand p.number && kind p.uses c then Some p.number else first_with stand kind c ps
 
 -- who may input from a channel, of those that stand; by the usage rules no two may
-abbrev pub reader_of : Term → Tasks → ℕ → Option ℕ
-reader_of t tasks c = first_with (stands tasks) (λ u. u.ins) c (all_using t)
+abbrev pub who_reads : Term → Tasks → ℕ → Option ℕ
+who_reads t tasks c = first_with (stands tasks) (λ u. u.ins) c (all_using t)
 
-abbrev pub writer_of : Term → Tasks → ℕ → Option ℕ
-writer_of t tasks c = first_with (stands tasks) (λ u. u.outs) c (all_using t)
+abbrev pub who_writes : Term → Tasks → ℕ → Option ℕ
+who_writes t tasks c = first_with (stands tasks) (λ u. u.outs) c (all_using t)
 
 -- of so many channels
-abbrev pub within : ℕ → (ℕ → Option ℕ) → ℕ → Option ℕ
-within channels end c = if nat_lt c channels then end c else None
+abbrev pub of_declared : ℕ → (ℕ → Option ℕ) → ℕ → Option ℕ
+of_declared channels end c = if nat_lt c channels then end c else None
 
-abbrev pub flat : Option (Option ℕ) → Option ℕ
-flat None = None
-flat (Some end) = end
-
-abbrev pub noted_at : List (Option ℕ) → ℕ → Option ℕ
-noted_at ends c = flat (slice_get ends c)
+abbrev pub end_noted : List (Option ℕ) → ℕ → Option ℕ
+end_noted ends c = flat (slice_get ends c)
 
 pub record AreEnds (t : Term) (tasks : Tasks) (channels : ℕ) (ends : Ends) : Type 0 where
-  pub readers : (c : ℕ) → noted_at ends.readers.items c ≡ within channels (reader_of t tasks) c
-  pub writers : (c : ℕ) → noted_at ends.writers.items c ≡ within channels (writer_of t tasks) c
+  pub readers : (c : ℕ) → end_noted ends.readers.items c ≡ of_declared channels (who_reads t tasks) c
+  pub writers : (c : ℕ) → end_noted ends.writers.items c ≡ of_declared channels (who_writes t tasks) c
 
 -- ---- who waits for whom
 
 -- whom a process waits for that offers a message, or awaits one: who is at the channel's other end
-abbrev pub waits_for : (reader writer : ℕ → Option ℕ) → Wait → Option ℕ
-waits_for reader writer Ready = None
-waits_for reader writer (Took arm indices m) = None
-waits_for reader writer (Offers c m) = reader c
-waits_for reader writer (Awaits c) = writer c
-waits_for reader writer (Chooses pri arms) = None
-waits_for reader writer (Joins ns) = None
-waits_for reader writer Halted = None
-waits_for reader writer Done = None
-waits_for reader writer (Faulted e) = None
+abbrev pub waits_on : (reader writer : ℕ → Option ℕ) → Wait → Option ℕ
+waits_on reader writer Ready = None
+waits_on reader writer (Took arm indices m) = None
+waits_on reader writer (Offers c m) = reader c
+waits_on reader writer (Awaits c) = writer c
+waits_on reader writer (Chooses pri arms) = None
+waits_on reader writer (Joins ns) = None
+waits_on reader writer Halted = None
+waits_on reader writer Done = None
+waits_on reader writer (Faulted e) = None
 
 abbrev pub task_waits_for : (reader writer : ℕ → Option ℕ) → Option (Option Task) → Option ℕ
 task_waits_for reader writer None = None
 task_waits_for reader writer (Some None) = None
-task_waits_for reader writer (Some (Some t)) = waits_for reader writer t.wait
+task_waits_for reader writer (Some (Some t)) = waits_on reader writer t.wait
 
 abbrev pub next_of : (reader writer : ℕ → Option ℕ) → Tasks → ℕ → Option ℕ
 next_of reader writer tasks n = task_waits_for reader writer (slice_get tasks n)
 
 -- the same, by who is noted
 abbrev pub next_noted : Ends → Tasks → ℕ → Option ℕ
-next_noted ends = next_of (noted_at ends.readers.items) (noted_at ends.writers.items)
+next_noted ends = next_of (end_noted ends.readers.items) (end_noted ends.writers.items)
 
 -- each of these waits for the one behind it, and the last one for the first
 abbrev pub Circles : (ℕ → Option ℕ) → List ℕ → Type 0
@@ -125,7 +126,7 @@ pub record IsCircle (next : ℕ → Option ℕ) (below : ℕ) (ns : List ℕ) : 
 -- ---- private contracts alone cite what follows
 
 -- these were added, the last one first
-pub record Lists (before : List ProcessUses) (ps : List Numbered) (after : List ProcessUses) : Type 0 where
+pub record ListsUses (before : List ProcessUses) (ps : List Numbered) (after : List ProcessUses) : Type 0 where
   pub more : List ProcessUses
   pub added : after ≡ before ++ more
   pub are : map noted_for (reverse more) ≡ map using ps
@@ -175,7 +176,7 @@ pub record AreWaits (next : ℕ → Option ℕ) (below count : ℕ) (fans : List
   pub each : (n : ℕ) → n < count → IsFanOf next below n fans
 
 -- no edge leads further
-pub record AreWithin (below count : ℕ) (fans : List Fan) : Type 0 where
+pub record LeadWithin (below count : ℕ) (fans : List Fan) : Type 0 where
   pub many : length fans ≡ count + 1
   pub within : (k : ℕ) (e : Edge) → IsEdge fans k e → e.to ≤ below
 
@@ -193,3 +194,40 @@ pub record IsRing (next : ℕ → Option ℕ) (ns : List ℕ) : Type 0 where
   pub some : 0 < length ns
   pub waits : Circles next ns
   pub once : IsOnce ns
+
+-- ---- of whatever network the tables hold, and of a term whose uses these are
+
+-- whom a process waits for, by who is noted
+abbrev pub waits_noted : Ends → Wait → Option ℕ
+waits_noted ends wait = waits_on (end_noted ends.readers.items) (end_noted ends.writers.items) wait
+
+abbrev pub HoldWaits : {A : Type 0} → Ends → Tables → ℕ → Vec Fan A → Type 0
+HoldWaits ends tables below fans = HeldBy tables (λ net. AreWaits (next_noted ends net.tasks) below below fans.items)
+
+abbrev pub HoldsCircle : {A : Type 0} → Ends → Tables → ℕ → Vec ℕ A → Type 0
+HoldsCircle ends tables below ns = HeldBy tables (λ net. IsCircle (next_noted ends net.tasks) below ns.items)
+
+-- whoever is next: what circles, some, makes this ring
+abbrev pub MakesRing : (ns ring : List ℕ) → Type 0
+MakesRing ns ring = (next : ℕ → Option ℕ) → 0 < length ns → Circles next ns → IsRing next ring
+
+abbrev pub MarksReaders : Ends → List Use → ℕ → Ends → Type 0
+MarksReaders old uses n new = Marks old.readers.items (uses_in uses).ins n new.readers.items
+
+abbrev pub MarksWriters : Ends → List Use → ℕ → Ends → Type 0
+MarksWriters old uses n new = Marks old.writers.items (uses_in uses).outs n new.writers.items
+
+abbrev pub MarksAll : Tables → (Uses → Numbers) → List ProcessUses → (old new : List (Option ℕ)) → Type 0
+MarksAll tables kind ps old new = HeldBy tables (λ net. MarkedIn (stands net.tasks) kind (map noted_for ps) old new)
+
+abbrev pub AreEndsBy : List ProcessUses → Tables → ℕ → Ends → Type 0
+AreEndsBy ps tables channels ends =
+    (t : Term) (p : Program) (keyboard : List ℕ) (net : Net)
+    → map noted_for ps ≡ all_using t → Holds p keyboard tables net → AreEnds t net.tasks channels ends
+
+-- behind all that stood there
+abbrev pub AddsUses : {A : Type 0} → Vec ProcessUses A → List Numbered → Vec ProcessUses A → Type 0
+AddsUses old ps new = ListsUses old.items ps new.items
+
+abbrev pub AddsBehind : {A : Type 0} → Vec ProcessUses A → (others all : List Numbered) → Vec ProcessUses A → Type 0
+AddsBehind old others all new = (before : List ProcessUses) → ListsUses before others old.items → ListsUses before all new.items

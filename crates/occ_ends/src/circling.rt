@@ -1,9 +1,7 @@
 //! Circles of processes that wait for one another.
-ghost use Rattle.std.specs.Prelude.{◌≡◌, ◌<◌, ◌≤◌, IfOk, List, Option, length, map, min, ℕ};
-ghost use Rattle.occ_machine.specs.Compiled.{Program};
-ghost use Rattle.occ_net_replay.specs.Replay.{Net};
-ghost use Rattle.occ_net_tables.specs.Holding.{Holds};
-ghost use Rattle.occ_ends.specs.Ends.{AreWaits, AreWithin, Circles, IsAgain, IsCircle, IsRing, IsRoot, edge_to, edges_to, next_noted, noted_at, waits_for};
+ghost use Rattle.std.specs.Prelude.{◌≡◌, ◌<◌, ◌≤◌, IfOk, Option, length, map, min};
+ghost use Rattle.occ_net_tables.specs.Holding.{HeldBy};
+ghost use Rattle.occ_ends.specs.Ends.{HoldWaits, HoldsCircle, IsAgain, IsRoot, LeadWithin, MakesRing, edge_to, edges_to, end_noted, next_noted, waits_noted};
 
 use crate::ends::Ends;
 use occ_explore_walks::{Edge, Fan, Lasting, lasting};
@@ -17,7 +15,7 @@ const MOST: u32 = 4_294_967_294;
 
 /// The process that is noted for a channel.
 fn noted(ends: &[Option<u32>], chan: u32) -> Option<u32>
-    ensures { result ≡ noted_at ends.now chan }
+    ensures { result ≡ end_noted ends.now chan }
 {
     match ends.get(chan as usize) {
         Some(end) => *end,
@@ -27,7 +25,7 @@ fn noted(ends: &[Option<u32>], chan: u32) -> Option<u32>
 
 /// Whom a process waits for that stands at this.
 fn waits_for(ends: &Ends, wait: &Wait) -> Option<u32>
-    ensures { result ≡ waits_for (noted_at ends.now.readers.items) (noted_at ends.now.writers.items) wait.now }
+    ensures { result ≡ waits_noted ends.now wait.now }
 {
     match wait {
         Wait::Offers { chan, message: _ } => noted(ends.readers.as_slice(), *chan),
@@ -44,7 +42,7 @@ fn waits_for(ends: &Ends, wait: &Wait) -> Option<u32>
 
 /// Whom the process with this number waits for.
 fn next_of(ends: &Ends, tables: &Tables, number: u32) -> Option<u32>
-    ensures { (p : Program) (keyboard : List ℕ) (net : Net) → Holds p keyboard tables.now net → result ≡ next_noted ends.now net.tasks number }
+    ensures { HeldBy tables.now (λ net. result ≡ next_noted ends.now net.tasks number) }
 {
     match tables.task(number) {
         Some(task) => waits_for(ends, &task.wait),
@@ -96,8 +94,8 @@ fn root(alloc: Global, below: u32) -> Result<Fan, AllocError>
 /// The graph of who waits for whom. Node 0 leads to all processes, whose nodes have their numbers and one.
 fn graph(alloc: Global, ends: &Ends, tables: &Tables, below: u32) -> Result<Vec<Fan>, AllocError>
     requires { below ≤ 4294967294 }
-    ensures waits { IfOk result (λ fans. (p : Program) (keyboard : List ℕ) (net : Net) → Holds p keyboard tables.now net → AreWaits (next_noted ends.now net.tasks) below below fans.items) }
-    ensures within { IfOk result (λ fans. AreWithin below below fans.items) }
+    ensures waits { IfOk result (HoldWaits ends.now tables.now below) }
+    ensures within { IfOk result (λ fans. LeadWithin below below fans.items) }
 {
     let mut fans = Vec::new(alloc);
     fans.push(root(alloc, below)?)?;
@@ -135,7 +133,7 @@ fn again(numbers: &[u32]) -> usize
 
 /// The circle that these stand in, once round, where some do.
 fn once_round(numbers: Vec<u32>) -> Vec<u32>
-    ensures { (next : ℕ → Option ℕ) → 0 < length numbers.items → Circles next numbers.items → IsRing next result.items }
+    ensures { MakesRing numbers.items result.items }
 {
     if numbers.is_empty() {
         return numbers;
@@ -158,7 +156,7 @@ pub fn circle(
     tables: &Tables,
     count: u32,
 ) -> Result<Vec<u32>, AllocError>
-    ensures { IfOk result (λ numbers. (p : Program) (keyboard : List ℕ) (net : Net) → Holds p keyboard tables.now net → IsCircle (next_noted ends.now net.tasks) (min count 4294967294) numbers.items) }
+    ensures { IfOk result (HoldsCircle ends.now tables.now (min count 4294967294)) }
 {
     let below = count.min(MOST);
     let fans = graph(alloc, ends, tables, below)?;

@@ -1,11 +1,8 @@
 //! Who may be at the ends of channels.
-ghost use Rattle.std.specs.Prelude.{◌≡◌, IfOk, List, None, map, replicate, true, ℕ};
-ghost use Rattle.occ_machine.specs.Compiled.{Program};
-ghost use Rattle.occ_net_replay.specs.Replay.{Net};
-ghost use Rattle.occ_net_tables.specs.Holding.{Holds};
-ghost use Rattle.occ_term.specs.Terms.{Term};
-ghost use Rattle.occ_usage.specs.Noted.{between, uses_in};
-ghost use Rattle.occ_ends.specs.Ends.{AreEnds, MarkedIn, Marks, all_using, is_standing, marked, noted_for, stands};
+ghost use Rattle.std.specs.Prelude.{◌≡◌, IfOk, None, replicate, true};
+ghost use Rattle.occ_net_tables.specs.Holding.{HeldBy};
+ghost use Rattle.occ_usage.specs.Noted.{between};
+ghost use Rattle.occ_ends.specs.Ends.{AreEndsBy, Marks, MarksAll, MarksReaders, MarksWriters, is_standing, marked, stands};
 
 use crate::uses::ProcessUses;
 use occ_machine::Wait;
@@ -46,7 +43,7 @@ fn is_standing(wait: &Wait) -> bool
 
 /// Whether the process with this number stands so.
 fn stands(tables: &Tables, number: u32) -> bool
-    ensures { (p : Program) (keyboard : List ℕ) (net : Net) → Holds p keyboard tables.now net → result ≡ stands net.tasks number }
+    ensures { HeldBy tables.now (λ net. result ≡ stands net.tasks number) }
 {
     match tables.task(number) {
         Some(task) => is_standing(&task.wait),
@@ -79,8 +76,8 @@ fn mark(ends: &mut Vec<Option<u32>>, first: u64, end: u64, number: u32)
 
 /// The same where a process has these uses.
 fn mark_uses(ends: &mut Ends, uses: &[Use], number: u32)
-    ensures readers { Marks ends.old.readers.items (uses_in uses.now).ins number ends.new.readers.items }
-    ensures writers { Marks ends.old.writers.items (uses_in uses.now).outs number ends.new.writers.items }
+    ensures readers { MarksReaders ends.old uses.now number ends.new }
+    ensures writers { MarksWriters ends.old uses.now number ends.new }
 {
     for one in uses {
         match one.kind {
@@ -93,8 +90,10 @@ fn mark_uses(ends: &mut Ends, uses: &[Use], number: u32)
 
 /// The same for each of these processes that stands, in their order.
 fn mark_all(ends: &mut Ends, uses: &[ProcessUses], tables: &Tables)
-    ensures readers { (p : Program) (keyboard : List ℕ) (net : Net) → Holds p keyboard tables.now net → MarkedIn (stands net.tasks) (λ u. u.ins) (map noted_for uses.now) ends.old.readers.items ends.new.readers.items }
-    ensures writers { (p : Program) (keyboard : List ℕ) (net : Net) → Holds p keyboard tables.now net → MarkedIn (stands net.tasks) (λ u. u.outs) (map noted_for uses.now) ends.old.writers.items ends.new.writers.items }
+    ensures readers { MarksAll
+        tables.now (λ u. u.ins) uses.now ends.old.readers.items ends.new.readers.items }
+    ensures writers { MarksAll
+        tables.now (λ u. u.outs) uses.now ends.old.writers.items ends.new.writers.items }
 {
     for process in uses {
         if stands(tables, process.number) {
@@ -122,7 +121,7 @@ pub fn ends_of(
     tables: &Tables,
     channels: usize,
 ) -> Result<Ends, AllocError>
-    ensures { IfOk result (λ ends. (t : Term) (p : Program) (keyboard : List ℕ) (net : Net) → map noted_for uses.now ≡ all_using t → Holds p keyboard tables.now net → AreEnds t net.tasks channels ends) }
+    ensures { IfOk result (AreEndsBy uses.now tables.now channels) }
 {
     let readers = nobody(alloc, channels)?;
     let writers = nobody(alloc, channels)?;

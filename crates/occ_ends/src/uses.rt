@@ -1,9 +1,9 @@
 //! What each process of a program uses.
-ghost use Rattle.std.specs.Prelude.{◌≡◌, ◌∷◌, [], IfOk, List, OnOk, map};
+ghost use Rattle.std.specs.Prelude.{◌≡◌, ◌∷◌, [], IfOk, OnOk, map};
 ghost use Rattle.occ_term.specs.Terms as terms;
 ghost use Rattle.occ_term.specs.Processes.{branches_among, branches_in, branches_in_arms, branches_in_choices, branches_in_options, branches_in_reception, branches_in_terms, branches_in_variants, numbered};
 ghost use Rattle.occ_term.specs.View.{arm_of, arms_of, branches_of, choice_of, choices_of, option_of, options_of, reception_of, term_of, terms_of, variants_of};
-ghost use Rattle.occ_ends.specs.Ends.{Lists, all_using, noted_for};
+ghost use Rattle.occ_ends.specs.Ends.{AddsBehind, AddsUses, all_using, noted_for};
 ghost use Rattle.occ_ends.specs.declared.uses.ProcessUses.{ProcessUses};
 
 use occ_term::{Arm, Branch, Choice, Reception, Selection, Term, Variant};
@@ -42,7 +42,7 @@ fn add_process(
     term: &Term,
     list: &mut Vec<ProcessUses>,
 ) -> Result<(), AllocError>
-    ensures { OnOk result (Lists list.old.items (numbered number (term_of term.now) ∷ []) list.new.items) }
+    ensures { OnOk result (AddsUses list.old (numbered number (term_of term.now) ∷ []) list.new) }
 {
     let uses = term_uses(alloc, term)?;
     list.push(ProcessUses { number, uses })?;
@@ -52,7 +52,7 @@ fn add_process(
 /// Adds the branches in a term, the last one first.
 #[cycle(branches)]
 fn add_branches(alloc: Global, term: &Term, list: &mut Vec<ProcessUses>) -> Result<(), AllocError>
-    ensures { OnOk result (Lists list.old.items (branches_in (term_of term.now)) list.new.items) }
+    ensures { OnOk result (AddsUses list.old (branches_in (term_of term.now)) list.new) }
 {
     match term {
         Term::Skip => Ok(()),
@@ -79,7 +79,7 @@ fn add_in_terms(
     parts: &[Term],
     list: &mut Vec<ProcessUses>,
 ) -> Result<(), AllocError>
-    ensures { OnOk result (Lists list.old.items (branches_in_terms (terms_of parts.now)) list.new.items) }
+    ensures { OnOk result (AddsUses list.old (branches_in_terms (terms_of parts.now)) list.new) }
 {
     let mut count = parts.len();
     while count > 0 {
@@ -96,7 +96,7 @@ fn add_each(
     branches: &[Branch],
     list: &mut Vec<ProcessUses>,
 ) -> Result<(), AllocError>
-    ensures { OnOk result (Lists list.old.items (branches_among (branches_of branches.now)) list.new.items) }
+    ensures { OnOk result (AddsUses list.old (branches_among (branches_of branches.now)) list.new) }
 {
     let mut count = branches.len();
     while count > 0 {
@@ -114,7 +114,8 @@ fn add_in_variants(
     variants: &[Variant],
     list: &mut Vec<ProcessUses>,
 ) -> Result<(), AllocError>
-    ensures { OnOk result (Lists list.old.items (branches_in_variants (variants_of variants.now)) list.new.items) }
+    ensures { OnOk result
+        (AddsUses list.old (branches_in_variants (variants_of variants.now)) list.new) }
 {
     let mut count = variants.len();
     while count > 0 {
@@ -131,7 +132,8 @@ fn add_in_choices(
     choices: &[Choice],
     list: &mut Vec<ProcessUses>,
 ) -> Result<(), AllocError>
-    ensures { OnOk result (Lists list.old.items (branches_in_choices (choices_of choices.now)) list.new.items) }
+    ensures { OnOk result
+        (AddsUses list.old (branches_in_choices (choices_of choices.now)) list.new) }
 {
     let mut count = choices.len();
     while count > 0 {
@@ -148,8 +150,8 @@ fn add_in_choice(
     choice: &Choice,
     list: &mut Vec<ProcessUses>,
 ) -> Result<(), AllocError>
-    ensures { OnOk result ((before : List ProcessUses) (others : terms.Choices) → Lists before (branches_in_choices others) list.old.items
-        → Lists before (branches_in_choices (choice_of choice.now others)) list.new.items) }
+    ensures { OnOk result ((others : terms.Choices) → AddsBehind list.old
+        (branches_in_choices others) (branches_in_choices (choice_of choice.now others)) list.new) }
 {
     match choice {
         Choice::When(_, body) => {
@@ -173,7 +175,8 @@ fn add_in_options(
     options: &[Selection],
     list: &mut Vec<ProcessUses>,
 ) -> Result<(), AllocError>
-    ensures { OnOk result (Lists list.old.items (branches_in_options (options_of options.now)) list.new.items) }
+    ensures { OnOk result
+        (AddsUses list.old (branches_in_options (options_of options.now)) list.new) }
 {
     let mut count = options.len();
     while count > 0 {
@@ -190,8 +193,8 @@ fn add_in_option(
     option: &Selection,
     list: &mut Vec<ProcessUses>,
 ) -> Result<(), AllocError>
-    ensures { OnOk result ((before : List ProcessUses) (others : terms.Options) → Lists before (branches_in_options others) list.old.items
-        → Lists before (branches_in_options (option_of option.now others)) list.new.items) }
+    ensures { OnOk result ((others : terms.Options) → AddsBehind list.old
+        (branches_in_options others) (branches_in_options (option_of option.now others)) list.new) }
 {
     match option {
         Selection::Among(_, _, body) => {
@@ -207,7 +210,7 @@ fn add_in_option(
 
 #[cycle(branches)]
 fn add_in_arms(alloc: Global, arms: &[Arm], list: &mut Vec<ProcessUses>) -> Result<(), AllocError>
-    ensures { OnOk result (Lists list.old.items (branches_in_arms (arms_of arms.now)) list.new.items) }
+    ensures { OnOk result (AddsUses list.old (branches_in_arms (arms_of arms.now)) list.new) }
 {
     let mut count = arms.len();
     while count > 0 {
@@ -220,8 +223,8 @@ fn add_in_arms(alloc: Global, arms: &[Arm], list: &mut Vec<ProcessUses>) -> Resu
 /// Those of an arm before others.
 #[cycle(branches)]
 fn add_in_arm(alloc: Global, arm: &Arm, list: &mut Vec<ProcessUses>) -> Result<(), AllocError>
-    ensures { OnOk result ((before : List ProcessUses) (others : terms.Arms) → Lists before (branches_in_arms others) list.old.items
-        → Lists before (branches_in_arms (arm_of arm.now others)) list.new.items) }
+    ensures { OnOk result ((others : terms.Arms) → AddsBehind list.old
+        (branches_in_arms others) (branches_in_arms (arm_of arm.now others)) list.new) }
 {
     match arm {
         Arm::SkipArm(_, body) => {
@@ -249,7 +252,8 @@ fn add_in_reception(
     reception: &Reception,
     list: &mut Vec<ProcessUses>,
 ) -> Result<(), AllocError>
-    ensures { OnOk result (Lists list.old.items (branches_in_reception (reception_of reception.now)) list.new.items) }
+    ensures { OnOk result
+        (AddsUses list.old (branches_in_reception (reception_of reception.now)) list.new) }
 {
     match reception {
         Reception::Plain(_, body) => add_branches(alloc, body, list),

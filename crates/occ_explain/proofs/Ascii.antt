@@ -8,7 +8,7 @@ use Rattle.std.proofs.lemmas.List.{drop-append-le, length-append}
 use Rattle.std.proofs.lemmas.List.Elements.{All-replicate}
 use Rattle.std.proofs.lemmas.Str.{IsAscii-append}
 use Rattle.std.proofs.lemmas.Str.Ascii.{IsAscii-cons, IsAscii-from_all, IsAscii-nil}
-use Rattle.occ_explain.specs.Explanations.{caret_line, explained_text, first_line, hint_line, is_hidden, shown, shown_byte, source_line}
+use Rattle.occ_explain.specs.Explanations.{caret_line, explained_text, first_line, hint_line, is_hidden, printable, shown_byte, source_line}
 use Rattle.occ_files.specs.Names.{printed_name}
 
 byte_is : (b : ℕ) → shown_byte b < 128
@@ -18,9 +18,9 @@ byte_is b = by (is_hidden b) refl
     by true e = rw e (omega arith)
     by false e = let low : b < 127 = grind (arith, nat_tests) in rw e (omega arith)
 
-shown_is : (bytes : List ℕ) → IsAscii (shown bytes)
+shown_is : (bytes : List ℕ) → IsAscii (printable bytes)
 shown_is [] = IsAscii-nil
-shown_is (b ∷ bytes) = IsAscii-cons (shown_byte b) (shown bytes) (byte_is b) (shown_is bytes)
+shown_is (b ∷ bytes) = IsAscii-cons (shown_byte b) (printable bytes) (byte_is b) (shown_is bytes)
 
 spaces : (n : ℕ) → IsAscii (replicate n 32)
 spaces n = IsAscii-from_all (replicate n 32) (All-replicate (λ b. b < 128) n 32 (omega arith))
@@ -78,13 +78,13 @@ explained_is_ascii file line column source wrong hint h k = all.ascii
 
     first : IsBehind n (first_line file line column wrong)
     first =
-        longer n (printed_name file ++ 58 ∷ decimal line ++ 58 ∷ decimal column ++ codes ": " ++ shown wrong) (10 ∷ [])
-        (longer n (printed_name file ++ 58 ∷ decimal line ++ 58 ∷ decimal column ++ codes ": ") (shown wrong) to_colon (shown_is wrong)) feed
+        longer n (printed_name file ++ 58 ∷ decimal line ++ 58 ∷ decimal column ++ codes ": " ++ printable wrong) (10 ∷ [])
+        (longer n (printed_name file ++ 58 ∷ decimal line ++ 58 ∷ decimal column ++ codes ": ") (printable wrong) to_colon (shown_is wrong)) feed
 
     source_is : IsAscii (source_line line source)
     source_is =
-        IsAscii-append (decimal line ++ codes " | " ++ shown source) (10 ∷ [])
-        (IsAscii-append (decimal line ++ codes " | ") (shown source) (IsAscii-append (decimal line) (codes " | ") (IsAscii-decimal line h) bar) (shown_is source)) feed
+        IsAscii-append (decimal line ++ codes " | " ++ printable source) (10 ∷ [])
+        (IsAscii-append (decimal line ++ codes " | ") (printable source) (IsAscii-append (decimal line) (codes " | ") (IsAscii-decimal line h) bar) (shown_is source)) feed
 
     caret_is : IsAscii (caret_line line column)
     caret_is =
@@ -96,8 +96,8 @@ explained_is_ascii file line column source wrong hint h k = all.ascii
     hint_is : (b : Bool) → (length hint == 0) ≡ b → IsAscii (hint_line hint)
     hint_is true e = rw e IsAscii-nil
     hint_is false e =
-        let some : IsAscii (32 ∷ 32 ∷ shown hint ++ 10 ∷ []) =
-        IsAscii-append (32 ∷ 32 ∷ shown hint) (10 ∷ []) (IsAscii-cons 32 (32 ∷ shown hint) (omega arith) (IsAscii-cons 32 (shown hint) (omega arith) (shown_is hint))) feed in
+        let some : IsAscii (32 ∷ 32 ∷ printable hint ++ 10 ∷ []) =
+        IsAscii-append (32 ∷ 32 ∷ printable hint) (10 ∷ []) (IsAscii-cons 32 (32 ∷ printable hint) (omega arith) (IsAscii-cons 32 (printable hint) (omega arith) (shown_is hint))) feed in
         rw e some
 
     all : IsBehind n (explained_text file line column source wrong hint)

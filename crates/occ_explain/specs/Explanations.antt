@@ -12,8 +12,8 @@ is_hidden b = nat_lt b 32 || nat_lt 126 b
 abbrev pub shown_byte : ℕ → ℕ
 shown_byte b = if is_hidden b then 63 else b
 
-abbrev pub shown : List ℕ → List ℕ
-shown bytes = map shown_byte bytes
+abbrev pub printable : List ℕ → List ℕ
+printable bytes = map shown_byte bytes
 
 -- FILE:LINE:COLUMN
 abbrev pub place_text : (file : List ℕ) (line column : ℕ) → List ℕ
@@ -21,11 +21,11 @@ place_text file line column = printed_name file ++ 58 ∷ decimal line ++ 58 ∷
 
 -- the place, and what is wrong there
 abbrev pub first_line : (file : List ℕ) (line column : ℕ) (wrong : List ℕ) → List ℕ
-first_line file line column wrong = place_text file line column ++ codes ": " ++ shown wrong ++ 10 ∷ []
+first_line file line column wrong = place_text file line column ++ codes ": " ++ printable wrong ++ 10 ∷ []
 
 -- the line of the text, behind its number
 abbrev pub source_line : (line : ℕ) (source : List ℕ) → List ℕ
-source_line line source = decimal line ++ codes " | " ++ shown source ++ 10 ∷ []
+source_line line source = decimal line ++ codes " | " ++ printable source ++ 10 ∷ []
 
 -- a caret under the column
 abbrev pub caret_line : (line column : ℕ) → List ℕ
@@ -33,7 +33,7 @@ caret_line line column = replicate (length (decimal line)) 32 ++ codes " | " ++ 
 
 -- the hint, where there is one
 abbrev pub hint_line : List ℕ → List ℕ
-hint_line hint = if length hint == 0 then [] else 32 ∷ 32 ∷ shown hint ++ 10 ∷ []
+hint_line hint = if length hint == 0 then [] else 32 ∷ 32 ∷ printable hint ++ 10 ∷ []
 
 unfoldable pub explained_text : (file : List ℕ) (line column : ℕ) (source wrong hint : List ℕ) → List ℕ
 explained_text file line column source wrong hint =

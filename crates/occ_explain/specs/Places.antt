@@ -12,8 +12,8 @@ line_behind zero (l ∷ ls) = l
 line_behind (suc n) (l ∷ ls) = line_behind n ls
 
 -- the line of this number
-abbrev pub line_in : List ℕ → ℕ → List ℕ
-line_in text n = line_behind (n - 1) (lines text)
+abbrev pub line_numbered : List ℕ → ℕ → List ℕ
+line_numbered text n = line_behind (n - 1) (lines text)
 
 -- A line of the text, or the first one, and a byte of it or its end.
 pub record IsPlace (text : List ℕ) (line column : ℕ) : Type 0 where
@@ -21,11 +21,11 @@ pub record IsPlace (text : List ℕ) (line column : ℕ) : Type 0 where
   pub in_text : 1 ≤ length text → line ≤ length (lines text)
   pub first_of_none : length text ≤ 0 → line ≤ 1
   pub column_from_one : 1 ≤ column
-  pub in_line : column ≤ length (line_in text line) + 1
+  pub in_line : column ≤ length (line_numbered text line) + 1
 
-abbrev pub number_of : LogicalLine → ℕ
-number_of (logical_line number level ws) = number
+abbrev pub number_of_line : LogicalLine → ℕ
+number_of_line (logical_line number level ws) = number
 
 -- No logical line of the text begins behind the first of these physical lines, up to the second one.
 abbrev pub IsNear : (text : List ℕ) (from to : ℕ) → Type 0
-IsNear text from to = (all : List LogicalLine) → LinesOf text all → All (λ l. (number_of l ≤ from) ⊎ (to < number_of l)) all
+IsNear text from to = (all : List LogicalLine) → LinesOf text all → All (λ l. (number_of_line l ≤ from) ⊎ (to < number_of_line l)) all

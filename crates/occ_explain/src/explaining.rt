@@ -2,7 +2,7 @@
 ghost use Rattle.std.specs.Prelude.{◌≡◌, ◌≤◌, IfOk, IsFalse, length, ℕ};
 ghost use Rattle.std.specs.Str.Lines.{lines};
 ghost use Rattle.occ_explain.specs.Causes.{cause_of, is_told_closer};
-ghost use Rattle.occ_explain.specs.Places.{IsNear, IsPlace, line_in};
+ghost use Rattle.occ_explain.specs.Places.{IsNear, IsPlace, line_numbered};
 
 use crate::finding::{Spot, finding_of};
 use crate::logical::is_near;
@@ -70,11 +70,14 @@ pub fn explain<'a>(
     refusal: &Refusal<'_>,
 ) -> Result<Explanation<'a>, AllocError>
     ensures within { IfOk result (λ e. IsPlace source.now e.line e.column) }
-    ensures shown { IfOk result (λ e. e.source.now ≡ line_in source.now e.line) }
-    ensures near { IfOk result (λ e. 1 ≤ refusal.now.line → IsNear source.now refusal.now.line e.line) }
-    ensures cause { IfOk result (λ e. IsFalse (is_told_closer refusal.now.number) → e.wrong.items ≡ cause_of refusal.now.number) }
+    ensures shown { IfOk result (λ e. e.source.now ≡ line_numbered source.now e.line) }
+    ensures near { IfOk result (λ e. 1 ≤ refusal.now.line
+        → IsNear source.now refusal.now.line e.line) }
+    ensures cause { IfOk result (λ e. IsFalse (is_told_closer refusal.now.number)
+        → e.wrong.items ≡ cause_of refusal.now.number) }
     ensures some { IfOk result (λ e. 1 ≤ length e.wrong.items) }
-    ensures reached { IfOk result (λ e. refusal.now.line ≤ length (lines source.now) → refusal.now.line ≤ e.line) }
+    ensures reached { IfOk result (λ e. refusal.now.line ≤ length (lines source.now)
+        → refusal.now.line ≤ e.line) }
 {
     let text = scan(alloc, source)?;
     let finding = finding_of(alloc, &text, refusal)?;

@@ -65,7 +65,8 @@ pub(crate) fn finding_of(
     text: &Text<'_>,
     refusal: &Refusal<'_>,
 ) -> Result<Finding, AllocError>
-    ensures cause { IfOk result (λ f. IsFalse (is_told_closer refusal.now.number) → f.wrong.items ≡ cause_of refusal.now.number) }
+    ensures cause { IfOk result (λ f. IsFalse (is_told_closer refusal.now.number)
+        → f.wrong.items ≡ cause_of refusal.now.number) }
     ensures some { IfOk result (λ f. 1 ≤ length f.wrong.items) }
 {
     let Some(index) = line_index(text, refusal) else {

@@ -1,7 +1,7 @@
 //! Places in a text: lines and columns from 1 on.
 ghost use Rattle.std.specs.Prelude.{◌≡◌, ◌∷◌, ◌<◌, ◌≤◌, ◌==◌, length, position, ℕ};
 ghost use Rattle.std.specs.Str.Lines.{lines, strip_carriage_return};
-ghost use Rattle.occ_explain.specs.Places.{IsPlace, line_in};
+ghost use Rattle.occ_explain.specs.Places.{IsPlace, line_numbered};
 
 /// A place: its line's number, the column, and the line.
 #[derive(Clone, Copy)]
@@ -45,7 +45,7 @@ pub(crate) fn first_line(text: &[u8]) -> (&[u8], &[u8])
 /// has not its end.
 pub(crate) fn place_in(text: &[u8], line: u32, before: usize) -> Place<'_>
     ensures within { IsPlace text.now result.line result.column }
-    ensures shown { result.shown.now ≡ line_in text.now result.line }
+    ensures shown { result.shown.now ≡ line_numbered text.now result.line }
     ensures at_most { (n : ℕ) → 1 ≤ n → line ≤ n → result.line ≤ n }
     ensures reached { (n : ℕ) → n ≤ line → n ≤ length (lines text.now) → n ≤ result.line }
 {

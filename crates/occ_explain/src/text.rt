@@ -2,7 +2,7 @@
 ghost use Rattle.std.specs.Prelude.{◌≡◌, ◌≤◌, ◌++◌, IfOk, OnOk, drop, length, replicate};
 ghost use Rattle.std.specs.Str.{IsAscii};
 ghost use Rattle.occ_files.specs.Names.{printed_name};
-ghost use Rattle.occ_explain.specs.Explanations.{caret_line, explained_text, first_line, hint_line, shown, shown_byte, source_line};
+ghost use Rattle.occ_explain.specs.Explanations.{caret_line, explained_text, first_line, hint_line, printable, shown_byte, source_line};
 
 use crate::explaining::Explanation;
 use occ_files::printed_name;
@@ -20,13 +20,13 @@ fn shown_byte(byte: u8) -> u8
 
 /// The bytes, and a question mark for each that would move a terminal or is no ASCII.
 fn shown(alloc: Global, bytes: &[u8]) -> Result<Vec<u8>, AllocError>
-    ensures { IfOk result (λ v. v.items ≡ shown bytes.now) }
+    ensures { IfOk result (λ v. v.items ≡ printable bytes.now) }
 {
     bytes.iter().map(|byte| shown_byte(*byte)).collect(alloc)
 }
 
 fn write_shown(alloc: Global, out: &mut Vec<u8>, bytes: &[u8]) -> Result<(), AllocError>
-    ensures { OnOk result (out.new.items ≡ out.old.items ++ shown bytes.now) }
+    ensures { OnOk result (out.new.items ≡ out.old.items ++ printable bytes.now) }
 {
     let bytes = shown(alloc, bytes)?;
     out.extend_from_slice(bytes.as_slice())
@@ -41,7 +41,8 @@ fn write_first(
     column: usize,
     wrong: &[u8],
 ) -> Result<(), AllocError>
-    ensures { OnOk result (out.new.items ≡ out.old.items ++ first_line file.now line column wrong.now) }
+    ensures { OnOk result (out.new.items ≡ out.old.items
+        ++ first_line file.now line column wrong.now) }
 {
     let name = printed_name(alloc, file)?;
     out.extend_from_slice(name.as_slice())?;
@@ -110,7 +111,9 @@ pub fn explained(
     explanation: &Explanation<'_>,
 ) -> Result<Vec<u8>, AllocError>
     ensures ascii { IfOk result (λ v. IsAscii (drop (length (printed_name file.now)) v.items)) }
-    ensures written { let e = explanation.now in IfOk result (λ v. v.items ≡ explained_text file.now e.line e.column e.source.now e.wrong.items e.hint.items) }
+    ensures written { let e = explanation.now in IfOk result
+        (λ v. v.items ≡ explained_text file.now e.line e.column e.source.now e.wrong.items
+        e.hint.items) }
 {
     let (line, column) = (explanation.line, explanation.column);
     let mut out = Vec::new(alloc);

@@ -18,7 +18,7 @@ use Rattle.occ_usage.specs.declared.checked.UsageFault.TheVariants as usages
 use Rattle.occ_code.specs.declared.compiling.CodeFault.TheVariants as codings
 use Rattle.occ_explain.specs.declared.refusal.Refusal.{Refusal}
 use Rattle.occ_explain.specs.Causes.{cause_of, is_told_closer}
-use Rattle.occ_explain.specs.Places.{IsNear, IsPlace, line_in}
+use Rattle.occ_explain.specs.Places.{IsNear, IsPlace, line_numbered}
 use Rattle.occ_explain.specs.Explanations.{explained_text}
 use Rattle.occ_chart.specs.declared.part.Part.{Part}
 use Rattle.occ_charting.specs.Charting.{IsRunChart}
@@ -27,16 +27,16 @@ use Rattle.occ_steps.specs.Steps.{IsSteps}
 use Rattle.occ_report.specs.Reports.{IsCircleOf, IsReport}
 
 -- the number and the line of a refusal of the text; 0 where it has no line
-abbrev pub Numbered : Type 0
-Numbered = ℕ × ℕ
+abbrev pub NumberAndLine : Type 0
+NumberAndLine = ℕ × ℕ
 
-abbrev pub numbered : ℕ → ℕ → Numbered
-numbered n line = (n, line)
+abbrev pub number_and_line : ℕ → ℕ → NumberAndLine
+number_and_line n line = (n, line)
 
-abbrev pub numbered_of : Refusal → Numbered
-numbered_of r = numbered r.number r.line
+abbrev pub numbered_of : Refusal → NumberAndLine
+numbered_of r = number_and_line r.number r.line
 
-abbrev pub refusal_in : PlayFault → Option Numbered
+abbrev pub refusal_in : PlayFault → Option NumberAndLine
 refusal_in (plays.Text texts.TooLong) = Some (1, 0)
 refusal_in (plays.Text (texts.BadByte n)) = Some (2, n)
 refusal_in (plays.Text (texts.OddIndent n)) = Some (3, n)
@@ -88,13 +88,13 @@ pub record IsExplained (source file : List ℕ) (number named : ℕ) (bytes : Li
   pub near : 1 ≤ named → IsNear source named line
   pub cause : IsFalse (is_told_closer number) → wrong ≡ cause_of number
   pub some : 1 ≤ length wrong
-  pub is : bytes ≡ explained_text file line column (line_in source line) wrong hint
+  pub is : bytes ≡ explained_text file line column (line_numbered source line) wrong hint
 
 -- What is told of a fault: an explanation of each refusal of a text, and nothing of all else.
-abbrev pub Tells : (source file : List ℕ) → Option Numbered → Option (List ℕ) → Type 0
-Tells source file None told = told ≡ None
-Tells source file (Some refusal) None = Some refusal ≡ None
-Tells source file (Some refusal) (Some bytes) = IsExplained source file refusal.0 refusal.1 bytes
+abbrev pub TellsRefusal : (source file : List ℕ) → Option NumberAndLine → Option (List ℕ) → Type 0
+TellsRefusal source file None told = told ≡ None
+TellsRefusal source file (Some refusal) None = Some refusal ≡ None
+TellsRefusal source file (Some refusal) (Some bytes) = IsExplained source file refusal.0 refusal.1 bytes
 
 -- The report of the run of a source by these choices, by the code that it has for turns of these options. What it tells of places
 -- fits that code and the logical lines of the source; who is at the ends of channels is told by what the program of the source uses.

@@ -31,7 +31,8 @@ pub fn named_chart(
     plan: &Plan,
     part: Part,
 ) -> Result<Vec<u8>, PlayFault>
-    ensures drawn { IfOk result (λ bytes. IsNamedChart options.now source.now keyboard.now (choices_of plan.now) part bytes.items) }
+    ensures drawn { IfOk result (λ bytes.
+        IsNamedChart options.now source.now keyboard.now (choices_of plan.now) part bytes.items) }
     ensures refused { IfErr result (Refuses options.now source.now) }
 {
     let code = code_of(options, alloc, source)?;

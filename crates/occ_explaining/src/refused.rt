@@ -1,6 +1,6 @@
 //! Explanations of what a play was refused for.
 ghost use Rattle.std.specs.Prelude.{◌≡◌, IfOk, Some, None, option_map};
-ghost use Rattle.occ_explaining.specs.Explaining.{Tells, numbered, numbered_of, refusal_in};
+ghost use Rattle.occ_explaining.specs.Explaining.{TellsRefusal, number_and_line, numbered_of, refusal_in};
 
 use occ_check_names::fault::CheckFault;
 use occ_code::CodeFault;
@@ -13,7 +13,7 @@ use std::alloc::{AllocError, Global};
 
 /// A refusal without a name.
 fn nameless(number: u32, line: u32) -> Option<Refusal<'static>>
-    ensures { option_map numbered_of result ≡ Some (numbered number line) }
+    ensures { option_map numbered_of result ≡ Some (number_and_line number line) }
 {
     Some(Refusal {
         number,
@@ -51,7 +51,7 @@ fn of_parse(fault: &ParseFault) -> Option<Refusal<'static>>
 
 /// A refusal of a name.
 fn named(number: u32, line: u32, name: &String) -> Option<Refusal<'_>>
-    ensures { option_map numbered_of result ≡ Some (numbered number line) }
+    ensures { option_map numbered_of result ≡ Some (number_and_line number line) }
 {
     Some(Refusal {
         number,
@@ -128,7 +128,8 @@ pub fn explained_fault(
     file: &[u8],
     fault: &PlayFault,
 ) -> Result<Option<Vec<u8>>, AllocError>
-    ensures { IfOk result (λ told. Tells source.now file.now (refusal_in fault.now) (option_map (λ v. v.items) told)) }
+    ensures { IfOk result (λ told. TellsRefusal source.now file.now (refusal_in fault.now)
+        (option_map (λ v. v.items) told)) }
 {
     let Some(refusal) = refusal_of(fault) else {
         return Ok(None);

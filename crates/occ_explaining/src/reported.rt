@@ -33,7 +33,8 @@ pub fn report_of(
     keyboard: &[u8],
     choices: &[Choice],
 ) -> Result<Vec<u8>, PlayFault>
-    ensures told { IfOk result (λ bytes. ReportsOn options.now source.now keyboard.now choices.now bytes.items) }
+    ensures told { IfOk result (λ bytes.
+        ReportsOn options.now source.now keyboard.now choices.now bytes.items) }
     ensures refused { IfErr result (Refuses options.now source.now) }
 {
     let code = code_of(options, alloc, source)?;

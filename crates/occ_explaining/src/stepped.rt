@@ -23,7 +23,8 @@ pub fn steps_of(
     keyboard: &[u8],
     choices: &[Choice],
 ) -> Result<Vec<u8>, PlayFault>
-    ensures told { IfOk result (λ bytes. StepsOf options.now source.now keyboard.now choices.now bytes.items) }
+    ensures told { IfOk result (λ bytes.
+        StepsOf options.now source.now keyboard.now choices.now bytes.items) }
     ensures refused { IfErr result (Refuses options.now source.now) }
 {
     let code = code_of(options, alloc, source)?;

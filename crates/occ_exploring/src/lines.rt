@@ -1,6 +1,7 @@
 //! Says what a search has found.
-ghost use Rattle.std.specs.Prelude.{◌≡◌, ◌++◌, ◌≤◌, IfOk, OnOk, length};
-ghost use Rattle.occ_exploring.specs.Texts.{answer_line, answer_lines, answers_text, counted, error_text, exploration_text, held_text, known_text, lasting_text, left_text};
+ghost use Rattle.std.specs.Prelude.{◌≡◌, ◌≤◌, IfOk, OnOk, length};
+ghost use Rattle.occ_exploring.specs.Texts.{answer_line, answer_lines, answers_text, so_many, error_text, exploration_text, held_text, known_text, lasting_text, left_text};
+ghost use Rattle.occ_shown.specs.Answers.{AddsText};
 
 use crate::strings::write_string;
 use occ_explore::{Answer, Asked, Exploration, Lasting};
@@ -16,7 +17,7 @@ pub(crate) fn write_counted(
     count: usize,
     word: &[u8],
 ) -> Result<(), AllocError>
-    ensures { OnOk result (out.new.items ≡ out.old.items ++ counted count word.now) }
+    ensures { OnOk result (AddsText out.old out.new (so_many count word.now)) }
 {
     let number = format!(in alloc; "{count} ")?;
     out.extend_from_slice(number.as_bytes())?;
@@ -29,7 +30,7 @@ pub(crate) fn write_counted(
 
 /// What the error channel holds, where it holds anything.
 fn write_error(alloc: Global, out: &mut Vec<u8>, bytes: &[u8]) -> Result<(), AllocError>
-    ensures { OnOk result (out.new.items ≡ out.old.items ++ error_text bytes.now) }
+    ensures { OnOk result (AddsText out.old out.new (error_text bytes.now)) }
 {
     if bytes.is_empty() {
         return Ok(());
@@ -45,7 +46,7 @@ fn write_held(
     asked: Asked,
     answer: &Answer,
 ) -> Result<(), AllocError>
-    ensures { OnOk result (out.new.items ≡ out.old.items ++ held_text asked answer.now) }
+    ensures { OnOk result (AddsText out.old out.new (held_text asked answer.now)) }
 {
     match asked {
         Asked::Answers => {
@@ -64,7 +65,7 @@ pub(crate) fn write_answer(
     number: usize,
     answer: &Answer,
 ) -> Result<(), AllocError>
-    ensures { OnOk result (out.new.items ≡ out.old.items ++ answer_line asked number answer.now) }
+    ensures { OnOk result (AddsText out.old out.new (answer_line asked number answer.now)) }
 {
     let head = format!(in alloc; "{number} {}", answer.ending)?;
     out.extend_from_slice(head.as_bytes())?;
@@ -82,7 +83,7 @@ fn write_answers(
     answers: &[Answer],
 ) -> Result<(), AllocError>
     requires { length answers.now ≤ 100 }
-    ensures { OnOk result (out.new.items ≡ out.old.items ++ answer_lines asked 1 answers.now) }
+    ensures { OnOk result (AddsText out.old out.new (answer_lines asked 1 answers.now)) }
 {
     let mut number = 1;
     for answer in answers {
@@ -94,7 +95,7 @@ fn write_answers(
 
 /// How many more answers there are.
 fn write_left(alloc: Global, out: &mut Vec<u8>, count: usize) -> Result<(), AllocError>
-    ensures { OnOk result (out.new.items ≡ out.old.items ++ left_text count) }
+    ensures { OnOk result (AddsText out.old out.new (left_text count)) }
 {
     let line = format!(in alloc; "and {count} more\n")?;
     out.extend_from_slice(line.as_bytes())
@@ -107,7 +108,7 @@ fn write_first(
     asked: Asked,
     answers: &[Answer],
 ) -> Result<(), AllocError>
-    ensures { OnOk result (out.new.items ≡ out.old.items ++ answers_text asked answers.now) }
+    ensures { OnOk result (AddsText out.old out.new (answers_text asked answers.now)) }
 {
     if answers.len() > MOST_ANSWERS {
         write_answers(alloc, out, asked, &answers[..MOST_ANSWERS])?;
@@ -124,7 +125,8 @@ fn write_known(
     exploration: &Exploration,
     most: u32,
 ) -> Result<(), AllocError>
-    ensures { OnOk result (out.new.items ≡ out.old.items ++ known_text exploration.now.all exploration.now.states most) }
+    ensures { OnOk result
+        (AddsText out.old out.new (known_text exploration.now.all exploration.now.states most)) }
 {
     if exploration.all {
         out.extend_from_slice(b"all, ")?;
@@ -145,7 +147,7 @@ fn write_lasting(
     out: &mut Vec<u8>,
     lasting: &Option<Lasting>,
 ) -> Result<(), AllocError>
-    ensures { OnOk result (out.new.items ≡ out.old.items ++ lasting_text lasting.now) }
+    ensures { OnOk result (AddsText out.old out.new (lasting_text lasting.now)) }
 {
     match lasting {
         Some(Lasting::Within(turns)) => {

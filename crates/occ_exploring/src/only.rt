@@ -24,8 +24,10 @@ pub fn only_answer_in(
     keyboard: &[u8],
     most: u32,
 ) -> Result<Option<Answer>, PlayFault>
-    ensures only { IfOk result (λ found. IfSome found (IsOnlyFor options.now source.now keyboard.now)) }
-    ensures untold { IfOk result (λ found. IfNone found (IsUntoldFor options.now source.now keyboard.now most)) }
+    ensures only { IfOk result
+        (λ found. IfSome found (IsOnlyFor options.now source.now keyboard.now)) }
+    ensures untold { IfOk result
+        (λ found. IfNone found (IsUntoldFor options.now source.now keyboard.now most)) }
     ensures refused { IfErr result (Refuses options.now source.now) }
 {
     let code = code_of(options, alloc, source)?;

@@ -1,7 +1,8 @@
 //! Writes bytes as a string of the language.
-ghost use Rattle.std.specs.Prelude.{◌≡◌, ◌++◌, ◌<◌, OnOk};
+ghost use Rattle.std.specs.Prelude.{◌≡◌, ◌<◌, OnOk};
 ghost use Rattle.std.specs.Fmt.{decimal};
-ghost use Rattle.occ_exploring.specs.Strings.{digit, letter, letters, more, quoted, string_text};
+ghost use Rattle.occ_exploring.specs.Strings.{capital_digit, as_character, as_characters, more, as_string, string_text};
+ghost use Rattle.occ_shown.specs.Answers.{AddsText};
 
 use std::alloc::{AllocError, Global};
 
@@ -11,14 +12,14 @@ const MOST_LETTERS: usize = 60;
 /// A hexadecimal digit.
 fn digit(value: u8) -> u8
     requires { value < 16 }
-    ensures { result ≡ digit value }
+    ensures { result ≡ capital_digit value }
 {
     if value < 10 { b'0' + value } else { 55 + value }
 }
 
 /// A byte, by its escape where it is no printed ASCII or means something in a string.
 fn write_letter(out: &mut Vec<u8>, byte: u8) -> Result<(), AllocError>
-    ensures { OnOk result (out.new.items ≡ out.old.items ++ letter byte) }
+    ensures { OnOk result (AddsText out.old out.new (as_character byte)) }
 {
     match byte {
         b'\t' => out.extend_from_slice(b"*t"),
@@ -35,7 +36,7 @@ fn write_letter(out: &mut Vec<u8>, byte: u8) -> Result<(), AllocError>
 }
 
 fn write_letters(out: &mut Vec<u8>, bytes: &[u8]) -> Result<(), AllocError>
-    ensures { OnOk result (out.new.items ≡ out.old.items ++ letters bytes.now) }
+    ensures { OnOk result (AddsText out.old out.new (as_characters bytes.now)) }
 {
     for i in 0..bytes.len() {
         write_letter(out, bytes[i])?;
@@ -45,7 +46,7 @@ fn write_letters(out: &mut Vec<u8>, bytes: &[u8]) -> Result<(), AllocError>
 
 /// Bytes between quotes.
 fn write_quoted(out: &mut Vec<u8>, bytes: &[u8]) -> Result<(), AllocError>
-    ensures { OnOk result (out.new.items ≡ out.old.items ++ quoted bytes.now) }
+    ensures { OnOk result (AddsText out.old out.new (as_string bytes.now)) }
 {
     out.push(b'"')?;
     write_letters(out, bytes)?;
@@ -55,7 +56,7 @@ fn write_quoted(out: &mut Vec<u8>, bytes: &[u8]) -> Result<(), AllocError>
 
 /// How many there were beyond those that are written.
 pub(crate) fn write_more(alloc: Global, out: &mut Vec<u8>, count: usize) -> Result<(), AllocError>
-    ensures { OnOk result (out.new.items ≡ out.old.items ++ more count) }
+    ensures { OnOk result (AddsText out.old out.new (more count)) }
 {
     let text = format!(in alloc; " and {count} more")?;
     out.extend_from_slice(text.as_bytes())
@@ -63,7 +64,7 @@ pub(crate) fn write_more(alloc: Global, out: &mut Vec<u8>, count: usize) -> Resu
 
 /// The bytes as a string, or the first ones and how many more there were.
 pub(crate) fn write_string(alloc: Global, out: &mut Vec<u8>, bytes: &[u8]) -> Result<(), AllocError>
-    ensures { OnOk result (out.new.items ≡ out.old.items ++ string_text bytes.now) }
+    ensures { OnOk result (AddsText out.old out.new (string_text bytes.now)) }
 {
     if bytes.len() > MOST_LETTERS {
         write_quoted(out, &bytes[..MOST_LETTERS])?;

@@ -6,7 +6,7 @@ use Rattle.std.specs.Io.KnownBytes.{Consumes, IsAtEnd, Keeps}
 use Rattle.occ_files.specs.declared.reader.CountedReader.{CountedReader}
 use Rattle.occ_files.specs.declared.fault.InputFault.{InputFault}
 use Rattle.occ_files.specs.declared.fault.InputFault.TheVariants.{Read, Memory}
-use Rattle.occ_files.specs.Reading.{Grows, Tells, breaks_of, failures_of, reader_of}
+use Rattle.occ_files.specs.Reading.{Grows, TellsReason, breaks_of, failures_of, reader_of}
 
 pub Keeps-same : (a : Option (List ℕ)) → Keeps a a
 Keeps-same None = tt
@@ -47,6 +47,6 @@ all-bytes (Some x) (Some y) bs most h e few =
     sym (rw whole (take_all most bs few))
 
 -- a fault told of the rest is told of the whole
-pub Tells-after : {R : Type 0} (first old new : CountedReader R) (fault : InputFault) → failures_of first ≤ failures_of old → breaks_of old ≡ breaks_of first → Tells old new fault → Tells first new fault
+pub Tells-after : {R : Type 0} (first old new : CountedReader R) (fault : InputFault) → failures_of first ≤ failures_of old → breaks_of old ≡ breaks_of first → TellsReason old new fault → TellsReason first new fault
 Tells-after first old new (Read reason) counted unbroken h = let more = h.0 in (omega (arith, counted, more), h.1)
 Tells-after first old new Memory counted unbroken h = h ∙ unbroken

@@ -19,5 +19,5 @@ LeavesAll (Some files) None added = ⊥
 LeavesAll (Some files) (Some more) added = more ≡ files ++ added
 
 -- this one was
-abbrev pub Leaves : Option (List Written) → Option (List Written) → (path text : List ℕ) → Type 0
-Leaves old new path text = LeavesAll old new ((path, text) ∷ [])
+abbrev pub LeavesOne : Option (List Written) → Option (List Written) → (path text : List ℕ) → Type 0
+LeavesOne old new path text = LeavesAll old new ((path, text) ∷ [])

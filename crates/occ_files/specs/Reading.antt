@@ -28,9 +28,9 @@ abbrev pub reason_kept : {R : Type 0} → CountedReader R → Reason
 reason_kept c = c.reason
 
 -- a failed read is told only where one failed, with the reason of the last one, and want of memory only where none did but those that were interrupted
-abbrev pub Tells : {R : Type 0} → CountedReader R → CountedReader R → InputFault → Type 0
-Tells old new (Read reason) = (failures_of old < failures_of new) × (reason ≡ reason_kept new)
-Tells old new Memory = breaks_of new ≡ breaks_of old
+abbrev pub TellsReason : {R : Type 0} → CountedReader R → CountedReader R → InputFault → Type 0
+TellsReason old new (Read reason) = (failures_of old < failures_of new) × (reason ≡ reason_kept new)
+TellsReason old new Memory = breaks_of new ≡ breaks_of old
 
 -- ---- what the code collects; private contracts alone cite it
 

@@ -8,7 +8,7 @@ use std::rt::Files;
 /// that can tell what was written into it.
 pub trait Folder {
     ghost use Rattle.std.specs.Prelude.{Option, List};
-    ghost use Rattle.occ_files.specs.Leaving.{Leaves, Written};
+    ghost use Rattle.occ_files.specs.Leaving.{LeavesOne, Written};
 
     /// What was written, or tried to be, in this order; none where it isn't known.
     ghost left: { Self → Option (List Written) };
@@ -19,7 +19,7 @@ pub trait Folder {
     ///
     /// What the system says of what it could not do.
     fn save(&mut self, path: &str, text: &[u8]) -> io::Result<()>
-        ensures { Leaves (left self.old) (left self.new) path.now text.now };
+        ensures { LeavesOne (left self.old) (left self.new) path.now text.now };
 }
 
 /// The files of the machine, each written by [`save`].

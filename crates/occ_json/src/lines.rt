@@ -1,7 +1,7 @@
 //! Communications and endings as lines of JSON.
-ghost use Rattle.std.specs.Prelude.{◌≡◌, ◌++◌, IfOk, OnOk};
+ghost use Rattle.std.specs.Prelude.{◌≡◌, IfOk, OnOk};
 ghost use Rattle.occ_term.specs.Endings.{ending_text};
-ghost use Rattle.occ_shown.specs.Answers.{end_text};
+ghost use Rattle.occ_shown.specs.Answers.{end_text, AddsText};
 ghost use Rattle.occ_json.specs.Json.{ending_json, ends_json, head_json, json_text, line_json, message_json, quoted, trace_json};
 
 use crate::values::{write_number, write_parts, write_quoted, write_tag};
@@ -11,7 +11,7 @@ use std::alloc::{AllocError, Global};
 
 /// The name of a channel, between quotes.
 fn write_name(alloc: Global, out: &mut Vec<u8>, name: &Name) -> Result<(), AllocError>
-    ensures { OnOk result (out.new.items ≡ out.old.items ++ quoted name.now) }
+    ensures { OnOk result (AddsText out.old out.new (quoted name.now)) }
 {
     let mut letters = Vec::new(alloc);
     name.write(alloc, &mut letters)?;
@@ -20,7 +20,7 @@ fn write_name(alloc: Global, out: &mut Vec<u8>, name: &Name) -> Result<(), Alloc
 
 /// The letters of an end: `p` and a process's number, or what else it is.
 fn end_letters(alloc: Global, end: End) -> Result<String, AllocError>
-    ensures { IfOk result (λ text. text.bytes.items ≡ end_text end) }
+    ensures { IfOk result (λ text. text.bytes.items ≡ end_text (end)) }
 {
     match end {
         End::Process(number) => format!(in alloc; "p{number}"),
@@ -32,7 +32,7 @@ fn end_letters(alloc: Global, end: End) -> Result<String, AllocError>
 
 /// An end, between quotes.
 fn write_end(alloc: Global, out: &mut Vec<u8>, end: End) -> Result<(), AllocError>
-    ensures { OnOk result (out.new.items ≡ out.old.items ++ quoted (end_text end)) }
+    ensures { OnOk result (AddsText out.old out.new (quoted (end_text (end)))) }
 {
     let letters = end_letters(alloc, end)?;
     write_quoted(out, letters.as_bytes())
@@ -41,7 +41,8 @@ fn write_end(alloc: Global, out: &mut Vec<u8>, end: End) -> Result<(), AllocErro
 /// The number, the channel's number and its name.
 #[tactic(auto, unfolding(crate::specs::Json::head_json))]
 fn write_head(alloc: Global, out: &mut Vec<u8>, shown: &Shown) -> Result<(), AllocError>
-    ensures { OnOk result (out.new.items ≡ out.old.items ++ head_json shown.now.number shown.now.channel shown.now.name) }
+    ensures { OnOk result
+        (AddsText out.old out.new (head_json shown.now.number shown.now.channel shown.now.name)) }
 {
     out.extend_from_slice(b"{\"number\":")?;
     write_number(alloc, out, shown.number())?;
@@ -59,7 +60,8 @@ fn write_ends(
     sender: End,
     receiver: End,
 ) -> Result<(), AllocError>
-    ensures { OnOk result (out.new.items ≡ out.old.items ++ ends_json (end_text sender) (end_text receiver)) }
+    ensures { OnOk result (AddsText out.old out.new
+        (ends_json (end_text (sender)) (end_text (receiver)))) }
 {
     out.extend_from_slice(b",\"sender\":")?;
     write_end(alloc, out, sender)?;
@@ -70,7 +72,8 @@ fn write_ends(
 /// The tag and the items.
 #[tactic(auto, unfolding(crate::specs::Json::message_json))]
 fn write_message(alloc: Global, out: &mut Vec<u8>, shown: &Shown) -> Result<(), AllocError>
-    ensures { OnOk result (out.new.items ≡ out.old.items ++ message_json shown.now.tag shown.now.message.items) }
+    ensures { OnOk result
+        (AddsText out.old out.new (message_json shown.now.tag shown.now.message.items)) }
 {
     out.extend_from_slice(b",\"tag\":")?;
     write_tag(out, shown.tag())?;
@@ -81,7 +84,7 @@ fn write_message(alloc: Global, out: &mut Vec<u8>, shown: &Shown) -> Result<(), 
 
 /// The object of a communication, on a line.
 fn write_line(alloc: Global, out: &mut Vec<u8>, shown: &Shown) -> Result<(), AllocError>
-    ensures { OnOk result (out.new.items ≡ out.old.items ++ line_json shown.now) }
+    ensures { OnOk result (AddsText out.old out.new (line_json shown.now)) }
 {
     write_head(alloc, out, shown)?;
     write_ends(alloc, out, shown.sender(), shown.receiver())?;
@@ -91,7 +94,7 @@ fn write_line(alloc: Global, out: &mut Vec<u8>, shown: &Shown) -> Result<(), All
 
 /// The objects of all communications, each on a line.
 fn write_lines(alloc: Global, out: &mut Vec<u8>, list: &[Shown]) -> Result<(), AllocError>
-    ensures { OnOk result (out.new.items ≡ out.old.items ++ trace_json list.now) }
+    ensures { OnOk result (AddsText out.old out.new (trace_json list.now)) }
 {
     for shown in list {
         write_line(alloc, out, shown)?;
@@ -101,7 +104,7 @@ fn write_lines(alloc: Global, out: &mut Vec<u8>, list: &[Shown]) -> Result<(), A
 
 /// The object of an ending, on a line.
 fn write_ending(alloc: Global, out: &mut Vec<u8>, ending: Ending) -> Result<(), AllocError>
-    ensures { OnOk result (out.new.items ≡ out.old.items ++ ending_json ending) }
+    ensures { OnOk result (AddsText out.old out.new (ending_json ending)) }
 {
     out.extend_from_slice(b"{\"ending\":")?;
     let words = format!(in alloc; "{ending}")?;

@@ -18,8 +18,8 @@ use Rattle.occ_net_tables.proofs.Placing.{placed_replays}
 use Rattle.occ_net_tables.proofs.Turned.{body_small}
 use Rattle.occ_net.specs.Networks.{Past, IsState, first_in, is_out, leased, leased_at, ready_in}
 use Rattle.occ_net.specs.declared.leasing.Lease.{Lease}
-use Rattle.occ_net.specs.Keeping.{IsKept}
-use Rattle.occ_net.specs.Leases.{CanTurn}
+use Rattle.occ_net.specs.Keeping.{KeepsReplay}
+use Rattle.occ_net.specs.Leases.{CanTakeTurn}
 use Rattle.occ_net.specs.Settling.{IsAmong}
 
 -- ---- what is leased is ready
@@ -53,7 +53,7 @@ may_turn net n p =
     let same : x.place ≡ n = (let q = x.is in omega (arith, q)) in
     record { task = x.task; there = subst (λ i. HasTask net.tasks i x.task) same x.there; may = x.may }
 
-pub will_turn : (n now : Past) (tables : Tables) (k : IsKept n tables) → n ≡ now → (i : ℕ) → ((net : Net) → IsState now net → leased now net ≡ Some i) → MayTurn k.net i
+pub will_turn : (n now : Past) (tables : Tables) (k : KeepsReplay n tables) → n ≡ now → (i : ℕ) → ((net : Net) → IsState now net → leased now net ≡ Some i) → MayTurn k.net i
 will_turn n now tables k same i h =
     let state : IsState n k.net = placed_replays n.program n.keyboard k.places in
     let is : leased n k.net ≡ Some i = subst (λ (m : Past). leased m k.net ≡ Some i) (sym same) (h k.net (subst (λ (m : Past). IsState m k.net) same state)) in
@@ -61,7 +61,7 @@ will_turn n now tables k same i h =
 
 -- ---- it can take a turn
 
-module _ (n : Past) (tables : Tables) (k : IsKept n tables) (compiled : IsCompiled n.program) (few : 1 + length n.choices < 2 ^ 64) where
+module _ (n : Past) (tables : Tables) (k : KeepsReplay n tables) (compiled : IsCompiled n.program) (few : 1 + length n.choices < 2 ^ 64) where
   is_replay : IsReplay compiled.source n.program compiled.quantum n.keyboard n.choices k.net
   is_replay = record { well_formed = compiled.well_formed; lawful = compiled.lawful; compiled = compiled.compiled; bytes = k.bytes; few = few; replays = placed_replays n.program n.keyboard k.places }
 
@@ -81,7 +81,7 @@ module _ (n : Past) (tables : Tables) (k : IsKept n tables) (compiled : IsCompil
       let same : length k.net.tasks ≡ length n.program.bodies = ap length holds.tasks ∙ holds.sized.tasks_are in
       omega (arith, within, same)
 
-  pub can_turn : (i : ℕ) (l : Lease) (body : Body) (t : Task) → arc_value l.body ≡ body → l.task ≡ t → slice_get n.program.bodies i ≡ Some body → HasTask k.net.tasks i t → IsTrue (may_go t.wait) → CanTurn l
+  pub can_turn : (i : ℕ) (l : Lease) (body : Body) (t : Task) → arc_value l.body ≡ body → l.task ≡ t → slice_get n.program.bodies i ≡ Some body → HasTask k.net.tasks i t → IsTrue (may_go t.wait) → CanTakeTurn l
   can_turn i l body t same_body same_task has there may =
       record {
         small = subst (λ (b : Body). length b.code + 1 < 2 ^ 32) (sym same_body) (body_small n.program i body compiled has);

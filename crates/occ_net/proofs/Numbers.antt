@@ -10,7 +10,7 @@ use Rattle.occ_machine.specs.Machine.{Body, Stopping, StopsIn, by_place, passes_
 use Rattle.occ_machine.specs.declared.instr.Instr.{Instr}
 use Rattle.occ_machine.specs.declared.task.Task.{Task}
 use Rattle.occ_net_replay.specs.declared.choice.Choice.{Choice}
-use Rattle.occ_net_replay.specs.Replay.{Gets, Gives, Happens, HasTask, Joined, Net, OneTurn, Replays, Settled, Tasks, arm_gets, at_start, begins, branch_task, copied, error_gets, first_task, forks, goes_on, joined, joins, keyboard_gives, meets, none_begun, screen_gets, settles, skips, stays, task_gets, task_gives, turns_at, with_branches}
+use Rattle.occ_net_replay.specs.Replay.{Gets, HandsOver, Happens, HasTask, PassesOn, Net, OneTurn, Replays, Settled, Tasks, arm_gets, first_tasks, begins, branch_task, branch_frame, error_gets, first_task, forks, goes_on, joined, joins, keyboard_gives, meets, none_begun, screen_gets, settles, skips, stays, task_gets, task_gives, turns_at, with_branches}
 
 abbrev pub AreNumbered : Tasks → Type 0
 AreNumbered tasks = (i : ℕ) (t : Task) → HasTask tasks i t → t.number ≡ i
@@ -46,9 +46,9 @@ one_numbered tasks n t e h = set_numbered tasks n (Some t) (λ u q. let same : t
 branch_numbered : (bodies : List Body) (f : Variables) (tasks : Tasks) (n : ℕ) → IsNumbered n (branch_task bodies f tasks n)
 branch_numbered bodies f tasks n t e = by (slice_get bodies n) e
   where
-    by : (b : Option Body) → option_map (λ b. first_task n (turns_at tasks n) (copied b f)) b ≡ Some t → t.number ≡ n
+    by : (b : Option Body) → option_map (λ b. first_task n (turns_at tasks n) (branch_frame b f)) b ≡ Some t → t.number ≡ n
     by None q = absurd cc
-    by (Some b) q = let same : first_task n (turns_at tasks n) (copied b f) ≡ t = cc in sym (ap (λ (z : Task). z.number) same)
+    by (Some b) q = let same : first_task n (turns_at tasks n) (branch_frame b f) ≡ t = cc in sym (ap (λ (z : Task). z.number) same)
 
 branches_numbered : (bodies : List Body) (f : Variables) (ns : List ℕ) (tasks : Tasks) → AreNumbered tasks → AreNumbered (with_branches bodies f ns tasks)
 branches_numbered bodies f [] tasks h = h
@@ -56,7 +56,7 @@ branches_numbered bodies f (n ∷ ns) tasks h = branches_numbered bodies f ns (s
 
 -- ---- what happens after a turn
 
-gives_numbered : {c : ℕ} {m : Message} {x : End} {a b : Net} → Gives c m x a b → AreNumbered a.tasks → AreNumbered b.tasks
+gives_numbered : {c : ℕ} {m : Message} {x : End} {a b : Net} → HandsOver c m x a b → AreNumbered a.tasks → AreNumbered b.tasks
 gives_numbered (task_gives {n = n} {t = t} {net = net} there w) h = one_numbered net.tasks n _ (h n t there) h
 gives_numbered (keyboard_gives e z q) h = h
 
@@ -66,7 +66,7 @@ gets_numbered (arm_gets {n = n} {t = t} {net = net} there w q z) h = one_numbere
 gets_numbered (screen_gets e) h = h
 gets_numbered (error_gets e) h = h
 
-joined_numbered : {pick : ℕ} {x : Communication} {a b : Net} → Joined pick a x b → AreNumbered a.tasks → AreNumbered b.tasks
+joined_numbered : {pick : ℕ} {x : Communication} {a b : Net} → PassesOn pick a x b → AreNumbered a.tasks → AreNumbered b.tasks
 joined_numbered (joined gives gets) h = gets_numbered gets (gives_numbered gives h)
 
 happens_numbered : {bodies : List Body} {n pick : ℕ} {a b : Net} → Happens bodies n pick a b → AreNumbered a.tasks → AreNumbered b.tasks
@@ -97,7 +97,7 @@ none_numbered [] i t e = cc
 none_numbered (b ∷ bs) zero t e = cc
 none_numbered (b ∷ bs) (suc i) t e = none_numbered bs i t e
 
-start_numbered : (bs : List Body) → AreNumbered (at_start bs)
+start_numbered : (bs : List Body) → AreNumbered (first_tasks bs)
 start_numbered [] i t e = absurd cc
 start_numbered (b ∷ bs) zero t e = let same : first_task 0 0 (zero_frame b.cells b.loops) ≡ t = cc in sym (ap (λ (z : Task). z.number) same)
 start_numbered (b ∷ bs) (suc i) t e = absurd (none_numbered bs i t e)

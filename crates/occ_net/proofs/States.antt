@@ -20,8 +20,8 @@ use Rattle.occ_net_tables.specs.Settling.{IsTurnAt, Standing, TurnsTo}
 use Rattle.occ_net_tables.proofs.OneChange.{set_length}
 use Rattle.occ_net_tables.proofs.Placing.{places_placed, places_replay, placed_replays}
 use Rattle.occ_net.specs.Networks.{Past, IsState, fresh}
-use Rattle.occ_net.specs.Keeping.{IsKept}
-use Rattle.occ_net.specs.Settling.{IsOwn, TakesIn}
+use Rattle.occ_net.specs.Keeping.{KeepsReplay}
+use Rattle.occ_net.specs.Settling.{IsOwn, CanSettle}
 
 -- each byte of a keyboard is one
 pub all_bytes : (kb : List ℕ) → ((i d : ℕ) → i < length kb → get_or kb i d < 256) → AreBytes kb
@@ -33,7 +33,7 @@ pub one_state : (n : Past) → IsCompiled n.program → AreBytes n.keyboard → 
 one_state n c bytes few a b x y = one_replay c.source n.program c.quantum n.keyboard n.choices a b c.well_formed c.lawful c.compiled bytes few x y
 
 -- tables that hold one state hold each
-kept_by_one : (n : Past) (tables : Tables) (net : Net) → IsCompiled n.program → AreBytes n.keyboard → length n.choices < 2 ^ 64 → Placed n.program n.keyboard n.choices n.choices net → Holds n.program n.keyboard tables net → length n.out ≡ length n.program.bodies → IsKept n tables
+kept_by_one : (n : Past) (tables : Tables) (net : Net) → IsCompiled n.program → AreBytes n.keyboard → length n.choices < 2 ^ 64 → Placed n.program n.keyboard n.choices n.choices net → Holds n.program n.keyboard tables net → length n.out ≡ length n.program.bodies → KeepsReplay n tables
 kept_by_one n tables net c bytes few places holds marked =
     record {
       net = net;
@@ -43,20 +43,20 @@ kept_by_one n tables net c bytes few places holds marked =
       marked = marked;
     }
 
-pub kept_fresh : (p : Program) (kb : List ℕ) (tables : Tables) → IsCompiled p → AreBytes kb → ((k : List ℕ) → Holds p k tables (first_net p k)) → length (replicate (length p.bodies) false) ≡ length p.bodies → IsKept (fresh p kb) tables
+pub kept_fresh : (p : Program) (kb : List ℕ) (tables : Tables) → IsCompiled p → AreBytes kb → ((k : List ℕ) → Holds p k tables (first_net p k)) → length (replicate (length p.bodies) false) ≡ length p.bodies → KeepsReplay (fresh p kb) tables
 kept_fresh p kb tables c bytes holds marked = kept_by_one (fresh p kb) tables (first_net p kb) c bytes (lit< tt) none_placed (holds kb) marked
 
 -- ---- a turn
 
-pub stands : (n : Past) (tables : Tables) (k : IsKept n tables) → 1 + length n.choices < 2 ^ 64 → ending_of n.program.errors k.net ≡ None → Standing n.program n.keyboard tables
+pub stands : (n : Past) (tables : Tables) (k : KeepsReplay n tables) → 1 + length n.choices < 2 ^ 64 → ending_of n.program.errors k.net ≡ None → Standing n.program n.keyboard tables
 stands n tables k few going =
     let state = placed_replays n.program n.keyboard k.places in
     record { choices = n.choices; few = few; net = k.net; replays = state; open_end = going; holds = k.holds k.net state }
 
-pub will_take : (n now : Past) (tables : Tables) (k : IsKept n tables) → n ≡ now → (s : Taken) → ((net : Net) → IsState now net → TakesIn now net s) → TakesIn n k.net s
+pub will_take : (n now : Past) (tables : Tables) (k : KeepsReplay n tables) → n ≡ now → (s : Taken) → ((net : Net) → IsState now net → CanSettle now net s) → CanSettle n k.net s
 will_take n now tables k same s h =
     let state : IsState n k.net = placed_replays n.program n.keyboard k.places in
-    subst (λ (m : Past). TakesIn m k.net s) (sym same) (h k.net (subst (λ (m : Past). IsState m k.net) same state))
+    subst (λ (m : Past). CanSettle m k.net s) (sym same) (h k.net (subst (λ (m : Past). IsState m k.net) same state))
 
 -- the turn is one of the process at its place
 pub turn_at : (n : Past) (net : Net) (s : Taken) (tables : Tables) → Holds n.program n.keyboard tables net → IsOwn n net s → (place : ℕ) (body : Body) (before after : Task)
@@ -74,9 +74,9 @@ turn_at n net s tables h own place body before after at same_body same_before st
 abbrev pub with_turn : Past → ℕ → ℕ → ℕ → Past
 with_turn n place pick number = record n { choices = n.choices ++ record { which = place; pick = pick } ∷ []; out = slice_set n.out number false }
 
-pub kept_turn : (n : Past) (old new : Tables) (k : IsKept n old) → IsCompiled n.program → 1 + length n.choices < 2 ^ 64 → ending_of n.program.errors k.net ≡ None → (place pick number : ℕ) → slice_get (ready_from 0 k.net.tasks) place ≡ Some number
+pub kept_turn : (n : Past) (old new : Tables) (k : KeepsReplay n old) → IsCompiled n.program → 1 + length n.choices < 2 ^ 64 → ending_of n.program.errors k.net ≡ None → (place pick number : ℕ) → slice_get (ready_from 0 k.net.tasks) place ≡ Some number
     → ((net : Net) (choice : Choice) → Holds n.program n.keyboard old net → place ≡ choice.which → pick ≡ choice.pick → TurnsTo n.program n.keyboard choice net new)
-    → IsKept (with_turn n place pick number) new
+    → KeepsReplay (with_turn n place pick number) new
 kept_turn n old new k compiled few going place pick number at turns =
     let choice : Choice = record { which = place; pick = pick } in
     let x = turns k.net choice (k.holds k.net (placed_replays n.program n.keyboard k.places)) refl refl in
@@ -87,6 +87,6 @@ kept_turn n old new k compiled few going place pick number at turns =
 
 -- ---- a run
 
-pub kept_run : (p : Program) (kb : List ℕ) (given kept : List Choice) (tables : Tables) → HasRun p kb Places given kept tables → IsCompiled p → AreBytes kb → length kept < 2 ^ 64 → length (replicate (length p.bodies) false) ≡ length p.bodies → IsKept (record (fresh p kb) { choices = kept }) tables
+pub kept_run : (p : Program) (kb : List ℕ) (given kept : List Choice) (tables : Tables) → HasRun p kb Places given kept tables → IsCompiled p → AreBytes kb → length kept < 2 ^ 64 → length (replicate (length p.bodies) false) ≡ length p.bodies → KeepsReplay (record (fresh p kb) { choices = kept }) tables
 kept_run p kb given kept tables h c bytes few marked =
     kept_by_one (record (fresh p kb) { choices = kept }) tables h.net c bytes few (subst (λ cs. Placed p kb cs cs h.net) (sym h.kept_is) (places_placed p kb h.placed)) h.holds marked

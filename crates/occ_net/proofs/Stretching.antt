@@ -17,14 +17,14 @@ use Rattle.occ_net_replay.proofs.Tables.{set_same, task_once}
 use Rattle.occ_net_tables.specs.declared.tables.Tables.{Tables}
 use Rattle.occ_net_tables.specs.Holding.{Holds}
 use Rattle.occ_net_tables.specs.Room.{AreSame}
-use Rattle.occ_net_tables.specs.Settling.{IsTurnAt, Standing, StandsBehind, TurnsBehind, TurnsTo, with_task}
+use Rattle.occ_net_tables.specs.Settling.{IsTurnAt, Standing, StandsBehind, TurnsBehind, TurnsTo, tables_with}
 use Rattle.occ_net_tables.specs.Tasks.{Advanced}
 use Rattle.occ_net_tables.proofs.Between.{goes_on}
 use Rattle.occ_net_tables.proofs.OneChange.{set_twice}
 use Rattle.occ_net_tables.proofs.Placing.{placed_replays}
 use Rattle.occ_net_tables.proofs.Roomy.{holds_as, set_own}
 use Rattle.occ_net_tables.proofs.Turned.{mid_for, still_open, turns_to}
-use Rattle.occ_net.specs.Keeping.{IsKept}
+use Rattle.occ_net.specs.Keeping.{KeepsReplay}
 use Rattle.occ_net.specs.Networks.{IsState, Past, leased, ready_in}
 use Rattle.occ_net.specs.Settling.{IsAmong}
 use Rattle.occ_net.specs.Stretches.{CanGoOn, CanTake, InRow, MayFollow, SettlesAll, TakesAll, after_turns, choices_from, in_after}
@@ -55,24 +55,24 @@ one_turn_on n place pick number k = ap (λ (out : List Bool). record n { choices
 -- ---- along the turns
 
 -- with its own task in its place
-same_tables : (n : Tables) (number : ℕ) (t : Task) → HasTask n.tasks.items number t → AreSame n (with_task n number t)
+same_tables : (n : Tables) (number : ℕ) (t : Task) → HasTask n.tasks.items number t → AreSame n (tables_with n number t)
 same_tables n number t there = record { tasks = set_own n.tasks.items number (Some t) there; ready = refl; offering = refl; awaiting = refl; parents = refl; unfinished = refl; fault = refl; used = refl; trace = refl }
 
 ready_is : (t : Task) → t.wait ≡ W.Ready → made_ready t ≡ t
 ready_is t e = ap (λ (w : Wait). record t { wait = w }) (sym e)
 
-module _ (n : Past) (tables : Tables) (k : IsKept n tables) (compiled : IsCompiled n.program) (few : length n.choices + 2 ^ 32 + 1 < 2 ^ 64) (going : ending_of n.program.errors k.net ≡ None) (place number pick : ℕ) (at : slice_get (ready_from 0 k.net.tasks) place ≡ Some number) (body : Body) (has : slice_get n.program.bodies number ≡ Some body) (first : Task) (there : HasTask k.net.tasks number first) where
+module _ (n : Past) (tables : Tables) (k : KeepsReplay n tables) (compiled : IsCompiled n.program) (few : length n.choices + 2 ^ 32 + 1 < 2 ^ 64) (going : ending_of n.program.errors k.net ≡ None) (place number pick : ℕ) (at : slice_get (ready_from 0 k.net.tasks) place ≡ Some number) (body : Body) (has : slice_get n.program.bodies number ≡ Some body) (first : Task) (there : HasTask k.net.tasks number first) where
   abbrev past : ℕ → Past
   past m = after_turns n place pick number m
 
   abbrev between : Task → Tables
-  between t = with_task tables number t
+  between t = tables_with tables number t
 
   few_still : (m : ℕ) → m < 2 ^ 32 → 1 + length (past m).choices < 2 ^ 64
   few_still m l = let long = choices_length place pick n.choices m in omega (arith, l, few, long)
 
   pub record Along (m : ℕ) (t : Task) : Type 0 where
-    pub kept : IsKept (past m) (between t)
+    pub kept : KeepsReplay (past m) (between t)
     pub still : ending_of n.program.errors kept.net ≡ None
     pub here : slice_get (ready_from 0 kept.net.tasks) place ≡ Some number
     pub task : HasTask kept.net.tasks number t
@@ -122,9 +122,9 @@ module _ (n : Past) (tables : Tables) (k : IsKept n tables) (compiled : IsCompil
       behind = record { first = first; there = first_there; last = t; standing = standing; turn = turn }
 
       -- what the network keeps after the last of these turns
-      pub kept_last : (new : Tables) → TurnsBehind n.program n.keyboard tables place number u (pick + m) new → IsKept (past (suc m)) new
+      pub kept_last : (new : Tables) → TurnsBehind n.program n.keyboard tables place number u (pick + m) new → KeepsReplay (past (suc m)) new
       kept_last new turns =
-          subst (λ (q : Past). IsKept q new) (one_turn_on n place pick number m)
+          subst (λ (q : Past). KeepsReplay q new) (one_turn_on n place pick number m)
           (kept_turn (past m) (between t) new a.kept compiled (few_still m small) a.still place (pick + m) number a.here (λ now choice h e f. turns t now choice standing turn h e f))
 
       module _ (is : u.wait ≡ W.Ready) where
@@ -141,9 +141,9 @@ module _ (n : Past) (tables : Tables) (k : IsKept n tables) (compiled : IsCompil
             selects : (choice : Choice) → place ≡ choice.which → place ≡ choice.which % length tables.ready.items
             selects choice e = sym (mod-eq_of_lt (slice_get_within tables.ready.items place number at_place)) ∙ ap (λ (i : ℕ). i % length tables.ready.items) e
 
-        next_kept : IsKept (past (suc m)) (between u)
+        next_kept : KeepsReplay (past (suc m)) (between u)
         next_kept =
-            subst (λ (q : Past). IsKept q (between u)) (one_turn_on n place pick number m)
+            subst (λ (q : Past). KeepsReplay q (between u)) (one_turn_on n place pick number m)
             (kept_turn (past m) (between t) (between u) a.kept compiled (few_still m small) a.still place (pick + m) number a.here (λ now choice h e f. ready_turn now choice h e))
 
         next_held : Holds n.program n.keyboard (between u) next_kept.net
@@ -186,7 +186,7 @@ first_may body first zero u r l = absurd (omega (arith, l))
 first_may body first (suc zero) u r l = subst (λ (t : Task). IsTrue (may_go t.wait)) (sym r.row) (turn_may body r.before u r.stops)
 first_may body first (suc (suc m)) u r l = first_may body first (suc m) r.before r.row (omega arith)
 
-module _ (n : Past) (tables : Tables) (k : IsKept n tables) (number count : ℕ) (after : Task) (takes : TakesAll n k.net number count after) where
+module _ (n : Past) (tables : Tables) (k : KeepsReplay n tables) (number count : ℕ) (after : Task) (takes : TakesAll n k.net number count after) where
   pub among_own : IsAmong (ready_from 0 k.net.tasks) number
   among_own = among_ready k.net.tasks number takes.own.before takes.own.has_task (first_may takes.own.body takes.own.before count after takes.own.turns takes.own.some)
 
@@ -201,10 +201,10 @@ module _ (n : Past) (tables : Tables) (k : IsKept n tables) (number count : ℕ)
             let a = along n tables k compiled few takes.going place number pick at takes.own.body takes.own.has_body takes.own.before takes.own.has_task m r.before less r.row r.follows in
             behind n tables k compiled few takes.going place number pick at takes.own.body takes.own.has_body takes.own.before takes.own.has_task m less r.before a u r.stops
 
-    pub kept_all : (last : ℕ) → last + 1 ≡ pick + count → (new : Tables) → TurnsBehind n.program n.keyboard tables place number after last new → IsKept (after_turns n place pick number count) new
+    pub kept_all : (last : ℕ) → last + 1 ≡ pick + count → (new : Tables) → TurnsBehind n.program n.keyboard tables place number after last new → KeepsReplay (after_turns n place pick number count) new
     kept_all last is new turns = by count after takes.own.turns takes.own.some small is turns
       where
-        by : (m : ℕ) (u : Task) → InRow takes.own.body takes.own.before m u → 0 < m → m < 2 ^ 32 → last + 1 ≡ pick + m → TurnsBehind n.program n.keyboard tables place number u last new → IsKept (after_turns n place pick number m) new
+        by : (m : ℕ) (u : Task) → InRow takes.own.body takes.own.before m u → 0 < m → m < 2 ^ 32 → last + 1 ≡ pick + m → TurnsBehind n.program n.keyboard tables place number u last new → KeepsReplay (after_turns n place pick number m) new
         by zero u r l s e h = absurd (omega (arith, l))
         by (suc m) u r l s e h =
             let less : m < 2 ^ 32 = omega (arith, s) in
@@ -222,19 +222,19 @@ module _ (n : Past) (tables : Tables) (k : IsKept n tables) (number count : ℕ)
         }
 
 -- what is leased can go on
-pub goes_on_leased : (n : Past) (tables : Tables) (k : IsKept n tables) → IsCompiled n.program → length n.choices + 2 ^ 32 + 1 < 2 ^ 64 → ending_of n.program.errors k.net ≡ None → (place number : ℕ) → slice_get (ready_from 0 k.net.tasks) place ≡ Some number
+pub goes_on_leased : (n : Past) (tables : Tables) (k : KeepsReplay n tables) → IsCompiled n.program → length n.choices + 2 ^ 32 + 1 < 2 ^ 64 → ending_of n.program.errors k.net ≡ None → (place number : ℕ) → slice_get (ready_from 0 k.net.tasks) place ≡ Some number
     → (body : Body) → slice_get n.program.bodies number ≡ Some body → (task : Task) → HasTask k.net.tasks number task → (l : Lease) → arc_value l.body ≡ body → l.task ≡ task → CanGoOn l
 goes_on_leased n tables k compiled few going place number at body has task there l same_body same_task m t small r g =
     let row : InRow body task m t = subst (λ (b : Body). InRow b task m t) same_body (subst (λ (u : Task). InRow (arc_value l.body) u m t) same_task r) in
     let a = along n tables k compiled few going place number 0 at body has task there m t small row g in
     subst (λ (b : Body). CanTake b t) (sym same_body) (can_take n tables k compiled few going place number 0 at body has task there m small t a)
 
-pub takes_now : (n now : Past) (tables : Tables) (k : IsKept n tables) → n ≡ now → (number count : ℕ) (after : Task) → ((net : Net) → IsState now net → TakesAll now net number count after) → TakesAll n k.net number count after
+pub takes_now : (n now : Past) (tables : Tables) (k : KeepsReplay n tables) → n ≡ now → (number count : ℕ) (after : Task) → ((net : Net) → IsState now net → TakesAll now net number count after) → TakesAll n k.net number count after
 takes_now n now tables k same number count after h =
     let state : IsState n k.net = placed_replays n.program n.keyboard k.places in
     subst (λ (m : Past). TakesAll m k.net number count after) (sym same) (h k.net (subst (λ (m : Past). IsState m k.net) same state))
 
-pub going_leased : (n now : Past) (tables : Tables) (k : IsKept n tables) → n ≡ now → (i : ℕ) → ((net : Net) → IsState now net → leased now net ≡ Some i) → IsGoing (ending_of n.program.errors k.net) (ready_in k.net) i
+pub going_leased : (n now : Past) (tables : Tables) (k : KeepsReplay n tables) → n ≡ now → (i : ℕ) → ((net : Net) → IsState now net → leased now net ≡ Some i) → IsGoing (ending_of n.program.errors k.net) (ready_in k.net) i
 going_leased n now tables k same i h =
     let state : IsState n k.net = placed_replays n.program n.keyboard k.places in
     let is : leased n k.net ≡ Some i = subst (λ (m : Past). leased m k.net ≡ Some i) (sym same) (h k.net (subst (λ (m : Past). IsState m k.net) same state)) in

@@ -9,7 +9,7 @@ use Rattle.occ_net_tables.specs.Places.{Placed}
 use Rattle.occ_net.specs.Networks.{Past, IsState}
 
 -- Its tables hold the replay of its choices, which are places. There is a mark for each process.
-pub record IsKept (n : Past) (tables : Tables) : Type 0 where
+pub record KeepsReplay (n : Past) (tables : Tables) : Type 0 where
   pub net : Net
   pub places : Placed n.program n.keyboard n.choices n.choices net
   pub holds : (now : Net) → IsState n now → Holds n.program n.keyboard tables now

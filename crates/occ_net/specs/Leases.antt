@@ -8,7 +8,7 @@ use Rattle.occ_net.specs.Networks.{Past, leased, with_out}
 use Rattle.occ_net.specs.declared.leasing.Lease.{Lease}
 
 -- its task can take a turn of its body
-pub record CanTurn (l : Lease) : Type 0 where
+pub record CanTakeTurn (l : Lease) : Type 0 where
   pub small : length (arc_value l.body).code + 1 < 2 ^ 32
   pub counts : l.task.turns + 1 < 2 ^ 64
   pub stops : HasStop (arc_value l.body) l.task

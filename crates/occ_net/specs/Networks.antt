@@ -35,23 +35,27 @@ pub record IsNetwork (n : Past) : Type 0 where
   pub few : length n.choices < 2 ^ 63
   pub marked : length n.out ≡ length n.program.bodies
 
+-- so it is in the state that the network has
+abbrev pub InState : Past → (Net → Type 0) → Type 0
+InState n Says = (net : Net) → IsState n net → Says net
+
 -- ---- processes that may take a turn
 
 -- their numbers, rising
 abbrev pub ready_in : Net → List ℕ
 ready_in net = ready_from 0 net.tasks
 
-abbrev pub begun : Option (Option Task) → Option Task
-begun None = None
-begun (Some t) = t
+abbrev pub task_begun : Option (Option Task) → Option Task
+task_begun None = None
+task_begun (Some t) = t
 
-abbrev pub numbered : Tasks → Option ℕ → Option Task
-numbered tasks None = None
-numbered tasks (Some n) = begun (slice_get tasks n)
+abbrev pub task_numbered : Tasks → Option ℕ → Option Task
+task_numbered tasks None = None
+task_numbered tasks (Some n) = task_begun (slice_get tasks n)
 
 -- the task of the one at this place
 abbrev pub ready_task : Net → ℕ → Option Task
-ready_task net i = numbered net.tasks (slice_get (ready_in net) i)
+ready_task net i = task_numbered net.tasks (slice_get (ready_in net) i)
 
 -- ---- processes that are out
 

@@ -13,7 +13,7 @@ pub record IsOwn (n : Past) (net : Net) (s : Taken) : Type 0 where
   pub task : HasTask net.tasks s.before.number s.before
 
 -- The network took the turn in: there is one choice more, of the process by its place among the ready ones, and the process is in.
-pub record Settles (old : Past) (net : Net) (s : Taken) (pick : ℕ) (new : Past) : Type 0 where
+pub record HasSettled (old : Past) (net : Net) (s : Taken) (pick : ℕ) (new : Past) : Type 0 where
   pub going : ending_of old.program.errors net ≡ None
   pub own : IsOwn old net s
   pub place : ℕ
@@ -22,13 +22,13 @@ pub record Settles (old : Past) (net : Net) (s : Taken) (pick : ℕ) (new : Past
 
 -- An ending comes before all else, and then a turn that is not of the network's own: its process, and how many turns the network's own
 -- task of that one has taken. Want of memory says that it was neither.
-abbrev pub Refuses : Past → Net → Taken → NetFault → Type 0
-Refuses n net s (Over ending) = ending_of n.program.errors net ≡ Some ending
-Refuses n net s (Stale number turns) = (ending_of n.program.errors net ≡ None) × (IsOwn n net s → ⊥) × (number ≡ s.before.number) × (turns ≡ turns_at net.tasks number)
-Refuses n net s Memory = (ending_of n.program.errors net ≡ None) × IsOwn n net s
+abbrev pub RefusesTurn : Past → Net → Taken → NetFault → Type 0
+RefusesTurn n net s (Over ending) = ending_of n.program.errors net ≡ Some ending
+RefusesTurn n net s (Stale number turns) = (ending_of n.program.errors net ≡ None) × (IsOwn n net s → ⊥) × (number ≡ s.before.number) × (turns ≡ turns_at net.tasks number)
+RefusesTurn n net s Memory = (ending_of n.program.errors net ≡ None) × IsOwn n net s
 
 -- the network goes on, and the turn is of its own
-pub record TakesIn (n : Past) (net : Net) (s : Taken) : Type 0 where
+pub record CanSettle (n : Past) (net : Net) (s : Taken) : Type 0 where
   pub going : ending_of n.program.errors net ≡ None
   pub own : IsOwn n net s
 

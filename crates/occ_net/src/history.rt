@@ -55,8 +55,10 @@ fn message_on<'a>(entries: &Entries<'a>, chan: u32, number: usize) -> Option<Mes
 
 /// The first of them; the communications behind it are left.
 fn first_on<'a>(entries: &mut Entries<'a>, chan: u32) -> Option<MessageView<'a>>
-    ensures some { IfSome result (λ m. messages_in entries.old chan ≡ m ∷ messages_in entries.new chan) }
-    ensures none { IfNone result ((messages_in entries.old chan ≡ []) × (messages_in entries.new chan ≡ [])) }
+    ensures some { IfSome result
+        (λ m. messages_in entries.old chan ≡ m ∷ messages_in entries.new chan) }
+    ensures none { IfNone result
+        ((messages_in entries.old chan ≡ []) × (messages_in entries.new chan ≡ [])) }
 {
     while let Some(communication) = entries.next() {
         if communication.chan() == chan {

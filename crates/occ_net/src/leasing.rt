@@ -1,8 +1,7 @@
 //! Processes go out for a turn.
 ghost use Rattle.std.specs.Prelude.{◌≡◌, IfErr, IfOk, IfSome, Some, false, length, replicate, slice_set};
-ghost use Rattle.occ_net_replay.specs.Replay.{Net};
-ghost use Rattle.occ_net.specs.Networks.{IsState, all_in, first_in, is_out, leased, with_out};
-ghost use Rattle.occ_net.specs.Leases.{CanTurn, IsOwnLease, Leases};
+ghost use Rattle.occ_net.specs.Networks.{all_in, first_in, is_out, leased, with_out, InState};
+ghost use Rattle.occ_net.specs.Leases.{CanTakeTurn, IsOwnLease, Leases};
 ghost use Rattle.occ_net.specs.Stretches.{CanGoOn};
 
 use crate::network::Network;
@@ -61,7 +60,7 @@ fn first_in(out: &[bool], ready: &[u32]) -> Option<u32>
 impl Network {
     /// The number of the process that the next lease gives.
     fn next_in(&self) -> Option<u32>
-        ensures { (net : Net) → IsState self.now net → result ≡ leased self.now net }
+        ensures { InState self.now (λ net. result ≡ leased self.now net) }
     {
         if self.tables.ending(self.code.errors()).is_some() {
             return None;
@@ -71,9 +70,10 @@ impl Network {
 
     /// The body and the task of a process that may take a turn.
     fn lease_of(&self, alloc: Global, number: u32) -> Result<Lease, AllocError>
-        requires { (net : Net) → IsState self.now net → leased self.now net ≡ Some number }
-        ensures own { IfOk result (λ l. (net : Net) → IsState self.now net → IsOwnLease self.now net number l) }
-        ensures can { IfOk result CanTurn }
+        requires { InState self.now (λ net. leased self.now net ≡ Some number) }
+        ensures own { IfOk result
+            (λ l. InState self.now (λ net. IsOwnLease self.now net number l)) }
+        ensures can { IfOk result CanTakeTurn }
         ensures goes_on { IfOk result CanGoOn }
     {
         self.code.compiled();
@@ -95,8 +95,9 @@ impl Network {
     ///
     /// A refused growth; then nothing has changed.
     pub fn lease(&mut self, alloc: Global) -> Result<Option<Lease>, AllocError>
-        ensures leased { IfOk result (λ found. (net : Net) → IsState self.old net → Leases self.old net found self.new) }
-        ensures can { IfOk result (λ found. IfSome found CanTurn) }
+        ensures leased { IfOk result
+            (λ found. InState self.old (λ net. Leases self.old net found self.new)) }
+        ensures can { IfOk result (λ found. IfSome found CanTakeTurn) }
         ensures goes_on { IfOk result (λ found. IfSome found CanGoOn) }
         ensures refused { IfErr result (λ _. self.new ≡ self.old) }
     {

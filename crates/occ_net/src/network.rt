@@ -49,11 +49,11 @@ impl Model for Network {
 
     ghost Value = { Past };
 
-    ghost use Rattle.occ_net.specs.Keeping.{IsKept};
+    ghost use Rattle.occ_net.specs.Keeping.{KeepsReplay};
 
     ghost view = { λ n. record { program = n.code; keyboard = n.keyboard.items; choices = n.choices.items; out = n.out.items } };
 
-    ghost invariant = { λ n. IsKept (record { program = n.code; keyboard = n.keyboard.items; choices = n.choices.items; out = n.out.items }) n.tables };
+    ghost invariant = { λ n. KeepsReplay (record { program = n.code; keyboard = n.keyboard.items; choices = n.choices.items; out = n.out.items }) n.tables };
 }
 
 /// So many marks that are not set.

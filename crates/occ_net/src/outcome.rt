@@ -2,8 +2,7 @@
 ghost use Rattle.std.specs.Prelude.{◌≡◌, ◌⊎◌, IfErr, IfOk, take};
 ghost use Rattle.occ_term.specs.Runs.{bytes_of, messages_on};
 ghost use Rattle.occ_choices.specs.Plans.{choices_of, turns_from};
-ghost use Rattle.occ_net_replay.specs.Replay.{Net};
-ghost use Rattle.occ_net.specs.Networks.{IsState};
+ghost use Rattle.occ_net.specs.Networks.{InState};
 ghost use Rattle.occ_net.specs.Outcomes.{IsOutcome, Shows};
 
 use crate::fault::NetFault;
@@ -49,7 +48,8 @@ impl Network {
     /// The bytes that were input from the screen's or the error channel.
     fn bytes_on(&self, alloc: Global, chan: u32) -> Result<Vec<u8>, AllocError>
         requires { (chan ≡ SCREEN) ⊎ (chan ≡ ERROR) }
-        ensures { IfOk result (λ bytes. (net : Net) → IsState self.now net → bytes.items ≡ bytes_of (messages_on chan net.trace)) }
+        ensures { IfOk result (λ bytes. InState self.now (λ net.
+            bytes.items ≡ bytes_of (messages_on chan net.trace))) }
     {
         self.code.compiled();
         let bytes = channel_bytes(alloc, self.tables.trace(), chan)?;
@@ -60,7 +60,7 @@ impl Network {
     fn came_to(self, alloc: Global, choices: Vec<Choice>) -> Result<Outcome, (Network, NetFault)>
         ensures network { IfOk result (λ o. o.network ≡ self) }
         ensures choices { IfOk result (λ o. o.choices ≡ choices) }
-        ensures shows { IfOk result (λ o. (net : Net) → IsState self net → Shows net o) }
+        ensures shows { IfOk result (λ o. InState self (λ net. Shows net o)) }
         ensures refused { IfErr result (λ e. (e.0 ≡ self) × (e.1 ≡ NetFault.Memory)) }
     {
         let Ok(screen) = self.bytes_on(alloc, SCREEN) else {
@@ -88,7 +88,7 @@ impl Network {
     pub fn into_outcome(self, alloc: Global) -> Result<Outcome, (Network, NetFault)>
         ensures network { IfOk result (λ o. o.network ≡ self) }
         ensures choices { IfOk result (λ o. o.choices.items ≡ self.choices) }
-        ensures shows { IfOk result (λ o. (net : Net) → IsState self net → Shows net o) }
+        ensures shows { IfOk result (λ o. InState self (λ net. Shows net o)) }
         ensures refused { IfErr result (λ e. (e.0 ≡ self) × (e.1 ≡ NetFault.Memory)) }
     {
         let Ok(choices) = Vec::from_slice(alloc, self.choices()) else {

@@ -1,9 +1,8 @@
 //! Whether a turn is of the network's own.
-ghost use Rattle.std.specs.Prelude.{◌≡◌, ◌↔◌, IsTrue, List, Some, slice_get, ℕ};
-ghost use Rattle.occ_machine.specs.Compiled.{Program};
-ghost use Rattle.occ_net_replay.specs.Replay.{HasTask, Net, turns_at};
-ghost use Rattle.occ_net_tables.specs.Holding.{Holds};
-ghost use Rattle.occ_net.specs.Networks.{IsState};
+ghost use Rattle.std.specs.Prelude.{◌≡◌, ◌↔◌, IsTrue, Some, slice_get};
+ghost use Rattle.occ_net_replay.specs.Replay.{HasTask, turns_at};
+ghost use Rattle.occ_net_tables.specs.Holding.{HeldBy};
+ghost use Rattle.occ_net.specs.Networks.{InState};
 ghost use Rattle.occ_net.specs.Settling.{IsOwn};
 
 use crate::network::Network;
@@ -23,7 +22,8 @@ fn is_own_body(code: &Code, number: u32, body: &Body) -> bool
 
 /// Whether this is the task of its process.
 fn is_own_task(tables: &Tables, task: &Task) -> bool
-    ensures { (p : Program) (keyboard : List ℕ) (net : Net) → Holds p keyboard tables.now net → (IsTrue result ↔ HasTask net.tasks task.now.number task.now) }
+    ensures { HeldBy tables.now (λ net.
+        IsTrue result ↔ HasTask net.tasks task.now.number task.now) }
 {
     match tables.task(task.number) {
         Some(own) => own.is_same(task),
@@ -34,7 +34,7 @@ fn is_own_task(tables: &Tables, task: &Task) -> bool
 impl Network {
     /// Whether the turn's body and the task before it are the network's own, by content.
     pub(crate) fn is_own(&self, segment: &Segment) -> bool
-        ensures { (net : Net) → IsState self.now net → (IsTrue result ↔ IsOwn self.now net segment.now) }
+        ensures { InState self.now (λ net. IsTrue result ↔ IsOwn self.now net segment.now) }
     {
         let before = segment.before();
         is_own_task(&self.tables, before) && is_own_body(&self.code, before.number, segment.body())
@@ -42,7 +42,7 @@ impl Network {
 
     /// How many turns the process with this number has taken.
     pub(crate) fn turns(&self, number: u32) -> u64
-        ensures { (net : Net) → IsState self.now net → result ≡ turns_at net.tasks number }
+        ensures { InState self.now (λ net. result ≡ turns_at net.tasks number) }
     {
         self.tables.turns(number)
     }

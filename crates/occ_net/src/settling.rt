@@ -2,9 +2,8 @@
 ghost use Rattle.std.specs.Prelude.{◌≡◌, IfErr, IfOk, OnOk, Some, slice_get};
 ghost use Rattle.std.specs.Arc.{arc_value};
 ghost use Rattle.occ_machine.specs.SameStop.{IsRising};
-ghost use Rattle.occ_net_replay.specs.Replay.{Net};
-ghost use Rattle.occ_net.specs.Networks.{IsState};
-ghost use Rattle.occ_net.specs.Settling.{IsAmong, Refuses, Settles, TakesIn};
+ghost use Rattle.occ_net.specs.Networks.{InState};
+ghost use Rattle.occ_net.specs.Settling.{IsAmong, RefusesTurn, HasSettled, CanSettle};
 
 use crate::fault::NetFault;
 use crate::leasing::{Lease, mark};
@@ -40,8 +39,10 @@ impl Network {
         segment: Segment,
         pick: u32,
     ) -> Result<(), (Segment, NetFault)>
-        ensures settled { OnOk result ((net : Net) → IsState self.old net → Settles self.old net segment pick self.new) }
-        ensures refused { IfErr result (λ e. (net : Net) → IsState self.old net → Refuses self.old net segment e.1) }
+        ensures settled { OnOk result
+            (InState self.old (λ net. HasSettled self.old net segment pick self.new)) }
+        ensures refused { IfErr result
+            (λ e. InState self.old (λ net. RefusesTurn self.old net segment e.1)) }
         ensures back { IfErr result (λ e. e.0 ≡ segment) }
         ensures same { IfErr result (λ _. self.new ≡ self.old) }
     {
@@ -72,9 +73,11 @@ impl Network {
         segment: Segment,
         pick: u32,
     ) -> Result<Lease, Segment>
-        requires { (net : Net) → IsState self.old net → TakesIn self.old net segment }
-        ensures settled { IfOk result (λ _. (net : Net) → IsState self.old net → Settles self.old net segment pick self.new) }
-        ensures spent { IfOk result (λ l. (arc_value l.body ≡ segment.body) × (l.task ≡ segment.before)) }
+        requires { InState self.old (λ net. CanSettle self.old net segment) }
+        ensures settled { IfOk result
+            (λ _. InState self.old (λ net. HasSettled self.old net segment pick self.new)) }
+        ensures spent { IfOk result
+            (λ l. (arc_value l.body ≡ segment.body) × (l.task ≡ segment.before)) }
         ensures back { IfErr result (λ s. s ≡ segment) }
         ensures same { IfErr result (λ _. self.new ≡ self.old) }
     {

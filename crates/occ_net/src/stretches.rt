@@ -1,7 +1,7 @@
 //! Turns that a process took in a row are taken in.
 ghost use Rattle.std.specs.Prelude.{◌≡◌, ◌+◌, ◌<◌, ◌≤◌, ◌^◌, IfErr, IfOk, length, vec_capacity, vec_len};
-ghost use Rattle.occ_net_replay.specs.Replay.{HasTask, Net};
-ghost use Rattle.occ_net.specs.Networks.{IsState};
+ghost use Rattle.occ_net_replay.specs.Replay.{HasTask};
+ghost use Rattle.occ_net.specs.Networks.{InState};
 ghost use Rattle.occ_net.specs.Stretches.{SettlesAll, TakesAll, choices_from};
 
 use crate::leasing::mark;
@@ -42,10 +42,10 @@ impl Network {
         after: Task,
         pick: u32,
     ) -> Result<Task, Task>
-        requires turns { (net : Net) → IsState self.old net → TakesAll self.old net number count after }
+        requires turns { InState self.old (λ net. TakesAll self.old net number count after) }
         requires picks { pick + count < 2 ^ 32 }
         ensures settled { IfOk result (λ _. SettlesAll self.old number count pick self.new) }
-        ensures spent { IfOk result (λ t. (net : Net) → IsState self.old net → HasTask net.tasks number t) }
+        ensures spent { IfOk result (λ t. InState self.old (λ net. HasTask net.tasks number t)) }
         ensures back { IfErr result (λ t. t ≡ after) }
         ensures same { IfErr result (λ _. self.new ≡ self.old) }
     {

@@ -3,6 +3,7 @@ use Rattle.std.proofs.Common.{◌≡◌, ◌∙◌, refl, sym, ap, subst, Bool, 
 use Rattle.std.specs.Prelude.{slice_get, pos, replicate, nat_eq, if◌then◌else◌}
 use Rattle.std.proofs.lemmas.List.{length-replicate}
 use mathlib.Core.Bool.{true≢false}
+use Rattle.occ_term.specs.declared.fault.Errors.TheVariants as on_fault
 use Rattle.occ_term.specs.declared.fault.Errors.{Errors}
 use Rattle.occ_term.specs.declared.fault.Errors.TheVariants.{Halt, Stop}
 use Rattle.occ_term.specs.declared.fault.Fault.{Fault}
@@ -16,6 +17,7 @@ use Rattle.occ_term.specs.Runs.{main_ended, still_by, EndsBy, by_fault, by_end, 
 use Rattle.occ_term.specs.StepUses.{IsPartOf, uses_of_left}
 use Rattle.occ_term.specs.Steps.{Do, Left, left, status, is_ended}
 use Rattle.occ_term.specs.System.{Process, process, Processes, no_processes, System, system, start, MayGo}
+use Rattle.occ_term.specs.System as S
 use Rattle.occ_term.specs.TermTyping.{Declared, TermHas}
 use Rattle.occ_term.specs.Terms.{Term}
 use Rattle.occ_term.specs.UnfoldedProgram.{NumberedFrom}
@@ -29,7 +31,7 @@ use Rattle.occ_machine.specs.Machine.{Body}
 use Rattle.occ_machine.specs.declared.task.Task.{Task}
 use Rattle.occ_machine.specs.declared.task.Wait.{Wait}
 use Rattle.occ_net_replay.specs.Following.{AreBytes, or_limit}
-use Rattle.occ_net_replay.specs.Replay.{Net, Tasks, HasTask, first_task, first_net, at_start, none_begun, may_go, ready_from, is_done, ended, main_done, ending_by, ending_of, first_noted, standing_by, stopped_by}
+use Rattle.occ_net_replay.specs.Replay.{Net, Tasks, HasTask, first_task, first_net, first_tasks, none_begun, may_go, ready_from, is_done, ended, main_done, ending_by, ending_of, first_noted, standing_by, stopped_by}
 use Rattle.occ_net_replay.specs.Moments.{At, Among, first, later, here, below}
 use Rattle.occ_net_replay.proofs.Holding.{number_of, Belongs, Stands, may_turn, Own, Holds}
 use Rattle.occ_net_replay.proofs.Merging.{done_stands}
@@ -66,7 +68,7 @@ zero_of_declared (Some t) = zero_of t
 abbrev main_task : Body → Task
 main_task b = first_task 0 0 (zero_frame b.cells b.loops)
 
-main_there : (bs : List Body) (b : Body) → slice_get bs 0 ≡ Some b → HasTask (at_start bs) 0 (main_task b)
+main_there : (bs : List Body) (b : Body) → slice_get bs 0 ≡ Some b → HasTask (first_tasks bs) 0 (main_task b)
 main_there [] b e = absurd cc
 main_there (x ∷ bs) b e = let same : x ≡ b = cc in ap (λ z. Some (Some (main_task z))) same
 
@@ -75,7 +77,7 @@ none_there [] i t e = cc
 none_there (b ∷ bs) zero t e = cc
 none_there (b ∷ bs) (suc i) t e = none_there bs i t e
 
-main_alone : (bs : List Body) (b : Body) → slice_get bs 0 ≡ Some b → (i : ℕ) (t : Task) → HasTask (at_start bs) i t → (i ≡ 0) × (t ≡ main_task b)
+main_alone : (bs : List Body) (b : Body) → slice_get bs 0 ≡ Some b → (i : ℕ) (t : Task) → HasTask (first_tasks bs) i t → (i ≡ 0) × (t ≡ main_task b)
 main_alone [] b e i t h = absurd cc
 main_alone (x ∷ bs) b e zero t h = let same : x ≡ b = cc in let one : main_task x ≡ t = cc in (refl, sym one ∙ ap main_task same)
 main_alone (x ∷ bs) b e (suc i) t h = absurd (none_there bs i t h)
@@ -85,7 +87,7 @@ none_full [] i b e = absurd cc
 none_full (x ∷ bs) zero b e = record { entry = None; is = refl }
 none_full (x ∷ bs) (suc i) b e = let y = none_full bs i b e in record { entry = y.entry; is = y.is }
 
-start_full : (bs : List Body) (i : ℕ) (b : Body) → slice_get bs i ≡ Some b → IsThere (at_start bs) i
+start_full : (bs : List Body) (i : ℕ) (b : Body) → slice_get bs i ≡ Some b → IsThere (first_tasks bs) i
 start_full [] i b e = absurd cc
 start_full (x ∷ bs) zero b e = record { entry = Some (main_task x); is = refl }
 start_full (x ∷ bs) (suc i) b e = let y = none_full bs i b e in record { entry = y.entry; is = y.is }
@@ -121,16 +123,16 @@ module _ (d : Declared) (p : Program) (procs : List Numbered) (protocol : d.prot
       task : Task
       task = main_task b.body
 
-      ready : (i : ℕ) (u : Task) → HasTask (at_start p.bodies) i u → IsTrue (may_go u.wait)
+      ready : (i : ℕ) (u : Task) → HasTask (first_tasks p.bodies) i u → IsTrue (may_go u.wait)
       ready i u h = ap (λ z. may_go z.wait) (main_alone p.bodies b.body b.code i u h).1
 
-      waits_not : (i : ℕ) (u : Task) → HasTask (at_start p.bodies) i u → (w : Wait) → u.wait ≡ w → may_go w ≡ false → ⊥
+      waits_not : (i : ℕ) (u : Task) → HasTask (first_tasks p.bodies) i u → (w : Wait) → u.wait ≡ w → may_go w ≡ false → ⊥
       waits_not i u h w e f = true≢false (sym (ready i u h) ∙ ap may_go e ∙ f)
 
       is_first : IsFirst b.body (main_task b.body)
       is_first = record { place = refl; wait = refl; frame = record { cells_are = refl; values_for_all = length-replicate (length b.body.cells) (pos 0) }; none_left = refl }
 
-      own : Own d p procs k (λ c. pos 0) (at_start p.bodies) 0 (left (Do t) []) no_processes
+      own : Own d p procs k (λ c. pos 0) (first_tasks p.bodies) 0 (left (Do t) []) no_processes
       own =
           record {
             belongs = b;
@@ -204,8 +206,8 @@ module _ (d : Declared) (p : Program) (procs : List Numbered) (protocol : d.prot
 
     ends_by : (errors : Errors) (noted : List Fault) → f.noted ≡ noted → EndsBy errors whole ((or_limit (ending_by errors (first_noted noted) (main_done net.tasks) (ready_from 0 net.tasks))))
     ends_by Halt (e ∷ es) q = by_fault refl q
-    ends_by Halt [] q = subst (λ z. EndsBy Halt whole ((or_limit (standing_by (first_noted z) (main_done net.tasks) (ready_from 0 net.tasks))))) q (stands_by Halt q (main_done net.tasks) refl (ready_from 0 net.tasks) refl)
-    ends_by Stop noted q = subst (λ z. EndsBy Stop whole ((or_limit (standing_by (first_noted z) (main_done net.tasks) (ready_from 0 net.tasks))))) q (stands_by Stop tt (main_done net.tasks) refl (ready_from 0 net.tasks) refl)
+    ends_by Halt [] q = subst (λ z. EndsBy on_fault.Halt whole ((or_limit (standing_by (first_noted z) (main_done net.tasks) (ready_from 0 net.tasks))))) q (stands_by on_fault.Halt q (main_done net.tasks) refl (ready_from 0 net.tasks) refl)
+    ends_by Stop noted q = subst (λ z. EndsBy on_fault.Stop whole ((or_limit (standing_by (first_noted z) (main_done net.tasks) (ready_from 0 net.tasks))))) q (stands_by on_fault.Stop tt (main_done net.tasks) refl (ready_from 0 net.tasks) refl)
 
     pub ends_as : EndsBy p.errors sys (or_limit (ending_of p.errors net))
     ends_as = subst (λ z. EndsBy p.errors z (or_limit (ending_of p.errors net))) (sym f.is) (ends_by p.errors net.noted f.faults)

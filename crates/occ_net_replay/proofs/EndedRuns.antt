@@ -13,7 +13,7 @@ use Rattle.occ_term.specs.System.{Process, process, Processes, no_processes, and
 use Rattle.occ_term.specs.Terms.{Term, Branches, no_branches, and_branch}
 use Rattle.occ_term.specs.Turns.{none, more, SingleTurn, single_turn, Turn, stops, passes}
 use Rattle.occ_term.specs.Values.{Store}
-use Rattle.occ_net_replay.specs.Moments.{main_in}
+use Rattle.occ_net_replay.specs.Moments.{main_process}
 
 -- ---- what every system of a run keeps
 
@@ -41,8 +41,8 @@ mutual
     later : {p : Process} {ps : Processes} → FailsAmong ps → FailsAmong (and_process p ps)
 
 record Keeps (a : System) : Type 0 where
-  pub forks : AtForks (main_in a)
-  pub fails : (noted_in a ≡ []) ⊎ Fails (main_in a)
+  pub forks : AtForks (main_process a)
+  pub fails : (noted_in a ≡ []) ⊎ Fails (main_process a)
 
 -- ---- turns
 

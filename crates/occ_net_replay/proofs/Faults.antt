@@ -18,7 +18,7 @@ use Rattle.occ_machine.specs.Machine.{Body}
 use Rattle.occ_machine.specs.declared.task.Task.{Task}
 use Rattle.occ_machine.specs.declared.task.Wait.{Wait}
 use Rattle.occ_machine.specs.declared.task.Wait.TheVariants as W
-use Rattle.occ_net_replay.specs.Replay.{Net, HasTask, may_go, made_ready, noted_at, task_gives, keyboard_gives, Gets, task_gets, arm_gets, screen_gets, error_gets, Joined, joined}
+use Rattle.occ_net_replay.specs.Replay.{Net, HasTask, may_go, made_ready, noted_at, task_gives, keyboard_gives, Gets, task_gets, arm_gets, screen_gets, error_gets, PassesOn, joined}
 use Rattle.occ_net_replay.proofs.Holding.{Stands, may_turn, may_join, offers, awaits, chooses, waits, is_halted, has_failed, has_ended}
 use Rattle.occ_net_replay.proofs.Quiet.{is_calm}
 use Rattle.occ_net_replay.proofs.Tables.{set_back, task_once}
@@ -76,7 +76,7 @@ module _ (a : Net) (n : ℕ) (t : Task) (there : HasTask a.tasks n t) where
   gets_alone q (error_gets i) e = absurd cc
 
   -- a process that takes part waits for it
-  pub part_waits : {pick : ℕ} {x : Communication} {b : Net} → Joined pick a x b → TakesPart n x → IsFalse (is_calm t.wait)
+  pub part_waits : {pick : ℕ} {x : Communication} {b : Net} → PassesOn pick a x b → TakesPart n x → IsFalse (is_calm t.wait)
   part_waits (joined (task_gives {n = z} {t = u} h w) g) (inl e) = uncalm u _ (subst (λ r. HasTask a.tasks r u) (number_is e) h) w refl
   part_waits (joined (keyboard_gives q r f) g) (inl e) = absurd cc
   part_waits (joined (task_gives {n = z} {t = u} h w) g) (inr e) = gets_part z u h refl g e

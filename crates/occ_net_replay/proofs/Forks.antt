@@ -20,7 +20,7 @@ use Rattle.occ_machine.specs.Alike.{Alike, IsFirst}
 use Rattle.occ_machine.specs.Compiled.{Program}
 use Rattle.occ_machine.specs.Machine.{Body}
 use Rattle.occ_machine.specs.declared.task.Task.{Task}
-use Rattle.occ_net_replay.specs.Replay.{Tasks, HasTask, may_go, first_task, turns_of, turns_at, copied, branch_task, with_branches}
+use Rattle.occ_net_replay.specs.Replay.{Tasks, HasTask, may_go, first_task, turns_of, turns_at, branch_frame, branch_task, with_branches}
 use Rattle.occ_net_replay.specs.Moments.{first, later, here}
 use Rattle.occ_net_replay.proofs.Holding.{SameNumbers, Belongs, may_turn, Own, AllHold, one_term, placed_order, used_part, held_used}
 use Rattle.occ_net_replay.proofs.Placed.{size, Placed, BranchesPlaced, LeftPlaced}
@@ -46,10 +46,10 @@ module _ (d : Declared) (p : Program) (procs : List Numbered) (belongs_at : (n :
   term_at n t e = one_term (sym (belongs_at n t e).entry ∙ e)
 
   abbrev the_task : (n : ℕ) (t : Term) (e : slice_get procs n ≡ Some (numbered n t)) → Tasks → Task
-  the_task n t e tasks = first_task n (turns_at tasks n) (copied (belongs_at n t e).body f)
+  the_task n t e tasks = first_task n (turns_at tasks n) (branch_frame (belongs_at n t e).body f)
 
   task_is : (n : ℕ) (t : Term) (e : slice_get procs n ≡ Some (numbered n t)) (tasks : Tasks) → branch_task p.bodies f tasks n ≡ Some (the_task n t e tasks)
-  task_is n t e tasks = ap (option_map (λ b. first_task n (turns_at tasks n) (copied b f))) (belongs_at n t e).code
+  task_is n t e tasks = ap (option_map (λ b. first_task n (turns_at tasks n) (branch_frame b f))) (belongs_at n t e).code
 
   -- tasks of other numbers stay
   pub outside : (bs : Branches) (lo hi : ℕ) → BranchesPlaced procs lo hi bs → (tasks : Tasks) (i : ℕ) → (i < lo) ⊎ (hi ≤ i) → slice_get (with_branches p.bodies f (numbers_of bs) tasks) i ≡ slice_get tasks i
@@ -141,7 +141,7 @@ module _ (d : Declared) (p : Program) (procs : List Numbered) (belongs_at : (n :
     branch_own n t e tasks new there small typed placed held =
         let b = belongs_at n t e in
         let same : b.term ≡ t = term_at n t e in
-        let task : Task = first_task n (turns_at tasks n) (copied b.body f) in
+        let task : Task = first_task n (turns_at tasks n) (branch_frame b.body f) in
         let long : length (map (at f) b.body.cells) ≡ length b.body.cells = length-map b.body.cells (at f) in
         let is_first : IsFirst b.body task = record { place = refl; wait = refl; frame = record { cells_are = refl; values_for_all = long }; none_left = refl } in
         let whole = uses_of b.term in

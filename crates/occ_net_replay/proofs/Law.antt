@@ -20,7 +20,7 @@ use Rattle.occ_machine.specs.declared.task.Wait.TheVariants.{Joins}
 use Rattle.occ_net_replay.specs.declared.choice.Choice.{Choice}
 use Rattle.occ_net_replay.specs.Following.{AreBytes, Followed, NotedNeverEnd, OneNeverForks, ReplaysAreRuns, ReadyTasksStop, or_limit, process_in}
 use Rattle.occ_net_replay.specs.Replay.{Net, HasTask, OneTurn, ending_of, may_go, Replays, begins, first_net, goes_on as replays_on}
-use Rattle.occ_net_replay.specs.Moments.{StandAlike, IsMoment, Accompanies, OneFurther, OneRunForAll, OneRunThroughout, RunsOfAll, at_start, after_turn, keyboard_in, main_in}
+use Rattle.occ_net_replay.specs.Moments.{StandAlike, IsMoment, Accompanies, OneFurther, OneRunForAll, OneRunThroughout, RunsOfAll, at_start, after_turn, keyboard_in, main_process}
 use Rattle.occ_net_replay.proofs.Moments.{stand_alike}
 use Rattle.occ_net_replay.proofs.Beginning.{first_follows, ends_as}
 use Rattle.occ_net_replay.proofs.EndedRuns.{ended_clean}
@@ -128,7 +128,7 @@ module _ (u : UnfoldedProgram) (p : Program) (quantum : ℕ) (kb : List ℕ) (w 
   is_moment : (k : ℕ) (net : Net) (x : AllFollowed k net) → IsMoment p net x.now
   is_moment k net x =
       record {
-        alike = subst (λ z. StandAlike net.tasks (main_in z)) (sym x.follows.is) (stand_alike d p procs k net.tasks x.follows.proc x.follows.store x.follows.state);
+        alike = subst (λ z. StandAlike net.tasks (main_process z)) (sym x.follows.is) (stand_alike d p procs k net.tasks x.follows.proc x.follows.store x.follows.state);
         shares = shares_store d p procs (keyboard_protocol u w) quantum belongs k net x.now x.follows;
         keyboard = ap keyboard_in x.follows.is;
         noted = ap noted_in x.follows.is ∙ x.follows.faults;

@@ -19,7 +19,7 @@ use Rattle.occ_machine.specs.declared.task.Wait.TheVariants as W
 use Rattle.occ_net_replay.specs.declared.choice.Choice.{Choice}
 use Rattle.occ_net_replay.specs.Following.{AreBytes}
 use Rattle.occ_net_replay.specs.OneReplay.{OneReplay}
-use Rattle.occ_net_replay.specs.Replay.{Net, Tasks, HasTask, made_ready, has_taken, took_arm, byte_message, took_turn, with_task, with_branches, standing, arm_chosen, Gives, task_gives, keyboard_gives, Gets, task_gets, arm_gets, screen_gets, error_gets, joined, traced, one_more, is_done, merged, Happens, meets, skips, forks, joins, Settled, settles, stays, OneTurn, Replays, begins, goes_on, ending_of}
+use Rattle.occ_net_replay.specs.Replay.{Net, Tasks, HasTask, made_ready, has_taken, took_arm, byte_message, took_turn, with_task, with_branches, standing, arm_chosen, HandsOver, task_gives, keyboard_gives, Gets, task_gets, arm_gets, screen_gets, error_gets, joined, traced, one_more, is_done, merged, Happens, meets, skips, forks, joins, Settled, settles, stays, OneTurn, Replays, begins, goes_on, ending_of}
 use Rattle.occ_net_replay.specs.Waiting.{IsReplay}
 use Rattle.occ_net_replay.proofs.Law.{all_followed, d, procs}
 use Rattle.occ_net_replay.proofs.OneStop.{stopping_once}
@@ -62,7 +62,7 @@ one_some : {X : Type 0} {x y : X} → Some x ≡ Some y → x ≡ y
 one_some q = cc
 
 module _ (old : Tasks) (orders : Orderly old) where
-  same_gift : (a : Net) (c : ℕ) {m v : Message} {x y : End} {b e : Net} → ((i : ℕ) → Speaks a.tasks c i → Speaks old c i) → Gives c m x a b → Gives c v y a e → SameGift m v x y b e
+  same_gift : (a : Net) (c : ℕ) {m v : Message} {x y : End} {b e : Net} → ((i : ℕ) → Speaks a.tasks c i → Speaks old c i) → HandsOver c m x a b → HandsOver c v y a e → SameGift m v x y b e
   same_gift a c {m = m} {v = v} was (task_gives {n = i} {t = t} h w) (task_gives {n = j} {t = u} g z) =
       let at : i ≡ j = orders.one_speaks c i j (was i (record { task = t; message = m; there = h; says = w })) (was j (record { task = u; message = v; there = g; says = z })) in
       let same : t ≡ u = task_once a.tasks j (subst (λ l. HasTask a.tasks l t) at h) g in
@@ -133,9 +133,9 @@ module _ (old : Tasks) (orders : Orderly old) where
 module _ (bodies : List Body) (n pick : ℕ) (now : Net) (after : Task) (mine : HasTask now.tasks n after) where
   data Happened : Wait → Net → Type 0 where
     sent : {c : ℕ} {m : Message} {y : End} {e : Net} → Gets pick (standing now) c m y (gave now c n after m) e → Happened (W.Offers c m) (traced e (communication c (OfProcess n) y m))
-    heard : {c : ℕ} {m : Message} {x : End} {b : Net} → Gives c m x now b → Happened (W.Awaits c) (traced (got b c n (has_taken after m) m) (communication c x (OfProcess n) m))
+    heard : {c : ℕ} {m : Message} {x : End} {b : Net} → HandsOver c m x now b → Happened (W.Awaits c) (traced (got b c n (has_taken after m) m) (communication c x (OfProcess n) m))
     chose : {pri : Bool} {arms : List Arm} {arm : Arm} {c : ℕ} {m : Message} {x : End} {b : Net}
-        → arm_chosen pri pick (standing now) arms ≡ Some arm → arm.chan ≡ Some c → Gives c m x now b
+        → arm_chosen pri pick (standing now) arms ≡ Some arm → arm.chan ≡ Some c → HandsOver c m x now b
         → Happened (W.Chooses pri arms) (traced (got b c n (took_arm after arm (Some m)) m) (communication c x (OfProcess n) m))
     skipped : {pri : Bool} {arms : List Arm} {arm : Arm}
         → arm_chosen pri pick (standing now) arms ≡ Some arm → arm.chan ≡ None → Happened (W.Chooses pri arms) (with_task now n (took_arm after arm None))
@@ -144,7 +144,7 @@ module _ (bodies : List Body) (n pick : ℕ) (now : Net) (after : Task) (mine : 
         → HasTask now.tasks i t → t.wait ≡ W.Joins ns → IsTrue (is_held ns n) → Happened W.Done (with_task now i (joined_with t (merged bodies now.tasks ns t.frame)))
 
   -- a task that took no part in the output
-  given_back : {c : ℕ} {m : Message} {x : End} {b : Net} → (i : ℕ) (v : Task) → Gives c m x now b → HasTask b.tasks i v → (v.wait ≡ W.Ready → ⊥) → HasTask now.tasks i v
+  given_back : {c : ℕ} {m : Message} {x : End} {b : Net} → (i : ℕ) (v : Task) → HandsOver c m x now b → HasTask b.tasks i v → (v.wait ≡ W.Ready → ⊥) → HasTask now.tasks i v
   given_back i v (task_gives {n = z} {t = u} h w) g waits = by (set_back now.tasks z i h g)
     where
       by : ((i ≡ z) × (v ≡ made_ready u)) ⊎ ((i ≡ z → ⊥) × HasTask now.tasks i v) → HasTask now.tasks i v
@@ -152,7 +152,7 @@ module _ (bodies : List Body) (n pick : ℕ) (now : Net) (after : Task) (mine : 
       by (inr e) = e.1
   given_back i v (keyboard_gives e z q) g waits = g
 
-  sends : {c : ℕ} {m : Message} {x y : End} {b e : Net} → x ≡ OfProcess n → Gives c m x now b → Gets pick (standing now) c m y b e → Happened after.wait (traced e (communication c x y m))
+  sends : {c : ℕ} {m : Message} {x y : End} {b e : Net} → x ≡ OfProcess n → HandsOver c m x now b → Gets pick (standing now) c m y b e → Happened after.wait (traced e (communication c x y m))
   sends {c = c} {m = m} {y = y} {e = e} q (task_gives {n = i} {t = t} h w) g =
       let at : i ≡ n = one_number q in
       let same : t ≡ after = task_once now.tasks n (subst (λ l. HasTask now.tasks l t) at h) mine in
@@ -164,7 +164,7 @@ module _ (bodies : List Body) (n pick : ℕ) (now : Net) (after : Task) (mine : 
       (subst (λ l. Happened l (traced e (communication c (OfProcess n) y m))) (sym waits) (sent to))
   sends q (keyboard_gives h z r) g = absurd cc
 
-  takes : {c : ℕ} {m : Message} {x y : End} {b e : Net} → y ≡ OfProcess n → Gives c m x now b → Gets pick (standing now) c m y b e → Happened after.wait (traced e (communication c x y m))
+  takes : {c : ℕ} {m : Message} {x y : End} {b e : Net} → y ≡ OfProcess n → HandsOver c m x now b → Gets pick (standing now) c m y b e → Happened after.wait (traced e (communication c x y m))
   takes {c = c} {m = m} {x = x} {b = b} q g (task_gets {n = i} {t = t} h w) =
       let at : i ≡ n = one_number q in
       let there : HasTask now.tasks n t = given_back n t g (subst (λ l. HasTask b.tasks l t) at h) (λ e. let r = sym w ∙ e in cc) in
@@ -236,7 +236,7 @@ module _ (bodies : List Body) (n pick : ℕ) (now : Net) (after : Task) (mine : 
     one_happened w q (chose {pri = pri} {arms = arms} {arm = arm} {c = c} {m = m} {x = x} {b = b} r f g) (chose {arm = other_arm} {c = o} {m = v} {x = y} {b = e} k j h) =
         let same : arm ≡ other_arm = one_some (sym r ∙ k) in
         let on : o ≡ c = one_some (sym j ∙ ap (λ l. l.chan) (sym same) ∙ f) in
-        let s = same_gift old orders now c (λ i z. speaks c i (λ l t. let k' = sym q ∙ t in cc) z) g (subst (λ l. Gives l v y now e) on h) in
+        let s = same_gift old orders now c (λ i z. speaks c i (λ l t. let k' = sym q ∙ t in cc) z) g (subst (λ l. HandsOver l v y now e) on h) in
         ap (λ l. traced (got l c n (took_arm after arm (Some m)) m) (communication c x (OfProcess n) m)) s.net
         ∙ ap (λ l. traced (got e c n (took_arm after arm (Some m)) m) (communication c l (OfProcess n) m)) s.end
         ∙ ap (λ l. traced (got e c n (took_arm after arm (Some l)) l) (communication c y (OfProcess n) l)) s.message

@@ -24,7 +24,7 @@ use Rattle.occ_machine.specs.declared.task.Task.{Task}
 use Rattle.occ_machine.specs.declared.task.Wait.{Wait}
 use Rattle.occ_machine.specs.declared.task.Wait.TheVariants as W
 use Rattle.occ_net_replay.specs.Following.{AreBytes}
-use Rattle.occ_net_replay.specs.Replay.{Net, Tasks, HasTask, may_go, made_ready, has_taken, took_arm, byte_message, took_turn, with_task, standing, arm_chosen, task_gives, keyboard_gives, Gets, task_gets, arm_gets, screen_gets, error_gets, Joined, joined, traced, one_more, noted_at, is_done, AreDone, merged, Happens, meets, skips, forks, joins, Settled, settles, stays}
+use Rattle.occ_net_replay.specs.Replay.{Net, Tasks, HasTask, may_go, made_ready, has_taken, took_arm, byte_message, took_turn, with_task, standing, arm_chosen, task_gives, keyboard_gives, Gets, task_gets, arm_gets, screen_gets, error_gets, PassesOn, joined, traced, one_more, noted_at, is_done, AreDone, merged, Happens, meets, skips, forks, joins, Settled, settles, stays}
 use Rattle.occ_net_replay.specs.Moments.{Quiet}
 use Rattle.occ_net_replay.proofs.Faults.{uncalm_no_fault, part_waits}
 use Rattle.occ_net_replay.proofs.Holding.{Stands, branches_placed}
@@ -425,7 +425,7 @@ module _ (d : Declared) (p : Program) (procs : List Numbered) (protocol : d.prot
 
     -- ---- what happens
 
-    joined_next : {x : Communication} {next : Net} → Joined pick now x next → TakesPart n x → MayGo p.errors noted → Next k n net next sys
+    joined_next : {x : Communication} {next : Net} → PassesOn pick now x next → TakesPart n x → MayGo p.errors noted → Next k n net next sys
     joined_next (joined {c = c} {m = m} {y = y} {b = b} {d = e} (task_gives {n = z} {t = u} hz wz) g) part again = given_to again z c u m hz wz y b e refl g part
     joined_next (joined {c = c} {m = m} {y = y} {b = a} {d = e} (keyboard_gives {b = b} {kb = kb} q z r) g) part again = byte_to again c b kb m q z r y a e refl g part
 

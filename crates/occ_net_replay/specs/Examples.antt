@@ -19,7 +19,7 @@ use Rattle.occ_machine.specs.declared.task.Task.{Task}
 use Rattle.occ_machine.specs.declared.task.Wait.{Wait}
 use Rattle.occ_machine.specs.declared.task.Wait.TheVariants.{Ready, Took, Offers, Awaits, Chooses, Joins, Halted, Done, Faulted}
 use Rattle.occ_term.specs.declared.ending.Ending.TheVariants as ending
-use Rattle.occ_net_replay.specs.Replay.{Net, Tasks, Settled, byte_message, ending_of, ready_from, selected, took_turn}
+use Rattle.occ_net_replay.specs.Replay.{Net, Tasks, Settled, byte_message, ending_of, ready_from, selected_process, took_turn}
 use Rattle.occ_net_replay.specs.Waiting.{channels_at, listens_on}
 
 -- ---- tasks and networks
@@ -64,10 +64,10 @@ five = task 0 (Joins (1 ∷ 2 ∷ 3 ∷ 4 ∷ [])) ∷ task 1 Ready ∷ task 2 (
 
 abbrev pub TurnRows : Type 0
 TurnRows =
-    (selected (ready_from 0 five) 0 ≡ Some 1)
-    × (selected (ready_from 0 five) 1 ≡ Some 3)
-    × (selected (ready_from 0 five) 2 ≡ Some 1)
-    × (selected (ready_from 0 five) 4294967295 ≡ Some 3)
+    (selected_process (ready_from 0 five) 0 ≡ Some 1)
+    × (selected_process (ready_from 0 five) 1 ≡ Some 3)
+    × (selected_process (ready_from 0 five) 2 ≡ Some 1)
+    × (selected_process (ready_from 0 five) 4294967295 ≡ Some 3)
 
 -- ---- c ! 7 beside c ? x, whichever comes second; an offer that nobody awaits; the keyboard and the screen
 

@@ -34,8 +34,8 @@ mutual
     first : {p : Process} {qs : Processes} → At n own ps p → Among n own ps (and_process p qs)
     later : {p : Process} {qs : Processes} → Among n own ps qs → Among n own ps (and_process p qs)
 
-abbrev pub main_in : System → Process
-main_in (system kb p s noted) = p
+abbrev pub main_process : System → Process
+main_process (system kb p s noted) = p
 
 -- the bytes that are left of the keyboard
 abbrev pub keyboard_in : System → List ℕ
@@ -92,7 +92,7 @@ pub record Quiet (net : Net) : Type 0 where
 -- The system has the replay's processes at its stops, its one store is what their frames share, the same bytes are left of the
 -- keyboard and the same faults noted, and nothing is possible that needs no turn.
 pub record IsMoment (p : Program) (net : Net) (now : System) : Type 0 where
-  pub alike : StandAlike net.tasks (main_in now)
+  pub alike : StandAlike net.tasks (main_process now)
   pub shares : SharesStore p net now
   pub keyboard : keyboard_in now ≡ net.keyboard
   pub noted : noted_in now ≡ net.noted
@@ -145,15 +145,15 @@ OneRunForAll =
     → IsWellFormed u → Lawful u → IsCompiledFrom u quantum p → AreBytes keyboard → RunsOfAll u p quantum keyboard
 
 -- what a process goes on with in a turn: its own part, or behind its branches, which have all ended
-pub data GoesOn : Left → Processes → Type 0 where
-  is_going : {x : Doing} {k : List Context} → IsGoing x → GoesOn (left x k) no_processes
-  is_joining : {bs : Branches} {k : List Context} {ps : Processes} → AllEnded ps → GoesOn (left (Forking bs) k) ps
+pub data GoesOnWith : Left → Processes → Type 0 where
+  is_going : {x : Doing} {k : List Context} → IsGoing x → GoesOnWith (left x k) no_processes
+  is_joining : {bs : Branches} {k : List Context} {ps : Processes} → AllEnded ps → GoesOnWith (left (Forking bs) k) ps
 
 -- a process that the replay may select is one that goes on in the run
 abbrev pub ReadyGoOn : Type 0
 ReadyGoOn =
     (p : Program) (net : Net) (now : System) (n : ℕ) (t : Task)
-    → IsMoment p net now → HasTask net.tasks n t → IsTrue (may_go t.wait) → (own : Left) × (ps : Processes) × At n own ps (main_in now) × GoesOn own ps
+    → IsMoment p net now → HasTask net.tasks n t → IsTrue (may_go t.wait) → (own : Left) × (ps : Processes) × At n own ps (main_process now) × GoesOnWith own ps
 
 -- what a run has come to by the first of some choices; the turns since are `later`, and lead from there to where the run is now
 pub record EarlierMoment (u : UnfoldedProgram) (p : Program) (quantum : ℕ) (keyboard : List ℕ) (first since : List Choice) (events : List Event) (now : System) : Type 0 where

@@ -63,12 +63,12 @@ none_begun [] = []
 none_begun (b ∷ bs) = None ∷ none_begun bs
 
 -- process 0 begins, alone
-abbrev pub at_start : List Body → Tasks
-at_start [] = []
-at_start (b ∷ bs) = Some (first_task 0 0 (zero_frame b.cells b.loops)) ∷ none_begun bs
+abbrev pub first_tasks : List Body → Tasks
+first_tasks [] = []
+first_tasks (b ∷ bs) = Some (first_task 0 0 (zero_frame b.cells b.loops)) ∷ none_begun bs
 
 abbrev pub first_net : Program → List ℕ → Net
-first_net p keyboard = record { tasks = at_start p.bodies; keyboard = keyboard; output = λ c. []; input = λ c. []; trace = []; turns = []; noted = [] }
+first_net p keyboard = record { tasks = first_tasks p.bodies; keyboard = keyboard; output = λ c. []; input = λ c. []; trace = []; turns = []; noted = [] }
 
 -- ---- who may take a turn
 
@@ -93,8 +93,8 @@ ready_from n [] = []
 ready_from n (t ∷ ts) = if goes t then n ∷ ready_from (n + 1) ts else ready_from (n + 1) ts
 
 -- `which` counts modulo the ready processes
-abbrev pub selected : List ℕ → ℕ → Option ℕ
-selected ready which = slice_get ready (which % length ready)
+abbrev pub selected_process : List ℕ → ℕ → Option ℕ
+selected_process ready which = slice_get ready (which % length ready)
 
 -- the fault that a turn ends with, if any
 abbrev pub noted_at : Wait → List Fault
@@ -157,12 +157,12 @@ abbrev pub arm_chosen : Bool → ℕ → (ℕ → Bool) → List Arm → Option 
 arm_chosen pri pick offers arms = chosen_of (λ a. a.chan) pri pick offers arms
 
 -- an end whose output of this message completes
-pub data Gives (c : ℕ) (m : Message) : End → Net → Net → Type 0 where
+pub data HandsOver (c : ℕ) (m : Message) : End → Net → Net → Type 0 where
   task_gives : {n : ℕ} {t : Task} {net : Net}
       → HasTask net.tasks n t → t.wait ≡ Offers c m
-      → Gives c m (OfProcess n) net (record (with_task net n (made_ready t)) { output = one_more net.output c m })
+      → HandsOver c m (OfProcess n) net (record (with_task net n (made_ready t)) { output = one_more net.output c m })
   keyboard_gives : {b : ℕ} {kb : List ℕ} {net : Net}
-      → net.keyboard ≡ b ∷ kb → c ≡ 0 → m ≡ byte_message b → Gives c m Keyboard net (record net { keyboard = kb; output = one_more net.output c m })
+      → net.keyboard ≡ b ∷ kb → c ≡ 0 → m ≡ byte_message b → HandsOver c m Keyboard net (record net { keyboard = kb; output = one_more net.output c m })
 
 -- an end that takes it; `offers` are those that stood before
 pub data Gets (pick : ℕ) (offers : ℕ → Bool) (c : ℕ) (m : Message) : End → Net → Net → Type 0 where
@@ -179,9 +179,9 @@ abbrev pub traced : Net → Communication → Net
 traced net x = record net { trace = net.trace ++ x ∷ [] }
 
 -- an offer and an end that takes its message are joined
-pub data Joined (pick : ℕ) : Net → Communication → Net → Type 0 where
+pub data PassesOn (pick : ℕ) : Net → Communication → Net → Type 0 where
   joined : {c : ℕ} {m : Message} {x y : End} {a b d : Net}
-      → Gives c m x a b → Gets pick (standing a) c m y b d → Joined pick a (communication c x y m) (traced d (communication c x y m))
+      → HandsOver c m x a b → Gets pick (standing a) c m y b d → PassesOn pick a (communication c x y m) (traced d (communication c x y m))
 
 -- ---- forks and joins
 
@@ -194,11 +194,11 @@ abbrev pub turns_at : Tasks → ℕ → ℕ
 turns_at tasks n = option_map_or turns_of (slice_get tasks n) 0
 
 -- a body's cells, with the values that these variables have
-abbrev pub copied : Body → Variables → Variables
-copied b f = record { cells = b.cells; values = map (at f) b.cells; left = replicate b.loops 0 }
+abbrev pub branch_frame : Body → Variables → Variables
+branch_frame b f = record { cells = b.cells; values = map (at f) b.cells; left = replicate b.loops 0 }
 
 abbrev pub branch_task : List Body → Variables → Tasks → ℕ → Option Task
-branch_task bodies f tasks n = option_map (λ b. first_task n (turns_at tasks n) (copied b f)) (slice_get bodies n)
+branch_task bodies f tasks n = option_map (λ b. first_task n (turns_at tasks n) (branch_frame b f)) (slice_get bodies n)
 
 -- the branches with these numbers begin, each with a copy of the cells that it uses
 abbrev pub with_branches : List Body → Variables → List ℕ → Tasks → Tasks
@@ -243,7 +243,7 @@ AreDone tasks (n ∷ ns) = IsTrue (option_map_or ended (slice_get tasks n) false
 -- ---- what happens at once after a turn of the process n
 
 pub data Happens (bodies : List Body) (n pick : ℕ) : Net → Net → Type 0 where
-  meets : {x : Communication} {a b : Net} → TakesPart n x → Joined pick a x b → Happens bodies n pick a b
+  meets : {x : Communication} {a b : Net} → TakesPart n x → PassesOn pick a x b → Happens bodies n pick a b
   skips : {t : Task} {pri : Bool} {arms : List Arm} {arm : Arm} {a : Net}
       → HasTask a.tasks n t → t.wait ≡ Chooses pri arms → arm_chosen pri pick (standing a) arms ≡ Some arm → arm.chan ≡ None
       → Happens bodies n pick a (with_task a n (took_arm t arm None))
@@ -294,7 +294,7 @@ pub record OneTurn (p : Program) (c : Choice) (a b : Net) : Type 0 where
   pub body : Body
   pub before : Task
   pub after : Task
-  pub selects : selected (ready_from 0 a.tasks) c.which ≡ Some number
+  pub selects : selected_process (ready_from 0 a.tasks) c.which ≡ Some number
   pub has_body : slice_get p.bodies number ≡ Some body
   pub has_task : HasTask a.tasks number before
   pub stops : Stopping body before after

@@ -17,7 +17,7 @@ use Rattle.occ_net_replay.specs.Replay.{Net, HasTask, Gets, task_gets, arm_gets,
 use Rattle.occ_net_replay.specs.Waiting.{listens_on}
 use Rattle.occ_net_replay.proofs.Arms.{held_ready}
 use Rattle.occ_net_replay.proofs.Tables.{Chosen, chosen_or_none, chosen_unready, or_else}
-use Rattle.occ_net_tables.specs.Choosing.{TakesBy, by_input, by_choice, input_arm, is_entry, is_named, keyboard_at, offered_by}
+use Rattle.occ_net_tables.specs.Choosing.{TakesBy, by_input, by_choice, input_arm, is_entry, is_same_number, keyboard_at, offered_by}
 use Rattle.occ_net_tables.specs.Settling.{TakesAlone}
 use Rattle.occ_net_tables.specs.Keys.{entry_in}
 use Rattle.occ_net_tables.proofs.OneChange.{get_some}
@@ -117,10 +117,10 @@ there [] n h = absurd (omega (arith, h))
 there (x ∷ kb) zero h = (x, kb, refl)
 there (x ∷ kb) (suc n) h = there kb n (omega (arith, h))
 
-pub byte_named : (kb : List ℕ) (used c : ℕ) → has_byte (drop used kb) c ≡ is_named (keyboard_at kb used) c
+pub byte_named : (kb : List ℕ) (used c : ℕ) → has_byte (drop used kb) c ≡ is_same_number (keyboard_at kb used) c
 byte_named kb used c = by (nat_lt used (length kb)) refl
   where
-    by : (b : Bool) → nat_lt used (length kb) ≡ b → has_byte (drop used kb) c ≡ is_named (if b then Some 0 else None) c
+    by : (b : Bool) → nat_lt used (length kb) ≡ b → has_byte (drop used kb) c ≡ is_same_number (if b then Some 0 else None) c
     by true e = let x = there kb used (ltb-true used (length kb) e) in ap (λ k. has_byte k c) x.2
     by false e = ap (λ k. has_byte k c) (past kb used (ltb-false used (length kb) e))
 

@@ -10,10 +10,10 @@ use Rattle.occ_machine.specs.Compiled.{Program}
 use Rattle.occ_machine.specs.Machine.{Body}
 use Rattle.occ_machine.specs.declared.task.Task.{Task}
 use Rattle.occ_machine.specs.declared.task.Wait.TheVariants as W
-use Rattle.occ_net_replay.specs.Replay.{Tasks, branch_task, copied, first_task, merged, taken_from, turns_at, turns_of, with_branches}
+use Rattle.occ_net_replay.specs.Replay.{Tasks, branch_task, branch_frame, first_task, merged, taken_from, turns_at, turns_of, with_branches}
 use Rattle.occ_net_replay.proofs.Tables.{set_other, or_else}
 use Rattle.occ_net_tables.specs.declared.tables.Tables.{Tables}
-use Rattle.occ_net_tables.specs.Settling.{IsFree, MayBegin, Began}
+use Rattle.occ_net_tables.specs.Settling.{IsFree, BranchesMayBegin, Began}
 use Rattle.occ_net_tables.proofs.Keys.{first_held, later_held, not_first, not_again, rising_rest}
 use Rattle.occ_net_tables.proofs.OneChange.{get_some, set_length, set_swap, set_within}
 
@@ -41,8 +41,8 @@ module _ (bodies : List Body) (f : Variables) where
     pub is : entry ≡ Some (Some task)
     pub ready : task.wait ≡ W.Ready
 
-  task_begun : (tasks : Tasks) (n : ℕ) → n < length bodies → (b : Body) × (branch_task bodies f tasks n ≡ Some (first_task n (turns_at tasks n) (copied b f)))
-  task_begun tasks n h = let b = get_some bodies n h in (b.0, ap (option_map (λ x. first_task n (turns_at tasks n) (copied x f))) b.1)
+  task_begun : (tasks : Tasks) (n : ℕ) → n < length bodies → (b : Body) × (branch_task bodies f tasks n ≡ Some (first_task n (turns_at tasks n) (branch_frame b f)))
+  task_begun tasks n h = let b = get_some bodies n h in (b.0, ap (option_map (λ x. first_task n (turns_at tasks n) (branch_frame x f))) b.1)
 
   pub branches_begun : (ns : List ℕ) (tasks : Tasks) (i : ℕ) → IsRising ns → IsTrue (is_held ns i) → ((j : ℕ) → IsTrue (is_held ns j) → j < length bodies) → length tasks ≡ length bodies → IsBegun (slice_get (with_branches bodies f ns tasks) i)
   branches_begun [] tasks i r h w l = absurd (true≢false (sym h))
@@ -56,7 +56,7 @@ module _ (bodies : List Body) (f : Variables) where
           let within = w n (first_held n ns) in
           let b = task_begun tasks n within in
           record {
-            task = first_task n (turns_at tasks n) (copied b.0 f);
+            task = first_task n (turns_at tasks n) (branch_frame b.0 f);
             is =
                 ap (slice_get (with_branches bodies f ns (slice_set tasks n (branch_task bodies f tasks n)))) (sym e) ∙ branches_other ns (slice_set tasks n (branch_task bodies f tasks n)) n (not_again n ns r)
                 ∙ set_within tasks n (branch_task bodies f tasks n) (omega (arith, within, l)) ∙ ap Some b.1;
@@ -72,7 +72,7 @@ module _ (bodies : List Body) (f : Variables) where
   branches_swap [] tasks m v h = refl
   branches_swap (n ∷ ns) tasks m v h =
       let x = not_first n m ns h in
-      let same : branch_task bodies f (slice_set tasks m v) n ≡ branch_task bodies f tasks n = ap (λ e. option_map (λ b. first_task n (option_map_or turns_of e 0) (copied b f)) (slice_get bodies n)) (set_other tasks m n v x.0) in
+      let same : branch_task bodies f (slice_set tasks m v) n ≡ branch_task bodies f tasks n = ap (λ e. option_map (λ b. first_task n (option_map_or turns_of e 0) (branch_frame b f)) (slice_get bodies n)) (set_other tasks m n v x.0) in
       ap (λ t. with_branches bodies f ns (slice_set (slice_set tasks m v) n t)) same ∙ ap (with_branches bodies f ns) (set_swap tasks m n v (branch_task bodies f tasks n) (λ e. x.0 (sym e)))
       ∙ branches_swap ns (slice_set tasks n (branch_task bodies f tasks n)) m v x.1
 
@@ -81,7 +81,7 @@ module _ (bodies : List Body) (f : Variables) where
 pub still_free : (tasks : Tasks) (n i : ℕ) (v : Option Task) → (i ≡ n → ⊥) → IsFree tasks i → IsFree (slice_set tasks n v) i
 still_free tasks n i v k x = record { entry = x.entry; is = set_other tasks n i v k ∙ x.is; still = x.still }
 
-pub may_begin_first : (p : Program) (old : Tables) (n : ℕ) (ns : List ℕ) → MayBegin p old (n ∷ ns) → MayBegin p old (n ∷ [])
+pub may_begin_first : (p : Program) (old : Tables) (n : ℕ) (ns : List ℕ) → BranchesMayBegin p old (n ∷ ns) → BranchesMayBegin p old (n ∷ [])
 may_begin_first p old n ns h =
     record {
       ready_is = h.ready_is;
@@ -97,7 +97,7 @@ may_begin_first p old n ns h =
         by (inl e) = subst (λ z. IsTrue (is_held (n ∷ ns) z)) (eqb-true n i e) (first_held n ns)
         by (inr e) = absurd (true≢false (sym e))
 
-pub may_begin_rest : (p : Program) (parent : ℕ) (f : Variables) (old new : Tables) (n : ℕ) (ns : List ℕ) → MayBegin p old (n ∷ ns) → Began p parent f old n new → MayBegin p new ns
+pub may_begin_rest : (p : Program) (parent : ℕ) (f : Variables) (old new : Tables) (n : ℕ) (ns : List ℕ) → BranchesMayBegin p old (n ∷ ns) → Began p parent f old n new → BranchesMayBegin p new ns
 may_begin_rest p parent f old new n ns h b =
     record {
       ready_is = b.ready_is;

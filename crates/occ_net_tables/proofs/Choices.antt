@@ -1,5 +1,5 @@
 -- A process that comes to a choice among alternatives.
-use Rattle.std.proofs.Common.{◌≡◌, ◌∙◌, refl, sym, ap, subst, Bool, true, false, IsTrue, ℕ, ◌⊎◌, inl, inr, List, Option, Some, None, length}
+use Rattle.std.proofs.Common.{◌≡◌, ◌∙◌, refl, sym, ap, subst, Bool, true, false, IsTrue, ℕ, ◌⊎◌, inl, inr, List, Option, Some, None, length, map}
 use Rattle.std.specs.Prelude.{slice_set, ◌||◌}
 use Rattle.std.proofs.lemmas.Bool.{eq-eqb}
 use mathlib.Core.Bool.{true≢false}
@@ -15,7 +15,7 @@ use Rattle.occ_net_replay.specs.Replay.{Net, HasTask, arm_chosen, made_ready, ma
 use Rattle.occ_net_replay.proofs.Quiet.{offers_is}
 use Rattle.occ_net_replay.proofs.Tables.{OffersOn, chosen_ready, offers_found, offers_there, or_else, set_back, set_other}
 use Rattle.occ_net_tables.specs.declared.tables.Tables.{Tables}
-use Rattle.occ_net_tables.specs.Choosing.{TakesBy, by_choice, is_entry, is_named, keyboard_at, offered_by}
+use Rattle.occ_net_tables.specs.Choosing.{TakesBy, by_choice, is_entry, is_same_number, keyboard_at, offered_by}
 use Rattle.occ_net_tables.specs.Holding.{Sound, Sized}
 use Rattle.occ_net_tables.specs.Settling.{Mid, SettlesTo, byte_on}
 use Rattle.occ_net_tables.specs.Keys.{entry_in}
@@ -27,12 +27,12 @@ use Rattle.occ_net_tables.proofs.Steps.{takes}
 
 -- an arm that is taken has a byte of the keyboard, or an offer in the table
 pub is_there : (kb : List ℕ) (used : ℕ) (table : List (Option ℕ)) (pri : Bool) (arms : List Arm) (pick c : ℕ) (a : Arm) → arm_chosen pri pick (offered_by (keyboard_at kb used) table) arms ≡ Some a → a.chan ≡ Some c → byte_on c kb used ≡ None → entry_in table c ≡ None → ⊥
-is_there kb used table pri arms pick c a e f no_byte empty = by (or_else (is_named (keyboard_at kb used) c) (is_entry (entry_in table c)) on)
+is_there kb used table pri arms pick c a e f no_byte empty = by (or_else (is_same_number (keyboard_at kb used) c) (is_entry (entry_in table c)) on)
   where
     on : IsTrue (offered_by (keyboard_at kb used) table c)
     on = sym (ap (is_ready_on (offered_by (keyboard_at kb used) table)) f) ∙ chosen_ready (λ (x : Arm). x.chan) (offered_by (keyboard_at kb used) table) pri pick arms a e
 
-    by : IsTrue (is_named (keyboard_at kb used) c) ⊎ IsTrue (is_entry (entry_in table c)) → ⊥
+    by : IsTrue (is_same_number (keyboard_at kb used) c) ⊎ IsTrue (is_entry (entry_in table c)) → ⊥
     by (inl h) = true≢false (sym h ∙ sym (byte_named kb used c) ∙ none_given c kb used no_byte)
     by (inr h) = true≢false (sym h ∙ ap is_entry empty)
 
@@ -75,7 +75,7 @@ module _ (p : Program) (kb : List ℕ) (old : Tables) (number place : ℕ) (afte
   pub stands_tabled : (c : ℕ) → standing then_ c ≡ tabled c
   stands_tabled c =
       ap (λ b. b || offers_among then_.tasks c) (ap (λ k. has_byte k c) mid.bytes ∙ byte_named kb old.used c)
-      ∙ ap (λ b. is_named (keyboard_at kb old.used) c || b) (offers_tabled c)
+      ∙ ap (λ b. is_same_number (keyboard_at kb old.used) c || b) (offers_tabled c)
 
   pub chosen_now : (pick : ℕ) → arm_chosen pri pick (standing then_) arms ≡ arm_chosen pri pick tabled arms
   chosen_now pick = chosen_same (standing then_) tabled stands_tabled pri pick arms

@@ -1,5 +1,5 @@
 -- A fork: the branches begin, and their process waits for their end.
-use Rattle.std.proofs.Common.{◌≡◌, ◌∙◌, refl, sym, ap, subst, Bool, true, false, IsTrue, ℕ, ◌<◌, ◌⊎◌, inl, inr, List, Option, Some, None, length, drop, arith}
+use Rattle.std.proofs.Common.{◌≡◌, ◌∙◌, refl, sym, ap, subst, Bool, true, false, IsTrue, ℕ, ◌<◌, ◌⊎◌, inl, inr, List, Option, Some, None, length, map, drop, arith}
 use Rattle.std.specs.Prelude.{slice_get, slice_set, remove}
 use Rattle.std.specs.Option.{option_map_or}
 use Rattle.std.proofs.lemmas.Option.{slice_get_within}
@@ -15,7 +15,7 @@ use Rattle.occ_net_replay.specs.Waiting.{ForksAlone}
 use Rattle.occ_net_replay.proofs.Tables.{set_other, same_or_not, task_once}
 use Rattle.occ_net_tables.specs.declared.tables.Tables.{Tables}
 use Rattle.occ_net_tables.specs.Holding.{AreCounted, IsOrdinary, IsTable, Stands, is_over, joins_on, undone}
-use Rattle.occ_net_tables.specs.Settling.{AllBegan, MayBegin, Mid, SettlesTo}
+use Rattle.occ_net_tables.specs.Settling.{AllBegan, BranchesMayBegin, Mid, SettlesTo}
 use Rattle.occ_net_tables.specs.Keys.{set_all}
 use Rattle.occ_net_tables.proofs.Between.{kept_quiet, there_old, waiting_old}
 use Rattle.occ_net_tables.proofs.Branches.{IsBegun, branches_begun, branches_length, branches_other, branches_swap}
@@ -64,7 +64,7 @@ module _ (p : Program) (kb : List ℕ) (old : Tables) (number place : ℕ) (afte
   entry_still i None h n e = refl
   entry_still i (Some t) h n e = ap may_go (a.free i t h (sym (old_other i n) ∙ e))
 
-  pub may_begin : (between : Tables) → between.tasks.items ≡ emptied → between.ready.items ≡ remove old.ready.items place → MayBegin p between ns
+  pub may_begin : (between : Tables) → between.tasks.items ≡ emptied → between.ready.items ≡ remove old.ready.items place → BranchesMayBegin p between ns
   may_begin between tasks ready =
       record {
         ready_is =

@@ -14,7 +14,7 @@ use Rattle.occ_machine.specs.declared.task.Arm.{Arm}
 use Rattle.occ_machine.specs.declared.task.Task.{Task}
 use Rattle.occ_machine.specs.declared.task.Wait.{Wait}
 use Rattle.occ_machine.specs.declared.task.Wait.TheVariants as W
-use Rattle.occ_net_replay.specs.Replay.{Net, HasTask, AreDone, Gets, task_gets, arm_gets, screen_gets, error_gets, Happens, meets, skips, forks, joins, Joined, joined, is_done, keyboard_gives, made_ready, standing, task_gives, took_turn, arm_chosen}
+use Rattle.occ_net_replay.specs.Replay.{Net, HasTask, AreDone, Gets, task_gets, arm_gets, screen_gets, error_gets, Happens, meets, skips, forks, joins, PassesOn, joined, is_done, keyboard_gives, made_ready, standing, task_gives, took_turn, arm_chosen}
 use Rattle.occ_net_replay.specs.Waiting.{listens_on}
 use Rattle.std.proofs.lemmas.Bool.{eq-eqb}
 use Rattle.occ_net_replay.proofs.Tables.{or_first, set_same, set_other, set_back, same_or_not, task_once}
@@ -89,7 +89,7 @@ module _ (bodies : List Body) (pick n : ℕ) (net : Net) (before after : Task) (
     no_byte_gets c b kb m q z (screen_gets e) r p = cc
     no_byte_gets c b kb m q z (error_gets e) r p = cc
 
-    no_meeting : {y : Communication} {b : Net} → Joined pick now y b → TakesPart n y → ⊥
+    no_meeting : {y : Communication} {b : Net} → PassesOn pick now y b → TakesPart n y → ⊥
     no_meeting (joined {c = c} {m = m} (task_gives {n = z} {t = u} at w) g) (inl p) = none_gets c z m u at w g refl (inl (number_is p))
     no_meeting (joined {c = c} {m = m} (task_gives {n = z} {t = u} at w) g) (inr p) = none_gets c z m u at w g refl (inr p)
     no_meeting (joined {c = c} {m = m} (keyboard_gives {b = b} {kb = kb} q z r) g) (inl p) = absurd cc

@@ -9,7 +9,7 @@ use Rattle.occ_machine.specs.Machine.{Body}
 use Rattle.occ_machine.specs.declared.task.Task.{Task}
 use Rattle.occ_machine.specs.declared.task.Wait.{Wait}
 use Rattle.occ_machine.specs.declared.task.Wait.TheVariants as W
-use Rattle.occ_net_replay.specs.Replay.{HasTask, at_start, first_net, first_noted, first_task, none_begun, offers_on, ready_from}
+use Rattle.occ_net_replay.specs.Replay.{HasTask, first_tasks, first_net, first_noted, first_task, none_begun, offers_on, ready_from}
 use Rattle.occ_net_replay.specs.Waiting.{listens_on}
 use Rattle.occ_net_tables.specs.declared.tables.Tables.{Tables}
 use Rattle.occ_net_tables.specs.Holding.{AreTrue, Holds, IsOrdinary, IsTable, joins_on}
@@ -30,7 +30,7 @@ none_many : (bs : List Body) → none_begun bs ≡ replicate (length bs) None
 none_many [] = refl
 none_many (b ∷ bs) = ap (λ l. None ∷ l) (none_many bs)
 
-start_is : (bs : List Body) (b : Body) → slice_get bs 0 ≡ Some b → slice_set (replicate (length bs) None) 0 (Some (first_task 0 0 (zero_frame b.cells b.loops))) ≡ at_start bs
+start_is : (bs : List Body) (b : Body) → slice_get bs 0 ≡ Some b → slice_set (replicate (length bs) None) 0 (Some (first_task 0 0 (zero_frame b.cells b.loops))) ≡ first_tasks bs
 start_is [] b e = absurd cc
 start_is (x ∷ bs) b e = let same : b ≡ x = cc in ap (λ l. Some (first_task 0 0 (zero_frame b.cells b.loops)) ∷ l) (sym (none_many bs)) ∙ ap (λ z. Some (first_task 0 0 (zero_frame z.cells z.loops)) ∷ none_begun bs) same
 
@@ -39,7 +39,7 @@ not_begun [] i t e = cc
 not_begun (b ∷ bs) zero t e = cc
 not_begun (b ∷ bs) (suc i) t e = not_begun bs i t e
 
-all_ready : (bs : List Body) (i : ℕ) (t : Task) → HasTask (at_start bs) i t → t.wait ≡ W.Ready
+all_ready : (bs : List Body) (i : ℕ) (t : Task) → HasTask (first_tasks bs) i t → t.wait ≡ W.Ready
 all_ready [] i t e = absurd cc
 all_ready (b ∷ bs) zero t e = let same : first_task 0 0 (zero_frame b.cells b.loops) ≡ t = cc in ap (λ z. z.wait) (sym same)
 all_ready (b ∷ bs) (suc i) t e = absurd (not_begun bs i t e)
@@ -48,7 +48,7 @@ none_ready : (k : ℕ) (bs : List Body) → ready_from k (none_begun bs) ≡ []
 none_ready k [] = refl
 none_ready k (b ∷ bs) = none_ready (k + 1) bs
 
-one_ready : (bs : List Body) (b : Body) → slice_get bs 0 ≡ Some b → 0 ∷ [] ≡ ready_from 0 (at_start bs)
+one_ready : (bs : List Body) (b : Body) → slice_get bs 0 ≡ Some b → 0 ∷ [] ≡ ready_from 0 (first_tasks bs)
 one_ready [] b e = absurd cc
 one_ready (x ∷ bs) b e = ap (λ l. 0 ∷ l) (sym (none_ready (0 + 1) bs))
 
@@ -57,14 +57,14 @@ nobody zero c i e = cc
 nobody (suc n) zero i e = cc
 nobody (suc n) (suc c) i e = nobody n c i e
 
-empty_table : (bs : List Body) (says : Wait → ℕ → Bool) (n : ℕ) → ((c : ℕ) → says W.Ready c ≡ false) → IsTable says (at_start bs) (replicate n None)
+empty_table : (bs : List Body) (says : Wait → ℕ → Bool) (n : ℕ) → ((c : ℕ) → says W.Ready c ≡ false) → IsTable says (first_tasks bs) (replicate n None)
 empty_table bs says n silent =
     record {
       sound = λ c i e. absurd (nobody n c i e);
       whole = λ c i t h s. absurd (not_both (sym (ap (λ z. says z c) (all_ready bs i t h)) ∙ s) (silent c));
     }
 
-start_true : (bs : List Body) (b : Body) (channels : ℕ) → slice_get bs 0 ≡ Some b → AreTrue (at_start bs) (0 ∷ []) (replicate channels None) (replicate channels None) (replicate (length bs) None) (replicate (length bs) 0) None (first_noted [])
+start_true : (bs : List Body) (b : Body) (channels : ℕ) → slice_get bs 0 ≡ Some b → AreTrue (first_tasks bs) (0 ∷ []) (replicate channels None) (replicate channels None) (replicate (length bs) None) (replicate (length bs) 0) None (first_noted [])
 start_true bs b channels e =
     record {
       ready_is = one_ready bs b e;

@@ -17,7 +17,7 @@ use Rattle.occ_machine.specs.declared.task.Wait.{Wait}
 use Rattle.occ_machine.specs.declared.task.Wait.TheVariants as W
 use Rattle.occ_net_replay.specs.declared.choice.Choice.{Choice}
 use Rattle.occ_net_replay.specs.Following.{AreBytes}
-use Rattle.occ_net_replay.specs.Replay.{Net, Tasks, HasTask, ending_by, first_noted, is_done, main_done, made_ready, may_go, offers_among, offers_on, ready_from, selected, standing, standing_by, took_turn}
+use Rattle.occ_net_replay.specs.Replay.{Net, Tasks, HasTask, ending_by, first_noted, is_done, main_done, made_ready, may_go, offers_among, offers_on, ready_from, selected_process, standing, standing_by, took_turn}
 use Rattle.occ_net_replay.specs.Moments.{NoneReady, Quiet}
 use Rattle.occ_net_replay.specs.Waiting.{IsReplay, IsTurn, OffersAlone, ListensAlone, ForksAlone, listens_on}
 use Rattle.occ_net_replay.proofs.Alone.{replays_are_quiet, turns_are_few, turns_fork_alone, turns_listen_alone, turns_never_take, turns_offer_alone}
@@ -29,7 +29,7 @@ use Rattle.occ_net_tables.specs.Counting.{TurnsBy}
 use Rattle.occ_net_tables.specs.Endings.{GoesOn}
 use Rattle.occ_net_tables.specs.Holding.{AreTrue, Holds, IsOrdinary, joins_on}
 use Rattle.occ_net_tables.specs.Settling.{Mid, SettlesTo, Standing, TurnsTo}
-use Rattle.occ_net_tables.specs.Tasks.{Advanced, HasTurn}
+use Rattle.occ_net_tables.specs.Tasks.{Advanced, MayTakeTurn}
 use Rattle.occ_net_tables.proofs.OneChange.{counts_kept, get_some, ordinary_again, set_length, table_kept, true_as}
 use Rattle.occ_net_tables.proofs.ReadyLists.{ready_same}
 
@@ -197,7 +197,7 @@ module _ (p : Program) (kb : List ℕ) (n : Tables) (s : Standing p kb n) where
     is_replay : IsReplay compiled.source p compiled.quantum kb s.choices s.net
     is_replay = record { well_formed = compiled.well_formed; lawful = compiled.lawful; compiled = compiled.compiled; bytes = bytes; few = s.few; replays = s.replays }
 
-    pub has_turn : (place number : ℕ) (body : Body) → slice_get n.ready.items place ≡ Some number → slice_get p.bodies number ≡ Some body → HasTurn body n.tasks.items number
+    pub has_turn : (place number : ℕ) (body : Body) → slice_get n.ready.items place ≡ Some number → slice_get p.bodies number ≡ Some body → MayTakeTurn body n.tasks.items number
     has_turn place number body e has =
         let x = chosen place number e in
         let there : HasTask s.net.tasks number x.task = ap (λ l. slice_get l number) s.holds.tasks ∙ x.there in
@@ -256,7 +256,7 @@ module _ (p : Program) (kb : List ℕ) (n : Tables) (s : Standing p kb n) where
               body = body;
               before = t;
               after = adv.after;
-              selects = ap (λ l. selected l choice.which) (ap (ready_from 0) h.tasks ∙ sym h.sound.ready_is) ∙ ap (slice_get n.ready.items) (sym q) ∙ at;
+              selects = ap (λ l. selected_process l choice.which) (ap (ready_from 0) h.tasks ∙ sym h.sound.ready_is) ∙ ap (slice_get n.ready.items) (sym q) ∙ at;
               has_body = has;
               has_task = ap (λ l. slice_get l number) h.tasks ∙ there;
               stops = adv.stops;
@@ -275,7 +275,7 @@ module _ (p : Program) (kb : List ℕ) (n : Tables) (s : Standing p kb n) where
               body = body;
               before = t;
               after = adv.after;
-              selects = ap (λ l. selected l choice.which) (ap (ready_from 0) h.tasks ∙ sym h.sound.ready_is) ∙ ap (slice_get n.ready.items) (sym q) ∙ at;
+              selects = ap (λ l. selected_process l choice.which) (ap (ready_from 0) h.tasks ∙ sym h.sound.ready_is) ∙ ap (slice_get n.ready.items) (sym q) ∙ at;
               has_body = has;
               has_task = ap (λ l. slice_get l number) h.tasks ∙ there;
               stops = adv.stops;

@@ -9,7 +9,7 @@ use Rattle.occ_machine.specs.Compiled.{Program}
 use Rattle.occ_machine.specs.declared.task.Task.{Task}
 use Rattle.occ_machine.specs.declared.task.Wait.{Wait}
 use Rattle.occ_machine.specs.declared.task.Wait.TheVariants.{Ready, Took, Offers, Awaits, Chooses, Joins, Halted, Done, Faulted}
-use Rattle.occ_net_replay.specs.Replay.{Net, Tasks, HasTask, ended, first_noted, offers_on, ready_from}
+use Rattle.occ_net_replay.specs.Replay.{Net, Tasks, HasTask, ended, first_noted, offers_on, ready_from, first_net}
 use Rattle.occ_net_replay.specs.Waiting.{listens_on}
 use Rattle.occ_net_tables.specs.declared.tables.Tables.{Tables}
 
@@ -93,3 +93,15 @@ pub record Holds (p : Program) (keyboard : List ℕ) (n : Tables) (net : Net) : 
   pub trace : net.trace ≡ n.trace
   pub sound : Sound n net.noted
   pub sized : Sized p n
+
+-- so it is of whatever network the tables hold
+abbrev pub HeldBy : Tables → (Net → Type 0) → Type 0
+HeldBy tables Says = (p : Program) (keyboard : List ℕ) (net : Net) → Holds p keyboard tables net → Says net
+
+-- the tables of a new network
+abbrev pub HoldsFirst : Program → Tables → Type 0
+HoldsFirst p n = (keyboard : List ℕ) → Holds p keyboard n (first_net p keyboard)
+
+-- of the network of this code that they hold
+abbrev pub HeldFor : Program → List ℕ → Tables → (Net → Type 0) → Type 0
+HeldFor p keyboard tables Says = (net : Net) → Holds p keyboard tables net → Says net

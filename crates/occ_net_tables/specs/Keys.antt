@@ -24,3 +24,6 @@ pub record HasCount (counts : List ℕ) (key : ℕ) : Type 0 where
 pub record CountsDown (old : List ℕ) (key k left : ℕ) (new : List ℕ) : Type 0 where
   pub left_is : left ≡ k
   pub counts_are : new ≡ slice_set old key k
+
+abbrev pub CountsOneDown : (old : List ℕ) → (key left : ℕ) → (new : List ℕ) → Type 0
+CountsOneDown old key left new = (k : ℕ) → slice_get old key ≡ Some (k + 1) → CountsDown old key k left new

@@ -33,3 +33,7 @@ kept_by Places ready c = placed_among ready c
 abbrev pub all_kept : Keep → List Choice → List Choice → List Choice
 all_kept Given given places = given
 all_kept Places given places = places
+
+-- where the first is the place of the given choice among some ready processes, the second is what is kept of it
+abbrev pub IsKeptBy : Keep → Choice → (placed kept : Choice) → Type 0
+IsKeptBy keep choice placed kept = (ready : List ℕ) → placed ≡ placed_among ready choice → kept ≡ kept_by keep ready choice

@@ -12,7 +12,7 @@ use Rattle.occ_machine.specs.declared.task.Task.{Task}
 use Rattle.occ_machine.specs.declared.task.Wait.{Wait}
 use Rattle.occ_machine.specs.declared.task.Wait.TheVariants.{Took, Offers, Chooses, Joins}
 use Rattle.occ_net_replay.specs.declared.choice.Choice.{Choice}
-use Rattle.occ_net_replay.specs.Replay.{Net, Tasks, HasTask, OneTurn, Replays, Settled, branch_task, byte_message, ending_of, goes, made_ready, may_go, merged, ready_from, standing, took_arm, took_turn, with_branches}
+use Rattle.occ_net_replay.specs.Replay.{Net, Tasks, HasTask, OneTurn, Replays, Settled, branch_task, byte_message, ending_of, goes, made_ready, may_go, merged, ready_from, standing, took_arm, took_turn, with_branches, first_noted}
 use Rattle.occ_net_replay.specs.Moments.{NoneReady}
 use Rattle.occ_net_replay.specs.Waiting.{OffersAlone, ListensAlone, ForksAlone, channels_at, listens_on}
 use Rattle.occ_term.specs.declared.communication.End.{End}
@@ -23,6 +23,11 @@ use Rattle.occ_net_tables.specs.Holding.{Holds, IsOrdinary, Sized, Sound}
 use Rattle.occ_net_tables.specs.Choosing.{TakesBy, offered_by}
 use Rattle.occ_net_tables.specs.Ready.{put_in}
 use Rattle.occ_net_tables.specs.Keys.{set_all}
+use Rattle.occ_term.specs.declared.fault.Fault.{Fault}
+use Rattle.occ_net_tables.specs.Room.{first_frame, first_frames}
+use Rattle.occ_term.specs.Messages.{message}
+use Rattle.occ_proc.specs.declared.scratch.Scratch.{Scratch}
+use Rattle.occ_proc.specs.Turns.{left_message}
 
 -- a turn of the network: whatever state it held, it holds the next one
 pub record TurnsTo (p : Program) (keyboard : List ℕ) (choice : Choice) (net : Net) (new : Tables) : Type 0 where
@@ -49,21 +54,21 @@ pub record IsTurnAt (p : Program) (n : Tables) (place number : ℕ) (after : Tas
   pub stops : Stopping body before after
 
 -- the same tables, but for the task of one process
-abbrev pub with_task : Tables → ℕ → Task → Tables
-with_task n number t = record n { tasks = with_item n.tasks number (Some t) }
+abbrev pub tables_with : Tables → ℕ → Task → Tables
+tables_with n number t = record n { tasks = with_item n.tasks number (Some t) }
 
 -- where the process at this place had come to some task in place of the one that stands here, a turn would bring it to this task
 pub record StandsBehind (p : Program) (keyboard : List ℕ) (n : Tables) (place number : ℕ) (after : Task) : Type 0 where
   pub first : Task
   pub there : HasTask n.tasks.items number first
   pub last : Task
-  pub standing : Standing p keyboard (with_task n number last)
-  pub turn : IsTurnAt p (with_task n number last) place number after
+  pub standing : Standing p keyboard (tables_with n number last)
+  pub turn : IsTurnAt p (tables_with n number last) place number after
 
 -- that turn of the network, with this pick
 abbrev pub TurnsBehind : Program → List ℕ → Tables → ℕ → ℕ → Task → ℕ → Tables → Type 0
 TurnsBehind p keyboard old place number after pick new =
-    (last : Task) (net : Net) (choice : Choice) → Standing p keyboard (with_task old number last) → IsTurnAt p (with_task old number last) place number after → Holds p keyboard (with_task old number last) net
+    (last : Task) (net : Net) (choice : Choice) → Standing p keyboard (tables_with old number last) → IsTurnAt p (tables_with old number last) place number after → Holds p keyboard (tables_with old number last) net
     → place ≡ choice.which → pick ≡ choice.pick → TurnsTo p keyboard choice net new
 
 -- ---- private contracts alone cite what follows
@@ -129,16 +134,16 @@ pub record SettlesFrom (p : Program) (keyboard : List ℕ) (pick number place : 
   pub settles : Settles p keyboard pick number place t.wait between new
 
 -- the end that always takes what is offered on a channel
-abbrev pub reader_of : ℕ → Option End
-reader_of c = if nat_eq c 1 then Some Screen else if nat_eq c 2 then Some Error else None
+abbrev pub outer_taker : ℕ → Option End
+outer_taker c = if nat_eq c 1 then Some Screen else if nat_eq c 2 then Some Error else None
 
 -- what the keyboard gives on a channel, where so many of its bytes are taken
 abbrev pub byte_on : ℕ → List ℕ → ℕ → Option ℕ
 byte_on c keyboard used = if nat_eq c 0 then slice_get keyboard used else None
 
 -- who sent what to whom on which channel
-abbrev pub sent : ℕ → End → End → Message → Communication
-sent c x y m = record { chan = c; sender = x; receiver = y; message = m }
+abbrev pub communicated : ℕ → End → End → Message → Communication
+communicated c x y m = record { chan = c; sender = x; receiver = y; message = m }
 
 -- A process waits for a message on the channel, and takes it by this arm, where no other offer stands.
 abbrev pub TakesAlone : ℕ → ℕ → Wait → Arm → Type 0
@@ -168,7 +173,7 @@ pub record Gave (old : Tables) (number taker chan : ℕ) (t : Task) (a : Arm) (m
   pub tasks : new.tasks.items ≡ slice_set old.tasks.items taker (Some (took_arm t a (Some m)))
   pub ready : new.ready.items ≡ put_in taker old.ready.items
   pub awaiting : new.awaiting.items ≡ set_all (channels_at t.wait) None old.awaiting.items
-  pub trace : new.trace ≡ old.trace ++ sent chan (Process number) (Process taker) m ∷ []
+  pub trace : new.trace ≡ old.trace ++ communicated chan (Process number) (Process taker) m ∷ []
   pub offering : new.offering ≡ old.offering
   pub parents : new.parents ≡ old.parents
   pub unfinished : new.unfinished ≡ old.unfinished
@@ -178,7 +183,7 @@ pub record Gave (old : Tables) (number taker chan : ℕ) (t : Task) (a : Arm) (m
 -- a process has the keyboard's next byte by this arm, and may go on
 pub record TookByte (old : Tables) (number : ℕ) (a : Arm) (byte : ℕ) (new : Tables) : Type 0 where
   pub tasks : (t : Task) → HasTask old.tasks.items number t → new.tasks.items ≡ slice_set old.tasks.items number (Some (took_arm t a (Some (byte_message byte))))
-  pub trace : new.trace ≡ old.trace ++ sent 0 Keyboard (Process number) (byte_message byte) ∷ []
+  pub trace : new.trace ≡ old.trace ++ communicated 0 Keyboard (Process number) (byte_message byte) ∷ []
   pub used : new.used ≡ old.used + 1
   pub ready : new.ready ≡ old.ready
   pub offering : new.offering ≡ old.offering
@@ -199,7 +204,7 @@ pub record TookFrom (old : Tables) (number giver chan : ℕ) (a : Arm) (t : Task
   pub tasks : (u : Task) → HasTask old.tasks.items number u → new.tasks.items ≡ slice_set (slice_set old.tasks.items giver (Some (made_ready t))) number (Some (took_arm u a (Some m)))
   pub ready : new.ready.items ≡ put_in giver old.ready.items
   pub offering : new.offering.items ≡ slice_set old.offering.items chan None
-  pub trace : new.trace ≡ old.trace ++ sent chan (Process giver) (Process number) m ∷ []
+  pub trace : new.trace ≡ old.trace ++ communicated chan (Process giver) (Process number) m ∷ []
   pub awaiting : new.awaiting ≡ old.awaiting
   pub parents : new.parents ≡ old.parents
   pub unfinished : new.unfinished ≡ old.unfinished
@@ -215,7 +220,7 @@ pub record IsFree (tasks : Tasks) (i : ℕ) : Type 0 where
   pub still : goes entry ≡ false
 
 -- the branches that are to begin
-pub record MayBegin (p : Program) (n : Tables) (ns : List ℕ) : Type 0 where
+pub record BranchesMayBegin (p : Program) (n : Tables) (ns : List ℕ) : Type 0 where
   pub ready_is : n.ready.items ≡ ready_from 0 n.tasks.items
   pub rising : IsRising ns
   pub have_bodies : (i : ℕ) → IsTrue (is_held ns i) → i < length p.bodies
@@ -267,3 +272,74 @@ pub record JoinsBranches (p : Program) (old : Tables) (m : ℕ) (t : Task) (ns :
   pub fault : new.fault ≡ old.fault
   pub used : new.used ≡ old.used
   pub trace : new.trace ≡ old.trace
+
+-- of some program
+abbrev pub HasSomeMid : Tables → (number place : ℕ) → Wait → Type 0
+HasSomeMid n number place wait = (p : Program) × HasMid p n number place wait
+
+-- ---- of whatever network, task and message it is
+
+-- a turn of the network that the tables held
+abbrev pub TakesTurn : Program → List ℕ → Choice → Tables → Tables → Type 0
+TakesTurn p keyboard choice old new = (net : Net) → Holds p keyboard old net → TurnsTo p keyboard choice net new
+
+-- that of the process at this place among the ready ones, with this pick
+abbrev pub TakesTurnAt : Program → List ℕ → (place pick : ℕ) → Tables → Tables → Type 0
+TakesTurnAt p keyboard place pick old new =
+    (net : Net) (choice : Choice) → Holds p keyboard old net → place ≡ choice.which → pick ≡ choice.pick → TurnsTo p keyboard choice net new
+
+-- the last turn in a row of a process, of which the tables had this task
+abbrev pub TakesLast : Program → List ℕ → Tables → (place number : ℕ) → Task → (pick : ℕ) → Tables → Task → Type 0
+TakesLast p keyboard old place number after pick new before =
+    HasTask old.tasks.items number before × TurnsBehind p keyboard old place number after pick new
+
+abbrev pub SettlesWait : Program → List ℕ → (pick number place : ℕ) → Tables → Tables → Type 0
+SettlesWait p keyboard pick number place old new = (t : Task) → HasTask old.tasks.items number t → SettlesFrom p keyboard pick number place t old new
+
+-- whatever the program, the keyboard or the pick
+abbrev pub SettlesAnyhow : (number place : ℕ) → Wait → Tables → Tables → Type 0
+SettlesAnyhow number place wait old new = (p : Program) (keyboard : List ℕ) (pick : ℕ) → Settles p keyboard pick number place wait old new
+
+abbrev pub SettlesIn : Program → (number place : ℕ) → Wait → Tables → Tables → Type 0
+SettlesIn p number place wait old new = (keyboard : List ℕ) (pick : ℕ) → Settles p keyboard pick number place wait old new
+
+abbrev pub SettlesBy : (pick number place : ℕ) → Wait → Tables → Tables → Type 0
+SettlesBy pick number place wait old new = (p : Program) (keyboard : List ℕ) → Settles p keyboard pick number place wait old new
+
+abbrev pub SettlesOn : List ℕ → (number place : ℕ) → Wait → Tables → Tables → Type 0
+SettlesOn keyboard number place wait old new = (p : Program) (pick : ℕ) → Settles p keyboard pick number place wait old new
+
+abbrev pub SettlesWith : List ℕ → (pick number place : ℕ) → Wait → Tables → Tables → Type 0
+SettlesWith keyboard pick number place wait old new = (p : Program) → Settles p keyboard pick number place wait old new
+
+abbrev pub JoinsAll : Program → Tables → ℕ → Tables → Type 0
+JoinsAll p old m new = (t : Task) (ns : List ℕ) → HasTask old.tasks.items m t → t.wait ≡ Joins ns → JoinsBranches p old m t ns new
+
+abbrev pub BeganWith : Program → ℕ → Variables → Tables → ℕ → Tables → Type 0
+BeganWith p parent frame old i new = (f : Variables) → frame ≡ first_frame p.bodies f i → Began p parent f old i new
+
+abbrev pub AllBeganWith : Program → ℕ → List Variables → Tables → List ℕ → Tables → Type 0
+AllBeganWith p parent frames old ns new = (f : Variables) → frames ≡ first_frames p f ns → AllBegan p parent f old ns new
+
+-- the arm by which it takes a message that is offered on the channel
+abbrev pub IsTakingBy : Tasks → (taker chan pick : ℕ) → Arm → Type 0
+IsTakingBy tasks taker chan pick arm = (t : Task) (a : Arm) → HasTask tasks taker t → TakesAlone pick chan t.wait a → arm ≡ a
+
+abbrev pub LeavesChannels : Tables → ℕ → Tables → Type 0
+LeavesChannels old taker new = (t : Task) → HasTask old.tasks.items taker t → LeftChannels old taker t new
+
+abbrev pub GaveTo : Tables → (number taker chan pick : ℕ) → Message → Tables → Type 0
+GaveTo old number taker chan pick m new =
+    (t : Task) (a : Arm) → HasTask old.tasks.items taker t → TakesAlone pick chan t.wait a → Gave old number taker chan t a m new
+
+abbrev pub TookOffer : Tables → (number giver chan : ℕ) → Arm → Tables → Type 0
+TookOffer old number giver chan a new =
+    (t : Task) (m : Message) → HasTask old.tasks.items giver t → t.wait ≡ Offers chan m → TookFrom old number giver chan a t m new
+
+-- the first fault, where one more is noted
+abbrev pub NotesFirst : Option Fault → Fault → Option Fault → Type 0
+NotesFirst noted fault first = (faults : List Fault) → noted ≡ first_noted faults → first ≡ first_noted (faults ++ fault ∷ [])
+
+-- the offer of the items that a turn has left
+abbrev pub offer_left : ℕ → Option ℕ → Scratch → Wait
+offer_left chan tag scratch = Offers chan (message tag (left_message scratch))

@@ -1,10 +1,10 @@
 //! The rule of ready arms, and arms in the table of those who wait for messages.
-ghost use Rattle.std.specs.Prelude.{◌≡◌, ◌<◌, IfSome, length, slice_get};
+ghost use Rattle.std.specs.Prelude.{◌≡◌, ◌<◌, IfSome, length};
 ghost use Rattle.occ_term.specs.Selecting.{is_ready_on, ready_among};
 ghost use Rattle.occ_machine.specs.declared.task.Arm.{Arm};
 ghost use Rattle.occ_net_replay.specs.Replay.{arm_chosen};
 ghost use Rattle.occ_net_replay.specs.Waiting.{channels_of};
-ghost use Rattle.occ_net_tables.specs.Choosing.{arm_at, is_named, offered_by};
+ghost use Rattle.occ_net_tables.specs.Choosing.{arm_at, is_same_number, offered_arm, offered_arms, offered_at, offered_by};
 ghost use Rattle.occ_net_tables.specs.Keys.{set_all};
 
 use crate::entries::{entry, set_entry};
@@ -12,7 +12,7 @@ use occ_machine::Arm;
 
 /// Whether this channel is the named one.
 fn is_named(named: Option<u32>, chan: u32) -> bool
-    ensures { result ≡ is_named named chan }
+    ensures { result ≡ is_same_number named chan }
 {
     match named {
         Some(other) => chan == other,
@@ -40,7 +40,7 @@ fn is_ready(named: Option<u32>, offering: &[Option<u32>], arm: &Arm) -> bool
 
 /// How many arms are ready.
 pub(crate) fn count_ready(named: Option<u32>, offering: &[Option<u32>], arms: &[Arm]) -> usize
-    ensures { result ≡ length (ready_among (λ (a : Arm). a.chan) (offered_by named offering.now) arms.now) }
+    ensures { result ≡ length (offered_arms named offering.now arms.now) }
 {
     let mut count = 0;
     for arm in arms {
@@ -58,7 +58,7 @@ fn ready_place(
     arms: &[Arm],
     wanted: usize,
 ) -> Option<usize>
-    ensures arm { arm_at arms.now result ≡ slice_get (ready_among (λ (a : Arm). a.chan) (offered_by named offering.now) arms.now) wanted }
+    ensures arm { arm_at arms.now result ≡ offered_at named offering.now arms.now wanted }
     ensures within { IfSome result (λ place. place < length arms.now) }
 {
     let mut left = wanted;
@@ -82,7 +82,7 @@ pub(crate) fn choose_arm(
     pick: u32,
     arms: &[Arm],
 ) -> Option<usize>
-    ensures arm { arm_at arms.now result ≡ arm_chosen pri pick (offered_by named offering.now) arms.now }
+    ensures arm { arm_at arms.now result ≡ offered_arm pri pick named offering.now arms.now }
     ensures within { IfSome result (λ place. place < length arms.now) }
 {
     let wanted = if pri {

@@ -1,8 +1,8 @@
 //! Frames at a fork and at a join.
-ghost use Rattle.std.specs.Prelude.{◌≡◌, IfOk, map, slice_get};
+ghost use Rattle.std.specs.Prelude.{◌≡◌, IfOk};
 ghost use Rattle.occ_term.specs.CellRows.{cells_of};
-ghost use Rattle.occ_net_replay.specs.Replay.{copied, merged, taken_from, taken_over};
-ghost use Rattle.occ_net_tables.specs.Room.{first_frame};
+ghost use Rattle.occ_net_replay.specs.Replay.{branch_frame, merged, taken_over};
+ghost use Rattle.occ_net_tables.specs.Room.{first_frame, first_frames, with_branch};
 
 use occ_machine::{Body, Code, Task};
 use occ_term::{CellRow, Frame, FrameCells};
@@ -10,7 +10,7 @@ use std::alloc::{AllocError, Global};
 
 /// A frame of the body's cells, with the values that another frame has.
 fn branch_frame(alloc: Global, body: &Body, parent: &Frame) -> Result<Frame, AllocError>
-    ensures { IfOk result (λ f. f ≡ copied body.now parent.now) }
+    ensures { IfOk result (λ f. f ≡ branch_frame body.now parent.now) }
 {
     Frame::copied_from(alloc, body.cells(), body.loops() as usize, parent)
 }
@@ -32,7 +32,7 @@ pub(crate) fn branch_frames(
     parent: &Frame,
     branches: &[u32],
 ) -> Result<Vec<Frame>, AllocError>
-    ensures { IfOk result (λ frames. frames.items ≡ map (first_frame code.now.bodies parent.now) branches.now) }
+    ensures { IfOk result (λ frames. frames.items ≡ first_frames code.now parent.now branches.now) }
 {
     let mut frames = Vec::new(alloc);
     for number in branches {
@@ -93,7 +93,7 @@ fn take_each(row: &CellRow, from: &Frame, to: &mut Frame)
 
 /// Takes over what this branch can write.
 fn take_branch(code: &Code, tasks: &[Option<Task>], branch: u32, frame: &mut Frame)
-    ensures { frame.new ≡ taken_from (slice_get code.now.bodies branch) (slice_get tasks.now branch) frame.old }
+    ensures { frame.new ≡ with_branch code.now tasks.now branch frame.old }
 {
     let Some(body) = code.body(branch as usize) else {
         return;

@@ -1,6 +1,6 @@
 //! Tables of process numbers, by channel or by process.
-ghost use Rattle.std.specs.Prelude.{◌≡◌, ◌+◌, IfOk, None, Some, replicate, slice_get, slice_set, ℕ};
-ghost use Rattle.occ_net_tables.specs.Keys.{CountsDown, HasCount, entry_in, set_all};
+ghost use Rattle.std.specs.Prelude.{◌≡◌, IfOk, None, Some, replicate, slice_set};
+ghost use Rattle.occ_net_tables.specs.Keys.{CountsOneDown, HasCount, entry_in, set_all};
 
 use std::alloc::{AllocError, Global};
 
@@ -55,7 +55,7 @@ pub(crate) fn set_count(counts: &mut Vec<usize>, key: u32, count: usize)
 /// Counts one less.
 pub(crate) fn count_down(counts: &mut Vec<usize>, key: u32) -> usize
     requires { HasCount counts.old.items key }
-    ensures { (k : ℕ) → slice_get counts.old.items key ≡ Some (k + 1) → CountsDown counts.old.items key k result counts.new.items }
+    ensures { CountsOneDown counts.old.items key result counts.new.items }
 {
     let place = key as usize;
     let left = counts[place] - 1;

@@ -1,10 +1,9 @@
 //! Forks: the branches of a process begin, and it waits for their end.
-ghost use Rattle.std.specs.Prelude.{◌≡◌, ◌≤◌, ◌+◌, ◌∷◌, [], IfErr, IfOk, List, OnOk, length, map, vec_capacity, vec_len, ℕ};
-ghost use Rattle.occ_term.specs.Frames.{Variables};
+ghost use Rattle.std.specs.Prelude.{◌≡◌, ◌≤◌, ◌+◌, ◌∷◌, [], IfErr, IfOk, OnOk, length, vec_capacity, vec_len};
 ghost use Rattle.occ_machine.specs.declared.task.Task.{Task};
-ghost use Rattle.occ_net_replay.specs.Replay.{HasTask, turns_at};
-ghost use Rattle.occ_net_tables.specs.Room.{AreFirstFrames, HasRoom, first_frame};
-ghost use Rattle.occ_net_tables.specs.Settling.{AllBegan, Began, HasMid, MayBegin, Settles};
+ghost use Rattle.occ_net_replay.specs.Replay.{turns_at};
+ghost use Rattle.occ_net_tables.specs.Room.{AreFirstFrames, BeginFrom, HasOneMore, HasRoom};
+ghost use Rattle.occ_net_tables.specs.Settling.{AllBeganWith, BeganWith, BranchesMayBegin, HasMid, SettlesIn};
 ghost use Rattle.occ_net_tables.specs.Tasks.{IsThere};
 
 use crate::copying::branch_frames;
@@ -36,7 +35,7 @@ fn frames_of(
     branches: &[u32],
 ) -> Result<Vec<Frame>, AllocError>
     requires { IsThere tasks.now number }
-    ensures { IfOk result (λ frames. (t : Task) → HasTask tasks.now number t → frames.items ≡ map (first_frame code.now.bodies t.frame) branches.now) }
+    ensures { IfOk result (BeginFrom code.now tasks.now number branches.now) }
 {
     match &tasks[number as usize] {
         Some(task) => branch_frames(alloc, code, &task.frame, branches),
@@ -47,10 +46,10 @@ fn frames_of(
 impl Tables {
     /// A branch begins, with this frame.
     fn begin(&mut self, code: &Code, parent: u32, frame: Frame, number: u32)
-        requires may { MayBegin code.now self.old (number ∷ []) }
+        requires may { BranchesMayBegin code.now self.old (number ∷ []) }
         requires room { vec_len self.old.ready + 1 ≤ vec_capacity self.old.ready }
-        ensures began { (f : Variables) → frame ≡ first_frame code.now.bodies f number → Began code.now parent f self.old number self.new }
-        ensures room { (vec_len self.new.ready ≡ vec_len self.old.ready + 1) × (vec_capacity self.old.ready ≤ vec_capacity self.new.ready) }
+        ensures began { BeganWith code.now parent frame self.old number self.new }
+        ensures room { HasOneMore self.old.ready self.new.ready }
     {
         let turns = turns_at(&self.tasks, number);
         let task = Task {
@@ -67,10 +66,10 @@ impl Tables {
 
     /// The branches begin, each with its frame.
     fn begin_all(&mut self, code: &Code, parent: u32, frames: Vec<Frame>, branches: &[u32])
-        requires may { MayBegin code.now self.old branches.now }
+        requires may { BranchesMayBegin code.now self.old branches.now }
         requires frames { AreFirstFrames code.now.bodies frames.items branches.now }
         requires room { vec_len self.old.ready + length branches.now ≤ vec_capacity self.old.ready }
-        ensures { (f : Variables) → frames.items ≡ map (first_frame code.now.bodies f) branches.now → AllBegan code.now parent f self.old branches.now self.new }
+        ensures { AllBeganWith code.now parent frames.items self.old branches.now self.new }
     {
         let mut left = frames.into_iter();
         for number in branches {
@@ -92,7 +91,8 @@ impl Tables {
     ) -> Result<(), (Items<u32>, AllocError)>
         requires mid { HasMid code.now self.old number place (Wait.Joins branches) }
         requires room { HasRoom self.old (length branches) }
-        ensures ok { OnOk result ((keyboard : List ℕ) (pick : ℕ) → Settles code.now keyboard pick number place (Wait.Joins branches) self.old self.new) }
+        ensures ok { OnOk result
+            (SettlesIn code.now number place (Wait.Joins branches) self.old self.new) }
         ensures err { IfErr result (λ e. (self.new ≡ self.old) × (e.0 ≡ branches)) }
     {
         let frames = match frames_of(alloc, code, &self.tasks, number, branches.as_slice()) {

@@ -1,8 +1,6 @@
 //! The end of a process, and the join of the one that waited for it.
-ghost use Rattle.std.specs.Prelude.{◌≡◌, ◌<◌, List, vec_capacity, vec_len, ℕ};
-ghost use Rattle.occ_machine.specs.declared.task.Task.{Task};
-ghost use Rattle.occ_net_replay.specs.Replay.{HasTask};
-ghost use Rattle.occ_net_tables.specs.Settling.{HasMid, Joining, JoinsBranches, Settles};
+ghost use Rattle.std.specs.Prelude.{◌<◌, vec_capacity, vec_len};
+ghost use Rattle.occ_net_tables.specs.Settling.{HasMid, Joining, JoinsAll, SettlesIn};
 
 use crate::copying::merge;
 use crate::entries::{clear_entries, count_down, entry};
@@ -10,7 +8,7 @@ use crate::meeting::rest;
 use crate::ready::insert;
 use crate::tables::Tables;
 use crate::tasks::{put_task, take_task};
-use occ_machine::{Code, Task, Wait};
+use occ_machine::{Code, Wait};
 use std::mem;
 
 impl Tables {
@@ -18,7 +16,7 @@ impl Tables {
     fn join(&mut self, code: &Code, number: u32)
         requires joining { Joining self.old number }
         requires room { vec_len self.old.ready < vec_capacity self.old.ready }
-        ensures { (t : Task) (ns : List ℕ) → HasTask self.old.tasks.items number t → t.wait ≡ Wait.Joins ns → JoinsBranches code.now self.old number t ns self.new }
+        ensures { JoinsAll code.now self.old number self.new }
     {
         let mut task = take_task(&mut self.tasks, number);
         let Wait::Joins { branches } = mem::replace(&mut task.wait, Wait::Ready) else {
@@ -33,7 +31,7 @@ impl Tables {
     /// The process is at its end. Another one goes on where it waited for this one alone.
     pub(crate) fn finish(&mut self, code: &Code, place: usize, number: u32)
         requires { HasMid code.now self.old number place Wait.Done }
-        ensures { (keyboard : List ℕ) (pick : ℕ) → Settles code.now keyboard pick number place Wait.Done self.old self.new }
+        ensures { SettlesIn code.now number place Wait.Done self.old self.new }
     {
         rest(&mut self.tasks, &mut self.ready, place, number, Wait::Done);
         if let Some(parent) = entry(&self.parents, number) {

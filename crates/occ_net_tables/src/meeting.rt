@@ -1,15 +1,14 @@
 //! Offers and inputs: the two ends of a channel meet, or one waits for the other.
-ghost use Rattle.std.specs.Prelude.{◌≡◌, ◌≢◌, ◌+◌, ◌<◌, ◌^◌, ◌++◌, ◌∷◌, [], IfErr, IfOk, List, None, OnErr, OnOk, Option, Some, length, remove, slice_get, slice_set, vec_capacity, vec_len, ℕ};
+ghost use Rattle.std.specs.Prelude.{◌≡◌, ◌≢◌, ◌+◌, ◌<◌, ◌^◌, [], IfErr, IfOk, List, None, OnErr, OnOk, Option, Some, length, remove, slice_get, vec_capacity, vec_len, ℕ};
 ghost use Rattle.occ_term.specs.declared.fault.Fault.{Fault};
-ghost use Rattle.occ_machine.specs.SameStop.{IsRising, ready_with};
-ghost use Rattle.occ_machine.specs.Compiled.{Program};
+ghost use Rattle.occ_machine.specs.SameStop.{IsRising};
 ghost use Rattle.occ_machine.specs.declared.task.Arm.{Arm};
 ghost use Rattle.occ_machine.specs.declared.task.Task.{Task};
-ghost use Rattle.occ_net_replay.specs.Replay.{HasTask, byte_message, first_noted};
+ghost use Rattle.occ_net_replay.specs.Replay.{byte_message};
 ghost use Rattle.occ_net_tables.specs.Choosing.{input_arm, keyboard_at};
 ghost use Rattle.occ_net_tables.specs.Room.{HasRoom};
-ghost use Rattle.occ_net_tables.specs.Settling.{Gave, HasMid, IsOffering, IsTaking, LeftChannels, Settles, TakesAlone, TookByte, TookFrom, byte_on, reader_of};
-ghost use Rattle.occ_net_tables.specs.Tasks.{IsThere};
+ghost use Rattle.occ_net_tables.specs.Settling.{GaveTo, HasSomeMid, IsOffering, IsTaking, IsTakingBy, LeavesChannels, NotesFirst, SettlesAnyhow, SettlesBy, SettlesOn, SettlesWith, TookByte, TookOffer, byte_on, outer_taker};
+ghost use Rattle.occ_net_tables.specs.Tasks.{IsOffered, IsThere, WaitSet};
 
 use crate::choosing::{choose_arm, set_arms};
 use crate::entries::{entry, set_entry};
@@ -32,7 +31,7 @@ pub(crate) fn rest(
 )
     requires there { IsThere tasks.old.items number }
     requires within { place < vec_len ready.old }
-    ensures tasks { (t : Task) → HasTask tasks.old.items number t → tasks.new.items ≡ slice_set tasks.old.items number (Some (ready_with t wait)) }
+    ensures tasks { WaitSet tasks.old.items number wait tasks.new.items }
     ensures ready { ready.new.items ≡ remove ready.old.items place }
     ensures room { vec_len ready.new < vec_capacity ready.new }
 {
@@ -43,7 +42,7 @@ pub(crate) fn rest(
 /// The end that always takes what is offered on this channel.
 #[inline(always)]
 fn reader(chan: u32) -> Option<End>
-    ensures { result ≡ reader_of chan }
+    ensures { result ≡ outer_taker chan }
 {
     match chan {
         SCREEN => Some(End::Screen),
@@ -88,7 +87,7 @@ fn one_byte(byte: u8) -> Message
 /// The message that the process offers.
 fn offered(tasks: &[Option<Task>], giver: u32) -> &Message
     requires { (chan : ℕ) × IsOffering tasks.now giver chan }
-    ensures { (t : Task) (chan : ℕ) (m : Message) → HasTask tasks.now giver t → t.wait ≡ Wait.Offers chan m → result.now ≡ m }
+    ensures { IsOffered tasks.now giver result.now }
 {
     match &tasks[giver as usize] {
         Some(task) => match &task.wait {
@@ -140,7 +139,7 @@ fn took(arm: Arm, message: Option<Message>) -> Wait
 
 /// The first of the faults that were noted and of this one, which comes after them.
 fn first_of(noted: Option<Fault>, fault: Fault) -> Option<Fault>
-    ensures { (faults : List Fault) → noted ≡ first_noted faults → result ≡ first_noted (faults ++ fault ∷ []) }
+    ensures { NotesFirst noted fault result }
 {
     match noted {
         Some(first) => Some(first),
@@ -153,8 +152,8 @@ impl Tables {
     /// channels. The arm by which it takes the message is handed out.
     fn leave(&mut self, alloc: Global, taker: u32, chan: u32, pick: u32) -> Arm
         requires { IsTaking self.old.tasks.items taker chan pick }
-        ensures arm { (t : Task) (a : Arm) → HasTask self.old.tasks.items taker t → TakesAlone pick chan t.wait a → result ≡ a }
-        ensures left { (t : Task) → HasTask self.old.tasks.items taker t → LeftChannels self.old taker t self.new }
+        ensures arm { IsTakingBy self.old.tasks.items taker chan pick result }
+        ensures left { LeavesChannels self.old taker self.new }
     {
         match take_wait(&mut self.tasks, taker) {
             Wait::Awaits { chan: own } => {
@@ -185,7 +184,7 @@ impl Tables {
         requires takes { IsTaking self.old.tasks.items taker chan pick }
         requires rising { IsRising self.old.ready.items }
         requires room { HasRoom self.old 1 }
-        ensures ok { OnOk result ((t : Task) (a : Arm) → HasTask self.old.tasks.items taker t → TakesAlone pick chan t.wait a → Gave self.old number taker chan t a message self.new) }
+        ensures ok { OnOk result (GaveTo self.old number taker chan pick message self.new) }
         ensures err { IfErr result (λ e. (self.new ≡ self.old) × (e.0 ≡ message)) }
     {
         let (sender, receiver) = (End::Process(number), End::Process(taker));
@@ -221,7 +220,7 @@ impl Tables {
         requires apart { number ≢ giver }
         requires rising { IsRising self.old.ready.items }
         requires room { HasRoom self.old 1 }
-        ensures ok { OnOk result ((t : Task) (m : Message) → HasTask self.old.tasks.items giver t → t.wait ≡ Wait.Offers chan m → TookFrom self.old number giver chan arm t m self.new) }
+        ensures ok { OnOk result (TookOffer self.old number giver chan arm self.new) }
         ensures err { OnErr result (self.new ≡ self.old) }
     {
         let (sender, receiver) = (End::Process(giver), End::Process(number));
@@ -246,9 +245,10 @@ impl Tables {
         message: Message,
         pick: u32,
     ) -> Result<(), (Message, AllocError)>
-        requires mid { (p : Program) × HasMid p self.old number place (Wait.Offers chan message) }
+        requires mid { HasSomeMid self.old number place (Wait.Offers chan message) }
         requires room { HasRoom self.old 1 }
-        ensures ok { OnOk result ((p : Program) (keyboard : List ℕ) → Settles p keyboard pick number place (Wait.Offers chan message) self.old self.new) }
+        ensures ok { OnOk result
+            (SettlesBy pick number place (Wait.Offers chan message) self.old self.new) }
         ensures err { IfErr result (λ e. (self.new ≡ self.old) × (e.0 ≡ message)) }
     {
         if let Some(receiver) = reader(chan) {
@@ -277,9 +277,10 @@ impl Tables {
         number: u32,
         chan: u32,
     ) -> Result<(), AllocError>
-        requires mid { (p : Program) × HasMid p self.old number place (Wait.Awaits chan) }
+        requires mid { HasSomeMid self.old number place (Wait.Awaits chan) }
         requires room { HasRoom self.old 1 }
-        ensures ok { OnOk result ((p : Program) (pick : ℕ) → Settles p keyboard.now pick number place (Wait.Awaits chan) self.old self.new) }
+        ensures ok { OnOk result
+            (SettlesOn keyboard.now number place (Wait.Awaits chan) self.old self.new) }
         ensures err { OnErr result (self.new ≡ self.old) }
     {
         if let Some(byte) = next_byte(chan, keyboard, self.used) {
@@ -308,9 +309,10 @@ impl Tables {
         arms: Items<Arm>,
         pick: u32,
     ) -> Result<(), (Items<Arm>, AllocError)>
-        requires mid { (p : Program) × HasMid p self.old number place (Wait.Chooses pri arms) }
+        requires mid { HasSomeMid self.old number place (Wait.Chooses pri arms) }
         requires room { HasRoom self.old 1 }
-        ensures ok { OnOk result ((p : Program) → Settles p keyboard.now pick number place (Wait.Chooses pri arms) self.old self.new) }
+        ensures ok { OnOk result
+            (SettlesWith keyboard.now pick number place (Wait.Chooses pri arms) self.old self.new) }
         ensures err { IfErr result (λ e. (self.new ≡ self.old) × (e.0 ≡ arms)) }
     {
         let named = keyboard_channel(keyboard, self.used);
@@ -345,8 +347,8 @@ impl Tables {
 
     /// The process halts, for good.
     pub(crate) fn halt(&mut self, place: usize, number: u32)
-        requires { (p : Program) × HasMid p self.old number place Wait.Halted }
-        ensures { (p : Program) (keyboard : List ℕ) (pick : ℕ) → Settles p keyboard pick number place Wait.Halted self.old self.new }
+        requires { HasSomeMid self.old number place Wait.Halted }
+        ensures { SettlesAnyhow number place Wait.Halted self.old self.new }
     {
         rest(
             &mut self.tasks,
@@ -359,8 +361,8 @@ impl Tables {
 
     /// The process fails, and stands so for good.
     pub(crate) fn fail(&mut self, place: usize, number: u32, fault: Fault)
-        requires { (p : Program) × HasMid p self.old number place (Wait.Faulted fault) }
-        ensures { (p : Program) (keyboard : List ℕ) (pick : ℕ) → Settles p keyboard pick number place (Wait.Faulted fault) self.old self.new }
+        requires { HasSomeMid self.old number place (Wait.Faulted fault) }
+        ensures { SettlesAnyhow number place (Wait.Faulted fault) self.old self.new }
     {
         rest(
             &mut self.tasks,

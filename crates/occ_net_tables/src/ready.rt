@@ -2,13 +2,14 @@
 ghost use Rattle.std.specs.Prelude.{◌≡◌, ◌≤◌, ◌<◌, ◌+◌, ◌%◌, insert, length, vec_capacity, vec_len};
 ghost use Rattle.occ_machine.specs.SameStop.{IsRising};
 ghost use Rattle.occ_net_tables.specs.Ready.{put_in};
+ghost use Rattle.occ_net_tables.specs.Room.{HasOneMore};
 
 /// Puts a number among rising ones, where there is room for it.
 pub(crate) fn insert(ready: &mut Vec<u32>, number: u32)
     requires rising { IsRising ready.old.items }
     requires room { vec_len ready.old < vec_capacity ready.old }
     ensures items { ready.new.items ≡ put_in number ready.old.items }
-    ensures room { (vec_len ready.new ≡ vec_len ready.old + 1) × (vec_capacity ready.old ≤ vec_capacity ready.new) }
+    ensures room { HasOneMore ready.old ready.new }
 {
     let place = place_for(ready, number);
     let Ok(()) = ready.insert(place, number) else {

@@ -1,10 +1,8 @@
 //! A run of a plan.
-ghost use Rattle.std.specs.Prelude.{◌≡◌, ◌<◌, IfOk, IsTrue, List, length, ℕ};
-ghost use Rattle.occ_net_replay.specs.Replay.{Net, ending_of};
-ghost use Rattle.occ_net_tables.specs.Endings.{GoesOn};
-ghost use Rattle.occ_net_tables.specs.Holding.{Holds};
+ghost use Rattle.std.specs.Prelude.{◌≡◌, ◌<◌, IfOk, IsTrue, length};
+ghost use Rattle.occ_net_tables.specs.Endings.{EndsAs, GoesOn};
 ghost use Rattle.occ_net_tables.specs.Outcomes.{IsOutcome, IsRan};
-ghost use Rattle.occ_net_tables.specs.Places.{kept_by, placed_among};
+ghost use Rattle.occ_net_tables.specs.Places.{IsKeptBy, placed_among};
 ghost use Rattle.occ_choices.specs.Plans.{choices_of};
 
 use crate::ready::place_among;
@@ -63,7 +61,7 @@ fn placed_choice(ready: &[u32], choice: Choice) -> Choice
 /// What is kept of a choice, which selects this place.
 #[inline(always)]
 fn kept_choice(choice: Choice, placed: Choice, keep: Keep) -> Choice
-    ensures { (ready : List ℕ) → placed ≡ placed_among ready choice → result ≡ kept_by keep ready choice }
+    ensures { IsKeptBy keep choice placed result }
 {
     match keep {
         Keep::Given => choice,
@@ -75,7 +73,7 @@ fn kept_choice(choice: Choice, placed: Choice, keep: Keep) -> Choice
 #[inline(always)]
 fn ending_now(tables: &Tables, code: &Code, going: bool) -> Option<Ending>
     requires { IsTrue going → GoesOn code.now tables.now }
-    ensures { (keyboard : List ℕ) (net : Net) → Holds code.now keyboard tables.now net → result ≡ ending_of code.now.errors net }
+    ensures { EndsAs code.now tables.now result }
 {
     if going {
         return None;

@@ -1,14 +1,9 @@
 //! A turn of the network: the chosen process goes on, and what that makes possible happens.
-ghost use Rattle.std.specs.Prelude.{◌≡◌, IfErr, IfOk, IsTrue, List, OnOk, ℕ};
+ghost use Rattle.std.specs.Prelude.{◌≡◌, IfErr, IfOk, IsTrue, OnOk};
 ghost use Rattle.occ_term.specs.Messages.{message};
-ghost use Rattle.occ_machine.specs.Compiled.{Program};
-ghost use Rattle.occ_machine.specs.declared.task.Task.{Task};
-ghost use Rattle.occ_proc.specs.Turns.{left_message};
-ghost use Rattle.occ_net_replay.specs.Replay.{HasTask, Net};
 ghost use Rattle.occ_net_tables.specs.Endings.{GoesOn};
-ghost use Rattle.occ_net_tables.specs.Holding.{Holds};
 ghost use Rattle.occ_net_tables.specs.Room.{AreSame, HasRoom, more_ready};
-ghost use Rattle.occ_net_tables.specs.Settling.{HasMid, HasStopped, Settles, SettlesFrom, Standing, TurnsTo};
+ghost use Rattle.occ_net_tables.specs.Settling.{HasMid, HasSomeMid, HasStopped, Settles, SettlesBy, SettlesOn, SettlesWait, Standing, TakesTurn, offer_left};
 
 use crate::ready::place_among;
 use crate::tables::Tables;
@@ -40,7 +35,7 @@ impl Tables {
         choice: Choice,
     ) -> Result<bool, AllocError>
         requires { Standing code.now keyboard.now self.old }
-        ensures turn { OnOk result ((net : Net) → Holds code.now keyboard.now self.old net → TurnsTo code.now keyboard.now choice net self.new) }
+        ensures turn { OnOk result (TakesTurn code.now keyboard.now choice self.old self.new) }
         ensures going { IfOk result (λ going. IsTrue going → GoesOn code.now self.new) }
     {
         code.compiled();
@@ -78,8 +73,9 @@ impl Tables {
         tag: Option<u32>,
         pick: u32,
     ) -> Result<(), AllocError>
-        requires { (p : Program) × HasMid p self.old number place (Wait.Offers chan (message tag (left_message scratch.old))) }
-        ensures { OnOk result ((p : Program) (keyboard : List ℕ) → Settles p keyboard pick number place (Wait.Offers chan (message tag (left_message scratch.old))) self.old self.new) }
+        requires { HasSomeMid self.old number place (offer_left chan tag scratch.old) }
+        ensures { OnOk result
+            (SettlesBy pick number place (offer_left chan tag scratch.old) self.old self.new) }
     {
         self.make_room(1)?;
         let message = scratch.take_message(tag);
@@ -100,8 +96,9 @@ impl Tables {
         number: u32,
         chan: u32,
     ) -> Result<(), AllocError>
-        requires { (p : Program) × HasMid p self.old number place (Wait.Awaits chan) }
-        ensures { OnOk result ((p : Program) (pick : ℕ) → Settles p keyboard.now pick number place (Wait.Awaits chan) self.old self.new) }
+        requires { HasSomeMid self.old number place (Wait.Awaits chan) }
+        ensures { OnOk result
+            (SettlesOn keyboard.now number place (Wait.Awaits chan) self.old self.new) }
     {
         self.make_room(1)?;
         self.await_on(alloc, keyboard, place, number, chan)?;
@@ -120,7 +117,8 @@ impl Tables {
         pick: u32,
     ) -> Result<(), AllocError>
         requires { HasStopped code.now self.old number place }
-        ensures { OnOk result ((t : Task) → HasTask self.old.tasks.items number t → SettlesFrom code.now keyboard.now pick number place t self.old self.new) }
+        ensures { OnOk result
+            (SettlesWait code.now keyboard.now pick number place self.old self.new) }
     {
         let wait = take_wait(&mut self.tasks, number);
         match self.settle(alloc, code, keyboard, place, number, wait, pick) {
@@ -152,7 +150,8 @@ impl Tables {
         pick: u32,
     ) -> Result<(), (Wait, AllocError)>
         requires { HasMid code.now self.old number place wait }
-        ensures ok { OnOk result (Settles code.now keyboard.now pick number place wait self.old self.new) }
+        ensures ok { OnOk result
+            (Settles code.now keyboard.now pick number place wait self.old self.new) }
         ensures err { IfErr result (λ e. AreSame self.old self.new × (e.0 ≡ wait)) }
     {
         if is_ready(&wait) {
@@ -179,7 +178,8 @@ impl Tables {
     ) -> Result<(), (Wait, AllocError)>
         requires mid { HasMid code.now self.old number place wait }
         requires room { HasRoom self.old (more_ready wait) }
-        ensures ok { OnOk result (Settles code.now keyboard.now pick number place wait self.old self.new) }
+        ensures ok { OnOk result
+            (Settles code.now keyboard.now pick number place wait self.old self.new) }
         ensures err { IfErr result (λ e. (self.new ≡ self.old) × (e.0 ≡ wait)) }
     {
         match wait {

@@ -1,9 +1,8 @@
 //! The network: its parts, its start and its ending.
-ghost use Rattle.std.specs.Prelude.{◌≡◌, IfOk, List, None, replicate, ℕ};
-ghost use Rattle.occ_machine.specs.Compiled.{Program};
-ghost use Rattle.occ_net_replay.specs.Replay.{Net, ending_of, first_net, is_done, main_done, stopped_by};
+ghost use Rattle.std.specs.Prelude.{◌≡◌, IfOk, None, map, replicate};
+ghost use Rattle.occ_net_replay.specs.Replay.{ending_of, is_done, main_done, stopped_by};
 ghost use Rattle.occ_net_tables.specs.Endings.{ends_by};
-ghost use Rattle.occ_net_tables.specs.Holding.{Holds};
+ghost use Rattle.occ_net_tables.specs.Holding.{HeldBy, HoldsFirst};
 
 use crate::entries::{empty, no_counts};
 use crate::tasks::put_task;
@@ -103,7 +102,7 @@ fn stopped_by(fault: Option<Fault>) -> Ending
 impl Tables {
     /// The network before its first turn.
     pub fn new(alloc: Global, code: &Code) -> Result<Tables, AllocError>
-        ensures { IfOk result (λ n. (keyboard : List ℕ) → Holds code.now keyboard n (first_net code.now keyboard)) }
+        ensures { IfOk result (HoldsFirst code.now) }
     {
         code.compiled();
         let Some(body) = code.body(0) else {
@@ -143,7 +142,7 @@ impl Tables {
 
     /// How the run has ended, if it has, where a fault does this.
     pub fn ending(&self, errors: Errors) -> Option<Ending>
-        ensures { (p : Program) (keyboard : List ℕ) (net : Net) → Holds p keyboard self.now net → result ≡ ending_of errors net }
+        ensures { HeldBy self.now (λ net. result ≡ ending_of errors net) }
     {
         if let Some(fault) = ends_by(errors, self.fault) {
             return Some(Ending::Fault(fault));
@@ -159,14 +158,14 @@ impl Tables {
 
     /// The communications that there were, in order.
     pub fn trace(&self) -> &Trace
-        ensures { (p : Program) (keyboard : List ℕ) (net : Net) → Holds p keyboard self.now net → net.trace ≡ result.now }
+        ensures { HeldBy self.now (λ net. net.trace ≡ result.now) }
     {
         &self.trace
     }
 
     /// The same, where the network is no longer wanted.
     pub fn into_trace(self) -> Trace
-        ensures { (p : Program) (keyboard : List ℕ) (net : Net) → Holds p keyboard self net → net.trace ≡ result }
+        ensures { HeldBy self (λ net. net.trace ≡ result) }
     {
         let Tables {
             tasks: _,

@@ -1,10 +1,8 @@
 //! Changes of one process's task, at its place of the table.
 ghost use Rattle.std.specs.Prelude.{◌≡◌, ◌↔◌, ◌+◌, ◌<◌, ◌^◌, IfOk, IsTrue, Some, length, slice_set};
-ghost use Rattle.occ_machine.specs.SameStop.{ready_with};
 ghost use Rattle.occ_machine.specs.declared.task.Task.{Task};
 ghost use Rattle.occ_net_replay.specs.Replay.{HasTask};
-ghost use Rattle.occ_net_tables.specs.Tasks.{EndedBy, HasTurn, IsTaken, IsThere};
-ghost use Rattle.occ_proc.specs.Turns.{left_message};
+ghost use Rattle.occ_net_tables.specs.Tasks.{EndsTurn, IsThere, MayTakeTurn, WaitSet, WaitTaken};
 
 use occ_machine::{Body, Task, Wait};
 use occ_proc::{Scratch, TurnEnd, advance_to_end};
@@ -22,8 +20,8 @@ pub(crate) fn advance_task(
     number: u32,
 ) -> Result<TurnEnd, AllocError>
     requires small { length body.now.code + 1 < 2 ^ 32 }
-    requires turn { HasTurn body.now tasks.old.items number }
-    ensures { IfOk result (λ end. (t : Task) → HasTask tasks.old.items number t → EndedBy body.now tasks.old.items number t end (left_message scratch.new) tasks.new.items) }
+    requires turn { MayTakeTurn body.now tasks.old.items number }
+    ensures { IfOk result (EndsTurn body.now tasks.old number scratch.new tasks.new) }
 {
     match &mut tasks[number as usize] {
         Some(task) => {
@@ -49,7 +47,7 @@ pub(crate) fn is_ready(wait: &Wait) -> bool
 #[inline(always)]
 pub(crate) fn set_wait(tasks: &mut Vec<Option<Task>>, number: u32, wait: Wait)
     requires { IsThere tasks.old.items number }
-    ensures { (t : Task) → HasTask tasks.old.items number t → tasks.new.items ≡ slice_set tasks.old.items number (Some (ready_with t wait)) }
+    ensures { WaitSet tasks.old.items number wait tasks.new.items }
 {
     match &mut tasks[number as usize] {
         Some(task) => task.wait = wait,
@@ -61,7 +59,7 @@ pub(crate) fn set_wait(tasks: &mut Vec<Option<Task>>, number: u32, wait: Wait)
 #[inline(always)]
 pub(crate) fn take_wait(tasks: &mut Vec<Option<Task>>, number: u32) -> Wait
     requires { IsThere tasks.old.items number }
-    ensures { (t : Task) → HasTask tasks.old.items number t → IsTaken tasks.old.items number t result tasks.new.items }
+    ensures { WaitTaken tasks.old.items number result tasks.new.items }
 {
     match &mut tasks[number as usize] {
         Some(task) => mem::replace(&mut task.wait, Wait::Ready),

@@ -1,11 +1,8 @@
 //! Turns that were taken elsewhere: the last one's task takes its process's place, and what that makes possible
 //! happens, or nothing changes.
 ghost use Rattle.std.specs.Prelude.{◌≡◌, IfErr, IfOk, OnOk};
-ghost use Rattle.occ_net_replay.specs.declared.choice.Choice.{Choice};
-ghost use Rattle.occ_net_replay.specs.Replay.{HasTask, Net};
-ghost use Rattle.occ_net_tables.specs.Holding.{Holds};
 ghost use Rattle.occ_net_tables.specs.Room.{AreSame};
-ghost use Rattle.occ_net_tables.specs.Settling.{IsTurnAt, Standing, StandsBehind, TurnsBehind, TurnsTo};
+ghost use Rattle.occ_net_tables.specs.Settling.{IsTurnAt, Standing, StandsBehind, TakesLast, TakesTurnAt};
 
 use crate::tables::Tables;
 use crate::tasks::swap_task;
@@ -29,7 +26,7 @@ impl Tables {
     ) -> Result<(), (Task, AllocError)>
         requires standing { Standing code.now keyboard.now self.old }
         requires turn { IsTurnAt code.now self.old place number after }
-        ensures ok { OnOk result ((net : Net) (choice : Choice) → Holds code.now keyboard.now self.old net → place ≡ choice.which → pick ≡ choice.pick → TurnsTo code.now keyboard.now choice net self.new) }
+        ensures ok { OnOk result (TakesTurnAt code.now keyboard.now place pick self.old self.new) }
         ensures err { IfErr result (λ e. AreSame self.old self.new × (e.0 ≡ after)) }
     {
         code.compiled();
@@ -61,7 +58,8 @@ impl Tables {
         pick: u32,
     ) -> Result<Task, (Task, AllocError)>
         requires { StandsBehind code.now keyboard.now self.old place number after }
-        ensures ok { IfOk result (λ before. HasTask self.old.tasks.items number before × TurnsBehind code.now keyboard.now self.old place number after pick self.new) }
+        ensures ok { IfOk result
+            (TakesLast code.now keyboard.now self.old place number after pick self.new) }
         ensures err { IfErr result (λ e. AreSame self.old self.new × (e.0 ≡ after)) }
     {
         code.compiled();

@@ -7,9 +7,9 @@ use Rattle.occ_term.specs.declared.communication.Communication.{Communication}
 use Rattle.occ_net_trace.specs.declared.lists.Lists.{Lists}
 use Rattle.occ_net_trace.specs.declared.shapes.Head.{Head}
 use Rattle.occ_net_trace.specs.declared.shapes.Shape.{Shape}
-use Rattle.occ_net_trace.specs.Flat.{all_lengths, all_shapes, all_words, communications_in, head_of, items_in, lengths_behind, lengths_in, made, shapes_behind, shapes_in, words_behind, words_in}
-use Rattle.occ_net_trace.specs.Kept.{IsKept, kept_in}
-use Rattle.occ_net_trace.specs.Room.{AreSame, Puts}
+use Rattle.occ_net_trace.specs.Flat.{all_lengths, all_shapes, all_words, communications_in, communication_head, items_in, lengths_behind, lengths_in, made, shapes_behind, shapes_in, words_behind, words_in}
+use Rattle.occ_net_trace.specs.Kept.{AreListsOf, kept_in}
+use Rattle.occ_net_trace.specs.Room.{HoldSame, Appends}
 
 take_front : (xs ys : List ℤ) → take (length xs) (xs ++ ys) ≡ xs
 take_front [] ys = refl
@@ -62,30 +62,30 @@ one_read : (h : Head) (hs : List Head) (ps : List Part) (ss : List Shape) (ns : 
 one_read h hs ps ss ns ws =
     rw (items_read ps ss ns ws, shapes_read ps ss, lengths_read ps ss ns, words_read ps ss ns ws)
 
-all_read : (xs : List Communication) → communications_in (map head_of xs) (shapes_in xs) (lengths_in xs) (words_in xs) ≡ xs
+all_read : (xs : List Communication) → communications_in (map communication_head xs) (shapes_in xs) (lengths_in xs) (words_in xs) ≡ xs
 all_read [] = refl
 all_read (x ∷ xs) =
-    one_read (head_of x) (map head_of xs) x.message.items (shapes_in xs) (lengths_in xs) (words_in xs) ∙ ap (λ l. x ∷ l) (all_read xs)
+    one_read (communication_head x) (map communication_head xs) x.message.items (shapes_in xs) (lengths_in xs) (words_in xs) ∙ ap (λ l. x ∷ l) (all_read xs)
 
-pub read_kept : (xs : List Communication) (l : Lists) → IsKept xs l → kept_in l ≡ xs
+pub read_kept : (xs : List Communication) (l : Lists) → AreListsOf xs l → kept_in l ≡ xs
 read_kept xs l k =
     ap (λ hs. communications_in hs l.shapes.items l.lengths.items l.words.items) k.heads
-    ∙ ap (λ ss. communications_in (map head_of xs) ss l.lengths.items l.words.items) k.shapes
-    ∙ ap (λ ns. communications_in (map head_of xs) (shapes_in xs) ns l.words.items) k.lengths
-    ∙ ap (communications_in (map head_of xs) (shapes_in xs) (lengths_in xs)) k.words
+    ∙ ap (λ ss. communications_in (map communication_head xs) ss l.lengths.items l.words.items) k.shapes
+    ∙ ap (λ ns. communications_in (map communication_head xs) (shapes_in xs) ns l.words.items) k.lengths
+    ∙ ap (communications_in (map communication_head xs) (shapes_in xs) (lengths_in xs)) k.words
     ∙ all_read xs
 
-pub kept_here : (xs : List Communication) (l : Lists) → IsKept xs l → IsKept (kept_in l) l
-kept_here xs l k = subst (λ ys. IsKept ys l) (sym (read_kept xs l k)) k
+pub kept_here : (xs : List Communication) (l : Lists) → AreListsOf xs l → AreListsOf (kept_in l) l
+kept_here xs l k = subst (λ ys. AreListsOf ys l) (sym (read_kept xs l k)) k
 
 -- ---- more room, and one more communication
 
-pub kept_as : (xs : List Communication) (old new : Lists) → IsKept xs old → AreSame old new → IsKept xs new
+pub kept_as : (xs : List Communication) (old new : Lists) → AreListsOf xs old → HoldSame old new → AreListsOf xs new
 kept_as xs old new k s = record { heads = s.heads ∙ k.heads; shapes = s.shapes ∙ k.shapes; lengths = s.lengths ∙ k.lengths; words = s.words ∙ k.words }
 
-heads_more : (xs : List Communication) (x : Communication) → map head_of xs ++ head_of x ∷ [] ≡ map head_of (xs ++ x ∷ [])
+heads_more : (xs : List Communication) (x : Communication) → map communication_head xs ++ communication_head x ∷ [] ≡ map communication_head (xs ++ x ∷ [])
 heads_more [] x = refl
-heads_more (y ∷ ys) x = ap (λ l. head_of y ∷ l) (heads_more ys x)
+heads_more (y ∷ ys) x = ap (λ l. communication_head y ∷ l) (heads_more ys x)
 
 shapes_more : (xs : List Communication) (x : Communication) → shapes_in xs ++ all_shapes x.message.items ≡ shapes_in (xs ++ x ∷ [])
 shapes_more [] x = sym (append-nil (all_shapes x.message.items))
@@ -99,10 +99,10 @@ words_more : (xs : List Communication) (x : Communication) → words_in xs ++ al
 words_more [] x = sym (append-nil (all_words x.message.items))
 words_more (y ∷ ys) x = append_assoc (all_words y.message.items) (words_in ys) (all_words x.message.items) ∙ ap (λ l. all_words y.message.items ++ l) (words_more ys x)
 
-pub kept_more : (xs : List Communication) (x : Communication) (old new : Lists) → IsKept xs old → Puts old (head_of x) x.message.items new → IsKept (xs ++ x ∷ []) new
+pub kept_more : (xs : List Communication) (x : Communication) (old new : Lists) → AreListsOf xs old → Appends old (communication_head x) x.message.items new → AreListsOf (xs ++ x ∷ []) new
 kept_more xs x old new k p =
     record {
-      heads = p.heads ∙ ap (λ l. l ++ head_of x ∷ []) k.heads ∙ heads_more xs x;
+      heads = p.heads ∙ ap (λ l. l ++ communication_head x ∷ []) k.heads ∙ heads_more xs x;
       shapes = p.shapes ∙ ap (λ l. l ++ all_shapes x.message.items) k.shapes ∙ shapes_more xs x;
       lengths = p.lengths ∙ ap (λ l. l ++ all_lengths x.message.items) k.lengths ∙ lengths_more xs x;
       words = p.words ∙ ap (λ l. l ++ all_words x.message.items) k.words ∙ words_more xs x;
@@ -114,13 +114,13 @@ drop_behind : {A : Type 0} (xs ys : List A) → drop (length xs) (xs ++ ys) ≡ 
 drop_behind [] ys = refl
 drop_behind (x ∷ xs) ys = drop_behind xs ys
 
-pub heads_count : (xs : List Communication) → length (map head_of xs) ≡ length xs
+pub heads_count : (xs : List Communication) → length (map communication_head xs) ≡ length xs
 heads_count [] = refl
 heads_count (x ∷ xs) = ap (λ n. suc n) (heads_count xs)
 
-heads_join : (xs ys : List Communication) → map head_of (xs ++ ys) ≡ map head_of xs ++ map head_of ys
+heads_join : (xs ys : List Communication) → map communication_head (xs ++ ys) ≡ map communication_head xs ++ map communication_head ys
 heads_join [] ys = refl
-heads_join (x ∷ xs) ys = ap (λ l. head_of x ∷ l) (heads_join xs ys)
+heads_join (x ∷ xs) ys = ap (λ l. communication_head x ∷ l) (heads_join xs ys)
 
 shapes_join : (xs ys : List Communication) → shapes_in (xs ++ ys) ≡ shapes_in xs ++ shapes_in ys
 shapes_join [] ys = refl
@@ -134,13 +134,13 @@ words_join : (xs ys : List Communication) → words_in (xs ++ ys) ≡ words_in x
 words_join [] ys = refl
 words_join (x ∷ xs) ys = ap (λ l. all_words x.message.items ++ l) (words_join xs ys) ∙ sym (append_assoc (all_words x.message.items) (words_in xs) (words_in ys))
 
-pub behind_read : (l : Lists) (xs before after : List Communication) → IsKept xs l → xs ≡ before ++ after
+pub behind_read : (l : Lists) (xs before after : List Communication) → AreListsOf xs l → xs ≡ before ++ after
     → communications_in (drop (length before) l.heads.items) (drop (length (shapes_in before)) l.shapes.items) (drop (length (lengths_in before)) l.lengths.items) (drop (length (words_in before)) l.words.items) ≡ after
 behind_read l xs before after k is =
-    let heads : drop (length before) l.heads.items ≡ map head_of after =
-    ap (drop (length before)) (k.heads ∙ ap (map head_of) is ∙ heads_join before after)
-    ∙ ap (λ n. drop n (map head_of before ++ map head_of after)) (sym (heads_count before))
-    ∙ drop_behind (map head_of before) (map head_of after) in
+    let heads : drop (length before) l.heads.items ≡ map communication_head after =
+    ap (drop (length before)) (k.heads ∙ ap (map communication_head) is ∙ heads_join before after)
+    ∙ ap (λ n. drop n (map communication_head before ++ map communication_head after)) (sym (heads_count before))
+    ∙ drop_behind (map communication_head before) (map communication_head after) in
     let shapes : drop (length (shapes_in before)) l.shapes.items ≡ shapes_in after =
     ap (drop (length (shapes_in before))) (k.shapes ∙ ap shapes_in is ∙ shapes_join before after) ∙ drop_behind (shapes_in before) (shapes_in after) in
     let lengths : drop (length (lengths_in before)) l.lengths.items ≡ lengths_in after =

@@ -11,8 +11,8 @@ use Rattle.occ_net_trace.specs.declared.shapes.Shape.TheVariants as shape
 
 -- ---- how communications are kept
 
-abbrev pub head_of : Communication → Head
-head_of x = record { chan = x.chan; sender = x.sender; receiver = x.receiver; tag = x.message.tag }
+abbrev pub communication_head : Communication → Head
+communication_head x = record { chan = x.chan; sender = x.sender; receiver = x.receiver; tag = x.message.tag }
 
 abbrev pub shape_of : Part → Shape
 shape_of (One type v) = shape.One type

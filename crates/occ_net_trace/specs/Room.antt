@@ -7,7 +7,7 @@ use Rattle.occ_net_trace.specs.declared.shapes.Head.{Head}
 use Rattle.occ_net_trace.specs.Flat.{all_lengths, all_shapes, all_words, lengths_of, shape_of, words_of}
 
 -- both hold the same
-pub record AreSame (old new : Lists) : Type 0 where
+pub record HoldSame (old new : Lists) : Type 0 where
   pub heads : new.heads.items ≡ old.heads.items
   pub shapes : new.shapes.items ≡ old.shapes.items
   pub lengths : new.lengths.items ≡ old.lengths.items
@@ -27,7 +27,7 @@ pub record HasRoomForAll (l : Lists) (ps : List Part) : Type 0 where
   pub words : vec_len l.words + length (all_words ps) ≤ vec_capacity l.words
 
 -- for a communication of these items
-pub record HasRoom (l : Lists) (ps : List Part) : Type 0 where
+pub record HasRoomForMessage (l : Lists) (ps : List Part) : Type 0 where
   pub heads : vec_len l.heads < vec_capacity l.heads
   pub items : HasRoomForAll l ps
 
@@ -51,7 +51,7 @@ pub record PutsPart (old : Lists) (p : Part) (new : Lists) : Type 0 where
   pub words_room : vec_capacity old.words ≤ vec_capacity new.words
 
 -- a communication is there
-pub record Puts (old : Lists) (h : Head) (ps : List Part) (new : Lists) : Type 0 where
+pub record Appends (old : Lists) (h : Head) (ps : List Part) (new : Lists) : Type 0 where
   pub heads : new.heads.items ≡ old.heads.items ++ h ∷ []
   pub shapes : new.shapes.items ≡ old.shapes.items ++ all_shapes ps
   pub lengths : new.lengths.items ≡ old.lengths.items ++ all_lengths ps

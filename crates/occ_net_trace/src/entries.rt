@@ -1,7 +1,7 @@
 //! The communications of a trace, one after another.
 ghost use Rattle.std.specs.Prelude.{◌≡◌, ◌↔◌, ◌<◌, ◌^◌, [], IfOk, IsTrue, length, take};
 ghost use Rattle.std.specs.Iterator.{YieldsFirst, item_count};
-ghost use Rattle.occ_net_trace.specs.Flat.{communications_in};
+ghost use Rattle.occ_net_trace.specs.Kept.{communications_from};
 
 use crate::messages::MessageView;
 use crate::pieces::Pieces;
@@ -89,7 +89,7 @@ impl<'a> Entry<'a> {
 impl<'a> Entries<'a> {
     /// The communications with these heads, whose items stand from here on.
     pub(crate) fn new(heads: &'a [Head], pieces: Pieces<'a>) -> Entries<'a>
-        ensures { result ≡ communications_in heads.now pieces.entry.shapes.now pieces.entry.lengths.now pieces.entry.words.now }
+        ensures { result ≡ communications_from heads.now pieces.entry }
     {
         Entries { heads, pieces }
     }

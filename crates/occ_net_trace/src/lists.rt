@@ -1,7 +1,7 @@
 //! The shared lists, and how a communication is put behind the others.
 ghost use Rattle.std.specs.Prelude.{◌≡◌, ◌+◌, ◌<◌, ◌≤◌, ◌^◌, ◌++◌, ◌∷◌, [], OnOk, length, vec_capacity, vec_len};
 ghost use Rattle.occ_net_trace.specs.Flat.{all_words, shape_of, words_of};
-ghost use Rattle.occ_net_trace.specs.Room.{AreEmpty, AreSame, HasRoom, HasRoomFor, Puts, PutsPart};
+ghost use Rattle.occ_net_trace.specs.Room.{AreEmpty, HoldSame, HasRoomForMessage, HasRoomFor, Appends, PutsPart};
 
 use crate::shapes::{Head, Shape};
 use occ_term::Part;
@@ -74,8 +74,8 @@ impl Lists {
 
     /// Room for a communication of these items. After a refused growth the lists hold what they held.
     pub(crate) fn reserve(&mut self, parts: &[Part]) -> Result<(), AllocError>
-        ensures same { AreSame self.old self.new }
-        ensures room { OnOk result (HasRoom self.new parts.now) }
+        ensures same { HoldSame self.old self.new }
+        ensures room { OnOk result (HasRoomForMessage self.new parts.now) }
     {
         self.heads.reserve(1)?;
         self.shapes.reserve(parts.len().saturating_add(1))?;
@@ -86,8 +86,8 @@ impl Lists {
 
     /// Puts a communication behind the others, for which there is room.
     pub(crate) fn put(&mut self, head: Head, parts: &[Part])
-        requires { HasRoom self.old parts.now }
-        ensures { Puts self.old head parts.now self.new }
+        requires { HasRoomForMessage self.old parts.now }
+        ensures { Appends self.old head parts.now self.new }
     {
         self.heads.push_reserved(head);
         for part in parts {

@@ -2,8 +2,8 @@
 ghost use Rattle.std.specs.Prelude.{◌≡◌, IfOk};
 ghost use Rattle.std.specs.Iterator.{YieldsFirstBy, item_count};
 ghost use Rattle.occ_term.specs.Messages.{message};
-ghost use Rattle.occ_net_trace.specs.Flat.{items_in};
-ghost use Rattle.occ_net_trace.specs.Views.{part_of};
+ghost use Rattle.occ_net_trace.specs.Kept.{items_from};
+ghost use Rattle.occ_net_trace.specs.Views.{part_viewed};
 
 use crate::pieces::{Pieces, split_word};
 use crate::shapes::Shape;
@@ -59,7 +59,7 @@ impl<'a> Model for PartViews<'a> {
 impl<'a> PartView<'a> {
     /// A copy. The error is a refused growth.
     pub fn copy(&self, alloc: Global) -> Result<Part, AllocError>
-        ensures { IfOk result (λ p. p ≡ part_of self.now) }
+        ensures { IfOk result (λ p. p ≡ part_viewed self.now) }
     {
         match self {
             PartView::One(primitive, value) => Ok(Part::One(*primitive, *value)),
@@ -78,7 +78,7 @@ impl<'a> PartView<'a> {
 impl<'a> MessageView<'a> {
     /// The message with this tag whose items stand here.
     pub(crate) fn new(tag: Option<u32>, pieces: Pieces<'a>) -> MessageView<'a>
-        ensures { result ≡ message tag (items_in pieces.entry.shapes.now pieces.entry.lengths.now pieces.entry.words.now) }
+        ensures { result ≡ message tag (items_from pieces.entry) }
     {
         MessageView { tag, pieces }
     }
@@ -118,7 +118,7 @@ impl<'a> MessageView<'a> {
 impl<'a> Iterator for PartViews<'a> {
     type Item = PartView<'a>;
 
-    ghost next_gives = { YieldsFirstBy part_of (λ parts. parts) };
+    ghost next_gives = { YieldsFirstBy part_viewed (λ parts. parts) };
 
     ghost remaining = { item_count (λ parts. parts) };
 

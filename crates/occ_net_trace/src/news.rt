@@ -1,6 +1,6 @@
 //! What a trace has got since it was read last.
 ghost use Rattle.std.specs.Prelude.{◌≡◌, [], OnOk, drop};
-ghost use Rattle.occ_net_trace.specs.Flat.{communications_in};
+ghost use Rattle.occ_net_trace.specs.Kept.{kept_behind};
 
 use crate::entries::Entries;
 use crate::lists::Lists;
@@ -80,7 +80,7 @@ impl News {
 
     /// Takes what stands in the lists behind the mark, in place of what it held.
     pub(crate) fn take(&mut self, lists: &Lists, mark: &Mark) -> Result<(), AllocError>
-        ensures heads { OnOk result (self.new ≡ communications_in (drop mark.now.heads lists.now.heads.items) (drop mark.now.shapes lists.now.shapes.items) (drop mark.now.lengths lists.now.lengths.items) (drop mark.now.words lists.now.words.items)) }
+        ensures heads { OnOk result (self.new ≡ kept_behind mark.now lists.now) }
     {
         self.lists.clear();
         let news = &mut self.lists;

@@ -1,6 +1,7 @@
 //! Where the items of a message stand in the shared lists.
 ghost use Rattle.std.specs.Prelude.{◌≡◌, drop, take};
-ghost use Rattle.occ_net_trace.specs.Flat.{first_count, first_word, lengths_behind, shapes_behind, words_behind};
+ghost use Rattle.occ_net_trace.specs.Flat.{first_count, first_word, shapes_behind};
+ghost use Rattle.occ_net_trace.specs.Kept.{lengths_after, words_after};
 
 use crate::shapes::Shape;
 
@@ -49,8 +50,8 @@ impl<'a> Pieces<'a> {
     /// What is behind the items of the first message.
     pub(crate) fn behind(self) -> Pieces<'a>
         ensures shapes { result.shapes.now ≡ shapes_behind self.entry.shapes.now }
-        ensures lengths { result.lengths.now ≡ lengths_behind self.entry.shapes.now self.entry.lengths.now }
-        ensures words { result.words.now ≡ words_behind self.entry.shapes.now self.entry.lengths.now self.entry.words.now }
+        ensures lengths { result.lengths.now ≡ lengths_after self.entry }
+        ensures words { result.words.now ≡ words_after self.entry }
     {
         let mut left = self;
         while let Some((shape, shapes)) = left.shapes.split_first() {

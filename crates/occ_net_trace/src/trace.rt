@@ -1,8 +1,8 @@
 //! The trace of a run.
-ghost use Rattle.std.specs.Prelude.{◌≡◌, ◌↔◌, ◌<◌, ◌^◌, ◌++◌, ◌∷◌, [], IfOk, IsTrue, List, OnErr, OnOk, length};
+ghost use Rattle.std.specs.Prelude.{◌≡◌, ◌↔◌, ◌<◌, ◌^◌, [], IfOk, IsTrue, List, OnErr, OnOk, length};
 ghost use Rattle.occ_term.specs.declared.communication.Communication.{Communication};
-ghost use Rattle.occ_term.specs.System.{communication};
-ghost use Rattle.occ_net_trace.specs.Places.{place_behind};
+ghost use Rattle.occ_net_trace.specs.Places.{StandBehind, place_behind};
+ghost use Rattle.occ_net_trace.specs.Views.{Pushes};
 
 use crate::entries::Entries;
 use crate::lists::Lists;
@@ -27,13 +27,13 @@ impl Drop for Trace {
 impl Model for Trace {
     ghost use Rattle.std.specs.Prelude.{List};
     ghost use Rattle.occ_term.specs.declared.communication.Communication.{Communication};
-    ghost use Rattle.occ_net_trace.specs.Kept.{IsKept, kept_in};
+    ghost use Rattle.occ_net_trace.specs.Kept.{AreListsOf, kept_in};
 
     ghost Value = { List Communication };
 
     ghost view = { λ t. kept_in t.lists };
 
-    ghost invariant = { λ t. IsKept (kept_in t.lists) t.lists };
+    ghost invariant = { λ t. AreListsOf (kept_in t.lists) t.lists };
 }
 
 impl Trace {
@@ -111,7 +111,7 @@ impl Trace {
     ///
     /// A refused growth.
     pub fn copy_behind(&self, mark: &Mark, news: &mut News) -> Result<(), AllocError>
-        ensures { OnOk result ((before after : List Communication) → self.now ≡ before ++ after → mark.now ≡ place_behind before → news.new ≡ after) }
+        ensures { OnOk result (StandBehind self.now mark.now news.new) }
     {
         news.take(&self.lists, mark)
     }
@@ -129,7 +129,7 @@ impl Trace {
         receiver: End,
         message: &Message,
     ) -> Result<(), AllocError>
-        ensures pushed { OnOk result (self.new ≡ self.old ++ communication chan sender receiver message.now ∷ []) }
+        ensures pushed { OnOk result (Pushes self.old chan sender receiver message.now self.new) }
         ensures same { OnErr result (self.new ≡ self.old) }
     {
         let parts = message.items.as_slice();

@@ -28,10 +28,10 @@ AnswersWith options source keyboard list trace p o played bytes =
     × (shown_by (names_of p.channels) o.trace ≡ shown (names_of a.program.channels) a.events)
 
 -- the same for every list of which the outcome is one, with the outcome's choices and ending
-pub record Tells (options : Options) (source keyboard : List ℕ) (trace : Bool) (p : Program) (o : Outcome) (played : Played) (bytes : List ℕ) : Type 0 where
+pub record TellsOutcome (options : Options) (source keyboard : List ℕ) (trace : Bool) (p : Program) (o : Outcome) (played : Played) (bytes : List ℕ) : Type 0 where
   pub answers : (list : List Choice) → IsOutcome p keyboard list o → AnswersWith options source keyboard list trace p o played bytes
   pub choices : played.choices ≡ o.choices
   pub ending : played.ending ≡ o.ending
 
 abbrev pub TellsSome : Options → (source keyboard : List ℕ) → Bool → Program → Outcome → List ℕ → Type 0
-TellsSome options source keyboard trace p o bytes = (played : Played) × Tells options source keyboard trace p o played bytes
+TellsSome options source keyboard trace p o bytes = (played : Played) × TellsOutcome options source keyboard trace p o played bytes

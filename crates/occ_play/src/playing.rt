@@ -120,7 +120,8 @@ fn answered(
     plan: &Plan,
     trace: bool,
 ) -> Result<(Played, Vec<u8>), PlayFault>
-    ensures answer { IfOk result (λ r. IsAnswer options.now source.now keyboard.now (choices_of plan.now) trace r.0 r.1.items) }
+    ensures answer { IfOk result (λ r.
+        IsAnswer options.now source.now keyboard.now (choices_of plan.now) trace r.0 r.1.items) }
     ensures refused { IfErr result (Refuses options.now source.now) }
 {
     let (code, outcome) = ran(options, alloc, source, keyboard, plan)?;
@@ -139,7 +140,10 @@ pub(crate) fn told(
     trace: bool,
 ) -> Result<(Played, Vec<u8>), PlayFault>
     requires { Ran options.now source.now keyboard.now outcome.choices.items code.now outcome }
-    ensures answer { IfOk result (λ r. (list : List Choice) → IsOutcome code.now keyboard.now list outcome → AnswersWith options.now source.now keyboard.now list trace code.now outcome r.0 r.1.items) }
+    ensures answer { IfOk result (λ r. (list : List Choice)
+        → IsOutcome code.now keyboard.now list outcome
+        → AnswersWith options.now source.now keyboard.now list trace code.now outcome r.0
+        r.1.items) }
     ensures choices { IfOk result (λ r. r.0.choices ≡ outcome.choices) }
     ensures ending { IfOk result (λ r. r.0.ending ≡ outcome.ending) }
     ensures refused { IfErr result (Refuses options.now source.now) }
@@ -167,7 +171,8 @@ fn ran(
     keyboard: &[u8],
     plan: &Plan,
 ) -> Result<(Code, Outcome), PlayFault>
-    ensures ran { IfOk result (λ r. Ran options.now source.now keyboard.now (choices_of plan.now) r.0 r.1) }
+    ensures ran { IfOk result (λ r.
+        Ran options.now source.now keyboard.now (choices_of plan.now) r.0 r.1) }
     ensures refused { IfErr result (Refuses options.now source.now) }
 {
     let code = code_of(options, alloc, source)?;

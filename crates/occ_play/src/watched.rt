@@ -4,7 +4,7 @@ ghost use Rattle.occ_board.specs.Editions.{edition};
 ghost use Rattle.occ_shown.specs.Counting.{failures_of};
 ghost use Rattle.occ_choices.specs.Crews.{IsCrew};
 ghost use Rattle.occ_play.specs.Playing.{AfterFault, Ran, Refuses, Wrote};
-ghost use Rattle.occ_play.specs.Watching.{IsWatched, Tells, TellsSome};
+ghost use Rattle.occ_play.specs.Watching.{IsWatched, TellsOutcome, TellsSome};
 ghost use Rattle.occ_play.specs.Working.{IsSomeCrewsAnswer, WorkersRefuse};
 
 use crate::fault::PlayFault;
@@ -84,7 +84,7 @@ fn written<W: Write>(
 ) -> Result<Played, PlayFault>
     requires room { failures_of out.old < 2 ^ 64 - 1 }
     requires ran { Ran options.now source.now keyboard.now outcome.choices.items code.now outcome }
-    ensures played { IfOk result (λ played. Wrote W.contents (Tells options.now source.now keyboard.now trace code.now outcome played) out.old out.new) }
+    ensures played { IfOk result (λ played. Wrote W.contents (TellsOutcome options.now source.now keyboard.now trace code.now outcome played) out.old out.new) }
     ensures fault { IfErr result (AfterFault W.contents (TellsSome options.now source.now keyboard.now trace code.now outcome) (Refuses options.now source.now) out.old out.new) }
 {
     let (played, bytes) = told(options, alloc, source, keyboard, code, outcome, trace)?;

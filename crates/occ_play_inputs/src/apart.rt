@@ -25,7 +25,8 @@ fn texts_are_apart(
     drawn: Option<&str>,
     traced: Option<&str>,
 ) -> bool
-    ensures { IsTrue result → AreTextsApart file.entry choices.entry recorded.entry drawn.entry traced.entry }
+    ensures { IsTrue result → AreTextsApart file.entry choices.entry recorded.entry drawn.entry
+        traced.entry }
 {
     differ(recorded, file)
         && differ(recorded, choices)
@@ -47,7 +48,8 @@ fn are_beside(
     traced: Option<&str>,
     stepped: Option<&str>,
 ) -> bool
-    ensures { IsTrue result → DiffersFromAll stepped.entry file.entry choices.entry recorded.entry drawn.entry traced.entry }
+    ensures { IsTrue result → DiffersFromAll stepped.entry file.entry choices.entry recorded.entry
+        drawn.entry traced.entry }
 {
     differ(stepped, file)
         && differ(stepped, choices)
@@ -66,7 +68,8 @@ pub(crate) fn are_apart(
     traced: Option<&str>,
     stepped: Option<&str>,
 ) -> bool
-    ensures { IsTrue result → AreApart file.entry choices.entry recorded.entry drawn.entry traced.entry stepped.entry }
+    ensures { IsTrue result → AreApart file.entry choices.entry recorded.entry drawn.entry
+        traced.entry stepped.entry }
 {
     texts_are_apart(file, choices, recorded, drawn, traced)
         && are_beside(file, choices, recorded, drawn, traced, stepped)

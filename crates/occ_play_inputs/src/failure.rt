@@ -113,7 +113,9 @@ pub fn of_words(error: clap::Error) -> Failure
     ensures help { kind_of error ≡ WordsErrorKind.DisplayHelp → result ≡ Failure.Help error }
     ensures version { kind_of error ≡ WordsErrorKind.DisplayVersion → result ≡ Failure.Help error }
     ensures memory { kind_of error ≡ WordsErrorKind.OutOfMemory → result ≡ Failure.Memory }
-    ensures wrong { kind_of error ≢ WordsErrorKind.DisplayHelp → kind_of error ≢ WordsErrorKind.DisplayVersion → kind_of error ≢ WordsErrorKind.OutOfMemory → result ≡ Failure.Words error }
+    ensures wrong { kind_of error ≢ WordsErrorKind.DisplayHelp
+        → kind_of error ≢ WordsErrorKind.DisplayVersion → kind_of error ≢ WordsErrorKind.OutOfMemory
+        → result ≡ Failure.Words error }
 {
     match error.kind() {
         WordsErrorKind::DisplayHelp | WordsErrorKind::DisplayVersion => Failure::Help(error),
@@ -135,7 +137,8 @@ pub fn of_input(stream: Stream, fault: InputFault) -> Failure
 /// Why this file was not opened.
 pub fn of_read(stream: Stream, error: io::Error) -> Failure
     ensures memory { error_kind error ≡ ErrorKind.OutOfMemory → result ≡ Failure.Memory }
-    ensures other { error_kind error ≢ ErrorKind.OutOfMemory → result ≡ Failure.Read (trouble stream (reason_of error)) }
+    ensures other { error_kind error ≢ ErrorKind.OutOfMemory
+        → result ≡ Failure.Read (trouble stream (reason_of error)) }
 {
     match error.kind() {
         ErrorKind::OutOfMemory => Failure::Memory,
@@ -149,7 +152,8 @@ pub fn of_read(stream: Stream, error: io::Error) -> Failure
 /// Why this file or stream was not written.
 pub fn of_write(stream: Stream, error: io::Error) -> Failure
     ensures memory { error_kind error ≡ ErrorKind.OutOfMemory → result ≡ Failure.Memory }
-    ensures other { error_kind error ≢ ErrorKind.OutOfMemory → result ≡ Failure.Write (trouble stream (reason_of error)) }
+    ensures other { error_kind error ≢ ErrorKind.OutOfMemory
+        → result ≡ Failure.Write (trouble stream (reason_of error)) }
 {
     match error.kind() {
         ErrorKind::OutOfMemory => Failure::Memory,

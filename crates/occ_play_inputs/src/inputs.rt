@@ -137,7 +137,8 @@ fn read_both<S: Read + Drop, K: Read + Drop>(
     keyboard: K,
 ) -> Result<(Vec<u8>, Vec<u8>), Failure>
     ensures few { IfOk result (λ r. length r.0.items ≤ 1048577) }
-    ensures source { IfSome (S.remaining source) (λ xs. IfOk result (λ r. r.0.items ≡ take 1048577 xs)) }
+    ensures source { IfSome (S.remaining source)
+        (λ xs. IfOk result (λ r. r.0.items ≡ take 1048577 xs)) }
     ensures keyboard { IfSome (K.remaining keyboard) (λ xs. IfOk result (λ r. r.1.items ≡ xs)) }
     ensures failed { IfErr result (λ f. FailsToRead Source f ⊎ FailsToRead Keyboard f) }
 {
@@ -154,7 +155,8 @@ fn read_most<R: Read + Drop>(
     most: usize,
 ) -> Result<Vec<u8>, Failure>
     ensures few { IfOk result (λ bytes. length bytes.items ≤ most) }
-    ensures bytes { IfSome (R.remaining reader) (λ xs. IfOk result (λ bytes. bytes.items ≡ take most xs)) }
+    ensures bytes { IfSome (R.remaining reader)
+        (λ xs. IfOk result (λ bytes. bytes.items ≡ take most xs)) }
     ensures failed { IfErr result (FailsToRead stream) }
 {
     let mut reader = CountedReader::new(reader);
@@ -190,7 +192,8 @@ fn read_plan<R: Files>(rt: &R, alloc: Global, words: &Words<'_>) -> Result<Plan,
 /// The choices of a file: all of its text is read.
 fn read_order<C: Read + Drop>(alloc: Global, file: C) -> Result<Plan, Failure>
     ensures lines { IfOk result (λ plan. (text : List ℕ) × ChoiceLines text (choices_of plan)) }
-    ensures whole { IfSome (C.remaining file) (λ xs. IfOk result (λ plan. ChoiceLines xs (choices_of plan))) }
+    ensures whole { IfSome (C.remaining file)
+        (λ xs. IfOk result (λ plan. ChoiceLines xs (choices_of plan))) }
     ensures failed { IfErr result FailsToChoose }
 {
     let text = read_all(alloc, Stream::Choices, file)?;

@@ -8,16 +8,16 @@ use Rattle.occ_play.specs.declared.fault.PlayFault.{PlayFault}
 use Rattle.occ_play.specs.declared.fault.PlayFault.TheVariants as play
 use Rattle.occ_play.specs.Playing.{AfterFault, IsAnswer, IsSomeAnswer, Refuses, Wrote}
 use Rattle.occ_shown.specs.declared.counted.Counted.{Counted}
-use Rattle.occ_program.specs.Trying.{EndsBy, EndsNot, HasEnded, otherwise, refused, unwritten}
+use Rattle.occ_program.specs.Trying.{RunEnds, RunEndsNot, HasEnded, otherwise, refused, unwritten}
 
 pub ended : {W : Type 0} (contents : W → Option (List ℕ)) (options : Options) (source keyboard : List ℕ) (list : List Choice) (old new : Counted W) (r : Result Played PlayFault)
-    → IfOk r (λ played. Wrote contents (IsAnswer options source keyboard list false played) old new) → HasEnded r → EndsBy options source keyboard list
+    → IfOk r (λ played. Wrote contents (IsAnswer options source keyboard list false played) old new) → HasEnded r → RunEnds options source keyboard list
 ended contents options source keyboard list old new (Ok played) h e = record { played = played; answer = h.0; run = h.1; ended = e }
 ended contents options source keyboard list old new (Err f) h e = absurd e
 
 pub ended_not : {W : Type 0} (contents : W → Option (List ℕ)) (options : Options) (source keyboard : List ℕ) (list : List Choice) (old new : Counted W) (r : Result Played PlayFault)
     → IfOk r (λ played. Wrote contents (IsAnswer options source keyboard list false played) old new) → IfErr r (AfterFault contents (IsSomeAnswer options source keyboard list false) (Refuses options source) old new) → (HasEnded r → ⊥)
-    → EndsNot options source keyboard list
+    → RunEndsNot options source keyboard list
 ended_not contents options source keyboard list old new (Ok played) h f e = otherwise played h.0 h.1 e
 ended_not contents options source keyboard list old new (Err (play.Write n)) h f e = unwritten f.1.0 f.1.1
 ended_not contents options source keyboard list old new (Err (play.Text x)) h f e = refused (play.Text x) f.0

@@ -7,7 +7,7 @@ use Rattle.std.proofs.lemmas.List.{append-nil}
 use Rattle.occ_choices.specs.Lines.{choice_text}
 use Rattle.occ_net_replay.specs.declared.choice.Choice.{Choice}
 use Rattle.occ_explore.specs.declared.exploration.Answer.{Answer}
-use Rattle.occ_files.specs.Leaving.{Leaves, LeavesAll, LeavesNothing, Written}
+use Rattle.occ_files.specs.Leaving.{LeavesOne, LeavesAll, LeavesNothing, Written}
 use Rattle.occ_program.specs.Pages.{AreRecorded, answer_files, answer_path}
 
 pub untouched : (files : Option (List Written)) → LeavesNothing files files
@@ -21,7 +21,7 @@ none_more (Some files) None kept = absurd kept
 none_more (Some files) (Some more) kept = kept ∙ sym (append-nil files)
 
 -- some files, and then one more
-pub one_more : (first old new : Option (List Written)) (before : List Written) (path text : List ℕ) → LeavesAll first old before → Leaves old new path text
+pub one_more : (first old new : Option (List Written)) (before : List Written) (path text : List ℕ) → LeavesAll first old before → LeavesOne old new path text
     → LeavesAll first new (before ++ (path, text) ∷ [])
 one_more None old new before path text h k = tt
 one_more (Some files) None new before path text h k = absurd h
@@ -65,28 +65,28 @@ on_err (Ok x) p = tt
 on_err (Err e) p = p
 
 pub all_so_far : (first old new : Option (List Written)) (stem : List ℕ) (answers : List Answer) (i number : ℕ) (a : Answer) → i < length answers → a ≡ get_or answers i a → number ≡ 1 + i
-    → LeavesAll first old (take i (answer_files stem 1 answers)) → Leaves old new (answer_path stem number) (choice_text a.choices.items)
+    → LeavesAll first old (take i (answer_files stem 1 answers)) → LeavesOne old new (answer_path stem number) (choice_text a.choices.items)
     → LeavesAll first new (take (suc i) (answer_files stem 1 answers))
 all_so_far first old new stem answers i number a within is same h one =
     subst (LeavesAll first new) (next_file stem 1 answers i a within is)
-    (one_more first old new (take i (answer_files stem 1 answers)) (answer_path stem (1 + i)) (choice_text a.choices.items) h (subst (λ k. Leaves old new (answer_path stem k) (choice_text a.choices.items)) same one))
+    (one_more first old new (take i (answer_files stem 1 answers)) (answer_path stem (1 + i)) (choice_text a.choices.items) h (subst (λ k. LeavesOne old new (answer_path stem k) (choice_text a.choices.items)) same one))
 
 -- the first so many files, where the next one failed: it was not begun, or it is there
 pub first_files : (first old new : Option (List Written)) (stem : List ℕ) (answers : List Answer) (i number : ℕ) (a : Answer) → i < length answers → a ≡ get_or answers i a → number ≡ 1 + i
-    → LeavesAll first old (take i (answer_files stem 1 answers)) → LeavesNothing old new ⊎ Leaves old new (answer_path stem number) (choice_text a.choices.items)
+    → LeavesAll first old (take i (answer_files stem 1 answers)) → LeavesNothing old new ⊎ LeavesOne old new (answer_path stem number) (choice_text a.choices.items)
     → (n : ℕ) × LeavesAll first new (take n (answer_files stem 1 answers))
 first_files first old new stem answers i number a within is same h (inl none) = (i, no_more first old new (take i (answer_files stem 1 answers)) h none)
 first_files first old new stem answers i number a within is same h (inr one) = (suc i, all_so_far first old new stem answers i number a within is same h one)
 
 -- the one file of the one answer
 pub one_recorded : (path : Option (Bor (List ℕ))) (stem : Bor (List ℕ)) (a : Answer) (text : List Choice) (old new : Option (List Written)) (r : Result ⊤ Failure) → path ≡ Some stem → text ≡ a.choices.items
-    → OnOk r (Leaves old new (answer_path stem.now 1) (choice_text text)) → OnErr r (LeavesNothing old new ⊎ Leaves old new (answer_path stem.now 1) (choice_text text)) → AreRecorded path (a ∷ []) old new r
+    → OnOk r (LeavesOne old new (answer_path stem.now 1) (choice_text text)) → OnErr r (LeavesNothing old new ⊎ LeavesOne old new (answer_path stem.now 1) (choice_text text)) → AreRecorded path (a ∷ []) old new r
 one_recorded path stem a text old new r named same ok err = subst (λ p. AreRecorded p (a ∷ []) old new r) (sym named) (by r ok err)
   where
-    said : Leaves old new (answer_path stem.now 1) (choice_text text) → Leaves old new (answer_path stem.now 1) (choice_text a.choices.items)
-    said h = subst (λ t. Leaves old new (answer_path stem.now 1) (choice_text t)) same h
+    said : LeavesOne old new (answer_path stem.now 1) (choice_text text) → LeavesOne old new (answer_path stem.now 1) (choice_text a.choices.items)
+    said h = subst (λ t. LeavesOne old new (answer_path stem.now 1) (choice_text t)) same h
 
-    by : (r : Result ⊤ Failure) → OnOk r (Leaves old new (answer_path stem.now 1) (choice_text text)) → OnErr r (LeavesNothing old new ⊎ Leaves old new (answer_path stem.now 1) (choice_text text)) → AreRecorded (Some stem) (a ∷ []) old new r
+    by : (r : Result ⊤ Failure) → OnOk r (LeavesOne old new (answer_path stem.now 1) (choice_text text)) → OnErr r (LeavesNothing old new ⊎ LeavesOne old new (answer_path stem.now 1) (choice_text text)) → AreRecorded (Some stem) (a ∷ []) old new r
     by (Ok done) h g = said h
     by (Err f) h (inl none) = (0, none_more old new none)
     by (Err f) h (inr one) = (1, said one)

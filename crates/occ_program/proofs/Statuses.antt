@@ -30,7 +30,7 @@ use Rattle.occ_explore.specs.declared.exploration.Exploration.{Exploration}
 use Rattle.occ_explore.specs.declared.exploration.Answer.{Answer}
 use Rattle.occ_exploring.specs.Alone.{IsOnlyFor, only_status}
 use Rattle.occ_exploring.specs.Explored.{IsExplored}
-use Rattle.occ_exploring.specs.Statuses.{is_fault, is_stop, search_status, some_ends}
+use Rattle.occ_exploring.specs.Statuses.{is_fault, has_stopped, search_status, some_ends}
 use Rattle.occ_program.specs.Coming.{CameToBy, options_in, workers_asked, IsLookStatus, IsSearchStatus, IsStatusFor, OnlyTo, ProgramStatus, SearchedTo, found_status, look_status, of_look, of_play, of_search, of_failure, of_help}
 
 ending_small : (e : Ending) → ending_status e ≤ 7
@@ -126,7 +126,7 @@ only_to words source keyboard bytes keys options (Ok (Some a)) same from typed h
 only_to words source keyboard bytes keys options (Err f) same from typed h g = subst (λ o. Refuses o source f) same (subst (λ s. Refuses options s f) from g)
 
 pub only_small : (a : Answer) → only_status a ≤ 7
-only_small a = by (is_fault a.ending) (is_stop a.ending)
+only_small a = by (is_fault a.ending) (has_stopped a.ending)
   where
     by : (fault stop : Bool) → (if fault then 3 else if stop then 2 else 0) ≤ 7
     by true stop = omega arith
@@ -134,7 +134,7 @@ only_small a = by (is_fault a.ending) (is_stop a.ending)
     by false false = omega arith
 
 search_small : (e : Exploration) → search_status e ≤ 7
-search_small e = by e.all (some_ends is_fault e.answers.items) (some_ends is_stop e.answers.items)
+search_small e = by e.all (some_ends is_fault e.answers.items) (some_ends has_stopped e.answers.items)
   where
     by : (all fault stop : Bool) → (if all then (if fault then 3 else if stop then 2 else 0) else 4) ≤ 7
     by true true stop = omega arith

@@ -2,7 +2,7 @@
 -- Manual: nothing; this is (own).
 use Rattle.std.specs.Prelude.{Err, List, Ok, Result, Some, [], codes, get_or, length, suc, take, zero, ℕ, ⊤, ◌++◌, ◌<◌, ◌∷◌, ◌≡◌, ◌≢◌, ◌⊎◌}
 use Rattle.std.specs.Fmt.{decimal}
-use Rattle.occ_explaining.specs.Explaining.{ReportsOn, Tells, refusal_in}
+use Rattle.occ_explaining.specs.Explaining.{ReportsOn, TellsRefusal, refusal_in}
 use Rattle.occ_explore.specs.declared.exploration.Answer.{Answer}
 use Rattle.occ_files.specs.declared.reason.Reason.{Reason}
 use Rattle.occ_term.specs.Endings.{ending_text}
@@ -23,7 +23,7 @@ file_in words = path_or (codes "-") words.file
 
 -- an explanation of a refusal of this source
 abbrev pub TellsOf : Words → (source : List ℕ) → PlayFault → List ℕ → Type 0
-TellsOf words source fault text = Tells source (file_in words) (refusal_in fault) (Some text)
+TellsOf words source fault text = TellsRefusal source (file_in words) (refusal_in fault) (Some text)
 
 -- why standard output was not written, or an explanation
 abbrev pub TellsWhy : Words → (source : List ℕ) → Reason → PlayFault → List ℕ → Type 0

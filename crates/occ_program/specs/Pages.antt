@@ -12,7 +12,7 @@ use Rattle.occ_chart.specs.declared.part.Part.TheVariants.{First, Last}
 use Rattle.occ_explaining.specs.Explaining.{IsNamedChart, StepsOf}
 use Rattle.occ_play.specs.Playing.{Refuses}
 use Rattle.occ_explore.specs.declared.exploration.Answer.{Answer}
-use Rattle.occ_files.specs.Leaving.{Leaves, LeavesAll, LeavesNothing, Written}
+use Rattle.occ_files.specs.Leaving.{LeavesOne, LeavesAll, LeavesNothing, Written}
 use Rattle.occ_play_inputs.specs.declared.failure.Failure.{Failure}
 use Rattle.occ_program.specs.declared.page.Page.{Page}
 use Rattle.occ_tracing.specs.declared.tracing.Form.{Form}
@@ -53,9 +53,9 @@ StepsPage options source keyboard (Some path) (Err fault) page = page ≡ None
 StepsPage options source keyboard (Some path) (Ok played) page = HasText (StepsOf options source keyboard played.choices.items) path page
 
 -- or the text was refused
-abbrev pub Steps : Options → (source keyboard : List ℕ) → Option (Bor (List ℕ)) → Result Played PlayFault → Result (Option Page) PlayFault → Type 0
-Steps options source keyboard path played (Ok page) = StepsPage options source keyboard path played page
-Steps options source keyboard path played (Err fault) = Refuses options source fault
+abbrev pub TellsSteps : Options → (source keyboard : List ℕ) → Option (Bor (List ℕ)) → Result Played PlayFault → Result (Option Page) PlayFault → Type 0
+TellsSteps options source keyboard path played (Ok page) = StepsPage options source keyboard path played page
+TellsSteps options source keyboard path played (Err fault) = Refuses options source fault
 
 -- how a trace is written, as the words say
 abbrev pub form_in : Bool → Form
@@ -78,24 +78,24 @@ Traces options source keyboard form path played (Err fault) = Refuses options so
 -- the file, whole and once, where there is one to write
 abbrev pub LeavesPage : Option (List Written) → Option (List Written) → Option Page → Type 0
 LeavesPage old new None = LeavesNothing old new
-LeavesPage old new (Some page) = Leaves old new page.path.now page.text.items
+LeavesPage old new (Some page) = LeavesOne old new page.path.now page.text.items
 
 -- what is to be written was, and nothing else
-pub record Left (Is : Option Page → Type 0) (old new : Option (List Written)) : Type 0 where
+pub record WritesPage (Is : Option Page → Type 0) (old new : Option (List Written)) : Type 0 where
   pub page : Option Page
   pub is : Is page
   pub left : LeavesPage old new page
 
 -- where that failed, no file was touched, or the whole text stood before the file was
 abbrev pub IsLeft : (Option Page → Type 0) → Option (List Written) → Option (List Written) → Result ⊤ Failure → Type 0
-IsLeft Is old new (Ok done) = Left Is old new
-IsLeft Is old new (Err failure) = LeavesNothing old new ⊎ Left Is old new
+IsLeft Is old new (Ok done) = WritesPage Is old new
+IsLeft Is old new (Err failure) = LeavesNothing old new ⊎ WritesPage Is old new
 
 -- a refused text leaves none
 abbrev pub LeavesOrRefuses : (Option Page → Type 0) → Option (List Written) → Option (List Written) → Result (Result ⊤ PlayFault) Failure → Type 0
-LeavesOrRefuses Is old new (Ok (Ok done)) = Left Is old new
+LeavesOrRefuses Is old new (Ok (Ok done)) = WritesPage Is old new
 LeavesOrRefuses Is old new (Ok (Err fault)) = LeavesNothing old new
-LeavesOrRefuses Is old new (Err failure) = LeavesNothing old new ⊎ Left Is old new
+LeavesOrRefuses Is old new (Err failure) = LeavesNothing old new ⊎ WritesPage Is old new
 
 -- ---- the files of a search
 

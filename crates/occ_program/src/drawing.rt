@@ -25,8 +25,11 @@ pub(crate) fn draw<F: Folder>(
     inputs: &Inputs,
     played: &Result<Played, PlayFault>,
 ) -> Result<Result<(), PlayFault>, Failure>
-    ensures refused { IfOk result (λ drawn. IfErr drawn (Refuses (options_in words.now) inputs.now.source.items)) }
-    ensures left { LeavesOrRefuses (Charts (options_in words.now) inputs.now.source.items inputs.now.keyboard.items (part_in words.now.arrows words.now.last) words.now.chart played.now) (F.left folder.old) (F.left folder.new) result }
+    ensures refused { IfOk result (λ drawn.
+        IfErr drawn (Refuses (options_in words.now) inputs.now.source.items)) }
+    ensures left { LeavesOrRefuses (Charts (options_in words.now) inputs.now.source.items
+        inputs.now.keyboard.items (part_in words.now.arrows words.now.last) words.now.chart
+        played.now) (F.left folder.old) (F.left folder.new) result }
     ensures failed { IfErr result (FailsToWrite Chart) }
 {
     match drawn(alloc, words, inputs, played)? {
@@ -45,7 +48,9 @@ fn drawn<'a>(
     inputs: &Inputs,
     played: &Result<Played, PlayFault>,
 ) -> Result<Result<Option<Page<'a>>, PlayFault>, Failure>
-    ensures drawn { IfOk result (Draws (options_in words.now) inputs.now.source.items inputs.now.keyboard.items (part_in words.now.arrows words.now.last) words.now.chart played.now) }
+    ensures drawn { IfOk result (Draws (options_in words.now) inputs.now.source.items
+        inputs.now.keyboard.items (part_in words.now.arrows words.now.last) words.now.chart
+        played.now) }
     ensures failed { IfErr result (FailsToWrite Chart) }
 {
     match (words.chart, played) {
@@ -74,8 +79,12 @@ fn chart_of(
     inputs: &Inputs,
     played: &Played,
 ) -> Result<Result<Vec<u8>, PlayFault>, Failure>
-    ensures drawn { IfOk result (λ chart. IfOk chart (λ bytes. IsNamedChart (options_in words.now) inputs.now.source.items inputs.now.keyboard.items played.now.choices.items (part_in words.now.arrows words.now.last) bytes.items)) }
-    ensures refused { IfOk result (λ chart. IfErr chart (Refuses (options_in words.now) inputs.now.source.items)) }
+    ensures drawn { IfOk result (λ chart.
+        IfOk chart (λ bytes. IsNamedChart (options_in words.now) inputs.now.source.items
+        inputs.now.keyboard.items played.now.choices.items (part_in words.now.arrows words.now.last)
+        bytes.items)) }
+    ensures refused { IfOk result (λ chart.
+        IfErr chart (Refuses (options_in words.now) inputs.now.source.items)) }
     ensures failed { IfErr result (FailsToWrite Chart) }
 {
     let plan = plan_of(alloc, played.choices.as_slice())?;

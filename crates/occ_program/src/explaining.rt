@@ -101,7 +101,9 @@ fn explanation(
     came: &Result<Played, PlayFault>,
     reason: Reason,
 ) -> Option<Vec<u8>>
-    ensures { IfSome result (λ text. Explains words.now inputs.now.source.items inputs.now.keyboard.items reason came.now text.items) }
+    ensures { IfSome result (λ text.
+        Explains words.now inputs.now.source.items inputs.now.keyboard.items reason came.now
+        text.items) }
 {
     match came {
         Ok(played) => reported(alloc, words, inputs, played),
@@ -111,7 +113,9 @@ fn explanation(
 
 /// What each process stands at where a run has not ended.
 fn reported(alloc: Global, words: &Words<'_>, inputs: &Inputs, played: &Played) -> Option<Vec<u8>>
-    ensures { IfSome result (λ text. ReportsOn (options_in words.now) inputs.now.source.items inputs.now.keyboard.items played.now.choices.items text.items) }
+    ensures { IfSome result (λ text.
+        ReportsOn (options_in words.now) inputs.now.source.items inputs.now.keyboard.items
+        played.now.choices.items text.items) }
 {
     if let Ending::Ended = played.ending {
         return None;

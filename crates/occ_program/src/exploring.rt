@@ -4,7 +4,7 @@ ghost use Rattle.std.specs.Io.KnownBytes.{Appends};
 ghost use Rattle.occ_choices.specs.Lines.{choice_text};
 ghost use Rattle.occ_exploring.specs.Alone.{only_status, only_text};
 ghost use Rattle.occ_exploring.specs.Texts.{exploration_text};
-ghost use Rattle.occ_files.specs.Leaving.{Leaves, LeavesAll, LeavesNothing};
+ghost use Rattle.occ_files.specs.Leaving.{LeavesOne, LeavesAll, LeavesNothing};
 ghost use Rattle.occ_files.specs.declared.reason.Reason.{Reason};
 ghost use Rattle.occ_play_inputs.specs.Failures.{FailsToWrite, trouble};
 ghost use Rattle.occ_play_inputs.specs.declared.failure.Failure.{Failure};
@@ -155,7 +155,8 @@ fn tell_only<R: Files + Print>(
 /// Refuses where standard output was not written, for this reason.
 fn check_printed(printed: bool, reason: Reason) -> Result<(), Failure>
     ensures printed { OnOk result (IsTrue printed) }
-    ensures failed { IfErr result (λ failure. failure ≡ Failure.Write (trouble stream.Output reason)) }
+    ensures failed { IfErr result (λ failure.
+        failure ≡ Failure.Write (trouble stream.Output reason)) }
 {
     if printed {
         return Ok(());
@@ -172,7 +173,9 @@ fn print_only<W: Write>(
     answer: &Answer,
 ) -> Result<bool, AllocError>
     requires room { failures_of out.old < 2 ^ 64 - 1 }
-    ensures { IfOk result (λ printed. IsTrue printed → Appends (W.contents (writer_of out.old)) (W.contents (writer_of out.new)) (only_text asked answer.now)) }
+    ensures { IfOk result (λ printed. IsTrue printed
+        → Appends (W.contents (writer_of out.old)) (W.contents (writer_of out.new))
+        (only_text asked answer.now)) }
 {
     let text = only_text(alloc, asked, answer)?;
     Ok(write_answer(text.as_slice(), out).is_ok())
@@ -185,7 +188,8 @@ fn record_only<F: Folder>(
     words: &Words<'_>,
     answer: &Answer,
 ) -> Result<(), Failure>
-    ensures { AreRecorded words.now.«record» (answer.now ∷ []) (F.left folder.old) (F.left folder.new) result }
+    ensures { AreRecorded words.now.«record» (answer.now ∷ []) (F.left folder.old)
+        (F.left folder.new) result }
 {
     match words.record {
         Some(stem) => record_answer(folder, alloc, stem, 1, answer.choices.as_slice()),
@@ -290,7 +294,9 @@ fn print_answers<W: Write>(
     exploration: &Exploration,
 ) -> Result<bool, AllocError>
     requires room { failures_of out.old < 2 ^ 64 - 1 }
-    ensures { IfOk result (λ printed. IsTrue printed → Appends (W.contents (writer_of out.old)) (W.contents (writer_of out.new)) (exploration_text asked words.now.states exploration.now)) }
+    ensures { IfOk result (λ printed. IsTrue printed
+        → Appends (W.contents (writer_of out.old)) (W.contents (writer_of out.new))
+        (exploration_text asked words.now.states exploration.now)) }
 {
     let text = exploration_text(alloc, exploration, asked, words.states)?;
     Ok(write_answer(text.as_slice(), out).is_ok())
@@ -315,7 +321,8 @@ fn record_answers<F: Folder>(
     words: &Words<'_>,
     answers: &[Answer],
 ) -> Result<(), Failure>
-    ensures { AreRecorded words.now.«record» answers.now (F.left folder.old) (F.left folder.new) result }
+    ensures { AreRecorded words.now.«record» answers.now (F.left folder.old) (F.left folder.new)
+        result }
 {
     match words.record {
         Some(stem) => record_each(folder, alloc, stem, first_answers(answers)),
@@ -331,8 +338,11 @@ fn record_each<F: Folder>(
     answers: &[Answer],
 ) -> Result<(), Failure>
     requires { length answers.now ≤ 100 }
-    ensures ok { OnOk result (LeavesAll (F.left folder.old) (F.left folder.new) (answer_files stem.now 1 answers.now)) }
-    ensures err { OnErr result ((n : ℕ) × LeavesAll (F.left folder.old) (F.left folder.new) (take n (answer_files stem.now 1 answers.now))) }
+    ensures ok { OnOk result (LeavesAll (F.left folder.old) (F.left folder.new)
+        (answer_files stem.now 1 answers.now)) }
+    ensures err { OnErr result ((n : ℕ)
+        × LeavesAll (F.left folder.old) (F.left folder.new)
+        (take n (answer_files stem.now 1 answers.now))) }
 {
     let mut number = 1;
     for answer in answers {
@@ -349,9 +359,12 @@ fn record_answer<F: Folder>(
     number: usize,
     choices: &[Choice],
 ) -> Result<(), Failure>
-    ensures ok { OnOk result (Leaves (F.left folder.old) (F.left folder.new) (answer_path stem.now number) (choice_text choices.now)) }
+    ensures ok { OnOk result (LeavesOne (F.left folder.old) (F.left folder.new)
+        (answer_path stem.now number) (choice_text choices.now)) }
     ensures failed { IfErr result (FailsToWrite (stream.Answer number)) }
-    ensures err { OnErr result (LeavesNothing (F.left folder.old) (F.left folder.new) ⊎ Leaves (F.left folder.old) (F.left folder.new) (answer_path stem.now number) (choice_text choices.now)) }
+    ensures err { OnErr result (LeavesNothing (F.left folder.old) (F.left folder.new)
+        ⊎ LeavesOne (F.left folder.old) (F.left folder.new) (answer_path stem.now number)
+        (choice_text choices.now)) }
 {
     let path = answer_path(alloc, stem, number)?;
     let text = choices_text(alloc, choices)?;

@@ -169,7 +169,8 @@ fn leave<F: Folder>(
     inputs: &Inputs,
     played: &Result<Played, PlayFault>,
 ) -> Result<Result<(), PlayFault>, Failure>
-    ensures { IfOk result (λ left. IfErr left (Refuses (options_in words.now) inputs.now.source.items)) }
+    ensures { IfOk result (λ left. IfErr left
+        (Refuses (options_in words.now) inputs.now.source.items)) }
 {
     record(folder, alloc, words, played)?;
     if let Err(fault) = draw(folder, alloc, words, inputs, played)? {
@@ -249,7 +250,9 @@ fn play_on<R: Eprint + Threads + Wait + Sync, W: Write>(
     inputs: &Inputs,
     screen: &mut W,
 ) -> Result<Result<Played, PlayFault>, Failure>
-    ensures { IfOk result (CameToBy (workers_asked words.now.watch words.now.workers words.now.choices) words.now inputs.now.source.items inputs.now.keyboard.items (choices_of inputs.now.plan)) }
+    ensures { IfOk result (CameToBy
+        (workers_asked words.now.watch words.now.workers words.now.choices) words.now
+        inputs.now.source.items inputs.now.keyboard.items (choices_of inputs.now.plan)) }
 {
     let mut out = Counted::new(screen);
     play_inputs(rt, alloc, words, inputs, &mut out)
@@ -264,7 +267,9 @@ fn play_inputs<R: Eprint + Threads + Wait + Sync, W: Write>(
     out: &mut Counted<W>,
 ) -> Result<Result<Played, PlayFault>, Failure>
     requires room { failures_of out.old < 2 ^ 64 - 1 }
-    ensures { IfOk result (CameToBy (workers_asked words.now.watch words.now.workers words.now.choices) words.now inputs.now.source.items inputs.now.keyboard.items (choices_of inputs.now.plan)) }
+    ensures { IfOk result (CameToBy
+        (workers_asked words.now.watch words.now.workers words.now.choices) words.now
+        inputs.now.source.items inputs.now.keyboard.items (choices_of inputs.now.plan)) }
 {
     match workers_of(words) {
         None => Ok(play_plan(alloc, words, inputs, out)),
@@ -283,7 +288,8 @@ fn play_plan<W: Write>(
     out: &mut Counted<W>,
 ) -> Result<Played, PlayFault>
     requires room { failures_of out.old < 2 ^ 64 - 1 }
-    ensures { CameToBy None words.now inputs.now.source.items inputs.now.keyboard.items (choices_of inputs.now.plan) result }
+    ensures { CameToBy None words.now inputs.now.source.items inputs.now.keyboard.items
+        (choices_of inputs.now.plan) result }
 {
     play_in(
         &options_of(words),
@@ -306,7 +312,8 @@ fn play_by<R: Threads + Wait + Sync, W: Write>(
     out: &mut Counted<W>,
 ) -> Result<Played, PlayFault>
     requires room { failures_of out.old < 2 ^ 64 - 1 }
-    ensures { CameToBy (Some workers) words.now inputs.now.source.items inputs.now.keyboard.items (choices_of inputs.now.plan) result }
+    ensures { CameToBy (Some workers) words.now inputs.now.source.items inputs.now.keyboard.items
+        (choices_of inputs.now.plan) result }
 {
     let (limit, trace) = (words.limit, words.trace);
     play_workers_in(
@@ -333,7 +340,8 @@ fn play_looking<R: Eprint + Threads + Wait + Sync, W: Write>(
     out: &mut Counted<W>,
 ) -> Option<Result<Played, PlayFault>>
     requires room { failures_of out.old < 2 ^ 64 - 1 }
-    ensures { IfSome result (CameToBy (Some workers) words.now inputs.now.source.items inputs.now.keyboard.items (choices_of inputs.now.plan)) }
+    ensures { IfSome result (CameToBy (Some workers) words.now inputs.now.source.items
+        inputs.now.keyboard.items (choices_of inputs.now.plan)) }
 {
     let (limit, trace) = (words.limit, words.trace);
     play_watching::<Brand, R, W>(
@@ -353,7 +361,8 @@ fn play_looking<R: Eprint + Threads + Wait + Sync, W: Write>(
 /// Prints why nothing was played, and answers the exit status. Help and the version go to standard output, and
 /// all else to standard error.
 fn report<R: Print + Eprint>(rt: &R, alloc: Global, failure: &Failure) -> u8
-    ensures { (result ≡ failure_status failure.now) ⊎ ((failure_status failure.now ≡ 0) × (result ≡ 6)) }
+    ensures { (result ≡ failure_status failure.now)
+        ⊎ ((failure_status failure.now ≡ 0) × (result ≡ 6)) }
 {
     match failure {
         Failure::Help(help) => {

@@ -2,7 +2,7 @@
 ghost use Rattle.std.specs.Prelude.{◌+◌, ◌-◌, ◌^◌, ◌≤◌, ◌<◌, IfOk, IsFalse, IsTrue, OnOk};
 ghost use Rattle.occ_choices.specs.Plans.{choices_of};
 ghost use Rattle.occ_play_inputs.specs.Asked.{IsAskedBy, IsSeeded};
-ghost use Rattle.occ_program.specs.Trying.{EndsBy, EndsNot, HasEnded, IsTried};
+ghost use Rattle.occ_program.specs.Trying.{RunEnds, RunEndsNot, HasEnded, IsTriedSeed};
 ghost use Rattle.occ_seeds.specs.Seeds.{seeded};
 ghost use Rattle.occ_shown.specs.Counting.{failures_of};
 
@@ -68,7 +68,7 @@ fn tried_seed(
 ) -> Result<u32, AllocError>
     requires some { 1 ≤ tries }
     requires few { first + tries < 4294967296 }
-    ensures { IfOk result (IsTried options.now source.now keyboard.now limit first tries) }
+    ensures { IfOk result (IsTriedSeed options.now source.now keyboard.now limit first tries) }
 {
     let last = tries - 1;
     for place in 0..last {
@@ -89,8 +89,10 @@ fn ends_by(
     limit: u32,
     seed: u32,
 ) -> Result<bool, AllocError>
-    ensures ends { IfOk result (λ ends. IsTrue ends → EndsBy options.now source.now keyboard.now (seeded seed limit)) }
-    ensures not { IfOk result (λ ends. IsFalse ends → EndsNot options.now source.now keyboard.now (seeded seed limit)) }
+    ensures ends { IfOk result (λ ends. IsTrue ends
+        → RunEnds options.now source.now keyboard.now (seeded seed limit)) }
+    ensures not { IfOk result (λ ends. IsFalse ends
+        → RunEndsNot options.now source.now keyboard.now (seeded seed limit)) }
 {
     let plan = seeded_plan(alloc, seed, limit)?;
     let mut answer = Vec::new(alloc);
@@ -109,8 +111,10 @@ fn ends_on<W: Write>(
     out: &mut Counted<W>,
 ) -> bool
     requires room { failures_of out.old < 2 ^ 64 - 1 }
-    ensures ends { IsTrue result → EndsBy options.now source.now keyboard.now (choices_of plan.now) }
-    ensures not { IsFalse result → EndsNot options.now source.now keyboard.now (choices_of plan.now) }
+    ensures ends { IsTrue result → RunEnds options.now source.now keyboard.now
+        (choices_of plan.now) }
+    ensures not { IsFalse result → RunEndsNot options.now source.now keyboard.now
+        (choices_of plan.now) }
 {
     let played = play_in(options, alloc, source, keyboard, plan, false, out);
     has_ended(&played)

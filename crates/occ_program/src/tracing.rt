@@ -25,8 +25,11 @@ pub(crate) fn trace<F: Folder>(
     inputs: &Inputs,
     played: &Result<Played, PlayFault>,
 ) -> Result<Result<(), PlayFault>, Failure>
-    ensures refused { IfOk result (λ traced. IfErr traced (Refuses (options_in words.now) inputs.now.source.items)) }
-    ensures left { LeavesOrRefuses (TracePage (options_in words.now) inputs.now.source.items inputs.now.keyboard.items (form_in words.now.json) words.now.trace_to played.now) (F.left folder.old) (F.left folder.new) result }
+    ensures refused { IfOk result (λ traced.
+        IfErr traced (Refuses (options_in words.now) inputs.now.source.items)) }
+    ensures left { LeavesOrRefuses (TracePage (options_in words.now) inputs.now.source.items
+        inputs.now.keyboard.items (form_in words.now.json) words.now.trace_to played.now)
+        (F.left folder.old) (F.left folder.new) result }
     ensures failed { IfErr result (FailsToWrite Trace) }
 {
     match page_of(alloc, words, inputs, played)? {
@@ -45,7 +48,8 @@ fn page_of<'a>(
     inputs: &Inputs,
     played: &Result<Played, PlayFault>,
 ) -> Result<Result<Option<Page<'a>>, PlayFault>, Failure>
-    ensures written { IfOk result (Traces (options_in words.now) inputs.now.source.items inputs.now.keyboard.items (form_in words.now.json) words.now.trace_to played.now) }
+    ensures written { IfOk result (Traces (options_in words.now) inputs.now.source.items
+        inputs.now.keyboard.items (form_in words.now.json) words.now.trace_to played.now) }
     ensures failed { IfErr result (FailsToWrite Trace) }
 {
     match (words.trace_to, played) {
@@ -71,8 +75,11 @@ fn text_of(
     inputs: &Inputs,
     played: &Played,
 ) -> Result<Result<Vec<u8>, PlayFault>, Failure>
-    ensures traced { IfOk result (λ text. IfOk text (λ bytes. IsTraced (options_in words.now) inputs.now.source.items inputs.now.keyboard.items played.now.choices.items (form_in words.now.json) bytes.items)) }
-    ensures refused { IfOk result (λ text. IfErr text (Refuses (options_in words.now) inputs.now.source.items)) }
+    ensures traced { IfOk result (λ text.
+        IfOk text (λ bytes. IsTraced (options_in words.now) inputs.now.source.items
+        inputs.now.keyboard.items played.now.choices.items (form_in words.now.json) bytes.items)) }
+    ensures refused { IfOk result (λ text.
+        IfErr text (Refuses (options_in words.now) inputs.now.source.items)) }
     ensures failed { IfErr result (FailsToWrite Trace) }
 {
     let plan = plan_of(alloc, played.choices.as_slice())?;

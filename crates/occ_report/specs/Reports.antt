@@ -1,6 +1,6 @@
 -- What is told of each process that is left.
 -- Manual: nothing; this is (own).
-use Rattle.std.specs.Prelude.{List, None, Option, Some, [], codes, if◌then◌else◌, length, min, slice_get, zero, suc, ℕ, ◌++◌, ◌==◌, ◌≡◌, ◌∷◌}
+use Rattle.std.specs.Prelude.{List, None, Option, Some, [], codes, if◌then◌else◌, length, min, slice_get, zero, suc, ℕ, ◌++◌, ◌==◌, ◌≡◌, ◌∷◌, Vec, map}
 use Rattle.std.specs.Fmt.{decimal}
 use Rattle.occ_term.specs.Runs.{Names, tag_shown}
 use Rattle.occ_term.specs.Terms.{Term}
@@ -19,11 +19,16 @@ use Rattle.occ_net_replay.specs.Replay.{Net, Replays, Tasks, ending_of}
 use Rattle.occ_shown.specs.Answers.{items_text, names_of}
 use Rattle.occ_net_tables.specs.Outcomes.{Begins}
 use Rattle.occ_ends.specs.declared.ends.Ends.{Ends}
-use Rattle.occ_ends.specs.Ends.{AreEnds, IsCircle, next_noted}
+use Rattle.occ_ends.specs.Ends.{AreEnds, IsCircle, next_noted, all_using, noted_for}
 use Rattle.occ_places.specs.declared.stop.Kind.{Kind}
 use Rattle.occ_places.specs.declared.stop.Kind.TheVariants as kinds
 use Rattle.occ_places.specs.declared.stop.Stop.{Stop}
 use Rattle.occ_places.specs.Places.{Known, name_of, stop_of}
+use Rattle.occ_term.specs.declared.names.Channel.{Channel}
+use Rattle.occ_net_tables.specs.declared.tables.Tables.{Tables}
+use Rattle.occ_net_tables.specs.Holding.{HeldBy}
+use Rattle.occ_ends.specs.declared.uses.ProcessUses.{ProcessUses}
+use Rattle.occ_report.specs.declared.standing.Ends.{Ends as Sides}
 
 -- by channel: the process that may input from it, or that may output to it, of those that are left
 abbrev pub Noted : Type 0
@@ -98,13 +103,13 @@ name_text [] = []
 name_text (c ∷ cs) = 32 ∷ c ∷ cs
 
 -- the line of a stop, where it is known
-abbrev pub line_text : Option Stop → List ℕ
-line_text None = []
-line_text (Some s) = codes ", line " ++ decimal s.line
+abbrev pub line_told : Option Stop → List ℕ
+line_told None = []
+line_told (Some s) = codes ", line " ++ decimal s.line
 
 abbrev pub on_line : ℕ → (name : List ℕ) → Option Stop → Option (List ℕ) → List ℕ
 on_line n name stop None = []
-on_line n name stop (Some text) = codes "  " ++ process_text n ++ name_text name ++ line_text stop ++ codes ": " ++ text ++ codes "\n"
+on_line n name stop (Some text) = codes "  " ++ process_text n ++ name_text name ++ line_told stop ++ codes ": " ++ text ++ codes "\n"
 
 -- what is told of a process, with its PROC and the line that it stands at, as far as they are known
 abbrev pub process_line : Names → (readers writers : Noted) → (name : List ℕ) → Option Stop → ℕ → Wait → List ℕ
@@ -116,23 +121,23 @@ task_line names readers writers known n (Some None) = []
 task_line names readers writers known n (Some (Some t)) = process_line names readers writers (name_of known n) (stop_of known n t.wait t.place) n t.wait
 
 -- the lines of the first so many processes
-abbrev pub lines_of : Names → (readers writers : Noted) → List Known → Tasks → ℕ → List ℕ
-lines_of names readers writers known tasks zero = []
-lines_of names readers writers known tasks (suc n) = lines_of names readers writers known tasks n ++ task_line names readers writers known n (slice_get tasks n)
+abbrev pub task_lines : Names → (readers writers : Noted) → List Known → Tasks → ℕ → List ℕ
+task_lines names readers writers known tasks zero = []
+task_lines names readers writers known tasks (suc n) = task_lines names readers writers known tasks n ++ task_line names readers writers known n (slice_get tasks n)
 
 -- how the report begins
 unfoldable pub count_text : ℕ → List ℕ
 count_text n = if n == 1 then codes "1 communication" else decimal n ++ codes " communications"
 
-abbrev pub tail_text : Ending → List ℕ
-tail_text endings.Ended = codes ":\n"
-tail_text endings.Stopped = codes " no process can go on:\n"
-tail_text (endings.StoppedBy e) = codes " no process can go on:\n"
-tail_text (endings.Fault e) = codes ":\n"
-tail_text endings.Limit = codes ":\n"
+abbrev pub report_tail : Ending → List ℕ
+report_tail endings.Ended = codes ":\n"
+report_tail endings.Stopped = codes " no process can go on:\n"
+report_tail (endings.StoppedBy e) = codes " no process can go on:\n"
+report_tail (endings.Fault e) = codes ":\n"
+report_tail endings.Limit = codes ":\n"
 
-abbrev pub head_text : ℕ → Ending → List ℕ
-head_text n e = codes "after " ++ count_text n ++ tail_text e
+abbrev pub report_head : ℕ → Ending → List ℕ
+report_head n e = codes "after " ++ count_text n ++ report_tail e
 
 -- processes each of which waits for the next, and the last one for the first
 abbrev pub circle_text : List ℕ → List ℕ
@@ -144,9 +149,9 @@ abbrev pub told_of : Tasks → ℕ
 told_of tasks = min (length tasks) 4294967295
 
 -- of a state of a program's network, with who is at the ends of channels, and what is known of where its processes stand in the source
-abbrev pub report_text : Names → (readers writers : Noted) → List Known → (circle : List ℕ) → Net → Ending → List ℕ
-report_text names readers writers known circle net e =
-    head_text (length net.trace) e ++ lines_of names readers writers known net.tasks (told_of net.tasks) ++ circle_text circle
+abbrev pub network_report : Names → (readers writers : Noted) → List Known → (circle : List ℕ) → Net → Ending → List ℕ
+network_report names readers writers known circle net e =
+    report_head (length net.trace) e ++ task_lines names readers writers known net.tasks (told_of net.tasks) ++ circle_text circle
 
 -- The replay of the used choices, which are a beginning of the list, as a run of the list has it, and the report of its state: each
 -- process that is left, who is at the other ends of its channels by what the program's term uses, and a circle of those that wait, where
@@ -161,7 +166,7 @@ pub record IsReport (t : Term) (p : Program) (keyboard : List ℕ) (list : List 
   pub are_ends : AreEnds t net.tasks (length p.channels) ends
   pub circle : List ℕ
   pub is_circle : IsCircle (next_noted ends net.tasks) (min (length net.tasks) 4294967294) circle
-  pub is : bytes ≡ report_text (names_of p.channels) ends.readers.items ends.writers.items known circle net (or_limit (ending_of p.errors net))
+  pub is : bytes ≡ network_report (names_of p.channels) ends.readers.items ends.writers.items known circle net (or_limit (ending_of p.errors net))
 
 -- Processes that wait in a circle in the state that the replay of the used choices comes to, where there are some.
 pub record IsCircleOf (t : Term) (p : Program) (keyboard : List ℕ) (list : List Choice) (circle : List ℕ) : Type 0 where
@@ -173,3 +178,40 @@ pub record IsCircleOf (t : Term) (p : Program) (keyboard : List ℕ) (list : Lis
   pub ends : Ends
   pub are_ends : AreEnds t net.tasks (length p.channels) ends
   pub is_circle : IsCircle (next_noted ends net.tasks) (min (length net.tasks) 4294967294) circle
+
+-- ---- of what code has; private contracts alone cite these, but for the last two
+
+abbrev pub reader_at : Noted → ℕ → List ℕ
+reader_at readers c = reader_text (slice_get readers c)
+
+abbrev pub writer_at : Noted → ℕ → List ℕ
+writer_at writers c = writer_text c (slice_get writers c)
+
+abbrev pub choosing_text : Names → Noted → List Arm → List ℕ
+choosing_text names writers arms = codes "chooses" ++ arms_text names writers arms
+
+abbrev pub joining_text : List ℕ → List ℕ
+joining_text ns = codes "waits for" ++ branches_text ns
+
+-- by the declared names and by who is noted
+abbrev pub standing_told : List Channel → Sides → Option Stop → Wait → Option (List ℕ)
+standing_told cs ends stop w = standing_text (names_of cs) ends.readers.now ends.writers.now stop w
+
+abbrev pub line_by : List Channel → Sides → (name : List ℕ) → Option Stop → ℕ → Wait → List ℕ
+line_by cs ends name stop n w = process_line (names_of cs) ends.readers.now ends.writers.now name stop n w
+
+-- of whatever network the tables hold, the line of one process, and the lines of the first so many
+abbrev pub AddsTaskLine : {A : Type 0} → List Channel → Sides → List Known → Tables → ℕ → (old new : Vec ℕ A) → Type 0
+AddsTaskLine cs ends known tables n old new =
+    HeldBy tables (λ net. new.items ≡ old.items ++ task_line (names_of cs) ends.readers.now ends.writers.now known n (slice_get net.tasks n))
+
+abbrev pub AddsTaskLines : {A : Type 0} → List Channel → Sides → List Known → Tables → ℕ → (old new : Vec ℕ A) → Type 0
+AddsTaskLines cs ends known tables n old new =
+    HeldBy tables (λ net. new.items ≡ old.items ++ task_lines (names_of cs) ends.readers.now ends.writers.now known net.tasks n)
+
+-- by any term whose uses these are
+abbrev pub IsReportBy : {A : Type 0} → List ProcessUses → Program → List ℕ → List Choice → List Known → Vec ℕ A → Type 0
+IsReportBy uses p keyboard list known bytes = (t : Term) → map noted_for uses ≡ all_using t → IsReport t p keyboard list known bytes.items
+
+abbrev pub IsCircleBy : {A : Type 0} → List ProcessUses → Program → List ℕ → List Choice → Vec ℕ A → Type 0
+IsCircleBy uses p keyboard list circle = (t : Term) → map noted_for uses ≡ all_using t → IsCircleOf t p keyboard list circle.items

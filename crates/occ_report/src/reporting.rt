@@ -1,9 +1,8 @@
 //! Reports of runs.
-ghost use Rattle.std.specs.Prelude.{◌≡◌, ◌++◌, IfOk, OnOk, map};
+ghost use Rattle.std.specs.Prelude.{◌≡◌, IfOk, OnOk};
 ghost use Rattle.occ_choices.specs.Plans.{choices_of};
-ghost use Rattle.occ_ends.specs.Ends.{all_using, noted_for};
-ghost use Rattle.occ_term.specs.Terms.{Term};
-ghost use Rattle.occ_report.specs.Reports.{IsCircleOf, IsReport, count_text, head_text, tail_text};
+ghost use Rattle.occ_report.specs.Reports.{IsCircleBy, IsReportBy, count_text, report_head, report_tail};
+ghost use Rattle.occ_shown.specs.Answers.{AddsText};
 
 use crate::standing::{Ends, write_circle, write_lines};
 use occ_choices::Plan;
@@ -30,7 +29,7 @@ fn count_text(alloc: Global, count: usize) -> Result<String, AllocError>
 
 /// What is told behind the number of communications.
 fn tail(ending: Ending) -> &'static [u8]
-    ensures { result.now ≡ tail_text ending }
+    ensures { result.now ≡ report_tail ending }
 {
     match ending {
         Ending::Stopped | Ending::StoppedBy(_) => b" no process can go on:\n",
@@ -45,7 +44,7 @@ fn write_head(
     count: usize,
     ending: Ending,
 ) -> Result<(), AllocError>
-    ensures { OnOk result (out.new.items ≡ out.old.items ++ head_text count ending) }
+    ensures { OnOk result (AddsText out.old out.new (report_head count ending)) }
 {
     let count = count_text(alloc, count)?;
     out.extend_from_slice(b"after ")?;
@@ -68,7 +67,8 @@ pub fn report(
     plan: &Plan,
     places: &Places,
 ) -> Result<Vec<u8>, AllocError>
-    ensures { IfOk result (λ bytes. (t : Term) → map noted_for uses.now ≡ all_using t → IsReport t code.now keyboard.now (choices_of plan.now) places.now bytes.items) }
+    ensures { IfOk result (IsReportBy
+        uses.now code.now keyboard.now (choices_of plan.now) places.now) }
 {
     let Ran {
         ending,
@@ -109,7 +109,7 @@ pub fn circle_of(
     keyboard: &[u8],
     plan: &Plan,
 ) -> Result<Vec<u32>, AllocError>
-    ensures { IfOk result (λ circle. (t : Term) → map noted_for uses.now ≡ all_using t → IsCircleOf t code.now keyboard.now (choices_of plan.now) circle.items) }
+    ensures { IfOk result (IsCircleBy uses.now code.now keyboard.now (choices_of plan.now)) }
 {
     let Ran {
         ending: _,

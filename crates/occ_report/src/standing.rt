@@ -1,12 +1,9 @@
 //! What a process stands at, in bytes.
-ghost use Rattle.std.specs.Prelude.{◌≡◌, ◌++◌, IfOk, OnOk, Some, List, ℕ, codes, option_map, slice_get};
-ghost use Rattle.occ_machine.specs.Compiled.{Program};
-ghost use Rattle.occ_net_replay.specs.Replay.{Net};
-ghost use Rattle.occ_net_tables.specs.Holding.{Holds};
+ghost use Rattle.std.specs.Prelude.{◌≡◌, IfOk, OnOk, Some, codes, option_map};
 ghost use Rattle.occ_term.specs.Endings.{ending_text};
 ghost use Rattle.occ_places.specs.Places.{name_of, stop_of};
-ghost use Rattle.occ_shown.specs.Answers.{names_of};
-ghost use Rattle.occ_report.specs.Reports.{lines_of, task_line, arm_channel_text, arms_text, awaited_text, branches_text, circle_text, halted_text, halting_text, line_text, name_text, offer_text, on_line, process_line, process_text, reader_text, standing_text, writer_text};
+ghost use Rattle.occ_shown.specs.Answers.{names_of, AddsText, HasWords};
+ghost use Rattle.occ_report.specs.Reports.{arm_channel_text, arms_text, awaited_text, branches_text, circle_text, halted_text, halting_text, line_told, name_text, offer_text, on_line, process_text, AddsTaskLine, AddsTaskLines, choosing_text, joining_text, line_by, reader_at, standing_told, writer_at};
 
 use occ_machine::{Arm, Wait};
 use occ_net_tables::Tables;
@@ -23,7 +20,7 @@ pub(crate) struct Ends<'a> {
 }
 
 fn write_process(alloc: Global, out: &mut Vec<u8>, number: u32) -> Result<(), AllocError>
-    ensures { OnOk result (out.new.items ≡ out.old.items ++ process_text number) }
+    ensures { OnOk result (AddsText out.old out.new (process_text number)) }
 {
     let text = format!(in alloc; "p{number}")?;
     out.extend_from_slice(text.as_bytes())
@@ -36,7 +33,7 @@ fn write_reader(
     readers: &[Option<u32>],
     chan: u32,
 ) -> Result<(), AllocError>
-    ensures { OnOk result (out.new.items ≡ out.old.items ++ reader_text (slice_get readers.now chan)) }
+    ensures { OnOk result (AddsText out.old out.new (reader_at readers.now chan)) }
 {
     match readers.get(chan as usize) {
         Some(Some(number)) => {
@@ -54,7 +51,7 @@ fn write_writer(
     writers: &[Option<u32>],
     chan: u32,
 ) -> Result<(), AllocError>
-    ensures { OnOk result (out.new.items ≡ out.old.items ++ writer_text chan (slice_get writers.now chan)) }
+    ensures { OnOk result (AddsText out.old out.new (writer_at writers.now chan)) }
 {
     if chan == KEYBOARD {
         return out.extend_from_slice(b", whose bytes are used up");
@@ -76,7 +73,8 @@ fn write_awaited(
     writers: &[Option<u32>],
     chan: u32,
 ) -> Result<(), AllocError>
-    ensures { OnOk result (out.new.items ≡ out.old.items ++ awaited_text (names_of channels.now) writers.now chan) }
+    ensures { OnOk result
+        (AddsText out.old out.new (awaited_text (names_of channels.now) writers.now chan)) }
 {
     out.extend_from_slice(b"awaits ")?;
     write_name(alloc, out, channels, chan)?;
@@ -91,7 +89,8 @@ fn write_arm(
     writers: &[Option<u32>],
     chan: Option<u32>,
 ) -> Result<(), AllocError>
-    ensures { OnOk result (out.new.items ≡ out.old.items ++ arm_channel_text (names_of channels.now) writers.now chan) }
+    ensures { OnOk result
+        (AddsText out.old out.new (arm_channel_text (names_of channels.now) writers.now chan)) }
 {
     match chan {
         Some(chan) => {
@@ -109,7 +108,8 @@ fn write_arms(
     writers: &[Option<u32>],
     arms: &[Arm],
 ) -> Result<(), AllocError>
-    ensures { OnOk result (out.new.items ≡ out.old.items ++ arms_text (names_of channels.now) writers.now arms.now) }
+    ensures { OnOk result
+        (AddsText out.old out.new (arms_text (names_of channels.now) writers.now arms.now)) }
 {
     let mut rest = arms;
     while let Some((arm, others)) = rest.split_first() {
@@ -120,7 +120,7 @@ fn write_arms(
 }
 
 fn write_branches(alloc: Global, out: &mut Vec<u8>, branches: &[u32]) -> Result<(), AllocError>
-    ensures { OnOk result (out.new.items ≡ out.old.items ++ branches_text branches.now) }
+    ensures { OnOk result (AddsText out.old out.new (branches_text branches.now)) }
 {
     let mut rest = branches;
     while let Some((branch, others)) = rest.split_first() {
@@ -137,7 +137,7 @@ pub(crate) fn write_circle(
     out: &mut Vec<u8>,
     circle: &[u32],
 ) -> Result<(), AllocError>
-    ensures { OnOk result (out.new.items ≡ out.old.items ++ circle_text circle.now) }
+    ensures { OnOk result (AddsText out.old out.new (circle_text circle.now)) }
 {
     if circle.is_empty() {
         return Ok(());
@@ -155,7 +155,8 @@ fn write_offer(
     chan: u32,
     message: &Message,
 ) -> Result<(), AllocError>
-    ensures { OnOk result (out.new.items ≡ out.old.items ++ offer_text (names_of channels.now) readers.now chan message.now) }
+    ensures { OnOk result (AddsText out.old out.new
+        (offer_text (names_of channels.now) readers.now chan message.now)) }
 {
     out.extend_from_slice(b"offers ")?;
     write_message(alloc, out, message, chan, channels)?;
@@ -165,7 +166,7 @@ fn write_offer(
 }
 
 fn write_fault(alloc: Global, out: &mut Vec<u8>, fault: Fault) -> Result<(), AllocError>
-    ensures { OnOk result (out.new.items ≡ out.old.items ++ ending_text (Ending.Fault fault)) }
+    ensures { OnOk result (AddsText out.old out.new (ending_text (Ending.Fault fault))) }
 {
     let ending = Ending::Fault(fault);
     let text = format!(in alloc; "{ending}")?;
@@ -174,7 +175,7 @@ fn write_fault(alloc: Global, out: &mut Vec<u8>, fault: Fault) -> Result<(), All
 
 /// A text of these bytes.
 fn text_of(alloc: Global, text: &[u8]) -> Result<Option<Vec<u8>>, AllocError>
-    ensures { IfOk result (λ found. option_map (λ v. v.items) found ≡ Some text.now) }
+    ensures { IfOk result (HasWords (Some text.now)) }
 {
     Ok(Some(Vec::from_slice(alloc, text)?))
 }
@@ -211,7 +212,7 @@ fn standing(
     stop: Option<Stop>,
     wait: &Wait,
 ) -> Result<Option<Vec<u8>>, AllocError>
-    ensures { IfOk result (λ found. option_map (λ v. v.items) found ≡ standing_text (names_of channels.now) ends.entry.readers.now ends.entry.writers.now stop wait.now) }
+    ensures { IfOk result (HasWords (standing_told channels.now ends.entry stop wait.now)) }
 {
     let mut out = Vec::new(alloc);
     match wait {
@@ -239,14 +240,15 @@ fn write_choosing(
     writers: &[Option<u32>],
     arms: &[Arm],
 ) -> Result<(), AllocError>
-    ensures { OnOk result (out.new.items ≡ out.old.items ++ (codes "chooses" ++ arms_text (names_of channels.now) writers.now arms.now)) }
+    ensures { OnOk result
+        (AddsText out.old out.new (choosing_text (names_of channels.now) writers.now arms.now)) }
 {
     out.extend_from_slice(b"chooses")?;
     write_arms(alloc, out, channels, writers, arms)
 }
 
 fn write_joining(alloc: Global, out: &mut Vec<u8>, branches: &[u32]) -> Result<(), AllocError>
-    ensures { OnOk result (out.new.items ≡ out.old.items ++ (codes "waits for" ++ branches_text branches.now)) }
+    ensures { OnOk result (AddsText out.old out.new (joining_text branches.now)) }
 {
     out.extend_from_slice(b"waits for")?;
     write_branches(alloc, out, branches)
@@ -254,7 +256,7 @@ fn write_joining(alloc: Global, out: &mut Vec<u8>, branches: &[u32]) -> Result<(
 
 /// The name of a PROC, where it is known.
 fn write_named(out: &mut Vec<u8>, name: &[u8]) -> Result<(), AllocError>
-    ensures { OnOk result (out.new.items ≡ out.old.items ++ name_text name.now) }
+    ensures { OnOk result (AddsText out.old out.new (name_text name.now)) }
 {
     if name.is_empty() {
         return Ok(());
@@ -265,7 +267,7 @@ fn write_named(out: &mut Vec<u8>, name: &[u8]) -> Result<(), AllocError>
 
 /// The line of a stop, where it is known.
 fn write_line(alloc: Global, out: &mut Vec<u8>, stop: Option<Stop>) -> Result<(), AllocError>
-    ensures { OnOk result (out.new.items ≡ out.old.items ++ line_text stop) }
+    ensures { OnOk result (AddsText out.old out.new (line_told stop)) }
 {
     match stop {
         Some(stop) => {
@@ -286,7 +288,8 @@ fn write_text(
     stop: Option<Stop>,
     text: &[u8],
 ) -> Result<(), AllocError>
-    ensures { OnOk result (out.new.items ≡ out.old.items ++ on_line number name.now stop (Some text.now)) }
+    ensures { OnOk result
+        (AddsText out.old out.new (on_line number name.now stop (Some text.now))) }
 {
     out.extend_from_slice(b"  ")?;
     write_process(alloc, out, number)?;
@@ -306,7 +309,8 @@ fn write_on_line(
     stop: Option<Stop>,
     text: Option<Vec<u8>>,
 ) -> Result<(), AllocError>
-    ensures { OnOk result (out.new.items ≡ out.old.items ++ on_line number name.now stop (option_map (λ v. v.items) text)) }
+    ensures { OnOk result
+        (AddsText out.old out.new (on_line number name.now stop (option_map (λ v. v.items) text))) }
 {
     match text {
         Some(text) => write_text(alloc, out, number, name, stop, text.as_slice()),
@@ -325,7 +329,8 @@ fn write_standing(
     stop: Option<Stop>,
     wait: &Wait,
 ) -> Result<(), AllocError>
-    ensures { OnOk result (out.new.items ≡ out.old.items ++ process_line (names_of channels.now) ends.entry.readers.now ends.entry.writers.now name.now stop number wait.now) }
+    ensures { OnOk result
+        (AddsText out.old out.new (line_by channels.now ends.entry name.now stop number wait.now)) }
 {
     let text = standing(alloc, channels, ends, stop, wait)?;
     write_on_line(alloc, out, number, name, stop, text)
@@ -341,7 +346,8 @@ fn write_task(
     tables: &Tables,
     number: u32,
 ) -> Result<(), AllocError>
-    ensures { OnOk result ((p : Program) (keyboard : List ℕ) (net : Net) → Holds p keyboard tables.now net → out.new.items ≡ out.old.items ++ task_line (names_of channels.now) ends.entry.readers.now ends.entry.writers.now places.now number (slice_get net.tasks number)) }
+    ensures { OnOk result (AddsTaskLine
+        channels.now ends.entry places.now tables.now number out.old out.new) }
 {
     match tables.task(number) {
         Some(task) => {
@@ -363,7 +369,8 @@ pub(crate) fn write_lines(
     tables: &Tables,
     count: u32,
 ) -> Result<(), AllocError>
-    ensures { OnOk result ((p : Program) (keyboard : List ℕ) (net : Net) → Holds p keyboard tables.now net → out.new.items ≡ out.old.items ++ lines_of (names_of channels.now) ends.entry.readers.now ends.entry.writers.now places.now net.tasks count) }
+    ensures { OnOk result (AddsTaskLines
+        channels.now ends.entry places.now tables.now count out.old out.new) }
 {
     for number in 0..count {
         write_task(alloc, out, channels, ends, places, tables, number)?;

@@ -24,8 +24,8 @@ use Rattle.occ_run.specs.declared.stretch.Stretch.{Stretch}
 use Rattle.occ_run.specs.declared.tokens.Known.{Known}
 use Rattle.occ_run.specs.Gathered.{IsOfRun}
 use Rattle.occ_run.specs.Held.{IsConcluded, IsHeld, IsOut, IsStretchOf, IsTurnOf, IsTurnOut}
-use Rattle.occ_run.specs.Steps.{Drops, IsOpen, IsOver, Leaves, Rests, Runs, StopsAt, TakesIn, TakesThem, first_stop}
-use Rattle.occ_run.specs.Tokens.{Among, AreOthers, Checked, holder, keeper, opening, shown, teller, without}
+use Rattle.occ_run.specs.Steps.{Drops, IsOpen, IsOver, LeavesRun, Rests, Runs, StopsAt, TakesIn, TakesThem, first_stop}
+use Rattle.occ_run.specs.Tokens.{Among, AreOthers, Checked, holder, keeper, opening, shown_beside, teller, without}
 use Rattle.occ_run.proofs.Staying.{stays_ready}
 
 -- ---- who is out
@@ -152,7 +152,7 @@ module _ (p : Program) (keyboard : List ℕ) (limit : ℕ) (old new : Progress) 
     pub held_rests : Rests old new → IsHeld p keyboard limit new v
     held_rests r = held_still (r.leases k.net k.state).1 limit_is r.stop
 
-    pub held_leaves : Leaves old new → IsHeld p keyboard limit new v
+    pub held_leaves : LeavesRun old new → IsHeld p keyboard limit new v
     held_leaves r = by r.why
       where
         by : (IsOver old × (new.stop ≡ old.stop)) ⊎ (IsOpen old × (new.stop ≡ Some stop.Memory)) → IsHeld p keyboard limit new v
@@ -201,12 +201,12 @@ module _ (p : Program) (keyboard : List ℕ) (limit : ℕ) (old new : Progress) 
 
     -- ---- a turn comes back
 
-    module _ (task : Task) (token : Known) (is : token ≡ holder task) (w : Known) (checked : Checked (shown v token) [] [] w) where
+    module _ (task : Task) (token : Known) (is : token ≡ holder task) (w : Known) (checked : Checked (shown_beside v token) [] [] w) where
       had : Among task v.out
-      had = (subst (λ (x : Known). Checked (shown v x) [] [] w) is checked).had task refl
+      had = (subst (λ (x : Known). Checked (shown_beside v x) [] [] w) is checked).had task refl
 
       left : w ≡ keeper (without task.number v.out) v.over
-      left = (subst (λ (x : Known). Checked (shown v x) [] [] w) is checked).is
+      left = (subst (λ (x : Known). Checked (shown_beside v x) [] [] w) is checked).is
 
       -- what is left is held, where it is with the keeper's list
       with_left : IsHeld p keyboard limit new (keeper (without task.number v.out) v.over) → IsHeld p keyboard limit new w
@@ -288,7 +288,7 @@ pub stretch_of : (p : Program) (task : Task) (body : Body) (done : Result Stretc
 stretch_of p task body (Ok s) has number some turns = record { number = number; some = some; body = body; has_body = has; turns = turns }
 stretch_of p task body (Err e) has number some turns = tt
 
-module _ (p : Program) (keyboard : List ℕ) (limit : ℕ) (old : Progress) (v : Known) (h : IsHeld p keyboard limit old v) (k : IsNetwork old.network) (token : Known) (w : Known) (checked : Checked (shown v token) [] [] w) where
+module _ (p : Program) (keyboard : List ℕ) (limit : ℕ) (old : Progress) (v : Known) (h : IsHeld p keyboard limit old v) (k : IsNetwork old.network) (token : Known) (w : Known) (checked : Checked (shown_beside v token) [] [] w) where
   pub own_done : (done : Result Stretch ℕ) → IsTurnOf p done token → IfOk done (λ s. (net : Net) → IsState old.network net → AreOwn old.network net s.number s.count s.after)
   own_done (Ok s) t = are_own p keyboard limit old old v h k refl t.task token t.token w checked s t.ran
   own_done (Err e) t = tt
@@ -303,6 +303,6 @@ module _ (p : Program) (keyboard : List ℕ) (limit : ℕ) (old : Progress) (v :
 pub held_ended : (p : Program) (keyboard : List ℕ) (limit : ℕ) (b : Progress) (v : Known) → IsHeld p keyboard limit b v → IsOver b → IsHeld p keyboard limit b (keeper v.out true)
 held_ended p keyboard limit b v h over = record { keeps = refl; of_run = h.of_run; limit_is = h.limit_is; out = h.out; over = λ _. over }
 
-pub concluded : (p : Program) (keyboard : List ℕ) (limit : ℕ) (b : Progress) (v token w : Known) → IsHeld p keyboard limit b v → token ≡ teller → Checked (shown v token) [] [] w → IsConcluded p keyboard limit b
+pub concluded : (p : Program) (keyboard : List ℕ) (limit : ℕ) (b : Progress) (v token w : Known) → IsHeld p keyboard limit b v → token ≡ teller → Checked (shown_beside v token) [] [] w → IsConcluded p keyboard limit b
 concluded p keyboard limit b v token w h is checked =
-    record { of_run = h.of_run; limit_is = h.limit_is; over = h.over ((subst (λ (x : Known). Checked (shown v x) [] [] w) is checked).saw refl) }
+    record { of_run = h.of_run; limit_is = h.limit_is; over = h.over ((subst (λ (x : Known). Checked (shown_beside v x) [] [] w) is checked).saw refl) }

@@ -8,7 +8,7 @@ use Rattle.crossbeam_utils.specs.Register.{Turns, Forks, Merges}
 use Rattle.atomic_table.proofs.Lists.{at_set, at_snoc}
 use Rattle.occ_machine.specs.declared.task.Task.{Task}
 use Rattle.occ_run.specs.declared.tokens.Known.{Known}
-use Rattle.occ_run.specs.Tokens.{Among, AreApart, AreOthers, Checked, Fits, IsKeeper, Kept, at_end, holder, keeper, left_out, nobody, shown, teller, with_turn, without}
+use Rattle.occ_run.specs.Tokens.{Among, HaveTurnsApart, AreOthers, Checked, Fits, IsKeeper, KeptTokens, at_end, holder, keeper, left_out, nobody, shown_beside, teller, with_turn, without}
 
 -- ---- lists of turns
 
@@ -47,7 +47,7 @@ fits_set seat out over views by w others mine j u e = split (at_set views by j w
     split (inr q) = others j u q.0 q.1
 
 -- a view that has no turn, or one that has none of another's
-apart_set : (views : List Known) (by : ℕ) (w : Known) → AreApart views → ((j : ℕ) (v : Known) (t u : Task) → j ≢ by → get_elem? views j ≡ some v → w.has ≡ Some t → v.has ≡ Some u → t.number ≡ u.number → ⊥) → AreApart (set views by w)
+apart_set : (views : List Known) (by : ℕ) (w : Known) → HaveTurnsApart views → ((j : ℕ) (v : Known) (t u : Task) → j ≢ by → get_elem? views j ≡ some v → w.has ≡ Some t → v.has ≡ Some u → t.number ≡ u.number → ⊥) → HaveTurnsApart (set views by w)
 apart_set views by w apart mine i j v u t s ei ej ht hs e = split (at_set views by i w v ei) (at_set views by j w u ej)
   where
     split : ((i ≡ by) × (w ≡ v)) ⊎ ((i ≢ by) × (get_elem? views i ≡ some v)) → ((j ≡ by) × (w ≡ u)) ⊎ ((j ≢ by) × (get_elem? views j ≡ some u)) → i ≡ j
@@ -63,7 +63,7 @@ at_end_or (x ∷ xs) a b zero e = inl e
 at_end_or (x ∷ xs) a b (suc j) e = ⊎_elim (λ h. inl h) (λ h. inr (ap suc h.0, h.1)) (at_end_or xs a b j e)
 
 -- a new view
-apart_snoc : (views : List Known) (w : Known) → AreApart views → ((j : ℕ) (v : Known) (t u : Task) → get_elem? views j ≡ some v → w.has ≡ Some t → v.has ≡ Some u → t.number ≡ u.number → ⊥) → AreApart (views ++ w ∷ [])
+apart_snoc : (views : List Known) (w : Known) → HaveTurnsApart views → ((j : ℕ) (v : Known) (t u : Task) → get_elem? views j ≡ some v → w.has ≡ Some t → v.has ≡ Some u → t.number ≡ u.number → ⊥) → HaveTurnsApart (views ++ w ∷ [])
 apart_snoc views w apart mine i j v u t s ei ej ht hs e = split (at_end_or views w v i ei) (at_end_or views w u j ej)
   where
     split : (get_elem? views i ≡ some v) ⊎ ((i ≡ length views) × (w ≡ v)) → (get_elem? views j ≡ some u) ⊎ ((j ≡ length views) × (w ≡ u)) → i ≡ j
@@ -85,21 +85,21 @@ module _ (seat : ℕ) (out : List Task) (over : Bool) (by : ℕ) (is : by ≡ se
 
 -- ---- the beginning
 
-pub begins : (words : List ℕ) → Kept words (keeper [] false ∷ [])
+pub begins : (words : List ℕ) → KeptTokens words (keeper [] false ∷ [])
 begins words = record { seat = 0; out = []; over = false; each = one; apart = alone }
   where
     one : (by : ℕ) (v : Known) → get_elem? (keeper [] false ∷ []) by ≡ some v → Fits 0 [] false by v
     one zero v e = subst (λ z. Fits 0 [] false 0 z) (some-injective _ _ e) (record { keeps = λ _. (refl, refl, refl); has = λ t h. absurd (none_has t h); ended = λ h. h })
     one (suc by) v e = absurd (some-ne-none v (sym e))
 
-    alone : AreApart (keeper [] false ∷ [])
+    alone : HaveTurnsApart (keeper [] false ∷ [])
     alone zero zero v w t u a b h g e = refl
     alone zero (suc j) v w t u a b h g e = absurd (some-ne-none w (sym b))
     alone (suc i) j v w t u a b h g e = absurd (some-ne-none v (sym a))
 
 -- ---- a turn goes out
 
-pub goes_out : (by : ℕ) (v : Known) (t : Task) → IsKeeper v → AreOthers t.number v.out → Forks Kept by v (with_turn t v) (holder t)
+pub goes_out : (by : ℕ) (v : Known) (t : Task) → IsKeeper v → AreOthers t.number v.out → Forks KeptTokens by v (with_turn t v) (holder t)
 goes_out by v t k apart words views h at =
     record {
       seat = h.seat;
@@ -138,7 +138,7 @@ goes_out by v t k apart words views h at =
 
 -- ---- the run is over
 
-pub ends : (by : ℕ) (v : Known) → IsKeeper v → Forks Kept by v (at_end v) teller
+pub ends : (by : ℕ) (v : Known) → IsKeeper v → Forks KeptTokens by v (at_end v) teller
 ends by v k words views h at =
     record {
       seat = h.seat;
@@ -168,7 +168,7 @@ ends by v k words views h at =
 
 -- ---- a token comes back
 
-pub returns : (by : ℕ) (v : Known) (other : ℕ) (w : Known) → IsKeeper v → Merges Kept by v other w (shown v w) nobody
+pub returns : (by : ℕ) (v : Known) (other : ℕ) (w : Known) → IsKeeper v → Merges KeptTokens by v other w (shown_beside v w) nobody
 returns by v other w k words views h at away there =
     record {
       seat = h.seat;
@@ -179,7 +179,7 @@ returns by v other w k words views h at away there =
     }
   where
     s : Known
-    s = shown v w
+    s = shown_beside v w
 
     mine : Fits h.seat h.out h.over by v
     mine = h.each by v at
@@ -211,7 +211,7 @@ returns by v other w k words views h at away there =
         split (inl z) = absurd (none_has t (ap (λ (a : Known). a.has) z.1 ∙ q))
         split (inr z) = inside z.0 (at_set views by i s u z.1)
 
-    alone : AreApart (set (set views by s) other nobody)
+    alone : HaveTurnsApart (set (set views by s) other nobody)
     alone i j u y t x ei ej p q e = split (was i u t ei p) (was j y x ej q)
       where
         split : Was i u → Was j y → i ≡ j
@@ -222,7 +222,7 @@ returns by v other w k words views h at away there =
 
 -- ---- what it says is compared
 
-pub checks : (by : ℕ) (v : Known) → v.keeps ≡ true → Turns Kept by v (λ x. x) Checked
+pub checks : (by : ℕ) (v : Known) → v.keeps ≡ true → Turns KeptTokens by v (λ x. x) Checked
 checks by v k words views h at =
     let mine : Fits h.seat h.out h.over by v = h.each by v at in
     let known : (by ≡ h.seat) × (v.out ≡ h.out) × (v.over ≡ h.over) = mine.keeps k in (

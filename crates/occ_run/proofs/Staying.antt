@@ -15,7 +15,7 @@ use Rattle.occ_machine.specs.declared.task.Task.{Task}
 use Rattle.occ_machine.specs.declared.task.Wait.{Wait}
 use Rattle.occ_machine.specs.declared.task.Wait.TheVariants as W
 use Rattle.occ_net_replay.specs.declared.choice.Choice.{Choice}
-use Rattle.occ_net_replay.specs.Replay.{Gets, Gives, HasTask, Net, OneTurn, Replays, Settled, Tasks, arm_gets, begins, branch_task, error_gets, forks, goes_on, joined, joins, keyboard_gives, may_go, meets, ready_from, screen_gets, settles, skips, stays, task_gets, task_gives, took_turn, with_branches}
+use Rattle.occ_net_replay.specs.Replay.{Gets, HandsOver, HasTask, Net, OneTurn, Replays, Settled, Tasks, arm_gets, begins, branch_task, error_gets, forks, goes_on, joined, joins, keyboard_gives, may_go, meets, ready_from, screen_gets, settles, skips, stays, task_gets, task_gives, took_turn, with_branches}
 use Rattle.occ_net_replay.specs.Waiting.{IsReplay, IsTurn}
 use Rattle.occ_net_replay.proofs.Alone.{turns_fork_alone}
 use Rattle.occ_net_replay.proofs.Same.{same_last}
@@ -42,7 +42,7 @@ branches_left bodies f (n ∷ ns) tasks i t h none =
 
 -- ---- what happens after a turn
 
-gives_left : {c : ℕ} {m : Message} {x : End} {a b : Net} (i : ℕ) (t : Task) → HasTask a.tasks i t → IsTrue (may_go t.wait) → Gives c m x a b → HasTask b.tasks i t
+gives_left : {c : ℕ} {m : Message} {x : End} {a b : Net} (i : ℕ) (t : Task) → HasTask a.tasks i t → IsTrue (may_go t.wait) → HandsOver c m x a b → HasTask b.tasks i t
 gives_left i t h may (task_gives {n = n} {t = u} {net = net} there w) = left_alone net.tasks i n t _ h (apart net.tasks i n t u _ h may there w refl)
 gives_left i t h may (keyboard_gives e z q) = h
 

@@ -9,7 +9,7 @@ use Rattle.occ_machine.specs.declared.task.Task.{Task}
 use Rattle.occ_machine.specs.Machine.{Body}
 use Rattle.occ_net_replay.specs.Replay.{HasTask, Net, may_go}
 use Rattle.occ_net.specs.declared.leasing.Lease.{Lease}
-use Rattle.occ_net.specs.Leases.{CanTurn}
+use Rattle.occ_net.specs.Leases.{CanTakeTurn}
 use Rattle.occ_net.specs.Networks.{IsState, Past, is_out}
 use Rattle.occ_net.specs.Stretches.{CanGoOn, InRow}
 use Rattle.occ_run.specs.Gathered.{IsOfRun}
@@ -49,7 +49,7 @@ pub record IsConcluded (p : Program) (keyboard : List ℕ) (limit : ℕ) (b : Pr
 
 -- a turn that is out: it can be taken, its body is the code's, and its token has its task
 pub record IsTurnOut (p : Program) (l : Lease) (v : Known) : Type 0 where
-  pub can : CanTurn l
+  pub can : CanTakeTurn l
   pub goes_on : CanGoOn l
   pub body : slice_get p.bodies l.task.number ≡ Some (arc_value l.body)
   pub token : v ≡ holder l.task

@@ -3,7 +3,7 @@
 use Rattle.std.specs.Prelude.{IsSome, None, Option, Some, false, if◌then◌else◌, is_some, length, min, ℕ, ◌+◌, ◌-◌, ◌<◌, ◌^◌, ◌≤◌, ◌≡◌, ◌⊎◌}
 use Rattle.occ_net_replay.specs.Replay.{Net, ending_of}
 use Rattle.occ_net.specs.declared.leasing.Lease.{Lease}
-use Rattle.occ_net.specs.Leases.{CanTurn, Leases, LeasesOne}
+use Rattle.occ_net.specs.Leases.{CanTakeTurn, Leases, LeasesOne}
 use Rattle.occ_net.specs.Networks.{IsState, ready_in, with_out}
 use Rattle.occ_net.specs.Stretches.{CanGoOn, SettlesAll}
 use Rattle.occ_run.specs.declared.progress.Next.{Next}
@@ -28,8 +28,8 @@ IsOver b =
     ⊎ ((net : Net) → IsState b.network net → IsSome (ending_of b.network.program.errors net))
 
 -- a count goes up by one, to 2 ^ 32 - 1 at most
-abbrev pub one_more : ℕ → ℕ
-one_more n = min (n + 1) (2 ^ 32 - 1)
+abbrev pub counted_up : ℕ → ℕ
+counted_up n = min (n + 1) (2 ^ 32 - 1)
 
 -- the first reason to stop stands
 abbrev pub first_stop : Option Stop → Stop → Option Stop
@@ -44,10 +44,10 @@ pub record KeepsCounts (old new : Progress) : Type 0 where
 pub record Runs (old : Progress) (lease : Lease) (new : Progress) : Type 0 where
   pub going : IsOpen old
   pub leases : (net : Net) → IsState old.network net → LeasesOne old.network net lease new.network
-  pub can : CanTurn lease
+  pub can : CanTakeTurn lease
   pub goes_on : CanGoOn lease
   pub stop : new.stop ≡ old.stop
-  pub out : new.out ≡ one_more old.out
+  pub out : new.out ≡ counted_up old.out
   pub resting : new.resting ≡ old.resting
 
 -- a run is open, and no turn can be leased; one more worker rests
@@ -56,10 +56,10 @@ pub record Rests (old new : Progress) : Type 0 where
   pub leases : (net : Net) → IsState old.network net → Leases old.network net None new.network
   pub stop : new.stop ≡ old.stop
   pub out : new.out ≡ old.out
-  pub resting : new.resting ≡ one_more old.resting
+  pub resting : new.resting ≡ counted_up old.resting
 
 -- a run is over already, or an open one stops since a growth was refused; nothing else changes
-pub record Leaves (old new : Progress) : Type 0 where
+pub record LeavesRun (old new : Progress) : Type 0 where
   pub network : new.network ≡ old.network
   pub why : (IsOver old × (new.stop ≡ old.stop)) ⊎ (IsOpen old × (new.stop ≡ Some Memory))
   pub counts : KeepsCounts old new
@@ -68,7 +68,7 @@ pub record Leaves (old new : Progress) : Type 0 where
 abbrev pub IsStep : Progress → Progress → Next → Type 0
 IsStep old new (next.Run lease most) = Runs old lease new
 IsStep old new next.Rest = Rests old new
-IsStep old new next.Leave = Leaves old new
+IsStep old new next.Leave = LeavesRun old new
 
 -- turns of an open run are settled, each with the number of choices so far as its pick
 pub record TakesThem (old new : Progress) (number count : ℕ) : Type 0 where

@@ -55,8 +55,8 @@ abbrev pub at_end : Known → Known
 at_end v = record v { over = true }
 
 -- with another's token to compare
-abbrev pub shown : Known → Known → Known
-shown v w = record v { has = w.has; ended = w.ended }
+abbrev pub shown_beside : Known → Known → Known
+shown_beside v w = record v { has = w.has; ended = w.ended }
 
 abbrev pub left_out : Option Task → List Task → List Task
 left_out None ts = ts
@@ -71,15 +71,15 @@ pub record Fits (seat : ℕ) (out : List Task) (over : Bool) (by : ℕ) (v : Kno
   pub ended : v.ended ≡ true → over ≡ true
 
 -- no two tokens have turns of one process
-abbrev pub AreApart : List Known → Type 0
-AreApart views = (i j : ℕ) (v w : Known) (t u : Task) → get_elem? views i ≡ some v → get_elem? views j ≡ some w → v.has ≡ Some t → w.has ≡ Some u → t.number ≡ u.number → i ≡ j
+abbrev pub HaveTurnsApart : List Known → Type 0
+HaveTurnsApart views = (i j : ℕ) (v w : Known) (t u : Task) → get_elem? views i ≡ some v → get_elem? views j ≡ some w → v.has ≡ Some t → w.has ≡ Some u → t.number ≡ u.number → i ≡ j
 
-pub record Kept (words : List ℕ) (views : List Known) : Type 0 where
+pub record KeptTokens (words : List ℕ) (views : List Known) : Type 0 where
   pub seat : ℕ
   pub out : List Task
   pub over : Bool
   pub each : (by : ℕ) (v : Known) → get_elem? views by ≡ some v → Fits seat out over by v
-  pub apart : AreApart views
+  pub apart : HaveTurnsApart views
 
 -- The keeper compares what a token says, and keeps what is left.
 pub record Checked (v : Known) (before after : List ℕ) (w : Known) : Type 0 where

@@ -79,7 +79,8 @@ impl Progress {
 
     /// The number of the next choice; none where the run is over.
     pub fn next_pick(&self) -> Option<u32>
-        ensures open { IfSome result (λ pick. (pick ≡ length self.now.network.choices) × IsOpen self.now) }
+        ensures open { IfSome result (λ pick. (pick ≡ length self.now.network.choices)
+            × IsOpen self.now) }
         ensures over { IfNone result (IsOver self.now) }
     {
         let settled = self.network.choices().len();
@@ -153,10 +154,13 @@ impl Progress {
     /// Takes in turns that were taken in a row, which are the network's own, or gives their process back. The task that
     /// the network had, where they were settled, is handed out.
     pub fn take_in(&mut self, alloc: Global, done: Done) -> Option<Task>
-        requires { IfOk done (λ s. (net : Net) → IsState self.old.network net → AreOwn self.old.network net s.number s.count s.after) }
+        requires { IfOk done (λ s. (net : Net) → IsState self.old.network net
+            → AreOwn self.old.network net s.number s.count s.after) }
         ensures limit { self.new.limit ≡ self.old.limit }
         ensures ran { IfOk done (λ s. TakesIn self.old self.new s.number s.count) }
-        ensures refused { IfErr done (λ number. (self.new.network ≡ with_out self.old.network number false) × (self.new.stop ≡ first_stop self.old.stop Stop.Memory)) }
+        ensures refused { IfErr done (λ number.
+            (self.new.network ≡ with_out self.old.network number false)
+            × (self.new.stop ≡ first_stop self.old.stop Stop.Memory)) }
         ensures out { self.new.out ≡ self.old.out - 1 }
         ensures resting { self.new.resting ≡ self.old.resting }
     {
@@ -171,7 +175,8 @@ impl Progress {
     }
 
     fn take_stretch(&mut self, alloc: Global, stretch: Stretch) -> Option<Task>
-        requires { (net : Net) → IsState self.old.network net → AreOwn self.old.network net stretch.number stretch.count stretch.after }
+        requires { (net : Net) → IsState self.old.network net
+            → AreOwn self.old.network net stretch.number stretch.count stretch.after }
         ensures limit { self.new.limit ≡ self.old.limit }
         ensures takes { TakesIn self.old self.new stretch.number stretch.count }
         ensures counts { KeepsCounts self.old self.new }

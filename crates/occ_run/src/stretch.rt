@@ -1,7 +1,7 @@
 //! Turns that a worker takes in a row, outside the lock.
 ghost use Rattle.std.specs.Prelude.{◌≡◌, ◌<◌, ◌↔◌, IfErr, IfOk, IsTrue};
 ghost use Rattle.std.specs.Arc.{arc_value};
-ghost use Rattle.occ_net.specs.Leases.{CanTurn};
+ghost use Rattle.occ_net.specs.Leases.{CanTakeTurn};
 ghost use Rattle.occ_net.specs.Stretches.{CanGoOn, InRow};
 
 use crate::gate::Gate;
@@ -52,7 +52,7 @@ pub fn take_turns<G: Gate>(
     lease: Lease,
     most: u32,
 ) -> Result<Stretch, u32>
-    requires can { CanTurn lease }
+    requires can { CanTakeTurn lease }
     requires goes_on { CanGoOn lease }
     ensures number { IfOk result (λ s. s.number ≡ lease.task.number) }
     ensures some { IfOk result (λ s. 0 < s.count) }

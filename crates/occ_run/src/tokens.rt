@@ -1,7 +1,7 @@
 //! What ties a turn that is out to the network under the lock: tokens, which have no bytes.
 ghost use Rattle.std.specs.Prelude.{◌≡◌, [], ◌∷◌, true, IfOk};
 ghost use Rattle.crossbeam_utils.specs.Seq.{cell_view};
-ghost use Rattle.occ_run.specs.Tokens.{AreOthers, Checked, IsKeeper, holder, keeper, opening, shown, teller};
+ghost use Rattle.occ_run.specs.Tokens.{AreOthers, Checked, IsKeeper, holder, keeper, opening, shown_beside, teller};
 
 use atomic_table::{Join, Split};
 use crossbeam_utils::atomic::seq_cell::{Pass, RuledSeqCell};
@@ -28,9 +28,9 @@ pub struct Known {
 pub struct Law;
 
 impl Protocol<[u64; 0], Known> for Law {
-    ghost use Rattle.occ_run.specs.Tokens.{Kept, opening};
+    ghost use Rattle.occ_run.specs.Tokens.{KeptTokens, opening};
 
-    ghost holds = { Kept };
+    ghost holds = { KeptTokens };
 
     ghost first = { opening };
 }
@@ -80,9 +80,9 @@ impl Split<Known> for Ends {
 struct Returns;
 
 impl Join<Known> for Returns {
-    ghost use Rattle.occ_run.specs.Tokens.{shown, nobody};
+    ghost use Rattle.occ_run.specs.Tokens.{shown_beside, nobody};
 
-    ghost both = { shown };
+    ghost both = { shown_beside };
 
     ghost spent = { nobody };
 }
@@ -98,7 +98,8 @@ impl Outcome<[u64; 0], Known> for Checks {
 
 /// The tokens of a run, and the keeper's.
 pub fn new_tokens(alloc: Global) -> Result<(Tokens, Token), AllocError>
-    ensures { IfOk result (λ r. (r.1.table_id ≡ r.0.table.shared.table_id) × (cell_view r.1 ≡ opening)) }
+    ensures { IfOk result (λ r. (r.1.table_id ≡ r.0.table.shared.table_id)
+        × (cell_view r.1 ≡ opening)) }
 {
     Tokens::ruled(alloc, [])
 }
@@ -108,8 +109,11 @@ fn go_out_as<O: Named>(tokens: &Tokens, all: &mut Token, task: &Task) -> Token
     requires own { all.old.table_id ≡ tokens.now.table.shared.table_id }
     requires keeps { IsKeeper (cell_view all.old) }
     requires other { AreOthers task.now.number (cell_view all.old).out }
-    ensures kept { (all.new.table_id ≡ all.old.table_id) × (cell_view all.new ≡ keeper (task.now ∷ (cell_view all.old).out) (cell_view all.old).over) }
-    ensures given { (result.table_id ≡ all.old.table_id) × (result.me.1 ≡ []) × (cell_view result ≡ holder task.now) }
+    ensures kept { (all.new.table_id ≡ all.old.table_id)
+        × (cell_view all.new ≡ keeper (task.now ∷ (cell_view all.old).out)
+        (cell_view all.old).over) }
+    ensures given { (result.table_id ≡ all.old.table_id) × (result.me.1 ≡ [])
+        × (cell_view result ≡ holder task.now) }
 {
     let _task = task;
     tokens.split_pass::<Goes<O>>(all)
@@ -120,8 +124,11 @@ pub fn go_out(tokens: &Tokens, all: &mut Token, task: &Task) -> Token
     requires own { all.old.table_id ≡ tokens.now.table.shared.table_id }
     requires keeps { IsKeeper (cell_view all.old) }
     requires other { AreOthers task.now.number (cell_view all.old).out }
-    ensures kept { (all.new.table_id ≡ all.old.table_id) × (cell_view all.new ≡ keeper (task.now ∷ (cell_view all.old).out) (cell_view all.old).over) }
-    ensures given { (result.table_id ≡ all.old.table_id) × (result.me.1 ≡ []) × (cell_view result ≡ holder task.now) }
+    ensures kept { (all.new.table_id ≡ all.old.table_id)
+        × (cell_view all.new ≡ keeper (task.now ∷ (cell_view all.old).out)
+        (cell_view all.old).over) }
+    ensures given { (result.table_id ≡ all.old.table_id) × (result.me.1 ≡ [])
+        × (cell_view result ≡ holder task.now) }
 {
     go_out_as::<Brand>(tokens, all, task)
 }
@@ -130,18 +137,22 @@ pub fn go_out(tokens: &Tokens, all: &mut Token, task: &Task) -> Token
 pub fn end(tokens: &Tokens, all: &mut Token) -> Token
     requires own { all.old.table_id ≡ tokens.now.table.shared.table_id }
     requires keeps { IsKeeper (cell_view all.old) }
-    ensures kept { (all.new.table_id ≡ all.old.table_id) × (cell_view all.new ≡ keeper (cell_view all.old).out true) }
-    ensures given { (result.table_id ≡ all.old.table_id) × (result.me.1 ≡ []) × (cell_view result ≡ teller) }
+    ensures kept { (all.new.table_id ≡ all.old.table_id)
+        × (cell_view all.new ≡ keeper (cell_view all.old).out true) }
+    ensures given { (result.table_id ≡ all.old.table_id) × (result.me.1 ≡ [])
+        × (cell_view result ≡ teller) }
 {
     tokens.split_pass::<Ends>(all)
 }
 
 /// A token comes back. What it says is so.
 pub fn come_back<R: Wait>(rt: &R, tokens: &Tokens, all: &mut Token, token: Token)
-    requires own { (all.old.table_id ≡ tokens.now.table.shared.table_id) × (token.table_id ≡ all.old.table_id) × (token.me.1 ≡ []) }
+    requires own { (all.old.table_id ≡ tokens.now.table.shared.table_id)
+        × (token.table_id ≡ all.old.table_id) × (token.me.1 ≡ []) }
     requires keeps { IsKeeper (cell_view all.old) }
     ensures kept { all.new.table_id ≡ all.old.table_id }
-    ensures checked { Checked (shown (cell_view all.old) (cell_view token)) [] [] (cell_view all.new) }
+    ensures checked { Checked (shown_beside (cell_view all.old) (cell_view token)) [] []
+        (cell_view all.new) }
 {
     tokens.join_pass::<Returns>(all, token);
     tokens.load_as::<Checks, R>(rt, all);

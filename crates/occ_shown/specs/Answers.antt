@@ -1,6 +1,6 @@
 -- The bytes of an answer.
 -- Manual: nothing; this is (own).
-use Rattle.std.specs.Prelude.{Bool, IsTrue, List, None, Option, Some, [], codes, false, if◌then◌else◌, int_le, length, map, not, pos, slice_get, true, ℕ, ℤ, ⊤, ◌≡◌, ◌&&◌, ◌++◌, ◌-◌, ◌==◌, ◌∷◌}
+use Rattle.std.specs.Prelude.{Bool, IsTrue, List, None, Option, Some, [], codes, false, if◌then◌else◌, int_le, length, map, not, pos, slice_get, true, ℕ, ℤ, ⊤, ◌≡◌, ◌&&◌, ◌++◌, ◌-◌, ◌==◌, ◌∷◌, Vec, option_map}
 use Rattle.std.specs.Option.{option_map_or}
 use Rattle.std.specs.Fmt.{decimal, signed_decimal}
 use Rattle.occ_term.specs.declared.primitive.Primitive.{Primitive}
@@ -14,7 +14,7 @@ use Rattle.occ_term.specs.declared.protocol.Protocol.TheVariants.{Simple, Counte
 use Rattle.occ_term.specs.declared.names.Channel.{Channel}
 use Rattle.occ_term.specs.declared.communication.End.{End}
 use Rattle.occ_term.specs.declared.communication.End.TheVariants.{Process as OfProcess, Keyboard, Screen, Error}
-use Rattle.occ_term.specs.Runs.{Names, Entry, AllShown, entries}
+use Rattle.occ_term.specs.Runs.{Names, Entry, AllShown, entries, bytes_of, entry_of, messages_on, sent_on, shown_by, tag_shown}
 use Rattle.occ_term.specs.declared.ending.Ending.{Ending}
 use Rattle.occ_term.specs.declared.ending.Ending.TheVariants.{Ended, Stopped, Fault, StoppedBy, Limit}
 use Rattle.occ_term.specs.declared.communication.Communication.{Communication as Made}
@@ -104,9 +104,9 @@ answer_text s e trace = ((s.screen ++ s.error) ++ line_break (s.screen ++ s.erro
 
 -- ---- names
 
-abbrev pub name_at : Option Channel → List ℕ
-name_at None = []
-name_at (Some c) = c.name
+abbrev pub name_of_channel : Option Channel → List ℕ
+name_of_channel None = []
+name_of_channel (Some c) = c.name
 
 -- the numbers of processes, each after a space
 abbrev pub numbers_text : List ℕ → List ℕ
@@ -117,16 +117,16 @@ abbrev pub name_or_none : Option (List ℕ) → List ℕ
 name_or_none None = []
 name_or_none (Some n) = n
 
-abbrev pub tag_in : Option Protocol → ℕ → List ℕ
-tag_in None t = []
-tag_in (Some (Simple sizes type)) t = []
-tag_in (Some (CountedArray count type)) t = []
-tag_in (Some (Sequential ts)) t = []
-tag_in (Some (Variant tags)) t = name_or_none (slice_get (map (λ x. x.name) tags) t)
+abbrev pub tag_name_in : Option Protocol → ℕ → List ℕ
+tag_name_in None t = []
+tag_name_in (Some (Simple sizes type)) t = []
+tag_name_in (Some (CountedArray count type)) t = []
+tag_name_in (Some (Sequential ts)) t = []
+tag_name_in (Some (Variant tags)) t = name_or_none (slice_get (map (λ x. x.name) tags) t)
 
 -- the declared names
 abbrev pub names_of : List Channel → Names
-names_of cs = record { channel_name = λ c. name_at (slice_get cs c); tag_name = λ c t. tag_in (slice_get (map (λ x. x.protocol) cs) c) t }
+names_of cs = record { channel_name = λ c. name_of_channel (slice_get cs c); tag_name = λ c t. tag_name_in (slice_get (map (λ x. x.protocol) cs) c) t }
 
 -- ---- what the code writes; private contracts alone cite it
 
@@ -148,4 +148,52 @@ report_of cs None Stopped = ending_text Stopped ++ 10 ∷ []
 report_of cs None (Fault f) = ending_text (Fault f) ++ 10 ∷ []
 report_of cs None (StoppedBy f) = ending_text (StoppedBy f) ++ 10 ∷ []
 report_of cs None Limit = ending_text Limit ++ 10 ∷ []
-report_of cs (Some xs) e = trace_text (entries (names_of cs) 1 xs) ++ ending_text e ++ 10 ∷ []
+report_of cs (Some xs) e = trace_text (entries (names_of cs) 1 (xs)) ++ ending_text e ++ 10 ∷ []
+
+-- ---- what is written, and of what
+
+-- behind the bytes that stood there stands this text
+abbrev pub AddsText : {A : Type 0} → (old new : Vec ℕ A) → List ℕ → Type 0
+AddsText old new text = new.items ≡ old.items ++ text
+
+abbrev pub HasBytes : {A : Type 0} → List ℕ → Vec ℕ A → Type 0
+HasBytes text bytes = bytes.items ≡ text
+
+-- these words, if any
+abbrev pub HasWords : {A : Type 0} → Option (List ℕ) → Option (Vec ℕ A) → Type 0
+HasWords words found = option_map (λ v. v.items) found ≡ words
+
+-- the items of a message on a channel, by the declared names
+abbrev pub items_on : List Channel → ℕ → Message → List ℕ
+items_on cs c m = items_text (tag_shown (names_of cs) c m.tag) m.items
+
+-- a communication by its channel's name and its items
+abbrev pub communication_text : List Channel → Made → List ℕ
+communication_text cs x = (names_of cs).channel_name x.chan ++ 32 ∷ items_on cs x.chan x.message
+
+abbrev pub channel_head : List Channel → (number c : ℕ) → List ℕ
+channel_head cs number c = head_text number c (name_of_channel (slice_get cs c))
+
+abbrev pub entry_head : Entry → List ℕ
+entry_head e = head_text e.number e.channel e.name
+
+-- communications as they are shown: one, with its number, and all, numbered from 1 on
+abbrev pub entry_at : List Channel → ℕ → Made → Entry
+entry_at cs number x = entry_of (names_of cs) number (x)
+
+abbrev pub entries_in : List Channel → List Made → List Entry
+entries_in cs xs = entries (names_of cs) 1 (xs)
+
+abbrev pub all_shown : List Channel → List Made → AllShown
+all_shown cs xs = shown_by (names_of cs) (xs)
+
+-- the bytes that one of them put on a channel, and all
+abbrev pub bytes_sent : ℕ → Made → List ℕ
+bytes_sent c x = bytes_of (sent_on c (x))
+
+abbrev pub channel_bytes : ℕ → List Made → List ℕ
+channel_bytes c xs = bytes_of (messages_on c (xs))
+
+-- a report behind them, on lines of its own
+abbrev pub with_report : (bytes report : List ℕ) → List ℕ
+with_report bytes report = (bytes ++ line_break bytes report) ++ report

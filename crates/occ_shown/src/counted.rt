@@ -1,7 +1,7 @@
 //! A writer that counts the writes that fail.
 ghost use Rattle.std.specs.Prelude.{◌≡◌, ◌+◌, ◌-◌, ◌^◌, ◌<◌, ◌≤◌, OnOk, IfErr, OnErr, IfSome, IfNone, length, take};
-ghost use Rattle.std.specs.Io.KnownBytes.{Appends, Keeps};
-ghost use Rattle.occ_shown.specs.Counting.{failures_of, writer_of};
+ghost use Rattle.std.specs.Io.KnownBytes.{Keeps};
+ghost use Rattle.occ_shown.specs.Counting.{failures_of, writer_of, AppendsTo};
 
 use std::io::Write;
 
@@ -33,7 +33,7 @@ impl<W: Write> Counted<W> {
         requires room { failures_of self.old < 2 ^ 64 - 1 }
         requires some { 0 < length bytes.now }
         ensures taken { IfSome result (λ n. (0 < n) × (n ≤ length bytes.now)
-            × Appends (W.contents (writer_of self.old)) (W.contents (writer_of self.new)) (take n bytes.now)
+            × AppendsTo W.contents self.old self.new (take n bytes.now)
             × (failures_of self.new ≡ failures_of self.old)) }
         ensures failed { IfNone result ((failures_of self.new ≡ failures_of self.old + 1)
             × Keeps (W.contents (writer_of self.old)) (W.contents (writer_of self.new))) }
@@ -51,11 +51,11 @@ impl<W: Write> Counted<W> {
 /// Writes the whole answer. At an error, a beginning of the answer of that length was written.
 pub fn write_answer<W: Write>(answer: &[u8], out: &mut Counted<W>) -> Result<(), u64>
     requires room { failures_of out.old < 2 ^ 64 - 1 }
-    ensures whole { OnOk result (Appends (W.contents (writer_of out.old)) (W.contents (writer_of out.new)) answer.now) }
+    ensures whole { OnOk result (AppendsTo W.contents out.old out.new answer.now) }
     ensures none_failed { OnOk result (failures_of out.new ≡ failures_of out.old) }
     ensures failed { OnErr result (failures_of out.old < failures_of out.new) }
     ensures beginning { IfErr result (λ written. (written < length answer.now)
-        × Appends (W.contents (writer_of out.old)) (W.contents (writer_of out.new)) (take written answer.now)) }
+        × AppendsTo W.contents out.old out.new (take written answer.now)) }
 {
     let mut written = 0;
     while written < answer.len() {

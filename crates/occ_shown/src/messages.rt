@@ -1,15 +1,14 @@
 //! Messages, in bytes, as the lines of a trace have them.
-ghost use Rattle.std.specs.Prelude.{◌≡◌, ◌++◌, OnOk};
+ghost use Rattle.std.specs.Prelude.{OnOk};
 ghost use Rattle.std.specs.Option.{option_copied};
-ghost use Rattle.occ_term.specs.Runs.{tag_shown};
-ghost use Rattle.occ_shown.specs.Answers.{items_text, later_text, names_of, part_text};
+ghost use Rattle.occ_shown.specs.Answers.{items_text, later_text, part_text, items_on, AddsText};
 
 use crate::values::{tag_name, write_array, write_value};
 use occ_term::{Channel, Message, Part};
 use std::alloc::{AllocError, Global};
 
 fn write_part(alloc: Global, out: &mut Vec<u8>, part: &Part) -> Result<(), AllocError>
-    ensures { OnOk result (out.new.items ≡ out.old.items ++ part_text part.now) }
+    ensures { OnOk result (AddsText out.old out.new (part_text part.now)) }
 {
     match part {
         Part::One(primitive, value) => write_value(alloc, out, *primitive, *value),
@@ -25,7 +24,7 @@ fn write_part(alloc: Global, out: &mut Vec<u8>, part: &Part) -> Result<(), Alloc
 
 /// Items, each after a semicolon and a space.
 fn write_later(alloc: Global, out: &mut Vec<u8>, parts: &[Part]) -> Result<(), AllocError>
-    ensures { OnOk result (out.new.items ≡ out.old.items ++ later_text parts.now) }
+    ensures { OnOk result (AddsText out.old out.new (later_text parts.now)) }
 {
     let mut rest = parts;
     while let Some((part, others)) = rest.split_first() {
@@ -43,7 +42,8 @@ fn write_items(
     tag: Option<&[u8]>,
     parts: &[Part],
 ) -> Result<(), AllocError>
-    ensures { OnOk result (out.new.items ≡ out.old.items ++ items_text (option_copied tag.entry) parts.now) }
+    ensures { OnOk result
+        (AddsText out.old out.new (items_text (option_copied tag.entry) parts.now)) }
 {
     match tag {
         Some(name) => {
@@ -72,7 +72,7 @@ pub fn write_message(
     chan: u32,
     channels: &[Channel],
 ) -> Result<(), AllocError>
-    ensures { OnOk result (out.new.items ≡ out.old.items ++ items_text (tag_shown (names_of channels.now) chan message.now.tag) message.now.items) }
+    ensures { OnOk result (AddsText out.old out.new (items_on channels.now chan message.now)) }
 {
     let items = message.items.as_slice();
     match message.tag {

@@ -1,9 +1,9 @@
 //! The answer's bytes, whole.
-ghost use Rattle.std.specs.Prelude.{◌≡◌, ◌++◌, ◌∷◌, [], ◌<◌, ◌+◌, IfOk, OnOk, slice_get};
+ghost use Rattle.std.specs.Prelude.{◌≡◌, ◌∷◌, [], ◌<◌, ◌+◌, IfOk, OnOk};
 ghost use Rattle.std.specs.Option.{option_copied};
-ghost use Rattle.occ_term.specs.Runs.{bytes_in, bytes_of, entry_of, entries, messages_on, sent_on, shown_by, tag_shown};
-ghost use Rattle.occ_shown.specs.Answers.{AreByteMessages, IsByteMessage, answer_text, part_text, later_text, items_text, end_text, head_text, ends_text, line_text, trace_text, line_break, names_of, name_at, report_of};
-ghost use Rattle.occ_net_trace.specs.Views.{part_of};
+ghost use Rattle.occ_term.specs.Runs.{bytes_in, entries};
+ghost use Rattle.occ_shown.specs.Answers.{AreByteMessages, IsByteMessage, answer_text, part_text, later_text, items_text, end_text, ends_text, line_text, trace_text, report_of, HasBytes, all_shown, channel_bytes, bytes_sent, channel_head, communication_text, entries_in, entry_at, items_on, with_report, AddsText};
+ghost use Rattle.occ_net_trace.specs.Views.{part_viewed};
 
 use crate::values::{tag_name, write_array, write_name, write_number, write_value};
 use occ_net_trace::{Entry, MessageView, PartView, PartViews, Trace};
@@ -18,7 +18,7 @@ pub(crate) fn write_part(
     out: &mut Vec<u8>,
     part: &PartView<'_>,
 ) -> Result<(), AllocError>
-    ensures { OnOk result (out.new.items ≡ out.old.items ++ part_text (part_of part.now)) }
+    ensures { OnOk result (AddsText out.old out.new (part_text (part_viewed part.now))) }
 {
     match part {
         PartView::One(primitive, value) => write_value(alloc, out, *primitive, *value),
@@ -33,7 +33,7 @@ pub(crate) fn write_part(
 
 /// Items, each after a semicolon and a space.
 fn write_later(alloc: Global, out: &mut Vec<u8>, parts: PartViews<'_>) -> Result<(), AllocError>
-    ensures { OnOk result (out.new.items ≡ out.old.items ++ later_text parts.entry) }
+    ensures { OnOk result (AddsText out.old out.new (later_text parts.entry)) }
 {
     for part in parts {
         out.extend_from_slice(b"; ")?;
@@ -49,7 +49,8 @@ fn write_items(
     tag: Option<&[u8]>,
     mut parts: PartViews<'_>,
 ) -> Result<(), AllocError>
-    ensures { OnOk result (out.new.items ≡ out.old.items ++ items_text (option_copied tag.entry) parts.entry) }
+    ensures { OnOk result
+        (AddsText out.old out.new (items_text (option_copied tag.entry) parts.entry)) }
 {
     match tag {
         Some(name) => {
@@ -68,7 +69,7 @@ fn write_items(
 
 /// The name of an end: `p` and a process's number, or what else it is.
 pub(crate) fn write_end(alloc: Global, out: &mut Vec<u8>, end: End) -> Result<(), AllocError>
-    ensures { OnOk result (out.new.items ≡ out.old.items ++ end_text end) }
+    ensures { OnOk result (AddsText out.old out.new (end_text (end))) }
 {
     match end {
         End::Process(number) => {
@@ -89,7 +90,7 @@ fn write_head(
     chan: u32,
     channels: &[Channel],
 ) -> Result<(), AllocError>
-    ensures { OnOk result (out.new.items ≡ out.old.items ++ head_text number chan (name_at (slice_get channels.now chan))) }
+    ensures { OnOk result (AddsText out.old out.new (channel_head channels.now number chan)) }
 {
     write_number(alloc, out, number)?;
     out.extend_from_slice(b" c")?;
@@ -105,7 +106,7 @@ pub(crate) fn write_ends(
     sender: End,
     receiver: End,
 ) -> Result<(), AllocError>
-    ensures { OnOk result (out.new.items ≡ out.old.items ++ ends_text sender receiver) }
+    ensures { OnOk result (AddsText out.old out.new (ends_text (sender) (receiver))) }
 {
     out.push(b' ')?;
     write_end(alloc, out, sender)?;
@@ -123,7 +124,7 @@ fn write_message(
     chan: u32,
     channels: &[Channel],
 ) -> Result<(), AllocError>
-    ensures { OnOk result (out.new.items ≡ out.old.items ++ items_text (tag_shown (names_of channels.now) chan message.now.tag) message.now.items) }
+    ensures { OnOk result (AddsText out.old out.new (items_on channels.now chan message.now)) }
 {
     let items = message.items();
     match message.tag() {
@@ -139,7 +140,8 @@ pub(crate) fn write_label(
     communication: &Entry<'_>,
     channels: &[Channel],
 ) -> Result<(), AllocError>
-    ensures { OnOk result (out.new.items ≡ out.old.items ++ (names_of channels.now).channel_name communication.now.chan ++ 32 ∷ items_text (tag_shown (names_of channels.now) communication.now.chan communication.now.message.tag) communication.now.message.items) }
+    ensures { OnOk result
+        (AddsText out.old out.new (communication_text channels.now communication.now)) }
 {
     let chan = communication.chan();
     write_name(alloc, out, channels, chan)?;
@@ -155,7 +157,8 @@ fn write_line(
     communication: &Entry<'_>,
     channels: &[Channel],
 ) -> Result<(), AllocError>
-    ensures { OnOk result (out.new.items ≡ out.old.items ++ line_text (entry_of (names_of channels.now) number communication.now)) }
+    ensures { OnOk result
+        (AddsText out.old out.new (line_text (entry_at channels.now number communication.now))) }
 {
     let chan = communication.chan();
     write_head(alloc, out, number, chan, channels)?;
@@ -172,7 +175,8 @@ fn write_trace(
     trace: &Trace,
     channels: &[Channel],
 ) -> Result<(), AllocError>
-    ensures { OnOk result (out.new.items ≡ out.old.items ++ trace_text (entries (names_of channels.now) 1 trace.now)) }
+    ensures { OnOk result
+        (AddsText out.old out.new (trace_text (entries_in channels.now trace.now))) }
 {
     let mut number = 0;
     for communication in trace.entries() {
@@ -196,7 +200,7 @@ fn byte_of(message: &MessageView<'_>) -> u8
 /// The bytes of the messages of one channel.
 fn write_bytes(out: &mut Vec<u8>, trace: &Trace, chan: u32) -> Result<(), AllocError>
     requires { AreByteMessages chan trace.now }
-    ensures { OnOk result (out.new.items ≡ out.old.items ++ bytes_of (messages_on chan trace.now)) }
+    ensures { OnOk result (AddsText out.old out.new (channel_bytes chan trace.now)) }
 {
     for communication in trace.entries() {
         write_byte(out, &communication, chan)?;
@@ -207,7 +211,7 @@ fn write_bytes(out: &mut Vec<u8>, trace: &Trace, chan: u32) -> Result<(), AllocE
 /// The byte of a communication, if it is on this channel.
 fn write_byte(out: &mut Vec<u8>, communication: &Entry<'_>, chan: u32) -> Result<(), AllocError>
     requires { communication.now.chan ≡ chan → IsByteMessage communication.now.message }
-    ensures { OnOk result (out.new.items ≡ out.old.items ++ bytes_of (sent_on chan communication.now)) }
+    ensures { OnOk result (AddsText out.old out.new (bytes_sent chan communication.now)) }
 {
     if communication.chan() == chan {
         out.push(byte_of(&communication.message()))?;
@@ -222,7 +226,7 @@ fn write_byte(out: &mut Vec<u8>, communication: &Entry<'_>, chan: u32) -> Result
 /// A refused growth.
 pub fn channel_bytes(alloc: Global, trace: &Trace, chan: u32) -> Result<Vec<u8>, AllocError>
     requires { AreByteMessages chan trace.now }
-    ensures { IfOk result (λ bytes. bytes.items ≡ bytes_of (messages_on chan trace.now)) }
+    ensures { IfOk result (HasBytes (channel_bytes chan trace.now)) }
 {
     let mut bytes = Vec::new(alloc);
     write_bytes(&mut bytes, trace, chan)?;
@@ -236,7 +240,7 @@ fn report(
     channels: &[Channel],
     ending: Ending,
 ) -> Result<Vec<u8>, AllocError>
-    ensures { IfOk result (λ bytes. bytes.items ≡ report_of channels.now (option_copied trace.entry) ending) }
+    ensures { IfOk result (HasBytes (report_of channels.now (option_copied trace.entry) ending)) }
 {
     let mut bytes = Vec::new(alloc);
     if let Some(communications) = trace {
@@ -251,7 +255,7 @@ fn report(
 
 /// The bytes, and then the report, which stands on lines of its own.
 fn joined(bytes: &mut Vec<u8>, report: &[u8]) -> Result<(), AllocError>
-    ensures { OnOk result (bytes.new.items ≡ (bytes.old.items ++ line_break bytes.old.items report.now) ++ report.now) }
+    ensures { OnOk result (bytes.new.items ≡ with_report bytes.old.items report.now) }
 {
     if !report.is_empty() && bytes.last().is_some_and(|last| *last != LINE_FEED) {
         bytes.push(LINE_FEED)?;
@@ -274,7 +278,8 @@ pub fn answer(
 ) -> Result<Vec<u8>, AllocError>
     requires screen { AreByteMessages SCREEN trace.now }
     requires error { AreByteMessages ERROR trace.now }
-    ensures { IfOk result (λ bytes. bytes.items ≡ answer_text (shown_by (names_of channels.now) trace.now) ending with_trace) }
+    ensures { IfOk result
+        (HasBytes (answer_text (all_shown channels.now trace.now) ending with_trace)) }
 {
     let lines = if with_trace { Some(trace) } else { None };
     let report = report(alloc, lines, channels, ending)?;

@@ -1,13 +1,13 @@
 //! Values, names and numbers of processes, in bytes.
-ghost use Rattle.std.specs.Prelude.{◌≡◌, ◌++◌, OnOk, Some};
+ghost use Rattle.std.specs.Prelude.{◌≡◌, OnOk, Some};
 ghost use Rattle.std.specs.Fmt.{decimal};
-ghost use Rattle.occ_shown.specs.Answers.{array_text, names_of, numbers_text, spaced_text, tag_in, value_text};
+ghost use Rattle.occ_shown.specs.Answers.{array_text, names_of, numbers_text, spaced_text, tag_name_in, value_text, AddsText};
 
 use occ_term::{Channel, Primitive, Protocol};
 use std::alloc::{AllocError, Global};
 
 pub(crate) fn write_number(alloc: Global, out: &mut Vec<u8>, number: u64) -> Result<(), AllocError>
-    ensures { OnOk result (out.new.items ≡ out.old.items ++ decimal number) }
+    ensures { OnOk result (AddsText out.old out.new (decimal number)) }
 {
     let text = format!(in alloc; "{number}")?;
     out.extend_from_slice(text.as_bytes())
@@ -24,7 +24,7 @@ pub fn write_value(
     primitive: Primitive,
     value: i64,
 ) -> Result<(), AllocError>
-    ensures { OnOk result (out.new.items ≡ out.old.items ++ value_text primitive value) }
+    ensures { OnOk result (AddsText out.old out.new (value_text primitive value)) }
 {
     match primitive {
         Primitive::Bool => {
@@ -48,7 +48,7 @@ fn write_spaced(
     primitive: Primitive,
     values: &[i64],
 ) -> Result<(), AllocError>
-    ensures { OnOk result (out.new.items ≡ out.old.items ++ spaced_text primitive values.now) }
+    ensures { OnOk result (AddsText out.old out.new (spaced_text primitive values.now)) }
 {
     let mut rest = values;
     while let Some((value, others)) = rest.split_first() {
@@ -70,7 +70,7 @@ pub fn write_array(
     primitive: Primitive,
     values: &[i64],
 ) -> Result<(), AllocError>
-    ensures { OnOk result (out.new.items ≡ out.old.items ++ array_text primitive values.now) }
+    ensures { OnOk result (AddsText out.old out.new (array_text primitive values.now)) }
 {
     out.push(b'[')?;
     if let Some((first, others)) = values.split_first() {
@@ -92,7 +92,7 @@ pub fn write_name(
     channels: &[Channel],
     chan: u32,
 ) -> Result<(), AllocError>
-    ensures { OnOk result (out.new.items ≡ out.old.items ++ (names_of channels.now).channel_name chan) }
+    ensures { OnOk result (AddsText out.old out.new ((names_of channels.now).channel_name chan)) }
 {
     match channels.get(chan as usize) {
         Some(channel) => channel.name.write(alloc, out),
@@ -112,7 +112,7 @@ pub fn tag_name(channels: &[Channel], chan: u32, tag: u32) -> &[u8]
 
 /// The name of a protocol's tag; empty where there is no such tag.
 fn protocol_tag(protocol: &Protocol, tag: u32) -> &[u8]
-    ensures { result.now ≡ tag_in (Some protocol.now) tag }
+    ensures { result.now ≡ tag_name_in (Some protocol.now) tag }
 {
     match protocol {
         Protocol::Variant(tags) => match tags.as_slice().get(tag as usize) {
@@ -129,7 +129,7 @@ fn protocol_tag(protocol: &Protocol, tag: u32) -> &[u8]
 ///
 /// A refused growth.
 pub fn write_numbers(alloc: Global, out: &mut Vec<u8>, numbers: &[u32]) -> Result<(), AllocError>
-    ensures { OnOk result (out.new.items ≡ out.old.items ++ numbers_text numbers.now) }
+    ensures { OnOk result (AddsText out.old out.new (numbers_text numbers.now)) }
 {
     let mut rest = numbers;
     while let Some((first, others)) = rest.split_first() {

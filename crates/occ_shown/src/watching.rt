@@ -1,9 +1,9 @@
 //! What watchers are shown of a run, and how that is written.
-ghost use Rattle.std.specs.Prelude.{◌≡◌, ◌↔◌, ◌++◌, IfOk, IsTrue, OnOk, slice_get};
+ghost use Rattle.std.specs.Prelude.{◌≡◌, ◌↔◌, IfOk, IsTrue, OnOk, slice_get};
 ghost use Rattle.std.specs.Option.{option_copied};
-ghost use Rattle.occ_term.specs.Runs.{entries, entry_of, tag_shown};
-ghost use Rattle.occ_shown.specs.Answers.{head_text, items_text, later_text, line_text, name_at, names_of, part_text, trace_text};
-ghost use Rattle.occ_net_trace.specs.Views.{part_of};
+ghost use Rattle.occ_term.specs.Runs.{entries, tag_shown};
+ghost use Rattle.occ_shown.specs.Answers.{items_text, later_text, line_text, name_of_channel, names_of, part_text, trace_text, entries_in, entry_at, entry_head, AddsText};
+ghost use Rattle.occ_net_trace.specs.Views.{part_viewed};
 
 use crate::showing::{LINE_FEED, write_ends, write_part};
 use crate::values::{tag_name, write_number};
@@ -14,7 +14,7 @@ use std::alloc::{AllocError, Global};
 
 /// The name of a channel; empty where there is no such channel.
 fn name_of(alloc: Global, channels: &[Channel], chan: u32) -> Result<Name, AllocError>
-    ensures { IfOk result (λ name. name ≡ name_at (slice_get channels.now chan)) }
+    ensures { IfOk result (λ name. name ≡ name_of_channel (slice_get channels.now chan)) }
 {
     match channels.get(chan as usize) {
         Some(channel) => channel.name.copy(),
@@ -61,7 +61,7 @@ pub fn shown_as(
     communication: &Entry<'_>,
     channels: &[Channel],
 ) -> Result<Shown, AllocError>
-    ensures { IfOk result (λ s. s ≡ entry_of (names_of channels.now) number communication.now) }
+    ensures { IfOk result (λ s. s ≡ entry_at channels.now number communication.now) }
 {
     let chan = communication.chan();
     let view = communication.message();
@@ -91,7 +91,8 @@ fn is_shown_as(
     communication: &Entry<'_>,
     channels: &[Channel],
 ) -> Result<bool, AllocError>
-    ensures { IfOk result (λ same. IsTrue same ↔ (shown.now ≡ entry_of (names_of channels.now) number communication.now)) }
+    ensures { IfOk result
+        (λ same. IsTrue same ↔ (shown.now ≡ entry_at channels.now number communication.now)) }
 {
     let wanted = shown_as(alloc, number, communication, channels)?;
     shown.is_same(alloc, &wanted)
@@ -108,7 +109,7 @@ pub fn is_shown(
     trace: &Trace,
     channels: &[Channel],
 ) -> Result<bool, AllocError>
-    ensures { IfOk result (λ same. IsTrue same ↔ (list.now ≡ entries (names_of channels.now) 1 trace.now)) }
+    ensures { IfOk result (λ same. IsTrue same ↔ (list.now ≡ entries_in channels.now trace.now)) }
 {
     let mut rest = list;
     let mut number = 0;
@@ -127,7 +128,7 @@ pub fn is_shown(
 
 /// A view of an item.
 fn view_of(part: &Part) -> PartView<'_>
-    ensures { part_of result ≡ part.now }
+    ensures { part_viewed result ≡ part.now }
 {
     match part {
         Part::One(primitive, value) => PartView::One(*primitive, *value),
@@ -138,14 +139,14 @@ fn view_of(part: &Part) -> PartView<'_>
 
 /// An item.
 fn write_owned(alloc: Global, out: &mut Vec<u8>, part: &Part) -> Result<(), AllocError>
-    ensures { OnOk result (out.new.items ≡ out.old.items ++ part_text part.now) }
+    ensures { OnOk result (AddsText out.old out.new (part_text part.now)) }
 {
     write_part(alloc, out, &view_of(part))
 }
 
 /// Items, each after a semicolon and a space.
 fn write_others(alloc: Global, out: &mut Vec<u8>, parts: &[Part]) -> Result<(), AllocError>
-    ensures { OnOk result (out.new.items ≡ out.old.items ++ later_text parts.now) }
+    ensures { OnOk result (AddsText out.old out.new (later_text parts.now)) }
 {
     for part in parts {
         out.extend_from_slice(b"; ")?;
@@ -161,7 +162,8 @@ fn write_all(
     tag: Option<&Text>,
     parts: &[Part],
 ) -> Result<(), AllocError>
-    ensures { OnOk result (out.new.items ≡ out.old.items ++ items_text (option_copied tag.entry) parts.now) }
+    ensures { OnOk result
+        (AddsText out.old out.new (items_text (option_copied tag.entry) parts.now)) }
 {
     match tag {
         Some(name) => {
@@ -180,7 +182,7 @@ fn write_all(
 
 /// The number, the channel's number and its name.
 fn write_beginning(alloc: Global, out: &mut Vec<u8>, shown: &Shown) -> Result<(), AllocError>
-    ensures { OnOk result (out.new.items ≡ out.old.items ++ head_text shown.now.number shown.now.channel shown.now.name) }
+    ensures { OnOk result (AddsText out.old out.new (entry_head shown.now)) }
 {
     write_number(alloc, out, shown.number())?;
     out.extend_from_slice(b" c")?;
@@ -190,9 +192,8 @@ fn write_beginning(alloc: Global, out: &mut Vec<u8>, shown: &Shown) -> Result<()
 }
 
 /// The line of a communication.
-
 fn write_shown(alloc: Global, out: &mut Vec<u8>, shown: &Shown) -> Result<(), AllocError>
-    ensures { OnOk result (out.new.items ≡ out.old.items ++ line_text shown.now) }
+    ensures { OnOk result (AddsText out.old out.new (line_text shown.now)) }
 {
     write_beginning(alloc, out, shown)?;
     write_ends(alloc, out, shown.sender(), shown.receiver())?;

@@ -14,7 +14,7 @@ use Rattle.occ_net_trace.specs.Places.{Place, place_behind}
 use Rattle.occ_term.specs.Runs.{Names, entries}
 use Rattle.occ_term.specs.System.{communication}
 use Rattle.occ_term.specs.declared.message.Message.{Message}
-use Rattle.occ_net_replay.specs.Replay.{Gets, Gives, Happens, Joined, Net, OneTurn, Replays, Settled, arm_gets, begins, error_gets, forks, joined, joins, keyboard_gives, meets, screen_gets, settles, skips, stays, task_gets, task_gives, ending_of, first_net, goes_on, ready_from, selected}
+use Rattle.occ_net_replay.specs.Replay.{Gets, HandsOver, Happens, PassesOn, Net, OneTurn, Replays, Settled, arm_gets, begins, error_gets, forks, joined, joins, keyboard_gives, meets, screen_gets, settles, skips, stays, task_gets, task_gives, ending_of, first_net, goes_on, ready_from, selected_process}
 use Rattle.occ_net_replay.proofs.OneStop.{stopping_once}
 use Rattle.occ_net_replay.proofs.Tables.{task_once}
 use Rattle.occ_net_tables.specs.Holding.{Holds}
@@ -22,7 +22,7 @@ use Rattle.occ_net_tables.specs.Settling.{Standing, TurnsTo}
 use Rattle.occ_net_tables.specs.declared.tables.Tables.{Tables}
 use Rattle.occ_places.specs.Places.{Known}
 use Rattle.occ_shown.specs.Answers.{names_of}
-use Rattle.occ_steps.specs.Steps.{IsSteps, NextTurn, Stepped, Stepping, StepsTo, head_text, news, none_stepped, one_stepped, step_text, tail_text}
+use Rattle.occ_steps.specs.Steps.{IsSteps, NextTurn, Stepped, Stepping, StepsTo, turn_head, news, none_stepped, one_stepped, step_text, turn_tail}
 
 stepped_replays : (known : List Known) (p : Program) (kb : List ℕ) {cs : List Choice} {net : Net} {text : List ℕ} → Stepped known p kb cs net text → Replays p kb cs net
 stepped_replays known p kb none_stepped = begins
@@ -60,7 +60,7 @@ record Grows (a b : Net) : Type 0 where
   pub more : List Communication
   pub is : b.trace ≡ a.trace ++ more
 
-gives_none : {c : ℕ} {m : Message} {x : End} {a b : Net} → Gives c m x a b → b.trace ≡ a.trace
+gives_none : {c : ℕ} {m : Message} {x : End} {a b : Net} → HandsOver c m x a b → b.trace ≡ a.trace
 gives_none (task_gives there waits) = refl
 gives_none (keyboard_gives typed first is) = refl
 
@@ -70,7 +70,7 @@ gets_none (arm_gets there waits chosen on) = refl
 gets_none (screen_gets is) = refl
 gets_none (error_gets is) = refl
 
-joined_one : {pick : ℕ} {x : Communication} {a b : Net} → Joined pick a x b → b.trace ≡ a.trace ++ x ∷ []
+joined_one : {pick : ℕ} {x : Communication} {a b : Net} → PassesOn pick a x b → b.trace ≡ a.trace ++ x ∷ []
 joined_one (joined {c = c} {m = m} {x = x} {y = y} gives gets) = ap (λ (xs : List Communication). xs ++ communication c x y m ∷ []) (gets_none gets ∙ gives_none gives)
 
 same_trace : (a b : Net) → b.trace ≡ a.trace → Grows a b
@@ -92,7 +92,7 @@ turn_grows p c a b o = let h = settled_grows o.settles in record { more = h.more
 -- ---- and so the trace in code
 
 -- what was there is the front of what is there
-pub front_of : (old new more : List Communication) → new ≡ old ++ more → new ≡ old ++ drop (length old) new
+pub front_of : (old new : List Communication) (more : List Communication) → new ≡ old ++ more → new ≡ old ++ drop (length old) new
 front_of [] new more e = refl
 front_of (x ∷ xs) [] more e = cc
 front_of (x ∷ xs) (y ∷ ys) more e =
@@ -121,7 +121,7 @@ map_back f (suc k) [] = refl
 map_back f (suc k) (x ∷ xs) = map_back f k xs
 
 pub news_text : (names : Names) (p : Program) (c : Choice) (a b : Net) (old new fresh : List Communication) (made : ℕ) → OneTurn p c a b → a.trace ≡ old → b.trace ≡ new
-    → fresh ≡ drop (length old) new → made ≡ length new → entries names (made - length fresh + 1) fresh ≡ news names a b
+    → fresh ≡ drop (length old) new → made ≡ length new → entries names (made - length fresh + 1) (fresh) ≡ news names a b
 news_text names p c a b old new fresh made turn was now is many =
     let grown = turn_grows p c a b turn in
     let front = front_of old new grown.more (sym now ∙ grown.is ∙ ap (λ xs. xs ++ grown.more) was) in
@@ -130,14 +130,14 @@ news_text names p c a b old new fresh made turn was now is many =
     let before : length a.trace ≡ length old = ap length was ∙ length-map old in
     let number : made - length fresh ≡ length a.trace = omega (arith, whole, size, before, many) in
     let after : fresh ≡ drop (length a.trace) b.trace =
-    is ∙ map_back (length old) new ∙ ap (λ k. drop k new) (sym before) ∙ ap (drop (length a.trace)) (sym now) in
-    ap (λ k. entries names (k + 1) fresh) number ∙ ap (entries names (length a.trace + 1)) after
+    is ∙ map_back (length old) new ∙ ap (λ k. drop k (new)) (sym before) ∙ ap (drop (length a.trace)) (sym now) in
+    ap (λ k. entries names (k + 1) (fresh)) number ∙ ap (entries names (length a.trace + 1)) after
 
 pub three_more : (o a b c x y z : List ℕ) → x ≡ o ++ a → y ≡ x ++ b → z ≡ y ++ c → z ≡ o ++ ((a ++ b) ++ c)
 three_more o a b c x y z e f g = g ∙ ap (λ l. l ++ c) (f ∙ ap (λ l. l ++ b) e ∙ append_assoc o a b) ∙ append_assoc o (a ++ b) c
 
 -- where some are ready, one is selected
-pub some_selected : (ready : List ℕ) (which : ℕ) → 0 < length ready → selected ready which ≡ None → ⊥
+pub some_selected : (ready : List ℕ) (which : ℕ) → 0 < length ready → selected_process ready which ≡ None → ⊥
 some_selected ready which some none = inside ready (which % length ready) (mod_below which (length ready) some) none
   where
     inside : (xs : List ℕ) (k : ℕ) → k < length xs → slice_get xs k ≡ None → ⊥
@@ -167,8 +167,8 @@ same_left p c net next number after h turn same =
 -- what is written is the line of the turn
 pub steps_to : (known : List Known) (p : Program) (kb : List ℕ) (turn : ℕ) (c : Choice) (net : Net) (old new : Tables) (taken : ℕ) (left : Task) (text middle longer : List ℕ)
     → Holds p kb old net → (x : TurnsTo p kb c net new) → NextTurn p c.which net taken left
-    → middle ≡ text ++ head_text turn (ready_from 0 net.tasks) taken c.pick
-    → longer ≡ middle ++ tail_text (names_of p.channels) known taken left (news (names_of p.channels) net x.next)
+    → middle ≡ text ++ turn_head turn (ready_from 0 net.tasks) taken c.pick
+    → longer ≡ middle ++ turn_tail (names_of p.channels) known taken left (news (names_of p.channels) net x.next)
     → StepsTo known p kb turn c net text new longer
 steps_to known p kb turn c net old new taken left text middle longer holds x next first second =
     let same : taken ≡ x.turn.number = same_number next.selects x.turn.selects in
@@ -178,8 +178,8 @@ steps_to known p kb turn c net old new taken left text middle longer holds x nex
       taken = x.turn;
       holds = x.holds;
       is =
-          second ∙ ap (λ t. t ++ tail_text (names_of p.channels) known taken left (news (names_of p.channels) net x.next)) first
-          ∙ append_assoc text (head_text turn (ready_from 0 net.tasks) taken c.pick) (tail_text (names_of p.channels) known taken left (news (names_of p.channels) net x.next))
+          second ∙ ap (λ t. t ++ turn_tail (names_of p.channels) known taken left (news (names_of p.channels) net x.next)) first
+          ∙ append_assoc text (turn_head turn (ready_from 0 net.tasks) taken c.pick) (turn_tail (names_of p.channels) known taken left (news (names_of p.channels) net x.next))
           ∙ ap (λ (k : ℕ). text ++ step_text (names_of p.channels) known turn net k c.pick left x.next) same
           ∙ ap (λ (t : Task). text ++ step_text (names_of p.channels) known turn net x.turn.number c.pick t x.next) after;
     }

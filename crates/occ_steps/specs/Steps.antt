@@ -1,6 +1,6 @@
 -- The lines of a run's turns.
 -- Manual: nothing; this is (own).
-use Rattle.std.specs.Prelude.{List, None, Option, Some, [], codes, drop, length, slice_get, ℕ, ◌+◌, ◌++◌, ◌≡◌, ◌∷◌}
+use Rattle.std.specs.Prelude.{List, None, Option, Some, [], codes, drop, length, slice_get, ℕ, ◌+◌, ◌++◌, ◌≡◌, ◌∷◌, Vec, map, ◌-◌}
 use Rattle.std.specs.Fmt.{decimal}
 use Rattle.occ_chart.specs.Labels.{arrow_words, message_text}
 use Rattle.occ_machine.specs.declared.task.Arm.{Arm}
@@ -12,7 +12,7 @@ use Rattle.occ_machine.specs.Machine.{Body, Stopping}
 use Rattle.occ_net_replay.specs.declared.choice.Choice.{Choice}
 use Rattle.occ_term.specs.declared.ending.Ending.TheVariants.{Fault}
 use Rattle.occ_term.specs.Endings.{ending_text}
-use Rattle.occ_net_replay.specs.Replay.{HasTask, Net, OneTurn, ending_of, first_net, ready_from, selected}
+use Rattle.occ_net_replay.specs.Replay.{HasTask, Net, OneTurn, ending_of, first_net, ready_from, selected_process}
 use Rattle.occ_net_tables.specs.Holding.{Holds}
 use Rattle.occ_net_tables.specs.Outcomes.{Begins}
 use Rattle.occ_net_tables.specs.declared.tables.Tables.{Tables}
@@ -20,6 +20,9 @@ use Rattle.occ_places.specs.declared.stop.Stop.{Stop}
 use Rattle.occ_places.specs.Places.{Known, stop_of}
 use Rattle.occ_shown.specs.Answers.{ends_text, names_of, numbers_text}
 use Rattle.occ_term.specs.Runs.{Entry, Names, entries, tag_shown}
+use Rattle.occ_term.specs.declared.names.Channel.{Channel}
+use Rattle.occ_term.specs.declared.message.Message.{Message}
+use Rattle.occ_term.specs.declared.communication.Communication.{Communication}
 
 -- ---- at what a turn stops
 
@@ -28,35 +31,35 @@ abbrev pub arm_text : Names → Option ℕ → List ℕ
 arm_text names None = codes "; SKIP"
 arm_text names (Some c) = codes "; " ++ (codes "awaits " ++ names.channel_name c)
 
-abbrev pub arms_text : Names → List Arm → List ℕ
-arms_text names [] = []
-arms_text names (a ∷ others) = arm_text names a.chan ++ arms_text names others
+abbrev pub arm_channels : Names → List Arm → List ℕ
+arm_channels names [] = []
+arm_channels names (a ∷ others) = arm_text names a.chan ++ arm_channels names others
 
 abbrev pub stop_text : Names → Wait → List ℕ
 stop_text names Ready = codes "can go on"
 stop_text names (Took arm indices m) = codes "can go on"
 stop_text names (Offers c m) = codes "offers " ++ message_text (tag_shown names c m.tag) m.items ++ codes " on " ++ names.channel_name c
 stop_text names (Awaits c) = codes "awaits " ++ names.channel_name c
-stop_text names (Chooses pri arms) = codes "chooses" ++ arms_text names arms
+stop_text names (Chooses pri arms) = codes "chooses" ++ arm_channels names arms
 stop_text names (Joins ns) = codes "waits for" ++ numbers_text ns
 stop_text names Halted = codes "halted"
 stop_text names Done = codes "ends"
 stop_text names (Faulted e) = ending_text (Fault e)
 
 -- the line of the source at which a turn stops, where it is known
-abbrev pub line_text : Option Stop → List ℕ
-line_text None = []
-line_text (Some s) = codes "line " ++ decimal s.line ++ codes ": "
+abbrev pub stop_line : Option Stop → List ℕ
+stop_line None = []
+stop_line (Some s) = codes "line " ++ decimal s.line ++ codes ": "
 
 -- of the process with this number, whose turn left this task
 abbrev pub stopped_text : Names → List Known → ℕ → Task → List ℕ
-stopped_text names known n t = line_text (stop_of known n t.wait t.place) ++ stop_text names t.wait
+stopped_text names known n t = stop_line (stop_of known n t.wait t.place) ++ stop_text names t.wait
 
 -- ---- the line of a turn
 
 -- the number of the turn, those that are ready, the one that takes the turn, the pick
-abbrev pub head_text : (turn : ℕ) → (ready : List ℕ) → (taken pick : ℕ) → List ℕ
-head_text turn ready taken pick = (decimal turn ++ codes " ready") ++ numbers_text ready ++ (codes " took p" ++ (decimal taken ++ (codes " pick " ++ (decimal pick ++ codes " "))))
+abbrev pub turn_head : (turn : ℕ) → (ready : List ℕ) → (taken pick : ℕ) → List ℕ
+turn_head turn ready taken pick = (decimal turn ++ codes " ready") ++ numbers_text ready ++ (codes " took p" ++ (decimal taken ++ (codes " pick " ++ (decimal pick ++ codes " "))))
 
 -- a communication: its number, its ends, the channel's name and the message
 abbrev pub made_text : Entry → List ℕ
@@ -67,15 +70,15 @@ all_made_text [] = []
 all_made_text (e ∷ es) = made_text e ++ all_made_text es
 
 -- at what the turn stopped, and the communication that it made possible
-abbrev pub tail_text : Names → List Known → ℕ → Task → List Entry → List ℕ
-tail_text names known n t made = stopped_text names known n t ++ all_made_text made ++ 10 ∷ []
+abbrev pub turn_tail : Names → List Known → ℕ → Task → List Entry → List ℕ
+turn_tail names known n t made = stopped_text names known n t ++ all_made_text made ++ 10 ∷ []
 
 -- those of the second state that the first has not
 abbrev pub news : Names → Net → Net → List Entry
 news names a b = entries names (length a.trace + 1) (drop (length a.trace) b.trace)
 
 abbrev pub step_text : Names → List Known → (turn : ℕ) → (before : Net) → (taken pick : ℕ) → (left : Task) → (after : Net) → List ℕ
-step_text names known turn a taken pick left b = head_text turn (ready_from 0 a.tasks) taken pick ++ tail_text names known taken left (news names a b)
+step_text names known turn a taken pick left b = turn_head turn (ready_from 0 a.tasks) taken pick ++ turn_tail names known taken left (news names a b)
 
 -- a replay, and the line of each of its turns, numbered from 1, with what is known of where processes stand in the source
 pub data Stepped (known : List Known) (p : Program) (keyboard : List ℕ) : List Choice → Net → List ℕ → Type 0 where
@@ -98,7 +101,7 @@ pub record IsSteps (known : List Known) (p : Program) (keyboard : List ℕ) (lis
 pub record NextTurn (p : Program) (which : ℕ) (net : Net) (number : ℕ) (after : Task) : Type 0 where
   pub body : Body
   pub before : Task
-  pub selects : selected (ready_from 0 net.tasks) which ≡ Some number
+  pub selects : selected_process (ready_from 0 net.tasks) which ≡ Some number
   pub has_body : slice_get p.bodies number ≡ Some body
   pub has_task : HasTask net.tasks number before
   pub stops : Stopping body before after
@@ -118,3 +121,32 @@ pub record StepsTo (known : List Known) (p : Program) (keyboard : List ℕ) (tur
   pub taken : OneTurn p c net next
   pub holds : Holds p keyboard n next
   pub is : new ≡ old ++ step_text (names_of p.channels) known turn net taken.number c.pick taken.after next
+
+-- ---- of what code has; private contracts alone cite these
+
+abbrev pub offers_text : List Channel → ℕ → Message → List ℕ
+offers_text cs c m = codes "offers " ++ message_text (tag_shown (names_of cs) c m.tag) m.items ++ codes " on " ++ (names_of cs).channel_name c
+
+abbrev pub awaits_text : List Channel → ℕ → List ℕ
+awaits_text cs c = codes "awaits " ++ (names_of cs).channel_name c
+
+abbrev pub chooses_text : List Channel → List Arm → List ℕ
+chooses_text cs arms = codes "chooses" ++ arm_channels (names_of cs) arms
+
+abbrev pub joins_text : List ℕ → List ℕ
+joins_text ns = codes "waits for" ++ numbers_text ns
+
+-- communications that are the last of so many
+abbrev pub last_made : List Channel → ℕ → List Communication → List Entry
+last_made cs made xs = entries (names_of cs) (made - length xs + 1) (xs)
+
+abbrev pub AddsTail : {A : Type 0} → List Channel → List Known → ℕ → Task → List Entry → (old new : Vec ℕ A) → Type 0
+AddsTail cs known n t made old new = new.items ≡ old.items ++ turn_tail (names_of cs) known n t made
+
+-- of the network that the tables held
+abbrev pub AddsStep : {A : Type 0} → List Known → Program → List ℕ → ℕ → Choice → Vec ℕ A → Tables → Vec ℕ A → Tables → Type 0
+AddsStep known p keyboard turn c before old after new =
+    (net : Net) → Holds p keyboard old net → StepsTo known p keyboard turn c net before.items new after.items
+
+abbrev pub TakesNext : Program → List ℕ → Tables → ℕ → ℕ × Task → Type 0
+TakesNext p keyboard tables which r = (net : Net) → Holds p keyboard tables net → NextTurn p which net r.0 r.1

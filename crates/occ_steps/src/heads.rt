@@ -1,14 +1,15 @@
 //! How the line of a turn begins.
-ghost use Rattle.std.specs.Prelude.{◌≡◌, ◌++◌, OnOk};
-ghost use Rattle.occ_net_replay.specs.Replay.{selected};
-ghost use Rattle.occ_steps.specs.Steps.{head_text};
+ghost use Rattle.std.specs.Prelude.{◌≡◌, OnOk};
+ghost use Rattle.occ_net_replay.specs.Replay.{selected_process};
+ghost use Rattle.occ_steps.specs.Steps.{turn_head};
+ghost use Rattle.occ_shown.specs.Answers.{AddsText};
 
 use occ_shown::write_numbers;
 use std::alloc::{AllocError, Global};
 
 /// The process that takes the turn, of those that are ready.
 pub(crate) fn selected(ready: &[u32], which: u32) -> Option<u32>
-    ensures { result ≡ selected ready.now which }
+    ensures { result ≡ selected_process ready.now which }
 {
     if ready.is_empty() {
         return None;
@@ -25,7 +26,7 @@ pub(crate) fn write_head(
     taken: u32,
     pick: u32,
 ) -> Result<(), AllocError>
-    ensures { OnOk result (out.new.items ≡ out.old.items ++ head_text turn ready.now taken pick) }
+    ensures { OnOk result (AddsText out.old out.new (turn_head turn ready.now taken pick)) }
 {
     let first = format!(in alloc; "{turn} ready")?;
     out.extend_from_slice(first.as_bytes())?;

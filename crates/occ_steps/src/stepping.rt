@@ -1,10 +1,9 @@
 //! Runs, turn by turn.
-ghost use Rattle.std.specs.Prelude.{◌≡◌, ◌+◌, ◌<◌, ◌^◌, IfOk, List, None, OnOk, length, ℕ};
+ghost use Rattle.std.specs.Prelude.{◌≡◌, ◌+◌, ◌<◌, ◌^◌, IfOk, None, OnOk, length};
 ghost use Rattle.occ_machine.specs.Compiled.{Program};
-ghost use Rattle.occ_net_replay.specs.Replay.{Net, ending_of};
-ghost use Rattle.occ_net_tables.specs.Holding.{Holds};
+ghost use Rattle.occ_net_replay.specs.Replay.{ending_of};
 ghost use Rattle.occ_net_tables.specs.Settling.{Standing};
-ghost use Rattle.occ_steps.specs.Steps.{IsSteps, StepsTo};
+ghost use Rattle.occ_steps.specs.Steps.{AddsStep, IsSteps};
 
 use crate::heads::write_head;
 use crate::stops::write_tail;
@@ -31,7 +30,8 @@ fn step(
     out: &mut Vec<u8>,
 ) -> Result<(), AllocError>
     requires { Standing code.now keyboard.now tables.old }
-    ensures { OnOk result ((net : Net) → Holds code.now keyboard.now tables.old net → StepsTo places.now code.now keyboard.now turn choice net out.old.items tables.new out.new.items) }
+    ensures { OnOk result (AddsStep
+        places.now code.now keyboard.now turn choice out.old tables.old out.new tables.new) }
 {
     let (taken, after) = next_turn(alloc, code, scratch, keyboard, tables, choice.which)?;
     write_head(alloc, out, turn, tables.ready(), taken, choice.pick)?;
@@ -66,7 +66,8 @@ pub fn steps(
     keyboard: &[u8],
     choices: &[Choice],
 ) -> Result<Vec<u8>, AllocError>
-    ensures { IfOk result (λ bytes. IsSteps places.now code.now keyboard.now choices.now bytes.items) }
+    ensures { IfOk result
+        (λ bytes. IsSteps places.now code.now keyboard.now choices.now bytes.items) }
 {
     let mut scratch = Scratch::new(alloc);
     let mut tables = Tables::new(alloc, code)?;

@@ -1,10 +1,9 @@
 //! At what a turn stopped, and what it made possible.
-ghost use Rattle.std.specs.Prelude.{◌≡◌, ◌++◌, ◌+◌, ◌-◌, ◌≤◌, OnOk, codes, length};
-ghost use Rattle.occ_chart.specs.Labels.{message_text};
+ghost use Rattle.std.specs.Prelude.{◌-◌, ◌≤◌, OnOk, length};
 ghost use Rattle.occ_term.specs.Endings.{ending_text};
-ghost use Rattle.occ_shown.specs.Answers.{ends_text, names_of, numbers_text};
-ghost use Rattle.occ_steps.specs.Steps.{all_made_text, arm_text, arms_text, line_text, made_text, stop_text, stopped_text, tail_text};
-ghost use Rattle.occ_term.specs.Runs.{entries, tag_shown};
+ghost use Rattle.occ_shown.specs.Answers.{ends_text, names_of, AddsText};
+ghost use Rattle.occ_steps.specs.Steps.{all_made_text, arm_text, arm_channels, stop_line, made_text, stop_text, stopped_text, AddsTail, awaits_text, chooses_text, joins_text, last_made, offers_text};
+ghost use Rattle.occ_term.specs.Runs.{entries};
 
 use occ_board::Shown;
 use occ_chart::{words_of, write_end, write_message};
@@ -22,7 +21,7 @@ fn write_offer(
     chan: u32,
     message: &Message,
 ) -> Result<(), AllocError>
-    ensures { OnOk result (out.new.items ≡ out.old.items ++ (codes "offers " ++ message_text (tag_shown (names_of channels.now) chan message.now.tag) message.now.items ++ codes " on " ++ (names_of channels.now).channel_name chan)) }
+    ensures { OnOk result (AddsText out.old out.new (offers_text channels.now chan message.now)) }
 {
     out.extend_from_slice(b"offers ")?;
     write_message(alloc, out, message, chan, channels)?;
@@ -37,7 +36,7 @@ fn write_awaited(
     channels: &[Channel],
     chan: u32,
 ) -> Result<(), AllocError>
-    ensures { OnOk result (out.new.items ≡ out.old.items ++ (codes "awaits " ++ (names_of channels.now).channel_name chan)) }
+    ensures { OnOk result (AddsText out.old out.new (awaits_text channels.now chan)) }
 {
     out.extend_from_slice(b"awaits ")?;
     write_name(alloc, out, channels, chan)?;
@@ -51,7 +50,7 @@ fn write_arm(
     channels: &[Channel],
     chan: Option<u32>,
 ) -> Result<(), AllocError>
-    ensures { OnOk result (out.new.items ≡ out.old.items ++ arm_text (names_of channels.now) chan) }
+    ensures { OnOk result (AddsText out.old out.new (arm_text (names_of channels.now) chan)) }
 {
     match chan {
         Some(chan) => {
@@ -68,7 +67,8 @@ fn write_arms(
     channels: &[Channel],
     arms: &[Arm],
 ) -> Result<(), AllocError>
-    ensures { OnOk result (out.new.items ≡ out.old.items ++ arms_text (names_of channels.now) arms.now) }
+    ensures { OnOk result
+        (AddsText out.old out.new (arm_channels (names_of channels.now) arms.now)) }
 {
     let mut rest = arms;
     while let Some((arm, others)) = rest.split_first() {
@@ -84,21 +84,21 @@ fn write_choosing(
     channels: &[Channel],
     arms: &[Arm],
 ) -> Result<(), AllocError>
-    ensures { OnOk result (out.new.items ≡ out.old.items ++ (codes "chooses" ++ arms_text (names_of channels.now) arms.now)) }
+    ensures { OnOk result (AddsText out.old out.new (chooses_text channels.now arms.now)) }
 {
     out.extend_from_slice(b"chooses")?;
     write_arms(alloc, out, channels, arms)
 }
 
 fn write_joining(alloc: Global, out: &mut Vec<u8>, branches: &[u32]) -> Result<(), AllocError>
-    ensures { OnOk result (out.new.items ≡ out.old.items ++ (codes "waits for" ++ numbers_text branches.now)) }
+    ensures { OnOk result (AddsText out.old out.new (joins_text branches.now)) }
 {
     out.extend_from_slice(b"waits for")?;
     write_numbers(alloc, out, branches)
 }
 
 fn write_fault(alloc: Global, out: &mut Vec<u8>, fault: Fault) -> Result<(), AllocError>
-    ensures { OnOk result (out.new.items ≡ out.old.items ++ ending_text (Ending.Fault fault)) }
+    ensures { OnOk result (AddsText out.old out.new (ending_text (Ending.Fault fault))) }
 {
     let ending = Ending::Fault(fault);
     let text = format!(in alloc; "{ending}")?;
@@ -112,7 +112,7 @@ fn write_stop(
     channels: &[Channel],
     wait: &Wait,
 ) -> Result<(), AllocError>
-    ensures { OnOk result (out.new.items ≡ out.old.items ++ stop_text (names_of channels.now) wait.now) }
+    ensures { OnOk result (AddsText out.old out.new (stop_text (names_of channels.now) wait.now)) }
 {
     match wait {
         Wait::Ready => out.extend_from_slice(b"can go on"),
@@ -129,7 +129,7 @@ fn write_stop(
 
 /// The line of the source, where it is known.
 fn write_line(alloc: Global, out: &mut Vec<u8>, stop: Option<Stop>) -> Result<(), AllocError>
-    ensures { OnOk result (out.new.items ≡ out.old.items ++ line_text stop) }
+    ensures { OnOk result (AddsText out.old out.new (stop_line stop)) }
 {
     match stop {
         Some(stop) => {
@@ -149,7 +149,8 @@ fn write_stopped(
     number: u32,
     after: &Task,
 ) -> Result<(), AllocError>
-    ensures { OnOk result (out.new.items ≡ out.old.items ++ stopped_text (names_of channels.now) places.now number after.now) }
+    ensures { OnOk result (AddsText out.old out.new
+        (stopped_text (names_of channels.now) places.now number after.now)) }
 {
     let stop = places.stop(number, &after.wait, after.place);
     write_line(alloc, out, stop)?;
@@ -158,7 +159,8 @@ fn write_stopped(
 
 /// The ends of a communication, between spaces.
 fn write_ends(alloc: Global, out: &mut Vec<u8>, shown: &Shown) -> Result<(), AllocError>
-    ensures { OnOk result (out.new.items ≡ out.old.items ++ ends_text shown.now.sender shown.now.receiver) }
+    ensures { OnOk result
+        (AddsText out.old out.new (ends_text shown.now.sender shown.now.receiver)) }
 {
     out.push(b' ')?;
     write_end(alloc, out, shown.sender())?;
@@ -170,7 +172,7 @@ fn write_ends(alloc: Global, out: &mut Vec<u8>, shown: &Shown) -> Result<(), All
 
 /// A communication: its number, its ends, the channel's name and the message.
 fn write_made(alloc: Global, out: &mut Vec<u8>, shown: &Shown) -> Result<(), AllocError>
-    ensures { OnOk result (out.new.items ≡ out.old.items ++ made_text shown.now) }
+    ensures { OnOk result (AddsText out.old out.new (made_text shown.now)) }
 {
     let number = shown.number();
     let head = format!(in alloc; ", {number}")?;
@@ -189,7 +191,8 @@ fn write_all_made(
     news: &News,
 ) -> Result<(), AllocError>
     requires within { length news.now ≤ made }
-    ensures { OnOk result (out.new.items ≡ out.old.items ++ all_made_text (entries (names_of channels.now) (made - length news.now + 1) news.now)) }
+    ensures { OnOk result
+        (AddsText out.old out.new (all_made_text (last_made channels.now made news.now))) }
 {
     let mut number = made - news.entries().len() as u64;
     for communication in news.entries() {
@@ -212,7 +215,9 @@ pub(crate) fn write_tail(
     news: &News,
 ) -> Result<(), AllocError>
     requires within { length news.now ≤ made }
-    ensures { OnOk result (out.new.items ≡ out.old.items ++ tail_text (names_of channels.now) places.now number after.now (entries (names_of channels.now) (made - length news.now + 1) news.now)) }
+    ensures { OnOk result (AddsTail
+        channels.now places.now number after.now (last_made channels.now made news.now)
+        out.old out.new) }
 {
     write_stopped(alloc, out, channels, places, number, after)?;
     write_all_made(alloc, out, channels, made, news)?;

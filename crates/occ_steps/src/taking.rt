@@ -1,9 +1,7 @@
 //! What a turn comes to, before anything has happened that it makes possible.
-ghost use Rattle.std.specs.Prelude.{◌≡◌, IfOk, List, ℕ};
-ghost use Rattle.occ_net_replay.specs.Replay.{Net};
-ghost use Rattle.occ_net_tables.specs.Holding.{Holds};
+ghost use Rattle.std.specs.Prelude.{◌≡◌, IfOk};
 ghost use Rattle.occ_net_tables.specs.Settling.{Standing};
-ghost use Rattle.occ_steps.specs.Steps.{NextTurn};
+ghost use Rattle.occ_steps.specs.Steps.{TakesNext};
 
 use crate::heads::selected;
 use occ_machine::{Code, Task};
@@ -21,7 +19,7 @@ pub(crate) fn next_turn(
     which: u32,
 ) -> Result<(u32, Task), AllocError>
     requires { Standing code.now keyboard.now tables.now }
-    ensures { IfOk result (λ r. (net : Net) → Holds code.now keyboard.now tables.now net → NextTurn code.now which net r.0 r.1) }
+    ensures { IfOk result (TakesNext code.now keyboard.now tables.now which) }
 {
     code.compiled();
     let Some(number) = selected(tables.ready(), which) else {

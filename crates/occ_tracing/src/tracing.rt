@@ -2,7 +2,7 @@
 ghost use Rattle.std.specs.Prelude.{◌≡◌, IfErr, IfOk};
 ghost use Rattle.occ_choices.specs.Plans.{choices_of};
 ghost use Rattle.occ_play.specs.Playing.{Refuses};
-ghost use Rattle.occ_shown.specs.Answers.{names_of};
+ghost use Rattle.occ_shown.specs.Answers.{entries_in};
 ghost use Rattle.occ_term.specs.Runs.{entries};
 ghost use Rattle.occ_tracing.specs.Traced.{IsTraced, form_text};
 
@@ -27,7 +27,7 @@ pub enum Form {
 
 /// The communications of a trace, numbered from 1, with the names of these channels.
 fn shown_list(alloc: Global, trace: &Trace, channels: &[Channel]) -> Result<Vec<Shown>, AllocError>
-    ensures { IfOk result (λ list. list.items ≡ entries (names_of channels.now) 1 trace.now) }
+    ensures { IfOk result (λ list. list.items ≡ entries_in channels.now trace.now) }
 {
     let mut list = Vec::new(alloc);
     let mut number = 0;
@@ -71,7 +71,8 @@ pub fn traced(
     plan: &Plan,
     form: Form,
 ) -> Result<Vec<u8>, PlayFault>
-    ensures traced { IfOk result (λ bytes. IsTraced options.now source.now keyboard.now (choices_of plan.now) form bytes.items) }
+    ensures traced { IfOk result (λ bytes.
+        IsTraced options.now source.now keyboard.now (choices_of plan.now) form bytes.items) }
     ensures refused { IfErr result (Refuses options.now source.now) }
 {
     let code = code_of(options, alloc, source)?;

@@ -31,7 +31,8 @@ pub fn play_watching<J: Naming + Send + Sync, R: Eprint + Threads + Wait + Sync,
 ) -> Option<Result<Played, PlayFault>>
     requires book { opened ≡ J.book }
     requires room { failures_of out.old < 2 ^ 64 - 1 }
-    ensures { IfSome result (CameByWorkers workers options.now source.now keyboard.now limit trace) }
+    ensures { IfSome result (CameByWorkers workers options.now source.now keyboard.now limit
+        trace) }
 {
     match Board::new::<J>(opened, alloc, 1) {
         Ok((publisher, mut watchers)) => match watchers.pop() {
@@ -64,7 +65,8 @@ fn play_beside<J: Naming + Send + Sync, R: Eprint + Threads + Wait + Sync, W: Wr
 ) -> Option<Result<Played, PlayFault>>
     requires going { publisher.closed ≡ false }
     requires room { failures_of out.old < 2 ^ 64 - 1 }
-    ensures { IfSome result (CameByWorkers workers options.now source.now keyboard.now limit trace) }
+    ensures { IfSome result (CameByWorkers workers options.now source.now keyboard.now limit
+        trace) }
 {
     let mut slot = Some(publisher);
     let lent = &mut slot;
@@ -74,7 +76,8 @@ fn play_beside<J: Naming + Send + Sync, R: Eprint + Threads + Wait + Sync, W: Wr
         || -> Option<Result<Played, PlayFault>>
             requires going { IfSome lent.now (λ p. p.closed ≡ false) }
             requires room { failures_of out.now < 2 ^ 64 - 1 }
-            ensures { IfSome result (CameByWorkers workers options.entry.now source.entry.now keyboard.entry.now limit trace) }
+            ensures { IfSome result (CameByWorkers workers options.entry.now source.entry.now
+                keyboard.entry.now limit trace) }
         {
             play_slot(
                 rt, options, alloc, source, keyboard, workers, limit, trace, out, lent,
@@ -102,7 +105,8 @@ fn play_slot<J: Naming, R: Threads + Wait + Sync, W: Write>(
 ) -> Option<Result<Played, PlayFault>>
     requires going { IfSome slot.old (λ p. p.closed ≡ false) }
     requires room { failures_of out.old < 2 ^ 64 - 1 }
-    ensures { IfSome result (CameByWorkers workers options.now source.now keyboard.now limit trace) }
+    ensures { IfSome result (CameByWorkers workers options.now source.now keyboard.now limit
+        trace) }
 {
     let Some(publisher) = slot.take() else {
         return None;

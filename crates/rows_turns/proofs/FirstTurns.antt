@@ -6,7 +6,7 @@ use Rattle.occ_machine.specs.Compiled.{IsCompiled, Program, instructions_in}
 use Rattle.occ_machine.specs.Machine.{Body}
 use Rattle.occ_machine.specs.declared.task.Task.{Task}
 use Rattle.occ_proc.specs.Turns.{HasStop}
-use Rattle.occ_net_replay.specs.Replay.{HasTask, at_start, begins, first_net, first_task}
+use Rattle.occ_net_replay.specs.Replay.{HasTask, first_tasks, begins, first_net, first_task}
 use Rattle.occ_net_replay.proofs.Law.{ready_tasks_stop}
 
 first_small : (bs : List Body) (b : Body) → slice_get bs 0 ≡ Some b → length b.code ≤ instructions_in bs
@@ -19,7 +19,7 @@ body_small p b c e =
     let one = first_small p.bodies b e in
     omega (arith, all, one)
 
-main_there : (bs : List Body) (b : Body) → slice_get bs 0 ≡ Some b → HasTask (at_start bs) 0 (first_task 0 0 (zero_frame b.cells b.loops))
+main_there : (bs : List Body) (b : Body) → slice_get bs 0 ≡ Some b → HasTask (first_tasks bs) 0 (first_task 0 0 (zero_frame b.cells b.loops))
 main_there [] b e = absurd cc
 main_there (x ∷ bs) b e = let same : x ≡ b = cc in ap (λ z. Some (Some (first_task 0 0 (zero_frame z.cells z.loops)))) same
 

@@ -1,7 +1,7 @@
 //! Growths that are refused: nothing has changed, and what is done again gives what it would have given. Meant to be
 //! tried with each allocation failing in turn; one may.
 ghost use Rattle.std.specs.Prelude.{IfSome};
-ghost use Rattle.occ_net.specs.Leases.{CanTurn};
+ghost use Rattle.occ_net.specs.Leases.{CanTakeTurn};
 
 use crate::networks::{DIVIDES, HALVES};
 use crate::same::{check_same, check_same_turn};
@@ -54,7 +54,7 @@ const ROWS: [Row; 8] = [
 
 /// The next lease, again after a refused growth.
 fn leased(rt: &impl Abort, alloc: Global, network: &mut Network, twin: &Network) -> Option<Lease>
-    ensures { IfSome result CanTurn }
+    ensures { IfSome result CanTakeTurn }
 {
     match network.lease(alloc) {
         Ok(found) => found,

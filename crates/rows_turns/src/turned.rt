@@ -1,5 +1,5 @@
 //! Networks of sources, and turns of their processes.
-ghost use Rattle.occ_net.specs.Leases.{CanTurn};
+ghost use Rattle.occ_net.specs.Leases.{CanTakeTurn};
 
 use crate::accepted::code_of;
 use crate::same::check_same;
@@ -31,7 +31,7 @@ pub(crate) fn network_of(
 
 /// The turn of a lease.
 pub(crate) fn turn_of(alloc: Global, lease: Lease) -> Result<Segment, AllocError>
-    requires { CanTurn lease }
+    requires { CanTakeTurn lease }
 {
     let Lease { body, task } = lease;
     match turn(alloc, body, task) {

@@ -48,11 +48,17 @@ impl<R: Read> CountedReader<R> {
     pub fn read_some(&mut self, bytes: &mut [u8]) -> Option<usize>
         requires room { failures_of self.old < 2 ^ 64 - 1 }
         ensures within { IfSome result (λ n. n ≤ length bytes.new) }
-        ensures read { IfSome result (λ n. Consumes (R.remaining (reader_of self.old)) (R.remaining (reader_of self.new)) (take n bytes.new)) }
-        ensures end { IfSome result (λ n. n ≡ 0 → 0 < length bytes.new → IsAtEnd (R.remaining (reader_of self.new))) }
+        ensures read { IfSome result (λ n.
+            Consumes (R.remaining (reader_of self.old)) (R.remaining (reader_of self.new))
+            (take n bytes.new)) }
+        ensures end { IfSome result (λ n. n ≡ 0 → 0 < length bytes.new
+            → IsAtEnd (R.remaining (reader_of self.new))) }
         ensures unbroken { IfSome result (λ n. breaks_of self.new ≡ breaks_of self.old) }
-        ensures room_left { IfSome result (λ n. (failures_of self.old ≤ failures_of self.new) × (failures_of self.new < 2 ^ 64 - 1)) }
-        ensures kept { IfNone result (Keeps (R.remaining (reader_of self.old)) (R.remaining (reader_of self.new))) }
+        ensures room_left { IfSome result
+            (λ n. (failures_of self.old ≤ failures_of self.new)
+            × (failures_of self.new < 2 ^ 64 - 1)) }
+        ensures kept { IfNone result (Keeps (R.remaining (reader_of self.old))
+            (R.remaining (reader_of self.new))) }
         ensures failed { IfNone result (failures_of self.old < failures_of self.new) }
     {
         while self.failed < u64::MAX {

@@ -1,7 +1,7 @@
 //! Input that is read whole.
 ghost use Rattle.std.specs.Prelude.{◌≡◌, ◌+◌, ◌-◌, ◌^◌, ◌<◌, ◌≤◌, IfOk, OnOk, IfErr, IfSome, length, take};
 ghost use Rattle.std.specs.Io.KnownBytes.{Consumes, IsAtEnd};
-ghost use Rattle.occ_files.specs.Reading.{Grows, breaks_of, failures_of, reader_of, Tells};
+ghost use Rattle.occ_files.specs.Reading.{Grows, breaks_of, failures_of, reader_of, TellsReason};
 
 use crate::fault::InputFault;
 use crate::reader::CountedReader;
@@ -21,12 +21,13 @@ fn read_more<R: Read>(
     requires some { 0 < length buffer.old }
     ensures more { IfOk result (λ n. length bytes.new.items ≡ length bytes.old.items + n) }
     ensures within { IfOk result (λ n. n ≤ length buffer.old) }
-    ensures read { OnOk result (Grows R.remaining reader.old reader.new bytes.old.items bytes.new.items) }
+    ensures read { OnOk result (Grows R.remaining reader.old reader.new bytes.old.items
+        bytes.new.items) }
     ensures end { IfOk result (λ n. n ≡ 0 → IsAtEnd (R.remaining (reader_of reader.new))) }
     ensures unbroken { OnOk result (breaks_of reader.new ≡ breaks_of reader.old) }
     ensures counted { OnOk result (failures_of reader.old ≤ failures_of reader.new) }
     ensures room_left { OnOk result (failures_of reader.new < 2 ^ 64 - 1) }
-    ensures told { IfErr result (Tells reader.old reader.new) }
+    ensures told { IfErr result (TellsReason reader.old reader.new) }
 {
     match reader.read_some(buffer) {
         Some(n) => {
@@ -48,11 +49,14 @@ pub fn read_input<R: Read>(
     most: usize,
 ) -> Result<Vec<u8>, InputFault>
     requires room { failures_of reader.old < 2 ^ 64 - 1 }
-    ensures bytes { IfSome (R.remaining (reader_of reader.old)) (λ xs. IfOk result (λ bytes. bytes.items ≡ take most xs)) }
+    ensures bytes { IfSome (R.remaining (reader_of reader.old))
+        (λ xs. IfOk result (λ bytes. bytes.items ≡ take most xs)) }
     ensures few { IfOk result (λ bytes. length bytes.items ≤ most) }
-    ensures rest { IfOk result (λ bytes. Consumes (R.remaining (reader_of reader.old)) (R.remaining (reader_of reader.new)) bytes.items) }
+    ensures rest { IfOk result (λ bytes.
+        Consumes (R.remaining (reader_of reader.old)) (R.remaining (reader_of reader.new))
+        bytes.items) }
     ensures unbroken { OnOk result (breaks_of reader.new ≡ breaks_of reader.old) }
-    ensures told { IfErr result (Tells reader.old reader.new) }
+    ensures told { IfErr result (TellsReason reader.old reader.new) }
 {
     let mut buffer = [0; PIECE];
     let mut bytes = Vec::new(alloc);

@@ -5,7 +5,7 @@ use Rattle.occ_choices.specs.Plans.{choices_of}
 use Rattle.occ_net_tables.specs.declared.running.Keep.TheVariants.{Places}
 use Rattle.occ_net_tables.specs.Outcomes.{IsRan}
 use Rattle.occ_net_replay.specs.Following.{AreBytes}
-use Rattle.occ_net.specs.Keeping.{IsKept}
+use Rattle.occ_net.specs.Keeping.{KeepsReplay}
 use Rattle.occ_net.proofs.CameTo.{outcome_is}
 use Rattle.occ_net.proofs.States.{all_bytes, kept_run}
 use Rattle.occ_net.proofs.outcome.run.Goals as goal
@@ -18,7 +18,7 @@ invariant_of-network c =
     let few : length c.in_ok-kept.field-0.kept.items < 2 ^ 64 = search rules in
     let r : IsRan p kb (choices_of c.args.plan.now) Places c.in_ok-kept.field-0 = rw c.deref.ensures.value at c.in_ok-kept.ensures in
     let none : replicate (length p.bodies) false ≡ c.in_ok-out.out.items = ap (λ n. replicate n false) (sym c.len-2.ensures) ∙ sym c.in_ok-out.ensures in
-    subst (λ (out : List Bool). IsKept record { program = p; keyboard = kb; choices = c.in_ok-kept.field-0.kept.items; out = out } c.in_ok-kept.field-0.tables) none
+    subst (λ (out : List Bool). KeepsReplay record { program = p; keyboard = kb; choices = c.in_ok-kept.field-0.kept.items; out = out } c.in_ok-kept.field-0.tables) none
     (kept_run p kb r.given c.in_ok-kept.field-0.kept.items c.in_ok-kept.field-0.tables r.run c.compiled.ensures bytes few (length-replicate (length p.bodies) false))
 
 pub returns-in-Ok-clause-ok : goal.returns-in-Ok-clause-ok

@@ -2,7 +2,7 @@ use Rattle.std.proofs.Common.{◌≡◌, ◌∙◌, ◌%◌, ◌<◌, ◌+◌, �
 use Rattle.std.specs.Prelude.{slice_get}
 use Rattle.occ_machine.specs.declared.task.Task.{Task}
 use Rattle.occ_machine.specs.Machine.{Stopping}
-use Rattle.occ_net_replay.specs.Replay.{HasTask, ready_from, selected}
+use Rattle.occ_net_replay.specs.Replay.{HasTask, ready_from, selected_process}
 use Rattle.occ_net_replay.proofs.Tables.{task_once}
 use Rattle.occ_net_tables.proofs.Branches.{has_body}
 use Rattle.occ_net_tables.proofs.Turned.{are_bytes, body_small, chosen, has_turn, number_small, some_ready}
@@ -88,7 +88,7 @@ returns c = λ net holds.
     record {
       body = c.deref.result.now;
       before = c.in-Some-task.task.now;
-      selects = ap (λ l. selected l c.args.which) (sym (c.ready.ensures p kb net holds)) ∙ sym c.selected.ensures ∙ c.in-Some.is;
+      selects = ap (λ l. selected_process l c.args.which) (sym (c.ready.ensures p kb net holds)) ∙ sym c.selected.ensures ∙ c.in-Some.is;
       has_body = c.in-Some-body.ensures.some ∙ ap Some (sym c.deref.ensures);
       has_task = c.in-Some-task.ensures.some p kb net holds;
       stops = subst (λ z. Stopping c.deref.result.now z c.advance.new.task) c.in_ok-after.ensures c.in_ok-advance.ensures;

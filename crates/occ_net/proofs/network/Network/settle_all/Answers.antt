@@ -6,7 +6,7 @@ use Rattle.occ_net_replay.specs.Replay.{HasTask, Net, Tasks, ready_from}
 use Rattle.occ_net_tables.specs.Settling.{StandsBehind, TurnsBehind}
 use Rattle.occ_net_tables.proofs.Placing.{placed_replays}
 use Rattle.occ_net_tables.proofs.ReadyLists.{ready_rising}
-use Rattle.occ_net.specs.Keeping.{IsKept}
+use Rattle.occ_net.specs.Keeping.{KeepsReplay}
 use Rattle.occ_net.specs.Networks.{IsState, Past}
 use Rattle.occ_net.specs.Settling.{IsAmong}
 use Rattle.occ_net.specs.Stretches.{SettlesAll, TakesAll, after_turns, choices_from, in_after}
@@ -69,11 +69,11 @@ invariant_of-self-2 c =
     let new = c.settle_last.new.self in
     let last : ℕ = c.args.pick + (c.args.count - 1) in
     let turns : TurnsBehind past.program past.keyboard c.self.inside.tables place c.args.number c.args.after last new = rw c.deref.ensures.value at c.in-Ok.ensures.ok.1 in
-    let kept : IsKept (after_turns past place c.args.pick c.args.number c.args.count) new = kept_all past c.self.inside.tables k c.args.number c.args.count c.args.after takes c.compiled.ensures few small place c.args.pick at last (omega (arith, some)) new turns in
+    let kept : KeepsReplay (after_turns past place c.args.pick c.args.number c.args.count) new = kept_all past c.self.inside.tables k c.args.number c.args.count c.args.after takes c.compiled.ensures few small place c.args.pick at last (omega (arith, some)) new turns in
     let stored : c.push_all.new.choices.items ≡ choices_from place c.args.pick past.choices c.args.count = c.push_all.ensures ∙ ap (λ (l : List Choice). choices_from place c.args.pick l c.args.count) c.reserve.ensures.items in
     let marked : c.mark.new.out.items ≡ in_after past.out c.args.number c.args.count = c.mark.ensures ∙ sym (in_again past.out c.args.number c.args.count some) in
-    subst (λ (cs : List Choice). IsKept record { program = past.program; keyboard = past.keyboard; choices = cs; out = c.mark.new.out.items } new) (sym stored)
-    (subst (λ (out : List Bool). IsKept record { program = past.program; keyboard = past.keyboard; choices = choices_from place c.args.pick past.choices c.args.count; out = out } new) (sym marked) kept)
+    subst (λ (cs : List Choice). KeepsReplay record { program = past.program; keyboard = past.keyboard; choices = cs; out = c.mark.new.out.items } new) (sym stored)
+    (subst (λ (out : List Bool). KeepsReplay record { program = past.program; keyboard = past.keyboard; choices = choices_from place c.args.pick past.choices c.args.count; out = out } new) (sym marked) kept)
 
 pub returns-clause-settled : goal.returns-clause-settled
 returns-clause-settled c =

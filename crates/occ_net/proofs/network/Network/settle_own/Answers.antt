@@ -7,9 +7,9 @@ use Rattle.occ_net_tables.specs.Holding.{Holds}
 use Rattle.occ_net_tables.specs.Settling.{Standing, TurnsTo}
 use Rattle.occ_net_tables.proofs.Placing.{placed_replays}
 use Rattle.occ_net_tables.proofs.ReadyLists.{ready_rising}
-use Rattle.occ_net.specs.Keeping.{IsKept}
+use Rattle.occ_net.specs.Keeping.{KeepsReplay}
 use Rattle.occ_net.specs.Networks.{Past}
-use Rattle.occ_net.specs.Settling.{IsAmong, TakesIn}
+use Rattle.occ_net.specs.Settling.{IsAmong, CanSettle}
 use Rattle.occ_net.proofs.Ready.{among_ready, place_small, turn_may}
 use Rattle.occ_net.proofs.States.{kept_turn, stands, turn_at, will_take}
 use Rattle.occ_net.proofs.network.Network.settle_own.Goals as goal
@@ -26,7 +26,7 @@ pub place_of-place-requires-clause-among : goal.place_of-place-requires-clause-a
 place_of-place-requires-clause-among c =
     let k = c.self.invariant in
     let past : Past = record { program = c.self.inside.code; keyboard = c.self.inside.keyboard.items; choices = c.self.inside.choices.items; out = c.self.inside.out.items } in
-    let takes : TakesIn past k.net c.args.segment = will_take past c.args.self.now c.self.inside.tables k c.self.view_is c.args.segment c.requires in
+    let takes : CanSettle past k.net c.args.segment = will_take past c.args.self.now c.self.inside.tables k c.self.view_is c.args.segment c.requires in
     let ready = c.ready.ensures past.program past.keyboard k.net (k.holds k.net (placed_replays past.program past.keyboard k.places)) in
     let before = c.into_parts-body.ensures.before in
     let there : HasTask k.net.tasks c.into_parts-body.result.1.number c.into_parts-body.result.1 = subst (λ t. HasTask k.net.tasks t.number t) (sym before) takes.own.task in
@@ -37,7 +37,7 @@ pub settle_turn-requires-clause-standing : goal.settle_turn-requires-clause-stan
 settle_turn-requires-clause-standing c =
     let k = c.self.invariant in
     let past : Past = record { program = c.self.inside.code; keyboard = c.self.inside.keyboard.items; choices = c.self.inside.choices.items; out = c.self.inside.out.items } in
-    let takes : TakesIn past k.net c.args.segment = will_take past c.args.self.now c.self.inside.tables k c.self.view_is c.args.segment c.requires in
+    let takes : CanSettle past k.net c.args.segment = will_take past c.args.self.now c.self.inside.tables k c.self.view_is c.args.segment c.requires in
     let few : 1 + length c.self.inside.choices.items < 2 ^ 64 = search rules in
     subst (λ kb. Standing past.program kb c.self.inside.tables) (sym c.deref.ensures.value) (stands past c.self.inside.tables k few takes.going)
 
@@ -45,7 +45,7 @@ pub settle_turn-requires-clause-turn : goal.settle_turn-requires-clause-turn
 settle_turn-requires-clause-turn c =
     let k = c.self.invariant in
     let past : Past = record { program = c.self.inside.code; keyboard = c.self.inside.keyboard.items; choices = c.self.inside.choices.items; out = c.self.inside.out.items } in
-    let takes : TakesIn past k.net c.args.segment = will_take past c.args.self.now c.self.inside.tables k c.self.view_is c.args.segment c.requires in
+    let takes : CanSettle past k.net c.args.segment = will_take past c.args.self.now c.self.inside.tables k c.self.view_is c.args.segment c.requires in
     let holds = k.holds k.net (placed_replays past.program past.keyboard k.places) in
     let ready = c.ready.ensures past.program past.keyboard k.net holds in
     turn_at past k.net c.args.segment c.self.inside.tables holds takes.own c.place_of-place.result _ c.into_parts-body.result.1 c.into_parts-body.result.2
@@ -68,7 +68,7 @@ pub invariant_of-self-2 : goal.invariant_of-self-2
 invariant_of-self-2 c =
     let k = c.self.invariant in
     let past : Past = record { program = c.self.inside.code; keyboard = c.self.inside.keyboard.items; choices = c.self.inside.choices.items; out = c.self.inside.out.items } in
-    let takes : TakesIn past k.net c.args.segment = will_take past c.args.self.now c.self.inside.tables k c.self.view_is c.args.segment c.requires in
+    let takes : CanSettle past k.net c.args.segment = will_take past c.args.self.now c.self.inside.tables k c.self.view_is c.args.segment c.requires in
     let few : 1 + length c.self.inside.choices.items < 2 ^ 64 = search rules in
     let ready = c.ready.ensures past.program past.keyboard k.net (k.holds k.net (placed_replays past.program past.keyboard k.places)) in
     let place = c.place_of-place.result in
@@ -80,6 +80,6 @@ invariant_of-self-2 c =
     let stored : past.choices ++ record { which = place; pick = c.args.pick } ∷ [] ≡ c.push_reserved.new.self.items =
     sym (c.push_reserved.ensures.items ∙ ap (λ (l : List Choice). l ++ record { which = place; pick = c.args.pick } ∷ []) c.reserve.ensures.items)
     in
-    subst (λ (cs : List Choice). IsKept record { program = past.program; keyboard = past.keyboard; choices = cs; out = c.mark.new.out.items } c.settle_turn.new.self) stored
-    (subst (λ (out : List Bool). IsKept record { program = past.program; keyboard = past.keyboard; choices = past.choices ++ record { which = place; pick = c.args.pick } ∷ []; out = out } c.settle_turn.new.self) (sym c.mark.ensures)
+    subst (λ (cs : List Choice). KeepsReplay record { program = past.program; keyboard = past.keyboard; choices = cs; out = c.mark.new.out.items } c.settle_turn.new.self) stored
+    (subst (λ (out : List Bool). KeepsReplay record { program = past.program; keyboard = past.keyboard; choices = past.choices ++ record { which = place; pick = c.args.pick } ∷ []; out = out } c.settle_turn.new.self) (sym c.mark.ensures)
     (kept_turn past c.self.inside.tables c.settle_turn.new.self k c.compiled.ensures few takes.going place c.args.pick number at turns))

@@ -4,7 +4,7 @@ use Rattle.std.specs.Option.{option_map_or}
 use Rattle.std.proofs.lemmas.Option.{slice_get_within}
 use Rattle.occ_machine.specs.SameStop.{IsRising}
 use Rattle.occ_machine.specs.Machine.{Body}
-use Rattle.occ_net_replay.specs.Replay.{branch_task, copied, first_task, ready_from, turns_at}
+use Rattle.occ_net_replay.specs.Replay.{branch_task, branch_frame, first_task, ready_from, turns_at}
 use Rattle.occ_net_tables.specs.Ready.{put_in}
 use Rattle.occ_net_tables.proofs.Keys.{first_held}
 use Rattle.occ_net_tables.proofs.OneChange.{get_some}
@@ -25,9 +25,9 @@ returns-clause-began c = λ f e.
     let x = c.requires.may.free n (first_held n []) in
     let b = get_some bodies n (c.requires.may.have_bodies n (first_held n [])) in
     let body : Body = b.0 in
-    let is : branch_task bodies f old n ≡ Some (first_task n (turns_at old n) (copied body f)) = ap (option_map (λ z. first_task n (turns_at old n) (copied z f))) b.1 in
+    let is : branch_task bodies f old n ≡ Some (first_task n (turns_at old n) (branch_frame body f)) = ap (option_map (λ z. first_task n (turns_at old n) (branch_frame z f))) b.1 in
     let turns : c.turns_at-turns.result ≡ turns_at old n = c.turns_at-turns.ensures ∙ ap (λ l. turns_at l n) c.deref.ensures.value in
-    let frame : c.args.frame ≡ copied body f = e ∙ ap (λ z. option_map_or (λ y. copied y f) z f) b.1 in
+    let frame : c.args.frame ≡ branch_frame body f = e ∙ ap (λ z. option_map_or (λ y. branch_frame y f) z f) b.1 in
     let same : Some (first_task n c.turns_at-turns.result c.args.frame) ≡ branch_task bodies f old n = ap (λ t. Some (first_task n t c.args.frame)) turns ∙ ap (λ g. Some (first_task n (turns_at old n) g)) frame ∙ sym is in
     let tasks = c.put_task.ensures ∙ ap (slice_set old n) same in
     record {

@@ -5,7 +5,7 @@ use Rattle.std.proofs.lemmas.List.{drop_all, length-map}
 use Rattle.occ_term.specs.Frames.{Variables}
 use Rattle.occ_net_replay.specs.Replay.{with_branches}
 use Rattle.occ_net_tables.specs.Room.{first_frame}
-use Rattle.occ_net_tables.specs.Settling.{MayBegin}
+use Rattle.occ_net_tables.specs.Settling.{BranchesMayBegin}
 use Rattle.occ_net_tables.specs.Keys.{set_all}
 use Rattle.occ_net_tables.proofs.Branches.{may_begin_first, may_begin_rest}
 use Rattle.occ_net_tables.proofs.tables.Tables.begin_all.Goals as goal
@@ -19,7 +19,7 @@ heads x y xs ys e = (cc, cc)
 pub begin-requires-clause-may : goal.begin-requires-clause-may
 begin-requires-clause-may c =
     let e = dropped c.args.branches.now c.loop-number.number-index c.loop-number-test.true in
-    may_begin_first c.args.code.now c.loop-number.self (get_or c.args.branches.now c.loop-number.number-index 0) (drop (c.loop-number.number-index + 1) c.args.branches.now) (subst (MayBegin c.args.code.now c.loop-number.self) e c.loop-number.invariant.may_begin)
+    may_begin_first c.args.code.now c.loop-number.self (get_or c.args.branches.now c.loop-number.number-index 0) (drop (c.loop-number.number-index + 1) c.args.branches.now) (subst (BranchesMayBegin c.args.code.now c.loop-number.self) e c.loop-number.invariant.may_begin)
 
 pub begin-requires-clause-room : goal.begin-requires-clause-room
 begin-requires-clause-room c =
@@ -39,7 +39,7 @@ loop-number-preserved c =
     (sym (c.next.ensures.items ∙ ap (λ r. option_to_list r ++ into_iter_items c.next.new.self) some) ∙ inv.left f q ∙ ap (map (first_frame p.bodies f)) e) in
     let b = c.begin.ensures.began own.frame (lefts own.frame own.are).0 in
     record {
-      may_begin = may_begin_rest p c.args.parent own.frame c.loop-number.self c.begin.new.self n rest (subst (MayBegin p c.loop-number.self) e inv.may_begin) b;
+      may_begin = may_begin_rest p c.args.parent own.frame c.loop-number.self c.begin.new.self n rest (subst (BranchesMayBegin p c.loop-number.self) e inv.may_begin) b;
       room = omega (arith, ap length e, inv.room, c.begin.ensures.room.0, c.begin.ensures.room.1);
       many = omega (arith, ap length e, inv.many, ap (λ r. into_iter_len c.next.new.self + length (option_to_list r)) (sym some) ∙ c.next.ensures.len);
       left = λ f q. (lefts f q).1;

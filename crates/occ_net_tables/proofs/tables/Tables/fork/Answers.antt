@@ -8,7 +8,7 @@ use Rattle.occ_net_replay.specs.Replay.{made_ready}
 use Rattle.occ_net_replay.proofs.Tables.{task_once}
 use Rattle.occ_net_tables.specs.declared.tables.Tables.{Tables}
 use Rattle.occ_net_tables.specs.Room.{first_frame}
-use Rattle.occ_net_tables.specs.Settling.{AllBegan, MayBegin}
+use Rattle.occ_net_tables.specs.Settling.{AllBegan, BranchesMayBegin}
 use Rattle.occ_net_tables.specs.Tasks.{IsThere}
 use Rattle.occ_net_tables.proofs.Between.{there_old}
 use Rattle.occ_net_tables.proofs.Branches.{branches_length}
@@ -31,7 +31,7 @@ begin_all-requires-clause-may c =
     let h = c.requires.mid in
     let old = c.args.self.now in
     let between : Tables = record { tasks = c.take_task-task.new.tasks; ready = c.remove.new.self; offering = old.offering; awaiting = old.awaiting; parents = old.parents; unfinished = old.unfinished; fault = old.fault; used = old.used; trace = old.trace } in
-    subst (MayBegin c.args.code.now between) (sym c.as_slice-2.ensures) (may_begin c.args.code.now h.keyboard old c.args.number c.args.place h.after h.net h.mid c.args.branches h.waits between c.take_task-task.ensures.empty c.remove.ensures.items)
+    subst (BranchesMayBegin c.args.code.now between) (sym c.as_slice-2.ensures) (may_begin c.args.code.now h.keyboard old c.args.number c.args.place h.after h.net h.mid c.args.branches h.waits between c.take_task-task.ensures.empty c.remove.ensures.items)
 
 pub begin_all-requires-clause-frames : goal.begin_all-requires-clause-frames
 begin_all-requires-clause-frames c =

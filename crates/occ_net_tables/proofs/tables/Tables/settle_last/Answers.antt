@@ -7,7 +7,7 @@ use Rattle.occ_machine.specs.declared.task.Wait.{Wait}
 use Rattle.occ_net_replay.specs.Replay.{made_ready, may_go}
 use Rattle.occ_net_replay.proofs.Tables.{set_same, task_once}
 use Rattle.occ_net_tables.specs.declared.tables.Tables.{Tables}
-use Rattle.occ_net_tables.specs.Settling.{SettlesTo, with_task}
+use Rattle.occ_net_tables.specs.Settling.{SettlesTo, tables_with}
 use Rattle.occ_net_tables.specs.Tasks.{Advanced}
 use Rattle.occ_net_tables.proofs.OneChange.{set_twice}
 use Rattle.occ_net_tables.proofs.Roomy.{set_again}
@@ -23,7 +23,7 @@ settle-requires c =
     let kb = c.args.keyboard.now in
     let n = c.args.self.now in
     let number = c.args.number in
-    let m : Tables = with_task n number c.requires.last in
+    let m : Tables = tables_with n number c.requires.last in
     let t = c.requires.turn in
     let s = c.requires.standing in
     let x = chosen p kb m s c.args.place number t.at in
@@ -54,7 +54,7 @@ returns-in-Ok-clause-ok c = (
       let kb = c.args.keyboard.now in
       let n = c.args.self.now in
       let number = c.args.number in
-      let m : Tables = with_task n number last in
+      let m : Tables = tables_with n number last in
       let x = chosen p kb m s c.args.place number t.at in
       let may : IsTrue (may_go t.before.wait) = subst (λ (z : Task). IsTrue (may_go z.wait)) (task_once m.tasks.items number x.there t.there) x.may in
       let ready : record c.args.after { wait = c.replace-wait.new.dest } ≡ made_ready c.args.after = ap (λ (v : Wait). record c.args.after { wait = v }) c.replace-wait.ensures.after in

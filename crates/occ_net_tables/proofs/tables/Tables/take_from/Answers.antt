@@ -5,7 +5,7 @@ use Rattle.occ_machine.specs.declared.task.Wait.TheVariants as W
 use Rattle.occ_net_replay.specs.Replay.{made_ready}
 use Rattle.occ_net_replay.proofs.Tables.{set_other}
 use Rattle.occ_term.specs.declared.communication.End.TheVariants.{Process}
-use Rattle.occ_net_tables.specs.Settling.{sent}
+use Rattle.occ_net_tables.specs.Settling.{communicated}
 use Rattle.occ_net_tables.proofs.tables.Tables.take_from.Goals as goal
 
 pub unreachable-requires : goal.unreachable-requires
@@ -32,7 +32,7 @@ returns-clause-ok c = λ t m there waits.
           ∙ ap (λ x. slice_set (slice_set c.args.self.now.tasks.items c.args.giver (Some (made_ready t))) c.args.number (Some (ready_with u x))) wait;
       ready = c.insert.ensures.items;
       offering = c.set_entry.ensures;
-      trace = c.in_ok-push.ensures.pushed ∙ ap (λ x. c.args.self.now.trace ++ sent c.args.chan (Process c.args.giver) (Process c.args.number) x ∷ []) (c.offered-message.ensures t c.args.chan m (ap (λ l. slice_get l c.args.giver) c.deref.ensures.value ∙ there) waits);
+      trace = c.in_ok-push.ensures.pushed ∙ ap (λ x. c.args.self.now.trace ++ communicated c.args.chan (Process c.args.giver) (Process c.args.number) x ∷ []) (c.offered-message.ensures t c.args.chan m (ap (λ l. slice_get l c.args.giver) c.deref.ensures.value ∙ there) waits);
       awaiting = refl;
       parents = refl;
       unfinished = refl;
