@@ -10,7 +10,8 @@ use Rattle.occ_term.specs.Values.{Store, store_with, Evaluated, Value, Fails, fi
 use Rattle.occ_term.specs.Storing.{Outcome, Gives, Faults, then_in, in_store, Nothing, nothing, store_from, store_in, values_in, Spot, At, AtCounted, store_part, store_parts}
 use Rattle.occ_term.specs.Frames.{Variables, value_at, is_held, at}
 use Rattle.occ_machine.specs.SameStop.{Frames}
-use Rattle.occ_machine.specs.Machine.{by_cell, Instruction, Point, point, Walks, values_with, frame_with, frame_from, frame_in, Stored, Stays, Refused, and_stored, frame_part, frame_parts}
+use Rattle.occ_machine.specs.Machine.{by_cell, Point, point, Walks, values_with, frame_with, frame_from, frame_in, Stored, Stays, Refused, and_stored, frame_part, frame_parts}
+use Rattle.occ_machine.specs.declared.instr.Instr.{Instr}
 use Rattle.occ_code.specs.Laws.{FaultsAt, Comes, comes, fails}
 use Rattle.occ_code.proofs.Walks.{walks_on}
 use Rattle.occ_code.proofs.RunningExpressions.{fault_on}
@@ -147,13 +148,13 @@ pub record FaultsAs {X : Type 0} (cells : List ℕ) (o : Outcome X) (e : Fault) 
   pub holds : HoldsAs cells g store
 
 -- From a point, instructions in a row do what the evaluation does in each store that agrees with the frame. Counters stay.
-pub data Performs {X : Type 0} (code : List Instruction) (cells : List ℕ) (f : Variables) (a : Point) (o : Store → Outcome X) (To : X → Point → Type 0) : Type 0 where
+pub data Performs {X : Type 0} (code : List (Instr ℕ)) (cells : List ℕ) (f : Variables) (a : Point) (o : Store → Outcome X) (To : X → Point → Type 0) : Type 0 where
   performs : (x : X) (b : Point) → Walks by_cell code a b → To x b → (frame_of b).left ≡ f.left
       → ((s : Store) → HoldsAs cells f s → GivesAs cells (o s) x (frame_of b)) → Performs code cells f a o To
   refuses : (e : Fault) (g : Variables) → FaultsAt code a g e → g.left ≡ f.left
       → ((s : Store) → HoldsAs cells f s → FaultsAs cells (o s) e g) → Performs code cells f a o To
 
-module _ (code : List Instruction) (cells : List ℕ) where
+module _ (code : List (Instr ℕ)) (cells : List ℕ) where
   -- first some instructions alone
   pub performs_on : {X : Type 0} {f : Variables} {a b : Point} {o : Store → Outcome X} {To : X → Point → Type 0} → Walks by_cell code a b → Performs code cells f b o To → Performs code cells f a o To
   performs_on w (performs x c v t l h) = performs x c (walks_on w v) t l h

@@ -1,15 +1,18 @@
 -- How many instructions a term becomes: at most eight for each of its nodes.
+use Rattle.std.specs.Prelude.{map, nat_abs}
 use Rattle.std.proofs.Common.{◌≡◌, ℕ, pos, ◌+◌, ◌*◌, ◌≤◌, Option, None, Some, List, [], ◌∷◌, ◌++◌, length, arith, length-append}
 use Rattle.std.proofs.lemmas.List.{length-map}
 use Rattle.occ_term.specs.Terms.{Expression, Constant, Cell, Component, Letter, Binary, Unary, And, Or, Conversion, Place, place, Subscripts, no_subscripts, then_subscript, Cells, Text, Item, OfOne, OfMany, OfCounted, Target, Into, IntoCounted, Declaration, Clearing, Naming, replicator, Term, Skip, Stop, Assign, Input, Output, VariantInput, Seq, Par, Alt, If, Case, While, Each, Clear, Local, Terms, no_terms, then_term, Branches, no_branches, and_branch, Arms, no_arms, skip_arm, input_arm, declared_arms, each_arm, Reception, Plain, Tagged, Variants, no_variants, or_variant, Choices, no_choices, or_choice, declared_choices, each_choice, Options, no_options, or_option, or_else}
 use Rattle.occ_term.specs.Messages.{product}
 use Rattle.occ_term.specs.Sizes.{size_of_expression, size_of_place, size_of_subscripts, size_of_item, size_of_items, size_of_target, size_of_targets, size_of_declaration, size_of_declarations, size_of, size_of_terms, size_of_branches, size_of_test, size_of_arms, size_of_reception, size_of_variants, size_of_choices, size_of_options}
 use Rattle.occ_term.specs.Processes.{Numbered, branches_in, branches_in_terms, branches_among, branches_in_arms, branches_in_reception, branches_in_variants, branches_in_choices, branches_in_options}
-use Rattle.occ_machine.specs.Machine.{placed, Instruction, Push, DropOne, IfTrue, OpenSkip, OpenInput, ChooseArm, StoreOne, End, LoadAt, LoadLetter, Subscript, Operate, OperateOne, ConvertTo, AndThen, OrElse, PartOne, PartMany, PartCounted, PartCountedText, SpotOne, SpotCounted, StoreParts, StoreNamed, Jump, Choose, NextChoice, BackToChoice, Begin, Pass, CountedFrom, LoopBack, Send, Receive, Halt}
+use Rattle.occ_machine.specs.Machine.{placed}
+use Rattle.occ_machine.specs.declared.instr.Instr.{Instr}
+use Rattle.occ_machine.specs.declared.instr.Instr.TheVariants.{Push, DropOne, IfTrue, OpenSkip, OpenInput, ChooseArm, StoreOne, End, LoadAt, LoadLetter, Subscript, Operate, OperateOne, ConvertTo, AndThen, OrElse, PartOne, PartMany, PartCounted, PartCountedText, SpotOne, SpotCounted, StoreParts, StoreNamed, Jump, Choose, NextChoice, BackToChoice, Begin, Pass, CountedFrom, LoopBack, Send, Receive, Halt}
 use Rattle.occ_code.specs.Expressions.{components_at, expression_code, place_code, subscripts_code, item_code, items_code, target_code, targets_code, declaration_code, declarations_code, storing_code, counting_code, assignment_code, opening_code, skip_opening, input_opening}
 use Rattle.occ_code.specs.Emitted.{term_code, terms_code, arm_code, each_arm_code, arms_code, list_code, variants_code, choices_code, options_code, else_code, whole_code, instructions_of, BodiesAreSmall, ProgramsAreSmall}
 
-two : (a b : List Instruction) (x y : ℕ) → length a ≤ x → length b ≤ y → length (a ++ b) ≤ x + y
+two : (a b : List (Instr ℕ)) (x y : ℕ) → length a ≤ x → length b ≤ y → length (a ++ b) ≤ x + y
 two a b x y p q = omega (arith, length-append a b, p, q)
 
 mutual
@@ -17,7 +20,7 @@ mutual
   expression_small (Constant v) = omega arith
   expression_small (Cell c) = omega arith
   expression_small (Component (place line first sizes subs)) = omega (arith, subscripts_small subs line sizes, length-append (place_code (place line first sizes subs)) (LoadAt ∷ []))
-  expression_small (Letter line text e) = omega (arith, expression_small e, length-append (expression_code e) (LoadLetter line text ∷ []))
+  expression_small (Letter line text e) = omega (arith, expression_small e, length-append (expression_code e) (LoadLetter line (map nat_abs text) ∷ []))
   expression_small (Binary op type line a b) = omega (arith, expression_small a, expression_small b, length-append (expression_code a) (expression_code b ++ Operate op type line ∷ []), length-append (expression_code b) (Operate op type line ∷ []))
   expression_small (Unary op type line a) = omega (arith, expression_small a, length-append (expression_code a) (OperateOne op type line ∷ []))
   expression_small (And a b) = omega (arith, expression_small a, expression_small b, length-append (expression_code a) (AndThen (length (expression_code b)) ∷ expression_code b))
@@ -37,7 +40,7 @@ item_small (OfOne type e) = omega (arith, expression_small e, length-append (exp
 item_small (OfMany type (Cells p)) = omega (arith, place_small p, length-append (place_code p) (PartMany type (components_at p) ∷ []))
 item_small (OfMany type (Text bytes)) = omega arith
 item_small (OfCounted type line n (Cells p)) = omega (arith, expression_small n, place_small p, length-append (expression_code n) (place_code p ++ PartCounted type line (components_at p) ∷ []), length-append (place_code p) (PartCounted type line (components_at p) ∷ []))
-item_small (OfCounted type line n (Text bytes)) = omega (arith, expression_small n, length-append (expression_code n) (PartCountedText type line bytes ∷ []))
+item_small (OfCounted type line n (Text bytes)) = omega (arith, expression_small n, length-append (expression_code n) (PartCountedText type line (map nat_abs bytes) ∷ []))
 
 items_small : (is : List Item) → length (items_code is) ≤ 8 * (size_of_items is).nodes
 items_small [] = omega arith
@@ -77,7 +80,7 @@ assigned_small (Into (place line c [] (then_subscript x xs)) ∷ ts) vs = assign
 assigned_small (Into (place line c (n ∷ ns) subs) ∷ ts) vs = assignment_small (Into (place line c (n ∷ ns) subs) ∷ ts) vs
 assigned_small (IntoCounted line n a ∷ ts) vs = assignment_small (IntoCounted line n a ∷ ts) vs
 
-received_small : (p : Place) (i : Instruction) → length (place_code p ++ i ∷ []) ≤ 8 * (size_of_place p).nodes + 2
+received_small : (p : Place) (i : Instr ℕ) → length (place_code p ++ i ∷ []) ≤ 8 * (size_of_place p).nodes + 2
 received_small p i = omega (arith, place_small p, length-append (place_code p) (i ∷ []))
 
 instructions-append : (ps qs : List Numbered) → instructions_of (ps ++ qs) ≡ instructions_of ps + instructions_of qs
@@ -86,14 +89,14 @@ instructions-append (p ∷ ps) qs = let e = instructions-append ps qs in omega (
 
 -- ---- arms
 
-pub arm_length : (body opens others : List Instruction) (after : ℕ) → length (arm_code body opens others after) ≡ length body + length opens + length others + 3
+pub arm_length : (body opens others : List (Instr ℕ)) (after : ℕ) → length (arm_code body opens others after) ≡ length body + length opens + length others + 3
 arm_length body opens others after = omega (arith, length-append body (Jump (length opens + (length others + after)) ∷ (opens ++ others)), length-append opens others)
 
-pub each_arm_length : (index : ℕ) (counts within others : List Instruction) (after : ℕ) → length (each_arm_code index counts within others after) ≡ length counts + length within + length others + 6
+pub each_arm_length : (index : ℕ) (counts within others : List (Instr ℕ)) (after : ℕ) → length (each_arm_code index counts within others after) ≡ length counts + length within + length others + 6
 each_arm_length index counts within others after =
     omega (arith, length-append counts (NextChoice index (length within + 3) ∷ Push (pos 0) ∷ (within ++ DropOne ∷ BackToChoice (length within + 3) ∷ others)), length-append within (DropOne ∷ BackToChoice (length within + 3) ∷ others))
 
-opening_small : (e : Option Expression) (opens : List Instruction) → length (opening_code e opens) ≤ 8 * (size_of_test e).nodes + length opens
+opening_small : (e : Option Expression) (opens : List (Instr ℕ)) → length (opening_code e opens) ≤ 8 * (size_of_test e).nodes + length opens
 opening_small None opens = omega arith
 opening_small (Some e) opens = omega (arith, expression_small e, length-append (expression_code e) (IfTrue (length opens) ∷ opens))
 

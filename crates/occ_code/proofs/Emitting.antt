@@ -1,8 +1,8 @@
 -- What is emitted one after the other, and the parts of a list, the last one first.
-use Rattle.std.specs.Prelude.{reverse, map, ◌-◌}
+use Rattle.std.specs.Prelude.{map, ◌-◌}
 use Rattle.std.proofs.Common.{◌≡◌, ℕ, zero, suc, ◌+◌, ◌*◌, ◌<◌, ◌≤◌, List, [], ◌∷◌, ◌++◌, drop, take, min, get_or, length, rules, refl, sym, ap, ◌∙◌, arith, append_assoc, append-nil, length-append}
 use Rattle.std.proofs.Math.Seq.{drop-cons}
-use Rattle.std.proofs.lemmas.List.{reverse-append, map-append, length-map, length-reverse}
+use Rattle.std.proofs.lemmas.List.{reverse-append, length-reverse}
 use Rattle.occ_term.specs.Messages.{product}
 use Rattle.std.proofs.lemmas.Grind.{common_steps}
 use Rattle.occ_term.specs.Terms.{place}
@@ -11,17 +11,17 @@ use Rattle.occ_term.specs.View.{expression_of, place_of, subscripts}
 use Rattle.occ_term.specs.declared.expression.TermExpr.{TermExpr, the_lemmas}
 use Rattle.occ_term.specs.declared.expression.Place.{Place}
 use Rattle.occ_code.specs.Expressions.{expression_code, subscripts_code, components_at}
-use Rattle.occ_machine.specs.Machine.{Instruction, Subscript}
-use Rattle.occ_code.specs.Emits.{emitted_instruction, emitted, Emits}
+use Rattle.occ_machine.specs.declared.instr.Instr.TheVariants.{Subscript}
+use Rattle.occ_code.specs.Emits.{emitted, Emits}
 use Rattle.occ_machine.specs.declared.instr.Instr.{Instr}
 
 pub emits_none : (a : List (Instr ℕ)) → Emits a [] a
 emits_none a = record { more = []; added = sym (append-nil a); is = refl }
 
 pub emitted-append : (a b : List (Instr ℕ)) → emitted (a ++ b) ≡ emitted b ++ emitted a
-emitted-append a b = ap (map emitted_instruction) (reverse-append a b) ∙ map-append emitted_instruction (reverse b) (reverse a)
+emitted-append a b = reverse-append a b
 
-pub emits_then : {a b c : List (Instr ℕ)} {p q : List Instruction} → Emits a p b → Emits b q c → Emits a (q ++ p) c
+pub emits_then : {a b c p q : List (Instr ℕ)} → Emits a p b → Emits b q c → Emits a (q ++ p) c
 emits_then {a} {b} {c} {p} {q} x y =
     record {
       more = x.more ++ y.more;
@@ -29,22 +29,22 @@ emits_then {a} {b} {c} {p} {q} x y =
       is = emitted-append x.more y.more ∙ ap (λ l. l ++ emitted x.more) y.is ∙ ap (λ l. q ++ l) x.is;
     }
 
-pub emits_as : {a b : List (Instr ℕ)} {p q : List Instruction} → Emits a p b → p ≡ q → Emits a q b
+pub emits_as : {a b p q : List (Instr ℕ)} → Emits a p b → p ≡ q → Emits a q b
 emits_as x e = record { more = x.more; added = x.added; is = x.is ∙ e }
 
-pub emits_from : {a b c : List (Instr ℕ)} {p : List Instruction} → a ≡ b → Emits b p c → Emits a p c
+pub emits_from : {a b c p : List (Instr ℕ)} → a ≡ b → Emits b p c → Emits a p c
 emits_from e x = record { more = x.more; added = x.added ∙ ap (λ l. l ++ x.more) (sym e); is = x.is }
 
 pub length-emitted : (is : List (Instr ℕ)) → length (emitted is) ≡ length is
-length-emitted is = length-map (reverse is) emitted_instruction ∙ length-reverse is
+length-emitted is = length-reverse is
 
 -- how long the code is after it
-pub emits_length : {a b : List (Instr ℕ)} {p : List Instruction} → Emits a p b → length b ≡ length p + length a
+pub emits_length : {a b p : List (Instr ℕ)} → Emits a p b → length b ≡ length p + length a
 emits_length {a} {b} {p} x =
     let m : length p ≡ length x.more = ap length (sym x.is) ∙ length-emitted x.more in
     ap length x.added ∙ length-append a x.more ∙ omega (arith, m)
 
-pub emits_since : {a b : List (Instr ℕ)} {p : List Instruction} → Emits a p b → length b - length a ≡ length p
+pub emits_since : {a b p : List (Instr ℕ)} → Emits a p b → length b - length a ≡ length p
 emits_since x = omega (arith, emits_length x)
 
 -- ---- what is left of a list
@@ -75,7 +75,7 @@ drop_none : {X : Type 0} (k : ℕ) → drop {A = X} k [] ≡ []
 drop_none zero = refl
 drop_none (suc k) = refl
 
-abbrev pub rest_code : ℕ → List TermExpr → List ℕ → ℕ → List Instruction
+abbrev pub rest_code : ℕ → List TermExpr → List ℕ → ℕ → List (Instr ℕ)
 rest_code line es ns k = subscripts_code (subscripts (map expression_of (drop k es))) line (drop k ns)
 
 none_rest : (line : ℕ) (es : List TermExpr) (ns : List ℕ) (k : ℕ) → k ≡ min (length es) (length ns) → rest_code line es ns k ≡ []

@@ -8,16 +8,16 @@ use Rattle.occ_term.specs.declared.term.Branch.{Branch}
 use Rattle.occ_term.specs.declared.term.Term.{Term, the_lemmas}
 use Rattle.occ_term.specs.declared.term.Selection.{Selection}
 use Rattle.occ_term.specs.declared.term.Variant.{Variant}
-use Rattle.occ_machine.specs.Machine.{Instruction, Jump, Choose, LoopBack, Fork}
+use Rattle.occ_machine.specs.declared.instr.Instr.TheVariants.{Jump, Choose, LoopBack, Fork}
 use Rattle.occ_code.specs.Expressions.{par_code}
 use Rattle.occ_machine.specs.SameStop.{numbers_of}
-use Rattle.occ_code.specs.Emits.{emitted_instruction, emitted, Emits, Behind}
+use Rattle.occ_code.specs.Emits.{emitted, Emits, Behind}
 use Rattle.occ_machine.specs.declared.instr.Instr.{Instr}
 use Rattle.occ_code.proofs.Emitting.{emitted-append, emits_then, emits_as, emits_length, length-emitted}
 
 -- ---- behind an instruction whose place is known
 
-pub behind : {a b c : List (Instr ℕ)} {i : Instruction} {p : List Instruction} → Emits a (i ∷ []) b → Emits b p c → Behind a p c
+pub behind : {a b c : List (Instr ℕ)} {i : Instr ℕ} {p : List (Instr ℕ)} → Emits a (i ∷ []) b → Emits b p c → Behind a p c
 behind {a} {b} {c} {i} {p} x y = by_first x.more x.added one
   where
     one : length x.more ≡ 1
@@ -28,7 +28,7 @@ behind {a} {b} {c} {i} {p} x y = by_first x.more x.added one
     by_first (z ∷ w ∷ zs) q h = absurd (omega (arith, h))
     by_first (z ∷ []) q h = record { first = z; more = y.more; added = y.added ∙ ap (λ l. l ++ y.more) q ∙ append_assoc a (z ∷ []) y.more; is = y.is }
 
-pub behind_then : {a b c : List (Instr ℕ)} {p q : List Instruction} → Behind a p b → Emits b q c → Behind a (q ++ p) c
+pub behind_then : {a b c p q : List (Instr ℕ)} → Behind a p b → Emits b q c → Behind a (q ++ p) c
 behind_then {a} {b} {c} {p} {q} x y =
     record {
       first = x.first;
@@ -37,18 +37,18 @@ behind_then {a} {b} {c} {p} {q} x y =
       is = emitted-append x.more y.more ∙ ap (λ l. l ++ emitted x.more) y.is ∙ ap (λ l. q ++ l) x.is;
     }
 
-pub behind_length : {a b : List (Instr ℕ)} {p : List Instruction} → Behind a p b → length b ≡ length p + 1 + length a
+pub behind_length : {a b p : List (Instr ℕ)} → Behind a p b → length b ≡ length p + 1 + length a
 behind_length {a} {b} {p} x =
     let m : length p ≡ length x.more = ap length (sym x.is) ∙ length-emitted x.more in
     ap length x.added ∙ length-append a (x.first ∷ x.more) ∙ omega (arith, m)
 
 -- the instruction itself
-pub behind_set : {a b d : List (Instr ℕ)} {p : List Instruction} (x : Instr ℕ) (n : ℕ) → Behind a p b → length a ≡ n → d ≡ set b n x → Emits a (p ++ emitted_instruction x ∷ []) d
+pub behind_set : {a b d p : List (Instr ℕ)} (x : Instr ℕ) (n : ℕ) → Behind a p b → length a ≡ n → d ≡ set b n x → Emits a (p ++ x ∷ []) d
 behind_set {a} {b} {d} {p} x n h long e =
     record {
       more = x ∷ h.more;
       added = e ∙ ap (λ m. set b m x) (sym long) ∙ ap (λ l. set l (length a) x) h.added ∙ set-append_seam a h.first h.more x;
-      is = emitted-append (x ∷ []) h.more ∙ ap (λ l. l ++ emitted_instruction x ∷ []) h.is;
+      is = emitted-append (x ∷ []) h.more ∙ ap (λ l. l ++ x ∷ []) h.is;
     }
 
 -- ---- what is left of a list
@@ -76,25 +76,25 @@ variants_next vs i k v e lt is =
 -- ---- bodies that go on behind the others
 
 -- how far it is from before the others to the end
-pub beyond : {before old : List (Instr ℕ)} {R : List Instruction} (end : ℕ) → Emits before R old → end ≤ length before → length old - end ≡ length R + (length before - end)
+pub beyond : {before old R : List (Instr ℕ)} (end : ℕ) → Emits before R old → end ≤ length before → length old - end ≡ length R + (length before - end)
 beyond end e h = omega (arith, emits_length e, h)
 
-module _ {before old m1 m2 : List (Instr ℕ)} (R T D : List Instruction) (end s n : ℕ) (others : Emits before R old) (within : end ≤ length before) (skip : s ≡ length old - end)
+module _ {before old m1 m2 : List (Instr ℕ)} (R T D : List (Instr ℕ)) (end s n : ℕ) (others : Emits before R old) (within : end ≤ length before) (skip : s ≡ length old - end)
     (jump : Emits old (Jump s ∷ []) m1) (body : Emits m1 T m2) (from : n ≡ length old) where
   jumped : Emits before (T ++ Jump (length R + (length before - end)) ∷ R) m2
   jumped = emits_then (emits_then others (emits_as jump (ap (λ k. Jump k ∷ []) (skip ∙ beyond end others within)))) body
 
   -- behind a test of their own
-  pub chosen : {new : List (Instr ℕ)} (E : List Instruction) → Emits m2 (E ++ Choose (length m2 - n) ∷ []) new → Emits before (E ++ Choose (length T + 1) ∷ (T ++ Jump (length R + (length before - end)) ∷ R)) new
+  pub chosen : {new : List (Instr ℕ)} (E : List (Instr ℕ)) → Emits m2 (E ++ Choose (length m2 - n) ∷ []) new → Emits before (E ++ Choose (length T + 1) ∷ (T ++ Jump (length R + (length before - end)) ∷ R)) new
   chosen {new} E test =
       let count : length m2 - n ≡ length T + 1 = omega (arith, emits_length body, emits_length jump, from) in
       emits_as (emits_then jumped (emits_as test (ap (λ k. E ++ Choose k ∷ []) count))) (append_assoc E (Choose (length T + 1) ∷ []) (T ++ Jump (length R + (length before - end)) ∷ R))
 
   -- behind one instruction and declarations
-  pub guarded : {new : List (Instr ℕ)} (make : ℕ → Instruction) (k : ℕ) → k ≡ length D + length m2 - n → Emits m2 (make k ∷ D) new
+  pub guarded : {new : List (Instr ℕ)} (make : ℕ → Instr ℕ) (k : ℕ) → k ≡ length D + length m2 - n → Emits m2 (make k ∷ D) new
       → Emits before (make (length (D ++ (T ++ Jump (length R + (length before - end)) ∷ []))) ∷ ((D ++ (T ++ Jump (length R + (length before - end)) ∷ [])) ++ R)) new
   guarded {new} make k is first =
-      let J = Jump (length R + (length before - end)) in
+      let J : Instr ℕ = Jump (length R + (length before - end)) in
       let long : length (D ++ (T ++ Jump (length R + (length before - end)) ∷ [])) ≡ length D + (length T + 1) =
       length-append D (T ++ Jump (length R + (length before - end)) ∷ []) ∙ ap (λ m. length D + m) (length-append T (Jump (length R + (length before - end)) ∷ [])) in
       let count : k ≡ length (D ++ (T ++ Jump (length R + (length before - end)) ∷ [])) = omega (arith, emits_length body, emits_length jump, from, is, long) in
@@ -104,16 +104,16 @@ module _ {before old m1 m2 : List (Instr ℕ)} (R T D : List Instruction) (end s
 
 -- ---- loops
 
-module _ {before old : List (Instr ℕ)} (B : List Instruction) (place : ℕ) (long : length before ≡ place) (loop_ : Behind before B old) where
-  pub tested : {m1 m2 new : List (Instr ℕ)} (E : List Instruction) (s back : ℕ) (x : Instr ℕ) → s ≡ length old - place → Emits old (Choose s ∷ []) m1 → Emits m1 E m2 → back ≡ length m2 - place - 1 → emitted_instruction x ≡ LoopBack back → new ≡ set m2 place x
+module _ {before old : List (Instr ℕ)} (B : List (Instr ℕ)) (place : ℕ) (long : length before ≡ place) (loop_ : Behind before B old) where
+  pub tested : {m1 m2 new : List (Instr ℕ)} (E : List (Instr ℕ)) (s back : ℕ) (x : Instr ℕ) → s ≡ length old - place → Emits old (Choose s ∷ []) m1 → Emits m1 E m2 → back ≡ length m2 - place - 1 → x ≡ LoopBack back → new ≡ set m2 place x
       → Emits before (E ++ Choose (length B + 1) ∷ (B ++ LoopBack (length E + 1 + length B) ∷ [])) new
   tested {m1} {m2} {new} E s back x skip choose test way is e =
       let a : s ≡ length B + 1 = omega (arith, skip, behind_length loop_, long) in
       let b : back ≡ length E + 1 + length B = omega (arith, way, emits_length test, emits_length choose, behind_length loop_, long) in
       emits_as (behind_set x place (behind_then (behind_then loop_ choose) test) long e)
-      (append_assoc E (Choose s ∷ B) (emitted_instruction x ∷ []) ∙ ap (λ k. E ++ Choose k ∷ (B ++ emitted_instruction x ∷ [])) a ∙ ap (λ i. E ++ Choose (length B + 1) ∷ (B ++ i ∷ [])) (is ∙ ap LoopBack b))
+      (append_assoc E (Choose s ∷ B) (x ∷ []) ∙ ap (λ k. E ++ Choose k ∷ (B ++ x ∷ [])) a ∙ ap (λ i. E ++ Choose (length B + 1) ∷ (B ++ i ∷ [])) (is ∙ ap LoopBack b))
 
-  pub set_back : {m1 : List (Instr ℕ)} (make : ℕ → Instruction) (back : ℕ) (x : Instr ℕ) → back ≡ length old - place → emitted_instruction x ≡ make back → m1 ≡ set old place x → Emits before (B ++ make (length B + 1) ∷ []) m1
+  pub set_back : {m1 : List (Instr ℕ)} (make : ℕ → Instr ℕ) (back : ℕ) (x : Instr ℕ) → back ≡ length old - place → x ≡ make back → m1 ≡ set old place x → Emits before (B ++ make (length B + 1) ∷ []) m1
   set_back {m1} make back x way is e =
       let a : back ≡ length B + 1 = omega (arith, way, behind_length loop_, long) in
       emits_as (behind_set x place loop_ long e) (ap (λ i. B ++ i ∷ []) (is ∙ ap make a))
@@ -123,7 +123,7 @@ module _ {before old : List (Instr ℕ)} (B : List Instruction) (place : ℕ) (l
 
 -- ---- variants, and choices for each value of an index
 
-pub tagged : {before old m1 m2 m3 m4 new : List (Instr ℕ)} (R T S D : List Instruction) (make : ℕ → Instruction) (s n k : ℕ) → Emits before R old → s ≡ length old - length before → Emits old (Jump s ∷ []) m1 → Emits m1 T m2 → Emits m2 S m3
+pub tagged : {before old m1 m2 m3 m4 new : List (Instr ℕ)} (R T S D : List (Instr ℕ)) (make : ℕ → Instr ℕ) (s n k : ℕ) → Emits before R old → s ≡ length old - length before → Emits old (Jump s ∷ []) m1 → Emits m1 T m2 → Emits m2 S m3
     → Emits m3 D m4 → n ≡ length old → k ≡ length m4 - n → Emits m4 (make k ∷ []) new
     → Emits before (make (length (D ++ (S ++ (T ++ Jump (length R) ∷ [])))) ∷ ((D ++ (S ++ (T ++ Jump (length R) ∷ []))) ++ R)) new
 tagged R T S D make s n k others skip jump body store declare from is first =
@@ -136,7 +136,7 @@ tagged R T S D make s n k others skip jump body store declare from is first =
     let chain = emits_then (emits_then (emits_then (emits_then others (emits_as jump (ap (λ m. Jump m ∷ []) far))) body) store) declare in
     emits_as (emits_then chain first) (ap (λ m. make m ∷ (D ++ (S ++ (T ++ Jump (length R) ∷ R)))) count ∙ ap (λ l. make (length (D ++ (S ++ (T ++ Jump (length R) ∷ [])))) ∷ l) together)
 
-pub among_others : (C W R : List Instruction) (i j : Instruction) → (C ++ i ∷ (W ++ j ∷ [])) ++ R ≡ C ++ i ∷ (W ++ j ∷ R)
+pub among_others : (C W R : List (Instr ℕ)) (i j : Instr ℕ) → (C ++ i ∷ (W ++ j ∷ [])) ++ R ≡ C ++ i ∷ (W ++ j ∷ R)
 among_others C W R i j = append_assoc C (i ∷ (W ++ j ∷ [])) R ∙ ap (λ l. C ++ i ∷ l) (append_assoc W (j ∷ []) R)
 
 -- ---- branches

@@ -3,7 +3,7 @@ use Rattle.std.specs.Prelude.{min}
 use Rattle.std.proofs.Common.{◌≡◌, ℕ, ◌+◌, ◌<◌, ◌≤◌, [], ◌∷◌, ◌++◌, length, arith, length-append}
 use Rattle.occ_term.specs.Terms.{Term, Skip, Stop, Assign, Input, Output, VariantInput, Seq, Par, Alt, If, Case, While, Each, Clear, Local, Terms, no_terms, then_term, Arms, no_arms, skip_arm, input_arm, declared_arms, each_arm, Reception, Plain, Tagged, Variants, no_variants, or_variant, Choices, no_choices, or_choice, declared_choices, each_choice, Options, no_options, or_option, or_else}
 use Rattle.occ_term.specs.Storing.{index_of}
-use Rattle.occ_machine.specs.Machine.{ChooseArm, Choose, BackToChoice, NextChoice, Begin, Pass, LoopBack, Jump, Receive, Halt, End}
+use Rattle.occ_machine.specs.declared.instr.Instr.TheVariants.{ChooseArm, Choose, BackToChoice, NextChoice, Begin, Pass, LoopBack, Jump, Receive, Halt, End}
 use Rattle.occ_code.specs.Expressions.{expression_code, place_code, declaration_code, declarations_code, storing_code, counting_code, skip_opening, input_opening}
 use Rattle.occ_code.specs.Emitted.{counters_of, counters_of_terms, counters_of_variants, counters_of_choices, counters_of_options, counters_of_else, counters_of_arms, counters_of_list, arms_code, list_code, term_code, terms_code, variants_code, choices_code, options_code, else_code, whole_code}
 use Rattle.occ_code.proofs.CodeSizes.{arm_length, each_arm_length}

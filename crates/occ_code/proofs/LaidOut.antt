@@ -5,7 +5,8 @@ use Rattle.std.proofs.Math.Seq.{get_or-append_seam}
 use Rattle.std.proofs.lemmas.Option.{slice_get-get_or}
 use Rattle.occ_term.specs.Terms.{Term, Skip, Stop, Assign, Input, Output, VariantInput, Seq, Par, Alt, If, Case, While, Each, Clear, Local, Terms, no_terms, then_term, Arms, no_arms, skip_arm, input_arm, declared_arms, each_arm, Reception, Plain, Tagged, Variants, no_variants, or_variant, Choices, no_choices, or_choice, declared_choices, each_choice, Options, no_options, or_option, or_else}
 use Rattle.occ_term.specs.Storing.{index_of}
-use Rattle.occ_machine.specs.Machine.{Instruction, End, IfTaken, Jump}
+use Rattle.occ_machine.specs.declared.instr.Instr.{Instr}
+use Rattle.occ_machine.specs.declared.instr.Instr.TheVariants.{End, IfTaken, Jump}
 use Rattle.occ_code.specs.Expressions.{expression_code, place_code, declaration_code, declarations_code, storing_code, counting_code, skip_opening, input_opening}
 use Rattle.occ_code.specs.Laws.{StandsAt}
 use Rattle.occ_code.specs.Layout.{Ways, stays, jumps, TermAt, TermsAt, ArmsAt, PassesArms, ListAt, VariantsAt, ChoicesAt, OptionsAt, ElseAt}
@@ -15,7 +16,7 @@ use Rattle.occ_code.proofs.CodeSizes.{each_arm_length}
 use Rattle.occ_code.proofs.RunningTurns.{bodies_do}
 use Rattle.occ_code.proofs.NamedCells.{whole_names}
 
-stands_all : (is pre : List Instruction) → StandsAt (pre ++ is) (length pre) is (length (pre ++ is))
+stands_all : (is pre : List (Instr ℕ)) → StandsAt (pre ++ is) (length pre) is (length (pre ++ is))
 stands_all [] pre = omega (arith, length-append pre [])
 stands_all (i ∷ is) pre =
     let within : length pre < length (pre ++ i ∷ is) = omega (arith, length-append pre (i ∷ is)) in
@@ -32,11 +33,11 @@ there_below [] (suc c) x h = absurd cc
 there_below (y ∷ ys) zero x h = omega arith
 there_below (y ∷ ys) (suc c) x h = let lt = there_below ys c x h in omega (arith, lt)
 
-module _ (code : List Instruction) (loops : ℕ) (short : length code < 4294967296) where
+module _ (code : List (Instr ℕ)) (loops : ℕ) (short : length code < 4294967296) where
   from_place : (a b c : ℕ) → a ≡ b → Ways code b c → Ways code a c
   from_place a b c e w = subst (λ n. Ways code n c) (sym e) w
 
-  record ArmLaid (body opens others : List Instruction) (after_ pc m pc' low high : ℕ) : Type 0 where
+  record ArmLaid (body opens others : List (Instr ℕ)) (after_ pc m pc' low high : ℕ) : Type 0 where
     ends : ℕ
     others_at : ℕ
     passes : PassesArms code pc low (length others + after_) high others_at
@@ -47,7 +48,7 @@ module _ (code : List Instruction) (loops : ℕ) (short : length code < 42949672
     rest : StandsAt code others_at others m
 
   -- an arm before others: where they stand, where what is done and what opens the arm stand, and how it goes on when it is done
-  arm_laid : (body opens others : List Instruction) (after_ pc m out pc' low high : ℕ) → StandsAt code pc (arm_code body opens others after_) m → m + after_ ≡ out → low ≤ after_ → length (arm_code body opens others after_) + after_ ≤ high → Ways code out pc'
+  arm_laid : (body opens others : List (Instr ℕ)) (after_ pc m out pc' low high : ℕ) → StandsAt code pc (arm_code body opens others after_) m → m + after_ ≡ out → low ≤ after_ → length (arm_code body opens others after_) + after_ ≤ high → Ways code out pc'
       → ArmLaid body opens others after_ pc m pc' low high
   arm_laid body opens others after_ pc m out pc' low high h past lo hi w =
       let a = split code (pc + 1 + 1) m body (Jump (length opens + (length others + after_)) ∷ (opens ++ others)) h.1.1 in

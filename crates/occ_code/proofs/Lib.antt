@@ -1,5 +1,6 @@
 mod NamedCells
 mod Walks
+mod Letters
 mod RunningExpressions
 mod RunningItems
 mod ReadCells

@@ -8,7 +8,9 @@ use Rattle.occ_term.specs.Storing.{index_of}
 use Rattle.occ_term.specs.Uses.{Numbers, Uses, union, with_use, reading, writing, inputting, outputting, named_by, reads_of, reads_in_place, reads_in_subscripts, reads_of_array, reads_of_item, reads_of_items, written_place, input_place, output_place, uses_of_target, uses_of_targets, uses_of_declaration, uses_of_declarations, uses_of_replicator, uses_of, uses_of_terms, uses_of_arms, uses_of_reception, uses_of_variants, uses_of_choices, uses_of_options}
 use Rattle.occ_term.specs.Frames.{is_held}
 use Rattle.occ_machine.specs.SameStop.{Lists, used_by}
-use Rattle.occ_machine.specs.Machine.{Instruction, NamesWithin, End, OpenSkip, OpenInput}
+use Rattle.occ_machine.specs.Machine.{NamesWithin}
+use Rattle.occ_machine.specs.declared.instr.Instr.{Instr}
+use Rattle.occ_machine.specs.declared.instr.Instr.TheVariants.{End, OpenSkip, OpenInput}
 use Rattle.occ_code.specs.Expressions.{expression_code, place_code, subscripts_code, item_code, items_code, target_code, targets_code, declaration_code, declarations_code, storing_code, counting_code, assignment_code, par_code, opening_code, skip_opening, input_opening}
 use Rattle.occ_code.specs.Emitted.{counters_of, counters_of_terms, counters_of_arms, counters_of_list, counters_of_variants, counters_of_choices, counters_of_options, counters_of_else, term_code, terms_code, arm_code, arms_code, list_code, variants_code, choices_code, options_code, else_code, whole_code}
 
@@ -27,15 +29,15 @@ alone : (c : ℕ) → IsTrue (nat_le c c && nat_lt c (c + 1))
 alone c = let first : nat_le c c ≡ true = grind (arith, nat_tests) in let last : nat_lt c (c + 1) ≡ true = grind (arith, nat_tests) in rw (first, last) refl
 
 module _ (cells : List ℕ) (loops : ℕ) where
-  abbrev Names : List Instruction → Type 0
+  abbrev Names : List (Instr ℕ) → Type 0
   Names [] = ⊤
   Names (i ∷ is) = NamesWithin cells loops i × Names is
 
-  both : (xs ys : List Instruction) → Names xs → Names ys → Names (xs ++ ys)
+  both : (xs ys : List (Instr ℕ)) → Names xs → Names ys → Names (xs ++ ys)
   both [] ys h k = k
   both (x ∷ xs) ys h k = (h.0, both xs ys h.1 k)
 
-  all_names : (is : List Instruction) → Names is → All (NamesWithin cells loops) is
+  all_names : (is : List (Instr ℕ)) → Names is → All (NamesWithin cells loops) is
   all_names [] h = All-nil (NamesWithin cells loops)
   all_names (i ∷ is) h = All-cons (NamesWithin cells loops) i is h.0 (all_names is h.1)
 
@@ -160,11 +162,11 @@ module _ (cells : List ℕ) (loops : ℕ) where
   channel_out : (c : Place) → UsedIn (output_place c) → In (reads_in_place c)
   channel_out c h = (right_used (outputting (named_by c)) (reading (reads_in_place c)) h).reads
 
-  opening_names : (e : Option Expression) (opens : List Instruction) → In (reads_of (tested e)) → Names opens → Names (opening_code e opens)
+  opening_names : (e : Option Expression) (opens : List (Instr ℕ)) → In (reads_of (tested e)) → Names opens → Names (opening_code e opens)
   opening_names None opens k n = n
   opening_names (Some e) opens k n = both (expression_code e) _ (expression_names e k) (tt, n)
 
-  arm_names : (body opens others : List Instruction) (after_ : ℕ) → Names body → Names opens → Names others → Names (arm_code body opens others after_)
+  arm_names : (body opens others : List (Instr ℕ)) (after_ : ℕ) → Names body → Names opens → Names others → Names (arm_code body opens others after_)
   arm_names body opens others after_ h k m = (tt, (tt, both body _ h (tt, both opens others k m)))
 
   mutual

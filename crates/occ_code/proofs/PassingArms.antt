@@ -4,7 +4,9 @@ use Rattle.std.proofs.Common.{arith, ◌≡◌, ℕ, suc, ◌+◌, ◌<◌, ◌�
 use Rattle.occ_term.specs.Selecting.{Setting, IndexTo, DeclaredAgain, Enabled, SkipArm, InputArm}
 use Rattle.occ_machine.specs.declared.task.Arm.{Arm}
 use Rattle.occ_machine.specs.SameStop.{indices_in}
-use Rattle.occ_machine.specs.Machine.{Instruction, PassArms, IfTaken, SetAgain, is_number, is_numbered, are_numbered}
+use Rattle.occ_machine.specs.Machine.{is_number, is_numbered, are_numbered}
+use Rattle.occ_machine.specs.declared.instr.Instr.{Instr}
+use Rattle.occ_machine.specs.declared.instr.Instr.TheVariants.{PassArms, IfTaken, SetAgain}
 use Rattle.std.proofs.lemmas.Bool.Decides.{nat_tests}
 use Rattle.occ_code.specs.Expressions.{declaration_code}
 use Rattle.occ_code.specs.Laws.{StandsAt}
@@ -17,7 +19,7 @@ both_true false b h k = cc
 pub number_below : (n : ℕ) → n < 4294967296 → IsTrue (is_number n)
 number_below n h = grind (arith, nat_tests)
 
-module _ (code : List Instruction) where
+module _ (code : List (Instr ℕ)) where
   -- the number after this one goes from one place to another by passing arms, or going in
   pub data Sorts (n : ℕ) : ℕ → ℕ → Type 0 where
     arrives : {a : ℕ} → Sorts n a a

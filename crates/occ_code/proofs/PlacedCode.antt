@@ -16,7 +16,9 @@ use Rattle.occ_machine.specs.declared.task.Task.{Task}
 use Rattle.occ_machine.specs.declared.task.Arm.{Arm}
 use Rattle.occ_machine.specs.declared.task.Wait.{Wait}
 use Rattle.occ_machine.specs.declared.task.Wait.TheVariants.{Ready, Took, Offers, Awaits, Chooses, Joins, Halted, Done, Faulted}
-use Rattle.occ_machine.specs.Machine.{by_cell, by_place, NamesWithin, placed, counters_with, Instruction, Push, Load, LoadAt, LoadLetter, Subscript, Operate, OperateOne, ConvertTo, AndThen, OrElse, PartOne, PartMany, PartText, PartCounted, PartCountedText, SpotOne, SpotCounted, StoreParts, StoreNamed, StoreOne, ClearCells, Jump, Choose, IfAmong, IfTag, DropOne, CountedFrom, NextChoice, BackToChoice, PassArms, IfTaken, SetAgain, IfTrue, OpenSkip, OpenInput, ChooseArm, pass_arms, if_taken, again_set, open_arm, choosing_stop, Begin, Pass, LoopBack, Send, Receive, Fork, Halt, End, Point, point, Effect, Moves, Stops, Stuck, with_one, with_two, going, going_if, going_stored, act, effect, Walks, here, on, begins_at, SingleStop, StopsIn, stops_here, passes_on, turning, begun, passed, next_choice, tag_step, last_part, named_from, Stored, Stays, Refused, frame_with, frame_from, frame_parts, values_with, with_counter, counter_at, kept_as, kept_value, is_next, is_number, is_component, are_numbered}
+use Rattle.occ_machine.specs.Machine.{by_cell, by_place, NamesWithin, placed, counters_with, pass_arms, if_taken, again_set, open_arm, choosing_stop, Point, point, Effect, Moves, Stops, Stuck, with_one, with_two, going, going_if, going_stored, act, effect, Walks, here, on, begins_at, SingleStop, StopsIn, stops_here, passes_on, turning, begun, passed, next_choice, tag_step, last_part, named_from, Stored, Stays, Refused, frame_with, frame_from, frame_parts, values_with, with_counter, counter_at, kept_as, kept_value, is_next, is_number, is_component, are_numbered}
+use Rattle.occ_machine.specs.declared.instr.Instr.{Instr}
+use Rattle.occ_machine.specs.declared.instr.Instr.TheVariants.{Push, Load, LoadAt, LoadLetter, Subscript, Operate, OperateOne, ConvertTo, AndThen, OrElse, PartOne, PartMany, PartText, PartCounted, PartCountedText, SpotOne, SpotCounted, StoreParts, StoreNamed, StoreOne, ClearCells, Jump, Choose, IfAmong, IfTag, DropOne, CountedFrom, NextChoice, BackToChoice, PassArms, IfTaken, SetAgain, IfTrue, OpenSkip, OpenInput, ChooseArm, Begin, Pass, LoopBack, Send, Receive, Fork, Halt, End}
 use Rattle.occ_code.specs.Laws.{PlacesDo}
 use Rattle.occ_code.proofs.AgreeingFrames.{HoldsAs, one_held, span_held, parts_held, StoresAs, stored_frame, frame_of, span_left, parts_left}
 use Rattle.occ_code.proofs.LoopCounters.{length-counters_with}
@@ -83,7 +85,7 @@ module _ (cells : List ℕ) (loops : ℕ) where
   abbrev Shaped : Variables → Type 0
   Shaped f = Frames cells f × (length f.left ≡ loops)
 
-  abbrev Within : Option Instruction → Type 0
+  abbrev Within : Option (Instr ℕ) → Type 0
   Within None = ⊤
   Within (Some i) = NamesWithin cells loops i
 
@@ -105,7 +107,7 @@ module _ (cells : List ℕ) (loops : ℕ) where
   again_same arm (suc n) c skip pc [] q sp f h k = refl
   again_same arm (suc n) c skip pc (v ∷ st) q sp f h k = let there = is_place f c h k in rw there (ap (λ g. Moves (point (pc + 1 + skip) (arm ∷ st) q sp g)) (with_same f c v h.0))
 
-  act_same : (o : Option Instruction) (pc : ℕ) (st : List ℤ) (q : List Part) (sp : List Spot) (f : Variables) → Shaped f → Within o → act by_cell o pc st q sp f ≡ act by_place (option_map (placed cells) o) pc st q sp f
+  act_same : (o : Option (Instr ℕ)) (pc : ℕ) (st : List ℤ) (q : List Part) (sp : List Spot) (f : Variables) → Shaped f → Within o → act by_cell o pc st q sp f ≡ act by_place (option_map (placed cells) o) pc st q sp f
   act_same None pc st q sp f h k = refl
   act_same (Some (Push v)) pc st q sp f h k = refl
   act_same (Some (Load c)) pc st q sp f h k = let there = is_place f c h k in rw there (ap (λ v. Moves (point (pc + 1) (v ∷ st) q sp f)) (named_same f c h.0))
@@ -261,7 +263,7 @@ module _ (cells : List ℕ) (loops : ℕ) where
   choosing_shapes pri back pc [] f h = h
   choosing_shapes pri back pc (a ∷ arms) f h = stops_shapes (are_numbered (a ∷ arms)) (pc - back) (Chooses pri (a ∷ arms)) f h
 
-  act_shapes : (o : Option Instruction) (pc : ℕ) (st : List ℤ) (q : List Part) (sp : List Spot) (f : Variables) → Shaped f → Shapes (act by_cell o pc st q sp f)
+  act_shapes : (o : Option (Instr ℕ)) (pc : ℕ) (st : List ℤ) (q : List Part) (sp : List Spot) (f : Variables) → Shaped f → Shapes (act by_cell o pc st q sp f)
   act_shapes None pc st q sp f h = tt
   act_shapes (Some (Push v)) pc st q sp f h = h
   act_shapes (Some (Load c)) pc st q sp f h = h
@@ -326,8 +328,8 @@ module _ (cells : List ℕ) (loops : ℕ) where
   begins_shape Done pc f h = tt
   begins_shape (Faulted e) pc f h = tt
 
-  module _ (code : List Instruction) (names : All (NamesWithin cells loops) code) where
-    abbrev by_places : List Instruction
+  module _ (code : List (Instr ℕ)) (names : All (NamesWithin cells loops) code) where
+    abbrev by_places : List (Instr ℕ)
     by_places = map (placed cells) code
 
     within_at : (pc : ℕ) → Within (slice_get code pc)

@@ -15,7 +15,9 @@ use Rattle.occ_term.specs.TermTyping.{Declared, ChannelHas, ArmsHave}
 use Rattle.occ_term.specs.TypedSteps.{SettingsHave}
 use Rattle.occ_term.specs.Frames.{Variables, at}
 use Rattle.occ_machine.specs.SameStop.{indices_in}
-use Rattle.occ_machine.specs.Machine.{by_cell, Instruction, Push, DropOne, NextChoice, BackToChoice, PassArms, IfTaken, SetAgain, IfTrue, OpenSkip, OpenInput, open_arm, open_skip, open_input, indices_on, is_number, Point, point, Walks, here, frame_with, counting}
+use Rattle.occ_machine.specs.Machine.{by_cell, open_arm, open_skip, open_input, indices_on, is_number, Point, point, Walks, here, frame_with, counting}
+use Rattle.occ_machine.specs.declared.instr.Instr.{Instr}
+use Rattle.occ_machine.specs.declared.instr.Instr.TheVariants.{Push, DropOne, NextChoice, BackToChoice, PassArms, IfTaken, SetAgain, IfTrue, OpenSkip, OpenInput}
 use Rattle.occ_code.specs.Expressions.{expression_code, place_code, opening_code}
 use Rattle.occ_code.specs.Laws.{StandsAt}
 use Rattle.occ_code.specs.Layout.{ArmsAt, PassesArms}
@@ -55,7 +57,7 @@ next_below last high h fits = omega (arith, h, fits)
 numbered : (n : ℕ) (b : Bool) → n < 4294967296 → IsTrue b → IsTrue (is_number n && b)
 numbered n b h k = both_true (is_number n) b (number_below n h) k
 
-module _ (code : List Instruction) where
+module _ (code : List (Instr ℕ)) where
   sorts_walk : (n a b : ℕ) (st : List ℤ) (q : List Part) (f : Variables) → Sorts code n a b → Walks by_cell code (point a (pos (suc n) ∷ st) q [] f) (point b (pos (suc n) ∷ st) q [] f)
   sorts_walk n a b st q f arrives = here
   sorts_walk n a b st q f (goes_past {last = last} {skip = skip} h l x) =
@@ -65,7 +67,7 @@ module _ (code : List Instruction) where
       let within = more_than (suc n) last l in
       walks_on (steps_to code f a (pos (suc n) ∷ st) q [] (PassArms last skip) (point (a + 1) (pos (suc n) ∷ st) q [] f) h (rw within refl)) (sorts_walk n (a + 1) b st q f x)
 
-module _ (code : List Instruction) (loops : ℕ) (cells : List ℕ) (d : Declared) where
+module _ (code : List (Instr ℕ)) (loops : ℕ) (cells : List ℕ) (d : Declared) where
   abbrev Has : Numbers → Type 0
   Has u = Held code cells d u
 
@@ -151,7 +153,7 @@ module _ (code : List Instruction) (loops : ℕ) (cells : List ℕ) (d : Declare
       -- ---- what opens an arm
 
       module _ (f : Variables) (out next : ℕ) (st : List ℤ) (q : List Part) (yes_ no_ : Store → Outcome (List Enabled)) where
-        tests : (e : Expression) (opens : List Instruction) (pc : ℕ) → HasType d.types e Boolean → Has (reads_of e) → StandsAt code pc (opening_code (Some e) opens) out
+        tests : (e : Expression) (opens : List (Instr ℕ)) (pc : ℕ) → HasType d.types e Boolean → Has (reads_of e) → StandsAt code pc (opening_code (Some e) opens) out
             → ((m : ℕ) → StandsAt code m opens out → Opens f (point m (pos 0 ∷ st) q [] f) yes_ st q next) → Opens f (point out (pos 0 ∷ st) q [] f) no_ st q next
             → Opens f (point pc (pos 0 ∷ st) q [] f) (λ s. then_in (in_store (value_of e s) s) (λ v s'. if holds v then yes_ s' else no_ s')) st q next
         tests e opens pc he ke at_place y n =
@@ -170,7 +172,7 @@ module _ (code : List Instruction) (loops : ℕ) (cells : List ℕ) (d : Declare
                 (steps_to code f m (v ∷ pos 0 ∷ st) q [] (IfTrue (length opens)) (point (m + 1 + length opens) (pos 0 ∷ st) q [] f) r.0 (rw h refl))) n)
 
       -- one without a test is open
-      may_open : (f : Variables) (out next : ℕ) (st : List ℤ) (q : List Part) (yes_ no_ : Store → Outcome (List Enabled)) (e : Option Expression) (opens : List Instruction) (pc : ℕ) → HasType d.types (tested e) Boolean → Has (reads_of (tested e))
+      may_open : (f : Variables) (out next : ℕ) (st : List ℤ) (q : List Part) (yes_ no_ : Store → Outcome (List Enabled)) (e : Option Expression) (opens : List (Instr ℕ)) (pc : ℕ) → HasType d.types (tested e) Boolean → Has (reads_of (tested e))
           → StandsAt code pc (opening_code e opens) out → ((m : ℕ) → StandsAt code m opens out → Opens f (point m (pos 0 ∷ st) q [] f) yes_ st q next) → Opens f (point out (pos 0 ∷ st) q [] f) no_ st q next
           → Opens f (point pc (pos 0 ∷ st) q [] f) (λ s. then_in (in_store (value_of (tested e) s) s) (λ v s'. if holds v then yes_ s' else no_ s')) st q next
       may_open f out next st q yes_ no_ None opens pc he ke at_place y n = y pc at_place

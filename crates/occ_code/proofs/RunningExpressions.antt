@@ -8,7 +8,9 @@ use Rattle.occ_term.specs.Terms.{Expression, Constant, Cell, Component, Letter, 
 use Rattle.occ_term.specs.Values.{Evaluated, Value, Fails, after, holds, binary, unary, converted, subscript, Span, span, first_of, value_of, span_of, offset_of}
 use Rattle.occ_term.specs.Storing.{Spot}
 use Rattle.occ_term.specs.Frames.{Variables, at}
-use Rattle.occ_machine.specs.Machine.{by_cell, Instruction, AndThen, OrElse, Point, point, Moves, Stuck, is_number, is_component, act, going, going_if, Walks, here, on}
+use Rattle.occ_machine.specs.Machine.{by_cell, Point, point, Moves, Stuck, is_number, is_component, act, going, going_if, Walks, here, on}
+use Rattle.occ_machine.specs.declared.instr.Instr.{Instr}
+use Rattle.occ_machine.specs.declared.instr.Instr.TheVariants.{AndThen, OrElse}
 use Rattle.occ_code.specs.Expressions.{expression_code, place_code, subscripts_code}
 use Rattle.occ_code.specs.Laws.{StandsAt, FaultsAt, Comes, comes, fails, ExpressionsRun}
 use Rattle.occ_term.specs.declared.primitive.Primitive.{Primitive}
@@ -22,6 +24,7 @@ use Rattle.occ_term.proofs.TypedPlaces.{to_span}
 use Rattle.occ_code.specs.Within.{AreNumbered}
 use Rattle.occ_code.proofs.PassingArms.{both_true, number_below}
 use Rattle.occ_code.proofs.ReadCells.{operand, or_right}
+use Rattle.occ_code.proofs.Letters.{letter_loads}
 use Rattle.occ_code.proofs.Walks.{split, place_after, walks_on}
 
 -- ---- components have numbers
@@ -71,7 +74,7 @@ Fits types (place line first sizes subs) rest = Room first sizes × SubscriptsLe
 pub cells_fit : (types : ℕ → Option Primitive) → ((c : ℕ) (t : Primitive) → types c ≡ Some t → IsTrue (is_number c)) → (p : Place) (t : Primitive) (rest : List ℕ) → PlaceHas types p t rest → Fits types p rest
 cells_fit types small (place line first sizes subs) t rest h = (room_of first (product sizes) (λ c m. small c t (h.0 c m)), h.1)
 
-module _ (code : List Instruction) (f : Variables) where
+module _ (code : List (Instr ℕ)) (f : Variables) where
   pub fault_on : {a b : Point} {e : _} → Walks by_cell code a b → FaultsAt code b f e → FaultsAt code a f e
   fault_on w x = record { last = x.last; stands = x.stands; walks = walks_on w x.walks; stops = x.stops }
 
@@ -85,7 +88,7 @@ module _ (code : List Instruction) (f : Variables) where
   comes_then (Fails e) g (fails c) k = fails c
 
   -- one instruction that goes on with what an evaluation gives
-  pub comes_by : {X : Type 0} (pc : ℕ) (st : List ℤ) (q : List Part) (sp : List Spot) (i : Instruction) (v : Evaluated X) (to : X → Point)
+  pub comes_by : {X : Type 0} (pc : ℕ) (st : List ℤ) (q : List Part) (sp : List Spot) (i : Instr ℕ) (v : Evaluated X) (to : X → Point)
       → slice_get code pc ≡ Some i → act by_cell (Some i) pc st q sp f ≡ going pc f v to → Comes code f (point pc st q sp f) v to
   comes_by pc st q sp i (Value x) to h e = comes (on (ap (λ o. act by_cell o pc st q sp f) h ∙ e) here)
   comes_by pc st q sp i (Fails x) to h e =
@@ -95,7 +98,7 @@ module _ (code : List Instruction) (f : Variables) where
   may_go pc (Value x) may to k = ap (λ b. if b then Moves (to x) else Stuck) (k x refl)
   may_go pc (Fails e) may to k = refl
 
-  pub steps_to : (pc : ℕ) (st : List ℤ) (q : List Part) (sp : List Spot) (i : Instruction) (b : Point)
+  pub steps_to : (pc : ℕ) (st : List ℤ) (q : List Part) (sp : List Spot) (i : Instr ℕ) (b : Point)
       → slice_get code pc ≡ Some i → act by_cell (Some i) pc st q sp f ≡ Moves b → Walks by_cell code (point pc st q sp f) b
   steps_to pc st q sp i b h e = on (ap (λ o. act by_cell o pc st q sp f) h ∙ e) here
 
@@ -143,7 +146,7 @@ module _ (code : List Instruction) (f : Variables) where
             let (m, a, l) = split code pc pc' (expression_code e) _ h in
             comes_then (value_of e (at f)) (λ v. after (subscript line (length text) v) (λ i. Value (get_or text i (pos 0)))) (expression_runs e Int g.2 pc m st a)
             (λ v y. comes_then (subscript line (length text) v) (λ i. Value (get_or text i (pos 0)))
-            (comes_by m (v ∷ st) q sp _ (subscript line (length text) v) (λ i. on_top st (m + 1) (get_or text i (pos 0))) l.0 refl)
+            (comes_by m (v ∷ st) q sp _ (subscript line (length text) v) (λ i. on_top st (m + 1) (get_or text i (pos 0))) l.0 (letter_loads line text m v st q sp f g.1))
             (λ i z. comes_at (on_top st (m + 1) (get_or text i (pos 0))) (Value (get_or text i (pos 0))) (m + 1) pc' (on_top st) l.1 (comes here)))
         expression_runs (Binary op type line a b) t g pc pc' st h =
             let (m, ha, hb) = split code pc pc' (expression_code a) _ h in

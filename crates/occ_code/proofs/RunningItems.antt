@@ -9,9 +9,11 @@ use Rattle.occ_term.specs.Values.{Store, Evaluated, Value, Fails, after, subscri
 use Rattle.occ_term.specs.Storing.{Spot, At, AtCounted, spot_of, spots_of}
 use Rattle.occ_term.specs.Uses.{components}
 use Rattle.occ_term.specs.Frames.{Variables, at}
-use Rattle.occ_machine.specs.Machine.{by_cell, Instruction, Point, point, Moves, Walks, here}
+use Rattle.occ_machine.specs.Machine.{by_cell, Point, point, Moves, Walks, going, here}
+use Rattle.occ_machine.specs.declared.instr.Instr.{Instr}
 use Rattle.occ_code.specs.Expressions.{expression_code, place_code, components_at, item_code, items_code, target_code, targets_code}
 use Rattle.occ_code.specs.Laws.{StandsAt, Comes, comes, fails}
+use Rattle.occ_code.proofs.Letters.{numbers_back}
 use Rattle.occ_code.proofs.Walks.{split}
 use Rattle.occ_term.specs.declared.protocol.PartType.{PartType}
 use Rattle.occ_term.specs.declared.protocol.PartType.TheVariants.{One as OneOf, Many as ManyOf, Counted as CountedOf}
@@ -43,7 +45,7 @@ place_counts (place line first sizes subs) s = offset_counts subs line first siz
 pub count_is : (p : Place) (s : Store) (a : Span) → span_of p s ≡ Value a → count_of a ≡ components_at p
 count_is p s a e = subst (λ v. Counts (components_at p) v) e (place_counts p s)
 
-module _ (code : List Instruction) (f : Variables) where
+module _ (code : List (Instr ℕ)) (f : Variables) where
   pub comes_twice : {X Y Z : Type 0} {a : Point} {mid : X → Point} {to : Z → Point} (v : Evaluated X) (g : X → Evaluated Y) (h : Y → Evaluated Z)
       → Comes code f a v mid → ((x : X) → v ≡ Value x → Comes code f (mid x) (after (g x) h) to) → Comes code f a (after (after v g) h) to
   comes_twice (Value x) g h (comes w) k = comes_on code f (after (g x) h) w (k x refl)
@@ -74,7 +76,7 @@ module _ (code : List Instruction) (f : Variables) where
         (λ a y. let v = Many type (values_from (first_of a) (count_of a) (at f)) in
         comes_at code f _ (Value v) (m + 1) pc' (queued q) l.1 (comes_by code f m (pos (first_of a) ∷ st) q sp _ (Value v) (queued q (m + 1)) l.0 (cells_at type q m p a (count_is p (at f) a y))))
     item_runs (OfMany type (Text bytes)) (ManyOf sizes t) g q pc pc' h =
-        comes_at code f _ (Value (Many type bytes)) (pc + 1) pc' (queued q) h.1 (comes_by code f pc st q sp _ (Value (Many type bytes)) (queued q (pc + 1)) h.0 refl)
+        comes_at code f _ (Value (Many type bytes)) (pc + 1) pc' (queued q) h.1 (comes_by code f pc st q sp _ (Value (Many type bytes)) (queued q (pc + 1)) h.0 (ap (λ vs. Moves (queued q (pc + 1) (Many type vs))) (numbers_back bytes g.1.2)))
     item_runs (OfCounted type line n a) (OneOf t) g q pc pc' h = absurd g
     item_runs (OfCounted type line n a) (ManyOf sizes t) g q pc pc' h = absurd g
     item_runs (OfCounted type line n (Cells p)) (CountedOf count t) g q pc pc' h =
@@ -88,7 +90,7 @@ module _ (code : List Instruction) (f : Variables) where
     item_runs (OfCounted type line n (Text bytes)) (CountedOf count t) g q pc pc' h =
         let (m, a, l) = split code pc pc' (expression_code n) _ h in
         comes_then code f (value_of n (at f)) (λ v. counted type line v bytes) (expression_runs code f q sp d.types few.cells n count g.1 pc m st a)
-        (λ v y. comes_at code f _ (counted type line v bytes) (m + 1) pc' (queued q) l.1 (comes_by code f m (v ∷ st) q sp _ (counted type line v bytes) (queued q (m + 1)) l.0 refl))
+        (λ v y. comes_at code f _ (counted type line v bytes) (m + 1) pc' (queued q) l.1 (comes_by code f m (v ∷ st) q sp _ (counted type line v bytes) (queued q (m + 1)) l.0 (ap (λ vs. going m f (counted type line v vs) (queued q (m + 1))) (numbers_back bytes g.2.1.2))))
 
     pub items_run : (is : List Item) (ts : List PartType) → ItemsHave d is ts → (q : List Part) (pc pc' : ℕ) → StandsAt code pc (items_code is) pc' → Comes code f (point pc st q sp f) (parts_of is (at f)) (λ ps. point pc' st (q ++ ps) sp f)
     items_run [] ts g q pc pc' h =

@@ -14,7 +14,8 @@ use Rattle.occ_term.specs.declared.protocol.PartType.TheVariants.{One as OneOf, 
 use Rattle.occ_term.specs.Terms.{place, no_subscripts, then_subscript, OfOne, OfMany, OfCounted, Into, IntoCounted}
 use Rattle.occ_term.specs.Typing.{ItemHas}
 use Rattle.occ_term.specs.Values.{store_with}
-use Rattle.occ_machine.specs.Machine.{StoreOne, frame_with}
+use Rattle.occ_machine.specs.Machine.{frame_with}
+use Rattle.occ_machine.specs.declared.instr.Instr.TheVariants.{StoreOne}
 use Rattle.occ_code.specs.Expressions.{assignment_code}
 use Rattle.occ_code.proofs.Walks.{walks_on}
 use Rattle.occ_code.proofs.ReadCells.{value_same}
@@ -32,7 +33,9 @@ use Rattle.occ_term.specs.TermTyping.{Declared, ItemsHave, TargetsHave, Declarat
 use Rattle.occ_code.specs.Within.{AreNumbered}
 use Rattle.occ_term.specs.declared.primitive.Primitive.TheVariants.{Int}
 use Rattle.occ_term.specs.Frames.{Variables, is_held, at}
-use Rattle.occ_machine.specs.Machine.{Instruction, StoreParts, StoreNamed, Point, point, Moves, act, here, on, frame_from, Stored, Stays, Refused, frame_parts, last_part, without_last, named_from, going_stored, counting}
+use Rattle.occ_machine.specs.Machine.{Point, point, Moves, act, here, on, frame_from, Stored, Stays, Refused, frame_parts, last_part, without_last, named_from, going_stored, counting}
+use Rattle.occ_machine.specs.declared.instr.Instr.{Instr}
+use Rattle.occ_machine.specs.declared.instr.Instr.TheVariants.{StoreParts, StoreNamed}
 use Rattle.occ_code.specs.Expressions.{expression_code, item_code, items_code, targets_code, declaration_code, declarations_code, storing_code, counting_code}
 use Rattle.occ_code.specs.Laws.{StandsAt, Comes}
 use Rattle.occ_code.proofs.Walks.{split}
@@ -51,7 +54,7 @@ others_are [] p = refl
 others_are (x ∷ []) p = refl
 others_are (x ∷ y ∷ q) p = ap (λ r. x ∷ r) (others_are (y ∷ q) p)
 
-module _ (code : List Instruction) (cells : List ℕ) (d : Declared) where
+module _ (code : List (Instr ℕ)) (cells : List ℕ) (d : Declared) where
   -- the frame has what is read
   abbrev pub Held : Numbers → Type 0
   Held u = (c : ℕ) → IsTrue (u c) → IsTrue (is_held cells c)

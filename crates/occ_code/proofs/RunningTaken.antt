@@ -17,7 +17,9 @@ use Rattle.occ_term.specs.Uses.{Numbers, uses_of, uses_of_reception, uses_of_tar
 use Rattle.occ_term.specs.TermTyping.{Declared, ReceptionHas, VariantsHave}
 use Rattle.occ_term.specs.Frames.{Variables}
 use Rattle.occ_machine.specs.SameStop.{indices_in}
-use Rattle.occ_machine.specs.Machine.{Instruction, IfTaken, point, tag_stack}
+use Rattle.occ_machine.specs.Machine.{point, tag_stack}
+use Rattle.occ_machine.specs.declared.instr.Instr.{Instr}
+use Rattle.occ_machine.specs.declared.instr.Instr.TheVariants.{IfTaken}
 use Rattle.occ_code.specs.Layout.{TermAt, ListAt, VariantsAt}
 use Rattle.occ_code.specs.Within.{AreNumbered}
 use Rattle.occ_code.proofs.RunningExpressions.{steps_to}
@@ -28,7 +30,7 @@ use Rattle.occ_code.proofs.RunningArms.{again_runs}
 use Rattle.occ_code.proofs.WithinTurns.{Does as DoesFrom, outcome_result}
 use Rattle.occ_code.proofs.RunningTerms.{Enters, enters_body, entered, untagged_halts, term_runs, variants_run}
 
-module _ (code : List Instruction) (loops : ℕ) (cells : List ℕ) (d : Declared) (few : AreNumbered d) where
+module _ (code : List (Instr ℕ)) (loops : ℕ) (cells : List ℕ) (d : Declared) (few : AreNumbered d) where
   abbrev Has : Numbers → Type 0
   Has u = Held code cells d u
 

@@ -24,7 +24,9 @@ use Rattle.occ_term.specs.TermTyping.{Declared, ChannelHas, value_parts, ItemsHa
 use Rattle.occ_term.specs.Frames.{Variables, at}
 use Rattle.occ_machine.specs.declared.task.Wait.TheVariants.{Ready, Offers, Awaits, Chooses as ChoosesAmong, Joins, Halted}
 use Rattle.occ_machine.specs.SameStop.{numbers_of}
-use Rattle.occ_machine.specs.Machine.{by_cell, Instruction, Push, ChooseArm, open_arm, Choose, IfAmong, IfTag, DropOne, NextChoice, BackToChoice, Begin, Pass, passed, turned, is_next, is_number, turning, Moves, Stuck, Send, Receive, Halt, Point, point, Stops, act, effect, Walks, here, frame_with, counting}
+use Rattle.occ_machine.specs.Machine.{by_cell, open_arm, passed, turned, is_next, is_number, turning, Moves, Stuck, Point, point, Stops, act, effect, Walks, here, frame_with, counting}
+use Rattle.occ_machine.specs.declared.instr.Instr.{Instr}
+use Rattle.occ_machine.specs.declared.instr.Instr.TheVariants.{Push, ChooseArm, Choose, IfAmong, IfTag, DropOne, NextChoice, BackToChoice, Begin, Pass, Send, Receive, Halt}
 use Rattle.occ_code.specs.Expressions.{expression_code, place_code, items_code, declarations_code, par_code}
 use Rattle.occ_code.specs.Laws.{StandsAt, FaultsAt}
 use Rattle.occ_code.specs.Layout.{Ways, stays, Counts, EachAt, TermAt, TermsAt, VariantsAt, ChoicesAt, OptionsAt, ElseAt, ListAt, LoopAt, LeadsBack}
@@ -44,7 +46,7 @@ use Rattle.occ_code.proofs.LoopCounters.{KeepsBelow, keeps_all, keeps_on, keeps_
 next_is : (v : ℤ) (n : ℕ) → IndicesHave v (suc n) → is_next v ≡ true
 next_is v n h = grind (arith, nat_tests)
 
-module _ (code : List Instruction) (loops : ℕ) (cells : List ℕ) (d : Declared) (few : AreNumbered d) where
+module _ (code : List (Instr ℕ)) (loops : ℕ) (cells : List ℕ) (d : Declared) (few : AreNumbered d) where
   abbrev Has : Numbers → Type 0
   Has u = Held code cells d u
 

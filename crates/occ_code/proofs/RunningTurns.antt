@@ -26,7 +26,9 @@ use Rattle.occ_machine.specs.declared.task.Arm.{Arm}
 use Rattle.occ_machine.specs.declared.task.Wait.{Wait}
 use Rattle.occ_machine.specs.declared.task.Wait.TheVariants.{Ready, Took, Offers, Awaits, Chooses, Joins, Halted, Done, Faulted}
 use Rattle.occ_machine.specs.SameStop.{Agrees, FitsProtocol, indices_in, SameArm, SameArms, SameStop, Lists, numbers_of, used_by}
-use Rattle.occ_machine.specs.Machine.{by_cell, NamesWithin, placed, Body, Instruction, IfTaken, End, Point, point, Stops, act, here, begins_at, SingleStop, StopsIn, stops_here, passes_on, IsReady, counted_turn, tag_stack}
+use Rattle.occ_machine.specs.Machine.{by_cell, NamesWithin, placed, Body, Point, point, Stops, act, here, begins_at, SingleStop, StopsIn, stops_here, passes_on, IsReady, counted_turn, tag_stack}
+use Rattle.occ_machine.specs.declared.instr.Instr.{Instr}
+use Rattle.occ_machine.specs.declared.instr.Instr.TheVariants.{IfTaken, End}
 use Rattle.occ_code.specs.Layout.{stays, TermAt, ListAt, LoopAt, ContextsAt}
 use Rattle.occ_machine.specs.Alike.{SameTurn, Alike, DoesAs}
 use Rattle.occ_code.specs.Layout.{BodiesDo}
@@ -98,7 +100,7 @@ module _ (d : Declared) (cells : List ℕ) where
 
 -- ---- a turn
 
-module _ (d : Declared) (few : AreNumbered d) (code : List Instruction) (loops : ℕ) (cells : List ℕ) where
+module _ (d : Declared) (few : AreNumbered d) (code : List (Instr ℕ)) (loops : ℕ) (cells : List ℕ) where
   -- from a place and its slot to the end, with these counters
   record ToEnd (left_ : List ℕ) (slot pc : ℕ) (k : List Context) : Type 0 where
     last : ℕ
@@ -266,7 +268,7 @@ module _ (d : Declared) (few : AreNumbered d) (code : List Instruction) (loops :
             (contexts_run k slot mid h.1 (held_right code cells d (uses_of_doing (Taking settings what)).reads (uses_of_contexts k).reads u));
       }
 
-module _ (d : Declared) (few : AreNumbered d) (code : List Instruction) (cells writes : List ℕ) (loops_ : ℕ) where
+module _ (d : Declared) (few : AreNumbered d) (code : List (Instr ℕ)) (cells writes : List ℕ) (loops_ : ℕ) where
   abbrev task : ℕ → ℕ → ℕ → Variables → Wait → Task
   task number turns pc f w = record { number = number; turns = turns; place = pc; frame = f; wait = w }
 
@@ -363,7 +365,7 @@ module _ (d : Declared) (few : AreNumbered d) (code : List Instruction) (cells w
       let o = one_turn number turns pc f w l h u (begun_turn d few code loops_ cells f room x h u) s ag in
       further q number turns pc f w l s o.stands o.frame o.store o.single o.turn o.agrees o.types o.held o.room o.rests (long_turn q number turns)
 
-module _ (d : Declared) (few : AreNumbered d) (code : List Instruction) (cells writes : List ℕ) (loops_ q : ℕ) (names : All (NamesWithin cells loops_) code) where
+module _ (d : Declared) (few : AreNumbered d) (code : List (Instr ℕ)) (cells writes : List ℕ) (loops_ q : ℕ) (names : All (NamesWithin cells loops_) code) where
   -- of a quantum above 0
   abbrev the_body : Body
   the_body = record { code = map (placed cells) code; cells = cells; writes = writes; loops = loops_; quantum = suc q }
@@ -471,7 +473,7 @@ module _ (d : Declared) (few : AreNumbered d) (code : List Instruction) (cells w
       only_first true e = refl
       only_first false e = e
 
-abbrev with_code : Body → List Instruction → ℕ → Body
+abbrev with_code : Body → List (Instr ℕ) → ℕ → Body
 with_code body code q = record { code = code; cells = body.cells; writes = body.writes; loops = body.loops; quantum = q }
 
 pub bodies_do : BodiesDo

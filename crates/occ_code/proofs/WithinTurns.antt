@@ -14,7 +14,8 @@ use Rattle.occ_machine.specs.declared.task.Arm.{Arm}
 use Rattle.occ_machine.specs.declared.task.Wait.{Wait}
 use Rattle.occ_machine.specs.declared.task.Wait.TheVariants.{Ready, Offers, Awaits, Chooses, Joins, Halted, Faulted}
 use Rattle.occ_machine.specs.SameStop.{numbers_of}
-use Rattle.occ_machine.specs.Machine.{by_cell, Instruction, Point, point, Stops, act, effect, Walks, here, on}
+use Rattle.occ_machine.specs.Machine.{by_cell, Point, point, Stops, act, effect, Walks, here, on}
+use Rattle.occ_machine.specs.declared.instr.Instr.{Instr}
 use Rattle.occ_code.specs.Laws.{FaultsAt, Comes, comes, fails}
 use Rattle.occ_code.specs.Layout.{Ways, stays, jumps, slot_in, slot_before, ListAt, LoopAt, ContextAt, ContextsAt}
 use Rattle.occ_code.proofs.Walks.{walks_on}
@@ -29,7 +30,7 @@ steps_on (more x h xs) r = more x h (steps_on xs r)
 pub after_steps : {a b c : Left} {s s1 s2 : Store} → Steps a s b s1 → SingleTurn b s1 c s2 → SingleTurn a s c s2
 after_steps ys (single_turn xs x h) = single_turn (steps_on ys xs) x h
 
-module _ (code : List Instruction) where
+module _ (code : List (Instr ℕ)) where
   pub ways_join : {a b c : ℕ} → Ways code a b → Ways code b c → Ways code a c
   ways_join stays w = w
   ways_join (jumps h v) w = jumps h (ways_join v w)
@@ -61,7 +62,7 @@ pub slot_at_most : (c : Context) (slot : ℕ) → slot ≤ slot_before c slot
 slot_at_most (Then ts) slot = omega arith
 slot_at_most (Within l) slot = slot_below l slot
 
-module _ (code : List Instruction) (loops : ℕ) where
+module _ (code : List (Instr ℕ)) (loops : ℕ) where
   context_kept : (c : Context) (xs ys : List ℕ) (slot a b : ℕ) → KeepsBelow (slot_before c slot) xs ys → ContextAt code loops xs slot a c b → ContextAt code loops ys slot a c b
   context_kept (Then ts) xs ys slot a b k h = h
   context_kept (Within (WhileLoop e t)) xs ys slot a b k h = h

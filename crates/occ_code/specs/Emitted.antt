@@ -8,25 +8,27 @@ use Rattle.occ_term.specs.Sizes.{size_of}
 use Rattle.occ_term.specs.Processes.{Numbered, processes_of}
 use Rattle.occ_term.specs.TermTyping.{Declared, TermHas}
 use Rattle.occ_machine.specs.SameStop.{Lists, used_by}
-use Rattle.occ_machine.specs.Machine.{Instruction, Body, placed, Push, Jump, Choose, IfAmong, IfTag, DropOne, NextChoice, BackToChoice, PassArms, IfTaken, SetAgain, ChooseArm, Begin, Pass, LoopBack, Send, Receive, Halt, End}
+use Rattle.occ_machine.specs.Machine.{Body, placed}
+use Rattle.occ_machine.specs.declared.instr.Instr.{Instr}
+use Rattle.occ_machine.specs.declared.instr.Instr.TheVariants.{Push, Jump, Choose, IfAmong, IfTag, DropOne, NextChoice, BackToChoice, PassArms, IfTaken, SetAgain, ChooseArm, Begin, Pass, LoopBack, Send, Receive, Halt, End}
 use Rattle.occ_code.specs.Expressions.{expression_code, place_code, items_code, declaration_code, declarations_code, storing_code, counting_code, assignment_code, par_code, skip_opening, input_opening}
 use Rattle.occ_machine.specs.Alike.{DoesAs}
 use Rattle.occ_code.specs.Within.{AreNumbered}
 
 -- An arm of an ALT before others, of which so many instructions stand up to the end of the ALT: what is done once it is taken, and
 -- what opens it. A number that is no greater than that of the last of the others passes on to them.
-abbrev pub arm_code : List Instruction → List Instruction → List Instruction → ℕ → List Instruction
+abbrev pub arm_code : List (Instr ℕ) → List (Instr ℕ) → List (Instr ℕ) → ℕ → List (Instr ℕ)
 arm_code body opens others after =
     PassArms (length others + after) (length body + length opens + 2)
     ∷ IfTaken (length body + 1) ∷ (body ++ Jump (length opens + (length others + after)) ∷ (opens ++ others))
 
 -- arms behind a declaration, before others
-abbrev pub declared_arms_code : List Instruction → List Instruction → List Instruction → ℕ → List Instruction
+abbrev pub declared_arms_code : List (Instr ℕ) → List (Instr ℕ) → List (Instr ℕ) → ℕ → List (Instr ℕ)
 declared_arms_code declares within others after =
     PassArms (length others + after) (length declares + length within) ∷ (declares ++ (within ++ others))
 
 -- arms for each value of an index, before others
-abbrev pub each_arm_code : ℕ → List Instruction → List Instruction → List Instruction → ℕ → List Instruction
+abbrev pub each_arm_code : ℕ → List (Instr ℕ) → List (Instr ℕ) → List (Instr ℕ) → ℕ → List (Instr ℕ)
 each_arm_code index counts within others after =
     PassArms (length others + after) (length counts + length within + 5)
     ∷ SetAgain index (length counts + 2)
@@ -35,7 +37,7 @@ each_arm_code index counts within others after =
 -- A replicated SEQ has its two counters from the slot on, and what stands in it has later ones. `after` is how many instructions stand between
 -- the choices, options or arms and where their bodies go on. The number of an arm is how many stand from what comes after it on to there, and one.
 abbrev mutual
-  pub term_code : ℕ → Term → List Instruction
+  pub term_code : ℕ → Term → List (Instr ℕ)
   term_code slot Skip = []
   term_code slot Stop = Halt ∷ []
   term_code slot (Assign ts vs) = assignment_code ts vs
@@ -55,11 +57,11 @@ abbrev mutual
   term_code slot (Clear first count) = declaration_code (Clearing first count)
   term_code slot (Local first value) = declaration_code (Naming first value)
 
-  pub terms_code : ℕ → Terms → List Instruction
+  pub terms_code : ℕ → Terms → List (Instr ℕ)
   terms_code slot no_terms = []
   terms_code slot (then_term t ts) = term_code slot t ++ terms_code slot ts
 
-  pub arms_code : ℕ → Arms → ℕ → List Instruction
+  pub arms_code : ℕ → Arms → ℕ → List (Instr ℕ)
   arms_code slot no_arms after = []
   arms_code slot (skip_arm e t others) after =
       arm_code (term_code slot t) (skip_opening e (length (arms_code slot others after) + after + 1)) (arms_code slot others after) after
@@ -70,17 +72,17 @@ abbrev mutual
   arms_code slot (each_arm r within others) after =
       each_arm_code (index_of r) (counting_code r) (arms_code slot within (2 + length (arms_code slot others after) + after)) (arms_code slot others after) after
 
-  pub list_code : ℕ → Reception → List Instruction
+  pub list_code : ℕ → Reception → List (Instr ℕ)
   list_code slot (Plain ts t) = storing_code ts ++ term_code slot t
   list_code slot (Tagged vs) = variants_code slot vs
 
-  pub variants_code : ℕ → Variants → List Instruction
+  pub variants_code : ℕ → Variants → List (Instr ℕ)
   variants_code slot no_variants = Halt ∷ []
   variants_code slot (or_variant tag ds ts t vs) =
       IfTag tag (length (declarations_code ds ++ (storing_code ts ++ (term_code slot t ++ Jump (length (variants_code slot vs)) ∷ []))))
       ∷ ((declarations_code ds ++ (storing_code ts ++ (term_code slot t ++ Jump (length (variants_code slot vs)) ∷ []))) ++ variants_code slot vs)
 
-  pub choices_code : ℕ → Choices → ℕ → List Instruction
+  pub choices_code : ℕ → Choices → ℕ → List (Instr ℕ)
   choices_code slot no_choices after = []
   choices_code slot (or_choice e t cs) after =
       expression_code e ++ Choose (length (term_code slot t) + 1) ∷ (term_code slot t ++ Jump (length (choices_code slot cs after) + after) ∷ choices_code slot cs after)
@@ -91,14 +93,14 @@ abbrev mutual
       ∷ (choices_code slot within (1 + length (choices_code slot others after) + after)
       ++ BackToChoice (length (choices_code slot within (1 + length (choices_code slot others after) + after)) + 1) ∷ choices_code slot others after)
 
-  pub options_code : ℕ → Options → ℕ → List Instruction
+  pub options_code : ℕ → Options → ℕ → List (Instr ℕ)
   options_code slot no_options after = []
   options_code slot (or_option constants ds t os) after =
       IfAmong constants (length (declarations_code ds ++ (term_code slot t ++ Jump (length (options_code slot os after) + after) ∷ [])))
       ∷ ((declarations_code ds ++ (term_code slot t ++ Jump (length (options_code slot os after) + after) ∷ [])) ++ options_code slot os after)
   options_code slot (or_else ds t os) after = options_code slot os after
 
-  pub else_code : ℕ → Options → List Instruction
+  pub else_code : ℕ → Options → List (Instr ℕ)
   else_code slot no_options = Halt ∷ []
   else_code slot (or_option constants ds t os) = else_code slot os
   else_code slot (or_else ds t os) = DropOne ∷ (declarations_code ds ++ term_code slot t)
@@ -159,7 +161,7 @@ abbrev mutual
   counters_of_else (or_else ds t os) = counters_of t
 
 -- the code of a whole process, with the numbers of cells
-abbrev pub whole_code : Term → List Instruction
+abbrev pub whole_code : Term → List (Instr ℕ)
 whole_code t = term_code 0 t ++ End ∷ []
 
 -- the body of a process, for turns that pass so many stops of loops at most, the last one included

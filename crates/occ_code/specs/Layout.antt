@@ -8,28 +8,30 @@ use Rattle.occ_term.specs.Uses.{uses_of}
 use Rattle.occ_term.specs.Steps.{Loop, WhileLoop, EachLoop, Context, Then, Within}
 use Rattle.occ_machine.specs.Alike.{DoesAs}
 use Rattle.occ_machine.specs.SameStop.{Lists, used_by}
-use Rattle.occ_machine.specs.Machine.{Body, End, Instruction, NamesWithin, placed, Push, Jump, Choose, IfAmong, IfTag, DropOne, NextChoice, BackToChoice, PassArms, IfTaken, SetAgain, ChooseArm, Begin, Pass, LoopBack, Send, Receive, Halt, counter_at, kept_value}
+use Rattle.occ_machine.specs.Machine.{Body, NamesWithin, placed, counter_at, kept_value}
+use Rattle.occ_machine.specs.declared.instr.Instr.{Instr}
+use Rattle.occ_machine.specs.declared.instr.Instr.TheVariants.{End, Push, Jump, Choose, IfAmong, IfTag, DropOne, NextChoice, BackToChoice, PassArms, IfTaken, SetAgain, ChooseArm, Begin, Pass, LoopBack, Send, Receive, Halt}
 use Rattle.occ_code.specs.Expressions.{expression_code, place_code, items_code, declaration_code, declarations_code, storing_code, counting_code, assignment_code, par_code, skip_opening, input_opening}
 use Rattle.occ_code.specs.Laws.{StandsAt}
 use Rattle.occ_code.specs.Within.{AreNumbered}
 
 -- from one place to another by jumps alone
-pub data Ways (code : List Instruction) : ℕ → ℕ → Type 0 where
+pub data Ways (code : List (Instr ℕ)) : ℕ → ℕ → Type 0 where
   stays : {a : ℕ} → Ways code a a
   jumps : {a b skip : ℕ} → slice_get code a ≡ Some (Jump skip) → Ways code (a + 1 + skip) b → Ways code a b
 
 -- A jump at the end of a body leads back to the head of its loop.
-abbrev pub LeadsBack : List Instruction → ℕ → ℕ → Type 0
+abbrev pub LeadsBack : List (Instr ℕ) → ℕ → ℕ → Type 0
 LeadsBack code pc head = (back : ℕ) × (slice_get code pc ≡ Some (LoopBack back)) × (pc - back ≡ head)
 
 -- Numbers above the low one, up to the last one, pass on to the place of other arms; those above it, up to the high one, go in.
-abbrev pub PassesArms : List Instruction → ℕ → ℕ → ℕ → ℕ → ℕ → Type 0
+abbrev pub PassesArms : List (Instr ℕ) → ℕ → ℕ → ℕ → ℕ → ℕ → Type 0
 PassesArms code pc low last high out = (skip : ℕ) × (slice_get code pc ≡ Some (PassArms last skip)) × (pc + 1 + skip ≡ out) × (low ≤ last) × (last < high)
 
 abbrev mutual
   -- From the place on stands the code of the term, after which it goes on at the other place. A replicated SEQ has the counters
   -- from the slot on, of which there are `loops`; what stands in it has later ones.
-  pub TermAt : List Instruction → ℕ → ℕ → ℕ → Term → ℕ → Type 0
+  pub TermAt : List (Instr ℕ) → ℕ → ℕ → ℕ → Term → ℕ → Type 0
   TermAt code loops slot pc Skip pc' = Ways code pc pc'
   TermAt code loops slot pc Stop pc' = slice_get code pc ≡ Some Halt
   TermAt code loops slot pc (Assign ts vs) pc' = (m : ℕ) × StandsAt code pc (assignment_code ts vs) m × Ways code m pc'
@@ -54,13 +56,13 @@ abbrev mutual
   TermAt code loops slot pc (Clear first count) pc' = (m : ℕ) × StandsAt code pc (declaration_code (Clearing first count)) m × Ways code m pc'
   TermAt code loops slot pc (Local first value) pc' = (m : ℕ) × StandsAt code pc (declaration_code (Naming first value)) m × Ways code m pc'
 
-  pub TermsAt : List Instruction → ℕ → ℕ → ℕ → Terms → ℕ → Type 0
+  pub TermsAt : List (Instr ℕ) → ℕ → ℕ → ℕ → Terms → ℕ → Type 0
   TermsAt code loops slot pc no_terms pc' = Ways code pc pc'
   TermsAt code loops slot pc (then_term t ts) pc' = (m : ℕ) × TermAt code loops slot pc t m × TermsAt code loops slot m ts pc'
 
   -- Arms with numbers above the low one, up to the high one. Once they are evaluated it goes on at `next`, after what is done once one is
   -- taken at the last place.
-  pub ArmsAt : List Instruction → ℕ → ℕ → ℕ → ℕ → ℕ → Arms → ℕ → ℕ → Type 0
+  pub ArmsAt : List (Instr ℕ) → ℕ → ℕ → ℕ → ℕ → ℕ → Arms → ℕ → ℕ → Type 0
   ArmsAt code loops slot pc low high no_arms next pc' = Ways code pc next
   ArmsAt code loops slot pc low high (skip_arm e t others) next pc' =
       (last : ℕ) × (out : ℕ) × (skip : ℕ) × PassesArms code pc low last high out × (slice_get code (pc + 1) ≡ Some (IfTaken skip))
@@ -81,19 +83,19 @@ abbrev mutual
       × (n + 1 - back ≡ m) × ArmsAt code loops slot out low last others next pc'
 
   -- what takes a message, and what is done then
-  pub ListAt : List Instruction → ℕ → ℕ → ℕ → Reception → ℕ → Type 0
+  pub ListAt : List (Instr ℕ) → ℕ → ℕ → ℕ → Reception → ℕ → Type 0
   ListAt code loops slot pc (Plain ts t) pc' = (m : ℕ) × StandsAt code pc (storing_code ts) m × TermAt code loops slot m t pc'
   ListAt code loops slot pc (Tagged vs) pc' = VariantsAt code loops slot pc vs pc'
 
   -- a tag that is listed goes on with its variant, another one comes to the halt at the end
-  pub VariantsAt : List Instruction → ℕ → ℕ → ℕ → Variants → ℕ → Type 0
+  pub VariantsAt : List (Instr ℕ) → ℕ → ℕ → ℕ → Variants → ℕ → Type 0
   VariantsAt code loops slot pc no_variants pc' = slice_get code pc ≡ Some Halt
   VariantsAt code loops slot pc (or_variant tag ds ts t vs) pc' =
       (skip : ℕ) × (m : ℕ) × (n : ℕ) × (slice_get code pc ≡ Some (IfTag tag skip)) × StandsAt code (pc + 1) (declarations_code ds) m × StandsAt code m (storing_code ts) n
       × TermAt code loops slot n t pc' × VariantsAt code loops slot (pc + 1 + skip) vs pc'
 
   -- where none is chosen it goes on at `next`, after the body of one that is at the last place
-  pub ChoicesAt : List Instruction → ℕ → ℕ → ℕ → Choices → ℕ → ℕ → Type 0
+  pub ChoicesAt : List (Instr ℕ) → ℕ → ℕ → ℕ → Choices → ℕ → ℕ → Type 0
   ChoicesAt code loops slot pc no_choices next pc' = Ways code pc next
   ChoicesAt code loops slot pc (or_choice e t cs) next pc' =
       (m : ℕ) × (skip : ℕ) × StandsAt code pc (expression_code e) m × (slice_get code m ≡ Some (Choose skip)) × TermAt code loops slot (m + 1) t pc'
@@ -105,7 +107,7 @@ abbrev mutual
       × ChoicesAt code loops slot (m + 1) within n pc' × ((slice_get code n ≡ Some (BackToChoice back)) × (n - back ≡ m)) × ChoicesAt code loops slot (m + 1 + skip) others next pc'
 
   -- the options from the first on, ELSE left out; where none has the value it goes on at `next`
-  pub OptionsAt : List Instruction → ℕ → ℕ → ℕ → Options → ℕ → ℕ → Type 0
+  pub OptionsAt : List (Instr ℕ) → ℕ → ℕ → ℕ → Options → ℕ → ℕ → Type 0
   OptionsAt code loops slot pc no_options next pc' = Ways code pc next
   OptionsAt code loops slot pc (or_option constants ds t os) next pc' =
       (skip : ℕ) × (m : ℕ) × (slice_get code pc ≡ Some (IfAmong constants skip)) × StandsAt code (pc + 1) (declarations_code ds) m × TermAt code loops slot m t pc'
@@ -113,13 +115,13 @@ abbrev mutual
   OptionsAt code loops slot pc (or_else ds t os) next pc' = OptionsAt code loops slot pc os next pc'
 
   -- the first ELSE, or the halt
-  pub ElseAt : List Instruction → ℕ → ℕ → ℕ → Options → ℕ → Type 0
+  pub ElseAt : List (Instr ℕ) → ℕ → ℕ → ℕ → Options → ℕ → Type 0
   ElseAt code loops slot pc no_options pc' = slice_get code pc ≡ Some Halt
   ElseAt code loops slot pc (or_option constants ds t os) pc' = ElseAt code loops slot pc os pc'
   ElseAt code loops slot pc (or_else ds t os) pc' = (m : ℕ) × (slice_get code pc ≡ Some DropOne) × StandsAt code (pc + 1) (declarations_code ds) m × TermAt code loops slot m t pc'
 
 -- how a replicated SEQ goes on after one of its bodies
-abbrev pub EachAt : List Instruction → ℕ → ℕ → ℕ → ℕ → Term → ℕ → Type 0
+abbrev pub EachAt : List (Instr ℕ) → ℕ → ℕ → ℕ → ℕ → Term → ℕ → Type 0
 EachAt code loops slot pc index b pc' =
     (skip : ℕ) × (n : ℕ) × (slot + 1 < loops) × (slice_get code pc ≡ Some (Pass slot index skip)) × Ways code (pc + 1 + skip) pc'
     × TermAt code loops (slot + 2) (pc + 1) b n × LeadsBack code n pc
@@ -129,7 +131,7 @@ abbrev pub Counts : List ℕ → ℕ → ℤ → ℕ → Type 0
 Counts left slot v n = (counter_at left slot ≡ n) × (kept_value (counter_at left (slot + 1)) +ℤ pos 1 ≡ v)
 
 -- a loop that stands again, with these counters
-abbrev pub LoopAt : List Instruction → ℕ → List ℕ → ℕ → ℕ → Loop → ℕ → Type 0
+abbrev pub LoopAt : List (Instr ℕ) → ℕ → List ℕ → ℕ → ℕ → Loop → ℕ → Type 0
 LoopAt code loops left slot pc (WhileLoop e b) pc' = TermAt code loops slot pc (While e b) pc'
 LoopAt code loops left slot pc (EachLoop index v n b) pc' = Counts left slot v n × EachAt code loops slot pc index b pc'
 
@@ -142,19 +144,19 @@ abbrev pub slot_before : Context → ℕ → ℕ
 slot_before (Then ts) slot = slot
 slot_before (Within l) slot = slot_in l slot
 
-abbrev pub ContextAt : List Instruction → ℕ → List ℕ → ℕ → ℕ → Context → ℕ → Type 0
+abbrev pub ContextAt : List (Instr ℕ) → ℕ → List ℕ → ℕ → ℕ → Context → ℕ → Type 0
 ContextAt code loops left slot pc (Then ts) pc' = TermsAt code loops slot pc ts pc'
 ContextAt code loops left slot pc (Within l) pc' = (head : ℕ) × LeadsBack code pc head × LoopAt code loops left slot head l pc'
 
 -- contexts, innermost first: from a place with its slot to another one
-abbrev pub ContextsAt : List Instruction → ℕ → List ℕ → ℕ → ℕ → List Context → ℕ → ℕ → Type 0
+abbrev pub ContextsAt : List (Instr ℕ) → ℕ → List ℕ → ℕ → ℕ → List Context → ℕ → ℕ → Type 0
 ContextsAt code loops left e pc [] d pc' = (e ≡ d) × Ways code pc pc'
 ContextsAt code loops left e pc (c ∷ k) d pc' =
     (slot : ℕ) × (a : ℕ) × (b : ℕ) × (e ≡ slot_before c slot) × Ways code pc a × ContextAt code loops left slot a c b × ContextsAt code loops left slot b k d pc'
 
 -- the code of a typed term over few channels, and the end after it: laid out with the numbers of cells, and then with their places
 pub record IsLaidOut (d : Declared) (body : Body) (t : Term) : Type 0 where
-  pub by_cells : List Instruction
+  pub by_cells : List (Instr ℕ)
   pub last : ℕ
   pub numbered : AreNumbered d
   pub typed : TermHas d t

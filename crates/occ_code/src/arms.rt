@@ -2,7 +2,7 @@
 ghost use Rattle.std.specs.Prelude.{◌≡◌, ◌∷◌, [], ◌++◌, ◌-◌, ◌+◌, ◌<◌, OnOk, List, length, pos, ℕ};
 ghost use Rattle.occ_term.specs.Storing.{index_of};
 ghost use Rattle.occ_term.specs.View.{expression_of, place_of, replicator_of, test_of};
-ghost use Rattle.occ_machine.specs.Machine as machine;
+ghost use Rattle.occ_machine.specs.declared.instr.Instr.TheVariants as instructions;
 ghost use Rattle.occ_code.specs.Expressions.{counting_code, input_opening, skip_opening};
 ghost use Rattle.occ_code.specs.Emits.{Behind, Emits};
 ghost use Rattle.occ_machine.specs.declared.instr.Instr.{Instr};
@@ -67,7 +67,7 @@ pub(crate) fn emit_taken(
     end: usize,
     code: &mut Vec<Instr<u32>>,
 ) -> Result<(), AllocError>
-    ensures { OnOk result (Emits code.old.items (machine.PassArms (before - end) (1 + length code.old.items - before) ∷ machine.IfTaken (length code.old.items - opened) ∷ []) code.new.items) }
+    ensures { OnOk result (Emits code.old.items (instructions.PassArms (before - end) (1 + length code.old.items - before) ∷ instructions.IfTaken (length code.old.items - opened) ∷ []) code.new.items) }
 {
     put(code, Instr::IfTaken(since(code, opened)))?;
     emit_passing(before, end, code)?;
@@ -80,7 +80,7 @@ pub(crate) fn emit_passing(
     end: usize,
     code: &mut Vec<Instr<u32>>,
 ) -> Result<(), AllocError>
-    ensures { OnOk result (Emits code.old.items (machine.PassArms (before - end) (length code.old.items - before) ∷ []) code.new.items) }
+    ensures { OnOk result (Emits code.old.items (instructions.PassArms (before - end) (length code.old.items - before) ∷ []) code.new.items) }
 {
     let last = before.saturating_sub(end);
     put(code, Instr::PassArms(last, since(code, before)))?;
@@ -95,8 +95,8 @@ pub(crate) fn emit_next(
     code: &mut Vec<Instr<u32>>,
 ) -> Result<(), AllocError>
     requires { place < length code.old.items }
-    ensures { OnOk result ((before : List (Instr ℕ)) (body : List machine.Instruction) → length before ≡ place → Behind before body code.old.items
-        → Emits before (counting_code (replicator_of over.now) ++ machine.NextChoice (index_of (replicator_of over.now)) (length body + 1) ∷ (body ++ machine.BackToChoice (length body + 1) ∷ [])) code.new.items) }
+    ensures { OnOk result ((before body : List (Instr ℕ)) → length before ≡ place → Behind before body code.old.items
+        → Emits before (counting_code (replicator_of over.now) ++ instructions.NextChoice (index_of (replicator_of over.now)) (length body + 1) ∷ (body ++ instructions.BackToChoice (length body + 1) ∷ [])) code.new.items) }
 {
     let back = since(code, place);
     put_at(code, place, Instr::BackToChoice(back));
@@ -113,10 +113,10 @@ pub(crate) fn emit_each_value(
     code: &mut Vec<Instr<u32>>,
 ) -> Result<(), AllocError>
     requires { place < length code.old.items }
-    ensures { OnOk result ((before : List (Instr ℕ)) (body : List machine.Instruction) → length before ≡ place → Behind before body code.old.items
-        → Emits before (machine.SetAgain (index_of (replicator_of over.now)) (length (counting_code (replicator_of over.now)) + 2)
-        ∷ (counting_code (replicator_of over.now) ++ machine.NextChoice (index_of (replicator_of over.now)) (length body + 2)
-        ∷ machine.Push (pos 0) ∷ (body ++ machine.BackToChoice (length body + 2) ∷ []))) code.new.items) }
+    ensures { OnOk result ((before body : List (Instr ℕ)) → length before ≡ place → Behind before body code.old.items
+        → Emits before (instructions.SetAgain (index_of (replicator_of over.now)) (length (counting_code (replicator_of over.now)) + 2)
+        ∷ (counting_code (replicator_of over.now) ++ instructions.NextChoice (index_of (replicator_of over.now)) (length body + 2)
+        ∷ instructions.Push (pos 0) ∷ (body ++ instructions.BackToChoice (length body + 2) ∷ []))) code.new.items) }
 {
     let before = emitted(code);
     put(code, Instr::Push(0))?;
@@ -132,8 +132,8 @@ pub(crate) fn emit_alt(
     code: &mut Vec<Instr<u32>>,
 ) -> Result<(), AllocError>
     requires { place < length code.old.items }
-    ensures { OnOk result ((before : List (Instr ℕ)) (body : List machine.Instruction) → length before ≡ place → Behind before body code.old.items
-        → Emits before (machine.Push (pos 0) ∷ (body ++ machine.ChooseArm pri (length body) ∷ [])) code.new.items) }
+    ensures { OnOk result ((before body : List (Instr ℕ)) → length before ≡ place → Behind before body code.old.items
+        → Emits before (instructions.Push (pos 0) ∷ (body ++ instructions.ChooseArm pri (length body) ∷ [])) code.new.items) }
 {
     let back = since(code, place).saturating_sub(1);
     put_at(code, place, Instr::ChooseArm(pri, back));

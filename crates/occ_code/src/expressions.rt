@@ -5,7 +5,7 @@ ghost use Rattle.occ_term.specs.ArraySizes.{AreFew};
 ghost use Rattle.occ_term.specs.Terms.{OfOne, OfMany, OfCounted, Into, IntoCounted, Naming};
 ghost use Rattle.occ_term.specs.View.{expression_of, place_of, subscripts, array_of, item_of, items_of, target_of, targets_of, declaration_of, declarations_of, replicator_of};
 ghost use Rattle.occ_code.specs.Expressions.{expression_code, place_code, subscripts_code, components_at, item_code, items_code, target_code, targets_code, declaration_code, declarations_code, storing_code, counting_code, assignment_code, single_target, single_value};
-ghost use Rattle.occ_code.specs.Emits.{emitted_instruction, Emits};
+ghost use Rattle.occ_code.specs.Emits.{Emits};
 
 use crate::pieces::{emitted, put, since};
 use occ_machine::Instr;
@@ -67,7 +67,7 @@ fn emit_before(
     last: Instr<u32>,
     code: &mut Vec<Instr<u32>>,
 ) -> Result<(), AllocError>
-    ensures { OnOk result (Emits code.old.items (expression_code (expression_of e.now) ++ emitted_instruction last ∷ []) code.new.items) }
+    ensures { OnOk result (Emits code.old.items (expression_code (expression_of e.now) ++ last ∷ []) code.new.items) }
 {
     put(code, last)?;
     emit_expression(alloc, e, code)?;
@@ -82,7 +82,7 @@ pub(crate) fn emit_place_before(
     last: Instr<u32>,
     code: &mut Vec<Instr<u32>>,
 ) -> Result<(), AllocError>
-    ensures { OnOk result (Emits code.old.items (place_code (place_of place.now) ++ emitted_instruction last ∷ []) code.new.items) }
+    ensures { OnOk result (Emits code.old.items (place_code (place_of place.now) ++ last ∷ []) code.new.items) }
 {
     put(code, last)?;
     emit_place(alloc, place, code)?;

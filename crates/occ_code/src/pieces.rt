@@ -1,13 +1,13 @@
 //! Emitting code from its end to its start.
 ghost use Rattle.std.specs.Prelude.{◌≡◌, ◌∷◌, [], ◌-◌, ◌<◌, OnOk, length, set};
-ghost use Rattle.occ_code.specs.Emits.{emitted_instruction, Emits};
+ghost use Rattle.occ_code.specs.Emits.{Emits};
 
 use occ_machine::Instr;
 use std::alloc::AllocError;
 
 /// Puts one instruction before what was emitted.
 pub(crate) fn put(code: &mut Vec<Instr<u32>>, instr: Instr<u32>) -> Result<(), AllocError>
-    ensures { OnOk result (Emits code.old.items (emitted_instruction instr ∷ []) code.new.items) }
+    ensures { OnOk result (Emits code.old.items (instr ∷ []) code.new.items) }
 {
     code.push(instr)?;
     Ok(())

@@ -3,8 +3,7 @@ ghost use Rattle.std.specs.Prelude.{◌≡◌, ◌≤◌, IfOk, length, map};
 ghost use Rattle.occ_term.specs.Frames.{place_among};
 ghost use Rattle.occ_term.specs.UnfoldedProgram.{most_cells};
 ghost use Rattle.occ_machine.specs.Machine.{placed};
-ghost use Rattle.occ_machine.specs.View.{instruction_of};
-ghost use Rattle.occ_code.specs.Emits.{emitted, emitted_instruction};
+ghost use Rattle.occ_code.specs.Emits.{emitted};
 
 use occ_machine::{Instr, Slot};
 use occ_term::FrameCells;
@@ -17,7 +16,7 @@ pub(crate) fn with_slots(
     code: Vec<Instr<u32>>,
 ) -> Result<Vec<Instr<Slot>>, AllocError>
     requires { length cells.now ≤ most_cells }
-    ensures { IfOk result (λ body. map instruction_of body.items ≡ map (placed cells.now) (emitted code.items)) }
+    ensures { IfOk result (λ body. body.items ≡ map (placed cells.now) (emitted code.items)) }
 {
     let mut left = code;
     let mut body = Vec::with_capacity(alloc, left.len())?;
@@ -30,7 +29,7 @@ pub(crate) fn with_slots(
 /// The instruction with the slot of the cell that it names.
 fn with_slot(held: &FrameCells, instr: Instr<u32>) -> Instr<Slot>
     requires { length held.now ≤ most_cells }
-    ensures { instruction_of result ≡ placed held.now (emitted_instruction instr) }
+    ensures { result ≡ placed held.now instr }
 {
     match instr {
         Instr::Push(value) => Instr::Push(value),
@@ -88,7 +87,7 @@ fn with_slot(held: &FrameCells, instr: Instr<u32>) -> Instr<Slot>
 
 fn slot_of(held: &FrameCells, cell: u32) -> Slot
     requires { length held.now ≤ most_cells }
-    ensures { result.0 ≡ place_among held.now cell }
+    ensures { result ≡ place_among held.now cell }
 {
     Slot(held.place_among(cell) as u32)
 }

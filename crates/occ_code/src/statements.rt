@@ -3,7 +3,7 @@ ghost use Rattle.std.specs.Prelude.{◌≡◌, ◌∷◌, [], ◌++◌, ◌-◌,
 ghost use Rattle.occ_term.specs.Storing.{index_of};
 ghost use Rattle.occ_term.specs.Terms as terms;
 ghost use Rattle.occ_term.specs.View.{arm_of, arms_of, branches_of, choice_of, choices_of, declarations_of, expression_of, items_of, option_of, options_of, place_of, reception_of, replicator_of, targets_of, term_of, terms_of, variant_of, variants_of};
-ghost use Rattle.occ_machine.specs.Machine as machine;
+ghost use Rattle.occ_machine.specs.declared.instr.Instr.TheVariants as instructions;
 ghost use Rattle.occ_code.specs.Expressions.{counting_code, declarations_code, expression_code, items_code, par_code, place_code, storing_code};
 ghost use Rattle.occ_code.specs.Emitted.{arms_code, list_code, choices_code, else_code, options_code, term_code, terms_code, variants_code};
 ghost use Rattle.occ_code.specs.Emits.{Behind, Emits};
@@ -118,7 +118,7 @@ fn emit_input(
     targets: &[Target],
     code: &mut Vec<Instr<u32>>,
 ) -> Result<(), AllocError>
-    ensures { OnOk result (Emits code.old.items ((place_code (place_of channel.now) ++ machine.Receive ∷ []) ++ storing_code (targets_of targets.now)) code.new.items) }
+    ensures { OnOk result (Emits code.old.items ((place_code (place_of channel.now) ++ instructions.Receive ∷ []) ++ storing_code (targets_of targets.now)) code.new.items) }
 {
     emit_storing(alloc, targets, code)?;
     emit_place_before(alloc, channel, Instr::Receive, code)?;
@@ -132,7 +132,7 @@ fn emit_output(
     items: &[Item],
     code: &mut Vec<Instr<u32>>,
 ) -> Result<(), AllocError>
-    ensures { OnOk result (Emits code.old.items (place_code (place_of channel.now) ++ (items_code (items_of items.now) ++ machine.Send tag ∷ [])) code.new.items) }
+    ensures { OnOk result (Emits code.old.items (place_code (place_of channel.now) ++ (items_code (items_of items.now) ++ instructions.Send tag ∷ [])) code.new.items) }
 {
     put(code, Instr::Send(tag))?;
     emit_items(alloc, items, code)?;
@@ -174,8 +174,8 @@ fn emit_test(
     code: &mut Vec<Instr<u32>>,
 ) -> Result<(), AllocError>
     requires { place < length code.old.items }
-    ensures { OnOk result ((before : List (Instr ℕ)) (body : List machine.Instruction) → length before ≡ place → Behind before body code.old.items
-        → Emits before (expression_code (expression_of test.now) ++ machine.Choose (length body + 1) ∷ (body ++ machine.LoopBack (length (expression_code (expression_of test.now)) + 1 + length body) ∷ [])) code.new.items) }
+    ensures { OnOk result ((before body : List (Instr ℕ)) → length before ≡ place → Behind before body code.old.items
+        → Emits before (expression_code (expression_of test.now) ++ instructions.Choose (length body + 1) ∷ (body ++ instructions.LoopBack (length (expression_code (expression_of test.now)) + 1 + length body) ∷ [])) code.new.items) }
 {
     put(code, Instr::Choose(since(code, place)))?;
     emit_expression(alloc, test, code)?;
@@ -193,8 +193,8 @@ fn emit_passes(
     code: &mut Vec<Instr<u32>>,
 ) -> Result<(), AllocError>
     requires { place < length code.old.items }
-    ensures { OnOk result ((before : List (Instr ℕ)) (body : List machine.Instruction) → length before ≡ place → Behind before body code.old.items
-        → Emits before (counting_code (replicator_of over.now) ++ machine.Begin slot (index_of (replicator_of over.now)) (length body + 2) ∷ machine.Pass slot (index_of (replicator_of over.now)) (length body + 1) ∷ (body ++ machine.LoopBack (length body + 1) ∷ [])) code.new.items) }
+    ensures { OnOk result ((before body : List (Instr ℕ)) → length before ≡ place → Behind before body code.old.items
+        → Emits before (counting_code (replicator_of over.now) ++ instructions.Begin slot (index_of (replicator_of over.now)) (length body + 2) ∷ instructions.Pass slot (index_of (replicator_of over.now)) (length body + 1) ∷ (body ++ instructions.LoopBack (length body + 1) ∷ [])) code.new.items) }
 {
     let back = since(code, place);
     put_at(code, place, Instr::LoopBack(back));
@@ -269,7 +269,7 @@ fn emit_choose(
     before: usize,
     code: &mut Vec<Instr<u32>>,
 ) -> Result<(), AllocError>
-    ensures { OnOk result (Emits code.old.items (expression_code (expression_of test.now) ++ machine.Choose (length code.old.items - before) ∷ []) code.new.items) }
+    ensures { OnOk result (Emits code.old.items (expression_code (expression_of test.now) ++ instructions.Choose (length code.old.items - before) ∷ []) code.new.items) }
 {
     put(code, Instr::Choose(since(code, before)))?;
     emit_expression(alloc, test, code)?;
@@ -422,7 +422,7 @@ fn emit_among(
     before: usize,
     code: &mut Vec<Instr<u32>>,
 ) -> Result<(), AllocError>
-    ensures { OnOk result (Emits code.old.items (machine.IfAmong constants.now (length (declarations_code (declarations_of declarations.now)) + length code.old.items - before) ∷ declarations_code (declarations_of declarations.now)) code.new.items) }
+    ensures { OnOk result (Emits code.old.items (instructions.IfAmong constants.now (length (declarations_code (declarations_of declarations.now)) + length code.old.items - before) ∷ declarations_code (declarations_of declarations.now)) code.new.items) }
 {
     emit_declarations(alloc, declarations, code)?;
     let constants = Items::from_slice(alloc, constants.as_slice())?;

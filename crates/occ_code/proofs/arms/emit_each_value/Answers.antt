@@ -1,6 +1,6 @@
 use Rattle.std.proofs.Common.{◌≡◌, ◌∷◌, ◌+◌, arith, length, pos}
 use Rattle.occ_term.specs.View.{replicator_of}
-use Rattle.occ_machine.specs.Machine.{Push}
+use Rattle.occ_machine.specs.declared.instr.Instr.TheVariants.{Push}
 use Rattle.occ_code.specs.Expressions.{counting_code}
 use Rattle.occ_code.proofs.Emitting.{emits_length}
 use Rattle.occ_code.proofs.EmittingArms.{value_begins}

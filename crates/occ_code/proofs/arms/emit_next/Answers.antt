@@ -1,5 +1,5 @@
 use Rattle.std.proofs.Common.{◌≡◌, ◌+◌, [], ◌∷◌, length, ap, refl}
-use Rattle.occ_machine.specs.Machine.{NextChoice, BackToChoice}
+use Rattle.occ_machine.specs.declared.instr.Instr.TheVariants.{NextChoice, BackToChoice}
 use Rattle.occ_code.proofs.Emitting.{emits_then, emits_as}
 use Rattle.occ_code.proofs.EmittingTerms.{set_back, back_is}
 use Rattle.occ_code.proofs.arms.emit_next.Goals as goal

@@ -1,13 +1,23 @@
-use Rattle.std.proofs.Common.{rules, ◌≡◌, ◌∷◌, [], ◌++◌, ◌-◌, ◌<◌, ◌+◌, length, refl, ap, subst, sym, ◌∙◌, arith}
+use Rattle.std.specs.Prelude.{nat_abs, OnOk}
+use Rattle.std.proofs.Common.{rules, map, pos, ◌≡◌, ◌∷◌, [], ◌++◌, ◌-◌, ◌<◌, ◌+◌, length, refl, ap, subst, sym, ◌∙◌, arith}
 use Rattle.occ_term.specs.Messages.{product}
 use Rattle.occ_term.specs.ArraySizes.{AreFew}
 use Rattle.occ_term.proofs.Few.{few_behind, few_product}
 use Rattle.occ_term.specs.View.{expression_of}
 use Rattle.occ_term.specs.declared.expression.TermExpr.{the_lemmas}
-use Rattle.occ_machine.specs.Machine.{AndThen, OrElse, Operate}
+use Rattle.occ_machine.specs.declared.instr.Instr.TheVariants.{AndThen, LoadLetter, OrElse, Operate}
 use Rattle.occ_code.specs.Expressions.{expression_code}
+use Rattle.occ_code.specs.Emits.{Emits}
 use Rattle.occ_code.proofs.Emitting.{emits_then, emits_as, emits_since, whole_rest, subscripts_first, subscripts_next, product_before}
+use Rattle.occ_code.proofs.Letters.{letters_back}
 use Rattle.occ_code.proofs.expressions.+expressions.Goals as goal
+
+pub emit_expression-returns-in_ok-text-in-Letter : goal.emit_expression-returns-in_ok-text-in-Letter
+emit_expression-returns-in_ok-text-in-Letter t c =
+    let same : c.in_ok-text-in-Letter.text ≡ map nat_abs (map pos c.in-Letter.text) = c.in_ok-text-in-Letter.ensures ∙ sym (letters_back c.in-Letter.text) in
+    let seen : expression_code (expression_of c.get.result.now) ++ LoadLetter c.in-Letter.line (map nat_abs (map pos c.in-Letter.text)) ∷ [] ≡ expression_code (expression_of c.args.e.now) =
+    search (rules, the_lemmas) in
+    subst (λ l. OnOk c.emit_before.result (Emits c.args.code.now.items l c.emit_before.new.code.items)) (ap (λ l. expression_code (expression_of c.get.result.now) ++ LoadLetter c.in-Letter.line l ∷ []) same ∙ seen) c.emit_before.ensures
 
 pub emit_expression-returns-in_ok-emit_expression-in-Binary-2 : goal.emit_expression-returns-in_ok-emit_expression-in-Binary-2
 emit_expression-returns-in_ok-emit_expression-in-Binary-2 t c =

@@ -2,7 +2,7 @@ use Rattle.std.proofs.Common.{rules, pos, ◌≡◌, ◌∷◌, [], ◌++◌, �
 use Rattle.occ_term.specs.Storing.{index_of}
 use Rattle.occ_term.specs.View.{arm_of, arms_of, choice_of, choices_of, declaration_of, declarations_of, expression_of, option_of, options_of, place_of, reception_of, replicator_of, targets_of, term_of, test_of, variant_of}
 use Rattle.occ_term.specs.declared.term.Term.{the_lemmas}
-use Rattle.occ_machine.specs.Machine.{BackToChoice, Begin, Choose, ChooseArm, DropOne, IfAmong, IfTag, Jump, LoopBack, NextChoice, Pass, Push}
+use Rattle.occ_machine.specs.declared.instr.Instr.TheVariants.{BackToChoice, Begin, Choose, ChooseArm, DropOne, IfAmong, IfTag, Jump, LoopBack, NextChoice, Pass, Push}
 use Rattle.occ_code.specs.Expressions.{counting_code, declaration_code, declarations_code, expression_code, input_opening, skip_opening, storing_code}
 use Rattle.occ_code.specs.Emitted.{arm_code, arms_code, choices_code, declared_arms_code, each_arm_code, else_code, list_code, options_code, term_code, variants_code}
 use Rattle.occ_code.proofs.Emitting.{emits_then, emits_as, emits_from, emits_length, drop_all}

@@ -1,6 +1,6 @@
 use Rattle.std.proofs.Common.{◌≡◌, ◌∙◌, [], ◌∷◌, ap, arith, length, sym}
 use Rattle.std.proofs.lemmas.Grind.{common_steps}
-use Rattle.occ_machine.specs.Machine.{Fork}
+use Rattle.occ_machine.specs.declared.instr.Instr.TheVariants.{Fork}
 use Rattle.occ_code.proofs.Emitting.{emits_none, emits_as}
 use Rattle.occ_code.proofs.EmittingTerms.{fork_seen, no_fork}
 use Rattle.occ_code.proofs.statements.emit_par.Goals as goal

@@ -1,5 +1,5 @@
 use Rattle.std.proofs.Common.{◌≡◌, ◌+◌, [], ◌∷◌, length, ap, refl, arith, length-append}
-use Rattle.occ_machine.specs.Machine.{Begin, Pass, LoopBack}
+use Rattle.occ_machine.specs.declared.instr.Instr.TheVariants.{Begin, Pass, LoopBack}
 use Rattle.occ_code.proofs.Emitting.{emits_then, emits_as, emits_length}
 use Rattle.occ_code.proofs.EmittingTerms.{set_back, back_is}
 use Rattle.occ_code.proofs.statements.emit_passes.Goals as goal
