@@ -65,46 +65,46 @@ add_in_variants-loop-count-preserved t c =
 -- ---- choices, options and arms
 
 pub add_in_choice-returns-in_ok-add_branches-in-When : goal.add_in_choice-returns-in_ok-add_branches-in-When
-add_in_choice-returns-in_ok-add_branches-in-When t c = λ before others h.
+add_in_choice-returns-in_ok-add_branches-in-When t c = λ others before h.
     let seen : branches_in (term_of c.in-When.body) ++ branches_in_choices others ≡ branches_in_choices (choice_of c.args.choice.now others) = search (rules, the_lemmas) in
     lists_as (lists_then h c.in_ok-add_branches-in-When.ensures) seen
 
 pub add_in_choice-returns-in_ok-add_in_choices-in-DeclaredChoices : goal.add_in_choice-returns-in_ok-add_in_choices-in-DeclaredChoices
-add_in_choice-returns-in_ok-add_in_choices-in-DeclaredChoices t c = λ before others h.
+add_in_choice-returns-in_ok-add_in_choices-in-DeclaredChoices t c = λ others before h.
     let seen : branches_in_choices (choices_of c.as_slice.result.now) ++ branches_in_choices others ≡ branches_in_choices (choice_of c.args.choice.now others) = search (rules, the_lemmas) in
     lists_as (lists_then h c.in_ok-add_in_choices-in-DeclaredChoices.ensures) seen
 
 pub add_in_choice-returns-in_ok-add_in_choices-in-EachChoice : goal.add_in_choice-returns-in_ok-add_in_choices-in-EachChoice
-add_in_choice-returns-in_ok-add_in_choices-in-EachChoice t c = λ before others h.
+add_in_choice-returns-in_ok-add_in_choices-in-EachChoice t c = λ others before h.
     let seen : branches_in_choices (choices_of c.as_slice-in-EachChoice.result.now) ++ branches_in_choices others ≡ branches_in_choices (choice_of c.args.choice.now others) = search (rules, the_lemmas) in
     lists_as (lists_then h c.in_ok-add_in_choices-in-EachChoice.ensures) seen
 
 pub add_in_option-returns-in_ok-add_branches-in-Among : goal.add_in_option-returns-in_ok-add_branches-in-Among
-add_in_option-returns-in_ok-add_branches-in-Among t c = λ before others h.
+add_in_option-returns-in_ok-add_branches-in-Among t c = λ others before h.
     let seen : branches_in (term_of c.in-Among.body) ++ branches_in_options others ≡ branches_in_options (option_of c.args.option.now others) = search (rules, the_lemmas) in
     lists_as (lists_then h c.in_ok-add_branches-in-Among.ensures) seen
 
 pub add_in_option-returns-in_ok-add_branches-in-Otherwise : goal.add_in_option-returns-in_ok-add_branches-in-Otherwise
-add_in_option-returns-in_ok-add_branches-in-Otherwise t c = λ before others h.
+add_in_option-returns-in_ok-add_branches-in-Otherwise t c = λ others before h.
     let seen : branches_in (term_of c.in-Otherwise.body) ++ branches_in_options others ≡ branches_in_options (option_of c.args.option.now others) = search (rules, the_lemmas) in
     lists_as (lists_then h c.in_ok-add_branches-in-Otherwise.ensures) seen
 
 pub add_in_arm-returns-in_ok-add_branches-in-SkipArm : goal.add_in_arm-returns-in_ok-add_branches-in-SkipArm
-add_in_arm-returns-in_ok-add_branches-in-SkipArm t c = λ before others h.
+add_in_arm-returns-in_ok-add_branches-in-SkipArm t c = λ others before h.
     let seen : branches_in (term_of c.in-SkipArm.body) ++ branches_in_arms others ≡ branches_in_arms (arm_of c.args.arm.now others) = search (rules, the_lemmas) in
     lists_as (lists_then h c.in_ok-add_branches-in-SkipArm.ensures) seen
 
 pub add_in_arm-returns-in_ok-add_in_reception-in-InputArm : goal.add_in_arm-returns-in_ok-add_in_reception-in-InputArm
-add_in_arm-returns-in_ok-add_in_reception-in-InputArm t c = λ before others h.
+add_in_arm-returns-in_ok-add_in_reception-in-InputArm t c = λ others before h.
     let seen : branches_in_reception (reception_of c.in-InputArm.reception) ++ branches_in_arms others ≡ branches_in_arms (arm_of c.args.arm.now others) = search (rules, the_lemmas) in
     lists_as (lists_then h c.in_ok-add_in_reception-in-InputArm.ensures) seen
 
 pub add_in_arm-returns-in_ok-add_in_arms-in-DeclaredArms : goal.add_in_arm-returns-in_ok-add_in_arms-in-DeclaredArms
-add_in_arm-returns-in_ok-add_in_arms-in-DeclaredArms t c = λ before others h.
+add_in_arm-returns-in_ok-add_in_arms-in-DeclaredArms t c = λ others before h.
     let seen : branches_in_arms (arms_of c.as_slice.result.now) ++ branches_in_arms others ≡ branches_in_arms (arm_of c.args.arm.now others) = search (rules, the_lemmas) in
     lists_as (lists_then h c.in_ok-add_in_arms-in-DeclaredArms.ensures) seen
 
 pub add_in_arm-returns-in_ok-add_in_arms-in-EachArm : goal.add_in_arm-returns-in_ok-add_in_arms-in-EachArm
-add_in_arm-returns-in_ok-add_in_arms-in-EachArm t c = λ before others h.
+add_in_arm-returns-in_ok-add_in_arms-in-EachArm t c = λ others before h.
     let seen : branches_in_arms (arms_of c.as_slice-in-EachArm.result.now) ++ branches_in_arms others ≡ branches_in_arms (arm_of c.args.arm.now others) = search (rules, the_lemmas) in
     lists_as (lists_then h c.in_ok-add_in_arms-in-EachArm.ensures) seen
