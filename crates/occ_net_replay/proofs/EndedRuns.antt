@@ -5,7 +5,9 @@ use mathlib.Core.Bool.{true≢false}
 use Rattle.occ_term.specs.declared.fault.Errors.{Errors}
 use Rattle.occ_term.specs.declared.fault.Fault.{Fault}
 use Rattle.occ_term.specs.declared.message.Message.{Message}
-use Rattle.occ_term.specs.Runs.{Ending, Ended, EndsBy, by_fault, by_end, by_standing, goes_on, Event, Run, no_turn, goes, MeetsAtMost, meets_none, meets_one, meets_skip, main_ended, still_by}
+use Rattle.occ_term.specs.declared.ending.Ending.{Ending}
+use Rattle.occ_term.specs.declared.ending.Ending.TheVariants.{Ended}
+use Rattle.occ_term.specs.Runs.{EndsBy, by_fault, by_end, by_standing, goes_on, Event, Run, no_turn, goes, MeetsAtMost, meets_none, meets_one, meets_skip, main_ended, still_by}
 use Rattle.occ_term.specs.Steps.{Do, Passing, Again, Offering, Awaiting, Choosing, Taking, Forking, Halted, Faulted, Done, Context, Left, left, Status, status, is_ended, Step, faults}
 use Rattle.occ_term.specs.declared.communication.Communication.{Communication}
 use Rattle.occ_term.specs.declared.communication.End.{End}
