@@ -8,6 +8,7 @@ use Rattle.occ_machine.specs.declared.instr.Instr.{Instr}
 use Rattle.occ_machine.specs.declared.instr.Instr.TheVariants.{Push, Load, LoadAt, LoadLetter, Subscript, Operate, OperateOne, ConvertTo, AndThen, OrElse, PartOne, PartMany, PartText, PartCounted, PartCountedText, SpotOne, SpotCounted, StoreParts, StoreNamed, StoreOne, ClearCells, CountedFrom, Fork, IfTrue, OpenSkip, OpenInput}
 use Rattle.occ_machine.specs.SameStop.{numbers_of}
 
+-- An instruction has the letters of a text as bytes, where a term has them as numbers.
 abbrev mutual
   pub expression_code : Expression → List (Instr ℕ)
   expression_code (Constant v) = Push v ∷ []
