@@ -95,8 +95,10 @@ impl Network {
     /// What every state of a network keeps: on each channel the messages output are those input, in
     /// order, each of the channel's protocol, and no fault was noted where it has ended.
     pub fn obeyed(&self)
-        ensures histories { (net : Net) → IsState self.now net → (chan : ℕ) → IsHistory self.now.program net chan (messages_on chan net.trace) }
-        ensures clean { (net : Net) → IsState self.now net → or_limit (ending_of self.now.program.errors net) ≡ Ending.Ended → net.noted ≡ [] }
+        ensures histories { (net : Net) → IsState self.now net → (chan : ℕ)
+            → IsHistory self.now.program net chan (messages_on chan net.trace) }
+        ensures clean { (net : Net) → IsState self.now net
+            → or_limit (ending_of self.now.program.errors net) ≡ Ending.Ended → net.noted ≡ [] }
     {
         self.code.compiled();
     }
@@ -132,8 +134,10 @@ impl Network {
     /// The task of the process at this place among those that may take a turn, in the order of their
     /// numbers.
     pub fn ready_at(&self, i: usize) -> Option<&Task>
-        ensures some { IfSome result (λ t. (net : Net) → IsState self.now net → ready_task net i ≡ Some t.now) }
-        ensures none { IfNone result ((net : Net) → IsState self.now net → ready_task net i ≡ None) }
+        ensures some { IfSome result (λ t. (net : Net) → IsState self.now net
+            → ready_task net i ≡ Some t.now) }
+        ensures none { IfNone result ((net : Net) → IsState self.now net
+            → ready_task net i ≡ None) }
     {
         match self.tables.ready().get(i) {
             Some(number) => self.tables.task(*number),
@@ -143,7 +147,8 @@ impl Network {
 
     /// How it has ended, if it has.
     pub fn ending(&self) -> Option<Ending>
-        ensures { (net : Net) → IsState self.now net → result ≡ ending_of self.now.program.errors net }
+        ensures { (net : Net) → IsState self.now net
+            → result ≡ ending_of self.now.program.errors net }
     {
         self.tables.ending(self.code.errors())
     }
@@ -177,7 +182,8 @@ impl Network {
     /// The messages that were output, and input, on this channel, each of the channel's protocol; none
     /// past the last channel. A message that is offered and not yet taken is not among them.
     pub fn history(&self, chan: u32) -> Option<History<'_>>
-        ensures some { IfSome result (λ h. (net : Net) → IsState self.now net → IsHistory self.now.program net chan h) }
+        ensures some { IfSome result (λ h. (net : Net) → IsState self.now net
+            → IsHistory self.now.program net chan h) }
         ensures there { IsSome result ↔ (chan < length self.now.program.channels) }
     {
         self.code.compiled();

@@ -22,10 +22,10 @@ ending_by p keyboard limit n o g r = r.ending ∙ ap (λ (q : Program). or_limit
 -- its outcome is one of its own choices
 pub is_outcome : (p : Program) (keyboard : List ℕ) (limit : ℕ) (n : Past) (o : Outcome) (g : IsGathered p keyboard limit n) → IsReplayOf n g.net o → IsOutcome p keyboard o.choices.items o
 is_outcome p keyboard limit n o g r = record {
-      net = g.net;
-      replays = subst (λ cs. Replays p keyboard cs g.net) (sym r.choices) g.replays;
-      trace = r.trace;
-      used = record { rest = []; is = sym (append-nil o.choices.items) };
-      ending = ending_by p keyboard limit n o g r;
-      whole = λ h. refl;
-    }
+  net = g.net;
+  replays = subst (λ cs. Replays p keyboard cs g.net) (sym r.choices) g.replays;
+  trace = r.trace;
+  used = record { rest = []; is = sym (append-nil o.choices.items) };
+  ending = ending_by p keyboard limit n o g r;
+  whole = λ h. refl;
+}

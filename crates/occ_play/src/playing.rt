@@ -77,9 +77,11 @@ pub fn play<W: Write>(
 ) -> Result<Played, PlayFault>
     requires room { failures_of out.old < 2 ^ 64 - 1 }
     ensures played { IfOk result (λ played. Wrote W.contents
-        (IsAnswer plain source.now keyboard.now (choices_of plan.now) trace played) out.old out.new) }
+        (IsAnswer plain source.now keyboard.now (choices_of plan.now) trace played)
+        out.old out.new) }
     ensures fault { IfErr result (AfterFault W.contents
-        (IsSomeAnswer plain source.now keyboard.now (choices_of plan.now) trace) (Refuses plain source.now) out.old out.new) }
+        (IsSomeAnswer plain source.now keyboard.now (choices_of plan.now) trace)
+        (Refuses plain source.now) out.old out.new) }
 {
     play_in(&Options::plain(), alloc, source, keyboard, plan, trace, out)
 }
@@ -100,9 +102,11 @@ pub fn play_in<W: Write>(
 ) -> Result<Played, PlayFault>
     requires room { failures_of out.old < 2 ^ 64 - 1 }
     ensures played { IfOk result (λ played. Wrote W.contents
-        (IsAnswer options.now source.now keyboard.now (choices_of plan.now) trace played) out.old out.new) }
+        (IsAnswer options.now source.now keyboard.now (choices_of plan.now) trace played)
+        out.old out.new) }
     ensures fault { IfErr result (AfterFault W.contents
-        (IsSomeAnswer options.now source.now keyboard.now (choices_of plan.now) trace) (Refuses options.now source.now) out.old out.new) }
+        (IsSomeAnswer options.now source.now keyboard.now (choices_of plan.now) trace)
+        (Refuses options.now source.now) out.old out.new) }
 {
     let (played, bytes) = answered(options, alloc, source, keyboard, plan, trace)?;
     match write_answer(bytes.as_slice(), out) {

@@ -42,11 +42,13 @@ pub fn play_watched<J: Naming, R: Threads + Wait + Sync, G: Gate + Sync, W: Writ
     requires room { failures_of out.old < 2 ^ 64 - 1 }
     requires going { publisher.closed ≡ false }
     ensures played { IfOk result (λ r. Wrote W.contents
-        (IsWatched options.now source.now keyboard.now limit trace (publisher.published ++ publisher.pending) r.1 r.0) out.old out.new) }
+        (IsWatched options.now source.now keyboard.now limit trace
+        (publisher.published ++ publisher.pending) r.1 r.0) out.old out.new) }
     ensures note { IfOk result (λ r. r.2 ≡ edition r.1.published true) }
     ensures crew { IfOk result (λ _. IsCrew workers) }
     ensures fault { IfErr result (AfterFault W.contents
-        (IsSomeCrewsAnswer workers options.now source.now keyboard.now limit trace) (WorkersRefuse workers options.now source.now) out.old out.new) }
+        (IsSomeCrewsAnswer workers options.now source.now keyboard.now limit trace)
+        (WorkersRefuse workers options.now source.now) out.old out.new) }
 {
     let code = match code_of(options, alloc, source) {
         Ok(code) => code,
@@ -84,8 +86,12 @@ fn written<W: Write>(
 ) -> Result<Played, PlayFault>
     requires room { failures_of out.old < 2 ^ 64 - 1 }
     requires ran { Ran options.now source.now keyboard.now outcome.choices.items code.now outcome }
-    ensures played { IfOk result (λ played. Wrote W.contents (TellsOutcome options.now source.now keyboard.now trace code.now outcome played) out.old out.new) }
-    ensures fault { IfErr result (AfterFault W.contents (TellsSome options.now source.now keyboard.now trace code.now outcome) (Refuses options.now source.now) out.old out.new) }
+    ensures played { IfOk result (λ played.
+        Wrote W.contents (TellsOutcome options.now source.now keyboard.now trace code.now outcome
+        played) out.old out.new) }
+    ensures fault { IfErr result (AfterFault W.contents
+        (TellsSome options.now source.now keyboard.now trace code.now outcome)
+        (Refuses options.now source.now) out.old out.new) }
 {
     let (played, bytes) = told(options, alloc, source, keyboard, code, outcome, trace)?;
     match write_answer(bytes.as_slice(), out) {

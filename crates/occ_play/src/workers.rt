@@ -37,7 +37,8 @@ pub fn play_workers<R: Threads + Wait + Sync, G: Gate + Sync, W: Write>(
         (IsAnswerWithin plain source.now keyboard.now limit trace played) out.old out.new) }
     ensures crew { IfOk result (λ _. IsCrew workers) }
     ensures fault { IfErr result (AfterFault W.contents
-        (IsSomeCrewsAnswer workers plain source.now keyboard.now limit trace) (WorkersRefuse workers plain source.now) out.old out.new) }
+        (IsSomeCrewsAnswer workers plain source.now keyboard.now limit trace)
+        (WorkersRefuse workers plain source.now) out.old out.new) }
 {
     let options = Options::plain();
     play_workers_in(
@@ -67,7 +68,8 @@ pub fn play_workers_in<R: Threads + Wait + Sync, G: Gate + Sync, W: Write>(
         (IsAnswerWithin options.now source.now keyboard.now limit trace played) out.old out.new) }
     ensures crew { IfOk result (λ _. IsCrew workers) }
     ensures fault { IfErr result (AfterFault W.contents
-        (IsSomeCrewsAnswer workers options.now source.now keyboard.now limit trace) (WorkersRefuse workers options.now source.now) out.old out.new) }
+        (IsSomeCrewsAnswer workers options.now source.now keyboard.now limit trace)
+        (WorkersRefuse workers options.now source.now) out.old out.new) }
 {
     let (played, bytes) = gathered(
         rt, options, alloc, source, keyboard, workers, limit, trace, gate,
@@ -90,7 +92,8 @@ fn gathered<R: Threads + Wait + Sync, G: Gate + Sync>(
     trace: bool,
     gate: &G,
 ) -> Result<(Played, Vec<u8>), PlayFault>
-    ensures answer { IfOk result (λ r. IsAnswerWithin options.now source.now keyboard.now limit trace r.0 r.1.items) }
+    ensures answer { IfOk result (λ r.
+        IsAnswerWithin options.now source.now keyboard.now limit trace r.0 r.1.items) }
     ensures crew { IfOk result (λ _. IsCrew workers) }
     ensures refused { IfErr result (WorkersRefuse workers options.now source.now) }
 {

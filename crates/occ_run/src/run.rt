@@ -38,7 +38,8 @@ pub fn run_workers<R: Threads + Wait + Sync, G: Gate + Sync>(
     gate: &G,
 ) -> Result<Outcome, RunFault>
     ensures run { IfOk result (IsRunOf code.now keyboard.now limit) }
-    ensures workers { IsErrOf result RunFault.BadWorkers ↔ ((workers ≡ 0) ⊎ (most_workers < workers)) }
+    ensures workers { IsErrOf result RunFault.BadWorkers
+        ↔ ((workers ≡ 0) ⊎ (most_workers < workers)) }
     ensures own { IfErr result (λ fault. fault ≢ RunFault.Foreign) }
 {
     let network = run_network(rt, alloc, code, keyboard, workers, limit, gate)?;
@@ -60,7 +61,8 @@ pub fn run_network<R: Threads + Wait + Sync, G: Gate + Sync>(
     gate: &G,
 ) -> Result<Network, RunFault>
     ensures run { IfOk result (IsGathered code.now keyboard.now limit) }
-    ensures workers { IsErrOf result RunFault.BadWorkers ↔ ((workers ≡ 0) ⊎ (most_workers < workers)) }
+    ensures workers { IsErrOf result RunFault.BadWorkers
+        ↔ ((workers ≡ 0) ⊎ (most_workers < workers)) }
     ensures own { IfErr result (λ fault. fault ≢ RunFault.Foreign) }
 {
     if !is_crew(workers) {
@@ -94,7 +96,8 @@ pub(crate) fn beginning(
 
 /// The outcome of a network that workers gathered.
 pub(crate) fn outcome_of(alloc: Global, network: Network) -> Result<Outcome, RunFault>
-    ensures run { (p : Program) (keyboard : List ℕ) (limit : ℕ) → IsGathered p keyboard limit network → IfOk result (IsRunOf p keyboard limit) }
+    ensures run { (p : Program) (keyboard : List ℕ) (limit : ℕ)
+        → IsGathered p keyboard limit network → IfOk result (IsRunOf p keyboard limit) }
     ensures network { IfOk result (λ o. o.network ≡ network) }
     ensures refused { IfErr result (λ fault. fault ≡ RunFault.Memory) }
 {
@@ -106,8 +109,10 @@ pub(crate) fn outcome_of(alloc: Global, network: Network) -> Result<Outcome, Run
 
 /// The network that the workers of a run which is over gathered.
 pub(crate) fn gathered(progress: Progress) -> Result<Network, RunFault>
-    requires { IsConcluded progress.network.program progress.network.keyboard progress.limit progress }
-    ensures run { IfOk result (IsGathered progress.network.program progress.network.keyboard progress.limit) }
+    requires { IsConcluded progress.network.program progress.network.keyboard progress.limit
+        progress }
+    ensures run { IfOk result (IsGathered progress.network.program progress.network.keyboard
+        progress.limit) }
     ensures unstopped { IfOk result (λ _. progress.stop ≡ None) }
     ensures fault { IfErr result (IsNoRun progress) }
 {

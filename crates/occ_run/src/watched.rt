@@ -56,12 +56,15 @@ pub fn run_watched<J: Naming, R: Threads + Wait + Sync, G: Gate + Sync>(
     requires going { publisher.closed ≡ false }
     ensures run { IfOk result (λ r. IsRunOf code.now keyboard.now limit r.0) }
     ensures shown { IfOk result (λ r. (net : Net) → IsState r.0.network net
-        → r.1 ≡ publishing ((publisher.published ++ publisher.pending) ++ entries (names_of code.now.channels) 1 net.trace) [] true) }
+        → r.1 ≡ publishing ((publisher.published ++ publisher.pending)
+        ++ entries (names_of code.now.channels) 1 net.trace) [] true) }
     ensures note { IfOk result (λ r. r.2 ≡ edition r.1.published true) }
-    ensures workers { IsErrOf result RunFault.BadWorkers ↔ ((workers ≡ 0) ⊎ (most_workers < workers)) }
+    ensures workers { IsErrOf result RunFault.BadWorkers
+        ↔ ((workers ≡ 0) ⊎ (most_workers < workers)) }
 {
-    let (network, publisher, note) =
-        watch_network(rt, alloc, code, keyboard, workers, limit, gate, publisher)?;
+    let (network, publisher, note) = watch_network(
+        rt, alloc, code, keyboard, workers, limit, gate, publisher,
+    )?;
     match outcome_of(alloc, network) {
         Ok(outcome) => Ok((outcome, publisher, note)),
         Err(fault) => {
@@ -89,9 +92,11 @@ pub fn watch_network<J: Naming, R: Threads + Wait + Sync, G: Gate + Sync>(
     requires going { publisher.closed ≡ false }
     ensures run { IfOk result (λ r. IsGathered code.now keyboard.now limit r.0) }
     ensures shown { IfOk result (λ r. (net : Net) → IsState r.0 net
-        → r.1 ≡ publishing ((publisher.published ++ publisher.pending) ++ entries (names_of code.now.channels) 1 net.trace) [] true) }
+        → r.1 ≡ publishing ((publisher.published ++ publisher.pending)
+        ++ entries (names_of code.now.channels) 1 net.trace) [] true) }
     ensures note { IfOk result (λ r. r.2 ≡ edition r.1.published true) }
-    ensures workers { IsErrOf result RunFault.BadWorkers ↔ ((workers ≡ 0) ⊎ (most_workers < workers)) }
+    ensures workers { IsErrOf result RunFault.BadWorkers
+        ↔ ((workers ≡ 0) ⊎ (most_workers < workers)) }
 {
     if !is_crew(workers) {
         publisher.end(rt);
@@ -119,7 +124,8 @@ fn watched<J: Naming, R: Threads + Wait + Sync, G: Gate + Sync>(
     requires going { (publisher.pending ≡ []) × (publisher.closed ≡ false) }
     ensures run { IfOk result (λ r. IsGathered code.now keyboard.now limit r.0) }
     ensures shown { IfOk result (λ r. (net : Net) → IsState r.0 net
-        → r.1 ≡ publishing (publisher.published ++ entries (names_of code.now.channels) 1 net.trace) [] true) }
+        → r.1 ≡ publishing (publisher.published
+        ++ entries (names_of code.now.channels) 1 net.trace) [] true) }
     ensures note { IfOk result (λ r. r.2 ≡ edition r.1.published true) }
     ensures fault { IfErr result (λ fault. fault ≢ RunFault.BadWorkers) }
 {
@@ -156,7 +162,8 @@ fn lent<J: Naming, R: Threads + Wait + Sync, G: Gate + Sync>(
     requires going { (publisher.old.pending ≡ []) × (publisher.old.closed ≡ false) }
     ensures run { IfOk result (λ r. IsGathered code.now keyboard.now limit r.0) }
     ensures shown { IfOk result (λ r. (net : Net) → IsState r.0 net
-        → publisher.new ≡ publishing (publisher.old.published ++ entries (names_of code.now.channels) 1 net.trace) [] true) }
+        → publisher.new ≡ publishing (publisher.old.published
+        ++ entries (names_of code.now.channels) 1 net.trace) [] true) }
     ensures note { IfOk result (λ r. r.1 ≡ edition publisher.new.published true) }
     ensures fault { IfErr result (λ fault. fault ≢ RunFault.BadWorkers) }
 {
@@ -192,7 +199,8 @@ fn told_behind<'a, J: Naming>(
     held: usize,
 ) -> Option<&'a [Shown]>
     requires { note.now.last ≡ true }
-    ensures { IfSome result (λ told. (publisher.now ≡ publishing note.now.entries [] true) × (told.now ≡ drop held note.now.entries)) }
+    ensures { IfSome result (λ told. (publisher.now ≡ publishing note.now.entries [] true)
+        × (told.now ≡ drop held note.now.entries)) }
 {
     if !publisher.is_closed_by(note) {
         return None;
@@ -218,7 +226,8 @@ fn tell_crew<J: Naming, U: OneRun + Send + Sync, R: Threads + Wait + Sync, G: Ga
         rt,
         |scope| -> Result<Note<J>, AllocError>
             requires { (publisher.now.pending ≡ []) × (publisher.now.closed ≡ false) }
-            ensures { IfOk result (λ n. IsPrefix publisher.entry.now.published n.entries × (n.last ≡ true)) }
+            ensures { IfOk result (λ n. IsPrefix publisher.entry.now.published n.entries
+                × (n.last ≡ true)) }
         {
             for _ in 0..workers {
                 if scope.spawn(move || work(rt, alloc, shared, gate)).is_err() {
@@ -250,7 +259,8 @@ fn run_told<J: Naming, U: OneRun + Send + Sync, R: Threads + Wait + Sync, G: Gat
     requires opening_keeper { (keeper.table_id ≡ U.tokens) × (cell_view keeper ≡ opening) }
     requires going { (publisher.old.pending ≡ []) × (publisher.old.closed ≡ false) }
     ensures concluded { IsConcluded U.program U.keyboard U.limit result.0 }
-    ensures noted { IfOk result.1 (λ n. IsPrefix publisher.old.published n.entries × (n.last ≡ true)) }
+    ensures noted { IfOk result.1 (λ n. IsPrefix publisher.old.published n.entries
+        × (n.last ≡ true)) }
 {
     let shared: Shared<U> = Shared::new(progress, tokens, keeper);
     let note = tell_crew(rt, alloc, &shared, workers, gate, channels, publisher);
@@ -332,7 +342,8 @@ fn append_news<J: Naming>(
     publisher: &mut Publisher<J>,
 ) -> Result<u64, AllocError>
     requires { publisher.old.closed ≡ false }
-    ensures { IfOk result (λ _. (publisher.new.published ≡ publisher.old.published) × (publisher.new.closed ≡ false)) }
+    ensures { IfOk result (λ _. (publisher.new.published ≡ publisher.old.published)
+        × (publisher.new.closed ≡ false)) }
 {
     let mut number = number;
     for communication in news.entries() {
@@ -353,7 +364,8 @@ fn append<J: Naming>(shown: Shown, publisher: &mut Publisher<J>) -> Result<(), A
 /// Publishes what is pending.
 fn publish<J: Naming, R: Wait>(rt: &R, publisher: &mut Publisher<J>) -> Result<(), AllocError>
     requires { publisher.old.closed ≡ false }
-    ensures { IfOk result (λ _. (publisher.new.pending ≡ []) × (publisher.new.closed ≡ false) × IsPrefix publisher.old.published publisher.new.published) }
+    ensures { IfOk result (λ _. (publisher.new.pending ≡ []) × (publisher.new.closed ≡ false)
+        × IsPrefix publisher.old.published publisher.new.published) }
 {
     replace_with(publisher, rt, |publisher, rt| publisher.publish(rt)).map_err(|_| AllocError)
 }
@@ -361,7 +373,8 @@ fn publish<J: Naming, R: Wait>(rt: &R, publisher: &mut Publisher<J>) -> Result<(
 /// Publishes what is pending for the last time.
 fn shut<J: Naming, R: Wait>(rt: &R, publisher: &mut Publisher<J>) -> Result<(), AllocError>
     requires { publisher.old.closed ≡ false }
-    ensures { IfOk result (λ _. (publisher.new.closed ≡ true) × IsPrefix publisher.old.published publisher.new.published) }
+    ensures { IfOk result (λ _. (publisher.new.closed ≡ true)
+        × IsPrefix publisher.old.published publisher.new.published) }
 {
     replace_with(publisher, rt, |publisher, rt| publisher.close(rt)).map_err(|_| AllocError)
 }
