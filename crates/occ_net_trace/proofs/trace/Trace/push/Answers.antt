@@ -3,7 +3,7 @@ use Rattle.occ_term.specs.declared.message.Part.{Part}
 use Rattle.occ_net_trace.specs.Flat.{communication_head}
 use Rattle.occ_net_trace.specs.Kept.{kept_in}
 use Rattle.occ_net_trace.specs.Room.{Appends}
-use Rattle.occ_net_trace.specs.Views.{communication}
+use Rattle.occ_term.specs.System.{communication}
 use Rattle.occ_net_trace.proofs.Reading.{kept_as, kept_here, kept_more, read_kept}
 use Rattle.occ_net_trace.proofs.trace.Trace.push.Goals as goal
 
