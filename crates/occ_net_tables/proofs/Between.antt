@@ -2,12 +2,10 @@
 use Rattle.std.proofs.Common.{◌≡◌, ◌∙◌, refl, sym, ap, subst, Bool, true, false, IsTrue, ℕ, zero, suc, ◌+◌, ◌<◌, ◌⊎◌, inl, inr, List, [], ◌∷◌, ◌++◌, Option, Some, None, length, map, drop, arith, append-nil}
 use Rattle.std.specs.Prelude.{slice_get, slice_set, nat_eq, if◌then◌else◌, ◌||◌}
 use Rattle.std.proofs.lemmas.Bool.{eqb-true, eq-eqb}
-use Rattle.std.proofs.lemmas.List.{map-append}
 use mathlib.Core.Bool.{true≢false}
 use Rattle.occ_term.specs.declared.fault.Fault.{Fault}
 use Rattle.occ_term.specs.declared.message.Message.{Message}
-use Rattle.occ_term.specs.System.{has_byte}
-use Rattle.occ_term.specs.System as S
+use Rattle.occ_term.specs.System.{communication, has_byte}
 use Rattle.occ_machine.specs.SameStop.{ready_with}
 use Rattle.occ_machine.specs.Compiled.{Program}
 use Rattle.occ_machine.specs.declared.task.Arm.{Arm}
@@ -19,7 +17,7 @@ use Rattle.occ_net_replay.specs.Waiting.{channels_at, listens_on}
 use Rattle.occ_net_replay.proofs.Tables.{OffersOn, offers_found, offers_there, or_else, or_first, or_second, set_same, set_other, set_back, task_once}
 use Rattle.occ_net_replay.specs.Moments.{NoneReady, is_read}
 use Rattle.occ_term.specs.declared.communication.End.{End}
-use Rattle.occ_term.specs.declared.communication.End.TheVariants.{Process, Keyboard, Screen, Error}
+use Rattle.occ_term.specs.declared.communication.End.TheVariants.{Process as OfProcess, Keyboard, Screen, Error}
 use Rattle.occ_term.specs.declared.communication.Communication.{Communication}
 use Rattle.occ_net_tables.specs.declared.tables.Tables.{Tables}
 use Rattle.occ_net_tables.specs.Ready.{put_in}
@@ -163,26 +161,26 @@ module _ (p : Program) (kb : List ℕ) (old : Tables) (number place : ℕ) (afte
   as_ready = set_twice net.tasks number (Some after) (Some (made_ready after)) ∙ sym mid.tasks
 
   pub traced_by : (new : Tables) (x : Communication) → new.trace ≡ old.trace ++ x ∷ [] → net.trace ++ x ∷ [] ≡ new.trace
-  traced_by new x e = ap (λ l. l ++ x ∷ []) mid.trace ∙ sym (map-append old.trace (x ∷ [])) ∙ (sym e)
+  traced_by new x e = ap (λ l. l ++ x ∷ []) mid.trace ∙ sym e
 
   pub bytes_same : (new : Tables) → new.used ≡ old.used → net.keyboard ≡ drop new.used kb
   bytes_same new e = mid.bytes ∙ ap (λ n. drop n kb) (sym e)
 
   -- ---- the screen or the error channel takes what is offered
 
-  read_settles : (pick c : ℕ) (m : Message) (r : End) → after.wait ≡ W.Offers c m → Reads c r → Settled p.bodies number pick now (traced (record (with_task now number (made_ready after)) { output = one_more net.output c m; input = one_more net.input c m }) (S.communication c (S.OfProcess number) (r) m))
+  read_settles : (pick c : ℕ) (m : Message) (r : End) → after.wait ≡ W.Offers c m → Reads c r → Settled p.bodies number pick now (traced (record (with_task now number (made_ready after)) { output = one_more net.output c m; input = one_more net.input c m }) (communication c (OfProcess number) (r) m))
   read_settles pick c m r w screen_reads = settles (meets (inl refl) (joined (task_gives (mine p.bodies pick number net mid.before after mid.has_task) w) (screen_gets refl)))
   read_settles pick c m r w error_reads = settles (meets (inl refl) (joined (task_gives (mine p.bodies pick number net mid.before after mid.has_task) w) (error_gets refl)))
 
-  pub was_read : (new : Tables) (pick c : ℕ) (m : Message) (r : End) → after.wait ≡ W.Offers c m → outer_taker c ≡ Some r → new.tasks.items ≡ old.tasks.items → new.used ≡ old.used → new.trace ≡ old.trace ++ communicated c (Process number) r m ∷ [] → Sound new net.noted → Sized p new → SettlesTo p kb pick number after net new
+  pub was_read : (new : Tables) (pick c : ℕ) (m : Message) (r : End) → after.wait ≡ W.Offers c m → outer_taker c ≡ Some r → new.tasks.items ≡ old.tasks.items → new.used ≡ old.used → new.trace ≡ old.trace ++ communicated c (OfProcess number) r m ∷ [] → Sound new net.noted → Sized p new → SettlesTo p kb pick number after net new
   was_read new pick c m r w e tasks used trace sound sized =
       record {
-        next = traced (record (with_task now number (made_ready after)) { output = one_more net.output c m; input = one_more net.input c m }) (S.communication c (S.OfProcess number) (r) m);
+        next = traced (record (with_task now number (made_ready after)) { output = one_more net.output c m; input = one_more net.input c m }) (communication c (OfProcess number) (r) m);
         settles = read_settles pick c m r w (read_by c r e);
         holds = record {
           tasks = as_ready ∙ sym tasks;
           bytes = bytes_same new used;
-          trace = traced_by new (communicated c (Process number) r m) trace;
+          trace = traced_by new (communicated c (OfProcess number) r m) trace;
           sound = kept_quiet new (W.Offers c m) w refl sound;
           sized = sized;
         };
@@ -257,12 +255,12 @@ module _ (p : Program) (kb : List ℕ) (old : Tables) (number place : ℕ) (afte
       let s = wake_listener old.tasks.items old.ready.items old.offering.items old.awaiting.items old.parents.items old.unfinished.items old.fault mid.sound taker x.task x.there x.task.wait a.place a.indices (Some m) x.listener refl in
       let given : Net = record (with_task now number (made_ready after)) { output = one_more net.output c m } in
       record {
-        next = traced (record (with_task given taker (took_arm x.task a (Some m))) { input = one_more net.input c m }) (S.communication c (S.OfProcess number) (S.OfProcess taker) m);
+        next = traced (record (with_task given taker (took_arm x.task a (Some m))) { input = one_more net.input c m }) (communication c (OfProcess number) (OfProcess taker) m);
         settles = settles (meets (inl refl) (joined (task_gives (mine p.bodies pick number net mid.before after mid.has_task) w) (gets_by pick c (standing now) m given taker x.task x.task.wait a there refl took)));
         holds = record {
           tasks = ap (λ l. slice_set l taker (Some (took_arm x.task a (Some m)))) as_ready ∙ sym g.tasks;
           bytes = bytes_same new g.used;
-          trace = traced_by new (communicated c (Process number) (Process taker) m) g.trace;
+          trace = traced_by new (communicated c (OfProcess number) (OfProcess taker) m) g.trace;
           sound = kept_quiet new (W.Offers c m) w refl (true_as g.tasks g.ready (ap (λ z. z.items) g.offering) g.awaiting (ap (λ z. z.items) g.parents) (ap (λ z. z.items) g.unfinished) g.fault s);
           sized = record {
             tasks_are = ap length g.tasks ∙ set_length old.tasks.items taker (Some (took_arm x.task a (Some m))) ∙ mid.sized.tasks_are;
@@ -319,12 +317,12 @@ module _ (p : Program) (kb : List ℕ) (old : Tables) (number place : ℕ) (afte
       let s = takes old.tasks.items old.ready.items old.offering.items old.awaiting.items old.parents.items old.unfinished.items old.fault mid.sound number (made_ready after) there_old refl a.place a.indices (Some m) in
       let given : Net = record now { keyboard = rest; output = one_more net.output 0 m } in
       record {
-        next = traced (record (with_task given number (took_arm after a (Some m))) { input = one_more net.input 0 m }) (S.communication 0 S.Keyboard (S.OfProcess number) m);
+        next = traced (record (with_task given number (took_arm after a (Some m))) { input = one_more net.input 0 m }) (communication 0 Keyboard (OfProcess number) m);
         settles = settles (meets (inr refl) (joined (keyboard_gives (mid.bytes ∙ x.1) refl refl) (gets_by pick 0 (standing now) m given number after after.wait a (mine p.bodies pick number net mid.before after mid.has_task) refl (subst (λ z. TakesBy pick (standing now) z after.wait a) x.0 t))));
         holds = record {
           tasks = as_took a (Some m) ∙ sym tasks;
           bytes = ap (λ n. drop n kb) (sym g.used);
-          trace = traced_by new (communicated 0 Keyboard (Process number) m) g.trace;
+          trace = traced_by new (communicated 0 Keyboard (OfProcess number) m) g.trace;
           sound = kept_quiet new after.wait refl (takes_quietly t) (true_as tasks (ap (λ z. z.items) g.ready) (ap (λ z. z.items) g.offering) (ap (λ z. z.items) g.awaiting) (ap (λ z. z.items) g.parents) (ap (λ z. z.items) g.unfinished) g.fault s);
           sized = record {
             tasks_are = ap length tasks ∙ set_length old.tasks.items number (Some (took_arm (made_ready after) a (Some m))) ∙ mid.sized.tasks_are;
@@ -362,7 +360,7 @@ module _ (p : Program) (kb : List ℕ) (old : Tables) (number place : ℕ) (afte
       let got : HasTask (slice_set now.tasks giver (Some (made_ready o.task))) number after = set_other now.tasks giver number (Some (made_ready o.task)) (λ q. x.apart (sym q)) ∙ mine p.bodies pick number net mid.before after mid.has_task in
       let after_giving : Net = record (with_task now giver (made_ready o.task)) { output = one_more net.output c m } in
       record {
-        next = traced (record (with_task after_giving number (took_arm after a (Some m))) { input = one_more net.input c m }) (S.communication c (S.OfProcess giver) (S.OfProcess number) m);
+        next = traced (record (with_task after_giving number (took_arm after a (Some m))) { input = one_more net.input c m }) (communication c (OfProcess giver) (OfProcess number) m);
         settles = settles (meets (inr refl) (joined (task_gives given o.waits) (gets_by pick c (standing now) m after_giving number after after.wait a got refl by)));
         holds = record {
           tasks =
@@ -370,7 +368,7 @@ module _ (p : Program) (kb : List ℕ) (old : Tables) (number place : ℕ) (afte
               ∙ ap (λ l. slice_set l giver (Some (made_ready o.task))) (as_took a (Some m))
               ∙ set_swap old.tasks.items number giver (Some (took_arm after a (Some m))) (Some (made_ready o.task)) (λ q. x.apart (sym q)) ∙ sym tasks;
           bytes = bytes_same new g.used;
-          trace = traced_by new (communicated c (Process giver) (Process number) m) g.trace;
+          trace = traced_by new (communicated c (OfProcess giver) (OfProcess number) m) g.trace;
           sound = kept_quiet new after.wait refl (takes_quietly by) (true_as tasks g.ready g.offering (ap (λ z. z.items) g.awaiting) (ap (λ z. z.items) g.parents) (ap (λ z. z.items) g.unfinished) g.fault s');
           sized = record {
             tasks_are = ap length tasks ∙ set_length (slice_set old.tasks.items giver (Some (made_ready o.task))) number (Some (took_arm (made_ready after) a (Some m))) ∙ set_length old.tasks.items giver (Some (made_ready o.task)) ∙ mid.sized.tasks_are;

@@ -8,7 +8,7 @@ use Rattle.occ_machine.specs.Compiled.{Program}
 use Rattle.occ_net_replay.specs.Replay.{Net, ending_of}
 use Rattle.occ_net_tables.specs.declared.tables.Tables.{Tables}
 use Rattle.occ_net_tables.specs.Holding.{Holds}
-use Rattle.occ_net_replay.specs.declared.ending.Ending.{Ending}
+use Rattle.occ_term.specs.declared.ending.Ending.{Ending}
 
 -- the fault that ends a run
 abbrev pub ends_by : Errors → Option Fault → Option Fault

@@ -2,7 +2,7 @@
 use Rattle.std.proofs.Common.{◌≡◌, ◌∙◌, ◌++◌, ◌+◌, ◌-◌, ◌%◌, ◌<◌, ◌≤◌, ◌^◌, ℕ, zero, suc, Bool, List, [], ◌∷◌, Option, None, Some, false, drop, length, map, refl, sym, ap, subst, arith, append_assoc, append-nil, length-append}
 use Rattle.std.specs.Prelude.{slice_get}
 use Rattle.std.specs.Option.{is_some}
-use Rattle.std.proofs.lemmas.List.{length-drop, length-map}
+use Rattle.std.proofs.lemmas.List.{length-drop}
 use Rattle.std.proofs.lemmas.Nat.{mod_below}
 use Rattle.occ_machine.specs.Compiled.{Program}
 use Rattle.occ_net_replay.specs.declared.choice.Choice.{Choice}
@@ -115,23 +115,18 @@ news_within old new fresh made is many =
     let size : length fresh ≡ length new - length old = ap length is ∙ length-drop (length old) new in
     omega (arith, size, many)
 
-map_back : {A B : Type 0} (f : A → B) (k : ℕ) (xs : List A) → map f (drop k xs) ≡ drop k (map f xs)
-map_back f zero xs = refl
-map_back f (suc k) [] = refl
-map_back f (suc k) (x ∷ xs) = map_back f k xs
-
 pub news_text : (names : Names) (p : Program) (c : Choice) (a b : Net) (old new fresh : List Communication) (made : ℕ) → OneTurn p c a b → a.trace ≡ old → b.trace ≡ new
-    → fresh ≡ drop (length old) new → made ≡ length new → entries names (made - length fresh + 1) (fresh) ≡ news names a b
+    → fresh ≡ drop (length old) new → made ≡ length new → entries names (made - length fresh + 1) fresh ≡ news names a b
 news_text names p c a b old new fresh made turn was now is many =
     let grown = turn_grows p c a b turn in
     let front = front_of old new grown.more (sym now ∙ grown.is ∙ ap (λ xs. xs ++ grown.more) was) in
     let whole : length new ≡ length old + length (drop (length old) new) = ap length front ∙ length-append old (drop (length old) new) in
     let size : length fresh ≡ length (drop (length old) new) = ap length is in
-    let before : length a.trace ≡ length old = ap length was ∙ length-map old in
+    let before : length a.trace ≡ length old = ap length was in
     let number : made - length fresh ≡ length a.trace = omega (arith, whole, size, before, many) in
     let after : fresh ≡ drop (length a.trace) b.trace =
-    is ∙ map_back (length old) new ∙ ap (λ k. drop k (new)) (sym before) ∙ ap (drop (length a.trace)) (sym now) in
-    ap (λ k. entries names (k + 1) (fresh)) number ∙ ap (entries names (length a.trace + 1)) after
+    is ∙ ap (λ k. drop k new) (sym before) ∙ ap (drop (length a.trace)) (sym now) in
+    ap (λ k. entries names (k + 1) fresh) number ∙ ap (entries names (length a.trace + 1)) after
 
 pub three_more : (o a b c x y z : List ℕ) → x ≡ o ++ a → y ≡ x ++ b → z ≡ y ++ c → z ≡ o ++ ((a ++ b) ++ c)
 three_more o a b c x y z e f g = g ∙ ap (λ l. l ++ c) (f ∙ ap (λ l. l ++ b) e ∙ append_assoc o a b) ∙ append_assoc o (a ++ b) c
