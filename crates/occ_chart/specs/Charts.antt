@@ -171,7 +171,7 @@ pub record IsChart (es : List Entry) (part : Part) (ending : Ending) (names : Li
 
 -- the head of one column
 abbrev pub head_of_end : {A : Type 0} → List (Vec ℕ A) → (x y : ℕ) → End → Element
-head_of_end names x y end = label Plain x y 24 (end_name (texts_of names) (end)) (end_words (end_name (texts_of names) (end)) (end))
+head_of_end names x y end = label Plain x y 24 (end_name (texts_of names) end) (end_words (end_name (texts_of names) end) end)
 
 -- a chart of what code has
 abbrev pub IsChartOf : {A : Type 0} → List Channel → List Communication → Part → Ending → List (Vec ℕ A) → List Footing → List ℕ → Vec ℕ A → Type 0

@@ -121,7 +121,7 @@ fn write_arrow(
     requires few { length columns.now ≤ 2 ^ 40 }
     requires near { number ≤ 2 ^ 40 }
     ensures { OnOk result
-        (AddsElements out.old out.new (arrow (columns.now) number shown.now)) }
+        (AddsElements out.old out.new (arrow columns.now number shown.now)) }
 {
     let from = place_of(columns, shown.sender());
     let to = place_of(columns, shown.receiver());
@@ -138,7 +138,7 @@ pub(crate) fn write_arrows(
     requires few { length columns.now ≤ 2 ^ 40 }
     requires near { length shown.now ≤ 2 ^ 40 }
     ensures { OnOk result
-        (AddsElements out.old out.new (arrows (columns.now) 0 shown.now)) }
+        (AddsElements out.old out.new (arrows columns.now 0 shown.now)) }
 {
     let mut number = 0;
     let mut rest = shown;

@@ -48,7 +48,7 @@ fn above(
     requires few { length columns.now ≤ 2 ^ 40 }
     requires near { length shown.now ≤ 990 }
     ensures { IfOk result
-        (HasBytes (above (texts_of names.now) (columns.now) shown.now before is_cut)) }
+        (HasBytes (above (texts_of names.now) columns.now shown.now before is_cut)) }
 {
     let bottom = row(shown.len());
     let width = 180 * columns.len().max(1) as u64;
@@ -128,7 +128,7 @@ fn write_below(
     requires few { length columns.now ≤ 2 ^ 40 }
     requires near { count ≤ 990 }
     ensures { OnOk result (AddsText out.old out.new
-        (foot (texts_of names.now) (columns.now) count after is_cut stubs.now circle.now
+        (foot (texts_of names.now) columns.now count after is_cut stubs.now circle.now
         ending)) }
 {
     let bottom = row(count);

@@ -12,7 +12,7 @@ const MOST_COLUMNS: usize = 1 << 40;
 
 /// First the keyboard, then the processes, then the screen, then the error channel.
 fn group(end: End) -> u32
-    ensures { result ≡ group (end) }
+    ensures { result ≡ group end }
 {
     match end {
         End::Keyboard => 0,
@@ -24,7 +24,7 @@ fn group(end: End) -> u32
 
 /// The number of a process.
 fn number(end: End) -> u32
-    ensures { result ≡ number (end) }
+    ensures { result ≡ number end }
 {
     match end {
         End::Process(number) => number,
@@ -48,7 +48,7 @@ fn is_before(one: End, other: End) -> bool
 
 /// The column of an end; their number where it has none.
 pub(crate) fn place_of(columns: &[End], end: End) -> usize
-    ensures place { result ≡ column_of (end) (columns.now) }
+    ensures place { result ≡ column_of end columns.now }
     ensures within { result ≤ length columns.now }
 {
     for i in 0..columns.len() {
@@ -61,7 +61,7 @@ pub(crate) fn place_of(columns: &[End], end: End) -> usize
 
 /// Before how many an end does not stand.
 fn place_for(columns: &[End], end: End) -> usize
-    ensures place { result ≡ place_for (end) (columns.now) }
+    ensures place { result ≡ place_for end columns.now }
     ensures within { result ≤ length columns.now }
 {
     for i in 0..columns.len() {
@@ -74,7 +74,7 @@ fn place_for(columns: &[End], end: End) -> usize
 
 /// Whether an end stands at this place.
 fn is_at(columns: &[End], place: usize, end: End) -> bool
-    ensures { result ≡ is_column (end) (columns.now) place }
+    ensures { result ≡ is_column end columns.now place }
 {
     match columns.get(place) {
         Some(found) => is_end(*found, end),
@@ -84,7 +84,7 @@ fn is_at(columns: &[End], place: usize, end: End) -> bool
 
 /// Adds an end that was not among them, in its place.
 fn add(columns: &mut Vec<End>, end: End) -> Result<(), AllocError>
-    ensures added { OnOk result (AddsEnd columns.old columns.new (end)) }
+    ensures added { OnOk result (AddsEnd columns.old columns.new end) }
     ensures few { StayFew result columns.old columns.new }
 {
     let place = place_for(columns.as_slice(), end);

@@ -122,7 +122,7 @@ pub(crate) fn write_feet(
     requires few { length columns.now ≤ 2 ^ 40 }
     requires bottom { bottom ≤ 2 ^ 40 }
     ensures { OnOk result
-        (AddsElements out.old out.new (drawn_feet (columns.now) bottom stubs.now)) }
+        (AddsElements out.old out.new (drawn_feet columns.now bottom stubs.now)) }
 {
     let mut rest = stubs;
     while let Some((first, others)) = rest.split_first() {

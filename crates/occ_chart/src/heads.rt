@@ -26,7 +26,7 @@ pub(crate) fn column(place: usize) -> u64
 ///
 /// A refused growth.
 pub fn write_end(alloc: Global, out: &mut Vec<u8>, end: End) -> Result<(), AllocError>
-    ensures { OnOk result (AddsText out.old out.new (end_text (end))) }
+    ensures { OnOk result (AddsText out.old out.new (end_text end)) }
 {
     match end {
         End::Process(number) => {
@@ -41,7 +41,7 @@ pub fn write_end(alloc: Global, out: &mut Vec<u8>, end: End) -> Result<(), Alloc
 
 /// What stands behind the name of an end.
 fn end_words(alloc: Global, name: &[u8], end: End) -> Result<Vec<u8>, AllocError>
-    ensures { IfOk result (λ words. words.items ≡ end_words name.now (end)) }
+    ensures { IfOk result (λ words. words.items ≡ end_words name.now end) }
 {
     let mut words = Vec::new(alloc);
     if !name.is_empty() {
@@ -53,7 +53,7 @@ fn end_words(alloc: Global, name: &[u8], end: End) -> Result<Vec<u8>, AllocError
 
 /// The name that an end has.
 fn name_of(names: &[Vec<u8>], end: End) -> &[u8]
-    ensures { result.now ≡ end_name (texts_of names.now) (end) }
+    ensures { result.now ≡ end_name (texts_of names.now) end }
 {
     match end {
         End::Process(number) => match names.get(number as usize) {
@@ -91,7 +91,7 @@ pub(crate) fn write_heads(
 ) -> Result<(), AllocError>
     requires { length columns.now ≤ 2 ^ 40 }
     ensures { OnOk result
-        (AddsElements out.old out.new (heads (texts_of names.now) y 0 (columns.now))) }
+        (AddsElements out.old out.new (heads (texts_of names.now) y 0 columns.now)) }
 {
     for i in 0..columns.len() {
         write_head(alloc, out, names, column(i), y, columns[i])?;
@@ -111,7 +111,7 @@ pub(crate) fn write_heads_again(
     requires columns { length columns.now ≤ 2 ^ 40 }
     requires bottom { bottom ≤ 2 ^ 40 }
     ensures { OnOk result (AddsElements out.old out.new
-        (heads_again (texts_of names.now) bottom count (columns.now))) }
+        (heads_again (texts_of names.now) bottom count columns.now)) }
 {
     if count > 40 {
         return write_heads(alloc, out, names, bottom + 46, columns);
@@ -144,7 +144,7 @@ pub(crate) fn write_lifelines(
 ) -> Result<(), AllocError>
     requires { length columns.now ≤ 2 ^ 40 }
     ensures { OnOk result
-        (AddsElements out.old out.new (lifelines bottom 0 (columns.now))) }
+        (AddsElements out.old out.new (lifelines bottom 0 columns.now)) }
 {
     let mut place = 0;
     let mut rest = columns;

@@ -20,7 +20,7 @@ fn write_name(alloc: Global, out: &mut Vec<u8>, name: &Name) -> Result<(), Alloc
 
 /// The letters of an end: `p` and a process's number, or what else it is.
 fn end_letters(alloc: Global, end: End) -> Result<String, AllocError>
-    ensures { IfOk result (λ text. text.bytes.items ≡ end_text (end)) }
+    ensures { IfOk result (λ text. text.bytes.items ≡ end_text end) }
 {
     match end {
         End::Process(number) => format!(in alloc; "p{number}"),
@@ -32,7 +32,7 @@ fn end_letters(alloc: Global, end: End) -> Result<String, AllocError>
 
 /// An end, between quotes.
 fn write_end(alloc: Global, out: &mut Vec<u8>, end: End) -> Result<(), AllocError>
-    ensures { OnOk result (AddsText out.old out.new (quoted (end_text (end)))) }
+    ensures { OnOk result (AddsText out.old out.new (quoted (end_text end))) }
 {
     let letters = end_letters(alloc, end)?;
     write_quoted(out, letters.as_bytes())
@@ -61,7 +61,7 @@ fn write_ends(
     receiver: End,
 ) -> Result<(), AllocError>
     ensures { OnOk result (AddsText out.old out.new
-        (ends_json (end_text (sender)) (end_text (receiver)))) }
+        (ends_json (end_text sender) (end_text receiver))) }
 {
     out.extend_from_slice(b",\"sender\":")?;
     write_end(alloc, out, sender)?;

@@ -148,7 +148,7 @@ report_of cs None Stopped = ending_text Stopped ++ 10 ∷ []
 report_of cs None (Fault f) = ending_text (Fault f) ++ 10 ∷ []
 report_of cs None (StoppedBy f) = ending_text (StoppedBy f) ++ 10 ∷ []
 report_of cs None Limit = ending_text Limit ++ 10 ∷ []
-report_of cs (Some xs) e = trace_text (entries (names_of cs) 1 (xs)) ++ ending_text e ++ 10 ∷ []
+report_of cs (Some xs) e = trace_text (entries (names_of cs) 1 xs) ++ ending_text e ++ 10 ∷ []
 
 -- ---- what is written, and of what
 
@@ -179,20 +179,20 @@ entry_head e = head_text e.number e.channel e.name
 
 -- communications as they are shown: one, with its number, and all, numbered from 1 on
 abbrev pub entry_at : List Channel → ℕ → Made → Entry
-entry_at cs number x = entry_of (names_of cs) number (x)
+entry_at cs number x = entry_of (names_of cs) number x
 
 abbrev pub entries_in : List Channel → List Made → List Entry
-entries_in cs xs = entries (names_of cs) 1 (xs)
+entries_in cs xs = entries (names_of cs) 1 xs
 
 abbrev pub all_shown : List Channel → List Made → AllShown
-all_shown cs xs = shown_by (names_of cs) (xs)
+all_shown cs xs = shown_by (names_of cs) xs
 
 -- the bytes that one of them put on a channel, and all
 abbrev pub bytes_sent : ℕ → Made → List ℕ
-bytes_sent c x = bytes_of (sent_on c (x))
+bytes_sent c x = bytes_of (sent_on c x)
 
 abbrev pub channel_bytes : ℕ → List Made → List ℕ
-channel_bytes c xs = bytes_of (messages_on c (xs))
+channel_bytes c xs = bytes_of (messages_on c xs)
 
 -- a report behind them, on lines of its own
 abbrev pub with_report : (bytes report : List ℕ) → List ℕ

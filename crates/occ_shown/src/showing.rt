@@ -69,7 +69,7 @@ fn write_items(
 
 /// The name of an end: `p` and a process's number, or what else it is.
 pub(crate) fn write_end(alloc: Global, out: &mut Vec<u8>, end: End) -> Result<(), AllocError>
-    ensures { OnOk result (AddsText out.old out.new (end_text (end))) }
+    ensures { OnOk result (AddsText out.old out.new (end_text end)) }
 {
     match end {
         End::Process(number) => {
@@ -106,7 +106,7 @@ pub(crate) fn write_ends(
     sender: End,
     receiver: End,
 ) -> Result<(), AllocError>
-    ensures { OnOk result (AddsText out.old out.new (ends_text (sender) (receiver))) }
+    ensures { OnOk result (AddsText out.old out.new (ends_text sender receiver)) }
 {
     out.push(b' ')?;
     write_end(alloc, out, sender)?;

@@ -138,7 +138,7 @@ joins_text ns = codes "waits for" ++ numbers_text ns
 
 -- communications that are the last of so many
 abbrev pub last_made : List Channel → ℕ → List Communication → List Entry
-last_made cs made xs = entries (names_of cs) (made - length xs + 1) (xs)
+last_made cs made xs = entries (names_of cs) (made - length xs + 1) xs
 
 abbrev pub AddsTail : {A : Type 0} → List Channel → List Known → ℕ → Task → List Entry → (old new : Vec ℕ A) → Type 0
 AddsTail cs known n t made old new = new.items ≡ old.items ++ turn_tail (names_of cs) known n t made
