@@ -35,13 +35,13 @@ fn number(end: End) -> u32
 }
 
 fn is_end(one: End, other: End) -> bool
-    ensures { result ≡ is_end (one) (other) }
+    ensures { result ≡ is_end one other }
 {
     group(one) == group(other) && number(one) == number(other)
 }
 
 fn is_before(one: End, other: End) -> bool
-    ensures { result ≡ is_before (one) (other) }
+    ensures { result ≡ is_before one other }
 {
     group(one) < group(other) || (group(one) == group(other) && number(one) < number(other))
 }
@@ -132,7 +132,7 @@ pub(crate) fn columns(
     stubs: &[Stub],
 ) -> Result<Vec<End>, AllocError>
     ensures are { IfOk result
-        (λ columns. AreColumns shown.now stubs.now (columns.items)) }
+        (λ columns. AreColumns shown.now stubs.now columns.items) }
     ensures few { IfOk result (λ columns. length columns.items ≤ 2 ^ 40) }
 {
     let mut columns = Vec::new(alloc);

@@ -38,7 +38,7 @@ pub replay_chart : (p : Program) (kb : List ℕ) (list : List Choice) (part : Pa
     → (trace : List Communication) → ((k : List ℕ) (net : Net) → Holds p k r.tables net → net.trace ≡ trace)
     → (ss : List Footing) (count processes : ℕ) → count ≡ min processes 4294967295 → processes ≡ length p.bodies
     → ((q : Program) (k : List ℕ) (net : Net) → Holds q k r.tables net → ss ≡ feet_of (names_of p.channels) net.tasks count)
-    → (bytes : List ℕ) → IsChart (entries (names_of p.channels) 1 (trace)) part r.ending names ss circle bytes
+    → (bytes : List ℕ) → IsChart (entries (names_of p.channels) 1 trace) part r.ending names ss circle bytes
     → IsReplayChart p kb list part names circle bytes
 replay_chart p kb list part names circle r h small trace shows ss count processes least all stand bytes drawn =
     let net = h.run.net in
