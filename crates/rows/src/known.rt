@@ -7,13 +7,12 @@ use occ_text::read_lines;
 use occ_tree::parse;
 use std::alloc::Global;
 use std::process::Abort;
-use std::test::Fail;
 
-/// What is known of a source's processes.
-fn known(alloc: Global, source: &[u8], code: &Code) -> Result<Places, Fail> {
-    let lines = read_lines(alloc, source)?;
-    let tree = parse(alloc, &lines)?;
-    Ok(places_of(alloc, &tree, code, lines.lines.as_slice())?)
+/// What is known of a source's processes, where it has a tree.
+fn known(alloc: Global, source: &[u8], code: &Code) -> Option<Places> {
+    let lines = read_lines(alloc, source).ok()?;
+    let tree = parse(alloc, &lines).ok()?;
+    places_of(alloc, &tree, code, lines.lines.as_slice()).ok()
 }
 
 /// How many stops a code has.
@@ -38,7 +37,7 @@ fn stops_in(code: &[Instr<Slot>]) -> usize {
 /// Each process of a source that is accepted is known.
 pub(crate) fn check_known(rt: &impl Abort, alloc: Global, name: &str, source: &[u8]) {
     if let Some(code) = code_of(&Options::plain(), alloc, source).ok() {
-        let places = known(alloc, source, &code).ok().expect(rt, "not known");
+        let places = known(alloc, source, &code).expect(rt, "not known");
         check_places(rt, name, &code, &places);
     }
 }

@@ -9,7 +9,6 @@ use occ_text::read_lines;
 use occ_tree::parse;
 use std::alloc::Global;
 use std::process::Abort;
-use std::test::Fail;
 
 /// A source, and the report of its run.
 struct Reported(&'static str, &'static str);
@@ -412,11 +411,11 @@ fn processes_wait_in_circles(rt: HostRuntime) {
     check_reported(&rt, rt.alloc(), &CIRCLES);
 }
 
-/// What is known of a source's processes.
-fn known(alloc: Global, source: &str, code: &Code) -> Result<Places, Fail> {
-    let lines = read_lines(alloc, source.as_bytes())?;
-    let tree = parse(alloc, &lines)?;
-    Ok(places_of(alloc, &tree, code, lines.lines.as_slice())?)
+/// What is known of a source's processes, where it has a tree.
+fn known(alloc: Global, source: &str, code: &Code) -> Option<Places> {
+    let lines = read_lines(alloc, source.as_bytes()).ok()?;
+    let tree = parse(alloc, &lines).ok()?;
+    places_of(alloc, &tree, code, lines.lines.as_slice()).ok()
 }
 
 /// How many stops a code has.
@@ -442,7 +441,7 @@ fn stops_in(code: &[Instr<Slot>]) -> usize {
 pub(crate) fn check_known(rt: &impl Abort, alloc: Global, source: &str) {
     let code = code_of(&Options::plain(), alloc, source.as_bytes()).ok();
     let code = code.expect(rt, "refused");
-    let places = known(alloc, source, &code).ok().expect(rt, "not known");
+    let places = known(alloc, source, &code).expect(rt, "not known");
     check_places(rt, source, &code, &places);
 }
 
