@@ -21,7 +21,8 @@ use Rattle.occ_play.specs.declared.playing.Played.{Played}
 use Rattle.occ_play.specs.Playing.{AfterFault, Refuses}
 use Rattle.occ_play.specs.Watching.{IsWatched, TellsOutcome, TellsSome}
 use Rattle.occ_play.specs.Working.{IsAnswerWithin, IsSomeCrewsAnswer, WorkersRefuse}
-use Rattle.occ_play.proofs.Gathered.{ending_by, is_outcome, state_of}
+use Rattle.occ_run.proofs.Gathered.{state_of}
+use Rattle.occ_play.proofs.Gathered.{ending_by, is_outcome}
 use Rattle.occ_play.proofs.Headline.{never_limit, none_if}
 use Rattle.occ_play.proofs.Working.{workers_refuse}
 

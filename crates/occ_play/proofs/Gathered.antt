@@ -5,15 +5,9 @@ use Rattle.occ_net_replay.specs.Following.{or_limit}
 use Rattle.occ_net_replay.specs.Replay.{Replays, ending_of}
 use Rattle.occ_net_tables.specs.declared.running.Outcome.{Outcome}
 use Rattle.occ_net_tables.specs.Outcomes.{IsOutcome}
-use Rattle.occ_net.specs.Networks.{IsState, Past}
+use Rattle.occ_net.specs.Networks.{Past}
 use Rattle.occ_net.specs.Outcomes.{IsReplayOf}
 use Rattle.occ_run.specs.Gathered.{IsGathered}
-
--- the network is in the state of the replay
-pub state_of : (p : Program) (keyboard : List ℕ) (limit : ℕ) (n : Past) (g : IsGathered p keyboard limit n) → IsState n g.net
-state_of p keyboard limit n g =
-    let with_bytes : Replays p n.keyboard n.choices g.net = subst (λ ks. Replays p ks n.choices g.net) (sym g.bytes) g.replays in
-    subst (λ q. Replays q n.keyboard n.choices g.net) (sym g.program) with_bytes
 
 -- how the outcome ended, by the code of the run
 pub ending_by : (p : Program) (keyboard : List ℕ) (limit : ℕ) (n : Past) (o : Outcome) (g : IsGathered p keyboard limit n) → IsReplayOf n g.net o → o.ending ≡ or_limit (ending_of p.errors g.net)

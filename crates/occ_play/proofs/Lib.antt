@@ -1,4 +1,5 @@
 mod Headline
+mod Gathered
 pub mod Again
 pub mod Working
 mod Beside

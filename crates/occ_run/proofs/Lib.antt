@@ -1,4 +1,4 @@
-pub mod Alone
+pub mod Gathered
 mod Told
 mod Moves
 mod Staying

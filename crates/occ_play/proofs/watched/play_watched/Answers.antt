@@ -1,6 +1,6 @@
 use Rattle.std.proofs.Common.{◌++◌}
 use Rattle.occ_play.proofs.Beside.{after_written, crew_of, watched_by}
-use Rattle.occ_play.proofs.Gathered.{state_of}
+use Rattle.occ_run.proofs.Gathered.{state_of}
 use Rattle.occ_play.proofs.watched.play_watched.Goals as goal
 
 pub returns-in-Ok-written-clause-played : goal.returns-in-Ok-written-clause-played

@@ -1,4 +1,4 @@
-use Rattle.occ_play.proofs.Gathered.{state_of}
+use Rattle.occ_run.proofs.Gathered.{state_of}
 use Rattle.occ_play.proofs.Working.{within}
 use Rattle.occ_play.proofs.workers.gathered.Goals as goal
 

@@ -1,4 +1,4 @@
-use Rattle.occ_run.proofs.run.run_workers.Given as goal
+use Rattle.occ_run.proofs.run.run_network.Given as goal
 
 -- the run that begins
 abbrev pub ghosts-run_all : goal.ghosts-run_all
