@@ -1,6 +1,7 @@
 use Rattle.std.proofs.Common.{◌++◌}
 use Rattle.occ_play.proofs.Beside.{after_written, crew_of, watched_by}
 use Rattle.occ_run.proofs.Gathered.{state_of}
+use Rattle.occ_play.proofs.Gathered.{is_outcome}
 use Rattle.occ_play.proofs.watched.play_watched.Goals as goal
 
 pub returns-in-Ok-written-clause-played : goal.returns-in-Ok-written-clause-played
@@ -17,3 +18,15 @@ returns-clause-fault g c =
     let code = c.in-Ok.code in
     let replay = c.into_replay-outcome.ensures ran.run.net (state_of code c.args.keyboard.now c.args.limit c.in-Ok-watch_network.ran.0 ran.run) in
     after_written g.W.Write.contents c.args.out.now c.written.new.out c.args.workers c.args.options.now c.args.source.now c.args.keyboard.now c.args.limit c.args.trace code c.in-Ok-watch_network.ran.0 c.into_replay-outcome.result (crew_of c.args.workers (λ x. cc (ran.workers.1 x))) ran.run replay c.in-Err-written.fault c.in-Err-written.ensures.fault
+
+pub written-requires-clause-ran : goal.written-requires-clause-ran
+written-requires-clause-ran g c =
+    let ran = c.in-Ok-watch_network.ensures in
+    let code = c.in-Ok.code in
+    let keyboard = c.args.keyboard.now in
+    let limit = c.args.limit in
+    let network = c.in-Ok-watch_network.ran.0 in
+    record {
+      code = c.in-Ok.ensures.code;
+      is = is_outcome code keyboard limit network c.into_replay-outcome.result ran.run (c.into_replay-outcome.ensures ran.run.net (state_of code keyboard limit network ran.run));
+    }
