@@ -1,6 +1,7 @@
 //! Programs that choose: ALT and PRI ALT, by different choices.
 use crate::row::{Given, Row, check_rows};
 use occ_play::{Choice, Errors};
+use std::test::Fail;
 
 /// The fourth choice picks the second arm that is ready.
 const FOURTH_PICKS: Given = Given::Choices(&[
@@ -43,8 +44,7 @@ const TWO_ARMS: &[u8] =
 const IN_LOOPS: &[u8] =
     b"PROC main (CHAN OF BYTE keyboard, screen)\n  SEQ n = 0 FOR 2\n    CHAN OF INT c, d:\n    PAR\n      c ! n\n      d ! n + 2\n      INT x:\n      SEQ k = 0 FOR 2\n        ALT\n          c ? x\n            screen ! BYTE (x + 48)\n          d ? x\n            screen ! BYTE (x + 48)\n:\n";
 
-/// Which of two arms is taken.
-static OF_TWO: [Row; 6] = [
+static SELECTIONS: [Row; 15] = [
     Row {
         source: FIRST_OF_TWO,
         keyboard: b"",
@@ -111,10 +111,6 @@ static OF_TWO: [Row; 6] = [
         status: 2,
         used: Some(7),
     },
-];
-
-/// Guards, and arms within arms.
-static GUARDED: [Row; 4] = [
     Row {
         source: CLOSED,
         keyboard: b"k",
@@ -159,10 +155,6 @@ static GUARDED: [Row; 4] = [
         status: 0,
         used: Some(11),
     },
-];
-
-/// Arms with the same channel, and in loops.
-static REPEATED: [Row; 5] = [
     Row {
         source: VARIANTS,
         keyboard: b"",
@@ -221,8 +213,6 @@ static REPEATED: [Row; 5] = [
 ];
 
 #[test]
-fn ready_arms_are_taken(rt: HostRuntime) {
-    check_rows(&rt, rt.alloc(), &OF_TWO);
-    check_rows(&rt, rt.alloc(), &GUARDED);
-    check_rows(&rt, rt.alloc(), &REPEATED);
+fn ready_arms_are_taken(rt: HostRuntime) -> Result<(), Fail> {
+    check_rows(&rt, rt.alloc(), &SELECTIONS)
 }

@@ -4,8 +4,6 @@
 #[cfg(test)]
 mod accepted;
 #[cfg(test)]
-mod compared;
-#[cfg(test)]
 mod explored;
 #[cfg(test)]
 mod sources;

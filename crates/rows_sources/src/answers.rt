@@ -1,9 +1,7 @@
 //! The table of answers in `docs/language.md`. `tools/tables.py` writes this file.
-use crate::reference::{Answer, check_answers};
-use std::alloc::Global;
-use std::process::Abort;
+use crate::reference::Answer;
 
-static LINES: [Answer; 6] = [
+pub(crate) static ANSWERS: [Answer; 32] = [
     Answer {
         source: r#"PROC main (CHAN OF BYTE keyboard)
   SKIP $
@@ -50,9 +48,6 @@ SKIP
 "#,
         answer: "refused 7 BadBreak line 3",
     },
-];
-
-static TREES: [Answer; 4] = [
     Answer {
         source: r#"PROC main (CHAN OF BYTE keyboard)
   SKIP SKIP
@@ -80,9 +75,6 @@ static TREES: [Answer; 4] = [
 "#,
         answer: "refused 23 TooDeep line 3",
     },
-];
-
-static NAMES: [Answer; 5] = [
     Answer {
         source: r#"PROC main (CHAN OF BYTE keyboard)
   x := 1
@@ -122,9 +114,6 @@ static NAMES: [Answer; 5] = [
 "#,
         answer: "refused 34 NotConstant line 3",
     },
-];
-
-static USES: [Answer; 7] = [
     Answer {
         source: r#"PROC main (CHAN OF BYTE keyboard)
   [0]INT a:
@@ -190,9 +179,6 @@ PROC main (CHAN OF BYTE keyboard)
 "#,
         answer: "refused 41 ListTarget line 3",
     },
-];
-
-static PROGRAMS: [Answer; 2] = [
     Answer {
         source: r#"PROC main ()
   SKIP
@@ -208,9 +194,6 @@ static PROGRAMS: [Answer; 2] = [
 "#,
         answer: "refused 43 TooLarge",
     },
-];
-
-static BRANCHES: [Answer; 3] = [
     Answer {
         source: r#"PROC main (CHAN OF BYTE keyboard)
   INT x:
@@ -238,9 +221,6 @@ static BRANCHES: [Answer; 3] = [
 "#,
         answer: "refused 52 TwoOutputs line 2 keyboard",
     },
-];
-
-static FAULTS: [Answer; 5] = [
     Answer {
         source: r#"PROC main (CHAN OF BYTE keyboard)
   INT x:
@@ -285,14 +265,3 @@ static FAULTS: [Answer; 5] = [
         answer: "fault COUNT line 2",
     },
 ];
-
-/// All of them.
-pub(crate) fn check_all(rt: &impl Abort, alloc: Global) {
-    check_answers(rt, alloc, &LINES);
-    check_answers(rt, alloc, &TREES);
-    check_answers(rt, alloc, &NAMES);
-    check_answers(rt, alloc, &USES);
-    check_answers(rt, alloc, &PROGRAMS);
-    check_answers(rt, alloc, &BRANCHES);
-    check_answers(rt, alloc, &FAULTS);
-}

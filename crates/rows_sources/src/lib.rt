@@ -4,8 +4,6 @@
 #[cfg(test)]
 mod answers;
 #[cfg(test)]
-mod compared;
-#[cfg(test)]
 mod dimension_rules;
 #[cfg(test)]
 mod dimensions;

@@ -7,8 +7,6 @@ mod accepted;
 #[cfg(test)]
 mod board;
 #[cfg(test)]
-mod compared;
-#[cfg(test)]
 mod compiled;
 #[cfg(test)]
 mod networks;
