@@ -12,6 +12,8 @@ import sys
 TOP = pathlib.Path(__file__).resolve().parent.parent
 STOPPING = "With --errors stop"
 FOLDERS = ["first_steps", "sequences", "pipelines", "selection", "sharing", "faults", "library"]
+# the last refusal of each kind
+KINDS = [(19, "LINES"), (29, "TREES"), (34, "NAMES"), (41, "USES"), (49, "PROGRAMS"), (59, "BRANCHES")]
 
 
 def literal(text):
@@ -46,39 +48,71 @@ def runs(path):
 
 
 def gallery():
-    """A table for each folder, since the check of one large table would take too many steps."""
-    sources, tables = [], []
+    """A table for each program, and a function for each folder: the proof of a table takes as long as its rows times its bytes."""
+    sources, tables, folders = [], [], []
     for folder in FOLDERS:
-        rows = []
+        calls = []
         for path in sorted((TOP / "examples" / folder).glob("*.occ")):
             # two folders may each have a file of one name
             name = (f"{folder}_{path.stem}" if folder == "library" else path.stem).upper()
             sources.append(f"const {name}: &str =\n    {literal(path.read_text())};\n")
+            rows = []
             for title, keyboard, choices, screen, ending in runs(path):
                 fields = {"title": title, "keyboard": keyboard, "choices": choices, "screen": screen, "ending": ending}
-                told = "".join(f"        {key}: {literal(text)},\n" for key, text in fields.items())
-                rows.append(f"    Run {{\n        source: {name},\n{told}    }},\n")
-        tables.append(f"pub(crate) static IN_{folder.upper()}: [Run; {len(rows)}] = [\n{''.join(rows)}];\n")
+                rows.append((name, fields))
+            tables.append(table_of(f"RUNS_OF_{name}", rows))
+            calls.append(f"    check_runs(rt, alloc, &RUNS_OF_{name});\n")
+        folders.append(
+            f"/// The programs of the folder `{folder}`.\n"
+            f"pub(crate) fn in_{folder}(rt: &impl Abort, alloc: Global) {{\n{''.join(calls)}}}\n"
+        )
     return (
         "//! The programs of the folder `examples`, and what their first lines say. `tools/tables.py` writes this file.\n"
-        "use crate::examples::Run;\n\n" + "\n".join([*sources, *tables])
+        "use crate::examples::{Run, check_runs};\nuse std::alloc::Global;\nuse std::process::Abort;\n\n"
+        + "\n".join([*sources, *tables, *folders])
     )
 
 
+def table_of(name, rows):
+    """The table of a program's runs, in the layout of the kit."""
+    deeper = "    " if len(rows) > 1 else ""
+    texts = []
+    for source, fields in rows:
+        told = "".join(f"{deeper}    {key}: {literal(text)},\n" for key, text in fields.items())
+        texts.append(f"Run {{\n{deeper}    source: {source},\n{told}{deeper}}}")
+    if len(rows) == 1:
+        return f"static {name}: [Run; 1] = [{texts[0]}];\n"
+    body = "".join(f"    {text},\n" for text in texts)
+    return f"static {name}: [Run; {len(rows)}] = [\n{body}];\n"
+
+
+def kind_of(answer):
+    """The table that an answer stands in: by the number of the refusal."""
+    found = re.match(r"refused (\d+)", answer)
+    if not found:
+        return "FAULTS"
+    number = int(found[1])
+    return next(kind for most, kind in KINDS if number <= most)
+
+
 def answers():
-    """The table of docs/language.md: the answer on the left of a source's first line."""
+    """The table of docs/language.md: the answer on the left of a source's first line. It is cut by what refuses the source."""
     text = (TOP / "docs/language.md").read_text()
     table = text.split("<!-- answers -->\n```\n")[1].split("```\n")[0]
-    rows = []
+    rows = {}
     for part in table.strip("\n").split("\n\n"):
         lines = part.split("\n")
         answer = lines[0][:WIDTH].strip()
         source = "".join(f"{line[WIDTH:]}\n" for line in lines)
-        rows.append(f"    Answer {{\n        source: {literal(source)},\n        answer: {literal(answer)},\n    }},\n")
+        row = f"    Answer {{\n        source: {literal(source)},\n        answer: {literal(answer)},\n    }},\n"
+        rows.setdefault(kind_of(answer), []).append(row)
+    tables = [f"static {kind}: [Answer; {len(of)}] = [\n{''.join(of)}];\n" for kind, of in rows.items()]
+    calls = "".join(f"    check_answers(rt, alloc, &{kind});\n" for kind in rows)
     return (
         "//! The table of answers in `docs/language.md`. `tools/tables.py` writes this file.\n"
-        "use crate::reference::Answer;\n\n"
-        f"pub(crate) static ANSWERS: [Answer; {len(rows)}] = [\n{''.join(rows)}];\n"
+        "use crate::reference::{Answer, check_answers};\nuse std::alloc::Global;\nuse std::process::Abort;\n\n"
+        + "\n".join(tables)
+        + f"\n/// All of them.\npub(crate) fn check_all(rt: &impl Abort, alloc: Global) {{\n{calls}}}\n"
     )
 
 

@@ -1,7 +1,6 @@
 //! The networks of the folder `examples` that choose, with what they print where each choice is 0 and 0, and by other choices.
 use crate::row::{Given, Row, check_rows};
 use occ_play::Errors;
-use std::test::Fail;
 
 const MERGE: &[u8] =
     b"-- A fair merge: two writers, and a process that takes from whichever is ready.\n-- Prints: a b c and x y z, each three in order; the choices say how the two are merged. Where each choice is `0 0`, abcxyz; where\n-- each is `0 1`, xyzabc.\n\nPROC letters (VAL INT first, CHAN OF BYTE out)\n  SEQ i = 0 FOR 3\n    out ! BYTE (first + i)\n:\n\nPROC merge (CHAN OF BYTE left, right, out)\n  BYTE letter:\n  SEQ i = 0 FOR 6\n    ALT\n      left ? letter\n        out ! letter\n      right ? letter\n        out ! letter\n:\n\nPROC main (CHAN OF BYTE keyboard, screen)\n  CHAN OF BYTE left, right:\n  PAR\n    letters (97, left)\n    letters (120, right)\n    merge (left, right, screen)\n:\n";
@@ -24,7 +23,8 @@ const SIGNAL: &[u8] =
 const POOL: &[u8] =
     b"-- A pool of two machines for three users: who asks gets a free one, and gives it back.\n-- Prints: each user's letter and the number of the machine that it got. Where each choice is `0 0`, a0b0c0; where each is `0 1`,\n-- b0c0a0.\n\nPROC main (CHAN OF BYTE keyboard, screen)\n  [3]CHAN OF INT ask, grant, release:\n  PAR\n    PAR i = 0 FOR 3\n      INT machine:\n      SEQ\n        ask[i] ! 0\n        grant[i] ? machine\n        release[i] ! machine\n    [2]BOOL busy:\n    INT free:\n    SEQ\n      free := 2\n      SEQ n = 0 FOR 6\n        ALT i = 0 FOR 3\n          ALT\n            INT any:\n            (free > 0) & ask[i] ? any\n              SEQ\n                IF m = 0 FOR 2\n                  NOT busy[m]\n                    SEQ\n                      busy[m] := TRUE\n                      grant[i] ! m\n                      screen ! BYTE ((INT 'a') + i)\n                      screen ! BYTE ((INT '0') + m)\n                free := free - 1\n            INT machine:\n            release[i] ? machine\n              busy[machine], free := FALSE, free + 1\n:\n";
 
-static FAIRNESS: [Row; 7] = [
+/// A fair merge.
+static MERGED: [Row; 2] = [
     Row {
         source: MERGE,
         keyboard: b"",
@@ -47,6 +47,10 @@ static FAIRNESS: [Row; 7] = [
         status: 0,
         used: Some(35),
     },
+];
+
+/// A buffer.
+static BUFFERED: [Row; 2] = [
     Row {
         source: BUFFER,
         keyboard: b"",
@@ -69,6 +73,10 @@ static FAIRNESS: [Row; 7] = [
         status: 0,
         used: Some(71),
     },
+];
+
+/// Philosophers who can starve.
+static DINED: [Row; 2] = [
     Row {
         source: DINING,
         keyboard: b"",
@@ -91,20 +99,23 @@ static FAIRNESS: [Row; 7] = [
         status: 0,
         used: Some(55),
     },
-    Row {
-        source: BUTLER,
-        keyboard: b"",
-        plan: Given::Zeros(100),
-        trace: false,
-        errors: Errors::Halt,
-        answer: b"012",
-        refusal: "",
-        status: 0,
-        used: Some(74),
-    },
 ];
 
-static SHARING: [Row; 8] = [
+/// Philosophers and a butler, by choices of the first arm.
+static SERVED: [Row; 1] = [Row {
+    source: BUTLER,
+    keyboard: b"",
+    plan: Given::Zeros(100),
+    trace: false,
+    errors: Errors::Halt,
+    answer: b"012",
+    refusal: "",
+    status: 0,
+    used: Some(74),
+}];
+
+/// The same by other choices.
+static SERVED_OTHERWISE: [Row; 2] = [
     Row {
         source: BUTLER,
         keyboard: b"",
@@ -127,6 +138,10 @@ static SHARING: [Row; 8] = [
         status: 0,
         used: Some(74),
     },
+];
+
+/// A multiplexer.
+static MULTIPLEXED: [Row; 2] = [
     Row {
         source: MULTIPLEXER,
         keyboard: b"",
@@ -149,6 +164,10 @@ static SHARING: [Row; 8] = [
         status: 0,
         used: Some(57),
     },
+];
+
+/// Work until a signal comes.
+static SIGNALLED: [Row; 2] = [
     Row {
         source: SIGNAL,
         keyboard: b"",
@@ -171,6 +190,10 @@ static SHARING: [Row; 8] = [
         status: 0,
         used: Some(17),
     },
+];
+
+/// A pool.
+static POOLED: [Row; 2] = [
     Row {
         source: POOL,
         keyboard: b"",
@@ -196,7 +219,14 @@ static SHARING: [Row; 8] = [
 ];
 
 #[test]
-fn networks_print_what_they_say(rt: HostRuntime) -> Result<(), Fail> {
-    check_rows(&rt, rt.alloc(), &FAIRNESS)?;
-    check_rows(&rt, rt.alloc(), &SHARING)
+fn networks_print_what_they_say(rt: HostRuntime) {
+    let alloc = rt.alloc();
+    check_rows(&rt, alloc, &MERGED);
+    check_rows(&rt, alloc, &BUFFERED);
+    check_rows(&rt, alloc, &DINED);
+    check_rows(&rt, alloc, &SERVED);
+    check_rows(&rt, alloc, &SERVED_OTHERWISE);
+    check_rows(&rt, alloc, &MULTIPLEXED);
+    check_rows(&rt, alloc, &SIGNALLED);
+    check_rows(&rt, alloc, &POOLED);
 }

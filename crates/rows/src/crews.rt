@@ -1,9 +1,9 @@
 //! Runs by several threads with plain options: what they answer, and how many there may be.
+use crate::compared::{check_bytes, check_text};
 use occ_play::{Counted, FreeGate, PlayFault, Played, play_workers, status_of};
 use std::alloc::Global;
 use std::process::Abort;
 use std::sync::Wait;
-use std::test::Fail;
 use std::thread::Threads;
 
 /// What so many workers are given, and what they answer.
@@ -107,28 +107,31 @@ fn check_played(
     alloc: Global,
     row: &Crewed<'_>,
     came: &Result<Played, PlayFault>,
-) -> Result<(), Fail> {
-    assert_eq!(rt; status_of(came), row.status);
+) {
+    assert!(rt; status_of(came) == row.status);
     match came {
         Ok(played) => {
             assert!(rt; row.refusal.is_empty());
             assert!(rt; row.status != 4 || played.choices.len() == row.limit as usize);
         }
         Err(fault) => {
-            let text = fault.to_string(alloc)?;
-            assert_eq!(rt; text.as_str(), row.refusal);
+            let text = fault.to_string(alloc).expect(rt, "memory");
+            check_text(rt, "the refusal", text.as_str(), row.refusal);
         }
     }
-    Ok(())
+}
+
+/// Plays a row, and compares what comes of it.
+fn check<R: Threads + Wait + Abort + Sync + AllocGlobal>(rt: &R, row: &Crewed<'_>) {
+    let mut answer = Vec::new(rt.alloc());
+    let came = played(rt, row, &mut answer);
+    check_played(rt, rt.alloc(), row, &came);
+    check_bytes(rt, "the answer", answer.as_slice(), row.answer);
 }
 
 #[test]
-fn crews_answer(rt: HostRuntime) -> Result<(), Fail> {
+fn crews_answer(rt: HostRuntime) {
     for row in CREWED {
-        let mut answer = Vec::new(rt.alloc());
-        let came = played(&rt, row, &mut answer);
-        check_played(&rt, rt.alloc(), row, &came)?;
-        assert_eq!(rt; answer.as_slice(), row.answer);
+        check(&rt, row);
     }
-    Ok(())
 }

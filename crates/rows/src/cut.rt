@@ -4,17 +4,16 @@ use crate::row::{Given, Row, check_row};
 use occ_play::{Counted, Ending, Plan, play, status_of};
 use std::alloc::Global;
 use std::process::Abort;
-use std::test::Fail;
 
 /// A beginning of a source is refused, or comes to an ending within fifty turns.
 fn check_beginning(rt: &impl Abort, alloc: Global, source: &[u8]) {
     let mut room = [0u8; 64];
     let mut out = Counted::new(room.as_mut_slice());
     let played = play(alloc, source, b"", &Plan::Turns(50), false, &mut out);
-    assert_eq!(rt; out.failures(), 0);
+    assert!(rt; out.failures() == 0);
     match &played {
         Ok(played) => assert!(rt; played.ending != Ending::Limit),
-        Err(_) => assert_eq!(rt; status_of(&played), 1),
+        Err(_) => assert!(rt; status_of(&played) == 1),
     }
 }
 
@@ -48,26 +47,20 @@ const LONG_TURN: &[u8] =
     b"PROC main (CHAN OF BYTE keyboard, screen)\n  IF i = 0 FOR 2000\n    i = 1999\n      screen ! 'A'\n:\n";
 
 /// A source that ends after so many turns of five thousand.
-fn check_long(
-    rt: &impl Abort,
-    alloc: Global,
-    source: &[u8],
-    answer: &[u8],
-    used: usize,
-) -> Result<(), Fail> {
+fn check_long(rt: &impl Abort, alloc: Global, source: &[u8], answer: &[u8], used: usize) {
     let row = Row {
         plan: Given::Turns(5_000),
         ..Row::ended(source, answer, used)
     };
-    check_row(rt, alloc, &row)
+    check_row(rt, alloc, &row);
 }
 
 #[test]
-fn long_runs_end(rt: HostRuntime) -> Result<(), Fail> {
+fn long_runs_end(rt: HostRuntime) {
     let alloc = rt.alloc();
-    check_long(&rt, alloc, MOST_PROCESSES, b"", 4_097)?;
-    check_long(&rt, alloc, MOST_CELLS, b"", 1)?;
-    check_long(&rt, alloc, MOST_CHANNELS, b"", 1)?;
-    check_long(&rt, alloc, LONG_RUN, b"A", 2_002)?;
-    check_long(&rt, alloc, LONG_TURN, b"A", 2)
+    check_long(&rt, alloc, MOST_PROCESSES, b"", 4_097);
+    check_long(&rt, alloc, MOST_CELLS, b"", 1);
+    check_long(&rt, alloc, MOST_CHANNELS, b"", 1);
+    check_long(&rt, alloc, LONG_RUN, b"A", 2_002);
+    check_long(&rt, alloc, LONG_TURN, b"A", 2);
 }

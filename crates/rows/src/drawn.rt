@@ -1,9 +1,9 @@
 //! Charts of whole runs.
+use crate::compared::check_text;
 use occ_charting::{Part, chart};
 use occ_play::{Options, Plan};
-use std::alloc::Global;
+use std::alloc::{AllocError, Global};
 use std::process::Abort;
-use std::test::Fail;
 
 const LETTER: &str = "PROC main (CHAN OF BYTE keyboard, screen)
   screen ! 'A'
@@ -54,43 +54,28 @@ const ODD: &str = "PROC main (CHAN OF BYTE keyboard, screen)
 :
 ";
 
-fn check(
-    rt: &impl Abort,
-    alloc: Global,
-    source: &str,
-    part: Part,
-    wanted: &str,
-) -> Result<(), Fail> {
+/// The chart of a run, or the refusal of its source.
+fn drawn(alloc: Global, source: &[u8], part: Part) -> Result<String, AllocError> {
     let plan = Plan::Turns(100);
-    let drawn = match chart(
-        &Options::plain(),
-        alloc,
-        source.as_bytes(),
-        b"",
-        &plan,
-        part,
-        &[],
-        &[],
-    ) {
-        Ok(bytes) => String::from_utf8_lossy(alloc, bytes.as_slice())?,
-        Err(fault) => fault.to_string(alloc)?,
-    };
-    assert_eq!(rt; drawn.as_str(), wanted, "{part:?}");
-    Ok(())
+    let chart = chart(&Options::plain(), alloc, source, b"", &plan, part, &[], &[]);
+    match chart {
+        Ok(bytes) => String::from_utf8_lossy(alloc, bytes.as_slice()),
+        Err(fault) => fault.to_string(alloc),
+    }
+}
+
+fn check(rt: &impl Abort, alloc: Global, source: &str, part: Part, wanted: &str) {
+    let drawn = drawn(alloc, source.as_bytes(), part).expect(rt, "memory");
+    check_text(rt, source, drawn.as_str(), wanted);
 }
 
 #[test]
-fn runs_are_drawn(rt: HostRuntime) -> Result<(), Fail> {
+fn runs_are_drawn(rt: HostRuntime) {
     let alloc = rt.alloc();
-    check(&rt, alloc, LETTER, Part::First(200), DRAWN)?;
-    check(&rt, alloc, LETTER, Part::Last(1), DRAWN)?;
-    check(&rt, alloc, LETTER, Part::First(0), CUT)?;
-    check(&rt, alloc, WAITS, Part::First(200), WAITING)?;
-    check(
-        &rt,
-        alloc,
-        ODD,
-        Part::First(200),
-        "refused 3 OddIndent line 2",
-    )
+    check(&rt, alloc, LETTER, Part::First(200), DRAWN);
+    check(&rt, alloc, LETTER, Part::Last(1), DRAWN);
+    check(&rt, alloc, LETTER, Part::First(0), CUT);
+    check(&rt, alloc, WAITS, Part::First(200), WAITING);
+    let refused = "refused 3 OddIndent line 2";
+    check(&rt, alloc, ODD, Part::First(200), refused);
 }

@@ -1,4 +1,5 @@
 //! Each process of a source is known: it has a PROC, and each of its stops a line.
+use crate::compared::check_count;
 use occ_machine::{Code, Instr, Slot};
 use occ_places::{Places, places_of};
 use occ_play::{Options, code_of};
@@ -6,13 +7,12 @@ use occ_text::read_lines;
 use occ_tree::parse;
 use std::alloc::Global;
 use std::process::Abort;
-use std::test::Fail;
 
-/// What is known of a source's processes.
-fn known(alloc: Global, source: &[u8], code: &Code) -> Result<Places, Fail> {
-    let lines = read_lines(alloc, source)?;
-    let tree = parse(alloc, &lines)?;
-    Ok(places_of(alloc, &tree, code, lines.lines.as_slice())?)
+/// What is known of a source's processes, where it has a tree.
+fn known(alloc: Global, source: &[u8], code: &Code) -> Option<Places> {
+    let lines = read_lines(alloc, source).ok()?;
+    let tree = parse(alloc, &lines).ok()?;
+    places_of(alloc, &tree, code, lines.lines.as_slice()).ok()
 }
 
 /// How many stops a code has.
@@ -35,22 +35,19 @@ fn stops_in(code: &[Instr<Slot>]) -> usize {
 }
 
 /// Each process of a source that is accepted is known.
-pub(crate) fn check_known(
-    rt: &impl Abort,
-    alloc: Global,
-    name: &str,
-    source: &[u8],
-) -> Result<(), Fail> {
-    let Ok(code) = code_of(&Options::plain(), alloc, source) else {
-        return Ok(());
-    };
-    let places = known(alloc, source, &code)?;
+pub(crate) fn check_known(rt: &impl Abort, alloc: Global, name: &str, source: &[u8]) {
+    if let Some(code) = code_of(&Options::plain(), alloc, source).ok() {
+        let places = known(alloc, source, &code).expect(rt, "not known");
+        check_places(rt, name, &code, &places);
+    }
+}
+
+/// Each process of a code has a PROC, and each of its stops a line.
+fn check_places(rt: &impl Abort, name: &str, code: &Code, places: &Places) {
     for number in 0..4096 {
         if let Some(body) = code.body(number as usize) {
             assert!(rt; !places.name(number).is_empty(), "{name}");
-            let stops = stops_in(body.code());
-            assert_eq!(rt; places.stops(number).len(), stops, "{name}");
+            check_count(rt, name, places.stops(number).len(), stops_in(body.code()));
         }
     }
-    Ok(())
 }

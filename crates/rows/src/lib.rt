@@ -4,6 +4,8 @@
 #[cfg(test)]
 mod choosing_networks;
 #[cfg(test)]
+mod compared;
+#[cfg(test)]
 mod crews;
 #[cfg(test)]
 mod cut;

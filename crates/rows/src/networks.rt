@@ -1,7 +1,6 @@
 //! Programs of several processes, and what their runs come to where each choice is 0 and 0.
 use crate::row::{Given, Row, check_rows};
 use occ_play::Errors;
-use std::test::Fail;
 
 pub(crate) const PIPELINE: &[u8] =
     b"PROC main (CHAN OF BYTE keyboard, screen)\n  [4]CHAN OF INT c:\n  PAR\n    c[0] ! 1\n    PAR i = 0 FOR 3\n      INT x:\n      SEQ\n        c[i] ? x\n        c[i + 1] ! x + 1\n    INT y:\n    SEQ\n      c[3] ? y\n      screen ! BYTE (y + 48)\n:\n";
@@ -15,7 +14,8 @@ pub(crate) const TAGS: &[u8] =
 const LOOP_BESIDE: &[u8] =
     b"PROC main (CHAN OF BYTE keyboard, screen)\n  PAR\n    SEQ i = 0 FOR 1\n      SKIP\n    screen ! 'a'\n:\n";
 
-static NETWORKS: [Row; 14] = [
+/// Channels between branches, and variables of their own.
+static BRANCHES: [Row; 7] = [
     Row {
         source: PIPELINE,
         keyboard: b"",
@@ -94,6 +94,10 @@ static NETWORKS: [Row; 14] = [
         status: 0,
         used: Some(6),
     },
+];
+
+/// Messages, faults, and the turns of a loop.
+static MESSAGES: [Row; 7] = [
     // a tag that is not listed: its output completes, and the process that took it stops
     Row {
         source: TAGS,
@@ -179,6 +183,7 @@ static NETWORKS: [Row; 14] = [
 ];
 
 #[test]
-fn networks_run(rt: HostRuntime) -> Result<(), Fail> {
-    check_rows(&rt, rt.alloc(), &NETWORKS)
+fn networks_run(rt: HostRuntime) {
+    check_rows(&rt, rt.alloc(), &BRANCHES);
+    check_rows(&rt, rt.alloc(), &MESSAGES);
 }

@@ -1,4 +1,5 @@
 //! Plans, endings, faults and exit statuses.
+use crate::compared::{check_count, check_text};
 use occ_check::CheckFault;
 use occ_code::CodeFault;
 use occ_play::{Choice, Ending, Plan, PlayFault, Played, status_of};
@@ -8,34 +9,33 @@ use occ_tree_grammar::ParseFault;
 use occ_usage::UsageFault;
 use std::alloc::{AllocError, Global};
 use std::process::Abort;
-use std::test::Fail;
 
 /// The first and the last choice of a plan of turns, and none after it.
 fn check_turns(rt: &impl Abort, turns: u32) {
     let plan = Plan::Turns(turns);
     let count = turns as usize;
-    assert_eq!(rt; plan.len(), count);
-    assert_eq!(rt; plan.at(count), None);
+    check_count(rt, "choices", plan.len(), count);
+    assert!(rt; plan.at(count).is_none());
     for which in 0..turns.min(3) {
-        assert_eq!(rt; plan.at(which as usize), Some(Choice { which, pick: 0 }));
+        assert!(rt; plan.at(which as usize) == Some(Choice { which, pick: 0 }));
     }
     if count > 0 {
         let which = turns - 1;
-        assert_eq!(rt; plan.at(count - 1), Some(Choice { which, pick: 0 }));
+        assert!(rt; plan.at(count - 1) == Some(Choice { which, pick: 0 }));
     }
 }
 
 #[test]
-fn plans_have_choices(rt: HostRuntime) -> Result<(), Fail> {
+fn plans_have_choices(rt: HostRuntime) {
     for turns in [0, 1, 100, 10_000_000u32] {
         check_turns(&rt, turns);
     }
     let listed = [Choice { which: 7, pick: 3 }, Choice { which: 0, pick: 9 }];
-    let choices = Plan::Choices(Vec::from_slice(rt.alloc(), &listed)?);
-    assert_eq!(rt; choices.len(), 2);
-    assert_eq!(rt; choices.at(1), Some(listed[1]));
-    assert_eq!(rt; choices.at(2), None);
-    Ok(())
+    let choices = Vec::from_slice(rt.alloc(), &listed).expect(&rt, "memory");
+    let plan = Plan::Choices(choices);
+    check_count(&rt, "choices", plan.len(), 2);
+    assert!(rt; plan.at(1) == Some(listed[1]));
+    assert!(rt; plan.at(2).is_none());
 }
 
 /// How runs end, the line that says so, and the exit status.
@@ -93,20 +93,19 @@ static ENDINGS: [(Ending, &str, u8); 9] = [
     ),
 ];
 
+/// The exit status of a run that ends so.
+fn status_at(alloc: Global, ending: Ending) -> u8 {
+    let choices = Vec::new(alloc);
+    status_of(&Ok(Played { ending, choices }))
+}
+
 #[test]
-fn endings_have_texts(rt: HostRuntime) -> Result<(), Fail> {
-    let alloc = rt.alloc();
+fn endings_have_texts(rt: HostRuntime) {
     for (ending, text, status) in &ENDINGS {
-        let told = ending.to_string(alloc)?;
-        assert_eq!(rt; told.as_str(), *text);
-        let choices = Vec::new(alloc);
-        let played = Ok(Played {
-            ending: *ending,
-            choices,
-        });
-        assert_eq!(rt; status_of(&played), *status, "{text}");
+        let told = ending.to_string(rt.alloc()).expect(&rt, "memory");
+        check_text(&rt, text, told.as_str(), text);
+        assert!(rt; status_at(rt.alloc(), *ending) == *status, "{text}");
     }
-    Ok(())
 }
 
 /// The text of a fault.
@@ -123,82 +122,75 @@ fn check_played(
     played: &Result<Played, PlayFault>,
     text: &str,
     status: u8,
-) -> Result<(), Fail> {
-    let told = told(alloc, played)?;
-    assert_eq!(rt; told.as_str(), text);
-    assert_eq!(rt; status_of(played), status);
-    Ok(())
+) {
+    let told = told(alloc, played).expect(rt, "memory");
+    check_text(rt, text, told.as_str(), text);
+    assert!(rt; status_of(played) == status, "{text}");
 }
 
-fn check_fault(
-    rt: &impl Abort,
-    alloc: Global,
-    fault: PlayFault,
-    text: &str,
-    status: u8,
-) -> Result<(), Fail> {
-    check_played(rt, alloc, &Err(fault), text, status)
+fn check_fault(rt: &impl Abort, alloc: Global, fault: PlayFault, text: &str, status: u8) {
+    check_played(rt, alloc, &Err(fault), text, status);
 }
 
 #[test]
-fn faults_of_texts_are_told(rt: HostRuntime) -> Result<(), Fail> {
+fn faults_of_texts_are_told(rt: HostRuntime) {
     let alloc = rt.alloc();
     let long = PlayFault::Text(TextFault::TooLong);
-    check_fault(&rt, alloc, long, "refused 1 TooLong", 1)?;
+    check_fault(&rt, alloc, long, "refused 1 TooLong", 1);
     let byte = PlayFault::Text(TextFault::BadByte { line: 9 });
-    check_fault(&rt, alloc, byte, "refused 2 BadByte line 9", 1)?;
+    check_fault(&rt, alloc, byte, "refused 2 BadByte line 9", 1);
     let level = PlayFault::Parse(ParseFault::Level { line: 7 });
-    check_fault(&rt, alloc, level, "refused 21 Level line 7", 1)
+    check_fault(&rt, alloc, level, "refused 21 Level line 7", 1);
 }
 
 #[test]
-fn faults_of_programs_are_told(rt: HostRuntime) -> Result<(), Fail> {
+fn faults_of_programs_are_told(rt: HostRuntime) {
     let alloc = rt.alloc();
     let no_main = PlayFault::Check(CheckFault::NoMain);
-    check_fault(&rt, alloc, no_main, "refused 42 NoMain", 1)?;
+    check_fault(&rt, alloc, no_main, "refused 42 NoMain", 1);
     let large = PlayFault::Code(CodeFault::TooLarge);
-    check_fault(&rt, alloc, large, "refused 60 TooLarge", 1)?;
+    check_fault(&rt, alloc, large, "refused 60 TooLarge", 1);
     let quantum = PlayFault::Code(CodeFault::BadQuantum);
-    check_fault(&rt, alloc, quantum, "refused 62 BadQuantum", 7)?;
+    check_fault(&rt, alloc, quantum, "refused 62 BadQuantum", 7);
     let write = PlayFault::Write { written: 3 };
-    check_fault(&rt, alloc, write, "write failed", 6)
+    check_fault(&rt, alloc, write, "write failed", 6);
 }
 
 #[test]
-fn faults_of_usage_are_told(rt: HostRuntime) -> Result<(), Fail> {
+fn faults_of_usage_are_told(rt: HostRuntime) {
     let alloc = rt.alloc();
-    let name = String::from_str(alloc, "n")?;
+    let name = String::from_str(alloc, "n").expect(&rt, "memory");
     let shared = PlayFault::Usage(UsageFault::SharedVariable { line: 5, name });
-    check_fault(&rt, alloc, shared, "refused 50 SharedVariable line 5 n", 1)?;
-    let name = String::from_str(alloc, "screen")?;
+    check_fault(&rt, alloc, shared, "refused 50 SharedVariable line 5 n", 1);
+    let name = String::from_str(alloc, "screen").expect(&rt, "memory");
     let inputs = PlayFault::Usage(UsageFault::TwoInputs { line: 3, name });
-    check_fault(&rt, alloc, inputs, "refused 51 TwoInputs line 3 screen", 1)
+    check_fault(&rt, alloc, inputs, "refused 51 TwoInputs line 3 screen", 1);
 }
 
 #[test]
-fn want_of_memory_is_told(rt: HostRuntime) -> Result<(), Fail> {
+fn want_of_memory_is_told(rt: HostRuntime) {
     let alloc = rt.alloc();
-    check_fault(&rt, alloc, PlayFault::Text(TextFault::Memory), "memory", 5)?;
+    check_fault(&rt, alloc, PlayFault::Text(TextFault::Memory), "memory", 5);
     check_fault(
         &rt,
         alloc,
         PlayFault::Parse(ParseFault::Memory),
         "memory",
         5,
-    )?;
+    );
     check_fault(
         &rt,
         alloc,
         PlayFault::Check(CheckFault::Memory),
         "memory",
         5,
-    )?;
+    );
     check_fault(
         &rt,
         alloc,
         PlayFault::Usage(UsageFault::Memory),
         "memory",
         5,
-    )?;
-    check_fault(&rt, alloc, PlayFault::Code(CodeFault::Memory), "memory", 5)
+    );
+    check_fault(&rt, alloc, PlayFault::Code(CodeFault::Memory), "memory", 5);
 }

@@ -1,8 +1,8 @@
 //! Turns that pass several ends of a loop's body.
+use crate::compared::{check_bytes, check_count, check_text};
 use occ_play::{Choice, Counted, Errors, Options, Plan, PlayFault, Played, play_in, status_of};
 use std::alloc::{AllocError, Global};
 use std::process::Abort;
-use std::test::Fail;
 
 /// A source, a quantum, how many choices of the first ready process there are, what standard output gets or the
 /// refusal of the quantum, and the exit status. An answer uses all choices.
@@ -66,25 +66,24 @@ fn check_played(
     row: &Row,
     played: &Result<Played, PlayFault>,
     bytes: &[u8],
-) -> Result<(), Fail> {
-    let (_, quantum, choices, answer, status) = *row;
-    assert_eq!(rt; status_of(played), status, "{quantum}");
+) {
+    let (source, quantum, choices, answer, status) = *row;
+    assert!(rt; status_of(played) == status, "{quantum}");
     match played {
         Ok(played) => {
-            assert_eq!(rt; bytes, answer.as_bytes(), "{quantum}");
-            assert_eq!(rt; played.choices.len(), choices as usize, "{quantum}");
+            check_bytes(rt, source, bytes, answer.as_bytes());
+            check_count(rt, source, played.choices.len(), choices as usize);
         }
         Err(fault) => {
-            let line = fault.to_string(alloc)?;
-            assert_eq!(rt; line.as_str(), answer, "{quantum}");
+            let line = fault.to_string(alloc).expect(rt, "memory");
+            check_text(rt, source, line.as_str(), answer);
         }
     }
-    Ok(())
 }
 
-fn check(rt: &impl Abort, alloc: Global, row: &Row) -> Result<(), Fail> {
+fn check(rt: &impl Abort, alloc: Global, row: &Row) {
     let (source, quantum, choices, ..) = *row;
-    let plan = zeros(alloc, choices)?;
+    let plan = zeros(alloc, choices).expect(rt, "memory");
     let mut bytes = Vec::new(alloc);
     let mut out = Counted::new(&mut bytes);
     let options = Options {
@@ -101,15 +100,14 @@ fn check(rt: &impl Abort, alloc: Global, row: &Row) -> Result<(), Fail> {
         &mut out,
     );
     drop(out);
-    check_played(rt, alloc, row, &played, bytes.as_slice())
+    check_played(rt, alloc, row, &played, bytes.as_slice());
 }
 
 #[test]
-fn turns_pass_ends_of_loops(rt: HostRuntime) -> Result<(), Fail> {
+fn turns_pass_ends_of_loops(rt: HostRuntime) {
     for row in &ROWS {
-        check(&rt, rt.alloc(), row)?;
+        check(&rt, rt.alloc(), row);
     }
-    assert_eq!(rt; Options::plain().quantum, 1);
-    assert_eq!(rt; Options::plain().errors, Errors::Halt);
-    Ok(())
+    let plain = Options::plain();
+    assert!(rt; plain.quantum == 1 && plain.errors == Errors::Halt);
 }

@@ -1,9 +1,9 @@
 //! A worked row: what a run is given, and what it comes to.
+use crate::compared::{check_bytes, check_count, check_text};
 use crate::known::check_known;
 use occ_play::{Choice, Counted, Errors, Options, Plan, PlayFault, Played, play_in, status_of};
 use std::alloc::{AllocError, Global};
 use std::process::Abort;
-use std::test::Fail;
 
 /// The choices that a run is given.
 #[derive(Clone, Copy)]
@@ -102,14 +102,14 @@ fn played(
         row.trace,
         &mut out,
     );
-    assert_eq!(rt; out.failures(), 0);
+    assert!(rt; out.failures() == 0);
     played
 }
 
 /// The choices that are used are the first of the plan's.
 fn check_first(rt: &impl Abort, source: &str, plan: &Plan, used: &[Choice]) {
     for (number, choice) in used.iter().enumerate() {
-        assert_eq!(rt; plan.at(number), Some(*choice), "{source}");
+        assert!(rt; plan.at(number) == Some(*choice), "{source}");
     }
 }
 
@@ -122,9 +122,9 @@ fn check_told(
     refusal: &str,
     answer: &[u8],
 ) {
-    assert_eq!(rt; status, row.status, "{source}");
-    assert_eq!(rt; refusal, row.refusal, "{source}");
-    assert_eq!(rt; answer, row.answer, "{source}");
+    check_count(rt, source, usize::from(status), usize::from(row.status));
+    check_text(rt, source, refusal, row.refusal);
+    check_bytes(rt, source, answer, row.answer);
 }
 
 /// The text of the refusal; empty where the source is played.
@@ -151,40 +151,64 @@ fn check_played(
     row: &Row<'_>,
     played: &Result<Played, PlayFault>,
     answer: &[u8],
-) -> Result<(), Fail> {
-    let refusal = refusal_of(alloc, played)?;
+) {
+    let refusal = refusal_of(alloc, played).expect(rt, "memory");
     check_told(rt, source, row, status_of(played), refusal.as_str(), answer);
     let used = used_of(played).len();
-    assert_eq!(rt; used, row.used.unwrap_or(used), "{source}");
-    Ok(())
+    check_count(rt, source, used, row.used.unwrap_or(used));
 }
 
 /// Plays a row by a plan, and compares all that comes of it.
-fn check_by(
-    rt: &impl Abort,
-    alloc: Global,
-    source: &str,
-    row: &Row<'_>,
-    plan: &Plan,
-) -> Result<(), Fail> {
+fn check_by(rt: &impl Abort, alloc: Global, source: &str, row: &Row<'_>, plan: &Plan) {
     let mut answer = Vec::new(alloc);
     let played = played(rt, alloc, row, plan, &mut answer);
     check_first(rt, source, plan, used_of(&played));
-    check_played(rt, alloc, source, row, &played, answer.as_slice())
+    check_played(rt, alloc, source, row, &played, answer.as_slice());
 }
 
 /// Plays a row, and compares all that comes of it. Each process of its source is known.
-pub(crate) fn check_row(rt: &impl Abort, alloc: Global, row: &Row<'_>) -> Result<(), Fail> {
-    let source = String::from_utf8_lossy(alloc, row.source)?;
-    let plan = plan_of(alloc, row.plan)?;
-    check_by(rt, alloc, source.as_str(), row, &plan)?;
-    check_known(rt, alloc, source.as_str(), row.source)
+pub(crate) fn check_row(rt: &impl Abort, alloc: Global, row: &Row<'_>) {
+    let source = String::from_utf8_lossy(alloc, row.source).expect(rt, "memory");
+    let plan = plan_of(alloc, row.plan).expect(rt, "memory");
+    check_by(rt, alloc, source.as_str(), row, &plan);
+    check_known(rt, alloc, source.as_str(), row.source);
 }
 
 /// Plays each row.
-pub(crate) fn check_rows(rt: &impl Abort, alloc: Global, rows: &[Row<'_>]) -> Result<(), Fail> {
+pub(crate) fn check_rows(rt: &impl Abort, alloc: Global, rows: &[Row<'_>]) {
     for row in rows {
-        check_row(rt, alloc, row)?;
+        check_row(rt, alloc, row);
     }
-    Ok(())
+}
+
+/// So many turns as any short run has.
+pub(crate) const HUNDRED: Given = Given::Turns(100);
+
+/// A source that is played, what comes from the keyboard, the choices, the answer's bytes, the exit status, and how many
+/// choices are used.
+pub(crate) struct Ran(
+    pub(crate) &'static [u8],
+    pub(crate) &'static [u8],
+    pub(crate) Given,
+    pub(crate) &'static [u8],
+    pub(crate) u8,
+    pub(crate) usize,
+);
+
+/// Plays each, with a trace or without, where a fault does this.
+pub(crate) fn check_ran(rt: &impl Abort, alloc: Global, rows: &[Ran], trace: bool, errors: Errors) {
+    for row in rows {
+        let row = Row {
+            source: row.0,
+            keyboard: row.1,
+            plan: row.2,
+            trace,
+            errors,
+            answer: row.3,
+            refusal: "",
+            status: row.4,
+            used: Some(row.5),
+        };
+        check_row(rt, alloc, &row);
+    }
 }

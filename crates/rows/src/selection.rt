@@ -1,7 +1,6 @@
 //! Programs that choose: ALT and PRI ALT, by different choices.
 use crate::row::{Given, Row, check_rows};
 use occ_play::{Choice, Errors};
-use std::test::Fail;
 
 /// The fourth choice picks the second arm that is ready.
 const FOURTH_PICKS: Given = Given::Choices(&[
@@ -44,7 +43,8 @@ const TWO_ARMS: &[u8] =
 const IN_LOOPS: &[u8] =
     b"PROC main (CHAN OF BYTE keyboard, screen)\n  SEQ n = 0 FOR 2\n    CHAN OF INT c, d:\n    PAR\n      c ! n\n      d ! n + 2\n      INT x:\n      SEQ k = 0 FOR 2\n        ALT\n          c ? x\n            screen ! BYTE (x + 48)\n          d ? x\n            screen ! BYTE (x + 48)\n:\n";
 
-static SELECTIONS: [Row; 15] = [
+/// Which of two arms is taken.
+static OF_TWO: [Row; 6] = [
     Row {
         source: FIRST_OF_TWO,
         keyboard: b"",
@@ -111,6 +111,10 @@ static SELECTIONS: [Row; 15] = [
         status: 2,
         used: Some(7),
     },
+];
+
+/// Guards, and arms within arms.
+static GUARDED: [Row; 4] = [
     Row {
         source: CLOSED,
         keyboard: b"k",
@@ -155,6 +159,10 @@ static SELECTIONS: [Row; 15] = [
         status: 0,
         used: Some(11),
     },
+];
+
+/// Arms with the same channel, and in loops.
+static REPEATED: [Row; 5] = [
     Row {
         source: VARIANTS,
         keyboard: b"",
@@ -213,6 +221,8 @@ static SELECTIONS: [Row; 15] = [
 ];
 
 #[test]
-fn ready_arms_are_taken(rt: HostRuntime) -> Result<(), Fail> {
-    check_rows(&rt, rt.alloc(), &SELECTIONS)
+fn ready_arms_are_taken(rt: HostRuntime) {
+    check_rows(&rt, rt.alloc(), &OF_TWO);
+    check_rows(&rt, rt.alloc(), &GUARDED);
+    check_rows(&rt, rt.alloc(), &REPEATED);
 }

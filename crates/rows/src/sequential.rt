@@ -1,7 +1,6 @@
 //! Programs without PAR and ALT, and what their runs come to.
 use crate::row::{Given, Row, check_rows};
 use occ_play::Errors;
-use std::test::Fail;
 
 static ARITHMETIC: [Row; 7] = [
     // arithmetic, with the line of its fault
@@ -320,21 +319,21 @@ static ARRAYS: [Row; 8] = [
 ];
 
 #[test]
-fn sums_and_shifts(rt: HostRuntime) -> Result<(), Fail> {
-    check_rows(&rt, rt.alloc(), &ARITHMETIC)
+fn sums_and_shifts(rt: HostRuntime) {
+    check_rows(&rt, rt.alloc(), &ARITHMETIC);
 }
 
 #[test]
-fn no_choice_and_the_keyboard(rt: HostRuntime) -> Result<(), Fail> {
-    check_rows(&rt, rt.alloc(), &KEYBOARD)
+fn no_choice_and_the_keyboard(rt: HostRuntime) {
+    check_rows(&rt, rt.alloc(), &KEYBOARD);
 }
 
 #[test]
-fn loops_and_replicators(rt: HostRuntime) -> Result<(), Fail> {
-    check_rows(&rt, rt.alloc(), &LOOPS)
+fn loops_and_replicators(rt: HostRuntime) {
+    check_rows(&rt, rt.alloc(), &LOOPS);
 }
 
 #[test]
-fn arrays_channels_and_procedures(rt: HostRuntime) -> Result<(), Fail> {
-    check_rows(&rt, rt.alloc(), &ARRAYS)
+fn arrays_channels_and_procedures(rt: HostRuntime) {
+    check_rows(&rt, rt.alloc(), &ARRAYS);
 }

@@ -1,7 +1,6 @@
 //! Runs of programs without PAR and ALT: the keyboard, loops, faults, and channels that no other process has.
-use crate::row::{Given, Row, check_rows};
+use crate::row::{Given, HUNDRED, Ran, check_ran};
 use occ_play::Errors;
-use std::test::Fail;
 
 const ECHO: &[u8] =
     b"PROC main (CHAN OF BYTE keyboard, screen)\n  BYTE b:\n  SEQ i = 0 FOR 2\n    SEQ\n      keyboard ? b\n      screen ! b\n:\n";
@@ -24,103 +23,59 @@ const DIVIDES: &[u8] =
 const CHOOSES: &[u8] =
     b"PROC main (CHAN OF BYTE keyboard, screen)\n  BYTE b:\n  SEQ\n    keyboard ? b\n    IF\n      b = 'y'\n        screen ! 'Y'\n      b = 'n'\n        screen ! 'N'\n:\n";
 
+static ECHOES: [Ran; 5] = [
+    Ran(ECHO, b"xy", HUNDRED, b"xy", 0, 7),
+    Ran(ECHO, b"xyz", HUNDRED, b"xy", 0, 7),
+    Ran(ECHO, b"x", HUNDRED, b"x\nstopped\n", 2, 4),
+    Ran(ECHO, b"", HUNDRED, b"stopped\n", 2, 1),
+    Ran(ECHO, b"xy", Given::Turns(3), b"x\nlimit\n", 4, 3),
+];
+
+static TRACED: [Ran; 1] = [Ran(
+    ECHO,
+    b"xy",
+    HUNDRED,
+    b"xy\n1 c0 keyboard keyboard>p0 120\n2 c1 screen p0>screen 120\n3 c0 keyboard keyboard>p0 121\n4 c1 screen p0>screen 121\nended\n",
+    0,
+    7,
+)];
+
 /// Each byte of the keyboard is taken once, in order; where none is left, an input waits.
 #[test]
-fn the_keyboard_is_read(rt: HostRuntime) -> Result<(), Fail> {
-    let echo = Row {
-        keyboard: b"xy",
-        ..Row::ended(ECHO, b"xy", 7)
-    };
-    let rows = [
-        echo,
-        Row {
-            keyboard: b"xyz",
-            ..echo
-        },
-        Row {
-            keyboard: b"x",
-            answer: b"x\nstopped\n",
-            status: 2,
-            used: Some(4),
-            ..echo
-        },
-        Row {
-            keyboard: b"",
-            answer: b"stopped\n",
-            status: 2,
-            used: Some(1),
-            ..echo
-        },
-        Row {
-            plan: Given::Turns(3),
-            answer: b"x\nlimit\n",
-            status: 4,
-            used: Some(3),
-            ..echo
-        },
-        Row {
-            trace: true,
-            errors: Errors::Halt,
-            answer: b"xy\n1 c0 keyboard keyboard>p0 120\n2 c1 screen p0>screen 120\n3 c0 keyboard keyboard>p0 121\n4 c1 screen p0>screen 121\nended\n",
-            ..echo
-        },
-    ];
-    check_rows(&rt, rt.alloc(), &rows)
+fn the_keyboard_is_read(rt: HostRuntime) {
+    check_ran(&rt, rt.alloc(), &ECHOES, false, Errors::Halt);
+    check_ran(&rt, rt.alloc(), &TRACED, true, Errors::Halt);
 }
 
+static CHOSEN: [Ran; 3] = [
+    Ran(CHOOSES, b"y", HUNDRED, b"Y", 0, 3),
+    Ran(CHOOSES, b"n", HUNDRED, b"N", 0, 3),
+    Ran(CHOOSES, b"q", HUNDRED, b"stopped\n", 2, 2),
+];
+
 #[test]
-fn what_is_read_is_chosen_by(rt: HostRuntime) -> Result<(), Fail> {
-    let yes = Row {
-        keyboard: b"y",
-        ..Row::ended(CHOOSES, b"Y", 3)
-    };
-    let rows = [
-        yes,
-        Row {
-            keyboard: b"n",
-            answer: b"N",
-            ..yes
-        },
-        Row {
-            keyboard: b"q",
-            answer: b"stopped\n",
-            status: 2,
-            used: Some(2),
-            ..yes
-        },
-    ];
-    check_rows(&rt, rt.alloc(), &rows)
+fn what_is_read_is_chosen_by(rt: HostRuntime) {
+    check_ran(&rt, rt.alloc(), &CHOSEN, false, Errors::Halt);
 }
+
+static WAITING: [Ran; 2] = [
+    Ran(OFFERS, b"", HUNDRED, b"A\nstopped\n", 2, 2),
+    Ran(AWAITS, b"x", HUNDRED, b"stopped\n", 2, 1),
+];
 
 /// A channel of the program's own, of which no process has the other end, is neither the screen nor the keyboard.
 #[test]
-fn declared_channels_wait(rt: HostRuntime) -> Result<(), Fail> {
-    let offers = Row {
-        status: 2,
-        ..Row::ended(OFFERS, b"A\nstopped\n", 2)
-    };
-    let rows = [
-        offers,
-        Row {
-            source: AWAITS,
-            keyboard: b"x",
-            answer: b"stopped\n",
-            used: Some(1),
-            ..offers
-        },
-    ];
-    check_rows(&rt, rt.alloc(), &rows)
+fn declared_channels_wait(rt: HostRuntime) {
+    check_ran(&rt, rt.alloc(), &WAITING, false, Errors::Halt);
 }
 
+static LOOPS: [Ran; 3] = [
+    Ran(COUNTS, b"", HUNDRED, b"012", 0, 7),
+    Ran(TWO_ENDS, b"", HUNDRED, b"se", 0, 3),
+    Ran(DIVIDES, b"", HUNDRED, b"A\nfault ARITH line 5\n", 3, 2),
+];
+
 #[test]
-fn loops_and_faults(rt: HostRuntime) -> Result<(), Fail> {
-    let rows = [
-        Row::ended(COUNTS, b"012", 7),
-        Row::ended(TWO_ENDS, b"se", 3),
-        Row {
-            status: 3,
-            ..Row::ended(DIVIDES, b"A\nfault ARITH line 5\n", 2)
-        },
-    ];
-    check_rows(&rt, rt.alloc(), &rows)
+fn loops_and_faults(rt: HostRuntime) {
+    check_ran(&rt, rt.alloc(), &LOOPS, false, Errors::Halt);
 }

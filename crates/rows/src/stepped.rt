@@ -1,9 +1,9 @@
 //! The turns of whole runs.
+use crate::compared::check_text;
 use occ_explaining::steps_of;
 use occ_play::{Choice, Options};
-use std::alloc::Global;
+use std::alloc::{AllocError, Global};
 use std::process::Abort;
-use std::test::Fail;
 
 const LETTER: &str = "PROC main (CHAN OF BYTE keyboard, screen)
   screen ! 'A'
@@ -51,29 +51,26 @@ const CHOOSING_TURNS: &str = "1 ready p0 took p0 pick 7 line 4: chooses; awaits 
 2 ready p0 took p0 pick 7 line 10: halted
 ";
 
-fn check(rt: &impl Abort, alloc: Global, source: &str, wanted: &str) -> Result<(), Fail> {
-    let mut choices = Vec::new(alloc);
-    for _ in 0..20 {
-        choices.push(Choice { which: 3, pick: 7 })?;
+/// More choices than any of these runs takes.
+const CHOICES: [Choice; 20] = [Choice { which: 3, pick: 7 }; 20];
+
+/// The turns of a run, or the refusal of its source.
+fn told(alloc: Global, source: &[u8]) -> Result<String, AllocError> {
+    match steps_of(&Options::plain(), alloc, source, b"", &CHOICES) {
+        Ok(bytes) => String::from_utf8_lossy(alloc, bytes.as_slice()),
+        Err(fault) => fault.to_string(alloc),
     }
-    let told = match steps_of(
-        &Options::plain(),
-        alloc,
-        source.as_bytes(),
-        b"",
-        choices.as_slice(),
-    ) {
-        Ok(bytes) => String::from_utf8_lossy(alloc, bytes.as_slice())?,
-        Err(fault) => fault.to_string(alloc)?,
-    };
-    assert_eq!(rt; told.as_str(), wanted);
-    Ok(())
+}
+
+fn check(rt: &impl Abort, alloc: Global, source: &str, wanted: &str) {
+    let told = told(alloc, source.as_bytes()).expect(rt, "memory");
+    check_text(rt, source, told.as_str(), wanted);
 }
 
 #[test]
-fn runs_are_told_turn_by_turn(rt: HostRuntime) -> Result<(), Fail> {
+fn runs_are_told_turn_by_turn(rt: HostRuntime) {
     let alloc = rt.alloc();
-    check(&rt, alloc, LETTER, LETTER_TURNS)?;
-    check(&rt, alloc, LINK, LINK_TURNS)?;
-    check(&rt, alloc, CHOOSING, CHOOSING_TURNS)
+    check(&rt, alloc, LETTER, LETTER_TURNS);
+    check(&rt, alloc, LINK, LINK_TURNS);
+    check(&rt, alloc, CHOOSING, CHOOSING_TURNS);
 }

@@ -1,7 +1,6 @@
 //! A fault that stops its process alone, and what it does else.
-use crate::row::{Given, Row, check_rows};
+use crate::row::{Given, HUNDRED, Ran, Row, check_ran, check_row};
 use occ_play::{Choice, Errors};
-use std::test::Fail;
 
 /// A fault beside a process that has something to say.
 pub(crate) const ONE_FAULT: &[u8] = b"PROC main (CHAN OF BYTE keyboard, screen)
@@ -67,61 +66,76 @@ pub(crate) static HALTS: [&[u8]; 3] = [
 ];
 
 /// The second branch before the first.
-const SECOND_FIRST: [Choice; 3] = [
+const SECOND_FIRST: Given = Given::Choices(&[
     Choice { which: 0, pick: 0 },
     Choice { which: 1, pick: 0 },
     Choice { which: 0, pick: 0 },
+]);
+
+static STOPPED: [Ran; 6] = [
+    Ran(MAIN_FAULT, b"", HUNDRED, b"stopped ARITH line 3\n", 2, 1),
+    Ran(
+        ONE_FAULT,
+        b"",
+        Given::Zeros(4),
+        b"a\nstopped ARITH line 4\n",
+        2,
+        4,
+    ),
+    Ran(
+        TWO_FAULTS,
+        b"",
+        Given::Zeros(3),
+        b"stopped ARITH line 4\n",
+        2,
+        3,
+    ),
+    Ran(
+        TWO_FAULTS,
+        b"",
+        SECOND_FIRST,
+        b"stopped ARITH line 5\n",
+        2,
+        3,
+    ),
+    Ran(
+        TOO_MANY,
+        b"",
+        Given::Zeros(3),
+        b"stopped RANGE line 5\n",
+        2,
+        3,
+    ),
+    Ran(ONE_FAULT, b"", Given::Zeros(3), b"a\nlimit\n", 4, 3),
 ];
 
-/// A source that stops, where a fault stops its process alone.
-fn stopped<'a>(source: &'a [u8], plan: Given, answer: &'a [u8], used: usize) -> Row<'a> {
-    Row {
-        plan,
-        errors: Errors::Stop,
-        status: 2,
-        ..Row::ended(source, answer, used)
-    }
+static HALTED: [Ran; 1] = [Ran(
+    ONE_FAULT,
+    b"",
+    Given::Zeros(4),
+    b"fault ARITH line 4\n",
+    3,
+    2,
+)];
+
+#[test]
+fn a_fault_stops_its_process(rt: HostRuntime) {
+    check_ran(&rt, rt.alloc(), &STOPPED, false, Errors::Stop);
+    check_ran(&rt, rt.alloc(), &HALTED, false, Errors::Halt);
 }
 
 #[test]
-fn a_fault_stops_its_process(rt: HostRuntime) -> Result<(), Fail> {
-    let rows = [
-        stopped(MAIN_FAULT, Given::Turns(100), b"stopped ARITH line 3\n", 1),
-        stopped(ONE_FAULT, Given::Zeros(4), b"a\nstopped ARITH line 4\n", 4),
-        stopped(TWO_FAULTS, Given::Zeros(3), b"stopped ARITH line 4\n", 3),
-        stopped(
-            TWO_FAULTS,
-            Given::Choices(&SECOND_FIRST),
-            b"stopped ARITH line 5\n",
-            3,
-        ),
-        stopped(TOO_MANY, Given::Zeros(3), b"stopped RANGE line 5\n", 3),
-        Row {
-            plan: Given::Zeros(4),
-            status: 3,
-            ..Row::ended(ONE_FAULT, b"fault ARITH line 4\n", 2)
-        },
-        Row {
-            plan: Given::Zeros(3),
-            errors: Errors::Stop,
-            status: 4,
-            ..Row::ended(ONE_FAULT, b"a\nlimit\n", 3)
-        },
-    ];
-    check_rows(&rt, rt.alloc(), &rows)
-}
-
-#[test]
-fn what_halts_without_a_fault_is_stopped(rt: HostRuntime) -> Result<(), Fail> {
+fn what_halts_without_a_fault_is_stopped(rt: HostRuntime) {
     for source in &HALTS {
-        let rows = [
-            stopped(source, Given::Turns(100), b"stopped\n", 1),
-            Row {
-                errors: Errors::Halt,
-                ..stopped(source, Given::Turns(100), b"stopped\n", 1)
-            },
-        ];
-        check_rows(&rt, rt.alloc(), &rows)?;
+        let halted = Row {
+            status: 2,
+            ..Row::ended(source, b"stopped\n", 1)
+        };
+        check_row(&rt, rt.alloc(), &halted);
+        let stopped = Row {
+            errors: Errors::Stop,
+            ..halted
+        };
+        check_row(&rt, rt.alloc(), &stopped);
     }
-    Ok(())
 }

@@ -1,7 +1,7 @@
 //! Texts: what is read as a program, and what is refused.
 use crate::row::{Row, check_row};
 use std::alloc::{AllocError, Global};
-use std::test::Fail;
+use std::process::Abort;
 
 const HEAD: &[u8] = b"PROC main (CHAN OF BYTE keyboard, screen)\n";
 
@@ -15,8 +15,8 @@ static LETTERS: [&[u8]; 6] = [
     b"PROC  main  ( CHAN  OF  BYTE  keyboard , screen )  \n  screen  !  'A'  \n:  \n",
 ];
 
-/// Texts that are refused, and how.
-static REFUSALS: [(&[u8], &str); 22] = [
+/// Lines that are refused, and how.
+static BAD_LINES: [(&[u8], &str); 14] = [
     (b"SKIP\t\n", "refused 2 BadByte line 1"),
     (b"x,\n  @", "refused 2 BadByte line 1"),
     (
@@ -46,6 +46,10 @@ static REFUSALS: [(&[u8], &str); 22] = [
         b"PROC main (CHAN OF BYTE keyboard,\n",
         "refused 7 BadBreak line 1",
     ),
+];
+
+/// Programs that are refused, and how.
+static BAD_PROGRAMS: [(&[u8], &str); 8] = [
     (b"SKIP", "refused 20 Unexpected line 1"),
     (b":", "refused 20 Unexpected line 1"),
     (
@@ -69,46 +73,67 @@ static REFUSALS: [(&[u8], &str); 22] = [
 ];
 
 #[test]
-fn texts_are_read(rt: HostRuntime) -> Result<(), Fail> {
+fn texts_are_read(rt: HostRuntime) {
     for source in &LETTERS {
-        check_row(&rt, rt.alloc(), &Row::ended(source, b"A", 2))?;
+        check_row(&rt, rt.alloc(), &Row::ended(source, b"A", 2));
     }
-    Ok(())
 }
 
-#[test]
-fn every_printing_byte_is_read(rt: HostRuntime) -> Result<(), Fail> {
-    let alloc = rt.alloc();
-    let mut source = Vec::from_slice(alloc, HEAD)?;
-    source.extend_from_slice(b"  SEQ\n")?;
-    let mut answer = Vec::new(alloc);
+/// The bytes that print and stand for themselves.
+fn printing(alloc: Global) -> Result<Vec<u8>, AllocError> {
+    let mut bytes = Vec::new(alloc);
     for byte in 32u8..127 {
         if byte != b'*' && byte != b'\'' {
-            source.extend_from_slice(b"    screen ! '")?;
-            source.push(byte)?;
-            source.extend_from_slice(b"'\n")?;
-            answer.push(byte)?;
+            bytes.push(byte)?;
         }
     }
-    source.extend_from_slice(b":\n")?;
-    check_row(&rt, alloc, &Row::ended(&source, &answer, 94))
+    Ok(bytes)
 }
 
-#[test]
-fn texts_are_refused(rt: HostRuntime) -> Result<(), Fail> {
-    for (source, refusal) in &REFUSALS {
-        check_row(&rt, rt.alloc(), &Row::refused(source, refusal))?;
+/// An output of a byte.
+fn write_output(source: &mut Vec<u8>, byte: u8) -> Result<(), AllocError> {
+    source.extend_from_slice(b"    screen ! '")?;
+    source.push(byte)?;
+    source.extend_from_slice(b"'\n")
+}
+
+/// A program that outputs these bytes.
+fn outputs(alloc: Global, bytes: &[u8]) -> Result<Vec<u8>, AllocError> {
+    let mut source = Vec::from_slice(alloc, HEAD)?;
+    source.extend_from_slice(b"  SEQ\n")?;
+    for byte in bytes {
+        write_output(&mut source, *byte)?;
     }
-    Ok(())
+    source.extend_from_slice(b":\n")?;
+    Ok(source)
 }
 
 #[test]
-fn long_texts_are_refused(rt: HostRuntime) -> Result<(), Fail> {
-    let alloc = rt.alloc();
-    let mut source = vec![in alloc; b' '; 1_048_576]?;
-    check_row(&rt, alloc, &Row::refused(&source, "refused 42 NoMain"))?;
-    source.push(b' ')?;
-    check_row(&rt, alloc, &Row::refused(&source, "refused 1 TooLong"))
+fn every_printing_byte_is_read(rt: HostRuntime) {
+    let bytes = printing(rt.alloc()).expect(&rt, "memory");
+    let source = outputs(rt.alloc(), &bytes).expect(&rt, "memory");
+    check_row(&rt, rt.alloc(), &Row::ended(&source, &bytes, 94));
+}
+
+/// Each of these texts is refused so.
+fn check_refused(rt: &impl Abort, alloc: Global, rows: &[(&[u8], &str)]) {
+    for (source, refusal) in rows {
+        check_row(rt, alloc, &Row::refused(source, refusal));
+    }
+}
+
+#[test]
+fn texts_are_refused(rt: HostRuntime) {
+    check_refused(&rt, rt.alloc(), &BAD_LINES);
+    check_refused(&rt, rt.alloc(), &BAD_PROGRAMS);
+}
+
+#[test]
+fn long_texts_are_refused(rt: HostRuntime) {
+    let mut source = vec![in rt.alloc(); b' '; 1_048_576].expect(&rt, "memory");
+    check_row(&rt, rt.alloc(), &Row::refused(&source, "refused 42 NoMain"));
+    source.push(b' ').expect(&rt, "memory");
+    check_row(&rt, rt.alloc(), &Row::refused(&source, "refused 1 TooLong"));
 }
 
 /// A sequence of so many SKIPs.
@@ -124,12 +149,11 @@ fn skips(alloc: Global, count: usize) -> Result<Vec<u8>, AllocError> {
 
 /// A program has 100,000 nodes at most, and SEQ is one.
 #[test]
-fn many_lines_are_read(rt: HostRuntime) -> Result<(), Fail> {
-    let alloc = rt.alloc();
-    let most = skips(alloc, 99_999)?;
-    check_row(&rt, alloc, &Row::ended(&most, b"", 1))?;
-    let more = skips(alloc, 100_000)?;
-    check_row(&rt, alloc, &Row::refused(&more, "refused 43 TooLarge"))
+fn many_lines_are_read(rt: HostRuntime) {
+    let most = skips(rt.alloc(), 99_999).expect(&rt, "memory");
+    check_row(&rt, rt.alloc(), &Row::ended(&most, b"", 1));
+    let more = skips(rt.alloc(), 100_000).expect(&rt, "memory");
+    check_row(&rt, rt.alloc(), &Row::refused(&more, "refused 43 TooLarge"));
 }
 
 /// A letter at this level, below a sequence at each level between.
@@ -152,14 +176,10 @@ fn indent(source: &mut Vec<u8>, level: usize) -> Result<(), AllocError> {
 }
 
 #[test]
-fn levels_are_read(rt: HostRuntime) -> Result<(), Fail> {
-    let alloc = rt.alloc();
-    let deepest = nested(alloc, 64)?;
-    check_row(&rt, alloc, &Row::ended(&deepest, b"A", 2))?;
-    let too_deep = nested(alloc, 65)?;
-    check_row(
-        &rt,
-        alloc,
-        &Row::refused(&too_deep, "refused 23 TooDeep line 66"),
-    )
+fn levels_are_read(rt: HostRuntime) {
+    let deepest = nested(rt.alloc(), 64).expect(&rt, "memory");
+    check_row(&rt, rt.alloc(), &Row::ended(&deepest, b"A", 2));
+    let too_deep = nested(rt.alloc(), 65).expect(&rt, "memory");
+    let refused = Row::refused(&too_deep, "refused 23 TooDeep line 66");
+    check_row(&rt, rt.alloc(), &refused);
 }

@@ -1,4 +1,5 @@
 //! A run by several threads is the run on one thread by the choices that they used.
+use crate::compared::check_bytes;
 use crate::networks::PIPELINE;
 use crate::stopping::{HALTS, MAIN_FAULT, ONE_FAULT, TOO_MANY, TWO_FAULTS};
 use occ_play::{
@@ -7,7 +8,6 @@ use occ_play::{
 use std::alloc::Global;
 use std::process::Abort;
 use std::sync::Wait;
-use std::test::Fail;
 use std::thread::Threads;
 
 /// Plays a source by four workers.
@@ -46,6 +46,12 @@ fn check_last(rt: &impl Abort, answer: &[u8], lasts: &[&[u8]]) {
     assert!(rt; found);
 }
 
+/// Two runs came to the same.
+fn check_same(rt: &impl Abort, first: &Played, again: &Played) {
+    assert!(rt; first.ending == again.ending);
+    assert!(rt; first.choices.as_slice() == again.choices.as_slice());
+}
+
 /// Plays a source once more by the choices of a run, and compares the two.
 fn check_again(
     rt: &impl Abort,
@@ -54,13 +60,11 @@ fn check_again(
     source: &[u8],
     first: &Played,
     answer: &[u8],
-) -> Result<(), Fail> {
+) {
     let mut bytes = Vec::new(alloc);
-    let again = by_choices(alloc, options, source, first.choices.as_slice(), &mut bytes)?;
-    assert_eq!(rt; answer, bytes.as_slice());
-    assert_eq!(rt; first.ending, again.ending);
-    assert_eq!(rt; first.choices.as_slice(), again.choices.as_slice());
-    Ok(())
+    let again = by_choices(alloc, options, source, first.choices.as_slice(), &mut bytes);
+    check_bytes(rt, "the second answer", bytes.as_slice(), answer);
+    check_same(rt, first, &again.ok().expect(rt, "refused"));
 }
 
 /// Plays a source by four workers, and once more by what they chose. The answer ends in one of these.
@@ -69,11 +73,12 @@ fn check_source<R: Threads + Wait + Abort + Sync + AllocGlobal>(
     options: Options,
     source: &[u8],
     lasts: &[&[u8]],
-) -> Result<(), Fail> {
+) {
     let mut answer = Vec::new(rt.alloc());
-    let played = by_workers(rt, &options, source, &mut answer)?;
+    let played = by_workers(rt, &options, source, &mut answer);
     check_last(rt, answer.as_slice(), lasts);
-    check_again(rt, rt.alloc(), &options, source, &played, answer.as_slice())
+    let played = played.ok().expect(rt, "refused");
+    check_again(rt, rt.alloc(), &options, source, &played, answer.as_slice());
 }
 
 /// What a fault does, a source, and the lines in one of which its answer ends.
@@ -128,36 +133,33 @@ static FAULTY: &[Faulty<'static>] = &[
 ];
 
 #[test]
-fn workers_play_what_one_thread_plays(rt: HostRuntime) -> Result<(), Fail> {
+fn workers_play_what_one_thread_plays(rt: HostRuntime) {
     for quantum in [1, 3] {
         let options = Options {
             quantum,
             errors: Errors::Halt,
         };
-        check_source(&rt, options, PIPELINE, &[b"ended\n"])?;
+        check_source(&rt, options, PIPELINE, &[b"ended\n"]);
     }
-    Ok(())
 }
 
 #[test]
-fn workers_stop_at_faults_in_both_modes(rt: HostRuntime) -> Result<(), Fail> {
+fn workers_stop_at_faults_in_both_modes(rt: HostRuntime) {
     for row in FAULTY {
         let options = Options {
             quantum: 1,
             errors: row.errors,
         };
-        check_source(&rt, options, row.source, row.lasts)?;
+        check_source(&rt, options, row.source, row.lasts);
     }
-    Ok(())
 }
 
 #[test]
-fn workers_stop_without_a_fault_in_both_modes(rt: HostRuntime) -> Result<(), Fail> {
+fn workers_stop_without_a_fault_in_both_modes(rt: HostRuntime) {
     for errors in [Errors::Halt, Errors::Stop] {
         for source in &HALTS {
             let options = Options { quantum: 1, errors };
-            check_source(&rt, options, source, &[b"stopped\n"])?;
+            check_source(&rt, options, source, &[b"stopped\n"]);
         }
     }
-    Ok(())
 }

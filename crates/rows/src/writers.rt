@@ -54,16 +54,14 @@ fn check_writes(rt: &impl Abort, alloc: Global, writes: u32, takes_none: bool) {
     match &played {
         Ok(_) => {
             assert!(rt; writes >= 6);
-            assert_eq!(rt; failures, 0);
-            assert_eq!(rt; status, 2);
-            assert_eq!(rt; taken.as_slice(), ANSWER);
+            assert!(rt; failures == 0 && status == 2);
+            assert!(rt; taken.as_slice() == ANSWER);
         }
         Err(PlayFault::Write { written }) => {
             assert!(rt; writes < 6);
-            assert_eq!(rt; failures, 1);
-            assert_eq!(rt; status, 6);
-            assert_eq!(rt; *written, u64::from(writes) * 2);
-            assert_eq!(rt; taken.len() as u64, *written);
+            assert!(rt; failures == 1 && status == 6);
+            assert!(rt; *written == u64::from(writes) * 2);
+            assert!(rt; taken.len() as u64 == *written);
             assert!(rt; ANSWER.starts_with(taken.as_slice()));
         }
         Err(_) => assert!(rt; false, "another fault"),

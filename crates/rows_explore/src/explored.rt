@@ -1,13 +1,14 @@
 //! Explorations of whole programs: each answer in the order in which they are found, how long runs go on, and how many states
 //! were found; and a reduced search beside a full one.
 use crate::accepted::code_of;
+use crate::compared::check_text;
 use crate::sources::{DINING, LIVELOCK, MERGE, POOL, WAITER};
 use occ_explore::{Answer, Asked, Exploration, Lasting, Untold, explore, explore_reduced};
+use occ_machine::Code;
 use occ_term::Errors;
 use std::alloc::{AllocError, Global};
 use std::fmt::Write;
 use std::process::Abort;
-use std::test::Fail;
 
 /// A fault in one branch, and outputs in another.
 const RANGE: &str = r#"PROC main (CHAN OF BYTE keyboard, screen)
@@ -164,23 +165,28 @@ fn told(alloc: Global, found: &Exploration) -> Result<String, AllocError> {
     Ok(text)
 }
 
-fn explored(rt: &impl Abort, alloc: Global, row: &Row) -> Result<Exploration, Fail> {
+/// The code of a row's source, in the row's mode.
+fn code(rt: &impl Abort, alloc: Global, row: &Row) -> Code {
     let code = code_of(alloc, row.source.as_bytes()).expect(rt, "refused");
-    let code = code.with_errors(row.errors);
-    Ok(explore(alloc, &code, row.keyboard, row.asked, row.most, &mut Untold)?)
+    code.with_errors(row.errors)
 }
 
-fn reduced(rt: &impl Abort, alloc: Global, row: &Row) -> Result<Exploration, Fail> {
-    let code = code_of(alloc, row.source.as_bytes()).expect(rt, "refused");
-    let code = code.with_errors(row.errors);
-    Ok(explore_reduced(alloc, &code, row.keyboard, row.asked, row.most, &mut Untold)?)
+fn explored(rt: &impl Abort, alloc: Global, row: &Row) -> Exploration {
+    let code = code(rt, alloc, row);
+    let found = explore(alloc, &code, row.keyboard, row.asked, row.most, &mut Untold);
+    found.expect(rt, "memory")
 }
 
-fn check(rt: &impl Abort, alloc: Global, row: &Row) -> Result<(), Fail> {
-    let found = explored(rt, alloc, row)?;
-    let text = told(alloc, &found)?;
-    assert_eq!(rt; text.as_str(), row.told);
-    Ok(())
+fn reduced(rt: &impl Abort, alloc: Global, row: &Row) -> Exploration {
+    let code = code(rt, alloc, row);
+    let found = explore_reduced(alloc, &code, row.keyboard, row.asked, row.most, &mut Untold);
+    found.expect(rt, "memory")
+}
+
+fn check(rt: &impl Abort, alloc: Global, row: &Row) {
+    let found = explored(rt, alloc, row);
+    let text = told(alloc, &found).expect(rt, "memory");
+    check_text(rt, "what is found", text.as_str(), row.told);
 }
 
 static SCHEDULED: [Row; 5] = [
@@ -383,11 +389,10 @@ within 1
     },
 ];
 
-fn check_all(rt: &impl Abort, alloc: Global, rows: &[Row]) -> Result<(), Fail> {
+fn check_all(rt: &impl Abort, alloc: Global, rows: &[Row]) {
     for row in rows {
-        check(rt, alloc, row)?;
+        check(rt, alloc, row);
     }
-    Ok(())
 }
 
 /// Whether both show the same after the same ending.
@@ -429,17 +434,13 @@ fn lasts_as(lasting: &Option<Lasting>, other: &Option<Lasting>) -> bool {
 }
 
 /// A reduced search tells what a search of all states does, by way of no more of them.
-fn compare(rt: &impl Abort, alloc: Global, row: &Row) -> Result<(), Fail> {
-    let full = explored(rt, alloc, row)?;
-    let few = reduced(rt, alloc, row)?;
-    assert!(rt; full.all);
-    assert!(rt; few.all);
-    assert_eq!(rt; few.answers.len(), full.answers.len());
-    assert!(rt; are_among(row.asked, &few.answers, &full.answers));
-    assert!(rt; are_among(row.asked, &full.answers, &few.answers));
+fn compare(rt: &impl Abort, asked: Asked, few: &Exploration, full: &Exploration) {
+    assert!(rt; full.all && few.all);
+    assert!(rt; few.answers.len() == full.answers.len());
+    assert!(rt; are_among(asked, &few.answers, &full.answers));
+    assert!(rt; are_among(asked, &full.answers, &few.answers));
     assert!(rt; lasts_as(&few.lasting, &full.lasting));
     assert!(rt; few.states <= full.states);
-    Ok(())
 }
 
 /// A program whose searches are compared.
@@ -497,21 +498,34 @@ static COMPARED: [Compared; 11] = [
 ];
 
 /// Compares the searches of a program in both modes, for answers and for endings.
-fn compare_all(rt: &impl Abort, alloc: Global, row: &Compared) -> Result<(), Fail> {
-    for errors in [Errors::Halt, Errors::Stop] {
-        for asked in [Asked::Answers, Asked::Endings] {
-            let asked_for = Row {
-                source: row.source,
-                errors,
-                keyboard: row.keyboard,
-                asked,
-                most: 100_000,
-                told: "",
-            };
-            compare(rt, alloc, &asked_for)?;
-        }
-    }
-    Ok(())
+fn compare_all(rt: &impl Abort, alloc: Global, row: &Compared) {
+    compare_in(rt, alloc, row, Errors::Halt);
+    compare_in(rt, alloc, row, Errors::Stop);
+}
+
+/// Compares them in one mode.
+fn compare_in(rt: &impl Abort, alloc: Global, row: &Compared, errors: Errors) {
+    let answers = Row {
+        source: row.source,
+        errors,
+        keyboard: row.keyboard,
+        asked: Asked::Answers,
+        most: 100_000,
+        told: "",
+    };
+    compare_by(rt, alloc, &answers);
+    let endings = Row {
+        asked: Asked::Endings,
+        ..answers
+    };
+    compare_by(rt, alloc, &endings);
+}
+
+/// Compares the two searches of a row.
+fn compare_by(rt: &impl Abort, alloc: Global, row: &Row) {
+    let full = explored(rt, alloc, row);
+    let few = reduced(rt, alloc, row);
+    compare(rt, row.asked, &few, &full);
 }
 
 /// What a reduced search tells, but for how many states it came to.
@@ -561,71 +575,65 @@ within 5
     },
 ];
 
-fn check_reduced(rt: &impl Abort, alloc: Global, row: &Row) -> Result<(), Fail> {
-    let found = reduced(rt, alloc, row)?;
+fn check_reduced(rt: &impl Abort, alloc: Global, row: &Row) {
+    let found = reduced(rt, alloc, row);
     let mut text = String::new(alloc);
-    write_found(&mut text, &found)?;
-    assert_eq!(rt; text.as_str(), row.told);
+    write_found(&mut text, &found).expect(rt, "memory");
+    check_text(rt, "what is found", text.as_str(), row.told);
     assert!(rt; found.all);
-    Ok(())
+}
+
+/// A reduced search that may come to this number of states: whether it was all of it, and how many there were.
+fn states_within(rt: &impl Abort, alloc: Global, row: &Row, most: u32) -> (bool, usize) {
+    let found = reduced(rt, alloc, &Row { most, ..*row });
+    (found.all, found.states)
 }
 
 /// As many states as are needed are enough, and one less is not.
-fn check_bound(rt: &impl Abort, alloc: Global, row: &Row) -> Result<(), Fail> {
-    let states = reduced(rt, alloc, row)?.states;
-    let Ok(most) = u32::try_from(states) else {
-        return Ok(());
-    };
-    let exact = Row { most, ..*row };
-    assert!(rt; reduced(rt, alloc, &exact)?.all);
-    let short = Row {
-        most: most.saturating_sub(1),
-        ..*row
-    };
-    let found = reduced(rt, alloc, &short)?;
-    assert!(rt; !found.all);
-    assert_eq!(rt; found.states, short.most as usize);
-    Ok(())
+fn check_bound(rt: &impl Abort, alloc: Global, row: &Row) {
+    let (_, states) = states_within(rt, alloc, row, row.most);
+    let most = u32::try_from(states).expect(rt, "states");
+    let (all, _) = states_within(rt, alloc, row, most);
+    assert!(rt; all);
+    let short = most.saturating_sub(1);
+    let (all, states) = states_within(rt, alloc, row, short);
+    assert!(rt; !all && states == short as usize);
 }
 
 #[test]
-fn schedules_are_explored(rt: HostRuntime) -> Result<(), Fail> {
-    check_all(&rt, rt.alloc(), &SCHEDULED)
+fn schedules_are_explored(rt: HostRuntime) {
+    check_all(&rt, rt.alloc(), &SCHEDULED);
 }
 
 #[test]
-fn searches_end_at_their_bound(rt: HostRuntime) -> Result<(), Fail> {
-    check_all(&rt, rt.alloc(), &FOREVER)
+fn searches_end_at_their_bound(rt: HostRuntime) {
+    check_all(&rt, rt.alloc(), &FOREVER);
 }
 
 #[test]
-fn small_programs_are_explored(rt: HostRuntime) -> Result<(), Fail> {
-    check_all(&rt, rt.alloc(), &SMALL)
+fn small_programs_are_explored(rt: HostRuntime) {
+    check_all(&rt, rt.alloc(), &SMALL);
 }
 
 #[test]
-fn reduced_searches_tell_the_same(rt: HostRuntime) -> Result<(), Fail> {
+fn reduced_searches_tell_the_same(rt: HostRuntime) {
     for row in &COMPARED {
-        compare_all(&rt, rt.alloc(), row)?;
+        compare_all(&rt, rt.alloc(), row);
     }
-    Ok(())
 }
 
 #[test]
-fn reduced_searches_find_answers(rt: HostRuntime) -> Result<(), Fail> {
+fn reduced_searches_find_answers(rt: HostRuntime) {
     for row in &REDUCED {
-        check_reduced(&rt, rt.alloc(), row)?;
+        check_reduced(&rt, rt.alloc(), row);
     }
-    Ok(())
 }
 
+/// One state is not enough for the smallest program.
 #[test]
-fn reduced_searches_end_at_their_bound(rt: HostRuntime) -> Result<(), Fail> {
-    check_bound(&rt, rt.alloc(), &REDUCED[0])?;
-    check_bound(&rt, rt.alloc(), &REDUCED[2])?;
-    let row = &SMALL[6];
-    let found = reduced(&rt, rt.alloc(), row)?;
-    assert!(rt; !found.all);
-    assert_eq!(rt; found.states, 1);
-    Ok(())
+fn reduced_searches_end_at_their_bound(rt: HostRuntime) {
+    check_bound(&rt, rt.alloc(), &REDUCED[0]);
+    check_bound(&rt, rt.alloc(), &REDUCED[2]);
+    let (all, states) = states_within(&rt, rt.alloc(), &SMALL[6], SMALL[6].most);
+    assert!(rt; !all && states == 1);
 }

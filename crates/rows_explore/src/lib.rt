@@ -4,6 +4,8 @@
 #[cfg(test)]
 mod accepted;
 #[cfg(test)]
+mod compared;
+#[cfg(test)]
 mod explored;
 #[cfg(test)]
 mod sources;

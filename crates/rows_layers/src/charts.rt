@@ -1,10 +1,11 @@
 //! The picture of a trace.
+use crate::compared::check_bytes;
 use crate::unfolded::{channel_of_bytes, fixed_channels};
 use occ_chart::{Part as Drawn, Stub, chart};
 use occ_net_trace::Trace;
 use occ_term::{End, Ending, Message, Part, Parts, Primitive};
 use std::alloc::{AllocError, Global};
-use std::test::Fail;
+use std::process::Abort;
 
 /// The first communication alone.
 const FIRST: &str =
@@ -57,46 +58,66 @@ fn two(alloc: Global) -> Result<Trace, AllocError> {
     Ok(trace)
 }
 
-#[test]
-fn first_ones_are_drawn(rt: HostRuntime) -> Result<(), Fail> {
-    let alloc = rt.alloc();
+/// The picture of these two, after which a run has come to this ending.
+fn drawn(
+    alloc: Global,
+    part: Drawn,
+    ending: Ending,
+    names: &[Vec<u8>],
+    stubs: &[Stub],
+    circle: &[u32],
+) -> Result<Vec<u8>, AllocError> {
     let channels = fixed_channels(alloc)?;
     let trace = two(alloc)?;
-    let drawn = chart(
+    chart(
         alloc,
         &trace,
         channels.as_slice(),
-        Drawn::First(1),
-        Ending::Ended,
-        &[],
-        &[],
-        &[],
-    )?;
-    assert_eq!(rt; drawn.as_slice(), FIRST.as_bytes());
-    Ok(())
+        part,
+        ending,
+        names,
+        stubs,
+        circle,
+    )
 }
 
 #[test]
-fn last_ones_are_drawn(rt: HostRuntime) -> Result<(), Fail> {
+fn first_ones_are_drawn(rt: HostRuntime) {
     let alloc = rt.alloc();
-    let channels = fixed_channels(alloc)?;
-    let trace = two(alloc)?;
+    let drawn = drawn(alloc, Drawn::First(1), Ending::Ended, &[], &[], &[]);
+    let drawn = drawn.expect(&rt, "memory");
+    check_bytes(&rt, "the picture", drawn.as_slice(), FIRST.as_bytes());
+}
+
+/// The name of the first process.
+fn names(alloc: Global) -> Result<Vec<Vec<u8>>, AllocError> {
     let mut names = Vec::new(alloc);
     names.push(Vec::from_slice(alloc, b"main")?)?;
+    Ok(names)
+}
+
+/// What the third process waits for.
+fn stubs(alloc: Global) -> Result<Vec<Stub>, AllocError> {
     let mut stubs = Vec::new(alloc);
     stubs.push(Stub::new(2, Vec::from_slice(alloc, b"right[0] ! TRUE waits")?))?;
-    let drawn = chart(
+    Ok(stubs)
+}
+
+#[test]
+fn last_ones_are_drawn(rt: HostRuntime) {
+    let alloc = rt.alloc();
+    let names = names(alloc).expect(&rt, "memory");
+    let stubs = stubs(alloc).expect(&rt, "memory");
+    let drawn = drawn(
         alloc,
-        &trace,
-        channels.as_slice(),
         Drawn::Last(1),
         Ending::Stopped,
-        names.as_slice(),
-        stubs.as_slice(),
+        &names,
+        &stubs,
         &[2, 0],
-    )?;
-    assert_eq!(rt; drawn.as_slice(), LAST.as_bytes());
-    Ok(())
+    );
+    let drawn = drawn.expect(&rt, "memory");
+    check_bytes(&rt, "the picture", drawn.as_slice(), LAST.as_bytes());
 }
 
 /// A name with what marks XML in it, and with bytes that are no printed ASCII.
@@ -123,27 +144,21 @@ fn named(alloc: Global, name: &[u8]) -> Result<Vec<u8>, AllocError> {
     )
 }
 
-#[test]
-fn marks_are_escaped(rt: HostRuntime) -> Result<(), Fail> {
-    let alloc = rt.alloc();
-    let drawn = named(alloc, MARKED)?;
-    let text = String::from_utf8_lossy(alloc, drawn.as_slice())?;
-    assert!(rt;
-        text.as_str()
-            .contains(">a&lt;b&gt;&amp;&quot;c&quot;?? 10</text>")
-    );
-    Ok(())
+/// The picture of a byte on a channel of this name has these words.
+fn check_named(rt: &impl Abort, alloc: Global, name: &[u8], words: &str) {
+    let drawn = named(alloc, name).expect(rt, "memory");
+    let text = String::from_utf8_lossy(alloc, drawn.as_slice()).expect(rt, "memory");
+    assert!(rt; text.as_str().contains(words));
 }
 
 #[test]
-fn long_words_are_cut(rt: HostRuntime) -> Result<(), Fail> {
-    let alloc = rt.alloc();
-    let drawn = named(alloc, LONG)?;
-    let text = String::from_utf8_lossy(alloc, drawn.as_slice())?;
-    assert!(rt;
-        text.as_str().contains(
-            "<title>abcdefghijklmnopqrstuvwxyz 10</title>abcdefghijklmnopqrstu...</text>"
-        )
-    );
-    Ok(())
+fn marks_are_escaped(rt: HostRuntime) {
+    let words = ">a&lt;b&gt;&amp;&quot;c&quot;?? 10</text>";
+    check_named(&rt, rt.alloc(), MARKED, words);
+}
+
+#[test]
+fn long_words_are_cut(rt: HostRuntime) {
+    let words = "<title>abcdefghijklmnopqrstuvwxyz 10</title>abcdefghijklmnopqrstu...</text>";
+    check_named(&rt, rt.alloc(), LONG, words);
 }

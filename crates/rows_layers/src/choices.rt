@@ -1,9 +1,9 @@
 //! Files of choices: what is read from a text, and what is written.
+use crate::compared::check_bytes;
 use occ_choices::{ChoiceFault, choices_text, read_choices};
 use occ_net_replay::Choice;
 use std::alloc::{AllocError, Global};
 use std::process::Abort;
-use std::test::Fail;
 
 const LARGEST: u32 = 4_294_967_295;
 
@@ -42,22 +42,20 @@ fn refusal(alloc: Global, fault: &ChoiceFault) -> Result<Vec<u8>, AllocError> {
     Vec::from_slice(alloc, text.as_bytes())
 }
 
-fn check(rt: &impl Abort, alloc: Global, row: &Row) -> Result<(), Fail> {
-    let text = shown(alloc, row.0)?;
-    assert_eq!(rt; text.as_slice(), row.1.as_bytes(), "{}", row.1);
-    Ok(())
+fn check(rt: &impl Abort, alloc: Global, row: &Row) {
+    let text = shown(alloc, row.0).expect(rt, "memory");
+    check_bytes(rt, row.1, text.as_slice(), row.1.as_bytes());
 }
 
 #[test]
-fn files_of_choices_are_read(rt: HostRuntime) -> Result<(), Fail> {
+fn files_of_choices_are_read(rt: HostRuntime) {
     for row in &ROWS {
-        check(&rt, rt.alloc(), row)?;
+        check(&rt, rt.alloc(), row);
     }
-    Ok(())
 }
 
 #[test]
-fn choices_are_written(rt: HostRuntime) -> Result<(), Fail> {
+fn choices_are_written(rt: HostRuntime) {
     let choices = [
         Choice { which: 0, pick: 0 },
         Choice {
@@ -65,20 +63,20 @@ fn choices_are_written(rt: HostRuntime) -> Result<(), Fail> {
             pick: 7,
         },
     ];
-    let text = choices_text(rt.alloc(), &choices)?;
-    assert_eq!(&rt; text.as_slice(), b"0 0\n4294967295 7\n".as_slice());
-    Ok(())
+    let text = choices_text(rt.alloc(), &choices).expect(&rt, "memory");
+    check_bytes(&rt, "choices", text.as_slice(), b"0 0\n4294967295 7\n");
 }
 
 /// A line more than a file may have. The build of `rt try` takes some minutes for it: `--seconds 600`.
 #[test]
-fn long_files_are_refused(rt: HostRuntime) -> Result<(), Fail> {
+fn long_files_are_refused(rt: HostRuntime) {
     let alloc = rt.alloc();
-    let mut text = Vec::with_capacity(alloc, 40_000_004)?;
-    for _ in 0..10_000_001 {
-        text.extend_from_slice(b"0 0\n")?;
-    }
-    let refused = shown(alloc, &text)?;
-    assert_eq!(&rt; refused.as_slice(), b"refused 91 TooMany".as_slice());
-    Ok(())
+    let text = b"0 0\n".repeat(alloc, 10_000_001).expect(&rt, "memory");
+    let refused = shown(alloc, &text).expect(&rt, "memory");
+    check_bytes(
+        &rt,
+        "a long file",
+        refused.as_slice(),
+        b"refused 91 TooMany",
+    );
 }

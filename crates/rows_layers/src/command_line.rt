@@ -1,11 +1,12 @@
 //! The words of the command line.
+use crate::compared::check_text;
 use clap::error::ErrorKind;
 use occ_play_inputs::read_words;
+use std::alloc::Global;
 use std::process::Abort;
-use std::test::Fail;
 
 /// Words, and what is read of them.
-static READ: [(&[&str], &str); 10] = [
+static READ: [(&[&str], &str); 5] = [
     (
         &["occam"],
         "Words { limit: 1000000, quantum: 1, errors: Halt, workers: None, trace: false, watch: false, explain: false, seed: None, tries: 1, choices: None, record: None, chart: None, arrows: 200, last: None, trace_to: None, json: false, steps: None, explore: None, full: false, states: 1000000, check: false, file: None }",
@@ -37,6 +38,10 @@ static READ: [(&[&str], &str); 10] = [
         ],
         "Words { limit: 1000000, quantum: 65536, errors: Stop, workers: Some(64), trace: false, watch: true, explain: true, seed: None, tries: 1, choices: Some(\"c\"), record: Some(\"r\"), chart: Some(\"s.svg\"), arrows: 0, last: None, trace_to: None, json: false, steps: None, explore: None, full: false, states: 1000000, check: false, file: None }",
     ),
+];
+
+/// The words of a search, and of what else stands beside no run.
+static SEARCHED: [(&[&str], &str); 5] = [
     (
         &["occam", "--explore", "f.occ"],
         "Words { limit: 1000000, quantum: 1, errors: Halt, workers: None, trace: false, watch: false, explain: false, seed: None, tries: 1, choices: None, record: None, chart: None, arrows: 200, last: None, trace_to: None, json: false, steps: None, explore: Some(Answers), full: false, states: 1000000, check: false, file: Some(\"f.occ\") }",
@@ -75,19 +80,24 @@ static READ: [(&[&str], &str); 10] = [
     ),
 ];
 
+fn check_read(rt: &impl Abort, alloc: Global, list: &[&str], wanted: &str) {
+    let words = read_words(alloc, list).ok().expect(rt, "refused");
+    let read = format!(in alloc; "{words:?}").expect(rt, "memory");
+    check_text(rt, wanted, read.as_str(), wanted);
+}
+
 #[test]
-fn words_are_read(rt: HostRuntime) -> Result<(), Fail> {
-    let alloc = rt.alloc();
+fn words_are_read(rt: HostRuntime) {
     for (list, wanted) in &READ {
-        let words = read_words(alloc, list)?;
-        let read = format!(in alloc; "{words:?}")?;
-        assert_eq!(rt; read.as_str(), *wanted);
+        check_read(&rt, rt.alloc(), list, wanted);
     }
-    Ok(())
+    for (list, wanted) in &SEARCHED {
+        check_read(&rt, rt.alloc(), list, wanted);
+    }
 }
 
 /// Words, and why they are refused.
-static REFUSED: [(&[&str], ErrorKind); 45] = [
+static REFUSED: [(&[&str], ErrorKind); 13] = [
     (&["occam", "--limit=10000001"], ErrorKind::ValueValidation),
     (&["occam", "--limit=4294967296"], ErrorKind::ValueValidation),
     (&["occam", "--limit=-1"], ErrorKind::ValueValidation),
@@ -104,6 +114,10 @@ static REFUSED: [(&[&str], ErrorKind); 45] = [
         &["occam", "--arrows=4294967296"],
         ErrorKind::ValueValidation,
     ),
+];
+
+/// Names that there are not, and words that stand twice.
+static UNKNOWN: [(&[&str], ErrorKind); 9] = [
     (&["occam", "--chart"], ErrorKind::InvalidValue),
     (&["occam", "--trace=yes"], ErrorKind::TooManyValues),
     (&["occam", "--nope"], ErrorKind::UnknownArgument),
@@ -119,6 +133,10 @@ static REFUSED: [(&[&str], ErrorKind); 45] = [
         ErrorKind::ArgumentConflict,
     ),
     (&["occam", "f.occ", "g.occ"], ErrorKind::UnknownArgument),
+];
+
+/// What stands beside no search.
+static UNSEARCHED: [(&[&str], ErrorKind); 11] = [
     (
         &["occam", "--explore", "--limit=1"],
         ErrorKind::ArgumentConflict,
@@ -157,6 +175,10 @@ static REFUSED: [(&[&str], ErrorKind); 45] = [
         &["occam", "--explore", "--arrows=5"],
         ErrorKind::ArgumentConflict,
     ),
+];
+
+/// What wants another word, or stands beside none.
+static ALONE: [(&[&str], ErrorKind); 12] = [
     (&["occam", "--version"], ErrorKind::DisplayVersion),
     (&["occam", "--arrows=5"], ErrorKind::MissingRequiredArgument),
     (&["occam", "--last=5"], ErrorKind::MissingRequiredArgument),
@@ -189,13 +211,19 @@ static REFUSED: [(&[&str], ErrorKind); 45] = [
     (&["occam", "--json"], ErrorKind::MissingRequiredArgument),
 ];
 
-#[test]
-fn wrong_words_are_refused(rt: HostRuntime) -> Result<(), Fail> {
-    for (list, wanted) in &REFUSED {
-        let refused = read_words(rt.alloc(), list).err();
-        assert_eq!(rt; refused.map(|error| error.kind()), Some(*wanted));
+fn check_refused(rt: &impl Abort, alloc: Global, rows: &[(&[&str], ErrorKind)]) {
+    for (list, wanted) in rows {
+        let refused = read_words(alloc, list).err().expect(rt, "read");
+        assert!(rt; refused.kind() == *wanted);
     }
-    Ok(())
+}
+
+#[test]
+fn wrong_words_are_refused(rt: HostRuntime) {
+    check_refused(&rt, rt.alloc(), &REFUSED);
+    check_refused(&rt, rt.alloc(), &UNKNOWN);
+    check_refused(&rt, rt.alloc(), &UNSEARCHED);
+    check_refused(&rt, rt.alloc(), &ALONE);
 }
 
 /// What the help says of the words.
@@ -228,16 +256,11 @@ fn check_help(rt: &impl Abort, text: &str) {
 }
 
 #[test]
-fn help_names_the_words(rt: HostRuntime) -> Result<(), Fail> {
-    let alloc = rt.alloc();
+fn help_names_the_words(rt: HostRuntime) {
     let list = ["occam", "--help"];
-    match read_words(alloc, list.as_slice()) {
-        Ok(_) => assert!(rt; false, "no help"),
-        Err(help) => {
-            assert!(rt; !help.use_stderr());
-            let text = help.to_string(alloc)?;
-            check_help(&rt, text.as_str());
-        }
-    }
-    Ok(())
+    let read = read_words(rt.alloc(), list.as_slice());
+    let help = read.err().expect(&rt, "no help");
+    assert!(rt; !help.use_stderr());
+    let text = help.to_string(rt.alloc()).expect(&rt, "memory");
+    check_help(&rt, text.as_str());
 }

@@ -1,4 +1,5 @@
 //! Messages, frames and protocols: copies, and what is the same.
+use crate::compared::{check_bytes, check_count, check_text};
 use occ_term::{
     Channel, Frame, FrameCells, Message, Name, Part, PartType, PartTypes, Parts, Primitive,
     Protocol, Tag, TagTypes, Text,
@@ -7,7 +8,6 @@ use sqlite_items::Items;
 use std::alloc::{AllocError, Global};
 use std::fmt;
 use std::process::Abort;
-use std::test::Fail;
 
 /// A message of a value, an array and a counted array.
 fn message(alloc: Global, tag: Option<u32>, values: &[i64]) -> Result<Message, AllocError> {
@@ -29,22 +29,21 @@ static MESSAGES: [(Option<u32>, &[i64], bool); 4] = [
 ];
 
 /// Compares a message with each of these.
-fn check_messages(rt: &impl Abort, alloc: Global, first: &Message) -> Result<(), Fail> {
+fn check_messages(rt: &impl Abort, alloc: Global, first: &Message) {
     for (tag, values, wanted) in &MESSAGES {
-        let other = message(alloc, *tag, values)?;
-        assert_eq!(rt; first.is_same(&other), *wanted);
+        let other = message(alloc, *tag, values).expect(rt, "memory");
+        assert!(rt; first.is_same(&other) == *wanted);
     }
-    Ok(())
 }
 
 #[test]
-fn messages_are_compared(rt: HostRuntime) -> Result<(), Fail> {
+fn messages_are_compared(rt: HostRuntime) {
     let alloc = rt.alloc();
-    let first = message(alloc, Some(3), &[-1, 2])?;
+    let first = message(alloc, Some(3), &[-1, 2]).expect(&rt, "memory");
     assert!(rt; first.is_same(&first));
-    let copy = first.copy(alloc)?;
+    let copy = first.copy(alloc).expect(&rt, "memory");
     assert!(rt; first.is_same(&copy));
-    check_messages(&rt, alloc, &first)
+    check_messages(&rt, alloc, &first);
 }
 
 /// What a part is made of.
@@ -88,29 +87,21 @@ fn parts(alloc: Global) -> Result<Vec<Part>, AllocError> {
 }
 
 /// Compares the part of this number with each, and with its copy.
-fn check_part(
-    rt: &impl Abort,
-    alloc: Global,
-    part: &Part,
-    number: usize,
-    parts: &[Part],
-) -> Result<(), Fail> {
+fn check_part(rt: &impl Abort, alloc: Global, part: &Part, number: usize, parts: &[Part]) {
     for (other, one) in parts.iter().enumerate() {
-        assert_eq!(rt; part.is_same(one), other == number);
+        assert!(rt; part.is_same(one) == (other == number));
     }
-    let copy = part.copy(alloc)?;
+    let copy = part.copy(alloc).expect(rt, "memory");
     assert!(rt; part.is_same(&copy));
-    Ok(())
 }
 
 #[test]
-fn parts_are_compared(rt: HostRuntime) -> Result<(), Fail> {
+fn parts_are_compared(rt: HostRuntime) {
     let alloc = rt.alloc();
-    let parts = parts(alloc)?;
+    let parts = parts(alloc).expect(&rt, "memory");
     for (number, part) in parts.iter().enumerate() {
-        check_part(&rt, alloc, part, number, parts.as_slice())?;
+        check_part(&rt, alloc, part, number, parts.as_slice());
     }
-    Ok(())
 }
 
 /// The cells and the counters of a frame, and whether it is the same as the first.
@@ -128,44 +119,48 @@ fn frame_of(alloc: Global, cells: &[u32], loops: usize) -> Result<Frame, AllocEr
 }
 
 /// Compares a frame with its copy, and with each of these.
-fn check_frames(rt: &impl Abort, alloc: Global, frame: &Frame) -> Result<(), Fail> {
-    let copy = frame.copy(alloc)?;
-    assert!(rt; frame.is_same(&copy));
+fn check_frames(rt: &impl Abort, alloc: Global, frame: &Frame) {
     for (cells, loops, wanted) in &FRAMES {
-        let other = frame_of(alloc, cells, *loops)?;
-        assert_eq!(rt; frame.is_same(&other), *wanted);
+        let other = frame_of(alloc, cells, *loops).expect(rt, "memory");
+        assert!(rt; frame.is_same(&other) == *wanted);
     }
-    Ok(())
 }
 
 #[test]
-fn frames_are_compared(rt: HostRuntime) -> Result<(), Fail> {
+fn frames_are_compared(rt: HostRuntime) {
     let alloc = rt.alloc();
-    let frame = frame_of(alloc, &[1, 3], 2)?;
-    check_frames(&rt, alloc, &frame)
+    let frame = frame_of(alloc, &[1, 3], 2).expect(&rt, "memory");
+    let copy = frame.copy(alloc).expect(&rt, "memory");
+    assert!(rt; frame.is_same(&copy));
+    check_frames(&rt, alloc, &frame);
+}
+
+/// Whether these three stand in the frame from this place on.
+fn is_row(frame: &Frame, first: u64, wanted: &[i64; 3]) -> bool {
+    match frame.row(first, 3) {
+        Some(row) => row == wanted.as_slice(),
+        None => false,
+    }
 }
 
 #[test]
-fn rows_of_a_frame_are_stored_and_read(rt: HostRuntime) -> Result<(), Fail> {
+fn rows_of_a_frame_are_stored_and_read(rt: HostRuntime) {
     let alloc = rt.alloc();
-    let mut frame = frame_of(alloc, &[1, 3, 4, 5], 0)?;
+    let mut frame = frame_of(alloc, &[1, 3, 4, 5], 0).expect(&rt, "memory");
     frame.set_span(3, &[7, 8, 9]);
-    assert!(rt; matches!(frame.row(3, 3), Some([7, 8, 9])));
+    assert!(rt; is_row(&frame, 3, &[7, 8, 9]));
     frame.clear_span(4, 2);
-    assert!(rt; matches!(frame.row(3, 3), Some([7, 0, 0])));
+    assert!(rt; is_row(&frame, 3, &[7, 0, 0]));
     assert!(rt; frame.row(1, 2).is_none());
-    Ok(())
 }
 
 #[test]
-fn cells_of_frames_are_shared(rt: HostRuntime) -> Result<(), Fail> {
-    let alloc = rt.alloc();
-    let cells = FrameCells::new(alloc, &[1, 3])?;
-    let copy = cells.copy()?;
+fn cells_of_frames_are_shared(rt: HostRuntime) {
+    let cells = FrameCells::new(rt.alloc(), &[1, 3]).expect(&rt, "memory");
+    let copy = cells.copy().expect(&rt, "memory");
     assert!(rt; cells.is_same(&copy));
-    assert_eq!(rt; copy.len(), 2);
-    assert_eq!(rt; copy.rows().len(), 2);
-    Ok(())
+    check_count(&rt, "cells", copy.len(), 2);
+    check_count(&rt, "rows", copy.rows().len(), 2);
 }
 
 /// The parts `BYTE; [2][3]INT; INT::[]BYTE`.
@@ -185,41 +180,34 @@ fn tag(alloc: Global) -> Result<Tag, AllocError> {
 }
 
 /// A copy is printed as what it was made of.
-fn check_printed<T: fmt::Debug>(
-    rt: &impl Abort,
-    alloc: Global,
-    copy: &T,
-    original: &T,
-) -> Result<(), Fail> {
-    let copy = format!(in alloc; "{copy:?}")?;
-    let original = format!(in alloc; "{original:?}")?;
-    assert_eq!(rt; copy.as_str(), original.as_str());
-    Ok(())
+fn check_printed<T: fmt::Debug>(rt: &impl Abort, alloc: Global, copy: &T, original: &T) {
+    let copy = format!(in alloc; "{copy:?}").expect(rt, "memory");
+    let original = format!(in alloc; "{original:?}").expect(rt, "memory");
+    check_text(rt, "a copy", copy.as_str(), original.as_str());
 }
 
-fn check_part_type(rt: &impl Abort, alloc: Global, part: &PartType) -> Result<(), Fail> {
-    let copy = part.copy(alloc)?;
-    check_printed(rt, alloc, &copy, part)
+fn check_part_type(rt: &impl Abort, alloc: Global, part: &PartType) {
+    let copy = part.copy(alloc).expect(rt, "memory");
+    check_printed(rt, alloc, &copy, part);
 }
 
 #[test]
-fn part_types_are_copied(rt: HostRuntime) -> Result<(), Fail> {
+fn part_types_are_copied(rt: HostRuntime) {
     let alloc = rt.alloc();
-    let parts = part_types(alloc)?;
+    let parts = part_types(alloc).expect(&rt, "memory");
     for part in parts.as_slice() {
-        check_part_type(&rt, alloc, part)?;
+        check_part_type(&rt, alloc, part);
     }
-    Ok(())
 }
 
 #[test]
-fn tags_are_copied(rt: HostRuntime) -> Result<(), Fail> {
+fn tags_are_copied(rt: HostRuntime) {
     let alloc = rt.alloc();
-    let tag = tag(alloc)?;
-    let copy = tag.copy(alloc)?;
-    assert_eq!(rt; copy.name.as_slice(), b"data".as_slice());
-    assert_eq!(rt; copy.parts.as_slice().len(), 3);
-    check_printed(&rt, alloc, &copy, &tag)
+    let tag = tag(alloc).expect(&rt, "memory");
+    let copy = tag.copy(alloc).expect(&rt, "memory");
+    check_bytes(&rt, "the name", copy.name.as_slice(), b"data");
+    check_count(&rt, "parts", copy.parts.as_slice().len(), 3);
+    check_printed(&rt, alloc, &copy, &tag);
 }
 
 /// A channel of an array's component.
@@ -239,71 +227,66 @@ fn shown(alloc: Global, protocol: &Protocol) -> Result<String, AllocError> {
     }
 }
 
-fn check_protocol(
-    rt: &impl Abort,
-    alloc: Global,
-    copy: &Protocol,
-    original: &Protocol,
-) -> Result<(), Fail> {
-    let copy = shown(alloc, copy)?;
-    let original = shown(alloc, original)?;
-    assert_eq!(rt; copy.as_str(), original.as_str());
-    Ok(())
+fn check_protocol(rt: &impl Abort, alloc: Global, copy: &Protocol, original: &Protocol) {
+    let copy = shown(alloc, copy).expect(rt, "memory");
+    let original = shown(alloc, original).expect(rt, "memory");
+    check_text(rt, "a copy", copy.as_str(), original.as_str());
 }
 
-fn check_copy(rt: &impl Abort, alloc: Global, channel: &Channel) -> Result<(), Fail> {
-    let copy = channel.copy(alloc)?;
-    assert!(rt; copy.name.is_same(alloc, &channel.name)?);
-    check_protocol(rt, alloc, &copy.protocol, &channel.protocol)
+fn check_copy(rt: &impl Abort, alloc: Global, channel: &Channel) {
+    let copy = channel.copy(alloc).expect(rt, "memory");
+    assert!(rt; copy.name.is_same(alloc, &channel.name).expect(rt, "memory"));
+    check_protocol(rt, alloc, &copy.protocol, &channel.protocol);
 }
 
-fn check_channel(rt: &impl Abort, alloc: Global, protocol: &Protocol) -> Result<(), Fail> {
-    let channel = channel(alloc, protocol.copy(alloc)?)?;
-    check_protocol(rt, alloc, &channel.protocol, protocol)?;
-    check_copy(rt, alloc, &channel)
+fn check_channel(rt: &impl Abort, alloc: Global, protocol: &Protocol) {
+    let copy = protocol.copy(alloc).expect(rt, "memory");
+    let channel = channel(alloc, copy).expect(rt, "memory");
+    check_protocol(rt, alloc, &channel.protocol, protocol);
+    check_copy(rt, alloc, &channel);
 }
 
 #[test]
-fn simple_channels_are_copied(rt: HostRuntime) -> Result<(), Fail> {
-    let alloc = rt.alloc();
-    let sizes = Items::from_slice(alloc, &[4])?;
-    check_channel(&rt, alloc, &Protocol::Simple(sizes, Primitive::Bool))
+fn simple_channels_are_copied(rt: HostRuntime) {
+    let sizes = Items::from_slice(rt.alloc(), &[4]).expect(&rt, "memory");
+    check_channel(&rt, rt.alloc(), &Protocol::Simple(sizes, Primitive::Bool));
 }
 
 #[test]
-fn channels_of_counted_arrays_are_copied(rt: HostRuntime) -> Result<(), Fail> {
+fn channels_of_counted_arrays_are_copied(rt: HostRuntime) {
     let protocol = Protocol::CountedArray(Primitive::Byte, Primitive::Int);
-    check_channel(&rt, rt.alloc(), &protocol)
+    check_channel(&rt, rt.alloc(), &protocol);
+}
+
+/// The protocol of these parts.
+fn sequential(alloc: Global) -> Result<Protocol, AllocError> {
+    let parts = PartTypes::new(alloc, part_types(alloc)?)?;
+    Ok(Protocol::Sequential(parts))
 }
 
 #[test]
-fn channels_of_sequences_are_copied(rt: HostRuntime) -> Result<(), Fail> {
-    let alloc = rt.alloc();
-    let parts = part_types(alloc)?;
-    let parts = PartTypes::new(alloc, parts)?;
-    check_channel(&rt, alloc, &Protocol::Sequential(parts))
+fn channels_of_sequences_are_copied(rt: HostRuntime) {
+    let protocol = sequential(rt.alloc()).expect(&rt, "memory");
+    check_channel(&rt, rt.alloc(), &protocol);
 }
 
-#[test]
-fn channels_of_variants_are_copied(rt: HostRuntime) -> Result<(), Fail> {
-    let alloc = rt.alloc();
+/// The protocol of this tag.
+fn variant(alloc: Global) -> Result<Protocol, AllocError> {
     let mut tags = Items::new(alloc);
     tags.push(tag(alloc)?)?;
-    let tags = TagTypes::new(alloc, tags)?;
-    check_channel(&rt, alloc, &Protocol::Variant(tags))
+    Ok(Protocol::Variant(TagTypes::new(alloc, tags)?))
+}
+
+#[test]
+fn channels_of_variants_are_copied(rt: HostRuntime) {
+    let protocol = variant(rt.alloc()).expect(&rt, "memory");
+    check_channel(&rt, rt.alloc(), &protocol);
 }
 
 /// A name is the same as the one of these letters, or not.
-fn check_same(
-    rt: &impl Abort,
-    alloc: Global,
-    name: &Name,
-    letters: &[u8],
-    wanted: bool,
-) -> Result<(), Fail> {
-    let other = Name::new(alloc, letters)?;
-    assert_eq!(rt; name.is_same(alloc, &other)?, wanted);
-    Ok(())
+fn check_same(rt: &impl Abort, alloc: Global, name: &Name, letters: &[u8], wanted: bool) {
+    let other = Name::new(alloc, letters).expect(rt, "memory");
+    assert!(rt; name.is_same(alloc, &other).expect(rt, "memory") == wanted);
 }
 
 /// The component 0 of the component 10.
@@ -315,41 +298,41 @@ fn component(alloc: Global) -> Result<Name, AllocError> {
 }
 
 #[test]
-fn names_of_components_are_written(rt: HostRuntime) -> Result<(), Fail> {
+fn names_of_components_are_written(rt: HostRuntime) {
     let alloc = rt.alloc();
-    let name = component(alloc)?;
+    let name = component(alloc).expect(&rt, "memory");
     let mut letters = Vec::new(alloc);
-    name.write(alloc, &mut letters)?;
-    assert_eq!(rt; letters.as_slice(), b"a[10][0]".as_slice());
-    check_same(&rt, alloc, &name, b"a[10][0]", true)?;
-    check_same(&rt, alloc, &name, b"a[10]", false)
+    name.write(alloc, &mut letters).expect(&rt, "memory");
+    check_bytes(&rt, "the name", letters.as_slice(), b"a[10][0]");
+    check_same(&rt, alloc, &name, b"a[10][0]", true);
+    check_same(&rt, alloc, &name, b"a[10]", false);
+}
+
+/// The byte that is taken from the parts, where it is one.
+fn byte_from(parts: &mut Parts) -> Option<i64> {
+    match parts.pop()? {
+        Part::One(Primitive::Byte, value) => Some(value),
+        _ => None,
+    }
 }
 
 #[test]
-fn parts_are_put_and_taken(rt: HostRuntime) -> Result<(), Fail> {
-    let alloc = rt.alloc();
+fn parts_are_put_and_taken(rt: HostRuntime) {
     let mut parts = Parts::one(Part::One(Primitive::Byte, 1));
-    parts.push(alloc, Part::One(Primitive::Byte, 2))?;
+    parts
+        .push(rt.alloc(), Part::One(Primitive::Byte, 2))
+        .expect(&rt, "memory");
     assert!(rt; parts.as_slice().len() == 2 && !parts.is_empty());
-    assert!(rt;
-        parts
-            .pop()
-            .is_some_and(|part| part.is_same(&Part::One(Primitive::Byte, 2)))
-    );
-    assert!(rt;
-        parts
-            .pop()
-            .is_some_and(|part| part.is_same(&Part::One(Primitive::Byte, 1)))
-    );
-    assert!(rt; parts.is_empty() && parts.pop().is_none());
-    Ok(())
+    assert!(rt; matches!(byte_from(&mut parts), Some(2)));
+    assert!(rt; matches!(byte_from(&mut parts), Some(1)));
+    assert!(rt; parts.is_empty());
+    assert!(rt; byte_from(&mut parts).is_none());
 }
 
 #[test]
-fn copies_of_a_text_share_its_letters(rt: HostRuntime) -> Result<(), Fail> {
-    let text = Text::new(rt.alloc(), b"occam")?;
-    let copy = text.copy()?;
-    assert_eq!(rt; copy.as_slice(), b"occam".as_slice());
-    assert_eq!(rt; copy.len(), 5);
-    Ok(())
+fn copies_of_a_text_share_its_letters(rt: HostRuntime) {
+    let text = Text::new(rt.alloc(), b"occam").expect(&rt, "memory");
+    let copy = text.copy().expect(&rt, "memory");
+    check_bytes(&rt, "a copy", copy.as_slice(), b"occam");
+    assert!(rt; copy.len() == 5);
 }

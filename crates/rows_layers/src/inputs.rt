@@ -1,4 +1,5 @@
 //! Readers that give a byte at a time, that fail, and that are interrupted.
+use crate::compared::{check_bytes, check_text};
 use occ_files::{CountedReader, InputFault, Reason, read_input};
 use std::alloc::Global;
 use std::io;
@@ -144,8 +145,8 @@ fn check_read(
     wanted: Result<&'static [u8], InputFault>,
 ) {
     match (read, wanted) {
-        (Ok(bytes), Ok(text)) => assert_eq!(rt; bytes.as_slice(), text),
-        (Err(fault), Err(other)) => assert_eq!(rt; fault, other),
+        (Ok(bytes), Ok(text)) => check_bytes(rt, "the input", bytes.as_slice(), text),
+        (Err(fault), Err(other)) => assert!(rt; fault == other),
         _ => assert!(rt; false, "another answer"),
     }
 }
@@ -162,9 +163,9 @@ fn check_row(rt: &impl Abort, alloc: Global, row: &Row) {
     let (failures, interruptions) = (reader.failures(), reader.interruptions());
     drop(reader);
     check_read(rt, read, row.read);
-    assert_eq!(rt; failures, row.failures);
-    assert_eq!(rt; interruptions, row.interruptions);
-    assert_eq!(rt; halting.rest, row.rest);
+    assert!(rt; failures == row.failures);
+    assert!(rt; interruptions == row.interruptions);
+    check_bytes(rt, "the rest", halting.rest, row.rest);
 }
 
 #[test]
@@ -196,20 +197,19 @@ fn each_failed_read_is_told(rt: HostRuntime) {
 fn an_endless_source_is_cut(rt: HostRuntime) {
     let mut reader = CountedReader::new(io::repeat(b' '));
     let read = read_input(rt.alloc(), &mut reader, 1_048_577);
-    assert_eq!(rt; read.map(|bytes| bytes.len()), Ok(1_048_577));
-    assert_eq!(rt; reader.failures(), 0);
+    let length = read.map(|bytes| bytes.len());
+    assert!(rt; matches!(length, Ok(1_048_577)));
+    assert!(rt; reader.failures() == 0);
+}
+
+fn check_fault(rt: &impl Abort, alloc: Global, fault: &InputFault, wanted: &str) {
+    let told = format!(in alloc; "{fault}").expect(rt, "memory");
+    check_text(rt, wanted, told.as_str(), wanted);
 }
 
 #[test]
-fn faults_of_reading_have_their_lines(rt: HostRuntime) -> Result<(), std::test::Fail> {
-    let alloc = rt.alloc();
-    assert_eq!(rt;
-        format!(in alloc; "{}", InputFault::Read(Reason::Folder))?.as_str(),
-        "read failed"
-    );
-    assert_eq!(rt;
-        format!(in alloc; "{}", InputFault::Memory)?.as_str(),
-        "memory"
-    );
-    Ok(())
+fn faults_of_reading_have_their_lines(rt: HostRuntime) {
+    let folder = InputFault::Read(Reason::Folder);
+    check_fault(&rt, rt.alloc(), &folder, "read failed");
+    check_fault(&rt, rt.alloc(), &InputFault::Memory, "memory");
 }

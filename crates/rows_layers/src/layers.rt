@@ -1,18 +1,17 @@
 //! The layers below a run: the lines of a text, the usage check, and the code of a program.
+use crate::compared::{check_count, check_text};
 use crate::unfolded::{empty_par, letter, stops};
 use occ_code::{CodeFault, MOST_INSTRUCTIONS, compile};
 use occ_machine::{Body, Code, Instr};
-use occ_term::{Item, Primitive, Protocol, Term, TermExpr, Unfolded};
+use occ_term::{Channel, Item, Primitive, Protocol, Term, TermExpr, Unfolded};
 use occ_text::{Line, Source, Sym, TextFault, Token, read_lines};
 use occ_usage::{Checked, check_usage};
-use std::alloc::{AllocError, Global};
+use std::alloc::Global;
 use std::process::Abort;
-use std::test::Fail;
 
 /// The line `a := 1 + 2`.
 fn check_line(rt: &impl Abort, line: &Line) {
-    assert_eq!(rt; line.number, 1);
-    assert_eq!(rt; line.level, 0);
+    assert!(rt; line.number == 1 && line.level == 0);
     assert!(rt;
         matches!(
             line.words.as_slice(),
@@ -30,7 +29,7 @@ fn check_line(rt: &impl Abort, line: &Line) {
 fn check_lines(rt: &impl Abort, read: &Result<Source, TextFault>) {
     match read {
         Ok(source) => {
-            assert_eq!(rt; source.lines.len(), 1);
+            check_count(rt, "lines", source.lines.len(), 1);
             for line in &source.lines {
                 check_line(rt, line);
             }
@@ -62,8 +61,13 @@ fn check_letter(rt: &impl Abort, unfolded: &Unfolded, channel: u32) {
     )
     );
     assert!(rt; unfolded.cells().is_empty());
-    assert_eq!(rt; unfolded.channels().len(), 3);
-    for channel in unfolded.channels() {
+    check_channels(rt, unfolded.channels());
+}
+
+/// There are three channels, each of them of bytes.
+fn check_channels(rt: &impl Abort, channels: &[Channel]) {
+    check_count(rt, "channels", channels.len(), 3);
+    for channel in channels {
         assert!(rt;
             matches!(&channel.protocol, Protocol::Simple(sizes, Primitive::Byte) if sizes.is_empty())
         );
@@ -75,21 +79,13 @@ fn lawful(alloc: Global, unfolded: Unfolded) -> Option<Checked> {
     check_usage(alloc, unfolded).ok()
 }
 
-fn check_accepted(rt: &impl Abort, alloc: Global, unfolded: Unfolded, channel: u32) {
-    match lawful(alloc, unfolded) {
-        Some(checked) => check_letter(rt, checked.unfolded(), channel),
-        None => assert!(rt; false, "refused"),
-    }
-}
-
 #[test]
-fn lawful_programs_are_accepted(rt: HostRuntime) -> Result<(), Fail> {
-    let alloc = rt.alloc();
+fn lawful_programs_are_accepted(rt: HostRuntime) {
     for channel in 1..3u32 {
-        let unfolded = letter(alloc, channel)?;
-        check_accepted(&rt, alloc, unfolded, channel);
+        let unfolded = letter(rt.alloc(), channel).expect(&rt, "memory");
+        let checked = lawful(rt.alloc(), unfolded).expect(&rt, "refused");
+        check_letter(&rt, checked.unfolded(), channel);
     }
-    Ok(())
 }
 
 /// The code of a program that keeps the usage rules.
@@ -107,28 +103,25 @@ fn only_ends(code: &Code) -> bool {
 }
 
 #[test]
-fn par_of_no_branches_only_ends(rt: HostRuntime) -> Result<(), Fail> {
-    let alloc = rt.alloc();
-    let unfolded = empty_par(alloc)?;
-    match code_of(alloc, unfolded) {
-        Some(code) => assert!(rt; only_ends(&code)),
-        None => assert!(rt; false, "no code"),
-    }
-    Ok(())
+fn par_of_no_branches_only_ends(rt: HostRuntime) {
+    let unfolded = empty_par(rt.alloc()).expect(&rt, "memory");
+    let code = code_of(rt.alloc(), unfolded).expect(&rt, "no code");
+    assert!(rt; only_ends(&code));
 }
 
 #[test]
-fn output_on_the_keyboard_is_refused(rt: HostRuntime) -> Result<(), Fail> {
-    let alloc = rt.alloc();
-    match check_usage(alloc, letter(alloc, 0)?) {
-        Ok(_) => assert!(rt; false, "accepted"),
-        Err(refused) => {
-            let text = refused.fault.to_string(alloc)?;
-            assert_eq!(rt; text.as_str(), "refused 52 TwoOutputs line 4 keyboard");
-            check_letter(&rt, &refused.unfolded, 0);
-        }
-    }
-    Ok(())
+fn output_on_the_keyboard_is_refused(rt: HostRuntime) {
+    let unfolded = letter(rt.alloc(), 0).expect(&rt, "memory");
+    let checked = check_usage(rt.alloc(), unfolded);
+    let refused = checked.err().expect(&rt, "accepted");
+    let text = refused.fault.to_string(rt.alloc()).expect(&rt, "memory");
+    check_text(
+        &rt,
+        "the refusal",
+        text.as_str(),
+        "refused 52 TwoOutputs line 4 keyboard",
+    );
+    check_letter(&rt, &refused.unfolded, 0);
 }
 
 fn check_body(rt: &impl Abort, body: &Body) {
@@ -146,28 +139,21 @@ fn check_body(rt: &impl Abort, body: &Body) {
     );
     assert!(rt; body.cells().rows().is_empty());
     assert!(rt; body.writes().rows().is_empty());
-    assert_eq!(rt; body.loops(), 0);
-    assert_eq!(rt; body.quantum(), 1);
+    assert!(rt; body.loops() == 0 && body.quantum() == 1);
 }
 
 fn check_code(rt: &impl Abort, code: &Code) {
-    assert_eq!(rt; code.len(), 1);
-    assert_eq!(rt; code.channels().len(), 3);
+    check_count(rt, "bodies", code.len(), 1);
+    check_count(rt, "channels", code.channels().len(), 3);
     assert!(rt; code.body(1).is_none());
-    match code.body(0) {
-        Some(body) => check_body(rt, body),
-        None => assert!(rt; false, "no body"),
-    }
+    check_body(rt, code.body(0).expect(rt, "no body"));
 }
 
 #[test]
-fn a_letter_has_code(rt: HostRuntime) -> Result<(), Fail> {
-    let alloc = rt.alloc();
-    match code_of(alloc, letter(alloc, 1)?) {
-        Some(code) => check_code(&rt, &code),
-        None => assert!(rt; false, "no code"),
-    }
-    Ok(())
+fn a_letter_has_code(rt: HostRuntime) {
+    let unfolded = letter(rt.alloc(), 1).expect(&rt, "memory");
+    let code = code_of(rt.alloc(), unfolded).expect(&rt, "no code");
+    check_code(&rt, &code);
 }
 
 /// How many instructions there are; none where the program is too large.
@@ -183,18 +169,10 @@ fn instructions_in(rt: &impl Abort, compiled: &Result<Code, CodeFault>) -> Optio
 }
 
 /// How many instructions a program of so many STOPs has; none where it is too large.
-fn instructions_of(
-    rt: &impl Abort,
-    alloc: Global,
-    count: u32,
-) -> Result<Option<usize>, AllocError> {
-    match lawful(alloc, stops(alloc, count)?) {
-        Some(checked) => Ok(instructions_in(rt, &compile(alloc, &checked))),
-        None => {
-            assert!(rt; false, "refused");
-            Ok(None)
-        }
-    }
+fn instructions_of(rt: &impl Abort, alloc: Global, count: u32) -> Option<usize> {
+    let unfolded = stops(alloc, count).expect(rt, "memory");
+    let checked = lawful(alloc, unfolded).expect(rt, "refused");
+    instructions_in(rt, &compile(alloc, &checked))
 }
 
 /// Numbers of STOPs, and how many instructions there are.
@@ -205,10 +183,12 @@ static LIMITS: [(u32, Option<usize>); 3] = [
 ];
 
 #[test]
-fn code_has_a_limit(rt: HostRuntime) -> Result<(), Fail> {
-    assert_eq!(rt; MOST_INSTRUCTIONS, 262_144);
+fn code_has_a_limit(rt: HostRuntime) {
+    assert!(rt; MOST_INSTRUCTIONS == 262_144);
     for (count, wanted) in &LIMITS {
-        assert_eq!(rt; instructions_of(&rt, rt.alloc(), *count)?, *wanted);
+        assert!(rt;
+            instructions_of(&rt, rt.alloc(), *count) == *wanted,
+            "{count}"
+        );
     }
-    Ok(())
 }

@@ -1,18 +1,22 @@
 //! Worked rows: a text, and its lines or why it has none.
+use crate::compared::check_text;
 use occ_text::{Line, Source, TextFault, Token, read_lines};
 use std::alloc::{AllocError, Global};
 use std::process::Abort;
-use std::test::Fail;
 
 /// A text, and what is read: for each line its number, its level and its words, or the refusal.
 struct Row(&'static [u8], &'static str);
 
-static LINES: [Row; 30] = [
+static LINES: [Row; 5] = [
     Row(b"", ""),
     Row(b" \n   \r\n-- only a comment\n", ""),
     Row(b"a := 1 + -- note\n\n   2\n", "1 0: a Assign 1 Plus 2\n"),
     Row(b"\r\n\nSKIP\r\n  STOP", "3 0: .Skip\n4 1: .Stop\n"),
     Row(b"    IF If if", "1 2: .If If if\n"),
+];
+
+/// Numbers and names.
+static NUMBERS: [Row; 7] = [
     Row(b"#FFFFFFFF", "1 0: -1\n"),
     Row(b"#80000000", "1 0: -2147483648\n"),
     Row(b"#7fffFFFF #0", "1 0: 2147483647 0\n"),
@@ -20,6 +24,10 @@ static LINES: [Row; 30] = [
     Row(b"12ab #12g", "1 0: 12 ab 18 g\n"),
     Row(b"a.b.1", "1 0: a.b.1\n"),
     Row(b"INT16 INT165", "1 0: .Int16 INT165\n"),
+];
+
+/// Bytes and strings.
+static BYTES: [Row; 5] = [
     Row(b"'*#2A'", "1 0: '42\n"),
     Row(
         b"'*c' '*n' '*t' '*s' '*'' '*\"' '**'",
@@ -28,6 +36,10 @@ static LINES: [Row; 30] = [
     Row(b"'\t' '\"'", "1 0: '9 '34\n"),
     Row(b"\"a*\"b\"", "1 0: \" 97 34 98\n"),
     Row(b"\"\" \"--'*#fF\"", "1 0: \" \" 45 45 39 255\n"),
+];
+
+/// Symbols, and comments behind them.
+static SYMBOLS: [Row; 7] = [
     Row(b"a\\/b", "1 0: a BitOr b\n"),
     Row(b"/\\/ \\\\/ x", "1 0: BitAnd Divide Remainder BitOr x\n"),
     Row(b":=::=:", "1 0: Assign DoubleColon Equal Colon\n"),
@@ -38,6 +50,10 @@ static LINES: [Row; 30] = [
     Row(b"a---b", "1 0: a\n"),
     Row(b"a - -b", "1 0: a Minus Minus b\n"),
     Row(b"x -- \x00\xff\t\r'\ny", "1 0: x\n2 0: y\n"),
+];
+
+/// Lines that go on.
+static CONTINUED: [Row; 6] = [
     Row(b"  x :=\n  1", "1 1: x Assign 1\n"),
     Row(
         b"x,\n -- note\n\n   y AND\nz\nw",
@@ -61,7 +77,8 @@ static LINES: [Row; 30] = [
     ),
 ];
 
-static REFUSALS: [Row; 32] = [
+/// Bytes that may not stand there, and levels between two.
+static BAD_BYTES: [Row; 12] = [
     Row(b"SKIP\t", "refused 2 BadByte line 1"),
     Row(b"\tSKIP", "refused 2 BadByte line 1"),
     Row(b"x\ry", "refused 2 BadByte line 1"),
@@ -74,6 +91,10 @@ static REFUSALS: [Row; 32] = [
     Row(b"\"\x7f\"", "refused 2 BadByte line 1"),
     Row(b" SKIP", "refused 3 OddIndent line 1"),
     Row(b"x\n   y", "refused 3 OddIndent line 2"),
+];
+
+/// Numbers, bytes and escapes that are none.
+static BAD_LITERALS: [Row; 13] = [
     Row(b"#100000000", "refused 4 BadLiteral line 1"),
     Row(b"#000000001", "refused 4 BadLiteral line 1"),
     Row(b"#", "refused 4 BadLiteral line 1"),
@@ -87,6 +108,10 @@ static REFUSALS: [Row; 32] = [
     Row(b"'*", "refused 5 BadEscape line 1"),
     Row(b"\"a*\n\"", "refused 5 BadEscape line 1"),
     Row(b"\"*#4\"", "refused 5 BadEscape line 1"),
+];
+
+/// Strings and lines without an end.
+static BAD_ENDS: [Row; 7] = [
     Row(b"\"ab", "refused 6 OpenString line 1"),
     Row(b"x :=\n\n  \"ab", "refused 6 OpenString line 1"),
     Row(b"x :=", "refused 7 BadBreak line 1"),
@@ -146,32 +171,37 @@ fn show(alloc: Global, read: &Result<Source, TextFault>) -> Result<String, Alloc
     }
 }
 
-fn check_rows(rt: &impl Abort, alloc: Global, rows: &[Row]) -> Result<(), Fail> {
+fn check(rt: &impl Abort, alloc: Global, text: &[u8], wanted: &str) {
+    let shown = show(alloc, &read_lines(alloc, text)).expect(rt, "memory");
+    check_text(rt, wanted, shown.as_str(), wanted);
+}
+
+fn check_rows(rt: &impl Abort, alloc: Global, rows: &[Row]) {
     for row in rows {
-        let shown = show(alloc, &read_lines(alloc, row.0))?;
-        assert_eq!(rt; shown.as_str(), row.1);
+        check(rt, alloc, row.0, row.1);
     }
-    Ok(())
 }
 
 #[test]
-fn lines(rt: HostRuntime) -> Result<(), Fail> {
-    check_rows(&rt, rt.alloc(), &LINES)
+fn lines(rt: HostRuntime) {
+    check_rows(&rt, rt.alloc(), &LINES);
+    check_rows(&rt, rt.alloc(), &NUMBERS);
+    check_rows(&rt, rt.alloc(), &BYTES);
+    check_rows(&rt, rt.alloc(), &SYMBOLS);
+    check_rows(&rt, rt.alloc(), &CONTINUED);
 }
 
 #[test]
-fn refusals(rt: HostRuntime) -> Result<(), Fail> {
-    check_rows(&rt, rt.alloc(), &REFUSALS)
+fn refusals(rt: HostRuntime) {
+    check_rows(&rt, rt.alloc(), &BAD_BYTES);
+    check_rows(&rt, rt.alloc(), &BAD_LITERALS);
+    check_rows(&rt, rt.alloc(), &BAD_ENDS);
 }
 
 #[test]
-fn the_longest_text(rt: HostRuntime) -> Result<(), Fail> {
-    let alloc = rt.alloc();
-    let mut text = vec![in alloc; b' '; 1_048_576]?;
-    let shown = show(alloc, &read_lines(alloc, &text))?;
-    assert_eq!(rt; shown.as_str(), "");
-    text.push(b' ')?;
-    let shown = show(alloc, &read_lines(alloc, &text))?;
-    assert_eq!(rt; shown.as_str(), "refused 1 TooLong");
-    Ok(())
+fn the_longest_text(rt: HostRuntime) {
+    let mut text = vec![in rt.alloc(); b' '; 1_048_576].expect(&rt, "memory");
+    check(&rt, rt.alloc(), &text, "");
+    text.push(b' ').expect(&rt, "memory");
+    check(&rt, rt.alloc(), &text, "refused 1 TooLong");
 }

@@ -8,6 +8,8 @@ mod choices;
 #[cfg(test)]
 mod command_line;
 #[cfg(test)]
+mod compared;
+#[cfg(test)]
 mod contents;
 #[cfg(test)]
 mod inputs;

@@ -1,7 +1,6 @@
 //! Words by which a file would be written that is read, or two texts into one file.
 use clap::error::ErrorKind;
 use occ_play_inputs::read_words;
-use std::process::Abort;
 
 static ONE_FILE: [&[&str]; 9] = [
     &["occam", "--record=f", "f"],
@@ -18,11 +17,8 @@ static ONE_FILE: [&[&str]; 9] = [
 #[test]
 fn one_file_is_not_named_twice(rt: HostRuntime) {
     for words in &ONE_FILE {
-        let refused = read_words(rt.alloc(), words).err();
-        assert_eq!(rt;
-            refused.map(|error| error.kind()),
-            Some(ErrorKind::ValueValidation)
-        );
+        let refused = read_words(rt.alloc(), words).err().expect(&rt, "read");
+        assert!(rt; refused.kind() == ErrorKind::ValueValidation);
     }
     let both_read = ["occam", "--choices=f", "--record=g", "--chart=h", "f"];
     assert!(rt; read_words(rt.alloc(), both_read.as_slice()).is_ok());

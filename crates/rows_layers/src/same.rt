@@ -8,7 +8,7 @@ use occ_term::{Errors, Frame, FrameCells};
 use occ_usage::check_usage;
 use sqlite_items::Items;
 use std::alloc::{AllocError, Global};
-use std::test::Fail;
+use std::process::Abort;
 
 /// The code of a letter on this channel, for turns of this quantum.
 fn code_of(alloc: Global, channel: u32, quantum: u32) -> Result<Option<Code>, AllocError>
@@ -20,22 +20,34 @@ fn code_of(alloc: Global, channel: u32, quantum: u32) -> Result<Option<Code>, Al
     }
 }
 
-#[test]
-fn code_is_the_same_by_content(rt: HostRuntime) -> Result<(), Fail> {
-    let alloc = rt.alloc();
-    let code = code_of(alloc, 1, 1)?.expect(&rt, "no code");
-    assert!(rt; code.is_same(alloc, &code.again(alloc)?)?);
-    let twin = code_of(alloc, 1, 1)?.expect(&rt, "no code");
-    assert!(rt; code.is_same(alloc, &twin)?);
-    let on_another_channel = code_of(alloc, 2, 1)?.expect(&rt, "no code");
-    assert!(rt; !code.is_same(alloc, &on_another_channel)?);
-    let of_another_quantum = code_of(alloc, 1, 2)?.expect(&rt, "no code");
-    assert!(rt; !code.is_same(alloc, &of_another_quantum)?);
+/// Whether the code of a letter on this channel, for turns of this quantum, is the same as the other.
+fn is_same_as(rt: &impl Abort, alloc: Global, other: &Code, channel: u32, quantum: u32) -> bool
+    requires { channel < 3 }
+{
+    let code = code_of(alloc, channel, quantum).expect(rt, "memory");
+    let code = code.expect(rt, "no code");
+    code.is_same(alloc, other).expect(rt, "memory")
+}
+
+/// A copy is the same, but not in the other mode.
+fn check_again(rt: &impl Abort, alloc: Global, code: &Code) {
+    let again = code.again(alloc).expect(rt, "memory");
+    assert!(rt; code.is_same(alloc, &again).expect(rt, "memory"));
     assert!(rt; code.errors() == Errors::Halt);
-    let of_the_other_mode = code.again(alloc)?.with_errors(Errors::Stop);
-    assert!(rt; of_the_other_mode.errors() == Errors::Stop);
-    assert!(rt; !code.is_same(alloc, &of_the_other_mode)?);
-    Ok(())
+    let stopping = again.with_errors(Errors::Stop);
+    assert!(rt; stopping.errors() == Errors::Stop);
+    assert!(rt; !code.is_same(alloc, &stopping).expect(rt, "memory"));
+}
+
+#[test]
+fn code_is_the_same_by_content(rt: HostRuntime) {
+    let alloc = rt.alloc();
+    let code = code_of(alloc, 1, 1).expect(&rt, "memory");
+    let code = code.expect(&rt, "no code");
+    assert!(rt; is_same_as(&rt, alloc, &code, 1, 1));
+    assert!(rt; !is_same_as(&rt, alloc, &code, 2, 1));
+    assert!(rt; !is_same_as(&rt, alloc, &code, 1, 2));
+    check_again(&rt, alloc, &code);
 }
 
 /// A process that took so many turns and chooses an arm, with this index.
@@ -58,12 +70,19 @@ fn choosing(alloc: Global, turns: u64, index: i64) -> Result<Task, AllocError> {
     })
 }
 
+/// Whether such a process is the same as the other.
+fn is_choosing(rt: &impl Abort, alloc: Global, other: &Task, turns: u64, index: i64) -> bool {
+    let task = choosing(alloc, turns, index).expect(rt, "memory");
+    task.is_same(other)
+}
+
 #[test]
-fn tasks_are_the_same_by_content(rt: HostRuntime) -> Result<(), Fail> {
+fn tasks_are_the_same_by_content(rt: HostRuntime) {
     let alloc = rt.alloc();
-    let task = choosing(alloc, 9, -1)?;
-    assert!(rt; task.is_same(&task.copy(alloc)?));
-    assert!(rt; !task.is_same(&choosing(alloc, 8, -1)?));
-    assert!(rt; !task.is_same(&choosing(alloc, 9, 1)?));
-    Ok(())
+    let task = choosing(alloc, 9, -1).expect(&rt, "memory");
+    let copy = task.copy(alloc).expect(&rt, "memory");
+    assert!(rt; task.is_same(&copy));
+    assert!(rt; is_choosing(&rt, alloc, &task, 9, -1));
+    assert!(rt; !is_choosing(&rt, alloc, &task, 8, -1));
+    assert!(rt; !is_choosing(&rt, alloc, &task, 9, 1));
 }

@@ -1,16 +1,16 @@
 //! The grammar: sources that have a tree, and sources that have none.
+use crate::compared::check_text;
 use occ_text::read_lines;
 use occ_tree::parse;
 use occ_tree_grammar::ParseFault;
 use occ_tree_grammar::tree::process::Program;
 use std::alloc::{AllocError, Global};
 use std::process::Abort;
-use std::test::Fail;
 
 const HEAD: &[u8] = b"PROC main (CHAN OF BYTE keyboard, screen)\n";
 
 /// Bodies of `main` that have a tree.
-static BODIES: [&[u8]; 50] = [
+static BODIES: [&[u8]; 11] = [
     b"  screen ! 'A'\n",
     b"  INT x:\n  x := 2147483647 + 1\n",
     b"  INT x:\n  SEQ\n    x := (MOSTNEG INT) \\ (-1)\n    screen ! BYTE (x + 48)\n",
@@ -22,6 +22,10 @@ static BODIES: [&[u8]; 50] = [
     b"  BYTE b:\n  screen ? b\n",
     b"  [2]INT a:\n  INT n:\n  SEQ\n    n := 0\n    WHILE n < 2\n      SEQ\n        PAR\n          a[0] := a[0] + 1\n          a[1] := a[1] + n\n        n := n + 1\n    screen ! BYTE ((a[0] + a[1]) + 48)\n",
     b"  CHAN OF INT a, b:\n  PAR\n    a ! 1\n    b ! 2\n    INT x:\n    SEQ\n      PRI ALT\n        a ? x\n          SKIP\n        b ? x\n          SKIP\n      screen ! BYTE (x + 48)\n",
+];
+
+/// Constructs, each alone.
+static CONSTRUCTS: [&[u8]; 11] = [
     b"  BYTE x:\n  ALT\n    FALSE & keyboard ? x\n      SKIP\n",
     b"  IF\n    FALSE\n      SKIP\n",
     b"  CASE 3\n    1\n      SKIP\n",
@@ -33,6 +37,10 @@ static BODIES: [&[u8]; 50] = [
     b"  INT n:\n  SEQ\n    n := 0\n    SEQ i = 0 FOR n\n      STOP\n",
     b"  PAR i = 0 FOR -1\n    SKIP\n",
     b"  [65537]INT a:\n  SKIP\n",
+];
+
+/// Lines of many parts.
+static PARTS: [&[u8]; 7] = [
     b"  x[1][2][3][4] := 3\n",
     b"  [ 2 ] [ 3 ] INT a :\n  a [ 0 ] [ 1 ] := 1\n",
     b"  INT n:\n  SEQ\n    n := 3\n    IF i = 0 FOR n\n      i = 2\n        screen ! BYTE (i + 48)\n",
@@ -40,6 +48,10 @@ static BODIES: [&[u8]; 50] = [
     b"  CHAN OF msg c:\n  ALT\n    a = b & c ? CASE\n      data; x\n        SKIP\n      quit\n        STOP\n    ALT i = 0 FOR 2\n      d[i] ? x\n        SKIP\n    TRUE & SKIP\n      SKIP\n",
     b"  c ? CASE\n    data; x\n      SKIP\n    INT y:\n    pair; y; n::a\n      STOP\n",
     b"  VAL []BYTE name IS \"occam\":\n  VAL n IS 4:\n  PROTOCOL both IS INT; [4]BYTE:\n  PROC inner (VAL INT a, b, []INT v, CHAN OF both c, INT x)\n    v[a] := b\n  :\n  inner (1, 2, w, c, x)\n",
+];
+
+/// The shortest of each construct, and spaces between all words.
+static SHORTEST: [&[u8]; 12] = [
     b"  INT x :\n  x := 1 + 2\n",
     b"  BOOL a , b , c :\n  a := a AND b AND c\n",
     b"  PRI ALT\n",
@@ -52,6 +64,10 @@ static BODIES: [&[u8]; 50] = [
     b"  c ? n :: got ; x\n",
     b"  c ! 5 :: buf ; 1 ( BYTE )\n",
     b"  a [ 0 ] , b := 1 , a [ 1 ]\n",
+];
+
+/// Declarations, arms and choices, and spaces between all words.
+static SPACED: [&[u8]; 9] = [
     b"  [ 2 ] CHAN OF INT :: [ ] BYTE c :\n  CHAN OF msg d :\n  SKIP\n",
     b"  VAL n IS 3 :\n  VAL [ ] BYTE s IS t :\n  VAL INT m IS n :\n  SKIP\n",
     b"  CASE x\n    INT x , y\n      SKIP\n    INT z :\n    ELSE\n      SKIP\n",
@@ -74,7 +90,7 @@ static SOURCES: [&[u8]; 6] = [
 ];
 
 /// Bodies of `main` that have no tree, and how they are refused.
-static REFUSED: [(&[u8], &str); 24] = [
+static REFUSED: [(&[u8], &str); 12] = [
     (
         b"  INT x:\n  x := 1 + 2 + 3\n",
         "refused 20 Unexpected line 3",
@@ -93,6 +109,10 @@ static REFUSED: [(&[u8], &str); 24] = [
     (b"  CASE 1\n    ELSE\n  SKIP\n", "refused 21 Level line 4"),
     (b"  screen !\n", "refused 20 Unexpected line 2"),
     (b"  SKIP\n  INT x:\n", "refused 21 Level line 3"),
+];
+
+/// The same with spaces between all words.
+static SPACED_REFUSED: [(&[u8], &str); 12] = [
     (
         b"  INT x :\n  x := 1 + 2 + 3\n",
         "refused 20 Unexpected line 3",
@@ -164,11 +184,10 @@ fn told(alloc: Global, parsed: &Result<Program, ParseFault>) -> Result<String, A
 }
 
 /// Compares how a source is refused; empty where it is to have a tree.
-fn check_tree(rt: &impl Abort, alloc: Global, source: &[u8], refusal: &str) -> Result<(), Fail> {
-    let lines = read_lines(alloc, source)?;
-    let told = told(alloc, &parse(alloc, &lines))?;
-    assert_eq!(rt; told.as_str(), refusal);
-    Ok(())
+fn check_tree(rt: &impl Abort, alloc: Global, source: &[u8], refusal: &str) {
+    let lines = read_lines(alloc, source).expect(rt, "no lines");
+    let told = told(alloc, &parse(alloc, &lines)).expect(rt, "memory");
+    check_text(rt, "the tree", told.as_str(), refusal);
 }
 
 fn main_with(alloc: Global, body: &[u8]) -> Result<Vec<u8>, AllocError> {
@@ -178,31 +197,46 @@ fn main_with(alloc: Global, body: &[u8]) -> Result<Vec<u8>, AllocError> {
     Ok(source)
 }
 
-fn check_body(rt: &impl Abort, alloc: Global, body: &[u8], refusal: &str) -> Result<(), Fail> {
-    let source = main_with(alloc, body)?;
-    check_tree(rt, alloc, &source, refusal)
+fn check_body(rt: &impl Abort, alloc: Global, body: &[u8], refusal: &str) {
+    let source = main_with(alloc, body).expect(rt, "memory");
+    check_tree(rt, alloc, &source, refusal);
+}
+
+/// Each of these bodies has a tree.
+fn check_bodies(rt: &impl Abort, alloc: Global, bodies: &[&[u8]]) {
+    for body in bodies {
+        check_body(rt, alloc, body, "");
+    }
 }
 
 #[test]
-fn sources_have_trees(rt: HostRuntime) -> Result<(), Fail> {
-    for body in &BODIES {
-        check_body(&rt, rt.alloc(), body, "")?;
-    }
+fn sources_have_trees(rt: HostRuntime) {
+    let alloc = rt.alloc();
+    check_bodies(&rt, alloc, &BODIES);
+    check_bodies(&rt, alloc, &CONSTRUCTS);
+    check_bodies(&rt, alloc, &PARTS);
+    check_bodies(&rt, alloc, &SHORTEST);
+    check_bodies(&rt, alloc, &SPACED);
     for source in &SOURCES {
-        check_tree(&rt, rt.alloc(), source, "")?;
+        check_tree(&rt, alloc, source, "");
     }
-    Ok(())
+}
+
+/// None of these bodies has a tree.
+fn check_refused(rt: &impl Abort, alloc: Global, rows: &[(&[u8], &str)]) {
+    for (body, refusal) in rows {
+        check_body(rt, alloc, body, refusal);
+    }
 }
 
 #[test]
-fn sources_have_no_tree(rt: HostRuntime) -> Result<(), Fail> {
-    for (body, refusal) in &REFUSED {
-        check_body(&rt, rt.alloc(), body, refusal)?;
-    }
+fn sources_have_no_tree(rt: HostRuntime) {
+    let alloc = rt.alloc();
+    check_refused(&rt, alloc, &REFUSED);
+    check_refused(&rt, alloc, &SPACED_REFUSED);
     for (source, refusal) in &REFUSED_SOURCES {
-        check_tree(&rt, rt.alloc(), source, refusal)?;
+        check_tree(&rt, alloc, source, refusal);
     }
-    Ok(())
 }
 
 /// Brackets, of which each is every second.
@@ -240,25 +274,29 @@ fn bracketed(alloc: Global, count: usize, brackets: &Brackets) -> Result<Vec<u8>
     Ok(line)
 }
 
-fn check_brackets(rt: &impl Abort, alloc: Global, count: usize, refusal: &str) -> Result<(), Fail> {
+fn check_brackets(rt: &impl Abort, alloc: Global, count: usize, refusal: &str) {
     for brackets in &BRACKETS {
-        let body = bracketed(alloc, count, brackets)?;
-        check_body(rt, alloc, &body, refusal)?;
+        let body = bracketed(alloc, count, brackets).expect(rt, "memory");
+        check_body(rt, alloc, &body, refusal);
     }
-    Ok(())
 }
 
 #[test]
-fn brackets_have_a_bound(rt: HostRuntime) -> Result<(), Fail> {
-    check_brackets(&rt, rt.alloc(), 64, "")?;
-    check_brackets(&rt, rt.alloc(), 65, "refused 23 TooDeep line 2")
+fn brackets_have_a_bound(rt: HostRuntime) {
+    check_brackets(&rt, rt.alloc(), 64, "");
+    check_brackets(&rt, rt.alloc(), 65, "refused 23 TooDeep line 2");
 }
 
-#[test]
-fn many_siblings_are_read(rt: HostRuntime) -> Result<(), Fail> {
-    let alloc = rt.alloc();
-    let skips = b"    SKIP\n".repeat(alloc, 100_000)?;
+/// A sequence of so many SKIPs.
+fn siblings(alloc: Global, count: usize) -> Result<Vec<u8>, AllocError> {
+    let skips = b"    SKIP\n".repeat(alloc, count)?;
     let mut body = Vec::from_slice(alloc, b"  SEQ\n")?;
     body.extend_from_slice(&skips)?;
-    check_body(&rt, alloc, &body, "")
+    Ok(body)
+}
+
+#[test]
+fn many_siblings_are_read(rt: HostRuntime) {
+    let body = siblings(rt.alloc(), 100_000).expect(&rt, "memory");
+    check_body(&rt, rt.alloc(), &body, "");
 }

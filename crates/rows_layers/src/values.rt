@@ -4,12 +4,12 @@ ghost use Rattle.occ_term.specs.Evaluation.{CanBeEvaluated};
 ghost use Rattle.occ_term.specs.Frames.{zero_frame};
 ghost use Rattle.occ_term.specs.View.{expression_of};
 
+use crate::compared::check_text;
 use occ_constants::{is_constant, value_of_constant};
 use occ_held::parts::Nested;
 use occ_term::{Fault, Frame, FrameCells, Monadic, Operator, Primitive, TermExpr, value_of};
 use std::alloc::{AllocError, Global};
 use std::process::Abort;
-use std::test::Fail;
 
 const MOST_NEG: i32 = i32::MIN;
 
@@ -196,89 +196,79 @@ fn shifts_too_far(alloc: Global) -> Result<TermExpr, AllocError> {
     )
 }
 
-fn check(rt: &impl Abort, alloc: Global, e: &TermExpr, wanted: &str) -> Result<(), Fail> {
-    let shown = show_constant(alloc, e)?;
-    assert_eq!(rt; shown.as_str(), wanted);
-    Ok(())
+/// The value of an expression, where there was memory for it.
+fn check(rt: &impl Abort, alloc: Global, e: Result<TermExpr, AllocError>, wanted: &str) {
+    let e = e.expect(rt, "memory");
+    let shown = show_constant(alloc, &e).expect(rt, "memory");
+    check_text(rt, "the value", shown.as_str(), wanted);
 }
 
 #[test]
-fn operators_on_two(rt: HostRuntime) -> Result<(), Fail> {
+fn operators_on_two(rt: HostRuntime) {
     let alloc = rt.alloc();
     for row in &TWO {
-        let e = two(alloc, row.0, row.1, 7, number(row.2), number(row.3))?;
-        check(&rt, alloc, &e, row.4)?;
+        let e = two(alloc, row.0, row.1, 7, number(row.2), number(row.3));
+        check(&rt, alloc, e, row.4);
     }
-    Ok(())
 }
 
 #[test]
-fn operators_on_one(rt: HostRuntime) -> Result<(), Fail> {
+fn operators_on_one(rt: HostRuntime) {
     let alloc = rt.alloc();
     for row in &ONE {
-        let e = one(alloc, row.0, row.1, number(row.2))?;
-        check(&rt, alloc, &e, row.3)?;
+        check(&rt, alloc, one(alloc, row.0, row.1, number(row.2)), row.3);
     }
-    Ok(())
 }
 
 #[test]
-fn conversions(rt: HostRuntime) -> Result<(), Fail> {
+fn conversions(rt: HostRuntime) {
     let alloc = rt.alloc();
     for row in &TO {
-        let e = conversion(alloc, row.0, number(row.1))?;
-        check(&rt, alloc, &e, row.2)?;
+        check(&rt, alloc, conversion(alloc, row.0, number(row.1)), row.2);
     }
-    Ok(())
 }
 
-fn check_and(rt: &impl Abort, alloc: Global, left: i32, wanted: &str) -> Result<(), Fail> {
-    let right = divides_by_zero(alloc)?;
-    let e = and(alloc, number(left), right)?;
-    check(rt, alloc, &e, wanted)
+/// `left AND ((1 / 0) = 0)`.
+fn and_then(alloc: Global, left: i32) -> Result<TermExpr, AllocError> {
+    and(alloc, number(left), divides_by_zero(alloc)?)
 }
 
-fn check_or(rt: &impl Abort, alloc: Global, left: i32, wanted: &str) -> Result<(), Fail> {
-    let right = divides_by_zero(alloc)?;
-    let e = or(alloc, number(left), right)?;
-    check(rt, alloc, &e, wanted)
+/// `left OR ((1 / 0) = 0)`.
+fn or_else(alloc: Global, left: i32) -> Result<TermExpr, AllocError> {
+    or(alloc, number(left), divides_by_zero(alloc)?)
 }
 
 #[test]
-fn lazy_operators(rt: HostRuntime) -> Result<(), Fail> {
+fn lazy_operators(rt: HostRuntime) {
     let alloc = rt.alloc();
-    check_and(&rt, alloc, 0, "0")?;
-    check_and(&rt, alloc, 1, "Arith 3")?;
-    check_or(&rt, alloc, 1, "1")?;
-    check_or(&rt, alloc, 0, "Arith 3")
+    check(&rt, alloc, and_then(alloc, 0), "0");
+    check(&rt, alloc, and_then(alloc, 1), "Arith 3");
+    check(&rt, alloc, or_else(alloc, 1), "1");
+    check(&rt, alloc, or_else(alloc, 0), "Arith 3");
 }
 
-/// The sum of two in line 9.
-fn check_sum(
-    rt: &impl Abort,
-    alloc: Global,
-    a: TermExpr,
-    b: TermExpr,
-    wanted: &str,
-) -> Result<(), Fail> {
-    let e = two(alloc, Operator::Add, Primitive::Int, 9, a, b)?;
-    check(rt, alloc, &e, wanted)
-}
-
-#[test]
-fn division_is_first_from_the_left(rt: HostRuntime) -> Result<(), Fail> {
-    let alloc = rt.alloc();
+/// `((1 / 0) = 0) + (1 << 33)`, with the sum in line 9.
+fn division_first(alloc: Global) -> Result<TermExpr, AllocError> {
     let a = divides_by_zero(alloc)?;
     let b = shifts_too_far(alloc)?;
-    check_sum(&rt, alloc, a, b, "Arith 3")
+    two(alloc, Operator::Add, Primitive::Int, 9, a, b)
 }
 
 #[test]
-fn shift_is_first_from_the_left(rt: HostRuntime) -> Result<(), Fail> {
-    let alloc = rt.alloc();
+fn division_is_first_from_the_left(rt: HostRuntime) {
+    check(&rt, rt.alloc(), division_first(rt.alloc()), "Arith 3");
+}
+
+/// `(1 << 33) + ((1 / 0) = 0)`, with the sum in line 9.
+fn shift_first(alloc: Global) -> Result<TermExpr, AllocError> {
     let a = shifts_too_far(alloc)?;
     let b = divides_by_zero(alloc)?;
-    check_sum(&rt, alloc, a, b, "Shift 4")
+    two(alloc, Operator::Add, Primitive::Int, 9, a, b)
+}
+
+#[test]
+fn shift_is_first_from_the_left(rt: HostRuntime) {
+    check(&rt, rt.alloc(), shift_first(rt.alloc()), "Shift 4");
 }
 
 /// The value of `a + b` in a frame without variables, or its fault.
@@ -292,14 +282,13 @@ fn shown_sum(alloc: Global, a: i32, b: i32) -> Result<String, AllocError> {
     }
 }
 
-fn check_shown(rt: &impl Abort, alloc: Global, a: i32, b: i32, wanted: &str) -> Result<(), Fail> {
-    let shown = shown_sum(alloc, a, b)?;
-    assert_eq!(rt; shown.as_str(), wanted);
-    Ok(())
+fn check_shown(rt: &impl Abort, alloc: Global, a: i32, b: i32, wanted: &str) {
+    let shown = shown_sum(alloc, a, b).expect(rt, "memory");
+    check_text(rt, "the sum", shown.as_str(), wanted);
 }
 
 #[test]
-fn values_in_a_frame(rt: HostRuntime) -> Result<(), Fail> {
-    check_shown(&rt, rt.alloc(), 40, 2, "42")?;
-    check_shown(&rt, rt.alloc(), MOST_POS, 1, "Arith 7")
+fn values_in_a_frame(rt: HostRuntime) {
+    check_shown(&rt, rt.alloc(), 40, 2, "42");
+    check_shown(&rt, rt.alloc(), MOST_POS, 1, "Arith 7");
 }

@@ -1,7 +1,9 @@
 //! The table of answers in `docs/language.md`. `tools/tables.py` writes this file.
-use crate::reference::Answer;
+use crate::reference::{Answer, check_answers};
+use std::alloc::Global;
+use std::process::Abort;
 
-pub(crate) static ANSWERS: [Answer; 32] = [
+static LINES: [Answer; 6] = [
     Answer {
         source: r#"PROC main (CHAN OF BYTE keyboard)
   SKIP $
@@ -48,6 +50,9 @@ SKIP
 "#,
         answer: "refused 7 BadBreak line 3",
     },
+];
+
+static TREES: [Answer; 4] = [
     Answer {
         source: r#"PROC main (CHAN OF BYTE keyboard)
   SKIP SKIP
@@ -75,6 +80,9 @@ SKIP
 "#,
         answer: "refused 23 TooDeep line 3",
     },
+];
+
+static NAMES: [Answer; 5] = [
     Answer {
         source: r#"PROC main (CHAN OF BYTE keyboard)
   x := 1
@@ -114,6 +122,9 @@ SKIP
 "#,
         answer: "refused 34 NotConstant line 3",
     },
+];
+
+static USES: [Answer; 7] = [
     Answer {
         source: r#"PROC main (CHAN OF BYTE keyboard)
   [0]INT a:
@@ -179,6 +190,9 @@ PROC main (CHAN OF BYTE keyboard)
 "#,
         answer: "refused 41 ListTarget line 3",
     },
+];
+
+static PROGRAMS: [Answer; 2] = [
     Answer {
         source: r#"PROC main ()
   SKIP
@@ -194,6 +208,9 @@ PROC main (CHAN OF BYTE keyboard)
 "#,
         answer: "refused 43 TooLarge",
     },
+];
+
+static BRANCHES: [Answer; 3] = [
     Answer {
         source: r#"PROC main (CHAN OF BYTE keyboard)
   INT x:
@@ -221,6 +238,9 @@ PROC main (CHAN OF BYTE keyboard)
 "#,
         answer: "refused 52 TwoOutputs line 2 keyboard",
     },
+];
+
+static FAULTS: [Answer; 5] = [
     Answer {
         source: r#"PROC main (CHAN OF BYTE keyboard)
   INT x:
@@ -265,3 +285,14 @@ PROC main (CHAN OF BYTE keyboard)
         answer: "fault COUNT line 2",
     },
 ];
+
+/// All of them.
+pub(crate) fn check_all(rt: &impl Abort, alloc: Global) {
+    check_answers(rt, alloc, &LINES);
+    check_answers(rt, alloc, &TREES);
+    check_answers(rt, alloc, &NAMES);
+    check_answers(rt, alloc, &USES);
+    check_answers(rt, alloc, &PROGRAMS);
+    check_answers(rt, alloc, &BRANCHES);
+    check_answers(rt, alloc, &FAULTS);
+}

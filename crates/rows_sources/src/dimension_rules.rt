@@ -1,9 +1,8 @@
 //! What branches share of arrays of two to four dimensions, and which texts with them are refused.
 use crate::dimensions::{Row, check_rows};
-use std::test::Fail;
 
 /// What branches of a PAR share.
-static BESIDE: [Row; 16] = [
+static BESIDE: [Row; 11] = [
     Row(
         "",
         "  [2][2]INT a:\n  PAR\n    a[0] := a[1]\n    a[0][1] := 2\n",
@@ -59,6 +58,10 @@ static BESIDE: [Row; 16] = [
         "  [2][2]INT a:\n  PAR k = 0 FOR 2\n    f (a[k])\n",
         "",
     ),
+];
+
+/// What they share of channels.
+static BETWEEN: [Row; 5] = [
     Row(
         "PROC s ([]CHAN OF INT d)\n  INT i:\n  SEQ\n    i := 0\n    d[i] ! 3\n:\n",
         "  [2][2]CHAN OF INT c:\n  PAR\n    s (c[0])\n    s (c[1])\n    INT x:\n    SEQ\n      c[0][0] ? x\n      c[1][0] ? x\n",
@@ -87,12 +90,13 @@ static BESIDE: [Row; 16] = [
 ];
 
 #[test]
-fn beside(rt: HostRuntime) -> Result<(), Fail> {
-    check_rows(&rt, rt.alloc(), &BESIDE)
+fn beside(rt: HostRuntime) {
+    check_rows(&rt, rt.alloc(), &BESIDE);
+    check_rows(&rt, rt.alloc(), &BETWEEN);
 }
 
 /// What is refused, beside neighbours that are not.
-static REFUSED: [Row; 30] = [
+static REFUSED: [Row; 12] = [
     Row(
         "",
         "  [2][2]INT a:\n  a[0][2] := 1\n",
@@ -145,6 +149,10 @@ static REFUSED: [Row; 30] = [
         "  [2][-1]INT a:\n  SKIP\n",
         "refused 35 BadCount line 2",
     ),
+];
+
+/// Sizes that no array has.
+static SIZES: [Row; 8] = [
     Row("", "  [1048577]INT a:\n  SKIP\n", "refused 43 TooLarge"),
     Row("", "  [2][524289]INT a:\n  SKIP\n", "refused 43 TooLarge"),
     Row(
@@ -169,6 +177,10 @@ static REFUSED: [Row; 30] = [
         "refused 43 TooLarge",
     ),
     Row("", "  [3][1364]CHAN OF INT c:\n  SKIP\n", ""),
+];
+
+/// More sizes or subscripts than there may be.
+static MORE: [Row; 10] = [
     Row("", "  [1][2][1][2]INT a:\n  a[0][1][0][1] := 1\n", ""),
     Row(
         "",
@@ -218,6 +230,8 @@ static REFUSED: [Row; 30] = [
 ];
 
 #[test]
-fn refused(rt: HostRuntime) -> Result<(), Fail> {
-    check_rows(&rt, rt.alloc(), &REFUSED)
+fn refused(rt: HostRuntime) {
+    check_rows(&rt, rt.alloc(), &REFUSED);
+    check_rows(&rt, rt.alloc(), &SIZES);
+    check_rows(&rt, rt.alloc(), &MORE);
 }

@@ -1,9 +1,9 @@
 //! Arrays of two to four dimensions, and arrays of a million components.
-use crate::examples::answer_of;
+use crate::compared::check_text;
+use crate::examples::check_answer;
 use occ_play::{Counted, Errors, Options, Plan, play_in};
 use std::alloc::{AllocError, Global};
 use std::process::Abort;
-use std::test::Fail;
 
 const HEADER: &str = "PROC main (CHAN OF BYTE keyboard, screen)\n";
 
@@ -14,22 +14,15 @@ pub(crate) struct Row(
     pub(crate) &'static str,
 );
 
-fn check(rt: &impl Abort, alloc: Global, row: &Row) -> Result<(), Fail> {
-    let source = format!(in alloc; "{}{HEADER}{}:\n", row.0, row.1)?;
-    let answer = answer_of(alloc, source.as_str(), "", "", Errors::Halt)?;
-    assert_eq!(rt; answer.trim_end(), row.2, "{source}");
-    Ok(())
-}
-
-pub(crate) fn check_rows(rt: &impl Abort, alloc: Global, rows: &[Row]) -> Result<(), Fail> {
+pub(crate) fn check_rows(rt: &impl Abort, alloc: Global, rows: &[Row]) {
     for row in rows {
-        check(rt, alloc, row)?;
+        let source = format!(in alloc; "{}{HEADER}{}:\n", row.0, row.1).expect(rt, "memory");
+        check_answer(rt, alloc, source.as_str(), row.2);
     }
-    Ok(())
 }
 
 /// Arrays of two to four sizes, and what they answer.
-static WHOLES: [Row; 13] = [
+static WHOLES: [Row; 7] = [
     Row(
         "",
         "  [2][3]INT a:\n  INT s:\n  SEQ\n    SEQ i = 0 FOR 2\n      SEQ j = 0 FOR 3\n        a[i][j] := (i * 3) + j\n    s := 0\n    SEQ j = 0 FOR SIZE a[1]\n      s := s + a[1][j]\n    screen ! BYTE (s + 48)\n",
@@ -61,6 +54,10 @@ static WHOLES: [Row; 13] = [
         "  [2][3][4][5]INT a:\n  SEQ\n    screen ! BYTE ((SIZE a) + 48)\n    screen ! BYTE ((SIZE a[0]) + 48)\n    screen ! BYTE ((SIZE a[1][2]) + 48)\n    screen ! BYTE ((SIZE a[1][2][3]) + 48)\n",
         "2345",
     ),
+];
+
+/// Rows of arrays, and what their names stand for.
+static ROWS: [Row; 6] = [
     Row(
         "",
         "  [2][2]INT a, b:\n  SEQ\n    b[1][0] := 7\n    a[0] := b[1]\n    a[1] := a[0]\n    a[0] := b[0]\n    screen ! BYTE (a[1][0] + 48)\n    screen ! BYTE (a[0][0] + 48)\n",
@@ -86,12 +83,13 @@ static WHOLES: [Row; 13] = [
 ];
 
 #[test]
-fn wholes(rt: HostRuntime) -> Result<(), Fail> {
-    check_rows(&rt, rt.alloc(), &WHOLES)
+fn wholes(rt: HostRuntime) {
+    check_rows(&rt, rt.alloc(), &WHOLES);
+    check_rows(&rt, rt.alloc(), &ROWS);
 }
 
 /// Arrays, rows and single components as actuals.
-static FORMALS: [Row; 22] = [
+static FORMALS: [Row; 7] = [
     Row(
         "PROC f ([][]INT x)\n  x[1][2] := SIZE x[0]\n:\n",
         "  [2][3]INT a:\n  SEQ\n    f (a)\n    screen ! BYTE (a[1][2] + 48)\n",
@@ -127,6 +125,10 @@ static FORMALS: [Row; 22] = [
         "  [3]INT a:\n  f (a)\n",
         "refused 39 Arguments line 6",
     ),
+];
+
+/// Rows as actuals.
+static ROWS_AS_ACTUALS: [Row; 5] = [
     Row(
         "PROC f ([]INT x)\n  x[2] := 7\n:\n",
         "  [3][3]INT a:\n  SEQ\n    f (a[1])\n    screen ! BYTE (a[1][2] + 48)\n",
@@ -152,6 +154,10 @@ static FORMALS: [Row; 22] = [
         "  [2][2]INT a:\n  SEQ\n    a[1][1] := 4\n    f (a[0], a[1])\n    screen ! BYTE (a[0][1] + 48)\n",
         "4",
     ),
+];
+
+/// Actuals that overlap.
+static OVERLAPS: [Row; 5] = [
     Row(
         "PROC f ([]INT x, INT y)\n  x[0] := y\n:\n",
         "  [2][2]INT a:\n  f (a[0], a[0][1])\n",
@@ -177,6 +183,10 @@ static FORMALS: [Row; 22] = [
         "  [2][2]INT a:\n  f (a[1], a[1])\n",
         "refused 40 Overlap line 6",
     ),
+];
+
+/// Channels, and sizes that no array has.
+static CHANNELS: [Row; 5] = [
     Row(
         "PROC s ([]CHAN OF INT d)\n  d[0] ! 3\n:\n",
         "  [2][2]CHAN OF INT c:\n  PAR\n    s (c[1])\n    INT x:\n    SEQ\n      c[1][0] ? x\n      screen ! BYTE (x + 48)\n",
@@ -201,8 +211,11 @@ static FORMALS: [Row; 22] = [
 ];
 
 #[test]
-fn formals(rt: HostRuntime) -> Result<(), Fail> {
-    check_rows(&rt, rt.alloc(), &FORMALS)
+fn formals(rt: HostRuntime) {
+    check_rows(&rt, rt.alloc(), &FORMALS);
+    check_rows(&rt, rt.alloc(), &ROWS_AS_ACTUALS);
+    check_rows(&rt, rt.alloc(), &OVERLAPS);
+    check_rows(&rt, rt.alloc(), &CHANNELS);
 }
 
 /// Arrays of a million cells, and one cell more.
@@ -221,8 +234,8 @@ static MILLIONS: [Row; 3] = [
 ];
 
 #[test]
-fn millions(rt: HostRuntime) -> Result<(), Fail> {
-    check_rows(&rt, rt.alloc(), &MILLIONS)
+fn millions(rt: HostRuntime) {
+    check_rows(&rt, rt.alloc(), &MILLIONS);
 }
 
 /// Lists of targets, and the order in which subscripts are reckoned.
@@ -277,8 +290,8 @@ static LISTS: [Row; 11] = [
 ];
 
 #[test]
-fn lists(rt: HostRuntime) -> Result<(), Fail> {
-    check_rows(&rt, rt.alloc(), &LISTS)
+fn lists(rt: HostRuntime) {
+    check_rows(&rt, rt.alloc(), &LISTS);
 }
 
 /// Arrays in messages.
@@ -326,8 +339,8 @@ static MESSAGES: [Row; 8] = [
 ];
 
 #[test]
-fn messages(rt: HostRuntime) -> Result<(), Fail> {
-    check_rows(&rt, rt.alloc(), &MESSAGES)
+fn messages(rt: HostRuntime) {
+    check_rows(&rt, rt.alloc(), &MESSAGES);
 }
 
 /// Fills an array of a million components row by row, and adds up its first and its last column.
@@ -386,16 +399,14 @@ fn played(alloc: Global, source: &str, trace: bool) -> Result<String, AllocError
 }
 
 #[test]
-fn a_million_components(rt: HostRuntime) -> Result<(), Fail> {
-    let answer = played(rt.alloc(), FILLED, false)?;
-    assert_eq!(&rt; answer.as_str(), "y");
-    Ok(())
+fn a_million_components(rt: HostRuntime) {
+    let answer = played(rt.alloc(), FILLED, false).expect(&rt, "memory");
+    check_text(&rt, FILLED, answer.as_str(), "y");
 }
 
 #[test]
-fn messages_in_the_trace(rt: HostRuntime) -> Result<(), Fail> {
-    let answer = played(rt.alloc(), TRACED, true)?;
+fn messages_in_the_trace(rt: HostRuntime) {
+    let answer = played(rt.alloc(), TRACED, true).expect(&rt, "memory");
     let wanted = "1 c5 c[1][0] p1>p2 [0 1 0 3 0 5]\nended\n";
-    assert_eq!(&rt; answer.as_str(), wanted);
-    Ok(())
+    check_text(&rt, TRACED, answer.as_str(), wanted);
 }

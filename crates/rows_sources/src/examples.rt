@@ -1,12 +1,13 @@
 //! The programs of the folder `examples` do what their first lines say.
+use crate::compared::check_text;
 use crate::gallery::{
-    IN_FAULTS, IN_FIRST_STEPS, IN_LIBRARY, IN_PIPELINES, IN_SELECTION, IN_SEQUENCES, IN_SHARING,
+    in_faults, in_first_steps, in_library, in_pipelines, in_selection, in_sequences, in_sharing,
 };
 use crate::places::check_known;
 use occ_play::{Counted, Errors, Options, Plan, PlayFault, Played, play_in, read_choices};
 use std::alloc::{AllocError, Global};
+use std::fmt::Write;
 use std::process::Abort;
-use std::test::Fail;
 
 /// A run of a program.
 #[derive(Clone, Copy)]
@@ -35,20 +36,15 @@ fn told(alloc: Global, title: &str, text: &str) -> Result<String, AllocError> {
     }
     let mut told = format!(in alloc; "-- {title}:\n")?;
     for line in text.lines() {
-        told.push_str("--   ")?;
-        told.push_str(line)?;
-        told.push_str("\n")?;
+        writeln!(told, "--   {line}")?;
     }
     Ok(told)
 }
 
 /// What the program's first lines say of the run.
 fn promise(alloc: Global, run: &Run) -> Result<String, AllocError> {
-    let mut promise = told(alloc, run.title, run.screen)?;
-    promise.push_str("-- Ends: ")?;
-    promise.push_str(run.ending)?;
-    promise.push_str("\n")?;
-    Ok(promise)
+    let told = told(alloc, run.title, run.screen)?;
+    format!(in alloc; "{told}-- Ends: {}\n", run.ending)
 }
 
 /// What standard output gets of the run.
@@ -81,23 +77,22 @@ fn shown(
 }
 
 /// The plan of a file of choices, or of turns.
-fn plan_of(alloc: Global, choices: &str) -> Result<Plan, Fail> {
+fn plan_of(rt: &impl Abort, alloc: Global, choices: &str) -> Plan {
     if choices.is_empty() {
-        return Ok(Plan::Turns(TURNS));
+        return Plan::Turns(TURNS);
     }
-    let choices = read_choices(alloc, choices.as_bytes())?;
-    Ok(Plan::Choices(choices))
+    let choices = read_choices(alloc, choices.as_bytes()).ok();
+    Plan::Choices(choices.expect(rt, "no choices"))
 }
 
 /// What standard output gets, or the line of the refusal.
-pub(crate) fn answer_of(
+fn answer_of(
     alloc: Global,
     source: &str,
     keyboard: &str,
-    choices: &str,
+    plan: &Plan,
     errors: Errors,
-) -> Result<String, Fail> {
-    let plan = plan_of(alloc, choices)?;
+) -> Result<String, AllocError> {
     let options = Options { quantum: 1, errors };
     let mut answer = Vec::new(alloc);
     let mut out = Counted::new(&mut answer);
@@ -106,12 +101,19 @@ pub(crate) fn answer_of(
         alloc,
         source.as_bytes(),
         keyboard.as_bytes(),
-        &plan,
+        plan,
         false,
         &mut out,
     );
     drop(out);
-    Ok(shown(alloc, &played, answer.as_slice())?)
+    shown(alloc, &played, answer.as_slice())
+}
+
+/// A source answers this line, with no keyboard.
+pub(crate) fn check_answer(rt: &impl Abort, alloc: Global, source: &str, wanted: &str) {
+    let plan = Plan::Turns(TURNS);
+    let answer = answer_of(alloc, source, "", &plan, Errors::Halt).expect(rt, "memory");
+    check_text(rt, source, answer.trim_end(), wanted);
 }
 
 /// A text stands in a program.
@@ -120,64 +122,64 @@ fn check_stands(rt: &impl Abort, source: &str, text: &str) {
 }
 
 /// The program's first lines say what the run is given and what comes of it.
-fn check_lines(rt: &impl Abort, alloc: Global, run: &Run) -> Result<(), Fail> {
-    let keyboard = told(alloc, "Keyboard", run.keyboard)?;
+fn check_lines(rt: &impl Abort, alloc: Global, run: &Run) {
+    let keyboard = told(alloc, "Keyboard", run.keyboard).expect(rt, "memory");
     check_stands(rt, run.source, keyboard.as_str());
-    let promise = promise(alloc, run)?;
+    let promise = promise(alloc, run).expect(rt, "memory");
     check_stands(rt, run.source, promise.as_str());
-    Ok(())
 }
 
 /// Plays a run, and compares what comes of it.
-fn check_run(rt: &impl Abort, alloc: Global, run: &Run) -> Result<(), Fail> {
-    let wanted = wanted(alloc, run)?;
+fn check_run(rt: &impl Abort, alloc: Global, run: &Run) {
+    let wanted = wanted(alloc, run).expect(rt, "memory");
+    let plan = plan_of(rt, alloc, run.choices);
     let errors = errors_of(run.title);
-    let answer = answer_of(alloc, run.source, run.keyboard, run.choices, errors)?;
-    assert_eq!(rt; answer.as_str(), wanted.as_str(), "{}", run.source);
-    Ok(())
+    let answer = answer_of(alloc, run.source, run.keyboard, &plan, errors);
+    let answer = answer.expect(rt, "memory");
+    check_text(rt, run.source, answer.as_str(), wanted.as_str());
 }
 
-/// Plays each run, and compares what comes of it with what the program's first lines say. Each process of the program is known.
-fn check_runs(rt: &impl Abort, alloc: Global, runs: &[Run]) -> Result<(), Fail> {
+/// Plays each run of a program, and compares what comes of it with what the program's first lines say. Each process of the
+/// program is known.
+pub(crate) fn check_runs(rt: &impl Abort, alloc: Global, runs: &[Run]) {
     for run in runs {
-        check_lines(rt, alloc, run)?;
-        check_run(rt, alloc, run)?;
-        check_known(rt, alloc, run.source)?;
+        check_lines(rt, alloc, run);
+        check_run(rt, alloc, run);
+        check_known(rt, alloc, run.source);
     }
-    Ok(())
 }
 
 #[test]
-fn first_steps(rt: HostRuntime) -> Result<(), Fail> {
-    check_runs(&rt, rt.alloc(), &IN_FIRST_STEPS)
+fn first_steps(rt: HostRuntime) {
+    in_first_steps(&rt, rt.alloc());
 }
 
 #[test]
-fn sequences(rt: HostRuntime) -> Result<(), Fail> {
-    check_runs(&rt, rt.alloc(), &IN_SEQUENCES)
+fn sequences(rt: HostRuntime) {
+    in_sequences(&rt, rt.alloc());
 }
 
 #[test]
-fn pipelines(rt: HostRuntime) -> Result<(), Fail> {
-    check_runs(&rt, rt.alloc(), &IN_PIPELINES)
+fn pipelines(rt: HostRuntime) {
+    in_pipelines(&rt, rt.alloc());
 }
 
 #[test]
-fn selection(rt: HostRuntime) -> Result<(), Fail> {
-    check_runs(&rt, rt.alloc(), &IN_SELECTION)
+fn selection(rt: HostRuntime) {
+    in_selection(&rt, rt.alloc());
 }
 
 #[test]
-fn sharing(rt: HostRuntime) -> Result<(), Fail> {
-    check_runs(&rt, rt.alloc(), &IN_SHARING)
+fn sharing(rt: HostRuntime) {
+    in_sharing(&rt, rt.alloc());
 }
 
 #[test]
-fn faults(rt: HostRuntime) -> Result<(), Fail> {
-    check_runs(&rt, rt.alloc(), &IN_FAULTS)
+fn faults(rt: HostRuntime) {
+    in_faults(&rt, rt.alloc());
 }
 
 #[test]
-fn library(rt: HostRuntime) -> Result<(), Fail> {
-    check_runs(&rt, rt.alloc(), &IN_LIBRARY)
+fn library(rt: HostRuntime) {
+    in_library(&rt, rt.alloc());
 }

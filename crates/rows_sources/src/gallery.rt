@@ -1,5 +1,7 @@
 //! The programs of the folder `examples`, and what their first lines say. `tools/tables.py` writes this file.
-use crate::examples::Run;
+use crate::examples::{Run, check_runs};
+use std::alloc::Global;
+use std::process::Abort;
 
 const CAPITALS: &str =
     r#"-- Echoes what is typed in capital letters, up to the end of the line: a loop that inputs, chooses and outputs.
@@ -2063,62 +2065,63 @@ PROC main (CHAN OF BYTE keyboard, screen)
 :
 "#;
 
-pub(crate) static IN_FIRST_STEPS: [Run; 4] = [
-    Run {
-        source: CAPITALS,
-        title: "Screen",
-        keyboard: "Hello, world.\n",
-        choices: "",
-        screen: "HELLO, WORLD.\n",
-        ending: "ended",
-    },
-    Run {
-        source: HELLO,
-        title: "Screen",
-        keyboard: "",
-        choices: "",
-        screen: "Hello\n",
-        ending: "ended",
-    },
-    Run {
-        source: RELAY,
-        title: "Screen",
-        keyboard: "",
-        choices: "",
-        screen: "abc\n",
-        ending: "ended",
-    },
-    Run {
-        source: TOGETHER,
-        title: "Screen",
-        keyboard: "",
-        choices: "",
-        screen: "7\n",
-        ending: "ended",
-    },
-];
+static RUNS_OF_CAPITALS: [Run; 1] = [Run {
+    source: CAPITALS,
+    title: "Screen",
+    keyboard: "Hello, world.\n",
+    choices: "",
+    screen: "HELLO, WORLD.\n",
+    ending: "ended",
+}];
 
-pub(crate) static IN_SEQUENCES: [Run; 5] = [
-    Run {
-        source: CALCULATOR,
-        title: "Screen",
-        keyboard: r#"12+30*2=
+static RUNS_OF_HELLO: [Run; 1] = [Run {
+    source: HELLO,
+    title: "Screen",
+    keyboard: "",
+    choices: "",
+    screen: "Hello\n",
+    ending: "ended",
+}];
+
+static RUNS_OF_RELAY: [Run; 1] = [Run {
+    source: RELAY,
+    title: "Screen",
+    keyboard: "",
+    choices: "",
+    screen: "abc\n",
+    ending: "ended",
+}];
+
+static RUNS_OF_TOGETHER: [Run; 1] = [Run {
+    source: TOGETHER,
+    title: "Screen",
+    keyboard: "",
+    choices: "",
+    screen: "7\n",
+    ending: "ended",
+}];
+
+static RUNS_OF_CALCULATOR: [Run; 1] = [Run {
+    source: CALCULATOR,
+    title: "Screen",
+    keyboard: r#"12+30*2=
 7-10=
 0-2147483647-1=.
 "#,
-        choices: "",
-        screen: r#"84
+    choices: "",
+    screen: r#"84
 -3
 -2147483648
 "#,
-        ending: "ended",
-    },
-    Run {
-        source: LIFE,
-        title: "Screen",
-        keyboard: "",
-        choices: "",
-        screen: r#".#....
+    ending: "ended",
+}];
+
+static RUNS_OF_LIFE: [Run; 1] = [Run {
+    source: LIFE,
+    title: "Screen",
+    keyboard: "",
+    choices: "",
+    screen: r#".#....
 ..#...
 ###...
 ......
@@ -2154,30 +2157,33 @@ pub(crate) static IN_SEQUENCES: [Run; 5] = [
 ......
 ======
 "#,
-        ending: "ended",
-    },
-    Run {
-        source: QUEENS,
-        title: "Screen",
-        keyboard: "",
-        choices: "",
-        screen: "15863724\n",
-        ending: "ended",
-    },
-    Run {
-        source: RUNS,
-        title: "Screen",
-        keyboard: "aaabccdddd\n",
-        choices: "",
-        screen: "a3b1c2d4\n",
-        ending: "ended",
-    },
-    Run {
-        source: SIEVE,
-        title: "Screen",
-        keyboard: "",
-        choices: "",
-        screen: r#"02
+    ending: "ended",
+}];
+
+static RUNS_OF_QUEENS: [Run; 1] = [Run {
+    source: QUEENS,
+    title: "Screen",
+    keyboard: "",
+    choices: "",
+    screen: "15863724\n",
+    ending: "ended",
+}];
+
+static RUNS_OF_RUNS: [Run; 1] = [Run {
+    source: RUNS,
+    title: "Screen",
+    keyboard: "aaabccdddd\n",
+    choices: "",
+    screen: "a3b1c2d4\n",
+    ending: "ended",
+}];
+
+static RUNS_OF_SIEVE: [Run; 1] = [Run {
+    source: SIEVE,
+    title: "Screen",
+    keyboard: "",
+    choices: "",
+    screen: r#"02
 03
 05
 07
@@ -2188,87 +2194,91 @@ pub(crate) static IN_SEQUENCES: [Run; 5] = [
 23
 29
 "#,
-        ending: "ended",
-    },
-];
+    ending: "ended",
+}];
 
-pub(crate) static IN_PIPELINES: [Run; 7] = [
-    Run {
-        source: ADDER,
-        title: "Screen",
-        keyboard: "0110+0111\n",
-        choices: "",
-        screen: "01101\n",
-        ending: "ended",
-    },
-    Run {
-        source: FIBONACCI,
-        title: "Screen",
-        keyboard: "",
-        choices: "",
-        screen: "0112358\n",
-        ending: "stopped",
-    },
-    Run {
-        source: MATRIX,
-        title: "Screen",
-        keyboard: "",
-        choices: "",
-        screen: r#"30 36 42
+static RUNS_OF_ADDER: [Run; 1] = [Run {
+    source: ADDER,
+    title: "Screen",
+    keyboard: "0110+0111\n",
+    choices: "",
+    screen: "01101\n",
+    ending: "ended",
+}];
+
+static RUNS_OF_FIBONACCI: [Run; 1] = [Run {
+    source: FIBONACCI,
+    title: "Screen",
+    keyboard: "",
+    choices: "",
+    screen: "0112358\n",
+    ending: "stopped",
+}];
+
+static RUNS_OF_MATRIX: [Run; 1] = [Run {
+    source: MATRIX,
+    title: "Screen",
+    keyboard: "",
+    choices: "",
+    screen: r#"30 36 42
 66 81 96
 102 126 150
 "#,
-        ending: "ended",
-    },
-    Run {
-        source: PIPELINE,
-        title: "Screen",
-        keyboard: "",
-        choices: "",
-        screen: "4\n",
-        ending: "ended",
-    },
-    Run {
-        source: PRIMES,
-        title: "Screen",
-        keyboard: "",
-        choices: "",
-        screen: r#"02
+    ending: "ended",
+}];
+
+static RUNS_OF_PIPELINE: [Run; 1] = [Run {
+    source: PIPELINE,
+    title: "Screen",
+    keyboard: "",
+    choices: "",
+    screen: "4\n",
+    ending: "ended",
+}];
+
+static RUNS_OF_PRIMES: [Run; 1] = [Run {
+    source: PRIMES,
+    title: "Screen",
+    keyboard: "",
+    choices: "",
+    screen: r#"02
 03
 05
 07
 11
 13
 "#,
-        ending: "ended",
-    },
-    Run {
-        source: SORTER,
-        title: "Screen",
-        keyboard: "puzzle\n",
-        choices: "",
-        screen: "elpuzz\n",
-        ending: "ended",
-    },
-    Run {
-        source: SQUASH,
-        title: "Screen",
-        keyboard: "x**2 + y*z\n",
-        choices: "",
-        screen: "x^2 + y*z\n",
-        ending: "ended",
-    },
-];
+    ending: "ended",
+}];
 
-pub(crate) static IN_SELECTION: [Run; 9] = [
-    Run {
-        source: BUFFER,
-        title: "Screen",
-        keyboard: "",
-        choices: "",
-        screen: "012345\n",
-        ending: "ended",
-    },
+static RUNS_OF_SORTER: [Run; 1] = [Run {
+    source: SORTER,
+    title: "Screen",
+    keyboard: "puzzle\n",
+    choices: "",
+    screen: "elpuzz\n",
+    ending: "ended",
+}];
+
+static RUNS_OF_SQUASH: [Run; 1] = [Run {
+    source: SQUASH,
+    title: "Screen",
+    keyboard: "x**2 + y*z\n",
+    choices: "",
+    screen: "x^2 + y*z\n",
+    ending: "ended",
+}];
+
+static RUNS_OF_BUFFER: [Run; 1] = [Run {
+    source: BUFFER,
+    title: "Screen",
+    keyboard: "",
+    choices: "",
+    screen: "012345\n",
+    ending: "ended",
+}];
+
+static RUNS_OF_MERGE: [Run; 2] = [
     Run {
         source: MERGE,
         title: "Screen",
@@ -2321,6 +2331,9 @@ pub(crate) static IN_SELECTION: [Run; 9] = [
         screen: "axbycz\n",
         ending: "ended",
     },
+];
+
+static RUNS_OF_MULTIPLEXER: [Run; 2] = [
     Run {
         source: MULTIPLEXER,
         title: "Screen",
@@ -2395,18 +2408,22 @@ pub(crate) static IN_SELECTION: [Run; 9] = [
         screen: "0a0a1b1b2c2c3d3d\n",
         ending: "ended",
     },
-    Run {
-        source: NUMBERED,
-        title: "Screen",
-        keyboard: r#"a line
+];
+
+static RUNS_OF_NUMBERED: [Run; 1] = [Run {
+    source: NUMBERED,
+    title: "Screen",
+    keyboard: r#"a line
 and another
 "#,
-        choices: "",
-        screen: r#"1 a line
+    choices: "",
+    screen: r#"1 a line
 2 and another
 "#,
-        ending: "ended",
-    },
+    ending: "ended",
+}];
+
+static RUNS_OF_SIGNAL: [Run; 2] = [
     Run {
         source: SIGNAL,
         title: "Screen",
@@ -2435,17 +2452,18 @@ and another
         screen: "!\n",
         ending: "ended",
     },
-    Run {
-        source: STACK,
-        title: "Screen",
-        keyboard: "straw\n",
-        choices: "",
-        screen: "warts\n",
-        ending: "ended",
-    },
 ];
 
-pub(crate) static IN_SHARING: [Run; 6] = [
+static RUNS_OF_STACK: [Run; 1] = [Run {
+    source: STACK,
+    title: "Screen",
+    keyboard: "straw\n",
+    choices: "",
+    screen: "warts\n",
+    ending: "ended",
+}];
+
+static RUNS_OF_FARM: [Run; 2] = [
     Run {
         source: FARM,
         title: "Screen",
@@ -2556,6 +2574,9 @@ pub(crate) static IN_SHARING: [Run; 6] = [
         screen: "0A1B2C0D1E2F\n",
         ending: "ended",
     },
+];
+
+static RUNS_OF_POOL: [Run; 2] = [
     Run {
         source: POOL,
         title: "Screen",
@@ -2613,41 +2634,45 @@ pub(crate) static IN_SHARING: [Run; 6] = [
         screen: "a0b1c0\n",
         ending: "ended",
     },
-    Run {
-        source: TOKEN,
-        title: "Screen",
-        keyboard: "",
-        choices: "",
-        screen: "abcabc\n",
-        ending: "ended",
-    },
-    Run {
-        source: TREE,
-        title: "Screen",
-        keyboard: "",
-        choices: "",
-        screen: "36\n",
-        ending: "ended",
-    },
 ];
 
-pub(crate) static IN_FAULTS: [Run; 14] = [
-    Run {
-        source: BUTLER,
-        title: "Screen",
-        keyboard: "",
-        choices: "",
-        screen: "all have eaten\n",
-        ending: "ended",
-    },
-    Run {
-        source: COLOURS,
-        title: "Screen",
-        keyboard: "203\n",
-        choices: "",
-        screen: "br\n",
-        ending: "fault RANGE line 17",
-    },
+static RUNS_OF_TOKEN: [Run; 1] = [Run {
+    source: TOKEN,
+    title: "Screen",
+    keyboard: "",
+    choices: "",
+    screen: "abcabc\n",
+    ending: "ended",
+}];
+
+static RUNS_OF_TREE: [Run; 1] = [Run {
+    source: TREE,
+    title: "Screen",
+    keyboard: "",
+    choices: "",
+    screen: "36\n",
+    ending: "ended",
+}];
+
+static RUNS_OF_BUTLER: [Run; 1] = [Run {
+    source: BUTLER,
+    title: "Screen",
+    keyboard: "",
+    choices: "",
+    screen: "all have eaten\n",
+    ending: "ended",
+}];
+
+static RUNS_OF_COLOURS: [Run; 1] = [Run {
+    source: COLOURS,
+    title: "Screen",
+    keyboard: "203\n",
+    choices: "",
+    screen: "br\n",
+    ending: "fault RANGE line 17",
+}];
+
+static RUNS_OF_DINING: [Run; 2] = [
     Run {
         source: DINING,
         title: "Screen",
@@ -2720,6 +2745,9 @@ pub(crate) static IN_FAULTS: [Run; 14] = [
         screen: "021\n",
         ending: "ended",
     },
+];
+
+static RUNS_OF_DIVISION: [Run; 3] = [
     Run {
         source: DIVISION,
         title: "Screen",
@@ -2764,6 +2792,9 @@ pub(crate) static IN_FAULTS: [Run; 14] = [
         screen: "36\n",
         ending: "stopped ARITH line 21",
     },
+];
+
+static RUNS_OF_DOOR: [Run; 2] = [
     Run {
         source: DOOR,
         title: "Screen",
@@ -2816,30 +2847,36 @@ pub(crate) static IN_FAULTS: [Run; 14] = [
         screen: "()()\n",
         ending: "ended",
     },
-    Run {
-        source: EMBRACE,
-        title: "Screen",
-        keyboard: "",
-        choices: "",
-        screen: "?\n",
-        ending: "stopped",
-    },
-    Run {
-        source: LETTERS,
-        title: "Screen",
-        keyboard: "",
-        choices: "",
-        screen: "abc\n",
-        ending: "stopped",
-    },
-    Run {
-        source: LIVELOCK,
-        title: "Screen",
-        keyboard: "",
-        choices: "",
-        screen: ".\n",
-        ending: "limit",
-    },
+];
+
+static RUNS_OF_EMBRACE: [Run; 1] = [Run {
+    source: EMBRACE,
+    title: "Screen",
+    keyboard: "",
+    choices: "",
+    screen: "?\n",
+    ending: "stopped",
+}];
+
+static RUNS_OF_LETTERS: [Run; 1] = [Run {
+    source: LETTERS,
+    title: "Screen",
+    keyboard: "",
+    choices: "",
+    screen: "abc\n",
+    ending: "stopped",
+}];
+
+static RUNS_OF_LIVELOCK: [Run; 1] = [Run {
+    source: LIVELOCK,
+    title: "Screen",
+    keyboard: "",
+    choices: "",
+    screen: ".\n",
+    ending: "limit",
+}];
+
+static RUNS_OF_WAITER: [Run; 2] = [
     Run {
         source: WAITER,
         title: "Screen",
@@ -2891,55 +2928,127 @@ pub(crate) static IN_FAULTS: [Run; 14] = [
     },
 ];
 
-pub(crate) static IN_LIBRARY: [Run; 6] = [
-    Run {
-        source: LIBRARY_BUFFER,
-        title: "Screen",
-        keyboard: "",
-        choices: "",
-        screen: "01234567\n",
-        ending: "ended",
-    },
-    Run {
-        source: LIBRARY_BUTLER,
-        title: "Screen",
-        keyboard: "",
-        choices: "",
-        screen: "102\n",
-        ending: "ended",
-    },
-    Run {
-        source: LIBRARY_EXTREMES,
-        title: "Screen",
-        keyboard: "",
-        choices: "",
-        screen: "38\n",
-        ending: "ended",
-    },
-    Run {
-        source: LIBRARY_MULTIPLEXER,
-        title: "Screen",
-        keyboard: "",
-        choices: "",
-        screen: "1a0a0b1b2a2b\n",
-        ending: "ended",
-    },
-    Run {
-        source: LIBRARY_READING,
-        title: "Screen",
-        keyboard: "add 12 and -30\n",
-        choices: "",
-        screen: "add -18\n",
-        ending: "ended",
-    },
-    Run {
-        source: LIBRARY_WRITING,
-        title: "Screen",
-        keyboard: "",
-        choices: "",
-        screen: r#"from -2147483648 to 2147483647
+static RUNS_OF_LIBRARY_BUFFER: [Run; 1] = [Run {
+    source: LIBRARY_BUFFER,
+    title: "Screen",
+    keyboard: "",
+    choices: "",
+    screen: "01234567\n",
+    ending: "ended",
+}];
+
+static RUNS_OF_LIBRARY_BUTLER: [Run; 1] = [Run {
+    source: LIBRARY_BUTLER,
+    title: "Screen",
+    keyboard: "",
+    choices: "",
+    screen: "102\n",
+    ending: "ended",
+}];
+
+static RUNS_OF_LIBRARY_EXTREMES: [Run; 1] = [Run {
+    source: LIBRARY_EXTREMES,
+    title: "Screen",
+    keyboard: "",
+    choices: "",
+    screen: "38\n",
+    ending: "ended",
+}];
+
+static RUNS_OF_LIBRARY_MULTIPLEXER: [Run; 1] = [Run {
+    source: LIBRARY_MULTIPLEXER,
+    title: "Screen",
+    keyboard: "",
+    choices: "",
+    screen: "1a0a0b1b2a2b\n",
+    ending: "ended",
+}];
+
+static RUNS_OF_LIBRARY_READING: [Run; 1] = [Run {
+    source: LIBRARY_READING,
+    title: "Screen",
+    keyboard: "add 12 and -30\n",
+    choices: "",
+    screen: "add -18\n",
+    ending: "ended",
+}];
+
+static RUNS_OF_LIBRARY_WRITING: [Run; 1] = [Run {
+    source: LIBRARY_WRITING,
+    title: "Screen",
+    keyboard: "",
+    choices: "",
+    screen: r#"from -2147483648 to 2147483647
 that is all
 "#,
-        ending: "ended",
-    },
-];
+    ending: "ended",
+}];
+
+/// The programs of the folder `first_steps`.
+pub(crate) fn in_first_steps(rt: &impl Abort, alloc: Global) {
+    check_runs(rt, alloc, &RUNS_OF_CAPITALS);
+    check_runs(rt, alloc, &RUNS_OF_HELLO);
+    check_runs(rt, alloc, &RUNS_OF_RELAY);
+    check_runs(rt, alloc, &RUNS_OF_TOGETHER);
+}
+
+/// The programs of the folder `sequences`.
+pub(crate) fn in_sequences(rt: &impl Abort, alloc: Global) {
+    check_runs(rt, alloc, &RUNS_OF_CALCULATOR);
+    check_runs(rt, alloc, &RUNS_OF_LIFE);
+    check_runs(rt, alloc, &RUNS_OF_QUEENS);
+    check_runs(rt, alloc, &RUNS_OF_RUNS);
+    check_runs(rt, alloc, &RUNS_OF_SIEVE);
+}
+
+/// The programs of the folder `pipelines`.
+pub(crate) fn in_pipelines(rt: &impl Abort, alloc: Global) {
+    check_runs(rt, alloc, &RUNS_OF_ADDER);
+    check_runs(rt, alloc, &RUNS_OF_FIBONACCI);
+    check_runs(rt, alloc, &RUNS_OF_MATRIX);
+    check_runs(rt, alloc, &RUNS_OF_PIPELINE);
+    check_runs(rt, alloc, &RUNS_OF_PRIMES);
+    check_runs(rt, alloc, &RUNS_OF_SORTER);
+    check_runs(rt, alloc, &RUNS_OF_SQUASH);
+}
+
+/// The programs of the folder `selection`.
+pub(crate) fn in_selection(rt: &impl Abort, alloc: Global) {
+    check_runs(rt, alloc, &RUNS_OF_BUFFER);
+    check_runs(rt, alloc, &RUNS_OF_MERGE);
+    check_runs(rt, alloc, &RUNS_OF_MULTIPLEXER);
+    check_runs(rt, alloc, &RUNS_OF_NUMBERED);
+    check_runs(rt, alloc, &RUNS_OF_SIGNAL);
+    check_runs(rt, alloc, &RUNS_OF_STACK);
+}
+
+/// The programs of the folder `sharing`.
+pub(crate) fn in_sharing(rt: &impl Abort, alloc: Global) {
+    check_runs(rt, alloc, &RUNS_OF_FARM);
+    check_runs(rt, alloc, &RUNS_OF_POOL);
+    check_runs(rt, alloc, &RUNS_OF_TOKEN);
+    check_runs(rt, alloc, &RUNS_OF_TREE);
+}
+
+/// The programs of the folder `faults`.
+pub(crate) fn in_faults(rt: &impl Abort, alloc: Global) {
+    check_runs(rt, alloc, &RUNS_OF_BUTLER);
+    check_runs(rt, alloc, &RUNS_OF_COLOURS);
+    check_runs(rt, alloc, &RUNS_OF_DINING);
+    check_runs(rt, alloc, &RUNS_OF_DIVISION);
+    check_runs(rt, alloc, &RUNS_OF_DOOR);
+    check_runs(rt, alloc, &RUNS_OF_EMBRACE);
+    check_runs(rt, alloc, &RUNS_OF_LETTERS);
+    check_runs(rt, alloc, &RUNS_OF_LIVELOCK);
+    check_runs(rt, alloc, &RUNS_OF_WAITER);
+}
+
+/// The programs of the folder `library`.
+pub(crate) fn in_library(rt: &impl Abort, alloc: Global) {
+    check_runs(rt, alloc, &RUNS_OF_LIBRARY_BUFFER);
+    check_runs(rt, alloc, &RUNS_OF_LIBRARY_BUTLER);
+    check_runs(rt, alloc, &RUNS_OF_LIBRARY_EXTREMES);
+    check_runs(rt, alloc, &RUNS_OF_LIBRARY_MULTIPLEXER);
+    check_runs(rt, alloc, &RUNS_OF_LIBRARY_READING);
+    check_runs(rt, alloc, &RUNS_OF_LIBRARY_WRITING);
+}

@@ -1,8 +1,8 @@
 //! Large texts: sizes that take no cell, chains of AND and OR, replicated SEQs, and what nests.
+use crate::compared::check_text;
 use occ_play::{Counted, Plan, PlayFault, Played, play};
 use std::alloc::{AllocError, Global};
 use std::process::Abort;
-use std::test::Fail;
 
 const HEADER: &str = "PROC main (CHAN OF BYTE keyboard, screen)\n";
 
@@ -42,10 +42,9 @@ fn answer(alloc: Global, source: &str) -> Result<String, AllocError> {
     told(alloc, &played, bytes.as_slice())
 }
 
-fn check(rt: &impl Abort, alloc: Global, source: &str, wanted: &str) -> Result<(), Fail> {
-    let found = answer(alloc, source)?;
-    assert_eq!(rt; found.as_str(), wanted);
-    Ok(())
+fn check(rt: &impl Abort, alloc: Global, source: &str, wanted: &str) {
+    let found = answer(alloc, source).expect(rt, "memory");
+    check_text(rt, "a large text", found.as_str(), wanted);
 }
 
 /// A source with this text in it.
@@ -58,23 +57,16 @@ fn source(alloc: Global, around: &Around, text: &str) -> Result<String, AllocErr
     format!(in alloc; "{before}{HEADER}{first}{text}{last}:\n")
 }
 
-fn check_around(
-    rt: &impl Abort,
-    alloc: Global,
-    around: &Around,
-    text: &str,
-    wanted: &str,
-) -> Result<(), Fail> {
-    let source = source(alloc, around, text)?;
-    check(rt, alloc, source.as_str(), wanted)
+fn check_around(rt: &impl Abort, alloc: Global, around: &Around, text: &str, wanted: &str) {
+    let source = source(alloc, around, text).expect(rt, "memory");
+    check(rt, alloc, source.as_str(), wanted);
 }
 
 /// Checks the same text in each of these sources.
-fn check_each(rt: &impl Abort, alloc: Global, rows: &[Answered], text: &str) -> Result<(), Fail> {
+fn check_each(rt: &impl Abort, alloc: Global, rows: &[Answered], text: &str) {
     for row in rows {
-        check_around(rt, alloc, &row.0, text, row.1)?;
+        check_around(rt, alloc, &row.0, text, row.1);
     }
-    Ok(())
 }
 
 /// Sources without a further text.
@@ -137,21 +129,27 @@ static STRING: Around = Around {
 };
 
 #[test]
-fn sizes_without_cells(rt: HostRuntime) -> Result<(), Fail> {
-    let alloc = rt.alloc();
-    check_each(&rt, alloc, &SIZES, "")?;
-    let letters = "x".repeat(alloc, 65_537)?;
-    check_around(&rt, alloc, &STRING, letters.as_str(), "")
+fn sizes_without_cells(rt: HostRuntime) {
+    check_each(&rt, rt.alloc(), &SIZES, "");
+    let letters = "x".repeat(rt.alloc(), 65_537).expect(&rt, "memory");
+    check_around(&rt, rt.alloc(), &STRING, letters.as_str(), "");
+}
+
+/// A word and an operand, so many times.
+fn further(
+    alloc: Global,
+    operand: &str,
+    between: &str,
+    count: usize,
+) -> Result<String, AllocError> {
+    let one = format!(in alloc; "{between}{operand}")?;
+    one.as_str().repeat(alloc, count)
 }
 
 /// So many times an operand, with the same word between each two.
-fn joined(alloc: Global, operand: &str, between: &str, count: u32) -> Result<String, AllocError> {
-    let mut text = String::from_str(alloc, operand)?;
-    for _ in 1..count {
-        text.push_str(between)?;
-        text.push_str(operand)?;
-    }
-    Ok(text)
+fn joined(alloc: Global, operand: &str, between: &str, count: usize) -> Result<String, AllocError> {
+    let more = further(alloc, operand, between, count.saturating_sub(1))?;
+    format!(in alloc; "{operand}{more}")
 }
 
 const BETWEEN: [&str; 2] = [" AND ", " OR "];
@@ -185,13 +183,11 @@ static CONSTANT_CHAINS: [Answered; 3] = [
 ];
 
 #[test]
-fn constant_chains(rt: HostRuntime) -> Result<(), Fail> {
-    let alloc = rt.alloc();
+fn constant_chains(rt: HostRuntime) {
     for between in BETWEEN {
-        let chain = joined(alloc, "TRUE", between, 1_500)?;
-        check_each(&rt, alloc, &CONSTANT_CHAINS, chain.as_str())?;
+        let chain = joined(rt.alloc(), "TRUE", between, 1_500).expect(&rt, "memory");
+        check_each(&rt, rt.alloc(), &CONSTANT_CHAINS, chain.as_str());
     }
-    Ok(())
 }
 
 /// Round a chain of variables.
@@ -202,44 +198,34 @@ static CHAIN: Around = Around {
 };
 
 /// Checks chains of so many variables.
-fn check_chains(rt: &impl Abort, alloc: Global, operands: u32, wanted: &str) -> Result<(), Fail> {
+fn check_chains(rt: &impl Abort, alloc: Global, operands: usize, wanted: &str) {
     for between in BETWEEN {
-        let chain = joined(alloc, "a", between, operands)?;
-        check_around(rt, alloc, &CHAIN, chain.as_str(), wanted)?;
+        let chain = joined(alloc, "a", between, operands).expect(rt, "memory");
+        check_around(rt, alloc, &CHAIN, chain.as_str(), wanted);
     }
-    Ok(())
 }
 
 #[test]
-fn other_chains(rt: HostRuntime) -> Result<(), Fail> {
-    let alloc = rt.alloc();
-    check_chains(&rt, alloc, 198, "")?;
+fn other_chains(rt: HostRuntime) {
+    check_chains(&rt, rt.alloc(), 198, "");
     for operands in [199, 200, 300, 1_500, 20_000] {
-        check_chains(&rt, alloc, operands, "refused 43 TooLarge")?;
+        check_chains(&rt, rt.alloc(), operands, "refused 43 TooLarge");
     }
-    Ok(())
 }
 
-/// A word, and behind it so many operands `t` with the word between each two.
-fn further(alloc: Global, between: &str, count: u32) -> Result<String, AllocError> {
-    let more = joined(alloc, "t", between, count)?;
-    format!(in alloc; "{between}{more}")
+/// The operand `t` in so many parentheses, each closed behind this text.
+fn in_parentheses(alloc: Global, more: &str, count: usize) -> Result<String, AllocError> {
+    let open = "(".repeat(alloc, count)?;
+    let one = format!(in alloc; "{more})")?;
+    let close = one.as_str().repeat(alloc, count)?;
+    format!(in alloc; "{open}t{close}")
 }
 
 /// A chain of so many further operands `t`, in parentheses and followed by as many more, so many levels in all.
-fn levels(alloc: Global, between: &str, count: u32, deep: u32) -> Result<String, AllocError> {
-    let more = further(alloc, between, count)?;
-    let mut text = String::new(alloc);
-    for _ in 1..deep {
-        text.push('(')?;
-    }
-    text.push('t')?;
-    for _ in 1..deep {
-        text.push_str(more.as_str())?;
-        text.push(')')?;
-    }
-    text.push_str(more.as_str())?;
-    Ok(text)
+fn levels(alloc: Global, between: &str, count: usize, deep: usize) -> Result<String, AllocError> {
+    let more = further(alloc, "t", between, count)?;
+    let inner = in_parentheses(alloc, more.as_str(), deep.saturating_sub(1))?;
+    format!(in alloc; "{inner}{more}")
 }
 
 /// Round a chain of the deepest levels.
@@ -281,19 +267,17 @@ static DEEP: [Answered; 3] = [
 ];
 
 /// Checks chains of so many levels.
-fn check_levels(rt: &impl Abort, alloc: Global, rows: &[Answered], deep: u32) -> Result<(), Fail> {
+fn check_levels(rt: &impl Abort, alloc: Global, rows: &[Answered], deep: usize) {
     for between in BETWEEN {
-        let chain = levels(alloc, between, 1_000, deep)?;
-        check_each(rt, alloc, rows, chain.as_str())?;
+        let chain = levels(alloc, between, 1_000, deep).expect(rt, "memory");
+        check_each(rt, alloc, rows, chain.as_str());
     }
-    Ok(())
 }
 
 #[test]
-fn chains_within_chains(rt: HostRuntime) -> Result<(), Fail> {
-    let alloc = rt.alloc();
-    check_levels(&rt, alloc, &DEEPEST, 64)?;
-    check_levels(&rt, alloc, &DEEP, 45)
+fn chains_within_chains(rt: HostRuntime) {
+    check_levels(&rt, rt.alloc(), &DEEPEST, 64);
+    check_levels(&rt, rt.alloc(), &DEEP, 45);
 }
 
 fn indent(text: &mut String, level: u32) -> Result<(), AllocError> {
@@ -336,12 +320,12 @@ static SEQUENCE: Around = Around {
 };
 
 #[test]
-fn replicated_sequences(rt: HostRuntime) -> Result<(), Fail> {
-    let alloc = rt.alloc();
-    let within = replicated(alloc, 50)?;
-    check(&rt, alloc, within.as_str(), "A")?;
-    let row = "    SEQ i = 0 FOR 1\n      SKIP\n".repeat(alloc, 20_100)?;
-    check_around(&rt, alloc, &SEQUENCE, row.as_str(), "A")
+fn replicated_sequences(rt: HostRuntime) {
+    let within = replicated(rt.alloc(), 50).expect(&rt, "memory");
+    check(&rt, rt.alloc(), within.as_str(), "A");
+    let one = "    SEQ i = 0 FOR 1\n      SKIP\n";
+    let row = one.repeat(rt.alloc(), 20_100).expect(&rt, "memory");
+    check_around(&rt, rt.alloc(), &SEQUENCE, row.as_str(), "A");
 }
 
 /// Round declared variables.
@@ -387,21 +371,20 @@ fn check_names(
     around: &Around,
     name: &str,
     rows: &[(usize, &str)],
-) -> Result<(), Fail> {
+) {
     for (count, wanted) in rows {
-        let names = name.repeat(alloc, *count)?;
-        check_around(rt, alloc, around, names.as_str(), wanted)?;
+        let names = name.repeat(alloc, *count).expect(rt, "memory");
+        check_around(rt, alloc, around, names.as_str(), wanted);
     }
-    Ok(())
 }
 
 #[test]
-fn names_before_one_part(rt: HostRuntime) -> Result<(), Fail> {
+fn names_before_one_part(rt: HostRuntime) {
     let alloc = rt.alloc();
-    check_names(&rt, alloc, &VARIANT, "      INT x:\n", &ANY)?;
-    check_names(&rt, alloc, &BRANCH, "    INT x:\n", &ANY)?;
-    check_names(&rt, alloc, &ARM, "    INT x:\n", &FEW)?;
-    check_names(&rt, alloc, &CHOICE, "    INT x:\n", &FEW)
+    check_names(&rt, alloc, &VARIANT, "      INT x:\n", &ANY);
+    check_names(&rt, alloc, &BRANCH, "    INT x:\n", &ANY);
+    check_names(&rt, alloc, &ARM, "    INT x:\n", &FEW);
+    check_names(&rt, alloc, &CHOICE, "    INT x:\n", &FEW);
 }
 
 /// So many of a construct within one another, the innermost round a call.
@@ -438,18 +421,16 @@ static NESTED: [(usize, u32, &str); 5] = [
 ];
 
 /// Checks calls of PROCs with levels of a construct within one another.
-fn check_nested(rt: &impl Abort, alloc: Global, construct: &str, part: &str) -> Result<(), Fail> {
+fn check_nested(rt: &impl Abort, alloc: Global, construct: &str, part: &str) {
     for (calls, levels, wanted) in &NESTED {
-        let lines = round_a_call(alloc, construct, part, *levels)?;
-        let source = calls_within(alloc, lines.as_str(), *calls)?;
-        check(rt, alloc, source.as_str(), wanted)?;
+        let lines = round_a_call(alloc, construct, part, *levels).expect(rt, "memory");
+        let source = calls_within(alloc, lines.as_str(), *calls).expect(rt, "memory");
+        check(rt, alloc, source.as_str(), wanted);
     }
-    Ok(())
 }
 
 #[test]
-fn constructs_in_one_another_through_calls(rt: HostRuntime) -> Result<(), Fail> {
-    let alloc = rt.alloc();
-    check_nested(&rt, alloc, "  ALT\n", "  TRUE & SKIP\n")?;
-    check_nested(&rt, alloc, "  IF\n", "  TRUE\n")
+fn constructs_in_one_another_through_calls(rt: HostRuntime) {
+    check_nested(&rt, rt.alloc(), "  ALT\n", "  TRUE & SKIP\n");
+    check_nested(&rt, rt.alloc(), "  IF\n", "  TRUE\n");
 }

@@ -4,6 +4,8 @@
 #[cfg(test)]
 mod answers;
 #[cfg(test)]
+mod compared;
+#[cfg(test)]
 mod dimension_rules;
 #[cfg(test)]
 mod dimensions;

@@ -1,14 +1,14 @@
 //! Where processes stand in their sources: what the report of a network tells that doesn't end, and that each process of a
 //! source is known with all its stops.
+use crate::compared::{check_count, check_text};
 use occ_explaining::report_of;
 use occ_machine::{Code, Instr, Slot};
 use occ_places::{Places, places_of};
-use occ_play::{Counted, Options, Plan, code_of, play_in};
+use occ_play::{Choice, Counted, Options, Plan, Played, code_of, play_in};
 use occ_text::read_lines;
 use occ_tree::parse;
 use std::alloc::Global;
 use std::process::Abort;
-use std::test::Fail;
 
 /// A source, and the report of its run.
 struct Reported(&'static str, &'static str);
@@ -364,57 +364,58 @@ static CIRCLES: [Reported; 5] = [
     ),
 ];
 
-/// Plays a source, and compares its report.
-fn check_reported(rt: &impl Abort, alloc: Global, row: &Reported) -> Result<(), Fail> {
-    let source = row.0.as_bytes();
-    let options = Options::plain();
+/// The choices that are used where a source is played; none where it is refused.
+fn choices_of(alloc: Global, source: &[u8]) -> Option<Vec<Choice>> {
+    let plan = Plan::Turns(1000);
     let mut answer = Vec::new(alloc);
     let mut out = Counted::new(&mut answer);
-    let played = play_in(
-        &options,
+    match play_in(
+        &Options::plain(),
         alloc,
         source,
         b"",
-        &Plan::Turns(1000),
+        &plan,
         false,
         &mut out,
-    )?;
-    drop(out);
-    let report = report_of(&options, alloc, source, b"", played.choices.as_slice())?;
-    let report = String::from_utf8_lossy(alloc, report.as_slice())?;
-    assert_eq!(rt; report.as_str(), row.1, "{}", row.0);
-    check_known(rt, alloc, row.0)
+    ) {
+        Ok(Played { choices, .. }) => Some(choices),
+        Err(_) => None,
+    }
+}
+
+/// Plays each source, and compares its report.
+fn check_reported(rt: &impl Abort, alloc: Global, rows: &[Reported]) {
+    for row in rows {
+        let source = row.0.as_bytes();
+        let choices = choices_of(alloc, source).expect(rt, "refused");
+        let report = report_of(&Options::plain(), alloc, source, b"", choices.as_slice());
+        let report = report.ok().expect(rt, "no report");
+        let report = String::from_utf8_lossy(alloc, report.as_slice()).expect(rt, "memory");
+        check_text(rt, row.0, report.as_str(), row.1);
+        check_known(rt, alloc, row.0);
+    }
 }
 
 #[test]
-fn processes_halt_at_lines(rt: HostRuntime) -> Result<(), Fail> {
-    for row in &HALTED {
-        check_reported(&rt, rt.alloc(), row)?;
-    }
-    Ok(())
+fn processes_halt_at_lines(rt: HostRuntime) {
+    check_reported(&rt, rt.alloc(), &HALTED);
 }
 
 #[test]
-fn processes_stand_in_their_procs(rt: HostRuntime) -> Result<(), Fail> {
-    for row in &NESTED {
-        check_reported(&rt, rt.alloc(), row)?;
-    }
-    Ok(())
+fn processes_stand_in_their_procs(rt: HostRuntime) {
+    check_reported(&rt, rt.alloc(), &NESTED);
 }
 
 #[test]
-fn processes_wait_in_circles(rt: HostRuntime) -> Result<(), Fail> {
-    for row in &CIRCLES {
-        check_reported(&rt, rt.alloc(), row)?;
-    }
-    Ok(())
+fn processes_wait_in_circles(rt: HostRuntime) {
+    check_reported(&rt, rt.alloc(), &CIRCLES);
 }
 
-/// What is known of a source's processes.
-fn known(alloc: Global, source: &str, code: &Code) -> Result<Places, Fail> {
-    let lines = read_lines(alloc, source.as_bytes())?;
-    let tree = parse(alloc, &lines)?;
-    Ok(places_of(alloc, &tree, code, lines.lines.as_slice())?)
+/// What is known of a source's processes, where it has a tree.
+fn known(alloc: Global, source: &str, code: &Code) -> Option<Places> {
+    let lines = read_lines(alloc, source.as_bytes()).ok()?;
+    let tree = parse(alloc, &lines).ok()?;
+    places_of(alloc, &tree, code, lines.lines.as_slice()).ok()
 }
 
 /// How many stops a code has.
@@ -437,15 +438,23 @@ fn stops_in(code: &[Instr<Slot>]) -> usize {
 }
 
 /// Each process of a source has a PROC, and each of its stops a line.
-pub(crate) fn check_known(rt: &impl Abort, alloc: Global, source: &str) -> Result<(), Fail> {
-    let code = code_of(&Options::plain(), alloc, source.as_bytes())?;
-    let places = known(alloc, source, &code)?;
+pub(crate) fn check_known(rt: &impl Abort, alloc: Global, source: &str) {
+    let code = code_of(&Options::plain(), alloc, source.as_bytes()).ok();
+    let code = code.expect(rt, "refused");
+    let places = known(alloc, source, &code).expect(rt, "not known");
+    check_places(rt, source, &code, &places);
+}
+
+fn check_places(rt: &impl Abort, source: &str, code: &Code, places: &Places) {
     for number in 0..4096 {
         if let Some(body) = code.body(number as usize) {
             assert!(rt; !places.name(number).is_empty(), "{source}");
-            let stops = stops_in(body.code());
-            assert_eq!(rt; places.stops(number).len(), stops, "{source}");
+            check_count(
+                rt,
+                source,
+                places.stops(number).len(),
+                stops_in(body.code()),
+            );
         }
     }
-    Ok(())
 }

@@ -1,8 +1,8 @@
 //! Each refusal and each fault, met by the source that `docs/language.md` gives for it.
-use crate::answers::ANSWERS;
-use crate::examples::answer_of;
-use occ_play::Errors;
-use std::test::Fail;
+use crate::answers::check_all;
+use crate::examples::check_answer;
+use std::alloc::Global;
+use std::process::Abort;
 
 /// A source, and the line that answers it.
 #[derive(Clone, Copy)]
@@ -11,12 +11,13 @@ pub(crate) struct Answer {
     pub(crate) answer: &'static str,
 }
 
-#[test]
-fn each_source_meets_its_answer(rt: HostRuntime) -> Result<(), Fail> {
-    let alloc = rt.alloc();
-    for row in &ANSWERS {
-        let answer = answer_of(alloc, row.source, "", "", Errors::Halt)?;
-        assert_eq!(rt; answer.trim_end(), row.answer, "{}", row.source);
+pub(crate) fn check_answers(rt: &impl Abort, alloc: Global, rows: &[Answer]) {
+    for row in rows {
+        check_answer(rt, alloc, row.source, row.answer);
     }
-    Ok(())
+}
+
+#[test]
+fn each_source_meets_its_answer(rt: HostRuntime) {
+    check_all(&rt, rt.alloc());
 }

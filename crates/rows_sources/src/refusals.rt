@@ -1,13 +1,14 @@
 //! Sources that break a rule of scopes, types or protocols, each beside a neighbour that keeps it.
+use crate::compared::check_text;
 use occ_play::{Counted, Plan, PlayFault, Played, play};
 use std::alloc::{AllocError, Global};
+use std::fmt::Write;
 use std::process::Abort;
-use std::test::Fail;
 
 /// The body of `main` below its first line, and the refusal; none where the source is accepted.
 pub(crate) struct Body(pub(crate) &'static str, pub(crate) &'static str);
 
-static NAMES: [Body; 22] = [
+static NAMES: [Body; 9] = [
     // 30: a name that isn't in scope
     Body("  screen ! x\n", "refused 30 Unknown line 2 x"),
     Body(
@@ -33,6 +34,9 @@ static NAMES: [Body; 22] = [
         "",
     ),
     Body("  VAL n IS 2:\n  [n]INT a:\n  SKIP\n", ""),
+];
+
+static TWICE: [Body; 7] = [
     // 31: a name twice in one declaration, a constant twice
     Body("  INT a, a:\n  SKIP\n", "refused 31 Twice line 2 a"),
     Body(
@@ -50,6 +54,9 @@ static NAMES: [Body; 22] = [
     ),
     Body("  INT a:\n  INT a:\n  SKIP\n", ""),
     Body("  CASE 3\n    1, 2\n      SKIP\n    3\n      SKIP\n", ""),
+];
+
+static WRONG_KINDS: [Body; 6] = [
     // 32: a name used as what it isn't
     Body("  main := 1\n", "refused 30 Unknown line 2 main"),
     Body("  screen := 1\n", "refused 32 WrongKind line 2"),
@@ -87,7 +94,7 @@ static KINDS: [Body; 10] = [
     Body("  INT x:\n  SEQ i = 0 FOR 2\n    x := i\n", ""),
 ];
 
-static TYPES: [Body; 24] = [
+static TYPES: [Body; 12] = [
     // 33: operands and sides
     Body("  INT x:\n  x := TRUE\n", "refused 33 WrongType line 3"),
     Body("  INT x:\n  x := 1 + 'a'\n", "refused 33 WrongType line 3"),
@@ -110,6 +117,9 @@ static TYPES: [Body; 24] = [
     ),
     Body("  INT x:\n  x := SIZE x\n", "refused 33 WrongType line 3"),
     Body("  [2]INT a:\n  a[0] := a\n", "refused 33 WrongType line 3"),
+];
+
+static TYPES_OF_PARTS: [Body; 12] = [
     Body(
         "  [2]INT a:\n  [3]INT b:\n  a := b\n",
         "refused 33 WrongType line 4",
@@ -133,7 +143,7 @@ static TYPES: [Body; 24] = [
     Body("  VAL BYTE n IS 1(BYTE):\n  SKIP\n", ""),
 ];
 
-static CONSTANTS: [Body; 22] = [
+static CONSTANTS: [Body; 10] = [
     // 34: what must be constant
     Body(
         "  INT n:\n  [n]INT a:\n  SKIP\n",
@@ -160,6 +170,9 @@ static CONSTANTS: [Body; 22] = [
     Body("  PAR i = 0 FOR 2\n    [i + 1]INT a:\n    SKIP\n", ""),
     Body("  VAL s IS \"abc\":\n  [SIZE s]INT a:\n  SKIP\n", ""),
     Body("  INT x:\n  x := 1 / 0\n", ""),
+];
+
+static COUNTS: [Body; 8] = [
     // 35: sizes and counts
     Body("  [0]INT a:\n  SKIP\n", "refused 35 BadCount line 2"),
     Body(
@@ -178,6 +191,9 @@ static CONSTANTS: [Body; 22] = [
     Body("  PAR i = 0 FOR 0\n    SKIP\n", ""),
     Body("  [1]INT a:\n  SKIP\n", ""),
     Body("  SEQ i = 0 FOR -1\n    SKIP\n", ""),
+];
+
+static SUBSCRIPTS: [Body; 4] = [
     // 36: constant subscripts
     Body("  [2]INT v:\n  v[2] := 0\n", "refused 36 Subscript line 3"),
     Body("  [2]INT v:\n  v[-1] := 0\n", "refused 36 Subscript line 3"),
@@ -188,7 +204,7 @@ static CONSTANTS: [Body; 22] = [
     Body("  [2]INT v:\n  v[1 / 0] := 0\n", ""),
 ];
 
-static PROTOCOLS: [Body; 20] = [
+static PROTOCOLS: [Body; 14] = [
     Body(
         "  VAL s IS \"ab\":\n  screen ! s[2]\n",
         "refused 36 Subscript line 3",
@@ -228,6 +244,9 @@ static PROTOCOLS: [Body; 20] = [
     ),
     Body("  CHAN OF INT::[]BYTE c:\n  [2]BYTE s:\n  c ! 2::s\n", ""),
     Body("  CHAN OF [2]INT c:\n  [2]INT s:\n  c ! s\n", ""),
+];
+
+static TAGS: [Body; 6] = [
     // 38: tags
     Body(
         "  PROTOCOL p\n    CASE\n      data; INT\n  :\n  CHAN OF p c:\n  c ! quit\n",
@@ -287,7 +306,7 @@ static LISTS: [Body; 12] = [
 pub(crate) const HEADER: &str = "PROC main (CHAN OF BYTE keyboard, screen)\n";
 
 /// Why a source is refused before it is compiled; empty where it is not.
-pub(crate) fn refusal(alloc: Global, source: &str) -> Result<String, AllocError> {
+fn refusal(alloc: Global, source: &str) -> Result<String, AllocError> {
     let mut answer = Vec::new(alloc);
     let mut out = Counted::new(&mut answer);
     let turns = Plan::Turns(0);
@@ -304,86 +323,80 @@ fn told(alloc: Global, played: &Result<Played, PlayFault>) -> Result<String, All
 }
 
 /// Compares what a source is refused for.
-pub(crate) fn check_source(
-    rt: &impl Abort,
-    alloc: Global,
-    source: &str,
-    wanted: &str,
-) -> Result<(), Fail> {
-    let found = refusal(alloc, source)?;
-    assert_eq!(rt; found.as_str(), wanted, "{source}");
-    Ok(())
+pub(crate) fn check_source(rt: &impl Abort, alloc: Global, source: &str, wanted: &str) {
+    let found = refusal(alloc, source).expect(rt, "memory");
+    check_text(rt, source, found.as_str(), wanted);
 }
 
-pub(crate) fn check_bodies(rt: &impl Abort, alloc: Global, rows: &[Body]) -> Result<(), Fail> {
+pub(crate) fn check_bodies(rt: &impl Abort, alloc: Global, rows: &[Body]) {
     for row in rows {
-        let source = format!(in alloc; "{HEADER}{}:\n", row.0)?;
-        check_source(rt, alloc, source.as_str(), row.1)?;
+        let source = format!(in alloc; "{HEADER}{}:\n", row.0).expect(rt, "memory");
+        check_source(rt, alloc, source.as_str(), row.1);
     }
-    Ok(())
 }
 
 #[test]
-fn names(rt: HostRuntime) -> Result<(), Fail> {
-    check_bodies(&rt, rt.alloc(), &NAMES)
+fn names(rt: HostRuntime) {
+    check_bodies(&rt, rt.alloc(), &NAMES);
+    check_bodies(&rt, rt.alloc(), &TWICE);
+    check_bodies(&rt, rt.alloc(), &WRONG_KINDS);
 }
 
 #[test]
-fn kinds(rt: HostRuntime) -> Result<(), Fail> {
-    check_bodies(&rt, rt.alloc(), &KINDS)
+fn kinds(rt: HostRuntime) {
+    check_bodies(&rt, rt.alloc(), &KINDS);
 }
 
 #[test]
-fn types(rt: HostRuntime) -> Result<(), Fail> {
-    check_bodies(&rt, rt.alloc(), &TYPES)
+fn types(rt: HostRuntime) {
+    check_bodies(&rt, rt.alloc(), &TYPES);
+    check_bodies(&rt, rt.alloc(), &TYPES_OF_PARTS);
 }
 
 #[test]
-fn constants(rt: HostRuntime) -> Result<(), Fail> {
-    check_bodies(&rt, rt.alloc(), &CONSTANTS)
+fn constants(rt: HostRuntime) {
+    check_bodies(&rt, rt.alloc(), &CONSTANTS);
+    check_bodies(&rt, rt.alloc(), &COUNTS);
+    check_bodies(&rt, rt.alloc(), &SUBSCRIPTS);
 }
 
 #[test]
-fn protocols(rt: HostRuntime) -> Result<(), Fail> {
-    check_bodies(&rt, rt.alloc(), &PROTOCOLS)
+fn protocols(rt: HostRuntime) {
+    check_bodies(&rt, rt.alloc(), &PROTOCOLS);
+    check_bodies(&rt, rt.alloc(), &TAGS);
 }
 
 #[test]
-fn lists(rt: HostRuntime) -> Result<(), Fail> {
-    check_bodies(&rt, rt.alloc(), &LISTS)
+fn lists(rt: HostRuntime) {
+    check_bodies(&rt, rt.alloc(), &LISTS);
 }
 
 /// So many procedures, each of which calls the one before.
 fn chain(alloc: Global, length: u32) -> Result<String, AllocError> {
-    let mut source = format!(in alloc; "PROC p0 ()\n  SKIP\n:\n")?;
+    let mut source = String::from_str(alloc, "PROC p0 ()\n  SKIP\n:\n")?;
     for number in 1..length {
         let before = number.saturating_sub(1);
-        source.push_str(format!(in alloc; "PROC p{number} ()\n  p{before} ()\n:\n")?.as_str())?;
+        write!(source, "PROC p{number} ()\n  p{before} ()\n:\n")?;
     }
     let last = length.saturating_sub(1);
-    source.push_str(format!(in alloc; "{HEADER}  p{last} ()\n:\n")?.as_str())?;
+    write!(source, "{HEADER}  p{last} ()\n:\n")?;
     Ok(source)
 }
 
 #[test]
-fn long_chains_of_calls(rt: HostRuntime) -> Result<(), Fail> {
-    let alloc = rt.alloc();
-    let source = chain(alloc, 30_000)?;
-    check_source(&rt, alloc, source.as_str(), "")
+fn long_chains_of_calls(rt: HostRuntime) {
+    let source = chain(rt.alloc(), 30_000).expect(&rt, "memory");
+    check_source(&rt, rt.alloc(), source.as_str(), "");
 }
 
 /// An assignment of so many operands that AND joins.
-fn conjunction(alloc: Global, operands: u32) -> Result<String, AllocError> {
-    let mut source = format!(in alloc; "{HEADER}  BOOL b:\n  b := b")?;
-    for _ in 1..operands {
-        source.push_str(" AND b")?;
-    }
-    source.push_str("\n:\n")?;
-    Ok(source)
+fn conjunction(alloc: Global, operands: usize) -> Result<String, AllocError> {
+    let further = " AND b".repeat(alloc, operands.saturating_sub(1))?;
+    format!(in alloc; "{HEADER}  BOOL b:\n  b := b{further}\n:\n")
 }
 
 /// Numbers of operands, and what the assignment is refused for.
-static CONJUNCTIONS: [(u32, &str); 4] = [
+static CONJUNCTIONS: [(usize, &str); 4] = [
     (190, ""),
     (300, "refused 43 TooLarge"),
     (1_000, "refused 43 TooLarge"),
@@ -391,11 +404,9 @@ static CONJUNCTIONS: [(u32, &str); 4] = [
 ];
 
 #[test]
-fn long_conjunctions(rt: HostRuntime) -> Result<(), Fail> {
-    let alloc = rt.alloc();
+fn long_conjunctions(rt: HostRuntime) {
     for (operands, wanted) in &CONJUNCTIONS {
-        let source = conjunction(alloc, *operands)?;
-        check_source(&rt, alloc, source.as_str(), wanted)?;
+        let source = conjunction(rt.alloc(), *operands).expect(&rt, "memory");
+        check_source(&rt, rt.alloc(), source.as_str(), wanted);
     }
-    Ok(())
 }

@@ -1,9 +1,8 @@
 //! Sources that break a usage rule, beside neighbours that keep it.
-use crate::refusals::{Body, check_bodies, refusal};
-use std::test::Fail;
+use crate::refusals::{Body, check_bodies, check_source};
 
 /// The usage rules, which are asked after the rules of scopes and types.
-static USAGE: [Body; 23] = [
+static USAGE: [Body; 12] = [
     Body(
         "  INT n:\n  PAR\n    n := 1\n    n := 2\n",
         "refused 50 SharedVariable line 5 n",
@@ -43,6 +42,10 @@ static USAGE: [Body; 23] = [
         "  [4]CHAN OF INT c:\n  PAR\n    c[0] ! 1\n    PAR i = 0 FOR 3\n      INT x:\n      SEQ\n        c[i] ? x\n        c[i + 1] ! x + 1\n    INT y:\n    c[3] ? y\n",
         "",
     ),
+];
+
+/// Which of two uses is named.
+static CLASHES: [Body; 11] = [
     // what one branch writes, another may not read or write
     Body(
         "  INT n, i:\n  PAR\n    i := n\n    n := 1\n",
@@ -94,13 +97,17 @@ const WITH_ERROR: &str =
     "PROC main (CHAN OF BYTE keyboard, screen, error)\n  BYTE b:\n  error ? b\n:\n";
 
 #[test]
-fn usage(rt: HostRuntime) -> Result<(), Fail> {
-    check_bodies(&rt, rt.alloc(), &USAGE)
+fn usage(rt: HostRuntime) {
+    check_bodies(&rt, rt.alloc(), &USAGE);
+    check_bodies(&rt, rt.alloc(), &CLASHES);
 }
 
 #[test]
-fn an_input_on_the_error_channel(rt: HostRuntime) -> Result<(), Fail> {
-    let found = refusal(rt.alloc(), WITH_ERROR)?;
-    assert_eq!(rt; found.as_str(), "refused 51 TwoInputs line 3 error");
-    Ok(())
+fn an_input_on_the_error_channel(rt: HostRuntime) {
+    check_source(
+        &rt,
+        rt.alloc(),
+        WITH_ERROR,
+        "refused 51 TwoInputs line 3 error",
+    );
 }

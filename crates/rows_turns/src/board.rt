@@ -79,8 +79,8 @@ fn looks<J: Naming, R: Wait + Abort>(rt: &R, alloc: Global, opened: Opened) -> R
     };
     let count = publisher.published().len();
     publisher.end(rt);
-    assert_eq!(rt; count, 1);
-    assert_eq!(rt; read?, [(0, 0), (0, 0), (1, 7)]);
+    assert!(rt; count == 1);
+    assert!(rt; read? == [(0, 0), (0, 0), (1, 7)]);
     match watchers.pop() {
         Some(watcher) => assert!(rt; watcher.look(|list| list.len()).is_err()),
         None => return Err("a watcher".into()),

@@ -1,18 +1,19 @@
 //! Programs without ALT have code, for every quantum that may be.
 use crate::accepted::accepted;
+use crate::compared::{check_count, check_text};
 use occ_code::{CodeFault, compile_for};
 use occ_machine::{Code, Instr};
 use occ_usage::Checked;
 use std::alloc::{AllocError, Global};
 use std::process::Abort;
-use std::test::Fail;
 
 /// The body of `main` below its first line, the quantum, and what comes of it.
 struct Compiled(&'static str, u32, &'static str);
 
 const CODE: &str = "bodies: 1";
 
-static PROGRAMS: [Compiled; 24] = [
+/// Programs of one process.
+static SEQUENTIAL: [Compiled; 10] = [
     Compiled("  SKIP\n", 1, CODE),
     Compiled("  INT x:\n  x := 1 + 2\n", 1, CODE),
     Compiled(
@@ -46,6 +47,16 @@ static PROGRAMS: [Compiled; 24] = [
         CODE,
     ),
     Compiled(
+        "  PROC inc (INT a)\n    a := a + 1\n  :\n  INT x:\n  inc (x)\n",
+        1,
+        CODE,
+    ),
+    Compiled("  BOOL b:\n  b := (1 < 2) AND (NOT b)\n", 1, CODE),
+];
+
+/// Messages of several parts.
+static COMMUNICATING: [Compiled; 4] = [
+    Compiled(
         "  PROTOCOL p\n    CASE\n      data; INT\n      quit\n  :\n  CHAN OF p c:\n  c ! data; 5\n",
         1,
         CODE,
@@ -65,12 +76,10 @@ static PROGRAMS: [Compiled; 24] = [
         1,
         CODE,
     ),
-    Compiled(
-        "  PROC inc (INT a)\n    a := a + 1\n  :\n  INT x:\n  inc (x)\n",
-        1,
-        CODE,
-    ),
-    Compiled("  BOOL b:\n  b := (1 < 2) AND (NOT b)\n", 1, CODE),
+];
+
+/// Branches and arms, and quanta that may not be.
+static PARALLEL: [Compiled; 10] = [
     Compiled("  SKIP\n", 0, "refused 62 BadQuantum"),
     Compiled("  SKIP\n", 65_537, "refused 62 BadQuantum"),
     Compiled("  PAR\n    SKIP\n    SKIP\n", 1, "bodies: 3"),
@@ -112,19 +121,24 @@ fn outcome(alloc: Global, source: &[u8], quantum: u32) -> Result<String, AllocEr
     }
 }
 
-fn check_row(rt: &impl Abort, alloc: Global, row: &Compiled) -> Result<(), Fail> {
-    let source = format!(in alloc; "PROC main (CHAN OF BYTE keyboard, screen)\n{}:\n", row.0)?;
-    let found = outcome(alloc, source.as_bytes(), row.1)?;
-    assert_eq!(rt; found.as_str(), row.2, "{}", row.0);
-    Ok(())
+/// What comes of the program that has this body.
+fn outcome_of(alloc: Global, body: &str, quantum: u32) -> Result<String, AllocError> {
+    let source = format!(in alloc; "PROC main (CHAN OF BYTE keyboard, screen)\n{body}:\n")?;
+    outcome(alloc, source.as_bytes(), quantum)
+}
+
+fn check_rows(rt: &impl Abort, alloc: Global, rows: &[Compiled]) {
+    for row in rows {
+        let found = outcome_of(alloc, row.0, row.1).expect(rt, "memory");
+        check_text(rt, row.0, found.as_str(), row.2);
+    }
 }
 
 #[test]
-fn programs_have_code(rt: HostRuntime) -> Result<(), Fail> {
-    for row in &PROGRAMS {
-        check_row(&rt, rt.alloc(), row)?;
-    }
-    Ok(())
+fn programs_have_code(rt: HostRuntime) {
+    check_rows(&rt, rt.alloc(), &SEQUENTIAL);
+    check_rows(&rt, rt.alloc(), &COMMUNICATING);
+    check_rows(&rt, rt.alloc(), &PARALLEL);
 }
 
 const NESTED: &[u8] =
@@ -155,22 +169,20 @@ fn nested_code(alloc: Global) -> Option<Code> {
     compile_for(alloc, &checked, 1).ok()
 }
 
+/// How many instructions the bodies have that are nested so.
+static NESTED_BODIES: [usize; 5] = [2, 5, 2, 1, 2];
+
 fn check_nested(rt: &impl Abort, code: &Code) {
-    assert_eq!(rt; code.len(), 5);
-    assert_eq!(rt; instructions_in(code, 0), 2);
-    assert_eq!(rt; instructions_in(code, 1), 5);
-    assert_eq!(rt; instructions_in(code, 2), 2);
-    assert_eq!(rt; instructions_in(code, 3), 1);
-    assert_eq!(rt; instructions_in(code, 4), 2);
+    check_count(rt, "bodies", code.len(), 5);
+    for (number, wanted) in NESTED_BODIES.iter().enumerate() {
+        check_count(rt, "instructions", instructions_in(code, number), *wanted);
+    }
     assert!(rt; matches!(first_branches(code, 0), [1, 2]));
     assert!(rt; matches!(first_branches(code, 2), [3, 4]));
 }
 
 #[test]
-fn each_branch_has_its_body(rt: HostRuntime) -> Result<(), Fail> {
-    match nested_code(rt.alloc()) {
-        Some(code) => check_nested(&rt, &code),
-        None => assert!(rt; false, "no code"),
-    }
-    Ok(())
+fn each_branch_has_its_body(rt: HostRuntime) {
+    let code = nested_code(rt.alloc()).expect(&rt, "no code");
+    check_nested(&rt, &code);
 }

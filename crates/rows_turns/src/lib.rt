@@ -7,6 +7,8 @@ mod accepted;
 #[cfg(test)]
 mod board;
 #[cfg(test)]
+mod compared;
+#[cfg(test)]
 mod compiled;
 #[cfg(test)]
 mod networks;

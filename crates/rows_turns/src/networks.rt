@@ -1,67 +1,56 @@
 //! Turns that are settled, and turns that are not.
+use crate::compared::{check_count, check_text};
 use crate::turned::{check_refused, network_of, next_turn, settle, step, turn_by};
-use occ_net::Network;
+use occ_net::{Network, Outcome};
 use occ_proc::Segment;
 use occ_term::Ending;
 use std::alloc::Global;
 use std::process::Abort;
-use std::test::Fail;
 
 /// A fault beside a process that has something to say.
 pub(crate) const DIVIDES: &[u8] =
     b"PROC main (CHAN OF BYTE keyboard, screen)\n  INT z:\n  PAR\n    z := 1 / z\n    screen ! 'a'\n:\n";
 
 /// Two branches have taken their turns, and the first one has failed. The second one's turn is left.
-fn faulted(rt: &impl Abort, alloc: Global) -> Result<(Network, Segment), Fail> {
+fn faulted(rt: &impl Abort, alloc: Global) -> (Network, Segment) {
     let mut network = network_of(rt, alloc, DIVIDES, b"");
-    step(rt, alloc, &mut network, 0)?;
-    let first = turn_by(rt, alloc, &mut network, 1)?;
-    let second = turn_by(rt, alloc, &mut network, 2)?;
+    step(rt, alloc, &mut network, 0);
+    let first = turn_by(rt, alloc, &mut network, 1);
+    let second = turn_by(rt, alloc, &mut network, 2);
     settle(rt, alloc, &mut network, first);
-    Ok((network, second))
+    (network, second)
 }
 
-/// What a network in which nothing was communicated came to, and in how many turns.
-fn check_outcome(
-    rt: &impl Abort,
-    alloc: Global,
-    network: Network,
-    ending: &str,
-    turns: usize,
-) -> Result<(), Fail> {
-    let Ok(outcome) = network.into_outcome(alloc) else {
-        assert!(rt; false, "no outcome");
-        return Ok(());
-    };
-    let told = outcome.ending.to_string(alloc)?;
-    assert_eq!(rt; told.as_str(), ending);
-    assert_eq!(rt; outcome.choices.len(), turns);
+/// Nothing was communicated before this ending, in so many turns.
+fn check_outcome(rt: &impl Abort, alloc: Global, outcome: &Outcome, ending: &str, turns: usize) {
+    let told = outcome.ending.to_string(alloc).expect(rt, "memory");
+    check_text(rt, "the ending", told.as_str(), ending);
+    check_count(rt, "turns", outcome.choices.len(), turns);
     assert!(rt; outcome.network.trace().is_empty());
-    Ok(())
-}
-
-/// The same network alone.
-fn faulted_network(rt: &impl Abort, alloc: Global) -> Result<Network, Fail> {
-    let (network, _second) = faulted(rt, alloc)?;
-    Ok(network)
 }
 
 const OVER: &str = "Over { ending: Fault(Fault { kind: Arith, line: 4 }) }";
 
 /// The same network, which has refused the turn that was left.
-fn late_turn_refused(rt: &impl Abort, alloc: Global) -> Result<Network, Fail> {
-    let twin = faulted_network(rt, alloc)?;
-    let (mut network, late) = faulted(rt, alloc)?;
-    check_refused(rt, alloc, &mut network, &twin, late, OVER)?;
-    Ok(network)
+fn late_turn_refused(rt: &impl Abort, alloc: Global) -> Network {
+    let (twin, _second) = faulted(rt, alloc);
+    let (mut network, late) = faulted(rt, alloc);
+    check_refused(rt, alloc, &mut network, &twin, late, OVER);
+    network
+}
+
+/// What it came to. No process can take a turn.
+fn late_outcome(rt: &impl Abort, alloc: Global) -> Option<Outcome> {
+    let mut network = late_turn_refused(rt, alloc);
+    let next = next_turn(alloc, &mut network).expect(rt, "memory");
+    assert!(rt; next.is_none());
+    network.into_outcome(alloc).ok()
 }
 
 #[test]
-fn a_fault_ends_a_network(rt: HostRuntime) -> Result<(), Fail> {
-    let alloc = rt.alloc();
-    let mut network = late_turn_refused(&rt, alloc)?;
-    assert!(&rt; next_turn(alloc, &mut network)?.is_none());
-    check_outcome(&rt, alloc, network, "fault ARITH line 4", 2)
+fn a_fault_ends_a_network(rt: HostRuntime) {
+    let outcome = late_outcome(&rt, rt.alloc()).expect(&rt, "no outcome");
+    check_outcome(&rt, rt.alloc(), &outcome, "fault ARITH line 4", 2);
 }
 
 /// A source of one process, how many turns it has taken when it takes one twice, and how the second of these is refused.
@@ -71,7 +60,7 @@ const LOOPS: &[u8] = b"PROC main (CHAN OF BYTE keyboard, screen)\n  WHILE TRUE\n
 
 const LETTER: &[u8] = b"PROC main (CHAN OF BYTE keyboard, screen)\n  screen ! 'A'\n:\n";
 
-const TWICE: [Twice; 7] = [
+static TWICE: [Twice; 7] = [
     Twice(LOOPS, 0, "Stale { number: 0, turns: 1 }"),
     Twice(LETTER, 0, "Stale { number: 0, turns: 1 }"),
     Twice(LETTER, 1, "Over { ending: Ended }"),
@@ -97,39 +86,39 @@ const TWICE: [Twice; 7] = [
     ),
 ];
 
-/// The main process has taken so many turns, and one more twice, of which the second is left.
-fn turned_twice(
-    rt: &impl Abort,
-    alloc: Global,
-    source: &[u8],
-    turns: u32,
-) -> Result<(Network, Segment), Fail> {
+/// The network of a source whose main process has taken so many turns.
+fn network_after(rt: &impl Abort, alloc: Global, source: &[u8], turns: u32) -> Network {
     let mut network = network_of(rt, alloc, source, b"");
     for _ in 0..turns {
-        step(rt, alloc, &mut network, 0)?;
+        step(rt, alloc, &mut network, 0);
     }
-    let first = turn_by(rt, alloc, &mut network, 0)?;
+    network
+}
+
+/// The main process has taken so many turns, and one more twice, of which the second is left.
+fn turned_twice(rt: &impl Abort, alloc: Global, source: &[u8], turns: u32) -> (Network, Segment) {
+    let mut network = network_after(rt, alloc, source, turns);
+    let first = turn_by(rt, alloc, &mut network, 0);
     assert!(rt; network.release(0));
     assert!(rt; !network.release(0));
-    let again = turn_by(rt, alloc, &mut network, 0)?;
-    assert_eq!(rt; again.before().turns, u64::from(turns));
+    let again = turn_by(rt, alloc, &mut network, 0);
+    assert!(rt; again.before().turns == u64::from(turns));
     settle(rt, alloc, &mut network, first);
-    Ok((network, again))
+    (network, again)
 }
 
 /// A turn that was taken twice is settled once.
-fn check_twice(rt: &impl Abort, alloc: Global, row: &Twice) -> Result<(), Fail> {
-    let (mut network, again) = turned_twice(rt, alloc, row.0, row.1)?;
-    let (twin, _) = turned_twice(rt, alloc, row.0, row.1)?;
-    check_refused(rt, alloc, &mut network, &twin, again, row.2)
+fn check_twice(rt: &impl Abort, alloc: Global, row: &Twice) {
+    let (mut network, again) = turned_twice(rt, alloc, row.0, row.1);
+    let (twin, _) = turned_twice(rt, alloc, row.0, row.1);
+    check_refused(rt, alloc, &mut network, &twin, again, row.2);
 }
 
 #[test]
-fn a_turn_is_settled_once(rt: HostRuntime) -> Result<(), Fail> {
+fn a_turn_is_settled_once(rt: HostRuntime) {
     for row in &TWICE {
-        check_twice(&rt, rt.alloc(), row)?;
+        check_twice(&rt, rt.alloc(), row);
     }
-    Ok(())
 }
 
 /// A loop round a PAR, whose branches have cells of their own.
@@ -145,23 +134,26 @@ fn cells_at(network: &Network, place: usize) -> Option<usize> {
 }
 
 /// The main process forks, with all cells.
-fn check_fork(rt: &impl Abort, alloc: Global, network: &mut Network) -> Result<(), Fail> {
-    let main = turn_by(rt, alloc, network, 0)?;
-    assert_eq!(rt; main.after().frame.len(), 3);
+fn check_fork(rt: &impl Abort, alloc: Global, network: &mut Network) {
+    let main = turn_by(rt, alloc, network, 0);
+    check_count(rt, "cells of the main process", main.after().frame.len(), 3);
     settle(rt, alloc, network, main);
-    Ok(())
+}
+
+/// Two branches are ready, and have a cell and two.
+fn check_branches(rt: &impl Abort, network: &Network) {
+    check_count(rt, "ready processes", network.ready_count(), 2);
+    assert!(rt; matches!(cells_at(network, 0), Some(1)));
+    assert!(rt; matches!(cells_at(network, 1), Some(2)));
+    assert!(rt; cells_at(network, 2).is_none());
 }
 
 #[test]
-fn branches_have_their_own_cells(rt: HostRuntime) -> Result<(), Fail> {
+fn branches_have_their_own_cells(rt: HostRuntime) {
     let alloc = rt.alloc();
     let mut network = network_of(&rt, alloc, HALVES, b"");
-    check_fork(&rt, alloc, &mut network)?;
-    assert_eq!(&rt; network.ready_count(), 2);
-    assert_eq!(&rt; cells_at(&network, 0), Some(1));
-    assert_eq!(&rt; cells_at(&network, 1), Some(2));
-    assert_eq!(&rt; cells_at(&network, 2), None);
-    Ok(())
+    check_fork(&rt, alloc, &mut network);
+    check_branches(&rt, &network);
 }
 
 /// A source whose main process has taken so many turns.
@@ -171,42 +163,27 @@ const DIVIDING: Stepped = Stepped(DIVIDES, 1);
 
 const LOOPING: Stepped = Stepped(LOOPS, 0);
 
-/// Its network.
-fn network_at(rt: &impl Abort, alloc: Global, source: &Stepped) -> Result<Network, Fail> {
-    let mut network = network_of(rt, alloc, source.0, b"");
-    for _ in 0..source.1 {
-        step(rt, alloc, &mut network, 0)?;
-    }
-    Ok(network)
-}
-
 /// The next turn of its network.
-fn turn_at(rt: &impl Abort, alloc: Global, source: &Stepped) -> Result<Segment, Fail> {
-    let mut network = network_at(rt, alloc, source)?;
-    let next = next_turn(alloc, &mut network)?.expect(rt, "no process");
-    Ok(next)
+fn turn_at(rt: &impl Abort, alloc: Global, source: &Stepped) -> Segment {
+    let mut network = network_after(rt, alloc, source.0, source.1);
+    let next = next_turn(alloc, &mut network).expect(rt, "memory");
+    next.expect(rt, "no process")
 }
 
 /// A network refuses the next turn of another one.
-fn check_foreign(
-    rt: &impl Abort,
-    alloc: Global,
-    source: &Stepped,
-    other: &Stepped,
-    refused: &str,
-) -> Result<(), Fail> {
-    let foreign = turn_at(rt, alloc, other)?;
-    let mut network = network_at(rt, alloc, source)?;
-    let twin = network_at(rt, alloc, source)?;
-    check_refused(rt, alloc, &mut network, &twin, foreign, refused)
+fn check_foreign(rt: &impl Abort, alloc: Global, source: &Stepped, other: &Stepped, refused: &str) {
+    let foreign = turn_at(rt, alloc, other);
+    let mut network = network_after(rt, alloc, source.0, source.1);
+    let twin = network_after(rt, alloc, source.0, source.1);
+    check_refused(rt, alloc, &mut network, &twin, foreign, refused);
 }
 
 #[test]
-fn foreign_turns_are_stale(rt: HostRuntime) -> Result<(), Fail> {
+fn foreign_turns_are_stale(rt: HostRuntime) {
     let forked = "Stale { number: 0, turns: 1 }";
-    check_foreign(&rt, rt.alloc(), &DIVIDING, &LOOPING, forked)?;
+    check_foreign(&rt, rt.alloc(), &DIVIDING, &LOOPING, forked);
     let absent = "Stale { number: 1, turns: 0 }";
-    check_foreign(&rt, rt.alloc(), &LOOPING, &DIVIDING, absent)
+    check_foreign(&rt, rt.alloc(), &LOOPING, &DIVIDING, absent);
 }
 
 /// A loop of two thousand turns, and a letter.
@@ -215,13 +192,8 @@ pub(crate) const LONG: &[u8] =
 
 /// A network settles the turns of a long loop one by one.
 #[test]
-fn many_turns_are_settled(rt: HostRuntime) -> Result<(), Fail> {
-    let alloc = rt.alloc();
-    let mut network = network_of(&rt, alloc, LONG, b"");
-    for _ in 0..2_002 {
-        step(&rt, alloc, &mut network, 0)?;
-    }
-    assert_eq!(rt; network.choices().len(), 2_002);
-    assert_eq!(rt; network.ending(), Some(Ending::Ended));
-    Ok(())
+fn many_turns_are_settled(rt: HostRuntime) {
+    let network = network_after(&rt, rt.alloc(), LONG, 2_002);
+    check_count(&rt, "turns", network.choices().len(), 2_002);
+    assert!(rt; matches!(network.ending(), Some(Ending::Ended)));
 }

@@ -3,6 +3,7 @@
 ghost use Rattle.std.specs.Prelude.{IfSome};
 ghost use Rattle.occ_net.specs.Leases.{CanTakeTurn};
 
+use crate::compared::check_bytes;
 use crate::networks::{DIVIDES, HALVES};
 use crate::same::{check_same, check_same_turn};
 use crate::turned::{network_of, next_turn, settle, turn_of};
@@ -33,7 +34,7 @@ const COUNTED: &[u8] =
 const ECHOES: &[u8] =
     b"PROC main (CHAN OF BYTE keyboard, screen)\n  SEQ i = 0 FOR 3\n    BYTE b:\n    SEQ\n      keyboard ? b\n      screen ! b\n:\n";
 
-const ROWS: [Row; 8] = [
+static ROWS: [Row; 8] = [
     Row(PIPELINE, b"", b"4", Ending::Ended),
     Row(HALVES, b"", b"3", Ending::Ended),
     Row(CHOOSES, b"", b"1", Ending::Stopped),
@@ -186,9 +187,9 @@ fn check_row(rt: &impl Abort, alloc: Global, row: &Row) {
     check_same(rt, &network, &twin);
     take_turns(rt, alloc, &mut network, &mut twin);
     let outcome = outcome_of(rt, alloc, network, &twin).expect(rt, "no outcome");
-    assert_eq!(rt; outcome.screen.as_slice(), row.2);
-    assert_eq!(rt; outcome.ending, row.3);
-    assert_eq!(rt; outcome.choices.as_slice(), twin.choices());
+    check_bytes(rt, "the screen", outcome.screen.as_slice(), row.2);
+    assert!(rt; outcome.ending == row.3);
+    assert!(rt; outcome.choices.as_slice() == twin.choices());
     check_same(rt, &outcome.network, &twin);
 }
 

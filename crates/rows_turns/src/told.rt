@@ -1,8 +1,8 @@
 //! The texts of what a network and the workers refuse.
+use crate::compared::check_text;
 use occ_net::NetFault;
 use occ_run::RunFault;
 use occ_term::Ending;
-use std::test::Fail;
 
 static RUN_FAULTS: [(RunFault, &str); 4] = [
     (RunFault::Foreign, "refused 80 Foreign"),
@@ -12,12 +12,11 @@ static RUN_FAULTS: [(RunFault, &str); 4] = [
 ];
 
 #[test]
-fn faults_of_runs_are_told(rt: HostRuntime) -> Result<(), Fail> {
+fn faults_of_runs_are_told(rt: HostRuntime) {
     for (fault, wanted) in &RUN_FAULTS {
-        let text = fault.to_string(rt.alloc())?;
-        assert_eq!(rt; text.as_str(), *wanted);
+        let text = fault.to_string(rt.alloc()).expect(&rt, "memory");
+        check_text(&rt, *wanted, text.as_str(), *wanted);
     }
-    Ok(())
 }
 
 static NET_FAULTS: [(NetFault, &str); 3] = [
@@ -38,10 +37,9 @@ static NET_FAULTS: [(NetFault, &str); 3] = [
 ];
 
 #[test]
-fn faults_of_networks_are_told(rt: HostRuntime) -> Result<(), Fail> {
+fn faults_of_networks_are_told(rt: HostRuntime) {
     for (fault, wanted) in &NET_FAULTS {
-        let text = fault.to_string(rt.alloc())?;
-        assert_eq!(rt; text.as_str(), *wanted);
+        let text = fault.to_string(rt.alloc()).expect(&rt, "memory");
+        check_text(&rt, *wanted, text.as_str(), *wanted);
     }
-    Ok(())
 }

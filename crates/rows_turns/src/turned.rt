@@ -2,12 +2,12 @@
 ghost use Rattle.occ_net.specs.Leases.{CanTakeTurn};
 
 use crate::accepted::code_of;
+use crate::compared::check_text;
 use crate::same::check_same;
 use occ_net::{Lease, NetFault, Network};
 use occ_proc::{Segment, turn};
 use std::alloc::{AllocError, Global};
 use std::process::Abort;
-use std::test::Fail;
 
 /// The network of a source before its first turn, where the source is accepted and no growth is refused.
 fn new_network(alloc: Global, source: &[u8], keyboard: &[u8]) -> Option<Network> {
@@ -57,10 +57,11 @@ pub(crate) fn turn_by(
     alloc: Global,
     network: &mut Network,
     number: u32,
-) -> Result<Segment, Fail> {
-    let segment = next_turn(alloc, network)?.expect(rt, "no process");
-    assert_eq!(rt; segment.before().number, number);
-    Ok(segment)
+) -> Segment {
+    let next = next_turn(alloc, network).expect(rt, "memory");
+    let segment = next.expect(rt, "no process");
+    assert!(rt; segment.before().number == number);
+    segment
 }
 
 /// Takes a turn in.
@@ -70,15 +71,9 @@ pub(crate) fn settle(rt: &impl Abort, alloc: Global, network: &mut Network, segm
 }
 
 /// The process that is leased next, which has this number, takes its turn, and it is taken in.
-pub(crate) fn step(
-    rt: &impl Abort,
-    alloc: Global,
-    network: &mut Network,
-    number: u32,
-) -> Result<(), Fail> {
-    let segment = turn_by(rt, alloc, network, number)?;
+pub(crate) fn step(rt: &impl Abort, alloc: Global, network: &mut Network, number: u32) {
+    let segment = turn_by(rt, alloc, network, number);
     settle(rt, alloc, network, segment);
-    Ok(())
 }
 
 /// Why a turn is refused, and the number of the process of the turn that is handed back.
@@ -101,12 +96,11 @@ pub(crate) fn check_refused(
     twin: &Network,
     segment: Segment,
     refused: &str,
-) -> Result<(), Fail> {
+) {
     let number = segment.before().number;
     let (back, fault) = refusal(alloc, network, segment).expect(rt, "settled");
-    assert_eq!(rt; back, number);
+    assert!(rt; back == number);
     check_same(rt, network, twin);
-    let told = format!(in alloc; "{fault:?}")?;
-    assert_eq!(rt; told.as_str(), refused);
-    Ok(())
+    let told = format!(in alloc; "{fault:?}").expect(rt, "memory");
+    check_text(rt, "the refusal", told.as_str(), refused);
 }

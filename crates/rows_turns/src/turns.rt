@@ -4,6 +4,7 @@ ghost use Rattle.occ_term.specs.Frames.{zero_frame};
 ghost use Rattle.occ_net_replay.specs.Replay.{first_task};
 
 use crate::accepted::accepted;
+use crate::compared::check_text;
 use occ_code::compile_for;
 use occ_machine::{Body, Code, Task, Wait};
 use occ_proc::{Scratch, Segment, advance, turn};
@@ -11,7 +12,6 @@ use occ_term::Frame;
 use occ_usage::Checked;
 use std::alloc::{AllocError, Global};
 use std::process::Abort;
-use std::test::Fail;
 
 const COUNTS: &str =
     "  INT n:\n  SEQ\n    n := 0\n    WHILE n < 8\n      n := n + 1\n    screen ! BYTE (n + 48)\n";
@@ -117,31 +117,31 @@ fn shown_in_place(alloc: Global, checked: &Checked, quantum: u32) -> Result<Stri
 }
 
 /// Compares a turn on a copy, and one in place, with what there is after a turn.
-fn check_turn(
-    rt: &impl Abort,
-    alloc: Global,
-    checked: &Checked,
-    row: &Turned,
-    after: &str,
-) -> Result<(), Fail> {
-    let copied = shown_on_a_copy(alloc, checked, row.1)?;
-    assert_eq!(rt; copied.strip_prefix("0 true 0, "), Some(after), "{}", row.0);
-    let moved = shown_in_place(alloc, checked, row.1)?;
-    assert_eq!(rt; moved.as_str(), after, "{}", row.0);
-    Ok(())
+fn check_turn(rt: &impl Abort, alloc: Global, checked: &Checked, row: &Turned, after: &str) {
+    let copied = shown_on_a_copy(alloc, checked, row.1).expect(rt, "memory");
+    let shown = copied
+        .strip_prefix("0 true 0, ")
+        .expect(rt, "another start");
+    check_text(rt, row.0, shown, after);
+    let moved = shown_in_place(alloc, checked, row.1).expect(rt, "memory");
+    check_text(rt, row.0, moved.as_str(), after);
 }
 
-fn check_row(rt: &impl Abort, alloc: Global, row: &Turned) -> Result<(), Fail> {
-    let source = format!(in alloc; "PROC main (CHAN OF BYTE keyboard, screen)\n{}:\n", row.0)?;
-    let after = format!(in alloc; "{} {} 1", row.2, row.3)?;
-    let checked = accepted(alloc, source.as_bytes()).expect(rt, "refused");
-    check_turn(rt, alloc, &checked, row, after.as_str())
+/// The program that has this body.
+fn program_of(rt: &impl Abort, alloc: Global, body: &str) -> Checked {
+    let source = format!(in alloc; "PROC main (CHAN OF BYTE keyboard, screen)\n{body}:\n");
+    accepted(alloc, source.expect(rt, "memory").as_bytes()).expect(rt, "refused")
+}
+
+fn check_row(rt: &impl Abort, alloc: Global, row: &Turned) {
+    let checked = program_of(rt, alloc, row.0);
+    let after = format!(in alloc; "{} {} 1", row.2, row.3).expect(rt, "memory");
+    check_turn(rt, alloc, &checked, row, after.as_str());
 }
 
 #[test]
-fn turns_go_to_the_stop(rt: HostRuntime) -> Result<(), Fail> {
+fn turns_go_to_the_stop(rt: HostRuntime) {
     for row in &TURNS {
-        check_row(&rt, rt.alloc(), row)?;
+        check_row(&rt, rt.alloc(), row);
     }
-    Ok(())
 }

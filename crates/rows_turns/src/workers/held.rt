@@ -2,6 +2,7 @@
 ghost use Rattle.std.specs.Prelude.{◌≡◌, IfSome, false};
 
 use crate::accepted::code_of;
+use crate::compared::check_bytes;
 use crate::workers::sources::PIPELINE;
 use crate::workers::watched::{PIPED, lines_told};
 use occ_board::{Board, Naming, Note, Opened, Publisher, Watcher};
@@ -14,7 +15,6 @@ use std::marker::Brand;
 use std::process::Abort;
 use std::sync::atomic::{AtomicBool, Ordering};
 use std::sync::{Arc, Wait};
-use std::test::Fail;
 use std::thread::{Threads, join};
 
 /// How often a watcher looks, and how often the held turn looks for its flag.
@@ -179,37 +179,33 @@ fn shown<J: Naming + Send + Sync, R: Threads + Wait + Sync>(
     lines
 }
 
-fn check_held<R: Threads + Wait + Abort + Sync + AllocGlobal>(
-    rt: &R,
-    code: &Code,
-) -> Result<(), Fail> {
+/// The lines of the pipeline were shown.
+fn check_lines(rt: &impl Abort, lines: &Option<Vec<u8>>) {
+    match lines {
+        Some(text) => check_bytes(rt, "the lines", text.as_slice(), PIPED),
+        None => assert!(rt; false, "no lines"),
+    }
+}
+
+fn check_held<R: Threads + Wait + Abort + Sync + AllocGlobal>(rt: &R, code: &Code) {
     let gate = Holding {
         seen: AtomicBool::new(false),
         missed: AtomicBool::new(false),
     };
-    let lines = shown::<Brand, _>(rt, rt.alloc(), Opened::new(), code, &gate)?;
+    let lines = shown::<Brand, _>(rt, rt.alloc(), Opened::new(), code, &gate);
     assert!(rt;
         !gate.missed.load(Ordering::SeqCst),
         "the held turn saw no flag"
     );
-    for line in &lines {
-        let Some(text) = line else {
-            assert!(rt; false, "no lines");
-            return Ok(());
-        };
-        assert_eq!(rt; text.as_slice(), PIPED);
+    for line in &lines.expect(rt, "refused") {
+        check_lines(rt, line);
     }
-    Ok(())
 }
 
 #[test]
-fn entries_are_seen_while_a_run_goes_on(rt: HostRuntime) -> Result<(), Fail> {
-    let Some(code) = code_of(rt.alloc(), PIPELINE) else {
-        assert!(rt; false, "no code");
-        return Ok(());
-    };
+fn entries_are_seen_while_a_run_goes_on(rt: HostRuntime) {
+    let code = code_of(rt.alloc(), PIPELINE).expect(&rt, "no code");
     for _run in 0..RUNS {
-        check_held(&rt, &code)?;
+        check_held(&rt, &code);
     }
-    Ok(())
 }

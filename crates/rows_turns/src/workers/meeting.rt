@@ -10,7 +10,6 @@ use std::hint::spin_loop;
 use std::process::Abort;
 use std::sync::atomic::{AtomicBool, AtomicU64, Ordering};
 use std::sync::{Arc, Wait};
-use std::test::Fail;
 use std::thread::Threads;
 
 /// How often a turn looks for the others.
@@ -82,27 +81,19 @@ impl Gate for Meeting {
 }
 
 /// One run, in which the four turns meet.
-fn check_meeting<R: Threads + Wait + Abort + Sync + AllocGlobal>(
-    rt: &R,
-    code: &Code,
-) -> Result<(), Fail> {
+fn check_meeting<R: Threads + Wait + Abort + Sync + AllocGlobal>(rt: &R, code: &Code) {
     let gate = Meeting::new();
-    let outcome = run_workers(rt, rt.alloc(), code, b"", 4, 100, &gate)?;
+    let run = run_workers(rt, rt.alloc(), code, b"", 4, 100, &gate);
     assert!(rt; !gate.is_missed(), "a flag was not seen");
-    assert_eq!(rt; gate.runs.load(Ordering::SeqCst), 6);
-    assert_eq!(rt; outcome.choices.len(), 6);
-    assert_eq!(rt; outcome.ending, Ending::Ended);
-    Ok(())
+    assert!(rt; gate.runs.load(Ordering::SeqCst) == 6);
+    let outcome = run.expect(rt, "refused");
+    assert!(rt; outcome.choices.len() == 6 && matches!(outcome.ending, Ending::Ended));
 }
 
 #[test]
-fn turns_run_at_once(rt: HostRuntime) -> Result<(), Fail> {
-    let Some(code) = code_of(rt.alloc(), FOUR) else {
-        assert!(rt; false, "no code");
-        return Ok(());
-    };
+fn turns_run_at_once(rt: HostRuntime) {
+    let code = code_of(rt.alloc(), FOUR).expect(&rt, "no code");
     for _run in 0..RUNS {
-        check_meeting(&rt, &code)?;
+        check_meeting(&rt, &code);
     }
-    Ok(())
 }

@@ -2,6 +2,7 @@
 ghost use Rattle.std.specs.Prelude.{◌≡◌, false};
 
 use crate::accepted::accepted;
+use crate::compared::{check_bytes, check_text};
 use crate::workers::sources::{FOUR, LETTER, PIPELINE};
 use occ_board::{Board, BoardFault, Naming, Note, Opened, Publisher, Shown, Watcher};
 use occ_code::compile_for;
@@ -14,7 +15,6 @@ use std::alloc::{AllocError, Global};
 use std::marker::Brand;
 use std::process::Abort;
 use std::sync::{Arc, Wait};
-use std::test::Fail;
 use std::thread::Threads;
 
 /// A source, its quantum, what its faults do, its workers, its limit, and the lines that are shown of it.
@@ -136,30 +136,19 @@ fn watched_lines<J: Naming, R: Threads + Wait + Sync, G: Gate + Sync>(
     }
 }
 
-fn check_row<R: Threads + Wait + Abort + Sync + AllocGlobal>(
-    rt: &R,
-    row: &Watched,
-) -> Result<(), Fail> {
+fn check_row<R: Threads + Wait + Abort + Sync + AllocGlobal>(rt: &R, row: &Watched) {
     let alloc = rt.alloc();
-    let Some(code) = code_for(alloc, row.0, row.1, row.2) else {
-        assert!(rt; false, "no code");
-        return Ok(());
-    };
-    let lines = watched_lines::<Brand, _, _>(rt, alloc, Opened::new(), &code, row, &FreeGate)?;
-    let Some(lines) = lines else {
-        assert!(rt; false, "no lines");
-        return Ok(());
-    };
-    assert_eq!(rt; lines.as_slice(), row.5);
-    Ok(())
+    let code = code_for(alloc, row.0, row.1, row.2).expect(rt, "no code");
+    let lines = watched_lines::<Brand, _, _>(rt, alloc, Opened::new(), &code, row, &FreeGate);
+    let lines = lines.expect(rt, "refused").expect(rt, "no lines");
+    check_bytes(rt, "the lines", lines.as_slice(), row.5);
 }
 
 #[test]
-fn a_watcher_is_shown_the_trace(rt: HostRuntime) -> Result<(), Fail> {
+fn a_watcher_is_shown_the_trace(rt: HostRuntime) {
     for row in &WATCHED {
-        check_row(&rt, row)?;
+        check_row(&rt, row);
     }
-    Ok(())
 }
 
 /// A gate that refuses every turn, as if memory had run out.
@@ -220,19 +209,15 @@ fn refusal<J: Naming, R: Threads + Wait + Sync, G: Gate + Sync>(
 }
 
 #[test]
-fn a_refused_run_ends_its_publisher(rt: HostRuntime) -> Result<(), Fail> {
+fn a_refused_run_ends_its_publisher(rt: HostRuntime) {
     let alloc = rt.alloc();
-    let Some(code) = code_for(alloc, FOUR, 1, Errors::Halt) else {
-        assert!(rt; false, "no code");
-        return Ok(());
-    };
+    let code = code_for(alloc, FOUR, 1, Errors::Halt).expect(&rt, "no code");
     for workers in [0, 65] {
         let refused = refusal::<Brand, _, _>(&rt, alloc, Opened::new(), &code, workers, &FreeGate);
-        assert_eq!(rt; refused, Some(RunFault::BadWorkers));
+        assert!(rt; refused == Some(RunFault::BadWorkers));
     }
     let refused = refusal::<Brand, _, _>(&rt, alloc, Opened::new(), &code, 2, &Refusing);
-    assert_eq!(rt; refused, Some(RunFault::Memory));
-    Ok(())
+    assert!(rt; refused == Some(RunFault::Memory));
 }
 
 /// The byte 65 on a channel without a name, with this number.
@@ -302,16 +287,13 @@ fn held_and_shown<J: Naming, R: Threads + Wait + Sync>(
 }
 
 #[test]
-fn a_run_is_shown_behind_what_was_held(rt: HostRuntime) -> Result<(), Fail> {
+fn a_run_is_shown_behind_what_was_held(rt: HostRuntime) {
     let alloc = rt.alloc();
-    let Some(code) = code_for(alloc, LETTER, 1, Errors::Halt) else {
-        assert!(rt; false, "no code");
-        return Ok(());
-    };
-    let entries = (shown(alloc, 7)?, shown(alloc, 8)?);
-    let read = held_and_shown::<Brand, _>(&rt, alloc, Opened::new(), &code, entries);
-    assert_eq!(rt; read, Some((3, 1)));
-    Ok(())
+    let code = code_for(alloc, LETTER, 1, Errors::Halt).expect(&rt, "no code");
+    let first = shown(alloc, 7).expect(&rt, "memory");
+    let second = shown(alloc, 8).expect(&rt, "memory");
+    let read = held_and_shown::<Brand, _>(&rt, alloc, Opened::new(), &code, (first, second));
+    assert!(rt; matches!(read, Some((3, 1))));
 }
 
 /// How many of these watchers are shown just these lines when they are told the note.
@@ -365,23 +347,18 @@ fn eight_shown<J: Naming, R: Threads + Wait + Sync>(
 }
 
 #[test]
-fn eight_watchers_are_shown_the_trace(rt: HostRuntime) -> Result<(), Fail> {
+fn eight_watchers_are_shown_the_trace(rt: HostRuntime) {
     let alloc = rt.alloc();
-    let Some(code) = code_for(alloc, PIPELINE, 1, Errors::Halt) else {
-        assert!(rt; false, "no code");
-        return Ok(());
-    };
+    let code = code_for(alloc, PIPELINE, 1, Errors::Halt).expect(&rt, "no code");
     let count = eight_shown::<Brand, _>(&rt, alloc, Opened::new(), &code);
-    assert_eq!(rt; count, 8);
-    Ok(())
+    assert!(rt; count == 8);
 }
 
 #[test]
-fn faults_of_a_board_have_their_lines(rt: HostRuntime) -> Result<(), Fail> {
+fn faults_of_a_board_have_their_lines(rt: HostRuntime) {
     let alloc = rt.alloc();
-    let many = format!(in alloc; "{}", BoardFault::BadWatchers)?;
-    assert_eq!(rt; many.as_str(), "refused 82 BadWatchers");
-    let refused = format!(in alloc; "{}", BoardFault::Refused)?;
-    assert_eq!(rt; refused.as_str(), "refused 87 Refused");
-    Ok(())
+    let many = format!(in alloc; "{}", BoardFault::BadWatchers).expect(&rt, "memory");
+    check_text(&rt, "the fault", many.as_str(), "refused 82 BadWatchers");
+    let refused = format!(in alloc; "{}", BoardFault::Refused).expect(&rt, "memory");
+    check_text(&rt, "the fault", refused.as_str(), "refused 87 Refused");
 }

@@ -1,0 +1,14 @@
+//! What is found beside what is wanted. Each comparison is proved once, and told with what it compares.
+use std::process::Abort;
+
+pub(crate) fn check_text(rt: &impl Abort, what: &str, found: &str, wanted: &str) {
+    assert!(rt; found == wanted, "{what}: {found}");
+}
+
+pub(crate) fn check_bytes(rt: &impl Abort, what: &str, found: &[u8], wanted: &[u8]) {
+    assert!(rt; found == wanted, "{what}: {found:?}");
+}
+
+pub(crate) fn check_count(rt: &impl Abort, what: &str, found: usize, wanted: usize) {
+    assert!(rt; found == wanted, "{what}: {found}");
+}
