@@ -10,7 +10,8 @@ use Rattle.occ_term.specs.Frames.{is_held}
 use Rattle.occ_usage.specs.declared.noted.Use.{Use}
 use Rattle.occ_usage.specs.declared.noted.Kind.{Kind}
 use Rattle.occ_usage.specs.declared.noted.Kind.TheVariants.{Read, Write, Input, Output}
-use Rattle.occ_machine.specs.SameStop.{IsRising, used_by}
+use Rattle.occ_code.specs.Within.{AreWithin}
+use Rattle.occ_machine.specs.SameStop.{IsRising, Lists, used_by}
 
 -- what is written, or what is read as well
 abbrev pub is_counted : Bool → Kind → Bool
@@ -51,3 +52,7 @@ pub record Gathered (rows : List Row) (count : ℕ) (xs : List ℕ) (reached : �
   pub full : (c : ℕ) → ((j : ℕ) (d : Row) → j < count → (slice_index_or rows j d).first ≤ c) → c < reached → IsTrue (is_held xs c)
   pub few : length xs ≤ reached
   pub within : reached ≤ most_cells
+
+-- the list of these cells, where none is past the limit
+abbrev pub ListsWithin : Numbers → List ℕ → Type 0
+ListsWithin cells xs = AreWithin cells → Lists xs cells

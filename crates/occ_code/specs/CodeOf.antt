@@ -1,6 +1,8 @@
 -- The code of a source: a body for each process, which is what the code of the process's term is.
 -- Manual: nothing; this is (own).
-use Rattle.std.specs.Prelude.{List, [], reverse, ℕ, ⊤, ◌*◌, ◌++◌, ◌<◌, ◌≤◌, ◌∷◌, ◌≡◌}
+use Rattle.std.specs.Prelude.{List, Vec, [], map, reverse, ℕ, ⊤, ◌*◌, ◌++◌, ◌<◌, ◌≤◌, ◌∷◌, ◌≡◌}
+use Rattle.std.specs.Arc.{arc_value}
+use Rattle.std.specs.declared.sync.Arc.{Arc}
 use Rattle.occ_term.specs.Terms.{Term}
 use Rattle.occ_term.specs.UnfoldedProgram.{UnfoldedProgram, meaning}
 use Rattle.occ_term.specs.Processes.{Numbered, processes_of}
@@ -58,6 +60,20 @@ pub record AddsBodies (quantum : ℕ) (before : List Body) (ps : List Numbered) 
   pub more : List Body
   pub added : after ≡ before ++ more
   pub are : AllWithin ps → AreBodiesOf ps quantum (reverse more)
+
+-- the same of a list of shared bodies
+abbrev pub AddsShared : {A B : Type 0} → ℕ → Vec (Arc Body B) A → List Numbered → Vec (Arc Body B) A → Type 0
+AddsShared quantum old ps new = AddsBodies quantum (map arc_value old.items) ps (map arc_value new.items)
+
+-- those of one part are added before those of others
+abbrev pub AddsFirst : {X A B : Type 0} → (X → List Numbered) → (X → X) → ℕ → Vec (Arc Body B) A → Vec (Arc Body B) A → Type 0
+AddsFirst {X} processes one quantum old new =
+    (before : List Body) (others : X) → AddsBodies quantum before (processes others) (map arc_value old.items)
+    → AddsBodies quantum before (processes (one others)) (map arc_value new.items)
+
+-- all bodies of a term's processes, where no cell is past the limit
+abbrev pub HasBodiesOf : {A B : Type 0} → Term → ℕ → Vec (Arc Body B) A → Type 0
+HasBodiesOf t quantum bodies = AllWithin (processes_of t) → AreBodiesOf (processes_of t) quantum (map arc_value bodies.items)
 
 abbrev pub IsRefused : CodeFault → Term → Type 0
 IsRefused TooLarge t = most_instructions < instructions_of (processes_of t)

@@ -1,6 +1,6 @@
 -- What emitting leaves.
 -- Manual: nothing; this is (own).
-use Rattle.std.specs.Prelude.{List, reverse, ℕ, ◌++◌, ◌∷◌, ◌≡◌}
+use Rattle.std.specs.Prelude.{List, Vec, length, reverse, ℕ, ◌++◌, ◌-◌, ◌∷◌, ◌≡◌, ◌≤◌}
 use Rattle.occ_machine.specs.declared.instr.Instr.{Instr}
 
 -- Code is emitted from its end to its start, so that how far a jump leads is known when the jump is emitted.
@@ -19,3 +19,19 @@ pub record Behind (before piece after : List (Instr ℕ)) : Type 0 where
   pub more : List (Instr ℕ)
   pub added : after ≡ before ++ first ∷ more
   pub is : emitted more ≡ piece
+
+-- the same of the list that is emitted to
+abbrev pub AddsCode : {A : Type 0} → Vec (Instr ℕ) A → List (Instr ℕ) → Vec (Instr ℕ) A → Type 0
+AddsCode old piece new = Emits old.items piece new.items
+
+-- what was emitted after the instruction at this place has become part of a piece, as its body
+abbrev pub EmitsAround : {A : Type 0} → ℕ → Vec (Instr ℕ) A → (List (Instr ℕ) → List (Instr ℕ)) → Vec (Instr ℕ) A → Type 0
+EmitsAround place old piece new =
+    (before body : List (Instr ℕ)) → length before ≡ place → Behind before body old.items → Emits before (piece body) new.items
+
+-- Pieces go on behind what there was of the code at the end, so that each piece's code says how far off that is. One is emitted
+-- before others.
+abbrev pub EmitsFirst : {X A : Type 0} → (X → ℕ → List (Instr ℕ)) → (X → X) → ℕ → Vec (Instr ℕ) A → Vec (Instr ℕ) A → Type 0
+EmitsFirst {X} code one end old new =
+    (before : List (Instr ℕ)) (others : X) → end ≤ length before → Emits before (code others (length before - end)) old.items
+    → Emits before (code (one others) (length before - end)) new.items

@@ -1,6 +1,6 @@
 -- The instructions that a term becomes.
 -- Manual: nothing; this is (own).
-use Rattle.std.specs.Prelude.{List, [], length, map, max, pos, ℕ, ◌*◌, ◌+◌, ◌++◌, ◌<◌, ◌≤◌, ◌∷◌}
+use Rattle.std.specs.Prelude.{Bool, List, [], length, map, max, pos, ℕ, ◌*◌, ◌+◌, ◌++◌, ◌<◌, ◌≤◌, ◌∷◌}
 use Rattle.occ_term.specs.Terms.{Term, Skip, Stop, Assign, Input, Output, VariantInput, Seq, Par, Alt, If, Case, While, Each, Clear, Local, Terms, no_terms, then_term, Arms, no_arms, skip_arm, input_arm, declared_arms, each_arm, Reception, Plain, Tagged, Variants, no_variants, or_variant, Choices, no_choices, or_choice, declared_choices, each_choice, Options, no_options, or_option, or_else, Clearing, Naming}
 use Rattle.occ_term.specs.Storing.{index_of}
 use Rattle.occ_term.specs.Uses.{uses_of}
@@ -14,6 +14,30 @@ use Rattle.occ_machine.specs.declared.instr.Instr.TheVariants.{Push, Jump, Choos
 use Rattle.occ_code.specs.Expressions.{expression_code, place_code, items_code, declaration_code, declarations_code, storing_code, counting_code, assignment_code, par_code, skip_opening, input_opening}
 use Rattle.occ_machine.specs.Alike.{DoesAs}
 use Rattle.occ_code.specs.Within.{AreNumbered}
+
+-- a loop with this test, round this body
+abbrev pub while_code : List (Instr ℕ) → List (Instr ℕ) → List (Instr ℕ)
+while_code test body = test ++ Choose (length body + 1) ∷ (body ++ LoopBack (length test + 1 + length body) ∷ [])
+
+-- a replicated SEQ with its two counters from this slot on
+abbrev pub each_code : ℕ → ℕ → List (Instr ℕ) → List (Instr ℕ) → List (Instr ℕ)
+each_code slot index counts body =
+    counts ++ Begin slot index (length body + 2) ∷ Pass slot index (length body + 1) ∷ (body ++ LoopBack (length body + 1) ∷ [])
+
+-- an ALT with these arms
+abbrev pub alt_code : Bool → List (Instr ℕ) → List (Instr ℕ)
+alt_code pri arms = Push (pos 0) ∷ (arms ++ ChooseArm pri (length arms) ∷ [])
+
+-- choices for each value of an index, before others
+abbrev pub each_choice_code : ℕ → List (Instr ℕ) → List (Instr ℕ) → List (Instr ℕ) → List (Instr ℕ)
+each_choice_code index counts within others =
+    counts ++ NextChoice index (length within + 1) ∷ (within ++ BackToChoice (length within + 1) ∷ others)
+
+-- the arms for each value of an index, without what passes on to others
+abbrev pub each_value_code : ℕ → List (Instr ℕ) → List (Instr ℕ) → List (Instr ℕ)
+each_value_code index counts body =
+    SetAgain index (length counts + 2)
+    ∷ (counts ++ NextChoice index (length body + 2) ∷ Push (pos 0) ∷ (body ++ BackToChoice (length body + 2) ∷ []))
 
 -- An arm of an ALT before others, of which so many instructions stand up to the end of the ALT: what is done once it is taken, and
 -- what opens it. A number that is no greater than that of the last of the others passes on to them.
@@ -46,14 +70,11 @@ abbrev mutual
   term_code slot (VariantInput c vs) = (place_code c ++ Receive ∷ []) ++ variants_code slot vs
   term_code slot (Seq ts) = terms_code slot ts
   term_code slot (Par bs) = par_code bs
-  term_code slot (Alt pri arms) = Push (pos 0) ∷ (arms_code slot arms 1 ++ ChooseArm pri (length (arms_code slot arms 1)) ∷ [])
+  term_code slot (Alt pri arms) = alt_code pri (arms_code slot arms 1)
   term_code slot (If cs) = choices_code slot cs 1 ++ Halt ∷ []
   term_code slot (Case e os) = expression_code e ++ (options_code slot os (length (else_code slot os)) ++ else_code slot os)
-  term_code slot (While e b) =
-      expression_code e ++ Choose (length (term_code slot b) + 1) ∷ (term_code slot b ++ LoopBack (length (expression_code e) + 1 + length (term_code slot b)) ∷ [])
-  term_code slot (Each r b) =
-      counting_code r ++ Begin slot (index_of r) (length (term_code (slot + 2) b) + 2)
-      ∷ Pass slot (index_of r) (length (term_code (slot + 2) b) + 1) ∷ (term_code (slot + 2) b ++ LoopBack (length (term_code (slot + 2) b) + 1) ∷ [])
+  term_code slot (While e b) = while_code (expression_code e) (term_code slot b)
+  term_code slot (Each r b) = each_code slot (index_of r) (counting_code r) (term_code (slot + 2) b)
   term_code slot (Clear first count) = declaration_code (Clearing first count)
   term_code slot (Local first value) = declaration_code (Naming first value)
 
@@ -89,9 +110,7 @@ abbrev mutual
   choices_code slot (declared_choices d within others) after =
       declaration_code d ++ (choices_code slot within (length (choices_code slot others after) + after) ++ choices_code slot others after)
   choices_code slot (each_choice r within others) after =
-      counting_code r ++ NextChoice (index_of r) (length (choices_code slot within (1 + length (choices_code slot others after) + after)) + 1)
-      ∷ (choices_code slot within (1 + length (choices_code slot others after) + after)
-      ++ BackToChoice (length (choices_code slot within (1 + length (choices_code slot others after) + after)) + 1) ∷ choices_code slot others after)
+      each_choice_code (index_of r) (counting_code r) (choices_code slot within (1 + length (choices_code slot others after) + after)) (choices_code slot others after)
 
   pub options_code : ℕ → Options → ℕ → List (Instr ℕ)
   options_code slot no_options after = []

@@ -1,11 +1,12 @@
 //! The code round the arms of an ALT, and round choices and arms for each value of an index.
-ghost use Rattle.std.specs.Prelude.{◌≡◌, ◌∷◌, [], ◌++◌, ◌-◌, ◌+◌, ◌<◌, OnOk, List, length, pos, ℕ};
+ghost use Rattle.std.specs.Prelude.{◌≡◌, ◌∷◌, [], ◌-◌, ◌+◌, ◌<◌, OnOk, length, pos};
 ghost use Rattle.occ_term.specs.Storing.{index_of};
 ghost use Rattle.occ_term.specs.View.{expression_of, place_of, replicator_of, test_of};
 ghost use Rattle.occ_machine.specs.declared.instr.Instr.TheVariants as instructions;
 ghost use Rattle.occ_code.specs.Expressions.{counting_code, input_opening, skip_opening};
-ghost use Rattle.occ_code.specs.Emits.{Behind, Emits};
+ghost use Rattle.occ_code.specs.Emits.{AddsCode, EmitsAround};
 ghost use Rattle.occ_machine.specs.declared.instr.Instr.{Instr};
+ghost use Rattle.occ_code.specs.Emitted.{alt_code, each_choice_code, each_value_code};
 
 use crate::expressions::{emit_counting, emit_expression, emit_place_before};
 use crate::pieces::{emitted, put, put_at, since};
@@ -28,7 +29,9 @@ pub(crate) fn emit_skip_opening(
     end: usize,
     code: &mut Vec<Instr<u32>>,
 ) -> Result<(), AllocError>
-    ensures { OnOk result (Emits code.old.items (skip_opening (expression_of test.now) (length code.old.items - end + 1)) code.new.items) }
+    ensures { OnOk result
+        (AddsCode code.old (skip_opening (expression_of test.now) (length code.old.items - end + 1))
+        code.new) }
 {
     let number = arm_number(code, end);
     put(code, Instr::OpenSkip(number))?;
@@ -45,7 +48,9 @@ pub(crate) fn emit_input_opening(
     end: usize,
     code: &mut Vec<Instr<u32>>,
 ) -> Result<(), AllocError>
-    ensures { OnOk result (Emits code.old.items (input_opening (test_of test.now) (place_of channel.now) (length code.old.items - end + 1)) code.new.items) }
+    ensures { OnOk result
+        (AddsCode code.old (input_opening (test_of test.now) (place_of channel.now)
+        (length code.old.items - end + 1)) code.new) }
 {
     let number = arm_number(code, end);
     let before = emitted(code);
@@ -67,7 +72,10 @@ pub(crate) fn emit_taken(
     end: usize,
     code: &mut Vec<Instr<u32>>,
 ) -> Result<(), AllocError>
-    ensures { OnOk result (Emits code.old.items (instructions.PassArms (before - end) (1 + length code.old.items - before) ∷ instructions.IfTaken (length code.old.items - opened) ∷ []) code.new.items) }
+    ensures { OnOk result
+        (AddsCode code.old
+        (instructions.PassArms (before - end) (1 + length code.old.items - before)
+        ∷ instructions.IfTaken (length code.old.items - opened) ∷ []) code.new) }
 {
     put(code, Instr::IfTaken(since(code, opened)))?;
     emit_passing(before, end, code)?;
@@ -80,7 +88,9 @@ pub(crate) fn emit_passing(
     end: usize,
     code: &mut Vec<Instr<u32>>,
 ) -> Result<(), AllocError>
-    ensures { OnOk result (Emits code.old.items (instructions.PassArms (before - end) (length code.old.items - before) ∷ []) code.new.items) }
+    ensures { OnOk result
+        (AddsCode code.old
+        (instructions.PassArms (before - end) (length code.old.items - before) ∷ []) code.new) }
 {
     let last = before.saturating_sub(end);
     put(code, Instr::PassArms(last, since(code, before)))?;
@@ -95,8 +105,9 @@ pub(crate) fn emit_next(
     code: &mut Vec<Instr<u32>>,
 ) -> Result<(), AllocError>
     requires { place < length code.old.items }
-    ensures { OnOk result ((before body : List (Instr ℕ)) → length before ≡ place → Behind before body code.old.items
-        → Emits before (counting_code (replicator_of over.now) ++ instructions.NextChoice (index_of (replicator_of over.now)) (length body + 1) ∷ (body ++ instructions.BackToChoice (length body + 1) ∷ [])) code.new.items) }
+    ensures { OnOk result
+        (EmitsAround place code.old (λ body. each_choice_code (index_of (replicator_of over.now))
+        (counting_code (replicator_of over.now)) body []) code.new) }
 {
     let back = since(code, place);
     put_at(code, place, Instr::BackToChoice(back));
@@ -113,10 +124,9 @@ pub(crate) fn emit_each_value(
     code: &mut Vec<Instr<u32>>,
 ) -> Result<(), AllocError>
     requires { place < length code.old.items }
-    ensures { OnOk result ((before body : List (Instr ℕ)) → length before ≡ place → Behind before body code.old.items
-        → Emits before (instructions.SetAgain (index_of (replicator_of over.now)) (length (counting_code (replicator_of over.now)) + 2)
-        ∷ (counting_code (replicator_of over.now) ++ instructions.NextChoice (index_of (replicator_of over.now)) (length body + 2)
-        ∷ instructions.Push (pos 0) ∷ (body ++ instructions.BackToChoice (length body + 2) ∷ []))) code.new.items) }
+    ensures { OnOk result
+        (EmitsAround place code.old (each_value_code (index_of (replicator_of over.now))
+        (counting_code (replicator_of over.now))) code.new) }
 {
     let before = emitted(code);
     put(code, Instr::Push(0))?;
@@ -132,8 +142,8 @@ pub(crate) fn emit_alt(
     code: &mut Vec<Instr<u32>>,
 ) -> Result<(), AllocError>
     requires { place < length code.old.items }
-    ensures { OnOk result ((before body : List (Instr ℕ)) → length before ≡ place → Behind before body code.old.items
-        → Emits before (instructions.Push (pos 0) ∷ (body ++ instructions.ChooseArm pri (length body) ∷ [])) code.new.items) }
+    ensures { OnOk result
+        (EmitsAround place code.old (alt_code pri) code.new) }
 {
     let back = since(code, place).saturating_sub(1);
     put_at(code, place, Instr::ChooseArm(pri, back));

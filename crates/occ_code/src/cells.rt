@@ -6,8 +6,7 @@ ghost use Rattle.occ_term.specs.UnfoldedProgram.{most_cells};
 ghost use Rattle.occ_usage.specs.Noted.{uses_in};
 ghost use Rattle.occ_usage.specs.declared.noted.Use.{Use};
 ghost use Rattle.occ_machine.specs.SameStop.{Lists, used_by};
-ghost use Rattle.occ_code.specs.Cells.{AddsRow, counted, covers, end_of, furthest, in_rows, is_counted as is_counted_use};
-ghost use Rattle.occ_code.specs.Within.{AreWithin};
+ghost use Rattle.occ_code.specs.Cells.{AddsRow, ListsWithin, counted, covers, end_of, furthest, in_rows, is_counted as is_counted_use};
 
 use occ_term::{CellRows, FrameCells, MOST_CELLS};
 use occ_usage::{Kind, Use};
@@ -25,7 +24,7 @@ pub struct Row {
 /// The cells that are read or written, rising. They are all where none is past the limit, as in every well-formed program.
 /// The error is a refused growth.
 pub(crate) fn process_cells(alloc: Global, uses: &[Use]) -> Result<FrameCells, AllocError>
-    ensures lists { IfOk result (λ xs. AreWithin (used_by (uses_in uses.now)) → Lists xs (used_by (uses_in uses.now))) }
+    ensures lists { IfOk result (ListsWithin (used_by (uses_in uses.now))) }
     ensures few { IfOk result (λ xs. length xs ≤ most_cells) }
 {
     rising_cells(alloc, uses, false)
@@ -38,7 +37,7 @@ pub(crate) fn rising_cells(
     uses: &[Use],
     writes_only: bool,
 ) -> Result<FrameCells, AllocError>
-    ensures lists { IfOk result (λ xs. AreWithin (counted writes_only (uses_in uses.now)) → Lists xs (counted writes_only (uses_in uses.now))) }
+    ensures lists { IfOk result (ListsWithin (counted writes_only (uses_in uses.now))) }
     ensures few { IfOk result (λ xs. length xs ≤ most_cells) }
 {
     let count = furthest_end(uses, writes_only);
@@ -104,7 +103,8 @@ fn larger(a: u64, b: u64) -> u64
 /// The cells of each use that is counted, where it has any.
 fn rows_of(alloc: Global, uses: &[Use], writes_only: bool) -> Result<Vec<Row>, AllocError>
     requires { furthest writes_only uses.now ≤ most_cells }
-    ensures numbers { IfOk result (λ rows. (c : ℕ) → in_rows rows.items c ≡ covers writes_only uses.now c) }
+    ensures numbers { IfOk result
+        (λ rows. (c : ℕ) → in_rows rows.items c ≡ covers writes_only uses.now c) }
     ensures within { IfOk result (λ rows. All (λ row. row.end ≤ most_cells) rows.items) }
 {
     let mut rows = Vec::new(alloc);

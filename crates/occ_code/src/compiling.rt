@@ -6,7 +6,7 @@ ghost use Rattle.occ_term.specs.declared.fault.Errors.{Errors};
 ghost use Rattle.occ_term.specs.View.{term_of};
 ghost use Rattle.occ_machine.specs.Compiled.{most_instructions};
 ghost use Rattle.occ_machine.specs.Compiled as compiled;
-ghost use Rattle.occ_code.specs.CodeOf.{AreBodiesOf, IsCodeOf, IsQuantum, IsRefused, CodeRefuses};
+ghost use Rattle.occ_code.specs.CodeOf.{CodeRefuses, HasBodiesOf, IsCodeOf, IsQuantum, IsRefused};
 ghost use Rattle.occ_code.specs.Within.{AllWithin};
 
 use crate::processes::bodies_of;
@@ -102,9 +102,12 @@ fn program_bodies(
     term: &Term,
     quantum: u32,
 ) -> Result<Vec<Arc<Body, Global>>, CodeFault>
-    ensures bodies { IfOk result (λ bodies. AllWithin (processes_of (term_of term.now)) → AreBodiesOf (processes_of (term_of term.now)) quantum (map arc_value bodies.items)) }
-    ensures small { IfOk result (λ bodies. compiled.instructions_in (map arc_value bodies.items) ≤ most_instructions) }
-    ensures refused { IfErr result (λ fault. AllWithin (processes_of (term_of term.now)) → IsRefused fault (term_of term.now)) }
+    ensures bodies { IfOk result (HasBodiesOf (term_of term.now) quantum) }
+    ensures small { IfOk result
+        (λ bodies. compiled.instructions_in (map arc_value bodies.items) ≤ most_instructions) }
+    ensures refused { IfErr result
+        (λ fault. AllWithin (processes_of (term_of term.now))
+        → IsRefused fault (term_of term.now)) }
 {
     let bodies = bodies_of(alloc, quantum, term)?;
     if instructions_in(&bodies) > MOST_INSTRUCTIONS {

@@ -79,7 +79,8 @@ fn counters_in_arms(arms: &[Arm]) -> u64
 /// Of an arm before others, which have so many.
 #[cycle(counters)]
 fn counters_in_arm(arm: &Arm, most: u64) -> u64
-    ensures { (others : terms.Arms) → most ≡ min (counters_of_arms others) (2 ^ 64 - 1) → result ≡ min (counters_of_arms (arm_of arm.now others)) (2 ^ 64 - 1) }
+    ensures { (others : terms.Arms) → most ≡ min (counters_of_arms others) (2 ^ 64 - 1) → result
+        ≡ min (counters_of_arms (arm_of arm.now others)) (2 ^ 64 - 1) }
 {
     match arm {
         Arm::SkipArm(_, body) => {
@@ -127,7 +128,8 @@ fn counters_in_variants(variants: &[Variant]) -> u64
 /// Of a variant before others, which have so many.
 #[cycle(counters)]
 fn counters_in_variant(variant: &Variant, most: u64) -> u64
-    ensures { (others : terms.Variants) → most ≡ min (counters_of_variants others) (2 ^ 64 - 1) → result ≡ min (counters_of_variants (variant_of variant.now others)) (2 ^ 64 - 1) }
+    ensures { (others : terms.Variants) → most ≡ min (counters_of_variants others) (2 ^ 64 - 1)
+        → result ≡ min (counters_of_variants (variant_of variant.now others)) (2 ^ 64 - 1) }
 {
     let own = counters_in(&variant.body);
     larger(own, most)
@@ -149,7 +151,8 @@ fn counters_in_choices(choices: &[Choice]) -> u64
 /// Of a choice before others, which have so many.
 #[cycle(counters)]
 fn counters_in_choice(choice: &Choice, most: u64) -> u64
-    ensures { (others : terms.Choices) → most ≡ min (counters_of_choices others) (2 ^ 64 - 1) → result ≡ min (counters_of_choices (choice_of choice.now others)) (2 ^ 64 - 1) }
+    ensures { (others : terms.Choices) → most ≡ min (counters_of_choices others) (2 ^ 64 - 1)
+        → result ≡ min (counters_of_choices (choice_of choice.now others)) (2 ^ 64 - 1) }
 {
     match choice {
         Choice::When(_, body) => {
@@ -183,7 +186,8 @@ fn counters_in_options(options: &[Selection]) -> u64
 /// Of an option before others, which have so many.
 #[cycle(counters)]
 fn counters_in_option(option: &Selection, most: u64) -> u64
-    ensures { (others : terms.Options) → most ≡ min (counters_of_options others) (2 ^ 64 - 1) → result ≡ min (counters_of_options (option_of option.now others)) (2 ^ 64 - 1) }
+    ensures { (others : terms.Options) → most ≡ min (counters_of_options others) (2 ^ 64 - 1)
+        → result ≡ min (counters_of_options (option_of option.now others)) (2 ^ 64 - 1) }
 {
     match option {
         Selection::Among(_, _, body) => {

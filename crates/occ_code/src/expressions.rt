@@ -5,7 +5,7 @@ ghost use Rattle.occ_term.specs.ArraySizes.{AreFew};
 ghost use Rattle.occ_term.specs.Terms.{OfOne, OfMany, OfCounted, Into, IntoCounted, Naming};
 ghost use Rattle.occ_term.specs.View.{expression_of, place_of, subscripts, array_of, item_of, items_of, target_of, targets_of, declaration_of, declarations_of, replicator_of};
 ghost use Rattle.occ_code.specs.Expressions.{expression_code, place_code, subscripts_code, components_at, item_code, items_code, target_code, targets_code, declaration_code, declarations_code, storing_code, counting_code, assignment_code, single_target, single_value};
-ghost use Rattle.occ_code.specs.Emits.{Emits};
+ghost use Rattle.occ_code.specs.Emits.{AddsCode};
 
 use crate::pieces::{emitted, put, since};
 use occ_machine::Instr;
@@ -19,7 +19,7 @@ pub(crate) fn emit_expression(
     e: &TermExpr,
     code: &mut Vec<Instr<u32>>,
 ) -> Result<(), AllocError>
-    ensures { OnOk result (Emits code.old.items (expression_code (expression_of e.now)) code.new.items) }
+    ensures { OnOk result (AddsCode code.old (expression_code (expression_of e.now)) code.new) }
 {
     match e {
         TermExpr::Constant(value) => put(code, Instr::Push(*value)),
@@ -67,7 +67,8 @@ fn emit_before(
     last: Instr<u32>,
     code: &mut Vec<Instr<u32>>,
 ) -> Result<(), AllocError>
-    ensures { OnOk result (Emits code.old.items (expression_code (expression_of e.now) ++ last ∷ []) code.new.items) }
+    ensures { OnOk result
+        (AddsCode code.old (expression_code (expression_of e.now) ++ last ∷ []) code.new) }
 {
     put(code, last)?;
     emit_expression(alloc, e, code)?;
@@ -82,7 +83,8 @@ pub(crate) fn emit_place_before(
     last: Instr<u32>,
     code: &mut Vec<Instr<u32>>,
 ) -> Result<(), AllocError>
-    ensures { OnOk result (Emits code.old.items (place_code (place_of place.now) ++ last ∷ []) code.new.items) }
+    ensures { OnOk result
+        (AddsCode code.old (place_code (place_of place.now) ++ last ∷ []) code.new) }
 {
     put(code, last)?;
     emit_place(alloc, place, code)?;
@@ -96,7 +98,7 @@ pub(crate) fn emit_place(
     place: &Place,
     code: &mut Vec<Instr<u32>>,
 ) -> Result<(), AllocError>
-    ensures { OnOk result (Emits code.old.items (place_code (place_of place.now)) code.new.items) }
+    ensures { OnOk result (AddsCode code.old (place_code (place_of place.now)) code.new) }
 {
     place.sizes.few();
     let sizes = place.sizes.as_slice();
@@ -114,7 +116,9 @@ fn emit_subscripts(
     code: &mut Vec<Instr<u32>>,
 ) -> Result<(), AllocError>
     requires { AreFew sizes.now }
-    ensures { OnOk result (Emits code.old.items (subscripts_code (subscripts (map expression_of list.now)) line sizes.now) code.new.items) }
+    ensures { OnOk result
+        (AddsCode code.old
+        (subscripts_code (subscripts (map expression_of list.now)) line sizes.now) code.new) }
 {
     let mut count = shorter(list.len(), sizes.len());
     let mut stride = product(&sizes[count..]);
@@ -167,7 +171,7 @@ fn components(place: &Place) -> u64
 
 /// A part of a message.
 fn emit_item(alloc: Global, item: &Item, code: &mut Vec<Instr<u32>>) -> Result<(), AllocError>
-    ensures { OnOk result (Emits code.old.items (item_code (item_of item.now)) code.new.items) }
+    ensures { OnOk result (AddsCode code.old (item_code (item_of item.now)) code.new) }
 {
     match item {
         Item::One(primitive, value) => emit_value(alloc, *primitive, value, code),
@@ -184,7 +188,8 @@ fn emit_value(
     value: &TermExpr,
     code: &mut Vec<Instr<u32>>,
 ) -> Result<(), AllocError>
-    ensures { OnOk result (Emits code.old.items (item_code (OfOne primitive (expression_of value.now))) code.new.items) }
+    ensures { OnOk result
+        (AddsCode code.old (item_code (OfOne primitive (expression_of value.now))) code.new) }
 {
     put(code, Instr::PartOne(primitive))?;
     emit_expression(alloc, value, code)?;
@@ -197,7 +202,8 @@ fn emit_array(
     array: &Array,
     code: &mut Vec<Instr<u32>>,
 ) -> Result<(), AllocError>
-    ensures { OnOk result (Emits code.old.items (item_code (OfMany primitive (array_of array.now))) code.new.items) }
+    ensures { OnOk result
+        (AddsCode code.old (item_code (OfMany primitive (array_of array.now))) code.new) }
 {
     match array {
         Array::Cells(place) => {
@@ -219,7 +225,9 @@ fn emit_counted(
     array: &Array,
     code: &mut Vec<Instr<u32>>,
 ) -> Result<(), AllocError>
-    ensures { OnOk result (Emits code.old.items (item_code (OfCounted primitive line (expression_of count.now) (array_of array.now))) code.new.items) }
+    ensures { OnOk result
+        (AddsCode code.old (item_code
+        (OfCounted primitive line (expression_of count.now) (array_of array.now))) code.new) }
 {
     match array {
         Array::Cells(place) => {
@@ -241,7 +249,7 @@ pub(crate) fn emit_items(
     items: &[Item],
     code: &mut Vec<Instr<u32>>,
 ) -> Result<(), AllocError>
-    ensures { OnOk result (Emits code.old.items (items_code (items_of items.now)) code.new.items) }
+    ensures { OnOk result (AddsCode code.old (items_code (items_of items.now)) code.new) }
 {
     let mut count = items.len();
     while count > 0 {
@@ -253,7 +261,7 @@ pub(crate) fn emit_items(
 
 /// A target.
 fn emit_target(alloc: Global, target: &Target, code: &mut Vec<Instr<u32>>) -> Result<(), AllocError>
-    ensures { OnOk result (Emits code.old.items (target_code (target_of target.now)) code.new.items) }
+    ensures { OnOk result (AddsCode code.old (target_code (target_of target.now)) code.new) }
 {
     match target {
         Target::Into(place) => {
@@ -273,7 +281,9 @@ fn emit_both_places(
     array: &Place,
     code: &mut Vec<Instr<u32>>,
 ) -> Result<(), AllocError>
-    ensures { OnOk result (Emits code.old.items (target_code (IntoCounted line (place_of count.now) (place_of array.now))) code.new.items) }
+    ensures { OnOk result
+        (AddsCode code.old
+        (target_code (IntoCounted line (place_of count.now) (place_of array.now))) code.new) }
 {
     let counts = components(count);
     let all = components(array);
@@ -287,7 +297,7 @@ fn emit_targets(
     targets: &[Target],
     code: &mut Vec<Instr<u32>>,
 ) -> Result<(), AllocError>
-    ensures { OnOk result (Emits code.old.items (targets_code (targets_of targets.now)) code.new.items) }
+    ensures { OnOk result (AddsCode code.old (targets_code (targets_of targets.now)) code.new) }
 {
     let mut count = targets.len();
     while count > 0 {
@@ -303,7 +313,7 @@ pub(crate) fn emit_storing(
     targets: &[Target],
     code: &mut Vec<Instr<u32>>,
 ) -> Result<(), AllocError>
-    ensures { OnOk result (Emits code.old.items (storing_code (targets_of targets.now)) code.new.items) }
+    ensures { OnOk result (AddsCode code.old (storing_code (targets_of targets.now)) code.new) }
 {
     put(code, Instr::StoreParts)?;
     emit_targets(alloc, targets, code)?;
@@ -317,7 +327,8 @@ pub(crate) fn emit_naming(
     value: &Item,
     code: &mut Vec<Instr<u32>>,
 ) -> Result<(), AllocError>
-    ensures { OnOk result (Emits code.old.items (declaration_code (Naming first (item_of value.now))) code.new.items) }
+    ensures { OnOk result
+        (AddsCode code.old (declaration_code (Naming first (item_of value.now))) code.new) }
 {
     put(code, Instr::StoreNamed(first))?;
     emit_item(alloc, value, code)?;
@@ -330,7 +341,8 @@ pub(crate) fn emit_declaration(
     declaration: &Declaration,
     code: &mut Vec<Instr<u32>>,
 ) -> Result<(), AllocError>
-    ensures { OnOk result (Emits code.old.items (declaration_code (declaration_of declaration.now)) code.new.items) }
+    ensures { OnOk result
+        (AddsCode code.old (declaration_code (declaration_of declaration.now)) code.new) }
 {
     match declaration {
         Declaration::Clearing(_, first, count) => put(code, Instr::ClearCells(*first, *count)),
@@ -344,7 +356,8 @@ pub(crate) fn emit_declarations(
     declarations: &[Declaration],
     code: &mut Vec<Instr<u32>>,
 ) -> Result<(), AllocError>
-    ensures { OnOk result (Emits code.old.items (declarations_code (declarations_of declarations.now)) code.new.items) }
+    ensures { OnOk result
+        (AddsCode code.old (declarations_code (declarations_of declarations.now)) code.new) }
 {
     let mut count = declarations.len();
     while count > 0 {
@@ -360,7 +373,7 @@ pub(crate) fn emit_counting(
     over: &Replicator,
     code: &mut Vec<Instr<u32>>,
 ) -> Result<(), AllocError>
-    ensures { OnOk result (Emits code.old.items (counting_code (replicator_of over.now)) code.new.items) }
+    ensures { OnOk result (AddsCode code.old (counting_code (replicator_of over.now)) code.new) }
 {
     put(code, Instr::CountedFrom(over.line))?;
     emit_expression(alloc, &over.count, code)?;
@@ -376,7 +389,9 @@ pub(crate) fn emit_assignment(
     values: &[Item],
     code: &mut Vec<Instr<u32>>,
 ) -> Result<(), AllocError>
-    ensures { OnOk result (Emits code.old.items (assignment_code (targets_of targets.now) (items_of values.now)) code.new.items) }
+    ensures { OnOk result
+        (AddsCode code.old (assignment_code (targets_of targets.now) (items_of values.now))
+        code.new) }
 {
     if let (Some(cell), Some(value)) = (only_variable(targets), only_value(values)) {
         put(code, Instr::StoreOne(cell))?;

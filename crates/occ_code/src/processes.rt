@@ -1,14 +1,13 @@
 //! The bodies of a term's processes: its own, and those of the branches of its PARs.
-ghost use Rattle.std.specs.Prelude.{◌≡◌, ◌≤◌, ◌∷◌, [], ℕ, IfOk, List, OnOk, map};
-ghost use Rattle.std.specs.Arc.{arc_value};
+ghost use Rattle.std.specs.Prelude.{◌≡◌, ◌∷◌, [], ℕ, IfOk, OnOk};
 ghost use Rattle.occ_term.specs.Terms as terms;
-ghost use Rattle.occ_term.specs.Processes.{branches_among, branches_in, branches_in_arms, branches_in_choices, branches_in_options, branches_in_reception, branches_in_terms, branches_in_variants, numbered, processes_of};
+ghost use Rattle.occ_term.specs.Processes.{branches_among, branches_in, branches_in_arms, branches_in_choices, branches_in_options, branches_in_reception, branches_in_terms, branches_in_variants, numbered};
 ghost use Rattle.occ_term.specs.View.{arm_of, arms_of, branches_of, choice_of, choices_of, option_of, options_of, reception_of, term_of, terms_of, variants_of};
-ghost use Rattle.occ_code.specs.CodeOf.{AddsBodies, AreBodiesOf, IsBodyOf};
+ghost use Rattle.occ_code.specs.CodeOf.{AddsFirst, AddsShared, HasBodiesOf, IsBodyOf};
 ghost use Rattle.occ_code.specs.Emitted.{whole_code};
 ghost use Rattle.occ_machine.specs.Machine as machine;
 ghost use Rattle.occ_code.specs.Emits.{emitted};
-ghost use Rattle.occ_code.specs.Within.{AllWithin, KeepsWithin};
+ghost use Rattle.occ_code.specs.Within.{KeepsWithin};
 
 use crate::cells::{process_cells, rising_cells};
 use crate::counters::counters_in;
@@ -27,7 +26,7 @@ pub(crate) fn bodies_of(
     quantum: u32,
     term: &Term,
 ) -> Result<Vec<Arc<Body, Global>>, AllocError>
-    ensures { IfOk result (λ bodies. AllWithin (processes_of (term_of term.now)) → AreBodiesOf (processes_of (term_of term.now)) quantum (map arc_value bodies.items)) }
+    ensures { IfOk result (HasBodiesOf (term_of term.now) quantum) }
 {
     let mut bodies = Vec::new(alloc);
     add_branches(alloc, quantum, term, &mut bodies)?;
@@ -43,7 +42,8 @@ fn add_body(
     term: &Term,
     bodies: &mut Vec<Arc<Body, Global>>,
 ) -> Result<(), AllocError>
-    ensures { OnOk result ((number : ℕ) → AddsBodies quantum (map arc_value bodies.old.items) (numbered number (term_of term.now) ∷ []) (map arc_value bodies.new.items)) }
+    ensures { OnOk result ((number : ℕ)
+        → AddsShared quantum bodies.old (numbered number (term_of term.now) ∷ []) bodies.new) }
 {
     let body = body_of(alloc, quantum, term)?;
     bodies.push(Arc::new(alloc, body)?)?;
@@ -52,7 +52,8 @@ fn add_body(
 
 /// The body of one process.
 fn body_of(alloc: Global, quantum: u32, term: &Term) -> Result<Body, AllocError>
-    ensures { IfOk result (λ b. KeepsWithin (term_of term.now) → IsBodyOf (term_of term.now) quantum b) }
+    ensures { IfOk result
+        (λ b. KeepsWithin (term_of term.now) → IsBodyOf (term_of term.now) quantum b) }
 {
     let loops = counters_in(term);
     let uses = term_uses(alloc, term)?;
@@ -82,7 +83,8 @@ fn add_branches(
     term: &Term,
     bodies: &mut Vec<Arc<Body, Global>>,
 ) -> Result<(), AllocError>
-    ensures { OnOk result (AddsBodies quantum (map arc_value bodies.old.items) (branches_in (term_of term.now)) (map arc_value bodies.new.items)) }
+    ensures { OnOk result
+        (AddsShared quantum bodies.old (branches_in (term_of term.now)) bodies.new) }
 {
     match term {
         Term::Skip => Ok(()),
@@ -112,7 +114,8 @@ fn add_in_terms(
     parts: &[Term],
     bodies: &mut Vec<Arc<Body, Global>>,
 ) -> Result<(), AllocError>
-    ensures { OnOk result (AddsBodies quantum (map arc_value bodies.old.items) (branches_in_terms (terms_of parts.now)) (map arc_value bodies.new.items)) }
+    ensures { OnOk result
+        (AddsShared quantum bodies.old (branches_in_terms (terms_of parts.now)) bodies.new) }
 {
     let mut count = parts.len();
     while count > 0 {
@@ -130,7 +133,8 @@ fn add_each(
     branches: &[Branch],
     bodies: &mut Vec<Arc<Body, Global>>,
 ) -> Result<(), AllocError>
-    ensures { OnOk result (AddsBodies quantum (map arc_value bodies.old.items) (branches_among (branches_of branches.now)) (map arc_value bodies.new.items)) }
+    ensures { OnOk result
+        (AddsShared quantum bodies.old (branches_among (branches_of branches.now)) bodies.new) }
 {
     let mut count = branches.len();
     while count > 0 {
@@ -149,7 +153,9 @@ fn add_in_variants(
     variants: &[Variant],
     bodies: &mut Vec<Arc<Body, Global>>,
 ) -> Result<(), AllocError>
-    ensures { OnOk result (AddsBodies quantum (map arc_value bodies.old.items) (branches_in_variants (variants_of variants.now)) (map arc_value bodies.new.items)) }
+    ensures { OnOk result
+        (AddsShared quantum bodies.old
+        (branches_in_variants (variants_of variants.now)) bodies.new) }
 {
     let mut count = variants.len();
     while count > 0 {
@@ -167,7 +173,8 @@ fn add_in_choices(
     choices: &[Choice],
     bodies: &mut Vec<Arc<Body, Global>>,
 ) -> Result<(), AllocError>
-    ensures { OnOk result (AddsBodies quantum (map arc_value bodies.old.items) (branches_in_choices (choices_of choices.now)) (map arc_value bodies.new.items)) }
+    ensures { OnOk result
+        (AddsShared quantum bodies.old (branches_in_choices (choices_of choices.now)) bodies.new) }
 {
     let mut count = choices.len();
     while count > 0 {
@@ -185,8 +192,8 @@ fn add_in_choice(
     choice: &Choice,
     bodies: &mut Vec<Arc<Body, Global>>,
 ) -> Result<(), AllocError>
-    ensures { OnOk result ((before : List machine.Body) (others : terms.Choices) → AddsBodies quantum before (branches_in_choices others) (map arc_value bodies.old.items)
-        → AddsBodies quantum before (branches_in_choices (choice_of choice.now others)) (map arc_value bodies.new.items)) }
+    ensures { OnOk result
+        (AddsFirst branches_in_choices (choice_of choice.now) quantum bodies.old bodies.new) }
 {
     match choice {
         Choice::When(_, body) => {
@@ -211,7 +218,8 @@ fn add_in_options(
     options: &[Selection],
     bodies: &mut Vec<Arc<Body, Global>>,
 ) -> Result<(), AllocError>
-    ensures { OnOk result (AddsBodies quantum (map arc_value bodies.old.items) (branches_in_options (options_of options.now)) (map arc_value bodies.new.items)) }
+    ensures { OnOk result
+        (AddsShared quantum bodies.old (branches_in_options (options_of options.now)) bodies.new) }
 {
     let mut count = options.len();
     while count > 0 {
@@ -229,8 +237,8 @@ fn add_in_option(
     option: &Selection,
     bodies: &mut Vec<Arc<Body, Global>>,
 ) -> Result<(), AllocError>
-    ensures { OnOk result ((before : List machine.Body) (others : terms.Options) → AddsBodies quantum before (branches_in_options others) (map arc_value bodies.old.items)
-        → AddsBodies quantum before (branches_in_options (option_of option.now others)) (map arc_value bodies.new.items)) }
+    ensures { OnOk result
+        (AddsFirst branches_in_options (option_of option.now) quantum bodies.old bodies.new) }
 {
     match option {
         Selection::Among(_, _, body) => {
@@ -251,7 +259,8 @@ fn add_in_arms(
     arms: &[Arm],
     bodies: &mut Vec<Arc<Body, Global>>,
 ) -> Result<(), AllocError>
-    ensures { OnOk result (AddsBodies quantum (map arc_value bodies.old.items) (branches_in_arms (arms_of arms.now)) (map arc_value bodies.new.items)) }
+    ensures { OnOk result
+        (AddsShared quantum bodies.old (branches_in_arms (arms_of arms.now)) bodies.new) }
 {
     let mut count = arms.len();
     while count > 0 {
@@ -269,8 +278,8 @@ fn add_in_arm(
     arm: &Arm,
     bodies: &mut Vec<Arc<Body, Global>>,
 ) -> Result<(), AllocError>
-    ensures { OnOk result ((before : List machine.Body) (others : terms.Arms) → AddsBodies quantum before (branches_in_arms others) (map arc_value bodies.old.items)
-        → AddsBodies quantum before (branches_in_arms (arm_of arm.now others)) (map arc_value bodies.new.items)) }
+    ensures { OnOk result
+        (AddsFirst branches_in_arms (arm_of arm.now) quantum bodies.old bodies.new) }
 {
     match arm {
         Arm::SkipArm(_, body) => {
@@ -299,7 +308,8 @@ fn add_in_reception(
     list: &Reception,
     bodies: &mut Vec<Arc<Body, Global>>,
 ) -> Result<(), AllocError>
-    ensures { OnOk result (AddsBodies quantum (map arc_value bodies.old.items) (branches_in_reception (reception_of list.now)) (map arc_value bodies.new.items)) }
+    ensures { OnOk result
+        (AddsShared quantum bodies.old (branches_in_reception (reception_of list.now)) bodies.new) }
 {
     match list {
         Reception::Plain(_, body) => add_branches(alloc, quantum, body, bodies),

@@ -5,24 +5,15 @@ ghost use Rattle.occ_term.specs.Terms as terms;
 ghost use Rattle.occ_term.specs.View.{arm_of, arms_of, branches_of, choice_of, choices_of, declarations_of, expression_of, items_of, option_of, options_of, place_of, reception_of, replicator_of, targets_of, term_of, terms_of, variant_of, variants_of};
 ghost use Rattle.occ_machine.specs.declared.instr.Instr.TheVariants as instructions;
 ghost use Rattle.occ_code.specs.Expressions.{counting_code, declarations_code, expression_code, items_code, par_code, place_code, storing_code};
-ghost use Rattle.occ_code.specs.Emitted.{arms_code, list_code, choices_code, else_code, options_code, term_code, terms_code, variants_code};
-ghost use Rattle.occ_code.specs.Emits.{Behind, Emits};
+ghost use Rattle.occ_code.specs.Emitted.{arms_code, choices_code, each_code, else_code, list_code, options_code, term_code, terms_code, variants_code, while_code};
+ghost use Rattle.occ_code.specs.Emits.{AddsCode, Emits, EmitsAround, EmitsFirst};
 ghost use Rattle.occ_machine.specs.declared.instr.Instr.{Instr};
 
-use crate::arms::{
-    emit_alt, emit_each_value, emit_input_opening, emit_next, emit_passing, emit_skip_opening,
-    emit_taken,
-};
-use crate::expressions::{
-    emit_assignment, emit_counting, emit_declaration, emit_declarations, emit_expression,
-    emit_items, emit_naming, emit_place, emit_place_before, emit_storing,
-};
+use crate::arms::{emit_alt, emit_each_value, emit_input_opening, emit_next, emit_passing, emit_skip_opening, emit_taken};
+use crate::expressions::{emit_assignment, emit_counting, emit_declaration, emit_declarations, emit_expression, emit_items, emit_naming, emit_place, emit_place_before, emit_storing};
 use crate::pieces::{emitted, put, put_at, since};
 use occ_machine::Instr;
-use occ_term::{
-    Arm, Branch, Choice, Declaration, Item, Place, Reception, Replicator, Selection, Target, Term,
-    TermExpr, Variant,
-};
+use occ_term::{Arm, Branch, Choice, Declaration, Item, Place, Reception, Replicator, Selection, Target, Term, TermExpr, Variant};
 use sqlite_items::Items;
 use std::alloc::{AllocError, Global};
 
@@ -35,7 +26,7 @@ pub(crate) fn emit_term(
     code: &mut Vec<Instr<u32>>,
 ) -> Result<(), AllocError>
     requires room { slot + 2 ≤ 2 * length code.old.items }
-    ensures { OnOk result (Emits code.old.items (term_code slot (term_of term.now)) code.new.items) }
+    ensures { OnOk result (AddsCode code.old (term_code slot (term_of term.now)) code.new) }
 {
     match term {
         Term::Skip => Ok(()),
@@ -102,7 +93,7 @@ fn emit_terms(
     code: &mut Vec<Instr<u32>>,
 ) -> Result<(), AllocError>
     requires room { slot + 2 ≤ 2 * length code.old.items }
-    ensures { OnOk result (Emits code.old.items (terms_code slot (terms_of parts.now)) code.new.items) }
+    ensures { OnOk result (AddsCode code.old (terms_code slot (terms_of parts.now)) code.new) }
 {
     let mut count = parts.len();
     while count > 0 {
@@ -118,7 +109,9 @@ fn emit_input(
     targets: &[Target],
     code: &mut Vec<Instr<u32>>,
 ) -> Result<(), AllocError>
-    ensures { OnOk result (Emits code.old.items ((place_code (place_of channel.now) ++ instructions.Receive ∷ []) ++ storing_code (targets_of targets.now)) code.new.items) }
+    ensures { OnOk result
+        (AddsCode code.old ((place_code (place_of channel.now) ++ instructions.Receive ∷ [])
+        ++ storing_code (targets_of targets.now)) code.new) }
 {
     emit_storing(alloc, targets, code)?;
     emit_place_before(alloc, channel, Instr::Receive, code)?;
@@ -132,7 +125,9 @@ fn emit_output(
     items: &[Item],
     code: &mut Vec<Instr<u32>>,
 ) -> Result<(), AllocError>
-    ensures { OnOk result (Emits code.old.items (place_code (place_of channel.now) ++ (items_code (items_of items.now) ++ instructions.Send tag ∷ [])) code.new.items) }
+    ensures { OnOk result
+        (AddsCode code.old (place_code (place_of channel.now)
+        ++ (items_code (items_of items.now) ++ instructions.Send tag ∷ [])) code.new) }
 {
     put(code, Instr::Send(tag))?;
     emit_items(alloc, items, code)?;
@@ -146,7 +141,7 @@ fn emit_par(
     branches: &[Branch],
     code: &mut Vec<Instr<u32>>,
 ) -> Result<(), AllocError>
-    ensures { OnOk result (Emits code.old.items (par_code (branches_of branches.now)) code.new.items) }
+    ensures { OnOk result (AddsCode code.old (par_code (branches_of branches.now)) code.new) }
 {
     if branches.is_empty() {
         return Ok(());
@@ -174,8 +169,9 @@ fn emit_test(
     code: &mut Vec<Instr<u32>>,
 ) -> Result<(), AllocError>
     requires { place < length code.old.items }
-    ensures { OnOk result ((before body : List (Instr ℕ)) → length before ≡ place → Behind before body code.old.items
-        → Emits before (expression_code (expression_of test.now) ++ instructions.Choose (length body + 1) ∷ (body ++ instructions.LoopBack (length (expression_code (expression_of test.now)) + 1 + length body) ∷ [])) code.new.items) }
+    ensures { OnOk result
+        (EmitsAround place code.old (while_code (expression_code (expression_of test.now)))
+        code.new) }
 {
     put(code, Instr::Choose(since(code, place)))?;
     emit_expression(alloc, test, code)?;
@@ -193,8 +189,9 @@ fn emit_passes(
     code: &mut Vec<Instr<u32>>,
 ) -> Result<(), AllocError>
     requires { place < length code.old.items }
-    ensures { OnOk result ((before body : List (Instr ℕ)) → length before ≡ place → Behind before body code.old.items
-        → Emits before (counting_code (replicator_of over.now) ++ instructions.Begin slot (index_of (replicator_of over.now)) (length body + 2) ∷ instructions.Pass slot (index_of (replicator_of over.now)) (length body + 1) ∷ (body ++ instructions.LoopBack (length body + 1) ∷ [])) code.new.items) }
+    ensures { OnOk result
+        (EmitsAround place code.old (each_code slot (index_of (replicator_of over.now))
+        (counting_code (replicator_of over.now))) code.new) }
 {
     let back = since(code, place);
     put_at(code, place, Instr::LoopBack(back));
@@ -215,7 +212,9 @@ fn emit_choices(
 ) -> Result<(), AllocError>
     requires room { slot + 2 ≤ 2 * length code.old.items }
     requires end { end ≤ length code.old.items }
-    ensures { OnOk result (Emits code.old.items (choices_code slot (choices_of choices.now) (length code.old.items - end)) code.new.items) }
+    ensures { OnOk result
+        (AddsCode code.old
+        (choices_code slot (choices_of choices.now) (length code.old.items - end)) code.new) }
 {
     let mut count = choices.len();
     while count > 0 {
@@ -236,8 +235,8 @@ fn emit_choice(
 ) -> Result<(), AllocError>
     requires room { slot + 2 ≤ 2 * length code.old.items }
     requires end { end ≤ length code.old.items }
-    ensures { OnOk result ((before : List (Instr ℕ)) (others : terms.Choices) → end ≤ length before → Emits before (choices_code slot others (length before - end)) code.old.items
-        → Emits before (choices_code slot (choice_of choice.now others) (length before - end)) code.new.items) }
+    ensures { OnOk result
+        (EmitsFirst (choices_code slot) (choice_of choice.now) end code.old code.new) }
 {
     match choice {
         Choice::When(test, body) => {
@@ -269,7 +268,9 @@ fn emit_choose(
     before: usize,
     code: &mut Vec<Instr<u32>>,
 ) -> Result<(), AllocError>
-    ensures { OnOk result (Emits code.old.items (expression_code (expression_of test.now) ++ instructions.Choose (length code.old.items - before) ∷ []) code.new.items) }
+    ensures { OnOk result
+        (AddsCode code.old (expression_code (expression_of test.now) ++ instructions.Choose
+        (length code.old.items - before) ∷ []) code.new) }
 {
     put(code, Instr::Choose(since(code, before)))?;
     emit_expression(alloc, test, code)?;
@@ -287,7 +288,9 @@ fn emit_arms(
 ) -> Result<(), AllocError>
     requires room { slot + 2 ≤ 2 * length code.old.items }
     requires end { end ≤ length code.old.items }
-    ensures { OnOk result (Emits code.old.items (arms_code slot (arms_of arms.now) (length code.old.items - end)) code.new.items) }
+    ensures { OnOk result
+        (AddsCode code.old (arms_code slot (arms_of arms.now) (length code.old.items - end))
+        code.new) }
 {
     let mut count = arms.len();
     while count > 0 {
@@ -308,8 +311,8 @@ fn emit_arm(
 ) -> Result<(), AllocError>
     requires room { slot + 2 ≤ 2 * length code.old.items }
     requires end { end ≤ length code.old.items }
-    ensures { OnOk result ((before : List (Instr ℕ)) (others : terms.Arms) → end ≤ length before → Emits before (arms_code slot others (length before - end)) code.old.items
-        → Emits before (arms_code slot (arm_of arm.now others) (length before - end)) code.new.items) }
+    ensures { OnOk result
+        (EmitsFirst (arms_code slot) (arm_of arm.now) end code.old code.new) }
 {
     let before = emitted(code);
     match arm {
@@ -355,7 +358,7 @@ fn emit_list(
     code: &mut Vec<Instr<u32>>,
 ) -> Result<(), AllocError>
     requires room { slot + 2 ≤ 2 * length code.old.items }
-    ensures { OnOk result (Emits code.old.items (list_code slot (reception_of list.now)) code.new.items) }
+    ensures { OnOk result (AddsCode code.old (list_code slot (reception_of list.now)) code.new) }
 {
     match list {
         Reception::Plain(targets, body) => {
@@ -378,7 +381,9 @@ fn emit_options(
 ) -> Result<(), AllocError>
     requires room { slot + 2 ≤ 2 * length code.old.items }
     requires end { end ≤ length code.old.items }
-    ensures { OnOk result (Emits code.old.items (options_code slot (options_of options.now) (length code.old.items - end)) code.new.items) }
+    ensures { OnOk result
+        (AddsCode code.old
+        (options_code slot (options_of options.now) (length code.old.items - end)) code.new) }
 {
     let mut count = options.len();
     while count > 0 {
@@ -398,8 +403,8 @@ fn emit_option(
     code: &mut Vec<Instr<u32>>,
 ) -> Result<(), AllocError>
     requires room { slot + 2 ≤ 2 * length code.old.items }
-    ensures { OnOk result ((before : List (Instr ℕ)) (others : terms.Options) → end ≤ length before → Emits before (options_code slot others (length before - end)) code.old.items
-        → Emits before (options_code slot (option_of option.now others) (length before - end)) code.new.items) }
+    ensures { OnOk result
+        (EmitsFirst (options_code slot) (option_of option.now) end code.old code.new) }
 {
     match option {
         Selection::Among(constants, declarations, body) => {
@@ -422,7 +427,11 @@ fn emit_among(
     before: usize,
     code: &mut Vec<Instr<u32>>,
 ) -> Result<(), AllocError>
-    ensures { OnOk result (Emits code.old.items (instructions.IfAmong constants.now (length (declarations_code (declarations_of declarations.now)) + length code.old.items - before) ∷ declarations_code (declarations_of declarations.now)) code.new.items) }
+    ensures { OnOk result
+        (AddsCode code.old
+        (instructions.IfAmong constants.now
+        (length (declarations_code (declarations_of declarations.now)) + length code.old.items -
+        before) ∷ declarations_code (declarations_of declarations.now)) code.new) }
 {
     emit_declarations(alloc, declarations, code)?;
     let constants = Items::from_slice(alloc, constants.as_slice())?;
@@ -439,7 +448,7 @@ fn emit_else(
     code: &mut Vec<Instr<u32>>,
 ) -> Result<(), AllocError>
     requires room { slot + 2 ≤ 2 * length code.old.items }
-    ensures { OnOk result (Emits code.old.items (else_code slot (options_of options.now)) code.new.items) }
+    ensures { OnOk result (AddsCode code.old (else_code slot (options_of options.now)) code.new) }
 {
     for option in options {
         match option {
@@ -465,7 +474,8 @@ fn emit_variants(
     code: &mut Vec<Instr<u32>>,
 ) -> Result<(), AllocError>
     requires room { slot + 2 ≤ 2 * length code.old.items }
-    ensures { OnOk result (Emits code.old.items (variants_code slot (variants_of variants.now)) code.new.items) }
+    ensures { OnOk result
+        (AddsCode code.old (variants_code slot (variants_of variants.now)) code.new) }
 {
     let end = emitted(code);
     put(code, Instr::Halt)?;
@@ -487,7 +497,8 @@ fn emit_variant(
     code: &mut Vec<Instr<u32>>,
 ) -> Result<(), AllocError>
     requires room { slot + 2 ≤ 2 * length code.old.items }
-    ensures { OnOk result ((before : List (Instr ℕ)) (others : terms.Variants) → length before ≡ end → Emits before (variants_code slot others) code.old.items
+    ensures { OnOk result ((before : List (Instr ℕ)) (others : terms.Variants) → length before ≡ end
+        → Emits before (variants_code slot others) code.old.items
         → Emits before (variants_code slot (variant_of variant.now others)) code.new.items) }
 {
     let before = emitted(code);

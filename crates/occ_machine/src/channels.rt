@@ -1,7 +1,7 @@
 //! Channels with the same name and protocol, and protocols with the same content.
 ghost use Rattle.std.specs.Prelude.{◌≡◌, ◌↔◌, IfOk, IsTrue};
 
-use crate::same::{same_bytes, same_numbers};
+use occ_term::same::{same_bytes, same_numbers};
 use occ_term::{Channel, PartType, Protocol, Tag};
 use std::alloc::{AllocError, Global};
 

@@ -45,8 +45,11 @@ impl Model for Code {
 impl Code {
     /// The code with these bodies, channels and mode of errors.
     pub fn new(bodies: Vec<Arc<Body, Global>>, channels: Vec<Channel>, errors: Errors) -> Code
-        requires { IsCompiled (record { bodies = map arc_value bodies.items; channels = channels.items; errors = errors }) }
-        ensures { result ≡ record { bodies = map arc_value bodies.items; channels = channels.items; errors = errors } }
+        requires { IsCompiled (record
+            { bodies = map arc_value bodies.items; channels = channels.items; errors = errors }) }
+        ensures { result
+            ≡ record
+            { bodies = map arc_value bodies.items; channels = channels.items; errors = errors } }
     {
         Code {
             bodies,
@@ -71,7 +74,8 @@ impl Code {
 
     /// The body of the process with this number.
     pub fn body(&self, number: usize) -> Option<&Arc<Body, Global>>
-        ensures some { IfSome result (λ b. slice_get self.now.bodies number ≡ Some (arc_value b.now)) }
+        ensures some { IfSome result
+            (λ b. slice_get self.now.bodies number ≡ Some (arc_value b.now)) }
         ensures none { IfNone result (slice_get self.now.bodies number ≡ None) }
     {
         self.bodies.get(number)

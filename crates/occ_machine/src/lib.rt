@@ -8,7 +8,6 @@ mod channels;
 pub mod code;
 pub mod instr;
 pub mod quick;
-mod same;
 mod same_code;
 pub mod task;
 

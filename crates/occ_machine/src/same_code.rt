@@ -2,7 +2,7 @@
 ghost use Rattle.std.specs.Prelude.{◌≡◌, ◌↔◌, IsTrue};
 
 use crate::instr::{Instr, Slot};
-use crate::same::{same_bytes, same_numbers, same_values};
+use occ_term::same::{same_bytes, same_numbers, same_values};
 use occ_term::{Monadic, Operator};
 
 /// Whether both have the same instructions, in the same order.

@@ -1,7 +1,7 @@
 //! A process between two of its turns.
 ghost use Rattle.std.specs.Prelude.{◌≡◌, ◌↔◌, IsTrue, IfOk};
 
-use crate::same::{same_numbers, same_values};
+use occ_term::same::{same_numbers, same_values};
 use occ_term::{Fault, Frame, Message};
 use sqlite_items::Items;
 use std::alloc::{AllocError, Global};

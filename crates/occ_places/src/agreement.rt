@@ -43,8 +43,13 @@ fn add_stop(
     place: usize,
     lines: &[Line],
 ) -> Result<bool, AllocError>
-    ensures stops { OnOk result ((code : List (Instr ℕ)) → slice_get code place ≡ Some instruction.now → All (IsStopIn code (logical_lines lines.now)) stops.old.items → All (IsStopIn code (logical_lines lines.now)) stops.new.items) }
-    ensures places { IfOk result (λ agrees. IsTrue agrees → map place_of stops.new.items ≡ map place_of stops.old.items ++ (if is_stop instruction.now then place ∷ [] else [])) }
+    ensures stops { OnOk result
+        ((code : List (Instr ℕ)) → slice_get code place ≡ Some instruction.now
+        → All (IsStopIn code (logical_lines lines.now)) stops.old.items
+        → All (IsStopIn code (logical_lines lines.now)) stops.new.items) }
+    ensures places { IfOk result
+        (λ agrees. IsTrue agrees → map place_of stops.new.items
+        ≡ map place_of stops.old.items ++ (if is_stop instruction.now then place ∷ [] else [])) }
 {
     if !is_stop(instruction) {
         return Ok(true);
@@ -68,8 +73,11 @@ pub(crate) fn stops_in(
     marks: &[Mark<'_>],
     lines: &[Line],
 ) -> Result<Option<Vec<Stop>>, AllocError>
-    ensures stops { IfOk result (λ found. IfSome found (λ stops. All (IsStopIn code.now (logical_lines lines.now)) stops.items)) }
-    ensures places { IfOk result (λ found. IfSome found (λ stops. map place_of stops.items ≡ stop_places 0 code.now)) }
+    ensures stops { IfOk result
+        (λ found. IfSome found
+        (λ stops. All (IsStopIn code.now (logical_lines lines.now)) stops.items)) }
+    ensures places { IfOk result
+        (λ found. IfSome found (λ stops. map place_of stops.items ≡ stop_places 0 code.now)) }
 {
     let mut stops = Vec::new(alloc);
     for place in 0..code.len() {

@@ -160,7 +160,8 @@ fn located<'t>(
     lines: &[Line],
 ) -> Result<Located, AllocError>
     ensures name { IfOk result (λ l. IsNameOf (logical_lines lines.now) l.name.items) }
-    ensures stops { IfOk result (λ l. AreStopsIn code.now.bodies (logical_lines lines.now) number l.stops.items) }
+    ensures stops { IfOk result
+        (λ l. AreStopsIn code.now.bodies (logical_lines lines.now) number l.stops.items) }
 {
     let Some(Some(start)) = starts.get(number) else {
         return Ok(unknown(alloc));

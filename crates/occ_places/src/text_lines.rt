@@ -53,7 +53,8 @@ fn place_of(lines: &[Line], number: u32) -> Option<usize> {
 
 /// The line in this place.
 fn line_at(lines: &[Line], place: usize) -> Option<&Line>
-    ensures { option_map (λ l. logical_line_of l.now) result ≡ slice_get (logical_lines lines.now) place }
+    ensures { option_map (λ l. logical_line_of l.now) result
+        ≡ slice_get (logical_lines lines.now) place }
 {
     lines.get(place)
 }

@@ -6,63 +6,64 @@ ghost use Rattle.occ_proc.specs.Doing.{OnStack};
 
 use crate::stack::Stack;
 use crate::values::number;
-use crate::went::Went;
+use crate::step::Step;
 use std::alloc::AllocError;
 
-pub(crate) fn and_then(stack: &mut Stack, skip: usize) -> Result<Went, AllocError>
+pub(crate) fn and_then(stack: &mut Stack, skip: usize) -> Result<Step, AllocError>
     ensures { IfOk result (λ w. OnStack (instructions.AndThen skip) stack.old w stack.new) }
 {
     let Some(test) = stack.pop() else {
-        return Ok(Went::Stuck);
+        return Ok(Step::Stuck);
     };
     if test != 0 {
-        return Ok(Went::Next);
+        return Ok(Step::Next);
     }
     stack.push(0)?;
-    Ok(Went::Skip(skip))
+    Ok(Step::Skip(skip))
 }
 
-pub(crate) fn or_else(stack: &mut Stack, skip: usize) -> Result<Went, AllocError>
+pub(crate) fn or_else(stack: &mut Stack, skip: usize) -> Result<Step, AllocError>
     ensures { IfOk result (λ w. OnStack (instructions.OrElse skip) stack.old w stack.new) }
 {
     let Some(test) = stack.pop() else {
-        return Ok(Went::Stuck);
+        return Ok(Step::Stuck);
     };
     if test == 0 {
-        return Ok(Went::Next);
+        return Ok(Step::Next);
     }
     stack.push(1)?;
-    Ok(Went::Skip(skip))
+    Ok(Step::Skip(skip))
 }
 
-pub(crate) fn choose(stack: &mut Stack, skip: usize) -> Went
+pub(crate) fn choose(stack: &mut Stack, skip: usize) -> Step
     ensures { OnStack (instructions.Choose skip) stack.old result stack.new }
 {
     let Some(test) = stack.pop() else {
-        return Went::Stuck;
+        return Step::Stuck;
     };
     if test == 0 {
-        return Went::Skip(skip);
+        return Step::Skip(skip);
     }
     stack.clear();
-    Went::Next
+    Step::Next
 }
 
 pub(crate) fn if_among(
     stack: &mut Stack,
     constants: &[i64],
     skip: usize,
-) -> Result<Went, AllocError>
-    ensures { IfOk result (λ w. OnStack (instructions.IfAmong constants.now skip) stack.old w stack.new) }
+) -> Result<Step, AllocError>
+    ensures { IfOk result
+        (λ w. OnStack (instructions.IfAmong constants.now skip) stack.old w stack.new) }
 {
     let Some(value) = stack.pop() else {
-        return Ok(Went::Stuck);
+        return Ok(Step::Stuck);
     };
     if is_among(value, constants) {
-        return Ok(Went::Next);
+        return Ok(Step::Next);
     }
     stack.push(value)?;
-    Ok(Went::Skip(skip))
+    Ok(Step::Skip(skip))
 }
 
 fn is_among(value: i64, constants: &[i64]) -> bool
@@ -77,25 +78,25 @@ fn is_among(value: i64, constants: &[i64]) -> bool
 }
 
 /// Where no tag is left on the stack, the variants go on with the first one behind the skip.
-pub(crate) fn if_tag(stack: &mut Stack, tag: u32, skip: usize) -> Result<Went, AllocError>
+pub(crate) fn if_tag(stack: &mut Stack, tag: u32, skip: usize) -> Result<Step, AllocError>
     ensures { IfOk result (λ w. OnStack (instructions.IfTag tag skip) stack.old w stack.new) }
 {
     let Some(value) = stack.pop() else {
-        return Ok(Went::Skip(skip));
+        return Ok(Step::Skip(skip));
     };
     if number(value) == u64::from(tag) {
-        return Ok(Went::Next);
+        return Ok(Step::Next);
     }
     stack.push(value)?;
-    Ok(Went::Skip(skip))
+    Ok(Step::Skip(skip))
 }
 
 #[inline(always)]
-pub(crate) fn drop_one(stack: &mut Stack) -> Went
+pub(crate) fn drop_one(stack: &mut Stack) -> Step
     ensures { OnStack instructions.DropOne stack.old result stack.new }
 {
     match stack.pop() {
-        Some(_) => Went::Next,
-        None => Went::Stuck,
+        Some(_) => Step::Next,
+        None => Step::Stuck,
     }
 }

@@ -20,11 +20,11 @@ mod small_arms;
 mod spots;
 mod stack;
 mod step;
+mod stop;
 mod stores;
 pub mod turn_end;
 mod turns;
 mod values;
-mod went;
 
 pub use scratch::Scratch;
 pub use segment::{Segment, turn};

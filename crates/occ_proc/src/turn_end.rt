@@ -1,4 +1,12 @@
-//! How a turn ended, in a few numbers.
+//! How a turn ended, in a few numbers where it can be told so, and what its process stands at then.
+ghost use Rattle.std.specs.Prelude.{◌≡◌, IfNone, IfSome, List};
+ghost use Rattle.occ_term.specs.declared.message.Part.{Part};
+ghost use Rattle.occ_proc.specs.Doing.{wait_of};
+ghost use Rattle.occ_proc.specs.Turns.{IsEndOf, IsHeavy, IsLeftReady, left_message, standing_at};
+
+use crate::scratch::Scratch;
+use crate::stop::Stop;
+use occ_machine::Wait;
 
 /// What a process stands at after its turn, where that is light enough to be handed over.
 #[derive(Clone, Copy, Debug, PartialEq, Eq)]
@@ -11,4 +19,65 @@ pub enum TurnEnd {
     Awaits(u32),
     /// Something else, which is in its task.
     Other,
+}
+
+/// How a turn ended with this stop. What isn't handed over is put into the task of its process.
+#[inline(always)]
+pub(crate) fn turn_end(stop: Stop, wait: &mut Wait) -> TurnEnd
+    requires { wait.old ≡ Wait.Ready }
+    ensures stands { (queue : List Part) → standing_at result queue wait.new ≡ wait_of stop queue }
+    ensures left { IsLeftReady result wait.new }
+{
+    if let Some(end) = light_end(&stop) {
+        return end;
+    }
+    stand_at(stop, wait);
+    TurnEnd::Other
+}
+
+/// How a turn ended with this stop, where that is light enough to be handed over.
+#[inline(always)]
+fn light_end(stop: &Stop) -> Option<TurnEnd>
+    ensures some { IfSome result (λ end. IsEndOf stop.now end) }
+    ensures none { IfNone result (IsHeavy stop.now) }
+{
+    match stop {
+        Stop::Loops(_) => Some(TurnEnd::Ready),
+        Stop::Offers(tag, chan) => Some(TurnEnd::Offers(*tag, *chan)),
+        Stop::Awaits(chan) => Some(TurnEnd::Awaits(*chan)),
+        Stop::Faults(_) | Stop::Chooses(_, _, _) | Stop::Forks(_) | Stop::Halts | Stop::Ends => {
+            None
+        }
+    }
+}
+
+/// What the process stands at is put into its task.
+#[inline(never)]
+fn stand_at(stop: Stop, wait: &mut Wait)
+    requires { IsHeavy stop }
+    ensures { (queue : List Part) → wait.new ≡ wait_of stop queue }
+{
+    match stop {
+        Stop::Faults(fault) => *wait = Wait::Faulted(fault),
+        Stop::Chooses(pri, _, arms) => *wait = Wait::Chooses { pri, arms },
+        Stop::Forks(branches) => *wait = Wait::Joins { branches },
+        Stop::Halts => *wait = Wait::Halted,
+        Stop::Ends => *wait = Wait::Done,
+        Stop::Loops(_) | Stop::Offers(_, _) | Stop::Awaits(_) => unreachable!(),
+    }
+}
+
+/// What the process stands at that was handed over is put into its task.
+pub(crate) fn put_wait(end: TurnEnd, scratch: &mut Scratch, wait: &mut Wait)
+    requires { IsLeftReady end wait.old }
+    ensures { wait.new ≡ standing_at end (left_message scratch.old) wait.old }
+{
+    match end {
+        TurnEnd::Ready | TurnEnd::Other => {}
+        TurnEnd::Offers(tag, chan) => {
+            let message = scratch.take_message(tag);
+            *wait = Wait::Offers { chan, message };
+        }
+        TurnEnd::Awaits(chan) => *wait = Wait::Awaits { chan },
+    }
 }

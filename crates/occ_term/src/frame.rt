@@ -6,7 +6,7 @@ ghost use Rattle.occ_term.specs.Values.{values_from};
 
 use crate::cell_rows::CellRow;
 use crate::frame_cells::FrameCells;
-use crate::message::same_values;
+use crate::same::{same_counts, same_values};
 use std::alloc::{AllocError, Global};
 use std::marker::Model;
 
@@ -59,7 +59,9 @@ impl Frame {
         loops: usize,
         from: &Frame,
     ) -> Result<Frame, AllocError>
-        ensures { IfOk result (λ f. f ≡ record { cells = cells.now; values = map (at from.now) cells.now; left = replicate loops 0 }) }
+        ensures { IfOk result
+            (λ f. f ≡ record
+            { cells = cells.now; values = map (at from.now) cells.now; left = replicate loops 0 }) }
     {
         let values = values_of(alloc, cells, from)?;
         let left = vec![in alloc; 0; loops]?;
@@ -184,14 +186,8 @@ impl Frame {
     {
         self.cells.is_same(&other.cells)
             && same_values(&self.values, &other.values)
-            && same_numbers(&self.left, &other.left)
+            && same_counts(&self.left, &other.left)
     }
-}
-
-fn same_numbers(numbers: &[u64], others: &[u64]) -> bool
-    ensures { IsTrue result ↔ (numbers.now ≡ others.now) }
-{
-    numbers == others
 }
 
 /// The values that a frame has of these cells.
@@ -207,7 +203,8 @@ fn values_of(alloc: Global, cells: &FrameCells, from: &Frame) -> Result<Vec<i64>
 
 /// Adds the values that a frame has of the cells in a row.
 fn add_values(values: &mut Vec<i64>, row: &CellRow, from: &Frame) -> Result<(), AllocError>
-    ensures { OnOk result (values.new.items ≡ values.old.items ++ map (at from.now) (cells_of row.now)) }
+    ensures { OnOk result
+        (values.new.items ≡ values.old.items ++ map (at from.now) (cells_of row.now)) }
 {
     match from.row(row.first, row.count()) {
         Some(held) => values.extend_from_slice(held)?,
@@ -217,7 +214,8 @@ fn add_values(values: &mut Vec<i64>, row: &CellRow, from: &Frame) -> Result<(), 
 }
 
 fn add_each(values: &mut Vec<i64>, row: &CellRow, from: &Frame) -> Result<(), AllocError>
-    ensures { OnOk result (values.new.items ≡ values.old.items ++ map (at from.now) (cells_of row.now)) }
+    ensures { OnOk result
+        (values.new.items ≡ values.old.items ++ map (at from.now) (cells_of row.now)) }
 {
     for i in 0..row.count() {
         values.push(from.value_at(row.first + i as u64))?;
@@ -261,7 +259,8 @@ fn set_in(values: &mut [i64], place: usize, value: i64)
 
 fn values_in_row(values: &[i64], place: usize, count: usize) -> Option<&[i64]>
     requires { place + count < 2 ^ 64 }
-    ensures { IfSome result (λ row. (row.now ≡ take count (drop place values.now)) × (place + count ≤ length values.now)) }
+    ensures { IfSome result (λ row. (row.now ≡ take count (drop place values.now))
+        × (place + count ≤ length values.now)) }
 {
     if place + count <= values.len() {
         Some(&values[place..place + count])

@@ -140,7 +140,8 @@ impl FrameCells {
     /// The first of so many places in a row that hold as many cells in a row, from the first cell on. None where it isn't
     /// seen that there are such places.
     pub(crate) fn row_of(&self, first: u64, count: usize) -> Option<usize>
-        ensures row { IfSome result (λ place. (k : ℕ) → k < count → place_in self.now (first + k) ≡ Some (place + k)) }
+        ensures row { IfSome result
+            (λ place. (k : ℕ) → k < count → place_in self.now (first + k) ≡ Some (place + k)) }
         ensures within { IfSome result (λ place. place + count ≤ length self.now) }
         ensures few { IfSome result (λ place. place + count < 2 ^ 64) }
     {

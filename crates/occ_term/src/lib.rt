@@ -19,6 +19,7 @@ pub mod operator;
 pub mod parts;
 pub mod primitive;
 pub mod protocol;
+pub mod same;
 pub mod sizes;
 pub mod term;
 pub mod text;

@@ -3,6 +3,7 @@ ghost use Rattle.std.specs.Prelude.{◌≡◌, ◌↔◌, IsTrue, IfOk};
 
 use crate::parts::Parts;
 use crate::primitive::Primitive;
+use crate::same::same_values;
 use sqlite_items::Items;
 use std::alloc::{AllocError, Global};
 
@@ -76,13 +77,6 @@ impl Message {
     {
         self.tag == other.tag && same_parts(self.items.as_slice(), other.items.as_slice())
     }
-}
-
-/// Whether both hold the same values.
-pub(crate) fn same_values(values: &[i64], others: &[i64]) -> bool
-    ensures { IsTrue result ↔ (values.now ≡ others.now) }
-{
-    values == others
 }
 
 fn same_parts(parts: &[Part], others: &[Part]) -> bool

@@ -6,6 +6,7 @@ ghost use Rattle.occ_term.specs.Names.{component_name, with_subscripts};
 
 use crate::primitive::Primitive;
 use crate::protocol::Protocol;
+use crate::same::{same_bytes, same_numbers};
 use sqlite_items::Items;
 use std::alloc::{AllocError, Global};
 use std::marker::Model;
@@ -97,7 +98,8 @@ impl Name {
     /// All of the name as what components share. The error is a refused growth.
     #[tactic(auto, using(crate::proofs::Components::one_more_subscript))]
     fn as_stem(&self, alloc: Global) -> Result<Arc<Stem, Global>, AllocError>
-        ensures { IfOk result (λ s. with_subscripts (arc_value s).letters (arc_value s).subscripts ≡ self.now) }
+        ensures { IfOk result
+            (λ s. with_subscripts (arc_value s).letters (arc_value s).subscripts ≡ self.now) }
     {
         match self.last {
             None => Arc::try_clone(&self.stem),
@@ -165,20 +167,6 @@ impl Name {
         }
         Ok(())
     }
-}
-
-/// Whether both hold the same bytes.
-fn same_bytes(bytes: &[u8], others: &[u8]) -> bool
-    ensures { IsTrue result ↔ (bytes.now ≡ others.now) }
-{
-    bytes == others
-}
-
-/// Whether both hold the same numbers.
-fn same_numbers(numbers: &[u32], others: &[u32]) -> bool
-    ensures { IsTrue result ↔ (numbers.now ≡ others.now) }
-{
-    numbers == others
 }
 
 /// Writes subscripts, each in its brackets.

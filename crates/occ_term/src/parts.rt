@@ -98,7 +98,8 @@ impl Parts {
 
     /// Takes the last one away.
     pub fn pop(&mut self) -> Option<Part>
-        ensures { MatchOption result ((self.old ≡ []) × (self.new ≡ [])) (λ last. self.old ≡ self.new ++ last ∷ []) }
+        ensures { MatchOption result
+            ((self.old ≡ []) × (self.new ≡ [])) (λ last. self.old ≡ self.new ++ last ∷ []) }
     {
         match std::mem::replace(&mut self.kept, Kept::None) {
             Kept::None => None,

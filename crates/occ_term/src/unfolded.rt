@@ -44,7 +44,8 @@ impl Model for Unfolded {
 impl Unfolded {
     /// A program of these parts.
     pub fn new(term: Term, cells: Vec<Cell>, channels: Vec<Channel>) -> Unfolded
-        requires { IsWellFormed (record { term = term; cells = cells.items; channels = channels.items }) }
+        requires { IsWellFormed
+            (record { term = term; cells = cells.items; channels = channels.items }) }
         ensures { result ≡ record { term = term; cells = cells.items; channels = channels.items } }
     {
         Unfolded {

@@ -101,7 +101,8 @@ fn first_of_component(
 ) -> Result<u32, Fault>
     requires few { FewCells first (size ∷ others.now) }
     requires bounded { Bounded (expression_of e.now) (at frame.now) }
-    ensures { evaluated result ≡ first_of_component line first size others.now (expression_of e.now) (at frame.now) }
+    ensures { evaluated result
+        ≡ first_of_component line first size others.now (expression_of e.now) (at frame.now) }
 {
     let v = evaluate(e, frame)?;
     let i = subscript(line, size, v)?;

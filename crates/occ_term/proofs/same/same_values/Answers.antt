@@ -1,6 +1,6 @@
 use Rattle.std.proofs.lemmas.Bool.Decides.{Decides-int_eq}
 use Rattle.std.proofs.lemmas.Slice.Eq.{slice_eq-Decides}
-use Rattle.occ_term.proofs.message.same_values.Goals as goal
+use Rattle.occ_term.proofs.same.same_values.Goals as goal
 
 pub returns : goal.returns
 returns c = slice_eq-Decides Decides-int_eq _ _ _ c.eq.ensures
