@@ -57,10 +57,10 @@ module _ (code : List (Instr ℕ)) where
     -- an open arm and what it is in the term: from the root on, its number leads to what is done once it is taken
     abbrev pub ArmLaid : Arm → Enabled → ℕ → Type 0
     ArmLaid a (SkipArm again t) mid =
-        (n : ℕ) × (b : ℕ) × (skip : ℕ) × (a.place ≡ suc n) × (a.chan ≡ None) × (a.indices ≡ indices_in again) × SetsAgain n root again b
+        (n : ℕ) × (b : ℕ) × (skip : ℕ) × (a.number ≡ suc n) × (a.chan ≡ None) × (a.indices ≡ indices_in again) × SetsAgain n root again b
         × (slice_get code b ≡ Some (IfTaken skip)) × TermAt code loops slot (b + 1) t mid × IsTrue (is_numbered a)
     ArmLaid a (InputArm again c list) mid =
-        (n : ℕ) × (b : ℕ) × (skip : ℕ) × (a.place ≡ suc n) × (a.chan ≡ Some c) × (a.indices ≡ indices_in again) × SetsAgain n root again b
+        (n : ℕ) × (b : ℕ) × (skip : ℕ) × (a.number ≡ suc n) × (a.chan ≡ Some c) × (a.indices ≡ indices_in again) × SetsAgain n root again b
         × (slice_get code b ≡ Some (IfTaken skip)) × ListAt code loops slot (b + 1) list mid × IsTrue (is_numbered a)
 
     abbrev pub ArmsLaid : List Arm → List Enabled → ℕ → Type 0

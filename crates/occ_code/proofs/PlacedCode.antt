@@ -357,10 +357,10 @@ module _ (cells : List ℕ) (loops : ℕ) where
 
     single_placed : {a b : Task} → Shaped a.frame → SingleStop by_cell code a b → SingleStop by_place by_places a b × Shaped b.frame
     single_placed {a = a} h x =
-        let begins = subst Begins x.begins (begins_shape a.wait a.place a.frame h) in
+        let begins = subst Begins x.begins (begins_shape a.wait a.pc a.frame h) in
         let w = walks_placed begins x.walks in
         let shape = subst Shapes x.stops (effect_shapes x.last w.1) in (
-          record { first = x.first; last = x.last; place = x.place; frame = x.frame; wait = x.wait; begins = x.begins; walks = w.0; stops = sym (effect_same x.last w.1) ∙ x.stops; comes_to = x.comes_to },
+          record { first = x.first; last = x.last; pc = x.pc; frame = x.frame; wait = x.wait; begins = x.begins; walks = w.0; stops = sym (effect_same x.last w.1) ∙ x.stops; comes_to = x.comes_to },
           subst (λ t. Shaped t.frame) (sym x.comes_to) shape,
         )
 

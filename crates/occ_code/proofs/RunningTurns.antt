@@ -270,7 +270,7 @@ module _ (d : Declared) (few : AreNumbered d) (code : List (Instr ℕ)) (loops :
 
 module _ (d : Declared) (few : AreNumbered d) (code : List (Instr ℕ)) (cells writes : List ℕ) (loops_ : ℕ) where
   abbrev task : ℕ → ℕ → ℕ → Variables → Wait → Task
-  task number turns pc f w = record { number = number; turns = turns; place = pc; frame = f; wait = w }
+  task number turns pc f w = record { number = number; turns = turns; pc = pc; frame = f; wait = w }
 
   holds_as : (f : Variables) (s : Store) → Agrees d cells f s → HoldsAs cells f s
   holds_as f s h = record { shape = h.shape; same = h.same }
@@ -348,7 +348,7 @@ module _ (d : Declared) (few : AreNumbered d) (code : List (Instr ℕ)) (cells w
         wait = r.wait;
         rest = r.rest;
         store = x.store;
-        single = record { first = b.first; last = r.stops_at.last; place = r.stands; frame = r.frame; wait = r.wait; begins = b.begins; walks = r.stops_at.walks; stops = r.stops_at.stops; comes_to = refl };
+        single = record { first = b.first; last = r.stops_at.last; pc = r.stands; frame = r.frame; wait = r.wait; begins = b.begins; walks = r.stops_at.walks; stops = r.stops_at.stops; comes_to = refl };
         turn = x.turn;
         agrees = record { shape = x.holds.shape; same = x.holds.same; typed = λ c m. subst (λ v. IsTrue (is_of_declared (d.types c) v)) (sym (y.holds.same c m)) (kept.store c) };
         types = kept.types;
@@ -394,7 +394,7 @@ module _ (d : Declared) (few : AreNumbered d) (code : List (Instr ℕ)) (cells w
       → Held code cells d (uses_of_enabled e).reads → Held code cells d (uses_of_contexts k).reads → ArmLaid code loops_ slot pc a e mid → ToEnd d few code loops_ cells f.left slot mid k
       → SameArm d (Alike n d the_body) (the_task number turns pc f (Chooses pri all)) k a e
   same_arm n number turns pc f k slot mid pri all a (SkipArm settings t) go room h hk u uk l e =
-      let w : Took a.place a.indices None ≡ Took (suc l.0) (indices_in settings) None = ap (λ p. Took p a.indices None) l.3 ∙ ap (λ is. Took (suc l.0) is None) l.5 in (
+      let w : Took a.number a.indices None ≡ Took (suc l.0) (indices_in settings) None = ap (λ p. Took p a.indices None) l.3 ∙ ap (λ is. Took (suc l.0) is None) l.5 in (
         l.4,
         l.5,
         subst (λ x. Alike n d the_body (the_task number turns pc f x) (left (Taking settings (SkipTaken t)) k)) (sym w)
@@ -404,7 +404,7 @@ module _ (d : Declared) (few : AreNumbered d) (code : List (Instr ℕ)) (cells w
     l.4,
     l.5,
     λ m fit. (
-        let w : Took a.place a.indices (Some m) ≡ Took (suc l.0) (indices_in settings) (Some m) = ap (λ p. Took p a.indices (Some m)) l.3 ∙ ap (λ is. Took (suc l.0) is (Some m)) l.5 in
+        let w : Took a.number a.indices (Some m) ≡ Took (suc l.0) (indices_in settings) (Some m) = ap (λ p. Took p a.indices (Some m)) l.3 ∙ ap (λ is. Took (suc l.0) is (Some m)) l.5 in
         subst (λ x. Alike n d the_body (the_task number turns pc f x) (left (Taking settings (MessageTaken list m)) k)) (sym w)
         (go number turns pc f (Took (suc l.0) (indices_in settings) (Some m)) (left (Taking settings (MessageTaken list m)) k) room (takes_arm k slot mid l.0 l.1 l.2 l.6 l.7 l.8 e)
         ((h.0.0, (h.0.1.0, h.0.1.2, fits_protocol (d.protocols c) h.0.1.0 m h.0.1.1 fit)), hk) (held_both (uses_of_doing (Taking settings (MessageTaken list m))).reads (uses_of_contexts k).reads u uk))),
@@ -465,8 +465,8 @@ module _ (d : Declared) (few : AreNumbered d) (code : List (Instr ℕ)) (cells w
         alike = λ n first small is_first.
             let at_zero = alike_all n first.number first.turns 0 first.frame Ready (left (Do t) []) (ap length is_first.none_left ∙ length-replicate loops_ 0) (does [] 0 last lays_out (record { last = last; codes = (refl, stays); ends_there = ends_there })) (typed, tt)
             (λ c m. subst IsTrue (sym (used.members c)) (or_left _ _ (only_first _ m))) in
-            let there = subst (λ p. Alike n d the_body (the_task first.number first.turns p first.frame Ready) (left (Do t) [])) (sym is_first.place) at_zero in
-            subst (λ w. Alike n d the_body (the_task first.number first.turns first.place first.frame w) (left (Do t) [])) (sym is_first.wait) there;
+            let there = subst (λ p. Alike n d the_body (the_task first.number first.turns p first.frame Ready) (left (Do t) [])) (sym is_first.pc) at_zero in
+            subst (λ w. Alike n d the_body (the_task first.number first.turns first.pc first.frame w) (left (Do t) [])) (sym is_first.wait) there;
       }
     where
       only_first : (a : Bool) → IsTrue (a || false) → IsTrue a

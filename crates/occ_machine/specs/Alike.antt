@@ -29,7 +29,7 @@ Alike (suc n) d body t r = (s : Store) → Agrees d body.cells t.frame s → Sam
 
 -- a process's first task: any frame of the body's cells, and no value left of a replicated SEQ
 pub record IsFirst (body : Body) (t : Task) : Type 0 where
-  pub place : t.place ≡ 0
+  pub pc : t.pc ≡ 0
   pub wait : t.wait ≡ Ready
   pub frame : Frames body.cells t.frame
   pub none_left : t.frame.left ≡ replicate body.loops 0

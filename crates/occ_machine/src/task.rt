@@ -10,7 +10,7 @@ use std::alloc::{AllocError, Global};
 #[derive(Debug, Drop)]
 pub struct Arm {
     /// What it is named by in the code of its ALT: how far it stands from the end of that code, never 0.
-    pub place: u32,
+    pub number: u32,
     /// The channel that it inputs from; none for SKIP.
     pub chan: Option<u32>,
     /// The values of its replicators' indices, outermost first.
@@ -62,8 +62,8 @@ pub struct Task {
     pub number: u32,
     /// How many turns it has taken.
     pub turns: u64,
-    /// The place in the body where it goes on.
-    pub place: u32,
+    /// Its program counter: the instruction of its body where it goes on.
+    pub pc: u32,
     /// Its variables.
     pub frame: Frame,
     /// What it stands at.
@@ -75,7 +75,7 @@ impl Drop for Task {
         let Task {
             number: _,
             turns: _,
-            place: _,
+            pc: _,
             frame: _,
             wait: _,
         } = self;
@@ -88,7 +88,7 @@ impl Arm {
         ensures { IfOk result (λ copy. copy ≡ self.now) }
     {
         Ok(Arm {
-            place: self.place,
+            number: self.number,
             chan: self.chan,
             indices: Items::from_slice(alloc, self.indices.as_slice())?,
         })
@@ -98,7 +98,7 @@ impl Arm {
     pub fn is_same(&self, other: &Arm) -> bool
         ensures { IsTrue result ↔ (self.now ≡ other.now) }
     {
-        self.place == other.place
+        self.number == other.number
             && self.chan == other.chan
             && same_values(self.indices.as_slice(), other.indices.as_slice())
     }
@@ -177,7 +177,7 @@ impl Task {
         Ok(Task {
             number: self.number,
             turns: self.turns,
-            place: self.place,
+            pc: self.pc,
             frame: self.frame.copy(alloc)?,
             wait: self.wait.copy(alloc)?,
         })
@@ -189,7 +189,7 @@ impl Task {
     {
         self.number == other.number
             && self.turns == other.turns
-            && self.place == other.place
+            && self.pc == other.pc
             && self.frame.is_same(&other.frame)
             && self.wait.is_same(&other.wait)
     }

@@ -29,8 +29,8 @@ begins_may W.Done pc f first e = absurd cc
 begins_may (W.Faulted x) pc f first e = absurd cc
 
 stops_may : {code : List (Instr ℕ)} {q : ℕ} {a b : Task} → StopsIn by_place code q a b → IsTrue (may_go a.wait)
-stops_may {a = a} (stops_here s h) = begins_may a.wait a.place a.frame s.first s.begins
-stops_may {a = a} (passes_on s h r) = begins_may a.wait a.place a.frame s.first s.begins
+stops_may {a = a} (stops_here s h) = begins_may a.wait a.pc a.frame s.first s.begins
+stops_may {a = a} (passes_on s h r) = begins_may a.wait a.pc a.frame s.first s.begins
 
 pub turn_may : (body : Body) (a b : Task) → Stopping body a b → IsTrue (may_go a.wait)
 turn_may body a b h = stops_may h.stops

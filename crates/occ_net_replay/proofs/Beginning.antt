@@ -130,7 +130,7 @@ module _ (d : Declared) (p : Program) (procs : List Numbered) (protocol : d.prot
       waits_not i u h w e f = true≢false (sym (ready i u h) ∙ ap may_go e ∙ f)
 
       is_first : IsFirst b.body (main_task b.body)
-      is_first = record { place = refl; wait = refl; frame = record { cells_are = refl; values_for_all = length-replicate (length b.body.cells) (pos 0) }; none_left = refl }
+      is_first = record { pc = refl; wait = refl; frame = record { cells_are = refl; values_for_all = length-replicate (length b.body.cells) (pos 0) }; none_left = refl }
 
       own : Own d p procs k (λ c. pos 0) (first_tasks p.bodies) 0 (left (Do t) []) no_processes
       own =

@@ -180,7 +180,7 @@ first_arm pick pri arms a e q =
     cc
 
 abbrev with_wait : Wait → Task
-with_wait w = record { number = 2; turns = 2; place = 6; frame = record { cells = []; values = []; left = [] }; wait = w }
+with_wait w = record { number = 2; turns = 2; pc = 6; frame = record { cells = []; values = []; left = [] }; wait = w }
 
 abbrev two_arms : List Arm
 two_arms = arm 10 (Some 3) ∷ arm 20 (Some 4) ∷ []
@@ -243,7 +243,7 @@ priority pick b (settles (meets part (joined {c = c} {m = m} (task_gives {n = ze
     ∙ ap (λ z. slice_set (given 0 t) 2 (Some (with_wait (W.Took 10 [] (Some z))))) is
     ∙ ap (λ z. slice_set (given 0 z) 2 (Some (with_wait (W.Took 10 [] (Some (whole_number 5)))))) (its_task h)
   where
-    its_task : Some (task 0 (W.Offers 3 (whole_number 5))) ≡ Some (Some t) → t ≡ record { number = 0; turns = 2; place = 6; frame = record { cells = []; values = []; left = [] }; wait = W.Offers 3 (whole_number 5) }
+    its_task : Some (task 0 (W.Offers 3 (whole_number 5))) ≡ Some (Some t) → t ≡ record { number = 0; turns = 2; pc = 6; frame = record { cells = []; values = []; left = [] }; wait = W.Offers 3 (whole_number 5) }
     its_task k = cc
 priority pick b (settles (meets part (joined (task_gives {n = suc zero} {t = t} h w) g))) = absurd (after_second t (waits_at h w) refl g)
 priority pick b (settles (meets part (joined (task_gives {n = suc (suc zero)} h w) g))) = let q = waits_at h w in absurd cc

@@ -143,7 +143,7 @@ module _ (d : Declared) (p : Program) (procs : List Numbered) (belongs_at : (n :
         let same : b.term ≡ t = term_at n t e in
         let task : Task = first_task n (turns_at tasks n) (branch_frame b.body f) in
         let long : length (map (at f) b.body.cells) ≡ length b.body.cells = length-map b.body.cells (at f) in
-        let is_first : IsFirst b.body task = record { place = refl; wait = refl; frame = record { cells_are = refl; values_for_all = long }; none_left = refl } in
+        let is_first : IsFirst b.body task = record { pc = refl; wait = refl; frame = record { cells_are = refl; values_for_all = long }; none_left = refl } in
         let whole = uses_of b.term in
         record {
           belongs = b;

@@ -29,7 +29,7 @@ variables cells values left = record { cells = cells; values = map pos values; l
 
 -- after so many turns, with these variables
 abbrev pub after : ℕ → ℕ → Variables → Wait → Option Task
-after n turns f w = Some (record { number = n; turns = turns; place = 6; frame = f; wait = w })
+after n turns f w = Some (record { number = n; turns = turns; pc = 6; frame = f; wait = w })
 
 -- after two turns, without variables
 abbrev pub task : ℕ → Wait → Option Task
@@ -91,11 +91,11 @@ MeetingRows =
 -- ---- choices: with standing offers; with SKIP; with the keyboard; an offer that comes to a process that waits
 
 abbrev pub arm : ℕ → Option ℕ → Arm
-arm place channel = record { place = place; chan = channel; indices = [] }
+arm place channel = record { number = place; chan = channel; indices = [] }
 
 -- an arm from 3, for this value of its index
 abbrev pub replicated : ℕ → Arm
-replicated v = record { place = 10; chan = Some 3; indices = pos v ∷ [] }
+replicated v = record { number = 10; chan = Some 3; indices = pos v ∷ [] }
 
 -- two processes offer, on 3 and on 4, and one chooses
 abbrev pub choosing_among : Bool → List Arm → Tasks
@@ -198,7 +198,7 @@ abbrev pub waiting : Option Task
 waiting = parent (4 ∷ 5 ∷ 6 ∷ []) (Joins (1 ∷ 2 ∷ []))
 
 abbrev pub begins : ℕ → ℕ → Variables → Option Task
-begins n turns f = Some (record { number = n; turns = turns; place = 0; frame = f; wait = Ready })
+begins n turns f = Some (record { number = n; turns = turns; pc = 0; frame = f; wait = Ready })
 
 abbrev pub branches : Wait → Wait → Tasks
 branches v w = after 1 3 (variables (0 ∷ []) (14 ∷ []) []) v ∷ after 2 7 (variables (1 ∷ 2 ∷ []) (15 ∷ 16 ∷ []) (0 ∷ 0 ∷ [])) w ∷ []
@@ -221,7 +221,7 @@ faults_at lines = map (fault Arith) lines
 
 -- where these faults were noted, and a turn of process 0 ends so
 abbrev pub noted_after : List ℕ → Wait → List Fault
-noted_after lines w = (took_turn (noting (faults_at lines) (None ∷ [])) 0 (record { number = 0; turns = 1; place = 6; frame = variables [] [] []; wait = w })).noted
+noted_after lines w = (took_turn (noting (faults_at lines) (None ∷ [])) 0 (record { number = 0; turns = 1; pc = 6; frame = variables [] [] []; wait = w })).noted
 
 abbrev pub NotedRows : Type 0
 NotedRows =

@@ -56,7 +56,7 @@ with_task net n t = record net { tasks = slice_set net.tasks n (Some t) }
 
 -- a process at its start, with the values of these variables
 abbrev pub first_task : ℕ → ℕ → Variables → Task
-first_task number turns f = record { number = number; turns = turns; place = 0; frame = f; wait = Ready }
+first_task number turns f = record { number = number; turns = turns; pc = 0; frame = f; wait = Ready }
 
 abbrev pub none_begun : List Body → Tasks
 none_begun [] = []
@@ -123,7 +123,7 @@ has_taken t m = record t { wait = Took 0 [] (Some m) }
 
 -- with the arm that it chose
 abbrev pub took_arm : Task → Arm → Option Message → Task
-took_arm t a m = record t { wait = Took a.place a.indices m }
+took_arm t a m = record t { wait = Took a.number a.indices m }
 
 -- the message of one byte
 abbrev pub byte_message : ℕ → Message

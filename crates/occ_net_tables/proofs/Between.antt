@@ -252,7 +252,7 @@ module _ (p : Program) (kb : List ℕ) (old : Tables) (number place : ℕ) (afte
       let a = x.arm in
       let took : TakesBy pick (standing now) c x.task.wait a = takes_as pick c (offered_by (Some c) []) (standing now) x.task.wait a (λ pri arms q. sym (chosen_by_new (standing net) (standing now) (offered_by (Some c) []) (stands_new c m w) pri pick arms (x.unready pri arms q))) x.takes in
       let there : HasTask (slice_set now.tasks number (Some (made_ready after))) taker x.task = ap (λ l. slice_get l taker) as_ready ∙ x.there in
-      let s = wake_listener old.tasks.items old.ready.items old.offering.items old.awaiting.items old.parents.items old.unfinished.items old.fault mid.sound taker x.task x.there x.task.wait a.place a.indices (Some m) x.listener refl in
+      let s = wake_listener old.tasks.items old.ready.items old.offering.items old.awaiting.items old.parents.items old.unfinished.items old.fault mid.sound taker x.task x.there x.task.wait a.number a.indices (Some m) x.listener refl in
       let given : Net = record (with_task now number (made_ready after)) { output = one_more net.output c m } in
       record {
         next = traced (record (with_task given taker (took_arm x.task a (Some m))) { input = one_more net.input c m }) (communication c (OfProcess number) (OfProcess taker) m);
@@ -314,7 +314,7 @@ module _ (p : Program) (kb : List ℕ) (old : Tables) (number place : ℕ) (afte
       let rest = drop (old.used + 1) kb in
       let tasks = g.tasks (made_ready after) there_old in
       let m = byte_message b in
-      let s = takes old.tasks.items old.ready.items old.offering.items old.awaiting.items old.parents.items old.unfinished.items old.fault mid.sound number (made_ready after) there_old refl a.place a.indices (Some m) in
+      let s = takes old.tasks.items old.ready.items old.offering.items old.awaiting.items old.parents.items old.unfinished.items old.fault mid.sound number (made_ready after) there_old refl a.number a.indices (Some m) in
       let given : Net = record now { keyboard = rest; output = one_more net.output 0 m } in
       record {
         next = traced (record (with_task given number (took_arm after a (Some m))) { input = one_more net.input 0 m }) (communication 0 Keyboard (OfProcess number) m);
@@ -355,7 +355,7 @@ module _ (p : Program) (kb : List ℕ) (old : Tables) (number place : ℕ) (afte
       let tasks = g.tasks (made_ready after) there_old in
       let s = wake_offerer old.tasks.items old.ready.items old.offering.items old.awaiting.items old.parents.items old.unfinished.items old.fault mid.sound giver o.task o.there c m o.waits in
       let still : HasTask (slice_set old.tasks.items giver (Some (made_ready o.task))) number (made_ready after) = set_other old.tasks.items giver number (Some (made_ready o.task)) (λ q. x.apart (sym q)) ∙ there_old in
-      let s' = takes (slice_set old.tasks.items giver (Some (made_ready o.task))) (put_in giver old.ready.items) (slice_set old.offering.items c None) old.awaiting.items old.parents.items old.unfinished.items old.fault s number (made_ready after) still refl a.place a.indices (Some m) in
+      let s' = takes (slice_set old.tasks.items giver (Some (made_ready o.task))) (put_in giver old.ready.items) (slice_set old.offering.items c None) old.awaiting.items old.parents.items old.unfinished.items old.fault s number (made_ready after) still refl a.number a.indices (Some m) in
       let given : HasTask now.tasks giver o.task = set_other net.tasks number giver (Some after) x.apart ∙ (waiting_old giver o.task o.there (ap may_go o.waits)).1 in
       let got : HasTask (slice_set now.tasks giver (Some (made_ready o.task))) number after = set_other now.tasks giver number (Some (made_ready o.task)) (λ q. x.apart (sym q)) ∙ mine p.bodies pick number net mid.before after mid.has_task in
       let after_giving : Net = record (with_task now giver (made_ready o.task)) { output = one_more net.output c m } in

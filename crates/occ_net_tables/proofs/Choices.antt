@@ -87,7 +87,7 @@ module _ (p : Program) (kb : List ℕ) (old : Tables) (number place : ℕ) (afte
 
   pub was_skipped : (new : Tables) (pick : ℕ) (a : Arm) → arm_chosen pri pick tabled arms ≡ Some a → a.chan ≡ None → new.tasks.items ≡ slice_set old.tasks.items number (Some (took_arm (made_ready after) a None)) → new.used ≡ old.used → new.trace ≡ old.trace → new.ready.items ≡ old.ready.items → new.offering.items ≡ old.offering.items → new.awaiting.items ≡ old.awaiting.items → new.parents.items ≡ old.parents.items → new.unfinished.items ≡ old.unfinished.items → new.fault ≡ old.fault → SettlesTo p kb pick number after net new
   was_skipped new pick a e f tasks used trace e1 e2 e3 e4 e5 e6 =
-      let s = takes old.tasks.items old.ready.items old.offering.items old.awaiting.items old.parents.items old.unfinished.items old.fault mid.sound number (made_ready after) (there_old p kb old number place after net mid) refl a.place a.indices None in
+      let s = takes old.tasks.items old.ready.items old.offering.items old.awaiting.items old.parents.items old.unfinished.items old.fault mid.sound number (made_ready after) (there_old p kb old number place after net mid) refl a.number a.indices None in
       record {
         next = with_task then_ number (took_arm after a None);
         settles = settles (skips at_number w (chosen_now pick ∙ e) f);

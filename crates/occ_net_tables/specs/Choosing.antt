@@ -34,7 +34,7 @@ arm_at arms (Some place) = slice_get arms place
 
 -- an input takes its message as an arm with number 0
 abbrev pub input_arm : ℕ → Arm
-input_arm c = record { place = 0; chan = Some c; indices = [] }
+input_arm c = record { number = 0; chan = Some c; indices = [] }
 
 -- a process that waits so takes a message from the channel by this arm
 pub data TakesBy (pick : ℕ) (offers : ℕ → Bool) (c : ℕ) : Wait → Arm → Type 0 where

@@ -55,7 +55,7 @@ impl Tables {
         let task = Task {
             number,
             turns,
-            place: 0,
+            pc: 0,
             frame,
             wait: Wait::Ready,
         };

@@ -106,7 +106,7 @@ fn copied_arm(alloc: Global, arms: &[Arm], at: usize) -> Result<Arm, AllocError>
     let arm = &arms[at];
     let indices = Items::from_slice(alloc, arm.indices.as_slice())?;
     Ok(Arm {
-        place: arm.place,
+        number: arm.number,
         chan: arm.chan,
         indices,
     })
@@ -118,7 +118,7 @@ fn input_arm(alloc: Global, chan: u32) -> Arm
     ensures { result ≡ input_arm chan }
 {
     Arm {
-        place: 0,
+        number: 0,
         chan: Some(chan),
         indices: Items::new(alloc),
     }
@@ -127,11 +127,13 @@ fn input_arm(alloc: Global, chan: u32) -> Arm
 /// What a process stands at that took this arm, with its message.
 #[inline(always)]
 fn took(arm: Arm, message: Option<Message>) -> Wait
-    ensures { result ≡ Wait.Took arm.place arm.indices message }
+    ensures { result ≡ Wait.Took arm.number arm.indices message }
 {
-    let Arm { place, indices, .. } = arm;
+    let Arm {
+        number, indices, ..
+    } = arm;
     Wait::Took {
-        arm: place,
+        arm: number,
         indices,
         message,
     }

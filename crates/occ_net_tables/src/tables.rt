@@ -112,7 +112,7 @@ impl Tables {
         let main = Task {
             number: 0,
             turns: 0,
-            place: 0,
+            pc: 0,
             frame,
             wait: Wait::Ready,
         };

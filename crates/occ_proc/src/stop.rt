@@ -41,21 +41,21 @@ pub(crate) fn passed_back(stop: &Stop, left: u32) -> Option<usize>
 }
 
 /// Where the process goes on after a stop at this place.
-pub(crate) fn place_after(place: u32, stop: &Stop) -> u32
-    requires { place + 1 < 2 ^ 32 }
-    ensures { result ≡ place_after place stop.now }
+pub(crate) fn place_after(pc: u32, stop: &Stop) -> u32
+    requires { pc + 1 < 2 ^ 32 }
+    ensures { result ≡ place_after pc stop.now }
 {
     match stop {
-        Stop::Loops(count) => before(place, *count),
-        Stop::Chooses(_, count, _) => before(place, *count),
-        Stop::Offers(_, _) | Stop::Awaits(_) | Stop::Forks(_) => place + 1,
-        Stop::Faults(_) | Stop::Halts | Stop::Ends => place,
+        Stop::Loops(count) => before(pc, *count),
+        Stop::Chooses(_, count, _) => before(pc, *count),
+        Stop::Offers(_, _) | Stop::Awaits(_) | Stop::Forks(_) => pc + 1,
+        Stop::Faults(_) | Stop::Halts | Stop::Ends => pc,
     }
 }
 
 /// The place so many instructions before.
-pub(crate) fn before(place: u32, count: usize) -> u32
-    ensures { result ≡ place - count }
+pub(crate) fn before(pc: u32, count: usize) -> u32
+    ensures { result ≡ pc - count }
 {
-    (place as usize).saturating_sub(count) as u32
+    (pc as usize).saturating_sub(count) as u32
 }

@@ -118,7 +118,7 @@ process_line names readers writers name stop n w = on_line n name stop (standing
 abbrev pub task_line : Names → (readers writers : Noted) → List Known → ℕ → Option (Option Task) → List ℕ
 task_line names readers writers known n None = []
 task_line names readers writers known n (Some None) = []
-task_line names readers writers known n (Some (Some t)) = process_line names readers writers (name_of known n) (stop_of known n t.wait t.place) n t.wait
+task_line names readers writers known n (Some (Some t)) = process_line names readers writers (name_of known n) (stop_of known n t.wait t.pc) n t.wait
 
 -- the lines of the first so many processes
 abbrev pub task_lines : Names → (readers writers : Noted) → List Known → Tasks → ℕ → List ℕ

@@ -352,7 +352,7 @@ fn write_task(
     match tables.task(number) {
         Some(task) => {
             let name = places.name(number);
-            let stop = places.stop(number, &task.wait, task.place);
+            let stop = places.stop(number, &task.wait, task.pc);
             write_standing(alloc, out, channels, ends, number, name, stop, &task.wait)
         }
         None => Ok(()),

@@ -8,7 +8,7 @@ use Rattle.occ_machine.specs.declared.task.Wait.TheVariants.{Done}
 use Rattle.occ_run.specs.declared.tokens.Known.{Known}
 
 abbrev pub no_task : Task
-no_task = record { number = 0; turns = 0; place = 0; frame = record { cells = []; values = []; left = [] }; wait = Done }
+no_task = record { number = 0; turns = 0; pc = 0; frame = record { cells = []; values = []; left = [] }; wait = Done }
 
 -- it is one of these
 abbrev pub Among : Task → List Task → Type 0

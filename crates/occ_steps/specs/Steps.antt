@@ -53,7 +53,7 @@ stop_line (Some s) = codes "line " ++ decimal s.line ++ codes ": "
 
 -- of the process with this number, whose turn left this task
 abbrev pub stopped_text : Names → List Known → ℕ → Task → List ℕ
-stopped_text names known n t = stop_line (stop_of known n t.wait t.place) ++ stop_text names t.wait
+stopped_text names known n t = stop_line (stop_of known n t.wait t.pc) ++ stop_text names t.wait
 
 -- ---- the line of a turn
 

@@ -152,7 +152,7 @@ fn write_stopped(
     ensures { OnOk result (AddsText out.old out.new
         (stopped_text (names_of channels.now) places.now number after.now)) }
 {
-    let stop = places.stop(number, &after.wait, after.place);
+    let stop = places.stop(number, &after.wait, after.pc);
     write_line(alloc, out, stop)?;
     write_stop(alloc, out, channels, &after.wait)
 }

@@ -56,7 +56,7 @@ fn choosing(alloc: Global, turns: u64, index: i64) -> Result<Task, AllocError> {
     indices.push(index)?;
     let mut arms = Items::new(alloc);
     arms.push(Arm {
-        place: 4,
+        number: 4,
         chan: Some(3),
         indices,
     })?;
@@ -64,7 +64,7 @@ fn choosing(alloc: Global, turns: u64, index: i64) -> Result<Task, AllocError> {
     Ok(Task {
         number: 2,
         turns,
-        place: 7,
+        pc: 7,
         frame: Frame::new(alloc, &cells, 1)?,
         wait: Wait::Chooses { pri: true, arms },
     })

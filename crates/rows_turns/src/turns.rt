@@ -51,7 +51,7 @@ fn task_at_start(alloc: Global, body: &Body) -> Result<Task, AllocError>
     Ok(Task {
         number: 0,
         turns: 0,
-        place: 0,
+        pc: 0,
         frame,
         wait: Wait::Ready,
     })

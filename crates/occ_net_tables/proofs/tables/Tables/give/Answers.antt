@@ -19,7 +19,7 @@ returns-clause-ok c = λ t a there takes.
     let old = c.args.self.now.tasks.items in
     let left = c.leave-arm.ensures.left t there in
     let mine = ap (λ l. slice_get l n) left.tasks ∙ set_same old n (Some t) (Some (made_ready t)) there in
-    let wait : c.took.result ≡ W.Took a.place a.indices (Some c.args.message) = c.took.ensures ∙ ap (λ (x : Arm). W.Took x.place x.indices (Some c.args.message)) (c.leave-arm.ensures.arm t a there takes) in
+    let wait : c.took.result ≡ W.Took a.number a.indices (Some c.args.message) = c.took.ensures ∙ ap (λ (x : Arm). W.Took x.number x.indices (Some c.args.message)) (c.leave-arm.ensures.arm t a there takes) in
     record {
       tasks =
           c.set_wait.ensures (made_ready t) mine ∙ ap (λ l. slice_set l n (Some (ready_with t c.took.result))) left.tasks

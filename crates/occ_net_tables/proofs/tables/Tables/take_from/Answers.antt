@@ -24,7 +24,7 @@ returns-clause-ok c = λ t m there waits.
     let taken = c.take_wait.ensures t there in
     let same : c.in-Offers.message ≡ m = (let q = sym c.in-Offers.is ∙ sym taken.waits ∙ waits in cc) in
     let a = c.args.arm in
-    let wait : c.took.result ≡ W.Took a.place a.indices (Some m) = c.took.ensures ∙ ap (λ x. W.Took a.place a.indices (Some x)) same in
+    let wait : c.took.result ≡ W.Took a.number a.indices (Some m) = c.took.ensures ∙ ap (λ x. W.Took a.number a.indices (Some x)) same in
     record {
       tasks = λ u h.
           c.set_wait.ensures u (ap (λ l. slice_get l c.args.number) taken.is ∙ set_other c.args.self.now.tasks.items c.args.giver c.args.number (Some (made_ready t)) c.requires.apart ∙ h)
