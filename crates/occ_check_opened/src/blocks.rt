@@ -6,7 +6,6 @@ ghost use Rattle.occ_check_names.specs.View.{binding_of};
 ghost use Rattle.occ_check_opened.specs.OpenBlocks.{Deepens, HasBlock, Keeps, KeepsOuter, seen_at, seen_inside};
 
 use occ_check_names::fault::CheckFault;
-use occ_check_names::known::Known;
 use occ_check_names::scope::{Binding, Block, Position, Scope};
 use std::alloc::Global;
 
