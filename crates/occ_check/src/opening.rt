@@ -97,13 +97,30 @@ fn statement_opened<'t>(
             options_opened(unfolder, alloc, at, depth, line, e, listed_selections(list))
         }
         Stmt::Variants(channel, list) => {
-            variants_opened(unfolder, alloc, at, depth, line, channel, listed_variants(list))
+            variants_opened(
+                unfolder,
+                alloc,
+                at,
+                depth,
+                line,
+                channel,
+                listed_variants(list),
+            )
         }
         Stmt::Alt(by_priority, arms) => {
             arms_opened(unfolder, at, depth, *by_priority, listed_arms(arms))
         }
         Stmt::AltFor(by_priority, replicator, arm) => {
-            each_arm_opened(unfolder, alloc, at, depth, line, *by_priority, replicator, arm)
+            each_arm_opened(
+                unfolder,
+                alloc,
+                at,
+                depth,
+                line,
+                *by_priority,
+                replicator,
+                arm,
+            )
         }
     }
 }

@@ -25,7 +25,10 @@ use occ_check_opened::entering::headed;
 use occ_check_opened::opened::{Left, Opened, Step};
 use occ_check_opened::unfolder::Unfolder;
 use occ_held::Held;
-use occ_term::{Arm as TermArm, Branch, Choice as TermChoice, Primitive, Protocol, Selection as TermSelection, Term, Variant as TermVariant};
+use occ_term::{
+    Arm as TermArm, Branch, Choice as TermChoice, Primitive, Protocol, Selection as TermSelection,
+    Term, Variant as TermVariant,
+};
 use occ_tree_grammar::tree::line::Replicator;
 use occ_tree_grammar::tree::process::{Arm, Choice, Process, Selection, Variant};
 use sqlite_items::Items;
@@ -69,7 +72,11 @@ pub(crate) fn process_unfolded<'t>(
 
 /// What a statement unfolds to by what is left of it.
 #[cycle(unfolding)]
-fn performed<'t>(unfolder: &mut Unfolder<'t>, alloc: Global, opened: Opened<'t>) -> Result<Term, CheckFault>
+fn performed<'t>(
+    unfolder: &mut Unfolder<'t>,
+    alloc: Global,
+    opened: Opened<'t>,
+) -> Result<Term, CheckFault>
     requires { IsReady opened }
     ensures term { Unfolds term_of result unfolder.new.numbers
         (statement_left unfolder.old opened.entry) }
@@ -91,7 +98,9 @@ fn performed<'t>(unfolder: &mut Unfolder<'t>, alloc: Global, opened: Opened<'t>)
             Ok(Term::Par(branches))
         }
         Left::Copies(replicator, first, count, body) => {
-            let branches = copies_unfolded(unfolder, alloc, at, depth, replicator, first, count, body)?;
+            let branches = copies_unfolded(
+                unfolder, alloc, at, depth, replicator, first, count, body,
+            )?;
             Ok(Term::Par(branches))
         }
         Left::Choices(over, list) => {
@@ -256,7 +265,15 @@ fn options_unfolded<'t>(
     let mut options = Items::new(alloc);
     for selection in selections {
         let base = unfolder.blocks.len();
-        let opened = option_opened(unfolder, alloc, at, depth, primitive, &mut chosen, selection)?;
+        let opened = option_opened(
+            unfolder,
+            alloc,
+            at,
+            depth,
+            primitive,
+            &mut chosen,
+            selection,
+        )?;
         let OpenedOption {
             head,
             body,

@@ -24,7 +24,9 @@ use occ_check_names::numbers::deeper;
 use occ_check_names::scope::Position;
 use occ_check_opened::opened::{Left, Opened, Over, only_arm};
 use occ_check_opened::unfolder::Unfolder;
-use occ_term::{Arm as TermArm, Declaration, Place, Protocol, Reception, Term, TermExpr, Variant as TermVariant};
+use occ_term::{
+    Arm as TermArm, Declaration, Place, Protocol, Reception, Term, TermExpr, Variant as TermVariant,
+};
 use occ_tree_grammar::tree::line::{Guard, Replicator};
 use occ_tree_grammar::tree::process::{Arm, Decl, Process, Variant};
 use sqlite_items::Items;
@@ -115,7 +117,11 @@ impl Drop for ArmsHead {
 
 impl ArmsHead {
     /// The arms in it.
-    pub fn with_arms(self, alloc: Global, arms: Items<TermArm>) -> Result<Items<TermArm>, AllocError>
+    pub fn with_arms(
+        self,
+        alloc: Global,
+        arms: Items<TermArm>,
+    ) -> Result<Items<TermArm>, AllocError>
         ensures { IfOk result (λ xs. arms_of xs ≡ arms_within self (arms_of arms)) }
     {
         let ArmsHead { heads, over } = self;
@@ -217,7 +223,8 @@ fn listening_opened<'t>(
             guard_opened(unfolder, alloc, at, depth, *line, guard, body, heads)
         }
         Arm::OnVariant(_, line, guard, variants) => {
-            let (test, protocol, channel) = guarding_variants_at(unfolder, alloc, at, depth, *line, guard,
+            let (test, protocol, channel) = guarding_variants_at(
+                unfolder, alloc, at, depth, *line, guard,
             )?;
             let head = VariantsHead {
                 heads,

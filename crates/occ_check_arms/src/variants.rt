@@ -131,7 +131,9 @@ pub fn variant_opened<'t>(
     let declarations = declarations_of(variant);
     let targets = targets_of(variant);
     let body = body_of(variant);
-    tagged_opened(unfolder, alloc,
+    tagged_opened(
+        unfolder,
+        alloc,
         at,
         depth,
         line,
@@ -165,7 +167,16 @@ fn tagged_opened<'t>(
 {
     unfolder.numbers.node(depth)?;
     let (heads, inside) = unfolder.entering(alloc, at, depth + 1, declarations)?;
-    let targets = storing_at(unfolder, alloc, inside, depth + 1, line, protocol, tag, targets)?;
+    let targets = storing_at(
+        unfolder,
+        alloc,
+        inside,
+        depth + 1,
+        line,
+        protocol,
+        tag,
+        targets,
+    )?;
     let head = VariantHead {
         tag,
         declarations: heads,

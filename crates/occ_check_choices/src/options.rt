@@ -127,7 +127,9 @@ pub fn option_opened<'t>(
     match selection {
         Selection::Values(declarations, line, values, body) => {
             let declarations = listed_declarations(declarations);
-            values_opened(unfolder, alloc,
+            values_opened(
+                unfolder,
+                alloc,
                 at,
                 depth,
                 *line,
@@ -140,7 +142,16 @@ pub fn option_opened<'t>(
         }
         Selection::Else(declarations, line, body) => {
             let declarations = listed_declarations(declarations);
-            else_opened(unfolder, alloc, at, depth, *line, chosen, declarations, body)
+            else_opened(
+                unfolder,
+                alloc,
+                at,
+                depth,
+                *line,
+                chosen,
+                declarations,
+                body,
+            )
         }
     }
 }
@@ -168,7 +179,9 @@ fn values_opened<'t>(
 {
     unfolder.numbers.node(depth)?;
     let (heads, inside) = unfolder.entering(alloc, at, depth + 1, declarations)?;
-    let constants = choosing_values(unfolder, alloc,
+    let constants = choosing_values(
+        unfolder,
+        alloc,
         inside,
         depth + 1,
         line,
@@ -229,7 +242,12 @@ fn selecting_at(
     ensures within { IfOk result (λ _. depth < 200) }
 {
     let scope = names_at(&unfolder.blocks, at);
-    selecting(&mut unfolder.numbers, Context { alloc, scope, line }, depth, e)
+    selecting(
+        &mut unfolder.numbers,
+        Context { alloc, scope, line },
+        depth,
+        e,
+    )
 }
 
 /// The constants of an option, none of which stands in one before it, with their nodes.

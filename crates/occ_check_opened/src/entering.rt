@@ -27,7 +27,9 @@ use occ_check_names::context::Context;
 use occ_check_names::fault::{CheckFault, unknown};
 use occ_check_names::numbers::Numbers;
 use occ_check_names::scope::{Binding, Found, Position, Procedure, Scope};
-use occ_check_typing::declaration::{Named, Opened, names_declared, protocol_declared, value_declared};
+use occ_check_typing::declaration::{
+    Named, Opened, names_declared, protocol_declared, value_declared,
+};
 use occ_check_typing::replicator::{Indexed, index_replicator};
 use occ_term::{Declaration, Replicator, Term};
 use occ_tree_grammar::tree::expr::Expr;
@@ -39,11 +41,7 @@ use std::alloc::Global;
 // ---- a term behind its declarations
 
 /// A process behind what is set for its declarations.
-pub fn headed(
-    alloc: Global,
-    heads: Items<Declaration>,
-    term: Term,
-) -> Result<Term, CheckFault>
+pub fn headed(alloc: Global, heads: Items<Declaration>, term: Term) -> Result<Term, CheckFault>
     ensures term { IfOk result (λ t. term_of t ≡ headed (declarations_of heads) (term_of term)) }
     ensures memory { IfErr result (λ e. e ≡ Memory) }
 {

@@ -26,7 +26,9 @@ use crate::unfolder::Unfolder;
 use occ_check_acting::action::{Listed, as_input, assigned, output, received};
 use occ_check_names::context::Context;
 use occ_check_names::fault::CheckFault;
-use occ_check_names::measuring::{count_assignment, count_expression, count_input, count_output, count_tagged_input};
+use occ_check_names::measuring::{
+    count_assignment, count_expression, count_input, count_output, count_tagged_input,
+};
 use occ_check_names::numbers::Numbers;
 use occ_check_names::scope::{Position, Scope};
 use occ_check_typing::expression::typed_as;

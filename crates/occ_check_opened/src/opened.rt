@@ -12,7 +12,10 @@ ghost use Rattle.occ_check_opened.specs.declared.unfolder.Unfolder.{Unfolder};
 use crate::entering::headed;
 use occ_check_names::fault::CheckFault;
 use occ_check_names::scope::Position;
-use occ_term::{Arm as TermArm, Choice as TermChoice, Declaration, Place, Primitive, Protocol, Replicator, Term, TermExpr};
+use occ_term::{
+    Arm as TermArm, Choice as TermChoice, Declaration, Place, Primitive, Protocol, Replicator,
+    Term, TermExpr,
+};
 use occ_tree_grammar::tree::line::Replicator as ReplicatorTree;
 use occ_tree_grammar::tree::process::{Arm, Choice, Process, Selection, Variant};
 use sqlite_items::{Boxed, Items};
@@ -180,10 +183,7 @@ impl<'t> Opened<'t> {
 }
 
 /// A choice alone.
-pub fn only_choice(
-    alloc: Global,
-    choice: TermChoice,
-) -> Result<Items<TermChoice>, AllocError>
+pub fn only_choice(alloc: Global, choice: TermChoice) -> Result<Items<TermChoice>, AllocError>
     ensures { IfOk result (λ cs. choices_of cs ≡ choice_of choice no_choices) }
 {
     let mut choices = Items::new(alloc);
