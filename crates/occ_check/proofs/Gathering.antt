@@ -5,7 +5,7 @@ use Rattle.std.proofs.Math.ListN.{drop_of_length-le}
 use Rattle.occ_tree_grammar.specs.Many.{◌>>=◌}
 use Rattle.occ_tree_grammar.specs.Processes.Trees.{Kind, Node, nodes}
 use Rattle.occ_check_names.specs.View.{Refuses}
-use Rattle.occ_check.specs.Weights.{node_size, nodes_size}
+use Rattle.occ_check_opened.specs.Weights.{node_size, nodes_size}
 use Rattle.occ_check_names.specs.declared.fault.CheckFault.{CheckFault}
 use Rattle.occ_check_typing.proofs.Refusals.{refused_with}
 

@@ -1,5 +1,5 @@
 -- What stands behind declarations, step by step, and what makes it smaller.
-use Rattle.std.proofs.Common.{◌≡◌, ◌≤◌, ◌+◌, ℕ, List, Some, None, ap, sym, ◌∙◌, arith}
+use Rattle.std.proofs.Common.{◌≡◌, ◌≤◌, ◌+◌, ℕ, List, Some, None, ap, refl, sym, ◌∙◌, arith}
 use Rattle.occ_tree_grammar.specs.Many.{◌>>=◌}
 use Rattle.occ_term.specs.Terms.{Term, Declaration}
 use Rattle.occ_check_meaning.specs.Actions.{headed, opening}
@@ -9,14 +9,50 @@ use Rattle.occ_check_meaning.specs.Scope.{Scope}
 use Rattle.occ_tree_grammar.specs.Processes.Trees.{Decls}
 use Rattle.occ_tree_grammar.specs.Processes.Views.{process_of}
 use Rattle.occ_tree_grammar.specs.declared.tree.process.Process.{Process}
+use Rattle.occ_tree_grammar.specs.declared.tree.process.Process.TheVariants as processes
 use Rattle.occ_tree_grammar.specs.declared.tree.process.Stmt.{Stmt}
+use Rattle.occ_tree_grammar.specs.declared.tree.process.Stmt.TheVariants as stmts
 use Rattle.occ_check_meaning.specs.Recursion.{all_declared, unfolded}
-use Rattle.occ_check.specs.Statements.{declarations_in, line_in, performing, statement_in}
+use Rattle.occ_check.specs.Opening.{declarations_in, line_in, performing, statement_in, statement_size}
 use Rattle.occ_check_meaning.specs.Unfolding.{Procedures}
 use Rattle.occ_check_meaning.specs.Meant.{meant}
-use Rattle.occ_check.specs.Opened.{put}
-use Rattle.occ_check.specs.Weights.{decls_size, node_size, statement_size, weight}
-use Rattle.occ_check.proofs.Parts.{behind_declarations, within_process}
+use Rattle.occ_check_opened.specs.Opened.{put}
+use Rattle.occ_check_opened.specs.Weights.{decls_size, node_size, weight}
+
+-- ---- a process by its parts
+
+pub behind_declarations : (p : Process) (sc : Scope Calling) (depth : ℕ) (n : Numbers)
+    → unfolded (process_of p) sc depth n ≡ behind (all_declared (declarations_in p)) (performing (line_in p) (statement_in p)) sc depth n
+unfolding process_of unfolded
+behind_declarations (processes.Declared' shape ds line (stmts.Action a)) sc depth n = refl
+behind_declarations (processes.Declared' shape ds line (stmts.Seq' t ps)) sc depth n = refl
+behind_declarations (processes.Declared' shape ds line (stmts.SeqFor' r q b)) sc depth n = refl
+behind_declarations (processes.Declared' shape ds line (stmts.Par' t ps)) sc depth n = refl
+behind_declarations (processes.Declared' shape ds line (stmts.ParFor' r q b)) sc depth n = refl
+behind_declarations (processes.Declared' shape ds line (stmts.Alt' pri t ms)) sc depth n = refl
+behind_declarations (processes.Declared' shape ds line (stmts.AltFor' pri r q b)) sc depth n = refl
+behind_declarations (processes.Declared' shape ds line (stmts.If' t cs)) sc depth n = refl
+behind_declarations (processes.Declared' shape ds line (stmts.IfFor' r q b)) sc depth n = refl
+behind_declarations (processes.Declared' shape ds line (stmts.Case' e t os)) sc depth n = refl
+behind_declarations (processes.Declared' shape ds line (stmts.While' e q b)) sc depth n = refl
+behind_declarations (processes.Declared' shape ds line (stmts.Variants' w t vs)) sc depth n = refl
+
+pub within_process : (p : Process) → node_size (process_of p) ≡ (decls_size (declarations_in p) + statement_size (statement_in p)) + 2
+unfolding process_of node_size
+within_process (processes.Declared' shape ds line (stmts.Action a)) = refl
+within_process (processes.Declared' shape ds line (stmts.Seq' t ps)) = refl
+within_process (processes.Declared' shape ds line (stmts.SeqFor' r q b)) = refl
+within_process (processes.Declared' shape ds line (stmts.Par' t ps)) = refl
+within_process (processes.Declared' shape ds line (stmts.ParFor' r q b)) = refl
+within_process (processes.Declared' shape ds line (stmts.Alt' pri t ms)) = refl
+within_process (processes.Declared' shape ds line (stmts.AltFor' pri r q b)) = refl
+within_process (processes.Declared' shape ds line (stmts.If' t cs)) = refl
+within_process (processes.Declared' shape ds line (stmts.IfFor' r q b)) = refl
+within_process (processes.Declared' shape ds line (stmts.Case' e t os)) = refl
+within_process (processes.Declared' shape ds line (stmts.While' e q b)) = refl
+within_process (processes.Declared' shape ds line (stmts.Variants' w t vs)) = refl
+
+-- ---- behind declarations
 
 module _ (declared : Declaring) (performed : Under Term) (sc : Scope Calling) (depth : ℕ) (n : Numbers) where
   pub not_declared : declared sc (depth + 1) n ≡ None → behind declared performed sc depth n ≡ None

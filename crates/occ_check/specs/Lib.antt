@@ -1,10 +1,3 @@
-pub mod OpenBlocks
-pub mod Progress
-pub mod Statements
-pub mod Weights
-pub mod Prefixes
 pub mod CheckRefuses
 pub mod Program
-pub mod Entering
-pub mod Copies
-pub mod Opened
+pub mod Opening

@@ -7,8 +7,8 @@ use Rattle.occ_tree_grammar.specs.Processes.Trees.{Item, value_item, protocol_it
 use Rattle.occ_tree_grammar.specs.Processes.Views.{item_of, process_of}
 use Rattle.occ_term.specs.declared.primitive.Primitive.TheVariants.{Byte}
 use Rattle.occ_term.specs.declared.protocol.Protocol.TheVariants.{Simple}
-use Rattle.occ_check_meaning.specs.Performing.{Declaring, entered}
 use Rattle.occ_check_meaning.specs.Programs as P
+use Rattle.occ_check_meaning.specs.Performing.{Declaring, entered}
 use Rattle.occ_check_meaning.specs.Programs.{items_declared}
 use Rattle.occ_check_meaning.specs.Scope.{Known, Pairs, stretch_from, some_channels, within}
 use Rattle.occ_check_meaning.specs.Types.{unnamed}

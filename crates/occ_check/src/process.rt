@@ -1,148 +1,367 @@
-//! Processes: what is left of each once it is opened is unfolded, in turn, beside each other, or alone.
+//! Processes: what is left of each once it is opened is unfolded, and the lists of a construct's parts, part by part.
 
-ghost use Rattle.std.specs.Prelude.{◌≤◌, OnOk};
-ghost use Rattle.occ_term.specs.View.{branches_of, term_of, terms_of};
-ghost use Rattle.occ_check_meaning.specs.Recursion.{all_in_turn, all_beside};
+ghost use Rattle.std.specs.Prelude.{◌≤◌, ◌+ℤ◌, ◌≤ℤ◌, [], pos, OnOk};
+ghost use Rattle.occ_term.specs.View.{arms_of, branches_of, choices_of, options_of, term_of, terms_of, variants_of};
+ghost use Rattle.occ_check_meaning.specs.Actions as meant;
+ghost use Rattle.occ_check_meaning.specs.Performing.{copied};
+ghost use Rattle.occ_check_meaning.specs.Recursion.{all_arms, all_beside, all_choices, all_in_turn, all_options, all_variants};
 ghost use Rattle.occ_check_names.specs.View.{Unfolds};
-ghost use Rattle.occ_check.specs.Opened.{IsReady, statement_left};
-ghost use Rattle.occ_check.specs.Progress.{Reads};
-ghost use Rattle.occ_check.specs.OpenBlocks.{Restores};
-ghost use Rattle.occ_check.specs.Statements.{body_unfolded};
-ghost use Rattle.occ_check.specs.Weights.{process_nodes};
+ghost use Rattle.occ_check_opened.specs.OpenBlocks.{Restores};
+ghost use Rattle.occ_check_opened.specs.Opened.{IsReady, body_unfolded, statement_left};
+ghost use Rattle.occ_check_opened.specs.Progress.{Reads, counted};
+ghost use Rattle.occ_check_opened.specs.Weights.{arm_nodes, choice_nodes, option_nodes, process_nodes, variant_nodes};
+ghost use Rattle.occ_check_copies.specs.Copies.{copies_there};
 
-use crate::entering::headed;
-use crate::opened::{Left, Opened, Step};
-use crate::unfolder::Unfolder;
+use crate::opening::process_opened;
+use occ_check_arms::arms::{OpenedArm, arm_opened};
+use occ_check_arms::variants::{OpenedVariant, line_of, tag_of, variant_opened};
+use occ_check_choices::choices::{OpenedChoice, choice_opened};
+use occ_check_choices::options::{OpenedOption, none_chosen, option_opened};
+use occ_check_clashes::tags::Tags;
+use occ_check_copies::copies::{OpenedCopy, copy_opened, next_value};
 use occ_check_names::fault::CheckFault;
 use occ_check_names::scope::Position;
+use occ_check_opened::entering::headed;
+use occ_check_opened::opened::{Left, Opened, Step};
+use occ_check_opened::unfolder::Unfolder;
 use occ_held::Held;
-use occ_term::{Branch, Term};
-use occ_tree_grammar::tree::process::Process;
+use occ_term::{
+    Arm as TermArm, Branch, Choice as TermChoice, Primitive, Protocol, Selection as TermSelection,
+    Term, Variant as TermVariant,
+};
+use occ_tree_grammar::tree::line::Replicator;
+use occ_tree_grammar::tree::process::{Arm, Choice, Process, Selection, Variant};
 use sqlite_items::Items;
 use std::alloc::Global;
 
-impl<'t> Unfolder<'t> {
-    /// What a process unfolds to at a position, under so many nodes.
-    #[cycle(unfolding)]
-    pub fn process(
-        &mut self,
-        alloc: Global,
-        at: Position,
-        depth: u32,
-        process: &'t Process,
-    ) -> Result<Term, CheckFault>
-        requires { depth ≤ 200 }
-        ensures term { Reads term_of result self.old self.new at depth (body_unfolded process.now) }
-        ensures kept { OnOk result (Restores self.old.blocks self.new.blocks) }
-    {
-        let base = self.blocks.len();
-        let mut body = process;
-        let mut place = at;
-        let mut deep = depth;
-        'calls: loop {
-            let step = self.process_opened(alloc, place, deep, body)?;
-            match step {
-                Step::Behind(heads, opened) => {
-                    let heads = Held::new(heads);
-                    let term = self.performed(alloc, opened)?;
-                    self.blocks.close(base);
-                    return headed(alloc, heads.into_inner(), term);
-                }
-                Step::Call(called, inside, under) => {
-                    body = called;
-                    place = inside;
-                    deep = under;
-                }
+/// What a process unfolds to at a position, under so many nodes.
+#[cycle(unfolding)]
+pub(crate) fn process_unfolded<'t>(
+    unfolder: &mut Unfolder<'t>,
+    alloc: Global,
+    at: Position,
+    depth: u32,
+    process: &'t Process,
+) -> Result<Term, CheckFault>
+    requires { depth ≤ 200 }
+    ensures term { Reads term_of result unfolder.old unfolder.new at depth
+        (body_unfolded process.now) }
+    ensures kept { OnOk result (Restores unfolder.old.blocks unfolder.new.blocks) }
+{
+    let base = unfolder.blocks.len();
+    let mut body = process;
+    let mut place = at;
+    let mut deep = depth;
+    'calls: loop {
+        let step = process_opened(unfolder, alloc, place, deep, body)?;
+        match step {
+            Step::Behind(heads, opened) => {
+                let heads = Held::new(heads);
+                let term = performed(unfolder, alloc, opened)?;
+                unfolder.blocks.close(base);
+                return headed(alloc, heads.into_inner(), term);
+            }
+            Step::Call(called, inside, under) => {
+                body = called;
+                place = inside;
+                deep = under;
             }
         }
     }
+}
 
-    /// What a statement unfolds to by what is left of it.
-    #[cycle(unfolding)]
-    fn performed(&mut self, alloc: Global, opened: Opened<'t>) -> Result<Term, CheckFault>
-        requires { IsReady opened }
-        ensures term { Unfolds term_of result self.new.numbers (statement_left self.old opened.entry) }
-        ensures kept { OnOk result (Restores self.old.blocks self.new.blocks) }
-    {
-        let Opened { left, at, depth } = opened;
-        match left {
-            Left::Done(term) => Ok(term),
-            Left::Body(around, body) => {
-                let body = self.process(alloc, at, depth, body)?;
-                around.with_process(alloc, body)
-            }
-            Left::InTurn(processes) => {
-                let terms = self.in_turn(alloc, at, depth, processes)?;
-                Ok(Term::Seq(terms))
-            }
-            Left::Beside(processes) => {
-                let branches = self.beside(alloc, at, depth, processes)?;
-                Ok(Term::Par(branches))
-            }
-            Left::Copies(replicator, first, count, body) => {
-                let branches = self.copies(alloc, at, depth, replicator, first, count, body)?;
-                Ok(Term::Par(branches))
-            }
-            Left::Choices(over, list) => {
-                let choices = self.choices(alloc, at, depth, list)?;
-                let choices = over.with_choices(alloc, choices)?;
-                Ok(Term::If(choices))
-            }
-            Left::Options(selector, primitive, list) => {
-                let options = self.options(alloc, at, depth, primitive, list)?;
-                Ok(Term::Case(selector, options))
-            }
-            Left::Variants(channel, protocol, list) => {
-                let variants = self.variants(alloc, at, depth, &protocol, list)?;
-                Ok(Term::VariantInput(channel, variants))
-            }
-            Left::Arms(by_priority, over, list) => {
-                let arms = self.arms(alloc, at, depth, list)?;
-                let arms = over.with_arms(alloc, arms)?;
-                Ok(Term::Alt(by_priority, arms))
-            }
+/// What a statement unfolds to by what is left of it.
+#[cycle(unfolding)]
+fn performed<'t>(
+    unfolder: &mut Unfolder<'t>,
+    alloc: Global,
+    opened: Opened<'t>,
+) -> Result<Term, CheckFault>
+    requires { IsReady opened }
+    ensures term { Unfolds term_of result unfolder.new.numbers
+        (statement_left unfolder.old opened.entry) }
+    ensures kept { OnOk result (Restores unfolder.old.blocks unfolder.new.blocks) }
+{
+    let Opened { left, at, depth } = opened;
+    match left {
+        Left::Done(term) => Ok(term),
+        Left::Body(around, body) => {
+            let body = process_unfolded(unfolder, alloc, at, depth, body)?;
+            around.with_process(alloc, body)
+        }
+        Left::InTurn(processes) => {
+            let terms = in_turn(unfolder, alloc, at, depth, processes)?;
+            Ok(Term::Seq(terms))
+        }
+        Left::Beside(processes) => {
+            let branches = beside(unfolder, alloc, at, depth, processes)?;
+            Ok(Term::Par(branches))
+        }
+        Left::Copies(replicator, first, count, body) => {
+            let branches = copies_unfolded(
+                unfolder, alloc, at, depth, replicator, first, count, body,
+            )?;
+            Ok(Term::Par(branches))
+        }
+        Left::Choices(over, list) => {
+            let choices = choices_unfolded(unfolder, alloc, at, depth, list)?;
+            let choices = over.with_choices(alloc, choices)?;
+            Ok(Term::If(choices))
+        }
+        Left::Options(selector, primitive, list) => {
+            let options = options_unfolded(unfolder, alloc, at, depth, primitive, list)?;
+            Ok(Term::Case(selector, options))
+        }
+        Left::Variants(channel, protocol, list) => {
+            let variants = variants_unfolded(unfolder, alloc, at, depth, &protocol, list)?;
+            Ok(Term::VariantInput(channel, variants))
+        }
+        Left::Arms(by_priority, over, list) => {
+            let arms = arms_unfolded(unfolder, alloc, at, depth, list)?;
+            let arms = over.with_arms(alloc, arms)?;
+            Ok(Term::Alt(by_priority, arms))
         }
     }
+}
 
-    /// Processes beside each other, each with its number.
-    #[cycle(unfolding)]
-    fn beside(
-        &mut self,
-        alloc: Global,
-        at: Position,
-        depth: u32,
-        processes: &'t [Process],
-    ) -> Result<Items<Branch>, CheckFault>
-        requires { depth ≤ 200 }
-        ensures branches { Reads branches_of result self.old self.new at depth (all_beside (process_nodes processes.now)) }
-        ensures kept { OnOk result (Restores self.old.blocks self.new.blocks) }
-    {
-        let mut branches = Items::new(alloc);
-        for process in processes {
-            let number = self.numbers.more_processes()?;
-            let body = self.process(alloc, at, depth, process)?;
-            branches.push(Branch { number, body })?;
-        }
-        Ok(branches)
+/// Processes one after the other.
+#[cycle(unfolding)]
+fn in_turn<'t>(
+    unfolder: &mut Unfolder<'t>,
+    alloc: Global,
+    at: Position,
+    depth: u32,
+    processes: &'t [Process],
+) -> Result<Items<Term>, CheckFault>
+    requires { depth ≤ 200 }
+    ensures terms { Reads terms_of result unfolder.old unfolder.new at depth
+        (all_in_turn (process_nodes processes.now)) }
+    ensures kept { OnOk result (Restores unfolder.old.blocks unfolder.new.blocks) }
+{
+    let mut terms = Items::new(alloc);
+    for process in processes {
+        terms.push(process_unfolded(unfolder, alloc, at, depth, process)?)?;
     }
+    Ok(terms)
+}
 
-    /// Processes one after the other.
-    #[cycle(unfolding)]
-    fn in_turn(
-        &mut self,
-        alloc: Global,
-        at: Position,
-        depth: u32,
-        processes: &'t [Process],
-    ) -> Result<Items<Term>, CheckFault>
-        requires { depth ≤ 200 }
-        ensures terms { Reads terms_of result self.old self.new at depth (all_in_turn (process_nodes processes.now)) }
-        ensures kept { OnOk result (Restores self.old.blocks self.new.blocks) }
-    {
-        let mut terms = Items::new(alloc);
-        for process in processes {
-            terms.push(self.process(alloc, at, depth, process)?)?;
-        }
-        Ok(terms)
+/// Processes beside each other, each with its number.
+#[cycle(unfolding)]
+fn beside<'t>(
+    unfolder: &mut Unfolder<'t>,
+    alloc: Global,
+    at: Position,
+    depth: u32,
+    processes: &'t [Process],
+) -> Result<Items<Branch>, CheckFault>
+    requires { depth ≤ 200 }
+    ensures branches { Reads branches_of result unfolder.old unfolder.new at depth
+        (all_beside (process_nodes processes.now)) }
+    ensures kept { OnOk result (Restores unfolder.old.blocks unfolder.new.blocks) }
+{
+    let mut branches = Items::new(alloc);
+    for process in processes {
+        let number = unfolder.numbers.more_processes()?;
+        let body = process_unfolded(unfolder, alloc, at, depth, process)?;
+        branches.push(Branch { number, body })?;
     }
+    Ok(branches)
+}
+
+/// So many copies beside each other, from a value of the index on.
+#[cycle(unfolding)]
+fn copies_unfolded<'t>(
+    unfolder: &mut Unfolder<'t>,
+    alloc: Global,
+    at: Position,
+    depth: u32,
+    replicator: &Replicator,
+    first: i64,
+    count: u64,
+    body: &'t Process,
+) -> Result<Items<Branch>, CheckFault>
+    requires depth { depth ≤ 200 }
+    requires last { (first +ℤ pos count) ≤ℤ pos 2147483648 }
+    ensures branches { Unfolds branches_of result unfolder.new.numbers
+        (copied (copies_there unfolder.old at depth replicator.now body.now) count first
+        (counted unfolder.old)) }
+    ensures kept { OnOk result (Restores unfolder.old.blocks unfolder.new.blocks) }
+{
+    let mut branches = Items::new(alloc);
+    let mut value = first;
+    let mut left = count;
+    'copies: while left > 0 {
+        let base = unfolder.blocks.len();
+        let opened = copy_opened(unfolder, alloc, at, depth, replicator, value, body)?;
+        let OpenedCopy {
+            number,
+            body: copy,
+            at: inside,
+            depth: deep,
+        } = opened;
+        let body = process_unfolded(unfolder, alloc, inside, deep, copy)?;
+        unfolder.blocks.close(base);
+        branches.push(Branch { number, body })?;
+        value = next_value(value, left);
+        left -= 1;
+    }
+    Ok(branches)
+}
+
+/// What choices unfold to, those of a nested IF in its place.
+#[cycle(unfolding)]
+fn choices_unfolded<'t>(
+    unfolder: &mut Unfolder<'t>,
+    alloc: Global,
+    at: Position,
+    depth: u32,
+    list: &'t [Choice],
+) -> Result<Items<TermChoice>, CheckFault>
+    requires { depth ≤ 200 }
+    ensures choices { Reads choices_of result unfolder.old unfolder.new at depth
+        (all_choices (choice_nodes list.now)) }
+    ensures kept { OnOk result (Restores unfolder.old.blocks unfolder.new.blocks) }
+{
+    let mut choices = Items::new(alloc);
+    for choice in list {
+        let base = unfolder.blocks.len();
+        let opened = choice_opened(unfolder, alloc, at, depth, choice)?;
+        match opened {
+            OpenedChoice::When(head, body, inside, deep) => {
+                let body = process_unfolded(unfolder, alloc, inside, deep, body)?;
+                unfolder.blocks.close(base);
+                let made = head.with_process(alloc, body)?;
+                choices.append(made)?;
+                continue;
+            }
+            OpenedChoice::Inner(head, list, inside, deep) => {
+                let within = choices_unfolded(unfolder, alloc, inside, deep, list)?;
+                unfolder.blocks.close(base);
+                let made = head.with_choices(alloc, within)?;
+                choices.append(made)?;
+                continue;
+            }
+        }
+    }
+    Ok(choices)
+}
+
+/// What options unfold to.
+#[cycle(unfolding)]
+fn options_unfolded<'t>(
+    unfolder: &mut Unfolder<'t>,
+    alloc: Global,
+    at: Position,
+    depth: u32,
+    primitive: Primitive,
+    selections: &'t [Selection],
+) -> Result<Items<TermSelection>, CheckFault>
+    requires { depth ≤ 200 }
+    ensures options { Reads options_of result unfolder.old unfolder.new at depth
+        (all_options (option_nodes selections.now) primitive meant.none_chosen) }
+    ensures kept { OnOk result (Restores unfolder.old.blocks unfolder.new.blocks) }
+{
+    let mut chosen = none_chosen(alloc);
+    let mut options = Items::new(alloc);
+    for selection in selections {
+        let base = unfolder.blocks.len();
+        let opened = option_opened(
+            unfolder,
+            alloc,
+            at,
+            depth,
+            primitive,
+            &mut chosen,
+            selection,
+        )?;
+        let OpenedOption {
+            head,
+            body,
+            at: inside,
+            depth: deep,
+        } = opened;
+        let body = process_unfolded(unfolder, alloc, inside, deep, body)?;
+        unfolder.blocks.close(base);
+        options.push(head.with_process(body))?;
+    }
+    Ok(options)
+}
+
+/// What variants unfold to.
+#[cycle(unfolding)]
+fn variants_unfolded<'t>(
+    unfolder: &mut Unfolder<'t>,
+    alloc: Global,
+    at: Position,
+    depth: u32,
+    protocol: &Protocol,
+    list: &'t [Variant],
+) -> Result<Items<TermVariant>, CheckFault>
+    requires { depth ≤ 200 }
+    ensures variants { Reads variants_of result unfolder.old unfolder.new at depth
+        (all_variants (variant_nodes list.now) protocol.now []) }
+    ensures kept { OnOk result (Restores unfolder.old.blocks unfolder.new.blocks) }
+{
+    let mut tags = Tags::new(alloc, protocol)?;
+    let mut variants = Items::new(alloc);
+    for variant in list {
+        let base = unfolder.blocks.len();
+        let tag = tags.next(line_of(variant), tag_of(variant))?;
+        let opened = variant_opened(unfolder, alloc, at, depth, protocol, tag, variant)?;
+        let OpenedVariant {
+            head,
+            body,
+            at: inside,
+            depth: deep,
+        } = opened;
+        let body = process_unfolded(unfolder, alloc, inside, deep, body)?;
+        unfolder.blocks.close(base);
+        variants.push(head.with_process(body))?;
+    }
+    Ok(variants)
+}
+
+/// What arms unfold to, those of a nested ALT in its place.
+#[cycle(unfolding)]
+fn arms_unfolded<'t>(
+    unfolder: &mut Unfolder<'t>,
+    alloc: Global,
+    at: Position,
+    depth: u32,
+    list: &'t [Arm],
+) -> Result<Items<TermArm>, CheckFault>
+    requires { depth ≤ 200 }
+    ensures arms { Reads arms_of result unfolder.old unfolder.new at depth
+        (all_arms (arm_nodes list.now)) }
+    ensures kept { OnOk result (Restores unfolder.old.blocks unfolder.new.blocks) }
+{
+    let mut arms = Items::new(alloc);
+    for arm in list {
+        let base = unfolder.blocks.len();
+        let opened = arm_opened(unfolder, alloc, at, depth, arm)?;
+        match opened {
+            OpenedArm::Guarded(head, body, inside, deep) => {
+                let body = process_unfolded(unfolder, alloc, inside, deep, body)?;
+                unfolder.blocks.close(base);
+                let made = head.with_process(alloc, body)?;
+                arms.append(made)?;
+                continue;
+            }
+            OpenedArm::OnVariant(head, protocol, list, inside, deep) => {
+                let variants = variants_unfolded(unfolder, alloc, inside, deep, &protocol, list)?;
+                unfolder.blocks.close(base);
+                let made = head.with_variants(alloc, variants)?;
+                arms.append(made)?;
+                continue;
+            }
+            OpenedArm::Inner(head, list, inside, deep) => {
+                let within = arms_unfolded(unfolder, alloc, inside, deep, list)?;
+                unfolder.blocks.close(base);
+                let made = head.with_arms(alloc, within)?;
+                arms.append(made)?;
+                continue;
+            }
+        }
+    }
+    Ok(arms)
 }

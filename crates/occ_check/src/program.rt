@@ -11,19 +11,20 @@ ghost use Rattle.occ_check_meaning.specs.Programs as programs;
 ghost use Rattle.occ_check.specs.CheckRefuses.{CheckRefuses};
 ghost use Rattle.occ_check_typing.specs.Declaration.{pairs_of};
 ghost use Rattle.occ_check.specs.Program.{byte_channel, items_within, main_at, main_in};
-ghost use Rattle.occ_check.specs.Progress.{Declares, counted, meant_at};
+ghost use Rattle.occ_check_opened.specs.Progress.{Declares, counted, meant_at};
 ghost use Rattle.occ_check_names.specs.View.{Gives, Unfolds, known_of, numbers_of};
-ghost use Rattle.occ_check.specs.OpenBlocks.{Deepens, HasBlock};
-ghost use Rattle.occ_check.specs.Statements.{body_unfolded};
+ghost use Rattle.occ_check_opened.specs.OpenBlocks.{Deepens, HasBlock};
+ghost use Rattle.occ_check_opened.specs.Opened.{body_unfolded};
 
-use crate::blocks::Blocks;
-use crate::entering::headed;
-use crate::unfolder::Unfolder;
+use crate::process::process_unfolded;
 use occ_check_acting::formals::spec_after;
 use occ_check_names::fault::CheckFault;
 use occ_check_names::known::{Carried, Known};
 use occ_check_names::numbers::Numbers;
 use occ_check_names::scope::Position;
+use occ_check_opened::blocks::Blocks;
+use occ_check_opened::entering::headed;
+use occ_check_opened::unfolder::Unfolder;
 use occ_check_typing::declaration::{Named, once, stretch_from};
 use occ_term::{Declaration, Primitive, Protocol, Sizes, Term, Unfolded};
 use occ_tree_grammar::tree::expr::Prim;
@@ -65,7 +66,8 @@ pub fn unfold(alloc: Global, program: &Program) -> Result<Unfolded, CheckFault>
 
 /// The term of a program, with the numbers that it gives out.
 fn unfolded_program(alloc: Global, program: &Program) -> Result<(Term, Numbers), CheckFault>
-    ensures { Gives (λ x. (term_of x.0, numbers_of x.1)) result (programs.program_unfolded (program_of program.now)) }
+    ensures { Gives (λ x. (term_of x.0, numbers_of x.1)) result
+        (programs.program_unfolded (program_of program.now)) }
 {
     let main = main_of(&program.items)?;
     let names = main_names(alloc, main.line, main.formals)?;
@@ -75,7 +77,7 @@ fn unfolded_program(alloc: Global, program: &Program) -> Result<(Term, Numbers),
         numbers: Numbers::at_start(alloc)?,
     };
     let nowhere = Position { blocks: 0, seen: 0 };
-    let term = unfolder.behind_items(alloc, nowhere, main.before, names, main.body)?;
+    let term = behind_items(&mut unfolder, alloc, nowhere, main.before, names, main.body)?;
     Ok((term, unfolder.numbers))
 }
 
@@ -232,57 +234,59 @@ fn byte_channel(alloc: Global, number: u32) -> Result<Known, AllocError>
 
 // ---- the whole
 
-impl<'t> Unfolder<'t> {
-    /// What a process unfolds to behind items, and names inside of them.
-    fn behind_items(
-        &mut self,
-        alloc: Global,
-        at: Position,
-        items: &'t [Item],
-        names: Vec<Named>,
-        body: &'t Process,
-    ) -> Result<Term, CheckFault>
-        ensures { Unfolds term_of result self.new.numbers (behind (items_within (map item_of items.now) (pairs_of names.items)) (body_unfolded body.now) (meant_at self.old at) 0 (counted self.old)) }
-    {
-        self.blocks.open(alloc, at)?;
-        let heads = self.entered_items(alloc, items, names)?;
-        let inside = self.blocks.end();
-        let deep = self.opened(0, heads.as_slice())?;
-        let term = self.process(alloc, inside, deep, body)?;
-        headed(alloc, heads, term)
-    }
+/// What a process unfolds to behind items, and names inside of them.
+fn behind_items<'t>(
+    unfolder: &mut Unfolder<'t>,
+    alloc: Global,
+    at: Position,
+    items: &'t [Item],
+    names: Vec<Named>,
+    body: &'t Process,
+) -> Result<Term, CheckFault>
+    ensures { Unfolds term_of result unfolder.new.numbers
+        (behind (items_within (map item_of items.now) (pairs_of names.items))
+        (body_unfolded body.now) (meant_at unfolder.old at) 0 (counted unfolder.old)) }
+{
+    unfolder.blocks.open(alloc, at)?;
+    let heads = entered_items(unfolder, alloc, items, names)?;
+    let inside = unfolder.blocks.end();
+    let deep = unfolder.opened(0, heads.as_slice())?;
+    let term = process_unfolded(unfolder, alloc, inside, deep, body)?;
+    headed(alloc, heads, term)
+}
 
-    /// Enters items, and names inside of them, and answers what is set for them.
-    fn entered_items(
-        &mut self,
-        alloc: Global,
-        items: &'t [Item],
-        names: Vec<Named>,
-    ) -> Result<Items<Declaration>, CheckFault>
-        requires { HasBlock self.old.blocks }
-        ensures { Declares result self.old self.new 1 (items_within (map item_of items.now) (pairs_of names.items)) }
-    {
-        let heads = self.items_declared(alloc, 1, items)?;
-        self.blocks.enter(alloc, names)?;
-        Ok(heads)
-    }
+/// Enters items, and names inside of them, and answers what is set for them.
+fn entered_items<'t>(
+    unfolder: &mut Unfolder<'t>,
+    alloc: Global,
+    items: &'t [Item],
+    names: Vec<Named>,
+) -> Result<Items<Declaration>, CheckFault>
+    requires { HasBlock unfolder.old.blocks }
+    ensures { Declares result unfolder.old unfolder.new 1
+        (items_within (map item_of items.now) (pairs_of names.items)) }
+{
+    let heads = items_declared(unfolder, alloc, 1, items)?;
+    unfolder.blocks.enter(alloc, names)?;
+    Ok(heads)
+}
 
-    /// Enters items, each in the scope of those before it.
-    fn items_declared(
-        &mut self,
-        alloc: Global,
-        depth: u32,
-        items: &'t [Item],
-    ) -> Result<Items<Declaration>, CheckFault>
-        requires { HasBlock self.old.blocks }
-        ensures entered { Declares result self.old self.new depth (programs.items_declared (map item_of items.now)) }
-        ensures more { OnOk result (Deepens self.old.blocks self.new.blocks) }
-    {
-        let mut heads = Items::new(alloc);
-        for item in items {
-            let more = self.item_declared(alloc, depth, item)?;
-            heads.append(more)?;
-        }
-        Ok(heads)
+/// Enters items, each in the scope of those before it.
+fn items_declared<'t>(
+    unfolder: &mut Unfolder<'t>,
+    alloc: Global,
+    depth: u32,
+    items: &'t [Item],
+) -> Result<Items<Declaration>, CheckFault>
+    requires { HasBlock unfolder.old.blocks }
+    ensures entered { Declares result unfolder.old unfolder.new depth
+        (programs.items_declared (map item_of items.now)) }
+    ensures more { OnOk result (Deepens unfolder.old.blocks unfolder.new.blocks) }
+{
+    let mut heads = Items::new(alloc);
+    for item in items {
+        let more = unfolder.item_declared(alloc, depth, item)?;
+        heads.append(more)?;
     }
+    Ok(heads)
 }

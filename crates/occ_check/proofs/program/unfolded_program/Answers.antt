@@ -22,4 +22,4 @@ returns c =
     let found : programs.main_of (program_of c.args.program.now) ≡ Some (main_in c.in_ok-main.main) = rw c.deref.ensures.value at c.in_ok-main.ensures in
     let are = rw c.as_slice.ensures at c.in_ok-names-2.ensures in
     body_done (program_of c.args.program.now) (main_in c.in_ok-main.main) found c.in_ok-names.names c.in_ok-names.ensures (pairs_of c.in_ok-names-2.names.items) are
-    _ (numbers_of c.in_ok-at_start.field-0) (at_nowhere c.new.result.blocks.items _ c.new.ensures) c.in_ok-at_start.ensures (term_of c.in_ok-term.term, numbers_of c.behind_items.new.self.numbers) c.in_ok-term.ensures
+    _ (numbers_of c.in_ok-at_start.field-0) (at_nowhere c.new.result.blocks.items _ c.new.ensures) c.in_ok-at_start.ensures (term_of c.in_ok-term.term, numbers_of c.behind_items.new.unfolder.numbers) c.in_ok-term.ensures

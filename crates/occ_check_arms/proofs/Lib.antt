@@ -1,0 +1,3 @@
+pub mod HeldLists
+pub mod VariantLists
+pub mod ArmLists

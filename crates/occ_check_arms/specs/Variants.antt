@@ -1,0 +1,74 @@
+-- Inputs of variants: what is checked and counted before what stands under them, the parts of a variant, and what is left of one.
+-- Manual: combining processes.
+use Rattle.std.specs.Prelude.{List, Option, Some, ℕ, map}
+use Rattle.occ_tree_grammar.specs.Lines.Trees as L
+use Rattle.occ_tree_grammar.specs.declared.tree.process.Variant.TheVariants as variants
+use Rattle.occ_tree_grammar.specs.Many.{◌>>=◌}
+use Rattle.occ_tree_grammar.specs.Lines.Trees.{Var}
+use Rattle.occ_tree_grammar.specs.Lines.Views.{target_of}
+use Rattle.occ_tree_grammar.specs.Processes.Views.{process_of, held_decls}
+use Rattle.occ_tree_grammar.specs.Processes.Trees.{Decls}
+use Rattle.occ_tree_grammar.specs.declared.tree.line.Target.{Target}
+use Rattle.occ_tree_grammar.specs.declared.tree.process.Decl.{Decl}
+use Rattle.occ_tree_grammar.specs.declared.tree.process.Process.{Process}
+use Rattle.occ_tree_grammar.specs.declared.tree.process.Variant.{Variant}
+use Rattle.occ_term.specs.Sizes as Sizes
+use Rattle.occ_term.specs.Terms as T
+use Rattle.occ_term.specs.Sizes.{size_of_place, size_of_targets}
+use Rattle.occ_term.specs.Messages.{parts_after}
+use Rattle.occ_term.specs.declared.protocol.Protocol.{Protocol}
+use Rattle.occ_term.specs.Terms.{Variants}
+use Rattle.occ_term.specs.View.{declarations_of, targets_of}
+use Rattle.occ_check_meaning.specs.Performing as P
+use Rattle.occ_check_meaning.specs.Numbers as N
+use Rattle.occ_check_meaning.specs.Items.{channel_of, stored}
+use Rattle.occ_check_meaning.specs.Actions.{with_tags}
+use Rattle.occ_check_meaning.specs.Numbers.{Numbers, room}
+use Rattle.occ_check_meaning.specs.Scope.{Names}
+use Rattle.occ_check_meaning.specs.Performing.{Under}
+use Rattle.occ_check_meaning.specs.Recursion.{all_declared, unfolded}
+use Rattle.occ_check_opened.specs.declared.unfolder.Unfolder.{Unfolder}
+use Rattle.occ_check_opened.specs.Weights.{decl_nodes}
+use Rattle.occ_check_opened.specs.Progress.{meant_at, counted}
+use Rattle.occ_check_opened.specs.Opened.{put, body_unfolded}
+use Rattle.occ_check_arms.specs.declared.variants.OpenedVariant.{OpenedVariant}
+use Rattle.occ_check_arms.specs.declared.variants.VariantHead.{VariantHead}
+
+abbrev pub variants_taken : Names → ℕ → ℕ → Var → Numbers → Option ((Protocol × T.Place) × Numbers)
+variants_taken ns line depth v n = do
+  c ← channel_of ns line v
+  p ← with_tags c.0
+  m ← room depth (Sizes.with_node (size_of_place c.1)) n
+  Some ((p, c.1), m)
+
+abbrev pub storing : Names → ℕ → ℕ → Protocol → (tag : ℕ) → List L.Target → Numbers → Option (List T.Target × Numbers)
+storing ns line depth p k ts n = do
+  parts ← parts_after p (Some k)
+  targets ← stored ns line parts ts
+  m ← room depth (size_of_targets targets) n
+  Some (targets, m)
+
+-- ---- the parts of a variant
+
+abbrev pub declarations_of_variant : Variant → Decls
+declarations_of_variant (variants.Tagged' shape ds line x ts n) = held_decls ds
+
+abbrev pub line_of_variant : Variant → ℕ
+line_of_variant (variants.Tagged' shape ds line x ts n) = line
+
+abbrev pub targets_of_variant : Variant → List L.Target
+targets_of_variant (variants.Tagged' shape ds line x ts n) = map target_of ts.items
+
+abbrev pub body_of_variant : Variant → Process
+body_of_variant (variants.Tagged' shape ds line x ts n) = n
+
+abbrev pub variant_with_targets : ℕ → List Target → List Decl → Process → Protocol → (tag : ℕ) → Under Variants
+variant_with_targets line ts ds p = P.variant_of line (map target_of ts) (all_declared (decl_nodes ds)) (body_unfolded p)
+
+-- ---- a variant that is opened
+
+abbrev pub variant_with : VariantHead → T.Term → T.Variants
+variant_with h t = T.or_variant h.tag (declarations_of h.declarations) (targets_of h.targets) t T.no_variants
+
+abbrev pub variant_left : Unfolder → OpenedVariant → Option (T.Variants × N.Numbers)
+variant_left u o = put (variant_with o.head) (unfolded (process_of o.body.now) (meant_at u o.at) o.depth (counted u))

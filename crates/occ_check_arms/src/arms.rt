@@ -1,0 +1,338 @@
+//! The arms of an ALT.
+
+ghost use Rattle.std.specs.Prelude.{◌≡◌, ◌<◌, ◌≤◌, ◌+◌, IfOk, OnOk};
+ghost use Rattle.occ_tree_grammar.specs.Processes.Trees.{more_nodes, no_node};
+ghost use Rattle.occ_tree_grammar.specs.Processes.Views as trees;
+ghost use Rattle.occ_tree_grammar.specs.Processes.Views.{held_arms, held_decls};
+ghost use Rattle.occ_tree_grammar.specs.declared.tree.process.Arm.TheBlock.{hidden-the_row-Arm-2, hidden-the_row-Decl-0};
+ghost use Rattle.occ_tree_grammar.specs.Lines.HeadViews.{guard_of};
+ghost use Rattle.occ_term.specs.View.{arms_of, declarations_of, term_of, variants_of};
+ghost use Rattle.occ_check_meaning.specs.Actions as meant;
+ghost use Rattle.occ_check_meaning.specs.Performing as performing;
+ghost use Rattle.occ_check_meaning.specs.Performing.{alternated};
+ghost use Rattle.occ_check_meaning.specs.Recursion.{all_arms, arm_unfolded};
+ghost use Rattle.occ_check_opened.specs.Opened.{Begins, IsReady, LeavesWithin, OpensAt, body_unfolded};
+ghost use Rattle.occ_check_arms.specs.Arms.{arm_depth, arm_left, arm_weight, arm_with, arms_behind, arms_within, variants_within, declarations_of_arm, each_arm_of, listening, arm_size};
+ghost use Rattle.occ_check_opened.specs.Progress.{body_weight, node_weight, nodes_weight, weight_at};
+ghost use Rattle.occ_check_opened.specs.Weights.{arm_nodes, decl_nodes, node_size};
+ghost use Rattle.occ_check_opened.specs.OpenBlocks.{Keeps};
+
+use crate::guards::{ArmGuard, depth_behind, guarding_at, guarding_variants_at};
+use crate::variants::listed_variants;
+use occ_check_names::fault::CheckFault;
+use occ_check_names::numbers::deeper;
+use occ_check_names::scope::Position;
+use occ_check_opened::opened::{Left, Opened, Over, only_arm};
+use occ_check_opened::unfolder::Unfolder;
+use occ_term::{
+    Arm as TermArm, Declaration, Place, Protocol, Reception, Term, TermExpr, Variant as TermVariant,
+};
+use occ_tree_grammar::tree::line::{Guard, Replicator};
+use occ_tree_grammar::tree::process::{Arm, Decl, Process, Variant};
+use sqlite_items::Items;
+use std::alloc::{AllocError, Global};
+
+/// An arm whose first steps are done: what is left of it, what that is put into, and where and how deep it stands.
+#[derive(Drop)]
+pub enum OpenedArm<'t> {
+    /// Its process is left.
+    Guarded(GuardedHead, &'t Process, Position, u32),
+    /// The variants of an input are left, from a channel with this protocol.
+    OnVariant(VariantsHead, Protocol, &'t [Variant], Position, u32),
+    /// The arms of a nested ALT are left.
+    Inner(ArmsHead, &'t [Arm], Position, u32),
+}
+
+/// What the process of an arm is put into: what is set for its declarations, and its guard.
+pub struct GuardedHead {
+    heads: Items<Declaration>,
+    guard: ArmGuard,
+}
+
+impl Drop for GuardedHead {
+    fn drop(self) {
+        let GuardedHead { heads: _, guard: _ } = self;
+    }
+}
+
+impl GuardedHead {
+    /// The arm with its process.
+    pub fn with_process(self, alloc: Global, body: Term) -> Result<Items<TermArm>, AllocError>
+        ensures { IfOk result (λ xs. arms_of xs ≡ arm_with self (term_of body)) }
+    {
+        let GuardedHead { heads, guard } = self;
+        let arms = guard.with_process(alloc, body)?;
+        arms_behind(alloc, heads, arms)
+    }
+}
+
+/// What the variants of an arm are put into: what is set for its declarations, its Boolean and its channel.
+pub struct VariantsHead {
+    heads: Items<Declaration>,
+    test: Option<TermExpr>,
+    channel: Place,
+}
+
+impl Drop for VariantsHead {
+    fn drop(self) {
+        let VariantsHead {
+            heads: _,
+            test: _,
+            channel: _,
+        } = self;
+    }
+}
+
+impl VariantsHead {
+    /// The arm with its variants.
+    pub fn with_variants(
+        self,
+        alloc: Global,
+        variants: Items<TermVariant>,
+    ) -> Result<Items<TermArm>, AllocError>
+        ensures { IfOk result (λ xs. arms_of xs ≡ variants_within self (variants_of variants)) }
+    {
+        let VariantsHead {
+            heads,
+            test,
+            channel,
+        } = self;
+        let arm = TermArm::InputArm(test, channel, Reception::Tagged(variants));
+        let arms = only_arm(alloc, arm)?;
+        arms_behind(alloc, heads, arms)
+    }
+}
+
+/// What the arms of a nested ALT are put into: what is set for its declarations, and its replicator.
+pub struct ArmsHead {
+    heads: Items<Declaration>,
+    over: Over,
+}
+
+impl Drop for ArmsHead {
+    fn drop(self) {
+        let ArmsHead { heads: _, over: _ } = self;
+    }
+}
+
+impl ArmsHead {
+    /// The arms in it.
+    pub fn with_arms(
+        self,
+        alloc: Global,
+        arms: Items<TermArm>,
+    ) -> Result<Items<TermArm>, AllocError>
+        ensures { IfOk result (λ xs. arms_of xs ≡ arms_within self (arms_of arms)) }
+    {
+        let ArmsHead { heads, over } = self;
+        let arms = over.with_arms(alloc, arms)?;
+        arms_behind(alloc, heads, arms)
+    }
+}
+
+/// Opens an ALT.
+pub fn arms_opened<'t>(
+    unfolder: &mut Unfolder<'t>,
+    at: Position,
+    depth: u32,
+    by_priority: bool,
+    arms: &'t [Arm],
+) -> Result<Opened<'t>, CheckFault>
+    ensures opens { Begins result unfolder.old unfolder.new at depth
+        (alternated by_priority (all_arms (arm_nodes arms.now))) }
+    ensures kept { OnOk result (Keeps unfolder.old.blocks unfolder.new.blocks) }
+    ensures weight { LeavesWithin result unfolder.new
+        (nodes_weight unfolder.old at (arm_nodes arms.now)) }
+    ensures ready { IfOk result IsReady }
+{
+    unfolder.numbers.node(depth)?;
+    Ok(Opened {
+        left: Left::Arms(by_priority, Over::Once, arms),
+        at,
+        depth: depth + 1,
+    })
+}
+
+/// Opens a replicated ALT.
+pub fn each_arm_opened<'t>(
+    unfolder: &mut Unfolder<'t>,
+    alloc: Global,
+    at: Position,
+    depth: u32,
+    line: u32,
+    by_priority: bool,
+    replicator: &Replicator,
+    arm: &'t Arm,
+) -> Result<Opened<'t>, CheckFault>
+    ensures opens { Begins result unfolder.old unfolder.new at depth
+        (alternated by_priority (each_arm_of line replicator.now arm.now)) }
+    ensures kept { OnOk result (Keeps unfolder.old.blocks unfolder.new.blocks) }
+    ensures weight { LeavesWithin result unfolder.new
+        ((node_size (trees.arm_of arm.now) + 1) + weight_at unfolder.old at) }
+    ensures ready { IfOk result IsReady }
+{
+    unfolder.numbers.node(depth)?;
+    let (over, inside) = unfolder.indexed(alloc, at, depth + 1, line, replicator)?;
+    Ok(Opened {
+        left: Left::Arms(by_priority, Over::Each(over), one_arm(arm)),
+        at: inside,
+        depth: depth + 1,
+    })
+}
+
+/// Opens an arm.
+pub fn arm_opened<'t>(
+    unfolder: &mut Unfolder<'t>,
+    alloc: Global,
+    at: Position,
+    depth: u32,
+    arm: &'t Arm,
+) -> Result<OpenedArm<'t>, CheckFault>
+    requires { depth ≤ 200 }
+    ensures opens { OpensAt arm_left result unfolder.old unfolder.new at depth
+        (arm_unfolded (trees.arm_of arm.now)) }
+    ensures kept { OnOk result (Keeps unfolder.old.blocks unfolder.new.blocks) }
+    ensures weight { IfOk result (λ o. arm_weight unfolder.new o
+        < node_weight unfolder.old at (trees.arm_of arm.now)) }
+    ensures within { IfOk result (λ o. arm_depth o ≤ 200) }
+{
+    let (heads, inside) = unfolder.entering(alloc, at, depth, declarations_of(arm))?;
+    let deep = deeper(depth, heads.len())?;
+    listening_opened(unfolder, alloc, inside, deep, arm, heads)
+}
+
+/// Opens an arm behind its declarations, for which this is set.
+fn listening_opened<'t>(
+    unfolder: &mut Unfolder<'t>,
+    alloc: Global,
+    at: Position,
+    depth: u32,
+    arm: &'t Arm,
+    heads: Items<Declaration>,
+) -> Result<OpenedArm<'t>, CheckFault>
+    requires { depth ≤ 200 }
+    ensures opens { OpensAt arm_left result unfolder.old unfolder.new at depth
+        (arms_behind heads (listening arm.now)) }
+    ensures kept { OnOk result (Keeps unfolder.old.blocks unfolder.new.blocks) }
+    ensures weight { IfOk result (λ o. arm_weight unfolder.new o
+        ≤ arm_size arm.now + weight_at unfolder.old at) }
+    ensures within { IfOk result (λ o. arm_depth o ≤ 200) }
+{
+    match arm {
+        Arm::Guarded(_, line, guard, body) => {
+            guard_opened(unfolder, alloc, at, depth, *line, guard, body, heads)
+        }
+        Arm::OnVariant(_, line, guard, variants) => {
+            let (test, protocol, channel) = guarding_variants_at(
+                unfolder, alloc, at, depth, *line, guard,
+            )?;
+            let head = VariantsHead {
+                heads,
+                test,
+                channel,
+            };
+            let variants = listed_variants(variants);
+            Ok(OpenedArm::OnVariant(head, protocol, variants, at, depth + 1))
+        }
+        Arm::InnerAlt(_, _, _, arms) => {
+            let deep = deeper(depth, 1)?;
+            let over = Over::Once;
+            let head = ArmsHead { heads, over };
+            Ok(OpenedArm::Inner(head, listed_arms(arms), at, deep))
+        }
+        Arm::InnerAltFor(_, line, _, replicator, arm) => {
+            let deep = deeper(depth, 1)?;
+            let (over, inside) = unfolder.indexed(alloc, at, deep, *line, replicator)?;
+            let over = Over::Each(over);
+            let head = ArmsHead { heads, over };
+            Ok(OpenedArm::Inner(head, one_arm(arm), inside, deep))
+        }
+    }
+}
+
+/// Opens an arm with a guard in one line, behind its declarations, for which this is set.
+fn guard_opened<'t>(
+    unfolder: &mut Unfolder<'t>,
+    alloc: Global,
+    at: Position,
+    depth: u32,
+    line: u32,
+    guard: &Guard,
+    body: &'t Process,
+    heads: Items<Declaration>,
+) -> Result<OpenedArm<'t>, CheckFault>
+    requires { depth ≤ 200 }
+    ensures opens { OpensAt arm_left result unfolder.old unfolder.new at depth
+        (arms_behind heads (performing.arm_of line (guard_of guard.now) (body_unfolded body.now))) }
+    ensures kept { OnOk result (Keeps unfolder.old.blocks unfolder.new.blocks) }
+    ensures weight { IfOk result (λ o. arm_weight unfolder.new o
+        ≤ body_weight unfolder.old at body.now) }
+    ensures within { IfOk result (λ o. arm_depth o ≤ 200) }
+{
+    match guard {
+        Guard::Input(test, input) => {
+            let guarded = guarding_at(unfolder, alloc, at, depth, line, test, input)?;
+            let deep = depth_behind(&guarded.listed, depth + 1);
+            let guard = ArmGuard::Input(guarded);
+            let head = GuardedHead { heads, guard };
+            Ok(OpenedArm::Guarded(head, body, at, deep))
+        }
+        Guard::Skip(test) => {
+            let guard = ArmGuard::Skip(unfolder.tested(alloc, at, depth, line, test)?);
+            let head = GuardedHead { heads, guard };
+            Ok(OpenedArm::Guarded(head, body, at, depth + 1))
+        }
+    }
+}
+
+/// Arms behind what is set for declarations.
+fn arms_behind(
+    alloc: Global,
+    heads: Items<Declaration>,
+    arms: Items<TermArm>,
+) -> Result<Items<TermArm>, AllocError>
+    ensures { IfOk result (λ xs. arms_of xs
+        ≡ meant.arms_behind (declarations_of heads) (arms_of arms)) }
+{
+    let mut heads = heads;
+    let mut arms = arms;
+    'outwards: while let Some(head) = heads.pop() {
+        arms = only_arm(alloc, TermArm::DeclaredArms(head, arms))?;
+    }
+    Ok(arms)
+}
+
+/// An arm as a list.
+fn one_arm(arm: &Arm) -> &[Arm]
+    ensures { arm_nodes result.now ≡ more_nodes (trees.arm_of arm.now) no_node }
+{
+    std::slice::from_ref(arm)
+}
+
+/// The arms of an ALT, as a slice.
+#[tactic(auto, using(crate::proofs::HeldLists::arms_made))]
+pub fn listed_arms(arms: &Vec<Arm>) -> &[Arm]
+    ensures { arm_nodes result.now ≡ held_arms (hidden-the_row-Arm-2 arms.now) }
+{
+    arms.as_slice()
+}
+
+/// The declarations of an arm, as they are kept.
+fn kept_declarations(arm: &Arm) -> &Vec<Decl>
+    ensures { held_decls (hidden-the_row-Decl-0 result.now) ≡ declarations_of_arm arm.now }
+{
+    match arm {
+        Arm::Guarded(declarations, _, _, _) => declarations,
+        Arm::OnVariant(declarations, _, _, _) => declarations,
+        Arm::InnerAlt(declarations, _, _, _) => declarations,
+        Arm::InnerAltFor(declarations, _, _, _, _) => declarations,
+    }
+}
+
+/// The declarations of an arm.
+#[tactic(auto, using(occ_check_opened::proofs::Parts::decls_made))]
+fn declarations_of(arm: &Arm) -> &[Decl]
+    ensures { decl_nodes result.now ≡ declarations_of_arm arm.now }
+{
+    kept_declarations(arm).as_slice()
+}

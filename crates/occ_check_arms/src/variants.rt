@@ -1,0 +1,345 @@
+//! Inputs of variants.
+
+ghost use Rattle.std.specs.Prelude.{◌≡◌, ◌<◌, ◌≤◌, [], IfOk, OnOk, map};
+ghost use Rattle.occ_tree_grammar.specs.Processes.Views as trees;
+ghost use Rattle.occ_tree_grammar.specs.Processes.Views.{held_decls, held_variants};
+ghost use Rattle.occ_tree_grammar.specs.declared.tree.process.Arm.TheBlock.{hidden-the_row-Decl-0, hidden-the_row-Variant-1};
+ghost use Rattle.occ_tree_grammar.specs.Lines.Views as lines;
+ghost use Rattle.occ_term.specs.Terms.{no_variants};
+ghost use Rattle.occ_term.specs.View.{place_of, targets_of, term_of, variant_of};
+ghost use Rattle.occ_check_meaning.specs.Performing as performing;
+ghost use Rattle.occ_check_meaning.specs.Recursion.{all_variants, variant_unfolded};
+ghost use Rattle.occ_check_meaning.specs.Actions.{variant_tag};
+ghost use Rattle.occ_check_arms.specs.Variants.{storing, variants_taken, body_of_variant, declarations_of_variant, line_of_variant, targets_of_variant, variant_with_targets, variant_left, variant_with};
+ghost use Rattle.occ_check_names.specs.View.{Unfolds, numbers_of};
+ghost use Rattle.occ_check_opened.specs.Opened.{Begins, IsReady, LeavesWithin, OpensAt};
+ghost use Rattle.occ_check_opened.specs.Progress.{body_weight, counted, declared_weight, names_there, node_weight, nodes_weight, read_in};
+ghost use Rattle.occ_check_opened.specs.Weights.{decl_nodes, variant_nodes};
+ghost use Rattle.occ_check_opened.specs.OpenBlocks.{Keeps};
+
+use occ_check_acting::action::with_tags;
+use occ_check_acting::target::stored;
+use occ_check_names::context::Context;
+use occ_check_names::fault::CheckFault;
+use occ_check_names::measuring::{count_place, count_targets};
+use occ_check_names::numbers::Numbers;
+use occ_check_names::scope::Position;
+use occ_check_opened::one_line::names_at;
+use occ_check_opened::opened::{Left, Opened};
+use occ_check_opened::unfolder::Unfolder;
+use occ_check_typing::item::{channel_of, parts_after};
+use occ_term::{Declaration, Place, Protocol, Target, Term, Variant as TermVariant};
+use occ_tree_grammar::tree::line::{Target as TargetTree, Var};
+use occ_tree_grammar::tree::process::{Decl, Process, Variant};
+use sqlite_items::Items;
+use std::alloc::Global;
+
+/// A variant whose first steps are done: its process is left.
+#[derive(Drop)]
+pub struct OpenedVariant<'t> {
+    /// What that is put into.
+    pub head: VariantHead,
+    /// The process.
+    pub body: &'t Process,
+    /// The position at which it is read.
+    pub at: Position,
+    /// How many nodes stand round it.
+    pub depth: u32,
+}
+
+/// What the process of a variant is put into: the number of its tag, what is set for its declarations, and its targets.
+pub struct VariantHead {
+    tag: u32,
+    declarations: Items<Declaration>,
+    targets: Items<Target>,
+}
+
+impl Drop for VariantHead {
+    fn drop(self) {
+        let VariantHead {
+            tag: _,
+            declarations: _,
+            targets: _,
+        } = self;
+    }
+}
+
+impl VariantHead {
+    /// The variant with its process.
+    pub fn with_process(self, body: Term) -> TermVariant
+        ensures { variant_of result no_variants ≡ variant_with self (term_of body) }
+    {
+        let VariantHead {
+            tag,
+            declarations,
+            targets,
+        } = self;
+        TermVariant {
+            tag,
+            declarations,
+            targets,
+            body,
+        }
+    }
+}
+
+/// Opens an input of variants.
+pub fn variants_opened<'t>(
+    unfolder: &mut Unfolder<'t>,
+    alloc: Global,
+    at: Position,
+    depth: u32,
+    line: u32,
+    channel: &Var,
+    list: &'t [Variant],
+) -> Result<Opened<'t>, CheckFault>
+    ensures opens { Begins result unfolder.old unfolder.new at depth
+        (performing.taken_by_variant line (lines.var_of channel.now)
+        (λ p. all_variants (variant_nodes list.now) p [])) }
+    ensures kept { OnOk result (Keeps unfolder.old.blocks unfolder.new.blocks) }
+    ensures weight { LeavesWithin result unfolder.new
+        (nodes_weight unfolder.old at (variant_nodes list.now)) }
+    ensures ready { IfOk result IsReady }
+{
+    let (protocol, channel) = variants_taken_at(unfolder, alloc, at, depth, line, channel)?;
+    Ok(Opened {
+        left: Left::Variants(channel, protocol, list),
+        at,
+        depth: depth + 1,
+    })
+}
+
+/// Opens a variant, with the number of its tag.
+pub fn variant_opened<'t>(
+    unfolder: &mut Unfolder<'t>,
+    alloc: Global,
+    at: Position,
+    depth: u32,
+    protocol: &Protocol,
+    tag: u32,
+    variant: &'t Variant,
+) -> Result<OpenedVariant<'t>, CheckFault>
+    requires { depth ≤ 200 }
+    ensures opens { OpensAt variant_left result unfolder.old unfolder.new at depth
+        (variant_unfolded (trees.variant_of variant.now) protocol.now tag) }
+    ensures kept { OnOk result (Keeps unfolder.old.blocks unfolder.new.blocks) }
+    ensures weight { IfOk result (λ o. body_weight unfolder.new o.at o.body.now
+        < node_weight unfolder.old at (trees.variant_of variant.now)) }
+    ensures within { IfOk result (λ o. o.depth ≤ 200) }
+{
+    let line = line_of(variant);
+    let declarations = declarations_of(variant);
+    let targets = targets_of(variant);
+    let body = body_of(variant);
+    tagged_opened(
+        unfolder,
+        alloc,
+        at,
+        depth,
+        line,
+        protocol,
+        tag,
+        declarations,
+        targets,
+        body,
+    )
+}
+
+/// Opens a variant of these parts.
+fn tagged_opened<'t>(
+    unfolder: &mut Unfolder<'t>,
+    alloc: Global,
+    at: Position,
+    depth: u32,
+    line: u32,
+    protocol: &Protocol,
+    tag: u32,
+    declarations: &'t [Decl],
+    targets: &[TargetTree],
+    body: &'t Process,
+) -> Result<OpenedVariant<'t>, CheckFault>
+    ensures opens { OpensAt variant_left result unfolder.old unfolder.new at depth
+        (variant_with_targets line targets.now declarations.now body.now protocol.now tag) }
+    ensures kept { OnOk result (Keeps unfolder.old.blocks unfolder.new.blocks) }
+    ensures weight { IfOk result (λ o. body_weight unfolder.new o.at o.body.now
+        ≤ declared_weight unfolder.old at declarations.now body.now) }
+    ensures within { IfOk result (λ o. o.depth ≤ 200) }
+{
+    unfolder.numbers.node(depth)?;
+    let (heads, inside) = unfolder.entering(alloc, at, depth + 1, declarations)?;
+    let targets = storing_at(
+        unfolder,
+        alloc,
+        inside,
+        depth + 1,
+        line,
+        protocol,
+        tag,
+        targets,
+    )?;
+    let head = VariantHead {
+        tag,
+        declarations: heads,
+        targets,
+    };
+    Ok(OpenedVariant {
+        head,
+        body,
+        at: inside,
+        depth: depth + 1,
+    })
+}
+
+/// The channel of an input of variants with what it carries, and the node that it heads.
+fn variants_taken_at(
+    unfolder: &mut Unfolder<'_>,
+    alloc: Global,
+    at: Position,
+    depth: u32,
+    line: u32,
+    channel: &Var,
+) -> Result<(Protocol, Place), CheckFault>
+    ensures taken { Unfolds (λ c. (c.0, place_of c.1)) result unfolder.new.numbers
+        (variants_taken (names_there unfolder.old at) line depth (lines.var_of channel.now)
+        (counted unfolder.old)) }
+    ensures kept { OnOk result (unfolder.new.blocks ≡ unfolder.old.blocks) }
+    ensures within { IfOk result (λ _. depth < 200) }
+{
+    let scope = names_at(&unfolder.blocks, at);
+    variants_taken(
+        &mut unfolder.numbers,
+        Context { alloc, scope, line },
+        depth,
+        channel,
+    )
+}
+
+/// The targets behind a tag, with their nodes.
+fn storing_at(
+    unfolder: &mut Unfolder<'_>,
+    alloc: Global,
+    at: Position,
+    depth: u32,
+    line: u32,
+    protocol: &Protocol,
+    tag: u32,
+    targets: &[TargetTree],
+) -> Result<Items<Target>, CheckFault>
+    ensures targets { Unfolds targets_of result unfolder.new.numbers
+        (storing (names_there unfolder.old at) line depth protocol.now tag
+        (map lines.target_of targets.now) (counted unfolder.old)) }
+    ensures kept { OnOk result (unfolder.new.blocks ≡ unfolder.old.blocks) }
+{
+    let scope = names_at(&unfolder.blocks, at);
+    storing(
+        &mut unfolder.numbers,
+        Context { alloc, scope, line },
+        depth,
+        protocol,
+        tag,
+        targets,
+    )
+}
+
+/// The channel of an input of variants with what it carries, and the node that it heads.
+fn variants_taken(
+    numbers: &mut Numbers,
+    context: Context<'_, '_>,
+    depth: u32,
+    channel: &Var,
+) -> Result<(Protocol, Place), CheckFault>
+    ensures taken { Unfolds (λ c. (c.0, place_of c.1)) result numbers.new
+        (read_in context.entry variants_taken depth (lines.var_of channel.now)
+        (numbers_of numbers.old)) }
+    ensures within { IfOk result (λ _. depth < 200) }
+{
+    let (protocol, channel) = channel_of(context, channel)?;
+    let protocol = with_tags(context.line, protocol)?;
+    numbers.node(depth)?;
+    count_place(numbers, depth + 1, &channel)?;
+    let protocol = protocol.copy(context.alloc)?;
+    Ok((protocol, channel))
+}
+
+/// The targets behind a tag, with their nodes.
+fn storing(
+    numbers: &mut Numbers,
+    context: Context<'_, '_>,
+    depth: u32,
+    protocol: &Protocol,
+    tag: u32,
+    targets: &[TargetTree],
+) -> Result<Items<Target>, CheckFault>
+    ensures { Unfolds targets_of result numbers.new (read_in context.entry storing depth
+        protocol.now tag (map lines.target_of targets.now) (numbers_of numbers.old)) }
+{
+    let parts = parts_after(context.alloc, context.line, protocol, Some(tag))?;
+    let targets = match stored(context, parts.as_slice(), targets) {
+        Ok(targets) => targets,
+        Err(e) => return Err(e),
+    };
+    count_targets(numbers, depth, targets.as_slice())?;
+    Ok(targets)
+}
+
+/// The line of a variant.
+pub fn line_of(variant: &Variant) -> u32
+    ensures { result ≡ line_of_variant variant.now }
+{
+    match variant {
+        Variant::Tagged(_, line, _, _, _) => *line,
+    }
+}
+
+/// The declarations of a variant, as they are kept.
+fn kept_declarations(variant: &Variant) -> &Vec<Decl>
+    ensures { held_decls (hidden-the_row-Decl-0 result.now) ≡ declarations_of_variant variant.now }
+{
+    match variant {
+        Variant::Tagged(declarations, _, _, _, _) => declarations,
+    }
+}
+
+/// The declarations of a variant.
+#[tactic(auto, using(occ_check_opened::proofs::Parts::decls_made))]
+fn declarations_of(variant: &Variant) -> &[Decl]
+    ensures { decl_nodes result.now ≡ declarations_of_variant variant.now }
+{
+    kept_declarations(variant).as_slice()
+}
+
+/// The targets of a variant.
+fn targets_of(variant: &Variant) -> &[TargetTree]
+    ensures { map lines.target_of result.now ≡ targets_of_variant variant.now }
+{
+    match variant {
+        Variant::Tagged(_, _, _, targets, _) => targets.as_slice(),
+    }
+}
+
+/// The process of a variant.
+fn body_of(variant: &Variant) -> &Process
+    ensures { result.now ≡ body_of_variant variant.now }
+{
+    match variant {
+        Variant::Tagged(_, _, _, _, body) => body,
+    }
+}
+
+/// The name of a variant's tag.
+#[tactic(auto, unfolding(occ_tree_grammar::specs::Processes::Views::variant_of))]
+pub fn tag_of(variant: &Variant) -> &[u8]
+    ensures { result.now ≡ variant_tag (trees.variant_of variant.now) }
+{
+    match variant {
+        Variant::Tagged(_, _, tag, _, _) => tag.as_slice(),
+    }
+}
+
+/// The variants of an input, as a slice.
+#[tactic(auto, using(crate::proofs::HeldLists::variants_made))]
+pub fn listed_variants(variants: &Vec<Variant>) -> &[Variant]
+    ensures { variant_nodes result.now ≡ held_variants (hidden-the_row-Variant-1 variants.now) }
+{
+    variants.as_slice()
+}

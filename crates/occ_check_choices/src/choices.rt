@@ -1,0 +1,245 @@
+//! The choices of an IF.
+
+ghost use Rattle.std.specs.Prelude.{◌≡◌, ◌<◌, ◌≤◌, ◌+◌, IfOk, OnOk};
+ghost use Rattle.occ_tree_grammar.specs.Processes.Trees.{more_nodes, no_node};
+ghost use Rattle.occ_tree_grammar.specs.Processes.Views as trees;
+ghost use Rattle.occ_tree_grammar.specs.Processes.Views.{held_choices, held_decls};
+ghost use Rattle.occ_tree_grammar.specs.declared.tree.process.Arm.TheBlock.{hidden-the_row-Choice-3, hidden-the_row-Decl-0};
+ghost use Rattle.occ_term.specs.View.{choices_of, declarations_of, term_of};
+ghost use Rattle.occ_check_meaning.specs.Actions as meant;
+ghost use Rattle.occ_check_meaning.specs.Performing.{conditioned};
+ghost use Rattle.occ_check_meaning.specs.Recursion.{all_choices, choice_unfolded};
+ghost use Rattle.occ_check_opened.specs.Opened.{Begins, IsReady, LeavesWithin, OpensAt};
+ghost use Rattle.occ_check_choices.specs.Choices.{choice_depth, choice_left, choice_weight, choice_with, choices_behind, choices_within, choosing, declarations_of_choice, each_choice_of, choice_size};
+ghost use Rattle.occ_check_opened.specs.Progress.{node_weight, nodes_weight, weight_at};
+ghost use Rattle.occ_check_opened.specs.Weights.{choice_nodes, decl_nodes, node_size};
+ghost use Rattle.occ_check_opened.specs.OpenBlocks.{Keeps};
+
+use occ_check_names::fault::CheckFault;
+use occ_check_names::numbers::deeper;
+use occ_check_names::scope::Position;
+use occ_check_opened::opened::{Left, Opened, Over, only_choice};
+use occ_check_opened::unfolder::Unfolder;
+use occ_term::{Choice as TermChoice, Declaration, Term, TermExpr};
+use occ_tree_grammar::tree::line::Replicator;
+use occ_tree_grammar::tree::process::{Choice, Decl, Process};
+use sqlite_items::Items;
+use std::alloc::{AllocError, Global};
+
+/// A choice whose first steps are done: what is left of it, what that is put into, and where and how deep it stands.
+#[derive(Drop)]
+pub enum OpenedChoice<'t> {
+    /// Its process is left.
+    When(WhenHead, &'t Process, Position, u32),
+    /// The choices of a nested IF are left.
+    Inner(ChoicesHead, &'t [Choice], Position, u32),
+}
+
+/// What the process of a choice is put into: what is set for its declarations, and its condition.
+pub struct WhenHead {
+    heads: Items<Declaration>,
+    test: TermExpr,
+}
+
+impl Drop for WhenHead {
+    fn drop(self) {
+        let WhenHead { heads: _, test: _ } = self;
+    }
+}
+
+impl WhenHead {
+    /// The choice with its process.
+    pub fn with_process(self, alloc: Global, body: Term) -> Result<Items<TermChoice>, AllocError>
+        ensures { IfOk result (λ cs. choices_of cs ≡ choice_with self (term_of body)) }
+    {
+        let WhenHead { heads, test } = self;
+        let choices = only_choice(alloc, TermChoice::When(test, body))?;
+        choices_behind(alloc, heads, choices)
+    }
+}
+
+/// What the choices of a nested IF are put into: what is set for its declarations, and its replicator.
+pub struct ChoicesHead {
+    heads: Items<Declaration>,
+    over: Over,
+}
+
+impl Drop for ChoicesHead {
+    fn drop(self) {
+        let ChoicesHead { heads: _, over: _ } = self;
+    }
+}
+
+impl ChoicesHead {
+    /// The choices in it.
+    pub fn with_choices(
+        self,
+        alloc: Global,
+        choices: Items<TermChoice>,
+    ) -> Result<Items<TermChoice>, AllocError>
+        ensures { IfOk result (λ cs. choices_of cs ≡ choices_within self (choices_of choices)) }
+    {
+        let ChoicesHead { heads, over } = self;
+        let choices = over.with_choices(alloc, choices)?;
+        choices_behind(alloc, heads, choices)
+    }
+}
+
+/// Opens an IF.
+pub fn choices_opened<'t>(
+    unfolder: &mut Unfolder<'t>,
+    at: Position,
+    depth: u32,
+    choices: &'t [Choice],
+) -> Result<Opened<'t>, CheckFault>
+    ensures opens { Begins result unfolder.old unfolder.new at depth
+        (conditioned (all_choices (choice_nodes choices.now))) }
+    ensures kept { OnOk result (Keeps unfolder.old.blocks unfolder.new.blocks) }
+    ensures weight { LeavesWithin result unfolder.new
+        (nodes_weight unfolder.old at (choice_nodes choices.now)) }
+    ensures ready { IfOk result IsReady }
+{
+    unfolder.numbers.node(depth)?;
+    Ok(Opened {
+        left: Left::Choices(Over::Once, choices),
+        at,
+        depth: depth + 1,
+    })
+}
+
+/// Opens a replicated IF.
+pub fn each_choice_opened<'t>(
+    unfolder: &mut Unfolder<'t>,
+    alloc: Global,
+    at: Position,
+    depth: u32,
+    line: u32,
+    replicator: &Replicator,
+    choice: &'t Choice,
+) -> Result<Opened<'t>, CheckFault>
+    ensures opens { Begins result unfolder.old unfolder.new at depth
+        (conditioned (each_choice_of line replicator.now choice.now)) }
+    ensures kept { OnOk result (Keeps unfolder.old.blocks unfolder.new.blocks) }
+    ensures weight { LeavesWithin result unfolder.new
+        ((node_size (trees.choice_of choice.now) + 1) + weight_at unfolder.old at) }
+    ensures ready { IfOk result IsReady }
+{
+    unfolder.numbers.node(depth)?;
+    let (over, inside) = unfolder.indexed(alloc, at, depth + 1, line, replicator)?;
+    Ok(Opened {
+        left: Left::Choices(Over::Each(over), one_choice(choice)),
+        at: inside,
+        depth: depth + 1,
+    })
+}
+
+/// Opens a choice.
+pub fn choice_opened<'t>(
+    unfolder: &mut Unfolder<'t>,
+    alloc: Global,
+    at: Position,
+    depth: u32,
+    choice: &'t Choice,
+) -> Result<OpenedChoice<'t>, CheckFault>
+    requires { depth ≤ 200 }
+    ensures opens { OpensAt choice_left result unfolder.old unfolder.new at depth
+        (choice_unfolded (trees.choice_of choice.now)) }
+    ensures kept { OnOk result (Keeps unfolder.old.blocks unfolder.new.blocks) }
+    ensures weight { IfOk result (λ o. choice_weight unfolder.new o
+        < node_weight unfolder.old at (trees.choice_of choice.now)) }
+    ensures within { IfOk result (λ o. choice_depth o ≤ 200) }
+{
+    let (heads, inside) = unfolder.entering(alloc, at, depth, declarations_of(choice))?;
+    let deep = deeper(depth, heads.len())?;
+    chosen_opened(unfolder, alloc, inside, deep, choice, heads)
+}
+
+/// Opens a choice behind its declarations, for which this is set.
+fn chosen_opened<'t>(
+    unfolder: &mut Unfolder<'t>,
+    alloc: Global,
+    at: Position,
+    depth: u32,
+    choice: &'t Choice,
+    heads: Items<Declaration>,
+) -> Result<OpenedChoice<'t>, CheckFault>
+    requires { depth ≤ 200 }
+    ensures opens { OpensAt choice_left result unfolder.old unfolder.new at depth
+        (choices_behind heads (choosing choice.now)) }
+    ensures kept { OnOk result (Keeps unfolder.old.blocks unfolder.new.blocks) }
+    ensures weight { IfOk result (λ o. choice_weight unfolder.new o
+        ≤ choice_size choice.now + weight_at unfolder.old at) }
+    ensures within { IfOk result (λ o. choice_depth o ≤ 200) }
+{
+    match choice {
+        Choice::When(_, line, test, body) => {
+            let test = unfolder.tested(alloc, at, depth, *line, test)?;
+            let head = WhenHead { heads, test };
+            Ok(OpenedChoice::When(head, body, at, depth + 1))
+        }
+        Choice::InnerIf(_, _, choices) => {
+            let deep = deeper(depth, 1)?;
+            let over = Over::Once;
+            let head = ChoicesHead { heads, over };
+            Ok(OpenedChoice::Inner(head, listed_choices(choices), at, deep))
+        }
+        Choice::InnerIfFor(_, line, replicator, choice) => {
+            let deep = deeper(depth, 1)?;
+            let (over, inside) = unfolder.indexed(alloc, at, deep, *line, replicator)?;
+            let over = Over::Each(over);
+            let head = ChoicesHead { heads, over };
+            Ok(OpenedChoice::Inner(head, one_choice(choice), inside, deep))
+        }
+    }
+}
+
+/// Choices behind what is set for declarations.
+fn choices_behind(
+    alloc: Global,
+    heads: Items<Declaration>,
+    choices: Items<TermChoice>,
+) -> Result<Items<TermChoice>, AllocError>
+    ensures { IfOk result (λ cs. choices_of cs
+        ≡ meant.choices_behind (declarations_of heads) (choices_of choices)) }
+{
+    let mut heads = heads;
+    let mut choices = choices;
+    'outwards: while let Some(head) = heads.pop() {
+        choices = only_choice(alloc, TermChoice::DeclaredChoices(head, choices))?;
+    }
+    Ok(choices)
+}
+
+/// A choice as a list.
+fn one_choice(choice: &Choice) -> &[Choice]
+    ensures { choice_nodes result.now ≡ more_nodes (trees.choice_of choice.now) no_node }
+{
+    std::slice::from_ref(choice)
+}
+
+/// The choices of an IF, as a slice.
+#[tactic(auto, using(crate::proofs::HeldLists::choices_made))]
+pub fn listed_choices(choices: &Vec<Choice>) -> &[Choice]
+    ensures { choice_nodes result.now ≡ held_choices (hidden-the_row-Choice-3 choices.now) }
+{
+    choices.as_slice()
+}
+
+/// The declarations of a choice, as they are kept.
+fn kept_declarations(choice: &Choice) -> &Vec<Decl>
+    ensures { held_decls (hidden-the_row-Decl-0 result.now) ≡ declarations_of_choice choice.now }
+{
+    match choice {
+        Choice::When(declarations, _, _, _) => declarations,
+        Choice::InnerIf(declarations, _, _) => declarations,
+        Choice::InnerIfFor(declarations, _, _, _) => declarations,
+    }
+}
+
+/// The declarations of a choice.
+#[tactic(auto, using(occ_check_opened::proofs::Parts::decls_made))]
+fn declarations_of(choice: &Choice) -> &[Decl]
+    ensures { decl_nodes result.now ≡ declarations_of_choice choice.now }
+{
+    kept_declarations(choice).as_slice()
+}

@@ -1,0 +1,362 @@
+//! The options of a CASE.
+
+ghost use Rattle.std.specs.Prelude.{◌≡◌, ◌<◌, ◌≤◌, IfOk, OnOk, map};
+ghost use Rattle.occ_tree_grammar.specs.Processes.Views.{held_selections, selection_of};
+ghost use Rattle.occ_tree_grammar.specs.declared.tree.process.Arm.TheBlock.{hidden-the_row-Selection-5};
+ghost use Rattle.occ_tree_grammar.specs.Expressions.Trees.{expression_of as tree_of};
+ghost use Rattle.occ_term.specs.Terms.{no_options};
+ghost use Rattle.occ_term.specs.View.{expression_of, option_of, term_of};
+ghost use Rattle.occ_check_meaning.specs.Actions as meant;
+ghost use Rattle.occ_check_meaning.specs.Expressions.{constant_as};
+ghost use Rattle.occ_check_meaning.specs.Performing as performing;
+ghost use Rattle.occ_check_meaning.specs.Recursion.{all_options, option_unfolded};
+ghost use Rattle.occ_check_meaning.specs.Scope.{each_of};
+ghost use Rattle.occ_check_acting.specs.Action.{chosen_of};
+ghost use Rattle.occ_check_choices.specs.Options.{choosing_values, listing, selecting, option_left, option_with, Lists, option_with_else, option_with_values};
+ghost use Rattle.occ_check_names.specs.View.{Gives, Unfolds, numbers_of};
+ghost use Rattle.occ_check_opened.specs.Opened.{Begins, IsReady, LeavesWithin, OpensAt};
+ghost use Rattle.occ_check_opened.specs.Progress.{body_weight, counted, declared_weight, names_there, node_weight, nodes_weight, read_in};
+ghost use Rattle.occ_check_opened.specs.Weights.{option_nodes};
+ghost use Rattle.occ_check_opened.specs.OpenBlocks.{Keeps};
+ghost use Rattle.occ_check_opened.specs.OneLine.{expressions_of};
+
+use indexmap::IndexSet;
+use occ_check_acting::action::{Chosen, choosing, choosing_else, selector};
+use occ_check_names::context::Context;
+use occ_check_names::fault::CheckFault;
+use occ_check_names::measuring::count_constants;
+use occ_check_names::numbers::Numbers;
+use occ_check_names::scope::{Position, Scope};
+use occ_check_opened::one_line::{counted_expression, listed_declarations, names_at};
+use occ_check_opened::opened::{Left, Opened};
+use occ_check_opened::unfolder::Unfolder;
+use occ_check_typing::expression::constant_as;
+use occ_term::{Declaration, Primitive, Selection as TermSelection, Term, TermExpr};
+use occ_tree_grammar::tree::expr::Expr;
+use occ_tree_grammar::tree::line::OneOrMore;
+use occ_tree_grammar::tree::process::{Decl, Process, Selection};
+use sqlite_items::Items;
+use std::alloc::Global;
+
+/// An option whose first steps are done: its process is left.
+#[derive(Drop)]
+pub struct OpenedOption<'t> {
+    /// What that is put into.
+    pub head: OptionHead,
+    /// The process.
+    pub body: &'t Process,
+    /// The position at which it is read.
+    pub at: Position,
+    /// How many nodes stand round it.
+    pub depth: u32,
+}
+
+/// What the process of an option is put into: its constants, and what is set for its declarations.
+pub enum OptionHead {
+    /// An option with constants.
+    Among(Items<i64>, Items<Declaration>),
+    /// ELSE.
+    Otherwise(Items<Declaration>),
+}
+
+impl Drop for OptionHead {
+    fn drop(self) {
+        match self {
+            OptionHead::Among(_, _) => {}
+            OptionHead::Otherwise(_) => {}
+        }
+    }
+}
+
+impl OptionHead {
+    /// The option with its process.
+    pub fn with_process(self, body: Term) -> TermSelection
+        ensures { option_of result no_options ≡ option_with self (term_of body) }
+    {
+        match self {
+            OptionHead::Among(constants, heads) => TermSelection::Among(constants, heads, body),
+            OptionHead::Otherwise(heads) => TermSelection::Otherwise(heads, body),
+        }
+    }
+}
+
+/// Opens a CASE.
+pub fn options_opened<'t>(
+    unfolder: &mut Unfolder<'t>,
+    alloc: Global,
+    at: Position,
+    depth: u32,
+    line: u32,
+    e: &Expr,
+    selections: &'t [Selection],
+) -> Result<Opened<'t>, CheckFault>
+    ensures opens { Begins result unfolder.old unfolder.new at depth
+        (performing.selected line (tree_of e.now)
+        (λ type. all_options (option_nodes selections.now) type meant.none_chosen)) }
+    ensures kept { OnOk result (Keeps unfolder.old.blocks unfolder.new.blocks) }
+    ensures weight { LeavesWithin result unfolder.new
+        (nodes_weight unfolder.old at (option_nodes selections.now)) }
+    ensures ready { IfOk result IsReady }
+{
+    let (primitive, selector) = selecting_at(unfolder, alloc, at, depth, line, e)?;
+    Ok(Opened {
+        left: Left::Options(selector, primitive, selections),
+        at,
+        depth: depth + 1,
+    })
+}
+
+/// Opens an option.
+pub fn option_opened<'t>(
+    unfolder: &mut Unfolder<'t>,
+    alloc: Global,
+    at: Position,
+    depth: u32,
+    primitive: Primitive,
+    chosen: &mut Chosen,
+    selection: &'t Selection,
+) -> Result<OpenedOption<'t>, CheckFault>
+    requires { depth ≤ 200 }
+    ensures opens { OpensAt (option_left chosen.new) result unfolder.old unfolder.new at depth
+        (option_unfolded (selection_of selection.now) primitive (chosen_of chosen.old)) }
+    ensures kept { OnOk result (Keeps unfolder.old.blocks unfolder.new.blocks) }
+    ensures weight { IfOk result (λ o. body_weight unfolder.new o.at o.body.now
+        < node_weight unfolder.old at (selection_of selection.now)) }
+    ensures within { IfOk result (λ o. o.depth ≤ 200) }
+{
+    match selection {
+        Selection::Values(declarations, line, values, body) => {
+            let declarations = listed_declarations(declarations);
+            values_opened(
+                unfolder,
+                alloc,
+                at,
+                depth,
+                *line,
+                primitive,
+                chosen,
+                declarations,
+                values,
+                body,
+            )
+        }
+        Selection::Else(declarations, line, body) => {
+            let declarations = listed_declarations(declarations);
+            else_opened(
+                unfolder,
+                alloc,
+                at,
+                depth,
+                *line,
+                chosen,
+                declarations,
+                body,
+            )
+        }
+    }
+}
+
+/// Opens an option with values.
+fn values_opened<'t>(
+    unfolder: &mut Unfolder<'t>,
+    alloc: Global,
+    at: Position,
+    depth: u32,
+    line: u32,
+    primitive: Primitive,
+    chosen: &mut Chosen,
+    declarations: &'t [Decl],
+    values: &OneOrMore<Expr>,
+    body: &'t Process,
+) -> Result<OpenedOption<'t>, CheckFault>
+    ensures opens { OpensAt (option_left chosen.new) result unfolder.old unfolder.new at depth
+        (option_with_values line values.now declarations.now body.now primitive
+        (chosen_of chosen.old)) }
+    ensures kept { OnOk result (Keeps unfolder.old.blocks unfolder.new.blocks) }
+    ensures weight { IfOk result (λ o. body_weight unfolder.new o.at o.body.now
+        ≤ declared_weight unfolder.old at declarations.now body.now) }
+    ensures within { IfOk result (λ o. o.depth ≤ 200) }
+{
+    unfolder.numbers.node(depth)?;
+    let (heads, inside) = unfolder.entering(alloc, at, depth + 1, declarations)?;
+    let constants = choosing_values(
+        unfolder,
+        alloc,
+        inside,
+        depth + 1,
+        line,
+        primitive,
+        chosen,
+        values,
+    )?;
+    Ok(OpenedOption {
+        head: OptionHead::Among(constants, heads),
+        body,
+        at: inside,
+        depth: depth + 1,
+    })
+}
+
+/// Opens ELSE.
+fn else_opened<'t>(
+    unfolder: &mut Unfolder<'t>,
+    alloc: Global,
+    at: Position,
+    depth: u32,
+    line: u32,
+    chosen: &mut Chosen,
+    declarations: &'t [Decl],
+    body: &'t Process,
+) -> Result<OpenedOption<'t>, CheckFault>
+    ensures opens { OpensAt (option_left chosen.new) result unfolder.old unfolder.new at depth
+        (option_with_else declarations.now body.now (chosen_of chosen.old)) }
+    ensures kept { OnOk result (Keeps unfolder.old.blocks unfolder.new.blocks) }
+    ensures weight { IfOk result (λ o. body_weight unfolder.new o.at o.body.now
+        ≤ declared_weight unfolder.old at declarations.now body.now) }
+    ensures within { IfOk result (λ o. o.depth ≤ 200) }
+{
+    unfolder.numbers.node(depth)?;
+    let (heads, inside) = unfolder.entering(alloc, at, depth + 1, declarations)?;
+    choosing_else(line, chosen)?;
+    Ok(OpenedOption {
+        head: OptionHead::Otherwise(heads),
+        body,
+        at: inside,
+        depth: depth + 1,
+    })
+}
+
+/// What a CASE selects by, with the node that it heads.
+fn selecting_at(
+    unfolder: &mut Unfolder<'_>,
+    alloc: Global,
+    at: Position,
+    depth: u32,
+    line: u32,
+    e: &Expr,
+) -> Result<(Primitive, TermExpr), CheckFault>
+    ensures selector { Unfolds (λ s. (s.0, expression_of s.1)) result unfolder.new.numbers
+        (selecting (names_there unfolder.old at) line depth (tree_of e.now)
+        (counted unfolder.old)) }
+    ensures kept { OnOk result (unfolder.new.blocks ≡ unfolder.old.blocks) }
+    ensures within { IfOk result (λ _. depth < 200) }
+{
+    let scope = names_at(&unfolder.blocks, at);
+    selecting(
+        &mut unfolder.numbers,
+        Context { alloc, scope, line },
+        depth,
+        e,
+    )
+}
+
+/// The constants of an option, none of which stands in one before it, with their nodes.
+fn choosing_values(
+    unfolder: &mut Unfolder<'_>,
+    alloc: Global,
+    at: Position,
+    depth: u32,
+    line: u32,
+    primitive: Primitive,
+    chosen: &mut Chosen,
+    values: &OneOrMore<Expr>,
+) -> Result<Items<i64>, CheckFault>
+    ensures constants { Lists result chosen.new unfolder.new.numbers
+        (choosing_values (names_there unfolder.old at) line depth primitive
+        (expressions_of values.now) (chosen_of chosen.old) (counted unfolder.old)) }
+    ensures kept { OnOk result (unfolder.new.blocks ≡ unfolder.old.blocks) }
+{
+    let scope = names_at(&unfolder.blocks, at);
+    let constants = constants(Context { alloc, scope, line }, primitive, values)?;
+    chosen_constants(&mut unfolder.numbers, alloc, line, depth, chosen, constants)
+}
+
+/// What a CASE selects by, with the node that it heads.
+fn selecting(
+    numbers: &mut Numbers,
+    context: Context<'_, '_>,
+    depth: u32,
+    e: &Expr,
+) -> Result<(Primitive, TermExpr), CheckFault>
+    ensures selector { Unfolds (λ s. (s.0, expression_of s.1)) result numbers.new
+        (read_in context.entry selecting depth (tree_of e.now) (numbers_of numbers.old)) }
+    ensures within { IfOk result (λ _. depth < 200) }
+{
+    let (primitive, e) = selector(context, e)?;
+    let e = counted_expression(numbers, depth, e)?;
+    Ok((primitive, e))
+}
+
+/// Nothing is chosen.
+pub fn none_chosen(alloc: Global) -> Chosen
+    ensures { chosen_of result ≡ meant.none_chosen }
+{
+    Chosen {
+        constants: IndexSet::new(alloc),
+        has_else: false,
+    }
+}
+
+/// Constants of one option, with their nodes.
+fn chosen_constants(
+    numbers: &mut Numbers,
+    alloc: Global,
+    line: u32,
+    depth: u32,
+    chosen: &mut Chosen,
+    constants: Items<i64>,
+) -> Result<Items<i64>, CheckFault>
+    ensures { Lists result chosen.new numbers.new
+        (listing constants depth (chosen_of chosen.old) (numbers_of numbers.old)) }
+{
+    choosing(alloc, line, constants.as_slice(), chosen)?;
+    count_constants(numbers, depth, constants.as_slice())?;
+    Ok(constants)
+}
+
+/// The values of an option.
+#[tactic(auto, unfolding(occ_check_meaning::specs::Scope::each_of))]
+fn constants(
+    context: Context<'_, '_>,
+    primitive: Primitive,
+    values: &OneOrMore<Expr>,
+) -> Result<Items<i64>, CheckFault>
+    ensures { Gives (λ vs. vs) result
+        (each_of (read_in context.entry constant_as primitive) (expressions_of values.now)) }
+{
+    let first = constant_as(context, primitive, &values.first)?;
+    let others = each_constant(context, primitive, &values.others)?;
+    let mut all = Items::new(context.alloc);
+    all.push(first)?;
+    all.append(others)?;
+    Ok(all)
+}
+
+/// Values, each a constant of the type.
+fn each_constant(
+    context: Context<'_, '_>,
+    primitive: Primitive,
+    values: &[Expr],
+) -> Result<Items<i64>, CheckFault>
+    ensures { Gives (λ vs. vs) result
+        (each_of (read_in context.entry constant_as primitive) (map tree_of values.now)) }
+{
+    let mut made = Items::new(context.alloc);
+    for value in values {
+        let value = match constant_as(context, primitive, value) {
+            Ok(value) => value,
+            Err(e) => return Err(e),
+        };
+        made.push(value)?;
+    }
+    Ok(made)
+}
+
+/// The options of a CASE, as a slice.
+#[tactic(auto, using(crate::proofs::HeldLists::selections_made))]
+pub fn listed_selections(selections: &Vec<Selection>) -> &[Selection]
+    ensures { option_nodes result.now
+        ≡ held_selections (hidden-the_row-Selection-5 selections.now) }
+{
+    selections.as_slice()
+}

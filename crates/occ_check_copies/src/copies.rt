@@ -1,0 +1,167 @@
+//! The copies of a replicated PAR.
+
+ghost use Rattle.std.specs.Prelude.{◌≡◌, ◌<◌, ◌≤◌, ◌-◌, ◌+ℤ◌, ◌≤ℤ◌, pos, IfErr, IfOk, OnOk};
+ghost use Rattle.occ_tree_grammar.specs.Lines.Views.{replicator_of};
+ghost use Rattle.occ_check_meaning.specs.Declarations.{index_of};
+ghost use Rattle.occ_check_meaning.specs.Performing.{copies_beside};
+ghost use Rattle.occ_check_meaning.specs.Scope.{within};
+ghost use Rattle.occ_check_copies.specs.Copies.{copies_counted, copies_there, numbered_copy, copy_left};
+ghost use Rattle.occ_check_opened.specs.Opened.{Begins, IsReady, LeavesWithin, Opens, body_unfolded};
+ghost use Rattle.occ_check_names.specs.View.{Unfolds, numbers_of};
+ghost use Rattle.occ_check_opened.specs.Progress.{body_weight, counted, meant_at, names_there, read_in, weight_at};
+ghost use Rattle.occ_check_names.specs.declared.fault.CheckFault.TheVariants.{Memory};
+ghost use Rattle.occ_check_opened.specs.OpenBlocks.{Keeps};
+
+use occ_check_names::context::Context;
+use occ_check_names::fault::CheckFault;
+use occ_check_names::known::Known;
+use occ_check_names::numbers::Numbers;
+use occ_check_names::scope::{Binding, Position};
+use occ_check_opened::one_line::names_at;
+use occ_check_opened::opened::{Left, Opened};
+use occ_check_opened::unfolder::Unfolder;
+use occ_check_typing::replicator::copies_of;
+use occ_term::Primitive;
+use occ_tree_grammar::tree::line::Replicator;
+use occ_tree_grammar::tree::process::Process;
+use std::alloc::Global;
+
+/// A copy whose first steps are done: its process is left, and the number that the copy has.
+#[derive(Drop)]
+pub struct OpenedCopy<'t> {
+    /// The number of the copy.
+    pub number: u32,
+    /// The process.
+    pub body: &'t Process,
+    /// The position at which it is read.
+    pub at: Position,
+    /// How many nodes stand round it.
+    pub depth: u32,
+}
+
+/// Opens a replicated PAR.
+pub fn copies_opened<'t>(
+    unfolder: &mut Unfolder<'t>,
+    alloc: Global,
+    at: Position,
+    depth: u32,
+    line: u32,
+    replicator: &'t Replicator,
+    body: &'t Process,
+) -> Result<Opened<'t>, CheckFault>
+    ensures opens { Begins result unfolder.old unfolder.new at depth
+        (copies_beside line (replicator_of replicator.now) (body_unfolded body.now)) }
+    ensures kept { OnOk result (Keeps unfolder.old.blocks unfolder.new.blocks) }
+    ensures weight { LeavesWithin result unfolder.new (body_weight unfolder.old at body.now) }
+    ensures ready { IfOk result IsReady }
+{
+    let (first, count) = copies_counted_at(unfolder, alloc, at, depth, line, replicator)?;
+    Ok(Opened {
+        left: Left::Copies(replicator, first, count, body),
+        at,
+        depth: depth + 1,
+    })
+}
+
+/// Opens the copy for a value of the index.
+pub fn copy_opened<'t>(
+    unfolder: &mut Unfolder<'t>,
+    alloc: Global,
+    at: Position,
+    depth: u32,
+    replicator: &Replicator,
+    value: i64,
+    body: &'t Process,
+) -> Result<OpenedCopy<'t>, CheckFault>
+    requires { depth ≤ 200 }
+    ensures opens { Opens copy_left result unfolder.new
+        (numbered_copy (copies_there unfolder.old at depth replicator.now body.now) value
+        (counted unfolder.old)) }
+    ensures kept { OnOk result (Keeps unfolder.old.blocks unfolder.new.blocks) }
+    ensures weight { IfOk result (λ o. body_weight unfolder.new o.at o.body.now
+        ≡ body_weight unfolder.old at body.now) }
+    ensures within { IfOk result (λ o. o.depth ≤ 200) }
+{
+    let number = unfolder.numbers.more_processes()?;
+    let inside = at_value(unfolder, alloc, at, replicator, value)?;
+    Ok(OpenedCopy {
+        number,
+        body,
+        at: inside,
+        depth,
+    })
+}
+
+/// Enters the index of a copy, which is a constant there, and answers the position at which it is in scope.
+fn at_value(
+    unfolder: &mut Unfolder<'_>,
+    alloc: Global,
+    at: Position,
+    replicator: &Replicator,
+    value: i64,
+) -> Result<Position, CheckFault>
+    ensures scope { IfOk result (λ p. meant_at unfolder.new p
+        ≡ within (index_of (replicator_of replicator.now) value) (meant_at unfolder.old at)) }
+    ensures weight { IfOk result (λ p. weight_at unfolder.new p ≡ weight_at unfolder.old at) }
+    ensures kept { OnOk result (Keeps unfolder.old.blocks unfolder.new.blocks) }
+    ensures numbers { OnOk result (unfolder.new.numbers ≡ unfolder.old.numbers) }
+    ensures memory { IfErr result (λ e. e ≡ Memory) }
+{
+    unfolder.blocks.open(alloc, at)?;
+    let index = Binding::Known(Known::Value(Primitive::Int, value));
+    unfolder.blocks.declare(alloc, &replicator.name, index)?;
+    Ok(unfolder.blocks.end())
+}
+
+/// The first value of the index and how many copies there are, with the node of the PAR.
+fn copies_counted_at(
+    unfolder: &mut Unfolder<'_>,
+    alloc: Global,
+    at: Position,
+    depth: u32,
+    line: u32,
+    replicator: &Replicator,
+) -> Result<(i64, u64), CheckFault>
+    ensures counted { Unfolds (λ c. c) result unfolder.new.numbers
+        (copies_counted (names_there unfolder.old at) line depth (replicator_of replicator.now)
+        (counted unfolder.old)) }
+    ensures kept { OnOk result (unfolder.new.blocks ≡ unfolder.old.blocks) }
+    ensures within { IfOk result (λ _. depth < 200) }
+    ensures last { IfOk result (λ c. (c.0 +ℤ pos c.1) ≤ℤ pos 2147483648) }
+{
+    let scope = names_at(&unfolder.blocks, at);
+    copies_counted(
+        &mut unfolder.numbers,
+        Context { alloc, scope, line },
+        depth,
+        replicator,
+    )
+}
+
+/// The first value of the index and how many copies there are, with the node of the PAR.
+#[tactic(auto, using(crate::proofs::LastCopies::copies_within))]
+fn copies_counted(
+    numbers: &mut Numbers,
+    context: Context<'_, '_>,
+    depth: u32,
+    replicator: &Replicator,
+) -> Result<(i64, u64), CheckFault>
+    ensures counted { Unfolds (λ c. c) result numbers.new (read_in context.entry copies_counted
+        depth (replicator_of replicator.now) (numbers_of numbers.old)) }
+    ensures within { IfOk result (λ _. depth < 200) }
+    ensures last { IfOk result (λ c. (c.0 +ℤ pos c.1) ≤ℤ pos 2147483648) }
+{
+    let copies = copies_of(context, replicator)?;
+    numbers.node(depth)?;
+    Ok(copies)
+}
+
+/// The value of the index after this one, where so many copies are left.
+pub fn next_value(value: i64, left: u64) -> i64
+    requires some { 0 < left }
+    requires last { (value +ℤ pos left) ≤ℤ pos 2147483648 }
+    ensures next { result ≡ value +ℤ pos 1 }
+    ensures last { (result +ℤ pos (left - 1)) ≤ℤ pos 2147483648 }
+{
+    value + 1
+}

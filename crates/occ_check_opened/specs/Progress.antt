@@ -1,0 +1,115 @@
+-- What the code of processes answers.
+-- Manual: nothing; this is (own).
+use Rattle.std.specs.Prelude.{List, Option, Some, Result, Ok, Err, ℕ, ◌+◌, ◌≡◌}
+use Rattle.occ_tree_grammar.specs.Processes.Views.{process_of}
+use Rattle.occ_tree_grammar.specs.declared.tree.process.Process.{Process}
+use Rattle.occ_tree_grammar.specs.Many.{◌>>=◌}
+use Rattle.occ_tree_grammar.specs.Processes.Trees.{Kind, Node, Nodes}
+use Rattle.occ_tree_grammar.specs.declared.tree.process.Decl.{Decl}
+use Rattle.occ_term.specs.Terms as T
+use Rattle.occ_term.specs.Sizes.{Size}
+use Rattle.occ_term.specs.declared.expression.Declaration.{Declaration}
+use Rattle.occ_term.specs.View.{declarations_of, replicator_of}
+use Rattle.occ_term.specs.declared.expression.Replicator.{Replicator}
+use Rattle.occ_check_meaning.specs.Numbers as N
+use Rattle.occ_check_meaning.specs.Scope as S
+use Rattle.occ_check_meaning.specs.Declarations.{Indexed}
+use Rattle.occ_check_meaning.specs.Performing.{Calling, Declaring, Entered, Under, entered}
+use Rattle.occ_check_meaning.specs.Recursion.{unfolded}
+use Rattle.occ_check_meaning.specs.Unfolding.{Procedures}
+use Rattle.occ_check_meaning.specs.Meant.{meant}
+use Rattle.occ_check_meaning.specs.Actions.{headed, opening}
+use Rattle.occ_check_names.specs.declared.numbers.Numbers.{Numbers}
+use Rattle.occ_check_names.specs.declared.context.Context.{Context}
+use Rattle.occ_check_names.specs.View.{Counts, names_in, numbers_of, Refuses, Unfolds}
+use Rattle.occ_check_names.specs.declared.fault.CheckFault.{CheckFault}
+use Rattle.occ_check_names.specs.declared.scope.Position.{Position}
+use Rattle.occ_check_opened.specs.declared.unfolder.Call.{Call}
+use Rattle.occ_check_opened.specs.declared.unfolder.Unfolder.{Unfolder}
+use Rattle.occ_check_opened.specs.OpenBlocks.{seen_at, seen_inside}
+use Rattle.occ_check_opened.specs.Weights.{node_size, nodes_size, decls_size, weight, decl_nodes}
+
+-- what is in scope at a position of the open blocks
+abbrev pub scope_at : Unfolder → Position → Procedures
+scope_at u at = seen_at u.blocks at
+
+-- with what each PROC means
+abbrev pub meant_at : Unfolder → Position → S.Scope Calling
+meant_at u at = meant (scope_at u at)
+
+abbrev pub counted : Unfolder → N.Numbers
+counted u = numbers_of u.numbers
+
+-- the names there, but for procedures
+abbrev pub names_there : Unfolder → Position → S.Names
+names_there u at = S.names_of (meant_at u at)
+
+-- what a word gives under the names of a context, in its line
+abbrev pub read_in : {A : Type 0} → Context → (S.Names → ℕ → A) → A
+read_in c word = word (names_in c.scope) c.line
+
+-- something of this size is counted, behind so many nodes
+abbrev pub TakesRoom : {X : Type 0} → Result X CheckFault → Numbers → Numbers → ℕ → Size → Type 0
+TakesRoom result old new depth size = Counts result new (N.room depth size (numbers_of old))
+
+-- what is answered is what a part of the tree unfolds to at a position, behind so many nodes
+abbrev pub Reads : {X Y : Type 0} → (X → Y) → Result X CheckFault → Unfolder → Unfolder → Position → ℕ → Under Y → Type 0
+Reads view result old new at depth part = Unfolds view result new.numbers (part (meant_at old at) depth (counted old))
+
+-- all that is in scope at the end
+abbrev pub innermost_at : Unfolder → Procedures
+innermost_at u = seen_inside u.blocks
+
+abbrev pub meant_innermost : Unfolder → S.Scope Calling
+meant_innermost u = meant (innermost_at u)
+
+-- declarations that are entered
+abbrev pub Enters : Result (List Declaration) CheckFault → Unfolder → Option (Entered Calling) → Type 0
+Enters (Ok heads) after given = given ≡ Some (entered (meant_innermost after) (declarations_of heads) (counted after))
+Enters (Err e) after given = Refuses e given
+
+-- the same of declarations that are read inside of all that is in scope
+abbrev pub Declares : Result (List Declaration) CheckFault → Unfolder → Unfolder → ℕ → Declaring → Type 0
+Declares result old new depth part = Enters result new (part (meant_innermost old) depth (counted old))
+
+-- declarations that are entered, and the position at which they are in scope
+abbrev pub EntersAt : Result (List Declaration × Position) CheckFault → Unfolder → Option (Entered Calling) → Type 0
+EntersAt (Ok d) after given = given ≡ Some (entered (meant_at after d.1) (declarations_of d.0) (counted after))
+EntersAt (Err e) after given = Refuses e given
+
+-- how large what is in scope at a position is, and all that is in scope at the end
+abbrev pub weight_at : Unfolder → Position → ℕ
+weight_at u at = weight (scope_at u at)
+
+abbrev pub innermost_weight : Unfolder → ℕ
+innermost_weight u = weight (innermost_at u)
+
+-- how large parts of the tree are with what is in scope there
+abbrev pub node_weight : {k : Kind} → Unfolder → Position → Node k → ℕ
+node_weight u at n = node_size n + weight_at u at
+
+abbrev pub nodes_weight : {k : Kind} → Unfolder → Position → Nodes k → ℕ
+nodes_weight u at ns = nodes_size ns + weight_at u at
+
+abbrev pub body_weight : Unfolder → Position → Process → ℕ
+body_weight u at p = node_weight u at (process_of p)
+
+abbrev pub declared_weight : Unfolder → Position → List Decl → Process → ℕ
+declared_weight u at ds p = (decls_size (decl_nodes ds) + node_size (process_of p)) + weight_at u at
+
+-- the body that is called, behind what is set for its formals
+abbrev pub called_body : List Declaration → Process → Unfolder → Position → ℕ → Option (T.Term × N.Numbers)
+called_body heads body u at depth = do
+  o ← opening (declarations_of heads) depth (counted u)
+  t ← unfolded (process_of body) (meant_at u at) o.0 o.1
+  Some (headed (declarations_of heads) t.0, t.1)
+
+abbrev pub Calls : ℕ → Result Call CheckFault → Unfolder → Option (T.Term × N.Numbers) → Type 0
+Calls depth (Ok c) after given = given ≡ called_body c.heads c.body.now after c.inside depth
+Calls depth (Err e) after given = Refuses e given
+
+-- a replicator with its index, under the names of which something is read
+abbrev pub Indexes : Result (Replicator × Position) CheckFault → Unfolder → S.Scope Calling → Option Indexed → Type 0
+Indexes (Ok r) after sc given =
+    (i : Indexed) × (given ≡ Some i) × (i.replicator ≡ replicator_of r.0) × (meant_at after r.1 ≡ S.within i.names sc) × (i.numbers ≡ counted after)
+Indexes (Err e) after sc given = Refuses e given

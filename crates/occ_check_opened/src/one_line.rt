@@ -1,0 +1,301 @@
+//! What stands in one line, with the nodes that it heads, and what is entered before it.
+
+ghost use Rattle.std.specs.Prelude.{◌≡◌, ◌<◌, ◌≤◌, ◌+◌, IfOk, OnOk, map, reverse};
+ghost use Rattle.occ_tree_grammar.specs.Processes.Views.{held_decls};
+ghost use Rattle.occ_tree_grammar.specs.declared.tree.process.Arm.TheBlock.{hidden-the_row-Decl-0};
+ghost use Rattle.occ_tree_grammar.specs.Expressions.Trees.{expression_of as tree_of};
+ghost use Rattle.occ_tree_grammar.specs.Lines.Views as lines;
+ghost use Rattle.occ_tree_grammar.specs.Lines.Heads as heads;
+ghost use Rattle.occ_term.specs.Sizes.{size_of};
+ghost use Rattle.occ_term.specs.Terms as terms;
+ghost use Rattle.occ_term.specs.View.{expression_of, items_of, place_of, term_of};
+ghost use Rattle.occ_check_meaning.specs.Performing.{acted};
+ghost use Rattle.occ_check_meaning.specs.Actions as meant;
+ghost use Rattle.occ_check_meaning.specs.Recursion.{all_declared};
+ghost use Rattle.occ_check_meaning.specs.Scope.{names_of};
+ghost use Rattle.occ_check_meaning.specs.Meant.{meant as with_meanings};
+ghost use Rattle.occ_check_acting.specs.Action.{listed_of};
+ghost use Rattle.occ_check_opened.specs.OneLine.{assigning, heading, outputting, receiving, tested, assignment_of, expressions_of, output_of, variables_of};
+ghost use Rattle.occ_check_names.specs.View.{Unfolds, names_in, numbers_of, scope_in};
+ghost use Rattle.occ_check_opened.specs.Weights.{decl_nodes, decls_size};
+ghost use Rattle.occ_check_opened.specs.Progress.{EntersAt, Reads, TakesRoom, counted, meant_at, names_there, read_in, weight_at};
+ghost use Rattle.occ_check_opened.specs.OpenBlocks.{Keeps};
+
+use crate::blocks::Blocks;
+use crate::unfolder::Unfolder;
+use occ_check_acting::action::{Listed, as_input, assigned, output, received};
+use occ_check_names::context::Context;
+use occ_check_names::fault::CheckFault;
+use occ_check_names::measuring::{
+    count_assignment, count_expression, count_input, count_output, count_tagged_input,
+};
+use occ_check_names::numbers::Numbers;
+use occ_check_names::scope::{Position, Scope};
+use occ_check_typing::expression::typed_as;
+use occ_held::Held;
+use occ_term::{Declaration, Item, Place, Primitive, Term, TermExpr};
+use occ_tree_grammar::tree::expr::Expr;
+use occ_tree_grammar::tree::line::{Input, OneOrMore, Out, Var};
+use occ_tree_grammar::tree::process::Decl;
+use sqlite_items::Items;
+use std::alloc::Global;
+
+impl<'t> Unfolder<'t> {
+    /// Enters declarations inside of a position, and answers what is set for them, and where they are in scope.
+    pub fn entering(
+        &mut self,
+        alloc: Global,
+        at: Position,
+        depth: u32,
+        declarations: &'t [Decl],
+    ) -> Result<(Items<Declaration>, Position), CheckFault>
+        ensures entered { EntersAt result self.new
+            (all_declared (decl_nodes declarations.now) (meant_at self.old at) depth
+            (counted self.old)) }
+        ensures kept { OnOk result (Keeps self.old.blocks self.new.blocks) }
+        ensures weight { IfOk result (λ d. weight_at self.new d.1
+            ≤ decls_size (decl_nodes declarations.now) + weight_at self.old at) }
+    {
+        self.blocks.open(alloc, at)?;
+        let heads = self.declared(alloc, depth, declarations)?;
+        let inside = self.blocks.end();
+        Ok((heads, inside))
+    }
+
+    /// What a condition unfolds to, with the node that it heads.
+    pub fn tested(
+        &mut self,
+        alloc: Global,
+        at: Position,
+        depth: u32,
+        line: u32,
+        e: &Expr,
+    ) -> Result<TermExpr, CheckFault>
+        ensures tested { Unfolds expression_of result self.new.numbers
+            (tested (names_there self.old at) line depth (tree_of e.now) (counted self.old)) }
+        ensures kept { OnOk result (self.new.blocks ≡ self.old.blocks) }
+        ensures within { IfOk result (λ _. depth < 200) }
+    {
+        let scope = names_at(&self.blocks, at);
+        condition(&mut self.numbers, Context { alloc, scope, line }, depth, e)
+    }
+
+    /// SKIP.
+    pub fn skipped(&mut self, depth: u32) -> Result<Term, CheckFault>
+        ensures term { Unfolds term_of result self.new.numbers
+            (meant.taken depth (counted self.old) terms.Skip) }
+        ensures kept { OnOk result (self.new.blocks ≡ self.old.blocks) }
+    {
+        self.numbers.node(depth)?;
+        Ok(Term::Skip)
+    }
+
+    /// STOP.
+    pub fn stopped(&mut self, depth: u32) -> Result<Term, CheckFault>
+        ensures term { Unfolds term_of result self.new.numbers
+            (meant.taken depth (counted self.old) terms.Stop) }
+        ensures kept { OnOk result (self.new.blocks ≡ self.old.blocks) }
+    {
+        self.numbers.node(depth)?;
+        Ok(Term::Stop)
+    }
+
+    /// What an assignment unfolds to.
+    pub fn assigned(
+        &mut self,
+        alloc: Global,
+        at: Position,
+        depth: u32,
+        line: u32,
+        variables: &OneOrMore<Var>,
+        values: &OneOrMore<Expr>,
+    ) -> Result<Term, CheckFault>
+        ensures term { Reads term_of result self.old self.new at depth
+            (acted line (assignment_of variables.now values.now)) }
+        ensures kept { OnOk result (self.new.blocks ≡ self.old.blocks) }
+    {
+        let scope = names_at(&self.blocks, at);
+        assigning(
+            &mut self.numbers,
+            Context { alloc, scope, line },
+            depth,
+            variables,
+            values,
+        )
+    }
+
+    /// What an input unfolds to.
+    pub fn received(
+        &mut self,
+        alloc: Global,
+        at: Position,
+        depth: u32,
+        line: u32,
+        input: &Input,
+    ) -> Result<Term, CheckFault>
+        ensures term { Reads term_of result self.old self.new at depth
+            (acted line (heads.input (lines.input_of input.now))) }
+        ensures kept { OnOk result (self.new.blocks ≡ self.old.blocks) }
+    {
+        let scope = names_at(&self.blocks, at);
+        receiving(
+            &mut self.numbers,
+            Context { alloc, scope, line },
+            depth,
+            input,
+        )
+    }
+
+    /// What an output unfolds to.
+    pub fn output(
+        &mut self,
+        alloc: Global,
+        at: Position,
+        depth: u32,
+        line: u32,
+        channel: &Var,
+        outs: &OneOrMore<Out>,
+    ) -> Result<Term, CheckFault>
+        ensures term { Reads term_of result self.old self.new at depth
+            (acted line (output_of channel.now outs.now)) }
+        ensures kept { OnOk result (self.new.blocks ≡ self.old.blocks) }
+    {
+        let scope = names_at(&self.blocks, at);
+        outputting(
+            &mut self.numbers,
+            Context { alloc, scope, line },
+            depth,
+            channel,
+            outs,
+        )
+    }
+}
+
+/// The names at a position.
+pub fn names_at<'a, 't>(blocks: &'a Blocks<'t>, at: Position) -> Scope<'a, 't>
+    ensures { names_in result
+        ≡ names_of (with_meanings (scope_in (reverse blocks.now.blocks.items) at)) }
+{
+    blocks.scope(at)
+}
+
+/// A condition, and the node that it heads.
+fn condition(
+    numbers: &mut Numbers,
+    context: Context<'_, '_>,
+    depth: u32,
+    e: &Expr,
+) -> Result<TermExpr, CheckFault>
+    ensures tested { Unfolds expression_of result numbers.new
+        (read_in context.entry tested depth (tree_of e.now) (numbers_of numbers.old)) }
+    ensures within { IfOk result (λ _. depth < 200) }
+{
+    let e = typed_as(context, Primitive::Bool, e)?;
+    counted_expression(numbers, depth, e)
+}
+
+/// An expression with the node that it heads.
+pub fn counted_expression(
+    numbers: &mut Numbers,
+    depth: u32,
+    e: TermExpr,
+) -> Result<TermExpr, CheckFault>
+    ensures counted { Unfolds expression_of result numbers.new
+        (heading (expression_of e) depth (numbers_of numbers.old)) }
+    ensures within { IfOk result (λ _. depth < 200) }
+{
+    numbers.node(depth)?;
+    count_expression(numbers, depth + 1, &e)?;
+    Ok(e)
+}
+
+/// An assignment with its nodes.
+fn assigning(
+    numbers: &mut Numbers,
+    context: Context<'_, '_>,
+    depth: u32,
+    variables: &OneOrMore<Var>,
+    values: &OneOrMore<Expr>,
+) -> Result<Term, CheckFault>
+    ensures { Unfolds term_of result numbers.new (read_in context.entry assigning depth
+        (variables_of variables.now) (expressions_of values.now) (numbers_of numbers.old)) }
+{
+    let (targets, items) = assigned(context, variables, values)?;
+    count_assignment(numbers, depth, targets.as_slice(), items.as_slice())?;
+    Ok(Term::Assign(targets, items))
+}
+
+/// An output with its nodes.
+fn outputting(
+    numbers: &mut Numbers,
+    context: Context<'_, '_>,
+    depth: u32,
+    channel: &Var,
+    outs: &OneOrMore<Out>,
+) -> Result<Term, CheckFault>
+    ensures { Unfolds term_of result numbers.new (read_in context.entry outputting depth
+        (lines.var_of channel.now) (lines.out_of outs.now.first)
+        (map lines.out_of outs.now.others.items) (numbers_of numbers.old)) }
+{
+    let (channel, tag, items) = output(context, channel, outs)?;
+    counted_output(numbers, depth, &channel, tag, items.as_slice())?;
+    Ok(Term::Output(channel, tag, items))
+}
+
+/// Counts an output with its tag, which is no node.
+fn counted_output(
+    numbers: &mut Numbers,
+    depth: u32,
+    channel: &Place,
+    tag: Option<u32>,
+    items: &[Item],
+) -> Result<(), CheckFault>
+    ensures { TakesRoom result numbers.old numbers.new depth
+        (size_of (terms.Output (place_of channel.now) tag (items_of items.now))) }
+{
+    let _sent = tag;
+    count_output(numbers, depth, channel, items)
+}
+
+/// An input with its nodes.
+fn receiving(
+    numbers: &mut Numbers,
+    context: Context<'_, '_>,
+    depth: u32,
+    input: &Input,
+) -> Result<Term, CheckFault>
+    ensures { Unfolds term_of result numbers.new (read_in context.entry receiving depth
+        (lines.input_of input.now) (numbers_of numbers.old)) }
+{
+    let (channel, listed) = received(context, input)?;
+    let listed = Held::new(listed);
+    count_received(numbers, depth, &channel, &listed.value)?;
+    let term = as_input(context.alloc, channel, listed.into_inner())?;
+    Ok(term)
+}
+
+/// Counts an input.
+fn count_received(
+    numbers: &mut Numbers,
+    depth: u32,
+    channel: &Place,
+    listed: &Listed,
+) -> Result<(), CheckFault>
+    ensures { TakesRoom result numbers.old numbers.new depth
+        (size_of (meant.as_input (place_of channel.now, listed_of listed.now))) }
+{
+    match listed {
+        Listed::Plain(targets) => count_input(numbers, depth, channel, targets.as_slice()),
+        Listed::Tagged(_, targets) => {
+            count_tagged_input(numbers, depth, channel, targets.as_slice())
+        }
+    }
+}
+
+/// Declarations, as a slice.
+#[tactic(auto, using(crate::proofs::Parts::decls_made))]
+pub fn listed_declarations(declarations: &Vec<Decl>) -> &[Decl]
+    ensures { decl_nodes result.now ≡ held_decls (hidden-the_row-Decl-0 declarations.now) }
+{
+    declarations.as_slice()
+}
