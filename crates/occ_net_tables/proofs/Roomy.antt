@@ -1,15 +1,15 @@
 -- The same contents with more room.
-use Rattle.std.proofs.Common.{◌≡◌, ◌∙◌, sym, ap, ℕ, zero, suc, List, [], ◌∷◌, Some, length, drop}
+use Rattle.std.proofs.Common.{◌≡◌, ◌∙◌, refl, sym, ap, ℕ, zero, suc, List, [], ◌∷◌, Some, length, drop}
 use Rattle.std.specs.Prelude.{slice_get, slice_set}
 use Rattle.occ_term.specs.declared.fault.Fault.{Fault}
 use Rattle.occ_machine.specs.Compiled.{Program}
 use Rattle.occ_machine.specs.declared.task.Task.{Task}
 use Rattle.occ_machine.specs.declared.task.Wait.{Wait}
-use Rattle.occ_net_replay.specs.Replay.{Net}
+use Rattle.occ_net_replay.specs.Replay.{HasTask, Net}
 use Rattle.occ_net_tables.specs.declared.tables.Tables.{Tables}
 use Rattle.occ_net_tables.specs.Holding.{Holds, Sized, Sound}
 use Rattle.occ_net_tables.specs.Room.{AreSame}
-use Rattle.occ_net_tables.specs.Settling.{HasMid, Mid, Settles}
+use Rattle.occ_net_tables.specs.Settling.{HasMid, IsTurnAt, Mid, Settles, Standing, tables_with}
 use Rattle.occ_net_tables.proofs.OneChange.{set_twice, true_as}
 
 module _ (old new : Tables) (s : AreSame old new) where
@@ -70,3 +70,40 @@ set_own (y ∷ ys) (suc i) x e = ap (λ l. y ∷ l) (set_own ys i x e)
 
 pub set_again : {X : Type 0} (xs between last : List X) (i : ℕ) (x y : X) → slice_get xs i ≡ Some x → between ≡ slice_set xs i y → last ≡ slice_set between i x → last ≡ xs
 set_again xs between last i x y e b l = l ∙ ap (λ z. slice_set z i x) b ∙ set_twice xs i y x ∙ set_own xs i x e
+
+-- tables with the task that stands there already
+pub same_with : (n : Tables) (number : ℕ) (t : Task) → HasTask n.tasks.items number t → AreSame n (tables_with n number t)
+same_with n number t there =
+    record {
+      tasks = set_own n.tasks.items number (Some t) there;
+      ready = refl;
+      offering = refl;
+      awaiting = refl;
+      parents = refl;
+      unfinished = refl;
+      fault = refl;
+      used = refl;
+      trace = refl;
+    }
+
+-- who stands there may have come to this task
+pub standing_with : (p : Program) (kb : List ℕ) (n : Tables) (place number : ℕ) (after : Task) (t : IsTurnAt p n place number after)
+    → Standing p kb n → Standing p kb (tables_with n number t.before) × IsTurnAt p (tables_with n number t.before) place number after
+standing_with p kb n place number after t s =
+    let same : AreSame n (tables_with n number t.before) = same_with n number t.before t.there in
+    (record {
+      choices = s.choices;
+      few = s.few;
+      net = s.net;
+      replays = s.replays;
+      open_end = s.open_end;
+      holds = holds_as n (tables_with n number t.before) same p kb s.net s.holds;
+    },
+    record {
+      body = t.body;
+      before = t.before;
+      at = t.at;
+      has_body = t.has_body;
+      there = ap (λ l. slice_get l number) same.tasks ∙ t.there;
+      stops = t.stops;
+    })
