@@ -11,10 +11,10 @@ use Rattle.occ_check_meaning.specs.Expressions.{Typed, typed}
 use Rattle.occ_check_meaning.specs.Items.{apart, as_target, assigned_item, assigned_items, some_clash, variable_of}
 use Rattle.occ_check_meaning.specs.Scope.{Names, Stretch, each_of, keep}
 use Rattle.occ_check_meaning.proofs.Steps.{bind_some, some_is}
-use Rattle.occ_check_acting.specs.Action.{side_assigned, side_of}
+use Rattle.occ_check_acting.specs.Action.{side_assigned}
 use Rattle.occ_check_clashes.specs.Clash.{stretches_at}
 use Rattle.occ_check_typing.specs.Zipped.{zipped}
-use Rattle.occ_check_names.specs.View.{Refuses}
+use Rattle.occ_check_names.specs.View.{Refuses, variable_part}
 use Rattle.occ_check_names.specs.declared.fault.CheckFault.{CheckFault}
 use Rattle.occ_check_names.specs.declared.typed.Part.{Part}
 use Rattle.occ_check_typing.proofs.Refusals.{none_then, refused_with}
@@ -45,10 +45,10 @@ module _ (ns : Names) (line : ℕ) where
   -- ---- both sides, one beside the other
 
   sides_are : (xs : List (Primitive × Part)) (es : List Expression) (values : List Typed) → each_of (typed ns line) es ≡ Some values
-      → zipped (side_assigned ns line) xs es ≡ assigned_items (map side_of xs) values
+      → zipped (side_assigned ns line) xs es ≡ assigned_items (map variable_part xs) values
   unfolding zipped assigned_items each_of
   sides_are [] [] values h = ap (assigned_items []) (some_is [] values h)
-  sides_are (x ∷ xs) [] values h = ap (assigned_items (map side_of (x ∷ xs))) (some_is [] values h)
+  sides_are (x ∷ xs) [] values h = ap (assigned_items (map variable_part (x ∷ xs))) (some_is [] values h)
   sides_are [] (e ∷ es) values h =
       let k = bind_some (typed ns line e) _ values h in
       let q = bind_some (each_of (typed ns line) es) _ values k.2 in
@@ -56,9 +56,9 @@ module _ (ns : Names) (line : ℕ) where
   sides_are (x ∷ xs) (e ∷ es) values h =
       let k = bind_some (typed ns line e) _ values h in
       let q = bind_some (each_of (typed ns line) es) _ values k.2 in
-      ap (λ r. r >>= assigned_item (side_of x) >>= λ c. zipped (side_assigned ns line) xs es >>= λ cs. Some (c ∷ cs)) k.1
-      ∙ ap (λ r. assigned_item (side_of x) k.0 >>= λ c. r >>= λ cs. Some (c ∷ cs)) (sides_are xs es q.0 q.1)
-      ∙ ap (assigned_items (map side_of (x ∷ xs))) (some_is _ values q.2)
+      ap (λ r. r >>= assigned_item (variable_part x) >>= λ c. zipped (side_assigned ns line) xs es >>= λ cs. Some (c ∷ cs)) k.1
+      ∙ ap (λ r. assigned_item (variable_part x) k.0 >>= λ c. r >>= λ cs. Some (c ∷ cs)) (sides_are xs es q.0 q.1)
+      ∙ ap (assigned_items (map variable_part (x ∷ xs))) (some_is _ values q.2)
 
   sides_none : (xs : List (Primitive × Part)) (es : List Expression) → each_of (typed ns line) es ≡ None → zipped (side_assigned ns line) xs es ≡ None
   unfolding zipped each_of
@@ -75,9 +75,9 @@ module _ (ns : Names) (line : ℕ) where
       rest None a g = refl
       rest (Some x) a g = absurd cc
 
-      by : (r : Option Typed) → (each_of (typed ns line) es ≡ None → zipped (side_assigned ns line) xs es ≡ None) → (r >>= λ b. each_of (typed ns line) es >>= λ bs. Some (b ∷ bs)) ≡ None → (r >>= assigned_item (side_of x) >>= λ c. zipped (side_assigned ns line) xs es >>= λ cs. Some (c ∷ cs)) ≡ None
+      by : (r : Option Typed) → (each_of (typed ns line) es ≡ None → zipped (side_assigned ns line) xs es ≡ None) → (r >>= λ b. each_of (typed ns line) es >>= λ bs. Some (b ∷ bs)) ≡ None → (r >>= assigned_item (variable_part x) >>= λ c. zipped (side_assigned ns line) xs es >>= λ cs. Some (c ∷ cs)) ≡ None
       by None others g = refl
-      by (Some a) others g = ap (λ z. assigned_item (side_of x) a >>= λ c. z >>= λ cs. Some (c ∷ cs)) (others (rest _ a g)) ∙ none (assigned_item (side_of x) a)
+      by (Some a) others g = ap (λ z. assigned_item (variable_part x) a >>= λ c. z >>= λ cs. Some (c ∷ cs)) (others (rest _ a g)) ∙ none (assigned_item (variable_part x) a)
 
   -- ---- the whole
 
@@ -95,12 +95,12 @@ module _ (ns : Names) (line : ℕ) where
         by h None = refl
         by h (Some values) = none_then _ h
 
-    module _ (xs : List (Primitive × Part)) (left : each_of (variable_of ns line) vs ≡ Some (map side_of xs)) where
-      assigned_is : assigned ns line vs es ≡ (each_of (typed ns line) es >>= λ values. behind_stretches values (map side_of xs))
+    module _ (xs : List (Primitive × Part)) (left : each_of (variable_of ns line) vs ≡ Some (map variable_part xs)) where
+      assigned_is : assigned ns line vs es ≡ (each_of (typed ns line) es >>= λ values. behind_stretches values (map variable_part xs))
       unfolding behind_stretches
       assigned_is = by (each_of (typed ns line) es)
         where
-          by : (o : Option (List Typed)) → (o >>= λ values. each_of (variable_of ns line) vs >>= behind_stretches values) ≡ (o >>= λ values. behind_stretches values (map side_of xs))
+          by : (o : Option (List Typed)) → (o >>= λ values. each_of (variable_of ns line) vs >>= behind_stretches values) ≡ (o >>= λ values. behind_stretches values (map variable_part xs))
           by None = refl
           by (Some values) = ap (λ o. o >>= behind_stretches values) left
 
@@ -108,25 +108,25 @@ module _ (ns : Names) (line : ℕ) where
       unfolding behind_stretches
       no_sides e = refused_with e _ _ (λ h. assigned_is ∙ by (each_of (typed ns line) es) refl h)
         where
-          none : (o : Option (List Stretch)) → (o >>= λ apart_stretches. no_items >>= λ items. Some (T.Assign (map (as_target line) (map side_of xs)) items)) ≡ None
+          none : (o : Option (List Stretch)) → (o >>= λ apart_stretches. no_items >>= λ items. Some (T.Assign (map (as_target line) (map variable_part xs)) items)) ≡ None
           none None = refl
           none (Some rs) = refl
 
-          by : (o : Option (List Typed)) → each_of (typed ns line) es ≡ o → zipped (side_assigned ns line) xs es ≡ None → (o >>= λ values. behind_stretches values (map side_of xs)) ≡ None
+          by : (o : Option (List Typed)) → each_of (typed ns line) es ≡ o → zipped (side_assigned ns line) xs es ≡ None → (o >>= λ values. behind_stretches values (map variable_part xs)) ≡ None
           by None g h = refl
           by (Some values) g h =
-              ap (λ o. apart (map (λ r. r.1) (map side_of xs)) >>= λ apart_stretches. o >>= λ items. Some (T.Assign (map (as_target line) (map side_of xs)) items)) (sym (sides_are xs es values g) ∙ h)
-              ∙ none (apart (map (λ r. r.1) (map side_of xs)))
+              ap (λ o. apart (map (λ r. r.1) (map variable_part xs)) >>= λ apart_stretches. o >>= λ items. Some (T.Assign (map (as_target line) (map variable_part xs)) items)) (sym (sides_are xs es values g) ∙ h)
+              ∙ none (apart (map (λ r. r.1) (map variable_part xs)))
 
-      module _ (targets : List T.Target) (are : targets ≡ map (as_target line) (map side_of xs)) where
-        test : not (some_clash (stretches_at targets)) ≡ not (some_clash (map (λ r. r.1) (map side_of xs)))
-        test = ap not (ap (λ ts. some_clash (stretches_at ts)) are ∙ same_clash line (map side_of xs))
+      module _ (targets : List T.Target) (are : targets ≡ map (as_target line) (map variable_part xs)) where
+        test : not (some_clash (stretches_at targets)) ≡ not (some_clash (map (λ r. r.1) (map variable_part xs)))
+        test = ap not (ap (λ ts. some_clash (stretches_at ts)) are ∙ same_clash line (map variable_part xs))
 
         pub not_apart : (e : CheckFault) → Refuses e (apart (stretches_at targets)) → Refuses e (assigned ns line vs es)
         unfolding behind_stretches
-        not_apart e = refused_with e _ _ (λ h. assigned_is ∙ by (kept_none _ (stretches_at targets) (map (λ r. r.1) (map side_of xs)) (ap (λ b. keep b (stretches_at targets)) (sym test) ∙ h)) (each_of (typed ns line) es))
+        not_apart e = refused_with e _ _ (λ h. assigned_is ∙ by (kept_none _ (stretches_at targets) (map (λ r. r.1) (map variable_part xs)) (ap (λ b. keep b (stretches_at targets)) (sym test) ∙ h)) (each_of (typed ns line) es))
           where
-            by : apart (map (λ r. r.1) (map side_of xs)) ≡ None → (o : Option (List Typed)) → (o >>= λ values. behind_stretches values (map side_of xs)) ≡ None
+            by : apart (map (λ r. r.1) (map variable_part xs)) ≡ None → (o : Option (List Typed)) → (o >>= λ values. behind_stretches values (map variable_part xs)) ≡ None
             by h None = refl
             by h (Some values) = none_then _ h
 
@@ -134,12 +134,12 @@ module _ (ns : Names) (line : ℕ) where
             → assigned ns line vs es ≡ Some (T.Assign targets items)
         unfolding behind_stretches
         all_assigned rs h items g =
-            assigned_is ∙ by (kept_some _ (stretches_at targets) rs (map (λ r. r.1) (map side_of xs)) (ap (λ b. keep b (stretches_at targets)) (sym test) ∙ h)) (each_of (typed ns line) es) refl
+            assigned_is ∙ by (kept_some _ (stretches_at targets) rs (map (λ r. r.1) (map variable_part xs)) (ap (λ b. keep b (stretches_at targets)) (sym test) ∙ h)) (each_of (typed ns line) es) refl
             ∙ ap (λ ts. Some (T.Assign ts items)) (sym are)
           where
-            by : apart (map (λ r. r.1) (map side_of xs)) ≡ Some (map (λ r. r.1) (map side_of xs)) → (o : Option (List Typed)) → each_of (typed ns line) es ≡ o
-                → (o >>= λ values. behind_stretches values (map side_of xs)) ≡ Some (T.Assign (map (as_target line) (map side_of xs)) items)
+            by : apart (map (λ r. r.1) (map variable_part xs)) ≡ Some (map (λ r. r.1) (map variable_part xs)) → (o : Option (List Typed)) → each_of (typed ns line) es ≡ o
+                → (o >>= λ values. behind_stretches values (map variable_part xs)) ≡ Some (T.Assign (map (as_target line) (map variable_part xs)) items)
             by h None k = let none : zipped (side_assigned ns line) xs es ≡ None = sides_none xs es k in absurd cc
             by h (Some values) k =
-                ap (λ o. o >>= λ apart_stretches. assigned_items (map side_of xs) values >>= λ items. Some (T.Assign (map (as_target line) (map side_of xs)) items)) h
-                ∙ ap (λ o. o >>= λ items. Some (T.Assign (map (as_target line) (map side_of xs)) items)) (sym (sides_are xs es values k) ∙ g)
+                ap (λ o. o >>= λ apart_stretches. assigned_items (map variable_part xs) values >>= λ items. Some (T.Assign (map (as_target line) (map variable_part xs)) items)) h
+                ∙ ap (λ o. o >>= λ items. Some (T.Assign (map (as_target line) (map variable_part xs)) items)) (sym (sides_are xs es values k) ∙ g)

@@ -1,26 +1,38 @@
 -- What lines of one process unfold to in the code, as the definitions have it.
 -- Manual: nothing; this is (own).
-use Rattle.std.specs.Prelude.{Bool, List, Option, Result, Ok, Err, [], false, ◌&&◌, reverse, ◌≡◌, Some, ℕ}
+use Rattle.std.specs.Prelude.{Bool, List, Option, Result, Ok, Err, [], false, ◌&&◌, map, option_map, reverse, ◌≡◌, Some, ℕ, Vec}
 use Rattle.occ_tree_grammar.specs.Many.{◌>>=◌}
-use Rattle.occ_tree_grammar.specs.Expressions.Trees.{Expression}
+use Rattle.occ_tree_grammar.specs.Expressions.Trees.{Expression, expression_of}
 use Rattle.occ_tree_grammar.specs.Lines.Trees as L
+use Rattle.occ_tree_grammar.specs.Lines.Views as lines
+use Rattle.occ_tree_grammar.specs.declared.tree.expr.Expr.{Expr}
+use Rattle.occ_tree_grammar.specs.declared.tree.line.Input.{Input}
+use Rattle.occ_tree_grammar.specs.declared.tree.line.OneOrMore.{OneOrMore}
+use Rattle.occ_tree_grammar.specs.declared.tree.line.Out.{Out}
+use Rattle.occ_tree_grammar.specs.declared.tree.line.Var.{Var}
 use Rattle.occ_term.specs.Terms as T
 use Rattle.occ_term.specs.declared.primitive.Primitive.{Primitive}
 use Rattle.occ_term.specs.declared.protocol.PartType.{PartType}
 use Rattle.occ_term.specs.declared.protocol.PartType.TheVariants.{One as OneOf, Many as ManyOf, Counted as CountedOf}
-use Rattle.occ_term.specs.View.{targets_of}
-use Rattle.occ_check_meaning.specs.Scope.{Names, Stretch}
+use Rattle.occ_term.specs.declared.expression.Item.{Item}
+use Rattle.occ_term.specs.declared.expression.Place.{Place}
+use Rattle.occ_term.specs.declared.expression.Target.{Target}
+use Rattle.occ_term.specs.View.{items_of, place_of, targets_of}
+use Rattle.occ_check_meaning.specs.Scope.{Names, Stretch, each_of}
 use Rattle.occ_check_meaning.specs.Operators.{is_same_type}
 use Rattle.occ_check_meaning.specs.Types.{are_same_sizes}
 use Rattle.occ_check_meaning.specs.Expressions.{typed}
-use Rattle.occ_check_meaning.specs.Items.{aim_of, assigned_item, target_of}
+use Rattle.occ_check_meaning.specs.Items.{aim_of, assigned_item, stored, target_of, variable_of}
 use Rattle.occ_check_meaning.specs.Actions as A
-use Rattle.occ_check_names.specs.View.{Refuses, part_of}
+use Rattle.occ_check_names.specs.Reading.{all_of, read_in}
+use Rattle.occ_check_names.specs.View.{Refuses, variable_part}
+use Rattle.occ_check_names.specs.declared.context.Context.{Context}
 use Rattle.occ_check_names.specs.declared.fault.CheckFault.{CheckFault}
 use Rattle.occ_check_acting.specs.declared.action.Listed.{Listed}
 use Rattle.occ_check_acting.specs.declared.action.Listed.TheVariants.{Plain, Tagged}
 use Rattle.occ_check_acting.specs.declared.action.Chosen.{Chosen}
 use Rattle.occ_check_names.specs.declared.typed.Part.{Part}
+use Rattle.occ_check_typing.specs.Zipped.{zipped}
 
 abbrev pub listed_of : Listed → A.Listed
 listed_of (Plain targets) = A.plain_list (targets_of targets)
@@ -35,19 +47,61 @@ abbrev pub Chooses : {X : Type 0} → Result X CheckFault → Chosen → Option 
 Chooses (Ok x) after given = given ≡ Some (chosen_of after)
 Chooses (Err e) after given = Refuses e given
 
--- a variable with its type
-abbrev pub side_of : Primitive × Part → Primitive × Stretch
-side_of x = (x.0, part_of x.1)
+-- ---- lines in a context: each as the definition of its name has it, of what the code read
+
+abbrev pub assigned_in : Context → OneOrMore Var → OneOrMore Expr → Option T.Term
+assigned_in c vs es = read_in c A.assigned (all_of lines.var_of vs) (all_of expression_of es)
+
+abbrev pub output_in : Context → Var → OneOrMore Out → Option T.Term
+output_in c v outs = read_in c A.output (lines.var_of v) (lines.out_of outs.first) (map lines.out_of outs.others.items)
+
+abbrev pub received_in : Context → Input → Option (T.Place × A.Listed)
+received_in c i = read_in c A.received (lines.input_of i)
+
+abbrev pub test_in : Context → Option Expr → Option (Option T.Expression)
+test_in c e = read_in c A.test_of (option_map expression_of e)
+
+abbrev pub selector_in : Context → Expr → Option (Primitive × T.Expression)
+selector_in c e = read_in c A.selector (expression_of e)
+
+-- .. and as the code answers them: an assignment's targets and items, an output's channel, tag and items, an input's channel and list
+abbrev pub as_assignment : List Target × List Item → T.Term
+as_assignment x = T.Assign (targets_of x.0) (items_of x.1)
+
+abbrev pub as_output : Place × Option ℕ × List Item → T.Term
+as_output x = T.Output (place_of x.0) x.1 (items_of x.2)
+
+abbrev pub as_received : Place × Listed → T.Place × A.Listed
+as_received x = (place_of x.0, listed_of x.1)
+
+-- ---- the sides of an assignment
+
+abbrev pub variables_in : Context → List L.Var → Option (List (Primitive × Stretch))
+variables_in c vs = each_of (read_in c variable_of) vs
+
+abbrev pub variable_parts : {B : Type 0} → Vec (Primitive × Part) B → List (Primitive × Stretch)
+variable_parts xs = map variable_part xs.items
 
 -- a value for a variable
 abbrev pub side_assigned : Names → ℕ → Primitive × Part → Expression → Option T.Item
-side_assigned ns line x e = typed ns line e >>= assigned_item (side_of x)
+side_assigned ns line x e = typed ns line e >>= assigned_item (variable_part x)
+
+-- as many values as variables
+abbrev pub sides_in : Context → List (Primitive × Part) → List Expression → Option (List T.Item)
+sides_in c xs es = zipped (read_in c side_assigned) xs es
 
 -- ---- targets
 
 -- one target of a list, for its part of the message
 abbrev pub stored_one : Names → ℕ → PartType → L.Target → Option T.Target
 stored_one ns line p t = aim_of ns line t >>= target_of line p
+
+-- as many targets as parts, and the same where they are apart
+abbrev pub each_stored_in : Context → List PartType → List L.Target → Option (List T.Target)
+each_stored_in c parts ts = zipped (read_in c stored_one) parts ts
+
+abbrev pub stored_in : Context → List PartType → List L.Target → Option (List T.Target)
+stored_in c parts ts = read_in c stored parts ts
 
 -- whether a variable of this type and these sizes takes the part
 abbrev pub takes : PartType → Primitive → List ℕ → Bool

@@ -1,16 +1,15 @@
 //! Processes that stand in one line, and the parts of the others that declare nothing.
 
-ghost use Rattle.std.specs.Prelude.{◌≡◌, ◌∷◌, [], IfOk, map, option_map};
-ghost use Rattle.occ_tree_grammar.specs.Expressions.Trees as trees;
-ghost use Rattle.occ_tree_grammar.specs.Lines.Views as lines;
-ghost use Rattle.occ_term.specs.Terms.{Assign, Output, no_variants, or_variant};
-ghost use Rattle.occ_term.specs.View as terms;
+ghost use Rattle.std.specs.Prelude.{◌∷◌, [], map};
+ghost use Rattle.occ_term.specs.Terms.{no_variants, or_variant};
+ghost use Rattle.occ_term.specs.View.{item_of, items_of, reception_of, targets_of, term_of, test_of, variants_of};
 ghost use Rattle.occ_check_meaning.specs.Actions as meant;
 ghost use Rattle.occ_check_meaning.specs.Items as items;
-ghost use Rattle.occ_check_meaning.specs.Scope.{each_of};
-ghost use Rattle.occ_check_acting.specs.Action.{Chooses, chosen_of, listed_of, side_assigned, side_of};
-ghost use Rattle.occ_check_typing.specs.Zipped.{zipped};
-ghost use Rattle.occ_check_names.specs.View.{Gives, names_in, part_of, typed_of};
+ghost use Rattle.occ_check_acting.specs.Action.{Chooses, as_assignment, as_output, as_received, assigned_in, chosen_of, listed_of, output_in, received_in, selector_in, side_assigned, sides_in, test_in, variable_parts, variables_in};
+ghost use Rattle.occ_check_names.specs.View.{Gives, Lends, Makes, one_value, part_of, typed_of};
+ghost use Rattle.occ_check_names.specs.Reading.{all_of, read_in};
+ghost use Rattle.occ_tree_grammar.specs.Expressions.Trees.{expression_of as tree_of};
+ghost use Rattle.occ_tree_grammar.specs.Lines.Views.{var_of};
 
 use crate::target::{apart, placed, stored, stored_list};
 use indexmap::IndexSet;
@@ -57,7 +56,7 @@ pub fn assigned(
     variables: &OneOrMore<Var>,
     values: &OneOrMore<Expr>,
 ) -> Result<(Items<Target>, Items<Item>), CheckFault>
-    ensures { Gives (λ x. Assign (terms.targets_of x.0) (terms.items_of x.1)) result (meant.assigned (names_in context.entry.scope) context.entry.line (lines.var_of variables.now.first ∷ map lines.var_of variables.now.others.items) (trees.expression_of values.now.first ∷ map trees.expression_of values.now.others.items)) }
+    ensures { Gives as_assignment result (assigned_in context.entry variables.now values.now) }
 {
     let variables = all_variables(context, variables)?;
     let items = all_sides(context, &variables, values)?;
@@ -72,7 +71,8 @@ fn all_variables(
     context: Context<'_, '_>,
     variables: &OneOrMore<Var>,
 ) -> Result<Vec<(Primitive, Part)>, CheckFault>
-    ensures { Gives (λ xs. map side_of xs.items) result (each_of (items.variable_of (names_in context.entry.scope) context.entry.line) (lines.var_of variables.now.first ∷ map lines.var_of variables.now.others.items)) }
+    ensures { Gives variable_parts result
+        (variables_in context.entry (all_of var_of variables.now)) }
 {
     let mut all = Vec::new(context.alloc);
     all.push(variable_of(context, &variables.first)?)?;
@@ -85,7 +85,8 @@ fn each_variable(
     context: Context<'_, '_>,
     variables: &[Var],
 ) -> Result<Vec<(Primitive, Part)>, CheckFault>
-    ensures { Gives (λ xs. map side_of xs.items) result (each_of (items.variable_of (names_in context.entry.scope) context.entry.line) (map lines.var_of variables.now)) }
+    ensures { Gives variable_parts result
+        (variables_in context.entry (map var_of variables.now)) }
 {
     let mut all = Vec::new(context.alloc);
     for variable in variables {
@@ -105,7 +106,8 @@ fn all_sides(
     variables: &[(Primitive, Part)],
     values: &OneOrMore<Expr>,
 ) -> Result<Items<Item>, CheckFault>
-    ensures { Gives terms.items_of result (zipped (side_assigned (names_in context.entry.scope) context.entry.line) variables.now (trees.expression_of values.now.first ∷ map trees.expression_of values.now.others.items)) }
+    ensures { Gives items_of result
+        (sides_in context.entry variables.now (all_of tree_of values.now)) }
 {
     match variables.split_first() {
         None => Err(CheckFault::WrongType { line: context.line }),
@@ -124,7 +126,8 @@ fn each_side(
     variables: &[(Primitive, Part)],
     values: &[Expr],
 ) -> Result<Items<Item>, CheckFault>
-    ensures { Gives terms.items_of result (zipped (side_assigned (names_in context.entry.scope) context.entry.line) variables.now (map trees.expression_of values.now)) }
+    ensures { Gives items_of result
+        (sides_in context.entry variables.now (map tree_of values.now)) }
 {
     let mut made = Items::new(context.alloc);
     let mut left = values;
@@ -151,7 +154,8 @@ fn one_side(
     variable: &(Primitive, Part),
     value: &Expr,
 ) -> Result<Item, CheckFault>
-    ensures { Gives terms.item_of result (side_assigned (names_in context.entry.scope) context.entry.line variable.now (trees.expression_of value.now)) }
+    ensures { Gives item_of result
+        (read_in context.entry side_assigned variable.now (tree_of value.now)) }
 {
     let value = typed(context, value)?;
     assigned_item(context.line, variable.0, &variable.1, value)
@@ -163,7 +167,7 @@ fn targets_of(
     line: u32,
     variables: Vec<(Primitive, Part)>,
 ) -> Result<Items<Target>, AllocError>
-    ensures { IfOk result (λ ts. terms.targets_of ts ≡ map (items.as_target line) (map side_of variables.items)) }
+    ensures { Makes targets_of result (map (items.as_target line) (variable_parts variables)) }
 {
     let mut targets = Items::new(alloc);
     for (_, part) in variables {
@@ -179,7 +183,8 @@ fn assigned_item(
     variable: &Part,
     value: Typed,
 ) -> Result<Item, CheckFault>
-    ensures { Gives terms.item_of result (items.assigned_item (primitive, part_of variable.now) (typed_of value)) }
+    ensures { Gives item_of result
+        (items.assigned_item (primitive, part_of variable.now) (typed_of value)) }
 {
     let left = variable.left.as_slice();
     match value {
@@ -210,7 +215,7 @@ pub fn output(
     channel: &Var,
     outs: &OneOrMore<Out>,
 ) -> Result<(Place, Option<u32>, Items<Item>), CheckFault>
-    ensures { Gives (λ x. Output (terms.place_of x.0) x.1 (terms.items_of x.2)) result (meant.output (names_in context.entry.scope) context.entry.line (lines.var_of channel.now) (lines.out_of outs.now.first) (map lines.out_of outs.now.others.items)) }
+    ensures { Gives as_output result (output_in context.entry channel.now outs.now) }
 {
     let (protocol, channel) = channel_of(context, channel)?;
     let (tag, items) = sent(context, protocol, outs)?;
@@ -224,7 +229,7 @@ pub fn output(
 /// As `channel_of` and `stored`, `Protocol` for a message that the channel does not carry, and `Tag` for a tag that
 /// its protocol has not.
 pub fn received(context: Context<'_, '_>, input: &Input) -> Result<(Place, Listed), CheckFault>
-    ensures { Gives (λ x. (terms.place_of x.0, listed_of x.1)) result (meant.received (names_in context.entry.scope) context.entry.line (lines.input_of input.now)) }
+    ensures { Gives as_received result (received_in context.entry input.now) }
 {
     match input {
         Input::Items(channel, targets) => {
@@ -256,7 +261,7 @@ pub fn test_of(
     context: Context<'_, '_>,
     test: &Option<Expr>,
 ) -> Result<Option<TermExpr>, CheckFault>
-    ensures { Gives terms.test_of result (meant.test_of (names_in context.entry.scope) context.entry.line (option_map trees.expression_of test.now)) }
+    ensures { Gives test_of result (test_in context.entry test.now) }
 {
     match test {
         None => Ok(None),
@@ -273,7 +278,7 @@ pub fn test_of(
 ///
 /// As `typed`, and `WrongType` for an array and for a BOOL.
 pub fn selector(context: Context<'_, '_>, e: &Expr) -> Result<(Primitive, TermExpr), CheckFault>
-    ensures { Gives (λ x. (x.0, terms.expression_of x.1)) result (meant.selector (names_in context.entry.scope) context.entry.line (trees.expression_of e.now)) }
+    ensures { Gives one_value result (selector_in context.entry e.now) }
 {
     let (primitive, e) = as_single(context.line, typed(context, e)?)?;
     if is_number(primitive) {
@@ -289,7 +294,7 @@ pub fn selector(context: Context<'_, '_>, e: &Expr) -> Result<(Primitive, TermEx
 ///
 /// `Protocol` for any other.
 pub fn with_tags(line: u32, protocol: &Protocol) -> Result<&Protocol, CheckFault>
-    ensures { Gives (λ p. p.now) result (meant.with_tags protocol.now) }
+    ensures { Lends result (meant.with_tags protocol.now) }
 {
     match protocol {
         Protocol::Variant(_) => Ok(protocol),
@@ -328,7 +333,8 @@ fn choosing_one(
     constant: &i64,
     chosen: &mut Chosen,
 ) -> Result<(), CheckFault>
-    ensures { Chooses result chosen.new (meant.choosing (constant.now ∷ []) (chosen_of chosen.old)) }
+    ensures { Chooses result chosen.new
+        (meant.choosing (constant.now ∷ []) (chosen_of chosen.old)) }
 {
     let added = chosen.constants.insert(*constant)?;
     if !added {
@@ -362,7 +368,8 @@ pub fn choosing_else(line: u32, chosen: &mut Chosen) -> Result<(), CheckFault>
 
 /// The list of an arm, and the process behind it.
 pub fn as_reception(alloc: Global, listed: Listed, body: Term) -> Result<Reception, AllocError>
-    ensures { IfOk result (λ r. terms.reception_of r ≡ meant.as_reception (listed_of listed) (terms.term_of body)) }
+    ensures { Makes reception_of result
+        (meant.as_reception (listed_of listed) (term_of body)) }
 {
     match listed {
         Listed::Plain(targets) => Ok(Reception::Plain(targets, body)),
@@ -375,7 +382,7 @@ pub fn as_reception(alloc: Global, listed: Listed, body: Term) -> Result<Recepti
 
 /// An input.
 pub fn as_input(alloc: Global, channel: Place, listed: Listed) -> Result<Term, AllocError>
-    ensures { IfOk result (λ t. terms.term_of t ≡ meant.as_input (terms.place_of channel, listed_of listed)) }
+    ensures { Makes term_of result (meant.as_input (as_received (channel, listed))) }
 {
     match listed {
         Listed::Plain(targets) => Ok(Term::Input(channel, targets)),
@@ -393,7 +400,8 @@ fn only_variant(
     targets: Items<Target>,
     body: Term,
 ) -> Result<Items<Variant>, AllocError>
-    ensures { IfOk result (λ vs. terms.variants_of vs ≡ or_variant tag [] (terms.targets_of targets) (terms.term_of body) no_variants) }
+    ensures { Makes variants_of result
+        (or_variant tag [] (targets_of targets) (term_of body) no_variants) }
 {
     let variant = Variant {
         tag,

@@ -1,14 +1,14 @@
 //! Calls: what the formals stand for under the actuals.
 
-ghost use Rattle.std.specs.Prelude.{◌≡◌, ◌∷◌, map};
-ghost use Rattle.occ_tree_grammar.specs.Expressions.Trees as trees;
+ghost use Rattle.std.specs.Prelude.{◌≡◌, map};
 ghost use Rattle.occ_tree_grammar.specs.Lines.Views as lines;
+ghost use Rattle.occ_tree_grammar.specs.Expressions.Trees.{alone, operand_of, expression_of as tree_of};
 ghost use Rattle.occ_check_meaning.specs.Calls as meant;
 ghost use Rattle.occ_check_meaning.specs.Items as items;
-ghost use Rattle.occ_check_names.specs.View.{Gives, carried_of, known_of, names_in, numbers_of, stretch_of};
-ghost use Rattle.occ_check_names.specs.declared.numbers.Numbers.{Numbers};
+ghost use Rattle.occ_check_names.specs.View.{Gives, carried_of, channels_known, known_of, stretch_of, variable_known};
+ghost use Rattle.occ_check_names.specs.Reading.{all_of};
 ghost use Rattle.occ_check_typing.specs.Declaration.{Opens};
-ghost use Rattle.occ_check_acting.specs.Call.{channels_bound, formals_of, given_of, variable_bound, wanted_of};
+ghost use Rattle.occ_check_acting.specs.Call.{OpensGiven, actual_in, actuals_in, bound_in, channels_bound, name_with, variable_bound, wanted_of};
 
 use crate::formals::{Wanted, WantedFormal};
 use crate::given::{Given, all_evaluated, part_of};
@@ -29,7 +29,7 @@ use std::alloc::Global;
 
 /// An actual of a formal that wants no value: a name, with its subscripts.
 fn as_named(line: u32, e: &Expr) -> Result<(&[u8], &[Expr]), CheckFault>
-    ensures { Gives (λ v. (v.0.now, trees.expressions (map trees.expression_of v.1.now))) result (meant.as_named (trees.expression_of e.now)) }
+    ensures { Gives name_with result (meant.as_named (tree_of e.now)) }
 {
     match e {
         Expr::Operand(operand) => named_operand(line, operand),
@@ -38,7 +38,7 @@ fn as_named(line: u32, e: &Expr) -> Result<(&[u8], &[Expr]), CheckFault>
 }
 
 fn named_operand(line: u32, operand: &Operand) -> Result<(&[u8], &[Expr]), CheckFault>
-    ensures { Gives (λ v. (v.0.now, trees.expressions (map trees.expression_of v.1.now))) result (meant.as_named (trees.alone (trees.operand_of operand.now))) }
+    ensures { Gives name_with result (meant.as_named (alone (operand_of operand.now))) }
 {
     match operand {
         Operand::Variable(name, subscripts) => Ok((name, subscripts)),
@@ -48,7 +48,7 @@ fn named_operand(line: u32, operand: &Operand) -> Result<(&[u8], &[Expr]), Check
 
 /// A name that may be assigned to: its type, and where it lies. A channel is the wrong argument here.
 fn given_variable(line: u32, known: &Known) -> Result<(Primitive, &Stretch), CheckFault>
-    ensures { Gives (λ r. (r.0, stretch_of r.1.now)) result (items.as_variable (known_of known.now)) }
+    ensures { Gives variable_known result (items.as_variable (known_of known.now)) }
 {
     match known {
         Known::Cells(Access::Assignable, primitive, stretch) => Ok((*primitive, stretch)),
@@ -59,7 +59,7 @@ fn given_variable(line: u32, known: &Known) -> Result<(Primitive, &Stretch), Che
 
 /// A channel's name: what it carries, and where it lies. Variables and values are wrong arguments here.
 fn given_channels(line: u32, known: &Known) -> Result<(&Carried, &Stretch), CheckFault>
-    ensures { Gives (λ r. (carried_of r.0.now, stretch_of r.1.now)) result (items.as_channels (known_of known.now)) }
+    ensures { Gives channels_known result (items.as_channels (known_of known.now)) }
 {
     match known {
         Known::Channels(carried, stretch) => Ok((carried, stretch)),
@@ -79,7 +79,8 @@ fn variable_given(
     stretch: &Stretch,
     given: Given,
 ) -> Result<Opened, CheckFault>
-    ensures { (n : Numbers) → Opens result n (variable_bound name.now sizes.now primitive own (stretch_of stretch.now) (given_of given n)) }
+    ensures { OpensGiven result given
+        (variable_bound name.now sizes.now primitive own (stretch_of stretch.now)) }
 {
     if is_same_type(own, primitive) && takes_sizes(sizes, given.left.as_slice()) {
         let Given {
@@ -106,7 +107,8 @@ fn channels_given(
     stretch: &Stretch,
     given: Given,
 ) -> Result<Opened, CheckFault>
-    ensures { (n : Numbers) → Opens result n (channels_bound name.now sizes.now (carried_of carried.now) (carried_of own.now) (stretch_of stretch.now) (given_of given n)) }
+    ensures { OpensGiven result given (channels_bound
+        name.now sizes.now (carried_of carried.now) (carried_of own.now) (stretch_of stretch.now)) }
 {
     if is_same_carried(carried, own) && takes_sizes(sizes, given.left.as_slice()) {
         let Given {
@@ -157,7 +159,8 @@ fn value_actual(
     primitive: Primitive,
     e: &Expr,
 ) -> Result<Opened, CheckFault>
-    ensures { Opens result numbers.new (meant.actual_of (names_in context.entry.scope) context.entry.line depth name.now (meant.wants_value sizes.now primitive) (trees.expression_of e.now) (numbers_of numbers.old)) }
+    ensures { Opens result numbers.new (actual_in context.entry depth name.now
+        (meant.wants_value sizes.now primitive) e.now numbers.old) }
 {
     let value = Held::new(typed(context, e)?);
     if has_type(sizes, primitive, &value.value) {
@@ -184,7 +187,8 @@ fn variable_actual(
     primitive: Primitive,
     e: &Expr,
 ) -> Result<Opened, CheckFault>
-    ensures { Opens result numbers.new (meant.actual_of (names_in context.entry.scope) context.entry.line depth name.now (meant.wants_variable sizes.now primitive) (trees.expression_of e.now) (numbers_of numbers.old)) }
+    ensures { Opens result numbers.new (actual_in context.entry depth name.now
+        (meant.wants_variable sizes.now primitive) e.now numbers.old) }
 {
     let (x, es) = as_named(context.line, e)?;
     let known = known_name(context, x)?;
@@ -222,7 +226,8 @@ fn channels_actual(
     carried: &Carried,
     e: &Expr,
 ) -> Result<Opened, CheckFault>
-    ensures { Opens result numbers.new (meant.actual_of (names_in context.entry.scope) context.entry.line depth name.now (meant.wants_channels sizes.now (carried_of carried.now)) (trees.expression_of e.now) (numbers_of numbers.old)) }
+    ensures { Opens result numbers.new (actual_in context.entry depth name.now
+        (meant.wants_channels sizes.now (carried_of carried.now)) e.now numbers.old) }
 {
     let (x, es) = as_named(context.line, e)?;
     let known = known_name(context, x)?;
@@ -258,7 +263,8 @@ fn actual_of(
     formal: &WantedFormal,
     e: &Expr,
 ) -> Result<Opened, CheckFault>
-    ensures { Opens result numbers.new (meant.actual_of (names_in context.entry.scope) context.entry.line depth formal.now.name (wanted_of formal.now.wanted) (trees.expression_of e.now) (numbers_of numbers.old)) }
+    ensures { Opens result numbers.new (actual_in context.entry depth formal.now.name
+        (wanted_of formal.now.wanted) e.now numbers.old) }
 {
     let name = formal.name.as_slice();
     match &formal.wanted {
@@ -284,7 +290,8 @@ fn all_actuals(
     formals: &[WantedFormal],
     actuals: &[Expr],
 ) -> Result<Opened, CheckFault>
-    ensures { Opens result numbers.new (meant.all_actuals (names_in context.entry.scope) context.entry.line depth (formals_of formals.now) (map trees.expression_of actuals.now) (numbers_of numbers.old)) }
+    ensures { Opens result numbers.new
+        (actuals_in context.entry depth formals.now (map tree_of actuals.now) numbers.old) }
 {
     let mut opened = Opened::new(context.alloc);
     let mut others = actuals;
@@ -311,7 +318,8 @@ fn actuals_of(
     formals: &[WantedFormal],
     actuals: &Option<OneOrMore<Expr>>,
 ) -> Result<Opened, CheckFault>
-    ensures { Opens result numbers.new (meant.all_actuals (names_in context.entry.scope) context.entry.line depth (formals_of formals.now) (meant.actual_list (lines.actuals_of actuals.now)) (numbers_of numbers.old)) }
+    ensures { Opens result numbers.new (actuals_in context.entry depth formals.now
+        (meant.actual_list (lines.actuals_of actuals.now)) numbers.old) }
 {
     match actuals {
         None => all_actuals(numbers, context, depth, formals, &[]),
@@ -326,7 +334,8 @@ fn some_actuals(
     formals: &[WantedFormal],
     actuals: &OneOrMore<Expr>,
 ) -> Result<Opened, CheckFault>
-    ensures { Opens result numbers.new (meant.all_actuals (names_in context.entry.scope) context.entry.line depth (formals_of formals.now) (trees.expression_of actuals.now.first ∷ map trees.expression_of actuals.now.others.items) (numbers_of numbers.old)) }
+    ensures { Opens result numbers.new
+        (actuals_in context.entry depth formals.now (all_of tree_of actuals.now) numbers.old) }
 {
     let Some((formal, rest)) = formals.split_first() else {
         return Err(CheckFault::Arguments { line: context.line });
@@ -351,7 +360,8 @@ pub fn bound(
     formals: &[WantedFormal],
     actuals: &Option<OneOrMore<Expr>>,
 ) -> Result<Opened, CheckFault>
-    ensures { Opens result numbers.new (meant.bound (names_in context.entry.scope) context.entry.line depth (formals_of formals.now) (lines.actuals_of actuals.now) (numbers_of numbers.old)) }
+    ensures { Opens result numbers.new
+        (bound_in context.entry depth formals.now actuals.now numbers.old) }
 {
     let opened = actuals_of(numbers, context, depth, formals, actuals)?;
     if some_overlap(context.alloc, &opened.names)? {

@@ -4,9 +4,10 @@ ghost use Rattle.std.specs.Prelude.{◌≡◌, IfOk, map, option_map};
 ghost use Rattle.occ_tree_grammar.specs.Lines.Trees.{by_channel};
 ghost use Rattle.occ_tree_grammar.specs.Lines.Views as lines;
 ghost use Rattle.occ_check_meaning.specs.Calls as meant;
-ghost use Rattle.occ_check_meaning.specs.Types.{open_sizes_of};
-ghost use Rattle.occ_check_names.specs.View.{Gives, names_in};
-ghost use Rattle.occ_check_acting.specs.Call.{formal_of, formals_of, listed_formals, named_formal, wanted_of, wants_a_value, wants_a_variable};
+ghost use Rattle.occ_check_names.specs.View.{Gives};
+ghost use Rattle.occ_check_names.specs.Reading.{read_in};
+ghost use Rattle.occ_check_acting.specs.Call.{all_formals, formal_of, formals_in, formals_of, listed_formals_in, named_formal, wanted_in, wanted_of, wants_a_value, wants_a_variable};
+ghost use Rattle.occ_check_typing.specs.Typing.{open_sizes_in};
 
 use occ_check_names::context::Context;
 use occ_check_names::fault::CheckFault;
@@ -55,7 +56,7 @@ impl Drop for WantedFormal {
 
 /// What a formal of this spec wants.
 fn wanted_by(context: Context<'_, '_>, spec: &Spec) -> Result<Wanted, CheckFault>
-    ensures { Gives wanted_of result (meant.wanted (names_in context.entry.scope) context.entry.line (lines.spec_of spec.now)) }
+    ensures { Gives wanted_of result (wanted_in context.entry spec.now) }
 {
     match spec {
         Spec::Value(value_type) => {
@@ -75,7 +76,8 @@ fn value_wanted(
     sizes: &[Size],
     primitive: Primitive,
 ) -> Result<Wanted, CheckFault>
-    ensures { Gives wanted_of result (wants_a_value primitive (open_sizes_of (names_in context.entry.scope) context.entry.line (map lines.size_of sizes.now))) }
+    ensures { Gives wanted_of result
+        (wants_a_value primitive (open_sizes_in context.entry sizes.now)) }
 {
     let sizes = open_sizes_of(context, sizes)?;
     Ok(Wanted::Value(sizes, primitive))
@@ -86,7 +88,8 @@ fn variable_wanted(
     sizes: &[Size],
     primitive: Primitive,
 ) -> Result<Wanted, CheckFault>
-    ensures { Gives wanted_of result (wants_a_variable primitive (open_sizes_of (names_in context.entry.scope) context.entry.line (map lines.size_of sizes.now))) }
+    ensures { Gives wanted_of result
+        (wants_a_variable primitive (open_sizes_in context.entry sizes.now)) }
 {
     let sizes = open_sizes_of(context, sizes)?;
     Ok(Wanted::Variable(sizes, primitive))
@@ -97,7 +100,8 @@ fn channels_wanted(
     sizes: &[Size],
     carried: &CarriedTree,
 ) -> Result<Wanted, CheckFault>
-    ensures { Gives wanted_of result (meant.wanted (names_in context.entry.scope) context.entry.line (by_channel (map lines.size_of sizes.now) (lines.carried_of carried.now))) }
+    ensures { Gives wanted_of result (read_in context.entry meant.wanted
+        (by_channel (map lines.size_of sizes.now) (lines.carried_of carried.now))) }
 {
     let sizes = open_sizes_of(context, sizes)?;
     let carried = carried_by(context, carried)?;
@@ -114,7 +118,7 @@ pub fn formals_of(
     context: Context<'_, '_>,
     formals: &Option<Box<Formals>>,
 ) -> Result<Vec<WantedFormal>, CheckFault>
-    ensures { Gives (λ fs. formals_of fs.items) result (meant.formals_of (names_in context.entry.scope) context.entry.line (lines.formals_of formals.now)) }
+    ensures { Gives all_formals result (formals_in context.entry (lines.formals_of formals.now)) }
 {
     match formals {
         None => Ok(Vec::new(context.alloc)),
@@ -126,7 +130,8 @@ fn some_formals(
     context: Context<'_, '_>,
     formals: &Formals,
 ) -> Result<Vec<WantedFormal>, CheckFault>
-    ensures { Gives (λ fs. formals_of fs.items) result (meant.formals_of (names_in context.entry.scope) context.entry.line (lines.some_formals_of formals.now)) }
+    ensures { Gives all_formals result
+        (formals_in context.entry (lines.some_formals_of formals.now)) }
 {
     let all = listed_formals(context, formals)?;
     let names = formal_names(context.alloc, &all)?;
@@ -148,7 +153,7 @@ fn listed_formals(
     context: Context<'_, '_>,
     formals: &Formals,
 ) -> Result<Vec<WantedFormal>, CheckFault>
-    ensures { Gives (λ fs. formals_of fs.items) result (listed_formals (names_in context.entry.scope) context.entry.line (lines.spec_of formals.now.spec) formals.now.name.items (map lines.formal_of formals.now.others.items)) }
+    ensures { Gives all_formals result (listed_formals_in context.entry formals.now) }
 {
     let first = wanted_formal(context, &formals.spec, &formals.name)?;
     let mut others = other_formals(context, &formals.spec, &formals.others)?;
@@ -163,7 +168,7 @@ fn wanted_formal(
     spec: &Spec,
     name: &[u8],
 ) -> Result<WantedFormal, CheckFault>
-    ensures { Gives formal_of result (named_formal name.now (meant.wanted (names_in context.entry.scope) context.entry.line (lines.spec_of spec.now))) }
+    ensures { Gives formal_of result (named_formal name.now (wanted_in context.entry spec.now)) }
 {
     let wanted = wanted_by(context, spec)?;
     let name = Items::from_slice(context.alloc, name)?;
@@ -176,7 +181,8 @@ fn other_formals(
     spec: &Spec,
     formals: &[Formal],
 ) -> Result<Vec<WantedFormal>, CheckFault>
-    ensures { Gives (λ fs. formals_of fs.items) result (meant.other_formals (names_in context.entry.scope) context.entry.line (lines.spec_of spec.now) (map lines.formal_of formals.now)) }
+    ensures { Gives all_formals result (read_in context.entry meant.other_formals
+        (lines.spec_of spec.now) (map lines.formal_of formals.now)) }
 {
     let mut all = Vec::new(context.alloc);
     let mut before = spec;
@@ -190,7 +196,8 @@ fn other_formals(
 
 /// The spec of a formal behind one of this spec.
 pub fn spec_after<'a>(before: &'a Spec, own: &'a Option<Spec>) -> &'a Spec
-    ensures { lines.spec_of result.now ≡ meant.spec_after (lines.spec_of before.now) (option_map lines.spec_of own.now) }
+    ensures { lines.spec_of result.now
+        ≡ meant.spec_after (lines.spec_of before.now) (option_map lines.spec_of own.now) }
 {
     match own {
         None => before,

@@ -5,9 +5,9 @@ ghost use Rattle.occ_term.specs.ArraySizes.{AreFew};
 ghost use Rattle.occ_term.specs.View.{expression_of, subscripts};
 ghost use Rattle.occ_check_meaning.specs.Calls as meant;
 ghost use Rattle.occ_check_meaning.specs.Constants.{constant};
-ghost use Rattle.occ_check_names.specs.View.{evaluated_of, numbers_of, stretch_of};
+ghost use Rattle.occ_check_names.specs.View.{Makes, evaluated_of, numbers_of, stretch_of, subscripts_of};
 ghost use Rattle.occ_check_names.specs.declared.numbers.Numbers.{Numbers};
-ghost use Rattle.occ_check_acting.specs.Call.{Evaluates, one_constant, part_under};
+ghost use Rattle.occ_check_acting.specs.Call.{Evaluates, EvaluatesFrom, one_constant, part_under};
 
 use occ_check_names::constant::{constant_of, is_below};
 use occ_check_names::fault::CheckFault;
@@ -41,7 +41,8 @@ fn one_evaluated(
     size: u32,
     e: TermExpr,
 ) -> Result<Given, CheckFault>
-    ensures { Evaluates result numbers.new (meant.one_evaluated name.now depth size (expression_of e) (constant (expression_of e)) (numbers_of numbers.old)) }
+    ensures { EvaluatesFrom result numbers.old numbers.new (meant.one_evaluated
+        name.now depth size (expression_of e) (constant (expression_of e))) }
 {
     match constant_of(&e) {
         Some(value) => constant_given(alloc, line, size, value),
@@ -68,7 +69,8 @@ fn cell_given(
     name: &[u8],
     e: TermExpr,
 ) -> Result<Given, CheckFault>
-    ensures { (size : ℕ) → Evaluates result numbers.new (meant.one_evaluated name.now depth size (expression_of e) None (numbers_of numbers.old)) }
+    ensures { (size : ℕ) → EvaluatesFrom result numbers.old numbers.new
+        (meant.one_evaluated name.now depth size (expression_of e) None) }
 {
     let cell = numbers.more_cells(alloc, Primitive::Int, name, &[])?;
     let value = Item::One(Primitive::Int, e);
@@ -116,7 +118,8 @@ pub(crate) fn all_evaluated(
     sizes: &[u32],
 ) -> Result<Given, CheckFault>
     requires { AreFew sizes.now }
-    ensures { Evaluates result numbers.new (meant.all_evaluated name.now depth (subscripts (map expression_of under)) sizes.now (numbers_of numbers.old)) }
+    ensures { EvaluatesFrom result numbers.old numbers.new
+        (meant.all_evaluated name.now depth (subscripts_of under) sizes.now) }
 {
     if under.is_empty() {
         let mut given = Given::new(alloc);
@@ -161,7 +164,8 @@ pub(crate) fn part_of(
     under: Items<Evaluated>,
     left: Sizes,
 ) -> Result<Stretch, AllocError>
-    ensures { IfOk result (λ part. stretch_of part ≡ part_under (stretch_of stretch.now) (subscripts (map evaluated_of under)) left) }
+    ensures { Makes stretch_of result
+        (part_under (stretch_of stretch.now) (subscripts (map evaluated_of under)) left) }
 {
     let mut all = Items::from_slice(alloc, stretch.subscripts.as_slice())?;
     all.append(under)?;

@@ -1,14 +1,14 @@
 //! Where what is input is stored.
 
-ghost use Rattle.std.specs.Prelude.{◌≡◌, ◌∷◌, [], map};
-ghost use Rattle.occ_tree_grammar.specs.Lines.Views as lines;
-ghost use Rattle.occ_term.specs.View as terms;
-ghost use Rattle.occ_check_acting.specs.Action.{stored_one, takes};
+ghost use Rattle.std.specs.Prelude.{◌≡◌, [], map};
+ghost use Rattle.occ_check_acting.specs.Action.{each_stored_in, stored_in, stored_one, takes};
 ghost use Rattle.occ_check_clashes.specs.Clash.{stretches_at};
-ghost use Rattle.occ_check_typing.specs.Zipped.{zipped};
 ghost use Rattle.occ_check_meaning.specs.Expressions as expressions;
 ghost use Rattle.occ_check_meaning.specs.Items as meant;
-ghost use Rattle.occ_check_names.specs.View.{Gives, names_in, part_of};
+ghost use Rattle.occ_check_names.specs.View.{Allows, Gives, part_of, variable_part};
+ghost use Rattle.occ_check_names.specs.Reading.{all_of, read_in};
+ghost use Rattle.occ_tree_grammar.specs.Lines.Views.{target_of as target_tree};
+ghost use Rattle.occ_term.specs.View.{place_of, target_of, targets_of};
 
 use occ_check_clashes::clash::some_clash;
 use occ_check_names::context::Context;
@@ -25,7 +25,7 @@ use std::alloc::Global;
 
 /// The place of a part, in this line.
 pub fn placed(line: u32, part: Part) -> Place
-    ensures { terms.place_of result ≡ expressions.place_of line (part_of part) }
+    ensures { place_of result ≡ expressions.place_of line (part_of part) }
 {
     let mut place = part.place;
     place.line = line;
@@ -39,7 +39,8 @@ fn target_of(
     primitive: Primitive,
     variable: Part,
 ) -> Result<Target, CheckFault>
-    ensures { Gives terms.target_of result (meant.target_of line part.now (meant.aim primitive (part_of variable))) }
+    ensures { Gives target_of result
+        (meant.target_of line part.now (meant.aim primitive (part_of variable))) }
 {
     if takes_part(part, primitive, variable.left.as_slice()) {
         Ok(Target::Into(placed(line, variable)))
@@ -68,7 +69,8 @@ fn counted_target(
     number: (Primitive, Part),
     array: (Primitive, Part),
 ) -> Result<Target, CheckFault>
-    ensures { Gives terms.target_of result (meant.target_of line part.now (meant.counted_aim (number.0, part_of number.1) (array.0, part_of array.1))) }
+    ensures { Gives target_of result (meant.target_of
+        line part.now (meant.counted_aim (variable_part number) (variable_part array))) }
 {
     let (counts, number) = number;
     let (holds, array) = array;
@@ -102,7 +104,8 @@ fn one_stored(
     part: &PartType,
     target: &TargetTree,
 ) -> Result<Target, CheckFault>
-    ensures { Gives terms.target_of result (stored_one (names_in context.entry.scope) context.entry.line part.now (lines.target_of target.now)) }
+    ensures { Gives target_of result
+        (read_in context.entry stored_one part.now (target_tree target.now)) }
 {
     match target {
         TargetTree::Whole(variable) => {
@@ -123,7 +126,8 @@ fn each_stored(
     parts: &[PartType],
     targets: &[TargetTree],
 ) -> Result<Items<Target>, CheckFault>
-    ensures { Gives terms.targets_of result (zipped (stored_one (names_in context.entry.scope) context.entry.line) parts.now (map lines.target_of targets.now)) }
+    ensures { Gives targets_of result
+        (each_stored_in context.entry parts.now (map target_tree targets.now)) }
 {
     let mut made = Items::new(context.alloc);
     let mut left = targets;
@@ -150,7 +154,7 @@ fn each_stored(
 ///
 /// `ListTarget` for two that clash, and as `some_clash`.
 pub fn apart(alloc: Global, line: u32, targets: &[Target]) -> Result<(), CheckFault>
-    ensures { Gives (λ _. stretches_at (terms.targets_of targets.now)) result (meant.apart (stretches_at (terms.targets_of targets.now))) }
+    ensures { Allows meant.apart result (stretches_at (targets_of targets.now)) }
 {
     if some_clash(alloc, targets)? {
         Err(CheckFault::ListTarget { line })
@@ -169,7 +173,8 @@ pub fn stored(
     parts: &[PartType],
     targets: &[TargetTree],
 ) -> Result<Items<Target>, CheckFault>
-    ensures { Gives terms.targets_of result (meant.stored (names_in context.entry.scope) context.entry.line parts.now (map lines.target_of targets.now)) }
+    ensures { Gives targets_of result
+        (stored_in context.entry parts.now (map target_tree targets.now)) }
 {
     let made = match each_stored(context, parts, targets) {
         Ok(made) => made,
@@ -191,7 +196,8 @@ pub fn stored_list(
     parts: &[PartType],
     targets: &OneOrMore<TargetTree>,
 ) -> Result<Items<Target>, CheckFault>
-    ensures { Gives terms.targets_of result (meant.stored (names_in context.entry.scope) context.entry.line parts.now (lines.target_of targets.now.first ∷ map lines.target_of targets.now.others.items)) }
+    ensures { Gives targets_of result
+        (stored_in context.entry parts.now (all_of target_tree targets.now)) }
 {
     let made = match list_stored(context, parts, targets) {
         Ok(made) => made,
@@ -210,7 +216,8 @@ fn list_stored(
     parts: &[PartType],
     targets: &OneOrMore<TargetTree>,
 ) -> Result<Items<Target>, CheckFault>
-    ensures { Gives terms.targets_of result (zipped (stored_one (names_in context.entry.scope) context.entry.line) parts.now (lines.target_of targets.now.first ∷ map lines.target_of targets.now.others.items)) }
+    ensures { Gives targets_of result
+        (each_stored_in context.entry parts.now (all_of target_tree targets.now)) }
 {
     match parts.split_first() {
         None => Err(CheckFault::Protocol { line: context.line }),

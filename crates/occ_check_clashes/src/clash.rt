@@ -2,11 +2,12 @@
 //! another.
 
 ghost use Rattle.std.specs.Prelude.{◌≡◌, IfOk, map};
-ghost use Rattle.occ_term.specs.View.{expression_of, subscripts, targets_of};
+ghost use Rattle.occ_term.specs.View.{targets_of};
 ghost use Rattle.occ_check_meaning.specs.Items as meant;
 ghost use Rattle.occ_check_clashes.specs.Clash.{stretches_at};
 ghost use Rattle.occ_check_typing.specs.Spans.{span_of};
 ghost use Rattle.occ_check_clashes.specs.Clash.{fixed_spans, stretches_of};
+ghost use Rattle.occ_check_names.specs.View.{subscripts_of};
 
 use crate::named::span_named;
 use crate::naming::some_names_another;
@@ -22,7 +23,8 @@ use std::alloc::{AllocError, Global};
 ///
 /// A refused growth.
 pub fn some_clash(alloc: Global, targets: &[Target]) -> Result<bool, AllocError>
-    ensures { IfOk result (λ clash. clash ≡ meant.some_clash (stretches_at (targets_of targets.now))) }
+    ensures { IfOk result
+        (λ clash. clash ≡ meant.some_clash (stretches_at (targets_of targets.now))) }
 {
     let places = places_of(alloc, targets)?;
     some_places_clash(alloc, &places)
@@ -30,7 +32,8 @@ pub fn some_clash(alloc: Global, targets: &[Target]) -> Result<bool, AllocError>
 
 /// The places of targets, in order.
 fn places_of(alloc: Global, targets: &[Target]) -> Result<Vec<&Place>, AllocError>
-    ensures { IfOk result (λ places. stretches_of places.items ≡ stretches_at (targets_of targets.now)) }
+    ensures { IfOk result
+        (λ places. stretches_of places.items ≡ stretches_at (targets_of targets.now)) }
 {
     let mut places = Vec::new(alloc);
     for target in targets {
@@ -59,7 +62,8 @@ fn some_places_clash(alloc: Global, places: &[&Place]) -> Result<bool, AllocErro
 
 /// The parts that places with constant subscripts name.
 fn fixed_parts(alloc: Global, places: &[&Place]) -> Result<Vec<Span>, AllocError>
-    ensures { IfOk result (λ parts. map span_of parts.items ≡ fixed_spans (stretches_of places.now)) }
+    ensures { IfOk result
+        (λ parts. map span_of parts.items ≡ fixed_spans (stretches_of places.now)) }
 {
     let mut parts = Vec::new(alloc);
     for place in places {
@@ -73,7 +77,7 @@ fn fixed_parts(alloc: Global, places: &[&Place]) -> Result<Vec<Span>, AllocError
 
 /// Whether all subscripts are constants without a fault.
 fn are_constant(list: &[TermExpr]) -> bool
-    ensures { result ≡ meant.are_constant (subscripts (map expression_of list.now)) }
+    ensures { result ≡ meant.are_constant (subscripts_of list.now) }
 {
     for subscript in list {
         if constant_of(subscript).is_none() {

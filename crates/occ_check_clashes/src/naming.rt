@@ -5,10 +5,11 @@ ghost use Rattle.std.specs.List.Sorted.{IsNonDecreasingBy};
 ghost use Rattle.occ_term.specs.Terms.{Component};
 ghost use Rattle.occ_term.specs.Uses as uses;
 ghost use Rattle.occ_term.specs.Values.{span};
-ghost use Rattle.occ_term.specs.View.{expression_of, place_of, subscripts};
+ghost use Rattle.occ_term.specs.View.{expression_of, place_of};
 ghost use Rattle.occ_check_clashes.specs.Clash.{stretch_at};
 ghost use Rattle.occ_check_clashes.specs.Clash.{AreSorted, begins_at, below, ends_at, is_one_named, met_by, names_another, reads_some, stretches_of, shares, some_in_subscripts, one_names_another, variable_spans};
 ghost use Rattle.occ_check_typing.specs.Spans.{span_of};
+ghost use Rattle.occ_check_names.specs.View.{subscripts_of};
 
 use crate::named::{span_named, whole_of};
 use occ_check_typing::span::Span;
@@ -29,7 +30,8 @@ pub(crate) fn some_names_another(alloc: Global, places: &[&Place]) -> Result<boo
 
 /// Where the variables of places begin.
 fn firsts_of(alloc: Global, places: &[&Place]) -> Result<Vec<u64>, AllocError>
-    ensures { IfOk result (λ firsts. firsts.items ≡ map begins_at (variable_spans (stretches_of places.now))) }
+    ensures { IfOk result
+        (λ firsts. firsts.items ≡ map begins_at (variable_spans (stretches_of places.now))) }
 {
     let mut firsts = Vec::new(alloc);
     for place in places {
@@ -40,7 +42,8 @@ fn firsts_of(alloc: Global, places: &[&Place]) -> Result<Vec<u64>, AllocError>
 
 /// Where they end.
 fn ends_of(alloc: Global, places: &[&Place]) -> Result<Vec<u64>, AllocError>
-    ensures { IfOk result (λ ends. ends.items ≡ map ends_at (variable_spans (stretches_of places.now))) }
+    ensures { IfOk result
+        (λ ends. ends.items ≡ map ends_at (variable_spans (stretches_of places.now))) }
 {
     let mut ends = Vec::new(alloc);
     for place in places {
@@ -161,7 +164,7 @@ fn reads_component(place: &Place, others: Others<'_>) -> bool
 #[cycle(reading)]
 fn some_reads(list: &[TermExpr], others: Others<'_>) -> bool
     requires sorted { AreSorted others }
-    ensures { result ≡ some_in_subscripts (met_by others.entry) (subscripts (map expression_of list.now)) }
+    ensures { result ≡ some_in_subscripts (met_by others.entry) (subscripts_of list.now) }
 {
     for subscript in list {
         if reads(subscript, others) {

@@ -4,7 +4,7 @@ ghost use Rattle.std.specs.Prelude.{ℕ, ◌≡◌, ◌∷◌, [], IfErr, IfOk, 
 ghost use Rattle.occ_term.specs.declared.protocol.Protocol.{Protocol};
 ghost use Rattle.occ_check_meaning.specs.Actions as meant;
 ghost use Rattle.occ_check_meaning.specs.Items.{tag_number};
-ghost use Rattle.occ_check_names.specs.View.{Gives};
+ghost use Rattle.occ_check_names.specs.View.{Answers};
 ghost use Rattle.occ_check_names.specs.declared.fault.CheckFault.TheVariants.{Memory};
 ghost use Rattle.occ_check_clashes.specs.Tags.{AreTagsOf, listed_in, number_at, tags_of};
 
@@ -47,7 +47,8 @@ impl Tags {
     ///
     /// `Tag` for one that was, for one that the protocol has not or has behind 2 to the 32 others, and `Memory`.
     pub fn next(&mut self, line: u32, name: &[u8]) -> Result<u32, CheckFault>
-        ensures tag { (p : Protocol) → AreTagsOf p self.old → Gives (λ k. k) result (meant.new_tag p name.now (listed_in self.old)) }
+        ensures tag { (p : Protocol) → AreTagsOf p self.old
+            → Answers result (meant.new_tag p name.now (listed_in self.old)) }
         ensures listed { IfOk result (λ k. listed_in self.new ≡ k ∷ listed_in self.old) }
         ensures numbers { self.new.numbers ≡ self.old.numbers }
     {
@@ -79,7 +80,8 @@ fn tags_in(protocol: &Protocol) -> &[Tag]
 
 /// The number of each name. The last tag comes first, so that the first one of a name stays.
 fn numbers_of(alloc: Global, tags: &[Tag]) -> Result<IndexMap<Vec<u8>, usize>, CheckFault>
-    ensures numbers { IfOk result (λ ns. (x : List ℕ) → number_at x ns.entries ≡ tag_number tags.now x 0) }
+    ensures numbers { IfOk result
+        (λ ns. (x : List ℕ) → number_at x ns.entries ≡ tag_number tags.now x 0) }
     ensures memory { IfErr result (λ e. e ≡ Memory) }
 {
     let mut numbers = IndexMap::new(alloc);

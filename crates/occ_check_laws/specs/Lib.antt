@@ -5,3 +5,4 @@ pub mod Growth
 pub mod CellOrder
 pub mod Scoping
 pub mod Limits
+pub mod Laws

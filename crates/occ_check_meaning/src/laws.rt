@@ -12,20 +12,24 @@ ghost use Rattle.occ_check_meaning.specs.Meant.{meant};
 
 /// What the recursion answers is an unfolding.
 pub fn sound()
-    ensures { (sc : Procedures) (depth : ℕ) (n m : Numbers) (p : Node process) (t : Term) → unfolded p (meant sc) depth n ≡ Some (t, m) → Unfolding sc depth n p t m }
+    ensures { (sc : Procedures) (depth : ℕ) (n m : Numbers) (p : Node process) (t : Term)
+        → unfolded p (meant sc) depth n ≡ Some (t, m) → Unfolding sc depth n p t m }
 {}
 
 /// Each unfolding is what the recursion answers, so there is one at most.
 pub fn complete()
-    ensures { (sc : Procedures) (depth : ℕ) (n m : Numbers) (p : Node process) (t : Term) → Unfolding sc depth n p t m → unfolded p (meant sc) depth n ≡ Some (t, m) }
+    ensures { (sc : Procedures) (depth : ℕ) (n m : Numbers) (p : Node process) (t : Term)
+        → Unfolding sc depth n p t m → unfolded p (meant sc) depth n ≡ Some (t, m) }
 {}
 
 /// The same of whole programs.
 pub fn program_sound()
-    ensures { (items : List Item) (t : Term) (m : Numbers) → program_unfolded items ≡ Some (t, m) → ProgramUnfolding items t m }
+    ensures { (items : List Item) (t : Term) (m : Numbers)
+        → program_unfolded items ≡ Some (t, m) → ProgramUnfolding items t m }
 {}
 
 /// The same of whole programs.
 pub fn program_complete()
-    ensures { (items : List Item) (t : Term) (m : Numbers) → ProgramUnfolding items t m → program_unfolded items ≡ Some (t, m) }
+    ensures { (items : List Item) (t : Term) (m : Numbers)
+        → ProgramUnfolding items t m → program_unfolded items ≡ Some (t, m) }
 {}

@@ -19,7 +19,9 @@ pub fn own_variable()
 /// In each copy of a replicated PAR the index is a constant.
 pub fn copies_have_constants()
     ensures copies { term_of_program copying ≡ Some copies }
-    ensures names { channel_names copying ≡ Some (codes "keyboard" ∷ codes "screen" ∷ codes "error" ∷ codes "c[0]" ∷ codes "c[1]" ∷ codes "c[2]" ∷ []) }
+    ensures names { channel_names copying
+        ≡ Some (codes "keyboard" ∷ codes "screen" ∷ codes "error"
+        ∷ codes "c[0]" ∷ codes "c[1]" ∷ codes "c[2]" ∷ []) }
 {}
 
 /// A named value that isn't constant has a cell of its own.

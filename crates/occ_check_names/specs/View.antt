@@ -1,10 +1,13 @@
 -- The types of the code as those of the definitions.
 -- Manual: nothing; this is (own).
 use Rattle.std.specs.Borrow.{Bor}
-use Rattle.std.specs.Prelude.{List, bytes_eq, false, None, Option, Some, [], if◌then◌else◌, length, map, nat_eq, pos, reverse, suc, take, Vec, Result, Ok, Err, ℕ, ⊤, ◌++◌, ◌<◌, ◌≤◌, ◌∷◌, ◌≡◌}
+use Rattle.std.specs.Prelude.{List, bytes_eq, false, None, Option, Some, [], if◌then◌else◌, length, map, nat_eq, pos, reverse, suc, take, Vec, Result, Ok, Err, ℕ, ⊤, ◌++◌, ◌<◌, ◌≤◌, ◌∷◌, ◌≡◌, IfOk}
 use Rattle.occ_tree_grammar.specs.Lines.Views.{formals_of}
 use Rattle.occ_tree_grammar.specs.Processes.Views.{process_of}
+use Rattle.occ_term.specs.Sizes.{Size}
 use Rattle.occ_term.specs.Terms as T
+use Rattle.occ_term.specs.declared.expression.TermExpr.{TermExpr}
+use Rattle.occ_term.specs.declared.primitive.Primitive.{Primitive}
 use Rattle.occ_term.specs.View.{subscripts, expression_of, array_of}
 use Rattle.occ_check_meaning.specs.Scope as S
 use Rattle.occ_check_meaning.specs.Expressions as E
@@ -60,6 +63,21 @@ abbrev pub Gives : {X Y : Type 0} → (X → Y) → Result X CheckFault → Opti
 Gives view (Ok x) given = given ≡ Some (view x)
 Gives view (Err e) given = Refuses e given
 
+-- the same where it is answered, or lent, as the definition has it
+abbrev pub Answers : {X : Type 0} → Result X CheckFault → Option X → Type 0
+Answers result given = Gives (λ x. x) result given
+
+abbrev pub Lends : {X : Type 0} → Result (Bor X) CheckFault → Option X → Type 0
+Lends result given = Gives (λ x. x.now) result given
+
+-- and where nothing is answered but that the definition lets something be
+abbrev pub Allows : {X Y : Type 0} → (Y → Option Y) → Result X CheckFault → Y → Type 0
+Allows test result y = Gives (λ x. y) result (test y)
+
+-- what is made is what the definition has
+abbrev pub Makes : {X Y E : Type 0} → (X → Y) → Result X E → Y → Type 0
+Makes view result y = IfOk result (λ x. view x ≡ y)
+
 -- ---- what names stand for
 
 abbrev pub access_of : Access → S.Access
@@ -75,6 +93,13 @@ stretch_of r = record { first = r.first; sizes = r.sizes; subscripts = subscript
 
 abbrev pub carried_of : Carried → S.Carried
 carried_of c = record { declared = c.declared; protocol = c.protocol }
+
+-- a variable with its type, and channels with what they carry, as a name stands for them
+abbrev pub variable_known : Primitive × Bor Stretch → Primitive × S.Stretch
+variable_known x = (x.0, stretch_of x.1.now)
+
+abbrev pub channels_known : Bor Carried × Bor Stretch → S.Carried × S.Stretch
+channels_known x = (carried_of x.0.now, stretch_of x.1.now)
 
 abbrev pub known_of : Known → S.Known
 known_of (knowns.Value type v) = S.a_value type v
@@ -108,12 +133,23 @@ names_in s = S.names_of (scope_of s)
 
 -- ---- expressions
 
+abbrev pub subscripts_of : List TermExpr → T.Subscripts
+subscripts_of es = subscripts (map expression_of es)
+
+-- one value with its type
+abbrev pub one_value : Primitive × TermExpr → Primitive × T.Expression
+one_value x = (x.0, expression_of x.1)
+
 abbrev pub typed_of : Typed → E.Typed
 typed_of (typeds.Single type e) = E.single type (expression_of e)
 typed_of (typeds.Whole type sizes a) = E.whole type sizes (array_of a)
 
 abbrev pub part_of : Part → S.Stretch
 part_of p = record { first = p.place.first; sizes = p.place.sizes; subscripts = subscripts (map expression_of p.place.subscripts); left = p.left }
+
+-- a variable, or a part of one, with its type
+abbrev pub variable_part : Primitive × Part → Primitive × S.Stretch
+variable_part x = (x.0, part_of x.1)
 
 -- ---- numbers
 
@@ -124,6 +160,10 @@ numbers_of n = record { cells = n.cells.items; channels = n.channels.items; proc
 abbrev pub Counts : {X : Type 0} → Result X CheckFault → Numbers → Option N.Numbers → Type 0
 Counts (Ok x) after given = given ≡ Some (numbers_of after)
 Counts (Err e) after given = Refuses e given
+
+-- something of this size is counted, behind so many nodes
+abbrev pub TakesRoom : {X : Type 0} → Result X CheckFault → (old new : Numbers) → ℕ → Size → Type 0
+TakesRoom result old new depth size = Counts result new (N.room depth size (numbers_of old))
 
 -- and what it answers with them
 abbrev pub Unfolds : {X Y : Type 0} → (X → Y) → Result X CheckFault → Numbers → Option (Y × N.Numbers) → Type 0

@@ -3,7 +3,7 @@
 ghost use Rattle.std.specs.Prelude.{◌≡◌, IfOk, length, map, pos};
 ghost use Rattle.occ_tree_grammar.specs.Expressions.Trees as trees;
 ghost use Rattle.occ_check_meaning.specs.Expressions as meant;
-ghost use Rattle.occ_check_names.specs.View.{Gives, typed_of};
+ghost use Rattle.occ_check_names.specs.View.{Gives, Makes, typed_of};
 
 use crate::fault::CheckFault;
 use crate::operators::primitive_of;
@@ -82,7 +82,7 @@ pub fn string_size(line: u32, bytes: &[u8]) -> Result<u32, CheckFault>
 
 /// A string as an array.
 pub fn whole_string(alloc: Global, bytes: Text) -> Result<Typed, AllocError>
-    ensures { IfOk result (λ string. typed_of string ≡ meant.whole_string (map pos bytes)) }
+    ensures { Makes typed_of result (meant.whole_string (map pos bytes)) }
 {
     let sizes = Sizes::new(alloc, &[bytes.len()])?;
     Ok(Typed::Whole(Primitive::Byte, sizes, Array::Text(bytes)))

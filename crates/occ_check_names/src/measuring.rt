@@ -1,12 +1,11 @@
 //! Counting the nodes of what stands in a term: no count goes deeper than a program may be.
 
-ghost use Rattle.std.specs.Prelude.{[], map, Option, ℕ};
+ghost use Rattle.std.specs.Prelude.{[], Option, ℕ};
 ghost use Rattle.occ_term.specs.Sizes.{no_size, size_of, size_of_array, size_of_constants, size_of_declaration, size_of_expression, size_of_item, size_of_items, size_of_place, size_of_replicator, size_of_subscripts, size_of_target, size_of_targets, size_of_test};
 ghost use Rattle.occ_term.specs.Terms.{Assign, Input, Output, Skip, VariantInput, no_variants, or_variant};
-ghost use Rattle.occ_term.specs.View.{array_of, declaration_of, expression_of, item_of, items_of, place_of, replicator_of, subscripts, target_of, targets_of, test_of};
+ghost use Rattle.occ_term.specs.View.{array_of, declaration_of, expression_of, item_of, items_of, place_of, replicator_of, target_of, targets_of, test_of};
 ghost use Rattle.occ_check_names.specs.Measuring.{size_within};
-ghost use Rattle.occ_check_meaning.specs.Numbers.{room};
-ghost use Rattle.occ_check_names.specs.View.{Counts, numbers_of};
+ghost use Rattle.occ_check_names.specs.View.{TakesRoom, subscripts_of};
 
 use crate::fault::CheckFault;
 use crate::numbers::Numbers;
@@ -19,7 +18,8 @@ use occ_term::{Array, Declaration, Item, Place, Replicator, Target, TermExpr};
 /// `TooLarge` past 100,000 nodes, and where one stands deeper than 200.
 #[cycle(counting)]
 pub fn count_expression(numbers: &mut Numbers, depth: u32, e: &TermExpr) -> Result<(), CheckFault>
-    ensures { Counts result numbers.new (room depth (size_of_expression (expression_of e.now)) (numbers_of numbers.old)) }
+    ensures { TakesRoom result numbers.old numbers.new depth
+        (size_of_expression (expression_of e.now)) }
 {
     numbers.node(depth)?;
     count_within(numbers, depth + 1, e)
@@ -28,7 +28,7 @@ pub fn count_expression(numbers: &mut Numbers, depth: u32, e: &TermExpr) -> Resu
 /// Counts what stands within an expression.
 #[cycle(counting)]
 fn count_within(numbers: &mut Numbers, depth: u32, e: &TermExpr) -> Result<(), CheckFault>
-    ensures { Counts result numbers.new (room depth (size_within (expression_of e.now)) (numbers_of numbers.old)) }
+    ensures { TakesRoom result numbers.old numbers.new depth (size_within (expression_of e.now)) }
 {
     match e {
         TermExpr::Constant(_) | TermExpr::Cell(_, _) => numbers.no_node(depth),
@@ -58,7 +58,7 @@ fn count_within(numbers: &mut Numbers, depth: u32, e: &TermExpr) -> Result<(), C
 /// As `count_expression`.
 #[cycle(counting)]
 pub fn count_place(numbers: &mut Numbers, depth: u32, place: &Place) -> Result<(), CheckFault>
-    ensures { Counts result numbers.new (room depth (size_of_place (place_of place.now)) (numbers_of numbers.old)) }
+    ensures { TakesRoom result numbers.old numbers.new depth (size_of_place (place_of place.now)) }
 {
     count_subscripts(numbers, depth, place.subscripts.as_slice())
 }
@@ -66,7 +66,8 @@ pub fn count_place(numbers: &mut Numbers, depth: u32, place: &Place) -> Result<(
 /// Counts subscripts.
 #[cycle(counting)]
 fn count_subscripts(numbers: &mut Numbers, depth: u32, list: &[TermExpr]) -> Result<(), CheckFault>
-    ensures { Counts result numbers.new (room depth (size_of_subscripts (subscripts (map expression_of list.now))) (numbers_of numbers.old)) }
+    ensures { TakesRoom result numbers.old numbers.new depth
+        (size_of_subscripts (subscripts_of list.now)) }
 {
     for subscript in list {
         count_expression(numbers, depth, subscript)?;
@@ -80,7 +81,7 @@ fn count_subscripts(numbers: &mut Numbers, depth: u32, list: &[TermExpr]) -> Res
 ///
 /// As `count_expression`.
 pub fn count_array(numbers: &mut Numbers, depth: u32, array: &Array) -> Result<(), CheckFault>
-    ensures { Counts result numbers.new (room depth (size_of_array (array_of array.now)) (numbers_of numbers.old)) }
+    ensures { TakesRoom result numbers.old numbers.new depth (size_of_array (array_of array.now)) }
 {
     match array {
         Array::Cells(place) => {
@@ -97,7 +98,7 @@ pub fn count_array(numbers: &mut Numbers, depth: u32, array: &Array) -> Result<(
 ///
 /// As `count_expression`.
 pub fn count_item(numbers: &mut Numbers, depth: u32, item: &Item) -> Result<(), CheckFault>
-    ensures { Counts result numbers.new (room depth (size_of_item (item_of item.now)) (numbers_of numbers.old)) }
+    ensures { TakesRoom result numbers.old numbers.new depth (size_of_item (item_of item.now)) }
 {
     match item {
         Item::One(_, value) => count_expression(numbers, depth, value),
@@ -115,7 +116,7 @@ pub fn count_item(numbers: &mut Numbers, depth: u32, item: &Item) -> Result<(), 
 ///
 /// As `count_expression`.
 pub fn count_items(numbers: &mut Numbers, depth: u32, items: &[Item]) -> Result<(), CheckFault>
-    ensures { Counts result numbers.new (room depth (size_of_items (items_of items.now)) (numbers_of numbers.old)) }
+    ensures { TakesRoom result numbers.old numbers.new depth (size_of_items (items_of items.now)) }
 {
     for item in items {
         count_item(numbers, depth, item)?;
@@ -129,7 +130,8 @@ pub fn count_items(numbers: &mut Numbers, depth: u32, items: &[Item]) -> Result<
 ///
 /// As `count_expression`.
 pub fn count_target(numbers: &mut Numbers, depth: u32, target: &Target) -> Result<(), CheckFault>
-    ensures { Counts result numbers.new (room depth (size_of_target (target_of target.now)) (numbers_of numbers.old)) }
+    ensures { TakesRoom result numbers.old numbers.new depth
+        (size_of_target (target_of target.now)) }
 {
     match target {
         Target::Into(place) => {
@@ -154,7 +156,8 @@ pub fn count_targets(
     depth: u32,
     targets: &[Target],
 ) -> Result<(), CheckFault>
-    ensures { Counts result numbers.new (room depth (size_of_targets (targets_of targets.now)) (numbers_of numbers.old)) }
+    ensures { TakesRoom result numbers.old numbers.new depth
+        (size_of_targets (targets_of targets.now)) }
 {
     for target in targets {
         count_target(numbers, depth, target)?;
@@ -172,7 +175,8 @@ pub fn count_declaration(
     depth: u32,
     declaration: &Declaration,
 ) -> Result<(), CheckFault>
-    ensures { Counts result numbers.new (room depth (size_of_declaration (declaration_of declaration.now)) (numbers_of numbers.old)) }
+    ensures { TakesRoom result numbers.old numbers.new depth
+        (size_of_declaration (declaration_of declaration.now)) }
 {
     match declaration {
         Declaration::Clearing(_, _, _) => numbers.node(depth),
@@ -193,7 +197,8 @@ pub fn count_replicator(
     depth: u32,
     over: &Replicator,
 ) -> Result<(), CheckFault>
-    ensures { Counts result numbers.new (room depth (size_of_replicator (replicator_of over.now) no_size) (numbers_of numbers.old)) }
+    ensures { TakesRoom result numbers.old numbers.new depth
+        (size_of_replicator (replicator_of over.now) no_size) }
 {
     count_expression(numbers, depth, &over.base)?;
     count_expression(numbers, depth, &over.count)
@@ -209,7 +214,7 @@ pub fn count_test(
     depth: u32,
     test: &Option<TermExpr>,
 ) -> Result<(), CheckFault>
-    ensures { Counts result numbers.new (room depth (size_of_test (test_of test.now)) (numbers_of numbers.old)) }
+    ensures { TakesRoom result numbers.old numbers.new depth (size_of_test (test_of test.now)) }
 {
     match test {
         None => numbers.no_node(depth),
@@ -227,7 +232,7 @@ pub fn count_constants(
     depth: u32,
     constants: &[i64],
 ) -> Result<(), CheckFault>
-    ensures { Counts result numbers.new (room depth (size_of_constants constants.now) (numbers_of numbers.old)) }
+    ensures { TakesRoom result numbers.old numbers.new depth (size_of_constants constants.now) }
 {
     for _constant in constants {
         numbers.node(depth)?;
@@ -246,7 +251,8 @@ pub fn count_assignment(
     targets: &[Target],
     items: &[Item],
 ) -> Result<(), CheckFault>
-    ensures { Counts result numbers.new (room depth (size_of (Assign (targets_of targets.now) (items_of items.now))) (numbers_of numbers.old)) }
+    ensures { TakesRoom result numbers.old numbers.new depth
+        (size_of (Assign (targets_of targets.now) (items_of items.now))) }
 {
     numbers.node(depth)?;
     count_targets(numbers, depth + 1, targets)?;
@@ -264,7 +270,8 @@ pub fn count_input(
     channel: &Place,
     targets: &[Target],
 ) -> Result<(), CheckFault>
-    ensures { Counts result numbers.new (room depth (size_of (Input (place_of channel.now) (targets_of targets.now))) (numbers_of numbers.old)) }
+    ensures { TakesRoom result numbers.old numbers.new depth
+        (size_of (Input (place_of channel.now) (targets_of targets.now))) }
 {
     numbers.node(depth)?;
     count_place(numbers, depth + 1, channel)?;
@@ -282,7 +289,8 @@ pub fn count_output(
     channel: &Place,
     items: &[Item],
 ) -> Result<(), CheckFault>
-    ensures { (tag : Option ℕ) → Counts result numbers.new (room depth (size_of (Output (place_of channel.now) tag (items_of items.now))) (numbers_of numbers.old)) }
+    ensures { (tag : Option ℕ) → TakesRoom result numbers.old numbers.new depth
+        (size_of (Output (place_of channel.now) tag (items_of items.now))) }
 {
     numbers.node(depth)?;
     count_place(numbers, depth + 1, channel)?;
@@ -300,7 +308,9 @@ pub fn count_tagged_input(
     channel: &Place,
     targets: &[Target],
 ) -> Result<(), CheckFault>
-    ensures { (tag : ℕ) → Counts result numbers.new (room depth (size_of (VariantInput (place_of channel.now) (or_variant tag [] (targets_of targets.now) Skip no_variants))) (numbers_of numbers.old)) }
+    ensures { (tag : ℕ) → TakesRoom result numbers.old numbers.new depth
+        (size_of (VariantInput (place_of channel.now)
+        (or_variant tag [] (targets_of targets.now) Skip no_variants))) }
 {
     numbers.node(depth)?;
     count_place(numbers, depth + 1, channel)?;

@@ -1,12 +1,12 @@
 //! The numbers that are given out while a program is unfolded.
 
-ghost use Rattle.std.specs.Prelude.{◌≡◌, ◌<◌, ◌≤◌, ◌+◌, ◌++◌, IfOk, length, min, nat_le, Some};
+ghost use Rattle.std.specs.Prelude.{◌++◌, ◌+◌, ◌<◌, ◌≡◌, ◌≤◌, IfOk, OnOk, Some, length, min, nat_le};
 ghost use Rattle.occ_term.specs.Messages.{product};
 ghost use Rattle.occ_term.specs.Sizes.{no_size, with_node};
 ghost use Rattle.occ_term.specs.UnfoldedProgram.{byte_channel, most_cells};
-ghost use Rattle.occ_check_meaning.specs.Numbers.{at_start, component_names, deeper, more_cells, more_channels, more_processes, more_protocols, most_depth, room};
+ghost use Rattle.occ_check_meaning.specs.Numbers.{at_start, component_names, deeper, more_cells, more_channels, more_processes, more_protocols, most_depth};
 ghost use Rattle.occ_check_meaning.specs.Scope.{keep};
-ghost use Rattle.occ_check_names.specs.View.{Counts, Gives, numbers_of};
+ghost use Rattle.occ_check_names.specs.View.{Answers, Counts, Makes, TakesRoom, numbers_of};
 
 use crate::fault::CheckFault;
 use occ_term::{Cell, Channel, MOST_CELLS, Name, Primitive, Protocol};
@@ -40,7 +40,7 @@ pub struct Numbers {
 impl Numbers {
     /// The main process and the first three channels are there.
     pub fn at_start(alloc: Global) -> Result<Numbers, AllocError>
-        ensures { IfOk result (λ n. numbers_of n ≡ at_start) }
+        ensures { Makes numbers_of result at_start }
     {
         let mut channels = Vec::new(alloc);
         channels.push(channel_of_bytes(alloc, b"keyboard")?)?;
@@ -67,7 +67,8 @@ impl Numbers {
         name: &[u8],
         sizes: &[u32],
     ) -> Result<u32, CheckFault>
-        ensures counts { Counts result self.new (more_cells primitive name.now sizes.now (numbers_of self.old)) }
+        ensures counts { Counts result self.new
+            (more_cells primitive name.now sizes.now (numbers_of self.old)) }
         ensures first { IfOk result (λ first. first ≡ length self.old.cells.items) }
     {
         let first = first_of_more(self.cells.len(), components(sizes), MOST_CELLS)?;
@@ -92,7 +93,8 @@ impl Numbers {
         name: &[u8],
         sizes: &[u32],
     ) -> Result<u32, CheckFault>
-        ensures counts { Counts result self.new (more_channels protocol.now name.now sizes.now (numbers_of self.old)) }
+        ensures counts { Counts result self.new
+            (more_channels protocol.now name.now sizes.now (numbers_of self.old)) }
         ensures first { IfOk result (λ first. first ≡ length self.old.channels.items) }
     {
         let first = first_of_more(self.channels.len(), components(sizes), MOST_CHANNELS)?;
@@ -144,7 +146,7 @@ impl Numbers {
     ///
     /// `TooLarge` past 100,000 nodes, and where it would stand deeper than 200.
     pub fn node(&mut self, depth: u32) -> Result<(), CheckFault>
-        ensures counts { Counts result self.new (room depth (with_node no_size) (numbers_of self.old)) }
+        ensures counts { TakesRoom result self.old self.new depth (with_node no_size) }
         ensures within { IfOk result (λ _. depth < most_depth) }
     {
         if depth < MOST_DEPTH && self.nodes < MOST_NODES {
@@ -161,7 +163,7 @@ impl Numbers {
     ///
     /// `TooLarge` where there are too many nodes already, or too many stand round it.
     pub fn no_node(&mut self, depth: u32) -> Result<(), CheckFault>
-        ensures { Counts result self.new (room depth no_size (numbers_of self.old)) }
+        ensures { TakesRoom result self.old self.new depth no_size }
     {
         if depth <= MOST_DEPTH && self.nodes <= MOST_NODES {
             Ok(())
@@ -178,7 +180,7 @@ impl Numbers {
 /// `TooLarge` past a depth of 200.
 pub fn deeper(depth: u32, levels: usize) -> Result<u32, CheckFault>
     requires { depth ≤ most_depth }
-    ensures deep { Gives (λ deep. deep) result (deeper depth levels) }
+    ensures deep { Answers result (deeper depth levels) }
     ensures within { IfOk result (λ deep. deep ≤ most_depth) }
 {
     if levels <= (MOST_DEPTH - depth) as usize {
@@ -203,7 +205,7 @@ fn channel_of_bytes(alloc: Global, name: &[u8]) -> Result<Channel, AllocError>
 /// `TooLarge` where they are more than the most that there may be.
 fn first_of_more(len: usize, count: u32, most: usize) -> Result<u32, CheckFault>
     requires few { most ≤ most_cells }
-    ensures { Gives (λ first. first) result (keep (nat_le (len + count) most) len) }
+    ensures { Answers result (keep (nat_le (len + count) most) len) }
 {
     match most.checked_sub(len) {
         Some(left) if count as usize <= left => Ok(len as u32),
@@ -230,7 +232,8 @@ fn component_names(
     name: &Name,
     sizes: &[u32],
 ) -> Result<(), AllocError>
-    ensures { IfOk result (λ _. names.new.items ≡ names.old.items ++ component_names name.now sizes.now) }
+    ensures { OnOk result
+        (names.new.items ≡ names.old.items ++ component_names name.now sizes.now) }
 {
     match sizes.split_first() {
         None => {

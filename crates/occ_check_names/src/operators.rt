@@ -4,7 +4,7 @@ ghost use Rattle.std.specs.Prelude.{◌≡◌};
 ghost use Rattle.occ_term.specs.Typing.{is_number};
 ghost use Rattle.occ_check_meaning.specs.Operators as meant;
 ghost use Rattle.occ_check_meaning.specs.Scope.{keep};
-ghost use Rattle.occ_check_names.specs.View.{Gives};
+ghost use Rattle.occ_check_names.specs.View.{Answers};
 
 use crate::fault::CheckFault;
 use occ_term::{Monadic, Operator, Primitive};
@@ -74,7 +74,7 @@ pub fn result_of(
     a: Primitive,
     b: Primitive,
 ) -> Result<Primitive, CheckFault>
-    ensures { Gives (λ t. t) result (meant.result_of operator a b) }
+    ensures { Answers result (meant.result_of operator a b) }
 {
     match operator {
         Operator::Add
@@ -106,7 +106,7 @@ pub fn result_of(
 
 /// The type where the test holds.
 fn typed_if(line: u32, test: bool, primitive: Primitive) -> Result<Primitive, CheckFault>
-    ensures { Gives (λ t. t) result (keep test primitive) }
+    ensures { Answers result (keep test primitive) }
 {
     if test {
         Ok(primitive)

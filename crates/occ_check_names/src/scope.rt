@@ -98,7 +98,8 @@ pub enum Looked<'a, 't> {
 impl<'a, 't> Scope<'a, 't> {
     /// What a name stands for.
     pub fn find(self, name: &[u8]) -> Option<Found<'a, 't>>
-        ensures found { IsFound (reverse self.entry.blocks.now) (found (scope_of self.entry) name.now) result }
+        ensures found { IsFound (reverse self.entry.blocks.now)
+            (found (scope_of self.entry) name.now) result }
         ensures within { IfSome result (IsWithin (length self.entry.blocks.now)) }
     {
         let mut place = self;
@@ -113,7 +114,8 @@ impl<'a, 't> Scope<'a, 't> {
 
     /// Looks at the innermost block.
     fn step(self, name: &[u8]) -> Looked<'a, 't>
-        ensures found { IsLooked (found (scope_of self.entry) name.now) (reverse self.entry.blocks.now) name.now result }
+        ensures found { IsLooked (found (scope_of self.entry) name.now)
+            (reverse self.entry.blocks.now) name.now result }
         ensures fewer { IsFewer (length self.entry.blocks.now) result }
         ensures part { IsPart self.entry.blocks.now result }
         ensures within { AreWithin (length self.entry.blocks.now) result }
@@ -165,7 +167,8 @@ fn own_block<'a, 't>(
     blocks: &'a [Block<'t>],
     at: Position,
 ) -> Option<(&'a [Block<'t>], &'a Block<'t>)>
-    ensures own { IfSome result (λ x. blocks.now ≡ x.0.now ++ x.1.now ∷ drop at.blocks blocks.now) }
+    ensures own { IfSome result
+        (λ x. blocks.now ≡ x.0.now ++ x.1.now ∷ drop at.blocks blocks.now) }
     ensures number { IfSome result (λ x. at.blocks ≡ length x.0.now + 1) }
     ensures none { IfNone result (scope_in (reverse blocks.now) at ≡ []) }
 {
@@ -211,7 +214,8 @@ impl<'t> Block<'t> {
         binding: Binding<'t>,
     ) -> Result<Block<'t>, CheckFault>
         requires { Lacks name.now self.names.entries }
-        ensures names { IfOk result (λ f. (sc : Procedures) → pairs_before f.names.entries sc ≡ (name.now, binding_of binding.entry) ∷ pairs_before self.entry.names.entries sc) }
+        ensures names { IfOk result (λ f. (sc : Procedures) → pairs_before f.names.entries sc
+            ≡ (name.now, binding_of binding.entry) ∷ pairs_before self.entry.names.entries sc) }
         ensures outer { IfOk result (λ f. f.outer ≡ self.entry.outer) }
         ensures memory { IfErr result (λ e. e ≡ Memory) }
     {

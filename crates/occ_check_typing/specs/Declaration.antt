@@ -4,8 +4,10 @@ use Rattle.std.specs.Prelude.{List, Option, Some, Result, Ok, Err, map, ◌∷�
 use Rattle.occ_term.specs.View.{declarations_of, replicator_of}
 use Rattle.occ_check_meaning.specs.Scope.{Name, Known, Pairs, is_among}
 use Rattle.occ_check_meaning.specs.Declarations as D
+use Rattle.occ_check_meaning.specs.Numbers as N
 use Rattle.occ_check_names.specs.View.{Refuses, known_of, numbers_of}
 use Rattle.occ_check_names.specs.declared.fault.CheckFault.{CheckFault}
+use Rattle.occ_check_names.specs.declared.known.Known.{Known as KnownCode}
 use Rattle.occ_check_names.specs.declared.numbers.Numbers.{Numbers}
 use Rattle.occ_check_typing.specs.declared.declaration.Named.{Named}
 use Rattle.occ_check_typing.specs.declared.declaration.Opened.{Opened}
@@ -18,6 +20,10 @@ pair_of x = (x.name, known_of x.known)
 abbrev pub pairs_of : List Named → Pairs
 pairs_of xs = map pair_of xs
 
+-- one name alone is there
+abbrev pub NamesOnly : Name → KnownCode → Opened → Type 0
+NamesOnly x k o = pairs_of o.names.items ≡ (x, known_of k) ∷ []
+
 abbrev pub opened_of : Opened → Numbers → D.Opened
 opened_of x n = D.opened (pairs_of x.names.items) (declarations_of x.heads) (numbers_of n)
 
@@ -25,6 +31,10 @@ opened_of x n = D.opened (pairs_of x.names.items) (declarations_of x.heads) (num
 abbrev pub Opens : Result Opened CheckFault → Numbers → Option D.Opened → Type 0
 Opens (Ok x) after given = given ≡ Some (opened_of x after)
 Opens (Err e) after given = Refuses e given
+
+-- .. from the numbers before
+abbrev pub OpensFrom : Result Opened CheckFault → (old new : Numbers) → (N.Numbers → Option D.Opened) → Type 0
+OpensFrom result old new part = Opens result new (part (numbers_of old))
 
 abbrev pub indexed_of : Indexed → Numbers → D.Indexed
 indexed_of x n = record { replicator = replicator_of x.replicator; names = pair_of x.name ∷ []; numbers = numbers_of n }

@@ -1,4 +1,5 @@
 pub mod Declaration
+pub mod Typing
 pub mod Overlap
 pub mod Spans
 pub mod Positive

@@ -1,7 +1,6 @@
 //! Declarations: what their names stand for, and the Clears and Locals that are set for them.
 
-ghost use Rattle.std.specs.Prelude.{◌≡◌, [], ◌∷◌, ◌++◌, IfOk, map, option_map, Some};
-ghost use Rattle.occ_tree_grammar.specs.Expressions.Trees as trees;
+ghost use Rattle.std.specs.Prelude.{[], ◌++◌, ◌∷◌, ◌≡◌, IfOk, OnOk, Some, option_map};
 ghost use Rattle.occ_tree_grammar.specs.Lines.Views as lines;
 ghost use Rattle.occ_tree_grammar.specs.Processes.Views as processes;
 ghost use Rattle.occ_term.specs.View.{expression_of, item_of};
@@ -9,8 +8,10 @@ ghost use Rattle.occ_check_meaning.specs.Constants.{constant};
 ghost use Rattle.occ_check_meaning.specs.Declarations as meant;
 ghost use Rattle.occ_check_meaning.specs.Scope as scopes;
 ghost use Rattle.occ_check_meaning.specs.Types as types;
-ghost use Rattle.occ_check_names.specs.View.{Gives, carried_of, known_of, names_in, numbers_of, stretch_of, typed_of};
-ghost use Rattle.occ_check_typing.specs.Declaration.{Opens, pair_of, pairs_of};
+ghost use Rattle.occ_check_names.specs.View.{Allows, Gives, Makes, carried_of, known_of, names_in, stretch_of, typed_of};
+ghost use Rattle.occ_check_names.specs.Reading.{all_of};
+ghost use Rattle.occ_check_typing.specs.Declaration.{NamesOnly, Opens, OpensFrom, pair_of};
+ghost use Rattle.occ_check_typing.specs.Typing.{given_type_in, names_declared_in, value_declared_in};
 
 use crate::expression::typed;
 use crate::types::{carried_by, open_sizes_of, protocol_of, sizes_of};
@@ -53,7 +54,7 @@ pub struct Opened {
 impl Named {
     /// A copy of the name, with what it stands for.
     pub fn new(alloc: Global, name: &[u8], known: Known) -> Result<Named, AllocError>
-        ensures { IfOk result (λ x. pair_of x ≡ (name.now, known_of known)) }
+        ensures { Makes pair_of result (name.now, known_of known) }
     {
         let name = Items::from_slice(alloc, name)?;
         Ok(Named { name, known })
@@ -74,7 +75,7 @@ impl Opened {
 
     /// One name, for which nothing is set.
     fn one(alloc: Global, name: &[u8], known: Known) -> Result<Opened, AllocError>
-        ensures names { IfOk result (λ x. pairs_of x.names.items ≡ (name.now, known_of known) ∷ []) }
+        ensures names { IfOk result (NamesOnly name.now known) }
         ensures heads { IfOk result (λ x. x.heads ≡ []) }
     {
         let mut opened = Opened::new(alloc);
@@ -89,7 +90,7 @@ impl Opened {
         known: Known,
         head: Declaration,
     ) -> Result<Opened, AllocError>
-        ensures names { IfOk result (λ x. pairs_of x.names.items ≡ (name.now, known_of known) ∷ []) }
+        ensures names { IfOk result (NamesOnly name.now known) }
         ensures heads { IfOk result (λ x. x.heads ≡ head ∷ []) }
     {
         let head = Held::new(head);
@@ -105,7 +106,7 @@ impl Opened {
         known: Known,
         heads: Items<Declaration>,
     ) -> Result<Opened, AllocError>
-        ensures names { IfOk result (λ x. pairs_of x.names.items ≡ (name.now, known_of known) ∷ []) }
+        ensures names { IfOk result (NamesOnly name.now known) }
         ensures heads { IfOk result (λ x. x.heads ≡ heads) }
     {
         let mut opened = Opened::one(alloc, name, known)?;
@@ -115,8 +116,9 @@ impl Opened {
 
     /// Puts others after these.
     pub fn append(&mut self, others: Opened) -> Result<(), AllocError>
-        ensures names { IfOk result (λ _. self.new.names.items ≡ self.old.names.items ++ others.names.items) }
-        ensures heads { IfOk result (λ _. self.new.heads ≡ self.old.heads ++ others.heads) }
+        ensures names { OnOk result
+            (self.new.names.items ≡ self.old.names.items ++ others.names.items) }
+        ensures heads { OnOk result (self.new.heads ≡ self.old.heads ++ others.heads) }
     {
         let Opened { mut names, heads } = others;
         self.names.append(&mut names)?;
@@ -127,7 +129,7 @@ impl Opened {
 
 /// An array from its first on, or a single one.
 pub fn stretch_from(alloc: Global, first: u32, sizes: &Sizes) -> Result<Stretch, AllocError>
-    ensures { IfOk result (λ stretch. stretch_of stretch ≡ scopes.stretch_from first sizes.now) }
+    ensures { Makes stretch_of result (scopes.stretch_from first sizes.now) }
 {
     Ok(Stretch {
         first,
@@ -141,7 +143,7 @@ pub fn stretch_from(alloc: Global, first: u32, sizes: &Sizes) -> Result<Stretch,
 
 /// The names of a declaration, in order.
 fn names_of(alloc: Global, names: &OneOrMore<Vec<u8>>) -> Result<Items<Items<u8>>, AllocError>
-    ensures { IfOk result (λ xs. xs ≡ names.now.first.items ∷ map (λ v. v.items) names.now.others.items) }
+    ensures { IfOk result (λ xs. xs ≡ all_of (λ v. v.items) names.now) }
 {
     let mut all = Items::new(alloc);
     all.push(Items::from_slice(alloc, &names.first)?)?;
@@ -157,7 +159,7 @@ fn names_of(alloc: Global, names: &OneOrMore<Vec<u8>>) -> Result<Items<Items<u8>
 ///
 /// `Twice` for the first name that stands before, and `Memory`.
 pub fn once(alloc: Global, line: u32, names: &[Items<u8>]) -> Result<(), CheckFault>
-    ensures { Gives (λ _. names.now) result (scopes.once names.now) }
+    ensures { Allows scopes.once result names.now }
 {
     let mut seen: IndexSet<Vec<u8>> = IndexSet::new(alloc);
     for name in names {
@@ -185,7 +187,8 @@ pub fn names_declared(
     sort: &Sort,
     names: &OneOrMore<Vec<u8>>,
 ) -> Result<Opened, CheckFault>
-    ensures { Opens result numbers.new (meant.names_declared (names_in context.entry.scope) context.entry.line depth (trees.expressions (map trees.expression_of sizes.now)) (lines.sort_of sort.now) (names.now.first.items ∷ map (λ v. v.items) names.now.others.items) (numbers_of numbers.old)) }
+    ensures { Opens result numbers.new
+        (names_declared_in context.entry depth sizes.now sort.now names.now numbers.old) }
 {
     match sort {
         Sort::Data(primitive) => {
@@ -224,7 +227,8 @@ fn variables_declared(
     sizes: &Sizes,
     names: &[Items<u8>],
 ) -> Result<Opened, CheckFault>
-    ensures { Opens result numbers.new (meant.each_declared (meant.variable_declared depth primitive sizes.now) names.now (numbers_of numbers.old)) }
+    ensures { OpensFrom result numbers.old numbers.new
+        (meant.each_declared (meant.variable_declared depth primitive sizes.now) names.now) }
 {
     let mut opened = Opened::new(alloc);
     for name in names {
@@ -242,7 +246,8 @@ fn channels_declared(
     sizes: &Sizes,
     names: &[Items<u8>],
 ) -> Result<Opened, CheckFault>
-    ensures { Opens result numbers.new (meant.each_declared (meant.channel_declared (carried_of carried.now) sizes.now) names.now (numbers_of numbers.old)) }
+    ensures { OpensFrom result numbers.old numbers.new (meant.each_declared
+        (meant.channel_declared (carried_of carried.now) sizes.now) names.now) }
 {
     let mut opened = Opened::new(alloc);
     for name in names {
@@ -261,7 +266,8 @@ fn variable_declared(
     sizes: &Sizes,
     name: &[u8],
 ) -> Result<Opened, CheckFault>
-    ensures { Opens result numbers.new (meant.variable_declared depth primitive sizes.now name.now (numbers_of numbers.old)) }
+    ensures { OpensFrom result numbers.old numbers.new
+        (meant.variable_declared depth primitive sizes.now name.now) }
 {
     let first = numbers.more_cells(alloc, primitive, name, sizes.as_slice())?;
     numbers.node(depth)?;
@@ -278,7 +284,8 @@ fn channel_declared(
     sizes: &Sizes,
     name: &[u8],
 ) -> Result<Opened, CheckFault>
-    ensures { Opens result numbers.new (meant.channel_declared (carried_of carried.now) sizes.now name.now (numbers_of numbers.old)) }
+    ensures { OpensFrom result numbers.old numbers.new
+        (meant.channel_declared (carried_of carried.now) sizes.now name.now) }
 {
     let first = numbers.more_channels(alloc, &carried.protocol, name, sizes.as_slice())?;
     let stretch = stretch_from(alloc, first, sizes)?;
@@ -301,7 +308,8 @@ pub fn name_value(
     name: &[u8],
     value: Typed,
 ) -> Result<Opened, CheckFault>
-    ensures { Opens result numbers.new (meant.named name.now depth (typed_of value) (numbers_of numbers.old)) }
+    ensures { OpensFrom result numbers.old numbers.new
+        (meant.named name.now depth (typed_of value)) }
 {
     match value {
         Typed::Single(primitive, e) => name_single(numbers, alloc, line, depth, name, primitive, e),
@@ -324,7 +332,8 @@ fn name_single(
     primitive: Primitive,
     e: TermExpr,
 ) -> Result<Opened, CheckFault>
-    ensures { Opens result numbers.new (meant.value_named name.now depth primitive (expression_of e) (constant (expression_of e)) (numbers_of numbers.old)) }
+    ensures { OpensFrom result numbers.old numbers.new (meant.value_named
+        name.now depth primitive (expression_of e) (constant (expression_of e))) }
 {
     match constant_of(&e) {
         Some(value) => Ok(Opened::one(alloc, name, Known::Value(primitive, value))?),
@@ -354,7 +363,8 @@ fn local_of(
     sizes: Sizes,
     value: Item,
 ) -> Result<Opened, CheckFault>
-    ensures { Opens result numbers.new (meant.local_of name.now depth primitive sizes (item_of value) (numbers_of numbers.old)) }
+    ensures { OpensFrom result numbers.old numbers.new
+        (meant.local_of name.now depth primitive sizes (item_of value)) }
 {
     let first = numbers.more_cells(alloc, primitive, name, sizes.as_slice())?;
     let naming = Held::new(Declaration::Naming(line, first, value));
@@ -377,7 +387,8 @@ pub fn value_declared(
     name: &[u8],
     e: &Expr,
 ) -> Result<Opened, CheckFault>
-    ensures { Opens result numbers.new (meant.value_declared (names_in context.entry.scope) context.entry.line depth (option_map lines.value_type_of value_type.now) name.now (trees.expression_of e.now) (numbers_of numbers.old)) }
+    ensures { Opens result numbers.new
+        (value_declared_in context.entry depth value_type.now name.now e.now numbers.old) }
 {
     let value = typed(context, e)?;
     let value = of_value_type(context, value_type, value)?;
@@ -389,7 +400,8 @@ fn of_value_type(
     value_type: &Option<ValueType>,
     value: Typed,
 ) -> Result<Typed, CheckFault>
-    ensures { Gives typed_of result (meant.of_value_type (names_in context.entry.scope) context.entry.line (option_map lines.value_type_of value_type.now) (typed_of value)) }
+    ensures { Gives typed_of result
+        (given_type_in context.entry (option_map lines.value_type_of value_type.now) value) }
 {
     match value_type {
         None => Ok(value),
@@ -402,7 +414,8 @@ fn of_given_type(
     wanted: &ValueType,
     value: Typed,
 ) -> Result<Typed, CheckFault>
-    ensures { Gives typed_of result (meant.of_value_type (names_in context.entry.scope) context.entry.line (Some (lines.value_type_of wanted.now)) (typed_of value)) }
+    ensures { Gives typed_of result
+        (given_type_in context.entry (Some (lines.value_type_of wanted.now)) value) }
 {
     let value = Held::new(value);
     let sizes = open_sizes_of(context, &wanted.sizes)?;
@@ -460,7 +473,8 @@ pub fn protocol_declared(
     scope: Scope<'_, '_>,
     protocol: &ProtocolTree,
 ) -> Result<Opened, CheckFault>
-    ensures { Opens result numbers.new (meant.protocol_declared (names_in scope.entry) (processes.protocol_of protocol.now) (numbers_of numbers.old)) }
+    ensures { OpensFrom result numbers.old numbers.new
+        (meant.protocol_declared (names_in scope.entry) (processes.protocol_of protocol.now)) }
 {
     let carried = protocol_of(alloc, scope, protocol)?;
     let number = numbers.more_protocols(protocol_line(protocol))?;

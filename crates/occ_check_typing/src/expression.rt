@@ -1,14 +1,17 @@
 //! Expressions under a scope: their types, and what they unfold to.
 
-ghost use Rattle.std.specs.Prelude.{◌≡◌, ◌∷◌, [], IfOk, IsTrue, None, map, pos};
+ghost use Rattle.std.specs.Prelude.{◌∷◌, [], IfOk, IsTrue, None, map, pos};
 ghost use Rattle.occ_tree_grammar.specs.Expressions.Trees as trees;
+ghost use Rattle.occ_tree_grammar.specs.Expressions.Trees.{alone, one, operand_of, expression_of as tree_of};
 ghost use Rattle.occ_term.specs.Messages.{is_of};
 ghost use Rattle.occ_term.specs.Terms.{Conversion};
 ghost use Rattle.occ_term.specs.View.{expression_of, subscripts};
 ghost use Rattle.occ_term.specs.declared.primitive.Primitive.TheVariants.{Bool as Boolean, Int};
 ghost use Rattle.occ_check_meaning.specs.Expressions as meant;
 ghost use Rattle.occ_check_meaning.specs.Scope.{keep};
-ghost use Rattle.occ_check_names.specs.View.{Gives, known_of, names_in, typed_of};
+ghost use Rattle.occ_check_names.specs.View.{Answers, Gives, Makes, known_of, names_in, one_value, subscripts_of, typed_of};
+ghost use Rattle.occ_check_names.specs.Reading.{name_under, read_in};
+ghost use Rattle.occ_check_typing.specs.Typing.{chain_in, constant_in, operand_in, size_in, subscripts_in, typed_as_in, typed_in};
 
 pub use crate::reading::under;
 use crate::reading::{read, size_of_known};
@@ -36,7 +39,7 @@ use std::alloc::{AllocError, Global};
 #[cycle(typing)]
 #[tactic(auto, unfolding(occ_check_meaning::specs::Expressions::typed))]
 pub fn typed(context: Context<'_, '_>, e: &Expr) -> Result<Typed, CheckFault>
-    ensures { Gives typed_of result (meant.typed (names_in context.entry.scope) context.entry.line (trees.expression_of e.now)) }
+    ensures { Gives typed_of result (typed_in context.entry e.now) }
 {
     match e {
         Expr::Operand(a) => typed_operand(context, a),
@@ -69,7 +72,8 @@ pub fn typed(context: Context<'_, '_>, e: &Expr) -> Result<Typed, CheckFault>
 #[cycle(typing)]
 #[tactic(auto, unfolding(occ_check_meaning::specs::Expressions::typed))]
 fn typed_one(context: Context<'_, '_>, sign: Sign, a: &Operand) -> Result<Typed, CheckFault>
-    ensures { Gives typed_of result (meant.typed (names_in context.entry.scope) context.entry.line (trees.one sign (trees.operand_of a.now))) }
+    ensures { Gives typed_of result
+        (read_in context.entry meant.typed (one sign (operand_of a.now))) }
 {
     match sign {
         Sign::Negate => {
@@ -99,7 +103,8 @@ fn typed_one(context: Context<'_, '_>, sign: Sign, a: &Operand) -> Result<Typed,
 #[cycle(typing)]
 #[tactic(auto, unfolding(occ_check_meaning::specs::Expressions::typed))]
 fn typed_truth(context: Context<'_, '_>, a: &Operand) -> Result<TermExpr, CheckFault>
-    ensures { Gives expression_of result (meant.typed_as (names_in context.entry.scope) context.entry.line Boolean (trees.alone (trees.operand_of a.now))) }
+    ensures { Gives expression_of result
+        (read_in context.entry meant.typed_as Boolean (alone (operand_of a.now))) }
 {
     of_type(context.line, Primitive::Bool, typed_operand(context, a)?)
 }
@@ -116,7 +121,8 @@ fn typed_chain(
     operands: &[Operand],
     first: TermExpr,
 ) -> Result<TermExpr, CheckFault>
-    ensures { Gives expression_of result (meant.typed_chain (names_in context.entry.scope) context.entry.line logic (expression_of first) (trees.operands (map trees.operand_of operands.now))) }
+    ensures { Gives expression_of result
+        (chain_in context.entry logic first (map operand_of operands.now)) }
 {
     let mut left = first;
     for operand in operands {
@@ -137,7 +143,8 @@ fn chained(
     operand: &Operand,
     left: TermExpr,
 ) -> Result<TermExpr, CheckFault>
-    ensures { Gives expression_of result (meant.typed_chain (names_in context.entry.scope) context.entry.line logic (expression_of left) (trees.operands (trees.operand_of operand.now ∷ []))) }
+    ensures { Gives expression_of result
+        (chain_in context.entry logic left (operand_of operand.now ∷ [])) }
 {
     let right = typed_truth(context, operand)?;
     let e = logic_of(context.alloc, logic, left, right)?;
@@ -148,7 +155,7 @@ fn chained(
 #[cycle(typing)]
 #[tactic(auto, unfolding(occ_check_meaning::specs::Expressions::typed_operand))]
 fn typed_operand(context: Context<'_, '_>, a: &Operand) -> Result<Typed, CheckFault>
-    ensures { Gives typed_of result (meant.typed_operand (names_in context.entry.scope) context.entry.line (trees.operand_of a.now)) }
+    ensures { Gives typed_of result (operand_in context.entry (operand_of a.now)) }
 {
     match a {
         Operand::Variable(name, subscripts) => { typed_variable(context, name, subscripts) }
@@ -174,7 +181,8 @@ fn typed_variable(
     name: &[u8],
     subscripts: &[Expr],
 ) -> Result<Typed, CheckFault>
-    ensures { Gives typed_of result (meant.typed_operand (names_in context.entry.scope) context.entry.line (trees.variable name.now (trees.expressions (map trees.expression_of subscripts.now)))) }
+    ensures { Gives typed_of result
+        (operand_in context.entry (name_under name.now subscripts.now)) }
 {
     let known = known_name(context, name)?;
     let subscripts = typed_subscripts(context, subscripts)?;
@@ -191,7 +199,7 @@ pub fn typed_subscripts(
     context: Context<'_, '_>,
     es: &[Expr],
 ) -> Result<Listed<TermExpr>, CheckFault>
-    ensures { Gives (λ es. subscripts (map expression_of es)) result (meant.typed_subscripts (names_in context.entry.scope) context.entry.line (trees.expressions (map trees.expression_of es.now))) }
+    ensures { Gives subscripts_of result (subscripts_in context.entry es.now) }
 {
     let mut made = Listed::new(context.alloc);
     for e in es {
@@ -208,7 +216,7 @@ pub fn typed_subscripts(
 #[cycle(typing)]
 #[tactic(auto, unfolding(occ_check_meaning::specs::Expressions::size_of_operand))]
 fn size_of_operand(context: Context<'_, '_>, a: &Operand) -> Result<u64, CheckFault>
-    ensures { Gives (λ n. n) result (meant.size_of_operand (names_in context.entry.scope) context.entry.line (trees.operand_of a.now)) }
+    ensures { Answers result (size_in context.entry (operand_of a.now)) }
 {
     match a {
         Operand::Variable(name, subscripts) => { size_of_variable(context, name, subscripts) }
@@ -227,7 +235,7 @@ fn size_of_variable(
     name: &[u8],
     subscripts: &[Expr],
 ) -> Result<u64, CheckFault>
-    ensures { Gives (λ n. n) result (meant.size_of_operand (names_in context.entry.scope) context.entry.line (trees.variable name.now (trees.expressions (map trees.expression_of subscripts.now)))) }
+    ensures { Answers result (size_in context.entry (name_under name.now subscripts.now)) }
 {
     let known = known_name(context, name)?;
     let subscripts = typed_subscripts(context, subscripts)?;
@@ -238,7 +246,8 @@ fn size_of_variable(
 #[cycle(typing)]
 #[tactic(auto, unfolding(occ_check_meaning::specs::Expressions::size_of_expression))]
 fn size_of_expression(context: Context<'_, '_>, e: &Expr) -> Result<u64, CheckFault>
-    ensures { Gives (λ n. n) result (meant.size_of_expression (names_in context.entry.scope) context.entry.line (trees.expression_of e.now)) }
+    ensures { Answers result
+        (read_in context.entry meant.size_of_expression (tree_of e.now)) }
 {
     match e {
         Expr::Operand(a) => size_of_operand(context, a),
@@ -262,7 +271,7 @@ pub fn typed_as(
     primitive: Primitive,
     e: &Expr,
 ) -> Result<TermExpr, CheckFault>
-    ensures { Gives expression_of result (meant.typed_as (names_in context.entry.scope) context.entry.line primitive (trees.expression_of e.now)) }
+    ensures { Gives expression_of result (typed_as_in context.entry primitive e.now) }
 {
     of_type(context.line, primitive, typed(context, e)?)
 }
@@ -277,7 +286,7 @@ pub fn constant_as(
     primitive: Primitive,
     e: &Expr,
 ) -> Result<i64, CheckFault>
-    ensures value { Gives (λ v. v) result (meant.constant_as (names_in context.entry.scope) context.entry.line primitive (trees.expression_of e.now)) }
+    ensures value { Answers result (constant_in context.entry primitive e.now) }
     ensures range { IfOk result (λ v. IsTrue (is_of primitive v)) }
 {
     let e = typed_as(context, primitive, e)?;
@@ -293,7 +302,7 @@ pub fn constant_as(
 ///
 /// `WrongType` for any other.
 fn within_type(line: u32, primitive: Primitive, value: i64) -> Result<i64, CheckFault>
-    ensures value { Gives (λ v. v) result (keep (is_of primitive value) value) }
+    ensures value { Answers result (keep (is_of primitive value) value) }
     ensures range { IfOk result (λ v. IsTrue (is_of primitive v)) }
 {
     if is_of(primitive, value) {
@@ -332,7 +341,7 @@ fn no_value(context: Context<'_, '_>, name: &[u8]) -> CheckFault {
 ///
 /// `WrongType` for an array.
 pub fn as_single(line: u32, typed: Typed) -> Result<(Primitive, TermExpr), CheckFault>
-    ensures { Gives (λ x. (x.0, expression_of x.1)) result (meant.as_single (typed_of typed)) }
+    ensures { Gives one_value result (meant.as_single (typed_of typed)) }
 {
     match typed {
         Typed::Single(primitive, e) => Ok((primitive, e)),
@@ -368,7 +377,8 @@ fn two_typed(
     a: (Primitive, TermExpr),
     b: (Primitive, TermExpr),
 ) -> Result<Typed, CheckFault>
-    ensures { Gives typed_of result (meant.two_typed line operator (a.0, expression_of a.1) (b.0, expression_of b.1)) }
+    ensures { Gives typed_of result
+        (meant.two_typed line operator (one_value a) (one_value b)) }
 {
     let (own, left) = a;
     let (other, right) = b;
@@ -386,7 +396,7 @@ fn one_typed(
     operator: Monadic,
     a: (Primitive, TermExpr),
 ) -> Result<Typed, CheckFault>
-    ensures { Gives typed_of result (meant.one_typed line operator (a.0, expression_of a.1)) }
+    ensures { Gives typed_of result (meant.one_typed line operator (one_value a)) }
 {
     if !takes_operand(operator, a.0) {
         return Err(CheckFault::WrongType { line });
@@ -403,7 +413,7 @@ fn converted(
     to: Primitive,
     a: (Primitive, TermExpr),
 ) -> Result<Typed, AllocError>
-    ensures { IfOk result (λ t. typed_of t ≡ meant.single to (Conversion to line (expression_of a.1))) }
+    ensures { Makes typed_of result (meant.single to (Conversion to line (expression_of a.1))) }
 {
     let operand = Nested::new(alloc, a.1)?;
     Ok(Typed::Single(to, TermExpr::Conversion(to, line, operand)))
@@ -411,7 +421,8 @@ fn converted(
 
 /// AND or OR of two values.
 fn logic_of(alloc: Global, logic: Logic, a: TermExpr, b: TermExpr) -> Result<TermExpr, AllocError>
-    ensures { IfOk result (λ e. expression_of e ≡ meant.logic_of logic (expression_of a) (expression_of b)) }
+    ensures { Makes expression_of result
+        (meant.logic_of logic (expression_of a) (expression_of b)) }
 {
     let a = Nested::new(alloc, a)?;
     let b = Nested::new(alloc, b)?;
@@ -435,7 +446,8 @@ fn size_typed(line: u32, size: u64) -> Result<Typed, CheckFault>
 /// The SIZE of a literal without a type, which must be a string.
 #[tactic(auto, unfolding(occ_check_meaning::specs::Expressions::size_of_operand))]
 fn size_of_literal(line: u32, literal: &Literal) -> Result<u64, CheckFault>
-    ensures { Gives (λ n. n) result (meant.size_of_operand (λ x. None) line (trees.literal (trees.lit_of literal.now) None)) }
+    ensures { Answers result
+        (meant.size_of_operand (λ x. None) line (trees.literal (trees.lit_of literal.now) None)) }
 {
     match literal {
         Literal::Number(_) => Err(CheckFault::WrongType { line }),

@@ -1,17 +1,19 @@
 //! Variables and channels of a line, and what is output.
 
-ghost use Rattle.std.specs.Prelude.{◌≡◌, ◌∷◌, [], IfOk, Some, map, nat_lt};
-ghost use Rattle.occ_tree_grammar.specs.Expressions.Trees as trees;
+ghost use Rattle.std.specs.Prelude.{◌≡◌, ◌∷◌, [], IfOk, map, nat_lt};
 ghost use Rattle.occ_tree_grammar.specs.Lines.Trees.{from};
-ghost use Rattle.occ_tree_grammar.specs.Lines.Views as lines;
-ghost use Rattle.occ_term.specs.Messages as messages;
-ghost use Rattle.occ_term.specs.View as terms;
+ghost use Rattle.occ_tree_grammar.specs.Expressions.Trees.{alone, operand_of, expression_of as tree_of};
+ghost use Rattle.occ_tree_grammar.specs.Lines.Views.{out_of};
 ghost use Rattle.occ_term.specs.declared.primitive.Primitive.TheVariants.{Int};
 ghost use Rattle.occ_term.specs.declared.protocol.PartType.TheVariants.{One as OneOf, Many as ManyOf, Counted as CountedOf};
+ghost use Rattle.occ_term.specs.View.{expression_of, item_of, items_of, place_of};
+ghost use Rattle.occ_term.specs.Messages.{parts_after};
 ghost use Rattle.occ_check_meaning.specs.Expressions.{single};
 ghost use Rattle.occ_check_meaning.specs.Items as meant;
 ghost use Rattle.occ_check_meaning.specs.Scope.{keep};
-ghost use Rattle.occ_check_names.specs.View.{Gives, carried_of, known_of, names_in, part_of, stretch_of, typed_of};
+ghost use Rattle.occ_check_names.specs.View.{Answers, Gives, Lends, channels_known, known_of, typed_of, variable_known, variable_part};
+ghost use Rattle.occ_check_names.specs.Reading.{all_of, name_under, read_in};
+ghost use Rattle.occ_check_typing.specs.Typing.{channel_in, sent_in, sent_items_in, variable_in};
 
 use crate::expression::{known_name, typed, typed_subscripts};
 use crate::reading::under;
@@ -37,7 +39,7 @@ use std::alloc::{AllocError, Global};
 ///
 /// `WrongKind` for anything else.
 pub fn as_variable(line: u32, known: &Known) -> Result<(Primitive, &Stretch), CheckFault>
-    ensures { Gives (λ x. (x.0, stretch_of x.1.now)) result (meant.as_variable (known_of known.now)) }
+    ensures { Gives variable_known result (meant.as_variable (known_of known.now)) }
 {
     match known {
         Known::Cells(Access::Assignable, primitive, stretch) => Ok((*primitive, stretch)),
@@ -55,7 +57,7 @@ pub fn as_variable(line: u32, known: &Known) -> Result<(Primitive, &Stretch), Ch
 ///
 /// `WrongKind` for anything else.
 pub fn as_channels(line: u32, known: &Known) -> Result<(&Carried, &Stretch), CheckFault>
-    ensures { Gives (λ x. (carried_of x.0.now, stretch_of x.1.now)) result (meant.as_channels (known_of known.now)) }
+    ensures { Gives channels_known result (meant.as_channels (known_of known.now)) }
 {
     match known {
         Known::Channels(carried, stretch) => Ok((carried, stretch)),
@@ -75,7 +77,7 @@ pub fn variable_of(
     context: Context<'_, '_>,
     variable: &Var,
 ) -> Result<(Primitive, Part), CheckFault>
-    ensures variable { Gives (λ x. (x.0, part_of x.1)) result (meant.variable_of (names_in context.entry.scope) context.entry.line (lines.var_of variable.now)) }
+    ensures variable { Gives variable_part result (variable_in context.entry variable.now) }
     ensures line { IfOk result (λ x. x.1.place.line ≡ context.entry.line) }
 {
     let known = known_name(context, &variable.name)?;
@@ -94,7 +96,8 @@ pub fn channel_of<'a>(
     context: Context<'a, '_>,
     channel: &Var,
 ) -> Result<(&'a Protocol, Place), CheckFault>
-    ensures { Gives (λ x. (x.0.now, terms.place_of x.1)) result (meant.channel_of (names_in context.entry.scope) context.entry.line (lines.var_of channel.now)) }
+    ensures { Gives (λ x. (x.0.now, place_of x.1)) result
+        (channel_in context.entry channel.now) }
 {
     let known = known_name(context, &channel.name)?;
     let (carried, stretch) = as_channels(context.line, known)?;
@@ -110,7 +113,7 @@ pub fn channel_of<'a>(
 
 /// A value or an array of the part's type.
 fn item_of(line: u32, part: &PartType, value: Typed) -> Result<Item, CheckFault>
-    ensures { Gives terms.item_of result (meant.item_of part.now (typed_of value)) }
+    ensures { Gives item_of result (meant.item_of part.now (typed_of value)) }
 {
     match part {
         PartType::One(wanted) => one_item(line, *wanted, value),
@@ -120,7 +123,7 @@ fn item_of(line: u32, part: &PartType, value: Typed) -> Result<Item, CheckFault>
 }
 
 fn one_item(line: u32, wanted: Primitive, value: Typed) -> Result<Item, CheckFault>
-    ensures { Gives terms.item_of result (meant.item_of (OneOf wanted) (typed_of value)) }
+    ensures { Gives item_of result (meant.item_of (OneOf wanted) (typed_of value)) }
 {
     match value {
         Typed::Single(primitive, e) => {
@@ -140,7 +143,8 @@ fn array_item(
     wanted: Primitive,
     value: Typed,
 ) -> Result<Item, CheckFault>
-    ensures { Gives terms.item_of result (meant.item_of (ManyOf wanted_sizes.now wanted) (typed_of value)) }
+    ensures { Gives item_of result
+        (meant.item_of (ManyOf wanted_sizes.now wanted) (typed_of value)) }
 {
     match value {
         Typed::Single(_, _) => Err(CheckFault::Protocol { line }),
@@ -156,7 +160,8 @@ fn array_item(
 
 /// A count, and an array of one dimension that it counts components of.
 fn counted_item(line: u32, part: &PartType, number: Typed, value: Typed) -> Result<Item, CheckFault>
-    ensures { Gives terms.item_of result (meant.counted_item line part.now (typed_of number) (typed_of value)) }
+    ensures { Gives item_of result
+        (meant.counted_item line part.now (typed_of number) (typed_of value)) }
 {
     let (number, value) = (Held::new(number), Held::new(value));
     let PartType::Counted(count, of) = part else {
@@ -180,7 +185,8 @@ fn counted_array(
     number: TermExpr,
     value: Typed,
 ) -> Result<Item, CheckFault>
-    ensures { Gives terms.item_of result (meant.counted_item line (CountedOf Int of) (single Int (terms.expression_of number)) (typed_of value)) }
+    ensures { Gives item_of result (meant.counted_item
+        line (CountedOf Int of) (single Int (expression_of number)) (typed_of value)) }
 {
     match value {
         Typed::Single(_, _) => Err(CheckFault::Protocol { line }),
@@ -205,7 +211,8 @@ fn counted_array(
 
 /// An item of the part's type.
 fn sent_item(context: Context<'_, '_>, part: &PartType, out: &Out) -> Result<Item, CheckFault>
-    ensures { Gives terms.item_of result (meant.sent_item (names_in context.entry.scope) context.entry.line part.now (lines.out_of out.now)) }
+    ensures { Gives item_of result
+        (read_in context.entry meant.sent_item part.now (out_of out.now)) }
 {
     match out {
         Out::Whole(e) => item_of(context.line, part, typed(context, e)?),
@@ -223,7 +230,8 @@ fn sent_items(
     parts: &[PartType],
     outs: &[Out],
 ) -> Result<Items<Item>, CheckFault>
-    ensures { Gives terms.items_of result (meant.sent_items (names_in context.entry.scope) context.entry.line parts.now (map lines.out_of outs.now)) }
+    ensures { Gives items_of result
+        (sent_items_in context.entry parts.now (map out_of outs.now)) }
 {
     let mut made = Items::new(context.alloc);
     let mut left = outs;
@@ -251,7 +259,8 @@ fn sent_list(
     parts: &[PartType],
     outs: &OneOrMore<Out>,
 ) -> Result<Items<Item>, CheckFault>
-    ensures { Gives terms.items_of result (meant.sent_items (names_in context.entry.scope) context.entry.line parts.now (lines.out_of outs.now.first ∷ map lines.out_of outs.now.others.items)) }
+    ensures { Gives items_of result
+        (sent_items_in context.entry parts.now (all_of out_of outs.now)) }
 {
     match parts.split_first() {
         None => Err(CheckFault::Protocol { line: context.line }),
@@ -270,7 +279,7 @@ fn sent_list(
 ///
 /// `Protocol` where the protocol has no tags, `Tag` where it has not this one, or has it behind 2 to the 32 others.
 pub fn tag_in(line: u32, protocol: &Protocol, name: &[u8]) -> Result<u32, CheckFault>
-    ensures { Gives (λ k. k) result (meant.tag_in protocol.now name.now) }
+    ensures { Answers result (meant.tag_in protocol.now name.now) }
 {
     match protocol {
         Protocol::Variant(tags) => match tag_number(tags.as_slice(), name) {
@@ -303,7 +312,7 @@ fn tag_number(tags: &[Tag], name: &[u8]) -> Option<usize>
 ///
 /// `Tag` for any other.
 pub fn word_of(line: u32, number: usize) -> Result<u32, CheckFault>
-    ensures { Gives (λ k. k) result (keep (nat_lt number 4294967296) number) }
+    ensures { Answers result (keep (nat_lt number 4294967296) number) }
 {
     if number < 4_294_967_296 {
         Ok(number as u32)
@@ -323,7 +332,7 @@ pub fn parts_after(
     protocol: &Protocol,
     tag: Option<u32>,
 ) -> Result<Items<PartType>, CheckFault>
-    ensures { Gives (λ ts. ts) result (messages.parts_after protocol.now tag) }
+    ensures { Answers result (parts_after protocol.now tag) }
 {
     match (protocol, tag) {
         (Protocol::Simple(sizes, primitive), None) => {
@@ -360,7 +369,7 @@ fn only_part(alloc: Global, part: PartType) -> Result<Items<PartType>, AllocErro
 
 /// The name of a tag, which an output on a channel with tags begins with.
 fn as_name(line: u32, out: &Out) -> Result<&[u8], CheckFault>
-    ensures { Gives (λ x. x.now) result (meant.as_name (lines.out_of out.now)) }
+    ensures { Lends result (meant.as_name (out_of out.now)) }
 {
     match out {
         Out::Whole(e) => name_alone(line, e),
@@ -370,7 +379,7 @@ fn as_name(line: u32, out: &Out) -> Result<&[u8], CheckFault>
 
 /// A name that is an expression of its own.
 fn name_alone(line: u32, e: &Expr) -> Result<&[u8], CheckFault>
-    ensures { Gives (λ x. x.now) result (meant.as_name (from (trees.expression_of e.now))) }
+    ensures { Lends result (meant.as_name (from (tree_of e.now))) }
 {
     match e {
         Expr::Operand(a) => name_of_operand(line, a),
@@ -384,7 +393,7 @@ fn name_alone(line: u32, e: &Expr) -> Result<&[u8], CheckFault>
 }
 
 fn name_of_operand(line: u32, a: &Operand) -> Result<&[u8], CheckFault>
-    ensures { Gives (λ x. x.now) result (meant.as_name (from (trees.alone (trees.operand_of a.now)))) }
+    ensures { Lends result (meant.as_name (from (alone (operand_of a.now)))) }
 {
     match a {
         Operand::Variable(name, subscripts) => name_without(line, name, subscripts),
@@ -396,7 +405,8 @@ fn name_of_operand(line: u32, a: &Operand) -> Result<&[u8], CheckFault>
 
 /// A name without subscripts.
 fn name_without<'a>(line: u32, name: &'a [u8], subscripts: &[Expr]) -> Result<&'a [u8], CheckFault>
-    ensures { Gives (λ x. x.now) result (meant.as_name (from (trees.alone (trees.variable name.now (trees.expressions (map trees.expression_of subscripts.now)))))) }
+    ensures { Lends result
+        (meant.as_name (from (alone (name_under name.now subscripts.now)))) }
 {
     match subscripts.split_first() {
         None => Ok(name),
@@ -414,7 +424,8 @@ pub fn sent(
     protocol: &Protocol,
     outs: &OneOrMore<Out>,
 ) -> Result<(Option<u32>, Items<Item>), CheckFault>
-    ensures { Gives (λ x. (x.0, terms.items_of x.1)) result (meant.sent (names_in context.entry.scope) context.entry.line protocol.now (lines.out_of outs.now.first) (map lines.out_of outs.now.others.items)) }
+    ensures { Gives (λ x. (x.0, items_of x.1)) result
+        (sent_in context.entry protocol.now outs.now) }
 {
     match protocol {
         Protocol::Variant(_) => {

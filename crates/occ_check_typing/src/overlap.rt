@@ -19,14 +19,15 @@ use std::alloc::{AllocError, Global};
 ///
 /// A refused growth.
 pub fn some_overlap(alloc: Global, names: &[Named]) -> Result<bool, AllocError>
-    ensures { IfOk result (λ overlap. overlap ≡ meant.some_meet (meant.reference_spans (pairs_of names.now))) }
+    ensures { IfOk result (λ x. x ≡ meant.some_meet (meant.reference_spans (pairs_of names.now))) }
 {
     let spans = reference_spans(alloc, names)?;
     Ok(some_meet(spans))
 }
 
 fn reference_spans(alloc: Global, names: &[Named]) -> Result<Vec<Span>, AllocError>
-    ensures { IfOk result (λ spans. map span_of spans.items ≡ meant.reference_spans (pairs_of names.now)) }
+    ensures { IfOk result
+        (λ spans. map span_of spans.items ≡ meant.reference_spans (pairs_of names.now)) }
 {
     let mut spans = Vec::new(alloc);
     for named in names {

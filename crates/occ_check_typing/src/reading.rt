@@ -1,13 +1,13 @@
 //! Names under subscripts.
 
-ghost use Rattle.std.specs.Prelude.{◌≡◌, ◌∷◌, [], IfOk, Some, map, pos};
+ghost use Rattle.std.specs.Prelude.{◌≡◌, ◌∷◌, [], IfOk, map, pos};
 ghost use Rattle.occ_term.specs.ArraySizes.{AreFew};
 ghost use Rattle.occ_term.specs.Terms.{no_subscripts, then_subscript};
 ghost use Rattle.occ_term.specs.View.{expression_of, subscripts};
 ghost use Rattle.occ_term.specs.declared.primitive.Primitive.TheVariants.{Int};
 ghost use Rattle.occ_check_meaning.specs.Expressions as meant;
 ghost use Rattle.occ_check_meaning.specs.Scope.{a_string, a_value, kept, some_cells};
-ghost use Rattle.occ_check_names.specs.View.{Gives, known_of, part_of, stretch_of, typed_of};
+ghost use Rattle.occ_check_names.specs.View.{Answers, Gives, Lends, Makes, known_of, part_of, stretch_of, subscripts_of, typed_of};
 
 use occ_check_names::constant::is_within_size;
 use occ_check_names::fault::CheckFault;
@@ -29,7 +29,7 @@ fn left_by<'a>(
     sizes: &'a [u32],
 ) -> Result<&'a [u32], CheckFault>
     requires few { AreFew sizes.now }
-    ensures left { Gives (λ left. left.now) result (meant.left_by (subscripts (map expression_of under_these.now)) sizes.now) }
+    ensures left { Lends result (meant.left_by (subscripts_of under_these.now) sizes.now) }
     ensures few { IfOk result (λ left. AreFew left.now) }
 {
     let mut left = sizes;
@@ -49,7 +49,8 @@ fn left_by_one<'a>(
     sizes: &'a [u32],
 ) -> Result<&'a [u32], CheckFault>
     requires few { AreFew sizes.now }
-    ensures left { Gives (λ left. left.now) result (meant.left_by (subscripts (expression_of subscript.now ∷ [])) sizes.now) }
+    ensures left { Lends result
+        (meant.left_by (subscripts (expression_of subscript.now ∷ [])) sizes.now) }
     ensures few { IfOk result (λ left. AreFew left.now) }
 {
     match sizes.split_first() {
@@ -75,7 +76,8 @@ pub fn under(
     stretch: &Stretch,
     under_these: Listed<TermExpr>,
 ) -> Result<Part, CheckFault>
-    ensures part { Gives part_of result (meant.under (stretch_of stretch.now) (subscripts (map expression_of under_these))) }
+    ensures part { Gives part_of result
+        (meant.under (stretch_of stretch.now) (subscripts_of under_these)) }
     ensures line { IfOk result (λ part. part.place.line ≡ line) }
 {
     stretch.left.few();
@@ -98,7 +100,8 @@ fn joined(
     stretch: &Stretch,
     under_these: Listed<TermExpr>,
 ) -> Result<Listed<TermExpr>, AllocError>
-    ensures { IfOk result (λ all. subscripts (map expression_of all) ≡ meant.joined ((stretch_of stretch.now).subscripts) (subscripts (map expression_of under_these))) }
+    ensures { Makes subscripts_of result
+        (meant.joined ((stretch_of stretch.now).subscripts) (subscripts_of under_these)) }
 {
     let mut all = evaluated_subscripts(alloc, stretch.subscripts.as_slice())?;
     all.append(under_these)?;
@@ -107,7 +110,8 @@ fn joined(
 
 /// A part that is read: a single cell or component, or a whole array.
 fn read_part(primitive: Primitive, part: Part) -> Typed
-    ensures { typed_of result ≡ meant.read_stretch part.place.line primitive (part_of part) part.left }
+    ensures { typed_of result
+        ≡ meant.read_stretch part.place.line primitive (part_of part) part.left }
 {
     if !part.left.is_empty() {
         return Typed::Whole(primitive, part.left, Array::Cells(part.place));
@@ -131,7 +135,8 @@ fn read_string(
     text: &Text,
     under_these: Listed<TermExpr>,
 ) -> Result<Typed, CheckFault>
-    ensures { Gives typed_of result (meant.read line (a_string (map pos text.now)) (subscripts (map expression_of under_these))) }
+    ensures { Gives typed_of result
+        (meant.read line (a_string (map pos text.now)) (subscripts_of under_these)) }
 {
     let mut subscripts = under_these;
     match subscripts.pop() {
@@ -148,7 +153,8 @@ fn read_string(
 
 /// A component of a string.
 fn letter(alloc: Global, line: u32, text: &Text, subscript: TermExpr) -> Result<Typed, CheckFault>
-    ensures { Gives typed_of result (meant.read line (a_string (map pos text.now)) (then_subscript (expression_of subscript) no_subscripts)) }
+    ensures { Gives typed_of result (meant.read line
+        (a_string (map pos text.now)) (then_subscript (expression_of subscript) no_subscripts)) }
 {
     if !is_within_size(&subscript, u64::from(text.len())) {
         return Err(CheckFault::Subscript { line });
@@ -170,7 +176,8 @@ pub fn read(
     known: &Known,
     under_these: Listed<TermExpr>,
 ) -> Result<Typed, CheckFault>
-    ensures { Gives typed_of result (meant.read line (known_of known.now) (subscripts (map expression_of under_these))) }
+    ensures { Gives typed_of result
+        (meant.read line (known_of known.now) (subscripts_of under_these)) }
 {
     match known {
         Known::Value(primitive, value) => {
@@ -193,7 +200,8 @@ fn read_value(
     value: i64,
     under_these: &[TermExpr],
 ) -> Result<Typed, CheckFault>
-    ensures { Gives typed_of result (meant.read line (a_value primitive value) (subscripts (map expression_of under_these.now))) }
+    ensures { Gives typed_of result
+        (meant.read line (a_value primitive value) (subscripts_of under_these.now)) }
 {
     match under_these.split_first() {
         None => Ok(Typed::Single(primitive, TermExpr::Constant(value))),
@@ -207,7 +215,8 @@ fn read_value(
 ///
 /// `WrongType` for what is no array, and as `under`.
 pub fn size_of_known(line: u32, known: &Known, under_these: &[TermExpr]) -> Result<u64, CheckFault>
-    ensures { Gives (λ n. n) result (meant.size_of_known (known_of known.now) (subscripts (map expression_of under_these.now))) }
+    ensures { Answers result
+        (meant.size_of_known (known_of known.now) (subscripts_of under_these.now)) }
 {
     match known {
         Known::Value(_, _) => Err(CheckFault::WrongType { line }),
@@ -227,7 +236,8 @@ fn size_of_stretch(
     stretch: &Stretch,
     under_these: &[TermExpr],
 ) -> Result<u64, CheckFault>
-    ensures { Gives (λ n. n) result (meant.size_of_known (some_cells kept Int (stretch_of stretch.now)) (subscripts (map expression_of under_these.now))) }
+    ensures { Answers result (meant.size_of_known
+        (some_cells kept Int (stretch_of stretch.now)) (subscripts_of under_these.now)) }
 {
     stretch.left.few();
     let left = left_by(line, under_these, stretch.left.as_slice())?;

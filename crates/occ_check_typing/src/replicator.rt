@@ -1,11 +1,9 @@
 //! Replicators: an index with its cell, or the copies of a PAR.
 
-ghost use Rattle.std.specs.Prelude.{◌≡◌};
-ghost use Rattle.occ_tree_grammar.specs.Lines.Views as lines;
 ghost use Rattle.occ_check_meaning.specs.Constants.{a_count};
-ghost use Rattle.occ_check_meaning.specs.Declarations as meant;
-ghost use Rattle.occ_check_names.specs.View.{Gives, names_in, numbers_of};
+ghost use Rattle.occ_check_names.specs.View.{Answers};
 ghost use Rattle.occ_check_typing.specs.Declaration.{Indexes};
+ghost use Rattle.occ_check_typing.specs.Typing.{copies_in, indexed_in};
 
 use crate::declaration::{Named, stretch_from};
 use crate::expression::{constant_as, typed_as};
@@ -37,7 +35,8 @@ pub fn index_replicator(
     depth: u32,
     replicator: &ReplicatorTree,
 ) -> Result<Indexed, CheckFault>
-    ensures { Indexes result numbers.new (meant.indexed (names_in context.entry.scope) context.entry.line depth (lines.replicator_of replicator.now) (numbers_of numbers.old)) }
+    ensures { Indexes result numbers.new
+        (indexed_in context.entry depth replicator.now numbers.old) }
 {
     let base = typed_as(context, Primitive::Int, &replicator.base)?;
     let count = typed_as(context, Primitive::Int, &replicator.count)?;
@@ -67,7 +66,7 @@ pub fn copies_of(
     context: Context<'_, '_>,
     replicator: &ReplicatorTree,
 ) -> Result<(i64, u64), CheckFault>
-    ensures { Gives (λ x. x) result (meant.copies_of (names_in context.entry.scope) context.entry.line (lines.replicator_of replicator.now)) }
+    ensures { Answers result (copies_in context.entry replicator.now) }
 {
     let base = constant_as(context, Primitive::Int, &replicator.base)?;
     let count = constant_as(context, Primitive::Int, &replicator.count)?;
@@ -76,7 +75,7 @@ pub fn copies_of(
 }
 
 fn count_of(line: u32, base: i64, count: i64) -> Result<u64, CheckFault>
-    ensures { Gives (λ n. n) result (a_count base count) }
+    ensures { Answers result (a_count base count) }
 {
     if 0 <= count && count <= 2147483648_i64.saturating_sub(base) {
         Ok(count as u64)

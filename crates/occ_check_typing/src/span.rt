@@ -82,7 +82,9 @@ pub fn whole_of(first: u32, sizes: &Sizes) -> Span
 
 /// The cells of the array that constant subscripts name. A subscript that is no constant counts the whole array.
 pub fn part_of<S: Subscript>(first: u32, sizes: &Sizes, under: &[S]) -> Span
-    ensures span { span_of result ≡ part_named (subscripts (map S.expression under.now)) first sizes.now (values.span first (product sizes.now)) }
+    ensures span { span_of result
+        ≡ part_named (subscripts (map S.expression under.now)) first sizes.now
+        (values.span first (product sizes.now)) }
     ensures few { result.first + result.count < 2 ^ 33 }
 {
     let whole = whole_of(first, sizes);
@@ -95,7 +97,8 @@ fn part_named<S: Subscript>(under: &[S], first: u64, sizes: &[u32], whole: Span)
     requires all { product sizes.now < 2 ^ 32 }
     requires last { first + product sizes.now < 2 ^ 33 }
     requires whole { whole.first + whole.count < 2 ^ 33 }
-    ensures span { span_of result ≡ part_named (subscripts (map S.expression under.now)) first sizes.now (span_of whole) }
+    ensures span { span_of result
+        ≡ part_named (subscripts (map S.expression under.now)) first sizes.now (span_of whole) }
     ensures few { result.first + result.count < 2 ^ 33 }
 {
     let Some((subscript, rest)) = under.split_first() else {

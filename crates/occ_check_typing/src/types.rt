@@ -1,6 +1,6 @@
 //! Sizes, parts of messages, and protocols.
 
-ghost use Rattle.std.specs.Prelude.{◌≡◌, ◌∷◌, IfOk, IsTrue, Some, map, min, option_map, true};
+ghost use Rattle.std.specs.Prelude.{◌≡◌, IfOk, IsTrue, Some, map, min, option_map, true};
 ghost use Rattle.occ_tree_grammar.specs.Expressions.Trees as trees;
 ghost use Rattle.occ_tree_grammar.specs.Lines.Trees.{given};
 ghost use Rattle.occ_tree_grammar.specs.Lines.Views as lines;
@@ -11,8 +11,10 @@ ghost use Rattle.occ_term.specs.declared.primitive.Primitive.TheVariants.{Int};
 ghost use Rattle.occ_check_meaning.specs.Constants as constants;
 ghost use Rattle.occ_check_meaning.specs.Scope.{each_of, keep, once};
 ghost use Rattle.occ_check_meaning.specs.Types as meant;
-ghost use Rattle.occ_check_names.specs.View.{Gives, carried_of, known_of, names_in};
+ghost use Rattle.occ_check_names.specs.View.{Allows, Answers, Gives, carried_of, known_of, names_in};
+ghost use Rattle.occ_check_names.specs.Reading.{all_of, read_in, trees_of};
 ghost use Rattle.occ_check_typing.specs.Positive.{ArePositive};
+ghost use Rattle.occ_check_typing.specs.Typing.{carried_in, each_part_in, names_of_tags, open_sizes_in, protocol_in, sizes_in};
 
 use crate::declaration::once as names_once;
 use crate::expression::{constant_as, known_name};
@@ -37,8 +39,8 @@ use std::alloc::{AllocError, Global};
 ///
 /// As `constant_as` of an INT, `BadCount` for one below 1, and `TooLarge` for more components than a program may have.
 pub fn sizes_of(context: Context<'_, '_>, sizes: &[Expr]) -> Result<Items<u32>, CheckFault>
-    ensures sizes { Gives (λ sizes. sizes) result (meant.sizes_of (names_in context.entry.scope) context.entry.line (trees.expressions (map trees.expression_of sizes.now))) }
-    ensures few { IfOk result (λ sizes. AreFew sizes) }
+    ensures sizes { Answers result (sizes_in context.entry sizes.now) }
+    ensures few { IfOk result AreFew }
 {
     let sizes = each_size(context, sizes)?;
     not_too_large(sizes)
@@ -46,7 +48,7 @@ pub fn sizes_of(context: Context<'_, '_>, sizes: &[Expr]) -> Result<Items<u32>, 
 
 /// Sizes, in order.
 fn each_size(context: Context<'_, '_>, sizes: &[Expr]) -> Result<Items<u32>, CheckFault>
-    ensures { Gives (λ sizes. sizes) result (meant.each_size (names_in context.entry.scope) context.entry.line (trees.expressions (map trees.expression_of sizes.now))) }
+    ensures { Answers result (read_in context.entry meant.each_size (trees_of sizes.now)) }
 {
     let mut made = Items::new(context.alloc);
     for size in sizes {
@@ -61,7 +63,8 @@ fn each_size(context: Context<'_, '_>, sizes: &[Expr]) -> Result<Items<u32>, Che
 
 /// A size that is given.
 fn given_size(context: Context<'_, '_>, size: &Expr) -> Result<u32, CheckFault>
-    ensures { Gives (λ n. Some n) result (meant.open_size (names_in context.entry.scope) context.entry.line (given (trees.expression_of size.now))) }
+    ensures { Gives (λ n. Some n) result
+        (read_in context.entry meant.open_size (given (trees.expression_of size.now))) }
 {
     let value = constant_as(context, Primitive::Int, size)?;
     a_size(context.line, value)
@@ -70,7 +73,7 @@ fn given_size(context: Context<'_, '_>, size: &Expr) -> Result<u32, CheckFault>
 /// A size, at least 1.
 fn a_size(line: u32, value: i64) -> Result<u32, CheckFault>
     requires { IsTrue (is_of Int value) }
-    ensures { Gives (λ n. n) result (constants.a_size value) }
+    ensures { Answers result (constants.a_size value) }
 {
     if value >= 1 {
         Ok(value as u32)
@@ -82,8 +85,8 @@ fn a_size(line: u32, value: i64) -> Result<u32, CheckFault>
 /// One size, or several that do not multiply to more than there may be cells.
 fn not_too_large(sizes: Items<u32>) -> Result<Items<u32>, CheckFault>
     requires { ArePositive sizes }
-    ensures sizes { Gives (λ sizes. sizes) result (meant.not_too_large sizes) }
-    ensures few { IfOk result (λ sizes. AreFew sizes) }
+    ensures sizes { Answers result (meant.not_too_large sizes) }
+    ensures few { IfOk result AreFew }
 {
     if are_few(sizes.as_slice()) {
         Ok(sizes)
@@ -114,7 +117,7 @@ pub fn open_sizes_of(
     context: Context<'_, '_>,
     sizes: &[Size],
 ) -> Result<Items<Option<u32>>, CheckFault>
-    ensures { Gives (λ sizes. sizes) result (meant.open_sizes_of (names_in context.entry.scope) context.entry.line (map lines.size_of sizes.now)) }
+    ensures { Answers result (open_sizes_in context.entry sizes.now) }
 {
     let sizes = each_open_size(context, sizes)?;
     few(sizes)
@@ -125,7 +128,8 @@ fn each_open_size(
     context: Context<'_, '_>,
     sizes: &[Size],
 ) -> Result<Items<Option<u32>>, CheckFault>
-    ensures { Gives (λ sizes. sizes) result (each_of (meant.open_size (names_in context.entry.scope) context.entry.line) (map lines.size_of sizes.now)) }
+    ensures { Answers result
+        (each_of (read_in context.entry meant.open_size) (map lines.size_of sizes.now)) }
 {
     let mut made = Items::new(context.alloc);
     for size in sizes {
@@ -140,7 +144,7 @@ fn each_open_size(
 
 /// A size that may be open.
 fn open_size(context: Context<'_, '_>, size: &Size) -> Result<Option<u32>, CheckFault>
-    ensures { Gives (λ size. size) result (meant.open_size (names_in context.entry.scope) context.entry.line (lines.size_of size.now)) }
+    ensures { Answers result (read_in context.entry meant.open_size (lines.size_of size.now)) }
 {
     match size {
         Size::Open => Ok(None),
@@ -150,7 +154,7 @@ fn open_size(context: Context<'_, '_>, size: &Size) -> Result<Option<u32>, Check
 
 /// The same of open sizes, where all are given.
 fn few(sizes: Items<Option<u32>>) -> Result<Items<Option<u32>>, CheckFault>
-    ensures { Gives (λ sizes. sizes) result (keep (meant.are_few sizes) sizes) }
+    ensures { Answers result (keep (meant.are_few sizes) sizes) }
 {
     if are_few_open(sizes.as_slice()) {
         Ok(sizes)
@@ -191,7 +195,7 @@ fn given_components(sizes: &[Option<u32>]) -> Option<u32>
 
 /// The type of a count: INT or BYTE.
 fn count_type(line: u32, primitive: Primitive) -> Result<Primitive, CheckFault>
-    ensures { Gives (λ t. t) result (meant.count_type primitive) }
+    ensures { Answers result (meant.count_type primitive) }
 {
     if is_number(primitive) {
         Ok(primitive)
@@ -202,7 +206,7 @@ fn count_type(line: u32, primitive: Primitive) -> Result<Primitive, CheckFault>
 
 /// A part of a message.
 fn part_of(context: Context<'_, '_>, part: &Part) -> Result<PartType, CheckFault>
-    ensures { Gives (λ t. t) result (meant.part_of (names_in context.entry.scope) context.entry.line (lines.part_of part.now)) }
+    ensures { Answers result (read_in context.entry meant.part_of (lines.part_of part.now)) }
 {
     match part {
         Part::Single(sizes, primitive) => {
@@ -228,7 +232,7 @@ pub fn simple_part(sizes: Items<u32>, primitive: Primitive) -> PartType
 
 /// Parts of a message, in order.
 fn each_part(context: Context<'_, '_>, parts: &[Part]) -> Result<Items<PartType>, CheckFault>
-    ensures { Gives (λ ts. ts) result (each_of (meant.part_of (names_in context.entry.scope) context.entry.line) (map lines.part_of parts.now)) }
+    ensures { Answers result (each_part_in context.entry (map lines.part_of parts.now)) }
 {
     let mut made = Items::new(context.alloc);
     for part in parts {
@@ -247,7 +251,7 @@ fn parts_of(
     context: Context<'_, '_>,
     parts: &OneOrMore<Part>,
 ) -> Result<Items<PartType>, CheckFault>
-    ensures { Gives (λ ts. ts) result (each_of (meant.part_of (names_in context.entry.scope) context.entry.line) (lines.part_of parts.now.first ∷ map lines.part_of parts.now.others.items)) }
+    ensures { Answers result (each_part_in context.entry (all_of lines.part_of parts.now)) }
 {
     let first = part_of(context, &parts.first)?;
     let others = each_part(context, &parts.others)?;
@@ -263,7 +267,7 @@ fn parts_of(
 ///
 /// As `sizes_of`, `Unknown` and `WrongKind` for a name that is no protocol's, and `WrongType` for a count of BOOL.
 pub fn carried_by(context: Context<'_, '_>, carried: &CarriedTree) -> Result<Carried, CheckFault>
-    ensures { Gives carried_of result (meant.carried_of (names_in context.entry.scope) context.entry.line (lines.carried_of carried.now)) }
+    ensures { Gives carried_of result (carried_in context.entry carried.now) }
 {
     match carried {
         CarriedTree::Part(part) => {
@@ -282,7 +286,7 @@ pub fn carried_by(context: Context<'_, '_>, carried: &CarriedTree) -> Result<Car
 
 /// What a channel carries that has no protocol's name.
 fn plain_protocol(context: Context<'_, '_>, part: &Part) -> Result<Protocol, CheckFault>
-    ensures { Gives (λ p. p) result (meant.plain_protocol (names_in context.entry.scope) context.entry.line (lines.part_of part.now)) }
+    ensures { Answers result (read_in context.entry meant.plain_protocol (lines.part_of part.now)) }
 {
     match part {
         Part::Single(sizes, primitive) => {
@@ -322,7 +326,7 @@ pub fn protocol_of(
     scope: Scope<'_, '_>,
     protocol: &ProtocolTree,
 ) -> Result<Protocol, CheckFault>
-    ensures { Gives (λ protocol. protocol) result (meant.protocol_of (names_in scope.entry) (processes.protocol_of protocol.now)) }
+    ensures { Answers result (protocol_in scope.entry protocol.now) }
 {
     match protocol {
         ProtocolTree::Parts(line, _, parts) => {
@@ -353,7 +357,7 @@ pub fn protocol_of(
 
 /// A tag with its parts.
 fn tag_of(alloc: Global, scope: Scope<'_, '_>, tag: &TagTree) -> Result<Tag, CheckFault>
-    ensures { Gives (λ t. t) result (meant.tag_of (names_in scope.entry) (processes.tag_of tag.now)) }
+    ensures { Answers result (meant.tag_of (names_in scope.entry) (processes.tag_of tag.now)) }
 {
     let parts = each_part(
         Context {
@@ -369,7 +373,8 @@ fn tag_of(alloc: Global, scope: Scope<'_, '_>, tag: &TagTree) -> Result<Tag, Che
 
 /// Tags, in order.
 fn each_tag(alloc: Global, scope: Scope<'_, '_>, tags: &[TagTree]) -> Result<Items<Tag>, CheckFault>
-    ensures { Gives (λ ts. ts) result (each_of (meant.tag_of (names_in scope.entry)) (map processes.tag_of tags.now)) }
+    ensures { Answers result
+        (each_of (meant.tag_of (names_in scope.entry)) (map processes.tag_of tags.now)) }
 {
     let mut made = Items::new(alloc);
     for tag in tags {
@@ -384,7 +389,7 @@ fn each_tag(alloc: Global, scope: Scope<'_, '_>, tags: &[TagTree]) -> Result<Ite
 
 /// That no tag stands twice.
 fn tags_once(alloc: Global, tags: &[TagTree]) -> Result<(), CheckFault>
-    ensures { Gives (λ _. meant.tag_names (map processes.tag_of tags.now)) result (once (meant.tag_names (map processes.tag_of tags.now))) }
+    ensures { Allows once result (names_of_tags tags.now) }
 {
     let names = names_of_tags(alloc, tags)?;
     match names_once(alloc, 0, names.as_slice()) {
@@ -399,7 +404,7 @@ fn tags_once(alloc: Global, tags: &[TagTree]) -> Result<(), CheckFault>
 
 /// The names of tags, in order.
 fn names_of_tags(alloc: Global, tags: &[TagTree]) -> Result<Items<Items<u8>>, AllocError>
-    ensures { IfOk result (λ names. names ≡ meant.tag_names (map processes.tag_of tags.now)) }
+    ensures { IfOk result (λ ns. ns ≡ names_of_tags tags.now) }
 {
     let mut names = Items::new(alloc);
     for tag in tags {

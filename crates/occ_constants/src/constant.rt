@@ -1,10 +1,10 @@
 //! Constants and their values.
-ghost use Rattle.std.specs.Prelude.{◌≡◌, IsTrue, pos};
+ghost use Rattle.std.specs.Prelude.{◌≡◌, IsTrue};
 ghost use Rattle.occ_term.specs.Uses as uses;
-ghost use Rattle.occ_term.specs.Values as values;
 ghost use Rattle.occ_term.specs.Evaluation.{evaluated};
-ghost use Rattle.occ_constants.specs.Chains.{chosen};
+ghost use Rattle.occ_constants.specs.Chains.{chosen_from, constant_value};
 ghost use Rattle.occ_term.specs.View.{expression_of};
+ghost use Rattle.occ_term.specs.Values.{after, binary};
 
 use occ_term::operator::{binary, converted, unary};
 use occ_term::{Fault, Operator, Primitive, TermExpr};
@@ -47,7 +47,7 @@ pub fn is_constant(e: &TermExpr) -> bool
 #[tactic(auto, using(crate::proofs::Chained::first_of_both, crate::proofs::Chained::second_of_both))]
 pub fn value_of_constant(e: &TermExpr) -> Result<i64, Fault>
     requires { IsTrue (uses.is_constant (expression_of e.now)) }
-    ensures { evaluated result ≡ values.value_of (expression_of e.now) (λ c. pos 0) }
+    ensures { evaluated result ≡ constant_value e.now }
 {
     match e {
         TermExpr::Constant(value) => Ok(*value),
@@ -86,7 +86,8 @@ fn of_two(
     a: Result<i64, Fault>,
     b: Result<i64, Fault>,
 ) -> Result<i64, Fault>
-    ensures { evaluated result ≡ values.after (evaluated a) (λ x. values.after (evaluated b) (λ y. values.binary operator primitive line x y)) }
+    ensures { evaluated result ≡ after (evaluated a)
+        (λ x. after (evaluated b) (λ y. binary operator primitive line x y)) }
 {
     binary(operator, primitive, line, a?, b?)
 }
@@ -101,7 +102,7 @@ fn chain_value(
     after_false: Result<i64, Fault>,
 ) -> Result<i64, Fault>
     requires { IsTrue (uses.is_constant (expression_of first.now)) }
-    ensures { evaluated result ≡ chosen (values.value_of (expression_of first.now) (λ c. pos 0)) (evaluated after_true) (evaluated after_false) }
+    ensures { evaluated result ≡ chosen_from (constant_value first.now) after_true after_false }
 {
     let mut rest = first;
     let mut on_true = after_true;
@@ -132,7 +133,7 @@ fn chosen(
     on_true: Result<i64, Fault>,
     on_false: Result<i64, Fault>,
 ) -> Result<i64, Fault>
-    ensures { evaluated result ≡ chosen (evaluated value) (evaluated on_true) (evaluated on_false) }
+    ensures { evaluated result ≡ chosen_from (evaluated value) on_true on_false }
 {
     match value {
         Ok(value) => { if value == 0 { on_false } else { on_true } }
