@@ -1,6 +1,6 @@
 -- The tree of an expression.
 -- Manual: expressions; literals.
-use Rattle.std.specs.Prelude.{ℕ, List, [], ◌∷◌, Bool, true, false, Option}
+use Rattle.std.specs.Prelude.{ℕ, List, [], ◌∷◌, Bool, true, false, Option, Vec, map}
 use Rattle.occ_text.specs.Words.{Lit, number, byte, text}
 use Rattle.occ_tree_grammar.specs.declared.tree.expr.Primitive.{Primitive}
 use Rattle.occ_tree_grammar.specs.declared.tree.expr.Dyadic.{Dyadic}
@@ -75,3 +75,7 @@ abbrev mutual
   pub held_expressions : {m : _} → Row_of-Expr m → Expressions
   held_expressions end_of-Expr = no_expression
   held_expressions (more_of-Expr e others) = more_expressions (expression_of e) (held_expressions others)
+
+-- the expressions of a list
+abbrev pub listed_expressions : {A : Type 0} → Vec Expr A → Expressions
+listed_expressions es = expressions (map expression_of es.items)
